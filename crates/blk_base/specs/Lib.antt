@@ -1,0 +1,5 @@
+pub mod Block
+pub mod Image
+pub mod Members
+pub mod Streams
+pub mod Memory

@@ -1,0 +1,75 @@
+ghost use Rattle.std.specs.Prelude.{◌≡◌, ℕ, ◌<◌, List, length, slice_set, MatchOption, IsSome, ◌↔◌, IfSome};
+ghost use Rattle.blk_base.specs.Block.{filled};
+
+use std::marker::Model;
+
+/// The bytes of one block, 1,024 of them.
+#[derive(Drop, PartialEq, Eq, Debug)]
+pub struct Block {
+    bytes: [u8; 1024],
+}
+
+impl Model for Block {
+    ghost use Rattle.std.specs.Prelude.{◌≡◌, List, ℕ, length};
+
+    ghost Value = { List ℕ };
+
+    ghost view = { λ b. b.bytes };
+
+    ghost invariant = { λ b. length b.bytes ≡ 1024 };
+
+    ghost inverse = { λ bytes. record { bytes = bytes } };
+}
+
+impl Block {
+    /// A block whose bytes are all `v`.
+    #[tactic(auto, unfolding(crate::specs::Block::filled))]
+    pub fn fill(v: u8) -> Block
+        ensures { result ≡ filled v }
+    {
+        Block { bytes: [v; 1024] }
+    }
+
+    /// The block of these bytes.
+    pub fn from_slice(s: &[u8]) -> Option<Block>
+        ensures whole { IsSome result ↔ (length s.now ≡ 1024) }
+        ensures bytes { IfSome result (λ b. b ≡ s.now) }
+    {
+        if s.len() != 1024 {
+            return None;
+        }
+        Some(Block::of(s))
+    }
+
+    /// The block of these 1,024 bytes.
+    pub fn of(s: &[u8]) -> Block
+        requires { length s.now ≡ 1024 }
+        ensures { result ≡ s.now }
+    {
+        let mut bytes = [0u8; 1024];
+        bytes.copy_from_slice(s);
+        Block { bytes }
+    }
+
+    pub fn as_slice(&self) -> &[u8]
+        ensures value { result.now ≡ self.now }
+        ensures len { length result.now ≡ 1024 }
+    {
+        &self.bytes
+    }
+
+    /// Writes the byte at place `at`.
+    pub fn set(&mut self, at: usize, v: u8)
+        requires { at < 1024 }
+        ensures { self.new ≡ slice_set self.old at v }
+    {
+        self.bytes[at] = v;
+    }
+
+    /// The same bytes again. It takes no memory.
+    pub fn copy(&self) -> Block
+        ensures { result ≡ self.now }
+    {
+        Block { bytes: self.bytes }
+    }
+}
