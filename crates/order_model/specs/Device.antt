@@ -1,0 +1,123 @@
+-- What a device with a volatile cache and barrier epochs shows, and the laws that it keeps. Parts and
+-- origins are named by places in the list of what was taken.
+use Rattle.std.specs.Prelude.{◌≡◌, ℕ, ◌<◌, ◌≤◌, ◌++◌, ◌||◌, ◌==◌, Bool, true, false, List, length, map, All, Option, Some, None, is_some, slice_get}
+use Rattle.std.specs.Option.{option_map, option_and_then}
+use Rattle.blk_base.specs.Members.{In}
+use Rattle.order_model.specs.declared.part.Part.{Part}
+use Rattle.order_model.specs.declared.command.Command.{Command}
+use Rattle.order_model.specs.declared.command.Priority.{Priority}
+use Rattle.order_model.specs.declared.command.Priority.TheVariants.{Simple, Ordered}
+use Rattle.order_model.specs.declared.completion.Completion.{Completion}
+use Rattle.order_model.specs.declared.completion.Completion.TheVariants.{Moved, Flushed, Failed, Cut}
+use Rattle.order_model.specs.declared.history.Transfer.{Transfer}
+use Rattle.order_model.specs.Received.{all_parts, part_at, command_of, ids_of, all_ids, IsBarrier, IsFlush}
+
+-- what is seen of a device
+pub record Seen : Type 0 where
+  -- the image that it was made over
+  pub base : List (List ℕ)
+  -- the ids that it may take in all
+  pub limit : ℕ
+  -- the commands that it received
+  pub took : List Command
+  -- the parts that went into the cache, by place, with their epoch
+  pub moved : List Transfer
+  -- the medium, and for each block the place of the part whose body it holds
+  pub surface : List (List ℕ)
+  pub origins : List (Option ℕ)
+  -- completions handed out, and not yet handed out
+  pub sent : List Completion
+  pub waiting : List Completion
+  -- the power is off; one of its transfers failed
+  pub off : Bool
+  pub failed : Bool
+  -- parts written to the medium and commands transferred; failed transfers and reads
+  pub steps : ℕ
+  pub faults : ℕ
+
+-- the origins by id
+abbrev pub origin_ids : List Command → List (Option ℕ) → List (Option ℕ)
+origin_ids took origins = map (λ o. option_and_then (λ place. option_map (λ (p : Part). p.id) (part_at took place)) o) origins
+
+abbrev pub is_ordered : Priority → Bool
+is_ordered Simple = false
+is_ordered Ordered = true
+
+-- no number stands twice
+abbrev pub NoneTwice : List ℕ → Type 0
+NoneTwice ids = (i j id : ℕ) → slice_get ids i ≡ Some id → slice_get ids j ≡ Some id → i ≡ j
+
+-- a command that the device may be given
+pub record IsReceivable (s : Seen) (c : Command) : Type 0 where
+  -- it is a flush, or has parts
+  pub whole : is_some c.flush ≡ (length c.parts == 0)
+  -- a barrier or a flush is ORDERED
+  pub ordered : (c.barrier || is_some c.flush) ≡ true → c.priority ≡ Ordered
+  pub within : All (λ (p : Part). p.block < length s.surface) c.parts
+  -- its ids differ, and none of them was taken before
+  pub fresh : NoneTwice (all_ids s.took ++ ids_of c)
+  pub few : length (all_ids s.took ++ ids_of c) ≤ s.limit
+
+-- the part at this place went into the cache
+abbrev pub IsMoved : Seen → ℕ → Type 0
+IsMoved s place = (epoch : ℕ) × In (record { epoch = epoch; part = place }) s.moved
+
+-- The part at this place is kept: the medium holds at its block that part or a later one.
+pub record IsPartKept (s : Seen) (place : ℕ) : Type 0 where
+  pub part : Part
+  pub taken : part_at s.took place ≡ Some part
+  pub origin : ℕ
+  pub held : slice_get s.origins part.block ≡ Some (Some origin)
+  pub later : place ≤ origin
+
+-- every part is on the medium, and every flush was answered
+pub record IsQuiet (s : Seen) : Type 0 where
+  pub kept : (place : ℕ) → place < length (all_parts s.took) → IsPartKept s place
+  pub flushed : (k id : ℕ) → IsFlush s.took k id → In (Flushed id) s.sent
+
+-- ---- the laws
+
+-- Surface law: each block with an origin holds the body of that part, which went into the cache; every
+-- other block holds what the device was made with.
+pub record IsSurface (s : Seen) : Type 0 where
+  pub blocks : length s.surface ≡ length s.base
+  pub places : length s.origins ≡ length s.base
+  pub written : (block place : ℕ) → slice_get s.origins block ≡ Some (Some place)
+      → (p : Part) × (part_at s.took place ≡ Some p) × (p.block ≡ block) × (slice_get s.surface block ≡ Some p.body) × IsMoved s place
+  pub untouched : (block : ℕ) → slice_get s.origins block ≡ Some None → slice_get s.surface block ≡ slice_get s.base block
+
+-- Epoch order law: if a part of one command is kept, and a barrier stands at or after an earlier command and
+-- before it, then every part of the earlier command is kept. Two parts of one block are kept in order.
+pub record KeepsEpochOrder (s : Seen) : Type 0 where
+  pub epochs : (x y b : ℕ) → x < length (all_parts s.took) → IsBarrier s.took b → command_of s.took x ≤ b → b < command_of s.took y → IsPartKept s y → IsPartKept s x
+  pub blocks : (x y : ℕ) (p q : Part) → x ≤ y → part_at s.took x ≡ Some p → part_at s.took y ≡ Some q → p.block ≡ q.block → IsPartKept s y → IsPartKept s x
+
+-- Flush law: where a flush was answered, every part of the commands before it is kept.
+abbrev pub KeepsFlush : Seen → Type 0
+KeepsFlush s = (k id x : ℕ) → In (Flushed id) s.sent → IsFlush s.took k id → x < length (all_parts s.took) → command_of s.took x < k → IsPartKept s x
+
+-- the id of a completion, where it has one
+abbrev pub completion_id : Completion → Option ℕ
+completion_id (Moved id) = Some id
+completion_id (Flushed id) = Some id
+completion_id (Failed id) = Some id
+completion_id Cut = None
+
+-- Completion law: each id completes at most once; a part completes as moved only where it was moved; a
+-- flush completes only where it was taken; and only moved parts are kept.
+pub record Completes (s : Seen) : Type 0 where
+  pub once : (i j id : ℕ) → option_and_then completion_id (slice_get (s.sent ++ s.waiting) i) ≡ Some id → option_and_then completion_id (slice_get (s.sent ++ s.waiting) j) ≡ Some id → i ≡ j
+  pub moved : (id : ℕ) → In (Moved id) (s.sent ++ s.waiting) → (place : ℕ) × (p : Part) × (part_at s.took place ≡ Some p) × (p.id ≡ id) × IsMoved s place
+  pub flushed : (id : ℕ) → In (Flushed id) (s.sent ++ s.waiting) → (k : ℕ) × IsFlush s.took k id
+  pub kept : (place : ℕ) → IsPartKept s place → IsMoved s place
+
+-- Power-cut law: the cut is told only where the power is off, and once.
+pub record TellsCut (s : Seen) : Type 0 where
+  pub off : In Cut (s.sent ++ s.waiting) → s.off ≡ true
+  pub once : (i j : ℕ) → slice_get (s.sent ++ s.waiting) i ≡ Some Cut → slice_get (s.sent ++ s.waiting) j ≡ Some Cut → i ≡ j
+
+-- Monotone law: what is kept stays kept, and no count falls.
+pub record Grows (old new : Seen) : Type 0 where
+  pub kept : (place : ℕ) → IsPartKept old place → IsPartKept new place
+  pub steps : old.steps ≤ new.steps
+  pub faults : old.faults ≤ new.faults

@@ -1,0 +1,12 @@
+/// What a device tells of a command that it has done, by the request's id.
+#[derive(Clone, Copy, PartialEq, Eq, Debug)]
+pub enum Completion {
+    /// The part is in the device's cache.
+    Moved(u64),
+    /// All before the flush is on the medium.
+    Flushed(u64),
+    /// The command was not done.
+    Failed(u64),
+    /// The power is off.
+    Cut,
+}

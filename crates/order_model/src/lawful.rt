@@ -1,0 +1,24 @@
+ghost use Rattle.std.specs.Prelude.{◌≡◌, ℕ, ◌<◌, false, length};
+ghost use Rattle.order_model.specs.declared.command.Command.{Command};
+ghost use Rattle.order_model.specs.Device.{IsSurface, KeepsEpochOrder, KeepsFlush, Completes, TellsCut, Grows};
+ghost use Rattle.order_model.specs.Steps.{Progresses};
+
+use crate::OrderedDev;
+
+/// How many blocks the device has; and what is known of the state that it is in.
+pub fn lawful_blocks<D: OrderedDev>(dev: &D) -> u32
+    ensures count { result ≡ length (D.seen (D.state dev.now)).surface }
+    ensures surface { IsSurface (D.seen (D.state dev.now)) }
+    ensures epoch_order { KeepsEpochOrder (D.seen (D.state dev.now)) }
+    ensures flush { KeepsFlush (D.seen (D.state dev.now)) }
+    ensures completion { Completes (D.seen (D.state dev.now)) }
+    ensures power_cut { TellsCut (D.seen (D.state dev.now)) }
+    ensures progress { (D.seen (D.state dev.now)).off ≡ false → (D.seen (D.state dev.now)).failed ≡ false → Progresses (D.seen (D.state dev.now)) (D.left (D.state dev.now)) (D.has_room (D.state dev.now)) (D.can_transfer (D.state dev.now)) (D.can_persist (D.state dev.now)) }
+    ensures on { D.stays_on (D.state dev.now) → (D.seen (D.state dev.now)).off ≡ false }
+    ensures stays { (c : Command) (n : ℕ) → D.stays_on (D.state dev.now) → D.stays_on (D.received (D.state dev.now) c) × D.stays_on (D.transferred (D.state dev.now) n) × D.stays_on (D.persisted (D.state dev.now) n) × D.stays_on (D.answered (D.state dev.now)) }
+    ensures sound { (c : Command) (n : ℕ) → D.sound (D.state dev.now) → D.sound (D.received (D.state dev.now) c) × D.sound (D.transferred (D.state dev.now) n) × ((D.seen (D.transferred (D.state dev.now) n)).faults ≡ (D.seen (D.state dev.now)).faults) }
+    ensures monotone { (pick : ℕ) → Grows (D.seen (D.state dev.now)) (D.seen (D.transferred (D.state dev.now) pick)) × Grows (D.seen (D.state dev.now)) (D.seen (D.persisted (D.state dev.now) pick)) }
+    ensures falls { (pick : ℕ) → (pick < D.can_transfer (D.state dev.now) → D.left (D.transferred (D.state dev.now) pick) < D.left (D.state dev.now)) × (pick < D.can_persist (D.state dev.now) → D.left (D.persisted (D.state dev.now) pick) < D.left (D.state dev.now)) }
+{
+    dev.blocks()
+}

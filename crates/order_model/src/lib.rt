@@ -1,0 +1,39 @@
+//! What passes between host, scheduler and device: requests, commands, completions, and the contract
+//! of a device that keeps the order of epochs.
+//!
+//! Stands on `blk_base`. The words of the promise are in `specs/`: `Submission` says what "ordered
+//! before", "kept" and "order-closed" mean over the host's list of requests alone, and `Device` has what
+//! a device shows and its laws. The public item that matters most is the trait `OrderedDev`.
+#![tactic(auto)]
+
+mod command;
+mod completion;
+mod cut_disk;
+mod device;
+mod ends;
+mod history;
+mod lawful;
+mod list_queue;
+mod note;
+mod part;
+mod request;
+mod sched_record;
+#[cfg(test)]
+mod tests;
+mod trail;
+mod turn;
+
+pub use command::{Command, Priority};
+pub use completion::Completion;
+pub use cut_disk::{CutDisk, Origins};
+pub use device::{OrderedDev, ReadFault};
+pub use ends::{Inlet, Outlet};
+pub use history::{Commands, Completions, DeviceRecord, History, Transfer, Transfers};
+pub use lawful::lawful_blocks;
+pub use list_queue::ListQueue;
+pub use note::Note;
+pub use part::{Part, Parts};
+pub use request::{Kind, Request};
+pub use sched_record::SchedRecord;
+pub use trail::Trail;
+pub use turn::Turn;

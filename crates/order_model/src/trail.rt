@@ -1,0 +1,34 @@
+ghost use Rattle.std.specs.Prelude.{◌≡◌, List, [], ◌∷◌, ◌++◌};
+ghost use Rattle.std.specs.Borrow.{ftrue};
+
+use std::marker::{Model, PhantomData};
+
+/// A history that contracts alone read, as its `items`. It takes no memory, and its calls do nothing at
+/// run time.
+#[derive(Drop)]
+pub struct Trail<T> {
+    of: PhantomData<T>,
+    pub ghost items: { List T },
+}
+
+impl<T> Model for Trail<T> {
+    ghost also_owns = { λ _. ftrue };
+}
+
+// It owns nothing.
+unsafe impl<T: Send> Send for Trail<T> {}
+
+impl<T> Trail<T> {
+    pub fn new() -> Trail<T>
+        ensures { result.items ≡ [] }
+    {
+        Trail { of: PhantomData }
+    }
+
+    /// This history with one item more. The item itself is not kept.
+    pub fn and(&self, item: &T) -> Trail<T>
+        ensures { result.items ≡ self.now.items ++ item.now ∷ [] }
+    {
+        Trail { of: PhantomData }
+    }
+}
