@@ -1,0 +1,344 @@
+ghost use Rattle.std.specs.Prelude.{◌≡◌, ℕ, ◌+◌, ◌^◌, ◌<◌, ◌≤◌, ◌==◌, ◌↔◌, List, [], length, All, IsOk, IsTrue, IfOk, OnOk, IfErr, MatchOption, slice_get, vec_len};
+ghost use Rattle.std.specs.Option.{option_map, option_copied};
+ghost use Rattle.std.specs.Vec.{vec_capacity};
+ghost use Rattle.order_model.specs.Device.{is_ordered};
+ghost use Rattle.command_queue.specs.Queue.{QueueState, Waiting, arrived, picked, left, eligible, is_free, have_common_block, stands_in_way};
+ghost use Rattle.command_queue.specs.Slots.{blank, waiting_at, seated, has_block, are_kept_in_order, EachOnce, IsPicked};
+
+use blk_base::NoMemory;
+use order_model::{Command, Part, Parts, Priority};
+use std::alloc::Global;
+use std::marker::Model;
+use std::mem;
+
+// Where a waiting command lies, and its number in the order of arrival.
+#[derive(Clone, Copy, PartialEq, Eq, Debug)]
+struct Seat {
+    number: u64,
+    slot: usize,
+}
+
+/// The commands that wait in a device.
+///
+/// A command has 16 KB, so it lies in one slot from its arrival until it leaves; only its seat moves.
+#[derive(Drop)]
+pub struct CommandQueue {
+    depth: usize,
+    next: u64,
+    slots: Vec<Command>,
+    free: Vec<usize>,
+    seats: Vec<Seat>,
+}
+
+impl Model for CommandQueue {
+    ghost use Rattle.command_queue.specs.Queue.{QueueState};
+
+    ghost Value = { QueueState };
+
+    ghost use Rattle.command_queue.specs.Slots.{seated, IsSeated};
+
+    ghost view = { λ q. record { depth = q.depth; next = q.next; waiting = seated q.slots.items q.seats.items } };
+
+    ghost invariant = { IsSeated };
+}
+
+impl CommandQueue {
+    /// An empty queue in which so many commands may wait.
+    pub fn make(alloc: Global, depth: u32) -> Result<CommandQueue, NoMemory>
+        requires { (1 ≤ depth) × (depth ≤ 64) }
+        ensures { IfOk result (λ q. q ≡ record { depth = depth; next = 0; waiting = [] }) }
+    {
+        let length = depth as usize;
+        Ok(CommandQueue {
+            depth: length,
+            next: 0,
+            slots: blank_slots(alloc, length)?,
+            free: numbers_below(alloc, length)?,
+            seats: Vec::with_capacity(alloc, length)?,
+        })
+    }
+
+    /// Takes a command, or hands it back exactly where as many wait as may.
+    pub fn receive(&mut self, c: Command) -> Result<(), Command>
+        requires { self.old.next + 1 < 2 ^ 64 }
+        ensures when { IsOk result ↔ (length self.old.waiting < self.old.depth) }
+        ensures ok { OnOk result (self.new ≡ arrived self.old c) }
+        ensures back { IfErr result (λ d. (d ≡ c) × (self.new ≡ self.old)) }
+    {
+        let Some(slot) = self.free.pop() else {
+            return Err(c);
+        };
+        self.slots[slot] = c;
+        self.seats.push_reserved(Seat {
+            number: self.next,
+            slot,
+        });
+        self.next += 1;
+        Ok(())
+    }
+
+    /// Whether `receive` takes a command.
+    pub fn room(&self) -> bool
+        ensures { IsTrue result ↔ (length self.now.waiting < self.now.depth) }
+    {
+        self.seats.len() < self.depth
+    }
+
+    pub fn is_empty(&self) -> bool
+        ensures { result ≡ (length self.now.waiting == 0) }
+    {
+        self.seats.is_empty()
+    }
+
+    /// The length of the eligible list.
+    pub fn eligible(&self) -> u32
+        ensures { result ≡ length (eligible self.now.waiting) }
+    {
+        count_free(&self.slots, &self.seats) as u32
+    }
+
+    /// The command that `take(pick)` would give.
+    pub fn peek(&self, pick: u32) -> Option<&Command>
+        ensures { option_copied result ≡ option_map (λ w. w.command) (picked self.now pick) }
+    {
+        let at = find_free(&self.slots, &self.seats, pick)?;
+        Some(&self.slots[self.seats[at].slot])
+    }
+
+    /// How many commands arrived before the one that `take(pick)` would give.
+    pub fn number(&self, pick: u32) -> Option<u64>
+        ensures { result ≡ option_map (λ w. w.number) (picked self.now pick) }
+    {
+        let at = find_free(&self.slots, &self.seats, pick)?;
+        Some(self.seats[at].number)
+    }
+
+    /// Takes the command at place `pick` of the eligible list.
+    pub fn take(&mut self, pick: u32) -> Option<Command>
+        ensures command { result ≡ option_map (λ w. w.command) (picked self.old pick) }
+        ensures state { self.new ≡ left self.old (picked self.old pick) }
+    {
+        let at = find_free(&self.slots, &self.seats, pick)?;
+        let seat = self.seats.remove(at);
+        self.free.push_reserved(seat.slot);
+        Some(mem::replace(&mut self.slots[seat.slot], blank_command()))
+    }
+}
+
+// A command of no parts, which lies in a free slot.
+fn blank_command() -> Command
+    ensures { result ≡ blank }
+{
+    Command {
+        parts: Parts::none(),
+        priority: Priority::Simple,
+        barrier: false,
+        flush: None,
+    }
+}
+
+fn blank_slots(alloc: Global, depth: usize) -> Result<Vec<Command>, NoMemory>
+    ensures { IfOk result (λ v. vec_len v ≡ depth) }
+{
+    let mut slots = Vec::with_capacity(alloc, depth)?;
+    for _ in 0..depth {
+        slots.push_reserved(blank_command());
+    }
+    Ok(slots)
+}
+
+fn numbers_below(alloc: Global, depth: usize) -> Result<Vec<usize>, NoMemory>
+    ensures items { IfOk result (λ v. EachOnce depth [] v.items) }
+    ensures len { IfOk result (λ v. vec_len v ≡ depth) }
+    ensures capacity { IfOk result (λ v. vec_capacity v ≡ depth) }
+{
+    let mut numbers = Vec::with_capacity(alloc, depth)?;
+    for slot in 0..depth {
+        numbers.push_reserved(slot);
+    }
+    Ok(numbers)
+}
+
+fn has_block(parts: &[Part], block: u32) -> bool
+    ensures { result ≡ has_block parts.now block }
+{
+    parts.iter().any(|p| block == p.block)
+}
+
+fn have_common_block(ps: &[Part], qs: &[Part]) -> bool
+    ensures { result ≡ have_common_block ps.now qs.now }
+{
+    ps.iter().any(|p| has_block(qs, p.block))
+}
+
+fn is_ordered(priority: Priority) -> bool
+    ensures { result ≡ is_ordered priority }
+{
+    match priority {
+        Priority::Simple => false,
+        Priority::Ordered => true,
+    }
+}
+
+// The later of the two may not pass the earlier one.
+fn are_kept_in_order(c: &Command, d: &Command) -> bool
+    ensures { result ≡ are_kept_in_order c.now d.now }
+{
+    is_ordered(c.priority)
+        || is_ordered(d.priority)
+        || have_common_block(c.parts.as_slice(), d.parts.as_slice())
+}
+
+fn stands_in_way(slots: &[Command], w: Seat, v: Seat) -> bool
+    requires first { w.slot < length slots.now }
+    requires second { v.slot < length slots.now }
+    ensures { result ≡ stands_in_way (waiting_at slots.now w) (waiting_at slots.now v) }
+{
+    w.number < v.number && are_kept_in_order(&slots[w.slot], &slots[v.slot])
+}
+
+// No seat's command stands in the way of that of `v`.
+fn is_free(slots: &[Command], seats: &[Seat], v: Seat) -> bool
+    requires all { All (λ s. s.slot < length slots.now) seats.now }
+    requires one { v.slot < length slots.now }
+    ensures { result ≡ is_free (seated slots.now seats.now) (waiting_at slots.now v) }
+{
+    seats.iter().all(|w| !stands_in_way(slots, *w, v))
+}
+
+fn count_free(slots: &[Command], seats: &[Seat]) -> usize
+    requires { All (λ s. s.slot < length slots.now) seats.now }
+    ensures value { result ≡ length (eligible (seated slots.now seats.now)) }
+    ensures few { result ≤ length seats.now }
+{
+    let mut count = 0;
+    for v in seats {
+        if is_free(slots, seats, *v) {
+            count += 1;
+        }
+    }
+    count
+}
+
+// The place among the seats of the eligible command at place `pick`.
+fn find_free(slots: &[Command], seats: &[Seat], pick: u32) -> Option<usize>
+    requires { All (λ s. s.slot < length slots.now) seats.now }
+    ensures { MatchOption result (slice_get (eligible (seated slots.now seats.now)) pick ≡ None) (IsPicked slots.now seats.now pick) }
+{
+    let mut left = pick;
+    for i in 0..seats.len() {
+        if is_free(slots, seats, seats[i]) {
+            if left == 0 {
+                return Some(i);
+            }
+            left -= 1;
+        }
+    }
+    None
+}
+
+#[cfg(test)]
+mod tests {
+    use super::*;
+    use blk_base::Block;
+    use std::process::Abort;
+
+    // A command of so many blocks from `first` on.
+    fn command(rt: &impl Abort, priority: Priority, first: u32, blocks: u32) -> Command
+        requires { first + blocks < 100 }
+    {
+        let mut parts = Parts::none();
+        for block in first..first + blocks {
+            let pushed = parts.push(Part {
+                id: u64::from(block),
+                block,
+                body: Block::fill(0),
+            });
+            assert!(rt; pushed.is_ok());
+        }
+        Command {
+            parts,
+            priority,
+            barrier: false,
+            flush: None,
+        }
+    }
+
+    fn arrive(rt: &impl Abort, q: &mut CommandQueue, c: Command)
+        requires { q.old.next < 1000 }
+        ensures { q.new.next ≡ q.old.next + 1 }
+    {
+        assert!(rt; q.receive(c).is_ok());
+    }
+
+    // The first block of a command.
+    fn first_block(c: Option<&Command>) -> Option<u32> {
+        Some(c?.parts.get(0)?.block)
+    }
+
+    #[test]
+    fn holds_depth(rt: HostRuntime) -> Result<(), NoMemory> {
+        let mut q = CommandQueue::make(rt.alloc(), 2)?;
+        arrive(&rt, &mut q, command(&rt, Priority::Simple, 1, 1));
+        assert!(rt; q.room());
+        arrive(&rt, &mut q, command(&rt, Priority::Simple, 2, 1));
+        assert!(rt; !q.room());
+        match q.receive(command(&rt, Priority::Ordered, 3, 2)) {
+            Ok(()) => assert!(rt; false),
+            Err(c) => {
+                assert_eq!(rt; first_block(Some(&c)), Some(3));
+                assert_eq!(rt; c.parts.len(), 2);
+                assert_eq!(rt; c.priority, Priority::Ordered);
+            }
+        }
+        assert_eq!(rt; q.eligible(), 2);
+        assert_eq!(rt; first_block(q.take(1).as_ref()), Some(2));
+        assert!(rt; q.room());
+        assert_eq!(rt; first_block(q.peek(0)), Some(1));
+        Ok(())
+    }
+
+    // 0: SIMPLE at block 1; 1: SIMPLE at block 1; 2: SIMPLE at block 2; 3: ORDERED; 4: SIMPLE.
+    #[test]
+    fn keeps_ordered_ones_in_order(rt: HostRuntime) -> Result<(), NoMemory> {
+        let mut q = CommandQueue::make(rt.alloc(), 8)?;
+        arrive(&rt, &mut q, command(&rt, Priority::Simple, 1, 1));
+        arrive(&rt, &mut q, command(&rt, Priority::Simple, 1, 1));
+        arrive(&rt, &mut q, command(&rt, Priority::Simple, 2, 1));
+        arrive(&rt, &mut q, command(&rt, Priority::Ordered, 9, 1));
+        arrive(&rt, &mut q, command(&rt, Priority::Simple, 3, 1));
+        assert_eq!(rt; q.eligible(), 2);
+        assert_eq!(rt; q.number(0), Some(0));
+        assert_eq!(rt; q.number(1), Some(2));
+        assert_eq!(rt; q.number(2), None);
+        assert_eq!(rt; first_block(q.peek(1)), Some(2));
+        assert!(rt; q.peek(2).is_none());
+        for (pick, number, block, left) in [
+            (1, 2, 2, 1),
+            (0, 0, 1, 1),
+            (0, 1, 1, 1),
+            (0, 3, 9, 1),
+            (0, 4, 3, 0),
+        ] {
+            assert_eq!(rt; q.number(pick), Some(number));
+            assert_eq!(rt; first_block(q.take(pick).as_ref()), Some(block));
+            assert_eq!(rt; q.eligible(), left, "after {number}");
+        }
+        assert!(rt; q.take(0).is_none());
+        Ok(())
+    }
+
+    // Blocks 5 to 7, 7 and 8, and 8 and 9: the third has no block of the first, but waits for the second.
+    #[test]
+    fn keeps_blocks_in_order(rt: HostRuntime) -> Result<(), NoMemory> {
+        let mut q = CommandQueue::make(rt.alloc(), 3)?;
+        arrive(&rt, &mut q, command(&rt, Priority::Simple, 5, 3));
+        arrive(&rt, &mut q, command(&rt, Priority::Simple, 7, 2));
+        arrive(&rt, &mut q, command(&rt, Priority::Simple, 8, 2));
+        for first in [5, 7, 8] {
+            assert_eq!(rt; q.eligible(), 1);
+            assert_eq!(rt; first_block(q.take(0).as_ref()), Some(first));
+        }
+        Ok(())
+    }
+}
