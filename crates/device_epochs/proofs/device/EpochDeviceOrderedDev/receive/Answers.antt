@@ -1,0 +1,60 @@
+use Rattle.std.proofs.Common.{◌≡◌, ◌<◌, true, false, length, sym, ap, subst, arith, rules}
+use Rattle.std.proofs.lemmas.Bool.{lt-ltb}
+use Rattle.order_model.specs.declared.command.Command.{Command}
+use Rattle.order_model.specs.History.{HistoryState}
+use Rattle.order_model.specs.Device.{IsReceivable}
+use Rattle.command_queue.specs.Queue.{arrived}
+use Rattle.device_epochs.specs.Device.{DeviceState, seen, has_room, is_off}
+use Rattle.device_epochs.specs.Valid.{IsValid}
+use Rattle.device_epochs.specs.Fields.{state_of}
+use Rattle.device_epochs.specs.BoundLaws.{receivable-fits}
+use Rattle.device_epochs.specs.Laws.{received-valid}
+use Rattle.device_epochs.proofs.Moves.{received_to, on_ok}
+use Rattle.device_epochs.proofs.device.EpochDeviceOrderedDev.receive.Goals as goal
+
+pub push-requires-clause-commands : goal.push-requires-clause-commands
+push-requires-clause-commands c =
+    let s = state_of c.self.inside in
+    let may = subst (λ (t : DeviceState). IsReceivable (seen t) c.args.c) (sym c.self.view_is) c.requires in
+    let fits = receivable-fits s c.args.c c.self.invariant.valid may in
+    let room = c.self.invariant.took in
+    omega (arith, fits.0)
+
+pub push-requires-clause-parts : goal.push-requires-clause-parts
+push-requires-clause-parts c =
+    let s = state_of c.self.inside in
+    let may = subst (λ (t : DeviceState). IsReceivable (seen t) c.args.c) (sym c.self.view_is) c.requires in
+    let fits = receivable-fits s c.args.c c.self.invariant.valid may in
+    let room = c.self.invariant.took in
+    omega (arith, fits.1)
+
+pub receive-requires : goal.receive-requires
+receive-requires c =
+    let s = state_of c.self.inside in
+    let may = subst (λ (t : DeviceState). IsReceivable (seen t) c.args.c) (sym c.self.view_is) c.requires in
+    let fits = receivable-fits s c.args.c c.self.invariant.valid may in
+    let next = c.self.invariant.valid.queue.next in
+    let few = c.self.invariant.few in
+    omega (arith, fits.0, next, few)
+
+pub invariant_of-self : goal.invariant_of-self
+invariant_of-self c =
+    let d = c.self.inside in
+    let s = state_of d in
+    let h = c.self.invariant in
+    let may = subst (λ (t : DeviceState). IsReceivable (seen t) c.args.c) (sym c.self.view_is) c.requires in
+    let on : is_off s ≡ false = subst (λ (t : DeviceState). is_off t ≡ false) (sym c.self.view_is) (sym c.if-is_off.ensures.value) in
+    let fits : length d.queue.waiting < d.queue.depth = search rules in
+    let room : has_room s ≡ true = rw on (lt-ltb (length d.queue.waiting) d.queue.depth fits) in
+    let queue : c.receive.new.self ≡ arrived d.queue c.args.c = on_ok (c.receive.new.self ≡ arrived d.queue c.args.c) c.receive.result (c.receive.ensures.when.1 fits) c.receive.ensures.ok in
+    let to = received_to s c.args.c c.push.new.self.items c.receive.new.self (ap (λ (t : HistoryState Command). t.items) c.push.ensures) queue in
+    let took = ap (λ (t : HistoryState Command). t.room) c.push.ensures in
+    record {
+      valid = subst IsValid (sym to) (received-valid s c.args.c h.valid may room);
+      few = h.few;
+      took = omega (arith, took, h.took);
+      moved = h.moved;
+      sent = h.sent;
+      waiting = h.waiting;
+      cache = h.cache;
+    }

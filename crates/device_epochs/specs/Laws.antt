@@ -1,0 +1,180 @@
+-- Each call of the device leads from a state that can be reached to another.
+use Rattle.std.specs.Prelude.{◌≡◌, ℕ, ◌<◌, true, not, List, [], ◌∷◌, ◌++◌, length, Option, Some, None, slice_get, nat_lt, replicate, refl}
+use Rattle.std.proofs.Common.{ap, subst, inl, inr, ⊎_elim, arith, append_assoc}
+use Rattle.std.proofs.lemmas.Bool.{cases_Bool, and_parts, ltb-true, false≢true}
+use Rattle.std.proofs.lemmas.List.{length-replicate}
+use Rattle.std.proofs.lemmas.Option.{none-some}
+use Rattle.blk_base.specs.Members.{In, In-replicate, slice_get-In}
+use Rattle.order_model.specs.declared.command.Command.{Command}
+use Rattle.order_model.specs.declared.completion.Completion.{Completion}
+use Rattle.order_model.specs.declared.completion.Completion.TheVariants.{Cut}
+use Rattle.order_model.specs.Received.{epoch_of, completions_of}
+use Rattle.order_model.specs.Device.{IsReceivable}
+use Rattle.command_queue.specs.Queue.{Waiting}
+use Rattle.device_epochs.specs.declared.cache.Entry.{Entry}
+use Rattle.device_epochs.specs.CacheSteps.{CacheFacts-received, MediumFacts-received, CacheFacts-moved, MediumFacts-moved, CacheFacts-written, MediumFacts-written}
+use Rattle.device_epochs.specs.CompletionLaws.{completions-received, completions-moved, completions-persisted, completions-answered_from}
+use Rattle.device_epochs.specs.CountLaws.{counts-received, counts-moved, counts-written, counts-answered_from}
+use Rattle.device_epochs.specs.Device.{DeviceState, opened, is_off, has_room, received, transferable, moved_in, transferred, persistable, written, persisted, tells_cut, answered_from, answered, seen}
+use Rattle.device_epochs.specs.EpochLaws.{present-received, present-moved, moved-received, moved-moved, epoch_of_eligible}
+use Rattle.device_epochs.specs.QueueLaws.{commands-received, queue-received, queue-moved, eligible-waits}
+use Rattle.device_epochs.specs.StepLaws.{untold, transferable-In, persistable-In}
+use Rattle.device_epochs.specs.Valid.{CompletionFacts, IsValid}
+
+-- ---- a new device
+
+pub opened-valid : (image : List (List ℕ)) (depth limit : ℕ) (cut_at : Option ℕ) → 0 < depth → IsValid (opened image depth limit cut_at)
+opened-valid image depth limit cut_at some = record {
+  commands = record {
+    whole = λ c i. absurd i;
+    ordered = λ c i. absurd i;
+    within = λ p i. absurd i;
+    fresh = λ i j id e. absurd (none-some id e);
+    few = omega arith;
+  };
+  queue = record {
+    some_depth = some;
+    fits = omega arith;
+    next = refl;
+    numbered = tt;
+    queued = λ w i. absurd i;
+    passed = λ w k c i. absurd i;
+  };
+  present = λ k ahead clear. ⊎_elim (λ e. ap (epoch_of []) e) (λ w. absurd w.1) ahead;
+  moved = record {
+    place = λ t i. absurd i;
+    done = λ t i. absurd i;
+    epoch = λ t i. absurd i;
+    all = λ x lt. absurd (omega arith);
+  };
+  cache = record { entries = λ e i. absurd i; unique = tt; sorted = tt };
+  medium = record {
+    blocks = refl;
+    places = length-replicate (length image) None;
+    written = λ b x e. absurd (none-some x (In-replicate (length image) None (Some x) (slice_get-In (replicate (length image) None) b (Some x) e)));
+    untouched = λ b e. refl;
+    older = λ b x e o i. absurd i;
+    newer = λ x e o i. absurd i;
+    covered = λ x p e. absurd (none-some p e);
+    flushed = λ k id x p f d e. absurd (none-some p e);
+  };
+  completions = record {
+    once = λ i j id e. absurd (none-some id e);
+    source = λ x i. absurd i;
+    all = λ k c x e. absurd (none-some c e);
+    cut_once = λ i j e. absurd (none-some Cut e);
+    told_off = λ t. absurd (false≢true t);
+  };
+  counts = record {
+    steps = omega arith;
+    epochs = omega arith;
+    moved = refl;
+    completions = refl;
+    cut = λ n e. omega arith;
+  };
+}
+
+-- ---- a command is received
+
+pub received-valid : (s : DeviceState) (c : Command) → IsValid s → IsReceivable (seen s) c → has_room s ≡ true → IsValid (received s c)
+received-valid s c v r room =
+    let w : Waiting = record { number = s.queue.next; command = c } in
+    let last : w.number ≡ length s.took = v.queue.next in
+    let fits = ltb-true (length s.queue.waiting) s.queue.depth (and_parts (not (is_off s)) (nat_lt (length s.queue.waiting) s.queue.depth) room).1 in
+    record {
+      commands = commands-received (length s.base) s.limit (seen s) c v.commands r v.medium.blocks refl;
+      queue = queue-received s.took s.queue c v.queue fits;
+      present = present-received s.took s.queue s.epoch c w v.queue v.present last refl;
+      moved = moved-received s.took s.queue.waiting s.moved c w v.moved last refl;
+      cache = CacheFacts-received s.took s.queue.waiting s.epoch s.cache c w last v.cache;
+      medium = MediumFacts-received s.base s.took s.queue.waiting s.cache s.surface s.origins c w last v.medium;
+      completions = completions-received s.took s.queue.waiting (s.sent ++ s.waiting) (is_off s) s.told c w v.completions last;
+      counts = counts-received s c v.counts;
+    }
+
+-- ---- a command goes into the cache
+
+pub moved_in-valid : (s : DeviceState) (w : Waiting) → IsValid s → In w (transferable s) → IsValid (moved_in s (Some w))
+moved_in-valid s w v h =
+    let may = transferable-In s w h in
+    let inside = eligible-waits s.queue.waiting w may.1 in
+    let present = epoch_of_eligible (length s.base) s.limit s.took s.queue s.epoch w v.commands v.queue v.present may.1 in
+    record {
+      commands = v.commands;
+      queue = queue-moved s.took s.queue w v.queue may.1;
+      present = present-moved (length s.base) s.limit s.took s.queue s.epoch w v.commands v.queue v.present may.1;
+      moved = moved-moved s.took s.queue s.moved s.epoch w v.queue v.moved inside present;
+      cache = CacheFacts-moved s.took s.queue s.epoch s.cache w v.queue inside present v.cache;
+      medium = MediumFacts-moved s.base (length s.base) s.limit s.took s.queue s.epoch s.cache s.surface s.origins w v.commands v.queue v.present v.cache v.medium may.1 may.2;
+      completions =
+          subst (λ cs. CompletionFacts s.took (moved_in s (Some w)).queue.waiting cs (is_off (moved_in s (Some w))) s.told)
+          (append_assoc s.sent s.waiting (completions_of w.command))
+          (completions-moved s.took s.queue (s.sent ++ s.waiting) (is_off s) (is_off (moved_in s (Some w))) s.told w v.commands.fresh v.queue v.completions inside (untold s v may.0));
+      counts = counts-moved s w v.queue inside may.0 v.counts;
+    }
+
+moved_from-valid : (s : DeviceState) (o : Option Waiting) → IsValid s → ((w : Waiting) → o ≡ Some w → In w (transferable s)) → IsValid (moved_in s o)
+moved_from-valid s None v h = v
+moved_from-valid s (Some w) v h = moved_in-valid s w v (h w refl)
+
+pub transferred-valid : (s : DeviceState) (pick : ℕ) → IsValid s → IsValid (transferred s pick)
+transferred-valid s pick v =
+    moved_from-valid s (slice_get (transferable s) pick) v (λ w e. slice_get-In (transferable s) pick w e)
+
+-- ---- an entry goes to the medium
+
+pub written-valid : (s : DeviceState) (e : Entry) → IsValid s → In e (persistable s) → IsValid (written s (Some e))
+written-valid s e v h =
+    let may = persistable-In s e h in
+    record {
+      commands = v.commands;
+      queue = v.queue;
+      present = v.present;
+      moved = v.moved;
+      cache = CacheFacts-written s.took s.queue.waiting s.epoch s.cache e v.cache;
+      medium = MediumFacts-written s.base s.limit s.took s.queue.waiting s.epoch s.cache s.surface s.origins e v.commands v.cache v.medium may.1;
+      completions = completions-persisted s.took s.queue.waiting (s.sent ++ s.waiting) (is_off s) (is_off (written s (Some e))) s.told v.completions (untold s v may.0);
+      counts = counts-written s e may.2 may.0 v.counts;
+    }
+
+written_from-valid : (s : DeviceState) (o : Option Entry) → IsValid s → ((e : Entry) → o ≡ Some e → In e (persistable s)) → IsValid (written s o)
+written_from-valid s None v h = v
+written_from-valid s (Some e) v h = written-valid s e v (h e refl)
+
+pub persisted-valid : (s : DeviceState) (pick : ℕ) → IsValid s → IsValid (persisted s pick)
+persisted-valid s pick v =
+    written_from-valid s (slice_get (persistable s) pick) v (λ e q. slice_get-In (persistable s) pick e q)
+
+-- ---- a completion is handed out
+
+handed-valid : (s : DeviceState) (cs : List Completion) → s.waiting ≡ cs → IsValid s → IsValid (answered_from s cs)
+handed-valid s (c ∷ cs) e v = record {
+  commands = v.commands;
+  queue = v.queue;
+  present = v.present;
+  moved = v.moved;
+  cache = v.cache;
+  medium = v.medium;
+  completions = completions-answered_from s (c ∷ cs) e v.completions;
+  counts = counts-answered_from s (c ∷ cs) e v.counts;
+}
+handed-valid s [] e v =
+    elim (cases_Bool (tells_cut s)) [
+      | inl t ↦
+          let completions = rw t at (completions-answered_from s [] e v.completions) in
+          let counts = rw t at (counts-answered_from s [] e v.counts) in
+          rw t (record {
+            commands = v.commands;
+            queue = v.queue;
+            present = v.present;
+            moved = v.moved;
+            cache = v.cache;
+            medium = v.medium;
+            completions = completions;
+            counts = counts;
+          })
+      | inr n ↦ rw n v
+    ]
+
+pub answered-valid : (s : DeviceState) → IsValid s → IsValid (answered s)
+answered-valid s v = handed-valid s s.waiting refl v

@@ -1,0 +1,72 @@
+//! What the device notes of a command that it moves, and tells of it.
+ghost use Rattle.std.specs.Prelude.{◌≡◌, ℕ, ◌+◌, ◌^◌, ◌<◌, ◌≤◌, ◌++◌, List, length, map, Option, Some, None};
+ghost use Rattle.std.specs.List.{list_any};
+ghost use Rattle.std.specs.Option.{option_map, option_and_then};
+ghost use Rattle.circular_buffer.specs.Buffer.{buffer};
+ghost use Rattle.order_model.specs.declared.part.Part.{Part};
+ghost use Rattle.order_model.specs.Received.{completions_of};
+ghost use Rattle.device_epochs.specs.Cache.{transfers};
+ghost use Rattle.device_epochs.specs.Helpers.{is_flushed, id_at};
+
+use circular_buffer::HeapCircularBuffer;
+use order_model::{Command, Completion, Part, Transfer, Transfers};
+
+// Notes that parts went into the cache. The first of them stands at this place among all parts taken.
+pub(crate) fn note_transfers(moved: &mut Transfers, epoch: u64, first: u64, parts: &[Part])
+    requires room { length moved.old.items + length parts.now ≤ moved.old.room }
+    requires places { first + length parts.now < 2 ^ 64 }
+    ensures { moved.new ≡ record { items = moved.old.items ++ transfers epoch first parts.now; room = moved.old.room } }
+{
+    let mut place = first;
+    for _ in parts {
+        moved.push(Transfer { epoch, part: place });
+        place += 1;
+    }
+}
+
+// Appends what the command completes with, which there is room for.
+pub(crate) fn complete(waiting: &mut HeapCircularBuffer<Completion>, c: &Command)
+    requires { length waiting.old.items + length (completions_of c.now) ≤ waiting.old.capacity }
+    ensures { waiting.new ≡ buffer (waiting.old.items ++ completions_of c.now) waiting.old.capacity }
+{
+    for part in c.parts.as_slice() {
+        let _ = waiting.try_push_back(Completion::Moved(part.id));
+    }
+    if let Some(id) = c.flush {
+        let _ = waiting.try_push_back(Completion::Flushed(id));
+    }
+}
+
+fn is_flushed(c: Completion) -> bool
+    ensures { result ≡ is_flushed c }
+{
+    match c {
+        Completion::Flushed(_) => true,
+        Completion::Moved(_) | Completion::Failed(_) | Completion::Cut => false,
+    }
+}
+
+// Whether the completion of a flush has not been handed out.
+pub(crate) fn holds_flush(waiting: &HeapCircularBuffer<Completion>) -> bool
+    ensures { result ≡ list_any is_flushed waiting.now.items }
+{
+    waiting.iter().any(|c| is_flushed(*c))
+}
+
+// The id of the part at this place.
+fn id_at(parts: &[Part], place: Option<u64>) -> Option<u64>
+    ensures { result ≡ id_at parts.now place }
+{
+    parts.get(place? as usize).map(|p| p.id)
+}
+
+// The places of parts, turned into their ids where they stand.
+pub(crate) fn read_ids(places: Vec<Option<u64>>, parts: &[Part]) -> Vec<Option<u64>>
+    ensures { result.items ≡ map (id_at parts.now) places.items }
+{
+    let mut ids = places;
+    for i in 0..ids.len() {
+        ids[i] = id_at(parts, ids[i]);
+    }
+    ids
+}

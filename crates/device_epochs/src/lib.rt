@@ -1,0 +1,14 @@
+//! The model device: a queue of commands, a volatile cache of epochs, and a medium.
+//!
+//! Stands on `command_queue`. `EpochDevice` implements `OrderedDev`; `specs/Device.antt` has its state
+//! as one plain value with the step of each call, and `specs/Valid.antt` the facts that each step keeps.
+#![tactic(auto)]
+
+mod cache;
+mod completing;
+mod device;
+#[cfg(test)]
+mod tests;
+
+pub use cache::Entry;
+pub use device::{DeviceSetup, EpochDevice};
