@@ -1,0 +1,52 @@
+//! Runs scripts on the model stack, and prints what a power cut leaves.
+#![tactic(auto)]
+
+mod core_run;
+mod fault;
+mod grammar;
+mod line_forms;
+mod reading;
+mod report;
+mod script;
+mod script_error;
+mod spelling;
+#[cfg(test)]
+mod tests;
+mod text;
+mod top;
+mod word_table;
+mod words;
+
+use blk_base::{NoMemory, StdSink, StdSource};
+use fault::TopFault;
+use std::process::ExitCode;
+use std::rt::Env;
+use std::{env, io};
+use top::{Words, alone};
+
+// The words of the command line, without the program's name.
+fn words_of(rt: &(impl Env + AllocGlobal)) -> Result<Words, NoMemory> {
+    let alloc = rt.alloc();
+    let mut words = Words::make(alloc);
+    let Ok(args) = env::args(rt) else {
+        return Err(NoMemory);
+    };
+    for word in args.skip(1) {
+        words.push(alloc, word.as_str())?;
+    }
+    Ok(words)
+}
+
+fn main(rt: HostRuntime) -> ExitCode {
+    let Ok(words) = words_of(&rt) else {
+        let _ = eprintln!(rt; "barrierfs: {}", TopFault::NoMemory);
+        return ExitCode::from(8);
+    };
+    let mut source = StdSource::new(rt.reader());
+    let mut sink = StdSink::new(io::writer(&rt));
+    let outcome = alone(rt.alloc(), &words, &mut source, &mut sink);
+    if let Some(fault) = outcome.fault {
+        let _ = eprintln!(rt; "barrierfs: {fault}");
+    }
+    ExitCode::from(outcome.status)
+}

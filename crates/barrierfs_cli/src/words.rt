@@ -1,0 +1,63 @@
+//! The first words of a line, in the groups of the grammar. A later form adds a word to its group.
+
+/// The words that begin a script.
+#[derive(Clone, Copy, PartialEq, Eq, Debug)]
+pub enum FirstWord {
+    Device,
+    Blocks,
+    Volume,
+}
+
+/// The words of header lines.
+#[derive(Clone, Copy, PartialEq, Eq, Debug)]
+pub enum HeaderWord {
+    Depth,
+    Cut,
+}
+
+/// The words of body lines.
+#[derive(Clone, Copy, PartialEq, Eq, Debug)]
+pub enum BodyWord {
+    Put,
+    Flush,
+}
+
+/// The words of event lines.
+#[derive(Clone, Copy, PartialEq, Eq, Debug)]
+pub enum StepWord {
+    Receive,
+    Transfer,
+    Persist,
+}
+
+/// The first word of a line.
+#[derive(Clone, Copy, PartialEq, Eq, Debug)]
+pub enum Word {
+    First(FirstWord),
+    Header(HeaderWord),
+    Body(BodyWord),
+    /// The line between the body and the event lines.
+    Events,
+    Step(StepWord),
+}
+
+/// How a put keeps the order of the requests round it.
+#[derive(Clone, Copy, PartialEq, Eq, Debug)]
+pub enum Class {
+    Free,
+    Ordered,
+    Barrier,
+}
+
+/// A line that is spelled rightly. Its numbers are not tested yet.
+#[derive(Clone, Copy, PartialEq, Eq, Debug)]
+pub enum Line {
+    Depth(u64),
+    Cut(u64),
+    Put { block: u64, value: u8, class: Class },
+    Flush,
+    Events,
+    Receive { count: u64 },
+    Transfer { pick: u64, count: u64 },
+    Persist { pick: u64, count: u64 },
+}
