@@ -1,0 +1,24 @@
+use Rattle.std.proofs.Common.{length, ap, sym, subst, ◌∙◌, arith}
+use Rattle.std.proofs.lemmas.List.{length_push}
+use Rattle.epoch_sched.specs.Places.{AreAtIds, next_id-new, AreAtIds-push}
+use Rattle.epoch_sched.specs.Sched.{SchedState}
+use Rattle.epoch_sched.proofs.tests.Bench.submit.Goals as goal
+
+pub accept-requires-clause-new : goal.accept-requires-clause-new
+accept-requires-clause-new c =
+    let bench = c.args.self.now in
+    next_id-new bench.sched.accepted c.request.result.id bench.ids (c.request.ensures.id ∙ bench.numbered)
+
+pub invariant_of-self-2-clause-numbered : goal.invariant_of-self-2-clause-numbered
+invariant_of-self-2-clause-numbered c =
+    let bench = c.args.self.now in
+    let now = ap (λ (s : SchedState). length s.accepted) c.in_default.ensures.ok in
+    let more = length_push bench.sched.accepted c.request.result in
+    omega (arith, bench.numbered, now, more)
+
+pub invariant_of-self-2-clause-ids : goal.invariant_of-self-2-clause-ids
+invariant_of-self-2-clause-ids c =
+    let bench = c.args.self.now in
+    let now = ap (λ (s : SchedState). s.accepted) c.in_default.ensures.ok in
+    let more = AreAtIds-push bench.sched.accepted c.request.result bench.ids (c.request.ensures.id ∙ bench.numbered) in
+    subst AreAtIds (sym now) more
