@@ -1,0 +1,44 @@
+#!/usr/bin/env python3
+"""Writes the largest scripts that the limits allow to the folder that is given."""
+import os
+import sys
+
+BLOCKS, REQUESTS = 4096, 10000
+
+
+def device(name, line):
+    """A device script: line(i) is request i; all are received, transferred and persisted."""
+    body = [line(i) for i in range(REQUESTS)]
+    text = ["device %d" % BLOCKS] + body + ["events"]
+    done = 0
+    while done < REQUESTS:
+        n = min(32, REQUESTS - done)
+        text += ["receive x %d" % n, "transfer 0 x %d" % n]
+        done += n
+    text += ["persist 0 x %d" % REQUESTS]
+    return name, "\n".join(text) + "\n"
+
+
+def put(i, kind):
+    return "put %d %02x %s" % (i * 7 % BLOCKS, i % 256, kind)
+
+
+def cases():
+    yield device("device-thousand-epochs", lambda i: put(i, "barrier" if i % 10 == 9 else "ordered"))
+    yield device("device-one-epoch", lambda i: put(i, "ordered"))
+    yield device("device-orderless", lambda i: put(i, "free"))
+    yield device("device-every-barrier", lambda i: put(i, "barrier"))
+    yield device("device-mixed", lambda i: put(i, ("free", "ordered", "barrier")[i % 3]))
+
+
+def main():
+    folder = sys.argv[1]
+    os.makedirs(folder, exist_ok=True)
+    for name, text in cases():
+        with open(os.path.join(folder, name + ".script"), "w") as out:
+            out.write(text)
+        print(name)
+
+
+if __name__ == "__main__":
+    main()
