@@ -1,23 +1,25 @@
 -- What is on the medium behind a scheduler and a device that each keep their laws.
-use Rattle.std.proofs.Common.{◌≡◌, ℕ, ◌+◌, ◌<◌, ◌≤◌, ◌||◌, Bool, List, length, take, Option, Some, None, slice_get, refl, sym, ap, subst, ◌∙◌, arith, ⊎_elim, zero, suc, IsTrue, IsSomeAnd}
-use Rattle.std.specs.Option.{option_map, option_and_then}
+use Rattle.std.proofs.Common.{◌≡◌, ℕ, ◌+◌, ◌<◌, ◌≤◌, ◌||◌, Bool, List, length, take, Some, slice_get, sym, ap, subst, ◌∙◌, arith, ⊎_elim, IsTrue, IsSomeAnd}
+use Rattle.std.specs.Option.{option_and_then}
 use Rattle.std.proofs.lemmas.Bool.{cases_lt}
 use Rattle.std.proofs.lemmas.List.{length-map}
 use Rattle.std.proofs.lemmas.Option.{none-some, same_Some}
-use Rattle.blk_base.specs.Members.{In-append_left, slice_get-in_range, slice_get-length, slice_get-take, slice_get-take_out, map_some-slice_get, slice_get-map_some}
+use Rattle.blk_base.specs.Members.{In-append_left, slice_get-in_range, slice_get-length, slice_get-take, slice_get-take_out}
 use Rattle.order_model.specs.declared.part.Part.{Part}
 use Rattle.order_model.specs.declared.command.Command.{Command}
 use Rattle.order_model.specs.declared.completion.Completion.TheVariants.{Flushed}
-use Rattle.order_model.specs.declared.request.Kind.{Kind}
 use Rattle.order_model.specs.declared.request.Kind.TheVariants.{Put, Flush}
 use Rattle.order_model.specs.declared.request.Request.{Request}
 use Rattle.order_model.specs.Received.{all_parts, part_at, first_part, command_of, IsBarrier, IsFlush}
-use Rattle.order_model.specs.Submission.{is_flush, kind_block, kind_body, IsPutOf, IsOrderedBefore, HasOrigin, IsKept, IsOrderClosed}
+use Rattle.order_model.specs.Submission.{is_flush, kind_block, kind_body, IsPutOf, IsOrderedBefore, HasOrigin, IsKept, IsOrderClosed, KeepsFlushed}
 use Rattle.order_model.specs.Device.{Seen, origin_ids, IsPartKept, IsSurface, KeepsEpochOrder, KeepsFlush, Completes}
 use Rattle.order_model.proofs.Received.{place_of, part_at-place, command_of-first, command_of-lt, part_at-first, part-lt, command_of-mono, flush-is}
-use Rattle.epoch_sched.specs.Sched.{SchedState, KeepsOrder, IsSentAs, IsBarrierCommand, IsFlushAt, command_of_request, parts_for, flush_for}
+use Rattle.order_model.specs.Single.{command_of_request}
+use Rattle.order_model.proofs.Single.{part_is, part_of, flush_is, IsPartFor}
+use Rattle.order_model.proofs.OriginIds.{id_at, placed, origin_of, no_origin}
+use Rattle.epoch_sched.specs.Sched.{SchedState, KeepsOrder, IsSentAs, IsBarrierCommand, IsFlushAt}
 use Rattle.epoch_sched.specs.Places.{AreAtIds}
-use Rattle.epoch_sched.specs.Fits.{IsFrontOf, Fits, KeepsFlushed}
+use Rattle.epoch_sched.specs.Fits.{IsFrontOf, Fits}
 
 -- ---- fronts
 
@@ -73,14 +75,6 @@ request_of qs s d k c run at =
 
 -- ---- parts and requests
 
--- the one part of a command is the request's put
-part_is : (id : ℕ) (k : Kind) (i : ℕ) (p : Part) → slice_get (parts_for id k) i ≡ Some p → (k ≡ Put p.block p.body) × (p.id ≡ id) × (i ≡ 0)
-part_is id (Put block body) zero p at =
-    let e = same_Some (record { id = id; block = block; body = body }) p at in
-    (ap (λ (q : Part). Put q.block q.body) e, sym (ap (λ (q : Part). q.id) e), refl)
-part_is id (Put block body) (suc i) p at = absurd (none-some p at)
-part_is id Flush i p at = absurd (none-some p at)
-
 -- the request of a part
 record IsRequestFor (qs : List Request) (s : SchedState) (d : Seen) (x : ℕ) (p : Part) : Type 0 where
   pub sent : IsSentAs s p.id (command_of d.took x)
@@ -120,19 +114,6 @@ accepted_put : (qs : List Request) (s : SchedState) (d : Seen) (i block : ℕ) �
 accepted_put qs s d i block run lt put =
     ap (option_and_then (λ (r : Request). kind_block r.kind)) (sym (front-same s.accepted qs i run.fits.accepted lt)) ∙ put
 
--- the command of a put has one part, of its block
-part_of : (id : ℕ) (k : Kind) (block : ℕ) → kind_block k ≡ Some block → (p : Part) × (slice_get (parts_for id k) 0 ≡ Some p) × (p.block ≡ block) × (0 < length (parts_for id k))
-part_of id (Put b body) block e = (record { id = id; block = b; body = body }, refl, same_Some b block e, omega arith)
-part_of id Flush block e = absurd (none-some block e)
-
--- the part of a put
-record IsPartFor (took : List Command) (k block : ℕ) : Type 0 where
-  pub part : Part
-  pub place : part_at took (first_part took k) ≡ Some part
-  pub same : part.block ≡ block
-  pub command : command_of took (first_part took k) ≡ k
-  pub within : first_part took k < length (all_parts took)
-
 part_for : (qs : List Request) (s : SchedState) (d : Seen) (i k block : ℕ) → IsRun qs s d → IsPutOf qs i block → IsSentAs s i k → k < length d.took → IsPartFor d.took k block
 part_for qs s d i k block run put h lt =
     let took = d.took in
@@ -148,52 +129,6 @@ part_for qs s d i k block run put h lt =
       command = ap (command_of took) (sym none) ∙ command_of-first took k command 0 c.1 p.3;
       within = let within = part-lt took k command 0 c.1 p.3 in omega arith;
     }
-
--- ---- origins by id
-
--- the id at the place of an origin
-abbrev id_at : List Command → Option ℕ → Option ℕ
-id_at took o = option_and_then (λ place. option_map (λ (p : Part). p.id) (part_at took place)) o
-
--- an origin by id stands for a part
-record IsPlaced (took : List Command) (origins : List (Option ℕ)) (block id : ℕ) : Type 0 where
-  pub place : ℕ
-  pub held : slice_get origins block ≡ Some (Some place)
-  pub part : Part
-  pub there : part_at took place ≡ Some part
-  pub named : part.id ≡ id
-
-part_named : (id : ℕ) (o : Option Part) → option_map (λ (p : Part). p.id) o ≡ Some id → (p : Part) × (o ≡ Some p) × (p.id ≡ id)
-part_named id None e = absurd (none-some id e)
-part_named id (Some p) e = (p, refl, same_Some p.id id e)
-
-origin_named : (took : List Command) (id : ℕ) (o : Option ℕ) → id_at took o ≡ Some id → (place : ℕ) × (o ≡ Some place) × (option_map (λ (p : Part). p.id) (part_at took place) ≡ Some id)
-origin_named took id None e = absurd (none-some id e)
-origin_named took id (Some place) e = (place, refl, e)
-
-placed : (took : List Command) (origins : List (Option ℕ)) (block id : ℕ) → HasOrigin (origin_ids took origins) block id → IsPlaced took origins block id
-placed took origins block id has =
-    let o = map_some-slice_get (id_at took) origins block (Some id) has in
-    let x = origin_named took id o.0 o.2 in
-    let p = part_named id (part_at took x.0) x.2 in
-    record { place = x.0; held = o.1 ∙ ap Some x.1; part = p.0; there = p.1; named = p.2 }
-
-origin_of : (took : List Command) (origins : List (Option ℕ)) (block place : ℕ) (p : Part) → slice_get origins block ≡ Some (Some place) → part_at took place ≡ Some p → HasOrigin (origin_ids took origins) block p.id
-origin_of took origins block place p held there =
-    slice_get-map_some (id_at took) origins block (Some place) held
-    ∙ ap (λ o. Some (option_map (λ (q : Part). q.id) o)) there
-
--- an origin whose place has a part has an id
-none_named : (took : List Command) (o : Option ℕ) → ((x : ℕ) → o ≡ Some x → (p : Part) × (part_at took x ≡ Some p)) → id_at took o ≡ None → o ≡ None
-none_named took None parts e = refl
-none_named took (Some x) parts e =
-    let p = parts x refl in
-    absurd (none-some p.0.id (sym e ∙ ap (option_map (λ (q : Part). q.id)) p.1))
-
-no_origin : (took : List Command) (origins : List (Option ℕ)) (block : ℕ) → ((x : ℕ) → slice_get origins block ≡ Some (Some x) → (p : Part) × (part_at took x ≡ Some p)) → slice_get (origin_ids took origins) block ≡ Some None → slice_get origins block ≡ Some None
-no_origin took origins block parts none =
-    let o = map_some-slice_get (id_at took) origins block None none in
-    o.1 ∙ ap Some (none_named took o.0 (λ x e. parts x (o.1 ∙ ap Some e)) o.2)
 
 -- the part that a block's origin names, with the body that the block holds
 record IsWritten (qs : List Request) (s : SchedState) (d : Seen) (block id : ℕ) : Type 0 where
@@ -369,11 +304,6 @@ order_closed qs s d run epochs = record {
       (no_origin d.took d.origins block (λ x held. let w = run.surface.written block x held in (w.0, w.1)) none);
   closed = λ i j before kept. closed qs s d i j run epochs before kept;
 }
-
--- a command with a flush is the request's flush
-flush_is : (id : ℕ) (k : Kind) (flush : ℕ) → flush_for id k ≡ Some flush → (id ≡ flush) × (k ≡ Flush)
-flush_is id (Put block body) flush e = absurd (none-some flush e)
-flush_is id Flush flush e = (same_Some id flush e, refl)
 
 -- a flush that was taken was sent under its id
 flush_sent : (qs : List Request) (s : SchedState) (d : Seen) (k flush : ℕ) → IsRun qs s d → IsFlush d.took k flush → IsFlushAt s flush × IsSentAs s flush k

@@ -13,7 +13,8 @@ use Rattle.order_model.specs.Received.{all_parts}
 use Rattle.barrier_reassign.specs.Epoch as epoch
 use Rattle.barrier_reassign.specs.Epoch.{EpochState, Waiting, can_accept, eligible, picked, left, leaving, leaves_flagged}
 use Rattle.epoch_sched.specs.declared.sched.Sched.TheInside.{Inside}
-use Rattle.epoch_sched.specs.Sched.{SchedState, parts_for, command_of_request}
+use Rattle.order_model.specs.Single.{parts_for, command_of_request}
+use Rattle.epoch_sched.specs.Sched.{SchedState}
 use Rattle.epoch_sched.specs.Fields.{IsSched, state_of}
 use Rattle.epoch_sched.specs.Valid.{IsAcceptable, IsValid}
 use Rattle.epoch_sched.specs.AcceptedLaws.{accepted-valid}

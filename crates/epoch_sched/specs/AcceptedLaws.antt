@@ -12,7 +12,8 @@ use Rattle.order_model.specs.declared.request.Request.{Request}
 use Rattle.order_model.specs.Submission.{is_flush, IsPutOf, IsFence}
 use Rattle.barrier_reassign.specs.declared.closing.Closing.TheVariants as closings
 use Rattle.barrier_reassign.specs.Epoch.{Waiting, is_open, is_barrier_closing, is_full, can_accept, unflagged, closing_of}
-use Rattle.epoch_sched.specs.Sched.{SchedState, accepted, IsFlushAt, command_of_request}
+use Rattle.order_model.specs.Single.{command_of_request}
+use Rattle.epoch_sched.specs.Sched.{SchedState, accepted, IsFlushAt}
 use Rattle.epoch_sched.specs.Valid.{IsAcceptable, Went, IsFrom, IsPassed, StandsFor, IsEpochClosing, IsFlushClosing, IsValid}
 use Rattle.epoch_sched.specs.WentLaws.{is_flush_closing, went-length, command-id, true-is_flush, holds-length, holds-push_below, holds-push_cases}
 

@@ -16,7 +16,8 @@ use Rattle.order_model.specs.Submission.{is_flush, kind_block, IsPutOf, IsFence}
 use Rattle.barrier_reassign.specs.declared.closing.Closing.{Closing}
 use Rattle.barrier_reassign.specs.declared.closing.Closing.TheVariants as closings
 use Rattle.barrier_reassign.specs.Epoch.{Waiting, is_open, is_barrier_closing, have_one_block, stands_before, may_leave, eligible, without, waits_ordered, leaves_flagged, picked}
-use Rattle.epoch_sched.specs.Sched.{SchedState, opened, sent, dispatched, IsFlushAt, command_of_request}
+use Rattle.order_model.specs.Single.{command_of_request}
+use Rattle.epoch_sched.specs.Sched.{SchedState, opened, sent, dispatched, IsFlushAt}
 use Rattle.epoch_sched.specs.Valid.{Went, IsPassed, StandsFor, IsEpochClosing, IsFlushClosing, IsValid}
 use Rattle.epoch_sched.specs.WentLaws.{is_flush_closing, went-length, is_flush-true, true-is_flush, holds_at, at_holds, holds-length, holds-push_left, same_waiting, command-id}
 

@@ -1,10 +1,6 @@
--- How a scheduler and a device below it stand to what the host submitted, and what is kept of it.
-use Rattle.std.specs.Prelude.{◌≡◌, ℕ, ◌<◌, List, Option, take}
-use Rattle.blk_base.specs.Members.{In}
+-- How a scheduler and a device below it stand to what the host submitted.
+use Rattle.std.specs.Prelude.{◌≡◌, ℕ, List, take}
 use Rattle.order_model.specs.declared.request.Request.{Request}
-use Rattle.order_model.specs.declared.completion.Completion.{Completion}
-use Rattle.order_model.specs.declared.completion.Completion.TheVariants.{Flushed}
-use Rattle.order_model.specs.Submission.{IsPut, IsKept}
 use Rattle.order_model.specs.Device.{Seen}
 use Rattle.epoch_sched.specs.Sched.{SchedState}
 
@@ -17,7 +13,3 @@ IsFrontOf xs ys = (n : ℕ) × (xs ≡ take n ys)
 pub record Fits (submitted : List Request) (s : SchedState) (d : Seen) : Type 0 where
   pub accepted : IsFrontOf s.accepted submitted
   pub took : IsFrontOf d.took s.sent_out
-
--- where a flush was answered, every put with a smaller id is kept
-abbrev pub KeepsFlushed : List Request → List (Option ℕ) → List Completion → Type 0
-KeepsFlushed requests origins sent = (flush i : ℕ) → In (Flushed flush) sent → i < flush → IsPut requests i → IsKept requests origins i

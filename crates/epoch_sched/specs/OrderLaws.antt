@@ -9,7 +9,8 @@ use Rattle.order_model.specs.declared.request.Kind.{Kind}
 use Rattle.order_model.specs.declared.request.Kind.TheVariants.{Put, Flush}
 use Rattle.order_model.specs.declared.request.Request.{Request}
 use Rattle.order_model.specs.Submission.{is_flush, IsPutOf, IsOrderedBefore}
-use Rattle.epoch_sched.specs.Sched.{SchedState, KeepsOrder, IsSentAs, IsWaiting, IsBarrierCommand, command_of_request, flush_for}
+use Rattle.order_model.specs.Single.{command_of_request, flush_for}
+use Rattle.epoch_sched.specs.Sched.{SchedState, KeepsOrder, IsSentAs, IsWaiting, IsBarrierCommand}
 use Rattle.epoch_sched.specs.Valid.{Went, IsValid}
 use Rattle.epoch_sched.specs.WentLaws.{went_sent, sent_went, waiting_place, place_waiting, some_holds}
 

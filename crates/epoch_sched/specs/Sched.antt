@@ -1,14 +1,13 @@
 -- The plain scheduler, over the requests that it accepted and the commands that it sent out.
 use Rattle.std.specs.Prelude.{◌≡◌, ℕ, ◌+◌, ◌<◌, ◌≤◌, ◌++◌, ◌||◌, ◌⊎◌, Bool, true, List, [], ◌∷◌, length, count_by, Option, Some, None, IsTrue, IsSomeAnd, slice_get, if◌then◌else◌}
 use Rattle.blk_base.specs.Members.{In}
-use Rattle.order_model.specs.declared.part.Part.{Part}
 use Rattle.order_model.specs.declared.command.Command.{Command}
 use Rattle.order_model.specs.declared.command.Priority.TheVariants.{Simple, Ordered}
-use Rattle.order_model.specs.declared.request.Kind.{Kind}
-use Rattle.order_model.specs.declared.request.Kind.TheVariants.{Put, Flush}
+use Rattle.order_model.specs.declared.request.Kind.TheVariants.{Flush}
 use Rattle.order_model.specs.declared.request.Request.{Request}
 use Rattle.order_model.specs.Submission.{is_flush, IsPutOf, IsOrderedBefore}
 use Rattle.order_model.specs.Received.{ids_of}
+use Rattle.order_model.specs.Single.{command_of_request}
 use Rattle.barrier_reassign.specs.declared.closing.Closing.TheVariants as closings
 use Rattle.barrier_reassign.specs.Epoch as epoch
 use Rattle.barrier_reassign.specs.Epoch.{EpochState, Waiting, is_blocked, picked, left, leaves_flagged}
@@ -20,25 +19,6 @@ pub record SchedState : Type 0 where
   pub accepted : List Request
   pub sent_out : List Command
   pub queue : EpochState
-
--- ---- the command of one request
-
-abbrev pub parts_for : ℕ → Kind → List Part
-parts_for id (Put block body) = record { id = id; block = block; body = body } ∷ []
-parts_for id Flush = []
-
-abbrev pub flush_for : ℕ → Kind → Option ℕ
-flush_for id (Put block body) = None
-flush_for id Flush = Some id
-
--- the command of a request that leaves: ORDERED and a barrier exactly where it has the flag
-abbrev pub command_of_request : Request → Bool → Command
-command_of_request r flagged = record {
-  parts = parts_for r.id r.kind;
-  priority = (if flagged then Ordered else Simple);
-  barrier = flagged;
-  flush = flush_for r.id r.kind;
-}
 
 -- ---- the steps
 

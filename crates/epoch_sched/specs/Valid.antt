@@ -7,7 +7,8 @@ use Rattle.order_model.specs.declared.request.Request.{Request}
 use Rattle.order_model.specs.Submission.{is_flush, IsPutOf, IsOrdered, IsFence}
 use Rattle.barrier_reassign.specs.declared.closing.Closing.TheVariants as closings
 use Rattle.barrier_reassign.specs.Epoch.{Waiting, is_open, is_blocked, unflagged}
-use Rattle.epoch_sched.specs.Sched.{SchedState, command_of_request, IsBarrierCommand, IsFlushAt}
+use Rattle.order_model.specs.Single.{command_of_request}
+use Rattle.epoch_sched.specs.Sched.{SchedState, IsBarrierCommand, IsFlushAt}
 
 -- a request that the scheduler may be given
 pub record IsAcceptable (s : SchedState) (r : Request) : Type 0 where

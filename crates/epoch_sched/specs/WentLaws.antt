@@ -13,7 +13,8 @@ use Rattle.order_model.specs.Received.{ids_of}
 use Rattle.barrier_reassign.specs.declared.closing.Closing.{Closing}
 use Rattle.barrier_reassign.specs.declared.closing.Closing.TheVariants as closings
 use Rattle.barrier_reassign.specs.Epoch.{Waiting, unflagged}
-use Rattle.epoch_sched.specs.Sched.{SchedState, command_of_request, parts_for, flush_for, IsSentAs, IsWaiting, IsFlushAt}
+use Rattle.order_model.specs.Single.{command_of_request, parts_for, flush_for}
+use Rattle.epoch_sched.specs.Sched.{SchedState, IsSentAs, IsWaiting, IsFlushAt}
 use Rattle.epoch_sched.specs.Valid.{Went, IsValid}
 
 -- ---- the command of a request

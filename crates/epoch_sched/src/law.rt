@@ -1,10 +1,10 @@
 ghost use Rattle.std.specs.Prelude.{List};
 ghost use Rattle.order_model.specs.declared.request.Request.{Request};
-ghost use Rattle.order_model.specs.Submission.{IsOrderClosed};
+ghost use Rattle.order_model.specs.Submission.{IsOrderClosed, KeepsFlushed};
 ghost use Rattle.order_model.specs.Device.{Seen, IsSurface, KeepsEpochOrder, KeepsFlush, Completes, origin_ids};
 ghost use Rattle.epoch_sched.specs.Sched.{SchedState, KeepsOrder};
 ghost use Rattle.epoch_sched.specs.Places.{AreAtIds};
-ghost use Rattle.epoch_sched.specs.Fits.{Fits, KeepsFlushed};
+ghost use Rattle.epoch_sched.specs.Fits.{Fits};
 
 /// What a power cut leaves behind scheduler and device is order-closed for what the host submitted, and
 /// where a flush was answered all before it is kept.

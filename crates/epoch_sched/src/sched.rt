@@ -2,11 +2,12 @@ ghost use Rattle.std.specs.Prelude.{◌≡◌, ◌≢◌, ℕ, ◌<◌, ◌≤�
 ghost use Rattle.std.specs.Option.{option_map};
 ghost use Rattle.blk_base.specs.Members.{In};
 ghost use Rattle.barrier_reassign.specs.Epoch.{can_accept, is_blocked, eligible, picked, leaves_flagged};
-ghost use Rattle.epoch_sched.specs.Sched.{opened, accepted, dispatched, command_of_request, KeepsOrder};
+ghost use Rattle.order_model.specs.Single.{command_of_request};
+ghost use Rattle.epoch_sched.specs.Sched.{opened, accepted, dispatched, KeepsOrder};
 
 use barrier_reassign::{EpochQueue, Held};
 use blk_base::NoMemory;
-use order_model::{Command, Commands, History, Kind, Part, Parts, Priority, Request, SchedRecord};
+use order_model::{Command, Commands, History, Kind, Request, SchedRecord};
 use std::alloc::Global;
 use std::marker::Model;
 
@@ -97,7 +98,7 @@ impl Sched {
         ensures state { self.new ≡ dispatched self.old pick }
     {
         let (r, flagged) = self.queue.leave(pick)?;
-        let command = command_of(r, flagged);
+        let command = Command::of_request(r, flagged);
         self.trace.sent_out.push(&command);
         Some(command)
     }
@@ -117,27 +118,5 @@ impl Sched {
         ensures order { KeepsOrder self }
     {
         self.trace
-    }
-}
-
-// The command of a request that leaves.
-fn command_of(r: Request, flagged: bool) -> Command
-    ensures { result ≡ command_of_request r flagged }
-{
-    let priority = if flagged {
-        Priority::Ordered
-    } else {
-        Priority::Simple
-    };
-    let id = r.id;
-    let (parts, flush) = match r.kind {
-        Kind::Put { block, body } => (Parts::one(Part { id, block, body }), None),
-        Kind::Flush => (Parts::none(), Some(id)),
-    };
-    Command {
-        parts,
-        priority,
-        barrier: flagged,
-        flush,
     }
 }

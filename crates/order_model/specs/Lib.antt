@@ -5,3 +5,4 @@ pub mod Queue
 pub mod Received
 pub mod Steps
 pub mod Submission
+pub mod Single

@@ -3,6 +3,9 @@
 -- for Flash Storage, FAST 2018. Nothing here knows of queues, caches or epochs.
 use Rattle.std.specs.Prelude.{◌≡◌, ℕ, ◌<◌, ◌≤◌, ◌||◌, Bool, true, false, List, length, Option, Some, None, IsTrue, IsSomeAnd, slice_get}
 use Rattle.std.specs.Option.{option_and_then}
+use Rattle.blk_base.specs.Members.{In}
+use Rattle.order_model.specs.declared.completion.Completion.{Completion}
+use Rattle.order_model.specs.declared.completion.Completion.TheVariants.{Flushed}
 use Rattle.order_model.specs.declared.request.Kind.{Kind}
 use Rattle.order_model.specs.declared.request.Kind.TheVariants.{Put, Flush}
 use Rattle.order_model.specs.declared.request.Request.{Request}
@@ -71,3 +74,7 @@ pub record IsOrderClosed (base : List (List ℕ)) (requests : List Request) (ima
   pub body_of : (block id : ℕ) (body : List ℕ) → HasOrigin origins block id → slice_get image block ≡ Some body → IsPutWith requests id body
   pub base_of : (block : ℕ) → slice_get origins block ≡ Some None → slice_get image block ≡ slice_get base block
   pub closed : (i j : ℕ) → IsOrderedBefore requests i j → IsKept requests origins j → IsKept requests origins i
+
+-- where a flush was answered, every put with a smaller id is kept
+abbrev pub KeepsFlushed : List Request → List (Option ℕ) → List Completion → Type 0
+KeepsFlushed requests origins sent = (flush i : ℕ) → In (Flushed flush) sent → i < flush → IsPut requests i → IsKept requests origins i

@@ -1,4 +1,7 @@
-use crate::Parts;
+ghost use Rattle.std.specs.Prelude.{◌≡◌};
+ghost use Rattle.order_model.specs.Single.{command_of_request};
+
+use crate::{Kind, Part, Parts, Request};
 
 /// The task attribute of a command, by the SCSI architecture model (SAM-5): the device may reorder
 /// SIMPLE commands among themselves, and no command passes an ORDERED one.
@@ -17,4 +20,29 @@ pub struct Command {
     pub barrier: bool,
     /// The id of the flush. A flush has no parts, and every other command has some.
     pub flush: Option<u64>,
+}
+
+impl Command {
+    /// The command that carries one request alone, ORDERED and a barrier where it is flagged. It takes no
+    /// memory.
+    pub fn of_request(r: Request, flagged: bool) -> Command
+        ensures { result ≡ command_of_request r flagged }
+    {
+        let priority = if flagged {
+            Priority::Ordered
+        } else {
+            Priority::Simple
+        };
+        let id = r.id;
+        let (parts, flush) = match r.kind {
+            Kind::Put { block, body } => (Parts::one(Part { id, block, body }), None),
+            Kind::Flush => (Parts::none(), Some(id)),
+        };
+        Command {
+            parts,
+            priority,
+            barrier: flagged,
+            flush,
+        }
+    }
 }

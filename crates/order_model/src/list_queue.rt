@@ -1,4 +1,4 @@
-ghost use Rattle.std.specs.Prelude.{◌≡◌, ℕ, List, [], ◌∷◌, ◌++◌, ◌≤◌, ◌<◌, ◌↔◌, length, IfOk, OnOk, IfErr, IfSome, IfNone, IsOk};
+ghost use Rattle.std.specs.Prelude.{◌≡◌, ℕ, List, [], ◌∷◌, ◌++◌, ◌≤◌, ◌<◌, ◌↔◌, not, nat_lt, length, IfOk, OnOk, IfErr, IfSome, IfNone, IsOk};
 
 use crate::{Inlet, Outlet, Trail};
 use blk_base::NoMemory;
@@ -41,6 +41,22 @@ impl<T> ListQueue<T> {
         })
     }
 
+    /// Whether `put` refuses.
+    pub fn is_full(&self) -> bool
+        ensures { result ≡ not (nat_lt (length self.now.held) self.now.capacity) }
+    {
+        self.items.len() == self.capacity
+    }
+
+    /// Puts an item into a queue that is not full.
+    pub fn push(&mut self, item: T)
+        requires { length self.old.held < self.old.capacity }
+        ensures { self.new ≡ record { capacity = self.old.capacity; held = self.old.held ++ item ∷ []; sent = self.old.sent ++ item ∷ []; taken = self.old.taken } }
+    {
+        self.sent = self.sent.and(&item);
+        self.items.push_back_reserved(item);
+    }
+
     /// What is known of every such queue. It does nothing at run time.
     pub fn known(&self)
         ensures sent { self.now.sent ≡ self.now.taken ++ self.now.held }
@@ -67,8 +83,7 @@ impl<T> Outlet<T> for ListQueue<T> {
         if self.items.len() == self.capacity {
             return Err(item);
         }
-        self.sent = self.sent.and(&item);
-        self.items.push_back_reserved(item);
+        self.push(item);
         Ok(())
     }
 }

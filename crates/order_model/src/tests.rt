@@ -41,6 +41,7 @@ fn queue_keeps_order(rt: HostRuntime) -> Result<(), NoMemory> {
 #[test]
 fn queue_of_no_room(rt: HostRuntime) -> Result<(), NoMemory> {
     let mut queue = ListQueue::make(rt.alloc(), 0)?;
+    assert!(rt; queue.is_full());
     assert_eq!(rt; queue.put(1), Err(1));
     assert_eq!(rt; queue.take(), None);
     Ok(())
@@ -98,6 +99,23 @@ fn requests_copy(rt: HostRuntime) {
         barrier: false,
     };
     assert_eq!(rt; flush.copy(), flush);
+}
+
+#[test]
+fn commands_of_one_request(rt: HostRuntime) {
+    let put = Request {
+        id: 3,
+        kind: Kind::Put {
+            block: 9,
+            body: Block::fill(9),
+        },
+        ordered: true,
+        barrier: false,
+    };
+    let command = Command::of_request(put, true);
+    assert_eq!(rt; command.parts.as_slice(), [part(3, 9)].as_slice());
+    assert_eq!(rt; command.priority, Priority::Ordered);
+    assert!(rt; command.barrier && command.flush.is_none());
 }
 
 // A command of these parts, or a flush.

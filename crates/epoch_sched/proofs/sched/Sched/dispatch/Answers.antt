@@ -2,7 +2,8 @@ use Rattle.std.proofs.Common.{◌∙◌, ap₂, sym, subst, arith, ◌<◌, leng
 use Rattle.std.proofs.lemmas.Bool.{false≢true}
 use Rattle.barrier_reassign.specs.Epoch.{eligible}
 use Rattle.epoch_sched.specs.Fields.{state_of}
-use Rattle.epoch_sched.specs.Sched.{SchedState, command_of_request}
+use Rattle.order_model.specs.Single.{command_of_request}
+use Rattle.epoch_sched.specs.Sched.{SchedState}
 use Rattle.epoch_sched.proofs.Steps.{leaving-some, sent_room, parts_room, picked-some, dispatched_fields}
 use Rattle.epoch_sched.proofs.sched.Sched.dispatch.Goals as goal
 
@@ -16,12 +17,12 @@ pub push-requires-clause-parts : goal.push-requires-clause-parts
 push-requires-clause-parts c =
     let p = leaving-some c.self.inside.queue _ _ _ c.in_ok-r.ensures.given in
     let room = parts_room (state_of c.self.inside) c.args.pick p.0 c.in_ok-r.r c.self.invariant.valid p.1 in
-    rw (c.command_of-command.ensures, c.self.invariant.sent_out) room
+    rw (c.of_request-command.ensures, c.self.invariant.sent_out) room
 
 pub invariant_of-self-2 : goal.invariant_of-self-2
 invariant_of-self-2 c =
     let p = leaving-some c.self.inside.queue _ _ _ c.in_ok-r.ensures.given in
-    let command = c.command_of-command.ensures ∙ sym (ap₂ command_of_request p.2 p.3) in
+    let command = c.of_request-command.ensures ∙ sym (ap₂ command_of_request p.2 p.3) in
     dispatched_fields c.self.inside c.args.pick p.0 _ _ _ c.self.invariant p.1 command c.in_ok-r.ensures.state c.push.ensures
 
 pub returns-clause-none : goal.returns-clause-none

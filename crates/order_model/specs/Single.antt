@@ -1,0 +1,25 @@
+-- The command that carries one request alone.
+use Rattle.std.specs.Prelude.{ℕ, Bool, List, [], ◌∷◌, Option, Some, None, if◌then◌else◌}
+use Rattle.order_model.specs.declared.part.Part.{Part}
+use Rattle.order_model.specs.declared.command.Command.{Command}
+use Rattle.order_model.specs.declared.command.Priority.TheVariants.{Simple, Ordered}
+use Rattle.order_model.specs.declared.request.Kind.{Kind}
+use Rattle.order_model.specs.declared.request.Kind.TheVariants.{Put, Flush}
+use Rattle.order_model.specs.declared.request.Request.{Request}
+
+abbrev pub parts_for : ℕ → Kind → List Part
+parts_for id (Put block body) = record { id = id; block = block; body = body } ∷ []
+parts_for id Flush = []
+
+abbrev pub flush_for : ℕ → Kind → Option ℕ
+flush_for id (Put block body) = None
+flush_for id Flush = Some id
+
+-- ORDERED and a barrier exactly where it has the flag
+abbrev pub command_of_request : Request → Bool → Command
+command_of_request r flagged = record {
+  parts = parts_for r.id r.kind;
+  priority = (if flagged then Ordered else Simple);
+  barrier = flagged;
+  flush = flush_for r.id r.kind;
+}
