@@ -1,0 +1,9 @@
+pub mod FirstFault
+pub mod Lines
+pub mod Numerals
+pub mod Spelled
+pub mod SpelledLines
+pub mod SpelledNumbers
+pub mod SpelledWords
+pub mod Unbuilt
+pub mod WellFormed

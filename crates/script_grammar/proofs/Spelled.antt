@@ -1,0 +1,145 @@
+-- What is written of a well-formed script is read back as that script.
+use Rattle.std.proofs.Common.{◌≡◌, ℕ, suc, ◌+◌, ◌≤◌, true, false, List, [], ◌∷◌, ◌++◌, length, map, codes, decimal, Option, Some, None, Ok, unwrap_or, refl, sym, ap, ◌∙◌, subst, inl, inr, arith, append_assoc, append-nil, length-append, if◌then◌else◌, slice_get}
+use Rattle.std.specs.List.{join_with_byte}
+use Rattle.blk_base.specs.Members.{In}
+use Rattle.order_model.specs.declared.request.Request.{Request}
+use Rattle.script_grammar.specs.declared.reading.Reading.{Reading}
+use Rattle.script_grammar.specs.declared.reading.Section.{Section}
+use Rattle.script_grammar.specs.declared.reading.Section.TheVariants as sections
+use Rattle.script_grammar.specs.declared.script.Script.{Script}
+use Rattle.script_grammar.specs.declared.script.Form.{Form}
+use Rattle.script_grammar.specs.declared.script.Form.TheVariants.{Device, Blocks}
+use Rattle.script_grammar.specs.declared.script.EventLine.{EventLine}
+use Rattle.script_grammar.specs.declared.script.EventWord.{EventWord}
+use Rattle.script_grammar.specs.declared.script.EventWord.TheVariants.{One}
+use Rattle.script_grammar.specs.Grammar.{is_scheduled, form_blocks, new_reading, with_request, read_from, ended_in, script_read, script_of, IsRequestOf}
+use Rattle.script_grammar.specs.WellFormed.{IsWordOf, IsEventLineOf, IsFilled, IsWellFormed, expanded_of}
+use Rattle.script_grammar.specs.Speller.{form_words, queue_lines, cut_lines, request_words, what_words, event_line_words, script_lines, lines_text, script_text}
+use Rattle.script_grammar.proofs.SpelledWords.{AreClearLines, lines_of-text}
+use Rattle.script_grammar.proofs.SpelledLines.{IsRead, EndsIn, EndsIn-line, at_header, before_events, IsRead-form, IsRead-depth, IsRead-queue, IsRead-cut, IsRead-request, IsRead-events, IsRead-event}
+
+-- the lines, each as its words, are read to this script behind what was read
+record IsSpelling (reading : Option Reading) (ls : List (List (List ℕ))) (s : Script) : Type 0 where
+  clear : AreClearLines ls
+  ends : EndsIn reading (map (join_with_byte 32) ls) s
+
+IsSpelling-line : (reading : Option Reading) (ws : List (List ℕ)) (next : Reading) (ls : List (List (List ℕ))) (s : Script) → IsRead reading ws next → IsSpelling (Some next) ls s → IsSpelling reading (ws ∷ ls) s
+IsSpelling-line reading ws next ls s is rest = record {
+  clear = (is.clear, rest.clear);
+  ends = EndsIn-line reading ws next (map (join_with_byte 32) ls) s is rest.ends;
+}
+
+-- no line more
+EndsIn-none : (r : Reading) → r.section ≡ sections.Events → EndsIn (Some r) [] (script_read r)
+unfolding read_from
+EndsIn-none r here n = ap (ended_in n r) here
+
+-- ---- event lines
+
+-- what is read after an event line
+abbrev with_line : Reading → EventLine → Reading
+with_line r l = record r { events = r.events ++ l ∷ []; expanded = r.expanded + l.count }
+
+abbrev event_line : EventWord → ℕ → EventLine
+event_line what count = record { what = what; count = count }
+
+IsRead-what : (r : Reading) (what : EventWord) (count : ℕ) → r.section ≡ sections.Events → IsWordOf (is_scheduled r.form) what → 1 ≤ count → count ≤ 1000000 → r.expanded + count ≤ 20000000 → IsRead (Some r) (what_words what ++ codes "x" ∷ decimal count ∷ []) (with_line r (event_line what count))
+IsRead-what r (One e) count here is some most all = IsRead-event r e count here is some most all
+
+IsRead-event_line : (r : Reading) (l : EventLine) → r.section ≡ sections.Events → IsEventLineOf (is_scheduled r.form) l → r.expanded + l.count ≤ 20000000 → IsRead (Some r) (event_line_words l) (with_line r l)
+IsRead-event_line r l here is all = IsRead-what r l.what l.count here is.event is.some is.most all
+
+abbrev with_lines : Reading → List EventLine → Reading
+with_lines r ls = record r { events = ls }
+
+IsSpelling-events : (ls : List EventLine) (r : Reading) → r.section ≡ sections.Events → ((l : EventLine) → In l ls → IsEventLineOf (is_scheduled r.form) l) → r.expanded + expanded_of ls ≤ 20000000 → IsSpelling (Some r) (map event_line_words ls) (script_read (with_lines r (r.events ++ ls)))
+IsSpelling-events [] r here are all =
+    subst (λ ls. IsSpelling (Some r) [] (script_read (with_lines r ls))) (sym (append-nil r.events)) (record { clear = tt; ends = EndsIn-none r here })
+IsSpelling-events (l ∷ ls) r here are all =
+    let read = IsRead-event_line r l here (are l (inl refl)) (omega arith) in
+    let rest = IsSpelling-events ls (with_line r l) here (λ m i. are m (inr i)) (omega arith) in
+    let same = append_assoc r.events (l ∷ []) ls in
+    IsSpelling-line (Some r) (event_line_words l) (with_line r l) (map event_line_words ls) (script_read (with_lines r (r.events ++ l ∷ ls))) read
+    (subst (λ es. IsSpelling (Some (with_line r l)) (map event_line_words ls) (script_read (with_lines r es))) same rest)
+
+-- ---- requests
+
+-- what is read after the requests
+abbrev with_requests : Reading → Section → List Request → Reading
+with_requests r section qs = record r { section = section; puts = qs }
+
+IsSpelling-requests : (qs : List Request) (r : Reading) (ls : List (List (List ℕ))) (s : Script) → before_events r.section ≡ true → form_blocks r.form ≤ 4096 → length r.puts + length qs ≤ 10000 → ((i : ℕ) (q : Request) → slice_get qs i ≡ Some q → IsRequestOf (form_blocks r.form) (length r.puts + i) q) → ((q : Request) → In q qs → IsFilled q) → ((section : Section) → before_events section ≡ true → IsSpelling (Some (with_requests r section (r.puts ++ qs))) ls s) → IsSpelling (Some r) (map request_words qs ++ ls) s
+IsSpelling-requests [] r ls s here blocks few are full rest =
+    subst (λ qs. IsSpelling (Some (with_requests r r.section qs)) ls s) (append-nil r.puts) (rest r.section here)
+IsSpelling-requests (q ∷ qs) r ls s here blocks few are full rest =
+    let place : length r.puts + 0 ≡ length r.puts = omega arith in
+    let is = subst (λ i. IsRequestOf (form_blocks r.form) i q) place (are 0 q refl) in
+    let read = IsRead-request r q here blocks (omega arith) is (full q (inl refl)) in
+    IsSpelling-line (Some r) (request_words q) (with_request r q) (map request_words qs ++ ls) s read
+    (IsSpelling-requests qs (with_request r q) ls s refl blocks (omega (arith, length-append r.puts (q ∷ [])))
+    (λ i p e.
+    let later : length r.puts + suc i ≡ length (r.puts ++ q ∷ []) + i = omega (arith, length-append r.puts (q ∷ [])) in
+    subst (λ j. IsRequestOf (form_blocks r.form) j p) later (are (suc i) p e))
+    (λ p i. full p (inr i))
+    (λ section h. subst (λ ps. IsSpelling (Some (with_requests r section ps)) ls s) (sym (append_assoc r.puts (q ∷ []) qs)) (rest section h)))
+
+-- ---- the header
+
+-- a script of the device alone has no line of the queues
+IsSpelling-queue : (form : Form) (depth : Option ℕ) (q : ℕ) (ls : List (List (List ℕ))) (s : Script) → 1 ≤ q → q ≤ 64 → (is_scheduled form ≡ false → q ≡ 32) → ((queue : Option ℕ) → unwrap_or queue 32 ≡ q → IsSpelling (Some (at_header form depth queue None)) ls s) → IsSpelling (Some (at_header form depth None None)) ((if is_scheduled form then (codes "queue" ∷ decimal q ∷ []) ∷ [] else []) ++ ls) s
+IsSpelling-queue (Device n) depth q ls s some few plain rest = rest None (sym (plain refl))
+IsSpelling-queue (Blocks n) depth q ls s some few plain rest =
+    IsSpelling-line (Some (at_header (Blocks n) depth None None)) (codes "queue" ∷ decimal q ∷ []) (at_header (Blocks n) depth (Some q) None) ls s (IsRead-queue (Blocks n) depth None q refl some few) (rest (Some q) refl)
+
+IsSpelling-cut : (form : Form) (depth queue cut : Option ℕ) (ls : List (List (List ℕ))) (s : Script) → ((n : ℕ) → cut ≡ Some n → n ≤ 1000000000) → IsSpelling (Some (at_header form depth queue cut)) ls s → IsSpelling (Some (at_header form depth queue None)) (cut_lines cut ++ ls) s
+IsSpelling-cut form depth queue None ls s few rest = rest
+IsSpelling-cut form depth queue (Some n) ls s few rest =
+    IsSpelling-line (Some (at_header form depth queue None)) (codes "cut" ∷ decimal n ∷ []) (at_header form depth queue (Some n)) ls s (IsRead-cut form depth queue n (few n refl)) rest
+
+-- ---- the whole script
+
+-- the script with this length of queues
+abbrev with_queue : Script → ℕ → Script
+with_queue s q = record { kind = s.kind; header = record { depth = s.header.depth; queue = q; cut = s.header.cut }; puts = s.puts; events = s.events }
+
+-- the lines behind the header
+IsSpelling-body : (s : Script) (queue : Option ℕ) → IsWellFormed s → unwrap_or queue 32 ≡ s.header.queue → IsSpelling (Some (at_header s.kind (Some s.header.depth) queue s.header.cut)) (map request_words s.puts ++ ((codes "events" ∷ []) ∷ map event_line_words s.events)) s
+IsSpelling-body s queue well same =
+    let r = at_header s.kind (Some s.header.depth) queue s.header.cut in
+    IsSpelling-requests s.puts r ((codes "events" ∷ []) ∷ map event_line_words s.events) s refl well.runnable.few_blocks (omega (arith, well.runnable.few))
+    (λ i q e. let place : i ≡ 0 + i = omega arith in subst (λ j. IsRequestOf (form_blocks s.kind) j q) place (well.runnable.requests i q e))
+    well.filled
+    (λ section h.
+    let t = with_requests r section s.puts in
+    let u = with_requests r sections.Events s.puts in
+    IsSpelling-line (Some t) (codes "events" ∷ []) u (map event_line_words s.events) s (IsRead-events t h)
+    (subst (λ q. IsSpelling (Some u) (map event_line_words s.events) (with_queue s q)) same (IsSpelling-events s.events u refl well.events (omega (arith, well.expanded)))))
+
+-- the lines in their order
+lines_in_order : (s : Script) → script_lines s ≡ form_words s.kind ∷ (codes "depth" ∷ decimal s.header.depth ∷ []) ∷ (queue_lines s ++ (cut_lines s.header.cut ++ (map request_words s.puts ++ ((codes "events" ∷ []) ∷ map event_line_words s.events))))
+lines_in_order s =
+    let queue = queue_lines s in
+    let cut = cut_lines s.header.cut in
+    let requests = map request_words s.puts in
+    let events = (codes "events" ∷ []) ∷ map event_line_words s.events in
+    ap (λ ls. form_words s.kind ∷ (codes "depth" ∷ decimal s.header.depth ∷ []) ∷ ls) (append_assoc (queue ++ cut) requests events ∙ append_assoc queue cut (requests ++ events))
+
+IsSpelling-lines : (s : Script) → IsWellFormed s → IsSpelling None (form_words s.kind ∷ (codes "depth" ∷ decimal s.header.depth ∷ []) ∷ (queue_lines s ++ (cut_lines s.header.cut ++ (map request_words s.puts ++ ((codes "events" ∷ []) ∷ map event_line_words s.events))))) s
+IsSpelling-lines s well =
+    let events = (codes "events" ∷ []) ∷ map event_line_words s.events in
+    let body = map request_words s.puts ++ events in
+    let cut = cut_lines s.header.cut ++ body in
+    let depth = Some s.header.depth in
+    let run = well.runnable in
+    IsSpelling-line None (form_words s.kind) (new_reading s.kind) ((codes "depth" ∷ decimal s.header.depth ∷ []) ∷ (queue_lines s ++ cut)) s (IsRead-form s.kind run.some_blocks run.few_blocks)
+    (IsSpelling-line (Some (at_header s.kind None None None)) (codes "depth" ∷ decimal s.header.depth ∷ []) (at_header s.kind depth None None) (queue_lines s ++ cut) s (IsRead-depth s.kind None None s.header.depth run.some_depth run.depth)
+    (IsSpelling-queue s.kind depth s.header.queue cut s run.some_queue run.queue well.plain_queue
+    (λ queue same. IsSpelling-cut s.kind depth queue s.header.cut body s well.cut (IsSpelling-body s queue well same))))
+
+script_of-lines : (l : List (List ℕ)) (ls : List (List (List ℕ))) (s : Script) → IsSpelling None (l ∷ ls) s → script_of (lines_text (l ∷ ls)) ≡ Ok s
+script_of-lines l ls s is = ap (read_from 1 None) (lines_of-text l ls is.clear) ∙ is.ends 1
+
+-- the law: a well-formed script is read back
+pub script_of-script_text : (s : Script) → IsWellFormed s → script_of (script_text s) ≡ Ok s
+script_of-script_text s well =
+    ap (λ ls. script_of (lines_text ls)) (lines_in_order s) ∙ script_of-lines _ _ s (IsSpelling-lines s well)

@@ -1,0 +1,495 @@
+-- Every script that is read is well-formed: what holds of the reading is kept by each line.
+use Rattle.std.proofs.Common.{◌≡◌, ℕ, zero, suc, ◌+◌, ◌-◌, ◌<◌, ◌≤◌, List, [], ◌∷◌, ◌++◌, length, Bool, true, false, Option, Some, None, Result, Ok, Err, refl, sym, subst, ap, ◌∙◌, arith, length-append, nat_le, not, unwrap_or, slice_get, ◌&&◌, ◌||◌, if◌then◌else◌, lit≤, IfOk}
+use borrow.Author.Tests.{ltb-true, leb-true}
+use Rattle.std.specs.Option.{option_and_then, option_map}
+use Rattle.std.proofs.lemmas.Bool.{and_parts, false≢true}
+use Rattle.std.proofs.lemmas.Option.{same_Some, none-some}
+use Rattle.blk_base.specs.Block.{filled}
+use Rattle.blk_base.specs.Members.{In, each_push}
+use Rattle.order_model.specs.declared.request.Request.{Request}
+use Rattle.script_grammar.specs.declared.kinds.ScriptKind.{ScriptKind}
+use Rattle.script_grammar.specs.declared.reading.Reading.{Reading}
+use Rattle.script_grammar.specs.declared.reading.Section.{Section}
+use Rattle.script_grammar.specs.declared.reading.Section.TheVariants as sections
+use Rattle.script_grammar.specs.declared.script.CoreEvent.{CoreEvent}
+use Rattle.script_grammar.specs.declared.script.EventLine.{EventLine}
+use Rattle.script_grammar.specs.declared.script.Form.{Form}
+use Rattle.script_grammar.specs.declared.script.Script.{Script}
+use Rattle.script_grammar.specs.declared.script_error.ScriptError.{ScriptError}
+use Rattle.script_grammar.specs.declared.words.BodyWord.{BodyWord}
+use Rattle.script_grammar.specs.declared.words.BodyWord.TheVariants as body
+use Rattle.script_grammar.specs.declared.words.Class.{Class}
+use Rattle.script_grammar.specs.declared.words.Class.TheVariants as class
+use Rattle.script_grammar.specs.declared.words.FirstWord.TheVariants as first
+use Rattle.script_grammar.specs.declared.words.HeaderWord.{HeaderWord}
+use Rattle.script_grammar.specs.declared.words.HeaderWord.TheVariants as header
+use Rattle.script_grammar.specs.declared.words.Line.{Line}
+use Rattle.script_grammar.specs.declared.words.Line.TheVariants as line
+use Rattle.script_grammar.specs.declared.words.PickWord.{PickWord}
+use Rattle.script_grammar.specs.declared.words.PickWord.TheVariants as picks
+use Rattle.script_grammar.specs.declared.words.PlainWord.{PlainWord}
+use Rattle.script_grammar.specs.declared.words.PlainWord.TheVariants as plain
+use Rattle.script_grammar.specs.declared.words.Word.{Word}
+use Rattle.script_grammar.specs.declared.words.Word.TheVariants as word
+use Rattle.script_grammar.specs.Grammar.{IsRequestOf, IsRunnable, form_blocks, is_scheduled, form_of, is_built, is_ordered_class, is_barrier_class, after, count_fits, fits, taken, later_line, may_stand, needs_scheduler, stood_before, put_request, flush_request, plain_event, pick_event, with_request, with_events, new_reading, opened, form_line, built_first, first_line, read_words, read_line, read_from, at_line, ended, ended_in, script_read, script_of}
+use Rattle.script_grammar.specs.Readers.{Reads}
+use Rattle.script_grammar.specs.Spelling.{is_digit, hex_digit, hex_byte, numeral, is_skipped, words_of, lines_of}
+use Rattle.script_grammar.specs.WellFormed.{IsEventOf, IsEventLineOf, IsFilled, IsWellFormed, expanded_of}
+use Rattle.script_grammar.specs.Words.{class_of, count_of, header_line, put_line, body_line, pick_line, line_of, word_of}
+
+-- ---- what holds of the reading between two lines
+
+record IsHeader (form : Form) (depth queue cut : Option ℕ) : Type 0 where
+  some_blocks : 1 ≤ form_blocks form
+  most_blocks : form_blocks form ≤ 4096
+  some_depth : 1 ≤ unwrap_or depth 32
+  most_depth : unwrap_or depth 32 ≤ 64
+  some_queue : 1 ≤ unwrap_or queue 32
+  most_queue : unwrap_or queue 32 ≤ 64
+  plain_queue : is_scheduled form ≡ false → queue ≡ None
+  most_cut : (n : ℕ) → cut ≡ Some n → n ≤ 1000000000
+
+record AreRequests (blocks : ℕ) (puts : List Request) : Type 0 where
+  few : length puts ≤ 10000
+  requests : (i : ℕ) (q : Request) → slice_get puts i ≡ Some q → IsRequestOf blocks i q
+  filled : (q : Request) → In q puts → IsFilled q
+
+record AreEventLines (scheduled : Bool) (events : List EventLine) (expanded : ℕ) : Type 0 where
+  each : (l : EventLine) → In l events → IsEventLineOf scheduled l
+  counted : expanded ≡ expanded_of events
+  most : expanded ≤ 20000000
+
+record IsReadable (r : Reading) : Type 0 where
+  header : IsHeader r.form r.depth r.queue r.cut
+  puts : AreRequests (form_blocks r.form) r.puts
+  events : AreEventLines (is_scheduled r.form) r.events r.expanded
+
+-- what holds of it where nothing may have been read
+abbrev IsReadableSoFar : Option Reading → Type 0
+IsReadableSoFar None = Unit {0}
+IsReadableSoFar (Some r) = IsReadable r
+
+-- ---- requests
+
+ordered_class : (k : Class) → is_barrier_class k ≡ true → is_ordered_class k ≡ true
+ordered_class class.Free h = h
+ordered_class class.Ordered h = refl
+ordered_class class.Barrier h = refl
+
+IsRequestOf-put : (blocks id block value : ℕ) (k : Class) → block < blocks → IsRequestOf blocks id (put_request id block value k)
+IsRequestOf-put blocks id block value k lt = record {
+  named = refl;
+  within = λ b body e. let same : block ≡ b = cc in omega arith;
+  ordered = ordered_class k;
+  flush = λ e. cc;
+}
+
+IsRequestOf-flush : (blocks id : ℕ) → IsRequestOf blocks id (flush_request id)
+IsRequestOf-flush blocks id = record {
+  named = refl;
+  within = λ b body e. cc;
+  ordered = λ _. refl;
+  flush = λ _. (refl, refl);
+}
+
+IsFilled-put : (id block value : ℕ) (k : Class) → value < 256 → IsFilled (put_request id block value k)
+IsFilled-put id block value k lt b body e =
+    let same : filled value ≡ body = cc in (value, lt, sym same)
+
+IsFilled-flush : (id : ℕ) → IsFilled (flush_request id)
+IsFilled-flush id b body e = cc
+
+-- one element more, each with its place
+each_place-push : {X : Type 0} (P : ℕ → X → Type 0) (xs : List X) (y : X) → ((i : ℕ) (x : X) → slice_get xs i ≡ Some x → P i x) → P (length xs) y → (i : ℕ) (x : X) → slice_get (xs ++ y ∷ []) i ≡ Some x → P i x
+each_place-push P [] y all here zero x h = subst (λ z. P zero z) (same_Some y x h) here
+each_place-push P [] y all here (suc i) x h = absurd (none-some x h)
+each_place-push P (z ∷ zs) y all here zero x h = all zero x h
+each_place-push P (z ∷ zs) y all here (suc i) x h = each_place-push (λ j. P (suc j)) zs y (λ j. all (suc j)) here i x h
+
+AreRequests-push : (blocks : ℕ) (puts : List Request) (q : Request) → length puts < 10000 → IsRequestOf blocks (length puts) q → IsFilled q → AreRequests blocks puts → AreRequests blocks (puts ++ q ∷ [])
+AreRequests-push blocks puts q lt here filled is = record {
+  few = omega (arith, length-append puts (q ∷ []));
+  requests = each_place-push (IsRequestOf blocks) puts q is.requests here;
+  filled = each_push IsFilled puts q is.filled filled;
+}
+
+-- ---- event lines
+
+expanded_of-push : (ls : List EventLine) (l : EventLine) → expanded_of (ls ++ l ∷ []) ≡ expanded_of ls + l.count
+expanded_of-push [] l = omega arith
+expanded_of-push (m ∷ ls) l = omega (arith, expanded_of-push ls l)
+
+AreEventLines-push : (scheduled : Bool) (events : List EventLine) (expanded : ℕ) (l : EventLine) → IsEventLineOf scheduled l → expanded + l.count ≤ 20000000 → AreEventLines scheduled events expanded → AreEventLines scheduled (events ++ l ∷ []) (expanded + l.count)
+AreEventLines-push scheduled events expanded l here most is = record {
+  each = each_push (IsEventLineOf scheduled) events l is.each here;
+  counted = omega (arith, expanded_of-push events l, is.counted);
+  most = most;
+}
+
+-- ---- lines that are spelled rightly
+
+-- what a line keeps by its words alone, in a script with a scheduler or with none
+abbrev IsLineOf : Bool → Line → Type 0
+IsLineOf scheduled (line.Depth d) = Unit {0}
+IsLineOf scheduled (line.Queue q) = scheduled ≡ true
+IsLineOf scheduled (line.Cut n) = Unit {0}
+IsLineOf scheduled (line.Put block value k) = value < 256
+IsLineOf scheduled line.Flush = Unit {0}
+IsLineOf scheduled line.Events = Unit {0}
+IsLineOf scheduled (line.Plain w count) = IsEventOf scheduled (plain_event w)
+IsLineOf scheduled (line.Pick w pick count) = pick < 4294967296 → IsEventOf scheduled (pick_event w pick)
+
+mapped : {X Y : Type 0} (P : Y → Type 0) (f : X → Y) (o : Option X) (y : Y) → option_map f o ≡ Some y → ((x : X) → o ≡ Some x → P (f x)) → P y
+mapped P f None y h all = absurd (none-some y h)
+mapped P f (Some x) y h all = subst P (same_Some (f x) y h) (all x refl)
+
+chained : {X Y : Type 0} (P : Y → Type 0) (f : X → Option Y) (o : Option X) (y : Y) → option_and_then f o ≡ Some y → ((x : X) → o ≡ Some x → f x ≡ Some y → P y) → P y
+chained P f None y h all = absurd (none-some y h)
+chained P f (Some x) y h all = all x refl h
+
+digit-small : (b : ℕ) (decimal letter : Bool) (x : ℕ) → is_digit b ≡ decimal → (nat_le 97 b && nat_le b 102) ≡ letter → (if decimal then Some (b - 48) else (if letter then Some (b - 87) else None)) ≡ Some x → x < 16
+digit-small b true letter x d l h =
+    let bound = leb-true b 57 (and_parts (nat_le 48 b) (nat_le b 57) d).1 in
+    let same = same_Some (b - 48) x h in
+    omega (arith, bound, same)
+digit-small b false true x d l h =
+    let bound = leb-true b 102 (and_parts (nat_le 97 b) (nat_le b 102) l).1 in
+    let same = same_Some (b - 87) x h in
+    omega (arith, bound, same)
+digit-small b false false x d l h = absurd (none-some x h)
+
+hex_digit-small : (b x : ℕ) → hex_digit b ≡ Some x → x < 16
+hex_digit-small b x h = digit-small b (is_digit b) (nat_le 97 b && nat_le b 102) x refl refl h
+
+hex_byte-small : (w : List ℕ) (value : ℕ) → hex_byte w ≡ Some value → value < 256
+hex_byte-small [] value h = absurd (none-some value h)
+hex_byte-small (b ∷ []) value h = absurd (none-some value h)
+hex_byte-small (b ∷ c ∷ []) value h =
+    chained (λ v. v < 256) _ (hex_digit b) value h
+    (λ high e g. mapped (λ v. v < 256) _ (hex_digit c) value g (λ low f. omega (arith, hex_digit-small b high e, hex_digit-small c low f)))
+hex_byte-small (b ∷ c ∷ d ∷ w) value h = absurd (none-some value h)
+
+needed : (scheduled : Bool) → (scheduled || false) ≡ true → scheduled ≡ true
+needed true s = refl
+needed false s = s
+
+IsLineOf-put_line : (scheduled : Bool) (b v c : List ℕ) (l : Line) → put_line b v c ≡ Some l → IsLineOf scheduled l
+IsLineOf-put_line scheduled b v c l h =
+    chained (IsLineOf scheduled) _ (numeral b) l h
+    (λ block e g. chained (IsLineOf scheduled) _ (hex_byte v) l g (λ value f i. mapped (IsLineOf scheduled) _ (class_of c) l i (λ k j. hex_byte-small v value f)))
+
+IsLineOf-header_line : (scheduled : Bool) (w : HeaderWord) (ws : List (List ℕ)) (l : Line) → header_line w ws ≡ Some l → (scheduled || not (needs_scheduler (word.Header w))) ≡ true → IsLineOf scheduled l
+IsLineOf-header_line scheduled header.Depth [] l h s = absurd (none-some l h)
+IsLineOf-header_line scheduled header.Depth (d ∷ []) l h s = mapped (IsLineOf scheduled) line.Depth (numeral d) l h (λ n e. tt)
+IsLineOf-header_line scheduled header.Depth (d ∷ e ∷ ws) l h s = absurd (none-some l h)
+IsLineOf-header_line scheduled header.Queue [] l h s = absurd (none-some l h)
+IsLineOf-header_line scheduled header.Queue (q ∷ []) l h s = mapped (IsLineOf scheduled) line.Queue (numeral q) l h (λ n e. needed scheduled s)
+IsLineOf-header_line scheduled header.Queue (q ∷ e ∷ ws) l h s = absurd (none-some l h)
+IsLineOf-header_line scheduled header.Cut [] l h s = absurd (none-some l h)
+IsLineOf-header_line scheduled header.Cut (n ∷ []) l h s = mapped (IsLineOf scheduled) line.Cut (numeral n) l h (λ n e. tt)
+IsLineOf-header_line scheduled header.Cut (n ∷ e ∷ ws) l h s = absurd (none-some l h)
+IsLineOf-header_line scheduled header.Fail ws l h s = absurd (none-some l h)
+IsLineOf-header_line scheduled header.Elevator ws l h s = absurd (none-some l h)
+
+IsLineOf-body_line : (scheduled : Bool) (w : BodyWord) (ws : List (List ℕ)) (l : Line) → body_line w ws ≡ Some l → IsLineOf scheduled l
+IsLineOf-body_line scheduled body.Put [] l h = absurd (none-some l h)
+IsLineOf-body_line scheduled body.Put (b ∷ []) l h = absurd (none-some l h)
+IsLineOf-body_line scheduled body.Put (b ∷ v ∷ []) l h = absurd (none-some l h)
+IsLineOf-body_line scheduled body.Put (b ∷ v ∷ c ∷ []) l h = IsLineOf-put_line scheduled b v c l h
+IsLineOf-body_line scheduled body.Put (b ∷ v ∷ c ∷ d ∷ ws) l h = absurd (none-some l h)
+IsLineOf-body_line scheduled body.Flush [] l h = subst (IsLineOf scheduled) (same_Some line.Flush l h) tt
+IsLineOf-body_line scheduled body.Flush (w ∷ ws) l h = absurd (none-some l h)
+
+IsEventOf-plain : (scheduled : Bool) (w : PlainWord) → (scheduled || not (needs_scheduler (word.Plain w))) ≡ true → IsEventOf scheduled (plain_event w)
+IsEventOf-plain scheduled plain.Submit s = needed scheduled s
+IsEventOf-plain scheduled plain.Accept s = needed scheduled s
+IsEventOf-plain scheduled plain.Receive s = tt
+
+IsEventOf-pick : (scheduled : Bool) (w : PickWord) (pick : ℕ) → (scheduled || not (needs_scheduler (word.Pick w))) ≡ true → pick < 4294967296 → IsEventOf scheduled (pick_event w pick)
+IsEventOf-pick scheduled picks.Dispatch pick s lt = (needed scheduled s, lt)
+IsEventOf-pick scheduled picks.Transfer pick s lt = lt
+IsEventOf-pick scheduled picks.Persist pick s lt = lt
+
+IsLineOf-pick_line : (scheduled : Bool) (w : PickWord) (ws : List (List ℕ)) (l : Line) → pick_line w ws ≡ Some l → (scheduled || not (needs_scheduler (word.Pick w))) ≡ true → IsLineOf scheduled l
+IsLineOf-pick_line scheduled w [] l h s = absurd (none-some l h)
+IsLineOf-pick_line scheduled w (p ∷ ws) l h s =
+    chained (IsLineOf scheduled) _ (numeral p) l h
+    (λ pick e g. mapped (IsLineOf scheduled) _ (count_of ws) l g (λ count f. IsEventOf-pick scheduled w pick s))
+
+IsLineOf-line_of : (scheduled : Bool) (w : Word) (ws : List (List ℕ)) (l : Line) → line_of w ws ≡ Some l → (scheduled || not (needs_scheduler w)) ≡ true → IsLineOf scheduled l
+IsLineOf-line_of scheduled (word.First w) ws l h s = absurd (none-some l h)
+IsLineOf-line_of scheduled (word.Header w) ws l h s = IsLineOf-header_line scheduled w ws l h s
+IsLineOf-line_of scheduled (word.Body w) ws l h s = IsLineOf-body_line scheduled w ws l h
+IsLineOf-line_of scheduled word.Events [] l h s = subst (IsLineOf scheduled) (same_Some line.Events l h) tt
+IsLineOf-line_of scheduled word.Events (w ∷ ws) l h s = absurd (none-some l h)
+IsLineOf-line_of scheduled (word.Plain w) ws l h s = mapped (IsLineOf scheduled) (line.Plain w) (count_of ws) l h (λ count e. IsEventOf-plain scheduled w s)
+IsLineOf-line_of scheduled (word.Pick w) ws l h s = IsLineOf-pick_line scheduled w ws l h s
+IsLineOf-line_of scheduled word.OfVolume ws l h s = absurd (none-some l h)
+
+-- ---- what is read after a line
+
+IsReadable-request : (r : Reading) (q : Request) → length r.puts < 10000 → IsRequestOf (form_blocks r.form) (length r.puts) q → IsFilled q → IsReadable r → IsReadable (with_request r q)
+IsReadable-request r q lt here filled is = record {
+  header = is.header;
+  puts = AreRequests-push (form_blocks r.form) r.puts q lt here filled is.puts;
+  events = is.events;
+}
+
+IsReadable-events : (r : Reading) (e : CoreEvent) (count : ℕ) → IsEventOf (is_scheduled r.form) e → count_fits r count ≡ true → IsReadable r → IsReadable (with_events r e count)
+IsReadable-events r e count here fits is =
+    let some = and_parts _ _ fits in
+    let most = and_parts _ _ some.1 in
+    record {
+      header = is.header;
+      puts = is.puts;
+      events = AreEventLines-push (is_scheduled r.form) r.events r.expanded _ (record {
+        event = here;
+        some = leb-true 1 count some.0;
+        most = leb-true count 1000000 most.0;
+      }) (leb-true (r.expanded + count) 20000000 most.1) is.events;
+    }
+
+IsHeader-depth : (form : Form) (depth queue cut : Option ℕ) (d : ℕ) → 1 ≤ d → d ≤ 64 → IsHeader form depth queue cut → IsHeader form (Some d) queue cut
+IsHeader-depth form depth queue cut d some most is = record {
+  some_blocks = is.some_blocks;
+  most_blocks = is.most_blocks;
+  some_depth = some;
+  most_depth = most;
+  some_queue = is.some_queue;
+  most_queue = is.most_queue;
+  plain_queue = is.plain_queue;
+  most_cut = is.most_cut;
+}
+
+IsHeader-queue : (form : Form) (depth queue cut : Option ℕ) (q : ℕ) → is_scheduled form ≡ true → 1 ≤ q → q ≤ 64 → IsHeader form depth queue cut → IsHeader form depth (Some q) cut
+IsHeader-queue form depth queue cut q scheduled some most is = record {
+  some_blocks = is.some_blocks;
+  most_blocks = is.most_blocks;
+  some_depth = is.some_depth;
+  most_depth = is.most_depth;
+  some_queue = some;
+  most_queue = most;
+  plain_queue = λ e. absurd (false≢true (sym e ∙ scheduled));
+  most_cut = is.most_cut;
+}
+
+IsHeader-cut : (form : Form) (depth queue cut : Option ℕ) (n : ℕ) → n ≤ 1000000000 → IsHeader form depth queue cut → IsHeader form depth queue (Some n)
+IsHeader-cut form depth queue cut n most is = record {
+  some_blocks = is.some_blocks;
+  most_blocks = is.most_blocks;
+  some_depth = is.some_depth;
+  most_depth = is.most_depth;
+  some_queue = is.some_queue;
+  most_queue = is.most_queue;
+  plain_queue = is.plain_queue;
+  most_cut = λ m e. let same = same_Some n m e in omega (arith, most, same);
+}
+
+-- the header lines
+IsReadable-header : (r : Reading) (depth queue cut : Option ℕ) → IsHeader r.form depth queue cut → IsReadable r → IsReadable (record r { depth = depth; queue = queue; cut = cut })
+IsReadable-header r depth queue cut header is = record {
+  header = header;
+  puts = is.puts;
+  events = is.events;
+}
+
+IsReadable-after : (r : Reading) (l : Line) → IsLineOf (is_scheduled r.form) l → fits r l ≡ true → IsReadable r → IsReadable (after r l)
+IsReadable-after r (line.Depth d) of h is =
+    let t = and_parts _ _ h in
+    IsReadable-header r _ _ _ (IsHeader-depth r.form r.depth r.queue r.cut d (leb-true 1 d t.0) (leb-true d 64 t.1) is.header) is
+IsReadable-after r (line.Queue q) of h is =
+    let t = and_parts _ _ h in
+    IsReadable-header r _ _ _ (IsHeader-queue r.form r.depth r.queue r.cut q of (leb-true 1 q t.0) (leb-true q 64 t.1) is.header) is
+IsReadable-after r (line.Cut n) of h is =
+    IsReadable-header r _ _ _ (IsHeader-cut r.form r.depth r.queue r.cut n (leb-true n 1000000000 h) is.header) is
+IsReadable-after r (line.Put block value k) of h is =
+    let t = and_parts _ _ h in
+    IsReadable-request r _ (ltb-true _ _ t.1) (IsRequestOf-put (form_blocks r.form) (length r.puts) block value k (ltb-true _ _ t.0)) (IsFilled-put (length r.puts) block value k of) is
+IsReadable-after r line.Flush of h is =
+    IsReadable-request r _ (ltb-true _ _ h) (IsRequestOf-flush (form_blocks r.form) (length r.puts)) (IsFilled-flush (length r.puts)) is
+IsReadable-after r line.Events of h is = record {
+  header = is.header;
+  puts = is.puts;
+  events = is.events;
+}
+IsReadable-after r (line.Plain w count) of h is = IsReadable-events r (plain_event w) count of h is
+IsReadable-after r (line.Pick w pick count) of h is =
+    let t = and_parts _ _ h in
+    IsReadable-events r (pick_event w pick) count (of (ltb-true pick 4294967296 t.0)) t.1 is
+
+-- ---- results
+
+-- a test that has to pass
+ok_behind : {A E : Type 0} (b : Bool) (x y : A) (e : E) → (if b then Ok x else Err e) ≡ Ok y → (b ≡ true) × (x ≡ y)
+ok_behind true x y e h = (refl, (cc))
+ok_behind false x y e h = cc
+
+-- a test that has to pass first
+ok_past : {A E : Type 0} (b : Bool) (read : Result A E) (y : A) (e : E) → (if not b then Err e else read) ≡ Ok y → (b ≡ true) × (read ≡ Ok y)
+ok_past true read y e h = (refl, h)
+ok_past false read y e h = cc
+
+-- a test that has to fail first
+ok_beside : {A E : Type 0} (b : Bool) (read : Result A E) (y : A) (e : E) → (if b then Err e else read) ≡ Ok y → read ≡ Ok y
+ok_beside true read y e h = cc
+ok_beside false read y e h = h
+
+IsReadable-taken : (r : Reading) (l : Option Line) (next : Reading) → taken r l ≡ Ok next → ((m : Line) → l ≡ Some m → IsLineOf (is_scheduled r.form) m) → IsReadable r → IsReadable next
+IsReadable-taken r None next h of is = cc
+IsReadable-taken r (Some l) next h of is =
+    let t = ok_behind (fits r l) (after r l) next _ h in
+    subst IsReadable t.1 (IsReadable-after r l (of l refl) t.0 is)
+
+IsReadable-later_line : (r : Reading) (w : Option Word) (ws : List (List ℕ)) (next : Reading) → later_line r w ws ≡ Ok next → IsReadable r → IsReadable next
+IsReadable-later_line r None ws next h is = cc
+IsReadable-later_line r (Some w) ws next h is =
+    let built = ok_past (is_built w) _ next _ h in
+    let placed = ok_past (may_stand r w) _ next _ built.1 in
+    let allowed = and_parts _ _ placed.0 in
+    IsReadable-taken r (line_of w ws) next (ok_beside (stood_before r w) _ next _ placed.1) (λ l e. IsLineOf-line_of (is_scheduled r.form) w ws l e allowed.1) is
+
+-- ---- the first line
+
+IsHeader-new : (form : Form) → 1 ≤ form_blocks form → form_blocks form ≤ 4096 → IsHeader form None None None
+IsHeader-new form some few = record {
+  some_blocks = some;
+  most_blocks = few;
+  some_depth = lit≤ tt;
+  most_depth = lit≤ tt;
+  some_queue = lit≤ tt;
+  most_queue = lit≤ tt;
+  plain_queue = λ _. refl;
+  most_cut = λ n e. absurd (none-some n e);
+}
+
+AreRequests-none : (blocks : ℕ) → AreRequests blocks []
+AreRequests-none blocks = record {
+  few = lit≤ tt;
+  requests = λ i q e. absurd (none-some q e);
+  filled = λ q h. absurd h;
+}
+
+AreEventLines-none : (scheduled : Bool) → AreEventLines scheduled [] 0
+AreEventLines-none scheduled = record {
+  each = λ l h. absurd h;
+  counted = refl;
+  most = lit≤ tt;
+}
+
+form_blocks-form_of : (scheduled : Bool) (n : ℕ) → form_blocks (form_of scheduled n) ≡ n
+form_blocks-form_of true n = refl
+form_blocks-form_of false n = refl
+
+IsReadable-new : (form : Form) → 1 ≤ form_blocks form → form_blocks form ≤ 4096 → IsReadable (new_reading form)
+IsReadable-new form some few = record {
+  header = IsHeader-new form some few;
+  puts = AreRequests-none (form_blocks form);
+  events = AreEventLines-none (is_scheduled form);
+}
+
+IsReadable-opened : (scheduled : Bool) (n : Option ℕ) (next : Reading) → opened scheduled n ≡ Ok next → IsReadable next
+IsReadable-opened scheduled None next h = cc
+IsReadable-opened scheduled (Some n) next h =
+    let t = ok_behind (nat_le 1 n && nat_le n 4096) (new_reading (form_of scheduled n)) next _ h in
+    let bounds = and_parts _ _ t.0 in
+    let same = form_blocks-form_of scheduled n in
+    let some = leb-true 1 n bounds.0 in
+    let few = leb-true n 4096 bounds.1 in
+    subst IsReadable t.1 (IsReadable-new (form_of scheduled n) (omega (arith, same, some)) (omega (arith, same, few)))
+
+IsReadable-form_line : (scheduled : Bool) (ws : List (List ℕ)) (next : Reading) → form_line scheduled ws ≡ Ok next → IsReadable next
+IsReadable-form_line scheduled [] next h = cc
+IsReadable-form_line scheduled (n ∷ []) next h = IsReadable-opened scheduled (numeral n) next h
+IsReadable-form_line scheduled (n ∷ m ∷ ws) next h = cc
+
+IsReadable-built_first : (w : Word) (ws : List (List ℕ)) (next : Reading) → built_first w ws ≡ Ok next → IsReadable next
+IsReadable-built_first (word.First first.Device) ws next h = IsReadable-form_line false ws next h
+IsReadable-built_first (word.First first.Blocks) ws next h = IsReadable-form_line true ws next h
+IsReadable-built_first (word.First first.Volume) ws next h = cc
+IsReadable-built_first (word.Header w) ws next h = cc
+IsReadable-built_first (word.Body w) ws next h = cc
+IsReadable-built_first word.Events ws next h = cc
+IsReadable-built_first (word.Plain w) ws next h = cc
+IsReadable-built_first (word.Pick w) ws next h = cc
+IsReadable-built_first word.OfVolume ws next h = cc
+
+IsReadable-first_line : (w : Option Word) (ws : List (List ℕ)) (next : Reading) → first_line w ws ≡ Ok next → IsReadable next
+IsReadable-first_line None ws next h = cc
+IsReadable-first_line (Some w) ws next h = IsReadable-built_first w ws next (ok_past (is_built w) _ next _ h).1
+
+IsReadable-read_words : (reading : Option Reading) (ws : List (List ℕ)) (next : Reading) → read_words reading ws ≡ Ok next → IsReadableSoFar reading → IsReadable next
+IsReadable-read_words reading [] next h is = cc
+IsReadable-read_words None (w ∷ ws) next h is = IsReadable-first_line (word_of w) ws next h
+IsReadable-read_words (Some r) (w ∷ ws) next h is = IsReadable-later_line r (word_of w) ws next h is
+
+-- ---- all lines
+
+IsReadableSoFar-at_line : (n : ℕ) (read : Result Reading ScriptKind) (next : Option Reading) → at_line n read ≡ Ok next → ((r : Reading) → read ≡ Ok r → IsReadable r) → IsReadableSoFar next
+IsReadableSoFar-at_line n (Ok r) next h is = let e : Some r ≡ next = cc in subst IsReadableSoFar e (is r refl)
+IsReadableSoFar-at_line n (Err kind) next h is = cc
+
+IsReadableSoFar-skip : (skipped : Bool) (reading next : Option Reading) (read : Result (Option Reading) (ℕ × ScriptKind)) → (if skipped then Ok reading else read) ≡ Ok next → IsReadableSoFar reading → (read ≡ Ok next → IsReadableSoFar next) → IsReadableSoFar next
+IsReadableSoFar-skip true reading next read h is step = let e : reading ≡ next = cc in subst IsReadableSoFar e is
+IsReadableSoFar-skip false reading next read h is step = step h
+
+IsReadableSoFar-read_line : (n : ℕ) (reading : Option Reading) (l : List ℕ) (next : Option Reading) → read_line n reading l ≡ Ok next → IsReadableSoFar reading → IsReadableSoFar next
+IsReadableSoFar-read_line n reading l next h is =
+    IsReadableSoFar-skip (is_skipped l) reading next _ h is (λ e. IsReadableSoFar-at_line n _ next e (λ r g. IsReadable-read_words reading (words_of l) r g is))
+
+-- ---- the script
+
+IsRunnable-script_read : (r : Reading) → IsReadable r → IsRunnable (script_read r)
+IsRunnable-script_read r is = record {
+  some_blocks = is.header.some_blocks;
+  few_blocks = is.header.most_blocks;
+  some_depth = is.header.some_depth;
+  depth = is.header.most_depth;
+  some_queue = is.header.some_queue;
+  queue = is.header.most_queue;
+  few = is.puts.few;
+  requests = is.puts.requests;
+}
+
+IsWellFormed-script_read : (r : Reading) → IsReadable r → IsWellFormed (script_read r)
+IsWellFormed-script_read r is = record {
+  runnable = IsRunnable-script_read r is;
+  plain_queue = λ e. ap (λ q. unwrap_or q 32) (is.header.plain_queue e);
+  cut = is.header.most_cut;
+  filled = is.puts.filled;
+  events = is.events.each;
+  expanded = omega (arith, is.events.counted, is.events.most);
+}
+
+IsWellFormed-ended_in : (n : ℕ) (r : Reading) (section : Section) (s : Script) → ended_in n r section ≡ Ok s → IsReadable r → IsWellFormed s
+IsWellFormed-ended_in n r sections.Header s h is = cc
+IsWellFormed-ended_in n r sections.Body s h is = cc
+IsWellFormed-ended_in n r sections.Events s h is =
+    let e : script_read r ≡ s = cc in
+    subst IsWellFormed e (IsWellFormed-script_read r is)
+
+IsWellFormed-ended : (n : ℕ) (reading : Option Reading) (s : Script) → ended n reading ≡ Ok s → IsReadableSoFar reading → IsWellFormed s
+IsWellFormed-ended n None s h is = cc
+IsWellFormed-ended n (Some r) s h is = IsWellFormed-ended_in n r r.section s h is
+
+abbrev read_then : {A B E : Type 0} → Result A E → (A → Result B E) → Result B E
+read_then (Ok x) f = f x
+read_then (Err e) f = Err e
+
+IsWellFormed-read_then : {E : Type 0} (read : Result (Option Reading) E) (f : Option Reading → Result Script E) (s : Script) → read_then read f ≡ Ok s → ((next : Option Reading) → read ≡ Ok next → f next ≡ Ok s → IsWellFormed s) → IsWellFormed s
+IsWellFormed-read_then (Ok next) f s h is = is next refl h
+IsWellFormed-read_then (Err e) f s h is = cc
+
+IsWellFormed-read_from : (ls : List (List ℕ)) (n : ℕ) (reading : Option Reading) (s : Script) → read_from n reading ls ≡ Ok s → IsReadableSoFar reading → IsWellFormed s
+unfolding read_from
+IsWellFormed-read_from [] n reading s h is = IsWellFormed-ended n reading s h is
+IsWellFormed-read_from (l ∷ ls) n reading s h is =
+    IsWellFormed-read_then (read_line n reading l) (λ next. read_from (n + 1) next ls) s h (λ next e g. IsWellFormed-read_from ls (n + 1) next s g (IsReadableSoFar-read_line n reading l next e is))
+
+-- the reader's result
+pub IsWellFormed-from_reads : (result : Result Script ScriptError) (ls : List (List ℕ)) → Reads result (read_from 1 None ls) → IfOk result IsWellFormed
+IsWellFormed-from_reads (Ok s) ls h = IsWellFormed-read_from ls 1 None s h tt
+IsWellFormed-from_reads (Err e) ls h = tt
+
+-- the law: a script that is read is well-formed
+pub IsWellFormed-script_of : (bytes : List ℕ) (s : Script) → script_of bytes ≡ Ok s → IsWellFormed s
+IsWellFormed-script_of bytes s h = IsWellFormed-read_from (lines_of bytes) 1 None s h tt

@@ -1,0 +1,24 @@
+-- What the reader's results say of the grammar. Want of memory says nothing.
+use Rattle.std.specs.Prelude.{◌≡◌, ℕ, Result, Ok, Err}
+use Rattle.script_grammar.specs.declared.kinds.ScriptKind.{ScriptKind}
+use Rattle.script_grammar.specs.declared.script_error.LineError.{LineError}
+use Rattle.script_grammar.specs.declared.script_error.LineError.TheVariants as line
+use Rattle.script_grammar.specs.declared.script_error.ScriptError.{ScriptError}
+use Rattle.script_grammar.specs.declared.script_error.ScriptError.TheVariants as script
+
+-- a line was read as the grammar reads it
+abbrev pub Gives : {A : Type 0} → Result A LineError → Result A ScriptKind → Type 0
+Gives (Ok x) read = read ≡ Ok x
+Gives (Err (line.Kind kind)) read = read ≡ Err kind
+Gives (Err line.NoMemory) read = Unit {0}
+
+-- lines were read as the grammar reads them
+abbrev pub Reads : {A : Type 0} → Result A ScriptError → Result A (ℕ × ScriptKind) → Type 0
+Reads (Ok x) read = read ≡ Ok x
+Reads (Err (script.Fault n kind)) read = read ≡ Err (n, kind)
+Reads (Err script.NoMemory) read = Unit {0}
+
+-- a line's fault, with the number of the line
+abbrev pub fault_at : ℕ → LineError → ScriptError
+fault_at n (line.Kind kind) = script.Fault n kind
+fault_at n line.NoMemory = script.NoMemory

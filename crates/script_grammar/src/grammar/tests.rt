@@ -1,0 +1,422 @@
+use super::*;
+use crate::kinds::ScriptKind::{NotBuilt, Number, Order, Twice, Word};
+use crate::law::{reads_what_is_spelled, tells_first_fault};
+use crate::script_error::ScriptError::Fault;
+use std::process::Abort;
+use std::test::Fail;
+
+type Row = (&'static str, u32, ScriptKind);
+
+/// A put's block and value, and whether it is ordered and a barrier.
+type Wanted = (Option<(u32, u8)>, bool, bool);
+
+fn expect_fault(rt: &impl Abort, alloc: Global, text: &[u8], line: u32, kind: ScriptKind) {
+    assert!(rt; text.len() <= 4_194_304);
+    match read_script(alloc, text) {
+        Ok(_) => assert!(rt; false, "line {line} of {text:?} is taken"),
+        Err(fault) => assert_eq!(rt; fault, Fault(line, kind), "at {text:?}"),
+    }
+}
+
+fn expect_faults(rt: &impl Abort, alloc: Global, rows: &[Row]) {
+    for (text, line, kind) in rows {
+        expect_fault(rt, alloc, text.as_bytes(), *line, *kind);
+    }
+}
+
+fn expect_requests(rt: &impl Abort, requests: &[Request], wanted: &[Wanted]) {
+    assert_eq!(rt; requests.len(), wanted.len());
+    for (id, (request, (put, ordered, barrier))) in requests.iter().zip(wanted).enumerate() {
+        assert_eq!(rt; request.id, id as u64);
+        assert_eq!(rt; request.ordered, *ordered, "request {id}");
+        assert_eq!(rt; request.barrier, *barrier, "request {id}");
+        let kind = match put {
+            Some((block, value)) => Kind::Put {
+                block: *block,
+                body: Block::fill(*value),
+            },
+            None => Kind::Flush,
+        };
+        assert!(rt; request.kind == kind, "request {id}");
+    }
+}
+
+fn expect_events(rt: &impl Abort, events: &[EventLine], wanted: &[(CoreEvent, u32)]) {
+    assert_eq!(rt; events.len(), wanted.len());
+    for (line, (event, count)) in events.iter().zip(wanted) {
+        assert_eq!(rt; line.what, EventWord::One(*event));
+        assert_eq!(rt; line.count, *count);
+    }
+}
+
+fn repeated(alloc: Global, head: &str, line: &str, count: u32) -> Result<Vec<u8>, Fail> {
+    let mut text = Vec::new(alloc);
+    text.extend_from_slice(head.as_bytes())?;
+    for _ in 0..count {
+        text.extend_from_slice(line.as_bytes())?;
+    }
+    Ok(text)
+}
+
+#[test]
+fn knows_first_words(rt: HostRuntime) {
+    let rows = [
+        ("devise 4\n", 1, Word),
+        ("Device 4\n", 1, Word),
+        ("names 4\n", 1, Word),
+        ("device 4\ntags 3\n", 2, Word),
+        ("device 4\nflsh\n", 2, Word),
+        ("device 4\nDepth 4\n", 2, Word),
+        ("device 4\ndepth4\n", 2, Word),
+        ("blocks 4\nflash 8\n", 2, Word),
+        ("blocks 4\nflush\nputs 0 1a free\n", 3, Word),
+        ("blocks 4\nevents\nstore 8\n", 3, Word),
+        ("blocks 4\nevents\nsubmits\n", 3, Word),
+        ("device 4\nflsh\ndepth 0\n", 2, Word),
+    ];
+    expect_faults(&rt, rt.alloc(), &rows);
+}
+
+#[test]
+fn counts_other_words(rt: HostRuntime) {
+    let rows = [
+        ("device\n", 1, Word),
+        ("device 4 5\n", 1, Word),
+        ("blocks\n", 1, Word),
+        ("blocks four\n", 1, Word),
+        ("device 4\ndepth\n", 2, Word),
+        ("device 4\ndepth 4 4\n", 2, Word),
+        ("blocks 4\nqueue\n", 2, Word),
+        ("blocks 4\nqueue 4 4\n", 2, Word),
+        ("blocks 4\ncut none\n", 2, Word),
+        ("device 4\nput 0 1A ordered\n", 2, Word),
+        ("device 4\nput 0 1 free\n", 2, Word),
+        ("device 4\nput 0 01a free\n", 2, Word),
+        ("device 4\nput 0 1a\n", 2, Word),
+        ("device 4\nput 0 1a strong\n", 2, Word),
+        ("device 4\nput 4 1a strong\n", 2, Word),
+        ("device 4\nflush 0\n", 2, Word),
+        ("device 4\nevents x\n", 2, Word),
+        ("device 4\nevents\nreceive 3\n", 3, Word),
+        ("device 4\nevents\nreceive x 3 3\n", 3, Word),
+        ("device 4\nevents\ntransfer\n", 3, Word),
+        ("device 4\nevents\ntransfer 0 x\n", 3, Word),
+        ("device 4\nevents\npersist 0 y 3\n", 3, Word),
+        ("blocks 4\nevents\nsubmit 3\n", 3, Word),
+        ("blocks 4\nevents\naccept x\n", 3, Word),
+        ("blocks 4\nevents\ndispatch\n", 3, Word),
+        ("blocks 4\nevents\ndispatch x 2\n", 3, Word),
+    ];
+    expect_faults(&rt, rt.alloc(), &rows);
+}
+
+#[test]
+fn parts_words_by_one_space(rt: HostRuntime) {
+    let rows = [
+        ("device 04\n", 1, Word),
+        ("device +4\n", 1, Word),
+        ("device -4\n", 1, Word),
+        ("device 4x\n", 1, Word),
+        ("device  4\n", 1, Word),
+        ("device 4 \n", 1, Word),
+        (" device 4\n", 1, Word),
+        (" # no comment\ndevice 4\n", 1, Word),
+        ("device\t4\n", 1, Word),
+        ("device 4\r\n", 1, Word),
+        ("device 4\n\r\n", 2, Word),
+        ("device 4\n \n", 2, Word),
+        ("device 4\nflüsh\n", 2, Word),
+        ("device 4\nflush é\n", 2, Word),
+        ("blocks 4\nqueue 04\n", 2, Word),
+        ("blocks 4\nqueue +4\n", 2, Word),
+        ("blocks 4\nput 00 1a free\n", 2, Word),
+        ("blocks 4\nevents\nsubmit \n", 3, Word),
+        ("blocks 4\nevents\nsubmit  x 2\n", 3, Word),
+        ("blocks 4\nevents\ndispatch 00\n", 3, Word),
+        ("blocks 4\nevents\naccept x 02\n", 3, Word),
+    ];
+    expect_faults(&rt, rt.alloc(), &rows);
+}
+
+#[test]
+fn keeps_the_order(rt: HostRuntime) {
+    let rows = [
+        ("", 1, Order),
+        ("\n", 2, Order),
+        ("# one\n# two\n", 3, Order),
+        ("# one\n# two", 3, Order),
+        ("depth 4\n", 1, Order),
+        ("queue 4\n", 1, Order),
+        ("events\n", 1, Order),
+        ("submit\n", 1, Order),
+        ("transfer 0\n", 1, Order),
+        ("put 0 1a ordered\ndevice 4\n", 1, Order),
+        ("device 4\ndevice 4\n", 2, Order),
+        ("device 4\nblocks 4\n", 2, Order),
+        ("blocks 4\nevents\nblocks 4\n", 3, Order),
+        ("device 4\nflush\ndepth 4\n", 3, Order),
+        ("blocks 4\ndepth 4\nflush\ndepth 4\n", 4, Order),
+        ("blocks 4\nflush\nqueue 4\n", 3, Order),
+        ("device 4\nevents\ncut 4\n", 3, Order),
+        ("device 4\nreceive x x\nevents\n", 2, Order),
+        ("blocks 4\nflush\nsubmit\n", 3, Order),
+        ("device 4\nevents\nevents\n", 3, Order),
+        ("device 4\nevents\nflush\n", 3, Order),
+        ("device 4", 2, Order),
+        ("device 4\nflush\n", 3, Order),
+        ("device 4\nflush", 3, Order),
+        ("device 4\nflush\n\n", 4, Order),
+        ("blocks 4\nqueue 4\n# events\n", 4, Order),
+    ];
+    expect_faults(&rt, rt.alloc(), &rows);
+}
+
+#[test]
+fn keeps_the_scheduler_out_of_device_scripts(rt: HostRuntime) {
+    let rows = [
+        ("device 4\nqueue 4\n", 2, Order),
+        ("device 4\nqueue 0\n", 2, Order),
+        ("device 4\nqueue x\n", 2, Order),
+        ("device 4\nevents\nsubmit\n", 3, Order),
+        ("device 4\nevents\naccept x 0\n", 3, Order),
+        ("device 4\nevents\ndispatch 0\n", 3, Order),
+        ("device 4\nevents\ndispatch\n", 3, Order),
+    ];
+    expect_faults(&rt, rt.alloc(), &rows);
+}
+
+#[test]
+fn knows_words_of_volumes(rt: HostRuntime) -> Result<(), Fail> {
+    let words = "limit seed thread recover mkdir rmdir create unlink link rename truncate write \
+        bytes read list stat fsync fdatasync fbarrier fdatabarrier sync call commit answer round \
+        back";
+    let heads = [
+        ("", 1),
+        ("device 4\n", 2),
+        ("blocks 4\nflush\n", 3),
+        ("blocks 4\nevents\n", 3),
+    ];
+    for (head, line) in heads {
+        for word in words.split(' ') {
+            let text = repeated(rt.alloc(), head, word, 1)?;
+            expect_fault(&rt, rt.alloc(), &text, line, Order);
+        }
+    }
+    Ok(())
+}
+
+#[test]
+fn tells_header_lines_twice(rt: HostRuntime) {
+    let rows = [
+        ("device 4\ndepth 4\ndepth 5\n", 3, Twice),
+        ("device 4\ndepth 4\ndepth x\n", 3, Twice),
+        ("device 4\ndepth 4\ndepth 0\n", 3, Twice),
+        ("blocks 4\nqueue 4\nqueue 4\n", 3, Twice),
+        ("blocks 4\nqueue 4\ndepth 4\nqueue 65\n", 4, Twice),
+        ("device 4\ncut 4\ndepth 4\ncut 4\n", 4, Twice),
+        ("blocks 4\ncut 0\n\n# one\ncut\n", 5, Twice),
+    ];
+    expect_faults(&rt, rt.alloc(), &rows);
+}
+
+#[test]
+fn tells_what_is_not_built(rt: HostRuntime) {
+    let rows = [
+        ("volume small 1 2\n", 1, NotBuilt),
+        ("volume\n", 1, NotBuilt),
+        ("device 4\nvolume 4\n", 2, NotBuilt),
+        ("blocks 4\nevents\nvolume 4\n", 3, NotBuilt),
+        ("fail 1\n", 1, NotBuilt),
+        ("device 4\nfail 1\n", 2, NotBuilt),
+        ("blocks 4\nfail 1\nfail 1\n", 2, NotBuilt),
+        ("blocks 4\nevents\nfail 1\n", 3, NotBuilt),
+        ("elevator plain\n", 1, NotBuilt),
+        ("device 4\nelevator\n", 2, NotBuilt),
+        ("blocks 4\nflush\nelevator plain\n", 3, NotBuilt),
+        ("device 4\nevents\nelevator plain\n", 3, NotBuilt),
+    ];
+    expect_faults(&rt, rt.alloc(), &rows);
+}
+
+#[test]
+fn keeps_the_limits(rt: HostRuntime) {
+    let rows = [
+        ("device 0\n", 1, Number),
+        ("device 4097\n", 1, Number),
+        ("device 99999999999999999999999\n", 1, Number),
+        ("blocks 0\n", 1, Number),
+        ("blocks 4097\n", 1, Number),
+        ("blocks 18446744073709551617\n", 1, Number),
+        ("# one\n\ndevice 0\n", 3, Number),
+        ("device 4\ndepth 0\n", 2, Number),
+        ("device 4\ndepth 65\n", 2, Number),
+        ("device 4\ndepth 0\nflsh\n", 2, Number),
+        ("blocks 4\nqueue 0\n", 2, Number),
+        ("blocks 4\nqueue 65\n", 2, Number),
+        ("device 4\ncut 1000000001\n", 2, Number),
+        ("device 3\nput 3 1a free\n", 2, Number),
+        ("blocks 1\nput 1 1a barrier\n", 2, Number),
+        ("device 4\nevents\nreceive x 0\n", 3, Number),
+        ("device 4\nevents\nreceive x 1000001\n", 3, Number),
+        ("device 4\nevents\ntransfer 4294967296\n", 3, Number),
+        ("device 4\nevents\npersist 4294967296 x 2\n", 3, Number),
+        ("device 4\nevents\npersist 0 x 0\n", 3, Number),
+        ("blocks 4\nevents\nsubmit x 0\n", 3, Number),
+        ("blocks 4\nevents\naccept x 1000001\n", 3, Number),
+        ("blocks 4\nevents\ndispatch 4294967296\n", 3, Number),
+    ];
+    expect_faults(&rt, rt.alloc(), &rows);
+}
+
+#[test]
+fn counts_events_and_requests(rt: HostRuntime) -> Result<(), Fail> {
+    let alloc = rt.alloc();
+
+    let mut events = repeated(alloc, "blocks 4\nevents\n", "submit x 1000000\n", 20)?;
+    assert!(rt; events.len() <= 4_194_304);
+    assert!(rt; read_script(alloc, &events).is_ok());
+    events.extend_from_slice(b"dispatch 0\n")?;
+    expect_fault(&rt, alloc, &events, 23, Number);
+
+    let puts = repeated(alloc, "device 4\n", "put 0 1a free\n", 10_001)?;
+    expect_fault(&rt, alloc, &puts, 10_002, Number);
+
+    let mut flushes = repeated(alloc, "device 4\n", "put 0 1a free\n", 10_000)?;
+    flushes.extend_from_slice(b"flush\n")?;
+    expect_fault(&rt, alloc, &flushes, 10_002, Number);
+    Ok(())
+}
+
+#[test]
+fn takes_defaults(rt: HostRuntime) -> Result<(), Fail> {
+    let rows = [
+        ("device 1\nevents\n", Form::Device(1)),
+        ("blocks 1\nevents", Form::Blocks(1)),
+    ];
+    let header = Header {
+        depth: 32,
+        queue: 32,
+        cut: None,
+    };
+    for (text, kind) in rows {
+        let text = text.as_bytes();
+        assert!(rt; text.len() <= 4_194_304);
+        let script = read_script(rt.alloc(), text)?;
+        assert_eq!(rt; script.kind, kind);
+        assert_eq!(rt; script.header, header);
+        assert_eq!(rt; script.blocks(), 1);
+        assert!(rt; script.puts.as_slice().is_empty());
+        assert!(rt; script.events.as_slice().is_empty());
+    }
+    Ok(())
+}
+
+#[test]
+fn reads_device_scripts(rt: HostRuntime) -> Result<(), Fail> {
+    let text = b"# a comment
+device 4096
+
+depth 64
+cut 1000000000
+put 4095 f0 barrier
+#
+put 0 0a ordered
+put 1 00 free
+flush
+events
+receive x 1000000
+# \xff
+transfer 4294967295
+persist 0 x 2";
+    let script = read_script(rt.alloc(), text)?;
+    assert_eq!(rt; script.kind, Form::Device(4096));
+    assert_eq!(rt; script.header.depth, 64);
+    assert_eq!(rt; script.header.queue, 32);
+    assert_eq!(rt; script.header.cut, Some(1_000_000_000));
+    let requests = [
+        (Some((4095, 0xf0)), true, true),
+        (Some((0, 0x0a)), true, false),
+        (Some((1, 0)), false, false),
+        (None, true, true),
+    ];
+    expect_requests(&rt, script.puts.as_slice(), &requests);
+    let events = [
+        (CoreEvent::Receive, 1_000_000),
+        (CoreEvent::Transfer(4_294_967_295), 1),
+        (CoreEvent::Persist(0), 2),
+    ];
+    expect_events(&rt, script.events.as_slice(), &events);
+    Ok(())
+}
+
+#[test]
+fn reads_blocks_scripts(rt: HostRuntime) -> Result<(), Fail> {
+    let text = b"blocks 2
+cut 0
+queue 64
+depth 1
+flush
+put 1 ff free
+events
+submit
+accept x 1
+dispatch 4294967295 x 3
+receive
+transfer 7 x 1000000
+persist 10
+submit x 2
+";
+    let script = read_script(rt.alloc(), text)?;
+    assert_eq!(rt; script.kind, Form::Blocks(2));
+    assert_eq!(rt; script.header.depth, 1);
+    assert_eq!(rt; script.header.queue, 64);
+    assert_eq!(rt; script.header.cut, Some(0));
+    let requests = [(None, true, true), (Some((1, 0xff)), false, false)];
+    expect_requests(&rt, script.puts.as_slice(), &requests);
+    let events = [
+        (CoreEvent::Submit, 1),
+        (CoreEvent::Accept, 1),
+        (CoreEvent::Dispatch(4_294_967_295), 3),
+        (CoreEvent::Receive, 1),
+        (CoreEvent::Transfer(7), 1_000_000),
+        (CoreEvent::Persist(10), 1),
+        (CoreEvent::Submit, 2),
+    ];
+    expect_events(&rt, script.events.as_slice(), &events);
+    Ok(())
+}
+
+#[test]
+fn prints_kinds(rt: HostRuntime) -> Result<(), Fail> {
+    let rows = [
+        (Word, "word"),
+        (NotBuilt, "not built"),
+        (Order, "order"),
+        (Twice, "twice"),
+        (Number, "number"),
+    ];
+    for (kind, text) in rows {
+        assert_eq!(rt; format!(in rt.alloc(); "{kind}")?.as_str(), text);
+    }
+    Ok(())
+}
+
+#[test]
+fn copies_scripts(rt: HostRuntime) -> Result<(), Fail> {
+    let alloc = rt.alloc();
+    let script = read_script(alloc, b"device 1\nflush\nflush\nflush\nevents\nreceive\n")?;
+    let copy = script.copy(alloc)?;
+    assert_eq!(rt; copy.puts.as_slice().len(), 3);
+    assert_eq!(rt; copy.events.as_slice().len(), 1);
+    for (count, wanted) in [(0, 0), (2, 2), (3, 3), (4, 3)] {
+        let front = script.puts.copy_front(alloc, count)?;
+        assert_eq!(rt; front.as_slice().len(), wanted, "of {count}");
+    }
+    Ok(())
+}
+
+#[test]
+fn states_its_laws(_rt: HostRuntime) {
+    tells_first_fault();
+    reads_what_is_spelled();
+}

@@ -1,0 +1,25 @@
+//! Laws of the grammar. Each call does nothing.
+ghost use Rattle.std.specs.Prelude.{◌≡◌, ℕ, ◌↔◌, List, Ok, Err};
+ghost use Rattle.script_grammar.specs.declared.kinds.ScriptKind.{ScriptKind};
+ghost use Rattle.script_grammar.specs.declared.script.Script.{Script};
+ghost use Rattle.script_grammar.specs.Spelling.{lines_of};
+ghost use Rattle.script_grammar.specs.Grammar.{script_of};
+ghost use Rattle.script_grammar.specs.FirstFault.{IsFirstFault, IsFirstUnbuilt};
+ghost use Rattle.script_grammar.specs.Speller.{script_text};
+ghost use Rattle.script_grammar.specs.WellFormed.{IsWellFormed};
+
+use crate::kinds::ScriptKind;
+
+/// A text is refused at a line with a kind exactly where that is its first faulty line; and `not built` is
+/// told exactly of a line that begins with a word whose form is not built, where all lines before are read.
+pub fn tells_first_fault()
+    ensures first { (bytes : List ℕ) (n : ℕ) (kind : ScriptKind) → (script_of bytes ≡ Err (n, kind)) ↔ IsFirstFault (lines_of bytes) n kind }
+    ensures not_built { (bytes : List ℕ) (n : ℕ) → (script_of bytes ≡ Err (n, ScriptKind.NotBuilt)) ↔ IsFirstUnbuilt (lines_of bytes) n }
+{}
+
+/// What the speller writes of a well-formed script is read back as that script, and every script that is
+/// read is well-formed.
+pub fn reads_what_is_spelled()
+    ensures spelled { (s : Script) → IsWellFormed s → script_of (script_text s) ≡ Ok s }
+    ensures read { (bytes : List ℕ) (s : Script) → script_of bytes ≡ Ok s → IsWellFormed s }
+{}
