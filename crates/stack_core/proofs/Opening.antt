@@ -1,0 +1,41 @@
+-- The device that a script opens.
+use Rattle.std.proofs.Common.{◌≡◌, ℕ, List, length, refl, sym, ap, ◌∙◌, subst, arith}
+use Rattle.std.proofs.lemmas.List.{length-replicate}
+use Rattle.blk_base.specs.Block.{filled}
+use Rattle.blk_base.specs.Image.{zeros}
+use Rattle.device_epochs.specs.Device.{DeviceState, opened, seen}
+use Rattle.device_epochs.specs.Valid.{IsValid}
+use Rattle.device_epochs.specs.Laws.{opened-valid}
+use Rattle.script_grammar.specs.declared.script.Script.{Script}
+use Rattle.std.proofs.Common.{ap₂}
+use Rattle.order_model.specs.declared.request.Request.{Request}
+use Rattle.std.proofs.Common.{Result, Ok, Err, IfOk}
+use Rattle.order_model.specs.Device.{Seen}
+use Rattle.stack_core.specs.declared.report.Report.{Report}
+use Rattle.stack_core.specs.Headline.{KeepsOrder}
+use Rattle.stack_core.specs.Report.{IsReportOf, Headline}
+use Rattle.script_grammar.specs.Grammar.{blocks_of, IsRunnable}
+use Rattle.stack_core.specs.declared.feed.Feed.{Feed}
+use Rattle.stack_core.specs.Feed.{opened_feed, IsFed, AreRequests}
+use Rattle.stack_core.specs.Core.{opened_for}
+use Rattle.stack_core.proofs.Feeds.{opened_fed}
+
+pub valid_when_opened : (s : Script) → IsRunnable s → IsValid (opened_for s)
+valid_when_opened s can = opened-valid (zeros (blocks_of s)) s.header.depth (length s.puts) s.header.cut can.some_depth
+
+pub fed_when_opened : (s : Script) → IsRunnable s → IsFed (opened_feed s) s.puts (seen (opened_for s))
+fed_when_opened s can =
+    opened_fed s (seen (opened_for s)) (subst (λ n. AreRequests n s.puts) (sym (length-replicate (blocks_of s) (filled 0))) can.requests) (omega arith) refl
+
+-- a report keeps the order over the zeros of its own script
+pub headline_of : {E : Type 0} (result : Result Report E) (s : Script) (feed : Feed) (end : Seen) → IfOk result (IsReportOf s feed end)
+    → IfOk result (λ r. KeepsOrder (zeros (blocks_of s)) r.submitted r.cut.image r.cut.origins r.cut.trace.sent.items) → IfOk result Headline
+headline_of (Ok r) s feed end is order =
+    subst (λ t. KeepsOrder (zeros (blocks_of t)) r.submitted r.cut.image r.cut.origins r.cut.trace.sent.items) (sym is.script) order
+headline_of (Err e) s feed end is order = tt
+
+-- what was made of the script's numbers is the device that it opens
+pub opened_is : (s : Script) (d : DeviceState) (image : List (List ℕ)) (puts : List Request) (blocks : ℕ) → d ≡ opened image s.header.depth (length puts) s.header.cut
+    → image ≡ zeros blocks → blocks ≡ blocks_of s → puts ≡ s.puts → d ≡ opened_for s
+opened_is s d image puts blocks made zero count same =
+    made ∙ ap₂ (λ (i : List (List ℕ)) (n : ℕ). opened i s.header.depth n s.header.cut) (zero ∙ ap zeros count) (ap length same)

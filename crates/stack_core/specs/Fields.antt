@@ -1,0 +1,18 @@
+-- The fields of the scheduler's side, and what they keep.
+use Rattle.std.specs.Prelude.{◌≡◌}
+use Rattle.stack_core.specs.declared.sched_side.SchedSide.TheInside.{Inside}
+use Rattle.stack_core.specs.Side.{SideState}
+
+abbrev pub side_of : Inside → SideState
+side_of s = record {
+  next = s.next;
+  capacity = s.submission.capacity;
+  submission = s.submission.held;
+  sched = s.sched;
+  kept = s.kept;
+  dispatched = s.dispatched.held;
+}
+
+-- both queues have one capacity
+pub record IsSideInside (s : Inside) : Type 0 where
+  pub capacity : s.dispatched.capacity ≡ s.submission.capacity

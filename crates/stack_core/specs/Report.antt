@@ -1,0 +1,31 @@
+-- Which report a run leaves.
+use Rattle.std.specs.Prelude.{◌≡◌, take}
+use Rattle.blk_base.specs.Image.{zeros}
+use Rattle.order_model.specs.Device.{Seen, origin_ids}
+use Rattle.order_model.specs.Steps.{IsTraceOf}
+use Rattle.device_epochs.specs.Device.{seen}
+use Rattle.script_grammar.specs.declared.script.Script.{Script}
+use Rattle.script_grammar.specs.Grammar.{blocks_of}
+use Rattle.stack_core.specs.declared.feed.Feed.{Feed}
+use Rattle.stack_core.specs.declared.report.Report.{Report}
+use Rattle.stack_core.specs.Feed.{submitted_count, accepted_of, sent_out_of}
+use Rattle.stack_core.specs.Core.{core}
+use Rattle.stack_core.specs.Headline.{KeepsOrder}
+
+-- the report of a run that left the feed and the device so
+pub record IsReportOf (s : Script) (feed : Feed) (left : Seen) (r : Report) : Type 0 where
+  pub script : r.script ≡ s
+  pub submitted : r.submitted ≡ take (submitted_count feed) s.puts
+  pub accepted : r.sched.accepted.items ≡ accepted_of feed
+  pub sent_out : r.sched.sent_out.items ≡ sent_out_of feed
+  pub image : r.cut.image ≡ left.surface
+  pub origins : r.cut.origins ≡ origin_ids left.took left.origins
+  pub trace : IsTraceOf left r.cut.trace
+
+-- the report of the core run of the script
+abbrev pub IsCoreReport : Script → Report → Type 0
+IsCoreReport s r = IsReportOf s (core s).feed (seen (core s).dev) r
+
+-- The headline, as far as a script of block requests goes: its first sentence, over a medium of zeros.
+abbrev pub Headline : Report → Type 0
+Headline r = KeepsOrder (zeros (blocks_of r.script)) r.submitted r.cut.image r.cut.origins r.cut.trace.sent.items

@@ -1,0 +1,91 @@
+//! How the requests of a script reach the device.
+ghost use Rattle.std.specs.Prelude.{◌≡◌, ℕ, ◌≤◌, [], Some, None, IfOk, IfSome, IfNone};
+ghost use Rattle.order_model.specs.Device.{Seen};
+ghost use Rattle.script_grammar.specs.Grammar.{IsRunnable};
+ghost use Rattle.stack_core.specs.Feed.{opened_feed, stepped, given, submitted_count, accepted_of, sent_out_of, IsFed};
+
+use crate::sched_side::SchedSide;
+use blk_base::NoMemory;
+use order_model::{Command, Commands, History, Request, SchedRecord};
+use script_grammar::{CoreEvent, Form, Script};
+use std::alloc::Global;
+
+/// How the requests of a script reach the device.
+#[derive(Drop)]
+pub enum Feed {
+    /// Each as a command of its own. So many went.
+    Direct(usize),
+    /// Through the scheduler.
+    Scheduled(SchedSide),
+}
+
+impl Feed {
+    /// What stands before the device when the script begins.
+    pub fn open(alloc: Global, script: &Script) -> Result<Feed, NoMemory>
+        ensures { IfOk result (λ f. f ≡ opened_feed script.now) }
+    {
+        match script.kind {
+            Form::Device(_) => Ok(Feed::Direct(0)),
+            Form::Blocks(_) => {
+                let limit = script.puts.as_slice().len() as u64;
+                let side = SchedSide::make(alloc, limit, script.header.queue)?;
+                Ok(Feed::Scheduled(side))
+            }
+        }
+    }
+
+    /// How many requests the host submitted.
+    pub fn submitted(&self) -> usize
+        ensures { result ≡ submitted_count self.now }
+    {
+        match self {
+            Feed::Direct(next) => *next,
+            Feed::Scheduled(side) => side.submitted(),
+        }
+    }
+
+    /// An event of the host or the scheduler. Those of the device do nothing here.
+    pub fn step(&mut self, requests: &[Request], event: CoreEvent)
+        requires { (d : Seen) × IsFed self.old requests.now d }
+        ensures { self.new ≡ stepped requests.now self.old event }
+    {
+        let Feed::Scheduled(side) = self else {
+            return;
+        };
+        match event {
+            CoreEvent::Submit => side.submit(requests),
+            CoreEvent::Accept => side.accept(),
+            CoreEvent::Dispatch(pick) => side.dispatch(pick),
+            _ => {}
+        }
+    }
+
+    /// The next command for the device, where there is one.
+    pub fn give(&mut self, requests: &[Request]) -> Option<Command>
+        ensures some { IfSome result (λ c. given requests.now self.old ≡ Some (c, self.new)) }
+        ensures none { IfNone result ((given requests.now self.old ≡ None) × (self.new ≡ self.old)) }
+    {
+        match self {
+            Feed::Direct(next) => {
+                let request = requests.get(*next)?;
+                *next += 1;
+                Some(Command::of_request(request.copy(), request.barrier))
+            }
+            Feed::Scheduled(side) => side.give(),
+        }
+    }
+
+    /// What the scheduler accepted and sent out; nothing where there is none.
+    pub fn into_record(self, alloc: Global) -> Result<SchedRecord, NoMemory>
+        ensures accepted { IfOk result (λ r. r.accepted.items ≡ accepted_of self) }
+        ensures sent_out { IfOk result (λ r. r.sent_out.items ≡ sent_out_of self) }
+    {
+        match self {
+            Feed::Direct(_) => Ok(SchedRecord {
+                accepted: History::make(alloc, 0)?,
+                sent_out: Commands::make(alloc, 0)?,
+            }),
+            Feed::Scheduled(side) => Ok(side.into_record()),
+        }
+    }
+}

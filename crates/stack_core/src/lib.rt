@@ -1,0 +1,19 @@
+//! The run of a script on one thread: events on scheduler and device one after the other, a power cut, and
+//! the report of what is left.
+//!
+//! Stands on `script_grammar`, `epoch_sched` and `device_epochs`. The call that matters is `core_run`: its
+//! report is that of the core run (`specs/Core.antt`), and it keeps the order that the host asked for
+//! (`specs/Headline.antt`).
+#![tactic(auto)]
+
+mod feed;
+mod report;
+mod running;
+mod sched_side;
+#[cfg(test)]
+mod tests;
+
+pub use feed::Feed;
+pub use report::Report;
+pub use running::{core_run, run_on};
+pub use sched_side::SchedSide;

@@ -1,0 +1,155 @@
+//! The run of a script on a device.
+ghost use Rattle.std.specs.Prelude.{◌≡◌, ℕ, ◌≤◌, true, length, IfOk};
+ghost use Rattle.script_grammar.specs.Grammar.{IsRunnable};
+ghost use Rattle.stack_core.specs.Feed.{IsFed, opened_feed};
+ghost use Rattle.stack_core.specs.Core.{Machine, RunState, happens, times, happens_line, run_lines};
+ghost use Rattle.stack_core.specs.Report.{IsReportOf, IsCoreReport, Headline};
+ghost use Rattle.stack_core.specs.Headline.{KeepsOrder};
+
+use crate::feed::Feed;
+use crate::report::Report;
+use blk_base::{Image, NoMemory};
+use device_epochs::{DeviceSetup, EpochDevice};
+use order_model::{OrderedDev, Request};
+use script_grammar::{CoreEvent, EventLine, EventWord, Script};
+use std::alloc::Global;
+
+// One event.
+fn do_event<D: OrderedDev>(feed: &mut Feed, dev: &mut D, requests: &[Request], event: CoreEvent)
+    requires valid { D.valid (D.state dev.old) }
+    requires fed { IsFed feed.old requests.now (D.seen (D.state dev.old)) }
+    ensures step { record { feed = feed.new; dev = D.state dev.new } ≡ happens (record { has_room = D.has_room; received = D.received; transferred = D.transferred; persisted = D.persisted }) requests.now (record { feed = feed.old; dev = D.state dev.old }) event }
+    ensures valid { D.valid (D.state dev.new) }
+    ensures base { (D.seen (D.state dev.new)).base ≡ (D.seen (D.state dev.old)).base }
+    ensures fed { IsFed feed.new requests.now (D.seen (D.state dev.new)) }
+{
+    match event {
+        CoreEvent::Receive => receive_next(feed, dev, requests),
+        CoreEvent::Transfer(pick) => {
+            dev.transfer(pick);
+        }
+        CoreEvent::Persist(pick) => {
+            dev.persist(pick);
+        }
+        CoreEvent::Submit | CoreEvent::Accept | CoreEvent::Dispatch(_) => feed.step(
+            requests, event,
+        ),
+    }
+}
+
+// The next command goes to the device, where there is one and there is room.
+fn receive_next<D: OrderedDev>(feed: &mut Feed, dev: &mut D, requests: &[Request])
+    requires valid { D.valid (D.state dev.old) }
+    requires fed { IsFed feed.old requests.now (D.seen (D.state dev.old)) }
+    ensures step { record { feed = feed.new; dev = D.state dev.new } ≡ happens (record { has_room = D.has_room; received = D.received; transferred = D.transferred; persisted = D.persisted }) requests.now (record { feed = feed.old; dev = D.state dev.old }) CoreEvent.Receive }
+    ensures valid { D.valid (D.state dev.new) }
+    ensures base { (D.seen (D.state dev.new)).base ≡ (D.seen (D.state dev.old)).base }
+    ensures fed { IsFed feed.new requests.now (D.seen (D.state dev.new)) }
+{
+    if !dev.room() {
+        return;
+    }
+    let Some(command) = feed.give(requests) else {
+        return;
+    };
+    // There is room.
+    let _ = dev.receive(command);
+}
+
+// One event, so many times.
+fn repeat_event<D: OrderedDev>(
+    feed: &mut Feed,
+    dev: &mut D,
+    requests: &[Request],
+    event: CoreEvent,
+    count: u32,
+)
+    requires valid { D.valid (D.state dev.old) }
+    requires fed { IsFed feed.old requests.now (D.seen (D.state dev.old)) }
+    ensures step { record { feed = feed.new; dev = D.state dev.new } ≡ times count (λ s. happens (record { has_room = D.has_room; received = D.received; transferred = D.transferred; persisted = D.persisted }) requests.now s event) (record { feed = feed.old; dev = D.state dev.old }) }
+    ensures valid { D.valid (D.state dev.new) }
+    ensures base { (D.seen (D.state dev.new)).base ≡ (D.seen (D.state dev.old)).base }
+    ensures fed { IsFed feed.new requests.now (D.seen (D.state dev.new)) }
+{
+    for i in 0..count {
+        do_event(feed, dev, requests, event);
+    }
+}
+
+// An event line, as often as it says.
+fn do_line<D: OrderedDev>(feed: &mut Feed, dev: &mut D, requests: &[Request], line: EventLine)
+    requires valid { D.valid (D.state dev.old) }
+    requires fed { IsFed feed.old requests.now (D.seen (D.state dev.old)) }
+    ensures step { record { feed = feed.new; dev = D.state dev.new } ≡ happens_line (record { has_room = D.has_room; received = D.received; transferred = D.transferred; persisted = D.persisted }) requests.now (record { feed = feed.old; dev = D.state dev.old }) line }
+    ensures valid { D.valid (D.state dev.new) }
+    ensures base { (D.seen (D.state dev.new)).base ≡ (D.seen (D.state dev.old)).base }
+    ensures fed { IsFed feed.new requests.now (D.seen (D.state dev.new)) }
+{
+    match line.what {
+        EventWord::One(event) => repeat_event(feed, dev, requests, event, line.count),
+    }
+}
+
+// All event lines, one after the other.
+fn do_lines<D: OrderedDev>(feed: &mut Feed, dev: &mut D, requests: &[Request], lines: &[EventLine])
+    requires valid { D.valid (D.state dev.old) }
+    requires fed { IsFed feed.old requests.now (D.seen (D.state dev.old)) }
+    ensures run { record { feed = feed.new; dev = D.state dev.new } ≡ run_lines (record { has_room = D.has_room; received = D.received; transferred = D.transferred; persisted = D.persisted }) requests.now (record { feed = feed.old; dev = D.state dev.old }) lines.now }
+    ensures valid { D.valid (D.state dev.new) }
+    ensures base { (D.seen (D.state dev.new)).base ≡ (D.seen (D.state dev.old)).base }
+    ensures fed { IsFed feed.new requests.now (D.seen (D.state dev.new)) }
+{
+    for line in lines {
+        do_line(feed, dev, requests, *line);
+    }
+}
+
+/// Runs a script on a device that has taken no command, and cuts the power.
+pub fn run_on<D: OrderedDev + Drop>(
+    alloc: Global,
+    script: &Script,
+    dev: D,
+) -> Result<Report, NoMemory>
+    requires valid { D.valid (D.state dev) }
+    requires fed { IsFed (opened_feed script.now) script.now.puts (D.seen (D.state dev)) }
+    ensures core { let machine : Machine D.State = record { has_room = D.has_room; received = D.received; transferred = D.transferred; persisted = D.persisted } in
+        let end = run_lines machine script.now.puts (record { feed = opened_feed script.now; dev = D.state dev }) script.now.events in
+        IfOk result (IsReportOf script.now end.feed (D.seen end.dev)) }
+    ensures order { IfOk result (λ r. KeepsOrder (D.seen (D.state dev)).base r.submitted r.cut.image r.cut.origins r.cut.trace.sent.items) }
+{
+    let mut dev = dev;
+    let mut feed = Feed::open(alloc, script)?;
+    do_lines(
+        &mut feed,
+        &mut dev,
+        script.puts.as_slice(),
+        script.events.as_slice(),
+    );
+    let submitted = script.puts.copy_front(alloc, feed.submitted())?;
+    let sched = feed.into_record(alloc)?;
+    let script = script.copy(alloc)?;
+    Ok(Report {
+        script,
+        submitted,
+        sched,
+        cut: dev.cut(),
+    })
+}
+
+/// Runs a script on a new device of epochs over zeros, and cuts the power.
+pub fn core_run(alloc: Global, script: &Script) -> Result<Report, NoMemory>
+    requires { IsRunnable script.now }
+    ensures core { IfOk result (IsCoreReport script.now) }
+    ensures order { IfOk result Headline }
+{
+    let image = Image::zeroed(alloc, script.blocks())?;
+    let setup = DeviceSetup {
+        depth: script.header.depth,
+        limit: script.puts.as_slice().len() as u64,
+        fail_at: None,
+        bad_read: None,
+        cut_at: script.header.cut,
+    };
+    let dev = EpochDevice::make(alloc, image, setup)?;
+    run_on(alloc, script, dev)
+}
