@@ -6,9 +6,9 @@ use Rattle.std.specs.Io.KnownBytes.{Appends, Consumes}
 use Rattle.blk_base.specs.Streams.{Rose, Drained, AppendsFront}
 use Rattle.barrierfs_cli.specs.declared.fault.TopFault.{TopFault}
 use Rattle.barrierfs_cli.specs.declared.fault.TopFault.TheVariants as faults
-use Rattle.barrierfs_cli.specs.declared.report.Report.{Report}
-use Rattle.barrierfs_cli.specs.Grammar.{script_of}
-use Rattle.barrierfs_cli.specs.Report.{text_of}
+use Rattle.stack_core.specs.declared.report.Report.{Report}
+use Rattle.script_grammar.specs.Grammar.{script_of}
+use Rattle.barrierfs_cli.specs.Text.{text_of}
 use Rattle.barrierfs_cli.specs.Top.{is_replay, Told, Streams, Ran, Did, Cause, of_script, expected, EndsAs}
 
 same_report : (old new : Told) (r : Report) (ran : Ran old new (Some r)) → r ≡ ran.result

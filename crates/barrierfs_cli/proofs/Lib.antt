@@ -1,10 +1,2 @@
 pub mod BlockLines
-pub mod Closed
-pub mod Feeding
-pub mod Lines
-pub mod Numerals
-pub mod Runnable
-pub mod Running
-pub mod Order
 pub mod Ends
-pub mod Opening

@@ -1,9 +1,2 @@
-pub mod Grammar
-pub mod Readers
-pub mod Spelling
-pub mod Words
-pub mod Core
-pub mod Headline
 pub mod Text
-pub mod Report
 pub mod Top

@@ -1,15 +1,9 @@
 -- The text of a report: a line for the steps, and a line for each block.
-use Rattle.std.specs.Prelude.{ℕ, ◌+◌, ◌/◌, ◌%◌, ◌++◌, List, [], ◌∷◌, codes, length, Option, Some, None, zero, suc, slice_get, nat_lt, if◌then◌else◌}
+use Rattle.std.specs.Prelude.{ℕ, ◌+◌, ◌++◌, List, [], codes, length, Option, Some, None, zero, suc, slice_get}
 use Rattle.std.specs.Option.{option_map_or, option_and_then}
 use Rattle.std.specs.Fmt.{decimal}
-
--- a lower-case hexadecimal digit
-abbrev pub hex_digit_text : ℕ → ℕ
-hex_digit_text digit = if nat_lt digit 10 then digit + 48 else digit + 87
-
--- a byte as two of them
-abbrev pub hex_text : ℕ → List ℕ
-hex_text value = hex_digit_text (value / 16) ∷ hex_digit_text (value % 16) ∷ []
+use Rattle.script_grammar.specs.Spelling.{hex_text}
+use Rattle.stack_core.specs.declared.report.Report.{Report}
 
 -- an origin's id, or a dash
 abbrev pub origin_text : Option ℕ → List ℕ
@@ -35,3 +29,7 @@ block_lines image origins b (suc n) = block_line b (byte_of (slice_get image b))
 
 unfoldable pub report_text : ℕ → List (List ℕ) → List (Option ℕ) → List ℕ
 report_text steps image origins = codes "steps " ++ decimal steps ++ codes "\n" ++ block_lines image origins 0 (length image)
+
+-- the text of a report
+abbrev pub text_of : Report → List ℕ
+text_of r = report_text r.cut.trace.steps r.cut.image r.cut.origins

@@ -3,17 +3,18 @@ use Rattle.std.specs.Prelude.{◌≡◌, ℕ, ◌<◌, ◌≤◌, ◌⊎◌, Boo
 use Rattle.std.specs.Str.{bytes_eq}
 use Rattle.std.specs.Io.KnownBytes.{Keeps, Appends, Consumes}
 use Rattle.blk_base.specs.Streams.{Rose, Drained, AppendsFront}
-use Rattle.barrierfs_cli.specs.declared.fault.ScriptKind.{ScriptKind}
+use Rattle.script_grammar.specs.declared.kinds.ScriptKind.{ScriptKind}
 use Rattle.barrierfs_cli.specs.declared.fault.TopFault.{TopFault}
 use Rattle.barrierfs_cli.specs.declared.fault.TopFault.TheVariants as faults
-use Rattle.barrierfs_cli.specs.declared.script.Script.{Script}
-use Rattle.barrierfs_cli.specs.declared.script_error.ScriptError.{ScriptError}
-use Rattle.barrierfs_cli.specs.declared.script_error.ScriptError.TheVariants as errors
+use Rattle.script_grammar.specs.declared.script.Script.{Script}
+use Rattle.script_grammar.specs.declared.script_error.ScriptError.{ScriptError}
+use Rattle.script_grammar.specs.declared.script_error.ScriptError.TheVariants as errors
 use Rattle.blk_base.specs.declared.reading.ReadEnd.{ReadEnd}
 use Rattle.blk_base.specs.declared.reading.ReadEnd.TheVariants as ends
-use Rattle.barrierfs_cli.specs.declared.report.Report.{Report}
-use Rattle.barrierfs_cli.specs.Grammar.{script_of}
-use Rattle.barrierfs_cli.specs.Report.{IsCoreReport, text_of}
+use Rattle.stack_core.specs.declared.report.Report.{Report}
+use Rattle.script_grammar.specs.Grammar.{script_of}
+use Rattle.stack_core.specs.Report.{IsCoreReport}
+use Rattle.barrierfs_cli.specs.Text.{text_of}
 
 -- the one list of words that is built
 abbrev pub is_replay : List (List ℕ) → Bool

@@ -1,21 +1,11 @@
 //! Runs scripts on the model stack, and prints what a power cut leaves.
 #![tactic(auto)]
 
-mod core_run;
 mod fault;
-mod grammar;
-mod line_forms;
-mod reading;
-mod report;
-mod script;
-mod script_error;
-mod spelling;
 #[cfg(test)]
 mod tests;
 mod text;
 mod top;
-mod word_table;
-mod words;
 
 use blk_base::{NoMemory, StdSink, StdSource};
 use fault::TopFault;

@@ -1,11 +1,12 @@
 //! Scripts through the top call, with sources and sinks in memory.
 ghost use Rattle.std.specs.Prelude.{None};
 
-use crate::fault::{ScriptKind, TopFault};
+use crate::fault::TopFault;
 use crate::top::{Outcome, Words, alone};
 use blk_base::{Failed, Image, MemSink, MemSource, NoMemory, PlainSink, PlainSource, Sink, Source};
 use device_epochs::{DeviceSetup, EpochDevice};
 use order_model::{Commands, Parts, lawful_blocks};
+use script_grammar::ScriptKind;
 use std::alloc::Global;
 use std::test::Fail;
 
@@ -23,10 +24,11 @@ fn outcome_of<R: Source, W: Sink>(
     Ok(alone(alloc, &words, src, out))
 }
 
-// The status, whether there is a report, and what was written.
+// The status and the fault, whether there is a report, and what was written.
 #[derive(Drop)]
 struct Ended {
     status: u8,
+    fault: Option<TopFault>,
     reported: bool,
     printed: Vec<u8>,
 }
@@ -37,6 +39,7 @@ fn run(alloc: Global, list: &[&str], input: &[u8]) -> Result<Ended, NoMemory> {
     let outcome = outcome_of(alloc, list, &mut source, &mut sink)?;
     Ok(Ended {
         status: outcome.status,
+        fault: outcome.fault,
         reported: outcome.report.is_some(),
         printed: sink.bytes().to_vec(alloc)?,
     })
@@ -159,6 +162,62 @@ fn cuts_the_power_within_an_epoch(rt: HostRuntime) -> Result<(), Fail> {
 }
 
 #[test]
+fn replays_blocks_without_requests(rt: HostRuntime) -> Result<(), Fail> {
+    let printed = replayed(rt.alloc(), "blocks 4\nevents\n")?;
+    assert_eq!(rt;
+        printed.as_slice(),
+        b"steps 0\nblock 0 00 -\nblock 1 00 -\nblock 2 00 -\nblock 3 00 -\n".as_slice()
+    );
+    Ok(())
+}
+
+#[test]
+fn lets_the_only_ordered_request_carry_the_flag(rt: HostRuntime) -> Result<(), Fail> {
+    let script =
+        "blocks 4\nput 0 10 free\nput 1 11 free\nput 2 12 barrier\nput 3 13 free\nevents\nsubmit x 4\naccept x 4\ndispatch 3\ndispatch 2\naccept\ndispatch 2\nreceive x 2\ntransfer 0 x 2\npersist 0\n";
+    let printed = replayed(rt.alloc(), script)?;
+    assert_eq!(rt;
+        printed.as_slice(),
+        b"steps 3\nblock 0 00 -\nblock 1 00 -\nblock 2 12 2\nblock 3 00 -\n".as_slice()
+    );
+    Ok(())
+}
+
+#[test]
+fn moves_the_flag(rt: HostRuntime) -> Result<(), Fail> {
+    let script =
+        "blocks 3\nput 0 20 ordered\nput 1 21 barrier\nput 2 22 ordered\nevents\nsubmit x 3\naccept x 3\ndispatch 1\naccept\ndispatch 0\naccept\ndispatch 0\nreceive x 3\ntransfer 0 x 2\npersist 1\ntransfer 0\npersist 1\n";
+    let printed = replayed(rt.alloc(), script)?;
+    assert_eq!(rt;
+        printed.as_slice(),
+        b"steps 4\nblock 0 20 0\nblock 1 00 -\nblock 2 00 -\n".as_slice()
+    );
+    Ok(())
+}
+
+#[test]
+fn keeps_two_puts_of_one_block_in_order(rt: HostRuntime) -> Result<(), Fail> {
+    let head =
+        "blocks 1\nput 0 31 ordered\nput 0 32 ordered\nevents\nsubmit x 2\naccept x 2\ndispatch 1\ndispatch 0 x 2\nreceive x 2\n";
+    let ends = [
+        (
+            "transfer 1\ntransfer 0\npersist 0\ntransfer 0\n",
+            "steps 3\nblock 0 31 0\n",
+        ),
+        (
+            "transfer 0 x 2\npersist 1\npersist 0 x 2\n",
+            "steps 3\nblock 0 32 1\n",
+        ),
+    ];
+    for (end, wanted) in ends {
+        let script = format!(in rt.alloc(); "{head}{end}")?;
+        let printed = replayed(rt.alloc(), script.as_str())?;
+        assert_eq!(rt; printed.as_slice(), wanted.as_bytes());
+    }
+    Ok(())
+}
+
+#[test]
 fn refuses_words_that_are_not_built(rt: HostRuntime) -> Result<(), Fail> {
     let alloc = rt.alloc();
     let script = "device 1\nevents\n";
@@ -172,12 +231,22 @@ fn refuses_words_that_are_not_built(rt: HostRuntime) -> Result<(), Fail> {
 #[test]
 fn refuses_what_is_no_script(rt: HostRuntime) -> Result<(), Fail> {
     let alloc = rt.alloc();
-    assert_eq!(rt; refused(alloc, &["replay"], "")?, 3);
-    assert_eq!(rt;
-        refused(alloc, &["replay"], "device 2\nput 0 11 ordered\n")?,
-        3
-    );
-    assert_eq!(rt; refused(alloc, &["replay"], "blocks 4\nevents\n")?, 3);
+    let rows = [
+        ("", 1, ScriptKind::Order),
+        ("device 2\nput 0 11 ordered\n", 3, ScriptKind::Order),
+        (
+            "volume inodes 32 zones 64 journal 128\n",
+            1,
+            ScriptKind::NotBuilt,
+        ),
+        ("# one\nblocks 2\nqueue 65\nevents\n", 3, ScriptKind::Number),
+    ];
+    for (script, line, kind) in rows {
+        let ended = run(alloc, &["replay"], script.as_bytes())?;
+        assert_eq!(rt; ended.status, 3);
+        assert_eq!(rt; ended.fault, Some(TopFault::Script(line, kind)), "{script}");
+        assert!(rt; !ended.reported && ended.printed.is_empty());
+    }
     Ok(())
 }
 

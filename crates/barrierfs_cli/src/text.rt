@@ -1,7 +1,8 @@
 //! The text of a report.
 ghost use Rattle.std.specs.Prelude.{◌≡◌, ℕ, ◌+◌, ◌<◌, ◌≤◌, ◌++◌, length, OnOk, Some, slice_get};
 ghost use Rattle.std.specs.String.{string_bytes};
-ghost use Rattle.barrierfs_cli.specs.Text.{hex_digit_text, hex_text, origin_text, block_line, block_lines, report_text, byte_of, origin_at};
+ghost use Rattle.script_grammar.specs.Spelling.{hex_digit_text, hex_text};
+ghost use Rattle.barrierfs_cli.specs.Text.{origin_text, block_line, block_lines, report_text, byte_of, origin_at};
 
 use blk_base::{Block, Image};
 use std::alloc::AllocError;

@@ -2,18 +2,17 @@
 ghost use Rattle.std.specs.Prelude.{◌≡◌, ℕ, ◌≤◌, ◌+◌, ◌++◌, ◌∷◌, [], false, true, List, Some, None, length, IfOk, IfErr, IfSome, OnOk, IsErrOf};
 ghost use Rattle.blk_base.specs.Streams.{Rose};
 ghost use Rattle.barrierfs_cli.specs.Top.{is_replay, status_of, Told, Streams, Cause, Ran, Did, expected, EndsAs, top_fault, end_fault, IsTextFault};
-ghost use Rattle.barrierfs_cli.specs.Grammar.{script_of};
-ghost use Rattle.barrierfs_cli.specs.declared.script.Script.{Script};
+ghost use Rattle.script_grammar.specs.Grammar.{script_of};
+ghost use Rattle.script_grammar.specs.declared.script.Script.{Script};
 ghost use Rattle.std.specs.String.{string_bytes};
-ghost use Rattle.barrierfs_cli.specs.Report.{IsCoreReport, text_of, Headline};
+ghost use Rattle.stack_core.specs.Report.{IsCoreReport, Headline};
+ghost use Rattle.barrierfs_cli.specs.Text.{text_of};
 
-use crate::core_run::core_run;
 use crate::fault::TopFault;
-use crate::grammar::read_script;
-use crate::report::Report;
-use crate::script_error::ScriptError;
 use crate::text::put_report;
 use blk_base::{NoMemory, ReadEnd, Sink, Source, read_all, write_all};
+use script_grammar::{ScriptError, read_script};
+use stack_core::{Report, core_run};
 use std::alloc::Global;
 use std::marker::Model;
 
