@@ -19,6 +19,19 @@ def device(name, line):
     return name, "\n".join(text) + "\n"
 
 
+def blocks(name, line, batch):
+    """A blocks script: requests go through the scheduler, so many at a time."""
+    body = [line(i) for i in range(REQUESTS)]
+    text = ["blocks %d" % BLOCKS] + body + ["events"]
+    done = 0
+    while done < REQUESTS:
+        n = min(batch, REQUESTS - done)
+        text += [event + " x %d" % n for event in ("submit", "accept", "dispatch 0", "receive", "transfer 0")]
+        done += n
+    text += ["persist 0 x %d" % REQUESTS]
+    return name, "\n".join(text) + "\n"
+
+
 def put(i, kind):
     return "put %d %02x %s" % (i * 7 % BLOCKS, i % 256, kind)
 
@@ -29,6 +42,11 @@ def cases():
     yield device("device-orderless", lambda i: put(i, "free"))
     yield device("device-every-barrier", lambda i: put(i, "barrier"))
     yield device("device-mixed", lambda i: put(i, ("free", "ordered", "barrier")[i % 3]))
+    yield blocks("blocks-thousand-epochs", lambda i: put(i, "barrier" if i % 10 == 9 else "ordered"), 10)
+    yield blocks("blocks-ordered", lambda i: put(i, "ordered"), 32)
+    yield blocks("blocks-orderless", lambda i: put(i, "free"), 32)
+    yield blocks("blocks-every-barrier", lambda i: put(i, "barrier"), 1)
+    yield blocks("blocks-mixed", lambda i: put(i, ("free", "ordered", "barrier")[i % 3]), 3)
 
 
 def main():
