@@ -64,21 +64,32 @@ EachOnce-taken depth i seat seats seats' free free' each lt at removed pushed =
     let moved' = subst (λ (s : Seat). EachOnce depth (remove seats i) (free ++ s.slot ∷ [])) (sym at) moved in
     rw (removed, pushed) moved'
 
+-- without the seat at place i, those that wait are the others
+pub seated-left : (next i : ℕ) (seat : Seat) (slots : List Command) (seats seats' : List Seat) → AreNumbered next (seated slots seats)
+    → i < length seats → seat ≡ get_or seats i seat → seats' ≡ remove seats i
+    → seated slots seats' ≡ without seat.number (seated slots seats)
+seated-left next i seat slots seats seats' numbered lt at removed =
+    let ws = seated slots seats in
+    let len = length-map seats (waiting_at slots) in
+    let within : i < length ws = omega arith in
+    let number = ap (λ (w : Waiting). w.number) (get_or-map (waiting_at slots) seats i seat (waiting_at slots seat) lt) ∙ ap (λ (s : Seat). s.number) (sym at) in
+    ap (seated slots) removed
+    ∙ map-remove (waiting_at slots) seats i
+    ∙ remove-without next ws i (waiting_at slots seat) numbered within
+    ∙ ap (λ n. without n ws) number
+
+pub AreNumbered-left : (next i : ℕ) (slots : List Command) (seats seats' : List Seat) → AreNumbered next (seated slots seats) → seats' ≡ remove seats i → AreNumbered next (seated slots seats')
+AreNumbered-left next i slots seats seats' numbered removed =
+    subst (AreNumbered next) (sym (ap (seated slots) removed ∙ map-remove (waiting_at slots) seats i)) (AreNumbered-remove next (seated slots seats) i numbered)
+
+-- the same, where the command was taken out of its slot
 pub seated-taken : (next depth i : ℕ) (c : Command) (seat : Seat) (slots : List Command) (seats seats' : List Seat) (free : List ℕ) → AreNumbered next (seated slots seats)
     → EachOnce depth seats free → i < length seats → seat ≡ get_or seats i seat → seats' ≡ remove seats i
     → seated (set slots seat.slot c) seats' ≡ without seat.number (seated slots seats)
 seated-taken next depth i c seat slots seats seats' free numbered each lt at removed =
     let moved = EachOnce-taken depth i seat seats seats' free (free ++ seat.slot ∷ []) each lt at removed refl in
     let none = last-not_seated depth seat.slot seats' free moved in
-    let ws = seated slots seats in
-    let len = length-map seats (waiting_at slots) in
-    let within : i < length ws = omega arith in
-    let number = ap (λ (w : Waiting). w.number) (get_or-map (waiting_at slots) seats i seat (waiting_at slots seat) lt) ∙ ap (λ (s : Seat). s.number) (sym at) in
-    seated-set slots seats' seat.slot c none
-    ∙ ap (seated slots) removed
-    ∙ map-remove (waiting_at slots) seats i
-    ∙ remove-without next ws i (waiting_at slots seat) numbered within
-    ∙ ap (λ n. without n ws) number
+    seated-set slots seats' seat.slot c none ∙ seated-left next i seat slots seats seats' numbered lt at removed
 
 pub AreNumbered-taken : (next depth i : ℕ) (c : Command) (seat : Seat) (slots : List Command) (seats seats' : List Seat) (free : List ℕ) → AreNumbered next (seated slots seats)
     → EachOnce depth seats free → i < length seats → seat ≡ get_or seats i seat → seats' ≡ remove seats i
@@ -86,5 +97,4 @@ pub AreNumbered-taken : (next depth i : ℕ) (c : Command) (seat : Seat) (slots 
 AreNumbered-taken next depth i c seat slots seats seats' free numbered each lt at removed =
     let moved = EachOnce-taken depth i seat seats seats' free (free ++ seat.slot ∷ []) each lt at removed refl in
     let none = last-not_seated depth seat.slot seats' free moved in
-    let is = seated-set slots seats' seat.slot c none ∙ ap (seated slots) removed ∙ map-remove (waiting_at slots) seats i in
-    subst (AreNumbered next) (sym is) (AreNumbered-remove next (seated slots seats) i numbered)
+    subst (AreNumbered next) (sym (seated-set slots seats' seat.slot c none)) (AreNumbered-left next i slots seats seats' numbered removed)

@@ -123,6 +123,18 @@ impl CommandQueue {
         self.free.push_reserved(seat.slot);
         Some(mem::replace(&mut self.slots[seat.slot], blank_command()))
     }
+
+    /// The command at place `pick` of the eligible list leaves, where there is one. Its bytes stay in its
+    /// slot, which is free then.
+    pub fn leave(&mut self, pick: u32)
+        ensures { self.new ≡ left self.old (picked self.old pick) }
+    {
+        let Some(at) = find_free(&self.slots, &self.seats, pick) else {
+            return;
+        };
+        let seat = self.seats.remove(at);
+        self.free.push_reserved(seat.slot);
+    }
 }
 
 // A command of no parts, which lies in a free slot.
@@ -295,6 +307,8 @@ mod tests {
         assert_eq!(rt; first_block(q.take(1).as_ref()), Some(2));
         assert!(rt; q.room());
         assert_eq!(rt; first_block(q.peek(0)), Some(1));
+        q.leave(0);
+        assert!(rt; q.is_empty());
         Ok(())
     }
 

@@ -256,7 +256,7 @@ impl OrderedDev for EpochDevice {
         let Some(number) = self.queue.number(pick) else {
             return false;
         };
-        let Some(command) = self.queue.take(pick) else {
+        let Some(command) = self.queue.peek(pick) else {
             return false;
         };
         let first = self.trace.took.first_part(number as usize) as u64;
@@ -265,8 +265,9 @@ impl OrderedDev for EpochDevice {
         note_transfers(&mut trace.moved, self.epoch, first, parts);
         trace.steps += 1;
         put_parts(&mut self.cache, self.epoch, first, parts);
-        complete(&mut self.waiting, &command);
+        complete(&mut self.waiting, command);
         self.epoch = next_epoch(self.epoch, command.barrier);
+        self.queue.leave(pick);
         true
     }
 

@@ -33,72 +33,72 @@ returns-in_default-clause-state c =
 
 pub first_part-first-requires : goal.first_part-first-requires
 first_part-first-requires c =
-    let can = can_move_from c.self.inside c.args.self.now c.args.pick c.in-Some.number c.in-Some-take.command c.self.invariant c.self.view_is c.if-is_held.ensures.value c.in-Some.ensures c.in-Some-take.ensures.command in
+    let can = can_move_from c.self.inside c.args.self.now c.args.pick c.in-Some.number c.in-Some-peek.command.now c.self.invariant c.self.view_is c.if-is_held.ensures.value c.in-Some.ensures c.in-Some-peek.ensures in
     omega (arith, can.number)
 
 pub note_transfers-requires-clause-room : goal.note_transfers-requires-clause-room
 note_transfers-requires-clause-room c =
-    let can = can_move_from c.self.inside c.args.self.now c.args.pick c.in-Some.number c.in-Some-take.command c.self.invariant c.self.view_is c.if-is_held.ensures.value c.in-Some.ensures c.in-Some-take.ensures.command in
+    let can = can_move_from c.self.inside c.args.self.now c.args.pick c.in-Some.number c.in-Some-peek.command.now c.self.invariant c.self.view_is c.if-is_held.ensures.value c.in-Some.ensures c.in-Some-peek.ensures in
     let slice = ap length c.as_slice-parts.ensures in
     omega (arith, can.moved, c.self.invariant.moved, slice)
 
 pub note_transfers-requires-clause-places : goal.note_transfers-requires-clause-places
 note_transfers-requires-clause-places c =
-    let can = can_move_from c.self.inside c.args.self.now c.args.pick c.in-Some.number c.in-Some-take.command c.self.invariant c.self.view_is c.if-is_held.ensures.value c.in-Some.ensures c.in-Some-take.ensures.command in
+    let can = can_move_from c.self.inside c.args.self.now c.args.pick c.in-Some.number c.in-Some-peek.command.now c.self.invariant c.self.view_is c.if-is_held.ensures.value c.in-Some.ensures c.in-Some-peek.ensures in
     let slice = ap length c.as_slice-parts.ensures in
     let first = c.first_part-first.ensures in
     omega (arith, can.places, c.self.invariant.few, slice, first)
 
 pub put_parts-requires-clause-room : goal.put_parts-requires-clause-room
 put_parts-requires-clause-room c =
-    let can = can_move_from c.self.inside c.args.self.now c.args.pick c.in-Some.number c.in-Some-take.command c.self.invariant c.self.view_is c.if-is_held.ensures.value c.in-Some.ensures c.in-Some-take.ensures.command in
+    let can = can_move_from c.self.inside c.args.self.now c.args.pick c.in-Some.number c.in-Some-peek.command.now c.self.invariant c.self.view_is c.if-is_held.ensures.value c.in-Some.ensures c.in-Some-peek.ensures in
     let slice = ap length c.as_slice-parts.ensures in
     let long = c.self.inside.cache.ok.0 in
     omega (arith, can.cache, c.self.invariant.cache, slice, long)
 
 pub put_parts-requires-clause-last : goal.put_parts-requires-clause-last
 put_parts-requires-clause-last c =
-    let can = can_move_from c.self.inside c.args.self.now c.args.pick c.in-Some.number c.in-Some-take.command c.self.invariant c.self.view_is c.if-is_held.ensures.value c.in-Some.ensures c.in-Some-take.ensures.command in
+    let can = can_move_from c.self.inside c.args.self.now c.args.pick c.in-Some.number c.in-Some-peek.command.now c.self.invariant c.self.view_is c.if-is_held.ensures.value c.in-Some.ensures c.in-Some-peek.ensures in
     can.last
 
 pub put_parts-requires-clause-places : goal.put_parts-requires-clause-places
 put_parts-requires-clause-places c =
-    let can = can_move_from c.self.inside c.args.self.now c.args.pick c.in-Some.number c.in-Some-take.command c.self.invariant c.self.view_is c.if-is_held.ensures.value c.in-Some.ensures c.in-Some-take.ensures.command in
+    let can = can_move_from c.self.inside c.args.self.now c.args.pick c.in-Some.number c.in-Some-peek.command.now c.self.invariant c.self.view_is c.if-is_held.ensures.value c.in-Some.ensures c.in-Some-peek.ensures in
     let slice = ap length c.as_slice-parts.ensures in
     let first = c.first_part-first.ensures in
     omega (arith, can.places, c.self.invariant.few, slice, first)
 
 pub complete-requires : goal.complete-requires
 complete-requires c =
-    let can = can_move_from c.self.inside c.args.self.now c.args.pick c.in-Some.number c.in-Some-take.command c.self.invariant c.self.view_is c.if-is_held.ensures.value c.in-Some.ensures c.in-Some-take.ensures.command in
+    let can = can_move_from c.self.inside c.args.self.now c.args.pick c.in-Some.number c.in-Some-peek.command.now c.self.invariant c.self.view_is c.if-is_held.ensures.value c.in-Some.ensures c.in-Some-peek.ensures in
     let room = c.self.invariant.waiting in
     let few = can.completions in
     omega (arith, few, room)
 
 pub next_epoch-self-inside-requires : goal.next_epoch-self-inside-requires
 next_epoch-self-inside-requires c =
-    let can = can_move_from c.self.inside c.args.self.now c.args.pick c.in-Some.number c.in-Some-take.command c.self.invariant c.self.view_is c.if-is_held.ensures.value c.in-Some.ensures c.in-Some-take.ensures.command in
+    let can = can_move_from c.self.inside c.args.self.now c.args.pick c.in-Some.number c.in-Some-peek.command.now c.self.invariant c.self.view_is c.if-is_held.ensures.value c.in-Some.ensures c.in-Some-peek.ensures in
     omega (arith, can.epoch, c.self.invariant.few)
 
 pub overflow_add-trace : goal.overflow_add-trace
 overflow_add-trace c =
-    let can = can_move_from c.self.inside c.args.self.now c.args.pick c.in-Some.number c.in-Some-take.command c.self.invariant c.self.view_is c.if-is_held.ensures.value c.in-Some.ensures c.in-Some-take.ensures.command in
+    let can = can_move_from c.self.inside c.args.self.now c.args.pick c.in-Some.number c.in-Some-peek.command.now c.self.invariant c.self.view_is c.if-is_held.ensures.value c.in-Some.ensures c.in-Some-peek.ensures in
     omega (arith, can.steps, c.self.invariant.few)
 
-pub invariant_of-self-2 : goal.invariant_of-self-2
-invariant_of-self-2 c =
-    let can = can_move_from c.self.inside c.args.self.now c.args.pick c.in-Some.number c.in-Some-take.command c.self.invariant c.self.view_is c.if-is_held.ensures.value c.in-Some.ensures c.in-Some-take.ensures.command in
+pub invariant_of-self : goal.invariant_of-self
+invariant_of-self c =
+    let can = can_move_from c.self.inside c.args.self.now c.args.pick c.in-Some.number c.in-Some-peek.command.now c.self.invariant c.self.view_is c.if-is_held.ensures.value c.in-Some.ensures c.in-Some-peek.ensures in
     let d = c.self.inside in
     let s = state_of d in
     let h = c.self.invariant in
-    let w : Waiting = record { number = c.in-Some.number; command = c.in-Some-take.command } in
+    let w : Waiting = record { number = c.in-Some.number; command = c.in-Some-peek.command.now } in
     let first = c.first_part-first.result in
     let slice = c.as_slice-parts.ensures in
     let moved = ap (λ (t : HistoryState Transfer). t.items) c.note_transfers.ensures ∙ ap (λ (ps : List Part). s.moved ++ transfers s.epoch first ps) slice in
     let waiting = ap (λ (b : Buffer Completion). b.items) c.complete.ensures in
-    let queue = c.take.ensures.state ∙ ap (left d.queue) can.picked in
+    let queue = c.leave.ensures ∙ ap (left d.queue) can.picked in
     let cache = c.put_parts.ensures.items ∙ ap (λ (ps : List Part). put_all (entries s.epoch first ps) s.cache) slice in
-    let to = moved_to s w first c.note_transfers.new.moved.items c.complete.new.waiting.items c.take.new.self c.put_parts.new.cache.items c.next_epoch-self-inside.result
+    let to = moved_to s w first c.note_transfers.new.moved.items c.complete.new.waiting.items c.leave.new.self c.put_parts.new.cache.items c.next_epoch-self-inside.result
     c.first_part-first.ensures moved waiting queue cache c.next_epoch-self-inside.ensures in
     let moved_room = ap (λ (t : HistoryState Transfer). t.room) c.note_transfers.ensures in
     let waiting_room = ap (λ (b : Buffer Completion). b.capacity) c.complete.ensures in
@@ -114,22 +114,22 @@ invariant_of-self-2 c =
 
 pub returns-clause-when : goal.returns-clause-when
 returns-clause-when c =
-    let can = can_move_from c.self.inside c.args.self.now c.args.pick c.in-Some.number c.in-Some-take.command c.self.invariant c.self.view_is c.if-is_held.ensures.value c.in-Some.ensures c.in-Some-take.ensures.command in
+    let can = can_move_from c.self.inside c.args.self.now c.args.pick c.in-Some.number c.in-Some-peek.command.now c.self.invariant c.self.view_is c.if-is_held.ensures.value c.in-Some.ensures c.in-Some-peek.ensures in
     a_step (length (transferable c.args.self.now)) c.args.pick (subst (λ (t : DeviceState). c.args.pick < length (transferable t)) c.self.view_is can.within)
 
 pub returns-clause-state : goal.returns-clause-state
 returns-clause-state c =
-    let can = can_move_from c.self.inside c.args.self.now c.args.pick c.in-Some.number c.in-Some-take.command c.self.invariant c.self.view_is c.if-is_held.ensures.value c.in-Some.ensures c.in-Some-take.ensures.command in
+    let can = can_move_from c.self.inside c.args.self.now c.args.pick c.in-Some.number c.in-Some-peek.command.now c.self.invariant c.self.view_is c.if-is_held.ensures.value c.in-Some.ensures c.in-Some-peek.ensures in
     let d = c.self.inside in
     let s = state_of d in
     let h = c.self.invariant in
-    let w : Waiting = record { number = c.in-Some.number; command = c.in-Some-take.command } in
+    let w : Waiting = record { number = c.in-Some.number; command = c.in-Some-peek.command.now } in
     let first = c.first_part-first.result in
     let slice = c.as_slice-parts.ensures in
     let moved = ap (λ (t : HistoryState Transfer). t.items) c.note_transfers.ensures ∙ ap (λ (ps : List Part). s.moved ++ transfers s.epoch first ps) slice in
     let waiting = ap (λ (b : Buffer Completion). b.items) c.complete.ensures in
-    let queue = c.take.ensures.state ∙ ap (left d.queue) can.picked in
+    let queue = c.leave.ensures ∙ ap (left d.queue) can.picked in
     let cache = c.put_parts.ensures.items ∙ ap (λ (ps : List Part). put_all (entries s.epoch first ps) s.cache) slice in
-    let to = moved_to s w first c.note_transfers.new.moved.items c.complete.new.waiting.items c.take.new.self c.put_parts.new.cache.items c.next_epoch-self-inside.result
+    let to = moved_to s w first c.note_transfers.new.moved.items c.complete.new.waiting.items c.leave.new.self c.put_parts.new.cache.items c.next_epoch-self-inside.result
     c.first_part-first.ensures moved waiting queue cache c.next_epoch-self-inside.ensures in
     to ∙ sym can.moves ∙ ap (λ (t : DeviceState). transferred t c.args.pick) c.self.view_is
