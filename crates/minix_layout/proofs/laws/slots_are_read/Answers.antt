@@ -1,0 +1,5 @@
+use Rattle.minix_layout.specs.SlotLaws.{slot_read_back, other_slot, byte_beside_slot}
+use Rattle.minix_layout.proofs.laws.slots_are_read.Goals as goal
+
+pub returns : goal.returns
+returns c = record { read = slot_read_back; other = other_slot; bytes = byte_beside_slot }

@@ -1,0 +1,5 @@
+use Rattle.minix_layout.specs.SuperLaws.{super_read}
+use Rattle.minix_layout.proofs.laws.super_is_read.Goals as goal
+
+pub returns : goal.returns
+returns c = super_read

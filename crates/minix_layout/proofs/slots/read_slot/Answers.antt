@@ -1,0 +1,11 @@
+use Rattle.minix_layout.specs.SlotLaws.{slot_free, slot_fault, slot_bad}
+use Rattle.minix_layout.proofs.slots.read_slot.Goals as goal
+
+pub returns-clause-free : goal.returns-clause-free
+returns-clause-free c = rw (c.slot_in.ensures.value, c.part.ensures.value) (slot_free _)
+
+pub returns-clause-fault : goal.returns-clause-fault
+returns-clause-fault c = rw c.slot_in.ensures.value (slot_fault _)
+
+pub returns-clause-bad : goal.returns-clause-bad
+returns-clause-bad c = rw (c.slot_in.ensures.value, c.part.ensures.value) (slot_bad _)

@@ -1,0 +1,48 @@
+-- Slots of directories, 16 bytes each: the number of an inode, and a name of at most 14 bytes.
+use Rattle.std.specs.Prelude.{◌≡◌, ℕ, ◌^◌, ◌<◌, ◌==◌, Bool, ◌||◌, if◌then◌else◌, IsTrue, false, List, [], ◌∷◌, length, Option, Some, None, Result, Ok, Err}
+use Rattle.std.specs.List.{list_any, before_first}
+use Rattle.byte_fields.specs.Fields.{zeros, bytes_at, put_bytes, number_at, field, written}
+use Rattle.byte_fields.specs.Fields.Order.{little}
+use Rattle.minix_layout.specs.declared.slot.Slot.{Slot}
+use Rattle.minix_layout.specs.declared.fault.LayoutFault.{LayoutFault}
+use Rattle.minix_layout.specs.declared.fault.LayoutFault.TheVariants.{BadSlot}
+use Rattle.minix_layout.specs.Words.{is_name}
+
+-- the name of a slot ends at its first byte of 0, or after 14 bytes
+abbrev pub name_in : List ℕ → List ℕ
+name_in bytes = before_first (λ b. b == 0) (bytes_at 14 2 bytes)
+
+-- no file can have this name
+abbrev pub is_bad_name : List ℕ → Bool
+is_bad_name name = (length name == 0) || list_any (λ b. b == 47) name
+
+-- the number of a slot's inode; 0 where the slot is free
+abbrev pub inode_in : List ℕ → ℕ
+inode_in bytes = number_at little 2 0 bytes
+
+-- what the 16 bytes of a slot say
+unfoldable pub slot_of : List ℕ → Result (Option Slot) LayoutFault
+slot_of bytes =
+    if inode_in bytes == 0 then Ok None
+    else if is_bad_name (name_in bytes) then Err BadSlot
+    else Ok (Some (record { inode = inode_in bytes; name = name_in bytes }))
+
+-- the 16 bytes of a slot: the number, the name, and bytes of 0
+unfoldable pub slot_bytes : Option Slot → List ℕ
+slot_bytes None = zeros 16
+slot_bytes (Some s) = written little (field 2 0 s.inode ∷ []) (put_bytes 2 s.name (zeros 16))
+
+-- what holds of each slot: its name is one
+abbrev pub IsNamed : Slot → Type 0
+IsNamed s = IsTrue (is_name s.name)
+
+-- the slot is in use, and its name has no slash
+abbrev pub IsReadable : Slot → Type 0
+IsReadable s = (0 < s.inode) × (list_any (λ b. b == 47) s.name ≡ false)
+
+-- a slot that is in use, as it can be read
+pub record IsEntry (s : Slot) : Type 0 where
+  pub used : 0 < s.inode
+  pub fits : s.inode < 2 ^ 16
+  pub name : IsNamed s
+  pub no_slash : list_any (λ b. b == 47) s.name ≡ false

@@ -1,0 +1,36 @@
+//! The layout of a Minix V1 file system: superblock, inodes and slots of directories, in blocks of
+//! 1,024 bytes.
+//!
+//! The format is the one of Linux's `include/uapi/linux/minix_fs.h`, version 1 with names of 14 bytes.
+//! All numbers have their lowest byte first. Each part stands in a file of its own: `superblock`, `table`
+//! for the inodes, and `slots` for directories; `specs/` has each as a table of fields, and what is read
+//! of it. `laws` says that what is written is read back.
+//!
+//! Stands on `blk_base`, whose `Block` has the bytes, and `byte_fields`, which reads and writes them.
+#![tactic(auto)]
+
+mod division;
+mod fault;
+mod geometry;
+mod inode;
+mod laws;
+mod name;
+mod parts;
+mod slot;
+mod slots;
+mod superblock;
+mod table;
+#[cfg(test)]
+mod tests;
+mod zones;
+
+pub use division::{Geometry, TooSmall};
+pub use fault::LayoutFault;
+pub use inode::Inode;
+pub use laws::{inodes_are_read, slots_are_read, super_is_read};
+pub use name::Name;
+pub use slot::Slot;
+pub use slots::{read_slot, write_slot};
+pub use superblock::{read_super, write_super};
+pub use table::{read_inode, write_inode};
+pub use zones::Zones;
