@@ -2,7 +2,7 @@
 use Rattle.std.specs.Prelude.{ℕ, ◌+◌, ◌++◌, List, [], codes, length, Option, Some, None, zero, suc, slice_get}
 use Rattle.std.specs.Option.{option_map_or, option_and_then}
 use Rattle.std.specs.Fmt.{decimal}
-use Rattle.script_grammar.specs.Spelling.{hex_text}
+use Rattle.byte_text.specs.Hex.{hex_text}
 use Rattle.stack_core.specs.declared.report.Report.{Report}
 
 -- an origin's id, or a dash

@@ -1,30 +1,11 @@
 //! The text of a report.
-ghost use Rattle.std.specs.Prelude.{◌≡◌, ℕ, ◌+◌, ◌<◌, ◌≤◌, ◌++◌, length, OnOk, Some, slice_get};
+ghost use Rattle.std.specs.Prelude.{◌≡◌, ℕ, ◌<◌, ◌++◌, length, OnOk, Some, slice_get};
 ghost use Rattle.std.specs.String.{string_bytes};
-ghost use Rattle.script_grammar.specs.Spelling.{hex_digit_text, hex_text};
 ghost use Rattle.barrierfs_cli.specs.Text.{origin_text, block_line, block_lines, report_text, byte_of, origin_at};
 
 use blk_base::{Block, Image};
+use byte_text::put_hex;
 use std::alloc::AllocError;
-
-fn hex_char(digit: u8) -> char
-    requires { digit < 16 }
-    ensures value { result ≡ hex_digit_text digit }
-    ensures ascii { result < 128 }
-{
-    if digit < 10 {
-        (b'0' + digit) as char
-    } else {
-        (b'a' + (digit - 10)) as char
-    }
-}
-
-fn put_hex(out: &mut String, value: u8) -> Result<(), AllocError>
-    ensures { OnOk result (string_bytes out.new ≡ string_bytes out.old ++ hex_text value) }
-{
-    out.push(hex_char(value / 16))?;
-    out.push(hex_char(value % 16))
-}
 
 fn put_origin(out: &mut String, origin: Option<u64>) -> Result<(), AllocError>
     ensures { OnOk result (string_bytes out.new ≡ string_bytes out.old ++ origin_text origin) }

@@ -5,7 +5,8 @@ use Rattle.std.specs.Option.{option_and_then, option_map}
 use Rattle.std.proofs.lemmas.Bool.{and_parts, and_from, ne_eqb, le-leb, leb-true, not_from_false}
 use Rattle.std.proofs.lemmas.Bool.Decides.{nat_tests}
 use Rattle.std.proofs.lemmas.Fmt.{decimal_by_steps}
-use Rattle.script_grammar.specs.Spelling.{is_digit, is_numeral, value_after, numeral, hex_digit, hex_byte, hex_digit_text, hex_text}
+use Rattle.byte_text.specs.Hex.{hex_digit_text, hex_text}
+use Rattle.script_grammar.specs.Spelling.{is_digit, is_numeral, value_after, numeral, hex_digit, hex_byte}
 use Rattle.script_grammar.proofs.SpelledWords.{lacks, IsClear}
 
 -- ---- digits

@@ -15,7 +15,7 @@ use Rattle.script_grammar.specs.declared.script.EventWord.TheVariants.{One}
 use Rattle.script_grammar.specs.declared.script.CoreEvent.{CoreEvent}
 use Rattle.script_grammar.specs.declared.script.CoreEvent.TheVariants.{Submit, Accept, Dispatch, Receive, Transfer, Persist}
 use Rattle.script_grammar.specs.Grammar.{is_scheduled}
-use Rattle.script_grammar.specs.Spelling.{hex_text}
+use Rattle.byte_text.specs.Hex.{hex_text}
 
 -- ---- the words of each line
 

@@ -50,12 +50,3 @@ hex_digit b = if is_digit b then Some (b - 48) else (if nat_le 97 b && nat_le b 
 abbrev pub hex_byte : List ℕ → Option ℕ
 hex_byte (h ∷ l ∷ []) = option_and_then (λ x. option_map (λ y. 16 * x + y) (hex_digit l)) (hex_digit h)
 hex_byte word = None
-
--- ---- how numbers are written
-
-abbrev pub hex_digit_text : ℕ → ℕ
-hex_digit_text digit = if nat_lt digit 10 then digit + 48 else digit + 87
-
--- a byte as two hexadecimal digits in lower case
-abbrev pub hex_text : ℕ → List ℕ
-hex_text value = hex_digit_text (value / 16) ∷ hex_digit_text (value % 16) ∷ []
