@@ -1,0 +1,7 @@
+pub mod Entries
+pub mod PathForms
+pub mod Walks
+pub mod Lookups
+pub mod ListedOnce
+pub mod TextListed
+pub mod PathsListed

@@ -1,0 +1,25 @@
+//! Trees of directories and files, the paths that lead through them, and their text.
+//!
+//! A tree has its nodes by their births: the root has birth 0, and a node that was read of a volume has the
+//! number of its inode. `node` has the parts of a tree, `maps` the maps in them, `path` reads paths, and
+//! `text` writes the text of a tree. `specs/` has what a path leads to, when two trees have the same
+//! metadata, and the text. `specs/Text.antt` has the text as it is made, `specs/Listing.antt` the names of a
+//! tree in its order, and `laws` says that the text has the lines of each path once.
+//!
+//! Stands on `minix_layout` for the names of 1 to 14 bytes, `blk_base` for the bodies of files, and
+//! `byte_text`.
+#![tactic(auto)]
+
+mod laws;
+mod maps;
+mod node;
+mod path;
+#[cfg(test)]
+mod tests;
+mod text;
+
+pub use laws::texts_list_paths;
+pub use maps::{FileBlocks, Names};
+pub use node::{Directory, File, Node, Tree};
+pub use path::{Path, is_dot, paths_are_spelled, read_path};
+pub use text::put_tree;

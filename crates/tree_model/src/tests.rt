@@ -1,0 +1,116 @@
+use super::*;
+use blk_base::{Block, NoMemory};
+use minix_layout::Name;
+use std::alloc::{AllocError, Global};
+use std::test::Fail;
+
+fn name(bytes: &[u8]) -> Result<Name, Fail> {
+    Ok(Name::of(bytes).ok_or("no name")?)
+}
+
+fn directory(alloc: Global, names: &[(&[u8], u64)]) -> Result<Node, Fail> {
+    let mut map = Names::new(alloc);
+    for (bytes, birth) in names {
+        map.put(name(bytes)?, *birth)?;
+    }
+    Ok(Node::Directory(Directory {
+        parent: 0,
+        slots: 2,
+        names: map,
+    }))
+}
+
+// Blocks 0, 2, 3 and 4 are mapped, and the size ends in block 3.
+fn file(alloc: Global) -> Result<Node, NoMemory> {
+    let mut last_one = Block::fill(0);
+    last_one.set(1023, 1);
+    let mut blocks = FileBlocks::new(alloc);
+    blocks.put(4, Block::fill(9))?;
+    blocks.put(3, Block::fill(7))?;
+    blocks.put(2, last_one)?;
+    blocks.put(0, Block::fill(b'a'))?;
+    Ok(Node::File(File {
+        size: 3075,
+        links: 2,
+        blocks,
+    }))
+}
+
+const TEXT: &str = "dir /
+file /a size 3075 links 2
+block 0 1024x61
+block 2 1023x00+1x01
+block 3 3x07
+dir /d
+link /d/a /a
+dir /d/e
+other /x\\x20\\x5c\\xff mode 020644
+";
+
+#[test]
+fn shows_a_tree(rt: HostRuntime) -> Result<(), Fail> {
+    let alloc = rt.alloc();
+    let mut tree = Tree::new(alloc);
+    tree.put(4, Node::Other(0o020644))?;
+    tree.put(3, directory(alloc, &[])?)?;
+    tree.put(2, file(alloc)?)?;
+    tree.put(1, directory(alloc, &[(b"e", 3), (b"a", 2)])?)?;
+    tree.put(
+        0,
+        directory(alloc, &[(b"x \\\xFF", 4), (b"d", 1), (b"a", 2)])?,
+    )?;
+    let mut out = String::new(alloc);
+    put_tree(alloc, &mut out, tree)?;
+    assert_eq!(rt; out.as_str(), TEXT);
+    texts_list_paths();
+    Ok(())
+}
+
+fn shown(alloc: Global, path: &Option<Path>) -> Result<String, AllocError> {
+    format!(in alloc; "{path:?}")
+}
+
+#[test]
+fn reads_paths(rt: HostRuntime) -> Result<(), Fail> {
+    let rows: [(&[u8], &str); 10] = [
+        (b"/", "Some(Path { names: [] })"),
+        (b"/a", "Some(Path { names: [[97]] })"),
+        (b"/a/b", "Some(Path { names: [[97], [98]] })"),
+        (
+            b"/Z_0/..-",
+            "Some(Path { names: [[90, 95, 48], [46, 46, 45]] })",
+        ),
+        (b"", "None"),
+        (b"a", "None"),
+        (b"/a/", "None"),
+        (b"//a", "None"),
+        (b"/.", "None"),
+        (b"/a b", "None"),
+    ];
+    for (text, path) in rows {
+        let read = read_path(rt.alloc(), text)?;
+        assert_eq!(rt; shown(rt.alloc(), &read)?.as_str(), path);
+    }
+    let path = read_path(rt.alloc(), b"/a/bc")?.ok_or("no path")?;
+    let last = path.as_slice().last().ok_or("no name")?;
+    assert_eq!(rt; last.as_slice(), b"bc".as_slice());
+    assert!(rt; is_dot(b".") && is_dot(b"..") && !is_dot(b"..."));
+    paths_are_spelled();
+    Ok(())
+}
+
+#[test]
+fn copies_names(rt: HostRuntime) -> Result<(), Fail> {
+    let mut names = Names::new(rt.alloc());
+    names.put(name(b"b")?, 7)?;
+    names.put(name(b"a")?, 5)?;
+    names.put(name(b"b")?, 8)?;
+    let copy = names.copy(rt.alloc())?;
+    assert_eq!(rt; copy.get(&name(b"a")?), Some(5));
+    assert_eq!(rt; copy.get(&name(b"b")?), Some(8));
+    assert_eq!(rt; copy.get(&name(b"c")?), None);
+    assert_eq!(rt; copy.as_map().len(), 2);
+    let blocks = FileBlocks::new(rt.alloc());
+    assert!(rt; blocks.as_map().is_empty());
+    Ok(())
+}
