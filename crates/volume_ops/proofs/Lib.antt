@@ -1,0 +1,9 @@
+pub mod GoesOn
+pub mod SlotScans
+pub mod Visited
+pub mod UnmetMarks
+pub mod WalkSteps
+pub mod Bodies
+pub mod DeviceReads
+pub mod ZoneNumbers
+pub mod ZoneScans

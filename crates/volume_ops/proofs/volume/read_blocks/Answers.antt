@@ -1,0 +1,29 @@
+use Rattle.std.proofs.Common.{◌≡◌, ◌<◌, length, sym, ap, ◌∙◌, subst, arith, length-set, take, ◌+◌}
+use Rattle.order_model.specs.Steps.{Reads}
+use Rattle.volume_ops.specs.DeviceReads.{any_command, more_reads, quiet_after, same_surface}
+use Rattle.volume_ops.proofs.DeviceReads.{one_more}
+use Rattle.volume_ops.proofs.volume.read_blocks.Goals as goal
+
+pub read-requires-clause-quiet : goal.read-requires-clause-quiet
+read-requires-clause-quiet g c = quiet_after _ _ c.loop-block.invariant.reads c.requires.quiet
+
+pub loop-block-preserved : goal.loop-block-preserved
+loop-block-preserved g c =
+    let d = g.D.OrderedDev in
+    let laws = g.met.D.OrderedDev in
+    let now = d.state c.loop-block.dev in
+    let block = c.loop-block.block in
+    let so_far = c.loop-block.invariant in
+    let after = c.in-Ok.ensures.state in
+    let step = laws.reads now block so_far.valid in
+    let below : block < c.args.blocks = omega arith in
+    record {
+      valid = subst d.valid (sym after) step.0;
+      reads = more_reads _ _ _ so_far.reads (subst (λ s. Reads (d.seen now) (d.seen s)) (sym after) step.1);
+      len = ap length c.put.ensures ∙ (length-set c.loop-block.image block c.in-Ok.body ∙ so_far.len);
+      same = subst (λ i. take (block + 1) i ≡ take (block + 1) (d.seen (d.state c.args.dev.now)).surface) (sym c.put.ensures)
+          (one_more c.loop-block.image (d.seen (d.state c.args.dev.now)).surface (d.seen now).surface block c.args.blocks c.in-Ok.body
+          below c.requires.whole so_far.len (same_surface _ _ so_far.reads) c.in-Ok.ensures.body so_far.same);
+      sound = λ sound. subst d.sound (sym after) (laws.stays_sound now any_command block (so_far.sound sound)).4;
+      no_fault = λ sound. ap (λ s. (d.seen s).faults) after ∙ ((laws.no_fault now block so_far.valid (so_far.sound sound)).1 ∙ so_far.no_fault sound);
+    }

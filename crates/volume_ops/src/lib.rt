@@ -1,0 +1,32 @@
+//! Minix V1 volumes: reading all of one, its walk, and the tree that it stands for.
+//!
+//! `specs/Walk.antt` has the walk, as a program that asks for blocks (`specs/Reads.antt`): from the root it
+//! tests each inode, its zones (`specs/Zones.antt`) and a directory's slots (`specs/Slots.antt`), and ends with
+//! the nodes that it found or with the first fault and its block. `specs/Volume.antt` has the tree of a volume,
+//! and its metadata, the blocks that the walk reads.
+//!
+//! Stands on `minix_layout` and `inode_ops` for the format, `tree_model` for trees, and the trait of devices of
+//! `order_model`, which it reads from.
+#![tactic(auto)]
+
+mod disk;
+mod fault;
+mod found;
+mod laws;
+mod marks;
+mod places;
+mod slots;
+#[cfg(test)]
+mod tests;
+mod visit;
+mod volume;
+mod walk;
+mod walk_fault;
+mod zones;
+
+pub use fault::VolumeFault;
+pub use found::{Found, FoundFile, FoundNode, Mapped, MappedZones};
+pub use laws::{
+    same_metadata_gives_alike_trees, trees_are_rooted, trees_have_fields, walks_read_metadata_alone,
+};
+pub use volume::Volume;

@@ -1,0 +1,9 @@
+use super::*;
+
+#[test]
+fn knows_the_laws_of_the_walk() {
+    walks_read_metadata_alone();
+    trees_have_fields();
+    trees_are_rooted();
+    same_metadata_gives_alike_trees();
+}
