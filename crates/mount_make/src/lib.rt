@@ -1,0 +1,16 @@
+//! Mounting: from an image on a device to the volume that it has.
+//!
+//! `mount` tests the superblock, that the image is whole, and that no journal stands behind the volume (one is
+//! refused so far), and then reads the volume. `specs/Images.antt` has the tests in their order.
+//!
+//! Stands on `volume_ops`, whose walk finds the faults behind the superblock, and `minix_layout`.
+#![tactic(auto)]
+
+mod fault;
+mod journal;
+mod mounting;
+#[cfg(test)]
+mod tests;
+
+pub use fault::{ImageFault, MountFault};
+pub use mounting::{Mounted, mount};

@@ -1,0 +1,461 @@
+//! Images that are put together by the writers of the layout, and then damaged.
+ghost use Rattle.std.specs.Prelude.{◌<◌};
+
+use super::*;
+use blk_base::{Block, Image, NoMemory};
+use device_epochs::{DeviceSetup, EpochDevice};
+use minix_layout::{Geometry, Inode, Name, Slot, Zones, write_inode, write_slot, write_super};
+use std::alloc::Global;
+use std::test::Fail;
+use tree_model::put_tree;
+use volume_ops::Volume;
+
+const DIRECTORY: u16 = 0o040755;
+
+const FILE: u16 = 0o100644;
+
+const DEVICE: u16 = 0o020666;
+
+// An inode as other systems write it, with an owner and a time.
+fn inode(mode: u16, size: u32, links: u8, zones: [u16; 9]) -> Inode {
+    Inode {
+        mode,
+        uid: 1000,
+        size,
+        time: 1_700_000_000,
+        gid: 100,
+        links,
+        zones: Zones::of(zones),
+    }
+}
+
+fn put_super(blocks: &mut [Block], g: &Geometry) {
+    if let Some(block) = blocks.get_mut(1) {
+        *block = write_super(g);
+    }
+}
+
+fn put_body(blocks: &mut [Block], zone: usize, value: u8) {
+    if let Some(block) = blocks.get_mut(zone) {
+        *block = Block::fill(value);
+    }
+}
+
+// Inode `number` of a table that begins at block `table`.
+fn put_inode(blocks: &mut [Block], table: u16, number: u16, i: &Inode) {
+    let place = number.saturating_sub(1);
+    if let Some(block) = blocks.get_mut(usize::from(table) + usize::from(place / 32)) {
+        write_inode(block, (place % 32) as u8, i);
+    }
+}
+
+fn put_name(blocks: &mut [Block], zone: usize, at: u8, inode: u16, name: &[u8])
+    requires { at < 64 }
+{
+    if let Some(block) = blocks.get_mut(zone)
+        && let Some(name) = Name::of(name)
+    {
+        write_slot(block, at, Some(&Slot { inode, name }));
+    }
+}
+
+fn put_number(blocks: &mut [Block], zone: usize, at: usize, number: u8)
+    requires { at < 512 }
+{
+    if let Some(block) = blocks.get_mut(zone) {
+        block.set(2 * at, number);
+    }
+}
+
+fn empty(alloc: Global, blocks: usize) -> Result<Vec<Block>, NoMemory> {
+    let mut list = Vec::new(alloc);
+    for _ in 0..blocks {
+        list.push(Block::fill(0))?;
+    }
+    Ok(list)
+}
+
+fn bytes_of(alloc: Global, blocks: &[Block]) -> Result<Vec<u8>, NoMemory> {
+    let mut bytes = Vec::new(alloc);
+    for block in blocks {
+        bytes.extend_from_slice(block.as_slice())?;
+    }
+    Ok(bytes)
+}
+
+// 64 inodes in blocks 4 and 5, and zones 6 to 39.
+const GEOMETRY: Geometry = Geometry {
+    inodes: 64,
+    zones: 40,
+    imap: 1,
+    zmap: 1,
+    first: 6,
+    width: 14,
+};
+
+// A root with 70 slots in two zones, some of them free; a file with blocks at each level of its map, holes and
+// two names; a directory with a file; and a device.
+fn sample(alloc: Global) -> Result<Vec<Block>, NoMemory> {
+    let mut b = empty(alloc, 40)?;
+    put_super(&mut b, &GEOMETRY);
+    let root = inode(DIRECTORY, 1120, 3, [6, 7, 0, 0, 0, 0, 0, 0, 0]);
+    put_inode(&mut b, 4, 1, &root);
+    let big = inode(FILE, 268_966_912, 2, [8, 0, 0, 0, 0, 0, 9, 10, 14]);
+    put_inode(&mut b, 4, 2, &big);
+    let dir = inode(DIRECTORY, 48, 2, [19, 0, 0, 0, 0, 0, 0, 0, 0]);
+    put_inode(&mut b, 4, 3, &dir);
+    let small = inode(FILE, 5, 1, [20, 0, 0, 0, 0, 0, 0, 0, 0]);
+    put_inode(&mut b, 4, 33, &small);
+    let device = inode(DEVICE, u32::MAX, 1, [0x0103, 1, 1, 1, 1, 1, 1, 1, 1]);
+    put_inode(&mut b, 4, 64, &device);
+    put_names(&mut b);
+    put_bodies(&mut b);
+    Ok(b)
+}
+
+fn put_names(b: &mut [Block]) {
+    put_name(b, 6, 0, 1, b".");
+    put_name(b, 6, 1, 1, b"..");
+    put_name(b, 6, 2, 2, b"bg");
+    put_name(b, 6, 3, 0, b"a/b");
+    put_name(b, 6, 4, 3, b"dr");
+    put_name(b, 6, 5, 2, b"lk");
+    put_name(b, 7, 5, 64, b"zz");
+    put_name(b, 19, 0, 3, b".");
+    put_name(b, 19, 1, 1, b"..");
+    put_name(b, 19, 2, 33, b"abcdefghijklmn");
+}
+
+// Blocks 0, 6, 7, 262, 518, 519 and 262,662 of the large file, and the one of the small file.
+fn put_bodies(b: &mut [Block]) {
+    put_body(b, 8, 0x61);
+    put_body(b, 9, 0x62);
+    put_number(b, 10, 0, 11);
+    put_number(b, 10, 255, 12);
+    put_number(b, 10, 511, 13);
+    put_body(b, 11, 0x63);
+    put_body(b, 12, 0x64);
+    put_body(b, 13, 0x65);
+    put_number(b, 14, 0, 15);
+    put_number(b, 14, 511, 17);
+    put_number(b, 15, 0, 16);
+    put_body(b, 16, 0x66);
+    put_number(b, 17, 511, 18);
+    put_body(b, 18, 0x67);
+    put_body(b, 20, 0x68);
+}
+
+const SAMPLE: &str = "\
+dir /
+file /bg size 268966912 links 2
+block 0 1024x61
+block 6 1024x62
+block 7 1024x63
+block 262 1024x64
+block 518 1024x65
+block 519 1024x66
+block 262662 1024x67
+dir /dr
+file /dr/abcdefghijklmn size 5 links 1
+block 0 5x68
+link /lk /bg
+other /zz mode 020666
+";
+
+// The image of these blocks, with numbers of two bytes written at places in it.
+fn damaged(alloc: Global, blocks: &[Block], patches: &[(usize, u16)]) -> Result<Vec<u8>, NoMemory> {
+    let mut bytes = bytes_of(alloc, blocks)?;
+    for (at, number) in patches {
+        if let Some(low) = bytes.get_mut(*at) {
+            *low = (*number % 256) as u8;
+        }
+        if let Some(high) = bytes.get_mut(at.saturating_add(1)) {
+            *high = (*number / 256) as u8;
+        }
+    }
+    Ok(bytes)
+}
+
+// The volume of these bytes, or their fault.
+fn mounted(alloc: Global, bytes: &[u8]) -> Result<Volume, MountFault> {
+    let Ok(image) = Image::from_bytes(alloc, bytes) else {
+        return Err(MountFault::NoMemory);
+    };
+    let setup = DeviceSetup {
+        depth: 1,
+        limit: 1,
+        fail_at: None,
+        bad_read: None,
+        cut_at: None,
+    };
+    let Ok(mut device) = EpochDevice::make(alloc, image, setup) else {
+        return Err(MountFault::NoMemory);
+    };
+    mount(alloc, &mut device).map(|mounted| mounted.volume)
+}
+
+// The text of the tree of these bytes; no text where they have none.
+fn shown(alloc: Global, bytes: &[u8]) -> Result<String, NoMemory> {
+    let mut text = String::new(alloc);
+    if let Ok(volume) = mounted(alloc, bytes) {
+        put_tree(alloc, &mut text, volume.tree(alloc)?)?;
+    }
+    Ok(text)
+}
+
+fn is_refused(alloc: Global, bytes: &[u8], kind: ImageFault, block: u32) -> bool {
+    match mounted(alloc, bytes) {
+        Err(fault) => fault == MountFault::Image(kind, block),
+        Ok(_) => false,
+    }
+}
+
+#[test]
+fn shows_each_kind_of_node(rt: HostRuntime) -> Result<(), Fail> {
+    let alloc = rt.alloc();
+    let blocks = sample(alloc)?;
+    // As it is; past the size stands a slot of no inode; a `.` leads nowhere.
+    let rows = [(0, 0), (7 * 1024 + 16 * 6, 65), (6 * 1024, 999)];
+    for patch in rows {
+        let text = shown(alloc, &damaged(alloc, &blocks, &[patch])?)?;
+        assert_eq!(rt; text.as_str(), SAMPLE);
+    }
+    Ok(())
+}
+
+#[test]
+fn keeps_the_geometry(rt: HostRuntime) -> Result<(), Fail> {
+    let alloc = rt.alloc();
+    let volume = mounted(alloc, &bytes_of(alloc, &sample(alloc)?)?).map_err(|_| "not mounted")?;
+    assert_eq!(rt; volume.geometry(), &GEOMETRY);
+    Ok(())
+}
+
+#[test]
+fn shows_odd_names(rt: HostRuntime) -> Result<(), Fail> {
+    let alloc = rt.alloc();
+    let mut blocks = sample(alloc)?;
+    put_name(&mut blocks, 6, 5, 2, b" a\\\x7f\xff!~");
+    put_name(&mut blocks, 19, 2, 33, b"\x01");
+    let text = shown(alloc, &bytes_of(alloc, &blocks)?)?;
+    let wanted = "\
+dir /
+file /\\x20a\\x5c\\x7f\\xff!~ size 268966912 links 2
+block 0 1024x61
+block 6 1024x62
+block 7 1024x63
+block 262 1024x64
+block 518 1024x65
+block 519 1024x66
+block 262662 1024x67
+link /bg /\\x20a\\x5c\\x7f\\xff!~
+dir /dr
+file /dr/\\x01 size 5 links 1
+block 0 5x68
+other /zz mode 020666
+";
+    assert_eq!(rt; text.as_str(), wanted);
+    Ok(())
+}
+
+#[test]
+fn refuses_images_that_are_cut_off(rt: HostRuntime) -> Result<(), Fail> {
+    let alloc = rt.alloc();
+    let bytes = bytes_of(alloc, &sample(alloc)?)?;
+    let rows = [
+        (0, 0),
+        (1023, 0),
+        (1024, 1),
+        (2047, 1),
+        (2048, 2),
+        (20_480, 20),
+        (40_959, 39),
+    ];
+    for (len, block) in rows {
+        let front = bytes.get(..len).ok_or("short")?;
+        assert!(rt;
+            is_refused(alloc, front, ImageFault::BadGeometry, block),
+            "{len}"
+        );
+    }
+    Ok(())
+}
+
+#[test]
+fn refuses_a_journal(rt: HostRuntime) -> Result<(), Fail> {
+    let alloc = rt.alloc();
+    let mut blocks = sample(alloc)?;
+    blocks.push(Block::fill(0))?;
+    let magic = [(40 * 1024, 0x3BC0), (40 * 1024 + 2, 0x9839)];
+    for kind in 3..5 {
+        let patches = [magic[0], magic[1], (40 * 1024 + 6, 256 * kind)];
+        let bytes = damaged(alloc, &blocks, &patches)?;
+        assert!(rt; is_refused(alloc, &bytes, ImageFault::NotBuilt, 40));
+    }
+    // Another block of a journal is none's begin.
+    let patches = [magic[0], magic[1], (40 * 1024 + 6, 256 * 2)];
+    let text = shown(alloc, &damaged(alloc, &blocks, &patches)?)?;
+    assert_eq!(rt; text.as_str(), SAMPLE);
+    Ok(())
+}
+
+// Where parts of the sample stand.
+const SUPER: usize = 1024;
+
+const ROOT: usize = 4096;
+
+const BIG: usize = 4096 + 32;
+
+const DIR: usize = 4096 + 64;
+
+const SMALL: usize = 5120;
+
+const LAST: usize = 5120 + 31 * 32;
+
+#[test]
+fn tells_the_fault_of_a_geometry(rt: HostRuntime) -> Result<(), Fail> {
+    let rows = [
+        (SUPER, 0, ImageFault::BadGeometry, 1),
+        (SUPER + 2, 41, ImageFault::BadGeometry, 40),
+        (SUPER + 2, 6, ImageFault::BadGeometry, 1),
+        (SUPER + 2, u16::MAX, ImageFault::BadGeometry, 1),
+        (SUPER + 4, 0, ImageFault::BadGeometry, 1),
+        (SUPER + 6, 0, ImageFault::BadGeometry, 1),
+        (SUPER + 8, 40, ImageFault::BadGeometry, 1),
+        (SUPER + 8, 5, ImageFault::BadGeometry, 1),
+        (SUPER + 10, 1, ImageFault::BadGeometry, 1),
+        (SUPER + 16, 0x138F, ImageFault::NameWidth, 1),
+        (SUPER + 16, 0x2468, ImageFault::BadMagic, 1),
+        (SUPER + 16, 0, ImageFault::BadMagic, 1),
+    ];
+    let alloc = rt.alloc();
+    let blocks = sample(alloc)?;
+    for (at, number, kind, block) in rows {
+        let bytes = damaged(alloc, &blocks, &[(at, number)])?;
+        assert!(rt; is_refused(alloc, &bytes, kind, block), "{at} {number}");
+    }
+    Ok(())
+}
+
+#[test]
+fn tells_the_fault_of_an_inode(rt: HostRuntime) -> Result<(), Fail> {
+    let rows = [
+        (ROOT, FILE, 4),
+        (ROOT, DEVICE, 4),
+        (ROOT + 4, 1121, 4),
+        (BIG + 4, 0x1C01, 4),
+        (DIR + 4, 50, 4),
+        (DIR + 6, 0x1009, 4),
+        (SMALL + 6, 0x1009, 5),
+        (LAST, FILE, 5),
+        (LAST, DIRECTORY, 5),
+    ];
+    let alloc = rt.alloc();
+    let blocks = sample(alloc)?;
+    for (at, number, block) in rows {
+        let bytes = damaged(alloc, &blocks, &[(at, number)])?;
+        assert!(rt;
+            is_refused(alloc, &bytes, ImageFault::BadInode, block),
+            "{at} {number}"
+        );
+    }
+    Ok(())
+}
+
+#[test]
+fn tells_the_fault_of_a_zone(rt: HostRuntime) -> Result<(), Fail> {
+    let rows = [
+        (ROOT + 14, 5, 4),
+        (ROOT + 14, 40, 4),
+        (ROOT + 16, 6, 4),
+        (ROOT + 30, 6, 4),
+        (BIG + 26, 8, 4),
+        (BIG + 28, 41, 4),
+        (BIG + 30, 10, 4),
+        (10 * 1024, 40, 10),
+        (10 * 1024 + 510, 5, 10),
+        (10 * 1024 + 1022, 11, 10),
+        (14 * 1024, 6, 14),
+        (14 * 1024 + 1022, 14, 14),
+        (15 * 1024, u16::MAX, 15),
+        (15 * 1024 + 1022, 1, 15),
+        (17 * 1024, 70, 17),
+        (17 * 1024 + 1022, 17, 17),
+        (DIR + 16, 20, 5),
+        (SMALL + 14, 19, 5),
+        (SMALL + 26, 40, 5),
+        (SMALL + 30, 40, 5),
+    ];
+    let alloc = rt.alloc();
+    let blocks = sample(alloc)?;
+    for (at, number, block) in rows {
+        let bytes = damaged(alloc, &blocks, &[(at, number)])?;
+        assert!(rt;
+            is_refused(alloc, &bytes, ImageFault::BadZone, block),
+            "{at} {number}"
+        );
+    }
+    Ok(())
+}
+
+#[test]
+fn tells_the_fault_of_a_slot(rt: HostRuntime) -> Result<(), Fail> {
+    let rows = [
+        (6 * 1024 + 2, 0x7878, 6),
+        (6 * 1024 + 32, 65, 6),
+        (6 * 1024 + 64 + 2, 0x722F, 6),
+        (6 * 1024 + 64 + 2, 0x2F64, 6),
+        (6 * 1024 + 80, 3, 6),
+        (6 * 1024 + 80 + 2, 0x6762, 6),
+        (7 * 1024 + 80, 65, 7),
+        (7 * 1024 + 80, 1, 7),
+        (7 * 1024 + 80, 3, 7),
+        (7 * 1024 + 80 + 2, 0, 7),
+        (7 * 1024 + 80 + 2, 0x7264, 7),
+        (19 * 1024 + 32, 1, 19),
+        (19 * 1024 + 32, 3, 19),
+        (19 * 1024 + 32, u16::MAX, 19),
+        (19 * 1024 + 32 + 2, 0x6200, 19),
+    ];
+    let alloc = rt.alloc();
+    let blocks = sample(alloc)?;
+    for (at, number, block) in rows {
+        let bytes = damaged(alloc, &blocks, &[(at, number)])?;
+        assert!(rt;
+            is_refused(alloc, &bytes, ImageFault::BadSlot, block),
+            "{at} {number}"
+        );
+    }
+    Ok(())
+}
+
+#[test]
+fn tells_the_first_fault(rt: HostRuntime) -> Result<(), Fail> {
+    let alloc = rt.alloc();
+    let blocks = sample(alloc)?;
+    // A directory's own zones, its slots, and then what they name; a file's zones in order.
+    let rows = [
+        (
+            [(ROOT + 16, 6), (6 * 1024 + 32, 65)],
+            ImageFault::BadZone,
+            4,
+        ),
+        (
+            [(7 * 1024 + 80, 65), (10 * 1024, 40)],
+            ImageFault::BadSlot,
+            7,
+        ),
+        (
+            [(14 * 1024, 6), (10 * 1024 + 1022, 5)],
+            ImageFault::BadZone,
+            10,
+        ),
+        ([(DIR + 4, 50), (17 * 1024, 70)], ImageFault::BadZone, 17),
+        ([(SMALL + 6, 0x1009), (DIR + 14, 5)], ImageFault::BadZone, 4),
+    ];
+    for (patches, kind, block) in rows {
+        let bytes = damaged(alloc, &blocks, &patches)?;
+        assert!(rt; is_refused(alloc, &bytes, kind, block), "{block}");
+    }
+    Ok(())
+}
