@@ -1,4 +1,5 @@
 //! What may be wrong.
+use mount_make::ImageFault;
 use script_grammar::ScriptKind;
 use thiserror::Error;
 
@@ -9,6 +10,8 @@ pub enum TopFault {
     BadWords,
     #[error("script line {0}: {1}")]
     Script(u32, ScriptKind),
+    #[error("image: {0} at block {1}")]
+    Image(ImageFault, u32),
     #[error("source fault")]
     SourceFault,
     #[error("sink fault")]

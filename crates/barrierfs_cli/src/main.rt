@@ -1,18 +1,23 @@
-//! Runs scripts on the model stack, and prints what a power cut leaves.
+//! Runs scripts on the model stack and prints what a power cut leaves, and prints the trees of images.
 #![tactic(auto)]
 
+mod command_line;
 mod fault;
+#[cfg(test)]
+mod image_tests;
+mod show;
 #[cfg(test)]
 mod tests;
 mod text;
 mod top;
 
 use blk_base::{NoMemory, StdSink, StdSource};
+use command_line::Words;
 use fault::TopFault;
 use std::process::ExitCode;
 use std::rt::Env;
 use std::{env, io};
-use top::{Words, alone};
+use top::alone;
 
 // The words of the command line, without the program's name.
 fn words_of(rt: &(impl Env + AllocGlobal)) -> Result<Words, NoMemory> {

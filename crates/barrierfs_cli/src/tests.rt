@@ -1,8 +1,9 @@
 //! Scripts through the top call, with sources and sinks in memory.
 ghost use Rattle.std.specs.Prelude.{None};
 
+use crate::command_line::Words;
 use crate::fault::TopFault;
-use crate::top::{Outcome, Words, alone};
+use crate::top::{Outcome, alone};
 use blk_base::{Failed, Image, MemSink, MemSource, NoMemory, PlainSink, PlainSource, Sink, Source};
 use device_epochs::{DeviceSetup, EpochDevice};
 use order_model::{Commands, Parts, lawful_blocks};
@@ -26,14 +27,14 @@ fn outcome_of<R: Source, W: Sink>(
 
 // The status and the fault, whether there is a report, and what was written.
 #[derive(Drop)]
-struct Ended {
-    status: u8,
-    fault: Option<TopFault>,
-    reported: bool,
-    printed: Vec<u8>,
+pub struct Ended {
+    pub status: u8,
+    pub fault: Option<TopFault>,
+    pub reported: bool,
+    pub printed: Vec<u8>,
 }
 
-fn run(alloc: Global, list: &[&str], input: &[u8]) -> Result<Ended, NoMemory> {
+pub fn run(alloc: Global, list: &[&str], input: &[u8]) -> Result<Ended, NoMemory> {
     let mut source = MemSource::new(input.to_vec(alloc)?, Vec::new(alloc));
     let mut sink = MemSink::new(Vec::new(alloc), Vec::new(alloc));
     let outcome = outcome_of(alloc, list, &mut source, &mut sink)?;
@@ -222,7 +223,8 @@ fn refuses_words_that_are_not_built(rt: HostRuntime) -> Result<(), Fail> {
     let alloc = rt.alloc();
     let script = "device 1\nevents\n";
     assert_eq!(rt; refused(alloc, &[], script)?, 2);
-    assert_eq!(rt; refused(alloc, &["show"], script)?, 2);
+    assert_eq!(rt; refused(alloc, &["run"], script)?, 2);
+    assert_eq!(rt; refused(alloc, &["show", "show"], script)?, 2);
     assert_eq!(rt; refused(alloc, &["replay", "replay"], script)?, 2);
     assert_eq!(rt; refused(alloc, &["rep"], script)?, 2);
     Ok(())

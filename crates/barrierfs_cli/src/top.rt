@@ -1,62 +1,24 @@
 //! The top call.
 ghost use Rattle.std.specs.Prelude.{◌≡◌, ℕ, ◌≤◌, ◌+◌, ◌++◌, ◌∷◌, [], false, true, List, Some, None, length, IfOk, IfErr, IfSome, OnOk, IsErrOf};
 ghost use Rattle.blk_base.specs.Streams.{Rose};
-ghost use Rattle.barrierfs_cli.specs.Top.{is_replay, status_of, Told, Streams, Cause, Ran, Did, expected, EndsAs, top_fault, end_fault, IsTextFault};
+ghost use Rattle.barrierfs_cli.specs.Top.{command_of, most_of, status_of, Told, Streams, Cause, Does, Did, Makes, expected, EndsAs, top_fault, end_fault, IsTextFault, IsInputFault};
 ghost use Rattle.script_grammar.specs.Grammar.{script_of};
 ghost use Rattle.script_grammar.specs.declared.script.Script.{Script};
 ghost use Rattle.std.specs.String.{string_bytes};
 ghost use Rattle.stack_core.specs.Report.{IsCoreReport, Headline};
+ghost use Rattle.blk_base.specs.Image.{whole_blocks};
+ghost use Rattle.barrierfs_cli.specs.declared.command_line.Command.{Command};
+ghost use Rattle.barrierfs_cli.specs.Show.{shown, IsImageFault};
 ghost use Rattle.barrierfs_cli.specs.Text.{text_of};
 
+use crate::command_line::{Command, Words};
 use crate::fault::TopFault;
+use crate::show::show_text;
 use crate::text::put_report;
-use blk_base::{NoMemory, ReadEnd, Sink, Source, read_all, write_all};
+use blk_base::{ReadEnd, Sink, Source, read_all, write_all};
 use script_grammar::{ScriptError, read_script};
 use stack_core::{Report, core_run};
 use std::alloc::Global;
-use std::marker::Model;
-
-/// The words of the command line, without the program's name.
-#[derive(Drop)]
-pub struct Words {
-    items: Vec<String>,
-}
-
-impl Model for Words {
-    ghost use Rattle.std.specs.Prelude.{List, ℕ, map};
-    ghost use Rattle.std.specs.String.{string_bytes};
-
-    ghost Value = { List (List ℕ) };
-
-    ghost view = { λ w. map string_bytes w.items.items };
-}
-
-impl Words {
-    /// No words. It takes no memory.
-    pub fn make(alloc: Global) -> Words
-        ensures { result ≡ [] }
-    {
-        Words {
-            items: Vec::new(alloc),
-        }
-    }
-
-    pub fn push(&mut self, alloc: Global, word: &str) -> Result<(), NoMemory>
-        ensures { OnOk result (self.new ≡ self.old ++ word.now ∷ []) }
-    {
-        self.items.push(String::from_str(alloc, word)?)?;
-        Ok(())
-    }
-
-    fn are_replay(&self) -> bool
-        ensures { result ≡ is_replay self.now }
-    {
-        match self.items.as_slice() {
-            [word] => word.as_str() == "replay",
-            _ => false,
-        }
-    }
-}
 
 /// How the top call ended.
 #[derive(Drop)]
@@ -68,13 +30,10 @@ pub struct Outcome {
     pub report: Option<Report>,
 }
 
-// The most bytes that a script may have.
-const MOST: u64 = 4_194_304;
-
-// A run and its text.
+// What a command has to write, and the report of a run.
 #[derive(Drop)]
 struct Printed {
-    report: Report,
+    report: Option<Report>,
     text: String,
 }
 
@@ -100,7 +59,7 @@ fn read_fault(end: ReadEnd) -> TopFault
 // Runs the script of these bytes, and makes its text.
 fn run_text(alloc: Global, bytes: &[u8]) -> Result<Printed, TopFault>
     requires { length bytes.now ≤ 4194304 }
-    ensures ok { IfOk result (λ p. (s : Script) × (script_of bytes.now ≡ Ok s) × IsCoreReport s p.report × (string_bytes p.text ≡ text_of p.report) × Headline p.report) }
+    ensures ok { IfOk result (λ p. (s : Script) × (r : Report) × (script_of bytes.now ≡ Ok s) × IsCoreReport s r × (p.report ≡ Some r) × (string_bytes p.text ≡ text_of r) × Headline r) }
     ensures err { IfErr result (IsTextFault bytes.now) }
 {
     let script = match read_script(alloc, bytes) {
@@ -117,38 +76,65 @@ fn run_text(alloc: Global, bytes: &[u8]) -> Result<Printed, TopFault>
         &report.cut.image,
         report.cut.origins.as_slice(),
     ) {
-        Ok(()) => Ok(Printed { report, text }),
+        Ok(()) => Ok(Printed {
+            report: Some(report),
+            text,
+        }),
         Err(_) => Err(TopFault::NoMemory),
     }
 }
 
-// All that comes before the first write.
-fn replay<R: Source>(alloc: Global, words: &Words, src: &mut R) -> Result<Printed, TopFault>
-    ensures ok { IfOk result (λ p. Ran (record { bytes = R.left src.old; faults = R.faults src.old }) (record { bytes = R.left src.new; faults = R.faults src.new }) (Some p.report) × (string_bytes p.text ≡ text_of p.report) × Headline p.report) }
-    ensures err { IfErr result (Cause words.now (record { bytes = R.left src.old; faults = R.faults src.old }) (record { bytes = R.left src.new; faults = R.faults src.new })) }
-    ensures words { is_replay words.now ≡ false → IsErrOf result TopFault.BadWords }
+// The text of the tree of an image of these bytes.
+fn show(alloc: Global, bytes: Vec<u8>) -> Result<Printed, TopFault>
+    ensures ok { IfOk result (λ p. (shown (whole_blocks bytes.items) ≡ Ok (string_bytes p.text)) × (p.report ≡ None)) }
+    ensures err { IfErr result (IsImageFault (whole_blocks bytes.items)) }
 {
-    if !words.are_replay() {
-        return Err(TopFault::BadWords);
+    let text = show_text(alloc, bytes)?;
+    Ok(Printed { report: None, text })
+}
+
+// What a command makes of its input.
+fn print(alloc: Global, command: Command, bytes: Vec<u8>) -> Result<Printed, TopFault>
+    requires { length bytes.items ≤ most_of command }
+    ensures ok { IfOk result (λ p. Makes command bytes.items p.report (string_bytes p.text)) }
+    ensures headline { IfOk result (λ p. IfSome p.report Headline) }
+    ensures err { IfErr result (IsInputFault command bytes.items) }
+{
+    match command {
+        Command::Replay => run_text(alloc, &bytes),
+        Command::Show => show(alloc, bytes),
     }
-    match read_all(alloc, src, MOST) {
-        Ok(bytes) => run_text(alloc, &bytes),
+}
+
+// All that comes before the first write.
+fn prepare<R: Source>(alloc: Global, words: &Words, src: &mut R) -> Result<Printed, TopFault>
+    ensures ok { IfOk result (λ p. Does words.now (record { bytes = R.left src.old; faults = R.faults src.old }) (record { bytes = R.left src.new; faults = R.faults src.new }) p.report (string_bytes p.text)) }
+    ensures headline { IfOk result (λ p. IfSome p.report Headline) }
+    ensures err { IfErr result (Cause words.now (record { bytes = R.left src.old; faults = R.faults src.old }) (record { bytes = R.left src.new; faults = R.faults src.new })) }
+    ensures words { command_of words.now ≡ None → IsErrOf result TopFault.BadWords }
+{
+    let Some(command) = words.command() else {
+        return Err(TopFault::BadWords);
+    };
+    match read_all(alloc, src, command.most()) {
+        Ok(bytes) => print(alloc, command, bytes),
         Err(end) => Err(read_fault(end)),
     }
 }
 
-/// Does what the words say: reads the script of the source, runs it, and writes the report to the sink.
+/// Does what the words say: `replay` reads a script of the source, runs it and writes its report to the sink,
+/// and `show` reads an image and writes the text of its tree.
 ///
-/// The statuses are tested in the order 2, 5 and 7, 3, 6. Status 8, want of memory, may come at any place
+/// The statuses are tested in the order 2, 5 and 7, 3 or 4, 6. Status 8, want of memory, may come at any place
 /// before the first write.
 pub fn alone<R: Source, W: Sink>(alloc: Global, words: &Words, src: &mut R, out: &mut W) -> Outcome
     ensures status { result.status ≡ status_of result.fault }
     ensures did { Did words.now (record { source = record { bytes = R.left src.old; faults = R.faults src.old }; source_after = record { bytes = R.left src.new; faults = R.faults src.new }; sink = record { bytes = W.taken out.old; faults = W.faults out.old }; sink_after = record { bytes = W.taken out.new; faults = W.faults out.new } }) result.report result.fault }
-    ensures words { is_replay words.now ≡ false → result.fault ≡ Some TopFault.BadWords }
+    ensures words { command_of words.now ≡ None → result.fault ≡ Some TopFault.BadWords }
     ensures headline { IfSome result.report Headline }
-    ensures complete { is_replay words.now ≡ true → (text : List ℕ) → R.left src.old ≡ Some text → ¬ Rose (R.faults src.old) (R.faults src.new) → ¬ Rose (W.faults out.old) (W.faults out.new) → EndsAs (expected text) result.fault }
+    ensures complete { (c : Command) → command_of words.now ≡ Some c → (text : List ℕ) → R.left src.old ≡ Some text → ¬ Rose (R.faults src.old) (R.faults src.new) → ¬ Rose (W.faults out.old) (W.faults out.new) → EndsAs (expected c text) result.fault }
 {
-    let printed = match replay(alloc, words, src) {
+    let printed = match prepare(alloc, words, src) {
         Ok(printed) => printed,
         Err(fault) => return failed(fault),
     };
@@ -156,12 +142,12 @@ pub fn alone<R: Source, W: Sink>(alloc: Global, words: &Words, src: &mut R, out:
         Ok(()) => Outcome {
             status: 0,
             fault: None,
-            report: Some(printed.report),
+            report: printed.report,
         },
         Err(_) => Outcome {
             status: 6,
             fault: Some(TopFault::SinkFault),
-            report: Some(printed.report),
+            report: printed.report,
         },
     }
 }
@@ -185,6 +171,7 @@ fn status(fault: TopFault) -> u8
     match fault {
         TopFault::BadWords => 2,
         TopFault::Script(_, _) => 3,
+        TopFault::Image(_, _) => 4,
         TopFault::SourceFault => 5,
         TopFault::SinkFault => 6,
         TopFault::TooLong => 7,

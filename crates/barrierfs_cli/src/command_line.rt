@@ -1,0 +1,85 @@
+//! What the words of the command line ask for.
+ghost use Rattle.std.specs.Prelude.{◌≡◌, ◌++◌, ◌∷◌, [], OnOk};
+ghost use Rattle.barrierfs_cli.specs.Top.{command_of, most_of};
+
+use blk_base::NoMemory;
+use std::alloc::Global;
+use std::marker::Model;
+
+/// What the program does.
+#[derive(Clone, Copy, PartialEq, Eq, Debug)]
+pub enum Command {
+    /// Runs a script and prints its report.
+    Replay,
+    /// Prints the tree of an image.
+    Show,
+}
+
+impl Command {
+    /// The most bytes that its input may have.
+    pub fn most(self) -> u64
+        ensures { result ≡ most_of self }
+    {
+        match self {
+            Command::Replay => MOST_OF_SCRIPT,
+            Command::Show => MOST_OF_IMAGE,
+        }
+    }
+}
+
+const MOST_OF_SCRIPT: u64 = 4_194_304;
+
+const MOST_OF_IMAGE: u64 = 134_217_728;
+
+/// The words of the command line, without the program's name.
+#[derive(Drop)]
+pub struct Words {
+    items: Vec<String>,
+}
+
+impl Model for Words {
+    ghost use Rattle.std.specs.Prelude.{List, ℕ, map};
+    ghost use Rattle.std.specs.String.{string_bytes};
+
+    ghost Value = { List (List ℕ) };
+
+    ghost view = { λ w. map string_bytes w.items.items };
+}
+
+impl Words {
+    /// No words. It takes no memory.
+    pub fn make(alloc: Global) -> Words
+        ensures { result ≡ [] }
+    {
+        Words {
+            items: Vec::new(alloc),
+        }
+    }
+
+    pub fn push(&mut self, alloc: Global, word: &str) -> Result<(), NoMemory>
+        ensures { OnOk result (self.new ≡ self.old ++ word.now ∷ []) }
+    {
+        self.items.push(String::from_str(alloc, word)?)?;
+        Ok(())
+    }
+
+    /// The command, where the words are one.
+    pub fn command(&self) -> Option<Command>
+        ensures { result ≡ command_of self.now }
+    {
+        match self.items.as_slice() {
+            [word] => command_named(word.as_str()),
+            _ => None,
+        }
+    }
+}
+
+fn command_named(word: &str) -> Option<Command>
+    ensures { result ≡ command_of (word.now ∷ []) }
+{
+    match word {
+        "replay" => Some(Command::Replay),
+        "show" => Some(Command::Show),
+        _ => None,
+    }
+}

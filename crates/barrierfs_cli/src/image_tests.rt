@@ -1,0 +1,92 @@
+//! Images through the top call.
+use crate::fault::TopFault;
+use crate::tests::run;
+use blk_base::{Block, NoMemory};
+use minix_layout::{Geometry, Inode, Name, Slot, Zones, write_inode, write_slot, write_super};
+use mount_make::ImageFault;
+use std::alloc::Global;
+use std::test::Fail;
+
+fn inode(mode: u16, size: u32, links: u8, zone: u16) -> Inode {
+    Inode {
+        mode,
+        uid: 0,
+        size,
+        time: 1_700_000_000,
+        gid: 0,
+        links,
+        zones: Zones::of([zone, 0, 0, 0, 0, 0, 0, 0, 0]),
+    }
+}
+
+fn put_name(zone: &mut Block, at: u8, inode: u16, name: &[u8]) {
+    if let Some(name) = Name::of(name)
+        && at < 64
+    {
+        write_slot(zone, at, Some(&Slot { inode, name }));
+    }
+}
+
+// An image of 8 blocks, with a device in its root.
+fn foreign(alloc: Global) -> Result<Vec<u8>, NoMemory> {
+    let g = Geometry {
+        inodes: 32,
+        zones: 8,
+        imap: 1,
+        zmap: 1,
+        first: 5,
+        width: 14,
+    };
+    let mut table = Block::fill(0);
+    write_inode(&mut table, 0, &inode(0o040755, 48, 2, 5));
+    write_inode(&mut table, 1, &inode(0o020666, 0, 1, 0x0103));
+    let mut root = Block::fill(0);
+    put_name(&mut root, 0, 1, b".");
+    put_name(&mut root, 1, 1, b"..");
+    put_name(&mut root, 2, 2, b"null");
+    let empty = Block::fill(0);
+    let blocks = [
+        &empty,
+        &write_super(&g),
+        &empty,
+        &empty,
+        &table,
+        &root,
+        &empty,
+        &empty,
+    ];
+    let mut bytes = Vec::new(alloc);
+    for block in blocks {
+        bytes.extend_from_slice(block.as_slice())?;
+    }
+    Ok(bytes)
+}
+
+#[test]
+fn shows_a_foreign_image(rt: HostRuntime) -> Result<(), Fail> {
+    let alloc = rt.alloc();
+    let bytes = foreign(alloc)?;
+    let ended = run(alloc, &["show"], &bytes)?;
+    assert_eq!(rt; ended.status, 0);
+    assert!(rt; !ended.reported);
+    assert_eq!(rt;
+        ended.printed.as_slice(),
+        b"dir /\nother /null mode 020666\n".as_slice()
+    );
+    Ok(())
+}
+
+#[test]
+fn refuses_a_foreign_image_that_is_cut_off(rt: HostRuntime) -> Result<(), Fail> {
+    let alloc = rt.alloc();
+    let bytes = foreign(alloc)?;
+    let front = bytes.get(..4596).ok_or("short")?;
+    let ended = run(alloc, &["show"], front)?;
+    assert_eq!(rt; ended.status, 4);
+    assert_eq!(rt;
+        ended.fault,
+        Some(TopFault::Image(ImageFault::BadGeometry, 4))
+    );
+    assert!(rt; !ended.reported && ended.printed.is_empty());
+    Ok(())
+}
