@@ -13,7 +13,5 @@ mod sched_side;
 #[cfg(test)]
 mod tests;
 
-pub use feed::Feed;
 pub use report::Report;
 pub use running::{core_run, run_on};
-pub use sched_side::SchedSide;
