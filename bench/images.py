@@ -1,0 +1,118 @@
+#!/usr/bin/env python3
+"""Writes Minix V1 images to the folder that is given, and prints their names.
+
+Use: images.py FOLDER [NAME ..]; with no name the three of bench/run. `volume-chain` is 20,000 directories, one in
+the other, whose text has some 400 MB.
+"""
+import os
+import random
+import struct
+import subprocess
+import sys
+
+ZONES = 65535
+DIRECTORY, FILE = 0o040755, 0o100644
+
+
+class Volume:
+    """An image under construction: zones are taken one after the other, inodes by number."""
+
+    def __init__(self, inodes, zones):
+        imap, zmap = -(-(inodes + 1) // 8192), -(-(zones + 1) // 8192)
+        self.table = 2 + imap + zmap
+        self.first = self.next = self.table + -(-inodes // 32)
+        self.zones = zones
+        self.bytes = bytearray(1024 * zones)
+        head = struct.pack("<HHHHHHIHH", inodes, zones, imap, zmap, self.first, 0, 268966912, 0x137F, 1)
+        self.bytes[1024:1024 + len(head)] = head
+
+    def zone(self, body):
+        zone = self.next
+        if zone >= self.zones:
+            sys.exit("the volume is full")
+        self.next += 1
+        self.bytes[1024 * zone:1024 * zone + len(body)] = body
+        return zone
+
+    def numbers(self, zones):
+        return self.zone(struct.pack("<%dH" % len(zones), *zones)) if zones else 0
+
+    def inode(self, number, mode, size, links, zones):
+        """Zones are the numbers of its blocks, at most 7 + 512 + 512 * 512 of them."""
+        direct = zones[:7] + [0] * (7 - len(zones[:7]))
+        indirect = self.numbers(zones[7:519])
+        rest = [zones[k:k + 512] for k in range(519, len(zones), 512)]
+        double = self.numbers([self.numbers(part) for part in rest])
+        at = 1024 * self.table + 32 * (number - 1)
+        self.bytes[at:at + 32] = struct.pack("<HHIIBB9H", mode, 1000, size, 1700000000, 100, links, *direct, indirect, double)
+
+    def directory(self, number, parent, entries):
+        slots = [(number, b"."), (parent, b"..")] + entries
+        body = b"".join(struct.pack("<H14s", inode, name) for inode, name in slots)
+        zones = [self.zone(body[k:k + 1024]) for k in range(0, len(body), 1024)]
+        self.inode(number, DIRECTORY, len(body), 2, zones)
+
+    def file(self, number, body):
+        zones = [self.zone(body[k:k + 1024]) for k in range(0, len(body), 1024)]
+        self.inode(number, FILE, len(body), 1, zones)
+
+
+def empty(path):
+    """An empty volume of 65,535 zones, made by mkfs.minix of util-linux."""
+    with open(path, "wb") as image:
+        image.truncate(1024 * ZONES)
+    subprocess.run(["mkfs.minix", "-1", "-n14", path], check=True, stdout=subprocess.DEVNULL)
+
+
+def tree(path, files, body):
+    """Files, 100 in each directory below the root; body(k) has the bytes of file k."""
+    folders = files // 100
+    volume = Volume(1 + folders + files, ZONES)
+    volume.directory(1, 1, [(2 + f, b"folder%03d" % f) for f in range(folders)])
+    for f in range(folders):
+        first = 2 + folders + 100 * f
+        volume.directory(2 + f, 1, [(first + k, b"file%02d" % k) for k in range(100)])
+        for k in range(100):
+            volume.file(first + k, body(100 * f + k))
+    save(volume, path)
+
+
+def chain(path, depth):
+    """Directories, one in the other."""
+    volume = Volume(depth, ZONES)
+    for n in range(1, depth + 1):
+        volume.directory(n, max(1, n - 1), [(n + 1, b"d")] if n < depth else [])
+    save(volume, path)
+
+
+def save(volume, path):
+    with open(path, "wb") as image:
+        image.write(volume.bytes)
+
+
+def filled(k):
+    """Up to 20 blocks, each of one byte, and a last one that is cut."""
+    blocks = bytes(b for block in range(k % 21) for b in [(k + block) % 256] * 1024)
+    return blocks + bytes([k % 256]) * (k % 1000)
+
+
+LETTERS = random.Random(1)
+
+
+def letters(k):
+    """Some 2 KB of letters in no order."""
+    return bytes(LETTERS.choices(b"abcdefghijklmnopqrstuvwxyz \n", k=1024 + k % 2048))
+
+
+IMAGES = {
+    "volume-empty": empty,
+    "volume-files": lambda path: tree(path, 4000, filled),
+    "volume-mail": lambda path: tree(path, 4000, letters),
+    "volume-chain": lambda path: chain(path, 20000),
+}
+
+if __name__ == "__main__":
+    folder, names = sys.argv[1], sys.argv[2:] or list(IMAGES)[:3]
+    for name in names:
+        IMAGES[name](os.path.join(folder, name))
+        print(name)
