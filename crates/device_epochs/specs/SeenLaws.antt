@@ -1,13 +1,17 @@
 -- What the device shows: completions, the power, and that work goes on until all is answered.
-use Rattle.std.specs.Prelude.{◌≡◌, ℕ, ◌<◌, ◌≤◌, ◌++◌, ◌||◌, ◌==◌, ◌⊎◌, not, Bool, true, false, List, [], ◌∷◌, length, nat_lt, sum_by, Some, is_some, refl}
+use Rattle.std.specs.Prelude.{◌≡◌, ℕ, ◌<◌, ◌≤◌, ◌++◌, ◌||◌, ◌==◌, ◌⊎◌, not, Bool, true, false, List, [], ◌∷◌, length, map, nat_lt, sum_by, Some, is_some, refl}
 use Rattle.std.proofs.Common.{sym, ap, subst, inl, inr, ⊎_elim, arith}
-use Rattle.std.proofs.lemmas.Bool.{cases_lt, and_from, and_left, lt-ltb, le-ltb, not_from_true, not_from_false, or_right}
+use Rattle.std.proofs.lemmas.Bool.{cases_lt, and_from, and_left, lt-ltb, le-ltb, not_from_true, not_from_false, or_right, false≢true}
 use Rattle.std.proofs.lemmas.List.{nil_from_length}
 use Rattle.std.proofs.lemmas.List.Sums.{sum_by-cons}
-use Rattle.blk_base.specs.Members.{In, filter-In, list_all-In, In-slice_get, slice_get-In, slice_get-in_range, slice_get-length}
+use Rattle.blk_base.specs.Members.{In, In-map, In-append_cases, filter-In, list_all-In, In-slice_get, slice_get-In, slice_get-in_range, slice_get-length}
 use Rattle.order_model.specs.declared.completion.Completion.{Completion}
-use Rattle.order_model.specs.Received.{all_ids}
-use Rattle.order_model.specs.Device.{is_ordered, Completes, TellsCut, completion_id}
+use Rattle.std.specs.Option.{option_to_list}
+use Rattle.order_model.specs.declared.part.Part.{Part}
+use Rattle.order_model.specs.declared.command.Command.{Command}
+use Rattle.order_model.specs.declared.completion.Completion.TheVariants.{Moved, Flushed, Failed, Cut}
+use Rattle.order_model.specs.Received.{all_ids, completions_of}
+use Rattle.order_model.specs.Device.{is_ordered, Completes, TellsCut, TellsFailure, completion_id}
 use Rattle.order_model.specs.Steps.{Progresses}
 use Rattle.order_model.proofs.Received.{all_ids-In}
 use Rattle.command_queue.specs.Queue.{Waiting, have_common_block, stands_in_way, is_free, eligible, AreNumbered}
@@ -41,6 +45,32 @@ power_cut_law s v =
     record {
       off = λ h. f.1.told_off (cut-told s.took s.queue.waiting (s.sent ++ answers_left s) (is_off s) f.0 f.1 h);
       once = f.1.cut_once;
+    }
+
+no_moved : (i id : ℕ) → ◌≡◌ {A = Completion} (Moved i) (Failed id) → ⊥
+no_moved i id e = cc
+
+no_flushed : (i id : ℕ) → ◌≡◌ {A = Completion} (Flushed i) (Failed id) → ⊥
+no_flushed i id e = cc
+
+no_cut_failed : (id : ℕ) → ◌≡◌ {A = Completion} (Failed id) Cut → ⊥
+no_cut_failed id e = cc
+
+no_failed : (c : Command) (id : ℕ) → In (Failed id) (completions_of c) → ⊥
+no_failed c id h =
+    ⊎_elim
+    (λ l. let q = In-map (λ (p : Part). Moved p.id) c.parts (Failed id) l in no_moved q.0.id id q.2)
+    (λ r. let q = In-map Flushed (option_to_list c.flush) (Failed id) r in no_flushed q.0 id q.2)
+    (In-append_cases (map (λ (p : Part). Moved p.id) c.parts) (map Flushed (option_to_list c.flush)) (Failed id) h)
+
+-- no transfer fails
+pub failure_law : (s : DeviceState) → IsValid s → TellsFailure (seen s)
+failure_law s v =
+    let f = completions-all s v.completions in
+    record {
+      told = λ e. absurd (false≢true e);
+      known = λ id h.
+          ⊎_elim (λ cut. absurd (no_cut_failed id cut.0)) (λ done. absurd (no_failed done.1 id done.4)) (f.1.source (Failed id) h);
     }
 
 pub off-nothing : (s : DeviceState) → is_off s ≡ true → (has_room s ≡ false) × (length (transferable s) ≡ 0) × (length (persistable s) ≡ 0)

@@ -55,7 +55,7 @@ pub Transfers-moved_in : (s : DeviceState) (w : Waiting) → Transfers (seen s) 
 Transfers-moved_in s w = record {
   given = record { base = refl; limit = refl; took = refl; sent = refl };
   surface = refl;
-  origins = refl;
+  origins = refl; failed = inl refl;
   steps = refl;
 }
 

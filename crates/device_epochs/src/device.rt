@@ -353,6 +353,8 @@ impl OrderedDev for EpochDevice {
 
     ghost power_cut = { laws.power_cut };
 
+    ghost failure = { told.failure_law };
+
     ghost monotone = { laws.monotone };
 
     ghost progress = { laws.progress };

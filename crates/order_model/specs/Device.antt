@@ -116,6 +116,11 @@ pub record TellsCut (s : Seen) : Type 0 where
   pub off : In Cut (s.sent ++ s.waiting) → s.off ≡ true
   pub once : (i j : ℕ) → slice_get (s.sent ++ s.waiting) i ≡ Some Cut → slice_get (s.sent ++ s.waiting) j ≡ Some Cut → i ≡ j
 
+-- Failure law: that a transfer failed is told, once it did and only then, by the id of a command that was taken.
+pub record TellsFailure (s : Seen) : Type 0 where
+  pub told : s.failed ≡ true → (id : ℕ) × In (Failed id) (s.sent ++ s.waiting)
+  pub known : (id : ℕ) → In (Failed id) (s.sent ++ s.waiting) → (s.failed ≡ true) × In id (all_ids s.took)
+
 -- Monotone law: what is kept stays kept, and no count falls.
 pub record Grows (old new : Seen) : Type 0 where
   pub kept : (place : ℕ) → IsPartKept old place → IsPartKept new place

@@ -2,6 +2,7 @@
 use Rattle.std.specs.Prelude.{◌≡◌, ℕ, ◌+◌, ◌<◌, ◌≤◌, ◌++◌, ◌⊎◌, Bool, true, false, [], ◌∷◌, Option, Some, None}
 use Rattle.std.specs.Option.{option_to_list}
 use Rattle.blk_base.specs.Members.{In}
+use Rattle.blk_base.specs.Streams.{Rose}
 use Rattle.order_model.specs.declared.command.Command.{Command}
 use Rattle.order_model.specs.declared.completion.Completion.{Completion}
 use Rattle.order_model.specs.declared.completion.Completion.TheVariants.{Cut}
@@ -27,11 +28,12 @@ pub record KeepsGiven (old new : Seen) : Type 0 where
   pub took : new.took ≡ old.took
   pub sent : new.sent ≡ old.sent
 
--- a command left the queue, and the medium stayed
+-- a command left the queue, and the medium stayed; where it failed, a fault was counted
 pub record Transfers (old new : Seen) : Type 0 where
   pub given : KeepsGiven old new
   pub surface : new.surface ≡ old.surface
   pub origins : new.origins ≡ old.origins
+  pub failed : (new.failed ≡ old.failed) ⊎ Rose old.faults new.faults
   pub steps : new.steps ≡ old.steps + 1
 
 -- a block was written, and what was moved and completed stayed; where the power went off by it, that is

@@ -2,7 +2,7 @@ ghost use Rattle.std.specs.Prelude.{◌≡◌, ℕ, ◌<◌, ◌≤◌, ◌++◌
 ghost use Rattle.blk_base.specs.Streams.{Rose};
 ghost use Rattle.order_model.specs.declared.command.Command.{Command};
 ghost use Rattle.order_model.specs.declared.completion.Completion.{Completion};
-ghost use Rattle.order_model.specs.Device.{Seen, IsReceivable, IsQuiet, IsSurface, KeepsEpochOrder, KeepsFlush, Completes, TellsCut, Grows, origin_ids};
+ghost use Rattle.order_model.specs.Device.{Seen, IsReceivable, IsQuiet, IsSurface, KeepsEpochOrder, KeepsFlush, Completes, TellsCut, TellsFailure, Grows, origin_ids};
 ghost use Rattle.order_model.specs.Steps.{IsTraceOf, Receives, Transfers, Persists, Answers, Reads, Progresses};
 
 use crate::{Command, Completion, CutDisk, DeviceRecord};
@@ -145,6 +145,9 @@ pub trait OrderedDev {
 
     /// Power-cut law.
     ghost power_cut: { (s : Self.State) → valid s → TellsCut (seen s) × ((seen s).off ≡ true → (has_room s ≡ false) × (can_transfer s ≡ 0) × (can_persist s ≡ 0)) };
+
+    /// Failure law.
+    ghost failure: { (s : Self.State) → valid s → TellsFailure (seen s) };
 
     /// Monotone law.
     ghost monotone: { (s : Self.State) (pick : ℕ) → valid s → Grows (seen s) (seen (transferred s pick)) × Grows (seen s) (seen (persisted s pick)) };
