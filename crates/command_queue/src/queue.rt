@@ -65,16 +65,28 @@ impl CommandQueue {
         ensures ok { OnOk result (self.new ≡ arrived self.old c) }
         ensures back { IfErr result (λ d. (d ≡ c) × (self.new ≡ self.old)) }
     {
-        let Some(slot) = self.free.pop() else {
+        if !self.room() {
             return Err(c);
+        }
+        self.push(&c);
+        Ok(())
+    }
+
+    /// Takes the same as a command, where there is room. It is copied part by part into its slot.
+    pub fn push(&mut self, c: &Command)
+        requires next { self.old.next + 1 < 2 ^ 64 }
+        requires room { length self.old.waiting < self.old.depth }
+        ensures { self.new ≡ arrived self.old c.now }
+    {
+        let Some(slot) = self.free.pop() else {
+            unreachable!();
         };
-        self.slots[slot] = c;
+        self.slots[slot].refill(c);
         self.seats.push_reserved(Seat {
             number: self.next,
             slot,
         });
         self.next += 1;
-        Ok(())
     }
 
     /// Whether `receive` takes a command.

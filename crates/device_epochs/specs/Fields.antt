@@ -7,7 +7,7 @@ use Rattle.device_epochs.specs.Valid.{IsValid}
 
 abbrev pub state_of : Inside → DeviceState
 state_of d = record {
-  base = d.base;
+  base = d.base.items;
   surface = d.surface;
   origins = d.origins.items;
   took = d.trace.took.items;

@@ -13,7 +13,7 @@ use circular_buffer::HeapCircularBuffer;
 use command_queue::CommandQueue;
 use order_model::{
     Command, Commands, Completion, CutDisk, DeviceRecord, History, OrderedDev, Origins, Part,
-    ReadFault,
+    ReadFault, Trail,
 };
 use std::alloc::Global;
 use std::collections::VecDeque;
@@ -39,8 +39,8 @@ pub struct DeviceSetup {
 /// All its room is reserved by `make`: no other call takes memory.
 #[derive(Drop)]
 pub struct EpochDevice {
-    // What it was made over.
-    base: Image,
+    // What it was made over. It takes no memory: contracts alone read it.
+    base: Trail<Block>,
     surface: Image,
     // For each block the place of the part that it holds.
     origins: Vec<Option<u64>>,
@@ -81,11 +81,11 @@ impl EpochDevice {
             return Err(NoMemory);
         }
         let room = setup.limit as usize;
-        let surface = image.copy(alloc)?;
-        let origins = no_origins(alloc, surface.len())?;
+        let base = trail_of(&image);
+        let origins = no_origins(alloc, image.len())?;
         Ok(EpochDevice {
-            base: image,
-            surface,
+            base,
+            surface: image,
             origins,
             trace: empty_record(alloc, room)?,
             waiting: HeapCircularBuffer::with_capacity(alloc, room + 1)?,
@@ -160,6 +160,17 @@ fn body_of(parts: &[Part], place: u64) -> Block
     parts[place as usize].body.copy()
 }
 
+// The blocks of an image, for contracts alone.
+fn trail_of(image: &Image) -> Trail<Block>
+    ensures { result.items ≡ image.now }
+{
+    let mut trail = Trail::new();
+    for b in 0..image.len() {
+        trail = trail.and(image.block(b));
+    }
+    trail
+}
+
 fn no_origins(alloc: Global, blocks: u32) -> Result<Vec<Option<u64>>, NoMemory>
     ensures { IfOk result (λ v. v.items ≡ replicate blocks None) }
 {
@@ -232,7 +243,8 @@ impl OrderedDev for EpochDevice {
             return Err(c);
         }
         self.trace.took.push(&c);
-        self.queue.receive(c)
+        self.queue.push(&c);
+        Ok(())
     }
 
     fn can_transfer(&self) -> u32 {

@@ -34,15 +34,29 @@ impl Command {
             Priority::Simple
         };
         let id = r.id;
-        let (parts, flush) = match r.kind {
-            Kind::Put { block, body } => (Parts::one(Part { id, block, body }), None),
-            Kind::Flush => (Parts::none(), Some(id)),
-        };
-        Command {
-            parts,
-            priority,
-            barrier: flagged,
-            flush,
+        match r.kind {
+            Kind::Put { block, body } => Command {
+                parts: Parts::one(Part { id, block, body }),
+                priority,
+                barrier: flagged,
+                flush: None,
+            },
+            Kind::Flush => Command {
+                parts: Parts::none(),
+                priority,
+                barrier: flagged,
+                flush: Some(id),
+            },
         }
+    }
+
+    /// Becomes the same as another command. Its parts are copied, and nothing else of its 16 KB is moved.
+    pub fn refill(&mut self, from: &Command)
+        ensures { self.new ≡ from.now }
+    {
+        self.parts.refill(&from.parts);
+        self.priority = from.priority;
+        self.barrier = from.barrier;
+        self.flush = from.flush;
     }
 }

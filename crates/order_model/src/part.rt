@@ -1,4 +1,4 @@
-ghost use Rattle.std.specs.Prelude.{◌≡◌, ◌<◌, ◌+◌, ◌↔◌, List, [], ◌∷◌, ◌++◌, length, Some, IsOk, OnOk, IfErr, slice_get, ◌==◌};
+ghost use Rattle.std.specs.Prelude.{◌≡◌, ◌<◌, ◌≤◌, ◌+◌, ◌↔◌, List, [], ◌∷◌, ◌++◌, length, Some, IsOk, OnOk, IfErr, slice_get, ◌==◌};
 ghost use Rattle.std.specs.Option.{option_copied};
 ghost use Rattle.order_model.specs.Parts.{Follows, block_follows};
 
@@ -87,6 +87,13 @@ impl Parts {
         Ok(())
     }
 
+    /// The parts of another list take the place of these, where they stand.
+    pub fn refill(&mut self, from: &Parts)
+        ensures { self.new ≡ from.now }
+    {
+        refill(&mut self.items, from.items.as_slice());
+    }
+
     pub fn len(&self) -> u32
         ensures { result ≡ length self.now }
     {
@@ -110,6 +117,17 @@ impl Parts {
         ensures { result.now ≡ self.now }
     {
         self.items.as_slice()
+    }
+}
+
+// Copies of these parts take the place of what is there.
+fn refill(items: &mut ArrayVec<Part, 16>, from: &[Part])
+    requires { length from.now ≤ 16 }
+    ensures { items.new.items ≡ from.now }
+{
+    items.clear();
+    for part in from {
+        items.push(part.copy());
     }
 }
 

@@ -7,3 +7,4 @@ pub mod SpelledNumbers
 pub mod SpelledWords
 pub mod Unbuilt
 pub mod WellFormed
+pub mod Requests

@@ -5,3 +5,4 @@ pub mod Speller
 pub mod Spelling
 pub mod WellFormed
 pub mod Words
+pub mod Rows

@@ -1,19 +1,19 @@
 //! Reads scripts, line by line.
 ghost use Rattle.std.specs.Prelude.{◌≡◌, ℕ, ◌+◌, ◌^◌, ◌<◌, ◌≤◌, nat_lt, true, false, None, map, length, IfOk};
 ghost use Rattle.script_grammar.specs.Grammar.{form_blocks, is_scheduled, form_of, is_built, new_reading, opened, form_line, built_first, first_line, stands_in, needs_scheduler, may_stand, stood_before, count_fits, fits, is_ordered_class, is_barrier_class, put_request, flush_request, with_request, with_events, plain_event, pick_event, after, taken, later_line, read_words, read_line, script_read, ended, read_from, script_of};
+ghost use Rattle.script_grammar.specs.Rows.{request_of};
 ghost use Rattle.script_grammar.specs.WellFormed.{IsWellFormed};
 ghost use Rattle.script_grammar.specs.Readers.{Gives, Reads, fault_at};
 
 use crate::kinds::ScriptKind;
 use crate::line_forms::read_line_of;
 use crate::reading::{Reading, Section};
-use crate::script::{CoreEvent, EventLine, EventWord, Events, Form, Header, RequestList, Script};
+use crate::script::{Asked, CoreEvent, EventLine, EventWord, Events, Form, Header, RequestList, Row, Script};
 use crate::script_error::{LineError, ScriptError};
 use crate::spelling::{is_skipped, lines, numeral, words};
 use crate::word_table::read_word;
 use crate::words::{Class, FirstWord, HeaderWord, Line, PickWord, PlainWord, Word};
-use blk_base::{Block, NoMemory};
-use order_model::{Kind, Request};
+use blk_base::NoMemory;
 use std::alloc::Global;
 
 /// Reads a script, or says its first faulty line and what is wrong with it.
@@ -171,7 +171,7 @@ fn count_fits(reading: &Reading, count: u64) -> bool
 fn has_room(reading: &Reading) -> bool
     ensures { result ≡ nat_lt (length reading.now.puts) 10000 }
 {
-    reading.puts.as_slice().len() < 10_000
+    reading.puts.len() < 10_000
 }
 
 fn fits(reading: &Reading, line: Line) -> bool
@@ -209,36 +209,33 @@ fn is_barrier_class(class: Class) -> bool
     }
 }
 
-fn put_request(id: u64, block: u32, value: u8, class: Class) -> Request
-    ensures { result ≡ put_request id block value class }
+fn put_row(id: u64, block: u32, value: u8, class: Class) -> Row
+    ensures { request_of result ≡ put_request id block value class }
 {
-    Request {
+    Row {
         id,
-        kind: Kind::Put {
-            block,
-            body: Block::fill(value),
-        },
+        asked: Asked::Put(block, value),
         ordered: is_ordered_class(class),
         barrier: is_barrier_class(class),
     }
 }
 
-fn flush_request(id: u64) -> Request
-    ensures { result ≡ flush_request id }
+fn flush_row(id: u64) -> Row
+    ensures { request_of result ≡ flush_request id }
 {
-    Request {
+    Row {
         id,
-        kind: Kind::Flush,
+        asked: Asked::Flush,
         ordered: true,
         barrier: true,
     }
 }
 
-fn with_request(mut reading: Reading, request: Request) -> Result<Reading, NoMemory>
-    ensures { IfOk result (λ r. r ≡ with_request reading request) }
+fn with_row(mut reading: Reading, row: Row) -> Result<Reading, NoMemory>
+    ensures { IfOk result (λ r. r ≡ with_request reading (request_of row)) }
 {
     reading.section = Section::Body;
-    reading.puts.push(request)?;
+    reading.puts.push(row)?;
     Ok(reading)
 }
 
@@ -278,7 +275,7 @@ fn after(mut reading: Reading, line: Line) -> Result<Reading, NoMemory>
     requires { fits reading line ≡ true }
     ensures { IfOk result (λ r. r ≡ after reading line) }
 {
-    let id = reading.puts.as_slice().len() as u64;
+    let id = reading.puts.len() as u64;
     match line {
         Line::Depth(depth) => {
             reading.depth = Some(depth as u32);
@@ -296,8 +293,8 @@ fn after(mut reading: Reading, line: Line) -> Result<Reading, NoMemory>
             block,
             value,
             class,
-        } => with_request(reading, put_request(id, block as u32, value, class)),
-        Line::Flush => with_request(reading, flush_request(id)),
+        } => with_row(reading, put_row(id, block as u32, value, class)),
+        Line::Flush => with_row(reading, flush_row(id)),
         Line::Events => {
             reading.section = Section::Events;
             Ok(reading)

@@ -1,8 +1,8 @@
 //! Scripts as plain values.
-ghost use Rattle.std.specs.Prelude.{◌≡◌, ℕ, List, [], ◌∷◌, ◌++◌, length, IfOk, OnOk, slice_get, take};
+ghost use Rattle.std.specs.Prelude.{◌≡◌, ℕ, List, [], ◌∷◌, ◌+◌, ◌^◌, ◌<◌, ◌++◌, length, IfOk, IfSome, OnOk, slice_get, take, ◌==◌};
 
-use blk_base::NoMemory;
-use order_model::Request;
+use blk_base::{Block, NoMemory};
+use order_model::{Kind, Request};
 use std::alloc::{AllocError, Global};
 use std::marker::Model;
 
@@ -57,68 +57,123 @@ pub struct EventLine {
     pub count: u32,
 }
 
-/// Requests in order of their ids.
+/// What a line asks for: a block that is filled with one byte, or a flush.
+#[derive(Clone, Copy, PartialEq, Eq, Debug)]
+pub(crate) enum Asked {
+    Put(u32, u8),
+    Flush,
+}
+
+/// A request as a line says it. It has 24 bytes, the request itself a whole block.
+#[derive(Clone, Copy, PartialEq, Eq, Debug)]
+pub(crate) struct Row {
+    pub(crate) id: u64,
+    pub(crate) asked: Asked,
+    pub(crate) ordered: bool,
+    pub(crate) barrier: bool,
+}
+
+impl Row {
+    ghost use Rattle.script_grammar.specs.Rows.{request_of};
+
+    fn request(&self) -> Request
+        ensures { result ≡ request_of self.now }
+    {
+        let kind = match self.asked {
+            Asked::Put(block, value) => Kind::Put {
+                block,
+                body: Block::fill(value),
+            },
+            Asked::Flush => Kind::Flush,
+        };
+        Request {
+            id: self.id,
+            kind,
+            ordered: self.ordered,
+            barrier: self.barrier,
+        }
+    }
+}
+
+/// Requests in order of their ids. Each is kept as its line says it, and made where it is asked for.
 #[derive(Drop)]
 pub struct RequestList {
-    items: Vec<Request>,
+    rows: Vec<Row>,
 }
 
 impl Model for RequestList {
-    ghost use Rattle.std.specs.Prelude.{List};
+    ghost use Rattle.std.specs.Prelude.{List, map};
     ghost use Rattle.order_model.specs.declared.request.Request.{Request};
+    ghost use Rattle.script_grammar.specs.Rows.{request_of};
 
     ghost Value = { List Request };
 
-    ghost view = { λ r. r.items.items };
+    ghost view = { λ r. map request_of r.rows.items };
 }
 
 impl RequestList {
+    ghost use Rattle.std.specs.Prelude.{map};
+    ghost use Rattle.script_grammar.specs.Rows.{request_of};
+
     pub fn new(alloc: Global) -> RequestList
         ensures { result ≡ [] }
     {
         RequestList {
-            items: Vec::new(alloc),
+            rows: Vec::new(alloc),
         }
     }
 
-    pub fn push(&mut self, request: Request) -> Result<(), NoMemory>
-        ensures { OnOk result (self.new ≡ self.old ++ request ∷ []) }
+    pub(crate) fn push(&mut self, row: Row) -> Result<(), NoMemory>
+        ensures { OnOk result (self.new ≡ self.old ++ request_of row ∷ []) }
     {
-        self.items.push(request)?;
+        self.rows.push(row)?;
         Ok(())
     }
 
-    pub fn as_slice(&self) -> &[Request]
-        ensures { result.now ≡ self.now }
+    pub fn len(&self) -> usize
+        ensures { result ≡ length self.now }
     {
-        &self.items
+        self.rows.len()
+    }
+
+    pub fn is_empty(&self) -> bool
+        ensures { result ≡ (length self.now == 0) }
+    {
+        self.rows.is_empty()
+    }
+
+    /// The request at this place.
+    pub fn get(&self, at: usize) -> Option<Request>
+        ensures value { result ≡ slice_get self.now at }
+        ensures within { IfSome result (λ _. at + 1 < 2 ^ 64) }
+    {
+        let row = self.rows.get(at)?;
+        Some(row.request())
     }
 
     /// The first requests, so many of them.
+    #[tactic(auto, using(crate::proofs::Requests::front_requests))]
     pub fn copy_front(&self, alloc: Global, count: usize) -> Result<RequestList, NoMemory>
         ensures { IfOk result (λ r. r ≡ take count self.now) }
     {
-        let front = &self.items[..count.min(self.items.len())];
         Ok(RequestList {
-            items: copy_of(alloc, front)?,
+            rows: front_of(alloc, &self.rows, count)?,
         })
     }
 
     pub fn copy(&self, alloc: Global) -> Result<RequestList, NoMemory>
         ensures { IfOk result (λ r. r ≡ self.now) }
     {
-        self.copy_front(alloc, self.items.len())
+        Ok(RequestList {
+            rows: Vec::from_slice(alloc, &self.rows)?,
+        })
     }
 }
 
-fn copy_of(alloc: Global, requests: &[Request]) -> Result<Vec<Request>, NoMemory>
-    ensures { IfOk result (λ v. v.items ≡ requests.now) }
+fn front_of(alloc: Global, rows: &[Row], count: usize) -> Result<Vec<Row>, NoMemory>
+    ensures { IfOk result (λ v. v.items ≡ take count rows.now) }
 {
-    let mut items = Vec::with_capacity(alloc, requests.len())?;
-    for request in requests {
-        items.push(request.copy())?;
-    }
-    Ok(items)
+    Ok(Vec::from_slice(alloc, &rows[..count.min(rows.len())])?)
 }
 
 /// Event lines in order.

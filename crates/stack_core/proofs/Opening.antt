@@ -35,7 +35,7 @@ headline_of (Ok r) s feed end is order =
 headline_of (Err e) s feed end is order = tt
 
 -- what was made of the script's numbers is the device that it opens
-pub opened_is : (s : Script) (d : DeviceState) (image : List (List ℕ)) (puts : List Request) (blocks : ℕ) → d ≡ opened image s.header.depth (length puts) s.header.cut
-    → image ≡ zeros blocks → blocks ≡ blocks_of s → puts ≡ s.puts → d ≡ opened_for s
-opened_is s d image puts blocks made zero count same =
-    made ∙ ap₂ (λ (i : List (List ℕ)) (n : ℕ). opened i s.header.depth n s.header.cut) (zero ∙ ap zeros count) (ap length same)
+pub opened_is : (s : Script) (d : DeviceState) (image : List (List ℕ)) (limit blocks : ℕ) → d ≡ opened image s.header.depth limit s.header.cut
+    → image ≡ zeros blocks → blocks ≡ blocks_of s → limit ≡ length s.puts → d ≡ opened_for s
+opened_is s d image limit blocks made zero count same =
+    made ∙ ap₂ (λ (i : List (List ℕ)) (n : ℕ). opened i s.header.depth n s.header.cut) (zero ∙ ap zeros count) same

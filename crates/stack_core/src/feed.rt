@@ -6,8 +6,8 @@ ghost use Rattle.stack_core.specs.Feed.{opened_feed, stepped, given, submitted_c
 
 use crate::sched_side::SchedSide;
 use blk_base::NoMemory;
-use order_model::{Command, Commands, History, Request, SchedRecord};
-use script_grammar::{CoreEvent, Form, Script};
+use order_model::{Command, Commands, History, SchedRecord};
+use script_grammar::{CoreEvent, Form, RequestList, Script};
 use std::alloc::Global;
 
 /// How the requests of a script reach the device.
@@ -27,7 +27,7 @@ impl Feed {
         match script.kind {
             Form::Device(_) => Ok(Feed::Direct(0)),
             Form::Blocks(_) => {
-                let limit = script.puts.as_slice().len() as u64;
+                let limit = script.puts.len() as u64;
                 let side = SchedSide::make(alloc, limit, script.header.queue)?;
                 Ok(Feed::Scheduled(side))
             }
@@ -45,7 +45,7 @@ impl Feed {
     }
 
     /// An event of the host or the scheduler. Those of the device do nothing here.
-    pub fn step(&mut self, requests: &[Request], event: CoreEvent)
+    pub fn step(&mut self, requests: &RequestList, event: CoreEvent)
         requires { (d : Seen) × IsFed self.old requests.now d }
         ensures { self.new ≡ stepped requests.now self.old event }
     {
@@ -61,7 +61,7 @@ impl Feed {
     }
 
     /// The next command for the device, where there is one.
-    pub fn give(&mut self, requests: &[Request]) -> Option<Command>
+    pub fn give(&mut self, requests: &RequestList) -> Option<Command>
         ensures some { IfSome result (λ c. given requests.now self.old ≡ Some (c, self.new)) }
         ensures none { IfNone result ((given requests.now self.old ≡ None) × (self.new ≡ self.old)) }
     {
@@ -69,7 +69,8 @@ impl Feed {
             Feed::Direct(next) => {
                 let request = requests.get(*next)?;
                 *next += 1;
-                Some(Command::of_request(request.copy(), request.barrier))
+                let flagged = request.barrier;
+                Some(Command::of_request(request, flagged))
             }
             Feed::Scheduled(side) => side.give(),
         }

@@ -10,12 +10,12 @@ use crate::feed::Feed;
 use crate::report::Report;
 use blk_base::{Image, NoMemory};
 use device_epochs::{DeviceSetup, EpochDevice};
-use order_model::{OrderedDev, Request};
-use script_grammar::{CoreEvent, EventLine, EventWord, Script};
+use order_model::OrderedDev;
+use script_grammar::{CoreEvent, EventLine, EventWord, RequestList, Script};
 use std::alloc::Global;
 
 // One event.
-fn do_event<D: OrderedDev>(feed: &mut Feed, dev: &mut D, requests: &[Request], event: CoreEvent)
+fn do_event<D: OrderedDev>(feed: &mut Feed, dev: &mut D, requests: &RequestList, event: CoreEvent)
     requires valid { D.valid (D.state dev.old) }
     requires fed { IsFed feed.old requests.now (D.seen (D.state dev.old)) }
     ensures step { record { feed = feed.new; dev = D.state dev.new } ≡ happens (record { has_room = D.has_room; received = D.received; transferred = D.transferred; persisted = D.persisted }) requests.now (record { feed = feed.old; dev = D.state dev.old }) event }
@@ -38,7 +38,7 @@ fn do_event<D: OrderedDev>(feed: &mut Feed, dev: &mut D, requests: &[Request], e
 }
 
 // The next command goes to the device, where there is one and there is room.
-fn receive_next<D: OrderedDev>(feed: &mut Feed, dev: &mut D, requests: &[Request])
+fn receive_next<D: OrderedDev>(feed: &mut Feed, dev: &mut D, requests: &RequestList)
     requires valid { D.valid (D.state dev.old) }
     requires fed { IsFed feed.old requests.now (D.seen (D.state dev.old)) }
     ensures step { record { feed = feed.new; dev = D.state dev.new } ≡ happens (record { has_room = D.has_room; received = D.received; transferred = D.transferred; persisted = D.persisted }) requests.now (record { feed = feed.old; dev = D.state dev.old }) CoreEvent.Receive }
@@ -60,7 +60,7 @@ fn receive_next<D: OrderedDev>(feed: &mut Feed, dev: &mut D, requests: &[Request
 fn repeat_event<D: OrderedDev>(
     feed: &mut Feed,
     dev: &mut D,
-    requests: &[Request],
+    requests: &RequestList,
     event: CoreEvent,
     count: u32,
 )
@@ -77,7 +77,7 @@ fn repeat_event<D: OrderedDev>(
 }
 
 // An event line, as often as it says.
-fn do_line<D: OrderedDev>(feed: &mut Feed, dev: &mut D, requests: &[Request], line: EventLine)
+fn do_line<D: OrderedDev>(feed: &mut Feed, dev: &mut D, requests: &RequestList, line: EventLine)
     requires valid { D.valid (D.state dev.old) }
     requires fed { IsFed feed.old requests.now (D.seen (D.state dev.old)) }
     ensures step { record { feed = feed.new; dev = D.state dev.new } ≡ happens_line (record { has_room = D.has_room; received = D.received; transferred = D.transferred; persisted = D.persisted }) requests.now (record { feed = feed.old; dev = D.state dev.old }) line }
@@ -91,7 +91,7 @@ fn do_line<D: OrderedDev>(feed: &mut Feed, dev: &mut D, requests: &[Request], li
 }
 
 // All event lines, one after the other.
-fn do_lines<D: OrderedDev>(feed: &mut Feed, dev: &mut D, requests: &[Request], lines: &[EventLine])
+fn do_lines<D: OrderedDev>(feed: &mut Feed, dev: &mut D, requests: &RequestList, lines: &[EventLine])
     requires valid { D.valid (D.state dev.old) }
     requires fed { IsFed feed.old requests.now (D.seen (D.state dev.old)) }
     ensures run { record { feed = feed.new; dev = D.state dev.new } ≡ run_lines (record { has_room = D.has_room; received = D.received; transferred = D.transferred; persisted = D.persisted }) requests.now (record { feed = feed.old; dev = D.state dev.old }) lines.now }
@@ -122,7 +122,7 @@ pub fn run_on<D: OrderedDev + Drop>(
     do_lines(
         &mut feed,
         &mut dev,
-        script.puts.as_slice(),
+        &script.puts,
         script.events.as_slice(),
     );
     let submitted = script.puts.copy_front(alloc, feed.submitted())?;
@@ -145,7 +145,7 @@ pub fn core_run(alloc: Global, script: &Script) -> Result<Report, NoMemory>
     let image = Image::zeroed(alloc, script.blocks())?;
     let setup = DeviceSetup {
         depth: script.header.depth,
-        limit: script.puts.as_slice().len() as u64,
+        limit: script.puts.len() as u64,
         fail_at: None,
         bad_read: None,
         cut_at: script.header.cut,

@@ -9,6 +9,7 @@ ghost use Rattle.stack_core.specs.Side.{opened_side, submitted, side_accepted, o
 
 use blk_base::NoMemory;
 use epoch_sched::Sched;
+use script_grammar::RequestList;
 use order_model::{Command, Inlet, ListQueue, Outlet, Request, SchedRecord};
 use std::alloc::Global;
 use std::marker::Model;
@@ -61,7 +62,7 @@ impl SchedSide {
 
     /// The next of the requests goes into the submission queue, where there is one and the queue is not
     /// full.
-    pub fn submit(&mut self, requests: &[Request])
+    pub fn submit(&mut self, requests: &RequestList)
         ensures { self.new ≡ submitted requests.now self.old }
     {
         if self.submission.is_full() {
@@ -70,7 +71,7 @@ impl SchedSide {
         let Some(request) = requests.get(self.next) else {
             return;
         };
-        self.submission.push(request.copy());
+        self.submission.push(request);
         self.next += 1;
     }
 

@@ -28,7 +28,7 @@ fn left_by(alloc: Global, text: &[u8]) -> Result<Left, Fail>
     }
     Ok(Left {
         steps: report.cut.trace.steps,
-        submitted: report.submitted.as_slice().len(),
+        submitted: report.submitted.len(),
         accepted: report.sched.accepted.as_slice().len(),
         sent,
         origins: report.cut.origins.as_slice().to_vec(alloc)?,

@@ -2,6 +2,8 @@ use super::*;
 use crate::kinds::ScriptKind::{NotBuilt, Number, Order, Twice, Word};
 use crate::law::{reads_what_is_spelled, tells_first_fault};
 use crate::script_error::ScriptError::Fault;
+use blk_base::Block;
+use order_model::{Kind, Request};
 use std::process::Abort;
 use std::test::Fail;
 
@@ -24,12 +26,9 @@ fn expect_faults(rt: &impl Abort, alloc: Global, rows: &[Row]) {
     }
 }
 
-fn expect_requests(rt: &impl Abort, requests: &[Request], wanted: &[Wanted]) {
+fn expect_requests(rt: &impl Abort, requests: &RequestList, wanted: &[Wanted]) {
     assert_eq!(rt; requests.len(), wanted.len());
-    for (id, (request, (put, ordered, barrier))) in requests.iter().zip(wanted).enumerate() {
-        assert_eq!(rt; request.id, id as u64);
-        assert_eq!(rt; request.ordered, *ordered, "request {id}");
-        assert_eq!(rt; request.barrier, *barrier, "request {id}");
+    for (id, (put, ordered, barrier)) in wanted.iter().enumerate() {
         let kind = match put {
             Some((block, value)) => Kind::Put {
                 block: *block,
@@ -37,7 +36,13 @@ fn expect_requests(rt: &impl Abort, requests: &[Request], wanted: &[Wanted]) {
             },
             None => Kind::Flush,
         };
-        assert!(rt; request.kind == kind, "request {id}");
+        let request = Request {
+            id: id as u64,
+            kind,
+            ordered: *ordered,
+            barrier: *barrier,
+        };
+        assert!(rt; requests.get(id) == Some(request), "request {id}");
     }
 }
 
@@ -305,7 +310,7 @@ fn takes_defaults(rt: HostRuntime) -> Result<(), Fail> {
         assert_eq!(rt; script.kind, kind);
         assert_eq!(rt; script.header, header);
         assert_eq!(rt; script.blocks(), 1);
-        assert!(rt; script.puts.as_slice().is_empty());
+        assert!(rt; script.puts.is_empty());
         assert!(rt; script.events.as_slice().is_empty());
     }
     Ok(())
@@ -339,7 +344,7 @@ persist 0 x 2";
         (Some((1, 0)), false, false),
         (None, true, true),
     ];
-    expect_requests(&rt, script.puts.as_slice(), &requests);
+    expect_requests(&rt, &script.puts, &requests);
     let events = [
         (CoreEvent::Receive, 1_000_000),
         (CoreEvent::Transfer(4_294_967_295), 1),
@@ -372,7 +377,7 @@ submit x 2
     assert_eq!(rt; script.header.queue, 64);
     assert_eq!(rt; script.header.cut, Some(0));
     let requests = [(None, true, true), (Some((1, 0xff)), false, false)];
-    expect_requests(&rt, script.puts.as_slice(), &requests);
+    expect_requests(&rt, &script.puts, &requests);
     let events = [
         (CoreEvent::Submit, 1),
         (CoreEvent::Accept, 1),
@@ -406,11 +411,11 @@ fn copies_scripts(rt: HostRuntime) -> Result<(), Fail> {
     let alloc = rt.alloc();
     let script = read_script(alloc, b"device 1\nflush\nflush\nflush\nevents\nreceive\n")?;
     let copy = script.copy(alloc)?;
-    assert_eq!(rt; copy.puts.as_slice().len(), 3);
+    assert_eq!(rt; copy.puts.len(), 3);
     assert_eq!(rt; copy.events.as_slice().len(), 1);
     for (count, wanted) in [(0, 0), (2, 2), (3, 3), (4, 3)] {
         let front = script.puts.copy_front(alloc, count)?;
-        assert_eq!(rt; front.as_slice().len(), wanted, "of {count}");
+        assert_eq!(rt; front.len(), wanted, "of {count}");
     }
     Ok(())
 }

@@ -9,7 +9,7 @@ use Rattle.device_epochs.specs.Valid.{IsValid}
 use Rattle.device_epochs.specs.Fields.{state_of}
 use Rattle.device_epochs.specs.BoundLaws.{receivable-fits}
 use Rattle.device_epochs.specs.Laws.{received-valid}
-use Rattle.device_epochs.proofs.Moves.{received_to, on_ok}
+use Rattle.device_epochs.proofs.Moves.{received_to}
 use Rattle.device_epochs.proofs.device.EpochDeviceOrderedDev.receive.Goals as goal
 
 pub push-requires-clause-commands : goal.push-requires-clause-commands
@@ -28,8 +28,8 @@ push-requires-clause-parts c =
     let room = c.self.invariant.took in
     omega (arith, fits.1)
 
-pub receive-requires : goal.receive-requires
-receive-requires c =
+pub push-requires-2-clause-next : goal.push-requires-2-clause-next
+push-requires-2-clause-next c =
     let s = state_of c.self.inside in
     let may = subst (λ (t : DeviceState). IsReceivable (seen t) c.args.c) (sym c.self.view_is) c.requires in
     let fits = receivable-fits s c.args.c c.self.invariant.valid may in
@@ -46,8 +46,8 @@ invariant_of-self c =
     let on : is_off s ≡ false = subst (λ (t : DeviceState). is_off t ≡ false) (sym c.self.view_is) (sym c.if-is_off.ensures.value) in
     let fits : length d.queue.waiting < d.queue.depth = search rules in
     let room : has_room s ≡ true = rw on (lt-ltb (length d.queue.waiting) d.queue.depth fits) in
-    let queue : c.receive.new.self ≡ arrived d.queue c.args.c = on_ok (c.receive.new.self ≡ arrived d.queue c.args.c) c.receive.result (c.receive.ensures.when.1 fits) c.receive.ensures.ok in
-    let to = received_to s c.args.c c.push.new.self.items c.receive.new.self (ap (λ (t : HistoryState Command). t.items) c.push.ensures) queue in
+    let queue : c.push-2.new.self ≡ arrived d.queue c.args.c = c.push-2.ensures in
+    let to = received_to s c.args.c c.push.new.self.items c.push-2.new.self (ap (λ (t : HistoryState Command). t.items) c.push.ensures) queue in
     let took = ap (λ (t : HistoryState Command). t.room) c.push.ensures in
     record {
       valid = subst IsValid (sym to) (received-valid s c.args.c h.valid may room);

@@ -1,17 +1,17 @@
 use Rattle.std.proofs.Common.{◌+◌, sym, ◌∙◌, arith}
 use Rattle.command_queue.proofs.Moves.{slot-within, EachOnce-received, seated-received, AreNumbered-received}
-use Rattle.command_queue.proofs.queue.CommandQueue.receive.Goals as goal
+use Rattle.command_queue.proofs.queue.CommandQueue.push.Goals as goal
 
 pub index_mut-requires : goal.index_mut-requires
 index_mut-requires c =
     let within = slot-within _ _ _ _ _ c.self.invariant.apart c.in-Some.ensures.items in
     omega (arith, c.self.invariant.slots)
 
-pub invariant_of-self-2 : goal.invariant_of-self-2
-invariant_of-self-2 c =
+pub invariant_of-self : goal.invariant_of-self
+invariant_of-self c =
     let q = c.self.inside in
     let h = c.self.invariant in
-    let is = seated-received _ q.next _ c.args.c _ _ _ _ _ h.apart c.in-Some.ensures.items (sym q.slots.ok.0 ∙ h.slots) c.push_reserved.ensures.items in
+    let is = seated-received _ q.next _ c.refill.new.self _ _ _ _ _ h.apart c.in-Some.ensures.items (sym q.slots.ok.0 ∙ h.slots) c.push_reserved.ensures.items in
     record {
       some = h.some;
       few = h.few;
@@ -20,12 +20,12 @@ invariant_of-self-2 c =
       room_seats = omega (arith, h.room_seats, c.push_reserved.ensures.capacity);
       room_free = omega (arith, h.room_free, c.in-Some.ensures.capacity);
       apart = EachOnce-received _ q.next _ _ _ _ _ h.apart c.in-Some.ensures.items c.push_reserved.ensures.items;
-      numbered = AreNumbered-received q.next c.args.c _ _ _ _ h.numbered is;
+      numbered = AreNumbered-received q.next c.refill.new.self _ _ _ _ h.numbered is;
     }
 
-pub returns-clause-ok : goal.returns-clause-ok
-returns-clause-ok c =
+pub returns : goal.returns
+returns c =
     let q = c.self.inside in
     let h = c.self.invariant in
-    let is = seated-received _ q.next _ c.args.c _ _ _ _ _ h.apart c.in-Some.ensures.items (sym q.slots.ok.0 ∙ h.slots) c.push_reserved.ensures.items in
-    rw (← c.self.view_is) (λ i. record { depth = q.depth; next = q.next + 1; waiting = is i })
+    let is = seated-received _ q.next _ c.refill.new.self _ _ _ _ _ h.apart c.in-Some.ensures.items (sym q.slots.ok.0 ∙ h.slots) c.push_reserved.ensures.items in
+    rw (← c.self.view_is, ← c.refill.ensures) (λ i. record { depth = q.depth; next = q.next + 1; waiting = is i })
