@@ -1,0 +1,6 @@
+pub mod Marks
+pub mod LastLogged
+pub mod Log
+pub mod Parts
+pub mod Ring
+pub mod laws

@@ -1,0 +1,6 @@
+-- The laws of these meanings, which the public functions name.
+pub mod Marks
+pub mod LastLogged
+pub mod Log
+pub mod Parts
+pub mod Ring
