@@ -1,0 +1,6 @@
+-- The lemmas of the laws.
+pub mod LastLogged
+pub mod Log
+pub mod Marks
+pub mod Parts
+pub mod Ring

@@ -42,18 +42,18 @@ pub record IsLastBody (ls : List Logged) (b : ℕ) (x : List ℕ) : Type 0 where
 -- block b has a last body, x, and no revoke of its transaction or of a later one is of b
 pub record IsLastLogged (txs : List Transaction) (b : ℕ) (x : List ℕ) : Type 0 where
   pub before : List Transaction
-  pub tx : Transaction
+  pub transaction : Transaction
   pub after : List Transaction
-  pub here : txs ≡ before ++ tx ∷ after
-  pub last : IsLastBody tx.bodies b x
-  pub kept : In b tx.revokes → ⊥
+  pub here : txs ≡ before ++ transaction ∷ after
+  pub last : IsLastBody transaction.bodies b x
+  pub kept : In b transaction.revokes → ⊥
   pub none : SaysNothing after b
 
 -- block b is revoked, and no later transaction has a body of it
 pub record IsRevokedLast (txs : List Transaction) (b : ℕ) : Type 0 where
   pub before : List Transaction
-  pub tx : Transaction
+  pub transaction : Transaction
   pub after : List Transaction
-  pub here : txs ≡ before ++ tx ∷ after
-  pub revoked : In b tx.revokes
+  pub here : txs ≡ before ++ transaction ∷ after
+  pub revoked : In b transaction.revokes
   pub none : SaysNothing after b

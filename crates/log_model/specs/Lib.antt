@@ -3,4 +3,3 @@ pub mod LastLogged
 pub mod Log
 pub mod Parts
 pub mod Ring
-pub mod laws

@@ -1,5 +1,5 @@
 use Rattle.std.specs.Prelude.{refl, []}
-use Rattle.log_model.specs.laws.Log.{take_blocks-append, nothing_more_done}
+use Rattle.log_model.proofs.Log.{take_blocks-append, nothing_more_done}
 use Rattle.log_model.specs.Log.{Reading}
 use Rattle.log_model.proofs.laws.logs_are_read_block_by_block.Goals as goal
 

@@ -1,4 +1,4 @@
-use Rattle.log_model.specs.laws.LastLogged.{mark-printed, last_logged-mark, mark-last_logged, revoked_last-mark, mark-revoked_last, silent-keep, keep-silent}
+use Rattle.log_model.proofs.LastLogged.{mark-printed, last_logged-mark, mark-last_logged, revoked_last-mark, mark-revoked_last, silent-keep, keep-silent}
 use Rattle.log_model.proofs.laws.marks_are_last_logged_bodies.Goals as goal
 
 pub returns : goal.returns

@@ -1,4 +1,4 @@
-use Rattle.log_model.specs.laws.Ring.{places_on-up, place_after-last, places_on-place, places_on-add, no_return, once_round, places_from-add}
+use Rattle.log_model.proofs.Ring.{places_on-up, place_after-last, places_on-place, places_on-add, no_return, once_round, places_from-add}
 use Rattle.log_model.proofs.laws.places_go_round_the_ring.Goals as goal
 
 pub returns : goal.returns

@@ -1,4 +1,4 @@
-use Rattle.log_model.specs.laws.Marks.{mark_in-append, replayed-append, transactions_from-split}
+use Rattle.log_model.proofs.Marks.{mark_in-append, replayed-append, transactions_from-split}
 use Rattle.log_model.proofs.laws.ranges_of_transactions_join.Goals as goal
 
 pub returns : goal.returns

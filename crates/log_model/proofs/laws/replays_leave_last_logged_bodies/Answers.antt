@@ -1,6 +1,6 @@
 use Rattle.std.proofs.Common.{◌∙◌}
-use Rattle.log_model.specs.laws.LastLogged.{mark-printed}
-use Rattle.log_model.specs.laws.Marks.{replayed-marked, replayed-unmarked, replayed-again}
+use Rattle.log_model.proofs.LastLogged.{mark-printed}
+use Rattle.log_model.proofs.Marks.{replayed-marked, replayed-unmarked, replayed-again}
 use Rattle.log_model.proofs.laws.replays_leave_last_logged_bodies.Goals as goal
 
 pub returns : goal.returns

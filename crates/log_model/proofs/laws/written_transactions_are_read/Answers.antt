@@ -1,4 +1,4 @@
-use Rattle.log_model.specs.laws.Parts.{parts_spell}
+use Rattle.log_model.proofs.Parts.{parts_spell}
 use Rattle.log_model.proofs.laws.written_transactions_are_read.Goals as goal
 
 pub returns : goal.returns

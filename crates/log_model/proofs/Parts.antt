@@ -4,7 +4,7 @@ use Rattle.std.proofs.Common.{sym, ap, ◌∙◌, arith, append_assoc, append-ni
 use Rattle.std.proofs.lemmas.Bool.{cond-true}
 use Rattle.log_model.specs.Marks.{Logged, Transaction}
 use Rattle.log_model.specs.Log.{Tag, Commits, Format, Reader, Reading, Stopped, take_header, take_blocks, Spells}
-use Rattle.log_model.specs.laws.Log.{take_blocks-append}
+use Rattle.log_model.proofs.Log.{take_blocks-append}
 use Rattle.log_model.specs.Parts.{Part, Describing, Revoking, blocks_of_part, restored, bodies_of_part, revokes_of_part, IsPart, blocks_of_parts, bodies_of_parts, revokes_of_parts, AreParts}
 
 -- ---- reading

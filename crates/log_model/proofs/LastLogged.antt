@@ -7,7 +7,7 @@ use Rattle.std.proofs.lemmas.List.{append-nil}
 use Rattle.blk_base.specs.Members.{In, list_any-In, list_any-none}
 use Rattle.log_model.specs.Marks.{Mark, Keep, Clear, Set, followed, Logged, Transaction, bodies_mark, transaction_mark, mark_in, marked_body}
 use Rattle.log_model.specs.LastLogged.{is_cancelled, bodies_of, uncancelled, last_of, SaysNothing, IsLastBody, IsLastLogged, IsRevokedLast}
-use Rattle.log_model.specs.laws.Marks.{same_Set, keep≢set, clear≢set, keep≢clear, keep-followed, followed-keep, mark_in-append, transaction_mark-clear, bodies≢clear}
+use Rattle.log_model.proofs.Marks.{same_Set, keep≢set, clear≢set, keep≢clear, keep-followed, followed-keep, mark_in-append, transaction_mark-clear, bodies≢clear}
 
 -- ---- by places
 no_body-keep : (ls : List Logged) (b : ℕ) → ((l : Logged) → In l ls → l.block ≢ b) → bodies_mark ls b ≡ Keep
@@ -51,10 +51,10 @@ silent-keep (t ∷ ts) b h =
 pub last_logged-mark : (txs : List Transaction) (b : ℕ) (x : List ℕ) → IsLastLogged txs b x → mark_in txs b ≡ Set x
 last_logged-mark txs b x h =
     ap (λ ts. mark_in ts b) h.here
-    ∙ mark_in-append h.before (h.tx ∷ h.after) b
-    ∙ ap (λ m. followed (mark_in h.before b) (followed (transaction_mark h.tx b) m)) (silent-keep h.after b h.none)
-    ∙ ap (λ u. followed (mark_in h.before b) (followed (bodies_mark h.tx.bodies b) (if u then Clear else Keep))) (unrevoked h.tx b h.kept)
-    ∙ ap (followed (mark_in h.before b)) (last_body-mark h.tx.bodies b x h.last)
+    ∙ mark_in-append h.before (h.transaction ∷ h.after) b
+    ∙ ap (λ m. followed (mark_in h.before b) (followed (transaction_mark h.transaction b) m)) (silent-keep h.after b h.none)
+    ∙ ap (λ u. followed (mark_in h.before b) (followed (bodies_mark h.transaction.bodies b) (if u then Clear else Keep))) (unrevoked h.transaction b h.kept)
+    ∙ ap (followed (mark_in h.before b)) (last_body-mark h.transaction.bodies b x h.last)
 
 -- ---- and back
 
@@ -123,7 +123,7 @@ mark-last_logged (t ∷ ts) b x h = by (mark_in ts b) refl (λ e. mark-last_logg
         let parts = not_cancelled (list_any (λ r. r == b) t.revokes) (bodies_mark t.bodies b) x k in
         record {
           before = [];
-          tx = t;
+          transaction = t;
           after = ts;
           here = refl;
           last = mark-last_body t.bodies b x parts.1;
@@ -133,7 +133,7 @@ mark-last_logged (t ∷ ts) b x h = by (mark_in ts b) refl (λ e. mark-last_logg
     by Clear e again k = absurd (clear≢set x k)
     by (Set y) e again k =
         let r = again (e ∙ k) in
-        record { before = t ∷ r.before; tx = r.tx; after = r.after; here = ap (λ us. t ∷ us) r.here; last = r.last; kept = r.kept; none = r.none }
+        record { before = t ∷ r.before; transaction = r.transaction; after = r.after; here = ap (λ us. t ∷ us) r.here; last = r.last; kept = r.kept; none = r.none }
 
 revoked_here : (t : Transaction) (b : ℕ) → In b t.revokes → transaction_mark t b ≡ Clear
 revoked_here t b i =
@@ -143,9 +143,9 @@ revoked_here t b i =
 pub revoked_last-mark : (txs : List Transaction) (b : ℕ) → IsRevokedLast txs b → mark_in txs b ≡ Clear
 revoked_last-mark txs b h =
     ap (λ ts. mark_in ts b) h.here
-    ∙ mark_in-append h.before (h.tx ∷ h.after) b
-    ∙ ap (λ m. followed (mark_in h.before b) (followed (transaction_mark h.tx b) m)) (silent-keep h.after b h.none)
-    ∙ ap (followed (mark_in h.before b)) (revoked_here h.tx b h.revoked)
+    ∙ mark_in-append h.before (h.transaction ∷ h.after) b
+    ∙ ap (λ m. followed (mark_in h.before b) (followed (transaction_mark h.transaction b) m)) (silent-keep h.after b h.none)
+    ∙ ap (followed (mark_in h.before b)) (revoked_here h.transaction b h.revoked)
 
 -- and the mark gives the revoke
 pub mark-revoked_last : (txs : List Transaction) (b : ℕ) → mark_in txs b ≡ Clear → IsRevokedLast txs b
@@ -154,10 +154,10 @@ mark-revoked_last (t ∷ ts) b h = by (mark_in ts b) refl (λ e. mark-revoked_la
   where
     by : (m : Mark) → mark_in ts b ≡ m → (mark_in ts b ≡ Clear → IsRevokedLast ts b) → followed (transaction_mark t b) m ≡ Clear → IsRevokedLast (t ∷ ts) b
     by Keep e again k =
-        record { before = []; tx = t; after = ts; here = refl; revoked = transaction_mark-clear t b k; none = keep-silent ts b e }
+        record { before = []; transaction = t; after = ts; here = refl; revoked = transaction_mark-clear t b k; none = keep-silent ts b e }
     by Clear e again k =
         let r = again e in
-        record { before = t ∷ r.before; tx = r.tx; after = r.after; here = ap (λ us. t ∷ us) r.here; revoked = r.revoked; none = r.none }
+        record { before = t ∷ r.before; transaction = r.transaction; after = r.after; here = ap (λ us. t ∷ us) r.here; revoked = r.revoked; none = r.none }
     by (Set y) e again k = absurd (clear≢set y (sym k))
 
 -- ---- as a list

@@ -1,6 +1,0 @@
--- The laws of these meanings, which the public functions name.
-pub mod Marks
-pub mod LastLogged
-pub mod Log
-pub mod Parts
-pub mod Ring
