@@ -1,0 +1,6 @@
+//! Laws of crashes.
+#![tactic(auto)]
+
+mod laws;
+
+pub use laws::walks_find_the_prefix;
