@@ -5,3 +5,4 @@ pub mod Trees
 pub mod Text
 pub mod Listing
 pub mod Walk
+pub mod Calls

@@ -10,7 +10,9 @@
 //! `byte_text`.
 #![tactic(auto)]
 
+mod call;
 mod laws;
+mod lists;
 mod maps;
 mod node;
 mod path;
@@ -18,7 +20,9 @@ mod path;
 mod tests;
 mod text;
 
+pub use call::{Call, Reply, Room};
 pub use laws::texts_list_paths;
+pub use lists::{ByteList, NameList};
 pub use maps::{FileBlocks, Names};
 pub use node::{Directory, File, Node, Tree};
 pub use path::{Path, is_dot, paths_are_spelled, read_path};
