@@ -19,7 +19,7 @@ use Rattle.tree_model.specs.declared.node.Directory.{Directory}
 use Rattle.tree_model.specs.declared.node.File.{File}
 use Rattle.tree_model.specs.Maps.{at_number, at_name, put_number, put_name, without_number, name_cmp}
 use Rattle.tree_model.specs.Paths.{path_of}
-use Rattle.tree_model.specs.Trees.{Refusal, not_directory, name_too_long, not_found, step_at, node_of_path}
+use Rattle.tree_model.specs.Trees.{Refusal, not_directory, name_too_long, not_found, step_at, node_of_path, is_directory, directory_links}
 
 -- the nodes by their births
 abbrev pub Tree : Type 0
@@ -135,20 +135,12 @@ above tree birth (name ∷ names) =
 
 -- ---- names in directories
 
-abbrev pub is_directory : Option Node → Bool
-is_directory (Some (nodes.Directory d)) = true
-is_directory other = false
-
 abbrev pub is_file : Option Node → Bool
 is_file (Some (nodes.File f)) = true
 is_file other = false
 
 abbrev pub is_named : Place → Bool
 is_named p = is_some (at_name p.directory.names p.name)
-
--- 2, and one for each of its directories
-abbrev pub directory_links : Tree → Directory → ℕ
-directory_links tree d = 2 + count_by (λ e. is_directory (at_number tree e.1)) d.names
 
 abbrev pub most_links : ℕ
 most_links = 250

@@ -6,3 +6,5 @@ pub mod Text
 pub mod Listing
 pub mod Walk
 pub mod Calls
+pub mod Examples
+pub mod laws

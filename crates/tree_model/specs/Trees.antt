@@ -1,5 +1,6 @@
 -- Trees: nodes by birth, and what a path leads to. The root has birth 0.
-use Rattle.std.specs.Prelude.{◌≡◌, ℕ, nat_lt, if◌then◌else◌, List, [], ◌∷◌, length, Option, Some, None, Result, Ok, Err, IsOk}
+use Rattle.std.specs.Prelude.{◌≡◌, ℕ, ◌+◌, Bool, true, false, ⊤, nat_lt, if◌then◌else◌, List, [], ◌∷◌, length, Option, Some, None, Result, Ok, Err, IsOk}
+use Rattle.std.specs.List.{count_by}
 use Rattle.std.specs.Map.{keys_of}
 use Rattle.tree_model.specs.declared.node.Node.{Node}
 use Rattle.tree_model.specs.declared.node.Node.TheVariants as nodes
@@ -34,9 +35,19 @@ led_to tree birth (name ∷ names) =
 abbrev pub node_of_path : List (ℕ × Node) → List (List ℕ) → Result ℕ Refusal
 node_of_path tree names = led_to tree 0 names
 
+-- ---- links of directories
+
+abbrev pub is_directory : Option Node → Bool
+is_directory (Some (nodes.Directory d)) = true
+is_directory other = false
+
+-- 2, and one for each of its directories
+abbrev pub directory_links : List (ℕ × Node) → Directory → ℕ
+directory_links tree d = 2 + count_by (λ e. is_directory (at_number tree e.1)) d.names
+
 -- ---- trees with the same metadata
 
--- the same kind, size, slots, links and mapped blocks; bytes of files are not compared
+-- the same kind, size, slots, links of files and mapped blocks; bytes of files are not compared
 abbrev pub SameMetadata : Node → Node → Type 0
 SameMetadata (nodes.Directory d) (nodes.Directory e) = d.slots ≡ e.slots
 SameMetadata (nodes.File f) (nodes.File h) = (f.size ≡ h.size) × (f.links ≡ h.links) × (keys_of f.blocks ≡ keys_of h.blocks)
@@ -47,6 +58,11 @@ abbrev pub SameMetadataAt : Option Node → Option Node → Type 0
 SameMetadataAt (Some n) (Some m) = SameMetadata n m
 SameMetadataAt n m = ⊥
 
+-- two directories have the same links, each in its tree
+abbrev pub SameLinks : List (ℕ × Node) → List (ℕ × Node) → Option Node → Option Node → Type 0
+SameLinks tree other (Some (nodes.Directory d)) (Some (nodes.Directory e)) = directory_links tree d ≡ directory_links other e
+SameLinks tree other n m = ⊤
+
 -- Two trees are alike: they have the same paths, each with the same metadata, and two paths lead to one
 -- node in the one exactly where they do in the other. `to` is the map from births to births.
 pub record AreAlike (tree other : List (ℕ × Node)) : Type 0 where
@@ -54,4 +70,15 @@ pub record AreAlike (tree other : List (ℕ × Node)) : Type 0 where
   pub same_paths : (names : List (List ℕ)) (birth : ℕ) → node_of_path tree names ≡ Ok birth → node_of_path other names ≡ Ok (to birth)
   pub no_more_paths : (names : List (List ℕ)) → IsOk (node_of_path other names) → IsOk (node_of_path tree names)
   pub same_metadata : (names : List (List ℕ)) (birth : ℕ) → node_of_path tree names ≡ Ok birth → SameMetadataAt (at_number tree birth) (at_number other (to birth))
+  pub same_links : (names : List (List ℕ)) (birth : ℕ) → node_of_path tree names ≡ Ok birth → SameLinks tree other (at_number tree birth) (at_number other (to birth))
   pub one_node : (names more : List (List ℕ)) (a b : ℕ) → node_of_path tree names ≡ Ok a → node_of_path tree more ≡ Ok b → to a ≡ to b → a ≡ b
+
+-- files with the same bytes
+abbrev pub SameBytes : Option Node → Option Node → Type 0
+SameBytes (Some (nodes.File f)) (Some (nodes.File h)) = f.blocks ≡ h.blocks
+SameBytes n m = ⊤
+
+-- the same tree but for the births: alike, and files with the same bytes
+pub record IsSameButBirths (tree other : List (ℕ × Node)) : Type 0 where
+  pub alike : AreAlike tree other
+  pub same_bytes : (names : List (List ℕ)) (birth : ℕ) → node_of_path tree names ≡ Ok birth → SameBytes (at_number tree birth) (at_number other (alike.to birth))

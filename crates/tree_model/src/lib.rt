@@ -21,7 +21,7 @@ mod tests;
 mod text;
 
 pub use call::{Call, Reply, Room};
-pub use laws::texts_list_paths;
+pub use laws::{examples_of_calls, nodes_have_paths, same_metadata_chains, texts_list_paths};
 pub use lists::{ByteList, NameList};
 pub use maps::{FileBlocks, Names};
 pub use node::{Directory, File, Node, Tree};

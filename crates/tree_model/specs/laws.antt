@@ -1,0 +1,3 @@
+-- Laws of trees and calls.
+pub mod Alike
+pub mod Examples
