@@ -7,4 +7,5 @@ pub mod Listing
 pub mod Walk
 pub mod Calls
 pub mod Examples
+pub mod Histories
 pub mod laws

@@ -1,3 +1,6 @@
 -- Laws of trees and calls.
+pub mod Sums
 pub mod Alike
 pub mod Examples
+pub mod MapOrder
+pub mod Rows

@@ -1,15 +1,16 @@
 -- Two volumes that agree in the metadata of the one have trees that are alike.
-use Rattle.std.specs.Prelude.{◌≡◌, ℕ, nat_lt, if◌then◌else◌, Bool, true, false, List, [], ◌∷◌, length, Option, Some, None, Result, Ok, Err, IsOk, refl, ◌⊎◌}
+use Rattle.std.specs.Prelude.{◌≡◌, ℕ, ◌+◌, nat_lt, if◌then◌else◌, Bool, true, false, List, [], ◌∷◌, length, Option, Some, None, Result, Ok, Err, IsOk, refl, ◌⊎◌}
 use Rattle.std.proofs.Common.{sym, ap, subst, ◌∙◌, inl, inr, ⊎_elim}
 use Rattle.std.proofs.lemmas.Bool.{cases_eq}
 use Rattle.std.proofs.lemmas.Option.{none-some}
+use Rattle.std.specs.List.{count_by}
 use Rattle.std.specs.Map.{keys_of}
 use Rattle.minix_layout.specs.declared.division.Geometry.{Geometry}
 use Rattle.tree_model.specs.declared.node.Node.{Node}
 use Rattle.tree_model.specs.declared.node.Node.TheVariants as nodes
 use Rattle.tree_model.specs.declared.node.Directory.{Directory}
 use Rattle.tree_model.specs.Maps.{at_number, at_name, put_number}
-use Rattle.tree_model.specs.Trees.{Refusal, not_found, name_too_long, step_at, led_to, node_of_path, SameMetadataAt, AreAlike}
+use Rattle.tree_model.specs.Trees.{Refusal, not_found, name_too_long, step_at, led_to, node_of_path, SameMetadataAt, SameLinks, AreAlike, is_directory}
 use Rattle.volume_ops.specs.declared.found.Mapped.{Mapped}
 use Rattle.volume_ops.specs.declared.found.Found.{Found}
 use Rattle.volume_ops.specs.declared.found.Found.TheVariants as found
@@ -21,6 +22,7 @@ use Rattle.volume_ops.specs.Zones.{Fault}
 use Rattle.volume_ops.specs.Walk.{walk_volume}
 use Rattle.volume_ops.specs.Volume.{disk_of, walked, metadata, bodies_of, node_of, put_nodes, tree_found, tree_of}
 use Rattle.tree_model.specs.Listing.{Gives}
+use Rattle.tree_model.specs.laws.Sums.{count_by_same}
 use Rattle.volume_ops.specs.Fields.{IsTreeOf}
 use Rattle.volume_ops.specs.TreeLaws.{tree_of-fields}
 use Rattle.volume_ops.specs.Alike.{SameMetadataAtOrNone}
@@ -130,6 +132,16 @@ module _ (blocks other : List (List ℕ)) where
   found_step (found.File f) name = refl
   found_step (found.Other mode) name = refl
 
+  -- the same kind
+  found_kind : (f : Found) → is_directory (Some (node_of blocks f)) ≡ is_directory (Some (node_of other f))
+  found_kind (found.Directory d) = refl
+  found_kind (found.File f) = refl
+  found_kind (found.Other mode) = refl
+
+  same_kind : (n m : Option Node) → IsOneFound n m → is_directory n ≡ is_directory m
+  same_kind n m (inl none) = rw (none.0, none.1) refl
+  same_kind n m (inr one) = rw (one.1, one.2) (found_kind one.0)
+
   same_step : (n m : Option Node) (name : List ℕ) → IsOneFound n m → step_at m name ≡ step_at n name
   same_step n m name (inl none) = ap (λ o. step_at o name) (none.1 ∙ sym none.0)
   same_step n m name (inr one) = ap (λ o. step_at o name) one.2 ∙ (found_step one.0 name ∙ sym (ap (λ o. step_at o name) one.1))
@@ -145,6 +157,19 @@ module _ (blocks other : List (List ℕ)) where
         ap (λ r. led_on changed names r) (same_step (at_number tree birth) (at_number changed birth) name (each birth))
         ∙ same_on names (step_at (at_number tree birth) name) (same_way names)
 
+    -- the same links
+    same_count : (names : List (List ℕ × ℕ)) → count_by (λ e. is_directory (at_number tree e.1)) names ≡ count_by (λ e. is_directory (at_number changed e.1)) names
+    same_count names = count_by_same (λ e. is_directory (at_number tree e.1)) (λ e. is_directory (at_number changed e.1)) names (λ e. same_kind (at_number tree e.1) (at_number changed e.1) (each e.1))
+
+    found_links : (f : Found) → SameLinks tree changed (Some (node_of blocks f)) (Some (node_of other f))
+    found_links (found.Directory d) = ap (λ n. 2 + n) (same_count d.names)
+    found_links (found.File f) = tt
+    found_links (found.Other mode) = tt
+
+    links_same : (n m : Option Node) → IsOneFound n m → SameLinks tree changed n m
+    links_same n m (inl none) = rw none.0 tt
+    links_same n m (inr one) = rw (one.1, one.2) (found_links one.0)
+
     alike : (g : Geometry) → IsTreeOf g blocks tree → AreAlike tree changed
     alike g fields = record {
       to = λ birth. birth;
@@ -153,6 +178,7 @@ module _ (blocks other : List (List ℕ)) where
       same_metadata = λ names birth h.
           let x = path_stands g blocks tree fields names birth h in
           same_some (at_number tree birth) (at_number changed birth) x.0 (each birth) x.1;
+      same_links = λ names birth h. links_same (at_number tree birth) (at_number changed birth) (each birth);
       one_node = λ names more a b h i e. e;
     }
 
