@@ -4,3 +4,4 @@ pub mod Alike
 pub mod Examples
 pub mod MapOrder
 pub mod Rows
+pub mod Changes
