@@ -291,15 +291,13 @@ without_target tree None = tree
 without_target tree (Some t) = elim (a_file t.node) as (λ _. Tree) [ Err reply ↦ tree | Ok f ↦ lose_link tree t.birth f ]
 
 -- a directory that moved has another parent
-abbrev pub moved_node : Move → Node
-moved_node m = elim (a_directory m.moved.node) as (λ _. Node) [
-  | Err reply ↦ m.moved.node
-  | Ok d ↦ nodes.Directory (record { parent = m.to.parent; slots = d.slots; names = d.names })
-]
+abbrev pub moved_node : ℕ → Node → Node
+moved_node parent (nodes.Directory d) = nodes.Directory (record { parent = parent; slots = d.slots; names = d.names })
+moved_node parent other = other
 
 -- The old name is taken out first, a file that stands at the new one loses a link, and the new name leads to the node.
 abbrev pub tree_moved : Tree → Move → Tree
-tree_moved tree m = put_number (give_name (without_target (take_name tree m.from) m.target) (place_after m) m.moved.birth) m.moved.birth (moved_node m)
+tree_moved tree m = put_number (give_name (without_target (take_name tree m.from) m.target) (place_after m) m.moved.birth) m.moved.birth (moved_node m.to.parent m.moved.node)
 
 -- another directory stands at the new place; a directory in place of a file; the new parent has all its links; the new
 -- parent is full, after the old name was taken out and where no node stands there
@@ -369,16 +367,18 @@ write tree path off bytes =
     refuse_if (nat_lt largest_size (off + length bytes)) replies.TooBig
     (leaves (put_file tree found.birth (written_file f off bytes)))))
 
--- a block with zeros at and past a size
-abbrev pub cut_block : ℕ → ℕ × List ℕ → ℕ × List ℕ
-cut_block size e = (e.0, take (size - 1024 * e.0) e.1 ++ replicate (1024 - (size - 1024 * e.0)) 0)
+-- a block's bytes, with zeros past a size that ends in it
+abbrev pub cut_body : ℕ → ℕ → List ℕ → List ℕ
+cut_body size index body =
+    if nat_le (1024 * index + 1024) size then body
+    else take (size - 1024 * index) body ++ replicate (1024 - (size - 1024 * index)) 0
 
 -- blocks at or past the size are unmapped, and bytes past it in the last block are 0
 abbrev pub cut_file : File → ℕ → File
 cut_file f size = record {
   size = size;
   links = f.links;
-  blocks = map (cut_block size) (filter (λ e. nat_lt (1024 * e.0) size) f.blocks);
+  blocks = map (λ e. (e.0, cut_body size e.0 e.1)) (filter (λ e. nat_lt (1024 * e.0) size) f.blocks);
 }
 
 -- no path; what the walk refuses; a directory; it would be too big
@@ -429,6 +429,18 @@ abbrev pub barrier : Tree → List ℕ → Row
 barrier tree path = and_then (walk_path tree path) (λ found. answers tree replies.Ok)
 
 -- ---- all rows
+
+-- calls that leave each tree as it is
+abbrev pub leaves_tree : Call → Bool
+leaves_tree (calls.Read path off len) = true
+leaves_tree (calls.List path) = true
+leaves_tree (calls.Stat path) = true
+leaves_tree (calls.Fsync path) = true
+leaves_tree (calls.Fdatasync path) = true
+leaves_tree (calls.Fbarrier path) = true
+leaves_tree (calls.Fdatabarrier path) = true
+leaves_tree calls.Sync = true
+leaves_tree other = false
 
 -- what the row of a call with number n says
 unfoldable pub row : Tree → ℕ → Call → Row

@@ -2,7 +2,7 @@
 --
 -- A history is a list of entries over the tree that was opened. The entry at place p, counted from 0, has the number
 -- `first + p + 1`, where `first` is the greatest birth of that tree; so births and numbers of entries never meet.
-use Rattle.std.specs.Prelude.{◌≡◌, ℕ, zero, suc, ◌+◌, ◌-◌, ◌/◌, ◌%◌, ◌==◌, Bool, true, false, not, ◌&&◌, ◌||◌, if◌then◌else◌, List, [], length, is_some, Option, Some, None, Ok, Err, unwrap_or}
+use Rattle.std.specs.Prelude.{◌≡◌, ℕ, zero, suc, ◌+◌, ◌-◌, ◌/◌, ◌%◌, ◌==◌, Bool, true, false, not, ◌&&◌, ◌||◌, if◌then◌else◌, List, [], length, is_some, Option, Some, None, Ok, Err, unwrap_or, Result, Ok, Err}
 use Rattle.std.specs.List.{list_any, slice_get}
 use Rattle.std.specs.Map.{keys_of}
 use Rattle.std.specs.Str.{bytes_eq}
@@ -14,7 +14,7 @@ use Rattle.tree_model.specs.declared.call.Room.{Room}
 use Rattle.tree_model.specs.declared.node.Node.{Node}
 use Rattle.tree_model.specs.declared.node.Node.TheVariants as nodes
 use Rattle.tree_model.specs.Maps.{at_number}
-use Rattle.tree_model.specs.Calls.{Tree, walk_path, touched_blocks, tree_after, reply_of}
+use Rattle.tree_model.specs.Calls.{Tree, Found, walk_path, touched_blocks, tree_after, reply_of}
 
 -- ---- blocks of files
 
@@ -31,8 +31,12 @@ maps_block tree birth index = is_some (block_at tree birth index)
 
 -- ---- what a call writes
 
+abbrev pub is_found_at : Result Found Reply → ℕ → Bool
+is_found_at (Err reply) birth = false
+is_found_at (Ok found) birth = found.birth == birth
+
 abbrev pub leads_to : Tree → List ℕ → ℕ → Bool
-leads_to tree path birth = elim (walk_path tree path) as (λ _. Bool) [ Err reply ↦ false | Ok found ↦ found.birth == birth ]
+leads_to tree path birth = is_found_at (walk_path tree path) birth
 
 abbrev pub is_touched : ℕ → ℕ → ℕ → Bool
 is_touched off len index = list_any (λ i. i == index) (touched_blocks off len)

@@ -5,3 +5,4 @@ pub mod Examples
 pub mod MapOrder
 pub mod Rows
 pub mod Changes
+pub mod Blocks

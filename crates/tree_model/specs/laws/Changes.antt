@@ -15,7 +15,7 @@ use Rattle.tree_model.specs.declared.node.File.{File}
 use Rattle.tree_model.specs.Maps.{at_number, put_number, without_number}
 use Rattle.tree_model.specs.Paths.{path_of}
 use Rattle.tree_model.specs.Trees.{is_directory, directory_links}
-use Rattle.tree_model.specs.Calls.{Tree, Done, Row, Found, Place, Move, refuse_if, and_then, names_in, is_root, walk, walk_path, a_directory, a_file, parent_of, above, is_named, most_links, is_full, give_name, take_name, put_file, with_links, lose_link, new_directory, new_file, mkdir, create, rmdir, unlink, link, target_at, moves_directory, meets_directory, meets_file, stays, changes_parent, place_after, tree_moved, rename_to, rename, largest_size, written_file, write, cut_file, truncate, bytes_from, read, list, stat_of, stat, barrier, row, if_room, outcome}
+use Rattle.tree_model.specs.Calls.{Tree, Done, Row, Found, Place, Move, refuse_if, and_then, names_in, is_root, walk, walk_path, a_directory, a_file, parent_of, above, is_named, most_links, is_full, give_name, take_name, put_file, with_links, lose_link, new_directory, new_file, mkdir, create, rmdir, unlink, link, target_at, moves_directory, meets_directory, meets_file, stays, changes_parent, place_after, tree_moved, rename_to, rename, largest_size, written_file, write, cut_file, truncate, leaves_tree, bytes_from, read, list, stat_of, stat, barrier, row, if_room, outcome}
 use Rattle.tree_model.specs.laws.Rows.{ok_ok, then_ok, refuse_ok, some_ok, directory_ok, file_ok, IsFound, walk_ok, walk_path_ok, IsPlace, parent_ok}
 
 -- a path's text and its names
@@ -23,17 +23,18 @@ abbrev pub HasNames : List ℕ → List (List ℕ) → Type 0
 HasNames path names = path_of path ≡ Some names
 
 -- a name that is not there gets a new node
-pub record IsMade (tree : Tree) (n : ℕ) (node : Node) (after : Tree) : Type 0 where
+pub record IsMade (tree : Tree) (n : ℕ) (node : Node) (d : Done) : Type 0 where
   pub path : List ℕ
   pub names : List (List ℕ)
   pub place : Place
   pub named : HasNames path names
   pub is_place : IsPlace tree names place
   pub free : is_named place ≡ false
-  pub tree_is : after ≡ give_name (put_number tree n node) place n
+  pub tree_is : d.tree ≡ give_name (put_number tree n node) place n
+  pub reply_is : d.reply ≡ replies.Ok
 
 -- a directory without names is gone
-pub record IsRemoved (tree after : Tree) : Type 0 where
+pub record IsRemoved (tree : Tree) (d : Done) : Type 0 where
   pub names : List (List ℕ)
   pub place : Place
   pub found : Found
@@ -42,10 +43,11 @@ pub record IsRemoved (tree after : Tree) : Type 0 where
   pub is_found : IsFound tree names found
   pub node_is : found.node ≡ nodes.Directory directory
   pub empty : (length directory.names == 0) ≡ true
-  pub tree_is : after ≡ without_number (take_name tree place) found.birth
+  pub tree_is : d.tree ≡ without_number (take_name tree place) found.birth
+  pub reply_is : d.reply ≡ replies.Ok
 
 -- a file has one name less
-pub record IsUnlinked (tree after : Tree) : Type 0 where
+pub record IsUnlinked (tree : Tree) (d : Done) : Type 0 where
   pub names : List (List ℕ)
   pub place : Place
   pub found : Found
@@ -53,10 +55,11 @@ pub record IsUnlinked (tree after : Tree) : Type 0 where
   pub is_place : IsPlace tree names place
   pub is_found : IsFound tree names found
   pub node_is : found.node ≡ nodes.File file
-  pub tree_is : after ≡ lose_link (take_name tree place) found.birth file
+  pub tree_is : d.tree ≡ lose_link (take_name tree place) found.birth file
+  pub reply_is : d.reply ≡ replies.Ok
 
 -- a file has one name more
-pub record IsLinked (tree after : Tree) : Type 0 where
+pub record IsLinked (tree : Tree) (d : Done) : Type 0 where
   pub path : List ℕ
   pub names : List (List ℕ)
   pub more : List (List ℕ)
@@ -68,10 +71,11 @@ pub record IsLinked (tree after : Tree) : Type 0 where
   pub node_is : found.node ≡ nodes.File file
   pub is_place : IsPlace tree more place
   pub free : is_named place ≡ false
-  pub tree_is : after ≡ give_name (put_file tree found.birth (with_links file (file.links + 1))) place found.birth
+  pub tree_is : d.tree ≡ give_name (put_file tree found.birth (with_links file (file.links + 1))) place found.birth
+  pub reply_is : d.reply ≡ replies.Ok
 
 -- a node has another name
-pub record IsRenamed (tree after : Tree) : Type 0 where
+pub record IsRenamed (tree : Tree) (d : Done) : Type 0 where
   pub path : List ℕ
   pub names : List (List ℕ)
   pub more : List (List ℕ)
@@ -84,37 +88,42 @@ pub record IsRenamed (tree after : Tree) : Type 0 where
   pub not_below : (moves_directory move && list_any (λ birth. birth == move.moved.birth) (above tree 0 more)) ≡ false
   pub no_directory : meets_directory move ≡ false
   pub no_file : (meets_file move && moves_directory move) ≡ false
-  pub tree_is : after ≡ (if stays move then tree else tree_moved tree move)
+  pub tree_is : d.tree ≡ (if stays move then tree else tree_moved tree move)
+  pub reply_is : d.reply ≡ replies.Ok
 
 -- a file has other bytes
-pub record IsPut (tree : Tree) (path : List ℕ) (change : File → File) (after : Tree) : Type 0 where
+pub record IsPut (tree : Tree) (path : List ℕ) (change : File → File) (d : Done) : Type 0 where
   pub names : List (List ℕ)
   pub found : Found
   pub file : File
   pub walked : walk_path tree path ≡ Ok found
   pub is_found : IsFound tree names found
   pub node_is : found.node ≡ nodes.File file
-  pub tree_is : after ≡ put_file tree found.birth (change file)
+  pub tree_is : d.tree ≡ put_file tree found.birth (change file)
+  pub reply_is : d.reply ≡ replies.Ok
 
 -- what a call did
-pub data Change (tree : Tree) (n : ℕ) (after : Tree) : Call → Type 0 where
-  stayed : {c : Call} → after ≡ tree → Change tree n after c
-  made_directory : {path : List ℕ} (parent : ℕ) → (h : IsMade tree n (new_directory parent) after) → h.path ≡ path → h.place.parent ≡ parent → Change tree n after (calls.Mkdir path)
-  made_file : {path : List ℕ} → IsMade tree n new_file after → Change tree n after (calls.Create path)
-  removed : {path : List ℕ} → IsRemoved tree after → Change tree n after (calls.Rmdir path)
-  unlinked : {path : List ℕ} → IsUnlinked tree after → Change tree n after (calls.Unlink path)
-  linked : {path other : List ℕ} → IsLinked tree after → Change tree n after (calls.Link path other)
-  renamed : {path other : List ℕ} → IsRenamed tree after → Change tree n after (calls.Rename path other)
-  written : {path : List ℕ} {off len value : ℕ} → IsPut tree path (λ f. written_file f off (replicate len value)) after → Change tree n after (calls.Write path off len value)
-  written_bytes : {path : List ℕ} {off : ℕ} {bytes : List ℕ} → IsPut tree path (λ f. written_file f off bytes) after → Change tree n after (calls.Bytes path off bytes)
-  truncated : {path : List ℕ} {size : ℕ} → IsPut tree path (λ f. cut_file f size) after → Change tree n after (calls.Truncate path size)
+pub data Change (tree : Tree) (n : ℕ) (d : Done) : Call → Type 0 where
+  stayed : {c : Call} → leaves_tree c ≡ true → d.tree ≡ tree → Change tree n d c
+  made_directory : {path : List ℕ} (parent : ℕ) → (h : IsMade tree n (new_directory parent) d) → h.path ≡ path → h.place.parent ≡ parent → Change tree n d (calls.Mkdir path)
+  made_file : {path : List ℕ} → IsMade tree n new_file d → Change tree n d (calls.Create path)
+  removed : {path : List ℕ} → IsRemoved tree d → Change tree n d (calls.Rmdir path)
+  unlinked : {path : List ℕ} → IsUnlinked tree d → Change tree n d (calls.Unlink path)
+  linked : {path other : List ℕ} → IsLinked tree d → Change tree n d (calls.Link path other)
+  renamed : {path other : List ℕ} → IsRenamed tree d → Change tree n d (calls.Rename path other)
+  written : {path : List ℕ} {off len value : ℕ} → IsPut tree path (λ f. written_file f off (replicate len value)) d → Change tree n d (calls.Write path off len value)
+  written_bytes : {path : List ℕ} {off : ℕ} {bytes : List ℕ} → IsPut tree path (λ f. written_file f off bytes) d → Change tree n d (calls.Bytes path off bytes)
+  truncated : {path : List ℕ} {size : ℕ} → IsPut tree path (λ f. cut_file f size) d → Change tree n d (calls.Truncate path size)
 
 -- ---- row by row
+
+reply_by : (tree : Tree) (takes : Bool) (reply : Reply) (d : Done) → record { tree = tree; takes_inode = takes; reply = reply } ≡ d → d.reply ≡ reply
+reply_by tree takes reply d same = sym (ap (λ (d : Done). d.reply) same)
 
 abbrev tree_by : (tree : Tree) (takes : Bool) (reply : Reply) (d : Done) → record { tree = tree; takes_inode = takes; reply = reply } ≡ d → d.tree ≡ tree
 tree_by tree takes reply d same = sym (ap (λ (d : Done). d.tree) same)
 
-mkdir_change : (tree : Tree) (n : ℕ) (path : List ℕ) (d : Done) → mkdir tree n path ≡ Ok d → Change tree n d.tree (calls.Mkdir path)
+mkdir_change : (tree : Tree) (n : ℕ) (path : List ℕ) (d : Done) → mkdir tree n path ≡ Ok d → Change tree n d (calls.Mkdir path)
 mkdir_change tree n path d h =
     let a = then_ok (names_in path) _ d h in
     let b = then_ok (parent_of replies.Exists tree a.0) _ d a.2 in
@@ -129,9 +138,10 @@ mkdir_change tree n path d h =
       is_place = parent_ok replies.Exists tree a.0 b.0 b.1;
       free = c.0;
       tree_is = tree_by _ true replies.Ok d (ok_ok _ d f.1);
+      reply_is = reply_by _ true replies.Ok d (ok_ok _ d f.1);
     }) refl refl
 
-create_change : (tree : Tree) (n : ℕ) (path : List ℕ) (d : Done) → create tree n path ≡ Ok d → Change tree n d.tree (calls.Create path)
+create_change : (tree : Tree) (n : ℕ) (path : List ℕ) (d : Done) → create tree n path ≡ Ok d → Change tree n d (calls.Create path)
 create_change tree n path d h =
     let a = then_ok (names_in path) _ d h in
     let b = then_ok (parent_of replies.Exists tree a.0) _ d a.2 in
@@ -145,13 +155,14 @@ create_change tree n path d h =
       is_place = parent_ok replies.Exists tree a.0 b.0 b.1;
       free = c.0;
       tree_is = tree_by _ true replies.Ok d (ok_ok _ d f.1);
+      reply_is = reply_by _ true replies.Ok d (ok_ok _ d f.1);
     })
 
 true_from_not : (b : Bool) → not b ≡ false → b ≡ true
 true_from_not true h = refl
 true_from_not false h = sym h
 
-rmdir_change : (tree : Tree) (n : ℕ) (path : List ℕ) (d : Done) → rmdir tree path ≡ Ok d → Change tree n d.tree (calls.Rmdir path)
+rmdir_change : (tree : Tree) (n : ℕ) (path : List ℕ) (d : Done) → rmdir tree path ≡ Ok d → Change tree n d (calls.Rmdir path)
 rmdir_change tree n path d h =
     let a = then_ok (names_in path) _ d h in
     let b = then_ok (parent_of replies.Invalid tree a.0) _ d a.2 in
@@ -168,9 +179,10 @@ rmdir_change tree n path d h =
       node_is = directory_ok c.0.node e.0 e.1;
       empty = true_from_not (length e.0.names == 0) f.0;
       tree_is = tree_by _ false replies.Ok d (ok_ok _ d f.1);
+      reply_is = reply_by _ false replies.Ok d (ok_ok _ d f.1);
     })
 
-unlink_change : (tree : Tree) (n : ℕ) (path : List ℕ) (d : Done) → unlink tree path ≡ Ok d → Change tree n d.tree (calls.Unlink path)
+unlink_change : (tree : Tree) (n : ℕ) (path : List ℕ) (d : Done) → unlink tree path ≡ Ok d → Change tree n d (calls.Unlink path)
 unlink_change tree n path d h =
     let a = then_ok (names_in path) _ d h in
     let b = then_ok (parent_of replies.Invalid tree a.0) _ d a.2 in
@@ -185,9 +197,10 @@ unlink_change tree n path d h =
       is_found = walk_ok tree a.0 c.0 c.1;
       node_is = file_ok c.0.node e.0 e.1;
       tree_is = tree_by _ false replies.Ok d (ok_ok _ d e.2);
+      reply_is = reply_by _ false replies.Ok d (ok_ok _ d e.2);
     })
 
-link_change : (tree : Tree) (n : ℕ) (path other : List ℕ) (d : Done) → link tree path other ≡ Ok d → Change tree n d.tree (calls.Link path other)
+link_change : (tree : Tree) (n : ℕ) (path other : List ℕ) (d : Done) → link tree path other ≡ Ok d → Change tree n d (calls.Link path other)
 link_change tree n path other d h =
     let a = then_ok (names_in path) _ d h in
     let b = then_ok (names_in other) _ d a.2 in
@@ -210,9 +223,10 @@ link_change tree n path other d h =
       is_place = parent_ok replies.Exists tree b.0 f.0 f.1;
       free = g.0;
       tree_is = tree_by _ false replies.Ok d (ok_ok _ d j.1);
+      reply_is = reply_by _ false replies.Ok d (ok_ok _ d j.1);
     })
 
-rename_change : (tree : Tree) (n : ℕ) (path other : List ℕ) (d : Done) → rename tree path other ≡ Ok d → Change tree n d.tree (calls.Rename path other)
+rename_change : (tree : Tree) (n : ℕ) (path other : List ℕ) (d : Done) → rename tree path other ≡ Ok d → Change tree n d (calls.Rename path other)
 rename_change tree n path other d h =
     let a = then_ok (names_in path) _ d h in
     let b = then_ok (names_in other) _ d a.2 in
@@ -240,9 +254,10 @@ rename_change tree n path other d h =
       no_directory = j.0;
       no_file = k.0;
       tree_is = tree_by _ false replies.Ok d (ok_ok _ d o.1);
+      reply_is = reply_by _ false replies.Ok d (ok_ok _ d o.1);
     })
 
-write_change : (tree : Tree) (path : List ℕ) (off : ℕ) (bytes : List ℕ) (d : Done) → write tree path off bytes ≡ Ok d → IsPut tree path (λ f. written_file f off bytes) d.tree
+write_change : (tree : Tree) (path : List ℕ) (off : ℕ) (bytes : List ℕ) (d : Done) → write tree path off bytes ≡ Ok d → IsPut tree path (λ f. written_file f off bytes) d
 write_change tree path off bytes d h =
     let a = then_ok (walk_path tree path) _ d h in
     let b = then_ok (a_file a.0.node) _ d a.2 in
@@ -256,9 +271,10 @@ write_change tree path off bytes d h =
       is_found = w.2;
       node_is = file_ok a.0.node b.0 b.1;
       tree_is = tree_by _ false replies.Ok d (ok_ok _ d c.1);
+      reply_is = reply_by _ false replies.Ok d (ok_ok _ d c.1);
     }
 
-truncate_change : (tree : Tree) (path : List ℕ) (size : ℕ) (d : Done) → truncate tree path size ≡ Ok d → IsPut tree path (λ f. cut_file f size) d.tree
+truncate_change : (tree : Tree) (path : List ℕ) (size : ℕ) (d : Done) → truncate tree path size ≡ Ok d → IsPut tree path (λ f. cut_file f size) d
 truncate_change tree path size d h =
     let a = then_ok (walk_path tree path) _ d h in
     let b = then_ok (a_file a.0.node) _ d a.2 in
@@ -272,6 +288,7 @@ truncate_change tree path size d h =
       is_found = w.2;
       node_is = file_ok a.0.node b.0 b.1;
       tree_is = tree_by _ false replies.Ok d (ok_ok _ d c.1);
+      reply_is = reply_by _ false replies.Ok d (ok_ok _ d c.1);
     }
 
 read_stays : (tree : Tree) (path : List ℕ) (off len : ℕ) (d : Done) → read tree path off len ≡ Ok d → d.tree ≡ tree
@@ -298,7 +315,7 @@ barrier_stays tree path d h =
     tree_by tree false replies.Ok d (ok_ok _ d a.2)
 
 -- what a call did whose row does not refuse it
-pub row_change : (tree : Tree) (n : ℕ) (c : Call) (d : Done) → row tree n c ≡ Ok d → Change tree n d.tree c
+pub row_change : (tree : Tree) (n : ℕ) (c : Call) (d : Done) → row tree n c ≡ Ok d → Change tree n d c
 unfolding row
 row_change tree n (calls.Mkdir path) d h = mkdir_change tree n path d h
 row_change tree n (calls.Create path) d h = create_change tree n path d h
@@ -309,14 +326,14 @@ row_change tree n (calls.Rename path other) d h = rename_change tree n path othe
 row_change tree n (calls.Write path off len value) d h = written (write_change tree path off (replicate len value) d h)
 row_change tree n (calls.Bytes path off bytes) d h = written_bytes (write_change tree path off bytes d h)
 row_change tree n (calls.Truncate path size) d h = truncated (truncate_change tree path size d h)
-row_change tree n (calls.Read path off len) d h = stayed (read_stays tree path off len d h)
-row_change tree n (calls.List path) d h = stayed (list_stays tree path d h)
-row_change tree n (calls.Stat path) d h = stayed (stat_stays tree path d h)
-row_change tree n (calls.Fsync path) d h = stayed (barrier_stays tree path d h)
-row_change tree n (calls.Fdatasync path) d h = stayed (barrier_stays tree path d h)
-row_change tree n (calls.Fbarrier path) d h = stayed (barrier_stays tree path d h)
-row_change tree n (calls.Fdatabarrier path) d h = stayed (barrier_stays tree path d h)
-row_change tree n calls.Sync d h = stayed (tree_by tree false replies.Ok d (ok_ok _ d h))
+row_change tree n (calls.Read path off len) d h = stayed refl (read_stays tree path off len d h)
+row_change tree n (calls.List path) d h = stayed refl (list_stays tree path d h)
+row_change tree n (calls.Stat path) d h = stayed refl (stat_stays tree path d h)
+row_change tree n (calls.Fsync path) d h = stayed refl (barrier_stays tree path d h)
+row_change tree n (calls.Fdatasync path) d h = stayed refl (barrier_stays tree path d h)
+row_change tree n (calls.Fbarrier path) d h = stayed refl (barrier_stays tree path d h)
+row_change tree n (calls.Fdatabarrier path) d h = stayed refl (barrier_stays tree path d h)
+row_change tree n calls.Sync d h = stayed refl (tree_by tree false replies.Ok d (ok_ok _ d h))
 
 -- a call that is done is one that its row and the room do not refuse
 pub outcome_row : (room : Room) (tree : Tree) (n : ℕ) (c : Call) (d : Done) → outcome room tree n c ≡ Ok d → row tree n c ≡ Ok d
@@ -327,5 +344,5 @@ outcome_row room tree n c d h =
     let e = refuse_ok _ replies.NoSpace _ d b.1 in
     a.1 ∙ e.1
 
-pub outcome_change : (room : Room) (tree : Tree) (n : ℕ) (c : Call) (d : Done) → outcome room tree n c ≡ Ok d → Change tree n d.tree c
+pub outcome_change : (room : Room) (tree : Tree) (n : ℕ) (c : Call) (d : Done) → outcome room tree n c ≡ Ok d → Change tree n d c
 outcome_change room tree n c d h = row_change tree n c d (outcome_row room tree n c d h)
