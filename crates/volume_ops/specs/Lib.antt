@@ -23,3 +23,8 @@ pub mod RootedLaws
 pub mod Alike
 pub mod AlikeLaws
 pub mod DeviceReads
+pub mod ZonePlaces
+pub mod Faultless
+pub mod FirstFault
+pub mod Defects
+pub mod laws
