@@ -1,1 +1,2 @@
 pub mod ZoneTests
+pub mod SlotTests

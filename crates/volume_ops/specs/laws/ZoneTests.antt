@@ -172,3 +172,272 @@ module _ (g : Geometry) (zone holder : ZonePlace → ℕ) (before : List Bool) w
             (λ there e. absurd (apart x low there e)))
             (place_cases (λ y. zone p ≢ 0 → zone p ≡ zone y → p ≡ y) (λ y high there e. absurd (apart y high (λ none. there (e ∙ none)) (sym e)))
             (λ there e. refl))
+
+  -- ---- the scan, part by part
+
+  refused : (h z : ℕ) (met : List Bool) → is_bad_zone g z met ≡ true → take_zone g h z met ≡ Err (BadZone, h)
+  refused h z met bad = rw bad refl
+
+  accepted : (h z : ℕ) (met : List Bool) → is_bad_zone g z met ≡ false → take_zone g h z met ≡ Ok (marked met z)
+  accepted h z met good = rw good refl
+
+  bad_here : (p : ZonePlace) (n h : ℕ) (met : List Bool) → rank p ≡ n → holder p ≡ h → zone p ≢ 0 → AreTaken n met → is_bad_zone g (zone p) met ≡ true →
+      (x : ZonePlace) × StopsAt x × (◌≡◌ {A = Fault} (BadZone, h) (BadZone, holder x))
+  bad_here p n h met r e some t bad =
+      (p, record { met = met; taken = subst (λ n. AreTaken n met) (sym r) t; some = some; bad = bad }, ap (λ h. (BadZone, h)) (sym e))
+
+  good_here : (p : ZonePlace) (n : ℕ) (met : List Bool) → rank p ≡ n → zone p ≢ 0 → AreTaken n met → is_bad_zone g (zone p) met ≡ false → AreTaken (n + 1) (marked met (zone p))
+  good_here p n met r some t good =
+      subst (λ n. AreTaken (n + 1) (marked met (zone p))) r (taken_more p met (subst (λ n. AreTaken n met) (sym r) t) some good)
+
+  hole_here : (p : ZonePlace) (n : ℕ) (met : List Bool) → rank p ≡ n → zone p ≡ 0 → AreTaken n met → AreTaken (n + 1) met
+  hole_here p n met r none t =
+      taken_holes n (n + 1) met t (omega arith) (λ x low high. subst (λ x. zone x ≡ 0) (same_rank p x (omega arith)) none)
+
+  -- the blocks from `index` on have these zones, whose numbers stand in block h
+  abbrev AreBlocks : ℕ → ℕ → ℕ → List ℕ → Type 0
+  AreBlocks h index n zs = (j : ℕ) → j < length zs → (zone (block (index + j)) ≡ slice_index zs j) × (rank (block (index + j)) ≡ n + j) × (holder (block (index + j)) ≡ h)
+
+  blocks_given : (h index n : ℕ) (zs : List ℕ) (s : ZoneScan) → AreBlocks h index n zs → AreTaken n s.met → Gives (n + length zs) (take_blocks g h index zs s)
+  blocks_given h index n [] s at t = let e : n ≡ n + 0 = omega arith in subst (λ n. AreTaken n s.met) e t
+  blocks_given h index n (z ∷ zs) s at t =
+      let none_on : index + 0 ≡ index = omega arith in
+      let first : n + 0 ≡ n = omega arith in
+      let first_is = at 0 (omega arith) in
+      let here : zone (block index) ≡ z = rw none_on at first_is.0 in
+      let rank_is : rank (block index) ≡ n = subst (λ k. rank (block k) ≡ n) none_on (first_is.1 ∙ first) in
+      let held : holder (block index) ≡ h = subst (λ k. holder (block k) ≡ h) none_on first_is.2 in
+      let rest : AreBlocks h (index + 1) (n + 1) zs =
+      (λ j below.
+      let e : index + suc j ≡ (index + 1) + j = omega arith in
+      let more : n + suc j ≡ (n + 1) + j = omega arith in
+      let y = at (suc j) (omega arith) in
+      (subst (λ k. zone (block k) ≡ slice_index zs j) e y.0, subst (λ k. rank (block k) ≡ (n + 1) + j) e (y.1 ∙ more), subst (λ k. holder (block k) ≡ h) e y.2)) in
+      let end : (n + 1) + length zs ≡ n + suc (length zs) = omega arith in
+      subst (λ m. Gives m (take_blocks g h index (z ∷ zs) s)) end
+      (⊎_elim
+      (λ none. rw (eq-eqb z 0 none) (blocks_given h (index + 1) (n + 1) zs s rest (hole_here (block index) n s.met rank_is (here ∙ none) t)))
+      (λ some.
+      let there : zone (block index) ≢ 0 = λ none. some (sym here ∙ none) in
+      ⊎_elim
+      (λ bad. rw (ne_eqb z 0 some, refused h z s.met bad) (bad_here (block index) n h s.met rank_is held there t (subst (λ z. is_bad_zone g z s.met ≡ true) (sym here) bad)))
+      (λ good.
+      rw (ne_eqb z 0 some, accepted h z s.met good)
+      (blocks_given h (index + 1) (n + 1) zs (record { met = marked s.met z; mapped = s.mapped ++ record { index = index; zone = z } ∷ [] }) rest
+      (subst (λ z. AreTaken (n + 1) (marked s.met z)) here (good_here (block index) n s.met rank_is there t (subst (λ z. is_bad_zone g z s.met ≡ false) (sym here) good)))))
+      (cases_Bool (is_bad_zone g z s.met)))
+      (cases_eq z 0))
+
+  -- a zone of numbers, and what is behind it
+  numbers_given : (disk : ℕ → List ℕ) (p : ZonePlace) (h z n m : ℕ) (s : ZoneScan) (next : List ℕ → ZoneScan → Reads (Result ZoneScan Fault)) →
+      zone p ≡ z → rank p ≡ n → holder p ≡ h → AreTaken n s.met → n + 1 ≤ m →
+      (z ≡ 0 → (x : ZonePlace) → n < rank x → rank x < m → zone x ≡ 0) →
+      (z ≢ 0 → (t : ZoneScan) → AreTaken (n + 1) t.met → Gives m (answer disk (next (zone_numbers (disk z)) t))) →
+      Gives m (answer disk (take_numbers g h z s next))
+  numbers_given disk p h z n m s next here rank_is held t more holes behind =
+      ⊎_elim
+      (λ none. rw (eq-eqb z 0 none)
+      (taken_holes (n + 1) m s.met (hole_here p n s.met rank_is (here ∙ none) t) more (λ x low high. holes none x (omega arith) high)))
+      (λ some.
+      let there : zone p ≢ 0 = λ none. some (sym here ∙ none) in
+      ⊎_elim
+      (λ bad. rw (ne_eqb z 0 some, refused h z s.met bad) (bad_here p n h s.met rank_is held there t (subst (λ z. is_bad_zone g z s.met ≡ true) (sym here) bad)))
+      (λ good.
+      rw (ne_eqb z 0 some, accepted h z s.met good)
+      (behind some (record { met = marked s.met z; mapped = s.mapped })
+      (subst (λ z. AreTaken (n + 1) (marked s.met z)) here (good_here p n s.met rank_is there t (subst (λ z. is_bad_zone g z s.met ≡ false) (sym here) good)))))
+      (cases_Bool (is_bad_zone g z s.met)))
+      (cases_eq z 0)
+
+  -- one part, and then another
+  going_on : (disk : ℕ → List ℕ) (r : Result ZoneScan Fault) (next : ZoneScan → Reads (Result ZoneScan Fault)) (n m : ℕ) → Gives n r →
+      ((s : ZoneScan) → AreTaken n s.met → Gives m (answer disk (next s))) → Gives m (answer disk (go_on next r))
+  going_on disk (Ok s) next n m h more = more s h
+  going_on disk (Err fault) next n m h more = h
+
+  given_then : (disk : ℕ → List ℕ) (program : Reads (Result ZoneScan Fault)) (next : ZoneScan → Reads (Result ZoneScan Fault)) (n m : ℕ) → Gives n (answer disk program) →
+      ((s : ZoneScan) → AreTaken n s.met → Gives m (answer disk (next s))) → Gives m (answer disk (if_ok program next))
+  given_then disk program next n m h more =
+      subst (λ r. Gives m r) (sym (answer-and_then disk program (go_on next))) (going_on disk (answer disk program) next n m h more)
+
+-- ---- the zones of an inode
+
+module _ (g : Geometry) (blocks : List (List ℕ)) (table : ℕ) (i : Inode) (nine : length i.zones ≡ 9) (before : List Bool) where
+  abbrev disk : ℕ → List ℕ
+  disk = disk_of blocks
+
+  abbrev entries : ℕ → ℕ → ℕ
+  entries = λ zone at. zone_number (disk_of blocks zone) at
+
+  abbrev zone : ZonePlace → ℕ
+  zone = zone_in blocks i
+
+  abbrev holder : ZonePlace → ℕ
+  holder = holder_in blocks table i
+
+  abbrev Taken : ℕ → List Bool → Type 0
+  Taken = AreTaken g zone holder before
+
+  abbrev Scans : ℕ → Result ZoneScan Fault → Type 0
+  Scans = Gives g zone holder before
+
+  -- behind holes there are holes
+  behind_indirect : slice_index i.zones 7 ≡ 0 → (x : ZonePlace) → 7 < rank x → rank x < 520 → zone x ≡ 0
+  behind_indirect none (block k) low high = by (ranked k)
+    where
+      by : IsRanked k → zone (block k) ≡ 0
+      by (in_inode a p) = absurd (omega arith)
+      by (in_indirect a b p) = zone_at-no_indirect entries i.zones k none a (omega arith)
+      by (in_inner a p) = absurd (omega arith)
+  behind_indirect none indirect low high = absurd (omega arith)
+  behind_indirect none double low high = absurd (omega arith)
+  behind_indirect none (inner k) low high = absurd (omega arith)
+
+  split_index : (k : ℕ) → 519 ≤ k → 519 + 512 * ((k - 519) / 512) + (k - 519) % 512 ≡ k
+  split_index k low = omega arith
+
+  behind_double : slice_index i.zones 8 ≡ 0 → (x : ZonePlace) → 520 < rank x → rank x < 263177 → zone x ≡ 0
+  behind_double none (block k) low high = by (ranked k)
+    where
+      by : IsRanked k → zone (block k) ≡ 0
+      by (in_inode a p) = absurd (omega arith)
+      by (in_indirect a b p) = absurd (omega arith)
+      by (in_inner a p) =
+          subst (λ k. zone (block k) ≡ 0) (split_index k a)
+          (zone_at-no_double entries i.zones ((k - 519) / 512) ((k - 519) % 512) none (omega arith) (omega arith))
+  behind_double none indirect low high = absurd (omega arith)
+  behind_double none double low high = absurd (omega arith)
+  behind_double none (inner k) low high = by (nat_lt k 512)
+    where
+      by : (t : Bool) → (if t then entry_of blocks (slice_index i.zones 8) k else 0) ≡ 0
+      by true = rw (eq-eqb (slice_index i.zones 8) 0 none)
+      by false = refl
+
+  behind_inner : (j : ℕ) → j < 512 → entries (slice_index i.zones 8) j ≡ 0 → (x : ZonePlace) → 521 + 513 * j < rank x → rank x < 521 + 513 * (j + 1) → zone x ≡ 0
+  behind_inner j few none (block k) low high = by (ranked k)
+    where
+      by : IsRanked k → zone (block k) ≡ 0
+      by (in_inode a p) = absurd (omega arith)
+      by (in_indirect a b p) = absurd (omega arith)
+      by (in_inner a p) =
+          let same : (k - 519) / 512 ≡ j = omega arith in
+          subst (λ k. zone (block k) ≡ 0) (split_index k a)
+          (zone_at-no_inner entries i.zones ((k - 519) / 512) ((k - 519) % 512) (subst (λ j. entries (slice_index i.zones 8) j ≡ 0) (sym same) none) (omega arith) (omega arith))
+  behind_inner j few none indirect low high = absurd (omega arith)
+  behind_inner j few none double low high = absurd (omega arith)
+  behind_inner j few none (inner k) low high = absurd (omega arith)
+
+  -- the parts of the map
+  direct_blocks : AreBlocks g zone holder before table 0 0 (take 7 i.zones)
+  direct_blocks j below =
+      let low : j < 7 = omega (arith, length-take 7 i.zones) in
+      let e : 0 + j ≡ j = omega arith in
+      (rw e (zone_at-direct entries i.zones j low ∙ sym (get_or-take 7 i.zones j 0 low)), rw e (rank_low j low), rw (e, lt-ltb j 7 low) refl)
+
+  indirect_blocks : slice_index i.zones 7 ≢ 0 → AreBlocks g zone holder before (slice_index i.zones 7) 7 8 (zone_numbers (disk (slice_index i.zones 7)))
+  indirect_blocks some j below =
+      let low : j < 512 = omega (arith, length-zone_numbers (disk (slice_index i.zones 7))) in
+      let seven : 7 ≤ 7 + j = omega arith in
+      let few : 7 + j < 519 = omega arith in (
+        zone_at-indirect entries i.zones j some low ∙ sym (zone_numbers_at (disk (slice_index i.zones 7)) j low),
+        rank_middle (7 + j) seven few ∙ omega arith,
+        rw (le-ltb (7 + j) 7 seven, lt-ltb (7 + j) 519 few) refl)
+
+  inner_blocks : (k : ℕ) → k < 512 → slice_index i.zones 8 ≢ 0 → (z : ℕ) → entries (slice_index i.zones 8) k ≡ z → z ≢ 0 →
+      AreBlocks g zone holder before z (519 + 512 * k) (522 + 513 * k) (zone_numbers (disk z))
+  inner_blocks k few some z is there j below =
+      let low : j < 512 = omega (arith, length-zone_numbers (disk z)) in
+      let outer : ((519 + 512 * k + j) - 519) / 512 ≡ k = omega arith in
+      let rest : ((519 + 512 * k + j) - 519) % 512 ≡ j = omega arith in
+      let far : 519 ≤ 519 + 512 * k + j = omega arith in
+      let seven : 7 ≤ 519 + 512 * k + j = omega arith in (
+        zone_at-double entries i.zones k j some (λ none. there (sym is ∙ none)) few low ∙ ap (λ z. entries z j) is ∙ sym (zone_numbers_at (disk z) j low),
+        rank_high (519 + 512 * k + j) far ∙ rw (outer, rest) refl,
+        rw (le-ltb (519 + 512 * k + j) 7 seven, le-ltb (519 + 512 * k + j) 519 far, outer, ne_eqb (slice_index i.zones 8) 0 some) is)
+
+  -- ---- the parts of the scan
+
+  indirect_scans : (s : ZoneScan) → Taken 7 s.met → Scans 520 (answer disk (take_indirect g table 7 (slice_index i.zones 7) s))
+  indirect_scans s t =
+      numbers_given g zone holder before disk indirect table (slice_index i.zones 7) 7 520 s (λ numbers after. Ret (take_blocks g (slice_index i.zones 7) 7 numbers after))
+      refl refl refl t (omega arith) behind_indirect
+      (λ some u h.
+      subst (λ n. Scans (8 + n) (take_blocks g (slice_index i.zones 7) 7 (zone_numbers (disk (slice_index i.zones 7))) u)) (length-zone_numbers (disk (slice_index i.zones 7)))
+      (blocks_given g zone holder before (slice_index i.zones 7) 7 8 (zone_numbers (disk (slice_index i.zones 7))) u (indirect_blocks some) h))
+
+  inner_scans : (k : ℕ) → k < 512 → slice_index i.zones 8 ≢ 0 → (z : ℕ) → entries (slice_index i.zones 8) k ≡ z → (s : ZoneScan) → Taken (521 + 513 * k) s.met →
+      Scans (521 + 513 * (k + 1)) (answer disk (take_indirect g (slice_index i.zones 8) (519 + 512 * k) z s))
+  inner_scans k few some z is s t =
+      let here : zone (inner k) ≡ z = rw (lt-ltb k 512 few, ne_eqb (slice_index i.zones 8) 0 some) is in
+      let start : 521 + 513 * k + 1 ≡ 522 + 513 * k = omega arith in
+      let end : 522 + 513 * k + 512 ≡ 521 + 513 * (k + 1) = omega arith in
+      numbers_given g zone holder before disk (inner k) (slice_index i.zones 8) z (521 + 513 * k) (521 + 513 * (k + 1)) s (λ numbers after. Ret (take_blocks g z (519 + 512 * k) numbers after))
+      here refl refl t (omega arith) (λ none. behind_inner k few (is ∙ none))
+      (λ there u h.
+      subst (λ n. Scans n (take_blocks g z (519 + 512 * k) (zone_numbers (disk z)) u)) (ap (λ n. 522 + 513 * k + n) (length-zone_numbers (disk z)) ∙ end)
+      (blocks_given g zone holder before z (519 + 512 * k) (522 + 513 * k) (zone_numbers (disk z)) u (inner_blocks k few some z is there)
+      (subst (λ n. Taken n u.met) start h)))
+
+  inners_scan : (zs : List ℕ) (k : ℕ) → k + length zs ≤ 512 → slice_index i.zones 8 ≢ 0 →
+      ((j : ℕ) → j < length zs → entries (slice_index i.zones 8) (k + j) ≡ slice_index zs j) → (s : ZoneScan) → Taken (521 + 513 * k) s.met →
+      Scans (521 + 513 * (k + length zs)) (answer disk (take_indirects g (slice_index i.zones 8) (519 + 512 * k) zs s))
+  inners_scan [] k few some at s t = let e : k ≡ k + 0 = omega arith in subst (λ k. Taken (521 + 513 * k) s.met) e t
+  inners_scan (z ∷ zs) k few some at s t =
+      let none_on : k + 0 ≡ k = omega arith in
+      let next : 519 + 512 * k + 512 ≡ 519 + 512 * (k + 1) = omega arith in
+      let end : (k + 1) + length zs ≡ k + suc (length zs) = omega arith in
+      given_then g zone holder before disk (take_indirect g (slice_index i.zones 8) (519 + 512 * k) z s) (take_indirects g (slice_index i.zones 8) (519 + 512 * k + 512) zs) (521 + 513 * (k + 1)) (521 + 513 * (k + suc (length zs)))
+      (inner_scans k (omega arith) some z (subst (λ k. entries (slice_index i.zones 8) k ≡ z) none_on (at 0 (omega arith))) s t)
+      (λ u h.
+      subst (λ m. Scans (521 + 513 * (k + suc (length zs))) (answer disk (take_indirects g (slice_index i.zones 8) m zs u))) (sym next)
+      (subst (λ m. Scans (521 + 513 * m) (answer disk (take_indirects g (slice_index i.zones 8) (519 + 512 * (k + 1)) zs u))) end
+      (inners_scan zs (k + 1) (omega arith) some
+      (λ j below. let e : k + suc j ≡ (k + 1) + j = omega arith in subst (λ k. entries (slice_index i.zones 8) k ≡ slice_index zs j) e (at (suc j) (omega arith)))
+      u h)))
+
+  double_scans : (s : ZoneScan) → Taken 520 s.met → Scans 263177 (answer disk (take_double g table (slice_index i.zones 8) s))
+  double_scans s t =
+      let size : 0 + length (zone_numbers (disk (slice_index i.zones 8))) ≡ 512 = omega (arith, length-zone_numbers (disk (slice_index i.zones 8))) in
+      numbers_given g zone holder before disk double table (slice_index i.zones 8) 520 263177 s (λ numbers after. take_indirects g (slice_index i.zones 8) 519 numbers after)
+      refl refl refl t (omega arith) behind_double
+      (λ some u h.
+      subst (λ n. Scans (521 + 513 * n) (answer disk (take_indirects g (slice_index i.zones 8) 519 (zone_numbers (disk (slice_index i.zones 8))) u))) size
+      (inners_scan (zone_numbers (disk (slice_index i.zones 8))) 0 (omega (arith, length-zone_numbers (disk (slice_index i.zones 8)))) some
+      (λ j below. let low : j < 512 = omega (arith, length-zone_numbers (disk (slice_index i.zones 8))) in let e : 0 + j ≡ j = omega arith in rw e (sym (zone_numbers_at (disk (slice_index i.zones 8)) j low)))
+      u h))
+
+  none_taken : length before ≡ g.zones → Taken 0 before
+  none_taken size = record {
+    size = size;
+    kept = λ z h. h;
+    within = λ x low. absurd (omega arith);
+    fresh = λ x low. absurd (omega arith);
+    marks = λ x low. absurd (omega arith);
+    once = λ x y low. absurd (omega arith);
+    from = λ z h. inl h;
+  }
+
+  -- the scan of an inode's zones takes them all, or stops at the first that is bad
+  pub zones_scan : length before ≡ g.zones → Scans 263177 (answer disk (scan_zones g table i.zones before))
+  unfolding scan_zones
+  zones_scan size =
+      let seven : 0 + length (take 7 i.zones) ≡ 7 = omega (arith, length-take 7 i.zones) in
+      given_then g zone holder before disk (Ret (take_blocks g table 0 (take 7 i.zones) (record { met = before; mapped = [] })))
+      (λ s. if_ok (take_indirect g table 7 (slice_index i.zones 7) s) (take_double g table (slice_index i.zones 8))) 7 263177
+      (subst (λ n. Scans n (take_blocks g table 0 (take 7 i.zones) (record { met = before; mapped = [] }))) seven
+      (blocks_given g zone holder before table 0 0 (take 7 i.zones) (record { met = before; mapped = [] }) direct_blocks (none_taken size)))
+      (λ s h.
+      given_then g zone holder before disk (take_indirect g table 7 (slice_index i.zones 7) s) (take_double g table (slice_index i.zones 8)) 520 263177
+      (indirect_scans s h) (λ u k. double_scans u k))
+
+  -- no place behind the last has a zone
+  pub all_ranked : (x : ZonePlace) → zone x ≢ 0 → rank x < 263177
+  all_ranked (block k) some = by (ranked k)
+    where
+      by : IsRanked k → rank (block k) < 263177
+      by (in_inode a p) = omega arith
+      by (in_indirect a b p) = omega arith
+      by (in_inner a p) = ⊎_elim (λ low. omega arith) (λ high. absurd (some (zone_at-past entries i.zones k high))) (cases_lt k 262663)
+  all_ranked indirect some = omega arith
+  all_ranked double some = omega arith
+  all_ranked (inner k) some = ⊎_elim (λ low. omega arith) (λ high. absurd (some (rw (le-ltb k 512 high) refl))) (cases_lt k 512)
