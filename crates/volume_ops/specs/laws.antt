@@ -1,2 +1,4 @@
 pub mod ZoneTests
 pub mod SlotTests
+pub mod SoFar
+pub mod VisitTests

@@ -16,7 +16,7 @@ use Rattle.minix_layout.specs.declared.fault.LayoutFault.{LayoutFault}
 use Rattle.minix_layout.specs.declared.fault.LayoutFault.TheVariants.{BadSlot}
 use Rattle.minix_layout.specs.Slots.{slot_of, inode_in, is_bad_name, name_in}
 use Rattle.tree_model.specs.Maps.{at_name, put_name, name_cmp}
-use Rattle.tree_model.specs.MapsLaws.{at_put_name, at_put_name_cases, at_put_name_kept}
+use Rattle.tree_model.specs.MapsLaws.{at_put_name, at_put_name_cases, at_put_name_kept, In-put_name}
 use Rattle.tree_model.specs.Paths.{is_dot}
 use Rattle.volume_ops.specs.declared.found.Mapped.{Mapped}
 use Rattle.volume_ops.specs.Reads.{Reads, Ret, Read, answer, if_ok, go_on}
@@ -73,6 +73,7 @@ module _ (g : Geometry) (blocks : List (List ℕ)) (i : Inode) (before : List Bo
     pub marks : (p : ℕ) (slot : Slot) → p < n → Entry p slot → IsDirectory g blocks slot.inode → is_marked s.named slot.inode ≡ true
     pub alone : (p q : ℕ) (slot more : Slot) → p < n → q < n → Entry p slot → Entry q more → slot.inode ≡ more.inode → IsDirectory g blocks slot.inode → p ≡ q
     pub by_mark : (k : ℕ) → is_marked s.named k ≡ true → (is_marked before k ≡ true) ⊎ ((p : ℕ) × (slot : Slot) × (p < n) × Entry p slot × (slot.inode ≡ k) × IsDirectory g blocks k)
+    pub told : (e : List ℕ × ℕ) → In e s.names → at_name s.names e.0 ≡ Some e.1
     pub sorted : IsStrictlySortedBy name_cmp (keys_of s.names)
 
   -- what is wrong with the slot at a place, after those before it
@@ -114,6 +115,7 @@ module _ (g : Geometry) (blocks : List (List ℕ)) (i : Inode) (before : List Bo
         marks = λ p slot low e. h.marks p slot (early p slot low e) e;
         alone = λ p q slot other low high e f. h.alone p q slot other (early p slot low e) (early q other high f) e f;
         by_mark = λ k t. ⊎_elim inl (λ x. inr (x.0, x.1, (let low = x.2 in omega arith), x.3, x.4, x.5)) (h.by_mark k t);
+        told = h.told;
         sorted = h.sorted;
       }
 
@@ -183,6 +185,11 @@ module _ (g : Geometry) (blocks : List (List ℕ)) (i : Inode) (before : List Bo
           (λ t. ⊎_elim inl (λ x. inr (x.0, x.1, (let low = x.2 in omega arith), x.3, x.4, x.5)) (h.by_mark k t))
           (λ x. inr (p, slot, omega arith, e, x.0, x.1))
           (n.new k t);
+      told = λ x j.
+          ⊎_elim
+          (λ same. subst (λ (x : List ℕ × ℕ). at_name after.names x.0 ≡ Some x.1) same here)
+          (λ j. old x.0 x.1 (h.told x j))
+          (In-put_name s.names slot.name (birth_of slot.inode) x (subst (λ names. In x names) n.names j));
       sorted = subst (λ (names : List (List ℕ × ℕ)). IsStrictlySortedBy name_cmp (keys_of names)) (sym n.names) (sorted_inserted nat_list_cmp_total s.names slot.name (birth_of slot.inode) h.sorted);
     }
       where
@@ -407,5 +414,6 @@ module _ (g : Geometry) (blocks : List (List ℕ)) (i : Inode) (before : List Bo
     marks = λ p slot low. absurd (omega arith);
     alone = λ p q slot other low. absurd (omega arith);
     by_mark = λ k t. inl t;
+    told = λ x j. absurd j;
     sorted = tt;
   }
