@@ -2,3 +2,4 @@ pub mod ZoneTests
 pub mod SlotTests
 pub mod SoFar
 pub mod VisitTests
+pub mod WalkTests
