@@ -3,6 +3,8 @@ pub mod Geometry
 pub mod Super
 pub mod Inodes
 pub mod Slots
+pub mod Bits
 pub mod SuperLaws
 pub mod InodeLaws
 pub mod SlotLaws
+pub mod BitLaws

@@ -1,4 +1,5 @@
-ghost use Rattle.std.specs.Prelude.{◌≡◌, ◌≢◌, ℕ, ◌*◌, ◌<◌, List, length, Option, Ok, IfSome, slice_index};
+ghost use Rattle.std.specs.Prelude.{◌≡◌, ◌≢◌, ℕ, ◌*◌, ◌/◌, ◌<◌, ◌≤◌, Bool, List, length, Option, Ok, IfSome, slice_index, slice_index_or};
+ghost use Rattle.blk_base.specs.Block.{filled};
 ghost use Rattle.byte_fields.specs.Fields.{Apart, record_at, put_record};
 ghost use Rattle.minix_layout.specs.declared.division.Geometry.{Geometry};
 ghost use Rattle.minix_layout.specs.declared.inode.Inode.{Inode};
@@ -6,6 +7,8 @@ ghost use Rattle.minix_layout.specs.declared.slot.Slot.{Slot};
 ghost use Rattle.minix_layout.specs.Geometry.{IsSound};
 ghost use Rattle.minix_layout.specs.Super.{super_of, super_block};
 ghost use Rattle.minix_layout.specs.Inodes.{inode_of, inode_bytes, FitInode};
+ghost use Rattle.minix_layout.specs.declared.bits.BitPlace.{BitPlace};
+ghost use Rattle.minix_layout.specs.Bits.{bit_of, put_bit, inode_bit, zone_bit, has_bit, with_bit};
 ghost use Rattle.minix_layout.specs.Slots.{slot_of, slot_bytes, IsEntry, IsNamed};
 
 /// A law, which does nothing when it is called: what `write_super` writes of a sound geometry is read
@@ -40,4 +43,31 @@ pub fn slots_are_read()
     ensures bytes { (b : List ℕ) (at k : ℕ) (s : Option Slot) →
         length b ≡ 1024 → at < 64 → IfSome s (λ e. IsNamed e) → Apart 1 k 16 (16 * at) →
         slice_index (put_record 16 at (slot_bytes s) b) k ≡ slice_index b k }
+{}
+
+/// A law, which does nothing when it is called: what `write_bit` writes is read back, other bits of the block are
+/// read as before, and no other byte changes.
+pub fn bits_are_read()
+    ensures read { (b : List ℕ) (at : ℕ) (value : Bool) →
+        length b ≡ 1024 → at < 8192 → bit_of (put_bit b at value) at ≡ value }
+    ensures other { (b : List ℕ) (at other : ℕ) (value : Bool) →
+        length b ≡ 1024 → at < 8192 → at ≢ other → bit_of (put_bit b at value) other ≡ bit_of b other }
+    ensures bytes { (b : List ℕ) (at k : ℕ) (value : Bool) →
+        k ≢ at / 8 → slice_index (put_bit b at value) k ≡ slice_index b k }
+{}
+
+/// A law, which does nothing when it is called: in the blocks of a volume a bit that was written is read back, and
+/// any other bit is read as before, whichever block it stands in. Each inode and each zone of data has a bit of its
+/// own.
+pub fn maps_are_read()
+    ensures read { (blocks : List (List ℕ)) (p : BitPlace) (value : Bool) →
+        p.block < length blocks → length (slice_index_or blocks p.block (filled 0)) ≡ 1024 → p.at < 8192 →
+        has_bit (with_bit blocks p value) p ≡ value }
+    ensures other { (blocks : List (List ℕ)) (p q : BitPlace) (value : Bool) →
+        p.block < length blocks → length (slice_index_or blocks p.block (filled 0)) ≡ 1024 → p.at < 8192 → p ≢ q →
+        has_bit (with_bit blocks p value) q ≡ has_bit blocks q }
+    ensures inodes_apart { (g : Geometry) (n m : ℕ) → inode_bit g n ≡ inode_bit g m → n ≡ m }
+    ensures zones_apart { (g : Geometry) (z w : ℕ) →
+        g.first ≤ z → g.first ≤ w → zone_bit g z ≡ zone_bit g w → z ≡ w }
+    ensures maps_apart { (g : Geometry) (n z : ℕ) → IsSound g → n ≤ g.inodes → inode_bit g n ≢ zone_bit g z }
 {}

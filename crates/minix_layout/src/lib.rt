@@ -3,12 +3,13 @@
 //!
 //! The format is the one of Linux's `include/uapi/linux/minix_fs.h`, version 1 with names of 14 bytes.
 //! All numbers have their lowest byte first. Each part stands in a file of its own: `superblock`, `table`
-//! for the inodes, and `slots` for directories; `specs/` has each as a table of fields, and what is read
+//! for the inodes, `bits` for the maps, and `slots` for directories; `specs/` has each as a table of fields, and what is read
 //! of it. `laws` says that what is written is read back.
 //!
 //! Stands on `blk_base`, whose `Block` has the bytes, and `byte_fields`, which reads and writes them.
 #![tactic(auto)]
 
+mod bits;
 mod division;
 mod fault;
 mod geometry;
@@ -24,10 +25,11 @@ mod table;
 mod tests;
 mod zones;
 
+pub use bits::{BitPlace, read_bit, write_bit};
 pub use division::{Geometry, TooSmall};
 pub use fault::LayoutFault;
 pub use inode::Inode;
-pub use laws::{inodes_are_read, slots_are_read, super_is_read};
+pub use laws::{bits_are_read, inodes_are_read, maps_are_read, slots_are_read, super_is_read};
 pub use name::Name;
 pub use slot::Slot;
 pub use slots::{read_slot, write_slot};

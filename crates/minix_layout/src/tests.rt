@@ -41,6 +41,8 @@ fn makes_and_writes_a_superblock(rt: HostRuntime) {
     super_is_read();
     inodes_are_read();
     slots_are_read();
+    bits_are_read();
+    maps_are_read();
 }
 
 #[test]
@@ -88,6 +90,30 @@ fn refuses_superblocks(rt: HostRuntime) {
         b.set(at + 1, bytes[1]);
         assert_eq!(rt; read_super(&b), Err(fault), "{what}");
     }
+}
+
+#[test]
+fn writes_the_maps(rt: HostRuntime) {
+    let Ok(g) = Geometry::make(8192, 16384) else {
+        panic!(rt; "no volume");
+    };
+    let rows: [(BitPlace, u32, u16); 4] = [
+        (g.inode_bit(1), 2, 1),
+        (g.inode_bit(8192), 3, 0),
+        (g.zone_bit(263), 4, 1),
+        (g.zone_bit(8454), 5, 0),
+    ];
+    for (place, block, at) in rows {
+        assert_eq!(rt; (place.block, place.at), (block, at));
+    }
+    let mut b = Block::fill(0);
+    for at in [0, 1, 9, 8191] {
+        write_bit(&mut b, at, true);
+    }
+    write_bit(&mut b, 1, false);
+    assert_eq!(rt; &b.as_slice()[..3], [1, 2, 0].as_slice());
+    assert_eq!(rt; b.as_slice()[1023], 0x80);
+    assert!(rt; read_bit(&b, 9) && !read_bit(&b, 10));
 }
 
 const INODE: [u8; 32] = [
