@@ -1,0 +1,4 @@
+pub mod Zones
+pub mod Events
+pub mod code
+pub mod laws
