@@ -1,0 +1,14 @@
+use Rattle.std.proofs.Common.{◌++◌, ◌∷◌, [], List, ℕ, map, sym, ap, ◌∙◌, arith}
+use Rattle.std.specs.List.{range_with_len}
+use Rattle.std.proofs.lemmas.List.FromFn.{map-range_with_len_more}
+use Rattle.journal_blocks.specs.Blocks.{revoked_at}
+use Rattle.journal_blocks.proofs.log_block.revoked_in.Goals as goal
+
+pub loop-k-preserved : goal.loop-k-preserved
+loop-k-preserved c =
+    let b = c.args.bytes.now in
+    let k = c.loop-k.k in
+    c.in_ok-push.ensures.items
+    ∙ (ap (λ (xs : List ℕ). xs ++ c.u32_at_be.result ∷ []) c.loop-k.invariant
+    ∙ (ap (λ (n : ℕ). map (revoked_at b) (range_with_len 0 k) ++ n ∷ []) c.u32_at_be.ensures
+    ∙ sym (map-range_with_len_more (revoked_at b) 0 k k (omega arith))))

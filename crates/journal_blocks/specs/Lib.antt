@@ -1,0 +1,6 @@
+pub mod Header
+pub mod Super
+pub mod Blocks
+pub mod Written
+pub mod laws
+pub mod code

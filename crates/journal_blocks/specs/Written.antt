@@ -1,0 +1,37 @@
+-- The blocks of the log that are no bodies, as they are written.
+use Rattle.std.specs.Prelude.{ℕ, ◌+◌, ◌-◌, ◌*◌, ◌==◌, Bool, true, false, if◌then◌else◌, List, [], ◌∷◌, ◌++◌, length}
+use Rattle.byte_fields.specs.Fields.{zeros, bytes_of}
+use Rattle.byte_fields.specs.Fields.Order.{big}
+use Rattle.journal_blocks.specs.declared.tag.Tag.{Tag}
+
+abbrev pub flags_of : Bool → Bool → Bool → ℕ
+flags_of escaped first last = (if escaped then 1 else 0) + ((if first then 0 else 2) + (if last then 8 else 0))
+
+-- the first tag has a uuid, of zeros
+abbrev pub tag_bytes : Bool → Bool → Tag → List ℕ
+tag_bytes first last t = bytes_of big 4 t.block ++ (bytes_of big 2 0 ++ (bytes_of big 2 (flags_of t.escaped first last) ++ zeros (if first then 16 else 0)))
+
+abbrev pub tags_bytes : Bool → List Tag → List ℕ
+tags_bytes first [] = []
+tags_bytes first (t ∷ ts) = tag_bytes first (length ts == 0) t ++ tags_bytes false ts
+
+abbrev pub numbers_bytes : List ℕ → List ℕ
+numbers_bytes [] = []
+numbers_bytes (n ∷ ns) = bytes_of big 4 n ++ numbers_bytes ns
+
+abbrev pub header_bytes : ℕ → ℕ → List ℕ
+header_bytes kind sequence = bytes_of big 4 0xC03B3998 ++ (bytes_of big 4 kind ++ bytes_of big 4 sequence)
+
+-- a block of this type: its header, what it holds, and zeros
+abbrev pub block_with : ℕ → ℕ → List ℕ → List ℕ
+block_with kind sequence held = header_bytes kind sequence ++ (held ++ zeros (1012 - length held))
+
+unfoldable pub descriptor_block : ℕ → List Tag → List ℕ
+descriptor_block sequence tags = block_with 1 sequence (tags_bytes true tags)
+
+-- the count has the header's 12 bytes and its own 4
+unfoldable pub revoke_block : ℕ → List ℕ → List ℕ
+revoke_block sequence blocks = block_with 5 sequence (bytes_of big 4 (16 + 4 * length blocks) ++ numbers_bytes blocks)
+
+unfoldable pub commit_block : ℕ → List ℕ
+commit_block sequence = block_with 2 sequence []

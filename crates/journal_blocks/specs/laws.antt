@@ -1,0 +1,10 @@
+-- Laws of the blocks of a journal.
+pub mod Supers
+pub mod Tags
+pub mod Numbers
+pub mod Headers
+pub mod Descriptors
+pub mod Kinds
+pub mod Faults
+pub mod Revokes
+pub mod Escapes

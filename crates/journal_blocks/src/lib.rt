@@ -1,0 +1,34 @@
+//! The blocks of a journal: its superblock, and the descriptors, revoke blocks and commit blocks of its log.
+//!
+//! The format is JBD2's, as Linux's `include/linux/jbd2.h` has it, in blocks of 1,024 bytes with block numbers of
+//! 32 bits and without checksums. All numbers have their highest byte first. Each of these blocks begins with a
+//! header of 12 bytes: the magic number 0xC03B3998, the type of the block and its sequence, the number of its
+//! transaction. A body stands in the log as it is, but for its first four bytes where they are the magic number.
+//!
+//! `specs/` has each block as it is written and as it is read; `laws` says that what is written is read back.
+//!
+//! Stands on `blk_base`, whose `Block` has the bytes, and `byte_fields`, which reads and writes them.
+#![tactic(auto)]
+
+mod cursor;
+mod escapes;
+mod fault;
+mod header;
+mod laws;
+mod lists;
+mod log_block;
+mod super_block;
+mod tag;
+#[cfg(test)]
+mod tests;
+mod writing;
+
+pub use escapes::{escape, restore};
+pub use fault::JournalFault;
+pub use header::sequence_in;
+pub use laws::{bodies_are_restored, log_blocks_are_read, superblocks_are_read};
+pub use lists::{NumberList, TagList};
+pub use log_block::{LogBlock, read_block};
+pub use super_block::{JournalSuper, read_super, set_tail, write_super};
+pub use tag::Tag;
+pub use writing::{write_commit, write_descriptor, write_revoke};
