@@ -8,3 +8,5 @@ pub mod Kinds
 pub mod Faults
 pub mod Revokes
 pub mod Escapes
+pub mod Logs
+pub mod Readers

@@ -1,5 +1,5 @@
 //! Laws of the blocks of a journal.
-ghost use Rattle.std.specs.Prelude.{◌≡◌, ◌≢◌, ℕ, ◌^◌, ◌<◌, ◌≤◌, List, All, Ok, length, slice_index};
+ghost use Rattle.std.specs.Prelude.{◌≡◌, ◌≢◌, ℕ, ◌+◌, ◌^◌, ◌<◌, ◌≤◌, List, None, All, Ok, length, slice_index};
 ghost use Rattle.byte_fields.specs.Fields.{Apart};
 ghost use Rattle.journal_blocks.specs.declared.super_block.JournalSuper.{JournalSuper};
 ghost use Rattle.journal_blocks.specs.declared.tag.Tag.{Tag};
@@ -7,6 +7,11 @@ ghost use Rattle.journal_blocks.specs.declared.log_block.LogBlock.{LogBlock};
 ghost use Rattle.journal_blocks.specs.Header.{magic_of};
 ghost use Rattle.journal_blocks.specs.Super.{super_of, super_block, with_tail, IsSound};
 ghost use Rattle.journal_blocks.specs.Blocks.{log_block_of, escaped, restored};
+ghost use Rattle.blk_base.specs.Members.{In};
+ghost use Rattle.log_model.specs.Log as model;
+ghost use Rattle.log_model.specs.Marks.{Set, mark_in};
+ghost use Rattle.journal_blocks.specs.Log.{Reading, Entry, Ends, said, found, goes_on, read_log, body_at, log_of};
+ghost use Rattle.journal_blocks.specs.Readers.{format, ring_of};
 ghost use Rattle.journal_blocks.specs.Written.{descriptor_block, revoke_block, commit_block};
 
 /// A law, which does nothing when it is called: what `write_super` writes of a sound superblock is read back as that
@@ -35,4 +40,23 @@ pub fn bodies_are_restored()
     ensures unlike { (b : List ℕ) → magic_of (escaped b).0 ≢ 0xC03B3998 }
     ensures back { (b : List ℕ) → length b ≡ 1024 → ((i : ℕ) → slice_index b i < 256) →
         restored (escaped b).1 (escaped b).0 ≡ b }
+{}
+
+/// A law, which does nothing when it is called: the log of an image has the transactions that the reader of
+/// `log_model` reads by this format, as long as sequences do not come round. So its laws are laws of this log.
+pub fn readers_agree()
+    ensures { (base : ℕ) (s : JournalSuper) (image : List (List ℕ)) →
+        super_of (body_at image base) ≡ Ok s → s.first ≤ s.start → s.start < s.maxlen → 0 < s.start → s.sequence + s.maxlen < 2 ^ 32 →
+        model.log_of format (ring_of s) base (body_at image) ≡ (log_of base s image).done }
+{}
+
+/// A law, which does nothing when it is called: blocks of which none is a commit block of the sequence that is
+/// expected add no transaction, and of a log without a fault no body is for the boot block, the superblock or a block
+/// past the volume.
+pub fn logs_hold_whole_transactions()
+    ensures end { (zones : ℕ) (r : Reading) (entries : List Entry) →
+        ((e : Entry) → In e entries → said r.sequence e.body ≢ Ends) →
+        (found (read_log zones (goes_on r) entries)).done ≡ r.done }
+    ensures inside { (base : ℕ) (s : JournalSuper) (image : List (List ℕ)) (b : ℕ) (x : List ℕ) →
+        (log_of base s image).fault ≡ None → mark_in (log_of base s image).done b ≡ Set x → (2 ≤ b) × (b < base) }
 {}

@@ -5,9 +5,11 @@
 //! header of 12 bytes: the magic number 0xC03B3998, the type of the block and its sequence, the number of its
 //! transaction. A body stands in the log as it is, but for its first four bytes where they are the magic number.
 //!
-//! `specs/` has each block as it is written and as it is read; `laws` says that what is written is read back.
+//! `specs/` has each block as it is written and as it is read, and the log of an image; `laws` says that what is
+//! written is read back, and what the log has.
 //!
-//! Stands on `blk_base`, whose `Block` has the bytes, and `byte_fields`, which reads and writes them.
+//! Stands on `blk_base`, whose `Block` has the bytes, `byte_fields`, which reads and writes them, and `log_model`,
+//! whose transactions a log is read as.
 #![tactic(auto)]
 
 mod cursor;
@@ -26,7 +28,10 @@ mod writing;
 pub use escapes::{escape, restore};
 pub use fault::JournalFault;
 pub use header::sequence_in;
-pub use laws::{bodies_are_restored, log_blocks_are_read, superblocks_are_read};
+pub use laws::{
+    bodies_are_restored, log_blocks_are_read, logs_hold_whole_transactions, readers_agree,
+    superblocks_are_read,
+};
 pub use lists::{NumberList, TagList};
 pub use log_block::{LogBlock, read_block};
 pub use super_block::{JournalSuper, read_super, set_tail, write_super};
