@@ -13,8 +13,8 @@ use Rattle.order_model.proofs.Received.{command_of-lt, command_of-mono, epoch_of
 use Rattle.command_queue.specs.Queue.{Waiting}
 use Rattle.device_epochs.specs.declared.cache.Entry.{Entry}
 use Rattle.device_epochs.specs.CacheSteps.{part_at-lt, part_of-waiting, parts_of-waiting, IsHeld-written}
-use Rattle.device_epochs.specs.CompletionLaws.{flush-completes, flushed-seen}
-use Rattle.device_epochs.specs.Device.{DeviceState, is_off, transferable, moved_in, transferred, persistable, written, persisted, seen}
+use Rattle.device_epochs.specs.CompletionLaws.{flush-completes, completions-seen, flushed-seen}
+use Rattle.device_epochs.specs.Device.{DeviceState, is_off, answers_left, transferable, moved_in, transferred, persistable, written, persisted, seen}
 use Rattle.device_epochs.specs.EpochLaws.{barrier-ordered, waiting-taken, done-before_ordered, ordered-done_before, waits-or-done}
 use Rattle.device_epochs.specs.QueueLaws.{place-before}
 use Rattle.device_epochs.specs.StepLaws.{persistable-In}
@@ -126,9 +126,10 @@ same_flush s v j k id a b =
     id_once s.took j k c.0 d.0 id v.commands.fresh c.1 d.1 (In-flush-id c.0 id c.2) (In-flush-id d.0 id d.2)
 
 pub flush_law : (s : DeviceState) → IsValid s → KeepsFlush (seen s)
-flush_law s v k id x sent h lt before =
-    let r = flushed_source s v id (In-append_left s.sent s.waiting (Flushed id) sent) in
-    let done = subst (IsDone s.took s.queue.waiting) (same_flush s v r.0 k id r.1 h) r.2 in
+flush_law s v k id x told h lt before =
+    let f = completions-seen s.took s.queue.waiting s.sent s.waiting (is_off s) s.told v.completions in
+    let r = flushed-seen s.took s.queue.waiting (s.sent ++ answers_left s) (is_off s) f.0 id f.1 told in
+    let done = subst (IsDone s.took s.queue.waiting) (same_flush s v r.0 k id r.2 h) r.1 in
     let p = slice_get-in_range (all_parts s.took) x lt in
     kept s x p.0 p.1 (v.medium.flushed k id x p.0 h done p.1 before)
 

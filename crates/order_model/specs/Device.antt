@@ -75,6 +75,10 @@ pub record IsQuiet (s : Seen) : Type 0 where
   pub kept : (place : ℕ) → place < length (all_parts s.took) → IsPartKept s place
   pub flushed : (k id : ℕ) → IsFlush s.took k id → In (Flushed id) s.sent
 
+-- the completions, handed out or not
+abbrev pub completed : Seen → List Completion
+completed s = s.sent ++ s.waiting
+
 -- ---- the laws
 
 -- Surface law: each block with an origin holds the body of that part, which went into the cache; every
@@ -92,9 +96,9 @@ pub record KeepsEpochOrder (s : Seen) : Type 0 where
   pub epochs : (x y b : ℕ) → x < length (all_parts s.took) → IsBarrier s.took b → command_of s.took x ≤ b → b < command_of s.took y → IsPartKept s y → IsPartKept s x
   pub blocks : (x y : ℕ) (p q : Part) → x ≤ y → part_at s.took x ≡ Some p → part_at s.took y ≡ Some q → p.block ≡ q.block → IsPartKept s y → IsPartKept s x
 
--- Flush law: where a flush was answered, every part of the commands before it is kept.
+-- Flush law: where a flush completed, every part of the commands before it is kept.
 abbrev pub KeepsFlush : Seen → Type 0
-KeepsFlush s = (k id x : ℕ) → In (Flushed id) s.sent → IsFlush s.took k id → x < length (all_parts s.took) → command_of s.took x < k → IsPartKept s x
+KeepsFlush s = (k id x : ℕ) → In (Flushed id) (completed s) → IsFlush s.took k id → x < length (all_parts s.took) → command_of s.took x < k → IsPartKept s x
 
 -- the id of a completion, where it has one
 abbrev pub completion_id : Completion → Option ℕ

@@ -75,6 +75,6 @@ pub record IsOrderClosed (base : List (List ℕ)) (requests : List Request) (ima
   pub base_of : (block : ℕ) → slice_get origins block ≡ Some None → slice_get image block ≡ slice_get base block
   pub closed : (i j : ℕ) → IsOrderedBefore requests i j → IsKept requests origins j → IsKept requests origins i
 
--- where a flush was answered, every put with a smaller id is kept
+-- where a flush completed, every put with a smaller id is kept
 abbrev pub KeepsFlushed : List Request → List (Option ℕ) → List Completion → Type 0
-KeepsFlushed requests origins sent = (flush i : ℕ) → In (Flushed flush) sent → i < flush → IsPut requests i → IsKept requests origins i
+KeepsFlushed requests origins completed = (flush i : ℕ) → In (Flushed flush) completed → i < flush → IsPut requests i → IsKept requests origins i

@@ -4,16 +4,15 @@ use Rattle.std.specs.Option.{option_and_then}
 use Rattle.std.proofs.lemmas.Bool.{cases_lt, false≢true}
 use Rattle.std.proofs.lemmas.List.{length-map}
 use Rattle.std.proofs.lemmas.Option.{none-some, same_Some}
-use Rattle.blk_base.specs.Members.{In-append_left, slice_get-length, map_some-slice_get, slice_get-map_some}
+use Rattle.blk_base.specs.Members.{slice_get-length, map_some-slice_get, slice_get-map_some}
 use Rattle.order_model.specs.declared.part.Part.{Part}
 use Rattle.order_model.specs.declared.command.Command.{Command}
-use Rattle.order_model.specs.declared.completion.Completion.TheVariants.{Flushed}
 use Rattle.order_model.specs.declared.request.Kind.{Kind}
 use Rattle.order_model.specs.declared.request.Kind.TheVariants.{Put, Flush}
 use Rattle.order_model.specs.declared.request.Request.{Request}
 use Rattle.order_model.specs.Received.{all_parts, part_at, first_part, command_of, IsBarrier, IsFlush}
 use Rattle.order_model.specs.Submission.{is_flush, kind_block, kind_body, IsPutOf, IsFence, IsOrderedBefore, HasOrigin, IsKept, KeepsFlushed}
-use Rattle.order_model.specs.Device.{Seen, origin_ids, IsPartKept, IsSurface, KeepsEpochOrder, KeepsFlush, Completes}
+use Rattle.order_model.specs.Device.{Seen, completed, origin_ids, IsPartKept, IsSurface, KeepsEpochOrder, KeepsFlush, Completes}
 use Rattle.order_model.proofs.Received.{place_of, part_at-place, command_of-first, part_at-first, part-lt, command_of-mono, is-barrier, flush-is}
 use Rattle.order_model.proofs.Single.{part_is, part_of, flush_is, IsPartFor}
 use Rattle.order_model.proofs.OriginIds.{id_at, placed, origin_of, no_origin}
@@ -189,17 +188,17 @@ closed qs s blocks i j fed all surface order before kept =
     (let command = second.command in let lt = before.fence.2 in omega arith)
     (kept_part qs s blocks j fed all kept))
 
--- where a flush was answered, each put before it is kept
-flushed : (qs : List Request) (s : Seen) (blocks : ℕ) → s.took ≡ map command_for qs → AreRequests blocks qs → IsSurface s → KeepsFlush s → Completes s → KeepsFlushed qs (origin_ids s.took s.origins) s.sent
-flushed qs s blocks fed all surface law completes id i sent lt put =
+-- where a flush completed, each put before it is kept
+flushed : (qs : List Request) (s : Seen) (blocks : ℕ) → s.took ≡ map command_for qs → AreRequests blocks qs → IsSurface s → KeepsFlush s → Completes s → KeepsFlushed qs (origin_ids s.took s.origins) (completed s)
+flushed qs s blocks fed all surface law completes id i told lt put =
     let p = part_for qs s.took i put.0 fed put.1 in
-    let f = completes.flushed id (In-append_left s.sent s.waiting (Flushed id) sent) in
+    let f = completes.flushed id told in
     kept_put qs s blocks i put.0 fed all surface put.1
-    (law f.0 id (first_part s.took i) sent f.1 p.within
+    (law f.0 id (first_part s.took i) told f.1 p.within
     (let command = p.command in let place = flush_place qs s.took blocks f.0 id fed all f.1 in omega arith))
 
 pub order_closed : (qs : List Request) (s : Seen) (blocks : ℕ) → s.took ≡ map command_for qs → AreRequests blocks qs → IsSurface s → KeepsEpochOrder s → KeepsFlush s → Completes s
-    → KeepsOrder s.base qs s.surface (origin_ids s.took s.origins) s.sent
+    → KeepsOrder s.base qs s.surface (origin_ids s.took s.origins) (completed s)
 order_closed qs s blocks fed all surface order flush completes =
     record {
       closed = record {

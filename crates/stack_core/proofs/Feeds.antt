@@ -5,7 +5,7 @@ use Rattle.std.proofs.lemmas.Option.{none-some, some_pair_parts}
 use Rattle.order_model.specs.declared.command.Command.{Command}
 use Rattle.order_model.specs.declared.completion.Completion.{Completion}
 use Rattle.order_model.specs.declared.request.Request.{Request}
-use Rattle.order_model.specs.Device.{Seen, origin_ids, IsReceivable, IsSurface, KeepsEpochOrder, KeepsFlush, Completes}
+use Rattle.order_model.specs.Device.{Seen, completed, origin_ids, IsReceivable, IsSurface, KeepsEpochOrder, KeepsFlush, Completes}
 use Rattle.epoch_sched.specs.DispatchedLaws.{opened-valid}
 use Rattle.script_grammar.specs.declared.script.Script.{Script}
 use Rattle.script_grammar.specs.declared.script.Form.{Form}
@@ -109,10 +109,10 @@ seen_fed (Scheduled s) rs old new v base limit took = record {
 -- ---- the order
 
 pub feed_keeps_order : (rs : List Request) (f : Feed) (d : Seen) → IsFed f rs d → IsSurface d → KeepsEpochOrder d → KeepsFlush d → Completes d
-    → (base image : List (List ℕ)) (qs : List Request) (origins : List (Option ℕ)) (sent : List Completion)
-    → base ≡ d.base → qs ≡ take (submitted_count f) rs → image ≡ d.surface → origins ≡ origin_ids d.took d.origins → sent ≡ d.sent
-    → KeepsOrder base qs image origins sent
-feed_keeps_order rs (Direct next) d v surface epochs flush completes base image qs origins sent eb eq ei eo es =
-    keeps_order next rs d v surface epochs flush completes base image qs origins sent eb eq ei eo es
-feed_keeps_order rs (Scheduled s) d v surface epochs flush completes base image qs origins sent eb eq ei eo es =
+    → (base image : List (List ℕ)) (qs : List Request) (origins : List (Option ℕ)) (told : List Completion)
+    → base ≡ d.base → qs ≡ take (submitted_count f) rs → image ≡ d.surface → origins ≡ origin_ids d.took d.origins → told ≡ completed d
+    → KeepsOrder base qs image origins told
+feed_keeps_order rs (Direct next) d v surface epochs flush completes base image qs origins told eb eq ei eo es =
+    keeps_order next rs d v surface epochs flush completes base image qs origins told eb eq ei eo es
+feed_keeps_order rs (Scheduled s) d v surface epochs flush completes base image qs origins told eb eq ei eo es =
     rw (eb, eq, ei, eo, es) (scheduled_keeps_order rs s d v surface epochs flush completes)

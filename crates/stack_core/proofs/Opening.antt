@@ -1,5 +1,5 @@
 -- The device that a script opens.
-use Rattle.std.proofs.Common.{◌≡◌, ℕ, List, length, refl, sym, ap, ◌∙◌, subst, arith}
+use Rattle.std.proofs.Common.{◌≡◌, ℕ, ◌++◌, List, length, refl, sym, ap, ◌∙◌, subst, arith}
 use Rattle.std.proofs.lemmas.List.{length-replicate}
 use Rattle.blk_base.specs.Block.{filled}
 use Rattle.blk_base.specs.Image.{zeros}
@@ -8,7 +8,6 @@ use Rattle.device_epochs.specs.Valid.{IsValid}
 use Rattle.device_epochs.specs.Laws.{opened-valid}
 use Rattle.script_grammar.specs.declared.script.Script.{Script}
 use Rattle.std.proofs.Common.{ap₂}
-use Rattle.order_model.specs.declared.request.Request.{Request}
 use Rattle.std.proofs.Common.{Result, Ok, Err, IfOk}
 use Rattle.order_model.specs.Device.{Seen}
 use Rattle.stack_core.specs.declared.report.Report.{Report}
@@ -17,7 +16,7 @@ use Rattle.stack_core.specs.Report.{IsReportOf, Headline}
 use Rattle.script_grammar.specs.Grammar.{blocks_of, IsRunnable}
 use Rattle.stack_core.specs.declared.feed.Feed.{Feed}
 use Rattle.stack_core.specs.Feed.{opened_feed, IsFed, AreRequests}
-use Rattle.stack_core.specs.Core.{opened_for}
+use Rattle.stack_core.specs.Core.{opened_for, core}
 use Rattle.stack_core.proofs.Feeds.{opened_fed}
 
 pub valid_when_opened : (s : Script) → IsRunnable s → IsValid (opened_for s)
@@ -29,9 +28,9 @@ fed_when_opened s can =
 
 -- a report keeps the order over the zeros of its own script
 pub headline_of : {E : Type 0} (result : Result Report E) (s : Script) (feed : Feed) (end : Seen) → IfOk result (IsReportOf s feed end)
-    → IfOk result (λ r. KeepsOrder (zeros (blocks_of s)) r.submitted r.cut.image r.cut.origins r.cut.trace.sent.items) → IfOk result Headline
+    → IfOk result (λ r. KeepsOrder (zeros (blocks_of s)) r.submitted r.cut.image r.cut.origins (r.cut.trace.sent.items ++ (seen (core s).dev).waiting)) → IfOk result Headline
 headline_of (Ok r) s feed end is order =
-    subst (λ t. KeepsOrder (zeros (blocks_of t)) r.submitted r.cut.image r.cut.origins r.cut.trace.sent.items) (sym is.script) order
+    subst (λ t. KeepsOrder (zeros (blocks_of t)) r.submitted r.cut.image r.cut.origins (r.cut.trace.sent.items ++ (seen (core t).dev).waiting)) (sym is.script) order
 headline_of (Err e) s feed end is order = tt
 
 -- what was made of the script's numbers is the device that it opens

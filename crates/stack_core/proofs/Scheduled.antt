@@ -9,7 +9,7 @@ use Rattle.order_model.specs.declared.command.Command.{Command}
 use Rattle.order_model.specs.declared.command.Priority.TheVariants.{Ordered}
 use Rattle.order_model.specs.declared.request.Request.{Request}
 use Rattle.order_model.specs.Received.{ids_of, all_ids}
-use Rattle.order_model.specs.Device.{Seen, origin_ids, IsReceivable, NoneTwice, IsSurface, KeepsEpochOrder, KeepsFlush, Completes}
+use Rattle.order_model.specs.Device.{Seen, completed, origin_ids, IsReceivable, NoneTwice, IsSurface, KeepsEpochOrder, KeepsFlush, Completes}
 use Rattle.order_model.specs.Single.{command_of_request, parts_for}
 use Rattle.order_model.proofs.Received.{all_ids-push}
 use Rattle.barrier_reassign.specs.Epoch.{Waiting, can_accept, picked, leaves_flagged}
@@ -281,7 +281,7 @@ is_run rs s d v surface = record {
 }
 
 pub scheduled_keeps_order : (rs : List Request) (s : SideState) (d : Seen) → IsScheduled s rs d → IsSurface d → KeepsEpochOrder d → KeepsFlush d → Completes d
-    → KeepsOrder d.base (take s.next rs) d.surface (origin_ids d.took d.origins) d.sent
+    → KeepsOrder d.base (take s.next rs) d.surface (origin_ids d.took d.origins) (completed d)
 scheduled_keeps_order rs s d v surface epochs flush completes =
     let run = is_run rs s d v surface in
     record {

@@ -5,7 +5,7 @@ use Rattle.order_model.specs.declared.completion.Completion.{Completion}
 use Rattle.order_model.specs.Submission.{IsOrderClosed, KeepsFlushed}
 
 -- The first sentence of the headline: what the power cut left is order-closed for what the host asked for,
--- and where a flush was answered all before it was kept.
-pub record KeepsOrder (base : List (List ℕ)) (requests : List Request) (image : List (List ℕ)) (origins : List (Option ℕ)) (sent : List Completion) : Type 0 where
+-- and where a flush completed, whether that was handed out or not, all before it was kept.
+pub record KeepsOrder (base : List (List ℕ)) (requests : List Request) (image : List (List ℕ)) (origins : List (Option ℕ)) (completed : List Completion) : Type 0 where
   pub closed : IsOrderClosed base requests image origins
-  pub flushed : KeepsFlushed requests origins sent
+  pub flushed : KeepsFlushed requests origins completed

@@ -1,5 +1,5 @@
 -- Which report a run leaves.
-use Rattle.std.specs.Prelude.{◌≡◌, take}
+use Rattle.std.specs.Prelude.{◌≡◌, ◌++◌, take}
 use Rattle.blk_base.specs.Image.{zeros}
 use Rattle.order_model.specs.Device.{Seen, origin_ids}
 use Rattle.order_model.specs.Steps.{IsTraceOf}
@@ -26,6 +26,7 @@ pub record IsReportOf (s : Script) (feed : Feed) (left : Seen) (r : Report) : Ty
 abbrev pub IsCoreReport : Script → Report → Type 0
 IsCoreReport s r = IsReportOf s (core s).feed (seen (core s).dev) r
 
--- The headline, as far as a script of block requests goes: its first sentence, over a medium of zeros.
+-- The headline, as far as a script of block requests goes: its first sentence, over a medium of zeros. What
+-- completed is what was handed out, and what the device still had to hand out when the power was cut.
 abbrev pub Headline : Report → Type 0
-Headline r = KeepsOrder (zeros (blocks_of r.script)) r.submitted r.cut.image r.cut.origins r.cut.trace.sent.items
+Headline r = KeepsOrder (zeros (blocks_of r.script)) r.submitted r.cut.image r.cut.origins (r.cut.trace.sent.items ++ (seen (core r.script).dev).waiting)

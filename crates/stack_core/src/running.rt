@@ -1,5 +1,5 @@
 //! The run of a script on a device.
-ghost use Rattle.std.specs.Prelude.{◌≡◌, ℕ, ◌≤◌, true, length, IfOk};
+ghost use Rattle.std.specs.Prelude.{◌≡◌, ℕ, ◌≤◌, ◌++◌, true, length, IfOk};
 ghost use Rattle.script_grammar.specs.Grammar.{IsRunnable};
 ghost use Rattle.stack_core.specs.Feed.{IsFed, opened_feed};
 ghost use Rattle.stack_core.specs.Core.{Machine, RunState, happens, times, happens_line, run_lines};
@@ -91,7 +91,12 @@ fn do_line<D: OrderedDev>(feed: &mut Feed, dev: &mut D, requests: &RequestList, 
 }
 
 // All event lines, one after the other.
-fn do_lines<D: OrderedDev>(feed: &mut Feed, dev: &mut D, requests: &RequestList, lines: &[EventLine])
+fn do_lines<D: OrderedDev>(
+    feed: &mut Feed,
+    dev: &mut D,
+    requests: &RequestList,
+    lines: &[EventLine],
+)
     requires valid { D.valid (D.state dev.old) }
     requires fed { IsFed feed.old requests.now (D.seen (D.state dev.old)) }
     ensures run { record { feed = feed.new; dev = D.state dev.new } ≡ run_lines (record { has_room = D.has_room; received = D.received; transferred = D.transferred; persisted = D.persisted }) requests.now (record { feed = feed.old; dev = D.state dev.old }) lines.now }
@@ -115,16 +120,13 @@ pub fn run_on<D: OrderedDev + Drop>(
     ensures core { let machine : Machine D.State = record { has_room = D.has_room; received = D.received; transferred = D.transferred; persisted = D.persisted } in
         let end = run_lines machine script.now.puts (record { feed = opened_feed script.now; dev = D.state dev }) script.now.events in
         IfOk result (IsReportOf script.now end.feed (D.seen end.dev)) }
-    ensures order { IfOk result (λ r. KeepsOrder (D.seen (D.state dev)).base r.submitted r.cut.image r.cut.origins r.cut.trace.sent.items) }
+    ensures order { let machine : Machine D.State = record { has_room = D.has_room; received = D.received; transferred = D.transferred; persisted = D.persisted } in
+        let end = run_lines machine script.now.puts (record { feed = opened_feed script.now; dev = D.state dev }) script.now.events in
+        IfOk result (λ r. KeepsOrder (D.seen (D.state dev)).base r.submitted r.cut.image r.cut.origins (r.cut.trace.sent.items ++ (D.seen end.dev).waiting)) }
 {
     let mut dev = dev;
     let mut feed = Feed::open(alloc, script)?;
-    do_lines(
-        &mut feed,
-        &mut dev,
-        &script.puts,
-        script.events.as_slice(),
-    );
+    do_lines(&mut feed, &mut dev, &script.puts, script.events.as_slice());
     let submitted = script.puts.copy_front(alloc, feed.submitted())?;
     let sched = feed.into_record(alloc)?;
     let script = script.copy(alloc)?;

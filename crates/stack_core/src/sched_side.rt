@@ -9,8 +9,8 @@ ghost use Rattle.stack_core.specs.Side.{opened_side, submitted, side_accepted, o
 
 use blk_base::NoMemory;
 use epoch_sched::Sched;
-use script_grammar::RequestList;
 use order_model::{Command, Inlet, ListQueue, Outlet, Request, SchedRecord};
+use script_grammar::RequestList;
 use std::alloc::Global;
 use std::marker::Model;
 

@@ -1,4 +1,4 @@
-use Rattle.std.proofs.Common.{IfOk, sym, subst}
+use Rattle.std.proofs.Common.{◌++◌, IfOk, sym, subst}
 use Rattle.device_epochs.specs.Device.{seen}
 use Rattle.device_epochs.specs.Valid.{IsValid}
 use Rattle.stack_core.specs.Feed.{IsFed, opened_feed}
@@ -26,4 +26,6 @@ returns-clause-order c =
     let s = c.args.script.now in
     let same = opened_is c.args.script.now c.in_ok-dev.dev c.in_ok-image.image c.len.result c.blocks-2.result c.in_ok-dev.ensures c.in_ok-image.ensures c.blocks-2.ensures c.len.ensures in
     headline_of c.run_on.result s _ _ c.run_on.ensures.core
-    (subst (λ d. IfOk c.run_on.result (λ r. KeepsOrder (seen d).base r.submitted r.cut.image r.cut.origins r.cut.trace.sent.items)) same c.run_on.ensures.order)
+    (subst
+    (λ d. IfOk c.run_on.result (λ r. KeepsOrder (seen d).base r.submitted r.cut.image r.cut.origins (r.cut.trace.sent.items ++ (seen (run_lines epoch_machine s.puts (record { feed = opened_feed s; dev = d }) s.events).dev).waiting)))
+    same c.run_on.ensures.order)
