@@ -1,4 +1,7 @@
+pub mod Direct
 pub mod Histories
+pub mod Medium
+pub mod Next
 pub mod Received
 mod Walks
 pub mod OriginIds

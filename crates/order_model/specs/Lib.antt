@@ -1,3 +1,4 @@
+pub mod Carrying
 pub mod Device
 pub mod History
 pub mod Parts

@@ -23,3 +23,7 @@ command_of_request r flagged = record {
   barrier = flagged;
   flush = flush_for r.id r.kind;
 }
+
+-- a request as a command of its own: ORDERED exactly where it is a barrier, as a flush is
+abbrev pub command_for : Request → Command
+command_for r = command_of_request r r.barrier

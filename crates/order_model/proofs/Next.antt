@@ -1,0 +1,42 @@
+-- The next command of a scheduler is one that the device may be given.
+use Rattle.std.proofs.Common.{◌≡◌, ℕ, ◌<◌, ◌≤◌, ◌||◌, Bool, true, false, List, [], ◌∷◌, ◌++◌, length, Option, Some, None, is_some, slice_get, All, refl, sym, ap, ap₂, subst, ◌∙◌, arith, if◌then◌else◌, append_assoc, inl}
+use Rattle.std.specs.Option.{option_and_then}
+use Rattle.std.proofs.lemmas.Bool.{false≢true}
+use Rattle.std.proofs.lemmas.List.{length-append}
+use Rattle.blk_base.specs.Members.{In, In-All, In-append_right}
+use Rattle.order_model.specs.declared.part.Part.{Part}
+use Rattle.order_model.specs.declared.command.Command.{Command}
+use Rattle.order_model.specs.declared.command.Priority.{Priority}
+use Rattle.order_model.specs.declared.command.Priority.TheVariants.{Simple, Ordered}
+use Rattle.order_model.specs.declared.request.Request.{Request}
+use Rattle.order_model.specs.Received.{ids_of, all_ids}
+use Rattle.order_model.specs.Submission.{kind_block, IsPutOf}
+use Rattle.order_model.specs.Device.{Seen, IsReceivable, NoneTwice}
+use Rattle.order_model.specs.Carrying.{SchedSeen, Carries}
+use Rattle.order_model.proofs.Received.{all_ids-append, none_twice-front}
+
+-- the ids of the commands that were taken, of the next one, and of the others
+ids_next : (took : List Command) (c : Command) (rest : List Command) → all_ids (took ++ c ∷ rest) ≡ (all_ids took ++ ids_of c) ++ all_ids rest
+ids_next took c rest = all_ids-append took (c ∷ rest) ∙ sym (append_assoc (all_ids took) (ids_of c) (all_ids rest))
+
+flagged_ordered : (b : Bool) (p : Priority) (flush : Option ℕ) → p ≡ (if b then Ordered else Simple) → ((id : ℕ) → flush ≡ Some id → b ≡ true) → (b || is_some flush) ≡ true → p ≡ Ordered
+flagged_ordered true p flush e flag h = e
+flagged_ordered false p None e flag h = absurd (false≢true h)
+flagged_ordered false p (Some id) e flag h = absurd (false≢true (flag id refl))
+
+-- The device took the first commands, c is the next, and all blocks are there.
+pub next_receivable : (s : SchedSeen) (d : Seen) (c : Command) (rest : List Command) → Carries s → s.sent_out ≡ d.took ++ c ∷ rest
+    → ((i block : ℕ) → IsPutOf s.accepted i block → block < length d.surface) → length s.accepted ≤ d.limit → IsReceivable d c
+next_receivable s d c rest v sent blocks few =
+    let there : In c s.sent_out = subst (In c) (sym sent) (In-append_right d.took (c ∷ rest) c (inl refl)) in
+    let ids : all_ids s.sent_out ≡ (all_ids d.took ++ ids_of c) ++ all_ids rest = ap all_ids sent ∙ ids_next d.took c rest in
+    record {
+      whole = v.whole c there;
+      ordered = flagged_ordered c.barrier c.priority c.flush (v.priority c there) (λ id e. v.flush_flag c id there e);
+      within = In-All (λ (p : Part). p.block < length d.surface) c.parts
+          (λ p h.
+          let a = v.parts c p there h in
+          blocks a.place p.block (ap (option_and_then (λ (r : Request). kind_block r.kind)) a.taken ∙ ap kind_block a.same));
+      fresh = none_twice-front (all_ids d.took ++ ids_of c) (all_ids rest) (subst NoneTwice ids v.once);
+      few = let n = ap length ids ∙ length-append (all_ids d.took ++ ids_of c) (all_ids rest) in let m = v.counted in omega arith;
+    }
