@@ -14,11 +14,12 @@ use Rattle.barrier_reassign.specs.Epoch as epoch
 use Rattle.barrier_reassign.specs.Epoch.{EpochState, Waiting, can_accept, eligible, picked, left, leaving, leaves_flagged}
 use Rattle.epoch_sched.specs.declared.sched.Sched.TheInside.{Inside}
 use Rattle.order_model.specs.Single.{parts_for, command_of_request}
-use Rattle.epoch_sched.specs.Sched.{SchedState}
+use Rattle.barrier_reassign.specs.Sched.{SchedState, seen_of}
 use Rattle.epoch_sched.specs.Fields.{IsSched, state_of}
-use Rattle.epoch_sched.specs.Valid.{IsAcceptable, IsValid}
-use Rattle.epoch_sched.specs.AcceptedLaws.{accepted-valid}
-use Rattle.epoch_sched.specs.DispatchedLaws.{sent-valid, picked-leaves}
+use Rattle.barrier_reassign.specs.Valid.{IsValid}
+use Rattle.barrier_reassign.specs.Scheduler.{IsAcceptable}
+use Rattle.barrier_reassign.specs.AcceptedLaws.{accepted-valid}
+use Rattle.barrier_reassign.specs.DispatchedLaws.{sent-valid, picked-leaves}
 
 -- ---- an acceptance
 
@@ -28,7 +29,7 @@ accepted_history s r = record { items = s.trace.accepted.items ++ r ∷ []; room
 abbrev fields_with : Inside → EpochState → HistoryState Request → HistoryState Command → Inside
 fields_with s queue accepted sent_out = record { limit = s.limit; queue = queue; trace = record { accepted = accepted; sent_out = sent_out } }
 
-pub accepted_fields : (s : Inside) (r copy : Request) (queue : EpochState) (history : HistoryState Request) → IsSched s → IsAcceptable (state_of s) r → can_accept s.queue ≡ true → queue ≡ epoch.accepted s.queue r → copy ≡ r → history ≡ accepted_history s copy → IsSched (fields_with s queue history s.trace.sent_out)
+pub accepted_fields : (s : Inside) (r copy : Request) (queue : EpochState) (history : HistoryState Request) → IsSched s → IsAcceptable (seen_of (state_of s)) r → can_accept s.queue ≡ true → queue ≡ epoch.accepted s.queue r → copy ≡ r → history ≡ accepted_history s copy → IsSched (fields_with s queue history s.trace.sent_out)
 accepted_fields s r copy queue history v a can e same h =
     let fields : IsSched (fields_with s (epoch.accepted s.queue r) (accepted_history s r) s.trace.sent_out) = record {
       valid = accepted-valid (state_of s) r v.valid a can;

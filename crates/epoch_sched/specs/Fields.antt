@@ -1,8 +1,8 @@
 -- A scheduler's fields, and what they keep.
 use Rattle.std.specs.Prelude.{◌≡◌}
 use Rattle.epoch_sched.specs.declared.sched.Sched.TheInside.{Inside}
-use Rattle.epoch_sched.specs.Sched.{SchedState}
-use Rattle.epoch_sched.specs.Valid.{IsValid}
+use Rattle.barrier_reassign.specs.Sched.{SchedState}
+use Rattle.barrier_reassign.specs.Valid.{IsValid}
 
 abbrev pub state_of : Inside → SchedState
 state_of s = record { limit = s.limit; accepted = s.trace.accepted.items; sent_out = s.trace.sent_out.items; queue = s.queue }

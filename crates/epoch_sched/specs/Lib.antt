@@ -1,10 +1,1 @@
-pub mod AcceptedLaws
-pub mod DispatchedLaws
 pub mod Fields
-pub mod Fits
-pub mod OrderLaws
-pub mod Places
-pub mod ProgressLaws
-pub mod Sched
-pub mod Valid
-pub mod WentLaws

@@ -1,23 +1,15 @@
-ghost use Rattle.std.specs.Prelude.{◌≡◌, ◌≢◌, ℕ, ◌<◌, ◌≤◌, ◌↔◌, true, length, IsOk, IsNone, IfOk, OnOk, IfErr, if◌then◌else◌};
-ghost use Rattle.std.specs.Option.{option_map};
-ghost use Rattle.blk_base.specs.Members.{In};
-ghost use Rattle.barrier_reassign.specs.Epoch.{can_accept, is_blocked, eligible, picked, leaves_flagged};
-ghost use Rattle.order_model.specs.Single.{command_of_request};
-ghost use Rattle.epoch_sched.specs.Sched.{opened, accepted, dispatched, KeepsOrder};
+ghost use Rattle.std.specs.Prelude.{◌≡◌, IfOk};
+ghost use Rattle.barrier_reassign.specs.Sched.{SchedState, opened, sched_steps};
+ghost use Rattle.barrier_reassign.specs.Valid.{IsValid};
+ghost use Rattle.barrier_reassign.specs.SchedulerLaws as laws;
 
-use barrier_reassign::{EpochQueue, Held};
+use barrier_reassign::{CAPACITY, EpochQueue, Held, LONGEST, Scheduler};
 use blk_base::NoMemory;
-use order_model::{Command, Commands, History, Kind, Request, SchedRecord};
+use order_model::{Command, Commands, History, Request, SchedRecord};
 use std::alloc::Global;
 use std::marker::Model;
 
-/// How many requests may wait in a scheduler.
-pub const CAPACITY: u32 = 128;
-
-// More than so many requests are not recorded.
-const LONGEST: u64 = 1 << 40;
-
-/// A scheduler with one queue.
+/// A scheduler with one queue, which sends each request as a command of its own.
 ///
 /// All its room is reserved by `make`: no other call takes memory.
 #[derive(Drop)]
@@ -28,7 +20,7 @@ pub struct Sched {
 }
 
 impl Model for Sched {
-    ghost use Rattle.epoch_sched.specs.Sched.{SchedState};
+    ghost use Rattle.barrier_reassign.specs.Sched.{SchedState};
 
     ghost Value = { SchedState };
 
@@ -58,65 +50,46 @@ impl Sched {
             },
         })
     }
+}
 
-    /// Whether `accept` takes a request.
-    pub fn can_accept(&self) -> bool
-        ensures value { result ≡ can_accept self.now.queue }
-        ensures blocked { is_blocked self.now.queue ≡ true → 0 < length self.now.queue.waiting }
-    {
+impl Scheduler for Sched {
+    ghost State = { SchedState };
+
+    ghost state = { λ s. s };
+
+    ghost steps = { sched_steps };
+
+    ghost valid = { IsValid };
+
+    fn can_accept(&self) -> bool {
         self.queue.can_accept()
     }
 
-    /// Takes a request, or hands it back with the reason. The record gets it as it was submitted.
-    pub fn accept(&mut self, r: Request) -> Result<(), (Request, Held)>
-        requires few { length self.old.accepted < self.old.limit }
-        requires new { (p : Request) → In p self.old.accepted → p.id ≢ r.id }
-        requires barrier { r.barrier ≡ true → r.ordered ≡ true }
-        requires flush { r.kind ≡ Kind.Flush → (r.ordered ≡ true) × (r.barrier ≡ true) }
-        ensures when { IsOk result ↔ (can_accept self.old.queue ≡ true) }
-        ensures ok { OnOk result (self.new ≡ accepted self.old r) }
-        ensures back { IfErr result (λ e. (e.0 ≡ r) × (e.1 ≡ (if is_blocked self.old.queue then Held.Blocked else Held.Full)) × (self.new ≡ self.old)) }
-    {
+    fn accept(&mut self, r: Request) -> Result<(), (Request, Held)> {
         let submitted = r.copy();
         self.queue.accept(r)?;
         self.trace.accepted.push(submitted);
         Ok(())
     }
 
-    /// The length of the eligible list.
-    pub fn eligible(&self) -> u32
-        ensures value { result ≡ length (eligible self.now.queue.waiting) }
-        ensures some { 0 < length self.now.queue.waiting → 0 < result }
-    {
+    fn eligible(&self) -> u32 {
         self.queue.eligible()
     }
 
-    /// Takes the request at place `pick` of the eligible list, and gives its command.
-    pub fn dispatch(&mut self, pick: u32) -> Option<Command>
-        ensures none { IsNone result ↔ (length (eligible self.old.queue.waiting) ≤ pick) }
-        ensures command { result ≡ option_map (λ w. command_of_request w.request (leaves_flagged self.old.queue w)) (picked self.old.queue pick) }
-        ensures state { self.new ≡ dispatched self.old pick }
-    {
+    fn dispatch(&mut self, pick: u32) -> Option<Command> {
         let (r, flagged) = self.queue.leave(pick)?;
         let command = Command::of_request(r, flagged);
         self.trace.sent_out.push(&command);
         Some(command)
     }
 
-    /// What was accepted and sent out so far.
-    pub fn trace(&self) -> &SchedRecord
-        ensures accepted { result.now.accepted.items ≡ self.now.accepted }
-        ensures sent_out { result.now.sent_out.items ≡ self.now.sent_out }
-        ensures order { KeepsOrder self.now }
-    {
+    fn trace(&self) -> &SchedRecord {
         &self.trace
     }
 
-    pub fn into_trace(self) -> SchedRecord
-        ensures accepted { result.accepted.items ≡ self.accepted }
-        ensures sent_out { result.sent_out.items ≡ self.sent_out }
-        ensures order { KeepsOrder self }
-    {
+    fn into_trace(self) -> SchedRecord {
         self.trace
     }
+
+    ghost keeps = { laws.keeps };
 }

@@ -1,10 +1,9 @@
 ghost use Rattle.std.specs.Prelude.{◌≡◌, true, length};
 ghost use Rattle.order_model.specs.Submission.{is_flush};
-ghost use Rattle.epoch_sched.specs.Places.{AreAtIds};
+ghost use Rattle.order_model.specs.Carrying.{AreAtIds};
 
 use super::*;
-use crate::sched::CAPACITY;
-use barrier_reassign::Held;
+use barrier_reassign::{CAPACITY, Held, Scheduler};
 use blk_base::{Block, NoMemory};
 use order_model::{Command, Kind, Priority, Request};
 use std::alloc::Global;

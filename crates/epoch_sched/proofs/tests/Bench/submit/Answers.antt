@@ -1,13 +1,19 @@
-use Rattle.std.proofs.Common.{length, ap, sym, subst, ◌∙◌, arith}
+use Rattle.std.proofs.Common.{rules, length, ap, sym, subst, ◌∙◌, arith}
 use Rattle.std.proofs.lemmas.List.{length_push}
-use Rattle.epoch_sched.specs.Places.{AreAtIds, next_id-new, AreAtIds-push}
-use Rattle.epoch_sched.specs.Sched.{SchedState}
+use Rattle.order_model.specs.Carrying.{AreAtIds}
+use Rattle.barrier_reassign.specs.Places.{next_id-new, AreAtIds-push}
+use Rattle.barrier_reassign.specs.Sched.{SchedState}
 use Rattle.epoch_sched.proofs.tests.Bench.submit.Goals as goal
 
-pub accept-requires-clause-new : goal.accept-requires-clause-new
-accept-requires-clause-new c =
+pub accept-requires : goal.accept-requires
+accept-requires c =
     let bench = c.args.self.now in
-    next_id-new bench.sched.accepted c.request.result.id bench.ids (c.request.ensures.id ∙ bench.numbered)
+    record {
+      few = search rules;
+      new = next_id-new bench.sched.accepted c.request.result.id bench.ids (c.request.ensures.id ∙ bench.numbered);
+      barrier = c.request.ensures.barrier;
+      flush = c.request.ensures.flush;
+    }
 
 pub invariant_of-self-2-clause-numbered : goal.invariant_of-self-2-clause-numbered
 invariant_of-self-2-clause-numbered c =

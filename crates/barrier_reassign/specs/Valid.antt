@@ -8,16 +8,9 @@ use Rattle.order_model.specs.Submission.{is_flush, IsPutOf, IsOrdered, IsFence}
 use Rattle.barrier_reassign.specs.declared.closing.Closing.TheVariants as closings
 use Rattle.barrier_reassign.specs.Epoch.{Waiting, is_open, is_blocked, unflagged}
 use Rattle.order_model.specs.Single.{command_of_request}
-use Rattle.epoch_sched.specs.Sched.{SchedState, IsBarrierCommand, IsFlushAt}
-
--- a request that the scheduler may be given
-pub record IsAcceptable (s : SchedState) (r : Request) : Type 0 where
-  -- fewer than it may accept in all were accepted, and none of them has its id
-  pub few : length s.accepted < s.limit
-  pub new : (p : Request) → In p s.accepted → p.id ≡ r.id → ⊥
-  -- a barrier is order-preserving, and a flush is so and has the barrier flag
-  pub barrier : r.barrier ≡ true → r.ordered ≡ true
-  pub flush : r.kind ≡ Flush → (r.ordered ≡ true) × (r.barrier ≡ true)
+use Rattle.order_model.specs.Received.{IsBarrier}
+use Rattle.order_model.specs.Carrying.{IsFlushAt}
+use Rattle.barrier_reassign.specs.Sched.{SchedState}
 
 -- command k is that of the request at place i; a flush left with the flag
 pub record Went (s : SchedState) (i k : ℕ) : Type 0 where
@@ -40,7 +33,7 @@ IsPassed s b = (b + 1 < length s.accepted) ⊎ (is_open s.queue.closing ≡ true
 -- Command p is a barrier command that stands for the fence at place b: at or after the commands of what is
 -- order-preserving up to b, and before those of all that was accepted after b.
 pub record StandsFor (s : SchedState) (b p : ℕ) : Type 0 where
-  pub barrier : IsBarrierCommand s p
+  pub barrier : IsBarrier s.sent_out p
   pub before : (i k : ℕ) → i ≤ b → IsOrdered s.accepted i → Went s i k → k ≤ p
   pub after : (j l : ℕ) → b < j → Went s j l → p < l
 
@@ -80,13 +73,13 @@ pub record IsValid (s : SchedState) : Type 0 where
   -- what is order-preserving and waits was accepted after each fence that was passed, and what waits at
   -- all after each such flush
   pub behind_fence : (w : Waiting) (b : ℕ) → In w s.queue.waiting → w.request.ordered ≡ true → IsFence s.accepted b → IsPassed s b → b < w.number
-  pub behind_flush : (w : Waiting) (b : ℕ) → In w s.queue.waiting → IsFlushAt s b → IsPassed s b → b < w.number
+  pub behind_flush : (w : Waiting) (b : ℕ) → In w s.queue.waiting → IsFlushAt s.accepted b → IsPassed s b → b < w.number
   -- a barrier command stands for each fence that was passed
   pub fences : (b : ℕ) → IsFence s.accepted b → IsPassed s b → (p : ℕ) × StandsFor s b p
   -- the order of puts of one block, and of what was accepted before and after a flush
   pub blocks : (i j l block : ℕ) → i < j → IsPutOf s.accepted i block → IsPutOf s.accepted j block → Went s j l → (k : ℕ) × Went s i k × (k < l)
-  pub before_flush : (i f l : ℕ) → i < f → IsFlushAt s f → Went s f l → (k : ℕ) × Went s i k × (k < l)
-  pub after_flush : (f j l : ℕ) → f < j → IsFlushAt s f → Went s j l → (k : ℕ) × Went s f k × (k < l)
+  pub before_flush : (i f l : ℕ) → i < f → IsFlushAt s.accepted f → Went s f l → (k : ℕ) × Went s i k × (k < l)
+  pub after_flush : (f j l : ℕ) → f < j → IsFlushAt s.accepted f → Went s j l → (k : ℕ) × Went s f k × (k < l)
   -- what has not left while the queue is closed
   pub epoch_closing : s.queue.closing ≡ closings.Barrier → IsEpochClosing s
   pub flush_closing : s.queue.closing ≡ closings.Flush → IsFlushClosing s

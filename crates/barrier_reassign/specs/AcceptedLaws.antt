@@ -13,9 +13,11 @@ use Rattle.order_model.specs.Submission.{is_flush, IsPutOf, IsFence}
 use Rattle.barrier_reassign.specs.declared.closing.Closing.TheVariants as closings
 use Rattle.barrier_reassign.specs.Epoch.{Waiting, is_open, is_barrier_closing, is_full, can_accept, unflagged, closing_of}
 use Rattle.order_model.specs.Single.{command_of_request}
-use Rattle.epoch_sched.specs.Sched.{SchedState, accepted, IsFlushAt}
-use Rattle.epoch_sched.specs.Valid.{IsAcceptable, Went, IsFrom, IsPassed, StandsFor, IsEpochClosing, IsFlushClosing, IsValid}
-use Rattle.epoch_sched.specs.WentLaws.{is_flush_closing, went-length, command-id, true-is_flush, holds-length, holds-push_below, holds-push_cases}
+use Rattle.barrier_reassign.specs.Sched.{SchedState, accepted, seen_of}
+use Rattle.order_model.specs.Carrying.{IsFlushAt}
+use Rattle.barrier_reassign.specs.Scheduler.{IsAcceptable}
+use Rattle.barrier_reassign.specs.Valid.{Went, IsFrom, IsPassed, StandsFor, IsEpochClosing, IsFlushClosing, IsValid}
+use Rattle.barrier_reassign.specs.WentLaws.{is_flush_closing, went-length, command-id, true-is_flush, holds-length, holds-push_below, holds-push_cases}
 
 abbrev entrant : SchedState → Request → Waiting
 entrant s r = record { number = s.queue.next; request = unflagged r }
@@ -83,7 +85,7 @@ went-keeps s r i k g = record {
   flag = g.flag;
 }
 
-went-before : (s : SchedState) (r : Request) → IsValid s → IsAcceptable s r → (i k : ℕ) → Went (accepted s r) i k → Went s i k
+went-before : (s : SchedState) (r : Request) → IsValid s → IsAcceptable (seen_of s) r → (i k : ℕ) → Went (accepted s r) i k → Went s i k
 went-before s r v a i k g =
     let m = v.made k (slice_get-length s.sent_out k (command_of_request g.request g.flagged) g.sent) in
     let p = m.1.request in
@@ -96,7 +98,7 @@ went-before s r v a i k g =
 
 -- ---- the parts
 
-accepted-ids : (s : SchedState) (r : Request) → IsValid s → IsAcceptable s r → (i j : ℕ) (p q : Request) → slice_get (s.accepted ++ r ∷ []) i ≡ Some p → slice_get (s.accepted ++ r ∷ []) j ≡ Some q → p.id ≡ q.id → i ≡ j
+accepted-ids : (s : SchedState) (r : Request) → IsValid s → IsAcceptable (seen_of s) r → (i j : ℕ) (p q : Request) → slice_get (s.accepted ++ r ∷ []) i ≡ Some p → slice_get (s.accepted ++ r ∷ []) j ≡ Some q → p.id ≡ q.id → i ≡ j
 accepted-ids s r v a i j p q e f d =
     ⊎_elim
     (λ old.
@@ -156,7 +158,7 @@ accepted-somewhere s r v i lt =
     inl (entrant s r, In-push s.queue.waiting (entrant s r), e))
     (cases_lt i (length s.accepted))
 
-accepted-not_both : (s : SchedState) (r : Request) → IsValid s → IsAcceptable s r → (w : Waiting) (k : ℕ) → In w (s.queue.waiting ++ entrant s r ∷ []) → Went (accepted s r) w.number k → ⊥
+accepted-not_both : (s : SchedState) (r : Request) → IsValid s → IsAcceptable (seen_of s) r → (w : Waiting) (k : ℕ) → In w (s.queue.waiting ++ entrant s r ∷ []) → Went (accepted s r) w.number k → ⊥
 accepted-not_both s r v a w k h g =
     let old = went-before s r v a w.number k g in
     ⊎_elim
@@ -179,7 +181,7 @@ old_fence s r b fence passed =
     passed)
     (holds-push_cases (λ (q : Request). IsTrue (q.barrier || is_flush q.kind)) s.accepted r b fence)
 
-old_flush : (s : SchedState) (r : Request) (b : ℕ) → IsFlushAt (accepted s r) b → IsPassed (accepted s r) b → IsFlushAt s b
+old_flush : (s : SchedState) (r : Request) (b : ℕ) → IsFlushAt (s.accepted ++ r ∷ []) b → IsPassed (accepted s r) b → IsFlushAt s.accepted b
 old_flush s r b fence passed =
     ⊎_elim
     (λ old. old)
@@ -202,7 +204,7 @@ accepted-behind_fence s r v unblocked w b h o fence passed =
     omega (arith, lt, n, v.next))
     (In-push_cases s.queue.waiting (entrant s r) w h)
 
-accepted-behind_flush : (s : SchedState) (r : Request) → IsValid s → is_open s.queue.closing ≡ true → (w : Waiting) (b : ℕ) → In w (s.queue.waiting ++ entrant s r ∷ []) → IsFlushAt (accepted s r) b → IsPassed (accepted s r) b → b < w.number
+accepted-behind_flush : (s : SchedState) (r : Request) → IsValid s → is_open s.queue.closing ≡ true → (w : Waiting) (b : ℕ) → In w (s.queue.waiting ++ entrant s r ∷ []) → IsFlushAt (s.accepted ++ r ∷ []) b → IsPassed (accepted s r) b → b < w.number
 accepted-behind_flush s r v unblocked w b h flush passed =
     let old = old_flush s r b flush passed in
     ⊎_elim
@@ -213,7 +215,7 @@ accepted-behind_flush s r v unblocked w b h flush passed =
     omega (arith, lt, n, v.next))
     (In-push_cases s.queue.waiting (entrant s r) w h)
 
-accepted-fences : (s : SchedState) (r : Request) → IsValid s → IsAcceptable s r → is_open s.queue.closing ≡ true → (b : ℕ) → IsFence (s.accepted ++ r ∷ []) b → IsPassed (accepted s r) b → (p : ℕ) × StandsFor (accepted s r) b p
+accepted-fences : (s : SchedState) (r : Request) → IsValid s → IsAcceptable (seen_of s) r → is_open s.queue.closing ≡ true → (b : ℕ) → IsFence (s.accepted ++ r ∷ []) b → IsPassed (accepted s r) b → (p : ℕ) × StandsFor (accepted s r) b p
 accepted-fences s r v a unblocked b fence passed =
     let old = v.fences b (old_fence s r b fence passed) (inr unblocked) in (
       old.0,
@@ -230,28 +232,28 @@ accepted-fences s r v a unblocked b fence passed =
 old_put : (s : SchedState) (r : Request) (i block : ℕ) → i < length s.accepted → IsPutOf (s.accepted ++ r ∷ []) i block → IsPutOf s.accepted i block
 old_put s r i block lt p = rw (slice_get-push_left s.accepted r i lt) at p
 
-accepted-blocks : (s : SchedState) (r : Request) → IsValid s → IsAcceptable s r → (i j l block : ℕ) → i < j → IsPutOf (s.accepted ++ r ∷ []) i block → IsPutOf (s.accepted ++ r ∷ []) j block → Went (accepted s r) j l → (k : ℕ) × Went (accepted s r) i k × (k < l)
+accepted-blocks : (s : SchedState) (r : Request) → IsValid s → IsAcceptable (seen_of s) r → (i j l block : ℕ) → i < j → IsPutOf (s.accepted ++ r ∷ []) i block → IsPutOf (s.accepted ++ r ∷ []) j block → Went (accepted s r) j l → (k : ℕ) × Went (accepted s r) i k × (k < l)
 accepted-blocks s r v a i j l block lt p q g =
     let was = went-before s r v a j l g in
     let near = (went-length s j l was).0 in
     let old = v.blocks i j l block lt (old_put s r i block (omega (arith, lt, near)) p) (old_put s r j block near q) was in
     (old.0, went-keeps s r i old.0 old.1, old.2)
 
-accepted-before_flush : (s : SchedState) (r : Request) → IsValid s → IsAcceptable s r → (i f l : ℕ) → i < f → IsFlushAt (accepted s r) f → Went (accepted s r) f l → (k : ℕ) × Went (accepted s r) i k × (k < l)
+accepted-before_flush : (s : SchedState) (r : Request) → IsValid s → IsAcceptable (seen_of s) r → (i f l : ℕ) → i < f → IsFlushAt (s.accepted ++ r ∷ []) f → Went (accepted s r) f l → (k : ℕ) × Went (accepted s r) i k × (k < l)
 accepted-before_flush s r v a i f l lt flush g =
     let was = went-before s r v a f l g in
     let near = (went-length s f l was).0 in
     let old = v.before_flush i f l lt (holds-push_below (λ (q : Request). q.kind ≡ Flush) s.accepted r f near flush) was in
     (old.0, went-keeps s r i old.0 old.1, old.2)
 
-accepted-after_flush : (s : SchedState) (r : Request) → IsValid s → IsAcceptable s r → (f j l : ℕ) → f < j → IsFlushAt (accepted s r) f → Went (accepted s r) j l → (k : ℕ) × Went (accepted s r) f k × (k < l)
+accepted-after_flush : (s : SchedState) (r : Request) → IsValid s → IsAcceptable (seen_of s) r → (f j l : ℕ) → f < j → IsFlushAt (s.accepted ++ r ∷ []) f → Went (accepted s r) j l → (k : ℕ) × Went (accepted s r) f k × (k < l)
 accepted-after_flush s r v a f j l lt flush g =
     let was = went-before s r v a j l g in
     let near = (went-length s j l was).0 in
     let old = v.after_flush f j l lt (holds-push_below (λ (q : Request). q.kind ≡ Flush) s.accepted r f (omega (arith, lt, near)) flush) was in
     (old.0, went-keeps s r f old.0 old.1, old.2)
 
-accepted-epoch_closing : (s : SchedState) (r : Request) → IsAcceptable s r → closing_of r ≡ closings.Barrier → IsEpochClosing (accepted s r)
+accepted-epoch_closing : (s : SchedState) (r : Request) → IsAcceptable (seen_of s) r → closing_of r ≡ closings.Barrier → IsEpochClosing (accepted s r)
 accepted-epoch_closing s r a e =
     let c = closing_of-barrier r e in
     record {
@@ -282,7 +284,7 @@ accepted-count s r v unblocked =
 
 -- ---- the whole
 
-pub accepted-valid : (s : SchedState) (r : Request) → IsValid s → IsAcceptable s r → can_accept s.queue ≡ true → IsValid (accepted s r)
+pub accepted-valid : (s : SchedState) (r : Request) → IsValid s → IsAcceptable (seen_of s) r → can_accept s.queue ≡ true → IsValid (accepted s r)
 accepted-valid s r v a can =
     let unblocked : is_open s.queue.closing ≡ true = (and_parts (is_open s.queue.closing) (not (is_full s.queue)) can).0 in
     record {

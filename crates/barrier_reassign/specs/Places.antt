@@ -3,10 +3,7 @@ use Rattle.std.specs.Prelude.{◌≡◌, ℕ, List, [], ◌∷◌, ◌++◌, len
 use Rattle.std.proofs.Common.{ap, sym, ◌∙◌, ⊎_elim, arith}
 use Rattle.blk_base.specs.Members.{In, In-slice_get, slice_get-push_cases}
 use Rattle.order_model.specs.declared.request.Request.{Request}
-
--- the request at place i has the id i
-abbrev pub AreAtIds : List Request → Type 0
-AreAtIds requests = (i : ℕ) (r : Request) → slice_get requests i ≡ Some r → r.id ≡ i
+use Rattle.order_model.specs.Carrying.{AreAtIds}
 
 pub next_id-new : (requests : List Request) (id : ℕ) → AreAtIds requests → id ≡ length requests → (p : Request) → In p requests → p.id ≡ id → ⊥
 next_id-new requests id h e p i same =

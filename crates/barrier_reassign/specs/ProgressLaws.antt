@@ -9,9 +9,10 @@ use Rattle.order_model.specs.Submission.{is_flush}
 use Rattle.barrier_reassign.specs.declared.closing.Closing.{Closing}
 use Rattle.barrier_reassign.specs.declared.closing.Closing.TheVariants as closings
 use Rattle.barrier_reassign.specs.Epoch.{Waiting, is_open, is_blocked, have_one_block, stands_before, may_leave, eligible}
-use Rattle.epoch_sched.specs.Sched.{SchedState, IsFlushAt}
-use Rattle.epoch_sched.specs.Valid.{IsValid}
-use Rattle.epoch_sched.specs.WentLaws.{is_flush-true, holds_at}
+use Rattle.barrier_reassign.specs.Sched.{SchedState}
+use Rattle.order_model.specs.Carrying.{IsFlushAt}
+use Rattle.barrier_reassign.specs.Valid.{IsValid}
+use Rattle.barrier_reassign.specs.WentLaws.{is_flush-true, holds_at}
 
 In-nonempty : {X : Type 0} (xs : List X) (x : X) → In x xs → 0 < length xs
 In-nonempty xs x h = let at = In-slice_get xs x h in omega (arith, at.1)
@@ -28,7 +29,7 @@ flush_first s w (u ∷ us) v e flush =
     let g = v.waiting u other in
     let near = slice_get-length s.accepted u.number g.request g.taken in
     let kind = is_flush-true f.request.kind (ap (λ (q : Request). is_flush q.kind) (sym f.same) ∙ flush) in
-    let at : IsFlushAt s w.number = holds_at (λ (q : Request). q.kind ≡ Flush) (slice_get s.accepted w.number) f.request f.taken kind in
+    let at : IsFlushAt s.accepted w.number = holds_at (λ (q : Request). q.kind ≡ Flush) (slice_get s.accepted w.number) f.request f.taken kind in
     let late = v.behind_flush w w.number mine at (inl (omega (arith, later, near))) in
     absurd (omega (arith, late))
 

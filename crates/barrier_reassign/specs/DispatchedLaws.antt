@@ -17,9 +17,10 @@ use Rattle.barrier_reassign.specs.declared.closing.Closing.{Closing}
 use Rattle.barrier_reassign.specs.declared.closing.Closing.TheVariants as closings
 use Rattle.barrier_reassign.specs.Epoch.{Waiting, is_open, is_barrier_closing, have_one_block, stands_before, may_leave, eligible, without, waits_ordered, leaves_flagged, picked}
 use Rattle.order_model.specs.Single.{command_of_request}
-use Rattle.epoch_sched.specs.Sched.{SchedState, opened, sent, dispatched, IsFlushAt}
-use Rattle.epoch_sched.specs.Valid.{Went, IsPassed, StandsFor, IsEpochClosing, IsFlushClosing, IsValid}
-use Rattle.epoch_sched.specs.WentLaws.{is_flush_closing, went-length, is_flush-true, true-is_flush, holds_at, at_holds, holds-length, holds-push_left, same_waiting, command-id}
+use Rattle.barrier_reassign.specs.Sched.{SchedState, opened, sent, dispatched}
+use Rattle.order_model.specs.Carrying.{IsFlushAt}
+use Rattle.barrier_reassign.specs.Valid.{Went, IsPassed, StandsFor, IsEpochClosing, IsFlushClosing, IsValid}
+use Rattle.barrier_reassign.specs.WentLaws.{is_flush_closing, went-length, is_flush-true, true-is_flush, holds_at, at_holds, holds-length, holds-push_left, same_waiting, command-id}
 
 -- ---- nothing accepted
 
@@ -223,7 +224,7 @@ sent-behind_fence s w v u b h o fence passed =
     (passed-cases s w b passed)
 
 -- the last that was accepted is no flush while a barrier closes the queue
-last_put : (s : SchedState) (b : ℕ) → IsValid s → is_barrier_closing s.queue.closing ≡ true → IsFlushAt s b → b + 1 < length s.accepted
+last_put : (s : SchedState) (b : ℕ) → IsValid s → is_barrier_closing s.queue.closing ≡ true → IsFlushAt s.accepted b → b + 1 < length s.accepted
 last_put s b v c flush =
     let e = v.epoch_closing (barrier_closing s.queue.closing c).0 in
     let near = holds-length (λ (q : Request). q.kind ≡ Flush) s.accepted b flush in
@@ -235,7 +236,7 @@ last_put s b v c flush =
     absurd (both_ways (is_flush e.request.kind) e.put (true-is_flush e.request.kind kind)))
     (cases_lt (b + 1) (length s.accepted))
 
-sent-behind_flush : (s : SchedState) (w : Waiting) → Leaves s w → (u : Waiting) (b : ℕ) → In u (without w.number s.queue.waiting) → IsFlushAt s b → IsPassed (sent s (Some w)) b → b < u.number
+sent-behind_flush : (s : SchedState) (w : Waiting) → Leaves s w → (u : Waiting) (b : ℕ) → In u (without w.number s.queue.waiting) → IsFlushAt s.accepted b → IsPassed (sent s (Some w)) b → b < u.number
 sent-behind_flush s w v u b h flush passed =
     let was = stayed s u w h in
     ⊎_elim
@@ -319,7 +320,7 @@ waiting_block s w i block v h e p =
     let kind : kind_block f.request.kind ≡ Some block = rw at at p in
     ap (λ (q : Request). kind_block q.kind) f.same ∙ kind
 
-waiting_flush : (s : SchedState) (w : Waiting) (i : ℕ) → IsValid s → In w s.queue.waiting → w.number ≡ i → IsFlushAt s i → is_flush w.request.kind ≡ true
+waiting_flush : (s : SchedState) (w : Waiting) (i : ℕ) → IsValid s → In w s.queue.waiting → w.number ≡ i → IsFlushAt s.accepted i → is_flush w.request.kind ≡ true
 waiting_flush s w i v h e flush =
     let f = v.waiting w h in
     let at : slice_get s.accepted i ≡ Some f.request = ap (λ n. slice_get s.accepted n) (sym e) ∙ f.taken in
@@ -353,7 +354,7 @@ sent-blocks s w v i j l block lt p q g =
     (v.valid.somewhere i (omega (arith, lt, near)))))
     (went-cases s w v j l g)
 
-sent-before_flush : (s : SchedState) (w : Waiting) → Leaves s w → (i f l : ℕ) → i < f → IsFlushAt s f → Went (sent s (Some w)) f l → (k : ℕ) × Went (sent s (Some w)) i k × (k < l)
+sent-before_flush : (s : SchedState) (w : Waiting) → Leaves s w → (i f l : ℕ) → i < f → IsFlushAt s.accepted f → Went (sent s (Some w)) f l → (k : ℕ) × Went (sent s (Some w)) i k × (k < l)
 sent-before_flush s w v i f l lt flush g =
     ⊎_elim
     (λ was. earlier s w i l (v.valid.before_flush i f l lt flush was))
@@ -369,7 +370,7 @@ sent-before_flush s w v i f l lt flush g =
     (v.valid.somewhere i (omega (arith, lt, near)))))
     (went-cases s w v f l g)
 
-sent-after_flush : (s : SchedState) (w : Waiting) → Leaves s w → (f j l : ℕ) → f < j → IsFlushAt s f → Went (sent s (Some w)) j l → (k : ℕ) × Went (sent s (Some w)) f k × (k < l)
+sent-after_flush : (s : SchedState) (w : Waiting) → Leaves s w → (f j l : ℕ) → f < j → IsFlushAt s.accepted f → Went (sent s (Some w)) j l → (k : ℕ) × Went (sent s (Some w)) f k × (k < l)
 sent-after_flush s w v f j l lt flush g =
     ⊎_elim
     (λ was. earlier s w f l (v.valid.after_flush f j l lt flush was))
@@ -395,7 +396,7 @@ flagged-closed s w v flagged =
       | inl free ↦
           let f = v.valid.waiting w v.there in
           let kind : f.request.kind ≡ Flush = is_flush-true f.request.kind (ap (λ (q : Request). is_flush q.kind) (sym f.same) ∙ flush) in
-          let at : IsFlushAt s w.number = holds_at (λ (q : Request). q.kind ≡ Flush) (slice_get s.accepted w.number) f.request f.taken kind in
+          let at : IsFlushAt s.accepted w.number = holds_at (λ (q : Request). q.kind ≡ Flush) (slice_get s.accepted w.number) f.request f.taken kind in
           let late = v.valid.behind_flush w w.number v.there at (inr free) in
           absurd (omega (arith, late))
       | inr closed ↦ closed

@@ -4,7 +4,7 @@ use Rattle.std.specs.Option.{option_to_list}
 use Rattle.std.proofs.Common.{ap, sym, subst, ◌∙◌, inl, inr, ⊎_elim, get_or, false}
 use Rattle.std.proofs.lemmas.Bool.{false≢true, or_right}
 use Rattle.std.proofs.lemmas.Option.{same_Some}
-use Rattle.blk_base.specs.Members.{In, slice_get-push_left, slice_get-push_cases, slice_get-length}
+use Rattle.blk_base.specs.Members.{In, In-map, map-In, slice_get-push_left, slice_get-push_cases, slice_get-length}
 use Rattle.order_model.specs.declared.request.Kind.{Kind}
 use Rattle.order_model.specs.declared.request.Kind.TheVariants.{Put, Flush}
 use Rattle.order_model.specs.declared.request.Request.{Request}
@@ -14,17 +14,13 @@ use Rattle.barrier_reassign.specs.declared.closing.Closing.{Closing}
 use Rattle.barrier_reassign.specs.declared.closing.Closing.TheVariants as closings
 use Rattle.barrier_reassign.specs.Epoch.{Waiting, unflagged}
 use Rattle.order_model.specs.Single.{command_of_request, parts_for, flush_for}
-use Rattle.epoch_sched.specs.Sched.{SchedState, IsSentAs, IsWaiting, IsFlushAt}
-use Rattle.epoch_sched.specs.Valid.{Went, IsValid}
+use Rattle.order_model.specs.Carrying.{IsCarriedBy, IsSentIn, IsWaitingAt, IsFlushAt}
+use Rattle.order_model.proofs.Direct.{ids_of-command, carried_alone}
+use Rattle.order_model.proofs.Medium.{carried-id}
+use Rattle.barrier_reassign.specs.Sched.{SchedState, seen_of}
+use Rattle.barrier_reassign.specs.Valid.{Went, IsValid}
 
 -- ---- the command of a request
-
-ids_of_parts : (id : ℕ) (k : Kind) → map (λ p. p.id) (parts_for id k) ++ option_to_list (flush_for id k) ≡ id ∷ []
-ids_of_parts id (Put block body) = refl
-ids_of_parts id Flush = refl
-
-pub ids_of-command : (r : Request) (flagged : Bool) → ids_of (command_of_request r flagged) ≡ r.id ∷ []
-ids_of-command r flagged = ids_of_parts r.id r.kind
 
 -- two requests with one command have one id
 pub command-id : (p q : Request) (f g : Bool) → command_of_request p f ≡ command_of_request q g → p.id ≡ q.id
@@ -75,7 +71,7 @@ holds-push_cases P xs y i h =
     (slice_get-push_cases xs y i e.0 e.1)
 
 -- a flush is a fence
-pub fence-flush : (s : SchedState) (f : ℕ) → IsFlushAt s f → IsFence s.accepted f
+pub fence-flush : (s : SchedState) (f : ℕ) → IsFlushAt s.accepted f → IsFence s.accepted f
 fence-flush s f h =
     let e = some_holds (λ (r : Request). r.kind ≡ Flush) (slice_get s.accepted f) h in
     holds_at (λ (r : Request). (r.barrier || is_flush r.kind) ≡ true) (slice_get s.accepted f) e.0 e.1
@@ -96,20 +92,19 @@ same_waiting s u w v h i e =
     ap (λ n. waiting_at n u.request) e ∙ ap (λ r. waiting_at w.number r) f
 
 -- what waits has the place that its number says
-pub waiting_place : (s : SchedState) (i : ℕ) → IsValid s → IsWaiting s i → (w : Waiting) × In w s.queue.waiting × (w.number ≡ i)
+pub waiting_place : (s : SchedState) (i : ℕ) → IsValid s → IsWaitingAt (seen_of s) i → (w : Waiting) × In w s.queue.waiting × (w.number ≡ i)
 waiting_place s i v h =
-    let p = v.waiting h.waiting h.there in
-    (h.waiting, h.there, v.ids h.waiting.number i p.request h.request p.taken h.accepted (ap (λ (r : Request). r.id) (sym p.same) ∙ h.same))
+    let w = In-map (λ (x : Waiting). x.request.id) s.queue.waiting h.request.id h.waits in
+    let p = v.waiting w.0 w.1 in
+    (w.0, w.1, v.ids w.0.number i p.request h.request p.taken h.taken (ap (λ (r : Request). r.id) (sym p.same) ∙ w.2))
 
-pub place_waiting : (s : SchedState) (w : Waiting) (i : ℕ) → IsValid s → In w s.queue.waiting → w.number ≡ i → IsWaiting s i
+pub place_waiting : (s : SchedState) (w : Waiting) (i : ℕ) → IsValid s → In w s.queue.waiting → w.number ≡ i → IsWaitingAt (seen_of s) i
 place_waiting s w i v h e =
     let p = v.waiting w h in
     record {
       request = p.request;
-      accepted = ap (λ n. slice_get s.accepted n) (sym e) ∙ p.taken;
-      waiting = w;
-      there = h;
-      same = ap (λ (r : Request). r.id) p.same;
+      taken = ap (λ n. slice_get s.accepted n) (sym e) ∙ p.taken;
+      waits = subst (λ id. In id (map (λ (x : Waiting). x.request.id) s.queue.waiting)) (ap (λ (r : Request). r.id) p.same) (map-In (λ (x : Waiting). x.request.id) s.queue.waiting w h);
     }
 
 -- ---- what went
@@ -120,21 +115,21 @@ went-length s i k g = (
   slice_get-length s.sent_out k (command_of_request g.request g.flagged) g.sent,
 )
 
-pub went_sent : (s : SchedState) (i k : ℕ) → Went s i k → IsSentAs s i k
+pub went_sent : (s : SchedState) (i k : ℕ) → Went s i k → IsSentIn (seen_of s) i k
 went_sent s i k g = record {
   request = g.request;
-  accepted = g.accepted;
+  taken = g.accepted;
   command = command_of_request g.request g.flagged;
   sent = g.sent;
-  carries = subst (λ ids. In g.request.id ids) (sym (ids_of-command g.request g.flagged)) (inl refl);
+  carried = carried_alone g.request g.flagged;
 }
 
-pub sent_went : (s : SchedState) (i k : ℕ) → IsValid s → IsSentAs s i k → Went s i k
+pub sent_went : (s : SchedState) (i k : ℕ) → IsValid s → IsSentIn (seen_of s) i k → Went s i k
 sent_went s i k v h =
     let m = v.made k (slice_get-length s.sent_out k h.command h.sent) in
     let g = m.1 in
     let c : h.command ≡ command_of_request g.request g.flagged = same_Some h.command (command_of_request g.request g.flagged) (sym h.sent ∙ g.sent) in
-    let carried : In h.request.id (g.request.id ∷ []) = subst (λ ids. In h.request.id ids) (ap ids_of c ∙ ids_of-command g.request g.flagged) h.carries in
+    let carried : In h.request.id (g.request.id ∷ []) = subst (λ ids. In h.request.id ids) (ap ids_of c ∙ ids_of-command g.request g.flagged) (carried-id h.request.id h.request.kind h.command h.carried) in
     let id : g.request.id ≡ h.request.id = ⊎_elim (λ e. e) (λ n. absurd n) carried in
-    let e : m.0 ≡ i = v.ids m.0 i g.request h.request g.accepted h.accepted id in
+    let e : m.0 ≡ i = v.ids m.0 i g.request h.request g.accepted h.taken id in
     subst (λ j. Went s j k) e g

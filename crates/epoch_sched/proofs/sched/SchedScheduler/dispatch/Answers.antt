@@ -1,11 +1,9 @@
-use Rattle.std.proofs.Common.{◌∙◌, ap₂, sym, subst, arith, ◌<◌, length}
-use Rattle.std.proofs.lemmas.Bool.{false≢true}
-use Rattle.barrier_reassign.specs.Epoch.{eligible}
-use Rattle.epoch_sched.specs.Fields.{state_of}
+-- The fields behind a request that left.
+use Rattle.std.proofs.Common.{◌∙◌, ap₂, sym, arith}
 use Rattle.order_model.specs.Single.{command_of_request}
-use Rattle.epoch_sched.specs.Sched.{SchedState}
-use Rattle.epoch_sched.proofs.Steps.{leaving-some, sent_room, parts_room, picked-some, dispatched_fields}
-use Rattle.epoch_sched.proofs.sched.Sched.dispatch.Goals as goal
+use Rattle.epoch_sched.specs.Fields.{state_of}
+use Rattle.epoch_sched.proofs.Steps.{leaving-some, sent_room, parts_room, dispatched_fields}
+use Rattle.epoch_sched.proofs.sched.SchedScheduler.dispatch.Goals as goal
 
 pub push-requires-clause-commands : goal.push-requires-clause-commands
 push-requires-clause-commands c =
@@ -24,10 +22,3 @@ invariant_of-self-2 c =
     let p = leaving-some c.self.inside.queue _ _ _ c.in_ok-r.ensures.given in
     let command = c.of_request-command.ensures ∙ sym (ap₂ command_of_request p.2 p.3) in
     dispatched_fields c.self.inside c.args.pick p.0 _ _ _ c.self.invariant p.1 command c.in_ok-r.ensures.state c.push.ensures
-
-pub returns-clause-none : goal.returns-clause-none
-returns-clause-none c =
-    let p = leaving-some c.self.inside.queue _ _ _ c.in_ok-r.ensures.given in
-    let lt = picked-some c.self.inside.queue c.args.pick p.0 p.1 in
-    let below = subst (λ (s : SchedState). c.args.pick < length (eligible s.queue.waiting)) c.self.view_is lt in
-    (λ e. absurd (false≢true (sym e)), λ past. absurd (omega (arith, below, past)))

@@ -1,0 +1,16 @@
+ghost use Rattle.std.specs.Prelude.{◌≡◌, ◌<◌, ℕ, true, false, length};
+ghost use Rattle.order_model.specs.Carrying.{Carries};
+
+use crate::Scheduler;
+
+/// How long the list of a scheduler is; and what is known of the state that it is in.
+pub fn lawful_eligible<S: Scheduler>(sched: &S) -> u32
+    ensures count { result ≡ S.steps.eligible (S.state sched.now) }
+    ensures carries { Carries (S.steps.seen (S.state sched.now)) }
+    ensures some { 0 < length (S.steps.seen (S.state sched.now)).waiting → 0 < result }
+    ensures blocked { (S.steps.seen (S.state sched.now)).blocked ≡ true → S.steps.can_accept (S.state sched.now) ≡ false }
+    ensures waits { (S.steps.seen (S.state sched.now)).blocked ≡ true → 0 < result }
+{
+    let _ = sched.can_accept();
+    sched.eligible()
+}
