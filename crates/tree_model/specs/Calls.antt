@@ -516,10 +516,19 @@ if_room room tree d =
 unfoldable pub outcome : Room → Tree → ℕ → Call → Row
 outcome room tree n c = and_then (row tree n c) (if_room room tree)
 
+-- the tree and the reply of what a call does
+abbrev pub tree_from : Tree → Row → Tree
+tree_from tree (Err reply) = tree
+tree_from tree (Ok d) = d.tree
+
+abbrev pub reply_from : Row → Reply
+reply_from (Err reply) = reply
+reply_from (Ok d) = d.reply
+
 -- the tree after the call with number n
 unfoldable pub tree_after : Room → Tree → ℕ → Call → Tree
-tree_after room tree n c = elim (outcome room tree n c) as (λ _. Tree) [ Err reply ↦ tree | Ok d ↦ d.tree ]
+tree_after room tree n c = tree_from tree (outcome room tree n c)
 
 -- its reply
 unfoldable pub reply_of : Room → Tree → ℕ → Call → Reply
-reply_of room tree n c = elim (outcome room tree n c) as (λ _. Reply) [ Err reply ↦ reply | Ok d ↦ d.reply ]
+reply_of room tree n c = reply_from (outcome room tree n c)

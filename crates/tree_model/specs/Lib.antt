@@ -8,4 +8,5 @@ pub mod Walk
 pub mod Calls
 pub mod Examples
 pub mod Histories
+pub mod Causes
 pub mod laws

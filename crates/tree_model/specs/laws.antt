@@ -6,3 +6,4 @@ pub mod MapOrder
 pub mod Rows
 pub mod Changes
 pub mod Blocks
+pub mod Causes
