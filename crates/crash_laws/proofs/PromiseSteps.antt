@@ -1,13 +1,13 @@
 -- What was kept when a barrier or sync call answered stays kept: with one request more, and with a longer
 -- history.
-use Rattle.std.specs.Prelude.{ℕ, ◌≤◌, List}
+use Rattle.std.specs.Prelude.{ℕ, ◌<◌, ◌≤◌, List}
 use Rattle.std.proofs.Common.{sym, ap, ◌∙◌, inl, inr, ⊎_elim, arith}
 use Rattle.order_model.specs.declared.completion.Completion.{Completion}
 use Rattle.order_model.specs.declared.note.Note.TheVariants.{Page, Commit}
 use Rattle.order_model.specs.Submission.{IsFence}
 use Rattle.crash_laws.specs.Extending.{Extends}
 use Rattle.crash_laws.specs.History.{History}
-use Rattle.crash_laws.specs.PromiseRules.{AreHeld, KeepsBarrier, KeepsSync, Call, Covers}
+use Rattle.crash_laws.specs.PromiseRules.{AreHeld, KeepsBarrier, KeepsSync, Call, Covers, CoversEntry}
 use Rattle.crash_laws.specs.Session.{Session, HasNote, IsCommit, IsSubmitted, Before, Submitted}
 use Rattle.crash_laws.specs.Submitting.{Submitting, after}
 use Rattle.crash_laws.proofs.Growing.{note_old, note_cases, fence_old, fence_within, ordered_old}
@@ -111,3 +111,21 @@ module _ {A : Type 0} {h more : History A} {s : Session} {now : ℕ} (ext : Exte
   -- a call covers no more pairs with a longer history
   pub covers_old : (c : Call) (f i n : ℕ) → c.begin ≤ now → Covers more c f i n → Covers h c f i n
   covers_old c f i n le x = let lt = x.1 in (x.0, x.1, sym (ext.writes n f i (omega arith)) ∙ x.2)
+
+  pub barrier_covers : (c : Call) (e : ℕ) → c.begin ≤ now → KeepsBarrier h s e (Covers h c) (CoversEntry c) → KeepsBarrier more s e (Covers more c) (CoversEntry c)
+  barrier_covers c e begun old =
+      let b = barrier_grows old in
+      record {
+        barrier = b.barrier;
+        fence = b.fence;
+        held = held_for more s (λ i. i ≤ b.barrier) (Covers h c) (Covers more c) (CoversEntry c) (λ f i n x. covers_old c f i n begun x) b.held;
+        pages = b.pages;
+        commits = b.commits;
+      }
+
+  pub sync_covers : (c : Call) (taken : List Completion) → c.begin ≤ now → KeepsSync h s taken (Covers h c) (CoversEntry c) → KeepsSync more s taken (Covers more c) (CoversEntry c)
+  sync_covers c taken begun old = record {
+    flush = old.flush;
+    flushed = old.flushed;
+    held = held_for more s (λ i. i < old.flush) (Covers h c) (Covers more c) (CoversEntry c) (λ f i n x. covers_old c f i n begun x) (held_grows old.held);
+  }

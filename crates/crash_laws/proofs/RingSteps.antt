@@ -10,7 +10,7 @@ use Rattle.order_model.specs.declared.request.Request.{Request}
 use Rattle.order_model.specs.declared.note.Note.TheVariants.{Super, Commit, Home}
 use Rattle.order_model.specs.Submission.{IsPutOf, IsPutWith, is_flush, kind_body}
 use Rattle.log_model.specs.Marks.{Mark, Keep, Clear, Set, followed, mark_in, transaction_mark, transactions_from}
-use Rattle.log_model.specs.Ring.{place_after, places_on}
+use Rattle.log_model.specs.Ring.{places_in, place_after, places_on}
 use Rattle.log_model.proofs.Marks.{keep≢set, clear≢set, same_Set, mark-split}
 use Rattle.log_model.proofs.Ring.{places_on-add, places_on-place, no_return}
 use Rattle.crash_laws.specs.Clauses.{SuperClause}
@@ -64,7 +64,7 @@ module _ {s : Session} {ring : RingHost} {N : ℕ} (facts : RingFacts s ring N) 
       }
 
   -- A log block at the head: what stood there before was freed, as long as a place is left.
-  pub again_clause : CommitOrder s → LogLayout s → CheckpointOrder s → ring.used < s.ring.past - s.ring.first → (k i b : ℕ) → b ≡ s.journal + ring.head → IsLog s k i → IsPutOf s.requests i b
+  pub again_clause : CommitOrder s → LogLayout s → CheckpointOrder s → ring.used < places_in s.ring → (k i b : ℕ) → b ≡ s.journal + ring.head → IsLog s k i → IsPutOf s.requests i b
       → (x freed : ℕ) × IsSuperOf s x freed × (i < x) × (k ≤ freed)
   again_clause order layout checkpoints room k i b at log put =
       let place = In-slice_get (log_blocks s) (record { id = i; transaction = k }) (log_entry s k i log) in
