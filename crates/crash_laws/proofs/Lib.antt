@@ -23,6 +23,7 @@ pub mod PagesOrCommits
 pub mod PlanSteps
 pub mod PromiseSteps
 pub mod Promises
+pub mod RequestClauses
 pub mod RingSteps
 pub mod SendSteps
 pub mod Sentences

@@ -15,6 +15,7 @@ pub mod Plans
 pub mod PromiseRules
 pub mod Recovery
 pub mod RingFacts
+pub mod Requests
 pub mod Rules
 pub mod Session
 pub mod Submitting
