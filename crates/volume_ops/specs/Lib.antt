@@ -28,3 +28,4 @@ pub mod Faultless
 pub mod FirstFault
 pub mod Defects
 pub mod laws
+pub mod VolumeTrees

@@ -3,3 +3,4 @@ pub mod SlotTests
 pub mod SoFar
 pub mod VisitTests
 pub mod WalkTests
+pub mod TreeUnique
