@@ -5,7 +5,7 @@ use Rattle.volume_ops.specs.declared.found.FoundNode.{FoundNode}
 use Rattle.volume_ops.specs.Marks.{no_marks, is_marked, marked}
 use Rattle.volume_ops.specs.Reads.{Reads, Ret, answer, if_ok}
 use Rattle.volume_ops.specs.Visits.{met_next, IsPending, ArePending}
-use Rattle.volume_ops.specs.Walk.{WalkState, Pending, Visit, visit, walk_through, walk, at_start, root, walk_volume}
+use Rattle.volume_ops.specs.Walk.{WalkState, Walked, found_in, Pending, Visit, visit, walk_through, walk, at_start, root, walk_volume}
 use Rattle.volume_ops.specs.Volume.{walked, disk_of}
 use Rattle.volume_ops.specs.Zones.{Fault}
 use Rattle.std.proofs.lemmas.List.{reverse-append}
@@ -14,27 +14,27 @@ use Rattle.volume_ops.proofs.GoesOn.{answer-if_ok-ok, answer-if_ok-err}
 use Rattle.volume_ops.proofs.UnmetMarks.{to_meet, to_meet-marked, to_meet-root, start_unmarked, length-marked, length-start}
 
 module _ (disk : ℕ → List ℕ) (g : Geometry) (w : WalkState) where
-  pub walk_none : (n : ℕ) → answer disk (walk n g w []) ≡ Ok w.nodes
+  pub walk_none : (n : ℕ) → answer disk (walk n g w []) ≡ Ok (found_in w)
   walk_none zero = refl
   walk_none (suc n) = refl
 
   module _ (e : Pending) (rest : List Pending) where
-    again_is : (again : WalkState → List Pending → Reads (Result (List FoundNode) Fault)) (b : Bool) → is_marked w.inodes e.inode ≡ b → answer disk (walk_through g again w (e ∷ rest)) ≡ answer disk (if b then walk_through g again w rest else if_ok (visit g w e) (λ v. again v.state (v.names ++ rest)))
+    again_is : (again : WalkState → List Pending → Reads (Result Walked Fault)) (b : Bool) → is_marked w.inodes e.inode ≡ b → answer disk (walk_through g again w (e ∷ rest)) ≡ answer disk (if b then walk_through g again w rest else if_ok (visit g w e) (λ v. again v.state (v.names ++ rest)))
     again_is again b h = ap (λ b. answer disk (if b then walk_through g again w rest else if_ok (visit g w e) (λ v. again v.state (v.names ++ rest)))) h
 
     pub walk_met : (n : ℕ) → is_marked w.inodes e.inode ≡ true → answer disk (walk n g w (e ∷ rest)) ≡ answer disk (walk n g w rest)
-    walk_met zero h = again_is (λ w rest. Ret (Ok w.nodes)) true h
+    walk_met zero h = again_is (λ w rest. Ret (Ok (found_in w))) true h
     walk_met (suc n) h = again_is (walk n g) true h
 
     module _ (unmarked : is_marked w.inodes e.inode ≡ false) where
-      walk_fault_through : (again : WalkState → List Pending → Reads (Result (List FoundNode) Fault)) (f : Fault) → answer disk (visit g w e) ≡ Err f → answer disk (walk_through g again w (e ∷ rest)) ≡ Err f
+      walk_fault_through : (again : WalkState → List Pending → Reads (Result Walked Fault)) (f : Fault) → answer disk (visit g w e) ≡ Err f → answer disk (walk_through g again w (e ∷ rest)) ≡ Err f
       walk_fault_through again f h = again_is again false unmarked ∙ answer-if_ok-err disk (visit g w e) (λ v. again v.state (v.names ++ rest)) f h
 
       pub walk_fault : (n : ℕ) (f : Fault) → answer disk (visit g w e) ≡ Err f → answer disk (walk n g w (e ∷ rest)) ≡ Err f
-      walk_fault zero f h = walk_fault_through (λ w rest. Ret (Ok w.nodes)) f h
+      walk_fault zero f h = walk_fault_through (λ w rest. Ret (Ok (found_in w))) f h
       walk_fault (suc n) f h = walk_fault_through (walk n g) f h
 
-      walk_through_more : (again : WalkState → List Pending → Reads (Result (List FoundNode) Fault)) (r : Result Visit Fault) (v : WalkState) (next : List Pending) → answer disk (visit g w e) ≡ r → met_next r rest ≡ Ok (v, next) → answer disk (walk_through g again w (e ∷ rest)) ≡ answer disk (again v next)
+      walk_through_more : (again : WalkState → List Pending → Reads (Result Walked Fault)) (r : Result Visit Fault) (v : WalkState) (next : List Pending) → answer disk (visit g w e) ≡ r → met_next r rest ≡ Ok (v, next) → answer disk (walk_through g again w (e ∷ rest)) ≡ answer disk (again v next)
       walk_through_more again (Ok visited) v next h is =
           let both : ◌≡◌ {A = WalkState × List Pending} (visited.state, visited.names ++ rest) (v, next) = cc in
           again_is again false unmarked
@@ -46,8 +46,8 @@ module _ (disk : ℕ → List ℕ) (g : Geometry) (w : WalkState) where
       pub walk_more : (n : ℕ) (v : WalkState) (next : List Pending) → met_next (answer disk (visit g w e)) rest ≡ Ok (v, next) → answer disk (walk (suc n) g w (e ∷ rest)) ≡ answer disk (walk n g v next)
       walk_more n v next is = walk_through_more (walk n g) (answer disk (visit g w e)) v next refl is
 
-      pub walk_once : (v : WalkState) (next : List Pending) → met_next (answer disk (visit g w e)) rest ≡ Ok (v, next) → answer disk (walk zero g w (e ∷ rest)) ≡ Ok v.nodes
-      walk_once v next is = walk_through_more (λ w rest. Ret (Ok w.nodes)) (answer disk (visit g w e)) v next refl is
+      pub walk_once : (v : WalkState) (next : List Pending) → met_next (answer disk (visit g w e)) rest ≡ Ok (v, next) → answer disk (walk zero g w (e ∷ rest)) ≡ Ok (found_in v)
+      walk_once v next is = walk_through_more (λ w rest. Ret (Ok (found_in w))) (answer disk (visit g w e)) v next refl is
 
 -- ---- the first visit
 
@@ -87,7 +87,7 @@ module _ (g : Geometry) (blocks : List (List ℕ)) (w : WalkState) (start : w �
 pub last_pending : (g : Geometry) (stack rest : List Pending) (e : Pending) → stack ≡ rest ++ e ∷ [] → ArePending g stack → IsPending g e × ArePending g rest
 last_pending g stack rest e last h = let p = All-pop (IsPending g) stack rest (Some e) last h.each in (p.1, record { each = p.0 })
 
-module _ (g : Geometry) (disk : ℕ → List ℕ) (w : WalkState) (stack rest : List Pending) (e : Pending) (all : Result (List FoundNode) Fault) (here : answer disk (walk (to_meet w.inodes) g w (reverse stack)) ≡ all) (last : stack ≡ rest ++ e ∷ []) where
+module _ (g : Geometry) (disk : ℕ → List ℕ) (w : WalkState) (stack rest : List Pending) (e : Pending) (all : Result Walked Fault) (here : answer disk (walk (to_meet w.inodes) g w (reverse stack)) ≡ all) (last : stack ≡ rest ++ e ∷ []) where
   on_top : answer disk (walk (to_meet w.inodes) g w (e ∷ reverse rest)) ≡ all
   on_top = sym (ap (λ ps. answer disk (walk (to_meet w.inodes) g w ps)) (ap (λ ps. reverse ps) last ∙ reverse-append rest (e ∷ []))) ∙ here
 

@@ -19,7 +19,7 @@ use Rattle.volume_ops.specs.Reads.{AgreeOn}
 use Rattle.volume_ops.specs.ReadsLaws.{answer-agrees, err-ok, same_Ok}
 use Rattle.tree_model.specs.MapsLaws.{at_put_number, at_put_number_apart}
 use Rattle.volume_ops.specs.Zones.{Fault}
-use Rattle.volume_ops.specs.Walk.{walk_volume}
+use Rattle.volume_ops.specs.Walk.{Walked, walk_volume}
 use Rattle.volume_ops.specs.Volume.{disk_of, walked, metadata, bodies_of, node_of, put_nodes, tree_found, tree_of}
 use Rattle.tree_model.specs.Listing.{Gives}
 use Rattle.tree_model.specs.laws.Sums.{count_by_same}
@@ -185,13 +185,13 @@ module _ (blocks other : List (List ℕ)) where
 -- ---- the two trees
 
 -- the tree of the other volume, which puts what was found once
-changed_by : (g : Geometry) (blocks other : List (List ℕ)) (tree : List (ℕ × Node)) (r : Result (List FoundNode) Fault) → walked g other ≡ r →
+changed_by : (g : Geometry) (blocks other : List (List ℕ)) (tree : List (ℕ × Node)) (r : Result Walked Fault) → walked g other ≡ r →
     tree_found blocks r ≡ Ok tree → (changed : List (ℕ × Node)) × (tree_of g other ≡ Ok changed) × AreOneFound blocks other tree changed
-changed_by g blocks other tree (Ok ns) w r = (
-  put_nodes other ns [],
+changed_by g blocks other tree (Ok all) w r = (
+  put_nodes other all.nodes [],
   ap (tree_found other) w,
-  subst (λ tree. AreOneFound blocks other tree (put_nodes other ns [])) (same_Ok (put_nodes blocks ns []) tree r)
-      (puts_one_found blocks other ns [] [] (λ birth. inl (refl, refl))),
+  subst (λ tree. AreOneFound blocks other tree (put_nodes other all.nodes [])) (same_Ok (put_nodes blocks all.nodes []) tree r)
+      (puts_one_found blocks other all.nodes [] [] (λ birth. inl (refl, refl))),
 )
 changed_by g blocks other tree (Err fault) w r = absurd (err-ok fault tree r)
 

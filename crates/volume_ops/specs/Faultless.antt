@@ -44,6 +44,15 @@ pub data IsReached (g : Geometry) (blocks : List (List ℕ)) : ℕ → Type 0 wh
   at_root : IsReached g blocks 1
   by_name : {inode place : ℕ} {slot : Slot} → IsReached g blocks inode → Names g blocks inode place slot → IsReached g blocks slot.inode
 
+-- an inode that names lead to has this zone
+pub record IsUsed (g : Geometry) (blocks : List (List ℕ)) (zone : ℕ) : Type 0 where
+  pub inode : ℕ
+  pub place : ZonePlace
+  pub reached : IsReached g blocks inode
+  pub kind : HasZones g blocks inode
+  pub some : zone ≢ 0
+  pub stands : zone_at_place g blocks inode place ≡ zone
+
 -- the greatest size of a file: 7 blocks, the 512 of an indirect zone and the 512 * 512 of a doubly indirect one
 abbrev pub greatest_size : ℕ
 greatest_size = 1024 * (7 + 512 + 512 * 512)

@@ -17,7 +17,7 @@ use Rattle.volume_ops.specs.Places.{zone_number, zone_numbers, table_block, inod
 use Rattle.volume_ops.specs.Marks.{is_marked}
 use Rattle.volume_ops.specs.Zones.{Fault, ZoneScan, take_zone, take_block, take_blocks, take_numbers, take_indirect, take_indirects, take_double, scan_zones}
 use Rattle.volume_ops.specs.Slots.{scan_slots}
-use Rattle.volume_ops.specs.Walk.{WalkState, Pending, Visit, is_bad_inode, visit_file, visit_directory, visit, walk_through, walk, at_start, root, walk_volume}
+use Rattle.volume_ops.specs.Walk.{WalkState, Walked, found_in, Pending, Visit, is_bad_inode, visit_file, visit_directory, visit, walk_through, walk, at_start, root, walk_volume}
 use Rattle.volume_ops.specs.Volume.{disk_of, walked}
 use Rattle.volume_ops.specs.Rising.{RiseWithin, IsRising, HasRising}
 
@@ -154,6 +154,9 @@ AllRise nodes = All (λ n. HasRising n.found) nodes
 node_met : (nodes : List FoundNode) (birth : ℕ) (f : Found) → AllRise nodes → HasRising f → AllRise (nodes ++ record { birth = birth; found = f } ∷ [])
 node_met nodes birth f h r = All-push (λ (n : FoundNode). HasRising n.found) nodes (record { birth = birth; found = f }) h r
 
+abbrev FoundRise : Walked → Type 0
+FoundRise w = AllRise w.nodes
+
 abbrev VisitRises : Visit → Type 0
 VisitRises v = AllRise v.state.nodes
 
@@ -185,22 +188,22 @@ visit_rises disk g w e h =
     (node_met w.nodes (birth_of e.inode) (found.Other i.mode) h tt)))
 
 -- so do those that are found in all, where this holds of how the walk goes on
-through_rises : (disk : ℕ → List ℕ) (g : Geometry) (again : WalkState → List Pending → Reads (Result (List FoundNode) Fault))
-    → ((w : WalkState) (rest : List Pending) → AllRise w.nodes → IfOk (answer disk (again w rest)) AllRise)
-    → (w : WalkState) (rest : List Pending) → AllRise w.nodes → IfOk (answer disk (walk_through g again w rest)) AllRise
+through_rises : (disk : ℕ → List ℕ) (g : Geometry) (again : WalkState → List Pending → Reads (Result Walked Fault))
+    → ((w : WalkState) (rest : List Pending) → AllRise w.nodes → IfOk (answer disk (again w rest)) FoundRise)
+    → (w : WalkState) (rest : List Pending) → AllRise w.nodes → IfOk (answer disk (walk_through g again w rest)) FoundRise
 through_rises disk g again more w [] h = h
 through_rises disk g again more w (e ∷ rest) h =
-    either_answers disk (is_marked w.inodes e.inode) (walk_through g again w rest) _ AllRise
+    either_answers disk (is_marked w.inodes e.inode) (walk_through g again w rest) _ FoundRise
     (through_rises disk g again more w rest h)
-    (answered_then disk (visit g w e) (λ v. again v.state (v.names ++ rest)) VisitRises AllRise (visit_rises disk g w e h) (λ v r. more v.state (v.names ++ rest) r))
+    (answered_then disk (visit g w e) (λ v. again v.state (v.names ++ rest)) VisitRises FoundRise (visit_rises disk g w e h) (λ v r. more v.state (v.names ++ rest) r))
 
-walk_rises : (disk : ℕ → List ℕ) (n : ℕ) (g : Geometry) (w : WalkState) (rest : List Pending) → AllRise w.nodes → IfOk (answer disk (walk n g w rest)) AllRise
-walk_rises disk zero g w rest h = through_rises disk g (λ w rest. Ret (Ok w.nodes)) (λ w rest r. r) w rest h
+walk_rises : (disk : ℕ → List ℕ) (n : ℕ) (g : Geometry) (w : WalkState) (rest : List Pending) → AllRise w.nodes → IfOk (answer disk (walk n g w rest)) FoundRise
+walk_rises disk zero g w rest h = through_rises disk g (λ w rest. Ret (Ok (found_in w))) (λ w rest r. r) w rest h
 walk_rises disk (suc n) g w rest h = through_rises disk g (walk n g) (walk_rises disk n g) w rest h
 
 -- each file that the walk finds has blocks that rise
-pub walked_rises : (g : Geometry) (blocks : List (List ℕ)) (nodes : List FoundNode) → walked g blocks ≡ Ok nodes → AllRise nodes
+pub walked_rises : (g : Geometry) (blocks : List (List ℕ)) (w : Walked) → walked g blocks ≡ Ok w → AllRise w.nodes
 unfolding walked walk_volume
-walked_rises g blocks nodes e =
+walked_rises g blocks w e =
     let r = walk_rises (disk_of blocks) g.inodes g (at_start g) (root ∷ []) (All-nil (λ (n : FoundNode). HasRising n.found)) in
-    subst (λ x. IfOk x AllRise) e r
+    subst (λ x. IfOk x FoundRise) e r

@@ -22,6 +22,7 @@ use Rattle.volume_ops.specs.declared.found.Found.TheVariants as found
 use Rattle.volume_ops.specs.declared.found.FoundNode.{FoundNode}
 use Rattle.volume_ops.specs.ReadsLaws.{err-ok, same_Ok}
 use Rattle.volume_ops.specs.Zones.{Fault}
+use Rattle.volume_ops.specs.Walk.{Walked}
 use Rattle.volume_ops.specs.Places.{inode_of_birth}
 use Rattle.volume_ops.specs.Volume.{disk_of, walked, node_of, put_nodes, tree_found, tree_of}
 use Rattle.volume_ops.specs.Fields.{inode_at, zone_behind, IsTreeOf}
@@ -56,14 +57,14 @@ behind_by false bytes slot h = slot_of-short bytes slot h
 
 -- ---- the nodes that the walk found
 
-tree_walked : (g : Geometry) (blocks : List (List ℕ)) (tree : List (ℕ × Node)) (r : Result (List FoundNode) Fault) → walked g blocks ≡ r →
-    tree_found blocks r ≡ Ok tree → (ns : List FoundNode) × (walked g blocks ≡ Ok ns) × (put_nodes blocks ns [] ≡ tree)
-tree_walked g blocks tree (Ok ns) w r = (ns, w, same_Ok (put_nodes blocks ns []) tree r)
+tree_walked : (g : Geometry) (blocks : List (List ℕ)) (tree : List (ℕ × Node)) (r : Result Walked Fault) → walked g blocks ≡ r →
+    tree_found blocks r ≡ Ok tree → (all : Walked) × (walked g blocks ≡ Ok all) × (put_nodes blocks all.nodes [] ≡ tree)
+tree_walked g blocks tree (Ok all) w r = (all, w, same_Ok (put_nodes blocks all.nodes []) tree r)
 tree_walked g blocks tree (Err fault) w r = absurd (err-ok fault tree r)
 
-walked_ends : (g : Geometry) (blocks : List (List ℕ)) (ns : List FoundNode) → walked g blocks ≡ Ok ns → Ends g blocks ns
+walked_ends : (g : Geometry) (blocks : List (List ℕ)) (all : Walked) → walked g blocks ≡ Ok all → Ends g blocks all.nodes
 unfolding walked
-walked_ends g blocks ns w = walk_volume-ends g blocks ns w
+walked_ends g blocks all w = walk_volume-ends g blocks all w
 
 -- a directory was found as such
 sorted_by : (blocks : List (List ℕ)) (f : Found) (d : Directory) → node_of blocks f ≡ nodes.Directory d → HasSorted f → IsStrictlySortedBy name_cmp (keys_of d.names)
@@ -71,28 +72,28 @@ sorted_by blocks (found.Directory c) d is h = subst (λ (names : List (List ℕ 
 sorted_by blocks (found.File f) d is h = absurd (let k : node_of blocks (found.File f) ≡ nodes.Directory d = is in cc)
 sorted_by blocks (found.Other mode) d is h = absurd (let k : node_of blocks (found.Other mode) ≡ nodes.Directory d = is in cc)
 
-module _ (g : Geometry) (blocks : List (List ℕ)) (ns : List FoundNode) (walk : walked g blocks ≡ Ok ns) where
+module _ (g : Geometry) (blocks : List (List ℕ)) (all : Walked) (walk : walked g blocks ≡ Ok all) where
   abbrev found_tree : List (ℕ × Node)
-  found_tree = put_nodes blocks ns []
+  found_tree = put_nodes blocks all.nodes []
 
   names_sorted : (birth : ℕ) (d : Directory) → at_number found_tree birth ≡ Some (nodes.Directory d) → IsStrictlySortedBy name_cmp (keys_of d.names)
   names_sorted birth d is =
       ⊎_elim
       (λ none. absurd (none-some (nodes.Directory d) none))
-      (λ x. sorted_by blocks x.one.found d x.node_is (walked_sorted g blocks ns walk x.one x.within))
-      (was_found blocks ns [] birth (nodes.Directory d) is)
+      (λ x. sorted_by blocks x.one.found d x.node_is (walked_sorted g blocks all walk x.one x.within))
+      (was_found blocks all.nodes [] birth (nodes.Directory d) is)
 
   no_root_named : (parent : ℕ) (name : List ℕ) (birth : ℕ) → Gives found_tree parent name birth → birth ≢ 0
   no_root_named parent name birth n =
-      let ends = walked_ends g blocks ns walk in
+      let ends = walked_ends g blocks all walk in
       let here : Gives (put_nodes blocks ends.state.nodes []) parent name birth = subst (λ ms. Gives (put_nodes blocks ms []) parent name birth) (sym ends.nodes) n in
-      ends.walked.no_root parent name birth (named_of g blocks (ns, ends) parent name birth here)
+      ends.walked.no_root parent name birth (named_of g blocks (all.nodes, ends) parent name birth here)
 
   found_rooted : tree_of g blocks ≡ Ok found_tree → IsRooted found_tree
   found_rooted r =
       let t : IsTreeOf g blocks found_tree = tree_of-fields g blocks found_tree r in
       record {
-        in_order = nodes_sorted blocks ns;
+        in_order = nodes_sorted blocks all.nodes;
         names_in_order = names_sorted;
         root = (t.root.0, t.root.1);
         short = λ parent name birth n.

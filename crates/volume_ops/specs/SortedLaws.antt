@@ -32,7 +32,7 @@ use Rattle.volume_ops.specs.Places.{table_block, inode_in_block, is_directory, i
 use Rattle.volume_ops.specs.Marks.{is_marked}
 use Rattle.volume_ops.specs.Zones.{Fault, scan_zones}
 use Rattle.volume_ops.specs.Slots.{SlotScan, is_bad_entry, note_name, scan_entry, scan_used, scan_slot, scan_places, scan_block, scan_slots}
-use Rattle.volume_ops.specs.Walk.{WalkState, Pending, Visit, is_bad_inode, visit_file, visit_directory, visit, walk_through, walk, at_start, root, walk_volume}
+use Rattle.volume_ops.specs.Walk.{WalkState, Walked, found_in, Pending, Visit, is_bad_inode, visit_file, visit_directory, visit, walk_through, walk, at_start, root, walk_volume}
 use Rattle.volume_ops.specs.Volume.{disk_of, walked, node_of, put_nodes}
 
 -- ---- a map in order stays so
@@ -122,6 +122,9 @@ AllSorted nodes = All (λ n. HasSorted n.found) nodes
 node_met : (nodes : List FoundNode) (birth : ℕ) (f : Found) → AllSorted nodes → HasSorted f → AllSorted (nodes ++ record { birth = birth; found = f } ∷ [])
 node_met nodes birth f h r = All-push (λ (n : FoundNode). HasSorted n.found) nodes (record { birth = birth; found = f }) h r
 
+abbrev FoundSorted : Walked → Type 0
+FoundSorted w = AllSorted w.nodes
+
 abbrev VisitSorted : Visit → Type 0
 VisitSorted v = AllSorted v.state.nodes
 
@@ -153,25 +156,25 @@ module _ (disk : ℕ → List ℕ) (g : Geometry) where
       (either_answers disk (is_file i.mode) _ _ VisitSorted (file_sorted w e i h)
       (node_met w.nodes (birth_of e.inode) (found.Other i.mode) h tt)))
 
-  through_sorted : (again : WalkState → List Pending → Reads (Result (List FoundNode) Fault)) →
-      ((w : WalkState) (rest : List Pending) → AllSorted w.nodes → IfOk (answer disk (again w rest)) AllSorted) →
-      (w : WalkState) (rest : List Pending) → AllSorted w.nodes → IfOk (answer disk (walk_through g again w rest)) AllSorted
+  through_sorted : (again : WalkState → List Pending → Reads (Result Walked Fault)) →
+      ((w : WalkState) (rest : List Pending) → AllSorted w.nodes → IfOk (answer disk (again w rest)) FoundSorted) →
+      (w : WalkState) (rest : List Pending) → AllSorted w.nodes → IfOk (answer disk (walk_through g again w rest)) FoundSorted
   through_sorted again more w [] h = h
   through_sorted again more w (e ∷ rest) h =
-      either_answers disk (is_marked w.inodes e.inode) (walk_through g again w rest) _ AllSorted
+      either_answers disk (is_marked w.inodes e.inode) (walk_through g again w rest) _ FoundSorted
       (through_sorted again more w rest h)
-      (answered_then disk (visit g w e) (λ v. again v.state (v.names ++ rest)) VisitSorted AllSorted (visit_sorted w e h) (λ v r. more v.state (v.names ++ rest) r))
+      (answered_then disk (visit g w e) (λ v. again v.state (v.names ++ rest)) VisitSorted FoundSorted (visit_sorted w e h) (λ v r. more v.state (v.names ++ rest) r))
 
-  walk_sorted : (n : ℕ) (w : WalkState) (rest : List Pending) → AllSorted w.nodes → IfOk (answer disk (walk n g w rest)) AllSorted
-  walk_sorted zero w rest h = through_sorted (λ w rest. Ret (Ok w.nodes)) (λ w rest r. r) w rest h
+  walk_sorted : (n : ℕ) (w : WalkState) (rest : List Pending) → AllSorted w.nodes → IfOk (answer disk (walk n g w rest)) FoundSorted
+  walk_sorted zero w rest h = through_sorted (λ w rest. Ret (Ok (found_in w))) (λ w rest r. r) w rest h
   walk_sorted (suc n) w rest h = through_sorted (walk n g) (walk_sorted n) w rest h
 
 -- each directory that the walk finds has its names in order
-pub walked_sorted : (g : Geometry) (blocks : List (List ℕ)) (nodes : List FoundNode) → walked g blocks ≡ Ok nodes → (n : FoundNode) → In n nodes → HasSorted n.found
+pub walked_sorted : (g : Geometry) (blocks : List (List ℕ)) (w : Walked) → walked g blocks ≡ Ok w → (n : FoundNode) → In n w.nodes → HasSorted n.found
 unfolding walked walk_volume
-walked_sorted g blocks nodes e n i =
+walked_sorted g blocks w e n i =
     let r = walk_sorted (disk_of blocks) g g.inodes (at_start g) (root ∷ []) (All-nil (λ (n : FoundNode). HasSorted n.found)) in
-    All-In (λ (n : FoundNode). HasSorted n.found) nodes n (subst (λ x. IfOk x AllSorted) e r) i
+    All-In (λ (n : FoundNode). HasSorted n.found) w.nodes n (subst (λ x. IfOk x FoundSorted) e r) i
 
 -- ---- the tree
 

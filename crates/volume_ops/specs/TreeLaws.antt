@@ -17,6 +17,7 @@ use Rattle.volume_ops.specs.Places.{is_directory, inode_of_birth}
 use Rattle.volume_ops.specs.Marks.{is_marked}
 use Rattle.tree_model.specs.MapsLaws.{at_put_number, at_put_number_apart}
 use Rattle.volume_ops.specs.Zones.{Fault}
+use Rattle.volume_ops.specs.Walk.{Walked}
 use Rattle.volume_ops.specs.Volume.{walked, node_of, put_nodes, tree_found, tree_of}
 use Rattle.volume_ops.specs.Fields.{inode_at, IsNodeOf, IsBelow, IsTreeOf}
 use Rattle.tree_model.specs.Listing.{Gives, IsLedTo, at_root, by_name}
@@ -178,10 +179,10 @@ module _ (g : Geometry) (blocks : List (List ℕ)) (ends : (ns : List FoundNode)
   }
 
 -- a walk that found a tree ended well
-walk_of : (g : Geometry) (blocks : List (List ℕ)) (tree : List (ℕ × Node)) (r : Result (List FoundNode) Fault) → walked g blocks ≡ r →
+walk_of : (g : Geometry) (blocks : List (List ℕ)) (tree : List (ℕ × Node)) (r : Result Walked Fault) → walked g blocks ≡ r →
     tree_found blocks r ≡ Ok tree → (ns : List FoundNode) × Ends g blocks ns × (put_nodes blocks ns [] ≡ tree)
 unfolding walked
-walk_of g blocks tree (Ok ns) w r = (ns, walk_volume-ends g blocks ns w, same_Ok (put_nodes blocks ns []) tree r)
+walk_of g blocks tree (Ok all) w r = (all.nodes, walk_volume-ends g blocks all w, same_Ok (put_nodes blocks all.nodes []) tree r)
 walk_of g blocks tree (Err fault) w r = absurd (err-ok fault tree r)
 
 -- the tree of a volume has the fields that it should have

@@ -15,7 +15,7 @@ use Rattle.volume_ops.specs.declared.fault.VolumeFault.{VolumeFault}
 use Rattle.volume_ops.specs.declared.fault.VolumeFault.TheVariants as faults
 use Rattle.volume_ops.specs.Reads.{answer, blocks_read}
 use Rattle.volume_ops.specs.Zones.{Fault}
-use Rattle.volume_ops.specs.Walk.{walk_volume}
+use Rattle.volume_ops.specs.Walk.{Walked, walk_volume}
 
 -- a volume: how it is divided, and its blocks
 pub record VolumeState : Type 0 where
@@ -27,7 +27,7 @@ abbrev pub disk_of : List (List ℕ) → ℕ → List ℕ
 disk_of blocks block = slice_index_or blocks block (filled 0)
 
 -- what the walk finds, or its first fault
-unfoldable pub walked : Geometry → List (List ℕ) → Result (List FoundNode) Fault
+unfoldable pub walked : Geometry → List (List ℕ) → Result Walked Fault
 walked g blocks = answer (disk_of blocks) (walk_volume g)
 
 -- The metadata of a volume: the blocks that the walk reads.
@@ -50,8 +50,8 @@ put_nodes blocks [] tree = tree
 put_nodes blocks (n ∷ ns) tree = put_nodes blocks ns (put_number tree n.birth (node_of blocks n.found))
 
 -- the tree of what the walk found, or its fault
-abbrev pub tree_found : List (List ℕ) → Result (List FoundNode) Fault → Result (List (ℕ × Node)) Fault
-tree_found blocks (Ok found) = Ok (put_nodes blocks found [])
+abbrev pub tree_found : List (List ℕ) → Result Walked Fault → Result (List (ℕ × Node)) Fault
+tree_found blocks (Ok w) = Ok (put_nodes blocks w.nodes [])
 tree_found blocks (Err fault) = Err fault
 
 -- the tree of a volume, or its first fault

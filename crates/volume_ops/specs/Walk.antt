@@ -19,6 +19,14 @@ pub record WalkState : Type 0 where
   pub named : List Bool
   pub nodes : List FoundNode
 
+-- What the walk finds: for each zone whether it was met, and the nodes in the order in which they were met.
+pub record Walked : Type 0 where
+  pub zones : List Bool
+  pub nodes : List FoundNode
+
+abbrev pub found_in : WalkState → Walked
+found_in w = record { zones = w.zones; nodes = w.nodes }
+
 -- an inode that is to be met, and the birth of the directory that names it
 pub record Pending : Type 0 where
   pub inode : ℕ
@@ -87,15 +95,15 @@ visit g w e = Read (table_block g e.inode) (λ body. visit_inode g w e (inode_in
 
 -- The walk through the inodes that are to be met, the next one first. What was met before is passed over;
 -- `again` goes on with one inode less to be met.
-abbrev pub walk_through : Geometry → (WalkState → List Pending → Reads (Result (List FoundNode) Fault)) → WalkState → List Pending → Reads (Result (List FoundNode) Fault)
-walk_through g again w [] = Ret (Ok w.nodes)
+abbrev pub walk_through : Geometry → (WalkState → List Pending → Reads (Result Walked Fault)) → WalkState → List Pending → Reads (Result Walked Fault)
+walk_through g again w [] = Ret (Ok (found_in w))
 walk_through g again w (e ∷ rest) =
     if is_marked w.inodes e.inode then walk_through g again w rest
     else if_ok (visit g w e) (λ v. again v.state (v.names ++ rest))
 
 -- so, with so many inodes to be met
-abbrev pub walk : ℕ → Geometry → WalkState → List Pending → Reads (Result (List FoundNode) Fault)
-walk zero g = walk_through g (λ w rest. Ret (Ok w.nodes))
+abbrev pub walk : ℕ → Geometry → WalkState → List Pending → Reads (Result Walked Fault)
+walk zero g = walk_through g (λ w rest. Ret (Ok (found_in w)))
 walk (suc n) g = walk_through g (walk n g)
 
 -- nothing was met, and of the directories the root was named
@@ -111,5 +119,5 @@ abbrev pub root : Pending
 root = record { inode = 1; parent = 0 }
 
 -- the walk through a volume
-unfoldable pub walk_volume : Geometry → Reads (Result (List FoundNode) Fault)
+unfoldable pub walk_volume : Geometry → Reads (Result Walked Fault)
 walk_volume g = walk g.inodes g (at_start g) (root ∷ [])

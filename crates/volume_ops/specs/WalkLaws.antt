@@ -18,7 +18,7 @@ use Rattle.volume_ops.specs.MarksLaws.{is_marked_same, is_marked_other, is_marke
 use Rattle.tree_model.specs.MapsLaws.{at_name-In}
 use Rattle.volume_ops.specs.Zones.{Fault}
 use Rattle.volume_ops.specs.SlotsLaws.{inode_of_birth_of, IsDirectoryAt, IsNamed}
-use Rattle.volume_ops.specs.Walk.{WalkState, Pending, Visit, pending_in, met_node, visit, walk_through, walk, at_start, root as first_pending, walk_volume}
+use Rattle.volume_ops.specs.Walk.{WalkState, Walked, found_in, Pending, Visit, pending_in, met_node, visit, walk_through, walk, at_start, root as first_pending, walk_volume}
 use Rattle.volume_ops.specs.Volume.{disk_of, node_of}
 use Rattle.volume_ops.specs.Fields.{inode_at, IsNodeOf, IsBelow}
 use Rattle.volume_ops.specs.VisitLaws.{names_in, IsVisit, visit_is}
@@ -380,15 +380,15 @@ module _ (g : Geometry) (blocks : List (List ℕ)) (root_is : IsDirectoryAt (dis
       unmet w.inodes ≡ unmet v.state.inodes + 1
   fewer e w v i x low f = subst (λ v. unmet w.inodes ≡ unmet v.state.inodes + 1) x.is (unmet-marked w.inodes e.inode low f)
 
-  module _ (ns : List FoundNode) (n : ℕ) (again : WalkState → List Pending → Reads (Result (List FoundNode) Fault))
-      (goes : (w : WalkState) (rest : List Pending) → answer (disk_of blocks) (again w rest) ≡ Ok ns → IsWalked g blocks rest rest w → HasRoot w.nodes → unmet w.inodes ≤ n → Ends g blocks ns) where
+  module _ (all : Walked) (n : ℕ) (again : WalkState → List Pending → Reads (Result Walked Fault))
+      (goes : (w : WalkState) (rest : List Pending) → answer (disk_of blocks) (again w rest) ≡ Ok all → IsWalked g blocks rest rest w → HasRoot w.nodes → unmet w.inodes ≤ n → Ends g blocks all.nodes) where
     through_by : (w : WalkState) (e : Pending) (rest : List Pending) (was : Bool) → is_marked w.inodes e.inode ≡ was →
-        (IsWalked g blocks rest rest w → answer (disk_of blocks) (walk_through g again w rest) ≡ Ok ns → Ends g blocks ns) →
-        answer (disk_of blocks) (if was then walk_through g again w rest else if_ok (visit g w e) (λ v. again v.state (v.names ++ rest))) ≡ Ok ns →
-        IsWalked g blocks (e ∷ rest) (e ∷ rest) w → HasRoot w.nodes → unmet w.inodes ≤ n + 1 → Ends g blocks ns
+        (IsWalked g blocks rest rest w → answer (disk_of blocks) (walk_through g again w rest) ≡ Ok all → Ends g blocks all.nodes) →
+        answer (disk_of blocks) (if was then walk_through g again w rest else if_ok (visit g w e) (λ v. again v.state (v.names ++ rest))) ≡ Ok all →
+        IsWalked g blocks (e ∷ rest) (e ∷ rest) w → HasRoot w.nodes → unmet w.inodes ≤ n + 1 → Ends g blocks all.nodes
     through_by w e rest true was past r h root budget = past (passed g blocks e rest w h was) r
     through_by w e rest false was past r h root budget =
-        let parts = if_ok-parts (disk_of blocks) (visit g w e) (λ v. again v.state (v.names ++ rest)) ns r in
+        let parts = if_ok-parts (disk_of blocks) (visit g w e) (λ v. again v.state (v.names ++ rest)) all r in
         let v : Visit = parts.0 in
         let x = visit_is g blocks w e v h.named_size parts.1 in
         let low = pending_low e rest w h in
@@ -397,20 +397,20 @@ module _ (g : Geometry) (blocks : List (List ℕ)) (root_is : IsDirectoryAt (dis
         (subst (λ v. HasRoot v.state.nodes) x.is (root_stays w.nodes (record { birth = birth_of e.inode; found = x.met }) root))
         (omega arith)
 
-    through : (w : WalkState) (pending : List Pending) → answer (disk_of blocks) (walk_through g again w pending) ≡ Ok ns →
-        IsWalked g blocks pending pending w → HasRoot w.nodes → unmet w.inodes ≤ n + 1 → Ends g blocks ns
-    through w [] r h root budget = record { state = w; walked = h; root = root; nodes = same_Ok w.nodes ns r }
+    through : (w : WalkState) (pending : List Pending) → answer (disk_of blocks) (walk_through g again w pending) ≡ Ok all →
+        IsWalked g blocks pending pending w → HasRoot w.nodes → unmet w.inodes ≤ n + 1 → Ends g blocks all.nodes
+    through w [] r h root budget = record { state = w; walked = h; root = root; nodes = ap (λ (w : Walked). w.nodes) (same_Ok (found_in w) all r) }
     through w (e ∷ rest) r h root budget =
         through_by w e rest (is_marked w.inodes e.inode) refl (λ h r. through w rest r h root budget) r h root budget
 
-  walk_ends : (n : ℕ) (ns : List FoundNode) (w : WalkState) (pending : List Pending) → answer (disk_of blocks) (walk n g w pending) ≡ Ok ns →
-      IsWalked g blocks pending pending w → HasRoot w.nodes → unmet w.inodes ≤ n + 1 → Ends g blocks ns
-  walk_ends zero ns w pending r h root budget =
-      through ns 0 (λ w rest. Ret (Ok w.nodes))
+  walk_ends : (n : ℕ) (all : Walked) (w : WalkState) (pending : List Pending) → answer (disk_of blocks) (walk n g w pending) ≡ Ok all →
+      IsWalked g blocks pending pending w → HasRoot w.nodes → unmet w.inodes ≤ n + 1 → Ends g blocks all.nodes
+  walk_ends zero all w pending r h root budget =
+      through all 0 (λ w rest. Ret (Ok (found_in w)))
       (λ w rest r h root none. let some = unmet-marked w.inodes 0 (omega (arith, h.inodes_size)) h.no_zero in absurd (omega arith))
       w pending r h root budget
-  walk_ends (suc n) ns w pending r h root budget =
-      through ns (n + 1) (walk n g) (λ w rest r h root left. walk_ends n ns w rest r h root left) w pending r h root (omega arith)
+  walk_ends (suc n) all w pending r h root budget =
+      through all (n + 1) (walk n g) (λ w rest r h root left. walk_ends n all w rest r h root left) w pending r h root (omega arith)
 
 -- ---- from the root on
 
@@ -447,10 +447,10 @@ no_pending : (pending : List Pending) → ((e : Pending) → In e pending → �
 no_pending [] none = refl
 no_pending (e ∷ rest) none = absurd (none e (inl refl))
 
-walk_from : (g : Geometry) (blocks : List (List ℕ)) (ns : List FoundNode) (n : ℕ) → g.inodes ≡ n →
-    answer (disk_of blocks) (walk n g (at_start g) (first_pending ∷ [])) ≡ Ok ns → Ends g blocks ns
-walk_from g blocks ns zero size r =
-    let parts = if_ok-parts (disk_of blocks) (visit g (at_start g) first_pending) (λ v. Ret (Ok v.state.nodes)) ns (rw (no_mark (g.inodes + 1) 1) at r) in
+walk_from : (g : Geometry) (blocks : List (List ℕ)) (all : Walked) (n : ℕ) → g.inodes ≡ n →
+    answer (disk_of blocks) (walk n g (at_start g) (first_pending ∷ [])) ≡ Ok all → Ends g blocks all.nodes
+walk_from g blocks all zero size r =
+    let parts = if_ok-parts (disk_of blocks) (visit g (at_start g) first_pending) (λ v. Ret (Ok (found_in v.state))) all (rw (no_mark (g.inodes + 1) 1) at r) in
     let v : Visit = parts.0 in
     let x = visit_is g blocks (at_start g) first_pending v (starts g blocks []).named_size parts.1 in
     let h = after_root g blocks v x in
@@ -461,17 +461,17 @@ walk_from g blocks ns zero size r =
       state = v.state;
       walked = subst (λ pending. IsWalked g blocks pending pending v.state) none h;
       root = root_found g blocks v x;
-      nodes = same_Ok v.state.nodes ns parts.2;
+      nodes = ap (λ (w : Walked). w.nodes) (same_Ok (found_in v.state) all parts.2);
     }
-walk_from g blocks ns (suc n) size r =
-    let parts = if_ok-parts (disk_of blocks) (visit g (at_start g) first_pending) (λ v. walk n g v.state (v.names ++ [])) ns (rw (no_mark (g.inodes + 1) 1) at r) in
+walk_from g blocks all (suc n) size r =
+    let parts = if_ok-parts (disk_of blocks) (visit g (at_start g) first_pending) (λ v. walk n g v.state (v.names ++ [])) all (rw (no_mark (g.inodes + 1) 1) at r) in
     let v : Visit = parts.0 in
     let x = visit_is g blocks (at_start g) first_pending v (starts g blocks []).named_size parts.1 in
     let less = fewer g blocks (root_kind g blocks v x) first_pending (at_start g) v (inode_at g blocks 1) x (omega (arith, length-no_marks (g.inodes + 1))) (no_mark (g.inodes + 1) 1) in
-    walk_ends g blocks (root_kind g blocks v x) n ns v.state (v.names ++ []) parts.2 (after_root g blocks v x) (root_found g blocks v x)
+    walk_ends g blocks (root_kind g blocks v x) n all v.state (v.names ++ []) parts.2 (after_root g blocks v x) (root_found g blocks v x)
     (omega (arith, unmet-no_marks (g.inodes + 1)))
 
 -- what a walk through a volume found hangs together
-pub walk_volume-ends : (g : Geometry) (blocks : List (List ℕ)) (ns : List FoundNode) → answer (disk_of blocks) (walk_volume g) ≡ Ok ns → Ends g blocks ns
+pub walk_volume-ends : (g : Geometry) (blocks : List (List ℕ)) (all : Walked) → answer (disk_of blocks) (walk_volume g) ≡ Ok all → Ends g blocks all.nodes
 unfolding walk_volume
-walk_volume-ends g blocks ns r = walk_from g blocks ns g.inodes refl r
+walk_volume-ends g blocks all r = walk_from g blocks all g.inodes refl r

@@ -1,5 +1,6 @@
-ghost use Rattle.std.specs.Prelude.{◌≡◌, ℕ, List, Some, Ok};
+ghost use Rattle.std.specs.Prelude.{◌≡◌, ℕ, ◌<◌, ◌↔◌, true, List, Some, Ok, Err};
 ghost use Rattle.minix_layout.specs.declared.division.Geometry.{Geometry};
+ghost use Rattle.minix_layout.specs.declared.fault.LayoutFault.{LayoutFault};
 ghost use Rattle.tree_model.specs.declared.node.Node.{Node};
 ghost use Rattle.tree_model.specs.Listing.{IsRooted};
 ghost use Rattle.tree_model.specs.Maps.{at_number};
@@ -8,6 +9,12 @@ ghost use Rattle.volume_ops.specs.Reads.{AgreeOn};
 ghost use Rattle.volume_ops.specs.Volume.{disk_of, walked, metadata, tree_of};
 ghost use Rattle.volume_ops.specs.Fields.{IsTreeOf};
 ghost use Rattle.volume_ops.specs.Alike.{SameMetadataAtOrNone};
+ghost use Rattle.volume_ops.specs.Defects.{IsDefect};
+ghost use Rattle.volume_ops.specs.Faultless.{IsFaultless, IsUsed};
+ghost use Rattle.volume_ops.specs.FirstFault.{IsFirstFault};
+ghost use Rattle.volume_ops.specs.Marks.{is_marked};
+ghost use Rattle.volume_ops.specs.VolumeTrees.{IsVolumeTree};
+ghost use Rattle.volume_ops.specs.Walk.{Walked};
 
 /// A law, which does nothing when it is called: what the walk through a volume finds, and which blocks
 /// it reads, depends on the blocks that it reads alone.
@@ -40,4 +47,37 @@ pub fn same_metadata_gives_alike_trees()
         AgreeOn (metadata g blocks) (disk_of blocks) (disk_of other) → tree_of g blocks ≡ Ok tree →
         (changed : List (ℕ × Node)) × (tree_of g other ≡ Ok changed) ×
         ((birth : ℕ) → SameMetadataAtOrNone (at_number tree birth) (at_number changed birth)) }
+{}
+
+/// A law, which does nothing when it is called: the walk through a volume ends well just where the volume has no
+/// fault, by its fields and in no order, and it meets just the zones that the volume uses.
+pub fn walks_end_well_without_fault()
+    ensures no_fault { (g : Geometry) (blocks : List (List ℕ)) (found : Walked) →
+        0 < g.inodes → walked g blocks ≡ Ok found → IsFaultless g blocks }
+    ensures ends_well { (g : Geometry) (blocks : List (List ℕ)) →
+        0 < g.inodes → IsFaultless g blocks → (found : Walked) × (walked g blocks ≡ Ok found) }
+    ensures zones { (g : Geometry) (blocks : List (List ℕ)) (found : Walked) →
+        0 < g.inodes → walked g blocks ≡ Ok found → (zone : ℕ) → (is_marked found.zones zone ≡ true) ↔ IsUsed g blocks zone }
+{}
+
+/// A law, which does nothing when it is called: each fault that the walk tells is a defect of the volume that
+/// stands at the block told, and the first in the order of the tests. A volume without a fault has no defect.
+pub fn faults_are_first_defects()
+    ensures defect { (g : Geometry) (blocks : List (List ℕ)) (fault : LayoutFault) (block : ℕ) →
+        0 < g.inodes → walked g blocks ≡ Err (fault, block) → IsDefect g blocks fault block }
+    ensures first { (g : Geometry) (blocks : List (List ℕ)) (fault : LayoutFault) (block : ℕ) →
+        0 < g.inodes → walked g blocks ≡ Err (fault, block) → IsFirstFault g blocks fault block }
+    ensures none { (g : Geometry) (blocks : List (List ℕ)) (fault : LayoutFault) (block : ℕ) →
+        IsFaultless g blocks → IsDefect g blocks fault block → ⊥ }
+{}
+
+/// A law, which does nothing when it is called: a volume without a fault has one tree by its fields, which is the
+/// one that the walk gives.
+pub fn volumes_have_one_tree()
+    ensures by_fields { (g : Geometry) (blocks : List (List ℕ)) (tree : List (ℕ × Node)) →
+        0 < g.inodes → tree_of g blocks ≡ Ok tree → IsVolumeTree g blocks tree }
+    ensures by_walk { (g : Geometry) (blocks : List (List ℕ)) (tree : List (ℕ × Node)) →
+        0 < g.inodes → IsVolumeTree g blocks tree → tree_of g blocks ≡ Ok tree }
+    ensures one { (g : Geometry) (blocks : List (List ℕ)) (tree other : List (ℕ × Node)) →
+        IsVolumeTree g blocks tree → IsVolumeTree g blocks other → tree ≡ other }
 {}

@@ -27,6 +27,7 @@ mod zones;
 pub use fault::VolumeFault;
 pub use found::{Found, FoundFile, FoundNode, Mapped, MappedZones};
 pub use laws::{
-    same_metadata_gives_alike_trees, trees_are_rooted, trees_have_fields, walks_read_metadata_alone,
+    faults_are_first_defects, same_metadata_gives_alike_trees, trees_are_rooted, trees_have_fields,
+    volumes_have_one_tree, walks_end_well_without_fault, walks_read_metadata_alone,
 };
 pub use volume::Volume;

@@ -5,7 +5,7 @@ ghost use Rattle.volume_ops.specs.Marks.{is_marked, marked};
 ghost use Rattle.volume_ops.specs.Reads.{answer};
 ghost use Rattle.volume_ops.specs.Visits.{met_next, file_visit, directory_visit, ArePending};
 ghost use Rattle.volume_ops.specs.Volume.{disk_of, IsTold};
-ghost use Rattle.volume_ops.specs.Walk.{at_start, met_node, is_bad_inode, pending_in, visit};
+ghost use Rattle.volume_ops.specs.Walk.{at_start, found_in, met_node, is_bad_inode, pending_in, visit};
 
 use crate::disk::Disk;
 use crate::marks::Marks;
@@ -38,6 +38,23 @@ impl Model for Pending {
     ghost view = { λ p. record { inode = p.inode; parent = p.parent } };
 
     ghost inverse = { λ p. record { inode = p.inode; parent = p.parent } };
+}
+
+/// What a walk finds.
+#[derive(Drop)]
+pub struct Walked {
+    /// For each zone whether an inode has it.
+    pub zones: Marks,
+    /// The nodes in the order in which they were met.
+    pub nodes: Vec<FoundNode>,
+}
+
+impl Model for Walked {
+    ghost use Rattle.volume_ops.specs.Walk as walk;
+
+    ghost Value = { walk.Walked };
+
+    ghost view = { λ w. record { zones = w.zones; nodes = w.nodes.items } };
 }
 
 /// A walk on its way: the zones and inodes that were met, the directories that were named, and the nodes in the
@@ -80,10 +97,13 @@ impl Walker {
         self.inodes.is_marked(usize::from(inode))
     }
 
-    pub fn into_nodes(self) -> Vec<FoundNode>
-        ensures { result.items ≡ self.nodes }
+    pub fn into_found(self) -> Walked
+        ensures { result ≡ found_in self }
     {
-        self.nodes
+        Walked {
+            zones: self.zones,
+            nodes: self.nodes,
+        }
     }
 
     /// Tests an inode and what it holds, and notes its node. What a directory names is put on the stack, the

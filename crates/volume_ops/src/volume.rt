@@ -1,15 +1,17 @@
-ghost use Rattle.std.specs.Prelude.{◌≡◌, ◌≤◌, Ok, Err, length, take, IfOk, IfErr, IsOk, IsErrOf};
+ghost use Rattle.std.specs.Prelude.{◌≡◌, ◌≤◌, ◌↔◌, true, Ok, Err, length, take, IfOk, IfErr, IsOk, IsErrOf};
 ghost use Rattle.blk_base.specs.Streams.{Rose};
 ghost use Rattle.order_model.specs.Device.{IsQuiet};
 ghost use Rattle.order_model.specs.Steps.{Reads};
 ghost use Rattle.minix_layout.specs.Geometry.{IsSound};
+ghost use Rattle.volume_ops.specs.Faultless.{IsUsed};
 ghost use Rattle.volume_ops.specs.Faults.{IsOutside};
 ghost use Rattle.volume_ops.specs.Rising.{IsRising, HasRising};
 ghost use Rattle.volume_ops.specs.Volume.{walked, bodies_of, node_of, tree_of, IsFaultOf};
 
 use crate::disk::Disk;
+use crate::visit::Walked;
 use crate::walk::walk_volume;
-use crate::{Found, FoundNode, Mapped, VolumeFault};
+use crate::{Found, Mapped, VolumeFault};
 use blk_base::{Image, NoMemory};
 use minix_layout::Geometry;
 use order_model::OrderedDev;
@@ -22,7 +24,7 @@ use tree_model::{Directory, File, FileBlocks, Node, Tree};
 pub struct Volume {
     geometry: Geometry,
     disk: Disk,
-    nodes: Vec<FoundNode>,
+    found: Walked,
 }
 
 impl Model for Volume {
@@ -34,7 +36,7 @@ impl Model for Volume {
 
     ghost view = { λ v. record { geometry = v.geometry; blocks = v.disk } };
 
-    ghost invariant = { λ v. IsSound v.geometry × (length v.disk ≡ v.geometry.zones) × (walked v.geometry v.disk ≡ Ok v.nodes.items) };
+    ghost invariant = { λ v. IsSound v.geometry × (length v.disk ≡ v.geometry.zones) × (walked v.geometry v.disk ≡ Ok v.found) };
 }
 
 impl Volume {
@@ -58,11 +60,11 @@ impl Volume {
         let _ = dev.blocks();
         let blocks = read_blocks(alloc, dev, g.zones)?;
         let disk = Disk::new(blocks);
-        let nodes = walk_volume(alloc, &disk, &g)?;
+        let found = walk_volume(alloc, &disk, &g)?;
         Ok(Volume {
             geometry: g,
             disk,
-            nodes,
+            found,
         })
     }
 
@@ -73,13 +75,20 @@ impl Volume {
         &self.geometry
     }
 
+    /// Whether the volume's tree has this zone: for a block of a file or a directory, or for numbers of zones.
+    pub fn uses_zone(&self, zone: u16) -> bool
+        ensures { (result ≡ true) ↔ IsUsed self.now.geometry self.now.blocks zone }
+    {
+        self.found.zones.is_marked(usize::from(zone))
+    }
+
     /// The tree that the volume stands for, with the bytes of its files. A node's birth is the number of its
     /// inode, and the root's is 0.
     pub fn tree(&self, alloc: Global) -> Result<Tree, NoMemory>
         ensures { IfOk result (λ t. tree_of self.now.geometry self.now.blocks ≡ Ok t) }
     {
         let mut tree = Tree::new(alloc);
-        for node in &self.nodes {
+        for node in &self.found.nodes {
             tree.put(node.birth, node_of(alloc, &self.disk, &node.found)?)?;
         }
         Ok(tree)

@@ -2,9 +2,8 @@
 ghost use Rattle.std.specs.Prelude.{◌≡◌, Ok, IfOk, IfErr};
 ghost use Rattle.volume_ops.specs.Volume.{walked, IsTold};
 
-use crate::FoundNode;
 use crate::disk::Disk;
-use crate::visit::{Pending, Walker};
+use crate::visit::{Pending, Walked, Walker};
 use crate::walk_fault::WalkFault;
 use minix_layout::Geometry;
 use std::alloc::Global;
@@ -12,9 +11,9 @@ use std::alloc::Global;
 // The inode of the root.
 const ROOT: u16 = 1;
 
-/// Walks through a volume from its root, and gives the nodes in the order in which they are met.
-pub fn walk_volume(alloc: Global, disk: &Disk, g: &Geometry) -> Result<Vec<FoundNode>, WalkFault>
-    ensures ok { IfOk result (λ nodes. walked g.now disk.now ≡ Ok nodes.items) }
+/// Walks through a volume from its root.
+pub fn walk_volume(alloc: Global, disk: &Disk, g: &Geometry) -> Result<Walked, WalkFault>
+    ensures ok { IfOk result (λ found. walked g.now disk.now ≡ Ok found) }
     ensures fault { IfErr result (IsTold (walked g.now disk.now)) }
 {
     let mut walker = Walker::at_start(alloc, g)?;
@@ -30,5 +29,5 @@ pub fn walk_volume(alloc: Global, disk: &Disk, g: &Geometry) -> Result<Vec<Found
         }
         walker.visit(alloc, disk, g, next, &mut stack)?;
     }
-    Ok(walker.into_nodes())
+    Ok(walker.into_found())
 }

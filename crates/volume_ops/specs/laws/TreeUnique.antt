@@ -33,6 +33,7 @@ use Rattle.volume_ops.specs.Places.{is_directory, is_file, inode_of_birth}
 use Rattle.volume_ops.specs.Volume.{walked, bodies_of, node_of, put_nodes, tree_found, tree_of}
 use Rattle.volume_ops.specs.Fields.{inode_at, IsNodeOf, IsBelow, IsTreeOf}
 use Rattle.volume_ops.specs.Zones.{Fault}
+use Rattle.volume_ops.specs.Walk.{Walked}
 use Rattle.volume_ops.specs.Rising.{RiseWithin, HasRising}
 use Rattle.volume_ops.specs.RisingLaws.{walked_rises}
 use Rattle.volume_ops.specs.TreeLaws.{was_found, tree_of-fields}
@@ -185,9 +186,9 @@ module _ (g : Geometry) (blocks : List (List ℕ)) where
       blocks_in (nodes.Directory d) = []
       blocks_in (nodes.Other mode) = []
 
-  walked_of : (r : Result (List FoundNode) Fault) → walked g blocks ≡ r → (t : List (ℕ × Node)) → tree_found blocks r ≡ Ok t →
-      (ns : List FoundNode) × (walked g blocks ≡ Ok ns) × (put_nodes blocks ns [] ≡ t)
-  walked_of (Ok ns) w t r = (ns, w, same_Ok (put_nodes blocks ns []) t r)
+  walked_of : (r : Result Walked Fault) → walked g blocks ≡ r → (t : List (ℕ × Node)) → tree_found blocks r ≡ Ok t →
+      (all : Walked) × (walked g blocks ≡ Ok all) × (put_nodes blocks all.nodes [] ≡ t)
+  walked_of (Ok all) w t r = (all, w, same_Ok (put_nodes blocks all.nodes []) t r)
   walked_of (Err fault) w t r = absurd (err-ok fault t r)
 
   -- what the walk gives is the tree of a volume without a fault
@@ -201,13 +202,13 @@ module _ (g : Geometry) (blocks : List (List ℕ)) where
         blocks_in_order = λ birth f e.
             ⊎_elim
             (λ none. absurd (none-some (nodes.File f) none))
-            (λ y. file_by y.one.found f y.node_is (All-In (λ (n : FoundNode). HasRising n.found) x.0 y.one (walked_rises g blocks x.0 x.1) y.within))
-            (was_found blocks x.0 [] birth (nodes.File f) (subst (λ t. at_number t birth ≡ Some (nodes.File f)) (sym x.2) e));
+            (λ y. file_by y.one.found f y.node_is (All-In (λ (n : FoundNode). HasRising n.found) x.0.nodes y.one (walked_rises g blocks x.0 x.1) y.within))
+            (was_found blocks x.0.nodes [] birth (nodes.File f) (subst (λ t. at_number t birth ≡ Some (nodes.File f)) (sym x.2) e));
       }
 
   -- and the walk gives it, where there is one
   pub tree_walked : (t : List (ℕ × Node)) → 0 < g.inodes → IsVolumeTree g blocks t → tree_of g blocks ≡ Ok t
   tree_walked t some h =
       let x = faultless_walked g blocks some h.faultless in
-      let is : tree_of g blocks ≡ Ok (put_nodes blocks x.0 []) = ap (tree_found blocks) x.1 in
-      is ∙ ap Ok (one_tree (put_nodes blocks x.0 []) t (walked_tree (put_nodes blocks x.0 []) some is) h)
+      let is : tree_of g blocks ≡ Ok (put_nodes blocks x.0.nodes []) = ap (tree_found blocks) x.1 in
+      is ∙ ap Ok (one_tree (put_nodes blocks x.0.nodes []) t (walked_tree (put_nodes blocks x.0.nodes []) some is) h)

@@ -1,5 +1,5 @@
 -- What the walk through a volume finds: no fault, and all inodes that names lead to, or the first fault.
-use Rattle.std.specs.Prelude.{◌≡◌, ◌≢◌, ℕ, zero, suc, ◌+◌, ◌<◌, ◌≤◌, ◌⊎◌, Bool, true, false, if◌then◌else◌, List, [], ◌∷◌, ◌++◌, map, length, Result, Ok, Err, refl}
+use Rattle.std.specs.Prelude.{◌≡◌, ◌≢◌, ℕ, zero, suc, ◌+◌, ◌<◌, ◌≤◌, ◌⊎◌, ◌↔◌, Bool, true, false, if◌then◌else◌, List, [], ◌∷◌, ◌++◌, map, length, Result, Ok, Err, refl}
 use Rattle.std.proofs.Common.{sym, ap, subst, ◌∙◌, inl, inr, ⊎_elim, arith}
 use Rattle.std.proofs.lemmas.Bool.{true≢false, cases_Bool}
 use Rattle.blk_base.specs.Members.{In, In-push, In-push_left, In-append_right}
@@ -9,13 +9,13 @@ use Rattle.minix_layout.specs.declared.fault.LayoutFault.{LayoutFault}
 use Rattle.minix_layout.specs.declared.fault.LayoutFault.TheVariants.{BadZone, BadSlot}
 use Rattle.volume_ops.specs.declared.found.FoundNode.{FoundNode}
 use Rattle.volume_ops.specs.Reads.{Reads, Ret, answer, if_ok, go_on}
-use Rattle.volume_ops.specs.ReadsLaws.{answer-and_then, err-ok}
+use Rattle.volume_ops.specs.ReadsLaws.{answer-and_then, err-ok, same_Ok}
 use Rattle.volume_ops.specs.Marks.{no_marks, is_marked, marked, unmet}
 use Rattle.volume_ops.specs.MarksLaws.{is_marked_same, is_marked_new, length-marked, no_mark, length-no_marks, unmet-no_marks, unmet-marked}
 use Rattle.volume_ops.specs.Volume.{disk_of, walked}
 use Rattle.volume_ops.specs.Zones.{Fault}
-use Rattle.volume_ops.specs.Walk.{WalkState, Pending, Visit, visit, walk_through, walk, at_start, root, walk_volume}
-use Rattle.volume_ops.specs.Faultless.{IsDirectory, Names, IsReached, at_root, by_name, AreFaultless, IsFaultless}
+use Rattle.volume_ops.specs.Walk.{WalkState, Walked, found_in, Pending, Visit, visit, walk_through, walk, at_start, root, walk_volume}
+use Rattle.volume_ops.specs.Faultless.{IsDirectory, Names, IsUsed, IsReached, at_root, by_name, AreFaultless, IsFaultless}
 use Rattle.volume_ops.specs.ZonePlaces.{rank}
 use Rattle.volume_ops.specs.FirstFault.{holder_of, slot_zone, IsBadInode, root_is_none, size_too_great, part_of_a_slot, IsBadZone, too_low, too_high, had_by, had_here, IsBadSlot, no_name, no_inode, name_before, names_root, named_by, named_here, AreMet, again, next as next_met, at_start as met_none, IsFirstFault, IsFirstHere, of_inode, of_zone, of_slot}
 use Rattle.volume_ops.specs.Defects.{IsDefect, bad_inode, zone_outside, zone_twice, slot_without_name, slot_without_inode, name_twice, root_named, directory_twice}
@@ -23,15 +23,15 @@ use Rattle.volume_ops.specs.laws.SoFar.{IsSoFar}
 use Rattle.volume_ops.specs.laws.VisitTests as visit_tests
 use Rattle.volume_ops.specs.laws.VisitTests.{numbers_of, visit_tested}
 
--- the walk ended well, with the nodes of this state, or told the first fault
-pub record EndsWell (g : Geometry) (blocks : List (List ℕ)) (ns : List FoundNode) : Type 0 where
+-- the walk ended well, with what was found in this state, or told the first fault
+pub record EndsWell (g : Geometry) (blocks : List (List ℕ)) (all : Walked) : Type 0 where
   pub met : List ℕ
   pub state : WalkState
   pub so_far : IsSoFar g blocks met [] state
-  pub nodes : state.nodes ≡ ns
+  pub all_is : found_in state ≡ all
 
-abbrev pub Ends : Geometry → List (List ℕ) → Result (List FoundNode) Fault → Type 0
-Ends g blocks (Ok ns) = EndsWell g blocks ns
+abbrev pub Ends : Geometry → List (List ℕ) → Result Walked Fault → Type 0
+Ends g blocks (Ok all) = EndsWell g blocks all
 Ends g blocks (Err fault) = IsFirstFault g blocks fault.0 fault.1 × IsDefect g blocks fault.0 fault.1
 
 numbers_append : (xs ys : List Pending) → numbers_of (xs ++ ys) ≡ numbers_of xs ++ numbers_of ys
@@ -98,7 +98,7 @@ module _ (g : Geometry) (blocks : List (List ℕ)) where
           directory_twice place at slot more r (h.reached other was) m k (sym same) kind (λ e _. new (subst (λ k. In k met) (sym e) was))
       by (named_here slot more at m kind before k same) = directory_twice place at slot more r r m k (sym same) kind (λ _ e. omega arith)
 
-  module _ (n : ℕ) (next : WalkState → List Pending → Reads (Result (List FoundNode) Fault))
+  module _ (n : ℕ) (next : WalkState → List Pending → Reads (Result Walked Fault))
       (goes : (met : List ℕ) (w : WalkState) (rest : List Pending) → IsSoFar g blocks met (numbers_of rest) w → unmet w.inodes ≤ n → Ends g blocks (answer disk (next w rest))) where
     visited : (met : List ℕ) (w : WalkState) (e : Pending) (rest : List Pending) (h : IsSoFar g blocks met (e.inode ∷ numbers_of rest) w) (new : In e.inode met → ⊥) →
         unmet w.inodes ≤ n + 1 → (r : Result Visit Fault) → visit_tests.Gives g blocks met (numbers_of rest) w e h new r →
@@ -135,13 +135,13 @@ module _ (g : Geometry) (blocks : List (List ℕ)) where
 
     through : (met : List ℕ) (w : WalkState) (pending : List Pending) → IsSoFar g blocks met (numbers_of pending) w → unmet w.inodes ≤ n + 1 →
         Ends g blocks (answer disk (walk_through g next w pending))
-    through met w [] h budget = record { met = met; state = w; so_far = h; nodes = refl }
+    through met w [] h budget = record { met = met; state = w; so_far = h; all_is = refl }
     through met w (e ∷ rest) h budget = through_by met w e rest (is_marked w.inodes e.inode) refl h budget (λ h. through met w rest h budget)
 
   walk_tested : (n : ℕ) (met : List ℕ) (w : WalkState) (pending : List Pending) → IsSoFar g blocks met (numbers_of pending) w → unmet w.inodes ≤ n + 1 →
       Ends g blocks (answer disk (walk n g w pending))
   walk_tested zero met w pending h budget =
-      through 0 (λ w rest. Ret (Ok w.nodes))
+      through 0 (λ w rest. Ret (Ok (found_in w)))
       (λ met w rest h none.
       let no_zero : is_marked w.inodes 0 ≡ false = ⊎_elim (λ t. let low = h.some 0 (h.by_mark 0 t) in absurd (omega arith)) (λ f. f) (cases_Bool (is_marked w.inodes 0)) in
       let left = unmet-marked w.inodes 0 (omega (arith, h.inodes_size)) no_zero in absurd (omega arith))
@@ -197,7 +197,7 @@ same_Err a b h = cc
 
 -- ---- where it ends well
 
-module _ (g : Geometry) (blocks : List (List ℕ)) (ns : List FoundNode) (ends : EndsWell g blocks ns) where
+module _ (g : Geometry) (blocks : List (List ℕ)) (all : Walked) (ends : EndsWell g blocks all) where
   abbrev h : IsSoFar g blocks ends.met [] ends.state
   h = ends.so_far
 
@@ -235,6 +235,13 @@ module _ (g : Geometry) (blocks : List (List ℕ)) (ns : List FoundNode) (ends :
     };
   }
 
+  -- what was marked is what is used
+  pub used_marked : (z : ℕ) → (is_marked ends.state.zones z ≡ true) ↔ IsUsed g blocks z
+  used_marked z = (
+    λ t. let x = h.zones_by z t in record { inode = x.0; place = x.1; reached = h.reached x.0 x.2; kind = x.3; some = λ none. x.4 (x.5 ∙ none); stands = x.5 },
+    λ u. subst (λ z. is_marked ends.state.zones z ≡ true) u.stands (h.zones_marked u.inode u.place (all_met u.reached) u.kind (λ none. u.some (sym u.stands ∙ none))),
+  )
+
 -- ---- a volume without a fault has no defect
 
 no_bad_inode : (g : Geometry) (blocks : List (List ℕ)) → IsFaultless g blocks → (k : ℕ) → IsReached g blocks k → IsBadInode g blocks k → ⊥
@@ -260,25 +267,34 @@ no_defect g blocks h fault block (directory_twice {inode} {other} place at slot 
 
 -- ---- both ways
 
-ok_faultless : (g : Geometry) (blocks : List (List ℕ)) (r : Result (List FoundNode) Fault) → Ends g blocks r → (ns : List FoundNode) → r ≡ Ok ns → IsFaultless g blocks
-ok_faultless g blocks (Ok ms) ends ns e = no_fault g blocks ms ends
-ok_faultless g blocks (Err fault) ends ns e = absurd (err-ok fault ns e)
+ok_faultless : (g : Geometry) (blocks : List (List ℕ)) (r : Result Walked Fault) → Ends g blocks r → (all : Walked) → r ≡ Ok all → IsFaultless g blocks
+ok_faultless g blocks (Ok found) ends all e = no_fault g blocks found ends
+ok_faultless g blocks (Err fault) ends all e = absurd (err-ok fault all e)
 
 -- where the walk ends well there is no fault
-pub walked_faultless : (g : Geometry) (blocks : List (List ℕ)) (ns : List FoundNode) → 0 < g.inodes → walked g blocks ≡ Ok ns → IsFaultless g blocks
-walked_faultless g blocks ns some e = ok_faultless g blocks (walked g blocks) (walked_tested g blocks some) ns e
+pub walked_faultless : (g : Geometry) (blocks : List (List ℕ)) (all : Walked) → 0 < g.inodes → walked g blocks ≡ Ok all → IsFaultless g blocks
+walked_faultless g blocks all some e = ok_faultless g blocks (walked g blocks) (walked_tested g blocks some) all e
 
-faultless_ok : (g : Geometry) (blocks : List (List ℕ)) (r : Result (List FoundNode) Fault) → Ends g blocks r → IsFaultless g blocks → (ns : List FoundNode) × (r ≡ Ok ns)
-faultless_ok g blocks (Ok ns) ends h = (ns, refl)
+ok_used : (g : Geometry) (blocks : List (List ℕ)) (r : Result Walked Fault) → Ends g blocks r → (all : Walked) → r ≡ Ok all → (z : ℕ) → (is_marked all.zones z ≡ true) ↔ IsUsed g blocks z
+ok_used g blocks (Ok found) ends all e z =
+    subst (λ (w : Walked). (is_marked w.zones z ≡ true) ↔ IsUsed g blocks z) (ends.all_is ∙ same_Ok found all e) (used_marked g blocks found ends z)
+ok_used g blocks (Err fault) ends all e z = absurd (err-ok fault all e)
+
+-- and the zones that were met are those that are used
+pub walked_used : (g : Geometry) (blocks : List (List ℕ)) (all : Walked) → 0 < g.inodes → walked g blocks ≡ Ok all → (z : ℕ) → (is_marked all.zones z ≡ true) ↔ IsUsed g blocks z
+walked_used g blocks all some e = ok_used g blocks (walked g blocks) (walked_tested g blocks some) all e
+
+faultless_ok : (g : Geometry) (blocks : List (List ℕ)) (r : Result Walked Fault) → Ends g blocks r → IsFaultless g blocks → (all : Walked) × (r ≡ Ok all)
+faultless_ok g blocks (Ok all) ends h = (all, refl)
 faultless_ok g blocks (Err fault) ends h = absurd (no_defect g blocks h fault.0 fault.1 ends.1)
 
 -- where there is no fault the walk ends well
-pub faultless_walked : (g : Geometry) (blocks : List (List ℕ)) → 0 < g.inodes → IsFaultless g blocks → (ns : List FoundNode) × (walked g blocks ≡ Ok ns)
+pub faultless_walked : (g : Geometry) (blocks : List (List ℕ)) → 0 < g.inodes → IsFaultless g blocks → (all : Walked) × (walked g blocks ≡ Ok all)
 faultless_walked g blocks some h = faultless_ok g blocks (walked g blocks) (walked_tested g blocks some) h
 
-fault_first : (g : Geometry) (blocks : List (List ℕ)) (r : Result (List FoundNode) Fault) → Ends g blocks r → (fault : LayoutFault) (block : ℕ) → r ≡ Err (fault, block) →
+fault_first : (g : Geometry) (blocks : List (List ℕ)) (r : Result Walked Fault) → Ends g blocks r → (fault : LayoutFault) (block : ℕ) → r ≡ Err (fault, block) →
     IsFirstFault g blocks fault block × IsDefect g blocks fault block
-fault_first g blocks (Ok ns) ends fault block e = absurd (err-ok (fault, block) ns (sym e))
+fault_first g blocks (Ok all) ends fault block e = absurd (err-ok (fault, block) all (sym e))
 fault_first g blocks (Err told) ends fault block e = subst (λ (f : Fault). IsFirstFault g blocks f.0 f.1 × IsDefect g blocks f.0 f.1) (same_Err told (fault, block) e) ends
 
 -- a fault that the walk tells is the first, and a defect
