@@ -7,3 +7,4 @@ pub mod Received
 pub mod Steps
 pub mod Submission
 pub mod Single
+pub mod Machine
