@@ -4,16 +4,15 @@ use Rattle.std.specs.Option.{option_and_then, option_to_list}
 use Rattle.std.proofs.lemmas.Bool.{cases_lt}
 use Rattle.std.proofs.lemmas.List.{length-map}
 use Rattle.std.proofs.lemmas.Option.{none-some, same_Some}
-use Rattle.blk_base.specs.Members.{In, In-slice_get, In-append_left, slice_get-In, slice_get-in_range, slice_get-length, slice_get-take, slice_get-take_out}
+use Rattle.blk_base.specs.Members.{In, In-slice_get, slice_get-In, slice_get-in_range, slice_get-length, slice_get-take, slice_get-take_out}
 use Rattle.order_model.specs.declared.part.Part.{Part}
 use Rattle.order_model.specs.declared.command.Command.{Command}
-use Rattle.order_model.specs.declared.completion.Completion.TheVariants.{Flushed}
 use Rattle.order_model.specs.declared.request.Kind.{Kind}
 use Rattle.order_model.specs.declared.request.Kind.TheVariants.{Put, Flush}
 use Rattle.order_model.specs.declared.request.Request.{Request}
 use Rattle.order_model.specs.Received.{all_parts, part_at, first_part, command_of, ids_of, IsBarrier, IsFlush}
 use Rattle.order_model.specs.Submission.{is_flush, kind_block, kind_body, IsPutOf, IsPutWith, IsOrderedBefore, HasOrigin, IsKept, IsOrderClosed, KeepsFlushed}
-use Rattle.order_model.specs.Device.{Seen, origin_ids, IsPartKept, IsSurface, KeepsEpochOrder, KeepsFlush, Completes}
+use Rattle.order_model.specs.Device.{Seen, completed, origin_ids, IsPartKept, IsSurface, KeepsEpochOrder, KeepsFlush, Completes}
 use Rattle.order_model.specs.Carrying.{SchedSeen, IsCarriedBy, IsSentIn, IsFlushAt, Carries, AreAtIds, IsFrontOf, Fits}
 use Rattle.order_model.proofs.Received.{place_of, part_at-place, command_of-first, command_of-lt, part_at-first, part-lt, command_of-mono, flush-is, id_once, In-part-id, In-flush-id}
 use Rattle.order_model.proofs.OriginIds.{id_at, placed, origin_of, no_origin}
@@ -343,10 +342,10 @@ flush_sent qs s d k flush run h =
       },
     )
 
--- where a flush was answered, each put before it is kept
-pub keeps_flushed : (qs : List Request) (s : SchedSeen) (d : Seen) → IsRun qs s d → KeepsFlush d → Completes d → KeepsFlushed qs (origin_ids d.took d.origins) d.sent
-keeps_flushed qs s d run law completes flush i sent lt put =
-    let f = completes.flushed flush (In-append_left d.sent d.waiting (Flushed flush) sent) in
+-- where a flush completed, each put before it is kept
+pub keeps_flushed : (qs : List Request) (s : SchedSeen) (d : Seen) → IsRun qs s d → KeepsFlush d → Completes d → KeepsFlushed qs (origin_ids d.took d.origins) (completed d)
+keeps_flushed qs s d run law completes flush i told lt put =
+    let f = completes.flushed flush told in
     let g = flush_sent qs s d f.0 flush run f.1 in
     let h = run.carries.before_flush i flush f.0 lt g.0 g.1 in
     let c = flush-is d.took f.0 flush f.1 in
@@ -354,4 +353,4 @@ keeps_flushed qs s d run law completes flush i sent lt put =
     let earlier = h.2 in
     let p = part_for qs s d i h.0 put.0 run put.1 h.1 (omega arith) in
     kept_put qs s d i p.place p.part run p.there p.named
-    (law f.0 flush p.place sent f.1 p.within (let command = p.command in omega arith))
+    (law f.0 flush p.place told f.1 p.within (let command = p.command in omega arith))

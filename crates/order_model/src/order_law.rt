@@ -1,19 +1,19 @@
 ghost use Rattle.std.specs.Prelude.{List};
 ghost use Rattle.order_model.specs.declared.request.Request.{Request};
 ghost use Rattle.order_model.specs.Submission.{IsOrderClosed, KeepsFlushed};
-ghost use Rattle.order_model.specs.Device.{origin_ids};
+ghost use Rattle.order_model.specs.Device.{completed, origin_ids};
 ghost use Rattle.order_model.specs.Carrying.{SchedSeen, Carries, AreAtIds, Fits, FlushesAreBarriers, sent_alone};
 
 use crate::OrderedDev;
 
 /// Where the commands that were sent out carry the requests that the host submitted, what a power cut
-/// leaves on the device behind them is order-closed for these requests, and where a flush was answered all
+/// leaves on the device behind them is order-closed for these requests, and where a flush completed all
 /// before it is kept.
 ///
 /// A law alone: it is that of every scheduler, and of every device that keeps the order of epochs.
 pub fn keeps_order_to_the_medium<D: OrderedDev>(dev: &D)
     ensures closed { (submitted : List Request) (s : SchedSeen) → AreAtIds submitted → Carries s → Fits submitted s (D.seen (D.state dev.now)) → IsOrderClosed (D.seen (D.state dev.now)).base submitted (D.seen (D.state dev.now)).surface (origin_ids (D.seen (D.state dev.now)).took (D.seen (D.state dev.now)).origins) }
-    ensures flushed { (submitted : List Request) (s : SchedSeen) → AreAtIds submitted → Carries s → Fits submitted s (D.seen (D.state dev.now)) → KeepsFlushed submitted (origin_ids (D.seen (D.state dev.now)).took (D.seen (D.state dev.now)).origins) (D.seen (D.state dev.now)).sent }
+    ensures flushed { (submitted : List Request) (s : SchedSeen) → AreAtIds submitted → Carries s → Fits submitted s (D.seen (D.state dev.now)) → KeepsFlushed submitted (origin_ids (D.seen (D.state dev.now)).took (D.seen (D.state dev.now)).origins) (completed (D.seen (D.state dev.now))) }
 {
     dev.blocks();
 }

@@ -1,19 +1,20 @@
--- A device that takes the requests of a script, one command each.
-use Rattle.std.proofs.Common.{◌≡◌, ℕ, ◌+◌, ◌<◌, ◌≤◌, ◌||◌, ◌==◌, Bool, true, false, List, [], ◌∷◌, ◌++◌, length, map, take, Some, is_some, slice_get, refl, sym, ap, ap₂, ◌∙◌, subst, arith, add-one, zero, suc, inl, inr, if◌then◌else◌}
-use Rattle.std.proofs.lemmas.Bool.{cases_lt, false≢true}
-use Rattle.std.proofs.lemmas.Option.{none-some}
-use Rattle.std.specs.Option.{option_to_list}
-use Rattle.std.proofs.lemmas.List.{map-append, length-take, length-take-le, length-map}
-use Rattle.blk_base.specs.Members.{In, In-All, slice_get-length, slice_get-take, slice_get-take_out, map_some-slice_get}
-use Rattle.order_model.specs.declared.part.Part.{Part}
-use Rattle.order_model.specs.declared.command.Priority.TheVariants.{Simple, Ordered}
+-- The requests of a script, and a device that takes them one command each.
+use Rattle.std.proofs.Common.{◌≡◌, ℕ, ◌+◌, ◌<◌, ◌≤◌, List, [], ◌∷◌, ◌++◌, length, map, take, Option, Some, None, slice_get, refl, sym, ap, ◌∙◌, subst, arith, add-one, zero, suc, inl, inr}
+use Rattle.std.specs.Option.{option_and_then}
+use Rattle.std.proofs.lemmas.Bool.{cases_lt}
+use Rattle.std.proofs.lemmas.Option.{none-some, same_Some}
+use Rattle.std.proofs.lemmas.List.{map-append, length-take, length-take-le}
+use Rattle.blk_base.specs.Members.{slice_get-length, slice_get-take, slice_get-take_out}
 use Rattle.order_model.specs.declared.request.Kind.{Kind}
 use Rattle.order_model.specs.declared.request.Kind.TheVariants.{Put, Flush}
 use Rattle.order_model.specs.declared.request.Request.{Request}
-use Rattle.order_model.specs.Received.{ids_of, all_ids}
-use Rattle.order_model.specs.Device.{Seen, IsReceivable, NoneTwice}
-use Rattle.order_model.specs.Single.{parts_for, flush_for}
-use Rattle.stack_core.specs.Feed.{command_for, IsDirect, AreRequests}
+use Rattle.order_model.specs.Submission.{kind_block, IsPutOf}
+use Rattle.order_model.specs.Device.{Seen, IsReceivable}
+use Rattle.order_model.specs.Single.{command_for}
+use Rattle.order_model.specs.Carrying.{Carries, AreAtIds, FlushesAreBarriers, sent_alone}
+use Rattle.order_model.proofs.Direct.{carries_alone}
+use Rattle.order_model.proofs.Next.{next_receivable}
+use Rattle.stack_core.specs.Feed.{IsDirect, AreRequests}
 
 same_some : {X : Type 0} (x y : X) → Some x ≡ Some y → x ≡ y
 same_some x y e = cc
@@ -26,6 +27,8 @@ take_suc_get (y ∷ ys) (suc n) x at = ap (λ l. y ∷ l) (take_suc_get ys n x a
 pub take_more_get : {X : Type 0} (xs : List X) (n : ℕ) (x : X) → slice_get xs n ≡ Some x → take (n + 1) xs ≡ take n xs ++ x ∷ []
 take_more_get xs n x at = rw add-one (take_suc_get xs n x at)
 
+-- ---- the requests
+
 -- the first requests fit as all do
 pub front_requests : (n blocks : ℕ) (rs : List Request) → AreRequests blocks rs → AreRequests blocks (take n rs)
 front_requests n blocks rs all i q at =
@@ -34,72 +37,56 @@ front_requests n blocks rs all i q at =
       | inr le ↦ absurd (none-some q (sym (slice_get-take_out n rs i le) ∙ at))
     ]
 
--- ---- the command of one request, by cases of its kind
+pub at_ids : (blocks : ℕ) (rs : List Request) → AreRequests blocks rs → AreAtIds rs
+at_ids blocks rs all i r at = (all i r at).named
 
-kind_ids : (id : ℕ) (k : Kind) → map (λ (p : Part). p.id) (parts_for id k) ++ option_to_list (flush_for id k) ≡ id ∷ []
-kind_ids id (Put block body) = refl
-kind_ids id Flush = refl
+pub flagged : (blocks : ℕ) (rs : List Request) → AreRequests blocks rs → FlushesAreBarriers rs
+flagged blocks rs all i r at flush = ((all i r at).flush flush).1
 
-pub ids-command_for : (r : Request) → ids_of (command_for r) ≡ r.id ∷ []
-ids-command_for r = kind_ids r.id r.kind
+kind_within : (block blocks : ℕ) (k : Kind) → ((b : ℕ) (body : List ℕ) → k ≡ Put b body → b < blocks) → kind_block k ≡ Some block → block < blocks
+kind_within block blocks (Put b body) h e = subst (λ n. n < blocks) (same_Some b block e) (h b body refl)
+kind_within block blocks Flush h e = absurd (none-some block e)
 
-pub kind_whole : (id : ℕ) (k : Kind) → is_some (flush_for id k) ≡ (length (parts_for id k) == 0)
-kind_whole id (Put block body) = refl
-kind_whole id Flush = refl
+option_within : (block blocks : ℕ) (o : Option Request) → ((r : Request) → o ≡ Some r → (b : ℕ) (body : List ℕ) → r.kind ≡ Put b body → b < blocks)
+    → option_and_then (λ (r : Request). kind_block r.kind) o ≡ Some block → block < blocks
+option_within block blocks None h e = absurd (none-some block e)
+option_within block blocks (Some r) h e = kind_within block blocks r.kind (h r refl) e
 
-pub kind_ordered : (b : Bool) (id : ℕ) (k : Kind) → (k ≡ Flush → b ≡ true) → (b || is_some (flush_for id k)) ≡ true → (if b then Ordered else Simple) ≡ Ordered
-kind_ordered true id k h e = refl
-kind_ordered false id (Put block body) h e = absurd (false≢true e)
-kind_ordered false id Flush h e = absurd (false≢true (h refl))
+-- the block of a put is there
+pub block_within : (blocks : ℕ) (rs : List Request) → AreRequests blocks rs → (i block : ℕ) → IsPutOf rs i block → block < blocks
+block_within blocks rs all i block put = option_within block blocks (slice_get rs i) (λ r at. (all i r at).within) put
 
-pub kind_within : (n id : ℕ) (k : Kind) → ((block : ℕ) (body : List ℕ) → k ≡ Put block body → block < n) → (p : Part) → In p (parts_for id k) → p.block < n
-kind_within n id (Put block body) h p there =
-    elim there [ inl e ↦ subst (λ (q : Part). q.block < n) e (h block body refl) | inr none ↦ absurd none ]
-kind_within n id Flush h p there = absurd there
+-- ---- the device
 
--- ---- the ids of the requests that were sent
+-- the commands that were sent alone carry the first requests
+pub front_carries : (next blocks : ℕ) (rs : List Request) → AreRequests blocks rs → Carries (sent_alone (take next rs))
+front_carries next blocks rs all =
+    let front = front_requests next blocks rs all in
+    carries_alone (take next rs) (at_ids blocks (take next rs) front) (flagged blocks (take next rs) front)
 
-all_ids-fed : (rs : List Request) → all_ids (map command_for rs) ≡ map (λ (r : Request). r.id) rs
-all_ids-fed [] = refl
-all_ids-fed (r ∷ rs) = ap₂ (λ a b. a ++ b) (ids-command_for r) (all_ids-fed rs)
+took_more : (next : ℕ) (rs : List Request) (d : Seen) (r : Request) → IsDirect next rs d → slice_get rs next ≡ Some r → map command_for (take (next + 1) rs) ≡ d.took ++ command_for r ∷ []
+took_more next rs d r fed at =
+    ap (map command_for) (take_more_get rs next r at) ∙ map-append command_for (take next rs) (r ∷ []) ∙ ap (λ l. l ++ command_for r ∷ []) (sym fed.took)
 
-ids_sent : (next : ℕ) (rs : List Request) (s : Seen) (r : Request) → IsDirect next rs s → slice_get rs next ≡ Some r
-    → all_ids s.took ++ ids_of (command_for r) ≡ map (λ (q : Request). q.id) (take (next + 1) rs)
-ids_sent next rs s r fed at =
-    ap₂ (λ a b. a ++ b) (ap all_ids fed.took ∙ all_ids-fed (take next rs)) (ids-command_for r)
-    ∙ sym (map-append (λ (q : Request). q.id) (take next rs) (r ∷ []))
-    ∙ ap (map (λ (q : Request). q.id)) (sym (take_more_get rs next r at))
-
-place_is : (n blocks : ℕ) (rs : List Request) → AreRequests blocks rs → (i id : ℕ) → slice_get (map (λ (q : Request). q.id) (take n rs)) i ≡ Some id → id ≡ i
-place_is n blocks rs all i id at =
-    let found = map_some-slice_get (λ (q : Request). q.id) (take n rs) i id at in
-    let lt : i < n = let len = slice_get-length (take n rs) i found.0 found.1 in let most = length-take n rs in omega arith in
-    sym found.2 ∙ (all i found.0 (sym (slice_get-take n rs i lt) ∙ found.1)).named
-
-numbered_once : (n blocks : ℕ) (rs : List Request) → AreRequests blocks rs → NoneTwice (map (λ (q : Request). q.id) (take n rs))
-numbered_once n blocks rs all i j id at_i at_j = sym (place_is n blocks rs all i id at_i) ∙ place_is n blocks rs all j id at_j
-
-pub receivable : (next : ℕ) (rs : List Request) (s : Seen) (r : Request) → IsDirect next rs s → length s.surface ≡ length s.base → slice_get rs next ≡ Some r → IsReceivable s (command_for r)
-receivable next rs s r fed same at =
-    let q = fed.fitting next r at in
-    let ids = ids_sent next rs s r fed at in
+pub receivable : (next : ℕ) (rs : List Request) (d : Seen) (r : Request) → IsDirect next rs d → length d.surface ≡ length d.base → slice_get rs next ≡ Some r → IsReceivable d (command_for r)
+receivable next rs d r fed same at =
+    let front = front_requests (next + 1) (length d.base) rs fed.fitting in
+    let n = length-take (next + 1) rs in
+    let m = fed.limit in
     let lt = slice_get-length rs next r at in
-    let count : length (map (λ (q : Request). q.id) (take (next + 1) rs)) ≡ next + 1 = length-map (take (next + 1) rs) (λ (q : Request). q.id) ∙ length-take-le (next + 1) rs (omega arith) in
-    record {
-      whole = kind_whole r.id r.kind;
-      ordered = kind_ordered r.barrier r.id r.kind (λ e. (q.flush e).1);
-      within = In-All (λ (p : Part). p.block < length s.surface) (parts_for r.id r.kind)
-          (kind_within (length s.surface) r.id r.kind (λ block body e. subst (λ n. block < n) (sym same) (q.within block body e)));
-      fresh = subst NoneTwice (sym ids) (numbered_once (next + 1) (length s.base) rs fed.fitting);
-      few = subst (λ (l : List ℕ). length l ≤ s.limit) (sym ids) (let limit = fed.limit in omega arith);
-    }
+    let le = length-take-le (next + 1) rs (omega arith) in
+    next_receivable (sent_alone (take (next + 1) rs)) d (command_for r) []
+    (front_carries (next + 1) (length d.base) rs fed.fitting)
+    (took_more next rs d r fed at)
+    (λ i block put. subst (λ n. block < n) (sym same) (block_within (length d.base) (take (next + 1) rs) front i block put))
+    (omega (arith, m, lt, le))
 
-pub fed-more : (next : ℕ) (rs : List Request) (s : Seen) (r : Request) → IsDirect next rs s → slice_get rs next ≡ Some r → IsDirect (next + 1) rs (record s { took = s.took ++ command_for r ∷ [] })
-fed-more next rs s r fed at =
+pub fed-more : (next : ℕ) (rs : List Request) (d : Seen) (r : Request) → IsDirect next rs d → slice_get rs next ≡ Some r → IsDirect (next + 1) rs (record d { took = d.took ++ command_for r ∷ [] })
+fed-more next rs d r fed at =
     let lt = slice_get-length rs next r at in
     record {
-      within = omega arith;
-      took = ap (λ l. l ++ command_for r ∷ []) fed.took ∙ sym (map-append command_for (take next rs) (r ∷ [])) ∙ ap (map command_for) (sym (take_more_get rs next r at));
+      within = omega (arith, lt);
+      took = sym (took_more next rs d r fed at);
       fitting = fed.fitting;
       limit = fed.limit;
     }

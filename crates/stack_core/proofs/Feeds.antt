@@ -1,12 +1,16 @@
--- What holds between a feed and the device behind it, for both kinds of feed.
-use Rattle.std.proofs.Common.{◌≡◌, ℕ, ◌+◌, ◌≤◌, List, [], ◌∷◌, ◌++◌, length, take, Option, Some, None, slice_get, refl, sym, ap, subst, ◌∙◌, arith}
+-- What holds between a feed, its scheduler and the device behind them, for both kinds of feed.
+use Rattle.std.proofs.Common.{◌≡◌, ℕ, ◌+◌, ◌≤◌, List, [], ◌∷◌, ◌++◌, length, map, take, Option, Some, None, slice_get, refl, sym, ap, subst, ◌∙◌, arith}
 use Rattle.std.specs.Option.{option_map, option_to_list}
+use Rattle.std.proofs.lemmas.List.{take_all, length-take-le}
 use Rattle.std.proofs.lemmas.Option.{none-some, some_pair_parts}
 use Rattle.order_model.specs.declared.command.Command.{Command}
-use Rattle.order_model.specs.declared.completion.Completion.{Completion}
 use Rattle.order_model.specs.declared.request.Request.{Request}
-use Rattle.order_model.specs.Device.{Seen, completed, origin_ids, IsReceivable, IsSurface, KeepsEpochOrder, KeepsFlush, Completes}
-use Rattle.epoch_sched.specs.DispatchedLaws.{opened-valid}
+use Rattle.order_model.specs.Device.{Seen, completed, origin_ids, IsReceivable}
+use Rattle.order_model.specs.declared.completion.Completion.{Completion}
+use Rattle.order_model.specs.Submission.{IsOrderClosed, KeepsFlushed}
+use Rattle.order_model.specs.Single.{command_for}
+use Rattle.order_model.specs.Carrying.{SchedSeen, Carries, AreAtIds, Fits}
+use Rattle.barrier_reassign.specs.Scheduler.{SchedSteps, IsScheduler}
 use Rattle.script_grammar.specs.declared.script.Script.{Script}
 use Rattle.script_grammar.specs.declared.script.Form.{Form}
 use Rattle.script_grammar.specs.declared.script.Form.TheVariants.{Device, Blocks}
@@ -14,43 +18,56 @@ use Rattle.script_grammar.specs.declared.script.CoreEvent.{CoreEvent}
 use Rattle.script_grammar.specs.declared.script.CoreEvent.TheVariants.{Submit, Accept, Dispatch, Receive, Transfer, Persist}
 use Rattle.stack_core.specs.declared.feed.Feed.{Feed}
 use Rattle.stack_core.specs.declared.feed.Feed.TheVariants.{Direct, Scheduled}
-use Rattle.stack_core.specs.Side.{SideState, given_first}
-use Rattle.stack_core.specs.Feed.{AreRequests, IsFed, IsDirect, IsScheduled, command_for, opened_as, opened_feed, stepped, side_stepped, given, submitted_count}
+use Rattle.stack_core.specs.Side.{SideState, SideRun, given_first}
+use Rattle.stack_core.specs.Feed.{FeedRun, AreRequests, IsFed, IsDirect, IsScheduled, opened_as, opened_feed, scheduled_as, scheduled_count, stepped, stepped_as, side_stepped, given, submitted_count, carried}
 use Rattle.stack_core.specs.Headline.{KeepsOrder}
-use Rattle.stack_core.proofs.Feeding.{receivable, fed-more}
-use Rattle.stack_core.proofs.Order.{keeps_order}
-use Rattle.stack_core.proofs.Scheduled.{submitted_fed, accepted_fed, dispatched_fed, first_receivable, first_received, scheduled_keeps_order}
+use Rattle.stack_core.proofs.Feeding.{receivable, fed-more, front_requests, front_carries, at_ids}
+use Rattle.stack_core.proofs.Scheduled.{IsBeside, submitted_fed, accepted_fed, dispatched_fed, first_receivable, first_received, scheduled_fits}
 
 -- ---- the opening
 
-opened_as_fed : (s : Script) (k : Form) (d : Seen) → AreRequests (length d.base) s.puts → length s.puts ≤ d.limit → d.took ≡ [] → IsFed (opened_as s k) s.puts d
-opened_as_fed s (Device blocks) d fitting limit took = record { within = omega arith; took = took; fitting = fitting; limit = limit }
-opened_as_fed s (Blocks blocks) d fitting limit took = record {
+opened_as_fed : (s : Script) (k : Form) (p : SchedSeen) (d : Seen) → AreRequests (length d.base) s.puts → length s.puts ≤ d.limit → d.took ≡ []
+    → p.limit ≡ scheduled_as s k → p.accepted ≡ [] → p.sent_out ≡ [] → IsFed (opened_as s k) p s.puts d
+opened_as_fed s (Device blocks) p d fitting limit took may accepted sent = record { within = omega arith; took = took; fitting = fitting; limit = limit }
+opened_as_fed s (Blocks blocks) p d fitting limit took may accepted sent = record {
   within = omega arith;
-  submitted = refl;
-  sent = ap (λ (l : List Command). l ++ [] ++ []) (sym took);
-  valid = opened-valid (length s.puts) 128;
-  may_accept = refl;
+  submitted = ap (λ (l : List Request). l ++ []) accepted;
+  sent = sent ∙ ap (λ (l : List Command). l ++ [] ++ []) (sym took);
+  may_accept = may;
   fitting = fitting;
   limit = limit;
 }
 
-pub opened_fed : (s : Script) (d : Seen) → AreRequests (length d.base) s.puts → length s.puts ≤ d.limit → d.took ≡ [] → IsFed (opened_feed s) s.puts d
-opened_fed s d fitting limit took = opened_as_fed s s.kind d fitting limit took
+pub opened_fed : (s : Script) (p : SchedSeen) (d : Seen) → AreRequests (length d.base) s.puts → length s.puts ≤ d.limit → d.took ≡ []
+    → p.limit ≡ scheduled_count s → p.accepted ≡ [] → p.sent_out ≡ [] → IsFed (opened_feed s) p s.puts d
+opened_fed s p d fitting limit took may accepted sent = opened_as_fed s s.kind p d fitting limit took may accepted sent
 
 -- ---- the steps
 
-side_stepped_fed : (rs : List Request) (s : SideState) (e : CoreEvent) (d : Seen) → IsScheduled s rs d → IsScheduled (side_stepped rs s e) rs d
-side_stepped_fed rs s Submit d v = submitted_fed rs s d v
-side_stepped_fed rs s Accept d v = accepted_fed rs s d v
-side_stepped_fed rs s (Dispatch pick) d v = dispatched_fed rs s d pick v
-side_stepped_fed rs s Receive d v = v
-side_stepped_fed rs s (Transfer pick) d v = v
-side_stepped_fed rs s (Persist pick) d v = v
+module _ {K : Type 0} where
+  side_stepped_fed : (k : SchedSteps K) (valid : K → Type 0) (rs : List Request) (r : SideRun K) (e : CoreEvent) (d : Seen) → IsScheduler k valid → IsBeside k valid r rs d → IsBeside k valid (side_stepped k rs r e) rs d
+  side_stepped_fed k valid rs r Submit d laws v = record { keeps = v.keeps; fed = submitted_fed rs r.side (k.seen r.sched) d v.fed }
+  side_stepped_fed k valid rs r Accept d laws v = accepted_fed k valid rs r d laws v
+  side_stepped_fed k valid rs r (Dispatch pick) d laws v = dispatched_fed k valid rs r d pick laws v
+  side_stepped_fed k valid rs r Receive d laws v = v
+  side_stepped_fed k valid rs r (Transfer pick) d laws v = v
+  side_stepped_fed k valid rs r (Persist pick) d laws v = v
 
-pub stepped_fed : (rs : List Request) (f : Feed) (e : CoreEvent) (d : Seen) → IsFed f rs d → IsFed (stepped rs f e) rs d
-stepped_fed rs (Direct next) e d v = v
-stepped_fed rs (Scheduled s) e d v = side_stepped_fed rs s e d v
+  -- the scheduler is valid, and feed and device hold together
+  pub record IsBefore (k : SchedSteps K) (valid : K → Type 0) (r : FeedRun K) (rs : List Request) (d : Seen) : Type 0 where
+    pub keeps : valid r.sched
+    pub fed : IsFed r.feed (k.seen r.sched) rs d
+
+  stepped_as_fed : (k : SchedSteps K) (valid : K → Type 0) (rs : List Request) (f : Feed) (sched : K) (e : CoreEvent) (d : Seen) → IsScheduler k valid → valid sched → IsFed f (k.seen sched) rs d
+      → IsBefore k valid (stepped_as k rs f sched e) rs d
+  stepped_as_fed k valid rs (Direct next) sched e d laws v fed = record { keeps = v; fed = fed }
+  stepped_as_fed k valid rs (Scheduled s) sched e d laws v fed =
+      let b = side_stepped_fed k valid rs (record { side = s; sched = sched }) e d laws (record { keeps = v; fed = fed }) in
+      record { keeps = b.keeps; fed = b.fed }
+
+  pub stepped_fed : (k : SchedSteps K) (valid : K → Type 0) (rs : List Request) (r : FeedRun K) (e : CoreEvent) (d : Seen) → IsScheduler k valid → valid r.sched → IsFed r.feed (k.seen r.sched) rs d
+      → IsBefore k valid (stepped k rs r e) rs d
+  stepped_fed k valid rs r e d laws v fed = stepped_as_fed k valid rs r.feed r.sched e d laws v fed
 
 -- ---- the next command
 
@@ -70,37 +87,36 @@ given_scheduled s (b ∷ cs) c g e =
     let p = some_pair_parts b c (Scheduled (record s { dispatched = cs })) g e in
     (cs, ap (λ x. x ∷ cs) p.0, p.1)
 
-pub given_receivable : (rs : List Request) (f g : Feed) (c : Command) (d : Seen) → IsFed f rs d → length d.surface ≡ length d.base → given rs f ≡ Some (c, g) → IsReceivable d c
-given_receivable rs (Direct next) g c d v same e =
+pub given_receivable : (rs : List Request) (f g : Feed) (p : SchedSeen) (c : Command) (d : Seen) → IsFed f p rs d → Carries p → length d.surface ≡ length d.base → given rs f ≡ Some (c, g) → IsReceivable d c
+given_receivable rs (Direct next) g p c d v carries same e =
     let r = given_direct next (slice_get rs next) c g e in
     subst (IsReceivable d) r.2 (receivable next rs d r.0 v same r.1)
-given_receivable rs (Scheduled s) g c d v same e =
+given_receivable rs (Scheduled s) g p c d v carries same e =
     let r = given_scheduled s s.dispatched c g e in
-    first_receivable rs s d c r.0 v same r.1
+    first_receivable rs s p d c r.0 v carries same r.1
 
-pub given_fed : (rs : List Request) (f g : Feed) (c : Command) (d : Seen) → IsFed f rs d → given rs f ≡ Some (c, g) → IsFed g rs (record d { took = d.took ++ c ∷ [] })
-given_fed rs (Direct next) g c d v e =
+pub given_fed : (rs : List Request) (f g : Feed) (p : SchedSeen) (c : Command) (d : Seen) → IsFed f p rs d → given rs f ≡ Some (c, g) → IsFed g p rs (record d { took = d.took ++ c ∷ [] })
+given_fed rs (Direct next) g p c d v e =
     let r = given_direct next (slice_get rs next) c g e in
-    subst (λ h. IsFed h rs (record d { took = d.took ++ c ∷ [] })) r.3
+    subst (λ h. IsFed h p rs (record d { took = d.took ++ c ∷ [] })) r.3
     (subst (λ (b : Command). IsDirect (next + 1) rs (record d { took = d.took ++ b ∷ [] })) r.2 (fed-more next rs d r.0 v r.1))
-given_fed rs (Scheduled s) g c d v e =
+given_fed rs (Scheduled s) g p c d v e =
     let r = given_scheduled s s.dispatched c g e in
-    subst (λ h. IsFed h rs (record d { took = d.took ++ c ∷ [] })) r.2 (first_received rs s d c r.0 v r.1)
+    subst (λ h. IsFed h p rs (record d { took = d.took ++ c ∷ [] })) r.2 (first_received rs s p d c r.0 v r.1)
 
 -- ---- the device's own steps
 
-pub seen_fed : (f : Feed) (rs : List Request) (old new : Seen) → IsFed f rs old → new.base ≡ old.base → new.limit ≡ old.limit → new.took ≡ old.took → IsFed f rs new
-seen_fed (Direct next) rs old new v base limit took = record {
+pub seen_fed : (f : Feed) (p : SchedSeen) (rs : List Request) (old new : Seen) → IsFed f p rs old → new.base ≡ old.base → new.limit ≡ old.limit → new.took ≡ old.took → IsFed f p rs new
+seen_fed (Direct next) p rs old new v base limit took = record {
   within = v.within;
   took = took ∙ v.took;
   fitting = subst (λ (b : List (List ℕ)). AreRequests (length b) rs) (sym base) v.fitting;
   limit = subst (λ n. length rs ≤ n) (sym limit) v.limit;
 }
-seen_fed (Scheduled s) rs old new v base limit took = record {
+seen_fed (Scheduled s) p rs old new v base limit took = record {
   within = v.within;
   submitted = v.submitted;
-  sent = subst (λ (l : List Command). s.sched.sent_out ≡ l ++ s.dispatched ++ option_to_list s.kept) (sym took) v.sent;
-  valid = v.valid;
+  sent = subst (λ (l : List Command). p.sent_out ≡ l ++ s.dispatched ++ option_to_list s.kept) (sym took) v.sent;
   may_accept = v.may_accept;
   fitting = subst (λ (b : List (List ℕ)). AreRequests (length b) rs) (sym base) v.fitting;
   limit = subst (λ n. length rs ≤ n) (sym limit) v.limit;
@@ -108,11 +124,32 @@ seen_fed (Scheduled s) rs old new v base limit took = record {
 
 -- ---- the order
 
-pub feed_keeps_order : (rs : List Request) (f : Feed) (d : Seen) → IsFed f rs d → IsSurface d → KeepsEpochOrder d → KeepsFlush d → Completes d
-    → (base image : List (List ℕ)) (qs : List Request) (origins : List (Option ℕ)) (told : List Completion)
-    → base ≡ d.base → qs ≡ take (submitted_count f) rs → image ≡ d.surface → origins ≡ origin_ids d.took d.origins → told ≡ completed d
-    → KeepsOrder base qs image origins told
-feed_keeps_order rs (Direct next) d v surface epochs flush completes base image qs origins told eb eq ei eo es =
-    keeps_order next rs d v surface epochs flush completes base image qs origins told eb eq ei eo es
-feed_keeps_order rs (Scheduled s) d v surface epochs flush completes base image qs origins told eb eq ei eo es =
-    rw (eb, eq, ei, eo, es) (scheduled_keeps_order rs s d v surface epochs flush completes)
+-- the requests that were submitted are carried by commands of which the device took the first
+pub record IsCarried (rs : List Request) (p : SchedSeen) (d : Seen) : Type 0 where
+  pub ids : AreAtIds rs
+  pub carries : Carries p
+  pub fits : Fits rs p d
+
+module _ {K : Type 0} where
+  pub fed_carried : (k : SchedSteps K) (valid : K → Type 0) (rs : List Request) (f : Feed) (sched : K) (d : Seen) → IsScheduler k valid → valid sched → IsFed f (k.seen sched) rs d
+      → IsCarried (take (submitted_count f) rs) (carried k rs f sched) d
+  fed_carried k valid rs (Direct next) sched d laws v fed = record {
+    ids = at_ids (length d.base) (take next rs) (front_requests next (length d.base) rs fed.fitting);
+    carries = front_carries next (length d.base) rs fed.fitting;
+    fits = record {
+      accepted = (length (take next rs), sym (take_all (length (take next rs)) (take next rs) (omega arith)));
+      took = (length d.took, fed.took ∙ sym (take_all (length d.took) (map command_for (take next rs)) (let n = ap length fed.took in omega (arith, n))));
+    };
+  }
+  fed_carried k valid rs (Scheduled s) sched d laws v fed = record {
+    ids = at_ids (length d.base) (take s.next rs) (front_requests s.next (length d.base) rs fed.fitting);
+    carries = laws.carries sched v;
+    fits = scheduled_fits rs s (k.seen sched) d fed;
+  }
+
+-- what is seen of the device, as the report has it
+pub order_reported : (rs qs : List Request) (d : Seen) (base image : List (List ℕ)) (origins : List (Option ℕ)) (told : List Completion)
+    → base ≡ d.base → qs ≡ rs → image ≡ d.surface → origins ≡ origin_ids d.took d.origins → told ≡ completed d
+    → IsOrderClosed d.base rs d.surface (origin_ids d.took d.origins) → KeepsFlushed rs (origin_ids d.took d.origins) (completed d) → KeepsOrder base qs image origins told
+order_reported rs qs d base image origins told eb eq ei eo es closed flushed =
+    rw (eb, eq, ei, eo, es) (record { closed = closed; flushed = flushed })

@@ -3,6 +3,8 @@ use Rattle.std.specs.Prelude.{ℕ, Bool, List, [], ◌∷◌, length, Option, So
 use Rattle.blk_base.specs.Image.{zeros}
 use Rattle.order_model.specs.declared.command.Command.{Command}
 use Rattle.order_model.specs.declared.request.Request.{Request}
+use Rattle.barrier_reassign.specs.Scheduler.{SchedSteps}
+use Rattle.barrier_reassign.specs.Sched as plain
 use Rattle.device_epochs.specs.Device as epochs
 use Rattle.device_epochs.specs.Device.{DeviceState}
 use Rattle.script_grammar.specs.declared.script.Script.{Script}
@@ -13,7 +15,7 @@ use Rattle.script_grammar.specs.declared.script.CoreEvent.{CoreEvent}
 use Rattle.script_grammar.specs.declared.script.CoreEvent.TheVariants.{Submit, Accept, Dispatch, Receive, Transfer, Persist}
 use Rattle.script_grammar.specs.Grammar.{blocks_of}
 use Rattle.stack_core.specs.declared.feed.Feed.{Feed}
-use Rattle.stack_core.specs.Feed.{opened_feed, stepped, given}
+use Rattle.stack_core.specs.Feed.{FeedRun, opened_feed, scheduled_count, stepped, given}
 
 -- the steps of a device
 pub record Machine (S : Type 0) : Type 0 where
@@ -22,39 +24,50 @@ pub record Machine (S : Type 0) : Type 0 where
   pub transferred : S → ℕ → S
   pub persisted : S → ℕ → S
 
--- what stands before the device, and the device
-pub record RunState (S : Type 0) : Type 0 where
+-- what stands before the device with its scheduler, and the device
+pub record RunState (K S : Type 0) : Type 0 where
   pub feed : Feed
+  pub sched : K
   pub dev : S
 
 -- a command goes to the device, where there is one
-abbrev pub received_given : {S : Type 0} → Machine S → RunState S → Option (Command × Feed) → RunState S
+abbrev pub received_given : {K S : Type 0} → Machine S → RunState K S → Option (Command × Feed) → RunState K S
 received_given m r None = r
-received_given m r (Some g) = record { feed = g.1; dev = m.received r.dev g.0 }
+received_given m r (Some g) = record { feed = g.1; sched = r.sched; dev = m.received r.dev g.0 }
+
+abbrev pub on_device : {K S : Type 0} → FeedRun K → S → RunState K S
+on_device f dev = record { feed = f.feed; sched = f.sched; dev = dev }
+
+abbrev pub before_device : {K S : Type 0} → RunState K S → FeedRun K
+before_device r = record { feed = r.feed; sched = r.sched }
 
 -- an event that cannot act changes nothing
-abbrev pub happens : {S : Type 0} → Machine S → List Request → RunState S → CoreEvent → RunState S
-happens m requests r Submit = record { feed = stepped requests r.feed Submit; dev = r.dev }
-happens m requests r Accept = record { feed = stepped requests r.feed Accept; dev = r.dev }
-happens m requests r (Dispatch pick) = record { feed = stepped requests r.feed (Dispatch pick); dev = r.dev }
-happens m requests r Receive = if m.has_room r.dev then received_given m r (given requests r.feed) else r
-happens m requests r (Transfer pick) = record { feed = r.feed; dev = m.transferred r.dev pick }
-happens m requests r (Persist pick) = record { feed = r.feed; dev = m.persisted r.dev pick }
+abbrev pub happens : {K S : Type 0} → SchedSteps K → Machine S → List Request → RunState K S → CoreEvent → RunState K S
+happens k m requests r Submit = on_device (stepped k requests (before_device r) Submit) r.dev
+happens k m requests r Accept = on_device (stepped k requests (before_device r) Accept) r.dev
+happens k m requests r (Dispatch pick) = on_device (stepped k requests (before_device r) (Dispatch pick)) r.dev
+happens k m requests r Receive = if m.has_room r.dev then received_given m r (given requests r.feed) else r
+happens k m requests r (Transfer pick) = record r { dev = m.transferred r.dev pick }
+happens k m requests r (Persist pick) = record r { dev = m.persisted r.dev pick }
 
 -- so many times
 abbrev pub times : {S : Type 0} → ℕ → (S → S) → S → S
 times zero f s = s
 times (suc n) f s = times n f (f s)
 
-abbrev pub happens_word : {S : Type 0} → Machine S → List Request → RunState S → EventWord → RunState S
-happens_word m requests r (One event) = happens m requests r event
+abbrev pub happens_word : {K S : Type 0} → SchedSteps K → Machine S → List Request → RunState K S → EventWord → RunState K S
+happens_word k m requests r (One event) = happens k m requests r event
 
-abbrev pub happens_line : {S : Type 0} → Machine S → List Request → RunState S → EventLine → RunState S
-happens_line m requests r line = times line.count (λ s. happens_word m requests s line.what) r
+abbrev pub happens_line : {K S : Type 0} → SchedSteps K → Machine S → List Request → RunState K S → EventLine → RunState K S
+happens_line k m requests r line = times line.count (λ s. happens_word k m requests s line.what) r
 
-unfoldable pub run_lines : {S : Type 0} → Machine S → List Request → RunState S → List EventLine → RunState S
-run_lines m requests r [] = r
-run_lines m requests r (l ∷ ls) = run_lines m requests (happens_line m requests r l) ls
+unfoldable pub run_lines : {K S : Type 0} → SchedSteps K → Machine S → List Request → RunState K S → List EventLine → RunState K S
+run_lines k m requests r [] = r
+run_lines k m requests r (l ∷ ls) = run_lines k m requests (happens_line k m requests r l) ls
+
+-- where a script ends on this scheduler and this device
+abbrev pub ended : {K S : Type 0} → SchedSteps K → Machine S → Script → K → S → RunState K S
+ended k m s sched dev = run_lines k m s.puts (record { feed = opened_feed s; sched = sched; dev = dev }) s.events
 
 -- the steps of the device of epochs
 abbrev pub epoch_machine : Machine DeviceState
@@ -64,6 +77,10 @@ epoch_machine = record { has_room = epochs.has_room; received = epochs.received;
 abbrev pub opened_for : Script → DeviceState
 opened_for s = epochs.opened (zeros (blocks_of s)) s.header.depth (length s.puts) s.header.cut
 
+-- the plain scheduler that a script opens, in which 128 requests may wait
+abbrev pub opened_plain : Script → plain.SchedState
+opened_plain s = plain.opened (scheduled_count s) 128
+
 -- where a script ends: all its events on the parts that it opens
-abbrev pub core : Script → RunState DeviceState
-core s = run_lines epoch_machine s.puts (record { feed = opened_feed s; dev = opened_for s }) s.events
+abbrev pub core : Script → RunState plain.SchedState DeviceState
+core s = ended plain.sched_steps epoch_machine s (opened_plain s) (opened_for s)

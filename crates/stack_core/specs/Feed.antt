@@ -1,11 +1,12 @@
--- How requests reach the device: each as its own command, or through the scheduler.
-use Rattle.std.specs.Prelude.{◌≡◌, ℕ, ◌+◌, ◌≤◌, ◌++◌, List, [], length, map, take, Option, Some, slice_get}
+-- How requests reach the device: each as its own command, or through a scheduler.
+use Rattle.std.specs.Prelude.{◌≡◌, ℕ, ◌+◌, ◌≤◌, ◌++◌, List, length, map, take, Option, Some, slice_get}
 use Rattle.std.specs.Option.{option_map, option_to_list}
 use Rattle.order_model.specs.declared.command.Command.{Command}
 use Rattle.order_model.specs.declared.request.Request.{Request}
-use Rattle.order_model.specs.Single.{command_of_request}
+use Rattle.order_model.specs.Single.{command_for}
 use Rattle.order_model.specs.Device.{Seen}
-use Rattle.epoch_sched.specs.Valid.{IsValid}
+use Rattle.order_model.specs.Carrying.{SchedSeen, sent_alone}
+use Rattle.barrier_reassign.specs.Scheduler.{SchedSteps}
 use Rattle.script_grammar.specs.declared.script.Script.{Script}
 use Rattle.script_grammar.specs.declared.script.Form.{Form}
 use Rattle.script_grammar.specs.declared.script.Form.TheVariants.{Device, Blocks}
@@ -14,34 +15,49 @@ use Rattle.script_grammar.specs.declared.script.CoreEvent.TheVariants.{Submit, A
 use Rattle.script_grammar.specs.Grammar.{IsRequestOf}
 use Rattle.stack_core.specs.declared.feed.Feed.{Feed}
 use Rattle.stack_core.specs.declared.feed.Feed.TheVariants.{Direct, Scheduled}
-use Rattle.stack_core.specs.Side.{SideState, opened_side, submitted, side_accepted, side_dispatched, given_first}
+use Rattle.stack_core.specs.Side.{SideState, SideRun, opened_side, submitted, side_accepted, side_dispatched, given_first}
+
+-- what stands before the device, and the scheduler in it; a `device` script has no use for that
+pub record FeedRun (K : Type 0) : Type 0 where
+  pub feed : Feed
+  pub sched : K
 
 -- ---- the steps
 
 abbrev pub opened_as : Script → Form → Feed
 opened_as s (Device blocks) = Direct 0
-opened_as s (Blocks blocks) = Scheduled (opened_side (length s.puts) s.header.queue)
+opened_as s (Blocks blocks) = Scheduled (opened_side s.header.queue)
 
 -- what stands before the device when the script begins
 abbrev pub opened_feed : Script → Feed
 opened_feed s = opened_as s s.kind
 
-abbrev pub side_stepped : List Request → SideState → CoreEvent → SideState
-side_stepped requests s Submit = submitted requests s
-side_stepped requests s Accept = side_accepted s
-side_stepped requests s (Dispatch pick) = side_dispatched s pick
-side_stepped requests s Receive = s
-side_stepped requests s (Transfer pick) = s
-side_stepped requests s (Persist pick) = s
+-- how many requests a scheduler may be given
+abbrev pub scheduled_as : Script → Form → ℕ
+scheduled_as s (Device blocks) = 0
+scheduled_as s (Blocks blocks) = length s.puts
+
+abbrev pub scheduled_count : Script → ℕ
+scheduled_count s = scheduled_as s s.kind
+
+abbrev pub side_stepped : {K : Type 0} → SchedSteps K → List Request → SideRun K → CoreEvent → SideRun K
+side_stepped k requests r Submit = record { side = submitted requests r.side; sched = r.sched }
+side_stepped k requests r Accept = side_accepted k r
+side_stepped k requests r (Dispatch pick) = side_dispatched k r pick
+side_stepped k requests r Receive = r
+side_stepped k requests r (Transfer pick) = r
+side_stepped k requests r (Persist pick) = r
+
+abbrev pub scheduled_run : {K : Type 0} → SideRun K → FeedRun K
+scheduled_run r = record { feed = Scheduled r.side; sched = r.sched }
+
+abbrev pub stepped_as : {K : Type 0} → SchedSteps K → List Request → Feed → K → CoreEvent → FeedRun K
+stepped_as k requests (Direct next) sched event = record { feed = Direct next; sched = sched }
+stepped_as k requests (Scheduled s) sched event = scheduled_run (side_stepped k requests (record { side = s; sched = sched }) event)
 
 -- an event of the host or the scheduler
-abbrev pub stepped : List Request → Feed → CoreEvent → Feed
-stepped requests (Direct next) event = Direct next
-stepped requests (Scheduled s) event = Scheduled (side_stepped requests s event)
-
--- a request as a command of its own: ORDERED exactly where it is a barrier, as a flush is
-abbrev pub command_for : Request → Command
-command_for r = command_of_request r r.barrier
+abbrev pub stepped : {K : Type 0} → SchedSteps K → List Request → FeedRun K → CoreEvent → FeedRun K
+stepped k requests r event = stepped_as k requests r.feed r.sched event
 
 -- the next command for the device, and what is left
 abbrev pub given : List Request → Feed → Option (Command × Feed)
@@ -55,14 +71,10 @@ abbrev pub submitted_count : Feed → ℕ
 submitted_count (Direct next) = next
 submitted_count (Scheduled s) = s.next
 
--- what the scheduler accepted and sent out
-abbrev pub accepted_of : Feed → List Request
-accepted_of (Direct next) = []
-accepted_of (Scheduled s) = s.sched.accepted
-
-abbrev pub sent_out_of : Feed → List Command
-sent_out_of (Direct next) = []
-sent_out_of (Scheduled s) = s.sched.sent_out
+-- which commands carry which requests: each its own, or those of the scheduler
+abbrev pub carried : {K : Type 0} → SchedSteps K → List Request → Feed → K → SchedSeen
+carried k requests (Direct next) sched = sent_alone (take next requests)
+carried k requests (Scheduled s) sched = k.seen sched
 
 -- ---- what holds along a run, between a feed and the device behind it
 
@@ -78,15 +90,14 @@ pub record IsDirect (next : ℕ) (requests : List Request) (d : Seen) : Type 0 w
   pub limit : length requests ≤ d.limit
 
 -- what was submitted was accepted or waits to be; what was sent out was taken, waits to be, or is kept
-pub record IsScheduled (s : SideState) (requests : List Request) (d : Seen) : Type 0 where
+pub record IsScheduled (s : SideState) (sched : SchedSeen) (requests : List Request) (d : Seen) : Type 0 where
   pub within : s.next ≤ length requests
-  pub submitted : s.sched.accepted ++ s.submission ≡ take s.next requests
-  pub sent : s.sched.sent_out ≡ d.took ++ s.dispatched ++ option_to_list s.kept
-  pub valid : IsValid s.sched
-  pub may_accept : s.sched.limit ≡ length requests
+  pub submitted : sched.accepted ++ s.submission ≡ take s.next requests
+  pub sent : sched.sent_out ≡ d.took ++ s.dispatched ++ option_to_list s.kept
+  pub may_accept : sched.limit ≡ length requests
   pub fitting : AreRequests (length d.base) requests
   pub limit : length requests ≤ d.limit
 
-abbrev pub IsFed : Feed → List Request → Seen → Type 0
-IsFed (Direct next) requests d = IsDirect next requests d
-IsFed (Scheduled s) requests d = IsScheduled s requests d
+abbrev pub IsFed : Feed → SchedSeen → List Request → Seen → Type 0
+IsFed (Direct next) sched requests d = IsDirect next requests d
+IsFed (Scheduled s) sched requests d = IsScheduled s sched requests d

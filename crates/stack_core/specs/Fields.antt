@@ -1,4 +1,4 @@
--- The fields of the scheduler's side, and what they keep.
+-- The fields of the queues round a scheduler, and what they keep.
 use Rattle.std.specs.Prelude.{◌≡◌}
 use Rattle.stack_core.specs.declared.sched_side.SchedSide.TheInside.{Inside}
 use Rattle.stack_core.specs.Side.{SideState}
@@ -8,7 +8,6 @@ side_of s = record {
   next = s.next;
   capacity = s.submission.capacity;
   submission = s.submission.held;
-  sched = s.sched;
   kept = s.kept;
   dispatched = s.dispatched.held;
 }

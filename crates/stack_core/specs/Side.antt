@@ -1,12 +1,10 @@
--- The scheduler between two queues, as a plain value, and its events as steps over it.
+-- A scheduler between two queues, as plain values, and the events of host and scheduler as steps over them.
 use Rattle.std.specs.Prelude.{ℕ, ◌+◌, ◌++◌, List, [], ◌∷◌, length, nat_lt, Option, Some, None, if◌then◌else◌, slice_get}
 use Rattle.order_model.specs.declared.command.Command.{Command}
 use Rattle.order_model.specs.declared.request.Request.{Request}
-use Rattle.order_model.specs.Single.{command_of_request}
-use Rattle.barrier_reassign.specs.Epoch.{Waiting, can_accept, picked, leaves_flagged}
-use Rattle.epoch_sched.specs.Sched as sched
-use Rattle.epoch_sched.specs.Sched.{SchedState}
+use Rattle.barrier_reassign.specs.Scheduler.{SchedSteps}
 
+-- the queues before and behind the scheduler
 pub record SideState : Type 0 where
   -- how many requests were submitted
   pub next : ℕ
@@ -14,15 +12,19 @@ pub record SideState : Type 0 where
   pub capacity : ℕ
   -- the requests in the submission queue, first in first
   pub submission : List Request
-  pub sched : SchedState
   -- the command that found the dispatch queue full
   pub kept : Option Command
   -- the commands in the dispatch queue, first in first
   pub dispatched : List Command
 
--- nothing was submitted; of the requests 128 may wait in the scheduler
-abbrev pub opened_side : ℕ → ℕ → SideState
-opened_side limit capacity = record { next = 0; capacity = capacity; submission = []; sched = sched.opened limit 128; kept = None; dispatched = [] }
+-- the queues, and the scheduler between them
+pub record SideRun (K : Type 0) : Type 0 where
+  pub side : SideState
+  pub sched : K
+
+-- nothing was submitted
+abbrev pub opened_side : ℕ → SideState
+opened_side capacity = record { next = 0; capacity = capacity; submission = []; kept = None; dispatched = [] }
 
 -- ---- submit
 
@@ -36,13 +38,13 @@ submitted requests s = if nat_lt (length s.submission) s.capacity then with_requ
 
 -- ---- accept
 
-abbrev pub accepted_first : SideState → List Request → SideState
-accepted_first s [] = s
-accepted_first s (r ∷ rs) = record s { submission = rs; sched = sched.accepted s.sched r }
+abbrev pub accepted_first : {K : Type 0} → SchedSteps K → SideRun K → List Request → SideRun K
+accepted_first k r [] = r
+accepted_first k r (q ∷ qs) = record { side = record r.side { submission = qs }; sched = k.accepted r.sched q }
 
 -- where the scheduler can accept, it takes one request from the submission queue
-abbrev pub side_accepted : SideState → SideState
-side_accepted s = if can_accept s.sched.queue then accepted_first s s.submission else s
+abbrev pub side_accepted : {K : Type 0} → SchedSteps K → SideRun K → SideRun K
+side_accepted k r = if k.can_accept r.sched then accepted_first k r r.side.submission else r
 
 -- ---- dispatch
 
@@ -52,18 +54,21 @@ offered s c =
     if nat_lt (length s.dispatched) s.capacity then record s { kept = None; dispatched = s.dispatched ++ c ∷ [] }
     else record s { kept = Some c }
 
--- a request that was picked leaves the scheduler as a command
-abbrev pub offered_picked : SideState → Option Waiting → SideState
-offered_picked s None = s
-offered_picked s (Some w) = offered (record s { sched = sched.sent s.sched (Some w) }) (command_of_request w.request (leaves_flagged s.sched.queue w))
+abbrev pub offered_option : SideState → Option Command → SideState
+offered_option s None = s
+offered_option s (Some c) = offered s c
 
-abbrev pub dispatched_from : SideState → ℕ → Option Command → SideState
-dispatched_from s pick (Some c) = offered s c
-dispatched_from s pick None = offered_picked s (picked s.sched.queue pick)
+-- the scheduler sends out the command of its pick
+abbrev pub side_picked : {K : Type 0} → SchedSteps K → SideRun K → ℕ → SideRun K
+side_picked k r pick = record { side = offered_option r.side (k.command r.sched pick); sched = k.dispatched r.sched pick }
 
--- the scheduler sends the command that it keeps, and takes no other one then; or else its pick
-abbrev pub side_dispatched : SideState → ℕ → SideState
-side_dispatched s pick = dispatched_from s pick s.kept
+abbrev pub dispatched_from : {K : Type 0} → SchedSteps K → SideRun K → ℕ → Option Command → SideRun K
+dispatched_from k r pick (Some c) = record { side = offered r.side c; sched = r.sched }
+dispatched_from k r pick None = side_picked k r pick
+
+-- the command that is kept is sent, and no other one is taken then; or else the scheduler's pick
+abbrev pub side_dispatched : {K : Type 0} → SchedSteps K → SideRun K → ℕ → SideRun K
+side_dispatched k r pick = dispatched_from k r pick r.side.kept
 
 -- ---- receive
 

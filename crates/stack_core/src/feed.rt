@@ -1,12 +1,12 @@
 //! How the requests of a script reach the device.
-ghost use Rattle.std.specs.Prelude.{◌≡◌, ℕ, ◌≤◌, [], Some, None, IfOk, IfSome, IfNone};
+ghost use Rattle.std.specs.Prelude.{◌≡◌, ℕ, ◌≤◌, Some, None, IfOk, IfSome, IfNone};
 ghost use Rattle.order_model.specs.Device.{Seen};
-ghost use Rattle.script_grammar.specs.Grammar.{IsRunnable};
-ghost use Rattle.stack_core.specs.Feed.{opened_feed, stepped, given, submitted_count, accepted_of, sent_out_of, IsFed};
+ghost use Rattle.stack_core.specs.Feed.{FeedRun, opened_feed, stepped, given, submitted_count, IsFed};
 
 use crate::sched_side::SchedSide;
+use barrier_reassign::Scheduler;
 use blk_base::NoMemory;
-use order_model::{Command, Commands, History, SchedRecord};
+use order_model::Command;
 use script_grammar::{CoreEvent, Form, RequestList, Script};
 use std::alloc::Global;
 
@@ -15,7 +15,7 @@ use std::alloc::Global;
 pub enum Feed {
     /// Each as a command of its own. So many went.
     Direct(usize),
-    /// Through the scheduler.
+    /// Through a scheduler.
     Scheduled(SchedSide),
 }
 
@@ -27,8 +27,7 @@ impl Feed {
         match script.kind {
             Form::Device(_) => Ok(Feed::Direct(0)),
             Form::Blocks(_) => {
-                let limit = script.puts.len() as u64;
-                let side = SchedSide::make(alloc, limit, script.header.queue)?;
+                let side = SchedSide::make(alloc, script.header.queue)?;
                 Ok(Feed::Scheduled(side))
             }
         }
@@ -45,17 +44,17 @@ impl Feed {
     }
 
     /// An event of the host or the scheduler. Those of the device do nothing here.
-    pub fn step(&mut self, requests: &RequestList, event: CoreEvent)
-        requires { (d : Seen) × IsFed self.old requests.now d }
-        ensures { self.new ≡ stepped requests.now self.old event }
+    pub fn step<S: Scheduler>(&mut self, sched: &mut S, requests: &RequestList, event: CoreEvent)
+        requires { (d : Seen) × IsFed self.old (S.steps.seen (S.state sched.old)) requests.now d }
+        ensures { record { feed = self.new; sched = S.state sched.new } ≡ stepped S.steps requests.now (record { feed = self.old; sched = S.state sched.old }) event }
     {
         let Feed::Scheduled(side) = self else {
             return;
         };
         match event {
             CoreEvent::Submit => side.submit(requests),
-            CoreEvent::Accept => side.accept(),
-            CoreEvent::Dispatch(pick) => side.dispatch(pick),
+            CoreEvent::Accept => side.accept(sched),
+            CoreEvent::Dispatch(pick) => side.dispatch(sched, pick),
             _ => {}
         }
     }
@@ -73,20 +72,6 @@ impl Feed {
                 Some(Command::of_request(request, flagged))
             }
             Feed::Scheduled(side) => side.give(),
-        }
-    }
-
-    /// What the scheduler accepted and sent out; nothing where there is none.
-    pub fn into_record(self, alloc: Global) -> Result<SchedRecord, NoMemory>
-        ensures accepted { IfOk result (λ r. r.accepted.items ≡ accepted_of self) }
-        ensures sent_out { IfOk result (λ r. r.sent_out.items ≡ sent_out_of self) }
-    {
-        match self {
-            Feed::Direct(_) => Ok(SchedRecord {
-                accepted: History::make(alloc, 0)?,
-                sent_out: Commands::make(alloc, 0)?,
-            }),
-            Feed::Scheduled(side) => Ok(side.into_record()),
         }
     }
 }

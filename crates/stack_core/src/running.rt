@@ -1,50 +1,55 @@
-//! The run of a script on a device.
-ghost use Rattle.std.specs.Prelude.{◌≡◌, ℕ, ◌≤◌, ◌++◌, true, length, IfOk};
+//! The run of a script on a scheduler and a device.
+ghost use Rattle.std.specs.Prelude.{◌≡◌, ◌++◌, ℕ, ◌≤◌, true, length, IfOk};
 ghost use Rattle.script_grammar.specs.Grammar.{IsRunnable};
-ghost use Rattle.stack_core.specs.Feed.{IsFed, opened_feed};
-ghost use Rattle.stack_core.specs.Core.{Machine, RunState, happens, times, happens_line, run_lines};
+ghost use Rattle.barrier_reassign.specs.Sched.{sched_steps, seen_of};
+ghost use Rattle.stack_core.specs.Feed.{IsFed, opened_feed, scheduled_count};
+ghost use Rattle.stack_core.specs.Core.{Machine, RunState, happens, times, happens_line, run_lines, ended, opened_plain};
 ghost use Rattle.stack_core.specs.Report.{IsReportOf, IsCoreReport, Headline};
 ghost use Rattle.stack_core.specs.Headline.{KeepsOrder};
 
 use crate::feed::Feed;
 use crate::report::Report;
+use barrier_reassign::Scheduler;
 use blk_base::{Image, NoMemory};
 use device_epochs::{DeviceSetup, EpochDevice};
-use order_model::OrderedDev;
-use script_grammar::{CoreEvent, EventLine, EventWord, RequestList, Script};
+use epoch_sched::Sched;
+use order_model::{OrderedDev, keeps_order_to_the_medium};
+use script_grammar::{CoreEvent, EventLine, EventWord, Form, RequestList, Script};
 use std::alloc::Global;
 
 // One event.
-fn do_event<D: OrderedDev>(feed: &mut Feed, dev: &mut D, requests: &RequestList, event: CoreEvent)
+fn do_event<S: Scheduler, D: OrderedDev>(feed: &mut Feed, sched: &mut S, dev: &mut D, requests: &RequestList, event: CoreEvent)
     requires valid { D.valid (D.state dev.old) }
-    requires fed { IsFed feed.old requests.now (D.seen (D.state dev.old)) }
-    ensures step { record { feed = feed.new; dev = D.state dev.new } ≡ happens (record { has_room = D.has_room; received = D.received; transferred = D.transferred; persisted = D.persisted }) requests.now (record { feed = feed.old; dev = D.state dev.old }) event }
+    requires scheduler { S.valid (S.state sched.old) }
+    requires fed { IsFed feed.old (S.steps.seen (S.state sched.old)) requests.now (D.seen (D.state dev.old)) }
+    ensures step { record { feed = feed.new; sched = S.state sched.new; dev = D.state dev.new } ≡ happens S.steps (record { has_room = D.has_room; received = D.received; transferred = D.transferred; persisted = D.persisted }) requests.now (record { feed = feed.old; sched = S.state sched.old; dev = D.state dev.old }) event }
     ensures valid { D.valid (D.state dev.new) }
+    ensures scheduler { S.valid (S.state sched.new) }
     ensures base { (D.seen (D.state dev.new)).base ≡ (D.seen (D.state dev.old)).base }
-    ensures fed { IsFed feed.new requests.now (D.seen (D.state dev.new)) }
+    ensures fed { IsFed feed.new (S.steps.seen (S.state sched.new)) requests.now (D.seen (D.state dev.new)) }
 {
     match event {
-        CoreEvent::Receive => receive_next(feed, dev, requests),
+        CoreEvent::Receive => receive_next(feed, sched, dev, requests),
         CoreEvent::Transfer(pick) => {
             dev.transfer(pick);
         }
         CoreEvent::Persist(pick) => {
             dev.persist(pick);
         }
-        CoreEvent::Submit | CoreEvent::Accept | CoreEvent::Dispatch(_) => feed.step(
-            requests, event,
-        ),
+        CoreEvent::Submit | CoreEvent::Accept | CoreEvent::Dispatch(_) => feed.step(sched, requests, event),
     }
 }
 
 // The next command goes to the device, where there is one and there is room.
-fn receive_next<D: OrderedDev>(feed: &mut Feed, dev: &mut D, requests: &RequestList)
+fn receive_next<S: Scheduler, D: OrderedDev>(feed: &mut Feed, sched: &mut S, dev: &mut D, requests: &RequestList)
     requires valid { D.valid (D.state dev.old) }
-    requires fed { IsFed feed.old requests.now (D.seen (D.state dev.old)) }
-    ensures step { record { feed = feed.new; dev = D.state dev.new } ≡ happens (record { has_room = D.has_room; received = D.received; transferred = D.transferred; persisted = D.persisted }) requests.now (record { feed = feed.old; dev = D.state dev.old }) CoreEvent.Receive }
+    requires scheduler { S.valid (S.state sched.old) }
+    requires fed { IsFed feed.old (S.steps.seen (S.state sched.old)) requests.now (D.seen (D.state dev.old)) }
+    ensures step { record { feed = feed.new; sched = S.state sched.new; dev = D.state dev.new } ≡ happens S.steps (record { has_room = D.has_room; received = D.received; transferred = D.transferred; persisted = D.persisted }) requests.now (record { feed = feed.old; sched = S.state sched.old; dev = D.state dev.old }) CoreEvent.Receive }
     ensures valid { D.valid (D.state dev.new) }
+    ensures scheduler { S.valid (S.state sched.new) }
     ensures base { (D.seen (D.state dev.new)).base ≡ (D.seen (D.state dev.old)).base }
-    ensures fed { IsFed feed.new requests.now (D.seen (D.state dev.new)) }
+    ensures fed { IsFed feed.new (S.steps.seen (S.state sched.new)) requests.now (D.seen (D.state dev.new)) }
 {
     if !dev.room() {
         return;
@@ -57,56 +62,88 @@ fn receive_next<D: OrderedDev>(feed: &mut Feed, dev: &mut D, requests: &RequestL
 }
 
 // One event, so many times.
-fn repeat_event<D: OrderedDev>(
-    feed: &mut Feed,
-    dev: &mut D,
-    requests: &RequestList,
-    event: CoreEvent,
-    count: u32,
-)
+fn repeat_event<S: Scheduler, D: OrderedDev>(feed: &mut Feed, sched: &mut S, dev: &mut D, requests: &RequestList, event: CoreEvent, count: u32)
     requires valid { D.valid (D.state dev.old) }
-    requires fed { IsFed feed.old requests.now (D.seen (D.state dev.old)) }
-    ensures step { record { feed = feed.new; dev = D.state dev.new } ≡ times count (λ s. happens (record { has_room = D.has_room; received = D.received; transferred = D.transferred; persisted = D.persisted }) requests.now s event) (record { feed = feed.old; dev = D.state dev.old }) }
+    requires scheduler { S.valid (S.state sched.old) }
+    requires fed { IsFed feed.old (S.steps.seen (S.state sched.old)) requests.now (D.seen (D.state dev.old)) }
+    ensures step { record { feed = feed.new; sched = S.state sched.new; dev = D.state dev.new } ≡ times count (λ s. happens S.steps (record { has_room = D.has_room; received = D.received; transferred = D.transferred; persisted = D.persisted }) requests.now s event) (record { feed = feed.old; sched = S.state sched.old; dev = D.state dev.old }) }
     ensures valid { D.valid (D.state dev.new) }
+    ensures scheduler { S.valid (S.state sched.new) }
     ensures base { (D.seen (D.state dev.new)).base ≡ (D.seen (D.state dev.old)).base }
-    ensures fed { IsFed feed.new requests.now (D.seen (D.state dev.new)) }
+    ensures fed { IsFed feed.new (S.steps.seen (S.state sched.new)) requests.now (D.seen (D.state dev.new)) }
 {
     for i in 0..count {
-        do_event(feed, dev, requests, event);
+        do_event(feed, sched, dev, requests, event);
     }
 }
 
 // An event line, as often as it says.
-fn do_line<D: OrderedDev>(feed: &mut Feed, dev: &mut D, requests: &RequestList, line: EventLine)
+fn do_line<S: Scheduler, D: OrderedDev>(feed: &mut Feed, sched: &mut S, dev: &mut D, requests: &RequestList, line: EventLine)
     requires valid { D.valid (D.state dev.old) }
-    requires fed { IsFed feed.old requests.now (D.seen (D.state dev.old)) }
-    ensures step { record { feed = feed.new; dev = D.state dev.new } ≡ happens_line (record { has_room = D.has_room; received = D.received; transferred = D.transferred; persisted = D.persisted }) requests.now (record { feed = feed.old; dev = D.state dev.old }) line }
+    requires scheduler { S.valid (S.state sched.old) }
+    requires fed { IsFed feed.old (S.steps.seen (S.state sched.old)) requests.now (D.seen (D.state dev.old)) }
+    ensures step { record { feed = feed.new; sched = S.state sched.new; dev = D.state dev.new } ≡ happens_line S.steps (record { has_room = D.has_room; received = D.received; transferred = D.transferred; persisted = D.persisted }) requests.now (record { feed = feed.old; sched = S.state sched.old; dev = D.state dev.old }) line }
     ensures valid { D.valid (D.state dev.new) }
+    ensures scheduler { S.valid (S.state sched.new) }
     ensures base { (D.seen (D.state dev.new)).base ≡ (D.seen (D.state dev.old)).base }
-    ensures fed { IsFed feed.new requests.now (D.seen (D.state dev.new)) }
+    ensures fed { IsFed feed.new (S.steps.seen (S.state sched.new)) requests.now (D.seen (D.state dev.new)) }
 {
     match line.what {
-        EventWord::One(event) => repeat_event(feed, dev, requests, event, line.count),
+        EventWord::One(event) => repeat_event(feed, sched, dev, requests, event, line.count),
     }
 }
 
 // All event lines, one after the other.
-fn do_lines<D: OrderedDev>(
-    feed: &mut Feed,
-    dev: &mut D,
-    requests: &RequestList,
-    lines: &[EventLine],
-)
+fn do_lines<S: Scheduler, D: OrderedDev>(feed: &mut Feed, sched: &mut S, dev: &mut D, requests: &RequestList, lines: &[EventLine])
     requires valid { D.valid (D.state dev.old) }
-    requires fed { IsFed feed.old requests.now (D.seen (D.state dev.old)) }
-    ensures run { record { feed = feed.new; dev = D.state dev.new } ≡ run_lines (record { has_room = D.has_room; received = D.received; transferred = D.transferred; persisted = D.persisted }) requests.now (record { feed = feed.old; dev = D.state dev.old }) lines.now }
+    requires scheduler { S.valid (S.state sched.old) }
+    requires fed { IsFed feed.old (S.steps.seen (S.state sched.old)) requests.now (D.seen (D.state dev.old)) }
+    ensures run { record { feed = feed.new; sched = S.state sched.new; dev = D.state dev.new } ≡ run_lines S.steps (record { has_room = D.has_room; received = D.received; transferred = D.transferred; persisted = D.persisted }) requests.now (record { feed = feed.old; sched = S.state sched.old; dev = D.state dev.old }) lines.now }
     ensures valid { D.valid (D.state dev.new) }
+    ensures scheduler { S.valid (S.state sched.new) }
     ensures base { (D.seen (D.state dev.new)).base ≡ (D.seen (D.state dev.old)).base }
-    ensures fed { IsFed feed.new requests.now (D.seen (D.state dev.new)) }
+    ensures fed { IsFed feed.new (S.steps.seen (S.state sched.new)) requests.now (D.seen (D.state dev.new)) }
 {
     for line in lines {
-        do_line(feed, dev, requests, *line);
+        do_line(feed, sched, dev, requests, *line);
     }
+}
+
+// How many requests the script's scheduler may be given.
+fn scheduled_count(script: &Script) -> u64
+    ensures { result ≡ scheduled_count script.now }
+{
+    match script.kind {
+        Form::Device(_) => 0,
+        Form::Blocks(_) => script.puts.len() as u64,
+    }
+}
+
+// Runs a script on this scheduler and this device, and cuts the power.
+fn run_with<S: Scheduler + Drop, D: OrderedDev + Drop>(alloc: Global, script: &Script, sched: S, dev: D) -> Result<Report, NoMemory>
+    requires valid { D.valid (D.state dev) }
+    requires scheduler { S.valid (S.state sched) }
+    requires fed { IsFed (opened_feed script.now) (S.steps.seen (S.state sched)) script.now.puts (D.seen (D.state dev)) }
+    ensures core { let machine : Machine D.State = record { has_room = D.has_room; received = D.received; transferred = D.transferred; persisted = D.persisted } in
+        let end = ended S.steps machine script.now (S.state sched) (D.state dev) in
+        IfOk result (IsReportOf script.now end.feed (S.steps.seen end.sched) (D.seen end.dev)) }
+    ensures order { let machine : Machine D.State = record { has_room = D.has_room; received = D.received; transferred = D.transferred; persisted = D.persisted } in
+        let end = ended S.steps machine script.now (S.state sched) (D.state dev) in
+        IfOk result (λ r. KeepsOrder (D.seen (D.state dev)).base r.submitted r.cut.image r.cut.origins (r.cut.trace.sent.items ++ (D.seen end.dev).waiting)) }
+{
+    let mut dev = dev;
+    let mut sched = sched;
+    let mut feed = Feed::open(alloc, script)?;
+    do_lines(&mut feed, &mut sched, &mut dev, &script.puts, script.events.as_slice());
+    keeps_order_to_the_medium(&dev);
+    let submitted = script.puts.copy_front(alloc, feed.submitted())?;
+    let script = script.copy(alloc)?;
+    Ok(Report {
+        script,
+        submitted,
+        sched: sched.into_trace(),
+        cut: dev.cut(),
+    })
 }
 
 /// Runs a script on a device that has taken no command, and cuts the power.
@@ -116,26 +153,16 @@ pub fn run_on<D: OrderedDev + Drop>(
     dev: D,
 ) -> Result<Report, NoMemory>
     requires valid { D.valid (D.state dev) }
-    requires fed { IsFed (opened_feed script.now) script.now.puts (D.seen (D.state dev)) }
+    requires fed { IsFed (opened_feed script.now) (seen_of (opened_plain script.now)) script.now.puts (D.seen (D.state dev)) }
     ensures core { let machine : Machine D.State = record { has_room = D.has_room; received = D.received; transferred = D.transferred; persisted = D.persisted } in
-        let end = run_lines machine script.now.puts (record { feed = opened_feed script.now; dev = D.state dev }) script.now.events in
-        IfOk result (IsReportOf script.now end.feed (D.seen end.dev)) }
+        let end = ended sched_steps machine script.now (opened_plain script.now) (D.state dev) in
+        IfOk result (IsReportOf script.now end.feed (seen_of end.sched) (D.seen end.dev)) }
     ensures order { let machine : Machine D.State = record { has_room = D.has_room; received = D.received; transferred = D.transferred; persisted = D.persisted } in
-        let end = run_lines machine script.now.puts (record { feed = opened_feed script.now; dev = D.state dev }) script.now.events in
+        let end = ended sched_steps machine script.now (opened_plain script.now) (D.state dev) in
         IfOk result (λ r. KeepsOrder (D.seen (D.state dev)).base r.submitted r.cut.image r.cut.origins (r.cut.trace.sent.items ++ (D.seen end.dev).waiting)) }
 {
-    let mut dev = dev;
-    let mut feed = Feed::open(alloc, script)?;
-    do_lines(&mut feed, &mut dev, &script.puts, script.events.as_slice());
-    let submitted = script.puts.copy_front(alloc, feed.submitted())?;
-    let sched = feed.into_record(alloc)?;
-    let script = script.copy(alloc)?;
-    Ok(Report {
-        script,
-        submitted,
-        sched,
-        cut: dev.cut(),
-    })
+    let sched = Sched::make(alloc, scheduled_count(script))?;
+    run_with(alloc, script, sched, dev)
 }
 
 /// Runs a script on a new device of epochs over zeros, and cuts the power.

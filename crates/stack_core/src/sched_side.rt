@@ -1,20 +1,18 @@
-//! The scheduler with the queues before and behind it.
+//! The queues before and behind a scheduler.
 ghost use Rattle.std.specs.Prelude.{◌≡◌, ◌∷◌, ◌+◌, ◌<◌, List, Some, None, true, length, IfOk, IfSome, IfNone};
 ghost use Rattle.order_model.specs.declared.request.Request.{Request};
 ghost use Rattle.order_model.specs.declared.command.Command.{Command};
-ghost use Rattle.barrier_reassign.specs.Epoch.{can_accept, picked};
-ghost use Rattle.epoch_sched.specs.Sched.{KeepsOrder};
-ghost use Rattle.epoch_sched.specs.Valid.{IsAcceptable};
-ghost use Rattle.stack_core.specs.Side.{opened_side, submitted, side_accepted, offered, offered_picked, side_dispatched, given_first};
+ghost use Rattle.barrier_reassign.specs.Scheduler.{IsAcceptable};
+ghost use Rattle.stack_core.specs.Side.{opened_side, submitted, side_accepted, offered, side_picked, side_dispatched, given_first};
 
+use barrier_reassign::Scheduler;
 use blk_base::NoMemory;
-use epoch_sched::Sched;
-use order_model::{Command, Inlet, ListQueue, Outlet, Request, SchedRecord};
 use script_grammar::RequestList;
+use order_model::{Command, Inlet, ListQueue, Outlet, Request};
 use std::alloc::Global;
 use std::marker::Model;
 
-/// The scheduler, the submission queue before it and the dispatch queue behind it.
+/// The submission queue before a scheduler and the dispatch queue behind it.
 ///
 /// All its room is reserved by `make`: no other call takes memory.
 #[derive(Drop)]
@@ -22,7 +20,6 @@ pub struct SchedSide {
     // How many requests were submitted.
     next: usize,
     submission: ListQueue<Request>,
-    sched: Sched,
     // A command that found the dispatch queue full.
     kept: Option<Command>,
     dispatched: ListQueue<Command>,
@@ -40,14 +37,13 @@ impl Model for SchedSide {
 }
 
 impl SchedSide {
-    /// A scheduler for so many requests, between two empty queues of this capacity.
-    pub fn make(alloc: Global, limit: u64, capacity: u32) -> Result<SchedSide, NoMemory>
-        ensures { IfOk result (λ s. s ≡ opened_side limit capacity) }
+    /// Two empty queues of this capacity.
+    pub fn make(alloc: Global, capacity: u32) -> Result<SchedSide, NoMemory>
+        ensures { IfOk result (λ s. s ≡ opened_side capacity) }
     {
         Ok(SchedSide {
             next: 0,
             submission: ListQueue::make(alloc, capacity)?,
-            sched: Sched::make(alloc, limit)?,
             kept: None,
             dispatched: ListQueue::make(alloc, capacity)?,
         })
@@ -76,27 +72,27 @@ impl SchedSide {
     }
 
     /// The scheduler takes a request from the submission queue, where it can accept one and there is one.
-    pub fn accept(&mut self)
-        requires { (r : Request) (rs : List Request) → self.old.submission ≡ r ∷ rs → IsAcceptable self.old.sched r }
-        ensures { self.new ≡ side_accepted self.old }
+    pub fn accept<S: Scheduler>(&mut self, sched: &mut S)
+        requires { (r : Request) (rs : List Request) → self.old.submission ≡ r ∷ rs → IsAcceptable (S.steps.seen (S.state sched.old)) r }
+        ensures { record { side = self.new; sched = S.state sched.new } ≡ side_accepted S.steps (record { side = self.old; sched = S.state sched.old }) }
     {
-        if !self.sched.can_accept() {
+        if !sched.can_accept() {
             return;
         }
         let Some(request) = self.submission.take() else {
             return;
         };
-        let _ = self.sched.accept(request);
+        let _ = sched.accept(request);
     }
 
-    /// The scheduler sends the command that it keeps, or else the one at this place of its eligible list.
-    pub fn dispatch(&mut self, pick: u32)
-        ensures { self.new ≡ side_dispatched self.old pick }
+    /// The command that is kept is sent, or else the one of the scheduler's pick.
+    pub fn dispatch<S: Scheduler>(&mut self, sched: &mut S, pick: u32)
+        ensures { record { side = self.new; sched = S.state sched.new } ≡ side_dispatched S.steps (record { side = self.old; sched = S.state sched.old }) pick }
     {
         if self.kept.is_some() {
             self.send_kept();
         } else {
-            self.send_picked(pick);
+            self.send_picked(sched, pick);
         }
     }
 
@@ -113,11 +109,11 @@ impl SchedSide {
     }
 
     // The scheduler sends its pick. A command that finds the dispatch queue full is kept.
-    fn send_picked(&mut self, pick: u32)
+    fn send_picked<S: Scheduler>(&mut self, sched: &mut S, pick: u32)
         requires { self.old.kept ≡ None }
-        ensures { self.new ≡ offered_picked self.old (picked self.old.sched.queue pick) }
+        ensures { record { side = self.new; sched = S.state sched.new } ≡ side_picked S.steps (record { side = self.old; sched = S.state sched.old }) pick }
     {
-        let Some(command) = self.sched.dispatch(pick) else {
+        let Some(command) = sched.dispatch(pick) else {
             return;
         };
         if self.dispatched.is_full() {
@@ -133,14 +129,5 @@ impl SchedSide {
         ensures none { IfNone result ((given_first self.old self.old.dispatched ≡ None) × (self.new ≡ self.old)) }
     {
         self.dispatched.take()
-    }
-
-    /// What the scheduler accepted and sent out.
-    pub fn into_record(self) -> SchedRecord
-        ensures accepted { result.accepted.items ≡ self.sched.accepted }
-        ensures sent_out { result.sent_out.items ≡ self.sched.sent_out }
-        ensures order { KeepsOrder self.sched }
-    {
-        self.sched.into_trace()
     }
 }

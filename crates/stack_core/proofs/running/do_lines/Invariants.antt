@@ -1,3 +1,4 @@
+-- Along the lines: the rest of them from here ends where all of them from the start do.
 use Rattle.std.proofs.Common.{◌≡◌, drop}
 use Rattle.stack_core.specs.Feed.{IsFed}
 use Rattle.stack_core.specs.Core.{Machine, run_lines}
@@ -6,11 +7,13 @@ use Rattle.stack_core.proofs.running.do_lines.Given as goal
 abbrev pub invariant-loop-line : goal.invariant-loop-line
 invariant-loop-line g l =
     let d = g.D.OrderedDev in
+    let k = g.S.Scheduler in
     let m : Machine d.State = record { has_room = d.has_room; received = d.received; transferred = d.transferred; persisted = d.persisted } in
     record {
-      run : run_lines m l.requests (record { feed = l.feed; dev = d.state l.dev }) (drop l.line-index l.lines)
-          ≡ run_lines m l.requests (record { feed = l.fn.feed; dev = d.state l.fn.dev }) l.lines;
+      run : run_lines k.steps m l.requests (record { feed = l.feed; sched = k.state l.sched; dev = d.state l.dev }) (drop l.line-index l.lines)
+          ≡ run_lines k.steps m l.requests (record { feed = l.fn.feed; sched = k.state l.fn.sched; dev = d.state l.fn.dev }) l.lines;
       valid : d.valid (d.state l.dev);
+      scheduler : k.valid (k.state l.sched);
       base : (d.seen (d.state l.dev)).base ≡ (d.seen (d.state l.fn.dev)).base;
-      fed : IsFed l.feed l.requests (d.seen (d.state l.dev));
+      fed : IsFed l.feed (k.steps.seen (k.state l.sched)) l.requests (d.seen (d.state l.dev));
     }

@@ -1,3 +1,4 @@
+-- The device takes the next command.
 use Rattle.std.proofs.Common.{◌≡◌, true, sym, ap, ◌∙◌, subst}
 use Rattle.order_model.specs.Device.{Seen}
 use Rattle.stack_core.specs.Feed.{IsFed}
@@ -8,16 +9,22 @@ use Rattle.stack_core.proofs.running.receive_next.Goals as goal
 pub receive-requires : goal.receive-requires
 receive-requires g c =
     let t = g.D.OrderedDev in
+    let k = g.S.Scheduler in
     let s = t.state c.args.dev.now in
+    let p = k.steps.seen (k.state c.args.sched.now) in
     let surface = g.met.D.OrderedDev.surface s c.requires.valid in
-    given_receivable c.args.requests.now c.args.feed.now c.give.new.self c.in-Some.command (t.seen s) c.requires.fed surface.blocks c.in-Some.ensures.some
+    let carries = g.met.S.Scheduler.keeps.carries (k.state c.args.sched.now) c.requires.scheduler in
+    given_receivable c.args.requests.now c.args.feed.now c.give.new.self p c.in-Some.command (t.seen s) c.requires.fed carries surface.blocks c.in-Some.ensures.some
 
 pub returns-clause-valid : goal.returns-clause-valid
 returns-clause-valid g c =
     let t = g.D.OrderedDev in
+    let k = g.S.Scheduler in
     let s = t.state c.args.dev.now in
+    let p = k.steps.seen (k.state c.args.sched.now) in
     let surface = g.met.D.OrderedDev.surface s c.requires.valid in
-    let can = given_receivable c.args.requests.now c.args.feed.now c.give.new.self c.in-Some.command (t.seen s) c.requires.fed surface.blocks c.in-Some.ensures.some in
+    let carries = g.met.S.Scheduler.keeps.carries (k.state c.args.sched.now) c.requires.scheduler in
+    let can = given_receivable c.args.requests.now c.args.feed.now c.give.new.self p c.in-Some.command (t.seen s) c.requires.fed carries surface.blocks c.in-Some.ensures.some in
     let room : t.has_room s ≡ true = sym c.room.ensures ∙ c.if-not-room.false in
     let after = on_ok c.receive.result _ (c.receive.ensures.when ∙ room) c.receive.ensures.ok in
     subst t.valid (sym after) (g.met.D.OrderedDev.receives s c.in-Some.command c.requires.valid can room).0
@@ -25,9 +32,12 @@ returns-clause-valid g c =
 pub returns-clause-base : goal.returns-clause-base
 returns-clause-base g c =
     let t = g.D.OrderedDev in
+    let k = g.S.Scheduler in
     let s = t.state c.args.dev.now in
+    let p = k.steps.seen (k.state c.args.sched.now) in
     let surface = g.met.D.OrderedDev.surface s c.requires.valid in
-    let can = given_receivable c.args.requests.now c.args.feed.now c.give.new.self c.in-Some.command (t.seen s) c.requires.fed surface.blocks c.in-Some.ensures.some in
+    let carries = g.met.S.Scheduler.keeps.carries (k.state c.args.sched.now) c.requires.scheduler in
+    let can = given_receivable c.args.requests.now c.args.feed.now c.give.new.self p c.in-Some.command (t.seen s) c.requires.fed carries surface.blocks c.in-Some.ensures.some in
     let room : t.has_room s ≡ true = sym c.room.ensures ∙ c.if-not-room.false in
     let after = on_ok c.receive.result _ (c.receive.ensures.when ∙ room) c.receive.ensures.ok in
     let step = (g.met.D.OrderedDev.receives s c.in-Some.command c.requires.valid can room).1 in
@@ -36,11 +46,14 @@ returns-clause-base g c =
 pub returns-clause-fed : goal.returns-clause-fed
 returns-clause-fed g c =
     let t = g.D.OrderedDev in
+    let k = g.S.Scheduler in
     let s = t.state c.args.dev.now in
+    let p = k.steps.seen (k.state c.args.sched.now) in
     let surface = g.met.D.OrderedDev.surface s c.requires.valid in
-    let can = given_receivable c.args.requests.now c.args.feed.now c.give.new.self c.in-Some.command (t.seen s) c.requires.fed surface.blocks c.in-Some.ensures.some in
+    let carries = g.met.S.Scheduler.keeps.carries (k.state c.args.sched.now) c.requires.scheduler in
+    let can = given_receivable c.args.requests.now c.args.feed.now c.give.new.self p c.in-Some.command (t.seen s) c.requires.fed carries surface.blocks c.in-Some.ensures.some in
     let room : t.has_room s ≡ true = sym c.room.ensures ∙ c.if-not-room.false in
     let after = on_ok c.receive.result _ (c.receive.ensures.when ∙ room) c.receive.ensures.ok in
     let step = (g.met.D.OrderedDev.receives s c.in-Some.command c.requires.valid can room).1 in
-    subst (IsFed c.give.new.self c.args.requests.now) (sym (ap t.seen after ∙ step))
-    (given_fed c.args.requests.now c.args.feed.now c.give.new.self c.in-Some.command (t.seen s) c.requires.fed c.in-Some.ensures.some)
+    subst (IsFed c.give.new.self p c.args.requests.now) (sym (ap t.seen after ∙ step))
+    (given_fed c.args.requests.now c.args.feed.now c.give.new.self p c.in-Some.command (t.seen s) c.requires.fed c.in-Some.ensures.some)

@@ -1,0 +1,29 @@
+-- The report keeps the order that the host asked for, by the law from its requests to the medium.
+use Rattle.std.proofs.Common.{List, ◌++◌, sym, ap, ap₂, ◌∙◌, take}
+use Rattle.order_model.specs.declared.completion.Completion.{Completion}
+use Rattle.stack_core.specs.Feed.{submitted_count, carried}
+use Rattle.stack_core.specs.Core.{Machine, RunState, run_lines}
+use Rattle.stack_core.proofs.Feeds.{fed_carried, order_reported}
+use Rattle.stack_core.proofs.running.run_with.Goals as goal
+
+pub returns-clause-order : goal.returns-clause-order
+returns-clause-order g c =
+    let t = g.D.OrderedDev in
+    let k = g.S.Scheduler in
+    let rs = c.args.script.now.puts in
+    let feed = c.do_lines.new.feed in
+    let sched = k.state c.do_lines.new.sched in
+    let s = t.state c.do_lines.new.dev in
+    let m : Machine t.State = record { has_room = t.has_room; received = t.received; transferred = t.transferred; persisted = t.persisted } in
+    let end = c.do_lines.ensures.run ∙ ap₂ (λ f lines. run_lines k.steps m rs (record { feed = f; sched = k.state c.args.sched; dev = t.state c.args.dev }) lines) c.in_ok-feed.ensures c.as_slice.ensures in
+    let b = fed_carried k.steps k.valid rs feed sched (t.seen s) g.met.S.Scheduler.keeps c.do_lines.ensures.scheduler c.do_lines.ensures.fed in
+    let law = c.keeps_order_to_the_medium.ensures in
+    let front = take (submitted_count feed) rs in
+    let seen = carried k.steps rs feed sched in
+    order_reported front _ (t.seen s) _ _ _ _
+    (sym c.do_lines.ensures.base)
+    (c.in_ok-submitted.ensures ∙ ap (λ n. take n rs) c.submitted.ensures)
+    c.cut.ensures.image c.cut.ensures.origins
+    (ap₂ (λ (a b : List Completion). a ++ b) c.cut.ensures.trace.sent (ap (λ (r : RunState k.State t.State). (t.seen r.dev).waiting) (sym end)))
+    (law.closed front seen b.ids b.carries b.fits)
+    (law.flushed front seen b.ids b.carries b.fits)
