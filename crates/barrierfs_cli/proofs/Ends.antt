@@ -3,43 +3,53 @@ use Rattle.std.proofs.Common.{◌≡◌, ℕ, ◌<◌, ◌≤◌, true, false, L
 use Rattle.std.proofs.lemmas.Option.{none-some, same_Some}
 use Rattle.std.proofs.lemmas.Bool.Decides.{nat_tests}
 use Rattle.std.specs.Io.KnownBytes.{Consumes}
+use Rattle.std.specs.Prelude.{Result, IfOk, IfErr}
+use Rattle.std.specs.String.{string_bytes}
 use Rattle.blk_base.specs.Streams.{Rose, Drained}
 use Rattle.barrierfs_cli.specs.declared.fault.TopFault.{TopFault}
 use Rattle.barrierfs_cli.specs.declared.fault.TopFault.TheVariants as faults
-use Rattle.stack_core.specs.declared.report.Report.{Report}
-use Rattle.script_grammar.specs.Grammar.{script_of}
-use Rattle.std.specs.Prelude.{Result, IfOk}
-use Rattle.std.specs.String.{string_bytes}
 use Rattle.barrierfs_cli.specs.declared.top.Printed.{Printed}
 use Rattle.barrierfs_cli.specs.declared.command_line.Command.{Command}
 use Rattle.barrierfs_cli.specs.declared.command_line.Command.TheVariants as commands
-use Rattle.script_grammar.specs.declared.kinds.ScriptKind.{ScriptKind}
-use Rattle.script_grammar.specs.declared.script.Script.{Script}
-use Rattle.blk_base.specs.Image.{whole_blocks}
-use Rattle.mount_make.specs.declared.fault.ImageFault.{ImageFault}
-use Rattle.barrierfs_cli.specs.Show.{shown}
-use Rattle.barrierfs_cli.specs.Top.{command_of, most_of, Told, WasRead, Does, HasText, Makes, Cause, of_script, of_image, of_input, expected, EndsAs}
+use Rattle.stack_core.specs.declared.report.Report.{Report}
+use Rattle.barrierfs_cli.specs.Top.{command_of, most_of, Stream, WasRead, Makes, script_fault, image_fault, input_fault, IsInputFault, Does, IsRefused, Cause, expected, EndsAs}
+
+-- ---- before the first write
 
 -- what a command makes of the input that was read
-pub does_from : (words : List (List ℕ)) (old new : Told) (c : Command) (input : List ℕ) (report : Option Report) (text : List ℕ) → command_of words ≡ Some c
-    → Drained old.bytes new.bytes input → length input ≤ most_of c → Makes c input report text → Does words old new report text
-does_from words old new commands.Replay input report text asked drained short (script, result, spells, core, reported, is) = record {
-  command = commands.Replay;
+pub does_if : (words : List (List ℕ)) (source : Stream) (c : Command) (input : List ℕ) (r : Result Printed TopFault) → command_of words ≡ Some c
+    → Drained source.bytes source.bytes_after input → length input ≤ most_of c → IfOk r (λ p. Makes c input p.report (string_bytes p.text))
+    → IfOk r (λ p. Does words source p.report (string_bytes p.text))
+does_if words source c input (Ok p) asked drained short makes = record {
+  command = c;
   asked = asked;
-  has = (record { script = script; spelled = record { text = input; drained = drained; short = short; holds = spells }; result = result; reported = reported; core = core }, is);
+  made = record { input = input; drained = drained; short = short; holds = makes };
 }
-does_from words old new commands.Show input report text asked drained short makes = record {
-  command = commands.Show;
+does_if words source c input (Err fault) asked drained short makes = tt
+
+refused : (words : List (List ℕ)) (source : Stream) (c : Command) (input : List ℕ) (fault : TopFault) → command_of words ≡ Some c
+    → Drained source.bytes source.bytes_after input → length input ≤ most_of c → input_fault c input ≡ Some fault → IsRefused words source fault
+refused words source c input fault asked drained short is = record {
+  command = c;
   asked = asked;
-  has = (record { text = input; drained = drained; short = short; holds = makes.0 }, makes.1);
+  read = record { input = input; drained = drained; short = short; holds = is };
 }
 
--- so, where there was no fault
-pub does_if : (words : List (List ℕ)) (old new : Told) (c : Command) (input : List ℕ) (r : Result Printed TopFault) → command_of words ≡ Some c
-    → Drained old.bytes new.bytes input → length input ≤ most_of c → IfOk r (λ p. Makes c input p.report (string_bytes p.text))
-    → IfOk r (λ p. Does words old new p.report (string_bytes p.text))
-does_if words old new c input (Ok p) asked drained short makes = does_from words old new c input p.report (string_bytes p.text) asked drained short makes
-does_if words old new c input (Err fault) asked drained short makes = tt
+cause_of : (words : List (List ℕ)) (source : Stream) (c : Command) (input : List ℕ) (fault : TopFault) → command_of words ≡ Some c
+    → Drained source.bytes source.bytes_after input → length input ≤ most_of c → IsInputFault c input fault → Cause words source fault
+cause_of words source c input (faults.Script line kind) asked drained short is = refused words source c input (faults.Script line kind) asked drained short is
+cause_of words source c input (faults.Image kind block) asked drained short is = refused words source c input (faults.Image kind block) asked drained short is
+cause_of words source c input faults.NoMemory asked drained short is = tt
+cause_of words source c input faults.BadWords asked drained short is = absurd is
+cause_of words source c input faults.SourceFault asked drained short is = absurd is
+cause_of words source c input faults.SinkFault asked drained short is = absurd is
+cause_of words source c input faults.TooLong asked drained short is = absurd is
+
+-- the fault of the input that was read
+pub cause_if : (words : List (List ℕ)) (source : Stream) (c : Command) (input : List ℕ) (r : Result Printed TopFault) → command_of words ≡ Some c
+    → Drained source.bytes source.bytes_after input → length input ≤ most_of c → IfErr r (IsInputFault c input) → IfErr r (Cause words source)
+cause_if words source c input (Ok p) asked drained short is = tt
+cause_if words source c input (Err fault) asked drained short is = cause_of words source c input fault asked drained short is
 
 -- ---- where the input is told and no stream fails
 
@@ -57,65 +67,54 @@ front_read (Some left) (Some rest) text told e d =
     let m = ap length (sym s ∙ d) in
     omega arith
 
-one_command : (words : List (List ℕ)) (c d : Command) → command_of words ≡ Some c → command_of words ≡ Some d → c ≡ d
+pub one_command : (words : List (List ℕ)) (c d : Command) → command_of words ≡ Some c → command_of words ≡ Some d → c ≡ d
 one_command words c d this that = same_Some c d (sym this ∙ that)
 
 no_command : (words : List (List ℕ)) (c : Command) → command_of words ≡ None → command_of words ≡ Some c → ⊥
 no_command words c none some = none-some c (sym none ∙ some)
 
-short_input : (c : Command) (text : List ℕ) → length text ≤ most_of c → expected c text ≡ of_input c text
+short_input : (c : Command) (text : List ℕ) → length text ≤ most_of c → expected c text ≡ input_fault c text
 short_input c text le = let e : nat_lt (most_of c) (length text) ≡ false = grind (arith, nat_tests) in rw e refl
 
 long_input : (c : Command) (text : List ℕ) → most_of c < length text → expected c text ≡ Some faults.TooLong
 long_input c text lt = let e : nat_lt (most_of c) (length text) ≡ true = grind (arith, nat_tests) in rw e refl
 
 -- an input that was read to its end is the one that was told, and ends as what holds of it says
-ends_as : (c : Command) (old new : Told) (Holds : List ℕ → Type 0) (text : List ℕ) (end : Option TopFault) → WasRead c old new Holds → old.bytes ≡ Some text
-    → ((input : List ℕ) → Holds input → of_input c input ≡ end) → EndsAs (expected c text) end
+ends_as : (c : Command) (old new : Option (List ℕ)) (Holds : List ℕ → Type 0) (text : List ℕ) (end : Option TopFault) → WasRead c old new Holds → old ≡ Some text
+    → ((input : List ℕ) → Holds input → input_fault c input ≡ end) → EndsAs (expected c text) end
 ends_as c old new Holds text end read told says =
-    let same = all_read old.bytes new.bytes read.text text told read.drained in
+    let same = all_read old new read.input text told read.drained in
     let short = subst (λ (l : List ℕ). length l ≤ most_of c) same read.short in
     inl (sym (short_input c text short ∙ says text (subst Holds same read.holds)))
 
-of_script_ok : (s : Script) (input : List ℕ) → script_of input ≡ Ok s → of_input commands.Replay input ≡ None
-of_script_ok s input e = ap of_script e
-
-of_script_err : (line : ℕ) (kind : ScriptKind) (input : List ℕ) → script_of input ≡ Err (line, kind) → of_input commands.Replay input ≡ Some (faults.Script line kind)
-of_script_err line kind input e = ap of_script e
-
-of_image_ok : (out input : List ℕ) → shown (whole_blocks input) ≡ Ok out → of_input commands.Show input ≡ None
-of_image_ok out input e = ap of_image e
-
-of_image_err : (kind : ImageFault) (block : ℕ) (input : List ℕ) → shown (whole_blocks input) ≡ Err (kind, block) → of_input commands.Show input ≡ Some (faults.Image kind block)
-of_image_err kind block input e = ap of_image e
-
-has_ended : (c : Command) (old new : Told) (report : Option Report) (out text : List ℕ) → HasText c old new report out → old.bytes ≡ Some text → EndsAs (expected c text) None
-has_ended commands.Replay old new report out text has told =
-    ends_as commands.Replay old new (λ input. script_of input ≡ Ok has.0.script) text None has.0.spelled told (of_script_ok has.0.script)
-has_ended commands.Show old new report out text has told =
-    ends_as commands.Show old new (λ input. shown (whole_blocks input) ≡ Ok out) text None has.0 told (of_image_ok out)
+-- where a command makes something of its input, that has no fault
+no_fault : (c : Command) (input : List ℕ) (report : Option Report) (text : List ℕ) → Makes c input report text → input_fault c input ≡ None
+no_fault commands.Replay input report text makes = ap script_fault makes.spelled
+no_fault commands.Show input report text makes = ap image_fault makes.0
 
 -- a command ends well
-pub ends_well : (words : List (List ℕ)) (old new : Told) (report : Option Report) (out : List ℕ) → Does words old new report out
-    → (c : Command) → command_of words ≡ Some c → (text : List ℕ) → old.bytes ≡ Some text → EndsAs (expected c text) None
-ends_well words old new report out does c asked text told =
+pub ends_well : (words : List (List ℕ)) (source : Stream) (report : Option Report) (out : List ℕ) → Does words source report out
+    → (c : Command) → command_of words ≡ Some c → (text : List ℕ) → source.bytes ≡ Some text → EndsAs (expected c text) None
+ends_well words source report out does c asked text told =
     subst (λ (d : Command). EndsAs (expected d text) None) (one_command words does.command c does.asked asked)
-    (has_ended does.command old new report out text does.has told)
+    (ends_as does.command source.bytes source.bytes_after (λ input. Makes does.command input report out) text None does.made told (λ input makes. no_fault does.command input report out makes))
+
+ends_refused : (words : List (List ℕ)) (source : Stream) (fault : TopFault) → IsRefused words source fault → (c : Command) → command_of words ≡ Some c
+    → (text : List ℕ) → source.bytes ≡ Some text → EndsAs (expected c text) (Some fault)
+ends_refused words source fault is c asked text told =
+    subst (λ (d : Command). EndsAs (expected d text) (Some fault)) (one_command words is.command c is.asked asked)
+    (ends_as is.command source.bytes source.bytes_after (λ input. input_fault is.command input ≡ Some fault) text (Some fault) is.read told (λ input e. e))
 
 -- what ends before the first write ends as the input says
-pub ends_early : (words : List (List ℕ)) (old new : Told) (fault : TopFault) → Cause words old new fault → (c : Command) → command_of words ≡ Some c
-    → (text : List ℕ) → old.bytes ≡ Some text → (Rose old.faults new.faults → ⊥) → EndsAs (expected c text) (Some fault)
-ends_early words old new faults.BadWords cause c asked text told calm = absurd (no_command words c cause asked)
-ends_early words old new (faults.Script line kind) cause c asked text told calm =
-    subst (λ (d : Command). EndsAs (expected d text) (Some (faults.Script line kind))) (one_command words commands.Replay c cause.0 asked)
-    (ends_as commands.Replay old new (λ input. script_of input ≡ Err (line, kind)) text (Some (faults.Script line kind)) cause.1 told (of_script_err line kind))
-ends_early words old new (faults.Image kind block) cause c asked text told calm =
-    subst (λ (d : Command). EndsAs (expected d text) (Some (faults.Image kind block))) (one_command words commands.Show c cause.0 asked)
-    (ends_as commands.Show old new (λ input. shown (whole_blocks input) ≡ Err (kind, block)) text (Some (faults.Image kind block)) cause.1 told (of_image_err kind block))
-ends_early words old new faults.SourceFault cause c asked text told calm = absurd (calm cause)
-ends_early words old new faults.SinkFault cause c asked text told calm = absurd cause
-ends_early words old new faults.TooLong (d, this, long) c asked text told calm =
-    let most = front_read old.bytes new.bytes long.text text told long.read in
+pub ends_early : (words : List (List ℕ)) (source : Stream) (fault : TopFault) → Cause words source fault → (c : Command) → command_of words ≡ Some c
+    → (text : List ℕ) → source.bytes ≡ Some text → (Rose source.faults source.faults_after → ⊥) → EndsAs (expected c text) (Some fault)
+ends_early words source faults.BadWords cause c asked text told calm = absurd (no_command words c cause asked)
+ends_early words source (faults.Script line kind) cause c asked text told calm = ends_refused words source (faults.Script line kind) cause c asked text told
+ends_early words source (faults.Image kind block) cause c asked text told calm = ends_refused words source (faults.Image kind block) cause c asked text told
+ends_early words source faults.SourceFault cause c asked text told calm = absurd (calm cause)
+ends_early words source faults.SinkFault cause c asked text told calm = absurd cause
+ends_early words source faults.TooLong (d, this, long) c asked text told calm =
+    let most = front_read source.bytes source.bytes_after long.input text told long.read in
     let past : most_of d < length text = let l = long.long in omega arith in
     inl (sym (subst (λ (e : Command). expected e text ≡ Some faults.TooLong) (one_command words d c this asked) (long_input d text past)))
-ends_early words old new faults.NoMemory cause c asked text told calm = inr refl
+ends_early words source faults.NoMemory cause c asked text told calm = inr refl

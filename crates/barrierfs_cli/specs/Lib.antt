@@ -1,3 +1,4 @@
 pub mod Text
 pub mod Show
 pub mod Top
+pub mod Promise

@@ -19,12 +19,7 @@ shown_volume v = text_after (tree_after (Ok v))
 abbrev pub shown : List (List ℕ) → Result (List ℕ) Told
 shown blocks = text_after (image_tree blocks)
 
--- the first fault of an image, or want of memory
-abbrev pub IsImageFault : List (List ℕ) → TopFault → Type 0
-IsImageFault blocks (faults.Image fault block) = shown blocks ≡ Err (fault, block)
-IsImageFault blocks faults.NoMemory = Unit {0}
-IsImageFault blocks other = ⊥
-
+-- the first fault of an image whose tree is asked for, or want of memory
 abbrev pub IsMountedFault : List (List ℕ) → TopFault → Type 0
 IsMountedFault blocks (faults.Image fault block) = mounted blocks ≡ Err (fault, block)
 IsMountedFault blocks faults.NoMemory = Unit {0}

@@ -3,7 +3,9 @@ ghost use Rattle.std.specs.Prelude.{◌≡◌, Ok, IfOk, IfErr};
 ghost use Rattle.std.specs.String.{string_bytes};
 ghost use Rattle.blk_base.specs.Image.{whole_blocks};
 ghost use Rattle.mount_make.specs.Images.{mounted};
-ghost use Rattle.barrierfs_cli.specs.Show.{shown, shown_volume, IsImageFault, IsMountedFault};
+ghost use Rattle.barrierfs_cli.specs.Show.{shown, shown_volume, IsMountedFault};
+ghost use Rattle.barrierfs_cli.specs.Top.{IsInputFault};
+ghost use Rattle.barrierfs_cli.specs.declared.command_line.Command.{Command};
 
 use crate::fault::TopFault;
 use blk_base::{Image, NoMemory};
@@ -16,7 +18,7 @@ use volume_ops::Volume;
 /// The text of the tree that an image of these bytes has.
 pub fn show_text(alloc: Global, bytes: Vec<u8>) -> Result<String, TopFault>
     ensures ok { IfOk result (λ text. shown (whole_blocks bytes.items) ≡ Ok (string_bytes text)) }
-    ensures err { IfErr result (IsImageFault (whole_blocks bytes.items)) }
+    ensures err { IfErr result (IsInputFault Command.Show bytes.items) }
 {
     let image = Image::from_bytes(alloc, &bytes);
     drop(bytes);

@@ -1,15 +1,12 @@
 //! The top call.
-ghost use Rattle.std.specs.Prelude.{◌≡◌, ℕ, ◌≤◌, ◌+◌, ◌++◌, ◌∷◌, [], false, true, List, Some, None, length, IfOk, IfErr, IfSome, OnOk, IsErrOf};
+ghost use Rattle.std.specs.Prelude.{◌≡◌, ℕ, ◌≤◌, List, Some, None, Ok, length, IfOk, IfErr, IsErrOf};
 ghost use Rattle.blk_base.specs.Streams.{Rose};
-ghost use Rattle.barrierfs_cli.specs.Top.{command_of, most_of, status_of, Told, Streams, Cause, Does, Did, Makes, expected, EndsAs, top_fault, end_fault, IsTextFault, IsInputFault};
-ghost use Rattle.script_grammar.specs.Grammar.{script_of};
-ghost use Rattle.script_grammar.specs.declared.script.Script.{Script};
+ghost use Rattle.barrierfs_cli.specs.Top.{command_of, most_of, status_of, stream_of, IsReplay, Makes, IsInputFault, Does, Cause, Did, expected, EndsAs, top_fault, end_fault};
+ghost use Rattle.barrierfs_cli.specs.Promise.{WentOut, TellsOrderClosed};
 ghost use Rattle.std.specs.String.{string_bytes};
-ghost use Rattle.stack_core.specs.Report.{IsCoreReport, Headline};
 ghost use Rattle.blk_base.specs.Image.{whole_blocks};
 ghost use Rattle.barrierfs_cli.specs.declared.command_line.Command.{Command};
-ghost use Rattle.barrierfs_cli.specs.Show.{shown, IsImageFault};
-ghost use Rattle.barrierfs_cli.specs.Text.{text_of};
+ghost use Rattle.barrierfs_cli.specs.Show.{shown};
 
 use crate::command_line::{Command, Words};
 use crate::fault::TopFault;
@@ -59,8 +56,8 @@ fn read_fault(end: ReadEnd) -> TopFault
 // Runs the script of these bytes, and makes its text.
 fn run_text(alloc: Global, bytes: &[u8]) -> Result<Printed, TopFault>
     requires { length bytes.now ≤ 4194304 }
-    ensures ok { IfOk result (λ p. (s : Script) × (r : Report) × (script_of bytes.now ≡ Ok s) × IsCoreReport s r × (p.report ≡ Some r) × (string_bytes p.text ≡ text_of r) × Headline r) }
-    ensures err { IfErr result (IsTextFault bytes.now) }
+    ensures ok { IfOk result (λ p. IsReplay bytes.now p.report (string_bytes p.text)) }
+    ensures err { IfErr result (IsInputFault Command.Replay bytes.now) }
 {
     let script = match read_script(alloc, bytes) {
         Ok(script) => script,
@@ -87,7 +84,7 @@ fn run_text(alloc: Global, bytes: &[u8]) -> Result<Printed, TopFault>
 // The text of the tree of an image of these bytes.
 fn show(alloc: Global, bytes: Vec<u8>) -> Result<Printed, TopFault>
     ensures ok { IfOk result (λ p. (shown (whole_blocks bytes.items) ≡ Ok (string_bytes p.text)) × (p.report ≡ None)) }
-    ensures err { IfErr result (IsImageFault (whole_blocks bytes.items)) }
+    ensures err { IfErr result (IsInputFault Command.Show bytes.items) }
 {
     let text = show_text(alloc, bytes)?;
     Ok(Printed { report: None, text })
@@ -97,7 +94,6 @@ fn show(alloc: Global, bytes: Vec<u8>) -> Result<Printed, TopFault>
 fn print(alloc: Global, command: Command, bytes: Vec<u8>) -> Result<Printed, TopFault>
     requires { length bytes.items ≤ most_of command }
     ensures ok { IfOk result (λ p. Makes command bytes.items p.report (string_bytes p.text)) }
-    ensures headline { IfOk result (λ p. IfSome p.report Headline) }
     ensures err { IfErr result (IsInputFault command bytes.items) }
 {
     match command {
@@ -108,9 +104,8 @@ fn print(alloc: Global, command: Command, bytes: Vec<u8>) -> Result<Printed, Top
 
 // All that comes before the first write.
 fn prepare<R: Source>(alloc: Global, words: &Words, src: &mut R) -> Result<Printed, TopFault>
-    ensures ok { IfOk result (λ p. Does words.now (record { bytes = R.left src.old; faults = R.faults src.old }) (record { bytes = R.left src.new; faults = R.faults src.new }) p.report (string_bytes p.text)) }
-    ensures headline { IfOk result (λ p. IfSome p.report Headline) }
-    ensures err { IfErr result (Cause words.now (record { bytes = R.left src.old; faults = R.faults src.old }) (record { bytes = R.left src.new; faults = R.faults src.new })) }
+    ensures ok { IfOk result (λ p. Does words.now (stream_of R.left R.faults src.old src.new) p.report (string_bytes p.text)) }
+    ensures err { IfErr result (Cause words.now (stream_of R.left R.faults src.old src.new)) }
     ensures words { command_of words.now ≡ None → IsErrOf result TopFault.BadWords }
 {
     let Some(command) = words.command() else {
@@ -128,10 +123,10 @@ fn prepare<R: Source>(alloc: Global, words: &Words, src: &mut R) -> Result<Print
 /// The statuses are tested in the order 2, 5 and 7, 3 or 4, 6. Status 8, want of memory, may come at any place
 /// before the first write.
 pub fn alone<R: Source, W: Sink>(alloc: Global, words: &Words, src: &mut R, out: &mut W) -> Outcome
+    ensures promise { (bytes : List ℕ) → command_of words.now ≡ Some Command.Replay → WentOut (W.taken out.old) (W.taken out.new) bytes → TellsOrderClosed (R.left src.old) (R.left src.new) result.fault bytes }
     ensures status { result.status ≡ status_of result.fault }
-    ensures did { Did words.now (record { source = record { bytes = R.left src.old; faults = R.faults src.old }; source_after = record { bytes = R.left src.new; faults = R.faults src.new }; sink = record { bytes = W.taken out.old; faults = W.faults out.old }; sink_after = record { bytes = W.taken out.new; faults = W.faults out.new } }) result.report result.fault }
+    ensures did { Did words.now (stream_of R.left R.faults src.old src.new) (stream_of W.taken W.faults out.old out.new) result.report result.fault }
     ensures words { command_of words.now ≡ None → result.fault ≡ Some TopFault.BadWords }
-    ensures headline { IfSome result.report Headline }
     ensures complete { (c : Command) → command_of words.now ≡ Some c → (text : List ℕ) → R.left src.old ≡ Some text → ¬ Rose (R.faults src.old) (R.faults src.new) → ¬ Rose (W.faults out.old) (W.faults out.new) → EndsAs (expected c text) result.fault }
 {
     let printed = match prepare(alloc, words, src) {
