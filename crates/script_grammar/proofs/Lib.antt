@@ -8,3 +8,6 @@ pub mod SpelledWords
 pub mod Unbuilt
 pub mod WellFormed
 pub mod Requests
+pub mod SaidNumbers
+pub mod SaidWords
+pub mod Said

@@ -165,7 +165,7 @@ is_barrier_class-from ordered true = refl
 is_barrier_class-from true false = refl
 is_barrier_class-from false false = refl
 
-body_byte-filled : (value : ℕ) → body_byte (filled value) ≡ value
+pub body_byte-filled : (value : ℕ) → body_byte (filled value) ≡ value
 unfolding filled
 body_byte-filled value = refl
 

@@ -139,11 +139,11 @@ IsLineOf scheduled line.Events = Unit {0}
 IsLineOf scheduled (line.Plain w count) = IsEventOf scheduled (plain_event w)
 IsLineOf scheduled (line.Pick w pick count) = pick < 4294967296 → IsEventOf scheduled (pick_event w pick)
 
-mapped : {X Y : Type 0} (P : Y → Type 0) (f : X → Y) (o : Option X) (y : Y) → option_map f o ≡ Some y → ((x : X) → o ≡ Some x → P (f x)) → P y
+pub mapped : {X Y : Type 0} (P : Y → Type 0) (f : X → Y) (o : Option X) (y : Y) → option_map f o ≡ Some y → ((x : X) → o ≡ Some x → P (f x)) → P y
 mapped P f None y h all = absurd (none-some y h)
 mapped P f (Some x) y h all = subst P (same_Some (f x) y h) (all x refl)
 
-chained : {X Y : Type 0} (P : Y → Type 0) (f : X → Option Y) (o : Option X) (y : Y) → option_and_then f o ≡ Some y → ((x : X) → o ≡ Some x → f x ≡ Some y → P y) → P y
+pub chained : {X Y : Type 0} (P : Y → Type 0) (f : X → Option Y) (o : Option X) (y : Y) → option_and_then f o ≡ Some y → ((x : X) → o ≡ Some x → f x ≡ Some y → P y) → P y
 chained P f None y h all = absurd (none-some y h)
 chained P f (Some x) y h all = all x refl h
 
@@ -320,17 +320,17 @@ IsReadable-after r (line.Pick w pick count) of h is =
 -- ---- results
 
 -- a test that has to pass
-ok_behind : {A E : Type 0} (b : Bool) (x y : A) (e : E) → (if b then Ok x else Err e) ≡ Ok y → (b ≡ true) × (x ≡ y)
+pub ok_behind : {A E : Type 0} (b : Bool) (x y : A) (e : E) → (if b then Ok x else Err e) ≡ Ok y → (b ≡ true) × (x ≡ y)
 ok_behind true x y e h = (refl, (cc))
 ok_behind false x y e h = cc
 
 -- a test that has to pass first
-ok_past : {A E : Type 0} (b : Bool) (read : Result A E) (y : A) (e : E) → (if not b then Err e else read) ≡ Ok y → (b ≡ true) × (read ≡ Ok y)
+pub ok_past : {A E : Type 0} (b : Bool) (read : Result A E) (y : A) (e : E) → (if not b then Err e else read) ≡ Ok y → (b ≡ true) × (read ≡ Ok y)
 ok_past true read y e h = (refl, h)
 ok_past false read y e h = cc
 
 -- a test that has to fail first
-ok_beside : {A E : Type 0} (b : Bool) (read : Result A E) (y : A) (e : E) → (if b then Err e else read) ≡ Ok y → read ≡ Ok y
+pub ok_beside : {A E : Type 0} (b : Bool) (read : Result A E) (y : A) (e : E) → (if b then Err e else read) ≡ Ok y → read ≡ Ok y
 ok_beside true read y e h = cc
 ok_beside false read y e h = h
 
@@ -471,7 +471,7 @@ IsWellFormed-ended : (n : ℕ) (reading : Option Reading) (s : Script) → ended
 IsWellFormed-ended n None s h is = cc
 IsWellFormed-ended n (Some r) s h is = IsWellFormed-ended_in n r r.section s h is
 
-abbrev read_then : {A B E : Type 0} → Result A E → (A → Result B E) → Result B E
+abbrev pub read_then : {A B E : Type 0} → Result A E → (A → Result B E) → Result B E
 read_then (Ok x) f = f x
 read_then (Err e) f = Err e
 

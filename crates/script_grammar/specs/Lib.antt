@@ -6,3 +6,4 @@ pub mod Spelling
 pub mod WellFormed
 pub mod Words
 pub mod Rows
+pub mod Accepted

@@ -7,6 +7,7 @@ ghost use Rattle.script_grammar.specs.Grammar.{script_of};
 ghost use Rattle.script_grammar.specs.FirstFault.{IsFirstFault, IsFirstUnbuilt};
 ghost use Rattle.script_grammar.specs.Speller.{script_text};
 ghost use Rattle.script_grammar.specs.WellFormed.{IsWellFormed};
+ghost use Rattle.script_grammar.specs.Accepted.{kept_lines, SaysScript};
 
 use crate::kinds::ScriptKind;
 
@@ -22,4 +23,10 @@ pub fn tells_first_fault()
 pub fn reads_what_is_spelled()
     ensures spelled { (s : Script) → IsWellFormed s → script_of (script_text s) ≡ Ok s }
     ensures read { (bytes : List ℕ) (s : Script) → script_of bytes ≡ Ok s → IsWellFormed s }
+{}
+
+/// A text that is accepted is what the speller writes of its script, but for its skipped lines, the order of
+/// its header lines, and what it leaves out because it is the default.
+pub fn accepts_what_is_spelled()
+    ensures { (bytes : List ℕ) (s : Script) → script_of bytes ≡ Ok s → SaysScript s (kept_lines (lines_of bytes)) }
 {}

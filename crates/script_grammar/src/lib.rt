@@ -1,8 +1,8 @@
 //! The grammar of scripts: texts as plain values, and the first faulty line of those that are no scripts.
 //!
 //! Stands on `blk_base` and `order_model`. The call that matters is `read_script`. What it reads is
-//! `script_of` in `specs/Grammar.antt`; above that definition stand two laws, `tells_first_fault` and
-//! `reads_what_is_spelled`, in words of lines and of a small speller.
+//! `script_of` in `specs/Grammar.antt`; above that definition stand three laws, `tells_first_fault`,
+//! `reads_what_is_spelled` and `accepts_what_is_spelled`, in words of lines and of a small speller.
 #![tactic(auto)]
 
 mod grammar;
@@ -18,6 +18,6 @@ mod words;
 
 pub use grammar::read_script;
 pub use kinds::ScriptKind;
-pub use law::{reads_what_is_spelled, tells_first_fault};
+pub use law::{accepts_what_is_spelled, reads_what_is_spelled, tells_first_fault};
 pub use script::{CoreEvent, EventLine, EventWord, Events, Form, Header, RequestList, Script};
 pub use script_error::ScriptError;
