@@ -80,7 +80,8 @@ abbrev pub names_in : List ℕ → Result (List (List ℕ)) Reply
 names_in path = if_some (path_of path) replies.BadPath
 
 abbrev pub is_root : List (List ℕ) → Bool
-is_root names = length names == 0
+is_root [] = true
+is_root (name ∷ names) = false
 
 abbrev pub refused_walk : Refusal → Reply
 refused_walk not_directory = replies.NotDir

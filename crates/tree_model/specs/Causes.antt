@@ -105,6 +105,8 @@ pub data IsCause (room : Room) (tree : Tree) (n : ℕ) (c : Call) : Reply → Ty
   named : (names : List (List ℕ)) (d : Directory) (name : List ℕ) → NamesOf c names → IsInDirectory tree names d name → (birth : ℕ) → at_name d.names name ≡ Some birth → IsCause room tree n c replies.Exists
   -- a file is wanted
   no_file : (names : List (List ℕ)) → NamesOf c names → (birth : ℕ) (node : Node) → LeadsTo tree names birth node → ((f : File) → node ≢ nodes.File f) → IsCause room tree n c replies.IsDir
+  -- a node that is neither a directory nor a file has nothing to tell
+  other_kind : (names : List (List ℕ)) → NamesOf c names → (birth mode : ℕ) → LeadsTo tree names birth (nodes.Other mode) → IsCause room tree n c replies.NotFound
   -- the directory has names
   names_left : (names : List (List ℕ)) → NamesOf c names → (birth : ℕ) (d : Directory) → LeadsTo tree names birth (nodes.Directory d) → d.names ≢ [] → IsCause room tree n c replies.NotEmpty
   -- a directory has all its links

@@ -7,3 +7,4 @@ pub mod Rows
 pub mod Changes
 pub mod Blocks
 pub mod Causes
+pub mod Histories

@@ -110,12 +110,14 @@ rename_keeps tree d order r = subst (KeepsBlocks tree) (sym r.tree_is) (by (stay
   where
     m : Move
     m = r.move
+
     whole : KeepsBlocks tree (tree_moved tree r.move)
     whole =
         let taken = directory_keeps tree tree (keeps_itself tree order) r.move.from.parent _ in
         let lost = target_keeps tree (take_name tree r.move.from) taken r.move.target (λ t e. target_stands tree r.move.to t (sym r.target_is ∙ e)) in
         let given = directory_keeps tree (without_target (take_name tree r.move.from) r.move.target) lost (place_after r.move).parent _ in
         moved_keeps tree (give_name (without_target (take_name tree r.move.from) r.move.target) (place_after r.move) r.move.moved.birth) r.move.moved.birth r.move.to.parent r.move.moved.node r.is_found.stands given
+
     by : (b : Bool) → KeepsBlocks tree (if b then tree else tree_moved tree r.move)
     by true = keeps_itself tree order
     by false = whole
@@ -179,6 +181,7 @@ cut_in size (e ∷ es) index t = by (kept size e) refl (cut_in size es index t)
         cond b (Some (cut_body size e.0 e.1)) (at_number (cut_blocks size es) index) ≡ left_of size index (cond b (Some e.1) (at_number es index))
     here_or true k more = ap (λ i. Some (cut_body size i e.1)) (sym (number_same index e.0 k))
     here_or false k more = more
+
     by : (b : Bool) → kept size e ≡ b → at_number (cut_blocks size es) index ≡ left_of size index (at_number es index) →
         at_number (map (cut_entry size) (cond b (e ∷ filter (kept size) es) (filter (kept size) es))) index ≡ left_of size index (at_number (e ∷ es) index)
     by true k more = here_or (is_eq (nat_cmp index e.0)) refl more
@@ -207,6 +210,7 @@ cut_cases size blocks index h = by (at_number blocks index) refl
         (λ f. absurd (true≢false f))
         (and_cases (size / 1024 == index) true other))
         (and_cases (not (size % 1024 == 0)) _ none)))
+
     by_size : (body : List ℕ) → at_number blocks index ≡ Some body → (b : Bool) → nat_lt (1024 * index) size ≡ b →
         (at_number (cut_blocks size blocks) index ≡ None) ⊎ (at_number (cut_blocks size blocks) index ≡ Some body)
     by_size body e true low =
@@ -214,6 +218,7 @@ cut_cases size blocks index h = by (at_number blocks index) refl
         ∙ (ap (left_of size index) e
         ∙ ap Some (uncut body (subst (λ o. (not (size % 1024 == 0) && ((size / 1024 == index) && is_some o)) ≡ false) e h) low)))
     by_size body e false high = inl (cut_out size blocks index high)
+
     by : (o : Option (List ℕ)) → at_number blocks index ≡ o → (at_number (cut_blocks size blocks) index ≡ None) ⊎ (at_number (cut_blocks size blocks) index ≡ at_number blocks index)
     by None e =
         ⊎_elim
@@ -254,13 +259,13 @@ module _ (tree : Tree) (d : Done) (path : List ℕ) where
     kept = λ birth index no.
         at_put_cases (KeepsBlock tree birth index) tree p.found.birth (nodes.File (written_file p.file off bytes)) birth
         (λ e. let untouched : is_touched off (length bytes) index ≡ false =
-                  ⊎_elim
-                  (λ none. absurd (true≢false (sym (ap (leads_to tree path) e ∙ leads_by tree path p.found p.walked) ∙ none)))
-                  (λ none. ap (λ n. is_touched off n index) size ∙ none)
-                  (and_cases (leads_to tree path birth) (is_touched off len index) no)
-              in
-              inr (written_untouched off bytes (touched_blocks off (length bytes)) p.file.blocks index untouched
-                   ∙ sym (ap (λ o. block_in o index) (ap (at_number tree) e ∙ (p.is_found.stands ∙ ap Some p.node_is)))))
+        ⊎_elim
+        (λ none. absurd (true≢false (sym (ap (leads_to tree path) e ∙ leads_by tree path p.found p.walked) ∙ none)))
+        (λ none. ap (λ n. is_touched off n index) size ∙ none)
+        (and_cases (leads_to tree path birth) (is_touched off len index) no)
+        in
+        inr (written_untouched off bytes (touched_blocks off (length bytes)) p.file.blocks index untouched
+        ∙ sym (ap (λ o. block_in o index) (ap (at_number tree) e ∙ (p.is_found.stands ∙ ap Some p.node_is)))))
         (λ apart. inr refl);
     mapped = λ birth index yes.
         let parts = and_parts (leads_to tree path birth) (is_touched off len index) yes in
@@ -277,10 +282,10 @@ module _ (tree : Tree) (d : Done) (path : List ℕ) where
         (λ e.
         let is : block_at tree birth index ≡ at_number p.file.blocks index = ap (λ o. block_in o index) (ap (at_number tree) e ∙ (p.is_found.stands ∙ ap Some p.node_is)) in
         let rest : (not (size % 1024 == 0) && ((size / 1024 == index) && maps_block tree birth index)) ≡ false =
-            ⊎_elim
-            (λ none. absurd (true≢false (sym (ap (leads_to tree path) e ∙ leads_by tree path p.found p.walked) ∙ none)))
-            (λ none. none)
-            (and_cases (leads_to tree path birth) _ no)
+        ⊎_elim
+        (λ none. absurd (true≢false (sym (ap (leads_to tree path) e ∙ leads_by tree path p.found p.walked) ∙ none)))
+        (λ none. none)
+        (and_cases (leads_to tree path birth) _ no)
         in
         subst (λ o. (at_number (cut_blocks size p.file.blocks) index ≡ None) ⊎ (at_number (cut_blocks size p.file.blocks) index ≡ o)) (sym is)
         (cut_cases size p.file.blocks index (subst (λ o. (not (size % 1024 == 0) && ((size / 1024 == index) && is_some o)) ≡ false) is rest)))
@@ -304,7 +309,7 @@ keeps_only tree after wrote h none = record {
   mapped = λ birth index yes. absurd (true≢false (sym yes ∙ none birth index));
 }
 
-quiet_touches : (tree : Tree) (c : Call) (birth index : ℕ) → leaves_tree c ≡ true → touches tree c birth index ≡ false
+pub quiet_touches : (tree : Tree) (c : Call) (birth index : ℕ) → leaves_tree c ≡ true → touches tree c birth index ≡ false
 quiet_touches tree (calls.Mkdir path) birth index h = refl
 quiet_touches tree (calls.Rmdir path) birth index h = refl
 quiet_touches tree (calls.Create path) birth index h = refl
@@ -323,7 +328,7 @@ quiet_touches tree (calls.Fbarrier path) birth index h = refl
 quiet_touches tree (calls.Fdatabarrier path) birth index h = refl
 quiet_touches tree calls.Sync birth index h = refl
 
-change_writes : (tree : Tree) (n : ℕ) (c : Call) (d : Done) → InOrder tree → Change tree n d c → WritesOnly tree d.tree (touches tree c)
+pub change_writes : (tree : Tree) (n : ℕ) (c : Call) (d : Done) → InOrder tree → Change tree n d c → WritesOnly tree d.tree (touches tree c)
 change_writes tree n c d order (stayed quiet same) =
     subst (λ t. WritesOnly tree t (touches tree c)) (sym same) (keeps_only tree tree (touches tree c) (keeps_itself tree order) (λ birth index. quiet_touches tree c birth index quiet))
 change_writes tree n _ d order (made_directory parent h e g) =
