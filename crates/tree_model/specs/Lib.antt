@@ -9,4 +9,5 @@ pub mod Calls
 pub mod Examples
 pub mod Histories
 pub mod Causes
+pub mod Plain
 pub mod laws

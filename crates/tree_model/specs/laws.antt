@@ -8,3 +8,6 @@ pub mod Changes
 pub mod Blocks
 pub mod Causes
 pub mod Histories
+pub mod Hanging
+pub mod Plain
+pub mod Edits
