@@ -24,7 +24,7 @@ module _ {A : Type 0} (program : Reads A) (s : Session) (notes : s.notes ≡ [])
   no_log : (k i : ℕ) → IsLog s k i → ⊥
   no_log k i h = none-some k (ap (λ ns. option_and_then log_transaction (slice_get ns i)) (sym notes) ∙ h)
 
-  only_before : (k : ℕ) → IsSubmitted s k → k ≡ 0
+  pub only_before : (k : ℕ) → IsSubmitted s k → k ≡ 0
   only_before k (Before z) = z
   only_before k (Submitted c h) = absurd (no_note c (Commit k) h)
 

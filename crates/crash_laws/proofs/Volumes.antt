@@ -1,62 +1,29 @@
 -- The recovered volume's tree is alike to that of the last transaction found.
-use Rattle.std.specs.Prelude.{◌≡◌, ℕ, List, Option, Some, None, Ok}
-use Rattle.std.proofs.Common.{sym, subst, ◌∙◌}
+use Rattle.std.specs.Prelude.{◌≡◌, ℕ, List, [], Ok}
+use Rattle.std.proofs.Common.{sym, ap, subst, ◌∙◌, ⊎_elim}
 use Rattle.blk_base.specs.Members.{In}
+use Rattle.order_model.specs.declared.note.Note.TheVariants.{Commit}
 use Rattle.order_model.specs.Submission.{IsOrderClosed}
 use Rattle.minix_layout.specs.declared.division.Geometry.{Geometry}
 use Rattle.tree_model.specs.declared.node.Node.{Node}
-use Rattle.tree_model.specs.declared.node.Node.TheVariants as nodes
-use Rattle.tree_model.specs.Maps.{at_number}
-use Rattle.tree_model.specs.Trees.{AreAlike, SameMetadata, SameMetadataAt}
+use Rattle.tree_model.specs.Trees.{AreAlike}
+use Rattle.tree_model.specs.laws.Alike.{alike_chain}
 use Rattle.volume_ops.specs.Reads.{AgreeOn}
 use Rattle.volume_ops.specs.ReadsLaws.{blocks_read-agree}
 use Rattle.volume_ops.specs.Walk.{walk_volume}
 use Rattle.volume_ops.specs.Volume.{disk_of, metadata, tree_of}
 use Rattle.volume_ops.specs.AlikeLaws.{changed_alike}
+use Rattle.crash_laws.specs.Clauses.{CommitClause}
 use Rattle.crash_laws.specs.Found.{IsFound}
 use Rattle.crash_laws.specs.Recovery.{IsRecovered}
-use Rattle.crash_laws.specs.Rules.{OrderRules}
+use Rattle.crash_laws.specs.Rules.{CommitOrder, OrderRules}
 use Rattle.crash_laws.specs.Session.{Session, Medium, image_of}
-use Rattle.crash_laws.specs.Volumes.{HasTreesOf}
+use Rattle.crash_laws.specs.Submitting.{Submitting, after}
+use Rattle.crash_laws.specs.Volumes.{HasTreeOf, HasTreesOf}
+use Rattle.crash_laws.proofs.ImageSteps.{image_old, submitted_cases}
 use Rattle.crash_laws.proofs.Metadata.{found_submitted}
+use Rattle.crash_laws.proofs.Start.{only_before}
 use Rattle.crash_laws.proofs.Versions.{recovered_agrees}
-
--- ---- alike, and alike again
-
-same_metadata : (n m o : Node) → SameMetadata n m → SameMetadata m o → SameMetadata n o
-same_metadata (nodes.Directory a) (nodes.Directory b) (nodes.Directory c) h k = h ∙ k
-same_metadata (nodes.Directory a) (nodes.Directory b) (nodes.File c) h k = k
-same_metadata (nodes.Directory a) (nodes.Directory b) (nodes.Other c) h k = k
-same_metadata (nodes.Directory a) (nodes.File b) o h k = absurd h
-same_metadata (nodes.Directory a) (nodes.Other b) o h k = absurd h
-same_metadata (nodes.File a) (nodes.File b) (nodes.File c) h k = (h.0 ∙ k.0, h.1 ∙ k.1, h.2 ∙ k.2)
-same_metadata (nodes.File a) (nodes.File b) (nodes.Directory c) h k = k
-same_metadata (nodes.File a) (nodes.File b) (nodes.Other c) h k = k
-same_metadata (nodes.File a) (nodes.Directory b) o h k = absurd h
-same_metadata (nodes.File a) (nodes.Other b) o h k = absurd h
-same_metadata (nodes.Other a) (nodes.Other b) (nodes.Other c) h k = h ∙ k
-same_metadata (nodes.Other a) (nodes.Other b) (nodes.Directory c) h k = k
-same_metadata (nodes.Other a) (nodes.Other b) (nodes.File c) h k = k
-same_metadata (nodes.Other a) (nodes.Directory b) o h k = absurd h
-same_metadata (nodes.Other a) (nodes.File b) o h k = absurd h
-
-same_metadata_at : (n m o : Option Node) → SameMetadataAt n m → SameMetadataAt m o → SameMetadataAt n o
-same_metadata_at (Some n) (Some m) (Some o) h k = same_metadata n m o h k
-same_metadata_at (Some n) (Some m) None h k = k
-same_metadata_at (Some n) None o h k = absurd h
-same_metadata_at None m o h k = absurd h
-
-pub alike_again : (a b c : List (ℕ × Node)) → AreAlike a b → AreAlike b c → AreAlike a c
-alike_again a b c h k = record {
-  to = λ birth. k.to (h.to birth);
-  same_paths = λ names birth p. k.same_paths names (h.to birth) (h.same_paths names birth p);
-  no_more_paths = λ names p. h.no_more_paths names (k.no_more_paths names p);
-  same_metadata = λ names birth p.
-      same_metadata_at (at_number a birth) (at_number b (h.to birth)) (at_number c (k.to (h.to birth)))
-      (h.same_metadata names birth p) (k.same_metadata names (h.to birth) (h.same_paths names birth p));
-  one_node = λ names more x y p q e.
-      h.one_node names more x y p q (k.one_node names more (h.to x) (h.to y) (h.same_paths names x p) (h.same_paths more y q) e);
-}
 
 -- ---- the recovered volume
 
@@ -65,10 +32,32 @@ pub prefix_of_transactions : (g : Geometry) (s : Session) (m : Medium) (F : ℕ)
     → IsOrderClosed s.base s.requests m.image m.origins → IsFound s m F → IsRecovered s m (disk_of recovered)
     → (tree : List (ℕ × Node)) × (tree_of g recovered ≡ Ok tree) × AreAlike (tree_after F) tree
 prefix_of_transactions g s m F tree_after blocks rules trees closed is_found recovers =
-    let sub = found_submitted rules closed is_found in
-    let image = trees.image F sub in
-    let same_reads = blocks_read-agree (image_of s F) (disk_of image) (walk_volume g) (λ b i. trees.blocks F sub b) in
-    let agree : AgreeOn (metadata g image) (disk_of image) (disk_of blocks) =
-    λ b i. recovered_agrees rules closed is_found recovers b (subst (In b) same_reads i) ∙ sym (trees.blocks F sub b) in
-    let changed = changed_alike g image blocks (trees.tree F sub) agree (trees.found F sub) in
-    (changed.0, changed.1, alike_again (tree_after F) (trees.tree F sub) changed.0 (trees.alike F sub) changed.2)
+    let of = trees F (found_submitted rules closed is_found) in
+    let same_reads = blocks_read-agree (image_of s F) (disk_of of.image) (walk_volume g) (λ b i. of.blocks b) in
+    let agree : AgreeOn (metadata g of.image) (disk_of of.image) (disk_of blocks) =
+    λ b i. recovered_agrees rules closed is_found recovers b (subst (In b) same_reads i) ∙ sym (of.blocks b) in
+    let changed = changed_alike g of.image blocks of.tree agree of.found in
+    (changed.0, changed.1, alike_chain (tree_after F) of.tree changed.0 of.alike changed.2)
+
+-- ---- the trees of the images, request by request
+
+pub trees_at_start : (g : Geometry) (s : Session) (tree_after : ℕ → List (ℕ × Node)) → s.notes ≡ [] → HasTreeOf g s 0 (tree_after 0) → HasTreesOf g s tree_after
+trees_at_start g s tree_after notes opened k sub = subst (λ n. HasTreeOf g s n (tree_after n)) (sym (only_before (walk_volume g) s notes k sub)) opened
+
+tree_old : (g : Geometry) (p : Submitting) (k : ℕ) (after_k : List (ℕ × Node)) → image_of (after p) k ≡ image_of p.session k → HasTreeOf g p.session k after_k → HasTreeOf g (after p) k after_k
+tree_old g p k after_k same old = record {
+  image = old.image;
+  blocks = λ b. old.blocks b ∙ sym (ap (λ image. image b) same);
+  tree = old.tree;
+  found = old.found;
+  alike = old.alike;
+}
+
+-- A commit block owes the tree of its transaction's image.
+pub trees_step : (g : Geometry) (p : Submitting) (tree_after : ℕ → List (ℕ × Node)) → CommitOrder p.session → CommitClause p.session p.request p.note
+    → ((k : ℕ) → p.note ≡ Commit k → HasTreeOf g (after p) k (tree_after k)) → HasTreesOf g p.session tree_after → HasTreesOf g (after p) tree_after
+trees_step g p tree_after order clause new old k sub =
+    ⊎_elim
+    (λ before. tree_old g p k (tree_after k) (image_old (walk_volume g) p order clause k before) (old k before))
+    (λ note. new k note)
+    (submitted_cases (walk_volume g) p order clause k sub)

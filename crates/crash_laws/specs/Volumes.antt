@@ -21,10 +21,14 @@ pub record IsCutOf (g : Geometry) (s : Session) (m : Medium) : Type 0 where
   pub rules : OrderRules (walk_volume g) s
   pub closed : IsOrderClosed s.base s.requests m.image m.origins
 
--- the image of each submitted transaction, as blocks, has a tree that is alike to that of its cut
-pub record HasTreesOf (g : Geometry) (s : Session) (tree_after : ℕ → List (ℕ × Node)) : Type 0 where
-  pub image : (k : ℕ) → IsSubmitted s k → List (List ℕ)
-  pub blocks : (k : ℕ) (h : IsSubmitted s k) (b : ℕ) → disk_of (image k h) b ≡ image_of s k b
-  pub tree : (k : ℕ) → IsSubmitted s k → List (ℕ × Node)
-  pub found : (k : ℕ) (h : IsSubmitted s k) → tree_of g (image k h) ≡ Ok (tree k h)
-  pub alike : (k : ℕ) (h : IsSubmitted s k) → AreAlike (tree_after k) (tree k h)
+-- the image of transaction k, as blocks, has a tree that is alike to this one
+pub record HasTreeOf (g : Geometry) (s : Session) (k : ℕ) (after : List (ℕ × Node)) : Type 0 where
+  pub image : List (List ℕ)
+  pub blocks : (b : ℕ) → disk_of image b ≡ image_of s k b
+  pub tree : List (ℕ × Node)
+  pub found : tree_of g image ≡ Ok tree
+  pub alike : AreAlike after tree
+
+-- the image of each submitted transaction has the tree that the calls left at its cut
+abbrev pub HasTreesOf : Geometry → Session → (ℕ → List (ℕ × Node)) → Type 0
+HasTreesOf g s tree_after = (k : ℕ) → IsSubmitted s k → HasTreeOf g s k (tree_after k)
