@@ -214,3 +214,10 @@ pub changed_births : (g : Geometry) (blocks other : List (List ℕ)) (tree : Lis
 changed_births g blocks other tree agree r =
     let x = changed_of g blocks other tree agree r in
     (x.0, x.1, λ birth. same_or_none blocks other (at_number tree birth) (at_number x.0 birth) (x.2 birth))
+
+-- both of one tree
+pub changed_all : (g : Geometry) (blocks other : List (List ℕ)) (tree : List (ℕ × Node)) → AgreeOn (metadata g blocks) (disk_of blocks) (disk_of other) →
+    tree_of g blocks ≡ Ok tree → (changed : List (ℕ × Node)) × (tree_of g other ≡ Ok changed) × AreAlike tree changed × ((birth : ℕ) → SameMetadataAtOrNone (at_number tree birth) (at_number changed birth))
+changed_all g blocks other tree agree r =
+    let x = changed_of g blocks other tree agree r in
+    (x.0, x.1, alike blocks other tree x.0 x.2 g (tree_of-fields g blocks tree r), λ birth. same_or_none blocks other (at_number tree birth) (at_number x.0 birth) (x.2 birth))

@@ -29,3 +29,4 @@ pub mod FirstFault
 pub mod Defects
 pub mod laws
 pub mod VolumeTrees
+pub mod Metadata

@@ -4,3 +4,6 @@ pub mod SoFar
 pub mod VisitTests
 pub mod WalkTests
 pub mod TreeUnique
+pub mod MetadataReads
+pub mod BlockPlaces
+pub mod SameWalks

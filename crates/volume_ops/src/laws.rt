@@ -1,7 +1,11 @@
-ghost use Rattle.std.specs.Prelude.{◌≡◌, ℕ, ◌<◌, ◌↔◌, true, List, Some, Ok, Err};
+ghost use Rattle.std.specs.Prelude.{◌≡◌, ℕ, ◌<◌, ◌≤◌, ◌↔◌, true, List, Some, option_map, Ok, Err};
+ghost use Rattle.blk_base.specs.Members.{In};
 ghost use Rattle.minix_layout.specs.declared.division.Geometry.{Geometry};
+ghost use Rattle.minix_layout.specs.Geometry.{IsSound};
 ghost use Rattle.minix_layout.specs.declared.fault.LayoutFault.{LayoutFault};
+ghost use Rattle.tree_model.specs.declared.node.File.{File};
 ghost use Rattle.tree_model.specs.declared.node.Node.{Node};
+ghost use Rattle.tree_model.specs.declared.node.Node.TheVariants as nodes;
 ghost use Rattle.tree_model.specs.Listing.{IsRooted};
 ghost use Rattle.tree_model.specs.Maps.{at_number};
 ghost use Rattle.tree_model.specs.Trees.{AreAlike};
@@ -13,6 +17,7 @@ ghost use Rattle.volume_ops.specs.Defects.{IsDefect};
 ghost use Rattle.volume_ops.specs.Faultless.{IsFaultless, IsUsed};
 ghost use Rattle.volume_ops.specs.FirstFault.{IsFirstFault};
 ghost use Rattle.volume_ops.specs.Marks.{is_marked};
+ghost use Rattle.volume_ops.specs.Metadata.{IsMetadata, AgreeOnMetadata, zone_of_block};
 ghost use Rattle.volume_ops.specs.VolumeTrees.{IsVolumeTree};
 ghost use Rattle.volume_ops.specs.Walk.{Walked};
 
@@ -80,4 +85,41 @@ pub fn volumes_have_one_tree()
         0 < g.inodes → IsVolumeTree g blocks tree → tree_of g blocks ≡ Ok tree }
     ensures one { (g : Geometry) (blocks : List (List ℕ)) (tree other : List (ℕ × Node)) →
         IsVolumeTree g blocks tree → IsVolumeTree g blocks other → tree ≡ other }
+{}
+
+/// A law, which does nothing when it is called: each block of a file that is no hole has a zone of data of its own,
+/// outside the metadata, whose bytes are the block's.
+pub fn file_blocks_have_zones()
+    ensures bytes { (g : Geometry) (blocks : List (List ℕ)) (tree : List (ℕ × Node)) → IsVolumeTree g blocks tree →
+        (birth index : ℕ) (f : File) → at_number tree birth ≡ Some (nodes.File f) →
+        at_number f.blocks index ≡ option_map (disk_of blocks) (zone_of_block g blocks birth index) }
+    ensures within { (g : Geometry) (blocks : List (List ℕ)) (tree : List (ℕ × Node)) → IsVolumeTree g blocks tree →
+        (birth index zone : ℕ) (f : File) → at_number tree birth ≡ Some (nodes.File f) →
+        zone_of_block g blocks birth index ≡ Some zone → (g.first ≤ zone) × (zone < g.zones) }
+    ensures one_place { (g : Geometry) (blocks : List (List ℕ)) (tree : List (ℕ × Node)) → IsVolumeTree g blocks tree →
+        (birth index other at zone : ℕ) (f more : File) → at_number tree birth ≡ Some (nodes.File f) → at_number tree other ≡ Some (nodes.File more) →
+        zone_of_block g blocks birth index ≡ Some zone → zone_of_block g blocks other at ≡ Some zone → (birth ≡ other) × (index ≡ at) }
+    ensures outside { (g : Geometry) (blocks : List (List ℕ)) (tree : List (ℕ × Node)) → IsVolumeTree g blocks tree → IsSound g →
+        (birth index zone : ℕ) (f : File) → at_number tree birth ≡ Some (nodes.File f) →
+        zone_of_block g blocks birth index ≡ Some zone → IsMetadata g blocks zone → ⊥ }
+    ensures kept { (g : Geometry) (blocks other : List (List ℕ)) → 0 < g.inodes → AgreeOnMetadata g blocks other →
+        (tree : List (ℕ × Node)) → IsVolumeTree g blocks tree →
+        (birth index : ℕ) (f : File) → at_number tree birth ≡ Some (nodes.File f) →
+        zone_of_block g other birth index ≡ zone_of_block g blocks birth index }
+{}
+
+/// A law, which does nothing when it is called: the walk reads metadata alone, so volumes with the same metadata
+/// have trees that are alike, with the same metadata at each birth; and which blocks the metadata are is said by
+/// the metadata.
+pub fn metadata_gives_trees()
+    ensures read { (g : Geometry) (blocks : List (List ℕ)) → 0 < g.inodes →
+        (block : ℕ) → In block (metadata g blocks) → IsMetadata g blocks block }
+    ensures walk { (g : Geometry) (blocks other : List (List ℕ)) → 0 < g.inodes → AgreeOnMetadata g blocks other →
+        walked g other ≡ walked g blocks }
+    ensures alike { (g : Geometry) (blocks other : List (List ℕ)) (tree : List (ℕ × Node)) → 0 < g.inodes → AgreeOnMetadata g blocks other →
+        tree_of g blocks ≡ Ok tree →
+        (changed : List (ℕ × Node)) × (tree_of g other ≡ Ok changed) × AreAlike tree changed ×
+        ((birth : ℕ) → SameMetadataAtOrNone (at_number tree birth) (at_number changed birth)) }
+    ensures stays { (g : Geometry) (blocks other : List (List ℕ)) → 0 < g.inodes → AgreeOnMetadata g blocks other → IsFaultless g blocks →
+        (block : ℕ) → IsMetadata g other block ↔ IsMetadata g blocks block }
 {}

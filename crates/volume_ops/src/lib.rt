@@ -27,7 +27,8 @@ mod zones;
 pub use fault::VolumeFault;
 pub use found::{Found, FoundFile, FoundNode, Mapped, MappedZones};
 pub use laws::{
-    faults_are_first_defects, same_metadata_gives_alike_trees, trees_are_rooted, trees_have_fields,
-    volumes_have_one_tree, walks_end_well_without_fault, walks_read_metadata_alone,
+    faults_are_first_defects, file_blocks_have_zones, metadata_gives_trees,
+    same_metadata_gives_alike_trees, trees_are_rooted, trees_have_fields, volumes_have_one_tree,
+    walks_end_well_without_fault, walks_read_metadata_alone,
 };
 pub use volume::Volume;

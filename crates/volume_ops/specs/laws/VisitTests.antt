@@ -98,7 +98,7 @@ length-nine : (bytes : List ℕ) → length (zones_of bytes) ≡ 9
 unfolding zones_of
 length-nine bytes = length-map-range_with_len (zone_of bytes) 0 9
 
-nine : (g : Geometry) (blocks : List (List ℕ)) (n : ℕ) → length (inode_at g blocks n).zones ≡ 9
+pub nine : (g : Geometry) (blocks : List (List ℕ)) (n : ℕ) → length (inode_at g blocks n).zones ≡ 9
 nine g blocks n = length-nine (record_at 32 ((n - 1) % 32) (disk_of blocks (table_block g n)))
 
 used_by : (hole : Bool) (bytes : List ℕ) (slot : Slot) → ◌≡◌ {A = Result (Option Slot) LayoutFault} (if hole then Ok None else slot_of bytes) (Ok (Some slot)) → 0 < slot.inode
@@ -106,7 +106,7 @@ used_by true bytes slot h = absurd (none-some slot (same_Ok None (Some slot) h))
 used_by false bytes slot h = slot_of-used bytes slot h
 
 -- a slot that names has the number of an inode
-slot_used : (blocks : List (List ℕ)) (i : Inode) (p : ℕ) (slot : Slot) → IsEntryAt blocks i p slot → 0 < slot.inode
+pub slot_used : (blocks : List (List ℕ)) (i : Inode) (p : ℕ) (slot : Slot) → IsEntryAt blocks i p slot → 0 < slot.inode
 slot_used blocks i p slot e =
     used_by (zone_behind blocks i (p / 64) == 0) (record_at 16 (p % 64) (disk_of blocks (zone_behind blocks i (p / 64)))) slot e.stands
 

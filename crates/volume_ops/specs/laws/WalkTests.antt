@@ -34,7 +34,7 @@ abbrev pub Ends : Geometry → List (List ℕ) → Result Walked Fault → Type 
 Ends g blocks (Ok all) = EndsWell g blocks all
 Ends g blocks (Err fault) = IsFirstFault g blocks fault.0 fault.1 × IsDefect g blocks fault.0 fault.1
 
-numbers_append : (xs ys : List Pending) → numbers_of (xs ++ ys) ≡ numbers_of xs ++ numbers_of ys
+pub numbers_append : (xs ys : List Pending) → numbers_of (xs ++ ys) ≡ numbers_of xs ++ numbers_of ys
 numbers_append [] ys = refl
 numbers_append (x ∷ xs) ys = ap (λ ks. x.inode ∷ ks) (numbers_append xs ys)
 
@@ -43,7 +43,7 @@ module _ (g : Geometry) (blocks : List (List ℕ)) where
   disk = disk_of blocks
 
   -- an inode that was met is passed over
-  passed : (met ahead : List ℕ) (n : ℕ) (w : WalkState) → IsSoFar g blocks met (n ∷ ahead) w → In n met → IsSoFar g blocks met ahead w
+  pub passed : (met ahead : List ℕ) (n : ℕ) (w : WalkState) → IsSoFar g blocks met (n ∷ ahead) w → In n met → IsSoFar g blocks met ahead w
   passed met ahead n w h was = record {
     order = again was h.order;
     faultless = h.faultless;
@@ -162,7 +162,7 @@ module _ (g : Geometry) (blocks : List (List ℕ)) where
     root_unnamed = λ k place slot i. absurd i;
   }
 
-  starts : 0 < g.inodes → IsSoFar g blocks [] (numbers_of (root ∷ [])) (at_start g)
+  pub starts : 0 < g.inodes → IsSoFar g blocks [] (numbers_of (root ∷ [])) (at_start g)
   starts some = record {
     order = met_none;
     faultless = none_met;
