@@ -7,7 +7,7 @@ use Rattle.minix_layout.specs.declared.fault.LayoutFault.{LayoutFault}
 use Rattle.minix_layout.specs.declared.fault.LayoutFault.TheVariants as layout
 use Rattle.minix_layout.specs.Super.{super_of}
 use Rattle.tree_model.specs.declared.node.Node.{Node}
-use Rattle.volume_ops.specs.declared.found.FoundNode.{FoundNode}
+use Rattle.volume_ops.specs.Walk.{Walked}
 use Rattle.volume_ops.specs.Zones.{Fault}
 use Rattle.volume_ops.specs.Volume.{VolumeState, disk_of, walked, tree_of}
 use Rattle.volume_ops.specs.declared.fault.VolumeFault.{VolumeFault}
@@ -59,7 +59,7 @@ divided blocks =
     else by_super blocks (super_of (disk_of blocks 1))
 
 -- then comes the walk through the volume
-abbrev pub by_walk : Geometry → List (List ℕ) → Result (List FoundNode) Fault → Result VolumeState Told
+abbrev pub by_walk : Geometry → List (List ℕ) → Result Walked Fault → Result VolumeState Told
 by_walk g volume (Ok found) = Ok (record { geometry = g; blocks = volume })
 by_walk g volume (Err fault) = Err (image_fault fault.0, fault.1)
 

@@ -1,2 +1,4 @@
 pub mod Images
 pub mod Reading
+pub mod ImageTrees
+pub mod laws

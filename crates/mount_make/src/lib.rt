@@ -8,9 +8,11 @@
 
 mod fault;
 mod journal;
+mod laws;
 mod mounting;
 #[cfg(test)]
 mod tests;
 
 pub use fault::{ImageFault, MountFault};
+pub use laws::{image_faults_are_first_defects, image_metadata_gives_trees, images_have_one_tree};
 pub use mounting::{Mounted, mount};

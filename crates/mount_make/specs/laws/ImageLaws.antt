@@ -1,0 +1,175 @@
+-- The tree of an image: from both sides, by its metadata, and its faults.
+use Rattle.std.specs.Prelude.{◌≡◌, ℕ, ◌+◌, ◌<◌, ◌≤◌, ◌==◌, ◌↔◌, Bool, true, false, not, ◌&&◌, nat_lt, if◌then◌else◌, List, [], take, length, slice_index_or, Result, Ok, Err, refl}
+use Rattle.std.proofs.Common.{sym, ap, subst, ◌∙◌, inl, inr, ⊎_elim, arith}
+use Rattle.std.proofs.lemmas.Bool.{cases_lt, and_parts, ltb-true}
+use Rattle.std.proofs.lemmas.List.{get_or-take, get_or_past, length-take}
+use Rattle.blk_base.specs.Block.{filled}
+use Rattle.minix_layout.specs.declared.division.Geometry.{Geometry}
+use Rattle.minix_layout.specs.declared.fault.LayoutFault.{LayoutFault}
+use Rattle.minix_layout.specs.declared.fault.LayoutFault.TheVariants.{BadMagic, NameWidth, BadGeometry}
+use Rattle.minix_layout.specs.Geometry.{is_consistent}
+use Rattle.minix_layout.specs.Super.{super_of, magic_of, is_divided, geometry_of}
+use Rattle.byte_fields.specs.Fields.{number_at}
+use Rattle.byte_fields.specs.Fields.Order.{little}
+use Rattle.tree_model.specs.declared.node.Node.{Node}
+use Rattle.tree_model.specs.Maps.{at_number}
+use Rattle.tree_model.specs.Trees.{AreAlike}
+use Rattle.volume_ops.specs.ReadsLaws.{err-ok, same_Ok}
+use Rattle.volume_ops.specs.Walk.{Walked}
+use Rattle.volume_ops.specs.Zones.{Fault}
+use Rattle.volume_ops.specs.Volume.{VolumeState, disk_of, walked, put_nodes, tree_found, tree_of}
+use Rattle.volume_ops.specs.Alike.{SameMetadataAtOrNone}
+use Rattle.volume_ops.specs.Defects.{IsDefect}
+use Rattle.volume_ops.specs.FirstFault.{IsFirstFault}
+use Rattle.volume_ops.specs.Metadata.{IsMetadata, of_volume, AgreeOnMetadata}
+use Rattle.volume_ops.specs.VolumeTrees.{IsVolumeTree}
+use Rattle.volume_ops.specs.laws.WalkTests.{walked_first}
+use Rattle.volume_ops.specs.laws.TreeUnique.{walked_tree, tree_walked, one_tree}
+use Rattle.volume_ops.specs.laws.SameWalks.{same_trees}
+use Rattle.mount_make.specs.declared.fault.ImageFault.{ImageFault}
+use Rattle.mount_make.specs.declared.fault.ImageFault.TheVariants as image
+use Rattle.mount_make.specs.Images.{Told, image_fault, is_journal, has_journal, without_journal, whole_volume, by_super, divided, by_walk, by_geometry, mounted, tree_after, image_tree}
+use Rattle.mount_make.specs.ImageTrees.{volume_in, IsImageTree, IsImageMetadata, in_volume, behind, AgreeOnImage}
+
+-- ---- an image that is divided has an inode
+
+whole_is : (blocks : List (List ℕ)) (h g : Geometry) → whole_volume blocks h ≡ Ok g → h ≡ g
+whole_is blocks h g e = by (nat_lt (length blocks) h.zones) (has_journal h blocks) e
+  where
+    by : (short journal : Bool) → ◌≡◌ {A = Result Geometry Told} (if short then Err (image.BadGeometry, length blocks) else (if journal then Err (image.NotBuilt, h.zones) else Ok h)) (Ok g) → h ≡ g
+    by true journal e = absurd (err-ok _ g e)
+    by false true e = absurd (err-ok _ g e)
+    by false false e = same_Ok h g e
+
+super_by : (blocks : List (List ℕ)) (g : Geometry) (r : Result Geometry LayoutFault) → by_super blocks r ≡ Ok g → r ≡ Ok g
+super_by blocks g (Ok h) e = ap Ok (whole_is blocks h g e)
+super_by blocks g (Err fault) e = absurd (err-ok _ g e)
+
+divided_super : (blocks : List (List ℕ)) (g : Geometry) → divided blocks ≡ Ok g → (nat_lt (length blocks) 2 ≡ false) × (by_super blocks (super_of (disk_of blocks 1)) ≡ Ok g)
+unfolding divided
+divided_super blocks g e = by (nat_lt (length blocks) 2) refl e
+  where
+    by : (short : Bool) → nat_lt (length blocks) 2 ≡ short → ◌≡◌ {A = Result Geometry Told} (if short then Err (image.BadGeometry, length blocks) else by_super blocks (super_of (disk_of blocks 1))) (Ok g) →
+        (nat_lt (length blocks) 2 ≡ false) × (by_super blocks (super_of (disk_of blocks 1)) ≡ Ok g)
+    by true is e = absurd (err-ok _ g e)
+    by false is e = (is, e)
+
+some_inode_by : (b : List ℕ) (g : Geometry) (wide magic fine : Bool) → is_divided b ≡ fine →
+    ◌≡◌ {A = Result Geometry LayoutFault} (if wide then Err NameWidth else if not magic then Err BadMagic else if not fine then Err BadGeometry else Ok (geometry_of b)) (Ok g) → 0 < g.inodes
+some_inode_by b g true magic fine is e = absurd (err-ok _ g e)
+some_inode_by b g false false fine is e = absurd (err-ok _ g e)
+some_inode_by b g false true false is e = absurd (err-ok _ g e)
+some_inode_by b g false true true is e =
+    let good = (and_parts (number_at little 2 10 b == 0) (is_consistent (geometry_of b)) is).1 in
+    let some = (and_parts (nat_lt 0 (geometry_of b).inodes) _ good).0 in
+    subst (λ (g : Geometry). 0 < g.inodes) (same_Ok (geometry_of b) g e) (ltb-true 0 (geometry_of b).inodes some)
+
+some_inode_of : (b : List ℕ) (g : Geometry) → super_of b ≡ Ok g → 0 < g.inodes
+unfolding super_of
+some_inode_of b g e = some_inode_by b g (magic_of b == 0x138F) (magic_of b == 0x137F) (is_divided b) refl e
+
+pub some_inode : (blocks : List (List ℕ)) (g : Geometry) → divided blocks ≡ Ok g → 0 < g.inodes
+some_inode blocks g e = some_inode_of (disk_of blocks 1) g (super_by blocks g (super_of (disk_of blocks 1)) (divided_super blocks g e).1)
+
+-- ---- the tree of an image is that of its volume
+
+abbrev tree_by : Geometry → List (List ℕ) → Result Walked Fault → Result (List (ℕ × Node)) Told
+tree_by g volume r = tree_after (by_walk g volume r)
+
+-- a tree, or a fault of the walk as one of its image
+abbrev told_tree : Result (List (ℕ × Node)) Fault → Result (List (ℕ × Node)) Told
+told_tree r = elim r as (λ _. Result (List (ℕ × Node)) Told) [ Ok tree ↦ Ok tree | Err fault ↦ Err (image_fault fault.0, fault.1) ]
+
+tree_there : (g : Geometry) (volume : List (List ℕ)) (tree : List (ℕ × Node)) (r : Result Walked Fault) → walked g volume ≡ r → tree_by g volume r ≡ Ok tree → tree_of g volume ≡ Ok tree
+tree_there g volume tree (Ok all) is e =
+    let found : tree_of g volume ≡ Ok (put_nodes volume all.nodes []) = ap (tree_found volume) is in
+    found ∙ ap Ok (same_Ok (put_nodes volume all.nodes []) tree (sym (ap told_tree found) ∙ e))
+tree_there g volume tree (Err fault) is e = absurd (err-ok _ tree e)
+
+tree_back : (g : Geometry) (volume : List (List ℕ)) (tree : List (ℕ × Node)) (r : Result Walked Fault) → walked g volume ≡ r → tree_of g volume ≡ Ok tree → tree_by g volume r ≡ Ok tree
+tree_back g volume tree (Ok all) is e = ap told_tree e
+tree_back g volume tree (Err fault) is e = absurd (err-ok fault tree (sym (ap (tree_found volume) is) ∙ e))
+
+image_by : (blocks : List (List ℕ)) (tree : List (ℕ × Node)) (r : Result Geometry Told) → divided blocks ≡ r → tree_after (by_geometry blocks r) ≡ Ok tree →
+    (g : Geometry) × (divided blocks ≡ Ok g) × (tree_of g (volume_in g blocks) ≡ Ok tree)
+image_by blocks tree (Ok g) is e = (g, is, tree_there g (volume_in g blocks) tree (walked g (volume_in g blocks)) refl e)
+image_by blocks tree (Err told) is e = absurd (err-ok _ tree e)
+
+image_of : (blocks : List (List ℕ)) (tree : List (ℕ × Node)) (g : Geometry) → divided blocks ≡ Ok g → tree_of g (volume_in g blocks) ≡ Ok tree → image_tree blocks ≡ Ok tree
+image_of blocks tree g is e = ap (λ r. tree_after (by_geometry blocks r)) is ∙ tree_back g (volume_in g blocks) tree (walked g (volume_in g blocks)) refl e
+
+-- the tree of an image, both ways
+pub image_has_tree : (blocks : List (List ℕ)) (tree : List (ℕ × Node)) → (image_tree blocks ≡ Ok tree) ↔ IsImageTree blocks tree
+image_has_tree blocks tree = (
+  λ e.
+      let x = image_by blocks tree (divided blocks) refl e in
+      record { geometry = x.0; is_divided = x.1; tree_is = walked_tree x.0 (volume_in x.0 blocks) tree (some_inode blocks x.0 x.1) x.2 },
+  λ h. image_of blocks tree h.geometry h.is_divided (tree_walked h.geometry (volume_in h.geometry blocks) tree (some_inode blocks h.geometry h.is_divided) h.tree_is),
+)
+
+pub one_image_tree : (blocks : List (List ℕ)) (tree other : List (ℕ × Node)) → IsImageTree blocks tree → IsImageTree blocks other → tree ≡ other
+one_image_tree blocks tree other h k =
+    let same : h.geometry ≡ k.geometry = same_Ok h.geometry k.geometry (sym h.is_divided ∙ k.is_divided) in
+    one_tree k.geometry (volume_in k.geometry blocks) tree other (subst (λ g. IsVolumeTree g (volume_in g blocks) tree) same h.tree_is) k.tree_is
+
+-- ---- images with the same metadata
+
+block_below : (blocks : List (List ℕ)) (n b : ℕ) → b < n → disk_of (take n blocks) b ≡ disk_of blocks b
+block_below blocks n b low = get_or-take n blocks b (filled 0) low
+
+block_past : (blocks : List (List ℕ)) (n b : ℕ) → n ≤ b → disk_of (take n blocks) b ≡ filled 0
+block_past blocks n b high = get_or_past (take n blocks) b (filled 0) (let few = length-take n blocks in omega arith)
+
+module _ (g : Geometry) (blocks other : List (List ℕ)) (size : length other ≡ length blocks) (same : AgreeOnImage g blocks other) (is : divided blocks ≡ Ok g) where
+  same_volume : AgreeOnMetadata g (volume_in g blocks) (volume_in g other)
+  same_volume b m =
+      ⊎_elim
+      (λ low. block_below other g.zones b low ∙ (same b (in_volume m) ∙ sym (block_below blocks g.zones b low)))
+      (λ high. block_past other g.zones b high ∙ sym (block_past blocks g.zones b high))
+      (cases_lt b g.zones)
+
+  same_super : disk_of other 1 ≡ disk_of blocks 1
+  same_super = same 1 (in_volume (of_volume (omega arith) (omega arith)))
+
+  same_whole : whole_volume other g ≡ whole_volume blocks g
+  same_whole = rw (size, same g.zones (behind refl)) refl
+
+  same_by : (r : Result Geometry LayoutFault) → by_super blocks r ≡ Ok g → by_super other r ≡ Ok g
+  same_by (Ok h) e =
+      let one : h ≡ g = whole_is blocks h g e in
+      subst (λ h. whole_volume blocks h ≡ Ok g → whole_volume other h ≡ Ok g) (sym one) (λ e. same_whole ∙ e) e
+  same_by (Err fault) e = absurd (err-ok _ g e)
+
+  same_divided : divided other ≡ Ok g
+  unfolding divided
+  same_divided =
+      let d = divided_super blocks g is in
+      let long : nat_lt (length other) 2 ≡ false = subst (λ n. nat_lt n 2 ≡ false) (sym size) d.0 in
+      rw (long, same_super) (same_by (super_of (disk_of blocks 1)) d.1)
+
+  -- they have trees that are alike
+  pub same_image_trees : (tree : List (ℕ × Node)) → image_tree blocks ≡ Ok tree →
+      (changed : List (ℕ × Node)) × (image_tree other ≡ Ok changed) × AreAlike tree changed × ((birth : ℕ) → SameMetadataAtOrNone (at_number tree birth) (at_number changed birth))
+  same_image_trees tree e =
+      let x = image_by blocks tree (divided blocks) refl e in
+      let one : x.0 ≡ g = same_Ok x.0 g (sym x.1 ∙ is) in
+      let here : tree_of g (volume_in g blocks) ≡ Ok tree = subst (λ g. tree_of g (volume_in g blocks) ≡ Ok tree) one x.2 in
+      let y = same_trees g (volume_in g blocks) (volume_in g other) tree (some_inode blocks g is) same_volume here in
+      (y.0, image_of other y.0 g same_divided y.1, y.2, y.3)
+
+-- ---- faults of the walk
+
+walk_fault_by : (g : Geometry) (volume : List (List ℕ)) (fault : ImageFault) (block : ℕ) (r : Result Walked Fault) → walked g volume ≡ r → by_walk g volume r ≡ Err (fault, block) →
+    (kind : LayoutFault) × (image_fault kind ≡ fault) × (walked g volume ≡ Err (kind, block))
+walk_fault_by g volume fault block (Ok all) is e = absurd (err-ok (fault, block) _ (sym e))
+walk_fault_by g volume fault block (Err told) is e =
+    let same : ◌≡◌ {A = Told} (image_fault told.0, told.1) (fault, block) = cc in
+    (told.0, ap (λ (t : Told). t.0) same, is ∙ ap (λ block. Err (told.0, block)) (ap (λ (t : Told). t.1) same))
+
+-- a fault that is told behind the superblock is the first of the volume, and a defect
+pub image_first : (blocks : List (List ℕ)) (g : Geometry) (fault : ImageFault) (block : ℕ) → divided blocks ≡ Ok g → mounted blocks ≡ Err (fault, block) →
+    (kind : LayoutFault) × (image_fault kind ≡ fault) × IsDefect g (volume_in g blocks) kind block × IsFirstFault g (volume_in g blocks) kind block
+image_first blocks g fault block is e =
+    let x = walk_fault_by g (volume_in g blocks) fault block (walked g (volume_in g blocks)) refl (sym (ap (by_geometry blocks) is) ∙ e) in
+    let y = walked_first g (volume_in g blocks) x.0 block (some_inode blocks g is) x.2 in
+    (x.0, x.1, y.1, y.0)
