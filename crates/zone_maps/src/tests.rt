@@ -1,3 +1,4 @@
+//! Tests of the map of zones.
 use super::*;
 use minix_layout::Geometry;
 
