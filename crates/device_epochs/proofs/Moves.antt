@@ -14,22 +14,25 @@ use Rattle.order_model.specs.declared.history.DeviceRecord.{DeviceRecord}
 use Rattle.order_model.specs.declared.completion.Completion.TheVariants.{Moved, Flushed, Failed, Cut}
 use Rattle.order_model.specs.Device.{is_ordered, IsQuiet}
 use Rattle.device_epochs.specs.KeptLaws.{quiet_is_empty, empty_is_quiet}
-use Rattle.order_model.specs.Received.{all_parts, part_at, first_part, completions_of}
+use Rattle.order_model.specs.Received.{all_parts, part_at, first_part, completions_of, failures_of, transfers}
 use Rattle.order_model.proofs.Received.{first_part-next, first_part-le}
 use Rattle.command_queue.specs.Queue.{QueueState, Waiting, eligible, picked, left, arrived}
 use Rattle.device_epochs.specs.declared.cache.Entry.{Entry}
-use Rattle.device_epochs.specs.Cache.{oldest, entries, transfers, put_all, without_entry}
+use Rattle.device_epochs.specs.declared.device.DeviceSetup.{DeviceSetup}
+use Rattle.device_epochs.specs.Cache.{oldest, entries, put_all, without_entry}
 use Rattle.device_epochs.specs.CacheSteps.{part_at-lt}
-use Rattle.device_epochs.specs.Device.{DeviceState, is_off, may_transfer, transferable, transferred, moved_in, persistable, persisted, written, body_at, received, answered, answered_from, tells_cut, seen, opened}
+use Rattle.device_epochs.specs.Device.{DeviceState, is_off, is_next, counted, may_transfer, has_stopped, transferable, tried, transferred, moved_in, failed_on, persistable, persisted, written, body_at, received, answered, answered_from, tells_cut, seen, opened}
 use Rattle.device_epochs.specs.Valid.{IsValid, QueueFacts}
 use Rattle.device_epochs.specs.declared.device.EpochDevice.TheInside.{Inside}
 use Rattle.device_epochs.specs.Fields.{state_of, IsDevice}
 use Rattle.device_epochs.specs.Helpers.{IsPlain, EndsAt, starts_with_flush, flush_waits, is_held, is_flushed}
 use Rattle.device_epochs.specs.QueueLaws.{eligible-waits, eligible_clear, apart, number-lt}
 use Rattle.device_epochs.specs.EpochLaws.{flush-ordered, waiting-taken, ordered-first}
-use Rattle.device_epochs.specs.StepLaws.{transferable-waits, persistable-In}
-use Rattle.device_epochs.specs.BoundLaws.{all_parts-le, moved-fits, cache-fits, completions-fit, steps-lt_transferable, steps-lt_persistable, epoch-le, sent-le_untold}
-use Rattle.device_epochs.specs.Laws.{moved_in-valid, written-valid}
+use Rattle.device_epochs.specs.StepLaws.{transferable-waits, tried-fails, tried-moves, persistable-In}
+use Rattle.device_epochs.specs.PendingLaws.{numbered, pending-is, none-pending, queue-facts, faults-lt}
+use Rattle.device_epochs.specs.PendingLaws as pending
+use Rattle.device_epochs.specs.BoundLaws.{all_parts-le, moved-fits, cache-fits, completions-fit, failures-fit, steps-lt_transferable, steps-lt_persistable, epoch-le, sent-le_untold}
+use Rattle.device_epochs.specs.Laws.{transferred-valid, written-valid}
 use Rattle.device_epochs.proofs.Searches.{filter_none}
 
 -- ---- a flush that may go is the only command that may
@@ -51,10 +54,11 @@ alone took q w v f h i o =
       | inr ge ↦ same_number took q w v f first second (omega arith)
     ]
 
-flush_alone : (s : DeviceState) → IsValid s → (w v : Waiting) → In w (eligible s.queue.waiting) → In v (eligible s.queue.waiting) → is_some w.command.flush ≡ true → w.command ≡ v.command
-flush_alone s valid w v h i t =
-    let taken = waiting-taken s.took s.queue w valid.queue (eligible-waits s.queue.waiting w h) in
-    alone s.took s.queue w v valid.queue h i (flush-ordered (length s.base) s.limit s.took w.command valid.commands taken t)
+flush_alone : (s : DeviceState) → IsValid s → s.failed ≡ false → (w v : Waiting) → In w (eligible s.queue.waiting) → In v (eligible s.queue.waiting) → is_some w.command.flush ≡ true → w.command ≡ v.command
+flush_alone s valid fine w v h i t =
+    let facts = queue-facts s valid fine in
+    let taken = waiting-taken s.took s.queue w facts (eligible-waits s.queue.waiting w h) in
+    alone s.took s.queue w v facts h i (flush-ordered (length s.base) s.limit s.took w.command valid.commands taken t)
 
 abbrev flushes : Command → Bool
 flushes c = is_some c.flush
@@ -67,8 +71,8 @@ flushes_first : (o : Option Waiting) (f : Waiting) → o ≡ Some f → is_some 
 flushes_first o f e t = rw e t
 
 -- what may go where no flush waits for the cache
-may_go : (s : DeviceState) → IsValid s → flush_waits s ≡ false → (w : Waiting) → In w (eligible s.queue.waiting) → may_transfer s w ≡ true
-may_go s valid n w h =
+may_go : (s : DeviceState) → IsValid s → s.failed ≡ false → flush_waits s ≡ false → (w : Waiting) → In w (eligible s.queue.waiting) → may_transfer s w ≡ true
+may_go s valid fine n w h =
     elim (cases_Bool (length s.cache == 0)) [
       | inl t ↦ or_right (not (is_some w.command.flush)) (length s.cache == 0) t
       | inr d ↦
@@ -76,7 +80,7 @@ may_go s valid n w h =
             | inl t ↦
                 let at = In-slice_get (eligible s.queue.waiting) w h in
                 let first = slice_get-in_range (eligible s.queue.waiting) 0 (let lt = at.1 in omega arith) in
-                let same = flush_alone s valid w first.0 h (slice_get-In (eligible s.queue.waiting) 0 first.0 first.1) t in
+                let same = flush_alone s valid fine w first.0 h (slice_get-In (eligible s.queue.waiting) 0 first.0 first.1) t in
                 let starts : starts_with_flush s.queue ≡ true =
                 flushes_first (picked s.queue 0) first.0 first.1 (subst (λ (c : Command). is_some c.flush ≡ true) same t) in
                 let not_starts : starts_with_flush s.queue ≡ false = rw d at n in
@@ -85,30 +89,33 @@ may_go s valid n w h =
           ]
     ]
 
-pub transferable_all : (s : DeviceState) → IsValid s → is_off s ≡ false → flush_waits s ≡ false → transferable s ≡ eligible s.queue.waiting
-transferable_all s valid on n =
-    let all = filter_all (may_transfer s) (eligible s.queue.waiting) (may_go s valid n) in rw on all
+pub transferable_all : (s : DeviceState) → IsValid s → has_stopped s ≡ false → flush_waits s ≡ false → transferable s ≡ eligible s.queue.waiting
+transferable_all s valid goes n =
+    let fine = (or_parts (is_off s) s.failed goes).1 in
+    let all = filter_all (may_transfer s) (eligible s.queue.waiting) (may_go s valid fine n) in
+    rw goes all
 
-pub transferable_off : (s : DeviceState) → is_off s ≡ true → transferable s ≡ []
-transferable_off s off = rw off refl
+pub transferable_stopped : (s : DeviceState) → has_stopped s ≡ true → transferable s ≡ []
+transferable_stopped s stopped = rw stopped refl
 
 pub transferable_waits : (s : DeviceState) → IsValid s → flush_waits s ≡ true → transferable s ≡ []
 transferable_waits s valid t =
-    elim (cases_Bool (is_off s)) [
-      | inl off ↦ rw off refl
-      | inr on ↦
+    elim (cases_Bool (has_stopped s)) [
+      | inl stopped ↦ rw stopped refl
+      | inr goes ↦
+          let fine = (or_parts (is_off s) s.failed goes).1 in
           let p = and_parts (not (length s.cache == 0)) (starts_with_flush s.queue) t in
           let first = first_flushes (picked s.queue 0) p.1 in
           let there = slice_get-In (eligible s.queue.waiting) 0 first.0 first.1 in
           let none : (w : Waiting) → In w (eligible s.queue.waiting) → may_transfer s w ≡ false =
           λ w h.
-          let same = flush_alone s valid first.0 w there h first.2 in
+          let same = flush_alone s valid fine first.0 w there h first.2 in
           let is : is_some w.command.flush ≡ true = subst (λ (c : Command). is_some c.flush ≡ true) same first.2 in
           elim (cases_Bool (length s.cache == 0)) [
             | inl empty ↦ absurd (false≢true (rw empty at p.0))
             | inr some ↦ rw (is, some) refl
           ] in
-          rw on (filter_none (may_transfer s) (eligible s.queue.waiting) none)
+          rw goes (filter_none (may_transfer s) (eligible s.queue.waiting) none)
     ]
 
 -- ---- moving a command
@@ -145,20 +152,23 @@ pub record CanMove (s : DeviceState) (pick : ℕ) (w : Waiting) : Type 0 where
   pub completions : length s.waiting + length (completions_of w.command) ≤ s.limit
   pub steps : s.steps < s.limit + s.limit
   pub epoch : s.epoch ≤ s.limit + s.limit
-  pub moves : transferred s pick ≡ moved_in s (Some w)
-  pub valid : IsValid (moved_in s (Some w))
+  pub failures : length s.waiting + length (failures_of w.command) ≤ s.limit
+  pub faults : s.faults ≤ 2
+  pub moves : is_next s.fail_at ≡ false → transferred s pick ≡ moved_in s w
+  pub fails : is_next s.fail_at ≡ true → transferred s pick ≡ failed_on s w
+  pub valid : IsValid (transferred s pick)
 
 pub is_plain : (s : DeviceState) → IsValid s → IsPlain s.cache
 is_plain s v = record { unique = v.cache.unique; sorted = v.cache.sorted }
 
-pub can_move : (s : DeviceState) (pick : ℕ) (w : Waiting) → IsValid s → is_off s ≡ false → flush_waits s ≡ false → picked s.queue pick ≡ Some w → CanMove s pick w
-can_move s pick w v on n at =
-    let there : slice_get (transferable s) pick ≡ Some w = ap (λ (l : List Waiting). slice_get l pick) (transferable_all s v on n) ∙ at in
+pub can_move : (s : DeviceState) (pick : ℕ) (w : Waiting) → IsValid s → has_stopped s ≡ false → flush_waits s ≡ false → picked s.queue pick ≡ Some w → CanMove s pick w
+can_move s pick w v goes n at =
+    let there : slice_get (transferable s) pick ≡ Some w = ap (λ (l : List Waiting). slice_get l pick) (transferable_all s v goes n) ∙ at in
     let h = slice_get-In (transferable s) pick w there in
     let waits = transferable-waits s w h in
     let next = v.queue.next in
-    let below = number-lt s.queue.next s.queue.waiting w v.queue.numbered waits in
-    let parts = first_part-next s.took w.number w.command (v.queue.queued w waits) in
+    let below = number-lt s.queue.next s.queue.waiting w (numbered s v) waits in
+    let parts = first_part-next s.took w.number w.command (v.queue.queued w (pending.waits s v w waits)) in
     let upto = first_part-le s.took (suc w.number) in
     let all = all_parts-le s v in
     let completions = completions-fit s w v h in
@@ -176,8 +186,11 @@ can_move s pick w v on n at =
       completions = omega arith;
       steps = steps-lt_transferable s w v h;
       epoch = epoch-le s v;
-      moves = ap (moved_in s) there;
-      valid = moved_in-valid s w v h;
+      failures = let failures = failures-fit s w v h in omega arith;
+      faults = faults-lt s v;
+      moves = λ n. ap (tried s) there ∙ tried-moves s w n;
+      fails = λ t. ap (tried s) there ∙ tried-fails s w t;
+      valid = transferred-valid s pick v;
     }
 
 -- ---- writing an entry
@@ -229,18 +242,18 @@ can_write s pick e v on at =
 -- ---- by the fields of the device
 
 pub transferable_free : (s : DeviceState) → IsValid s → is_held s ≡ false → transferable s ≡ eligible s.queue.waiting
-transferable_free s v n = let p = or_parts (is_off s) (flush_waits s) n in transferable_all s v p.0 p.1
+transferable_free s v n = let p = or_parts (has_stopped s) (flush_waits s) n in transferable_all s v p.0 p.1
 
 pub transferable_held : (s : DeviceState) → IsValid s → is_held s ≡ true → transferable s ≡ []
 transferable_held s v t =
-    ⊎_elim (transferable_off s) (transferable_waits s v) (or_cases (is_off s) (flush_waits s) t)
+    ⊎_elim (transferable_stopped s) (transferable_waits s v) (or_cases (has_stopped s) (flush_waits s) t)
 
 pub can_move_from : (d : Inside) (s : DeviceState) (pick n : ℕ) (c : Command) → IsDevice d → state_of d ≡ s → false ≡ is_held s
     → Some n ≡ option_map (λ (w : Waiting). w.number) (picked d.queue pick) → Some c ≡ option_map (λ (w : Waiting). w.command) (picked d.queue pick)
     → CanMove (state_of d) pick (record { number = n; command = c })
 can_move_from d s pick n c i e free a b =
     let none : is_held (state_of d) ≡ false = subst (λ (t : DeviceState). is_held t ≡ false) (sym e) (sym free) in
-    let p = or_parts (is_off (state_of d)) (flush_waits (state_of d)) none in
+    let p = or_parts (has_stopped (state_of d)) (flush_waits (state_of d)) none in
     can_move (state_of d) pick (record { number = n; command = c }) i.valid p.0 p.1 (picked_both (picked d.queue pick) n c a b)
 
 -- the state once the command was moved
@@ -249,9 +262,17 @@ pub moved_to : (s : DeviceState) (w : Waiting) (first : ℕ) (moved : List Trans
     → waiting ≡ s.waiting ++ completions_of w.command → queue ≡ left s.queue (Some w)
     → cache ≡ put_all (entries s.epoch first w.command.parts) s.cache
     → epoch ≡ (if w.command.barrier then s.epoch + 1 else s.epoch)
-    → record s { moved = moved; waiting = waiting; queue = queue; cache = cache; epoch = epoch; steps = s.steps + 1 } ≡ moved_in s (Some w)
-moved_to s w first moved waiting queue cache epoch e m wa q c ep =
-    rw (m, wa, q, c, ep, e) refl
+    → (fail_at : Option ℕ) → fail_at ≡ counted s.fail_at
+    → record s { moved = moved; waiting = waiting; queue = queue; cache = cache; epoch = epoch; steps = s.steps + 1; fail_at = fail_at } ≡ moved_in s w
+moved_to s w first moved waiting queue cache epoch e m wa q c ep fail_at f =
+    rw (m, wa, q, c, ep, f, e) refl
+
+-- the state once the command failed
+pub failed_to : (s : DeviceState) (w : Waiting) (waiting : List Completion) (queue : QueueState) (fail_at : Option ℕ)
+    → waiting ≡ s.waiting ++ failures_of w.command → queue ≡ left s.queue (Some w) → fail_at ≡ counted s.fail_at
+    → record s { waiting = waiting; queue = queue; steps = s.steps + 1; fail_at = fail_at; failed = true; faults = s.faults + 1 } ≡ failed_on s w
+failed_to s w waiting queue fail_at wa q f =
+    rw (wa, q, f) refl
 
 pub can_write_from : (d : Inside) (s : DeviceState) (pick : ℕ) (e : Entry) → IsDevice d → state_of d ≡ s → false ≡ is_off s
     → Some e ≡ slice_get (oldest d.cache.items) pick → CanWrite (state_of d) pick e
@@ -347,27 +368,32 @@ empty : {X : Type 0} (xs : List X) → length xs ≡ 0 → xs ≡ []
 empty [] e = refl
 empty (x ∷ xs) e = absurd (omega arith)
 
-pub quiet_when : (s : DeviceState) → IsValid s → length s.queue.waiting ≡ 0 → length s.cache ≡ 0 → (b : Bool) → b ≡ list_any is_flushed s.waiting
+pub quiet_when : (s : DeviceState) → IsValid s → s.failed ≡ false → length s.queue.waiting ≡ 0 → length s.cache ≡ 0 → (b : Bool) → b ≡ list_any is_flushed s.waiting
     → (IsTrue (not b) → IsQuiet (seen s)) × (IsQuiet (seen s) → IsTrue (not b))
-quiet_when s v q c b e = (
+quiet_when s v fine q c b e = (
   λ t.
       let none : b ≡ false = not-true b t in
-      empty_is_quiet s v (empty s.queue.waiting q, empty s.cache c, flushed-In s.waiting (sym none ∙ e)),
+      empty_is_quiet s v (pending-is s v fine ∙ empty s.queue.waiting q, empty s.cache c, flushed-In s.waiting (sym none ∙ e)),
   λ quiet. ap not (e ∙ none_flushed s.waiting (quiet_is_empty s v quiet).2),
 )
 
-pub not_quiet : (s : DeviceState) → IsValid s → ((length s.queue.waiting ≡ 0) × (length s.cache ≡ 0) → ⊥)
+pub not_quiet : (s : DeviceState) → IsValid s → ((length s.queue.waiting ≡ 0) × (length s.cache ≡ 0) × (s.failed ≡ false) → ⊥)
     → (IsTrue false → IsQuiet (seen s)) × (IsQuiet (seen s) → IsTrue false)
-not_quiet s v busy =
-    (λ h. absurd (false≢true h), λ quiet. let e = quiet_is_empty s v quiet in absurd (busy (ap length e.0, ap length e.1)))
+not_quiet s v busy = (
+  λ h. absurd (false≢true h),
+  λ quiet.
+      let e = quiet_is_empty s v quiet in
+      let n = none-pending s v e.0 in
+      absurd (busy (ap length n.0, ap length e.1, n.1)),
+)
 
 -- ---- a new device
 
-pub opened_to : (image base surface : List (List ℕ)) (depth limit n : ℕ) (cut_at : Option ℕ) (origins : List (Option ℕ)) (trace : DeviceRecord) (waiting : List Completion) (queue : QueueState) (cache : List Entry)
+pub opened_to : (image base surface : List (List ℕ)) (setup : DeviceSetup) (n : ℕ) (origins : List (Option ℕ)) (trace : DeviceRecord) (waiting : List Completion) (queue : QueueState) (cache : List Entry)
     → base ≡ image → surface ≡ image → n ≡ length surface → origins ≡ replicate n None
-    → trace ≡ record { took = record { items = []; room = limit }; moved = record { items = []; room = limit }; sent = record { items = []; room = limit + 1 }; steps = 0 }
-    → waiting ≡ [] → queue ≡ record { depth = depth; next = 0; waiting = [] } → cache ≡ []
-    → opened image depth limit cut_at ≡ record {
+    → trace ≡ record { took = record { items = []; room = setup.limit }; moved = record { items = []; room = setup.limit }; sent = record { items = []; room = setup.limit + 1 }; steps = 0 }
+    → waiting ≡ [] → queue ≡ record { depth = setup.depth; next = 0; waiting = [] } → cache ≡ []
+    → opened image setup ≡ record {
       base = base;
       surface = surface;
       origins = origins;
@@ -379,9 +405,13 @@ pub opened_to : (image base surface : List (List ℕ)) (depth limit n : ℕ) (cu
       cache = cache;
       epoch = 0;
       steps = trace.steps;
-      limit = limit;
-      cut_at = cut_at;
+      limit = setup.limit;
+      cut_at = setup.cut_at;
       told = false;
+      fail_at = setup.fail_at;
+      bad_read = setup.bad_read;
+      failed = false;
+      faults = 0;
     }
-opened_to image base surface depth limit n cut_at origins trace waiting queue cache b s l o t w q c =
+opened_to image base surface setup n origins trace waiting queue cache b s l o t w q c =
     rw (w, q, c, t, o, l, b, s) refl

@@ -7,8 +7,9 @@ use Rattle.std.proofs.lemmas.Bool.{cases_eq, cases_lt, eq-eqb, ne_eqb, both_ways
 use Rattle.std.proofs.lemmas.Option.{none-some, same_Some, slice_get-get_or, get_or_from_slice_get}
 use Rattle.blk_base.specs.Members.{In, In-slice_get, list_any-In, list_any-none, slice_get-In, slice_get-out, slice_get-length}
 use Rattle.order_model.specs.declared.part.Part.{Part}
+use Rattle.order_model.specs.Received.{transfers}
 use Rattle.device_epochs.specs.declared.cache.Entry.{Entry}
-use Rattle.device_epochs.specs.Cache.{same_place, put_entry, entries, oldest, transfers}
+use Rattle.device_epochs.specs.Cache.{same_place, put_entry, entries, oldest}
 use Rattle.device_epochs.specs.CacheLaws.{same_place_parts, same_place_from, renewed, put_entry_found, put_entry_new, In-put_entry, AreUnique-put_entry, AreSorted-put_entry}
 use Rattle.device_epochs.specs.QueueLaws.{length-filter-le}
 use Rattle.device_epochs.specs.Valid.{AreUnique, AreSorted}

@@ -7,13 +7,14 @@ use Rattle.std.proofs.lemmas.List.{length-map}
 use Rattle.blk_base.specs.Members.{In}
 use Rattle.order_model.specs.declared.part.Part.{Part}
 use Rattle.order_model.specs.declared.command.Command.{Command}
-use Rattle.order_model.specs.Received.{all_parts, ids_of, all_ids, completions_of}
+use Rattle.order_model.specs.Received.{all_parts, ids_of, all_ids, completions_of, failures_of}
 use Rattle.order_model.specs.Device.{IsReceivable}
 use Rattle.command_queue.specs.Queue.{Waiting}
 use Rattle.device_epochs.specs.Device.{DeviceState, transferable, seen}
 use Rattle.device_epochs.specs.Valid.{left, IsValid}
+use Rattle.device_epochs.specs.PendingLaws.{numbered, waits}
 use Rattle.device_epochs.specs.QueueLaws.{sum_by-without}
-use Rattle.device_epochs.specs.CompletionLaws.{length-completions}
+use Rattle.device_epochs.specs.CompletionLaws.{length-completions, length-failures}
 use Rattle.device_epochs.specs.CountLaws.{work}
 use Rattle.device_epochs.specs.StepLaws.{untold, transferable-In, transferable-waits}
 
@@ -84,7 +85,7 @@ steps-le s v = let a = took-le s v in let b = all_parts-le s v in let c = v.coun
 pub steps-lt_transferable : (s : DeviceState) (w : Waiting) → IsValid s → In w (transferable s) → s.steps < s.limit + s.limit
 steps-lt_transferable s w v h =
     let n = steps-le s v in
-    let m = sum_by-without work s.queue.next s.queue.waiting w v.queue.numbered (transferable-waits s w h) in
+    let m = sum_by-without work s.queue.next s.queue.waiting w (numbered s v) (transferable-waits s w h) in
     omega arith
 
 pub steps-lt_persistable : (s : DeviceState) → IsValid s → 0 < length s.cache → s.steps < s.limit + s.limit
@@ -97,23 +98,28 @@ epoch-le s v = let n = steps-le s v in let m = v.counts.epochs in omega arith
 pub moved-fits : (s : DeviceState) (w : Waiting) → IsValid s → In w (transferable s) → length s.moved + length w.command.parts ≤ s.limit
 moved-fits s w v h =
     let n = all_parts-le s v in
-    let m = sum_by-without (λ (x : Waiting). length x.command.parts) s.queue.next s.queue.waiting w v.queue.numbered (transferable-waits s w h) in
+    let m = sum_by-without (λ (x : Waiting). length x.command.parts) s.queue.next v.pending w v.queue.numbered (waits s v w (transferable-waits s w h)) in
     let k = v.counts.moved in
     omega arith
 
 pub cache-fits : (s : DeviceState) (w : Waiting) → IsValid s → In w (transferable s) → length s.cache + length w.command.parts < s.limit + s.limit
 cache-fits s w v h =
     let n = steps-le s v in
-    let m = sum_by-without work s.queue.next s.queue.waiting w v.queue.numbered (transferable-waits s w h) in
+    let m = sum_by-without work s.queue.next s.queue.waiting w (numbered s v) (transferable-waits s w h) in
     omega arith
 
-pub completions-fit : (s : DeviceState) (w : Waiting) → IsValid s → In w (transferable s) → length s.sent + length s.waiting + length (completions_of w.command) ≤ s.limit
-completions-fit s w v h =
-    let m = sum_by-without (λ (x : Waiting). length (ids_of x.command)) s.queue.next s.queue.waiting w v.queue.numbered (transferable-waits s w h) in
-    let k = length-completions w.command in
+ids-fit : (s : DeviceState) (w : Waiting) → IsValid s → In w (transferable s) → length s.sent + length s.waiting + length (ids_of w.command) ≤ s.limit
+ids-fit s w v h =
+    let m = sum_by-without (λ (x : Waiting). length (ids_of x.command)) s.queue.next s.queue.waiting w (numbered s v) (transferable-waits s w h) in
     let few = v.commands.few in
     let all = rw (untold s v (transferable-In s w h).0) at v.counts.completions in
     omega arith
+
+pub completions-fit : (s : DeviceState) (w : Waiting) → IsValid s → In w (transferable s) → length s.sent + length s.waiting + length (completions_of w.command) ≤ s.limit
+completions-fit s w v h = let n = ids-fit s w v h in let k = length-completions w.command in omega arith
+
+pub failures-fit : (s : DeviceState) (w : Waiting) → IsValid s → In w (transferable s) → length s.sent + length s.waiting + length (failures_of w.command) ≤ s.limit
+failures-fit s w v h = let n = ids-fit s w v h in let k = length-failures w.command in omega arith
 
 -- what was handed out, and what can be, is at most one for each id and one for the cut
 pub sent-le : (s : DeviceState) → IsValid s → length s.sent + length s.waiting ≤ s.limit + 1

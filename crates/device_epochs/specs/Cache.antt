@@ -2,7 +2,6 @@
 use Rattle.std.specs.Prelude.{ℕ, ◌+◌, ◌==◌, ◌&&◌, not, Bool, List, [], ◌∷◌, ◌++◌, filter, map, if◌then◌else◌}
 use Rattle.std.specs.List.{list_any}
 use Rattle.order_model.specs.declared.part.Part.{Part}
-use Rattle.order_model.specs.declared.history.Transfer.{Transfer}
 use Rattle.device_epochs.specs.declared.cache.Entry.{Entry}
 
 -- the two are of one epoch and one block
@@ -32,8 +31,3 @@ oldest (e ∷ es) = filter (λ f. f.epoch == e.epoch) (e ∷ es)
 -- all entries but the one of this epoch and block
 abbrev pub without_entry : Entry → List Entry → List Entry
 without_entry e cache = filter (λ f. not (same_place e f)) cache
-
--- the transfers of parts that begin at this place
-abbrev pub transfers : ℕ → ℕ → List Part → List Transfer
-transfers epoch place [] = []
-transfers epoch place (p ∷ ps) = record { epoch = epoch; part = place } ∷ transfers epoch (place + 1) ps

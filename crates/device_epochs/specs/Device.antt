@@ -1,16 +1,17 @@
 -- The device as a plain value, and its calls as steps over it.
-use Rattle.std.specs.Prelude.{ℕ, ◌+◌, ◌==◌, ◌&&◌, ◌||◌, not, Bool, true, false, List, [], ◌∷◌, ◌++◌, length, filter, replicate, Option, Some, None, is_some, nat_lt, if◌then◌else◌, slice_get, slice_set}
-use Rattle.std.specs.Option.{option_map_or}
+use Rattle.std.specs.Prelude.{◌≡◌, ℕ, ◌+◌, ◌-◌, ◌==◌, ◌&&◌, ◌||◌, not, Bool, true, false, List, [], ◌∷◌, ◌++◌, length, filter, replicate, Option, Some, None, is_some, nat_lt, if◌then◌else◌, slice_get, slice_set}
+use Rattle.std.specs.Option.{option_map, option_map_or}
 use Rattle.order_model.specs.declared.part.Part.{Part}
 use Rattle.order_model.specs.declared.command.Command.{Command}
 use Rattle.order_model.specs.declared.completion.Completion.{Completion}
 use Rattle.order_model.specs.declared.completion.Completion.TheVariants.{Cut}
 use Rattle.order_model.specs.declared.history.Transfer.{Transfer}
-use Rattle.order_model.specs.Received.{part_at, first_part, completions_of}
+use Rattle.order_model.specs.Received.{part_at, first_part, completions_of, failures_of, transfers}
 use Rattle.order_model.specs.Device.{Seen}
 use Rattle.command_queue.specs.Queue.{QueueState, Waiting, arrived, left, eligible}
 use Rattle.device_epochs.specs.declared.cache.Entry.{Entry}
-use Rattle.device_epochs.specs.Cache.{entries, transfers, put_all, oldest, without_entry}
+use Rattle.device_epochs.specs.declared.device.DeviceSetup.{DeviceSetup}
+use Rattle.device_epochs.specs.Cache.{entries, put_all, oldest, without_entry}
 
 pub record DeviceState : Type 0 where
   -- the image that it was made over, and the medium, with the place of the part that each block holds
@@ -31,10 +32,16 @@ pub record DeviceState : Type 0 where
   pub limit : ℕ
   pub cut_at : Option ℕ
   pub told : Bool
+  -- how many transfers from now the one that fails is, and how many reads; 1 is the next one
+  pub fail_at : Option ℕ
+  pub bad_read : Option ℕ
+  -- a transfer failed; how many transfers and reads failed
+  pub failed : Bool
+  pub faults : ℕ
 
--- a new device over an image
-abbrev pub opened : List (List ℕ) → ℕ → ℕ → Option ℕ → DeviceState
-opened image depth limit cut_at = record {
+-- a new device of this setup over an image
+abbrev pub opened : List (List ℕ) → DeviceSetup → DeviceState
+opened image setup = record {
   base = image;
   surface = image;
   origins = replicate (length image) None;
@@ -42,18 +49,32 @@ opened image depth limit cut_at = record {
   moved = [];
   sent = [];
   waiting = [];
-  queue = record { depth = depth; next = 0; waiting = [] };
+  queue = record { depth = setup.depth; next = 0; waiting = [] };
   cache = [];
   epoch = 0;
   steps = 0;
-  limit = limit;
-  cut_at = cut_at;
+  limit = setup.limit;
+  cut_at = setup.cut_at;
   told = false;
+  fail_at = setup.fail_at;
+  bad_read = setup.bad_read;
+  failed = false;
+  faults = 0;
 }
 
 -- the power is off from the moment at which the steps equal this number
 abbrev pub is_off : DeviceState → Bool
 is_off s = option_map_or (λ n. s.steps == n) s.cut_at false
+
+-- ---- counting down to a fault
+
+-- the next one fails
+abbrev pub is_next : Option ℕ → Bool
+is_next at = option_map_or (λ n. n == 1) at false
+
+-- one was made
+abbrev pub counted : Option ℕ → Option ℕ
+counted at = option_map (λ n. n - 1) at
 
 -- ---- receiving
 
@@ -69,23 +90,43 @@ received s c = record s { took = s.took ++ c ∷ []; queue = arrived s.queue c }
 abbrev pub may_transfer : DeviceState → Waiting → Bool
 may_transfer s w = not (is_some w.command.flush) || (length s.cache == 0)
 
+-- once the power is off, or a transfer failed, no command may be transferred
+abbrev pub has_stopped : DeviceState → Bool
+has_stopped s = is_off s || s.failed
+
 abbrev pub transferable : DeviceState → List Waiting
-transferable s = if is_off s then [] else filter (may_transfer s) (eligible s.queue.waiting)
+transferable s = if has_stopped s then [] else filter (may_transfer s) (eligible s.queue.waiting)
 
 -- the command goes into the cache, or, where it is a flush, is done
-abbrev pub moved_in : DeviceState → Option Waiting → DeviceState
-moved_in s None = s
-moved_in s (Some w) = record s {
+abbrev pub moved_in : DeviceState → Waiting → DeviceState
+moved_in s w = record s {
   moved = s.moved ++ transfers s.epoch (first_part s.took w.number) w.command.parts;
   waiting = s.waiting ++ completions_of w.command;
   queue = left s.queue (Some w);
   cache = put_all (entries s.epoch (first_part s.took w.number) w.command.parts) s.cache;
   epoch = (if w.command.barrier then s.epoch + 1 else s.epoch);
   steps = s.steps + 1;
+  fail_at = counted s.fail_at;
 }
 
+-- the command leaves the queue, and is not performed
+abbrev pub failed_on : DeviceState → Waiting → DeviceState
+failed_on s w = record s {
+  waiting = s.waiting ++ failures_of w.command;
+  queue = left s.queue (Some w);
+  steps = s.steps + 1;
+  fail_at = counted s.fail_at;
+  failed = true;
+  faults = s.faults + 1;
+}
+
+-- a command was picked
+abbrev pub tried : DeviceState → Option Waiting → DeviceState
+tried s None = s
+tried s (Some w) = if is_next s.fail_at then failed_on s w else moved_in s w
+
 abbrev pub transferred : DeviceState → ℕ → DeviceState
-transferred s pick = moved_in s (slice_get (transferable s) pick)
+transferred s pick = tried s (slice_get (transferable s) pick)
 
 -- ---- persisting
 
@@ -129,6 +170,21 @@ answered_from s [] = if tells_cut s then record s { sent = s.sent ++ Cut ∷ [];
 abbrev pub answered : DeviceState → DeviceState
 answered s = answered_from s s.waiting
 
+-- ---- reading
+
+abbrev pub after_read : DeviceState → DeviceState
+after_read s = record s {
+  bad_read = counted s.bad_read;
+  faults = (if is_next s.bad_read then s.faults + 1 else s.faults);
+}
+
+-- ---- what never fails
+
+-- no transfer fails, and no read
+pub record IsSound (s : DeviceState) : Type 0 where
+  pub fails : s.fail_at ≡ None
+  pub misreads : s.bad_read ≡ None
+
 -- ---- what is seen
 
 abbrev pub seen : DeviceState → Seen
@@ -142,7 +198,7 @@ seen s = record {
   sent = s.sent;
   waiting = answers_left s;
   off = is_off s;
-  failed = false;
+  failed = s.failed;
   steps = s.steps;
-  faults = 0;
+  faults = s.faults;
 }

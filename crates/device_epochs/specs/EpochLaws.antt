@@ -8,11 +8,10 @@ use Rattle.blk_base.specs.Members.{In, In-push, In-push_left, In-push_cases, In-
 use Rattle.order_model.specs.declared.part.Part.{Part}
 use Rattle.order_model.specs.declared.command.Command.{Command}
 use Rattle.order_model.specs.declared.history.Transfer.{Transfer}
-use Rattle.order_model.specs.Received.{all_parts, first_part, command_of, epoch_of}
+use Rattle.order_model.specs.Received.{all_parts, first_part, command_of, epoch_of, transfers}
 use Rattle.order_model.specs.Device.{is_ordered}
 use Rattle.order_model.proofs.Received.{length-all_parts-push, command_of-lt, command_of-push_old, command_of-push_new, command_of-first, place_of, part-lt, epoch_of-push_old, epoch_of-mono, epoch_of-barrier, epoch_of-plain, epoch_of-flat}
 use Rattle.command_queue.specs.Queue.{QueueState, Waiting, eligible, without}
-use Rattle.device_epochs.specs.Cache.{transfers}
 use Rattle.device_epochs.specs.Valid.{IsDone, CommandFacts, QueueFacts, IsPresent, MovedFacts}
 use Rattle.device_epochs.specs.QueueLaws.{number-lt, In-without, without-In, done-received, received-done, done-moved, moved-done, moved-done-now, eligible-waits, eligible_clear, apart, waiting-done_apart}
 

@@ -21,6 +21,10 @@ state_of d = record {
   limit = d.limit;
   cut_at = d.cut_at;
   told = d.told;
+  fail_at = d.fail_at;
+  bad_read = d.bad_read;
+  failed = d.failed;
+  faults = d.faults;
 }
 
 -- the state is one that the calls reach, and each list has room for what its limit allows

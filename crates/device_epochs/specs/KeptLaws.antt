@@ -14,11 +14,11 @@ use Rattle.command_queue.specs.Queue.{Waiting}
 use Rattle.device_epochs.specs.declared.cache.Entry.{Entry}
 use Rattle.device_epochs.specs.CacheSteps.{part_at-lt, part_of-waiting, parts_of-waiting, IsHeld-written}
 use Rattle.device_epochs.specs.CompletionLaws.{flush-completes, completions-seen, flushed-seen}
-use Rattle.device_epochs.specs.Device.{DeviceState, is_off, answers_left, transferable, moved_in, transferred, persistable, written, persisted, seen}
+use Rattle.device_epochs.specs.Device.{DeviceState, is_off, answers_left, transferable, moved_in, failed_on, transferred, persistable, written, persisted, seen}
 use Rattle.device_epochs.specs.EpochLaws.{barrier-ordered, waiting-taken, done-before_ordered, ordered-done_before, waits-or-done}
 use Rattle.device_epochs.specs.QueueLaws.{place-before}
-use Rattle.device_epochs.specs.StepLaws.{persistable-In}
-use Rattle.device_epochs.specs.Valid.{IsDone, IsHeld, IsValid}
+use Rattle.device_epochs.specs.StepLaws.{tried-all, persistable-In}
+use Rattle.device_epochs.specs.Valid.{IsDone, IsHeld, with_waiting, IsValid}
 
 -- ---- what is kept
 
@@ -26,20 +26,20 @@ pub kept : (s : DeviceState) (x : ℕ) (p : Part) → part_at s.took x ≡ Some 
 kept s x p e h = record { part = p; taken = e; origin = h.0; held = h.1; later = h.2 }
 
 -- a part that is kept was moved
-pub kept_is_done : (s : DeviceState) → IsValid s → (x : ℕ) → IsPartKept (seen s) x → IsDone s.took s.queue.waiting (command_of s.took x)
+pub kept_is_done : (s : DeviceState) (v : IsValid s) → (x : ℕ) → IsPartKept (seen s) x → IsDone s.took v.pending (command_of s.took x)
 kept_is_done s v x k =
     let o = v.medium.written k.part.block k.origin k.held in
-    elim (waits-or-done s.took s.queue.waiting (command_of s.took x) (command_of-lt s.took x (part_at-lt s.took x k.part k.taken))) [
+    elim (waits-or-done s.took v.pending (command_of s.took x) (command_of-lt s.took x (part_at-lt s.took x k.part k.taken))) [
       | inl w ↦
-          let at = part_of-waiting s.took s.queue w.0 x k.part v.queue w.1 k.taken (sym w.2) in
-          let lt = place-before s.took s.queue w.0 k.origin at.0 o.0 k.part v.queue w.1 (part_at-lt s.took k.origin o.0 o.1) o.4 o.1 at.2 (sym o.2) in
+          let at = part_of-waiting s.took (with_waiting s.queue v.pending) w.0 x k.part v.queue w.1 k.taken (sym w.2) in
+          let lt = place-before s.took (with_waiting s.queue v.pending) w.0 k.origin at.0 o.0 k.part v.queue w.1 (part_at-lt s.took k.origin o.0 o.1) o.4 o.1 at.2 (sym o.2) in
           let le = k.later in
           let n = at.1 in
           absurd (omega (arith, lt, le, n))
       | inr d ↦ d
     ]
 
-pub moved_from_done : (s : DeviceState) → IsValid s → (x : ℕ) → x < length (all_parts s.took) → IsDone s.took s.queue.waiting (command_of s.took x) → IsMoved (seen s) x
+pub moved_from_done : (s : DeviceState) (v : IsValid s) → (x : ℕ) → x < length (all_parts s.took) → IsDone s.took v.pending (command_of s.took x) → IsMoved (seen s) x
 moved_from_done s v x lt d = (epoch_of s.took (command_of s.took x), v.moved.all x lt d)
 
 pub kept_is_moved : (s : DeviceState) → IsValid s → (x : ℕ) → IsPartKept (seen s) x → IsMoved (seen s) x
@@ -60,30 +60,30 @@ surface_law s v = record {
 -- ---- the epoch order law
 
 -- a barrier is done where something behind it is
-barrier_is_done : (s : DeviceState) → IsValid s → (b k : ℕ) (c : Command) → slice_get s.took b ≡ Some c → c.barrier ≡ true → b < k → IsDone s.took s.queue.waiting k → IsDone s.took s.queue.waiting b
+barrier_is_done : (s : DeviceState) (v : IsValid s) → (b k : ℕ) (c : Command) → slice_get s.took b ≡ Some c → c.barrier ≡ true → b < k → IsDone s.took v.pending k → IsDone s.took v.pending b
 barrier_is_done s v b k c at is lt d =
-    elim (waits-or-done s.took s.queue.waiting b (slice_get-length s.took b c at)) [
+    elim (waits-or-done s.took v.pending b (slice_get-length s.took b c at)) [
       | inl w ↦
           let n = w.2 in
-          let taken = waiting-taken s.took s.queue w.0 v.queue w.1 in
+          let taken = waiting-taken s.took (with_waiting s.queue v.pending) w.0 v.queue w.1 in
           let same : w.0.command ≡ c = same_Some w.0.command c (sym (v.queue.queued w.0 w.1) ∙ ap (slice_get s.took) w.2 ∙ at) in
           let ordered = barrier-ordered (length s.base) s.limit s.took w.0.command v.commands taken (ap (λ (a : Command). a.barrier) same ∙ is) in
-          let before = done-before_ordered s.took s.queue w.0 k v.queue w.1 ordered d in
+          let before = done-before_ordered s.took (with_waiting s.queue v.pending) w.0 k v.queue w.1 ordered d in
           absurd (omega (arith, n, lt, before))
       | inr h ↦ h
     ]
 
 -- what stands at or before a barrier is done, where something behind it is
-done_before_barrier : (s : DeviceState) → IsValid s → (j b k : ℕ) → IsBarrier s.took b → j ≤ b → b < k → IsDone s.took s.queue.waiting k → IsDone s.took s.queue.waiting j
+done_before_barrier : (s : DeviceState) (v : IsValid s) → (j b k : ℕ) → IsBarrier s.took b → j ≤ b → b < k → IsDone s.took v.pending k → IsDone s.took v.pending j
 done_before_barrier s v j b k h le lt d =
     let c = barrier-is s.took b h in
     let here = barrier_is_done s v b k c.0 c.1 c.2 lt d in
     let within = here.taken in
     let ordered = barrier-ordered (length s.base) s.limit s.took c.0 v.commands (slice_get-In s.took b c.0 c.1) c.2 in
-    elim (waits-or-done s.took s.queue.waiting j (omega arith)) [
+    elim (waits-or-done s.took v.pending j (omega arith)) [
       | inl w ↦
           let n = w.2 in
-          let before = ordered-done_before s.took s.queue w.0 b c.0 v.queue w.1 here c.1 ordered in
+          let before = ordered-done_before s.took (with_waiting s.queue v.pending) w.0 b c.0 v.queue w.1 here c.1 ordered in
           absurd (omega (arith, n, le, before))
       | inr done ↦ done
     ]
@@ -114,9 +114,9 @@ epoch_order_law s v = record {
 -- ---- the flush law
 
 -- a flush completes only where it was done
-pub flushed_source : (s : DeviceState) → IsValid s → (id : ℕ) → In (Flushed id) (s.sent ++ s.waiting) → (k : ℕ) × IsFlush s.took k id × IsDone s.took s.queue.waiting k
+pub flushed_source : (s : DeviceState) (v : IsValid s) → (id : ℕ) → In (Flushed id) (s.sent ++ s.waiting) → (k : ℕ) × IsFlush s.took k id × IsDone s.took v.pending k
 flushed_source s v id h =
-    let r = flushed-seen s.took s.queue.waiting (s.sent ++ s.waiting) (is_off s) s.told id v.completions h in
+    let r = flushed-seen s.took v.pending v.lost (s.sent ++ s.waiting) (is_off s) s.told id v.completions h in
     (r.0, r.2, r.1)
 
 pub same_flush : (s : DeviceState) → IsValid s → (j k id : ℕ) → IsFlush s.took j id → IsFlush s.took k id → j ≡ k
@@ -127,9 +127,9 @@ same_flush s v j k id a b =
 
 pub flush_law : (s : DeviceState) → IsValid s → KeepsFlush (seen s)
 flush_law s v k id x told h lt before =
-    let f = completions-seen s.took s.queue.waiting s.sent s.waiting (is_off s) s.told v.completions in
-    let r = flushed-seen s.took s.queue.waiting (s.sent ++ answers_left s) (is_off s) f.0 id f.1 told in
-    let done = subst (IsDone s.took s.queue.waiting) (same_flush s v r.0 k id r.2 h) r.1 in
+    let f = completions-seen s.took v.pending v.lost s.sent s.waiting (is_off s) s.told v.completions in
+    let r = flushed-seen s.took v.pending v.lost (s.sent ++ answers_left s) (is_off s) f.0 id f.1 told in
+    let done = subst (IsDone s.took v.pending) (same_flush s v r.0 k id r.2 h) r.1 in
     let p = slice_get-in_range (all_parts s.took) x lt in
     kept s x p.0 p.1 (v.medium.flushed k id x p.0 h done p.1 before)
 
@@ -138,16 +138,25 @@ flush_law s v k id x told h lt before =
 Grows-same : (s : DeviceState) → Grows (seen s) (seen s)
 Grows-same s = record { kept = λ x k. k; steps = omega arith; faults = omega arith }
 
-Grows-moved_in : (s : DeviceState) (o : Option Waiting) → Grows (seen s) (seen (moved_in s o))
-Grows-moved_in s None = Grows-same s
-Grows-moved_in s (Some w) = record {
+Grows-moved_in : (s : DeviceState) (w : Waiting) → Grows (seen s) (seen (moved_in s w))
+Grows-moved_in s w = record {
+  kept = λ x k. record { part = k.part; taken = k.taken; origin = k.origin; held = k.held; later = k.later };
+  steps = omega arith;
+  faults = omega arith;
+}
+
+Grows-failed_on : (s : DeviceState) (w : Waiting) → Grows (seen s) (seen (failed_on s w))
+Grows-failed_on s w = record {
   kept = λ x k. record { part = k.part; taken = k.taken; origin = k.origin; held = k.held; later = k.later };
   steps = omega arith;
   faults = omega arith;
 }
 
 pub Grows-transferred : (s : DeviceState) (pick : ℕ) → Grows (seen s) (seen (transferred s pick))
-Grows-transferred s pick = Grows-moved_in s (slice_get (transferable s) pick)
+Grows-transferred s pick =
+    tried-all (λ n. Grows (seen s) (seen n)) s (slice_get (transferable s) pick) (Grows-same s)
+    (λ w e t. Grows-failed_on s w)
+    (λ w e n. Grows-moved_in s w)
 
 Grows-written : (s : DeviceState) → IsValid s → (o : Option Entry) → ((e : Entry) → o ≡ Some e → In e s.cache) → Grows (seen s) (seen (written s o))
 Grows-written s v None h = Grows-same s
@@ -171,7 +180,7 @@ none_in [] h = refl
 none_in (x ∷ xs) h = absurd (h x (inl refl))
 
 -- nothing waits where all is kept and each flush was answered
-quiet_waits : (s : DeviceState) → IsValid s → IsQuiet (seen s) → (w : Waiting) → In w s.queue.waiting → ⊥
+quiet_waits : (s : DeviceState) (v : IsValid s) → IsQuiet (seen s) → (w : Waiting) → In w v.pending → ⊥
 quiet_waits s v q w h = at_flush w.command.flush refl
   where
     at_flush : (o : Option ℕ) → w.command.flush ≡ o → ⊥
@@ -185,7 +194,7 @@ quiet_waits s v q w h = at_flush w.command.flush refl
         let some : (length w.command.parts == 0) ≡ false = rw e at (sym whole) in
         let ne = eqb-false (length w.command.parts) 0 some in
         let p = slice_get-in_range w.command.parts 0 (omega arith) in
-        let there = parts_of-waiting s.took s.queue w 0 p.0 v.queue h p.1 in
+        let there = parts_of-waiting s.took (with_waiting s.queue v.pending) w 0 p.0 v.queue h p.1 in
         let d = kept_is_done s v (first_part s.took w.number + 0) (q.kept (first_part s.took w.number + 0) (part_at-lt s.took (first_part s.took w.number + 0) p.0 there.0)) in
         d.gone w h (sym there.1)
 
@@ -214,16 +223,16 @@ sent_or_waiting s v id a b =
     omega (arith, lt, same)
 
 -- the device is quiet where nothing waits, the cache is empty, and each flush was handed out
-pub quiet_is_empty : (s : DeviceState) → IsValid s → IsQuiet (seen s) → (s.queue.waiting ≡ []) × (s.cache ≡ []) × ((id : ℕ) → In (Flushed id) s.waiting → ⊥)
+pub quiet_is_empty : (s : DeviceState) (v : IsValid s) → IsQuiet (seen s) → (v.pending ≡ []) × (s.cache ≡ []) × ((id : ℕ) → In (Flushed id) s.waiting → ⊥)
 quiet_is_empty s v q = (
-  none_in s.queue.waiting (quiet_waits s v q),
+  none_in v.pending (quiet_waits s v q),
   none_in s.cache (quiet_caches s v q),
   λ id i.
       let r = flushed_source s v id (In-append_right s.sent s.waiting (Flushed id) i) in
       sent_or_waiting s v id (q.flushed r.0 id r.1) i,
 )
 
-pub empty_is_quiet : (s : DeviceState) → IsValid s → (s.queue.waiting ≡ []) × (s.cache ≡ []) × ((id : ℕ) → In (Flushed id) s.waiting → ⊥) → IsQuiet (seen s)
+pub empty_is_quiet : (s : DeviceState) (v : IsValid s) → (v.pending ≡ []) × (s.cache ≡ []) × ((id : ℕ) → In (Flushed id) s.waiting → ⊥) → IsQuiet (seen s)
 empty_is_quiet s v h =
     record {
       kept = λ x lt.
@@ -234,9 +243,9 @@ empty_is_quiet s v h =
           ];
       flushed = λ k id f.
           let c = flush-is s.took k id f in
-          let i = v.completions.all k c.0 (Flushed id) c.1 (all_done k (slice_get-length s.took k c.0 c.1)) (flush-completes c.0 id c.2) in
+          let i = v.completions.all k c.0 (Flushed id) (record { taken = c.1; cause = inl (all_done k (slice_get-length s.took k c.0 c.1), flush-completes c.0 id c.2) }) in
           elim (In-append_cases s.sent s.waiting (Flushed id) i) [ inl sent ↦ sent | inr waits ↦ absurd (h.2 id waits) ];
     }
   where
-    all_done : (k : ℕ) → k < length s.took → IsDone s.took s.queue.waiting k
+    all_done : (k : ℕ) → k < length s.took → IsDone s.took v.pending k
     all_done k lt = record { taken = lt; gone = λ w i e. subst (In w) h.0 i }

@@ -12,6 +12,7 @@ pub mod Helpers
 pub mod KeptLaws
 pub mod Laws
 pub mod MemberLaws
+pub mod PendingLaws
 pub mod QueueLaws
 pub mod SeenLaws
 pub mod StepLaws

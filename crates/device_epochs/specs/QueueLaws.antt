@@ -174,13 +174,12 @@ moved-done-now took ws n lt =
 
 -- ---- the queue's facts
 
-pub queue-received : (took : List Command) (q : QueueState) (c : Command) → QueueFacts took q → length q.waiting < q.depth → QueueFacts (took ++ c ∷ []) (arrived q c)
-queue-received took q c f lt =
+pub queue-received : (took : List Command) (q : QueueState) (c : Command) → QueueFacts took q → QueueFacts (took ++ c ∷ []) (arrived q c)
+queue-received took q c f =
     let w : Waiting = record { number = q.next; command = c } in
     let at = f.next in
     record {
       some_depth = f.some_depth;
-      fits = let n = length_push q.waiting w in omega arith;
       next = let n = length_push took c in omega arith;
       numbered = AreNumbered-push q.next q.waiting w f.numbered refl;
       queued = λ v h.
@@ -211,7 +210,6 @@ pub queue-moved : (took : List Command) (q : QueueState) (w : Waiting) → Queue
 queue-moved took q w f h =
     record {
       some_depth = f.some_depth;
-      fits = let n = length-filter-le (others w.number) q.waiting in let m = f.fits in omega arith;
       next = f.next;
       numbered = AreNumbered-filter (others w.number) q.next q.waiting f.numbered;
       queued = λ v i. f.queued v (In-without w.number q.waiting v i).0;

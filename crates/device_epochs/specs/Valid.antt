@@ -1,5 +1,6 @@
--- The states that the device can reach: facts that each call keeps, and from which the laws follow.
-use Rattle.std.specs.Prelude.{◌≡◌, ℕ, ◌+◌, ◌<◌, ◌≤◌, ◌++◌, ◌||◌, ◌==◌, ◌⊎◌, Bool, true, false, List, [], ◌∷◌, length, sum_by, Option, Some, None, is_some, slice_get, if◌then◌else◌}
+-- The states that the device can reach: facts that each call keeps, and from which the laws follow. A command
+-- whose transfer failed has left the queue, but was not done: the facts take it as one that still waits.
+use Rattle.std.specs.Prelude.{◌≡◌, ℕ, ◌+◌, ◌<◌, ◌≤◌, ◌++◌, ◌||◌, ◌==◌, ◌⊎◌, Bool, true, false, List, [], ◌∷◌, length, sum_by, Option, Some, None, is_some, slice_get, if◌then◌else◌, zero, suc}
 use Rattle.std.specs.Option.{option_and_then}
 use Rattle.blk_base.specs.Members.{In}
 use Rattle.order_model.specs.declared.part.Part.{Part}
@@ -8,9 +9,9 @@ use Rattle.order_model.specs.declared.command.Priority.TheVariants.{Ordered}
 use Rattle.order_model.specs.declared.completion.Completion.{Completion}
 use Rattle.order_model.specs.declared.completion.Completion.TheVariants.{Cut}
 use Rattle.order_model.specs.declared.history.Transfer.{Transfer}
-use Rattle.order_model.specs.Received.{all_parts, part_at, command_of, ids_of, all_ids, epoch_of, IsFlush, completions_of}
+use Rattle.order_model.specs.Received.{all_parts, part_at, command_of, ids_of, all_ids, epoch_of, IsFlush, completions_of, failures_of}
 use Rattle.order_model.specs.Device.{NoneTwice, completion_id}
-use Rattle.command_queue.specs.Queue.{QueueState, Waiting, AreNumbered, stands_in_way}
+use Rattle.command_queue.specs.Queue.{QueueState, Waiting, AreNumbered, stands_in_way, without}
 use Rattle.device_epochs.specs.declared.cache.Entry.{Entry}
 use Rattle.device_epochs.specs.Cache.{same_place}
 use Rattle.device_epochs.specs.Device.{DeviceState, is_off}
@@ -35,7 +36,6 @@ pub record CommandFacts (blocks limit : ℕ) (took : List Command) : Type 0 wher
 
 pub record QueueFacts (took : List Command) (queue : QueueState) : Type 0 where
   pub some_depth : 0 < queue.depth
-  pub fits : length queue.waiting ≤ queue.depth
   pub next : queue.next ≡ length took
   pub numbered : AreNumbered queue.next queue.waiting
   pub queued : (w : Waiting) → In w queue.waiting → slice_get took w.number ≡ Some w.command
@@ -108,12 +108,41 @@ pub record MediumFacts (base : List (List ℕ)) (took : List Command) (waiting :
   -- behind a flush that is done, all is on the medium
   pub flushed : (k id x : ℕ) (p : Part) → IsFlush took k id → IsDone took waiting k → part_at took x ≡ Some p → command_of took x < k → IsHeld origins p.block x
 
+-- ---- failed transfers
+
+-- those that wait in the queue, out of those that were not done: all but the lost command
+abbrev pub in_queue : Option ℕ → List Waiting → List Waiting
+in_queue None pending = pending
+in_queue (Some n) pending = without n pending
+
+-- the command with the number `lost` left the queue and was not done
+pub record PendingFacts (waiting pending : List Waiting) (lost : Option ℕ) (failed : Bool) : Type 0 where
+  pub queue : waiting ≡ in_queue lost pending
+  pub known : failed ≡ is_some lost
+  pub there : (n : ℕ) → lost ≡ Some n → (w : Waiting) × In w pending × (w.number ≡ n)
+
+-- it is still to come
+abbrev pub to_come : Option ℕ → ℕ
+to_come None = 0
+to_come (Some zero) = 0
+to_come (Some (suc n)) = 1
+
+-- a fault comes only where one was to come
+pub record FaultFacts (fail_at bad_read : Option ℕ) (failed : Bool) (faults : ℕ) : Type 0 where
+  pub once : failed ≡ true → is_some fail_at ≡ true
+  pub few : faults + to_come fail_at + to_come bad_read ≤ 2
+
 -- ---- completions
 
-pub record CompletionFacts (took : List Command) (waiting : List Waiting) (completions : List Completion) (off told : Bool) : Type 0 where
+-- the completion is that of command k: where it is lost, it was not done
+pub record IsCompletionOf (took : List Command) (waiting : List Waiting) (lost : Option ℕ) (x : Completion) (k : ℕ) (c : Command) : Type 0 where
+  pub taken : slice_get took k ≡ Some c
+  pub cause : (IsDone took waiting k × In x (completions_of c)) ⊎ ((lost ≡ Some k) × In x (failures_of c))
+
+pub record CompletionFacts (took : List Command) (waiting : List Waiting) (lost : Option ℕ) (completions : List Completion) (off told : Bool) : Type 0 where
   pub once : (i j id : ℕ) → option_and_then completion_id (slice_get completions i) ≡ Some id → option_and_then completion_id (slice_get completions j) ≡ Some id → i ≡ j
-  pub source : (x : Completion) → In x completions → ((x ≡ Cut) × (told ≡ true)) ⊎ ((k : ℕ) × (c : Command) × (slice_get took k ≡ Some c) × IsDone took waiting k × In x (completions_of c))
-  pub all : (k : ℕ) (c : Command) (x : Completion) → slice_get took k ≡ Some c → IsDone took waiting k → In x (completions_of c) → In x completions
+  pub source : (x : Completion) → In x completions → ((x ≡ Cut) × (told ≡ true)) ⊎ ((k : ℕ) × (c : Command) × IsCompletionOf took waiting lost x k c)
+  pub all : (k : ℕ) (c : Command) (x : Completion) → IsCompletionOf took waiting lost x k c → In x completions
   pub cut_once : (i j : ℕ) → slice_get completions i ≡ Some Cut → slice_get completions j ≡ Some Cut → i ≡ j
   pub told_off : told ≡ true → off ≡ true
 
@@ -123,21 +152,31 @@ pub record CompletionFacts (took : List Command) (waiting : List Waiting) (compl
 abbrev pub left : DeviceState → ℕ
 left s = sum_by (λ (w : Waiting). length w.command.parts + 1) s.queue.waiting + length s.cache
 
-pub record CountFacts (s : DeviceState) : Type 0 where
+pub record CountFacts (s : DeviceState) (pending : List Waiting) : Type 0 where
+  pub fits : length s.queue.waiting ≤ s.queue.depth
   pub steps : left s + s.steps ≤ length s.took + length (all_parts s.took)
   pub epochs : s.epoch ≤ s.steps
-  pub moved : length s.moved + sum_by (λ (w : Waiting). length w.command.parts) s.queue.waiting ≡ length (all_parts s.took)
+  pub moved : length s.moved + sum_by (λ (w : Waiting). length w.command.parts) pending ≡ length (all_parts s.took)
   pub completions : length s.sent + length s.waiting + sum_by (λ (w : Waiting). length (ids_of w.command)) s.queue.waiting ≡ length (all_ids s.took) + (if s.told then 1 else 0)
   pub cut : (n : ℕ) → s.cut_at ≡ Some n → s.steps ≤ n
 
 -- ---- all of it
 
+-- the queue with these in it
+abbrev pub with_waiting : QueueState → List Waiting → QueueState
+with_waiting q ws = record q { waiting = ws }
+
 pub record IsValid (s : DeviceState) : Type 0 where
+  -- the commands that were not done, in order of arrival, and the number of the one that is lost
+  pub pending : List Waiting
+  pub lost : Option ℕ
+  pub losses : PendingFacts s.queue.waiting pending lost s.failed
+  pub faults : FaultFacts s.fail_at s.bad_read s.failed s.faults
   pub commands : CommandFacts (length s.base) s.limit s.took
-  pub queue : QueueFacts s.took s.queue
-  pub present : IsPresent s.took s.queue.waiting s.epoch
-  pub moved : MovedFacts s.took s.queue.waiting s.moved
-  pub cache : CacheFacts s.took s.queue.waiting s.epoch s.cache
-  pub medium : MediumFacts s.base s.took s.queue.waiting s.cache s.surface s.origins
-  pub completions : CompletionFacts s.took s.queue.waiting (s.sent ++ s.waiting) (is_off s) s.told
-  pub counts : CountFacts s
+  pub queue : QueueFacts s.took (with_waiting s.queue pending)
+  pub present : IsPresent s.took pending s.epoch
+  pub moved : MovedFacts s.took pending s.moved
+  pub cache : CacheFacts s.took pending s.epoch s.cache
+  pub medium : MediumFacts s.base s.took pending s.cache s.surface s.origins
+  pub completions : CompletionFacts s.took pending lost (s.sent ++ s.waiting) (is_off s) s.told
+  pub counts : CountFacts s pending

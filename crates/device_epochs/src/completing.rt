@@ -4,9 +4,9 @@ ghost use Rattle.std.specs.List.{list_any};
 ghost use Rattle.std.specs.Option.{option_map, option_and_then};
 ghost use Rattle.circular_buffer.specs.Buffer.{buffer};
 ghost use Rattle.order_model.specs.declared.part.Part.{Part};
-ghost use Rattle.order_model.specs.Received.{completions_of};
-ghost use Rattle.device_epochs.specs.Cache.{transfers};
-ghost use Rattle.device_epochs.specs.Helpers.{is_flushed, id_at};
+ghost use Rattle.order_model.specs.Received.{completions_of, transfers};
+ghost use Rattle.device_epochs.specs.Device.{is_next, counted};
+ghost use Rattle.device_epochs.specs.Helpers.{is_flushed, told_failed, id_at};
 
 use circular_buffer::HeapCircularBuffer;
 use order_model::{Command, Completion, Part, Transfer, Transfers};
@@ -35,6 +35,31 @@ pub(crate) fn complete(waiting: &mut HeapCircularBuffer<Completion>, c: &Command
     if let Some(id) = c.flush {
         let _ = waiting.try_push_back(Completion::Flushed(id));
     }
+}
+
+// Appends what the command completes with where it was not done, which there is room for.
+pub(crate) fn complete_failed(waiting: &mut HeapCircularBuffer<Completion>, c: &Command)
+    requires { length waiting.old.items + length (told_failed c.now) ≤ waiting.old.capacity }
+    ensures { waiting.new ≡ buffer (waiting.old.items ++ told_failed c.now) waiting.old.capacity }
+{
+    for part in c.parts.as_slice() {
+        let _ = waiting.try_push_back(Completion::Failed(part.id));
+    }
+    if let Some(id) = c.flush {
+        let _ = waiting.try_push_back(Completion::Failed(id));
+    }
+}
+
+// Counts a call down to the one with this number, and tells whether it is that one.
+pub(crate) fn count_down(number: &mut Option<u64>) -> bool
+    ensures next { result ≡ is_next number.old }
+    ensures rest { number.new ≡ counted number.old }
+{
+    let Some(n) = *number else {
+        return false;
+    };
+    *number = Some(n.saturating_sub(1));
+    n == 1
 }
 
 fn is_flushed(c: Completion) -> bool

@@ -1,13 +1,15 @@
 ghost use Rattle.std.specs.Prelude.{◌≡◌, ℕ, ◌+◌, ◌≤◌, ◌<◌, ◌==◌, Bool, [], ◌^◌, true, false, length, replicate, IfOk, Some, None, slice_get, if◌then◌else◌};
 ghost use Rattle.std.specs.Option.{option_map, option_map_or};
 ghost use Rattle.order_model.specs.declared.part.Part.{Part};
-ghost use Rattle.device_epochs.specs.Device.{DeviceState, opened, is_off, has_room, received, transferable, transferred, persistable, persisted, next_answer, answered, seen};
+ghost use Rattle.device_epochs.specs.Device.{DeviceState, opened, is_off, is_next, has_room, received, transferable, transferred, persistable, persisted, next_answer, answered, after_read, IsSound, seen};
 ghost use Rattle.device_epochs.specs.Valid.{left, IsValid};
 ghost use Rattle.device_epochs.specs.Helpers.{starts_with_flush, flush_waits, is_held};
 ghost use Rattle.command_queue.specs.Queue.{QueueState};
 
 use crate::cache::{Entry, count_oldest, put_parts, take_entry};
-use crate::completing::{complete, holds_flush, note_transfers, read_ids};
+use crate::completing::{
+    complete, complete_failed, count_down, holds_flush, note_transfers, read_ids,
+};
 use blk_base::{Block, Image, NoMemory};
 use circular_buffer::HeapCircularBuffer;
 use command_queue::CommandQueue;
@@ -53,6 +55,13 @@ pub struct EpochDevice {
     cut_at: Option<u64>,
     // The power cut was told.
     told: bool,
+    // How many transfers from now the one that fails is, and how many reads.
+    fail_at: Option<u64>,
+    bad_read: Option<u64>,
+    // A transfer failed.
+    failed: bool,
+    // How many transfers and reads failed.
+    faults: u64,
 }
 
 impl Model for EpochDevice {
@@ -73,9 +82,8 @@ const TOO_MANY_IDS: u64 = 1 << 31;
 impl EpochDevice {
     /// A device over an image, which it keeps besides. It answers `NoMemory` for 2^31 ids or more.
     pub fn make(alloc: Global, image: Image, setup: DeviceSetup) -> Result<EpochDevice, NoMemory>
-        requires depth { (1 ≤ setup.depth) × (setup.depth ≤ 64) }
-        requires sound { (setup.fail_at ≡ None) × (setup.bad_read ≡ None) }
-        ensures { IfOk result (λ d. d ≡ opened image setup.depth setup.limit setup.cut_at) }
+        requires { (1 ≤ setup.depth) × (setup.depth ≤ 64) }
+        ensures { IfOk result (λ d. d ≡ opened image setup) }
     {
         if setup.limit >= TOO_MANY_IDS {
             return Err(NoMemory);
@@ -96,6 +104,10 @@ impl EpochDevice {
             limit: setup.limit,
             cut_at: setup.cut_at,
             told: false,
+            fail_at: setup.fail_at,
+            bad_read: setup.bad_read,
+            failed: false,
+            faults: 0,
         })
     }
 
@@ -111,7 +123,7 @@ impl EpochDevice {
         ensures value { result ≡ is_held self.now }
         ensures valid { IsValid self.now }
     {
-        self.is_off() || self.flush_waits()
+        self.is_off() || self.failed || self.flush_waits()
     }
 
     // The cache is not empty, and a flush may go but for that. A flush is ORDERED, so no other command may
@@ -218,19 +230,25 @@ impl OrderedDev for EpochDevice {
 
     ghost answered = { answered };
 
-    ghost after_read = { λ s _. s };
+    ghost read_fails = { λ s. is_next s.bad_read };
+
+    ghost after_read = { λ s _. after_read s };
 
     ghost left = { left };
 
     ghost stays_on = { λ s. s.cut_at ≡ None };
 
-    ghost sound = { λ _. Unit {0} };
+    ghost sound = { IsSound };
 
     fn blocks(&self) -> u32 {
         self.surface.len()
     }
 
     fn read(&mut self, block: u32) -> Result<Block, ReadFault> {
+        if count_down(&mut self.bad_read) {
+            self.faults += 1;
+            return Err(ReadFault);
+        }
         Ok(self.surface.block(block).copy())
     }
 
@@ -271,6 +289,14 @@ impl OrderedDev for EpochDevice {
         let Some(command) = self.queue.peek(pick) else {
             return false;
         };
+        if count_down(&mut self.fail_at) {
+            complete_failed(&mut self.waiting, command);
+            self.trace.steps += 1;
+            self.failed = true;
+            self.faults += 1;
+            self.queue.leave(pick);
+            return true;
+        }
         let first = self.trace.took.first_part(number as usize) as u64;
         let parts = command.parts.as_slice();
         let trace = &mut self.trace;
@@ -311,7 +337,7 @@ impl OrderedDev for EpochDevice {
     }
 
     fn is_quiet(&self) -> bool {
-        if !self.queue.is_empty() || !self.cache.is_empty() {
+        if self.failed || !self.queue.is_empty() || !self.cache.is_empty() {
             return false;
         }
         !holds_flush(&self.waiting)
@@ -353,6 +379,8 @@ impl OrderedDev for EpochDevice {
 
     ghost answers = { laws.answers };
 
+    ghost no_answer = { steps.no_answer };
+
     ghost reads = { laws.reads };
 
     ghost surface = { kept.surface_law };
@@ -367,6 +395,8 @@ impl OrderedDev for EpochDevice {
 
     ghost failure = { told.failure_law };
 
+    ghost stops = { λ s v. told.failed-stops s };
+
     ghost monotone = { laws.monotone };
 
     ghost progress = { laws.progress };
@@ -375,7 +405,13 @@ impl OrderedDev for EpochDevice {
 
     ghost on = { laws.on };
 
+    ghost stays_received = { laws.stays_received };
+
     ghost stays = { laws.stays };
+
+    ghost works = { laws.works };
+
+    ghost sound_received = { laws.sound_received };
 
     ghost stays_sound = { laws.stays_sound };
 

@@ -1,5 +1,5 @@
--- What a device with a volatile cache and barrier epochs shows, and the laws that it keeps. Parts and
--- origins are named by places in the list of what was taken.
+-- What a device shows that completes commands before they are on the medium and keeps the order of barrier
+-- epochs, and the laws that it keeps. Parts and origins are named by places in the list of what was taken.
 use Rattle.std.specs.Prelude.{◌≡◌, ℕ, ◌<◌, ◌≤◌, ◌++◌, ◌||◌, ◌==◌, Bool, true, false, List, length, map, All, Option, Some, None, is_some, slice_get}
 use Rattle.std.specs.Option.{option_map, option_and_then}
 use Rattle.blk_base.specs.Members.{In}
@@ -20,7 +20,7 @@ pub record Seen : Type 0 where
   pub limit : ℕ
   -- the commands that it received
   pub took : List Command
-  -- the parts that went into the cache, by place, with their epoch
+  -- the parts that were transferred, by place, with their epoch
   pub moved : List Transfer
   -- the medium, and for each block the place of the part whose body it holds
   pub surface : List (List ℕ)
@@ -58,7 +58,7 @@ pub record IsReceivable (s : Seen) (c : Command) : Type 0 where
   pub fresh : NoneTwice (all_ids s.took ++ ids_of c)
   pub few : length (all_ids s.took ++ ids_of c) ≤ s.limit
 
--- the part at this place went into the cache
+-- the part at this place was transferred
 abbrev pub IsMoved : Seen → ℕ → Type 0
 IsMoved s place = (epoch : ℕ) × In (record { epoch = epoch; part = place }) s.moved
 
@@ -81,8 +81,8 @@ completed s = s.sent ++ s.waiting
 
 -- ---- the laws
 
--- Surface law: each block with an origin holds the body of that part, which went into the cache; every
--- other block holds what the device was made with.
+-- Surface law: each block with an origin holds the body of that part, which was transferred; every other
+-- block holds what the device was made with.
 pub record IsSurface (s : Seen) : Type 0 where
   pub blocks : length s.surface ≡ length s.base
   pub places : length s.origins ≡ length s.base
@@ -110,20 +110,29 @@ completion_id Cut = None
 -- Completion law: each id completes at most once; a part completes as moved only where it was moved; a
 -- flush completes only where it was taken; and only moved parts are kept.
 pub record Completes (s : Seen) : Type 0 where
-  pub once : (i j id : ℕ) → option_and_then completion_id (slice_get (s.sent ++ s.waiting) i) ≡ Some id → option_and_then completion_id (slice_get (s.sent ++ s.waiting) j) ≡ Some id → i ≡ j
-  pub moved : (id : ℕ) → In (Moved id) (s.sent ++ s.waiting) → (place : ℕ) × (p : Part) × (part_at s.took place ≡ Some p) × (p.id ≡ id) × IsMoved s place
-  pub flushed : (id : ℕ) → In (Flushed id) (s.sent ++ s.waiting) → (k : ℕ) × IsFlush s.took k id
+  pub once : (i j id : ℕ) → option_and_then completion_id (slice_get (completed s) i) ≡ Some id → option_and_then completion_id (slice_get (completed s) j) ≡ Some id → i ≡ j
+  pub moved : (id : ℕ) → In (Moved id) (completed s) → (place : ℕ) × (p : Part) × (part_at s.took place ≡ Some p) × (p.id ≡ id) × IsMoved s place
+  pub flushed : (id : ℕ) → In (Flushed id) (completed s) → (k : ℕ) × IsFlush s.took k id
   pub kept : (place : ℕ) → IsPartKept s place → IsMoved s place
 
 -- Power-cut law: the cut is told only where the power is off, and once.
 pub record TellsCut (s : Seen) : Type 0 where
-  pub off : In Cut (s.sent ++ s.waiting) → s.off ≡ true
-  pub once : (i j : ℕ) → slice_get (s.sent ++ s.waiting) i ≡ Some Cut → slice_get (s.sent ++ s.waiting) j ≡ Some Cut → i ≡ j
+  pub off : In Cut (completed s) → s.off ≡ true
+  pub once : (i j : ℕ) → slice_get (completed s) i ≡ Some Cut → slice_get (completed s) j ≡ Some Cut → i ≡ j
 
--- Failure law: that a transfer failed is told, once it did and only then, by the id of a command that was taken.
+-- A command with this id was taken, and no part of it was transferred.
+pub record IsUnmoved (s : Seen) (id : ℕ) : Type 0 where
+  pub number : ℕ
+  pub command : Command
+  pub taken : slice_get s.took number ≡ Some command
+  pub named : In id (ids_of command)
+  pub unmoved : (place : ℕ) → command_of s.took place ≡ number → IsMoved s place → ⊥
+
+-- Failure law: that a transfer failed is told, once it did and only then, by the ids of a command that was
+-- taken and of which no part was transferred.
 pub record TellsFailure (s : Seen) : Type 0 where
-  pub told : s.failed ≡ true → (id : ℕ) × In (Failed id) (s.sent ++ s.waiting)
-  pub known : (id : ℕ) → In (Failed id) (s.sent ++ s.waiting) → (s.failed ≡ true) × In id (all_ids s.took)
+  pub told : s.failed ≡ true → (id : ℕ) × In (Failed id) (completed s)
+  pub known : (id : ℕ) → In (Failed id) (completed s) → (s.failed ≡ true) × IsUnmoved s id
 
 -- Monotone law: what is kept stays kept, and no count falls.
 pub record Grows (old new : Seen) : Type 0 where

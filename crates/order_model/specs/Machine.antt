@@ -1,16 +1,21 @@
--- The steps of a device, as one record.
+-- The steps of a device, as one value.
 use Rattle.std.specs.Prelude.{ℕ, Bool, Option}
 use Rattle.order_model.specs.declared.command.Command.{Command}
 use Rattle.order_model.specs.declared.completion.Completion.{Completion}
 use Rattle.order_model.specs.Device.{Seen}
 
--- what is seen of a state, whether it has room, and what each call makes of it
 pub record Machine (S : Type 0) : Type 0 where
   pub seen : S → Seen
+  -- whether a command is taken, and how many may be transferred and blocks written next
   pub has_room : S → Bool
-  pub received : S → Command → S
   pub can_transfer : S → ℕ
+  pub can_persist : S → ℕ
+  pub received : S → Command → S
   pub transferred : S → ℕ → S
   pub persisted : S → ℕ → S
+  -- the completion that is handed out next
   pub next_answer : S → Option Completion
   pub answered : S → S
+  -- whether the next read fails
+  pub read_fails : S → Bool
+  pub after_read : S → ℕ → S

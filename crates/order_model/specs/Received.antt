@@ -4,7 +4,8 @@ use Rattle.std.specs.Option.{option_to_list}
 use Rattle.order_model.specs.declared.part.Part.{Part}
 use Rattle.order_model.specs.declared.command.Command.{Command}
 use Rattle.order_model.specs.declared.completion.Completion.{Completion}
-use Rattle.order_model.specs.declared.completion.Completion.TheVariants.{Moved, Flushed}
+use Rattle.order_model.specs.declared.completion.Completion.TheVariants.{Moved, Flushed, Failed}
+use Rattle.order_model.specs.declared.history.Transfer.{Transfer}
 
 -- all parts, in order of the commands
 abbrev pub all_parts : List Command → List Part
@@ -47,3 +48,12 @@ IsFlush took k id = IsSomeAnd (slice_get took k) (λ c. c.flush ≡ Some id)
 -- what a command completes with, once it is done
 abbrev pub completions_of : Command → List Completion
 completions_of c = map (λ p. Moved p.id) c.parts ++ map Flushed (option_to_list c.flush)
+
+-- what a command completes with, where it was not done
+abbrev pub failures_of : Command → List Completion
+failures_of c = map Failed (ids_of c)
+
+-- the transfers of parts that begin at this place
+abbrev pub transfers : ℕ → ℕ → List Part → List Transfer
+transfers epoch place [] = []
+transfers epoch place (p ∷ ps) = record { epoch = epoch; part = place } ∷ transfers epoch (place + 1) ps

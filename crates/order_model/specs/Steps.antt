@@ -1,5 +1,5 @@
 -- What each call of a device does to what is seen of it.
-use Rattle.std.specs.Prelude.{◌≡◌, ℕ, ◌+◌, ◌<◌, ◌≤◌, ◌++◌, ◌⊎◌, Bool, true, false, [], ◌∷◌, Option, Some, None}
+use Rattle.std.specs.Prelude.{◌≡◌, ℕ, ◌+◌, ◌<◌, ◌≤◌, ◌++◌, ◌⊎◌, Bool, true, false, List, [], ◌∷◌, Option, Some, None, slice_get}
 use Rattle.std.specs.Option.{option_to_list}
 use Rattle.blk_base.specs.Members.{In}
 use Rattle.blk_base.specs.Streams.{Rose}
@@ -7,8 +7,8 @@ use Rattle.order_model.specs.declared.command.Command.{Command}
 use Rattle.order_model.specs.declared.completion.Completion.{Completion}
 use Rattle.order_model.specs.declared.completion.Completion.TheVariants.{Cut}
 use Rattle.order_model.specs.declared.history.DeviceRecord.{DeviceRecord}
-use Rattle.order_model.specs.Received.{all_ids}
-use Rattle.order_model.specs.Device.{Seen, completion_id}
+use Rattle.order_model.specs.Received.{all_ids, first_part, completions_of, failures_of, transfers}
+use Rattle.order_model.specs.Device.{Seen, completed, completion_id}
 
 -- the record has what is seen
 pub record IsTraceOf (s : Seen) (trace : DeviceRecord) : Type 0 where
@@ -28,16 +28,39 @@ pub record KeepsGiven (old new : Seen) : Type 0 where
   pub took : new.took ≡ old.took
   pub sent : new.sent ≡ old.sent
 
--- a command left the queue, and the medium stayed; where it failed, a fault was counted
+-- completions went behind those that wait; where the power went off by the step, that is told behind them
+abbrev pub Tells : Seen → List Completion → Seen → Type 0
+Tells old done new = (new.waiting ≡ old.waiting ++ done) ⊎ ((old.off ≡ false) × (new.off ≡ true) × (new.waiting ≡ (old.waiting ++ done) ++ Cut ∷ []))
+
+-- The command with this number was performed: its parts were transferred, in one epoch, and it completed.
+pub record Performs (old : Seen) (number : ℕ) (c : Command) (new : Seen) : Type 0 where
+  pub epoch : ℕ
+  pub moved : new.moved ≡ old.moved ++ transfers epoch (first_part old.took number) c.parts
+  pub told : Tells old (completions_of c) new
+  pub failed : new.failed ≡ old.failed
+  pub faults : new.faults ≡ old.faults
+
+-- The command was not performed: none of its parts was transferred, each of its ids completed as failed, and
+-- a fault was counted.
+pub record Fails (old : Seen) (c : Command) (new : Seen) : Type 0 where
+  pub moved : new.moved ≡ old.moved
+  pub told : Tells old (failures_of c) new
+  pub failed : new.failed ≡ true
+  pub faults : Rose old.faults new.faults
+
+-- a command that was taken was performed, or its transfer failed; and the medium stayed
 pub record Transfers (old new : Seen) : Type 0 where
   pub given : KeepsGiven old new
   pub surface : new.surface ≡ old.surface
   pub origins : new.origins ≡ old.origins
-  pub failed : (new.failed ≡ old.failed) ⊎ Rose old.faults new.faults
   pub steps : new.steps ≡ old.steps + 1
+  pub number : ℕ
+  pub command : Command
+  pub taken : slice_get old.took number ≡ Some command
+  pub outcome : Performs old number command new ⊎ Fails old command new
 
--- a block was written, and what was moved and completed stayed; where the power went off by it, that is
--- told behind what waits
+-- a block was written, and what was transferred and completed stayed; where the power went off by it, that
+-- is told behind what waits
 pub record Persists (old new : Seen) : Type 0 where
   pub given : KeepsGiven old new
   pub moved : new.moved ≡ old.moved
@@ -61,4 +84,4 @@ Reads old new = (new ≡ record old { faults = new.faults }) × (old.faults ≤ 
 pub record Progresses (s : Seen) (left : ℕ) (has_room : Bool) (can_transfer can_persist : ℕ) : Type 0 where
   pub works : 0 < left → (0 < can_transfer) ⊎ (0 < can_persist)
   pub room : left ≡ 0 → has_room ≡ true
-  pub done : left ≡ 0 → (id : ℕ) → In id (all_ids s.took) → (c : Completion) × In c (s.sent ++ s.waiting) × (completion_id c ≡ Some id)
+  pub done : left ≡ 0 → (id : ℕ) → In id (all_ids s.took) → (c : Completion) × In c (completed s) × (completion_id c ≡ Some id)

@@ -1,7 +1,7 @@
 /// What a device tells of a command that it has done, by the request's id.
 #[derive(Clone, Copy, PartialEq, Eq, Debug)]
 pub enum Completion {
-    /// The part is in the device's cache.
+    /// The part was transferred. It may not be on the medium.
     Moved(u64),
     /// All before the flush is on the medium.
     Flushed(u64),

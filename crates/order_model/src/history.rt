@@ -6,8 +6,8 @@ use blk_base::NoMemory;
 use std::alloc::Global;
 use std::marker::Model;
 
-/// A part that went into the cache, by its place among all parts that the device took, and the epoch of
-/// the cache that it went into.
+/// A part that was transferred, by its place among all parts that the device took, and the epoch that it
+/// belongs to.
 #[derive(Clone, Copy, PartialEq, Eq, Debug)]
 pub struct Transfer {
     pub epoch: u64,
@@ -155,7 +155,7 @@ fn append_parts(all: &mut Vec<Part>, parts: &[Part])
     }
 }
 
-/// What a device took, moved and sent, and how many steps it made.
+/// What a device took, transferred and sent, and how many steps it made.
 #[derive(Drop)]
 pub struct DeviceRecord {
     pub took: Commands,

@@ -1,5 +1,5 @@
 use Rattle.std.proofs.Common.{◌≡◌, ◌+◌, ◌++◌, drop, length}
-use Rattle.device_epochs.specs.Cache.{transfers}
+use Rattle.order_model.specs.Received.{transfers}
 use Rattle.device_epochs.proofs.completing.note_transfers.Given as goal
 
 abbrev pub invariant-loop : goal.invariant-loop

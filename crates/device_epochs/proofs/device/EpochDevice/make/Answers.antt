@@ -9,7 +9,7 @@ use Rattle.device_epochs.proofs.device.EpochDevice.make.Goals as goal
 
 pub invariant_of-result-2 : goal.invariant_of-result-2
 invariant_of-result-2 c =
-    let depth = c.requires.depth in
+    let depth = c.requires in
     let trace = c.in_ok-empty_record.ensures in
     let took = ap (λ (r : DeviceRecord). r.took.room) trace in
     let moved = ap (λ (r : DeviceRecord). r.moved.room) trace in
@@ -17,11 +17,11 @@ invariant_of-result-2 c =
     let waiting = c.in_ok-with_capacity.ensures in
     let room = ap (λ (b : Buffer Completion). b.capacity) waiting in
     let items = ap (λ (b : Buffer Completion). b.items) waiting in
-    let to = opened_to c.args.image c.trail_of-base.result.items c.image.inside.blocks.items c.args.setup.depth c.args.setup.limit c.len.result c.args.setup.cut_at
+    let to = opened_to c.args.image c.trail_of-base.result.items c.image.inside.blocks.items c.args.setup c.len.result
     c.in_ok-origins.origins.items c.in_ok-empty_record.field-0 c.in_ok-with_capacity.field-0.items c.in_ok-make.field-0 c.in_ok-with_capacity-2.field-0.items
     c.trail_of-base.ensures c.image.view_is (c.len.ensures ∙ ap length (sym c.image.view_is)) c.in_ok-origins.ensures trace items c.in_ok-make.ensures c.in_ok-with_capacity-2.ensures.items in
     record {
-      valid = subst IsValid to (opened-valid c.args.image c.args.setup.depth c.args.setup.limit c.args.setup.cut_at (omega (arith, depth.0)));
+      valid = subst IsValid to (opened-valid c.args.image c.args.setup (omega (arith, depth.0)));
       few = search rules;
       took = omega (arith, took);
       moved = omega (arith, moved);

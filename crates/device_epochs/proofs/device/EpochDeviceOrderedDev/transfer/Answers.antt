@@ -5,12 +5,14 @@ use Rattle.order_model.specs.declared.completion.Completion.{Completion}
 use Rattle.order_model.specs.declared.history.Transfer.{Transfer}
 use Rattle.order_model.specs.History.{HistoryState}
 use Rattle.command_queue.specs.Queue.{Waiting, left}
-use Rattle.device_epochs.specs.Cache.{entries, transfers, put_all}
+use Rattle.order_model.specs.Received.{transfers}
+use Rattle.device_epochs.specs.Cache.{entries, put_all}
 use Rattle.device_epochs.specs.Device.{DeviceState, transferable, transferred}
 use Rattle.device_epochs.specs.Valid.{IsValid}
 use Rattle.device_epochs.specs.Fields.{state_of}
+use Rattle.device_epochs.specs.CompletionLaws.{failures-split}
 use Rattle.device_epochs.specs.StepLaws.{no_transfer}
-use Rattle.device_epochs.proofs.Moves.{can_move_from, moved_to, a_step, no_step, held-le, no_command-le}
+use Rattle.device_epochs.proofs.Moves.{can_move_from, failed_to, moved_to, a_step, no_step, held-le, no_command-le}
 use Rattle.device_epochs.proofs.device.EpochDeviceOrderedDev.transfer.Goals as goal
 
 pub returns-then-is_held-clause-when : goal.returns-then-is_held-clause-when
@@ -30,6 +32,60 @@ pub returns-in_default-clause-state : goal.returns-in_default-clause-state
 returns-in_default-clause-state c =
     sym (no_transfer c.args.self.now c.args.pick
     (no_command-le c.self.inside c.args.self.now c.args.pick c.self.invariant c.self.view_is c.if-is_held.ensures.value c.in_default.ensures))
+
+-- ---- the transfer fails
+
+pub complete_failed-requires : goal.complete_failed-requires
+complete_failed-requires c =
+    let can = can_move_from c.self.inside c.args.self.now c.args.pick c.in-Some.number c.in-Some-peek.command.now c.self.invariant c.self.view_is c.if-is_held.ensures.value c.in-Some.ensures c.in-Some-peek.ensures in
+    let room = c.self.invariant.waiting in
+    let few = can.failures in
+    let split = ap length (failures-split c.in-Some-peek.command.now) in
+    omega (arith, few, room, split)
+
+pub overflow_add-self : goal.overflow_add-self
+overflow_add-self c =
+    let can = can_move_from c.self.inside c.args.self.now c.args.pick c.in-Some.number c.in-Some-peek.command.now c.self.invariant c.self.view_is c.if-is_held.ensures.value c.in-Some.ensures c.in-Some-peek.ensures in
+    omega (arith, can.steps, c.self.invariant.few)
+
+pub invariant_of-self : goal.invariant_of-self
+invariant_of-self c =
+    let can = can_move_from c.self.inside c.args.self.now c.args.pick c.in-Some.number c.in-Some-peek.command.now c.self.invariant c.self.view_is c.if-is_held.ensures.value c.in-Some.ensures c.in-Some-peek.ensures in
+    let d = c.self.inside in
+    let s = state_of d in
+    let h = c.self.invariant in
+    let w : Waiting = record { number = c.in-Some.number; command = c.in-Some-peek.command.now } in
+    let waiting = ap (λ (b : Buffer Completion). b.items) c.complete_failed.ensures ∙ ap (λ (l : List Completion). s.waiting ++ l) (sym (failures-split w.command)) in
+    let queue = c.leave.ensures ∙ ap (left d.queue) can.picked in
+    let to = failed_to s w c.complete_failed.new.waiting.items c.leave.new.self c.count_down.new.number waiting queue c.if-count_down.ensures.rest in
+    let waiting_room = ap (λ (b : Buffer Completion). b.capacity) c.complete_failed.ensures in
+    record {
+      valid = subst IsValid (can.fails (sym c.if-count_down.ensures.next) ∙ sym to) can.valid;
+      few = h.few;
+      took = h.took;
+      moved = h.moved;
+      sent = h.sent;
+      waiting = omega (arith, waiting_room, h.waiting);
+      cache = h.cache;
+    }
+
+pub returns-then-count_down-clause-when : goal.returns-then-count_down-clause-when
+returns-then-count_down-clause-when c =
+    let can = can_move_from c.self.inside c.args.self.now c.args.pick c.in-Some.number c.in-Some-peek.command.now c.self.invariant c.self.view_is c.if-is_held.ensures.value c.in-Some.ensures c.in-Some-peek.ensures in
+    a_step (length (transferable c.args.self.now)) c.args.pick (subst (λ (t : DeviceState). c.args.pick < length (transferable t)) c.self.view_is can.within)
+
+pub returns-then-count_down-clause-state : goal.returns-then-count_down-clause-state
+returns-then-count_down-clause-state c =
+    let can = can_move_from c.self.inside c.args.self.now c.args.pick c.in-Some.number c.in-Some-peek.command.now c.self.invariant c.self.view_is c.if-is_held.ensures.value c.in-Some.ensures c.in-Some-peek.ensures in
+    let d = c.self.inside in
+    let s = state_of d in
+    let w : Waiting = record { number = c.in-Some.number; command = c.in-Some-peek.command.now } in
+    let waiting = ap (λ (b : Buffer Completion). b.items) c.complete_failed.ensures ∙ ap (λ (l : List Completion). s.waiting ++ l) (sym (failures-split w.command)) in
+    let queue = c.leave.ensures ∙ ap (left d.queue) can.picked in
+    let to = failed_to s w c.complete_failed.new.waiting.items c.leave.new.self c.count_down.new.number waiting queue c.if-count_down.ensures.rest in
+    to ∙ sym (can.fails (sym c.if-count_down.ensures.next)) ∙ ap (λ (t : DeviceState). transferred t c.args.pick) c.self.view_is
+
+-- ---- the command is performed
 
 pub first_part-first-requires : goal.first_part-first-requires
 first_part-first-requires c =
@@ -85,8 +141,8 @@ overflow_add-trace c =
     let can = can_move_from c.self.inside c.args.self.now c.args.pick c.in-Some.number c.in-Some-peek.command.now c.self.invariant c.self.view_is c.if-is_held.ensures.value c.in-Some.ensures c.in-Some-peek.ensures in
     omega (arith, can.steps, c.self.invariant.few)
 
-pub invariant_of-self : goal.invariant_of-self
-invariant_of-self c =
+pub invariant_of-self-2 : goal.invariant_of-self-2
+invariant_of-self-2 c =
     let can = can_move_from c.self.inside c.args.self.now c.args.pick c.in-Some.number c.in-Some-peek.command.now c.self.invariant c.self.view_is c.if-is_held.ensures.value c.in-Some.ensures c.in-Some-peek.ensures in
     let d = c.self.inside in
     let s = state_of d in
@@ -96,14 +152,14 @@ invariant_of-self c =
     let slice = c.as_slice-parts.ensures in
     let moved = ap (λ (t : HistoryState Transfer). t.items) c.note_transfers.ensures ∙ ap (λ (ps : List Part). s.moved ++ transfers s.epoch first ps) slice in
     let waiting = ap (λ (b : Buffer Completion). b.items) c.complete.ensures in
-    let queue = c.leave.ensures ∙ ap (left d.queue) can.picked in
+    let queue = c.leave-2.ensures ∙ ap (left d.queue) can.picked in
     let cache = c.put_parts.ensures.items ∙ ap (λ (ps : List Part). put_all (entries s.epoch first ps) s.cache) slice in
-    let to = moved_to s w first c.note_transfers.new.moved.items c.complete.new.waiting.items c.leave.new.self c.put_parts.new.cache.items c.next_epoch-self-inside.result
-    c.first_part-first.ensures moved waiting queue cache c.next_epoch-self-inside.ensures in
+    let to = moved_to s w first c.note_transfers.new.moved.items c.complete.new.waiting.items c.leave-2.new.self c.put_parts.new.cache.items c.next_epoch-self-inside.result
+    c.first_part-first.ensures moved waiting queue cache c.next_epoch-self-inside.ensures c.count_down.new.number c.if-count_down.ensures.rest in
     let moved_room = ap (λ (t : HistoryState Transfer). t.room) c.note_transfers.ensures in
     let waiting_room = ap (λ (b : Buffer Completion). b.capacity) c.complete.ensures in
     record {
-      valid = subst IsValid (sym to) can.valid;
+      valid = subst IsValid (can.moves (sym c.if-count_down.ensures.next) ∙ sym to) can.valid;
       few = h.few;
       took = h.took;
       moved = omega (arith, moved_room, h.moved);
@@ -128,8 +184,8 @@ returns-clause-state c =
     let slice = c.as_slice-parts.ensures in
     let moved = ap (λ (t : HistoryState Transfer). t.items) c.note_transfers.ensures ∙ ap (λ (ps : List Part). s.moved ++ transfers s.epoch first ps) slice in
     let waiting = ap (λ (b : Buffer Completion). b.items) c.complete.ensures in
-    let queue = c.leave.ensures ∙ ap (left d.queue) can.picked in
+    let queue = c.leave-2.ensures ∙ ap (left d.queue) can.picked in
     let cache = c.put_parts.ensures.items ∙ ap (λ (ps : List Part). put_all (entries s.epoch first ps) s.cache) slice in
-    let to = moved_to s w first c.note_transfers.new.moved.items c.complete.new.waiting.items c.leave.new.self c.put_parts.new.cache.items c.next_epoch-self-inside.result
-    c.first_part-first.ensures moved waiting queue cache c.next_epoch-self-inside.ensures in
-    to ∙ sym can.moves ∙ ap (λ (t : DeviceState). transferred t c.args.pick) c.self.view_is
+    let to = moved_to s w first c.note_transfers.new.moved.items c.complete.new.waiting.items c.leave-2.new.self c.put_parts.new.cache.items c.next_epoch-self-inside.result
+    c.first_part-first.ensures moved waiting queue cache c.next_epoch-self-inside.ensures c.count_down.new.number c.if-count_down.ensures.rest in
+    to ∙ sym (can.moves (sym c.if-count_down.ensures.next)) ∙ ap (λ (t : DeviceState). transferred t c.args.pick) c.self.view_is
