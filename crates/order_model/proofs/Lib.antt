@@ -1,6 +1,7 @@
 pub mod Direct
 pub mod Histories
 pub mod Medium
+pub mod Merging
 pub mod Next
 pub mod Received
 mod Walks

@@ -2,6 +2,7 @@ pub mod Carrying
 pub mod Device
 pub mod History
 pub mod Machine
+pub mod Merging
 pub mod Parts
 pub mod Queue
 pub mod Received

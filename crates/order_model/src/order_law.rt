@@ -1,7 +1,10 @@
-ghost use Rattle.std.specs.Prelude.{List};
+ghost use Rattle.std.specs.Prelude.{◌≡◌, List, map};
 ghost use Rattle.order_model.specs.declared.request.Request.{Request};
 ghost use Rattle.order_model.specs.Submission.{IsOrderClosed, KeepsFlushed};
 ghost use Rattle.order_model.specs.Device.{completed, origin_ids};
+ghost use Rattle.order_model.specs.Merging.{ungrouped, merged, IsGroup};
+ghost use Rattle.blk_base.specs.Members.{In};
+ghost use Rattle.order_model.specs.declared.command.Command.{Command};
 ghost use Rattle.order_model.specs.Carrying.{SchedSeen, Carries, AreAtIds, Fits, FlushesAreBarriers, sent_alone};
 
 use crate::OrderedDev;
@@ -23,4 +26,11 @@ pub fn keeps_order_to_the_medium<D: OrderedDev>(dev: &D)
 /// A law alone: the call does nothing.
 pub fn carries_requests_sent_alone()
     ensures { (requests : List Request) → AreAtIds requests → FlushesAreBarriers requests → Carries (sent_alone requests) }
+{}
+
+/// Commands that are merged in groups carry what those carry of which they were merged.
+///
+/// A law alone: the call does nothing.
+pub fn carries_requests_merged()
+    ensures { (s : SchedSeen) (groups : List (List Command)) → ((g : List Command) → In g groups → IsGroup g) → s.sent_out ≡ ungrouped groups → Carries s → Carries (record s { sent_out = map merged groups }) }
 {}
