@@ -121,6 +121,31 @@ impl EpochQueue {
         ensures state { self.new ≡ left self.old (picked self.old pick) }
     {
         let at = find_eligible(&self.waiting, pick)?;
+        self.leave_at(at)
+    }
+
+    /// How many requests wait.
+    pub fn waiting(&self) -> usize
+        ensures { result ≡ length self.now.waiting }
+    {
+        self.waiting.len()
+    }
+
+    /// The request at this place of those that wait, in order of acceptance.
+    pub fn get(&self, at: usize) -> Option<&Request>
+        ensures { option_copied result ≡ option_map (λ w. w.request) (slice_get self.now.waiting at) }
+    {
+        let entry = self.waiting.get(at)?;
+        Some(&entry.request)
+    }
+
+    /// Takes the request at this place of those that wait, which is eligible, and says whether it leaves as
+    /// the barrier.
+    pub fn leave_at(&mut self, at: usize) -> Option<(Request, bool)>
+        requires { (w : Waiting) → slice_get self.old.waiting at ≡ Some w → may_leave self.old.waiting w ≡ true }
+        ensures given { result ≡ leaving self.old (slice_get self.old.waiting at) }
+        ensures state { self.new ≡ left self.old (slice_get self.old.waiting at) }
+    {
         let Entry { number: _, request } = self.waiting.remove(at)?;
         let flagged = leaves_flagged(self.closing, &request, &self.waiting);
         self.closing = closing_after(flagged, self.closing);

@@ -1,32 +1,24 @@
-use Rattle.std.proofs.Common.{Some, ap, ◌∙◌, arith}
-use Rattle.barrier_reassign.specs.Epoch.{EpochState, Waiting}
-use Rattle.barrier_reassign.proofs.Leaving.{flagged_of, leaving-is, left-is}
-use Rattle.barrier_reassign.proofs.Numbers.{AreNumbered-remove}
+-- The request that was found is the one that was picked.
+use Rattle.std.proofs.Common.{ap, sym, subst, ◌∙◌}
+use Rattle.barrier_reassign.specs.Epoch.{EpochState, leaving, left}
+use Rattle.barrier_reassign.specs.Kept.{IsPicked}
+use Rattle.barrier_reassign.proofs.Leaving.{picked-at, picked-may_leave}
 use Rattle.barrier_reassign.proofs.queue.EpochQueue.leave.Goals as goal
 
-pub invariant_of-self-2 : goal.invariant_of-self-2
-invariant_of-self-2 c =
-    let h = c.self.invariant in
-    record {
-      small = h.small;
-      few = omega (arith, h.few, c.in_ok-request.ensures.len);
-      room = omega (arith, h.room, c.in_ok-request.ensures.capacity);
-      numbered = rw c.in_ok-request.ensures.items (AreNumbered-remove _ _ _ h.numbered);
-    }
+pub leave_at-requires : goal.leave_at-requires
+leave_at-requires c = λ w at.
+    let s = c.args.self.now in
+    let found = subst (λ (q : EpochState). IsPicked q.waiting c.args.pick c.in_ok-at.at) c.self.view_is c.in_ok-at.ensures in
+    picked-may_leave c.args.pick c.in_ok-at.at s.waiting w found at
 
 pub returns-clause-given : goal.returns-clause-given
 returns-clause-given c =
-    let q = c.self.inside in
-    let s : EpochState = record { capacity = q.capacity; next = q.next; waiting = q.waiting.items; closing = q.closing } in
-    let told = c.leaves_flagged-flagged.ensures ∙ ap (λ (w : Waiting). flagged_of q.closing w c.remove.new.self.items) c.request.view_is in
-    rw (← c.self.view_is)
-    (ap (λ (w : Waiting). Some (w.request, c.leaves_flagged-flagged.result)) c.request.view_is
-    ∙ leaving-is s _ _ _ _ _ c.self.invariant.numbered c.in_ok-at.ensures c.in_ok-request.ensures.value c.in_ok-request.ensures.items told)
+    let s = c.args.self.now in
+    let found = subst (λ (q : EpochState). IsPicked q.waiting c.args.pick c.in_ok-at.at) c.self.view_is c.in_ok-at.ensures in
+    c.leave_at.ensures.given ∙ ap (leaving s) (sym (picked-at c.args.pick c.in_ok-at.at s.waiting found))
 
 pub returns-clause-state : goal.returns-clause-state
 returns-clause-state c =
-    let q = c.self.inside in
-    let s : EpochState = record { capacity = q.capacity; next = q.next; waiting = q.waiting.items; closing = q.closing } in
-    let told = c.leaves_flagged-flagged.ensures ∙ ap (λ (w : Waiting). flagged_of q.closing w c.remove.new.self.items) c.request.view_is in
-    rw (← c.self.view_is)
-    (left-is s _ _ _ _ _ _ c.self.invariant.numbered c.in_ok-at.ensures c.in_ok-request.ensures.value c.in_ok-request.ensures.items told c.closing_after-self-inside.ensures)
+    let s = c.args.self.now in
+    let found = subst (λ (q : EpochState). IsPicked q.waiting c.args.pick c.in_ok-at.at) c.self.view_is c.in_ok-at.ensures in
+    c.leave_at.ensures.state ∙ ap (left s) (sym (picked-at c.args.pick c.in_ok-at.at s.waiting found))

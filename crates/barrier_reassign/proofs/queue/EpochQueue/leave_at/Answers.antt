@@ -1,0 +1,33 @@
+-- The request at a place leaves.
+use Rattle.std.proofs.Common.{refl, Some, ap, ◌∙◌, arith}
+use Rattle.barrier_reassign.specs.Epoch.{EpochState, Waiting}
+use Rattle.barrier_reassign.proofs.Leaving.{flagged_of, leaving-is, left-is}
+use Rattle.barrier_reassign.proofs.Numbers.{AreNumbered-remove}
+use Rattle.barrier_reassign.proofs.queue.EpochQueue.leave_at.Goals as goal
+
+pub invariant_of-self-2 : goal.invariant_of-self-2
+invariant_of-self-2 c =
+    let h = c.self.invariant in
+    record {
+      small = h.small;
+      few = omega (arith, h.few, c.in_ok-request.ensures.len);
+      room = omega (arith, h.room, c.in_ok-request.ensures.capacity);
+      numbered = rw c.in_ok-request.ensures.items (AreNumbered-remove _ _ _ h.numbered);
+    }
+
+pub returns-clause-given : goal.returns-clause-given
+returns-clause-given c =
+    let q = c.self.inside in
+    let s : EpochState = record { capacity = q.capacity; next = q.next; waiting = q.waiting.items; closing = q.closing } in
+    let told = c.leaves_flagged-flagged.ensures ∙ ap (λ (w : Waiting). flagged_of q.closing w c.remove.new.self.items) c.request.view_is in
+    rw (← c.self.view_is)
+    (ap (λ (w : Waiting). Some (w.request, c.leaves_flagged-flagged.result)) c.request.view_is
+    ∙ leaving-is s _ _ _ _ c.self.invariant.numbered (omega (arith, c.in_ok-request.ensures.variant.0 refl, q.waiting.ok.0)) c.in_ok-request.ensures.value c.in_ok-request.ensures.items told)
+
+pub returns-clause-state : goal.returns-clause-state
+returns-clause-state c =
+    let q = c.self.inside in
+    let s : EpochState = record { capacity = q.capacity; next = q.next; waiting = q.waiting.items; closing = q.closing } in
+    let told = c.leaves_flagged-flagged.ensures ∙ ap (λ (w : Waiting). flagged_of q.closing w c.remove.new.self.items) c.request.view_is in
+    rw (← c.self.view_is)
+    (left-is s _ _ _ _ _ c.self.invariant.numbered (omega (arith, c.in_ok-request.ensures.variant.0 refl, q.waiting.ok.0)) c.in_ok-request.ensures.value c.in_ok-request.ensures.items told c.closing_after-self-inside.ensures)
