@@ -1,5 +1,5 @@
 -- The lines of a text that is accepted say its script.
-use Rattle.std.proofs.Common.{◌≡◌, ℕ, ◌+◌, ◌-◌, ◌^◌, ◌<◌, ◌≤◌, Bool, true, false, not, ◌&&◌, ◌||◌, List, [], ◌∷◌, ◌++◌, length, codes, decimal, map, Option, Some, None, Result, Ok, Err, is_some, nat_le, nat_lt, unwrap_or, refl, sym, ap, ap₂, ◌∙◌, subst, arith, append_assoc, append-nil, lit≤, if◌then◌else◌}
+use Rattle.std.proofs.Common.{◌≡◌, ℕ, ◌+◌, ◌-◌, ◌^◌, ◌<◌, ◌≤◌, Bool, true, false, ◌&&◌, ◌||◌, List, [], ◌∷◌, ◌++◌, length, codes, decimal, map, Option, Some, None, Result, Ok, Err, is_some, nat_le, nat_lt, unwrap_or, refl, sym, ap, ap₂, ◌∙◌, subst, arith, append_assoc, append-nil, if◌then◌else◌}
 use Rattle.std.specs.List.{filter}
 use Rattle.std.specs.Option.{option_map}
 use Rattle.std.proofs.lemmas.Bool.{and_parts, leb-true}
@@ -8,13 +8,12 @@ use Rattle.std.proofs.lemmas.List.{map-append}
 use Rattle.std.proofs.lemmas.List.Elements.{filter-append}
 use Rattle.std.proofs.lemmas.Option.{same_Some, none-some}
 use Rattle.blk_base.specs.Members.{In, each_push}
-use Rattle.blk_base.specs.Block.{filled}
 use Rattle.order_model.specs.declared.request.Request.{Request}
+use Rattle.script_grammar.specs.declared.limits.TheConstants.{DEFAULT_DEPTH, DEFAULT_QUEUE, MOST_BLOCKS, MOST_DEPTH, MOST_QUEUE, MOST_REPEATS, MOST_STEPS, PLACES}
 use Rattle.script_grammar.specs.declared.kinds.ScriptKind.{ScriptKind}
 use Rattle.script_grammar.specs.declared.reading.Reading.{Reading}
 use Rattle.script_grammar.specs.declared.reading.Section.{Section}
 use Rattle.script_grammar.specs.declared.reading.Section.TheVariants as sections
-use Rattle.script_grammar.specs.declared.script.EventLine.{EventLine}
 use Rattle.script_grammar.specs.declared.script.CoreEvent.{CoreEvent}
 use Rattle.script_grammar.specs.declared.script.Form.{Form}
 use Rattle.script_grammar.specs.declared.script.Script.{Script}
@@ -31,10 +30,10 @@ use Rattle.script_grammar.specs.declared.words.Line.{Line}
 use Rattle.script_grammar.specs.declared.words.Line.TheVariants as line
 use Rattle.byte_text.specs.Hex.{hex_text}
 use Rattle.script_grammar.specs.Spelling.{numeral, hex_byte, is_skipped, words_of, lines_of}
-use Rattle.script_grammar.specs.Words.{class_of, count_of, header_line, put_line, body_line, pick_line, line_of, word_of}
-use Rattle.script_grammar.specs.Grammar.{form_blocks, is_scheduled, form_of, is_built, is_ordered_class, is_barrier_class, new_reading, opened, form_line, built_first, first_line, stands_in, needs_scheduler, may_stand, stood_before, count_fits, fits, put_request, flush_request, with_request, with_events, plain_event, pick_event, after, taken, later_line, read_words, at_line, read_line, script_read, ended_in, ended, read_from, script_of}
-use Rattle.script_grammar.specs.Speller.{form_words, depth_lines, queue_lines, cut_lines, request_words, body_byte, event_line_words}
-use Rattle.script_grammar.specs.Accepted.{kept_lines, begins, beginning, or_default, default_depth, default_queue, filled_queue, IsHeaderOf, with_count, SaysScript}
+use Rattle.script_grammar.specs.Words.{class_of, count_of, header_line, put_line, pick_line, line_of, word_of}
+use Rattle.script_grammar.specs.Grammar.{form_blocks, is_scheduled, form_of, is_built, new_reading, opened, form_line, built_first, first_line, stands_in, may_stand, stood_before, fits, put_request, flush_request, with_request, with_events, plain_event, pick_event, after, taken, later_line, read_words, at_line, read_line, script_read, ended_in, ended, read_from, script_of}
+use Rattle.script_grammar.specs.Speller.{form_words, cut_lines, request_words, event_line_words}
+use Rattle.script_grammar.specs.Accepted.{kept_lines, begins, beginning, or_default, default_depth, filled_queue, with_count, SaysScript}
 use Rattle.script_grammar.proofs.WellFormed.{ok_behind, ok_past, ok_beside, mapped, chained, read_then}
 use Rattle.script_grammar.proofs.SpelledLines.{before_events, body_byte-filled}
 use Rattle.script_grammar.proofs.SaidNumbers.{decimal-numeral, hex_text-byte}
@@ -64,7 +63,7 @@ tail_of sections.Body events = []
 tail_of sections.Events events = (codes "events" ∷ []) ∷ events
 
 record Says (r : Reading) (lines : List (List (List ℕ))) : Type 0 where
-  few : form_blocks r.form ≤ 4096
+  few : form_blocks r.form ≤ MOST_BLOCKS
   header : List (List (List ℕ))
   events : List (List (List ℕ))
   whole : lines ≡ form_words r.form ∷ header ++ (map request_words r.puts ++ tail_of r.section events)
@@ -282,20 +281,20 @@ adds_header : (r : Reading) (lines : List (List (List ℕ))) (w : List ℕ) (h :
 adds_header r lines w header.Depth (v ∷ []) l name stands new e is =
     mapped (Adds r lines (w ∷ v ∷ [])) line.Depth (numeral v) l e
     (λ n value fit.
-    let few = leb-true n 64 (and_parts (nat_le 1 n) (nat_le n 64) fit).1 in
+    let few = leb-true n MOST_DEPTH (and_parts (nat_le 1 n) (nat_le n MOST_DEPTH) fit).1 in
     added (record r { depth = Some n }) lines (w ∷ v ∷ []) (depth_line n) (header_said w v (codes "depth") n name value (omega (arith, few)))
     (Says-depth r lines n (at_header r.section header.Depth (and_parts _ _ stands).0) (is_none r.depth new) is))
 adds_header r lines w header.Queue (v ∷ []) l name stands new e is =
     mapped (Adds r lines (w ∷ v ∷ [])) line.Queue (numeral v) l e
     (λ n value fit.
-    let few = leb-true n 64 (and_parts (nat_le 1 n) (nat_le n 64) fit).1 in
+    let few = leb-true n MOST_QUEUE (and_parts (nat_le 1 n) (nat_le n MOST_QUEUE) fit).1 in
     let may = and_parts (stands_in r.section (word.Header header.Queue)) (is_scheduled r.form || false) stands in
     added (record r { queue = Some n }) lines (w ∷ v ∷ []) (queue_line n) (header_said w v (codes "queue") n name value (omega (arith, few)))
     (Says-queue r lines n (at_header r.section header.Queue may.0) (is_none r.queue new) (needed (is_scheduled r.form) may.1) is))
 adds_header r lines w header.Cut (v ∷ []) l name stands new e is =
     mapped (Adds r lines (w ∷ v ∷ [])) line.Cut (numeral v) l e
     (λ n value fit.
-    let few = leb-true n 1000000000 fit in
+    let few = leb-true n MOST_STEPS fit in
     added (record r { cut = Some n }) lines (w ∷ v ∷ []) (cut_line n) (header_said w v (codes "cut") n name value (omega (arith, few)))
     (Says-cut r lines n (at_header r.section header.Cut (and_parts _ _ stands).0) (is_none r.cut new) is))
 adds_header r lines w header.Depth [] l name stands new e is = absurd (none-some l e)
@@ -329,7 +328,7 @@ adds_plain : (r : Reading) (lines : List (List (List ℕ))) (w : List ℕ) (p : 
 adds_plain r lines w p ws l name here e is =
     mapped (Adds r lines (w ∷ ws)) (line.Plain p) (count_of ws) l e
     (λ n number fit.
-    let most = leb-true n 1000000 (and_parts (nat_le n 1000000) _ (and_parts (nat_le 1 n) _ fit).1).0 in
+    let most = leb-true n MOST_REPEATS (and_parts (nat_le n MOST_REPEATS) _ (and_parts (nat_le 1 n) _ fit).1).0 in
     let said = with_count-plain w ws n number (omega (arith, most)) ∙ ap (λ (x : List ℕ). x ∷ codes "x" ∷ decimal n ∷ []) name ∙ plain_said p n in
     Says-event r lines (w ∷ ws) (plain_event p) n here said is)
 
@@ -339,13 +338,13 @@ adds_pick r lines w p (v ∷ ws) l name here e is =
     chained (Adds r lines (w ∷ v ∷ ws)) _ (numeral v) l e
     (λ pick place f. mapped (Adds r lines (w ∷ v ∷ ws)) (line.Pick p pick) (count_of ws) l f
     (λ n number fit.
-    let parts = and_parts (nat_lt pick 4294967296) _ fit in
-    let small = ltb-true pick 4294967296 parts.0 in
-    let most = leb-true n 1000000 (and_parts (nat_le n 1000000) _ (and_parts (nat_le 1 n) _ parts.1).1).0 in
+    let parts = and_parts (nat_lt pick PLACES) _ fit in
+    let small = ltb-true pick PLACES parts.0 in
+    let most = leb-true n MOST_REPEATS (and_parts (nat_le n MOST_REPEATS) _ (and_parts (nat_le 1 n) _ parts.1).1).0 in
     let said =
-        with_count-pick w v ws n number (omega (arith, most))
-        ∙ ap₂ (λ (x y : List ℕ). x ∷ y ∷ codes "x" ∷ decimal n ∷ []) name (decimal-numeral v pick place (omega (arith, small)))
-        ∙ pick_said p pick n in
+    with_count-pick w v ws n number (omega (arith, most))
+    ∙ ap₂ (λ (x y : List ℕ). x ∷ y ∷ codes "x" ∷ decimal n ∷ []) name (decimal-numeral v pick place (omega (arith, small)))
+    ∙ pick_said p pick n in
     Says-event r lines (w ∷ v ∷ ws) (pick_event p pick) n here said is))
 
 adds : (r : Reading) (lines : List (List (List ℕ))) (w : List ℕ) (v : Word) (ws : List (List ℕ)) (l : Line) → IsNamed w v → may_stand r v ≡ true → stood_before r v ≡ false → line_of v ws ≡ Some l → Says r lines → Adds r lines (w ∷ ws) l
@@ -401,7 +400,7 @@ SaysHeader-none form = record {
   plain = λ _. refl;
 }
 
-Says-new : (form : Form) → form_blocks form ≤ 4096 → Says (new_reading form) (form_words form ∷ [])
+Says-new : (form : Form) → form_blocks form ≤ MOST_BLOCKS → Says (new_reading form) (form_words form ∷ [])
 Says-new form few = record {
   few = few;
   header = [];
@@ -424,8 +423,8 @@ form_blocks-form_of false n = refl
 Says-opened : (scheduled : Bool) (w v : List ℕ) (o : Option ℕ) (next : Reading) → w ≡ (if scheduled then codes "blocks" else codes "device") → numeral v ≡ o → opened scheduled o ≡ Ok next → Says next ((w ∷ v ∷ []) ∷ [])
 Says-opened scheduled w v None next name value h = cc
 Says-opened scheduled w v (Some n) next name value h =
-    let t = ok_behind (nat_le 1 n && nat_le n 4096) (new_reading (form_of scheduled n)) next _ h in
-    let most = leb-true n 4096 (and_parts (nat_le 1 n) (nat_le n 4096) t.0).1 in
+    let t = ok_behind (nat_le 1 n && nat_le n MOST_BLOCKS) (new_reading (form_of scheduled n)) next _ h in
+    let most = leb-true n MOST_BLOCKS (and_parts (nat_le 1 n) (nat_le n MOST_BLOCKS) t.0).1 in
     let same = form_blocks-form_of scheduled n in
     let said = header_said w v (if scheduled then codes "blocks" else codes "device") n name value (omega (arith, most)) ∙ sym (form_words-form_of scheduled n) in
     subst (λ r. Says r ((w ∷ v ∷ []) ∷ [])) t.1
@@ -458,11 +457,11 @@ Says-words (Some r) lines (w ∷ ws) next h is = Says-later r lines w (word_of w
 
 -- ---- the script
 
-filled_depth : (o : Option ℕ) → or_default default_depth (read_line_of (codes "depth") o) ≡ depth_line (unwrap_or o 32) ∷ []
+filled_depth : (o : Option ℕ) → or_default default_depth (read_line_of (codes "depth") o) ≡ depth_line (unwrap_or o DEFAULT_DEPTH) ∷ []
 filled_depth None = ap (λ (w : List ℕ). (codes "depth" ∷ w ∷ []) ∷ []) default_text
 filled_depth (Some n) = refl
 
-filled_queues : (scheduled : Bool) (o : Option ℕ) → (scheduled ≡ false → o ≡ None) → filled_queue scheduled (read_line_of (codes "queue") o) ≡ (if scheduled then queue_line (unwrap_or o 32) ∷ [] else [])
+filled_queues : (scheduled : Bool) (o : Option ℕ) → (scheduled ≡ false → o ≡ None) → filled_queue scheduled (read_line_of (codes "queue") o) ≡ (if scheduled then queue_line (unwrap_or o DEFAULT_QUEUE) ∷ [] else [])
 filled_queues true None plain = ap (λ (w : List ℕ). (codes "queue" ∷ w ∷ []) ∷ []) default_text
 filled_queues true (Some n) plain = refl
 filled_queues false None plain = refl

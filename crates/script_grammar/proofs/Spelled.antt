@@ -3,6 +3,7 @@ use Rattle.std.proofs.Common.{◌≡◌, ℕ, suc, ◌+◌, ◌≤◌, true, fal
 use Rattle.std.specs.List.{join_with_byte}
 use Rattle.blk_base.specs.Members.{In}
 use Rattle.order_model.specs.declared.request.Request.{Request}
+use Rattle.script_grammar.specs.declared.limits.TheConstants.{DEFAULT_QUEUE, MOST_BLOCKS, MOST_EVENTS, MOST_QUEUE, MOST_REPEATS, MOST_REQUESTS, MOST_STEPS}
 use Rattle.script_grammar.specs.declared.reading.Reading.{Reading}
 use Rattle.script_grammar.specs.declared.reading.Section.{Section}
 use Rattle.script_grammar.specs.declared.reading.Section.TheVariants as sections
@@ -43,16 +44,16 @@ with_line r l = record r { events = r.events ++ l ∷ []; expanded = r.expanded 
 abbrev event_line : EventWord → ℕ → EventLine
 event_line what count = record { what = what; count = count }
 
-IsRead-what : (r : Reading) (what : EventWord) (count : ℕ) → r.section ≡ sections.Events → IsWordOf (is_scheduled r.form) what → 1 ≤ count → count ≤ 1000000 → r.expanded + count ≤ 20000000 → IsRead (Some r) (what_words what ++ codes "x" ∷ decimal count ∷ []) (with_line r (event_line what count))
+IsRead-what : (r : Reading) (what : EventWord) (count : ℕ) → r.section ≡ sections.Events → IsWordOf (is_scheduled r.form) what → 1 ≤ count → count ≤ MOST_REPEATS → r.expanded + count ≤ MOST_EVENTS → IsRead (Some r) (what_words what ++ codes "x" ∷ decimal count ∷ []) (with_line r (event_line what count))
 IsRead-what r (One e) count here is some most all = IsRead-event r e count here is some most all
 
-IsRead-event_line : (r : Reading) (l : EventLine) → r.section ≡ sections.Events → IsEventLineOf (is_scheduled r.form) l → r.expanded + l.count ≤ 20000000 → IsRead (Some r) (event_line_words l) (with_line r l)
+IsRead-event_line : (r : Reading) (l : EventLine) → r.section ≡ sections.Events → IsEventLineOf (is_scheduled r.form) l → r.expanded + l.count ≤ MOST_EVENTS → IsRead (Some r) (event_line_words l) (with_line r l)
 IsRead-event_line r l here is all = IsRead-what r l.what l.count here is.event is.some is.most all
 
 abbrev with_lines : Reading → List EventLine → Reading
 with_lines r ls = record r { events = ls }
 
-IsSpelling-events : (ls : List EventLine) (r : Reading) → r.section ≡ sections.Events → ((l : EventLine) → In l ls → IsEventLineOf (is_scheduled r.form) l) → r.expanded + expanded_of ls ≤ 20000000 → IsSpelling (Some r) (map event_line_words ls) (script_read (with_lines r (r.events ++ ls)))
+IsSpelling-events : (ls : List EventLine) (r : Reading) → r.section ≡ sections.Events → ((l : EventLine) → In l ls → IsEventLineOf (is_scheduled r.form) l) → r.expanded + expanded_of ls ≤ MOST_EVENTS → IsSpelling (Some r) (map event_line_words ls) (script_read (with_lines r (r.events ++ ls)))
 IsSpelling-events [] r here are all =
     subst (λ ls. IsSpelling (Some r) [] (script_read (with_lines r ls))) (sym (append-nil r.events)) (record { clear = tt; ends = EndsIn-none r here })
 IsSpelling-events (l ∷ ls) r here are all =
@@ -68,7 +69,7 @@ IsSpelling-events (l ∷ ls) r here are all =
 abbrev with_requests : Reading → Section → List Request → Reading
 with_requests r section qs = record r { section = section; puts = qs }
 
-IsSpelling-requests : (qs : List Request) (r : Reading) (ls : List (List (List ℕ))) (s : Script) → before_events r.section ≡ true → form_blocks r.form ≤ 4096 → length r.puts + length qs ≤ 10000 → ((i : ℕ) (q : Request) → slice_get qs i ≡ Some q → IsRequestOf (form_blocks r.form) (length r.puts + i) q) → ((q : Request) → In q qs → IsFilled q) → ((section : Section) → before_events section ≡ true → IsSpelling (Some (with_requests r section (r.puts ++ qs))) ls s) → IsSpelling (Some r) (map request_words qs ++ ls) s
+IsSpelling-requests : (qs : List Request) (r : Reading) (ls : List (List (List ℕ))) (s : Script) → before_events r.section ≡ true → form_blocks r.form ≤ MOST_BLOCKS → length r.puts + length qs ≤ MOST_REQUESTS → ((i : ℕ) (q : Request) → slice_get qs i ≡ Some q → IsRequestOf (form_blocks r.form) (length r.puts + i) q) → ((q : Request) → In q qs → IsFilled q) → ((section : Section) → before_events section ≡ true → IsSpelling (Some (with_requests r section (r.puts ++ qs))) ls s) → IsSpelling (Some r) (map request_words qs ++ ls) s
 IsSpelling-requests [] r ls s here blocks few are full rest =
     subst (λ qs. IsSpelling (Some (with_requests r r.section qs)) ls s) (append-nil r.puts) (rest r.section here)
 IsSpelling-requests (q ∷ qs) r ls s here blocks few are full rest =
@@ -86,12 +87,12 @@ IsSpelling-requests (q ∷ qs) r ls s here blocks few are full rest =
 -- ---- the header
 
 -- a script of the device alone has no line of the queues
-IsSpelling-queue : (form : Form) (depth : Option ℕ) (q : ℕ) (ls : List (List (List ℕ))) (s : Script) → 1 ≤ q → q ≤ 64 → (is_scheduled form ≡ false → q ≡ 32) → ((queue : Option ℕ) → unwrap_or queue 32 ≡ q → IsSpelling (Some (at_header form depth queue None)) ls s) → IsSpelling (Some (at_header form depth None None)) ((if is_scheduled form then (codes "queue" ∷ decimal q ∷ []) ∷ [] else []) ++ ls) s
+IsSpelling-queue : (form : Form) (depth : Option ℕ) (q : ℕ) (ls : List (List (List ℕ))) (s : Script) → 1 ≤ q → q ≤ MOST_QUEUE → (is_scheduled form ≡ false → q ≡ DEFAULT_QUEUE) → ((queue : Option ℕ) → unwrap_or queue DEFAULT_QUEUE ≡ q → IsSpelling (Some (at_header form depth queue None)) ls s) → IsSpelling (Some (at_header form depth None None)) ((if is_scheduled form then (codes "queue" ∷ decimal q ∷ []) ∷ [] else []) ++ ls) s
 IsSpelling-queue (Device n) depth q ls s some few plain rest = rest None (sym (plain refl))
 IsSpelling-queue (Blocks n) depth q ls s some few plain rest =
     IsSpelling-line (Some (at_header (Blocks n) depth None None)) (codes "queue" ∷ decimal q ∷ []) (at_header (Blocks n) depth (Some q) None) ls s (IsRead-queue (Blocks n) depth None q refl some few) (rest (Some q) refl)
 
-IsSpelling-cut : (form : Form) (depth queue cut : Option ℕ) (ls : List (List (List ℕ))) (s : Script) → ((n : ℕ) → cut ≡ Some n → n ≤ 1000000000) → IsSpelling (Some (at_header form depth queue cut)) ls s → IsSpelling (Some (at_header form depth queue None)) (cut_lines cut ++ ls) s
+IsSpelling-cut : (form : Form) (depth queue cut : Option ℕ) (ls : List (List (List ℕ))) (s : Script) → ((n : ℕ) → cut ≡ Some n → n ≤ MOST_STEPS) → IsSpelling (Some (at_header form depth queue cut)) ls s → IsSpelling (Some (at_header form depth queue None)) (cut_lines cut ++ ls) s
 IsSpelling-cut form depth queue None ls s few rest = rest
 IsSpelling-cut form depth queue (Some n) ls s few rest =
     IsSpelling-line (Some (at_header form depth queue None)) (codes "cut" ∷ decimal n ∷ []) (at_header form depth queue (Some n)) ls s (IsRead-cut form depth queue n (few n refl)) rest
@@ -103,7 +104,7 @@ abbrev with_queue : Script → ℕ → Script
 with_queue s q = record { kind = s.kind; header = record { depth = s.header.depth; queue = q; cut = s.header.cut }; puts = s.puts; events = s.events }
 
 -- the lines behind the header
-IsSpelling-body : (s : Script) (queue : Option ℕ) → IsWellFormed s → unwrap_or queue 32 ≡ s.header.queue → IsSpelling (Some (at_header s.kind (Some s.header.depth) queue s.header.cut)) (map request_words s.puts ++ ((codes "events" ∷ []) ∷ map event_line_words s.events)) s
+IsSpelling-body : (s : Script) (queue : Option ℕ) → IsWellFormed s → unwrap_or queue DEFAULT_QUEUE ≡ s.header.queue → IsSpelling (Some (at_header s.kind (Some s.header.depth) queue s.header.cut)) (map request_words s.puts ++ ((codes "events" ∷ []) ∷ map event_line_words s.events)) s
 IsSpelling-body s queue well same =
     let r = at_header s.kind (Some s.header.depth) queue s.header.cut in
     IsSpelling-requests s.puts r ((codes "events" ∷ []) ∷ map event_line_words s.events) s refl well.runnable.few_blocks (omega (arith, well.runnable.few))

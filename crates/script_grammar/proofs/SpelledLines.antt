@@ -7,6 +7,7 @@ use Rattle.blk_base.specs.Block.{filled}
 use Rattle.order_model.specs.declared.request.Request.{Request}
 use Rattle.order_model.specs.declared.request.Kind.{Kind}
 use Rattle.order_model.specs.declared.request.Kind.TheVariants.{Put, Flush}
+use Rattle.script_grammar.specs.declared.limits.TheConstants.{MOST_BLOCKS, MOST_DEPTH, MOST_EVENTS, MOST_QUEUE, MOST_REPEATS, MOST_REQUESTS, MOST_STEPS, PLACES}
 use Rattle.script_grammar.specs.declared.kinds.ScriptKind.TheVariants as kinds
 use Rattle.script_grammar.specs.declared.reading.Reading.{Reading}
 use Rattle.script_grammar.specs.declared.reading.Section.{Section}
@@ -80,12 +81,12 @@ later_line-read r w ws l built stands stood e f = passes r (is_built w) (may_sta
 
 -- ---- the first line and the header
 
-opened-read : (scheduled : Bool) (n : ℕ) → 1 ≤ n → n ≤ 4096 → opened scheduled (numeral (decimal n)) ≡ Ok (new_reading (form_of scheduled n))
+opened-read : (scheduled : Bool) (n : ℕ) → 1 ≤ n → n ≤ MOST_BLOCKS → opened scheduled (numeral (decimal n)) ≡ Ok (new_reading (form_of scheduled n))
 opened-read scheduled n some few =
     ap (opened scheduled) (numeral-decimal n (omega arith))
-    ∙ ap (λ t. if t then Ok (new_reading (form_of scheduled n)) else Err kinds.Number) (and_from (nat_le 1 n) (nat_le n 4096) (le-leb 1 n some) (le-leb n 4096 few))
+    ∙ ap (λ t. if t then Ok (new_reading (form_of scheduled n)) else Err kinds.Number) (and_from (nat_le 1 n) (nat_le n MOST_BLOCKS) (le-leb 1 n some) (le-leb n MOST_BLOCKS few))
 
-pub IsRead-form : (form : Form) → 1 ≤ form_blocks form → form_blocks form ≤ 4096 → IsRead None (form_words form) (new_reading form)
+pub IsRead-form : (form : Form) → 1 ≤ form_blocks form → form_blocks form ≤ MOST_BLOCKS → IsRead None (form_words form) (new_reading form)
 IsRead-form (Device n) some few = record {
   clear = (record { feed = refl; space = refl }, (IsClear-decimal n (omega arith), tt));
   there = refl;
@@ -101,25 +102,25 @@ IsRead-form (Blocks n) some few = record {
 abbrev pub at_header : Form → Option ℕ → Option ℕ → Option ℕ → Reading
 at_header form depth queue cut = record { form = form; depth = depth; queue = queue; cut = cut; section = sections.Header; puts = []; events = []; expanded = 0 }
 
-pub IsRead-depth : (form : Form) (queue cut : Option ℕ) (d : ℕ) → 1 ≤ d → d ≤ 64 → IsRead (Some (at_header form None queue cut)) (codes "depth" ∷ decimal d ∷ []) (at_header form (Some d) queue cut)
+pub IsRead-depth : (form : Form) (queue cut : Option ℕ) (d : ℕ) → 1 ≤ d → d ≤ MOST_DEPTH → IsRead (Some (at_header form None queue cut)) (codes "depth" ∷ decimal d ∷ []) (at_header form (Some d) queue cut)
 IsRead-depth form queue cut d some few = record {
   clear = (record { feed = refl; space = refl }, (IsClear-decimal d (omega arith), tt));
   there = refl;
-  read = later_line-read (at_header form None queue cut) (word.Header header.Depth) (decimal d ∷ []) (line.Depth d) refl (or_right (is_scheduled form) true refl) refl (ap (option_map line.Depth) (numeral-decimal d (omega arith))) (and_from (nat_le 1 d) (nat_le d 64) (le-leb 1 d some) (le-leb d 64 few));
+  read = later_line-read (at_header form None queue cut) (word.Header header.Depth) (decimal d ∷ []) (line.Depth d) refl (or_right (is_scheduled form) true refl) refl (ap (option_map line.Depth) (numeral-decimal d (omega arith))) (and_from (nat_le 1 d) (nat_le d MOST_DEPTH) (le-leb 1 d some) (le-leb d MOST_DEPTH few));
 }
 
-pub IsRead-queue : (form : Form) (depth cut : Option ℕ) (q : ℕ) → is_scheduled form ≡ true → 1 ≤ q → q ≤ 64 → IsRead (Some (at_header form depth None cut)) (codes "queue" ∷ decimal q ∷ []) (at_header form depth (Some q) cut)
+pub IsRead-queue : (form : Form) (depth cut : Option ℕ) (q : ℕ) → is_scheduled form ≡ true → 1 ≤ q → q ≤ MOST_QUEUE → IsRead (Some (at_header form depth None cut)) (codes "queue" ∷ decimal q ∷ []) (at_header form depth (Some q) cut)
 IsRead-queue form depth cut q scheduled some few = record {
   clear = (record { feed = refl; space = refl }, (IsClear-decimal q (omega arith), tt));
   there = refl;
-  read = later_line-read (at_header form depth None cut) (word.Header header.Queue) (decimal q ∷ []) (line.Queue q) refl (or_left (is_scheduled form) false scheduled) refl (ap (option_map line.Queue) (numeral-decimal q (omega arith))) (and_from (nat_le 1 q) (nat_le q 64) (le-leb 1 q some) (le-leb q 64 few));
+  read = later_line-read (at_header form depth None cut) (word.Header header.Queue) (decimal q ∷ []) (line.Queue q) refl (or_left (is_scheduled form) false scheduled) refl (ap (option_map line.Queue) (numeral-decimal q (omega arith))) (and_from (nat_le 1 q) (nat_le q MOST_QUEUE) (le-leb 1 q some) (le-leb q MOST_QUEUE few));
 }
 
-pub IsRead-cut : (form : Form) (depth queue : Option ℕ) (n : ℕ) → n ≤ 1000000000 → IsRead (Some (at_header form depth queue None)) (codes "cut" ∷ decimal n ∷ []) (at_header form depth queue (Some n))
+pub IsRead-cut : (form : Form) (depth queue : Option ℕ) (n : ℕ) → n ≤ MOST_STEPS → IsRead (Some (at_header form depth queue None)) (codes "cut" ∷ decimal n ∷ []) (at_header form depth queue (Some n))
 IsRead-cut form depth queue n few = record {
   clear = (record { feed = refl; space = refl }, (IsClear-decimal n (omega arith), tt));
   there = refl;
-  read = later_line-read (at_header form depth queue None) (word.Header header.Cut) (decimal n ∷ []) (line.Cut n) refl (or_right (is_scheduled form) true refl) refl (ap (option_map line.Cut) (numeral-decimal n (omega arith))) (le-leb n 1000000000 few);
+  read = later_line-read (at_header form depth queue None) (word.Header header.Cut) (decimal n ∷ []) (line.Cut n) refl (or_right (is_scheduled form) true refl) refl (ap (option_map line.Cut) (numeral-decimal n (omega arith))) (le-leb n MOST_STEPS few);
 }
 
 -- ---- requests
@@ -183,23 +184,23 @@ put_line-read block value ordered barrier lt byte =
     ∙ ap (λ o. option_map (λ k. line.Put block value k) o) (class_of-text ordered barrier)
 
 -- a put of one byte all over
-IsRead-put : (r : Reading) (id block value : ℕ) (ordered barrier : Bool) → before_events r.section ≡ true → form_blocks r.form ≤ 4096 → length r.puts < 10000 → id ≡ length r.puts → block < form_blocks r.form → value < 256 → (barrier ≡ true → ordered ≡ true) → IsRead (Some r) (codes "put" ∷ decimal block ∷ hex_text value ∷ class_text ordered barrier ∷ []) (with_request r (request_of id (Put block (filled value)) ordered barrier))
+IsRead-put : (r : Reading) (id block value : ℕ) (ordered barrier : Bool) → before_events r.section ≡ true → form_blocks r.form ≤ MOST_BLOCKS → length r.puts < MOST_REQUESTS → id ≡ length r.puts → block < form_blocks r.form → value < 256 → (barrier ≡ true → ordered ≡ true) → IsRead (Some r) (codes "put" ∷ decimal block ∷ hex_text value ∷ class_text ordered barrier ∷ []) (with_request r (request_of id (Put block (filled value)) ordered barrier))
 IsRead-put r id block value ordered barrier here few some named within byte keeps = record {
   clear = (record { feed = refl; space = refl }, (IsClear-decimal block (omega arith), (IsClear-hex_text value, (IsClear-class_text ordered barrier, tt))));
   there = refl;
-  read = later_line-read r (word.Body body.Put) (decimal block ∷ hex_text value ∷ class_text ordered barrier ∷ []) (line.Put block value (class_from ordered barrier)) refl (may_stand-body r body.Put here) refl (put_line-read block value ordered barrier (omega arith) byte) (and_from (nat_lt block (form_blocks r.form)) (nat_lt (length r.puts) 10000) (lt-ltb block (form_blocks r.form) within) (lt-ltb (length r.puts) 10000 some))
+  read = later_line-read r (word.Body body.Put) (decimal block ∷ hex_text value ∷ class_text ordered barrier ∷ []) (line.Put block value (class_from ordered barrier)) refl (may_stand-body r body.Put here) refl (put_line-read block value ordered barrier (omega arith) byte) (and_from (nat_lt block (form_blocks r.form)) (nat_lt (length r.puts) MOST_REQUESTS) (lt-ltb block (form_blocks r.form) within) (lt-ltb (length r.puts) MOST_REQUESTS some))
       ∙ ap (λ q. Ok (with_request r q)) (same_request (length r.puts) id (Put block (filled value)) (Put block (filled value)) (is_ordered_class (class_from ordered barrier)) ordered (is_barrier_class (class_from ordered barrier)) barrier (sym named) refl (is_ordered_class-from ordered barrier keeps) (is_barrier_class-from ordered barrier));
 }
 
-IsRead-flush : (r : Reading) (id : ℕ) (ordered barrier : Bool) → before_events r.section ≡ true → length r.puts < 10000 → id ≡ length r.puts → ordered ≡ true → barrier ≡ true → IsRead (Some r) (codes "flush" ∷ []) (with_request r (request_of id Flush ordered barrier))
+IsRead-flush : (r : Reading) (id : ℕ) (ordered barrier : Bool) → before_events r.section ≡ true → length r.puts < MOST_REQUESTS → id ≡ length r.puts → ordered ≡ true → barrier ≡ true → IsRead (Some r) (codes "flush" ∷ []) (with_request r (request_of id Flush ordered barrier))
 IsRead-flush r id ordered barrier here some named o b = record {
   clear = (record { feed = refl; space = refl }, tt);
   there = refl;
-  read = later_line-read r (word.Body body.Flush) [] line.Flush refl (may_stand-body r body.Flush here) refl refl (lt-ltb (length r.puts) 10000 some)
+  read = later_line-read r (word.Body body.Flush) [] line.Flush refl (may_stand-body r body.Flush here) refl refl (lt-ltb (length r.puts) MOST_REQUESTS some)
       ∙ ap (λ q. Ok (with_request r q)) (same_request (length r.puts) id Flush Flush true ordered true barrier (sym named) refl (sym o) (sym b));
 }
 
-IsRead-request_of : (r : Reading) (id : ℕ) (kind : Kind) (ordered barrier : Bool) → before_events r.section ≡ true → form_blocks r.form ≤ 4096 → length r.puts < 10000 → IsRequestOf (form_blocks r.form) (length r.puts) (request_of id kind ordered barrier) → IsFilled (request_of id kind ordered barrier) → IsRead (Some r) (kind_words kind ordered barrier) (with_request r (request_of id kind ordered barrier))
+IsRead-request_of : (r : Reading) (id : ℕ) (kind : Kind) (ordered barrier : Bool) → before_events r.section ≡ true → form_blocks r.form ≤ MOST_BLOCKS → length r.puts < MOST_REQUESTS → IsRequestOf (form_blocks r.form) (length r.puts) (request_of id kind ordered barrier) → IsFilled (request_of id kind ordered barrier) → IsRead (Some r) (kind_words kind ordered barrier) (with_request r (request_of id kind ordered barrier))
 IsRead-request_of r id (Put block bytes) ordered barrier here few some is full =
     let f = full block bytes refl in
     let read = IsRead-put r id block f.0 ordered barrier here few some is.named (is.within block bytes refl) f.1 is.ordered in
@@ -210,7 +211,7 @@ IsRead-request_of r id Flush ordered barrier here few some is full =
     let f = is.flush refl in
     IsRead-flush r id ordered barrier here some is.named f.0 f.1
 
-pub IsRead-request : (r : Reading) (q : Request) → before_events r.section ≡ true → form_blocks r.form ≤ 4096 → length r.puts < 10000 → IsRequestOf (form_blocks r.form) (length r.puts) q → IsFilled q → IsRead (Some r) (request_words q) (with_request r q)
+pub IsRead-request : (r : Reading) (q : Request) → before_events r.section ≡ true → form_blocks r.form ≤ MOST_BLOCKS → length r.puts < MOST_REQUESTS → IsRequestOf (form_blocks r.form) (length r.puts) q → IsFilled q → IsRead (Some r) (request_words q) (with_request r q)
 IsRead-request r q here few some is full = IsRead-request_of r q.id q.kind q.ordered q.barrier here few some is full
 
 -- ---- `events`, and the event lines
@@ -227,17 +228,17 @@ IsRead-events r here = record {
   read = later_line-read r word.Events [] line.Events refl (and_from (stands_in r.section word.Events) (is_scheduled r.form || true) (stands_events r.section here) (or_right (is_scheduled r.form) true refl)) refl refl refl;
 }
 
-count_fits-from : (r : Reading) (count : ℕ) → 1 ≤ count → count ≤ 1000000 → r.expanded + count ≤ 20000000 → count_fits r count ≡ true
+count_fits-from : (r : Reading) (count : ℕ) → 1 ≤ count → count ≤ MOST_REPEATS → r.expanded + count ≤ MOST_EVENTS → count_fits r count ≡ true
 count_fits-from r count some most all =
-    and_from (nat_le 1 count) (nat_le count 1000000 && nat_le (r.expanded + count) 20000000) (le-leb 1 count some)
-    (and_from (nat_le count 1000000) (nat_le (r.expanded + count) 20000000) (le-leb count 1000000 most) (le-leb (r.expanded + count) 20000000 all))
+    and_from (nat_le 1 count) (nat_le count MOST_REPEATS && nat_le (r.expanded + count) MOST_EVENTS) (le-leb 1 count some)
+    (and_from (nat_le count MOST_REPEATS) (nat_le (r.expanded + count) MOST_EVENTS) (le-leb count MOST_REPEATS most) (le-leb (r.expanded + count) MOST_EVENTS all))
 
 -- the line may stand here: the scheduler is there where it is spoken of
 may_stand-event : (r : Reading) (w : Word) → r.section ≡ sections.Events → stands_in sections.Events w ≡ true → (is_scheduled r.form || not (needs_scheduler w)) ≡ true → may_stand r w ≡ true
 may_stand-event r w here stands known =
     and_from (stands_in r.section w) (is_scheduled r.form || not (needs_scheduler w)) (ap (λ section. stands_in section w) here ∙ stands) known
 
-read_plain : (r : Reading) (w : PlainWord) (count : ℕ) → r.section ≡ sections.Events → (is_scheduled r.form || not (needs_scheduler (word.Plain w))) ≡ true → 1 ≤ count → count ≤ 1000000 → r.expanded + count ≤ 20000000 → later_line r (Some (word.Plain w)) (codes "x" ∷ decimal count ∷ []) ≡ Ok (with_events r (plain_event w) count)
+read_plain : (r : Reading) (w : PlainWord) (count : ℕ) → r.section ≡ sections.Events → (is_scheduled r.form || not (needs_scheduler (word.Plain w))) ≡ true → 1 ≤ count → count ≤ MOST_REPEATS → r.expanded + count ≤ MOST_EVENTS → later_line r (Some (word.Plain w)) (codes "x" ∷ decimal count ∷ []) ≡ Ok (with_events r (plain_event w) count)
 read_plain r w count here known some most all =
     later_line-read r (word.Plain w) (codes "x" ∷ decimal count ∷ []) (line.Plain w count) refl (may_stand-event r (word.Plain w) here refl known) refl (ap (option_map (line.Plain w)) (numeral-decimal count (omega arith))) (count_fits-from r count some most all)
 
@@ -246,14 +247,14 @@ pick_line-read w pick count p c =
     ap (λ o. option_and_then (λ n. option_map (line.Pick w n) (numeral (decimal count))) o) (numeral-decimal pick p)
     ∙ ap (option_map (line.Pick w pick)) (numeral-decimal count c)
 
-read_pick : (r : Reading) (w : PickWord) (pick count : ℕ) → r.section ≡ sections.Events → (is_scheduled r.form || not (needs_scheduler (word.Pick w))) ≡ true → pick < 4294967296 → 1 ≤ count → count ≤ 1000000 → r.expanded + count ≤ 20000000 → later_line r (Some (word.Pick w)) (decimal pick ∷ codes "x" ∷ decimal count ∷ []) ≡ Ok (with_events r (pick_event w pick) count)
+read_pick : (r : Reading) (w : PickWord) (pick count : ℕ) → r.section ≡ sections.Events → (is_scheduled r.form || not (needs_scheduler (word.Pick w))) ≡ true → pick < PLACES → 1 ≤ count → count ≤ MOST_REPEATS → r.expanded + count ≤ MOST_EVENTS → later_line r (Some (word.Pick w)) (decimal pick ∷ codes "x" ∷ decimal count ∷ []) ≡ Ok (with_events r (pick_event w pick) count)
 read_pick r w pick count here known low some most all =
-    later_line-read r (word.Pick w) (decimal pick ∷ codes "x" ∷ decimal count ∷ []) (line.Pick w pick count) refl (may_stand-event r (word.Pick w) here refl known) refl (pick_line-read w pick count (omega arith) (omega arith)) (and_from (nat_lt pick 4294967296) (count_fits r count) (lt-ltb pick 4294967296 low) (count_fits-from r count some most all))
+    later_line-read r (word.Pick w) (decimal pick ∷ codes "x" ∷ decimal count ∷ []) (line.Pick w pick count) refl (may_stand-event r (word.Pick w) here refl known) refl (pick_line-read w pick count (omega arith) (omega arith)) (and_from (nat_lt pick PLACES) (count_fits r count) (lt-ltb pick PLACES low) (count_fits-from r count some most all))
 
 IsClear-x : IsClear (codes "x")
 IsClear-x = record { feed = refl; space = refl }
 
-pub IsRead-event : (r : Reading) (e : CoreEvent) (count : ℕ) → r.section ≡ sections.Events → IsEventOf (is_scheduled r.form) e → 1 ≤ count → count ≤ 1000000 → r.expanded + count ≤ 20000000 → IsRead (Some r) (event_words e ++ codes "x" ∷ decimal count ∷ []) (with_events r e count)
+pub IsRead-event : (r : Reading) (e : CoreEvent) (count : ℕ) → r.section ≡ sections.Events → IsEventOf (is_scheduled r.form) e → 1 ≤ count → count ≤ MOST_REPEATS → r.expanded + count ≤ MOST_EVENTS → IsRead (Some r) (event_words e ++ codes "x" ∷ decimal count ∷ []) (with_events r e count)
 IsRead-event r Submit count here is some most all = record {
   clear = (record { feed = refl; space = refl }, (IsClear-x, (IsClear-decimal count (omega arith), tt)));
   there = refl;

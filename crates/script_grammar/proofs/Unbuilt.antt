@@ -6,6 +6,7 @@ use Rattle.std.specs.List.{onto_first}
 use Rattle.std.proofs.lemmas.Bool.{or_cases, eqb-true}
 use Rattle.std.proofs.lemmas.Slice.Eq.{bytes_eq-Decides}
 use Rattle.std.proofs.lemmas.Option.{slice_get_within}
+use Rattle.script_grammar.specs.declared.limits.TheConstants.{MOST_BLOCKS}
 use Rattle.script_grammar.specs.declared.kinds.ScriptKind.{ScriptKind}
 use Rattle.script_grammar.specs.declared.kinds.ScriptKind.TheVariants as kinds
 use Rattle.script_grammar.specs.declared.reading.Reading.{Reading}
@@ -123,7 +124,7 @@ one_of_two false x kind other h = other (cc)
 
 opened-built : (scheduled : Bool) (n : Option ℕ) → opened scheduled n ≡ Err kinds.NotBuilt → ⊥
 opened-built scheduled None h = cc
-opened-built scheduled (Some n) h = one_of_two (nat_le 1 n && nat_le n 4096) (new_reading (form_of scheduled n)) kinds.Number (λ e. cc) h
+opened-built scheduled (Some n) h = one_of_two (nat_le 1 n && nat_le n MOST_BLOCKS) (new_reading (form_of scheduled n)) kinds.Number (λ e. cc) h
 
 form_line-built : (scheduled : Bool) (ws : List (List ℕ)) → form_line scheduled ws ≡ Err kinds.NotBuilt → ⊥
 form_line-built scheduled [] h = cc

@@ -7,6 +7,7 @@ use Rattle.std.proofs.lemmas.Option.{same_Some, none-some}
 use Rattle.blk_base.specs.Block.{filled}
 use Rattle.blk_base.specs.Members.{In, each_push}
 use Rattle.order_model.specs.declared.request.Request.{Request}
+use Rattle.script_grammar.specs.declared.limits.TheConstants.{DEFAULT_DEPTH, DEFAULT_QUEUE, MOST_BLOCKS, MOST_DEPTH, MOST_EVENTS, MOST_QUEUE, MOST_REPEATS, MOST_REQUESTS, MOST_STEPS, PLACES}
 use Rattle.script_grammar.specs.declared.kinds.ScriptKind.{ScriptKind}
 use Rattle.script_grammar.specs.declared.reading.Reading.{Reading}
 use Rattle.script_grammar.specs.declared.reading.Section.{Section}
@@ -41,23 +42,23 @@ use Rattle.script_grammar.specs.Words.{class_of, count_of, header_line, put_line
 
 record IsHeader (form : Form) (depth queue cut : Option ℕ) : Type 0 where
   some_blocks : 1 ≤ form_blocks form
-  most_blocks : form_blocks form ≤ 4096
-  some_depth : 1 ≤ unwrap_or depth 32
-  most_depth : unwrap_or depth 32 ≤ 64
-  some_queue : 1 ≤ unwrap_or queue 32
-  most_queue : unwrap_or queue 32 ≤ 64
+  most_blocks : form_blocks form ≤ MOST_BLOCKS
+  some_depth : 1 ≤ unwrap_or depth DEFAULT_DEPTH
+  most_depth : unwrap_or depth DEFAULT_DEPTH ≤ MOST_DEPTH
+  some_queue : 1 ≤ unwrap_or queue DEFAULT_QUEUE
+  most_queue : unwrap_or queue DEFAULT_QUEUE ≤ MOST_QUEUE
   plain_queue : is_scheduled form ≡ false → queue ≡ None
-  most_cut : (n : ℕ) → cut ≡ Some n → n ≤ 1000000000
+  most_cut : (n : ℕ) → cut ≡ Some n → n ≤ MOST_STEPS
 
 record AreRequests (blocks : ℕ) (puts : List Request) : Type 0 where
-  few : length puts ≤ 10000
+  few : length puts ≤ MOST_REQUESTS
   requests : (i : ℕ) (q : Request) → slice_get puts i ≡ Some q → IsRequestOf blocks i q
   filled : (q : Request) → In q puts → IsFilled q
 
 record AreEventLines (scheduled : Bool) (events : List EventLine) (expanded : ℕ) : Type 0 where
   each : (l : EventLine) → In l events → IsEventLineOf scheduled l
   counted : expanded ≡ expanded_of events
-  most : expanded ≤ 20000000
+  most : expanded ≤ MOST_EVENTS
 
 record IsReadable (r : Reading) : Type 0 where
   header : IsHeader r.form r.depth r.queue r.cut
@@ -106,7 +107,7 @@ each_place-push P [] y all here (suc i) x h = absurd (none-some x h)
 each_place-push P (z ∷ zs) y all here zero x h = all zero x h
 each_place-push P (z ∷ zs) y all here (suc i) x h = each_place-push (λ j. P (suc j)) zs y (λ j. all (suc j)) here i x h
 
-AreRequests-push : (blocks : ℕ) (puts : List Request) (q : Request) → length puts < 10000 → IsRequestOf blocks (length puts) q → IsFilled q → AreRequests blocks puts → AreRequests blocks (puts ++ q ∷ [])
+AreRequests-push : (blocks : ℕ) (puts : List Request) (q : Request) → length puts < MOST_REQUESTS → IsRequestOf blocks (length puts) q → IsFilled q → AreRequests blocks puts → AreRequests blocks (puts ++ q ∷ [])
 AreRequests-push blocks puts q lt here filled is = record {
   few = omega (arith, length-append puts (q ∷ []));
   requests = each_place-push (IsRequestOf blocks) puts q is.requests here;
@@ -119,7 +120,7 @@ expanded_of-push : (ls : List EventLine) (l : EventLine) → expanded_of (ls ++ 
 expanded_of-push [] l = omega arith
 expanded_of-push (m ∷ ls) l = omega (arith, expanded_of-push ls l)
 
-AreEventLines-push : (scheduled : Bool) (events : List EventLine) (expanded : ℕ) (l : EventLine) → IsEventLineOf scheduled l → expanded + l.count ≤ 20000000 → AreEventLines scheduled events expanded → AreEventLines scheduled (events ++ l ∷ []) (expanded + l.count)
+AreEventLines-push : (scheduled : Bool) (events : List EventLine) (expanded : ℕ) (l : EventLine) → IsEventLineOf scheduled l → expanded + l.count ≤ MOST_EVENTS → AreEventLines scheduled events expanded → AreEventLines scheduled (events ++ l ∷ []) (expanded + l.count)
 AreEventLines-push scheduled events expanded l here most is = record {
   each = each_push (IsEventLineOf scheduled) events l is.each here;
   counted = omega (arith, expanded_of-push events l, is.counted);
@@ -137,7 +138,7 @@ IsLineOf scheduled (line.Put block value k) = value < 256
 IsLineOf scheduled line.Flush = Unit {0}
 IsLineOf scheduled line.Events = Unit {0}
 IsLineOf scheduled (line.Plain w count) = IsEventOf scheduled (plain_event w)
-IsLineOf scheduled (line.Pick w pick count) = pick < 4294967296 → IsEventOf scheduled (pick_event w pick)
+IsLineOf scheduled (line.Pick w pick count) = pick < PLACES → IsEventOf scheduled (pick_event w pick)
 
 pub mapped : {X Y : Type 0} (P : Y → Type 0) (f : X → Y) (o : Option X) (y : Y) → option_map f o ≡ Some y → ((x : X) → o ≡ Some x → P (f x)) → P y
 mapped P f None y h all = absurd (none-some y h)
@@ -205,7 +206,7 @@ IsEventOf-plain scheduled plain.Submit s = needed scheduled s
 IsEventOf-plain scheduled plain.Accept s = needed scheduled s
 IsEventOf-plain scheduled plain.Receive s = tt
 
-IsEventOf-pick : (scheduled : Bool) (w : PickWord) (pick : ℕ) → (scheduled || not (needs_scheduler (word.Pick w))) ≡ true → pick < 4294967296 → IsEventOf scheduled (pick_event w pick)
+IsEventOf-pick : (scheduled : Bool) (w : PickWord) (pick : ℕ) → (scheduled || not (needs_scheduler (word.Pick w))) ≡ true → pick < PLACES → IsEventOf scheduled (pick_event w pick)
 IsEventOf-pick scheduled picks.Dispatch pick s lt = (needed scheduled s, lt)
 IsEventOf-pick scheduled picks.Transfer pick s lt = lt
 IsEventOf-pick scheduled picks.Persist pick s lt = lt
@@ -228,7 +229,7 @@ IsLineOf-line_of scheduled word.OfVolume ws l h s = absurd (none-some l h)
 
 -- ---- what is read after a line
 
-IsReadable-request : (r : Reading) (q : Request) → length r.puts < 10000 → IsRequestOf (form_blocks r.form) (length r.puts) q → IsFilled q → IsReadable r → IsReadable (with_request r q)
+IsReadable-request : (r : Reading) (q : Request) → length r.puts < MOST_REQUESTS → IsRequestOf (form_blocks r.form) (length r.puts) q → IsFilled q → IsReadable r → IsReadable (with_request r q)
 IsReadable-request r q lt here filled is = record {
   header = is.header;
   puts = AreRequests-push (form_blocks r.form) r.puts q lt here filled is.puts;
@@ -245,11 +246,11 @@ IsReadable-events r e count here fits is =
       events = AreEventLines-push (is_scheduled r.form) r.events r.expanded _ (record {
         event = here;
         some = leb-true 1 count some.0;
-        most = leb-true count 1000000 most.0;
-      }) (leb-true (r.expanded + count) 20000000 most.1) is.events;
+        most = leb-true count MOST_REPEATS most.0;
+      }) (leb-true (r.expanded + count) MOST_EVENTS most.1) is.events;
     }
 
-IsHeader-depth : (form : Form) (depth queue cut : Option ℕ) (d : ℕ) → 1 ≤ d → d ≤ 64 → IsHeader form depth queue cut → IsHeader form (Some d) queue cut
+IsHeader-depth : (form : Form) (depth queue cut : Option ℕ) (d : ℕ) → 1 ≤ d → d ≤ MOST_DEPTH → IsHeader form depth queue cut → IsHeader form (Some d) queue cut
 IsHeader-depth form depth queue cut d some most is = record {
   some_blocks = is.some_blocks;
   most_blocks = is.most_blocks;
@@ -261,7 +262,7 @@ IsHeader-depth form depth queue cut d some most is = record {
   most_cut = is.most_cut;
 }
 
-IsHeader-queue : (form : Form) (depth queue cut : Option ℕ) (q : ℕ) → is_scheduled form ≡ true → 1 ≤ q → q ≤ 64 → IsHeader form depth queue cut → IsHeader form depth (Some q) cut
+IsHeader-queue : (form : Form) (depth queue cut : Option ℕ) (q : ℕ) → is_scheduled form ≡ true → 1 ≤ q → q ≤ MOST_QUEUE → IsHeader form depth queue cut → IsHeader form depth (Some q) cut
 IsHeader-queue form depth queue cut q scheduled some most is = record {
   some_blocks = is.some_blocks;
   most_blocks = is.most_blocks;
@@ -273,7 +274,7 @@ IsHeader-queue form depth queue cut q scheduled some most is = record {
   most_cut = is.most_cut;
 }
 
-IsHeader-cut : (form : Form) (depth queue cut : Option ℕ) (n : ℕ) → n ≤ 1000000000 → IsHeader form depth queue cut → IsHeader form depth queue (Some n)
+IsHeader-cut : (form : Form) (depth queue cut : Option ℕ) (n : ℕ) → n ≤ MOST_STEPS → IsHeader form depth queue cut → IsHeader form depth queue (Some n)
 IsHeader-cut form depth queue cut n most is = record {
   some_blocks = is.some_blocks;
   most_blocks = is.most_blocks;
@@ -296,12 +297,12 @@ IsReadable-header r depth queue cut header is = record {
 IsReadable-after : (r : Reading) (l : Line) → IsLineOf (is_scheduled r.form) l → fits r l ≡ true → IsReadable r → IsReadable (after r l)
 IsReadable-after r (line.Depth d) of h is =
     let t = and_parts _ _ h in
-    IsReadable-header r _ _ _ (IsHeader-depth r.form r.depth r.queue r.cut d (leb-true 1 d t.0) (leb-true d 64 t.1) is.header) is
+    IsReadable-header r _ _ _ (IsHeader-depth r.form r.depth r.queue r.cut d (leb-true 1 d t.0) (leb-true d MOST_DEPTH t.1) is.header) is
 IsReadable-after r (line.Queue q) of h is =
     let t = and_parts _ _ h in
-    IsReadable-header r _ _ _ (IsHeader-queue r.form r.depth r.queue r.cut q of (leb-true 1 q t.0) (leb-true q 64 t.1) is.header) is
+    IsReadable-header r _ _ _ (IsHeader-queue r.form r.depth r.queue r.cut q of (leb-true 1 q t.0) (leb-true q MOST_QUEUE t.1) is.header) is
 IsReadable-after r (line.Cut n) of h is =
-    IsReadable-header r _ _ _ (IsHeader-cut r.form r.depth r.queue r.cut n (leb-true n 1000000000 h) is.header) is
+    IsReadable-header r _ _ _ (IsHeader-cut r.form r.depth r.queue r.cut n (leb-true n MOST_STEPS h) is.header) is
 IsReadable-after r (line.Put block value k) of h is =
     let t = and_parts _ _ h in
     IsReadable-request r _ (ltb-true _ _ t.1) (IsRequestOf-put (form_blocks r.form) (length r.puts) block value k (ltb-true _ _ t.0)) (IsFilled-put (length r.puts) block value k of) is
@@ -315,7 +316,7 @@ IsReadable-after r line.Events of h is = record {
 IsReadable-after r (line.Plain w count) of h is = IsReadable-events r (plain_event w) count of h is
 IsReadable-after r (line.Pick w pick count) of h is =
     let t = and_parts _ _ h in
-    IsReadable-events r (pick_event w pick) count (of (ltb-true pick 4294967296 t.0)) t.1 is
+    IsReadable-events r (pick_event w pick) count (of (ltb-true pick PLACES t.0)) t.1 is
 
 -- ---- results
 
@@ -350,7 +351,7 @@ IsReadable-later_line r (Some w) ws next h is =
 
 -- ---- the first line
 
-IsHeader-new : (form : Form) → 1 ≤ form_blocks form → form_blocks form ≤ 4096 → IsHeader form None None None
+IsHeader-new : (form : Form) → 1 ≤ form_blocks form → form_blocks form ≤ MOST_BLOCKS → IsHeader form None None None
 IsHeader-new form some few = record {
   some_blocks = some;
   most_blocks = few;
@@ -380,7 +381,7 @@ form_blocks-form_of : (scheduled : Bool) (n : ℕ) → form_blocks (form_of sche
 form_blocks-form_of true n = refl
 form_blocks-form_of false n = refl
 
-IsReadable-new : (form : Form) → 1 ≤ form_blocks form → form_blocks form ≤ 4096 → IsReadable (new_reading form)
+IsReadable-new : (form : Form) → 1 ≤ form_blocks form → form_blocks form ≤ MOST_BLOCKS → IsReadable (new_reading form)
 IsReadable-new form some few = record {
   header = IsHeader-new form some few;
   puts = AreRequests-none (form_blocks form);
@@ -390,11 +391,11 @@ IsReadable-new form some few = record {
 IsReadable-opened : (scheduled : Bool) (n : Option ℕ) (next : Reading) → opened scheduled n ≡ Ok next → IsReadable next
 IsReadable-opened scheduled None next h = cc
 IsReadable-opened scheduled (Some n) next h =
-    let t = ok_behind (nat_le 1 n && nat_le n 4096) (new_reading (form_of scheduled n)) next _ h in
+    let t = ok_behind (nat_le 1 n && nat_le n MOST_BLOCKS) (new_reading (form_of scheduled n)) next _ h in
     let bounds = and_parts _ _ t.0 in
     let same = form_blocks-form_of scheduled n in
     let some = leb-true 1 n bounds.0 in
-    let few = leb-true n 4096 bounds.1 in
+    let few = leb-true n MOST_BLOCKS bounds.1 in
     subst IsReadable t.1 (IsReadable-new (form_of scheduled n) (omega (arith, same, some)) (omega (arith, same, few)))
 
 IsReadable-form_line : (scheduled : Bool) (ws : List (List ℕ)) (next : Reading) → form_line scheduled ws ≡ Ok next → IsReadable next
@@ -453,7 +454,7 @@ IsRunnable-script_read r is = record {
 IsWellFormed-script_read : (r : Reading) → IsReadable r → IsWellFormed (script_read r)
 IsWellFormed-script_read r is = record {
   runnable = IsRunnable-script_read r is;
-  plain_queue = λ e. ap (λ q. unwrap_or q 32) (is.header.plain_queue e);
+  plain_queue = λ e. ap (λ q. unwrap_or q DEFAULT_QUEUE) (is.header.plain_queue e);
   cut = is.header.most_cut;
   filled = is.puts.filled;
   events = is.events.each;

@@ -1,11 +1,11 @@
 -- What a text that is accepted says: the lines that the speller writes of its script, but that some may be
 -- left out, and that header lines may stand in any order.
-use Rattle.std.specs.Prelude.{◌≡◌, ℕ, ◌++◌, ◌||◌, not, Bool, true, false, List, [], ◌∷◌, codes, map, if◌then◌else◌}
+use Rattle.std.specs.Prelude.{◌≡◌, ℕ, ◌++◌, ◌||◌, not, Bool, true, false, List, [], ◌∷◌, codes, map}
 use Rattle.std.specs.List.{filter}
 use Rattle.std.specs.Str.{bytes_eq}
 use Rattle.blk_base.specs.Members.{In}
 use Rattle.script_grammar.specs.declared.script.Script.{Script}
-use Rattle.script_grammar.specs.Spelling.{lines_of, words_of, is_skipped}
+use Rattle.script_grammar.specs.Spelling.{words_of, is_skipped}
 use Rattle.script_grammar.specs.Grammar.{is_scheduled}
 use Rattle.script_grammar.specs.Speller.{form_words, depth_lines, queue_lines, cut_lines, request_words, event_line_words}
 

@@ -3,6 +3,7 @@ use Rattle.std.specs.Prelude.{◌≡◌, ℕ, ◌+◌, ◌&&◌, ◌||◌, ◌<�
 use Rattle.blk_base.specs.Block.{filled}
 use Rattle.order_model.specs.declared.request.Request.{Request}
 use Rattle.order_model.specs.declared.request.Kind.TheVariants.{Put, Flush}
+use Rattle.script_grammar.specs.declared.limits.TheConstants.{DEFAULT_DEPTH, DEFAULT_QUEUE, MOST_BLOCKS, MOST_DEPTH, MOST_EVENTS, MOST_QUEUE, MOST_REPEATS, MOST_REQUESTS, MOST_STEPS, PLACES}
 use Rattle.script_grammar.specs.declared.kinds.ScriptKind.{ScriptKind}
 use Rattle.script_grammar.specs.declared.kinds.ScriptKind.TheVariants as kinds
 use Rattle.script_grammar.specs.declared.reading.Reading.{Reading}
@@ -60,7 +61,7 @@ new_reading form = record { form = form; depth = None; queue = None; cut = None;
 -- a medium of so many blocks, 1 to 4,096
 abbrev pub opened : Bool → Option ℕ → Result Reading ScriptKind
 opened scheduled None = Err kinds.Word
-opened scheduled (Some n) = if nat_le 1 n && nat_le n 4096 then Ok (new_reading (form_of scheduled n)) else Err kinds.Number
+opened scheduled (Some n) = if nat_le 1 n && nat_le n MOST_BLOCKS then Ok (new_reading (form_of scheduled n)) else Err kinds.Number
 
 abbrev pub form_line : Bool → List (List ℕ) → Result Reading ScriptKind
 form_line scheduled (n ∷ []) = opened scheduled (numeral n)
@@ -111,18 +112,18 @@ stood_before r w = false
 
 -- an event line's count keeps the limits on repeats and on all events
 abbrev pub count_fits : Reading → ℕ → Bool
-count_fits r count = nat_le 1 count && (nat_le count 1000000 && nat_le (r.expanded + count) 20000000)
+count_fits r count = nat_le 1 count && (nat_le count MOST_REPEATS && nat_le (r.expanded + count) MOST_EVENTS)
 
 -- the numbers of the line are within their limits
 abbrev pub fits : Reading → Line → Bool
-fits r (line.Depth d) = nat_le 1 d && nat_le d 64
-fits r (line.Queue q) = nat_le 1 q && nat_le q 64
-fits r (line.Cut n) = nat_le n 1000000000
-fits r (line.Put block value k) = nat_lt block (form_blocks r.form) && nat_lt (length r.puts) 10000
-fits r line.Flush = nat_lt (length r.puts) 10000
+fits r (line.Depth d) = nat_le 1 d && nat_le d MOST_DEPTH
+fits r (line.Queue q) = nat_le 1 q && nat_le q MOST_QUEUE
+fits r (line.Cut n) = nat_le n MOST_STEPS
+fits r (line.Put block value k) = nat_lt block (form_blocks r.form) && nat_lt (length r.puts) MOST_REQUESTS
+fits r line.Flush = nat_lt (length r.puts) MOST_REQUESTS
 fits r line.Events = true
 fits r (line.Plain w count) = count_fits r count
-fits r (line.Pick w pick count) = nat_lt pick 4294967296 && count_fits r count
+fits r (line.Pick w pick count) = nat_lt pick PLACES && count_fits r count
 
 abbrev pub is_ordered_class : Class → Bool
 is_ordered_class class.Free = false
@@ -200,7 +201,7 @@ abbrev pub read_line : ℕ → Option Reading → List ℕ → Result (Option Re
 read_line n reading l = if is_skipped l then Ok reading else at_line n (read_words reading (words_of l))
 
 abbrev pub script_read : Reading → Script
-script_read r = record { kind = r.form; header = record { depth = unwrap_or r.depth 32; queue = unwrap_or r.queue 32; cut = r.cut }; puts = r.puts; events = r.events }
+script_read r = record { kind = r.form; header = record { depth = unwrap_or r.depth DEFAULT_DEPTH; queue = unwrap_or r.queue DEFAULT_QUEUE; cut = r.cut }; puts = r.puts; events = r.events }
 
 abbrev pub ended_in : ℕ → Reading → Section → Result Script (ℕ × ScriptKind)
 ended_in n r sections.Events = Ok (script_read r)
@@ -242,10 +243,10 @@ blocks_of s = form_blocks s.kind
 
 pub record IsRunnable (s : Script) : Type 0 where
   pub some_blocks : 1 ≤ blocks_of s
-  pub few_blocks : blocks_of s ≤ 4096
+  pub few_blocks : blocks_of s ≤ MOST_BLOCKS
   pub some_depth : 1 ≤ s.header.depth
-  pub depth : s.header.depth ≤ 64
+  pub depth : s.header.depth ≤ MOST_DEPTH
   pub some_queue : 1 ≤ s.header.queue
-  pub queue : s.header.queue ≤ 64
-  pub few : length s.puts ≤ 10000
+  pub queue : s.header.queue ≤ MOST_QUEUE
+  pub few : length s.puts ≤ MOST_REQUESTS
   pub requests : (i : ℕ) (q : Request) → slice_get s.puts i ≡ Some q → IsRequestOf (blocks_of s) i q

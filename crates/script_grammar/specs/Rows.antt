@@ -1,5 +1,4 @@
 -- Requests as lines say them.
-use Rattle.std.specs.Prelude.{ℕ}
 use Rattle.blk_base.specs.Block.{filled}
 use Rattle.order_model.specs.declared.request.Kind.{Kind}
 use Rattle.order_model.specs.declared.request.Kind.TheVariants as kinds

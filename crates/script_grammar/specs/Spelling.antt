@@ -1,5 +1,5 @@
 -- How scripts are cut into lines and words, and how numbers are spelled.
-use Rattle.std.specs.Prelude.{ℕ, ◌+◌, ◌-◌, ◌*◌, ◌/◌, ◌%◌, ◌^◌, ◌==◌, ◌&&◌, not, min, Bool, true, false, List, [], ◌∷◌, length, take, Option, Some, None, nat_le, nat_lt, if◌then◌else◌, slice_get}
+use Rattle.std.specs.Prelude.{ℕ, ◌+◌, ◌-◌, ◌*◌, ◌^◌, ◌==◌, ◌&&◌, not, min, Bool, true, false, List, [], ◌∷◌, length, take, Option, Some, None, nat_le, if◌then◌else◌, slice_get}
 use Rattle.std.specs.List.{slice_split, list_all}
 use Rattle.std.specs.Option.{option_and_then, option_map, option_map_or}
 

@@ -4,6 +4,7 @@ use Rattle.blk_base.specs.Block.{filled}
 use Rattle.blk_base.specs.Members.{In}
 use Rattle.order_model.specs.declared.request.Request.{Request}
 use Rattle.order_model.specs.declared.request.Kind.TheVariants.{Put}
+use Rattle.script_grammar.specs.declared.limits.TheConstants.{DEFAULT_QUEUE, MOST_EVENTS, MOST_REPEATS, MOST_STEPS, PLACES}
 use Rattle.script_grammar.specs.declared.script.Script.{Script}
 use Rattle.script_grammar.specs.declared.script.EventLine.{EventLine}
 use Rattle.script_grammar.specs.declared.script.EventWord.{EventWord}
@@ -16,10 +17,10 @@ use Rattle.script_grammar.specs.Grammar.{is_scheduled, IsRunnable}
 abbrev pub IsEventOf : Bool → CoreEvent → Type 0
 IsEventOf scheduled Submit = scheduled ≡ true
 IsEventOf scheduled Accept = scheduled ≡ true
-IsEventOf scheduled (Dispatch pick) = (scheduled ≡ true) × (pick < 4294967296)
+IsEventOf scheduled (Dispatch pick) = (scheduled ≡ true) × (pick < PLACES)
 IsEventOf scheduled Receive = Unit {0}
-IsEventOf scheduled (Transfer pick) = pick < 4294967296
-IsEventOf scheduled (Persist pick) = pick < 4294967296
+IsEventOf scheduled (Transfer pick) = pick < PLACES
+IsEventOf scheduled (Persist pick) = pick < PLACES
 
 abbrev pub IsWordOf : Bool → EventWord → Type 0
 IsWordOf scheduled (One event) = IsEventOf scheduled event
@@ -28,7 +29,7 @@ IsWordOf scheduled (One event) = IsEventOf scheduled event
 pub record IsEventLineOf (scheduled : Bool) (l : EventLine) : Type 0 where
   pub event : IsWordOf scheduled l.what
   pub some : 1 ≤ l.count
-  pub most : l.count ≤ 1000000
+  pub most : l.count ≤ MOST_REPEATS
 
 -- how many events the lines are, with their repeats
 abbrev pub expanded_of : List EventLine → ℕ
@@ -42,8 +43,8 @@ IsFilled q = (block : ℕ) (body : List ℕ) → q.kind ≡ Put block body → (
 pub record IsWellFormed (s : Script) : Type 0 where
   pub runnable : IsRunnable s
   -- no line of a device script speaks of the queues
-  pub plain_queue : is_scheduled s.kind ≡ false → s.header.queue ≡ 32
-  pub cut : (n : ℕ) → s.header.cut ≡ Some n → n ≤ 1000000000
+  pub plain_queue : is_scheduled s.kind ≡ false → s.header.queue ≡ DEFAULT_QUEUE
+  pub cut : (n : ℕ) → s.header.cut ≡ Some n → n ≤ MOST_STEPS
   pub filled : (q : Request) → In q s.puts → IsFilled q
   pub events : (l : EventLine) → In l s.events → IsEventLineOf (is_scheduled s.kind) l
-  pub expanded : expanded_of s.events ≤ 20000000
+  pub expanded : expanded_of s.events ≤ MOST_EVENTS

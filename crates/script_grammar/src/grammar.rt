@@ -6,9 +6,15 @@ ghost use Rattle.script_grammar.specs.WellFormed.{IsWellFormed};
 ghost use Rattle.script_grammar.specs.Readers.{Gives, Reads, fault_at};
 
 use crate::kinds::ScriptKind;
+use crate::limits::{
+    DEFAULT_DEPTH, DEFAULT_QUEUE, MOST_BLOCKS, MOST_DEPTH, MOST_EVENTS, MOST_QUEUE, MOST_REPEATS,
+    MOST_REQUESTS, MOST_SCRIPT_BYTES, MOST_STEPS, PLACES,
+};
 use crate::line_forms::read_line_of;
 use crate::reading::{Reading, Section};
-use crate::script::{Asked, CoreEvent, EventLine, EventWord, Events, Form, Header, RequestList, Row, Script};
+use crate::script::{
+    Asked, CoreEvent, EventLine, EventWord, Events, Form, Header, RequestList, Row, Script,
+};
 use crate::script_error::{LineError, ScriptError};
 use crate::spelling::{is_skipped, lines, numeral, words};
 use crate::word_table::read_word;
@@ -18,7 +24,7 @@ use std::alloc::Global;
 
 /// Reads a script, or says its first faulty line and what is wrong with it.
 pub fn read_script(alloc: Global, bytes: &[u8]) -> Result<Script, ScriptError>
-    requires { length bytes.now ≤ 4194304 }
+    requires { length bytes.now ≤ MOST_SCRIPT_BYTES }
     ensures ok { IfOk result (λ s. script_of bytes.now ≡ Ok s) }
     ensures fault { (n : ℕ) (kind : ScriptKind) → result ≡ Err (ScriptError.Fault n kind) → script_of bytes.now ≡ Err (n, kind) }
     ensures well_formed { IfOk result IsWellFormed }
@@ -85,7 +91,7 @@ fn opened(alloc: Global, scheduled: bool, blocks: Option<u64>) -> Result<Reading
     let Some(blocks) = blocks else {
         return Err(ScriptKind::Word);
     };
-    if blocks >= 1 && blocks <= 4096 {
+    if blocks >= 1 && blocks <= MOST_BLOCKS {
         Ok(new_reading(alloc, form_of(scheduled, blocks as u32)))
     } else {
         Err(ScriptKind::Number)
@@ -165,29 +171,29 @@ fn stood_before(reading: &Reading, word: Word) -> bool
 fn count_fits(reading: &Reading, count: u64) -> bool
     ensures { result ≡ count_fits reading.now count }
 {
-    count >= 1 && count <= 1_000_000 && reading.expanded.saturating_add(count) <= 20_000_000
+    count >= 1 && count <= MOST_REPEATS && reading.expanded.saturating_add(count) <= MOST_EVENTS
 }
 
 fn has_room(reading: &Reading) -> bool
-    ensures { result ≡ nat_lt (length reading.now.puts) 10000 }
+    ensures { result ≡ nat_lt (length reading.now.puts) MOST_REQUESTS }
 {
-    reading.puts.len() < 10_000
+    reading.puts.len() < MOST_REQUESTS
 }
 
 fn fits(reading: &Reading, line: Line) -> bool
     ensures { result ≡ fits reading.now line }
 {
     match line {
-        Line::Depth(depth) => depth >= 1 && depth <= 64,
-        Line::Queue(queue) => queue >= 1 && queue <= 64,
-        Line::Cut(steps) => steps <= 1_000_000_000,
+        Line::Depth(depth) => depth >= 1 && depth <= MOST_DEPTH,
+        Line::Queue(queue) => queue >= 1 && queue <= MOST_QUEUE,
+        Line::Cut(steps) => steps <= MOST_STEPS,
         Line::Put { block, .. } => {
             block < u64::from(form_blocks(reading.form)) && has_room(reading)
         }
         Line::Flush => has_room(reading),
         Line::Events => true,
         Line::Plain { count, .. } => count_fits(reading, count),
-        Line::Pick { pick, count, .. } => pick < 4_294_967_296 && count_fits(reading, count),
+        Line::Pick { pick, count, .. } => pick < PLACES && count_fits(reading, count),
     }
 }
 
@@ -398,8 +404,8 @@ fn script_read(reading: Reading) -> Script
     Script {
         kind: form,
         header: Header {
-            depth: depth.unwrap_or(32),
-            queue: queue.unwrap_or(32),
+            depth: depth.unwrap_or(DEFAULT_DEPTH),
+            queue: queue.unwrap_or(DEFAULT_QUEUE),
             cut,
         },
         puts,

@@ -8,6 +8,7 @@
 mod grammar;
 mod kinds;
 mod law;
+mod limits;
 mod line_forms;
 mod reading;
 mod script;
@@ -19,5 +20,9 @@ mod words;
 pub use grammar::read_script;
 pub use kinds::ScriptKind;
 pub use law::{accepts_what_is_spelled, reads_what_is_spelled, tells_first_fault};
+pub use limits::{
+    DEFAULT_DEPTH, DEFAULT_QUEUE, MOST_BLOCKS, MOST_DEPTH, MOST_EVENTS, MOST_QUEUE, MOST_REPEATS,
+    MOST_REQUESTS, MOST_SCRIPT_BYTES, MOST_STEPS, PLACES,
+};
 pub use script::{CoreEvent, EventLine, EventWord, Events, Form, Header, RequestList, Script};
 pub use script_error::ScriptError;

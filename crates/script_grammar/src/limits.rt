@@ -1,0 +1,34 @@
+//! The limits of a script, and what a header line that is missing stands for.
+
+/// The most bytes of a script.
+pub const MOST_SCRIPT_BYTES: usize = 4_194_304;
+
+/// The most blocks of its medium.
+pub const MOST_BLOCKS: u64 = 4_096;
+
+/// The most commands that may wait in the device.
+pub const MOST_DEPTH: u64 = 64;
+
+/// The most items of each queue between two parts of the stack.
+pub const MOST_QUEUE: u64 = 64;
+
+/// The latest step of the device at which a script can cut the power.
+pub const MOST_STEPS: u64 = 1_000_000_000;
+
+/// The most requests.
+pub const MOST_REQUESTS: usize = 10_000;
+
+/// How often an event line may be done.
+pub const MOST_REPEATS: u64 = 1_000_000;
+
+/// The most events, with their repeats.
+pub const MOST_EVENTS: u64 = 20_000_000;
+
+/// The place that an event picks is below this.
+pub const PLACES: u64 = 4_294_967_296;
+
+/// The depth where no line says one.
+pub const DEFAULT_DEPTH: u32 = 32;
+
+/// The length of each queue where no line says one.
+pub const DEFAULT_QUEUE: u32 = 32;
