@@ -3,9 +3,11 @@ use Rattle.std.specs.Prelude.{◌≡◌, ℕ, ◌<◌, ◌≤◌, ◌⊎◌, Lis
 use Rattle.std.specs.Str.{bytes_eq}
 use Rattle.std.specs.Io.KnownBytes.{Keeps, Appends, Consumes}
 use Rattle.blk_base.specs.Streams.{Rose, Drained, AppendsFront}
+use Rattle.script_grammar.specs.declared.limits.TheConstants.{MOST_SCRIPT_BYTES}
 use Rattle.script_grammar.specs.declared.kinds.ScriptKind.{ScriptKind}
 use Rattle.blk_base.specs.Image.{whole_blocks}
 use Rattle.mount_make.specs.declared.fault.ImageFault.{ImageFault}
+use Rattle.barrierfs_cli.specs.declared.command_line.TheConstants.{MOST_IMAGE_BYTES}
 use Rattle.barrierfs_cli.specs.declared.command_line.Command.{Command}
 use Rattle.barrierfs_cli.specs.declared.command_line.Command.TheVariants as commands
 use Rattle.barrierfs_cli.specs.Show.{shown}
@@ -31,8 +33,8 @@ command_of words = None
 
 -- the most bytes of a script, and of an image
 abbrev pub most_of : Command → ℕ
-most_of commands.Replay = 4194304
-most_of commands.Show = 134217728
+most_of commands.Replay = MOST_SCRIPT_BYTES
+most_of commands.Show = MOST_IMAGE_BYTES
 
 -- the exit status of a fault
 abbrev pub status_of : Option TopFault → ℕ

@@ -3,6 +3,7 @@ ghost use Rattle.std.specs.Prelude.{◌≡◌, ◌++◌, ◌∷◌, [], OnOk};
 ghost use Rattle.barrierfs_cli.specs.Top.{command_of, most_of};
 
 use blk_base::NoMemory;
+use script_grammar::MOST_SCRIPT_BYTES;
 use std::alloc::Global;
 use std::marker::Model;
 
@@ -21,15 +22,14 @@ impl Command {
         ensures { result ≡ most_of self }
     {
         match self {
-            Command::Replay => MOST_OF_SCRIPT,
-            Command::Show => MOST_OF_IMAGE,
+            Command::Replay => MOST_SCRIPT_BYTES as u64,
+            Command::Show => MOST_IMAGE_BYTES,
         }
     }
 }
 
-const MOST_OF_SCRIPT: u64 = 4_194_304;
-
-const MOST_OF_IMAGE: u64 = 134_217_728;
+/// The most bytes of an image.
+pub const MOST_IMAGE_BYTES: u64 = 134_217_728;
 
 /// The words of the command line, without the program's name.
 #[derive(Drop)]

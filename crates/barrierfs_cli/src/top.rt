@@ -13,7 +13,7 @@ use crate::fault::TopFault;
 use crate::show::show_text;
 use crate::text::put_report;
 use blk_base::{ReadEnd, Sink, Source, read_all, write_all};
-use script_grammar::{ScriptError, read_script};
+use script_grammar::{MOST_SCRIPT_BYTES, ScriptError, read_script};
 use stack_core::{Report, core_run};
 use std::alloc::Global;
 
@@ -55,7 +55,7 @@ fn read_fault(end: ReadEnd) -> TopFault
 
 // Runs the script of these bytes, and makes its text.
 fn run_text(alloc: Global, bytes: &[u8]) -> Result<Printed, TopFault>
-    requires { length bytes.now ≤ 4194304 }
+    requires { length bytes.now ≤ MOST_SCRIPT_BYTES }
     ensures ok { IfOk result (λ p. IsReplay bytes.now p.report (string_bytes p.text)) }
     ensures err { IfErr result (IsInputFault Command.Replay bytes.now) }
 {

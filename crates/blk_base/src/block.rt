@@ -1,3 +1,4 @@
+//! Blocks of 1,024 bytes.
 ghost use Rattle.std.specs.Prelude.{◌≡◌, ℕ, ◌<◌, List, length, slice_set, MatchOption, IsSome, ◌↔◌, IfSome};
 ghost use Rattle.blk_base.specs.Block.{filled};
 

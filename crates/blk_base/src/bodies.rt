@@ -1,3 +1,4 @@
+//! What has a present body for each block.
 ghost use Rattle.std.specs.Prelude.{◌≡◌, ℕ, List};
 
 use crate::Block;

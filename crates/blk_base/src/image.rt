@@ -1,3 +1,4 @@
+//! Images: blocks numbered from 0.
 ghost use Rattle.std.specs.Prelude.{◌≡◌, ℕ, ◌+◌, ◌<◌, ◌≤◌, List, length, IfOk, slice_get, slice_set, Some, vec_len, ◌/◌, ◌==◌};
 ghost use Rattle.blk_base.specs.Image.{zeros, whole_blocks, bytes_at};
 

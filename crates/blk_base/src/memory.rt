@@ -1,3 +1,4 @@
+//! Want of memory.
 use std::alloc::{AllocError, AllocFailed};
 
 /// Memory was refused. Every call that allocates may answer it, and no clause says when.

@@ -1,3 +1,4 @@
+//! Sinks of bytes: the trait, one in memory, one over std's writers.
 ghost use Rattle.std.specs.Prelude.{◌≡◌, ℕ, ◌<◌, ◌≤◌, List, [], length, Option, Some, None, Ok, IfOk, OnErr};
 ghost use Rattle.std.specs.Io.KnownBytes.{WriteAppends};
 ghost use Rattle.blk_base.specs.Streams.{Rose};

@@ -1,3 +1,4 @@
+//! Sources of bytes: the trait, one in memory, one over std's readers.
 ghost use Rattle.std.specs.Prelude.{◌≡◌, ℕ, ◌≤◌, List, [], length, Option, Some, IfOk, OnErr, None, min, take};
 ghost use Rattle.std.specs.Io.KnownBytes.{ReadConsumes};
 ghost use Rattle.blk_base.specs.Streams.{Rose};

@@ -1,3 +1,4 @@
+//! Streams that fail, and blocks and images at concrete values.
 ghost use Rattle.std.specs.Prelude.{Some};
 
 use super::*;

@@ -1,3 +1,4 @@
+//! Writing all of some bytes.
 ghost use Rattle.std.specs.Prelude.{◌≡◌, ℕ, ◌≤◌, List, OnOk, OnErr};
 ghost use Rattle.std.specs.Io.KnownBytes.{Appends};
 ghost use Rattle.blk_base.specs.Streams.{Rose, AppendsFront};

@@ -1,3 +1,4 @@
+//! What is read after a write. Each call does nothing.
 ghost use Rattle.std.specs.Prelude.{◌≡◌, ◌≢◌, ℕ, ◌+◌, ◌*◌, ◌^◌, ◌<◌, ◌≤◌, List, ◌∷◌, true, length, slice_index};
 ghost use Rattle.byte_fields.specs.Fields.{Apart, Order, Field, number_at, put, put_bytes, written, are_laid_out, HaveFields, record_at, put_record};
 

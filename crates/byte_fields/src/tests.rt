@@ -1,3 +1,4 @@
+//! Numbers in both orders, with bytes worked out by hand.
 use super::*;
 
 #[test]

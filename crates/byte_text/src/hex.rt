@@ -1,3 +1,4 @@
+//! A byte as two hexadecimal digits.
 ghost use Rattle.std.specs.Prelude.{◌≡◌, ◌<◌, ◌++◌, OnOk};
 ghost use Rattle.std.specs.String.{string_bytes};
 ghost use Rattle.byte_text.specs.Hex.{hex_digit_text, hex_text};

@@ -1,3 +1,4 @@
+//! Runs and digits that were written by hand.
 use super::*;
 use std::alloc::{AllocError, Global};
 use std::test::Fail;

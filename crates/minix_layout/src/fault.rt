@@ -1,3 +1,5 @@
+//! What may be wrong with a volume.
+
 /// What is wrong with the bytes of a volume.
 #[derive(Clone, Copy, Debug, PartialEq, Eq)]
 pub enum LayoutFault {
@@ -7,10 +9,12 @@ pub enum LayoutFault {
     NameWidth,
     /// The numbers of the superblock do not agree.
     BadGeometry,
-    /// A zone lies outside the volume's zones of data.
+    /// A zone lies outside the volume's zones of data, or was met before.
     BadZone,
-    /// The number of an inode is outside the volume's inodes.
+    /// Inode 1 is no directory, a file or directory is larger than a file may be, or the size of a directory
+    /// is no multiple of a slot's 16 bytes.
     BadInode,
-    /// The name of a slot in use is empty or has a `/`.
+    /// A slot in use has a name that is empty or has a `/`, the number of an inode past the last, a name that
+    /// stood before in its directory, or a directory that was named before. `read_slot` tells the first two.
     BadSlot,
 }

@@ -11,3 +11,4 @@ pub mod Requests
 pub mod SaidNumbers
 pub mod SaidWords
 pub mod Said
+pub mod Accepts

@@ -42,11 +42,11 @@ use Rattle.script_grammar.proofs.SaidWords.{IsNamed, named, class_named, plain_t
 -- ---- what the lines that were read say of the reading
 
 -- the line of a header word, where it was read
-abbrev read_line_of : List ℕ → Option ℕ → List (List (List ℕ))
+abbrev pub read_line_of : List ℕ → Option ℕ → List (List (List ℕ))
 read_line_of w None = []
 read_line_of w (Some n) = (w ∷ decimal n ∷ []) ∷ []
 
-abbrev is_header_line : List (List ℕ) → Bool
+abbrev pub is_header_line : List (List ℕ) → Bool
 is_header_line l = begins (codes "depth") l || (begins (codes "queue") l || begins (codes "cut") l)
 
 record SaysHeader (form : Form) (depth queue cut : Option ℕ) (header : List (List (List ℕ))) : Type 0 where
@@ -118,13 +118,13 @@ Says-header r lines l depth queue cut here is headed = record {
   no_events = is.no_events;
 }
 
-abbrev depth_line : ℕ → List (List ℕ)
+abbrev pub depth_line : ℕ → List (List ℕ)
 depth_line n = codes "depth" ∷ decimal n ∷ []
 
-abbrev queue_line : ℕ → List (List ℕ)
+abbrev pub queue_line : ℕ → List (List ℕ)
 queue_line n = codes "queue" ∷ decimal n ∷ []
 
-abbrev cut_line : ℕ → List (List ℕ)
+abbrev pub cut_line : ℕ → List (List ℕ)
 cut_line n = codes "cut" ∷ decimal n ∷ []
 
 Says-depth : (r : Reading) (lines : List (List (List ℕ))) (n : ℕ) → r.section ≡ sections.Header → r.depth ≡ None → Says r lines → Says (record r { depth = Some n }) (lines ++ depth_line n ∷ [])
@@ -501,11 +501,11 @@ SaysScript-ended n (Some r) s lines h is = SaysScript-ended_in n r r.section s l
 -- ---- all lines
 
 -- the lines behind these, of which this one is skipped or not
-abbrev kept_behind : Bool → List ℕ → List (List ℕ) → List (List (List ℕ))
+abbrev pub kept_behind : Bool → List ℕ → List (List ℕ) → List (List (List ℕ))
 kept_behind true l ls = kept_lines ls
 kept_behind false l ls = words_of l ∷ kept_lines ls
 
-kept_lines-one : (l : List ℕ) (ls : List (List ℕ)) (skipped : Bool) → is_skipped l ≡ skipped → kept_lines (l ∷ ls) ≡ kept_behind skipped l ls
+pub kept_lines-one : (l : List ℕ) (ls : List (List ℕ)) (skipped : Bool) → is_skipped l ≡ skipped → kept_lines (l ∷ ls) ≡ kept_behind skipped l ls
 kept_lines-one l ls true e = rw e refl
 kept_lines-one l ls false e = rw e refl
 

@@ -38,7 +38,7 @@ EndsIn-none r here n = ap (ended_in n r) here
 -- ---- event lines
 
 -- what is read after an event line
-abbrev with_line : Reading → EventLine → Reading
+abbrev pub with_line : Reading → EventLine → Reading
 with_line r l = record r { events = r.events ++ l ∷ []; expanded = r.expanded + l.count }
 
 abbrev event_line : EventWord → ℕ → EventLine
@@ -47,10 +47,10 @@ event_line what count = record { what = what; count = count }
 IsRead-what : (r : Reading) (what : EventWord) (count : ℕ) → r.section ≡ sections.Events → IsWordOf (is_scheduled r.form) what → 1 ≤ count → count ≤ MOST_REPEATS → r.expanded + count ≤ MOST_EVENTS → IsRead (Some r) (what_words what ++ codes "x" ∷ decimal count ∷ []) (with_line r (event_line what count))
 IsRead-what r (One e) count here is some most all = IsRead-event r e count here is some most all
 
-IsRead-event_line : (r : Reading) (l : EventLine) → r.section ≡ sections.Events → IsEventLineOf (is_scheduled r.form) l → r.expanded + l.count ≤ MOST_EVENTS → IsRead (Some r) (event_line_words l) (with_line r l)
+pub IsRead-event_line : (r : Reading) (l : EventLine) → r.section ≡ sections.Events → IsEventLineOf (is_scheduled r.form) l → r.expanded + l.count ≤ MOST_EVENTS → IsRead (Some r) (event_line_words l) (with_line r l)
 IsRead-event_line r l here is all = IsRead-what r l.what l.count here is.event is.some is.most all
 
-abbrev with_lines : Reading → List EventLine → Reading
+abbrev pub with_lines : Reading → List EventLine → Reading
 with_lines r ls = record r { events = ls }
 
 IsSpelling-events : (ls : List EventLine) (r : Reading) → r.section ≡ sections.Events → ((l : EventLine) → In l ls → IsEventLineOf (is_scheduled r.form) l) → r.expanded + expanded_of ls ≤ MOST_EVENTS → IsSpelling (Some r) (map event_line_words ls) (script_read (with_lines r (r.events ++ ls)))
@@ -66,7 +66,7 @@ IsSpelling-events (l ∷ ls) r here are all =
 -- ---- requests
 
 -- what is read after the requests
-abbrev with_requests : Reading → Section → List Request → Reading
+abbrev pub with_requests : Reading → Section → List Request → Reading
 with_requests r section qs = record r { section = section; puts = qs }
 
 IsSpelling-requests : (qs : List Request) (r : Reading) (ls : List (List (List ℕ))) (s : Script) → before_events r.section ≡ true → form_blocks r.form ≤ MOST_BLOCKS → length r.puts + length qs ≤ MOST_REQUESTS → ((i : ℕ) (q : Request) → slice_get qs i ≡ Some q → IsRequestOf (form_blocks r.form) (length r.puts + i) q) → ((q : Request) → In q qs → IsFilled q) → ((section : Section) → before_events section ≡ true → IsSpelling (Some (with_requests r section (r.puts ++ qs))) ls s) → IsSpelling (Some r) (map request_words qs ++ ls) s

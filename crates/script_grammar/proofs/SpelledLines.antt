@@ -58,7 +58,7 @@ read_line-words n reading (w ∷ ws) next is =
 abbrev pub EndsIn : Option Reading → List (List ℕ) → Script → Type 0
 EndsIn reading ls s = (n : ℕ) → read_from n reading ls ≡ Ok s
 
-read_from-step : (n : ℕ) (reading next : Option Reading) (l : List ℕ) (ls : List (List ℕ)) → read_line n reading l ≡ Ok next → read_from n reading (l ∷ ls) ≡ read_from (n + 1) next ls
+pub read_from-step : (n : ℕ) (reading next : Option Reading) (l : List ℕ) (ls : List (List ℕ)) → read_line n reading l ≡ Ok next → read_from n reading (l ∷ ls) ≡ read_from (n + 1) next ls
 unfolding read_from
 read_from-step n reading next l ls h = rw h refl
 
@@ -76,7 +76,7 @@ passes r true false stood o l _ h _ e f = cc
 passes r false stands stood o l h _ _ e f = cc
 
 -- a line that may stand here, with its numbers within their limits
-later_line-read : (r : Reading) (w : Word) (ws : List (List ℕ)) (l : Line) → is_built w ≡ true → may_stand r w ≡ true → stood_before r w ≡ false → line_of w ws ≡ Some l → fits r l ≡ true → later_line r (Some w) ws ≡ Ok (after r l)
+pub later_line-read : (r : Reading) (w : Word) (ws : List (List ℕ)) (l : Line) → is_built w ≡ true → may_stand r w ≡ true → stood_before r w ≡ false → line_of w ws ≡ Some l → fits r l ≡ true → later_line r (Some w) ws ≡ Ok (after r l)
 later_line-read r w ws l built stands stood e f = passes r (is_built w) (may_stand r w) (stood_before r w) (line_of w ws) l built stands stood e f
 
 -- ---- the first line and the header
@@ -228,13 +228,13 @@ IsRead-events r here = record {
   read = later_line-read r word.Events [] line.Events refl (and_from (stands_in r.section word.Events) (is_scheduled r.form || true) (stands_events r.section here) (or_right (is_scheduled r.form) true refl)) refl refl refl;
 }
 
-count_fits-from : (r : Reading) (count : ℕ) → 1 ≤ count → count ≤ MOST_REPEATS → r.expanded + count ≤ MOST_EVENTS → count_fits r count ≡ true
+pub count_fits-from : (r : Reading) (count : ℕ) → 1 ≤ count → count ≤ MOST_REPEATS → r.expanded + count ≤ MOST_EVENTS → count_fits r count ≡ true
 count_fits-from r count some most all =
     and_from (nat_le 1 count) (nat_le count MOST_REPEATS && nat_le (r.expanded + count) MOST_EVENTS) (le-leb 1 count some)
     (and_from (nat_le count MOST_REPEATS) (nat_le (r.expanded + count) MOST_EVENTS) (le-leb count MOST_REPEATS most) (le-leb (r.expanded + count) MOST_EVENTS all))
 
 -- the line may stand here: the scheduler is there where it is spoken of
-may_stand-event : (r : Reading) (w : Word) → r.section ≡ sections.Events → stands_in sections.Events w ≡ true → (is_scheduled r.form || not (needs_scheduler w)) ≡ true → may_stand r w ≡ true
+pub may_stand-event : (r : Reading) (w : Word) → r.section ≡ sections.Events → stands_in sections.Events w ≡ true → (is_scheduled r.form || not (needs_scheduler w)) ≡ true → may_stand r w ≡ true
 may_stand-event r w here stands known =
     and_from (stands_in r.section w) (is_scheduled r.form || not (needs_scheduler w)) (ap (λ section. stands_in section w) here ∙ stands) known
 

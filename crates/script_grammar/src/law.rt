@@ -25,8 +25,8 @@ pub fn reads_what_is_spelled()
     ensures read { (bytes : List ℕ) (s : Script) → script_of bytes ≡ Ok s → IsWellFormed s }
 {}
 
-/// A text that is accepted is what the speller writes of its script, but for its skipped lines, the order of
-/// its header lines, and what it leaves out because it is the default.
+/// A text is accepted as a script exactly where that is well-formed and the text is what the speller writes of
+/// it, but for skipped lines, the order of header lines, and what may be left out because it is the default.
 pub fn accepts_what_is_spelled()
-    ensures { (bytes : List ℕ) (s : Script) → script_of bytes ≡ Ok s → SaysScript s (kept_lines (lines_of bytes)) }
+    ensures { (bytes : List ℕ) (s : Script) → (script_of bytes ≡ Ok s) ↔ (IsWellFormed s × SaysScript s (kept_lines (lines_of bytes))) }
 {}

@@ -1,6 +1,7 @@
+//! Scripts that are read, and the faults of texts that are none.
 use super::*;
 use crate::kinds::ScriptKind::{NotBuilt, Number, Order, Twice, Word};
-use crate::law::{reads_what_is_spelled, tells_first_fault};
+use crate::law::{accepts_what_is_spelled, reads_what_is_spelled, tells_first_fault};
 use crate::script_error::ScriptError::Fault;
 use blk_base::Block;
 use order_model::{Kind, Request};
@@ -13,7 +14,7 @@ type Row = (&'static str, u32, ScriptKind);
 type Wanted = (Option<(u32, u8)>, bool, bool);
 
 fn expect_fault(rt: &impl Abort, alloc: Global, text: &[u8], line: u32, kind: ScriptKind) {
-    assert!(rt; text.len() <= 4_194_304);
+    assert!(rt; text.len() <= MOST_SCRIPT_BYTES);
     match read_script(alloc, text) {
         Ok(_) => assert!(rt; false, "line {line} of {text:?} is taken"),
         Err(fault) => assert_eq!(rt; fault, Fault(line, kind), "at {text:?}"),
@@ -278,7 +279,7 @@ fn counts_events_and_requests(rt: HostRuntime) -> Result<(), Fail> {
     let alloc = rt.alloc();
 
     let mut events = repeated(alloc, "blocks 4\nevents\n", "submit x 1000000\n", 20)?;
-    assert!(rt; events.len() <= 4_194_304);
+    assert!(rt; events.len() <= MOST_SCRIPT_BYTES);
     assert!(rt; read_script(alloc, &events).is_ok());
     events.extend_from_slice(b"dispatch 0\n")?;
     expect_fault(&rt, alloc, &events, 23, Number);
@@ -305,7 +306,7 @@ fn takes_defaults(rt: HostRuntime) -> Result<(), Fail> {
     };
     for (text, kind) in rows {
         let text = text.as_bytes();
-        assert!(rt; text.len() <= 4_194_304);
+        assert!(rt; text.len() <= MOST_SCRIPT_BYTES);
         let script = read_script(rt.alloc(), text)?;
         assert_eq!(rt; script.kind, kind);
         assert_eq!(rt; script.header, header);
@@ -424,4 +425,5 @@ fn copies_scripts(rt: HostRuntime) -> Result<(), Fail> {
 fn states_its_laws(_rt: HostRuntime) {
     tells_first_fault();
     reads_what_is_spelled();
+    accepts_what_is_spelled();
 }

@@ -1,0 +1,384 @@
+-- Lines that say a well-formed script are read as that script.
+use Rattle.std.proofs.Common.{◌≡◌, ℕ, suc, ◌+◌, ◌^◌, ◌<◌, ◌≤◌, Bool, true, false, not, ◌&&◌, ◌||◌, List, [], ◌∷◌, ◌++◌, length, codes, decimal, map, Option, Some, None, Ok, nat_le, nat_lt, unwrap_or, refl, sym, ap, ap₂, ◌∙◌, subst, inl, inr, arith, append_assoc, append-nil, length-append, lit≤, lit<, if◌then◌else◌, slice_get, ◌⊎◌}
+use Rattle.std.specs.Option.{option_and_then, option_map}
+use Rattle.std.proofs.lemmas.Bool.{and_from, or_left, or_right, or_cases, lt-ltb}
+use Rattle.std.proofs.lemmas.Fmt.{decimal_injective}
+use Rattle.std.proofs.lemmas.Option.{same_Some, none-some}
+use Rattle.blk_base.specs.Members.{In}
+use Rattle.order_model.specs.declared.request.Request.{Request}
+use Rattle.script_grammar.specs.declared.limits.TheConstants.{DEFAULT_DEPTH, DEFAULT_QUEUE, MOST_BLOCKS, MOST_DEPTH, MOST_EVENTS, MOST_QUEUE, MOST_REQUESTS, MOST_STEPS, PLACES}
+use Rattle.script_grammar.specs.declared.reading.Reading.{Reading}
+use Rattle.script_grammar.specs.declared.reading.Section.{Section}
+use Rattle.script_grammar.specs.declared.reading.Section.TheVariants as sections
+use Rattle.script_grammar.specs.declared.script.Script.{Script}
+use Rattle.script_grammar.specs.declared.script.Form.{Form}
+use Rattle.script_grammar.specs.declared.script.EventLine.{EventLine}
+use Rattle.script_grammar.specs.declared.script.EventWord.{EventWord}
+use Rattle.script_grammar.specs.declared.script.EventWord.TheVariants.{One}
+use Rattle.script_grammar.specs.declared.script.CoreEvent.{CoreEvent}
+use Rattle.script_grammar.specs.declared.script.CoreEvent.TheVariants.{Submit, Accept, Dispatch, Receive, Transfer, Persist}
+use Rattle.script_grammar.specs.declared.words.PlainWord.{PlainWord}
+use Rattle.script_grammar.specs.declared.words.PlainWord.TheVariants as plain
+use Rattle.script_grammar.specs.declared.words.PickWord.{PickWord}
+use Rattle.script_grammar.specs.declared.words.PickWord.TheVariants as picks
+use Rattle.script_grammar.specs.declared.words.Word.TheVariants as word
+use Rattle.script_grammar.specs.declared.words.Line.TheVariants as line
+use Rattle.script_grammar.specs.Spelling.{is_skipped, words_of, lines_of}
+use Rattle.script_grammar.specs.Words.{count_of}
+use Rattle.script_grammar.specs.Grammar.{form_blocks, is_scheduled, needs_scheduler, count_fits, with_request, with_events, plain_event, pick_event, new_reading, read_words, at_line, read_line, read_from, ended, ended_in, script_read, script_of, IsRequestOf}
+use Rattle.script_grammar.specs.WellFormed.{IsEventOf, IsWordOf, IsEventLineOf, IsFilled, IsWellFormed, expanded_of}
+use Rattle.script_grammar.specs.Speller.{form_words, cut_lines, request_words, event_words, what_words, event_line_words}
+use Rattle.script_grammar.specs.Accepted.{kept_lines, begins, beginning, or_default, default_depth, default_queue, filled_queue, with_count, SaysScript}
+use Rattle.script_grammar.proofs.SpelledNumbers.{numeral-decimal}
+use Rattle.script_grammar.proofs.SpelledLines.{IsRead, EndsIn, read_from-step, at_header, before_events, later_line-read, may_stand-event, count_fits-from, IsRead-form, IsRead-depth, IsRead-queue, IsRead-cut, IsRead-request, IsRead-events}
+use Rattle.script_grammar.proofs.Spelled.{with_line, with_lines, with_requests, IsRead-event_line}
+use Rattle.script_grammar.proofs.SaidWords.{one_text, default_text, line_with}
+use Rattle.script_grammar.proofs.Said.{read_line_of, is_header_line, depth_line, queue_line, cut_line, kept_behind, kept_lines-one}
+
+-- ---- lines, each as its words
+
+-- they are read one after the other, and end as the script
+abbrev ReadsTo : Option Reading → List (List (List ℕ)) → Script → Type 0
+ReadsTo reading [] s = (n : ℕ) → ended n reading ≡ Ok s
+ReadsTo reading (ws ∷ ls) s = (next : Reading) × (read_words reading ws ≡ Ok next) × ReadsTo (Some next) ls s
+
+ReadsTo-line : (reading : Option Reading) (ws : List (List ℕ)) (next : Reading) (ls : List (List (List ℕ))) (s : Script) → IsRead reading ws next → ReadsTo (Some next) ls s → ReadsTo reading (ws ∷ ls) s
+ReadsTo-line reading ws next ls s is rest = (next, is.read, rest)
+
+ends_skipped : (reading : Option Reading) (l : List ℕ) (ls : List (List ℕ)) (s : Script) → is_skipped l ≡ true → EndsIn reading ls s → EndsIn reading (l ∷ ls) s
+ends_skipped reading l ls s skipped rest n =
+    read_from-step n reading reading l ls (ap (λ t. if t then Ok reading else at_line n (read_words reading (words_of l))) skipped) ∙ rest (n + 1)
+
+ends_kept : (reading : Option Reading) (next : Reading) (l : List ℕ) (ls : List (List ℕ)) (s : Script) → is_skipped l ≡ false → read_words reading (words_of l) ≡ Ok next → EndsIn (Some next) ls s → EndsIn reading (l ∷ ls) s
+ends_kept reading next l ls s kept read rest n =
+    read_from-step n reading (Some next) l ls
+    (ap (λ t. if t then Ok reading else at_line n (read_words reading (words_of l))) kept ∙ ap (at_line n) read) ∙ rest (n + 1)
+
+ends_behind : (skipped : Bool) (reading : Option Reading) (l : List ℕ) (ls : List (List ℕ)) (s : Script) → is_skipped l ≡ skipped
+    → ((r : Option Reading) → ReadsTo r (kept_lines ls) s → EndsIn r ls s) → ReadsTo reading (kept_behind skipped l ls) s → EndsIn reading (l ∷ ls) s
+ends_behind true reading l ls s e rest reads = ends_skipped reading l ls s e (rest reading reads)
+ends_behind false reading l ls s e rest (next, read, reads) = ends_kept reading next l ls s e read (rest (Some next) reads)
+
+ends_reads : (ls : List (List ℕ)) (reading : Option Reading) (s : Script) → ReadsTo reading (kept_lines ls) s → EndsIn reading ls s
+unfolding read_from
+ends_reads [] reading s reads = reads
+ends_reads (l ∷ ls) reading s reads =
+    ends_behind (is_skipped l) reading l ls s refl (λ r more. ends_reads ls r s more)
+    (subst (λ ks. ReadsTo reading ks s) (kept_lines-one l ls (is_skipped l) refl) reads)
+
+-- ---- event lines
+
+-- the words of an event line, with its count or without it
+shape_one : (l : List (List ℕ)) (w n : List ℕ) → with_count l ≡ w ∷ codes "x" ∷ n ∷ [] → (l ≡ w ∷ codes "x" ∷ n ∷ []) ⊎ ((l ≡ w ∷ []) × (n ≡ codes "1"))
+shape_one [] w n h = cc
+shape_one (a ∷ []) w n h = let same : a ≡ w = cc in let one : codes "1" ≡ n = cc in inr (ap (λ (x : List ℕ). x ∷ []) same, sym one)
+shape_one (a ∷ b ∷ []) w n h = cc
+shape_one (a ∷ b ∷ c ∷ ws) w n h = inl h
+
+shape_two : (l : List (List ℕ)) (w p n : List ℕ) → with_count l ≡ w ∷ p ∷ codes "x" ∷ n ∷ [] → (l ≡ w ∷ p ∷ codes "x" ∷ n ∷ []) ⊎ ((l ≡ w ∷ p ∷ []) × (n ≡ codes "1"))
+shape_two [] w p n h = cc
+shape_two (a ∷ []) w p n h = cc
+shape_two (a ∷ b ∷ []) w p n h =
+    let first : a ≡ w = cc in
+    let second : b ≡ p = cc in
+    let one : codes "1" ≡ n = cc in
+    inr (ap₂ (λ (x y : List ℕ). x ∷ y ∷ []) first second, sym one)
+shape_two (a ∷ b ∷ c ∷ ws) w p n h = inl h
+
+shape : (l : List (List ℕ)) (e : CoreEvent) (n : List ℕ) → with_count l ≡ event_words e ++ codes "x" ∷ n ∷ [] → (l ≡ event_words e ++ codes "x" ∷ n ∷ []) ⊎ ((l ≡ event_words e) × (n ≡ codes "1"))
+shape l Submit n h = shape_one l (codes "submit") n h
+shape l Accept n h = shape_one l (codes "accept") n h
+shape l (Dispatch pick) n h = shape_two l (codes "dispatch") (decimal pick) n h
+shape l Receive n h = shape_one l (codes "receive") n h
+shape l (Transfer pick) n h = shape_two l (codes "transfer") (decimal pick) n h
+shape l (Persist pick) n h = shape_two l (codes "persist") (decimal pick) n h
+
+-- an event without its count is done once
+once_plain : (r : Reading) (w : PlainWord) → r.section ≡ sections.Events → (is_scheduled r.form || not (needs_scheduler (word.Plain w))) ≡ true → r.expanded + 1 ≤ MOST_EVENTS → read_words (Some r) (event_words (plain_event w)) ≡ Ok (with_events r (plain_event w) 1)
+once_plain r plain.Submit here known all =
+    later_line-read r (word.Plain plain.Submit) [] (line.Plain plain.Submit 1) refl (may_stand-event r (word.Plain plain.Submit) here refl known) refl refl (count_fits-from r 1 (lit≤ tt) (lit≤ tt) all)
+once_plain r plain.Accept here known all =
+    later_line-read r (word.Plain plain.Accept) [] (line.Plain plain.Accept 1) refl (may_stand-event r (word.Plain plain.Accept) here refl known) refl refl (count_fits-from r 1 (lit≤ tt) (lit≤ tt) all)
+once_plain r plain.Receive here known all =
+    later_line-read r (word.Plain plain.Receive) [] (line.Plain plain.Receive 1) refl (may_stand-event r (word.Plain plain.Receive) here refl known) refl refl (count_fits-from r 1 (lit≤ tt) (lit≤ tt) all)
+
+once_pick : (r : Reading) (w : PickWord) (pick : ℕ) → r.section ≡ sections.Events → (is_scheduled r.form || not (needs_scheduler (word.Pick w))) ≡ true → pick < PLACES → r.expanded + 1 ≤ MOST_EVENTS → read_words (Some r) (event_words (pick_event w pick)) ≡ Ok (with_events r (pick_event w pick) 1)
+once_pick r picks.Dispatch pick here known low all =
+    later_line-read r (word.Pick picks.Dispatch) (decimal pick ∷ []) (line.Pick picks.Dispatch pick 1) refl (may_stand-event r (word.Pick picks.Dispatch) here refl known) refl
+    (ap (λ o. option_and_then (λ n. option_map (line.Pick picks.Dispatch n) (count_of [])) o) (numeral-decimal pick (omega arith)))
+    (and_from (nat_lt pick PLACES) (count_fits r 1) (lt-ltb pick PLACES low) (count_fits-from r 1 (lit≤ tt) (lit≤ tt) all))
+once_pick r picks.Transfer pick here known low all =
+    later_line-read r (word.Pick picks.Transfer) (decimal pick ∷ []) (line.Pick picks.Transfer pick 1) refl (may_stand-event r (word.Pick picks.Transfer) here refl known) refl
+    (ap (λ o. option_and_then (λ n. option_map (line.Pick picks.Transfer n) (count_of [])) o) (numeral-decimal pick (omega arith)))
+    (and_from (nat_lt pick PLACES) (count_fits r 1) (lt-ltb pick PLACES low) (count_fits-from r 1 (lit≤ tt) (lit≤ tt) all))
+once_pick r picks.Persist pick here known low all =
+    later_line-read r (word.Pick picks.Persist) (decimal pick ∷ []) (line.Pick picks.Persist pick 1) refl (may_stand-event r (word.Pick picks.Persist) here refl known) refl
+    (ap (λ o. option_and_then (λ n. option_map (line.Pick picks.Persist n) (count_of [])) o) (numeral-decimal pick (omega arith)))
+    (and_from (nat_lt pick PLACES) (count_fits r 1) (lt-ltb pick PLACES low) (count_fits-from r 1 (lit≤ tt) (lit≤ tt) all))
+
+once : (r : Reading) (e : CoreEvent) → r.section ≡ sections.Events → IsEventOf (is_scheduled r.form) e → r.expanded + 1 ≤ MOST_EVENTS → read_words (Some r) (event_words e) ≡ Ok (with_events r e 1)
+once r Submit here is all = once_plain r plain.Submit here (or_left (is_scheduled r.form) false is) all
+once r Accept here is all = once_plain r plain.Accept here (or_left (is_scheduled r.form) false is) all
+once r (Dispatch pick) here is all = once_pick r picks.Dispatch pick here (or_left (is_scheduled r.form) false is.0) is.1 all
+once r Receive here is all = once_plain r plain.Receive here (or_right (is_scheduled r.form) true refl) all
+once r (Transfer pick) here is all = once_pick r picks.Transfer pick here (or_right (is_scheduled r.form) true refl) is all
+once r (Persist pick) here is all = once_pick r picks.Persist pick here (or_right (is_scheduled r.form) true refl) is all
+
+one_count : (n : ℕ) → n < 2 ^ 64 → decimal n ≡ codes "1" → n ≡ 1
+one_count n lt h = decimal_injective n 1 lt (lit< tt) (h ∙ one_text)
+
+event_read : (r : Reading) (l : List (List ℕ)) (what : EventWord) (n : ℕ) → r.section ≡ sections.Events → IsEventLineOf (is_scheduled r.form) (record { what = what; count = n }) → r.expanded + n ≤ MOST_EVENTS
+    → with_count l ≡ what_words what ++ codes "x" ∷ decimal n ∷ [] → read_words (Some r) l ≡ Ok (with_line r (record { what = what; count = n }))
+event_read r l (One e) n here is all h =
+    elim (shape l e (decimal n) h) [
+      | inl same ↦ subst (λ ws. read_words (Some r) ws ≡ Ok (with_line r (line_with e n))) (sym same) (IsRead-event_line r (line_with e n) here is all).read
+      | inr (same, digit) ↦
+        let most = is.most in
+        let one : n ≡ 1 = one_count n (omega (arith, most)) digit in
+        subst (λ ws. read_words (Some r) ws ≡ Ok (with_line r (line_with e n))) (sym same)
+        (subst (λ m. read_words (Some r) (event_words e) ≡ Ok (with_line r (line_with e m))) (sym one) (once r e here is.event (omega (arith, one))))
+    ]
+
+ended_here : (r : Reading) (n : ℕ) → r.section ≡ sections.Events → ended n (Some r) ≡ Ok (script_read r)
+ended_here r n here = ap (ended_in n r) here
+
+events_read : (ls : List (List (List ℕ))) (es : List EventLine) (r : Reading) → map with_count ls ≡ map event_line_words es → r.section ≡ sections.Events
+    → ((l : EventLine) → In l es → IsEventLineOf (is_scheduled r.form) l) → r.expanded + expanded_of es ≤ MOST_EVENTS → ReadsTo (Some r) ls (script_read (with_lines r (r.events ++ es)))
+events_read [] [] r h here are all = λ n. ended_here r n here ∙ ap (λ es. Ok (script_read (with_lines r es))) (sym (append-nil r.events))
+events_read [] (e ∷ es) r h here are all = cc
+events_read (l ∷ ls) [] r h here are all = cc
+events_read (l ∷ ls) (e ∷ es) r h here are all =
+    let first : with_count l ≡ event_line_words e = cc in
+    let others : map with_count ls ≡ map event_line_words es = cc in
+    let read = event_read r l e.what e.count here (are e (inl refl)) (omega arith) first in
+    let rest = events_read ls es (with_line r e) others here (λ m i. are m (inr i)) (omega arith) in
+    let same = append_assoc r.events (e ∷ []) es in
+    (with_line r e, read, subst (λ xs. ReadsTo (Some (with_line r e)) ls (script_read (with_lines r xs))) same rest)
+
+-- ---- requests
+
+requests_read : (qs : List Request) (r : Reading) (ls : List (List (List ℕ))) (s : Script) → before_events r.section ≡ true → form_blocks r.form ≤ MOST_BLOCKS → length r.puts + length qs ≤ MOST_REQUESTS
+    → ((i : ℕ) (q : Request) → slice_get qs i ≡ Some q → IsRequestOf (form_blocks r.form) (length r.puts + i) q) → ((q : Request) → In q qs → IsFilled q)
+    → ((section : Section) → before_events section ≡ true → ReadsTo (Some (with_requests r section (r.puts ++ qs))) ls s) → ReadsTo (Some r) (map request_words qs ++ ls) s
+requests_read [] r ls s here blocks few are full rest =
+    subst (λ qs. ReadsTo (Some (with_requests r r.section qs)) ls s) (append-nil r.puts) (rest r.section here)
+requests_read (q ∷ qs) r ls s here blocks few are full rest =
+    let place : length r.puts + 0 ≡ length r.puts = omega arith in
+    let is = subst (λ i. IsRequestOf (form_blocks r.form) i q) place (are 0 q refl) in
+    let read = IsRead-request r q here blocks (omega arith) is (full q (inl refl)) in
+    ReadsTo-line (Some r) (request_words q) (with_request r q) (map request_words qs ++ ls) s read
+    (requests_read qs (with_request r q) ls s refl blocks (omega (arith, length-append r.puts (q ∷ [])))
+    (λ i p e.
+    let later : length r.puts + suc i ≡ length (r.puts ++ q ∷ []) + i = omega (arith, length-append r.puts (q ∷ [])) in
+    subst (λ j. IsRequestOf (form_blocks r.form) j p) later (are (suc i) p e))
+    (λ p i. full p (inr i))
+    (λ section h. subst (λ ps. ReadsTo (Some (with_requests r section ps)) ls s) (sym (append_assoc r.puts (q ∷ []) qs)) (rest section h)))
+
+-- ---- the header, in whatever order
+
+abbrev queue_lines_of : Bool → ℕ → List (List (List ℕ))
+queue_lines_of scheduled q = if scheduled then queue_line q ∷ [] else []
+
+-- what is left of the header, and what was read of it, say these values
+record IsLeft (scheduled : Bool) (d q : ℕ) (c depth queue cut : Option ℕ) (ls : List (List (List ℕ))) : Type 0 where
+  depths : or_default default_depth (read_line_of (codes "depth") depth ++ beginning (codes "depth") ls) ≡ depth_line d ∷ []
+  queues : filled_queue scheduled (read_line_of (codes "queue") queue ++ beginning (codes "queue") ls) ≡ queue_lines_of scheduled q
+  cuts : read_line_of (codes "cut") cut ++ beginning (codes "cut") ls ≡ cut_lines c
+  known : (l : List (List ℕ)) → In l ls → is_header_line l ≡ true
+  depth_read : (n : ℕ) → depth ≡ Some n → n ≡ d
+  queue_read : (n : ℕ) → queue ≡ Some n → n ≡ q
+  cut_read : (n : ℕ) → cut ≡ Some n → c ≡ Some n
+
+beginning-with : (w : List ℕ) (l : List (List ℕ)) (ls : List (List (List ℕ))) → begins w l ≡ true → beginning w (l ∷ ls) ≡ l ∷ beginning w ls
+beginning-with w l ls e = rw e refl
+
+depth_next : (o : Option ℕ) (l : List (List ℕ)) (ls : List (List (List ℕ))) (d : ℕ) → or_default default_depth (read_line_of (codes "depth") o ++ l ∷ ls) ≡ depth_line d ∷ [] → (o ≡ None) × (l ≡ depth_line d) × (ls ≡ [])
+depth_next None l ls d h = let first : l ≡ depth_line d = cc in let rest : ls ≡ [] = cc in (refl, first, rest)
+depth_next (Some n) l ls d h = cc
+
+queue_next : (scheduled : Bool) (o : Option ℕ) (l : List (List ℕ)) (ls : List (List (List ℕ))) (q : ℕ) → filled_queue scheduled (read_line_of (codes "queue") o ++ l ∷ ls) ≡ queue_lines_of scheduled q → (scheduled ≡ true) × (o ≡ None) × (l ≡ queue_line q) × (ls ≡ [])
+queue_next true None l ls q h = let first : l ≡ queue_line q = cc in let rest : ls ≡ [] = cc in (refl, refl, first, rest)
+queue_next true (Some n) l ls q h = cc
+queue_next false None l ls q h = cc
+queue_next false (Some n) l ls q h = cc
+
+cut_next : (o c : Option ℕ) (l : List (List ℕ)) (ls : List (List (List ℕ))) → read_line_of (codes "cut") o ++ l ∷ ls ≡ cut_lines c → (n : ℕ) × (o ≡ None) × (c ≡ Some n) × (l ≡ cut_line n) × (ls ≡ [])
+cut_next None None l ls h = cc
+cut_next None (Some n) l ls h = let first : l ≡ cut_line n = cc in let rest : ls ≡ [] = cc in (n, refl, refl, first, rest)
+cut_next (Some m) None l ls h = cc
+cut_next (Some m) (Some n) l ls h = cc
+
+-- a line that is missing says the default
+depth_default : (o : Option ℕ) (d : ℕ) → d ≤ MOST_DEPTH → or_default default_depth (read_line_of (codes "depth") o ++ []) ≡ depth_line d ∷ [] → ((n : ℕ) → o ≡ Some n → n ≡ d) → unwrap_or o DEFAULT_DEPTH ≡ d
+depth_default None d few h same =
+    let word : codes "32" ≡ decimal d = cc in
+    decimal_injective 32 d (lit< tt) (omega arith) (sym default_text ∙ word)
+depth_default (Some n) d few h same = same n refl
+
+queue_default : (scheduled : Bool) (o : Option ℕ) (q : ℕ) → q ≤ MOST_QUEUE → (scheduled ≡ false → q ≡ DEFAULT_QUEUE) → filled_queue scheduled (read_line_of (codes "queue") o ++ []) ≡ queue_lines_of scheduled q → ((n : ℕ) → o ≡ Some n → n ≡ q) → unwrap_or o DEFAULT_QUEUE ≡ q
+queue_default scheduled (Some n) q few plain h same = same n refl
+queue_default true None q few plain h same =
+    let word : codes "32" ≡ decimal q = cc in
+    decimal_injective 32 q (lit< tt) (omega arith) (sym default_text ∙ word)
+queue_default false None q few plain h same = sym (plain refl)
+
+cut_default : (o c : Option ℕ) → read_line_of (codes "cut") o ++ [] ≡ cut_lines c → ((n : ℕ) → o ≡ Some n → c ≡ Some n) → o ≡ c
+cut_default None None h same = refl
+cut_default None (Some n) h same = cc
+cut_default (Some n) c h same = sym (same n refl)
+
+-- the values of a header, within their limits
+record AreFit (form : Form) (d q : ℕ) (c : Option ℕ) : Type 0 where
+  some_depth : 1 ≤ d
+  depth : d ≤ MOST_DEPTH
+  some_queue : 1 ≤ q
+  queue : q ≤ MOST_QUEUE
+  plain : is_scheduled form ≡ false → q ≡ DEFAULT_QUEUE
+  cut : (n : ℕ) → c ≡ Some n → n ≤ MOST_STEPS
+
+-- what comes behind the header, whatever of it was read
+abbrev Behind : Form → ℕ → ℕ → Option ℕ → List (List (List ℕ)) → Script → Type 0
+Behind form d q c rest s = (depth queue : Option ℕ) → unwrap_or depth DEFAULT_DEPTH ≡ d → unwrap_or queue DEFAULT_QUEUE ≡ q → ReadsTo (Some (at_header form depth queue c)) rest s
+
+-- a header line of each kind, and the lines behind it
+depth_left : (scheduled : Bool) (d q : ℕ) (c depth queue cut : Option ℕ) (l : List (List ℕ)) (ls : List (List (List ℕ))) → begins (codes "depth") l ≡ true → IsLeft scheduled d q c depth queue cut (l ∷ ls) → (depth ≡ None) × (l ≡ depth_line d) × IsLeft scheduled d q c (Some d) queue cut ls
+depth_left scheduled d q c depth queue cut l ls e is =
+    let found : or_default default_depth (read_line_of (codes "depth") depth ++ l ∷ beginning (codes "depth") ls) ≡ depth_line d ∷ [] =
+    ap (λ x. or_default default_depth (read_line_of (codes "depth") depth ++ x)) (sym (beginning-with (codes "depth") l ls e)) ∙ is.depths in
+    let next = depth_next depth l (beginning (codes "depth") ls) d found in
+    let same : beginning (codes "queue") (l ∷ ls) ≡ beginning (codes "queue") ls = ap (λ x. beginning (codes "queue") (x ∷ ls)) next.1 in
+    let cuts : beginning (codes "cut") (l ∷ ls) ≡ beginning (codes "cut") ls = ap (λ x. beginning (codes "cut") (x ∷ ls)) next.1 in
+    (next.0, next.1, record {
+      depths = ap (λ x. depth_line d ∷ x) next.2;
+      queues = ap (λ x. filled_queue scheduled (read_line_of (codes "queue") queue ++ x)) (sym same) ∙ is.queues;
+      cuts = ap (λ x. read_line_of (codes "cut") cut ++ x) (sym cuts) ∙ is.cuts;
+      known = λ m i. is.known m (inr i);
+      depth_read = λ n h. sym (same_Some d n h);
+      queue_read = is.queue_read;
+      cut_read = is.cut_read;
+    })
+
+queue_left : (scheduled : Bool) (d q : ℕ) (c depth queue cut : Option ℕ) (l : List (List ℕ)) (ls : List (List (List ℕ))) → begins (codes "queue") l ≡ true → IsLeft scheduled d q c depth queue cut (l ∷ ls) → (scheduled ≡ true) × (queue ≡ None) × (l ≡ queue_line q) × IsLeft scheduled d q c depth (Some q) cut ls
+queue_left scheduled d q c depth queue cut l ls e is =
+    let found : filled_queue scheduled (read_line_of (codes "queue") queue ++ l ∷ beginning (codes "queue") ls) ≡ queue_lines_of scheduled q =
+    ap (λ x. filled_queue scheduled (read_line_of (codes "queue") queue ++ x)) (sym (beginning-with (codes "queue") l ls e)) ∙ is.queues in
+    let next = queue_next scheduled queue l (beginning (codes "queue") ls) q found in
+    let depths : beginning (codes "depth") (l ∷ ls) ≡ beginning (codes "depth") ls = ap (λ x. beginning (codes "depth") (x ∷ ls)) next.2 in
+    let cuts : beginning (codes "cut") (l ∷ ls) ≡ beginning (codes "cut") ls = ap (λ x. beginning (codes "cut") (x ∷ ls)) next.2 in
+    (next.0, next.1, next.2, record {
+      depths = ap (λ x. or_default default_depth (read_line_of (codes "depth") depth ++ x)) (sym depths) ∙ is.depths;
+      queues =
+          ap (λ x. filled_queue scheduled (queue_line q ∷ x)) next.3
+          ∙ ap (λ b. filled_queue b (queue_line q ∷ [])) next.0
+          ∙ sym (ap (λ b. queue_lines_of b q) next.0);
+      cuts = ap (λ x. read_line_of (codes "cut") cut ++ x) (sym cuts) ∙ is.cuts;
+      known = λ m i. is.known m (inr i);
+      depth_read = is.depth_read;
+      queue_read = λ n h. sym (same_Some q n h);
+      cut_read = is.cut_read;
+    })
+
+cut_left : (scheduled : Bool) (d q : ℕ) (c depth queue cut : Option ℕ) (l : List (List ℕ)) (ls : List (List (List ℕ))) → begins (codes "cut") l ≡ true → IsLeft scheduled d q c depth queue cut (l ∷ ls) → (n : ℕ) × (cut ≡ None) × (c ≡ Some n) × (l ≡ cut_line n) × IsLeft scheduled d q c depth queue (Some n) ls
+cut_left scheduled d q c depth queue cut l ls e is =
+    let found : read_line_of (codes "cut") cut ++ l ∷ beginning (codes "cut") ls ≡ cut_lines c =
+    ap (λ x. read_line_of (codes "cut") cut ++ x) (sym (beginning-with (codes "cut") l ls e)) ∙ is.cuts in
+    let next = cut_next cut c l (beginning (codes "cut") ls) found in
+    let n = next.0 in
+    let depths : beginning (codes "depth") (l ∷ ls) ≡ beginning (codes "depth") ls = ap (λ x. beginning (codes "depth") (x ∷ ls)) next.3 in
+    let queues : beginning (codes "queue") (l ∷ ls) ≡ beginning (codes "queue") ls = ap (λ x. beginning (codes "queue") (x ∷ ls)) next.3 in
+    (n, next.1, next.2, next.3, record {
+      depths = ap (λ x. or_default default_depth (read_line_of (codes "depth") depth ++ x)) (sym depths) ∙ is.depths;
+      queues = ap (λ x. filled_queue scheduled (read_line_of (codes "queue") queue ++ x)) (sym queues) ∙ is.queues;
+      cuts = ap (λ x. cut_line n ∷ x) next.4 ∙ sym (ap cut_lines next.2);
+      known = λ m i. is.known m (inr i);
+      depth_read = is.depth_read;
+      queue_read = is.queue_read;
+      cut_read = λ m h. next.2 ∙ h;
+    })
+
+-- the three places of a header line that may be read
+at_depth : (form : Form) (d : ℕ) (depth queue cut : Option ℕ) (l : List (List ℕ)) (ls : List (List (List ℕ))) (s : Script) → 1 ≤ d → d ≤ MOST_DEPTH → depth ≡ None → l ≡ depth_line d → ReadsTo (Some (at_header form (Some d) queue cut)) ls s → ReadsTo (Some (at_header form depth queue cut)) (l ∷ ls) s
+at_depth form d depth queue cut l ls s some few none same rest =
+    subst (λ o. ReadsTo (Some (at_header form o queue cut)) (l ∷ ls) s) (sym none)
+    (subst (λ ws. ReadsTo (Some (at_header form None queue cut)) (ws ∷ ls) s) (sym same)
+    (ReadsTo-line (Some (at_header form None queue cut)) (depth_line d) (at_header form (Some d) queue cut) ls s (IsRead-depth form queue cut d some few) rest))
+
+at_queue : (form : Form) (q : ℕ) (depth queue cut : Option ℕ) (l : List (List ℕ)) (ls : List (List (List ℕ))) (s : Script) → is_scheduled form ≡ true → 1 ≤ q → q ≤ MOST_QUEUE → queue ≡ None → l ≡ queue_line q → ReadsTo (Some (at_header form depth (Some q) cut)) ls s → ReadsTo (Some (at_header form depth queue cut)) (l ∷ ls) s
+at_queue form q depth queue cut l ls s scheduled some few none same rest =
+    subst (λ o. ReadsTo (Some (at_header form depth o cut)) (l ∷ ls) s) (sym none)
+    (subst (λ ws. ReadsTo (Some (at_header form depth None cut)) (ws ∷ ls) s) (sym same)
+    (ReadsTo-line (Some (at_header form depth None cut)) (queue_line q) (at_header form depth (Some q) cut) ls s (IsRead-queue form depth cut q scheduled some few) rest))
+
+at_cut : (form : Form) (n : ℕ) (depth queue cut : Option ℕ) (l : List (List ℕ)) (ls : List (List (List ℕ))) (s : Script) → n ≤ MOST_STEPS → cut ≡ None → l ≡ cut_line n → ReadsTo (Some (at_header form depth queue (Some n))) ls s → ReadsTo (Some (at_header form depth queue cut)) (l ∷ ls) s
+at_cut form n depth queue cut l ls s few none same rest =
+    subst (λ o. ReadsTo (Some (at_header form depth queue o)) (l ∷ ls) s) (sym none)
+    (subst (λ ws. ReadsTo (Some (at_header form depth queue None)) (ws ∷ ls) s) (sym same)
+    (ReadsTo-line (Some (at_header form depth queue None)) (cut_line n) (at_header form depth queue (Some n)) ls s (IsRead-cut form depth queue n few) rest))
+
+header_read : (hs : List (List (List ℕ))) (form : Form) (d q : ℕ) (c depth queue cut : Option ℕ) (rest : List (List (List ℕ))) (s : Script) → AreFit form d q c → IsLeft (is_scheduled form) d q c depth queue cut hs → Behind form d q c rest s → ReadsTo (Some (at_header form depth queue cut)) (hs ++ rest) s
+header_read [] form d q c depth queue cut rest s fit is behind =
+    subst (λ o. ReadsTo (Some (at_header form depth queue o)) rest s) (sym (cut_default cut c is.cuts is.cut_read))
+    (behind depth queue (depth_default depth d fit.depth is.depths is.depth_read) (queue_default (is_scheduled form) queue q fit.queue fit.plain is.queues is.queue_read))
+header_read (l ∷ hs) form d q c depth queue cut rest s fit is behind =
+    elim (or_cases (begins (codes "depth") l) (begins (codes "queue") l || begins (codes "cut") l) (is.known l (inl refl))) [
+      | inl e ↦
+        let left = depth_left (is_scheduled form) d q c depth queue cut l hs e is in
+        at_depth form d depth queue cut l (hs ++ rest) s fit.some_depth fit.depth left.0 left.1 (header_read hs form d q c (Some d) queue cut rest s fit left.2 behind)
+      | inr f ↦ elim (or_cases (begins (codes "queue") l) (begins (codes "cut") l) f) [
+        | inl e ↦
+          let left = queue_left (is_scheduled form) d q c depth queue cut l hs e is in
+          at_queue form q depth queue cut l (hs ++ rest) s left.0 fit.some_queue fit.queue left.1 left.2 (header_read hs form d q c depth (Some q) cut rest s fit left.3 behind)
+        | inr e ↦
+          let left = cut_left (is_scheduled form) d q c depth queue cut l hs e is in
+          at_cut form left.0 depth queue cut l (hs ++ rest) s (fit.cut left.0 left.2) left.1 left.3 (header_read hs form d q c depth queue (Some left.0) rest s fit left.4 behind)
+      ]
+    ]
+
+-- ---- the whole script
+
+-- the lines behind the header
+body_read : (s : Script) (depth queue : Option ℕ) (events : List (List (List ℕ))) → IsWellFormed s → map with_count events ≡ map event_line_words s.events → unwrap_or depth DEFAULT_DEPTH ≡ s.header.depth → unwrap_or queue DEFAULT_QUEUE ≡ s.header.queue
+    → ReadsTo (Some (at_header s.kind depth queue s.header.cut)) (map request_words s.puts ++ (codes "events" ∷ []) ∷ events) s
+body_read s depth queue events well counted deep long =
+    let r = at_header s.kind depth queue s.header.cut in
+    requests_read s.puts r ((codes "events" ∷ []) ∷ events) s refl well.runnable.few_blocks (omega (arith, well.runnable.few))
+    (λ i q e. let place : i ≡ 0 + i = omega arith in subst (λ j. IsRequestOf (form_blocks s.kind) j q) place (well.runnable.requests i q e))
+    well.filled
+    (λ section h.
+    let t = with_requests r section s.puts in
+    let u = with_requests r sections.Events s.puts in
+    let same : script_read (with_lines u s.events) ≡ s =
+    ap₂ (λ (d q : ℕ). (record { kind = s.kind; header = record { depth = d; queue = q; cut = s.header.cut }; puts = s.puts; events = s.events } : Script)) deep long in
+    ReadsTo-line (Some t) (codes "events" ∷ []) u events s (IsRead-events t h)
+    (subst (ReadsTo (Some u) events) same (events_read events s.events u counted refl well.events (omega (arith, well.expanded)))))
+
+says_read : (s : Script) (lines : List (List (List ℕ))) → IsWellFormed s → SaysScript s lines → ReadsTo None lines s
+says_read s lines well says =
+    let run = well.runnable in
+    let head = says.headed in
+    let fit : AreFit s.kind s.header.depth s.header.queue s.header.cut = record {
+      some_depth = run.some_depth;
+      depth = run.depth;
+      some_queue = run.some_queue;
+      queue = run.queue;
+      plain = well.plain_queue;
+      cut = well.cut;
+    } in
+    let left : IsLeft (is_scheduled s.kind) s.header.depth s.header.queue s.header.cut None None None says.header = record {
+      depths = head.depth;
+      queues = head.queue;
+      cuts = head.cut;
+      known = head.known;
+      depth_read = λ n h. absurd (none-some n h);
+      queue_read = λ n h. absurd (none-some n h);
+      cut_read = λ n h. absurd (none-some n h);
+    } in
+    let body = map request_words s.puts ++ (codes "events" ∷ []) ∷ says.events in
+    subst (λ ls. ReadsTo None ls s) (sym says.whole)
+    (ReadsTo-line None (form_words s.kind) (new_reading s.kind) (says.header ++ body) s (IsRead-form s.kind run.some_blocks run.few_blocks)
+    (header_read says.header s.kind s.header.depth s.header.queue s.header.cut None None None body s fit left
+    (λ depth queue deep long. body_read s depth queue says.events well says.counted deep long)))
+
+-- the law: lines that say a well-formed script are read as it
+pub script_of-SaysScript : (bytes : List ℕ) (s : Script) → IsWellFormed s → SaysScript s (kept_lines (lines_of bytes)) → script_of bytes ≡ Ok s
+script_of-SaysScript bytes s well says = ends_reads (lines_of bytes) None s (says_read s (kept_lines (lines_of bytes)) well says) 1
