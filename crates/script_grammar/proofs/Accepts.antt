@@ -336,6 +336,10 @@ header_read (l ∷ hs) form d q c depth queue cut rest s fit is behind =
 
 -- ---- the whole script
 
+-- the script with this depth and this length of queues
+abbrev script_with : Script → ℕ → ℕ → Script
+script_with s d q = record { kind = s.kind; header = record { depth = d; queue = q; cut = s.header.cut }; puts = s.puts; events = s.events }
+
 -- the lines behind the header
 body_read : (s : Script) (depth queue : Option ℕ) (events : List (List (List ℕ))) → IsWellFormed s → map with_count events ≡ map event_line_words s.events → unwrap_or depth DEFAULT_DEPTH ≡ s.header.depth → unwrap_or queue DEFAULT_QUEUE ≡ s.header.queue
     → ReadsTo (Some (at_header s.kind depth queue s.header.cut)) (map request_words s.puts ++ (codes "events" ∷ []) ∷ events) s
@@ -348,7 +352,7 @@ body_read s depth queue events well counted deep long =
     let t = with_requests r section s.puts in
     let u = with_requests r sections.Events s.puts in
     let same : script_read (with_lines u s.events) ≡ s =
-    ap₂ (λ (d q : ℕ). (record { kind = s.kind; header = record { depth = d; queue = q; cut = s.header.cut }; puts = s.puts; events = s.events } : Script)) deep long in
+    ap₂ (script_with s) deep long in
     ReadsTo-line (Some t) (codes "events" ∷ []) u events s (IsRead-events t h)
     (subst (ReadsTo (Some u) events) same (events_read events s.events u counted refl well.events (omega (arith, well.expanded)))))
 
