@@ -4,16 +4,15 @@ use Rattle.minix_layout.specs.declared.division.Geometry.{Geometry}
 use Rattle.order_model.specs.Submission.{IsOrderClosed}
 use Rattle.tree_model.specs.declared.node.Node.{Node}
 use Rattle.tree_model.specs.Trees.{AreAlike}
-use Rattle.volume_ops.specs.declared.found.FoundNode.{FoundNode}
 use Rattle.volume_ops.specs.Volume.{disk_of, tree_of}
-use Rattle.volume_ops.specs.Walk.{walk_volume}
+use Rattle.volume_ops.specs.Walk.{Walked as WalkFound, walk_volume}
 use Rattle.volume_ops.specs.Zones.{Fault}
 use Rattle.crash_laws.specs.Rules.{OrderRules}
 use Rattle.crash_laws.specs.Session.{Session, Medium, IsSubmitted, image_of}
 
--- what the walk through a volume finds
+-- how the walk through a volume ends: with what it met, or with the first fault
 abbrev pub Walked : Type 0
-Walked = Result (List FoundNode) Fault
+Walked = Result WalkFound Fault
 
 -- A medium that a power cut left of a session: the submitted list keeps the order rules, and each put that a barrier
 -- orders before a kept one is kept.
