@@ -9,4 +9,3 @@ pub mod Received
 pub mod Steps
 pub mod Submission
 pub mod Single
-pub mod Machine
