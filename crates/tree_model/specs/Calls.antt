@@ -298,7 +298,9 @@ moved_node parent other = other
 
 -- The old name is taken out first, a file that stands at the new one loses a link, and the new name leads to the node.
 abbrev pub tree_moved : Tree → Move → Tree
-tree_moved tree m = put_number (give_name (without_target (take_name tree m.from) m.target) (place_after m) m.moved.birth) m.moved.birth (moved_node m.to.parent m.moved.node)
+tree_moved tree m =
+    let left = without_target (take_name tree m.from) m.target in
+    give_name (put_number left m.moved.birth (moved_node m.to.parent m.moved.node)) (place_after m) m.moved.birth
 
 -- another directory stands at the new place; a directory in place of a file; the new parent has all its links; the new
 -- parent is full, after the old name was taken out and where no node stands there

@@ -11,3 +11,5 @@ pub mod Histories
 pub mod Hanging
 pub mod Plain
 pub mod Edits
+pub mod PlainCalls
+pub mod PlainNames

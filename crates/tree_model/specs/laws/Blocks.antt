@@ -115,9 +115,9 @@ rename_keeps tree d order r = subst (KeepsBlocks tree) (sym r.tree_is) (by (stay
     whole =
         let taken = directory_keeps tree tree (keeps_itself tree order) r.move.from.parent _ in
         let lost = target_keeps tree (take_name tree r.move.from) taken r.move.target (λ t e. target_stands tree r.move.to t (sym r.target_is ∙ e)) in
-        let given = directory_keeps tree (without_target (take_name tree r.move.from) r.move.target) lost (place_after r.move).parent _ in
-        moved_keeps tree (give_name (without_target (take_name tree r.move.from) r.move.target) (place_after r.move) r.move.moved.birth) r.move.moved.birth r.move.to.parent r.move.moved.node r.is_found.stands given
-
+        let left : Tree = without_target (take_name tree r.move.from) r.move.target in
+        let moved = moved_keeps tree left r.move.moved.birth r.move.to.parent r.move.moved.node r.is_found.stands lost in
+        directory_keeps tree (put_number left r.move.moved.birth (moved_node r.move.to.parent r.move.moved.node)) moved (place_after r.move).parent _
     by : (b : Bool) → KeepsBlocks tree (if b then tree else tree_moved tree r.move)
     by true = keeps_itself tree order
     by false = whole

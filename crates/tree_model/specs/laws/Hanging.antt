@@ -54,37 +54,43 @@ fewer_joined edge less s t h sub root = record {
   parent = λ p m b e d. let x = sub p m b e in x.1.up ∙ h.parent p m b x.0 (sym x.1.directory ∙ d);
 }
 
--- one name more, which leads from p to b
-pub record IsNewEdge (edge : Edges) (t : Seen) (p : ℕ) (name : List ℕ) (b : ℕ) : Type 0 where
+-- one name more, which leads from p to b, beside those that are kept
+pub record IsNewEdge (edge : Edges) (t : Seen) (Kept : ℕ → List ℕ → Type 0) (p : ℕ) (name : List ℕ) (b : ℕ) : Type 0 where
   pub good : IsGoodName name
   pub there : t.there b ≡ true
   pub no_root : b ≢ 0
-  pub alone : t.directory b ≡ true → (q : ℕ) (k : List ℕ) → edge q k ≡ Some b → ⊥
+  pub alone : t.directory b ≡ true → (q : ℕ) (k : List ℕ) → edge q k ≡ Some b → Kept q k → ⊥
   pub up : t.directory b ≡ true → t.up b ≡ Some p
 
-pub more_joined : (edge more : Edges) (s t : Seen) (p : ℕ) (name : List ℕ) (b : ℕ) → IsJoined edge s → IsNewEdge edge t p name b →
-    ((q : ℕ) (m : List ℕ) (c : ℕ) → more q m ≡ Some c → ((q ≡ p) × (m ≡ name) × (c ≡ b)) ⊎ ((edge q m ≡ Some c) × StaysAt s t c)) → StaysAt s t 0 → IsJoined more t
-more_joined edge more s t p name b h new split root = record {
+-- a name that is kept leads to a node that stays what it is
+pub record IsKept (edge : Edges) (s t : Seen) (Kept : ℕ → List ℕ → Type 0) (q : ℕ) (k : List ℕ) (c : ℕ) : Type 0 where
+  pub was : edge q k ≡ Some c
+  pub kept : Kept q k
+  pub stays : StaysAt s t c
+
+pub more_joined : (edge more : Edges) (s t : Seen) (Kept : ℕ → List ℕ → Type 0) (p : ℕ) (name : List ℕ) (b : ℕ) → IsJoined edge s → IsNewEdge edge t Kept p name b →
+    ((q : ℕ) (m : List ℕ) (c : ℕ) → more q m ≡ Some c → ((q ≡ p) × (m ≡ name) × (c ≡ b)) ⊎ IsKept edge s t Kept q m c) → StaysAt s t 0 → IsJoined more t
+more_joined edge more s t Kept p name b h new split root = record {
   root = root.directory ∙ h.root;
   root_up = root.up ∙ h.root_up;
-  good = λ q m c e. ⊎_elim (λ x. subst IsGoodName (sym x.1) new.good) (λ x. h.good q m c x.0) (split q m c e);
-  leads = λ q m c e. ⊎_elim (λ x. ap t.there x.2 ∙ new.there) (λ x. x.1.there ∙ h.leads q m c x.0) (split q m c e);
-  no_root = λ q m c e. ⊎_elim (λ x z. new.no_root (sym x.2 ∙ z)) (λ x. h.no_root q m c x.0) (split q m c e);
+  good = λ q m c e. ⊎_elim (λ x. subst IsGoodName (sym x.1) new.good) (λ x. h.good q m c x.was) (split q m c e);
+  leads = λ q m c e. ⊎_elim (λ x. ap t.there x.2 ∙ new.there) (λ x. x.stays.there ∙ h.leads q m c x.was) (split q m c e);
+  no_root = λ q m c e. ⊎_elim (λ x z. new.no_root (sym x.2 ∙ z)) (λ x. h.no_root q m c x.was) (split q m c e);
   one_name = λ q r m k c e f d.
       ⊎_elim
       (λ x. ⊎_elim
         (λ y. (x.0 ∙ sym y.0, x.1 ∙ sym y.1))
-        (λ y. absurd (new.alone (ap t.directory (sym x.2) ∙ d) r k (y.0 ∙ ap Some x.2)))
+        (λ y. absurd (new.alone (ap t.directory (sym x.2) ∙ d) r k (y.was ∙ ap Some x.2) y.kept))
         (split r k c f))
       (λ x. ⊎_elim
-        (λ y. absurd (new.alone (ap t.directory (sym y.2) ∙ d) q m (x.0 ∙ ap Some y.2)))
-        (λ y. h.one_name q r m k c x.0 y.0 (sym x.1.directory ∙ d))
+        (λ y. absurd (new.alone (ap t.directory (sym y.2) ∙ d) q m (x.was ∙ ap Some y.2) x.kept))
+        (λ y. h.one_name q r m k c x.was y.was (sym x.stays.directory ∙ d))
         (split r k c f))
       (split q m c e);
   parent = λ q m c e d.
       ⊎_elim
       (λ x. ap t.up x.2 ∙ (new.up (ap t.directory (sym x.2) ∙ d) ∙ ap Some (sym x.0)))
-      (λ x. x.1.up ∙ h.parent q m c x.0 (sym x.1.directory ∙ d))
+      (λ x. x.stays.up ∙ h.parent q m c x.was (sym x.stays.directory ∙ d))
       (split q m c e);
 }
 
@@ -95,18 +101,18 @@ pub reached_more : (edge more : Edges) → ((p : ℕ) (m : List ℕ) (b : ℕ) �
 reached_more edge more sub _ top = top
 reached_more edge more sub _ (by_edge {parent = p} {birth = b} {name = m} h e) = by_edge (reached_more edge more sub p h) (sub p m b e)
 
--- where the names that go all led to b, and b has no names itself, the others stay reached
-pub reached_without : (edge less : Edges) (b : ℕ) → ((p : ℕ) (m : List ℕ) (c : ℕ) → edge p m ≡ Some c → (c ≡ b) ⊎ (less p m ≡ Some c)) → ((m : List ℕ) (c : ℕ) → edge b m ≡ Some c → ⊥) →
-    (c : ℕ) → IsReached edge c → (c ≡ b) ⊎ IsReached less c
-reached_without edge less b split none _ top = inr top
-reached_without edge less b split none _ (by_edge {parent = p} {birth = c} {name = m} h e) =
+-- where the names that go led to nodes without names, the others stay reached
+pub reached_without : (edge less : Edges) (Gone : ℕ → Type 0) → ((p : ℕ) (m : List ℕ) (c : ℕ) → edge p m ≡ Some c → Gone c ⊎ (less p m ≡ Some c)) → ((c : ℕ) → Gone c → (m : List ℕ) (x : ℕ) → edge c m ≡ Some x → ⊥) →
+    (c : ℕ) → IsReached edge c → Gone c ⊎ IsReached less c
+reached_without edge less Gone split none _ top = inr top
+reached_without edge less Gone split none _ (by_edge {parent = p} {birth = c} {name = m} h e) =
     ⊎_elim
     inl
     (λ f.
     ⊎_elim
-    (λ same. absurd (none m c (subst (λ q. edge q m ≡ Some c) same e)))
+    (λ gone. absurd (none p gone m c e))
     (λ reached. inr (by_edge reached f))
-    (reached_without edge less b split none p h))
+    (reached_without edge less Gone split none p h))
     (split p m c e)
 
 -- where the names that go all led to b, and b is still reached, all are
