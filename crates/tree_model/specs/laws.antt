@@ -13,3 +13,4 @@ pub mod Plain
 pub mod Edits
 pub mod PlainCalls
 pub mod PlainNames
+pub mod PlainMoves

@@ -25,7 +25,7 @@ root_some : (o : Option Node) → is_directory o ≡ true → is_some o ≡ true
 root_some (Some node) h = refl
 root_some None h = absurd (false≢true h)
 
-directory_not_file : (tree : Tree) (a b : ℕ) (d : Directory) (f : File) → at_number tree a ≡ Some (nodes.Directory d) → at_number tree b ≡ Some (nodes.File f) → a ≢ b
+pub directory_not_file : (tree : Tree) (a b : ℕ) (d : Directory) (f : File) → at_number tree a ≡ Some (nodes.Directory d) → at_number tree b ≡ Some (nodes.File f) → a ≢ b
 directory_not_file tree a b d f h j e = true≢false (sym (ap is_directory h) ∙ (ap (λ x. is_directory (at_number tree x)) e ∙ ap is_directory j))
 
 -- ---- a file in place of a file
@@ -80,7 +80,7 @@ module _ (tree : Tree) (w : IsWhole tree) (names : List (List ℕ)) (p : Place) 
   taken_sorted : NamesInOrder p.directory.names
   taken_sorted = place_sorted tree w names p place
 
-  taken_order : InOrder Taken
+  pub taken_order : InOrder Taken
   taken_order = in_order_put tree p.parent _ w.in_order
 
   pub its_edge : edge_of tree p.parent p.name ≡ Some b
@@ -118,7 +118,7 @@ module _ (tree : Tree) (w : IsWhole tree) (names : List (List ℕ)) (p : Place) 
   taken_each : (P : Option Node → Type 0) → P (Some (nodes.Directory (without_name p.directory p.name))) → ((c : ℕ) → P (at_number tree c)) → (c : ℕ) → P (at_number Taken c)
   taken_each P here all = each_put P tree p.parent _ here all
 
-  taken_names_in_order : (c : ℕ) → NamesInOrder (names_of (at_number Taken c))
+  pub taken_names_in_order : (c : ℕ) → NamesInOrder (names_of (at_number Taken c))
   taken_names_in_order = taken_each (λ o. NamesInOrder (names_of o)) (names_in_order_without p.directory.names p.name taken_sorted) w.sorted
 
   -- the node goes with its last name
@@ -206,7 +206,7 @@ module _ (tree : Tree) (w : IsWhole tree) (names : List (List ℕ)) (p : Place) 
     less_counts : (c : ℕ) → names_to Less c ≡ names_to Taken c
     less_counts c = put_counts Taken b (nodes.File (with_links f (f.links - 1))) c taken_order (ap names_of file_taken) refl
 
-    edge_from_there : (q : ℕ) (k : List ℕ) (c : ℕ) → edge_of tree q k ≡ Some c → is_some (at_number tree q) ≡ true
+    pub edge_from_there : (q : ℕ) (k : List ℕ) (c : ℕ) → edge_of tree q k ≡ Some c → is_some (at_number tree q) ≡ true
     edge_from_there q k c e = by (at_number tree q) e
       where
         by : (o : Option Node) → at_name (names_of o) k ≡ Some c → is_some o ≡ true
