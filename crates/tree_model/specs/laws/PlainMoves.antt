@@ -12,7 +12,7 @@ use Rattle.tree_model.specs.Maps.{at_number, at_name, put_number, without_number
 use Rattle.tree_model.specs.MapsLaws.{at_put_number, at_put_number_apart}
 use Rattle.tree_model.specs.Listing.{names_of}
 use Rattle.tree_model.specs.Trees.{Refusal, is_directory, step_at, led_to, node_of_path}
-use Rattle.tree_model.specs.Calls.{Tree, Done, Found, Place, Move, all_but_last, last_name, above, is_file, with_name, without_name, give_name, take_name, put_file, with_links, lose_link, without_target, target_at, moves_directory, meets_directory, meets_file, stays, changes_parent, place_after, moved_node, tree_moved}
+use Rattle.tree_model.specs.Calls.{Tree, Done, Found, Place, Move, a_file, all_but_last, last_name, above, is_file, with_name, without_name, give_name, take_name, put_file, with_links, lose_link, without_target, target_at, moves_directory, meets_directory, meets_file, stays, changes_parent, place_after, moved_node, tree_moved}
 use Rattle.tree_model.specs.Plain.{names_in_node, names_to}
 use Rattle.tree_model.specs.laws.Alike.{same_ok, no_ok, step_gives, led_parts}
 use Rattle.tree_model.specs.laws.MapOrder.{InOrder, in_order_put, in_order_without, at_put_cases, at_without_cases, at_without_here, at_without_apart, NamesInOrder, names_in_order_put, names_in_order_without, at_name_without_apart}
@@ -477,3 +477,232 @@ module _ (tree : Tree) (w : IsWhole tree) (d : Done) (r : IsRenamed tree d) wher
       known = each_put (λ o. is_other o ≡ false) Mid T.parent _ refl
           (each_put (λ o. is_other o ≡ false) left B Node' (other_moved r.move.to.parent r.move.moved.node ∙ (sym (ap is_other stands) ∙ w.known B)) h.known);
     }
+
+-- ---- what stands at the new name
+
+-- no node stands there: no name leads there
+free_by : (tree : Tree) → IsWhole tree → (p : Place) → edge_of tree p.parent p.name ≡ at_name p.directory.names p.name → target_at tree p ≡ None → (o : Option ℕ) → at_name p.directory.names p.name ≡ o → o ≡ None
+free_by tree w p at none None e = refl
+free_by tree w p at none (Some b) e =
+    let there = w.joined.leads p.parent p.name b (at ∙ e) in
+    by (at_number tree b) refl there
+  where
+    found : (node : Node) → at_number tree b ≡ Some node → target_at tree p ≡ Some (record { birth = b; node = node })
+    found node s =
+        ap (λ o. elim o as (λ _. Option Found) [ None ↦ None | Some birth ↦ elim (at_number tree birth) as (λ _. Option Found) [ None ↦ None | Some x ↦ Some (record { birth = birth; node = x }) ] ]) e
+        ∙ ap (λ o. elim o as (λ _. Option Found) [ None ↦ None | Some x ↦ Some (record { birth = b; node = x }) ]) s
+    by : (o : Option Node) → at_number tree b ≡ o → is_some o ≡ true → Some b ≡ None
+    by (Some node) s t = absurd (none-some _ (sym none ∙ found node s))
+    by None s t = absurd (false≢true t)
+
+-- a node stands there, and the name leads to it
+named_by : (tree : Tree) (t : Found) (o : Option ℕ) →
+    ◌≡◌ {A = Option Found}
+    (elim o as (λ _. Option Found) [ None ↦ None | Some birth ↦ elim (at_number tree birth) as (λ _. Option Found) [ None ↦ None | Some x ↦ Some (record { birth = birth; node = x }) ] ])
+    (Some t) → o ≡ Some t.birth
+named_by tree t None h = absurd (none-some t h)
+named_by tree t (Some birth) h = ap Some (by (at_number tree birth) h)
+  where
+    by : (node : Option Node) → ◌≡◌ {A = Option Found} (elim node as (λ _. Option Found) [ None ↦ None | Some x ↦ Some (record { birth = birth; node = x }) ]) (Some t) → birth ≡ t.birth
+    by None h = absurd (none-some t h)
+    by (Some node) h = ap (λ (t : Found). t.birth) (same_Some (record { birth = birth; node = node }) t h)
+
+module _ (tree : Tree) (w : IsWhole tree) (d : Done) (r : IsRenamed tree d) where
+  -- no node stands at the new name
+  module _ (none : r.move.target ≡ None) where
+    free_met : edge_of tree r.move.to.parent r.move.to.name ≡ None
+    free_met = to_edge tree w d r ∙ free_by tree w r.move.to (to_edge tree w d r) (sym r.target_is ∙ none) (at_name r.move.to.directory.names r.move.to.name) refl
+
+    free_left : IsLeft tree r.move (take_name tree r.move.from) (λ c. ⊥)
+    free_left = record {
+      order = in_order_put tree r.move.from.parent _ w.in_order;
+      lost_or = λ c. inr (λ l. l);
+      apart = λ c kept. refl;
+      edge = λ q k. refl;
+      counts = λ c. refl;
+      sorted = each_put (λ o. NamesInOrder (names_of o)) tree r.move.from.parent _ (names_in_order_without r.move.from.directory.names r.move.from.name (from_sorted tree w d r)) w.sorted;
+      known = each_put (λ o. is_other o ≡ false) tree r.move.from.parent _ refl w.known;
+      met_lost = λ c e. none-some c (sym free_met ∙ e);
+      lost_met = λ c l. absurd l;
+      lost_apart = λ c l. absurd l;
+      lost_leaf = λ c l. absurd l;
+      lost_moves = λ c l. absurd l;
+      lost_like = λ c l. absurd l;
+      lost_named = λ c l. absurd l;
+      lost_links = λ c k l. absurd l;
+    }
+
+    free_whole : IsWhole (tree_moved tree r.move)
+    free_whole = subst (λ left. IsWhole (give_name (put_number left r.move.moved.birth (moved_node r.move.to.parent r.move.moved.node)) (place_after r.move) r.move.moved.birth))
+        (sym (ap (without_target (take_name tree r.move.from)) none))
+        (moved_whole tree w d r (take_name tree r.move.from) (λ c. ⊥) free_left)
+
+  -- a file stands there
+  module _ (t : Found) (some : r.move.target ≡ Some t) (g : File) (is : t.node ≡ nodes.File g) (apart : t.birth ≢ r.move.moved.birth) (file : is_directory (Some r.move.moved.node) ≡ false) where
+    abbrev L : ℕ
+    L = t.birth
+
+    abbrev Out : Tree
+    Out = take_name tree r.move.from
+
+    target_is_at : target_at tree r.move.to ≡ Some t
+    target_is_at = sym r.target_is ∙ some
+
+    lost_stands : at_number tree L ≡ Some (nodes.File g)
+    lost_stands = target_stands tree r.move.to t target_is_at ∙ ap Some is
+
+    lost_name : at_name r.move.to.directory.names r.move.to.name ≡ Some L
+    lost_name = named_by tree t (at_name r.move.to.directory.names r.move.to.name) target_is_at
+
+    lost_edge : edge_of tree r.move.to.parent r.move.to.name ≡ Some L
+    lost_edge = to_edge tree w d r ∙ lost_name
+
+    lost_from : L ≢ r.move.from.parent
+    lost_from e = directory_not_file tree r.move.from.parent L r.move.from.directory g r.is_from.stands lost_stands (sym e)
+
+    lost_to : L ≢ r.move.to.parent
+    lost_to e = directory_not_file tree r.move.to.parent L r.move.to.directory g r.is_to.stands lost_stands (sym e)
+
+    out_at : at_number Out L ≡ Some (nodes.File g)
+    out_at = at_put_number_apart tree r.move.from.parent (nodes.Directory (without_name r.move.from.directory r.move.from.name)) L lost_from ∙ lost_stands
+
+    out_order : InOrder Out
+    out_order = in_order_put tree r.move.from.parent _ w.in_order
+
+    out_sorted : (c : ℕ) → NamesInOrder (names_of (at_number Out c))
+    out_sorted = each_put (λ o. NamesInOrder (names_of o)) tree r.move.from.parent _ (names_in_order_without r.move.from.directory.names r.move.from.name (from_sorted tree w d r)) w.sorted
+
+    out_known : (c : ℕ) → is_other (at_number Out c) ≡ false
+    out_known = each_put (λ o. is_other o ≡ false) tree r.move.from.parent _ refl w.known
+
+    leaf : names_of (at_number tree L) ≡ []
+    leaf = ap names_of lost_stands
+
+    links_are : g.links ≡ names_to tree L
+    links_are = w.links L g.links (ap links_of lost_stands)
+
+    -- but for the new name
+    rest_counts : names_to (take_name tree r.move.to) L + 1 ≡ names_to tree L
+    rest_counts =
+        let all = taken_counts tree w r.more r.move.to r.is_to L lost_name lost_to leaf L in
+        let one : one_at L L ≡ 1 = one_for_here L in
+        omega arith
+
+    met_is : (c : ℕ) → edge_of tree r.move.to.parent r.move.to.name ≡ Some c → c ≡ L
+    met_is c e = same_Some c L (sym e ∙ lost_edge)
+
+    other_counts : (q : ℕ) (k : List ℕ) → edge_of tree q k ≡ Some L → (IsAt r.move.to.parent r.move.to.name q k → ⊥) → 2 ≤ g.links
+    other_counts q k e away =
+        let some = edge_counts (take_name tree r.move.to) q k L (take_kept tree r.move.to r.is_to.stands (to_sorted tree w d r) q k L e away) in
+        let all = rest_counts in
+        let links = links_are in
+        omega arith
+
+    other_named : 2 ≤ g.links → (q : ℕ) × (k : List ℕ) × (edge_of tree q k ≡ Some L) × (IsAt r.move.to.parent r.move.to.name q k → ⊥)
+    other_named more =
+        let all = rest_counts in
+        let links = links_are in
+        let x = counted_edge (take_name tree r.move.to) L
+            (taken_order tree w r.more r.move.to r.is_to L lost_name lost_to leaf)
+            (taken_names_in_order tree w r.more r.move.to r.is_to L lost_name lost_to leaf)
+            (omega arith) in
+        let y = take_split tree r.move.to r.is_to.stands (to_sorted tree w d r) x.0 x.1 L x.2 in
+        (x.0, x.1, y.0, y.1)
+
+    gone_left : g.links ≤ 1 → IsLeft tree r.move (without_number Out L) (λ c. c ≡ L)
+    gone_left few = record {
+      order = in_order_without Out L out_order;
+      lost_or = λ c. cases_eq c L;
+      apart = λ c kept. at_without_apart Out L c out_order kept;
+      edge = λ q k. edge_without Out L out_order (ap names_of out_at) q k;
+      counts = λ c. without_counts Out L c (ap names_of out_at);
+      sorted = each_without (λ o. NamesInOrder (names_of o)) Out L out_order (subst NamesInOrder leaf (w.sorted L)) out_sorted;
+      known = each_without (λ o. is_other o ≡ false) Out L out_order refl out_known;
+      met_lost = met_is;
+      lost_met = λ c l. lost_edge ∙ ap Some (sym l);
+      lost_apart = λ c l e. apart (sym l ∙ e);
+      lost_leaf = λ c l. ap (λ j. is_directory (at_number tree j)) l ∙ ap is_directory lost_stands;
+      lost_moves = λ c l. file;
+      lost_like = λ c l q k e away. absurd (let more = other_counts q k (e ∙ ap Some l) away in omega arith);
+      lost_named = λ c l there. absurd (false≢true (sym (ap (λ j. is_some (at_number (without_number Out L) j)) l ∙ ap is_some (at_without_here Out L out_order)) ∙ there));
+      lost_links = λ c k l e. absurd (none-some k (sym (ap (λ j. links_of (at_number (without_number Out L) j)) l ∙ ap links_of (at_without_here Out L out_order)) ∙ e));
+    }
+
+    abbrev Fewer : File
+    Fewer = with_links g (g.links - 1)
+
+    less_left : 2 ≤ g.links → IsLeft tree r.move (put_file Out L Fewer) (λ c. c ≡ L)
+    less_left more = record {
+      order = in_order_put Out L _ out_order;
+      lost_or = λ c. cases_eq c L;
+      apart = λ c kept. at_put_number_apart Out L (nodes.File Fewer) c kept;
+      edge = λ q k. edge_put_same Out L (nodes.File Fewer) (sym (ap names_of out_at)) q k;
+      counts = λ c. put_counts Out L (nodes.File Fewer) c out_order (ap names_of out_at) refl;
+      sorted = each_put (λ o. NamesInOrder (names_of o)) Out L _ (subst NamesInOrder leaf (w.sorted L)) out_sorted;
+      known = each_put (λ o. is_other o ≡ false) Out L _ refl out_known;
+      met_lost = met_is;
+      lost_met = λ c l. lost_edge ∙ ap Some (sym l);
+      lost_apart = λ c l e. apart (sym l ∙ e);
+      lost_leaf = λ c l. ap (λ j. is_directory (at_number tree j)) l ∙ ap is_directory lost_stands;
+      lost_moves = λ c l. file;
+      lost_like = λ c l q k e away.
+          like_chain (at_number tree c) (at_number Out c) (at_number (put_file Out L Fewer) c) (take_like tree r.move.from r.is_from.stands c)
+          (like_put Out L (nodes.File Fewer) (like_file (at_number Out L) g Fewer out_at) c);
+      lost_named = λ c l there. let x = other_named more in (x.0, x.1, x.2 ∙ ap Some (sym l), x.3);
+      lost_links = λ c k l e.
+          let is : g.links - 1 ≡ k = same_Some (g.links - 1) k (sym (ap (λ j. links_of (at_number (put_file Out L Fewer) j)) l ∙ ap links_of (at_put_number Out L (nodes.File Fewer))) ∙ e) in
+          let all : g.links ≡ names_to tree c = links_are ∙ ap (names_to tree) (sym l) in
+          omega arith;
+    }
+
+    met_by : (b : Bool) → nat_le g.links 1 ≡ b →
+        IsWhole (give_name (put_number (if b then without_number Out L else put_file Out L Fewer) r.move.moved.birth (moved_node r.move.to.parent r.move.moved.node)) (place_after r.move) r.move.moved.birth)
+    met_by true e = moved_whole tree w d r (without_number Out L) (λ c. c ≡ L) (gone_left (leb-true g.links 1 e))
+    met_by false e = moved_whole tree w d r (put_file Out L Fewer) (λ c. c ≡ L) (less_left (let l = leb-false g.links 1 e in omega arith))
+
+    met_whole : IsWhole (tree_moved tree r.move)
+    met_whole =
+        subst (λ left. IsWhole (give_name (put_number left r.move.moved.birth (moved_node r.move.to.parent r.move.moved.node)) (place_after r.move) r.move.moved.birth))
+        (sym (ap (without_target Out) some ∙ left_is t.node is))
+        (met_by (nat_le g.links 1) refl)
+      where
+        left_is : (node : Node) → node ≡ nodes.File g → (elim (a_file node) as (λ _. Tree) [ Err reply ↦ Out | Ok f ↦ lose_link Out L f ]) ≡ lose_link Out L g
+        left_is node e = ap (λ (n : Node). elim (a_file n) as (λ _. Tree) [ Err reply ↦ Out | Ok f ↦ lose_link Out L f ]) e
+
+  no_stay : (t : Found) → r.move.target ≡ Some t → stays r.move ≡ false → t.birth ≢ r.move.moved.birth
+  no_stay t some f = eqb-false t.birth r.move.moved.birth (sym (ap (λ o. elim o as (λ _. Bool) [ None ↦ false | Some t ↦ t.birth == r.move.moved.birth ]) some) ∙ f)
+
+  target_file : (t : Found) → r.move.target ≡ Some t → t.birth ≢ r.move.moved.birth → (node : Node) → t.node ≡ node → (g : File) × (t.node ≡ nodes.File g)
+  target_file t some apart (nodes.File g) e = (g, e)
+  target_file t some apart (nodes.Directory x) e =
+      let meets : meets_directory r.move ≡ true =
+          ap (λ o. elim o as (λ _. Bool) [ None ↦ false | Some t ↦ is_directory (Some t.node) && not (t.birth == r.move.moved.birth) ]) some
+          ∙ and_from (is_directory (Some t.node)) _ (ap (λ (n : Node). is_directory (Some n)) e) (ap not (ne_eqb t.birth r.move.moved.birth apart))
+      in
+      absurd (true≢false (sym meets ∙ r.no_directory))
+  target_file t some apart (nodes.Other mode) e =
+      absurd (true≢false (sym (ap (λ (n : Node). is_other (Some n)) e) ∙ (sym (ap is_other (target_stands tree r.move.to t (sym r.target_is ∙ some))) ∙ w.known t.birth)))
+
+  moves_file : (t : Found) → r.move.target ≡ Some t → (g : File) → t.node ≡ nodes.File g → is_directory (Some r.move.moved.node) ≡ false
+  moves_file t some g e =
+      let meets : meets_file r.move ≡ true =
+          ap (λ o. elim o as (λ _. Bool) [ None ↦ false | Some t ↦ is_file (Some t.node) ]) some ∙ ap (λ (n : Node). is_file (Some n)) e
+      in
+      ⊎_elim
+      (λ f. absurd (true≢false (sym meets ∙ f)))
+      (λ f. f)
+      (and_cases (meets_file r.move) (moves_directory r.move) r.no_file)
+
+  renamed_by : (target : Option Found) → r.move.target ≡ target → stays r.move ≡ false → IsWhole (tree_moved tree r.move)
+  renamed_by None e f = free_whole e
+  renamed_by (Some t) e f =
+      let apart = no_stay t e f in
+      let g = target_file t e apart t.node refl in
+      met_whole t e g.0 g.1 apart (moves_file t e g.0 g.1)
+
+  pub renamed_whole : IsWhole d.tree
+  renamed_whole = subst IsWhole (sym r.tree_is) (by (stays r.move) refl)
+    where
+      by : (b : Bool) → stays r.move ≡ b → IsWhole (if b then tree else tree_moved tree r.move)
+      by true e = w
+      by false e = renamed_by r.move.target refl e
