@@ -14,3 +14,4 @@ pub mod Edits
 pub mod PlainCalls
 pub mod PlainNames
 pub mod PlainMoves
+pub mod PlainTrees
