@@ -20,6 +20,7 @@ pub mod Ordering
 pub mod Origins
 pub mod Pages
 pub mod PagesOrCommits
+pub mod Places
 pub mod PlanSteps
 pub mod PromiseSteps
 pub mod Promises
@@ -27,7 +28,9 @@ pub mod RequestClauses
 pub mod RingSteps
 pub mod SendSteps
 pub mod Sentences
+pub mod SessionSentences
 pub mod Start
 pub mod Superblocks
+pub mod TreeHistories
 pub mod Versions
 pub mod Volumes

@@ -7,7 +7,7 @@ use Rattle.order_model.specs.declared.note.Note.TheVariants.{Page, Commit}
 use Rattle.order_model.specs.Submission.{IsFence}
 use Rattle.crash_laws.specs.Extending.{Extends}
 use Rattle.crash_laws.specs.History.{History}
-use Rattle.crash_laws.specs.PromiseRules.{AreHeld, KeepsBarrier, KeepsSync, Call, Covers, CoversEntry}
+use Rattle.crash_laws.specs.PromiseRules.{AreHeld, KeepsBarrier, KeepsSync, BegunCall, Covers, CoversEntry}
 use Rattle.crash_laws.specs.Session.{Session, HasNote, IsCommit, IsSubmitted, Before, Submitted}
 use Rattle.crash_laws.specs.Submitting.{Submitting, after}
 use Rattle.crash_laws.proofs.Growing.{note_old, note_cases, fence_old, fence_within, ordered_old}
@@ -109,10 +109,10 @@ module _ {A : Type 0} {h more : History A} {s : Session} {now : ℕ} (ext : Exte
   }
 
   -- a call covers no more pairs with a longer history
-  pub covers_old : (c : Call) (f i n : ℕ) → c.begin ≤ now → Covers more c f i n → Covers h c f i n
+  pub covers_old : (c : BegunCall) (f i n : ℕ) → c.begin ≤ now → Covers more c f i n → Covers h c f i n
   covers_old c f i n le x = let lt = x.1 in (x.0, x.1, sym (ext.writes n f i (omega arith)) ∙ x.2)
 
-  pub barrier_covers : (c : Call) (e : ℕ) → c.begin ≤ now → KeepsBarrier h s e (Covers h c) (CoversEntry c) → KeepsBarrier more s e (Covers more c) (CoversEntry c)
+  pub barrier_covers : (c : BegunCall) (e : ℕ) → c.begin ≤ now → KeepsBarrier h s e (Covers h c) (CoversEntry c) → KeepsBarrier more s e (Covers more c) (CoversEntry c)
   barrier_covers c e begun old =
       let b = barrier_grows old in
       record {
@@ -123,7 +123,7 @@ module _ {A : Type 0} {h more : History A} {s : Session} {now : ℕ} (ext : Exte
         commits = b.commits;
       }
 
-  pub sync_covers : (c : Call) (taken : List Completion) → c.begin ≤ now → KeepsSync h s taken (Covers h c) (CoversEntry c) → KeepsSync more s taken (Covers more c) (CoversEntry c)
+  pub sync_covers : (c : BegunCall) (taken : List Completion) → c.begin ≤ now → KeepsSync h s taken (Covers h c) (CoversEntry c) → KeepsSync more s taken (Covers more c) (CoversEntry c)
   sync_covers c taken begun old = record {
     flush = old.flush;
     flushed = old.flushed;

@@ -151,9 +151,14 @@ module _ {A : Type 0} (program : Reads A) (p : Submitting) where
           bodies = λ k c x e set. absurd (no_commit p none k e);
           revokes = λ k c e h g. no_commit p none k e;
           logged = λ k c e h. absurd (no_commit p none k e);
-          home = λ c e.
-              (r.newest, r.committed, r.no_more, r.body, r.carried,
-              subst (λ d. mark_in (transactions_from p.session.transactions 1 r.newest) d ≡ Set r.body) (same_home b c (sym note ∙ e)) r.mark);
+          home = λ c e. (
+            r.newest,
+            r.committed,
+            r.no_more,
+            r.body,
+            r.carried,
+            subst (λ d. mark_in (transactions_from p.session.transactions 1 r.newest) d ≡ Set r.body) (same_home b c (sym note ∙ e)) r.mark,
+          );
           page = λ g j w z k x e block set c. absurd (let x = sym note ∙ e in let y : ⊥ = cc in y);
         };
       }
@@ -201,9 +206,9 @@ module _ {A : Type 0} (program : Reads A) (p : Submitting) where
       home = λ b e. absurd (none-some k (sym (ap log_transaction e) ∙ r.note));
       super = λ e. absurd (none-some k (sym (ap log_transaction e) ∙ r.note));
       log = λ l e. (
-          places_on p.session.ring (length (log_blocks p.session)) p.session.head,
-          places_on-place p.session.ring (length (log_blocks p.session)) p.session.head r.head,
-          r.block,
+        places_on p.session.ring (length (log_blocks p.session)) p.session.head,
+        places_on-place p.session.ring (length (log_blocks p.session)) p.session.head r.head,
+        r.block,
       );
       page = λ g j w e. absurd (none-some k (sym (ap log_transaction e) ∙ r.note));
       flush = λ e. absurd (none-some k (sym (ap log_transaction e) ∙ r.note));

@@ -6,7 +6,7 @@ use Rattle.volume_ops.specs.Reads.{Reads, answer, blocks_read}
 use Rattle.crash_laws.specs.Found.{IsFound}
 use Rattle.crash_laws.specs.History.{History, last_write, IsLastChange}
 use Rattle.crash_laws.specs.PageRules.{place_at}
-use Rattle.crash_laws.specs.PromiseRules.{Call, Covers, CoversEntry, KeepsBarrier, KeepsSync, IsSettled, IsLaterKept}
+use Rattle.crash_laws.specs.PromiseRules.{BegunCall, Covers, CoversEntry, KeepsBarrier, KeepsSync, IsSettled, IsLaterKept}
 use Rattle.crash_laws.specs.Recovery.{HasVersion}
 use Rattle.crash_laws.specs.Session.{Session, Medium, image_of}
 
@@ -27,8 +27,8 @@ module _ {A : Type 0} (program : Reads A) (h : History A) (s : Session) (m : Med
 module _ {A : Type 0} (program : Reads A) (h : History A) (s : Session) (m : Medium) where
   pub record KeepsPromises (F : ℕ) (sent : List Completion) : Type 0 where
     -- a barrier call that answered Ok at e: where a later write survived, all that it covers did
-    pub barriers : (c : Call) (e : ℕ) → KeepsBarrier h s e (Covers h c) (CoversEntry c) → IsLaterKept h s m F e
+    pub barriers : (c : BegunCall) (e : ℕ) → KeepsBarrier h s e (Covers h c) (CoversEntry c) → IsLaterKept h s m F e
         → ((f i n : ℕ) → Covers h c f i n → IsSettled program h s m F f i n) × ((n : ℕ) → CoversEntry c n → n ≤ h.cut F)
     -- a sync call that answered Ok: all that it covers survived
-    pub syncs : (c : Call) (taken : List Completion) → ((o : Completion) → In o taken → In o sent) → KeepsSync h s taken (Covers h c) (CoversEntry c)
+    pub syncs : (c : BegunCall) (taken : List Completion) → ((o : Completion) → In o taken → In o sent) → KeepsSync h s taken (Covers h c) (CoversEntry c)
         → ((f i n : ℕ) → Covers h c f i n → IsSettled program h s m F f i n) × ((n : ℕ) → CoversEntry c n → n ≤ h.cut F)

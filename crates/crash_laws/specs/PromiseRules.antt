@@ -55,7 +55,7 @@ pub record KeepsSync {A : Type 0} (h : History A) (s : Session) (taken : List Co
 
 -- a barrier or sync call: the number of its Begin, the file that it is on, or none where it is on all, and
 -- whether it covers metadata
-pub record Call : Type 0 where
+pub record BegunCall : Type 0 where
   pub begin : ℕ
   pub file : Option ℕ
   pub metadata : Bool
@@ -65,10 +65,10 @@ IsOn None f = Unit {0}
 IsOn (Some g) f = g ≡ f
 
 -- it covers the block (f, i) and an entry n before it that wrote that block; and the metadata of each entry before
-abbrev pub Covers : {A : Type 0} → History A → Call → ℕ → ℕ → ℕ → Type 0
+abbrev pub Covers : {A : Type 0} → History A → BegunCall → ℕ → ℕ → ℕ → Type 0
 Covers h c f i n = IsOn c.file f × (n < c.begin) × (h.writes n f i ≡ true)
 
-abbrev pub CoversEntry : Call → ℕ → Type 0
+abbrev pub CoversEntry : BegunCall → ℕ → Type 0
 CoversEntry c n = (c.metadata ≡ true) × (n < c.begin)
 
 -- ---- what is promised

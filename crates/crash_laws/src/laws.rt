@@ -7,6 +7,7 @@ mod hosts;
 mod order;
 mod rings;
 mod rules;
+mod sessions;
 
 pub use calls::{calls_are_held_when_they_answer, pairs_that_are_done_stay_good};
 pub use commits::{kept_commits_are_a_prefix, logs_end_at_the_last_kept_commit};
@@ -21,6 +22,8 @@ pub use hosts::{
 pub use order::{barriers_divide_epochs, barriers_keep_order, held_pairs_were_sent_or_given_up};
 pub use rings::{checkpoints_meet_their_clauses, requests_keep_the_ring};
 pub use rules::{
-    histories_may_grow, promises_stay_kept, requests_keep_the_rules, rules_can_be_kept,
-    rules_hold_at_the_start,
+    histories_may_grow, promises_stay_kept, requests_keep_the_rules,
+    requests_owe_by_what_they_carry, rules_can_be_kept, rules_hold_at_the_start,
+    trees_of_images_follow,
 };
+pub use sessions::{calls_on_trees_make_a_history, sentences_follow_from_the_rules};

@@ -221,3 +221,8 @@ pub changed_all : (g : Geometry) (blocks other : List (List ℕ)) (tree : List (
 changed_all g blocks other tree agree r =
     let x = changed_of g blocks other tree agree r in
     (x.0, x.1, alike blocks other tree x.0 x.2 g (tree_of-fields g blocks tree r), λ birth. same_or_none blocks other (at_number tree birth) (at_number x.0 birth) (x.2 birth))
+
+-- paths lead to the same nodes whatever bytes the files have
+pub same_paths_found : (blocks other : List (List ℕ)) (ns : List FoundNode) (names : List (List ℕ)) → node_of_path (put_nodes other ns []) names ≡ node_of_path (put_nodes blocks ns []) names
+same_paths_found blocks other ns names =
+    same_way blocks other (put_nodes blocks ns []) (put_nodes other ns []) (puts_one_found blocks other ns [] [] (λ birth. inl (refl, refl))) names 0

@@ -5,7 +5,7 @@ ghost use Rattle.order_model.specs.declared.completion.Completion.TheVariants.{F
 ghost use Rattle.order_model.specs.declared.note.Note.TheVariants.{Page};
 ghost use Rattle.crash_laws.specs.CallFacts.{IsDone, IsGoodFor, IsUnchangedSince};
 ghost use Rattle.crash_laws.specs.History.{History, HasTrees};
-ghost use Rattle.crash_laws.specs.PromiseRules.{Call, Covers, CoversEntry, AreHeld, KeepsSync};
+ghost use Rattle.crash_laws.specs.PromiseRules.{BegunCall, Covers, CoversEntry, AreHeld, KeepsSync};
 ghost use Rattle.crash_laws.specs.Session.{Session, HasNote, IsCommit};
 ghost use Rattle.crash_laws.specs.Submitting.{Submitting, after};
 ghost use Rattle.crash_laws.specs.Volumes.{Walked};
@@ -26,19 +26,19 @@ pub fn pairs_that_are_done_stay_good()
 /// barrier, where its target is committed, or where its pages stand before a barrier and its files did not change
 /// since the last commit block; below a flush, where they stand below what the call needs to be durable.
 pub fn calls_are_held_when_they_answer()
-    ensures target { (h : History Walked) (s : Session) (call : Call) (k c barrier : ℕ) →
+    ensures target { (h : History Walked) (s : Session) (call : BegunCall) (k c barrier : ℕ) →
         IsCommit s k c → c ≤ barrier →
         ((f i n : ℕ) → Covers h call f i n → IsGoodFor h s (λ o. (d : ℕ) → IsCommit s k d → o < d) k f i n) →
         ((n : ℕ) → CoversEntry call n → n ≤ h.cut k) →
         AreHeld h s (λ o. o ≤ barrier) (Covers h call) (CoversEntry call) }
-    ensures barrier { (h : History Walked) (s : Session) (call : Call) (committed own barrier now : ℕ) →
+    ensures barrier { (h : History Walked) (s : Session) (call : BegunCall) (committed own barrier now : ℕ) →
         HasTrees h → (committed ≡ 0) ⊎ ((c : ℕ) × IsCommit s committed c × (c ≤ barrier)) → own ≤ barrier →
         h.cut committed ≤ now → ((o g j v : ℕ) → HasNote s o (Page g j v) → v ≤ now) →
         ((n : ℕ) → CoversEntry call n → ⊥) →
         ((f i n : ℕ) → Covers h call f i n →
         (h.writes n f i ≡ true) × (n ≤ now) × IsUnchangedSince h f (h.cut committed) now × IsDone h s (λ o. o ≤ own) now f i n) →
         AreHeld h s (λ o. o ≤ barrier) (Covers h call) (CoversEntry call) }
-    ensures flush { (h : History Walked) (s : Session) (call : Call) (need flush : ℕ) (taken : List Completion) →
+    ensures flush { (h : History Walked) (s : Session) (call : BegunCall) (need flush : ℕ) (taken : List Completion) →
         need < flush → In (Flushed flush) taken →
         AreHeld h s (λ o. o ≤ need) (Covers h call) (CoversEntry call) →
         KeepsSync h s taken (Covers h call) (CoversEntry call) }

@@ -1,24 +1,26 @@
 ghost use Rattle.std.specs.Prelude.{◌≡◌, ℕ, ◌≤◌, [], List};
 ghost use Rattle.blk_base.specs.Members.{In};
 ghost use Rattle.order_model.specs.declared.completion.Completion.{Completion};
-ghost use Rattle.order_model.specs.declared.note.Note.TheVariants.{Page};
+ghost use Rattle.order_model.specs.declared.note.Note.TheVariants.{Page, Commit};
 ghost use Rattle.order_model.specs.Submission.{IsFence};
 ghost use Rattle.minix_layout.specs.declared.division.Geometry.{Geometry};
+ghost use Rattle.tree_model.specs.declared.node.Node.{Node};
 ghost use Rattle.volume_ops.specs.Reads.{blocks_read};
 ghost use Rattle.volume_ops.specs.Volume.{disk_of};
 ghost use Rattle.volume_ops.specs.Walk.{walk_volume};
 ghost use Rattle.log_model.specs.Ring.{IsPlace};
-ghost use Rattle.crash_laws.specs.Clauses.{OrderClause};
+ghost use Rattle.crash_laws.specs.Clauses.{CommitClause, OrderClause};
 ghost use Rattle.crash_laws.specs.Example.{program, fourth};
 ghost use Rattle.crash_laws.specs.Extending.{Extends};
 ghost use Rattle.crash_laws.specs.History.{History, HasTrees};
 ghost use Rattle.crash_laws.specs.PageClauses.{PageClause};
 ghost use Rattle.crash_laws.specs.PageRules.{PageOrder, DataBeforeCommit};
-ghost use Rattle.crash_laws.specs.PromiseRules.{Call, Covers, CoversEntry, AreHeld, KeepsBarrier, KeepsSync};
-ghost use Rattle.crash_laws.specs.Rules.{BaseImage, OrderRules};
+ghost use Rattle.crash_laws.specs.PromiseRules.{BegunCall, Covers, CoversEntry, AreHeld, KeepsBarrier, KeepsSync};
+ghost use Rattle.crash_laws.specs.Requests.{IsPageRequest, IsFlushRequest, IsHomeRequest, IsSuperRequest, IsPartRequest, IsCommitRequest};
+ghost use Rattle.crash_laws.specs.Rules.{BaseImage, CommitOrder, OrderRules};
 ghost use Rattle.crash_laws.specs.Session.{Session, HasNote, IsCommit};
 ghost use Rattle.crash_laws.specs.Submitting.{Submitting, after};
-ghost use Rattle.crash_laws.specs.Volumes.{Walked};
+ghost use Rattle.crash_laws.specs.Volumes.{Walked, HasTreeOf, HasTreesOf};
 
 /// A law, which does nothing when it is called: over a base image with an empty log, a session that has submitted
 /// nothing keeps all rules.
@@ -47,6 +49,34 @@ pub fn requests_keep_the_rules()
         DataBeforeCommit (walk_volume g) h (after p) }
 {}
 
+/// A law, which does nothing when it is called: what a page, a flush, a home write, a superblock, a log block and a
+/// commit block each owe gives all clauses of the order rules.
+pub fn requests_owe_by_what_they_carry()
+    ensures page { (g : Geometry) (p : Submitting) (f i v : ℕ) →
+        IsPageRequest p f i v → OrderClause (walk_volume g) p }
+    ensures flush { (g : Geometry) (p : Submitting) →
+        IsFlushRequest p → OrderClause (walk_volume g) p }
+    ensures home { (g : Geometry) (p : Submitting) (b : ℕ) →
+        IsHomeRequest p b → OrderClause (walk_volume g) p }
+    ensures superblock { (g : Geometry) (p : Submitting) →
+        IsSuperRequest p → OrderClause (walk_volume g) p }
+    ensures log_block { (g : Geometry) (p : Submitting) (k : ℕ) →
+        IsPartRequest p k → OrderClause (walk_volume g) p }
+    ensures commit { (g : Geometry) (p : Submitting) (k : ℕ) →
+        IsCommitRequest (walk_volume g) p k → OrderClause (walk_volume g) p }
+{}
+
+/// A law, which does nothing when it is called: the image of each submitted transaction keeps its tree, and a commit
+/// block owes that of its own.
+pub fn trees_of_images_follow()
+    ensures start { (g : Geometry) (s : Session) (tree_after : ℕ → List (ℕ × Node)) →
+        s.notes ≡ [] → HasTreeOf g s 0 (tree_after 0) → HasTreesOf g s tree_after }
+    ensures request { (g : Geometry) (p : Submitting) (tree_after : ℕ → List (ℕ × Node)) →
+        CommitOrder p.session → CommitClause p.session p.request p.note →
+        ((k : ℕ) → p.note ≡ Commit k → HasTreeOf g (after p) k (tree_after k)) →
+        HasTreesOf g p.session tree_after → HasTreesOf g (after p) tree_after }
+{}
+
 /// A law, which does nothing when it is called: the rules of pages hold of a longer history, where they hold of the
 /// one before.
 pub fn histories_may_grow()
@@ -59,20 +89,20 @@ pub fn histories_may_grow()
 /// A law, which does nothing when it is called: what requests hold when a barrier or sync call answers, they hold
 /// with one request more and with a longer history.
 pub fn promises_stay_kept()
-    ensures answered { (h : History Walked) (s : Session) (call : Call) (e barrier : ℕ) →
+    ensures answered { (h : History Walked) (s : Session) (call : BegunCall) (e barrier : ℕ) →
         IsFence s.requests barrier → AreHeld h s (λ i. i ≤ barrier) (Covers h call) (CoversEntry call) →
         ((o f i v : ℕ) → HasNote s o (Page f i v) → v ≤ e) → ((k c : ℕ) → IsCommit s k c → h.cut k ≤ e) →
         KeepsBarrier h s e (Covers h call) (CoversEntry call) }
-    ensures barrier_pushed { (h : History Walked) (p : Submitting) (call : Call) (e : ℕ) →
+    ensures barrier_pushed { (h : History Walked) (p : Submitting) (call : BegunCall) (e : ℕ) →
         KeepsBarrier h p.session e (Covers h call) (CoversEntry call) →
         KeepsBarrier h (after p) e (Covers h call) (CoversEntry call) }
-    ensures sync_pushed { (h : History Walked) (p : Submitting) (call : Call) (taken : List Completion) →
+    ensures sync_pushed { (h : History Walked) (p : Submitting) (call : BegunCall) (taken : List Completion) →
         KeepsSync h p.session taken (Covers h call) (CoversEntry call) →
         KeepsSync h (after p) taken (Covers h call) (CoversEntry call) }
-    ensures barrier_grows { (h more : History Walked) (s : Session) (now : ℕ) (call : Call) (e : ℕ) →
+    ensures barrier_grows { (h more : History Walked) (s : Session) (now : ℕ) (call : BegunCall) (e : ℕ) →
         Extends h more s now → call.begin ≤ now → KeepsBarrier h s e (Covers h call) (CoversEntry call) →
         KeepsBarrier more s e (Covers more call) (CoversEntry call) }
-    ensures sync_grows { (h more : History Walked) (s : Session) (now : ℕ) (call : Call) (taken : List Completion) →
+    ensures sync_grows { (h more : History Walked) (s : Session) (now : ℕ) (call : BegunCall) (taken : List Completion) →
         Extends h more s now → call.begin ≤ now → KeepsSync h s taken (Covers h call) (CoversEntry call) →
         KeepsSync more s taken (Covers more call) (CoversEntry call) }
 {}

@@ -3,7 +3,7 @@
 --
 -- The entry at place p, counted from 0, has the number p + 1. The tree that was opened is the root alone; its birth is
 -- 0, and the birth of each other node is the number of the entry that made it.
-use Rattle.std.specs.Prelude.{◌≡◌, ◌≢◌, ℕ, ◌+◌, ◌<◌, ◌==◌, ◌⊎◌, Bool, true, false, List, [], ◌∷◌, ◌++◌, filter, take, Option, Some, None, if◌then◌else◌}
+use Rattle.std.specs.Prelude.{◌≡◌, ◌≢◌, ℕ, ◌+◌, ◌<◌, ◌==◌, ◌⊎◌, Bool, true, false, List, [], ◌∷◌, ◌++◌, filter, take, Some, None, if◌then◌else◌}
 use Rattle.std.specs.List.{slice_get}
 use Rattle.tree_model.specs.declared.call.Call.{Call}
 use Rattle.tree_model.specs.declared.call.Call.TheVariants as calls
@@ -12,7 +12,7 @@ use Rattle.tree_model.specs.declared.call.Reply.TheVariants as replies
 use Rattle.tree_model.specs.declared.call.Room.{Room}
 use Rattle.tree_model.specs.declared.node.Node.TheVariants as nodes
 use Rattle.tree_model.specs.Calls.{Tree, reply_of}
-use Rattle.tree_model.specs.Histories.{Entry, tree_after_entries}
+use Rattle.tree_model.specs.Histories.{Entry, tree_at}
 
 -- a thread begins a barrier or sync call, which it then waits for; or a call of a thread ends with its reply
 pub data Event : Type 0 where
@@ -69,13 +69,13 @@ done_from before (e ∷ events) = done_at before e ∷ done_from (before ++ e �
 abbrev pub done_by : List Event → List Entry
 done_by events = done_from [] events
 
--- the root alone
+-- the root alone, as in a new volume
 abbrev pub root_alone : Tree
 root_alone = (0, nodes.Directory (record { parent = 0; slots = 2; names = [] })) ∷ []
 
 -- the tree after the entries numbered up to n
 abbrev pub tree_up_to : Room → List Event → ℕ → Tree
-tree_up_to room events n = tree_after_entries room root_alone 0 (done_by events) n
+tree_up_to room events n = tree_at room root_alone 0 (done_by events) n
 
 -- ---- legal histories
 

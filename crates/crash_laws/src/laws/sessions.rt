@@ -1,0 +1,41 @@
+ghost use Rattle.std.specs.Prelude.{ℕ, List};
+ghost use Rattle.blk_base.specs.Members.{In};
+ghost use Rattle.order_model.specs.declared.completion.Completion.{Completion};
+ghost use Rattle.order_model.specs.Submission.{IsOrderClosed, KeepsFlushed};
+ghost use Rattle.minix_layout.specs.declared.division.Geometry.{Geometry};
+ghost use Rattle.tree_model.specs.declared.call.Room.{Room};
+ghost use Rattle.tree_model.specs.Calls.{Tree};
+ghost use Rattle.tree_model.specs.Histories.{tree_after_entries};
+ghost use Rattle.tree_model.specs.Listing.{IsRooted};
+ghost use Rattle.volume_ops.specs.Volume.{disk_of};
+ghost use Rattle.crash_laws.specs.Found.{found};
+ghost use Rattle.crash_laws.specs.History.{HasTrees};
+ghost use Rattle.crash_laws.specs.LegalHistory.{Event, done_by, root_alone};
+ghost use Rattle.crash_laws.specs.Recovery.{IsRecovered};
+ghost use Rattle.crash_laws.specs.Session.{Medium};
+ghost use Rattle.crash_laws.specs.SessionRules.{Run, KeepsRules, Sentences};
+ghost use Rattle.crash_laws.specs.TreeHistory.{AreCuts, IsPlaceIn, history_of};
+ghost use Rattle.crash_laws.specs.Volumes.{Walked};
+
+/// A law, which does nothing when it is called: what the laws ask of a history holds of the calls of every session on
+/// real trees, and each file of a tree has a place in each volume whose tree is alike, by whichever of its paths.
+pub fn calls_on_trees_make_a_history()
+    ensures trees { (room : Room) (events : List Event) (cut : ℕ → ℕ) (place : ℕ → Walked → ℕ → ℕ → ℕ) →
+        AreCuts cut → ((k : ℕ) → IsRooted (tree_after_entries room root_alone 0 (done_by events) k)) →
+        HasTrees (history_of room events cut place) }
+    ensures places { (g : Geometry) (tree : Tree) → IsRooted tree →
+        (place : Walked → ℕ → ℕ → ℕ) × IsPlaceIn g tree place }
+{}
+
+/// A law, which does nothing when it is called: where a session keeps the order rules, and the medium that a power
+/// cut left keeps the order of barriers and all that was below a flush that was answered, the tree recovered is
+/// that after a prefix of the transactions, each file has versions no older than its last change, and what
+/// barrier and sync calls cover survived or was superseded.
+pub fn sentences_follow_from_the_rules()
+    ensures sentences { (run : Run) (m : Medium) (recovered : List (List ℕ)) (sent : List Completion) →
+        KeepsRules run → ((k : ℕ) → IsRooted (tree_after_entries run.room root_alone 0 (done_by run.events) k)) →
+        IsOrderClosed run.session.base run.session.requests m.image m.origins →
+        KeepsFlushed run.session.requests m.origins sent → ((o : Completion) → In o run.taken → In o sent) →
+        IsRecovered run.session m (disk_of recovered) →
+        Sentences run m recovered (found run.session m) }
+{}
