@@ -1,258 +1,352 @@
--- A list that keeps all rules: a superblock, and a transaction of one body. So the rules can be kept together.
-use Rattle.std.specs.Prelude.{◌≡◌, ◌≢◌, ℕ, zero, suc, ◌+◌, ◌-◌, ◌<◌, ◌≤◌, ◌==◌, Bool, true, false, List, [], ◌∷◌, Some, slice_get, if◌then◌else◌, refl}
-use Rattle.std.specs.Option.{option_and_then}
-use Rattle.std.proofs.Common.{sym, ap, subst, inl, ⊎_elim, arith, eqb-true}
+-- A session of a dozen requests keeps all rules, so the rules can be kept together.
+use Rattle.std.specs.Prelude.{◌≡◌, ◌≢◌, ℕ, zero, suc, ◌+◌, ◌<◌, ◌≤◌, ◌⊎◌, ◌==◌, Bool, true, false, List, [], ◌∷◌, length, Some, None, slice_get, if◌then◌else◌, refl}
+use Rattle.std.proofs.Common.{sym, ap, subst, ◌∙◌, inl, inr, ⊎_elim, arith, eqb-true}
 use Rattle.std.proofs.lemmas.Option.{none-some, same_Some}
-use Rattle.std.proofs.lemmas.Bool.{false≢true}
-use Rattle.blk_base.specs.Members.{slice_get-length}
+use Rattle.blk_base.specs.Members.{In, slice_get-length}
 use Rattle.order_model.specs.declared.note.Note.{Note}
-use Rattle.order_model.specs.declared.note.Note.TheVariants.{Super, Descriptor, Body, Commit}
-use Rattle.order_model.specs.Submission.{IsPutOf}
+use Rattle.order_model.specs.declared.note.Note.TheVariants.{Page, Super, Descriptor, Body, Commit, Home, Flush}
+use Rattle.order_model.specs.Submission.{IsPutOf, IsPutWith}
 use Rattle.volume_ops.specs.Volume.{disk_of}
-use Rattle.log_model.specs.Log.{Commits, Spells}
-use Rattle.log_model.specs.Marks.{Keep, Set, mark_in, transactions_from}
-use Rattle.log_model.proofs.Marks.{keep≢set}
+use Rattle.log_model.specs.Log.{Commits}
+use Rattle.log_model.specs.Marks.{Keep, Set, followed, mark_in, transactions_from}
+use Rattle.log_model.proofs.Marks.{keep≢set, mark_in-append}
 use Rattle.crash_laws.specs.Clauses.{OrderClause}
-use Rattle.crash_laws.specs.Example.{header, format, program, tx, opened, first, second, third, fourth}
 use Rattle.crash_laws.specs.Ordering.{IsClosedOff}
+use Rattle.crash_laws.specs.Requests.{IsPageRequest, IsFlushRequest, IsHomeRequest, IsSuperRequest, IsLogRequest, IsPartRequest, IsCommitRequest}
 use Rattle.crash_laws.specs.Rules.{OrderRules, BaseImage}
-use Rattle.crash_laws.specs.Session.{log_transaction, log_blocks, log_blocks_of, bodies_of}
-use Rattle.crash_laws.specs.Submitting.{after}
+use Rattle.crash_laws.specs.Session.{Session, IsLog, IsCommit, LogBlock, log_blocks, IsSuperOf}
+use Rattle.crash_laws.specs.Submitting.{Submitting, after, IsCommitted}
+use Rattle.crash_laws.specs.Example.{header, program, logged, with_first, page_written, first_super, first_descriptor, first_body, first_commit, home_written, second_super, page_overwritten, second_descriptor, second_body, second_commit, flushed}
+use Rattle.crash_laws.proofs.Ordering.{same_block}
 use Rattle.crash_laws.proofs.OrderSteps.{order_rules_step}
+use Rattle.crash_laws.proofs.RequestClauses.{page_request_clause, flush_request_clause, home_request_clause, super_request_clause, part_request_clause, commit_request_clause}
+use Rattle.crash_laws.proofs.RingSteps.{log_listed}
 use Rattle.crash_laws.proofs.Start.{rules_at_start}
 
--- ---- a format of numbers
+-- ---- the base image
 
--- ---- the volume, and the walk of one block
-
-no_commit_header : (p seq : ℕ) → 1 ≤ p → p < 4 → header (disk_of opened.base (4 + p)) ≢ Commits seq
+no_commit_header : (p seq : ℕ) → 1 ≤ p → p < 4 → header (disk_of (with_first 0).base (4 + p)) ≢ Commits seq
 no_commit_header zero seq lo hi = absurd (omega arith)
 no_commit_header (suc zero) seq lo hi = λ e. let f : ⊥ = cc in f
 no_commit_header (suc (suc zero)) seq lo hi = λ e. let f : ⊥ = cc in f
 no_commit_header (suc (suc (suc zero))) seq lo hi = λ e. let f : ⊥ = cc in f
 no_commit_header (suc (suc (suc (suc p)))) seq lo hi = absurd (omega arith)
 
-base_image : BaseImage opened
+base_image : BaseImage (with_first 0)
 base_image = record {
   start = refl;
   reserved = λ b i. ⊎_elim (λ e. omega arith) (λ none. absurd none) i;
   plain = λ p seq place. no_commit_header p seq place.0 place.1;
 }
 
-at_start : OrderRules program opened
-at_start = rules_at_start program opened refl refl (omega arith) (omega arith, omega arith) base_image (λ b i. i)
+at_start : OrderRules program (with_first 0)
+at_start = rules_at_start program (with_first 0) refl refl (omega arith) (omega arith, omega arith) base_image (λ b i. i)
 
--- ---- four requests
+-- ---- what lists have
 
--- a commit block among notes that are none
-one_of : (n : Note) (k : ℕ) → n ≡ Commit k → log_transaction n ≡ Some k
-one_of n k e = ap log_transaction e
+-- the transactions whose commit blocks are among notes
+abbrev commit_numbers : List Note → List ℕ
+commit_numbers [] = []
+commit_numbers (Commit k ∷ ns) = k ∷ commit_numbers ns
+commit_numbers (n ∷ ns) = commit_numbers ns
 
-first_clause : OrderClause program first
-first_clause = record {
-  fits = record {
-    home = λ b e. absurd (let f : ⊥ = cc in f);
-    super = λ e. refl;
-    log = λ k e. absurd (none-some k e);
-    page = λ f i v e. absurd (let f : ⊥ = cc in f);
-    flush = λ e. absurd (let f : ⊥ = cc in f);
-    raw = λ e. cc;
-    ordered = λ e. refl;
+same_commit : (k l : ℕ) → Commit k ≡ Commit l → k ≡ l
+same_commit k l e = cc
+
+commit_listed : (ns : List Note) (k i : ℕ) → slice_get ns i ≡ Some (Commit k) → In k (commit_numbers ns)
+commit_listed [] k i e = absurd (none-some (Commit k) e)
+commit_listed (Commit l ∷ ns) k zero e = inl (same_commit l k (same_Some (Commit l) (Commit k) e))
+commit_listed (Commit l ∷ ns) k (suc i) e = inr (commit_listed ns k i e)
+commit_listed (n ∷ ns) k zero e = absurd (let f : ⊥ = cc in f)
+commit_listed (n ∷ ns) k (suc i) e = commit_listed ns k i e
+
+-- among few requests, the last of which is a barrier, each is closed off
+closed_by : (n i : ℕ) → i < suc n → IsClosedOff (with_first (suc n)).requests n → IsClosedOff (with_first (suc n)).requests i
+closed_by n i lt c = let lo = c.1 in (c.0, omega arith, c.2)
+
+-- block 1 alone is logged
+one_block : (here : Bool) (b : ℕ) (x y : List ℕ) → (1 == b) ≡ here → (if here then Set y else Keep) ≡ Set x → (b ≡ 1) × (y ≡ x)
+one_block true b x y e m = let q = eqb-true 1 b e in (omega arith, cc)
+one_block false b x y e m = absurd (keep≢set x m)
+
+first_mark : (b : ℕ) (x : List ℕ) → mark_in (transactions_from logged 1 1) b ≡ Set x → (b ≡ 1) × ((7 ∷ []) ≡ x)
+first_mark b x m = one_block (1 == b) b x (7 ∷ []) refl m
+
+second_mark : (b : ℕ) (x : List ℕ) → mark_in (transactions_from logged 1 2) b ≡ Set x → b ≡ 1
+second_mark b x m = by (1 == b) refl m
+  where
+    by : (here : Bool) → (1 == b) ≡ here → followed (if here then Set (7 ∷ []) else Keep) (followed (if here then Set (8 ∷ []) else Keep) Keep) ≡ Set x → b ≡ 1
+    by true e k = let q = eqb-true 1 b e in omega arith
+    by false e k = absurd (keep≢set x k)
+
+-- the page's block is never logged
+page_unlogged : (k : ℕ) (x : List ℕ) → mark_in (transactions_from logged 1 k) 2 ≡ Set x → ⊥
+page_unlogged zero x e = keep≢set x e
+page_unlogged (suc k) x e = page_unlogged k x (sym (mark_in-append (transactions_from logged 1 k) (logged (1 + k) ∷ []) 2) ∙ e)
+
+no_first : (n : ℕ) → commit_numbers (with_first n).notes ≡ [] → IsCommitted (with_first n) 1 → ⊥
+no_first n none c = subst (In 1) none (commit_listed (with_first n).notes 1 c.0 c.1)
+
+no_second : (n : ℕ) → commit_numbers (with_first n).notes ≡ 1 ∷ [] → IsCommitted (with_first n) 2 → ⊥
+no_second n one c = ⊎_elim (λ e. omega arith) (λ none. none) (subst (In 2) one (commit_listed (with_first n).notes 2 c.0 c.1))
+
+id_of : (j k i l : ℕ) → ◌≡◌ {A = LogBlock} (record { id = j; transaction = k }) (record { id = i; transaction = l }) → j ≡ i
+id_of j k i l same = ap (λ (e : LogBlock). e.id) same
+
+number_of : (j k i l : ℕ) → ◌≡◌ {A = LogBlock} (record { id = j; transaction = k }) (record { id = i; transaction = l }) → k ≡ l
+number_of j k i l same = ap (λ (e : LogBlock). e.transaction) same
+
+elsewhere : (s : Session) (j k i l b c d : ℕ) → ◌≡◌ {A = LogBlock} (record { id = j; transaction = k }) (record { id = i; transaction = l }) → IsPutOf s.requests j c → Some d ≡ Some b → IsPutOf s.requests i b → c ≡ d
+elsewhere s j k i l b c d same there block put =
+    same_block s.requests i c b (subst (λ x. IsPutOf s.requests x c) (id_of j k i l same) there) put ∙ sym (same_Some d b block)
+
+-- ---- the clauses of order
+
+one : OrderClause program page_written
+one = page_request_clause program page_written 5 0 2 (record {
+  note = refl;
+  zone = 2;
+  block = refl;
+  low = omega arith;
+  free = λ i. ⊎_elim (λ e. omega arith) (λ none. none) i;
+  unlogged = λ k x set c. absurd (page_unlogged k x set);
+})
+
+two : OrderClause program first_super
+two = super_request_clause program first_super (record {
+  note = refl;
+  block = refl;
+  ordered = refl;
+  clause = record {
+    freed = 0;
+    fields = refl;
+    last = no_first 1 refl;
+    committed = λ pos. absurd (omega arith);
+    barrier = λ pos. refl;
+    homes = λ b x set. absurd (keep≢set x set);
   };
-  commits = record {
-    numbered = λ k e. absurd (none-some k e);
-    unfinished = λ k e c. none-some k e;
-    behind = λ k e pos. absurd (none-some (k + 1) e);
-    barrier = λ k e. refl;
-    closed = λ k i e h. absurd (none-some k (one_of Super k e));
-  };
-  log = record {
-    place = λ k e. absurd (none-some k e);
-    again = λ k l i b e p h q. absurd (none-some l e);
-    header = tt;
-    spells = λ k e. absurd (none-some k (one_of Super k e));
-  };
-  checkpoints = record {
-    super = λ e. record {
-      freed = 0;
-      fields = refl;
-      last = λ c. none-some (Commit 1) c.1;
-      committed = λ pos. absurd (omega arith);
-      barrier = λ pos. refl;
-      homes = λ b x set. absurd (let f : ⊥ = cc in f);
-    };
-    first = λ e. absurd (none-some 1 (one_of Super 1 e));
-    before = λ i freed e h. absurd (none-some (freed + 1) (one_of Super (freed + 1) e));
-  };
-  images = record {
-    bodies = λ k b x e set. absurd (none-some k (one_of Super k e));
-    revokes = λ k b e r i. none-some k (one_of Super k e);
-    logged = λ k b e read. absurd (none-some k (one_of Super k e));
-    home = λ b e. absurd (let f : ⊥ = cc in f);
-    page = λ f i v z k x e p set c. absurd (let f : ⊥ = cc in f);
-  };
-}
+})
 
--- ---- lists of few notes
-
--- no commit block is among them
-abbrev no_commit : List Note → Bool
-no_commit [] = true
-no_commit (Commit k ∷ ns) = false
-no_commit (n ∷ ns) = no_commit ns
-
-not_there : (ns : List Note) (k i : ℕ) → no_commit ns ≡ true → slice_get ns i ≡ Some (Commit k) → ⊥
-not_there [] k i t e = none-some (Commit k) e
-not_there (Commit l ∷ ns) k i t e = false≢true t
-not_there (n ∷ ns) k zero t e = absurd (let f : ⊥ = cc in f)
-not_there (n ∷ ns) k (suc i) t e = not_there ns k i t e
-
-same_tx : (k l : ℕ) → Commit k ≡ Commit l → k ≡ l
-same_tx k l e = cc
-
--- ---- what the log blocks owe
-
-second_clause : OrderClause program second
-second_clause = record {
-  fits = record {
-    home = λ b e. absurd (let f : ⊥ = cc in f);
-    super = λ e. absurd (let f : ⊥ = cc in f);
-    log = λ k e. (1, (omega arith, omega arith), refl);
-    page = λ f i v e. absurd (let f : ⊥ = cc in f);
-    flush = λ e. absurd (let f : ⊥ = cc in f);
-    raw = λ e. cc;
-    ordered = λ e. refl;
-  };
-  commits = record {
-    numbered = λ k e. let q = same_Some 1 k e in omega arith;
-    unfinished = λ k e c. not_there (Super ∷ []) k c.0 refl c.1;
-    behind = λ k e pos. let q = same_Some 1 (k + 1) e in absurd (omega arith);
-    barrier = λ k e. refl;
-    closed = λ k i e h. absurd (let f : ⊥ = cc in f);
-  };
-  log = record {
-    place = λ k e. refl;
-    again = λ k l i b e p h q. absurd (no_log k i h);
+three : OrderClause program first_descriptor
+three = part_request_clause program first_descriptor 1 (
+  record {
+    note = refl;
+    ordered = refl;
+    numbered = omega arith;
+    unfinished = no_first 2 refl;
+    behind = λ more. absurd (omega arith);
+    head = (omega arith, omega arith);
+    block = refl;
+    again = λ l i b block log put. absurd (log_listed (with_first 2) l i log);
     header = (record { block = 1; escaped = false } ∷ [], refl);
-    spells = λ k e. absurd (let f : ⊥ = cc in f);
-  };
-  checkpoints = record {
-    super = λ e. absurd (let f : ⊥ = cc in f);
-    first = λ e. absurd (let f : ⊥ = cc in f);
-    before = λ i freed e h. absurd (let f : ⊥ = cc in f);
-  };
-  images = record {
-    bodies = λ k b x e set. absurd (let f : ⊥ = cc in f);
-    revokes = λ k b e r i. let f : ⊥ = cc in f;
-    logged = λ k b e read. absurd (let f : ⊥ = cc in f);
-    home = λ b e. absurd (let f : ⊥ = cc in f);
-    page = λ f i v z k x e p set c. absurd (let f : ⊥ = cc in f);
-  };
-}
-  where
-    no_log : (k i : ℕ) → option_and_then log_transaction (slice_get (Super ∷ []) i) ≡ Some k → ⊥
-    no_log k zero h = none-some k h
-    no_log k (suc i) h = none-some k h
+  },
+  λ l e. let f : ⊥ = cc in f,
+)
 
-third_clause : OrderClause program third
-third_clause = record {
-  fits = record {
-    home = λ b e. absurd (let f : ⊥ = cc in f);
-    super = λ e. absurd (let f : ⊥ = cc in f);
-    log = λ k e. (2, (omega arith, omega arith), refl);
-    page = λ f i v e. absurd (let f : ⊥ = cc in f);
-    flush = λ e. absurd (let f : ⊥ = cc in f);
-    raw = λ e. cc;
-    ordered = λ e. refl;
-  };
-  commits = record {
-    numbered = λ k e. let q = same_Some 1 k e in omega arith;
-    unfinished = λ k e c. not_there (Super ∷ Descriptor 1 ∷ []) k c.0 refl c.1;
-    behind = λ k e pos. let q = same_Some 1 (k + 1) e in absurd (omega arith);
-    barrier = λ k e. refl;
-    closed = λ k i e h. absurd (let f : ⊥ = cc in f);
-  };
-  log = record {
-    place = λ k e. refl;
-    again = λ k l i b e p h q. absurd (elsewhere k i b h p q);
+four : OrderClause program first_body
+four = part_request_clause program first_body 1 (
+  record {
+    note = refl;
+    ordered = refl;
+    numbered = omega arith;
+    unfinished = no_first 3 refl;
+    behind = λ more. absurd (omega arith);
+    head = (omega arith, omega arith);
+    block = refl;
+    again = λ l i b block log put.
+        ⊎_elim
+        (λ e. let same = elsewhere (with_first 3) 2 1 i l b 5 6 e refl block put in absurd (omega arith))
+        (λ none. absurd none)
+        (log_listed (with_first 3) l i log);
     header = refl;
-    spells = λ k e. absurd (let f : ⊥ = cc in f);
-  };
-  checkpoints = record {
-    super = λ e. absurd (let f : ⊥ = cc in f);
-    first = λ e. absurd (let f : ⊥ = cc in f);
-    before = λ i freed e h. absurd (let f : ⊥ = cc in f);
-  };
-  images = record {
-    bodies = λ k b x e set. absurd (let f : ⊥ = cc in f);
-    revokes = λ k b e r i. let f : ⊥ = cc in f;
-    logged = λ k b e read. absurd (let f : ⊥ = cc in f);
-    home = λ b e. absurd (let f : ⊥ = cc in f);
-    page = λ f i v z k x e p set c. absurd (let f : ⊥ = cc in f);
-  };
-}
-  where
-    elsewhere : (k i b : ℕ) → option_and_then log_transaction (slice_get (Super ∷ Descriptor 1 ∷ []) i) ≡ Some k → Some 6 ≡ Some b → IsPutOf (after second).requests i b → ⊥
-    elsewhere k zero b h p q = none-some k h
-    elsewhere k (suc zero) b h p q = let x = same_Some 6 b p in let y = same_Some 5 b q in omega arith
-    elsewhere k (suc (suc i)) b h p q = none-some k h
+  },
+  λ l e. let f : ⊥ = cc in f,
+)
 
-fourth_clause : OrderClause program fourth
-fourth_clause = record {
-  fits = record {
-    home = λ b e. absurd (let f : ⊥ = cc in f);
-    super = λ e. absurd (let f : ⊥ = cc in f);
-    log = λ k e. (3, (omega arith, omega arith), refl);
-    page = λ f i v e. absurd (let f : ⊥ = cc in f);
-    flush = λ e. absurd (let f : ⊥ = cc in f);
-    raw = λ e. cc;
-    ordered = λ e. refl;
-  };
-  commits = record {
-    numbered = λ k e. let q = same_Some 1 k e in omega arith;
-    unfinished = λ k e c. not_there (Super ∷ Descriptor 1 ∷ Body 1 1 ∷ []) k c.0 refl c.1;
-    behind = λ k e pos. let q = same_Some 1 (k + 1) e in absurd (omega arith);
-    barrier = λ k e. refl;
-    closed = λ k i e h. within k i h;
-  };
+five : OrderClause program first_commit
+five = commit_request_clause program first_commit 1 (record {
+  note = refl;
   log = record {
-    place = λ k e. refl;
-    again = λ k l i b e p h q. absurd (elsewhere k i b h p q);
+    note = refl;
+    ordered = refl;
+    numbered = omega arith;
+    unfinished = no_first 4 refl;
+    behind = λ more. absurd (omega arith);
+    head = (omega arith, omega arith);
+    block = refl;
+    again = λ l i b block log put.
+        ⊎_elim
+        (λ e. let same = elsewhere (with_first 4) 2 1 i l b 5 7 e refl block put in absurd (omega arith))
+        (λ more. ⊎_elim (λ e. let same = elsewhere (with_first 4) 3 1 i l b 6 7 e refl block put in absurd (omega arith)) (λ none. absurd none) more)
+        (log_listed (with_first 4) l i log);
     header = refl;
-    spells = λ k e. subst (λ j. Spells format (1 + (j - 1)) (bodies_of (after fourth) (log_blocks_of j (log_blocks (after fourth)))) (tx j)) (same_tx 1 k e) (λ txs. refl);
   };
-  checkpoints = record {
-    super = λ e. absurd (let f : ⊥ = cc in f);
-    first = λ e. (0, record { note = refl; fields = refl });
-    before = λ i freed e h. let lt = slice_get-length (after third).notes i Super h.note in (2, omega arith, refl);
+  barrier = refl;
+  closed = λ i log.
+      ⊎_elim
+      (λ e. let at = id_of 2 1 i 1 e in (3, omega arith, refl))
+      (λ more. ⊎_elim (λ e. let at = id_of 3 1 i 1 e in (3, omega arith, refl)) (λ none. absurd none) more)
+      (log_listed (with_first 4) 1 i log);
+  spells = λ txs. refl;
+  first = λ e. (1, record { note = refl; fields = refl });
+  tail = λ i freed e h. let lt : i < 4 = slice_get-length (with_first 4).notes i Super h.note in (3, omega arith, refl);
+  bodies = λ b x set. let m = (first_mark b x set).0 in omega arith;
+  revokes = λ b i reserved. i;
+  logged = λ b read. inl read;
+})
+
+six : OrderClause program home_written
+six = home_request_clause program home_written 1 (record {
+  note = refl;
+  block = refl;
+  ordered = refl;
+  newest = 1;
+  committed = (4, refl);
+  no_more = no_second 5 refl;
+  body = 7 ∷ [];
+  carried = refl;
+  mark = refl;
+})
+
+seven : OrderClause program second_super
+seven = super_request_clause program second_super (record {
+  note = refl;
+  block = refl;
+  ordered = refl;
+  clause = record {
+    freed = 1;
+    fields = refl;
+    last = no_second 6 refl;
+    committed = λ pos. (4, refl);
+    barrier = λ pos. refl;
+    homes = λ b x set.
+        let m = first_mark b x set in
+        record {
+          home = 5;
+          note = subst (λ c. slice_get (with_first 6).notes 5 ≡ Some (Home c)) (sym m.0) refl;
+          body = subst (IsPutWith (with_first 6).requests 5) m.1 refl;
+          closed = (5, omega arith, refl);
+          since = 1;
+          committed = (4, refl, omega arith);
+          within = omega arith;
+          stays = λ j lo hi. let e : 1 ≡ j = omega arith in subst (λ k. mark_in (transactions_from logged 1 k) b ≡ Set x) e set;
+        };
   };
-  images = record {
-    bodies = λ k b x e set. let m = subst (λ j. mark_in (transactions_from tx 1 j) b ≡ Set x) (sym (same_tx 1 k e)) set in one_block (1 == b) b x refl m;
-    revokes = λ k b e r i. r;
-    logged = λ k b e read. inl read;
-    home = λ b e. absurd (let f : ⊥ = cc in f);
-    page = λ f i v z k x e p set c. absurd (let f : ⊥ = cc in f);
+})
+
+eight : OrderClause program page_overwritten
+eight = page_request_clause program page_overwritten 5 0 3 (record {
+  note = refl;
+  zone = 2;
+  block = refl;
+  low = omega arith;
+  free = λ i. ⊎_elim (λ e. omega arith) (λ none. none) i;
+  unlogged = λ k x set c. absurd (page_unlogged k x set);
+})
+
+-- what the second superblock freed
+freed_first : (n j i l : ℕ) → IsSuperOf (with_first n) 6 1 → j < 6 → ◌≡◌ {A = LogBlock} (record { id = j; transaction = 1 }) (record { id = i; transaction = l })
+    → (x freed : ℕ) × IsSuperOf (with_first n) x freed × (i < x) × (l ≤ freed)
+freed_first n j i l super lt e =
+    let at = id_of j 1 i l e in
+    let number = number_of j 1 i l e in
+    (6, 1, super, omega arith, omega arith)
+
+nine : OrderClause program second_descriptor
+nine = part_request_clause program second_descriptor 2 (
+  record {
+    note = refl;
+    ordered = refl;
+    numbered = omega arith;
+    unfinished = no_second 8 refl;
+    behind = λ more. (4, refl);
+    head = (omega arith, omega arith);
+    block = refl;
+    again = λ l i b block log put.
+        let super : IsSuperOf (with_first 8) 6 1 = record { note = refl; fields = refl } in
+        ⊎_elim (λ e. freed_first 8 2 i l super (omega arith) e)
+        (λ m. ⊎_elim (λ e. freed_first 8 3 i l super (omega arith) e)
+        (λ o. ⊎_elim (λ e. freed_first 8 4 i l super (omega arith) e) (λ none. absurd none) o) m)
+        (log_listed (with_first 8) l i log);
+    header = (record { block = 1; escaped = false } ∷ [], refl);
+  },
+  λ l e. let f : ⊥ = cc in f,
+)
+
+ten : OrderClause program second_body
+ten = part_request_clause program second_body 2 (
+  record {
+    note = refl;
+    ordered = refl;
+    numbered = omega arith;
+    unfinished = no_second 9 refl;
+    behind = λ more. (4, refl);
+    head = (omega arith, omega arith);
+    block = refl;
+    again = λ l i b block log put.
+        let super : IsSuperOf (with_first 9) 6 1 = record { note = refl; fields = refl } in
+        ⊎_elim (λ e. freed_first 9 2 i l super (omega arith) e)
+        (λ m. ⊎_elim (λ e. freed_first 9 3 i l super (omega arith) e)
+        (λ o. ⊎_elim (λ e. freed_first 9 4 i l super (omega arith) e)
+        (λ q. ⊎_elim (λ e. let same = elsewhere (with_first 9) 8 2 i l b 5 6 e refl block put in absurd (omega arith)) (λ none. absurd none) q) o) m)
+        (log_listed (with_first 9) l i log);
+    header = refl;
+  },
+  λ l e. let f : ⊥ = cc in f,
+)
+
+-- each log block of both transactions stands before the second body's end
+before_ten : (i : ℕ) → IsLog (with_first 10) 2 i → i ≤ 9
+before_ten i log =
+    ⊎_elim (λ e. let at = id_of 2 1 i 2 e in omega arith)
+    (λ m. ⊎_elim (λ e. let at = id_of 3 1 i 2 e in omega arith)
+    (λ o. ⊎_elim (λ e. let at = id_of 4 1 i 2 e in omega arith)
+    (λ q. ⊎_elim (λ e. let at = id_of 8 2 i 2 e in omega arith)
+    (λ r. ⊎_elim (λ e. let at = id_of 9 2 i 2 e in omega arith) (λ none. absurd none) r) q) o) m)
+    (log_listed (with_first 10) 2 i log)
+
+eleven : OrderClause program second_commit
+eleven = commit_request_clause program second_commit 2 (record {
+  note = refl;
+  log = record {
+    note = refl;
+    ordered = refl;
+    numbered = omega arith;
+    unfinished = no_second 10 refl;
+    behind = λ more. (4, refl);
+    head = (omega arith, omega arith);
+    block = refl;
+    again = λ l i b block log put.
+        let super : IsSuperOf (with_first 10) 6 1 = record { note = refl; fields = refl } in
+        ⊎_elim (λ e. freed_first 10 2 i l super (omega arith) e)
+        (λ m. ⊎_elim (λ e. freed_first 10 3 i l super (omega arith) e)
+        (λ o. ⊎_elim (λ e. freed_first 10 4 i l super (omega arith) e)
+        (λ q. ⊎_elim (λ e. let same = elsewhere (with_first 10) 8 2 i l b 5 7 e refl block put in absurd (omega arith))
+        (λ r. ⊎_elim (λ e. let same = elsewhere (with_first 10) 9 2 i l b 6 7 e refl block put in absurd (omega arith)) (λ none. absurd none) r) q) o) m)
+        (log_listed (with_first 10) l i log);
+    header = refl;
   };
-}
-  where
-    within : (k i : ℕ) → option_and_then log_transaction (slice_get (Super ∷ Descriptor 1 ∷ Body 1 1 ∷ []) i) ≡ Some k → IsClosedOff (after third).requests i
-    within k zero h = absurd (none-some k h)
-    within k (suc zero) h = (2, omega arith, refl)
-    within k (suc (suc zero)) h = (2, omega arith, refl)
-    within k (suc (suc (suc i))) h = absurd (none-some k h)
+  barrier = refl;
+  closed = λ i log. let at = before_ten i log in (9, at, refl);
+  spells = λ txs. refl;
+  first = λ e. absurd (omega arith);
+  tail = λ i freed e h. let lt : i < 10 = slice_get-length (with_first 10).notes i Super h.note in (9, omega arith, refl);
+  bodies = λ b x set. let m = second_mark b x set in omega arith;
+  revokes = λ b i reserved. i;
+  logged = λ b read. inl read;
+})
 
-    elsewhere : (k i b : ℕ) → option_and_then log_transaction (slice_get (Super ∷ Descriptor 1 ∷ Body 1 1 ∷ []) i) ≡ Some k → Some 7 ≡ Some b → IsPutOf (after third).requests i b → ⊥
-    elsewhere k zero b h p q = none-some k h
-    elsewhere k (suc zero) b h p q = let x = same_Some 7 b p in let y = same_Some 5 b q in omega arith
-    elsewhere k (suc (suc zero)) b h p q = let x = same_Some 7 b p in let y = same_Some 6 b q in omega arith
-    elsewhere k (suc (suc (suc i))) b h p q = none-some k h
+twelve : OrderClause program flushed
+twelve = flush_request_clause program flushed (record { note = refl; block = refl })
 
-    one_block : (u : Bool) (b : ℕ) (x : List ℕ) → (1 == b) ≡ u → (if u then Set (7 ∷ []) else Keep) ≡ Set x → b < 4
-    one_block true b x e m = let q = eqb-true 1 b e in omega arith
-    one_block false b x e m = absurd (keep≢set x m)
+first_half : OrderRules program (with_first 6)
+first_half =
+    order_rules_step program home_written
+    (order_rules_step program first_commit (order_rules_step program first_body (order_rules_step program first_descriptor
+    (order_rules_step program first_super (order_rules_step program page_written at_start one) two) three) four) five) six
 
-pub rules_can_be_kept : OrderRules program (after fourth)
+pub rules_can_be_kept : OrderRules program (with_first 12)
 rules_can_be_kept =
-    order_rules_step program fourth
-    (order_rules_step program third (order_rules_step program second (order_rules_step program first at_start first_clause) second_clause) third_clause)
-    fourth_clause
+    order_rules_step program flushed
+    (order_rules_step program second_commit (order_rules_step program second_body (order_rules_step program second_descriptor
+    (order_rules_step program page_overwritten (order_rules_step program second_super first_half seven) eight) nine) ten) eleven) twelve

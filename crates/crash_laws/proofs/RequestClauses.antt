@@ -14,6 +14,8 @@ use Rattle.log_model.specs.Ring.{places_on}
 use Rattle.log_model.specs.Log.{Spells}
 use Rattle.log_model.proofs.Ring.{places_on-place}
 use Rattle.crash_laws.specs.Clauses.{FitsClause, CommitClause, LogClause, CheckpointClause, OrderClause}
+use Rattle.crash_laws.specs.History.{History}
+use Rattle.crash_laws.specs.PageClauses.{NewPageClause, CommitPagesClause, PageClause}
 use Rattle.crash_laws.specs.Requests.{IsPageRequest, IsFlushRequest, IsHomeRequest, IsSuperRequest, IsLogRequest, IsCommitRequest, IsPartRequest}
 use Rattle.crash_laws.specs.Rules.{HasHeader, is_page_or_flush}
 use Rattle.crash_laws.specs.Session.{log_transaction, IsLog, log_blocks, log_blocks_of, bodies_of, sequence_of, image_of}
@@ -295,3 +297,27 @@ module _ {A : Type 0} (program : Reads A) (p : Submitting) where
     where
       number : (l : ℕ) → p.note ≡ Commit l → k ≡ l
       number l e = same_commit k l (sym c.note ∙ e)
+
+-- ---- what is owed to the rules of pages
+
+module _ {A : Type 0} (program : Reads A) (h : History A) (p : Submitting) where
+  -- a request that is neither a page nor a commit block owes nothing
+  pub other_page_clause : ((f i v : ℕ) → p.note ≡ Page f i v → ⊥) → ((k : ℕ) → p.note ≡ Commit k → ⊥) → PageClause program h p
+  other_page_clause no_page no_commit = record { page = λ f i v z e block. absurd (no_page f i v e); commit = λ k e. absurd (no_commit k e) }
+
+  pub page_page_clause : (f i v z : ℕ) → p.note ≡ Page f i v → kind_block p.request.kind ≡ Some z → NewPageClause program h p.session p.request f i v z → PageClause program h p
+  page_page_clause f i v z note block clause = record {
+    page = λ g j w y e at.
+        let same = same_page f i v g j w (sym note ∙ e) in
+        subst (λ x. NewPageClause program h p.session p.request g j w x) (same_Some z y (sym block ∙ at))
+        (subst (λ x. NewPageClause program h p.session p.request g j x z) same.2
+        (subst (λ x. NewPageClause program h p.session p.request g x v z) same.1
+        (subst (λ x. NewPageClause program h p.session p.request x i v z) same.0 clause)));
+    commit = λ k e. absurd (let x = sym note ∙ e in let y : ⊥ = cc in y);
+  }
+
+  pub commit_page_clause : (k : ℕ) → p.note ≡ Commit k → CommitPagesClause program h p k → PageClause program h p
+  commit_page_clause k note clause = record {
+    page = λ f i v z e block. absurd (let x = sym note ∙ e in let y : ⊥ = cc in y);
+    commit = λ l e. subst (CommitPagesClause program h p) (same_commit k l (sym note ∙ e)) clause;
+  }

@@ -29,8 +29,8 @@ use Rattle.crash_laws.proofs.Pages.{same_or_not}
 
 -- ---- the facts
 
-log_entry : (s : Session) (k i : ℕ) → IsLog s k i → In (record { id = i; transaction = k }) (log_blocks s)
-log_entry s k i h =
+pub log_listed : (s : Session) (k i : ℕ) → IsLog s k i → In (record { id = i; transaction = k }) (log_blocks s)
+log_listed s k i h =
     let e : 0 + i ≡ i = omega arith in
     subst (λ j. In (record { id = j; transaction = k }) (log_blocks s)) e (log_is_log_block 0 s.notes i k h)
 
@@ -67,7 +67,7 @@ module _ {s : Session} {ring : RingHost} {N : ℕ} (facts : RingFacts s ring N) 
   pub again_clause : CommitOrder s → LogLayout s → CheckpointOrder s → ring.used < places_in s.ring → (k i b : ℕ) → b ≡ s.journal + ring.head → IsLog s k i → IsPutOf s.requests i b
       → (x freed : ℕ) × IsSuperOf s x freed × (i < x) × (k ≤ freed)
   again_clause order layout checkpoints room k i b at log put =
-      let place = In-slice_get (log_blocks s) (record { id = i; transaction = k }) (log_entry s k i log) in
+      let place = In-slice_get (log_blocks s) (record { id = i; transaction = k }) (log_listed s k i log) in
       ⊎_elim
       (λ in_use. absurd (not_in_use place.0 place.2 in_use))
       (λ below.

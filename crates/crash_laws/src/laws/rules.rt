@@ -10,7 +10,7 @@ ghost use Rattle.volume_ops.specs.Volume.{disk_of};
 ghost use Rattle.volume_ops.specs.Walk.{walk_volume};
 ghost use Rattle.log_model.specs.Ring.{IsPlace};
 ghost use Rattle.crash_laws.specs.Clauses.{CommitClause, OrderClause};
-ghost use Rattle.crash_laws.specs.Example.{program, fourth};
+ghost use Rattle.crash_laws.specs.Example.{program, with_first};
 ghost use Rattle.crash_laws.specs.Extending.{Extends};
 ghost use Rattle.crash_laws.specs.History.{History, HasTrees};
 ghost use Rattle.crash_laws.specs.PageClauses.{PageClause};
@@ -110,5 +110,5 @@ pub fn promises_stay_kept()
 /// A law, which does nothing when it is called: a superblock, a descriptor, a body and a commit block keep all order
 /// rules, so the rules do not exclude each other.
 pub fn rules_can_be_kept()
-    ensures kept { OrderRules program (after fourth) }
+    ensures kept { OrderRules program (with_first 12) }
 {}
