@@ -1,10 +1,10 @@
--- A session of a dozen requests keeps all rules, so the rules can be kept together.
-use Rattle.std.specs.Prelude.{◌≡◌, ◌≢◌, ℕ, zero, suc, ◌+◌, ◌<◌, ◌≤◌, ◌⊎◌, ◌==◌, Bool, true, false, List, [], ◌∷◌, length, Some, None, slice_get, if◌then◌else◌, refl}
+-- What each request of a session of a dozen owes to the order rules.
+use Rattle.std.specs.Prelude.{◌≡◌, ◌≢◌, ℕ, zero, suc, ◌+◌, ◌<◌, ◌≤◌, ◌==◌, Bool, true, false, List, [], ◌∷◌, Some, slice_get, if◌then◌else◌, refl}
 use Rattle.std.proofs.Common.{sym, ap, subst, ◌∙◌, inl, inr, ⊎_elim, arith, eqb-true}
 use Rattle.std.proofs.lemmas.Option.{none-some, same_Some}
 use Rattle.blk_base.specs.Members.{In, slice_get-length}
 use Rattle.order_model.specs.declared.note.Note.{Note}
-use Rattle.order_model.specs.declared.note.Note.TheVariants.{Page, Super, Descriptor, Body, Commit, Home, Flush}
+use Rattle.order_model.specs.declared.note.Note.TheVariants.{Super, Commit, Home}
 use Rattle.order_model.specs.Submission.{IsPutOf, IsPutWith}
 use Rattle.volume_ops.specs.Volume.{disk_of}
 use Rattle.log_model.specs.Log.{Commits}
@@ -12,13 +12,11 @@ use Rattle.log_model.specs.Marks.{Keep, Set, followed, mark_in, transactions_fro
 use Rattle.log_model.proofs.Marks.{keep≢set, mark_in-append}
 use Rattle.crash_laws.specs.Clauses.{OrderClause}
 use Rattle.crash_laws.specs.Ordering.{IsClosedOff}
-use Rattle.crash_laws.specs.Requests.{IsPageRequest, IsFlushRequest, IsHomeRequest, IsSuperRequest, IsLogRequest, IsPartRequest, IsCommitRequest}
 use Rattle.crash_laws.specs.Rules.{OrderRules, BaseImage}
-use Rattle.crash_laws.specs.Session.{Session, IsLog, IsCommit, LogBlock, log_blocks, IsSuperOf}
-use Rattle.crash_laws.specs.Submitting.{Submitting, after, IsCommitted}
+use Rattle.crash_laws.specs.Session.{Session, IsLog, LogBlock, IsSuperOf}
+use Rattle.crash_laws.specs.Submitting.{IsCommitted}
 use Rattle.crash_laws.specs.Example.{header, program, logged, with_first, page_written, first_super, first_descriptor, first_body, first_commit, home_written, second_super, page_overwritten, second_descriptor, second_body, second_commit, flushed}
 use Rattle.crash_laws.proofs.Ordering.{same_block}
-use Rattle.crash_laws.proofs.OrderSteps.{order_rules_step}
 use Rattle.crash_laws.proofs.RequestClauses.{page_request_clause, flush_request_clause, home_request_clause, super_request_clause, part_request_clause, commit_request_clause}
 use Rattle.crash_laws.proofs.RingSteps.{log_listed}
 use Rattle.crash_laws.proofs.Start.{rules_at_start}
@@ -39,7 +37,7 @@ base_image = record {
   plain = λ p seq place. no_commit_header p seq place.0 place.1;
 }
 
-at_start : OrderRules program (with_first 0)
+pub at_start : OrderRules program (with_first 0)
 at_start = rules_at_start program (with_first 0) refl refl (omega arith) (omega arith, omega arith) base_image (λ b i. i)
 
 -- ---- what lists have
@@ -80,7 +78,7 @@ second_mark b x m = by (1 == b) refl m
     by false e k = absurd (keep≢set x k)
 
 -- the page's block is never logged
-page_unlogged : (k : ℕ) (x : List ℕ) → mark_in (transactions_from logged 1 k) 2 ≡ Set x → ⊥
+pub page_unlogged : (k : ℕ) (x : List ℕ) → mark_in (transactions_from logged 1 k) 2 ≡ Set x → ⊥
 page_unlogged zero x e = keep≢set x e
 page_unlogged (suc k) x e = page_unlogged k x (sym (mark_in-append (transactions_from logged 1 k) (logged (1 + k) ∷ []) 2) ∙ e)
 
@@ -102,7 +100,7 @@ elsewhere s j k i l b c d same there block put =
 
 -- ---- the clauses of order
 
-one : OrderClause program page_written
+pub one : OrderClause program page_written
 one = page_request_clause program page_written 5 0 2 (record {
   note = refl;
   zone = 2;
@@ -112,7 +110,7 @@ one = page_request_clause program page_written 5 0 2 (record {
   unlogged = λ k x set c. absurd (page_unlogged k x set);
 })
 
-two : OrderClause program first_super
+pub two : OrderClause program first_super
 two = super_request_clause program first_super (record {
   note = refl;
   block = refl;
@@ -127,7 +125,7 @@ two = super_request_clause program first_super (record {
   };
 })
 
-three : OrderClause program first_descriptor
+pub three : OrderClause program first_descriptor
 three = part_request_clause program first_descriptor 1 (
   record {
     note = refl;
@@ -143,7 +141,7 @@ three = part_request_clause program first_descriptor 1 (
   λ l e. let f : ⊥ = cc in f,
 )
 
-four : OrderClause program first_body
+pub four : OrderClause program first_body
 four = part_request_clause program first_body 1 (
   record {
     note = refl;
@@ -163,7 +161,7 @@ four = part_request_clause program first_body 1 (
   λ l e. let f : ⊥ = cc in f,
 )
 
-five : OrderClause program first_commit
+pub five : OrderClause program first_commit
 five = commit_request_clause program first_commit 1 (record {
   note = refl;
   log = record {
@@ -195,7 +193,7 @@ five = commit_request_clause program first_commit 1 (record {
   logged = λ b read. inl read;
 })
 
-six : OrderClause program home_written
+pub six : OrderClause program home_written
 six = home_request_clause program home_written 1 (record {
   note = refl;
   block = refl;
@@ -208,7 +206,7 @@ six = home_request_clause program home_written 1 (record {
   mark = refl;
 })
 
-seven : OrderClause program second_super
+pub seven : OrderClause program second_super
 seven = super_request_clause program second_super (record {
   note = refl;
   block = refl;
@@ -234,7 +232,7 @@ seven = super_request_clause program second_super (record {
   };
 })
 
-eight : OrderClause program page_overwritten
+pub eight : OrderClause program page_overwritten
 eight = page_request_clause program page_overwritten 5 0 3 (record {
   note = refl;
   zone = 2;
@@ -252,7 +250,7 @@ freed_first n j i l super lt e =
     let number = number_of j 1 i l e in
     (6, 1, super, omega arith, omega arith)
 
-nine : OrderClause program second_descriptor
+pub nine : OrderClause program second_descriptor
 nine = part_request_clause program second_descriptor 2 (
   record {
     note = refl;
@@ -273,7 +271,7 @@ nine = part_request_clause program second_descriptor 2 (
   λ l e. let f : ⊥ = cc in f,
 )
 
-ten : OrderClause program second_body
+pub ten : OrderClause program second_body
 ten = part_request_clause program second_body 2 (
   record {
     note = refl;
@@ -305,7 +303,7 @@ before_ten i log =
     (λ r. ⊎_elim (λ e. let at = id_of 9 2 i 2 e in omega arith) (λ none. absurd none) r) q) o) m)
     (log_listed (with_first 10) 2 i log)
 
-eleven : OrderClause program second_commit
+pub eleven : OrderClause program second_commit
 eleven = commit_request_clause program second_commit 2 (record {
   note = refl;
   log = record {
@@ -336,17 +334,5 @@ eleven = commit_request_clause program second_commit 2 (record {
   logged = λ b read. inl read;
 })
 
-twelve : OrderClause program flushed
+pub twelve : OrderClause program flushed
 twelve = flush_request_clause program flushed (record { note = refl; block = refl })
-
-first_half : OrderRules program (with_first 6)
-first_half =
-    order_rules_step program home_written
-    (order_rules_step program first_commit (order_rules_step program first_body (order_rules_step program first_descriptor
-    (order_rules_step program first_super (order_rules_step program page_written at_start one) two) three) four) five) six
-
-pub rules_can_be_kept : OrderRules program (with_first 12)
-rules_can_be_kept =
-    order_rules_step program flushed
-    (order_rules_step program second_commit (order_rules_step program second_body (order_rules_step program second_descriptor
-    (order_rules_step program page_overwritten (order_rules_step program second_super first_half seven) eight) nine) ten) eleven) twelve

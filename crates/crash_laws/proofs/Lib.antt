@@ -5,6 +5,7 @@ pub mod Commits
 pub mod CommittingSteps
 pub mod Epochs
 pub mod Example
+pub mod ExamplePages
 pub mod Faults
 pub mod Growing
 pub mod Growth

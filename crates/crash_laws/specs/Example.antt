@@ -1,6 +1,8 @@
 -- A session that keeps all rules, over a toy volume: a file of one block at block 2, metadata in block 1, and a journal
 -- at block 4 with three places, so that the second transaction goes where the first one was.
-use Rattle.std.specs.Prelude.{ℕ, zero, suc, ◌+◌, ◌==◌, Bool, true, false, ◌&&◌, ◌||◌, nat_le, List, [], ◌∷◌, length, take, if◌then◌else◌, ◌≡◌, refl}
+use Rattle.std.specs.Prelude.{ℕ, zero, suc, ◌+◌, ◌==◌, Bool, true, false, ◌&&◌, ◌||◌, nat_le, List, [], ◌∷◌, length, take, Some, ◌≡◌, refl}
+use Rattle.order_model.specs.declared.completion.Completion.{Completion}
+use Rattle.order_model.specs.declared.completion.Completion.TheVariants.{Flushed}
 use Rattle.order_model.specs.declared.request.Request.{Request}
 use Rattle.order_model.specs.declared.request.Kind.TheVariants as kinds
 use Rattle.order_model.specs.declared.note.Note.{Note}
@@ -9,6 +11,7 @@ use Rattle.volume_ops.specs.Reads.{Reads, Ret, Read}
 use Rattle.log_model.specs.Log.{Header, Plain, Describes, Commits, Format, Tail}
 use Rattle.log_model.specs.Marks.{Transaction}
 use Rattle.crash_laws.specs.History.{History}
+use Rattle.crash_laws.specs.PromiseRules.{BegunCall}
 use Rattle.crash_laws.specs.Session.{Session}
 use Rattle.crash_laws.specs.Submitting.{Submitting}
 
@@ -148,3 +151,11 @@ second_commit = submit 10 refl (put true true 10 7 (1 ∷ 2 ∷ [])) (Commit 2)
 
 abbrev pub flushed : Submitting
 flushed = submit 11 refl (record { id = 11; kind = kinds.Flush; ordered = true; barrier = true }) Flush
+
+-- an fsync of the file that begins as entry 3, which covers what entry 2 wrote
+abbrev pub synced : BegunCall
+synced = record { begin = 3; file = Some 5; metadata = true }
+
+-- the flush was answered
+abbrev pub completions : List Completion
+completions = Flushed 11 ∷ []

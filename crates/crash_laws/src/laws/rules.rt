@@ -10,7 +10,7 @@ ghost use Rattle.volume_ops.specs.Volume.{disk_of};
 ghost use Rattle.volume_ops.specs.Walk.{walk_volume};
 ghost use Rattle.log_model.specs.Ring.{IsPlace};
 ghost use Rattle.crash_laws.specs.Clauses.{CommitClause, OrderClause};
-ghost use Rattle.crash_laws.specs.Example.{program, with_first};
+ghost use Rattle.crash_laws.specs.Example.{program, history, with_first, synced, completions};
 ghost use Rattle.crash_laws.specs.Extending.{Extends};
 ghost use Rattle.crash_laws.specs.History.{History, HasTrees};
 ghost use Rattle.crash_laws.specs.PageClauses.{PageClause};
@@ -107,8 +107,13 @@ pub fn promises_stay_kept()
         KeepsSync more s taken (Covers more call) (CoversEntry call) }
 {}
 
-/// A law, which does nothing when it is called: a superblock, a descriptor, a body and a commit block keep all order
-/// rules, so the rules do not exclude each other.
+/// A law, which does nothing when it is called: a session of a dozen requests keeps all rules, so they do not exclude
+/// each other: a page, a superblock and a transaction, its home write, a superblock that frees the log, the page
+/// once more, a transaction that goes where the first one was, and a flush that answers an fsync.
 pub fn rules_can_be_kept()
-    ensures kept { OrderRules program (with_first 12) }
+    ensures trees { HasTrees history }
+    ensures order { OrderRules program (with_first 12) }
+    ensures pages { PageOrder program history (with_first 12) }
+    ensures versions { DataBeforeCommit program history (with_first 12) }
+    ensures sync { KeepsSync history (with_first 12) completions (Covers history synced) (CoversEntry synced) }
 {}
