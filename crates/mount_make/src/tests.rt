@@ -224,6 +224,35 @@ fn shows_each_kind_of_node(rt: HostRuntime) -> Result<(), Fail> {
 }
 
 #[test]
+fn shows_a_file_in_the_last_zone(rt: HostRuntime) -> Result<(), Fail> {
+    let alloc = rt.alloc();
+    let mut blocks = sample(alloc)?;
+    // The last block of the large file lies in zone 18, the one of the small file in zone 20.
+    put_body(&mut blocks, 39, 0x67);
+    let patches = [(17 * 1024 + 1022, 39)];
+    let text = shown(alloc, &damaged(alloc, &blocks, &patches)?)?;
+    assert_eq!(rt; text.as_str(), SAMPLE);
+    put_body(&mut blocks, 39, 0x68);
+    let patches = [(SMALL + 14, 39)];
+    let text = shown(alloc, &damaged(alloc, &blocks, &patches)?)?;
+    assert_eq!(rt; text.as_str(), SAMPLE);
+    Ok(())
+}
+
+#[test]
+fn knows_which_zones_are_used(rt: HostRuntime) -> Result<(), Fail> {
+    let alloc = rt.alloc();
+    let volume = mounted(alloc, &bytes_of(alloc, &sample(alloc)?)?).map_err(|_| "not mounted")?;
+    for zone in 0..50 {
+        assert_eq!(rt; volume.uses_zone(zone), zone >= 6 && zone <= 20, "{zone}");
+    }
+    images_have_one_tree();
+    image_metadata_gives_trees();
+    image_faults_are_first_defects();
+    Ok(())
+}
+
+#[test]
 fn keeps_the_geometry(rt: HostRuntime) -> Result<(), Fail> {
     let alloc = rt.alloc();
     let volume = mounted(alloc, &bytes_of(alloc, &sample(alloc)?)?).map_err(|_| "not mounted")?;
@@ -452,6 +481,8 @@ fn tells_the_first_fault(rt: HostRuntime) -> Result<(), Fail> {
         ),
         ([(DIR + 4, 50), (17 * 1024, 70)], ImageFault::BadZone, 17),
         ([(SMALL + 6, 0x1009), (DIR + 14, 5)], ImageFault::BadZone, 4),
+        // What an early directory names, before the inode that a later name of the root leads to.
+        ([(SMALL + 14, 5), (LAST, FILE)], ImageFault::BadZone, 5),
     ];
     for (patches, kind, block) in rows {
         let bytes = damaged(alloc, &blocks, &patches)?;

@@ -6,4 +6,9 @@ fn knows_the_laws_of_the_walk() {
     trees_have_fields();
     trees_are_rooted();
     same_metadata_gives_alike_trees();
+    walks_end_well_without_fault();
+    faults_are_first_defects();
+    volumes_have_one_tree();
+    file_blocks_have_zones();
+    metadata_gives_trees();
 }
