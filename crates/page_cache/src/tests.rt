@@ -24,12 +24,35 @@ fn keeps_pages_in_order(rt: HostRuntime) {
     );
     assert!(rt; pages.body(2, 9) == Some(&Block::fill(5)));
     assert!(rt; pages.body(7, 1).is_none());
+    let dirty: [Option<(u64, u32)>; 4] = [
+        pages.dirty(0),
+        pages.dirty(1),
+        pages.dirty(2),
+        pages.dirty(3),
+    ];
+    assert_eq!(rt; dirty, [Some((2, 9)), Some((7, 0)), Some((7, 3)), None]);
+    pages.drop_page(7, 0);
+    pages.drop_page(7, 0);
     assert_eq!(rt;
-        (pages.dirty(0), pages.dirty(2), pages.dirty(3)),
-        (Some((2, 9)), Some((7, 3)), None)
+        (pages.state(7, 0), pages.state(7, 3)),
+        (None, Some(PageState::Dirty))
     );
-    pages.mark(7, 0, PageState::Firm);
+    assert_eq!(rt; pages.set(7, 1, 45, Block::fill(6), 6), Ok(()));
+    assert_eq!(rt; pages.next_unsent(2, 10), Some((7, 1)));
+    pages_are_a_map();
+    pages_stand_in_order();
+    next_page_is_least();
+}
+
+#[test]
+fn finds_what_is_left_to_send(rt: HostRuntime) {
+    let Ok(mut pages) = Pages::load(rt.alloc(), 2) else {
+        panic!(rt; "no memory");
+    };
+    assert_eq!(rt; pages.set(7, 3, 42, Block::fill(3), 1), Ok(()));
     pages.mark(7, 3, PageState::Loose);
+    assert_eq!(rt; pages.set(7, 0, 40, Block::fill(1), 2), Ok(()));
+    pages.mark(7, 0, PageState::Firm);
     assert_eq!(rt;
         (pages.state(7, 0), pages.state(7, 3)),
         (Some(PageState::Firm), Some(PageState::Loose))
@@ -43,19 +66,8 @@ fn keeps_pages_in_order(rt: HostRuntime) {
         (Some(3), None, None)
     );
     assert_eq!(rt;
-        (pages.next_unsent(2, 10), pages.next_unsent(7, 4)),
+        (pages.next_unsent(3, 10), pages.next_unsent(7, 4)),
         (Some((7, 3)), None)
     );
-    assert_eq!(rt; (pages.dirty(0), pages.dirty(1)), (Some((2, 9)), None));
-    pages.drop_page(7, 0);
-    pages.drop_page(7, 0);
-    assert_eq!(rt;
-        (pages.state(7, 0), pages.state(7, 3)),
-        (None, Some(PageState::Loose))
-    );
-    assert_eq!(rt; pages.set(7, 1, 45, Block::fill(6), 6), Ok(()));
-    assert_eq!(rt; pages.of_file(7, 0), Some(1));
-    pages_are_a_map();
-    pages_stand_in_order();
-    next_page_is_least();
+    assert_eq!(rt; pages.dirty(0), None);
 }
