@@ -3,7 +3,7 @@
 -- A call has a row: what refuses it, in order, and what it does else. Want of an inode and want of zones are the
 -- last refusals of each row that has them, so they stand once, below the rows. Rows speak of directories and files;
 -- where a tree that was read has a node of another kind, it is taken as neither.
-use Rattle.std.specs.Prelude.{ℕ, ◌+◌, ◌-◌, ◌*◌, ◌/◌, ◌%◌, ◌==◌, min, Bool, true, false, not, ◌&&◌, ◌||◌, nat_lt, nat_le, if◌then◌else◌, List, [], ◌∷◌, ◌++◌, length, map, filter, take, drop, replicate, slice_index, is_some, is_none, Option, Some, None, Result, Ok, Err}
+use Rattle.std.specs.Prelude.{◌≡◌, ◌<◌, ℕ, ◌+◌, ◌-◌, ◌*◌, ◌/◌, ◌%◌, ◌==◌, min, Bool, true, false, not, ◌&&◌, ◌||◌, nat_lt, nat_le, if◌then◌else◌, List, [], ◌∷◌, ◌++◌, length, map, filter, take, drop, replicate, slice_index, is_some, is_none, Option, Some, None, Result, Ok, Err}
 use Rattle.std.specs.List.{list_any, count_by, sum_by, range_with_len}
 use Rattle.std.specs.Map.{keys_of, values_of, remove_entry}
 use Rattle.std.specs.BTreeMap.{is_at}
@@ -507,6 +507,10 @@ unfoldable pub needs : Tree → ℕ → Call → ℕ
 needs tree n c = elim (row tree n c) as (λ _. ℕ) [ Err reply ↦ 0 | Ok d ↦ used_zones d.tree - used_zones tree ]
 
 -- ---- the call
+
+-- there is an inode for a node that the call makes
+abbrev pub HasInode : Room → Tree → Done → Type 0
+HasInode room tree d = d.takes_inode ≡ true → length tree < room.inodes
 
 -- the last refusals: no inode, where the tree has as many nodes as there are inodes; and no space, where the call needs
 -- more zones than the capacity less those that the tree uses

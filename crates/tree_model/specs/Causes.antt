@@ -1,5 +1,5 @@
 -- Why calls are refused: each refusal with its cause, in words of the tree.
-use Rattle.std.specs.Prelude.{◌≡◌, ◌≢◌, ℕ, ◌+◌, ◌-◌, ◌<◌, ◌≤◌, ◌⊎◌, Bool, true, false, List, [], ◌∷◌, ◌++◌, length, Option, Some, None, Ok, Err}
+use Rattle.std.specs.Prelude.{◌≡◌, ◌≢◌, ℕ, ◌+◌, ◌-◌, ◌<◌, ◌≤◌, false, List, [], ◌∷◌, ◌++◌, length, Option, Some, None, Ok, Err}
 use Rattle.blk_base.specs.Members.{In}
 use Rattle.tree_model.specs.declared.call.Call.{Call}
 use Rattle.tree_model.specs.declared.call.Call.TheVariants as calls
@@ -13,7 +13,7 @@ use Rattle.tree_model.specs.declared.node.File.{File}
 use Rattle.tree_model.specs.Maps.{at_number, at_name}
 use Rattle.tree_model.specs.Paths.{path_of}
 use Rattle.tree_model.specs.Trees.{Refusal, node_of_path, is_directory, directory_links}
-use Rattle.tree_model.specs.Calls.{Tree, Done, is_full, row, used_zones, refused_walk, most_links, most_slots, largest_size, needs_slot}
+use Rattle.tree_model.specs.Calls.{Tree, Done, row, used_zones, refused_walk, most_links, most_slots, largest_size}
 
 -- the paths of a call
 abbrev pub paths_of : Call → List (List ℕ)

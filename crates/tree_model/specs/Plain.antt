@@ -1,5 +1,5 @@
 -- Plain trees: those whose calls are told of here.
-use Rattle.std.specs.Prelude.{◌≡◌, ℕ, ◌+◌, ◌<◌, ◌==◌, List, Option, Some, None, IsTrue}
+use Rattle.std.specs.Prelude.{◌≡◌, ℕ, ◌<◌, ◌==◌, List, Some, IsTrue}
 use Rattle.std.specs.List.{count_by, sum_by}
 use Rattle.std.specs.Map.{values_of}
 use Rattle.tree_model.specs.declared.node.Node.{Node}

@@ -15,3 +15,4 @@ pub mod PlainCalls
 pub mod PlainNames
 pub mod PlainMoves
 pub mod PlainTrees
+pub mod Outcomes

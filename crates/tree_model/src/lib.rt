@@ -11,6 +11,7 @@
 #![tactic(auto)]
 
 mod call;
+mod call_laws;
 mod laws;
 mod lists;
 mod maps;
@@ -21,6 +22,10 @@ mod tests;
 mod text;
 
 pub use call::{Call, Reply, Room};
+pub use call_laws::{
+    asking_changes_nothing, calls_keep_trees_plain, calls_map_by_writing, calls_stay_within_room,
+    histories_map_by_writing, refusals_have_causes,
+};
 pub use laws::{examples_of_calls, nodes_have_paths, same_metadata_chains, texts_list_paths};
 pub use lists::{ByteList, NameList};
 pub use maps::{FileBlocks, Names};

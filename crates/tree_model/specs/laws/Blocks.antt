@@ -1,28 +1,23 @@
 -- Which blocks of files a call maps, unmaps and writes.
-use Rattle.std.specs.Prelude.{◌≡◌, ◌≢◌, ℕ, zero, suc, ◌+◌, ◌-◌, ◌*◌, ◌/◌, ◌%◌, ◌<◌, ◌≤◌, ◌⊎◌, ◌==◌, Bool, true, false, cond, not, ◌&&◌, ◌||◌, if◌then◌else◌, nat_lt, nat_le, List, [], ◌∷◌, ◌++◌, length, map, filter, take, replicate, Option, Some, None, Result, Ok, Err, is_some, refl}
+use Rattle.std.specs.Prelude.{◌≡◌, ◌≢◌, ℕ, ◌+◌, ◌-◌, ◌*◌, ◌/◌, ◌%◌, ◌<◌, ◌⊎◌, ◌==◌, Bool, true, false, cond, not, ◌&&◌, if◌then◌else◌, nat_lt, nat_le, List, [], ◌∷◌, length, map, filter, replicate, Option, Some, None, Ok, Err, is_some, refl}
 use Rattle.std.proofs.Common.{sym, ap, subst, ◌∙◌, inl, inr, ⊎_elim, arith}
 use Rattle.std.specs.List.{list_any}
-use Rattle.std.specs.BTreeMap.{is_at}
 use Rattle.std.specs.Ordering.{nat_cmp, is_eq}
 use Rattle.std.proofs.lemmas.List.{length-replicate}
-use Rattle.std.proofs.lemmas.Bool.{cases_Bool, cases_eq, true≢false, false≢true, and_parts, and_cases, and_from, eqb-true, eq-eqb, eqb-false, le-leb, cond-true, lt-ltb, le-ltb, ltb-true, ltb-false, not-false, not-true, or_parts, or_cases, or_left, or_right, false_from_ne_true}
+use Rattle.std.proofs.lemmas.Bool.{cases_Bool, true≢false, false≢true, and_parts, and_cases, eqb-true, eq-eqb, eqb-false, le-leb, cond-true, lt-ltb, ltb-true, not-false, not-true, or_parts, or_cases, false_from_ne_true}
 use Rattle.std.proofs.lemmas.Option.{none-some, same_Some}
 use Rattle.tree_model.specs.declared.call.Call.{Call}
 use Rattle.tree_model.specs.declared.call.Call.TheVariants as calls
-use Rattle.tree_model.specs.declared.call.Reply.{Reply}
-use Rattle.tree_model.specs.declared.call.Reply.TheVariants as replies
-use Rattle.tree_model.specs.declared.call.Room.{Room}
 use Rattle.tree_model.specs.declared.node.Node.{Node}
 use Rattle.tree_model.specs.declared.node.Node.TheVariants as nodes
 use Rattle.tree_model.specs.declared.node.Directory.{Directory}
 use Rattle.tree_model.specs.declared.node.File.{File}
 use Rattle.tree_model.specs.Maps.{at_number, put_number, without_number}
-use Rattle.tree_model.specs.MapsLaws.{number_here, number_same, at_put_number, at_put_number_apart}
-use Rattle.tree_model.specs.Calls.{Tree, Done, Row, Found, Place, Move, walk_path, a_file, give_name, take_name, put_file, lose_link, with_links, without_target, target_at, moved_node, place_after, tree_moved, stays, block_or_zeros, patched, touched_blocks, written_blocks, written_file, cut_body, cut_file, leaves_tree, outcome, tree_after, reply_of}
-use Rattle.tree_model.specs.Histories.{block_in, block_at, maps_block, is_found_at, leads_to, is_touched, touches, is_ok, writes}
+use Rattle.tree_model.specs.MapsLaws.{number_same, at_put_number, at_put_number_apart}
+use Rattle.tree_model.specs.Calls.{Tree, Done, Found, Place, Move, walk_path, a_file, take_name, put_file, lose_link, with_links, without_target, target_at, moved_node, place_after, tree_moved, stays, block_or_zeros, patched, touched_blocks, written_blocks, written_file, cut_body, cut_file, leaves_tree}
+use Rattle.tree_model.specs.Histories.{block_in, block_at, maps_block, is_found_at, leads_to, is_touched, touches}
 use Rattle.tree_model.specs.laws.MapOrder.{InOrder, in_order_put, in_order_without, at_put_cases, at_without_cases}
-use Rattle.tree_model.specs.laws.Rows.{ok_ok, err_ok, IsFound, IsPlace}
-use Rattle.tree_model.specs.laws.Changes.{Change, stayed, made_directory, made_file, removed, unlinked, linked, renamed, written, written_bytes, truncated, IsPut, IsRenamed, outcome_change}
+use Rattle.tree_model.specs.laws.Changes.{Change, stayed, made_directory, made_file, removed, unlinked, linked, renamed, written, written_bytes, truncated, IsPut, IsRenamed}
 
 -- ---- a tree whose blocks are those of another, but for blocks that are gone
 
@@ -118,6 +113,7 @@ rename_keeps tree d order r = subst (KeepsBlocks tree) (sym r.tree_is) (by (stay
         let left : Tree = without_target (take_name tree r.move.from) r.move.target in
         let moved = moved_keeps tree left r.move.moved.birth r.move.to.parent r.move.moved.node r.is_found.stands lost in
         directory_keeps tree (put_number left r.move.moved.birth (moved_node r.move.to.parent r.move.moved.node)) moved (place_after r.move).parent _
+
     by : (b : Bool) → KeepsBlocks tree (if b then tree else tree_moved tree r.move)
     by true = keeps_itself tree order
     by false = whole

@@ -1,9 +1,9 @@
 -- Each refusal has its cause.
-use Rattle.std.specs.Prelude.{◌≡◌, ◌≢◌, ⊤, ℕ, ◌+◌, ◌-◌, ◌<◌, ◌≤◌, ◌==◌, ◌⊎◌, Bool, true, false, not, ◌&&◌, ◌||◌, if◌then◌else◌, nat_lt, nat_le, List, [], ◌∷◌, ◌++◌, length, replicate, Option, Some, None, Result, Ok, Err, is_some, is_none, refl}
-use Rattle.std.proofs.Common.{sym, ap, subst, ◌∙◌, inl, inr, ⊎_elim, arith}
+use Rattle.std.specs.Prelude.{◌≡◌, ◌≢◌, ⊤, ℕ, ◌+◌, ◌-◌, ◌<◌, ◌≤◌, ◌==◌, Bool, true, false, not, ◌&&◌, ◌||◌, if◌then◌else◌, nat_lt, nat_le, List, [], ◌∷◌, ◌++◌, length, replicate, Option, Some, None, Result, Ok, Err, is_some, is_none, refl}
+use Rattle.std.proofs.Common.{sym, ap, subst, ◌∙◌, inl, inr, ⊎_elim}
 use Rattle.std.specs.List.{list_any}
-use Rattle.std.proofs.lemmas.Bool.{cases_Bool, cases_eq, true≢false, false≢true, and_parts, or_cases, eqb-true, eqb-false, ltb-true, leb-true, eq-eqb, not-true}
-use Rattle.std.proofs.lemmas.List.{append_assoc, append-nil, length-replicate}
+use Rattle.std.proofs.lemmas.Bool.{true≢false, false≢true, and_parts, or_cases, eqb-true, eqb-false, ltb-true, leb-true, not-true}
+use Rattle.std.proofs.lemmas.List.{append-nil, length-replicate}
 use Rattle.std.proofs.lemmas.Option.{none-some, same_Some}
 use Rattle.blk_base.specs.Members.{In}
 use Rattle.tree_model.specs.declared.call.Call.{Call}
@@ -19,9 +19,9 @@ use Rattle.tree_model.specs.Maps.{at_number, at_name}
 use Rattle.tree_model.specs.Paths.{path_of}
 use Rattle.tree_model.specs.Listing.{IsRooted}
 use Rattle.tree_model.specs.Trees.{Refusal, not_directory, name_too_long, not_found, step_at, led_to, node_of_path, is_directory, directory_links}
-use Rattle.tree_model.specs.Calls.{Tree, Done, Row, Found, Place, Move, refuse_if, and_then, if_some, names_in, is_root, refused_walk, birth_at, found_at, walk, walk_path, a_directory, a_file, all_but_last, last_name, parent_of, above, is_named, is_file, most_links, most_slots, needs_slot, is_full, mkdir, create, rmdir, unlink, link, target_at, moves_directory, meets_directory, meets_file, stays, changes_parent, without_name, place_after, rename_to, rename, largest_size, write, truncate, read, list, stat_of, stat, barrier, row, used_zones, if_room, outcome, reply_from, reply_of}
+use Rattle.tree_model.specs.Calls.{Tree, Row, Found, Place, Move, refuse_if, and_then, if_some, names_in, is_root, refused_walk, birth_at, found_at, walk, walk_path, a_directory, a_file, all_but_last, last_name, parent_of, above, is_named, is_file, most_links, most_slots, needs_slot, is_full, mkdir, create, rmdir, unlink, link, target_at, moves_directory, meets_directory, meets_file, changes_parent, without_name, place_after, rename_to, rename, largest_size, write, truncate, read, list, stat_of, stat, barrier, row, used_zones, if_room, outcome}
 use Rattle.tree_model.specs.Causes.{paths_of, NamesOf, IsFront, LeadsTo, IsInDirectory, IsMoved, IsMet, end_of, root_reply, IsCause}
-use Rattle.tree_model.specs.laws.Alike.{path_stands, led_on, led_parts}
+use Rattle.tree_model.specs.laws.Alike.{path_stands, led_on}
 use Rattle.tree_model.specs.laws.Rows.{ok_ok, some_ok, directory_ok, file_ok, IsFound, walk_ok, walk_path_ok, IsPlace, parent_ok}
 use Rattle.tree_model.specs.Histories.{is_ok}
 use Rattle.tree_model.specs.laws.Blocks.{target_stands}

@@ -1,6 +1,6 @@
 -- What a call does to a tree where its row does not refuse it.
-use Rattle.std.specs.Prelude.{◌≡◌, ◌≢◌, ℕ, ◌+◌, ◌==◌, Bool, true, false, not, ◌&&◌, ◌||◌, if◌then◌else◌, nat_lt, nat_le, List, [], ◌∷◌, length, replicate, Option, Some, None, Result, Ok, Err, is_some, is_none, refl}
-use Rattle.std.proofs.Common.{sym, ap, subst, ◌∙◌}
+use Rattle.std.specs.Prelude.{◌≡◌, ℕ, ◌+◌, ◌==◌, Bool, true, false, not, ◌&&◌, ◌||◌, if◌then◌else◌, nat_lt, List, length, replicate, Some, Ok, is_none, refl}
+use Rattle.std.proofs.Common.{sym, ap, ◌∙◌}
 use Rattle.std.specs.List.{list_any}
 use Rattle.std.specs.Map.{keys_of}
 use Rattle.tree_model.specs.declared.call.Call.{Call}
@@ -12,10 +12,10 @@ use Rattle.tree_model.specs.declared.node.Node.{Node}
 use Rattle.tree_model.specs.declared.node.Node.TheVariants as nodes
 use Rattle.tree_model.specs.declared.node.Directory.{Directory}
 use Rattle.tree_model.specs.declared.node.File.{File}
-use Rattle.tree_model.specs.Maps.{at_number, put_number, without_number}
+use Rattle.tree_model.specs.Maps.{put_number, without_number}
 use Rattle.tree_model.specs.Paths.{path_of}
 use Rattle.tree_model.specs.Trees.{is_directory, directory_links}
-use Rattle.tree_model.specs.Calls.{Tree, Done, Row, Found, Place, Move, refuse_if, and_then, names_in, is_root, walk, walk_path, a_directory, a_file, parent_of, above, is_named, most_links, is_full, give_name, take_name, put_file, with_links, lose_link, new_directory, new_file, mkdir, create, rmdir, unlink, link, target_at, moves_directory, meets_directory, meets_file, stays, changes_parent, place_after, tree_moved, rename_to, rename, largest_size, written_file, write, cut_file, truncate, leaves_tree, bytes_from, read, list, stat_of, stat, barrier, row, if_room, outcome}
+use Rattle.tree_model.specs.Calls.{Tree, Done, Found, Place, Move, names_in, is_root, walk, walk_path, a_directory, a_file, parent_of, above, is_named, most_links, is_full, give_name, take_name, put_file, with_links, lose_link, new_directory, new_file, mkdir, create, rmdir, unlink, link, target_at, moves_directory, meets_directory, meets_file, stays, changes_parent, place_after, tree_moved, rename, largest_size, written_file, write, cut_file, truncate, leaves_tree, bytes_from, read, list, stat_of, stat, barrier, row, if_room, outcome}
 use Rattle.tree_model.specs.laws.Rows.{ok_ok, then_ok, refuse_ok, some_ok, directory_ok, file_ok, IsFound, walk_ok, walk_path_ok, IsPlace, parent_ok}
 
 -- a path's text and its names

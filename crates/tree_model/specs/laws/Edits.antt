@@ -1,22 +1,22 @@
 -- What puts and removals of nodes do to the names of a tree.
-use Rattle.std.specs.Prelude.{◌≡◌, ◌≢◌, ◌≤◌, ◌<◌, ℕ, ◌+◌, ◌-◌, ◌⊎◌, Bool, true, false, List, [], ◌∷◌, length, Option, Some, None, is_some, unwrap_or, option_map, refl}
+use Rattle.std.specs.Prelude.{◌≡◌, ◌≢◌, ℕ, ◌+◌, ◌⊎◌, false, List, [], Option, Some, None, is_some, unwrap_or, option_map, refl}
 use Rattle.std.proofs.Common.{sym, ap, subst, ◌∙◌, inl, inr, ⊎_elim, arith}
-use Rattle.std.specs.Ordering.{is_eq, nat_cmp}
-use Rattle.std.proofs.lemmas.Bool.{cases_Bool, cases_eq, true≢false, false≢true}
-use Rattle.std.proofs.lemmas.Option.{none-some, same_Some}
+use Rattle.std.specs.Ordering.{is_eq}
+use Rattle.std.proofs.lemmas.Bool.{cases_Bool, cases_eq, false≢true}
+use Rattle.std.proofs.lemmas.Option.{same_Some}
 use Rattle.tree_model.specs.declared.node.Node.{Node}
 use Rattle.tree_model.specs.declared.node.Node.TheVariants as nodes
 use Rattle.tree_model.specs.declared.node.Directory.{Directory}
 use Rattle.tree_model.specs.declared.node.File.{File}
 use Rattle.tree_model.specs.Maps.{at_number, at_name, put_number, put_name, without_number, name_cmp}
-use Rattle.tree_model.specs.MapsLaws.{name_here, name_same, at_put_number, at_put_number_apart, at_put_name, at_put_name_cases, put_apart}
+use Rattle.tree_model.specs.MapsLaws.{name_here, name_same, at_put_number, at_put_number_apart, at_put_name, put_apart}
 use Rattle.tree_model.specs.Listing.{names_of}
 use Rattle.tree_model.specs.Trees.{is_directory}
 use Rattle.tree_model.specs.Calls.{Tree, Place, with_name, without_name, give_name, take_name}
 use Rattle.tree_model.specs.Plain.{names_in_node, names_to}
-use Rattle.tree_model.specs.laws.MapOrder.{InOrder, in_order_put, in_order_without, at_put_cases, at_without_cases, at_without_here, at_without_apart, NamesInOrder, without_name_in, names_in_order_put, names_in_order_without, at_name_without_found, at_name_without_apart}
+use Rattle.tree_model.specs.laws.MapOrder.{InOrder, at_put_cases, at_without_cases, at_without_apart, NamesInOrder, at_name_without_found, at_name_without_apart}
 use Rattle.tree_model.specs.laws.Hanging.{StaysAt}
-use Rattle.tree_model.specs.laws.Plain.{edge_of, up_of, seen_of, links_of, is_other, count_in, one_for, one_at, names_at, names_to_put, names_to_without, count_put, count_without}
+use Rattle.tree_model.specs.laws.Plain.{edge_of, up_of, seen_of, count_in, one_for, one_at, names_at, names_to_put, names_to_without, count_put, count_without}
 
 -- ---- nodes
 
@@ -105,7 +105,7 @@ module _ (t : Tree) (p : Place) (stands : at_number t p.parent ≡ Some (nodes.D
     other_name : (k : List ℕ) → k ≢ p.name → at_name (put_name p.directory.names p.name b) k ≡ at_name p.directory.names k
     other_name k apart =
         let f : is_eq (name_cmp k p.name) ≡ false =
-            elim (cases_Bool (is_eq (name_cmp k p.name))) [ | inl t ↦ absurd (apart (name_same k p.name t)) | inr f ↦ f ]
+        elim (cases_Bool (is_eq (name_cmp k p.name))) [ inl t ↦ absurd (apart (name_same k p.name t)) | inr f ↦ f ]
         in
         put_apart name_cmp name_here name_same p.directory.names p.name b k f
 

@@ -1,8 +1,6 @@
 -- Trees as the names that lead from node to node: how these stay together when names come and go.
-use Rattle.std.specs.Prelude.{◌≡◌, ◌≢◌, ◌≤◌, ℕ, ◌⊎◌, Bool, true, false, List, [], ◌∷◌, length, Option, Some, None, is_some, IsTrue, refl}
+use Rattle.std.specs.Prelude.{◌≡◌, ◌≢◌, ◌≤◌, ℕ, ◌⊎◌, Bool, true, List, length, Option, Some, IsTrue}
 use Rattle.std.proofs.Common.{sym, ap, subst, ◌∙◌, inl, inr, ⊎_elim}
-use Rattle.std.proofs.lemmas.Bool.{true≢false, false≢true, cases_eq}
-use Rattle.std.proofs.lemmas.Option.{none-some, same_Some}
 use Rattle.tree_model.specs.Paths.{is_path_name}
 
 -- what a name of a node leads to
@@ -79,13 +77,13 @@ more_joined edge more s t Kept p name b h new split root = record {
   one_name = λ q r m k c e f d.
       ⊎_elim
       (λ x. ⊎_elim
-        (λ y. (x.0 ∙ sym y.0, x.1 ∙ sym y.1))
-        (λ y. absurd (new.alone (ap t.directory (sym x.2) ∙ d) r k (y.was ∙ ap Some x.2) y.kept))
-        (split r k c f))
+      (λ y. (x.0 ∙ sym y.0, x.1 ∙ sym y.1))
+      (λ y. absurd (new.alone (ap t.directory (sym x.2) ∙ d) r k (y.was ∙ ap Some x.2) y.kept))
+      (split r k c f))
       (λ x. ⊎_elim
-        (λ y. absurd (new.alone (ap t.directory (sym y.2) ∙ d) q m (x.was ∙ ap Some y.2) x.kept))
-        (λ y. h.one_name q r m k c x.was y.was (sym x.stays.directory ∙ d))
-        (split r k c f))
+      (λ y. absurd (new.alone (ap t.directory (sym y.2) ∙ d) q m (x.was ∙ ap Some y.2) x.kept))
+      (λ y. h.one_name q r m k c x.was y.was (sym x.stays.directory ∙ d))
+      (split r k c f))
       (split q m c e);
   parent = λ q m c e d.
       ⊎_elim

@@ -1,24 +1,21 @@
 -- Laws of mapped blocks along a history.
-use Rattle.std.specs.Prelude.{◌≡◌, ℕ, zero, suc, ◌+◌, ◌-◌, ◌<◌, ◌≤◌, ◌⊎◌, ◌==◌, Bool, true, false, not, ◌&&◌, ◌||◌, if◌then◌else◌, List, Option, Some, None, Result, Ok, Err, is_some, unwrap_or, [], refl}
+use Rattle.std.specs.Prelude.{◌≡◌, ℕ, zero, suc, ◌+◌, ◌-◌, ◌<◌, ◌≤◌, ◌⊎◌, ◌==◌, Bool, true, false, ◌&&◌, if◌then◌else◌, List, Option, Some, None, Ok, Err, is_some, unwrap_or, [], refl}
 use Rattle.std.proofs.Common.{sym, ap, subst, ◌∙◌, inl, inr, ⊎_elim, arith}
 use Rattle.std.specs.List.{slice_get, list_any}
 use Rattle.std.specs.BTreeMap.{is_at}
 use Rattle.std.specs.Ordering.{nat_cmp}
 use Rattle.std.proofs.lemmas.Map.Made.{is_some-lookup}
 use Rattle.std.specs.Map.{keys_of}
-use Rattle.std.specs.Str.{bytes_eq}
-use Rattle.std.proofs.lemmas.Bool.{cases_Bool, cases_lt, true≢false, false≢true, and_parts, and_cases, and_from, and_right, not-false, or_parts, cond-true, cond-false}
+use Rattle.std.proofs.lemmas.Bool.{cases_Bool, cases_lt, true≢false, false≢true, and_parts, and_right, not-false, or_parts}
 use Rattle.std.proofs.lemmas.Slice.Eq.{bytes_eq-Decides}
 use Rattle.tree_model.specs.declared.call.Call.{Call}
-use Rattle.tree_model.specs.declared.call.Reply.{Reply}
-use Rattle.tree_model.specs.declared.call.Reply.TheVariants as replies
 use Rattle.tree_model.specs.declared.call.Room.{Room}
 use Rattle.tree_model.specs.declared.node.Node.{Node}
 use Rattle.tree_model.specs.declared.node.Node.TheVariants as nodes
 use Rattle.tree_model.specs.Maps.{at_number}
 use Rattle.tree_model.specs.Listing.{IsRooted}
 use Rattle.tree_model.specs.Calls.{Tree, Done, Row, leaves_tree, outcome, tree_from, reply_from, tree_after, reply_of}
-use Rattle.tree_model.specs.Histories.{Entry, block_in, block_at, maps_block, touches, is_ok, writes, tree_after_entry, entry_writes, tree_after_entries, tree_at, writes_among, wrote, maps, content, last, IsUnmapped, same_file, changed, changed_after}
+use Rattle.tree_model.specs.Histories.{Entry, block_in, block_at, maps_block, touches, is_ok, writes, tree_after_entry, entry_writes, tree_after_entries, writes_among, wrote, maps, content, last, same_file, changed, changed_after}
 use Rattle.tree_model.specs.laws.Changes.{Change, stayed, made_directory, made_file, removed, unlinked, linked, renamed, written, written_bytes, truncated, outcome_change}
 use Rattle.tree_model.specs.laws.Blocks.{KeepsBlock, WritesOnly, change_writes, quiet_touches}
 use Rattle.tree_model.specs.laws.Causes.{refused_for, cause_not_ok}

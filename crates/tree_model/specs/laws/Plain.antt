@@ -1,12 +1,12 @@
 -- Plain trees as names that lead from node to node, and the number of names that a node has.
-use Rattle.std.specs.Prelude.{◌≡◌, ◌≢◌, ◌≤◌, ◌<◌, ℕ, zero, suc, ◌+◌, ◌==◌, ◌⊎◌, Bool, true, false, cond, List, [], ◌∷◌, length, map, Option, Some, None, is_some, IsTrue, unwrap_or, option_map, refl}
+use Rattle.std.specs.Prelude.{◌≡◌, ◌≢◌, ◌≤◌, ℕ, ◌+◌, ◌==◌, Bool, true, false, cond, List, [], ◌∷◌, Option, Some, None, is_some, unwrap_or, option_map, refl}
 use Rattle.std.proofs.Common.{sym, ap, subst, ◌∙◌, inl, inr, ⊎_elim, arith}
 use Rattle.std.specs.List.{sum_by, count_by}
 use Rattle.std.specs.List.Sorted.{IsStrictlySortedBy}
-use Rattle.std.specs.Map.{keys_of, values_of, remove_entry}
+use Rattle.std.specs.Map.{keys_of, values_of}
 use Rattle.std.specs.BTreeMap.{is_at}
-use Rattle.std.specs.Ordering.{nat_cmp, eq_by_cmp}
-use Rattle.std.proofs.lemmas.Bool.{true≢false, false≢true, cases_Bool, cases_eq, cases_lt, eqb-true}
+use Rattle.std.specs.Ordering.{nat_cmp}
+use Rattle.std.proofs.lemmas.Bool.{true≢false, false≢true, cases_lt}
 use Rattle.std.proofs.lemmas.Cmp.{eq_by_cmp_equiv, nat_cmp_total, nat_list_cmp_total}
 use Rattle.std.proofs.lemmas.List.Sums.{sum_by-cons}
 use Rattle.std.proofs.lemmas.Map.Entries.{sum_by-insert_entry, sum_by-remove_entry, lookup_from_place}
@@ -18,14 +18,13 @@ use Rattle.tree_model.specs.declared.node.Node.TheVariants as nodes
 use Rattle.tree_model.specs.declared.node.Directory.{Directory}
 use Rattle.tree_model.specs.declared.node.File.{File}
 use Rattle.tree_model.specs.Maps.{at_number, at_name, put_number, put_name, without_number, name_cmp}
-use Rattle.tree_model.specs.Paths.{is_path_name}
 use Rattle.tree_model.specs.Listing.{names_of, Gives, IsLedTo, IsRooted}
 use Rattle.tree_model.specs.Listing.IsLedTo.{at_root, by_name}
 use Rattle.tree_model.specs.Trees.{is_directory}
 use Rattle.tree_model.specs.Calls.{Tree}
 use Rattle.tree_model.specs.Plain.{names_in_node, names_to, IsPlain}
 use Rattle.tree_model.specs.laws.MapOrder.{InOrder, NamesInOrder, without_name_in}
-use Rattle.tree_model.specs.laws.Hanging.{Edges, IsReached, top, by_edge, Seen, IsGoodName, IsJoined}
+use Rattle.tree_model.specs.laws.Hanging.{IsReached, top, by_edge, Seen, IsJoined}
 
 -- ---- a tree by its names
 

@@ -1,27 +1,26 @@
 -- A call keeps a tree plain: nodes that are made.
-use Rattle.std.specs.Prelude.{⊤, ◌≡◌, ◌≢◌, ◌≤◌, ◌<◌, ℕ, zero, suc, ◌+◌, ◌-◌, ◌==◌, ◌⊎◌, Bool, true, false, cond, not, ◌&&◌, if◌then◌else◌, nat_le, List, [], ◌∷◌, length, map, Option, Some, None, Result, Ok, Err, is_some, IsTrue, unwrap_or, option_map, codes, refl}
+use Rattle.std.specs.Prelude.{⊤, ◌≡◌, ◌≢◌, ℕ, ◌+◌, ◌==◌, Bool, true, false, if◌then◌else◌, List, [], ◌∷◌, Option, Some, None, is_some, codes, refl}
 use Rattle.std.proofs.Common.{sym, ap, subst, ◌∙◌, inl, inr, ⊎_elim, arith}
 use Rattle.std.specs.List.{list_all, slice_split}
 use Rattle.std.specs.Str.{bytes_eq}
-use Rattle.std.proofs.lemmas.Bool.{cases_Bool, cases_eq, cases_lt, true≢false, false≢true, and_parts}
+use Rattle.std.proofs.lemmas.Bool.{cases_eq, cases_lt, true≢false, false≢true, and_parts}
 use Rattle.std.proofs.lemmas.Option.{none-some, same_Some}
 use Rattle.tree_model.specs.declared.node.Node.{Node}
 use Rattle.tree_model.specs.declared.node.Node.TheVariants as nodes
 use Rattle.tree_model.specs.declared.node.Directory.{Directory}
-use Rattle.tree_model.specs.declared.node.File.{File}
-use Rattle.tree_model.specs.Maps.{at_number, at_name, put_number, without_number}
+use Rattle.tree_model.specs.Maps.{at_number, at_name, put_number}
 use Rattle.tree_model.specs.MapsLaws.{at_put_number, at_put_number_apart}
 use Rattle.tree_model.specs.Paths.{is_path_name, names_of_pieces, path_of}
 use Rattle.tree_model.specs.Listing.{names_of}
 use Rattle.tree_model.specs.Trees.{is_directory}
-use Rattle.tree_model.specs.Calls.{Tree, Done, Found, Place, last_name, is_named, with_name, without_name, give_name, take_name, put_file, with_links, lose_link, new_directory, new_file}
-use Rattle.tree_model.specs.Plain.{names_in_node, names_to, IsPlain}
-use Rattle.tree_model.specs.laws.MapOrder.{InOrder, in_order_put, in_order_without, at_put_cases, at_without_cases, NamesInOrder, names_in_order_put, names_in_order_without}
-use Rattle.tree_model.specs.laws.Rows.{IsFound, IsPlace}
-use Rattle.tree_model.specs.laws.Changes.{HasNames, IsMade, IsRemoved, IsUnlinked, IsLinked, IsPut}
-use Rattle.tree_model.specs.laws.Hanging.{Edges, IsReached, top, by_edge, Seen, IsGoodName, IsJoined, StaysAt, fewer_joined, IsNewEdge, more_joined, reached_more, reached_without, reached_around}
-use Rattle.tree_model.specs.laws.Plain.{edge_of, up_of, seen_of, links_of, is_other, IsWhole, one_for, one_at, one_for_here, one_for_other, edge_counts, counted_edge}
-use Rattle.tree_model.specs.laws.Edits.{IsLike, like_itself, like_chain, like_directory, like_file, like_stays, like_put, like_put_apart, like_without, each_put, each_without, IsAt, edge_put_same, edge_without, give_here, give_split, give_kept, give_like, take_split, take_kept, take_like, give_counts, take_counts, put_counts, without_counts}
+use Rattle.tree_model.specs.Calls.{Tree, Done, Place, last_name, is_named, with_name, give_name, new_directory, new_file}
+use Rattle.tree_model.specs.Plain.{names_to}
+use Rattle.tree_model.specs.laws.MapOrder.{in_order_put, at_put_cases, NamesInOrder, names_in_order_put}
+use Rattle.tree_model.specs.laws.Rows.{IsPlace}
+use Rattle.tree_model.specs.laws.Changes.{HasNames, IsMade}
+use Rattle.tree_model.specs.laws.Hanging.{IsReached, by_edge, IsGoodName, IsJoined, more_joined, reached_more}
+use Rattle.tree_model.specs.laws.Plain.{edge_of, up_of, seen_of, links_of, is_other, IsWhole, one_for, one_at, one_for_here, one_for_other, counted_edge}
+use Rattle.tree_model.specs.laws.Edits.{IsLike, like_chain, like_stays, like_put_apart, each_put, edge_put_same, give_here, give_split, give_kept, give_like, give_counts, put_counts}
 
 -- ---- names of paths
 

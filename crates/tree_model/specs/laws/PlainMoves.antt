@@ -1,8 +1,8 @@
 -- A call keeps a tree plain: nodes that move.
-use Rattle.std.specs.Prelude.{⊤, ◌≡◌, ◌≢◌, ◌≤◌, ◌<◌, ℕ, zero, suc, ◌+◌, ◌-◌, ◌==◌, ◌⊎◌, Bool, true, false, not, ◌&&◌, ◌||◌, if◌then◌else◌, nat_le, List, [], ◌∷◌, length, Option, Some, None, Result, Ok, Err, is_some, unwrap_or, option_map, refl}
+use Rattle.std.specs.Prelude.{◌≡◌, ◌≢◌, ◌≤◌, ℕ, ◌+◌, ◌-◌, ◌==◌, ◌⊎◌, Bool, true, false, not, ◌&&◌, ◌||◌, if◌then◌else◌, nat_le, List, [], ◌∷◌, Option, Some, None, Ok, Err, is_some, unwrap_or, option_map, refl}
 use Rattle.std.proofs.Common.{sym, ap, subst, ◌∙◌, inl, inr, ⊎_elim, arith}
 use Rattle.std.specs.List.{list_any}
-use Rattle.std.proofs.lemmas.Bool.{cases_Bool, cases_eq, cases_lt, true≢false, false≢true, leb-true, leb-false, eq-eqb, eqb-true, eqb-false, ne_eqb, and_from, and_cases, or_left, or_right, not-false, not_from_false}
+use Rattle.std.proofs.lemmas.Bool.{cases_Bool, cases_eq, true≢false, false≢true, leb-true, leb-false, eq-eqb, eqb-true, eqb-false, ne_eqb, and_from, and_cases, or_left, or_right}
 use Rattle.std.proofs.lemmas.Option.{none-some, same_Some}
 use Rattle.tree_model.specs.declared.node.Node.{Node}
 use Rattle.tree_model.specs.declared.node.Node.TheVariants as nodes
@@ -11,17 +11,17 @@ use Rattle.tree_model.specs.declared.node.File.{File}
 use Rattle.tree_model.specs.Maps.{at_number, at_name, put_number, without_number}
 use Rattle.tree_model.specs.MapsLaws.{at_put_number, at_put_number_apart}
 use Rattle.tree_model.specs.Listing.{names_of}
-use Rattle.tree_model.specs.Trees.{Refusal, is_directory, step_at, led_to, node_of_path}
-use Rattle.tree_model.specs.Calls.{Tree, Done, Found, Place, Move, a_file, all_but_last, last_name, above, is_file, with_name, without_name, give_name, take_name, put_file, with_links, lose_link, without_target, target_at, moves_directory, meets_directory, meets_file, stays, changes_parent, place_after, moved_node, tree_moved}
+use Rattle.tree_model.specs.Trees.{is_directory, step_at, led_to}
+use Rattle.tree_model.specs.Calls.{Tree, Done, Found, Place, Move, a_file, all_but_last, above, is_file, with_name, without_name, give_name, take_name, put_file, with_links, lose_link, without_target, target_at, moves_directory, meets_directory, meets_file, stays, place_after, moved_node, tree_moved}
 use Rattle.tree_model.specs.Plain.{names_in_node, names_to}
-use Rattle.tree_model.specs.laws.Alike.{same_ok, no_ok, step_gives, led_parts}
-use Rattle.tree_model.specs.laws.MapOrder.{InOrder, in_order_put, in_order_without, at_put_cases, at_without_cases, at_without_here, at_without_apart, NamesInOrder, names_in_order_put, names_in_order_without, at_name_without_apart}
-use Rattle.tree_model.specs.laws.Rows.{IsFound, IsPlace, place_names}
-use Rattle.tree_model.specs.laws.Changes.{HasNames, IsRenamed}
+use Rattle.tree_model.specs.laws.Alike.{same_ok, step_gives, led_parts}
+use Rattle.tree_model.specs.laws.MapOrder.{InOrder, in_order_put, in_order_without, at_without_here, at_without_apart, NamesInOrder, names_in_order_put, names_in_order_without, at_name_without_apart}
+use Rattle.tree_model.specs.laws.Rows.{place_names}
+use Rattle.tree_model.specs.laws.Changes.{IsRenamed}
 use Rattle.tree_model.specs.laws.Blocks.{target_stands}
-use Rattle.tree_model.specs.laws.Hanging.{Edges, IsReached, top, by_edge, Seen, IsGoodName, IsJoined, StaysAt, IsNewEdge, IsKept, more_joined, reached_without, reached_around}
+use Rattle.tree_model.specs.laws.Hanging.{Edges, IsReached, top, by_edge, IsJoined, more_joined, reached_without, reached_around}
 use Rattle.tree_model.specs.laws.Plain.{edge_of, up_of, seen_of, links_of, is_other, IsWhole, one_for, one_at, one_for_here, one_for_other, edge_counts, counted_edge, names_at, names_to_put, gives_edge}
-use Rattle.tree_model.specs.laws.Edits.{IsLike, like_itself, like_chain, like_directory, like_file, like_stays, like_put, like_put_apart, each_put, each_without, IsAt, at_or_apart, edge_put_same, edge_without, give_here, give_split, give_kept, give_like, take_split, take_kept, take_like, give_counts, take_counts, put_counts, without_counts}
+use Rattle.tree_model.specs.laws.Edits.{IsLike, like_itself, like_chain, like_file, like_stays, like_put, like_put_apart, each_put, each_without, IsAt, at_or_apart, edge_put_same, edge_without, give_here, give_split, give_kept, give_like, take_split, take_kept, take_like, give_counts, take_counts, put_counts, without_counts}
 use Rattle.tree_model.specs.laws.PlainCalls.{good_name, links_through, place_sorted}
 use Rattle.tree_model.specs.laws.PlainNames.{directory_not_file, taken_counts, taken_order, taken_names_in_order}
 
@@ -92,8 +92,8 @@ way_stays tree more b kept start parent name (next ∷ names) h clear r =
     let x = led_parts tree (step_at (at_number tree start) name) (all_but_last next names) parent h in
     let g = gives_edge tree start name x.0 (step_gives tree start name x.0 x.1) in
     let rest : list_any (λ y. y == b) (above tree x.0 (next ∷ names)) ≡ false =
-        subst (λ r. list_any (λ y. y == b) (elim r as (λ _. List ℕ) [ Err refusal ↦ [] | Ok n ↦ above tree n (next ∷ names) ]) ≡ false) x.1
-        (or_right_false (start == b) _ clear)
+    subst (λ r. list_any (λ y. y == b) (elim r as (λ _. List ℕ) [ Err refusal ↦ [] | Ok n ↦ above tree n (next ∷ names) ]) ≡ false) x.1
+    (or_right_false (start == b) _ clear)
     in
     let apart : (x.0 ≢ b) = λ e. true≢false (sym (or_left (x.0 == b) _ (eq-eqb x.0 b e)) ∙ rest) in
     way_stays tree more b kept x.0 parent next names x.2 rest (by_edge r (kept start name x.0 g apart))
@@ -298,7 +298,7 @@ module _ (tree : Tree) (w : IsWhole tree) (d : Done) (r : IsRenamed tree d) wher
         ⊎_elim
         (λ t. absurd (s.0 (one_from t q k (e ∙ ap Some same))))
         (λ f. subst (λ j. IsLike (at_number tree j) (at_number After j)) (sym same)
-            (subst (λ o. IsLike o (at_number After B)) (sym stands) (subst (IsLike (Some r.move.moved.node)) (sym after_at) (like_moved r.move.to.parent r.move.moved.node f))))
+        (subst (λ o. IsLike o (at_number After B)) (sym stands) (subst (IsLike (Some r.move.moved.node)) (sym after_at) (like_moved r.move.to.parent r.move.moved.node f))))
         (cases_Bool (is_directory (Some r.move.moved.node))))
         (λ apart. ⊎_elim (λ lost. left_like c (h.lost_like c lost q k e s.1) apart) (λ kept. other_like c kept apart) (h.lost_or c))
         (cases_eq c B)
@@ -377,7 +377,7 @@ module _ (tree : Tree) (w : IsWhole tree) (d : Done) (r : IsRenamed tree d) wher
           ⊎_elim
           (λ l.
           let same : is_some (at_number left c) ≡ is_some (at_number After c) =
-              sym ((like_chain (at_number left c) (at_number Mid c) (at_number After c) (like_put_apart left B Node' c apart) (give_like Mid A mid_stands B c)).there)
+          sym ((like_chain (at_number left c) (at_number Mid c) (at_number After c) (like_put_apart left B Node' c apart) (give_like Mid A mid_stands B c)).there)
           in
           file_lost c l (same ∙ t))
           (λ kept.
@@ -405,10 +405,10 @@ module _ (tree : Tree) (w : IsWhole tree) (d : Done) (r : IsRenamed tree d) wher
       directory_reached : (c : ℕ) → is_some (at_number After c) ≡ true → IsReached (edge_of After) c
       directory_reached c t =
           let there : is_some (at_number tree c) ≡ true =
-              ⊎_elim
-              (λ e. ap (λ j. is_some (at_number tree j)) e ∙ ap is_some stands)
-              (λ apart. sym (other_like c (none_lost c) apart).there ∙ t)
-              (cases_eq c B)
+          ⊎_elim
+          (λ e. ap (λ j. is_some (at_number tree j)) e ∙ ap is_some stands)
+          (λ apart. sym (other_like c (none_lost c) apart).there ∙ t)
+          (cases_eq c B)
           in
           reached_around (edge_of tree) (edge_of After) B way_or (by_edge directory_parent after_here) c (w.reached c there)
 
@@ -491,6 +491,7 @@ free_by tree w p at none (Some b) e =
     found node s =
         ap (λ o. elim o as (λ _. Option Found) [ None ↦ None | Some birth ↦ elim (at_number tree birth) as (λ _. Option Found) [ None ↦ None | Some x ↦ Some (record { birth = birth; node = x }) ] ]) e
         ∙ ap (λ o. elim o as (λ _. Option Found) [ None ↦ None | Some x ↦ Some (record { birth = b; node = x }) ]) s
+
     by : (o : Option Node) → at_number tree b ≡ o → is_some o ≡ true → Some b ≡ None
     by (Some node) s t = absurd (none-some _ (sym none ∙ found node s))
     by None s t = absurd (false≢true t)
@@ -603,9 +604,9 @@ module _ (tree : Tree) (w : IsWhole tree) (d : Done) (r : IsRenamed tree d) wher
         let all = rest_counts in
         let links = links_are in
         let x = counted_edge (take_name tree r.move.to) L
-            (taken_order tree w r.more r.move.to r.is_to L lost_name lost_to leaf)
-            (taken_names_in_order tree w r.more r.move.to r.is_to L lost_name lost_to leaf)
-            (omega arith) in
+        (taken_order tree w r.more r.move.to r.is_to L lost_name lost_to leaf)
+        (taken_names_in_order tree w r.more r.move.to r.is_to L lost_name lost_to leaf)
+        (omega arith) in
         let y = take_split tree r.move.to r.is_to.stands (to_sorted tree w d r) x.0 x.1 L x.2 in
         (x.0, x.1, y.0, y.1)
 
@@ -676,8 +677,8 @@ module _ (tree : Tree) (w : IsWhole tree) (d : Done) (r : IsRenamed tree d) wher
   target_file t some apart (nodes.File g) e = (g, e)
   target_file t some apart (nodes.Directory x) e =
       let meets : meets_directory r.move ≡ true =
-          ap (λ o. elim o as (λ _. Bool) [ None ↦ false | Some t ↦ is_directory (Some t.node) && not (t.birth == r.move.moved.birth) ]) some
-          ∙ and_from (is_directory (Some t.node)) _ (ap (λ (n : Node). is_directory (Some n)) e) (ap not (ne_eqb t.birth r.move.moved.birth apart))
+      ap (λ o. elim o as (λ _. Bool) [ None ↦ false | Some t ↦ is_directory (Some t.node) && not (t.birth == r.move.moved.birth) ]) some
+      ∙ and_from (is_directory (Some t.node)) _ (ap (λ (n : Node). is_directory (Some n)) e) (ap not (ne_eqb t.birth r.move.moved.birth apart))
       in
       absurd (true≢false (sym meets ∙ r.no_directory))
   target_file t some apart (nodes.Other mode) e =
@@ -686,7 +687,7 @@ module _ (tree : Tree) (w : IsWhole tree) (d : Done) (r : IsRenamed tree d) wher
   moves_file : (t : Found) → r.move.target ≡ Some t → (g : File) → t.node ≡ nodes.File g → is_directory (Some r.move.moved.node) ≡ false
   moves_file t some g e =
       let meets : meets_file r.move ≡ true =
-          ap (λ o. elim o as (λ _. Bool) [ None ↦ false | Some t ↦ is_file (Some t.node) ]) some ∙ ap (λ (n : Node). is_file (Some n)) e
+      ap (λ o. elim o as (λ _. Bool) [ None ↦ false | Some t ↦ is_file (Some t.node) ]) some ∙ ap (λ (n : Node). is_file (Some n)) e
       in
       ⊎_elim
       (λ f. absurd (true≢false (sym meets ∙ f)))

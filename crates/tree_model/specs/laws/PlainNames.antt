@@ -1,25 +1,25 @@
 -- A call keeps a tree plain: files with other bytes, and names that come and go.
-use Rattle.std.specs.Prelude.{⊤, ◌≡◌, ◌≢◌, ◌≤◌, ◌<◌, ℕ, zero, suc, ◌+◌, ◌-◌, ◌==◌, ◌⊎◌, Bool, true, false, if◌then◌else◌, nat_le, List, [], ◌∷◌, length, Option, Some, None, is_some, refl}
+use Rattle.std.specs.Prelude.{⊤, ◌≡◌, ◌≢◌, ◌≤◌, ℕ, suc, ◌+◌, ◌-◌, ◌==◌, ◌⊎◌, Bool, true, false, if◌then◌else◌, nat_le, List, [], ◌∷◌, length, Option, Some, None, is_some, refl}
 use Rattle.std.proofs.Common.{sym, ap, subst, ◌∙◌, inl, inr, ⊎_elim, arith}
-use Rattle.std.proofs.lemmas.Bool.{cases_Bool, cases_eq, cases_lt, true≢false, false≢true, leb-true, leb-false, eqb-true}
+use Rattle.std.proofs.lemmas.Bool.{cases_eq, true≢false, false≢true, leb-true, leb-false, eqb-true}
 use Rattle.std.proofs.lemmas.Option.{none-some, same_Some}
 use Rattle.tree_model.specs.declared.node.Node.{Node}
 use Rattle.tree_model.specs.declared.node.Node.TheVariants as nodes
 use Rattle.tree_model.specs.declared.node.Directory.{Directory}
 use Rattle.tree_model.specs.declared.node.File.{File}
-use Rattle.tree_model.specs.Maps.{at_number, at_name, put_number, without_number}
+use Rattle.tree_model.specs.Maps.{at_number, at_name, without_number}
 use Rattle.tree_model.specs.MapsLaws.{at_put_number, at_put_number_apart}
 use Rattle.tree_model.specs.Listing.{names_of}
 use Rattle.tree_model.specs.Trees.{is_directory}
-use Rattle.tree_model.specs.Calls.{Tree, Done, Found, Place, is_named, with_name, without_name, give_name, take_name, put_file, with_links, lose_link}
-use Rattle.tree_model.specs.Plain.{names_in_node, names_to}
-use Rattle.tree_model.specs.laws.MapOrder.{InOrder, in_order_put, in_order_without, at_put_cases, at_without_cases, at_without_here, at_without_apart, NamesInOrder, names_in_order_put, names_in_order_without}
-use Rattle.tree_model.specs.laws.Rows.{IsFound, IsPlace, place_names}
-use Rattle.tree_model.specs.laws.Changes.{HasNames, IsMade, IsRemoved, IsUnlinked, IsLinked, IsPut}
-use Rattle.tree_model.specs.laws.Hanging.{Edges, IsReached, top, by_edge, Seen, IsGoodName, IsJoined, StaysAt, fewer_joined, IsNewEdge, IsKept, more_joined, reached_more, reached_without}
-use Rattle.tree_model.specs.laws.Plain.{edge_of, up_of, seen_of, links_of, is_other, IsWhole, one_for, one_at, one_for_here, one_for_other, edge_counts, counted_edge}
-use Rattle.tree_model.specs.laws.Edits.{IsLike, like_itself, like_chain, like_file, like_stays, like_put, like_put_apart, like_without, each_put, each_without, IsAt, at_or_apart, edge_put_same, edge_without, give_here, give_split, give_kept, give_like, take_split, take_kept, take_like, give_counts, take_counts, put_counts, without_counts}
-use Rattle.tree_model.specs.laws.PlainCalls.{good_name, links_through, names_none, no_name, none_named, place_sorted}
+use Rattle.tree_model.specs.Calls.{Tree, Done, Place, with_name, without_name, give_name, take_name, put_file, with_links}
+use Rattle.tree_model.specs.Plain.{names_to}
+use Rattle.tree_model.specs.laws.MapOrder.{InOrder, in_order_put, in_order_without, at_put_cases, at_without_cases, at_without_here, NamesInOrder, names_in_order_put, names_in_order_without}
+use Rattle.tree_model.specs.laws.Rows.{IsPlace, place_names}
+use Rattle.tree_model.specs.laws.Changes.{IsRemoved, IsUnlinked, IsLinked}
+use Rattle.tree_model.specs.laws.Hanging.{IsReached, by_edge, IsJoined, fewer_joined, more_joined, reached_more, reached_without}
+use Rattle.tree_model.specs.laws.Plain.{edge_of, seen_of, links_of, is_other, IsWhole, one_for, one_at, one_for_here, one_for_other, edge_counts, counted_edge}
+use Rattle.tree_model.specs.laws.Edits.{IsLike, like_chain, like_file, like_stays, like_put, like_without, each_put, each_without, at_or_apart, edge_put_same, edge_without, give_split, give_kept, give_like, take_split, take_kept, take_like, give_counts, take_counts, put_counts, without_counts}
+use Rattle.tree_model.specs.laws.PlainCalls.{good_name, links_through, no_name, none_named, place_sorted}
 
 root_some : (o : Option Node) → is_directory o ≡ true → is_some o ≡ true
 root_some (Some node) h = refl
@@ -265,7 +265,7 @@ removed_whole tree w d r =
     let named = place_names tree r.names r.place r.found r.is_place r.is_found in
     let leaf : names_of (at_number tree r.found.birth) ≡ [] = ap names_of stands ∙ empty in
     let apart : (r.found.birth ≢ r.place.parent) = λ e.
-        none-some r.found.birth (sym (ap (λ ns. at_name ns r.place.name) leaf) ∙ (ap (λ j. edge_of tree j r.place.name) e ∙ (ap (λ o. at_name (names_of o) r.place.name) r.is_place.stands ∙ named)))
+    none-some r.found.birth (sym (ap (λ ns. at_name ns r.place.name) leaf) ∙ (ap (λ j. edge_of tree j r.place.name) e ∙ (ap (λ o. at_name (names_of o) r.place.name) r.is_place.stands ∙ named)))
     in
     subst IsWhole (sym r.tree_is)
     (gone_whole tree w r.names r.place r.is_place r.found.birth named apart leaf
@@ -279,12 +279,16 @@ unlinked_whole tree w d r = subst IsWhole (sym r.tree_is) (by (nat_le r.file.lin
   where
     stands : at_number tree r.found.birth ≡ Some (nodes.File r.file)
     stands = r.is_found.stands ∙ ap Some r.node_is
+
     named : at_name r.place.directory.names r.place.name ≡ Some r.found.birth
     named = place_names tree r.names r.place r.found r.is_place r.is_found
+
     apart : r.found.birth ≢ r.place.parent
     apart e = directory_not_file tree r.place.parent r.found.birth r.place.directory r.file r.is_place.stands stands (sym e)
+
     links : r.file.links ≡ names_to tree r.found.birth
     links = w.links r.found.birth r.file.links (ap links_of stands)
+
     last_one : r.file.links ≤ 1 → (q : ℕ) (k : List ℕ) → edge_of (take_name tree r.place) q k ≡ Some r.found.birth → ⊥
     last_one few q k e =
         let some = edge_counts (take_name tree r.place) q k r.found.birth e in
@@ -292,6 +296,7 @@ unlinked_whole tree w d r = subst IsWhole (sym r.tree_is) (by (nat_le r.file.lin
         let one : one_at r.found.birth r.found.birth ≡ 1 = one_for_here r.found.birth in
         let all = links in
         omega arith
+
     by : (b : Bool) → nat_le r.file.links 1 ≡ b → IsWhole (if b then without_number (take_name tree r.place) r.found.birth else put_file (take_name tree r.place) r.found.birth (with_links r.file (r.file.links - 1)))
     by true e = gone_whole tree w r.names r.place r.is_place r.found.birth named apart (ap names_of stands) (last_one (leb-true r.file.links 1 e))
     by false e = less_whole tree w r.names r.place r.is_place r.found.birth named apart (ap names_of stands) r.file stands (let l = leb-false r.file.links 1 e in omega arith)

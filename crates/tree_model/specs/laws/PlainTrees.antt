@@ -1,29 +1,28 @@
 -- Each call keeps a tree plain and its births in order, and so does a history.
-use Rattle.std.specs.Prelude.{◌≡◌, ◌≢◌, ◌<◌, ◌≤◌, ℕ, zero, suc, ◌+◌, ◌-◌, ◌⊎◌, Bool, true, false, if◌then◌else◌, nat_le, List, [], ◌∷◌, Option, Some, None, Result, Ok, Err, is_some, refl}
+use Rattle.std.specs.Prelude.{◌≡◌, ◌<◌, ℕ, zero, suc, ◌+◌, ◌-◌, ◌⊎◌, Bool, true, false, if◌then◌else◌, nat_le, List, Option, Some, None, Result, Ok, Err, is_some, refl}
 use Rattle.std.proofs.Common.{sym, ap, subst, ◌∙◌, inl, inr, ⊎_elim, arith}
 use Rattle.std.specs.List.{slice_get}
 use Rattle.std.specs.Map.{keys_of}
 use Rattle.tree_model.specs.laws.Blocks.{target_stands}
 use Rattle.std.specs.List.Sorted.{IsStrictlySortedBy}
-use Rattle.std.proofs.lemmas.Bool.{cases_eq, true≢false, false≢true}
-use Rattle.std.proofs.lemmas.Option.{none-some, same_Some}
+use Rattle.std.proofs.lemmas.Bool.{false≢true}
+use Rattle.std.proofs.lemmas.Option.{none-some}
 use Rattle.tree_model.specs.declared.call.Call.{Call}
 use Rattle.tree_model.specs.declared.call.Reply.{Reply}
 use Rattle.tree_model.specs.declared.call.Room.{Room}
 use Rattle.tree_model.specs.declared.node.Node.{Node}
 use Rattle.tree_model.specs.declared.node.Node.TheVariants as nodes
-use Rattle.tree_model.specs.declared.node.Directory.{Directory}
 use Rattle.tree_model.specs.declared.node.File.{File}
 use Rattle.tree_model.specs.Maps.{at_number, at_name, name_cmp, put_number, without_number}
 use Rattle.tree_model.specs.Listing.{names_of, IsRooted}
-use Rattle.tree_model.specs.Calls.{Tree, Done, Row, Found, Place, Move, new_directory, a_file, give_name, take_name, put_file, with_links, lose_link, without_target, stays, place_after, moved_node, tree_moved, outcome, tree_from, tree_after}
+use Rattle.tree_model.specs.Calls.{Tree, Done, Row, Found, new_directory, a_file, take_name, put_file, with_links, lose_link, without_target, stays, place_after, moved_node, tree_moved, outcome, tree_from, tree_after}
 use Rattle.tree_model.specs.Plain.{IsPlain, AreBornBefore, names_to}
 use Rattle.tree_model.specs.Examples.{new_tree}
 use Rattle.tree_model.specs.Histories.{Entry, tree_after_entry, tree_after_entries}
 use Rattle.tree_model.specs.laws.MapOrder.{InOrder, at_put_cases, at_without_cases, in_order_put}
-use Rattle.tree_model.specs.laws.Changes.{Change, stayed, made_directory, made_file, removed, unlinked, linked, renamed, written, written_bytes, truncated, IsMade, IsRenamed, outcome_change}
-use Rattle.tree_model.specs.laws.Hanging.{IsReached, top, IsJoined}
-use Rattle.tree_model.specs.laws.Plain.{edge_of, seen_of, links_of, is_other, IsWhole, plain_whole, whole_plain}
+use Rattle.tree_model.specs.laws.Changes.{Change, stayed, made_directory, made_file, removed, unlinked, linked, renamed, written, written_bytes, truncated, outcome_change}
+use Rattle.tree_model.specs.laws.Hanging.{IsReached, top}
+use Rattle.tree_model.specs.laws.Plain.{edge_of, links_of, is_other, IsWhole, plain_whole, whole_plain}
 use Rattle.tree_model.specs.laws.PlainCalls.{IsNewNode, directory_is_new, file_is_new, made_whole}
 use Rattle.tree_model.specs.laws.PlainNames.{put_whole, removed_whole, unlinked_whole, linked_whole}
 use Rattle.tree_model.specs.laws.PlainMoves.{renamed_whole}
@@ -116,6 +115,7 @@ change_births tree n _ d w (renamed h) b = subst (λ t. IsOldOrNew tree n b (at_
         (put_old tree n left h.move.moved.birth _ _ h.is_found.stands
         (target_old tree n (take_name tree h.move.from) (in_order_put tree h.move.from.parent _ w.in_order) (put_old tree n tree h.move.from.parent _ _ h.is_from.stands (old tree n))
         h.move.target (λ x e. target_stands tree h.move.to x (sym h.target_is ∙ e))))
+
     by : (same : Bool) → IsOldOrNew tree n b (at_number (if same then tree else tree_moved tree h.move) b)
     by true = old tree n b
     by false = whole b
