@@ -1,3 +1,4 @@
+pub mod BrokenExamples
 pub mod CallSteps
 pub mod ChangeSteps
 pub mod CommitSteps

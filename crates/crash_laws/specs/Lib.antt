@@ -1,3 +1,4 @@
+pub mod BrokenExamples
 pub mod CallFacts
 pub mod Changes
 pub mod Clauses

@@ -24,6 +24,6 @@ pub use rings::{checkpoints_meet_their_clauses, requests_keep_the_ring};
 pub use rules::{
     histories_may_grow, promises_stay_kept, requests_keep_the_rules,
     requests_owe_by_what_they_carry, rules_can_be_kept, rules_hold_at_the_start,
-    trees_of_images_follow,
+    trees_of_images_follow, weaker_rules_lose_a_sentence,
 };
 pub use sessions::{calls_on_trees_make_a_history, sentences_follow_from_the_rules};

@@ -1,24 +1,27 @@
-ghost use Rattle.std.specs.Prelude.{◌≡◌, ℕ, ◌≤◌, [], List};
+ghost use Rattle.std.specs.Prelude.{◌≡◌, ◌≢◌, ℕ, ◌≤◌, [], List};
 ghost use Rattle.blk_base.specs.Members.{In};
 ghost use Rattle.order_model.specs.declared.completion.Completion.{Completion};
 ghost use Rattle.order_model.specs.declared.note.Note.TheVariants.{Page, Commit};
-ghost use Rattle.order_model.specs.Submission.{IsFence};
+ghost use Rattle.order_model.specs.Submission.{IsFence, IsOrderClosed};
 ghost use Rattle.minix_layout.specs.declared.division.Geometry.{Geometry};
 ghost use Rattle.tree_model.specs.declared.node.Node.{Node};
 ghost use Rattle.volume_ops.specs.Reads.{blocks_read};
 ghost use Rattle.volume_ops.specs.Volume.{disk_of};
 ghost use Rattle.volume_ops.specs.Walk.{walk_volume};
 ghost use Rattle.log_model.specs.Ring.{IsPlace};
+ghost use Rattle.crash_laws.specs.BrokenExamples.{unfenced, without_body, page_late, without_page};
 ghost use Rattle.crash_laws.specs.Clauses.{CommitClause, OrderClause};
 ghost use Rattle.crash_laws.specs.Example.{program, history, with_first, synced, completions};
 ghost use Rattle.crash_laws.specs.Extending.{Extends};
+ghost use Rattle.crash_laws.specs.Found.{found};
 ghost use Rattle.crash_laws.specs.History.{History, HasTrees};
 ghost use Rattle.crash_laws.specs.PageClauses.{PageClause};
 ghost use Rattle.crash_laws.specs.PageRules.{PageOrder, DataBeforeCommit};
 ghost use Rattle.crash_laws.specs.PromiseRules.{BegunCall, Covers, CoversEntry, AreHeld, KeepsBarrier, KeepsSync};
+ghost use Rattle.crash_laws.specs.Recovery.{recovered_disk, HasVersion};
 ghost use Rattle.crash_laws.specs.Requests.{IsPageRequest, IsFlushRequest, IsHomeRequest, IsSuperRequest, IsPartRequest, IsCommitRequest};
 ghost use Rattle.crash_laws.specs.Rules.{BaseImage, CommitOrder, OrderRules};
-ghost use Rattle.crash_laws.specs.Session.{Session, HasNote, IsCommit};
+ghost use Rattle.crash_laws.specs.Session.{Session, HasNote, IsCommit, image_of};
 ghost use Rattle.crash_laws.specs.Submitting.{Submitting, after};
 ghost use Rattle.crash_laws.specs.Volumes.{Walked, HasTreeOf, HasTreesOf};
 
@@ -116,4 +119,16 @@ pub fn rules_can_be_kept()
     ensures pages { PageOrder program history (with_first 12) }
     ensures versions { DataBeforeCommit program history (with_first 12) }
     ensures sync { KeepsSync history (with_first 12) completions (Covers history synced) (CoversEntry synced) }
+{}
+
+/// A law, which does nothing when it is called: without a rule a sentence is lost. With a commit block in the epoch of its
+/// body, an order-closed medium can have the one and not the other, and what is recovered is not the image of the
+/// transaction. With the page of a changed file behind the commit block, it can lack the page.
+pub fn weaker_rules_lose_a_sentence()
+    ensures body { IsOrderClosed unfenced.base unfenced.requests without_body.image without_body.origins
+        × (found unfenced without_body ≡ 1)
+        × (recovered_disk unfenced without_body 1 ≢ image_of unfenced 1 1) }
+    ensures page { IsOrderClosed page_late.base page_late.requests without_page.image without_page.origins
+        × (found page_late without_page ≡ 1)
+        × (HasVersion program history page_late without_page 1 5 0 2 → ⊥) }
 {}

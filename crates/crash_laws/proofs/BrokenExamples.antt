@@ -1,0 +1,165 @@
+-- What two broken sessions leave after a power cut.
+use Rattle.std.specs.Prelude.{◌≡◌, ◌≢◌, ℕ, zero, suc, ◌≤◌, ◌<◌, List, [], ◌∷◌, Option, Some, None, slice_get, refl}
+use Rattle.std.proofs.Common.{sym, subst, ◌∙◌, arith}
+use Rattle.std.proofs.lemmas.Option.{none-some, same_Some}
+use Rattle.blk_base.specs.Members.{In}
+use Rattle.order_model.specs.declared.request.Request.{Request}
+use Rattle.order_model.specs.Submission.{IsPutOf, IsPutWith, IsPut, IsFence, HasOrigin, IsKept, IsOrderClosed}
+use Rattle.crash_laws.specs.BrokenExamples.{unfenced, without_body, page_late, without_page}
+use Rattle.crash_laws.specs.Example.{program, history}
+use Rattle.crash_laws.specs.Found.{found}
+use Rattle.crash_laws.specs.Recovery.{recovered_disk, HasVersion}
+use Rattle.crash_laws.specs.Session.{image_of}
+
+none≢id : (id : ℕ) → ◌≡◌ {A = Option (Option ℕ)} (Some None) (Some (Some id)) → ⊥
+none≢id id e = cc
+
+same_id : (a b : ℕ) → ◌≡◌ {A = Option (Option ℕ)} (Some (Some a)) (Some (Some b)) → a ≡ b
+same_id a b e = cc
+
+out≢ : (o : Option ℕ) → ◌≡◌ {A = Option (Option ℕ)} None (Some o) → ⊥
+out≢ o e = cc
+
+-- ---- the commit block in the epoch of its body
+
+module _ where
+  block_of : (block id : ℕ) → HasOrigin without_body.origins block id → IsPutOf unfenced.requests id block
+  block_of zero id e = absurd (none≢id id e)
+  block_of (suc zero) id e = absurd (none≢id id e)
+  block_of (suc (suc zero)) id e = absurd (none≢id id e)
+  block_of (suc (suc (suc zero))) id e = absurd (none≢id id e)
+  block_of (suc (suc (suc (suc zero)))) id e = subst (λ k. IsPutOf unfenced.requests k 4) (same_id 0 id e) refl
+  block_of (suc (suc (suc (suc (suc zero))))) id e = subst (λ k. IsPutOf unfenced.requests k 5) (same_id 1 id e) refl
+  block_of (suc (suc (suc (suc (suc (suc zero)))))) id e = absurd (none≢id id e)
+  block_of (suc (suc (suc (suc (suc (suc (suc zero))))))) id e = subst (λ k. IsPutOf unfenced.requests k 7) (same_id 3 id e) refl
+  block_of (suc (suc (suc (suc (suc (suc (suc (suc block)))))))) id e = absurd (out≢ (Some id) e)
+
+  body_of : (block id : ℕ) (body : List ℕ) → HasOrigin without_body.origins block id → slice_get without_body.image block ≡ Some body → IsPutWith unfenced.requests id body
+  body_of zero id body e there = absurd (none≢id id e)
+  body_of (suc zero) id body e there = absurd (none≢id id e)
+  body_of (suc (suc zero)) id body e there = absurd (none≢id id e)
+  body_of (suc (suc (suc zero))) id body e there = absurd (none≢id id e)
+  body_of (suc (suc (suc (suc zero)))) id body e there = subst (λ k. IsPutWith unfenced.requests k body) (same_id 0 id e) there
+  body_of (suc (suc (suc (suc (suc zero))))) id body e there = subst (λ k. IsPutWith unfenced.requests k body) (same_id 1 id e) there
+  body_of (suc (suc (suc (suc (suc (suc zero)))))) id body e there = absurd (none≢id id e)
+  body_of (suc (suc (suc (suc (suc (suc (suc zero))))))) id body e there = subst (λ k. IsPutWith unfenced.requests k body) (same_id 3 id e) there
+  body_of (suc (suc (suc (suc (suc (suc (suc (suc block)))))))) id body e there = absurd (out≢ (Some id) e)
+
+  base_of : (block : ℕ) → slice_get without_body.origins block ≡ Some None → slice_get without_body.image block ≡ slice_get unfenced.base block
+  base_of zero e = refl
+  base_of (suc zero) e = refl
+  base_of (suc (suc zero)) e = refl
+  base_of (suc (suc (suc zero))) e = refl
+  base_of (suc (suc (suc (suc zero)))) e = absurd (none≢id 0 (sym e))
+  base_of (suc (suc (suc (suc (suc zero))))) e = absurd (none≢id 1 (sym e))
+  base_of (suc (suc (suc (suc (suc (suc zero)))))) e = refl
+  base_of (suc (suc (suc (suc (suc (suc (suc zero))))))) e = absurd (none≢id 3 (sym e))
+  base_of (suc (suc (suc (suc (suc (suc (suc (suc block)))))))) e = absurd (out≢ None e)
+
+  superblock_kept : IsKept unfenced.requests without_body.origins 0
+  superblock_kept = record { block = 4; put = refl; origin = 0; held = refl; later = omega arith }
+
+  -- behind the last barrier stands no put
+  no_put : (j : ℕ) → 3 < j → IsPut unfenced.requests j → ⊥
+  no_put zero lt put = omega arith
+  no_put (suc zero) lt put = omega arith
+  no_put (suc (suc zero)) lt put = omega arith
+  no_put (suc (suc (suc zero))) lt put = omega arith
+  no_put (suc (suc (suc (suc j)))) lt put = none-some put.0 put.1
+
+  behind : (b i j : ℕ) → i ≤ b → b < j → IsFence unfenced.requests b → IsPut unfenced.requests j → IsKept unfenced.requests without_body.origins i
+  behind zero i j lo hi fence put = let e : 0 ≡ i = omega arith in subst (IsKept unfenced.requests without_body.origins) e superblock_kept
+  behind (suc zero) i j lo hi fence put = absurd (let y : ⊥ = cc in y)
+  behind (suc (suc zero)) i j lo hi fence put = absurd (let y : ⊥ = cc in y)
+  behind (suc (suc (suc zero))) i j lo hi fence put = absurd (no_put j hi put)
+  behind (suc (suc (suc (suc b)))) i j lo hi fence put = absurd fence
+
+pub unfenced_closed : IsOrderClosed unfenced.base unfenced.requests without_body.image without_body.origins
+unfenced_closed = record {
+  blocks = refl;
+  places = refl;
+  block_of = block_of;
+  body_of = body_of;
+  base_of = base_of;
+  closed = λ i j before kept. behind before.fence.0 i j before.fence.1 before.fence.2 before.fence.3 before.second;
+}
+
+pub unfenced_found : found unfenced without_body ≡ 1
+unfenced_found = refl
+
+-- the body that recovery puts in place is none
+pub unfenced_wrong : recovered_disk unfenced without_body 1 ≢ image_of unfenced 1 1
+unfenced_wrong e = let y : ⊥ = cc in y
+
+-- ---- the page behind the commit block
+
+module _ where
+  late_block_of : (block id : ℕ) → HasOrigin without_page.origins block id → IsPutOf page_late.requests id block
+  late_block_of zero id e = absurd (none≢id id e)
+  late_block_of (suc zero) id e = absurd (none≢id id e)
+  late_block_of (suc (suc zero)) id e = absurd (none≢id id e)
+  late_block_of (suc (suc (suc zero))) id e = absurd (none≢id id e)
+  late_block_of (suc (suc (suc (suc zero)))) id e = subst (λ k. IsPutOf page_late.requests k 4) (same_id 0 id e) refl
+  late_block_of (suc (suc (suc (suc (suc zero))))) id e = subst (λ k. IsPutOf page_late.requests k 5) (same_id 1 id e) refl
+  late_block_of (suc (suc (suc (suc (suc (suc zero)))))) id e = subst (λ k. IsPutOf page_late.requests k 6) (same_id 2 id e) refl
+  late_block_of (suc (suc (suc (suc (suc (suc (suc zero))))))) id e = subst (λ k. IsPutOf page_late.requests k 7) (same_id 3 id e) refl
+  late_block_of (suc (suc (suc (suc (suc (suc (suc (suc block)))))))) id e = absurd (out≢ (Some id) e)
+
+  late_body_of : (block id : ℕ) (body : List ℕ) → HasOrigin without_page.origins block id → slice_get without_page.image block ≡ Some body → IsPutWith page_late.requests id body
+  late_body_of zero id body e there = absurd (none≢id id e)
+  late_body_of (suc zero) id body e there = absurd (none≢id id e)
+  late_body_of (suc (suc zero)) id body e there = absurd (none≢id id e)
+  late_body_of (suc (suc (suc zero))) id body e there = absurd (none≢id id e)
+  late_body_of (suc (suc (suc (suc zero)))) id body e there = subst (λ k. IsPutWith page_late.requests k body) (same_id 0 id e) there
+  late_body_of (suc (suc (suc (suc (suc zero))))) id body e there = subst (λ k. IsPutWith page_late.requests k body) (same_id 1 id e) there
+  late_body_of (suc (suc (suc (suc (suc (suc zero)))))) id body e there = subst (λ k. IsPutWith page_late.requests k body) (same_id 2 id e) there
+  late_body_of (suc (suc (suc (suc (suc (suc (suc zero))))))) id body e there = subst (λ k. IsPutWith page_late.requests k body) (same_id 3 id e) there
+  late_body_of (suc (suc (suc (suc (suc (suc (suc (suc block)))))))) id body e there = absurd (out≢ (Some id) e)
+
+  late_base_of : (block : ℕ) → slice_get without_page.origins block ≡ Some None → slice_get without_page.image block ≡ slice_get page_late.base block
+  late_base_of zero e = refl
+  late_base_of (suc zero) e = refl
+  late_base_of (suc (suc zero)) e = refl
+  late_base_of (suc (suc (suc zero))) e = refl
+  late_base_of (suc (suc (suc (suc zero)))) e = absurd (none≢id 0 (sym e))
+  late_base_of (suc (suc (suc (suc (suc zero))))) e = absurd (none≢id 1 (sym e))
+  late_base_of (suc (suc (suc (suc (suc (suc zero)))))) e = absurd (none≢id 2 (sym e))
+  late_base_of (suc (suc (suc (suc (suc (suc (suc zero))))))) e = absurd (none≢id 3 (sym e))
+  late_base_of (suc (suc (suc (suc (suc (suc (suc (suc block)))))))) e = absurd (out≢ None e)
+
+  -- the first four requests are kept
+  early_kept : (i : ℕ) → i < 4 → IsKept page_late.requests without_page.origins i
+  early_kept zero lt = record { block = 4; put = refl; origin = 0; held = refl; later = omega arith }
+  early_kept (suc zero) lt = record { block = 5; put = refl; origin = 1; held = refl; later = omega arith }
+  early_kept (suc (suc zero)) lt = record { block = 6; put = refl; origin = 2; held = refl; later = omega arith }
+  early_kept (suc (suc (suc zero))) lt = record { block = 7; put = refl; origin = 3; held = refl; later = omega arith }
+  early_kept (suc (suc (suc (suc i)))) lt = absurd (omega arith)
+
+  last_put : (j : ℕ) → IsPut page_late.requests j → j < 5
+  last_put zero put = omega arith
+  last_put (suc zero) put = omega arith
+  last_put (suc (suc zero)) put = omega arith
+  last_put (suc (suc (suc zero))) put = omega arith
+  last_put (suc (suc (suc (suc zero)))) put = omega arith
+  last_put (suc (suc (suc (suc (suc j))))) put = absurd (none-some put.0 put.1)
+
+pub late_closed : IsOrderClosed page_late.base page_late.requests without_page.image without_page.origins
+late_closed = record {
+  blocks = refl;
+  places = refl;
+  block_of = late_block_of;
+  body_of = late_body_of;
+  base_of = late_base_of;
+  closed = λ i j before kept.
+      let lo = before.fence.1 in
+      let hi = before.fence.2 in
+      let last = last_put j before.second in
+      early_kept i (omega arith);
+}
+
+pub late_found : found page_late without_page ≡ 1
+late_found = refl
+
+-- no version of the page is there
+pub late_missing : HasVersion program history page_late without_page 1 5 0 2 → ⊥
+late_missing t = none≢id t.origin t.held
