@@ -1,9 +1,7 @@
 -- What two broken sessions leave after a power cut.
-use Rattle.std.specs.Prelude.{◌≡◌, ◌≢◌, ℕ, zero, suc, ◌≤◌, ◌<◌, List, [], ◌∷◌, Option, Some, None, slice_get, refl}
-use Rattle.std.proofs.Common.{sym, subst, ◌∙◌, arith}
-use Rattle.std.proofs.lemmas.Option.{none-some, same_Some}
-use Rattle.blk_base.specs.Members.{In}
-use Rattle.order_model.specs.declared.request.Request.{Request}
+use Rattle.std.specs.Prelude.{◌≡◌, ◌≢◌, ℕ, zero, suc, ◌≤◌, ◌<◌, List, Option, Some, None, slice_get, refl}
+use Rattle.std.proofs.Common.{sym, subst, arith}
+use Rattle.std.proofs.lemmas.Option.{none-some}
 use Rattle.order_model.specs.Submission.{IsPutOf, IsPutWith, IsPut, IsFence, HasOrigin, IsKept, IsOrderClosed}
 use Rattle.crash_laws.specs.BrokenExamples.{unfenced, without_body, page_late, without_page}
 use Rattle.crash_laws.specs.Example.{program, history}

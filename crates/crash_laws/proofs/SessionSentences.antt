@@ -5,15 +5,12 @@ use Rattle.blk_base.specs.Members.{In}
 use Rattle.order_model.specs.declared.completion.Completion.{Completion}
 use Rattle.order_model.specs.Submission.{HasOrigin, IsOrderClosed, KeepsFlushed}
 use Rattle.tree_model.specs.declared.node.Node.{Node}
-use Rattle.tree_model.specs.Histories.{tree_after_entries}
-use Rattle.tree_model.specs.Listing.{IsRooted}
 use Rattle.tree_model.specs.Trees.{node_of_path, AreAlike}
 use Rattle.volume_ops.specs.Volume.{disk_of, tree_of, walked}
 use Rattle.volume_ops.specs.Walk.{walk_volume}
 use Rattle.crash_laws.specs.Found.{found}
 use Rattle.crash_laws.specs.Headline.{HoldsPrefix}
 use Rattle.crash_laws.specs.History.{HasTrees}
-use Rattle.crash_laws.specs.LegalHistory.{done_by, root_alone}
 use Rattle.crash_laws.specs.PageRules.{place_at}
 use Rattle.crash_laws.specs.PromiseRules.{BegunCall, Covers, CoversEntry, IsSettled}
 use Rattle.crash_laws.specs.Recovery.{HasVersion, IsRecovered}
@@ -26,11 +23,11 @@ use Rattle.crash_laws.proofs.TreeHistories.{real_trees}
 use Rattle.crash_laws.proofs.Versions.{page_block_untouched}
 use Rattle.crash_laws.proofs.Volumes.{prefix_of_transactions}
 
-module _ (run : Run) (rules : KeepsRules run) (rooted : (k : ℕ) → IsRooted (tree_after_entries run.room root_alone 0 (done_by run.events) k))
+module _ (run : Run) (rules : KeepsRules run)
     (m : Medium) (closed : IsOrderClosed run.session.base run.session.requests m.image m.origins)
     (recovered : List (List ℕ)) (recovers : IsRecovered run.session m (disk_of recovered)) where
   trees : HasTrees (history run)
-  trees = real_trees run.room run.events run.cut run.place rules.cuts rooted
+  trees = real_trees run.room run.events run.cut run.place rules.cuts
 
   held : HoldsPrefix (walk_volume run.geometry) (history run) run.session m (disk_of recovered) (found run.session m)
   held = prefix_and_versions (walk_volume run.geometry) (history run) run.session m (disk_of recovered) rules.order closed trees rules.pages rules.versions recovers

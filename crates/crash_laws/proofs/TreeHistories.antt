@@ -5,9 +5,10 @@ use Rattle.tree_model.specs.declared.call.Room.{Room}
 use Rattle.tree_model.specs.declared.node.Node.TheVariants as nodes
 use Rattle.tree_model.specs.Histories.{block_in, maps_block, maps, tree_after_entries, changed_after}
 use Rattle.tree_model.specs.Listing.{IsRooted}
+use Rattle.tree_model.specs.laws.PlainTrees.{history_rooted, new_plain, new_born}
 use Rattle.tree_model.specs.laws.Histories.{history_mapped, history_written, unchanged_between}
 use Rattle.crash_laws.specs.History.{HasTrees}
-use Rattle.crash_laws.specs.LegalHistory.{Event, done_by, root_alone}
+use Rattle.crash_laws.specs.LegalHistory.{Event, done_by, root_alone, tree_up_to}
 use Rattle.crash_laws.specs.TreeHistory.{AreCuts, history_of}
 use Rattle.crash_laws.specs.Volumes.{Walked}
 
@@ -19,7 +20,14 @@ root_maps birth index = by _
     by true = refl
     by false = refl
 
-module _ (room : Room) (events : List Event) (cut : ℕ → ℕ) (place : ℕ → Walked → ℕ → ℕ → ℕ) (cuts : AreCuts cut) (rooted : (k : ℕ) → IsRooted (tree_after_entries room root_alone 0 (done_by events) k)) where
+-- each tree of a session hangs together
+pub tree_rooted : (room : Room) (events : List Event) (n : ℕ) → IsRooted (tree_up_to room events n)
+tree_rooted room events n = history_rooted room root_alone 0 (done_by events) new_plain new_born (n - 0)
+
+module _ (room : Room) (events : List Event) (cut : ℕ → ℕ) (place : ℕ → Walked → ℕ → ℕ → ℕ) (cuts : AreCuts cut) where
+  rooted : (k : ℕ) → IsRooted (tree_after_entries room root_alone 0 (done_by events) k)
+  rooted k = history_rooted room root_alone 0 (done_by events) new_plain new_born k
+
   nothing_mapped : (birth index : ℕ) → maps room root_alone 0 (done_by events) 0 birth index ≡ false
   unfolding tree_after_entries
   nothing_mapped birth index = root_maps birth index

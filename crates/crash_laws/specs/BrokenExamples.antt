@@ -1,6 +1,6 @@
 -- Two sessions that each break one rule, and a medium that a power cut may then leave: order-closed, and yet a sentence
 -- does not hold of it.
-use Rattle.std.specs.Prelude.{ℕ, true, false, List, [], ◌∷◌, Option, Some, None}
+use Rattle.std.specs.Prelude.{true, false, [], ◌∷◌, Some, None}
 use Rattle.order_model.specs.declared.note.Note.TheVariants.{Page, Super, Descriptor, Body, Commit}
 use Rattle.crash_laws.specs.Example.{put, with_first}
 use Rattle.crash_laws.specs.Session.{Session, Medium}

@@ -5,12 +5,11 @@ ghost use Rattle.order_model.specs.Submission.{IsOrderClosed, KeepsFlushed};
 ghost use Rattle.minix_layout.specs.declared.division.Geometry.{Geometry};
 ghost use Rattle.tree_model.specs.declared.call.Room.{Room};
 ghost use Rattle.tree_model.specs.Calls.{Tree};
-ghost use Rattle.tree_model.specs.Histories.{tree_after_entries};
 ghost use Rattle.tree_model.specs.Listing.{IsRooted};
 ghost use Rattle.volume_ops.specs.Volume.{disk_of};
 ghost use Rattle.crash_laws.specs.Found.{found};
 ghost use Rattle.crash_laws.specs.History.{HasTrees};
-ghost use Rattle.crash_laws.specs.LegalHistory.{Event, done_by, root_alone};
+ghost use Rattle.crash_laws.specs.LegalHistory.{Event, tree_up_to};
 ghost use Rattle.crash_laws.specs.Recovery.{IsRecovered};
 ghost use Rattle.crash_laws.specs.Session.{Medium};
 ghost use Rattle.crash_laws.specs.SessionRules.{Run, KeepsRules, Sentences};
@@ -21,8 +20,8 @@ ghost use Rattle.crash_laws.specs.Volumes.{Walked};
 /// real trees, and each file of a tree has a place in each volume whose tree is alike, by whichever of its paths.
 pub fn calls_on_trees_make_a_history()
     ensures trees { (room : Room) (events : List Event) (cut : ℕ → ℕ) (place : ℕ → Walked → ℕ → ℕ → ℕ) →
-        AreCuts cut → ((k : ℕ) → IsRooted (tree_after_entries room root_alone 0 (done_by events) k)) →
-        HasTrees (history_of room events cut place) }
+        AreCuts cut → HasTrees (history_of room events cut place) }
+    ensures rooted { (room : Room) (events : List Event) (n : ℕ) → IsRooted (tree_up_to room events n) }
     ensures places { (g : Geometry) (tree : Tree) → IsRooted tree →
         (place : Walked → ℕ → ℕ → ℕ) × IsPlaceIn g tree place }
 {}
@@ -33,8 +32,7 @@ pub fn calls_on_trees_make_a_history()
 /// barrier and sync calls cover survived or was superseded.
 pub fn sentences_follow_from_the_rules()
     ensures sentences { (run : Run) (m : Medium) (recovered : List (List ℕ)) (sent : List Completion) →
-        KeepsRules run → ((k : ℕ) → IsRooted (tree_after_entries run.room root_alone 0 (done_by run.events) k)) →
-        IsOrderClosed run.session.base run.session.requests m.image m.origins →
+        KeepsRules run → IsOrderClosed run.session.base run.session.requests m.image m.origins →
         KeepsFlushed run.session.requests m.origins sent → ((o : Completion) → In o run.taken → In o sent) →
         IsRecovered run.session m (disk_of recovered) →
         Sentences run m recovered (found run.session m) }

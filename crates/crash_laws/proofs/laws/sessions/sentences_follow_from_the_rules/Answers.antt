@@ -3,5 +3,5 @@ use Rattle.crash_laws.proofs.laws.sessions.sentences_follow_from_the_rules.Goals
 
 pub returns : goal.returns
 returns c = record {
-  sentences = λ run m recovered sent rules rooted closed flushed taken recovers. sentences run rules rooted m closed recovered recovers sent flushed taken;
+  sentences = λ run m recovered sent rules closed flushed taken recovers. sentences run rules m closed recovered recovers sent flushed taken;
 }
