@@ -1,7 +1,6 @@
 -- The walk, an inode at a time.
 use Rattle.std.proofs.Common.{◌≡◌, ℕ, zero, suc, ◌+◌, ◌<◌, ◌++◌, Bool, true, false, if◌then◌else◌, List, [], ◌∷◌, Result, Ok, Err, refl, ap, ◌∙◌, sym, reverse, arith, length, Some, ◌*◌, ◌^◌}
 use Rattle.minix_layout.specs.declared.division.Geometry.{Geometry}
-use Rattle.volume_ops.specs.declared.found.FoundNode.{FoundNode}
 use Rattle.volume_ops.specs.Marks.{no_marks, is_marked, marked}
 use Rattle.volume_ops.specs.Reads.{Reads, Ret, answer, if_ok}
 use Rattle.volume_ops.specs.Visits.{met_next, IsPending, ArePending}

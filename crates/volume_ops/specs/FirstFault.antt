@@ -1,5 +1,5 @@
 -- The faults of a volume in the order of their tests: what is wrong with a part, given what was met before, and which fault is the first.
-use Rattle.std.specs.Prelude.{◌≡◌, ◌≢◌, ℕ, ◌/◌, ◌%◌, ◌<◌, ◌≤◌, ◌⊎◌, ◌↔◌, true, false, List, [], ◌∷◌, ◌++◌, map, Some, Err}
+use Rattle.std.specs.Prelude.{◌≡◌, ◌≢◌, ℕ, ◌/◌, ◌%◌, ◌<◌, ◌≤◌, ◌↔◌, List, [], ◌∷◌, ◌++◌, map, Some, Err}
 use Rattle.std.specs.List.Sorted.{IsStrictlySortedBy}
 use Rattle.std.specs.Map.{keys_of}
 use Rattle.blk_base.specs.Members.{In}
@@ -11,7 +11,7 @@ use Rattle.tree_model.specs.Maps.{at_name, name_cmp}
 use Rattle.volume_ops.specs.Places.{table_block, inode_of_birth}
 use Rattle.volume_ops.specs.Fields.{inode_at, zone_behind, slot_behind, HasName}
 use Rattle.volume_ops.specs.ZonePlaces.{ZonePlace, holder_in, rank}
-use Rattle.volume_ops.specs.Faultless.{IsDirectory, HasZones, zone_at_place, slots_of, Names, IsReached, greatest_size, AreFaultless}
+use Rattle.volume_ops.specs.Faultless.{IsDirectory, HasZones, zone_at_place, slots_of, Names, greatest_size, AreFaultless}
 
 -- the block that holds the number of a zone of an inode
 abbrev pub holder_of : Geometry → List (List ℕ) → ℕ → ZonePlace → ℕ

@@ -19,7 +19,6 @@ use Rattle.tree_model.specs.Maps.{at_number, name_cmp}
 use Rattle.tree_model.specs.Listing.{Gives, IsRooted}
 use Rattle.volume_ops.specs.declared.found.Found.{Found}
 use Rattle.volume_ops.specs.declared.found.Found.TheVariants as found
-use Rattle.volume_ops.specs.declared.found.FoundNode.{FoundNode}
 use Rattle.volume_ops.specs.ReadsLaws.{err-ok, same_Ok}
 use Rattle.volume_ops.specs.Zones.{Fault}
 use Rattle.volume_ops.specs.Walk.{Walked}

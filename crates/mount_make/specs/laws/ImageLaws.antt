@@ -1,6 +1,6 @@
 -- The tree of an image: from both sides, by its metadata, and its faults.
-use Rattle.std.specs.Prelude.{◌≡◌, ℕ, ◌+◌, ◌<◌, ◌≤◌, ◌==◌, ◌↔◌, Bool, true, false, not, ◌&&◌, nat_lt, if◌then◌else◌, List, [], take, length, slice_index_or, Result, Ok, Err, refl}
-use Rattle.std.proofs.Common.{sym, ap, subst, ◌∙◌, inl, inr, ⊎_elim, arith}
+use Rattle.std.specs.Prelude.{◌≡◌, ℕ, ◌<◌, ◌≤◌, ◌==◌, ◌↔◌, Bool, true, false, not, nat_lt, if◌then◌else◌, List, [], take, length, Result, Ok, Err, refl}
+use Rattle.std.proofs.Common.{sym, ap, subst, ◌∙◌, ⊎_elim, arith}
 use Rattle.std.proofs.lemmas.Bool.{cases_lt, and_parts, ltb-true}
 use Rattle.std.proofs.lemmas.List.{get_or-take, get_or_past, length-take}
 use Rattle.blk_base.specs.Block.{filled}
@@ -17,19 +17,19 @@ use Rattle.tree_model.specs.Trees.{AreAlike}
 use Rattle.volume_ops.specs.ReadsLaws.{err-ok, same_Ok}
 use Rattle.volume_ops.specs.Walk.{Walked}
 use Rattle.volume_ops.specs.Zones.{Fault}
-use Rattle.volume_ops.specs.Volume.{VolumeState, disk_of, walked, put_nodes, tree_found, tree_of}
+use Rattle.volume_ops.specs.Volume.{disk_of, walked, put_nodes, tree_found, tree_of}
 use Rattle.volume_ops.specs.Alike.{SameMetadataAtOrNone}
 use Rattle.volume_ops.specs.Defects.{IsDefect}
 use Rattle.volume_ops.specs.FirstFault.{IsFirstFault}
-use Rattle.volume_ops.specs.Metadata.{IsMetadata, of_volume, AgreeOnMetadata}
+use Rattle.volume_ops.specs.Metadata.{of_volume, AgreeOnMetadata}
 use Rattle.volume_ops.specs.VolumeTrees.{IsVolumeTree}
 use Rattle.volume_ops.specs.laws.WalkTests.{walked_first}
 use Rattle.volume_ops.specs.laws.TreeUnique.{walked_tree, tree_walked, one_tree}
 use Rattle.volume_ops.specs.laws.SameWalks.{same_trees}
 use Rattle.mount_make.specs.declared.fault.ImageFault.{ImageFault}
 use Rattle.mount_make.specs.declared.fault.ImageFault.TheVariants as image
-use Rattle.mount_make.specs.Images.{Told, image_fault, is_journal, has_journal, without_journal, whole_volume, by_super, divided, by_walk, by_geometry, mounted, tree_after, image_tree}
-use Rattle.mount_make.specs.ImageTrees.{volume_in, IsImageTree, IsImageMetadata, in_volume, behind, AgreeOnImage}
+use Rattle.mount_make.specs.Images.{Told, image_fault, has_journal, whole_volume, by_super, divided, by_walk, by_geometry, mounted, tree_after, image_tree}
+use Rattle.mount_make.specs.ImageTrees.{volume_in, IsImageTree, in_volume, behind, AgreeOnImage}
 
 -- ---- an image that is divided has an inode
 

@@ -1,17 +1,15 @@
 -- The zones of the blocks of files: where they lie, and what they depend on.
-use Rattle.std.specs.Prelude.{◌≡◌, ◌≢◌, ℕ, ◌+◌, ◌-◌, ◌*◌, ◌/◌, ◌%◌, ◌<◌, ◌≤◌, ◌==◌, ◌⊎◌, ◌↔◌, Bool, true, false, nat_lt, if◌then◌else◌, List, slice_index, Option, Some, None, option_map, Result, Ok, refl}
+use Rattle.std.specs.Prelude.{◌≡◌, ◌≢◌, ℕ, ◌+◌, ◌-◌, ◌*◌, ◌/◌, ◌%◌, ◌<◌, ◌≤◌, ◌==◌, ◌⊎◌, ◌↔◌, Bool, true, false, nat_lt, if◌then◌else◌, List, slice_index, Option, Some, None, option_map, Ok, refl}
 use Rattle.std.proofs.Common.{sym, ap, subst, ◌∙◌, inl, inr, ⊎_elim, arith}
-use Rattle.std.proofs.lemmas.Bool.{true≢false, cases_Bool, cases_eq, cases_lt, eq-eqb, eqb-true, eqb-false, ne_eqb, lt-ltb, le-ltb}
+use Rattle.std.proofs.lemmas.Bool.{cases_eq, cases_lt, eq-eqb, eqb-true, ne_eqb, lt-ltb}
 use Rattle.std.proofs.lemmas.Option.{none-some, same_Some}
-use Rattle.blk_base.specs.Members.{In}
 use Rattle.byte_fields.specs.Fields.{record_at}
 use Rattle.minix_layout.specs.declared.division.Geometry.{Geometry}
 use Rattle.minix_layout.specs.declared.inode.Inode.{Inode}
 use Rattle.minix_layout.specs.declared.slot.Slot.{Slot}
-use Rattle.minix_layout.specs.declared.fault.LayoutFault.{LayoutFault}
 use Rattle.minix_layout.specs.Geometry.{IsSound}
 use Rattle.minix_layout.specs.Slots.{slot_of}
-use Rattle.inode_ops.specs.Map.{zone_at, entry_behind}
+use Rattle.inode_ops.specs.Map.{zone_at}
 use Rattle.inode_ops.specs.MapLaws.{zone_at-direct, zone_at-past, zone_at-indirect, zone_at-no_indirect, zone_at-double, zone_at-no_double, zone_at-no_inner}
 use Rattle.tree_model.specs.declared.node.Node.{Node}
 use Rattle.tree_model.specs.declared.node.Node.TheVariants as nodes
@@ -22,11 +20,11 @@ use Rattle.tree_model.specs.Listing.{Gives, IsLedTo, at_root, by_name}
 use Rattle.volume_ops.specs.Places.{zone_number, table_block, inode_in_block, is_directory, is_file, birth_of, inode_of_birth}
 use Rattle.volume_ops.specs.Reads.{AgreeOn}
 use Rattle.volume_ops.specs.Volume.{disk_of, metadata}
-use Rattle.volume_ops.specs.Fields.{inode_at, zone_behind, slot_behind, IsTreeOf}
+use Rattle.volume_ops.specs.Fields.{inode_at, zone_behind, slot_behind}
 use Rattle.volume_ops.specs.SlotsLaws.{inode_of_birth_of}
 use Rattle.volume_ops.specs.ZonePlaces.{ZonePlace, block, indirect, double, inner, entry_of}
-use Rattle.volume_ops.specs.Faultless.{IsDirectory, IsFile, HasZones, zone_at_place, IsEntryAt, Names, IsReached, at_root as reached_root, by_name as reached_by, IsFaultless}
-use Rattle.volume_ops.specs.Metadata.{table_end, HoldsNumbers, IsMetadata, of_volume, of_numbers, of_directory, AgreeOnMetadata, zone_of_block}
+use Rattle.volume_ops.specs.Faultless.{IsDirectory, IsFile, HasZones, zone_at_place, Names, IsReached, at_root as reached_root, by_name as reached_by, IsFaultless}
+use Rattle.volume_ops.specs.Metadata.{HoldsNumbers, IsMetadata, of_volume, of_numbers, of_directory, AgreeOnMetadata, zone_of_block}
 use Rattle.volume_ops.specs.VolumeTrees.{IsVolumeTree}
 use Rattle.volume_ops.specs.laws.VisitTests.{slot_used}
 use Rattle.volume_ops.specs.laws.MetadataReads.{table_is, walk_reads_metadata}
@@ -42,19 +40,22 @@ module _ (g : Geometry) (blocks : List (List ℕ)) (tree : List (ℕ × Node)) (
       (place : ℕ) × (slot : Slot) × Names g blocks (inode_of_birth parent) place slot × (birth_of slot.inode ≡ birth)
   named_by parent birth name gives =
       let says = h.fields.each parent (nodes.Directory gives.directory) gives.stands in
-      let x = (says.names name birth).0 gives.named in
-      (x.place, x.slot,
-       record { directory = says.kind; entry = record { below = x.below; stands = x.stands; no_dot = subst (λ name. is_dot name ≡ false) (sym x.name_is) x.no_dot } },
-       x.birth_is)
+      let x = (says.names name birth).0 gives.named in (
+        x.place,
+        x.slot,
+        record { directory = says.kind; entry = record { below = x.below; stands = x.stands; no_dot = subst (λ name. is_dot name ≡ false) (sym x.name_is) x.no_dot } },
+        x.birth_is,
+      )
 
   led_reached : {birth : ℕ} → IsLedTo tree birth → IsReached g blocks (inode_of_birth birth) × (birth_of (inode_of_birth birth) ≡ birth)
   led_reached at_root = (reached_root, refl)
   led_reached (by_name {parent} {birth} {name} led gives) =
       let x = named_by parent birth name gives in
       let used : 0 < x.1.inode = slot_used blocks (inode_at g blocks (inode_of_birth parent)) x.0 x.1 x.2.entry in
-      let same : x.1.inode ≡ inode_of_birth birth = sym (inode_of_birth_of x.1.inode used) ∙ ap inode_of_birth x.3 in
-      (subst (λ k. IsReached g blocks k) same (reached_by (led_reached led).0 x.2),
-       subst (λ birth. birth_of (inode_of_birth birth) ≡ birth) x.3 (birth_back x.1.inode))
+      let same : x.1.inode ≡ inode_of_birth birth = sym (inode_of_birth_of x.1.inode used) ∙ ap inode_of_birth x.3 in (
+        subst (λ k. IsReached g blocks k) same (reached_by (led_reached led).0 x.2),
+        subst (λ birth. birth_of (inode_of_birth birth) ≡ birth) x.3 (birth_back x.1.inode),
+      )
 
   module _ (birth : ℕ) (f : File) (stands : at_number tree birth ≡ Some (nodes.File f)) where
     file_reached : IsReached g blocks (inode_of_birth birth)
@@ -234,10 +235,10 @@ module _ (g : Geometry) (blocks other : List (List ℕ)) (some_inode : 0 < g.ino
             slot_behind other (inode_at g other k) place ≡ slot_behind blocks (inode_at g blocks k) place
         by z is (inl none) = (let there = same_zone k r (inl d) (place / 64) ∙ none in rw (eq-eqb _ 0 there, eq-eqb _ 0 none) refl)
         by z is (inr some) = (
-          let zones = same_zone k r (inl d) (place / 64) in
-          let body = same (zone_behind blocks (inode_at g blocks k) (place / 64)) (of_directory k (place / 64) r d some refl) in
-          ap (λ z. if z == 0 then Ok None else slot_of (record_at 16 (place % 64) (disk_of other z))) zones
-          ∙ ap (λ body. if zone_behind blocks (inode_at g blocks k) (place / 64) == 0 then Ok None else slot_of (record_at 16 (place % 64) body)) body)
+            let zones = same_zone k r (inl d) (place / 64) in
+            let body = same (zone_behind blocks (inode_at g blocks k) (place / 64)) (of_directory k (place / 64) r d some refl) in
+            ap (λ z. if z == 0 then Ok None else slot_of (record_at 16 (place % 64) (disk_of other z))) zones
+            ∙ ap (λ body. if zone_behind blocks (inode_at g blocks k) (place / 64) == 0 then Ok None else slot_of (record_at 16 (place % 64) body)) body)
 
     names_there : (k place : ℕ) (slot : Slot) → IsReached g blocks k → Names g blocks k place slot → Names g other k place slot
     names_there k place slot r m =

@@ -1,8 +1,8 @@
 -- The walk reads metadata alone.
-use Rattle.std.specs.Prelude.{◌≡◌, ◌≢◌, ℕ, zero, suc, ◌+◌, ◌-◌, ◌*◌, ◌/◌, ◌%◌, ◌<◌, ◌≤◌, ◌==◌, ◌⊎◌, ◌||◌, min, Bool, true, false, nat_lt, is_some, if◌then◌else◌, List, [], ◌∷◌, ◌++◌, length, take, slice_index, Option, Some, None, Result, Ok, Err, refl}
+use Rattle.std.specs.Prelude.{◌≡◌, ◌≢◌, ℕ, zero, suc, ◌+◌, ◌-◌, ◌*◌, ◌/◌, ◌<◌, ◌≤◌, min, Bool, true, false, nat_lt, if◌then◌else◌, List, [], ◌∷◌, ◌++◌, length, take, slice_index, Option, Some, None, Result, Ok, Err, refl}
 use Rattle.std.specs.List.{range_with_len}
-use Rattle.std.proofs.Common.{sym, ap, subst, ◌∙◌, inl, inr, ⊎_elim, arith}
-use Rattle.std.proofs.lemmas.Bool.{true≢false, cases_Bool, cases_eq, cases_lt, eq-eqb, ne_eqb, lt-ltb, or_parts, ltb-false}
+use Rattle.std.proofs.Common.{sym, subst, ◌∙◌, inl, inr, ⊎_elim, arith}
+use Rattle.std.proofs.lemmas.Bool.{true≢false, cases_eq, eq-eqb, ne_eqb, lt-ltb, or_parts, ltb-false}
 use Rattle.std.proofs.lemmas.Grind.{div_ceil_times}
 use Rattle.byte_fields.specs.Fields.{record_at}
 use Rattle.blk_base.specs.Members.{In, In-append_cases}
@@ -12,23 +12,21 @@ use Rattle.minix_layout.specs.declared.slot.Slot.{Slot}
 use Rattle.minix_layout.specs.declared.fault.LayoutFault.{LayoutFault}
 use Rattle.minix_layout.specs.declared.fault.LayoutFault.TheVariants.{BadInode, BadSlot}
 use Rattle.minix_layout.specs.Slots.{slot_of}
-use Rattle.minix_layout.specs.Words.{inode_blocks}
-use Rattle.inode_ops.specs.Map.{entry_behind}
 use Rattle.tree_model.specs.Paths.{is_dot}
 use Rattle.volume_ops.specs.declared.found.Mapped.{Mapped}
-use Rattle.volume_ops.specs.Reads.{Reads, Ret, Read, answer, blocks_read, if_ok, go_on, AgreeOn}
+use Rattle.volume_ops.specs.Reads.{Reads, Ret, Read, answer, blocks_read, if_ok, go_on}
 use Rattle.volume_ops.specs.ReadsLaws.{blocks_read-and_then, err-ok}
-use Rattle.volume_ops.specs.Places.{zone_number, zone_numbers, table_block, inode_in_block, is_directory, is_file}
+use Rattle.volume_ops.specs.Places.{zone_numbers, table_block, inode_in_block, is_directory, is_file}
 use Rattle.volume_ops.specs.Marks.{is_marked}
 use Rattle.volume_ops.specs.Volume.{disk_of, metadata}
-use Rattle.volume_ops.specs.Fields.{inode_at, zone_behind}
+use Rattle.volume_ops.specs.Fields.{inode_at}
 use Rattle.volume_ops.specs.Zones.{Fault, ZoneScan, take_zone, take_blocks, take_numbers, take_indirect, take_indirects, take_double, scan_zones}
-use Rattle.volume_ops.specs.ZonesLaws.{length-zone_numbers, zone_numbers_at, IsMapTo, scan_zones-map}
+use Rattle.volume_ops.specs.ZonesLaws.{length-zone_numbers, zone_numbers_at, scan_zones-map}
 use Rattle.volume_ops.specs.Slots.{SlotScan, is_bad_entry, note_name, scan_entry, scan_used, scan_slot, scan_places, scan_block, scan_slots}
 use Rattle.volume_ops.specs.Walk.{WalkState, Walked, found_in, Pending, Visit, is_bad_inode, visit_file, visit_directory, visit_other, visit, walk_through, walk, at_start, root, walk_volume}
-use Rattle.volume_ops.specs.ZonePlaces.{ZonePlace, block, indirect, double, inner, zone_in}
-use Rattle.volume_ops.specs.Faultless.{IsDirectory, HasZones, zone_at_place, IsReached}
-use Rattle.volume_ops.specs.Metadata.{table_end, HoldsNumbers, IsMetadata, of_volume, of_numbers, of_directory}
+use Rattle.volume_ops.specs.ZonePlaces.{ZonePlace, indirect, double, inner, zone_in}
+use Rattle.volume_ops.specs.Faultless.{IsDirectory, HasZones}
+use Rattle.volume_ops.specs.Metadata.{HoldsNumbers, IsMetadata, of_volume, of_numbers, of_directory}
 use Rattle.volume_ops.specs.laws.SoFar.{IsSoFar}
 use Rattle.volume_ops.specs.laws.VisitTests as visit_tests
 use Rattle.volume_ops.specs.laws.VisitTests.{numbers_of, visit_tested, nine}

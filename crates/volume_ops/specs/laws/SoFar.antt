@@ -1,45 +1,19 @@
 -- The walk so far, while it found no fault: the inodes that were met have none, and the marks are what they have and name.
-use Rattle.std.specs.Prelude.{◌≡◌, ◌≢◌, ℕ, suc, ◌+◌, ◌*◌, ◌/◌, ◌%◌, ◌<◌, ◌≤◌, ◌==◌, ◌⊎◌, ◌↔◌, Bool, true, false, not, ◌&&◌, ◌||◌, nat_lt, nat_le, if◌then◌else◌, List, [], ◌∷◌, ◌++◌, map, length, Option, Some, None, Result, Ok, Err, refl}
-use Rattle.std.proofs.Common.{sym, ap, subst, ◌∙◌, inl, inr, ⊎_elim, arith}
-use Rattle.std.proofs.lemmas.Bool.{true≢false, cases_Bool, cases_eq, cases_lt, eq-eqb, ne_eqb, eqb-true, eqb-false, or_parts, or_cases, and_parts, and_cases, not-true, not-false, ltb-true, ltb-false, leb-true}
-use Rattle.std.proofs.lemmas.Option.{none-some, same_Some}
-use Rattle.std.proofs.lemmas.List.FromFn.{length-map-range_with_len}
-use Rattle.byte_fields.specs.Fields.{record_at}
-use Rattle.blk_base.specs.Members.{In, In-push, In-push_left, In-push_cases, In-append_left, In-append_right, In-append_cases, In-map, map-In}
+use Rattle.std.specs.Prelude.{◌≡◌, ◌≢◌, ℕ, ◌+◌, ◌%◌, ◌<◌, ◌≤◌, ◌⊎◌, Bool, true, false, List, [], ◌∷◌, ◌++◌, length, Option, Ok, refl}
+use Rattle.std.proofs.Common.{sym, subst, ◌∙◌, inl, inr, ⊎_elim, arith}
+use Rattle.std.proofs.lemmas.Bool.{true≢false, cases_Bool, cases_eq, cases_lt}
+use Rattle.blk_base.specs.Members.{In, In-push, In-push_left, In-push_cases, In-append_left, In-append_right, In-append_cases}
 use Rattle.minix_layout.specs.declared.division.Geometry.{Geometry}
-use Rattle.minix_layout.specs.declared.inode.Inode.{Inode}
 use Rattle.minix_layout.specs.declared.slot.Slot.{Slot}
-use Rattle.minix_layout.specs.declared.fault.LayoutFault.{LayoutFault}
-use Rattle.minix_layout.specs.declared.fault.LayoutFault.TheVariants.{BadInode, BadZone, BadSlot}
-use Rattle.minix_layout.specs.Inodes.{zones_of, zone_of}
-use Rattle.minix_layout.specs.Slots.{slot_of}
-use Rattle.tree_model.specs.Maps.{at_name}
-use Rattle.tree_model.specs.MapsLaws.{at_name-In}
-use Rattle.volume_ops.specs.declared.found.Mapped.{Mapped}
-use Rattle.volume_ops.specs.declared.found.Found.{Found}
-use Rattle.volume_ops.specs.declared.found.Found.TheVariants as found
 use Rattle.volume_ops.specs.declared.found.FoundNode.{FoundNode}
-use Rattle.volume_ops.specs.Reads.{Reads, Ret, Read, answer, if_ok, go_on}
-use Rattle.volume_ops.specs.ReadsLaws.{answer-and_then, err-ok, same_Ok}
-use Rattle.volume_ops.specs.Places.{table_block, inode_in_block, is_directory, is_file, birth_of, inode_of_birth}
+use Rattle.volume_ops.specs.Places.{is_directory}
 use Rattle.volume_ops.specs.Marks.{is_marked, marked}
 use Rattle.volume_ops.specs.MarksLaws.{is_marked_same, is_marked_kept, is_marked_new, length-marked}
-use Rattle.volume_ops.specs.Volume.{disk_of}
-use Rattle.volume_ops.specs.Fields.{inode_at, zone_behind, slot_behind, HasName}
-use Rattle.volume_ops.specs.Zones.{Fault, ZoneScan, is_bad_zone, scan_zones}
-use Rattle.volume_ops.specs.ZonesLaws.{IsMapTo, scan_zones-map}
-use Rattle.volume_ops.specs.Slots.{SlotScan, scan_slots}
-use Rattle.volume_ops.specs.SlotsLaws.{slot_of-used, inode_of_birth_of}
-use Rattle.volume_ops.specs.Rising.{IsRising}
-use Rattle.volume_ops.specs.RisingLaws.{scan_rises}
-use Rattle.volume_ops.specs.Walk.{WalkState, Pending, Visit, pending_in, met_node, is_bad_inode, largest_size, visit_file, visit_directory, visit_other, visit_inode, visit}
-use Rattle.volume_ops.specs.ZonePlaces.{ZonePlace, rank}
-use Rattle.volume_ops.specs.Faultless.{IsDirectory, IsFile, HasZones, zone_at_place, slots_of, IsEntryAt, Names, IsReached, at_root, by_name, greatest_size, AreFaultless}
-use Rattle.volume_ops.specs.FirstFault.{holder_of, slot_zone, IsBadInode, root_is_none, size_too_great, part_of_a_slot, IsBadZone, too_low, too_high, had_by, had_here, IsBadSlot, no_name, no_inode, name_before, names_root, named_by, named_here, AreNamed, by_directory, by_none, AreMet, next, IsFirstHere, of_inode, of_zone, of_slot}
-use Rattle.volume_ops.specs.laws.ZoneTests as zone_tests
-use Rattle.volume_ops.specs.laws.ZoneTests.{AreTaken, zones_scan, all_ranked}
-use Rattle.volume_ops.specs.laws.SlotTests as slot_tests
-use Rattle.volume_ops.specs.laws.SlotTests.{AreScanned, slots_scan, none_scanned}
+use Rattle.volume_ops.specs.Fields.{inode_at, slot_behind}
+use Rattle.volume_ops.specs.Walk.{WalkState}
+use Rattle.volume_ops.specs.ZonePlaces.{ZonePlace}
+use Rattle.volume_ops.specs.Faultless.{IsDirectory, HasZones, zone_at_place, slots_of, Names, IsReached, by_name, greatest_size, AreFaultless}
+use Rattle.volume_ops.specs.FirstFault.{IsBadInode, root_is_none, size_too_great, part_of_a_slot, AreNamed, AreMet, next}
 
 -- the walk so far: the inodes `met` have no fault, what is marked is what they have and name, and `ahead` is to be met
 pub record IsSoFar (g : Geometry) (blocks : List (List ℕ)) (met ahead : List ℕ) (w : WalkState) : Type 0 where

@@ -1,6 +1,6 @@
 -- A volume has one tree, the one that its walk gives.
-use Rattle.std.specs.Prelude.{◌≡◌, ◌≢◌, ℕ, ◌+◌, ◌/◌, ◌<◌, ◌≤◌, ◌⊎◌, ◌↔◌, Bool, true, false, List, [], ◌∷◌, map, Option, Some, None, Result, Ok, Err, refl}
-use Rattle.std.proofs.Common.{Less, Equal, Greater, sym, ap, subst, ◌∙◌, inl, inr, ⊎_elim, arith}
+use Rattle.std.specs.Prelude.{◌≡◌, ℕ, ◌+◌, ◌/◌, ◌<◌, true, false, List, [], ◌∷◌, Option, Some, None, Result, Ok, Err, refl}
+use Rattle.std.proofs.Common.{Less, Equal, Greater, sym, ap, subst, ◌∙◌, ⊎_elim, arith}
 use Rattle.std.specs.declared.cmp.Ordering.{Ordering}
 use Rattle.std.specs.Ordering.{nat_cmp, is_eq, ordering_reverse}
 use Rattle.std.specs.Cmp.{IsTotalOrder, nat_cmp_is}
@@ -14,16 +14,14 @@ use Rattle.std.proofs.lemmas.Option.{none-some, same_Some}
 use Rattle.std.proofs.lemmas.Map.{lookup-none}
 use Rattle.std.proofs.lemmas.Map.Entries.{none_below_head, lookup_head, lookup_tail}
 use Rattle.std.proofs.lemmas.Map.Keys.{sorted_head, sorted_tail}
-use Rattle.blk_base.specs.Members.{In}
 use Rattle.minix_layout.specs.declared.division.Geometry.{Geometry}
 use Rattle.minix_layout.specs.declared.inode.Inode.{Inode}
 use Rattle.tree_model.specs.declared.node.Node.{Node}
 use Rattle.tree_model.specs.declared.node.Node.TheVariants as nodes
-use Rattle.tree_model.specs.declared.node.Directory.{Directory}
 use Rattle.tree_model.specs.declared.node.File.{File}
 use Rattle.tree_model.specs.Maps.{at_number, at_name, name_cmp}
 use Rattle.tree_model.specs.MapsLaws.{same_pair, number_here, number_same, name_here, name_same}
-use Rattle.tree_model.specs.Listing.{Gives, IsLedTo, at_root, by_name, IsRooted}
+use Rattle.tree_model.specs.Listing.{Gives, IsLedTo, at_root, by_name}
 use Rattle.volume_ops.specs.declared.found.Mapped.{Mapped}
 use Rattle.volume_ops.specs.declared.found.Found.{Found}
 use Rattle.volume_ops.specs.declared.found.Found.TheVariants as found
@@ -31,7 +29,7 @@ use Rattle.volume_ops.specs.declared.found.FoundNode.{FoundNode}
 use Rattle.volume_ops.specs.ReadsLaws.{err-ok, same_Ok}
 use Rattle.volume_ops.specs.Places.{is_directory, is_file, inode_of_birth}
 use Rattle.volume_ops.specs.Volume.{walked, bodies_of, node_of, put_nodes, tree_found, tree_of}
-use Rattle.volume_ops.specs.Fields.{inode_at, IsNodeOf, IsBelow, IsTreeOf}
+use Rattle.volume_ops.specs.Fields.{inode_at, IsNodeOf, IsBelow}
 use Rattle.volume_ops.specs.Zones.{Fault}
 use Rattle.volume_ops.specs.Walk.{Walked}
 use Rattle.volume_ops.specs.Rising.{RiseWithin, HasRising}
@@ -39,7 +37,6 @@ use Rattle.volume_ops.specs.RisingLaws.{walked_rises}
 use Rattle.volume_ops.specs.TreeLaws.{was_found, tree_of-fields}
 use Rattle.volume_ops.specs.RootedLaws.{tree_of-rooted}
 use Rattle.blk_base.specs.Members.{All-In}
-use Rattle.volume_ops.specs.Faultless.{IsFaultless}
 use Rattle.volume_ops.specs.VolumeTrees.{IsVolumeTree}
 use Rattle.volume_ops.specs.laws.WalkTests.{walked_faultless, faultless_walked}
 

@@ -1,11 +1,11 @@
 -- What the visit of an inode tests, where the walk so far found no fault: all, or all up to the first fault.
-use Rattle.std.specs.Prelude.{◌≡◌, ◌≢◌, ℕ, suc, ◌+◌, ◌-◌, ◌*◌, ◌/◌, ◌%◌, ◌<◌, ◌≤◌, ◌==◌, ◌⊎◌, ◌↔◌, Bool, true, false, not, ◌&&◌, ◌||◌, nat_lt, nat_le, if◌then◌else◌, List, [], ◌∷◌, ◌++◌, map, length, Option, Some, None, Result, Ok, Err, IfOk, refl}
+use Rattle.std.specs.Prelude.{◌≡◌, ◌≢◌, ℕ, ◌+◌, ◌-◌, ◌/◌, ◌%◌, ◌<◌, ◌≤◌, ◌==◌, Bool, true, false, not, ◌&&◌, ◌||◌, nat_lt, nat_le, if◌then◌else◌, List, [], ◌∷◌, ◌++◌, map, length, Option, Some, None, Result, Ok, Err, IfOk, refl}
 use Rattle.std.proofs.Common.{sym, ap, subst, ◌∙◌, inl, inr, ⊎_elim, arith}
-use Rattle.std.proofs.lemmas.Bool.{true≢false, cases_Bool, cases_eq, cases_lt, eq-eqb, ne_eqb, eqb-true, eqb-false, or_parts, or_cases, and_parts, and_cases, not-true, not-false, ltb-true, ltb-false, leb-true}
-use Rattle.std.proofs.lemmas.Option.{none-some, same_Some}
+use Rattle.std.proofs.lemmas.Bool.{true≢false, cases_lt, eq-eqb, eqb-true, eqb-false, or_parts, or_cases, and_parts, and_cases, not-true, not-false, ltb-true, ltb-false, leb-true}
+use Rattle.std.proofs.lemmas.Option.{none-some}
 use Rattle.std.proofs.lemmas.List.FromFn.{length-map-range_with_len}
 use Rattle.byte_fields.specs.Fields.{record_at}
-use Rattle.blk_base.specs.Members.{In, In-push, In-push_left, In-push_cases, In-append_left, In-append_right, In-append_cases, In-map, map-In}
+use Rattle.blk_base.specs.Members.{In, In-map, map-In}
 use Rattle.minix_layout.specs.declared.division.Geometry.{Geometry}
 use Rattle.minix_layout.specs.declared.inode.Inode.{Inode}
 use Rattle.minix_layout.specs.declared.slot.Slot.{Slot}
@@ -16,32 +16,27 @@ use Rattle.minix_layout.specs.Slots.{slot_of}
 use Rattle.tree_model.specs.Maps.{at_name}
 use Rattle.tree_model.specs.MapsLaws.{at_name-In}
 use Rattle.tree_model.specs.Paths.{is_dot}
-use Rattle.volume_ops.specs.declared.found.Mapped.{Mapped}
-use Rattle.volume_ops.specs.declared.found.Found.{Found}
 use Rattle.volume_ops.specs.declared.found.Found.TheVariants as found
-use Rattle.volume_ops.specs.declared.found.FoundNode.{FoundNode}
-use Rattle.volume_ops.specs.Reads.{Reads, Ret, Read, answer, if_ok, go_on}
+use Rattle.volume_ops.specs.Reads.{Reads, Ret, answer, if_ok, go_on}
 use Rattle.volume_ops.specs.ReadsLaws.{answer-and_then, err-ok, same_Ok}
-use Rattle.volume_ops.specs.Places.{table_block, inode_in_block, is_directory, is_file, birth_of, inode_of_birth}
+use Rattle.volume_ops.specs.Places.{table_block, is_directory, is_file, birth_of, inode_of_birth}
 use Rattle.volume_ops.specs.Marks.{is_marked, marked}
-use Rattle.volume_ops.specs.MarksLaws.{is_marked_same, is_marked_kept, is_marked_new, length-marked}
 use Rattle.volume_ops.specs.Volume.{disk_of}
-use Rattle.volume_ops.specs.Fields.{inode_at, zone_behind, slot_behind, HasName}
+use Rattle.volume_ops.specs.Fields.{inode_at, zone_behind, HasName}
 use Rattle.volume_ops.specs.Zones.{Fault, ZoneScan, is_bad_zone, scan_zones}
-use Rattle.volume_ops.specs.ZonesLaws.{IsMapTo, scan_zones-map}
+use Rattle.volume_ops.specs.ZonesLaws.{scan_zones-map}
 use Rattle.volume_ops.specs.Slots.{SlotScan, scan_slots}
 use Rattle.volume_ops.specs.SlotsLaws.{slot_of-used, inode_of_birth_of}
 use Rattle.volume_ops.specs.Rising.{IsRising}
 use Rattle.volume_ops.specs.RisingLaws.{scan_rises}
-use Rattle.volume_ops.specs.Walk.{WalkState, Pending, Visit, pending_in, met_node, is_bad_inode, largest_size, visit_file, visit_directory, visit_other, visit_inode, visit}
+use Rattle.volume_ops.specs.Walk.{WalkState, Pending, Visit, pending_in, met_node, is_bad_inode, largest_size, visit_file, visit_directory, visit_other, visit}
 use Rattle.volume_ops.specs.ZonePlaces.{ZonePlace, rank}
-use Rattle.volume_ops.specs.Faultless.{IsDirectory, IsFile, HasZones, zone_at_place, slots_of, IsEntryAt, Names, IsReached, at_root, by_name, greatest_size, AreFaultless}
-use Rattle.volume_ops.specs.FirstFault.{holder_of, slot_zone, IsBadInode, root_is_none, size_too_great, part_of_a_slot, IsBadZone, too_low, too_high, had_by, had_here, IsBadSlot, no_name, no_inode, name_before, names_root, named_by, named_here, AreNamed, by_directory, by_none, AreMet, next, IsFirstHere, of_inode, of_zone, of_slot}
+use Rattle.volume_ops.specs.Faultless.{IsDirectory, IsFile, HasZones, zone_at_place, slots_of, IsEntryAt, Names}
+use Rattle.volume_ops.specs.FirstFault.{holder_of, slot_zone, IsBadInode, root_is_none, size_too_great, part_of_a_slot, IsBadZone, too_low, too_high, had_by, had_here, IsBadSlot, no_name, no_inode, name_before, names_root, named_by, named_here, by_directory, by_none, IsFirstHere, of_inode, of_zone, of_slot}
 use Rattle.volume_ops.specs.laws.ZoneTests as zone_tests
 use Rattle.volume_ops.specs.laws.ZoneTests.{AreTaken, zones_scan, all_ranked}
 use Rattle.volume_ops.specs.laws.SlotTests as slot_tests
 use Rattle.volume_ops.specs.laws.SlotTests.{AreScanned, slots_scan, none_scanned}
-
 use Rattle.volume_ops.specs.laws.SoFar.{IsSoFar, AddsZones, AddsNames, further}
 
 -- ---- an inode by itself
@@ -314,11 +309,12 @@ module _ (g : Geometry) (blocks : List (List ℕ)) (met ahead : List ℕ) (w : W
     directory_by : IsDirectory g blocks n → (z : ZoneScan) → Taken 263177 z.met → (r : Result SlotScan Fault) → slot_tests.Gives g blocks j w.named 16810432 r →
         Gives (answer disk (go_on (on_slots z) r))
     directory_by d z t (Err fault) stopped = slot_fault d z.met fault stopped.0 t stopped.1 stopped.2
-    directory_by d z t (Ok s) scanned =
-        (subst (λ ks. IsSoFar g blocks (met ++ n ∷ []) (ks ++ ahead)
-        (met_node w n z.met s.named (found.Directory (record { parent = e.parent; slots = j.size / 16; names = s.names })))) (numbers_in (birth_of n) s.names)
-        (further g blocks met ahead w n h new good z.met s.named (map (λ (e : List ℕ × ℕ). inode_of_birth e.1) s.names) _ (zones_added (inl d) z.met t) (names_added d s scanned)),
-         refl)
+    directory_by d z t (Ok s) scanned = (
+      subst (λ ks. IsSoFar g blocks (met ++ n ∷ []) (ks ++ ahead)
+          (met_node w n z.met s.named (found.Directory (record { parent = e.parent; slots = j.size / 16; names = s.names })))) (numbers_in (birth_of n) s.names)
+          (further g blocks met ahead w n h new good z.met s.named (map (λ (e : List ℕ × ℕ). inode_of_birth e.1) s.names) _ (zones_added (inl d) z.met t) (names_added d s scanned)),
+      refl,
+    )
 
     slots_tested : (z : ZoneScan) → answer disk scan ≡ Ok z → slot_tests.Gives g blocks j w.named 16810432 (answer disk (slot_scan z))
     slots_tested z is =

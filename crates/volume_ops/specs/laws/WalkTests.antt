@@ -1,21 +1,19 @@
 -- What the walk through a volume finds: no fault, and all inodes that names lead to, or the first fault.
-use Rattle.std.specs.Prelude.{◌≡◌, ◌≢◌, ℕ, zero, suc, ◌+◌, ◌<◌, ◌≤◌, ◌⊎◌, ◌↔◌, Bool, true, false, if◌then◌else◌, List, [], ◌∷◌, ◌++◌, map, length, Result, Ok, Err, refl}
+use Rattle.std.specs.Prelude.{◌≡◌, ℕ, zero, suc, ◌+◌, ◌<◌, ◌≤◌, ◌⊎◌, ◌↔◌, Bool, true, false, if◌then◌else◌, List, [], ◌∷◌, ◌++◌, Result, Ok, Err, refl}
 use Rattle.std.proofs.Common.{sym, ap, subst, ◌∙◌, inl, inr, ⊎_elim, arith}
 use Rattle.std.proofs.lemmas.Bool.{true≢false, cases_Bool}
 use Rattle.blk_base.specs.Members.{In, In-push, In-push_left, In-append_right}
 use Rattle.minix_layout.specs.declared.division.Geometry.{Geometry}
-use Rattle.minix_layout.specs.declared.slot.Slot.{Slot}
 use Rattle.minix_layout.specs.declared.fault.LayoutFault.{LayoutFault}
 use Rattle.minix_layout.specs.declared.fault.LayoutFault.TheVariants.{BadZone, BadSlot}
-use Rattle.volume_ops.specs.declared.found.FoundNode.{FoundNode}
 use Rattle.volume_ops.specs.Reads.{Reads, Ret, answer, if_ok, go_on}
 use Rattle.volume_ops.specs.ReadsLaws.{answer-and_then, err-ok, same_Ok}
-use Rattle.volume_ops.specs.Marks.{no_marks, is_marked, marked, unmet}
+use Rattle.volume_ops.specs.Marks.{no_marks, is_marked, unmet}
 use Rattle.volume_ops.specs.MarksLaws.{is_marked_same, is_marked_new, length-marked, no_mark, length-no_marks, unmet-no_marks, unmet-marked}
 use Rattle.volume_ops.specs.Volume.{disk_of, walked}
 use Rattle.volume_ops.specs.Zones.{Fault}
 use Rattle.volume_ops.specs.Walk.{WalkState, Walked, found_in, Pending, Visit, visit, walk_through, walk, at_start, root, walk_volume}
-use Rattle.volume_ops.specs.Faultless.{IsDirectory, Names, IsUsed, IsReached, at_root, by_name, AreFaultless, IsFaultless}
+use Rattle.volume_ops.specs.Faultless.{IsDirectory, IsUsed, IsReached, at_root, by_name, AreFaultless, IsFaultless}
 use Rattle.volume_ops.specs.ZonePlaces.{rank}
 use Rattle.volume_ops.specs.FirstFault.{holder_of, slot_zone, IsBadInode, root_is_none, size_too_great, part_of_a_slot, IsBadZone, too_low, too_high, had_by, had_here, IsBadSlot, no_name, no_inode, name_before, names_root, named_by, named_here, AreMet, again, next as next_met, at_start as met_none, IsFirstFault, IsFirstHere, of_inode, of_zone, of_slot}
 use Rattle.volume_ops.specs.Defects.{IsDefect, bad_inode, zone_outside, zone_twice, slot_without_name, slot_without_inode, name_twice, root_named, directory_twice}

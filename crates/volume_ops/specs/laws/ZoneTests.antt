@@ -1,21 +1,19 @@
 -- What the scan of the zones of an inode tests: each number that is not 0, in order, or all up to the first that is bad.
-use Rattle.std.specs.Prelude.{◌≡◌, ◌≢◌, ℕ, zero, suc, ◌+◌, ◌-◌, ◌*◌, ◌/◌, ◌%◌, ◌<◌, ◌≤◌, ◌==◌, ◌⊎◌, Bool, true, false, nat_lt, nat_le, ◌||◌, if◌then◌else◌, List, [], ◌∷◌, ◌++◌, length, take, slice_index, Result, Ok, Err, refl}
+use Rattle.std.specs.Prelude.{◌≡◌, ◌≢◌, ℕ, suc, ◌+◌, ◌-◌, ◌*◌, ◌/◌, ◌%◌, ◌<◌, ◌≤◌, ◌⊎◌, Bool, true, false, nat_lt, nat_le, ◌||◌, if◌then◌else◌, List, [], ◌∷◌, ◌++◌, length, take, slice_index, Result, Ok, Err, refl}
 use Rattle.std.proofs.Common.{sym, ap, subst, ◌∙◌, inl, inr, ⊎_elim, arith}
-use Rattle.std.proofs.lemmas.Bool.{true≢false, false_from_ne_true, cases_Bool, cases_eq, cases_lt, eq-eqb, ne_eqb, eqb-true, eqb-false, or_parts, or_cases, ltb-true, ltb-false, leb-true, leb-false, lt-ltb, le-ltb}
+use Rattle.std.proofs.lemmas.Bool.{true≢false, false_from_ne_true, cases_Bool, cases_eq, cases_lt, eq-eqb, ne_eqb, or_parts, ltb-false, leb-false, lt-ltb, le-ltb}
 use Rattle.std.proofs.lemmas.List.{get_or-take, length-take}
 use Rattle.minix_layout.specs.declared.division.Geometry.{Geometry}
 use Rattle.minix_layout.specs.declared.inode.Inode.{Inode}
 use Rattle.minix_layout.specs.declared.fault.LayoutFault.TheVariants.{BadZone}
-use Rattle.inode_ops.specs.Map.{zone_at, entry_behind}
 use Rattle.inode_ops.specs.MapLaws.{zone_at-direct, zone_at-past, zone_at-indirect, zone_at-no_indirect, zone_at-double, zone_at-no_double, zone_at-no_inner}
-use Rattle.volume_ops.specs.Reads.{Reads, Ret, Read, answer, if_ok, go_on}
+use Rattle.volume_ops.specs.Reads.{Reads, Ret, answer, if_ok, go_on}
 use Rattle.volume_ops.specs.ReadsLaws.{answer-and_then}
 use Rattle.volume_ops.specs.Places.{zone_number, zone_numbers}
 use Rattle.volume_ops.specs.Volume.{disk_of}
-use Rattle.volume_ops.specs.Fields.{zone_behind}
 use Rattle.volume_ops.specs.Marks.{is_marked, marked}
 use Rattle.volume_ops.specs.MarksLaws.{is_marked_same, is_marked_kept, is_marked_new, length-marked}
-use Rattle.volume_ops.specs.Zones.{Fault, ZoneScan, is_bad_zone, take_zone, take_block, take_blocks, take_numbers, take_indirect, take_indirects, take_double, scan_zones}
+use Rattle.volume_ops.specs.Zones.{Fault, ZoneScan, is_bad_zone, take_zone, take_blocks, take_numbers, take_indirect, take_indirects, take_double, scan_zones}
 use Rattle.volume_ops.specs.ZonesLaws.{length-zone_numbers, zone_numbers_at}
 use Rattle.volume_ops.specs.ZonePlaces.{ZonePlace, block, indirect, double, inner, entry_of, zone_in, holder_in, rank}
 
@@ -341,7 +339,8 @@ module _ (g : Geometry) (blocks : List (List ℕ)) (table : ℕ) (i : Inode) (ni
       let few : 7 + j < 519 = omega arith in (
         zone_at-indirect entries i.zones j some low ∙ sym (zone_numbers_at (disk (slice_index i.zones 7)) j low),
         rank_middle (7 + j) seven few ∙ omega arith,
-        rw (le-ltb (7 + j) 7 seven, lt-ltb (7 + j) 519 few) refl)
+        rw (le-ltb (7 + j) 7 seven, lt-ltb (7 + j) 519 few) refl,
+      )
 
   inner_blocks : (k : ℕ) → k < 512 → slice_index i.zones 8 ≢ 0 → (z : ℕ) → entries (slice_index i.zones 8) k ≡ z → z ≢ 0 →
       AreBlocks g zone holder before z (519 + 512 * k) (522 + 513 * k) (zone_numbers (disk z))
@@ -353,7 +352,8 @@ module _ (g : Geometry) (blocks : List (List ℕ)) (table : ℕ) (i : Inode) (ni
       let seven : 7 ≤ 519 + 512 * k + j = omega arith in (
         zone_at-double entries i.zones k j some (λ none. there (sym is ∙ none)) few low ∙ ap (λ z. entries z j) is ∙ sym (zone_numbers_at (disk z) j low),
         rank_high (519 + 512 * k + j) far ∙ rw (outer, rest) refl,
-        rw (le-ltb (519 + 512 * k + j) 7 seven, le-ltb (519 + 512 * k + j) 519 far, outer, ne_eqb (slice_index i.zones 8) 0 some) is)
+        rw (le-ltb (519 + 512 * k + j) 7 seven, le-ltb (519 + 512 * k + j) 519 far, outer, ne_eqb (slice_index i.zones 8) 0 some) is,
+      )
 
   -- ---- the parts of the scan
 
