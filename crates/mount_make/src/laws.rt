@@ -29,9 +29,11 @@ pub fn image_metadata_gives_trees()
         ((birth : ℕ) → SameMetadataAtOrNone (at_number tree birth) (at_number changed birth)) }
 {}
 
-/// A law, which does nothing when it is called: a fault that is told of an image whose superblock is in order is a
-/// defect of its volume that stands at the block told, and the first in the order of the tests.
+/// A law, which does nothing when it is called: of an image that is whole and has no journal the first fault of its
+/// volume in the order of the tests is told, and this is a defect that stands at the block told.
 pub fn image_faults_are_first_defects()
     ensures first { (blocks : List (List ℕ)) (g : Geometry) (fault : ImageFault) (block : ℕ) → divided blocks ≡ Ok g → mounted blocks ≡ Err (fault, block) →
         (kind : LayoutFault) × (image_fault kind ≡ fault) × IsDefect g (volume_in g blocks) kind block × IsFirstFault g (volume_in g blocks) kind block }
+    ensures told { (blocks : List (List ℕ)) (g : Geometry) (kind : LayoutFault) (block : ℕ) → divided blocks ≡ Ok g →
+        IsFirstFault g (volume_in g blocks) kind block → mounted blocks ≡ Err (image_fault kind, block) }
 {}

@@ -59,10 +59,11 @@ greatest_size = 1024 * (7 + 512 + 512 * 512)
 
 -- ---- no fault
 
--- The inodes P have no fault, neither in themselves nor between them: no size is too great, a directory's is a
--- whole number of slots, each zone is one of the zones of data and had once, each slot can be read, each name
+-- The inodes P have no fault, neither in themselves nor between them: the root is a directory, no size is too
+-- great, a directory's is a whole number of slots, each zone is one of the zones of data and had once, each slot can be read, each name
 -- stands once in its directory and leads to an inode of the table, and a directory has one name, the root none.
 pub record AreFaultless (g : Geometry) (blocks : List (List ℕ)) (P : ℕ → Type 0) : Type 0 where
+  pub root : P 1 → IsDirectory g blocks 1
   pub size : (inode : ℕ) → P inode → HasZones g blocks inode → (inode_at g blocks inode).size ≤ greatest_size
   pub whole_slots : (inode : ℕ) → P inode → IsDirectory g blocks inode → (inode_at g blocks inode).size % 16 ≡ 0
   pub zone_within : (inode : ℕ) (x : ZonePlace) → P inode → HasZones g blocks inode → zone_at_place g blocks inode x ≢ 0 →
@@ -78,7 +79,6 @@ pub record AreFaultless (g : Geometry) (blocks : List (List ℕ)) (P : ℕ → T
       slot.inode ≡ more.inode → IsDirectory g blocks slot.inode → (inode ≡ other) × (place ≡ at)
   pub root_unnamed : (inode place : ℕ) (slot : Slot) → P inode → Names g blocks inode place slot → slot.inode ≢ 1
 
--- A volume without a fault: its root is a directory, and what names lead to has no fault.
-pub record IsFaultless (g : Geometry) (blocks : List (List ℕ)) : Type 0 where
-  pub root : IsDirectory g blocks 1
-  pub reached : AreFaultless g blocks (IsReached g blocks)
+-- A volume without a fault: what names lead to from the root has none.
+abbrev pub IsFaultless : Geometry → List (List ℕ) → Type 0
+IsFaultless g blocks = AreFaultless g blocks (IsReached g blocks)

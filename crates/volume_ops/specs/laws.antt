@@ -7,3 +7,4 @@ pub mod TreeUnique
 pub mod MetadataReads
 pub mod BlockPlaces
 pub mod SameWalks
+pub mod FirstUnique

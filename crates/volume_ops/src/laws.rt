@@ -65,13 +65,15 @@ pub fn walks_end_well_without_fault()
         0 < g.inodes → walked g blocks ≡ Ok found → (zone : ℕ) → (is_marked found.zones zone ≡ true) ↔ IsUsed g blocks zone }
 {}
 
-/// A law, which does nothing when it is called: each fault that the walk tells is a defect of the volume that
-/// stands at the block told, and the first in the order of the tests. A volume without a fault has no defect.
+/// A law, which does nothing when it is called: the walk tells just the first fault in the order of the tests, and
+/// this is a defect of the volume that stands at the block told. A volume without a fault has no defect.
 pub fn faults_are_first_defects()
     ensures defect { (g : Geometry) (blocks : List (List ℕ)) (fault : LayoutFault) (block : ℕ) →
         0 < g.inodes → walked g blocks ≡ Err (fault, block) → IsDefect g blocks fault block }
     ensures first { (g : Geometry) (blocks : List (List ℕ)) (fault : LayoutFault) (block : ℕ) →
         0 < g.inodes → walked g blocks ≡ Err (fault, block) → IsFirstFault g blocks fault block }
+    ensures told { (g : Geometry) (blocks : List (List ℕ)) (fault : LayoutFault) (block : ℕ) →
+        0 < g.inodes → IsFirstFault g blocks fault block → walked g blocks ≡ Err (fault, block) }
     ensures none { (g : Geometry) (blocks : List (List ℕ)) (fault : LayoutFault) (block : ℕ) →
         IsFaultless g blocks → IsDefect g blocks fault block → ⊥ }
 {}

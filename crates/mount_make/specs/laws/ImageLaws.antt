@@ -23,6 +23,7 @@ use Rattle.volume_ops.specs.Defects.{IsDefect}
 use Rattle.volume_ops.specs.FirstFault.{IsFirstFault}
 use Rattle.volume_ops.specs.Metadata.{of_volume, AgreeOnMetadata}
 use Rattle.volume_ops.specs.VolumeTrees.{IsVolumeTree}
+use Rattle.volume_ops.specs.laws.FirstUnique.{first_told}
 use Rattle.volume_ops.specs.laws.WalkTests.{walked_first}
 use Rattle.volume_ops.specs.laws.TreeUnique.{walked_tree, tree_walked, one_tree}
 use Rattle.volume_ops.specs.laws.SameWalks.{same_trees}
@@ -173,3 +174,9 @@ image_first blocks g fault block is e =
     let x = walk_fault_by g (volume_in g blocks) fault block (walked g (volume_in g blocks)) refl (sym (ap (by_geometry blocks) is) ∙ e) in
     let y = walked_first g (volume_in g blocks) x.0 block (some_inode blocks g is) x.2 in
     (x.0, x.1, y.1, y.0)
+
+-- and the first is told
+pub image_told : (blocks : List (List ℕ)) (g : Geometry) (kind : LayoutFault) (block : ℕ) → divided blocks ≡ Ok g → IsFirstFault g (volume_in g blocks) kind block →
+    mounted blocks ≡ Err (image_fault kind, block)
+image_told blocks g kind block is first =
+    ap (by_geometry blocks) is ∙ ap (by_walk g (volume_in g blocks)) (first_told g (volume_in g blocks) (some_inode blocks g is) kind block first)

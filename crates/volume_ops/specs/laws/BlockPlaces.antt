@@ -86,7 +86,7 @@ module _ (g : Geometry) (blocks : List (List ℕ)) (tree : List (ℕ × Node)) (
   within birth index zone f e z =
       let x = some_zone (zone_behind blocks (inode_at g blocks (inode_of_birth birth)) index) zone z in
       subst (λ z. (g.first ≤ z) × (z < g.zones)) x.0
-      (h.faultless.reached.zone_within (inode_of_birth birth) (block index) (file_reached birth f e) (inr (file_kind birth f e)) x.1)
+      (h.faultless.zone_within (inode_of_birth birth) (block index) (file_reached birth f e) (inr (file_kind birth f e)) x.1)
 
   abbrev block_of : ZonePlace → ℕ
   block_of (block index) = index
@@ -98,7 +98,7 @@ module _ (g : Geometry) (blocks : List (List ℕ)) (tree : List (ℕ × Node)) (
   one_place birth index other at zone f k e q z y =
       let x = some_zone (zone_behind blocks (inode_at g blocks (inode_of_birth birth)) index) zone z in
       let w = some_zone (zone_behind blocks (inode_at g blocks (inode_of_birth other)) at) zone y in
-      let one = h.faultless.reached.zone_once (inode_of_birth birth) (inode_of_birth other) (block index) (block at)
+      let one = h.faultless.zone_once (inode_of_birth birth) (inode_of_birth other) (block index) (block at)
       (file_reached birth f e) (file_reached other k q) (inr (file_kind birth f e)) (inr (file_kind other k q)) x.1 (x.0 ∙ sym w.0) in
       (sym (file_birth birth f e) ∙ (ap birth_of one.0 ∙ file_birth other k q), ap block_of one.1)
 
@@ -117,10 +117,10 @@ module _ (g : Geometry) (blocks : List (List ℕ)) (tree : List (ℕ × Node)) (
       by : zone_behind blocks (inode_at g blocks (inode_of_birth birth)) index ≡ zone → zone_behind blocks (inode_at g blocks (inode_of_birth birth)) index ≢ 0 → IsMetadata g blocks zone → ⊥
       by same some (of_volume low high) = (let from = (within birth index zone f e z).0 in let tables = sound.tables_below in omega arith)
       by same some (of_numbers other y r kind holds there stands) =
-          (let one = h.faultless.reached.zone_once (inode_of_birth birth) other (block index) y (file_reached birth f e) r (inr (file_kind birth f e)) kind some (same ∙ sym stands) in
+          (let one = h.faultless.zone_once (inode_of_birth birth) other (block index) y (file_reached birth f e) r (inr (file_kind birth f e)) kind some (same ∙ sym stands) in
           numbers_apart y index holds one.1)
       by same some (of_directory other at r d there stands) =
-          (let one = h.faultless.reached.zone_once (inode_of_birth birth) other (block index) (block at) (file_reached birth f e) r (inr (file_kind birth f e)) (inl d) some (same ∙ sym stands) in
+          (let one = h.faultless.zone_once (inode_of_birth birth) other (block index) (block at) (file_reached birth f e) r (inr (file_kind birth f e)) (inl d) some (same ∙ sym stands) in
           let four = eqb-true ((inode_at g blocks other).mode / 4096) 4 d in
           let eight = eqb-true ((inode_at g blocks other).mode / 4096) 8 (subst (λ k. IsFile g blocks k) one.0 (file_kind birth f e)) in
           omega (arith, four, eight))
@@ -181,7 +181,7 @@ module _ (g : Geometry) (blocks other : List (List ℕ)) (some_inode : 0 < g.ino
   module _ (h : IsFaultless g blocks) where
     reached_within : {k : ℕ} → IsReached g blocks k → k ≤ g.inodes
     reached_within reached_root = omega arith
-    reached_within (reached_by {inode} {place} {slot} r m) = h.reached.inode_within inode place slot r m
+    reached_within (reached_by {inode} {place} {slot} r m) = h.inode_within inode place slot r m
 
     same_inode : (k : ℕ) → IsReached g blocks k → inode_at g other k ≡ inode_at g blocks k
     same_inode k r = ap (inode_in_block k) (same (table_block g k) (table_is g blocks some_inode k (reached_within r)))

@@ -32,7 +32,6 @@ pub record IsSoFar (g : Geometry) (blocks : List (List ℕ)) (met ahead : List �
   pub named_by : (k : ℕ) → is_marked w.named k ≡ true → (k ≡ 1) ⊎ ((inode : ℕ) × (place : ℕ) × (slot : Slot) × In inode met × Names g blocks inode place slot × (slot.inode ≡ k))
   pub root_named : is_marked w.named 1 ≡ true
   pub root_is : ((k : ℕ) → In k ahead → k ≡ 1) ⊎ IsDirectory g blocks 1
-  pub root_kind : In 1 met → IsDirectory g blocks 1
   pub leads : (inode place : ℕ) (slot : Slot) → In inode met → Names g blocks inode place slot → In slot.inode met ⊎ In slot.inode ahead
   pub zones_size : length w.zones ≡ g.zones
   pub inodes_size : length w.inodes ≡ g.inodes + 1
@@ -105,6 +104,7 @@ module _ (g : Geometry) (blocks : List (List ℕ)) (met ahead : List ℕ) (w : W
 
   more_faultless : AreFaultless g blocks (λ k. In k (met ++ n ∷ []))
   more_faultless = record {
+    root = λ i. root_kind;
     size = each (λ k. HasZones g blocks k → (inode_at g blocks k).size ≤ greatest_size) h.faultless.size size_of;
     whole_slots = each (λ k. IsDirectory g blocks k → (inode_at g blocks k).size % 16 ≡ 0) h.faultless.whole_slots whole_of;
     zone_within = λ k x i. each (λ k. HasZones g blocks k → zone_at_place g blocks k x ≢ 0 → (g.first ≤ zone_at_place g blocks k x) × (zone_at_place g blocks k x < g.zones))
@@ -192,7 +192,6 @@ module _ (g : Geometry) (blocks : List (List ℕ)) (met ahead : List ℕ) (w : W
         (ns.by_mark k t);
     root_named = ns.kept 1 h.root_named;
     root_is = inr root_kind;
-    root_kind = λ i. root_kind;
     leads = leads_more;
     zones_size = zs.size;
     inodes_size = length-marked w.inodes n ∙ h.inodes_size;

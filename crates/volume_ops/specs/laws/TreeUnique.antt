@@ -46,7 +46,7 @@ module _ {K X : Type 0} (cmp : K → K → Ordering) (order : IsTotalOrder cmp) 
   abbrev Sorted : List (K × X) → Type 0
   Sorted es = IsStrictlySortedBy cmp (keys_of es)
 
-  found_first : (e : K × X) (es : List (K × X)) → lookup (is_at (cmp e.0)) (e ∷ es) ≡ Some e.1
+  pub found_first : (e : K × X) (es : List (K × X)) → lookup (is_at (cmp e.0)) (e ∷ es) ≡ Some e.1
   found_first e es = lookup_head (is_at (cmp e.0)) e es (here e.0)
 
   none_in : (q : K) (e : K × X) (es : List (K × X)) → Sorted (e ∷ es) → cmp q e.0 ≡ Less → lookup (is_at (cmp q)) (e ∷ es) ≡ None
@@ -56,6 +56,16 @@ module _ {K X : Type 0} (cmp : K → K → Ordering) (order : IsTotalOrder cmp) 
   gone : (e : K × X) (es : List (K × X)) → Sorted (e ∷ es) → lookup (is_at (cmp e.0)) es ≡ None
   gone e [] s = refl
   gone e (x ∷ xs) s = none_in e.0 x xs (sorted_tail cmp e.0 (keys_of (x ∷ xs)) s) (sorted_head cmp e.0 (keys_of (x ∷ xs)) s).0
+
+  -- what stands behind the first entry is found
+  pub found_later : (e : K × X) (es : List (K × X)) (q : K) (v : X) → Sorted (e ∷ es) → lookup (is_at (cmp q)) es ≡ Some v → lookup (is_at (cmp q)) (e ∷ es) ≡ Some v
+  found_later e es q v s h =
+      ⊎_elim
+      (λ at.
+      let none : lookup (is_at (cmp q)) es ≡ None = subst (λ k. lookup (is_at (cmp k)) es ≡ None) (sym (same q e.0 at)) (gone e es s) in
+      absurd (none-some v (sym none ∙ h)))
+      (λ apart. lookup_tail (is_at (cmp q)) e es apart ∙ h)
+      (cases_Bool (is_eq (cmp q e.0)))
 
   pub same_maps : (es fs : List (K × X)) → Sorted es → Sorted fs → ((k : K) → lookup (is_at (cmp k)) es ≡ lookup (is_at (cmp k)) fs) → es ≡ fs
   same_maps [] [] s t h = refl
@@ -87,7 +97,7 @@ module _ {K X : Type 0} (cmp : K → K → Ordering) (order : IsTotalOrder cmp) 
           ap (λ x. x ∷ es) (same_pair e.0 f.0 e.1 f.1 keys values)
           ∙ ap (λ xs. f ∷ xs) (more (rest_same keys))
 
-same_options : {X : Type 0} (a b : Option X) → ((x : X) → a ≡ Some x → b ≡ Some x) → ((x : X) → b ≡ Some x → a ≡ Some x) → a ≡ b
+pub same_options : {X : Type 0} (a b : Option X) → ((x : X) → a ≡ Some x → b ≡ Some x) → ((x : X) → b ≡ Some x → a ≡ Some x) → a ≡ b
 same_options None None f h = refl
 same_options None (Some y) f h = absurd (none-some y (h y refl))
 same_options (Some x) b f h = sym (f x refl)

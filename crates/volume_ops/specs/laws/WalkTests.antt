@@ -58,7 +58,6 @@ module _ (g : Geometry) (blocks : List (List ℕ)) where
     named_by = h.named_by;
     root_named = h.root_named;
     root_is = ⊎_elim (λ first. inl (λ k i. first k (inr i))) inr h.root_is;
-    root_kind = h.root_kind;
     leads = λ k place slot i m.
         ⊎_elim inl
         (λ later. ⊎_elim (λ same. inl (subst (λ k. In k met) same was)) inr later)
@@ -68,32 +67,26 @@ module _ (g : Geometry) (blocks : List (List ℕ)) where
     named_size = h.named_size;
   }
 
-  -- the first fault is a defect
-  first_defect : (met ahead : List ℕ) (n : ℕ) (w : WalkState) → IsSoFar g blocks met (n ∷ ahead) w → (In n met → ⊥) → (fault : LayoutFault) (block : ℕ) →
-      IsFirstHere g blocks (λ k. In k met) n fault block → IsDefect g blocks fault block
-  first_defect met ahead n w h new fault block (of_inode bad) = bad_inode (h.ahead_reached n (inl refl)) bad
-  first_defect met ahead n w h new fault block (of_zone x good zoned earlier some bad) = by bad
+  -- the first fault of an inode that names lead to is a defect
+  pub first_defect : (met : ℕ → Type 0) (n : ℕ) → IsReached g blocks n → ((k : ℕ) → met k → IsReached g blocks k) → (met n → ⊥) → (fault : LayoutFault) (block : ℕ) →
+      IsFirstHere g blocks met n fault block → IsDefect g blocks fault block
+  first_defect met n r reached new fault block (of_inode bad) = bad_inode r bad
+  first_defect met n r reached new fault block (of_zone x good zoned earlier some bad) = by bad
     where
-      r : IsReached g blocks n
-      r = h.ahead_reached n (inl refl)
-
-      by : IsBadZone g blocks (λ k. In k met) n x → IsDefect g blocks BadZone (holder_of g blocks n x)
+      by : IsBadZone g blocks met n x → IsDefect g blocks BadZone (holder_of g blocks n x)
       by (too_low low) = zone_outside x r zoned some (inl low)
       by (too_high high) = zone_outside x r zoned some (inr high)
-      by (had_by other y was z same) = zone_twice x y r (h.reached other was) zoned z some (sym same) (λ e _. new (subst (λ k. In k met) (sym e) was))
+      by (had_by other y was z same) = zone_twice x y r (reached other was) zoned z some (sym same) (λ e _. new (subst met (sym e) was))
       by (had_here y before same) = zone_twice x y r r zoned zoned some (sym same) (λ _ e. let one : rank x ≡ rank y = ap rank e in omega arith)
-  first_defect met ahead n w h new fault block (of_slot place good d zones earlier below bad) = by bad
+  first_defect met n r reached new fault block (of_slot place good d zones earlier below bad) = by bad
     where
-      r : IsReached g blocks n
-      r = h.ahead_reached n (inl refl)
-
-      by : IsBadSlot g blocks (λ k. In k met) n place → IsDefect g blocks BadSlot (slot_zone g blocks n place)
+      by : IsBadSlot g blocks met n place → IsDefect g blocks BadSlot (slot_zone g blocks n place)
       by (no_name none) = slot_without_name place r d below none
       by (no_inode slot m past) = slot_without_inode place slot r m past
       by (name_before slot more other m before k same) = name_twice place other slot more r m k (sym same) (λ e. omega arith)
       by (names_root slot m one kind) = root_named place slot r m one
       by (named_by slot more other at m kind was k same) =
-          directory_twice place at slot more r (h.reached other was) m k (sym same) kind (λ e _. new (subst (λ k. In k met) (sym e) was))
+          directory_twice place at slot more r (reached other was) m k (sym same) kind (λ e _. new (subst met (sym e) was))
       by (named_here slot more at m kind before k same) = directory_twice place at slot more r r m k (sym same) kind (λ _ e. omega arith)
 
   module _ (n : ℕ) (next : WalkState → List Pending → Reads (Result Walked Fault))
@@ -118,7 +111,7 @@ module _ (g : Geometry) (blocks : List (List ℕ)) where
         before = h.faultless;
         here = first;
       },
-      first_defect met (numbers_of rest) e.inode w h new fault.0 fault.1 first,
+      first_defect (λ k. In k met) e.inode (h.ahead_reached e.inode (inl refl)) h.reached new fault.0 fault.1 first,
     )
 
     through_by : (met : List ℕ) (w : WalkState) (e : Pending) (rest : List Pending) (was : Bool) → is_marked w.inodes e.inode ≡ was →
@@ -149,6 +142,7 @@ module _ (g : Geometry) (blocks : List (List ℕ)) where
 
   none_met : AreFaultless g blocks (λ k. In k [])
   none_met = record {
+    root = λ i. absurd i;
     size = λ k i. absurd i;
     whole_slots = λ k i. absurd i;
     zone_within = λ k x i. absurd i;
@@ -177,7 +171,6 @@ module _ (g : Geometry) (blocks : List (List ℕ)) where
     named_by = λ k t. ⊎_elim (λ old. absurd (true≢false (sym old ∙ no_mark (g.inodes + 1) k))) (λ f. inl (is_marked_new (no_marks (g.inodes + 1)) 1 k f t)) (cases_Bool (is_marked (no_marks (g.inodes + 1)) k));
     root_named = is_marked_same (no_marks (g.inodes + 1)) 1 (omega (arith, length-no_marks (g.inodes + 1)));
     root_is = inl (λ k i. ⊎_elim sym (λ i. absurd i) i);
-    root_kind = λ i. absurd i;
     leads = λ k place slot i. absurd i;
     zones_size = length-no_marks g.zones;
     inodes_size = length-no_marks (g.inodes + 1);
@@ -219,18 +212,16 @@ module _ (g : Geometry) (blocks : List (List ℕ)) (all : Walked) (ends : EndsWe
 
   pub no_fault : IsFaultless g blocks
   no_fault = record {
-    root = h.root_kind root_met;
-    reached = record {
-      size = λ k r. h.faultless.size k (all_met r);
-      whole_slots = λ k r. h.faultless.whole_slots k (all_met r);
-      zone_within = λ k x r. h.faultless.zone_within k x (all_met r);
-      zone_once = λ k other x y r s. h.faultless.zone_once k other x y (all_met r) (all_met s);
-      slot_read = λ k place r. h.faultless.slot_read k place (all_met r);
-      inode_within = λ k place slot r. h.faultless.inode_within k place slot (all_met r);
-      name_once = λ k place other slot more r. h.faultless.name_once k place other slot more (all_met r);
-      directory_once = λ k other place at slot more r s. h.faultless.directory_once k other place at slot more (all_met r) (all_met s);
-      root_unnamed = λ k place slot r. h.faultless.root_unnamed k place slot (all_met r);
-    };
+    root = λ r. h.faultless.root (all_met r);
+    size = λ k r. h.faultless.size k (all_met r);
+    whole_slots = λ k r. h.faultless.whole_slots k (all_met r);
+    zone_within = λ k x r. h.faultless.zone_within k x (all_met r);
+    zone_once = λ k other x y r s. h.faultless.zone_once k other x y (all_met r) (all_met s);
+    slot_read = λ k place r. h.faultless.slot_read k place (all_met r);
+    inode_within = λ k place slot r. h.faultless.inode_within k place slot (all_met r);
+    name_once = λ k place other slot more r. h.faultless.name_once k place other slot more (all_met r);
+    directory_once = λ k other place at slot more r s. h.faultless.directory_once k other place at slot more (all_met r) (all_met s);
+    root_unnamed = λ k place slot r. h.faultless.root_unnamed k place slot (all_met r);
   }
 
   -- what was marked is what is used
@@ -243,25 +234,25 @@ module _ (g : Geometry) (blocks : List (List ℕ)) (all : Walked) (ends : EndsWe
 -- ---- a volume without a fault has no defect
 
 no_bad_inode : (g : Geometry) (blocks : List (List ℕ)) → IsFaultless g blocks → (k : ℕ) → IsReached g blocks k → IsBadInode g blocks k → ⊥
-no_bad_inode g blocks h k r (root_is_none one none) = none (subst (λ k. IsDirectory g blocks k) (sym one) h.root)
-no_bad_inode g blocks h k r (size_too_great z great) = let low = h.reached.size k r z in omega (arith, great, low)
-no_bad_inode g blocks h k r (part_of_a_slot d some) = some (h.reached.whole_slots k r d)
+no_bad_inode g blocks h k r (root_is_none one none) = none (subst (λ k. IsDirectory g blocks k) (sym one) (h.root at_root))
+no_bad_inode g blocks h k r (size_too_great z great) = let low = h.size k r z in omega (arith, great, low)
+no_bad_inode g blocks h k r (part_of_a_slot d some) = some (h.whole_slots k r d)
 
 pub no_defect : (g : Geometry) (blocks : List (List ℕ)) → IsFaultless g blocks → (fault : LayoutFault) (block : ℕ) → IsDefect g blocks fault block → ⊥
 no_defect g blocks h fault block (bad_inode {inode} r bad) = no_bad_inode g blocks h inode r bad
 no_defect g blocks h fault block (zone_outside {inode} x r z some out) =
-    let within = h.reached.zone_within inode x r z some in
+    let within = h.zone_within inode x r z some in
     ⊎_elim (λ low. let from = within.0 in omega (arith, low, from)) (λ high. let to = within.1 in omega (arith, high, to)) out
 no_defect g blocks h fault block (zone_twice {inode} {other} x y r s z zz some same apart) =
-    let one = h.reached.zone_once inode other x y r s z zz some same in apart one.0 one.1
+    let one = h.zone_once inode other x y r s z zz some same in apart one.0 one.1
 no_defect g blocks h fault block (slot_without_name {inode} place r d below none) =
-    let read = h.reached.slot_read inode place r d below in err-ok BadSlot read.0 (sym none ∙ read.1)
+    let read = h.slot_read inode place r d below in err-ok BadSlot read.0 (sym none ∙ read.1)
 no_defect g blocks h fault block (slot_without_inode {inode} place slot r m past) =
-    let within = h.reached.inode_within inode place slot r m in omega (arith, past, within)
-no_defect g blocks h fault block (name_twice {inode} place other slot more r m k same apart) = apart (h.reached.name_once inode place other slot more r m k same)
-no_defect g blocks h fault block (root_named {inode} place slot r m one) = h.reached.root_unnamed inode place slot r m one
+    let within = h.inode_within inode place slot r m in omega (arith, past, within)
+no_defect g blocks h fault block (name_twice {inode} place other slot more r m k same apart) = apart (h.name_once inode place other slot more r m k same)
+no_defect g blocks h fault block (root_named {inode} place slot r m one) = h.root_unnamed inode place slot r m one
 no_defect g blocks h fault block (directory_twice {inode} {other} place at slot more r s m k same d apart) =
-    let one = h.reached.directory_once inode other place at slot more r s m k same d in apart one.0 one.1
+    let one = h.directory_once inode other place at slot more r s m k same d in apart one.0 one.1
 
 -- ---- both ways
 

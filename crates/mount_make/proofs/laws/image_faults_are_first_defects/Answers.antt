@@ -1,5 +1,5 @@
-use Rattle.mount_make.specs.laws.ImageLaws.{image_first}
+use Rattle.mount_make.specs.laws.ImageLaws.{image_first, image_told}
 use Rattle.mount_make.proofs.laws.image_faults_are_first_defects.Goals as goal
 
 pub returns : goal.returns
-returns c = record { first = image_first }
+returns c = record { first = image_first; told = image_told }
