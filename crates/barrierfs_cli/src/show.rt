@@ -11,6 +11,7 @@ use crate::fault::TopFault;
 use blk_base::{Image, NoMemory};
 use device_epochs::{DeviceSetup, EpochDevice};
 use mount_make::{MountFault, mount};
+use script_grammar::DEFAULT_DEPTH;
 use std::alloc::Global;
 use tree_model::put_tree;
 use volume_ops::Volume;
@@ -38,7 +39,7 @@ fn volume_of(alloc: Global, image: Image) -> Result<Volume, TopFault>
     ensures err { IfErr result (IsMountedFault image) }
 {
     let setup = DeviceSetup {
-        depth: 32,
+        depth: DEFAULT_DEPTH,
         limit: u64::from(image.len()) + 2,
         fail_at: None,
         bad_read: None,

@@ -1,5 +1,5 @@
 -- Lines that say a well-formed script are read as that script.
-use Rattle.std.proofs.Common.{◌≡◌, ℕ, suc, ◌+◌, ◌^◌, ◌<◌, ◌≤◌, Bool, true, false, not, ◌&&◌, ◌||◌, List, [], ◌∷◌, ◌++◌, length, codes, decimal, map, Option, Some, None, Ok, nat_le, nat_lt, unwrap_or, refl, sym, ap, ap₂, ◌∙◌, subst, inl, inr, arith, append_assoc, append-nil, length-append, lit≤, lit<, if◌then◌else◌, slice_get, ◌⊎◌}
+use Rattle.std.proofs.Common.{◌≡◌, ℕ, suc, ◌+◌, ◌^◌, ◌<◌, ◌≤◌, Bool, true, false, not, ◌||◌, List, [], ◌∷◌, ◌++◌, length, codes, decimal, map, Option, Some, None, Ok, nat_lt, unwrap_or, refl, sym, ap, ap₂, ◌∙◌, subst, inl, inr, arith, append_assoc, append-nil, length-append, lit≤, lit<, if◌then◌else◌, slice_get, ◌⊎◌}
 use Rattle.std.specs.Option.{option_and_then, option_map}
 use Rattle.std.proofs.lemmas.Bool.{and_from, or_left, or_right, or_cases, lt-ltb}
 use Rattle.std.proofs.lemmas.Fmt.{decimal_injective}
@@ -25,10 +25,10 @@ use Rattle.script_grammar.specs.declared.words.Word.TheVariants as word
 use Rattle.script_grammar.specs.declared.words.Line.TheVariants as line
 use Rattle.script_grammar.specs.Spelling.{is_skipped, words_of, lines_of}
 use Rattle.script_grammar.specs.Words.{count_of}
-use Rattle.script_grammar.specs.Grammar.{form_blocks, is_scheduled, needs_scheduler, count_fits, with_request, with_events, plain_event, pick_event, new_reading, read_words, at_line, read_line, read_from, ended, ended_in, script_read, script_of, IsRequestOf}
-use Rattle.script_grammar.specs.WellFormed.{IsEventOf, IsWordOf, IsEventLineOf, IsFilled, IsWellFormed, expanded_of}
+use Rattle.script_grammar.specs.Grammar.{form_blocks, is_scheduled, needs_scheduler, count_fits, with_request, with_events, plain_event, pick_event, new_reading, read_words, at_line, read_from, ended, ended_in, script_read, script_of, IsRequestOf}
+use Rattle.script_grammar.specs.WellFormed.{IsEventOf, IsEventLineOf, IsFilled, IsWellFormed, expanded_of}
 use Rattle.script_grammar.specs.Speller.{form_words, cut_lines, request_words, event_words, what_words, event_line_words}
-use Rattle.script_grammar.specs.Accepted.{kept_lines, begins, beginning, or_default, default_depth, default_queue, filled_queue, with_count, SaysScript}
+use Rattle.script_grammar.specs.Accepted.{kept_lines, begins, beginning, or_default, default_depth, filled_queue, with_count, SaysScript}
 use Rattle.script_grammar.proofs.SpelledNumbers.{numeral-decimal}
 use Rattle.script_grammar.proofs.SpelledLines.{IsRead, EndsIn, read_from-step, at_header, before_events, later_line-read, may_stand-event, count_fits-from, IsRead-form, IsRead-depth, IsRead-queue, IsRead-cut, IsRead-request, IsRead-events}
 use Rattle.script_grammar.proofs.Spelled.{with_line, with_lines, with_requests, IsRead-event_line}
@@ -133,10 +133,10 @@ event_read r l (One e) n here is all h =
     elim (shape l e (decimal n) h) [
       | inl same ↦ subst (λ ws. read_words (Some r) ws ≡ Ok (with_line r (line_with e n))) (sym same) (IsRead-event_line r (line_with e n) here is all).read
       | inr (same, digit) ↦
-        let most = is.most in
-        let one : n ≡ 1 = one_count n (omega (arith, most)) digit in
-        subst (λ ws. read_words (Some r) ws ≡ Ok (with_line r (line_with e n))) (sym same)
-        (subst (λ m. read_words (Some r) (event_words e) ≡ Ok (with_line r (line_with e m))) (sym one) (once r e here is.event (omega (arith, one))))
+          let most = is.most in
+          let one : n ≡ 1 = one_count n (omega (arith, most)) digit in
+          subst (λ ws. read_words (Some r) ws ≡ Ok (with_line r (line_with e n))) (sym same)
+          (subst (λ m. read_words (Some r) (event_words e) ≡ Ok (with_line r (line_with e m))) (sym one) (once r e here is.event (omega (arith, one))))
     ]
 
 ended_here : (r : Reading) (n : ℕ) → r.section ≡ sections.Events → ended n (Some r) ≡ Ok (script_read r)
@@ -247,16 +247,19 @@ depth_left scheduled d q c depth queue cut l ls e is =
     ap (λ x. or_default default_depth (read_line_of (codes "depth") depth ++ x)) (sym (beginning-with (codes "depth") l ls e)) ∙ is.depths in
     let next = depth_next depth l (beginning (codes "depth") ls) d found in
     let same : beginning (codes "queue") (l ∷ ls) ≡ beginning (codes "queue") ls = ap (λ x. beginning (codes "queue") (x ∷ ls)) next.1 in
-    let cuts : beginning (codes "cut") (l ∷ ls) ≡ beginning (codes "cut") ls = ap (λ x. beginning (codes "cut") (x ∷ ls)) next.1 in
-    (next.0, next.1, record {
-      depths = ap (λ x. depth_line d ∷ x) next.2;
-      queues = ap (λ x. filled_queue scheduled (read_line_of (codes "queue") queue ++ x)) (sym same) ∙ is.queues;
-      cuts = ap (λ x. read_line_of (codes "cut") cut ++ x) (sym cuts) ∙ is.cuts;
-      known = λ m i. is.known m (inr i);
-      depth_read = λ n h. sym (same_Some d n h);
-      queue_read = is.queue_read;
-      cut_read = is.cut_read;
-    })
+    let cuts : beginning (codes "cut") (l ∷ ls) ≡ beginning (codes "cut") ls = ap (λ x. beginning (codes "cut") (x ∷ ls)) next.1 in (
+      next.0,
+      next.1,
+      record {
+        depths = ap (λ x. depth_line d ∷ x) next.2;
+        queues = ap (λ x. filled_queue scheduled (read_line_of (codes "queue") queue ++ x)) (sym same) ∙ is.queues;
+        cuts = ap (λ x. read_line_of (codes "cut") cut ++ x) (sym cuts) ∙ is.cuts;
+        known = λ m i. is.known m (inr i);
+        depth_read = λ n h. sym (same_Some d n h);
+        queue_read = is.queue_read;
+        cut_read = is.cut_read;
+      },
+    )
 
 queue_left : (scheduled : Bool) (d q : ℕ) (c depth queue cut : Option ℕ) (l : List (List ℕ)) (ls : List (List (List ℕ))) → begins (codes "queue") l ≡ true → IsLeft scheduled d q c depth queue cut (l ∷ ls) → (scheduled ≡ true) × (queue ≡ None) × (l ≡ queue_line q) × IsLeft scheduled d q c depth (Some q) cut ls
 queue_left scheduled d q c depth queue cut l ls e is =
@@ -264,19 +267,23 @@ queue_left scheduled d q c depth queue cut l ls e is =
     ap (λ x. filled_queue scheduled (read_line_of (codes "queue") queue ++ x)) (sym (beginning-with (codes "queue") l ls e)) ∙ is.queues in
     let next = queue_next scheduled queue l (beginning (codes "queue") ls) q found in
     let depths : beginning (codes "depth") (l ∷ ls) ≡ beginning (codes "depth") ls = ap (λ x. beginning (codes "depth") (x ∷ ls)) next.2 in
-    let cuts : beginning (codes "cut") (l ∷ ls) ≡ beginning (codes "cut") ls = ap (λ x. beginning (codes "cut") (x ∷ ls)) next.2 in
-    (next.0, next.1, next.2, record {
-      depths = ap (λ x. or_default default_depth (read_line_of (codes "depth") depth ++ x)) (sym depths) ∙ is.depths;
-      queues =
-          ap (λ x. filled_queue scheduled (queue_line q ∷ x)) next.3
-          ∙ ap (λ b. filled_queue b (queue_line q ∷ [])) next.0
-          ∙ sym (ap (λ b. queue_lines_of b q) next.0);
-      cuts = ap (λ x. read_line_of (codes "cut") cut ++ x) (sym cuts) ∙ is.cuts;
-      known = λ m i. is.known m (inr i);
-      depth_read = is.depth_read;
-      queue_read = λ n h. sym (same_Some q n h);
-      cut_read = is.cut_read;
-    })
+    let cuts : beginning (codes "cut") (l ∷ ls) ≡ beginning (codes "cut") ls = ap (λ x. beginning (codes "cut") (x ∷ ls)) next.2 in (
+      next.0,
+      next.1,
+      next.2,
+      record {
+        depths = ap (λ x. or_default default_depth (read_line_of (codes "depth") depth ++ x)) (sym depths) ∙ is.depths;
+        queues =
+            ap (λ x. filled_queue scheduled (queue_line q ∷ x)) next.3
+            ∙ ap (λ b. filled_queue b (queue_line q ∷ [])) next.0
+            ∙ sym (ap (λ b. queue_lines_of b q) next.0);
+        cuts = ap (λ x. read_line_of (codes "cut") cut ++ x) (sym cuts) ∙ is.cuts;
+        known = λ m i. is.known m (inr i);
+        depth_read = is.depth_read;
+        queue_read = λ n h. sym (same_Some q n h);
+        cut_read = is.cut_read;
+      },
+    )
 
 cut_left : (scheduled : Bool) (d q : ℕ) (c depth queue cut : Option ℕ) (l : List (List ℕ)) (ls : List (List (List ℕ))) → begins (codes "cut") l ≡ true → IsLeft scheduled d q c depth queue cut (l ∷ ls) → (n : ℕ) × (cut ≡ None) × (c ≡ Some n) × (l ≡ cut_line n) × IsLeft scheduled d q c depth queue (Some n) ls
 cut_left scheduled d q c depth queue cut l ls e is =
@@ -285,16 +292,21 @@ cut_left scheduled d q c depth queue cut l ls e is =
     let next = cut_next cut c l (beginning (codes "cut") ls) found in
     let n = next.0 in
     let depths : beginning (codes "depth") (l ∷ ls) ≡ beginning (codes "depth") ls = ap (λ x. beginning (codes "depth") (x ∷ ls)) next.3 in
-    let queues : beginning (codes "queue") (l ∷ ls) ≡ beginning (codes "queue") ls = ap (λ x. beginning (codes "queue") (x ∷ ls)) next.3 in
-    (n, next.1, next.2, next.3, record {
-      depths = ap (λ x. or_default default_depth (read_line_of (codes "depth") depth ++ x)) (sym depths) ∙ is.depths;
-      queues = ap (λ x. filled_queue scheduled (read_line_of (codes "queue") queue ++ x)) (sym queues) ∙ is.queues;
-      cuts = ap (λ x. cut_line n ∷ x) next.4 ∙ sym (ap cut_lines next.2);
-      known = λ m i. is.known m (inr i);
-      depth_read = is.depth_read;
-      queue_read = is.queue_read;
-      cut_read = λ m h. next.2 ∙ h;
-    })
+    let queues : beginning (codes "queue") (l ∷ ls) ≡ beginning (codes "queue") ls = ap (λ x. beginning (codes "queue") (x ∷ ls)) next.3 in (
+      n,
+      next.1,
+      next.2,
+      next.3,
+      record {
+        depths = ap (λ x. or_default default_depth (read_line_of (codes "depth") depth ++ x)) (sym depths) ∙ is.depths;
+        queues = ap (λ x. filled_queue scheduled (read_line_of (codes "queue") queue ++ x)) (sym queues) ∙ is.queues;
+        cuts = ap (λ x. cut_line n ∷ x) next.4 ∙ sym (ap cut_lines next.2);
+        known = λ m i. is.known m (inr i);
+        depth_read = is.depth_read;
+        queue_read = is.queue_read;
+        cut_read = λ m h. next.2 ∙ h;
+      },
+    )
 
 -- the three places of a header line that may be read
 at_depth : (form : Form) (d : ℕ) (depth queue cut : Option ℕ) (l : List (List ℕ)) (ls : List (List (List ℕ))) (s : Script) → 1 ≤ d → d ≤ MOST_DEPTH → depth ≡ None → l ≡ depth_line d → ReadsTo (Some (at_header form (Some d) queue cut)) ls s → ReadsTo (Some (at_header form depth queue cut)) (l ∷ ls) s
@@ -322,15 +334,15 @@ header_read [] form d q c depth queue cut rest s fit is behind =
 header_read (l ∷ hs) form d q c depth queue cut rest s fit is behind =
     elim (or_cases (begins (codes "depth") l) (begins (codes "queue") l || begins (codes "cut") l) (is.known l (inl refl))) [
       | inl e ↦
-        let left = depth_left (is_scheduled form) d q c depth queue cut l hs e is in
-        at_depth form d depth queue cut l (hs ++ rest) s fit.some_depth fit.depth left.0 left.1 (header_read hs form d q c (Some d) queue cut rest s fit left.2 behind)
+          let left = depth_left (is_scheduled form) d q c depth queue cut l hs e is in
+          at_depth form d depth queue cut l (hs ++ rest) s fit.some_depth fit.depth left.0 left.1 (header_read hs form d q c (Some d) queue cut rest s fit left.2 behind)
       | inr f ↦ elim (or_cases (begins (codes "queue") l) (begins (codes "cut") l) f) [
         | inl e ↦
-          let left = queue_left (is_scheduled form) d q c depth queue cut l hs e is in
-          at_queue form q depth queue cut l (hs ++ rest) s left.0 fit.some_queue fit.queue left.1 left.2 (header_read hs form d q c depth (Some q) cut rest s fit left.3 behind)
+            let left = queue_left (is_scheduled form) d q c depth queue cut l hs e is in
+            at_queue form q depth queue cut l (hs ++ rest) s left.0 fit.some_queue fit.queue left.1 left.2 (header_read hs form d q c depth (Some q) cut rest s fit left.3 behind)
         | inr e ↦
-          let left = cut_left (is_scheduled form) d q c depth queue cut l hs e is in
-          at_cut form left.0 depth queue cut l (hs ++ rest) s (fit.cut left.0 left.2) left.1 left.3 (header_read hs form d q c depth queue (Some left.0) rest s fit left.4 behind)
+            let left = cut_left (is_scheduled form) d q c depth queue cut l hs e is in
+            at_cut form left.0 depth queue cut l (hs ++ rest) s (fit.cut left.0 left.2) left.1 left.3 (header_read hs form d q c depth queue (Some left.0) rest s fit left.4 behind)
       ]
     ]
 

@@ -167,6 +167,15 @@ no_tail sections.Header events h = refl
 no_tail sections.Body events h = refl
 no_tail sections.Events events h = cc
 
+-- one line more behind the requests
+behind_puts : (r : Reading) (lines : List (List (List ℕ))) (l : List (List ℕ)) (is : Says r lines) → before_events r.section ≡ true → lines ++ l ∷ [] ≡ form_words r.form ∷ is.header ++ (map request_words r.puts ++ l ∷ [])
+behind_puts r lines l is here =
+    let puts = map request_words r.puts in
+    ap (λ ls. ls ++ l ∷ []) is.whole
+    ∙ ap (λ x. (form_words r.form ∷ is.header ++ (puts ++ x)) ++ l ∷ []) (no_tail r.section is.events here)
+    ∙ ap (λ x. (form_words r.form ∷ is.header ++ x) ++ l ∷ []) (append-nil puts)
+    ∙ ap (λ x. form_words r.form ∷ x) (append_assoc is.header puts (l ∷ []))
+
 Says-request : (r : Reading) (lines : List (List (List ℕ))) (q : Request) → before_events r.section ≡ true → Says r lines → Says (with_request r q) (lines ++ request_words q ∷ [])
 Says-request r lines q here is =
     let puts = map request_words r.puts in
@@ -176,10 +185,7 @@ Says-request r lines q here is =
       header = is.header;
       events = is.events;
       whole =
-          ap (λ ls. ls ++ l ∷ []) is.whole
-          ∙ ap (λ x. (form_words r.form ∷ is.header ++ (puts ++ x)) ++ l ∷ []) (no_tail r.section is.events here)
-          ∙ ap (λ x. (form_words r.form ∷ is.header ++ x) ++ l ∷ []) (append-nil puts)
-          ∙ ap (λ x. form_words r.form ∷ x) (append_assoc is.header puts (l ∷ []))
+          behind_puts r lines l is here
           ∙ ap (λ x. form_words r.form ∷ is.header ++ x) (sym (map-append request_words r.puts (q ∷ [])) ∙ sym (append-nil (map request_words (r.puts ++ q ∷ []))));
       headed = is.headed;
       counted = is.counted;
@@ -198,10 +204,7 @@ Says-events r lines here is =
       header = is.header;
       events = is.events;
       whole =
-          ap (λ ls. ls ++ l ∷ []) is.whole
-          ∙ ap (λ x. (form_words r.form ∷ is.header ++ (puts ++ x)) ++ l ∷ []) (no_tail r.section is.events here)
-          ∙ ap (λ x. (form_words r.form ∷ is.header ++ x) ++ l ∷ []) (append-nil puts)
-          ∙ ap (λ x. form_words r.form ∷ x) (append_assoc is.header puts (l ∷ []))
+          behind_puts r lines l is here
           ∙ ap (λ x. form_words r.form ∷ is.header ++ (puts ++ l ∷ x)) (sym (is.no_events here));
       headed = is.headed;
       counted = is.counted;
