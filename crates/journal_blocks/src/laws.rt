@@ -1,5 +1,5 @@
 //! Laws of the blocks of a journal.
-ghost use Rattle.std.specs.Prelude.{◌≡◌, ◌≢◌, ℕ, ◌+◌, ◌^◌, ◌<◌, ◌≤◌, List, None, All, Ok, length, slice_index};
+ghost use Rattle.std.specs.Prelude.{◌≡◌, ◌≢◌, ℕ, ◌+◌, ◌^◌, ◌%◌, ◌<◌, ◌≤◌, List, None, All, Ok, length, slice_index};
 ghost use Rattle.byte_fields.specs.Fields.{Apart};
 ghost use Rattle.journal_blocks.specs.declared.super_block.JournalSuper.{JournalSuper};
 ghost use Rattle.journal_blocks.specs.declared.tag.Tag.{Tag};
@@ -51,12 +51,14 @@ pub fn readers_agree()
 {}
 
 /// A law, which does nothing when it is called: blocks of which none is a commit block of the sequence that is
-/// expected add no transaction, and of a log without a fault no body is for the boot block, the superblock or a block
-/// past the volume.
+/// expected add no transaction; the sequence behind the log counts its transactions; and of a log without a fault no
+/// body is for the boot block, the superblock or a block past the volume.
 pub fn logs_hold_whole_transactions()
     ensures end { (zones : ℕ) (r : Reading) (entries : List Entry) →
         ((e : Entry) → In e entries → said r.sequence e.body ≢ Ends) →
         (found (read_log zones (goes_on r) entries)).done ≡ r.done }
+    ensures counts { (base : ℕ) (s : JournalSuper) (image : List (List ℕ)) → s.sequence < 2 ^ 32 →
+        (log_of base s image).sequence ≡ (s.sequence + length (log_of base s image).done) % 2 ^ 32 }
     ensures inside { (base : ℕ) (s : JournalSuper) (image : List (List ℕ)) (b : ℕ) (x : List ℕ) →
         (log_of base s image).fault ≡ None → mark_in (log_of base s image).done b ≡ Set x → (2 ≤ b) × (b < base) }
 {}

@@ -1,5 +1,5 @@
 //! The lists of a block of the log.
-ghost use Rattle.std.specs.Prelude.{◌≡◌, IfOk};
+ghost use Rattle.std.specs.Prelude.{◌≡◌, [], IfOk};
 
 use crate::Tag;
 use blk_base::NoMemory;
@@ -22,6 +22,15 @@ impl Model for TagList {
 }
 
 impl TagList {
+    /// No tag.
+    pub fn new(alloc: Global) -> TagList
+        ensures { result ≡ [] }
+    {
+        TagList {
+            tags: Vec::new(alloc),
+        }
+    }
+
     pub(crate) fn of(tags: Vec<Tag>) -> TagList
         ensures { result ≡ tags.items }
     {

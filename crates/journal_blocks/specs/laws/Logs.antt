@@ -158,3 +158,34 @@ done_few base s image low high =
     let a = length-range_with_len s.start (s.maxlen - s.start) in
     let b = length-range_with_len s.first (s.start - s.first) in
     omega (arith, n, m, p, a, b)
+
+-- ---- the sequence that is expected behind the log
+
+next_sequence : (first n : ℕ) → ((first + n) % 2 ^ 32 + 1) % 2 ^ 32 ≡ (first + (n + 1)) % 2 ^ 32
+next_sequence first n = omega arith
+
+count_said : (zones first : ℕ) (r : Reading) (at : ℕ) (w : Said) → r.sequence ≡ (first + length r.done) % 2 ^ 32 → (found (by_said zones r at w)).sequence ≡ (first + length (found (by_said zones r at w)).done) % 2 ^ 32
+count_said zones first r at (Tags ts) e = e
+count_said zones first r at Ends e =
+    let size : length (committed r).done ≡ length r.done + 1 = length-append r.done (record { bodies = r.bodies; revokes = r.revokes } ∷ []) in
+    ap (λ (n : ℕ). (n + 1) % 2 ^ 32) e ∙ (next_sequence first (length r.done) ∙ ap (λ (n : ℕ). (first + n) % 2 ^ 32) (sym size))
+count_said zones first r at (Revokes blocks) e = e
+count_said zones first r at BadRevoke e = e
+count_said zones first r at Nothing e = e
+
+count_entry : (zones first : ℕ) (r : Reading) (e : Entry) (ts : List Tag) → r.sequence ≡ (first + length r.done) % 2 ^ 32 → (found (by_tags zones r e ts)).sequence ≡ (first + length (found (by_tags zones r e ts)).done) % 2 ^ 32
+count_entry zones first r e [] k = count_said zones first r e.at (said r.sequence e.body) k
+count_entry zones first r e (t ∷ ts) k = k
+
+count_log : (zones first : ℕ) (l : Log) (es : List Entry) → (found l).sequence ≡ (first + length (found l).done) % 2 ^ 32 → (found (read_log zones l es)).sequence ≡ (first + length (found (read_log zones l es)).done) % 2 ^ 32
+count_log zones first l [] k = k
+count_log zones first (HasEnded r) (e ∷ es) k = count_log zones first (HasEnded r) es k
+count_log zones first (GoesOn r) (e ∷ es) k = count_log zones first (by_tags zones r e r.tags) es (count_entry zones first r e r.tags k)
+
+below_itself : (n : ℕ) → n < 2 ^ 32 → n ≡ (n + 0) % 2 ^ 32
+below_itself n lt = omega arith
+
+-- the sequence that is expected behind the log counts its transactions, and comes round at 2^32
+pub log_counts : (base : ℕ) (s : JournalSuper) (image : List (List ℕ)) → s.sequence < 2 ^ 32 → (log_of base s image).sequence ≡ (s.sequence + length (log_of base s image).done) % 2 ^ 32
+unfolding log_of
+log_counts base s image lt = count_log base s.sequence (GoesOn (beginning s.sequence)) (map (entry_at base image) (places s)) (below_itself s.sequence lt)

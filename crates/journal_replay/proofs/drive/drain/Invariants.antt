@@ -1,0 +1,24 @@
+use Rattle.std.proofs.Common.{◌≡◌, length}
+use Rattle.order_model.specs.Device.{Seen}
+use Rattle.journal_replay.specs.Driving.{drained_by, drained, end_of}
+use Rattle.order_model.specs.Machine.{Machine}
+use Rattle.journal_replay.specs.code.Runs.{DrainKeeps}
+use Rattle.journal_replay.proofs.drive.drain.Given as goal
+
+-- what is still to be taken from here ends where all of it does
+abbrev pub invariant-loop-completion : goal.invariant-loop-completion
+invariant-loop-completion g l =
+    let d = g.D.OrderedDev in
+    let m : Machine d.State = record { seen = d.seen; has_room = d.has_room; received = d.received; can_transfer = d.can_transfer; transferred = d.transferred; persisted = d.persisted; next_answer = d.next_answer; answered = d.answered } in
+    let now = d.state l.dev in
+    record {
+      drained : drained m now ≡ drained m (d.state l.fn.dev);
+      valid : d.valid now;
+      end : l.end ≡ end_of (d.seen now);
+      kept : DrainKeeps (d.seen (d.state l.fn.dev)) (d.seen now);
+      on : d.stays_on (d.state l.fn.dev) → d.stays_on now;
+      left : d.left now ≡ d.left (d.state l.fn.dev);
+    }
+
+abbrev pub decreases-loop-completion : goal.decreases-loop-completion
+decreases-loop-completion g l = length (g.D.OrderedDev.seen (g.D.OrderedDev.state l.dev)).waiting

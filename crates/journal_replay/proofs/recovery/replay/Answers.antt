@@ -1,0 +1,97 @@
+use Rattle.std.proofs.Common.{◌≡◌, ◌≢◌, ◌∙◌, ◌<◌, ◌≤◌, ◌+◌, ◌^◌, ◌%◌, ◌==◌, ℕ, List, Option, None, Some, Ok, Err, Result, Bool, true, false, length, map, replicate, ap, sym, subst, arith}
+use Rattle.std.proofs.lemmas.Bool.{ne_eqb}
+use Rattle.std.proofs.lemmas.List.{length-map}
+use Rattle.blk_base.specs.Members.{In}
+use Rattle.order_model.specs.declared.command.Command.{Command}
+use Rattle.order_model.specs.declared.completion.Completion.TheVariants.{Failed}
+use Rattle.order_model.specs.Device.{Seen}
+use Rattle.order_model.specs.Machine.{Machine}
+use Rattle.log_model.specs.Marks.{Logged, Transaction, mark_in}
+use Rattle.journal_blocks.specs.declared.super_block.JournalSuper.{JournalSuper}
+use Rattle.journal_blocks.specs.Super.{super_of, with_tail}
+use Rattle.journal_blocks.specs.Log.{Reading, log_of, body_at}
+use Rattle.journal_replay.specs.declared.choice.Choice.TheVariants as choices
+use Rattle.journal_replay.specs.declared.end.End.{End}
+use Rattle.journal_replay.specs.declared.end.End.TheVariants as ends
+use Rattle.journal_replay.specs.Recovered.{recovered, transactions_of, next_sequence, log_mark, emptied_super}
+use Rattle.journal_replay.specs.Commands.{for_block, sends, homes, commands}
+use Rattle.journal_replay.specs.Driving.{Driven, driven, end_of, is_running, IsRun}
+use Rattle.journal_replay.specs.code.Homes.{logged, logged_of}
+use Rattle.journal_replay.specs.code.Scans.{transaction_of}
+use Rattle.journal_replay.specs.code.Runs.{HasLog}
+use Rattle.journal_replay.specs.laws.Plans.{length-homes}
+use Rattle.journal_replay.specs.laws.Whole.{commands_are, failed_in}
+use Rattle.journal_replay.specs.laws.Recoveries.{has_log, run_from, recoverable_from, fine_log, few_transactions, next_is, transactions-full}
+use Rattle.journal_replay.proofs.Faults.{same_failed}
+use Rattle.journal_replay.proofs.recovery.replay.Goals as goal
+
+pub overflow_cast-replayed : goal.overflow_cast-replayed
+overflow_cast-replayed g c =
+    let d = g.D.OrderedDev in
+    let image = (d.seen (d.state c.args.dev.now)).surface in
+    let j = c.args.journal in
+    let few = few_transactions c.args.base j.fields image c.requires.journal.sound c.requires.full in
+    let same = ap (λ (ts : List Transaction). length ts) c.requires.journal.log in
+    let count = c.len-replayed.ensures in
+    omega (arith, few, same, count)
+
+pub write_back-requires-clause-image : goal.write_back-requires-clause-image
+write_back-requires-clause-image g c =
+    let d = g.D.OrderedDev in
+    let image = (d.seen (d.state c.args.dev.now)).surface in
+    let j = c.requires.journal in
+    recoverable_from c.args.base image c.args.journal.fields c.requires.within j.size j.read (fine_log c.args.base image c.args.journal.fields j.read c.requires.full j.fine)
+
+pub write_back-requires-clause-log : goal.write_back-requires-clause-log
+write_back-requires-clause-log g c =
+    let d = g.D.OrderedDev in
+    has_log c.args.base (d.seen (d.state c.args.dev.now)).surface c.args.journal (logged_of c.in-Ok-homes_of.homes.items) (map transaction_of c.as_slice.result.now) c.len-replayed.result c.set_tail.new.b c.requires.journal c.requires.full c.as_slice.ensures c.in-Ok-homes_of.ensures c.len-replayed.ensures c.set_tail.ensures.value
+
+pub write_back-requires-clause-few : goal.write_back-requires-clause-few
+write_back-requires-clause-few g c =
+    let size : length (logged_of c.in-Ok-homes_of.homes.items) ≡ length c.in-Ok-homes_of.homes.items = length-map c.in-Ok-homes_of.homes.items logged in
+    let few = length-homes (mark_in (map transaction_of c.as_slice.result.now)) 0 c.args.base in
+    let same = ap (λ (hs : List Logged). length hs) c.in-Ok-homes_of.ensures in
+    let fits = c.ranges.base.fits in
+    omega arith
+
+pub returns-in-Flushed-clause-next : goal.returns-in-Flushed-clause-next
+returns-in-Flushed-clause-next g c =
+    let d = g.D.OrderedDev in
+    let j = c.requires.journal in
+    next_is c.args.base c.args.journal.fields (d.seen (d.state c.args.dev.now)).surface c.len-replayed.result j.sound c.requires.full (c.len-replayed.ensures ∙ ap (λ (ts : List Transaction). length ts) j.log)
+
+pub returns-in-Running-clause-next : goal.returns-in-Running-clause-next
+returns-in-Running-clause-next g c =
+    let d = g.D.OrderedDev in
+    let j = c.requires.journal in
+    next_is c.args.base c.args.journal.fields (d.seen (d.state c.args.dev.now)).surface c.len-replayed.result j.sound c.requires.full (c.len-replayed.ensures ∙ ap (λ (ts : List Transaction). length ts) j.log)
+
+pub returns-in-Flushed-clause-run : goal.returns-in-Flushed-clause-run
+returns-in-Flushed-clause-run g c =
+    let d = g.D.OrderedDev in
+    let m : Machine d.State = record { seen = d.seen; has_room = d.has_room; received = d.received; can_transfer = d.can_transfer; transferred = d.transferred; persisted = d.persisted; next_answer = d.next_answer; answered = d.answered } in
+    run_from m (commands_are c.args.base (d.seen (d.state c.args.dev.now)).surface (logged_of c.in-Ok-homes_of.homes.items) c.set_tail.new.b (has_log c.args.base (d.seen (d.state c.args.dev.now)).surface c.args.journal (logged_of c.in-Ok-homes_of.homes.items) (map transaction_of c.as_slice.result.now) c.len-replayed.result c.set_tail.new.b c.requires.journal c.requires.full c.as_slice.ensures c.in-Ok-homes_of.ensures c.len-replayed.ensures c.set_tail.ensures.value)) c.args.steer.now c.args.cut (d.state c.args.dev.now) (d.state c.write_back.new.dev) c.write_back.ensures.cut_run c.write_back.ensures.whole_run
+    (λ whole. ap is_running (sym c.write_back.ensures.told) ∙ c.write_back.ensures.ended whole)
+
+pub returns-in-Running-clause-run : goal.returns-in-Running-clause-run
+returns-in-Running-clause-run g c =
+    let d = g.D.OrderedDev in
+    let m : Machine d.State = record { seen = d.seen; has_room = d.has_room; received = d.received; can_transfer = d.can_transfer; transferred = d.transferred; persisted = d.persisted; next_answer = d.next_answer; answered = d.answered } in
+    run_from m (commands_are c.args.base (d.seen (d.state c.args.dev.now)).surface (logged_of c.in-Ok-homes_of.homes.items) c.set_tail.new.b (has_log c.args.base (d.seen (d.state c.args.dev.now)).surface c.args.journal (logged_of c.in-Ok-homes_of.homes.items) (map transaction_of c.as_slice.result.now) c.len-replayed.result c.set_tail.new.b c.requires.journal c.requires.full c.as_slice.ensures c.in-Ok-homes_of.ensures c.len-replayed.ensures c.set_tail.ensures.value)) c.args.steer.now c.args.cut (d.state c.args.dev.now) (d.state c.write_back.new.dev) c.write_back.ensures.cut_run c.write_back.ensures.whole_run
+    (λ whole. ap is_running (sym c.write_back.ensures.told) ∙ c.write_back.ensures.ended whole)
+
+pub returns-clause-failed_run : goal.returns-clause-failed_run
+returns-clause-failed_run g c id e =
+    let d = g.D.OrderedDev in
+    let m : Machine d.State = record { seen = d.seen; has_room = d.has_room; received = d.received; can_transfer = d.can_transfer; transferred = d.transferred; persisted = d.persisted; next_answer = d.next_answer; answered = d.answered } in
+    run_from m (commands_are c.args.base (d.seen (d.state c.args.dev.now)).surface (logged_of c.in-Ok-homes_of.homes.items) c.set_tail.new.b (has_log c.args.base (d.seen (d.state c.args.dev.now)).surface c.args.journal (logged_of c.in-Ok-homes_of.homes.items) (map transaction_of c.as_slice.result.now) c.len-replayed.result c.set_tail.new.b c.requires.journal c.requires.full c.as_slice.ensures c.in-Ok-homes_of.ensures c.len-replayed.ensures c.set_tail.ensures.value)) c.args.steer.now c.args.cut (d.state c.args.dev.now) (d.state c.write_back.new.dev) c.write_back.ensures.cut_run c.write_back.ensures.whole_run
+    (λ whole. ap is_running (sym c.write_back.ensures.told) ∙ c.write_back.ensures.ended whole)
+
+pub returns-clause-device_failed : goal.returns-clause-device_failed
+returns-clause-device_failed g c id e =
+    let d = g.D.OrderedDev in
+    let same : c.in-Failed.id ≡ id = same_failed c.in-Failed.id id e in (
+      c.write_back.ensures.failed c.in-Failed.id c.in-Failed.is,
+      subst (λ (i : ℕ). In (Failed i) (d.seen (d.state c.write_back.new.dev)).sent) same (failed_in c.in-Failed.id (d.seen (d.state c.write_back.new.dev)).sent (sym c.write_back.ensures.told ∙ c.in-Failed.is)),
+    )

@@ -1,0 +1,31 @@
+use Rattle.std.proofs.Common.{◌≡◌, sym, subst}
+use Rattle.journal_replay.specs.code.Sending.{any_command}
+use Rattle.journal_replay.specs.code.Scans.{HasRead}
+use Rattle.journal_replay.specs.laws.Scans.{has_read}
+use Rattle.journal_replay.proofs.scanning.read_place.Goals as goal
+
+pub returns-in-Ok-clause-read : goal.returns-in-Ok-clause-read
+returns-in-Ok-clause-read g c =
+    let d = g.D.OrderedDev in
+    let s = d.state c.args.dev.now in
+    let law = (g.met.D.OrderedDev.reads s c.args.block c.requires.valid).1 in
+    subst (λ (x : d.State). HasRead (d.seen s) (d.seen x)) (sym c.read.ensures.state) (has_read (d.seen s) (d.seen (d.after_read s c.args.block)) law c.requires.quiet)
+
+pub returns-in-Err-clause-read : goal.returns-in-Err-clause-read
+returns-in-Err-clause-read g c =
+    let d = g.D.OrderedDev in
+    let s = d.state c.args.dev.now in
+    let law = (g.met.D.OrderedDev.reads s c.args.block c.requires.valid).1 in
+    subst (λ (x : d.State). HasRead (d.seen s) (d.seen x)) (sym c.read.ensures.state) (has_read (d.seen s) (d.seen (d.after_read s c.args.block)) law c.requires.quiet)
+
+pub returns-in-Ok-clause-on : goal.returns-in-Ok-clause-on
+returns-in-Ok-clause-on g c on =
+    let d = g.D.OrderedDev in
+    let s = d.state c.args.dev.now in
+    subst d.stays_on (sym c.read.ensures.state) (g.met.D.OrderedDev.stays s any_command c.args.block on).4
+
+pub returns-in-Err-clause-on : goal.returns-in-Err-clause-on
+returns-in-Err-clause-on g c on =
+    let d = g.D.OrderedDev in
+    let s = d.state c.args.dev.now in
+    subst d.stays_on (sym c.read.ensures.state) (g.met.D.OrderedDev.stays s any_command c.args.block on).4

@@ -1,0 +1,84 @@
+-- The run of a recovery on a device: what it sends, the steps that it makes, and when it ends.
+use Rattle.std.specs.Prelude.{◌≡◌, ℕ, zero, suc, ◌+◌, ◌<◌, ◌≤◌, Bool, true, false, replicate, nat_lt, if◌then◌else◌, List, [], ◌∷◌, ◌++◌, length, Option, Some, None}
+use Rattle.order_model.specs.declared.command.Command.{Command}
+use Rattle.order_model.specs.declared.completion.Completion.{Completion}
+use Rattle.order_model.specs.declared.completion.Completion.TheVariants as completion
+use Rattle.order_model.specs.Device.{Seen}
+use Rattle.order_model.specs.Steps.{Reads}
+use Rattle.order_model.specs.Machine.{Machine}
+use Rattle.journal_replay.specs.declared.choice.Choice.{Choice}
+use Rattle.journal_replay.specs.declared.choice.Choice.TheVariants as choice
+use Rattle.journal_replay.specs.declared.end.End.{End}
+use Rattle.journal_replay.specs.declared.end.End.TheVariants as ends
+
+-- a device, and the commands that it is still to get
+pub record Driven (S : Type 0) : Type 0 where
+  pub dev : S
+  pub rest : List Command
+
+abbrev pub by_completion : End → Completion → End
+by_completion ends.Running (completion.Flushed id) = ends.Flushed
+by_completion ends.Running (completion.Failed id) = ends.Failed id
+by_completion ends.Running (completion.Moved id) = ends.Running
+by_completion ends.Running completion.Cut = ends.Running
+by_completion ends.Flushed c = ends.Flushed
+by_completion (ends.Failed id) c = ends.Failed id
+
+-- the end that a list of completions brings, which is that of the first flush or failure
+abbrev pub end_after : End → List Completion → End
+end_after e [] = e
+end_after e (c ∷ cs) = end_after (by_completion e c) cs
+
+abbrev pub end_of : Seen → End
+end_of s = end_after ends.Running s.sent
+
+abbrev pub is_running : End → Bool
+is_running ends.Running = true
+is_running ends.Flushed = false
+is_running (ends.Failed id) = false
+
+module _ {S : Type 0} where
+  -- commands go out while there is room
+  abbrev pub sent : Machine S → S → List Command → Driven S
+  sent m s [] = record { dev = s; rest = [] }
+  sent m s (c ∷ cs) = if m.has_room s then sent m (m.received s c) cs else record { dev = s; rest = c ∷ cs }
+
+  -- one device step
+  abbrev pub chosen : Machine S → Choice → S → S
+  chosen m (choice.Transfer pick) s = m.transferred s pick
+  chosen m (choice.Persist pick) s = m.persisted s pick
+  chosen m choice.Default s = if nat_lt 0 (m.can_transfer s) then m.transferred s 0 else m.persisted s 0
+
+  -- completions are taken until none waits, which one call more tells
+  abbrev pub drained_by : Machine S → ℕ → Option Completion → S → S
+  drained_by m n None s = m.answered s
+  drained_by m zero (Some c) s = m.answered s
+  drained_by m (suc n) (Some c) s = drained_by m n (m.next_answer (m.answered s)) (m.answered s)
+
+  abbrev pub drained : Machine S → S → S
+  drained m s = drained_by m (length (m.seen s).waiting) (m.next_answer s) s
+
+  abbrev pub stepped : Machine S → Choice → S → S
+  stepped m c s = drained m (chosen m c s)
+
+  -- what there is room for is sent, and one step follows
+  abbrev pub turned_from : Machine S → Choice → Driven S → Driven S
+  turned_from m c e = record { dev = stepped m c e.dev; rest = e.rest }
+
+  -- one turn; an end ends it
+  abbrev pub turned : Machine S → Choice → Driven S → Driven S
+  turned m c d = if is_running (end_of (m.seen d.dev)) then turned_from m c (sent m d.dev d.rest) else d
+
+  -- a run by a list of choices, behind which it sends what there is room for
+  abbrev pub driven : Machine S → List Choice → Driven S → Driven S
+  driven m [] d = if is_running (end_of (m.seen d.dev)) then sent m d.dev d.rest else d
+  driven m (c ∷ cs) d = driven m cs (turned m c d)
+
+-- The device was read, and then these commands went to it: the steps are those of the list, and where the run is not cut
+-- behind the list, it goes on by default to its end.
+pub record IsRun {S : Type 0} (m : Machine S) (commands : List Command) (steer : List Choice) (cut : Bool) (old new : S) : Type 0 where
+  pub start : S
+  pub reads : Reads (m.seen old) (m.seen start)
+  pub cut_run : cut ≡ true → new ≡ (driven m steer (record { dev = start; rest = commands })).dev
+  pub whole_run : cut ≡ false → (turns : ℕ) × (new ≡ (driven m (replicate turns choice.Default) (driven m steer (record { dev = start; rest = commands }))).dev)
+  pub over : cut ≡ false → is_running (end_of (m.seen new)) ≡ false

@@ -1,0 +1,6 @@
+pub mod Recovered
+pub mod Commands
+pub mod Revokes
+pub mod Driving
+pub mod code
+pub mod laws

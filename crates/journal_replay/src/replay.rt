@@ -1,0 +1,57 @@
+//! An attempt of recovery, from what was read of the log.
+ghost use Rattle.std.specs.Prelude.{◌≡◌, ℕ, ◌+◌, ◌≤◌, ◌<◌, ◌^◌, [], List, length, replicate, true, false, vec_len};
+ghost use Rattle.blk_base.specs.Members.{In};
+ghost use Rattle.blk_base.specs.Streams.{Rose};
+ghost use Rattle.order_model.specs.Device.{IsQuiet};
+ghost use Rattle.order_model.specs.Machine.{Machine};
+ghost use Rattle.journal_replay.specs.Driving.{Driven, driven, end_of, is_running};
+ghost use Rattle.journal_replay.specs.Commands.{for_block, sends};
+ghost use Rattle.journal_replay.specs.Recovered.{recovered, IsRecoverable};
+ghost use Rattle.journal_replay.specs.code.Homes.{logged_of};
+ghost use Rattle.journal_replay.specs.code.Runs.{HasLog};
+
+use crate::drive::{finish, follow};
+use crate::end::End;
+use crate::plan::Plan;
+use crate::{Choice, Home};
+use blk_base::Block;
+use order_model::OrderedDev;
+
+// Writes the bodies of a log to their homes, empties the log and flushes. It makes the steps of a list, and then, unless it
+// is to be cut there, steps by default until the flush is answered or a command has failed.
+pub(crate) fn write_back<D: OrderedDev>(
+    dev: &mut D,
+    homes: Vec<Home>,
+    base: u32,
+    superblock: Block,
+    steer: &[Choice],
+    cut: bool,
+) -> End
+    requires fresh { (D.seen (D.state dev.old)).took ≡ [] }
+    requires on { D.stays_on (D.state dev.old) }
+    requires room { length (D.seen (D.state dev.old)).surface + 2 ≤ (D.seen (D.state dev.old)).limit }
+    requires image { IsRecoverable base (D.seen (D.state dev.old)).surface }
+    requires log { HasLog base (D.seen (D.state dev.old)).surface (logged_of homes.items) superblock }
+    requires few { vec_len homes < 2 ^ 32 }
+    ensures attempt { recovered base (D.seen (D.state dev.new)).surface ≡ recovered base (D.seen (D.state dev.old)).surface }
+    ensures whole { result ≡ End.Flushed → ((D.seen (D.state dev.new)).surface ≡ recovered base (D.seen (D.state dev.old)).surface) × IsQuiet (D.seen (D.state dev.new)) }
+    ensures ended { cut ≡ false → is_running result ≡ false }
+    ensures cut_run { let machine : Machine D.State = record { seen = D.seen; has_room = D.has_room; received = D.received; can_transfer = D.can_transfer; transferred = D.transferred; persisted = D.persisted; next_answer = D.next_answer; answered = D.answered } in
+        let start : Driven D.State = record { dev = D.state dev.old; rest = sends (logged_of homes.items) (for_block base superblock) } in
+        cut ≡ true → D.state dev.new ≡ (driven machine steer.now start).dev }
+    ensures whole_run { let machine : Machine D.State = record { seen = D.seen; has_room = D.has_room; received = D.received; can_transfer = D.can_transfer; transferred = D.transferred; persisted = D.persisted; next_answer = D.next_answer; answered = D.answered } in
+        let start : Driven D.State = record { dev = D.state dev.old; rest = sends (logged_of homes.items) (for_block base superblock) } in
+        cut ≡ false → (k : ℕ) × (D.state dev.new ≡ (driven machine (replicate k Choice.Default) (driven machine steer.now start)).dev) }
+    ensures failed { (id : ℕ) → result ≡ End.Failed id → Rose (D.seen (D.state dev.old)).faults (D.seen (D.state dev.new)).faults }
+    ensures counts { (D.seen (D.state dev.old)).faults ≤ (D.seen (D.state dev.new)).faults }
+    ensures told { result ≡ end_of (D.seen (D.state dev.new)) }
+{
+    // By this call the device tells that its laws hold of its state.
+    let _ = dev.blocks();
+    let mut plan = Plan::make(homes, base, superblock);
+    let end = follow(dev, &mut plan, steer);
+    if cut {
+        return end;
+    }
+    finish(dev, &mut plan, end)
+}
