@@ -6,6 +6,6 @@ pub mod Merging
 pub mod Parts
 pub mod Queue
 pub mod Received
+pub mod Single
 pub mod Steps
 pub mod Submission
-pub mod Single

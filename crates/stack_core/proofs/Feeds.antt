@@ -72,7 +72,7 @@ module _ {K : Type 0} where
 -- ---- the next command
 
 -- the request that a direct feed gives
-given_direct : (next : ℕ) (o : Option Request) (c : Command) (g : Feed) → option_map {U = Command × Feed} (λ (r : Request). (command_for r, Direct (next + 1))) o ≡ Some (c, g)
+pub given_direct : (next : ℕ) (o : Option Request) (c : Command) (g : Feed) → option_map {U = Command × Feed} (λ (r : Request). (command_for r, Direct (next + 1))) o ≡ Some (c, g)
     → (r : Request) × (o ≡ Some r) × (command_for r ≡ c) × (Direct (next + 1) ≡ g)
 given_direct next None c g e = absurd (none-some (c, g) e)
 given_direct next (Some r) c g e =
@@ -80,7 +80,7 @@ given_direct next (Some r) c g e =
     (r, refl, p.0, p.1)
 
 -- the command that waits first
-given_scheduled : (s : SideState) (l : List Command) (c : Command) (g : Feed) → option_map {U = Command × Feed} (λ (x : Command × SideState). (x.0, Scheduled x.1)) (given_first s l) ≡ Some (c, g)
+pub given_scheduled : (s : SideState) (l : List Command) (c : Command) (g : Feed) → option_map {U = Command × Feed} (λ (x : Command × SideState). (x.0, Scheduled x.1)) (given_first s l) ≡ Some (c, g)
     → (cs : List Command) × (l ≡ c ∷ cs) × (Scheduled (record s { dispatched = cs }) ≡ g)
 given_scheduled s [] c g e = absurd (none-some (c, g) e)
 given_scheduled s (b ∷ cs) c g e =

@@ -1,14 +1,13 @@
 -- The device and the scheduler that a script opens.
-use Rattle.std.proofs.Common.{◌≡◌, ℕ, ◌++◌, List, length, refl, sym, ap, ap₂, ◌∙◌, subst, arith, Result, Ok, Err, IfOk}
+use Rattle.std.proofs.Common.{◌≡◌, ℕ, ◌++◌, ◌≤◌, List, [], None, length, refl, sym, ap, ap₂, ◌∙◌, subst, Result, Ok, Err, IfOk}
 use Rattle.std.proofs.lemmas.List.{length-replicate}
 use Rattle.blk_base.specs.Block.{filled}
 use Rattle.blk_base.specs.Image.{zeros}
 use Rattle.order_model.specs.Device.{Seen}
 use Rattle.order_model.specs.Carrying.{SchedSeen}
-use Rattle.barrier_reassign.specs.Sched.{SchedState, seen_of}
+use Rattle.barrier_reassign.specs.Sched.{SchedState, seen_of, sched_steps}
+use Rattle.device_epochs.specs.declared.device.DeviceSetup.{DeviceSetup}
 use Rattle.device_epochs.specs.Device.{DeviceState, opened, seen}
-use Rattle.device_epochs.specs.Valid.{IsValid}
-use Rattle.device_epochs.specs.Laws.{opened-valid}
 use Rattle.script_grammar.specs.declared.script.Script.{Script}
 use Rattle.script_grammar.specs.Grammar.{blocks_of, IsRunnable}
 use Rattle.stack_core.specs.declared.report.Report.{Report}
@@ -16,15 +15,22 @@ use Rattle.stack_core.specs.declared.feed.Feed.{Feed}
 use Rattle.stack_core.specs.Headline.{KeepsOrder}
 use Rattle.stack_core.specs.Report.{IsReportOf, Headline}
 use Rattle.stack_core.specs.Feed.{opened_feed, IsFed, AreRequests}
-use Rattle.stack_core.specs.Core.{opened_for, opened_plain, core}
+use Rattle.stack_core.specs.Core.{RunState, setup_for, opened_for, opened_plain, epoch_machine, ended, core}
 use Rattle.stack_core.proofs.Feeds.{opened_fed}
 
-pub valid_when_opened : (s : Script) → IsRunnable s → IsValid (opened_for s)
-valid_when_opened s can = opened-valid (zeros (blocks_of s)) s.header.depth (length s.puts) s.header.cut can.some_depth
+-- what stands before a device that was made over the script's image, with the device
+pub fed_on : (s : Script) (d : Seen) → IsRunnable s → d.base ≡ zeros (blocks_of s) → d.took ≡ [] → length s.puts ≤ d.limit → IsFed (opened_feed s) (seen_of (opened_plain s)) s.puts d
+fed_on s d can base took limit =
+    let blocks : length d.base ≡ blocks_of s = ap length base ∙ length-replicate (blocks_of s) (filled 0) in
+    opened_fed s (seen_of (opened_plain s)) d (subst (λ n. AreRequests n s.puts) (sym blocks) can.requests) limit took refl refl refl
 
-pub fed_when_opened : (s : Script) → IsRunnable s → IsFed (opened_feed s) (seen_of (opened_plain s)) s.puts (seen (opened_for s))
-fed_when_opened s can =
-    opened_fed s (seen_of (opened_plain s)) (seen (opened_for s)) (subst (λ n. AreRequests n s.puts) (sym (length-replicate (blocks_of s) (filled 0))) can.requests) (omega arith) refl refl refl refl
+-- how a device for so many ids is set up
+abbrev pub setup_of : Script → ℕ → DeviceSetup
+setup_of s limit = record { depth = s.header.depth; limit = limit; fail_at = None; bad_read = None; cut_at = s.header.cut }
+
+-- where a script ends on this device of epochs
+abbrev pub end_of : Script → DeviceState → RunState SchedState DeviceState
+end_of s d = ended sched_steps epoch_machine s (opened_plain s) d
 
 -- a report keeps the order over the zeros of its own script
 pub headline_of : {E : Type 0} (result : Result Report E) (s : Script) (feed : Feed) (p : SchedSeen) (end : Seen) → IfOk result (IsReportOf s feed p end)
@@ -34,7 +40,7 @@ headline_of (Ok r) s feed p end is order =
 headline_of (Err e) s feed p end is order = tt
 
 -- what was made of the script's numbers is the device that it opens
-pub opened_is : (s : Script) (d : DeviceState) (image : List (List ℕ)) (limit blocks : ℕ) → d ≡ opened image s.header.depth limit s.header.cut
-    → image ≡ zeros blocks → blocks ≡ blocks_of s → limit ≡ length s.puts → d ≡ opened_for s
-opened_is s d image limit blocks made zero count same =
-    made ∙ ap₂ (λ (i : List (List ℕ)) (n : ℕ). opened i s.header.depth n s.header.cut) (zero ∙ ap zeros count) same
+pub opened_is : (s : Script) (d : DeviceState) (image : List (List ℕ)) (setup : DeviceSetup) (blocks : ℕ) → d ≡ opened image setup
+    → image ≡ zeros blocks → blocks ≡ blocks_of s → setup ≡ setup_for s → d ≡ opened_for s
+opened_is s d image setup blocks made zero count same =
+    made ∙ ap₂ opened (zero ∙ ap zeros count) same

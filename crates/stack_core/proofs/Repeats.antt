@@ -6,7 +6,8 @@ use Rattle.std.proofs.Math.Seq.{drop-cons}
 use Rattle.order_model.specs.declared.request.Request.{Request}
 use Rattle.script_grammar.specs.declared.script.EventLine.{EventLine}
 use Rattle.barrier_reassign.specs.Scheduler.{SchedSteps}
-use Rattle.stack_core.specs.Core.{Machine, RunState, times, happens_line, run_lines}
+use Rattle.order_model.specs.Machine.{Machine}
+use Rattle.stack_core.specs.Core.{RunState, times, happens_line, run_lines}
 
 pub times-more : {S : Type 0} (n i : ℕ) (f : S → S) (s : S) → i < n → times (n - i) f s ≡ times (n - (i + 1)) f (f s)
 times-more n i f s lt = let e : n - i ≡ suc (n - (i + 1)) = omega arith in rw e refl

@@ -1,10 +1,12 @@
 -- The run of a script: the events one after the other, each by the steps of the part that it speaks of.
-use Rattle.std.specs.Prelude.{ℕ, Bool, List, [], ◌∷◌, length, Option, Some, None, zero, suc, if◌then◌else◌}
+use Rattle.std.specs.Prelude.{ℕ, List, [], ◌∷◌, length, Option, Some, None, zero, suc, if◌then◌else◌}
 use Rattle.blk_base.specs.Image.{zeros}
 use Rattle.order_model.specs.declared.command.Command.{Command}
 use Rattle.order_model.specs.declared.request.Request.{Request}
+use Rattle.order_model.specs.Machine.{Machine}
 use Rattle.barrier_reassign.specs.Scheduler.{SchedSteps}
 use Rattle.barrier_reassign.specs.Sched as plain
+use Rattle.device_epochs.specs.declared.device.DeviceSetup.{DeviceSetup}
 use Rattle.device_epochs.specs.Device as epochs
 use Rattle.device_epochs.specs.Device.{DeviceState}
 use Rattle.script_grammar.specs.declared.script.Script.{Script}
@@ -16,13 +18,6 @@ use Rattle.script_grammar.specs.declared.script.CoreEvent.TheVariants.{Submit, A
 use Rattle.script_grammar.specs.Grammar.{blocks_of}
 use Rattle.stack_core.specs.declared.feed.Feed.{Feed}
 use Rattle.stack_core.specs.Feed.{FeedRun, opened_feed, scheduled_count, stepped, given}
-
--- the steps of a device
-pub record Machine (S : Type 0) : Type 0 where
-  pub has_room : S → Bool
-  pub received : S → Command → S
-  pub transferred : S → ℕ → S
-  pub persisted : S → ℕ → S
 
 -- what stands before the device with its scheduler, and the device
 pub record RunState (K S : Type 0) : Type 0 where
@@ -71,11 +66,27 @@ ended k m s sched dev = run_lines k m s.puts (record { feed = opened_feed s; sch
 
 -- the steps of the device of epochs
 abbrev pub epoch_machine : Machine DeviceState
-epoch_machine = record { has_room = epochs.has_room; received = epochs.received; transferred = epochs.transferred; persisted = epochs.persisted }
+epoch_machine = record {
+  seen = epochs.seen;
+  has_room = epochs.has_room;
+  can_transfer = λ s. length (epochs.transferable s);
+  can_persist = λ s. length (epochs.persistable s);
+  received = epochs.received;
+  transferred = epochs.transferred;
+  persisted = epochs.persisted;
+  next_answer = epochs.next_answer;
+  answered = epochs.answered;
+  read_fails = λ s. epochs.is_next s.bad_read;
+  after_read = λ s block. epochs.after_read s;
+}
 
--- the device that a script opens: zeros, with room for all its requests
+-- how the device of a script is set up: with room for all its requests, and no fault to come
+abbrev pub setup_for : Script → DeviceSetup
+setup_for s = record { depth = s.header.depth; limit = length s.puts; fail_at = None; bad_read = None; cut_at = s.header.cut }
+
+-- the device that a script opens, over zeros
 abbrev pub opened_for : Script → DeviceState
-opened_for s = epochs.opened (zeros (blocks_of s)) s.header.depth (length s.puts) s.header.cut
+opened_for s = epochs.opened (zeros (blocks_of s)) (setup_for s)
 
 -- the plain scheduler that a script opens, in which 128 requests may wait
 abbrev pub opened_plain : Script → plain.SchedState

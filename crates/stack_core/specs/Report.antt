@@ -1,13 +1,17 @@
 -- Which report a run leaves.
-use Rattle.std.specs.Prelude.{◌≡◌, ◌++◌, take}
+use Rattle.std.specs.Prelude.{◌≡◌, ◌++◌, List, map, take}
 use Rattle.blk_base.specs.Image.{zeros}
 use Rattle.order_model.specs.Device.{Seen, origin_ids}
 use Rattle.order_model.specs.Steps.{IsTraceOf}
-use Rattle.order_model.specs.Carrying.{SchedSeen}
+use Rattle.order_model.specs.declared.completion.Completion.{Completion}
+use Rattle.order_model.specs.Single.{command_for}
+use Rattle.order_model.specs.Carrying.{SchedSeen, IsFrontOf}
 use Rattle.barrier_reassign.specs.Scheduler.{IsSchedRecord}
 use Rattle.barrier_reassign.specs.Sched.{seen_of}
 use Rattle.device_epochs.specs.Device.{seen}
 use Rattle.script_grammar.specs.declared.script.Script.{Script}
+use Rattle.script_grammar.specs.declared.script.Form.{Form}
+use Rattle.script_grammar.specs.declared.script.Form.TheVariants.{Device, Blocks}
 use Rattle.script_grammar.specs.Grammar.{blocks_of}
 use Rattle.stack_core.specs.declared.feed.Feed.{Feed}
 use Rattle.stack_core.specs.declared.report.Report.{Report}
@@ -27,6 +31,18 @@ pub record IsReportOf (s : Script) (feed : Feed) (passed : SchedSeen) (left : Se
 -- the report of the core run of the script
 abbrev pub IsCoreReport : Script → Report → Type 0
 IsCoreReport s r = IsReportOf s (core s).feed (seen_of (core s).sched) (seen (core s).dev) r
+
+-- in a `device` script the device took each request as a command of its own, in order; in a `blocks` script
+-- the first commands that the scheduler sent out
+abbrev pub TookInOrder : Form → Report → Type 0
+TookInOrder (Device blocks) r = r.cut.trace.took.items ≡ map command_for r.submitted
+TookInOrder (Blocks blocks) r = IsFrontOf r.cut.trace.took.items r.sched.sent_out.items
+
+-- How the parts of a run fit: what each one took is a front of what the one before it gave.
+pub record PartsFit (r : Report) (completed : List Completion) : Type 0 where
+  pub accepted : IsFrontOf r.sched.accepted.items r.submitted
+  pub took : TookInOrder r.script.kind r
+  pub sent : IsFrontOf r.cut.trace.sent.items completed
 
 -- The headline, as far as a script of block requests goes: its first sentence, over a medium of zeros. What
 -- completed is what was handed out, and what the device still had to hand out when the power was cut.

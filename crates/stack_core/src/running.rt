@@ -1,10 +1,13 @@
 //! The run of a script on a scheduler and a device.
-ghost use Rattle.std.specs.Prelude.{◌≡◌, ◌++◌, ℕ, ◌≤◌, true, length, IfOk};
-ghost use Rattle.script_grammar.specs.Grammar.{IsRunnable};
+ghost use Rattle.std.specs.Prelude.{◌≡◌, ◌++◌, ℕ, ◌≤◌, true, [], length, IfOk};
+ghost use Rattle.order_model.specs.Machine.{machine_of};
+ghost use Rattle.blk_base.specs.Image.{zeros};
+ghost use Rattle.script_grammar.specs.Grammar.{IsRunnable, blocks_of};
 ghost use Rattle.barrier_reassign.specs.Sched.{sched_steps, seen_of};
+ghost use Rattle.device_epochs.specs.Device.{seen};
 ghost use Rattle.stack_core.specs.Feed.{IsFed, opened_feed, scheduled_count};
-ghost use Rattle.stack_core.specs.Core.{Machine, RunState, happens, times, happens_line, run_lines, ended, opened_plain};
-ghost use Rattle.stack_core.specs.Report.{IsReportOf, IsCoreReport, Headline};
+ghost use Rattle.stack_core.specs.Core.{RunState, happens, times, happens_line, run_lines, ended, core, opened_plain};
+ghost use Rattle.stack_core.specs.Report.{IsReportOf, IsCoreReport, PartsFit, Headline};
 ghost use Rattle.stack_core.specs.Headline.{KeepsOrder};
 
 use crate::feed::Feed;
@@ -22,7 +25,7 @@ fn do_event<S: Scheduler, D: OrderedDev>(feed: &mut Feed, sched: &mut S, dev: &m
     requires valid { D.valid (D.state dev.old) }
     requires scheduler { S.valid (S.state sched.old) }
     requires fed { IsFed feed.old (S.steps.seen (S.state sched.old)) requests.now (D.seen (D.state dev.old)) }
-    ensures step { record { feed = feed.new; sched = S.state sched.new; dev = D.state dev.new } ≡ happens S.steps (record { has_room = D.has_room; received = D.received; transferred = D.transferred; persisted = D.persisted }) requests.now (record { feed = feed.old; sched = S.state sched.old; dev = D.state dev.old }) event }
+    ensures step { record { feed = feed.new; sched = S.state sched.new; dev = D.state dev.new } ≡ happens S.steps (machine_of D.OrderedDev) requests.now (record { feed = feed.old; sched = S.state sched.old; dev = D.state dev.old }) event }
     ensures valid { D.valid (D.state dev.new) }
     ensures scheduler { S.valid (S.state sched.new) }
     ensures base { (D.seen (D.state dev.new)).base ≡ (D.seen (D.state dev.old)).base }
@@ -45,7 +48,7 @@ fn receive_next<S: Scheduler, D: OrderedDev>(feed: &mut Feed, sched: &mut S, dev
     requires valid { D.valid (D.state dev.old) }
     requires scheduler { S.valid (S.state sched.old) }
     requires fed { IsFed feed.old (S.steps.seen (S.state sched.old)) requests.now (D.seen (D.state dev.old)) }
-    ensures step { record { feed = feed.new; sched = S.state sched.new; dev = D.state dev.new } ≡ happens S.steps (record { has_room = D.has_room; received = D.received; transferred = D.transferred; persisted = D.persisted }) requests.now (record { feed = feed.old; sched = S.state sched.old; dev = D.state dev.old }) CoreEvent.Receive }
+    ensures step { record { feed = feed.new; sched = S.state sched.new; dev = D.state dev.new } ≡ happens S.steps (machine_of D.OrderedDev) requests.now (record { feed = feed.old; sched = S.state sched.old; dev = D.state dev.old }) CoreEvent.Receive }
     ensures valid { D.valid (D.state dev.new) }
     ensures scheduler { S.valid (S.state sched.new) }
     ensures base { (D.seen (D.state dev.new)).base ≡ (D.seen (D.state dev.old)).base }
@@ -66,7 +69,7 @@ fn repeat_event<S: Scheduler, D: OrderedDev>(feed: &mut Feed, sched: &mut S, dev
     requires valid { D.valid (D.state dev.old) }
     requires scheduler { S.valid (S.state sched.old) }
     requires fed { IsFed feed.old (S.steps.seen (S.state sched.old)) requests.now (D.seen (D.state dev.old)) }
-    ensures step { record { feed = feed.new; sched = S.state sched.new; dev = D.state dev.new } ≡ times count (λ s. happens S.steps (record { has_room = D.has_room; received = D.received; transferred = D.transferred; persisted = D.persisted }) requests.now s event) (record { feed = feed.old; sched = S.state sched.old; dev = D.state dev.old }) }
+    ensures step { record { feed = feed.new; sched = S.state sched.new; dev = D.state dev.new } ≡ times count (λ s. happens S.steps (machine_of D.OrderedDev) requests.now s event) (record { feed = feed.old; sched = S.state sched.old; dev = D.state dev.old }) }
     ensures valid { D.valid (D.state dev.new) }
     ensures scheduler { S.valid (S.state sched.new) }
     ensures base { (D.seen (D.state dev.new)).base ≡ (D.seen (D.state dev.old)).base }
@@ -82,7 +85,7 @@ fn do_line<S: Scheduler, D: OrderedDev>(feed: &mut Feed, sched: &mut S, dev: &mu
     requires valid { D.valid (D.state dev.old) }
     requires scheduler { S.valid (S.state sched.old) }
     requires fed { IsFed feed.old (S.steps.seen (S.state sched.old)) requests.now (D.seen (D.state dev.old)) }
-    ensures step { record { feed = feed.new; sched = S.state sched.new; dev = D.state dev.new } ≡ happens_line S.steps (record { has_room = D.has_room; received = D.received; transferred = D.transferred; persisted = D.persisted }) requests.now (record { feed = feed.old; sched = S.state sched.old; dev = D.state dev.old }) line }
+    ensures step { record { feed = feed.new; sched = S.state sched.new; dev = D.state dev.new } ≡ happens_line S.steps (machine_of D.OrderedDev) requests.now (record { feed = feed.old; sched = S.state sched.old; dev = D.state dev.old }) line }
     ensures valid { D.valid (D.state dev.new) }
     ensures scheduler { S.valid (S.state sched.new) }
     ensures base { (D.seen (D.state dev.new)).base ≡ (D.seen (D.state dev.old)).base }
@@ -98,7 +101,7 @@ fn do_lines<S: Scheduler, D: OrderedDev>(feed: &mut Feed, sched: &mut S, dev: &m
     requires valid { D.valid (D.state dev.old) }
     requires scheduler { S.valid (S.state sched.old) }
     requires fed { IsFed feed.old (S.steps.seen (S.state sched.old)) requests.now (D.seen (D.state dev.old)) }
-    ensures run { record { feed = feed.new; sched = S.state sched.new; dev = D.state dev.new } ≡ run_lines S.steps (record { has_room = D.has_room; received = D.received; transferred = D.transferred; persisted = D.persisted }) requests.now (record { feed = feed.old; sched = S.state sched.old; dev = D.state dev.old }) lines.now }
+    ensures run { record { feed = feed.new; sched = S.state sched.new; dev = D.state dev.new } ≡ run_lines S.steps (machine_of D.OrderedDev) requests.now (record { feed = feed.old; sched = S.state sched.old; dev = D.state dev.old }) lines.now }
     ensures valid { D.valid (D.state dev.new) }
     ensures scheduler { S.valid (S.state sched.new) }
     ensures base { (D.seen (D.state dev.new)).base ≡ (D.seen (D.state dev.old)).base }
@@ -123,12 +126,13 @@ fn scheduled_count(script: &Script) -> u64
 fn run_with<S: Scheduler + Drop, D: OrderedDev + Drop>(alloc: Global, script: &Script, sched: S, dev: D) -> Result<Report, NoMemory>
     requires valid { D.valid (D.state dev) }
     requires scheduler { S.valid (S.state sched) }
+    requires unused { (S.steps.seen (S.state sched)).accepted ≡ [] }
     requires fed { IsFed (opened_feed script.now) (S.steps.seen (S.state sched)) script.now.puts (D.seen (D.state dev)) }
-    ensures core { let machine : Machine D.State = record { has_room = D.has_room; received = D.received; transferred = D.transferred; persisted = D.persisted } in
-        let end = ended S.steps machine script.now (S.state sched) (D.state dev) in
+    ensures fits { let end = ended S.steps (machine_of D.OrderedDev) script.now (S.state sched) (D.state dev) in
+        IfOk result (λ r. PartsFit r (r.cut.trace.sent.items ++ (D.seen end.dev).waiting)) }
+    ensures core { let end = ended S.steps (machine_of D.OrderedDev) script.now (S.state sched) (D.state dev) in
         IfOk result (IsReportOf script.now end.feed (S.steps.seen end.sched) (D.seen end.dev)) }
-    ensures order { let machine : Machine D.State = record { has_room = D.has_room; received = D.received; transferred = D.transferred; persisted = D.persisted } in
-        let end = ended S.steps machine script.now (S.state sched) (D.state dev) in
+    ensures order { let end = ended S.steps (machine_of D.OrderedDev) script.now (S.state sched) (D.state dev) in
         IfOk result (λ r. KeepsOrder (D.seen (D.state dev)).base r.submitted r.cut.image r.cut.origins (r.cut.trace.sent.items ++ (D.seen end.dev).waiting)) }
 {
     let mut dev = dev;
@@ -146,21 +150,26 @@ fn run_with<S: Scheduler + Drop, D: OrderedDev + Drop>(alloc: Global, script: &S
     })
 }
 
-/// Runs a script on a device that has taken no command, and cuts the power.
+/// Runs a script on a device that was made over its image, zeros, and has taken no command; and cuts the
+/// power.
 pub fn run_on<D: OrderedDev + Drop>(
     alloc: Global,
     script: &Script,
     dev: D,
 ) -> Result<Report, NoMemory>
-    requires valid { D.valid (D.state dev) }
-    requires fed { IsFed (opened_feed script.now) (seen_of (opened_plain script.now)) script.now.puts (D.seen (D.state dev)) }
-    ensures core { let machine : Machine D.State = record { has_room = D.has_room; received = D.received; transferred = D.transferred; persisted = D.persisted } in
-        let end = ended sched_steps machine script.now (opened_plain script.now) (D.state dev) in
+    requires script { IsRunnable script.now }
+    requires image { (D.seen (D.state dev)).base ≡ zeros (blocks_of script.now) }
+    requires unused { (D.seen (D.state dev)).took ≡ [] }
+    requires ids { length script.now.puts ≤ (D.seen (D.state dev)).limit }
+    ensures fits { let end = ended sched_steps (machine_of D.OrderedDev) script.now (opened_plain script.now) (D.state dev) in
+        IfOk result (λ r. PartsFit r (r.cut.trace.sent.items ++ (D.seen end.dev).waiting)) }
+    ensures core { let end = ended sched_steps (machine_of D.OrderedDev) script.now (opened_plain script.now) (D.state dev) in
         IfOk result (IsReportOf script.now end.feed (seen_of end.sched) (D.seen end.dev)) }
-    ensures order { let machine : Machine D.State = record { has_room = D.has_room; received = D.received; transferred = D.transferred; persisted = D.persisted } in
-        let end = ended sched_steps machine script.now (opened_plain script.now) (D.state dev) in
-        IfOk result (λ r. KeepsOrder (D.seen (D.state dev)).base r.submitted r.cut.image r.cut.origins (r.cut.trace.sent.items ++ (D.seen end.dev).waiting)) }
+    ensures order { let end = ended sched_steps (machine_of D.OrderedDev) script.now (opened_plain script.now) (D.state dev) in
+        IfOk result (λ r. KeepsOrder (zeros (blocks_of script.now)) r.submitted r.cut.image r.cut.origins (r.cut.trace.sent.items ++ (D.seen end.dev).waiting)) }
 {
+    // By this call the device tells that its laws hold of its state.
+    let _ = dev.blocks();
     let sched = Sched::make(alloc, scheduled_count(script))?;
     run_with(alloc, script, sched, dev)
 }
@@ -168,6 +177,7 @@ pub fn run_on<D: OrderedDev + Drop>(
 /// Runs a script on a new device of epochs over zeros, and cuts the power.
 pub fn core_run(alloc: Global, script: &Script) -> Result<Report, NoMemory>
     requires { IsRunnable script.now }
+    ensures fits { IfOk result (λ r. PartsFit r (r.cut.trace.sent.items ++ (seen (core script.now).dev).waiting)) }
     ensures core { IfOk result (IsCoreReport script.now) }
     ensures order { IfOk result Headline }
 {

@@ -1,8 +1,6 @@
 -- What reads of a device leave as it was.
-use Rattle.std.specs.Prelude.{◌≡◌, ℕ, false, [], None}
+use Rattle.std.specs.Prelude.{◌≡◌, ℕ}
 use Rattle.std.proofs.Common.{sym, ap, ◌∙◌, subst, arith}
-use Rattle.order_model.specs.declared.command.Command.{Command}
-use Rattle.order_model.specs.declared.command.Priority.TheVariants.{Simple}
 use Rattle.order_model.specs.Device.{Seen, IsQuiet}
 use Rattle.order_model.specs.Steps.{Reads}
 
@@ -20,7 +18,3 @@ quiet_after a b r q = subst IsQuiet (sym r.0) (counted_quiet a b.faults q)
 
 pub same_surface : (a b : Seen) → Reads a b → b.surface ≡ a.surface
 same_surface a b r = ap (λ (x : Seen). x.surface) r.0
-
--- a command: the law of devices that stay sound speaks of one
-abbrev pub any_command : Command
-any_command = record { parts = []; priority = Simple; barrier = false; flush = None }

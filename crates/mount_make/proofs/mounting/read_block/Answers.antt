@@ -1,6 +1,5 @@
 use Rattle.std.proofs.Common.{sym, subst, ◌≡◌}
 use Rattle.mount_make.specs.Reading.{HasRead, has_read}
-use Rattle.volume_ops.specs.DeviceReads.{any_command}
 use Rattle.mount_make.proofs.mounting.read_block.Goals as goal
 
 -- src/mounting.rt:93:1
@@ -18,7 +17,7 @@ returns-in-Ok-clause-sound g c sound =
     let t = g.D.OrderedDev in
     let s = t.state c.args.dev.now in
     let after = t.after_read s c.args.block in
-    let stays = (g.met.D.OrderedDev.stays_sound s any_command c.args.block sound).4 in
+    let stays = (g.met.D.OrderedDev.stays_sound s c.args.block sound).3 in
     let same = (g.met.D.OrderedDev.no_fault s c.args.block c.requires.valid sound).1 in
     subst (λ x. t.sound x × ((t.seen x).faults ≡ (t.seen s).faults)) (sym c.read.ensures.state) (stays, same)
 
@@ -37,6 +36,6 @@ returns-in-Err-clause-sound g c sound =
     let t = g.D.OrderedDev in
     let s = t.state c.args.dev.now in
     let after = t.after_read s c.args.block in
-    let stays = (g.met.D.OrderedDev.stays_sound s any_command c.args.block sound).4 in
+    let stays = (g.met.D.OrderedDev.stays_sound s c.args.block sound).3 in
     let same = (g.met.D.OrderedDev.no_fault s c.args.block c.requires.valid sound).1 in
     subst (λ x. t.sound x × ((t.seen x).faults ≡ (t.seen s).faults)) (sym c.read.ensures.state) (stays, same)

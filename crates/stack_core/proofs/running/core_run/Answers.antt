@@ -1,38 +1,50 @@
 -- The device of the script's numbers is the one that the script opens.
-use Rattle.std.proofs.Common.{◌++◌, IfOk, sym, subst}
+use Rattle.std.proofs.Common.{◌≡◌, ℕ, ◌++◌, ◌≤◌, [], length, None, IfOk, sym, ap, subst, arith}
+use Rattle.blk_base.specs.Image.{zeros}
 use Rattle.barrier_reassign.specs.Sched.{seen_of, sched_steps}
-use Rattle.device_epochs.specs.Device.{seen}
-use Rattle.device_epochs.specs.Valid.{IsValid}
-use Rattle.stack_core.specs.Feed.{IsFed, opened_feed}
-use Rattle.stack_core.specs.Core.{ended, epoch_machine, opened_plain}
+use Rattle.device_epochs.specs.declared.device.DeviceSetup.{DeviceSetup}
+use Rattle.device_epochs.specs.Device.{DeviceState, seen}
+use Rattle.script_grammar.specs.declared.script.Script.{Script}
+use Rattle.script_grammar.specs.Grammar.{blocks_of}
+use Rattle.stack_core.specs.Core.{ended, epoch_machine, opened_plain, opened_for}
 use Rattle.stack_core.specs.Headline.{KeepsOrder}
-use Rattle.stack_core.specs.Report.{IsReportOf}
-use Rattle.stack_core.proofs.Opening.{valid_when_opened, fed_when_opened, headline_of, opened_is}
+use Rattle.stack_core.specs.Report.{IsReportOf, PartsFit}
+use Rattle.stack_core.proofs.Opening.{headline_of, opened_is, setup_of, end_of}
 use Rattle.stack_core.proofs.running.core_run.Goals as goal
 
-pub run_on-requires-clause-valid : goal.run_on-requires-clause-valid
-run_on-requires-clause-valid c = subst IsValid (sym (opened_is c.args.script.now c.in_ok-dev.dev c.in_ok-image.image c.len.result c.blocks-2.result c.in_ok-dev.ensures c.in_ok-image.ensures c.blocks-2.ensures c.len.ensures)) (valid_when_opened c.args.script.now c.requires)
-
-pub run_on-requires-clause-fed : goal.run_on-requires-clause-fed
-run_on-requires-clause-fed c =
+pub run_on-requires-clause-image : goal.run_on-requires-clause-image
+run_on-requires-clause-image c =
     let s = c.args.script.now in
-    subst (λ d. IsFed (opened_feed s) (seen_of (opened_plain s)) s.puts (seen d)) (sym (opened_is s c.in_ok-dev.dev c.in_ok-image.image c.len.result c.blocks-2.result c.in_ok-dev.ensures c.in_ok-image.ensures c.blocks-2.ensures c.len.ensures)) (fed_when_opened s c.requires)
+    let same = opened_is s c.in_ok-dev.dev c.in_ok-image.image (setup_of s c.len.result) c.blocks-2.result c.in_ok-dev.ensures c.in_ok-image.ensures c.blocks-2.ensures (ap (setup_of s) c.len.ensures) in
+    ap (λ (d : DeviceState). d.base) same
+
+pub run_on-requires-clause-unused : goal.run_on-requires-clause-unused
+run_on-requires-clause-unused c =
+    let s = c.args.script.now in
+    let same = opened_is s c.in_ok-dev.dev c.in_ok-image.image (setup_of s c.len.result) c.blocks-2.result c.in_ok-dev.ensures c.in_ok-image.ensures c.blocks-2.ensures (ap (setup_of s) c.len.ensures) in
+    ap (λ (d : DeviceState). d.took) same
+
+pub run_on-requires-clause-ids : goal.run_on-requires-clause-ids
+run_on-requires-clause-ids c =
+    let s = c.args.script.now in
+    let same = opened_is s c.in_ok-dev.dev c.in_ok-image.image (setup_of s c.len.result) c.blocks-2.result c.in_ok-dev.ensures c.in_ok-image.ensures c.blocks-2.ensures (ap (setup_of s) c.len.ensures) in
+    subst (λ (d : DeviceState). length s.puts ≤ d.limit) (sym same) (omega arith)
+
+pub returns-clause-fits : goal.returns-clause-fits
+returns-clause-fits c =
+    let s = c.args.script.now in
+    let same = opened_is s c.in_ok-dev.dev c.in_ok-image.image (setup_of s c.len.result) c.blocks-2.result c.in_ok-dev.ensures c.in_ok-image.ensures c.blocks-2.ensures (ap (setup_of s) c.len.ensures) in
+    subst (λ d. IfOk c.run_on.result (λ r. PartsFit r (r.cut.trace.sent.items ++ (seen (end_of s d).dev).waiting))) same c.run_on.ensures.fits
 
 pub returns-clause-core : goal.returns-clause-core
 returns-clause-core c =
     let s = c.args.script.now in
-    subst
-    (λ d.
-    let end = ended sched_steps epoch_machine s (opened_plain s) d in
-    IfOk c.run_on.result (IsReportOf s end.feed (seen_of end.sched) (seen end.dev)))
-    (opened_is s c.in_ok-dev.dev c.in_ok-image.image c.len.result c.blocks-2.result c.in_ok-dev.ensures c.in_ok-image.ensures c.blocks-2.ensures c.len.ensures)
-    c.run_on.ensures.core
+    let same = opened_is s c.in_ok-dev.dev c.in_ok-image.image (setup_of s c.len.result) c.blocks-2.result c.in_ok-dev.ensures c.in_ok-image.ensures c.blocks-2.ensures (ap (setup_of s) c.len.ensures) in
+    subst (λ d. IfOk c.run_on.result (IsReportOf s (end_of s d).feed (seen_of (end_of s d).sched) (seen (end_of s d).dev))) same c.run_on.ensures.core
 
 pub returns-clause-order : goal.returns-clause-order
 returns-clause-order c =
     let s = c.args.script.now in
-    let same = opened_is s c.in_ok-dev.dev c.in_ok-image.image c.len.result c.blocks-2.result c.in_ok-dev.ensures c.in_ok-image.ensures c.blocks-2.ensures c.len.ensures in
+    let same = opened_is s c.in_ok-dev.dev c.in_ok-image.image (setup_of s c.len.result) c.blocks-2.result c.in_ok-dev.ensures c.in_ok-image.ensures c.blocks-2.ensures (ap (setup_of s) c.len.ensures) in
     headline_of c.run_on.result s _ _ _ c.run_on.ensures.core
-    (subst
-    (λ d. IfOk c.run_on.result (λ r. KeepsOrder (seen d).base r.submitted r.cut.image r.cut.origins (r.cut.trace.sent.items ++ (seen (ended sched_steps epoch_machine s (opened_plain s) d).dev).waiting)))
-    same c.run_on.ensures.order)
+    (subst (λ d. IfOk c.run_on.result (λ r. KeepsOrder (zeros (blocks_of s)) r.submitted r.cut.image r.cut.origins (r.cut.trace.sent.items ++ (seen (end_of s d).dev).waiting))) same c.run_on.ensures.order)

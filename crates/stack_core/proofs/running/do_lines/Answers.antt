@@ -3,7 +3,8 @@ use Rattle.std.proofs.Common.{◌+◌, drop, sym, ap, ◌∙◌}
 use Rattle.script_grammar.specs.declared.script.EventLine.{EventLine}
 use Rattle.script_grammar.specs.declared.script.EventWord.TheVariants.{One}
 use Rattle.script_grammar.specs.declared.script.CoreEvent.TheVariants.{Submit}
-use Rattle.stack_core.specs.Core.{Machine, run_lines}
+use Rattle.order_model.specs.Machine.{machine_of}
+use Rattle.stack_core.specs.Core.{run_lines}
 use Rattle.stack_core.proofs.Repeats.{run_lines-more, run_lines-end}
 use Rattle.stack_core.proofs.running.do_lines.Goals as goal
 
@@ -11,7 +12,7 @@ pub loop-line-preserved : goal.loop-line-preserved
 loop-line-preserved g c =
     let d = g.D.OrderedDev in
     let k = g.S.Scheduler in
-    let m : Machine d.State = record { has_room = d.has_room; received = d.received; transferred = d.transferred; persisted = d.persisted } in
+    let m = machine_of d in
     let rs = c.args.requests.now in
     let lines = c.args.lines.now in
     let n = c.loop-line.line-index in
@@ -30,5 +31,5 @@ pub returns-clause-run : goal.returns-clause-run
 returns-clause-run g c =
     let d = g.D.OrderedDev in
     let k = g.S.Scheduler in
-    let m : Machine d.State = record { has_room = d.has_room; received = d.received; transferred = d.transferred; persisted = d.persisted } in
+    let m = machine_of d in
     sym (run_lines-end k.steps m c.args.requests.now (record { feed = c.loop-line.feed; sched = k.state c.loop-line.sched; dev = d.state c.loop-line.dev }) c.args.lines.now c.loop-line.line-index c.loop-line-test.false) ∙ c.loop-line.invariant.run

@@ -1,14 +1,15 @@
 -- Along the lines: the rest of them from here ends where all of them from the start do.
 use Rattle.std.proofs.Common.{◌≡◌, drop}
+use Rattle.order_model.specs.Machine.{machine_of}
 use Rattle.stack_core.specs.Feed.{IsFed}
-use Rattle.stack_core.specs.Core.{Machine, run_lines}
+use Rattle.stack_core.specs.Core.{run_lines}
 use Rattle.stack_core.proofs.running.do_lines.Given as goal
 
 abbrev pub invariant-loop-line : goal.invariant-loop-line
 invariant-loop-line g l =
     let d = g.D.OrderedDev in
     let k = g.S.Scheduler in
-    let m : Machine d.State = record { has_room = d.has_room; received = d.received; transferred = d.transferred; persisted = d.persisted } in
+    let m = machine_of d in
     record {
       run : run_lines k.steps m l.requests (record { feed = l.feed; sched = k.state l.sched; dev = d.state l.dev }) (drop l.line-index l.lines)
           ≡ run_lines k.steps m l.requests (record { feed = l.fn.feed; sched = k.state l.fn.sched; dev = d.state l.fn.dev }) l.lines;

@@ -1,6 +1,7 @@
 -- One event more.
 use Rattle.std.proofs.Common.{◌-◌, ◌+◌, sym, ap, ◌∙◌}
-use Rattle.stack_core.specs.Core.{Machine, RunState, happens, times}
+use Rattle.order_model.specs.Machine.{machine_of}
+use Rattle.stack_core.specs.Core.{RunState, happens, times}
 use Rattle.stack_core.proofs.Repeats.{times-more}
 use Rattle.stack_core.proofs.running.repeat_event.Goals as goal
 
@@ -8,7 +9,7 @@ pub loop-i-preserved : goal.loop-i-preserved
 loop-i-preserved g c =
     let d = g.D.OrderedDev in
     let k = g.S.Scheduler in
-    let m : Machine d.State = record { has_room = d.has_room; received = d.received; transferred = d.transferred; persisted = d.persisted } in
+    let m = machine_of d in
     let f = λ (s : RunState k.State d.State). happens k.steps m c.args.requests.now s c.args.event in
     let now : RunState k.State d.State = record { feed = c.loop-i.feed; sched = k.state c.loop-i.sched; dev = d.state c.loop-i.dev } in
     record {

@@ -1,14 +1,15 @@
 -- Along the repeats: those that are left from here end where all of them from the start do.
 use Rattle.std.proofs.Common.{◌≡◌, ◌-◌}
+use Rattle.order_model.specs.Machine.{machine_of}
 use Rattle.stack_core.specs.Feed.{IsFed}
-use Rattle.stack_core.specs.Core.{Machine, happens, times}
+use Rattle.stack_core.specs.Core.{happens, times}
 use Rattle.stack_core.proofs.running.repeat_event.Given as goal
 
 abbrev pub invariant-loop-i : goal.invariant-loop-i
 invariant-loop-i g l =
     let d = g.D.OrderedDev in
     let k = g.S.Scheduler in
-    let m : Machine d.State = record { has_room = d.has_room; received = d.received; transferred = d.transferred; persisted = d.persisted } in
+    let m = machine_of d in
     record {
       run : times (l.count - l.i) (λ s. happens k.steps m l.requests s l.event) (record { feed = l.feed; sched = k.state l.sched; dev = d.state l.dev })
           ≡ times l.count (λ s. happens k.steps m l.requests s l.event) (record { feed = l.fn.feed; sched = k.state l.fn.sched; dev = d.state l.fn.dev });

@@ -1,9 +1,11 @@
 -- The report keeps the order that the host asked for, by the law from its requests to the medium.
-use Rattle.std.proofs.Common.{List, ◌++◌, sym, ap, ap₂, ◌∙◌, take}
+use Rattle.std.proofs.Common.{List, ◌++◌, subst, sym, ap, ap₂, ◌∙◌, take}
 use Rattle.order_model.specs.declared.completion.Completion.{Completion}
-use Rattle.stack_core.specs.Feed.{submitted_count, carried}
-use Rattle.stack_core.specs.Core.{Machine, RunState, run_lines}
+use Rattle.order_model.specs.Machine.{machine_of}
+use Rattle.stack_core.specs.Feed.{opened_feed, submitted_count, carried}
+use Rattle.stack_core.specs.Core.{RunState, run_lines}
 use Rattle.stack_core.proofs.Feeds.{fed_carried, order_reported}
+use Rattle.stack_core.proofs.Fitting.{IsAfter, run-after, kind_after, unused_after, parts_fit}
 use Rattle.stack_core.proofs.running.run_with.Goals as goal
 
 pub returns-clause-order : goal.returns-clause-order
@@ -14,7 +16,7 @@ returns-clause-order g c =
     let feed = c.do_lines.new.feed in
     let sched = k.state c.do_lines.new.sched in
     let s = t.state c.do_lines.new.dev in
-    let m : Machine t.State = record { has_room = t.has_room; received = t.received; transferred = t.transferred; persisted = t.persisted } in
+    let m = machine_of t in
     let end = c.do_lines.ensures.run ∙ ap₂ (λ f lines. run_lines k.steps m rs (record { feed = f; sched = k.state c.args.sched; dev = t.state c.args.dev }) lines) c.in_ok-feed.ensures c.as_slice.ensures in
     let b = fed_carried k.steps k.valid rs feed sched (t.seen s) g.met.S.Scheduler.keeps c.do_lines.ensures.scheduler c.do_lines.ensures.fed in
     let law = c.keeps_order_to_the_medium.ensures in
@@ -27,3 +29,28 @@ returns-clause-order g c =
     (ap₂ (λ (a b : List Completion). a ++ b) c.cut.ensures.trace.sent (ap (λ (r : RunState k.State t.State). (t.seen r.dev).waiting) (sym end)))
     (law.closed front seen b.ids b.carries b.fits)
     (law.flushed front seen b.ids b.carries b.fits)
+
+pub returns-clause-fits : goal.returns-clause-fits
+returns-clause-fits g c =
+    let t = g.D.OrderedDev in
+    let k = g.S.Scheduler in
+    let script = c.args.script.now in
+    let rs = script.puts in
+    let feed = c.do_lines.new.feed in
+    let sched = k.state c.do_lines.new.sched in
+    let s = t.state c.do_lines.new.dev in
+    let m = machine_of t in
+    let old = k.state c.args.sched in
+    let dev = t.state c.args.dev in
+    let end = c.do_lines.ensures.run ∙ ap₂ (λ f lines. run_lines k.steps m rs (record { feed = f; sched = old; dev = dev }) lines) c.in_ok-feed.ensures c.as_slice.ensures in
+    let now : RunState k.State t.State = record { feed = feed; sched = sched; dev = s } in
+    let after = subst (IsAfter (record { feed = opened_feed script; sched = old; dev = dev })) (sym end) (run-after k.steps m rs (record { feed = opened_feed script; sched = old; dev = dev }) script.events) in
+    parts_fit script feed (k.steps.seen sched) (t.seen s) _ _
+    (kind_after script now old dev after)
+    (λ e. ap (λ x. (k.steps.seen x).accepted) (unused_after script now old dev after e) ∙ c.requires.unused)
+    c.do_lines.ensures.fed
+    c.in_ok-script.ensures
+    (c.in_ok-submitted.ensures ∙ ap (λ n. take n rs) c.submitted.ensures)
+    c.into_trace.ensures
+    c.cut.ensures.trace
+    (ap (λ (r : RunState k.State t.State). c.cut.result.trace.sent.items ++ (t.seen r.dev).waiting) (sym end))

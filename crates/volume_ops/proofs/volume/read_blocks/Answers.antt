@@ -1,6 +1,6 @@
 use Rattle.std.proofs.Common.{◌≡◌, ◌<◌, length, sym, ap, ◌∙◌, subst, arith, length-set, take, ◌+◌}
 use Rattle.order_model.specs.Steps.{Reads}
-use Rattle.volume_ops.specs.DeviceReads.{any_command, more_reads, quiet_after, same_surface}
+use Rattle.volume_ops.specs.DeviceReads.{more_reads, quiet_after, same_surface}
 use Rattle.volume_ops.proofs.DeviceReads.{one_more}
 use Rattle.volume_ops.proofs.volume.read_blocks.Goals as goal
 
@@ -24,6 +24,6 @@ loop-block-preserved g c =
       same = subst (λ i. take (block + 1) i ≡ take (block + 1) (d.seen (d.state c.args.dev.now)).surface) (sym c.put.ensures)
           (one_more c.loop-block.image (d.seen (d.state c.args.dev.now)).surface (d.seen now).surface block c.args.blocks c.in-Ok.body
           below c.requires.whole so_far.len (same_surface _ _ so_far.reads) c.in-Ok.ensures.body so_far.same);
-      sound = λ sound. subst d.sound (sym after) (laws.stays_sound now any_command block (so_far.sound sound)).4;
+      sound = λ sound. subst d.sound (sym after) (laws.stays_sound now block (so_far.sound sound)).3;
       no_fault = λ sound. ap (λ s. (d.seen s).faults) after ∙ ((laws.no_fault now block so_far.valid (so_far.sound sound)).1 ∙ so_far.no_fault sound);
     }
