@@ -1,5 +1,5 @@
 //! What the words of the command line ask for.
-ghost use Rattle.std.specs.Prelude.{◌≡◌, ◌++◌, ◌∷◌, [], OnOk};
+ghost use Rattle.std.specs.Prelude.{◌≡◌, ◌++◌, ◌∷◌, [], OnOk, OnErr};
 ghost use Rattle.barrierfs_cli.specs.Top.{command_of, most_of};
 
 use blk_base::NoMemory;
@@ -57,7 +57,8 @@ impl Words {
     }
 
     pub fn push(&mut self, alloc: Global, word: &str) -> Result<(), NoMemory>
-        ensures { OnOk result (self.new ≡ self.old ++ word.now ∷ []) }
+        ensures pushed { OnOk result (self.new ≡ self.old ++ word.now ∷ []) }
+        ensures kept { OnErr result (self.new ≡ self.old) }
     {
         self.items.push(String::from_str(alloc, word)?)?;
         Ok(())

@@ -3,24 +3,85 @@ ghost use Rattle.device_epochs.specs.Asked.{HasTaken, IsNext};
 
 use super::*;
 use blk_base::{Block, Image, NoMemory};
-use order_model::{Command, Completion, DeviceRecord, OrderedDev, Part, Parts, Priority};
+use order_model::{
+    Command, Completion, DeviceRecord, OrderedDev, Part, Parts, Priority, ReadFault,
+};
 use std::alloc::Global;
 use std::process::Abort;
 use std::test::Fail;
 
+// What may go wrong with a device, by the numbers of its setup.
+#[derive(Clone, Copy)]
+struct Faults {
+    fail_at: Option<u64>,
+    bad_read: Option<u64>,
+    cut_at: Option<u64>,
+}
+
 // A device of four blocks of zeros, for sixteen ids.
-fn device(alloc: Global, cut_at: Option<u64>) -> Result<EpochDevice, NoMemory>
+fn faulty(alloc: Global, faults: Faults) -> Result<EpochDevice, NoMemory>
     ensures { IfOk result (λ d. HasTaken d 0) }
 {
     let image = Image::zeroed(alloc, 4)?;
     let setup = DeviceSetup {
         depth: 4,
         limit: 16,
-        fail_at: None,
-        bad_read: None,
-        cut_at,
+        fail_at: faults.fail_at,
+        bad_read: faults.bad_read,
+        cut_at: faults.cut_at,
     };
     EpochDevice::make(alloc, image, setup)
+}
+
+// One of which nothing fails.
+fn device(alloc: Global, cut_at: Option<u64>) -> Result<EpochDevice, NoMemory>
+    ensures { IfOk result (λ d. HasTaken d 0) }
+{
+    faulty(
+        alloc,
+        Faults {
+            fail_at: None,
+            bad_read: None,
+            cut_at,
+        },
+    )
+}
+
+// One of which this transfer fails.
+fn failing(alloc: Global, fail_at: u64, cut_at: Option<u64>) -> Result<EpochDevice, NoMemory>
+    ensures { IfOk result (λ d. HasTaken d 0) }
+{
+    faulty(
+        alloc,
+        Faults {
+            fail_at: Some(fail_at),
+            bad_read: None,
+            cut_at,
+        },
+    )
+}
+
+// One of which this read fails.
+fn misreading(alloc: Global, bad_read: u64) -> Result<EpochDevice, NoMemory>
+    ensures { IfOk result (λ d. HasTaken d 0) }
+{
+    faulty(
+        alloc,
+        Faults {
+            fail_at: None,
+            bad_read: Some(bad_read),
+            cut_at: None,
+        },
+    )
+}
+
+// What the device answers to a read of its first block, once it is quiet.
+fn reads(rt: &impl Abort, device: &mut EpochDevice) -> Result<Block, ReadFault>
+    requires { 1 ≤ length device.old.surface }
+    ensures { length device.new.surface ≡ length device.old.surface }
+{
+    assert!(rt; device.is_quiet());
+    device.read(0)
 }
 
 fn part_of(id: u64, block: u32, fill: u8) -> Part
@@ -227,5 +288,94 @@ fn command_of_two_parts(rt: HostRuntime) -> Result<(), Fail> {
         [None, None, Some(1), None].as_slice()
     );
     assert_eq!(rt; disk.trace.steps, 2);
+    Ok(())
+}
+
+// The first transfer fails: its command is gone, both ids are told, and nothing is transferred behind it.
+#[test]
+fn first_transfer_fails(rt: HostRuntime) -> Result<(), Fail> {
+    let mut device = failing(rt.alloc(), 1, None)?;
+    give(&rt, &mut device, 0, 2, put_two(&rt, 0, 1));
+    give(&rt, &mut device, 2, 3, put(2, 0, 0x33, false));
+    assert!(rt; device.transfer(0));
+    assert_eq!(rt; (device.can_transfer(), device.can_persist()), (0, 0));
+    assert!(rt; !device.transfer(0));
+    assert_eq!(rt; device.answer(), Some(Completion::Failed(0)));
+    assert_eq!(rt; device.answer(), Some(Completion::Failed(1)));
+    assert_eq!(rt; device.answer(), None);
+    assert!(rt; device.room());
+    assert!(rt; !device.is_quiet());
+    let disk = device.cut();
+    assert!(rt; is_filled(&disk.image, [0; 4]));
+    assert_eq!(rt; counts(&disk.trace), (2, 0, 2, 1));
+    Ok(())
+}
+
+// Of three transfers the second fails. What the first one moved is written all the same.
+#[test]
+fn writes_go_on_after_a_failed_transfer(rt: HostRuntime) -> Result<(), Fail> {
+    let mut device = failing(rt.alloc(), 2, None)?;
+    give(&rt, &mut device, 0, 1, put(0, 0, 0x11, false));
+    give(&rt, &mut device, 1, 2, put(1, 1, 0x22, true));
+    give(&rt, &mut device, 2, 3, put(2, 2, 0x33, false));
+    assert!(rt; device.transfer(0));
+    assert!(rt; device.transfer(0));
+    assert!(rt; !device.transfer(0));
+    assert_eq!(rt; device.can_persist(), 1);
+    assert!(rt; device.persist(0));
+    assert_eq!(rt; device.answer(), Some(Completion::Moved(0)));
+    assert_eq!(rt; device.answer(), Some(Completion::Failed(1)));
+    assert_eq!(rt; device.answer(), None);
+    let disk = device.cut();
+    assert!(rt; is_filled(&disk.image, [0x11, 0, 0, 0]));
+    assert_eq!(rt; counts(&disk.trace), (3, 1, 2, 3));
+    Ok(())
+}
+
+// A flush that fails is not told as done, though all before it is on the medium.
+#[test]
+fn flush_fails(rt: HostRuntime) -> Result<(), Fail> {
+    let mut device = failing(rt.alloc(), 2, None)?;
+    give(&rt, &mut device, 0, 1, put(0, 1, 0x11, false));
+    give(&rt, &mut device, 1, 2, flush(1));
+    assert!(rt; device.transfer(0));
+    assert!(rt; device.persist(0));
+    assert!(rt; device.transfer(0));
+    assert_eq!(rt; device.answer(), Some(Completion::Moved(0)));
+    assert_eq!(rt; device.answer(), Some(Completion::Failed(1)));
+    assert_eq!(rt; device.answer(), None);
+    assert!(rt; !device.is_quiet());
+    assert_eq!(rt; counts(device.trace()), (2, 1, 2, 3));
+    Ok(())
+}
+
+// The transfer that fails is the step at which the power goes off.
+#[test]
+fn fails_and_goes_off(rt: HostRuntime) -> Result<(), Fail> {
+    let mut device = failing(rt.alloc(), 1, Some(1))?;
+    give(&rt, &mut device, 0, 1, put(0, 0, 0x11, false));
+    assert!(rt; moves(&mut device, 1, 0));
+    assert!(rt; !device.room());
+    assert_eq!(rt; device.answer(), Some(Completion::Failed(0)));
+    assert_eq!(rt; device.answer(), Some(Completion::Cut));
+    assert_eq!(rt; device.answer(), None);
+    assert_eq!(rt; counts(device.trace()), (1, 0, 2, 1));
+    Ok(())
+}
+
+#[test]
+fn first_read_fails(rt: HostRuntime) -> Result<(), Fail> {
+    let mut device = misreading(rt.alloc(), 1)?;
+    assert_eq!(rt; reads(&rt, &mut device), Err(ReadFault));
+    assert_eq!(rt; reads(&rt, &mut device), Ok(Block::fill(0)));
+    Ok(())
+}
+
+#[test]
+fn second_read_fails(rt: HostRuntime) -> Result<(), Fail> {
+    let mut device = misreading(rt.alloc(), 2)?;
+    assert_eq!(rt; reads(&rt, &mut device), Ok(Block::fill(0)));
+    assert_eq!(rt; reads(&rt, &mut device), Err(ReadFault));
+    assert_eq!(rt; reads(&rt, &mut device), Ok(Block::fill(0)));
     Ok(())
 }

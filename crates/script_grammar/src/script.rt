@@ -1,5 +1,5 @@
 //! Scripts as plain values.
-ghost use Rattle.std.specs.Prelude.{◌≡◌, ℕ, List, [], ◌∷◌, ◌+◌, ◌^◌, ◌<◌, ◌++◌, length, IfOk, IfSome, OnOk, slice_get, take, ◌==◌};
+ghost use Rattle.std.specs.Prelude.{◌≡◌, ℕ, List, [], ◌∷◌, ◌+◌, ◌^◌, ◌<◌, ◌++◌, length, IfOk, IfSome, OnOk, OnErr, slice_get, take, ◌==◌};
 
 use blk_base::{Block, NoMemory};
 use order_model::{Kind, Request};
@@ -124,7 +124,8 @@ impl RequestList {
     }
 
     pub(crate) fn push(&mut self, row: Row) -> Result<(), NoMemory>
-        ensures { OnOk result (self.new ≡ self.old ++ request_of row ∷ []) }
+        ensures pushed { OnOk result (self.new ≡ self.old ++ request_of row ∷ []) }
+        ensures kept { OnErr result (self.new ≡ self.old) }
     {
         self.rows.push(row)?;
         Ok(())
@@ -201,7 +202,8 @@ impl Events {
     }
 
     pub fn push(&mut self, line: EventLine) -> Result<(), NoMemory>
-        ensures { OnOk result (self.new ≡ self.old ++ line ∷ []) }
+        ensures pushed { OnOk result (self.new ≡ self.old ++ line ∷ []) }
+        ensures kept { OnErr result (self.new ≡ self.old) }
     {
         self.items.push(line)?;
         Ok(())

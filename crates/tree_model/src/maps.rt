@@ -1,5 +1,5 @@
 //! The maps in a tree. Contracts see each as the list of its entries, in the order of the keys.
-ghost use Rattle.std.specs.Prelude.{◌≡◌, [], IfOk, OnOk};
+ghost use Rattle.std.specs.Prelude.{◌≡◌, [], IfOk, OnOk, OnErr};
 ghost use Rattle.tree_model.specs.Maps.{at_name, put_name, put_number};
 
 use blk_base::{Block, NoMemory};
@@ -41,7 +41,8 @@ impl Names {
 
     /// Gives a name to a node, in place of the one that had it, if there was one.
     pub fn put(&mut self, name: Name, birth: u64) -> Result<(), NoMemory>
-        ensures { OnOk result (self.new ≡ put_name self.old name birth) }
+        ensures put { OnOk result (self.new ≡ put_name self.old name birth) }
+        ensures kept { OnErr result (self.new ≡ self.old) }
     {
         match self.map.insert(name, birth) {
             Ok(_) => Ok(()),
@@ -94,7 +95,8 @@ impl FileBlocks {
 
     /// Maps a block of the file.
     pub fn put(&mut self, index: u32, body: Block) -> Result<(), NoMemory>
-        ensures { OnOk result (self.new ≡ put_number self.old index body) }
+        ensures put { OnOk result (self.new ≡ put_number self.old index body) }
+        ensures kept { OnErr result (self.new ≡ self.old) }
     {
         match self.map.insert(index, body) {
             Ok(_) => Ok(()),

@@ -1,4 +1,4 @@
-ghost use Rattle.std.specs.Prelude.{◌≡◌, [], OnOk};
+ghost use Rattle.std.specs.Prelude.{◌≡◌, [], OnOk, OnErr};
 ghost use Rattle.tree_model.specs.Maps.{put_number};
 
 use crate::{FileBlocks, Names};
@@ -65,7 +65,8 @@ impl Tree {
 
     /// Puts a node into the tree, in place of the one of this birth, if there was one.
     pub fn put(&mut self, birth: u64, node: Node) -> Result<(), NoMemory>
-        ensures { OnOk result (self.new ≡ put_number self.old birth node) }
+        ensures put { OnOk result (self.new ≡ put_number self.old birth node) }
+        ensures kept { OnErr result (self.new ≡ self.old) }
     {
         match self.nodes.insert(birth, node) {
             Ok(_) => Ok(()),

@@ -1,5 +1,5 @@
 //! What the walk finds: the nodes of a volume, with the zones of files in place of their bytes.
-ghost use Rattle.std.specs.Prelude.{◌≡◌, [], ◌∷◌, ◌++◌, OnOk};
+ghost use Rattle.std.specs.Prelude.{◌≡◌, [], ◌∷◌, ◌++◌, OnOk, OnErr};
 
 use blk_base::NoMemory;
 use std::alloc::Global;
@@ -40,7 +40,8 @@ impl MappedZones {
     }
 
     pub fn push(&mut self, block: Mapped) -> Result<(), NoMemory>
-        ensures { OnOk result (self.new ≡ self.old ++ block ∷ []) }
+        ensures pushed { OnOk result (self.new ≡ self.old ++ block ∷ []) }
+        ensures kept { OnErr result (self.new ≡ self.old) }
     {
         self.items.push(block)?;
         Ok(())

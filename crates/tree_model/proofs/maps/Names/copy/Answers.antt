@@ -4,4 +4,4 @@ use Rattle.tree_model.proofs.maps.Names.copy.Goals as goal
 
 pub loop-name-preserved : goal.loop-name-preserved
 loop-name-preserved c =
-    copy_turn nat_list_cmp_total c.args.self.now c.loop-name.copy c.loop-name.name-iterator c.next.new.self c.put.new.self c.in-Some.name.now c.copy.result c.in-Some.birth.now (rw (← c.self.view_is) c.into_iter-name-iterator.ensures.into_iter_gives.5) c.loop-name.invariant c.in-Some.ensures.steps c.copy.ensures c.in_ok-put.ensures
+    copy_turn nat_list_cmp_total c.args.self.now c.loop-name.copy c.loop-name.name-iterator c.next.new.self c.put.new.self c.in-Some.name.now c.copy.result c.in-Some.birth.now (rw (← c.self.view_is) c.into_iter-name-iterator.ensures.into_iter_gives.5) c.loop-name.invariant c.in-Some.ensures.steps c.copy.ensures c.in_ok-put.ensures.put
