@@ -70,7 +70,7 @@ flush_alone s u w h i may flush =
     only_one s.queue.waiting u w (eqb-true (length s.queue.waiting) 1 n) h i
 
 -- a put leaves where no earlier put of its block waits
-put_first : (s : SchedState) (u w : Waiting) → In u s.queue.waiting → may_leave s.queue.waiting w ≡ true → is_flush w.request.kind ≡ false → stands_before u w ≡ false
+pub put_first : (s : SchedState) (u w : Waiting) → In u s.queue.waiting → may_leave s.queue.waiting w ≡ true → is_flush w.request.kind ≡ false → stands_before u w ≡ false
 put_first s u w h may put =
     let all : list_all (λ x. not (stands_before x w)) s.queue.waiting ≡ true = rw put at may in
     not-true (stands_before u w) (all-list_all (λ x. not (stands_before x w)) s.queue.waiting u all h)
@@ -85,6 +85,19 @@ flag_cases s w h =
     let b = and_parts w.request.ordered (not (waits_ordered (without w.number s.queue.waiting))) a.1 in
     inr (a.0, not-true (waits_ordered (without w.number s.queue.waiting)) b.1))
     (or_cases (is_flush w.request.kind) (is_barrier_closing s.queue.closing && (w.request.ordered && not (waits_ordered (without w.number s.queue.waiting)))) h)
+
+-- a put that leaves with the flag is order-preserving, and nothing else that is so waits
+pub flagged_last : (s : SchedState) (w : Waiting) → leaves_flagged s.queue w ≡ true → is_flush w.request.kind ≡ false
+    → (w.request.ordered ≡ true) × ((u : Waiting) → In u (without w.number s.queue.waiting) → u.request.ordered ≡ false)
+flagged_last s w h put =
+    let rest = without w.number s.queue.waiting in
+    ⊎_elim
+    (λ flush. absurd (both_ways (is_flush w.request.kind) put flush))
+    (λ p.
+    let a = and_parts (is_barrier_closing s.queue.closing) (w.request.ordered && not (waits_ordered rest)) p in
+    let b = and_parts w.request.ordered (not (waits_ordered rest)) a.1 in
+    (b.0, λ u i. none-list_any (λ (x : Waiting). x.request.ordered) rest u (not-true (waits_ordered rest) b.1) i))
+    (or_cases (is_flush w.request.kind) (is_barrier_closing s.queue.closing && (w.request.ordered && not (waits_ordered rest))) h)
 
 -- what is left of those that wait
 stays : (s : SchedState) (u w : Waiting) → In u s.queue.waiting → (u.number ≡ w.number → ⊥) → In u (without w.number s.queue.waiting)

@@ -1,15 +1,15 @@
 -- The next command of a scheduler is one that the device may be given.
-use Rattle.std.proofs.Common.{◌≡◌, ℕ, ◌<◌, ◌≤◌, ◌||◌, Bool, true, false, List, [], ◌∷◌, ◌++◌, length, Option, Some, None, is_some, slice_get, All, refl, sym, ap, ap₂, subst, ◌∙◌, arith, if◌then◌else◌, append_assoc, inl}
-use Rattle.std.specs.Option.{option_and_then}
-use Rattle.std.proofs.lemmas.Bool.{false≢true}
-use Rattle.std.proofs.lemmas.List.{length-append}
+use Rattle.std.proofs.Common.{◌≡◌, ℕ, ◌+◌, ◌<◌, ◌≤◌, ◌||◌, ◌==◌, Bool, true, false, List, [], ◌∷◌, ◌++◌, length, map, Option, Some, None, is_some, slice_get, All, refl, sym, ap, ap₂, subst, ◌∙◌, arith, if◌then◌else◌, append_assoc, inl, inr}
+use Rattle.std.specs.Option.{option_and_then, option_to_list}
+use Rattle.std.proofs.lemmas.Bool.{false≢true, eqb-false}
+use Rattle.std.proofs.lemmas.List.{length-append, length-map}
 use Rattle.blk_base.specs.Members.{In, In-All, In-append_right}
 use Rattle.order_model.specs.declared.part.Part.{Part}
 use Rattle.order_model.specs.declared.command.Command.{Command}
 use Rattle.order_model.specs.declared.command.Priority.{Priority}
 use Rattle.order_model.specs.declared.command.Priority.TheVariants.{Simple, Ordered}
 use Rattle.order_model.specs.declared.request.Request.{Request}
-use Rattle.order_model.specs.Received.{ids_of, all_ids}
+use Rattle.order_model.specs.Received.{all_parts, ids_of, all_ids}
 use Rattle.order_model.specs.Submission.{kind_block, IsPutOf}
 use Rattle.order_model.specs.Device.{Seen, IsReceivable, NoneTwice}
 use Rattle.order_model.specs.Carrying.{SchedSeen, Carries}
@@ -40,3 +40,48 @@ next_receivable s d c rest v sent blocks few =
       fresh = none_twice-front (all_ids d.took ++ ids_of c) (all_ids rest) (subst NoneTwice ids v.once);
       few = let n = ap length ids ∙ length-append (all_ids d.took ++ ids_of c) (all_ids rest) in let m = v.counted in omega arith;
     }
+
+-- ---- room for what was sent out
+
+ids-parts : (c : Command) → length c.parts ≤ length (ids_of c)
+ids-parts c =
+    let n = length-append (map (λ (p : Part). p.id) c.parts) (option_to_list c.flush) in
+    let m = length-map c.parts (λ (p : Part). p.id) in
+    omega (arith, n, m)
+
+parts-few : (cs : List Command) → length (all_parts cs) ≤ length (all_ids cs)
+parts-few [] = omega arith
+parts-few (c ∷ cs) =
+    let first = ids-parts c in
+    let rest = parts-few cs in
+    let n = length-append c.parts (all_parts cs) in
+    let m = length-append (ids_of c) (all_ids cs) in
+    omega (arith, first, rest, n, m)
+
+some_flush : (o : Option ℕ) (n : ℕ) → is_some o ≡ (n == 0) → 1 ≤ n + length (option_to_list o)
+some_flush None n e = let differs = eqb-false n 0 (sym e) in omega (arith, differs)
+some_flush (Some id) n e = omega arith
+
+ids-some : (c : Command) → is_some c.flush ≡ (length c.parts == 0) → 1 ≤ length (ids_of c)
+ids-some c whole =
+    let n = length-append (map (λ (p : Part). p.id) c.parts) (option_to_list c.flush) in
+    let m = length-map c.parts (λ (p : Part). p.id) in
+    let some = some_flush c.flush (length c.parts) whole in
+    omega (arith, n, m, some)
+
+commands-few : (cs : List Command) → ((c : Command) → In c cs → is_some c.flush ≡ (length c.parts == 0)) → length cs ≤ length (all_ids cs)
+commands-few [] whole = omega arith
+commands-few (c ∷ cs) whole =
+    let first = ids-some c (whole c (inl refl)) in
+    let rest = commands-few cs (λ d h. whole d (inr h)) in
+    let m = length-append (ids_of c) (all_ids cs) in
+    omega (arith, first, rest, m)
+
+-- There are no more commands, and no more parts, than requests may be accepted.
+pub sent_few : (s : SchedSeen) → Carries s → (length s.sent_out ≤ s.limit) × (length (all_parts s.sent_out) ≤ s.limit)
+sent_few s v =
+    let commands = commands-few s.sent_out v.whole in
+    let parts = parts-few s.sent_out in
+    let n = v.counted in
+    let m = v.few in
+    (omega (arith, commands, n, m), omega (arith, parts, n, m))

@@ -1,0 +1,11 @@
+-- The list has as many requests as may leave.
+use Rattle.std.proofs.Common.{◌≡◌, length, ap, sym, subst, ◌∙◌}
+use Rattle.barrier_reassign.specs.Epoch.{eligible}
+use Rattle.sched_elevator.specs.Elevator.{ElevatorState, listed}
+use Rattle.sched_elevator.specs.laws.List.{length-in_order}
+use Rattle.sched_elevator.proofs.elevator.ElevatorScheduler.eligible.Goals as goal
+
+pub returns : goal.returns
+returns c =
+    subst (λ (s : ElevatorState). c.eligible.result ≡ length (listed s.head s.queue.waiting)) c.self.view_is
+    (c.eligible.ensures ∙ sym (length-in_order c.self.inside.head (eligible c.self.inside.queue.waiting)))

@@ -1,0 +1,3 @@
+pub mod Elevator
+pub mod code
+pub mod laws
