@@ -1,5 +1,6 @@
 -- What is written of a well-formed script is read back as that script.
-use Rattle.std.proofs.Common.{◌≡◌, ℕ, suc, ◌+◌, ◌≤◌, true, false, List, [], ◌∷◌, ◌++◌, length, map, codes, decimal, Option, Some, None, Ok, unwrap_or, refl, sym, ap, ◌∙◌, subst, inl, inr, arith, append_assoc, append-nil, length-append, if◌then◌else◌, slice_get}
+use Rattle.std.proofs.lemmas.Bool.{false≢true}
+use Rattle.std.proofs.Common.{◌≡◌, ℕ, suc, ◌+◌, ◌≤◌, Bool, true, false, List, [], ◌∷◌, ◌++◌, length, map, codes, decimal, Option, Some, None, Ok, unwrap_or, refl, sym, ap, ◌∙◌, subst, inl, inr, arith, append_assoc, append-nil, length-append, if◌then◌else◌, slice_get}
 use Rattle.std.specs.List.{join_with_byte}
 use Rattle.blk_base.specs.Members.{In}
 use Rattle.order_model.specs.declared.request.Request.{Request}
@@ -15,9 +16,9 @@ use Rattle.script_grammar.specs.declared.script.EventWord.{EventWord}
 use Rattle.script_grammar.specs.declared.script.EventWord.TheVariants.{One}
 use Rattle.script_grammar.specs.Grammar.{is_scheduled, form_blocks, new_reading, with_request, read_from, ended_in, script_read, script_of, IsRequestOf}
 use Rattle.script_grammar.specs.WellFormed.{IsWordOf, IsEventLineOf, IsFilled, IsWellFormed, expanded_of}
-use Rattle.script_grammar.specs.Speller.{form_words, queue_lines, cut_lines, request_words, what_words, event_line_words, script_lines, lines_text, script_text}
+use Rattle.script_grammar.specs.Speller.{form_words, queue_lines, cut_lines, elevator_lines, request_words, what_words, event_line_words, script_lines, lines_text, script_text}
 use Rattle.script_grammar.proofs.SpelledWords.{AreClearLines, lines_of-text}
-use Rattle.script_grammar.proofs.SpelledLines.{IsRead, EndsIn, EndsIn-line, at_header, before_events, IsRead-form, IsRead-depth, IsRead-queue, IsRead-cut, IsRead-request, IsRead-events, IsRead-event}
+use Rattle.script_grammar.proofs.SpelledLines.{IsRead, EndsIn, EndsIn-line, at_header, before_events, IsRead-form, IsRead-depth, IsRead-queue, IsRead-cut, IsRead-elevator, IsRead-request, IsRead-events, IsRead-event}
 
 -- the lines, each as its words, are read to this script behind what was read
 record IsSpelling (reading : Option Reading) (ls : List (List (List ℕ))) (s : Script) : Type 0 where
@@ -97,16 +98,27 @@ IsSpelling-cut form depth queue None ls s few rest = rest
 IsSpelling-cut form depth queue (Some n) ls s few rest =
     IsSpelling-line (Some (at_header form depth queue None)) (codes "cut" ∷ decimal n ∷ []) (at_header form depth queue (Some n)) ls s (IsRead-cut form depth queue n (few n refl)) rest
 
+-- the header behind its last line
+abbrev with_elevator : Form → Option ℕ → Option ℕ → Option ℕ → Bool → Reading
+with_elevator form depth queue cut elevator = record (at_header form depth queue cut) { elevator = elevator }
+
+-- nor one of the elevator
+IsSpelling-elevator : (form : Form) (depth queue cut : Option ℕ) (elevator : Bool) (ls : List (List (List ℕ))) (s : Script) → (is_scheduled form ≡ false → elevator ≡ false) → IsSpelling (Some (with_elevator form depth queue cut elevator)) ls s → IsSpelling (Some (at_header form depth queue cut)) (elevator_lines elevator ++ ls) s
+IsSpelling-elevator form depth queue cut false ls s plain rest = rest
+IsSpelling-elevator (Blocks n) depth queue cut true ls s plain rest =
+    IsSpelling-line (Some (at_header (Blocks n) depth queue cut)) (codes "elevator" ∷ []) (with_elevator (Blocks n) depth queue cut true) ls s (IsRead-elevator (Blocks n) depth queue cut refl) rest
+IsSpelling-elevator (Device n) depth queue cut true ls s plain rest = absurd (false≢true (sym (plain refl)))
+
 -- ---- the whole script
 
 -- the script with this length of queues
 abbrev with_queue : Script → ℕ → Script
-with_queue s q = record { kind = s.kind; header = record { depth = s.header.depth; queue = q; cut = s.header.cut }; puts = s.puts; events = s.events }
+with_queue s q = record { kind = s.kind; header = record { depth = s.header.depth; queue = q; cut = s.header.cut; elevator = s.header.elevator }; puts = s.puts; events = s.events }
 
 -- the lines behind the header
-IsSpelling-body : (s : Script) (queue : Option ℕ) → IsWellFormed s → unwrap_or queue DEFAULT_QUEUE ≡ s.header.queue → IsSpelling (Some (at_header s.kind (Some s.header.depth) queue s.header.cut)) (map request_words s.puts ++ ((codes "events" ∷ []) ∷ map event_line_words s.events)) s
+IsSpelling-body : (s : Script) (queue : Option ℕ) → IsWellFormed s → unwrap_or queue DEFAULT_QUEUE ≡ s.header.queue → IsSpelling (Some (with_elevator s.kind (Some s.header.depth) queue s.header.cut s.header.elevator)) (map request_words s.puts ++ ((codes "events" ∷ []) ∷ map event_line_words s.events)) s
 IsSpelling-body s queue well same =
-    let r = at_header s.kind (Some s.header.depth) queue s.header.cut in
+    let r = with_elevator s.kind (Some s.header.depth) queue s.header.cut s.header.elevator in
     IsSpelling-requests s.puts r ((codes "events" ∷ []) ∷ map event_line_words s.events) s refl well.runnable.few_blocks (omega (arith, well.runnable.few))
     (λ i q e. let place : i ≡ 0 + i = omega arith in subst (λ j. IsRequestOf (form_blocks s.kind) j q) place (well.runnable.requests i q e))
     well.filled
@@ -117,25 +129,27 @@ IsSpelling-body s queue well same =
     (subst (λ q. IsSpelling (Some u) (map event_line_words s.events) (with_queue s q)) same (IsSpelling-events s.events u refl well.events (omega (arith, well.expanded)))))
 
 -- the lines in their order
-lines_in_order : (s : Script) → script_lines s ≡ form_words s.kind ∷ (codes "depth" ∷ decimal s.header.depth ∷ []) ∷ (queue_lines s ++ (cut_lines s.header.cut ++ (map request_words s.puts ++ ((codes "events" ∷ []) ∷ map event_line_words s.events))))
+lines_in_order : (s : Script) → script_lines s ≡ form_words s.kind ∷ (codes "depth" ∷ decimal s.header.depth ∷ []) ∷ (queue_lines s ++ (cut_lines s.header.cut ++ (elevator_lines s.header.elevator ++ (map request_words s.puts ++ ((codes "events" ∷ []) ∷ map event_line_words s.events)))))
 lines_in_order s =
     let queue = queue_lines s in
     let cut = cut_lines s.header.cut in
+    let elevator = elevator_lines s.header.elevator in
     let requests = map request_words s.puts in
     let events = (codes "events" ∷ []) ∷ map event_line_words s.events in
-    ap (λ ls. form_words s.kind ∷ (codes "depth" ∷ decimal s.header.depth ∷ []) ∷ ls) (append_assoc (queue ++ cut) requests events ∙ append_assoc queue cut (requests ++ events))
+    ap (λ ls. form_words s.kind ∷ (codes "depth" ∷ decimal s.header.depth ∷ []) ∷ ls) (append_assoc (queue ++ cut ++ elevator) requests events ∙ append_assoc (queue ++ cut) elevator (requests ++ events) ∙ append_assoc queue cut (elevator ++ (requests ++ events)))
 
-IsSpelling-lines : (s : Script) → IsWellFormed s → IsSpelling None (form_words s.kind ∷ (codes "depth" ∷ decimal s.header.depth ∷ []) ∷ (queue_lines s ++ (cut_lines s.header.cut ++ (map request_words s.puts ++ ((codes "events" ∷ []) ∷ map event_line_words s.events))))) s
+IsSpelling-lines : (s : Script) → IsWellFormed s → IsSpelling None (form_words s.kind ∷ (codes "depth" ∷ decimal s.header.depth ∷ []) ∷ (queue_lines s ++ (cut_lines s.header.cut ++ (elevator_lines s.header.elevator ++ (map request_words s.puts ++ ((codes "events" ∷ []) ∷ map event_line_words s.events)))))) s
 IsSpelling-lines s well =
     let events = (codes "events" ∷ []) ∷ map event_line_words s.events in
     let body = map request_words s.puts ++ events in
-    let cut = cut_lines s.header.cut ++ body in
+    let elevator = elevator_lines s.header.elevator ++ body in
+    let cut = cut_lines s.header.cut ++ elevator in
     let depth = Some s.header.depth in
     let run = well.runnable in
     IsSpelling-line None (form_words s.kind) (new_reading s.kind) ((codes "depth" ∷ decimal s.header.depth ∷ []) ∷ (queue_lines s ++ cut)) s (IsRead-form s.kind run.some_blocks run.few_blocks)
     (IsSpelling-line (Some (at_header s.kind None None None)) (codes "depth" ∷ decimal s.header.depth ∷ []) (at_header s.kind depth None None) (queue_lines s ++ cut) s (IsRead-depth s.kind None None s.header.depth run.some_depth run.depth)
     (IsSpelling-queue s.kind depth s.header.queue cut s run.some_queue run.queue well.plain_queue
-    (λ queue same. IsSpelling-cut s.kind depth queue s.header.cut body s well.cut (IsSpelling-body s queue well same))))
+    (λ queue same. IsSpelling-cut s.kind depth queue s.header.cut elevator s well.cut (IsSpelling-elevator s.kind depth queue s.header.cut s.header.elevator body s well.no_elevator (IsSpelling-body s queue well same)))))
 
 script_of-lines : (l : List (List ℕ)) (ls : List (List (List ℕ))) (s : Script) → IsSpelling None (l ∷ ls) s → script_of (lines_text (l ∷ ls)) ≡ Ok s
 script_of-lines l ls s is = ap (read_from 1 None) (lines_of-text l ls is.clear) ∙ is.ends 1

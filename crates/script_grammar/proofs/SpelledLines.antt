@@ -100,7 +100,7 @@ IsRead-form (Blocks n) some few = record {
 
 -- a reading of the header
 abbrev pub at_header : Form → Option ℕ → Option ℕ → Option ℕ → Reading
-at_header form depth queue cut = record { form = form; depth = depth; queue = queue; cut = cut; section = sections.Header; puts = []; events = []; expanded = 0 }
+at_header form depth queue cut = record { form = form; depth = depth; queue = queue; cut = cut; elevator = false; section = sections.Header; puts = []; events = []; expanded = 0 }
 
 pub IsRead-depth : (form : Form) (queue cut : Option ℕ) (d : ℕ) → 1 ≤ d → d ≤ MOST_DEPTH → IsRead (Some (at_header form None queue cut)) (codes "depth" ∷ decimal d ∷ []) (at_header form (Some d) queue cut)
 IsRead-depth form queue cut d some few = record {
@@ -121,6 +121,14 @@ IsRead-cut form depth queue n few = record {
   clear = (record { feed = refl; space = refl }, (IsClear-decimal n (omega arith), tt));
   there = refl;
   read = later_line-read (at_header form depth queue None) (word.Header header.Cut) (decimal n ∷ []) (line.Cut n) refl (or_right (is_scheduled form) true refl) refl (ap (option_map line.Cut) (numeral-decimal n (omega arith))) (le-leb n MOST_STEPS few);
+}
+
+-- the line of the elevator
+pub IsRead-elevator : (form : Form) (depth queue cut : Option ℕ) → is_scheduled form ≡ true → IsRead (Some (at_header form depth queue cut)) (codes "elevator" ∷ []) (record (at_header form depth queue cut) { elevator = true })
+IsRead-elevator form depth queue cut scheduled = record {
+  clear = (record { feed = refl; space = refl }, tt);
+  there = refl;
+  read = later_line-read (at_header form depth queue cut) (word.Header header.Elevator) [] line.Elevator refl (or_left (is_scheduled form) false scheduled) refl refl refl;
 }
 
 -- ---- requests

@@ -61,6 +61,7 @@ record AreEventLines (scheduled : Bool) (events : List EventLine) (expanded : �
   most : expanded ≤ MOST_EVENTS
 
 record IsReadable (r : Reading) : Type 0 where
+  no_elevator : is_scheduled r.form ≡ false → r.elevator ≡ false
   header : IsHeader r.form r.depth r.queue r.cut
   puts : AreRequests (form_blocks r.form) r.puts
   events : AreEventLines (is_scheduled r.form) r.events r.expanded
@@ -136,6 +137,7 @@ IsLineOf scheduled (line.Queue q) = scheduled ≡ true
 IsLineOf scheduled (line.Cut n) = Unit {0}
 IsLineOf scheduled (line.Put block value k) = value < 256
 IsLineOf scheduled line.Flush = Unit {0}
+IsLineOf scheduled line.Elevator = scheduled ≡ true
 IsLineOf scheduled line.Events = Unit {0}
 IsLineOf scheduled (line.Plain w count) = IsEventOf scheduled (plain_event w)
 IsLineOf scheduled (line.Pick w pick count) = pick < PLACES → IsEventOf scheduled (pick_event w pick)
@@ -190,7 +192,8 @@ IsLineOf-header_line scheduled header.Cut [] l h s = absurd (none-some l h)
 IsLineOf-header_line scheduled header.Cut (n ∷ []) l h s = mapped (IsLineOf scheduled) line.Cut (numeral n) l h (λ n e. tt)
 IsLineOf-header_line scheduled header.Cut (n ∷ e ∷ ws) l h s = absurd (none-some l h)
 IsLineOf-header_line scheduled header.Fail ws l h s = absurd (none-some l h)
-IsLineOf-header_line scheduled header.Elevator ws l h s = absurd (none-some l h)
+IsLineOf-header_line scheduled header.Elevator [] l h s = subst (IsLineOf scheduled) (same_Some line.Elevator l h) (needed scheduled s)
+IsLineOf-header_line scheduled header.Elevator (e ∷ ws) l h s = absurd (none-some l h)
 
 IsLineOf-body_line : (scheduled : Bool) (w : BodyWord) (ws : List (List ℕ)) (l : Line) → body_line w ws ≡ Some l → IsLineOf scheduled l
 IsLineOf-body_line scheduled body.Put [] l h = absurd (none-some l h)
@@ -231,6 +234,7 @@ IsLineOf-line_of scheduled word.OfVolume ws l h s = absurd (none-some l h)
 
 IsReadable-request : (r : Reading) (q : Request) → length r.puts < MOST_REQUESTS → IsRequestOf (form_blocks r.form) (length r.puts) q → IsFilled q → IsReadable r → IsReadable (with_request r q)
 IsReadable-request r q lt here filled is = record {
+  no_elevator = is.no_elevator;
   header = is.header;
   puts = AreRequests-push (form_blocks r.form) r.puts q lt here filled is.puts;
   events = is.events;
@@ -241,6 +245,7 @@ IsReadable-events r e count here fits is =
     let some = and_parts _ _ fits in
     let most = and_parts _ _ some.1 in
     record {
+      no_elevator = is.no_elevator;
       header = is.header;
       puts = is.puts;
       events = AreEventLines-push (is_scheduled r.form) r.events r.expanded _ (record {
@@ -289,6 +294,7 @@ IsHeader-cut form depth queue cut n most is = record {
 -- the header lines
 IsReadable-header : (r : Reading) (depth queue cut : Option ℕ) → IsHeader r.form depth queue cut → IsReadable r → IsReadable (record r { depth = depth; queue = queue; cut = cut })
 IsReadable-header r depth queue cut header is = record {
+  no_elevator = is.no_elevator;
   header = header;
   puts = is.puts;
   events = is.events;
@@ -308,7 +314,14 @@ IsReadable-after r (line.Put block value k) of h is =
     IsReadable-request r _ (ltb-true _ _ t.1) (IsRequestOf-put (form_blocks r.form) (length r.puts) block value k (ltb-true _ _ t.0)) (IsFilled-put (length r.puts) block value k of) is
 IsReadable-after r line.Flush of h is =
     IsReadable-request r _ (ltb-true _ _ h) (IsRequestOf-flush (form_blocks r.form) (length r.puts)) (IsFilled-flush (length r.puts)) is
+IsReadable-after r line.Elevator of h is = record {
+  no_elevator = λ e. absurd (false≢true (sym e ∙ of));
+  header = is.header;
+  puts = is.puts;
+  events = is.events;
+}
 IsReadable-after r line.Events of h is = record {
+  no_elevator = is.no_elevator;
   header = is.header;
   puts = is.puts;
   events = is.events;
@@ -383,6 +396,7 @@ form_blocks-form_of false n = refl
 
 IsReadable-new : (form : Form) → 1 ≤ form_blocks form → form_blocks form ≤ MOST_BLOCKS → IsReadable (new_reading form)
 IsReadable-new form some few = record {
+  no_elevator = λ _. refl;
   header = IsHeader-new form some few;
   puts = AreRequests-none (form_blocks form);
   events = AreEventLines-none (is_scheduled form);
@@ -455,6 +469,7 @@ IsWellFormed-script_read : (r : Reading) → IsReadable r → IsWellFormed (scri
 IsWellFormed-script_read r is = record {
   runnable = IsRunnable-script_read r is;
   plain_queue = λ e. ap (λ q. unwrap_or q DEFAULT_QUEUE) (is.header.plain_queue e);
+  no_elevator = is.no_elevator;
   cut = is.header.most_cut;
   filled = is.puts.filled;
   events = is.events.each;

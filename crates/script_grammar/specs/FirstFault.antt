@@ -66,8 +66,7 @@ first_of (w ∷ ws) = w
 -- the line begins with a word whose form is not built
 abbrev pub begins_unbuilt : List ℕ → Bool
 begins_unbuilt l =
-    bytes_eq (first_of (words_of l)) (codes "volume")
-    || (bytes_eq (first_of (words_of l)) (codes "fail") || bytes_eq (first_of (words_of l)) (codes "elevator"))
+    bytes_eq (first_of (words_of l)) (codes "volume") || bytes_eq (first_of (words_of l)) (codes "fail")
 
 -- Line n is there and begins so, and all lines before it are read.
 pub record IsFirstUnbuilt (lines : List (List ℕ)) (n : ℕ) : Type 0 where

@@ -50,13 +50,12 @@ form_of false blocks = Device blocks
 abbrev pub is_built : Word → Bool
 is_built (word.First first.Volume) = false
 is_built (word.Header header.Fail) = false
-is_built (word.Header header.Elevator) = false
 is_built w = true
 
 -- ---- the first line
 
 abbrev pub new_reading : Form → Reading
-new_reading form = record { form = form; depth = None; queue = None; cut = None; section = sections.Header; puts = []; events = []; expanded = 0 }
+new_reading form = record { form = form; depth = None; queue = None; cut = None; elevator = false; section = sections.Header; puts = []; events = []; expanded = 0 }
 
 -- a medium of so many blocks, 1 to 4,096
 abbrev pub opened : Bool → Option ℕ → Result Reading ScriptKind
@@ -94,6 +93,7 @@ stands_in s w = false
 -- the line speaks of the scheduler or its queues
 abbrev pub needs_scheduler : Word → Bool
 needs_scheduler (word.Header header.Queue) = true
+needs_scheduler (word.Header header.Elevator) = true
 needs_scheduler (word.Plain plain.Submit) = true
 needs_scheduler (word.Plain plain.Accept) = true
 needs_scheduler (word.Pick picks.Dispatch) = true
@@ -108,6 +108,7 @@ abbrev pub stood_before : Reading → Word → Bool
 stood_before r (word.Header header.Depth) = is_some r.depth
 stood_before r (word.Header header.Queue) = is_some r.queue
 stood_before r (word.Header header.Cut) = is_some r.cut
+stood_before r (word.Header header.Elevator) = r.elevator
 stood_before r w = false
 
 -- an event line's count keeps the limits on repeats and on all events
@@ -121,6 +122,7 @@ fits r (line.Queue q) = nat_le 1 q && nat_le q MOST_QUEUE
 fits r (line.Cut n) = nat_le n MOST_STEPS
 fits r (line.Put block value k) = nat_lt block (form_blocks r.form) && nat_lt (length r.puts) MOST_REQUESTS
 fits r line.Flush = nat_lt (length r.puts) MOST_REQUESTS
+fits r line.Elevator = true
 fits r line.Events = true
 fits r (line.Plain w count) = count_fits r count
 fits r (line.Pick w pick count) = nat_lt pick PLACES && count_fits r count
@@ -163,6 +165,7 @@ abbrev pub after : Reading → Line → Reading
 after r (line.Depth d) = record r { depth = Some d }
 after r (line.Queue q) = record r { queue = Some q }
 after r (line.Cut n) = record r { cut = Some n }
+after r line.Elevator = record r { elevator = true }
 after r (line.Put block value k) = with_request r (put_request (length r.puts) block value k)
 after r line.Flush = with_request r (flush_request (length r.puts))
 after r line.Events = record r { section = sections.Events }
@@ -201,7 +204,7 @@ abbrev pub read_line : ℕ → Option Reading → List ℕ → Result (Option Re
 read_line n reading l = if is_skipped l then Ok reading else at_line n (read_words reading (words_of l))
 
 abbrev pub script_read : Reading → Script
-script_read r = record { kind = r.form; header = record { depth = unwrap_or r.depth DEFAULT_DEPTH; queue = unwrap_or r.queue DEFAULT_QUEUE; cut = r.cut }; puts = r.puts; events = r.events }
+script_read r = record { kind = r.form; header = record { depth = unwrap_or r.depth DEFAULT_DEPTH; queue = unwrap_or r.queue DEFAULT_QUEUE; cut = r.cut; elevator = r.elevator }; puts = r.puts; events = r.events }
 
 abbrev pub ended_in : ℕ → Reading → Section → Result Script (ℕ × ScriptKind)
 ended_in n r sections.Events = Ok (script_read r)

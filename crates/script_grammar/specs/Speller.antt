@@ -33,6 +33,9 @@ abbrev pub cut_lines : Option ℕ → List (List (List ℕ))
 cut_lines None = []
 cut_lines (Some n) = (codes "cut" ∷ decimal n ∷ []) ∷ []
 
+abbrev pub elevator_lines : Bool → List (List (List ℕ))
+elevator_lines elevator = if elevator then (codes "elevator" ∷ []) ∷ [] else []
+
 abbrev pub class_text : Bool → Bool → List ℕ
 class_text ordered true = codes "barrier"
 class_text true false = codes "ordered"
@@ -69,7 +72,7 @@ event_line_words l = what_words l.what ++ codes "x" ∷ decimal l.count ∷ []
 -- the lines of a script, each as its words
 abbrev pub script_lines : Script → List (List (List ℕ))
 script_lines s =
-    form_words s.kind ∷ depth_lines s ++ queue_lines s ++ cut_lines s.header.cut
+    form_words s.kind ∷ depth_lines s ++ queue_lines s ++ cut_lines s.header.cut ++ elevator_lines s.header.elevator
     ++ map request_words s.puts ++ (codes "events" ∷ []) ∷ map event_line_words s.events
 
 -- words with one space between each two, and a line feed at the end

@@ -42,8 +42,9 @@ IsFilled q = (block : ℕ) (body : List ℕ) → q.kind ≡ Put block body → (
 
 pub record IsWellFormed (s : Script) : Type 0 where
   pub runnable : IsRunnable s
-  -- no line of a device script speaks of the queues
+  -- no line of a device script speaks of the queues or the scheduler
   pub plain_queue : is_scheduled s.kind ≡ false → s.header.queue ≡ DEFAULT_QUEUE
+  pub no_elevator : is_scheduled s.kind ≡ false → s.header.elevator ≡ false
   pub cut : (n : ℕ) → s.header.cut ≡ Some n → n ≤ MOST_STEPS
   pub filled : (q : Request) → In q s.puts → IsFilled q
   pub events : (l : EventLine) → In l s.events → IsEventLineOf (is_scheduled s.kind) l

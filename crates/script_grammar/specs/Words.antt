@@ -113,6 +113,7 @@ abbrev pub header_line : HeaderWord → List (List ℕ) → Option Line
 header_line header.Depth (d ∷ []) = option_map line.Depth (numeral d)
 header_line header.Queue (q ∷ []) = option_map line.Queue (numeral q)
 header_line header.Cut (n ∷ []) = option_map line.Cut (numeral n)
+header_line header.Elevator [] = Some line.Elevator
 header_line w ws = None
 
 abbrev pub put_line : List ℕ → List ℕ → List ℕ → Option Line

@@ -65,7 +65,7 @@ fn is_built(word: Word) -> bool
 {
     match word {
         Word::First(FirstWord::Volume) => false,
-        Word::Header(HeaderWord::Fail | HeaderWord::Elevator) => false,
+        Word::Header(HeaderWord::Fail) => false,
         _ => true,
     }
 }
@@ -78,6 +78,7 @@ fn new_reading(alloc: Global, form: Form) -> Reading
         depth: None,
         queue: None,
         cut: None,
+        elevator: false,
         section: Section::Header,
         puts: RequestList::new(alloc),
         events: Events::new(alloc),
@@ -144,7 +145,7 @@ fn needs_scheduler(word: Word) -> bool
     ensures { result ≡ needs_scheduler word }
 {
     match word {
-        Word::Header(HeaderWord::Queue) => true,
+        Word::Header(HeaderWord::Queue | HeaderWord::Elevator) => true,
         Word::Plain(PlainWord::Submit | PlainWord::Accept) => true,
         Word::Pick(PickWord::Dispatch) => true,
         _ => false,
@@ -164,6 +165,7 @@ fn stood_before(reading: &Reading, word: Word) -> bool
         Word::Header(HeaderWord::Depth) => reading.depth.is_some(),
         Word::Header(HeaderWord::Queue) => reading.queue.is_some(),
         Word::Header(HeaderWord::Cut) => reading.cut.is_some(),
+        Word::Header(HeaderWord::Elevator) => reading.elevator,
         _ => false,
     }
 }
@@ -191,7 +193,7 @@ fn fits(reading: &Reading, line: Line) -> bool
             block < u64::from(form_blocks(reading.form)) && has_room(reading)
         }
         Line::Flush => has_room(reading),
-        Line::Events => true,
+        Line::Elevator | Line::Events => true,
         Line::Plain { count, .. } => count_fits(reading, count),
         Line::Pick { pick, count, .. } => pick < PLACES && count_fits(reading, count),
     }
@@ -293,6 +295,10 @@ fn after(mut reading: Reading, line: Line) -> Result<Reading, NoMemory>
         }
         Line::Cut(steps) => {
             reading.cut = Some(steps);
+            Ok(reading)
+        }
+        Line::Elevator => {
+            reading.elevator = true;
             Ok(reading)
         }
         Line::Put {
@@ -397,6 +403,7 @@ fn script_read(reading: Reading) -> Script
         depth,
         queue,
         cut,
+        elevator,
         puts,
         events,
         ..
@@ -407,6 +414,7 @@ fn script_read(reading: Reading) -> Script
             depth: depth.unwrap_or(DEFAULT_DEPTH),
             queue: queue.unwrap_or(DEFAULT_QUEUE),
             cut,
+            elevator,
         },
         puts,
         events,

@@ -27,6 +27,7 @@ fn read_header_line(word: HeaderWord, words: &[&[u8]]) -> Option<Line>
         (HeaderWord::Depth, [depth]) => Some(Line::Depth(numeral(depth)?)),
         (HeaderWord::Queue, [queue]) => Some(Line::Queue(numeral(queue)?)),
         (HeaderWord::Cut, [steps]) => Some(Line::Cut(numeral(steps)?)),
+        (HeaderWord::Elevator, []) => Some(Line::Elevator),
         _ => None,
     }
 }

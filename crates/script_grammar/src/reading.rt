@@ -16,6 +16,8 @@ pub struct Reading {
     pub depth: Option<u32>,
     pub queue: Option<u32>,
     pub cut: Option<u64>,
+    /// The line `elevator` stood.
+    pub elevator: bool,
     pub section: Section,
     pub puts: RequestList,
     pub events: Events,

@@ -24,6 +24,8 @@ pub struct Header {
     pub queue: u32,
     /// The device is off after so many steps.
     pub cut: Option<u64>,
+    /// The scheduler is the elevator.
+    pub elevator: bool,
 }
 
 /// One step of one part of the stack.

@@ -69,6 +69,7 @@ pub enum Line {
     Depth(u64),
     Queue(u64),
     Cut(u64),
+    Elevator,
     Put {
         block: u64,
         value: u8,

@@ -236,12 +236,29 @@ fn tells_what_is_not_built(rt: HostRuntime) {
         ("device 4\nfail 1\n", 2, NotBuilt),
         ("blocks 4\nfail 1\nfail 1\n", 2, NotBuilt),
         ("blocks 4\nevents\nfail 1\n", 3, NotBuilt),
-        ("elevator plain\n", 1, NotBuilt),
-        ("device 4\nelevator\n", 2, NotBuilt),
-        ("blocks 4\nflush\nelevator plain\n", 3, NotBuilt),
-        ("device 4\nevents\nelevator plain\n", 3, NotBuilt),
     ];
     expect_faults(&rt, rt.alloc(), &rows);
+}
+
+#[test]
+fn reads_the_line_of_the_elevator(rt: HostRuntime) {
+    let rows = [
+        ("elevator plain\n", 1, Order),
+        ("device 4\nelevator\n", 2, Order),
+        ("blocks 4\nflush\nelevator\n", 3, Order),
+        ("blocks 4\nelevator plain\n", 2, Word),
+        ("blocks 4\nelevator\nelevator plain\n", 3, Twice),
+    ];
+    expect_faults(&rt, rt.alloc(), &rows);
+    for (text, elevator) in [
+        ("blocks 4\nelevator\nevents\n", true),
+        ("blocks 4\nevents\n", false),
+    ] {
+        match read_script(rt.alloc(), text.as_bytes()) {
+            Ok(script) => assert_eq!(rt; script.header.elevator, elevator),
+            Err(_) => assert!(rt; false),
+        }
+    }
 }
 
 #[test]
@@ -303,6 +320,7 @@ fn takes_defaults(rt: HostRuntime) -> Result<(), Fail> {
         depth: 32,
         queue: 32,
         cut: None,
+        elevator: false,
     };
     for (text, kind) in rows {
         let text = text.as_bytes();
