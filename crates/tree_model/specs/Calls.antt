@@ -340,7 +340,7 @@ abbrev pub patched : ℕ → ℕ → List ℕ → List ℕ → List ℕ
 patched index off bytes old =
     let from = off - 1024 * index in
     let part = take (1024 - from) (drop (1024 * index - off) bytes) in
-    take from old ++ part ++ drop (from + length part) old
+    take from old ++ (part ++ drop (from + length part) old)
 
 -- the blocks that so many bytes touch
 abbrev pub touched_blocks : ℕ → ℕ → List ℕ

@@ -1,5 +1,5 @@
 -- Plain trees: those whose calls are told of here.
-use Rattle.std.specs.Prelude.{◌≡◌, ℕ, ◌<◌, ◌==◌, List, Some, IsTrue}
+use Rattle.std.specs.Prelude.{◌≡◌, ℕ, ◌<◌, ◌==◌, List, length, Some, IsTrue}
 use Rattle.std.specs.List.{count_by, sum_by}
 use Rattle.std.specs.Map.{values_of}
 use Rattle.tree_model.specs.declared.node.Node.{Node}
@@ -33,3 +33,7 @@ pub record IsPlain (tree : Tree) : Type 0 where
 -- each node was born before n
 abbrev pub AreBornBefore : ℕ → Tree → Type 0
 AreBornBefore n tree = (birth : ℕ) (node : Node) → at_number tree birth ≡ Some node → birth < n
+
+-- each mapped block of a file has 1,024 bytes
+abbrev pub HasWholeBlocks : File → Type 0
+HasWholeBlocks f = (index : ℕ) (body : List ℕ) → at_number f.blocks index ≡ Some body → length body ≡ 1024

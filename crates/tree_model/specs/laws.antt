@@ -16,3 +16,4 @@ pub mod PlainNames
 pub mod PlainMoves
 pub mod PlainTrees
 pub mod Outcomes
+pub mod Bytes

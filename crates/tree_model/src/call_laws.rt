@@ -1,5 +1,5 @@
 //! Laws of calls on trees: what a call keeps, why it is refused, and what a history of calls has.
-ghost use Rattle.std.specs.Prelude.{◌≡◌, ◌⊎◌, ◌<◌, ◌≤◌, ℕ, ◌+◌, ◌-◌, ◌%◌, ◌==◌, if◌then◌else◌, true, false, List, length, Some, None, Ok, Err, is_some};
+ghost use Rattle.std.specs.Prelude.{◌≡◌, ◌⊎◌, ◌<◌, ◌≤◌, ℕ, ◌+◌, ◌-◌, ◌%◌, ◌==◌, if◌then◌else◌, true, false, List, length, slice_index, Some, None, Ok, Err, is_some};
 ghost use Rattle.blk_base.specs.Members.{In};
 ghost use Rattle.tree_model.specs.declared.call.Call.{Call};
 ghost use Rattle.tree_model.specs.declared.call.Reply.{Reply};
@@ -11,8 +11,9 @@ ghost use Rattle.tree_model.specs.Calls.{Tree, Done, leaves_tree, row, outcome, 
 ghost use Rattle.tree_model.specs.Causes.{paths_of, IsCause};
 ghost use Rattle.tree_model.specs.Examples.{new_tree};
 ghost use Rattle.tree_model.specs.Histories.{Entry, block_at, maps_block, writes, tree_after_entries, wrote, maps, content, last, changed_after};
-ghost use Rattle.tree_model.specs.Plain.{IsPlain, AreBornBefore};
-ghost use Rattle.tree_model.specs.Calls.{HasInode};
+ghost use Rattle.tree_model.specs.Plain.{IsPlain, AreBornBefore, HasWholeBlocks};
+ghost use Rattle.tree_model.specs.declared.node.File.{File};
+ghost use Rattle.tree_model.specs.Calls.{HasInode, written_file, cut_file, byte_at};
 
 /// A law, which does nothing when it is called: a call keeps a tree plain, so that it hangs together, its names are
 /// those of paths, and links and parents are right. Births rise: a node that a call makes has the call's number. A new
@@ -88,4 +89,17 @@ pub fn histories_map_by_writing()
         wrote room opened first entries (last room opened first entries n birth index) birth index ≡ true }
     ensures none_later { (room : Room) (opened : Tree) (first : ℕ) (entries : List Entry) →
         (n birth index m : ℕ) → last room opened first entries n birth index < m → m ≤ n → wrote room opened first entries m birth index ≡ false }
+{}
+
+/// A law, which does nothing when it is called: the bytes of a write are read back and all others stay; a cut keeps the
+/// bytes below the size and makes those from it on zeros. Blocks keep their 1,024 bytes.
+pub fn written_bytes_are_read_back()
+    ensures written { (f : File) (off : ℕ) (bytes : List ℕ) → HasWholeBlocks f → (at : ℕ) → off ≤ at → at < off + length bytes →
+        byte_at (written_file f off bytes) at ≡ slice_index bytes (at - off) }
+    ensures others { (f : File) (off : ℕ) (bytes : List ℕ) → HasWholeBlocks f → (at : ℕ) → (at < off) ⊎ (off + length bytes ≤ at) →
+        byte_at (written_file f off bytes) at ≡ byte_at f at }
+    ensures below { (f : File) (size : ℕ) → HasWholeBlocks f → (at : ℕ) → at < size → byte_at (cut_file f size) at ≡ byte_at f at }
+    ensures past { (f : File) (size : ℕ) → HasWholeBlocks f → (at : ℕ) → size ≤ at → byte_at (cut_file f size) at ≡ 0 }
+    ensures whole { (f : File) (off : ℕ) (bytes : List ℕ) → HasWholeBlocks f → HasWholeBlocks (written_file f off bytes) }
+    ensures whole_cut { (f : File) (size : ℕ) → HasWholeBlocks f → HasWholeBlocks (cut_file f size) }
 {}

@@ -114,3 +114,63 @@ fn copies_names(rt: HostRuntime) -> Result<(), Fail> {
     assert!(rt; blocks.as_map().is_empty());
     Ok(())
 }
+
+fn bytes(alloc: Global, text: &[u8]) -> Result<ByteList, NoMemory> {
+    Ok(ByteList::of(text.to_vec(alloc)?))
+}
+
+#[test]
+fn copies_bytes(rt: HostRuntime) -> Result<(), Fail> {
+    let path = bytes(rt.alloc(), b"/a")?;
+    let copy = path.copy(rt.alloc())?;
+    assert_eq!(rt; copy.as_slice(), b"/a".as_slice());
+    Ok(())
+}
+
+#[test]
+fn copies_name_lists(rt: HostRuntime) -> Result<(), Fail> {
+    let mut names = NameList::new(rt.alloc());
+    names.push(bytes(rt.alloc(), b"b")?)?;
+    names.push(bytes(rt.alloc(), b"c")?)?;
+    let copy = names.copy(rt.alloc())?;
+    assert_eq!(rt; copy.as_slice().len(), 2);
+    let last = copy.as_slice().last().ok_or("no name")?;
+    assert_eq!(rt; last.as_slice(), b"c".as_slice());
+    Ok(())
+}
+
+#[test]
+fn shows_calls(rt: HostRuntime) -> Result<(), Fail> {
+    let call = Call::Truncate(bytes(rt.alloc(), b"/")?, 3);
+    let shown = format!(in rt.alloc(); "{call:?}")?;
+    assert_eq!(rt; shown.as_str(), "Truncate(ByteList { bytes: [47] }, 3)");
+    Ok(())
+}
+
+#[test]
+fn shows_replies(rt: HostRuntime) -> Result<(), Fail> {
+    let reply = Reply::ReadOnly(7);
+    let shown = format!(in rt.alloc(); "{reply:?}")?;
+    assert_eq!(rt; shown.as_str(), "ReadOnly(7)");
+    Ok(())
+}
+
+#[test]
+fn laws_do_nothing(rt: HostRuntime) -> Result<(), Fail> {
+    same_metadata_chains();
+    nodes_have_paths();
+    examples_of_calls();
+    calls_keep_trees_plain();
+    refusals_have_causes();
+    asking_changes_nothing();
+    calls_stay_within_room();
+    calls_map_by_writing();
+    histories_map_by_writing();
+    written_bytes_are_read_back();
+    let room = Room {
+        inodes: 32,
+        capacity: 59,
+    };
+    assert_eq!(rt; room.capacity, 59);
+    Ok(())
+}

@@ -121,7 +121,7 @@ rename_keeps tree d order r = subst (KeepsBlocks tree) (sym r.tree_is) (by (stay
 -- ---- blocks that bytes touch
 
 module _ (off : ℕ) (bytes : List ℕ) where
-  written_untouched : (indices : List ℕ) (blocks : List (ℕ × List ℕ)) (index : ℕ) → list_any (λ i. i == index) indices ≡ false → at_number (written_blocks off bytes indices blocks) index ≡ at_number blocks index
+  pub written_untouched : (indices : List ℕ) (blocks : List (ℕ × List ℕ)) (index : ℕ) → list_any (λ i. i == index) indices ≡ false → at_number (written_blocks off bytes indices blocks) index ≡ at_number blocks index
   written_untouched [] blocks index h = refl
   written_untouched (i ∷ is) blocks index h =
       let parts = or_parts (i == index) (list_any (λ i. i == index) is) h in
@@ -145,21 +145,21 @@ module _ (off : ℕ) (bytes : List ℕ) where
 
 -- ---- blocks that a size keeps
 
-abbrev kept : ℕ → ℕ × List ℕ → Bool
+abbrev pub kept : ℕ → ℕ × List ℕ → Bool
 kept size e = nat_lt (1024 * e.0) size
 
-abbrev cut_entry : ℕ → ℕ × List ℕ → ℕ × List ℕ
+abbrev pub cut_entry : ℕ → ℕ × List ℕ → ℕ × List ℕ
 cut_entry size e = (e.0, cut_body size e.0 e.1)
 
-abbrev cut_blocks : ℕ → List (ℕ × List ℕ) → List (ℕ × List ℕ)
+abbrev pub cut_blocks : ℕ → List (ℕ × List ℕ) → List (ℕ × List ℕ)
 cut_blocks size blocks = map (cut_entry size) (filter (kept size) blocks)
 
 -- what a cut leaves of a block
-abbrev left_of : ℕ → ℕ → Option (List ℕ) → Option (List ℕ)
+abbrev pub left_of : ℕ → ℕ → Option (List ℕ) → Option (List ℕ)
 left_of size index None = None
 left_of size index (Some body) = Some (cut_body size index body)
 
-cut_out : (size : ℕ) (blocks : List (ℕ × List ℕ)) (index : ℕ) → nat_lt (1024 * index) size ≡ false → at_number (cut_blocks size blocks) index ≡ None
+pub cut_out : (size : ℕ) (blocks : List (ℕ × List ℕ)) (index : ℕ) → nat_lt (1024 * index) size ≡ false → at_number (cut_blocks size blocks) index ≡ None
 cut_out size [] index f = refl
 cut_out size (e ∷ es) index f = by (kept size e) refl (cut_out size es index f)
   where
@@ -169,7 +169,7 @@ cut_out size (e ∷ es) index f = by (kept size e) refl (cut_out size es index f
         rw apart more
     by false k more = more
 
-cut_in : (size : ℕ) (blocks : List (ℕ × List ℕ)) (index : ℕ) → nat_lt (1024 * index) size ≡ true → at_number (cut_blocks size blocks) index ≡ left_of size index (at_number blocks index)
+pub cut_in : (size : ℕ) (blocks : List (ℕ × List ℕ)) (index : ℕ) → nat_lt (1024 * index) size ≡ true → at_number (cut_blocks size blocks) index ≡ left_of size index (at_number blocks index)
 cut_in size [] index t = refl
 cut_in size (e ∷ es) index t = by (kept size e) refl (cut_in size es index t)
   where
