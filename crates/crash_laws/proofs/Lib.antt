@@ -13,9 +13,11 @@ pub mod Growth
 pub mod Histories
 pub mod HostSteps
 pub mod ImageSteps
+pub mod LegalHistories
 pub mod LogBlocks
 pub mod LogReads
 pub mod LogSteps
+pub mod LongerHistories
 pub mod Metadata
 pub mod OrderSteps
 pub mod Ordering

@@ -3,7 +3,7 @@
 --
 -- The entry at place p, counted from 0, has the number p + 1. The tree that was opened is the root alone; its birth is
 -- 0, and the birth of each other node is the number of the entry that made it.
-use Rattle.std.specs.Prelude.{◌≡◌, ◌≢◌, ℕ, ◌+◌, ◌<◌, ◌==◌, ◌⊎◌, Bool, true, false, List, [], ◌∷◌, ◌++◌, filter, take, Some, None, if◌then◌else◌}
+use Rattle.std.specs.Prelude.{◌≡◌, ◌≢◌, ℕ, ◌+◌, ◌<◌, ◌==◌, ◌⊎◌, Bool, true, false, List, [], ◌∷◌, ◌++◌, filter, length, take, Some, None, if◌then◌else◌}
 use Rattle.std.specs.List.{slice_get}
 use Rattle.tree_model.specs.declared.call.Call.{Call}
 use Rattle.tree_model.specs.declared.call.Call.TheVariants as calls
@@ -111,4 +111,14 @@ pub record IsLegal (room : Room) (programs : ℕ → List Call) (events : List E
   -- behind a reply that the device is off or failed, no other is given
   pub down : (i j t u : ℕ) (c d : Call) (r : Reply) → i < j → slice_get events i ≡ Some (End t c replies.Down) → slice_get events j ≡ Some (End u d r) → r ≡ replies.Down
   pub read_only : (i j t u id : ℕ) (c d : Call) (r : Reply) → i < j → slice_get events i ≡ Some (End t c (replies.ReadOnly id)) → slice_get events j ≡ Some (End u d r) → is_reading d ≡ false
+      → (r ≡ replies.ReadOnly id) ⊎ (r ≡ replies.Down)
+
+-- what one event more owes
+pub record EventClause (room : Room) (programs : ℕ → List Call) (events : List Event) (e : Event) : Type 0 where
+  pub followed : Follows (of_thread (thread_of e) (events ++ e ∷ [])) (programs (thread_of e))
+  pub at_once : (t : ℕ) (c : Call) (r : Reply) → e ≡ End t c r → (has_begun t false events ≡ true → ⊥) → IsReply room (tree_up_to room events (length events)) (length events + 1) c r
+  pub begins : (t : ℕ) (c : Call) → e ≡ Begin t c → (is_waiting c ≡ true) × (reply_of room (tree_up_to room events (length events)) (length events + 1) c ≡ replies.Ok)
+  pub ends : (t : ℕ) (c : Call) (r : Reply) → e ≡ End t c r → has_begun t false events ≡ true → (r ≡ replies.Ok) ⊎ (is_turned_away r ≡ true)
+  pub down : (i t u : ℕ) (c d : Call) (r : Reply) → slice_get events i ≡ Some (End t c replies.Down) → e ≡ End u d r → r ≡ replies.Down
+  pub read_only : (i t u id : ℕ) (c d : Call) (r : Reply) → slice_get events i ≡ Some (End t c (replies.ReadOnly id)) → e ≡ End u d r → is_reading d ≡ false
       → (r ≡ replies.ReadOnly id) ⊎ (r ≡ replies.Down)

@@ -16,7 +16,7 @@ mod laws;
 
 pub use laws::{
     barriers_divide_epochs, barriers_keep_order, calls_are_held_when_they_answer,
-    calls_on_trees_make_a_history, changes_keep_the_facts, checkpoints_meet_their_clauses,
+    calls_on_trees_make_a_history, histories_of_calls_may_grow, changes_keep_the_facts, checkpoints_meet_their_clauses,
     commit_blocks_meet_their_clause, held_pairs_were_sent_or_given_up, histories_may_grow,
     kept_commits_are_a_prefix, logs_end_at_the_last_kept_commit,
     metadata_recovered_is_that_of_a_prefix, pages_meet_their_clause, pairs_that_are_done_stay_good,

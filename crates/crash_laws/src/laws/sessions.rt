@@ -1,17 +1,20 @@
-ghost use Rattle.std.specs.Prelude.{ℕ, List};
+ghost use Rattle.std.specs.Prelude.{◌≡◌, ℕ, ◌≤◌, List, [], ◌∷◌, ◌++◌, length};
 ghost use Rattle.blk_base.specs.Members.{In};
 ghost use Rattle.order_model.specs.declared.completion.Completion.{Completion};
 ghost use Rattle.order_model.specs.Submission.{IsOrderClosed, KeepsFlushed};
 ghost use Rattle.minix_layout.specs.declared.division.Geometry.{Geometry};
+ghost use Rattle.order_model.specs.declared.note.Note.TheVariants.{Page};
+ghost use Rattle.tree_model.specs.declared.call.Call.{Call};
 ghost use Rattle.tree_model.specs.declared.call.Room.{Room};
 ghost use Rattle.tree_model.specs.Calls.{Tree};
 ghost use Rattle.tree_model.specs.Listing.{IsRooted};
 ghost use Rattle.volume_ops.specs.Volume.{disk_of};
+ghost use Rattle.crash_laws.specs.Extending.{Extends};
 ghost use Rattle.crash_laws.specs.Found.{found};
 ghost use Rattle.crash_laws.specs.History.{HasTrees};
-ghost use Rattle.crash_laws.specs.LegalHistory.{Event, tree_up_to};
+ghost use Rattle.crash_laws.specs.LegalHistory.{Event, tree_up_to, IsLegal, EventClause};
 ghost use Rattle.crash_laws.specs.Recovery.{IsRecovered};
-ghost use Rattle.crash_laws.specs.Session.{Medium};
+ghost use Rattle.crash_laws.specs.Session.{Session, Medium, HasNote, IsSubmitted};
 ghost use Rattle.crash_laws.specs.SessionRules.{Run, KeepsRules, Sentences};
 ghost use Rattle.crash_laws.specs.TreeHistory.{AreCuts, IsPlaceIn, history_of};
 ghost use Rattle.crash_laws.specs.Volumes.{Walked};
@@ -36,4 +39,18 @@ pub fn sentences_follow_from_the_rules()
         KeepsFlushed run.session.requests m.origins sent → ((o : Completion) → In o run.taken → In o sent) →
         IsRecovered run.session m (disk_of recovered) →
         Sentences run m recovered (found run.session m) }
+{}
+
+/// A law, which does nothing when it is called: the empty history is legal, one event more keeps it legal where it owes
+/// what it has to, and tells the laws the same of all entries before.
+pub fn histories_of_calls_may_grow()
+    ensures start { (room : Room) (programs : ℕ → List Call) → IsLegal room programs [] }
+    ensures legal { (room : Room) (programs : ℕ → List Call) (events : List Event) (e : Event) →
+        IsLegal room programs events → EventClause room programs events e →
+        IsLegal room programs (events ++ e ∷ []) }
+    ensures extends { (room : Room) (events more : List Event) (cut new_cut : ℕ → ℕ) (place : ℕ → Walked → ℕ → ℕ → ℕ) (s : Session) →
+        AreCuts cut → ((j k : ℕ) → IsSubmitted s k → j ≤ k → new_cut j ≡ cut j) →
+        ((k : ℕ) → IsSubmitted s k → cut k ≤ length events) →
+        ((o f i v : ℕ) → HasNote s o (Page f i v) → v ≤ length events) →
+        Extends (history_of room events cut place) (history_of room (events ++ more) new_cut place) s (length events) }
 {}
