@@ -1,4 +1,5 @@
 -- The lemmas of the laws.
+pub mod Grammar
 pub mod LastLogged
 pub mod Log
 pub mod Marks

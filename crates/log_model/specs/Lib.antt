@@ -1,4 +1,5 @@
 pub mod Marks
+pub mod Grammar
 pub mod LastLogged
 pub mod Log
 pub mod Parts

@@ -2,6 +2,7 @@ ghost use Rattle.std.specs.Prelude.{◌≡◌, ◌≢◌, ℕ, ◌+◌, ◌<◌,
 ghost use Rattle.blk_base.specs.Members.{In};
 ghost use Rattle.log_model.specs.Marks.{Transaction, Keep, Clear, Set, followed, mark_in, marked_body, replayed, transactions_from};
 ghost use Rattle.log_model.specs.LastLogged.{uncancelled, last_of, SaysNothing, IsLastLogged, IsRevokedLast};
+ghost use Rattle.log_model.specs.Grammar.{IsLogOf};
 ghost use Rattle.log_model.specs.Log.{Header, Commits, Format, Reader, Reading, done, take_blocks, from_sequence, Spells};
 ghost use Rattle.log_model.specs.Parts.{Part, AreParts, blocks_of_parts, bodies_of_parts, revokes_of_parts};
 ghost use Rattle.log_model.specs.Ring.{Ring, IsPlace, places_in, place_after, places_on, places_from};
@@ -65,6 +66,15 @@ pub fn logs_are_read_block_by_block()
     ensures end { (f : Format) (sequence : ℕ) (txs : List Transaction) (blocks : List (List ℕ)) →
         ((block : List ℕ) → In block blocks → f.header block ≢ Commits sequence) →
         done (take_blocks f (Reading sequence [] [] [] txs) blocks) ≡ txs }
+{}
+
+/// A law, which does nothing when it is called: what is read of blocks is their log: whole transactions of one sequence
+/// after the other, up to where none stands.
+pub fn logs_are_whole_transactions()
+    ensures read { (f : Format) (sequence : ℕ) (blocks : List (List ℕ)) →
+        IsLogOf f sequence blocks (done (take_blocks f (from_sequence sequence) blocks)) }
+    ensures only { (f : Format) (sequence : ℕ) (blocks : List (List ℕ)) (txs : List Transaction) →
+        IsLogOf f sequence blocks txs → done (take_blocks f (from_sequence sequence) blocks) ≡ txs }
 {}
 
 /// A law, which does nothing when it is called: from each place of the ring the next ones are counted up to its
