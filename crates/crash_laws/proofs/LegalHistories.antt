@@ -82,10 +82,11 @@ module _ (room : Room) (programs : ℕ → List Call) (events : List Event) (e :
           let x = old.begins i t c o in
           (x.0, subst (λ tree. reply_of room tree (i + 1) c ≡ replies.Ok) (sym (same_before i (omega arith))) x.1))
           (λ n.
-          let x = new.begins t c n.1 in
-          (x.0,
-          subst (λ j. reply_of room (tree_up_to room (events ++ e ∷ []) j) (j + 1) c ≡ replies.Ok) (sym n.0)
-          (subst (λ tree. reply_of room tree (length events + 1) c ≡ replies.Ok) (sym (same_before (length events) (omega arith))) x.1)))
+          let x = new.begins t c n.1 in (
+            x.0,
+            subst (λ j. reply_of room (tree_up_to room (events ++ e ∷ []) j) (j + 1) c ≡ replies.Ok) (sym n.0)
+                (subst (λ tree. reply_of room tree (length events + 1) c ≡ replies.Ok) (sym (same_before (length events) (omega arith))) x.1),
+          ))
           (slice_get-push_cases events e i (Begin t c) there);
       ends = λ i t c r there begun.
           ⊎_elim

@@ -14,14 +14,14 @@ unfenced = record (with_first 0) {
       ∷ put true false 2 6 (7 ∷ [])
       ∷ put true true 3 7 (1 ∷ 1 ∷ [])
       ∷ [];
-  notes = Super ∷ Descriptor 1 ∷ Body 1 1 ∷ Commit 1 ∷ []
+  notes = Super ∷ Descriptor 1 ∷ Body 1 1 ∷ Commit 1 ∷ [];
 }
 
 -- the commit block is there, and the body is not
 abbrev pub without_body : Medium
 without_body = record {
   image = [] ∷ [] ∷ [] ∷ [] ∷ (1 ∷ 1 ∷ []) ∷ (2 ∷ 1 ∷ 1 ∷ []) ∷ [] ∷ (1 ∷ 1 ∷ []) ∷ [];
-  origins = None ∷ None ∷ None ∷ None ∷ Some 0 ∷ Some 1 ∷ None ∷ Some 3 ∷ []
+  origins = None ∷ None ∷ None ∷ None ∷ Some 0 ∷ Some 1 ∷ None ∷ Some 3 ∷ [];
 }
 
 -- The page of the file that transaction 1 changed stands behind its commit block.
@@ -34,12 +34,12 @@ page_late = record (with_first 0) {
       ∷ put true true 3 7 (1 ∷ 1 ∷ [])
       ∷ put true true 4 2 (2 ∷ [])
       ∷ [];
-  notes = Super ∷ Descriptor 1 ∷ Body 1 1 ∷ Commit 1 ∷ Page 5 0 2 ∷ []
+  notes = Super ∷ Descriptor 1 ∷ Body 1 1 ∷ Commit 1 ∷ Page 5 0 2 ∷ [];
 }
 
 -- all is there but the page
 abbrev pub without_page : Medium
 without_page = record {
   image = [] ∷ [] ∷ [] ∷ [] ∷ (1 ∷ 1 ∷ []) ∷ (2 ∷ 1 ∷ 1 ∷ []) ∷ (7 ∷ []) ∷ (1 ∷ 1 ∷ []) ∷ [];
-  origins = None ∷ None ∷ None ∷ None ∷ Some 0 ∷ Some 1 ∷ Some 2 ∷ Some 3 ∷ []
+  origins = None ∷ None ∷ None ∷ None ∷ Some 0 ∷ Some 1 ∷ Some 2 ∷ Some 3 ∷ [];
 }

@@ -26,4 +26,6 @@ pub use rules::{
     requests_owe_by_what_they_carry, rules_can_be_kept, rules_hold_at_the_start,
     trees_of_images_follow, weaker_rules_lose_a_sentence,
 };
-pub use sessions::{calls_on_trees_make_a_history, histories_of_calls_may_grow, sentences_follow_from_the_rules};
+pub use sessions::{
+    calls_on_trees_make_a_history, histories_of_calls_may_grow, sentences_follow_from_the_rules,
+};

@@ -16,12 +16,12 @@ mod laws;
 
 pub use laws::{
     barriers_divide_epochs, barriers_keep_order, calls_are_held_when_they_answer,
-    calls_on_trees_make_a_history, histories_of_calls_may_grow, changes_keep_the_facts, checkpoints_meet_their_clauses,
+    calls_on_trees_make_a_history, changes_keep_the_facts, checkpoints_meet_their_clauses,
     commit_blocks_meet_their_clause, held_pairs_were_sent_or_given_up, histories_may_grow,
-    kept_commits_are_a_prefix, logs_end_at_the_last_kept_commit,
+    histories_of_calls_may_grow, kept_commits_are_a_prefix, logs_end_at_the_last_kept_commit,
     metadata_recovered_is_that_of_a_prefix, pages_meet_their_clause, pairs_that_are_done_stay_good,
     plans_have_the_volume_as_image, promises_are_kept, promises_stay_kept, requests_keep_the_ring,
     requests_keep_the_rules, requests_owe_by_what_they_carry, rules_can_be_kept,
-    rules_hold_at_the_start, sentences_follow_from_the_rules, trees_of_images_follow, weaker_rules_lose_a_sentence,
-    versions_recovered_are_no_older, volume_and_journal_are_found,
+    rules_hold_at_the_start, sentences_follow_from_the_rules, trees_of_images_follow,
+    versions_recovered_are_no_older, volume_and_journal_are_found, weaker_rules_lose_a_sentence,
 };
