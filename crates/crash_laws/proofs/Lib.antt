@@ -4,6 +4,7 @@ pub mod ChangeSteps
 pub mod CommitSteps
 pub mod Commits
 pub mod CommittingSteps
+pub mod EntryTrees
 pub mod Epochs
 pub mod Example
 pub mod ExamplePages

@@ -28,4 +28,5 @@ pub use rules::{
 };
 pub use sessions::{
     calls_on_trees_make_a_history, histories_of_calls_may_grow, sentences_follow_from_the_rules,
+    trees_change_by_calls_that_are_done,
 };

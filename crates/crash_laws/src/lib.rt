@@ -22,6 +22,7 @@ pub use laws::{
     metadata_recovered_is_that_of_a_prefix, pages_meet_their_clause, pairs_that_are_done_stay_good,
     plans_have_the_volume_as_image, promises_are_kept, promises_stay_kept, requests_keep_the_ring,
     requests_keep_the_rules, requests_owe_by_what_they_carry, rules_can_be_kept,
-    rules_hold_at_the_start, sentences_follow_from_the_rules, trees_of_images_follow,
-    versions_recovered_are_no_older, volume_and_journal_are_found, weaker_rules_lose_a_sentence,
+    rules_hold_at_the_start, sentences_follow_from_the_rules, trees_change_by_calls_that_are_done,
+    trees_of_images_follow, versions_recovered_are_no_older, volume_and_journal_are_found,
+    weaker_rules_lose_a_sentence,
 };

@@ -1,18 +1,20 @@
-ghost use Rattle.std.specs.Prelude.{◌≡◌, ℕ, ◌≤◌, List, [], ◌∷◌, ◌++◌, length};
+ghost use Rattle.std.specs.Prelude.{◌≡◌, ℕ, ◌+◌, ◌≤◌, List, [], ◌∷◌, ◌++◌, length, take, Some, true, false};
+ghost use Rattle.std.specs.List.{slice_get};
 ghost use Rattle.blk_base.specs.Members.{In};
 ghost use Rattle.order_model.specs.declared.completion.Completion.{Completion};
 ghost use Rattle.order_model.specs.Submission.{IsOrderClosed, KeepsFlushed};
 ghost use Rattle.minix_layout.specs.declared.division.Geometry.{Geometry};
 ghost use Rattle.order_model.specs.declared.note.Note.TheVariants.{Page};
 ghost use Rattle.tree_model.specs.declared.call.Call.{Call};
+ghost use Rattle.tree_model.specs.declared.call.Reply.{Reply};
 ghost use Rattle.tree_model.specs.declared.call.Room.{Room};
-ghost use Rattle.tree_model.specs.Calls.{Tree};
+ghost use Rattle.tree_model.specs.Calls.{Tree, tree_after};
 ghost use Rattle.tree_model.specs.Listing.{IsRooted};
 ghost use Rattle.volume_ops.specs.Volume.{disk_of};
 ghost use Rattle.crash_laws.specs.Extending.{Extends};
 ghost use Rattle.crash_laws.specs.Found.{found};
 ghost use Rattle.crash_laws.specs.History.{HasTrees};
-ghost use Rattle.crash_laws.specs.LegalHistory.{Event, tree_up_to, IsLegal, EventClause};
+ghost use Rattle.crash_laws.specs.LegalHistory.{Event, Begin, End, has_begun, is_turned_away, tree_up_to, IsLegal, EventClause};
 ghost use Rattle.crash_laws.specs.Recovery.{IsRecovered};
 ghost use Rattle.crash_laws.specs.Session.{Session, Medium, HasNote, IsSubmitted};
 ghost use Rattle.crash_laws.specs.SessionRules.{Run, KeepsRules, Sentences};
@@ -53,4 +55,20 @@ pub fn histories_of_calls_may_grow()
         ((k : ℕ) → IsSubmitted s k → cut k ≤ length events) →
         ((o f i v : ℕ) → HasNote s o (Page f i v) → v ≤ length events) →
         Extends (history_of room events cut place) (history_of room (events ++ more) new_cut place) s (length events) }
+{}
+
+/// A law, which does nothing when it is called: the tree changes by what a call does, where the call ends at once with the
+/// tree's reply; and nowhere else: not where a call begins, where one that had begun ends, or where one is turned away.
+pub fn trees_change_by_calls_that_are_done()
+    ensures done { (room : Room) (events : List Event) (i t : ℕ) (c : Call) (r : Reply) →
+        slice_get events i ≡ Some (End t c r) → has_begun t false (take i events) ≡ false → is_turned_away r ≡ false →
+        tree_up_to room events (i + 1) ≡ tree_after room (tree_up_to room events i) (i + 1) c }
+    ensures turned_away { (room : Room) (events : List Event) (i t : ℕ) (c : Call) (r : Reply) →
+        slice_get events i ≡ Some (End t c r) → is_turned_away r ≡ true →
+        tree_up_to room events (i + 1) ≡ tree_up_to room events i }
+    ensures waited { (room : Room) (events : List Event) (i t : ℕ) (c : Call) (r : Reply) →
+        slice_get events i ≡ Some (End t c r) → has_begun t false (take i events) ≡ true →
+        tree_up_to room events (i + 1) ≡ tree_up_to room events i }
+    ensures begins { (room : Room) (events : List Event) (i t : ℕ) (c : Call) →
+        slice_get events i ≡ Some (Begin t c) → tree_up_to room events (i + 1) ≡ tree_up_to room events i }
 {}
