@@ -1,0 +1,11 @@
+pub mod Slots
+pub mod Edits
+pub mod Volume
+pub mod Changes
+pub mod Trees
+pub mod Ways
+pub mod MapBlock
+pub mod Cut
+pub mod Counts
+pub mod Touched
+pub mod laws

@@ -1,0 +1,65 @@
+-- A block of a file or a directory is mapped: the places on the way to it that have no zone get one, from the inode down.
+use Rattle.std.specs.Prelude.{ℕ, nat_eq, if◌then◌else◌, List, [], ◌∷◌, slice_set}
+use Rattle.byte_fields.specs.Fields.{zeros}
+use Rattle.minix_layout.specs.declared.division.Geometry.{Geometry}
+use Rattle.minix_layout.specs.declared.inode.Inode.{Inode}
+use Rattle.volume_model.specs.Edits.{Edit, put_body, put_entry, edited_all}
+use Rattle.volume_model.specs.Volume.{Place, block, indirect, double, inner, zone_in}
+use Rattle.volume_model.specs.Ways.{way, Home, slot, entry, nowhere, home}
+
+-- blocks with an inode that is not yet written to them
+pub record OpenInode : Type 0 where
+  pub blocks : List (List ℕ)
+  pub inode : Inode
+
+abbrev pub own_of : OpenInode → Place → ℕ
+own_of s x = zone_in s.blocks s.inode x
+
+abbrev pub with_zones : Inode → List ℕ → Inode
+with_zones i zones = record { mode = i.mode; uid = i.uid; size = i.size; time = i.time; gid = i.gid; links = i.links; zones = zones }
+
+-- the number of a place, written to its home
+abbrev pub entry_edits : OpenInode → Home → ℕ → List Edit
+entry_edits s (slot k) z = []
+entry_edits s (entry h k) z = put_entry (own_of s h) k z ∷ []
+entry_edits s nowhere z = []
+
+abbrev pub slot_written : Inode → Home → ℕ → Inode
+slot_written i (slot k) z = with_zones i (slice_set i.zones k z)
+slot_written i (entry h k) z = i
+slot_written i nowhere z = i
+
+abbrev pub gets_edits : OpenInode → Place → ℕ → List ℕ → List Edit
+gets_edits s x z body = put_body z body ∷ entry_edits s (home x) z
+
+abbrev pub get_zone : Geometry → OpenInode → Place → ℕ → List ℕ → OpenInode
+get_zone g s x z body = record { blocks = edited_all g s.blocks (gets_edits s x z body); inode = slot_written s.inode (home x) z }
+
+-- the zones that were taken for it: its own first, then those of numbers from the inode down
+pub record TakenZones : Type 0 where
+  pub data_zone : ℕ
+  pub outer : ℕ
+  pub second : ℕ
+
+abbrev pub taken_at : TakenZones → Place → ℕ
+taken_at t (block i) = t.data_zone
+taken_at t indirect = t.outer
+taken_at t double = t.outer
+taken_at t (inner k) = t.second
+
+-- a zone of numbers begins with none
+abbrev pub first_body : List ℕ → Place → List ℕ
+first_body content (block i) = content
+first_body content indirect = zeros 1024
+first_body content double = zeros 1024
+first_body content (inner k) = zeros 1024
+
+abbrev pub get_step : Geometry → TakenZones → List ℕ → OpenInode → Place → OpenInode
+get_step g t content s x = if nat_eq (own_of s x) 0 then get_zone g s x (taken_at t x) (first_body content x) else s
+
+abbrev pub get_steps : Geometry → TakenZones → List ℕ → OpenInode → List Place → OpenInode
+get_steps g t content s [] = s
+get_steps g t content s (x ∷ xs) = get_steps g t content (get_step g t content s x) xs
+
+unfoldable pub map_block : Geometry → TakenZones → List ℕ → OpenInode → ℕ → OpenInode
+map_block g t content s index = get_steps g t content s (way index)

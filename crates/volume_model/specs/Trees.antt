@@ -1,0 +1,20 @@
+-- The tree of a volume as it changes.
+use Rattle.std.specs.Prelude.{ℕ, List, length, map}
+use Rattle.tree_model.specs.declared.node.Node.{Node}
+use Rattle.tree_model.specs.declared.node.Node.TheVariants as nodes
+use Rattle.volume_ops.specs.Volume.{bodies_of}
+use Rattle.volume_model.specs.declared.placed.Placed.{Placed}
+use Rattle.volume_model.specs.declared.placed.Part.{Part}
+use Rattle.volume_model.specs.declared.placed.Part.TheVariants as parts
+use Rattle.minix_layout.specs.declared.inode.Inode.{Inode}
+
+abbrev pub node_from : List (List ℕ) → Inode → Part → Node
+node_from blocks i (parts.Directory d) = nodes.Directory (record { parent = d.parent; slots = length d.slots; names = d.names })
+node_from blocks i (parts.File zones) = nodes.File (record { size = i.size; links = i.links; blocks = bodies_of blocks zones })
+
+abbrev pub node_now : List (List ℕ) → Placed → Node
+node_now blocks p = node_from blocks p.inode p.part
+
+-- the tree that a volume stands for, by births
+unfoldable pub tree_now : List (List ℕ) → List (ℕ × Placed) → List (ℕ × Node)
+tree_now blocks placed = map (λ e. (e.0, node_now blocks e.1)) placed

@@ -1,0 +1,23 @@
+-- Laws of a changeable volume.
+pub mod Slots
+pub mod Edits
+pub mod Changes
+pub mod Zones
+pub mod Written
+pub mod Apart
+pub mod Trees
+pub mod Touched
+pub mod Added
+pub mod Gone
+pub mod Numbers
+pub mod Ways
+pub mod Gets
+pub mod MapBlock
+pub mod OnWay
+pub mod Cut
+pub mod Counts
+pub mod Indexed
+pub mod NodeMoves
+pub mod ZoneMoves
+pub mod CutTells
+pub mod MapTells

@@ -1,0 +1,313 @@
+-- What is told of a cut: which blocks it touched, which zones went, and which of these were metadata.
+use Rattle.std.specs.Prelude.{◌≡◌, ◌≢◌, ℕ, zero, suc, ◌+◌, ◌<◌, ◌≤◌, nat_lt, nat_eq, Bool, true, false, not, ◌&&◌, if◌then◌else◌, List, [], ◌∷◌, ◌++◌, filter, map, Some, refl, ◌⊎◌}
+use Rattle.std.specs.List.{range_with_len}
+use Rattle.std.proofs.Common.{sym, ap, subst, ◌∙◌, inl, inr, arith}
+use Rattle.std.proofs.lemmas.Bool.{cases_Bool, cases_eq, eqb-false, ne_eqb, ltb-true, ltb-false, and_from, and_parts, true≢false}
+use Rattle.std.proofs.lemmas.Option.{same_Some}
+use Rattle.blk_base.specs.Members.{In, In-filter, filter-In, In-map, map-In, In-append_left, In-append_right}
+use Rattle.minix_layout.specs.declared.division.Geometry.{Geometry}
+use Rattle.minix_layout.specs.Geometry.{IsSound}
+use Rattle.tree_model.specs.Maps.{at_number, put_number}
+use Rattle.tree_model.specs.MapsLaws.{at_put_number, at_put_number_apart}
+use Rattle.volume_ops.specs.declared.found.Mapped.{Mapped}
+use Rattle.volume_ops.specs.Places.{table_block}
+use Rattle.volume_ops.specs.Volume.{disk_of}
+use Rattle.volume_model.specs.declared.placed.Placed.{Placed}
+use Rattle.volume_model.specs.declared.placed.Part.TheVariants as parts
+use Rattle.volume_model.specs.declared.placed.DirectoryPart.{DirectoryPart}
+use Rattle.volume_model.specs.Edits.{put_inode, edited, touched_by_all}
+use Rattle.volume_model.specs.laws.Edits.{edited_elsewhere, untouched}
+use Rattle.volume_model.specs.laws.Changes.{table_below}
+use Rattle.volume_model.specs.Volume.{Place, block, indirect, double, inner, zone_in, IsFilePart, IsPart, IsVolumeOf, IsOfNumbers}
+use Rattle.volume_model.specs.Touched.{Page, Touched, Contents, IsMeta, of_tables, of_numbers, of_directory, HasPage, Tells}
+use Rattle.volume_model.specs.Ways.{nowhere, home, IsJust}
+use Rattle.volume_model.specs.laws.Ways.{own_none}
+use Rattle.volume_model.specs.MapBlock.{OpenInode, own_of}
+use Rattle.volume_model.specs.laws.MapBlock.{home-inner_past}
+use Rattle.volume_model.specs.Cut.{IsKeep, cuts, cut_edits, cut_to}
+use Rattle.volume_model.specs.laws.Cut.{AreThere, there_cuts}
+use Rattle.volume_model.specs.Counts.{number_places}
+use Rattle.volume_model.specs.laws.NodeMoves.{MayChange, Which, changed, other, which, same_zone as node_same_zone}
+use Rattle.volume_model.specs.laws.ZoneMoves.{fit_before, theirs_apart, less, cut_kept, cut_outcome, may_cut, may_change, MayMove, no_numbers, same_zone as moved_same_zone}
+
+-- the zones that a cut writes are those of places that stay
+touched_stay : (g : Geometry) (own : Place → ℕ) (keeps : Place → Bool) (cs : List (Place × ℕ)) (b : ℕ) → AreThere own keeps cs → In b (touched_by_all g (cut_edits own keeps cs)) →
+    (h : Place) × IsOfNumbers h × (keeps h ≡ true) × (own h ≢ 0) × (own h ≡ b)
+touched_stay g own keeps [] b there i = absurd i
+touched_stay g own keeps (c ∷ cs) b there i =
+    elim (cases_Bool (keeps c.0)) [
+      | inr f ↦ touched_stay g own keeps cs b there.2 (rw f at i)
+      | inl t ↦ by (λ j. touched_stay g own keeps cs b there.2 j) t (rw t at i)
+    ]
+  where
+    by : (In b (touched_by_all g (cut_edits own keeps cs)) → (h : Place) × IsOfNumbers h × (keeps h ≡ true) × (own h ≢ 0) × (own h ≡ b)) → keeps c.0 ≡ true → (own c.0 ≡ b) ⊎ In b (touched_by_all g (cut_edits own keeps cs)) → (h : Place) × IsOfNumbers h × (keeps h ≡ true) × (own h ≢ 0) × (own h ≡ b)
+    by rest t (inl e) = (c.0, there.0, t, there.1 t, e)
+    by rest t (inr j) = rest j
+
+range-In : (a n k : ℕ) → a ≤ k → k < a + n → In k (range_with_len a n)
+range-In a zero k low high = absurd (omega arith)
+range-In a (suc n) k low high = elim (cases_eq a k) [ inl e ↦ inl e | inr apart ↦ inr (range-In (a + 1) n k (omega arith) (omega arith)) ]
+
+-- each place of a zone of numbers is among the places
+listed_place : (x : Place) → IsOfNumbers x → home x ≢ nowhere → In x number_places
+listed_place indirect n some = inl refl
+listed_place double n some = inr (inl refl)
+listed_place (inner k) n some = elim (cases_Bool (nat_lt k 512)) [
+  | inl t ↦ inr (inr (map-In inner (range_with_len 0 512) k (range-In 0 512 k (omega arith) (ltb-true _ _ t))))
+  | inr f ↦ absurd (some (home-inner_past k (ltb-false _ _ f)))
+]
+listed_place (block i) n some = elim n [ ]
+
+module _ (g : Geometry) (sound : IsSound g) (blocks : List (List ℕ)) (nodes : List (ℕ × Placed)) (n : ℕ) (p : Placed) (h : IsVolumeOf g blocks nodes) (stands : at_number nodes n ≡ Some p)
+    (from : ℕ) (keeps : Place → Bool) (k : IsKeep (λ x. zone_in blocks p.inode x) from keeps) (just : IsJust (λ x. zone_in blocks p.inode x)) (zones : List Mapped) (is : p.part ≡ parts.File zones) where
+  abbrev own : Place → ℕ
+  own x = zone_in blocks p.inode x
+
+  abbrev page : Mapped → Page
+  page m = record { birth = n; index = m.index; zone = m.zone }
+
+  abbrev goes : Place → Bool
+  goes x = not (nat_eq (own x) 0) && not (keeps x)
+
+  abbrev gone : List Mapped
+  gone = filter (λ m. not (nat_lt m.index from)) zones
+
+  abbrev numbers_gone : List ℕ
+  numbers_gone = map own (filter goes number_places)
+
+  abbrev pub cut_touched : Touched
+  cut_touched = record {
+    blocks = table_block g p.number ∷ touched_by_all g (cut_edits own keeps (cuts keeps from));
+    freed = map (λ (m : Mapped). m.zone) gone ++ numbers_gone;
+    revoked = numbers_gone;
+    pages = [];
+    dropped = map page gone;
+    nodes = n ∷ [];
+  }
+
+  abbrev after : OpenInode
+  after = less g sound blocks nodes n p h stands from keeps k just
+
+  abbrev q : Placed
+  q = record { number = p.number; inode = after.inode; part = parts.File (filter (λ m. nat_lt m.index from) zones) }
+
+  abbrev v : Contents
+  v = record { blocks = blocks; nodes = nodes }
+
+  abbrev pub cut_both : Contents
+  cut_both = record { blocks = edited g after.blocks (put_inode p.number after.inode); nodes = put_number nodes n q }
+
+  -- ---- how the two hang together
+
+  abbrev later : List (List ℕ)
+  later = edited g after.blocks (put_inode p.number after.inode)
+
+  abbrev Z : ℕ → Type 0
+  Z b = (x : Place) × IsOfNumbers x × (own x ≢ 0) × (own x ≡ b)
+
+  may : MayMove g sound blocks nodes n p h stands after (parts.File (filter (λ m. nat_lt m.index from) zones)) Z
+  may = may_cut g sound blocks nodes n p h stands from keeps k just zones is
+
+  change : MayChange g blocks later nodes n p q (λ z. Z z ⊎ ⊥)
+  change = may_change g sound blocks nodes n p h stands after (parts.File (filter (λ m. nat_lt m.index from) zones)) Z may
+
+  abbrev IsWhich : ℕ → Placed → Type 0
+  IsWhich b r = Which g blocks later nodes n p q (λ z. Z z ⊎ ⊥) h change b r
+
+  cases : (b : ℕ) (r : Placed) → at_number (put_number nodes n q) b ≡ Some r → IsWhich b r
+  cases b r at = which g blocks later nodes n p q (λ z. Z z ⊎ ⊥) h change b r at
+
+  theirs : (b : ℕ) (r : Placed) → at_number nodes b ≡ Some r → b ≢ n → (x : Place) → zone_in later r.inode x ≡ zone_in blocks r.inode x
+  theirs b r at apart = node_same_zone g blocks later nodes n p q (λ z. Z z ⊎ ⊥) h change b r at apart
+
+  mine : (x : Place) → zone_in later after.inode x ≡ own_of after x
+  mine = moved_same_zone g sound blocks nodes n p h stands after (parts.File (filter (λ m. nat_lt m.index from) zones)) Z may
+
+  stays_as : (x : Place) → keeps x ≡ true → zone_in later after.inode x ≡ own x
+  stays_as x t = mine x ∙ ((cut_outcome g sound blocks nodes n p h stands from keeps k just).cut x ∙ (let e : (if keeps x then own x else 0) ≡ own x = rw t refl in e))
+
+  left : (x : Place) → zone_in later after.inode x ≢ 0 → (keeps x ≡ true) × (zone_in later after.inode x ≡ own x)
+  left x some = let w = cut_kept g sound blocks nodes n p h stands from keeps k just x (λ none. some (mine x ∙ none)) in (w.0, mine x ∙ w.1)
+
+  here : at_number (put_number nodes n q) n ≡ Some q
+  here = at_put_number nodes n q
+
+  there : (b : ℕ) (r : Placed) → at_number nodes b ≡ Some r → b ≢ n → at_number (put_number nodes n q) b ≡ Some r
+  there b r at apart = at_put_number_apart nodes n q b apart ∙ at
+
+  one : (r : Placed) (b : ℕ) → b ≡ n → at_number nodes b ≡ Some r → p ≡ r
+  one r b e at = same_Some p r (sym stands ∙ subst (λ b. at_number nodes b ≡ Some r) e at)
+
+  no_directory : (d : DirectoryPart) → p.part ≡ parts.Directory d → ⊥
+  no_directory d e = cc (sym is ∙ e)
+
+  -- ---- metadata
+
+  meta_back : (b : ℕ) → IsMeta g cut_both b → IsMeta g v b
+  meta_back b (of_tables low) = of_tables low
+  meta_back b (of_numbers a r x at m e some) = elim (cases a r at) [
+    | changed i same ↦
+        let z : zone_in later after.inode x ≡ b = ap (λ (r : Placed). zone_in later r.inode x) same ∙ e in
+        of_numbers n p x stands m (sym (left x (λ none. some (sym z ∙ none))).1 ∙ z) some
+    | other apart was ↦ of_numbers a r x was m (sym (theirs a r was apart x) ∙ e) some
+  ]
+  meta_back b (of_directory a r d i at part e some) = elim (cases a r at) [
+    | changed j same ↦ absurd (cc (ap (λ (r : Placed). r.part) same ∙ part))
+    | other apart was ↦ of_directory a r d i was part (sym (theirs a r was apart (block i)) ∙ e) some
+  ]
+
+  in_gone : (x : Place) → IsOfNumbers x → own x ≢ 0 → keeps x ≡ false → In (own x) numbers_gone
+  in_gone x m some f =
+      map-In own (filter goes number_places) x
+      (filter-In goes number_places x (listed_place x m (λ none. some (own_none blocks p.inode h.whole x none)))
+      (and_from _ _ (ap not (ne_eqb (own x) 0 some)) (ap not f)))
+
+  gone_is : (b : ℕ) → In b numbers_gone → (x : Place) × (own x ≡ b) × (own x ≢ 0) × (keeps x ≡ false)
+  gone_is b i =
+      let w = In-map own (filter goes number_places) b i in
+      let f = In-filter goes number_places w.0 w.1 in
+      let t = and_parts _ _ f.1 in
+      (w.0, w.2, some w.0 (nat_eq (own w.0) 0) refl t.0, turned (keeps w.0) t.1)
+    where
+      some : (x : Place) (b : Bool) → nat_eq (own x) 0 ≡ b → not b ≡ true → own x ≢ 0
+      some x true e t = absurd (true≢false (sym t))
+      some x false e t = eqb-false _ _ e
+
+      turned : (b : Bool) → not b ≡ true → b ≡ false
+      turned true t = sym t
+      turned false t = refl
+
+  meta_kept : (b : ℕ) → IsMeta g v b → IsMeta g cut_both b ⊎ In b numbers_gone
+  meta_kept b (of_tables low) = inl (of_tables low)
+  meta_kept b (of_numbers a r x at m e some) = elim (cases_eq a n) [
+    | inr apart ↦ inl (of_numbers a r x (there a r at apart) m (theirs a r at apart x ∙ e) some)
+    | inl i ↦
+        let z : own x ≡ b = ap (λ (r : Placed). zone_in blocks r.inode x) (one r a i at) ∙ e in
+        elim (cases_Bool (keeps x)) [
+          | inl t ↦ inl (of_numbers n q x here m (stays_as x t ∙ z) some)
+          | inr f ↦ inr (subst (λ b. In b numbers_gone) z (in_gone x m (λ none. some (sym z ∙ none)) f))
+        ]
+  ]
+  meta_kept b (of_directory a r d i at part e some) = elim (cases_eq a n) [
+    | inr apart ↦ inl (of_directory a r d i (there a r at apart) part (theirs a r at apart (block i) ∙ e) some)
+    | inl j ↦ absurd (no_directory d (ap (λ (r : Placed). r.part) (one r a j at) ∙ part))
+  ]
+
+  gone_no_meta : (b : ℕ) → In b numbers_gone → IsMeta g cut_both b → ⊥
+  gone_no_meta b i meta =
+      let w = gone_is b i in
+      let range = (h.each n p stands).zones w.0 w.2 in
+      elim meta [
+        | of_tables low ↦ (let up = range.0 in let e = w.1 in omega arith)
+        | of_numbers a r x at m e some ↦ elim (cases a r at) [
+          | changed j same ↦
+              let z : zone_in later after.inode x ≡ b = ap (λ (r : Placed). zone_in later r.inode x) same ∙ e in
+              let l = left x (λ none. some (sym z ∙ none)) in
+              let both : w.0 ≡ x = (h.zones n n p p w.0 x stands stands (w.1 ∙ (sym z ∙ l.1)) w.2).1 in
+              true≢false (sym l.0 ∙ (ap keeps (sym both) ∙ w.3))
+          | other apart was ↦ theirs_apart g sound blocks nodes n p h stands a r w.0 x was apart (w.1 ∙ (sym e ∙ theirs a r was apart x)) w.2
+        ]
+        | of_directory a r d i at part e some ↦ elim (cases a r at) [
+          | changed j same ↦ absurd (cc (ap (λ (r : Placed). r.part) same ∙ part))
+          | other apart was ↦ theirs_apart g sound blocks nodes n p h stands a r w.0 (block i) was apart (w.1 ∙ (sym e ∙ theirs a r was apart (block i))) w.2
+        ]
+      ]
+
+  in_table : (2 ≤ table_block g p.number) × (table_block g p.number < g.first)
+  in_table = (let told = h.each n p stands in let t = table_below g p.number sound told.some told.within in let low = t.0 in ((omega arith), t.1))
+
+  touched_meta : (b : ℕ) → In b cut_touched.blocks → IsMeta g cut_both b × (2 ≤ b) × (b < g.zones)
+  touched_meta b (inl e) =
+      let t = in_table in
+      let low = t.0 in
+      let high = t.1 in
+      let some = sound.some_zone in
+      (of_tables (subst (λ b. b < g.first) e high), subst (λ b. 2 ≤ b) e low, (omega arith))
+  touched_meta b (inr i) =
+      let w = touched_stay g own keeps (cuts keeps from) b (there_cuts g sound (record { blocks = blocks; inode = p.inode }) from keeps k (fit_before g sound blocks nodes n p h stands) just) i in
+      let range = (h.each n p stands).zones w.0 w.3 in
+      let low = range.0 in
+      let high = range.1 in
+      let t = in_table in
+      let t_low = t.0 in
+      let t_high = t.1 in
+      let e = w.4 in
+      (of_numbers n q w.0 here w.1 (stays_as w.0 w.2 ∙ w.4) (λ none. w.3 (w.4 ∙ none)), (omega arith), (omega arith))
+
+  kept_bytes : (b : ℕ) → (In b cut_touched.blocks → ⊥) → disk_of later b ≡ disk_of blocks b
+  unfolding cut_to
+  kept_bytes b none =
+      edited_elsewhere g after.blocks (put_inode p.number after.inode) b (λ e. none (inl (sym e)))
+      ∙ untouched g (cut_edits own keeps (cuts keeps from)) blocks b (λ i. none (inr i))
+
+  -- ---- pages
+
+  page_back : (x : Page) → HasPage cut_both x → HasPage v x
+  page_back x page = elim (cases x.birth page.placed page.stands) [
+    | other apart was ↦ record { placed = page.placed; zones = page.zones; stands = was; is_file = page.is_file; zone = sym (theirs x.birth page.placed was apart (block x.index)) ∙ page.zone; some = page.some }
+    | changed e same ↦
+        let z : zone_in later after.inode (block x.index) ≡ x.zone = ap (λ (r : Placed). zone_in later r.inode (block x.index)) same ∙ page.zone in
+        let l = left (block x.index) (λ none. page.some (sym z ∙ none)) in
+        record { placed = p; zones = zones; stands = ap (at_number nodes) e ∙ stands; is_file = is; zone = sym l.1 ∙ z; some = page.some }
+  ]
+
+  file_part : IsFilePart blocks p.inode zones
+  file_part = subst (IsPart blocks p.inode) is (h.each n p stands).part
+
+  page_kept : (x : Page) → HasPage v x → HasPage cut_both x ⊎ In x cut_touched.dropped
+  page_kept x page = elim (cases_eq x.birth n) [
+    | inr apart ↦ inl (record { placed = page.placed; zones = page.zones; stands = there x.birth page.placed page.stands apart; is_file = page.is_file; zone = theirs x.birth page.placed page.stands apart (block x.index) ∙ page.zone; some = page.some })
+    | inl e ↦
+        let z : own (block x.index) ≡ x.zone = ap (λ (r : Placed). zone_in blocks r.inode (block x.index)) (one page.placed x.birth e page.stands) ∙ page.zone in
+        elim (cases_Bool (nat_lt x.index from)) [
+          | inl t ↦ inl (record { placed = q; zones = filter (λ m. nat_lt m.index from) zones; stands = ap (at_number (put_number nodes n q)) e ∙ here; is_file = refl; zone = stays_as (block x.index) (k.blocks x.index ∙ t) ∙ z; some = page.some })
+          | inr f ↦
+              let listed = file_part.full x.index (λ none. page.some (sym z ∙ none)) in
+              let i = map-In page_of gone _ (filter-In (λ (m : Mapped). not (nat_lt m.index from)) zones _ listed (ap not f)) in
+              inr (subst (λ y. In y cut_touched.dropped) (let same : record { birth = n; index = x.index; zone = own (block x.index) } ≡ x = (λ j. record { birth = sym e j; index = x.index; zone = z j }) in same) i)
+        ]
+  ]
+    where
+      page_of : Mapped → Page
+      page_of m = record { birth = n; index = m.index; zone = m.zone }
+
+  dropped_page : (x : Page) → In x cut_touched.dropped → HasPage v x × In x.zone cut_touched.freed × ((zone : ℕ) → HasPage cut_both (record { birth = x.birth; index = x.index; zone = zone }) → ⊥)
+  dropped_page x i =
+      let w = In-map page gone x i in
+      let f = In-filter (λ (m : Mapped). not (nat_lt m.index from)) zones w.0 w.1 in
+      let told = file_part.listed w.0 f.0 in
+      subst (λ (x : Page). HasPage v x × In x.zone cut_touched.freed × ((zone : ℕ) → HasPage cut_both (record { birth = x.birth; index = x.index; zone = zone }) → ⊥)) w.2 (
+        record { placed = p; zones = zones; stands = stands; is_file = is; zone = told.0; some = told.1 },
+        In-append_left (map (λ (m : Mapped). m.zone) gone) numbers_gone w.0.zone (map-In (λ (m : Mapped). m.zone) gone w.0 w.1),
+        (λ zone left_page. elim (cases n left_page.placed left_page.stands) [
+          | other apart was ↦ apart refl
+          | changed e same ↦
+              let z : zone_in later after.inode (block w.0.index) ≡ zone = ap (λ (r : Placed). zone_in later r.inode (block w.0.index)) same ∙ left_page.zone in
+              let l = left (block w.0.index) (λ none. left_page.some (sym z ∙ none)) in
+              true≢false (sym f.1 ∙ ap not (sym (k.blocks w.0.index) ∙ l.0))
+        ]),
+      )
+
+  page_bytes : (x : Page) → HasPage v x → disk_of later x.zone ≡ disk_of blocks x.zone
+  page_bytes x page = kept_bytes x.zone (λ i. elim i [
+    | inl e ↦ (let t = in_table in let high = t.1 in let range = (h.each x.birth page.placed page.stands).zones (block x.index) (λ none. page.some (sym page.zone ∙ none)) in let low = range.0 in let z = page.zone in omega arith)
+    | inr j ↦
+        let w = touched_stay g own keeps (cuts keeps from) x.zone (there_cuts g sound (record { blocks = blocks; inode = p.inode }) from keeps k (fit_before g sound blocks nodes n p h stands) just) j in
+        no_numbers w.0 x.index (h.zones n x.birth p page.placed w.0 (block x.index) stands page.stands (w.4 ∙ sym page.zone) w.3).1 w.1
+  ])
+
+  -- What a cut tells.
+  pub cut_tells_all : Tells g v cut_both cut_touched (λ birth index. ⊥)
+  cut_tells_all = record {
+    fresh_are_touched = λ b new. inl (meta_back b new);
+    stays_or_revoked = λ b old. meta_kept b old;
+    revoked_are_left = λ b i. (let w = gone_is b i in (In-append_right (map (λ (m : Mapped). m.zone) gone) numbers_gone b i, gone_no_meta b i, subst (λ b. g.first ≤ b) w.1 ((h.each n p stands).zones w.0 w.2).0));
+    kept = λ b none old new. kept_bytes b none;
+    touched_are_meta = λ b i. inr (touched_meta b i);
+    pages_are_written = λ x i. absurd i;
+    was_or_written = λ x page. inl (page_back x page);
+    written_are_pages = λ birth index none. absurd none;
+    dropped_were_mapped = dropped_page;
+    stays_or_dropped = page_kept;
+    data_kept = λ x new old none. page_bytes x old;
+  }

@@ -1,0 +1,16 @@
+//! What a changeable volume keeps: its nodes by birth beside its blocks, each as its inode and its zones say it.
+//!
+//! `specs/Volume.antt` has the invariant, `specs/Edits.antt` single writes as data, `specs/Ways.antt` where the number
+//! of each zone of an inode stands, `specs/MapBlock.antt` and `specs/Cut.antt` how a file's blocks come and go, and
+//! `specs/Touched.antt` what a call tells of the blocks, zones and pages that it changed. `laws` names the laws.
+//!
+//! Stands on `volume_ops`, which reads a volume, and on `tree_model`, whose tree it stands for.
+#![tactic(auto)]
+
+mod names;
+mod placed;
+mod slots;
+
+pub use names::NameMap;
+pub use placed::{DirectoryPart, Part, Placed};
+pub use slots::Slots;

@@ -1,0 +1,29 @@
+//! A node of a changeable volume, with its place in it.
+use crate::{NameMap, Slots};
+use minix_layout::Inode;
+use volume_ops::MappedZones;
+
+/// A directory as it stands in a volume.
+#[derive(Drop)]
+pub struct DirectoryPart {
+    pub parent: u64,
+    /// Its names with the births of their nodes, but for `.` and `..`.
+    pub names: NameMap,
+    /// Its slots as they stand in its blocks.
+    pub slots: Slots,
+}
+
+/// What a node is.
+#[derive(Drop)]
+pub enum Part {
+    Directory(DirectoryPart),
+    File(MappedZones),
+}
+
+/// A node with its place in the volume: the number of its inode, and the inode as it stands there.
+#[derive(Drop)]
+pub struct Placed {
+    pub number: u16,
+    pub inode: Inode,
+    pub part: Part,
+}
