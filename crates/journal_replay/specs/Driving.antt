@@ -49,10 +49,10 @@ module _ {S : Type 0} where
   chosen m (choice.Persist pick) s = m.persisted s pick
   chosen m choice.Default s = if nat_lt 0 (m.can_transfer s) then m.transferred s 0 else m.persisted s 0
 
-  -- completions are taken until none waits, which one call more tells
+  -- completions are taken until none waits; n is how many can be
   abbrev pub drained_by : Machine S → ℕ → Option Completion → S → S
-  drained_by m n None s = m.answered s
-  drained_by m zero (Some c) s = m.answered s
+  drained_by m n None s = s
+  drained_by m zero (Some c) s = s
   drained_by m (suc n) (Some c) s = drained_by m n (m.next_answer (m.answered s)) (m.answered s)
 
   abbrev pub drained : Machine S → S → S

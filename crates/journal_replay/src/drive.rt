@@ -2,7 +2,7 @@
 ghost use Rattle.std.specs.Prelude.{◌≡◌, ℕ, ◌++◌, ◌<◌, ◌⊎◌, [], List, replicate, take, true, false, Some};
 ghost use Rattle.order_model.specs.declared.command.Command.{Command};
 ghost use Rattle.order_model.specs.Device.{Seen};
-ghost use Rattle.order_model.specs.Machine.{Machine};
+ghost use Rattle.order_model.specs.Machine.{machine_of};
 ghost use Rattle.journal_replay.specs.Driving.{Driven, sent, chosen, drained, turned, driven, end_of, is_running};
 ghost use Rattle.journal_replay.specs.code.Sending.{CanSend, KeepsAll};
 ghost use Rattle.journal_replay.specs.code.Runs.{StepKeeps, DrainKeeps, RunKeeps, IsAhead, IsDrivenBy, IsFlushedLast};
@@ -16,7 +16,7 @@ use order_model::OrderedDev;
 fn send<D: OrderedDev>(dev: &mut D, plan: &mut Plan)
     requires valid { D.valid (D.state dev.old) }
     requires can { CanSend (D.seen (D.state dev.old)) plan.old }
-    ensures sent { record { dev = D.state dev.new; rest = plan.new } ≡ sent (record { seen = D.seen; has_room = D.has_room; received = D.received; can_transfer = D.can_transfer; transferred = D.transferred; persisted = D.persisted; next_answer = D.next_answer; answered = D.answered }) (D.state dev.old) plan.old }
+    ensures sent { record { dev = D.state dev.new; rest = plan.new } ≡ sent (machine_of D.OrderedDev) (D.state dev.old) plan.old }
     ensures valid { D.valid (D.state dev.new) }
     ensures kept { KeepsAll (D.seen (D.state dev.old)) plan.old (D.seen (D.state dev.new)) plan.new }
     ensures others { D.seen (D.state dev.new) ≡ record (D.seen (D.state dev.old)) { took = (D.seen (D.state dev.new)).took } }
@@ -34,7 +34,7 @@ fn send<D: OrderedDev>(dev: &mut D, plan: &mut Plan)
 // One device step.
 fn step<D: OrderedDev>(dev: &mut D, choice: Choice)
     requires valid { D.valid (D.state dev.old) }
-    ensures chosen { D.state dev.new ≡ chosen (record { seen = D.seen; has_room = D.has_room; received = D.received; can_transfer = D.can_transfer; transferred = D.transferred; persisted = D.persisted; next_answer = D.next_answer; answered = D.answered }) choice (D.state dev.old) }
+    ensures chosen { D.state dev.new ≡ chosen (machine_of D.OrderedDev) choice (D.state dev.old) }
     ensures valid { D.valid (D.state dev.new) }
     ensures kept { StepKeeps (D.seen (D.state dev.old)) (D.seen (D.state dev.new)) }
     ensures falls { choice ≡ Choice.Default → (0 < D.can_transfer (D.state dev.old)) ⊎ (0 < D.can_persist (D.state dev.old)) → D.left (D.state dev.new) < D.left (D.state dev.old) }
@@ -61,7 +61,7 @@ fn step<D: OrderedDev>(dev: &mut D, choice: Choice)
 fn drain<D: OrderedDev>(dev: &mut D, end: End) -> End
     requires valid { D.valid (D.state dev.old) }
     requires end { end ≡ end_of (D.seen (D.state dev.old)) }
-    ensures drained { D.state dev.new ≡ drained (record { seen = D.seen; has_room = D.has_room; received = D.received; can_transfer = D.can_transfer; transferred = D.transferred; persisted = D.persisted; next_answer = D.next_answer; answered = D.answered }) (D.state dev.old) }
+    ensures drained { D.state dev.new ≡ drained (machine_of D.OrderedDev) (D.state dev.old) }
     ensures valid { D.valid (D.state dev.new) }
     ensures end { result ≡ end_of (D.seen (D.state dev.new)) }
     ensures kept { DrainKeeps (D.seen (D.state dev.old)) (D.seen (D.state dev.new)) }
@@ -81,7 +81,7 @@ fn turn<D: OrderedDev>(dev: &mut D, plan: &mut Plan, choice: Choice, end: End) -
     requires can { CanSend (D.seen (D.state dev.old)) plan.old }
     requires end { end ≡ end_of (D.seen (D.state dev.old)) }
     requires empty { (D.seen (D.state dev.old)).waiting ≡ [] }
-    ensures turned { record { dev = D.state dev.new; rest = plan.new } ≡ turned (record { seen = D.seen; has_room = D.has_room; received = D.received; can_transfer = D.can_transfer; transferred = D.transferred; persisted = D.persisted; next_answer = D.next_answer; answered = D.answered }) choice (record { dev = D.state dev.old; rest = plan.old }) }
+    ensures turned { record { dev = D.state dev.new; rest = plan.new } ≡ turned (machine_of D.OrderedDev) choice (record { dev = D.state dev.old; rest = plan.old }) }
     ensures valid { D.valid (D.state dev.new) }
     ensures can { CanSend (D.seen (D.state dev.new)) plan.new }
     ensures kept { RunKeeps (D.seen (D.state dev.old)) plan.old (D.seen (D.state dev.new)) plan.new }
@@ -105,7 +105,7 @@ pub(crate) fn follow<D: OrderedDev>(dev: &mut D, plan: &mut Plan, steer: &[Choic
     requires can { CanSend (D.seen (D.state dev.old)) plan.old }
     requires running { end_of (D.seen (D.state dev.old)) ≡ End.Running }
     requires empty { (D.seen (D.state dev.old)).waiting ≡ [] }
-    ensures driven { record { dev = D.state dev.new; rest = plan.new } ≡ driven (record { seen = D.seen; has_room = D.has_room; received = D.received; can_transfer = D.can_transfer; transferred = D.transferred; persisted = D.persisted; next_answer = D.next_answer; answered = D.answered }) steer.now (record { dev = D.state dev.old; rest = plan.old }) }
+    ensures driven { record { dev = D.state dev.new; rest = plan.new } ≡ driven (machine_of D.OrderedDev) steer.now (record { dev = D.state dev.old; rest = plan.old }) }
     ensures valid { D.valid (D.state dev.new) }
     ensures can { CanSend (D.seen (D.state dev.new)) plan.new }
     ensures kept { RunKeeps (D.seen (D.state dev.old)) plan.old (D.seen (D.state dev.new)) plan.new }
@@ -130,7 +130,7 @@ fn await_room<D: OrderedDev>(dev: &mut D, plan: &mut Plan, end: End) -> End
     requires end { end ≡ end_of (D.seen (D.state dev.old)) }
     requires empty { (D.seen (D.state dev.old)).waiting ≡ [] }
     requires on { D.stays_on (D.state dev.old) }
-    ensures ahead { IsAhead (record { seen = D.seen; has_room = D.has_room; received = D.received; can_transfer = D.can_transfer; transferred = D.transferred; persisted = D.persisted; next_answer = D.next_answer; answered = D.answered }) (record { dev = D.state dev.old; rest = plan.old }) (record { dev = D.state dev.new; rest = plan.new }) }
+    ensures ahead { IsAhead (machine_of D.OrderedDev) (record { dev = D.state dev.old; rest = plan.old }) (record { dev = D.state dev.new; rest = plan.new }) }
     ensures valid { D.valid (D.state dev.new) }
     ensures can { CanSend (D.seen (D.state dev.new)) plan.new }
     ensures kept { RunKeeps (D.seen (D.state dev.old)) plan.old (D.seen (D.state dev.new)) plan.new }
@@ -155,7 +155,7 @@ pub(crate) fn finish<D: OrderedDev>(dev: &mut D, plan: &mut Plan, end: End) -> E
     requires empty { (D.seen (D.state dev.old)).waiting ≡ [] }
     requires on { D.stays_on (D.state dev.old) }
     requires flush { IsFlushedLast ((D.seen (D.state dev.old)).took ++ plan.old) }
-    ensures driven { IsDrivenBy (record { seen = D.seen; has_room = D.has_room; received = D.received; can_transfer = D.can_transfer; transferred = D.transferred; persisted = D.persisted; next_answer = D.next_answer; answered = D.answered }) (record { dev = D.state dev.old; rest = plan.old }) (record { dev = D.state dev.new; rest = plan.new }) }
+    ensures driven { IsDrivenBy (machine_of D.OrderedDev) (record { dev = D.state dev.old; rest = plan.old }) (record { dev = D.state dev.new; rest = plan.new }) }
     ensures valid { D.valid (D.state dev.new) }
     ensures kept { RunKeeps (D.seen (D.state dev.old)) plan.old (D.seen (D.state dev.new)) plan.new }
     ensures end { result ≡ end_of (D.seen (D.state dev.new)) }

@@ -5,7 +5,7 @@ ghost use Rattle.blk_base.specs.Streams.{Rose};
 ghost use Rattle.order_model.specs.declared.completion.Completion.{Completion};
 ghost use Rattle.order_model.specs.Device.{IsQuiet};
 ghost use Rattle.order_model.specs.Steps.{Reads};
-ghost use Rattle.order_model.specs.Machine.{Machine};
+ghost use Rattle.order_model.specs.Machine.{machine_of};
 ghost use Rattle.journal_blocks.specs.declared.super_block.JournalSuper.{JournalSuper};
 ghost use Rattle.journal_blocks.specs.declared.fault.JournalFault.{JournalFault};
 ghost use Rattle.journal_blocks.specs.Super.{super_of};
@@ -67,11 +67,9 @@ pub fn recover<D: OrderedDev>(
     ensures empty { IfOk result (λ r. (s : JournalSuper) → super_of (body_at (D.seen (D.state dev.old)).surface base) ≡ Ok s → s.start ≡ 0 →
         Reads (D.seen (D.state dev.old)) (D.seen (D.state dev.new)) × IsTrue r.ended) }
     ensures run { IfOk result (λ r. (s : JournalSuper) → super_of (body_at (D.seen (D.state dev.old)).surface base) ≡ Ok s → s.start ≢ 0 →
-        let machine : Machine D.State = record { seen = D.seen; has_room = D.has_room; received = D.received; can_transfer = D.can_transfer; transferred = D.transferred; persisted = D.persisted; next_answer = D.next_answer; answered = D.answered } in
-        IsRun machine (commands base (D.seen (D.state dev.old)).surface) steer.now cut (D.state dev.old) (D.state dev.new)) }
+        IsRun (machine_of D.OrderedDev) (commands base (D.seen (D.state dev.old)).surface) steer.now cut (D.state dev.old) (D.state dev.new)) }
     ensures failed_run { (id : ℕ) → result ≡ Err (RecoverFault.DeviceFailed id) →
-        let machine : Machine D.State = record { seen = D.seen; has_room = D.has_room; received = D.received; can_transfer = D.can_transfer; transferred = D.transferred; persisted = D.persisted; next_answer = D.next_answer; answered = D.answered } in
-        IsRun machine (commands base (D.seen (D.state dev.old)).surface) steer.now cut (D.state dev.old) (D.state dev.new) }
+        IsRun (machine_of D.OrderedDev) (commands base (D.seen (D.state dev.old)).surface) steer.now cut (D.state dev.old) (D.state dev.new) }
     ensures device_failed { (id : ℕ) → result ≡ Err (RecoverFault.DeviceFailed id) →
         Rose (D.seen (D.state dev.old)).faults (D.seen (D.state dev.new)).faults × In (Completion.Failed id) (D.seen (D.state dev.new)).sent }
     ensures read_fault { result ≡ Err RecoverFault.ReadFault → Rose (D.seen (D.state dev.old)).faults (D.seen (D.state dev.new)).faults }
@@ -114,11 +112,9 @@ fn replay<D: OrderedDev>(
     ensures ended { IfOk result (λ r. cut ≡ false → IsTrue r.ended) }
     ensures replayed { IfOk result (λ r. r.replayed ≡ length journal.log) }
     ensures next { IfOk result (λ r. r.next ≡ next_sequence (log_of base journal.fields (D.seen (D.state dev.old)).surface)) }
-    ensures run { IfOk result (λ r. let machine : Machine D.State = record { seen = D.seen; has_room = D.has_room; received = D.received; can_transfer = D.can_transfer; transferred = D.transferred; persisted = D.persisted; next_answer = D.next_answer; answered = D.answered } in
-        IsRun machine (commands base (D.seen (D.state dev.old)).surface) steer.now cut (D.state dev.old) (D.state dev.new)) }
+    ensures run { IfOk result (λ r. IsRun (machine_of D.OrderedDev) (commands base (D.seen (D.state dev.old)).surface) steer.now cut (D.state dev.old) (D.state dev.new)) }
     ensures failed_run { (id : ℕ) → result ≡ Err (RecoverFault.DeviceFailed id) →
-        let machine : Machine D.State = record { seen = D.seen; has_room = D.has_room; received = D.received; can_transfer = D.can_transfer; transferred = D.transferred; persisted = D.persisted; next_answer = D.next_answer; answered = D.answered } in
-        IsRun machine (commands base (D.seen (D.state dev.old)).surface) steer.now cut (D.state dev.old) (D.state dev.new) }
+        IsRun (machine_of D.OrderedDev) (commands base (D.seen (D.state dev.old)).surface) steer.now cut (D.state dev.old) (D.state dev.new) }
     ensures device_failed { (id : ℕ) → result ≡ Err (RecoverFault.DeviceFailed id) →
         Rose (D.seen (D.state dev.old)).faults (D.seen (D.state dev.new)).faults × In (Completion.Failed id) (D.seen (D.state dev.new)).sent }
     ensures counts { (D.seen (D.state dev.old)).faults ≤ (D.seen (D.state dev.new)).faults }

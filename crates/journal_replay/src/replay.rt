@@ -3,7 +3,7 @@ ghost use Rattle.std.specs.Prelude.{◌≡◌, ℕ, ◌+◌, ◌≤◌, ◌<◌,
 ghost use Rattle.blk_base.specs.Members.{In};
 ghost use Rattle.blk_base.specs.Streams.{Rose};
 ghost use Rattle.order_model.specs.Device.{IsQuiet};
-ghost use Rattle.order_model.specs.Machine.{Machine};
+ghost use Rattle.order_model.specs.Machine.{machine_of};
 ghost use Rattle.journal_replay.specs.Driving.{Driven, driven, end_of, is_running};
 ghost use Rattle.journal_replay.specs.Commands.{for_block, sends};
 ghost use Rattle.journal_replay.specs.Recovered.{recovered, IsRecoverable};
@@ -36,12 +36,10 @@ pub(crate) fn write_back<D: OrderedDev>(
     ensures attempt { recovered base (D.seen (D.state dev.new)).surface ≡ recovered base (D.seen (D.state dev.old)).surface }
     ensures whole { result ≡ End.Flushed → ((D.seen (D.state dev.new)).surface ≡ recovered base (D.seen (D.state dev.old)).surface) × IsQuiet (D.seen (D.state dev.new)) }
     ensures ended { cut ≡ false → is_running result ≡ false }
-    ensures cut_run { let machine : Machine D.State = record { seen = D.seen; has_room = D.has_room; received = D.received; can_transfer = D.can_transfer; transferred = D.transferred; persisted = D.persisted; next_answer = D.next_answer; answered = D.answered } in
-        let start : Driven D.State = record { dev = D.state dev.old; rest = sends (logged_of homes.items) (for_block base superblock) } in
-        cut ≡ true → D.state dev.new ≡ (driven machine steer.now start).dev }
-    ensures whole_run { let machine : Machine D.State = record { seen = D.seen; has_room = D.has_room; received = D.received; can_transfer = D.can_transfer; transferred = D.transferred; persisted = D.persisted; next_answer = D.next_answer; answered = D.answered } in
-        let start : Driven D.State = record { dev = D.state dev.old; rest = sends (logged_of homes.items) (for_block base superblock) } in
-        cut ≡ false → (k : ℕ) × (D.state dev.new ≡ (driven machine (replicate k Choice.Default) (driven machine steer.now start)).dev) }
+    ensures cut_run { let start : Driven D.State = record { dev = D.state dev.old; rest = sends (logged_of homes.items) (for_block base superblock) } in
+        cut ≡ true → D.state dev.new ≡ (driven (machine_of D.OrderedDev) steer.now start).dev }
+    ensures whole_run { let start : Driven D.State = record { dev = D.state dev.old; rest = sends (logged_of homes.items) (for_block base superblock) } in
+        cut ≡ false → (k : ℕ) × (D.state dev.new ≡ (driven (machine_of D.OrderedDev) (replicate k Choice.Default) (driven (machine_of D.OrderedDev) steer.now start)).dev) }
     ensures failed { (id : ℕ) → result ≡ End.Failed id → Rose (D.seen (D.state dev.old)).faults (D.seen (D.state dev.new)).faults }
     ensures counts { (D.seen (D.state dev.old)).faults ≤ (D.seen (D.state dev.new)).faults }
     ensures told { result ≡ end_of (D.seen (D.state dev.new)) }

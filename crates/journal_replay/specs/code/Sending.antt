@@ -64,7 +64,3 @@ keeps-received old new c rest r = record {
 
 pub keeps-given : (old new : Seen) (rest : List Command) → KeepsGiven old new → KeepsAll old rest new rest
 keeps-given old new rest k = record { all = ap (λ (cs : List Command). cs ++ rest) k.took; base = k.base; limit = k.limit }
-
--- a command: the law of devices that stay on speaks of one
-abbrev pub any_command : Command
-any_command = record { parts = []; priority = Ordered; barrier = false; flush = None }

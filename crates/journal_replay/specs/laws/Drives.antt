@@ -10,7 +10,7 @@ use Rattle.order_model.specs.declared.command.Command.{Command}
 use Rattle.order_model.specs.declared.completion.Completion.{Completion}
 use Rattle.order_model.specs.Device.{Seen, Grows}
 use Rattle.order_model.specs.Machine.{Machine}
-use Rattle.order_model.specs.Steps.{KeepsGiven, Transfers, Persists, Answers}
+use Rattle.order_model.specs.Steps.{KeepsGiven, Performs, Fails, Transfers, Persists, Answers}
 use Rattle.journal_replay.specs.code.Runs.{StepKeeps, DrainKeeps, RunKeeps}
 use Rattle.journal_replay.specs.declared.choice.Choice.{Choice}
 use Rattle.journal_replay.specs.declared.choice.Choice.TheVariants as choice
@@ -22,7 +22,7 @@ pub step_same : (old new : Seen) → new ≡ old → StepKeeps old new
 step_same old new e = rw e (record { given = record { base = refl; limit = refl; took = refl; sent = refl }; faults = omega arith; failed = inl refl })
 
 pub step_transfer : (old new : Seen) → Transfers old new → Grows old new → StepKeeps old new
-step_transfer old new t g = record { given = t.given; faults = g.faults; failed = t.failed }
+step_transfer old new t g = record { given = t.given; faults = g.faults; failed = ⊎_elim (λ (p : Performs old t.number t.command new). inl p.failed) (λ (f : Fails old t.command new). inr f.faults) t.outcome }
 
 pub step_persist : (old new : Seen) → Persists old new → StepKeeps old new
 step_persist old new p = record { given = p.given; faults = let e = p.faults in omega arith; failed = inl p.failed }
@@ -69,7 +69,7 @@ module _ {S : Type 0} where
   pub drained-next : (m : Machine S) (s : S) (c : Completion) → m.next_answer s ≡ Some c → Answers (m.seen s) (Some c) (m.seen (m.answered s)) → drained m s ≡ drained m (m.answered s)
   drained-next m s c next w = rw (next, ap length w.waiting) refl
 
-  pub drained-none : (m : Machine S) (s : S) → m.next_answer s ≡ None → drained m s ≡ m.answered s
+  pub drained-none : (m : Machine S) (s : S) → m.next_answer s ≡ None → drained m s ≡ s
   drained-none m s next = rw next refl
 
 -- ---- a whole run

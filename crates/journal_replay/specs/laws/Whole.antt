@@ -40,7 +40,7 @@ silent_by s none on c f t (completion.Flushed id ∷ cs) e =
     absurd (subst (λ cs. IsFlush cs m.0 id) none m.1)
 silent_by s none on c f t (completion.Failed id ∷ cs) e =
     let m = f.known id (subst (In (completion.Failed id)) (sym e) (inl refl)) in
-    absurd (subst (λ cs. In id (all_ids cs)) none m.1)
+    absurd (none-some m.1.command (ap (λ (cs : List Command). slice_get cs m.1.number) (sym none) ∙ m.1.taken))
 silent_by s none on c f t (completion.Cut ∷ cs) e =
     absurd (false≢true (sym on ∙ t.off (subst (In completion.Cut) (sym e) (inl refl))))
 
@@ -121,7 +121,7 @@ complete base k s hs y law order flush completes can log took e =
     let last = subst (λ cs. FlushedLast cs (length hs + 1)) (sym whole) (ends_in_flush hs (for_block base y)) in
     let own = only_flush hs (for_block base y) last.at (length hs + 1) (subst (λ cs. IsFlush cs last.at (length hs + 1)) whole last.flush) in
     let kept : (x : ℕ) → x < length (all_parts s.took) → IsPartKept s x =
-    λ x lt. flush taken.0 f.0 x f.1 taken.1 lt (let a = last.last x lt in let b = at.0 in let c = own.0 in omega (arith, a, b, c)) in
+    λ x lt. flush taken.0 f.0 x (In-append_left s.sent s.waiting (completion.Flushed f.0) f.1) taken.1 lt (let a = last.last x lt in let b = at.0 in let c = own.0 in omega (arith, a, b, c)) in
     let super = super_kept base hs y s law whole kept in
     let m = log_mark base log.journal s.base in
     let are = subst (AreHomes m base) (sym log.homes) (homes_are m base (can.below log.journal log.read)) in

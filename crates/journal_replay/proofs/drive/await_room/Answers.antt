@@ -6,7 +6,7 @@ use Rattle.journal_replay.specs.Driving.{Driven, sent, turned, end_of, is_runnin
 use Rattle.journal_replay.specs.laws.Drives.{run-same, run-more, run-sent}
 use Rattle.journal_replay.specs.laws.Ends.{not_failed, works-full, works-last, ahead-same, ahead-sent, ahead-turn, ahead-end, sent-shorter}
 use Rattle.journal_replay.specs.code.Sending.{CanSend, can_send-kept}
-use Rattle.order_model.specs.Machine.{Machine}
+use Rattle.order_model.specs.Machine.{Machine, machine_of}
 use Rattle.journal_replay.proofs.drive.await_room.Goals as goal
 
 pub loop-dev-smaller : goal.loop-dev-smaller
@@ -26,7 +26,7 @@ loop-dev-smaller g c =
 pub loop-dev-preserved : goal.loop-dev-preserved
 loop-dev-preserved g c =
     let d = g.D.OrderedDev in
-    let m : Machine d.State = record { seen = d.seen; has_room = d.has_room; received = d.received; can_transfer = d.can_transfer; transferred = d.transferred; persisted = d.persisted; next_answer = d.next_answer; answered = d.answered } in
+    let m : Machine d.State = machine_of d in
     let i = c.loop-dev.invariant in
     let t = c.turn-end.ensures in
     let now = d.state c.loop-dev.dev in

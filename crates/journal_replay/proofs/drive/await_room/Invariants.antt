@@ -1,14 +1,14 @@
 use Rattle.std.proofs.Common.{◌≡◌, []}
 use Rattle.journal_replay.specs.Driving.{end_of}
 use Rattle.journal_replay.specs.code.Sending.{CanSend}
-use Rattle.order_model.specs.Machine.{Machine}
+use Rattle.order_model.specs.Machine.{Machine, machine_of}
 use Rattle.journal_replay.specs.code.Runs.{RunKeeps, IsAhead}
 use Rattle.journal_replay.proofs.drive.await_room.Given as goal
 
 abbrev pub invariant-loop-dev : goal.invariant-loop-dev
 invariant-loop-dev g l =
     let d = g.D.OrderedDev in
-    let m : Machine d.State = record { seen = d.seen; has_room = d.has_room; received = d.received; can_transfer = d.can_transfer; transferred = d.transferred; persisted = d.persisted; next_answer = d.next_answer; answered = d.answered } in
+    let m : Machine d.State = machine_of d in
     record {
       ahead : IsAhead m (record { dev = d.state l.fn.dev; rest = l.fn.plan }) (record { dev = d.state l.dev; rest = l.plan });
       valid : d.valid (d.state l.dev);

@@ -4,9 +4,7 @@ use Rattle.order_model.specs.Device.{Seen}
 use Rattle.order_model.specs.Steps.{Answers}
 use Rattle.journal_replay.specs.Driving.{drained, by_completion, end_of}
 use Rattle.journal_replay.specs.laws.Drives.{drained-next, drained-none, drain_more, end-answered}
-use Rattle.journal_replay.specs.code.Sending.{any_command}
-use Rattle.order_model.specs.Machine.{Machine}
-use Rattle.journal_replay.specs.code.Scans.{after}
+use Rattle.order_model.specs.Machine.{Machine, machine_of}
 use Rattle.journal_replay.specs.code.Runs.{DrainKeeps}
 use Rattle.journal_replay.proofs.drive.drain.Goals as goal
 
@@ -14,7 +12,7 @@ pub loop-completion-preserved : goal.loop-completion-preserved
 loop-completion-preserved g c =
     let d = g.D.OrderedDev in
     let laws = g.met.D.OrderedDev in
-    let m : Machine d.State = record { seen = d.seen; has_room = d.has_room; received = d.received; can_transfer = d.can_transfer; transferred = d.transferred; persisted = d.persisted; next_answer = d.next_answer; answered = d.answered } in
+    let m : Machine d.State = machine_of d in
     let i = c.loop-completion.invariant in
     let now = d.state c.loop-completion.dev in
     let next : d.next_answer now ≡ Some c.in-Some.completion = sym c.answer.ensures.value ∙ c.in-Some.is in
@@ -26,14 +24,14 @@ loop-completion-preserved g c =
       valid = subst d.valid (sym after) law.0;
       end = c.and-end.ensures ∙ (ap (λ e. by_completion e c.in-Some.completion) i.end ∙ (sym (end-answered (d.seen now) (d.seen (d.answered now)) c.in-Some.completion told) ∙ ap (λ (s : d.State). end_of (d.seen s)) (sym after)));
       kept = subst (λ (s : d.State). DrainKeeps (d.seen (d.state c.args.dev.now)) (d.seen s)) (sym after) (drain_more (d.seen (d.state c.args.dev.now)) (d.seen now) (d.seen (d.answered now)) (Some c.in-Some.completion) i.kept told);
-      on = λ on. subst d.stays_on (sym after) (laws.stays now any_command 0 (i.on on)).3;
+      on = λ on. subst d.stays_on (sym after) (laws.stays now 0 (i.on on)).2;
       left = ap d.left after ∙ ((laws.falls now 0 i.valid).2 ∙ i.left);
     }
 
 pub returns-clause-on : goal.returns-clause-on
 returns-clause-on g c on =
     let d = g.D.OrderedDev in
-    subst d.stays_on (sym c.answer.ensures.state) (g.met.D.OrderedDev.stays (d.state c.loop-completion.dev) any_command 0 (c.loop-completion.invariant.on on)).3
+    subst d.stays_on (sym c.answer.ensures.state) (g.met.D.OrderedDev.stays (d.state c.loop-completion.dev) 0 (c.loop-completion.invariant.on on)).2
 
 pub returns-clause-left : goal.returns-clause-left
 returns-clause-left g c =

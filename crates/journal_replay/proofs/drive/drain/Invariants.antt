@@ -1,7 +1,7 @@
 use Rattle.std.proofs.Common.{◌≡◌, length}
 use Rattle.order_model.specs.Device.{Seen}
 use Rattle.journal_replay.specs.Driving.{drained_by, drained, end_of}
-use Rattle.order_model.specs.Machine.{Machine}
+use Rattle.order_model.specs.Machine.{Machine, machine_of}
 use Rattle.journal_replay.specs.code.Runs.{DrainKeeps}
 use Rattle.journal_replay.proofs.drive.drain.Given as goal
 
@@ -9,7 +9,7 @@ use Rattle.journal_replay.proofs.drive.drain.Given as goal
 abbrev pub invariant-loop-completion : goal.invariant-loop-completion
 invariant-loop-completion g l =
     let d = g.D.OrderedDev in
-    let m : Machine d.State = record { seen = d.seen; has_room = d.has_room; received = d.received; can_transfer = d.can_transfer; transferred = d.transferred; persisted = d.persisted; next_answer = d.next_answer; answered = d.answered } in
+    let m : Machine d.State = machine_of d in
     let now = d.state l.dev in
     record {
       drained : drained m now ≡ drained m (d.state l.fn.dev);

@@ -6,14 +6,14 @@ use Rattle.journal_replay.specs.Driving.{Driven, sent, turned, end_of, is_runnin
 use Rattle.journal_replay.specs.laws.Drives.{run-same, run-more, run-sent}
 use Rattle.journal_replay.specs.laws.Ends.{not_failed, works-full, works-last, ahead-same, ahead-sent, ahead-turn, ahead-end, ahead_more, sent-shorter}
 use Rattle.journal_replay.specs.code.Sending.{CanSend, can_send-kept}
-use Rattle.order_model.specs.Machine.{Machine}
+use Rattle.order_model.specs.Machine.{Machine, machine_of}
 use Rattle.journal_replay.specs.code.Runs.{IsFlushedLast}
 use Rattle.journal_replay.proofs.drive.finish.Goals as goal
 
 pub returns-then-not-is_running-clause-driven : goal.returns-then-not-is_running-clause-driven
 returns-then-not-is_running-clause-driven g c =
     let d = g.D.OrderedDev in
-    let m : Machine d.State = record { seen = d.seen; has_room = d.has_room; received = d.received; can_transfer = d.can_transfer; transferred = d.transferred; persisted = d.persisted; next_answer = d.next_answer; answered = d.answered } in
+    let m : Machine d.State = machine_of d in
     let i = c.loop-dev.invariant in
     let r = c.await_room-end.ensures in
     let over : is_running (end_of (d.seen (d.state c.await_room-end.new.dev))) ≡ false = ap is_running (sym r.end) ∙ (sym c.is_running.ensures ∙ c.if-not-is_running.true) in
@@ -22,7 +22,7 @@ returns-then-not-is_running-clause-driven g c =
 pub loop-dev-smaller : goal.loop-dev-smaller
 loop-dev-smaller g c =
     let d = g.D.OrderedDev in
-    let m : Machine d.State = record { seen = d.seen; has_room = d.has_room; received = d.received; can_transfer = d.can_transfer; transferred = d.transferred; persisted = d.persisted; next_answer = d.next_answer; answered = d.answered } in
+    let m : Machine d.State = machine_of d in
     let r = c.await_room-end.ensures in
     let now = d.state c.await_room-end.new.dev in
     let room = r.room (sym c.is_running.ensures ∙ c.if-not-is_running.false) in
@@ -35,7 +35,7 @@ loop-dev-smaller g c =
 pub loop-dev-preserved : goal.loop-dev-preserved
 loop-dev-preserved g c =
     let d = g.D.OrderedDev in
-    let m : Machine d.State = record { seen = d.seen; has_room = d.has_room; received = d.received; can_transfer = d.can_transfer; transferred = d.transferred; persisted = d.persisted; next_answer = d.next_answer; answered = d.answered } in
+    let m : Machine d.State = machine_of d in
     let i = c.loop-dev.invariant in
     let r = c.await_room-end.ensures in
     let s = c.send.ensures in
@@ -70,7 +70,7 @@ loop-dev-2-smaller g c =
 pub loop-dev-2-preserved : goal.loop-dev-2-preserved
 loop-dev-2-preserved g c =
     let d = g.D.OrderedDev in
-    let m : Machine d.State = record { seen = d.seen; has_room = d.has_room; received = d.received; can_transfer = d.can_transfer; transferred = d.transferred; persisted = d.persisted; next_answer = d.next_answer; answered = d.answered } in
+    let m : Machine d.State = machine_of d in
     let i = c.loop-dev-2.invariant in
     let t = c.turn-end.ensures in
     record {
@@ -87,7 +87,7 @@ loop-dev-2-preserved g c =
 pub returns-clause-driven : goal.returns-clause-driven
 returns-clause-driven g c =
     let d = g.D.OrderedDev in
-    let m : Machine d.State = record { seen = d.seen; has_room = d.has_room; received = d.received; can_transfer = d.can_transfer; transferred = d.transferred; persisted = d.persisted; next_answer = d.next_answer; answered = d.answered } in
+    let m : Machine d.State = machine_of d in
     let i = c.loop-dev-2.invariant in
     let over : is_running (end_of (d.seen (d.state c.loop-dev-2.dev))) ≡ false = ap is_running (sym i.end) ∙ (sym c.is_running-in-loop-dev-2.ensures ∙ c.loop-dev-2-test.false) in
     ahead-end m _ _ i.ahead over

@@ -1,14 +1,14 @@
 use Rattle.std.proofs.Common.{◌≡◌, [], drop}
 use Rattle.journal_replay.specs.Driving.{driven, end_of}
 use Rattle.journal_replay.specs.code.Sending.{CanSend}
-use Rattle.order_model.specs.Machine.{Machine}
+use Rattle.order_model.specs.Machine.{Machine, machine_of}
 use Rattle.journal_replay.specs.code.Runs.{RunKeeps}
 use Rattle.journal_replay.proofs.drive.follow.Given as goal
 
 abbrev pub invariant-loop-choice : goal.invariant-loop-choice
 invariant-loop-choice g l =
     let d = g.D.OrderedDev in
-    let m : Machine d.State = record { seen = d.seen; has_room = d.has_room; received = d.received; can_transfer = d.can_transfer; transferred = d.transferred; persisted = d.persisted; next_answer = d.next_answer; answered = d.answered } in
+    let m : Machine d.State = machine_of d in
     record {
       driven : driven m (drop l.choice-index l.steer) (record { dev = d.state l.dev; rest = l.plan }) ≡ driven m l.steer (record { dev = d.state l.fn.dev; rest = l.fn.plan });
       valid : d.valid (d.state l.dev);

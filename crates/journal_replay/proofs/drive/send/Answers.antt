@@ -3,10 +3,9 @@ use Rattle.order_model.specs.declared.command.Command.{Command}
 use Rattle.order_model.specs.Device.{Seen}
 use Rattle.journal_replay.specs.Driving.{sent}
 use Rattle.journal_replay.specs.laws.Drives.{sent-none, sent-next}
-use Rattle.journal_replay.specs.code.Sending.{CanSend, KeepsAll, any_command, next_receivable, keeps-received, keeps-more, can_send-kept}
+use Rattle.journal_replay.specs.code.Sending.{CanSend, KeepsAll, next_receivable, keeps-received, keeps-more, can_send-kept}
 use Rattle.journal_replay.proofs.Results.{on_ok}
-use Rattle.order_model.specs.Machine.{Machine}
-use Rattle.journal_replay.specs.code.Scans.{after}
+use Rattle.order_model.specs.Machine.{Machine, machine_of}
 use Rattle.journal_replay.proofs.drive.send.Goals as goal
 
 pub receive-requires : goal.receive-requires
@@ -20,7 +19,7 @@ pub loop-plan-preserved : goal.loop-plan-preserved
 loop-plan-preserved g c =
     let d = g.D.OrderedDev in
     let laws = g.met.D.OrderedDev in
-    let m : Machine d.State = record { seen = d.seen; has_room = d.has_room; received = d.received; can_transfer = d.can_transfer; transferred = d.transferred; persisted = d.persisted; next_answer = d.next_answer; answered = d.answered } in
+    let m : Machine d.State = machine_of d in
     let i = c.loop-plan.invariant in
     let now = d.state c.loop-plan.dev in
     let old = d.state c.args.dev.now in
@@ -39,11 +38,11 @@ loop-plan-preserved g c =
       can = can_send-kept (d.seen now) (d.seen (d.received now command)) (command ∷ left) left kept can;
       kept = keeps-more (d.seen old) (d.seen now) (d.seen (d.received now command)) c.args.plan.now (command ∷ left) left (subst (KeepsAll (d.seen old) c.args.plan.now (d.seen now)) plan i.kept) kept;
       others = law.1 ∙ ap (λ (x : Seen). let made : Seen = record x { took = (d.seen now).took ++ command ∷ [] } in made) i.others ∙ ap (λ (cs : List Command). let made : Seen = record (d.seen old) { took = cs } in made) (sym (ap (λ (x : Seen). x.took) law.1));
-      on = λ on. (laws.stays now command 0 (i.on on)).0;
+      on = λ on. laws.stays_received now command (i.on on);
     })
 
 pub returns-clause-sent : goal.returns-clause-sent
 returns-clause-sent g c =
     let d = g.D.OrderedDev in
-    let m : Machine d.State = record { seen = d.seen; has_room = d.has_room; received = d.received; can_transfer = d.can_transfer; transferred = d.transferred; persisted = d.persisted; next_answer = d.next_answer; answered = d.answered } in
+    let m : Machine d.State = machine_of d in
     sym (sent-none m (d.state c.loop-plan.dev) c.loop-plan.plan (sym c.room.ensures ∙ c.loop-plan-test.false)) ∙ c.loop-plan.invariant.sent

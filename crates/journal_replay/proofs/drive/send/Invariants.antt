@@ -2,14 +2,14 @@ use Rattle.std.proofs.Common.{◌≡◌, length}
 use Rattle.order_model.specs.Device.{Seen}
 use Rattle.journal_replay.specs.Driving.{sent}
 use Rattle.journal_replay.specs.code.Sending.{CanSend, KeepsAll}
-use Rattle.order_model.specs.Machine.{Machine}
+use Rattle.order_model.specs.Machine.{Machine, machine_of}
 use Rattle.journal_replay.proofs.drive.send.Given as goal
 
 -- what is still to be sent from here ends where all of it does
 abbrev pub invariant-loop-plan : goal.invariant-loop-plan
 invariant-loop-plan g l =
     let d = g.D.OrderedDev in
-    let m : Machine d.State = record { seen = d.seen; has_room = d.has_room; received = d.received; can_transfer = d.can_transfer; transferred = d.transferred; persisted = d.persisted; next_answer = d.next_answer; answered = d.answered } in
+    let m : Machine d.State = machine_of d in
     record {
       sent : sent m (d.state l.dev) l.plan ≡ sent m (d.state l.fn.dev) l.fn.plan;
       valid : d.valid (d.state l.dev);

@@ -5,7 +5,7 @@ use Rattle.blk_base.specs.Members.{In}
 use Rattle.order_model.specs.declared.command.Command.{Command}
 use Rattle.order_model.specs.declared.completion.Completion.TheVariants.{Failed}
 use Rattle.order_model.specs.Device.{Seen}
-use Rattle.order_model.specs.Machine.{Machine}
+use Rattle.order_model.specs.Machine.{Machine, machine_of}
 use Rattle.log_model.specs.Marks.{Logged, Transaction, mark_in}
 use Rattle.journal_blocks.specs.declared.super_block.JournalSuper.{JournalSuper}
 use Rattle.journal_blocks.specs.Super.{super_of, with_tail}
@@ -70,21 +70,21 @@ returns-in-Running-clause-next g c =
 pub returns-in-Flushed-clause-run : goal.returns-in-Flushed-clause-run
 returns-in-Flushed-clause-run g c =
     let d = g.D.OrderedDev in
-    let m : Machine d.State = record { seen = d.seen; has_room = d.has_room; received = d.received; can_transfer = d.can_transfer; transferred = d.transferred; persisted = d.persisted; next_answer = d.next_answer; answered = d.answered } in
+    let m : Machine d.State = machine_of d in
     run_from m (commands_are c.args.base (d.seen (d.state c.args.dev.now)).surface (logged_of c.in-Ok-homes_of.homes.items) c.set_tail.new.b (has_log c.args.base (d.seen (d.state c.args.dev.now)).surface c.args.journal (logged_of c.in-Ok-homes_of.homes.items) (map transaction_of c.as_slice.result.now) c.len-replayed.result c.set_tail.new.b c.requires.journal c.requires.full c.as_slice.ensures c.in-Ok-homes_of.ensures c.len-replayed.ensures c.set_tail.ensures.value)) c.args.steer.now c.args.cut (d.state c.args.dev.now) (d.state c.write_back.new.dev) c.write_back.ensures.cut_run c.write_back.ensures.whole_run
     (λ whole. ap is_running (sym c.write_back.ensures.told) ∙ c.write_back.ensures.ended whole)
 
 pub returns-in-Running-clause-run : goal.returns-in-Running-clause-run
 returns-in-Running-clause-run g c =
     let d = g.D.OrderedDev in
-    let m : Machine d.State = record { seen = d.seen; has_room = d.has_room; received = d.received; can_transfer = d.can_transfer; transferred = d.transferred; persisted = d.persisted; next_answer = d.next_answer; answered = d.answered } in
+    let m : Machine d.State = machine_of d in
     run_from m (commands_are c.args.base (d.seen (d.state c.args.dev.now)).surface (logged_of c.in-Ok-homes_of.homes.items) c.set_tail.new.b (has_log c.args.base (d.seen (d.state c.args.dev.now)).surface c.args.journal (logged_of c.in-Ok-homes_of.homes.items) (map transaction_of c.as_slice.result.now) c.len-replayed.result c.set_tail.new.b c.requires.journal c.requires.full c.as_slice.ensures c.in-Ok-homes_of.ensures c.len-replayed.ensures c.set_tail.ensures.value)) c.args.steer.now c.args.cut (d.state c.args.dev.now) (d.state c.write_back.new.dev) c.write_back.ensures.cut_run c.write_back.ensures.whole_run
     (λ whole. ap is_running (sym c.write_back.ensures.told) ∙ c.write_back.ensures.ended whole)
 
 pub returns-clause-failed_run : goal.returns-clause-failed_run
 returns-clause-failed_run g c id e =
     let d = g.D.OrderedDev in
-    let m : Machine d.State = record { seen = d.seen; has_room = d.has_room; received = d.received; can_transfer = d.can_transfer; transferred = d.transferred; persisted = d.persisted; next_answer = d.next_answer; answered = d.answered } in
+    let m : Machine d.State = machine_of d in
     run_from m (commands_are c.args.base (d.seen (d.state c.args.dev.now)).surface (logged_of c.in-Ok-homes_of.homes.items) c.set_tail.new.b (has_log c.args.base (d.seen (d.state c.args.dev.now)).surface c.args.journal (logged_of c.in-Ok-homes_of.homes.items) (map transaction_of c.as_slice.result.now) c.len-replayed.result c.set_tail.new.b c.requires.journal c.requires.full c.as_slice.ensures c.in-Ok-homes_of.ensures c.len-replayed.ensures c.set_tail.ensures.value)) c.args.steer.now c.args.cut (d.state c.args.dev.now) (d.state c.write_back.new.dev) c.write_back.ensures.cut_run c.write_back.ensures.whole_run
     (λ whole. ap is_running (sym c.write_back.ensures.told) ∙ c.write_back.ensures.ended whole)
 

@@ -10,7 +10,7 @@ use Rattle.journal_replay.specs.code.Homes.{logged_of}
 use Rattle.journal_replay.specs.laws.Plans.{ends_in_flush}
 use Rattle.journal_replay.specs.code.Sending.{CanSend}
 use Rattle.journal_replay.specs.laws.Whole.{is_silent, can_send, attempt_from, whole_from, fault_from}
-use Rattle.order_model.specs.Machine.{Machine}
+use Rattle.order_model.specs.Machine.{Machine, machine_of}
 use Rattle.journal_replay.specs.code.Runs.{RunKeeps, IsFlushedLast}
 use Rattle.journal_replay.proofs.replay.write_back.Goals as goal
 
@@ -110,13 +110,13 @@ returns-clause-failed g c id e =
 pub returns-then-cut-clause-cut_run : goal.returns-then-cut-clause-cut_run
 returns-then-cut-clause-cut_run g c cut =
     let d = g.D.OrderedDev in
-    let m : Machine d.State = record { seen = d.seen; has_room = d.has_room; received = d.received; can_transfer = d.can_transfer; transferred = d.transferred; persisted = d.persisted; next_answer = d.next_answer; answered = d.answered } in
+    let m : Machine d.State = machine_of d in
     ap (λ (x : Driven d.State). x.dev) (c.follow-end.ensures.driven ∙ ap (λ (cs : List Command). driven m c.args.steer.now (record { dev = d.state c.args.dev.now; rest = cs })) c.make-plan.ensures)
 
 pub returns-clause-whole_run : goal.returns-clause-whole_run
 returns-clause-whole_run g c whole =
     let d = g.D.OrderedDev in
-    let m : Machine d.State = record { seen = d.seen; has_room = d.has_room; received = d.received; can_transfer = d.can_transfer; transferred = d.transferred; persisted = d.persisted; next_answer = d.next_answer; answered = d.answered } in
+    let m : Machine d.State = machine_of d in
     let first = c.follow-end.ensures.driven ∙ ap (λ (cs : List Command). driven m c.args.steer.now (record { dev = d.state c.args.dev.now; rest = cs })) c.make-plan.ensures in
     let second = c.finish.ensures.driven in
     (second.0, ap (λ (x : Driven d.State). x.dev) (second.1 ∙ ap (driven m (replicate second.0 choices.Default)) first))

@@ -1,5 +1,4 @@
 use Rattle.std.proofs.Common.{◌≡◌, sym, subst}
-use Rattle.journal_replay.specs.code.Sending.{any_command}
 use Rattle.journal_replay.specs.code.Scans.{HasRead}
 use Rattle.journal_replay.specs.laws.Scans.{has_read}
 use Rattle.journal_replay.proofs.scanning.read_place.Goals as goal
@@ -22,10 +21,10 @@ pub returns-in-Ok-clause-on : goal.returns-in-Ok-clause-on
 returns-in-Ok-clause-on g c on =
     let d = g.D.OrderedDev in
     let s = d.state c.args.dev.now in
-    subst d.stays_on (sym c.read.ensures.state) (g.met.D.OrderedDev.stays s any_command c.args.block on).4
+    subst d.stays_on (sym c.read.ensures.state) (g.met.D.OrderedDev.stays s c.args.block on).3
 
 pub returns-in-Err-clause-on : goal.returns-in-Err-clause-on
 returns-in-Err-clause-on g c on =
     let d = g.D.OrderedDev in
     let s = d.state c.args.dev.now in
-    subst d.stays_on (sym c.read.ensures.state) (g.met.D.OrderedDev.stays s any_command c.args.block on).4
+    subst d.stays_on (sym c.read.ensures.state) (g.met.D.OrderedDev.stays s c.args.block on).3
