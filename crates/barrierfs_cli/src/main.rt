@@ -2,6 +2,8 @@
 #![tactic(auto)]
 
 mod command_line;
+#[cfg(test)]
+mod example_tests;
 mod fault;
 #[cfg(test)]
 mod image_tests;
