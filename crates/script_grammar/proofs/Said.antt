@@ -32,7 +32,7 @@ use Rattle.byte_text.specs.Hex.{hex_text}
 use Rattle.script_grammar.specs.Spelling.{numeral, hex_byte, is_skipped, words_of, lines_of}
 use Rattle.script_grammar.specs.Words.{class_of, count_of, header_line, put_line, pick_line, line_of, word_of}
 use Rattle.script_grammar.specs.Grammar.{form_blocks, is_scheduled, form_of, is_built, new_reading, opened, form_line, built_first, first_line, stands_in, may_stand, stood_before, fits, put_request, flush_request, with_request, with_events, plain_event, pick_event, after, taken, later_line, read_words, at_line, read_line, script_read, ended_in, ended, read_from, script_of}
-use Rattle.script_grammar.specs.Speller.{form_words, cut_lines, request_words, event_line_words}
+use Rattle.script_grammar.specs.Speller.{form_words, cut_lines, elevator_lines, request_words, event_line_words}
 use Rattle.script_grammar.specs.Accepted.{kept_lines, begins, beginning, or_default, default_depth, filled_queue, with_count, SaysScript}
 use Rattle.script_grammar.proofs.WellFormed.{ok_behind, ok_past, ok_beside, mapped, chained, read_then}
 use Rattle.script_grammar.proofs.SpelledLines.{before_events, body_byte-filled}
@@ -47,12 +47,13 @@ read_line_of w None = []
 read_line_of w (Some n) = (w ∷ decimal n ∷ []) ∷ []
 
 abbrev pub is_header_line : List (List ℕ) → Bool
-is_header_line l = begins (codes "depth") l || (begins (codes "queue") l || begins (codes "cut") l)
+is_header_line l = begins (codes "depth") l || (begins (codes "queue") l || (begins (codes "cut") l || begins (codes "elevator") l))
 
-record SaysHeader (form : Form) (depth queue cut : Option ℕ) (header : List (List (List ℕ))) : Type 0 where
+record SaysHeader (form : Form) (depth queue cut : Option ℕ) (elevator : Bool) (header : List (List (List ℕ))) : Type 0 where
   depths : beginning (codes "depth") header ≡ read_line_of (codes "depth") depth
   queues : beginning (codes "queue") header ≡ read_line_of (codes "queue") queue
   cuts : beginning (codes "cut") header ≡ read_line_of (codes "cut") cut
+  elevators : beginning (codes "elevator") header ≡ elevator_lines elevator
   known : (l : List (List ℕ)) → In l header → is_header_line l ≡ true
   plain : is_scheduled form ≡ false → queue ≡ None
 
@@ -67,7 +68,7 @@ record Says (r : Reading) (lines : List (List (List ℕ))) : Type 0 where
   header : List (List (List ℕ))
   events : List (List (List ℕ))
   whole : lines ≡ form_words r.form ∷ header ++ (map request_words r.puts ++ tail_of r.section events)
-  headed : SaysHeader r.form r.depth r.queue r.cut header
+  headed : SaysHeader r.form r.depth r.queue r.cut r.elevator header
   counted : map with_count events ≡ map event_line_words r.events
   no_puts : r.section ≡ sections.Header → r.puts ≡ []
   no_events : before_events r.section ≡ true → events ≡ []
@@ -92,6 +93,18 @@ beginning-new : (w : List ℕ) (header : List (List (List ℕ))) (n : ℕ) (o : 
 beginning-new w header n o none had has =
     beginning-push w header (w ∷ decimal n ∷ []) o ((w ∷ decimal n ∷ []) ∷ []) had has ∙ ap (λ x. read_line_of w x ++ (w ∷ decimal n ∷ []) ∷ []) none
 
+abbrev pub elevator_line : List (List ℕ)
+elevator_line = codes "elevator" ∷ []
+
+elevators-push : (header : List (List (List ℕ))) (l : List (List ℕ)) (elevator : Bool) (more : List (List (List ℕ))) → beginning (codes "elevator") header ≡ elevator_lines elevator → filter (begins (codes "elevator")) (l ∷ []) ≡ more → beginning (codes "elevator") (header ++ l ∷ []) ≡ elevator_lines elevator ++ more
+elevators-push header l elevator more had has = filter-append (begins (codes "elevator")) header (l ∷ []) ∙ ap₂ (λ (a b : List (List (List ℕ))). a ++ b) had has
+
+elevators-other : (header : List (List (List ℕ))) (l : List (List ℕ)) (elevator : Bool) → beginning (codes "elevator") header ≡ elevator_lines elevator → filter (begins (codes "elevator")) (l ∷ []) ≡ [] → beginning (codes "elevator") (header ++ l ∷ []) ≡ elevator_lines elevator
+elevators-other header l elevator had has = elevators-push header l elevator [] had has ∙ append-nil (elevator_lines elevator)
+
+elevators-new : (header : List (List (List ℕ))) (elevator : Bool) → elevator ≡ false → beginning (codes "elevator") header ≡ elevator_lines elevator → beginning (codes "elevator") (header ++ elevator_line ∷ []) ≡ elevator_lines true
+elevators-new header elevator none had = elevators-push header elevator_line elevator (elevator_line ∷ []) had refl ∙ ap (λ x. elevator_lines x ++ elevator_line ∷ []) none
+
 -- one line more behind all others
 push_behind : (front : List (List ℕ)) (header rest : List (List (List ℕ))) (l : List (List ℕ)) → rest ≡ [] → (front ∷ header ++ rest) ++ l ∷ [] ≡ front ∷ (header ++ l ∷ []) ++ rest
 push_behind front header rest l none =
@@ -103,9 +116,9 @@ push_behind front header rest l none =
 nothing_behind : (r : Reading) (events : List (List (List ℕ))) → r.section ≡ sections.Header → r.puts ≡ [] → map request_words r.puts ++ tail_of r.section events ≡ []
 nothing_behind r events here none = ap₂ (λ (qs : List Request) (section : Section). map request_words qs ++ tail_of section events) none here
 
-Says-header : (r : Reading) (lines : List (List (List ℕ))) (l : List (List ℕ)) (depth queue cut : Option ℕ) → r.section ≡ sections.Header → (is : Says r lines)
-    → SaysHeader r.form depth queue cut (is.header ++ l ∷ []) → Says (record r { depth = depth; queue = queue; cut = cut }) (lines ++ l ∷ [])
-Says-header r lines l depth queue cut here is headed = record {
+Says-header : (r : Reading) (lines : List (List (List ℕ))) (l : List (List ℕ)) (depth queue cut : Option ℕ) (elevator : Bool) → r.section ≡ sections.Header → (is : Says r lines)
+    → SaysHeader r.form depth queue cut elevator (is.header ++ l ∷ []) → Says (record r { depth = depth; queue = queue; cut = cut; elevator = elevator }) (lines ++ l ∷ [])
+Says-header r lines l depth queue cut elevator here is headed = record {
   few = is.few;
   header = is.header ++ l ∷ [];
   events = is.events;
@@ -130,10 +143,11 @@ cut_line n = codes "cut" ∷ decimal n ∷ []
 Says-depth : (r : Reading) (lines : List (List (List ℕ))) (n : ℕ) → r.section ≡ sections.Header → r.depth ≡ None → Says r lines → Says (record r { depth = Some n }) (lines ++ depth_line n ∷ [])
 Says-depth r lines n here none is =
     let h = is.headed in
-    Says-header r lines (depth_line n) (Some n) r.queue r.cut here is (record {
+    Says-header r lines (depth_line n) (Some n) r.queue r.cut r.elevator here is (record {
       depths = beginning-new (codes "depth") is.header n r.depth none h.depths refl;
       queues = beginning-other (codes "queue") is.header (depth_line n) r.queue h.queues refl;
       cuts = beginning-other (codes "cut") is.header (depth_line n) r.cut h.cuts refl;
+      elevators = elevators-other is.header (depth_line n) r.elevator h.elevators refl;
       known = each_push (λ l. is_header_line l ≡ true) is.header (depth_line n) h.known refl;
       plain = h.plain;
     })
@@ -141,10 +155,11 @@ Says-depth r lines n here none is =
 Says-queue : (r : Reading) (lines : List (List (List ℕ))) (n : ℕ) → r.section ≡ sections.Header → r.queue ≡ None → is_scheduled r.form ≡ true → Says r lines → Says (record r { queue = Some n }) (lines ++ queue_line n ∷ [])
 Says-queue r lines n here none scheduled is =
     let h = is.headed in
-    Says-header r lines (queue_line n) r.depth (Some n) r.cut here is (record {
+    Says-header r lines (queue_line n) r.depth (Some n) r.cut r.elevator here is (record {
       depths = beginning-other (codes "depth") is.header (queue_line n) r.depth h.depths refl;
       queues = beginning-new (codes "queue") is.header n r.queue none h.queues refl;
       cuts = beginning-other (codes "cut") is.header (queue_line n) r.cut h.cuts refl;
+      elevators = elevators-other is.header (queue_line n) r.elevator h.elevators refl;
       known = each_push (λ l. is_header_line l ≡ true) is.header (queue_line n) h.known refl;
       plain = λ e. let c : true ≡ false = sym scheduled ∙ e in cc;
     })
@@ -152,11 +167,24 @@ Says-queue r lines n here none scheduled is =
 Says-cut : (r : Reading) (lines : List (List (List ℕ))) (n : ℕ) → r.section ≡ sections.Header → r.cut ≡ None → Says r lines → Says (record r { cut = Some n }) (lines ++ cut_line n ∷ [])
 Says-cut r lines n here none is =
     let h = is.headed in
-    Says-header r lines (cut_line n) r.depth r.queue (Some n) here is (record {
+    Says-header r lines (cut_line n) r.depth r.queue (Some n) r.elevator here is (record {
       depths = beginning-other (codes "depth") is.header (cut_line n) r.depth h.depths refl;
       queues = beginning-other (codes "queue") is.header (cut_line n) r.queue h.queues refl;
       cuts = beginning-new (codes "cut") is.header n r.cut none h.cuts refl;
+      elevators = elevators-other is.header (cut_line n) r.elevator h.elevators refl;
       known = each_push (λ l. is_header_line l ≡ true) is.header (cut_line n) h.known refl;
+      plain = h.plain;
+    })
+
+Says-elevator : (r : Reading) (lines : List (List (List ℕ))) → r.section ≡ sections.Header → r.elevator ≡ false → Says r lines → Says (record r { elevator = true }) (lines ++ elevator_line ∷ [])
+Says-elevator r lines here none is =
+    let h = is.headed in
+    Says-header r lines elevator_line r.depth r.queue r.cut true here is (record {
+      depths = beginning-other (codes "depth") is.header elevator_line r.depth h.depths refl;
+      queues = beginning-other (codes "queue") is.header elevator_line r.queue h.queues refl;
+      cuts = beginning-other (codes "cut") is.header elevator_line r.cut h.cuts refl;
+      elevators = elevators-new is.header r.elevator none h.elevators;
+      known = each_push (λ l. is_header_line l ≡ true) is.header elevator_line h.known refl;
       plain = h.plain;
     })
 
@@ -307,7 +335,13 @@ adds_header r lines w header.Queue (v ∷ u ∷ ws) l name stands new e is = abs
 adds_header r lines w header.Cut [] l name stands new e is = absurd (none-some l e)
 adds_header r lines w header.Cut (v ∷ u ∷ ws) l name stands new e is = absurd (none-some l e)
 adds_header r lines w header.Fail ws l name stands new e is = absurd (none-some l e)
-adds_header r lines w header.Elevator ws l name stands new e is = absurd (none-some l e)
+adds_header r lines w header.Elevator [] l name stands new e is =
+    subst (Adds r lines (w ∷ [])) (same_Some line.Elevator l e)
+    (λ fit.
+    let may = and_parts (stands_in r.section (word.Header header.Elevator)) (is_scheduled r.form || false) stands in
+    added (record r { elevator = true }) lines (w ∷ []) elevator_line (ap (λ (x : List ℕ). x ∷ []) name)
+    (Says-elevator r lines (at_header r.section header.Elevator may.0) new is))
+adds_header r lines w header.Elevator (v ∷ ws) l name stands new e is = absurd (none-some l e)
 
 put_said : (w b v c : List ℕ) (id block value : ℕ) (k : Class) → w ≡ codes "put" → numeral b ≡ Some block → block < 2 ^ 64 - 1 → hex_byte v ≡ Some value → class_of c ≡ Some k
     → w ∷ b ∷ v ∷ c ∷ [] ≡ request_words (put_request id block value k)
@@ -394,11 +428,12 @@ Says-later r lines w (Some v) ws next e h is =
 
 -- ---- the first line
 
-SaysHeader-none : (form : Form) → SaysHeader form None None None []
+SaysHeader-none : (form : Form) → SaysHeader form None None None false []
 SaysHeader-none form = record {
   depths = refl;
   queues = refl;
   cuts = refl;
+  elevators = refl;
   known = λ l h. absurd h;
   plain = λ _. refl;
 }
@@ -485,6 +520,7 @@ SaysScript-read r lines here is =
         depth = ap (or_default default_depth) h.depths ∙ filled_depth r.depth;
         queue = ap (filled_queue (is_scheduled r.form)) h.queues ∙ filled_queues (is_scheduled r.form) r.queue h.plain;
         cut = h.cuts ∙ filled_cut r.cut;
+        elevator = h.elevators;
         known = h.known;
       };
       counted = is.counted;

@@ -88,25 +88,21 @@ IsSpelling-requests (q ∷ qs) r ls s here blocks few are full rest =
 -- ---- the header
 
 -- a script of the device alone has no line of the queues
-IsSpelling-queue : (form : Form) (depth : Option ℕ) (q : ℕ) (ls : List (List (List ℕ))) (s : Script) → 1 ≤ q → q ≤ MOST_QUEUE → (is_scheduled form ≡ false → q ≡ DEFAULT_QUEUE) → ((queue : Option ℕ) → unwrap_or queue DEFAULT_QUEUE ≡ q → IsSpelling (Some (at_header form depth queue None)) ls s) → IsSpelling (Some (at_header form depth None None)) ((if is_scheduled form then (codes "queue" ∷ decimal q ∷ []) ∷ [] else []) ++ ls) s
+IsSpelling-queue : (form : Form) (depth : Option ℕ) (q : ℕ) (ls : List (List (List ℕ))) (s : Script) → 1 ≤ q → q ≤ MOST_QUEUE → (is_scheduled form ≡ false → q ≡ DEFAULT_QUEUE) → ((queue : Option ℕ) → unwrap_or queue DEFAULT_QUEUE ≡ q → IsSpelling (Some (at_header form depth queue None false)) ls s) → IsSpelling (Some (at_header form depth None None false)) ((if is_scheduled form then (codes "queue" ∷ decimal q ∷ []) ∷ [] else []) ++ ls) s
 IsSpelling-queue (Device n) depth q ls s some few plain rest = rest None (sym (plain refl))
 IsSpelling-queue (Blocks n) depth q ls s some few plain rest =
-    IsSpelling-line (Some (at_header (Blocks n) depth None None)) (codes "queue" ∷ decimal q ∷ []) (at_header (Blocks n) depth (Some q) None) ls s (IsRead-queue (Blocks n) depth None q refl some few) (rest (Some q) refl)
+    IsSpelling-line (Some (at_header (Blocks n) depth None None false)) (codes "queue" ∷ decimal q ∷ []) (at_header (Blocks n) depth (Some q) None false) ls s (IsRead-queue (Blocks n) depth None false q refl some few) (rest (Some q) refl)
 
-IsSpelling-cut : (form : Form) (depth queue cut : Option ℕ) (ls : List (List (List ℕ))) (s : Script) → ((n : ℕ) → cut ≡ Some n → n ≤ MOST_STEPS) → IsSpelling (Some (at_header form depth queue cut)) ls s → IsSpelling (Some (at_header form depth queue None)) (cut_lines cut ++ ls) s
+IsSpelling-cut : (form : Form) (depth queue cut : Option ℕ) (ls : List (List (List ℕ))) (s : Script) → ((n : ℕ) → cut ≡ Some n → n ≤ MOST_STEPS) → IsSpelling (Some (at_header form depth queue cut false)) ls s → IsSpelling (Some (at_header form depth queue None false)) (cut_lines cut ++ ls) s
 IsSpelling-cut form depth queue None ls s few rest = rest
 IsSpelling-cut form depth queue (Some n) ls s few rest =
-    IsSpelling-line (Some (at_header form depth queue None)) (codes "cut" ∷ decimal n ∷ []) (at_header form depth queue (Some n)) ls s (IsRead-cut form depth queue n (few n refl)) rest
-
--- the header behind its last line
-abbrev with_elevator : Form → Option ℕ → Option ℕ → Option ℕ → Bool → Reading
-with_elevator form depth queue cut elevator = record (at_header form depth queue cut) { elevator = elevator }
+    IsSpelling-line (Some (at_header form depth queue None false)) (codes "cut" ∷ decimal n ∷ []) (at_header form depth queue (Some n) false) ls s (IsRead-cut form depth queue false n (few n refl)) rest
 
 -- nor one of the elevator
-IsSpelling-elevator : (form : Form) (depth queue cut : Option ℕ) (elevator : Bool) (ls : List (List (List ℕ))) (s : Script) → (is_scheduled form ≡ false → elevator ≡ false) → IsSpelling (Some (with_elevator form depth queue cut elevator)) ls s → IsSpelling (Some (at_header form depth queue cut)) (elevator_lines elevator ++ ls) s
+IsSpelling-elevator : (form : Form) (depth queue cut : Option ℕ) (elevator : Bool) (ls : List (List (List ℕ))) (s : Script) → (is_scheduled form ≡ false → elevator ≡ false) → IsSpelling (Some (at_header form depth queue cut elevator)) ls s → IsSpelling (Some (at_header form depth queue cut false)) (elevator_lines elevator ++ ls) s
 IsSpelling-elevator form depth queue cut false ls s plain rest = rest
 IsSpelling-elevator (Blocks n) depth queue cut true ls s plain rest =
-    IsSpelling-line (Some (at_header (Blocks n) depth queue cut)) (codes "elevator" ∷ []) (with_elevator (Blocks n) depth queue cut true) ls s (IsRead-elevator (Blocks n) depth queue cut refl) rest
+    IsSpelling-line (Some (at_header (Blocks n) depth queue cut false)) (codes "elevator" ∷ []) (at_header (Blocks n) depth queue cut true) ls s (IsRead-elevator (Blocks n) depth queue cut refl) rest
 IsSpelling-elevator (Device n) depth queue cut true ls s plain rest = absurd (false≢true (sym (plain refl)))
 
 -- ---- the whole script
@@ -116,9 +112,9 @@ abbrev with_queue : Script → ℕ → Script
 with_queue s q = record { kind = s.kind; header = record { depth = s.header.depth; queue = q; cut = s.header.cut; elevator = s.header.elevator }; puts = s.puts; events = s.events }
 
 -- the lines behind the header
-IsSpelling-body : (s : Script) (queue : Option ℕ) → IsWellFormed s → unwrap_or queue DEFAULT_QUEUE ≡ s.header.queue → IsSpelling (Some (with_elevator s.kind (Some s.header.depth) queue s.header.cut s.header.elevator)) (map request_words s.puts ++ ((codes "events" ∷ []) ∷ map event_line_words s.events)) s
+IsSpelling-body : (s : Script) (queue : Option ℕ) → IsWellFormed s → unwrap_or queue DEFAULT_QUEUE ≡ s.header.queue → IsSpelling (Some (at_header s.kind (Some s.header.depth) queue s.header.cut s.header.elevator)) (map request_words s.puts ++ ((codes "events" ∷ []) ∷ map event_line_words s.events)) s
 IsSpelling-body s queue well same =
-    let r = with_elevator s.kind (Some s.header.depth) queue s.header.cut s.header.elevator in
+    let r = at_header s.kind (Some s.header.depth) queue s.header.cut s.header.elevator in
     IsSpelling-requests s.puts r ((codes "events" ∷ []) ∷ map event_line_words s.events) s refl well.runnable.few_blocks (omega (arith, well.runnable.few))
     (λ i q e. let place : i ≡ 0 + i = omega arith in subst (λ j. IsRequestOf (form_blocks s.kind) j q) place (well.runnable.requests i q e))
     well.filled
@@ -147,7 +143,7 @@ IsSpelling-lines s well =
     let depth = Some s.header.depth in
     let run = well.runnable in
     IsSpelling-line None (form_words s.kind) (new_reading s.kind) ((codes "depth" ∷ decimal s.header.depth ∷ []) ∷ (queue_lines s ++ cut)) s (IsRead-form s.kind run.some_blocks run.few_blocks)
-    (IsSpelling-line (Some (at_header s.kind None None None)) (codes "depth" ∷ decimal s.header.depth ∷ []) (at_header s.kind depth None None) (queue_lines s ++ cut) s (IsRead-depth s.kind None None s.header.depth run.some_depth run.depth)
+    (IsSpelling-line (Some (at_header s.kind None None None false)) (codes "depth" ∷ decimal s.header.depth ∷ []) (at_header s.kind depth None None false) (queue_lines s ++ cut) s (IsRead-depth s.kind None None false s.header.depth run.some_depth run.depth)
     (IsSpelling-queue s.kind depth s.header.queue cut s run.some_queue run.queue well.plain_queue
     (λ queue same. IsSpelling-cut s.kind depth queue s.header.cut elevator s well.cut (IsSpelling-elevator s.kind depth queue s.header.cut s.header.elevator body s well.no_elevator (IsSpelling-body s queue well same)))))
 

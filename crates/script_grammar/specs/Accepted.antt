@@ -7,7 +7,7 @@ use Rattle.blk_base.specs.Members.{In}
 use Rattle.script_grammar.specs.declared.script.Script.{Script}
 use Rattle.script_grammar.specs.Spelling.{words_of, is_skipped}
 use Rattle.script_grammar.specs.Grammar.{is_scheduled}
-use Rattle.script_grammar.specs.Speller.{form_words, depth_lines, queue_lines, cut_lines, request_words, event_line_words}
+use Rattle.script_grammar.specs.Speller.{form_words, depth_lines, queue_lines, cut_lines, elevator_lines, request_words, event_line_words}
 
 -- the lines that are not skipped, each as its words
 abbrev pub kept_lines : List (List ℕ) → List (List (List ℕ))
@@ -45,7 +45,8 @@ pub record IsHeaderOf (s : Script) (header : List (List (List ℕ))) : Type 0 wh
   pub depth : or_default default_depth (beginning (codes "depth") header) ≡ depth_lines s
   pub queue : filled_queue (is_scheduled s.kind) (beginning (codes "queue") header) ≡ queue_lines s
   pub cut : beginning (codes "cut") header ≡ cut_lines s.header.cut
-  pub known : (l : List (List ℕ)) → In l header → (begins (codes "depth") l || (begins (codes "queue") l || begins (codes "cut") l)) ≡ true
+  pub elevator : beginning (codes "elevator") header ≡ elevator_lines s.header.elevator
+  pub known : (l : List (List ℕ)) → In l header → (begins (codes "depth") l || (begins (codes "queue") l || (begins (codes "cut") l || begins (codes "elevator") l))) ≡ true
 
 -- an event line with its count, which is 1 where it says none
 abbrev pub with_count : List (List ℕ) → List (List ℕ)
