@@ -433,6 +433,16 @@ barrier tree path = and_then (walk_path tree path) (λ found. answers tree repli
 
 -- ---- all rows
 
+-- calls that never take a zone
+abbrev pub takes_no_zone : Call → Bool
+takes_no_zone (calls.Mkdir path) = false
+takes_no_zone (calls.Create path) = false
+takes_no_zone (calls.Link path other) = false
+takes_no_zone (calls.Rename path other) = false
+takes_no_zone (calls.Write path off len value) = false
+takes_no_zone (calls.Bytes path off bytes) = false
+takes_no_zone other = true
+
 -- calls that leave each tree as it is
 abbrev pub leaves_tree : Call → Bool
 leaves_tree (calls.Read path off len) = true
@@ -484,6 +494,10 @@ is_in_group group index = is_double_indirect index && ((index - 519) / 512 == gr
 abbrev pub one_if : Bool → ℕ
 one_if test = if test then 1 else 0
 
+-- the groups of 512 blocks with a mapped one
+unfoldable pub mapped_groups : List ℕ → ℕ
+mapped_groups indices = count_by (λ group. list_any (is_in_group group) indices) (range_with_len 0 512)
+
 -- The mapped blocks, one indirect block, one double indirect block, and one second-level block for each group with a
 -- mapped one.
 unfoldable pub file_zones : List ℕ → ℕ
@@ -491,7 +505,7 @@ file_zones indices =
     length indices
     + one_if (list_any is_indirect indices)
     + one_if (list_any is_double_indirect indices)
-    + count_by (λ group. list_any (is_in_group group) indices) (range_with_len 0 512)
+    + mapped_groups indices
 
 abbrev pub node_zones : Node → ℕ
 node_zones (nodes.Directory d) = directory_zones d.slots

@@ -88,3 +88,60 @@ last_block_session =
 
 abbrev pub last_block_replies : List Reply
 last_block_replies = replies.Ok ∷ replies.Ok ∷ replies.TooBig ∷ replies.Stat false 268966912 1 ∷ []
+
+-- ---- a session with links and renames
+
+abbrev pub moves_session : List Call
+moves_session =
+    calls.Create (codes "/f")
+    ∷ calls.Mkdir (codes "/d")
+    ∷ calls.Link (codes "/f") (codes "/g")
+    ∷ calls.Stat (codes "/")
+    ∷ calls.Stat (codes "/f")
+    ∷ calls.Link (codes "/d") (codes "/h")
+    ∷ calls.Unlink (codes "/f")
+    ∷ calls.Rename (codes "/g") (codes "/d/f")
+    ∷ calls.Stat (codes "/d")
+    ∷ calls.Stat (codes "/d/f")
+    ∷ calls.Rename (codes "/d") (codes "/d/f")
+    ∷ calls.Create (codes "/x")
+    ∷ calls.Stat (codes "/")
+    ∷ calls.Rename (codes "/x") (codes "/d")
+    ∷ calls.Rename (codes "/d") (codes "/x")
+    ∷ calls.Rename (codes "/x") (codes "/d/f")
+    ∷ calls.List (codes "/")
+    ∷ calls.Mkdir (codes "/e")
+    ∷ calls.Rename (codes "/d") (codes "/e")
+    ∷ calls.Rename (codes "/d") (codes "/e/d")
+    ∷ calls.List (codes "/e")
+    ∷ calls.Stat (codes "/e")
+    ∷ calls.Stat (codes "/e/d")
+    ∷ []
+
+-- The root has five slots after three names, and keeps them: names that come later take those of names that went.
+abbrev pub moves_replies : List Reply
+moves_replies =
+    replies.Ok
+    ∷ replies.Ok
+    ∷ replies.Ok
+    ∷ replies.Stat true 80 3
+    ∷ replies.Stat false 0 2
+    ∷ replies.IsDir
+    ∷ replies.Ok
+    ∷ replies.Ok
+    ∷ replies.Stat true 48 2
+    ∷ replies.Stat false 0 1
+    ∷ replies.Invalid
+    ∷ replies.Ok
+    ∷ replies.Stat true 80 3
+    ∷ replies.IsDir
+    ∷ replies.NotDir
+    ∷ replies.Ok
+    ∷ replies.Names (codes "d" ∷ [])
+    ∷ replies.Ok
+    ∷ replies.Exists
+    ∷ replies.Ok
+    ∷ replies.Names (codes "d" ∷ [])
+    ∷ replies.Stat true 48 3
+    ∷ replies.Stat true 48 2
+    ∷ []

@@ -17,3 +17,5 @@ pub mod PlainMoves
 pub mod PlainTrees
 pub mod Outcomes
 pub mod Bytes
+pub mod Zones
+pub mod Effects

@@ -2,6 +2,8 @@
 ghost use Rattle.std.specs.Prelude.{◌≡◌, ◌⊎◌, ◌<◌, ◌≤◌, ℕ, ◌+◌, ◌-◌, ◌%◌, ◌==◌, if◌then◌else◌, true, false, List, length, slice_index, Some, None, Ok, Err, is_some};
 ghost use Rattle.blk_base.specs.Members.{In};
 ghost use Rattle.tree_model.specs.declared.call.Call.{Call};
+ghost use Rattle.tree_model.specs.declared.call.Call.TheVariants as calls;
+ghost use Rattle.tree_model.specs.Trees.{node_of_path};
 ghost use Rattle.tree_model.specs.declared.call.Reply.{Reply};
 ghost use Rattle.tree_model.specs.declared.call.Reply.TheVariants as replies;
 ghost use Rattle.tree_model.specs.declared.call.Room.{Room};
@@ -13,7 +15,7 @@ ghost use Rattle.tree_model.specs.Examples.{new_tree};
 ghost use Rattle.tree_model.specs.Histories.{Entry, block_at, maps_block, writes, tree_after_entries, wrote, maps, content, last, changed_after};
 ghost use Rattle.tree_model.specs.Plain.{IsPlain, AreBornBefore, HasWholeBlocks};
 ghost use Rattle.tree_model.specs.declared.node.File.{File};
-ghost use Rattle.tree_model.specs.Calls.{HasInode, written_file, cut_file, byte_at};
+ghost use Rattle.tree_model.specs.Calls.{HasInode, written_file, cut_file, byte_at, takes_no_zone};
 
 /// A law, which does nothing when it is called: a call keeps a tree plain, so that it hangs together, its names are
 /// those of paths, and links and parents are right. Births rise: a node that a call makes has the call's number. A new
@@ -43,8 +45,8 @@ pub fn asking_changes_nothing()
 {}
 
 /// A law, which does nothing when it is called: a call that nothing else refuses is done exactly where there is an inode
-/// for a node that it makes and it needs no more zones than are left; want of an inode is told first. So a volume's
-/// zones hold the tree after each call.
+/// for a node that it makes and it needs no more zones than are left; want of an inode is told first. Removing, cutting
+/// and asking need none. So a volume's zones hold the tree after each call.
 pub fn calls_stay_within_room()
     ensures done { (room : Room) (tree : Tree) (n : ℕ) (c : Call) (d : Done) → row tree n c ≡ Ok d → HasInode room tree d →
         needs tree n c ≤ room.capacity - used_zones tree → outcome room tree n c ≡ Ok d }
@@ -52,6 +54,7 @@ pub fn calls_stay_within_room()
         room.inodes ≤ length tree → outcome room tree n c ≡ Err replies.NoInode }
     ensures no_space { (room : Room) (tree : Tree) (n : ℕ) (c : Call) (d : Done) → row tree n c ≡ Ok d → HasInode room tree d →
         room.capacity - used_zones tree < needs tree n c → outcome room tree n c ≡ Err replies.NoSpace }
+    ensures none { (tree : Tree) → IsPlain tree → (n : ℕ) (c : Call) → takes_no_zone c ≡ true → needs tree n c ≡ 0 }
     ensures kept { (room : Room) (tree : Tree) (n : ℕ) (c : Call) → used_zones tree ≤ room.capacity → used_zones (tree_after room tree n c) ≤ room.capacity }
     ensures slot { (slots : ℕ) → directory_zones (slots + 1) ≡ directory_zones slots + (if slots % 64 == 0 then 1 else 0) + (if slots == 448 then 1 else 0) }
 {}
@@ -102,4 +105,16 @@ pub fn written_bytes_are_read_back()
     ensures past { (f : File) (size : ℕ) → HasWholeBlocks f → (at : ℕ) → size ≤ at → byte_at (cut_file f size) at ≡ 0 }
     ensures whole { (f : File) (off : ℕ) (bytes : List ℕ) → HasWholeBlocks f → HasWholeBlocks (written_file f off bytes) }
     ensures whole_cut { (f : File) (size : ℕ) → HasWholeBlocks f → HasWholeBlocks (cut_file f size) }
+{}
+
+/// A law, which does nothing when it is called: where `mkdir` or `create` is done its path leads to the new node, and
+/// where `link` is done both paths lead to the file.
+pub fn new_names_lead_to_nodes()
+    ensures mkdir { (room : Room) (tree : Tree) → IsPlain tree → (n : ℕ) → AreBornBefore n tree → (path : List ℕ) (names : List (List ℕ)) (d : Done) →
+        path_of path ≡ Some names → outcome room tree n (calls.Mkdir path) ≡ Ok d → node_of_path d.tree names ≡ Ok n }
+    ensures create { (room : Room) (tree : Tree) → IsPlain tree → (n : ℕ) → AreBornBefore n tree → (path : List ℕ) (names : List (List ℕ)) (d : Done) →
+        path_of path ≡ Some names → outcome room tree n (calls.Create path) ≡ Ok d → node_of_path d.tree names ≡ Ok n }
+    ensures link { (room : Room) (tree : Tree) → IsPlain tree → (n : ℕ) → (path other : List ℕ) (names more : List (List ℕ)) (d : Done) →
+        path_of path ≡ Some names → path_of other ≡ Some more → outcome room tree n (calls.Link path other) ≡ Ok d →
+        (birth : ℕ) × (node_of_path tree names ≡ Ok birth) × (node_of_path d.tree names ≡ Ok birth) × (node_of_path d.tree more ≡ Ok birth) }
 {}

@@ -8,7 +8,7 @@ ghost use Rattle.tree_model.specs.Text.{tree_text};
 ghost use Rattle.tree_model.specs.Trees.{node_of_path, AreAlike, IsSameButBirths};
 ghost use Rattle.tree_model.specs.Maps.{at_number};
 ghost use Rattle.tree_model.specs.declared.call.Call.TheVariants as calls;
-ghost use Rattle.tree_model.specs.Examples.{new_tree, small_room, replies_to, needs_after, write_block, names_session, names_replies, last_block_session, last_block_replies};
+ghost use Rattle.tree_model.specs.Examples.{new_tree, small_room, replies_to, needs_after, write_block, names_session, names_replies, moves_session, moves_replies, last_block_session, last_block_replies};
 
 /// A law, which does nothing when it is called: the text of a tree that hangs together has the lines of each of its
 /// paths, once, each path before those that its directory leads to.
@@ -44,11 +44,12 @@ pub fn nodes_have_paths()
 {}
 
 /// A law, which does nothing when it is called: examples of calls on a new volume. A session gets most of the replies
-/// there are; a file can have bytes up to 268,966,912 and not one more; and a first byte in a file takes one zone, with
+/// there are, and one with links and renames too; a file can have bytes up to 268,966,912 and not one more; and a first byte in a file takes one zone, with
 /// an indirect block two, with a double indirect one three, and in a group of blocks that has its second-level block
 /// one again.
 pub fn examples_of_calls()
     ensures replies { replies_to small_room new_tree 1 names_session ≡ names_replies }
+    ensures moves { replies_to small_room new_tree 1 moves_session ≡ moves_replies }
     ensures last_block { replies_to small_room new_tree 1 last_block_session ≡ last_block_replies }
     ensures direct { needs_after (calls.Create (codes "/f") ∷ []) (write_block 0) ≡ 1 }
     ensures indirect { needs_after (calls.Create (codes "/f") ∷ []) (write_block 7) ≡ 2 }

@@ -24,7 +24,8 @@ mod text;
 pub use call::{Call, Reply, Room};
 pub use call_laws::{
     asking_changes_nothing, calls_keep_trees_plain, calls_map_by_writing, calls_stay_within_room,
-    histories_map_by_writing, refusals_have_causes, written_bytes_are_read_back,
+    histories_map_by_writing, new_names_lead_to_nodes, refusals_have_causes,
+    written_bytes_are_read_back,
 };
 pub use laws::{examples_of_calls, nodes_have_paths, same_metadata_chains, texts_list_paths};
 pub use lists::{ByteList, NameList};

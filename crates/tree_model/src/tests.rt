@@ -167,6 +167,7 @@ fn laws_do_nothing(rt: HostRuntime) -> Result<(), Fail> {
     calls_map_by_writing();
     histories_map_by_writing();
     written_bytes_are_read_back();
+    new_names_lead_to_nodes();
     let room = Room {
         inodes: 32,
         capacity: 59,

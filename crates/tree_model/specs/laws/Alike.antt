@@ -184,7 +184,7 @@ same_tree_chain a b c x y = record {
 -- ---- paths of nodes
 
 -- one name more
-led_push : (tree : List (ℕ × Node)) (names : List (List ℕ)) (b p q : ℕ) (name : List ℕ) → led_to tree b names ≡ Ok p → step_at (at_number tree p) name ≡ Ok q →
+pub led_push : (tree : List (ℕ × Node)) (names : List (List ℕ)) (b p q : ℕ) (name : List ℕ) → led_to tree b names ≡ Ok p → step_at (at_number tree p) name ≡ Ok q →
     led_to tree b (names ++ name ∷ []) ≡ Ok q
 led_push tree [] b p q name h s = ap (λ (r : Result ℕ Refusal). led_on tree r []) (subst (λ x. step_at (at_number tree x) name ≡ Ok q) (sym (same_ok b p h)) s)
 led_push tree (n ∷ ns) b p q name h s =

@@ -1,9 +1,9 @@
 -- What is written is read back.
-use Rattle.std.specs.Prelude.{◌≡◌, ◌≢◌, ◌<◌, ◌≤◌, ℕ, zero, suc, ◌+◌, ◌-◌, ◌*◌, ◌/◌, ◌%◌, ◌==◌, ◌⊎◌, min, Bool, true, false, ◌&&◌, ◌||◌, if◌then◌else◌, nat_le, nat_lt, List, [], ◌∷◌, ◌++◌, length, take, drop, replicate, slice_index, Option, Some, None, refl}
-use Rattle.std.proofs.Common.{sym, ap, subst, ◌∙◌, inl, inr, ⊎_elim, arith}
+use Rattle.std.specs.Prelude.{◌≡◌, ◌<◌, ◌≤◌, ℕ, zero, suc, ◌+◌, ◌-◌, ◌*◌, ◌/◌, ◌%◌, ◌==◌, ◌⊎◌, min, Bool, true, false, if◌then◌else◌, nat_le, List, [], ◌++◌, length, take, drop, replicate, slice_index, Option, Some, None, refl}
+use Rattle.std.proofs.Common.{sym, ap, ◌∙◌, inl, inr, ⊎_elim, arith}
 use Rattle.std.specs.List.{list_any, range_with_len}
-use Rattle.std.proofs.lemmas.Bool.{cases_Bool, cases_eq, cases_lt, true≢false, false≢true, ltb-true, ltb-false, lt-ltb, le-ltb, le-leb, lt-leb, leb-true, leb-false, eqb-true, eqb-false, eq-eqb, ne_eqb, or_parts, and_parts, or_cases}
-use Rattle.std.proofs.lemmas.List.{length-take, length-drop, length-append, length-replicate, get_or-replicate, get_or_append_left, get_or-append_right, get_or-take, get_or-drop}
+use Rattle.std.proofs.lemmas.Bool.{cases_Bool, cases_eq, cases_lt, false≢true, lt-ltb, le-ltb, leb-true, leb-false, eqb-true, eqb-false, or_parts, or_cases}
+use Rattle.std.proofs.lemmas.List.{length-take, length-drop, length-append, length-replicate, get_or_append_left, get_or-append_right, get_or-take, get_or-drop}
 use Rattle.std.proofs.lemmas.Option.{none-some, same_Some}
 use Rattle.tree_model.specs.declared.node.File.{File}
 use Rattle.tree_model.specs.Maps.{at_number, put_number}
@@ -11,7 +11,7 @@ use Rattle.tree_model.specs.MapsLaws.{at_put_number, at_put_number_apart}
 use Rattle.tree_model.specs.Calls.{block_or_zeros, patched, touched_blocks, written_blocks, written_file, cut_body, cut_file, byte_at}
 use Rattle.tree_model.specs.Histories.{is_touched}
 use Rattle.tree_model.specs.Plain.{HasWholeBlocks}
-use Rattle.tree_model.specs.laws.Blocks.{written_untouched, cut_blocks, left_of, cut_out, cut_in}
+use Rattle.tree_model.specs.laws.Blocks.{written_untouched, left_of, cut_out, cut_in}
 
 -- ---- one block
 
@@ -203,9 +203,9 @@ module _ (f : File) (off : ℕ) (bytes : List ℕ) (whole : HasWholeBlocks f) wh
       let x = touched_in off (length bytes) (at / 1024) t in
       byte_touched at t
       ∙ ⊎_elim
-        (λ lt. patched_before (at / 1024) off bytes (block_or_zeros (at_number f.blocks (at / 1024))) (old_whole (at / 1024)) x.0 x.1 (at % 1024) (omega arith) within)
-        (λ ge. patched_behind (at / 1024) off bytes (block_or_zeros (at_number f.blocks (at / 1024))) (old_whole (at / 1024)) x.0 x.1 (at % 1024) (omega arith) within)
-        out)
+      (λ lt. patched_before (at / 1024) off bytes (block_or_zeros (at_number f.blocks (at / 1024))) (old_whole (at / 1024)) x.0 x.1 (at % 1024) (omega arith) within)
+      (λ ge. patched_behind (at / 1024) off bytes (block_or_zeros (at_number f.blocks (at / 1024))) (old_whole (at / 1024)) x.0 x.1 (at % 1024) (omega arith) within)
+      out)
       (λ t. byte_untouched at t)
       (cases_Bool (is_touched off (length bytes) (at / 1024)))
 

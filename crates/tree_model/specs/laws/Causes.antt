@@ -63,7 +63,7 @@ file_refuses P (nodes.Other mode) h = h (no_file_other mode)
 
 -- ---- paths
 
-front_last : (name : List ℕ) (names : List (List ℕ)) → all_but_last name names ++ last_name name names ∷ [] ≡ name ∷ names
+pub front_last : (name : List ℕ) (names : List (List ℕ)) → all_but_last name names ++ last_name name names ∷ [] ≡ name ∷ names
 front_last name [] = refl
 front_last name (next ∷ names) = ap (λ ns. name ∷ ns) (front_last next names)
 

@@ -123,40 +123,60 @@ reply_by tree takes reply d same = sym (ap (λ (d : Done). d.reply) same)
 abbrev tree_by : (tree : Tree) (takes : Bool) (reply : Reply) (d : Done) → record { tree = tree; takes_inode = takes; reply = reply } ≡ d → d.tree ≡ tree
 tree_by tree takes reply d same = sym (ap (λ (d : Done). d.tree) same)
 
-mkdir_change : (tree : Tree) (n : ℕ) (path : List ℕ) (d : Done) → mkdir tree n path ≡ Ok d → Change tree n d (calls.Mkdir path)
-mkdir_change tree n path d h =
+-- what `mkdir` did
+pub record IsMkdir (tree : Tree) (n : ℕ) (path : List ℕ) (d : Done) : Type 0 where
+  pub parent : ℕ
+  pub made : IsMade tree n (new_directory parent) d
+  pub path_is : made.path ≡ path
+  pub parent_is : made.place.parent ≡ parent
+
+pub mkdir_made : (tree : Tree) (n : ℕ) (path : List ℕ) (d : Done) → mkdir tree n path ≡ Ok d → IsMkdir tree n path d
+mkdir_made tree n path d h =
     let a = then_ok (names_in path) _ d h in
     let b = then_ok (parent_of replies.Exists tree a.0) _ d a.2 in
     let c = refuse_ok (is_named b.0) replies.Exists _ d b.2 in
     let e = refuse_ok (directory_links tree b.0.directory == most_links) replies.TooManyLinks _ d c.1 in
     let f = refuse_ok (is_full b.0.directory) replies.TooBig _ d e.1 in
-    made_directory b.0.parent (record {
-      path = path;
-      names = a.0;
-      place = b.0;
-      named = some_ok (path_of path) replies.BadPath a.0 a.1;
-      is_place = parent_ok replies.Exists tree a.0 b.0 b.1;
-      free = c.0;
-      tree_is = tree_by _ true replies.Ok d (ok_ok _ d f.1);
-      reply_is = reply_by _ true replies.Ok d (ok_ok _ d f.1);
-    }) refl refl
+    record {
+      parent = b.0.parent;
+      made = record {
+        path = path;
+        names = a.0;
+        place = b.0;
+        named = some_ok (path_of path) replies.BadPath a.0 a.1;
+        is_place = parent_ok replies.Exists tree a.0 b.0 b.1;
+        free = c.0;
+        tree_is = tree_by _ true replies.Ok d (ok_ok _ d f.1);
+        reply_is = reply_by _ true replies.Ok d (ok_ok _ d f.1);
+      };
+      path_is = refl;
+      parent_is = refl;
+    }
 
-create_change : (tree : Tree) (n : ℕ) (path : List ℕ) (d : Done) → create tree n path ≡ Ok d → Change tree n d (calls.Create path)
-create_change tree n path d h =
+mkdir_change : (tree : Tree) (n : ℕ) (path : List ℕ) (d : Done) → mkdir tree n path ≡ Ok d → Change tree n d (calls.Mkdir path)
+mkdir_change tree n path d h = let x = mkdir_made tree n path d h in made_directory x.parent x.made x.path_is x.parent_is
+
+pub create_made : (tree : Tree) (n : ℕ) (path : List ℕ) (d : Done) → create tree n path ≡ Ok d → (h : IsMade tree n new_file d) × (h.path ≡ path)
+create_made tree n path d h =
     let a = then_ok (names_in path) _ d h in
     let b = then_ok (parent_of replies.Exists tree a.0) _ d a.2 in
     let c = refuse_ok (is_named b.0) replies.Exists _ d b.2 in
-    let f = refuse_ok (is_full b.0.directory) replies.TooBig _ d c.1 in
-    made_file (record {
-      path = path;
-      names = a.0;
-      place = b.0;
-      named = some_ok (path_of path) replies.BadPath a.0 a.1;
-      is_place = parent_ok replies.Exists tree a.0 b.0 b.1;
-      free = c.0;
-      tree_is = tree_by _ true replies.Ok d (ok_ok _ d f.1);
-      reply_is = reply_by _ true replies.Ok d (ok_ok _ d f.1);
-    })
+    let f = refuse_ok (is_full b.0.directory) replies.TooBig _ d c.1 in (
+      record {
+        path = path;
+        names = a.0;
+        place = b.0;
+        named = some_ok (path_of path) replies.BadPath a.0 a.1;
+        is_place = parent_ok replies.Exists tree a.0 b.0 b.1;
+        free = c.0;
+        tree_is = tree_by _ true replies.Ok d (ok_ok _ d f.1);
+        reply_is = reply_by _ true replies.Ok d (ok_ok _ d f.1);
+      },
+      refl,
+    )
+
+create_change : (tree : Tree) (n : ℕ) (path : List ℕ) (d : Done) → create tree n path ≡ Ok d → Change tree n d (calls.Create path)
+create_change tree n path d h = made_file (create_made tree n path d h).0
 
 true_from_not : (b : Bool) → not b ≡ false → b ≡ true
 true_from_not true h = refl
@@ -200,8 +220,8 @@ unlink_change tree n path d h =
       reply_is = reply_by _ false replies.Ok d (ok_ok _ d e.2);
     })
 
-link_change : (tree : Tree) (n : ℕ) (path other : List ℕ) (d : Done) → link tree path other ≡ Ok d → Change tree n d (calls.Link path other)
-link_change tree n path other d h =
+pub link_made : (tree : Tree) (path other : List ℕ) (d : Done) → link tree path other ≡ Ok d → (h : IsLinked tree d) × HasNames path h.names × HasNames other h.more
+link_made tree path other d h =
     let a = then_ok (names_in path) _ d h in
     let b = then_ok (names_in other) _ d a.2 in
     let c = then_ok (walk tree a.0) _ d b.2 in
@@ -209,22 +229,28 @@ link_change tree n path other d h =
     let f = then_ok (parent_of replies.Exists tree b.0) _ d e.2 in
     let g = refuse_ok (is_named f.0) replies.Exists _ d f.2 in
     let i = refuse_ok (e.0.links == most_links) replies.TooManyLinks _ d g.1 in
-    let j = refuse_ok (is_full f.0.directory) replies.TooBig _ d i.1 in
-    linked (record {
-      path = other;
-      names = a.0;
-      more = b.0;
-      place = f.0;
-      found = c.0;
-      file = e.0;
-      named = some_ok (path_of other) replies.BadPath b.0 b.1;
-      is_found = walk_ok tree a.0 c.0 c.1;
-      node_is = file_ok c.0.node e.0 e.1;
-      is_place = parent_ok replies.Exists tree b.0 f.0 f.1;
-      free = g.0;
-      tree_is = tree_by _ false replies.Ok d (ok_ok _ d j.1);
-      reply_is = reply_by _ false replies.Ok d (ok_ok _ d j.1);
-    })
+    let j = refuse_ok (is_full f.0.directory) replies.TooBig _ d i.1 in (
+      record {
+        path = other;
+        names = a.0;
+        more = b.0;
+        place = f.0;
+        found = c.0;
+        file = e.0;
+        named = some_ok (path_of other) replies.BadPath b.0 b.1;
+        is_found = walk_ok tree a.0 c.0 c.1;
+        node_is = file_ok c.0.node e.0 e.1;
+        is_place = parent_ok replies.Exists tree b.0 f.0 f.1;
+        free = g.0;
+        tree_is = tree_by _ false replies.Ok d (ok_ok _ d j.1);
+        reply_is = reply_by _ false replies.Ok d (ok_ok _ d j.1);
+      },
+      some_ok (path_of path) replies.BadPath a.0 a.1,
+      some_ok (path_of other) replies.BadPath b.0 b.1,
+    )
+
+link_change : (tree : Tree) (n : ℕ) (path other : List ℕ) (d : Done) → link tree path other ≡ Ok d → Change tree n d (calls.Link path other)
+link_change tree n path other d h = linked (link_made tree path other d h).0
 
 rename_change : (tree : Tree) (n : ℕ) (path other : List ℕ) (d : Done) → rename tree path other ≡ Ok d → Change tree n d (calls.Rename path other)
 rename_change tree n path other d h =

@@ -1,5 +1,5 @@
 -- A call keeps a tree plain: nodes that are made.
-use Rattle.std.specs.Prelude.{⊤, ◌≡◌, ◌≢◌, ℕ, ◌+◌, ◌==◌, Bool, true, false, if◌then◌else◌, List, [], ◌∷◌, Option, Some, None, is_some, codes, refl}
+use Rattle.std.specs.Prelude.{⊤, ◌≡◌, ◌≢◌, ℕ, ◌+◌, ◌==◌, Bool, true, false, if◌then◌else◌, List, [], ◌∷◌, Option, Some, None, Ok, is_some, codes, refl}
 use Rattle.std.proofs.Common.{sym, ap, subst, ◌∙◌, inl, inr, ⊎_elim, arith}
 use Rattle.std.specs.List.{list_all, slice_split}
 use Rattle.std.specs.Str.{bytes_eq}
@@ -12,14 +12,15 @@ use Rattle.tree_model.specs.Maps.{at_number, at_name, put_number}
 use Rattle.tree_model.specs.MapsLaws.{at_put_number, at_put_number_apart}
 use Rattle.tree_model.specs.Paths.{is_path_name, names_of_pieces, path_of}
 use Rattle.tree_model.specs.Listing.{names_of}
-use Rattle.tree_model.specs.Trees.{is_directory}
+use Rattle.tree_model.specs.Trees.{is_directory, node_of_path}
+use Rattle.tree_model.specs.laws.Effects.{place_leads}
 use Rattle.tree_model.specs.Calls.{Tree, Done, Place, last_name, is_named, with_name, give_name, new_directory, new_file}
 use Rattle.tree_model.specs.Plain.{names_to}
 use Rattle.tree_model.specs.laws.MapOrder.{in_order_put, at_put_cases, NamesInOrder, names_in_order_put}
 use Rattle.tree_model.specs.laws.Rows.{IsPlace}
 use Rattle.tree_model.specs.laws.Changes.{HasNames, IsMade}
 use Rattle.tree_model.specs.laws.Hanging.{IsReached, by_edge, IsGoodName, IsJoined, more_joined, reached_more}
-use Rattle.tree_model.specs.laws.Plain.{edge_of, up_of, seen_of, links_of, is_other, IsWhole, one_for, one_at, one_for_here, one_for_other, counted_edge}
+use Rattle.tree_model.specs.laws.Plain.{whole_plain, edge_of, up_of, seen_of, links_of, is_other, IsWhole, one_for, one_at, one_for_here, one_for_other, counted_edge}
 use Rattle.tree_model.specs.laws.Edits.{IsLike, like_chain, like_stays, like_put_apart, each_put, edge_put_same, give_here, give_split, give_kept, give_like, give_counts, put_counts}
 
 -- ---- names of paths
@@ -128,8 +129,8 @@ module _ (tree : Tree) (w : IsWhole tree) (n : ℕ) (node : Node) (d : Done) (m 
       root_some (Some node) h = refl
       root_some None h = absurd (false≢true h)
 
-  kept : (q : ℕ) (k : List ℕ) (c : ℕ) → edge_of tree q k ≡ Some c → edge_of After q k ≡ Some c
-  kept q k c e =
+  made_kept : (q : ℕ) (k : List ℕ) (c : ℕ) → edge_of tree q k ≡ Some c → edge_of After q k ≡ Some c
+  made_kept q k c e =
       give_kept First P first_stands n q k c (first_edge q k ∙ e)
       (λ at. no_name P m.free c (sym (ap (λ o. at_name (names_of o) P.name) m.is_place.stands) ∙ (sym (ap (λ j. edge_of tree j P.name) at.0) ∙ (sym (ap (edge_of tree q) at.1) ∙ e))))
 
@@ -153,9 +154,9 @@ module _ (tree : Tree) (w : IsWhole tree) (n : ℕ) (node : Node) (d : Done) (m 
   made_reached c t =
       ⊎_elim
       (λ e.
-      let up : IsReached (edge_of After) P.parent = reached_more (edge_of tree) (edge_of After) kept P.parent (w.reached P.parent (ap is_some m.is_place.stands)) in
+      let up : IsReached (edge_of After) P.parent = reached_more (edge_of tree) (edge_of After) made_kept P.parent (w.reached P.parent (ap is_some m.is_place.stands)) in
       subst (IsReached (edge_of After)) (sym e) (by_edge up (give_here First P first_stands n)))
-      (λ apart. reached_more (edge_of tree) (edge_of After) kept c (w.reached c (sym (like c apart).there ∙ t)))
+      (λ apart. reached_more (edge_of tree) (edge_of After) made_kept c (w.reached c (sym (like c apart).there ∙ t)))
       (cases_eq c n)
 
   made_counts : (c : ℕ) → names_to After c ≡ names_to tree c + one_at n c
@@ -191,3 +192,10 @@ module _ (tree : Tree) (w : IsWhole tree) (n : ℕ) (node : Node) (d : Done) (m 
     links = made_links;
     known = each_put (λ o. is_other o ≡ false) First P.parent _ refl (each_put (λ o. is_other o ≡ false) tree n node new.known w.known);
   })
+
+  -- the new name leads to the new node
+  pub made_leads : node_of_path d.tree m.names ≡ Ok n
+  made_leads =
+      place_leads tree d.tree (whole_plain d.tree made_whole).rooted
+      (λ q k c e. subst (λ t. edge_of t q k ≡ Some c) (sym m.tree_is) (made_kept q k c e))
+      m.names P m.is_place n (subst (λ t. edge_of t P.parent P.name ≡ Some n) (sym m.tree_is) (give_here First P first_stands n))

@@ -1,5 +1,5 @@
 -- A call keeps a tree plain: files with other bytes, and names that come and go.
-use Rattle.std.specs.Prelude.{⊤, ◌≡◌, ◌≢◌, ◌≤◌, ℕ, suc, ◌+◌, ◌-◌, ◌==◌, ◌⊎◌, Bool, true, false, if◌then◌else◌, nat_le, List, [], ◌∷◌, length, Option, Some, None, is_some, refl}
+use Rattle.std.specs.Prelude.{⊤, ◌≡◌, ◌≢◌, ◌≤◌, ℕ, suc, ◌+◌, ◌-◌, ◌==◌, ◌⊎◌, Bool, true, false, if◌then◌else◌, nat_le, List, [], ◌∷◌, length, Option, Some, None, Ok, is_some, refl}
 use Rattle.std.proofs.Common.{sym, ap, subst, ◌∙◌, inl, inr, ⊎_elim, arith}
 use Rattle.std.proofs.lemmas.Bool.{cases_eq, true≢false, false≢true, leb-true, leb-false, eqb-true}
 use Rattle.std.proofs.lemmas.Option.{none-some, same_Some}
@@ -10,15 +10,16 @@ use Rattle.tree_model.specs.declared.node.File.{File}
 use Rattle.tree_model.specs.Maps.{at_number, at_name, without_number}
 use Rattle.tree_model.specs.MapsLaws.{at_put_number, at_put_number_apart}
 use Rattle.tree_model.specs.Listing.{names_of}
-use Rattle.tree_model.specs.Trees.{is_directory}
+use Rattle.tree_model.specs.Trees.{is_directory, node_of_path}
+use Rattle.tree_model.specs.laws.Effects.{led_kept, place_leads}
 use Rattle.tree_model.specs.Calls.{Tree, Done, Place, with_name, without_name, give_name, take_name, put_file, with_links}
 use Rattle.tree_model.specs.Plain.{names_to}
 use Rattle.tree_model.specs.laws.MapOrder.{InOrder, in_order_put, in_order_without, at_put_cases, at_without_cases, at_without_here, NamesInOrder, names_in_order_put, names_in_order_without}
 use Rattle.tree_model.specs.laws.Rows.{IsPlace, place_names}
 use Rattle.tree_model.specs.laws.Changes.{IsRemoved, IsUnlinked, IsLinked}
 use Rattle.tree_model.specs.laws.Hanging.{IsReached, by_edge, IsJoined, fewer_joined, more_joined, reached_more, reached_without}
-use Rattle.tree_model.specs.laws.Plain.{edge_of, seen_of, links_of, is_other, IsWhole, one_for, one_at, one_for_here, one_for_other, edge_counts, counted_edge}
-use Rattle.tree_model.specs.laws.Edits.{IsLike, like_chain, like_file, like_stays, like_put, like_without, each_put, each_without, at_or_apart, edge_put_same, edge_without, give_split, give_kept, give_like, take_split, take_kept, take_like, give_counts, take_counts, put_counts, without_counts}
+use Rattle.tree_model.specs.laws.Plain.{whole_plain, edge_of, seen_of, links_of, is_other, IsWhole, one_for, one_at, one_for_here, one_for_other, edge_counts, counted_edge}
+use Rattle.tree_model.specs.laws.Edits.{give_here, IsLike, like_chain, like_file, like_stays, like_put, like_without, each_put, each_without, at_or_apart, edge_put_same, edge_without, give_split, give_kept, give_like, take_split, take_kept, take_like, give_counts, take_counts, put_counts, without_counts}
 use Rattle.tree_model.specs.laws.PlainCalls.{good_name, links_through, no_name, none_named, place_sorted}
 
 root_some : (o : Option Node) → is_directory o ≡ true → is_some o ≡ true
@@ -392,3 +393,16 @@ module _ (tree : Tree) (w : IsWhole tree) (d : Done) (r : IsLinked tree d) where
     links = linked_links;
     known = each_put (λ o. is_other o ≡ false) Start r.place.parent _ refl (each_put (λ o. is_other o ≡ false) tree B _ refl w.known);
   })
+
+  -- both names lead to the file
+  pub linked_leads : node_of_path d.tree r.more ≡ Ok B
+  linked_leads =
+      place_leads tree d.tree (whole_plain d.tree linked_whole).rooted
+      (λ q k c e. subst (λ t. edge_of t q k ≡ Some c) (sym r.tree_is) (linked_kept q k c e))
+      r.more r.place r.is_place B (subst (λ t. edge_of t r.place.parent r.place.name ≡ Some B) (sym r.tree_is) (give_here Start r.place start_stands B))
+
+  pub linked_stays : node_of_path d.tree r.names ≡ Ok B
+  linked_stays =
+      led_kept tree d.tree (whole_plain d.tree linked_whole).rooted
+      (λ q k c e. subst (λ t. edge_of t q k ≡ Some c) (sym r.tree_is) (linked_kept q k c e))
+      r.names 0 B r.is_found.path
