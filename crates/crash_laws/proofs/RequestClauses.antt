@@ -13,7 +13,7 @@ use Rattle.log_model.specs.Marks.{Set, mark_in, transactions_from}
 use Rattle.log_model.specs.Ring.{places_on}
 use Rattle.log_model.specs.Log.{Spells}
 use Rattle.log_model.proofs.Ring.{places_on-place}
-use Rattle.crash_laws.specs.Clauses.{FitsClause, CommitClause, LogClause, CheckpointClause, OrderClause}
+use Rattle.crash_laws.specs.Clauses.{FitsClause, CommitClause, LogClause, CheckpointClause, ImageClause, OrderClause}
 use Rattle.crash_laws.specs.History.{History}
 use Rattle.crash_laws.specs.PageClauses.{NewPageClause, CommitPagesClause, PageClause}
 use Rattle.crash_laws.specs.Requests.{IsPageRequest, IsFlushRequest, IsHomeRequest, IsSuperRequest, IsLogRequest, IsCommitRequest, IsPartRequest}
@@ -56,6 +56,16 @@ module _ (p : Submitting) (none : log_transaction p.note ≡ None) where
     super = λ e. absurd (other e);
     first = λ e. absurd (no_commit 1 e);
     before = λ i freed e h. absurd (no_commit (freed + 1) e);
+  }
+
+module _ {A : Type 0} (program : Reads A) (p : Submitting) (none : log_transaction p.note ≡ None) (no_page : (f i v : ℕ) → p.note ≡ Page f i v → ⊥) where
+  no_image_clause : ((b : ℕ) → p.note ≡ Home b → ⊥) → ImageClause program p
+  no_image_clause no_home = record {
+    bodies = λ k b x e set. absurd (no_commit p none k e);
+    revokes = λ k b e h g. no_commit p none k e;
+    logged = λ k b e h. absurd (no_commit p none k e);
+    home = λ b e. absurd (no_home b e);
+    page = λ f i v z k x e block set c. absurd (no_page f i v e);
   }
 
 -- ---- notes are apart
@@ -121,13 +131,7 @@ module _ {A : Type 0} (program : Reads A) (p : Submitting) where
         commits = no_commit_clause p none;
         log = no_log_clause p none (subst (λ n. HasHeader p.session.sequence n (p.session.format.header (unwrap_or (kind_body p.request.kind) []))) (sym note) tt);
         checkpoints = no_checkpoint_clause p none (λ e. let x = sym note ∙ e in let y : ⊥ = cc in y);
-        images = record {
-          bodies = λ k b x e set. absurd (no_commit p none k e);
-          revokes = λ k b e h g. no_commit p none k e;
-          logged = λ k b e h. absurd (no_commit p none k e);
-          home = λ b e. absurd (let x = sym note ∙ e in let y : ⊥ = cc in y);
-          page = λ g j w z k x e block set c. absurd (let x = sym note ∙ e in let y : ⊥ = cc in y);
-        };
+        images = no_image_clause program p none (λ f i v e. let x = sym note ∙ e in let y : ⊥ = cc in y) (λ b e. let x = sym note ∙ e in let y : ⊥ = cc in y);
       }
 
   -- ---- a home write
@@ -188,13 +192,7 @@ module _ {A : Type 0} (program : Reads A) (p : Submitting) where
           first = λ e. absurd (no_commit p none 1 e);
           before = λ i freed e h. absurd (no_commit p none (freed + 1) e);
         };
-        images = record {
-          bodies = λ k b x e set. absurd (no_commit p none k e);
-          revokes = λ k b e h g. no_commit p none k e;
-          logged = λ k b e h. absurd (no_commit p none k e);
-          home = λ b e. absurd (let x = sym note ∙ e in let y : ⊥ = cc in y);
-          page = λ g j w z k x e block set c. absurd (let x = sym note ∙ e in let y : ⊥ = cc in y);
-        };
+        images = no_image_clause program p none (λ f i v e. let x = sym note ∙ e in let y : ⊥ = cc in y) (λ b e. let x = sym note ∙ e in let y : ⊥ = cc in y);
       }
 
   -- ---- a log block

@@ -80,5 +80,9 @@ module _ (run : Run) (rules : KeepsRules run)
         prefix = record { transactions = held.transactions; tree = tree.0; found = tree.1; alike = tree.2 };
         versions = λ names birth index k path mapped change. on_path names birth index _ mapped (held.versions birth index k mapped change).0 path;
         barriers = λ c begun e answered barrier later. safe begun (kept.barriers begun e (rules.barriers c begun e answered barrier) later);
-        syncs = λ c begun e answered sync. safe begun (kept.syncs begun run.taken taken (rules.syncs c begun e answered sync));
+        syncs = λ c begun e answered sync.
+            ⊎_elim
+            (λ keeps. safe begun (kept.syncs begun run.taken taken keeps))
+            (λ nothing. record { pages = λ birth index n covered. absurd (nothing.pages birth index n covered); metadata = λ n covered. absurd (nothing.metadata n covered) })
+            (rules.syncs c begun e answered sync);
       }

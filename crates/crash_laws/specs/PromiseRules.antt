@@ -71,6 +71,11 @@ Covers h c f i n = IsOn c.file f × (n < c.begin) × (h.writes n f i ≡ true)
 abbrev pub CoversEntry : BegunCall → ℕ → Type 0
 CoversEntry c n = (c.metadata ≡ true) × (n < c.begin)
 
+-- it covers nothing, as where no write was made
+pub record CoversNothing {A : Type 0} (h : History A) (c : BegunCall) : Type 0 where
+  pub pages : (f i n : ℕ) → Covers h c f i n → ⊥
+  pub metadata : (n : ℕ) → CoversEntry c n → ⊥
+
 -- ---- what is promised
 
 -- a covered pair survived or was superseded

@@ -16,7 +16,7 @@ use Rattle.crash_laws.specs.Found.{IsFound}
 use Rattle.crash_laws.specs.History.{History, IsLastChange, last_write}
 use Rattle.crash_laws.specs.LegalHistory.{Event, tree_up_to}
 use Rattle.crash_laws.specs.PageRules.{PageOrder, DataBeforeCommit}
-use Rattle.crash_laws.specs.PromiseRules.{BegunCall, Covers, CoversEntry, KeepsBarrier, KeepsSync, IsSuperseded, IsLaterKept}
+use Rattle.crash_laws.specs.PromiseRules.{BegunCall, Covers, CoversEntry, CoversNothing, KeepsBarrier, KeepsSync, IsSuperseded, IsLaterKept}
 use Rattle.crash_laws.specs.Rules.{OrderRules}
 use Rattle.crash_laws.specs.Session.{Session, Medium, HasNote}
 use Rattle.crash_laws.specs.TreeHistory.{AreCuts, IsPlaceIn, zone_on_path, history_of, is_barrier, IsAnswered}
@@ -51,7 +51,7 @@ pub record KeepsRules (run : Run) : Type 0 where
   pub barriers : (c : Call) (begun : BegunCall) (e : ℕ) → IsAnswered run.room run.events c begun e → is_barrier c ≡ true
       → KeepsBarrier (history run) run.session e (Covers (history run) begun) (CoversEntry begun)
   pub syncs : (c : Call) (begun : BegunCall) (e : ℕ) → IsAnswered run.room run.events c begun e → is_barrier c ≡ false
-      → KeepsSync (history run) run.session run.taken (Covers (history run) begun) (CoversEntry begun)
+      → KeepsSync (history run) run.session run.taken (Covers (history run) begun) (CoversEntry begun) ⊎ CoversNothing (history run) begun
 
 -- ---- the sentences, of a medium with F kept commit blocks and the blocks that recovery made of it
 

@@ -1,3 +1,4 @@
+//! The laws of transactions, logs and rings of places, each a public function that does nothing when it is called.
 ghost use Rattle.std.specs.Prelude.{◌≡◌, ◌≢◌, ℕ, ◌+◌, ◌<◌, ◌≤◌, ◌⊎◌, List, [], ◌∷◌, ◌++◌, Some, None};
 ghost use Rattle.blk_base.specs.Members.{In};
 ghost use Rattle.log_model.specs.Marks.{Transaction, Keep, Clear, Set, followed, mark_in, marked_body, replayed, transactions_from};

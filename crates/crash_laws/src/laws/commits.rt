@@ -1,3 +1,4 @@
+//! Laws of commit blocks and of the log that recovery reads.
 ghost use Rattle.std.specs.Prelude.{◌≡◌, ◌≢◌, ℕ, ◌+◌, ◌<◌, ◌≤◌, List};
 ghost use Rattle.minix_layout.specs.declared.division.Geometry.{Geometry};
 ghost use Rattle.order_model.specs.Submission.{IsPutOf, IsOrderClosed, HasOrigin};

@@ -1,3 +1,4 @@
+//! Laws of zones, images and pages: what a host has to know of them to meet the clauses of its requests.
 ghost use Rattle.std.specs.Prelude.{◌≡◌, ◌≢◌, ℕ, ◌+◌, ◌-◌, ◌<◌, ◌≤◌, ◌⊎◌, [], List, Option, Some, None, true};
 ghost use Rattle.blk_base.specs.Members.{In};
 ghost use Rattle.order_model.specs.declared.request.Request.{Request};

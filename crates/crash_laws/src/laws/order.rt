@@ -1,3 +1,4 @@
+//! Laws of order alone.
 ghost use Rattle.std.specs.Prelude.{◌≡◌, ℕ, ◌<◌, ◌≤◌, ◌⊎◌, List, Option};
 ghost use Rattle.order_model.specs.declared.note.Note.TheVariants.{Page};
 ghost use Rattle.order_model.specs.declared.request.Request.{Request};

@@ -1,3 +1,4 @@
+//! Laws of the ring of the log and of checkpoints: what a host has to know of them.
 ghost use Rattle.std.specs.Prelude.{◌≡◌, ◌≢◌, ℕ, ◌+◌, ◌<◌, ◌≤◌, ◌||◌, [], List, Option, Some, None, IsTrue};
 ghost use Rattle.std.specs.Option.{unwrap_or};
 ghost use Rattle.order_model.specs.declared.request.Request.{Request};

@@ -1,3 +1,4 @@
+//! Laws of the order rules: where they begin, how requests and longer histories keep them, and that they matter.
 ghost use Rattle.std.specs.Prelude.{◌≡◌, ◌≢◌, ℕ, ◌≤◌, [], List};
 ghost use Rattle.blk_base.specs.Members.{In};
 ghost use Rattle.order_model.specs.declared.completion.Completion.{Completion};

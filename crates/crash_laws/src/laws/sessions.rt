@@ -1,3 +1,4 @@
+//! Laws of whole sessions: calls on trees, and the four sentences on a power cut.
 ghost use Rattle.std.specs.Prelude.{◌≡◌, ℕ, ◌+◌, ◌≤◌, List, [], ◌∷◌, ◌++◌, length, take, Some, true, false};
 ghost use Rattle.std.specs.List.{slice_get};
 ghost use Rattle.blk_base.specs.Members.{In};
