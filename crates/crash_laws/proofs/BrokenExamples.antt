@@ -1,13 +1,25 @@
 -- What two broken sessions leave after a power cut.
-use Rattle.std.specs.Prelude.{◌≡◌, ◌≢◌, ℕ, zero, suc, ◌≤◌, ◌<◌, List, Option, Some, None, slice_get, refl}
-use Rattle.std.proofs.Common.{sym, subst, arith}
+use Rattle.blk_base.specs.Members.{slice_get-length}
+use Rattle.order_model.specs.declared.note.Note.TheVariants.{Page, Super, Descriptor, Body, Commit}
+use Rattle.order_model.specs.declared.note.Note.{Note}
+use Rattle.std.specs.Prelude.{◌≡◌, ◌≢◌, ℕ, zero, suc, ◌≤◌, ◌<◌, List, Option, Some, None, slice_get, refl, length, true, false, [], ◌∷◌}
+use Rattle.std.proofs.Common.{sym, subst, arith, inl, ⊎_elim}
 use Rattle.std.proofs.lemmas.Option.{none-some}
+use Rattle.order_model.specs.declared.request.Request.{Request}
 use Rattle.order_model.specs.Submission.{IsPutOf, IsPutWith, IsPut, IsFence, HasOrigin, IsKept, IsOrderClosed}
-use Rattle.crash_laws.specs.BrokenExamples.{unfenced, without_body, page_late, without_page}
-use Rattle.crash_laws.specs.Example.{program, history}
+use Rattle.log_model.proofs.Marks.{keep≢set}
+use Rattle.crash_laws.specs.BrokenExamples.{unfenced, without_body, late_with, page_late, without_page}
+use Rattle.crash_laws.specs.Clauses.{OrderClause}
+use Rattle.crash_laws.specs.Rules.{OrderRules}
+use Rattle.crash_laws.specs.Submitting.{Submitting}
+use Rattle.crash_laws.specs.Example.{program, history, logged, put}
 use Rattle.crash_laws.specs.Found.{found}
 use Rattle.crash_laws.specs.Recovery.{recovered_disk, HasVersion}
 use Rattle.crash_laws.specs.Session.{image_of}
+use Rattle.crash_laws.proofs.Example.{at_start, commit_listed, first_mark, page_unlogged, id_of, elsewhere}
+use Rattle.crash_laws.proofs.OrderSteps.{order_rules_step}
+use Rattle.crash_laws.proofs.RequestClauses.{page_request_clause, super_request_clause, part_request_clause, commit_request_clause}
+use Rattle.crash_laws.proofs.RingSteps.{log_listed}
 
 none≢id : (id : ℕ) → ◌≡◌ {A = Option (Option ℕ)} (Some None) (Some (Some id)) → ⊥
 none≢id id e = cc
@@ -161,3 +173,122 @@ late_found = refl
 -- no version of the page is there
 pub late_missing : HasVersion program history page_late without_page 1 5 0 2 → ⊥
 late_missing t = none≢id t.origin t.held
+
+-- ---- the order rules that the second session keeps
+
+abbrev late_submit : (n : ℕ) → length (late_with n).notes ≡ length (late_with n).requests → Request → Note → Submitting
+late_submit n counted request note = record { session = late_with n; counted = counted; request = request; note = note; transactions = logged; same = λ k i h. refl }
+
+abbrev late_super : Submitting
+late_super = late_submit 0 refl (put true true 0 4 (1 ∷ 1 ∷ [])) Super
+
+abbrev late_descriptor : Submitting
+late_descriptor = late_submit 1 refl (put true false 1 5 (2 ∷ 1 ∷ 1 ∷ [])) (Descriptor 1)
+
+abbrev late_body : Submitting
+late_body = late_submit 2 refl (put true true 2 6 (7 ∷ [])) (Body 1 1)
+
+abbrev late_commit : Submitting
+late_commit = late_submit 3 refl (put true true 3 7 (1 ∷ 1 ∷ [])) (Commit 1)
+
+abbrev late_page : Submitting
+late_page = late_submit 4 refl (put true true 4 2 (2 ∷ [])) (Page 5 0 2)
+
+super_clause : OrderClause program late_super
+super_clause = super_request_clause program late_super (record {
+  note = refl;
+  block = refl;
+  ordered = refl;
+  clause = record {
+    freed = 0;
+    fields = refl;
+    last = λ c. commit_listed (late_with 0).notes 1 c.0 c.1;
+    committed = λ pos. absurd (omega arith);
+    barrier = λ pos. refl;
+    homes = λ b x set. absurd (keep≢set x set);
+  };
+})
+
+descriptor_clause : OrderClause program late_descriptor
+descriptor_clause = part_request_clause program late_descriptor 1 (
+  record {
+    note = refl;
+    ordered = refl;
+    numbered = omega arith;
+    unfinished = λ c. commit_listed (late_with 1).notes 1 c.0 c.1;
+    behind = λ more. absurd (omega arith);
+    head = (omega arith, omega arith);
+    block = refl;
+    again = λ l i b block log put. absurd (log_listed (late_with 1) l i log);
+    header = (record { block = 1; escaped = false } ∷ [], refl);
+  },
+  λ l e. let f : ⊥ = cc in f,
+)
+
+body_clause : OrderClause program late_body
+body_clause = part_request_clause program late_body 1 (
+  record {
+    note = refl;
+    ordered = refl;
+    numbered = omega arith;
+    unfinished = λ c. commit_listed (late_with 2).notes 1 c.0 c.1;
+    behind = λ more. absurd (omega arith);
+    head = (omega arith, omega arith);
+    block = refl;
+    again = λ l i b block log put.
+        ⊎_elim
+        (λ e. let same = elsewhere (late_with 2) 1 1 i l b 5 6 e refl block put in absurd (omega arith))
+        (λ none. absurd none)
+        (log_listed (late_with 2) l i log);
+    header = refl;
+  },
+  λ l e. let f : ⊥ = cc in f,
+)
+
+commit_clause : OrderClause program late_commit
+commit_clause = commit_request_clause program late_commit 1 (record {
+  note = refl;
+  log = record {
+    note = refl;
+    ordered = refl;
+    numbered = omega arith;
+    unfinished = λ c. commit_listed (late_with 3).notes 1 c.0 c.1;
+    behind = λ more. absurd (omega arith);
+    head = (omega arith, omega arith);
+    block = refl;
+    again = λ l i b block log put.
+        ⊎_elim
+        (λ e. let same = elsewhere (late_with 3) 1 1 i l b 5 7 e refl block put in absurd (omega arith))
+        (λ more. ⊎_elim (λ e. let same = elsewhere (late_with 3) 2 1 i l b 6 7 e refl block put in absurd (omega arith)) (λ none. absurd none) more)
+        (log_listed (late_with 3) l i log);
+    header = refl;
+  };
+  barrier = refl;
+  closed = λ i log.
+      ⊎_elim
+      (λ e. let at = id_of 1 1 i 1 e in (2, omega arith, refl))
+      (λ more. ⊎_elim (λ e. let at = id_of 2 1 i 1 e in (2, omega arith, refl)) (λ none. absurd none) more)
+      (log_listed (late_with 3) 1 i log);
+  spells = λ txs. refl;
+  first = λ e. (0, record { note = refl; fields = refl });
+  tail = λ i freed e h. let lt : i < 3 = slice_get-length (late_with 3).notes i Super h.note in (2, omega arith, refl);
+  bodies = λ b x set. let m = (first_mark b x set).0 in omega arith;
+  revokes = λ b i reserved. i;
+  logged = λ b read. inl read;
+})
+
+page_clause : OrderClause program late_page
+page_clause = page_request_clause program late_page 5 0 2 (record {
+  note = refl;
+  zone = 2;
+  block = refl;
+  low = omega arith;
+  free = λ i. ⊎_elim (λ e. omega arith) (λ none. none) i;
+  unlogged = λ k x set c. absurd (page_unlogged k x set);
+})
+
+pub late_order : OrderRules program page_late
+late_order =
+    order_rules_step program late_page
+    (order_rules_step program late_commit (order_rules_step program late_body (order_rules_step program late_descriptor
+    (order_rules_step program late_super at_start super_clause) descriptor_clause) body_clause) commit_clause) page_clause

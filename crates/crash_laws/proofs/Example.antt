@@ -51,7 +51,7 @@ commit_numbers (n ∷ ns) = commit_numbers ns
 same_commit : (k l : ℕ) → Commit k ≡ Commit l → k ≡ l
 same_commit k l e = cc
 
-commit_listed : (ns : List Note) (k i : ℕ) → slice_get ns i ≡ Some (Commit k) → In k (commit_numbers ns)
+pub commit_listed : (ns : List Note) (k i : ℕ) → slice_get ns i ≡ Some (Commit k) → In k (commit_numbers ns)
 commit_listed [] k i e = absurd (none-some (Commit k) e)
 commit_listed (Commit l ∷ ns) k zero e = inl (same_commit l k (same_Some (Commit l) (Commit k) e))
 commit_listed (Commit l ∷ ns) k (suc i) e = inr (commit_listed ns k i e)
@@ -67,7 +67,7 @@ one_block : (here : Bool) (b : ℕ) (x y : List ℕ) → (1 == b) ≡ here → (
 one_block true b x y e m = let q = eqb-true 1 b e in (omega arith, cc)
 one_block false b x y e m = absurd (keep≢set x m)
 
-first_mark : (b : ℕ) (x : List ℕ) → mark_in (transactions_from logged 1 1) b ≡ Set x → (b ≡ 1) × ((7 ∷ []) ≡ x)
+pub first_mark : (b : ℕ) (x : List ℕ) → mark_in (transactions_from logged 1 1) b ≡ Set x → (b ≡ 1) × ((7 ∷ []) ≡ x)
 first_mark b x m = one_block (1 == b) b x (7 ∷ []) refl m
 
 second_mark : (b : ℕ) (x : List ℕ) → mark_in (transactions_from logged 1 2) b ≡ Set x → b ≡ 1
@@ -88,13 +88,13 @@ no_first n none c = subst (In 1) none (commit_listed (with_first n).notes 1 c.0 
 no_second : (n : ℕ) → commit_numbers (with_first n).notes ≡ 1 ∷ [] → IsCommitted (with_first n) 2 → ⊥
 no_second n one c = ⊎_elim (λ e. omega arith) (λ none. none) (subst (In 2) one (commit_listed (with_first n).notes 2 c.0 c.1))
 
-id_of : (j k i l : ℕ) → ◌≡◌ {A = LogBlock} (record { id = j; transaction = k }) (record { id = i; transaction = l }) → j ≡ i
+pub id_of : (j k i l : ℕ) → ◌≡◌ {A = LogBlock} (record { id = j; transaction = k }) (record { id = i; transaction = l }) → j ≡ i
 id_of j k i l same = ap (λ (e : LogBlock). e.id) same
 
 number_of : (j k i l : ℕ) → ◌≡◌ {A = LogBlock} (record { id = j; transaction = k }) (record { id = i; transaction = l }) → k ≡ l
 number_of j k i l same = ap (λ (e : LogBlock). e.transaction) same
 
-elsewhere : (s : Session) (j k i l b c d : ℕ) → ◌≡◌ {A = LogBlock} (record { id = j; transaction = k }) (record { id = i; transaction = l }) → IsPutOf s.requests j c → Some d ≡ Some b → IsPutOf s.requests i b → c ≡ d
+pub elsewhere : (s : Session) (j k i l b c d : ℕ) → ◌≡◌ {A = LogBlock} (record { id = j; transaction = k }) (record { id = i; transaction = l }) → IsPutOf s.requests j c → Some d ≡ Some b → IsPutOf s.requests i b → c ≡ d
 elsewhere s j k i l b c d same there block put =
     same_block s.requests i c b (subst (λ x. IsPutOf s.requests x c) (id_of j k i l same) there) put ∙ sym (same_Some d b block)
 

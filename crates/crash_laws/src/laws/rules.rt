@@ -129,7 +129,8 @@ pub fn weaker_rules_lose_a_sentence()
     ensures body { IsOrderClosed unfenced.base unfenced.requests without_body.image without_body.origins
         × (found unfenced without_body ≡ 1)
         × (recovered_disk unfenced without_body 1 ≢ image_of unfenced 1 1) }
-    ensures page { IsOrderClosed page_late.base page_late.requests without_page.image without_page.origins
+    ensures page { OrderRules program page_late
+        × IsOrderClosed page_late.base page_late.requests without_page.image without_page.origins
         × (found page_late without_page ≡ 1)
         × (HasVersion program history page_late without_page 1 5 0 2 → ⊥) }
 {}
