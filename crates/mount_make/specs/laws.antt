@@ -1,1 +1,2 @@
+-- Laws of images.
 pub mod ImageLaws

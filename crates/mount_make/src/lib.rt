@@ -1,7 +1,8 @@
 //! Mounting: from an image on a device to the volume that it has.
 //!
 //! `mount` tests the superblock, that the image is whole, and that no journal stands behind the volume (one is
-//! refused so far), and then reads the volume. `specs/Images.antt` has the tests in their order.
+//! refused so far), and then reads the volume. `specs/Images.antt` has the tests in their order, and
+//! `specs/ImageTrees.antt` says in no order what the tree of an image is, and which of its blocks are metadata.
 //!
 //! Stands on `volume_ops`, whose walk finds the faults behind the superblock, and `minix_layout`.
 #![tactic(auto)]

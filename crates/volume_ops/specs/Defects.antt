@@ -7,7 +7,7 @@ use Rattle.minix_layout.specs.declared.fault.LayoutFault.TheVariants.{BadInode, 
 use Rattle.volume_ops.specs.Places.{table_block}
 use Rattle.volume_ops.specs.Fields.{inode_at, slot_behind}
 use Rattle.volume_ops.specs.ZonePlaces.{ZonePlace}
-use Rattle.volume_ops.specs.Faultless.{IsDirectory, HasZones, zone_at_place, slots_of, Names, IsReached}
+use Rattle.volume_ops.specs.Faultless.{IsDirectory, HasZones, zone_at_place, slots_of, NamesAt, IsReached}
 use Rattle.volume_ops.specs.FirstFault.{holder_of, slot_zone, IsBadInode}
 
 -- A defect of what names lead to, and its block: the inode's block of the table, the block that holds the number
@@ -21,12 +21,12 @@ pub data IsDefect (g : Geometry) (blocks : List (List ℕ)) : LayoutFault → �
       IsDefect g blocks BadZone (holder_of g blocks inode x)
   slot_without_name : {inode : ℕ} (place : ℕ) → IsReached g blocks inode → IsDirectory g blocks inode → place < slots_of g blocks inode →
       slot_behind blocks (inode_at g blocks inode) place ≡ Err BadSlot → IsDefect g blocks BadSlot (slot_zone g blocks inode place)
-  slot_without_inode : {inode : ℕ} (place : ℕ) (slot : Slot) → IsReached g blocks inode → Names g blocks inode place slot → g.inodes < slot.inode →
+  slot_without_inode : {inode : ℕ} (place : ℕ) (slot : Slot) → IsReached g blocks inode → NamesAt g blocks inode place slot → g.inodes < slot.inode →
       IsDefect g blocks BadSlot (slot_zone g blocks inode place)
-  name_twice : {inode : ℕ} (place other : ℕ) (slot more : Slot) → IsReached g blocks inode → Names g blocks inode place slot → Names g blocks inode other more →
+  name_twice : {inode : ℕ} (place other : ℕ) (slot more : Slot) → IsReached g blocks inode → NamesAt g blocks inode place slot → NamesAt g blocks inode other more →
       slot.name ≡ more.name → place ≢ other → IsDefect g blocks BadSlot (slot_zone g blocks inode place)
-  root_named : {inode : ℕ} (place : ℕ) (slot : Slot) → IsReached g blocks inode → Names g blocks inode place slot → slot.inode ≡ 1 →
+  root_named : {inode : ℕ} (place : ℕ) (slot : Slot) → IsReached g blocks inode → NamesAt g blocks inode place slot → slot.inode ≡ 1 →
       IsDefect g blocks BadSlot (slot_zone g blocks inode place)
-  directory_twice : {inode other : ℕ} (place at : ℕ) (slot more : Slot) → IsReached g blocks inode → IsReached g blocks other → Names g blocks inode place slot →
-      Names g blocks other at more → slot.inode ≡ more.inode → IsDirectory g blocks slot.inode → (inode ≡ other → place ≡ at → ⊥) →
+  directory_twice : {inode other : ℕ} (place at : ℕ) (slot more : Slot) → IsReached g blocks inode → IsReached g blocks other → NamesAt g blocks inode place slot →
+      NamesAt g blocks other at more → slot.inode ≡ more.inode → IsDirectory g blocks slot.inode → (inode ≡ other → place ≡ at → ⊥) →
       IsDefect g blocks BadSlot (slot_zone g blocks inode place)

@@ -35,14 +35,14 @@ pub record IsEntryAt (blocks : List (List ℕ)) (i : Inode) (place : ℕ) (slot 
   pub no_dot : is_dot slot.name ≡ false
 
 -- so in a directory, which names the slot's inode by it
-pub record Names (g : Geometry) (blocks : List (List ℕ)) (inode place : ℕ) (slot : Slot) : Type 0 where
+pub record NamesAt (g : Geometry) (blocks : List (List ℕ)) (inode place : ℕ) (slot : Slot) : Type 0 where
   pub directory : IsDirectory g blocks inode
   pub entry : IsEntryAt blocks (inode_at g blocks inode) place slot
 
 -- the inodes that names lead to from the root
 pub data IsReached (g : Geometry) (blocks : List (List ℕ)) : ℕ → Type 0 where
   at_root : IsReached g blocks 1
-  by_name : {inode place : ℕ} {slot : Slot} → IsReached g blocks inode → Names g blocks inode place slot → IsReached g blocks slot.inode
+  by_name : {inode place : ℕ} {slot : Slot} → IsReached g blocks inode → NamesAt g blocks inode place slot → IsReached g blocks slot.inode
 
 -- an inode that names lead to has this zone
 pub record IsUsed (g : Geometry) (blocks : List (List ℕ)) (zone : ℕ) : Type 0 where
@@ -72,12 +72,12 @@ pub record AreFaultless (g : Geometry) (blocks : List (List ℕ)) (P : ℕ → T
       zone_at_place g blocks inode x ≢ 0 → zone_at_place g blocks inode x ≡ zone_at_place g blocks other y → (inode ≡ other) × (x ≡ y)
   pub slot_read : (inode place : ℕ) → P inode → IsDirectory g blocks inode → place < slots_of g blocks inode →
       (slot : Option Slot) × (slot_behind blocks (inode_at g blocks inode) place ≡ Ok slot)
-  pub inode_within : (inode place : ℕ) (slot : Slot) → P inode → Names g blocks inode place slot → slot.inode ≤ g.inodes
-  pub name_once : (inode place other : ℕ) (slot more : Slot) → P inode → Names g blocks inode place slot → Names g blocks inode other more →
+  pub inode_within : (inode place : ℕ) (slot : Slot) → P inode → NamesAt g blocks inode place slot → slot.inode ≤ g.inodes
+  pub name_once : (inode place other : ℕ) (slot more : Slot) → P inode → NamesAt g blocks inode place slot → NamesAt g blocks inode other more →
       slot.name ≡ more.name → place ≡ other
-  pub directory_once : (inode other place at : ℕ) (slot more : Slot) → P inode → P other → Names g blocks inode place slot → Names g blocks other at more →
+  pub directory_once : (inode other place at : ℕ) (slot more : Slot) → P inode → P other → NamesAt g blocks inode place slot → NamesAt g blocks other at more →
       slot.inode ≡ more.inode → IsDirectory g blocks slot.inode → (inode ≡ other) × (place ≡ at)
-  pub root_unnamed : (inode place : ℕ) (slot : Slot) → P inode → Names g blocks inode place slot → slot.inode ≢ 1
+  pub root_unnamed : (inode place : ℕ) (slot : Slot) → P inode → NamesAt g blocks inode place slot → slot.inode ≢ 1
 
 -- A volume without a fault: what names lead to from the root has none.
 abbrev pub IsFaultless : Geometry → List (List ℕ) → Type 0

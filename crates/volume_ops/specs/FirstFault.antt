@@ -11,7 +11,7 @@ use Rattle.tree_model.specs.Maps.{at_name, name_cmp}
 use Rattle.volume_ops.specs.Places.{table_block, inode_of_birth}
 use Rattle.volume_ops.specs.Fields.{inode_at, zone_behind, slot_behind, HasName}
 use Rattle.volume_ops.specs.ZonePlaces.{ZonePlace, holder_in, rank}
-use Rattle.volume_ops.specs.Faultless.{IsDirectory, HasZones, zone_at_place, slots_of, Names, greatest_size, AreFaultless}
+use Rattle.volume_ops.specs.Faultless.{IsDirectory, HasZones, zone_at_place, slots_of, NamesAt, greatest_size, AreFaultless}
 
 -- the block that holds the number of a zone of an inode
 abbrev pub holder_of : Geometry → List (List ℕ) → ℕ → ZonePlace → ℕ
@@ -39,14 +39,14 @@ pub data IsBadZone (g : Geometry) (blocks : List (List ℕ)) (met : ℕ → Type
 -- with a slot of a directory
 pub data IsBadSlot (g : Geometry) (blocks : List (List ℕ)) (met : ℕ → Type 0) (inode place : ℕ) : Type 0 where
   no_name : slot_behind blocks (inode_at g blocks inode) place ≡ Err BadSlot → IsBadSlot g blocks met inode place
-  no_inode : (slot : Slot) → Names g blocks inode place slot → g.inodes < slot.inode → IsBadSlot g blocks met inode place
-  name_before : (slot more : Slot) (other : ℕ) → Names g blocks inode place slot → other < place → Names g blocks inode other more →
+  no_inode : (slot : Slot) → NamesAt g blocks inode place slot → g.inodes < slot.inode → IsBadSlot g blocks met inode place
+  name_before : (slot more : Slot) (other : ℕ) → NamesAt g blocks inode place slot → other < place → NamesAt g blocks inode other more →
       more.name ≡ slot.name → IsBadSlot g blocks met inode place
-  names_root : (slot : Slot) → Names g blocks inode place slot → slot.inode ≡ 1 → IsDirectory g blocks slot.inode → IsBadSlot g blocks met inode place
-  named_by : (slot more : Slot) (other at : ℕ) → Names g blocks inode place slot → IsDirectory g blocks slot.inode → met other →
-      Names g blocks other at more → more.inode ≡ slot.inode → IsBadSlot g blocks met inode place
-  named_here : (slot more : Slot) (at : ℕ) → Names g blocks inode place slot → IsDirectory g blocks slot.inode → at < place →
-      Names g blocks inode at more → more.inode ≡ slot.inode → IsBadSlot g blocks met inode place
+  names_root : (slot : Slot) → NamesAt g blocks inode place slot → slot.inode ≡ 1 → IsDirectory g blocks slot.inode → IsBadSlot g blocks met inode place
+  named_by : (slot more : Slot) (other at : ℕ) → NamesAt g blocks inode place slot → IsDirectory g blocks slot.inode → met other →
+      NamesAt g blocks other at more → more.inode ≡ slot.inode → IsBadSlot g blocks met inode place
+  named_here : (slot more : Slot) (at : ℕ) → NamesAt g blocks inode place slot → IsDirectory g blocks slot.inode → at < place →
+      NamesAt g blocks inode at more → more.inode ≡ slot.inode → IsBadSlot g blocks met inode place
 
 -- ---- the order of the inodes
 

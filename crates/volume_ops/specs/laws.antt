@@ -1,3 +1,4 @@
+-- Laws of volumes: what the walk tests, and what it says of a volume.
 pub mod ZoneTests
 pub mod SlotTests
 pub mod SoFar

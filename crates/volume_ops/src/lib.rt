@@ -2,8 +2,13 @@
 //!
 //! `specs/Walk.antt` has the walk, as a program that asks for blocks (`specs/Reads.antt`): from the root it
 //! tests each inode, its zones (`specs/Zones.antt`) and a directory's slots (`specs/Slots.antt`), and ends with
-//! the nodes that it found or with the first fault and its block. `specs/Volume.antt` has the tree of a volume,
-//! and its metadata, the blocks that the walk reads.
+//! the nodes and zones that it found or with the first fault and its block. `specs/Volume.antt` has the tree of a
+//! volume, and the blocks that the walk reads.
+//!
+//! `specs/Faultless.antt` says what a volume without a fault is, by its fields and in no order, and
+//! `specs/VolumeTrees.antt` what its tree is; `specs/Defects.antt` has what can be wrong, `specs/FirstFault.antt` which
+//! fault is the first, and `specs/Metadata.antt` the metadata by their fields and the zones of the blocks of files.
+//! The laws say that the walk gives just these.
 //!
 //! Stands on `minix_layout` and `inode_ops` for the format, `tree_model` for trees, and the trait of devices of
 //! `order_model`, which it reads from.

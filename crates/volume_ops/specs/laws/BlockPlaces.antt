@@ -23,7 +23,7 @@ use Rattle.volume_ops.specs.Volume.{disk_of, metadata}
 use Rattle.volume_ops.specs.Fields.{inode_at, zone_behind, slot_behind}
 use Rattle.volume_ops.specs.SlotsLaws.{inode_of_birth_of}
 use Rattle.volume_ops.specs.ZonePlaces.{ZonePlace, block, indirect, double, inner, entry_of}
-use Rattle.volume_ops.specs.Faultless.{IsDirectory, IsFile, HasZones, zone_at_place, Names, IsReached, at_root as reached_root, by_name as reached_by, IsFaultless}
+use Rattle.volume_ops.specs.Faultless.{IsDirectory, IsFile, HasZones, zone_at_place, NamesAt, IsReached, at_root as reached_root, by_name as reached_by, IsFaultless}
 use Rattle.volume_ops.specs.Metadata.{HoldsNumbers, IsMetadata, of_volume, of_numbers, of_directory, AgreeOnMetadata, zone_of_block}
 use Rattle.volume_ops.specs.VolumeTrees.{IsVolumeTree}
 use Rattle.volume_ops.specs.laws.VisitTests.{slot_used}
@@ -37,7 +37,7 @@ birth_back inode = grind arith
 module _ (g : Geometry) (blocks : List (List ℕ)) (tree : List (ℕ × Node)) (h : IsVolumeTree g blocks tree) where
   -- a name of the tree is a slot of the volume
   named_by : (parent birth : ℕ) (name : List ℕ) → Gives tree parent name birth →
-      (place : ℕ) × (slot : Slot) × Names g blocks (inode_of_birth parent) place slot × (birth_of slot.inode ≡ birth)
+      (place : ℕ) × (slot : Slot) × NamesAt g blocks (inode_of_birth parent) place slot × (birth_of slot.inode ≡ birth)
   named_by parent birth name gives =
       let says = h.fields.each parent (nodes.Directory gives.directory) gives.stands in
       let x = (says.names name birth).0 gives.named in (
@@ -240,7 +240,7 @@ module _ (g : Geometry) (blocks other : List (List ℕ)) (some_inode : 0 < g.ino
             ap (λ z. if z == 0 then Ok None else slot_of (record_at 16 (place % 64) (disk_of other z))) zones
             ∙ ap (λ body. if zone_behind blocks (inode_at g blocks k) (place / 64) == 0 then Ok None else slot_of (record_at 16 (place % 64) body)) body)
 
-    names_there : (k place : ℕ) (slot : Slot) → IsReached g blocks k → Names g blocks k place slot → Names g other k place slot
+    names_there : (k place : ℕ) (slot : Slot) → IsReached g blocks k → NamesAt g blocks k place slot → NamesAt g other k place slot
     names_there k place slot r m =
         let i = same_inode k r in
         record {
@@ -252,7 +252,7 @@ module _ (g : Geometry) (blocks other : List (List ℕ)) (some_inode : 0 < g.ino
           };
         }
 
-    names_back : (k place : ℕ) (slot : Slot) → IsReached g blocks k → Names g other k place slot → Names g blocks k place slot
+    names_back : (k place : ℕ) (slot : Slot) → IsReached g blocks k → NamesAt g other k place slot → NamesAt g blocks k place slot
     names_back k place slot r m =
         let i = same_inode k r in
         let d : IsDirectory g blocks k = subst (λ (i : Inode). is_directory i.mode ≡ true) i m.directory in

@@ -25,7 +25,7 @@ use Rattle.volume_ops.specs.Volume.{walked}
 use Rattle.volume_ops.specs.Walk.{Walked}
 use Rattle.volume_ops.specs.Zones.{Fault}
 use Rattle.volume_ops.specs.ZonePlaces.{ZonePlace, rank}
-use Rattle.volume_ops.specs.Faultless.{IsDirectory, HasZones, zone_at_place, slots_of, Names, IsReached, at_root, by_name, AreFaultless, IsFaultless}
+use Rattle.volume_ops.specs.Faultless.{IsDirectory, HasZones, zone_at_place, slots_of, NamesAt, IsReached, at_root, by_name, AreFaultless, IsFaultless}
 use Rattle.volume_ops.specs.FirstFault.{holder_of, slot_zone, IsBadInode, root_is_none, size_too_great, part_of_a_slot, IsBadZone, too_low, too_high, had_by, had_here, IsBadSlot, no_name, no_inode, name_before, names_root, named_by, named_here, AreNamed, by_directory, by_none, AreMet, at_start, again, next, IsFirstHere, of_inode, of_zone, of_slot, IsFirstFault}
 use Rattle.volume_ops.specs.laws.ZoneTests.{same_rank}
 use Rattle.volume_ops.specs.laws.VisitTests.{slot_used}
@@ -63,7 +63,7 @@ module _ (g : Geometry) (blocks : List (List ℕ)) where
   named_reached k xs (by_directory names d s h) r n i =
       let x = In-map (λ (e : List ℕ × ℕ). inode_of_birth e.1) names n i in
       let y = (h x.0.0 x.0.1).0 (in_found names x.0 s x.1) in
-      let m : Names g blocks k y.place y.slot =
+      let m : NamesAt g blocks k y.place y.slot =
       record { directory = d; entry = record { below = y.below; stands = y.stands; no_dot = subst (λ name. is_dot name ≡ false) (sym y.name_is) y.no_dot } } in
       let same : y.slot.inode ≡ n = sym (inode_of_birth_of y.slot.inode (slot_used blocks (inode_at g blocks k) y.place y.slot m.entry)) ∙ (ap inode_of_birth y.birth_is ∙ x.2) in
       subst (λ n. IsReached g blocks n) same (by_name r m)

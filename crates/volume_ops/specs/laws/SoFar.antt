@@ -12,7 +12,7 @@ use Rattle.volume_ops.specs.MarksLaws.{is_marked_same, is_marked_kept, is_marked
 use Rattle.volume_ops.specs.Fields.{inode_at, slot_behind}
 use Rattle.volume_ops.specs.Walk.{WalkState}
 use Rattle.volume_ops.specs.ZonePlaces.{ZonePlace}
-use Rattle.volume_ops.specs.Faultless.{IsDirectory, HasZones, zone_at_place, slots_of, Names, IsReached, by_name, greatest_size, AreFaultless}
+use Rattle.volume_ops.specs.Faultless.{IsDirectory, HasZones, zone_at_place, slots_of, NamesAt, IsReached, by_name, greatest_size, AreFaultless}
 use Rattle.volume_ops.specs.FirstFault.{IsBadInode, root_is_none, size_too_great, part_of_a_slot, AreNamed, AreMet, next}
 
 -- the walk so far: the inodes `met` have no fault, what is marked is what they have and name, and `ahead` is to be met
@@ -28,11 +28,11 @@ pub record IsSoFar (g : Geometry) (blocks : List (List ℕ)) (met ahead : List �
   pub ahead_within : (k : ℕ) → In k ahead → k ≤ g.inodes
   pub zones_marked : (inode : ℕ) (x : ZonePlace) → In inode met → HasZones g blocks inode → zone_at_place g blocks inode x ≢ 0 → is_marked w.zones (zone_at_place g blocks inode x) ≡ true
   pub zones_by : (z : ℕ) → is_marked w.zones z ≡ true → (inode : ℕ) × (x : ZonePlace) × In inode met × HasZones g blocks inode × (zone_at_place g blocks inode x ≢ 0) × (zone_at_place g blocks inode x ≡ z)
-  pub named_marked : (inode place : ℕ) (slot : Slot) → In inode met → Names g blocks inode place slot → IsDirectory g blocks slot.inode → is_marked w.named slot.inode ≡ true
-  pub named_by : (k : ℕ) → is_marked w.named k ≡ true → (k ≡ 1) ⊎ ((inode : ℕ) × (place : ℕ) × (slot : Slot) × In inode met × Names g blocks inode place slot × (slot.inode ≡ k))
+  pub named_marked : (inode place : ℕ) (slot : Slot) → In inode met → NamesAt g blocks inode place slot → IsDirectory g blocks slot.inode → is_marked w.named slot.inode ≡ true
+  pub named_by : (k : ℕ) → is_marked w.named k ≡ true → (k ≡ 1) ⊎ ((inode : ℕ) × (place : ℕ) × (slot : Slot) × In inode met × NamesAt g blocks inode place slot × (slot.inode ≡ k))
   pub root_named : is_marked w.named 1 ≡ true
   pub root_is : ((k : ℕ) → In k ahead → k ≡ 1) ⊎ IsDirectory g blocks 1
-  pub leads : (inode place : ℕ) (slot : Slot) → In inode met → Names g blocks inode place slot → In slot.inode met ⊎ In slot.inode ahead
+  pub leads : (inode place : ℕ) (slot : Slot) → In inode met → NamesAt g blocks inode place slot → In slot.inode met ⊎ In slot.inode ahead
   pub zones_size : length w.zones ≡ g.zones
   pub inodes_size : length w.inodes ≡ g.inodes + 1
   pub named_size : length w.named ≡ g.inodes + 1
@@ -52,16 +52,16 @@ pub record AddsNames (g : Geometry) (blocks : List (List ℕ)) (inode : ℕ) (ol
   pub size : length new ≡ g.inodes + 1
   pub kept : (k : ℕ) → is_marked old k ≡ true → is_marked new k ≡ true
   pub read : (place : ℕ) → IsDirectory g blocks inode → place < slots_of g blocks inode → (slot : Option Slot) × (slot_behind blocks (inode_at g blocks inode) place ≡ Ok slot)
-  pub within : (place : ℕ) (slot : Slot) → Names g blocks inode place slot → slot.inode ≤ g.inodes
-  pub some : (place : ℕ) (slot : Slot) → Names g blocks inode place slot → 0 < slot.inode
-  pub once : (place other : ℕ) (slot more : Slot) → Names g blocks inode place slot → Names g blocks inode other more → slot.name ≡ more.name → place ≡ other
-  pub fresh : (place : ℕ) (slot : Slot) → Names g blocks inode place slot → IsDirectory g blocks slot.inode → is_marked old slot.inode ≡ false
-  pub marks : (place : ℕ) (slot : Slot) → Names g blocks inode place slot → IsDirectory g blocks slot.inode → is_marked new slot.inode ≡ true
-  pub alone : (place other : ℕ) (slot more : Slot) → Names g blocks inode place slot → Names g blocks inode other more → slot.inode ≡ more.inode → IsDirectory g blocks slot.inode → place ≡ other
-  pub by_mark : (k : ℕ) → is_marked new k ≡ true → (is_marked old k ≡ true) ⊎ ((place : ℕ) × (slot : Slot) × Names g blocks inode place slot × (slot.inode ≡ k))
+  pub within : (place : ℕ) (slot : Slot) → NamesAt g blocks inode place slot → slot.inode ≤ g.inodes
+  pub some : (place : ℕ) (slot : Slot) → NamesAt g blocks inode place slot → 0 < slot.inode
+  pub once : (place other : ℕ) (slot more : Slot) → NamesAt g blocks inode place slot → NamesAt g blocks inode other more → slot.name ≡ more.name → place ≡ other
+  pub fresh : (place : ℕ) (slot : Slot) → NamesAt g blocks inode place slot → IsDirectory g blocks slot.inode → is_marked old slot.inode ≡ false
+  pub marks : (place : ℕ) (slot : Slot) → NamesAt g blocks inode place slot → IsDirectory g blocks slot.inode → is_marked new slot.inode ≡ true
+  pub alone : (place other : ℕ) (slot more : Slot) → NamesAt g blocks inode place slot → NamesAt g blocks inode other more → slot.inode ≡ more.inode → IsDirectory g blocks slot.inode → place ≡ other
+  pub by_mark : (k : ℕ) → is_marked new k ≡ true → (is_marked old k ≡ true) ⊎ ((place : ℕ) × (slot : Slot) × NamesAt g blocks inode place slot × (slot.inode ≡ k))
   pub order : AreNamed g blocks inode named
-  pub to : (place : ℕ) (slot : Slot) → Names g blocks inode place slot → In slot.inode named
-  pub from : (k : ℕ) → In k named → (place : ℕ) × (slot : Slot) × Names g blocks inode place slot × (slot.inode ≡ k)
+  pub to : (place : ℕ) (slot : Slot) → NamesAt g blocks inode place slot → In slot.inode named
+  pub from : (k : ℕ) → In k named → (place : ℕ) × (slot : Slot) × NamesAt g blocks inode place slot × (slot.inode ≡ k)
 
 -- ---- one inode more
 
@@ -96,7 +96,7 @@ module _ (g : Geometry) (blocks : List (List ℕ)) (met ahead : List ℕ) (w : W
       let there : zone_at_place g blocks n x ≢ 0 = λ none. some (e ∙ none) in
       true≢false (sym (h.zones_marked other y i z some) ∙ subst (λ k. is_marked w.zones k ≡ false) (sym e) (zs.fresh x here there))
 
-  name_apart : (other place at : ℕ) (slot more : Slot) → In other met → Names g blocks other at more → Names g blocks n place slot → more.inode ≡ slot.inode →
+  name_apart : (other place at : ℕ) (slot more : Slot) → In other met → NamesAt g blocks other at more → NamesAt g blocks n place slot → more.inode ≡ slot.inode →
       IsDirectory g blocks slot.inode → ⊥
   name_apart other place at slot more i m s e d =
       true≢false (sym (h.named_marked other at more i m (subst (λ k. IsDirectory g blocks k) (sym e) d))
@@ -112,11 +112,11 @@ module _ (g : Geometry) (blocks : List (List ℕ)) (met ahead : List ℕ) (w : W
     zone_once = λ k other x y i j. zone_once_more x y k i other j;
     slot_read = λ k place i. each (λ k. IsDirectory g blocks k → place < slots_of g blocks k → (slot : Option Slot) × (slot_behind blocks (inode_at g blocks k) place ≡ Ok slot))
         (λ k i. h.faultless.slot_read k place i) (ns.read place) k i;
-    inode_within = λ k place slot i. each (λ k. Names g blocks k place slot → slot.inode ≤ g.inodes) (λ k i. h.faultless.inode_within k place slot i) (ns.within place slot) k i;
-    name_once = λ k place other slot more i. each (λ k. Names g blocks k place slot → Names g blocks k other more → slot.name ≡ more.name → place ≡ other)
+    inode_within = λ k place slot i. each (λ k. NamesAt g blocks k place slot → slot.inode ≤ g.inodes) (λ k i. h.faultless.inode_within k place slot i) (ns.within place slot) k i;
+    name_once = λ k place other slot more i. each (λ k. NamesAt g blocks k place slot → NamesAt g blocks k other more → slot.name ≡ more.name → place ≡ other)
         (λ k i. h.faultless.name_once k place other slot more i) (ns.once place other slot more) k i;
     directory_once = λ k other place at slot more i j. directory_once_more place at slot more k i other j;
-    root_unnamed = λ k place slot i. each (λ k. Names g blocks k place slot → slot.inode ≢ 1) (λ k i. h.faultless.root_unnamed k place slot i)
+    root_unnamed = λ k place slot i. each (λ k. NamesAt g blocks k place slot → slot.inode ≢ 1) (λ k i. h.faultless.root_unnamed k place slot i)
         (λ m one. true≢false (sym h.root_named ∙ subst (λ k. is_marked w.named k ≡ false) one (ns.fresh place slot m (subst (λ k. IsDirectory g blocks k) (sym one) root_kind)))) k i;
   }
     where
@@ -132,20 +132,20 @@ module _ (g : Geometry) (blocks : List (List ℕ)) (met ahead : List ℕ) (w : W
           (λ other j a b some e. absurd (zone_apart other x y j b a (λ none. some (e ∙ none)) (sym e)))
           (λ a b some e. (refl, zs.once x y a some e)))
 
-      directory_once_more : (place at : ℕ) (slot more : Slot) (k : ℕ) → In k (met ++ n ∷ []) → (other : ℕ) → In other (met ++ n ∷ []) → Names g blocks k place slot → Names g blocks other at more →
+      directory_once_more : (place at : ℕ) (slot more : Slot) (k : ℕ) → In k (met ++ n ∷ []) → (other : ℕ) → In other (met ++ n ∷ []) → NamesAt g blocks k place slot → NamesAt g blocks other at more →
           slot.inode ≡ more.inode → IsDirectory g blocks slot.inode → (k ≡ other) × (place ≡ at)
       directory_once_more place at slot more =
-          each (λ k. (other : ℕ) → In other (met ++ n ∷ []) → Names g blocks k place slot → Names g blocks other at more → slot.inode ≡ more.inode → IsDirectory g blocks slot.inode → (k ≡ other) × (place ≡ at))
-          (λ k i. each (λ other. Names g blocks k place slot → Names g blocks other at more → slot.inode ≡ more.inode → IsDirectory g blocks slot.inode → (k ≡ other) × (place ≡ at))
+          each (λ k. (other : ℕ) → In other (met ++ n ∷ []) → NamesAt g blocks k place slot → NamesAt g blocks other at more → slot.inode ≡ more.inode → IsDirectory g blocks slot.inode → (k ≡ other) × (place ≡ at))
+          (λ k i. each (λ other. NamesAt g blocks k place slot → NamesAt g blocks other at more → slot.inode ≡ more.inode → IsDirectory g blocks slot.inode → (k ≡ other) × (place ≡ at))
           (λ other j. h.faultless.directory_once k other place at slot more i j)
           (λ a b e d. absurd (name_apart k at place more slot i a b e (subst (λ k. IsDirectory g blocks k) e d))))
-          (each (λ other. Names g blocks n place slot → Names g blocks other at more → slot.inode ≡ more.inode → IsDirectory g blocks slot.inode → (n ≡ other) × (place ≡ at))
+          (each (λ other. NamesAt g blocks n place slot → NamesAt g blocks other at more → slot.inode ≡ more.inode → IsDirectory g blocks slot.inode → (n ≡ other) × (place ≡ at))
           (λ other j a b e d. absurd (name_apart other place at slot more j b a (sym e) d))
           (λ a b e d. (refl, ns.alone place at slot more a b e d)))
 
-  leads_more : (k place : ℕ) (slot : Slot) → In k (met ++ n ∷ []) → Names g blocks k place slot → In slot.inode (met ++ n ∷ []) ⊎ In slot.inode (names ++ ahead)
+  leads_more : (k place : ℕ) (slot : Slot) → In k (met ++ n ∷ []) → NamesAt g blocks k place slot → In slot.inode (met ++ n ∷ []) ⊎ In slot.inode (names ++ ahead)
   leads_more k place slot i =
-      each (λ k. Names g blocks k place slot → In slot.inode (met ++ n ∷ []) ⊎ In slot.inode (names ++ ahead))
+      each (λ k. NamesAt g blocks k place slot → In slot.inode (met ++ n ∷ []) ⊎ In slot.inode (names ++ ahead))
       (λ k i m.
       ⊎_elim
       (λ old. inl (In-push_left met n slot.inode old))
@@ -154,7 +154,7 @@ module _ (g : Geometry) (blocks : List (List ℕ)) (met ahead : List ℕ) (w : W
       (λ m. inr (In-append_left names ahead slot.inode (ns.to place slot m))) k i
 
   -- what is ahead: what the inode names, and what was
-  ahead_cases : (P : ℕ → Type 0) → ((place : ℕ) (slot : Slot) → Names g blocks n place slot → P slot.inode) → ((k : ℕ) → In k ahead → P k) → (k : ℕ) → In k (names ++ ahead) → P k
+  ahead_cases : (P : ℕ → Type 0) → ((place : ℕ) (slot : Slot) → NamesAt g blocks n place slot → P slot.inode) → ((k : ℕ) → In k ahead → P k) → (k : ℕ) → In k (names ++ ahead) → P k
   ahead_cases P here old k i = ⊎_elim (λ j. let x = ns.from k j in subst P x.3 (here x.0 x.1 x.2)) (old k) (In-append_cases names ahead k i)
 
   inside : n ≤ g.inodes
@@ -183,7 +183,7 @@ module _ (g : Geometry) (blocks : List (List ℕ)) (met ahead : List ℕ) (w : W
         (λ old. let x = h.zones_by z old in (x.0, x.1, In-push_left met n x.0 x.2, x.3, x.4, x.5))
         (λ x. (n, x.0, In-push met n, x.1, x.2, x.3))
         (zs.from z t);
-    named_marked = λ k place slot i. each (λ k. Names g blocks k place slot → IsDirectory g blocks slot.inode → is_marked named slot.inode ≡ true)
+    named_marked = λ k place slot i. each (λ k. NamesAt g blocks k place slot → IsDirectory g blocks slot.inode → is_marked named slot.inode ≡ true)
         (λ k i m d. ns.kept slot.inode (h.named_marked k place slot i m d)) (ns.marks place slot) k i;
     named_by = λ k t.
         ⊎_elim

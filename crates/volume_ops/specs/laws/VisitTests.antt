@@ -31,7 +31,7 @@ use Rattle.volume_ops.specs.Rising.{IsRising}
 use Rattle.volume_ops.specs.RisingLaws.{scan_rises}
 use Rattle.volume_ops.specs.Walk.{WalkState, Pending, Visit, pending_in, met_node, is_bad_inode, largest_size, visit_file, visit_directory, visit_other, visit}
 use Rattle.volume_ops.specs.ZonePlaces.{ZonePlace, rank}
-use Rattle.volume_ops.specs.Faultless.{IsDirectory, IsFile, HasZones, zone_at_place, slots_of, IsEntryAt, Names}
+use Rattle.volume_ops.specs.Faultless.{IsDirectory, IsFile, HasZones, zone_at_place, slots_of, IsEntryAt, NamesAt}
 use Rattle.volume_ops.specs.FirstFault.{holder_of, slot_zone, IsBadInode, root_is_none, size_too_great, part_of_a_slot, IsBadZone, too_low, too_high, had_by, had_here, IsBadSlot, no_name, no_inode, name_before, names_root, named_by, named_here, by_directory, by_none, IsFirstHere, of_inode, of_zone, of_slot}
 use Rattle.volume_ops.specs.laws.ZoneTests as zone_tests
 use Rattle.volume_ops.specs.laws.ZoneTests.{AreTaken, zones_scan, all_ranked}
@@ -214,7 +214,7 @@ module _ (g : Geometry) (blocks : List (List ℕ)) (met ahead : List ℕ) (w : W
       no_bad_slot end s t p low below (named_here slot more at m kind before k same) =
           let one : at ≡ p = t.alone at p more slot (omega arith) low k.entry m.entry same (subst (λ k. IsDirectory g blocks k) (sym same) kind) in omega arith
 
-      names : (p : ℕ) (slot : Slot) → IsEntryAt blocks j p slot → Names g blocks n p slot
+      names : (p : ℕ) (slot : Slot) → IsEntryAt blocks j p slot → NamesAt g blocks n p slot
       names p slot entry = record { directory = d; entry = entry }
 
       bad_slot : (p : ℕ) → slot_tests.IsBadAt g blocks j w.named p → IsBadSlot g blocks Before n p
