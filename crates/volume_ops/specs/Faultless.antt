@@ -1,10 +1,10 @@
 -- A volume without a fault, by its fields: what must hold of its inodes, of their zones and of the names of its directories.
-use Rattle.std.specs.Prelude.{◌≡◌, ◌≢◌, ℕ, ◌+◌, ◌*◌, ◌/◌, ◌%◌, ◌<◌, ◌≤◌, ◌⊎◌, true, false, List, Option, Some, Ok}
+use Rattle.std.specs.Prelude.{◌≡◌, ◌≢◌, ℕ, ◌/◌, ◌%◌, ◌<◌, ◌≤◌, ◌⊎◌, true, false, List, Option, Some, Ok}
 use Rattle.minix_layout.specs.declared.division.Geometry.{Geometry}
 use Rattle.minix_layout.specs.declared.inode.Inode.{Inode}
 use Rattle.minix_layout.specs.declared.slot.Slot.{Slot}
 use Rattle.tree_model.specs.Paths.{is_dot}
-use Rattle.volume_ops.specs.Places.{is_directory, is_file}
+use Rattle.volume_ops.specs.Places.{largest_size, is_directory, is_file}
 use Rattle.volume_ops.specs.Fields.{inode_at, slot_behind}
 use Rattle.volume_ops.specs.ZonePlaces.{ZonePlace, zone_in}
 
@@ -53,18 +53,15 @@ pub record IsUsed (g : Geometry) (blocks : List (List ℕ)) (zone : ℕ) : Type 
   pub some : zone ≢ 0
   pub stands : zone_at_place g blocks inode place ≡ zone
 
--- the greatest size of a file: 7 blocks, the 512 of an indirect zone and the 512 * 512 of a doubly indirect one
-abbrev pub greatest_size : ℕ
-greatest_size = 1024 * (7 + 512 + 512 * 512)
-
 -- ---- no fault
 
 -- The inodes P have no fault, neither in themselves nor between them: the root is a directory, no size is too
--- great, a directory's is a whole number of slots, each zone is one of the zones of data and had once, each slot can be read, each name
--- stands once in its directory and leads to an inode of the table, and a directory has one name, the root none.
+-- large, a directory's is a whole number of slots, each zone is one of the zones of data and had once, each slot can
+-- be read, each name stands once in its directory and leads to an inode of the table, and a directory has one name,
+-- the root none.
 pub record AreFaultless (g : Geometry) (blocks : List (List ℕ)) (P : ℕ → Type 0) : Type 0 where
   pub root : P 1 → IsDirectory g blocks 1
-  pub size : (inode : ℕ) → P inode → HasZones g blocks inode → (inode_at g blocks inode).size ≤ greatest_size
+  pub size : (inode : ℕ) → P inode → HasZones g blocks inode → (inode_at g blocks inode).size ≤ largest_size
   pub whole_slots : (inode : ℕ) → P inode → IsDirectory g blocks inode → (inode_at g blocks inode).size % 16 ≡ 0
   pub zone_within : (inode : ℕ) (x : ZonePlace) → P inode → HasZones g blocks inode → zone_at_place g blocks inode x ≢ 0 →
       (g.first ≤ zone_at_place g blocks inode x) × (zone_at_place g blocks inode x < g.zones)

@@ -8,10 +8,10 @@ use Rattle.minix_layout.specs.declared.slot.Slot.{Slot}
 use Rattle.minix_layout.specs.declared.fault.LayoutFault.{LayoutFault}
 use Rattle.minix_layout.specs.declared.fault.LayoutFault.TheVariants.{BadInode, BadZone, BadSlot}
 use Rattle.tree_model.specs.Maps.{at_name, name_cmp}
-use Rattle.volume_ops.specs.Places.{table_block, inode_of_birth}
+use Rattle.volume_ops.specs.Places.{largest_size, table_block, inode_of_birth}
 use Rattle.volume_ops.specs.Fields.{inode_at, zone_behind, slot_behind, HasName}
 use Rattle.volume_ops.specs.ZonePlaces.{ZonePlace, holder_in, rank}
-use Rattle.volume_ops.specs.Faultless.{IsDirectory, HasZones, zone_at_place, slots_of, NamesAt, greatest_size, AreFaultless}
+use Rattle.volume_ops.specs.Faultless.{IsDirectory, HasZones, zone_at_place, slots_of, NamesAt, AreFaultless}
 
 -- the block that holds the number of a zone of an inode
 abbrev pub holder_of : Geometry → List (List ℕ) → ℕ → ZonePlace → ℕ
@@ -26,7 +26,7 @@ slot_zone g blocks inode place = zone_behind blocks (inode_at g blocks inode) (p
 -- with an inode by itself
 pub data IsBadInode (g : Geometry) (blocks : List (List ℕ)) (inode : ℕ) : Type 0 where
   root_is_none : inode ≡ 1 → (IsDirectory g blocks inode → ⊥) → IsBadInode g blocks inode
-  size_too_great : HasZones g blocks inode → greatest_size < (inode_at g blocks inode).size → IsBadInode g blocks inode
+  size_too_large : HasZones g blocks inode → largest_size < (inode_at g blocks inode).size → IsBadInode g blocks inode
   part_of_a_slot : IsDirectory g blocks inode → (inode_at g blocks inode).size % 16 ≢ 0 → IsBadInode g blocks inode
 
 -- with the zone of an inode at a place: it is none of the zones of data, or was had before

@@ -15,6 +15,10 @@ table_block g inode = 2 + g.imap + g.zmap + (inode - 1) / 32
 abbrev pub inode_in_block : ℕ → List ℕ → Inode
 inode_in_block inode body = inode_of (record_at 32 ((inode - 1) % 32) body)
 
+-- the largest size of a file: 7 blocks, the 512 of an indirect zone and the 512 * 512 of a doubly indirect one
+abbrev pub largest_size : ℕ
+largest_size = 1024 * (7 + 512 + 512 * 512)
+
 -- the kind of file is in the upper four bits of a mode
 abbrev pub is_directory : ℕ → Bool
 is_directory mode = mode / 4096 == 4

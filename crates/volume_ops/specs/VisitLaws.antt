@@ -23,13 +23,13 @@ use Rattle.volume_ops.specs.declared.found.Found.{Found}
 use Rattle.volume_ops.specs.declared.found.Found.TheVariants as found
 use Rattle.volume_ops.specs.Reads.{Ret, answer, if_ok}
 use Rattle.volume_ops.specs.ReadsLaws.{if_ok-parts, unless-parts, same_Ok}
-use Rattle.volume_ops.specs.Places.{table_block, is_directory, is_file, birth_of}
+use Rattle.volume_ops.specs.Places.{largest_size, table_block, is_directory, is_file, birth_of}
 use Rattle.tree_model.specs.MapsLaws.{number_here, number_same}
 use Rattle.volume_ops.specs.Zones.{Fault, ZoneScan, scan_zones}
 use Rattle.volume_ops.specs.ZonesLaws.{IsMapTo, block_at, scan_zones-map}
 use Rattle.volume_ops.specs.Slots.{SlotScan, scan_slots}
 use Rattle.volume_ops.specs.SlotsLaws.{IsNamed, Goes, IsInBlocks, scan_slots-goes, no_names}
-use Rattle.volume_ops.specs.Walk.{WalkState, Pending, Visit, pending_in, met_node, is_bad_inode, largest_size, visit_file, visit_directory, visit_other, visit_inode, visit}
+use Rattle.volume_ops.specs.Walk.{WalkState, Pending, Visit, pending_in, met_node, is_bad_inode, visit_file, visit_directory, visit_other, visit_inode, visit}
 use Rattle.volume_ops.specs.Volume.{disk_of, bodies_of, node_of}
 use Rattle.volume_ops.specs.Fields.{inode_at, zone_behind, block_behind, slot_behind, HasName, IsNodeOf, IsBelow}
 

@@ -7,7 +7,7 @@ use Rattle.volume_ops.specs.declared.found.Found.{Found}
 use Rattle.volume_ops.specs.declared.found.Found.TheVariants as found
 use Rattle.volume_ops.specs.declared.found.FoundNode.{FoundNode}
 use Rattle.volume_ops.specs.Reads.{Reads, Ret, Read, if_ok}
-use Rattle.volume_ops.specs.Places.{table_block, inode_in_block, is_directory, is_file, birth_of, inode_of_birth}
+use Rattle.volume_ops.specs.Places.{largest_size, table_block, inode_in_block, is_directory, is_file, birth_of, inode_of_birth}
 use Rattle.volume_ops.specs.Marks.{no_marks, is_marked, marked}
 use Rattle.volume_ops.specs.Zones.{Fault, ZoneScan, scan_zones}
 use Rattle.volume_ops.specs.Slots.{SlotScan, scan_slots}
@@ -48,10 +48,6 @@ met_node w inode zones named found = record {
   named = named;
   nodes = w.nodes ++ record { birth = birth_of inode; found = found } ∷ [];
 }
-
--- the largest size of a file: 7 zones, the 512 of an indirect and the 512 * 512 of a doubly indirect zone
-abbrev pub largest_size : ℕ
-largest_size = 268966912
 
 -- inode 1 is no directory, a size is past the largest, or a directory's size is no whole number of slots
 abbrev pub is_bad_inode : ℕ → Inode → Bool

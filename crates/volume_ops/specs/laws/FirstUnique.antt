@@ -1,32 +1,28 @@
 -- The first fault of a volume is one, and the one that the walk tells.
-use Rattle.std.specs.Prelude.{◌≡◌, ◌≢◌, ℕ, ◌+◌, ◌-◌, ◌*◌, ◌/◌, ◌%◌, ◌<◌, ◌≤◌, ◌⊎◌, ◌↔◌, true, false, List, [], ◌∷◌, ◌++◌, map, Option, Some, None, Result, Ok, Err, refl}
+use Rattle.std.specs.Prelude.{◌≡◌, ◌≢◌, ℕ, ◌<◌, ◌⊎◌, false, List, [], ◌∷◌, ◌++◌, map, Some, Result, Ok, Err, refl}
 use Rattle.std.specs.List.Sorted.{IsStrictlySortedBy}
-use Rattle.std.specs.Map.{keys_of, lookup}
-use Rattle.std.specs.BTreeMap.{is_at}
-use Rattle.std.specs.Ordering.{is_eq}
-use Rattle.std.proofs.Common.{Less, sym, ap, subst, ◌∙◌, inl, inr, ⊎_elim, arith}
+use Rattle.std.specs.Map.{keys_of}
+use Rattle.std.proofs.Common.{sym, ap, subst, ◌∙◌, inl, inr, ⊎_elim, arith}
 use Rattle.std.proofs.lemmas.Bool.{cases_lt}
-use Rattle.std.proofs.lemmas.Option.{none-some, same_Some}
 use Rattle.std.proofs.lemmas.Cmp.{nat_list_cmp_total}
 use Rattle.std.proofs.lemmas.Map.Keys.{sorted_tail}
 use Rattle.blk_base.specs.Members.{In, In-push, In-push_left, In-push_cases, In-append_cases, In-map}
 use Rattle.minix_layout.specs.declared.division.Geometry.{Geometry}
-use Rattle.minix_layout.specs.declared.slot.Slot.{Slot}
 use Rattle.minix_layout.specs.declared.fault.LayoutFault.{LayoutFault}
-use Rattle.minix_layout.specs.declared.fault.LayoutFault.TheVariants.{BadInode, BadZone, BadSlot}
+use Rattle.minix_layout.specs.declared.fault.LayoutFault.TheVariants.{BadZone, BadSlot}
 use Rattle.tree_model.specs.Maps.{at_name, name_cmp}
 use Rattle.tree_model.specs.MapsLaws.{name_here, name_same}
 use Rattle.tree_model.specs.Paths.{is_dot}
 use Rattle.volume_ops.specs.ReadsLaws.{err-ok}
-use Rattle.volume_ops.specs.Places.{birth_of, inode_of_birth, table_block}
-use Rattle.volume_ops.specs.Fields.{inode_at, HasName}
+use Rattle.volume_ops.specs.Places.{inode_of_birth}
+use Rattle.volume_ops.specs.Fields.{inode_at}
 use Rattle.volume_ops.specs.SlotsLaws.{inode_of_birth_of}
 use Rattle.volume_ops.specs.Volume.{walked}
 use Rattle.volume_ops.specs.Walk.{Walked}
 use Rattle.volume_ops.specs.Zones.{Fault}
 use Rattle.volume_ops.specs.ZonePlaces.{ZonePlace, rank}
-use Rattle.volume_ops.specs.Faultless.{IsDirectory, HasZones, zone_at_place, slots_of, NamesAt, IsReached, at_root, by_name, AreFaultless, IsFaultless}
-use Rattle.volume_ops.specs.FirstFault.{holder_of, slot_zone, IsBadInode, root_is_none, size_too_great, part_of_a_slot, IsBadZone, too_low, too_high, had_by, had_here, IsBadSlot, no_name, no_inode, name_before, names_root, named_by, named_here, AreNamed, by_directory, by_none, AreMet, at_start, again, next, IsFirstHere, of_inode, of_zone, of_slot, IsFirstFault}
+use Rattle.volume_ops.specs.Faultless.{IsDirectory, HasZones, zone_at_place, slots_of, NamesAt, IsReached, at_root, by_name, AreFaultless}
+use Rattle.volume_ops.specs.FirstFault.{holder_of, slot_zone, IsBadInode, root_is_none, size_too_large, part_of_a_slot, IsBadZone, too_low, too_high, had_by, had_here, IsBadSlot, no_name, no_inode, name_before, names_root, named_by, named_here, AreNamed, by_directory, by_none, AreMet, at_start, again, next, IsFirstHere, of_inode, of_zone, of_slot, IsFirstFault}
 use Rattle.volume_ops.specs.laws.ZoneTests.{same_rank}
 use Rattle.volume_ops.specs.laws.VisitTests.{slot_used}
 use Rattle.volume_ops.specs.laws.TreeUnique.{same_maps, found_first, found_later, same_options}
@@ -154,7 +150,7 @@ module _ (g : Geometry) (blocks : List (List ℕ)) where
   module _ (P : ℕ → Type 0) (h : AreFaultless g blocks P) (met : ℕ → Type 0) (within : (k : ℕ) → met k → P k) (n : ℕ) (is : P n) (new : met n → ⊥) where
     no_bad_inode : IsBadInode g blocks n → ⊥
     no_bad_inode (root_is_none one none) = none (subst (λ k. IsDirectory g blocks k) (sym one) (h.root (subst P one is)))
-    no_bad_inode (size_too_great z great) = let low = h.size n is z in omega (arith, great, low)
+    no_bad_inode (size_too_large z great) = let low = h.size n is z in omega (arith, great, low)
     no_bad_inode (part_of_a_slot d some) = some (h.whole_slots n is d)
 
     no_bad_zone : (x : ZonePlace) → HasZones g blocks n → zone_at_place g blocks n x ≢ 0 → IsBadZone g blocks met n x → ⊥

@@ -6,14 +6,14 @@ use Rattle.blk_base.specs.Members.{In, In-push, In-push_left, In-push_cases, In-
 use Rattle.minix_layout.specs.declared.division.Geometry.{Geometry}
 use Rattle.minix_layout.specs.declared.slot.Slot.{Slot}
 use Rattle.volume_ops.specs.declared.found.FoundNode.{FoundNode}
-use Rattle.volume_ops.specs.Places.{is_directory}
+use Rattle.volume_ops.specs.Places.{largest_size, is_directory}
 use Rattle.volume_ops.specs.Marks.{is_marked, marked}
 use Rattle.volume_ops.specs.MarksLaws.{is_marked_same, is_marked_kept, is_marked_new, length-marked}
 use Rattle.volume_ops.specs.Fields.{inode_at, slot_behind}
 use Rattle.volume_ops.specs.Walk.{WalkState}
 use Rattle.volume_ops.specs.ZonePlaces.{ZonePlace}
-use Rattle.volume_ops.specs.Faultless.{IsDirectory, HasZones, zone_at_place, slots_of, NamesAt, IsReached, by_name, greatest_size, AreFaultless}
-use Rattle.volume_ops.specs.FirstFault.{IsBadInode, root_is_none, size_too_great, part_of_a_slot, AreNamed, AreMet, next}
+use Rattle.volume_ops.specs.Faultless.{IsDirectory, HasZones, zone_at_place, slots_of, NamesAt, IsReached, by_name, AreFaultless}
+use Rattle.volume_ops.specs.FirstFault.{IsBadInode, root_is_none, size_too_large, part_of_a_slot, AreNamed, AreMet, next}
 
 -- the walk so far: the inodes `met` have no fault, what is marked is what they have and name, and `ahead` is to be met
 pub record IsSoFar (g : Geometry) (blocks : List (List ℕ)) (met ahead : List ℕ) (w : WalkState) : Type 0 where
@@ -84,8 +84,8 @@ module _ (g : Geometry) (blocks : List (List ℕ)) (met ahead : List ℕ) (w : W
       (λ d. d)
       h.root_is
 
-  size_of : HasZones g blocks n → (inode_at g blocks n).size ≤ greatest_size
-  size_of z = ⊎_elim (λ great. absurd (good (size_too_great z great))) (λ low. low) (cases_lt greatest_size (inode_at g blocks n).size)
+  size_of : HasZones g blocks n → (inode_at g blocks n).size ≤ largest_size
+  size_of z = ⊎_elim (λ great. absurd (good (size_too_large z great))) (λ low. low) (cases_lt largest_size (inode_at g blocks n).size)
 
   whole_of : IsDirectory g blocks n → (inode_at g blocks n).size % 16 ≡ 0
   whole_of d = ⊎_elim (λ none. none) (λ some. absurd (good (part_of_a_slot d some))) (cases_eq ((inode_at g blocks n).size % 16) 0)
@@ -105,7 +105,7 @@ module _ (g : Geometry) (blocks : List (List ℕ)) (met ahead : List ℕ) (w : W
   more_faultless : AreFaultless g blocks (λ k. In k (met ++ n ∷ []))
   more_faultless = record {
     root = λ i. root_kind;
-    size = each (λ k. HasZones g blocks k → (inode_at g blocks k).size ≤ greatest_size) h.faultless.size size_of;
+    size = each (λ k. HasZones g blocks k → (inode_at g blocks k).size ≤ largest_size) h.faultless.size size_of;
     whole_slots = each (λ k. IsDirectory g blocks k → (inode_at g blocks k).size % 16 ≡ 0) h.faultless.whole_slots whole_of;
     zone_within = λ k x i. each (λ k. HasZones g blocks k → zone_at_place g blocks k x ≢ 0 → (g.first ≤ zone_at_place g blocks k x) × (zone_at_place g blocks k x < g.zones))
         (λ k i. h.faultless.zone_within k x i) (zs.within x) k i;

@@ -19,7 +19,7 @@ use Rattle.tree_model.specs.Paths.{is_dot}
 use Rattle.volume_ops.specs.declared.found.Found.TheVariants as found
 use Rattle.volume_ops.specs.Reads.{Reads, Ret, answer, if_ok, go_on}
 use Rattle.volume_ops.specs.ReadsLaws.{answer-and_then, err-ok, same_Ok}
-use Rattle.volume_ops.specs.Places.{table_block, is_directory, is_file, birth_of, inode_of_birth}
+use Rattle.volume_ops.specs.Places.{largest_size, table_block, is_directory, is_file, birth_of, inode_of_birth}
 use Rattle.volume_ops.specs.Marks.{is_marked, marked}
 use Rattle.volume_ops.specs.Volume.{disk_of}
 use Rattle.volume_ops.specs.Fields.{inode_at, zone_behind, HasName}
@@ -29,10 +29,10 @@ use Rattle.volume_ops.specs.Slots.{SlotScan, scan_slots}
 use Rattle.volume_ops.specs.SlotsLaws.{slot_of-used, inode_of_birth_of}
 use Rattle.volume_ops.specs.Rising.{IsRising}
 use Rattle.volume_ops.specs.RisingLaws.{scan_rises}
-use Rattle.volume_ops.specs.Walk.{WalkState, Pending, Visit, pending_in, met_node, is_bad_inode, largest_size, visit_file, visit_directory, visit_other, visit}
+use Rattle.volume_ops.specs.Walk.{WalkState, Pending, Visit, pending_in, met_node, is_bad_inode, visit_file, visit_directory, visit_other, visit}
 use Rattle.volume_ops.specs.ZonePlaces.{ZonePlace, rank}
 use Rattle.volume_ops.specs.Faultless.{IsDirectory, IsFile, HasZones, zone_at_place, slots_of, IsEntryAt, NamesAt}
-use Rattle.volume_ops.specs.FirstFault.{holder_of, slot_zone, IsBadInode, root_is_none, size_too_great, part_of_a_slot, IsBadZone, too_low, too_high, had_by, had_here, IsBadSlot, no_name, no_inode, name_before, names_root, named_by, named_here, by_directory, by_none, IsFirstHere, of_inode, of_zone, of_slot}
+use Rattle.volume_ops.specs.FirstFault.{holder_of, slot_zone, IsBadInode, root_is_none, size_too_large, part_of_a_slot, IsBadZone, too_low, too_high, had_by, had_here, IsBadSlot, no_name, no_inode, name_before, names_root, named_by, named_here, by_directory, by_none, IsFirstHere, of_inode, of_zone, of_slot}
 use Rattle.volume_ops.specs.laws.ZoneTests as zone_tests
 use Rattle.volume_ops.specs.laws.ZoneTests.{AreTaken, zones_scan, all_ranked}
 use Rattle.volume_ops.specs.laws.SlotTests as slot_tests
@@ -56,7 +56,7 @@ module _ (g : Geometry) (blocks : List (List ℕ)) (n : ℕ) where
       ⊎_elim
       (λ great.
       let both = and_parts (nat_lt largest_size i.size) (is_directory i.mode || is_file i.mode) great in
-      size_too_great (or_cases (is_directory i.mode) (is_file i.mode) both.1) (ltb-true largest_size i.size both.0))
+      size_too_large (or_cases (is_directory i.mode) (is_file i.mode) both.1) (ltb-true largest_size i.size both.0))
       (λ part.
       let both = and_parts (is_directory i.mode) (not (i.size % 16 == 0)) part in
       part_of_a_slot both.0 (eqb-false (i.size % 16) 0 (not-true (i.size % 16 == 0) both.1)))
@@ -74,7 +74,7 @@ module _ (g : Geometry) (blocks : List (List ℕ)) (n : ℕ) where
       (λ apart. true≢false (sym (eq-eqb n 1 one) ∙ apart))
       (λ d. none (not-false (is_directory i.mode) d))
       (and_cases (n == 1) (not (is_directory i.mode)) first)
-  good_inode good (size_too_great z great) =
+  good_inode good (size_too_large z great) =
       let rest = (or_parts (n == 1 && not (is_directory i.mode)) ((nat_lt largest_size i.size && (is_directory i.mode || is_file i.mode)) || (is_directory i.mode && not (i.size % 16 == 0))) good).1 in
       let second = (or_parts (nat_lt largest_size i.size && (is_directory i.mode || is_file i.mode)) (is_directory i.mode && not (i.size % 16 == 0)) rest).0 in
       ⊎_elim
@@ -229,7 +229,7 @@ module _ (g : Geometry) (blocks : List (List ℕ)) (met ahead : List ℕ) (w : W
       bad_slot p (slot_tests.named_here slot more q entry kind low other same) = named_here slot more q (names p slot entry) kind low (names q more other) same
 
       small : j.size ≤ 268966912
-      small = ⊎_elim (λ great. absurd (good (size_too_great (inl d) great))) (λ low. low) (cases_lt 268966912 j.size)
+      small = ⊎_elim (λ great. absurd (good (size_too_large (inl d) great))) (λ low. low) (cases_lt 268966912 j.size)
 
       early : (p : ℕ) → p < j.size / 16 → p < 16810432
       early p low = let few = small in omega arith

@@ -15,7 +15,7 @@ use Rattle.volume_ops.specs.Zones.{Fault}
 use Rattle.volume_ops.specs.Walk.{WalkState, Walked, found_in, Pending, Visit, visit, walk_through, walk, at_start, root, walk_volume}
 use Rattle.volume_ops.specs.Faultless.{IsDirectory, IsUsed, IsReached, at_root, by_name, AreFaultless, IsFaultless}
 use Rattle.volume_ops.specs.ZonePlaces.{rank}
-use Rattle.volume_ops.specs.FirstFault.{holder_of, slot_zone, IsBadInode, root_is_none, size_too_great, part_of_a_slot, IsBadZone, too_low, too_high, had_by, had_here, IsBadSlot, no_name, no_inode, name_before, names_root, named_by, named_here, AreMet, again, next as next_met, at_start as met_none, IsFirstFault, IsFirstHere, of_inode, of_zone, of_slot}
+use Rattle.volume_ops.specs.FirstFault.{holder_of, slot_zone, IsBadInode, root_is_none, size_too_large, part_of_a_slot, IsBadZone, too_low, too_high, had_by, had_here, IsBadSlot, no_name, no_inode, name_before, names_root, named_by, named_here, AreMet, again, next as next_met, at_start as met_none, IsFirstFault, IsFirstHere, of_inode, of_zone, of_slot}
 use Rattle.volume_ops.specs.Defects.{IsDefect, bad_inode, zone_outside, zone_twice, slot_without_name, slot_without_inode, name_twice, root_named, directory_twice}
 use Rattle.volume_ops.specs.laws.SoFar.{IsSoFar}
 use Rattle.volume_ops.specs.laws.VisitTests as visit_tests
@@ -235,7 +235,7 @@ module _ (g : Geometry) (blocks : List (List ℕ)) (all : Walked) (ends : EndsWe
 
 no_bad_inode : (g : Geometry) (blocks : List (List ℕ)) → IsFaultless g blocks → (k : ℕ) → IsReached g blocks k → IsBadInode g blocks k → ⊥
 no_bad_inode g blocks h k r (root_is_none one none) = none (subst (λ k. IsDirectory g blocks k) (sym one) (h.root at_root))
-no_bad_inode g blocks h k r (size_too_great z great) = let low = h.size k r z in omega (arith, great, low)
+no_bad_inode g blocks h k r (size_too_large z great) = let low = h.size k r z in omega (arith, great, low)
 no_bad_inode g blocks h k r (part_of_a_slot d some) = some (h.whole_slots k r d)
 
 pub no_defect : (g : Geometry) (blocks : List (List ℕ)) → IsFaultless g blocks → (fault : LayoutFault) (block : ℕ) → IsDefect g blocks fault block → ⊥
