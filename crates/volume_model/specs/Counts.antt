@@ -1,6 +1,7 @@
 -- Which zones a file uses, by its mapped indices.
 use Rattle.std.specs.Prelude.{ℕ, ◌+◌, ◌-◌, ◌/◌, ◌==◌, nat_lt, nat_le, Bool, ◌&&◌, List, ◌∷◌, length, map, filter}
 use Rattle.std.specs.List.{list_any, range_with_len}
+use Rattle.volume_ops.specs.declared.found.Mapped.{Mapped}
 use Rattle.volume_model.specs.Volume.{Place, block, indirect, double, inner}
 
 -- a place lies on the way to a block
@@ -28,3 +29,7 @@ number_places = indirect ∷ double ∷ map inner (range_with_len 0 512)
 -- The zones of a file: one for each mapped block, and one for each zone of numbers on the way to one.
 abbrev pub zones_of_file : List ℕ → ℕ
 zones_of_file indices = length indices + length (filter (uses indices) number_places)
+
+-- the indices of a file's mapped blocks
+abbrev pub indices_of : List Mapped → List ℕ
+indices_of zones = map (λ m. m.index) zones

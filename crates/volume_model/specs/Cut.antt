@@ -4,8 +4,7 @@ use Rattle.std.specs.List.{range_with_len}
 use Rattle.minix_layout.specs.declared.division.Geometry.{Geometry}
 use Rattle.volume_model.specs.Edits.{Edit, clear_from, edited_all}
 use Rattle.volume_model.specs.Volume.{Place, block, indirect, double, inner, IsOfNumbers}
-use Rattle.volume_model.specs.Ways.{slot, OnWay}
-use Rattle.volume_model.specs.laws.Ways.{place_at}
+use Rattle.volume_model.specs.Ways.{slot, place_at, OnWay}
 use Rattle.volume_model.specs.MapBlock.{OpenInode, own_of, with_zones}
 
 -- Which places stay: blocks below the index, and zones of numbers on the way to one of these that is mapped.

@@ -1,10 +1,11 @@
 -- Single writes of metadata: an inode, a slot of a directory, a bit of a map.
-use Rattle.std.specs.Prelude.{ℕ, ◌+◌, ◌^◌, ◌-◌, ◌*◌, ◌/◌, ◌%◌, bit_or, bit_and, Bool, if◌then◌else◌, List, [], ◌∷◌, slice_set, slice_index, map, Option}
+use Rattle.std.specs.Prelude.{ℕ, ◌+◌, ◌-◌, ◌*◌, ◌/◌, ◌%◌, Bool, List, [], ◌∷◌, slice_set, map, Option}
 use Rattle.byte_fields.specs.Fields.{put_record, put, put_bytes, zeros}
 use Rattle.byte_fields.specs.Fields.Order.{little}
 use Rattle.minix_layout.specs.declared.division.Geometry.{Geometry}
 use Rattle.minix_layout.specs.declared.inode.Inode.{Inode}
 use Rattle.minix_layout.specs.declared.slot.Slot.{Slot}
+use Rattle.minix_layout.specs.Bits.{put_bit}
 use Rattle.minix_layout.specs.Inodes.{inode_bytes}
 use Rattle.minix_layout.specs.Slots.{slot_bytes}
 use Rattle.volume_ops.specs.Places.{table_block}
@@ -28,18 +29,11 @@ touched_by g (put_entry zone at number) = zone
 touched_by g (clear_from zone at) = zone
 touched_by g (put_body zone content) = zone
 
--- a bit of a byte
-abbrev pub with_bit : ℕ → ℕ → Bool → ℕ
-with_bit byte bit value = if value then bit_or byte (2 ^ bit) else bit_and byte (255 - 2 ^ bit)
-
-abbrev pub bit_written : List ℕ → ℕ → Bool → List ℕ
-bit_written body number value = slice_set body (number / 8) (with_bit (slice_index body (number / 8)) (number % 8) value)
-
 -- the bytes of that block afterwards
 abbrev pub body_after : Geometry → Edit → List ℕ → List ℕ
 body_after g (put_inode number inode) body = put_record 32 ((number - 1) % 32) (inode_bytes inode) body
 body_after g (put_slot zone at slot) body = put_record 16 at (slot_bytes slot) body
-body_after g (set_bit first number value) body = bit_written body (number % 8192) value
+body_after g (set_bit first number value) body = put_bit body (number % 8192) value
 body_after g (put_entry zone at number) body = put little 2 (2 * at) number body
 body_after g (clear_from zone at) body = put_bytes (2 * at) (zeros (1024 - 2 * at)) body
 body_after g (put_body zone content) body = content

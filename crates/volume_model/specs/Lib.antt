@@ -8,4 +8,5 @@ pub mod MapBlock
 pub mod Cut
 pub mod Counts
 pub mod Touched
+pub mod Moves
 pub mod laws

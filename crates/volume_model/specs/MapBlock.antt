@@ -1,5 +1,5 @@
 -- A block of a file or a directory is mapped: the places on the way to it that have no zone get one, from the inode down.
-use Rattle.std.specs.Prelude.{ℕ, nat_eq, if◌then◌else◌, List, [], ◌∷◌, slice_set}
+use Rattle.std.specs.Prelude.{ℕ, nat_eq, if◌then◌else◌, List, [], ◌∷◌, ◌++◌, slice_set}
 use Rattle.byte_fields.specs.Fields.{zeros}
 use Rattle.minix_layout.specs.declared.division.Geometry.{Geometry}
 use Rattle.minix_layout.specs.declared.inode.Inode.{Inode}
@@ -63,3 +63,11 @@ get_steps g t content s (x ∷ xs) = get_steps g t content (get_step g t content
 
 unfoldable pub map_block : Geometry → TakenZones → List ℕ → OpenInode → ℕ → OpenInode
 map_block g t content s index = get_steps g t content s (way index)
+
+-- the same as single writes: those of one place, and those of all places on the way
+abbrev pub step_edits : TakenZones → List ℕ → OpenInode → Place → List Edit
+step_edits t content s x = if nat_eq (own_of s x) 0 then gets_edits s x (taken_at t x) (first_body content x) else []
+
+abbrev pub all_edits : Geometry → TakenZones → List ℕ → OpenInode → List Place → List Edit
+all_edits g t content s [] = []
+all_edits g t content s (x ∷ xs) = step_edits t content s x ++ all_edits g t content (get_step g t content s x) xs

@@ -1,5 +1,5 @@
 -- Where the number of each zone of an inode stands, and which places lie on the way to a block.
-use Rattle.std.specs.Prelude.{◌≡◌, ◌≢◌, ℕ, ◌-◌, ◌/◌, ◌%◌, ◌<◌, ◌≤◌, nat_lt, if◌then◌else◌, List, slice_index}
+use Rattle.std.specs.Prelude.{◌≡◌, ◌*◌, ◌+◌, ◌≢◌, ℕ, ◌-◌, ◌/◌, ◌%◌, ◌<◌, ◌≤◌, nat_lt, if◌then◌else◌, List, slice_index}
 use Rattle.minix_layout.specs.declared.inode.Inode.{Inode}
 use Rattle.inode_ops.specs.Map.{entry_behind}
 use Rattle.volume_ops.specs.Places.{zone_number}
@@ -30,6 +30,15 @@ abbrev pub at_home : List (List ℕ) → Inode → Home → ℕ
 at_home blocks i (slot k) = slice_index i.zones k
 at_home blocks i (entry h k) = entry_behind (entry_of blocks) (zone_in blocks i h) k
 at_home blocks i nowhere = 0
+
+-- the place that stands there
+abbrev pub place_at : Home → Place
+place_at (slot k) = if nat_lt k 7 then block k else (if nat_lt k 8 then indirect else double)
+place_at (entry indirect k) = block (7 + k)
+place_at (entry double k) = inner k
+place_at (entry (inner j) k) = block (519 + 512 * j + k)
+place_at (entry (block i) k) = block 0
+place_at nowhere = block 0
 
 -- the places on the way to a block, from the inode down
 abbrev pub way : ℕ → List Place

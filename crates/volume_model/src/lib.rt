@@ -7,10 +7,15 @@
 //! Stands on `volume_ops`, which reads a volume, and on `tree_model`, whose tree it stands for.
 #![tactic(auto)]
 
+mod laws;
 mod names;
 mod placed;
 mod slots;
 
+pub use laws::{
+    added_node_stands, calls_are_told_as_one, changed_node_stands, cut_file_stands,
+    mapped_block_stands, name_and_slot_go, nodes_stay, writes_are_read,
+};
 pub use names::NameMap;
 pub use placed::{DirectoryPart, Part, Placed};
 pub use slots::Slots;

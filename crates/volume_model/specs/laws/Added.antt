@@ -1,16 +1,14 @@
 -- A move by itself: a node without zones and names is added. Volumes stand before and after it.
-use Rattle.std.specs.Prelude.{◌≡◌, ◌≢◌, ℕ, List, Some, None}
+use Rattle.std.specs.Prelude.{◌≡◌, ◌≢◌, ℕ, List, Some}
 use Rattle.std.proofs.Common.{sym, ap, subst, ◌∙◌, inl, inr}
 use Rattle.std.proofs.lemmas.Bool.{cases_eq}
 use Rattle.std.proofs.lemmas.Cmp.{nat_cmp_total}
 use Rattle.std.proofs.lemmas.Option.{none-some, same_Some}
 use Rattle.minix_layout.specs.declared.division.Geometry.{Geometry}
-use Rattle.minix_layout.specs.Geometry.{IsSound}
 use Rattle.tree_model.specs.Maps.{at_number, put_number}
 use Rattle.tree_model.specs.MapsLaws.{at_put_number, at_put_number_apart}
 use Rattle.volume_ops.specs.SortedLaws.{sorted_inserted}
 use Rattle.volume_model.specs.declared.placed.Placed.{Placed}
-use Rattle.volume_model.specs.declared.placed.Part.TheVariants as parts
 use Rattle.volume_model.specs.declared.placed.DirectoryPart.{DirectoryPart}
 use Rattle.volume_model.specs.Edits.{put_inode, edited}
 use Rattle.volume_model.specs.Changes.{Changes}
@@ -18,15 +16,7 @@ use Rattle.volume_model.specs.laws.Changes.{changes_inode}
 use Rattle.volume_model.specs.Volume.{Place, zone_in, IsStored, HasNumber, HasNames, IsVolumeOf}
 use Rattle.volume_model.specs.laws.Zones.{zones_kept}
 use Rattle.volume_model.specs.laws.Written.{stored_kept}
-
--- what is asked: a new birth and an inode that no node has
-pub record MayAdd (g : Geometry) (blocks : List (List ℕ)) (nodes : List (ℕ × Placed)) (n : ℕ) (q : Placed) : Type 0 where
-  pub sound : IsSound g
-  pub birth : at_number nodes n ≡ None
-  pub unused : (b : ℕ) (p : Placed) → at_number nodes b ≡ Some p → p.number ≢ q.number
-  pub stored : IsStored g (edited g blocks (put_inode q.number q.inode)) q
-  pub no_zone : (x : Place) → zone_in (edited g blocks (put_inode q.number q.inode)) q.inode x ≡ 0
-  pub no_directory : (d : DirectoryPart) → q.part ≡ parts.Directory d → ⊥
+use Rattle.volume_model.specs.Moves.{MayAdd}
 
 module _ (g : Geometry) (blocks : List (List ℕ)) (nodes : List (ℕ × Placed)) (n : ℕ) (q : Placed) (h : IsVolumeOf g blocks nodes) (may : MayAdd g blocks nodes n q) where
   abbrev after : List (List ℕ)

@@ -21,7 +21,8 @@ use Rattle.volume_model.specs.laws.Edits.{edited_here, edited_elsewhere}
 use Rattle.volume_model.specs.Changes.{Changes}
 use Rattle.volume_model.specs.laws.Changes.{changes_then, changes_none}
 use Rattle.volume_model.specs.Ways.{Home, slot, entry, nowhere, home, entry_of, OnWay, IsJust}
-use Rattle.volume_model.specs.laws.Ways.{place_at, home_back, direct, single, twice, past, range, home-direct, home-single, home-twice, home-past, home-inner, Rezoned, rezoned, own_slot, own_none, own_entry}
+use Rattle.volume_model.specs.laws.Ways.{home_back, direct, single, twice, past, range, home-direct, home-single, home-twice, home-past, home-inner, Rezoned, rezoned, own_slot, own_none, own_entry}
+use Rattle.volume_model.specs.Ways.{place_at}
 use Rattle.volume_model.specs.laws.Gets.{cases_place, is_place, same_place, is_itself}
 use Rattle.volume_model.specs.MapBlock.{OpenInode, own_of, with_zones}
 use Rattle.volume_model.specs.laws.MapBlock.{IsFit, changes_zone, changes_wider, slot_low, entry_low, little_zero, is_slot, home-inner_past}

@@ -27,7 +27,8 @@ use Rattle.volume_model.specs.laws.MapBlock.{home-inner_past}
 use Rattle.volume_model.specs.Cut.{IsKeep, cuts, cut_edits, cut_to}
 use Rattle.volume_model.specs.laws.Cut.{AreThere, there_cuts}
 use Rattle.volume_model.specs.Counts.{number_places}
-use Rattle.volume_model.specs.laws.NodeMoves.{MayChange, Which, changed, other, which, same_zone as node_same_zone}
+use Rattle.volume_model.specs.laws.NodeMoves.{Which, changed, other, which, same_zone as node_same_zone}
+use Rattle.volume_model.specs.Moves.{MayChange}
 use Rattle.volume_model.specs.laws.ZoneMoves.{fit_before, theirs_apart, less, cut_kept, cut_outcome, may_cut, may_change, MayMove, no_numbers, same_zone as moved_same_zone}
 
 -- the zones that a cut writes are those of places that stay

@@ -1,5 +1,5 @@
 -- The indices of a file in a volume that stands, and the zones that the plain step counts for it.
-use Rattle.std.specs.Prelude.{◌≡◌, ℕ, nat_lt, List, [], ◌∷◌, map, filter, Some, refl}
+use Rattle.std.specs.Prelude.{◌≡◌, ℕ, nat_lt, List, [], ◌∷◌, filter, Some, refl}
 use Rattle.std.specs.Map.{keys_of}
 use Rattle.std.proofs.Common.{sym, ap, subst, ◌∙◌, inl, inr, arith}
 use Rattle.std.proofs.lemmas.Bool.{cases_Bool}
@@ -14,10 +14,8 @@ use Rattle.volume_model.specs.Volume.{block, zone_in, IsFilePart, IsPart, IsVolu
 use Rattle.volume_model.specs.laws.Ways.{direct, single, twice, past, range, home-past, own_none}
 use Rattle.volume_model.specs.Ways.{IsJust}
 use Rattle.volume_model.specs.laws.OnWay.{way_mapped}
+use Rattle.volume_model.specs.Counts.{indices_of}
 use Rattle.volume_model.specs.laws.Counts.{IsIndexed}
-
-abbrev pub indices_of : List Mapped → List ℕ
-indices_of zones = map (λ m. m.index) zones
 
 -- the indices of a file's list are those of its mapped blocks
 pub file_indexed : (g : Geometry) (blocks : List (List ℕ)) (nodes : List (ℕ × Placed)) (n : ℕ) (p : Placed) (zones : List Mapped) → IsVolumeOf g blocks nodes → at_number nodes n ≡ Some p → p.part ≡ parts.File zones →

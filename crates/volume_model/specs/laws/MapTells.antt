@@ -21,20 +21,15 @@ use Rattle.volume_model.specs.Touched.{Page, Touched, Contents, IsMeta, of_table
 use Rattle.volume_model.specs.Ways.{Home, slot, entry, nowhere, home, way, OnWay}
 use Rattle.volume_model.specs.laws.Ways.{direct, single, twice, past, range, home-direct, home-single, home-twice, home-inner}
 use Rattle.volume_model.specs.laws.Gets.{cases_place}
-use Rattle.volume_model.specs.MapBlock.{OpenInode, own_of, TakenZones, taken_at, first_body, gets_edits, entry_edits, get_step, get_steps, map_block}
+use Rattle.volume_model.specs.MapBlock.{step_edits, all_edits, OpenInode, own_of, TakenZones, taken_at, first_body, gets_edits, entry_edits, get_step, get_steps, map_block}
 use Rattle.volume_model.specs.laws.MapBlock.{Got, IsFit, IsFresh, IsReached, IsChain, Outcome, one_step, fresh_rest, there_now, next_reached, all_steps, above}
 use Rattle.volume_model.specs.laws.OnWay.{way_on, on_way, in_list, way-direct, way-single, way-twice}
-use Rattle.volume_model.specs.laws.NodeMoves.{MayChange, Which, changed, other, which, same_zone as node_same_zone}
-use Rattle.volume_model.specs.laws.ZoneMoves.{fit_before, AreFree, grown, MapWrites, map_outcome, may_map, map_file, may_change, MayMove, no_numbers, same_zone as moved_same_zone}
+use Rattle.volume_model.specs.laws.NodeMoves.{Which, changed, other, which, same_zone as node_same_zone}
+use Rattle.volume_model.specs.Moves.{MayChange}
+use Rattle.volume_model.specs.laws.ZoneMoves.{fit_before, grown, MapWrites, map_outcome, may_map, map_file, may_change, MayMove, no_numbers, same_zone as moved_same_zone}
+use Rattle.volume_model.specs.Moves.{AreFree}
 
 -- ---- the writes as a list
-
-abbrev pub step_edits : TakenZones → List ℕ → OpenInode → Place → List Edit
-step_edits t content s x = if nat_eq (own_of s x) 0 then gets_edits s x (taken_at t x) (first_body content x) else []
-
-abbrev pub all_edits : Geometry → TakenZones → List ℕ → OpenInode → List Place → List Edit
-all_edits g t content s [] = []
-all_edits g t content s (x ∷ xs) = step_edits t content s x ++ all_edits g t content (get_step g t content s x) xs
 
 edited_append : (g : Geometry) (blocks : List (List ℕ)) (es fs : List Edit) → edited_all g blocks (es ++ fs) ≡ edited_all g (edited_all g blocks es) fs
 edited_append g blocks [] fs = refl
@@ -155,7 +150,7 @@ top_reached : (own : Place → ℕ) (x : Place) (k : ℕ) → home x ≡ slot k 
 top_reached own x k at = record { placed = λ none. cc (sym at ∙ none); there = λ h j is none. cc (sym at ∙ is) }
 
 module _ (g : Geometry) (sound : IsSound g) (blocks : List (List ℕ)) (nodes : List (ℕ × Placed)) (n : ℕ) (p : Placed) (h : IsVolumeOf g blocks nodes) (stands : at_number nodes n ≡ Some p)
-    (t : TakenZones) (content : List ℕ) (size : length content ≡ 1024) (index : ℕ) (high : index < 262663) (free : AreFree g sound blocks nodes n p h stands t (way index))
+    (t : TakenZones) (content : List ℕ) (size : length content ≡ 1024) (index : ℕ) (high : index < 262663) (free : AreFree g blocks nodes p.inode t (way index))
     (zones : List Mapped) (is : p.part ≡ parts.File zones) (hole : zone_in blocks p.inode (block index) ≡ 0) where
   abbrev s : OpenInode
   s = record { blocks = blocks; inode = p.inode }

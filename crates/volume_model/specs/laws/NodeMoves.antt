@@ -10,28 +10,12 @@ use Rattle.tree_model.specs.MapsLaws.{at_put_number, at_put_number_apart}
 use Rattle.volume_ops.specs.SortedLaws.{sorted_inserted}
 use Rattle.volume_ops.specs.Volume.{disk_of}
 use Rattle.volume_model.specs.declared.placed.Placed.{Placed}
-use Rattle.volume_model.specs.declared.placed.Part.TheVariants as parts
 use Rattle.volume_model.specs.declared.placed.DirectoryPart.{DirectoryPart}
-use Rattle.volume_model.specs.Changes.{Changes}
 use Rattle.volume_model.specs.Volume.{Place, zone_in, IsStored, HasNumber, HasNames, IsVolumeOf}
 use Rattle.volume_model.specs.laws.Written.{stored_kept, zone_kept}
 use Rattle.volume_model.specs.Ways.{IsJust}
 use Rattle.volume_model.specs.laws.OnWay.{just_same}
-
--- What is asked: q is stored in the blocks afterwards, no write touched a zone of another node, and q has none of theirs.
-pub record MayChange (g : Geometry) (blocks after : List (List ℕ)) (nodes : List (ℕ × Placed)) (n : ℕ) (p q : Placed) (Z : ℕ → Type 0) : Type 0 where
-  pub stands : at_number nodes n ≡ Some p
-  pub number : q.number ≡ p.number
-  pub changes : Changes g (λ j. j ≡ p.number) Z blocks after
-  pub not_theirs : (a : ℕ) (r : Placed) (x : Place) → at_number nodes a ≡ Some r → a ≢ n → zone_in blocks r.inode x ≢ 0 → Z (zone_in blocks r.inode x) → ⊥
-  pub stored : IsStored g after q
-  pub apart : (x y : Place) → zone_in after q.inode x ≡ zone_in after q.inode y → zone_in after q.inode x ≢ 0 → x ≡ y
-  pub none_of_theirs : (a : ℕ) (r : Placed) (x y : Place) → at_number nodes a ≡ Some r → a ≢ n → zone_in after q.inode x ≡ zone_in blocks r.inode y → zone_in after q.inode x ≢ 0 → ⊥
-  pub names : (d : DirectoryPart) → q.part ≡ parts.Directory d → HasNames nodes d
-
--- zones of numbers are those on the way to a mapped block, at each node: a field of its own beside `Stands`
-abbrev pub AreJust : List (List ℕ) → List (ℕ × Placed) → Type 0
-AreJust blocks nodes = (b : ℕ) (r : Placed) → at_number nodes b ≡ Some r → IsJust (λ x. zone_in blocks r.inode x)
+use Rattle.volume_model.specs.Moves.{MayChange, AreJust}
 
 module _ (g : Geometry) (blocks after : List (List ℕ)) (nodes : List (ℕ × Placed)) (n : ℕ) (p q : Placed) (Z : ℕ → Type 0) (h : IsVolumeOf g blocks nodes) (may : MayChange g blocks after nodes n p q Z) where
   abbrev next : List (ℕ × Placed)

@@ -1,5 +1,5 @@
 -- Laws of homes and ways.
-use Rattle.std.specs.Prelude.{◌≡◌, ◌≢◌, ℕ, ◌+◌, ◌-◌, ◌*◌, ◌/◌, ◌%◌, ◌<◌, ◌≤◌, nat_lt, nat_eq, if◌then◌else◌, List, length, slice_index, refl}
+use Rattle.std.specs.Prelude.{◌≡◌, ◌≢◌, ℕ, ◌+◌, ◌-◌, ◌*◌, ◌/◌, ◌%◌, ◌<◌, ◌≤◌, nat_lt, nat_eq, List, length, slice_index, refl}
 use Rattle.std.proofs.Common.{sym, ap, ◌∙◌, inl, inr, arith}
 use Rattle.std.proofs.lemmas.Bool.{cases_Bool, eqb-true, eqb-false, ltb-true, ltb-false, lt-ltb, le-ltb}
 use Rattle.std.proofs.lemmas.List.{drop_all}
@@ -10,16 +10,7 @@ use Rattle.inode_ops.specs.MapLaws.{zone_at-direct, zone_at-past}
 use Rattle.volume_ops.specs.Places.{zone_number}
 use Rattle.volume_ops.specs.Volume.{disk_of}
 use Rattle.volume_model.specs.Volume.{Place, block, indirect, double, inner, zone_in}
-use Rattle.volume_model.specs.Ways.{Home, at_home, entry, entry_of, home, nowhere, slot}
-
--- the place that stands there
-abbrev pub place_at : Home → Place
-place_at (slot k) = if nat_lt k 7 then block k else (if nat_lt k 8 then indirect else double)
-place_at (entry indirect k) = block (7 + k)
-place_at (entry double k) = inner k
-place_at (entry (inner j) k) = block (519 + 512 * j + k)
-place_at (entry (block i) k) = block 0
-place_at nowhere = block 0
+use Rattle.volume_model.specs.Ways.{place_at, at_home, entry, entry_of, home, nowhere, slot}
 
 -- the four ranges of an index
 pub data Range (index : ℕ) : Type 0 where

@@ -1,5 +1,5 @@
 -- Moves with zones: a block of a node is mapped, and blocks of a file from an index on go. Volumes stand before and after each.
-use Rattle.std.specs.Prelude.{◌≡◌, ◌≢◌, ℕ, ◌/◌, ◌%◌, ◌^◌, ◌<◌, ◌≤◌, nat_lt, nat_eq, Bool, true, false, if◌then◌else◌, List, ◌∷◌, length, filter, Some, refl, ◌⊎◌}
+use Rattle.std.specs.Prelude.{◌≡◌, ◌≢◌, ℕ, ◌/◌, ◌%◌, ◌<◌, ◌≤◌, nat_lt, nat_eq, Bool, true, false, if◌then◌else◌, List, ◌∷◌, length, filter, Some, refl, ◌⊎◌}
 use Rattle.std.proofs.Common.{sym, ap, subst, ◌∙◌, inl, inr, arith}
 use Rattle.std.proofs.lemmas.Bool.{cases_Bool, cases_eq, eqb-true, eqb-false, true≢false}
 use Rattle.blk_base.specs.Members.{In, In-filter, filter-In}
@@ -22,13 +22,15 @@ use Rattle.volume_model.specs.Changes.{Changes}
 use Rattle.volume_model.specs.laws.Changes.{changes_then, changes_inode, table_below}
 use Rattle.volume_model.specs.Volume.{Place, block, indirect, double, inner, zone_in, IsDirectoryPart, IsFilePart, IsPart, HasNames, IsVolumeOf, IsOfNumbers, at_indirect, at_double, at_inner}
 use Rattle.volume_model.specs.laws.Written.{zone_kept, part_kept}
-use Rattle.volume_model.specs.MapBlock.{OpenInode, own_of, TakenZones, taken_at, map_block}
+use Rattle.volume_model.specs.MapBlock.{OpenInode, own_of, TakenZones, map_block}
 use Rattle.volume_model.specs.Ways.{way, IsJust}
 use Rattle.volume_model.specs.laws.MapBlock.{IsFit, Outcome, Mine, came, had, CameFor, changes_wider, is_block}
 use Rattle.volume_model.specs.laws.OnWay.{way_on, on_way, in_list, mapped_block, just_same, just_mapped}
 use Rattle.volume_model.specs.Cut.{IsKeep, cut_to}
 use Rattle.volume_model.specs.laws.Cut.{CutOutcome, cut_block}
-use Rattle.volume_model.specs.laws.NodeMoves.{MayChange, AreJust, changed_stands, changed_just}
+use Rattle.volume_model.specs.laws.NodeMoves.{changed_stands, changed_just}
+use Rattle.volume_model.specs.Moves.{MayChange, AreJust}
+use Rattle.volume_model.specs.Moves.{AreFree}
 
 not_block : (x : Place) → IsOfNumbers x → is_block x ≡ false
 not_block indirect at_indirect = refl
@@ -110,16 +112,7 @@ module _ (g : Geometry) (sound : IsSound g) (blocks : List (List ℕ)) (nodes : 
 
   -- ---- a block is mapped
 
-  -- the zones that were taken for it: no node has them
-  pub record AreFree (t : TakenZones) (xs : List Place) : Type 0 where
-    pub some : (x : Place) → In x xs → own_of before x ≡ 0 → taken_at t x ≢ 0
-    pub low : (x : Place) → In x xs → own_of before x ≡ 0 → g.first ≤ taken_at t x
-    pub high : (x : Place) → In x xs → own_of before x ≡ 0 → taken_at t x < g.zones
-    pub fits : (x : Place) → In x xs → own_of before x ≡ 0 → taken_at t x < 2 ^ 16
-    pub free : (a : ℕ) (r : Placed) (x y : Place) → at_number nodes a ≡ Some r → In x xs → own_of before x ≡ 0 → zone_in blocks r.inode y ≢ taken_at t x
-    pub differ : (x y : Place) → In x xs → In y xs → own_of before x ≡ 0 → own_of before y ≡ 0 → taken_at t x ≡ taken_at t y → x ≡ y
-
-  module _ (t : TakenZones) (content : List ℕ) (content_size : length content ≡ 1024) (index : ℕ) (index_low : index < 262663) (free : AreFree t (way index)) where
+  module _ (t : TakenZones) (content : List ℕ) (content_size : length content ≡ 1024) (index : ℕ) (index_low : index < 262663) (free : AreFree g blocks nodes p.inode t (way index)) where
     abbrev pub grown : OpenInode
     grown = map_block g t content before index
 
@@ -167,7 +160,7 @@ module _ (g : Geometry) (sound : IsSound g) (blocks : List (List ℕ)) (nodes : 
         by (had q m there e) = no_numbers q i ((h.zones n n p p q (block i) stands stands e there).1) m
 
     -- a directory's slots stay
-    map_directory : (d : DirectoryPart) → IsDirectoryPart blocks p.inode d → IsDirectoryPart grown.blocks grown.inode d
+    pub map_directory : (d : DirectoryPart) → IsDirectoryPart blocks p.inode d → IsDirectoryPart grown.blocks grown.inode d
     map_directory d is = (let o = map_outcome in record {
       kind = ap (λ (i : Inode). is_directory i.mode) o.fields ∙ is.kind;
       size = ap (λ (i : Inode). i.size) o.fields ∙ is.size;

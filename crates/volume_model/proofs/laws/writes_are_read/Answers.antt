@@ -1,0 +1,5 @@
+use Rattle.volume_model.specs.laws.Edits.{untouched, inode_here, inode_elsewhere, slot_here, slot_elsewhere}
+use Rattle.volume_model.proofs.laws.writes_are_read.Goals as goal
+
+pub returns : goal.returns
+returns c = record { untouched = untouched; inode = inode_here; other_inode = inode_elsewhere; slot = slot_here; other_slot = slot_elsewhere }

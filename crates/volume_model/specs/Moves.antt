@@ -1,0 +1,117 @@
+-- Moves: what a volume is after one of its nodes came or changed. A call is a list of them.
+use Rattle.std.specs.Prelude.{◌≡◌, ◌≢◌, ℕ, ◌^◌, ◌<◌, ◌≤◌, nat_lt, nat_eq, Bool, not, ◌==◌, ◌&&◌, List, [], ◌∷◌, ◌++◌, map, filter, Some, None}
+use Rattle.blk_base.specs.Members.{In}
+use Rattle.minix_layout.specs.declared.division.Geometry.{Geometry}
+use Rattle.minix_layout.specs.declared.inode.Inode.{Inode}
+use Rattle.minix_layout.specs.Geometry.{IsSound}
+use Rattle.tree_model.specs.Maps.{at_number, put_number}
+use Rattle.volume_ops.specs.declared.found.Mapped.{Mapped}
+use Rattle.volume_ops.specs.Places.{table_block}
+use Rattle.volume_model.specs.declared.placed.Placed.{Placed}
+use Rattle.volume_model.specs.declared.placed.Part.{Part}
+use Rattle.volume_model.specs.declared.placed.Part.TheVariants as parts
+use Rattle.volume_model.specs.declared.placed.DirectoryPart.{DirectoryPart}
+use Rattle.volume_model.specs.Edits.{put_inode, edited, touched_by_all}
+use Rattle.volume_model.specs.Volume.{Place, zone_in, IsStored, HasNames, IsVolumeOf}
+use Rattle.volume_model.specs.Changes.{Changes}
+use Rattle.volume_model.specs.Ways.{way, IsJust}
+use Rattle.volume_model.specs.MapBlock.{OpenInode, TakenZones, taken_at, map_block, all_edits}
+use Rattle.volume_model.specs.Cut.{cuts, cut_edits, cut_to}
+use Rattle.volume_model.specs.Counts.{number_places}
+use Rattle.volume_model.specs.Touched.{Page, Touched, Contents}
+
+-- a zone of numbers is there only where it leads to a mapped block, at each node
+abbrev pub AreJust : List (List ℕ) → List (ℕ × Placed) → Type 0
+AreJust blocks nodes = (b : ℕ) (r : Placed) → at_number nodes b ≡ Some r → IsJust (λ x. zone_in blocks r.inode x)
+
+-- the blocks say the nodes, and no zone of numbers is there for nothing
+abbrev pub IsVolume : Geometry → Contents → Type 0
+IsVolume g v = IsVolumeOf g v.blocks v.nodes × AreJust v.blocks v.nodes
+
+-- ---- a node comes
+
+-- what is asked: a new birth and an inode that no node has
+pub record MayAdd (g : Geometry) (blocks : List (List ℕ)) (nodes : List (ℕ × Placed)) (n : ℕ) (q : Placed) : Type 0 where
+  pub sound : IsSound g
+  pub birth : at_number nodes n ≡ None
+  pub unused : (b : ℕ) (p : Placed) → at_number nodes b ≡ Some p → p.number ≢ q.number
+  pub stored : IsStored g (edited g blocks (put_inode q.number q.inode)) q
+  pub no_zone : (x : Place) → zone_in (edited g blocks (put_inode q.number q.inode)) q.inode x ≡ 0
+  pub no_directory : (d : DirectoryPart) → q.part ≡ parts.Directory d → ⊥
+
+abbrev pub added : Geometry → Contents → ℕ → Placed → Contents
+added g v n q = record { blocks = edited g v.blocks (put_inode q.number q.inode); nodes = put_number v.nodes n q }
+
+-- ---- a node changes
+
+-- What is asked: q is stored in the blocks afterwards, no write touched a zone of another node, and q has none of theirs.
+pub record MayChange (g : Geometry) (blocks after : List (List ℕ)) (nodes : List (ℕ × Placed)) (n : ℕ) (p q : Placed) (Z : ℕ → Type 0) : Type 0 where
+  pub stands : at_number nodes n ≡ Some p
+  pub number : q.number ≡ p.number
+  pub changes : Changes g (λ j. j ≡ p.number) Z blocks after
+  pub not_theirs : (a : ℕ) (r : Placed) (x : Place) → at_number nodes a ≡ Some r → a ≢ n → zone_in blocks r.inode x ≢ 0 → Z (zone_in blocks r.inode x) → ⊥
+  pub stored : IsStored g after q
+  pub apart : (x y : Place) → zone_in after q.inode x ≡ zone_in after q.inode y → zone_in after q.inode x ≢ 0 → x ≡ y
+  pub none_of_theirs : (a : ℕ) (r : Placed) (x y : Place) → at_number nodes a ≡ Some r → a ≢ n → zone_in after q.inode x ≡ zone_in blocks r.inode y → zone_in after q.inode x ≢ 0 → ⊥
+  pub names : (d : DirectoryPart) → q.part ≡ parts.Directory d → HasNames nodes d
+
+-- the node's blocks, with its inode taken out of the table
+abbrev pub opened : Contents → Placed → OpenInode
+opened v p = record { blocks = v.blocks; inode = p.inode }
+
+-- its inode is written back, and it is this part now
+abbrev pub closed : Geometry → Contents → ℕ → Placed → OpenInode → Part → Contents
+closed g v n p u part = record {
+  blocks = edited g u.blocks (put_inode p.number u.inode);
+  nodes = put_number v.nodes n (record { number = p.number; inode = u.inode; part = part });
+}
+
+-- ---- a block of it is mapped
+
+-- the zones that were taken for it are zones of data that no node has, and they differ
+pub record AreFree (g : Geometry) (blocks : List (List ℕ)) (nodes : List (ℕ × Placed)) (i : Inode) (t : TakenZones) (xs : List Place) : Type 0 where
+  pub some : (x : Place) → In x xs → zone_in blocks i x ≡ 0 → taken_at t x ≢ 0
+  pub low : (x : Place) → In x xs → zone_in blocks i x ≡ 0 → g.first ≤ taken_at t x
+  pub high : (x : Place) → In x xs → zone_in blocks i x ≡ 0 → taken_at t x < g.zones
+  pub fits : (x : Place) → In x xs → zone_in blocks i x ≡ 0 → taken_at t x < 2 ^ 16
+  pub free : (a : ℕ) (r : Placed) (x y : Place) → at_number nodes a ≡ Some r → In x xs → zone_in blocks i x ≡ 0 → zone_in blocks r.inode y ≢ taken_at t x
+  pub differ : (x y : Place) → In x xs → In y xs → zone_in blocks i x ≡ 0 → zone_in blocks i y ≡ 0 → taken_at t x ≡ taken_at t y → x ≡ y
+
+abbrev pub file_mapped : Geometry → Contents → ℕ → Placed → List Mapped → TakenZones → List ℕ → ℕ → Contents
+file_mapped g v n p zones t content index = closed g v n p (map_block g t content (opened v p) index) (parts.File (record { index = index; zone = t.data_zone } ∷ zones))
+
+abbrev pub directory_mapped : Geometry → Contents → ℕ → Placed → DirectoryPart → TakenZones → List ℕ → ℕ → Contents
+directory_mapped g v n p d t content index = closed g v n p (map_block g t content (opened v p) index) (parts.Directory d)
+
+-- the block itself is a page, all else that is written is metadata
+abbrev pub file_mapped_touches : Geometry → Contents → ℕ → Placed → TakenZones → List ℕ → ℕ → Touched
+file_mapped_touches g v n p t content index = record {
+  blocks = table_block g p.number ∷ filter (λ b. not (b == t.data_zone)) (touched_by_all g (all_edits g t content (opened v p) (way index)));
+  freed = [];
+  revoked = [];
+  pages = record { birth = n; index = index; zone = t.data_zone } ∷ [];
+  dropped = [];
+  nodes = n ∷ [];
+}
+
+-- ---- its blocks from an index on go
+
+abbrev pub file_cut : Geometry → Contents → ℕ → Placed → List Mapped → (Place → Bool) → ℕ → Contents
+file_cut g v n p zones keeps from = closed g v n p (cut_to g keeps (opened v p) from) (parts.File (filter (λ m. nat_lt m.index from) zones))
+
+-- the zones of numbers that go
+abbrev pub numbers_gone : Contents → Placed → (Place → Bool) → List ℕ
+numbers_gone v p keeps = map (λ x. zone_in v.blocks p.inode x) (filter (λ x. not (nat_eq (zone_in v.blocks p.inode x) 0) && not (keeps x)) number_places)
+
+abbrev pub page_of : ℕ → Mapped → Page
+page_of n m = record { birth = n; index = m.index; zone = m.zone }
+
+abbrev pub file_cut_touches : Geometry → Contents → ℕ → Placed → List Mapped → (Place → Bool) → ℕ → Touched
+file_cut_touches g v n p zones keeps from = record {
+  blocks = table_block g p.number ∷ touched_by_all g (cut_edits (λ x. zone_in v.blocks p.inode x) keeps (cuts keeps from));
+  freed = map (λ (m : Mapped). m.zone) (filter (λ m. not (nat_lt m.index from)) zones) ++ numbers_gone v p keeps;
+  revoked = numbers_gone v p keeps;
+  pages = [];
+  dropped = map (page_of n) (filter (λ m. not (nat_lt m.index from)) zones);
+  nodes = n ∷ [];
+}

@@ -1,0 +1,144 @@
+//! Laws of a changeable volume. Each does nothing when it is called.
+ghost use Rattle.std.specs.Prelude.{◌≡◌, ◌≢◌, ℕ, ◌+◌, ◌/◌, ◌%◌, ◌^◌, ◌<◌, ◌≤◌, ◌⊎◌, nat_eq, nat_lt, Bool, false, List, [], ◌∷◌, filter, length, slice_index_or, slice_set, Option, Some, None, Ok, IfSome};
+ghost use Rattle.std.specs.List.{slice_get};
+ghost use Rattle.std.specs.List.Sorted.{IsStrictlySortedBy};
+ghost use Rattle.std.specs.Map.{keys_of};
+ghost use Rattle.blk_base.specs.Members.{In};
+ghost use Rattle.byte_fields.specs.Fields.{record_at};
+ghost use Rattle.minix_layout.specs.declared.division.Geometry.{Geometry};
+ghost use Rattle.minix_layout.specs.declared.inode.Inode.{Inode};
+ghost use Rattle.minix_layout.specs.declared.slot.Slot.{Slot};
+ghost use Rattle.minix_layout.specs.Geometry.{IsSound};
+ghost use Rattle.minix_layout.specs.Inodes.{FitInode};
+ghost use Rattle.minix_layout.specs.Slots.{slot_of, IsEntry};
+ghost use Rattle.tree_model.specs.Maps.{at_number, put_number, name_cmp};
+ghost use Rattle.tree_model.specs.Paths.{is_dot};
+ghost use Rattle.volume_ops.specs.declared.found.Mapped.{Mapped};
+ghost use Rattle.volume_ops.specs.Fields.{inode_at};
+ghost use Rattle.volume_ops.specs.Places.{table_block, zone_number};
+ghost use Rattle.volume_ops.specs.Volume.{disk_of};
+ghost use Rattle.volume_model.specs.declared.placed.Placed.{Placed};
+ghost use Rattle.volume_model.specs.declared.placed.Part.TheVariants as parts;
+ghost use Rattle.volume_model.specs.declared.placed.DirectoryPart.{DirectoryPart};
+ghost use Rattle.volume_model.specs.Edits.{Edit, put_inode, put_slot, put_entry, edited, edited_all, touched_by_all};
+ghost use Rattle.volume_model.specs.Volume.{Place, block, zone_in, IsWhole, IsOfNumbers, IsStored, HasNames, IsVolumeOf};
+ghost use Rattle.volume_model.specs.Ways.{way, IsJust};
+ghost use Rattle.volume_model.specs.MapBlock.{TakenZones};
+ghost use Rattle.volume_model.specs.Counts.{keeps_below, zones_of_file, indices_of};
+ghost use Rattle.volume_model.specs.Touched.{Contents, Touched, Tells, Follows, and_then};
+ghost use Rattle.volume_model.specs.Moves.{IsVolume, AreJust, MayAdd, MayChange, AreFree, added, file_mapped, directory_mapped, file_mapped_touches, file_cut, file_cut_touches};
+ghost use Rattle.volume_model.specs.laws.Gone.{without};
+
+/// A law, which does nothing when it is called: where the zones of numbers of an inode keep their bytes, each of its
+/// places has the zone that it had; and where its other zones and its inode do too, its node is stored as before.
+pub fn nodes_stay()
+    ensures zones { (blocks after : List (List ℕ)) (i : Inode) →
+        ((x : Place) → IsOfNumbers x → zone_in blocks i x ≢ 0 →
+        disk_of after (zone_in blocks i x) ≡ disk_of blocks (zone_in blocks i x)) →
+        (x : Place) → zone_in after i x ≡ zone_in blocks i x }
+    ensures node { (g : Geometry) (blocks after : List (List ℕ)) (p : Placed) → IsStored g blocks p →
+        inode_at g after p.number ≡ inode_at g blocks p.number →
+        ((x : Place) → zone_in blocks p.inode x ≢ 0 →
+        disk_of after (zone_in blocks p.inode x) ≡ disk_of blocks (zone_in blocks p.inode x)) →
+        IsStored g after p }
+{}
+
+/// A law, which does nothing when it is called: a block that no write of a list touches keeps its bytes, and an inode
+/// or a slot that was written is read back, while each other one is read as before.
+pub fn writes_are_read()
+    ensures untouched { (g : Geometry) (es : List Edit) (blocks : List (List ℕ)) (b : ℕ) →
+        (In b (touched_by_all g es) → ⊥) → disk_of (edited_all g blocks es) b ≡ disk_of blocks b }
+    ensures inode { (g : Geometry) (blocks : List (List ℕ)) (n : ℕ) (i : Inode) →
+        IsWhole blocks → table_block g n < length blocks → FitInode i →
+        inode_at g (edited g blocks (put_inode n i)) n ≡ i }
+    ensures other_inode { (g : Geometry) (blocks : List (List ℕ)) (n m : ℕ) (i : Inode) →
+        IsWhole blocks → table_block g n < length blocks → 0 < n → 0 < m → m ≢ n →
+        inode_at g (edited g blocks (put_inode n i)) m ≡ inode_at g blocks m }
+    ensures slot { (g : Geometry) (blocks : List (List ℕ)) (zone at : ℕ) (s : Option Slot) →
+        IsWhole blocks → zone < length blocks → at < 64 → IfSome s (λ e. IsEntry e) →
+        slot_of (record_at 16 at (disk_of (edited g blocks (put_slot zone at s)) zone)) ≡ Ok s }
+    ensures other_slot { (g : Geometry) (blocks : List (List ℕ)) (zone at other place : ℕ) (s : Option Slot) →
+        IsWhole blocks → zone < length blocks → at < 64 → place < 64 → IfSome s (λ e. IsEntry e) →
+        ((other ≡ zone) → (place ≡ at) → ⊥) →
+        slot_of (record_at 16 place (disk_of (edited g blocks (put_slot zone at s)) other)) ≡
+        slot_of (record_at 16 place (disk_of blocks other)) }
+{}
+
+/// A law, which does nothing when it is called: a volume to which a node without zones is added, under a new birth
+/// and in an inode that no node has, is a volume with that node.
+pub fn added_node_stands()
+    ensures { (g : Geometry) (v : Contents) (n : ℕ) (q : Placed) →
+        IsVolumeOf g v.blocks v.nodes → MayAdd g v.blocks v.nodes n q →
+        IsVolumeOf g (added g v n q).blocks (added g v n q).nodes }
+{}
+
+/// A law, which does nothing when it is called: a volume of which one node changes, where no write touched a zone of
+/// another node and the node has none of theirs, is a volume with the changed node.
+pub fn changed_node_stands()
+    ensures stands { (g : Geometry) (v : Contents) (after : List (List ℕ)) (n : ℕ) (p q : Placed) (written : List ℕ) →
+        IsVolumeOf g v.blocks v.nodes → MayChange g v.blocks after v.nodes n p q (λ z. In z written) →
+        IsVolumeOf g after (put_number v.nodes n q) }
+    ensures just { (g : Geometry) (v : Contents) (after : List (List ℕ)) (n : ℕ) (p q : Placed) (written : List ℕ) →
+        IsVolumeOf g v.blocks v.nodes → MayChange g v.blocks after v.nodes n p q (λ z. In z written) →
+        AreJust v.blocks v.nodes → IsJust (λ x. zone_in after q.inode x) → AreJust after (put_number v.nodes n q) }
+{}
+
+/// A law, which does nothing when it is called: a name that goes together with its slot leaves names and slots that
+/// say the same.
+pub fn name_and_slot_go()
+    ensures { (nodes : List (ℕ × Placed)) (d : DirectoryPart) (k : ℕ) (s : Slot) → HasNames nodes d →
+        IsStrictlySortedBy name_cmp (keys_of d.names) → slice_get d.slots k ≡ Some (Some s) → is_dot s.name ≡ false →
+        HasNames nodes (record {
+          parent = d.parent;
+          names = without d.names s.name;
+          slots = slice_set d.slots k None;
+        }) }
+{}
+
+/// A law, which does nothing when it is called: a volume in which a block of a file or a directory is mapped, to zones
+/// that no node has, is a volume with that block; what was written is told; and the file uses as many zones more as
+/// there were holes on the way to the block.
+pub fn mapped_block_stands()
+    ensures file { (g : Geometry) (v : Contents) (n : ℕ) (p : Placed) (zones : List Mapped) (t : TakenZones)
+        (content : List ℕ) (index : ℕ) → IsSound g → IsVolume g v → at_number v.nodes n ≡ Some p →
+        p.part ≡ parts.File zones → length content ≡ 1024 → index < 262663 →
+        zone_in v.blocks p.inode (block index) ≡ 0 → AreFree g v.blocks v.nodes p.inode t (way index) →
+        IsVolume g (file_mapped g v n p zones t content index) }
+    ensures directory { (g : Geometry) (v : Contents) (n : ℕ) (p : Placed) (d : DirectoryPart) (t : TakenZones)
+        (content : List ℕ) (index : ℕ) → IsSound g → IsVolume g v → at_number v.nodes n ≡ Some p →
+        p.part ≡ parts.Directory d → length content ≡ 1024 → index < 262663 →
+        AreFree g v.blocks v.nodes p.inode t (way index) →
+        IsVolume g (directory_mapped g v n p d t content index) }
+    ensures told { (g : Geometry) (v : Contents) (n : ℕ) (p : Placed) (zones : List Mapped) (t : TakenZones)
+        (content : List ℕ) (index : ℕ) → IsSound g → IsVolume g v → at_number v.nodes n ≡ Some p →
+        p.part ≡ parts.File zones → length content ≡ 1024 → index < 262663 →
+        zone_in v.blocks p.inode (block index) ≡ 0 → AreFree g v.blocks v.nodes p.inode t (way index) →
+        Tells g v (file_mapped g v n p zones t content index) (file_mapped_touches g v n p t content index)
+        (λ birth at. (birth ≡ n) × (at ≡ index)) }
+    ensures counted { (g : Geometry) (v : Contents) (n : ℕ) (p : Placed) (zones : List Mapped) (index : ℕ) →
+        IsVolume g v → at_number v.nodes n ≡ Some p → p.part ≡ parts.File zones → index < 262663 →
+        zone_in v.blocks p.inode (block index) ≡ 0 →
+        zones_of_file (index ∷ indices_of zones) ≡ zones_of_file (indices_of zones) +
+        length (filter (λ x. nat_eq (zone_in v.blocks p.inode x) 0) (way index)) }
+{}
+
+/// A law, which does nothing when it is called: a volume in which the blocks of a file from an index on go is a volume
+/// with the blocks below it; what was written and freed is told.
+pub fn cut_file_stands()
+    ensures file { (g : Geometry) (v : Contents) (n : ℕ) (p : Placed) (zones : List Mapped) (from : ℕ) →
+        IsSound g → IsVolume g v → at_number v.nodes n ≡ Some p → p.part ≡ parts.File zones →
+        IsVolume g (file_cut g v n p zones (keeps_below (indices_of zones) from) from) }
+    ensures told { (g : Geometry) (v : Contents) (n : ℕ) (p : Placed) (zones : List Mapped) (from : ℕ) →
+        IsSound g → IsVolume g v → at_number v.nodes n ≡ Some p → p.part ≡ parts.File zones →
+        Tells g v (file_cut g v n p zones (keeps_below (indices_of zones) from) from)
+        (file_cut_touches g v n p zones (keeps_below (indices_of zones) from) from) (λ birth index. ⊥) }
+{}
+
+/// A law, which does nothing when it is called: what two calls tell, one after the other, is what they tell as one,
+/// where the second takes nothing that the first freed.
+pub fn calls_are_told_as_one()
+    ensures { (g : Geometry) (u v w : Contents) (s t : Touched) (first second : List (ℕ × ℕ)) →
+        Tells g u v s (λ birth index. In (birth, index) first) →
+        Tells g v w t (λ birth index. In (birth, index) second) → Follows w s t →
+        Tells g u w (and_then s t) (λ birth index. In (birth, index) first ⊎ In (birth, index) second) }
+{}
