@@ -1,18 +1,22 @@
 -- Moves: what a volume is after one of its nodes came or changed. A call is a list of them.
-use Rattle.std.specs.Prelude.{◌≡◌, ◌≢◌, ℕ, ◌^◌, ◌<◌, ◌≤◌, nat_lt, nat_eq, Bool, not, ◌==◌, ◌&&◌, List, [], ◌∷◌, ◌++◌, map, filter, Some, None}
+use Rattle.std.specs.Prelude.{◌≡◌, ◌≢◌, ℕ, ◌+◌, ◌*◌, ◌/◌, ◌%◌, ◌^◌, ◌<◌, ◌≤◌, nat_lt, nat_eq, Bool, not, ◌==◌, ◌&&◌, List, [], ◌∷◌, ◌++◌, map, filter, length, slice_set, Option, Some, None}
 use Rattle.blk_base.specs.Members.{In}
 use Rattle.minix_layout.specs.declared.division.Geometry.{Geometry}
 use Rattle.minix_layout.specs.declared.inode.Inode.{Inode}
 use Rattle.minix_layout.specs.Geometry.{IsSound}
-use Rattle.tree_model.specs.Maps.{at_number, put_number}
+use Rattle.std.specs.Map.{remove_entry}
+use Rattle.std.specs.BTreeMap.{is_at}
+use Rattle.minix_layout.specs.declared.slot.Slot.{Slot}
+use Rattle.tree_model.specs.Maps.{at_number, put_number, put_name, name_cmp}
 use Rattle.volume_ops.specs.declared.found.Mapped.{Mapped}
 use Rattle.volume_ops.specs.Places.{table_block}
 use Rattle.volume_model.specs.declared.placed.Placed.{Placed}
 use Rattle.volume_model.specs.declared.placed.Part.{Part}
 use Rattle.volume_model.specs.declared.placed.Part.TheVariants as parts
 use Rattle.volume_model.specs.declared.placed.DirectoryPart.{DirectoryPart}
-use Rattle.volume_model.specs.Edits.{put_inode, edited, touched_by_all}
-use Rattle.volume_model.specs.Volume.{Place, zone_in, IsStored, HasNames, IsVolumeOf}
+use Rattle.volume_model.specs.Edits.{put_inode, put_slot, edited, touched_by_all}
+use Rattle.volume_model.specs.Slots.{room, with_slot}
+use Rattle.volume_model.specs.Volume.{Place, block, zone_in, IsStored, HasNames, IsVolumeOf}
 use Rattle.volume_model.specs.Changes.{Changes}
 use Rattle.volume_model.specs.Ways.{way, IsJust}
 use Rattle.volume_model.specs.MapBlock.{OpenInode, TakenZones, taken_at, map_block, all_edits}
@@ -65,6 +69,37 @@ closed g v n p u part = record {
   blocks = edited g u.blocks (put_inode p.number u.inode);
   nodes = put_number v.nodes n (record { number = p.number; inode = u.inode; part = part });
 }
+
+-- ---- a slot of a directory changes, with its name
+
+abbrev pub without : {X : Type 0} → List (List ℕ × X) → List ℕ → List (List ℕ × X)
+without names name = remove_entry (is_at (name_cmp name)) names
+
+abbrev pub with_size : Inode → ℕ → Inode
+with_size i size = record { mode = i.mode; uid = i.uid; size = size; time = i.time; gid = i.gid; links = i.links; zones = i.zones }
+
+-- slot k is written, and the directory is `next` now
+abbrev pub slot_put : Geometry → Contents → ℕ → Placed → ℕ → Option Slot → DirectoryPart → Contents
+slot_put g v n p k o next =
+    let u : OpenInode = record {
+      blocks = edited g v.blocks (put_slot (zone_in v.blocks p.inode (block (k / 64))) (k % 64) o);
+      inode = with_size p.inode (16 * length next.slots);
+    } in
+    closed g v n p u (parts.Directory next)
+
+-- a name comes with its slot, at the first free place or behind the last one
+abbrev pub with_name : DirectoryPart → Slot → ℕ → DirectoryPart
+with_name d s birth = record { parent = d.parent; names = put_name d.names s.name birth; slots = with_slot d.slots (room d.slots) s }
+
+abbrev pub name_added : Geometry → Contents → ℕ → Placed → DirectoryPart → Slot → ℕ → Contents
+name_added g v n p d s birth = slot_put g v n p (room d.slots) (Some s) (with_name d s birth)
+
+-- a name goes with its slot, which is free then
+abbrev pub without_name : DirectoryPart → ℕ → Slot → DirectoryPart
+without_name d k s = record { parent = d.parent; names = without d.names s.name; slots = slice_set d.slots k None }
+
+abbrev pub name_removed : Geometry → Contents → ℕ → Placed → DirectoryPart → ℕ → Slot → Contents
+name_removed g v n p d k s = slot_put g v n p k None (without_name d k s)
 
 -- ---- a block of it is mapped
 

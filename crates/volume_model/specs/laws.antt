@@ -9,6 +9,7 @@ pub mod Trees
 pub mod Touched
 pub mod Added
 pub mod Gone
+pub mod Names
 pub mod Numbers
 pub mod Ways
 pub mod Gets
@@ -19,5 +20,6 @@ pub mod Counts
 pub mod Indexed
 pub mod NodeMoves
 pub mod ZoneMoves
+pub mod SlotMoves
 pub mod CutTells
 pub mod MapTells

@@ -1,5 +1,5 @@
 //! Laws of a changeable volume. Each does nothing when it is called.
-ghost use Rattle.std.specs.Prelude.{◌≡◌, ◌≢◌, ℕ, ◌+◌, ◌/◌, ◌%◌, ◌^◌, ◌<◌, ◌≤◌, ◌⊎◌, nat_eq, nat_lt, Bool, false, List, [], ◌∷◌, filter, length, slice_index_or, slice_set, Option, Some, None, Ok, IfSome};
+ghost use Rattle.std.specs.Prelude.{◌≡◌, ◌≢◌, ℕ, ◌+◌, ◌*◌, ◌/◌, ◌%◌, ◌^◌, ◌<◌, ◌≤◌, ◌⊎◌, nat_eq, nat_lt, Bool, false, List, [], ◌∷◌, filter, length, slice_index_or, slice_set, Option, Some, None, Ok, IfSome};
 ghost use Rattle.std.specs.List.{slice_get};
 ghost use Rattle.std.specs.List.Sorted.{IsStrictlySortedBy};
 ghost use Rattle.std.specs.Map.{keys_of};
@@ -11,7 +11,7 @@ ghost use Rattle.minix_layout.specs.declared.slot.Slot.{Slot};
 ghost use Rattle.minix_layout.specs.Geometry.{IsSound};
 ghost use Rattle.minix_layout.specs.Inodes.{FitInode};
 ghost use Rattle.minix_layout.specs.Slots.{slot_of, IsEntry};
-ghost use Rattle.tree_model.specs.Maps.{at_number, put_number, name_cmp};
+ghost use Rattle.tree_model.specs.Maps.{at_number, at_name, put_number, name_cmp};
 ghost use Rattle.tree_model.specs.Paths.{is_dot};
 ghost use Rattle.volume_ops.specs.declared.found.Mapped.{Mapped};
 ghost use Rattle.volume_ops.specs.Fields.{inode_at};
@@ -21,13 +21,13 @@ ghost use Rattle.volume_model.specs.declared.placed.Placed.{Placed};
 ghost use Rattle.volume_model.specs.declared.placed.Part.TheVariants as parts;
 ghost use Rattle.volume_model.specs.declared.placed.DirectoryPart.{DirectoryPart};
 ghost use Rattle.volume_model.specs.Edits.{Edit, put_inode, put_slot, put_entry, edited, edited_all, touched_by_all};
-ghost use Rattle.volume_model.specs.Volume.{Place, block, zone_in, IsWhole, IsOfNumbers, IsStored, HasNames, IsVolumeOf};
+ghost use Rattle.volume_model.specs.Volume.{Place, block, zone_in, IsWhole, IsOfNumbers, IsStored, HasNumber, IsVolumeOf};
 ghost use Rattle.volume_model.specs.Ways.{way, IsJust};
 ghost use Rattle.volume_model.specs.MapBlock.{TakenZones};
 ghost use Rattle.volume_model.specs.Counts.{keeps_below, zones_of_file, indices_of};
 ghost use Rattle.volume_model.specs.Touched.{Contents, Touched, Tells, Follows, and_then};
-ghost use Rattle.volume_model.specs.Moves.{IsVolume, AreJust, MayAdd, MayChange, AreFree, added, file_mapped, directory_mapped, file_mapped_touches, file_cut, file_cut_touches};
-ghost use Rattle.volume_model.specs.laws.Gone.{without};
+ghost use Rattle.volume_model.specs.Moves.{IsVolume, AreJust, MayAdd, MayChange, AreFree, added, file_mapped, directory_mapped, file_mapped_touches, file_cut, file_cut_touches, name_added, name_removed};
+ghost use Rattle.volume_model.specs.Slots.{room};
 
 /// A law, which does nothing when it is called: where the zones of numbers of an inode keep their bytes, each of its
 /// places has the zone that it had; and where its other zones and its inode do too, its node is stored as before.
@@ -83,16 +83,19 @@ pub fn changed_node_stands()
         AreJust v.blocks v.nodes → IsJust (λ x. zone_in after q.inode x) → AreJust after (put_number v.nodes n q) }
 {}
 
-/// A law, which does nothing when it is called: a name that goes together with its slot leaves names and slots that
-/// say the same.
-pub fn name_and_slot_go()
-    ensures { (nodes : List (ℕ × Placed)) (d : DirectoryPart) (k : ℕ) (s : Slot) → HasNames nodes d →
+/// A law, which does nothing when it is called: a volume in whose directory a new name and its slot are written, for
+/// a node that is there and in a block that is mapped, is a volume with that name; and one whose name goes, with its
+/// slot, is a volume without it.
+pub fn names_come_and_go()
+    ensures added { (g : Geometry) (v : Contents) (n : ℕ) (p : Placed) (d : DirectoryPart) (s : Slot) (birth : ℕ) →
+        IsSound g → IsVolume g v → at_number v.nodes n ≡ Some p → p.part ≡ parts.Directory d →
+        zone_in v.blocks p.inode (block (room d.slots / 64)) ≢ 0 → IsEntry s → is_dot s.name ≡ false →
+        at_name d.names s.name ≡ None → HasNumber v.nodes birth s.inode → 16 * (length d.slots + 1) < 2 ^ 32 →
+        IsVolume g (name_added g v n p d s birth) }
+    ensures removed { (g : Geometry) (v : Contents) (n : ℕ) (p : Placed) (d : DirectoryPart) (k : ℕ) (s : Slot) →
+        IsSound g → IsVolume g v → at_number v.nodes n ≡ Some p → p.part ≡ parts.Directory d →
         IsStrictlySortedBy name_cmp (keys_of d.names) → slice_get d.slots k ≡ Some (Some s) → is_dot s.name ≡ false →
-        HasNames nodes (record {
-          parent = d.parent;
-          names = without d.names s.name;
-          slots = slice_set d.slots k None;
-        }) }
+        IsVolume g (name_removed g v n p d k s) }
 {}
 
 /// A law, which does nothing when it is called: a volume in which a block of a file or a directory is mapped, to zones

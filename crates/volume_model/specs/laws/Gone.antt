@@ -19,9 +19,7 @@ use Rattle.volume_model.specs.declared.placed.Placed.{Placed}
 use Rattle.volume_model.specs.declared.placed.DirectoryPart.{DirectoryPart}
 use Rattle.volume_model.specs.Slots.{used_count}
 use Rattle.volume_model.specs.Volume.{HasNames}
-
-abbrev pub without : {X : Type 0} → List (List ℕ × X) → List ℕ → List (List ℕ × X)
-without names name = remove_entry (is_at (name_cmp name)) names
+use Rattle.volume_model.specs.Moves.{without}
 
 -- what stands in the names afterwards
 pub at_without : {X : Type 0} (names : List (List ℕ × X)) (name other : List ℕ) → IsStrictlySortedBy name_cmp (keys_of names) →
