@@ -1,0 +1,2 @@
+-- What the tests say of their devices.
+pub mod Ready
