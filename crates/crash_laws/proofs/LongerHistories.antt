@@ -12,7 +12,7 @@ use Rattle.crash_laws.specs.Extending.{Extends}
 use Rattle.crash_laws.specs.LegalHistory.{Event, done_at, done_from, done_by, root_alone}
 use Rattle.crash_laws.specs.Session.{Session, HasNote, IsSubmitted, Submitted}
 use Rattle.crash_laws.specs.TreeHistory.{AreCuts, history_of}
-use Rattle.crash_laws.specs.Volumes.{Walked}
+use Rattle.crash_laws.specs.Volumes.{WalkEnd}
 
 -- ---- the calls that are done
 
@@ -56,7 +56,7 @@ module _ (room : Room) (opened : Tree) (entries more : List Entry) where
 -- ---- the history
 
 -- With more events, and cuts that are told anew but for submitted transactions, the old entries stay as they are.
-pub events_extend : (room : Room) (events more : List Event) (cut new_cut : ℕ → ℕ) (place : ℕ → Walked → ℕ → ℕ → ℕ) (s : Session) → AreCuts cut
+pub events_extend : (room : Room) (events more : List Event) (cut new_cut : ℕ → ℕ) (place : ℕ → WalkEnd → ℕ → ℕ → ℕ) (s : Session) → AreCuts cut
     → ((j k : ℕ) → IsSubmitted s k → j ≤ k → new_cut j ≡ cut j) → ((k : ℕ) → IsSubmitted s k → cut k ≤ length events)
     → ((o f i v : ℕ) → HasNote s o (Page f i v) → v ≤ length events)
     → Extends (history_of room events cut place) (history_of room (events ++ more) new_cut place) s (length events)

@@ -10,7 +10,7 @@ use Rattle.tree_model.specs.laws.Histories.{history_mapped, history_written, unc
 use Rattle.crash_laws.specs.History.{HasTrees}
 use Rattle.crash_laws.specs.LegalHistory.{Event, done_by, root_alone, tree_up_to}
 use Rattle.crash_laws.specs.TreeHistory.{AreCuts, history_of}
-use Rattle.crash_laws.specs.Volumes.{Walked}
+use Rattle.crash_laws.specs.Volumes.{WalkEnd}
 
 -- the root alone has no file
 root_maps : (birth index : ℕ) → maps_block root_alone birth index ≡ false
@@ -24,7 +24,7 @@ root_maps birth index = by _
 pub tree_rooted : (room : Room) (events : List Event) (n : ℕ) → IsRooted (tree_up_to room events n)
 tree_rooted room events n = history_rooted room root_alone 0 (done_by events) new_plain new_born (n - 0)
 
-module _ (room : Room) (events : List Event) (cut : ℕ → ℕ) (place : ℕ → Walked → ℕ → ℕ → ℕ) (cuts : AreCuts cut) where
+module _ (room : Room) (events : List Event) (cut : ℕ → ℕ) (place : ℕ → WalkEnd → ℕ → ℕ → ℕ) (cuts : AreCuts cut) where
   rooted : (k : ℕ) → IsRooted (tree_after_entries room root_alone 0 (done_by events) k)
   rooted k = history_rooted room root_alone 0 (done_by events) new_plain new_born k
 

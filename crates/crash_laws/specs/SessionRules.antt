@@ -20,7 +20,7 @@ use Rattle.crash_laws.specs.PromiseRules.{BegunCall, Covers, CoversEntry, Covers
 use Rattle.crash_laws.specs.Rules.{OrderRules}
 use Rattle.crash_laws.specs.Session.{Session, Medium, HasNote}
 use Rattle.crash_laws.specs.TreeHistory.{AreCuts, IsPlaceIn, zone_on_path, history_of, is_barrier, IsAnswered}
-use Rattle.crash_laws.specs.Volumes.{Walked, HasTreesOf}
+use Rattle.crash_laws.specs.Volumes.{WalkEnd, HasTreesOf}
 
 -- what a host did: the calls on it, the cuts of its transactions, what it submitted, and the completions that it took
 pub record Run : Type 0 where
@@ -31,9 +31,9 @@ pub record Run : Type 0 where
   pub session : Session
   pub taken : List Completion
   -- where a walk finds the blocks of the files of the tree after entry n
-  pub place : ℕ → Walked → ℕ → ℕ → ℕ
+  pub place : ℕ → WalkEnd → ℕ → ℕ → ℕ
 
-abbrev pub history : Run → History Walked
+abbrev pub history : Run → History WalkEnd
 history run = history_of run.room run.events run.cut run.place
 
 -- the tree after the entries numbered up to n

@@ -18,7 +18,7 @@ use Rattle.volume_ops.specs.Volume.{put_nodes, walked, tree_of}
 use Rattle.crash_laws.specs.History.{History}
 use Rattle.crash_laws.specs.LegalHistory.{Event, Begin, End, thread_of, done_by, root_alone, tree_up_to}
 use Rattle.crash_laws.specs.PromiseRules.{BegunCall}
-use Rattle.crash_laws.specs.Volumes.{Walked}
+use Rattle.crash_laws.specs.Volumes.{WalkEnd}
 
 -- ---- where a walk finds the blocks of a file
 
@@ -35,16 +35,16 @@ zone_in (n ∷ more) birth index = if n.birth == birth then zone_of_found n.foun
     zone_of_found other index = 0
 
 -- the zone at which the volume of these blocks has this index of the file to which a path leads; 0 where there is none
-abbrev pub zone_in_walk : List (List ℕ) → Walked → List (List ℕ) → ℕ → ℕ
+abbrev pub zone_in_walk : List (List ℕ) → WalkEnd → List (List ℕ) → ℕ → ℕ
 zone_in_walk blocks (Err fault) names index = 0
-zone_in_walk blocks (Ok nodes) names index =
-    elim (node_of_path (put_nodes blocks nodes []) names) as (λ _. ℕ) [ Err refusal ↦ 0 | Ok birth ↦ zone_in nodes birth index ]
+zone_in_walk blocks (Ok met) names index =
+    elim (node_of_path (put_nodes blocks met.nodes []) names) as (λ _. ℕ) [ Err refusal ↦ 0 | Ok birth ↦ zone_in met.nodes birth index ]
 
 abbrev pub zone_on_path : Geometry → List (List ℕ) → List (List ℕ) → ℕ → ℕ
 zone_on_path g blocks names index = zone_in_walk blocks (walked g blocks) names index
 
 -- In a volume whose tree is alike to this one, the place of a file is that on any path which leads to the file.
-abbrev pub IsPlaceIn : Geometry → Tree → (Walked → ℕ → ℕ → ℕ) → Type 0
+abbrev pub IsPlaceIn : Geometry → Tree → (WalkEnd → ℕ → ℕ → ℕ) → Type 0
 IsPlaceIn g tree place = (blocks : List (List ℕ)) (other : Tree) (names : List (List ℕ)) (birth index : ℕ) → tree_of g blocks ≡ Ok other → AreAlike tree other
     → node_of_path tree names ≡ Ok birth → place (walked g blocks) birth index ≡ zone_on_path g blocks names index
 
@@ -56,7 +56,7 @@ pub record AreCuts (cut : ℕ → ℕ) : Type 0 where
   pub rise : (k : ℕ) → cut k ≤ cut (k + 1)
 
 -- the calls of a session on the root alone, with these cuts, and a place for each file of its trees
-abbrev pub history_of : Room → List Event → (ℕ → ℕ) → (ℕ → Walked → ℕ → ℕ → ℕ) → History Walked
+abbrev pub history_of : Room → List Event → (ℕ → ℕ) → (ℕ → WalkEnd → ℕ → ℕ → ℕ) → History WalkEnd
 history_of room events cut place = record {
   cut = cut;
   maps = maps room root_alone 0 (done_by events);

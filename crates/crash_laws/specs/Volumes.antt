@@ -5,14 +5,14 @@ use Rattle.order_model.specs.Submission.{IsOrderClosed}
 use Rattle.tree_model.specs.declared.node.Node.{Node}
 use Rattle.tree_model.specs.Trees.{AreAlike}
 use Rattle.volume_ops.specs.Volume.{disk_of, tree_of}
-use Rattle.volume_ops.specs.Walk.{Walked as WalkFound, walk_volume}
+use Rattle.volume_ops.specs.Walk.{Walked, walk_volume}
 use Rattle.volume_ops.specs.Zones.{Fault}
 use Rattle.crash_laws.specs.Rules.{OrderRules}
 use Rattle.crash_laws.specs.Session.{Session, Medium, IsSubmitted, image_of}
 
 -- how the walk through a volume ends: with what it met, or with the first fault
-abbrev pub Walked : Type 0
-Walked = Result WalkFound Fault
+abbrev pub WalkEnd : Type 0
+WalkEnd = Result Walked Fault
 
 -- A medium that a power cut left of a session: the submitted list keeps the order rules, and each put that a barrier
 -- orders before a kept one is kept.

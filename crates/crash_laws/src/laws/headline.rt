@@ -17,7 +17,7 @@ ghost use Rattle.crash_laws.specs.History.{History, HasTrees};
 ghost use Rattle.crash_laws.specs.PageRules.{PageOrder, DataBeforeCommit, place_at};
 ghost use Rattle.crash_laws.specs.Recovery.{IsRecovered};
 ghost use Rattle.crash_laws.specs.Session.{Session, Medium, IsCommit, IsSubmitted, IsSuperOf, body_at, image_of};
-ghost use Rattle.crash_laws.specs.Volumes.{Walked, IsCutOf, HasTreesOf};
+ghost use Rattle.crash_laws.specs.Volumes.{WalkEnd, IsCutOf, HasTreesOf};
 
 /// A law, which does nothing when it is called: the recovered disk has the metadata of the image after the last
 /// transaction whose commit block is kept, so its tree is alike to that transaction's; and recovery writes no block
@@ -29,7 +29,7 @@ pub fn metadata_recovered_is_that_of_a_prefix()
     ensures tree { (g : Geometry) (s : Session) (m : Medium) (tree_after : ℕ → List (ℕ × Node)) (recovered : List (List ℕ)) →
         IsCutOf g s m → HasTreesOf g s tree_after → IsRecovered s m (disk_of recovered) →
         (tree : List (ℕ × Node)) × (tree_of g recovered ≡ Ok tree) × AreAlike (tree_after (found s m)) tree }
-    ensures untouched { (g : Geometry) (h : History Walked) (s : Session) (m : Medium) (disk : ℕ → List ℕ) (f i : ℕ) →
+    ensures untouched { (g : Geometry) (h : History WalkEnd) (s : Session) (m : Medium) (disk : ℕ → List ℕ) (f i : ℕ) →
         IsCutOf g s m → HasTrees h → PageOrder (walk_volume g) h s → IsRecovered s m disk →
         h.maps (h.cut (found s m)) f i ≡ true → place_at (walk_volume g) h s (found s m) f i < s.journal →
         disk (place_at (walk_volume g) h s (found s m) f i) ≡ disk_of m.image (place_at (walk_volume g) h s (found s m) f i) }
@@ -38,7 +38,7 @@ pub fn metadata_recovered_is_that_of_a_prefix()
 /// A law, which does nothing when it is called: each mapped block of a file is recovered at its place with a version
 /// that is no older than its last one at the end of the last transaction that changed the file's size or zones.
 pub fn versions_recovered_are_no_older()
-    ensures prefix { (g : Geometry) (h : History Walked) (s : Session) (m : Medium) (disk : ℕ → List ℕ) →
+    ensures prefix { (g : Geometry) (h : History WalkEnd) (s : Session) (m : Medium) (disk : ℕ → List ℕ) →
         IsCutOf g s m → HasTrees h → PageOrder (walk_volume g) h s → DataBeforeCommit (walk_volume g) h s → IsRecovered s m disk →
         HoldsPrefix (walk_volume g) h s m disk (found s m) }
 {}
@@ -46,7 +46,7 @@ pub fn versions_recovered_are_no_older()
 /// A law, which does nothing when it is called: what a barrier call covers survived or was superseded, where a later
 /// write survived; what a sync call covers did so in any case.
 pub fn promises_are_kept()
-    ensures kept { (g : Geometry) (h : History Walked) (s : Session) (m : Medium) (sent : List Completion) →
+    ensures kept { (g : Geometry) (h : History WalkEnd) (s : Session) (m : Medium) (sent : List Completion) →
         IsCutOf g s m → HasTrees h → PageOrder (walk_volume g) h s → KeepsFlushed s.requests m.origins sent →
         KeepsPromises (walk_volume g) h s m (found s m) sent }
 {}

@@ -18,15 +18,15 @@ ghost use Rattle.crash_laws.specs.Plans.{PlanFacts, IsCommitting};
 ghost use Rattle.crash_laws.specs.Rules.{CommitOrder};
 ghost use Rattle.crash_laws.specs.Session.{Session, HasNote, IsCommit, image_of};
 ghost use Rattle.crash_laws.specs.Submitting.{Submitting, after};
-ghost use Rattle.crash_laws.specs.Volumes.{Walked};
+ghost use Rattle.crash_laws.specs.Volumes.{WalkEnd};
 
 /// A law, which does nothing when it is called: a call that changes the volume keeps the facts of a host, and each
 /// block of metadata stays logged or as in the last image.
 pub fn changes_keep_the_facts()
-    ensures facts { (g : Geometry) (h : History Walked) (s : Session) (old new : Host) (n : ℕ) (told : Told) →
+    ensures facts { (g : Geometry) (h : History WalkEnd) (s : Session) (old new : Host) (n : ℕ) (told : Told) →
         HasTrees h → HostFacts (walk_volume g) h s old n → IsChange h s old new told → HasZones h new →
         HostFacts (walk_volume g) h s new n }
-    ensures present { (h : History Walked) (s : Session) (old new : Host) (told : Told) →
+    ensures present { (h : History WalkEnd) (s : Session) (old new : Host) (told : Told) →
         IsChange h s old new told → ((b : ℕ) → old.metadata b ≡ true → IsPresent s old b) →
         (b : ℕ) → new.metadata b ≡ true → IsPresent s new b }
 {}
@@ -34,11 +34,11 @@ pub fn changes_keep_the_facts()
 /// A law, which does nothing when it is called: a page of the volume, sent with its last version to its zone, meets
 /// the clause of pages; and a request that is no commit block keeps the facts.
 pub fn pages_meet_their_clause()
-    ensures clause { (g : Geometry) (h : History Walked) (s : Session) (host : Host) (n : ℕ) (q : Request) (f i z : ℕ) →
+    ensures clause { (g : Geometry) (h : History WalkEnd) (s : Session) (host : Host) (n : ℕ) (q : Request) (f i z : ℕ) →
         HasTrees h → HostFacts (walk_volume g) h s host n → host.zone f i ≡ Some z →
         kind_body q.kind ≡ Some (h.content f i (last_write h f i host.now)) →
         NewPageClause (walk_volume g) h s q f i (last_write h f i host.now) z }
-    ensures facts { (g : Geometry) (h : History Walked) (p : Submitting) (host : Host) (n : ℕ) →
+    ensures facts { (g : Geometry) (h : History WalkEnd) (p : Submitting) (host : Host) (n : ℕ) →
         HasTrees h → HostFacts (walk_volume g) h p.session host n →
         ((k : ℕ) → k < host.running → p.transactions k ≡ p.session.transactions k) →
         ((f i v z : ℕ) → p.note ≡ Page f i v → kind_block p.request.kind ≡ Some z → (host.zone f i ≡ Some z) × (v ≡ last_write h f i host.now)) →
@@ -49,23 +49,23 @@ pub fn pages_meet_their_clause()
 /// A law, which does nothing when it is called: the plan of a transaction has the volume's metadata as its image, its
 /// bodies lie on metadata and its revokes do not, and it gives up or keeps in place each page that was sent.
 pub fn plans_have_the_volume_as_image()
-    ensures image { (g : Geometry) (h : History Walked) (s : Session) (host : Host) (n b : ℕ) →
+    ensures image { (g : Geometry) (h : History WalkEnd) (s : Session) (host : Host) (n b : ℕ) →
         HasTrees h → CommitOrder s → HostFacts (walk_volume g) h s host n → PlanFacts (walk_volume g) h s host → n + 1 ≡ host.running →
         host.metadata b ≡ true → image_of s host.running b ≡ host.volume b }
-    ensures logged { (g : Geometry) (h : History Walked) (s : Session) (host : Host) (n b : ℕ) →
+    ensures logged { (g : Geometry) (h : History WalkEnd) (s : Session) (host : Host) (n b : ℕ) →
         HasTrees h → CommitOrder s → HostFacts (walk_volume g) h s host n → PlanFacts (walk_volume g) h s host → n + 1 ≡ host.running →
         In b (blocks_read (image_of s host.running) (walk_volume g)) →
         In b s.reserved ⊎ ((x : List ℕ) × (mark_in (transactions_from s.transactions 1 host.running) b ≡ Set x)) }
-    ensures bodies { (g : Geometry) (h : History Walked) (s : Session) (host : Host) (n b : ℕ) (x : List ℕ) →
+    ensures bodies { (g : Geometry) (h : History WalkEnd) (s : Session) (host : Host) (n b : ℕ) (x : List ℕ) →
         HasTrees h → CommitOrder s → HostFacts (walk_volume g) h s host n → PlanFacts (walk_volume g) h s host → n + 1 ≡ host.running →
         mark_in (transactions_from s.transactions 1 host.running) b ≡ Set x → host.metadata b ≡ true }
-    ensures revokes { (g : Geometry) (h : History Walked) (s : Session) (host : Host) (n b : ℕ) →
+    ensures revokes { (g : Geometry) (h : History WalkEnd) (s : Session) (host : Host) (n b : ℕ) →
         HasTrees h → CommitOrder s → HostFacts (walk_volume g) h s host n → PlanFacts (walk_volume g) h s host → n + 1 ≡ host.running →
         In b (s.transactions host.running).revokes → In b s.reserved → ⊥ }
-    ensures pages { (g : Geometry) (h : History Walked) (s : Session) (host : Host) (n : ℕ) →
+    ensures pages { (g : Geometry) (h : History WalkEnd) (s : Session) (host : Host) (n : ℕ) →
         HasTrees h → CommitOrder s → HostFacts (walk_volume g) h s host n → PlanFacts (walk_volume g) h s host → n + 1 ≡ host.running →
         IsCommitting (walk_volume g) h s host.running }
-    ensures facts { (g : Geometry) (h : History Walked) (s : Session) (host : Host) (n : ℕ) →
+    ensures facts { (g : Geometry) (h : History WalkEnd) (s : Session) (host : Host) (n : ℕ) →
         HasTrees h → CommitOrder s → HostFacts (walk_volume g) h s host n → PlanFacts (walk_volume g) h s host → n + 1 ≡ host.running →
         HostFacts (walk_volume g) h s (record host { running = host.running + 1; bodies = []; revokes = [] }) n }
 {}
@@ -73,20 +73,20 @@ pub fn plans_have_the_volume_as_image()
 /// A law, which does nothing when it is called: what holds of a planned transaction holds until its commit block,
 /// which then meets its clause on pages, and which keeps the facts and lets the zones go that waited for it.
 pub fn commit_blocks_meet_their_clause()
-    ensures pages { (g : Geometry) (h : History Walked) (p : Submitting) (host : Host) (n : ℕ) →
+    ensures pages { (g : Geometry) (h : History WalkEnd) (p : Submitting) (host : Host) (n : ℕ) →
         HasTrees h → HostFacts (walk_volume g) h p.session host n →
         ((k : ℕ) → k < host.running → p.transactions k ≡ p.session.transactions k) → n + 2 ≡ host.running →
         ((f i v z : ℕ) → p.note ≡ Page f i v → kind_block p.request.kind ≡ Some z → (host.zone f i ≡ Some z) × (v ≡ last_write h f i host.now)) →
         IsCommitting (walk_volume g) h p.session (host.running - 1) →
         IsCommitting (walk_volume g) h (after p) (host.running - 1) }
-    ensures clause { (g : Geometry) (h : History Walked) (p : Submitting) (host : Host) (n : ℕ) →
+    ensures clause { (g : Geometry) (h : History WalkEnd) (p : Submitting) (host : Host) (n : ℕ) →
         HasTrees h → HostFacts (walk_volume g) h p.session host n →
         ((k : ℕ) → k < host.running → p.transactions k ≡ p.session.transactions k) → n + 2 ≡ host.running →
         ((f i : ℕ) → h.changes (host.running - 1) f ≡ true → h.maps (h.cut (host.running - 1)) f i ≡ true →
         (o : ℕ) × HasNote p.session o (Page f i (last_write h f i (h.cut (host.running - 1)))) × IsOrdered p.session.requests o × IsClosedOff p.session.requests o) →
         IsCommitting (walk_volume g) h p.session (host.running - 1) →
         CommitPagesClause (walk_volume g) h p (host.running - 1) }
-    ensures facts { (g : Geometry) (h : History Walked) (p : Submitting) (host : Host) (n : ℕ) (quarantine : ℕ → Option ℕ) →
+    ensures facts { (g : Geometry) (h : History WalkEnd) (p : Submitting) (host : Host) (n : ℕ) (quarantine : ℕ → Option ℕ) →
         HasTrees h → HostFacts (walk_volume g) h p.session host n →
         ((k : ℕ) → k < host.running → p.transactions k ≡ p.session.transactions k) → n + 2 ≡ host.running →
         p.note ≡ Commit (n + 1) →

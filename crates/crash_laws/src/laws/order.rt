@@ -10,7 +10,7 @@ ghost use Rattle.crash_laws.specs.Session.{Session, HasNote, IsCommit};
 ghost use Rattle.crash_laws.specs.Rules.{CommitOrder};
 ghost use Rattle.crash_laws.specs.History.{History, IsUnmapped, HasTrees, IsEntryOf};
 ghost use Rattle.crash_laws.specs.PromiseRules.{BegunCall, Covers, CoversEntry, AreHeld};
-ghost use Rattle.crash_laws.specs.Volumes.{Walked};
+ghost use Rattle.crash_laws.specs.Volumes.{WalkEnd};
 
 /// A law, which does nothing when it is called: on an order-closed medium, what a barrier keeps apart from a kept
 /// put is kept, and each block has the body of its origin or the base image's.
@@ -45,7 +45,7 @@ pub fn barriers_divide_epochs()
 /// hold what the call covers, one of two stands there: an ordered page of at least that version, or the commit
 /// block of a transaction with a later entry that removed the file or unmapped the block.
 pub fn held_pairs_were_sent_or_given_up()
-    ensures sent_or_given_up { (h : History Walked) (s : Session) (call : BegunCall) (barrier f i n : ℕ) →
+    ensures sent_or_given_up { (h : History WalkEnd) (s : Session) (call : BegunCall) (barrier f i n : ℕ) →
         HasTrees h → CommitOrder s → AreHeld h s (λ o. o ≤ barrier) (Covers h call) (CoversEntry call) → Covers h call f i n →
         ((p v : ℕ) × HasNote s p (Page f i v) × IsOrdered s.requests p × (p ≤ barrier) × (n ≤ v))
         ⊎ ((k c m : ℕ) × IsCommit s k c × (c ≤ barrier) × IsEntryOf h m k × (n < m) × IsUnmapped h f i m) }

@@ -24,7 +24,7 @@ ghost use Rattle.crash_laws.specs.Requests.{IsPageRequest, IsFlushRequest, IsHom
 ghost use Rattle.crash_laws.specs.Rules.{BaseImage, CommitOrder, OrderRules};
 ghost use Rattle.crash_laws.specs.Session.{Session, HasNote, IsCommit, image_of};
 ghost use Rattle.crash_laws.specs.Submitting.{Submitting, after};
-ghost use Rattle.crash_laws.specs.Volumes.{Walked, HasTreeOf, HasTreesOf};
+ghost use Rattle.crash_laws.specs.Volumes.{WalkEnd, HasTreeOf, HasTreesOf};
 
 /// A law, which does nothing when it is called: over a base image with an empty log, a session that has submitted
 /// nothing keeps all rules.
@@ -33,7 +33,7 @@ pub fn rules_hold_at_the_start()
         s.notes ≡ [] → s.requests ≡ [] → 1 ≤ s.ring.first → IsPlace s.ring s.head → BaseImage s →
         ((b : ℕ) → In b (blocks_read (disk_of s.base) (walk_volume g)) → In b s.reserved) →
         OrderRules (walk_volume g) s }
-    ensures pages { (g : Geometry) (h : History Walked) (s : Session) →
+    ensures pages { (g : Geometry) (h : History WalkEnd) (s : Session) →
         s.notes ≡ [] → HasTrees h → PageOrder (walk_volume g) h s }
 {}
 
@@ -43,11 +43,11 @@ pub fn requests_keep_the_rules()
     ensures order { (g : Geometry) (p : Submitting) →
         OrderRules (walk_volume g) p.session → OrderClause (walk_volume g) p →
         OrderRules (walk_volume g) (after p) }
-    ensures pages { (g : Geometry) (h : History Walked) (p : Submitting) →
+    ensures pages { (g : Geometry) (h : History WalkEnd) (p : Submitting) →
         OrderRules (walk_volume g) p.session → OrderClause (walk_volume g) p →
         PageOrder (walk_volume g) h p.session → PageClause (walk_volume g) h p →
         PageOrder (walk_volume g) h (after p) }
-    ensures versions { (g : Geometry) (h : History Walked) (p : Submitting) →
+    ensures versions { (g : Geometry) (h : History WalkEnd) (p : Submitting) →
         OrderRules (walk_volume g) p.session → OrderClause (walk_volume g) p →
         DataBeforeCommit (walk_volume g) h p.session → PageClause (walk_volume g) h p →
         DataBeforeCommit (walk_volume g) h (after p) }
@@ -84,29 +84,29 @@ pub fn trees_of_images_follow()
 /// A law, which does nothing when it is called: the rules of pages hold of a longer history, where they hold of the
 /// one before.
 pub fn histories_may_grow()
-    ensures pages { (g : Geometry) (h more : History Walked) (s : Session) (now : ℕ) →
+    ensures pages { (g : Geometry) (h more : History WalkEnd) (s : Session) (now : ℕ) →
         Extends h more s now → PageOrder (walk_volume g) h s → PageOrder (walk_volume g) more s }
-    ensures versions { (g : Geometry) (h more : History Walked) (s : Session) (now : ℕ) →
+    ensures versions { (g : Geometry) (h more : History WalkEnd) (s : Session) (now : ℕ) →
         Extends h more s now → DataBeforeCommit (walk_volume g) h s → DataBeforeCommit (walk_volume g) more s }
 {}
 
 /// A law, which does nothing when it is called: what requests hold when a barrier or sync call answers, they hold
 /// with one request more and with a longer history.
 pub fn promises_stay_kept()
-    ensures answered { (h : History Walked) (s : Session) (call : BegunCall) (e barrier : ℕ) →
+    ensures answered { (h : History WalkEnd) (s : Session) (call : BegunCall) (e barrier : ℕ) →
         IsFence s.requests barrier → AreHeld h s (λ i. i ≤ barrier) (Covers h call) (CoversEntry call) →
         ((o f i v : ℕ) → HasNote s o (Page f i v) → v ≤ e) → ((k c : ℕ) → IsCommit s k c → h.cut k ≤ e) →
         KeepsBarrier h s e (Covers h call) (CoversEntry call) }
-    ensures barrier_pushed { (h : History Walked) (p : Submitting) (call : BegunCall) (e : ℕ) →
+    ensures barrier_pushed { (h : History WalkEnd) (p : Submitting) (call : BegunCall) (e : ℕ) →
         KeepsBarrier h p.session e (Covers h call) (CoversEntry call) →
         KeepsBarrier h (after p) e (Covers h call) (CoversEntry call) }
-    ensures sync_pushed { (h : History Walked) (p : Submitting) (call : BegunCall) (taken : List Completion) →
+    ensures sync_pushed { (h : History WalkEnd) (p : Submitting) (call : BegunCall) (taken : List Completion) →
         KeepsSync h p.session taken (Covers h call) (CoversEntry call) →
         KeepsSync h (after p) taken (Covers h call) (CoversEntry call) }
-    ensures barrier_grows { (h more : History Walked) (s : Session) (now : ℕ) (call : BegunCall) (e : ℕ) →
+    ensures barrier_grows { (h more : History WalkEnd) (s : Session) (now : ℕ) (call : BegunCall) (e : ℕ) →
         Extends h more s now → call.begin ≤ now → KeepsBarrier h s e (Covers h call) (CoversEntry call) →
         KeepsBarrier more s e (Covers more call) (CoversEntry call) }
-    ensures sync_grows { (h more : History Walked) (s : Session) (now : ℕ) (call : BegunCall) (taken : List Completion) →
+    ensures sync_grows { (h more : History WalkEnd) (s : Session) (now : ℕ) (call : BegunCall) (taken : List Completion) →
         Extends h more s now → call.begin ≤ now → KeepsSync h s taken (Covers h call) (CoversEntry call) →
         KeepsSync more s taken (Covers more call) (CoversEntry call) }
 {}

@@ -20,16 +20,16 @@ ghost use Rattle.crash_laws.specs.Recovery.{IsRecovered};
 ghost use Rattle.crash_laws.specs.Session.{Session, Medium, HasNote, IsSubmitted};
 ghost use Rattle.crash_laws.specs.SessionRules.{Run, KeepsRules, Sentences};
 ghost use Rattle.crash_laws.specs.TreeHistory.{AreCuts, IsPlaceIn, history_of};
-ghost use Rattle.crash_laws.specs.Volumes.{Walked};
+ghost use Rattle.crash_laws.specs.Volumes.{WalkEnd};
 
 /// A law, which does nothing when it is called: what the laws ask of a history holds of the calls of every session on
 /// real trees, and each file of a tree has a place in each volume whose tree is alike, by whichever of its paths.
 pub fn calls_on_trees_make_a_history()
-    ensures trees { (room : Room) (events : List Event) (cut : ℕ → ℕ) (place : ℕ → Walked → ℕ → ℕ → ℕ) →
+    ensures trees { (room : Room) (events : List Event) (cut : ℕ → ℕ) (place : ℕ → WalkEnd → ℕ → ℕ → ℕ) →
         AreCuts cut → HasTrees (history_of room events cut place) }
     ensures rooted { (room : Room) (events : List Event) (n : ℕ) → IsRooted (tree_up_to room events n) }
     ensures places { (g : Geometry) (tree : Tree) → IsRooted tree →
-        (place : Walked → ℕ → ℕ → ℕ) × IsPlaceIn g tree place }
+        (place : WalkEnd → ℕ → ℕ → ℕ) × IsPlaceIn g tree place }
 {}
 
 /// A law, which does nothing when it is called: where a session keeps the order rules, and the medium that a power
@@ -51,7 +51,7 @@ pub fn histories_of_calls_may_grow()
     ensures legal { (room : Room) (programs : ℕ → List Call) (events : List Event) (e : Event) →
         IsLegal room programs events → EventClause room programs events e →
         IsLegal room programs (events ++ e ∷ []) }
-    ensures extends { (room : Room) (events more : List Event) (cut new_cut : ℕ → ℕ) (place : ℕ → Walked → ℕ → ℕ → ℕ) (s : Session) →
+    ensures extends { (room : Room) (events more : List Event) (cut new_cut : ℕ → ℕ) (place : ℕ → WalkEnd → ℕ → ℕ → ℕ) (s : Session) →
         AreCuts cut → ((j k : ℕ) → IsSubmitted s k → j ≤ k → new_cut j ≡ cut j) →
         ((k : ℕ) → IsSubmitted s k → cut k ≤ length events) →
         ((o f i v : ℕ) → HasNote s o (Page f i v) → v ≤ length events) →
