@@ -1,5 +1,5 @@
 -- The log of an image, as one fold over its blocks.
-use Rattle.std.specs.Prelude.{ℕ, ◌+◌, ◌-◌, ◌^◌, ◌%◌, ◌==◌, ◌||◌, nat_lt, nat_le, if◌then◌else◌, Bool, List, [], ◌∷◌, ◌++◌, map, slice_index_or, Option, Some, None, Result, Ok, Err}
+use Rattle.std.specs.Prelude.{ℕ, ◌+◌, ◌-◌, ◌^◌, ◌%◌, ◌==◌, ◌||◌, nat_lt, nat_le, if◌then◌else◌, Bool, List, [], ◌∷◌, ◌++◌, map, slice_index_or, Option, Some, None, Result, Ok, Err, ◌≡◌, ◌⊎◌, true}
 use Rattle.std.specs.List.{list_any, range_with_len}
 use Rattle.blk_base.specs.Block.{filled}
 use Rattle.log_model.specs.Marks.{Logged, Transaction}
@@ -72,6 +72,12 @@ first_of (Some at) next = Some at
 -- no session changes the boot block or the superblock, and the volume has no block from zones on
 abbrev pub is_outside : ℕ → Tag → Bool
 is_outside zones t = nat_lt t.block 2 || nat_le zones t.block
+
+-- a block with a fault: a revoke block with a bad count, or a descriptor with a tag for a block outside
+abbrev pub IsFaulty : ℕ → List ℕ → Type 0
+IsFaulty zones b =
+    (log_block_of b ≡ Err BadCount)
+    ⊎ ((n : ℕ) × (tags : List Tag) × (log_block_of b ≡ Ok (Descriptor n tags)) × (list_any (is_outside zones) tags ≡ true))
 
 -- the transaction is whole: its bodies and revokes are done, its fault counts, and the next sequence is expected
 abbrev pub committed : Reading → Reading

@@ -1,16 +1,18 @@
 //! Laws of the blocks of a journal.
-ghost use Rattle.std.specs.Prelude.{◌≡◌, ◌≢◌, ℕ, ◌+◌, ◌^◌, ◌%◌, ◌<◌, ◌≤◌, List, None, All, Ok, length, slice_index};
+ghost use Rattle.std.specs.Prelude.{◌≡◌, ◌≢◌, ℕ, ◌+◌, ◌^◌, ◌%◌, ◌<◌, ◌≤◌, List, None, Some, All, Ok, length, slice_index, Err, true, [], ◌∷◌};
+ghost use Rattle.std.specs.List.{list_any};
+ghost use Rattle.journal_blocks.specs.declared.fault.JournalFault.{JournalFault};
 ghost use Rattle.byte_fields.specs.Fields.{Apart};
 ghost use Rattle.journal_blocks.specs.declared.super_block.JournalSuper.{JournalSuper};
 ghost use Rattle.journal_blocks.specs.declared.tag.Tag.{Tag};
 ghost use Rattle.journal_blocks.specs.declared.log_block.LogBlock.{LogBlock};
-ghost use Rattle.journal_blocks.specs.Header.{magic_of};
+ghost use Rattle.journal_blocks.specs.Header.{magic_of, sequence_of};
 ghost use Rattle.journal_blocks.specs.Super.{super_of, super_block, with_tail, IsSound};
 ghost use Rattle.journal_blocks.specs.Blocks.{log_block_of, escaped, restored};
 ghost use Rattle.blk_base.specs.Members.{In};
 ghost use Rattle.log_model.specs.Log as model;
 ghost use Rattle.log_model.specs.Marks.{Set, mark_in};
-ghost use Rattle.journal_blocks.specs.Log.{Reading, Entry, Ends, said, found, goes_on, read_log, body_at, log_of};
+ghost use Rattle.journal_blocks.specs.Log.{Reading, Entry, Ends, said, found, goes_on, read_log, body_at, is_outside, log_of, places, IsFaulty};
 ghost use Rattle.journal_blocks.specs.Readers.{format, ring_of};
 ghost use Rattle.journal_blocks.specs.Written.{descriptor_block, revoke_block, commit_block};
 
@@ -51,14 +53,35 @@ pub fn readers_agree()
 {}
 
 /// A law, which does nothing when it is called: blocks of which none is a commit block of the sequence that is
-/// expected add no transaction; the sequence behind the log counts its transactions; and of a log without a fault no
-/// body is for the boot block, the superblock or a block past the volume.
+/// expected add no transaction; the sequence behind the log counts its transactions; the fault of a log is at one of its
+/// blocks, which has one; and of a log without a fault no body is for the boot block, the superblock or a block past
+/// the volume.
 pub fn logs_hold_whole_transactions()
     ensures end { (zones : ℕ) (r : Reading) (entries : List Entry) →
         ((e : Entry) → In e entries → said r.sequence e.body ≢ Ends) →
         (found (read_log zones (goes_on r) entries)).done ≡ r.done }
     ensures counts { (base : ℕ) (s : JournalSuper) (image : List (List ℕ)) → s.sequence < 2 ^ 32 →
         (log_of base s image).sequence ≡ (s.sequence + length (log_of base s image).done) % 2 ^ 32 }
+    ensures fault { (base : ℕ) (s : JournalSuper) (image : List (List ℕ)) (at : ℕ) → (log_of base s image).fault ≡ Some at →
+        (place : ℕ) × In place (places s) × (base + place ≡ at) × IsFaulty base (body_at image at) }
     ensures inside { (base : ℕ) (s : JournalSuper) (image : List (List ℕ)) (b : ℕ) (x : List ℕ) →
         (log_of base s image).fault ≡ None → mark_in (log_of base s image).done b ≡ Set x → (2 ≤ b) × (b < base) }
+{}
+
+/// A law, which does nothing when it is called: a revoke block with a bad count and a descriptor with a tag for a block
+/// outside are suspected where they are read; what is suspected counts once its transaction is whole; and the first
+/// fault along the log stays.
+pub fn faults_count_in_whole_transactions()
+    ensures revoke { (zones : ℕ) (r : Reading) (e : Entry) →
+        r.tags ≡ [] → r.suspect ≡ None → sequence_of e.body ≡ r.sequence → log_block_of e.body ≡ Err JournalFault.BadCount →
+        (found (read_log zones (goes_on r) (e ∷ []))).suspect ≡ Some e.at }
+    ensures descriptor { (zones n : ℕ) (tags : List Tag) (r : Reading) (e : Entry) →
+        r.tags ≡ [] → r.suspect ≡ None → sequence_of e.body ≡ r.sequence → log_block_of e.body ≡ Ok (LogBlock.Descriptor n tags) →
+        list_any (is_outside zones) tags ≡ true →
+        (found (read_log zones (goes_on r) (e ∷ []))).suspect ≡ Some e.at }
+    ensures whole { (zones : ℕ) (r : Reading) (entries : List Entry) (at : ℕ) →
+        r.suspect ≡ Some at → length r.done < length (found (read_log zones (goes_on r) entries)).done →
+        (first : ℕ) × ((found (read_log zones (goes_on r) entries)).fault ≡ Some first) }
+    ensures first { (zones : ℕ) (r : Reading) (entries : List Entry) (at : ℕ) →
+        r.fault ≡ Some at → (found (read_log zones (goes_on r) entries)).fault ≡ Some at }
 {}

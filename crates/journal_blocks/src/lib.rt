@@ -29,8 +29,8 @@ pub use escapes::{escape, restore};
 pub use fault::JournalFault;
 pub use header::sequence_in;
 pub use laws::{
-    bodies_are_restored, log_blocks_are_read, logs_hold_whole_transactions, readers_agree,
-    superblocks_are_read,
+    bodies_are_restored, faults_count_in_whole_transactions, log_blocks_are_read,
+    logs_hold_whole_transactions, readers_agree, superblocks_are_read,
 };
 pub use lists::{NumberList, TagList};
 pub use log_block::{LogBlock, read_block};

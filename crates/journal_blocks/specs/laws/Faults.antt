@@ -112,7 +112,7 @@ super_memory b h = memory_said (magic_of b == 0xC03B3998) (kind_of b == 4) (bits
 -- ---- blocks of the log
 
 -- what a reader says, by its five tests
-abbrev told : Bool → Bool → Bool → Bool → Bool → (sequence : ℕ) → List Tag → List ℕ → Result LogBlock JournalFault
+abbrev pub told : Bool → Bool → Bool → Bool → Bool → (sequence : ℕ) → List Tag → List ℕ → Result LogBlock JournalFault
 told magic one two five count sequence tags blocks =
     if not magic then Err NotMagic
     else if one then Ok (Descriptor sequence tags)
@@ -121,7 +121,7 @@ told magic one two five count sequence tags blocks =
     else if not count then Err BadCount
     else Ok (Revoke sequence blocks)
 
-told_of : (b : List ℕ) (magic one two five count : Bool) → (magic_of b == 0xC03B3998) ≡ magic → (kind_of b == 1) ≡ one → (kind_of b == 2) ≡ two → (kind_of b == 5) ≡ five → is_count (count_of b) ≡ count
+pub told_of : (b : List ℕ) (magic one two five count : Bool) → (magic_of b == 0xC03B3998) ≡ magic → (kind_of b == 1) ≡ one → (kind_of b == 2) ≡ two → (kind_of b == 5) ≡ five → is_count (count_of b) ≡ count
     → log_block_of b ≡ told magic one two five count (sequence_of b) (tags_of b) (revoked_of b)
 unfolding log_block_of
 told_of b magic one two five count e f g h k =

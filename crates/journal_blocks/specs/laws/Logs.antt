@@ -1,18 +1,23 @@
 -- Laws of the log as a fold.
-use Rattle.std.specs.Prelude.{◌≡◌, ◌≢◌, ℕ, zero, suc, ◌+◌, ◌-◌, ◌<◌, ◌≤◌, ◌^◌, ◌%◌, ◌==◌, nat_lt, nat_le, Bool, true, false, if◌then◌else◌, List, [], ◌∷◌, ◌++◌, length, map, Option, Some, None, ◌⊎◌, refl}
+use Rattle.std.specs.Prelude.{◌≡◌, ◌≢◌, ℕ, zero, suc, ◌+◌, ◌-◌, ◌<◌, ◌≤◌, ◌^◌, ◌%◌, ◌==◌, nat_lt, nat_le, Bool, true, false, if◌then◌else◌, List, [], ◌∷◌, ◌++◌, length, map, Option, Some, None, ◌⊎◌, refl, Result, Ok, Err}
 use Rattle.std.specs.List.{list_any, range_with_len}
 use Rattle.std.proofs.Common.{sym, ap, ◌∙◌, subst, inl, inr, ⊎_elim, arith, length-append}
-use Rattle.std.proofs.lemmas.Bool.{or_parts, ltb-false, leb-false}
+use Rattle.std.proofs.lemmas.Bool.{eq-eqb, or_parts, ltb-false, leb-false}
 use Rattle.std.proofs.lemmas.List.{length-map}
 use Rattle.std.proofs.lemmas.List.FromFn.{length-range_with_len}
-use Rattle.blk_base.specs.Members.{In, In-append_right, In-push_cases, none-list_any}
+use Rattle.blk_base.specs.Members.{In, In-map, In-append_right, In-push_cases, none-list_any}
 use Rattle.log_model.specs.Marks.{Logged, Transaction, Mark, Set, mark_in}
 use Rattle.log_model.specs.LastLogged.{IsLastLogged, IsLastBody}
 use Rattle.log_model.proofs.LastLogged.{mark-last_logged}
 use Rattle.journal_blocks.specs.declared.super_block.JournalSuper.{JournalSuper}
 use Rattle.journal_blocks.specs.declared.tag.Tag.{Tag}
-use Rattle.journal_blocks.specs.Blocks.{restored}
-use Rattle.journal_blocks.specs.Log.{Said, Tags, Ends, Revokes, BadRevoke, Nothing, said, Entry, Reading, Log, GoesOn, HasEnded, found, first_of, is_outside, committed, by_said, by_tags, read_entry, read_log, beginning, places, entry_at, log_of}
+use Rattle.journal_blocks.specs.declared.log_block.LogBlock.{LogBlock}
+use Rattle.journal_blocks.specs.declared.log_block.LogBlock.TheVariants.{Descriptor, Commit, Revoke}
+use Rattle.journal_blocks.specs.declared.fault.JournalFault.{JournalFault}
+use Rattle.journal_blocks.specs.declared.fault.JournalFault.TheVariants.{NotMagic, BadKind, BadCount, Feature, NoMemory}
+use Rattle.journal_blocks.specs.Header.{sequence_of}
+use Rattle.journal_blocks.specs.Blocks.{restored, log_block_of}
+use Rattle.journal_blocks.specs.Log.{Said, Tags, Ends, Revokes, BadRevoke, Nothing, said, Entry, Reading, Log, GoesOn, HasEnded, found, first_of, is_outside, committed, by_said, by_tags, read_entry, read_log, beginning, places, entry_at, log_of, said_by, body_at, IsFaulty}
 
 -- the log that ended stays
 pub stopped-stays : (zones : ℕ) (r : Reading) (es : List Entry) → read_log zones (HasEnded r) es ≡ HasEnded r
@@ -189,3 +194,183 @@ below_itself n lt = omega arith
 pub log_counts : (base : ℕ) (s : JournalSuper) (image : List (List ℕ)) → s.sequence < 2 ^ 32 → (log_of base s image).sequence ≡ (s.sequence + length (log_of base s image).done) % 2 ^ 32
 unfolding log_of
 log_counts base s image lt = count_log base s.sequence (GoesOn (beginning s.sequence)) (map (entry_at base image) (places s)) (below_itself s.sequence lt)
+
+-- ---- where faults lie
+
+none_bad : ◌≡◌ {A = Said} Nothing BadRevoke → ⊥
+none_bad e = cc
+
+bad_by : (own : Bool) (w : Result LogBlock JournalFault) → (if own then said_by w else Nothing) ≡ BadRevoke → w ≡ Err BadCount
+bad_by false w e = absurd (none_bad e)
+bad_by true (Ok (Descriptor n tags)) e = absurd (let k : ⊥ = cc in k)
+bad_by true (Ok (Commit n)) e = absurd (let k : ⊥ = cc in k)
+bad_by true (Ok (Revoke n blocks)) e = absurd (let k : ⊥ = cc in k)
+bad_by true (Err BadCount) e = refl
+bad_by true (Err NotMagic) e = absurd (none_bad e)
+bad_by true (Err BadKind) e = absurd (none_bad e)
+bad_by true (Err (Feature bits)) e = absurd (none_bad e)
+bad_by true (Err NoMemory) e = absurd (none_bad e)
+
+said_bad : (sequence : ℕ) (b : List ℕ) → said sequence b ≡ BadRevoke → log_block_of b ≡ Err BadCount
+unfolding said
+said_bad sequence b e = bad_by (sequence_of b == sequence) (log_block_of b) e
+
+none_tags : (ts : List Tag) → ◌≡◌ {A = Said} Nothing (Tags ts) → ⊥
+none_tags ts e = cc
+
+tags_by : (own : Bool) (w : Result LogBlock JournalFault) (ts : List Tag) → (if own then said_by w else Nothing) ≡ Tags ts → (n : ℕ) × (w ≡ Ok (Descriptor n ts))
+tags_by false w ts e = absurd (none_tags ts e)
+tags_by true (Ok (Descriptor n tags)) ts e = let same : tags ≡ ts = cc in (n, ap (λ (us : List Tag). Ok (Descriptor n us)) same)
+tags_by true (Ok (Commit n)) ts e = absurd (let k : ⊥ = cc in k)
+tags_by true (Ok (Revoke n blocks)) ts e = absurd (let k : ⊥ = cc in k)
+tags_by true (Err BadCount) ts e = absurd (let k : ⊥ = cc in k)
+tags_by true (Err NotMagic) ts e = absurd (none_tags ts e)
+tags_by true (Err BadKind) ts e = absurd (none_tags ts e)
+tags_by true (Err (Feature bits)) ts e = absurd (none_tags ts e)
+tags_by true (Err NoMemory) ts e = absurd (none_tags ts e)
+
+said_tags : (sequence : ℕ) (b : List ℕ) (ts : List Tag) → said sequence b ≡ Tags ts → (n : ℕ) × (log_block_of b ≡ Ok (Descriptor n ts))
+unfolding said
+said_tags sequence b ts e = tags_by (sequence_of b == sequence) (log_block_of b) ts e
+
+first_some : (o p : Option ℕ) (at : ℕ) → first_of o p ≡ Some at → (o ≡ Some at) ⊎ (p ≡ Some at)
+first_some None p at e = inr e
+first_some (Some x) p at e = inl e
+
+if_some : (bad : Bool) (x at : ℕ) → (if bad then Some x else None) ≡ Some at → (bad ≡ true) × (x ≡ at)
+if_some true x at e = (refl, cc)
+if_some false x at e = absurd (let k : ⊥ = cc in k)
+
+-- one of these entries is at this block and has a fault
+pub record IsFaultAt (zones : ℕ) (es : List Entry) (at : ℕ) : Type 0 where
+  pub entry : Entry
+  pub listed : In entry es
+  pub there : entry.at ≡ at
+  pub faulty : IsFaulty zones entry.body
+
+-- what is suspected and what counts is a fault of one of these entries
+record AreFaults (zones : ℕ) (es : List Entry) (r : Reading) : Type 0 where
+  pub suspect : (at : ℕ) → r.suspect ≡ Some at → IsFaultAt zones es at
+  pub fault : (at : ℕ) → r.fault ≡ Some at → IsFaultAt zones es at
+
+faults-said : (zones : ℕ) (es : List Entry) (r : Reading) (e : Entry) (w : Said) → In e es → said r.sequence e.body ≡ w → AreFaults zones es r → AreFaults zones es (found (by_said zones r e.at w))
+faults-said zones es r e (Tags ts) i is k = record {
+  suspect = λ at h. ⊎_elim (k.suspect at)
+      (λ new. let b = if_some (list_any (is_outside zones) ts) e.at at new in let d = said_tags r.sequence e.body ts is in record { entry = e; listed = i; there = b.1; faulty = inr (d.0, ts, d.1, b.0) })
+      (first_some r.suspect _ at h);
+  fault = k.fault;
+}
+faults-said zones es r e Ends i is k = record {
+  suspect = λ at h. absurd (let n : ⊥ = cc in n);
+  fault = λ at h. ⊎_elim (k.fault at) (k.suspect at) (first_some r.fault r.suspect at h);
+}
+faults-said zones es r e (Revokes blocks) i is k = record { suspect = k.suspect; fault = k.fault }
+faults-said zones es r e BadRevoke i is k = record {
+  suspect = λ at h. ⊎_elim (k.suspect at)
+      (λ new. let same : e.at ≡ at = cc in record { entry = e; listed = i; there = same; faulty = inl (said_bad r.sequence e.body is) })
+      (first_some r.suspect (Some e.at) at h);
+  fault = k.fault;
+}
+faults-said zones es r e Nothing i is k = k
+
+faults-entry : (zones : ℕ) (es : List Entry) (r : Reading) (e : Entry) (ts : List Tag) → In e es → AreFaults zones es r → AreFaults zones es (found (by_tags zones r e ts))
+faults-entry zones es r e [] i k = faults-said zones es r e (said r.sequence e.body) i refl k
+faults-entry zones es r e (t ∷ ts) i k = record { suspect = k.suspect; fault = k.fault }
+
+faults-log : (zones : ℕ) (all : List Entry) (l : Log) (es : List Entry) → ((e : Entry) → In e es → In e all) → AreFaults zones all (found l) → AreFaults zones all (found (read_log zones l es))
+faults-log zones all l [] of k = k
+faults-log zones all (HasEnded r) (e ∷ es) of k = faults-log zones all (HasEnded r) es (λ f i. of f (inr i)) k
+faults-log zones all (GoesOn r) (e ∷ es) of k = faults-log zones all (by_tags zones r e r.tags) es (λ f i. of f (inr i)) (faults-entry zones all r e r.tags (of e (inl refl)) k)
+
+-- the fault of a log is that of one of its blocks
+pub fault_there : (base : ℕ) (s : JournalSuper) (image : List (List ℕ)) (at : ℕ) → (log_of base s image).fault ≡ Some at → (place : ℕ) × In place (places s) × (base + place ≡ at) × IsFaulty base (body_at image at)
+unfolding log_of
+fault_there base s image at e =
+    let all = map (entry_at base image) (places s) in
+    let begun : AreFaults base all (beginning s.sequence) = record { suspect = λ n h. absurd (let k : ⊥ = cc in k); fault = λ n h. absurd (let k : ⊥ = cc in k) } in
+    let f = (faults-log base all (GoesOn (beginning s.sequence)) all (λ f i. i) begun).fault at e in
+    let p = In-map (entry_at base image) (places s) f.entry f.listed in
+    let there : base + p.0 ≡ at = ap (λ (x : Entry). x.at) p.2 ∙ f.there in
+    let body : body_at image (base + p.0) ≡ f.entry.body = ap (λ (x : Entry). x.body) p.2 in
+    (p.0, p.1, there, subst (λ (n : ℕ). IsFaulty base (body_at image n)) there (subst (IsFaulty base) (sym body) f.faulty))
+
+-- ---- which fault counts
+
+-- a fault counts, or one is suspected in a transaction behind the first n
+abbrev IsKnown : ℕ → Reading → Type 0
+IsKnown n r = ((at : ℕ) × (r.fault ≡ Some at)) ⊎ ((at : ℕ) × (r.suspect ≡ Some at) × (length r.done ≡ n))
+
+first_or : (o p : Option ℕ) (at : ℕ) → p ≡ Some at → (first : ℕ) × (first_of o p ≡ Some first)
+first_or None p at e = (at, e)
+first_or (Some x) p at e = (x, refl)
+
+first_stays : (o p : Option ℕ) (at : ℕ) → o ≡ Some at → first_of o p ≡ Some at
+first_stays None p at e = absurd (let k : ⊥ = cc in k)
+first_stays (Some x) p at e = e
+
+known-said : (zones n : ℕ) (r : Reading) (at : ℕ) (w : Said) → IsKnown n r → IsKnown n (found (by_said zones r at w))
+known-said zones n r at (Tags ts) (inl f) = inl f
+known-said zones n r at (Tags ts) (inr s) = inr (s.0, first_stays r.suspect _ s.0 s.1, s.2)
+known-said zones n r at Ends (inl f) = inl (f.0, first_stays r.fault r.suspect f.0 f.1)
+known-said zones n r at Ends (inr s) = inl (first_or r.fault r.suspect s.0 s.1)
+known-said zones n r at (Revokes blocks) (inl f) = inl f
+known-said zones n r at (Revokes blocks) (inr s) = inr s
+known-said zones n r at BadRevoke (inl f) = inl f
+known-said zones n r at BadRevoke (inr s) = inr (s.0, first_stays r.suspect (Some at) s.0 s.1, s.2)
+known-said zones n r at Nothing k = k
+
+known-entry : (zones n : ℕ) (r : Reading) (e : Entry) (ts : List Tag) → IsKnown n r → IsKnown n (found (by_tags zones r e ts))
+known-entry zones n r e [] k = known-said zones n r e.at (said r.sequence e.body) k
+known-entry zones n r e (t ∷ ts) (inl f) = inl f
+known-entry zones n r e (t ∷ ts) (inr s) = inr s
+
+known-log : (zones n : ℕ) (l : Log) (es : List Entry) → IsKnown n (found l) → IsKnown n (found (read_log zones l es))
+known-log zones n l [] k = k
+known-log zones n (HasEnded r) (e ∷ es) k = known-log zones n (HasEnded r) es k
+known-log zones n (GoesOn r) (e ∷ es) k = known-log zones n (by_tags zones r e r.tags) es (known-entry zones n r e r.tags k)
+
+-- what is suspected in a transaction counts once the transaction is whole
+pub suspect_counts : (zones : ℕ) (r : Reading) (es : List Entry) (at : ℕ) → r.suspect ≡ Some at → length r.done < length (found (read_log zones (GoesOn r) es)).done
+    → (first : ℕ) × ((found (read_log zones (GoesOn r) es)).fault ≡ Some first)
+suspect_counts zones r es at e more =
+    ⊎_elim (λ f. f) (λ s. let same = s.2 in absurd (omega (arith, more, same))) (known-log zones (length r.done) (GoesOn r) es (inr (at, e, refl)))
+
+stays-said : (zones : ℕ) (r : Reading) (at first : ℕ) (w : Said) → r.fault ≡ Some first → (found (by_said zones r at w)).fault ≡ Some first
+stays-said zones r at first (Tags ts) e = e
+stays-said zones r at first Ends e = first_stays r.fault r.suspect first e
+stays-said zones r at first (Revokes blocks) e = e
+stays-said zones r at first BadRevoke e = e
+stays-said zones r at first Nothing e = e
+
+stays-entry : (zones : ℕ) (r : Reading) (e : Entry) (ts : List Tag) (first : ℕ) → r.fault ≡ Some first → (found (by_tags zones r e ts)).fault ≡ Some first
+stays-entry zones r e [] first k = stays-said zones r e.at first (said r.sequence e.body) k
+stays-entry zones r e (t ∷ ts) first k = k
+
+-- the first fault along the log stays
+pub fault_stays : (zones : ℕ) (l : Log) (es : List Entry) (first : ℕ) → (found l).fault ≡ Some first → (found (read_log zones l es)).fault ≡ Some first
+fault_stays zones l [] first k = k
+fault_stays zones (HasEnded r) (e ∷ es) first k = fault_stays zones (HasEnded r) es first k
+fault_stays zones (GoesOn r) (e ∷ es) first k = fault_stays zones (by_tags zones r e r.tags) es first (stays-entry zones r e r.tags first k)
+
+own : (sequence : ℕ) (b : List ℕ) → sequence_of b ≡ sequence → said sequence b ≡ said_by (log_block_of b)
+unfolding said
+own sequence b e = ap (λ (t : Bool). if t then said_by (log_block_of b) else Nothing) (eq-eqb (sequence_of b) sequence e)
+
+-- where no body is due, the block is what it says
+read_header : (zones : ℕ) (r : Reading) (e : Entry) (w : Result LogBlock JournalFault) → r.tags ≡ [] → sequence_of e.body ≡ r.sequence → log_block_of e.body ≡ w
+    → read_log zones (GoesOn r) (e ∷ []) ≡ by_said zones r e.at (said_by w)
+read_header zones r e w none same is =
+    ap (λ (ts : List Tag). by_tags zones r e ts) none
+    ∙ ap (λ (v : Said). by_said zones r e.at v) (own r.sequence e.body same ∙ ap said_by is)
+
+pub revoke_suspected : (zones : ℕ) (r : Reading) (e : Entry) → r.tags ≡ [] → r.suspect ≡ None → sequence_of e.body ≡ r.sequence → log_block_of e.body ≡ Err BadCount
+    → (found (read_log zones (GoesOn r) (e ∷ []))).suspect ≡ Some e.at
+revoke_suspected zones r e none clean same is =
+    ap (λ (l : Log). (found l).suspect) (read_header zones r e (Err BadCount) none same is) ∙ ap (λ (o : Option ℕ). first_of o (Some e.at)) clean
+
+pub descriptor_suspected : (zones n : ℕ) (tags : List Tag) (r : Reading) (e : Entry) → r.tags ≡ [] → r.suspect ≡ None → sequence_of e.body ≡ r.sequence
+    → log_block_of e.body ≡ Ok (Descriptor n tags) → list_any (is_outside zones) tags ≡ true → (found (read_log zones (GoesOn r) (e ∷ []))).suspect ≡ Some e.at
+descriptor_suspected zones n tags r e none clean same is outside =
+    ap (λ (l : Log). (found l).suspect) (read_header zones r e (Ok (Descriptor n tags)) none same is)
+    ∙ (ap (λ (o : Option ℕ). first_of o (if list_any (is_outside zones) tags then Some e.at else None)) clean
+    ∙ ap (λ (b : Bool). if b then Some e.at else None) outside)
