@@ -11,6 +11,8 @@ mod laws;
 mod names;
 mod placed;
 mod slots;
+#[cfg(test)]
+mod tests;
 
 pub use laws::{
     added_node_stands, calls_are_told_as_one, changed_node_stands, cut_file_stands,

@@ -25,12 +25,23 @@ impl Model for NameMap {
 }
 
 impl NameMap {
+    /// No names.
+    pub fn new(alloc: Global) -> NameMap
+        ensures { result ≡ [] }
+    {
+        NameMap {
+            map: BTreeMap::new(alloc),
+        }
+    }
+
+    /// The birth of the node with this name, if there is one.
     pub fn get(&self, name: &Name) -> Option<u64>
         ensures { result ≡ at_name self.now name.now }
     {
         self.map.get(name).copied()
     }
 
+    /// Gives a name to a node.
     pub fn put(&mut self, name: Name, birth: u64) -> Result<(), NoMemory>
         ensures ok { OnOk result (self.new ≡ put_name self.old name birth) }
         ensures err { OnErr result (self.new ≡ self.old) }

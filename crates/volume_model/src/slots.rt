@@ -25,7 +25,16 @@ impl Model for Slots {
 }
 
 impl Slots {
-    /// The place that `add` uses: the first free slot, or one more at the end.
+    /// No slots.
+    pub fn new(alloc: Global) -> Slots
+        ensures { result ≡ [] }
+    {
+        Slots {
+            items: Vec::new(alloc),
+        }
+    }
+
+    /// The place of a new slot: the first free one, or one more at the end.
     pub fn room(&self) -> usize
         ensures { result ≡ room self.now }
     {
@@ -37,14 +46,15 @@ impl Slots {
         self.items.len()
     }
 
+    /// How many slots there are, free ones too.
     pub fn len(&self) -> usize
         ensures { result ≡ length self.now }
     {
         self.items.len()
     }
 
+    /// Puts a slot in its place, or behind the last one.
     #[tactic(auto, unfolding(crate::specs::Slots::with_slot))]
-    /// Puts a slot at the place that `room` gives.
     pub fn put(&mut self, at: usize, slot: Slot) -> Result<(), NoMemory>
         ensures ok { OnOk result (self.new ≡ with_slot self.old at slot) }
         ensures err { OnErr result (self.new ≡ self.old) }

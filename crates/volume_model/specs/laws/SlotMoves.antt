@@ -1,11 +1,11 @@
 -- A slot of a directory changes, and its names with it. Volumes stand before and after it.
-use Rattle.std.specs.Prelude.{◌≡◌, ◌≢◌, ℕ, ◌+◌, ◌*◌, ◌/◌, ◌%◌, ◌^◌, ◌<◌, ◌≤◌, false, List, length, slice_set, Option, Some, None, Ok, IfSome, refl}
+use Rattle.std.specs.Prelude.{◌≡◌, ◌≢◌, ℕ, ◌+◌, ◌*◌, ◌/◌, ◌%◌, ◌^◌, ◌<◌, ◌≤◌, false, List, length, Option, Some, None, IfSome, refl}
 use Rattle.std.specs.List.{slice_get}
 use Rattle.std.specs.List.Sorted.{IsStrictlySortedBy}
 use Rattle.std.specs.Map.{keys_of}
 use Rattle.std.proofs.Common.{sym, ap, subst, ◌∙◌, inl, inr, arith}
 use Rattle.std.proofs.lemmas.Bool.{cases_eq}
-use Rattle.std.proofs.lemmas.Option.{none-some, same_Some}
+use Rattle.std.proofs.lemmas.Option.{same_Some}
 use Rattle.std.proofs.lemmas.List.{length-set}
 use Rattle.blk_base.specs.Members.{slice_get-set_same, slice_get-set_other, slice_get-length}
 use Rattle.byte_fields.specs.Fields.{record_at}
@@ -13,7 +13,6 @@ use Rattle.minix_layout.specs.declared.division.Geometry.{Geometry}
 use Rattle.minix_layout.specs.declared.inode.Inode.{Inode}
 use Rattle.minix_layout.specs.declared.slot.Slot.{Slot}
 use Rattle.minix_layout.specs.Geometry.{IsSound}
-use Rattle.minix_layout.specs.Inodes.{FitInode}
 use Rattle.minix_layout.specs.Slots.{slot_of, IsEntry}
 use Rattle.tree_model.specs.Maps.{at_number, at_name, name_cmp}
 use Rattle.tree_model.specs.Paths.{is_dot}
@@ -21,10 +20,10 @@ use Rattle.volume_ops.specs.Volume.{disk_of}
 use Rattle.volume_model.specs.declared.placed.Placed.{Placed}
 use Rattle.volume_model.specs.declared.placed.Part.TheVariants as parts
 use Rattle.volume_model.specs.declared.placed.DirectoryPart.{DirectoryPart}
-use Rattle.volume_model.specs.Slots.{room, with_slot}
+use Rattle.volume_model.specs.Slots.{room}
 use Rattle.volume_model.specs.Edits.{put_slot, edited}
 use Rattle.volume_model.specs.Changes.{Changes}
-use Rattle.volume_model.specs.Volume.{Place, block, indirect, double, inner, zone_in, IsOfNumbers, HasSlot, IsDirectoryPart, IsPart, HasNumber, HasNames, IsVolumeOf}
+use Rattle.volume_model.specs.Volume.{Place, block, indirect, double, inner, zone_in, IsOfNumbers, HasSlot, IsDirectoryPart, IsPart, HasNumber, HasNames}
 use Rattle.volume_model.specs.MapBlock.{OpenInode, own_of}
 use Rattle.volume_model.specs.Touched.{Contents}
 use Rattle.volume_model.specs.Moves.{IsVolume, with_size, slot_put, with_name, name_added, without_name, name_removed}

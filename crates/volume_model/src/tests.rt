@@ -1,0 +1,37 @@
+//! Tests of the parts of a node.
+use super::*;
+use minix_layout::{Name, Slot};
+
+#[test]
+fn keeps_names_and_slots(rt: HostRuntime) {
+    let alloc = rt.alloc();
+    let (Some(first), Some(second), Some(third)) = (Name::of(b"a"), Name::of(b"b"), Name::of(b"b"))
+    else {
+        panic!(rt; "no names");
+    };
+    let mut names = NameMap::new(alloc);
+    assert_eq!(rt; names.put(first, 7).is_ok(), true);
+    assert_eq!(rt; names.get(&second), None);
+    assert_eq!(rt; names.put(second, 9).is_ok(), true);
+    assert_eq!(rt; names.get(&third), Some(9));
+    names.remove(&third);
+    assert_eq!(rt; names.get(&third), None);
+    let mut slots = Slots::new(alloc);
+    assert_eq!(rt; (slots.room(), slots.len()), (0, 0));
+    let put = slots.put(
+        0,
+        Slot {
+            inode: 3,
+            name: third,
+        },
+    );
+    assert_eq!(rt; (put.is_ok(), slots.room(), slots.len()), (true, 1, 1));
+    nodes_stay();
+    writes_are_read();
+    added_node_stands();
+    changed_node_stands();
+    names_come_and_go();
+    mapped_block_stands();
+    cut_file_stands();
+    calls_are_told_as_one();
+}
