@@ -129,6 +129,9 @@ fn replay<D: OrderedDev>(
         return Err(RecoverFault::NoMemory);
     };
     let replayed = log.len() as u32;
+    // The bodies are in their homes now.
+    drop(table);
+    drop(log);
     let next = journal.fields.sequence.wrapping_add(replayed).wrapping_add(1);
     let mut superblock = journal.superblock;
     set_tail(&mut superblock, next, 0);

@@ -81,15 +81,15 @@ returns-in-Running-clause-run g c =
     run_from m (commands_are c.args.base (d.seen (d.state c.args.dev.now)).surface (logged_of c.in-Ok-homes_of.homes.items) c.set_tail.new.b (has_log c.args.base (d.seen (d.state c.args.dev.now)).surface c.args.journal (logged_of c.in-Ok-homes_of.homes.items) (map transaction_of c.as_slice.result.now) c.len-replayed.result c.set_tail.new.b c.requires.journal c.requires.full c.as_slice.ensures c.in-Ok-homes_of.ensures c.len-replayed.ensures c.set_tail.ensures.value)) c.args.steer.now c.args.cut (d.state c.args.dev.now) (d.state c.write_back.new.dev) c.write_back.ensures.cut_run c.write_back.ensures.whole_run
     (λ whole. ap is_running (sym c.write_back.ensures.told) ∙ c.write_back.ensures.ended whole)
 
-pub returns-clause-failed_run : goal.returns-clause-failed_run
-returns-clause-failed_run g c id e =
+pub returns-in-Failed-clause-failed_run : goal.returns-in-Failed-clause-failed_run
+returns-in-Failed-clause-failed_run g c id e =
     let d = g.D.OrderedDev in
     let m : Machine d.State = machine_of d in
     run_from m (commands_are c.args.base (d.seen (d.state c.args.dev.now)).surface (logged_of c.in-Ok-homes_of.homes.items) c.set_tail.new.b (has_log c.args.base (d.seen (d.state c.args.dev.now)).surface c.args.journal (logged_of c.in-Ok-homes_of.homes.items) (map transaction_of c.as_slice.result.now) c.len-replayed.result c.set_tail.new.b c.requires.journal c.requires.full c.as_slice.ensures c.in-Ok-homes_of.ensures c.len-replayed.ensures c.set_tail.ensures.value)) c.args.steer.now c.args.cut (d.state c.args.dev.now) (d.state c.write_back.new.dev) c.write_back.ensures.cut_run c.write_back.ensures.whole_run
     (λ whole. ap is_running (sym c.write_back.ensures.told) ∙ c.write_back.ensures.ended whole)
 
-pub returns-clause-device_failed : goal.returns-clause-device_failed
-returns-clause-device_failed g c id e =
+pub returns-in-Failed-clause-device_failed : goal.returns-in-Failed-clause-device_failed
+returns-in-Failed-clause-device_failed g c id e =
     let d = g.D.OrderedDev in
     let same : c.in-Failed.id ≡ id = same_failed c.in-Failed.id id e in (
       c.write_back.ensures.failed c.in-Failed.id c.in-Failed.is,
