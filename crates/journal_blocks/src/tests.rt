@@ -48,13 +48,22 @@ const SUPERBLOCK: [u8; 68] = [
 
 #[test]
 fn superblock(rt: HostRuntime) {
-    let s = JournalSuper { maxlen: 128, first: 1, sequence: 0x102, start: 3, incompat: 1 };
+    let s = JournalSuper {
+        maxlen: 128,
+        first: 1,
+        sequence: 0x102,
+        start: 3,
+        incompat: 1,
+    };
     let mut block = block_of(&SUPERBLOCK);
     assert_eq!(rt; write_super(&s), block_of(&SUPERBLOCK));
     assert_eq!(rt; read_super(&block), Ok(s));
     block.set(1000, 9);
     set_tail(&mut block, 0x01020304, 5);
-    assert_eq!(rt; block.as_slice().get(0x18..0x20), Some(&[1u8, 2, 3, 4, 0, 0, 0, 5][..]));
+    assert_eq!(rt;
+        block.as_slice().get(0x18..0x20),
+        Some(&[1u8, 2, 3, 4, 0, 0, 0, 5][..])
+    );
     assert_eq!(rt; block.as_slice().get(1000), Some(&9));
     superblocks_are_read();
 }
@@ -63,8 +72,13 @@ fn superblock(rt: HostRuntime) {
 #[test]
 fn descriptor_of_one(rt: HostRuntime) -> Result<(), Fail> {
     let alloc = rt.alloc();
-    let tag = Tag { block: 9, escaped: true };
-    let front = [0xC0, 0x3B, 0x39, 0x98, 0, 0, 0, 1, 0, 0, 0, 7, 0, 0, 0, 9, 0, 0, 0, 9];
+    let tag = Tag {
+        block: 9,
+        escaped: true,
+    };
+    let front = [
+        0xC0, 0x3B, 0x39, 0x98, 0, 0, 0, 1, 0, 0, 0, 7, 0, 0, 0, 9, 0, 0, 0, 9,
+    ];
     let block = write_descriptor(7, &[tag]);
     assert_eq!(rt; block, block_of(&front));
     assert_eq!(rt; sequence_in(&block), 7);
@@ -74,8 +88,14 @@ fn descriptor_of_one(rt: HostRuntime) -> Result<(), Fail> {
     let (stored, escaped) = escape(&block_of(&[0xC0, 0x3B, 0x39, 0x98, 8]));
     assert_eq!(rt; stored, block_of(&[0, 0, 0, 0, 8]));
     assert!(rt; escaped);
-    assert_eq!(rt; restore(&stored, escaped), block_of(&[0xC0, 0x3B, 0x39, 0x98, 8]));
-    assert_eq!(rt; escape(&block_of(&[0xC0, 0x3B])), (block_of(&[0xC0, 0x3B]), false));
+    assert_eq!(rt;
+        restore(&stored, escaped),
+        block_of(&[0xC0, 0x3B, 0x39, 0x98, 8])
+    );
+    assert_eq!(rt;
+        escape(&block_of(&[0xC0, 0x3B])),
+        (block_of(&[0xC0, 0x3B]), false)
+    );
     bodies_are_restored();
     Ok(())
 }
@@ -93,13 +113,25 @@ fn descriptor_of_others(rt: HostRuntime) -> Result<(), Fail> {
     ];
     let (_, tags) = tags_of(alloc, &block_of(&front))?.expect(&rt, "descriptor");
     let want = [
-        Tag { block: 9, escaped: false },
-        Tag { block: 256, escaped: true },
-        Tag { block: 11, escaped: false },
+        Tag {
+            block: 9,
+            escaped: false,
+        },
+        Tag {
+            block: 256,
+            escaped: true,
+        },
+        Tag {
+            block: 11,
+            escaped: false,
+        },
     ];
     assert_eq!(rt; tags.as_slice(), &want[..]);
     // Without a last tag as many are read as are whole: 42 of 24 bytes, and four bytes are left.
-    let (_, tags) = tags_of(alloc, &block_of(&[0xC0, 0x3B, 0x39, 0x98, 0, 0, 0, 1]))?.expect(&rt, "descriptor");
+    let (_, tags) = tags_of(alloc, &block_of(&[0xC0, 0x3B, 0x39, 0x98, 0, 0, 0, 1]))?.expect(
+        &rt,
+        "descriptor",
+    );
     assert_eq!(rt; tags.as_slice().len(), 42);
     Ok(())
 }
@@ -107,14 +139,19 @@ fn descriptor_of_others(rt: HostRuntime) -> Result<(), Fail> {
 #[test]
 fn revoke_and_commit(rt: HostRuntime) -> Result<(), Fail> {
     let alloc = rt.alloc();
-    let front = [0xC0, 0x3B, 0x39, 0x98, 0, 0, 0, 5, 0, 0, 0, 2, 0, 0, 0, 0x14, 0, 0, 0, 6];
+    let front = [
+        0xC0, 0x3B, 0x39, 0x98, 0, 0, 0, 5, 0, 0, 0, 2, 0, 0, 0, 0x14, 0, 0, 0, 6,
+    ];
     let block = write_revoke(2, &[6]);
     assert_eq!(rt; block, block_of(&front));
     let (sequence, blocks) = revoked_of(alloc, &block)?.expect(&rt, "revoke block");
     assert_eq!(rt; sequence, 2);
     assert_eq!(rt; blocks.as_slice(), &[6u32][..]);
     let commit = write_commit(7);
-    assert_eq!(rt; commit, block_of(&[0xC0, 0x3B, 0x39, 0x98, 0, 0, 0, 2, 0, 0, 0, 7]));
+    assert_eq!(rt;
+        commit,
+        block_of(&[0xC0, 0x3B, 0x39, 0x98, 0, 0, 0, 2, 0, 0, 0, 7])
+    );
     assert!(rt; fault_of(alloc, &commit).is_none());
     log_blocks_are_read();
     readers_agree();
@@ -126,8 +163,14 @@ fn revoke_and_commit(rt: HostRuntime) -> Result<(), Fail> {
 #[test]
 fn faults(rt: HostRuntime) {
     let alloc = rt.alloc();
-    assert_eq!(rt; fault_of(alloc, &Block::fill(0)), Some(JournalFault::NotMagic));
-    assert_eq!(rt; fault_of(alloc, &block_of(&SUPERBLOCK)), Some(JournalFault::BadKind));
+    assert_eq!(rt;
+        fault_of(alloc, &Block::fill(0)),
+        Some(JournalFault::NotMagic)
+    );
+    assert_eq!(rt;
+        fault_of(alloc, &block_of(&SUPERBLOCK)),
+        Some(JournalFault::BadKind)
+    );
     for count in [0, 15, 18] {
         let mut block = write_revoke(2, &[6]);
         block.set(15, count);

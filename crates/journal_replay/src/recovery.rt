@@ -132,7 +132,11 @@ fn replay<D: OrderedDev>(
     // The bodies are in their homes now.
     drop(table);
     drop(log);
-    let next = journal.fields.sequence.wrapping_add(replayed).wrapping_add(1);
+    let next = journal
+        .fields
+        .sequence
+        .wrapping_add(replayed)
+        .wrapping_add(1);
     let mut superblock = journal.superblock;
     set_tail(&mut superblock, next, 0);
     match write_back(dev, homes, base, superblock, steer, cut) {

@@ -12,7 +12,9 @@ ghost use Rattle.journal_replay.specs.code.Scans.{after, HasRead, transaction_of
 
 use crate::{Home, LogTransaction};
 use blk_base::{Block, NoMemory};
-use journal_blocks::{JournalFault, JournalSuper, LogBlock, Tag, TagList, read_block, restore, sequence_in};
+use journal_blocks::{
+    JournalFault, JournalSuper, LogBlock, Tag, TagList, read_block, restore, sequence_in,
+};
 use order_model::OrderedDev;
 use std::alloc::Global;
 use std::marker::Model;

@@ -6,8 +6,8 @@ use crate::*;
 use blk_base::{Block, Image, NoMemory};
 use device_epochs::{DeviceSetup, EpochDevice};
 use journal_blocks::{
-    JournalFault, JournalSuper, Tag, escape, read_super, write_commit, write_descriptor, write_revoke,
-    write_super,
+    JournalFault, JournalSuper, Tag, escape, read_super, write_commit, write_descriptor,
+    write_revoke, write_super,
 };
 use order_model::OrderedDev;
 use std::alloc::Global;
@@ -51,7 +51,12 @@ fn tag(block: u32) -> Tag {
     }
 }
 
-fn device(alloc: Global, image: Image, fail_at: Option<u64>, bad_read: Option<u64>) -> Result<EpochDevice, NoMemory>
+fn device(
+    alloc: Global,
+    image: Image,
+    fail_at: Option<u64>,
+    bad_read: Option<u64>,
+) -> Result<EpochDevice, NoMemory>
     ensures { IfOk result (λ d. IsReady (length image) d) }
 {
     let limit = u64::from(image.len()) + 2;
@@ -144,7 +149,11 @@ fn magic_body() -> Block {
 fn full(alloc: Global) -> Result<Image, NoMemory> {
     let mut image = image_with(alloc, &FOUR)?;
     let (stored, escaped) = escape(&magic_body());
-    put_log(&mut image, 1, write_descriptor(4, &[Tag { block: 9, escaped }, tag(10)]));
+    put_log(
+        &mut image,
+        1,
+        write_descriptor(4, &[Tag { block: 9, escaped }, tag(10)]),
+    );
     put_log(&mut image, 2, stored);
     put_log(&mut image, 3, Block::fill(1));
     put_log(&mut image, 4, write_commit(4));
@@ -159,7 +168,14 @@ fn skips_the_missing_sequence(rt: HostRuntime) -> Result<(), Fail> {
     let alloc = rt.alloc();
     let (result, image) = attempt(&rt, alloc, skipping(alloc)?, &[], false)?;
     assert_eq!(rt; result, ended(1, 6));
-    assert_eq!(rt; super_in(&image), Some(Ok(JournalSuper { sequence: 6, start: 0, ..FOUR })));
+    assert_eq!(rt;
+        super_in(&image),
+        Some(Ok(JournalSuper {
+            sequence: 6,
+            start: 0,
+            ..FOUR
+        }))
+    );
     assert_eq!(rt; body(&image, 5), Some(&Block::fill(0)));
     attempts_keep_the_recovered_image();
     replays_by_revokes_are_exact();
@@ -170,7 +186,14 @@ fn skips_the_missing_sequence(rt: HostRuntime) -> Result<(), Fail> {
 fn sends_before_it_looks_at_the_list(rt: HostRuntime) -> Result<(), Fail> {
     let alloc = rt.alloc();
     let (result, image) = attempt(&rt, alloc, skipping(alloc)?, &[], true)?;
-    assert_eq!(rt; result, Ok(Recovered { replayed: 1, next: 6, ended: false }));
+    assert_eq!(rt;
+        result,
+        Ok(Recovered {
+            replayed: 1,
+            next: 6,
+            ended: false
+        })
+    );
     assert!(rt; are_same(&image, &skipping(alloc)?));
     Ok(())
 }
@@ -205,7 +228,12 @@ fn the_last_body_counts(rt: HostRuntime) -> Result<(), Fail> {
 #[test]
 fn logs_and_sequences_come_round(rt: HostRuntime) -> Result<(), Fail> {
     let alloc = rt.alloc();
-    let s = JournalSuper { maxlen: 5, start: 3, sequence: u32::MAX, ..FOUR };
+    let s = JournalSuper {
+        maxlen: 5,
+        start: 3,
+        sequence: u32::MAX,
+        ..FOUR
+    };
     let mut image = image_with(alloc, &s)?;
     put_log(&mut image, 3, write_descriptor(u32::MAX, &[tag(9)]));
     put_log(&mut image, 4, Block::fill(7));
@@ -223,7 +251,12 @@ fn attempts_lead_to_one_image(rt: HostRuntime) -> Result<(), Fail> {
     let alloc = rt.alloc();
     let (_, whole) = attempt(&rt, alloc, full(alloc)?, &[], false)?;
     let steps = [Choice::Default; 10];
-    let others = [Choice::Persist(1), Choice::Transfer(1), Choice::Transfer(0), Choice::Persist(0)];
+    let others = [
+        Choice::Persist(1),
+        Choice::Transfer(1),
+        Choice::Transfer(0),
+        Choice::Persist(0),
+    ];
     for count in 0..11usize {
         let steer = steps.get(..count).unwrap_or(&[]);
         let (_, first) = attempt(&rt, alloc, full(alloc)?, steer, true)?;
@@ -254,7 +287,11 @@ fn tells_what_failed(rt: HostRuntime) -> Result<(), Fail> {
 }
 
 // The fault of an image, which is left as it is.
-fn fault_of(rt: &impl Abort, alloc: Global, image: Image) -> Result<Option<(JournalFault, u32)>, NoMemory> {
+fn fault_of(
+    rt: &impl Abort,
+    alloc: Global,
+    image: Image,
+) -> Result<Option<(JournalFault, u32)>, NoMemory> {
     let before = image.copy(alloc)?;
     let (result, after) = attempt(rt, alloc, image, &[], false)?;
     match result {
@@ -304,20 +341,36 @@ fn tells_what_is_wrong_with_a_log(rt: HostRuntime) -> Result<(), Fail> {
     let unfinished = revoke.copy(alloc)?;
     assert_eq!(rt; attempt(&rt, alloc, unfinished, &[], false)?.0, ended(0, 5));
     put_log(&mut revoke, 2, write_commit(4));
-    assert_eq!(rt; fault_of(&rt, alloc, revoke)?, Some((JournalFault::BadCount, 65)));
+    assert_eq!(rt;
+        fault_of(&rt, alloc, revoke)?,
+        Some((JournalFault::BadCount, 65))
+    );
     for block in [0, 1, 64] {
         let mut image = image_with(alloc, &FOUR)?;
         put_log(&mut image, 1, write_commit(4));
         put_log(&mut image, 2, write_descriptor(5, &[tag(block)]));
         put_log(&mut image, 4, write_commit(5));
-        assert_eq!(rt; fault_of(&rt, alloc, image)?, Some((JournalFault::BadCount, 66)));
+        assert_eq!(rt;
+            fault_of(&rt, alloc, image)?,
+            Some((JournalFault::BadCount, 66))
+        );
     }
     // The first along the log counts, which is not the lowest block.
-    let mut image = image_with(alloc, &JournalSuper { maxlen: 8, start: 5, ..FOUR })?;
+    let mut image = image_with(
+        alloc,
+        &JournalSuper {
+            maxlen: 8,
+            start: 5,
+            ..FOUR
+        },
+    )?;
     put_log(&mut image, 5, write_descriptor(4, &[tag(64)]));
     put_log(&mut image, 7, write_commit(4));
     put_log(&mut image, 1, bad_revoke(5));
     put_log(&mut image, 2, write_commit(5));
-    assert_eq!(rt; fault_of(&rt, alloc, image)?, Some((JournalFault::BadCount, 69)));
+    assert_eq!(rt;
+        fault_of(&rt, alloc, image)?,
+        Some((JournalFault::BadCount, 69))
+    );
     Ok(())
 }

@@ -1,13 +1,12 @@
 -- Laws of the log as a fold.
-use Rattle.std.specs.Prelude.{◌≡◌, ◌≢◌, ℕ, zero, suc, ◌+◌, ◌-◌, ◌<◌, ◌≤◌, ◌^◌, ◌%◌, ◌==◌, nat_lt, nat_le, Bool, true, false, if◌then◌else◌, List, [], ◌∷◌, ◌++◌, length, map, Option, Some, None, ◌⊎◌, refl, Result, Ok, Err}
+use Rattle.std.specs.Prelude.{◌≡◌, ℕ, ◌+◌, ◌-◌, ◌<◌, ◌≤◌, ◌^◌, ◌%◌, ◌==◌, nat_lt, nat_le, Bool, true, false, if◌then◌else◌, List, [], ◌∷◌, ◌++◌, length, map, Option, Some, None, ◌⊎◌, refl, Result, Ok, Err}
 use Rattle.std.specs.List.{list_any, range_with_len}
 use Rattle.std.proofs.Common.{sym, ap, ◌∙◌, subst, inl, inr, ⊎_elim, arith, length-append}
 use Rattle.std.proofs.lemmas.Bool.{eq-eqb, or_parts, ltb-false, leb-false}
 use Rattle.std.proofs.lemmas.List.{length-map}
 use Rattle.std.proofs.lemmas.List.FromFn.{length-range_with_len}
 use Rattle.blk_base.specs.Members.{In, In-map, In-append_right, In-push_cases, none-list_any}
-use Rattle.log_model.specs.Marks.{Logged, Transaction, Mark, Set, mark_in}
-use Rattle.log_model.specs.LastLogged.{IsLastLogged, IsLastBody}
+use Rattle.log_model.specs.Marks.{Logged, Transaction, Set, mark_in}
 use Rattle.log_model.proofs.LastLogged.{mark-last_logged}
 use Rattle.journal_blocks.specs.declared.super_block.JournalSuper.{JournalSuper}
 use Rattle.journal_blocks.specs.declared.tag.Tag.{Tag}

@@ -1,8 +1,8 @@
 -- The reader of `log_model` has the same transactions as the log, as long as sequences do not wrap.
 use Rattle.std.specs.Prelude.{◌≡◌, ℕ, zero, suc, ◌+◌, ◌-◌, ◌^◌, ◌%◌, ◌<◌, ◌≤◌, ◌==◌, Bool, true, false, if◌then◌else◌, List, [], ◌∷◌, ◌++◌, length, map, Result, Ok, Err, refl}
 use Rattle.std.specs.List.{range_with_len}
-use Rattle.std.proofs.Common.{sym, ap, ◌∙◌, subst, arith, length-append}
-use Rattle.std.proofs.lemmas.List.{append-nil, length-map, map-append}
+use Rattle.std.proofs.Common.{sym, ap, ◌∙◌, arith, length-append}
+use Rattle.std.proofs.lemmas.List.{append-nil, length-map}
 use Rattle.std.proofs.lemmas.List.FromFn.{length-range_with_len}
 use Rattle.std.proofs.lemmas.Bool.{eq-eqb, ne_eqb}
 use Rattle.log_model.specs.Marks.{Logged, Transaction}
@@ -17,8 +17,8 @@ use Rattle.journal_blocks.specs.declared.fault.JournalFault.{JournalFault}
 use Rattle.journal_blocks.specs.declared.fault.JournalFault.TheVariants.{NotMagic, BadKind, BadCount, Feature, NoMemory}
 use Rattle.journal_blocks.specs.Header.{sequence_of}
 use Rattle.journal_blocks.specs.Super.{super_of, numbers_of}
-use Rattle.journal_blocks.specs.Blocks.{log_block_of, restored}
-use Rattle.journal_blocks.specs.Log.{Said, Tags, Ends, Revokes, BadRevoke, Nothing, said_by, said, Entry, Reading, Log, GoesOn, HasEnded, found, committed, by_said, by_tags, read_entry, read_log, beginning, body_at, places, entry_at, log_of}
+use Rattle.journal_blocks.specs.Blocks.{log_block_of}
+use Rattle.journal_blocks.specs.Log.{Said, Tags, Ends, Revokes, BadRevoke, Nothing, said_by, said, Entry, Reading, Log, GoesOn, HasEnded, found, by_said, by_tags, read_log, beginning, body_at, places, entry_at, log_of}
 use Rattle.journal_blocks.specs.Readers.{tag_of, header_by, header_of, format, ring_of}
 use Rattle.journal_blocks.specs.laws.Supers.{read_parts}
 

@@ -1,5 +1,5 @@
 -- A journal, as it was read of a device.
-use Rattle.std.specs.Prelude.{◌≡◌, ℕ, List, None, Result, Ok, length}
+use Rattle.std.specs.Prelude.{◌≡◌, ℕ, List, None, Ok, length}
 use Rattle.journal_blocks.specs.Super.{super_of, IsSound}
 use Rattle.journal_blocks.specs.Log.{body_at}
 use Rattle.journal_replay.specs.declared.journal.Journal.{Journal}

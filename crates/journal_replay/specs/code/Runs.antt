@@ -1,5 +1,5 @@
 -- What the parts of a recovery's run leave as it was, and what they do to it.
-use Rattle.std.specs.Prelude.{◌≡◌, ℕ, ◌<◌, ◌≤◌, ◌==◌, false, ◌++◌, ◌⊎◌, List, length, replicate, Some, Result, Ok}
+use Rattle.std.specs.Prelude.{◌≡◌, ℕ, ◌<◌, ◌≤◌, ◌==◌, false, ◌++◌, ◌⊎◌, List, length, replicate, Some, Ok}
 use Rattle.blk_base.specs.Streams.{Rose}
 use Rattle.blk_base.specs.Members.{In}
 use Rattle.order_model.specs.declared.part.Part.{Part}
@@ -10,7 +10,6 @@ use Rattle.order_model.specs.Steps.{KeepsGiven}
 use Rattle.order_model.specs.Machine.{Machine}
 use Rattle.log_model.specs.Marks.{Logged}
 use Rattle.journal_blocks.specs.declared.super_block.JournalSuper.{JournalSuper}
-use Rattle.journal_blocks.specs.declared.fault.JournalFault.{JournalFault}
 use Rattle.journal_blocks.specs.Super.{super_of}
 use Rattle.journal_blocks.specs.Log.{body_at}
 use Rattle.journal_replay.specs.declared.choice.Choice.{Choice}
@@ -19,7 +18,6 @@ use Rattle.journal_replay.specs.Recovered.{log_mark, emptied_super}
 use Rattle.journal_replay.specs.Commands.{homes}
 use Rattle.journal_replay.specs.Driving.{Driven, driven}
 use Rattle.journal_replay.specs.code.Sending.{KeepsAll}
-use Rattle.journal_replay.specs.code.Homes.{listed}
 
 -- a device step changes nothing of what was given to the device and of what it told; where a command fails, the count
 -- of faults rises

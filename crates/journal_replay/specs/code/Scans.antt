@@ -1,5 +1,5 @@
 -- What a scan keeps.
-use Rattle.std.specs.Prelude.{◌≡◌, ℕ, Bool, true, false, List, map, drop, Option}
+use Rattle.std.specs.Prelude.{ℕ, Bool, true, false, List, map, drop, Option}
 use Rattle.order_model.specs.Device.{Seen, IsQuiet}
 use Rattle.order_model.specs.Steps.{Reads}
 use Rattle.log_model.specs.Marks.{Transaction}

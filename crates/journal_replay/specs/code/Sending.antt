@@ -1,13 +1,13 @@
 -- Commands that a device can be given one after the other, and what sending leaves as it was.
-use Rattle.std.specs.Prelude.{◌≡◌, ℕ, ◌<◌, ◌≤◌, ◌==◌, ◌||◌, Bool, true, false, List, [], ◌∷◌, ◌++◌, length, All, is_some, None, refl}
-use Rattle.std.proofs.Common.{sym, ap, ◌∙◌, subst, inl, inr, ⊎_elim, arith, append_assoc, length-append}
-use Rattle.blk_base.specs.Members.{In, In-append_left, In-append_right}
+use Rattle.std.specs.Prelude.{◌≡◌, ℕ, ◌<◌, ◌≤◌, ◌==◌, ◌||◌, true, List, [], ◌∷◌, ◌++◌, length, All, is_some, refl}
+use Rattle.std.proofs.Common.{sym, ap, ◌∙◌, subst, inl, arith, append_assoc, length-append}
+use Rattle.blk_base.specs.Members.{In, In-append_right}
 use Rattle.order_model.specs.declared.part.Part.{Part}
 use Rattle.order_model.specs.declared.command.Command.{Command}
 use Rattle.order_model.specs.declared.command.Priority.TheVariants.{Ordered}
 use Rattle.order_model.specs.Received.{all_ids, ids_of}
 use Rattle.order_model.specs.Device.{Seen, IsReceivable, IsSurface, NoneTwice}
-use Rattle.order_model.specs.Steps.{Receives, KeepsGiven, Answers}
+use Rattle.order_model.specs.Steps.{Receives, KeepsGiven}
 use Rattle.order_model.proofs.Received.{all_ids-append, none_twice-front}
 
 -- a command for a device of so many blocks

@@ -1,25 +1,23 @@
 -- What an attempt of recovery leaves, wherever it is cut: an image that recovers to the same one.
-use Rattle.std.specs.Prelude.{◌≡◌, ◌≢◌, ℕ, zero, suc, ◌+◌, ◌-◌, ◌^◌, ◌%◌, ◌<◌, ◌≤◌, ◌==◌, Bool, true, false, if◌then◌else◌, List, [], ◌∷◌, ◌++◌, length, map, take, Option, Some, None, Result, Ok, Err, ◌⊎◌, slice_get, slice_set, slice_index_or, refl}
+use Rattle.std.specs.Prelude.{◌≡◌, ◌≢◌, ℕ, zero, suc, ◌+◌, ◌^◌, ◌%◌, ◌<◌, ◌≤◌, ◌==◌, Bool, true, false, List, [], ◌∷◌, length, map, take, Option, Some, None, Result, Ok, Err, ◌⊎◌, slice_get, slice_set, slice_index_or, refl}
 use Rattle.std.proofs.Common.{sym, ap, ◌∙◌, subst, inl, inr, ⊎_elim, arith, length-set}
-use Rattle.std.proofs.lemmas.Bool.{cases_Bool, cases_lt, cases_order}
+use Rattle.std.proofs.lemmas.Bool.{cases_lt, cases_order}
 use Rattle.std.proofs.lemmas.Option.{none-some, same_Some}
 use Rattle.blk_base.specs.Block.{filled}
 use Rattle.blk_base.specs.Members.{In, In-append_left, In-append_right, In-append_cases, In-slice_get, slice_get-In, slice_get-in_range, slice_get-out, slice_get-length, same_by_slice_get, slice_get-set_same, slice_get-set_other}
 use Rattle.order_model.specs.declared.part.Part.{Part}
 use Rattle.order_model.specs.declared.command.Command.{Command}
-use Rattle.order_model.specs.declared.completion.Completion.TheVariants.{Flushed}
-use Rattle.order_model.specs.Received.{all_parts, part_at, command_of, IsBarrier, IsFlush}
-use Rattle.order_model.specs.Device.{Seen, IsSurface, KeepsEpochOrder, KeepsFlush, IsPartKept}
+use Rattle.order_model.specs.Received.{part_at}
+use Rattle.order_model.specs.Device.{Seen, IsSurface, KeepsEpochOrder, IsPartKept}
 use Rattle.journal_blocks.specs.declared.super_block.JournalSuper.{JournalSuper}
 use Rattle.journal_blocks.specs.declared.fault.JournalFault.{JournalFault}
-use Rattle.log_model.specs.Marks.{Logged, Mark, mark_in, body_after}
+use Rattle.log_model.specs.Marks.{Logged, Mark, body_after}
 use Rattle.log_model.specs.Marks.{Keep, Clear, Set}
-use Rattle.journal_replay.specs.laws.Marks.{body_after-twice}
-use Rattle.journal_blocks.specs.Super.{super_of, with_tail}
+use Rattle.journal_blocks.specs.Super.{super_of}
 use Rattle.journal_blocks.specs.laws.Supers.{tail_read}
-use Rattle.journal_blocks.specs.Log.{Reading, Entry, log_of, body_at, entry_at, places}
-use Rattle.journal_replay.specs.Recovered.{healed, log_mark, next_sequence, emptied_super, emptied, by_super, recovered, IsRecoverable}
-use Rattle.journal_replay.specs.Commands.{for_block, home_of, homes, sends, commands_by, commands}
+use Rattle.journal_blocks.specs.Log.{Entry, log_of, body_at, entry_at, places}
+use Rattle.journal_replay.specs.Recovered.{healed, log_mark, next_sequence, emptied_super, emptied, recovered, IsRecoverable}
+use Rattle.journal_replay.specs.Commands.{for_block, home_of, homes, sends, commands}
 use Rattle.journal_replay.specs.laws.Sends.{AllBefore, part_at-prefix, sent_part, super_after_homes}
 use Rattle.journal_replay.specs.code.Scans.{after}
 

@@ -1,22 +1,21 @@
 -- Laws of the parts of a recovery's run.
-use Rattle.std.specs.Prelude.{◌≡◌, ℕ, zero, suc, ◌+◌, ◌^◌, ◌<◌, ◌≤◌, Bool, true, false, nat_lt, if◌then◌else◌, List, [], ◌∷◌, ◌++◌, length, Option, Some, None, ◌⊎◌, refl}
+use Rattle.std.specs.Prelude.{◌≡◌, ℕ, ◌+◌, ◌^◌, ◌≤◌, Bool, true, false, List, [], ◌∷◌, ◌++◌, length, Option, Some, None, refl}
 use Rattle.std.specs.Option.{option_to_list}
-use Rattle.std.proofs.Common.{sym, ap, ◌∙◌, subst, inl, inr, ⊎_elim, arith, append_assoc}
+use Rattle.std.proofs.Common.{sym, ap, ◌∙◌, inl, inr, ⊎_elim, arith, append_assoc}
 use Rattle.std.proofs.lemmas.Bool.{cases_lt}
-use Rattle.journal_replay.specs.code.Sending.{KeepsAll, CanSend, keeps-same, keeps-more, keeps-given}
+use Rattle.journal_replay.specs.code.Sending.{KeepsAll, keeps-same, keeps-more, keeps-given}
 use Rattle.std.proofs.lemmas.List.{append-nil}
 use Rattle.blk_base.specs.Streams.{Rose}
 use Rattle.order_model.specs.declared.command.Command.{Command}
 use Rattle.order_model.specs.declared.completion.Completion.{Completion}
 use Rattle.order_model.specs.Device.{Seen, Grows}
 use Rattle.order_model.specs.Machine.{Machine}
-use Rattle.order_model.specs.Steps.{KeepsGiven, Performs, Fails, Transfers, Persists, Answers}
+use Rattle.order_model.specs.Steps.{Performs, Fails, Transfers, Persists, Answers}
 use Rattle.journal_replay.specs.code.Runs.{StepKeeps, DrainKeeps, RunKeeps}
 use Rattle.journal_replay.specs.declared.choice.Choice.{Choice}
-use Rattle.journal_replay.specs.declared.choice.Choice.TheVariants as choice
 use Rattle.journal_replay.specs.declared.end.End.{End}
 use Rattle.journal_replay.specs.declared.end.End.TheVariants as ends
-use Rattle.journal_replay.specs.Driving.{Driven, by_completion, end_after, end_of, is_running, sent, chosen, drained_by, drained, stepped, turned_from, turned, driven}
+use Rattle.journal_replay.specs.Driving.{Driven, by_completion, end_after, end_of, is_running, sent, drained, turned_from, turned, driven}
 
 pub step_same : (old new : Seen) → new ≡ old → StepKeeps old new
 step_same old new e = rw e (record { given = record { base = refl; limit = refl; took = refl; sent = refl }; faults = omega arith; failed = inl refl })

@@ -1,19 +1,17 @@
 -- Laws of the end of a run, and that a device has work until then.
-use Rattle.std.specs.Prelude.{◌≡◌, ◌≢◌, ℕ, zero, suc, ◌+◌, ◌<◌, ◌≤◌, ◌==◌, Bool, true, false, List, [], ◌∷◌, ◌++◌, length, replicate, Option, Some, None, ◌⊎◌, refl}
+use Rattle.std.specs.Prelude.{◌≡◌, ℕ, zero, suc, ◌+◌, ◌<◌, ◌≤◌, ◌==◌, Bool, true, false, List, [], ◌∷◌, ◌++◌, length, replicate, Some, ◌⊎◌, refl}
 use Rattle.std.proofs.Common.{sym, ap, ◌∙◌, subst, inl, inr, ⊎_elim, arith}
 use Rattle.std.proofs.lemmas.Bool.{cases_lt, false≢true, cases_Bool}
 use Rattle.std.proofs.lemmas.List.{append-nil}
 use Rattle.std.proofs.lemmas.Option.{none-some, same_Some}
 use Rattle.blk_base.specs.Members.{In}
-use Rattle.order_model.specs.declared.part.Part.{Part}
 use Rattle.order_model.specs.declared.command.Command.{Command}
 use Rattle.order_model.specs.declared.completion.Completion.{Completion}
 use Rattle.order_model.specs.declared.completion.Completion.TheVariants as completion
-use Rattle.order_model.specs.Received.{all_parts, part_at, command_of, all_ids, IsFlush}
 use Rattle.order_model.specs.Device.{Seen, Completes, TellsFailure, completion_id}
 use Rattle.order_model.specs.Steps.{Progresses}
 use Rattle.order_model.specs.Machine.{Machine}
-use Rattle.journal_replay.specs.code.Runs.{FlushedLast, IsFlushedLast, IsAhead, IsDrivenBy}
+use Rattle.journal_replay.specs.code.Runs.{FlushedLast, IsAhead}
 use Rattle.journal_replay.specs.declared.choice.Choice.{Choice}
 use Rattle.journal_replay.specs.declared.choice.Choice.TheVariants as choice
 use Rattle.journal_replay.specs.declared.end.End.{End}

@@ -1,11 +1,11 @@
 -- Laws of the table of homes, which is filled in the order of the log.
-use Rattle.std.specs.Prelude.{◌≡◌, ◌≢◌, ℕ, zero, suc, ◌+◌, ◌<◌, ◌≤◌, ◌==◌, ◌&&◌, nat_lt, not, Bool, true, false, if◌then◌else◌, List, [], ◌∷◌, ◌++◌, length, map, take, get_or, replicate, Option, Some, None, Result, Ok, Err, IfOk, slice_get, slice_set, refl}
+use Rattle.std.specs.Prelude.{◌≡◌, ◌≢◌, ℕ, suc, ◌+◌, ◌<◌, ◌==◌, ◌&&◌, nat_lt, not, Bool, true, false, if◌then◌else◌, List, [], ◌∷◌, ◌++◌, length, map, take, get_or, Option, Some, None, Result, Ok, Err, IfOk, slice_get, slice_set, refl}
 use Rattle.std.specs.Prelude.{Vec}
-use Rattle.std.proofs.Common.{sym, ap, ◌∙◌, subst, inl, inr, ⊎_elim, arith, append_assoc, length-set}
+use Rattle.std.proofs.Common.{sym, ap, ◌∙◌, subst, inl, inr, arith, append_assoc, length-set}
 use Rattle.std.proofs.lemmas.Bool.{cases_Bool, eqb-true, eqb-false, lt-ltb}
 use Rattle.std.proofs.lemmas.List.{append-nil, take_more, map-append, length-take-le, length-map}
 use Rattle.log_model.proofs.LastLogged.{last_of-append}
-use Rattle.std.proofs.lemmas.Option.{none-some, same_Some}
+use Rattle.std.proofs.lemmas.Option.{same_Some}
 use Rattle.blk_base.specs.Members.{slice_get-set_same, slice_get-set_other, slice_get-length}
 use Rattle.journal_replay.specs.declared.home.Home.{Home}
 use Rattle.journal_replay.specs.code.Homes.{logged, logged_of, entry, listed}
@@ -16,7 +16,7 @@ use Rattle.log_model.specs.LastLogged.{bodies_of, last_of}
 use Rattle.log_model.specs.Marks.{Keep, Clear, Set}
 use Rattle.journal_replay.specs.Revokes.{cancels, or_else, replayed_by, last_revoke}
 use Rattle.journal_replay.specs.laws.Revokes.{replayed-is}
-use Rattle.journal_replay.specs.Commands.{for_block, home_of, homes}
+use Rattle.journal_replay.specs.Commands.{home_of, homes}
 
 -- one transaction more
 pub replayed_more : (r : Option ℕ) (i n : ℕ) (ts : List Transaction) (t : Transaction) (b : ℕ) (h : Option (List ℕ)) → n ≡ i + length ts

@@ -1,24 +1,22 @@
 -- Laws of the commands of a recovery: they can be sent one after the other, and end in a flush.
-use Rattle.std.specs.Prelude.{◌≡◌, ℕ, zero, suc, ◌+◌, ◌-◌, ◌<◌, ◌≤◌, ◌==◌, ◌||◌, Bool, true, false, if◌then◌else◌, List, [], ◌∷◌, ◌++◌, length, take, All, Option, Some, None, ◌⊎◌, slice_get, refl}
+use Rattle.std.specs.Prelude.{◌≡◌, ℕ, zero, suc, ◌+◌, ◌<◌, ◌≤◌, ◌==◌, ◌||◌, Bool, true, false, if◌then◌else◌, List, [], ◌∷◌, ◌++◌, length, take, Some, slice_get, refl}
 use Rattle.std.proofs.Common.{sym, ap, ◌∙◌, subst, inl, inr, ⊎_elim, arith, append_assoc, length-append}
 use Rattle.std.proofs.lemmas.Bool.{cases_lt, false≢true}
 use Rattle.std.proofs.lemmas.List.{take_all, length-take}
 use Rattle.std.proofs.lemmas.Option.{none-some, same_Some}
 use Rattle.std.proofs.lemmas.List.Elements.{All-cons, All-nil}
-use Rattle.blk_base.specs.Members.{In, In-append_cases, slice_get-append_right, slice_get-length, slice_get-take, slice_get-In, In-slice_get}
+use Rattle.blk_base.specs.Members.{In, slice_get-length, slice_get-take}
 use Rattle.order_model.specs.declared.part.Part.{Part}
 use Rattle.order_model.specs.declared.command.Command.{Command}
 use Rattle.order_model.specs.declared.command.Priority.TheVariants.{Simple, Ordered}
-use Rattle.order_model.specs.Received.{all_parts, part_at, command_of, ids_of, all_ids, IsFlush}
-use Rattle.order_model.specs.Device.{NoneTwice}
+use Rattle.order_model.specs.Received.{all_parts, part_at, command_of, all_ids, IsFlush}
 use Rattle.order_model.proofs.Received.{all_parts-append, command_of-append_old, command_of-lt, flush-is, is-flush}
-use Rattle.journal_replay.specs.Commands.{for_block, write, flush, home_writes, ending, sends, home_of, homes}
-use Rattle.journal_replay.specs.laws.Sends.{length-home_writes, parts-home_writes}
+use Rattle.journal_replay.specs.Commands.{write, flush, home_writes, ending, sends, home_of, homes}
+use Rattle.journal_replay.specs.laws.Sends.{length-home_writes}
 use Rattle.journal_replay.specs.code.Sending.{IsCommand, CanTake}
 use Rattle.journal_replay.specs.code.Runs.{FlushedLast}
 use Rattle.log_model.specs.Marks.{Logged, Mark}
 use Rattle.log_model.specs.Marks.{Keep, Clear, Set}
-use Rattle.journal_replay.specs.code.Homes.{listed}
 
 -- the ids rise from the first on
 id_at : (hs : List Logged) (superblock : Logged) (first n i id : ℕ) → n ≡ first + length hs → slice_get (all_ids (home_writes first hs ++ ending n superblock)) i ≡ Some id → id ≡ first + i

@@ -26,7 +26,7 @@ use Rattle.order_model.specs.Steps.{Reads}
 use Rattle.order_model.specs.Machine.{Machine}
 use Rattle.journal_replay.specs.declared.choice.Choice.{Choice}
 use Rattle.journal_replay.specs.declared.choice.Choice.TheVariants as choices
-use Rattle.journal_replay.specs.Driving.{Driven, driven, end_of, is_running, IsRun}
+use Rattle.journal_replay.specs.Driving.{driven, end_of, is_running, IsRun}
 use Rattle.journal_replay.specs.Recovered.{healed, emptied_super, next_sequence, recovered, transactions_of, fault_of, fault_by, journal_fault, IsRecoverable, log_mark}
 use Rattle.log_model.specs.Marks.{Set}
 
@@ -130,8 +130,8 @@ recovered_super base image s t within size e some f =
     let r = log_of base s image in
     let size_healed = length-healed (log_mark base s image) 0 image in
     let there : body_at (recovered base image) base ≡ emptied_super base s image =
-        ap (λ (i : List (List ℕ)). body_at i base) (recovered-full base image s e (by_start base s image some))
-        ∙ body_at-some _ base (emptied_super base s image) (slice_get-set_same (healed (log_mark base s image) 0 image) base (emptied_super base s image) (omega (arith, within, size_healed))) in
+    ap (λ (i : List (List ℕ)). body_at i base) (recovered-full base image s e (by_start base s image some))
+    ∙ body_at-some _ base (emptied_super base s image) (slice_get-set_same (healed (log_mark base s image) 0 image) base (emptied_super base s image) (omega (arith, within, size_healed))) in
     let read = tail_read (body_at image base) s (next_sequence r) size e (below_power (r.sequence + 1)) in
     let made : JournalSuper = record s { sequence = next_sequence r; start = 0 } in
     let same = same_ok made t (sym read ∙ (ap super_of (sym there) ∙ f)) in

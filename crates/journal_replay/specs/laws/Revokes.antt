@@ -1,8 +1,8 @@
 -- Laws of the table of revokes: a replay by it has what the marks say.
-use Rattle.std.specs.Prelude.{◌≡◌, ℕ, zero, suc, ◌+◌, ◌<◌, ◌≤◌, Bool, true, false, ◌||◌, nat_le, if◌then◌else◌, List, [], ◌∷◌, ◌++◌, Option, Some, None, ◌⊎◌, refl}
-use Rattle.std.proofs.Common.{sym, ap, ◌∙◌, subst, inl, inr, arith}
-use Rattle.std.proofs.lemmas.Bool.{cases_Bool, le-leb, lt-leb}
-use Rattle.log_model.specs.Marks.{Transaction, Mark, mark_in, marked_body}
+use Rattle.std.specs.Prelude.{◌≡◌, ℕ, ◌+◌, ◌≤◌, Bool, true, false, ◌||◌, if◌then◌else◌, List, [], ◌∷◌, ◌++◌, Option, Some, None, refl}
+use Rattle.std.proofs.Common.{sym, ap, ◌∙◌, arith}
+use Rattle.std.proofs.lemmas.Bool.{le-leb, lt-leb}
+use Rattle.log_model.specs.Marks.{Transaction, mark_in, marked_body}
 use Rattle.log_model.specs.LastLogged.{is_cancelled, bodies_of, uncancelled, last_of}
 use Rattle.log_model.proofs.LastLogged.{mark-printed, append-none, last_of-append}
 use Rattle.journal_replay.specs.Revokes.{is_revoked, later, last_revoke, cancels, or_else, replayed_by}

@@ -1,11 +1,11 @@
 -- Laws of a scan.
-use Rattle.std.specs.Prelude.{◌≡◌, ◌≢◌, ℕ, zero, suc, ◌+◌, ◌-◌, ◌<◌, ◌≤◌, Bool, true, false, List, [], ◌∷◌, ◌++◌, map, length, nat_lt, if◌then◌else◌, slice_get, Some, Result, Ok, Err, IfOk, refl}
+use Rattle.std.specs.Prelude.{◌≡◌, ◌≢◌, ℕ, suc, ◌+◌, ◌-◌, ◌<◌, ◌≤◌, Bool, true, false, List, [], ◌∷◌, map, length, nat_lt, if◌then◌else◌, Result, Ok, Err, IfOk, refl}
 use Rattle.std.specs.List.{range_with_len}
 use Rattle.std.proofs.Common.{sym, ap, ◌∙◌, subst, arith}
 use Rattle.std.proofs.lemmas.Bool.{lt-ltb, eq-eqb, ne_eqb, true≢false}
 use Rattle.std.proofs.lemmas.List.{map-append}
 use Rattle.journal_blocks.specs.declared.super_block.JournalSuper.{JournalSuper}
-use Rattle.journal_blocks.specs.Log.{Reading, Entry, Log, GoesOn, HasEnded, said, said_by, by_said, Nothing, Said, read_log, read_entry, by_tags, entry_at, body_at, places, found, beginning, log_of}
+use Rattle.journal_blocks.specs.Log.{Reading, Entry, Log, said, said_by, by_said, Nothing, Said, read_log, by_tags, entry_at, body_at, places, found, beginning, log_of}
 use Rattle.journal_blocks.specs.laws.Logs.{stopped-stays, read_log-append}
 use Rattle.order_model.specs.Device.{Seen, IsQuiet}
 use Rattle.order_model.specs.Steps.{Reads}

@@ -1,5 +1,5 @@
 -- Laws of the commands of a recovery, by their parts.
-use Rattle.std.specs.Prelude.{◌≡◌, ℕ, zero, suc, ◌+◌, ◌-◌, ◌<◌, ◌≤◌, ◌==◌, nat_lt, Bool, true, false, List, [], ◌∷◌, ◌++◌, length, take, drop, Option, Some, None, ◌⊎◌, slice_get, refl}
+use Rattle.std.specs.Prelude.{◌≡◌, ℕ, zero, suc, ◌+◌, ◌-◌, ◌<◌, ◌≤◌, ◌==◌, nat_lt, List, [], ◌∷◌, ◌++◌, length, take, drop, Some, ◌⊎◌, slice_get, refl}
 use Rattle.std.proofs.Common.{sym, ap, ◌∙◌, subst, inl, inr, ⊎_elim, arith, length-append}
 use Rattle.std.proofs.lemmas.Bool.{cases_lt, cond-false, le-ltb}
 use Rattle.std.proofs.lemmas.Option.{none-some, same_Some}
@@ -7,10 +7,10 @@ use Rattle.std.proofs.lemmas.List.{take-append-drop}
 use Rattle.blk_base.specs.Members.{slice_get-append_left, slice_get-append_right, slice_get-length}
 use Rattle.order_model.specs.declared.part.Part.{Part}
 use Rattle.order_model.specs.declared.command.Command.{Command}
-use Rattle.order_model.specs.Received.{all_parts, part_at, command_of, IsBarrier, IsFlush}
+use Rattle.order_model.specs.Received.{all_parts, part_at, command_of, IsBarrier}
 use Rattle.order_model.proofs.Received.{all_parts-append, command_of-append_old, command_of-lt}
 use Rattle.log_model.specs.Marks.{Logged}
-use Rattle.journal_replay.specs.Commands.{for_block, write, flush, home_writes, ending, sends}
+use Rattle.journal_replay.specs.Commands.{for_block, write, home_writes, ending, sends}
 
 abbrev part_of : ℕ → Logged → Part
 part_of id h = record { id = id; block = h.block; body = h.body }

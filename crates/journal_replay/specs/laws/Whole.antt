@@ -1,29 +1,23 @@
 -- Laws of a whole recovery: wherever it stops the recovered image is the same, and a complete one leaves it.
-use Rattle.std.specs.Prelude.{◌≡◌, ℕ, zero, suc, ◌+◌, ◌<◌, ◌≤◌, ◌==◌, Bool, true, false, List, [], ◌∷◌, ◌++◌, length, take, Option, Some, None, Result, Ok, Err, ◌⊎◌, slice_get, refl}
+use Rattle.std.specs.Prelude.{◌≡◌, ℕ, ◌+◌, ◌<◌, ◌≤◌, false, List, [], ◌∷◌, ◌++◌, length, take, Some, slice_get, refl}
 use Rattle.std.proofs.Common.{sym, ap, ◌∙◌, subst, inl, inr, ⊎_elim, arith, length-append}
 use Rattle.std.proofs.lemmas.Bool.{false≢true, cases_Bool}
 use Rattle.std.proofs.lemmas.List.{take_at}
-use Rattle.std.proofs.lemmas.Option.{none-some, same_Some}
+use Rattle.std.proofs.lemmas.Option.{none-some}
 use Rattle.blk_base.specs.Streams.{Rose}
-use Rattle.blk_base.specs.Members.{In, In-append_left, slice_get-length, slice_get-In}
-use Rattle.order_model.specs.declared.part.Part.{Part}
+use Rattle.blk_base.specs.Members.{In, In-append_left, slice_get-length}
 use Rattle.order_model.specs.declared.command.Command.{Command}
 use Rattle.order_model.specs.declared.completion.Completion.{Completion}
 use Rattle.order_model.specs.declared.completion.Completion.TheVariants as completion
-use Rattle.order_model.specs.Received.{all_parts, part_at, command_of, all_ids, IsFlush}
+use Rattle.order_model.specs.Received.{all_parts, part_at, IsFlush}
 use Rattle.order_model.specs.Device.{Seen, IsSurface, KeepsEpochOrder, KeepsFlush, Completes, TellsFailure, TellsCut, IsPartKept, IsQuiet}
 use Rattle.order_model.proofs.Received.{all_parts-append}
-use Rattle.journal_blocks.specs.declared.super_block.JournalSuper.{JournalSuper}
-use Rattle.journal_blocks.specs.declared.fault.JournalFault.{JournalFault}
-use Rattle.journal_replay.specs.declared.end.End.{End}
 use Rattle.journal_replay.specs.declared.end.End.TheVariants as ends
-use Rattle.log_model.specs.Marks.{Logged, Mark}
-use Rattle.journal_blocks.specs.Super.{super_of}
-use Rattle.journal_blocks.specs.Log.{body_at}
-use Rattle.journal_replay.specs.Recovered.{recovered, log_mark, emptied_super, IsRecoverable}
-use Rattle.journal_replay.specs.Commands.{for_block, homes, sends, commands, home_writes, ending}
-use Rattle.journal_replay.specs.laws.Sends.{parts-home_writes, part_at-prefix, sent_part}
-use Rattle.journal_replay.specs.Driving.{by_completion, end_after, end_of, is_running}
+use Rattle.log_model.specs.Marks.{Logged}
+use Rattle.journal_replay.specs.Recovered.{recovered, log_mark, IsRecoverable}
+use Rattle.journal_replay.specs.Commands.{for_block, sends, commands, home_writes, ending}
+use Rattle.journal_replay.specs.laws.Sends.{parts-home_writes, sent_part}
+use Rattle.journal_replay.specs.Driving.{end_after, end_of}
 use Rattle.journal_replay.specs.code.Runs.{RunKeeps, FlushedLast, HasLog}
 use Rattle.journal_replay.specs.code.Sending.{CanSend, KeepsAll}
 use Rattle.journal_replay.specs.laws.Plans.{only_flush, flush_is_last, ends_in_flush, can_take, length-homes}

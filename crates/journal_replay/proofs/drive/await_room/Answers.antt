@@ -1,11 +1,7 @@
-use Rattle.std.proofs.Common.{sym, ap, ◌∙◌, subst, ◌≡◌, ◌<◌, ◌+◌, ◌++◌, ◌∷◌, [], List, ℕ, true, false, length, inl, inr, refl, arith}
-use Rattle.std.proofs.lemmas.List.{append-nil}
-use Rattle.order_model.specs.declared.command.Command.{Command}
-use Rattle.order_model.specs.Device.{Seen}
-use Rattle.journal_replay.specs.Driving.{Driven, sent, turned, end_of, is_running}
-use Rattle.journal_replay.specs.laws.Drives.{run-same, run-more, run-sent}
-use Rattle.journal_replay.specs.laws.Ends.{not_failed, works-full, works-last, ahead-same, ahead-sent, ahead-turn, ahead-end, sent-shorter}
-use Rattle.journal_replay.specs.code.Sending.{CanSend, can_send-kept}
+use Rattle.std.proofs.Common.{sym, ap, ◌∙◌, ◌≡◌, true, false, inl, refl, arith}
+use Rattle.journal_replay.specs.Driving.{end_of, is_running}
+use Rattle.journal_replay.specs.laws.Drives.{run-more}
+use Rattle.journal_replay.specs.laws.Ends.{not_failed, works-full, ahead-turn}
 use Rattle.order_model.specs.Machine.{Machine, machine_of}
 use Rattle.journal_replay.proofs.drive.await_room.Goals as goal
 

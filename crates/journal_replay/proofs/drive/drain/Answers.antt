@@ -1,9 +1,8 @@
-use Rattle.std.proofs.Common.{sym, ap, ◌∙◌, subst, ◌≡◌, ◌++◌, [], ◌∷◌, Some, None, Option, arith, refl}
+use Rattle.std.proofs.Common.{sym, ap, ◌∙◌, subst, ◌≡◌, Some, Option}
 use Rattle.order_model.specs.declared.completion.Completion.{Completion}
-use Rattle.order_model.specs.Device.{Seen}
 use Rattle.order_model.specs.Steps.{Answers}
 use Rattle.journal_replay.specs.Driving.{drained, by_completion, end_of}
-use Rattle.journal_replay.specs.laws.Drives.{drained-next, drained-none, drain_more, end-answered}
+use Rattle.journal_replay.specs.laws.Drives.{drained-next, drain_more, end-answered}
 use Rattle.order_model.specs.Machine.{Machine, machine_of}
 use Rattle.journal_replay.specs.code.Runs.{DrainKeeps}
 use Rattle.journal_replay.proofs.drive.drain.Goals as goal

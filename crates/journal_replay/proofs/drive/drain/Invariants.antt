@@ -1,6 +1,5 @@
 use Rattle.std.proofs.Common.{◌≡◌, length}
-use Rattle.order_model.specs.Device.{Seen}
-use Rattle.journal_replay.specs.Driving.{drained_by, drained, end_of}
+use Rattle.journal_replay.specs.Driving.{drained, end_of}
 use Rattle.order_model.specs.Machine.{Machine, machine_of}
 use Rattle.journal_replay.specs.code.Runs.{DrainKeeps}
 use Rattle.journal_replay.proofs.drive.drain.Given as goal

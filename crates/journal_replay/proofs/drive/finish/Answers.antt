@@ -1,11 +1,11 @@
-use Rattle.std.proofs.Common.{sym, ap, ◌∙◌, subst, ◌≡◌, ◌==◌, ◌<◌, ◌+◌, ◌++◌, ◌∷◌, [], List, ℕ, true, false, length, inl, inr, refl, arith}
+use Rattle.std.proofs.Common.{sym, ap, ◌∙◌, subst, ◌≡◌, ◌==◌, ◌++◌, List, true, false, length, inr, refl, arith}
 use Rattle.std.proofs.lemmas.List.{append-nil}
 use Rattle.order_model.specs.declared.command.Command.{Command}
 use Rattle.order_model.specs.Device.{Seen}
-use Rattle.journal_replay.specs.Driving.{Driven, sent, turned, end_of, is_running}
-use Rattle.journal_replay.specs.laws.Drives.{run-same, run-more, run-sent}
-use Rattle.journal_replay.specs.laws.Ends.{not_failed, works-full, works-last, ahead-same, ahead-sent, ahead-turn, ahead-end, ahead_more, sent-shorter}
-use Rattle.journal_replay.specs.code.Sending.{CanSend, can_send-kept}
+use Rattle.journal_replay.specs.Driving.{Driven, end_of, is_running}
+use Rattle.journal_replay.specs.laws.Drives.{run-more, run-sent}
+use Rattle.journal_replay.specs.laws.Ends.{not_failed, works-last, ahead-sent, ahead-turn, ahead-end, ahead_more, sent-shorter}
+use Rattle.journal_replay.specs.code.Sending.{can_send-kept}
 use Rattle.order_model.specs.Machine.{Machine, machine_of}
 use Rattle.journal_replay.specs.code.Runs.{IsFlushedLast}
 use Rattle.journal_replay.proofs.drive.finish.Goals as goal

@@ -1,5 +1,4 @@
 use Rattle.std.proofs.Common.{◌≡◌, length}
-use Rattle.order_model.specs.Device.{Seen}
 use Rattle.journal_replay.specs.Driving.{sent}
 use Rattle.journal_replay.specs.code.Sending.{CanSend, KeepsAll}
 use Rattle.order_model.specs.Machine.{Machine, machine_of}

@@ -1,4 +1,4 @@
-use Rattle.std.proofs.Common.{sym, subst, ◌≡◌}
+use Rattle.std.proofs.Common.{sym, subst}
 use Rattle.journal_replay.proofs.drive.step.Goals as goal
 
 pub returns-in-Transfer-clause-on : goal.returns-in-Transfer-clause-on

@@ -1,6 +1,5 @@
-use Rattle.std.proofs.Common.{sym, ap, ◌∙◌, subst, ◌≡◌, ◌<◌, ◌+◌, ℕ, ⊎_elim, inl, inr, arith}
-use Rattle.order_model.specs.declared.command.Command.{Command}
-use Rattle.journal_replay.specs.Driving.{Driven, sent}
+use Rattle.std.proofs.Common.{sym, ap, ◌∙◌, subst, ◌<◌, ⊎_elim, inl, inr, arith}
+use Rattle.journal_replay.specs.Driving.{Driven}
 use Rattle.journal_replay.specs.laws.Ends.{unsent}
 use Rattle.order_model.specs.Machine.{Machine, machine_of}
 use Rattle.journal_replay.proofs.drive.turn.Goals as goal

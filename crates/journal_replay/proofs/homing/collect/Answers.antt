@@ -1,4 +1,4 @@
-use Rattle.std.proofs.Common.{◌≡◌, ◌∙◌, ◌++◌, ℕ, List, Option, take, ap, sym, arith}
+use Rattle.std.proofs.Common.{◌∙◌, ◌++◌, ℕ, List, Option, take, ap, sym, arith}
 use Rattle.journal_replay.specs.laws.Homes.{collect_more}
 use Rattle.journal_replay.specs.code.Homes.{listed, entry}
 use Rattle.log_model.specs.Marks.{Logged}

@@ -1,11 +1,10 @@
-use Rattle.std.proofs.Common.{◌≡◌, ◌∙◌, ◌<◌, ◌≤◌, ℕ, List, Option, None, Some, slice_get, map, take, length, ap, sym, subst, arith}
+use Rattle.std.proofs.Common.{◌≡◌, ◌∙◌, ℕ, List, Option, None, Some, map, take, ap, subst, arith}
 use Rattle.std.specs.Prelude.{IfOk}
 use Rattle.std.proofs.lemmas.List.{take_all}
 use Rattle.journal_replay.specs.Revokes.{place_of}
-use Rattle.journal_replay.specs.declared.home.LogTransaction.{LogTransaction}
-use Rattle.journal_replay.specs.Revokes.{cancels, replayed_by}
+use Rattle.journal_replay.specs.Revokes.{replayed_by}
 use Rattle.journal_replay.specs.code.Scans.{transaction_of}
-use Rattle.journal_replay.specs.laws.Homes.{replay_step, table_lists, told_homes, with_bodies}
+use Rattle.journal_replay.specs.laws.Homes.{replay_step, told_homes, with_bodies}
 use Rattle.journal_replay.specs.code.Homes.{listed}
 use Rattle.journal_replay.specs.code.Homes.{logged_of}
 use Rattle.journal_replay.proofs.homing.homes_of.Goals as goal

@@ -1,4 +1,4 @@
-use Rattle.std.proofs.Common.{◌≡◌, ◌∙◌, ℕ, List, Option, Some, slice_get, length, ap, sym, arith}
+use Rattle.std.proofs.Common.{◌∙◌, ℕ, List, Option, slice_get, length, ap, arith}
 use Rattle.journal_replay.specs.Revokes.{place_of}
 use Rattle.journal_replay.specs.Revokes.{cancels}
 use Rattle.journal_replay.specs.laws.Homes.{bodies_step, length-with_body}

@@ -1,8 +1,6 @@
-use Rattle.std.proofs.Common.{◌≡◌, ◌∙◌, ◌≤◌, ◌<◌, ◌-◌, ℕ, List, Option, None, Some, Ok, Err, Result, length, ap, sym, subst, arith}
+use Rattle.std.proofs.Common.{◌≡◌, ◌∙◌, ℕ, List, None, Some, Ok, Err, length, ap, sym, arith}
 use Rattle.order_model.specs.Device.{Seen}
-use Rattle.log_model.specs.Marks.{Transaction}
 use Rattle.journal_blocks.specs.declared.fault.JournalFault.{JournalFault}
-use Rattle.journal_replay.specs.declared.journal.Journal.{Journal}
 use Rattle.journal_replay.specs.declared.fault.RecoverFault.{RecoverFault}
 use Rattle.journal_replay.specs.declared.fault.RecoverFault.TheVariants.{BadJournal}
 use Rattle.journal_blocks.specs.Super.{super_of}

@@ -1,4 +1,3 @@
-use Rattle.std.proofs.Common.{◌≡◌, ap, sym}
 use Rattle.journal_blocks.specs.Log.{body_at}
 use Rattle.journal_blocks.specs.laws.Supers.{read_parts}
 use Rattle.journal_replay.specs.laws.Recoveries.{start_within}

@@ -1,9 +1,7 @@
-use Rattle.std.proofs.Common.{◌≡◌, ◌≢◌, ◌∙◌, ℕ, List, Option, None, Some, Ok, Err, Result, ap, sym, subst}
+use Rattle.std.proofs.Common.{◌≡◌, ◌∙◌, ap, sym}
 use Rattle.std.proofs.lemmas.Bool.{eq-eqb}
 use Rattle.order_model.specs.Device.{Seen}
 use Rattle.journal_blocks.specs.declared.super_block.JournalSuper.{JournalSuper}
-use Rattle.journal_blocks.specs.Super.{super_of}
-use Rattle.journal_blocks.specs.Log.{body_at}
 use Rattle.journal_replay.specs.laws.Attempts.{recovered-empty}
 use Rattle.journal_replay.specs.laws.Drives.{later_rose}
 use Rattle.journal_replay.specs.laws.Recoveries.{recovered_super-empty, next_from}

@@ -1,27 +1,15 @@
-use Rattle.std.proofs.Common.{◌≡◌, ◌≢◌, ◌∙◌, ◌<◌, ◌≤◌, ◌+◌, ◌^◌, ◌%◌, ◌==◌, ℕ, List, Option, None, Some, Ok, Err, Result, Bool, true, false, length, map, replicate, ap, sym, subst, arith}
-use Rattle.std.proofs.lemmas.Bool.{ne_eqb}
+use Rattle.std.proofs.Common.{◌≡◌, ◌∙◌, ℕ, List, length, map, ap, sym, subst, arith}
 use Rattle.std.proofs.lemmas.List.{length-map}
 use Rattle.blk_base.specs.Members.{In}
-use Rattle.order_model.specs.declared.command.Command.{Command}
 use Rattle.order_model.specs.declared.completion.Completion.TheVariants.{Failed}
-use Rattle.order_model.specs.Device.{Seen}
 use Rattle.order_model.specs.Machine.{Machine, machine_of}
 use Rattle.log_model.specs.Marks.{Logged, Transaction, mark_in}
-use Rattle.journal_blocks.specs.declared.super_block.JournalSuper.{JournalSuper}
-use Rattle.journal_blocks.specs.Super.{super_of, with_tail}
-use Rattle.journal_blocks.specs.Log.{Reading, log_of, body_at}
-use Rattle.journal_replay.specs.declared.choice.Choice.TheVariants as choices
-use Rattle.journal_replay.specs.declared.end.End.{End}
-use Rattle.journal_replay.specs.declared.end.End.TheVariants as ends
-use Rattle.journal_replay.specs.Recovered.{recovered, transactions_of, next_sequence, log_mark, emptied_super}
-use Rattle.journal_replay.specs.Commands.{for_block, sends, homes, commands}
-use Rattle.journal_replay.specs.Driving.{Driven, driven, end_of, is_running, IsRun}
+use Rattle.journal_replay.specs.Driving.{is_running}
 use Rattle.journal_replay.specs.code.Homes.{logged, logged_of}
 use Rattle.journal_replay.specs.code.Scans.{transaction_of}
-use Rattle.journal_replay.specs.code.Runs.{HasLog}
 use Rattle.journal_replay.specs.laws.Plans.{length-homes}
 use Rattle.journal_replay.specs.laws.Whole.{commands_are, failed_in}
-use Rattle.journal_replay.specs.laws.Recoveries.{has_log, run_from, recoverable_from, fine_log, few_transactions, next_is, transactions-full}
+use Rattle.journal_replay.specs.laws.Recoveries.{has_log, run_from, recoverable_from, fine_log, few_transactions, next_is}
 use Rattle.journal_replay.proofs.Faults.{same_failed}
 use Rattle.journal_replay.proofs.recovery.replay.Goals as goal
 

@@ -1,10 +1,9 @@
-use Rattle.std.proofs.Common.{sym, ap, ◌∙◌, subst, ◌≡◌, ◌+◌, ◌++◌, [], List, ℕ, length, replicate}
+use Rattle.std.proofs.Common.{sym, ap, ◌∙◌, subst, ◌+◌, ◌++◌, List, length, replicate}
 use Rattle.order_model.specs.declared.command.Command.{Command}
-use Rattle.order_model.specs.Device.{Seen}
 use Rattle.journal_replay.specs.declared.end.End.TheVariants as ends
 use Rattle.journal_replay.specs.Commands.{sends, for_block}
 use Rattle.journal_replay.specs.declared.choice.Choice.TheVariants as choices
-use Rattle.journal_replay.specs.Driving.{Driven, driven, end_after, end_of}
+use Rattle.journal_replay.specs.Driving.{Driven, driven, end_after}
 use Rattle.journal_replay.specs.laws.Drives.{run-more}
 use Rattle.journal_replay.specs.code.Homes.{logged_of}
 use Rattle.journal_replay.specs.laws.Plans.{ends_in_flush}

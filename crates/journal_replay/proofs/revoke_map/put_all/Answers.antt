@@ -1,4 +1,4 @@
-use Rattle.std.proofs.Common.{◌≡◌, ◌∙◌, ℕ, List, ap, sym, arith}
+use Rattle.std.proofs.Common.{◌∙◌, ℕ, List, ap, arith}
 use Rattle.journal_replay.specs.Revokes.{place_of}
 use Rattle.journal_replay.specs.laws.Tables.{table_more}
 use Rattle.journal_replay.proofs.revoke_map.put_all.Goals as goal

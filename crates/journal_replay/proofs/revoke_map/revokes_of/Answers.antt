@@ -1,7 +1,5 @@
-use Rattle.std.proofs.Common.{◌≡◌, ◌∙◌, ℕ, List, Option, Some, map, take, ap, sym, arith}
+use Rattle.std.proofs.Common.{◌∙◌, ℕ, List, Option, Some, map, take, ap, sym, arith}
 use Rattle.std.specs.Prelude.{if◌then◌else◌}
-use Rattle.journal_replay.specs.Revokes.{place_of}
-use Rattle.journal_replay.specs.declared.home.LogTransaction.{LogTransaction}
 use Rattle.journal_replay.specs.Revokes.{is_revoked}
 use Rattle.journal_replay.specs.Revokes.{last_revoke}
 use Rattle.journal_replay.specs.code.Scans.{transaction_of}

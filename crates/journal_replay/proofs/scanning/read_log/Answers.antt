@@ -1,4 +1,4 @@
-use Rattle.std.proofs.Common.{◌≡◌, ◌∙◌, List, ℕ, true, sym, ap, subst, map}
+use Rattle.std.proofs.Common.{◌∙◌, true, sym, ap, map}
 use Rattle.journal_blocks.specs.Log.{Reading, read_log, entry_at, places}
 use Rattle.journal_replay.specs.code.Scans.{after}
 use Rattle.journal_replay.specs.laws.Scans.{log_is}

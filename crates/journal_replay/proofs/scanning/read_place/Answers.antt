@@ -1,4 +1,4 @@
-use Rattle.std.proofs.Common.{◌≡◌, sym, subst}
+use Rattle.std.proofs.Common.{sym, subst}
 use Rattle.journal_replay.specs.code.Scans.{HasRead}
 use Rattle.journal_replay.specs.laws.Scans.{has_read}
 use Rattle.journal_replay.proofs.scanning.read_place.Goals as goal

@@ -1,7 +1,7 @@
 use Rattle.std.proofs.Common.{◌≡◌, ◌+◌, ◌∙◌, List, ℕ, Bool, true, false, sym, ap, subst, arith}
 use Rattle.order_model.specs.Device.{Seen}
-use Rattle.journal_blocks.specs.Log.{Reading, read_log, body_at, by_tags}
-use Rattle.journal_replay.specs.code.Scans.{HasRead, after}
+use Rattle.journal_blocks.specs.Log.{body_at, by_tags}
+use Rattle.journal_replay.specs.code.Scans.{after}
 use Rattle.journal_replay.specs.laws.Scans.{entries, scan_step, scan_ended, read_more}
 use Rattle.journal_replay.proofs.scanning.scan_range.Goals as goal
 

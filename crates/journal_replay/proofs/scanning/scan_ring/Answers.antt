@@ -1,4 +1,4 @@
-use Rattle.std.proofs.Common.{◌≡◌, ◌+◌, ◌∙◌, List, ℕ, Bool, true, false, sym, ap, subst, arith}
+use Rattle.std.proofs.Common.{◌≡◌, Bool, true, ap, subst}
 use Rattle.order_model.specs.Device.{Seen}
 use Rattle.journal_blocks.specs.Log.{read_log}
 use Rattle.journal_replay.specs.code.Scans.{after}

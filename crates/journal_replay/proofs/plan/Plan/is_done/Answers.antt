@@ -1,7 +1,6 @@
-use Rattle.std.proofs.Common.{◌≡◌, ◌+◌, ◌==◌, ◌≤◌, Bool, nat_le, ℕ, length, sym, ap, ◌∙◌, drop, arith}
+use Rattle.std.proofs.Common.{◌≡◌, ◌+◌, ◌==◌, nat_le, ℕ, length, ap, ◌∙◌, arith}
 use Rattle.std.proofs.lemmas.List.{length-map}
-use Rattle.journal_replay.specs.declared.home.Home.{Home}
-use Rattle.journal_replay.specs.Commands.{sends, for_block}
+use Rattle.journal_replay.specs.Commands.{for_block}
 use Rattle.journal_replay.specs.code.Homes.{logged_of, logged}
 use Rattle.journal_replay.proofs.Plans.{is_done_test}
 use Rattle.journal_replay.proofs.plan.Plan.is_done.Goals as goal

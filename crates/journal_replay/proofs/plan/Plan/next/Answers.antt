@@ -1,9 +1,7 @@
-use Rattle.std.proofs.Common.{◌≡◌, ◌∷◌, ◌+◌, ◌==◌, [], List, Bool, ℕ, true, drop, length, sym, ap, ◌∙◌, subst, arith}
-use Rattle.std.proofs.lemmas.Bool.{eqb-true, eqb-false}
+use Rattle.std.proofs.Common.{◌≡◌, ◌∷◌, ◌+◌, ◌==◌, List, ℕ, true, drop, length, sym, ap, ◌∙◌, arith}
 use Rattle.std.proofs.lemmas.List.{length-map}
 use Rattle.order_model.specs.declared.command.Command.{Command}
-use Rattle.journal_replay.specs.declared.home.Home.{Home}
-use Rattle.journal_replay.specs.Commands.{sends, ending, write, flush, for_block}
+use Rattle.journal_replay.specs.Commands.{sends, ending, write, for_block}
 use Rattle.journal_replay.specs.code.Homes.{logged_of, logged}
 use Rattle.journal_replay.proofs.Plans.{home_next, super_next, flush_next, nothing_next, pair_at}
 use Rattle.journal_replay.proofs.plan.Plan.next.Goals as goal

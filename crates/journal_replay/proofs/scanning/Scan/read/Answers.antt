@@ -1,13 +1,12 @@
-use Rattle.std.proofs.Common.{◌≡◌, ◌≢◌, ◌∙◌, ◌++◌, nat_lt, length, List, ℕ, Bool, true, false, Result, Ok, Err, sym, ap, subst, refl}
+use Rattle.std.proofs.Common.{◌≡◌, ◌≢◌, ◌∙◌, ◌++◌, nat_lt, length, List, ℕ, true, false, Result, Ok, Err, sym, ap}
 use Rattle.std.specs.Prelude.{IfOk}
-use Rattle.journal_blocks.specs.declared.tag.Tag.{Tag}
 use Rattle.journal_blocks.specs.declared.log_block.LogBlock.{LogBlock}
 use Rattle.journal_blocks.specs.declared.log_block.LogBlock.TheVariants.{Descriptor, Commit, Revoke}
 use Rattle.journal_blocks.specs.declared.fault.JournalFault.{JournalFault}
-use Rattle.journal_blocks.specs.declared.fault.JournalFault.TheVariants.{NotMagic, BadKind, BadCount, Feature, NoMemory}
+use Rattle.journal_blocks.specs.declared.fault.JournalFault.TheVariants.{NoMemory}
 use Rattle.journal_blocks.specs.Header.{sequence_of}
 use Rattle.journal_blocks.specs.Blocks.{log_block_of}
-use Rattle.journal_blocks.specs.Log.{Reading, Nothing, by_tags, by_said, said_by}
+use Rattle.journal_blocks.specs.Log.{Reading, by_tags, by_said, said_by}
 use Rattle.journal_replay.specs.code.Scans.{after}
 use Rattle.journal_replay.specs.laws.Scans.{read_other, read_own}
 use Rattle.journal_replay.proofs.scanning.Scan.read.Goals as goal
