@@ -32,10 +32,10 @@ impl Model for Sched {
 }
 
 impl Sched {
-    /// A scheduler that may accept so many requests in all, of which `CAPACITY` may wait. A limit above
+    /// A scheduler that may accept so many requests in all, of which 128 may wait. A limit above
     /// 2^40 has no memory.
     pub fn make(alloc: Global, limit: u64) -> Result<Sched, NoMemory>
-        ensures { IfOk result (λ s. s ≡ opened limit CAPACITY) }
+        ensures { IfOk result (λ s. s ≡ opened limit 128) }
     {
         if limit > LONGEST {
             return Err(NoMemory);

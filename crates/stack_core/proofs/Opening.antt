@@ -5,7 +5,6 @@ use Rattle.blk_base.specs.Block.{filled}
 use Rattle.blk_base.specs.Image.{zeros}
 use Rattle.order_model.specs.Device.{Seen}
 use Rattle.order_model.specs.Carrying.{SchedSeen}
-use Rattle.barrier_reassign.specs.Sched.{SchedState, seen_of, sched_steps}
 use Rattle.device_epochs.specs.declared.device.DeviceSetup.{DeviceSetup}
 use Rattle.device_epochs.specs.Device.{DeviceState, opened, seen}
 use Rattle.script_grammar.specs.declared.script.Script.{Script}
@@ -14,23 +13,19 @@ use Rattle.stack_core.specs.declared.report.Report.{Report}
 use Rattle.stack_core.specs.declared.feed.Feed.{Feed}
 use Rattle.stack_core.specs.Headline.{KeepsOrder}
 use Rattle.stack_core.specs.Report.{IsReportOf, Headline}
-use Rattle.stack_core.specs.Feed.{opened_feed, IsFed, AreRequests}
-use Rattle.stack_core.specs.Core.{RunState, setup_for, opened_for, opened_plain, epoch_machine, ended, core}
+use Rattle.stack_core.specs.Feed.{opened_feed, opened_seen, IsFed, AreRequests}
+use Rattle.stack_core.specs.Core.{setup_for, opened_for, core}
 use Rattle.stack_core.proofs.Feeds.{opened_fed}
 
 -- what stands before a device that was made over the script's image, with the device
-pub fed_on : (s : Script) (d : Seen) → IsRunnable s → d.base ≡ zeros (blocks_of s) → d.took ≡ [] → length s.puts ≤ d.limit → IsFed (opened_feed s) (seen_of (opened_plain s)) s.puts d
+pub fed_on : (s : Script) (d : Seen) → IsRunnable s → d.base ≡ zeros (blocks_of s) → d.took ≡ [] → length s.puts ≤ d.limit → IsFed (opened_feed s) (opened_seen s) s.puts d
 fed_on s d can base took limit =
     let blocks : length d.base ≡ blocks_of s = ap length base ∙ length-replicate (blocks_of s) (filled 0) in
-    opened_fed s (seen_of (opened_plain s)) d (subst (λ n. AreRequests n s.puts) (sym blocks) can.requests) limit took refl refl refl
+    opened_fed s (opened_seen s) d (subst (λ n. AreRequests n s.puts) (sym blocks) can.requests) limit took refl refl refl
 
 -- how a device for so many ids is set up
 abbrev pub setup_of : Script → ℕ → DeviceSetup
 setup_of s limit = record { depth = s.header.depth; limit = limit; fail_at = None; bad_read = None; cut_at = s.header.cut }
-
--- where a script ends on this device of epochs
-abbrev pub end_of : Script → DeviceState → RunState SchedState DeviceState
-end_of s d = ended sched_steps epoch_machine s (opened_plain s) d
 
 -- a report keeps the order over the zeros of its own script
 pub headline_of : {E : Type 0} (result : Result Report E) (s : Script) (feed : Feed) (p : SchedSeen) (end : Seen) → IfOk result (IsReportOf s feed p end)

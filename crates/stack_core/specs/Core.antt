@@ -6,6 +6,8 @@ use Rattle.order_model.specs.declared.request.Request.{Request}
 use Rattle.order_model.specs.Machine.{Machine}
 use Rattle.barrier_reassign.specs.Scheduler.{SchedSteps}
 use Rattle.barrier_reassign.specs.Sched as plain
+use Rattle.sched_elevator.specs.Elevator as elevator
+use Rattle.order_model.specs.Carrying.{SchedSeen}
 use Rattle.device_epochs.specs.declared.device.DeviceSetup.{DeviceSetup}
 use Rattle.device_epochs.specs.Device as epochs
 use Rattle.device_epochs.specs.Device.{DeviceState}
@@ -60,9 +62,24 @@ unfoldable pub run_lines : {K S : Type 0} → SchedSteps K → Machine S → Lis
 run_lines k m requests r [] = r
 run_lines k m requests r (l ∷ ls) = run_lines k m requests (happens_line k m requests r l) ls
 
--- where a script ends on this scheduler and this device
-abbrev pub ended : {K S : Type 0} → SchedSteps K → Machine S → Script → K → S → RunState K S
-ended k m s sched dev = run_lines k m s.puts (record { feed = opened_feed s; sched = sched; dev = dev }) s.events
+-- the run of a script on this scheduler and this device
+abbrev pub run_of : {K S : Type 0} → SchedSteps K → Machine S → Script → K → S → RunState K S
+run_of k m s sched dev = run_lines k m s.puts (record { feed = opened_feed s; sched = sched; dev = dev }) s.events
+
+-- where a run ends, with what is seen of its scheduler
+pub record EndState (S : Type 0) : Type 0 where
+  pub feed : Feed
+  pub sched : SchedSeen
+  pub dev : S
+
+abbrev pub ended : {K S : Type 0} → SchedSteps K → RunState K S → EndState S
+ended k r = record { feed = r.feed; sched = k.seen r.sched; dev = r.dev }
+
+-- where a script ends on this device: on the scheduler that it names, in which 128 requests may wait
+abbrev pub end_on : {S : Type 0} → Machine S → Script → S → EndState S
+end_on m s dev =
+    if s.header.elevator then ended elevator.elevator_steps (run_of elevator.elevator_steps m s (elevator.opened (scheduled_count s) 128) dev)
+    else ended plain.sched_steps (run_of plain.sched_steps m s (plain.opened (scheduled_count s) 128) dev)
 
 -- the steps of the device of epochs
 abbrev pub epoch_machine : Machine DeviceState
@@ -88,10 +105,6 @@ setup_for s = record { depth = s.header.depth; limit = length s.puts; fail_at = 
 abbrev pub opened_for : Script → DeviceState
 opened_for s = epochs.opened (zeros (blocks_of s)) (setup_for s)
 
--- the plain scheduler that a script opens, in which 128 requests may wait
-abbrev pub opened_plain : Script → plain.SchedState
-opened_plain s = plain.opened (scheduled_count s) 128
-
 -- where a script ends: all its events on the parts that it opens
-abbrev pub core : Script → RunState plain.SchedState DeviceState
-core s = ended plain.sched_steps epoch_machine s (opened_plain s) (opened_for s)
+abbrev pub core : Script → EndState DeviceState
+core s = end_on epoch_machine s (opened_for s)

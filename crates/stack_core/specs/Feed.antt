@@ -1,5 +1,5 @@
 -- How requests reach the device: each as its own command, or through a scheduler.
-use Rattle.std.specs.Prelude.{◌≡◌, ℕ, ◌+◌, ◌≤◌, ◌++◌, List, length, map, take, Option, Some, slice_get}
+use Rattle.std.specs.Prelude.{◌≡◌, ℕ, ◌+◌, ◌≤◌, ◌++◌, false, List, [], length, map, take, Option, Some, slice_get}
 use Rattle.std.specs.Option.{option_map, option_to_list}
 use Rattle.order_model.specs.declared.command.Command.{Command}
 use Rattle.order_model.specs.declared.request.Request.{Request}
@@ -32,13 +32,17 @@ opened_as s (Blocks blocks) = Scheduled (opened_side s.header.queue)
 abbrev pub opened_feed : Script → Feed
 opened_feed s = opened_as s s.kind
 
--- how many requests a scheduler may be given
+-- how many requests a scheduler may be given; a `device` script gives it none
 abbrev pub scheduled_as : Script → Form → ℕ
 scheduled_as s (Device blocks) = 0
 scheduled_as s (Blocks blocks) = length s.puts
 
 abbrev pub scheduled_count : Script → ℕ
 scheduled_count s = scheduled_as s s.kind
+
+-- what is seen of the scheduler when the script begins
+abbrev pub opened_seen : Script → SchedSeen
+opened_seen s = record { limit = scheduled_count s; accepted = []; waiting = []; blocked = false; sent_out = [] }
 
 abbrev pub side_stepped : {K : Type 0} → SchedSteps K → List Request → SideRun K → CoreEvent → SideRun K
 side_stepped k requests r Submit = record { side = submitted requests r.side; sched = r.sched }

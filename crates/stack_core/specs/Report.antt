@@ -7,7 +7,6 @@ use Rattle.order_model.specs.declared.completion.Completion.{Completion}
 use Rattle.order_model.specs.Single.{command_for}
 use Rattle.order_model.specs.Carrying.{SchedSeen, IsFrontOf}
 use Rattle.barrier_reassign.specs.Scheduler.{IsSchedRecord}
-use Rattle.barrier_reassign.specs.Sched.{seen_of}
 use Rattle.device_epochs.specs.Device.{seen}
 use Rattle.script_grammar.specs.declared.script.Script.{Script}
 use Rattle.script_grammar.specs.declared.script.Form.{Form}
@@ -30,7 +29,7 @@ pub record IsReportOf (s : Script) (feed : Feed) (passed : SchedSeen) (left : Se
 
 -- the report of the core run of the script
 abbrev pub IsCoreReport : Script → Report → Type 0
-IsCoreReport s r = IsReportOf s (core s).feed (seen_of (core s).sched) (seen (core s).dev) r
+IsCoreReport s r = IsReportOf s (core s).feed (core s).sched (seen (core s).dev) r
 
 -- in a `device` script the device took each request as a command of its own, in order; in a `blocks` script
 -- the first commands that the scheduler sent out

@@ -1,12 +1,11 @@
 //! The run of a script on a scheduler and a device.
 ghost use Rattle.std.specs.Prelude.{◌≡◌, ◌++◌, ℕ, ◌≤◌, true, [], length, IfOk};
-ghost use Rattle.order_model.specs.Machine.{machine_of};
 ghost use Rattle.blk_base.specs.Image.{zeros};
-ghost use Rattle.script_grammar.specs.Grammar.{IsRunnable, blocks_of};
-ghost use Rattle.barrier_reassign.specs.Sched.{sched_steps, seen_of};
+ghost use Rattle.order_model.specs.Machine.{machine_of};
 ghost use Rattle.device_epochs.specs.Device.{seen};
+ghost use Rattle.script_grammar.specs.Grammar.{IsRunnable, blocks_of};
 ghost use Rattle.stack_core.specs.Feed.{IsFed, opened_feed, scheduled_count};
-ghost use Rattle.stack_core.specs.Core.{RunState, happens, times, happens_line, run_lines, ended, core, opened_plain};
+ghost use Rattle.stack_core.specs.Core.{RunState, happens, times, happens_line, run_lines, run_of, ended, end_on, core};
 ghost use Rattle.stack_core.specs.Report.{IsReportOf, IsCoreReport, PartsFit, Headline};
 ghost use Rattle.stack_core.specs.Headline.{KeepsOrder};
 
@@ -16,6 +15,7 @@ use barrier_reassign::Scheduler;
 use blk_base::{Image, NoMemory};
 use device_epochs::{DeviceSetup, EpochDevice};
 use epoch_sched::Sched;
+use sched_elevator::Elevator;
 use order_model::{OrderedDev, keeps_order_to_the_medium};
 use script_grammar::{CoreEvent, EventLine, EventWord, Form, RequestList, Script};
 use std::alloc::Global;
@@ -128,11 +128,11 @@ fn run_with<S: Scheduler + Drop, D: OrderedDev + Drop>(alloc: Global, script: &S
     requires scheduler { S.valid (S.state sched) }
     requires unused { (S.steps.seen (S.state sched)).accepted ≡ [] }
     requires fed { IsFed (opened_feed script.now) (S.steps.seen (S.state sched)) script.now.puts (D.seen (D.state dev)) }
-    ensures fits { let end = ended S.steps (machine_of D.OrderedDev) script.now (S.state sched) (D.state dev) in
+    ensures fits { let end = ended S.steps (run_of S.steps (machine_of D.OrderedDev) script.now (S.state sched) (D.state dev)) in
         IfOk result (λ r. PartsFit r (r.cut.trace.sent.items ++ (D.seen end.dev).waiting)) }
-    ensures core { let end = ended S.steps (machine_of D.OrderedDev) script.now (S.state sched) (D.state dev) in
-        IfOk result (IsReportOf script.now end.feed (S.steps.seen end.sched) (D.seen end.dev)) }
-    ensures order { let end = ended S.steps (machine_of D.OrderedDev) script.now (S.state sched) (D.state dev) in
+    ensures core { let end = ended S.steps (run_of S.steps (machine_of D.OrderedDev) script.now (S.state sched) (D.state dev)) in
+        IfOk result (IsReportOf script.now end.feed end.sched (D.seen end.dev)) }
+    ensures order { let end = ended S.steps (run_of S.steps (machine_of D.OrderedDev) script.now (S.state sched) (D.state dev)) in
         IfOk result (λ r. KeepsOrder (D.seen (D.state dev)).base r.submitted r.cut.image r.cut.origins (r.cut.trace.sent.items ++ (D.seen end.dev).waiting)) }
 {
     let mut dev = dev;
@@ -150,8 +150,8 @@ fn run_with<S: Scheduler + Drop, D: OrderedDev + Drop>(alloc: Global, script: &S
     })
 }
 
-/// Runs a script on a device that was made over its image, zeros, and has taken no command; and cuts the
-/// power.
+/// Runs a script on the scheduler that it names and a device that was made over its image, zeros, and has
+/// taken no command; and cuts the power.
 pub fn run_on<D: OrderedDev + Drop>(
     alloc: Global,
     script: &Script,
@@ -161,17 +161,23 @@ pub fn run_on<D: OrderedDev + Drop>(
     requires image { (D.seen (D.state dev)).base ≡ zeros (blocks_of script.now) }
     requires unused { (D.seen (D.state dev)).took ≡ [] }
     requires ids { length script.now.puts ≤ (D.seen (D.state dev)).limit }
-    ensures fits { let end = ended sched_steps (machine_of D.OrderedDev) script.now (opened_plain script.now) (D.state dev) in
+    ensures fits { let end = end_on (machine_of D.OrderedDev) script.now (D.state dev) in
         IfOk result (λ r. PartsFit r (r.cut.trace.sent.items ++ (D.seen end.dev).waiting)) }
-    ensures core { let end = ended sched_steps (machine_of D.OrderedDev) script.now (opened_plain script.now) (D.state dev) in
-        IfOk result (IsReportOf script.now end.feed (seen_of end.sched) (D.seen end.dev)) }
-    ensures order { let end = ended sched_steps (machine_of D.OrderedDev) script.now (opened_plain script.now) (D.state dev) in
+    ensures core { let end = end_on (machine_of D.OrderedDev) script.now (D.state dev) in
+        IfOk result (IsReportOf script.now end.feed end.sched (D.seen end.dev)) }
+    ensures order { let end = end_on (machine_of D.OrderedDev) script.now (D.state dev) in
         IfOk result (λ r. KeepsOrder (zeros (blocks_of script.now)) r.submitted r.cut.image r.cut.origins (r.cut.trace.sent.items ++ (D.seen end.dev).waiting)) }
 {
     // By this call the device tells that its laws hold of its state.
     let _ = dev.blocks();
-    let sched = Sched::make(alloc, scheduled_count(script))?;
-    run_with(alloc, script, sched, dev)
+    let limit = scheduled_count(script);
+    if script.header.elevator {
+        let sched = Elevator::make(alloc, limit)?;
+        run_with(alloc, script, sched, dev)
+    } else {
+        let sched = Sched::make(alloc, limit)?;
+        run_with(alloc, script, sched, dev)
+    }
 }
 
 /// Runs a script on a new device of epochs over zeros, and cuts the power.

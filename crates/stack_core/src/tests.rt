@@ -1,8 +1,11 @@
 //! Runs of small scripts, with what they leave worked out by hand.
 ghost use Rattle.std.specs.Prelude.{◌≤◌, length};
+ghost use Rattle.script_grammar.specs.Grammar.{IsRunnable};
 
 use super::*;
-use script_grammar::read_script;
+use blk_base::{Image, NoMemory};
+use device_epochs::{DeviceSetup, EpochDevice};
+use script_grammar::{Script, read_script};
 use std::alloc::Global;
 use std::test::Fail;
 
@@ -15,6 +18,44 @@ struct Left {
     accepted: usize,
     sent: Vec<u64>,
     origins: Vec<Option<u64>>,
+}
+
+// The run on a device of which this transfer fails.
+fn run_failing(alloc: Global, script: &Script, fail_at: u64) -> Result<Report, NoMemory>
+    requires { IsRunnable script.now }
+{
+    let image = Image::zeroed(alloc, script.blocks())?;
+    let setup = DeviceSetup {
+        depth: script.header.depth,
+        limit: script.puts.len() as u64,
+        fail_at: Some(fail_at),
+        bad_read: None,
+        cut_at: script.header.cut,
+    };
+    let dev = EpochDevice::make(alloc, image, setup)?;
+    run_on(alloc, script, dev)
+}
+
+// What it leaves: the steps, how many requests were submitted and how many parts moved, and the origins.
+#[derive(Drop)]
+struct Broken {
+    steps: u64,
+    submitted: usize,
+    moved: usize,
+    origins: Vec<Option<u64>>,
+}
+
+fn broken_by(alloc: Global, text: &[u8], fail_at: u64) -> Result<Broken, Fail>
+    requires { length text.now ≤ 4194304 }
+{
+    let script = read_script(alloc, text)?;
+    let report = run_failing(alloc, &script, fail_at)?;
+    Ok(Broken {
+        steps: report.cut.trace.steps,
+        submitted: report.submitted.len(),
+        moved: report.cut.trace.moved.as_slice().len(),
+        origins: report.cut.origins.as_slice().to_vec(alloc)?,
+    })
 }
 
 fn left_by(alloc: Global, text: &[u8]) -> Result<Left, Fail>
@@ -96,5 +137,62 @@ fn has_no_scheduler_in_a_device_script(rt: HostRuntime) -> Result<(), Fail> {
     assert_eq!(rt; (left.steps, left.submitted, left.accepted), (2, 1, 0));
     assert!(rt; left.sent.is_empty());
     assert_eq!(rt; left.origins.as_slice(), [Some(0), None].as_slice());
+    Ok(())
+}
+
+// Nothing is transferred behind a transfer that failed, and so nothing is written.
+#[test]
+fn first_transfer_of_a_run_fails(rt: HostRuntime) -> Result<(), Fail> {
+    let text = b"device 2\nput 0 11 free\nput 1 22 free\nevents\nreceive x 2\ntransfer 0 x 2\npersist 0 x 2\n";
+    let left = broken_by(rt.alloc(), text, 1)?;
+    assert_eq!(rt; (left.steps, left.submitted, left.moved), (1, 2, 0));
+    assert_eq!(rt; left.origins.as_slice(), [None, None].as_slice());
+    Ok(())
+}
+
+// What was transferred before it is written.
+#[test]
+fn a_later_transfer_of_a_run_fails(rt: HostRuntime) -> Result<(), Fail> {
+    let text = b"device 3
+put 0 11 free
+put 1 22 barrier
+put 2 33 free
+events
+receive x 3
+transfer 0 x 3
+persist 0 x 3
+";
+    let left = broken_by(rt.alloc(), text, 2)?;
+    assert_eq!(rt; (left.steps, left.submitted, left.moved), (3, 3, 1));
+    assert_eq!(rt; left.origins.as_slice(), [Some(0), None, None].as_slice());
+    Ok(())
+}
+
+#[test]
+fn a_flush_of_a_run_fails(rt: HostRuntime) -> Result<(), Fail> {
+    let text = b"device 2
+put 0 11 free
+flush
+put 1 22 free
+events
+receive x 3
+transfer 0
+persist 0
+transfer 0 x 2
+persist 0
+";
+    let left = broken_by(rt.alloc(), text, 2)?;
+    assert_eq!(rt; (left.steps, left.submitted, left.moved), (3, 3, 1));
+    assert_eq!(rt; left.origins.as_slice(), [Some(0), None].as_slice());
+    Ok(())
+}
+
+// The transfer that fails is the step at which the power goes off. The second request is not taken.
+#[test]
+fn a_run_fails_and_goes_off(rt: HostRuntime) -> Result<(), Fail> {
+    let text = b"device 1\ncut 1\nput 0 11 free\nput 0 22 free\nevents\nreceive\ntransfer 0\nreceive\npersist 0\n";
+    let left = broken_by(rt.alloc(), text, 1)?;
+    assert_eq!(rt; (left.steps, left.submitted, left.moved), (1, 1, 0));
+    assert_eq!(rt; left.origins.as_slice(), [None].as_slice());
     Ok(())
 }
