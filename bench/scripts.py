@@ -19,10 +19,10 @@ def device(name, line):
     return name, "\n".join(text) + "\n"
 
 
-def blocks(name, line, batch):
+def blocks(name, line, batch, header=()):
     """A blocks script: requests go through the scheduler, so many at a time."""
     body = [line(i) for i in range(REQUESTS)]
-    text = ["blocks %d" % BLOCKS] + body + ["events"]
+    text = ["blocks %d" % BLOCKS, *header] + body + ["events"]
     done = 0
     while done < REQUESTS:
         n = min(batch, REQUESTS - done)
@@ -42,11 +42,13 @@ def cases():
     yield device("device-orderless", lambda i: put(i, "free"))
     yield device("device-every-barrier", lambda i: put(i, "barrier"))
     yield device("device-mixed", lambda i: put(i, ("free", "ordered", "barrier")[i % 3]))
-    yield blocks("blocks-thousand-epochs", lambda i: put(i, "barrier" if i % 10 == 9 else "ordered"), 10)
-    yield blocks("blocks-ordered", lambda i: put(i, "ordered"), 32)
-    yield blocks("blocks-orderless", lambda i: put(i, "free"), 32)
-    yield blocks("blocks-every-barrier", lambda i: put(i, "barrier"), 1)
-    yield blocks("blocks-mixed", lambda i: put(i, ("free", "ordered", "barrier")[i % 3]), 3)
+    yield blocks("elevator-consecutive", lambda i: "put %d %02x free" % (i % BLOCKS, i % 256), 32, ("elevator",))
+    for scheduler, header in (("blocks", ()), ("elevator", ("elevator",))):
+        yield blocks(scheduler + "-thousand-epochs", lambda i: put(i, "barrier" if i % 10 == 9 else "ordered"), 10, header)
+        yield blocks(scheduler + "-ordered", lambda i: put(i, "ordered"), 32, header)
+        yield blocks(scheduler + "-orderless", lambda i: put(i, "free"), 32, header)
+        yield blocks(scheduler + "-every-barrier", lambda i: put(i, "barrier"), 1, header)
+        yield blocks(scheduler + "-mixed", lambda i: put(i, ("free", "ordered", "barrier")[i % 3]), 3, header)
 
 
 def main():
