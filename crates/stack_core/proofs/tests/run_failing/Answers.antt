@@ -5,10 +5,10 @@ use Rattle.device_epochs.specs.Device.{DeviceState}
 use Rattle.stack_core.proofs.tests.run_failing.Goals as goal
 
 pub run_on-requires-clause-image : goal.run_on-requires-clause-image
-run_on-requires-clause-image g c = ap (λ (d : DeviceState). d.base) c.in_ok-dev.ensures ∙ (c.in_ok-image.ensures ∙ ap zeros c.blocks-2.ensures)
+run_on-requires-clause-image c = ap (λ (d : DeviceState). d.base) c.in_ok-dev.ensures ∙ (c.in_ok-image.ensures ∙ ap zeros c.blocks-2.ensures)
 
 pub run_on-requires-clause-unused : goal.run_on-requires-clause-unused
-run_on-requires-clause-unused g c = ap (λ (d : DeviceState). d.took) c.in_ok-dev.ensures
+run_on-requires-clause-unused c = ap (λ (d : DeviceState). d.took) c.in_ok-dev.ensures
 
 pub run_on-requires-clause-ids : goal.run_on-requires-clause-ids
-run_on-requires-clause-ids g c = subst (λ (d : DeviceState). length c.args.script.now.puts ≤ d.limit) (sym c.in_ok-dev.ensures) (omega (arith, c.len.ensures))
+run_on-requires-clause-ids c = subst (λ (d : DeviceState). length c.args.script.now.puts ≤ d.limit) (sym c.in_ok-dev.ensures) (omega (arith, c.len.ensures))
