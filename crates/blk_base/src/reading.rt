@@ -31,6 +31,7 @@ pub fn read_all<S: Source>(alloc: Global, src: &mut S, most: u64) -> Result<Vec<
     ensures short { IfOk result (λ v. vec_len v ≤ most) }
     ensures too_long { IsErrOf result ReadEnd.TooLong → (bytes : List ℕ) × (most < length bytes) × Consumes (S.left src.old) (S.left src.new) bytes }
     ensures fault { IsErrOf result ReadEnd.Fault → Rose (S.faults src.old) (S.faults src.new) }
+    ensures steady { (IsErrOf result ReadEnd.Fault → ⊥) → S.faults src.new ≡ S.faults src.old }
     ensures never_falls { S.faults src.old ≤ S.faults src.new }
 {
     let mut bytes = Vec::new(alloc);

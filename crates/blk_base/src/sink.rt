@@ -1,5 +1,5 @@
 //! Sinks of bytes: the trait, one in memory, one over std's writers.
-ghost use Rattle.std.specs.Prelude.{◌≡◌, ℕ, ◌<◌, ◌≤◌, List, [], length, Option, Some, None, Ok, IfOk, OnErr};
+ghost use Rattle.std.specs.Prelude.{◌≡◌, ℕ, ◌<◌, ◌≤◌, ◌⊎◌, List, [], length, Option, Some, None, Ok, IfOk, OnErr};
 ghost use Rattle.std.specs.Io.KnownBytes.{WriteAppends};
 ghost use Rattle.blk_base.specs.Streams.{Rose};
 
@@ -12,7 +12,8 @@ pub trait Sink {
     /// The bytes that were taken, where they are told.
     ghost taken: { Self → Option (List ℕ) };
 
-    /// How often a write failed, or took nothing of a piece that is not empty. The count stands still at the end of a `u64`.
+    /// How often a write failed, or took nothing of a piece that is not empty, and nothing else. The count
+    /// stands still at the end of a `u64`.
     ghost faults: { Self → ℕ };
 
     /// Takes some bytes from the front of `buf`.
@@ -21,6 +22,7 @@ pub trait Sink {
         ensures content { WriteAppends (taken self.old) (taken self.new) result buf.now }
         ensures failed { OnErr result (Rose (faults self.old) (faults self.new)) }
         ensures nothing { 0 < length buf.now → result ≡ Ok 0 → Rose (faults self.old) (faults self.new) }
+        ensures steady { IfOk result (λ n. (length buf.now ≡ 0) ⊎ (0 < n) → faults self.new ≡ faults self.old) }
         ensures never_falls { faults self.old ≤ faults self.new };
 }
 
@@ -113,11 +115,12 @@ impl<W: Write> Sink for StdSink<W> {
 
     fn write(&mut self, buf: &[u8]) -> Result<usize, Failed> {
         match self.writer.write(buf) {
-            Ok(0) => {
-                self.faults = self.faults.saturating_add(1);
-                Ok(0)
+            Ok(n) => {
+                if n == 0 && !buf.is_empty() {
+                    self.faults = self.faults.saturating_add(1);
+                }
+                Ok(n)
             }
-            Ok(n) => Ok(n),
             Err(_) => {
                 self.faults = self.faults.saturating_add(1);
                 Err(Failed)

@@ -1,5 +1,5 @@
 //! Sources of bytes: the trait, one in memory, one over std's readers.
-ghost use Rattle.std.specs.Prelude.{◌≡◌, ℕ, ◌≤◌, List, [], length, Option, Some, IfOk, OnErr, None, min, take};
+ghost use Rattle.std.specs.Prelude.{◌≡◌, ℕ, ◌≤◌, List, [], length, Option, Some, IfOk, OnOk, OnErr, None, min, take};
 ghost use Rattle.std.specs.Io.KnownBytes.{ReadConsumes};
 ghost use Rattle.blk_base.specs.Streams.{Rose};
 
@@ -15,7 +15,7 @@ pub trait Source {
     /// The bytes that are left, where they are told.
     ghost left: { Self → Option (List ℕ) };
 
-    /// How often a read failed. The count stands still at the end of a `u64`.
+    /// How often a read failed, and nothing else. The count stands still at the end of a `u64`.
     ghost faults: { Self → ℕ };
 
     /// Reads some bytes to the front of `buf`. No byte for a buffer that is not empty is the end of the input.
@@ -23,6 +23,7 @@ pub trait Source {
         ensures within { IfOk result (λ n. n ≤ length buf.old) }
         ensures content { ReadConsumes (left self.old) (left self.new) result buf.new }
         ensures failed { OnErr result (Rose (faults self.old) (faults self.new)) }
+        ensures steady { OnOk result (faults self.new ≡ faults self.old) }
         ensures never_falls { faults self.old ≤ faults self.new };
 }
 

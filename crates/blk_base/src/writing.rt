@@ -14,6 +14,7 @@ pub fn write_all<W: Sink>(out: &mut W, bytes: &[u8]) -> Result<(), SinkFault>
     ensures ok { OnOk result (Appends (W.taken out.old) (W.taken out.new) bytes.now) }
     ensures front { OnErr result (AppendsFront (W.taken out.old) (W.taken out.new) bytes.now) }
     ensures fault { OnErr result (Rose (W.faults out.old) (W.faults out.new)) }
+    ensures steady { OnOk result (W.faults out.new ≡ W.faults out.old) }
     ensures never_falls { W.faults out.old ≤ W.faults out.new }
 {
     let mut at = 0;

@@ -1,4 +1,4 @@
-use Rattle.std.proofs.Common.{arith}
+use Rattle.std.proofs.Common.{◌∙◌, inr, arith, rules}
 use Rattle.std.proofs.KnownBytes.{Appends-trans}
 use Rattle.std.proofs.Math.Seq.{take-add}
 use Rattle.blk_base.proofs.writing.write_all.Goals as goal
@@ -9,5 +9,5 @@ loop-at-preserved g c = record {
   taken =
       rw (take-add c.loop-at.at c.in-Ok.n c.args.bytes.now, ← c.split_at.ensures.back)
       (Appends-trans _ _ _ _ _ c.loop-at.invariant.taken c.in-Ok.ensures.content);
-  faults = omega (arith, c.loop-at.invariant.faults, c.in-Ok.ensures.never_falls);
+  faults = c.in-Ok.ensures.steady (inr (search (rules, arith))) ∙ c.loop-at.invariant.faults;
 }
