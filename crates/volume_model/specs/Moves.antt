@@ -1,11 +1,12 @@
 -- Moves: what a volume is after one of its nodes came or changed. A call is a list of them.
-use Rattle.std.specs.Prelude.{◌≡◌, ◌≢◌, ℕ, ◌*◌, ◌/◌, ◌%◌, ◌^◌, ◌<◌, ◌≤◌, nat_lt, nat_eq, Bool, not, ◌==◌, ◌&&◌, List, [], ◌∷◌, ◌++◌, map, filter, length, slice_set, Option, Some, None}
+use Rattle.std.specs.Prelude.{◌≡◌, ◌≢◌, ℕ, ◌*◌, ◌/◌, ◌%◌, ◌^◌, ◌<◌, ◌≤◌, nat_lt, nat_eq, Bool, not, ◌==◌, ◌&&◌, List, [], ◌∷◌, ◌++◌, map, filter, length, replicate, slice_set, Option, Some, None}
 use Rattle.blk_base.specs.Members.{In}
 use Rattle.minix_layout.specs.declared.division.Geometry.{Geometry}
 use Rattle.minix_layout.specs.declared.inode.Inode.{Inode}
 use Rattle.minix_layout.specs.Geometry.{IsSound}
 use Rattle.std.specs.Map.{remove_entry}
 use Rattle.std.specs.BTreeMap.{is_at}
+use Rattle.std.specs.Ordering.{nat_cmp}
 use Rattle.minix_layout.specs.declared.slot.Slot.{Slot}
 use Rattle.tree_model.specs.Maps.{at_number, put_number, put_name, name_cmp}
 use Rattle.volume_ops.specs.declared.found.Mapped.{Mapped}
@@ -45,6 +46,15 @@ pub record MayAdd (g : Geometry) (blocks : List (List ℕ)) (nodes : List (ℕ �
 
 abbrev pub added : Geometry → Contents → ℕ → Placed → Contents
 added g v n q = record { blocks = edited g v.blocks (put_inode q.number q.inode); nodes = put_number v.nodes n q }
+
+-- ---- a node goes
+
+-- an inode of 32 bytes of zero
+abbrev pub zero_inode : Inode
+zero_inode = record { mode = 0; uid = 0; size = 0; time = 0; gid = 0; links = 0; zones = replicate 9 0 }
+
+abbrev pub node_removed : Geometry → Contents → ℕ → Placed → Contents
+node_removed g v n p = record { blocks = edited g v.blocks (put_inode p.number zero_inode); nodes = remove_entry (is_at (nat_cmp n)) v.nodes }
 
 -- ---- a node changes
 

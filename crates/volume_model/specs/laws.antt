@@ -8,6 +8,7 @@ pub mod Apart
 pub mod Trees
 pub mod Touched
 pub mod Added
+pub mod Removed
 pub mod Gone
 pub mod Names
 pub mod Numbers

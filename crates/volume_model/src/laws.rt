@@ -26,7 +26,7 @@ ghost use Rattle.volume_model.specs.Ways.{way, IsJust};
 ghost use Rattle.volume_model.specs.MapBlock.{TakenZones};
 ghost use Rattle.volume_model.specs.Counts.{keeps_below, zones_of_file, indices_of};
 ghost use Rattle.volume_model.specs.Touched.{Contents, Touched, Tells, Follows, and_then};
-ghost use Rattle.volume_model.specs.Moves.{IsVolume, AreJust, MayAdd, MayChange, AreFree, added, file_mapped, directory_mapped, file_mapped_touches, file_cut, file_cut_touches, name_added, name_removed};
+ghost use Rattle.volume_model.specs.Moves.{IsVolume, AreJust, MayAdd, MayChange, AreFree, added, node_removed, file_mapped, directory_mapped, file_mapped_touches, file_cut, file_cut_touches, name_added, name_removed};
 ghost use Rattle.volume_model.specs.Slots.{room};
 
 /// A law, which does nothing when it is called: where the zones of numbers of an inode keep their bytes, each of its
@@ -65,11 +65,16 @@ pub fn writes_are_read()
 {}
 
 /// A law, which does nothing when it is called: a volume to which a node without zones is added, under a new birth
-/// and in an inode that no node has, is a volume with that node.
-pub fn added_node_stands()
-    ensures { (g : Geometry) (v : Contents) (n : ℕ) (q : Placed) →
-        IsVolumeOf g v.blocks v.nodes → MayAdd g v.blocks v.nodes n q →
-        IsVolumeOf g (added g v n q).blocks (added g v n q).nodes }
+/// and in an inode that no node has, is a volume with that node; and one that loses a node that no directory names,
+/// whose inode becomes zeros, is a volume without it.
+pub fn nodes_come_and_go()
+    ensures added { (g : Geometry) (v : Contents) (n : ℕ) (q : Placed) →
+        IsVolume g v → MayAdd g v.blocks v.nodes n q → IsVolume g (added g v n q) }
+    ensures removed { (g : Geometry) (v : Contents) (n : ℕ) (p : Placed) → IsSound g → IsVolume g v →
+        at_number v.nodes n ≡ Some p →
+        ((a : ℕ) (q : Placed) (d : DirectoryPart) (name : List ℕ) → at_number v.nodes a ≡ Some q →
+        q.part ≡ parts.Directory d → at_name d.names name ≢ Some n) →
+        IsVolume g (node_removed g v n p) }
 {}
 
 /// A law, which does nothing when it is called: a volume of which one node changes, where no write touched a zone of

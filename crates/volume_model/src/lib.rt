@@ -15,8 +15,8 @@ mod slots;
 mod tests;
 
 pub use laws::{
-    added_node_stands, calls_are_told_as_one, changed_node_stands, cut_file_stands,
-    mapped_block_stands, names_come_and_go, nodes_stay, writes_are_read,
+    calls_are_told_as_one, changed_node_stands, cut_file_stands, mapped_block_stands,
+    names_come_and_go, nodes_come_and_go, nodes_stay, writes_are_read,
 };
 pub use names::NameMap;
 pub use placed::{DirectoryPart, Part, Placed};

@@ -28,7 +28,7 @@ fn keeps_names_and_slots(rt: HostRuntime) {
     assert_eq!(rt; (put.is_ok(), slots.room(), slots.len()), (true, 1, 1));
     nodes_stay();
     writes_are_read();
-    added_node_stands();
+    nodes_come_and_go();
     changed_node_stands();
     names_come_and_go();
     mapped_block_stands();

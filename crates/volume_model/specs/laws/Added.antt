@@ -16,7 +16,8 @@ use Rattle.volume_model.specs.laws.Changes.{changes_inode}
 use Rattle.volume_model.specs.Volume.{Place, zone_in, IsStored, HasNumber, HasNames, IsVolumeOf}
 use Rattle.volume_model.specs.laws.Zones.{zones_kept}
 use Rattle.volume_model.specs.laws.Written.{stored_kept}
-use Rattle.volume_model.specs.Moves.{MayAdd}
+use Rattle.volume_model.specs.Moves.{AreJust, MayAdd}
+use Rattle.volume_model.specs.laws.OnWay.{just_same}
 
 module _ (g : Geometry) (blocks : List (List ℕ)) (nodes : List (ℕ × Placed)) (n : ℕ) (q : Placed) (h : IsVolumeOf g blocks nodes) (may : MayAdd g blocks nodes n q) where
   abbrev after : List (List ℕ)
@@ -89,3 +90,10 @@ module _ (g : Geometry) (blocks : List (List ℕ)) (nodes : List (ℕ × Placed)
       ]
     ];
   }
+
+  -- and no zone of numbers is there for nothing
+  pub added_just : AreJust blocks nodes → AreJust after more
+  added_just just b p at = elim (which b p at) [
+    | new e same ↦ λ x some. absurd (some (ap (λ (p : Placed). zone_in after p.inode x) (sym same) ∙ may.no_zone x))
+    | old a was ↦ just_same (λ x. zone_in blocks p.inode x) (λ x. zone_in after p.inode x) (same_zone b p was) (just b p was)
+  ]
