@@ -25,7 +25,7 @@ use Rattle.volume_model.specs.laws.Ways.{home_back, direct, single, twice, past,
 use Rattle.volume_model.specs.Ways.{place_at}
 use Rattle.volume_model.specs.laws.Gets.{cases_place, is_place, same_place, is_itself}
 use Rattle.volume_model.specs.MapBlock.{OpenInode, own_of, with_zones}
-use Rattle.volume_model.specs.laws.MapBlock.{IsFit, changes_zone, changes_wider, slot_low, entry_low, little_zero, is_slot, home-inner_past}
+use Rattle.volume_model.specs.laws.MapBlock.{zones_fit, IsFit, changes_zone, changes_wider, slot_low, entry_low, little_zero, is_slot, home-inner_past}
 use Rattle.volume_model.specs.laws.OnWay.{way_up, way_mapped}
 use Rattle.volume_model.specs.Cut.{IsKeep, cut_edits, cut_to, cut_zones, cuts}
 
@@ -413,20 +413,11 @@ module _ (g : Geometry) (sound : IsSound g) (s : OpenInode) (from : ℕ) (keeps 
 
   fits_cut : FitInode inode_cut
   fits_cut =
-      let f = fit.fits in
-      record {
-        mode = f.mode;
-        uid = f.uid;
-        size = f.size;
-        time = f.time;
-        gid = f.gid;
-        links = f.links;
-        nine = length-map-range_with_len (λ k. if keeps (place_at (slot k)) then slice_index s.inode.zones k else 0) 0 9;
-        zones = λ n. elim (cases_Bool (nat_lt n 9)) [
-          | inl t ↦ subst (λ v. v < 2 ^ 16) (sym (get_or-map-range_with_len (λ k. if keeps (place_at (slot k)) then slice_index s.inode.zones k else 0) 0 9 n n _ (ltb-true _ _ t) (omega arith))) (less (keeps (place_at (slot n))) (slice_index s.inode.zones n) (f.zones n))
-          | inr t ↦ subst (λ v. v < 2 ^ 16) (sym (past_end n (ltb-false _ _ t))) (omega arith)
-        ];
-      }
+      zones_fit s.inode (cut_zones keeps s.inode.zones) fit.fits (length-map-range_with_len (λ k. if keeps (place_at (slot k)) then slice_index s.inode.zones k else 0) 0 9)
+      (λ n. elim (cases_Bool (nat_lt n 9)) [
+        | inl t ↦ subst (λ v. v < 2 ^ 16) (sym (get_or-map-range_with_len (λ k. if keeps (place_at (slot k)) then slice_index s.inode.zones k else 0) 0 9 n n _ (ltb-true _ _ t) (omega arith))) (less (keeps (place_at (slot n))) (slice_index s.inode.zones n) (fit.fits.zones n))
+        | inr t ↦ subst (λ v. v < 2 ^ 16) (sym (past_end n (ltb-false _ _ t))) (omega arith)
+      ])
     where
       less : (b : Bool) (v : ℕ) → v < 2 ^ 16 → (if b then v else 0) < 2 ^ 16
       less true v low = low

@@ -136,6 +136,10 @@ above y indirect k at = at_indirect
 above y double k at = at_double
 above y (inner j) k at = at_inner
 
+-- an inode with other zones fits its bytes, where they are nine numbers that do
+pub zones_fit : (i : Inode) (zones : List ℕ) → FitInode i → length zones ≡ 9 → ((k : ℕ) → slice_index zones k < 2 ^ 16) → FitInode (with_zones i zones)
+zones_fit i zones f nine each = record { mode = f.mode; uid = f.uid; size = f.size; time = f.time; gid = f.gid; links = f.links; nine = nine; zones = each }
+
 -- an inode that fits, with its zones apart and within the volume
 pub record IsFit (g : Geometry) (s : OpenInode) : Type 0 where
   pub whole : IsWhole s.blocks
@@ -270,22 +274,13 @@ module _ (g : Geometry) (sound : IsSound g) (s : OpenInode) (x : Place) (z : ℕ
 
   fits_by : (e : Home) → home x ≡ e → FitInode (slot_written s.inode e z)
   fits_by (slot k) is =
-      let f = fit.fits in
-      let nine = f.nine in
+      let nine = fit.fits.nine in
       let low = slot_low x k is in
-      record {
-        mode = f.mode;
-        uid = f.uid;
-        size = f.size;
-        time = f.time;
-        gid = f.gid;
-        links = f.links;
-        nine = length-set s.inode.zones k z ∙ nine;
-        zones = λ j. elim (cases_eq j k) [
-          | inl e ↦ subst (λ v. v < 2 ^ 16) (sym (ap (slice_index (slice_set s.inode.zones k z)) e ∙ get_or-set_same s.inode.zones k z _ (omega arith))) may.fits
-          | inr a ↦ subst (λ v. v < 2 ^ 16) (sym (get_or-set_other s.inode.zones k j z _ a)) (f.zones j)
-        ];
-      }
+      zones_fit s.inode (slice_set s.inode.zones k z) fit.fits (length-set s.inode.zones k z ∙ nine)
+      (λ j. elim (cases_eq j k) [
+        | inl e ↦ subst (λ v. v < 2 ^ 16) (sym (ap (slice_index (slice_set s.inode.zones k z)) e ∙ get_or-set_same s.inode.zones k z _ (omega arith))) may.fits
+        | inr a ↦ subst (λ v. v < 2 ^ 16) (sym (get_or-set_other s.inode.zones k j z _ a)) (fit.fits.zones j)
+      ])
   fits_by (entry h k) is = fit.fits
   fits_by nowhere is = fit.fits
 
