@@ -44,7 +44,7 @@ pub record HasPage (v : Contents) (x : Page) : Type 0 where
   pub zone : zone_in v.blocks placed.inode (block x.index) ≡ x.zone
   pub some : x.zone ≢ 0
 
--- Ta to Td, Tf and Tg. `Writes` are the pairs of a birth and an index that the call writes.
+-- What is told agrees with the volumes before and after. `Writes` are the pairs of a birth and an index that the call writes.
 pub record Tells (g : Geometry) (v w : Contents) (t : Touched) (Writes : ℕ → ℕ → Type 0) : Type 0 where
   pub fresh_are_touched : (b : ℕ) → IsMeta g w b → IsMeta g v b ⊎ In b t.blocks
   pub stays_or_revoked : (b : ℕ) → IsMeta g v b → IsMeta g w b ⊎ In b t.revoked
