@@ -1,6 +1,6 @@
 //! Images through the top call.
 use crate::fault::TopFault;
-use crate::tests::run;
+use crate::tests::{run, status_of_reads};
 use blk_base::{Block, NoMemory};
 use minix_layout::{Geometry, Inode, Name, Slot, Zones, write_inode, write_slot, write_super};
 use mount_make::ImageFault;
@@ -60,6 +60,58 @@ fn foreign(alloc: Global) -> Result<Vec<u8>, NoMemory> {
         bytes.extend_from_slice(block.as_slice())?;
     }
     Ok(bytes)
+}
+
+// An image of a megabyte, 1,024 blocks, whose root has a file in the last of them.
+fn megabyte(alloc: Global) -> Result<Vec<u8>, NoMemory> {
+    let g = Geometry {
+        inodes: 32,
+        zones: 1024,
+        imap: 1,
+        zmap: 1,
+        first: 5,
+        width: 14,
+    };
+    let mut table = Block::fill(0);
+    write_inode(&mut table, 0, &inode(0o040755, 48, 2, 5));
+    write_inode(&mut table, 1, &inode(0o100644, 1024, 1, 1023));
+    let mut root = Block::fill(0);
+    put_name(&mut root, 0, 1, b".");
+    put_name(&mut root, 1, 1, b"..");
+    put_name(&mut root, 2, 2, b"last");
+    let empty = Block::fill(0);
+    let mut bytes = Vec::new(alloc);
+    for block in [&empty, &write_super(&g), &empty, &empty, &table, &root] {
+        bytes.extend_from_slice(block.as_slice())?;
+    }
+    for _ in 6..1023 {
+        bytes.extend_from_slice(empty.as_slice())?;
+    }
+    bytes.extend_from_slice(Block::fill(0x61).as_slice())?;
+    Ok(bytes)
+}
+
+#[test]
+fn shows_a_megabyte(rt: HostRuntime) -> Result<(), Fail> {
+    let alloc = rt.alloc();
+    let bytes = megabyte(alloc)?;
+    assert_eq!(rt; bytes.len(), 1_048_576);
+    let ended = run(alloc, &["show"], &bytes)?;
+    assert_eq!(rt; ended.status, 0);
+    assert_eq!(rt;
+        ended.printed.as_slice(),
+        b"dir /\nfile /last size 1024 links 1\nblock 0 1024x61\n".as_slice()
+    );
+    Ok(())
+}
+
+#[test]
+fn tells_of_an_image_that_can_not_be_read(rt: HostRuntime) -> Result<(), Fail> {
+    let alloc = rt.alloc();
+    let bytes = foreign(alloc)?;
+    assert_eq!(rt; status_of_reads(alloc, "show", &bytes, &[1])?, 5);
+    assert_eq!(rt; status_of_reads(alloc, "show", &bytes, &[2])?, 5);
+    Ok(())
 }
 
 #[test]

@@ -248,11 +248,16 @@ fn refuses_a_script_that_is_too_long(rt: HostRuntime) -> Result<(), Fail> {
     Ok(())
 }
 
-// The status where these reads fail, counted from 1; 0 where anything was written.
-fn status_of_reads(alloc: Global, fails: &[u64]) -> Result<u8, NoMemory> {
-    let mut source = MemSource::new(b"device 1\nevents\n".to_vec(alloc)?, fails.to_vec(alloc)?);
+// The status of this word and input where these reads fail, counted from 1; 0 where anything was written.
+pub fn status_of_reads(
+    alloc: Global,
+    word: &str,
+    input: &[u8],
+    fails: &[u64],
+) -> Result<u8, NoMemory> {
+    let mut source = MemSource::new(input.to_vec(alloc)?, fails.to_vec(alloc)?);
     let mut sink = MemSink::new(Vec::new(alloc), Vec::new(alloc));
-    let outcome = outcome_of(alloc, &["replay"], &mut source, &mut sink)?;
+    let outcome = outcome_of(alloc, &[word], &mut source, &mut sink)?;
     if !sink.bytes().is_empty() {
         return Ok(0);
     }
@@ -288,8 +293,9 @@ impl Sink for Stuck {
 #[test]
 fn tells_of_a_source_that_fails(rt: HostRuntime) -> Result<(), Fail> {
     let alloc = rt.alloc();
-    assert_eq!(rt; status_of_reads(alloc, &[1])?, 5);
-    assert_eq!(rt; status_of_reads(alloc, &[2])?, 5);
+    let script = b"device 1\nevents\n";
+    assert_eq!(rt; status_of_reads(alloc, "replay", script, &[1])?, 5);
+    assert_eq!(rt; status_of_reads(alloc, "replay", script, &[2])?, 5);
     Ok(())
 }
 
