@@ -2,6 +2,11 @@
 use crate::tests::replayed;
 use std::test::Fail;
 
+const ELEVATOR: (&str, &str) = (
+    "# The elevator takes requests in rising order of block: blocks 0, 1 and 2 leave in one command, which has the\n# flag, since request 0, the last order-preserving one of the epoch to leave, is among them.\nblocks 4\nelevator\nput 2 42 ordered\nput 0 40 ordered\nput 1 41 barrier\nput 3 43 ordered\nevents\nsubmit x 4\n# The barrier closes the scheduler: the fourth accept does nothing.\naccept x 4\ndispatch 0\naccept\ndispatch 0\nreceive x 2\ntransfer 0 x 2\npersist 0 x 3\n",
+    "steps 5\nblock 0 40 1\nblock 1 41 2\nblock 2 42 0\nblock 3 00 -\n",
+);
+
 const EPOCH_END: (&str, &str) = (
     "# The end of an epoch. Request 1 is a barrier, so 0 and 1 become persistent before 2.\ndevice 3\nput 0 11 ordered\nput 1 22 barrier\nput 2 33 ordered\nevents\nreceive x 3\n# Behind the barrier, only the first command that waits may be transferred.\ntransfer 1\ntransfer 0 x 3\npersist 0 x 2\n",
     "steps 5\nblock 0 11 0\nblock 1 22 1\nblock 2 00 -\n",
@@ -40,6 +45,7 @@ const POWER_CUT: (&str, &str) = (
 #[test]
 fn prints_what_the_examples_say(rt: HostRuntime) -> Result<(), Fail> {
     let examples = [
+        ELEVATOR,
         EPOCH_END,
         FLAG_MOVES,
         FLUSH,

@@ -148,19 +148,6 @@ fn replays_blocks_without_requests(rt: HostRuntime) -> Result<(), Fail> {
     Ok(())
 }
 
-// The first command has the blocks 0, 1 and 2, and the flag; the second block 3.
-#[test]
-fn merges_an_epoch_on_the_elevator(rt: HostRuntime) -> Result<(), Fail> {
-    let script =
-        "blocks 4\nelevator\nput 2 42 ordered\nput 0 40 ordered\nput 1 41 barrier\nput 3 43 ordered\nevents\nsubmit x 4\naccept x 4\ndispatch 0\naccept\ndispatch 0\nreceive x 2\ntransfer 0 x 2\npersist 0 x 3\n";
-    let printed = replayed(rt.alloc(), script)?;
-    assert_eq!(rt;
-        printed.as_slice(),
-        b"steps 5\nblock 0 40 1\nblock 1 41 2\nblock 2 42 0\nblock 3 00 -\n".as_slice()
-    );
-    Ok(())
-}
-
 // Blocks 4 and 5 are of two classes.
 #[test]
 fn keeps_classes_apart_on_the_elevator(rt: HostRuntime) -> Result<(), Fail> {
