@@ -1,0 +1,467 @@
+-- The steps of the host: a caller's, the commit actor's, the write-back's and the flush actor's. `full` says
+-- that the submission queue was full.
+use Rattle.host_machine.specs.Model.{Model, Kind, Reading, FileSync, DataSync, WholeSync, is_begun, is_data, is_durable, is_reading, is_whole, Freed, FileBlock, Touched, Applied}
+use Rattle.host_machine.specs.Parts.{has, with_all, without_all, first_page, Running, fresh, log_blocks_for, log_needs, Held, Conflicts, hold, want, unhold, least, LogRing, ring_free, place_blocks, commit_bodies, home_sent, all_home}
+use Rattle.host_machine.specs.Plan.{Planned, plan_of}
+use Rattle.host_machine.specs.State.{Ending, Answered, Down, ReadOnly, SessionFull, What, Begins, Ends, Wait, FlushPart, Plan, Phase, Idle, Closing, Committing, JournalPart, Begun, Thread, Host, Setup, is_cut, first_failed, is_over, at_limit, is_moved, is_flushed_after, flush_above, last_put, is_closing, is_submitted, latest_change, submit}
+use Rattle.log_model.specs.Marks.{Logged}
+use Rattle.order_model.specs.declared.completion.Completion.TheVariants as completions
+use Rattle.order_model.specs.declared.completion.Completion.{Completion}
+use Rattle.order_model.specs.declared.note.Note.TheVariants as notes
+use Rattle.order_model.specs.declared.note.Note.{Note}
+use Rattle.order_model.specs.declared.request.Kind.TheVariants as puts
+use Rattle.page_cache.specs.Pages.{is_unsent, is_dirty, page_at, put_page, drop_page, marked}
+use Rattle.page_cache.specs.declared.cached_page.CachedPage.{CachedPage}
+use Rattle.page_cache.specs.declared.cached_page.PageState.TheVariants.{Dirty, Loose, Firm}
+use Rattle.std.specs.List.{filter, list_any}
+use Rattle.std.specs.Option.{option_map}
+use Rattle.std.specs.Prelude.{ℕ, ◌+◌, ◌-◌, ◌==◌, Bool, true, false, not, ◌&&◌, ◌||◌, nat_lt, nat_le, List, [], ◌∷◌, ◌++◌, length, map, set, replicate, Option, Some, None, is_none, slice_get, slice_index_or, if◌then◌else◌}
+
+-- ---- answers
+
+pub data Cause : Type 0 where
+  ByClosing : Cause
+  ByTxFull : ℕ → Cause
+  ByQuarantine : ℕ → Cause
+  ByConflict : ℕ → ℕ → Cause
+  ByCommit : ℕ → Cause
+  ByNeed : ℕ → Cause
+  ByQueue : Cause
+
+pub data Step (R : Type 0) : Type 0 where
+  Done : R → Step R
+  HasBegun : Step R
+  Sent : ℕ → Step R
+  Waits : Cause → Step R
+  HasEnded : Step R
+  IsReadOnly : ℕ → Step R
+  IsDown : Step R
+  IsFull : Step R
+
+pub data Turn : Type 0 where
+  NothingToDo : Turn
+  Did : Turn
+  QueueFull : Turn
+  LimitReached : Turn
+
+pub record Stepped (V C R : Type 0) : Type 0 where
+  pub host : Host V C R
+  pub step : Step R
+
+pub record Turned (V C R : Type 0) : Type 0 where
+  pub host : Host V C R
+  pub turn : Turn
+
+abbrev pub no_wait : Wait
+no_wait = record { kind = Reading; target = None; need = None }
+
+-- a list's elements that are there
+abbrev pub unsent_on : List CachedPage → List (ℕ × ℕ) → Option (CachedPage × List (ℕ × ℕ))
+unsent_on pages [] = None
+unsent_on pages (k ∷ ks) =
+    elim (page_at pages k.0 k.1) as (λ _. Option (CachedPage × List (ℕ × ℕ))) [
+      | None ↦ unsent_on pages ks
+      | Some p ↦ if is_unsent p.state then Some (p, ks) else unsent_on pages ks
+    ]
+
+-- what a begun call does when no page is left: it waits for a transaction, is done, or needs the last put
+pub data Goal : Type 0 where
+  ToCommit : ℕ → Goal
+  ToPass : Goal
+  ToFlush : Goal
+
+abbrev pub data_goal : Kind → Bool → ℕ → Goal
+data_goal DataSync sent running = ToFlush
+data_goal other sent running = if sent then ToPass else ToCommit running
+
+abbrev pub goal_of : JournalPart → Begun → Goal
+goal_of j b =
+    if is_data b.kind then
+    elim (latest_change j b.file) as (λ _. Goal) [ Some k ↦ ToCommit k | None ↦ data_goal b.kind b.sent_barrier j.running.number ]
+    else ToCommit j.running.number
+
+-- the transaction that holds a block
+abbrev pub holder : List Held → ℕ → ℕ
+holder [] b = 0
+holder (h ∷ hs) b = if h.block == b then h.transaction else holder hs b
+
+-- why a call waits for transaction k
+abbrev pub cause_of : JournalPart → ℕ → Cause
+cause_of j k =
+    if k == j.running.number then
+    elim (least j.flush.conflicts) as (λ _. Cause) [ Some b ↦ ByConflict b (holder j.flush.conflicts.held b) | None ↦ ByCommit k ]
+    else ByCommit k
+
+-- the commit block of transaction k is request id: the calls that it makes durable need it
+abbrev pub need_commit : ℕ → ℕ → Wait → Wait
+need_commit k id w =
+    if (elim w.kind as (λ _. Bool) [ FileSync ↦ true | WholeSync ↦ true | other ↦ false ])
+    && elim w.target as (λ _. Bool) [ Some t ↦ t == k | None ↦ false ]
+    then record w { need = Some id } else w
+
+-- a durability call waits for transaction k
+abbrev pub awaits : ℕ → Wait → Bool
+awaits k w = is_durable w.kind && elim w.target as (λ _. Bool) [ Some t ↦ t == k | None ↦ false ]
+
+-- transaction k has its commit block before request id
+abbrev pub commits_before : ℕ → ℕ → ℕ → List Note → Bool
+commits_before k id i [] = false
+commits_before k id i (notes.Commit t ∷ ns) = (t == k && nat_lt i id) || commits_before k id (i + 1) ns
+commits_before k id i (n ∷ ns) = commits_before k id (i + 1) ns
+
+-- a call needs a request durable whose completion was taken, and no flush behind it is submitted
+abbrev pub is_due : FlushPart → Wait → Bool
+is_due f w = elim w.need as (λ _. Bool) [ None ↦ false | Some id ↦ list_any (is_moved id) f.taken && not (flush_above id 0 f.notes) ]
+
+abbrev pub flush_due : FlushPart → Bool
+flush_due f = not (is_over f) && list_any (is_due f) f.waits
+
+-- the holds of transactions whose commit block stands before flush id end
+abbrev pub unhold_before : ℕ → List Note → Conflicts → Conflicts
+unhold_before id ns c =
+    let left = filter (λ (h : Held). not (commits_before h.transaction id 0 ns)) c.held in
+    record { held = left; wanted = filter (λ b. list_any (λ (h : Held). h.block == b) left) c.wanted }
+
+abbrev pub after_moved : Option Note → List Wait → Conflicts → Conflicts
+after_moved (Some (notes.Commit k)) waits c = if list_any (awaits k) waits then c else unhold k c
+after_moved other waits c = c
+
+abbrev pub after_completion : Completion → FlushPart → Conflicts
+after_completion (completions.Moved id) f = after_moved (slice_get f.notes id) f.waits f.conflicts
+after_completion (completions.Flushed id) f = unhold_before id f.notes f.conflicts
+after_completion other f = f.conflicts
+
+-- the completion is taken
+abbrev pub take_completion : Completion → FlushPart → FlushPart
+take_completion c f = record f { taken = f.taken ++ c ∷ []; conflicts = after_completion c f }
+
+module _ {T V C R : Type 0} (M : Model T V C R) (u : Setup) where
+  -- ---- parts of steps
+
+  abbrev pub with_flush : Host V C R → FlushPart → Host V C R
+  with_flush s f = record s { journal = record s.journal { flush = f } }
+
+  abbrev pub with_running : Host V C R → Running → Host V C R
+  with_running s r = record s { journal = record s.journal { running = r } }
+
+  abbrev pub wanting : Host V C R → Host V C R
+  wanting s = with_running s (record s.journal.running { wanted = true })
+
+  -- a put goes out
+  abbrev pub put_out : Host V C R → Note → ℕ → List ℕ → Bool → Bool → Host V C R
+  put_out s n block body ordered barrier =
+      let id = length s.journal.flush.requests in
+      with_flush s (submit (record { id = id; kind = puts.Put block body; ordered = ordered; barrier = barrier }) n s.journal.flush)
+
+  -- a page is sent
+  abbrev pub send_page : Host V C R → CachedPage → Bool → Bool → Host V C R
+  send_page s p ordered barrier =
+      put_out (record s { pages = put_page s.pages (marked p (if ordered then Firm else Loose)) }) (notes.Page p.birth p.index p.version) p.block p.body ordered barrier
+
+  abbrev pub send_planned : Host V C R → Planned → Host V C R
+  send_planned s p = put_out s p.note p.block p.body true p.barrier
+
+  abbrev pub set_thread : Host V C R → ℕ → Thread C → Host V C R
+  set_thread s t th = record s { threads = set s.threads t th }
+
+  abbrev pub set_wait : Host V C R → ℕ → Wait → Host V C R
+  set_wait s t w = with_flush s (record s.journal.flush { waits = set s.journal.flush.waits t w })
+
+  abbrev pub note_entry : Host V C R → ℕ → C → What R → Host V C R
+  note_entry s t c what = record s { history = s.history ++ record { thread = t; call = c; what = what } ∷ [] }
+
+  -- the thread's first call ends; `rest` are those behind it
+  abbrev pub end_call : Host V C R → ℕ → C → List C → Ending R → Host V C R
+  end_call s t c rest e = set_wait (set_thread (note_entry s t c (Ends e)) t (record { calls = rest; begun = None })) t no_wait
+
+  abbrev pub ended_by : Ending R → Step R
+  ended_by (Answered r) = Done r
+  ended_by Down = IsDown
+  ended_by (ReadOnly id) = IsReadOnly id
+  ended_by SessionFull = IsFull
+
+  abbrev pub end_with : Host V C R → ℕ → C → List C → Ending R → Stepped V C R
+  end_with s t c rest e = record { host = end_call s t c rest e; step = ended_by e }
+
+  -- ---- plain calls
+
+  -- what a call did to the pages, and to the owners of zones
+  abbrev pub dropped_pages : List CachedPage → List FileBlock → List CachedPage
+  dropped_pages pages [] = pages
+  dropped_pages pages (d ∷ ds) = dropped_pages (drop_page pages d.birth d.index) ds
+
+  abbrev pub written_pages : V → ℕ → List CachedPage → List FileBlock → List CachedPage
+  written_pages v n pages [] = pages
+  written_pages v n pages (w ∷ ws) =
+      written_pages v n (put_page pages (record { birth = w.birth; index = w.index; block = w.block; body = M.bytes v w.block; version = n; state = Dirty })) ws
+
+  abbrev pub taken_zones : ℕ → List CachedPage → List ℕ → List FileBlock → List ℕ
+  taken_zones k pages owners [] = owners
+  taken_zones k pages owners (w ∷ ws) =
+      taken_zones k pages (if is_none (page_at pages w.birth w.index) then set owners w.block k else owners) ws
+
+  abbrev pub touch : Touched → Running → Running
+  touch t r = record {
+    number = r.number;
+    touched = without_all (with_all r.touched t.blocks) t.revoked;
+    revoked = with_all r.revoked t.revoked;
+    changed = with_all r.changed t.nodes;
+    wanted = r.wanted;
+  }
+
+  -- a call is done, as the next entry
+  abbrev pub change : Host V C R → C → Applied V R → Host V C R
+  change s c a =
+      record s {
+        journal = record s.journal {
+          running = touch a.touched s.journal.running;
+          flush = record s.journal.flush { conflicts = want (without_all a.touched.blocks a.touched.revoked) s.journal.flush.conflicts };
+        };
+        volume = a.volume;
+        pages = written_pages a.volume (length s.history + 1) (dropped_pages s.pages a.touched.dropped) a.touched.pages;
+        owners = taken_zones s.journal.running.number s.pages s.owners a.touched.pages;
+      }
+
+  abbrev pub fits : Running → Bool
+  fits r = nat_le (log_blocks_for (length r.touched + u.zmap + 12) (length r.revoked + 520)) u.quota
+
+  -- why a call that would change the tree or a page waits, in this order
+  abbrev pub hindrance : Host V C R → C → Option Cause
+  hindrance s c =
+      if not (M.hinders s.volume c) then None
+      else if is_closing s.journal.phase then Some ByClosing
+      else if not (fits s.journal.running) then Some (ByTxFull (log_needs s.journal.running))
+      else
+      let free = length (M.zones s.volume).free in
+      let needs = M.needs s.volume c in
+      if nat_lt free needs then Some (ByQuarantine (needs - free)) else None
+
+  -- it wants the running transaction closed: where that is full, and where the zones that wait for closed
+  -- transactions do not suffice
+  abbrev pub hindered : Host V C R → Cause → Host V C R
+  hindered s (ByTxFull blocks) = wanting s
+  hindered s (ByQuarantine lacks) =
+      if nat_lt (length (filter (λ (z : Freed). nat_lt z.transaction s.journal.running.number) (M.zones s.volume).waiting)) lacks then wanting s else s
+  hindered s other = s
+
+  abbrev pub plain : Host V C R → ℕ → C → List C → Stepped V C R
+  plain s t c rest =
+      elim (hindrance s c) as (λ _. Stepped V C R) [
+        | Some cause ↦ if at_limit s.journal.flush then end_with s t c rest SessionFull else record { host = hindered s cause; step = Waits cause }
+        | None ↦
+            let a = M.apply s.volume (length s.history + 1) s.journal.running.number c in
+            end_with (change s c a) t c rest (Answered a.reply)
+      ]
+
+  -- ---- barrier and sync calls
+
+  -- the unsent pages of its file, or of all
+  abbrev pub listed : List CachedPage → Kind → ℕ → List (ℕ × ℕ)
+  listed pages kind file =
+      map (λ (p : CachedPage). (p.birth, p.index)) (filter (λ (p : CachedPage). is_unsent p.state && (is_whole kind || p.birth == file)) pages)
+
+  abbrev pub begin : Host V C R → ℕ → C → List C → Stepped V C R
+  begin s t c rest =
+      let kind = M.kind c in
+      let file = M.node s.volume c in
+      let b : Begun = record { begin = length s.history + 1; kind = kind; file = file; list = listed s.pages kind file; sent_barrier = false } in
+      record {
+        host = set_wait (set_thread (note_entry s t c Begins) t (record { calls = c ∷ rest; begun = Some b })) t (record { kind = kind; target = None; need = None });
+        step = HasBegun;
+      }
+
+  -- it needs request id durable
+  abbrev pub on_need : Host V C R → ℕ → C → List C → Wait → ℕ → Stepped V C R
+  on_need s t c rest w id =
+      let f = s.journal.flush in
+      if list_any (is_flushed_after id) f.taken then end_with s t c rest (Answered M.ok)
+      else if at_limit f && not (flush_above id 0 f.notes) then end_with s t c rest SessionFull
+      else record { host = set_wait s t (record w { need = Some id }); step = Waits (ByNeed id) }
+
+  -- it needs the last put durable, if there is one
+  abbrev pub on_last_put : Host V C R → ℕ → C → List C → Wait → Stepped V C R
+  on_last_put s t c rest w =
+      elim (last_put 0 s.journal.flush.notes None) as (λ _. Stepped V C R) [
+        | None ↦ end_with s t c rest (Answered M.ok)
+        | Some id ↦ on_need s t c rest w id
+      ]
+
+  -- it waits for transaction k
+  abbrev pub on_target : Host V C R → ℕ → C → List C → Wait → ℕ → Stepped V C R
+  on_target s t c rest w k =
+      if is_submitted s.journal k then
+      if is_durable w.kind then on_last_put s t c rest w else end_with s t c rest (Answered M.ok)
+      else if at_limit s.journal.flush then end_with s t c rest SessionFull
+      else record { host = s; step = Waits (cause_of s.journal k) }
+
+  -- no page is left on its list
+  abbrev pub on_goal : Host V C R → ℕ → C → List C → Wait → Goal → Stepped V C R
+  on_goal s t c rest w ToPass = end_with s t c rest (Answered M.ok)
+  on_goal s t c rest w ToFlush = on_last_put s t c rest w
+  on_goal s t c rest w (ToCommit k) =
+      if at_limit s.journal.flush then end_with s t c rest SessionFull
+      else
+      let next = set_wait s t (record w { target = Some k }) in
+      record { host = if k == s.journal.running.number then wanting next else next; step = Waits (cause_of s.journal k) }
+
+  -- the next page on its list; where that is the last one left, a data call sends it as a barrier
+  abbrev pub on_walk : Bool → Host V C R → ℕ → C → List C → Wait → Begun → Stepped V C R
+  on_walk full s t c rest w b =
+      elim (unsent_on s.pages b.list) as (λ _. Stepped V C R) [
+        | None ↦ on_goal s t c rest w (goal_of s.journal b)
+        | Some next ↦
+            if at_limit s.journal.flush then end_with s t c rest SessionFull
+            else if full then record { host = s; step = Waits ByQueue }
+            else
+            let barrier = is_data b.kind && is_none (unsent_on s.pages next.1) in
+            record {
+              host = set_thread (send_page s next.0 true barrier) t (record { calls = c ∷ rest; begun = Some (record b { list = next.1; sent_barrier = b.sent_barrier || barrier }) });
+              step = Sent (length s.journal.flush.requests);
+            }
+      ]
+
+  abbrev pub on_begun : Bool → Host V C R → ℕ → C → List C → Wait → Begun → Stepped V C R
+  on_begun full s t c rest w b =
+      elim w.need as (λ _. Stepped V C R) [
+        | Some id ↦ on_need s t c rest w id
+        | None ↦ elim w.target as (λ _. Stepped V C R) [ Some k ↦ on_target s t c rest w k | None ↦ on_walk full s t c rest w b ]
+      ]
+
+  -- ---- a caller's step
+
+  -- what ends every call, or every call but those that read
+  abbrev pub stop_of : List Completion → Kind → Option (Ending R)
+  stop_of taken kind =
+      if list_any is_cut taken then Some Down
+      else if is_reading kind then None
+      else option_map ReadOnly (first_failed taken)
+
+  abbrev pub on_call : Bool → Host V C R → ℕ → Option Begun → C → List C → Stepped V C R
+  on_call full s t (Some b) c rest = on_begun full s t c rest (slice_index_or s.journal.flush.waits t no_wait) b
+  on_call full s t None c rest =
+      elim (M.reply s.volume c) as (λ _. Stepped V C R) [
+        | Some refusal ↦ end_with s t c rest (Answered refusal)
+        | None ↦ if is_begun (M.kind c) then begin s t c rest else plain s t c rest
+      ]
+
+  abbrev pub on_thread : Bool → Host V C R → ℕ → Option Begun → List C → Stepped V C R
+  on_thread full s t begun [] = record { host = s; step = HasEnded }
+  on_thread full s t begun (c ∷ rest) =
+      elim (stop_of s.journal.flush.taken (M.kind c)) as (λ _. Stepped V C R) [
+        | Some stop ↦ end_with s t c rest stop
+        | None ↦ on_call full s t begun c rest
+      ]
+
+  abbrev pub advance : Bool → Host V C R → ℕ → Stepped V C R
+  advance full s t =
+      elim (slice_get s.threads t) as (λ _. Stepped V C R) [
+        | None ↦ record { host = s; step = HasEnded }
+        | Some th ↦ on_thread full s t th.begun th.calls
+      ]
+
+  -- ---- the actors' steps
+
+  -- one that submits; `out` is the host after it
+  abbrev pub submits : Bool → Host V C R → Host V C R → Turned V C R
+  submits full s out =
+      if at_limit s.journal.flush then record { host = s; turn = LimitReached }
+      else if full then record { host = s; turn = QueueFull }
+      else record { host = out; turn = Did }
+
+  -- the plan of the running transaction is built, and its cut is noted; the next transaction runs
+  abbrev pub build_plan : Host V C R → Host V C R
+  build_plan s =
+      let r = s.journal.running in
+      let ring = s.journal.ring in
+      let bodies = map (λ b. record { block = b; body = M.bytes s.volume b }) r.touched in
+      let rest = plan_of u.writers u.journal ring.places ring.head ring.started r.number (u.sequence + (r.number - 1)) bodies r.revoked in
+      record s {
+        journal = record {
+          flush = record s.journal.flush { conflicts = hold r.number r.touched s.journal.flush.conflicts };
+          ring = record (place_blocks (log_needs r) ring) { started = true };
+          running = fresh (r.number + 1);
+          phase = Committing (record { rest = rest; bodies = bodies; revokes = r.revoked; changed = r.changed });
+        };
+        cuts = s.cuts ++ length s.history ∷ [];
+      }
+
+  -- one step of the checkpoint: the next body goes home, the last one as a barrier; then the superblock of
+  -- the new tail goes out as a barrier
+  abbrev pub check_out : Host V C R → List Logged → Host V C R
+  check_out s (h ∷ hs) =
+      put_out (record s { journal = record s.journal { ring = home_sent s.journal.ring } }) (notes.Home h.block) h.block h.body true (elim hs as (λ _. Bool) [ [] ↦ true | x ∷ xs ↦ false ])
+  check_out s [] =
+      put_out (record s { journal = record s.journal { ring = all_home s.journal.ring } }) notes.Super u.journal (u.writers.super (u.sequence + (s.journal.running.number - 1)) s.journal.ring.head) true true
+
+  -- in Closing: the pages of changed files, the checkpoint where there is too little room, the plan
+  abbrev pub close_step : Bool → Host V C R → Turned V C R
+  close_step full s =
+      elim (first_page (λ p. is_unsent p.state && has s.journal.running.changed p.birth) s.pages) as (λ _. Turned V C R) [
+        | Some p ↦ submits full s (send_page s p true false)
+        | None ↦
+            if nat_lt (ring_free s.journal.ring) (log_needs s.journal.running) then submits full s (check_out s s.journal.ring.homes)
+            else record { host = build_plan s; turn = Did }
+      ]
+
+  -- the last request of a plan is the commit block of transaction k
+  abbrev pub committed : Host V C R → ℕ → ℕ → Plan → Host V C R
+  committed s k id p =
+      record s {
+        journal = record s.journal {
+          flush = record s.journal.flush { waits = map (need_commit k id) s.journal.flush.waits };
+          ring = commit_bodies p.revokes p.bodies s.journal.ring;
+          phase = Idle;
+        };
+        volume = M.release s.volume k;
+      }
+
+  abbrev pub plan_sent : Host V C R → Plan → Planned → List Planned → Host V C R
+  plan_sent s p first [] = committed (send_planned s first) (s.journal.running.number - 1) (length s.journal.flush.requests) p
+  plan_sent s p first (q ∷ qs) = send_planned (record s { journal = record s.journal { phase = Committing (record p { rest = q ∷ qs }) } }) first
+
+  abbrev pub in_phase : Bool → Host V C R → Phase → Turned V C R
+  in_phase full s Idle =
+      if s.journal.running.wanted && is_none (least s.journal.flush.conflicts) then record { host = record s { journal = record s.journal { phase = Closing } }; turn = Did }
+      else record { host = s; turn = NothingToDo }
+  in_phase full s Closing = close_step full s
+  in_phase full s (Committing p) =
+      elim p.rest as (λ _. Turned V C R) [ [] ↦ record { host = s; turn = NothingToDo } | first ∷ rest ↦ submits full s (plan_sent s p first rest) ]
+
+  abbrev pub commit_step : Bool → Host V C R → Turned V C R
+  commit_step full s = if is_over s.journal.flush then record { host = s; turn = NothingToDo } else in_phase full s s.journal.phase
+
+  -- the Dirty page of this number; orderless where the transaction that took its zone is submitted
+  abbrev pub writeback : Bool → Host V C R → ℕ → Turned V C R
+  writeback full s pick =
+      if is_over s.journal.flush then record { host = s; turn = NothingToDo }
+      else elim (slice_get (filter (λ (p : CachedPage). is_dirty p.state) s.pages) pick) as (λ _. Turned V C R) [
+        | None ↦ record { host = s; turn = NothingToDo }
+        | Some p ↦ submits full s (send_page s p (not (is_submitted s.journal (slice_index_or s.owners p.block 0))) false)
+      ]
+
+  -- a flush where one is due, else a completion
+  abbrev pub flush_step : Bool → Host V C R → Option Completion → Turned V C R
+  flush_step full s next =
+      let f = s.journal.flush in
+      if flush_due f then submits full s (with_flush s (submit (record { id = length f.requests; kind = puts.Flush; ordered = true; barrier = true }) notes.Flush f))
+      else elim next as (λ _. Turned V C R) [
+        | None ↦ record { host = s; turn = NothingToDo }
+        | Some c ↦ record { host = with_flush s (take_completion c f); turn = Did }
+      ]
+
+  -- the host of a session that is opened: with a volume, the log's places, as many zones, and programs
+  abbrev pub opened : V → LogRing → ℕ → ℕ → List (List C) → Host V C R
+  opened v ring zones limit programs = record {
+    journal = record {
+      flush = record { requests = []; notes = []; limit = limit; taken = []; conflicts = record { held = []; wanted = [] }; waits = map (λ (p : List C). no_wait) programs };
+      ring = ring;
+      running = fresh 1;
+      phase = Idle;
+    };
+    volume = v;
+    pages = [];
+    owners = replicate zones 0;
+    history = [];
+    cuts = [];
+    threads = map (λ (p : List C). record { calls = p; begun = None }) programs;
+  }

@@ -1,0 +1,7 @@
+pub mod Model
+pub mod Parts
+pub mod Plan
+pub mod State
+pub mod Host
+pub mod Views
+pub mod laws

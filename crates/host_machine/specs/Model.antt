@@ -1,0 +1,100 @@
+-- What the host uses of the tree model and of a volume.
+use Rattle.std.specs.Prelude.{ℕ, Bool, true, false, List, Option}
+
+-- kinds of calls: read, list and stat; the calls that may change the tree; and the barrier and sync calls
+pub data Kind : Type 0 where
+  Reading : Kind
+  Changing : Kind
+  FileBarrier : Kind
+  DataBarrier : Kind
+  FileSync : Kind
+  DataSync : Kind
+  WholeSync : Kind
+
+-- barrier and sync calls begin and end; all others are answered in one step
+abbrev pub is_begun : Kind → Bool
+is_begun Reading = false
+is_begun Changing = false
+is_begun other = true
+
+abbrev pub is_data : Kind → Bool
+is_data DataBarrier = true
+is_data DataSync = true
+is_data other = false
+
+-- those that wait for the device
+abbrev pub is_durable : Kind → Bool
+is_durable FileSync = true
+is_durable DataSync = true
+is_durable WholeSync = true
+is_durable other = false
+
+-- those that a failed completion does not end
+abbrev pub is_reading : Kind → Bool
+is_reading Reading = true
+is_reading other = false
+
+abbrev pub is_whole : Kind → Bool
+is_whole WholeSync = true
+is_whole other = false
+
+-- a block of a file: the file's birth, the index, and the zone
+pub record FileBlock : Type 0 where
+  pub birth : ℕ
+  pub index : ℕ
+  pub block : ℕ
+
+-- what a call did to a volume
+pub record Touched : Type 0 where
+  -- metadata blocks that it wrote, zones that it freed, and those of them that were metadata
+  pub blocks : List ℕ
+  pub freed : List ℕ
+  pub revoked : List ℕ
+  -- blocks of files that it wrote, and those that are no longer mapped
+  pub pages : List FileBlock
+  pub dropped : List FileBlock
+  -- nodes whose size, zones or slots it changed
+  pub nodes : List ℕ
+
+-- a freed zone that waits for a transaction's commit block
+pub record Freed : Type 0 where
+  pub zone : ℕ
+  pub transaction : ℕ
+
+-- free zones, and freed ones that wait
+pub record Zones : Type 0 where
+  pub free : List ℕ
+  pub waiting : List Freed
+
+pub record Applied (V R : Type 0) : Type 0 where
+  pub volume : V
+  pub reply : R
+  pub touched : Touched
+
+-- T are trees, V volumes, C calls and R their replies.
+pub record Model (T V C R : Type 0) : Type 0 where
+  pub kind : C → Kind
+  pub ok : R
+  -- trees: the one that was opened; the tree after call number n; blocks of files, and which of them a call
+  -- writes; and the files whose size, zones or slots it changes
+  pub root : T
+  pub call : T → ℕ → C → T
+  pub maps : T → ℕ → ℕ → Bool
+  pub content : T → ℕ → ℕ → List ℕ
+  pub writes : T → C → ℕ → ℕ → Bool
+  pub alters : T → ℕ → C → ℕ → Bool
+  -- volumes: the refusal of a call; whether it would change the tree or a page; the zones that it would take;
+  -- and what it does as call number n in transaction k
+  pub reply : V → C → Option R
+  pub hinders : V → C → Bool
+  pub needs : V → C → ℕ
+  pub apply : V → ℕ → ℕ → C → Applied V R
+  -- the node that the call's path names
+  pub node : V → C → ℕ
+  pub zones : V → Zones
+  -- the zones that wait for transaction k are free
+  pub release : V → ℕ → V
+  -- the bytes of a block, whether it is metadata, and the block of a page
+  pub bytes : V → ℕ → List ℕ
+  pub metadata : V → ℕ → Bool
+  pub zone : V → ℕ → ℕ → Option ℕ

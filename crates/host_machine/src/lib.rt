@@ -1,0 +1,2 @@
+//! The host as a machine on plain data.
+#![tactic(auto)]
