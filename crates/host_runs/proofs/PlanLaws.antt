@@ -1,0 +1,302 @@
+-- The log blocks of a plan spell its transaction, and there are as many as were counted.
+use Rattle.blk_base.specs.Members.{In, In-append_left, In-append_right, In-append_cases, In-map}
+use Rattle.crash_laws.specs.Rules.{HasHeader}
+use Rattle.crash_laws.specs.Session.{log_transaction}
+use Rattle.host_machine.specs.Parts.{parts_needed, log_blocks_for}
+use Rattle.host_machine.specs.Plan.{Writers, UnplacedBlock, chunks_from, chunks, revoke_block, body_block, described, all_described, logged_blocks}
+use Rattle.log_model.proofs.Parts.{parts_spell}
+use Rattle.log_model.specs.Log.{Tag, Plain, Describes, Revokes, Commits, Format, Spells}
+use Rattle.log_model.specs.Marks.{Logged, Transaction}
+use Rattle.log_model.specs.Parts.{Part, Describing, Revoking, restored, IsPart, AreParts, blocks_of_parts, bodies_of_parts, revokes_of_parts}
+use Rattle.order_model.specs.declared.note.Note.TheVariants.{Commit}
+use Rattle.std.proofs.Common.{sym, ap, subst, ◌∙◌, inl, inr, ⊎_elim, arith, append_assoc, append-nil, length-append}
+use Rattle.std.specs.Prelude.{◌≡◌, ℕ, zero, suc, ◌+◌, ◌-◌, ◌*◌, ◌<◌, ◌≤◌, List, [], ◌∷◌, ◌++◌, map, length, Some, refl}
+
+-- ---- what is written is read back
+
+abbrev pub IsWord : ℕ → Type 0
+IsWord n = n < 4294967296
+
+abbrev pub tag_of : Writers → Logged → Tag
+tag_of w l = record { block = l.block; escaped = w.is_escaped l.body }
+
+-- The journal's format reads what these write: with 1 to 122 tags, with 1 to 252 revokes, and whole blocks.
+pub record AreWritten (f : Format) (w : Writers) : Type 0 where
+  pub descriptor : (seq : ℕ) (tags : List Tag) → IsWord seq → 1 ≤ length tags → length tags ≤ 122 → ((t : Tag) → In t tags → IsWord t.block) → f.header (w.descriptor seq tags) ≡ Describes seq tags
+  pub revoke : (seq : ℕ) (blocks : List ℕ) → IsWord seq → 1 ≤ length blocks → length blocks ≤ 252 → ((b : ℕ) → In b blocks → IsWord b) → f.header (w.revoke seq blocks) ≡ Revokes seq blocks
+  pub commit : (seq : ℕ) → IsWord seq → f.header (w.commit seq) ≡ Commits seq
+  -- a stored body is escaped, so it never begins as a header does
+  pub plain : (body : List ℕ) → length body ≡ 1024 → f.header (w.stored body) ≡ Plain
+  pub stored : (b : ℕ) (body : List ℕ) → length body ≡ 1024 → f.restore (record { block = b; escaped = w.is_escaped body }) (w.stored body) ≡ body
+  pub super : (seq start : ℕ) → IsWord seq → IsWord start → f.tail (w.super seq start) ≡ record { sequence = seq; start = start }
+
+-- its numbers fit into words, and its bodies are whole blocks
+pub record IsWritable (t : Transaction) : Type 0 where
+  pub blocks : (l : Logged) → In l t.bodies → IsWord l.block
+  pub bodies : (l : Logged) → In l t.bodies → length l.body ≡ 1024
+  pub revokes : (b : ℕ) → In b t.revokes → IsWord b
+
+-- ---- parts
+
+abbrev flat : {X : Type 0} → List (List X) → List X
+flat [] = []
+flat (xs ∷ xss) = xs ++ flat xss
+
+chunks_flat : {X : Type 0} (most left : ℕ) (begun xs : List X) → flat (chunks_from most left begun xs) ≡ begun ++ xs
+chunks_flat most left [] [] = refl
+chunks_flat most left (b ∷ bs) [] = refl
+chunks_flat most zero begun (x ∷ xs) = ap (λ ys. begun ++ ys) (chunks_flat most (most - 1) (x ∷ []) xs)
+chunks_flat most (suc left) begun (x ∷ xs) = chunks_flat most left (begun ++ x ∷ []) xs ∙ append_assoc begun (x ∷ []) xs
+
+chunks_sized : {X : Type 0} (most left : ℕ) (begun xs c : List X) → 1 ≤ most → length begun + left ≡ most → In c (chunks_from most left begun xs) → (1 ≤ length c) × (length c ≤ most)
+chunks_sized most left [] [] c pos e i = absurd i
+chunks_sized most left (b ∷ bs) [] c pos e (inl q) = subst (λ ys. (1 ≤ length ys) × (length ys ≤ most)) q (omega arith, omega arith)
+chunks_sized most left (b ∷ bs) [] c pos e (inr i) = absurd i
+chunks_sized most zero begun (x ∷ xs) c pos e (inl q) = subst (λ ys. (1 ≤ length ys) × (length ys ≤ most)) q (omega arith, omega arith)
+chunks_sized most zero begun (x ∷ xs) c pos e (inr i) = chunks_sized most (most - 1) (x ∷ []) xs c pos (omega arith) i
+chunks_sized most (suc left) begun (x ∷ xs) c pos e i =
+    let grown = length-append begun (x ∷ []) in
+    chunks_sized most left (begun ++ x ∷ []) xs c pos (omega arith) i
+
+In-flat : {X : Type 0} (xss : List (List X)) (c : List X) (x : X) → In c xss → In x c → In x (flat xss)
+In-flat [] c x i j = absurd i
+In-flat (xs ∷ xss) c x (inl e) j = In-append_left xs (flat xss) x (subst (λ ys. In x ys) (sym e) j)
+In-flat (xs ∷ xss) c x (inr i) j = In-append_right xs (flat xss) x (In-flat xss c x i j)
+
+In-chunks : {X : Type 0} (most : ℕ) (xs c : List X) (x : X) → In c (chunks most xs) → In x c → In x xs
+In-chunks most xs c x i j = subst (In x) (chunks_flat most most [] xs) (In-flat (chunks most xs) c x i j)
+
+-- as many as are counted
+chunks_begun : {X : Type 0} (most left : ℕ) (b : X) (bs xs : List X) → length (chunks_from most left (b ∷ bs) xs) ≡ suc (parts_needed most left (length xs))
+chunks_begun most left b bs [] = refl
+chunks_begun most zero b bs (x ∷ xs) = ap suc (chunks_begun most (most - 1) x [] xs)
+chunks_begun most (suc left) b bs (x ∷ xs) = chunks_begun most left b (bs ++ x ∷ []) xs
+
+chunks_counted : {X : Type 0} (most : ℕ) (xs : List X) → 1 ≤ most → length (chunks most xs) ≡ parts_needed most 0 (length xs)
+chunks_counted most [] pos = refl
+chunks_counted zero (x ∷ xs) pos = absurd (omega arith)
+chunks_counted (suc m) (x ∷ xs) pos =
+    let e : m ≡ suc m - 1 = omega arith in
+    chunks_begun (suc m) m x [] xs ∙ ap (λ l. suc (parts_needed (suc m) l (length xs))) e
+
+-- ---- a plan in parts
+
+module _ (w : Writers) (k seq : ℕ) where
+  abbrev revoke_part : List ℕ → Part
+  revoke_part blocks = Revoking (w.revoke seq blocks) blocks
+
+  abbrev tags : List Logged → List Tag
+  tags bodies = map (tag_of w) bodies
+
+  abbrev body_part : List Logged → Part
+  body_part bodies = Describing (w.descriptor seq (tags bodies)) (tags bodies) (map (λ (l : Logged). w.stored l.body) bodies)
+
+  abbrev body_parts : List (List Logged) → List Part
+  body_parts [] = []
+  body_parts (c ∷ cs) = body_part c ∷ body_parts cs
+
+  abbrev revoke_parts : List (List ℕ) → List Part → List Part
+  revoke_parts [] rest = rest
+  revoke_parts (c ∷ cs) rest = revoke_part c ∷ revoke_parts cs rest
+
+  abbrev plan_parts : List Logged → List ℕ → List Part
+  plan_parts bodies revokes = revoke_parts (chunks 252 revokes) (body_parts (chunks 122 bodies))
+
+  abbrev pub bytes_of : List UnplacedBlock → List (List ℕ)
+  bytes_of = map (λ (b : UnplacedBlock). b.body)
+
+  bytes-append : (xs ys : List UnplacedBlock) → bytes_of (xs ++ ys) ≡ bytes_of xs ++ bytes_of ys
+  bytes-append [] ys = refl
+  bytes-append (x ∷ xs) ys = ap (λ zs. x.body ∷ zs) (bytes-append xs ys)
+
+  bodies_stored : (c : List Logged) → bytes_of (map (body_block w k seq) c) ≡ map (λ (l : Logged). w.stored l.body) c
+  bodies_stored [] = refl
+  bodies_stored (l ∷ ls) = ap (λ zs. w.stored l.body ∷ zs) (bodies_stored ls)
+
+  described_bytes : (cs : List (List Logged)) → bytes_of (all_described w k seq cs) ≡ blocks_of_parts (body_parts cs)
+  described_bytes [] = refl
+  described_bytes (c ∷ cs) =
+      bytes-append (described w k seq c) (all_described w k seq cs)
+      ∙ ap (λ zs. (w.descriptor seq (tags c) ∷ zs) ++ bytes_of (all_described w k seq cs)) (bodies_stored c)
+      ∙ ap (λ zs. (w.descriptor seq (tags c) ∷ map (λ (l : Logged). w.stored l.body) c) ++ zs) (described_bytes cs)
+
+  revoke_bytes : (cs : List (List ℕ)) (rest : List UnplacedBlock) (parts : List Part) → bytes_of rest ≡ blocks_of_parts parts → bytes_of (map (revoke_block w k seq) cs ++ rest) ≡ blocks_of_parts (revoke_parts cs parts)
+  revoke_bytes [] rest parts e = e
+  revoke_bytes (c ∷ cs) rest parts e = ap (λ zs. w.revoke seq c ∷ zs) (revoke_bytes cs rest parts e)
+
+  plan_bytes : (bodies : List Logged) (revokes : List ℕ) → bytes_of (logged_blocks w k seq bodies revokes) ≡ blocks_of_parts (plan_parts bodies revokes)
+  plan_bytes bodies revokes = revoke_bytes (chunks 252 revokes) (all_described w k seq (chunks 122 bodies)) (body_parts (chunks 122 bodies)) (described_bytes (chunks 122 bodies))
+
+  module _ (f : Format) (written : AreWritten f w) where
+    restored_back : (c : List Logged) → ((l : Logged) → In l c → length l.body ≡ 1024) → restored f (tags c) (map (λ (l : Logged). w.stored l.body) c) ≡ c
+    restored_back [] h = refl
+    restored_back (l ∷ ls) h =
+        ap (λ (x : List ℕ). record { block = l.block; body = x } ∷ restored f (tags ls) (map (λ (m : Logged). w.stored m.body) ls)) (written.stored l.block l.body (h l (inl refl)))
+        ∙ ap (λ ms. l ∷ ms) (restored_back ls (λ m i. h m (inr i)))
+
+    body_bodies : (cs : List (List Logged)) → ((c : List Logged) (l : Logged) → In c cs → In l c → length l.body ≡ 1024) → bodies_of_parts f (body_parts cs) ≡ flat cs
+    body_bodies [] h = refl
+    body_bodies (c ∷ cs) h =
+        ap (λ zs. zs ++ bodies_of_parts f (body_parts cs)) (restored_back c (λ l i. h c l (inl refl) i))
+        ∙ ap (λ zs. c ++ zs) (body_bodies cs (λ d l i j. h d l (inr i) j))
+
+    revoke_bodies : (cs : List (List ℕ)) (rest : List Part) → bodies_of_parts f (revoke_parts cs rest) ≡ bodies_of_parts f rest
+    revoke_bodies [] rest = refl
+    revoke_bodies (c ∷ cs) rest = revoke_bodies cs rest
+
+    body_revokes : (cs : List (List Logged)) → revokes_of_parts (body_parts cs) ≡ []
+    body_revokes [] = refl
+    body_revokes (c ∷ cs) = body_revokes cs
+
+    revoke_revokes : (cs : List (List ℕ)) (rest : List Part) → revokes_of_parts (revoke_parts cs rest) ≡ flat cs ++ revokes_of_parts rest
+    revoke_revokes [] rest = refl
+    revoke_revokes (c ∷ cs) rest = ap (λ zs. c ++ zs) (revoke_revokes cs rest) ∙ sym (append_assoc c (flat cs) (revokes_of_parts rest))
+
+    tags_counted : (c : List Logged) → length (tags c) ≡ length c
+    tags_counted [] = refl
+    tags_counted (l ∷ ls) = ap suc (tags_counted ls)
+
+    stored_counted : (c : List Logged) → length (map (λ (l : Logged). w.stored l.body) c) ≡ length c
+    stored_counted [] = refl
+    stored_counted (l ∷ ls) = ap suc (stored_counted ls)
+
+    tag_in : (c : List Logged) (t : Tag) → In t (tags c) → ((l : Logged) → In l c → IsWord l.block) → IsWord t.block
+    tag_in c t i h = let m = In-map (tag_of w) c t i in subst (λ (u : Tag). IsWord u.block) m.2 (h m.0 m.1)
+
+    body_is_part : (c : List Logged) → IsWord seq → (1 ≤ length c) × (length c ≤ 122) → ((l : Logged) → In l c → IsWord l.block) → IsPart f seq (body_part c)
+    body_is_part c fits size h =
+        let n = tags_counted c in
+        let lo = size.0 in
+        let hi = size.1 in
+        (written.descriptor seq (tags c) fits (omega arith) (omega arith) (λ t i. tag_in c t i h), n ∙ sym (stored_counted c))
+
+    are_body_parts : (cs : List (List Logged)) → IsWord seq → ((c : List Logged) → In c cs → (1 ≤ length c) × (length c ≤ 122)) → ((c : List Logged) (l : Logged) → In c cs → In l c → IsWord l.block) → AreParts f seq (body_parts cs)
+    are_body_parts [] fits size h = tt
+    are_body_parts (c ∷ cs) fits size h = (body_is_part c fits (size c (inl refl)) (λ l i. h c l (inl refl) i), are_body_parts cs fits (λ d i. size d (inr i)) (λ d l i j. h d l (inr i) j))
+
+    are_revoke_parts : (cs : List (List ℕ)) (rest : List Part) → IsWord seq → ((c : List ℕ) → In c cs → (1 ≤ length c) × (length c ≤ 252)) → ((c : List ℕ) (b : ℕ) → In c cs → In b c → IsWord b) → AreParts f seq rest → AreParts f seq (revoke_parts cs rest)
+    are_revoke_parts [] rest fits size h r = r
+    are_revoke_parts (c ∷ cs) rest fits size h r =
+        let s = size c (inl refl) in
+        (written.revoke seq c fits s.0 s.1 (λ b i. h c b (inl refl) i), are_revoke_parts cs rest fits (λ d i. size d (inr i)) (λ d b i j. h d b (inr i) j) r)
+
+    module _ (t : Transaction) (writable : IsWritable t) (fits : IsWord seq) where
+      plan_bodies : bodies_of_parts f (plan_parts t.bodies t.revokes) ≡ t.bodies
+      plan_bodies =
+          revoke_bodies (chunks 252 t.revokes) (body_parts (chunks 122 t.bodies))
+          ∙ body_bodies (chunks 122 t.bodies) (λ c l i j. writable.bodies l (In-chunks 122 t.bodies c l i j))
+          ∙ chunks_flat 122 122 [] t.bodies
+
+      plan_revokes : revokes_of_parts (plan_parts t.bodies t.revokes) ≡ t.revokes
+      plan_revokes =
+          revoke_revokes (chunks 252 t.revokes) (body_parts (chunks 122 t.bodies))
+          ∙ ap (λ zs. flat (chunks 252 t.revokes) ++ zs) (body_revokes (chunks 122 t.bodies))
+          ∙ append-nil (flat (chunks 252 t.revokes))
+          ∙ chunks_flat 252 252 [] t.revokes
+
+      are_plan_parts : AreParts f seq (plan_parts t.bodies t.revokes)
+      are_plan_parts =
+          are_revoke_parts (chunks 252 t.revokes) (body_parts (chunks 122 t.bodies)) fits
+          (λ c i. chunks_sized 252 252 [] t.revokes c (omega arith) (omega arith) i)
+          (λ c b i j. writable.revokes b (In-chunks 252 t.revokes c b i j))
+          (are_body_parts (chunks 122 t.bodies) fits
+          (λ c i. chunks_sized 122 122 [] t.bodies c (omega arith) (omega arith) i)
+          (λ c l i j. writable.blocks l (In-chunks 122 t.bodies c l i j)))
+
+      -- The blocks of a plan, with its commit block behind them, spell the transaction.
+      pub plan_spells : Spells f seq (bytes_of (logged_blocks w k seq t.bodies t.revokes) ++ w.commit seq ∷ []) t
+      plan_spells =
+          subst (λ u. Spells f seq (bytes_of (logged_blocks w k seq t.bodies t.revokes) ++ w.commit seq ∷ []) u)
+          (ap (λ bs. record { bodies = bs; revokes = revokes_of_parts (plan_parts t.bodies t.revokes) }) plan_bodies ∙ ap (λ rs. record { bodies = t.bodies; revokes = rs }) plan_revokes)
+          (subst (λ zs. Spells f seq (zs ++ w.commit seq ∷ []) (record { bodies = bodies_of_parts f (plan_parts t.bodies t.revokes); revokes = revokes_of_parts (plan_parts t.bodies t.revokes) }))
+          (sym (plan_bytes t.bodies t.revokes))
+          (parts_spell f seq (plan_parts t.bodies t.revokes) (w.commit seq) are_plan_parts (written.commit seq fits)))
+
+-- ---- notes and headers
+
+-- a log block of transaction k that is not its commit block, with the header that its note says
+abbrev pub IsDraft : Format → ℕ → ℕ → UnplacedBlock → Type 0
+IsDraft f sequence k b = (log_transaction b.note ≡ Some k) × ((j : ℕ) → b.note ≡ Commit j → ⊥) × HasHeader sequence b.note (f.header b.body)
+
+module _ (w : Writers) (k sequence : ℕ) (f : Format) (written : AreWritten f w) (fits : IsWord (sequence + (k - 1))) where
+  body_draft : (l : Logged) → length l.body ≡ 1024 → IsDraft f sequence k (body_block w k (sequence + (k - 1)) l)
+  body_draft l n = (refl, λ j e. cc, written.plain l.body n)
+
+  revoke_draft : (c : List ℕ) → (1 ≤ length c) × (length c ≤ 252) → ((b : ℕ) → In b c → IsWord b) → IsDraft f sequence k (revoke_block w k (sequence + (k - 1)) c)
+  revoke_draft c size h = (refl, λ j e. cc, (c, written.revoke (sequence + (k - 1)) c fits size.0 size.1 h))
+
+  described_drafts : (c : List Logged) → (1 ≤ length c) × (length c ≤ 122) → ((l : Logged) → In l c → IsWord l.block) → ((l : Logged) → In l c → length l.body ≡ 1024)
+      → (b : UnplacedBlock) → In b (described w k (sequence + (k - 1)) c) → IsDraft f sequence k b
+  described_drafts c size words whole b (inl e) =
+      subst (IsDraft f sequence k) e (refl, λ j q. cc, (map (tag_of w) c, (body_is_part w k (sequence + (k - 1)) f written c fits size words).0))
+  described_drafts c size words whole b (inr i) =
+      let m = In-map (body_block w k (sequence + (k - 1))) c b i in
+      subst (IsDraft f sequence k) m.2 (body_draft m.0 (whole m.0 m.1))
+
+  all_drafts : (cs : List (List Logged)) → ((c : List Logged) → In c cs → (1 ≤ length c) × (length c ≤ 122)) → ((c : List Logged) (l : Logged) → In c cs → In l c → IsWord l.block × (length l.body ≡ 1024))
+      → (b : UnplacedBlock) → In b (all_described w k (sequence + (k - 1)) cs) → IsDraft f sequence k b
+  all_drafts [] size h b i = absurd i
+  all_drafts (c ∷ cs) size h b i =
+      ⊎_elim
+      (λ j. described_drafts c (size c (inl refl)) (λ l m. (h c l (inl refl) m).0) (λ l m. (h c l (inl refl) m).1) b j)
+      (λ j. all_drafts cs (λ d m. size d (inr m)) (λ d l m n. h d l (inr m) n) b j)
+      (In-append_cases (described w k (sequence + (k - 1)) c) (all_described w k (sequence + (k - 1)) cs) b i)
+
+  pub are_drafts : (t : Transaction) → IsWritable t → (b : UnplacedBlock) → In b (logged_blocks w k (sequence + (k - 1)) t.bodies t.revokes) → IsDraft f sequence k b
+  are_drafts t writable b i =
+      ⊎_elim
+      (λ j.
+      let m = In-map (revoke_block w k (sequence + (k - 1))) (chunks 252 t.revokes) b j in
+      subst (IsDraft f sequence k) m.2 (revoke_draft m.0 (chunks_sized 252 252 [] t.revokes m.0 (omega arith) (omega arith) m.1) (λ c n. writable.revokes c (In-chunks 252 t.revokes m.0 c m.1 n))))
+      (λ j. all_drafts (chunks 122 t.bodies) (λ c m. chunks_sized 122 122 [] t.bodies c (omega arith) (omega arith) m)
+      (λ c l m n. (writable.blocks l (In-chunks 122 t.bodies c l m n), writable.bodies l (In-chunks 122 t.bodies c l m n))) b j)
+      (In-append_cases (map (revoke_block w k (sequence + (k - 1))) (chunks 252 t.revokes)) (all_described w k (sequence + (k - 1)) (chunks 122 t.bodies)) b i)
+
+-- ---- how many
+
+module _ (w : Writers) (k seq : ℕ) where
+  mapped_counted : {X : Type 0} (g : X → UnplacedBlock) (xs : List X) → length (map g xs) ≡ length xs
+  mapped_counted g [] = refl
+  mapped_counted g (x ∷ xs) = ap suc (mapped_counted g xs)
+
+  described_counted : (cs : List (List Logged)) → length (all_described w k seq cs) ≡ length cs + length (flat cs)
+  described_counted [] = refl
+  described_counted (c ∷ cs) =
+      let a = length-append (described w k seq c) (all_described w k seq cs) in
+      let b = mapped_counted (body_block w k seq) c in
+      let d = described_counted cs in
+      let e = length-append c (flat cs) in
+      omega arith
+
+  pub plan_counted : (bodies : List Logged) (revokes : List ℕ) → length (logged_blocks w k seq bodies revokes) + 1 ≡ log_blocks_for (length bodies) (length revokes)
+  plan_counted bodies revokes =
+      let a = length-append (map (revoke_block w k seq) (chunks 252 revokes)) (all_described w k seq (chunks 122 bodies)) in
+      let b = mapped_counted (revoke_block w k seq) (chunks 252 revokes) in
+      let c = described_counted (chunks 122 bodies) in
+      let d = chunks_counted 252 revokes (omega arith) in
+      let e = chunks_counted 122 bodies (omega arith) in
+      let g = ap length (chunks_flat 122 122 [] bodies) in
+      omega arith
+
+-- ---- the printed count: n / most, rounded up
+
+revokes_needed : (left n : ℕ) → left ≤ 251 → (n ≤ left + parts_needed 252 left n * 252) × (parts_needed 252 left n * 252 + left ≤ n + 251)
+revokes_needed left zero le = (omega arith, omega arith)
+revokes_needed zero (suc n) le = let rest = revokes_needed 251 n (omega arith) in let lo = rest.0 in let hi = rest.1 in (omega arith, omega arith)
+revokes_needed (suc left) (suc n) le = let rest = revokes_needed left n (omega arith) in let lo = rest.0 in let hi = rest.1 in (omega arith, omega arith)
+
+bodies_needed : (left n : ℕ) → left ≤ 121 → (n ≤ left + parts_needed 122 left n * 122) × (parts_needed 122 left n * 122 + left ≤ n + 121)
+bodies_needed left zero le = (omega arith, omega arith)
+bodies_needed zero (suc n) le = let rest = bodies_needed 121 n (omega arith) in let lo = rest.0 in let hi = rest.1 in (omega arith, omega arith)
+bodies_needed (suc left) (suc n) le = let rest = bodies_needed left n (omega arith) in let lo = rest.0 in let hi = rest.1 in (omega arith, omega arith)
+
+-- So many revoke blocks and descriptors hold r revokes and b bodies, and one fewer of either does not.
+pub parts_are_rounded_up : (b r : ℕ) → (r ≤ parts_needed 252 0 r * 252) × (parts_needed 252 0 r * 252 < r + 252) × (b ≤ parts_needed 122 0 b * 122) × (parts_needed 122 0 b * 122 < b + 122)
+parts_are_rounded_up b r =
+    let rs = revokes_needed 0 r (omega arith) in
+    let bs = bodies_needed 0 b (omega arith) in
+    let r0 = rs.0 in
+    let r1 = rs.1 in
+    let b0 = bs.0 in
+    let b1 = bs.1 in
+    (omega arith, omega arith, omega arith, omega arith)

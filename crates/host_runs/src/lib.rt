@@ -1,0 +1,2 @@
+//! Runs of the host's machine.
+#![tactic(auto)]
