@@ -10,7 +10,7 @@ use Rattle.host_machine.proofs.RequestSteps.{send_keeps, request_keeps}
 use Rattle.host_machine.proofs.RuleSteps.{send_both}
 use Rattle.host_machine.proofs.Sends.{plainly}
 use Rattle.host_machine.proofs.Steps.{first_page-In, none_first, either}
-use Rattle.host_machine.specs.Host.{NothingToDo, Did, Turned, submits, build_plan, check_out, close_step, plan_sent, in_phase, commit_step, writeback, flush_step, flush_due, take_completion, send_page, with_flush}
+use Rattle.host_machine.specs.Host.{Turned, submits, build_plan, checkpoint, close_step, plan_sent, in_phase, commit_step, writeback, flush_step, flush_due, take_completion, send_page, with_flush}
 use Rattle.host_machine.specs.Parts.{has, first_page, least, log_needs, ring_free}
 use Rattle.host_machine.specs.Plan.{Planned}
 use Rattle.host_machine.specs.State.{Entry, Plan, Phase, Idle, Closing, Committing, Host, is_over, at_limit, is_submitted}
@@ -24,6 +24,7 @@ use Rattle.order_model.specs.declared.note.Note.TheVariants as notes
 use Rattle.order_model.specs.declared.note.Note.{Note}
 use Rattle.order_model.specs.declared.request.Kind.TheVariants as puts
 use Rattle.order_model.specs.declared.request.Request.{Request}
+use Rattle.order_model.specs.declared.turn.Turn.TheVariants as turns
 use Rattle.page_cache.specs.Pages.{is_unsent, is_dirty, page_at}
 use Rattle.page_cache.specs.declared.cached_page.CachedPage.{CachedPage}
 use Rattle.page_cache.specs.declared.cached_page.PageState.TheVariants.{Clean, Dirty, Loose, Firm}
@@ -87,7 +88,7 @@ module _ {A T V C R : Type 0} {o : Over A T V C R} {Stands : V → T → Type 0}
         either (λ (x : Turned V C R). HasImages x.host) (is_over s.journal.flush) _ _ (λ e. (txs, N, facts)) (λ e. by (slice_get (filter (λ (p : CachedPage). is_dirty p.state) s.pages) pick) refl)
       where
         by : (x : Option CachedPage) → slice_get (filter (λ (p : CachedPage). is_dirty p.state) s.pages) pick ≡ x → HasImages (elim x as (λ _. Turned V C R) [
-          | None ↦ record { host = s; turn = NothingToDo }
+          | None ↦ record { host = s; turn = turns.Idle }
           | Some p ↦ submits o.model o.setup full s (send_page o.model o.setup s p (not (is_submitted s.journal (slice_index_or s.owners p.block 0))) false)
         ]).host
         by None e = (txs, N, facts)
@@ -101,7 +102,7 @@ module _ {A T V C R : Type 0} {o : Over A T V C R} {Stands : V → T → Type 0}
         either (λ (x : Turned V C R). Keeps o Stands x.host txs N) (is_over s.journal.flush) _ _ (λ e. both) (λ e. by (slice_get (filter (λ (p : CachedPage). is_dirty p.state) s.pages) pick) refl)
       where
         by : (x : Option CachedPage) → slice_get (filter (λ (p : CachedPage). is_dirty p.state) s.pages) pick ≡ x → Keeps o Stands (elim x as (λ _. Turned V C R) [
-          | None ↦ record { host = s; turn = NothingToDo }
+          | None ↦ record { host = s; turn = turns.Idle }
           | Some p ↦ submits o.model o.setup full s (send_page o.model o.setup s p (not (is_submitted s.journal (slice_index_or s.owners p.block 0))) false)
         ]).host txs N
         by None e = both
@@ -122,14 +123,14 @@ module _ {A T V C R : Type 0} {o : Over A T V C R} {Stands : V → T → Type 0}
         ))
         (λ e. by next)
       where
-        by : (x : Option Completion) → HasImages (elim x as (λ _. Turned V C R) [ None ↦ record { host = s; turn = NothingToDo } | Some c ↦ record { host = with_flush o.model o.setup s (take_completion c s.journal.flush); turn = Did } ]).host
+        by : (x : Option Completion) → HasImages (elim x as (λ _. Turned V C R) [ None ↦ record { host = s; turn = turns.Idle } | Some c ↦ record { host = with_flush o.model o.setup s (take_completion c s.journal.flush); turn = turns.Did } ]).host
         by None = (txs, N, facts)
         by (Some c) = (txs, N, facts)
 
     -- ---- the commit actor
 
     module _ (order : CommitOrder (session o Stands txs s)) where
-      check_out_keeps : (homes : List Logged) → HasImages (check_out o.model o.setup s homes)
+      check_out_keeps : (homes : List Logged) → HasImages (checkpoint o.model o.setup s homes)
       check_out_keeps [] = (
         txs,
         N,
@@ -166,8 +167,8 @@ module _ {A T V C R : Type 0} {o : Over A T V C R} {Stands : V → T → Type 0}
           by : (x : Option CachedPage) → first_page (λ p. is_unsent p.state && has s.journal.running.changed p.birth) s.pages ≡ x → HasImages (elim x as (λ _. Turned V C R) [
             | Some p ↦ submits o.model o.setup full s (send_page o.model o.setup s p true false)
             | None ↦
-                if nat_lt (ring_free s.journal.ring) (log_needs s.journal.running) then submits o.model o.setup full s (check_out o.model o.setup s s.journal.ring.homes)
-                else record { host = build_plan o.model o.setup s; turn = Did }
+                if nat_lt (ring_free s.journal.ring) (log_needs s.journal.running) then submits o.model o.setup full s (checkpoint o.model o.setup s s.journal.ring.homes)
+                else record { host = build_plan o.model o.setup s; turn = turns.Did }
           ]).host
           by (Some p) e = submits_keeps full _ (txs, N, send_keeps contract s txs N facts p true false (keyed s.pages facts.0.rising p (first_page-In (λ p. is_unsent p.state && has s.journal.running.changed p.birth) s.pages p e)))
           by None e =
@@ -218,7 +219,7 @@ module _ {A T V C R : Type 0} {o : Over A T V C R} {Stands : V → T → Type 0}
       in_phase_keeps full Closing x = close_keeps full x
       in_phase_keeps full (Committing p) x = by p.rest refl
         where
-          by : (rest : List Planned) → p.rest ≡ rest → HasImages (elim rest as (λ _. Turned V C R) [ [] ↦ record { host = s; turn = NothingToDo } | first ∷ rest ↦ submits o.model o.setup full s (plan_sent o.model o.setup s p first rest) ]).host
+          by : (rest : List Planned) → p.rest ≡ rest → HasImages (elim rest as (λ _. Turned V C R) [ [] ↦ record { host = s; turn = turns.Idle } | first ∷ rest ↦ submits o.model o.setup full s (plan_sent o.model o.setup s p first rest) ]).host
           by [] e = absurd (subst (IsRestOf (s.journal.running.number - 1)) e x.rest)
           by (first ∷ rest) e = submits_keeps full _ (plan_sent_keeps p first rest e x)
 

@@ -1,6 +1,8 @@
 -- Worked rows, computed by the steps of the host: over a model whose calls say themselves what they touch.
-use Rattle.host_machine.specs.Host.{ByTxFull, ByQuarantine, ByConflict, Waits, advance, commit_step, writeback, flush_step, opened}
+use Rattle.host_machine.specs.Causes as causes
+use Rattle.host_machine.specs.Host.{advance, commit_step, writeback, flush_step, opened}
 use Rattle.host_machine.specs.Model.{Kind, Changing, FileBarrier, DataBarrier, FileSync, FileBlock, Touched, Freed, Zones, Model}
+use Rattle.host_machine.specs.Outcomes as outcomes
 use Rattle.host_machine.specs.Parts.{without_all, LogRing}
 use Rattle.host_machine.specs.State.{Answered, What, Begins, Ends, Entry, Host, Setup}
 use Rattle.order_model.specs.Submission.{kind_block}
@@ -199,7 +201,7 @@ row_9_synced =
 row_9_before : answers row_9_synced ≡ ok ∷ ok ∷ ok ∷ Begins ∷ ok ∷ ok ∷ []
 row_9_before = refl
 
-row_9_waits : (advance model setup false row_9_synced 0).step ≡ Waits (ByQuarantine 1)
+row_9_waits : (advance model setup false row_9_synced 0).step ≡ outcomes.Waiting (causes.Quarantine 1)
 row_9_waits = refl
 
 abbrev row_9_end : State
@@ -224,7 +226,7 @@ mkdir z = changing (z ∷ []) (2 ∷ 3 ∷ 4 ∷ 5 ∷ z ∷ []) [] (0 ∷ z ∷
 abbrev full_end : State
 full_end = run (times 10 (CallOf 0)) (start (6 ∷ 7 ∷ 8 ∷ 9 ∷ 10 ∷ 11 ∷ 12 ∷ 13 ∷ 14 ∷ 15 ∷ 16 ∷ []) (mkdir 6 ∷ mkdir 7 ∷ mkdir 8 ∷ mkdir 9 ∷ mkdir 10 ∷ mkdir 11 ∷ mkdir 12 ∷ mkdir 13 ∷ mkdir 14 ∷ mkdir 15 ∷ mkdir 16 ∷ []))
 
-full_waits : (advance model setup false full_end 0).step ≡ Waits (ByTxFull 16)
+full_waits : (advance model setup false full_end 0).step ≡ outcomes.Waiting (causes.TxFull 16)
 full_waits = refl
 
 -- ---- conflicts
@@ -238,7 +240,7 @@ row_14_held = run (times 3 (CallOf 0) ++ times 10 CommitStep ++ times 4 (CallOf 
 row_14_requests : length (notes_of row_14_held) ≡ 8
 row_14_requests = refl
 
-row_14_waits : (advance model setup false row_14_held 0).step ≡ Waits (ByConflict 2 1)
+row_14_waits : (advance model setup false row_14_held 0).step ≡ outcomes.Waiting (causes.Conflict 2 1)
 row_14_waits = refl
 
 abbrev row_14_end : State

@@ -2,8 +2,11 @@
 use Rattle.blk_base.specs.Members.{In}
 use Rattle.host_machine.proofs.CallSteps.{quiet_keeps, unanswered_quiet, answered_quiet}
 use Rattle.host_machine.proofs.RuleSteps.{entry_rules, change_both, end_both, send_both}
-use Rattle.host_machine.specs.Host.{Cause, ByClosing, ByTxFull, ByQuarantine, ByConflict, ByCommit, ByNeed, ByQueue, Waits, Sent, HasEnded, Stepped, set_wait, set_thread, Goal, ToCommit, ToPass, ToFlush, no_wait, unsent_on, goal_of, wanting, end_with, hindrance, hindered, fits, plain, begin, on_need, on_last_put, on_target, on_goal, on_walk, on_begun, stop_of, on_call, on_thread, advance, send_page, change}
+use Rattle.host_machine.specs.Causes as causes
+use Rattle.host_machine.specs.Causes.{Cause}
+use Rattle.host_machine.specs.Host.{Stepped, set_wait, set_thread, Goal, AwaitCommit, AnswerOk, AwaitLastPut, no_wait, unsent_on, goal_of, wanting, end_with, hindrance, hindered, fits, plain, begin, await_durable, await_last_put, await_commit, pursue, walk_pages, continue_begun, stop_of, step_call, step_thread, advance, send_page, change}
 use Rattle.host_machine.specs.Model.{Model, Kind, is_begun, is_data, is_durable, is_reading, Freed}
+use Rattle.host_machine.specs.Outcomes as outcomes
 use Rattle.host_machine.specs.Parts.{first_page, log_needs}
 use Rattle.host_machine.specs.State.{Ending, Answered, Down, ReadOnly, SessionFull, Begins, Ends, Wait, Begun, Thread, Host, Setup, is_cut, first_failed, at_limit, is_flushed_after, flush_above, last_put, is_closing, is_submitted}
 use Rattle.host_machine.specs.laws.Contract.{Over, Contract}
@@ -96,44 +99,44 @@ module _ {A T V C R : Type 0} {o : Over A T V C R} {Stands : V → T → Type 0}
       full_end : Kept (end_with o.model o.setup s t c rest SessionFull)
       full_end = end_both contract s txs N t c rest SessionFull (unanswered_quiet contract s.history (record { thread = t; call = c; what = Ends SessionFull }) refl) facts
 
-      need_keeps : (w : Wait) (id : ℕ) → Kept (on_need o.model o.setup s t c rest w id)
+      need_keeps : (w : Wait) (id : ℕ) → Kept (await_durable o.model o.setup s t c rest w id)
       need_keeps w id =
           either Kept (list_any (is_flushed_after id) s.journal.flush.taken) _ _ (λ e. passed)
           (λ e. either Kept (at_limit s.journal.flush && not (flush_above id 0 s.journal.flush.notes)) _ _ (λ e. full_end) (λ e. facts))
 
-      last_put_keeps : (w : Wait) → Kept (on_last_put o.model o.setup s t c rest w)
+      last_put_keeps : (w : Wait) → Kept (await_last_put o.model o.setup s t c rest w)
       last_put_keeps w = by (last_put 0 s.journal.flush.notes None)
         where
-          by : (x : Option ℕ) → Kept (elim x as (λ _. Stepped V C R) [ None ↦ end_with o.model o.setup s t c rest (Answered o.model.ok) | Some id ↦ on_need o.model o.setup s t c rest w id ])
+          by : (x : Option ℕ) → Kept (elim x as (λ _. Stepped V C R) [ None ↦ end_with o.model o.setup s t c rest (Answered o.model.ok) | Some id ↦ await_durable o.model o.setup s t c rest w id ])
           by None = passed
           by (Some id) = need_keeps w id
 
-      target_keeps : (w : Wait) (k : ℕ) → Kept (on_target o.model o.setup s t c rest w k)
+      target_keeps : (w : Wait) (k : ℕ) → Kept (await_commit o.model o.setup s t c rest w k)
       target_keeps w k =
           either Kept (is_submitted s.journal k) _ _
           (λ e. either Kept (is_durable w.kind) _ _ (λ e. last_put_keeps w) (λ e. passed))
           (λ e. either Kept (at_limit s.journal.flush) _ _ (λ e. full_end) (λ e. facts))
 
-      goal_keeps : (w : Wait) (g : Goal) → Kept (on_goal o.model o.setup s t c rest w g)
-      goal_keeps w ToPass = passed
-      goal_keeps w ToFlush = last_put_keeps w
-      goal_keeps w (ToCommit k) = either Kept (at_limit s.journal.flush) _ _ (λ e. full_end) (λ e. by (k == s.journal.running.number))
+      goal_keeps : (w : Wait) (g : Goal) → Kept (pursue o.model o.setup s t c rest w g)
+      goal_keeps w AnswerOk = passed
+      goal_keeps w AwaitLastPut = last_put_keeps w
+      goal_keeps w (AwaitCommit k) = either Kept (at_limit s.journal.flush) _ _ (λ e. full_end) (λ e. by (k == s.journal.running.number))
         where
           by : (x : Bool) → Keeps o Stands (if x then wanting o.model o.setup (set_wait o.model o.setup s t (record w { target = Some k })) else set_wait o.model o.setup s t (record w { target = Some k })) txs N
           by true = facts
           by false = facts
 
-      walk_keeps : (full : Bool) (w : Wait) (b : Begun) → Kept (on_walk o.model o.setup full s t c rest w b)
+      walk_keeps : (full : Bool) (w : Wait) (b : Begun) → Kept (walk_pages o.model o.setup full s t c rest w b)
       walk_keeps full w b = by (unsent_on s.pages b.list) refl
         where
           by : (x : Option (CachedPage × List (ℕ × ℕ))) → unsent_on s.pages b.list ≡ x → Kept (elim x as (λ _. Stepped V C R) [
-            | None ↦ on_goal o.model o.setup s t c rest w (goal_of s.journal b)
+            | None ↦ pursue o.model o.setup s t c rest w (goal_of s.journal b)
             | Some next ↦
                 if at_limit s.journal.flush then end_with o.model o.setup s t c rest SessionFull
-                else if full then record { host = s; step = Waits ByQueue }
+                else if full then record { host = s; step = outcomes.Waiting causes.QueueFull }
                 else record {
                   host = set_thread o.model o.setup (send_page o.model o.setup s next.0 true (is_data b.kind && is_none (unsent_on s.pages next.1))) t (record { calls = c ∷ rest; begun = Some (record b { list = next.1; sent_barrier = b.sent_barrier || (is_data b.kind && is_none (unsent_on s.pages next.1)) }) });
-                  step = Sent (length s.journal.flush.requests);
+                  step = outcomes.Sent (length s.journal.flush.requests);
                 }
           ])
           by None e = goal_keeps w (goal_of s.journal b)
@@ -141,14 +144,14 @@ module _ {A T V C R : Type 0} {o : Over A T V C R} {Stands : V → T → Type 0}
               either Kept (at_limit s.journal.flush) _ _ (λ e. full_end)
               (λ d. either Kept full _ _ (λ e. facts) (λ d. send_both contract s txs N facts next.0 true (is_data b.kind && is_none (unsent_on s.pages next.1)) (unsent_on-cached s.pages b.list next e)))
 
-      begun_keeps : (full : Bool) (w : Wait) (b : Begun) → Kept (on_begun o.model o.setup full s t c rest w b)
+      begun_keeps : (full : Bool) (w : Wait) (b : Begun) → Kept (continue_begun o.model o.setup full s t c rest w b)
       begun_keeps full w b = by w.need
         where
-          second : (x : Option ℕ) → Kept (elim x as (λ _. Stepped V C R) [ Some k ↦ on_target o.model o.setup s t c rest w k | None ↦ on_walk o.model o.setup full s t c rest w b ])
+          second : (x : Option ℕ) → Kept (elim x as (λ _. Stepped V C R) [ Some k ↦ await_commit o.model o.setup s t c rest w k | None ↦ walk_pages o.model o.setup full s t c rest w b ])
           second None = walk_keeps full w b
           second (Some k) = target_keeps w k
 
-          by : (x : Option ℕ) → Kept (elim x as (λ _. Stepped V C R) [ Some id ↦ on_need o.model o.setup s t c rest w id | None ↦ elim w.target as (λ _. Stepped V C R) [ Some k ↦ on_target o.model o.setup s t c rest w k | None ↦ on_walk o.model o.setup full s t c rest w b ] ])
+          by : (x : Option ℕ) → Kept (elim x as (λ _. Stepped V C R) [ Some id ↦ await_durable o.model o.setup s t c rest w id | None ↦ elim w.target as (λ _. Stepped V C R) [ Some k ↦ await_commit o.model o.setup s t c rest w k | None ↦ walk_pages o.model o.setup full s t c rest w b ] ])
           by None = second w.target
           by (Some id) = need_keeps w id
 
@@ -160,39 +163,39 @@ module _ {A T V C R : Type 0} {o : Over A T V C R} {Stands : V → T → Type 0}
         lacks : ℕ
         lacks = o.model.needs s.volume c - length (o.model.zones s.volume).free
 
-        fourth : (x : Bool) → (if x then Some (ByQuarantine lacks) else None) ≡ None → x ≡ false
-        fourth true n = absurd (none-some (ByQuarantine lacks) (sym n))
+        fourth : (x : Bool) → (if x then Some (causes.Quarantine lacks) else None) ≡ None → x ≡ false
+        fourth true n = absurd (none-some (causes.Quarantine lacks) (sym n))
         fourth false n = refl
 
-        third : (x : Bool) → (if not x then Some (ByTxFull (log_needs s.journal.running)) else if nat_lt (length (o.model.zones s.volume).free) (o.model.needs s.volume c) then Some (ByQuarantine lacks) else None) ≡ None
+        third : (x : Bool) → (if not x then Some (causes.TxFull (log_needs s.journal.running)) else if nat_lt (length (o.model.zones s.volume).free) (o.model.needs s.volume c) then Some (causes.Quarantine lacks) else None) ≡ None
             → nat_lt (length (o.model.zones s.volume).free) (o.model.needs s.volume c) ≡ false
         third true n = fourth (nat_lt (length (o.model.zones s.volume).free) (o.model.needs s.volume c)) n
-        third false n = absurd (none-some (ByTxFull (log_needs s.journal.running)) (sym n))
+        third false n = absurd (none-some (causes.TxFull (log_needs s.journal.running)) (sym n))
 
-        second : (x : Bool) → (if x then Some ByClosing else if not (fits o.model o.setup s.journal.running) then Some (ByTxFull (log_needs s.journal.running)) else if nat_lt (length (o.model.zones s.volume).free) (o.model.needs s.volume c) then Some (ByQuarantine lacks) else None) ≡ None
+        second : (x : Bool) → (if x then Some causes.Closing else if not (fits o.model o.setup s.journal.running) then Some (causes.TxFull (log_needs s.journal.running)) else if nat_lt (length (o.model.zones s.volume).free) (o.model.needs s.volume c) then Some (causes.Quarantine lacks) else None) ≡ None
             → nat_lt (length (o.model.zones s.volume).free) (o.model.needs s.volume c) ≡ false
-        second true n = absurd (none-some ByClosing (sym n))
+        second true n = absurd (none-some causes.Closing (sym n))
         second false n = third (fits o.model o.setup s.journal.running) n
 
-        first : (x : Bool) → x ≡ true → (if not x then None else if is_closing s.journal.phase then Some ByClosing else if not (fits o.model o.setup s.journal.running) then Some (ByTxFull (log_needs s.journal.running)) else if nat_lt (length (o.model.zones s.volume).free) (o.model.needs s.volume c) then Some (ByQuarantine lacks) else None) ≡ None
+        first : (x : Bool) → x ≡ true → (if not x then None else if is_closing s.journal.phase then Some causes.Closing else if not (fits o.model o.setup s.journal.running) then Some (causes.TxFull (log_needs s.journal.running)) else if nat_lt (length (o.model.zones s.volume).free) (o.model.needs s.volume c) then Some (causes.Quarantine lacks) else None) ≡ None
             → nat_lt (length (o.model.zones s.volume).free) (o.model.needs s.volume c) ≡ false
         first true d n = second (is_closing s.journal.phase) n
         first false d n = absurd (false≢true d)
 
     hindered_keeps : (cause : Cause) → Keeps o Stands (hindered o.model o.setup s cause) txs N
-    hindered_keeps ByClosing = facts
-    hindered_keeps (ByTxFull n) = facts
-    hindered_keeps (ByQuarantine n) = either (λ x. Keeps o Stands x txs N) (nat_lt (length (filter (λ (z : Freed). nat_lt z.transaction s.journal.running.number) (o.model.zones s.volume).waiting)) n) (wanting o.model o.setup s) s (λ e. facts) (λ e. facts)
-    hindered_keeps (ByConflict b k) = facts
-    hindered_keeps (ByCommit k) = facts
-    hindered_keeps (ByNeed k) = facts
-    hindered_keeps ByQueue = facts
+    hindered_keeps causes.Closing = facts
+    hindered_keeps (causes.TxFull n) = facts
+    hindered_keeps (causes.Quarantine n) = either (λ x. Keeps o Stands x txs N) (nat_lt (length (filter (λ (z : Freed). nat_lt z.transaction s.journal.running.number) (o.model.zones s.volume).waiting)) n) (wanting o.model o.setup s) s (λ e. facts) (λ e. facts)
+    hindered_keeps (causes.Conflict b k) = facts
+    hindered_keeps (causes.Commit k) = facts
+    hindered_keeps (causes.Durable k) = facts
+    hindered_keeps causes.QueueFull = facts
 
     plain_keeps : (t : ℕ) (c : C) (rest : List C) → o.model.reply s.volume c ≡ None → is_begun (o.model.kind c) ≡ false → Kept (plain o.model o.setup s t c rest)
     plain_keeps t c rest accepted not_begun = by (hindrance o.model o.setup s c) refl
       where
         by : (x : Option Cause) → hindrance o.model o.setup s c ≡ x → Kept (elim x as (λ _. Stepped V C R) [
-          | Some cause ↦ if at_limit s.journal.flush then end_with o.model o.setup s t c rest SessionFull else record { host = hindered o.model o.setup s cause; step = Waits cause }
+          | Some cause ↦ if at_limit s.journal.flush then end_with o.model o.setup s t c rest SessionFull else record { host = hindered o.model o.setup s cause; step = outcomes.Waiting cause }
           | None ↦ end_with o.model o.setup (change o.model o.setup s c (o.model.apply s.volume (length s.history + 1) s.journal.running.number c)) t c rest (Answered (o.model.apply s.volume (length s.history + 1) s.journal.running.number c).reply)
         ])
         by None e = change_both contract s txs N t c rest facts accepted not_begun (enough c e)
@@ -203,7 +206,7 @@ module _ {A T V C R : Type 0} {o : Over A T V C R} {Stands : V → T → Type 0}
 
     -- ---- a caller's step; a begun call is a barrier or sync call
 
-    call_keeps : (full : Bool) (t : ℕ) (b : Option Begun) (c : C) (rest : List C) → ((x : Begun) → b ≡ Some x → is_begun (o.model.kind c) ≡ true) → Kept (on_call o.model o.setup full s t b c rest)
+    call_keeps : (full : Bool) (t : ℕ) (b : Option Begun) (c : C) (rest : List C) → ((x : Begun) → b ≡ Some x → is_begun (o.model.kind c) ≡ true) → Kept (step_call o.model o.setup full s t b c rest)
     call_keeps full t (Some b) c rest begins = begun_keeps t c rest (begins b refl) full (slice_index_or s.journal.flush.waits t no_wait) b
     call_keeps full t None c rest begins = by (o.model.reply s.volume c) refl
       where
@@ -229,11 +232,11 @@ module _ {A T V C R : Type 0} {o : Over A T V C R} {Stands : V → T → Type 0}
         by (ReadOnly id) d = end_both contract s txs N t c rest (ReadOnly id) (unanswered_quiet contract s.history (record { thread = t; call = c; what = Ends (ReadOnly id) }) refl) facts
         by SessionFull d = end_both contract s txs N t c rest SessionFull (unanswered_quiet contract s.history (record { thread = t; call = c; what = Ends SessionFull }) refl) facts
 
-    thread_keeps : (full : Bool) (t : ℕ) (b : Option Begun) (calls : List C) → ((c : C) (rest : List C) (x : Begun) → calls ≡ c ∷ rest → b ≡ Some x → is_begun (o.model.kind c) ≡ true) → Kept (on_thread o.model o.setup full s t b calls)
+    thread_keeps : (full : Bool) (t : ℕ) (b : Option Begun) (calls : List C) → ((c : C) (rest : List C) (x : Begun) → calls ≡ c ∷ rest → b ≡ Some x → is_begun (o.model.kind c) ≡ true) → Kept (step_thread o.model o.setup full s t b calls)
     thread_keeps full t b [] begins = facts
     thread_keeps full t b (c ∷ rest) begins = by (stop_of o.model o.setup s.journal.flush.taken (o.model.kind c)) refl
       where
-        by : (x : Option (Ending R)) → stop_of o.model o.setup s.journal.flush.taken (o.model.kind c) ≡ x → Kept (elim x as (λ _. Stepped V C R) [ Some stop ↦ end_with o.model o.setup s t c rest stop | None ↦ on_call o.model o.setup full s t b c rest ])
+        by : (x : Option (Ending R)) → stop_of o.model o.setup s.journal.flush.taken (o.model.kind c) ≡ x → Kept (elim x as (λ _. Stepped V C R) [ Some stop ↦ end_with o.model o.setup s t c rest stop | None ↦ step_call o.model o.setup full s t b c rest ])
         by None e = call_keeps full t b c rest (λ x d. begins c rest x refl d)
         by (Some stop) e = stop_keeps t c rest stop e
 
@@ -241,6 +244,6 @@ module _ {A T V C R : Type 0} {o : Over A T V C R} {Stands : V → T → Type 0}
         → Keeps o Stands (advance o.model o.setup full s t).host txs N
     advance_keeps full t begins = by (slice_get s.threads t) refl
       where
-        by : (x : Option (Thread C)) → slice_get s.threads t ≡ x → Kept (elim x as (λ _. Stepped V C R) [ None ↦ record { host = s; step = HasEnded } | Some th ↦ on_thread o.model o.setup full s t th.begun th.calls ])
+        by : (x : Option (Thread C)) → slice_get s.threads t ≡ x → Kept (elim x as (λ _. Stepped V C R) [ None ↦ record { host = s; step = outcomes.Ended } | Some th ↦ step_thread o.model o.setup full s t th.begun th.calls ])
         by None e = facts
         by (Some th) e = thread_keeps full t th.begun th.calls (λ c rest x q d. begins th c rest x e q d)

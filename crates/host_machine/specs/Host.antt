@@ -1,6 +1,10 @@
 -- The steps of the host: a caller's, the commit actor's, the write-back's and the flush actor's. `full` says
 -- that the submission queue was full.
+use Rattle.host_machine.specs.Causes as causes
+use Rattle.host_machine.specs.Causes.{Cause}
 use Rattle.host_machine.specs.Model.{Model, Kind, Reading, FileSync, DataSync, WholeSync, is_begun, is_data, is_durable, is_reading, is_whole, Freed, FileBlock, Touched, Applied}
+use Rattle.host_machine.specs.Outcomes as outcomes
+use Rattle.host_machine.specs.Outcomes.{Step}
 use Rattle.host_machine.specs.Parts.{has, with_all, without_all, first_page, Running, fresh, log_blocks_for, log_needs, Held, Conflicts, hold, want, unhold, least, LogRing, ring_free, place_blocks, commit_bodies, home_sent, all_home}
 use Rattle.host_machine.specs.Plan.{Planned, plan_of}
 use Rattle.host_machine.specs.State.{Ending, Answered, Down, ReadOnly, SessionFull, What, Begins, Ends, Wait, FlushPart, Plan, Phase, Idle, Closing, Committing, JournalPart, Begun, Thread, Host, Setup, is_cut, first_failed, is_over, at_limit, is_moved, is_flushed_after, flush_above, last_put, is_closing, is_submitted, latest_change, submit}
@@ -10,6 +14,8 @@ use Rattle.order_model.specs.declared.completion.Completion.{Completion}
 use Rattle.order_model.specs.declared.note.Note.TheVariants as notes
 use Rattle.order_model.specs.declared.note.Note.{Note}
 use Rattle.order_model.specs.declared.request.Kind.TheVariants as puts
+use Rattle.order_model.specs.declared.turn.Turn.TheVariants as turns
+use Rattle.order_model.specs.declared.turn.Turn.{Turn}
 use Rattle.page_cache.specs.Pages.{is_unsent, is_dirty, page_at, put_page, drop_page, marked}
 use Rattle.page_cache.specs.declared.cached_page.CachedPage.{CachedPage}
 use Rattle.page_cache.specs.declared.cached_page.PageState.TheVariants.{Dirty, Loose, Firm}
@@ -17,32 +23,7 @@ use Rattle.std.specs.List.{filter, list_any}
 use Rattle.std.specs.Option.{option_map}
 use Rattle.std.specs.Prelude.{ℕ, ◌+◌, ◌-◌, ◌==◌, Bool, true, false, not, ◌&&◌, ◌||◌, nat_lt, nat_le, List, [], ◌∷◌, ◌++◌, length, map, set, replicate, Option, Some, None, is_none, slice_get, slice_index_or, if◌then◌else◌}
 
--- ---- answers
-
-pub data Cause : Type 0 where
-  ByClosing : Cause
-  ByTxFull : ℕ → Cause
-  ByQuarantine : ℕ → Cause
-  ByConflict : ℕ → ℕ → Cause
-  ByCommit : ℕ → Cause
-  ByNeed : ℕ → Cause
-  ByQueue : Cause
-
-pub data Step (R : Type 0) : Type 0 where
-  Done : R → Step R
-  HasBegun : Step R
-  Sent : ℕ → Step R
-  Waits : Cause → Step R
-  HasEnded : Step R
-  IsReadOnly : ℕ → Step R
-  IsDown : Step R
-  IsFull : Step R
-
-pub data Turn : Type 0 where
-  NothingToDo : Turn
-  Did : Turn
-  QueueFull : Turn
-  LimitReached : Turn
+-- ---- a step and what it answers
 
 pub record Stepped (V C R : Type 0) : Type 0 where
   pub host : Host V C R
@@ -66,19 +47,19 @@ unsent_on pages (k ∷ ks) =
 
 -- what a begun call does when no page is left: it waits for a transaction, is done, or needs the last put
 pub data Goal : Type 0 where
-  ToCommit : ℕ → Goal
-  ToPass : Goal
-  ToFlush : Goal
+  AwaitCommit : ℕ → Goal
+  AnswerOk : Goal
+  AwaitLastPut : Goal
 
 abbrev pub data_goal : Kind → Bool → ℕ → Goal
-data_goal DataSync sent running = ToFlush
-data_goal other sent running = if sent then ToPass else ToCommit running
+data_goal DataSync sent running = AwaitLastPut
+data_goal other sent running = if sent then AnswerOk else AwaitCommit running
 
 abbrev pub goal_of : JournalPart → Begun → Goal
 goal_of j b =
     if is_data b.kind then
-    elim (latest_change j b.file) as (λ _. Goal) [ Some k ↦ ToCommit k | None ↦ data_goal b.kind b.sent_barrier j.running.number ]
-    else ToCommit j.running.number
+    elim (latest_change j b.file) as (λ _. Goal) [ Some k ↦ AwaitCommit k | None ↦ data_goal b.kind b.sent_barrier j.running.number ]
+    else AwaitCommit j.running.number
 
 -- the transaction that holds a block
 abbrev pub holder : List Held → ℕ → ℕ
@@ -89,8 +70,8 @@ holder (h ∷ hs) b = if h.block == b then h.transaction else holder hs b
 abbrev pub cause_of : JournalPart → ℕ → Cause
 cause_of j k =
     if k == j.running.number then
-    elim (least j.flush.conflicts) as (λ _. Cause) [ Some b ↦ ByConflict b (holder j.flush.conflicts.held b) | None ↦ ByCommit k ]
-    else ByCommit k
+    elim (least j.flush.conflicts) as (λ _. Cause) [ Some b ↦ causes.Conflict b (holder j.flush.conflicts.held b) | None ↦ causes.Commit k ]
+    else causes.Commit k
 
 -- the commit block of transaction k is request id: the calls that it makes durable need it
 abbrev pub need_commit : ℕ → ℕ → Wait → Wait
@@ -175,10 +156,10 @@ module _ {T V C R : Type 0} (M : Model T V C R) (u : Setup) where
   end_call s t c rest e = set_wait (set_thread (note_entry s t c (Ends e)) t (record { calls = rest; begun = None })) t no_wait
 
   abbrev pub ended_by : Ending R → Step R
-  ended_by (Answered r) = Done r
-  ended_by Down = IsDown
-  ended_by (ReadOnly id) = IsReadOnly id
-  ended_by SessionFull = IsFull
+  ended_by (Answered r) = outcomes.Done r
+  ended_by Down = outcomes.Down
+  ended_by (ReadOnly id) = outcomes.ReadOnly id
+  ended_by SessionFull = outcomes.SessionFull
 
   abbrev pub end_with : Host V C R → ℕ → C → List C → Ending R → Stepped V C R
   end_with s t c rest e = record { host = end_call s t c rest e; step = ended_by e }
@@ -229,25 +210,25 @@ module _ {T V C R : Type 0} (M : Model T V C R) (u : Setup) where
   abbrev pub hindrance : Host V C R → C → Option Cause
   hindrance s c =
       if not (M.hinders s.volume c) then None
-      else if is_closing s.journal.phase then Some ByClosing
-      else if not (fits s.journal.running) then Some (ByTxFull (log_needs s.journal.running))
+      else if is_closing s.journal.phase then Some causes.Closing
+      else if not (fits s.journal.running) then Some (causes.TxFull (log_needs s.journal.running))
       else
       let free = length (M.zones s.volume).free in
       let needs = M.needs s.volume c in
-      if nat_lt free needs then Some (ByQuarantine (needs - free)) else None
+      if nat_lt free needs then Some (causes.Quarantine (needs - free)) else None
 
   -- it wants the running transaction closed: where that is full, and where the zones that wait for closed
   -- transactions do not suffice
   abbrev pub hindered : Host V C R → Cause → Host V C R
-  hindered s (ByTxFull blocks) = wanting s
-  hindered s (ByQuarantine lacks) =
+  hindered s (causes.TxFull blocks) = wanting s
+  hindered s (causes.Quarantine lacks) =
       if nat_lt (length (filter (λ (z : Freed). nat_lt z.transaction s.journal.running.number) (M.zones s.volume).waiting)) lacks then wanting s else s
   hindered s other = s
 
   abbrev pub plain : Host V C R → ℕ → C → List C → Stepped V C R
   plain s t c rest =
       elim (hindrance s c) as (λ _. Stepped V C R) [
-        | Some cause ↦ if at_limit s.journal.flush then end_with s t c rest SessionFull else record { host = hindered s cause; step = Waits cause }
+        | Some cause ↦ if at_limit s.journal.flush then end_with s t c rest SessionFull else record { host = hindered s cause; step = outcomes.Waiting cause }
         | None ↦
             let a = M.apply s.volume (length s.history + 1) s.journal.running.number c in
             end_with (change s c a) t c rest (Answered a.reply)
@@ -267,64 +248,64 @@ module _ {T V C R : Type 0} (M : Model T V C R) (u : Setup) where
       let b : Begun = record { begin = length s.history + 1; kind = kind; file = file; list = listed s.pages kind file; sent_barrier = false } in
       record {
         host = set_wait (set_thread (note_entry s t c Begins) t (record { calls = c ∷ rest; begun = Some b })) t (record { kind = kind; target = None; need = None });
-        step = HasBegun;
+        step = outcomes.Begun;
       }
 
   -- it needs request id durable
-  abbrev pub on_need : Host V C R → ℕ → C → List C → Wait → ℕ → Stepped V C R
-  on_need s t c rest w id =
+  abbrev pub await_durable : Host V C R → ℕ → C → List C → Wait → ℕ → Stepped V C R
+  await_durable s t c rest w id =
       let f = s.journal.flush in
       if list_any (is_flushed_after id) f.taken then end_with s t c rest (Answered M.ok)
       else if at_limit f && not (flush_above id 0 f.notes) then end_with s t c rest SessionFull
-      else record { host = set_wait s t (record w { need = Some id }); step = Waits (ByNeed id) }
+      else record { host = set_wait s t (record w { need = Some id }); step = outcomes.Waiting (causes.Durable id) }
 
   -- it needs the last put durable, if there is one
-  abbrev pub on_last_put : Host V C R → ℕ → C → List C → Wait → Stepped V C R
-  on_last_put s t c rest w =
+  abbrev pub await_last_put : Host V C R → ℕ → C → List C → Wait → Stepped V C R
+  await_last_put s t c rest w =
       elim (last_put 0 s.journal.flush.notes None) as (λ _. Stepped V C R) [
         | None ↦ end_with s t c rest (Answered M.ok)
-        | Some id ↦ on_need s t c rest w id
+        | Some id ↦ await_durable s t c rest w id
       ]
 
   -- it waits for transaction k
-  abbrev pub on_target : Host V C R → ℕ → C → List C → Wait → ℕ → Stepped V C R
-  on_target s t c rest w k =
+  abbrev pub await_commit : Host V C R → ℕ → C → List C → Wait → ℕ → Stepped V C R
+  await_commit s t c rest w k =
       if is_submitted s.journal k then
-      if is_durable w.kind then on_last_put s t c rest w else end_with s t c rest (Answered M.ok)
+      if is_durable w.kind then await_last_put s t c rest w else end_with s t c rest (Answered M.ok)
       else if at_limit s.journal.flush then end_with s t c rest SessionFull
-      else record { host = s; step = Waits (cause_of s.journal k) }
+      else record { host = s; step = outcomes.Waiting (cause_of s.journal k) }
 
   -- no page is left on its list
-  abbrev pub on_goal : Host V C R → ℕ → C → List C → Wait → Goal → Stepped V C R
-  on_goal s t c rest w ToPass = end_with s t c rest (Answered M.ok)
-  on_goal s t c rest w ToFlush = on_last_put s t c rest w
-  on_goal s t c rest w (ToCommit k) =
+  abbrev pub pursue : Host V C R → ℕ → C → List C → Wait → Goal → Stepped V C R
+  pursue s t c rest w AnswerOk = end_with s t c rest (Answered M.ok)
+  pursue s t c rest w AwaitLastPut = await_last_put s t c rest w
+  pursue s t c rest w (AwaitCommit k) =
       if at_limit s.journal.flush then end_with s t c rest SessionFull
       else
       let next = set_wait s t (record w { target = Some k }) in
-      record { host = if k == s.journal.running.number then wanting next else next; step = Waits (cause_of s.journal k) }
+      record { host = if k == s.journal.running.number then wanting next else next; step = outcomes.Waiting (cause_of s.journal k) }
 
   -- the next page on its list; where that is the last one left, a data call sends it as a barrier
-  abbrev pub on_walk : Bool → Host V C R → ℕ → C → List C → Wait → Begun → Stepped V C R
-  on_walk full s t c rest w b =
+  abbrev pub walk_pages : Bool → Host V C R → ℕ → C → List C → Wait → Begun → Stepped V C R
+  walk_pages full s t c rest w b =
       elim (unsent_on s.pages b.list) as (λ _. Stepped V C R) [
-        | None ↦ on_goal s t c rest w (goal_of s.journal b)
+        | None ↦ pursue s t c rest w (goal_of s.journal b)
         | Some next ↦
             if at_limit s.journal.flush then end_with s t c rest SessionFull
-            else if full then record { host = s; step = Waits ByQueue }
+            else if full then record { host = s; step = outcomes.Waiting causes.QueueFull }
             else
             let barrier = is_data b.kind && is_none (unsent_on s.pages next.1) in
             record {
               host = set_thread (send_page s next.0 true barrier) t (record { calls = c ∷ rest; begun = Some (record b { list = next.1; sent_barrier = b.sent_barrier || barrier }) });
-              step = Sent (length s.journal.flush.requests);
+              step = outcomes.Sent (length s.journal.flush.requests);
             }
       ]
 
-  abbrev pub on_begun : Bool → Host V C R → ℕ → C → List C → Wait → Begun → Stepped V C R
-  on_begun full s t c rest w b =
+  abbrev pub continue_begun : Bool → Host V C R → ℕ → C → List C → Wait → Begun → Stepped V C R
+  continue_begun full s t c rest w b =
       elim w.need as (λ _. Stepped V C R) [
-        | Some id ↦ on_need s t c rest w id
-        | None ↦ elim w.target as (λ _. Stepped V C R) [ Some k ↦ on_target s t c rest w k | None ↦ on_walk full s t c rest w b ]
+        | Some id ↦ await_durable s t c rest w id
+        | None ↦ elim w.target as (λ _. Stepped V C R) [ Some k ↦ await_commit s t c rest w k | None ↦ walk_pages full s t c rest w b ]
       ]
 
   -- ---- a caller's step
@@ -336,27 +317,27 @@ module _ {T V C R : Type 0} (M : Model T V C R) (u : Setup) where
       else if is_reading kind then None
       else option_map ReadOnly (first_failed taken)
 
-  abbrev pub on_call : Bool → Host V C R → ℕ → Option Begun → C → List C → Stepped V C R
-  on_call full s t (Some b) c rest = on_begun full s t c rest (slice_index_or s.journal.flush.waits t no_wait) b
-  on_call full s t None c rest =
+  abbrev pub step_call : Bool → Host V C R → ℕ → Option Begun → C → List C → Stepped V C R
+  step_call full s t (Some b) c rest = continue_begun full s t c rest (slice_index_or s.journal.flush.waits t no_wait) b
+  step_call full s t None c rest =
       elim (M.reply s.volume c) as (λ _. Stepped V C R) [
         | Some refusal ↦ end_with s t c rest (Answered refusal)
         | None ↦ if is_begun (M.kind c) then begin s t c rest else plain s t c rest
       ]
 
-  abbrev pub on_thread : Bool → Host V C R → ℕ → Option Begun → List C → Stepped V C R
-  on_thread full s t begun [] = record { host = s; step = HasEnded }
-  on_thread full s t begun (c ∷ rest) =
+  abbrev pub step_thread : Bool → Host V C R → ℕ → Option Begun → List C → Stepped V C R
+  step_thread full s t begun [] = record { host = s; step = outcomes.Ended }
+  step_thread full s t begun (c ∷ rest) =
       elim (stop_of s.journal.flush.taken (M.kind c)) as (λ _. Stepped V C R) [
         | Some stop ↦ end_with s t c rest stop
-        | None ↦ on_call full s t begun c rest
+        | None ↦ step_call full s t begun c rest
       ]
 
   abbrev pub advance : Bool → Host V C R → ℕ → Stepped V C R
   advance full s t =
       elim (slice_get s.threads t) as (λ _. Stepped V C R) [
-        | None ↦ record { host = s; step = HasEnded }
-        | Some th ↦ on_thread full s t th.begun th.calls
+        | None ↦ record { host = s; step = outcomes.Ended }
+        | Some th ↦ step_thread full s t th.begun th.calls
       ]
 
   -- ---- the actors' steps
@@ -364,9 +345,9 @@ module _ {T V C R : Type 0} (M : Model T V C R) (u : Setup) where
   -- one that submits; `out` is the host after it
   abbrev pub submits : Bool → Host V C R → Host V C R → Turned V C R
   submits full s out =
-      if at_limit s.journal.flush then record { host = s; turn = LimitReached }
-      else if full then record { host = s; turn = QueueFull }
-      else record { host = out; turn = Did }
+      if at_limit s.journal.flush then record { host = s; turn = turns.SessionFull }
+      else if full then record { host = s; turn = turns.QueueFull }
+      else record { host = out; turn = turns.Did }
 
   -- the plan of the running transaction is built, and its cut is noted; the next transaction runs
   abbrev pub build_plan : Host V C R → Host V C R
@@ -387,10 +368,10 @@ module _ {T V C R : Type 0} (M : Model T V C R) (u : Setup) where
 
   -- one step of the checkpoint: the next body goes home, the last one as a barrier; then the superblock of
   -- the new tail goes out as a barrier
-  abbrev pub check_out : Host V C R → List Logged → Host V C R
-  check_out s (h ∷ hs) =
+  abbrev pub checkpoint : Host V C R → List Logged → Host V C R
+  checkpoint s (h ∷ hs) =
       put_out (record s { journal = record s.journal { ring = home_sent s.journal.ring } }) (notes.Home h.block) h.block h.body true (elim hs as (λ _. Bool) [ [] ↦ true | x ∷ xs ↦ false ])
-  check_out s [] =
+  checkpoint s [] =
       put_out (record s { journal = record s.journal { ring = all_home s.journal.ring } }) notes.Super u.journal (u.writers.super (u.sequence + (s.journal.running.number - 1)) s.journal.ring.head) true true
 
   -- in Closing: the pages of changed files, the checkpoint where there is too little room, the plan
@@ -399,8 +380,8 @@ module _ {T V C R : Type 0} (M : Model T V C R) (u : Setup) where
       elim (first_page (λ p. is_unsent p.state && has s.journal.running.changed p.birth) s.pages) as (λ _. Turned V C R) [
         | Some p ↦ submits full s (send_page s p true false)
         | None ↦
-            if nat_lt (ring_free s.journal.ring) (log_needs s.journal.running) then submits full s (check_out s s.journal.ring.homes)
-            else record { host = build_plan s; turn = Did }
+            if nat_lt (ring_free s.journal.ring) (log_needs s.journal.running) then submits full s (checkpoint s s.journal.ring.homes)
+            else record { host = build_plan s; turn = turns.Did }
       ]
 
   -- the last request of a plan is the commit block of transaction k
@@ -421,21 +402,21 @@ module _ {T V C R : Type 0} (M : Model T V C R) (u : Setup) where
 
   abbrev pub in_phase : Bool → Host V C R → Phase → Turned V C R
   in_phase full s Idle =
-      if s.journal.running.wanted && is_none (least s.journal.flush.conflicts) then record { host = record s { journal = record s.journal { phase = Closing } }; turn = Did }
-      else record { host = s; turn = NothingToDo }
+      if s.journal.running.wanted && is_none (least s.journal.flush.conflicts) then record { host = record s { journal = record s.journal { phase = Closing } }; turn = turns.Did }
+      else record { host = s; turn = turns.Idle }
   in_phase full s Closing = close_step full s
   in_phase full s (Committing p) =
-      elim p.rest as (λ _. Turned V C R) [ [] ↦ record { host = s; turn = NothingToDo } | first ∷ rest ↦ submits full s (plan_sent s p first rest) ]
+      elim p.rest as (λ _. Turned V C R) [ [] ↦ record { host = s; turn = turns.Idle } | first ∷ rest ↦ submits full s (plan_sent s p first rest) ]
 
   abbrev pub commit_step : Bool → Host V C R → Turned V C R
-  commit_step full s = if is_over s.journal.flush then record { host = s; turn = NothingToDo } else in_phase full s s.journal.phase
+  commit_step full s = if is_over s.journal.flush then record { host = s; turn = turns.Idle } else in_phase full s s.journal.phase
 
   -- the Dirty page of this number; orderless where the transaction that took its zone is submitted
   abbrev pub writeback : Bool → Host V C R → ℕ → Turned V C R
   writeback full s pick =
-      if is_over s.journal.flush then record { host = s; turn = NothingToDo }
+      if is_over s.journal.flush then record { host = s; turn = turns.Idle }
       else elim (slice_get (filter (λ (p : CachedPage). is_dirty p.state) s.pages) pick) as (λ _. Turned V C R) [
-        | None ↦ record { host = s; turn = NothingToDo }
+        | None ↦ record { host = s; turn = turns.Idle }
         | Some p ↦ submits full s (send_page s p (not (is_submitted s.journal (slice_index_or s.owners p.block 0))) false)
       ]
 
@@ -445,8 +426,8 @@ module _ {T V C R : Type 0} (M : Model T V C R) (u : Setup) where
       let f = s.journal.flush in
       if flush_due f then submits full s (with_flush s (submit (record { id = length f.requests; kind = puts.Flush; ordered = true; barrier = true }) notes.Flush f))
       else elim next as (λ _. Turned V C R) [
-        | None ↦ record { host = s; turn = NothingToDo }
-        | Some c ↦ record { host = with_flush s (take_completion c f); turn = Did }
+        | None ↦ record { host = s; turn = turns.Idle }
+        | Some c ↦ record { host = with_flush s (take_completion c f); turn = turns.Did }
       ]
 
   -- the host of a session that is opened: with a volume, the log's places, as many zones, and programs

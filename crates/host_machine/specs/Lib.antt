@@ -2,6 +2,8 @@ pub mod Model
 pub mod Parts
 pub mod Plan
 pub mod State
+pub mod Causes
+pub mod Outcomes
 pub mod Host
 pub mod Views
 pub mod laws

@@ -1,5 +1,6 @@
 -- The whole steps of the commit actor, the write-back and the flush actor keep the order rules, the facts of images
 -- and of the ring, and those of all begun calls.
+use Rattle.host_runs.specs.laws.Kept.{HasRules}
 use Rattle.blk_base.specs.Members.{In, In-filter, slice_get-In, slice_get-in_range}
 use Rattle.crash_laws.proofs.Growing.{note_new}
 use Rattle.crash_laws.specs.Session.{HasNote, IsCommit}
@@ -9,7 +10,7 @@ use Rattle.host_machine.proofs.PartsLaws.{In-has}
 use Rattle.host_machine.proofs.PlanSteps.{commit_keeps}
 use Rattle.host_machine.proofs.Sends.{plainly}
 use Rattle.host_machine.proofs.Steps.{first_page-In, none_first, either}
-use Rattle.host_machine.specs.Host.{NothingToDo, Did, Turned, submits, build_plan, check_out, close_step, plan_sent, in_phase, commit_step, writeback, flush_step, flush_due, take_completion, send_page, send_planned, committed, need_commit, with_flush}
+use Rattle.host_machine.specs.Host.{Turned, submits, build_plan, checkpoint, close_step, plan_sent, in_phase, commit_step, writeback, flush_step, flush_due, take_completion, send_page, send_planned, committed, need_commit, with_flush}
 use Rattle.host_machine.specs.Model.{Kind, FileSync, WholeSync, is_data}
 use Rattle.host_machine.specs.Parts.{has, first_page, least, log_needs, ring_free}
 use Rattle.host_machine.specs.Plan.{Planned}
@@ -18,21 +19,21 @@ use Rattle.host_machine.specs.Views.{transaction_of}
 use Rattle.host_machine.specs.laws.Contract.{Over, Contract, H, InPlan, InPhase, session}
 use Rattle.host_machine.specs.laws.PlanNotes.{is_plan_note, IsRestOf}
 use Rattle.host_runs.proofs.BuildHost.{transaction_now, same_history, build_keeps}
-use Rattle.host_runs.proofs.CallFacts.{CallFacts}
-use Rattle.host_runs.proofs.CallHost.{AllCalls, all_kept, all_pushed, all_sent, all_close, all_need, call_told, wait_of, In_wait}
-use Rattle.host_runs.proofs.CallerHost.{Calls, Flushes}
+use Rattle.host_runs.proofs.CallHost.{all_kept, all_pushed, all_sent, all_close, all_need, call_told, In_wait}
 use Rattle.host_runs.proofs.CheckpointSteps.{home_request, super_request}
 use Rattle.host_runs.proofs.FlushFacts.{other_pushed, flush_pushed, waits_mapped, is_whole_sync, commit_opens_none, commit_needed}
-use Rattle.host_runs.proofs.PlanLaws.{IsWord, AreWritten, IsWritable}
-use Rattle.host_runs.proofs.RingFacts.{request_of}
-use Rattle.host_runs.proofs.RingHost.{RingInPhase}
-use Rattle.host_runs.proofs.RulesHost.{KeepsRules, rephased, planned_keeps, committed_keeps, home_keeps, super_keeps, page_keeps, flush_keeps, flush_request}
+use Rattle.host_runs.proofs.RulesHost.{rephased, planned_keeps, committed_keeps, home_keeps, super_keeps, page_keeps, flush_keeps, flush_request}
+use Rattle.host_runs.specs.laws.CallFacts.{AllCalls, wait_of, CallFacts}
+use Rattle.host_runs.specs.laws.Kept.{KeepsRules, Calls, Flushes}
+use Rattle.host_runs.specs.laws.RingFacts.{RingInPhase, request_of}
+use Rattle.host_runs.specs.laws.Written.{IsWord, AreWritten, IsWritable}
 use Rattle.log_model.specs.Marks.{Logged, Transaction}
 use Rattle.order_model.specs.declared.completion.Completion.{Completion}
 use Rattle.order_model.specs.declared.note.Note.TheVariants as notes
 use Rattle.order_model.specs.declared.note.Note.{Note}
 use Rattle.order_model.specs.declared.request.Kind.TheVariants as puts
 use Rattle.order_model.specs.declared.request.Request.{Request}
+use Rattle.order_model.specs.declared.turn.Turn.TheVariants as turns
 use Rattle.page_cache.specs.Pages.{is_unsent, is_dirty, page_at}
 use Rattle.page_cache.specs.declared.cached_page.CachedPage.{CachedPage}
 use Rattle.page_cache.specs.declared.cached_page.PageState.TheVariants.{Clean, Dirty, Loose, Firm}
@@ -52,9 +53,6 @@ sent_state Loose e n = absurd (false≢true (sym e))
 sent_state Firm e n = refl
 
 module _ {A T V C R : Type 0} {o : Over A T V C R} {Stands : V → T → Type 0} (contract : Contract o Stands) where
-  abbrev pub HasRules : Host V C R → Type 0
-  HasRules s = (txs : List Transaction) × (N : ℕ) × KeepsRules contract s txs N × Calls contract txs N s × Flushes contract txs N s
-
   -- another phase with the same facts
   other_phase : {s : Host V C R} {txs : List Transaction} {N : ℕ} (next : Phase) → InPhase o Stands s.history s.cuts (session o Stands txs s) s.journal.running.number N next → RingInPhase (session o Stands txs s) s.journal.ring N next
       → KeepsRules contract s txs N → KeepsRules contract (record s { journal = record s.journal { phase = next } }) txs N
@@ -65,11 +63,11 @@ module _ {A T V C R : Type 0} {o : Over A T V C R} {Stands : V → T → Type 0}
   }
 
   module _ (s : Host V C R) (txs : List Transaction) (N : ℕ) (kept : KeepsRules contract s txs N) (calls : Calls contract txs N s) (flushes : Flushes contract txs N s) where
-    stays : HasRules s
+    stays : HasRules contract s
     stays = (txs, N, kept, calls, flushes)
 
     -- a page goes out, and any other request
-    page_out : (p : CachedPage) (ordered barrier : Bool) → page_at s.pages p.birth p.index ≡ Some p → HasRules (send_page o.model o.setup s p ordered barrier)
+    page_out : (p : CachedPage) (ordered barrier : Bool) → page_at s.pages p.birth p.index ≡ Some p → HasRules contract (send_page o.model o.setup s p ordered barrier)
     page_out p ordered barrier here = (
       txs,
       N,
@@ -86,19 +84,19 @@ module _ {A T V C R : Type 0} {o : Over A T V C R} {Stands : V → T → Type 0}
     pushed : (q : Request) (n : Note) → Calls contract txs N s → AllCalls (H o Stands s.history s.cuts) (after (plainly (session o Stands txs s) kept.images.0.counted q n)) s.pages (length s.history) s.journal.running.number s.threads s.journal.flush.waits
     pushed q n c = all_pushed (plainly (session o Stands txs s) kept.images.0.counted q n) c
 
-    submits_rules : (full : Bool) (out : Host V C R) → HasRules out → HasRules (submits o.model o.setup full s out).host
+    submits_rules : (full : Bool) (out : Host V C R) → HasRules contract out → HasRules contract (submits o.model o.setup full s out).host
     submits_rules full out next =
-        either (λ (x : Turned V C R). HasRules x.host) (at_limit s.journal.flush) _ _ (λ e. stays)
-        (λ e. either (λ (x : Turned V C R). HasRules x.host) full _ _ (λ e. stays) (λ e. next))
+        either (λ (x : Turned V C R). HasRules contract x.host) (at_limit s.journal.flush) _ _ (λ e. stays)
+        (λ e. either (λ (x : Turned V C R). HasRules contract x.host) full _ _ (λ e. stays) (λ e. next))
 
     -- ---- the write-back and the flush actor
 
-    pub writeback_rules : (full : Bool) (pick : ℕ) → HasRules (writeback o.model o.setup full s pick).host
+    pub writeback_rules : (full : Bool) (pick : ℕ) → HasRules contract (writeback o.model o.setup full s pick).host
     writeback_rules full pick =
-        either (λ (x : Turned V C R). HasRules x.host) (is_over s.journal.flush) _ _ (λ e. stays) (λ e. by (slice_get (filter (λ (p : CachedPage). is_dirty p.state) s.pages) pick) refl)
+        either (λ (x : Turned V C R). HasRules contract x.host) (is_over s.journal.flush) _ _ (λ e. stays) (λ e. by (slice_get (filter (λ (p : CachedPage). is_dirty p.state) s.pages) pick) refl)
       where
-        by : (x : Option CachedPage) → slice_get (filter (λ (p : CachedPage). is_dirty p.state) s.pages) pick ≡ x → HasRules (elim x as (λ _. Turned V C R) [
-          | None ↦ record { host = s; turn = NothingToDo }
+        by : (x : Option CachedPage) → slice_get (filter (λ (p : CachedPage). is_dirty p.state) s.pages) pick ≡ x → HasRules contract (elim x as (λ _. Turned V C R) [
+          | None ↦ record { host = s; turn = turns.Idle }
           | Some p ↦ submits o.model o.setup full s (send_page o.model o.setup s p (not (is_submitted s.journal (slice_index_or s.owners p.block 0))) false)
         ]).host
         by None e = stays
@@ -106,13 +104,13 @@ module _ {A T V C R : Type 0} {o : Over A T V C R} {Stands : V → T → Type 0}
             let here = keyed s.pages kept.images.0.rising p (In-filter (λ (p : CachedPage). is_dirty p.state) s.pages p (slice_get-In (filter (λ (p : CachedPage). is_dirty p.state) s.pages) pick p e)).0 in
             submits_rules full _ (page_out p (not (is_submitted s.journal (slice_index_or s.owners p.block 0))) false here)
 
-    pub flush_step_rules : (full : Bool) (next : Option Completion) → HasRules (flush_step o.model o.setup full s next).host
+    pub flush_step_rules : (full : Bool) (next : Option Completion) → HasRules contract (flush_step o.model o.setup full s next).host
     flush_step_rules full next =
-        either (λ (x : Turned V C R). HasRules x.host) (flush_due s.journal.flush) _ _
+        either (λ (x : Turned V C R). HasRules contract x.host) (flush_due s.journal.flush) _ _
         (λ e. submits_rules full _ (txs, N, flush_keeps contract s txs N kept, pushed (flush_request contract s txs N kept) notes.Flush calls, flush_pushed flushes s.journal.flush refl refl e))
         (λ e. by next)
       where
-        by : (x : Option Completion) → HasRules (elim x as (λ _. Turned V C R) [ None ↦ record { host = s; turn = NothingToDo } | Some c ↦ record { host = with_flush o.model o.setup s (take_completion c s.journal.flush); turn = Did } ]).host
+        by : (x : Option Completion) → HasRules contract (elim x as (λ _. Turned V C R) [ None ↦ record { host = s; turn = turns.Idle } | Some c ↦ record { host = with_flush o.model o.setup s (take_completion c s.journal.flush); turn = turns.Did } ]).host
         by None = stays
         by (Some c) = (txs, N, record { rules = kept.rules; images = kept.images; ring = kept.ring }, calls, flushes)
 
@@ -213,43 +211,43 @@ module _ {A T V C R : Type 0} {o : Over A T V C R} {Stands : V → T → Type 0}
               of_thread n th here None e at = sym (ap (λ (v : Wait). v.need) at) ∙ ap (λ (v : Wait). v.need) (calls.idle n th here e)
               of_thread n th here (Some b) e at = none_of b (subst (CallFacts (H o Stands s.history s.cuts) (session o Stands txs s) s.pages (length s.history) s.journal.running.number b) at (calls.each n th b here e)) w.need refl
 
-      check_out_rules : s.journal.phase ≡ Closing → (homes : List Logged) → s.journal.ring.homes ≡ homes → HasRules (check_out o.model o.setup s homes)
+      check_out_rules : s.journal.phase ≡ Closing → (homes : List Logged) → s.journal.ring.homes ≡ homes → HasRules contract (checkpoint o.model o.setup s homes)
       check_out_rules at [] e =
           (txs, N, super_keeps contract s txs N kept at e (formats.written.super (o.setup.sequence + (s.journal.running.number - 1)) s.journal.ring.head formats.running formats.head), pushed (request_of (super_request o.setup.journal (o.setup.writers.super (o.setup.sequence + (s.journal.running.number - 1)) s.journal.ring.head)) (length s.journal.flush.requests)) notes.Super calls, other_pushed flushes notes.Super refl)
       check_out_rules at (b ∷ bs) e = (txs, N, home_keeps contract s txs N kept b bs at e, pushed (request_of (home_request b (elim bs as (λ _. Bool) [ [] ↦ true | x ∷ xs ↦ false ])) (length s.journal.flush.requests)) (notes.Home b.block) calls, other_pushed flushes (notes.Home b.block) refl)
 
-      close_rules : (full : Bool) → s.journal.phase ≡ Closing → HasRules (close_step o.model o.setup full s).host
+      close_rules : (full : Bool) → s.journal.phase ≡ Closing → HasRules contract (close_step o.model o.setup full s).host
       close_rules full at = by (first_page (λ p. is_unsent p.state && has s.journal.running.changed p.birth) s.pages) refl
         where
-          by : (x : Option CachedPage) → first_page (λ p. is_unsent p.state && has s.journal.running.changed p.birth) s.pages ≡ x → HasRules (elim x as (λ _. Turned V C R) [
+          by : (x : Option CachedPage) → first_page (λ p. is_unsent p.state && has s.journal.running.changed p.birth) s.pages ≡ x → HasRules contract (elim x as (λ _. Turned V C R) [
             | Some p ↦ submits o.model o.setup full s (send_page o.model o.setup s p true false)
             | None ↦
-                if nat_lt (ring_free s.journal.ring) (log_needs s.journal.running) then submits o.model o.setup full s (check_out o.model o.setup s s.journal.ring.homes)
-                else record { host = build_plan o.model o.setup s; turn = Did }
+                if nat_lt (ring_free s.journal.ring) (log_needs s.journal.running) then submits o.model o.setup full s (checkpoint o.model o.setup s s.journal.ring.homes)
+                else record { host = build_plan o.model o.setup s; turn = turns.Did }
           ]).host
           by (Some p) e = submits_rules full _ (page_out p true false (keyed s.pages kept.images.0.rising p (first_page-In (λ p. is_unsent p.state && has s.journal.running.changed p.birth) s.pages p e)))
           by None e =
-              either (λ (x : Turned V C R). HasRules x.host) (nat_lt (ring_free s.journal.ring) (log_needs s.journal.running)) _ _
+              either (λ (x : Turned V C R). HasRules contract x.host) (nat_lt (ring_free s.journal.ring) (log_needs s.journal.running)) _ _
               (λ d. submits_rules full _ (check_out_rules at s.journal.ring.homes refl))
               (λ d. (txs ++ transaction_now contract s txs N kept ∷ [], N, build_keeps contract s txs N kept at (all_firm e) d formats.written formats.writable formats.next formats.first, built at (all_firm e) d, flushes))
 
-      plan_sent_rules : (p : Plan) (first : Planned) (rest : List Planned) → s.journal.phase ≡ Committing p → p.rest ≡ first ∷ rest → HasRules (plan_sent o.model o.setup s p first rest)
+      plan_sent_rules : (p : Plan) (first : Planned) (rest : List Planned) → s.journal.phase ≡ Committing p → p.rest ≡ first ∷ rest → HasRules contract (plan_sent o.model o.setup s p first rest)
       plan_sent_rules p first [] at e = (txs, N + 1, committed_keeps contract s txs N kept p first at e, committed_calls p first at e, committed_flushes p first at e)
       plan_sent_rules p first (q ∷ qs) at e = (txs, N, planned_keeps contract s txs N kept p first q qs at e, pushed (request_of first (length s.journal.flush.requests)) first.note calls, other_pushed flushes first.note (not_flush p first q qs at e))
 
-      in_phase_rules : (full : Bool) (phase : Phase) → s.journal.phase ≡ phase → InPhase o Stands s.history s.cuts (session o Stands txs s) s.journal.running.number N phase → RingInPhase (session o Stands txs s) s.journal.ring N phase → HasRules (in_phase o.model o.setup full s phase).host
+      in_phase_rules : (full : Bool) (phase : Phase) → s.journal.phase ≡ phase → InPhase o Stands s.history s.cuts (session o Stands txs s) s.journal.running.number N phase → RingInPhase (session o Stands txs s) s.journal.ring N phase → HasRules contract (in_phase o.model o.setup full s phase).host
       in_phase_rules full Idle at x y =
-          either (λ (x : Turned V C R). HasRules x.host) (s.journal.running.wanted && is_none (least s.journal.flush.conflicts)) _ _
+          either (λ (x : Turned V C R). HasRules contract x.host) (s.journal.running.wanted && is_none (least s.journal.flush.conflicts)) _ _
           (λ e. (txs, N, other_phase Closing x y kept, calls, flushes))
           (λ e. stays)
       in_phase_rules full Closing at x y = close_rules full at
       in_phase_rules full (Committing p) at x y = by p.rest refl
         where
-          by : (rest : List Planned) → p.rest ≡ rest → HasRules (elim rest as (λ _. Turned V C R) [ [] ↦ record { host = s; turn = NothingToDo } | first ∷ rest ↦ submits o.model o.setup full s (plan_sent o.model o.setup s p first rest) ]).host
+          by : (rest : List Planned) → p.rest ≡ rest → HasRules contract (elim rest as (λ _. Turned V C R) [ [] ↦ record { host = s; turn = turns.Idle } | first ∷ rest ↦ submits o.model o.setup full s (plan_sent o.model o.setup s p first rest) ]).host
           by [] e = stays
           by (first ∷ rest) e = submits_rules full _ (plan_sent_rules p first rest at e)
 
       -- One step of the commit actor: H5 and H6.
-      pub commit_step_rules : (full : Bool) → HasRules (commit_step o.model o.setup full s).host
+      pub commit_step_rules : (full : Bool) → HasRules contract (commit_step o.model o.setup full s).host
       commit_step_rules full =
-          either (λ (x : Turned V C R). HasRules x.host) (is_over s.journal.flush) _ _ (λ e. stays) (λ e. in_phase_rules full s.journal.phase refl kept.images.0.in_phase kept.ring.in_phase)
+          either (λ (x : Turned V C R). HasRules contract x.host) (is_over s.journal.flush) _ _ (λ e. stays) (λ e. in_phase_rules full s.journal.phase refl kept.images.0.in_phase kept.ring.in_phase)

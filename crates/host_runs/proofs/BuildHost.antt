@@ -17,10 +17,11 @@ use Rattle.host_machine.specs.State.{Entry, Plan, Closing, Committing, Host}
 use Rattle.host_machine.specs.Views.{some_in, alters_at, transaction_of}
 use Rattle.host_machine.specs.laws.Contract.{Over, Contract, H, InPhase, session}
 use Rattle.host_machine.specs.laws.Rules.{AllRules}
-use Rattle.host_runs.proofs.PlanLaws.{IsWord, AreWritten, IsWritable}
-use Rattle.host_runs.proofs.RingHost.{RingKept, plan_is_built}
-use Rattle.host_runs.proofs.RingStateLaws.{IsApart}
-use Rattle.host_runs.proofs.RulesHost.{KeepsRules}
+use Rattle.host_runs.proofs.RingHost.{plan_is_built}
+use Rattle.host_runs.specs.laws.Homes.{IsApart}
+use Rattle.host_runs.specs.laws.Kept.{KeepsRules}
+use Rattle.host_runs.specs.laws.RingFacts.{RingKept}
+use Rattle.host_runs.specs.laws.Written.{IsWord, AreWritten, IsWritable}
 use Rattle.log_model.specs.Marks.{Logged, Transaction}
 use Rattle.page_cache.specs.Pages.{page_at}
 use Rattle.page_cache.specs.declared.cached_page.CachedPage.{CachedPage}
@@ -36,8 +37,8 @@ length_map g [] = refl
 length_map g (x ∷ xs) = ap suc (length_map g xs)
 
 module _ {A T V C R : Type 0} {o : Over A T V C R} {Stands : V → T → Type 0} (contract : Contract o Stands) (s : Host V C R) (txs : List Transaction) (N : ℕ) (kept : KeepsRules contract s txs N) where
-  abbrev se : Session
-  se = session o Stands txs s
+  abbrev sess : Session
+  sess = session o Stands txs s
 
   abbrev r : ℕ
   r = s.journal.running.number
@@ -49,7 +50,7 @@ module _ {A T V C R : Type 0} {o : Over A T V C R} {Stands : V → T → Type 0}
   pub apart_now : IsApart transaction_now
   apart_now l i revoked =
       let m = In-map (λ b. record { block = b; body = o.model.bytes s.volume b }) s.journal.running.touched l i in
-      let plain = plain_at contract s.history s.cuts se s.volume (length s.history) refl refl kept.images.0.stands in
+      let plain = plain_at contract s.history s.cuts sess s.volume (length s.history) refl refl kept.images.0.stands in
       let b = kept.images.0.bodies in
       let same = ap (λ (x : Logged). x.block) m.2 in
       none-some r (sym (plain.metadata_free m.0 (b.bodies_on m.0 m.1)) ∙ b.waits m.0 (subst (λ c. In c s.journal.running.revoked) (sym same) revoked))
@@ -60,7 +61,7 @@ module _ {A T V C R : Type 0} {o : Over A T V C R} {Stands : V → T → Type 0}
       (room : nat_lt (ring_free s.journal.ring) (log_needs s.journal.running) ≡ false)
       (written : AreWritten o.format o.setup.writers) (writable : IsWritable transaction_now) (fits : IsWord (o.setup.sequence + (N + 1 - 1))) (head_fits : IsWord s.journal.ring.places.first) where
     all_closed : N + 1 ≡ r
-    all_closed = subst (InPhase o Stands s.history s.cuts se r N) at kept.images.0.in_phase
+    all_closed = subst (InPhase o Stands s.history s.cuts sess r N) at kept.images.0.in_phase
 
     abbrev transactions : ℕ → Transaction
     transactions = transaction_of (txs ++ transaction_now ∷ [])
@@ -68,7 +69,7 @@ module _ {A T V C R : Type 0} {o : Over A T V C R} {Stands : V → T → Type 0}
     same_transactions_told : (k : ℕ) → 1 ≤ k → k ≤ N → transactions k ≡ transaction_of txs k
     same_transactions_told k lo hi = let e = kept.images.1 in let c = all_closed in index_push_left txs transaction_now (k - 1) (record { bodies = []; revokes = [] }) (omega arith)
 
-    same_committed : (k i : ℕ) → IsCommit se k i → transactions k ≡ transaction_of txs k
+    same_committed : (k i : ℕ) → IsCommit sess k i → transactions k ≡ transaction_of txs k
     same_committed k i commit = same_transactions_told k (commit_positive kept.rules.order.commits k i commit) (kept.images.0.numbers.no_more k i commit)
 
     new_transaction : transactions (N + 1) ≡ transaction_now
@@ -117,21 +118,21 @@ module _ {A T V C R : Type 0} {o : Over A T V C R} {Stands : V → T → Type 0}
     build_keeps = record {
       rules = record {
         order = rules_retold kept.rules.order.commits transactions same_committed kept.rules.order;
-        pages = subst (λ h. PageOrder o.program h (record se { transactions = transactions })) same_history (pages_retold kept.rules.order.commits transactions same_committed o.program before kept.rules.pages);
-        committed = subst (λ h. DataBeforeCommit o.program h (record se { transactions = transactions })) same_history (data_retold kept.rules.order.commits transactions same_committed o.program before kept.rules.committed);
+        pages = subst (λ h. PageOrder o.program h (record sess { transactions = transactions })) same_history (pages_retold kept.rules.order.commits transactions same_committed o.program before kept.rules.pages);
+        committed = subst (λ h. DataBeforeCommit o.program h (record sess { transactions = transactions })) same_history (data_retold kept.rules.order.commits transactions same_committed o.program before kept.rules.committed);
       };
       images = plan_keeps contract s txs N kept.images kept.rules.order.commits all_closed all_sent;
       ring =
-          subst (λ n. RingKept (record se { transactions = transactions }) (record (place_blocks (log_blocks_for n (length s.journal.running.revoked)) s.journal.ring) { started = true }) N (Committing the_plan)) counted
-          (plan_is_built se N kept.rules.order.commits transactions same_transactions_told o.setup.writers the_plan s.journal.ring written writable apart_now fits head_fits new_transaction enough
+          subst (λ n. RingKept (record sess { transactions = transactions }) (record (place_blocks (log_blocks_for n (length s.journal.running.revoked)) s.journal.ring) { started = true }) N (Committing the_plan)) counted
+          (plan_is_built sess N kept.rules.order.commits transactions same_transactions_told o.setup.writers the_plan s.journal.ring written writable apart_now fits head_fits new_transaction enough
           (ap (λ k. plan_of o.setup.writers o.setup.journal s.journal.ring.places s.journal.ring.head s.journal.ring.started k (o.setup.sequence + (k - 1)) transaction_now.bodies transaction_now.revokes) (sym all_closed))
-          (subst (RingKept se s.journal.ring N) at kept.ring));
+          (subst (RingKept sess s.journal.ring N) at kept.ring));
     }
 
   -- ---- an entry more
 
   -- Whatever it is, and whatever it did to volume and pages: the rules and the ring's facts stay.
-  pub entry_rules : (e : Entry C R) → AllRules o.program (H o Stands (s.history ++ e ∷ []) s.cuts) se
+  pub entry_rules : (e : Entry C R) → AllRules o.program (H o Stands (s.history ++ e ∷ []) s.cuts) sess
   entry_rules e =
       let numbers = kept.images.0.numbers in
       let ext = extends (entry_noted o.model s.history e o.place s.cuts r kept.images.0.closed numbers.cuts) numbers in

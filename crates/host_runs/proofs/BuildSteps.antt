@@ -5,8 +5,9 @@ use Rattle.crash_laws.specs.Rules.{CommitOrder}
 use Rattle.crash_laws.specs.Session.{Session, log_transaction, IsLog, LogBlock, with_log_block, log_blocks, log_blocks_of, bodies_of, sequence_of}
 use Rattle.host_machine.specs.Parts.{log_blocks_for, LogRing, ring_free, place_blocks}
 use Rattle.host_machine.specs.Plan.{Writers, Planned, UnplacedBlock, logged_blocks, placed, with_barrier, plan_of}
-use Rattle.host_runs.proofs.PlanLaws.{IsWord, AreWritten, IsWritable, IsDraft, are_drafts, plan_spells, plan_counted}
-use Rattle.host_runs.proofs.RingFacts.{AreCommitted, PlaceFacts, places_of, IsFirstSuper, ArePlanned, count, if_log, log_bytes, EndsFenced, StartsWithSuper, PlanFacts}
+use Rattle.host_runs.proofs.PlanLaws.{IsDraft, are_drafts, plan_spells, plan_counted}
+use Rattle.host_runs.specs.laws.RingFacts.{AreCommitted, PlaceFacts, places_of, IsFirstSuper, ArePlanned, count, if_log, log_bytes, EndsFenced, StartsWithSuper, PlanFacts}
+use Rattle.host_runs.specs.laws.Written.{IsWord, AreWritten, IsWritable}
 use Rattle.log_model.proofs.Ring.{places_on-add}
 use Rattle.log_model.specs.Log.{Spells}
 use Rattle.log_model.specs.Marks.{Logged, Transaction}

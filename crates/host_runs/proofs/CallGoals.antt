@@ -6,8 +6,9 @@ use Rattle.crash_laws.specs.PromiseRules.{Covers}
 use Rattle.crash_laws.specs.Session.{Session}
 use Rattle.host_machine.specs.State.{Plan, Phase, Idle, Closing, Committing, JournalPart, Begun, is_flush_note, last_put, latest_change}
 use Rattle.host_machine.specs.laws.Facts.{Numbers}
-use Rattle.host_runs.proofs.CallFacts.{call_of, IsDone, Anywhere}
 use Rattle.host_runs.proofs.CallTargets.{IsQuiet, done_at_cut, quiet_running, quiet_both}
+use Rattle.host_runs.specs.Promises.{call_of}
+use Rattle.host_runs.specs.laws.CallFacts.{IsDone, Anywhere}
 use Rattle.order_model.specs.declared.note.Note.TheVariants.{Commit}
 use Rattle.order_model.specs.declared.note.Note.{Note}
 use Rattle.std.proofs.Common.{sym, ap, ◌∙◌, inl, inr, ⊎_elim, arith, eq-eqb}

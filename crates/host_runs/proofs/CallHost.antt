@@ -1,4 +1,5 @@
 -- All begun calls at once, over the host's threads and waits: what each step of the host does to them.
+use Rattle.host_runs.specs.laws.CallFacts.{wait_of, AllCalls}
 use Rattle.blk_base.specs.Members.{In, slice_get-length, slice_get-set_same, slice_get-set_other}
 use Rattle.crash_laws.specs.History.{History, IsUnmapped, HasTrees}
 use Rattle.crash_laws.specs.PromiseRules.{AreHeld}
@@ -10,10 +11,10 @@ use Rattle.host_machine.specs.Host.{no_wait, need_commit, dropped_pages, written
 use Rattle.host_machine.specs.Model.{Model, FileBlock, FileSync, WholeSync}
 use Rattle.host_machine.specs.State.{Begun, Wait, Thread, Setup}
 use Rattle.host_machine.specs.laws.Facts.{View, IsPlain, Numbers, PagesMapped}
-use Rattle.host_runs.proofs.CallFacts.{IsDone, CallFacts}
 use Rattle.host_runs.proofs.CallMoves.{call_sent}
 use Rattle.host_runs.proofs.CallSteps.{KeepsUnsent, call_pushed, call_grows}
 use Rattle.host_runs.proofs.CallTargets.{call_closes, call_needs}
+use Rattle.host_runs.specs.laws.CallFacts.{IsDone, CallFacts}
 use Rattle.log_model.specs.Marks.{Transaction}
 use Rattle.order_model.specs.declared.note.Note.TheVariants.{Page}
 use Rattle.page_cache.specs.Pages.{page_at, put_page, marked, is_unsent}
@@ -62,9 +63,6 @@ module _ {T V C R : Type 0} (M : Model T V C R) (u : Setup) {A : Type 0} {progra
 
 -- ---- waits by their thread
 
-abbrev pub wait_of : List Wait → ℕ → Wait
-wait_of waits t = slice_index_or waits t no_wait
-
 wait_set_same : (waits : List Wait) (t : ℕ) (w : Wait) → t < length waits → wait_of (set waits t w) t ≡ w
 wait_set_same [] t w lt = absurd (omega arith)
 wait_set_same (x ∷ xs) zero w lt = refl
@@ -92,12 +90,6 @@ length_map g [] = refl
 length_map g (x ∷ xs) = ap suc (length_map g xs)
 
 -- ---- all calls
-
-pub record AllCalls {A C : Type 0} (h : History A) (s : Session) (pages : List CachedPage) (now r : ℕ) (threads : List (Thread C)) (waits : List Wait) : Type 0 where
-  pub counted : length threads ≡ length waits
-  pub each : (t : ℕ) (th : Thread C) (b : Begun) → slice_get threads t ≡ Some th → th.begun ≡ Some b → CallFacts h s pages now r b (wait_of waits t)
-  -- a thread whose call has not begun waits for nothing
-  pub idle : (t : ℕ) (th : Thread C) → slice_get threads t ≡ Some th → th.begun ≡ None → wait_of waits t ≡ no_wait
 
 module _ {A C : Type 0} {threads : List (Thread C)} {waits : List Wait} where
   -- a step that changes no call and no wait

@@ -9,8 +9,9 @@ use Rattle.host_machine.specs.Host.{unsent_on}
 use Rattle.host_machine.specs.Model.{Kind, is_whole}
 use Rattle.host_machine.specs.State.{Begun, Wait}
 use Rattle.host_machine.specs.laws.Facts.{View, IsPlain, PagesMapped, PagesSent}
-use Rattle.host_runs.proofs.CallFacts.{call_of, IsSent, IsDone, Anywhere, IsToDo, HasSentBarrier, CallFacts}
 use Rattle.host_runs.proofs.CallSteps.{mapped_or_gone, last_write_above, sent_old, done_old, call_pushed}
+use Rattle.host_runs.specs.Promises.{call_of}
+use Rattle.host_runs.specs.laws.CallFacts.{IsSent, IsDone, Anywhere, IsToDo, HasSentBarrier, CallFacts}
 use Rattle.order_model.specs.Submission.{is_flush}
 use Rattle.order_model.specs.declared.note.Note.TheVariants.{Page}
 use Rattle.page_cache.specs.Pages.{is_page, page_at, put_page, marked, is_unsent}
@@ -104,11 +105,11 @@ module _ (pages : List CachedPage) where
 
 module _ {A : Type 0} {program : Reads A} {h : History A} {s : Session} {now : ℕ} {v : View} (trees : HasTrees h) (plain : IsPlain program h s now v) (pages : List CachedPage) (mapped : PagesMapped h now v pages) (sent : PagesSent s pages) where
   -- a page of the call that is unsent is listed
-  abbrev on_call : Kind → ℕ → CachedPage → Bool
-  on_call kind file p = is_unsent p.state && (is_whole kind || p.birth == file)
+  abbrev is_of_call : Kind → ℕ → CachedPage → Bool
+  is_of_call kind file p = is_unsent p.state && (is_whole kind || p.birth == file)
 
   abbrev listed : Kind → ℕ → List (ℕ × ℕ)
-  listed kind file = map (λ (p : CachedPage). (p.birth, p.index)) (filter (on_call kind file) pages)
+  listed kind file = map (λ (p : CachedPage). (p.birth, p.index)) (filter (is_of_call kind file) pages)
 
   on_file : (kind : Kind) (file f : ℕ) → IsOn (if is_whole kind then None else Some file) f → (is_whole kind || f == file) ≡ true
   on_file kind file f on = by (is_whole kind) on
@@ -139,9 +140,9 @@ module _ {A : Type 0} {program : Reads A} {h : History A} {s : Session} {now : �
       to_do : (f i : ℕ) → IsOn (call_of b).file f → (p : CachedPage) → page_at pages f i ≡ Some p → is_unsent p.state ≡ true → IsToDo pages b.list f i
       to_do f i on p there unsent =
           let key = page_at-key pages f i p there in
-          let test : on_call b.kind b.file p ≡ true =
+          let test : is_of_call b.kind b.file p ≡ true =
           ap (λ t. t && (is_whole b.kind || p.birth == b.file)) unsent ∙ ap (λ n. is_whole b.kind || n == b.file) key.0 ∙ on_file b.kind b.file f on in
-          let i_in = map-In (λ (q : CachedPage). (q.birth, q.index)) (filter (on_call b.kind b.file) pages) p (filter-In (on_call b.kind b.file) pages p (page_at-In pages f i p there) test) in
+          let i_in = map-In (λ (q : CachedPage). (q.birth, q.index)) (filter (is_of_call b.kind b.file) pages) p (filter-In (is_of_call b.kind b.file) pages p (page_at-In pages f i p there) test) in
           record {
             listed = subst (In (f, i)) (sym list) (subst (λ (k : ℕ × ℕ). In k (listed b.kind b.file)) (ap (λ n. (n, p.index)) key.0 ∙ ap (λ n. (f, n)) key.1) i_in);
             page = p;

@@ -1,17 +1,21 @@
 -- Each Ok of a begun call keeps the order rule of such calls: through the caller's step.
+use Rattle.host_runs.specs.Promises.{CoversNothing, IsCause, KeepsOk}
 use Rattle.blk_base.specs.Members.{In, In-list_any}
 use Rattle.crash_laws.specs.History.{History, HasTrees}
 use Rattle.crash_laws.specs.PromiseRules.{KeepsBarrier, KeepsSync, Covers, CoversEntry}
 use Rattle.crash_laws.specs.Rules.{CommitOrder}
 use Rattle.crash_laws.specs.Session.{Session, IsCommit}
-use Rattle.host_machine.specs.Host.{Done, Waits, Sent, ByNeed, ByQueue, Stepped, Goal, ToCommit, unsent_on, data_goal, goal_of, cause_of, end_with, on_need, on_last_put, on_target, on_goal, on_walk, on_begun, set_wait, wanting, set_thread, send_page}
+use Rattle.host_machine.specs.Causes as causes
+use Rattle.host_machine.specs.Host.{Stepped, Goal, AwaitCommit, unsent_on, data_goal, goal_of, cause_of, end_with, await_durable, await_last_put, await_commit, pursue, walk_pages, continue_begun, set_wait, wanting, set_thread, send_page}
 use Rattle.host_machine.specs.Model.{Model, Kind, Reading, Changing, FileBarrier, DataBarrier, FileSync, DataSync, WholeSync, is_data, is_durable}
+use Rattle.host_machine.specs.Outcomes as outcomes
 use Rattle.host_machine.specs.State.{Answered, SessionFull, Phase, Idle, Closing, Committing, JournalPart, Begun, Wait, Host, Setup, at_limit, is_flushed_after, flush_above, last_put, is_submitted, latest_change}
 use Rattle.host_machine.specs.laws.Facts.{Numbers}
-use Rattle.host_runs.proofs.CallFacts.{call_of, IsDone, Anywhere, CallFacts}
 use Rattle.host_runs.proofs.CallGoals.{ChangedListed, latest_none, latest_some, put_before_last, nothing_put, nothing_covered}
 use Rattle.host_runs.proofs.CallMoves.{unsent_on-none}
 use Rattle.host_runs.proofs.CallTargets.{IsQuiet, held_without_target, ok_at_target, ok_by_own_barrier, ok_by_flush, call_has_need, call_has_target, call_needs, its_file, for_running, for_closed, cause_of_barrier, cause_of_sync}
+use Rattle.host_runs.specs.Promises.{call_of}
+use Rattle.host_runs.specs.laws.CallFacts.{IsDone, Anywhere, CallFacts}
 use Rattle.order_model.specs.declared.completion.Completion.TheVariants as completions
 use Rattle.order_model.specs.declared.completion.Completion.{Completion}
 use Rattle.order_model.specs.declared.note.Note.TheVariants.{Page, Commit}
@@ -20,26 +24,6 @@ use Rattle.std.proofs.Common.{sym, ap, subst, ◌∙◌, inl, inr, ⊎_elim, ari
 use Rattle.std.proofs.lemmas.Bool.{false≢true, ltb-true}
 use Rattle.std.specs.List.{list_any}
 use Rattle.std.specs.Prelude.{◌≡◌, ℕ, ◌+◌, ◌<◌, ◌≤◌, ◌==◌, ◌&&◌, ◌||◌, ◌⊎◌, Bool, true, false, not, List, ◌∷◌, length, Option, Some, None, is_none, nat_lt, if◌then◌else◌, refl}
-
--- A call is answered Ok as entry `ended_at`: a barrier call keeps its rule; a sync call keeps its own, or no request
--- was put at all, and it covers nothing.
-abbrev pub CoversNothing : {A : Type 0} → History A → Begun → Type 0
-CoversNothing h b = ((f i n : ℕ) → Covers h (call_of b) f i n → ⊥) × (is_data b.kind ≡ true)
-
--- the cause of an Ok: a submitted transaction whose cut lies between the Begin and the End; for a sync call a flush
--- behind its commit block was answered
-pub record IsCause {A : Type 0} (h : History A) (s : Session) (taken : List Completion) (ended_at : ℕ) (b : Begun) : Type 0 where
-  pub k : ℕ
-  pub c : ℕ
-  pub commit : IsCommit s k c
-  pub begun : b.begin ≤ h.cut k
-  pub ended : h.cut k < ended_at
-  pub flushed : is_durable b.kind ≡ true → (f : ℕ) × In (completions.Flushed f) taken × (c < f)
-
-pub record KeepsOk {A : Type 0} (h : History A) (s : Session) (taken : List Completion) (ended_at : ℕ) (b : Begun) : Type 0 where
-  pub barrier : is_durable b.kind ≡ false → KeepsBarrier h s ended_at (Covers h (call_of b)) (CoversEntry (call_of b))
-  pub sync : is_durable b.kind ≡ true → KeepsSync h s taken (Covers h (call_of b)) (CoversEntry (call_of b)) ⊎ CoversNothing h b
-  pub cause : is_data b.kind ≡ false → IsCause h s taken ended_at b
 
 flushed_later : (id : ℕ) (c : Completion) → is_flushed_after id c ≡ true → (f : ℕ) × (c ≡ completions.Flushed f) × (id < f)
 flushed_later id (completions.Flushed f) e = (f, refl, ltb-true id f e)
@@ -62,11 +46,11 @@ module _ {T V C R : Type 0} (M : Model T V C R) (u : Setup) {A : Type 0} {h : Hi
 
   -- ---- a need
 
-  need_ok : (t : ℕ) (c : C) (rest : List C) (v : Wait) (id : ℕ) → is_durable b.kind ≡ true → v.need ≡ Some id → CallFacts h s host.pages now j.running.number b v → (on_need M u host t c rest w id).step ≡ Done M.ok → KeepsOk h s taken (now + 1) b
+  need_ok : (t : ℕ) (c : C) (rest : List C) (v : Wait) (id : ℕ) → is_durable b.kind ≡ true → v.need ≡ Some id → CallFacts h s host.pages now j.running.number b v → (await_durable M u host t c rest w id).step ≡ outcomes.Done M.ok → KeepsOk h s taken (now + 1) b
   need_ok t c rest v id durable need known e = by (list_any (is_flushed_after id) taken) refl (at_limit j.flush && not (flush_above id 0 j.flush.notes)) e
     where
       by : (x : Bool) → list_any (is_flushed_after id) taken ≡ x → (y : Bool)
-          → (if x then end_with M u host t c rest (Answered M.ok) else if y then end_with M u host t c rest SessionFull else record { host = set_wait M u host t (record w { need = Some id }); step = Waits (ByNeed id) }).step ≡ Done M.ok → KeepsOk h s taken (now + 1) b
+          → (if x then end_with M u host t c rest (Answered M.ok) else if y then end_with M u host t c rest SessionFull else record { host = set_wait M u host t (record w { need = Some id }); step = outcomes.Waiting (causes.Durable id) }).step ≡ outcomes.Done M.ok → KeepsOk h s taken (now + 1) b
       by true q y e =
           let x = In-list_any (is_flushed_after id) taken q in
           let f = flushed_later id x.0 x.2 in
@@ -82,13 +66,13 @@ module _ {T V C R : Type 0} (M : Model T V C R) (u : Setup) {A : Type 0} {h : Hi
 
   -- where there is one, all that is held is at or before it
   last_put_ok : (t : ℕ) (c : C) (rest : List C) → is_durable b.kind ≡ true → ((id : ℕ) → last_put 0 s.notes None ≡ Some id → CallFacts h s host.pages now j.running.number b (record w { need = Some id }))
-      → (last_put 0 s.notes None ≡ None → CoversNothing h b) → (on_last_put M u host t c rest w).step ≡ Done M.ok → KeepsOk h s taken (now + 1) b
+      → (last_put 0 s.notes None ≡ None → CoversNothing h b) → (await_last_put M u host t c rest w).step ≡ outcomes.Done M.ok → KeepsOk h s taken (now + 1) b
   last_put_ok t c rest durable known nothing e = by (last_put 0 j.flush.notes None) refl e
     where
       here : last_put 0 s.notes None ≡ last_put 0 j.flush.notes None
       here = ap (λ ns. last_put 0 ns None) notes
 
-      by : (o : Option ℕ) → last_put 0 j.flush.notes None ≡ o → (elim o as (λ _. Stepped V C R) [ None ↦ end_with M u host t c rest (Answered M.ok) | Some id ↦ on_need M u host t c rest w id ]).step ≡ Done M.ok → KeepsOk h s taken (now + 1) b
+      by : (o : Option ℕ) → last_put 0 j.flush.notes None ≡ o → (elim o as (λ _. Stepped V C R) [ None ↦ end_with M u host t c rest (Answered M.ok) | Some id ↦ await_durable M u host t c rest w id ]).step ≡ outcomes.Done M.ok → KeepsOk h s taken (now + 1) b
       by None q e = let none = nothing (here ∙ q) in sync_ok durable (inr none) (λ whole. absurd (false≢true (sym whole ∙ none.1)))
       by (Some id) q e = need_ok t c rest (record w { need = Some id }) id durable refl (known id (here ∙ q)) e
 
@@ -108,14 +92,14 @@ module _ {T V C R : Type 0} (M : Model T V C R) (u : Setup) {A : Type 0} {h : Hi
       let commit = numbers.committed k (facts.target k target).positive (submitted_now k q) in
       call_needs trees numbers facts k commit.0 id target commit.1 (put_before_last s.notes commit.0 id (Commit k) commit.1 refl last)
 
-  target_ok : (t : ℕ) (c : C) (rest : List C) (k : ℕ) → w.target ≡ Some k → (on_target M u host t c rest w k).step ≡ Done M.ok → KeepsOk h s taken (now + 1) b
+  target_ok : (t : ℕ) (c : C) (rest : List C) (k : ℕ) → w.target ≡ Some k → (await_commit M u host t c rest w k).step ≡ outcomes.Done M.ok → KeepsOk h s taken (now + 1) b
   target_ok t c rest k target e = by (is_submitted j k) refl (is_durable w.kind) refl (at_limit j.flush) e
     where
       the_commit : is_submitted j k ≡ true → (d : ℕ) × IsCommit s k d
       the_commit q = numbers.committed k (facts.target k target).positive (submitted_now k q)
 
       by : (x : Bool) → is_submitted j k ≡ x → (y : Bool) → is_durable w.kind ≡ y → (z : Bool)
-          → (if x then (if y then on_last_put M u host t c rest w else end_with M u host t c rest (Answered M.ok)) else if z then end_with M u host t c rest SessionFull else record { host = host; step = Waits (cause_of j k) }).step ≡ Done M.ok → KeepsOk h s taken (now + 1) b
+          → (if x then (if y then await_last_put M u host t c rest w else end_with M u host t c rest (Answered M.ok)) else if z then end_with M u host t c rest SessionFull else record { host = host; step = outcomes.Waiting (cause_of j k) }).step ≡ outcomes.Done M.ok → KeepsOk h s taken (now + 1) b
       by true q true d z e =
           let durable = ap is_durable (sym facts.kind) ∙ d in
           let commit = the_commit q in
@@ -156,7 +140,7 @@ module _ {T V C R : Type 0} (M : Model T V C R) (u : Setup) {A : Type 0} {h : Hi
         placed f i n (inr g) = inr g
 
     -- the call gets its target
-    pub goal_has_target : (k : ℕ) → goal_of j b ≡ ToCommit k → CallFacts h s host.pages now j.running.number b (record w { target = Some k })
+    pub goal_has_target : (k : ℕ) → goal_of j b ≡ AwaitCommit k → CallFacts h s host.pages now j.running.number b (record w { target = Some k })
     goal_has_target k e = by (is_data b.kind) refl (latest_change j b.file) refl e
       where
         running : CallFacts h s host.pages now j.running.number b (record w { target = Some j.running.number })
@@ -165,10 +149,10 @@ module _ {T V C R : Type 0} (M : Model T V C R) (u : Setup) {A : Type 0} {h : Hi
         to_running : (x : ℕ) → j.running.number ≡ x → CallFacts h s host.pages now j.running.number b (record w { target = Some x })
         to_running x q = subst (λ y. CallFacts h s host.pages now j.running.number b (record w { target = Some y })) q running
 
-        goals : (x y : ℕ) → ToCommit x ≡ ToCommit y → x ≡ y
+        goals : (x y : ℕ) → AwaitCommit x ≡ AwaitCommit y → x ≡ y
         goals x y q = cc
 
-        of_kind : (kind : Kind) (x : Bool) → data_goal kind x j.running.number ≡ ToCommit k → j.running.number ≡ k
+        of_kind : (kind : Kind) (x : Bool) → data_goal kind x j.running.number ≡ AwaitCommit k → j.running.number ≡ k
         of_kind DataSync x q = absurd (let z : ⊥ = cc in z)
         of_kind DataBarrier true q = absurd (let z : ⊥ = cc in z)
         of_kind DataBarrier false q = cc
@@ -191,12 +175,12 @@ module _ {T V C R : Type 0} (M : Model T V C R) (u : Setup) {A : Type 0} {h : Hi
             (latest_some j trees numbers listed b.file x l)
 
         by : (x : Bool) → is_data b.kind ≡ x → (o : Option ℕ) → latest_change j b.file ≡ o
-            → (if x then elim o as (λ _. Goal) [ Some y ↦ ToCommit y | None ↦ data_goal b.kind b.sent_barrier j.running.number ] else ToCommit j.running.number) ≡ ToCommit k → CallFacts h s host.pages now j.running.number b (record w { target = Some k })
+            → (if x then elim o as (λ _. Goal) [ Some y ↦ AwaitCommit y | None ↦ data_goal b.kind b.sent_barrier j.running.number ] else AwaitCommit j.running.number) ≡ AwaitCommit k → CallFacts h s host.pages now j.running.number b (record w { target = Some k })
         by true q None l e = to_running k (of_kind b.kind b.sent_barrier e)
         by true q (Some y) l e = subst (λ x. CallFacts h s host.pages now j.running.number b (record w { target = Some x })) (goals y k e) (latest q y l)
         by false q o l e = to_running k (goals j.running.number k e)
 
-    flush_ok : b.kind ≡ DataSync → latest_change j b.file ≡ None → (on_last_put M u host t c rest w).step ≡ Done M.ok → KeepsOk h s taken (now + 1) b
+    flush_ok : b.kind ≡ DataSync → latest_change j b.file ≡ None → (await_last_put M u host t c rest w).step ≡ outcomes.Done M.ok → KeepsOk h s taken (now + 1) b
     flush_ok kind none e =
         let of_data : is_data b.kind ≡ true = ap is_data kind in
         last_put_ok t c rest (ap is_durable kind)
@@ -208,14 +192,14 @@ module _ {T V C R : Type 0} (M : Model T V C R) (u : Setup) {A : Type 0} {h : Hi
         let of_data : is_data b.kind ≡ true = ap is_data kind in
         barrier_ok (ap is_durable kind) (ok_by_own_barrier trees numbers facts order of_data sent (quiet of_data none)) (λ whole. absurd (false≢true (sym whole ∙ of_data)))
 
-    no_wait_ok : (k : ℕ) → (on_goal M u host t c rest w (ToCommit k)).step ≡ Done M.ok → ⊥
+    no_wait_ok : (k : ℕ) → (pursue M u host t c rest w (AwaitCommit k)).step ≡ outcomes.Done M.ok → ⊥
     no_wait_ok k e = by (at_limit j.flush) e
       where
-        by : (x : Bool) → (if x then end_with M u host t c rest SessionFull else record { host = if k == j.running.number then wanting M u (set_wait M u host t (record w { target = Some k })) else set_wait M u host t (record w { target = Some k }); step = Waits (cause_of j k) }).step ≡ Done M.ok → ⊥
+        by : (x : Bool) → (if x then end_with M u host t c rest SessionFull else record { host = if k == j.running.number then wanting M u (set_wait M u host t (record w { target = Some k })) else set_wait M u host t (record w { target = Some k }); step = outcomes.Waiting (cause_of j k) }).step ≡ outcomes.Done M.ok → ⊥
         by true e = cc
         by false e = cc
 
-    of_data_goal : is_data b.kind ≡ true → latest_change j b.file ≡ None → (k : Kind) → b.kind ≡ k → (x : Bool) → b.sent_barrier ≡ x → (on_goal M u host t c rest w (data_goal k x j.running.number)).step ≡ Done M.ok → KeepsOk h s taken (now + 1) b
+    of_data_goal : is_data b.kind ≡ true → latest_change j b.file ≡ None → (k : Kind) → b.kind ≡ k → (x : Bool) → b.sent_barrier ≡ x → (pursue M u host t c rest w (data_goal k x j.running.number)).step ≡ outcomes.Done M.ok → KeepsOk h s taken (now + 1) b
     of_data_goal of_data none DataSync kind x q e = flush_ok kind none e
     of_data_goal of_data none DataBarrier kind true q e = pass_ok kind none q
     of_data_goal of_data none DataBarrier kind false q e = absurd (no_wait_ok j.running.number e)
@@ -225,44 +209,44 @@ module _ {T V C R : Type 0} (M : Model T V C R) (u : Setup) {A : Type 0} {h : Hi
     of_data_goal of_data none FileSync kind x q e = absurd (false≢true (sym (ap is_data kind) ∙ of_data))
     of_data_goal of_data none WholeSync kind x q e = absurd (false≢true (sym (ap is_data kind) ∙ of_data))
 
-    goal_ok : (on_goal M u host t c rest w (goal_of j b)).step ≡ Done M.ok → KeepsOk h s taken (now + 1) b
+    goal_ok : (pursue M u host t c rest w (goal_of j b)).step ≡ outcomes.Done M.ok → KeepsOk h s taken (now + 1) b
     goal_ok e = by (is_data b.kind) refl (latest_change j b.file) refl e
       where
         by : (x : Bool) → is_data b.kind ≡ x → (o : Option ℕ) → latest_change j b.file ≡ o
-            → (on_goal M u host t c rest w (if x then elim o as (λ _. Goal) [ Some k ↦ ToCommit k | None ↦ data_goal b.kind b.sent_barrier j.running.number ] else ToCommit j.running.number)).step ≡ Done M.ok → KeepsOk h s taken (now + 1) b
+            → (pursue M u host t c rest w (if x then elim o as (λ _. Goal) [ Some k ↦ AwaitCommit k | None ↦ data_goal b.kind b.sent_barrier j.running.number ] else AwaitCommit j.running.number)).step ≡ outcomes.Done M.ok → KeepsOk h s taken (now + 1) b
         by true q None l e = of_data_goal q l b.kind refl b.sent_barrier refl e
         by true q (Some k) l e = absurd (no_wait_ok k e)
         by false q o l e = absurd (no_wait_ok j.running.number e)
 
-  walk_ok : (full : Bool) (t : ℕ) (c : C) (rest : List C) → w.target ≡ None → w.need ≡ None → (on_walk M u full host t c rest w b).step ≡ Done M.ok → KeepsOk h s taken (now + 1) b
+  walk_ok : (full : Bool) (t : ℕ) (c : C) (rest : List C) → w.target ≡ None → w.need ≡ None → (walk_pages M u full host t c rest w b).step ≡ outcomes.Done M.ok → KeepsOk h s taken (now + 1) b
   walk_ok full t c rest no_target no_need e = by (unsent_on host.pages b.list) refl e
     where
-      abbrev_step : (next : CachedPage × List (ℕ × ℕ)) (x : Bool) (y : Bool) (stepped : Stepped V C R) → stepped.step ≡ Sent (length j.flush.requests)
-          → (if x then end_with M u host t c rest SessionFull else if y then record { host = host; step = Waits ByQueue } else stepped).step ≡ Done M.ok → ⊥
+      abbrev_step : (next : CachedPage × List (ℕ × ℕ)) (x : Bool) (y : Bool) (stepped : Stepped V C R) → stepped.step ≡ outcomes.Sent (length j.flush.requests)
+          → (if x then end_with M u host t c rest SessionFull else if y then record { host = host; step = outcomes.Waiting causes.QueueFull } else stepped).step ≡ outcomes.Done M.ok → ⊥
       abbrev_step next true y stepped q e = cc
       abbrev_step next false true stepped q e = cc
       abbrev_step next false false stepped q e = let z = sym q ∙ e in cc
 
       by : (o : Option (CachedPage × List (ℕ × ℕ))) → unsent_on host.pages b.list ≡ o
           → (elim o as (λ _. Stepped V C R) [
-            | None ↦ on_goal M u host t c rest w (goal_of j b)
+            | None ↦ pursue M u host t c rest w (goal_of j b)
             | Some next ↦
                 if at_limit j.flush then end_with M u host t c rest SessionFull
-                else if full then record { host = host; step = Waits ByQueue }
+                else if full then record { host = host; step = outcomes.Waiting causes.QueueFull }
                 else record {
                   host = set_thread M u (send_page M u host next.0 true (is_data b.kind && is_none (unsent_on host.pages next.1))) t (record { calls = c ∷ rest; begun = Some (record b { list = next.1; sent_barrier = b.sent_barrier || (is_data b.kind && is_none (unsent_on host.pages next.1)) }) });
-                  step = Sent (length j.flush.requests);
+                  step = outcomes.Sent (length j.flush.requests);
                 }
-          ]).step ≡ Done M.ok → KeepsOk h s taken (now + 1) b
+          ]).step ≡ outcomes.Done M.ok → KeepsOk h s taken (now + 1) b
       by None q e = goal_ok t c rest no_target no_need q e
       by (Some next) q e = absurd (abbrev_step next (at_limit j.flush) full _ refl e)
 
   -- A begun call's step that answers Ok.
-  pub step_ok : (full : Bool) (t : ℕ) (c : C) (rest : List C) → ((id : ℕ) → w.need ≡ Some id → is_durable b.kind ≡ true) → (on_begun M u full host t c rest w b).step ≡ Done M.ok → KeepsOk h s taken (now + 1) b
+  pub step_ok : (full : Bool) (t : ℕ) (c : C) (rest : List C) → ((id : ℕ) → w.need ≡ Some id → is_durable b.kind ≡ true) → (continue_begun M u full host t c rest w b).step ≡ outcomes.Done M.ok → KeepsOk h s taken (now + 1) b
   step_ok full t c rest durable e = by w.need refl w.target refl e
     where
       by : (o : Option ℕ) → w.need ≡ o → (g : Option ℕ) → w.target ≡ g
-          → (elim o as (λ _. Stepped V C R) [ Some id ↦ on_need M u host t c rest w id | None ↦ elim g as (λ _. Stepped V C R) [ Some k ↦ on_target M u host t c rest w k | None ↦ on_walk M u full host t c rest w b ] ]).step ≡ Done M.ok → KeepsOk h s taken (now + 1) b
+          → (elim o as (λ _. Stepped V C R) [ Some id ↦ await_durable M u host t c rest w id | None ↦ elim g as (λ _. Stepped V C R) [ Some k ↦ await_commit M u host t c rest w k | None ↦ walk_pages M u full host t c rest w b ] ]).step ≡ outcomes.Done M.ok → KeepsOk h s taken (now + 1) b
       by (Some id) q g l e = need_ok t c rest w id (durable id q) q facts e
       by None q (Some k) l e = target_ok t c rest k l e
       by None q None l e = walk_ok full t c rest l q e

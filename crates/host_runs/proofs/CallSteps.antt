@@ -12,7 +12,8 @@ use Rattle.crash_laws.specs.Submitting.{Submitting, after}
 use Rattle.host_machine.proofs.ChangeSteps.{IsEntry, extends}
 use Rattle.host_machine.specs.State.{Begun, Wait}
 use Rattle.host_machine.specs.laws.Facts.{Numbers}
-use Rattle.host_runs.proofs.CallFacts.{call_of, IsSent, IsDone, IsGoodFor, HasSentBarrier, CallFacts}
+use Rattle.host_runs.specs.Promises.{call_of}
+use Rattle.host_runs.specs.laws.CallFacts.{IsSent, IsDone, IsGoodFor, HasSentBarrier, CallFacts}
 use Rattle.order_model.specs.declared.note.Note.TheVariants.{Page, Commit}
 use Rattle.page_cache.specs.Pages.{page_at, is_unsent}
 use Rattle.page_cache.specs.declared.cached_page.CachedPage.{CachedPage}

@@ -8,8 +8,9 @@ use Rattle.crash_laws.specs.Session.{Session, HasNote, IsCommit}
 use Rattle.host_machine.specs.Model.{Kind, is_data, is_whole, DataBarrier, DataSync}
 use Rattle.host_machine.specs.State.{Begun, Wait}
 use Rattle.host_machine.specs.laws.Facts.{Numbers}
-use Rattle.host_runs.proofs.CallFacts.{call_of, IsSent, IsDone, Anywhere, IsGoodFor, IsHeldAt, IsBehindTarget, CallFacts}
 use Rattle.host_runs.proofs.CallSteps.{mapped_or_gone, later_bound}
+use Rattle.host_runs.specs.Promises.{call_of}
+use Rattle.host_runs.specs.laws.CallFacts.{IsSent, IsDone, Anywhere, IsGoodFor, IsHeldAt, IsBehindTarget, CallFacts}
 use Rattle.order_model.specs.Submission.{IsFence}
 use Rattle.order_model.specs.declared.completion.Completion.TheVariants.{Flushed}
 use Rattle.order_model.specs.declared.completion.Completion.{Completion}

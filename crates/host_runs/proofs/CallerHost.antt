@@ -1,5 +1,6 @@
 -- A caller's whole step keeps the order rules, the ring's facts and the facts of all begun calls; and each Ok keeps
 -- the order rule of such calls.
+use Rattle.host_runs.specs.laws.Kept.{Calls, Flushes}
 use Rattle.blk_base.specs.Members.{slice_get-length}
 use Rattle.crash_laws.specs.History.{History, HasTrees}
 use Rattle.crash_laws.specs.Session.{Session}
@@ -9,23 +10,29 @@ use Rattle.host_machine.proofs.Entries.{length_new, entry_noted, trees_noted}
 use Rattle.host_machine.proofs.Machine.{plain_at}
 use Rattle.host_machine.proofs.Sends.{plainly}
 use Rattle.host_machine.proofs.Steps.{either, advance_keeps}
-use Rattle.host_machine.specs.Host.{Cause, ByClosing, ByTxFull, ByQuarantine, ByConflict, ByCommit, ByNeed, ByQueue, Done, Waits, Sent, HasEnded, Stepped, Goal, ToCommit, ToPass, ToFlush, no_wait, unsent_on, goal_of, data_goal, end_call, end_with, set_wait, set_thread, wanting, send_page, change, hindrance, hindered, plain, listed, begin, on_need, on_last_put, on_target, on_goal, on_walk, on_begun, on_call, on_thread, advance, stop_of, dropped_pages, written_pages, fits}
+use Rattle.host_machine.specs.Causes as causes
+use Rattle.host_machine.specs.Causes.{Cause}
+use Rattle.host_machine.specs.Host.{Stepped, Goal, AwaitCommit, AnswerOk, AwaitLastPut, no_wait, unsent_on, goal_of, data_goal, end_call, end_with, set_wait, set_thread, wanting, send_page, change, hindrance, hindered, plain, listed, begin, await_durable, await_last_put, await_commit, pursue, walk_pages, continue_begun, step_call, step_thread, advance, stop_of, dropped_pages, written_pages, fits}
 use Rattle.host_machine.specs.Model.{Kind, Reading, Changing, FileBarrier, DataBarrier, FileSync, DataSync, WholeSync, is_begun, is_data, is_durable, Freed}
+use Rattle.host_machine.specs.Outcomes as outcomes
 use Rattle.host_machine.specs.Parts.{log_needs}
 use Rattle.host_machine.specs.State.{Ending, Answered, SessionFull, Begins, Ends, Entry, Wait, Plan, Committing, Begun, Thread, Host, at_limit, is_flushed_after, flush_above, last_put, is_submitted, is_closing, latest_change}
 use Rattle.host_machine.specs.laws.Contract.{Over, view_of, Contract, H, InPlan, InPhase, session}
 use Rattle.host_machine.specs.laws.Facts.{IsPlain, PagesMapped}
 use Rattle.host_machine.specs.laws.Rules.{AllRules}
 use Rattle.host_runs.proofs.BuildHost.{entry_rules}
-use Rattle.host_runs.proofs.CallFacts.{CallFacts}
 use Rattle.host_runs.proofs.CallGoals.{ChangedListed, last_put_is_place}
-use Rattle.host_runs.proofs.CallHost.{wait_of, wait_In, wait_at, AllCalls, all_sent, all_grow, all_set, all_wait, all_thread, change_keeps_unsent}
+use Rattle.host_runs.proofs.CallHost.{wait_In, wait_at, all_sent, all_grow, all_set, all_wait, all_thread, change_keeps_unsent}
 use Rattle.host_runs.proofs.CallMoves.{unsent_on-some, begins, call_walks}
-use Rattle.host_runs.proofs.CallOk.{KeepsOk, step_ok, target_needs, flush_needs, goal_has_target}
+use Rattle.host_runs.proofs.CallOk.{step_ok, target_needs, flush_needs, goal_has_target}
 use Rattle.host_runs.proofs.CallSteps.{same_pages}
-use Rattle.host_runs.proofs.FlushFacts.{FlushFacts, is_open, other_pushed, wait_set, sync_begins, need_opens_none, entry_counted}
-use Rattle.host_runs.proofs.RingHost.{RingKept}
-use Rattle.host_runs.proofs.RulesHost.{KeepsRules, page_keeps}
+use Rattle.host_runs.proofs.FlushFacts.{other_pushed, wait_set, sync_begins, need_opens_none, entry_counted}
+use Rattle.host_runs.proofs.RulesHost.{page_keeps}
+use Rattle.host_runs.specs.Promises.{KeepsOk}
+use Rattle.host_runs.specs.laws.CallFacts.{CallFacts, wait_of, AllCalls}
+use Rattle.host_runs.specs.laws.FlushFacts.{FlushFacts, is_open}
+use Rattle.host_runs.specs.laws.Kept.{KeepsRules}
+use Rattle.host_runs.specs.laws.RingFacts.{RingKept}
 use Rattle.log_model.specs.Marks.{Transaction}
 use Rattle.order_model.specs.declared.note.Note.TheVariants as notes
 use Rattle.order_model.specs.declared.request.Kind.TheVariants as puts
@@ -40,28 +47,22 @@ use Rattle.std.specs.List.{filter, list_any}
 use Rattle.std.specs.Prelude.{◌≡◌, ℕ, ◌+◌, ◌-◌, ◌<◌, ◌==◌, ◌&&◌, ◌||◌, ◌⊎◌, Bool, true, false, not, List, [], ◌∷◌, ◌++◌, length, set, Option, Some, None, is_none, slice_get, nat_lt, IsTrue, refl, if◌then◌else◌}
 
 module _ {A T V C R : Type 0} {o : Over A T V C R} {Stands : V → T → Type 0} (contract : Contract o Stands) (txs : List Transaction) (N : ℕ) where
-  abbrev pub Calls : Host V C R → Type 0
-  Calls x = AllCalls (H o Stands x.history x.cuts) (session o Stands txs x) x.pages (length x.history) x.journal.running.number x.threads x.journal.flush.waits
-
-  abbrev pub Flushes : Host V C R → Type 0
-  Flushes x = FlushFacts o.model.kind x.journal.flush.notes x.journal.flush.waits x.history
-
   -- the rules and the ring's facts, without those of images; and all calls
   pub record KeepsCalls (x : Host V C R) : Type 0 where
     pub rules : AllRules o.program (H o Stands x.history x.cuts) (session o Stands txs x)
     pub ring : RingKept (session o Stands txs x) x.journal.ring N x.journal.phase
-    pub calls : Calls x
-    pub flushes : Flushes x
+    pub calls : Calls contract txs N x
+    pub flushes : Flushes contract txs N x
 
   abbrev Kept : Stepped V C R → Type 0
   Kept x = KeepsCalls x.host
 
-  module _ (s : Host V C R) (kept : KeepsRules contract s txs N) (calls : Calls s) (flushes : Flushes s) where
+  module _ (s : Host V C R) (kept : KeepsRules contract s txs N) (calls : Calls contract txs N s) (flushes : Flushes contract txs N s) where
     abbrev h : History A
     h = H o Stands s.history s.cuts
 
-    abbrev se : Session
-    se = session o Stands txs s
+    abbrev sess : Session
+    sess = session o Stands txs s
 
     abbrev r : ℕ
     r = s.journal.running.number
@@ -81,13 +82,13 @@ module _ {A T V C R : Type 0} {o : Over A T V C R} {Stands : V → T → Type 0}
           let on = x.on_way in
           let e : N + 1 ≡ r - 1 = omega arith in
           x.listed f (ap (λ k. h.changes k f) (sym e) ∙ ch);
-      idle = λ at. subst (InPhase o Stands s.history s.cuts se r N) at kept.images.0.in_phase;
-      closing = λ at. subst (InPhase o Stands s.history s.cuts se r N) at kept.images.0.in_phase;
+      idle = λ at. subst (InPhase o Stands s.history s.cuts sess r N) at kept.images.0.in_phase;
+      closing = λ at. subst (InPhase o Stands s.history s.cuts sess r N) at kept.images.0.in_phase;
       committing = λ p at. (in_plan p at).on_way;
     }
       where
-        in_plan : (p : Plan) → s.journal.phase ≡ Committing p → InPlan o Stands s.history s.cuts se r N p
-        in_plan p at = subst (InPhase o Stands s.history s.cuts se r N) at kept.images.0.in_phase
+        in_plan : (p : Plan) → s.journal.phase ≡ Committing p → InPlan o Stands s.history s.cuts sess r N p
+        in_plan p at = subst (InPhase o Stands s.history s.cuts sess r N) at kept.images.0.in_phase
 
     -- ---- an entry that changes no page; the call of thread t ends
 
@@ -101,7 +102,7 @@ module _ {A T V C R : Type 0} {o : Over A T V C R} {Stands : V → T → Type 0}
             rules = entry_rules contract s txs N kept e;
             ring = kept.ring;
             calls =
-                subst (λ n. AllCalls (H o Stands (s.history ++ e ∷ []) s.cuts) se s.pages n r (set s.threads t (record { calls = rest; begun = None })) (set s.journal.flush.waits t no_wait)) (sym (length_new o.model s.history e))
+                subst (λ n. AllCalls (H o Stands (s.history ++ e ∷ []) s.cuts) sess s.pages n r (set s.threads t (record { calls = rest; begun = None })) (set s.journal.flush.waits t no_wait)) (sym (length_new o.model s.history e))
                 (all_set t (record { calls = rest; begun = None }) no_wait there (λ b k. absurd (none-some b k)) (λ k. refl) grown);
             flushes = wait_set (entry_counted flushes e) t no_wait (λ v k x. absurd (false≢true x)) (λ id x. absurd (none-some id x));
           }
@@ -112,33 +113,33 @@ module _ {A T V C R : Type 0} {o : Over A T V C R} {Stands : V → T → Type 0}
         abbrev w : Wait
         w = wait_of s.journal.flush.waits t
 
-        facts : CallFacts h se s.pages (length s.history) r b w
+        facts : CallFacts h sess s.pages (length s.history) r b w
         facts = calls.each t th b at begun
 
         waits_on : (v : Wait) → (is_open s.journal.flush.notes v ≡ true → is_open s.journal.flush.notes w ≡ true) → ((id : ℕ) → v.need ≡ Some id → (id < length s.journal.flush.notes) × (is_durable v.kind ≡ true))
-            → CallFacts h se s.pages (length s.history) r b v → KeepsCalls (set_wait o.model o.setup s t v)
+            → CallFacts h sess s.pages (length s.history) r b v → KeepsCalls (set_wait o.model o.setup s t v)
         waits_on v opens needs new = record {
           flushes = wait_set flushes t v (λ x k e. let same = wait_at s.journal.flush.waits t x k in subst (λ y. is_open s.journal.flush.notes y ≡ true) same (opens e)) needs;
           rules = kept.rules;
           ring = kept.ring;
           calls = all_wait t v there
-              (λ x y e k. subst (λ z. CallFacts h se s.pages (length s.history) r z v) (same_Some b y (sym begun ∙ ap (λ (z : Thread C). z.begun) (same_Some th x (sym at ∙ e)) ∙ k)) new)
+              (λ x y e k. subst (λ z. CallFacts h sess s.pages (length s.history) r z v) (same_Some b y (sym begun ∙ ap (λ (z : Thread C). z.begun) (same_Some th x (sym at ∙ e)) ∙ k)) new)
               (λ x e k. absurd (none-some b (sym k ∙ sym (ap (λ (z : Thread C). z.begun) (same_Some th x (sym at ∙ e))) ∙ begun))) calls;
         }
 
-        need_calls : (id : ℕ) → (w.need ≡ None) ⊎ (w.need ≡ Some id) → (id < length s.journal.flush.notes) × (is_durable w.kind ≡ true) → CallFacts h se s.pages (length s.history) r b (record w { need = Some id }) → Kept (on_need o.model o.setup s t c rest w id)
+        need_calls : (id : ℕ) → (w.need ≡ None) ⊎ (w.need ≡ Some id) → (id < length s.journal.flush.notes) × (is_durable w.kind ≡ true) → CallFacts h sess s.pages (length s.history) r b (record w { need = Some id }) → Kept (await_durable o.model o.setup s t c rest w id)
         need_calls id fresh needs new =
             either Kept (list_any (is_flushed_after id) s.journal.flush.taken) _ _ (λ e. ends (Answered o.model.ok))
             (λ e. either Kept (at_limit s.journal.flush && not (flush_above id 0 s.journal.flush.notes)) _ _ (λ e. ends SessionFull) (λ e. waits_on (record w { need = Some id }) (need_opens_none s.journal.flush.notes id w fresh) (λ i q. let same = same_Some id i q in let lt = needs.0 in (omega arith, needs.1)) new))
 
-        last_put_calls : w.need ≡ None → is_durable w.kind ≡ true → ((id : ℕ) → last_put 0 s.journal.flush.notes None ≡ Some id → CallFacts h se s.pages (length s.history) r b (record w { need = Some id })) → Kept (on_last_put o.model o.setup s t c rest w)
+        last_put_calls : w.need ≡ None → is_durable w.kind ≡ true → ((id : ℕ) → last_put 0 s.journal.flush.notes None ≡ Some id → CallFacts h sess s.pages (length s.history) r b (record w { need = Some id })) → Kept (await_last_put o.model o.setup s t c rest w)
         last_put_calls no_need durable new = by (last_put 0 s.journal.flush.notes None) refl
           where
-            by : (x : Option ℕ) → last_put 0 s.journal.flush.notes None ≡ x → Kept (elim x as (λ _. Stepped V C R) [ None ↦ end_with o.model o.setup s t c rest (Answered o.model.ok) | Some id ↦ on_need o.model o.setup s t c rest w id ])
+            by : (x : Option ℕ) → last_put 0 s.journal.flush.notes None ≡ x → Kept (elim x as (λ _. Stepped V C R) [ None ↦ end_with o.model o.setup s t c rest (Answered o.model.ok) | Some id ↦ await_durable o.model o.setup s t c rest w id ])
             by None e = ends (Answered o.model.ok)
             by (Some id) e = need_calls id (inl no_need) (last_put_is_place s.journal.flush.notes id e, durable) (new id e)
 
-        target_calls : (k : ℕ) → w.need ≡ None → w.target ≡ Some k → Kept (on_target o.model o.setup s t c rest w k)
+        target_calls : (k : ℕ) → w.need ≡ None → w.target ≡ Some k → Kept (await_commit o.model o.setup s t c rest w k)
         target_calls k no_need target =
             either Kept (is_submitted s.journal k) _ _
             (λ e. either Kept (is_durable w.kind) _ _
@@ -147,7 +148,7 @@ module _ {A T V C R : Type 0} {o : Over A T V C R} {Stands : V → T → Type 0}
             (λ e. either Kept (at_limit s.journal.flush) _ _ (λ e. ends SessionFull) (λ e. stays))
 
         module _ (no_target : w.target ≡ None) (no_need : w.need ≡ None) where
-          to_commit : (k : ℕ) → unsent_on s.pages b.list ≡ None → goal_of s.journal b ≡ ToCommit k → Kept (on_goal o.model o.setup s t c rest w (ToCommit k))
+          to_commit : (k : ℕ) → unsent_on s.pages b.list ≡ None → goal_of s.journal b ≡ AwaitCommit k → Kept (pursue o.model o.setup s t c rest w (AwaitCommit k))
           to_commit k passed goal =
               let new = goal_has_target o.model o.setup s w refl trees kept.rules.order.commits kept.images.0.numbers listed_now facts t c rest no_target no_need passed k goal in
               either Kept (at_limit s.journal.flush) _ _ (λ e. ends SessionFull) (λ e. by (k == s.journal.running.number) (waits_on (record w { target = Some k }) (λ x. x) (λ id x. absurd (none-some id (sym no_need ∙ x))) new))
@@ -157,10 +158,10 @@ module _ {A T V C R : Type 0} {o : Over A T V C R} {Stands : V → T → Type 0}
               by false k = k
 
           -- where the goal is the last put, it is a data sync without a target
-          flush_goal : goal_of s.journal b ≡ ToFlush → (b.kind ≡ DataSync) × (latest_change s.journal b.file ≡ None)
+          flush_goal : goal_of s.journal b ≡ AwaitLastPut → (b.kind ≡ DataSync) × (latest_change s.journal b.file ≡ None)
           flush_goal e = by (is_data b.kind) (latest_change s.journal b.file) refl e
             where
-              of_kind : (k : Kind) (x : Bool) → data_goal k x r ≡ ToFlush → k ≡ DataSync
+              of_kind : (k : Kind) (x : Bool) → data_goal k x r ≡ AwaitLastPut → k ≡ DataSync
               of_kind DataSync x q = refl
               of_kind DataBarrier true q = absurd (let z : ⊥ = cc in z)
               of_kind DataBarrier false q = absurd (let z : ⊥ = cc in z)
@@ -175,17 +176,17 @@ module _ {A T V C R : Type 0} {o : Over A T V C R} {Stands : V → T → Type 0}
               of_kind WholeSync true q = absurd (let z : ⊥ = cc in z)
               of_kind WholeSync false q = absurd (let z : ⊥ = cc in z)
 
-              by : (x : Bool) (l : Option ℕ) → latest_change s.journal b.file ≡ l → (if x then elim l as (λ _. Goal) [ Some k ↦ ToCommit k | None ↦ data_goal b.kind b.sent_barrier r ] else ToCommit r) ≡ ToFlush → (b.kind ≡ DataSync) × (latest_change s.journal b.file ≡ None)
+              by : (x : Bool) (l : Option ℕ) → latest_change s.journal b.file ≡ l → (if x then elim l as (λ _. Goal) [ Some k ↦ AwaitCommit k | None ↦ data_goal b.kind b.sent_barrier r ] else AwaitCommit r) ≡ AwaitLastPut → (b.kind ≡ DataSync) × (latest_change s.journal b.file ≡ None)
               by true None l q = (of_kind b.kind b.sent_barrier q, l)
               by true (Some k) l q = absurd (let z : ⊥ = cc in z)
               by false l0 l q = absurd (let z : ⊥ = cc in z)
 
-          goal_calls : unsent_on s.pages b.list ≡ None → (g : Goal) → goal_of s.journal b ≡ g → Kept (on_goal o.model o.setup s t c rest w g)
-          goal_calls passed ToPass e = ends (Answered o.model.ok)
-          goal_calls passed ToFlush e =
+          goal_calls : unsent_on s.pages b.list ≡ None → (g : Goal) → goal_of s.journal b ≡ g → Kept (pursue o.model o.setup s t c rest w g)
+          goal_calls passed AnswerOk e = ends (Answered o.model.ok)
+          goal_calls passed AwaitLastPut e =
               let f = flush_goal e in
               last_put_calls no_need (ap is_durable (facts.kind ∙ f.0)) (λ id last. flush_needs o.model o.setup s w refl trees kept.rules.order.commits kept.images.0.numbers listed_now facts t c rest no_target no_need passed id f.0 f.1 last)
-          goal_calls passed (ToCommit k) e = to_commit k passed e
+          goal_calls passed (AwaitCommit k) e = to_commit k passed e
 
           walks : (next : CachedPage × List (ℕ × ℕ)) → unsent_on s.pages b.list ≡ Some next
               → KeepsCalls (set_thread o.model o.setup (send_page o.model o.setup s next.0 true (is_data b.kind && is_none (unsent_on s.pages next.1))) t (record { calls = c ∷ rest; begun = Some (record b { list = next.1; sent_barrier = b.sent_barrier || (is_data b.kind && is_none (unsent_on s.pages next.1)) }) }))
@@ -193,7 +194,7 @@ module _ {A T V C R : Type 0} {o : Over A T V C R} {Stands : V → T → Type 0}
               let is_next = unsent_on-some s.pages b.list next.0 next.1 e in
               let barrier = is_data b.kind && is_none (unsent_on s.pages next.1) in
               let q : Request = record { id = length s.journal.flush.requests; kind = puts.Put next.0.block next.0.body; ordered = true; barrier = barrier } in
-              let p = plainly se kept.images.0.counted q (notes.Page next.0.birth next.0.index next.0.version) in
+              let p = plainly sess kept.images.0.counted q (notes.Page next.0.birth next.0.index next.0.version) in
               let rules = page_keeps contract s txs N kept next.0 true barrier is_next.there in
               let others = all_sent p kept.images.0.mapped next.0 is_next.there refl Firm (λ e. refl) calls in
               let own = call_walks p s.pages kept.images.0.mapped next.0 is_next.there refl r b w next.1 barrier is_next refl (last next) no_target no_need facts in
@@ -216,36 +217,36 @@ module _ {A T V C R : Type 0} {o : Over A T V C R} {Stands : V → T → Type 0}
               last : (next : CachedPage × List (ℕ × ℕ)) → (is_data b.kind && is_none (unsent_on s.pages next.1)) ≡ true → (unsent_on s.pages next.1 ≡ None) × IsTrue ((is_data b.kind && is_none (unsent_on s.pages next.1)) || false)
               last next e = (none_of (unsent_on s.pages next.1) (second (is_data b.kind) (is_none (unsent_on s.pages next.1)) e), ap (λ x. x || false) e)
 
-          walk_calls : (full : Bool) → Kept (on_walk o.model o.setup full s t c rest w b)
+          walk_calls : (full : Bool) → Kept (walk_pages o.model o.setup full s t c rest w b)
           walk_calls full = by (unsent_on s.pages b.list) refl
             where
               by : (x : Option (CachedPage × List (ℕ × ℕ))) → unsent_on s.pages b.list ≡ x → Kept (elim x as (λ _. Stepped V C R) [
-                | None ↦ on_goal o.model o.setup s t c rest w (goal_of s.journal b)
+                | None ↦ pursue o.model o.setup s t c rest w (goal_of s.journal b)
                 | Some next ↦
                     if at_limit s.journal.flush then end_with o.model o.setup s t c rest SessionFull
-                    else if full then record { host = s; step = Waits ByQueue }
+                    else if full then record { host = s; step = outcomes.Waiting causes.QueueFull }
                     else record {
                       host = set_thread o.model o.setup (send_page o.model o.setup s next.0 true (is_data b.kind && is_none (unsent_on s.pages next.1))) t (record { calls = c ∷ rest; begun = Some (record b { list = next.1; sent_barrier = b.sent_barrier || (is_data b.kind && is_none (unsent_on s.pages next.1)) }) });
-                      step = Sent (length s.journal.flush.requests);
+                      step = outcomes.Sent (length s.journal.flush.requests);
                     }
               ])
               by None e = goal_calls e (goal_of s.journal b) refl
               by (Some next) e = either Kept (at_limit s.journal.flush) _ _ (λ e. ends SessionFull) (λ d. either Kept full _ _ (λ e. stays) (λ d. walks next e))
 
         -- A step of a begun call keeps all begun calls.
-        pub begun_calls : (full : Bool) → Kept (on_begun o.model o.setup full s t c rest w b)
+        pub begun_calls : (full : Bool) → Kept (continue_begun o.model o.setup full s t c rest w b)
         begun_calls full = by w.need refl w.target refl
           where
-            by : (x : Option ℕ) → w.need ≡ x → (y : Option ℕ) → w.target ≡ y → Kept (elim x as (λ _. Stepped V C R) [ Some id ↦ on_need o.model o.setup s t c rest w id | None ↦ elim y as (λ _. Stepped V C R) [ Some k ↦ on_target o.model o.setup s t c rest w k | None ↦ on_walk o.model o.setup full s t c rest w b ] ])
+            by : (x : Option ℕ) → w.need ≡ x → (y : Option ℕ) → w.target ≡ y → Kept (elim x as (λ _. Stepped V C R) [ Some id ↦ await_durable o.model o.setup s t c rest w id | None ↦ elim y as (λ _. Stepped V C R) [ Some k ↦ await_commit o.model o.setup s t c rest w k | None ↦ walk_pages o.model o.setup full s t c rest w b ] ])
             by (Some id) e y f = need_calls id (inr e) (let c = calls.counted in flushes.needed w (wait_In s.journal.flush.waits t (omega arith)) id e) (same_need id e)
               where
-                same_need : (id : ℕ) → w.need ≡ Some id → CallFacts h se s.pages (length s.history) r b (record w { need = Some id })
-                same_need id e = subst (λ n. CallFacts h se s.pages (length s.history) r b (record { kind = w.kind; target = w.target; need = n })) e facts
+                same_need : (id : ℕ) → w.need ≡ Some id → CallFacts h sess s.pages (length s.history) r b (record w { need = Some id })
+                same_need id e = subst (λ n. CallFacts h sess s.pages (length s.history) r b (record { kind = w.kind; target = w.target; need = n })) e facts
             by None e (Some k) f = target_calls k e f
             by None e None f = walk_calls f e full
 
         -- And where it answers Ok, the call's order rule holds.
-        pub begun_ok : (full : Bool) → (on_begun o.model o.setup full s t c rest w b).step ≡ Done o.model.ok → KeepsOk h se s.journal.flush.taken (length s.history + 1) b
+        pub begun_ok : (full : Bool) → (continue_begun o.model o.setup full s t c rest w b).step ≡ outcomes.Done o.model.ok → KeepsOk h sess s.journal.flush.taken (length s.history + 1) b
         begun_ok full e = let same = calls.counted in step_ok o.model o.setup s w refl trees kept.rules.order.commits kept.images.0.numbers listed_now facts full t c rest (λ id q. ap is_durable (sym facts.kind) ∙ (flushes.needed w (wait_In s.journal.flush.waits t (omega arith)) id q).1) e
 
     -- ---- a call begins
@@ -257,7 +258,7 @@ module _ {A T V C R : Type 0} {o : Over A T V C R} {Stands : V → T → Type 0}
         let grown = all_grow noted kept.images.0.numbers (same_pages noted kept.images.0.numbers s.pages) calls in
         let images = quiet_keeps contract refl refl e (unanswered_quiet contract s.history e refl) kept.images.0 in
         let more_trees = trees_noted o.model contract.trees o.place (s.history ++ e ∷ []) s.cuts images.rise in
-        let plain = plain_at contract (s.history ++ e ∷ []) s.cuts se s.volume (length (s.history ++ e ∷ [])) refl refl images.stands in
+        let plain = plain_at contract (s.history ++ e ∷ []) s.cuts sess s.volume (length (s.history ++ e ∷ [])) refl refl images.stands in
         let b : Begun = record { begin = length s.history + 1; kind = o.model.kind c; file = o.model.node s.volume c; list = listed o.model o.setup s.pages (o.model.kind c) (o.model.node s.volume c); sent_barrier = false } in
         let v : Wait = record { kind = o.model.kind c; target = None; need = None } in
         let new = begins more_trees plain s.pages images.mapped images.sent b v (sym (length_new o.model s.history e)) refl refl refl refl refl r in
@@ -267,8 +268,8 @@ module _ {A T V C R : Type 0} {o : Over A T V C R} {Stands : V → T → Type 0}
           flushes = begun_flushes (is_durable (o.model.kind c)) refl;
           calls =
               all_set t (record { calls = c ∷ rest; begun = Some b }) v there
-              (λ x k. subst (λ y. CallFacts (H o Stands (s.history ++ e ∷ []) s.cuts) se s.pages (length (s.history ++ e ∷ [])) r y v) (same_Some b x k) new) (λ k. absurd (none-some b (sym k)))
-              (subst (λ n. AllCalls (H o Stands (s.history ++ e ∷ []) s.cuts) se s.pages n r s.threads s.journal.flush.waits) (sym (length_new o.model s.history e)) grown);
+              (λ x k. subst (λ y. CallFacts (H o Stands (s.history ++ e ∷ []) s.cuts) sess s.pages (length (s.history ++ e ∷ [])) r y v) (same_Some b x k) new) (λ k. absurd (none-some b (sym k)))
+              (subst (λ n. AllCalls (H o Stands (s.history ++ e ∷ []) s.cuts) sess s.pages n r s.threads s.journal.flush.waits) (sym (length_new o.model s.history e)) grown);
         }
       where
         begun_flushes : (x : Bool) → is_durable (o.model.kind c) ≡ x → FlushFacts o.model.kind s.journal.flush.notes (set s.journal.flush.waits t (record { kind = o.model.kind c; target = None; need = None })) (s.history ++ record { thread = t; call = c; what = Begins } ∷ [])
@@ -285,21 +286,21 @@ module _ {A T V C R : Type 0} {o : Over A T V C R} {Stands : V → T → Type 0}
         lacks : ℕ
         lacks = o.model.needs s.volume c - length (o.model.zones s.volume).free
 
-        fourth : (x : Bool) → (if x then Some (ByQuarantine lacks) else None) ≡ None → x ≡ false
-        fourth true n = absurd (none-some (ByQuarantine lacks) (sym n))
+        fourth : (x : Bool) → (if x then Some (causes.Quarantine lacks) else None) ≡ None → x ≡ false
+        fourth true n = absurd (none-some (causes.Quarantine lacks) (sym n))
         fourth false n = refl
 
-        third : (x : Bool) → (if not x then Some (ByTxFull (log_needs s.journal.running)) else if nat_lt (length (o.model.zones s.volume).free) (o.model.needs s.volume c) then Some (ByQuarantine lacks) else None) ≡ None
+        third : (x : Bool) → (if not x then Some (causes.TxFull (log_needs s.journal.running)) else if nat_lt (length (o.model.zones s.volume).free) (o.model.needs s.volume c) then Some (causes.Quarantine lacks) else None) ≡ None
             → nat_lt (length (o.model.zones s.volume).free) (o.model.needs s.volume c) ≡ false
         third true n = fourth (nat_lt (length (o.model.zones s.volume).free) (o.model.needs s.volume c)) n
-        third false n = absurd (none-some (ByTxFull (log_needs s.journal.running)) (sym n))
+        third false n = absurd (none-some (causes.TxFull (log_needs s.journal.running)) (sym n))
 
-        second : (x : Bool) → (if x then Some ByClosing else if not (fits o.model o.setup s.journal.running) then Some (ByTxFull (log_needs s.journal.running)) else if nat_lt (length (o.model.zones s.volume).free) (o.model.needs s.volume c) then Some (ByQuarantine lacks) else None) ≡ None
+        second : (x : Bool) → (if x then Some causes.Closing else if not (fits o.model o.setup s.journal.running) then Some (causes.TxFull (log_needs s.journal.running)) else if nat_lt (length (o.model.zones s.volume).free) (o.model.needs s.volume c) then Some (causes.Quarantine lacks) else None) ≡ None
             → nat_lt (length (o.model.zones s.volume).free) (o.model.needs s.volume c) ≡ false
-        second true n = absurd (none-some ByClosing (sym n))
+        second true n = absurd (none-some causes.Closing (sym n))
         second false n = third (fits o.model o.setup s.journal.running) n
 
-        first : (x : Bool) → x ≡ true → (if not x then None else if is_closing s.journal.phase then Some ByClosing else if not (fits o.model o.setup s.journal.running) then Some (ByTxFull (log_needs s.journal.running)) else if nat_lt (length (o.model.zones s.volume).free) (o.model.needs s.volume c) then Some (ByQuarantine lacks) else None) ≡ None
+        first : (x : Bool) → x ≡ true → (if not x then None else if is_closing s.journal.phase then Some causes.Closing else if not (fits o.model o.setup s.journal.running) then Some (causes.TxFull (log_needs s.journal.running)) else if nat_lt (length (o.model.zones s.volume).free) (o.model.needs s.volume c) then Some (causes.Quarantine lacks) else None) ≡ None
             → nat_lt (length (o.model.zones s.volume).free) (o.model.needs s.volume c) ≡ false
         first true d n = second (is_closing s.journal.phase) n
         first false d n = absurd (false≢true d)
@@ -312,9 +313,9 @@ module _ {A T V C R : Type 0} {o : Over A T V C R} {Stands : V → T → Type 0}
         let es = s.history ++ e ∷ [] in
         let noted = entry_noted o.model s.history e o.place s.cuts r kept.images.0.closed kept.images.0.numbers.cuts in
         let images = (change_keeps contract s txs N t c rest kept.images accepted plain (enough c free)).0 in
-        let old = plain_at contract s.history s.cuts se s.volume (length s.history) refl refl kept.images.0.stands in
+        let old = plain_at contract s.history s.cuts sess s.volume (length s.history) refl refl kept.images.0.stands in
         let next = length_new o.model s.history e in
-        let new = subst (λ n. IsPlain o.program (H o Stands es s.cuts) se n (view_of o a.volume)) next (plain_at contract es s.cuts se a.volume (length es) refl refl images.stands) in
+        let new = subst (λ n. IsPlain o.program (H o Stands es s.cuts) sess n (view_of o a.volume)) next (plain_at contract es s.cuts sess a.volume (length es) refl refl images.stands) in
         let ps = written_pages o.model o.setup a.volume (length s.history + 1) (dropped_pages o.model o.setup s.pages a.touched.dropped) a.touched.pages in
         let mapped = subst (λ n. PagesMapped (H o Stands es s.cuts) n (view_of o a.volume) ps) next images.mapped in
         let keeps = change_keeps_unsent o.model o.setup noted kept.images.0.numbers old new s.pages a.volume a.touched.dropped a.touched.pages kept.images.0.mapped mapped in
@@ -324,7 +325,7 @@ module _ {A T V C R : Type 0} {o : Over A T V C R} {Stands : V → T → Type 0}
           ring = kept.ring;
           flushes = wait_set (entry_counted flushes e) t no_wait (λ v k x. absurd (false≢true x)) (λ id x. absurd (none-some id x));
           calls =
-              subst (λ n. AllCalls (H o Stands es s.cuts) se ps n r (set s.threads t (record { calls = rest; begun = None })) (set s.journal.flush.waits t no_wait)) (sym next)
+              subst (λ n. AllCalls (H o Stands es s.cuts) sess ps n r (set s.threads t (record { calls = rest; begun = None })) (set s.journal.flush.waits t no_wait)) (sym next)
               (all_set t (record { calls = rest; begun = None }) no_wait there (λ b k. absurd (none-some b k)) (λ k. refl) grown);
         }
 
@@ -332,19 +333,19 @@ module _ {A T V C R : Type 0} {o : Over A T V C R} {Stands : V → T → Type 0}
     wants = record { rules = kept.rules; ring = kept.ring; calls = calls; flushes = flushes }
 
     hindered_calls : (cause : Cause) → KeepsCalls (hindered o.model o.setup s cause)
-    hindered_calls ByClosing = stays
-    hindered_calls (ByTxFull n) = wants
-    hindered_calls (ByQuarantine n) = either KeepsCalls (nat_lt (length (filter (λ (z : Freed). nat_lt z.transaction s.journal.running.number) (o.model.zones s.volume).waiting)) n) (wanting o.model o.setup s) s (λ e. wants) (λ e. stays)
-    hindered_calls (ByConflict b k) = stays
-    hindered_calls (ByCommit k) = stays
-    hindered_calls (ByNeed k) = stays
-    hindered_calls ByQueue = stays
+    hindered_calls causes.Closing = stays
+    hindered_calls (causes.TxFull n) = wants
+    hindered_calls (causes.Quarantine n) = either KeepsCalls (nat_lt (length (filter (λ (z : Freed). nat_lt z.transaction s.journal.running.number) (o.model.zones s.volume).waiting)) n) (wanting o.model o.setup s) s (λ e. wants) (λ e. stays)
+    hindered_calls (causes.Conflict b k) = stays
+    hindered_calls (causes.Commit k) = stays
+    hindered_calls (causes.Durable k) = stays
+    hindered_calls causes.QueueFull = stays
 
     plain_calls : (t : ℕ) (c : C) (rest : List C) → t < length s.threads → o.model.reply s.volume c ≡ None → is_begun (o.model.kind c) ≡ false → Kept (plain o.model o.setup s t c rest)
     plain_calls t c rest there accepted not_begun = by (hindrance o.model o.setup s c) refl
       where
         by : (x : Option Cause) → hindrance o.model o.setup s c ≡ x → Kept (elim x as (λ _. Stepped V C R) [
-          | Some cause ↦ if at_limit s.journal.flush then end_with o.model o.setup s t c rest SessionFull else record { host = hindered o.model o.setup s cause; step = Waits cause }
+          | Some cause ↦ if at_limit s.journal.flush then end_with o.model o.setup s t c rest SessionFull else record { host = hindered o.model o.setup s cause; step = outcomes.Waiting cause }
           | None ↦ end_with o.model o.setup (change o.model o.setup s c (o.model.apply s.volume (length s.history + 1) s.journal.running.number c)) t c rest (Answered (o.model.apply s.volume (length s.history + 1) s.journal.running.number c).reply)
         ])
         by None e = changes t c rest there accepted not_begun e
@@ -352,7 +353,7 @@ module _ {A T V C R : Type 0} {o : Over A T V C R} {Stands : V → T → Type 0}
 
     -- ---- a caller's step
 
-    call_calls : (full : Bool) (t : ℕ) (th : Thread C) (c : C) (rest : List C) → slice_get s.threads t ≡ Some th → Kept (on_call o.model o.setup full s t th.begun c rest)
+    call_calls : (full : Bool) (t : ℕ) (th : Thread C) (c : C) (rest : List C) → slice_get s.threads t ≡ Some th → Kept (step_call o.model o.setup full s t th.begun c rest)
     call_calls full t th c rest at = by th.begun refl
       where
         there : t < length s.threads
@@ -364,28 +365,28 @@ module _ {A T V C R : Type 0} {o : Over A T V C R} {Stands : V → T → Type 0}
         second None e true f = begins_calls t c rest (slice_get-length s.threads t th at)
         second None e false f = plain_calls t c rest (slice_get-length s.threads t th at) e f
 
-        by : (x : Option Begun) → th.begun ≡ x → Kept (on_call o.model o.setup full s t x c rest)
+        by : (x : Option Begun) → th.begun ≡ x → Kept (step_call o.model o.setup full s t x c rest)
         by (Some b) e = begun_calls t c rest (slice_get-length s.threads t th at) th b at e full
         by None e = second (o.model.reply s.volume c) refl (is_begun (o.model.kind c)) refl
 
-    thread_calls : (full : Bool) (t : ℕ) (th : Thread C) → slice_get s.threads t ≡ Some th → (cs : List C) → Kept (on_thread o.model o.setup full s t th.begun cs)
+    thread_calls : (full : Bool) (t : ℕ) (th : Thread C) → slice_get s.threads t ≡ Some th → (cs : List C) → Kept (step_thread o.model o.setup full s t th.begun cs)
     thread_calls full t th at [] = stays
     thread_calls full t th at (c ∷ rest) = by (stop_of o.model o.setup s.journal.flush.taken (o.model.kind c))
       where
-        by : (x : Option (Ending R)) → Kept (elim x as (λ _. Stepped V C R) [ Some stop ↦ end_with o.model o.setup s t c rest stop | None ↦ on_call o.model o.setup full s t th.begun c rest ])
+        by : (x : Option (Ending R)) → Kept (elim x as (λ _. Stepped V C R) [ Some stop ↦ end_with o.model o.setup s t c rest stop | None ↦ step_call o.model o.setup full s t th.begun c rest ])
         by (Some stop) = ends t c rest (slice_get-length s.threads t th at) stop
         by None = call_calls full t th c rest at
 
     pub advance_calls : (full : Bool) (t : ℕ) → Kept (advance o.model o.setup full s t)
     advance_calls full t = by (slice_get s.threads t) refl
       where
-        by : (x : Option (Thread C)) → slice_get s.threads t ≡ x → Kept (elim x as (λ _. Stepped V C R) [ None ↦ record { host = s; step = HasEnded } | Some th ↦ on_thread o.model o.setup full s t th.begun th.calls ])
+        by : (x : Option (Thread C)) → slice_get s.threads t ≡ x → Kept (elim x as (λ _. Stepped V C R) [ None ↦ record { host = s; step = outcomes.Ended } | Some th ↦ step_thread o.model o.setup full s t th.begun th.calls ])
         by None e = stays
         by (Some th) e = thread_calls full t th e th.calls
 
     -- with the facts of images
     pub advance_rules : (full : Bool) (t : ℕ) → ((th : Thread C) (c : C) (rest : List C) (x : Begun) → slice_get s.threads t ≡ Some th → th.calls ≡ c ∷ rest → th.begun ≡ Some x → is_begun (o.model.kind c) ≡ true)
-        → KeepsRules contract (advance o.model o.setup full s t).host txs N × Calls (advance o.model o.setup full s t).host × Flushes (advance o.model o.setup full s t).host
+        → KeepsRules contract (advance o.model o.setup full s t).host txs N × Calls contract txs N (advance o.model o.setup full s t).host × Flushes contract txs N (advance o.model o.setup full s t).host
     advance_rules full t begun_kinds =
         let x = advance_calls full t in
         (record { rules = x.rules; images = (advance_keeps contract txs N s (kept.images, record { order = kept.rules.order; pages = kept.rules.pages; committed = kept.rules.committed }) full t begun_kinds).0; ring = x.ring }, x.calls, x.flushes)

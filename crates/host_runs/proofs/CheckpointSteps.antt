@@ -12,9 +12,10 @@ use Rattle.host_machine.specs.Parts.{LogRing, all_home}
 use Rattle.host_machine.specs.Plan.{Planned}
 use Rattle.host_runs.proofs.GrowingFacts.{number_submitted, entries_grown, bodies_grown, places_step, homes_step, home_done_old, numbers_step}
 use Rattle.host_runs.proofs.PlaceLaws.{next_place_is_freed}
-use Rattle.host_runs.proofs.RingFacts.{AreCommitted, PlaceFacts, IsHomeDone, HomeFacts, places_of, count, if_log, log_bytes, StartsWithSuper, PlanFacts}
-use Rattle.host_runs.proofs.RingStateLaws.{IsApart, commit_homes, In-commit_homes, commit_homes-ascends, commit_homes-body, commit_homes-kept}
+use Rattle.host_runs.proofs.RingStateLaws.{In-commit_homes, commit_homes-ascends, commit_homes-body, commit_homes-kept}
 use Rattle.host_runs.proofs.RingSteps.{sending, RingClause}
+use Rattle.host_runs.specs.laws.Homes.{IsApart, commit_homes}
+use Rattle.host_runs.specs.laws.RingFacts.{AreCommitted, PlaceFacts, IsHomeDone, HomeFacts, places_of, count, if_log, log_bytes, StartsWithSuper, PlanFacts}
 use Rattle.log_model.proofs.Marks.{mark-split, keep≢set, clear≢set}
 use Rattle.log_model.proofs.Ring.{places_on-place}
 use Rattle.log_model.specs.Log.{Spells}

@@ -11,9 +11,8 @@ use Rattle.host_machine.proofs.Entries.{trees_noted}
 use Rattle.host_machine.specs.Model.{is_data, is_durable}
 use Rattle.host_machine.specs.State.{Begun, Host}
 use Rattle.host_machine.specs.laws.Contract.{Over, Contract, H, session}
-use Rattle.host_runs.proofs.CallFacts.{call_of}
-use Rattle.host_runs.proofs.CallOk.{KeepsOk}
-use Rattle.host_runs.proofs.RulesHost.{KeepsRules}
+use Rattle.host_runs.specs.Promises.{call_of, KeepsOk}
+use Rattle.host_runs.specs.laws.Kept.{KeepsRules}
 use Rattle.log_model.specs.Marks.{Transaction}
 use Rattle.order_model.specs.Submission.{IsOrderClosed, KeepsFlushed}
 use Rattle.order_model.specs.declared.completion.Completion.{Completion}

@@ -9,7 +9,7 @@ use Rattle.crash_laws.specs.Session.{Session, log_transaction, IsSubmitted, Befo
 use Rattle.crash_laws.specs.Submitting.{Submitting, after, new_place}
 use Rattle.host_machine.specs.Parts.{LogRing}
 use Rattle.host_machine.specs.Plan.{Planned}
-use Rattle.host_runs.proofs.RingFacts.{AreCommitted, PlaceFacts, IsHomeDone, HomeFacts, places_of, if_log, count, log_bytes, ArePlanned, IsClosed, PlanFacts}
+use Rattle.host_runs.specs.laws.RingFacts.{AreCommitted, PlaceFacts, IsHomeDone, HomeFacts, places_of, if_log, count, log_bytes, ArePlanned, IsClosed, PlanFacts}
 use Rattle.log_model.specs.Log.{Spells}
 use Rattle.log_model.specs.Marks.{Logged, Transaction, mark_in, transactions_from}
 use Rattle.log_model.specs.Ring.{places_on}

@@ -1,7 +1,6 @@
 pub mod ActorHost
 pub mod BuildHost
 pub mod BuildSteps
-pub mod CallFacts
 pub mod CallGoals
 pub mod CallHost
 pub mod CallMoves
@@ -16,7 +15,6 @@ pub mod GrowingFacts
 pub mod OkSteps
 pub mod PlaceLaws
 pub mod PlanLaws
-pub mod RingFacts
 pub mod RingHost
 pub mod RingStateLaws
 pub mod RingSteps

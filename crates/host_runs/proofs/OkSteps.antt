@@ -9,9 +9,8 @@ use Rattle.crash_laws.specs.PromiseRules.{Covers, CoversEntry}
 use Rattle.crash_laws.specs.Session.{Session, Submitted}
 use Rattle.crash_laws.specs.Submitting.{Submitting, after}
 use Rattle.host_machine.specs.State.{Begun}
-use Rattle.host_runs.proofs.CallFacts.{call_of}
 use Rattle.host_runs.proofs.CallHost.{held_told}
-use Rattle.host_runs.proofs.CallOk.{KeepsOk}
+use Rattle.host_runs.specs.Promises.{call_of, KeepsOk}
 use Rattle.log_model.specs.Marks.{Transaction}
 use Rattle.order_model.specs.declared.completion.Completion.TheVariants.{Flushed}
 use Rattle.order_model.specs.declared.completion.Completion.{Completion}

@@ -3,7 +3,7 @@ use Rattle.blk_base.specs.Members.{In, In-slice_get}
 use Rattle.crash_laws.specs.Rules.{LogLayout}
 use Rattle.crash_laws.specs.Session.{Session, log_transaction, IsLog, LogBlock, with_log_block, log_blocks_from, log_blocks, IsSuperOf}
 use Rattle.host_machine.specs.Parts.{LogRing}
-use Rattle.host_runs.proofs.RingFacts.{PlaceFacts}
+use Rattle.host_runs.specs.laws.RingFacts.{PlaceFacts}
 use Rattle.log_model.proofs.Ring.{places_on-add, places_on-place, place_after-last, places_on-up}
 use Rattle.log_model.specs.Ring.{Ring, places_on, IsPlace}
 use Rattle.order_model.specs.Submission.{IsPutOf}

@@ -1,4 +1,5 @@
 -- The log blocks of a plan spell its transaction, and there are as many as were counted.
+use Rattle.host_runs.specs.laws.Written.{IsWord, tag_of, AreWritten, IsWritable}
 use Rattle.blk_base.specs.Members.{In, In-append_left, In-append_right, In-append_cases, In-map}
 use Rattle.crash_laws.specs.Rules.{HasHeader}
 use Rattle.crash_laws.specs.Session.{log_transaction}
@@ -13,28 +14,6 @@ use Rattle.std.proofs.Common.{sym, ap, subst, ◌∙◌, inl, inr, ⊎_elim, ari
 use Rattle.std.specs.Prelude.{◌≡◌, ℕ, zero, suc, ◌+◌, ◌-◌, ◌*◌, ◌<◌, ◌≤◌, List, [], ◌∷◌, ◌++◌, map, length, Some, refl}
 
 -- ---- what is written is read back
-
-abbrev pub IsWord : ℕ → Type 0
-IsWord n = n < 4294967296
-
-abbrev pub tag_of : Writers → Logged → Tag
-tag_of w l = record { block = l.block; escaped = w.is_escaped l.body }
-
--- The journal's format reads what these write: with 1 to 122 tags, with 1 to 252 revokes, and whole blocks.
-pub record AreWritten (f : Format) (w : Writers) : Type 0 where
-  pub descriptor : (seq : ℕ) (tags : List Tag) → IsWord seq → 1 ≤ length tags → length tags ≤ 122 → ((t : Tag) → In t tags → IsWord t.block) → f.header (w.descriptor seq tags) ≡ Describes seq tags
-  pub revoke : (seq : ℕ) (blocks : List ℕ) → IsWord seq → 1 ≤ length blocks → length blocks ≤ 252 → ((b : ℕ) → In b blocks → IsWord b) → f.header (w.revoke seq blocks) ≡ Revokes seq blocks
-  pub commit : (seq : ℕ) → IsWord seq → f.header (w.commit seq) ≡ Commits seq
-  -- a stored body is escaped, so it never begins as a header does
-  pub plain : (body : List ℕ) → length body ≡ 1024 → f.header (w.stored body) ≡ Plain
-  pub stored : (b : ℕ) (body : List ℕ) → length body ≡ 1024 → f.restore (record { block = b; escaped = w.is_escaped body }) (w.stored body) ≡ body
-  pub super : (seq start : ℕ) → IsWord seq → IsWord start → f.tail (w.super seq start) ≡ record { sequence = seq; start = start }
-
--- its numbers fit into words, and its bodies are whole blocks
-pub record IsWritable (t : Transaction) : Type 0 where
-  pub blocks : (l : Logged) → In l t.bodies → IsWord l.block
-  pub bodies : (l : Logged) → In l t.bodies → length l.body ≡ 1024
-  pub revokes : (b : ℕ) → In b t.revokes → IsWord b
 
 -- ---- parts
 

@@ -1,5 +1,6 @@
 -- The facts of ring, checkpoint and plan, over the host's state: each step of the commit actor keeps them and owes
 -- nothing more of the order rules than what images and pages owe.
+use Rattle.host_runs.specs.laws.RingFacts.{transaction_of_plan, IsStarted, IsOnWay, IsAtRest, RingInPhase, RingKept}
 use Rattle.crash_laws.proofs.LogSteps.{same_transactions}
 use Rattle.crash_laws.specs.Clauses.{CommitClause}
 use Rattle.crash_laws.specs.Rules.{CommitOrder, LogLayout, CheckpointOrder}
@@ -11,23 +12,16 @@ use Rattle.host_machine.specs.State.{Plan, Phase, Idle, Closing, Committing}
 use Rattle.host_runs.proofs.BuildSteps.{built_plan, built_places}
 use Rattle.host_runs.proofs.CheckpointSteps.{commit_ring_clause, commit_numbers, commit_places, commit_home_facts, home_request, home_ring_clause, home_numbers, home_places, home_facts_step, super_request, super_ring_clause, super_numbers, super_homes, super_places}
 use Rattle.host_runs.proofs.GrowingFacts.{places_step, homes_step, numbers_step, plan_stays}
-use Rattle.host_runs.proofs.PlanLaws.{IsWord, AreWritten, IsWritable}
-use Rattle.host_runs.proofs.RingFacts.{AreCommitted, PlaceFacts, HomeFacts, places_of, count, PlanFacts}
-use Rattle.host_runs.proofs.RingStateLaws.{IsApart}
 use Rattle.host_runs.proofs.RingSteps.{sending, RingClause, next_clause, planned_numbers, planned_homes, planned_places, plan_goes_on, next_planned, is_some}
+use Rattle.host_runs.specs.laws.Homes.{IsApart}
+use Rattle.host_runs.specs.laws.RingFacts.{AreCommitted, PlaceFacts, HomeFacts, places_of, count, PlanFacts}
+use Rattle.host_runs.specs.laws.Written.{IsWord, AreWritten, IsWritable}
 use Rattle.log_model.specs.Marks.{Logged, Transaction, mark_in, transactions_from}
 use Rattle.order_model.specs.declared.note.Note.TheVariants.{Super, Commit, Home}
 use Rattle.std.proofs.Common.{sym, ap, subst, ◌∙◌, inl, inr, ⊎_elim, arith}
 use Rattle.std.proofs.lemmas.Bool.{false≢true}
 use Rattle.std.proofs.lemmas.Option.{none-some}
 use Rattle.std.specs.Prelude.{◌≡◌, ◌≢◌, ℕ, ◌+◌, ◌-◌, ◌≤◌, Bool, true, false, List, [], ◌∷◌, ◌++◌, length, Option, None, refl}
-
-abbrev pub transaction_of_plan : Plan → Transaction
-transaction_of_plan p = record { bodies = p.bodies; revokes = p.revokes }
-
--- the superblock on the disk says that there is a log just where a transaction is committed
-abbrev pub IsStarted : LogRing → ℕ → Type 0
-IsStarted ring N = (ring.started ≡ true → 1 ≤ N) × (ring.started ≡ false → N ≡ 0)
 
 count-append : (xs ys : List Planned) → count (xs ++ ys) ≡ count xs + count ys
 count-append [] ys = omega arith
@@ -39,31 +33,6 @@ count_left plan =
     let e = ap count plan.whole ∙ count-append plan.before (plan.commit ∷ []) in
     let c : places_of plan.commit.note ≡ 1 = ap (λ n. length (with_log_block (log_transaction n) 0 [])) plan.last_note in
     omega arith
-
--- where the plan of transaction N + 1 is on its way
-pub record IsOnWay (s : Session) (ring : LogRing) (N : ℕ) (p : Plan) : Type 0 where
-  pub start : ℕ
-  pub numbers : AreCommitted s N (N + 1)
-  pub plan : PlanFacts s (N + 1) (transaction_of_plan p) start p.rest
-  pub places : PlaceFacts s ring (count p.rest)
-  pub apart : IsApart (transaction_of_plan p)
-  pub told : s.transactions (N + 1) ≡ transaction_of_plan p
-  pub started : ring.started ≡ true
-
--- and where none is
-pub record IsAtRest (s : Session) (ring : LogRing) (N : ℕ) : Type 0 where
-  pub numbers : AreCommitted s N N
-  pub places : PlaceFacts s ring 0
-  pub started : IsStarted ring N
-
-abbrev pub RingInPhase : Session → LogRing → ℕ → Phase → Type 0
-RingInPhase s ring N Idle = IsAtRest s ring N
-RingInPhase s ring N Closing = IsAtRest s ring N
-RingInPhase s ring N (Committing p) = IsOnWay s ring N p
-
-pub record RingKept (s : Session) (ring : LogRing) (N : ℕ) (phase : Phase) : Type 0 where
-  pub homes : HomeFacts s N ring.homes
-  pub in_phase : RingInPhase s ring N phase
 
 -- what a step gives: the clause of its request, and the facts behind it
 pub record RingStep (p : Submitting) (ring : LogRing) (N : ℕ) (phase : Phase) : Type 0 where

@@ -1,4 +1,5 @@
 -- Laws of the bodies that are to be sent home.
+use Rattle.host_runs.specs.laws.Homes.{unrevoked, commit_homes, IsRisingHomes, IsApart}
 use Rattle.blk_base.specs.Members.{In, In-filter, filter-In, In-list_any, IsAscending, IsAscending-filter}
 use Rattle.host_machine.specs.Parts.{has, put_home, put_homes}
 use Rattle.log_model.proofs.Marks.{same_Set, keep≢set, clear≢set}
@@ -7,17 +8,6 @@ use Rattle.std.proofs.Common.{sym, ap, subst, ◌∙◌, inl, inr, ⊎_elim, ari
 use Rattle.std.proofs.lemmas.Bool.{cases_Bool, cases_lt, cond-true, cond-false}
 use Rattle.std.specs.List.{filter}
 use Rattle.std.specs.Prelude.{◌≡◌, ◌≢◌, ℕ, ◌<◌, ◌==◌, ◌⊎◌, Bool, true, false, not, List, [], ◌∷◌, nat_lt, if◌then◌else◌, refl}
-
--- the homes that a transaction does not revoke, and what a commit block leaves
-abbrev pub unrevoked : List ℕ → List Logged → List Logged
-unrevoked blocks = filter (λ (l : Logged). not (has blocks l.block))
-
-abbrev pub commit_homes : Transaction → List Logged → List Logged
-commit_homes t homes = put_homes (unrevoked t.revokes homes) t.bodies
-
--- homes are of different blocks, in rising order
-abbrev pub IsRisingHomes : List Logged → Type 0
-IsRisingHomes = IsAscending (λ (l : Logged). l.block)
 
 -- ---- one body
 
@@ -166,10 +156,6 @@ put_homes-body (l ∷ ls) hs b x k = by (bodies_mark ls b) refl k (put_homes-bod
     by Keep e h rest kept = kept (subst (λ (z : Logged). In z (put_home hs l)) (here (l.block == b) refl h) (put_home-self l hs)) e
 
 -- ---- a transaction
-
--- it revokes no block that it has a body of
-abbrev pub IsApart : Transaction → Type 0
-IsApart t = (l : Logged) → In l t.bodies → In l.block t.revokes → ⊥
 
 pub bodies_mark-In : (ls : List Logged) (b : ℕ) (x : List ℕ) → bodies_mark ls b ≡ Set x → (l : Logged) × In l ls × (l.block ≡ b)
 bodies_mark-In [] b x k = absurd (keep≢set x k)

@@ -13,7 +13,7 @@ use Rattle.host_machine.specs.Parts.{LogRing}
 use Rattle.host_machine.specs.Plan.{Planned}
 use Rattle.host_runs.proofs.GrowingFacts.{count_grown, bodies_grown, places_step, homes_step, numbers_step}
 use Rattle.host_runs.proofs.PlaceLaws.{next_place_is_freed}
-use Rattle.host_runs.proofs.RingFacts.{AreCommitted, PlaceFacts, HomeFacts, request_of, places_of, IsFirstSuper, IsNextLog, ArePlanned, count, if_log, log_bytes, EndsFenced, StartsWithSuper, IsClosed, PlanFacts}
+use Rattle.host_runs.specs.laws.RingFacts.{AreCommitted, PlaceFacts, HomeFacts, request_of, places_of, IsFirstSuper, IsNextLog, ArePlanned, count, if_log, log_bytes, EndsFenced, StartsWithSuper, IsClosed, PlanFacts}
 use Rattle.log_model.proofs.Marks.{keep≢set}
 use Rattle.log_model.proofs.Ring.{places_on-place}
 use Rattle.log_model.specs.Log.{Spells}

@@ -1,5 +1,6 @@
 -- Images and ring together: each request that the host submits keeps all order rules, and the facts.
 use Rattle.host_machine.specs.laws.Rules.{AllRules}
+use Rattle.host_runs.specs.laws.Kept.{KeepsRules}
 use Rattle.crash_laws.proofs.Growing.{fence_old, fence_new}
 use Rattle.crash_laws.proofs.ImageSteps.{page_order_step, data_before_commit_step}
 use Rattle.crash_laws.proofs.OrderSteps.{order_rules_step}
@@ -14,16 +15,16 @@ use Rattle.host_machine.proofs.Commits.{commit_owes, commit_owes_images, other_o
 use Rattle.host_machine.proofs.PlanSteps.{commit_keeps}
 use Rattle.host_machine.proofs.RequestSteps.{send_keeps, request_keeps, page_owes_pages, page_owes_image, page_fits}
 use Rattle.host_machine.proofs.Sends.{plainly}
-use Rattle.host_machine.specs.Host.{send_planned, committed, check_out, send_page, with_flush}
+use Rattle.host_machine.specs.Host.{send_planned, committed, checkpoint, send_page, with_flush}
 use Rattle.host_machine.specs.Parts.{home_sent, all_home}
 use Rattle.host_machine.specs.Plan.{Planned}
 use Rattle.host_machine.specs.State.{Entry, Plan, Phase, Closing, Committing, Host, submit}
 use Rattle.host_machine.specs.laws.Contract.{Over, Contract, H, InPlan, InPhase, ImagesFacts, session, KeepsImages}
 use Rattle.host_machine.specs.laws.PlanNotes.{is_plan_note, IsRestOf, BarrierAhead}
 use Rattle.host_runs.proofs.CheckpointSteps.{home_request, super_request}
-use Rattle.host_runs.proofs.RingFacts.{request_of}
-use Rattle.host_runs.proofs.RingHost.{RingKept, plan_request, plan_commit, home_goes, super_goes, other_kept}
+use Rattle.host_runs.proofs.RingHost.{plan_request, plan_commit, home_goes, super_goes, other_kept}
 use Rattle.host_runs.proofs.RingSteps.{RingClause}
+use Rattle.host_runs.specs.laws.RingFacts.{request_of, RingKept}
 use Rattle.log_model.specs.Marks.{Logged, Transaction}
 use Rattle.order_model.specs.Submission.{IsFence, kind_body}
 use Rattle.order_model.specs.declared.note.Note.TheVariants as notes
@@ -74,11 +75,6 @@ plain_clause p fits no_log no_super no_home header = record {
 }
 
 module _ {A T V C R : Type 0} {o : Over A T V C R} {Stands : V → T → Type 0} (contract : Contract o Stands) where
-  pub record KeepsRules (s : Host V C R) (txs : List Transaction) (N : ℕ) : Type 0 where
-    pub rules : AllRules o.program (H o Stands s.history s.cuts) (session o Stands txs s)
-    pub images : KeepsImages o Stands s txs N
-    pub ring : RingKept (session o Stands txs s) s.journal.ring N s.journal.phase
-
   pub rephased : {es : List (Entry C R)} {cuts : List ℕ} {s : Session} {r : ℕ} {touched revoked changed : List ℕ} {phase : Phase} {v : V} {pages : List CachedPage} {N : ℕ} (next : Phase)
       → InPhase o Stands es cuts s r N next → ImagesFacts o Stands es cuts s r touched revoked changed phase v pages N → ImagesFacts o Stands es cuts s r touched revoked changed next v pages N
   rephased next in_phase was = record {
@@ -100,21 +96,21 @@ module _ {A T V C R : Type 0} {o : Over A T V C R} {Stands : V → T → Type 0}
     in_phase = in_phase;
   }
 
-  module _ (s : Host V C R) (txs : List Transaction) (N : ℕ) (kept : KeepsRules s txs N) where
-    abbrev se : Session
-    se = session o Stands txs s
+  module _ (s : Host V C R) (txs : List Transaction) (N : ℕ) (kept : KeepsRules contract s txs N) where
+    abbrev sess : Session
+    sess = session o Stands txs s
 
     abbrev h : History A
     h = H o Stands s.history s.cuts
 
-    abbrev counted : length se.notes ≡ length se.requests
+    abbrev counted : length sess.notes ≡ length sess.requests
     counted = kept.images.0.counted
 
     abbrev sub : Planned → Submitting
-    sub q = plainly se counted (request_of q (length s.journal.flush.requests)) q.note
+    sub q = plainly sess counted (request_of q (length s.journal.flush.requests)) q.note
 
-    ring_as : (phase : Phase) → s.journal.phase ≡ phase → RingKept se s.journal.ring N phase
-    ring_as phase e = subst (RingKept se s.journal.ring N) e kept.ring
+    ring_as : (phase : Phase) → s.journal.phase ≡ phase → RingKept sess s.journal.ring N phase
+    ring_as phase e = subst (RingKept sess s.journal.ring N) e kept.ring
 
     -- ---- a request of the plan
 
@@ -122,14 +118,14 @@ module _ {A T V C R : Type 0} {o : Over A T V C R} {Stands : V → T → Type 0}
     note_no n m of_plan other e = false≢true (sym other ∙ sym (ap is_plan_note e) ∙ of_plan)
 
     pub planned_keeps : (p : Plan) (first q : Planned) (qs : List Planned) → s.journal.phase ≡ Committing p → p.rest ≡ first ∷ q ∷ qs
-        → KeepsRules (send_planned o.model o.setup (record s { journal = record s.journal { phase = Committing (record p { rest = q ∷ qs }) } }) first) txs N
+        → KeepsRules contract (send_planned o.model o.setup (record s { journal = record s.journal { phase = Committing (record p { rest = q ∷ qs }) } }) first) txs N
     planned_keeps p first q qs at left =
-        let plan : InPlan o Stands s.history s.cuts se s.journal.running.number N p = subst (InPhase o Stands s.history s.cuts se s.journal.running.number N) at kept.images.0.in_phase in
+        let plan : InPlan o Stands s.history s.cuts sess s.journal.running.number N p = subst (InPhase o Stands s.history s.cuts sess s.journal.running.number N) at kept.images.0.in_phase in
         let note = subst (IsRestOf (s.journal.running.number - 1)) left plan.rest in
         let no_page : (f i v : ℕ) → first.note ≡ notes.Page f i v → ⊥ = λ f i v e. note_no first.note (notes.Page f i v) note.0 refl e in
         let no_commit : (k : ℕ) → first.note ≡ notes.Commit k → ⊥ = λ k e. note_no first.note (notes.Commit k) note.0 refl e in
         let no_home : (b : ℕ) → first.note ≡ notes.Home b → ⊥ = λ b e. note_no first.note (notes.Home b) note.0 refl e in
-        let step = plan_request se counted N kept.rules.order.commits kept.rules.order.log kept.rules.order.checkpoints s.journal.ring p first (q ∷ qs) left q qs refl (ring_as (Committing p) at) in
+        let step = plan_request sess counted N kept.rules.order.commits kept.rules.order.log kept.rules.order.checkpoints s.journal.ring p first (q ∷ qs) left q qs refl (ring_as (Committing p) at) in
         record {
           rules = all_rules_step (sub first) kept.rules step.clause
               (other_owes_images counted (request_of first (length s.journal.flush.requests)) first.note no_page no_commit no_home)
@@ -163,17 +159,17 @@ module _ {A T V C R : Type 0} {o : Over A T V C R} {Stands : V → T → Type 0}
     -- ---- the commit block
 
     pub committed_keeps : (p : Plan) (first : Planned) → s.journal.phase ≡ Committing p → p.rest ≡ first ∷ []
-        → KeepsRules (committed o.model o.setup (send_planned o.model o.setup s first) (s.journal.running.number - 1) (length s.journal.flush.requests) p) txs (N + 1)
+        → KeepsRules contract (committed o.model o.setup (send_planned o.model o.setup s first) (s.journal.running.number - 1) (length s.journal.flush.requests) p) txs (N + 1)
     committed_keeps p first at left =
-        let plan : InPlan o Stands s.history s.cuts se s.journal.running.number N p = subst (InPhase o Stands s.history s.cuts se s.journal.running.number N) at kept.images.0.in_phase in
+        let plan : InPlan o Stands s.history s.cuts sess s.journal.running.number N p = subst (InPhase o Stands s.history s.cuts sess s.journal.running.number N) at kept.images.0.in_phase in
         let note : first.note ≡ notes.Commit (s.journal.running.number - 1) = subst (IsRestOf (s.journal.running.number - 1)) left plan.rest in
-        let step = plan_commit se counted N kept.rules.order.commits kept.rules.order.log kept.rules.order.checkpoints s.journal.ring p first [] left refl (ring_as (Committing p) at) in
+        let step = plan_commit sess counted N kept.rules.order.commits kept.rules.order.log kept.rules.order.checkpoints s.journal.ring p first [] left refl (ring_as (Committing p) at) in
         let q = request_of first (length s.journal.flush.requests) in
         let fence : (f i : ℕ) → h.changes (s.journal.running.number - 1) f ≡ true → h.maps (h.cut (s.journal.running.number - 1)) f i ≡ true → (b : ℕ) × (plan.from ≤ b) × IsFence s.journal.flush.requests b = λ f i ch maps. ⊎_elim (λ ahead. absurd (subst BarrierAhead left ahead)) (λ b. b) (plan.barred f i (plan.listed f ch) maps) in
         record {
           rules = all_rules_step (sub first) kept.rules step.clause
-              (subst (λ n. ImageClause o.program (plainly se counted q n)) (sym note) (commit_owes_images counted q (s.journal.running.number - 1) plan.from plan.owed fence))
-              (subst (λ n. PageClause o.program h (plainly se counted q n)) (sym note) (commit_owes counted q (s.journal.running.number - 1) plan.from plan.owed fence));
+              (subst (λ n. ImageClause o.program (plainly sess counted q n)) (sym note) (commit_owes_images counted q (s.journal.running.number - 1) plan.from plan.owed fence))
+              (subst (λ n. PageClause o.program h (plainly sess counted q n)) (sym note) (commit_owes counted q (s.journal.running.number - 1) plan.from plan.owed fence));
           images = commit_keeps contract s txs N kept.images first p (length s.journal.flush.requests) plan.on_way note;
           ring = step.kept;
         }
@@ -195,11 +191,11 @@ module _ {A T V C R : Type 0} {o : Over A T V C R} {Stands : V → T → Type 0}
         no_page : (f i v : ℕ) → notes.Home b ≡ notes.Page f i v → ⊥
         no_page f i v e = cc
 
-    pub home_keeps : (b : Logged) (bs : List Logged) → s.journal.phase ≡ Closing → s.journal.ring.homes ≡ b ∷ bs → KeepsRules (check_out o.model o.setup s (b ∷ bs)) txs N
+    pub home_keeps : (b : Logged) (bs : List Logged) → s.journal.phase ≡ Closing → s.journal.ring.homes ≡ b ∷ bs → KeepsRules contract (checkpoint o.model o.setup s (b ∷ bs)) txs N
     home_keeps b bs at homes =
         let barrier = elim bs as (λ _. Bool) [ [] ↦ true | x ∷ xs ↦ false ] in
         let q = home_request b barrier in
-        let step = home_goes se counted N kept.rules.order.commits kept.rules.order.log kept.rules.order.checkpoints s.journal.ring b bs barrier homes (λ e. ap (λ xs. elim xs as (λ _. Bool) [ [] ↦ true | x ∷ xs ↦ false ]) e) (ring_as Closing at) in
+        let step = home_goes sess counted N kept.rules.order.commits kept.rules.order.log kept.rules.order.checkpoints s.journal.ring b bs barrier homes (λ e. ap (λ xs. elim xs as (λ _. Bool) [ [] ↦ true | x ∷ xs ↦ false ]) e) (ring_as Closing at) in
         record {
           rules = all_rules_step (sub q) kept.rules step.clause (home_images (sub q) b.block refl step.clause)
               (other_owes counted (request_of q (length s.journal.flush.requests)) (notes.Home b.block) (λ f i v e. let z : ⊥ = cc in z) (λ k e. let z : ⊥ = cc in z));
@@ -210,14 +206,14 @@ module _ {A T V C R : Type 0} {o : Over A T V C R} {Stands : V → T → Type 0}
     -- where the writer of superblocks is read back
     pub super_keeps : s.journal.phase ≡ Closing → s.journal.ring.homes ≡ []
         → o.format.tail (o.setup.writers.super (o.setup.sequence + (s.journal.running.number - 1)) s.journal.ring.head) ≡ record { sequence = o.setup.sequence + (s.journal.running.number - 1); start = s.journal.ring.head }
-        → KeepsRules (check_out o.model o.setup s []) txs N
+        → KeepsRules contract (checkpoint o.model o.setup s []) txs N
     super_keeps at homes read =
         let body = o.setup.writers.super (o.setup.sequence + (s.journal.running.number - 1)) s.journal.ring.head in
         let q = super_request o.setup.journal body in
-        let closed : N + 1 ≡ s.journal.running.number = subst (InPhase o Stands s.history s.cuts se s.journal.running.number N) at kept.images.0.in_phase in
+        let closed : N + 1 ≡ s.journal.running.number = subst (InPhase o Stands s.history s.cuts sess s.journal.running.number N) at kept.images.0.in_phase in
         let same : o.setup.sequence + (s.journal.running.number - 1) ≡ o.setup.sequence + N = omega arith in
         let fields = read ∙ ap (λ n. record { sequence = n; start = s.journal.ring.head }) same in
-        let step = super_goes se counted N kept.rules.order.commits kept.rules.order.log kept.rules.order.checkpoints s.journal.ring body homes fields (ring_as Closing at) in
+        let step = super_goes sess counted N kept.rules.order.commits kept.rules.order.log kept.rules.order.checkpoints s.journal.ring body homes fields (ring_as Closing at) in
         record {
           rules = all_rules_step (sub q) kept.rules step.clause
               (other_owes_images counted (request_of q (length s.journal.flush.requests)) notes.Super (λ f i v e. let z : ⊥ = cc in z) (λ k e. let z : ⊥ = cc in z) (λ b e. let z : ⊥ = cc in z))
@@ -228,10 +224,10 @@ module _ {A T V C R : Type 0} {o : Over A T V C R} {Stands : V → T → Type 0}
 
     -- ---- a page, and a flush
 
-    pub page_keeps : (p : CachedPage) (ordered barrier : Bool) → page_at s.pages p.birth p.index ≡ Some p → KeepsRules (send_page o.model o.setup s p ordered barrier) txs N
+    pub page_keeps : (p : CachedPage) (ordered barrier : Bool) → page_at s.pages p.birth p.index ≡ Some p → KeepsRules contract (send_page o.model o.setup s p ordered barrier) txs N
     page_keeps p ordered barrier here =
         let q : Request = record { id = length s.journal.flush.requests; kind = puts.Put p.block p.body; ordered = ordered; barrier = barrier } in
-        let page = plainly se counted q (notes.Page p.birth p.index p.version) in
+        let page = plainly sess counted q (notes.Page p.birth p.index p.version) in
         let clause = plain_clause page (page_fits contract refl refl kept.images.0 q p.birth p.index p here refl refl) refl (λ e. let z : ⊥ = cc in z) (λ b e. let z : ⊥ = cc in z) tt in
         record {
           rules = all_rules_step page kept.rules clause (page_owes_image contract refl refl kept.images.0 q p.birth p.index p here refl refl) (page_owes_pages contract refl refl kept.images.0 q p.birth p.index p here refl refl);
@@ -242,9 +238,9 @@ module _ {A T V C R : Type 0} {o : Over A T V C R} {Stands : V → T → Type 0}
     abbrev pub flush_request : Request
     flush_request = record { id = length s.journal.flush.requests; kind = puts.Flush; ordered = true; barrier = true }
 
-    pub flush_keeps : KeepsRules (with_flush o.model o.setup s (submit flush_request notes.Flush s.journal.flush)) txs N
+    pub flush_keeps : KeepsRules contract (with_flush o.model o.setup s (submit flush_request notes.Flush s.journal.flush)) txs N
     flush_keeps =
-        let flush = plainly se counted flush_request notes.Flush in
+        let flush = plainly sess counted flush_request notes.Flush in
         let clause = plain_clause flush
         (record {
           home = λ b e. absurd (let z : ⊥ = cc in z);

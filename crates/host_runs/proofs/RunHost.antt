@@ -7,9 +7,11 @@ use Rattle.host_machine.specs.Model.{is_begun}
 use Rattle.host_machine.specs.Parts.{LogRing}
 use Rattle.host_machine.specs.State.{Begun, Thread, Host}
 use Rattle.host_machine.specs.laws.Contract.{Over, Contract, H, session}
-use Rattle.host_runs.proofs.ActorHost.{HasRules, Formats, writeback_rules, flush_step_rules, commit_step_rules}
+use Rattle.host_runs.proofs.ActorHost.{Formats, writeback_rules, flush_step_rules, commit_step_rules}
 use Rattle.host_runs.proofs.CallerHost.{advance_rules}
-use Rattle.host_runs.proofs.StartHost.{IsFresh, ring_at_start, calls_at_start, flushes_at_start}
+use Rattle.host_runs.proofs.StartHost.{ring_at_start, calls_at_start, flushes_at_start}
+use Rattle.host_runs.specs.Opened.{IsFresh}
+use Rattle.host_runs.specs.laws.Kept.{HasRules}
 use Rattle.log_model.specs.Ring.{IsPlace}
 use Rattle.order_model.specs.declared.completion.Completion.{Completion}
 use Rattle.std.specs.Prelude.{◌≡◌, ℕ, ◌≤◌, Bool, true, List, [], ◌∷◌, Option, Some, slice_get, refl}

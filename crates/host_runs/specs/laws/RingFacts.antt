@@ -1,4 +1,4 @@
--- The facts of the host's ring, of its checkpoint and of the plan on its way, over the submitted list.
+-- What the host keeps of its ring, of its checkpoint and of the plan on its way, over the submitted list.
 use Rattle.blk_base.specs.Members.{In}
 use Rattle.crash_laws.specs.Ordering.{IsClosedOff}
 use Rattle.crash_laws.specs.Rules.{HasHeader}
@@ -6,7 +6,7 @@ use Rattle.crash_laws.specs.Session.{Session, HasNote, log_transaction, IsLog, I
 use Rattle.crash_laws.specs.Submitting.{IsCommitted}
 use Rattle.host_machine.specs.Parts.{LogRing}
 use Rattle.host_machine.specs.Plan.{Planned}
-use Rattle.host_runs.proofs.RingStateLaws.{IsRisingHomes}
+use Rattle.host_runs.specs.laws.Homes.{IsRisingHomes}
 use Rattle.log_model.specs.Log.{Spells}
 use Rattle.log_model.specs.Marks.{Logged, Transaction, Set, mark_in, transactions_from}
 use Rattle.log_model.specs.Ring.{places_on}
@@ -16,8 +16,17 @@ use Rattle.order_model.specs.declared.note.Note.{Note}
 use Rattle.order_model.specs.declared.request.Kind.TheVariants.{Put}
 use Rattle.order_model.specs.declared.request.Request.{Request}
 use Rattle.std.specs.Prelude.{◌≡◌, ℕ, ◌+◌, ◌-◌, ◌<◌, ◌≤◌, ◌⊎◌, ⊤, true, List, [], ◌∷◌, ◌++◌, length, Option, Some, None, slice_get}
-
--- ---- numbers
+use Rattle.crash_laws.specs.Clauses.{CommitClause}
+use Rattle.crash_laws.specs.Rules.{CommitOrder, LogLayout, CheckpointOrder}
+use Rattle.crash_laws.specs.Session.{Session, log_transaction, with_log_block, IsSuperOf}
+use Rattle.crash_laws.specs.Submitting.{Submitting, after}
+use Rattle.host_machine.specs.Parts.{LogRing, log_blocks_for, ring_free, place_blocks, commit_bodies, home_sent, all_home}
+use Rattle.host_machine.specs.Plan.{Writers, Planned, plan_of}
+use Rattle.host_machine.specs.State.{Plan, Phase, Idle, Closing, Committing}
+use Rattle.host_runs.specs.laws.Homes.{IsApart}
+use Rattle.host_runs.specs.laws.Written.{IsWord, AreWritten, IsWritable}
+use Rattle.log_model.specs.Marks.{Logged, Transaction, mark_in, transactions_from}
+use Rattle.std.specs.Prelude.{◌≡◌, ◌≢◌, ℕ, ◌+◌, ◌-◌, ◌≤◌, Bool, true, false, List, [], ◌∷◌, ◌++◌, length, Option, None, refl}
 
 -- The commit blocks of transactions 1 to N are submitted, and no others. The log blocks are of transactions up
 -- to M: that is N, or N + 1 while the next one is on its way.
@@ -26,8 +35,6 @@ pub record AreCommitted (s : Session) (N M : ℕ) : Type 0 where
   pub only : (k c : ℕ) → IsCommit s k c → k ≤ N
   pub logs : (k i : ℕ) → IsLog s k i → k ≤ M
   pub within : N ≤ M
-
--- ---- the ring
 
 -- a log block is freed by a superblock behind it
 abbrev pub IsFreed : Session → LogBlock → Type 0
@@ -41,8 +48,6 @@ pub record PlaceFacts (s : Session) (ring : LogRing) (more : ℕ) : Type 0 where
   pub room : ring.used ≤ s.ring.past - s.ring.first
   pub within : more ≤ ring.used
   pub freed : (n : ℕ) (e : LogBlock) → slice_get (log_blocks s) n ≡ Some e → (length (log_blocks s) + more ≤ n + ring.used) ⊎ IsFreed s e
-
--- ---- the checkpoint
 
 -- A Home request brought block b the body x that it has after each transaction from `since` to N. It stands
 -- behind the commit block of `since`.
@@ -62,8 +67,6 @@ pub record HomeFacts (s : Session) (N : ℕ) (homes : List Logged) : Type 0 wher
   pub newest : (l : Logged) → In l homes → mark_in (transactions_from s.transactions 1 N) l.block ≡ Set l.body
   pub pending : (b : ℕ) (x : List ℕ) → mark_in (transactions_from s.transactions 1 N) b ≡ Set x → In (record { block = b; body = x }) homes ⊎ IsHomeDone s b x N
   pub closed : homes ≡ [] → (i b : ℕ) → HasNote s i (Home b) → IsClosedOff s.requests i
-
--- ---- the plan
 
 abbrev pub request_of : Planned → ℕ → Request
 request_of q id = record { id = id; kind = Put q.block q.body; ordered = true; barrier = q.barrier }
@@ -129,3 +132,36 @@ pub record PlanFacts (s : Session) (k : ℕ) (t : Transaction) (start : ℕ) (re
   pub begun : start ≤ length s.notes
   pub first : k ≡ 1 → ((i : ℕ) × IsSuperOf s i 0) ⊎ StartsWithSuper before
   pub spells : Spells s.format (sequence_of s k) (bodies_of s (log_blocks_of k (log_blocks s)) ++ (log_bytes before ++ commit.body ∷ [])) t
+
+
+abbrev pub transaction_of_plan : Plan → Transaction
+transaction_of_plan p = record { bodies = p.bodies; revokes = p.revokes }
+
+-- the superblock on the disk says that there is a log just where a transaction is committed
+abbrev pub IsStarted : LogRing → ℕ → Type 0
+IsStarted ring N = (ring.started ≡ true → 1 ≤ N) × (ring.started ≡ false → N ≡ 0)
+
+-- where the plan of transaction N + 1 is on its way
+pub record IsOnWay (s : Session) (ring : LogRing) (N : ℕ) (p : Plan) : Type 0 where
+  pub start : ℕ
+  pub numbers : AreCommitted s N (N + 1)
+  pub plan : PlanFacts s (N + 1) (transaction_of_plan p) start p.rest
+  pub places : PlaceFacts s ring (count p.rest)
+  pub apart : IsApart (transaction_of_plan p)
+  pub told : s.transactions (N + 1) ≡ transaction_of_plan p
+  pub started : ring.started ≡ true
+
+-- and where none is
+pub record IsAtRest (s : Session) (ring : LogRing) (N : ℕ) : Type 0 where
+  pub numbers : AreCommitted s N N
+  pub places : PlaceFacts s ring 0
+  pub started : IsStarted ring N
+
+abbrev pub RingInPhase : Session → LogRing → ℕ → Phase → Type 0
+RingInPhase s ring N Idle = IsAtRest s ring N
+RingInPhase s ring N Closing = IsAtRest s ring N
+RingInPhase s ring N (Committing p) = IsOnWay s ring N p
+
+pub record RingKept (s : Session) (ring : LogRing) (N : ℕ) (phase : Phase) : Type 0 where
+  pub homes : HomeFacts s N ring.homes
+  pub in_phase : RingInPhase s ring N phase

@@ -1,0 +1,7 @@
+-- What the host keeps along a run.
+pub mod Written
+pub mod Homes
+pub mod RingFacts
+pub mod CallFacts
+pub mod FlushFacts
+pub mod Kept

@@ -1,0 +1,29 @@
+-- What the host keeps of flushes: each is charged to the Begin of a sync call.
+use Rattle.blk_base.specs.Members.{In, In-list_any, In-set_cases, In-map}
+use Rattle.host_machine.specs.Host.{is_due, flush_due, need_commit}
+use Rattle.host_machine.specs.Model.{Kind, Reading, Changing, FileBarrier, DataBarrier, FileSync, DataSync, WholeSync, is_durable}
+use Rattle.host_machine.specs.State.{Begins, Ends, Entry, Wait, FlushPart, is_flush_note, flush_above, is_moved, is_over}
+use Rattle.order_model.specs.declared.note.Note.TheVariants as notes
+use Rattle.order_model.specs.declared.note.Note.{Note}
+use Rattle.std.specs.List.{list_any}
+use Rattle.std.specs.Prelude.{◌≡◌, ℕ, zero, suc, ◌+◌, ◌<◌, ◌≤◌, ◌==◌, ◌&&◌, ◌||◌, ◌⊎◌, Bool, true, false, not, List, [], ◌∷◌, ◌++◌, length, map, set, Option, Some, None, slice_get, nat_lt, if◌then◌else◌, refl}
+
+abbrev pub one_if : Bool → ℕ
+one_if true = 1
+one_if false = 0
+
+abbrev pub count : {X : Type 0} → (X → Bool) → List X → ℕ
+count p [] = 0
+count p (x ∷ xs) = one_if (p x) + count p xs
+
+-- a sync call that may still want a flush: it does not know what it needs, or no flush is behind that
+abbrev pub is_open : List Note → Wait → Bool
+is_open ns w = is_durable w.kind && elim w.need as (λ _. Bool) [ None ↦ true | Some id ↦ not (flush_above id 0 ns) ]
+
+abbrev pub is_begin : {C R : Type 0} → (C → Kind) → Entry C R → Bool
+is_begin kind e = elim e.what as (λ _. Bool) [ Begins ↦ is_durable (kind e.call) | Ends x ↦ false ]
+
+pub record FlushFacts {C R : Type 0} (kind : C → Kind) (ns : List Note) (waits : List Wait) (history : List (Entry C R)) : Type 0 where
+  pub charged : count is_flush_note ns + count (is_open ns) waits ≤ count (is_begin kind) history
+  -- what is needed was submitted, and a sync call needs it
+  pub needed : (w : Wait) → In w waits → (id : ℕ) → w.need ≡ Some id → (id < length ns) × (is_durable w.kind ≡ true)
