@@ -1,5 +1,6 @@
 -- Each Ok of a begun call keeps the order rule of such calls: through the caller's step.
-use Rattle.host_runs.specs.Promises.{CoversNothing, IsCause, KeepsOk}
+use Rattle.crash_laws.specs.PromiseRules.{CoversNothing}
+use Rattle.host_runs.specs.Promises.{IsCause, KeepsOk}
 use Rattle.blk_base.specs.Members.{In, In-list_any}
 use Rattle.crash_laws.specs.History.{History, HasTrees}
 use Rattle.crash_laws.specs.PromiseRules.{KeepsBarrier, KeepsSync, Covers, CoversEntry}
@@ -38,7 +39,7 @@ module _ {T V C R : Type 0} (M : Model T V C R) (u : Setup) {A : Type 0} {h : Hi
   abbrev taken : List Completion
   taken = host.journal.flush.taken
 
-  sync_ok : is_durable b.kind ≡ true → KeepsSync h s taken (Covers h (call_of b)) (CoversEntry (call_of b)) ⊎ CoversNothing h b → (is_data b.kind ≡ false → IsCause h s taken (now + 1) b) → KeepsOk h s taken (now + 1) b
+  sync_ok : is_durable b.kind ≡ true → KeepsSync h s taken (Covers h (call_of b)) (CoversEntry (call_of b)) ⊎ CoversNothing h (call_of b) → (is_data b.kind ≡ false → IsCause h s taken (now + 1) b) → KeepsOk h s taken (now + 1) b
   sync_ok durable k cause = record { barrier = λ e. absurd (false≢true (sym e ∙ durable)); sync = λ e. k; cause = cause }
 
   barrier_ok : is_durable b.kind ≡ false → KeepsBarrier h s (now + 1) (Covers h (call_of b)) (CoversEntry (call_of b)) → (is_data b.kind ≡ false → IsCause h s taken (now + 1) b) → KeepsOk h s taken (now + 1) b
@@ -66,14 +67,14 @@ module _ {T V C R : Type 0} (M : Model T V C R) (u : Setup) {A : Type 0} {h : Hi
 
   -- where there is one, all that is held is at or before it
   last_put_ok : (t : ℕ) (c : C) (rest : List C) → is_durable b.kind ≡ true → ((id : ℕ) → last_put 0 s.notes None ≡ Some id → CallFacts h s host.pages now j.running.number b (record w { need = Some id }))
-      → (last_put 0 s.notes None ≡ None → CoversNothing h b) → (await_last_put M u host t c rest w).step ≡ outcomes.Done M.ok → KeepsOk h s taken (now + 1) b
+      → (last_put 0 s.notes None ≡ None → CoversNothing h (call_of b) × (is_data b.kind ≡ true)) → (await_last_put M u host t c rest w).step ≡ outcomes.Done M.ok → KeepsOk h s taken (now + 1) b
   last_put_ok t c rest durable known nothing e = by (last_put 0 j.flush.notes None) refl e
     where
       here : last_put 0 s.notes None ≡ last_put 0 j.flush.notes None
       here = ap (λ ns. last_put 0 ns None) notes
 
       by : (o : Option ℕ) → last_put 0 j.flush.notes None ≡ o → (elim o as (λ _. Stepped V C R) [ None ↦ end_with M u host t c rest (Answered M.ok) | Some id ↦ await_durable M u host t c rest w id ]).step ≡ outcomes.Done M.ok → KeepsOk h s taken (now + 1) b
-      by None q e = let none = nothing (here ∙ q) in sync_ok durable (inr none) (λ whole. absurd (false≢true (sym whole ∙ none.1)))
+      by None q e = let none = nothing (here ∙ q) in sync_ok durable (inr none.0) (λ whole. absurd (false≢true (sym whole ∙ none.1)))
       by (Some id) q e = need_ok t c rest (record w { need = Some id }) id durable refl (known id (here ∙ q)) e
 
   -- ---- a target
@@ -185,7 +186,7 @@ module _ {T V C R : Type 0} (M : Model T V C R) (u : Setup) {A : Type 0} {h : Hi
         let of_data : is_data b.kind ≡ true = ap is_data kind in
         last_put_ok t c rest (ap is_durable kind)
         (λ id last. flush_needs id kind none last)
-        (λ nothing. (nothing_covered b trees numbers nothing facts.begun (quiet of_data none) done, of_data)) e
+        (λ nothing. (record { pages = nothing_covered b trees numbers nothing facts.begun (quiet of_data none) done; metadata = λ n c. false≢true (sym (ap not of_data) ∙ c.0) }, of_data)) e
 
     pass_ok : b.kind ≡ DataBarrier → latest_change j b.file ≡ None → b.sent_barrier ≡ true → KeepsOk h s taken (now + 1) b
     pass_ok kind none sent =

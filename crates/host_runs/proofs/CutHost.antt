@@ -4,7 +4,7 @@ use Rattle.crash_laws.proofs.Sentences.{prefix_and_versions, promises}
 use Rattle.crash_laws.specs.Found.{found}
 use Rattle.crash_laws.specs.Headline.{HoldsPrefix, KeepsPromises}
 use Rattle.crash_laws.specs.History.{History, HasTrees}
-use Rattle.crash_laws.specs.PromiseRules.{Covers, CoversEntry, IsSettled, IsLaterKept}
+use Rattle.crash_laws.specs.PromiseRules.{CoversNothing, Covers, CoversEntry, IsSettled, IsLaterKept}
 use Rattle.crash_laws.specs.Recovery.{IsRecovered}
 use Rattle.crash_laws.specs.Session.{Session, Medium}
 use Rattle.host_machine.proofs.Entries.{trees_noted}
@@ -51,5 +51,5 @@ module _ {A T V C R : Type 0} {o : Over A T V C R} {Stands : V → T → Type 0}
     -- A sync call that answered Ok: all the blocks that it covers survived, or it covers none.
     pub host_sync : is_durable b.kind ≡ true
         → (((f i n : ℕ) → Covers cut_history (call_of b) f i n → IsSettled o.program cut_history cut_session m kept_number f i n) × ((n : ℕ) → CoversEntry (call_of b) n → n ≤ cut_history.cut kept_number))
-        ⊎ (((f i n : ℕ) → Covers cut_history (call_of b) f i n → ⊥) × (is_data b.kind ≡ true))
+        ⊎ CoversNothing cut_history (call_of b)
     host_sync durable = ⊎_elim (λ k. inl (all.syncs (call_of b) s.journal.flush.taken fit k)) (λ none. inr none) (ok.sync durable)

@@ -53,7 +53,7 @@ ok_grows {h = h} {more = more} {s = s} {b = b} ext begun old = record {
         flushed = k.flushed;
         held = held_for more s (λ i. i < k.flush) (Covers h (call_of b)) (Covers more (call_of b)) (CoversEntry (call_of b)) (λ f i n c. covers_old ext (call_of b) f i n begun c) (held_grows ext k.held);
       }))
-      (λ n. inr (λ f i m c. n.0 f i m (covers_old ext (call_of b) f i m begun c), n.1))
+      (λ n. inr (record { pages = λ f i m c. n.pages f i m (covers_old ext (call_of b) f i m begun c); metadata = n.metadata }))
       (old.sync d);
   cause = λ d.
       let x = old.cause d in

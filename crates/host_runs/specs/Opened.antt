@@ -6,10 +6,6 @@ use Rattle.host_machine.specs.Host.{no_wait}
 use Rattle.host_machine.specs.Model.{Kind}
 use Rattle.host_machine.specs.Parts.{LogRing}
 use Rattle.host_machine.specs.State.{Wait, Thread, Idle}
-use Rattle.host_runs.specs.laws.CallFacts.{wait_of, AllCalls}
-use Rattle.host_runs.specs.laws.FlushFacts.{FlushFacts, count, is_open}
-use Rattle.host_runs.specs.laws.Homes.{IsRisingHomes}
-use Rattle.host_runs.specs.laws.RingFacts.{RingKept}
 use Rattle.log_model.specs.Ring.{places_on}
 use Rattle.order_model.specs.declared.note.Note.TheVariants.{Commit, Home}
 use Rattle.order_model.specs.declared.note.Note.{Note}

@@ -1,4 +1,5 @@
 -- What a barrier or sync call has when it is answered Ok.
+use Rattle.crash_laws.specs.PromiseRules.{CoversNothing}
 use Rattle.blk_base.specs.Members.{In}
 use Rattle.crash_laws.specs.History.{History, Calm}
 use Rattle.crash_laws.specs.PromiseRules.{IsSuperseded, AreHeld, BegunCall, Covers, CoversEntry}
@@ -21,7 +22,6 @@ use Rattle.host_machine.specs.Model.{Model, Kind, Reading, Changing, FileBarrier
 use Rattle.host_machine.specs.Outcomes as outcomes
 use Rattle.host_machine.specs.State.{Answered, SessionFull, Phase, Idle, Closing, Committing, JournalPart, Begun, Wait, Host, Setup, at_limit, is_flushed_after, flush_above, last_put, is_submitted, latest_change}
 use Rattle.host_machine.specs.laws.Facts.{Numbers}
-use Rattle.host_runs.specs.laws.CallFacts.{IsDone, Anywhere, CallFacts}
 use Rattle.order_model.specs.declared.completion.Completion.TheVariants as completions
 use Rattle.order_model.specs.declared.completion.Completion.{Completion}
 use Rattle.order_model.specs.declared.note.Note.TheVariants.{Page, Commit}
@@ -31,11 +31,6 @@ use Rattle.std.specs.Prelude.{◌≡◌, ℕ, ◌+◌, ◌<◌, ◌≤◌, ◌==
 -- what the call covers
 abbrev pub call_of : Begun → BegunCall
 call_of b = record { begin = b.begin; file = if is_whole b.kind then None else Some b.file; metadata = not (is_data b.kind) }
-
--- A call is answered Ok as entry `ended_at`: a barrier call keeps its rule; a sync call keeps its own, or no request
--- was put at all, and it covers nothing.
-abbrev pub CoversNothing : {A : Type 0} → History A → Begun → Type 0
-CoversNothing h b = ((f i n : ℕ) → Covers h (call_of b) f i n → ⊥) × (is_data b.kind ≡ true)
 
 -- the cause of an Ok: a submitted transaction whose cut lies between the Begin and the End; for a sync call a flush
 -- behind its commit block was answered
@@ -47,7 +42,9 @@ pub record IsCause {A : Type 0} (h : History A) (s : Session) (taken : List Comp
   pub ended : h.cut k < ended_at
   pub flushed : is_durable b.kind ≡ true → (f : ℕ) × In (completions.Flushed f) taken × (c < f)
 
+-- A call is answered Ok as entry `ended_at`: a barrier call keeps its rule; a sync call keeps its own, or no request
+-- was put at all, and it covers nothing.
 pub record KeepsOk {A : Type 0} (h : History A) (s : Session) (taken : List Completion) (ended_at : ℕ) (b : Begun) : Type 0 where
   pub barrier : is_durable b.kind ≡ false → KeepsBarrier h s ended_at (Covers h (call_of b)) (CoversEntry (call_of b))
-  pub sync : is_durable b.kind ≡ true → KeepsSync h s taken (Covers h (call_of b)) (CoversEntry (call_of b)) ⊎ CoversNothing h b
+  pub sync : is_durable b.kind ≡ true → KeepsSync h s taken (Covers h (call_of b)) (CoversEntry (call_of b)) ⊎ CoversNothing h (call_of b)
   pub cause : is_data b.kind ≡ false → IsCause h s taken ended_at b

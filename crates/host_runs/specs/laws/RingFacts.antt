@@ -24,7 +24,6 @@ use Rattle.host_machine.specs.Parts.{LogRing, log_blocks_for, ring_free, place_b
 use Rattle.host_machine.specs.Plan.{Writers, Planned, plan_of}
 use Rattle.host_machine.specs.State.{Plan, Phase, Idle, Closing, Committing}
 use Rattle.host_runs.specs.laws.Homes.{IsApart}
-use Rattle.host_runs.specs.laws.Written.{IsWord, AreWritten, IsWritable}
 use Rattle.log_model.specs.Marks.{Logged, Transaction, mark_in, transactions_from}
 use Rattle.std.specs.Prelude.{◌≡◌, ◌≢◌, ℕ, ◌+◌, ◌-◌, ◌≤◌, Bool, true, false, List, [], ◌∷◌, ◌++◌, length, Option, None, refl}
 
