@@ -21,3 +21,4 @@ pub mod RingSteps
 pub mod RulesHost
 pub mod RunHost
 pub mod StartHost
+pub mod Threads

@@ -1,78 +1,70 @@
--- A host's session: what holds where it is opened holds after every step.
-use Rattle.blk_base.specs.Members.{In}
-use Rattle.crash_laws.specs.Rules.{BaseImage}
-use Rattle.host_machine.proofs.Opening.{opened_keeps}
-use Rattle.host_machine.specs.Host.{advance, commit_step, writeback, flush_step, opened}
-use Rattle.host_machine.specs.Model.{is_begun}
-use Rattle.host_machine.specs.Parts.{LogRing}
-use Rattle.host_machine.specs.State.{Begun, Thread, Host}
-use Rattle.host_machine.specs.laws.Contract.{Over, Contract, H, session}
-use Rattle.host_runs.proofs.ActorHost.{Formats, writeback_rules, flush_step_rules, commit_step_rules}
-use Rattle.host_runs.proofs.CallerHost.{advance_rules}
-use Rattle.host_runs.proofs.StartHost.{ring_at_start, calls_at_start, flushes_at_start}
-use Rattle.host_runs.specs.Opened.{IsFresh}
-use Rattle.host_runs.specs.laws.Kept.{HasRules}
-use Rattle.log_model.specs.Ring.{IsPlace}
-use Rattle.order_model.specs.declared.completion.Completion.{Completion}
-use Rattle.std.specs.Prelude.{◌≡◌, ℕ, ◌≤◌, Bool, true, List, [], ◌∷◌, Option, Some, slice_get, refl}
-use Rattle.volume_ops.specs.Reads.{blocks_read}
+-- Runs of the host: what holds where it is opened holds after every step.
+use Rattle.std.specs.Prelude.{◌≡◌, ℕ, ◌+◌, ◌-◌, ◌≤◌, List, [], ◌∷◌, refl}
+use Rattle.std.proofs.Common.{sym, subst, ⊎_elim, arith}
+use Rattle.blk_base.specs.Members.{In, slice_get-In}
 use Rattle.volume_ops.specs.Volume.{disk_of}
-
--- a step of the host: with its picks, and whether the submission queue was full
-pub data Event : Type 0 where
-  Call : Bool → ℕ → Event
-  Commit : Bool → Event
-  WriteBack : Bool → ℕ → Event
-  FlushStep : Bool → Option Completion → Event
+use Rattle.volume_ops.specs.Reads.{blocks_read, AgreeOn}
+use Rattle.volume_ops.specs.ReadsLaws.{blocks_read-agree}
+use Rattle.host_machine.specs.Host.{opened}
+use Rattle.host_machine.specs.Parts.{LogRing}
+use Rattle.host_machine.specs.State.{Host, Thread}
+use Rattle.host_machine.specs.laws.Contract.{Over, Contract, H, session}
+use Rattle.host_machine.proofs.Opening.{opened_keeps}
+use Rattle.host_runs.specs.Opened.{IsOpened}
+use Rattle.host_runs.specs.Runs.{Event, Call, Commit, WriteBack, FlushStep, AreBegun, stepped, steps, IsWithin, AreWithin}
+use Rattle.host_runs.specs.laws.Kept.{HasRules, IsKept}
+use Rattle.host_runs.specs.laws.Written.{IsWord, AreWritten}
+use Rattle.host_runs.proofs.ActorHost.{writeback_rules, flush_step_rules, commit_step_rules}
+use Rattle.host_runs.proofs.CallerHost.{advance_rules}
+use Rattle.host_runs.proofs.StartHost.{ring_at_start, calls_at_start, flushes_at_start, none_begun}
+use Rattle.host_runs.proofs.Threads.{moved}
 
 module _ {A T V C R : Type 0} {o : Over A T V C R} {Stands : V → T → Type 0} (contract : Contract o Stands) where
-  abbrev pub stepped : Host V C R → Event → Host V C R
-  stepped s (Call full t) = (advance o.model o.setup full s t).host
-  stepped s (Commit full) = (commit_step o.model o.setup full s).host
-  stepped s (WriteBack full pick) = (writeback o.model o.setup full s pick).host
-  stepped s (FlushStep full next) = (flush_step o.model o.setup full s next).host
+  pub opened_has : (v : V) (ring : LogRing) (zones limit : ℕ) (programs : List (List C)) → IsOpened o Stands v ring zones limit programs → IsKept contract (opened o.model o.setup v ring zones limit programs)
+  opened_has v ring zones limit programs at =
+      let k = opened_keeps contract v ring zones limit programs at.stands at.metadata at.first at.place at.base walked in
+      record {
+        rules = (
+          [],
+          0,
+          record {
+            rules = k.1;
+            images = k.0;
+            ring = ring_at_start (session o Stands [] (opened o.model o.setup v ring zones limit programs)) ring refl (record { places = refl; head = at.head; used = at.used; started = at.started; homes = at.homes });
+          },
+          calls_at_start (H o Stands [] []) (session o Stands [] (opened o.model o.setup v ring zones limit programs)) [] 0 1 programs,
+          flushes_at_start o.model.kind programs,
+        );
+        begun = none_begun o.model.kind programs;
+      }
+    where
+      -- the walk of the base image reads what the walk of the volume reads
+      same : AgreeOn (blocks_read (o.model.bytes v) o.program) (o.model.bytes v) (disk_of o.base)
+      same b i = sym ((at.metadata b ((contract.plain v o.model.root at.stands).walk b i)).1)
 
-  abbrev pub steps : Host V C R → List Event → Host V C R
-  steps s [] = s
-  steps s (e ∷ es) = steps (stepped s e) es
+      walked : (b : ℕ) → In b (blocks_read (disk_of o.base) o.program) → In b o.reserved
+      walked b i = (at.metadata b ((contract.plain v o.model.root at.stands).walk b (subst (In b) (blocks_read-agree (o.model.bytes v) (disk_of o.base) o.program same) i))).0
 
-  -- where a session is opened
-  pub opened_has : (v : V) (ring : LogRing) (zones limit : ℕ) (programs : List (List C)) → Stands v o.model.root
-      → ((b : ℕ) → o.model.metadata v b ≡ true → In b o.reserved × (o.model.bytes v b ≡ disk_of o.base b))
-      → 1 ≤ ring.places.first → IsPlace ring.places ring.places.first → BaseImage (session o Stands [] (opened o.model o.setup v ring zones limit programs)) → ((b : ℕ) → In b (blocks_read (disk_of o.base) o.program) → In b o.reserved)
-      → IsFresh (session o Stands [] (opened o.model o.setup v ring zones limit programs)) ring
-      → HasRules contract (opened o.model o.setup v ring zones limit programs)
-  opened_has v ring zones limit programs stands metadata first place base walked fresh =
-      let k = opened_keeps contract v ring zones limit programs stands metadata first place base walked in (
-        [],
-        0,
-        record {
-          rules = record { order = k.1.order; pages = k.1.pages; committed = k.1.committed };
-          images = k.0;
-          ring = ring_at_start (session o Stands [] (opened o.model o.setup v ring zones limit programs)) ring refl fresh;
-        },
-        calls_at_start (H o Stands [] []) (session o Stands [] (opened o.model o.setup v ring zones limit programs)) [] 0 1 programs,
-        flushes_at_start o.model.kind programs,
-      )
+  module _ (written : AreWritten o.format o.setup.writers) where
+    pub step_keeps : (s : Host V C R) (e : Event) → IsKept contract s → IsWithin o s → IsKept contract (stepped o s e)
+    step_keeps s e kept within = record { rules = by e; begun = (moved o s kept.begun e).0 }
+      where
+        has : HasRules contract s
+        has = kept.rules
 
-  -- What a step is asked for: of a commit actor's, the journal's format and the numbers of this state; of a caller's,
-  -- that a begun call is a barrier or sync call.
-  abbrev pub IsMet : (s : Host V C R) → Event → HasRules contract s → Type 0
-  IsMet s (Call full t) has = (th : Thread C) (c : C) (rest : List C) (x : Begun) → slice_get s.threads t ≡ Some th → th.calls ≡ c ∷ rest → th.begun ≡ Some x → is_begun (o.model.kind c) ≡ true
-  IsMet s (Commit full) has = Formats contract s has.0 has.1 has.2 has.3 has.4
-  IsMet s other has = Unit {0}
+        next : IsWord (o.setup.sequence + (has.1 + 1 - 1))
+        next = let w = within.sequence in ⊎_elim (λ e. omega arith) (λ e. omega arith) has.2.images.0.numbers.closed
 
-  pub step_has : (s : Host V C R) (e : Event) (has : HasRules contract s) → IsMet s e has → HasRules contract (stepped s e)
-  step_has s (Call full t) has met = let r = advance_rules contract has.0 has.1 s has.2 has.3 has.4 full t met in (has.0, has.1, r.0, r.1, r.2)
-  step_has s (Commit full) has met = commit_step_rules contract s has.0 has.1 has.2 has.3 has.4 met full
-  step_has s (WriteBack full pick) has met = writeback_rules contract s has.0 has.1 has.2 has.3 has.4 full pick
-  step_has s (FlushStep full next) has met = flush_step_rules contract s has.0 has.1 has.2 has.3 has.4 full next
+        by : (e : Event) → HasRules contract (stepped o s e)
+        by (Call full t) =
+            let r = advance_rules contract has.0 has.1 s has.2 has.3 has.4 full t (λ th c rest x at q d. kept.begun th c rest x (slice_get-In s.threads t th at) q d) in
+            (has.0, has.1, r.0, r.1, r.2)
+        by (Commit full) =
+            commit_step_rules contract s has.0 has.1 has.2 has.3 has.4
+            (record { written = written; writable = within.writable; next = next; running = within.sequence; first = within.first; head = within.head }) full
+        by (WriteBack full pick) = writeback_rules contract s has.0 has.1 has.2 has.3 has.4 full pick
+        by (FlushStep full next) = flush_step_rules contract s has.0 has.1 has.2 has.3 has.4 full next
 
-  abbrev pub AreMet : (s : Host V C R) → List Event → HasRules contract s → Type 0
-  AreMet s [] has = Unit {0}
-  AreMet s (e ∷ es) has = (met : IsMet s e has) × AreMet (stepped s e) es (step_has s e has met)
-
-  -- After any list of steps whose premises are met the host keeps all order rules, and all of its facts.
-  pub steps_have : (s : Host V C R) (es : List Event) (has : HasRules contract s) → AreMet s es has → HasRules contract (steps s es)
-  steps_have s [] has met = has
-  steps_have s (e ∷ es) has met = steps_have (stepped s e) es (step_has s e has met.0) met.1
+    pub steps_keep : (s : Host V C R) (es : List Event) → IsKept contract s → AreWithin o s es → IsKept contract (steps o s es)
+    steps_keep s [] kept within = kept
+    steps_keep s (e ∷ es) kept within = steps_keep (stepped o s e) es (step_keeps s e kept within.0) within.1

@@ -1,5 +1,5 @@
 -- Where a session is opened, the facts of the ring and of calls hold.
-use Rattle.host_runs.specs.Opened.{IsFresh}
+use Rattle.host_runs.specs.Runs.{AreBegun}
 use Rattle.blk_base.specs.Members.{In, In-map, map_some-slice_get}
 use Rattle.crash_laws.specs.History.{History}
 use Rattle.crash_laws.specs.Session.{Session, HasNote, log_transaction, LogBlock, log_blocks, log_blocks_from}
@@ -21,6 +21,14 @@ use Rattle.std.proofs.lemmas.Bool.{false≢true}
 use Rattle.std.proofs.lemmas.Option.{none-some}
 use Rattle.std.specs.Option.{option_and_then}
 use Rattle.std.specs.Prelude.{◌≡◌, ℕ, zero, suc, ◌+◌, false, List, [], ◌∷◌, map, length, Some, None, slice_get, refl}
+
+-- an empty ring
+pub record IsFresh (s : Session) (ring : LogRing) : Type 0 where
+  pub places : ring.places ≡ s.ring
+  pub head : ring.head ≡ s.head
+  pub used : ring.used ≡ 0
+  pub started : ring.started ≡ false
+  pub homes : ring.homes ≡ []
 
 pub ring_at_start : (s : Session) (ring : LogRing) → s.notes ≡ [] → IsFresh s ring → RingKept s ring 0 Idle
 ring_at_start s ring notes fresh = record {
@@ -86,3 +94,7 @@ flushes_at_start {C = C} kind programs = record {
   charged = let e = none_open programs in omega arith;
   needed = λ w i id e. absurd (none-some id (ap (λ (v : Wait). v.need) (In-map (λ (p : List C). no_wait) programs w i).2 ∙ e));
 }
+
+pub none_begun : {C : Type 0} (kind : C → Kind) (programs : List (List C)) → AreBegun kind (map (λ (p : List C). record { calls = p; begun = None }) programs)
+none_begun {C = C} kind programs th c rest b i calls begun =
+    absurd (none-some b (ap (λ (x : Thread C). x.begun) (In-map (λ (p : List C). record { calls = p; begun = None }) programs th i).2 ∙ begun))

@@ -1,22 +1,23 @@
--- A host that is opened.
-use Rattle.blk_base.specs.Members.{In, In-map, map_some-slice_get}
-use Rattle.crash_laws.specs.History.{History}
-use Rattle.crash_laws.specs.Session.{Session, HasNote, log_transaction, LogBlock, log_blocks, log_blocks_from}
-use Rattle.host_machine.specs.Host.{no_wait}
-use Rattle.host_machine.specs.Model.{Kind}
+-- A host that is opened, over a volume and an empty log.
+use Rattle.std.specs.Prelude.{◌≡◌, ℕ, ◌≤◌, true, false, List, []}
+use Rattle.blk_base.specs.Members.{In}
+use Rattle.log_model.specs.Ring.{IsPlace}
+use Rattle.volume_ops.specs.Volume.{disk_of}
+use Rattle.crash_laws.specs.Rules.{BaseImage}
+use Rattle.crash_laws.specs.Session.{Session}
+use Rattle.host_machine.specs.Host.{opened}
 use Rattle.host_machine.specs.Parts.{LogRing}
-use Rattle.host_machine.specs.State.{Wait, Thread, Idle}
-use Rattle.log_model.specs.Ring.{places_on}
-use Rattle.order_model.specs.declared.note.Note.TheVariants.{Commit, Home}
-use Rattle.order_model.specs.declared.note.Note.{Note}
-use Rattle.page_cache.specs.declared.cached_page.CachedPage.{CachedPage}
-use Rattle.std.specs.Option.{option_and_then}
-use Rattle.std.specs.Prelude.{◌≡◌, ℕ, zero, suc, ◌+◌, false, List, [], ◌∷◌, map, length, Some, None, slice_get, refl}
+use Rattle.host_machine.specs.laws.Contract.{Over, session}
 
--- an empty ring
-pub record IsFresh (s : Session) (ring : LogRing) : Type 0 where
-  pub places : ring.places ≡ s.ring
-  pub head : ring.head ≡ s.head
+-- The volume stands for the tree that is opened, and its metadata is the base image's. The log begins at its first place,
+-- and nothing is in it.
+pub record IsOpened {A T V C R : Type 0} (o : Over A T V C R) (Stands : V → T → Type 0) (v : V) (ring : LogRing) (zones limit : ℕ) (programs : List (List C)) : Type 0 where
+  pub stands : Stands v o.model.root
+  pub metadata : (b : ℕ) → o.model.metadata v b ≡ true → In b o.reserved × (o.model.bytes v b ≡ disk_of o.base b)
+  pub base : BaseImage (session o Stands [] (opened o.model o.setup v ring zones limit programs))
+  pub first : 1 ≤ ring.places.first
+  pub place : IsPlace ring.places ring.places.first
+  pub head : ring.head ≡ ring.places.first
   pub used : ring.used ≡ 0
   pub started : ring.started ≡ false
   pub homes : ring.homes ≡ []

@@ -1,4 +1,5 @@
 -- What the host keeps along a run.
+pub mod Traces
 pub mod Written
 pub mod Homes
 pub mod RingFacts

@@ -4,6 +4,7 @@ use Rattle.log_model.specs.Marks.{Transaction}
 use Rattle.host_machine.specs.State.{Host}
 use Rattle.host_machine.specs.laws.Contract.{Over, Contract, H, session, KeepsImages}
 use Rattle.host_machine.specs.laws.Rules.{AllRules}
+use Rattle.host_runs.specs.Runs.{AreBegun}
 use Rattle.host_runs.specs.laws.RingFacts.{RingKept}
 use Rattle.host_runs.specs.laws.CallFacts.{AllCalls}
 use Rattle.host_runs.specs.laws.FlushFacts.{FlushFacts}
@@ -22,3 +23,8 @@ Flushes {o = o} contract txs N x = FlushFacts o.model.kind x.journal.flush.notes
 
 abbrev pub HasRules : {A T V C R : Type 0} {o : Over A T V C R} {Stands : V → T → Type 0} (contract : Contract o Stands) → Host V C R → Type 0
 HasRules contract s = (txs : List Transaction) × (N : ℕ) × KeepsRules contract s txs N × Calls contract txs N s × Flushes contract txs N s
+
+-- what every step keeps
+pub record IsKept {A T V C R : Type 0} {o : Over A T V C R} {Stands : V → T → Type 0} (contract : Contract o Stands) (s : Host V C R) : Type 0 where
+  pub rules : HasRules contract s
+  pub begun : AreBegun o.model.kind s.threads
