@@ -67,7 +67,7 @@ either P true x y p q = p refl
 either P false x y p q = q refl
 
 -- a stop is no answer
-stop-unanswered : {T V C R : Type 0} (M : Model T V C R) (u : Setup) (taken : List Completion) (kind : Kind) (stop : Ending R) → stop_of M u taken kind ≡ Some stop → (t : ℕ) (c : C) → (is_answered_end : Bool) → is_answered_end ≡ (elim stop as (λ _. Bool) [ Answered r ↦ true | other ↦ false ]) → is_answered_end ≡ false
+pub stop-unanswered : {T V C R : Type 0} (M : Model T V C R) (u : Setup) (taken : List Completion) (kind : Kind) (stop : Ending R) → stop_of M u taken kind ≡ Some stop → (t : ℕ) (c : C) → (is_answered_end : Bool) → is_answered_end ≡ (elim stop as (λ _. Bool) [ Answered r ↦ true | other ↦ false ]) → is_answered_end ≡ false
 stop-unanswered M u taken kind (Answered r) e t c b d = absurd (first (list_any is_cut taken) e)
   where
     third : (x : Option ℕ) → option_map ReadOnly x ≡ Some (Answered r) → ⊥

@@ -1,4 +1,5 @@
 pub mod ActorHost
+pub mod Answered
 pub mod BuildHost
 pub mod BuildSteps
 pub mod CallGoals

@@ -21,12 +21,12 @@ use Rattle.host_machine.specs.Host.{Stepped, Goal, AwaitCommit, unsent_on, data_
 use Rattle.host_machine.specs.Model.{Model, Kind, Reading, Changing, FileBarrier, DataBarrier, FileSync, DataSync, WholeSync, is_data, is_durable}
 use Rattle.host_machine.specs.Outcomes as outcomes
 use Rattle.host_machine.specs.State.{Answered, SessionFull, Phase, Idle, Closing, Committing, JournalPart, Begun, Wait, Host, Setup, at_limit, is_flushed_after, flush_above, last_put, is_submitted, latest_change}
-use Rattle.host_machine.specs.laws.Facts.{Numbers}
+use Rattle.host_machine.specs.laws.Contract.{Over, H, session}
 use Rattle.order_model.specs.declared.completion.Completion.TheVariants as completions
 use Rattle.order_model.specs.declared.completion.Completion.{Completion}
 use Rattle.order_model.specs.declared.note.Note.TheVariants.{Page, Commit}
 use Rattle.std.specs.List.{list_any}
-use Rattle.std.specs.Prelude.{◌≡◌, ℕ, ◌+◌, ◌<◌, ◌≤◌, ◌==◌, ◌&&◌, ◌||◌, ◌⊎◌, Bool, true, false, not, List, ◌∷◌, length, Option, Some, None, is_none, nat_lt, if◌then◌else◌, refl}
+use Rattle.std.specs.Prelude.{◌≡◌, ℕ, ◌+◌, ◌<◌, ◌≤◌, ◌==◌, ◌&&◌, ◌||◌, ◌⊎◌, Bool, true, false, not, List, [], ◌∷◌, length, Option, Some, None, is_none, nat_lt, if◌then◌else◌, refl}
 
 -- what the call covers
 abbrev pub call_of : Begun → BegunCall
@@ -48,3 +48,7 @@ pub record KeepsOk {A : Type 0} (h : History A) (s : Session) (taken : List Comp
   pub barrier : is_durable b.kind ≡ false → KeepsBarrier h s ended_at (Covers h (call_of b)) (CoversEntry (call_of b))
   pub sync : is_durable b.kind ≡ true → KeepsSync h s taken (Covers h (call_of b)) (CoversEntry (call_of b)) ⊎ CoversNothing h (call_of b)
   pub cause : is_data b.kind ≡ false → IsCause h s taken ended_at b
+
+-- In this state the call that answered Ok as entry `ended_at` has it.
+abbrev pub IsAnswered : {A T V C R : Type 0} (o : Over A T V C R) (Stands : V → T → Type 0) → Host V C R → ℕ → Begun → Type 0
+IsAnswered o Stands s ended_at b = KeepsOk (H o Stands s.history s.cuts) (session o Stands [] s) s.journal.flush.taken ended_at b
