@@ -48,7 +48,7 @@ module _ (base : List (List ℕ)) (format : Format) (journal : ℕ) (ring : Ring
     metadata = x.metadata;
   }
 
-  ok_as : {A : Type 0} {h : History A} {s : Session} {taken : List Completion} {e : ℕ} {b : Begun} → KeepsOk h s taken e b → KeepsOk h (other s) taken e b
+  pub ok_as : {A : Type 0} {h : History A} {s : Session} {taken : List Completion} {e : ℕ} {b : Begun} → KeepsOk h s taken e b → KeepsOk h (other s) taken e b
   ok_as old = record {
     barrier = λ d. let x = old.barrier d in record { barrier = x.barrier; fence = x.fence; held = held_as x.held; pages = x.pages; commits = x.commits };
     sync = λ d. ⊎_elim (λ k. inl (record { flush = k.flush; flushed = k.flushed; held = held_as k.held })) (λ n. inr n) (old.sync d);
@@ -106,7 +106,7 @@ module _ {A T V C R : Type 0} {o : Over A T V C R} {Stands : V → T → Type 0}
   -- ---- an answer
 
   module _ (s : Host V C R) (kept : IsKept contract s) (full : Bool) (t : ℕ) (th : Thread C) (b : Begun) (at : slice_get s.threads t ≡ Some th) (begun : th.begun ≡ Some b) where
-    answered_now : (r : R) → r ≡ o.model.ok → (advance o.model o.setup full s t).step ≡ outcomes.Done r → IsAnswered o Stands s (length s.history + 1) b
+    pub answered_now : (r : R) → r ≡ o.model.ok → (advance o.model o.setup full s t).step ≡ outcomes.Done r → IsAnswered o Stands s (length s.history + 1) b
     answered_now r q done = of_calls th.calls refl (ap (λ (x : Stepped V C R). x.step) (sym here) ∙ done ∙ ap outcomes.Done q)
       where
         here : advance o.model o.setup full s t ≡ step_thread o.model o.setup full s t (Some b) th.calls

@@ -10,7 +10,6 @@ pub mod CallSteps
 pub mod CallTargets
 pub mod CallerHost
 pub mod CheckpointSteps
-pub mod CutHost
 pub mod FlushFacts
 pub mod GrowingFacts
 pub mod OkSteps
@@ -21,5 +20,6 @@ pub mod RingStateLaws
 pub mod RingSteps
 pub mod RulesHost
 pub mod RunHost
+pub mod Sentences
 pub mod StartHost
 pub mod Threads

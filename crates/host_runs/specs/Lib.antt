@@ -1,4 +1,5 @@
 pub mod Runs
 pub mod Opened
 pub mod Promises
+pub mod Sentences
 pub mod laws

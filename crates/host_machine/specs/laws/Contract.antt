@@ -12,7 +12,7 @@ use Rattle.log_model.specs.Marks.{Transaction}
 use Rattle.order_model.specs.Submission.{IsFence}
 use Rattle.page_cache.specs.Pages.{IsRising}
 use Rattle.page_cache.specs.declared.cached_page.CachedPage.{CachedPage}
-use Rattle.std.specs.Prelude.{◌≡◌, ℕ, ◌+◌, ◌-◌, ◌<◌, ◌≤◌, ◌⊎◌, true, false, List, length, Some, None, nat_lt}
+use Rattle.std.specs.Prelude.{◌≡◌, ℕ, ◌+◌, ◌-◌, ◌<◌, ◌≤◌, ◌⊎◌, true, false, List, length, Option, Some, None, nat_lt}
 use Rattle.volume_ops.specs.Reads.{Reads, answer, blocks_read}
 
 -- what the tree model keeps
@@ -24,6 +24,10 @@ pub record TreeLaws {T V C R : Type 0} (M : Model T V C R) : Type 0 where
   pub written : (t : T) (n : ℕ) (c : C) (f i : ℕ) → M.writes t c f i ≡ true → M.maps (M.call t n c) f i ≡ true
   -- a call that does not change the node neither maps nor unmaps a block of it
   pub same : (t : T) (n : ℕ) (c : C) (f i : ℕ) → M.alters t n c f ≡ false → M.maps (M.call t n c) f i ≡ M.maps t f i
+
+-- a volume stands for the tree that is told of it
+abbrev pub StandsAs : {T V : Type 0} → (V → Option T) → V → T → Type 0
+StandsAs tree v t = tree v ≡ Some t
 
 -- what a session is over: the tree model and the volume; the walk through an image, and how it finds the block
 -- of a page; the image that the session began with, how journal blocks are read, and its metadata

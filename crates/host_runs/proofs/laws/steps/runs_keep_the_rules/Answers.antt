@@ -1,0 +1,11 @@
+use Rattle.host_machine.specs.Host.{opened}
+use Rattle.host_runs.proofs.RunHost.{opened_has, steps_keep}
+use Rattle.host_runs.proofs.laws.steps.runs_keep_the_rules.Goals as goal
+
+pub returns : goal.returns
+returns g c = record {
+  rules = λ o tree contract v ring zones limit programs es written at within.
+      let kept = steps_keep contract written (opened o.model o.setup v ring zones limit programs) es (opened_has contract v ring zones limit programs at) within in
+      (kept.rules.0, kept.rules.2.rules);
+  kept = λ o tree contract s es written kept within. steps_keep contract written s es kept within;
+}
