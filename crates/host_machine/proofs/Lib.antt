@@ -15,7 +15,6 @@ pub mod RequestSteps
 pub mod Retold
 pub mod Reuse
 pub mod ReuseSteps
-pub mod Rows
 pub mod RuleSteps
 pub mod Sample
 pub mod Sends

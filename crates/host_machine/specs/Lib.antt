@@ -6,4 +6,5 @@ pub mod Causes
 pub mod Outcomes
 pub mod Host
 pub mod Views
+pub mod Rows
 pub mod laws
