@@ -1,5 +1,23 @@
 -- The steps of the commit actor, the write-back and the flush actor keep the facts of images.
+use Rattle.std.proofs.Common.{sym, ap, subst, ◌∙◌, inl, inr, ⊎_elim, arith, length-append}
+use Rattle.std.proofs.lemmas.Bool.{cases_Bool, false≢true, and_from}
+use Rattle.std.specs.List.{filter}
+use Rattle.std.specs.Prelude.{◌≡◌, ℕ, ◌+◌, ◌-◌, ◌≤◌, ◌⊎◌, Bool, true, false, ◌&&◌, ◌||◌, not, List, [], ◌∷◌, ◌++◌, length, Option, Some, None, is_none, nat_lt, slice_get, slice_index_or, refl, if◌then◌else◌}
 use Rattle.blk_base.specs.Members.{In, In-filter, slice_get-In}
+use Rattle.order_model.specs.Submission.{IsFence}
+use Rattle.order_model.specs.declared.completion.Completion.{Completion}
+use Rattle.order_model.specs.declared.note.Note.TheVariants as notes
+use Rattle.order_model.specs.declared.note.Note.{Note}
+use Rattle.order_model.specs.declared.request.Kind.TheVariants as puts
+use Rattle.order_model.specs.declared.request.Request.{Request}
+use Rattle.order_model.specs.declared.turn.Turn.TheVariants as turns
+use Rattle.log_model.specs.Marks.{Transaction, Logged}
+use Rattle.page_cache.specs.Pages.{is_unsent, is_dirty, page_at}
+use Rattle.page_cache.specs.declared.cached_page.CachedPage.{CachedPage}
+use Rattle.page_cache.specs.declared.cached_page.PageState.TheVariants.{Clean, Dirty, Loose, Firm}
+use Rattle.page_cache.specs.declared.cached_page.PageState.{PageState}
+use Rattle.page_cache.specs.laws.Maps.{page_at-key}
+use Rattle.page_cache.specs.laws.Order.{keyed}
 use Rattle.crash_laws.proofs.Growing.{fence_old, fence_new}
 use Rattle.crash_laws.specs.Rules.{CommitOrder}
 use Rattle.crash_laws.specs.Session.{Session}
@@ -17,24 +35,6 @@ use Rattle.host_machine.specs.State.{Entry, Plan, Phase, Idle, Closing, Committi
 use Rattle.host_machine.specs.laws.Contract.{Over, Contract, ImagesFacts, InPhase, session, KeepsImages}
 use Rattle.host_machine.specs.laws.PlanNotes.{is_plan_note, IsRestOf, BarrierAhead}
 use Rattle.host_machine.specs.laws.Rules.{Keeps}
-use Rattle.log_model.specs.Marks.{Transaction, Logged}
-use Rattle.order_model.specs.Submission.{IsFence}
-use Rattle.order_model.specs.declared.completion.Completion.{Completion}
-use Rattle.order_model.specs.declared.note.Note.TheVariants as notes
-use Rattle.order_model.specs.declared.note.Note.{Note}
-use Rattle.order_model.specs.declared.request.Kind.TheVariants as puts
-use Rattle.order_model.specs.declared.request.Request.{Request}
-use Rattle.order_model.specs.declared.turn.Turn.TheVariants as turns
-use Rattle.page_cache.specs.Pages.{is_unsent, is_dirty, page_at}
-use Rattle.page_cache.specs.declared.cached_page.CachedPage.{CachedPage}
-use Rattle.page_cache.specs.declared.cached_page.PageState.TheVariants.{Clean, Dirty, Loose, Firm}
-use Rattle.page_cache.specs.declared.cached_page.PageState.{PageState}
-use Rattle.page_cache.specs.laws.Maps.{page_at-key}
-use Rattle.page_cache.specs.laws.Order.{keyed}
-use Rattle.std.proofs.Common.{sym, ap, subst, ◌∙◌, inl, inr, ⊎_elim, arith, length-append}
-use Rattle.std.proofs.lemmas.Bool.{cases_Bool, false≢true, and_from}
-use Rattle.std.specs.List.{filter}
-use Rattle.std.specs.Prelude.{◌≡◌, ℕ, ◌+◌, ◌-◌, ◌≤◌, ◌⊎◌, Bool, true, false, ◌&&◌, ◌||◌, not, List, [], ◌∷◌, ◌++◌, length, Option, Some, None, is_none, nat_lt, slice_get, slice_index_or, refl, if◌then◌else◌}
 
 plan_note≢commit : (n : Note) → is_plan_note n ≡ true → (k : ℕ) → n ≡ notes.Commit k → ⊥
 plan_note≢commit n t k e = false≢true (sym (ap is_plan_note e) ∙ t)

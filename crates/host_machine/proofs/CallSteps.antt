@@ -1,5 +1,11 @@
 -- Plain calls, and every other entry of the history, keep the facts of images.
+use Rattle.std.proofs.Common.{sym, ap, subst, ◌∙◌, inl, arith}
+use Rattle.std.proofs.lemmas.Bool.{false≢true}
+use Rattle.std.proofs.lemmas.Option.{none-some, same_Some}
+use Rattle.std.specs.Prelude.{◌≡◌, ℕ, suc, ◌+◌, true, false, ◌&&◌, not, List, [], ◌∷◌, ◌++◌, length, None, nat_lt, refl, if◌then◌else◌}
 use Rattle.blk_base.specs.Members.{filter_all}
+use Rattle.log_model.specs.Marks.{Transaction}
+use Rattle.page_cache.specs.declared.cached_page.CachedPage.{CachedPage}
 use Rattle.crash_laws.specs.Session.{Session}
 use Rattle.host_machine.proofs.Entries.{tree_new, writes_new}
 use Rattle.host_machine.proofs.Machine.{entry_keeps}
@@ -9,12 +15,6 @@ use Rattle.host_machine.specs.Parts.{has, with_all, without_all}
 use Rattle.host_machine.specs.State.{Ending, Answered, Ends, Entry, Phase, Host}
 use Rattle.host_machine.specs.Views.{is_answered, acted, tree_after, writes_at}
 use Rattle.host_machine.specs.laws.Contract.{Over, Contract, ImagesFacts, KeepsImages}
-use Rattle.log_model.specs.Marks.{Transaction}
-use Rattle.page_cache.specs.declared.cached_page.CachedPage.{CachedPage}
-use Rattle.std.proofs.Common.{sym, ap, subst, ◌∙◌, inl, arith}
-use Rattle.std.proofs.lemmas.Bool.{false≢true}
-use Rattle.std.proofs.lemmas.Option.{none-some, same_Some}
-use Rattle.std.specs.Prelude.{◌≡◌, ℕ, suc, ◌+◌, true, false, ◌&&◌, not, List, [], ◌∷◌, ◌++◌, length, None, nat_lt, refl, if◌then◌else◌}
 
 abbrev nothing : Touched
 nothing = record { blocks = []; freed = []; revoked = []; pages = []; dropped = []; nodes = [] }

@@ -1,5 +1,15 @@
 -- A changing call keeps the facts of images.
+use Rattle.std.proofs.Common.{sym, ap, subst, ◌∙◌, inl, inr, ⊎_elim, arith}
+use Rattle.std.proofs.lemmas.Bool.{cases_Bool, cases_lt, cond-true, cond-false, false≢true}
+use Rattle.std.proofs.lemmas.Option.{none-some}
+use Rattle.std.specs.Prelude.{◌≡◌, ℕ, suc, ◌+◌, ◌-◌, ◌<◌, ◌≤◌, ◌⊎◌, Bool, true, false, List, Option, Some, None, refl, zero, if◌then◌else◌}
 use Rattle.blk_base.specs.Members.{In}
+use Rattle.order_model.specs.declared.note.Note.TheVariants.{Page}
+use Rattle.log_model.specs.Marks.{mark_in, transactions_from}
+use Rattle.volume_ops.specs.Reads.{Reads, answer}
+use Rattle.page_cache.specs.Pages.{page_at}
+use Rattle.page_cache.specs.declared.cached_page.CachedPage.{CachedPage}
+use Rattle.page_cache.specs.declared.cached_page.PageState.TheVariants.{Clean, Dirty, Firm}
 use Rattle.crash_laws.proofs.Growth.{unmapped_old, unmapped_new}
 use Rattle.crash_laws.proofs.Histories.{stays_mapped}
 use Rattle.crash_laws.specs.Extending.{Extends}
@@ -13,16 +23,6 @@ use Rattle.host_machine.specs.Model.{Model, FileBlock, Touched}
 use Rattle.host_machine.specs.Parts.{with_all, without_all}
 use Rattle.host_machine.specs.State.{Setup}
 use Rattle.host_machine.specs.laws.Facts.{View, IsPlain, IsChange, Numbers, Present, Bodies, PlanRevokes, KeepsPlaces, IsCached, PagesMapped, PagesSent, IsLive, IsDead, ZoneHistory, Altered, OnItsWay}
-use Rattle.log_model.specs.Marks.{mark_in, transactions_from}
-use Rattle.order_model.specs.declared.note.Note.TheVariants.{Page}
-use Rattle.page_cache.specs.Pages.{page_at}
-use Rattle.page_cache.specs.declared.cached_page.CachedPage.{CachedPage}
-use Rattle.page_cache.specs.declared.cached_page.PageState.TheVariants.{Clean, Dirty, Firm}
-use Rattle.std.proofs.Common.{sym, ap, subst, ◌∙◌, inl, inr, ⊎_elim, arith}
-use Rattle.std.proofs.lemmas.Bool.{cases_Bool, cases_lt, cond-true, cond-false, false≢true}
-use Rattle.std.proofs.lemmas.Option.{none-some}
-use Rattle.std.specs.Prelude.{◌≡◌, ℕ, suc, ◌+◌, ◌-◌, ◌<◌, ◌≤◌, ◌⊎◌, Bool, true, false, List, Option, Some, None, refl, zero, if◌then◌else◌}
-use Rattle.volume_ops.specs.Reads.{Reads, answer}
 
 -- One entry more, in the running transaction: what was told of the old ones stays.
 pub record IsEntry {A : Type 0} (h more : History A) (now r : ℕ) : Type 0 where

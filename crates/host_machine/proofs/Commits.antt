@@ -1,5 +1,14 @@
 -- What requests owe of images and pages, from the facts: a page, the commit block, and every other request.
+use Rattle.std.proofs.Common.{sym, ap, subst, ◌∙◌, ⊎_elim, arith}
+use Rattle.std.proofs.lemmas.Option.{same_Some}
+use Rattle.std.specs.Prelude.{◌≡◌, ℕ, ◌-◌, ◌≤◌, ◌⊎◌, true, List, length, Some}
 use Rattle.blk_base.specs.Members.{In}
+use Rattle.order_model.specs.Submission.{IsFence, kind_block}
+use Rattle.order_model.specs.declared.note.Note.TheVariants.{Page, Commit, Home}
+use Rattle.order_model.specs.declared.note.Note.{Note}
+use Rattle.order_model.specs.declared.request.Request.{Request}
+use Rattle.log_model.specs.Marks.{Set, mark_in, transactions_from}
+use Rattle.volume_ops.specs.Reads.{Reads, blocks_read}
 use Rattle.crash_laws.proofs.Growing.{note_old, ordered_old}
 use Rattle.crash_laws.specs.Clauses.{ImageClause}
 use Rattle.crash_laws.specs.History.{History, Calm, last_write}
@@ -9,15 +18,6 @@ use Rattle.crash_laws.specs.Session.{Session, image_of}
 use Rattle.crash_laws.specs.Submitting.{after}
 use Rattle.host_machine.proofs.Sends.{plainly, page_cases, page≢commit}
 use Rattle.host_machine.specs.laws.Facts.{OnItsWay}
-use Rattle.log_model.specs.Marks.{Set, mark_in, transactions_from}
-use Rattle.order_model.specs.Submission.{IsFence, kind_block}
-use Rattle.order_model.specs.declared.note.Note.TheVariants.{Page, Commit, Home}
-use Rattle.order_model.specs.declared.note.Note.{Note}
-use Rattle.order_model.specs.declared.request.Request.{Request}
-use Rattle.std.proofs.Common.{sym, ap, subst, ◌∙◌, ⊎_elim, arith}
-use Rattle.std.proofs.lemmas.Option.{same_Some}
-use Rattle.std.specs.Prelude.{◌≡◌, ℕ, ◌-◌, ◌≤◌, ◌⊎◌, true, List, length, Some}
-use Rattle.volume_ops.specs.Reads.{Reads, blocks_read}
 
 same_commit : (k l : ℕ) → Commit k ≡ Commit l → k ≡ l
 same_commit k l e = cc

@@ -1,14 +1,14 @@
 -- Laws of the history that a host has noted: one entry more, and what it has of trees.
-use Rattle.host_machine.specs.laws.Contract.{TreeLaws}
+use Rattle.std.proofs.Common.{sym, ap, subst, ◌∙◌, inl, inr, ⊎_elim, arith, length-append}
+use Rattle.std.proofs.lemmas.Bool.{cases_lt, false≢true, or_cases, or_parts, and_parts, and_from}
+use Rattle.std.specs.Prelude.{◌≡◌, ℕ, zero, suc, ◌+◌, ◌-◌, ◌<◌, ◌≤◌, ◌⊎◌, Bool, true, false, ◌&&◌, ◌||◌, List, [], ◌∷◌, ◌++◌, length, Option, Some, None, slice_get, slice_index_or, refl, if◌then◌else◌}
 use Rattle.blk_base.specs.Members.{slice_get-push, slice_get-push_left}
 use Rattle.crash_laws.specs.History.{HasTrees}
 use Rattle.host_machine.proofs.ChangeSteps.{IsEntry}
 use Rattle.host_machine.specs.Model.{Model}
 use Rattle.host_machine.specs.State.{Entry}
 use Rattle.host_machine.specs.Views.{is_answered, cut_of, some_in, acted, tree_after, writes_at, alters_at, history_of}
-use Rattle.std.proofs.Common.{sym, ap, subst, ◌∙◌, inl, inr, ⊎_elim, arith, length-append}
-use Rattle.std.proofs.lemmas.Bool.{cases_lt, false≢true, or_cases, or_parts, and_parts, and_from}
-use Rattle.std.specs.Prelude.{◌≡◌, ℕ, zero, suc, ◌+◌, ◌-◌, ◌<◌, ◌≤◌, ◌⊎◌, Bool, true, false, ◌&&◌, ◌||◌, List, [], ◌∷◌, ◌++◌, length, Option, Some, None, slice_get, slice_index_or, refl, if◌then◌else◌}
+use Rattle.host_machine.specs.laws.Contract.{TreeLaws}
 
 -- ---- numbers of a range
 

@@ -1,5 +1,9 @@
 -- The steps of the host keep the facts of images.
+use Rattle.std.proofs.Common.{sym, ap, subst, ◌∙◌, inl, inr, ⊎_elim, arith}
+use Rattle.std.proofs.lemmas.Bool.{cases_lt}
+use Rattle.std.specs.Prelude.{◌≡◌, ℕ, suc, ◌+◌, ◌-◌, ◌<◌, ◌≤◌, true, ◌&&◌, List, [], ◌∷◌, ◌++◌, length, refl}
 use Rattle.blk_base.specs.Members.{In}
+use Rattle.page_cache.specs.declared.cached_page.CachedPage.{CachedPage}
 use Rattle.crash_laws.specs.Session.{Session}
 use Rattle.host_machine.proofs.ChangeSteps.{IsEntry, numbers_grow, way_grows, present_changed, bodies_changed, plan_revokes_changed, places_changed, history_changed, altered_changed, pages_changed, sent_changed}
 use Rattle.host_machine.proofs.Entries.{tree_old, entry_noted, changes_noted, trees_noted, length_new, cut_closed, cut_open}
@@ -11,10 +15,6 @@ use Rattle.host_machine.specs.State.{Entry, Phase, Idle, Closing, Committing}
 use Rattle.host_machine.specs.Views.{is_answered, cut_of, tree_after}
 use Rattle.host_machine.specs.laws.Contract.{Over, view_of, Contract, H, InPhase, ImagesFacts}
 use Rattle.host_machine.specs.laws.Facts.{IsPlain, IsChange, Numbers, KeepsPlaces, PagesMapped, ZoneHistory}
-use Rattle.page_cache.specs.declared.cached_page.CachedPage.{CachedPage}
-use Rattle.std.proofs.Common.{sym, ap, subst, ◌∙◌, inl, inr, ⊎_elim, arith}
-use Rattle.std.proofs.lemmas.Bool.{cases_lt}
-use Rattle.std.specs.Prelude.{◌≡◌, ℕ, suc, ◌+◌, ◌-◌, ◌<◌, ◌≤◌, true, ◌&&◌, List, [], ◌∷◌, ◌++◌, length, refl}
 
 module _ {A T V C R : Type 0} {o : Over A T V C R} {Stands : V → T → Type 0} (contract : Contract o Stands) where
   pub plain_at : (es : List (Entry C R)) (cuts : List ℕ) (s : Session) (v : V) (n : ℕ) → s.journal ≡ o.setup.journal → s.reserved ≡ o.reserved → Stands v (tree_after o.model es n) → IsPlain o.program (H o Stands es cuts) s n (view_of o v)

@@ -1,5 +1,15 @@
 -- A host that is opened keeps the facts of images, and the rules.
+use Rattle.std.proofs.Common.{sym, subst, ◌∙◌, inl, inr, arith}
+use Rattle.std.proofs.lemmas.Bool.{false≢true}
+use Rattle.std.proofs.lemmas.Option.{none-some}
+use Rattle.std.specs.Prelude.{◌≡◌, ℕ, zero, suc, ◌+◌, ◌≤◌, true, List, [], Some, refl}
 use Rattle.blk_base.specs.Members.{In}
+use Rattle.order_model.specs.declared.note.Note.{Note}
+use Rattle.log_model.proofs.Marks.{keep≢set}
+use Rattle.log_model.specs.Ring.{IsPlace}
+use Rattle.volume_ops.specs.Reads.{answer, blocks_read}
+use Rattle.volume_ops.specs.ReadsLaws.{answer-agrees}
+use Rattle.volume_ops.specs.Volume.{disk_of}
 use Rattle.crash_laws.proofs.Start.{rules_at_start, pages_at_start}
 use Rattle.crash_laws.specs.History.{HasTrees}
 use Rattle.crash_laws.specs.Rules.{BaseImage}
@@ -11,16 +21,6 @@ use Rattle.host_machine.specs.State.{Host}
 use Rattle.host_machine.specs.Views.{tree_after, cut_of}
 use Rattle.host_machine.specs.laws.Contract.{IsAlike, Over, Contract, H, session}
 use Rattle.host_machine.specs.laws.Rules.{Keeps}
-use Rattle.log_model.proofs.Marks.{keep≢set}
-use Rattle.log_model.specs.Ring.{IsPlace}
-use Rattle.order_model.specs.declared.note.Note.{Note}
-use Rattle.std.proofs.Common.{sym, subst, ◌∙◌, inl, inr, arith}
-use Rattle.std.proofs.lemmas.Bool.{false≢true}
-use Rattle.std.proofs.lemmas.Option.{none-some}
-use Rattle.std.specs.Prelude.{◌≡◌, ℕ, zero, suc, ◌+◌, ◌≤◌, true, List, [], Some, refl}
-use Rattle.volume_ops.specs.Reads.{answer, blocks_read}
-use Rattle.volume_ops.specs.ReadsLaws.{answer-agrees}
-use Rattle.volume_ops.specs.Volume.{disk_of}
 
 module _ {A T V C R : Type 0} {o : Over A T V C R} {Stands : V → T → Type 0} (contract : Contract o Stands) (v : V) (ring : LogRing) (zones limit : ℕ) (programs : List (List C)) where
   abbrev host : Host V C R

@@ -1,16 +1,16 @@
 -- What a changing call makes of the cached pages.
-use Rattle.blk_base.specs.Members.{In}
-use Rattle.host_machine.specs.Host.{dropped_pages, written_pages}
-use Rattle.host_machine.specs.Model.{Model, FileBlock}
-use Rattle.host_machine.specs.State.{Setup}
-use Rattle.page_cache.specs.Pages.{is_page, page_at, put_page, drop_page}
-use Rattle.page_cache.specs.declared.cached_page.CachedPage.{CachedPage}
-use Rattle.page_cache.specs.declared.cached_page.PageState.TheVariants.{Dirty}
-use Rattle.page_cache.specs.laws.Maps.{is_page-same, same-is_page, page_at-put, page_at-drop}
 use Rattle.std.proofs.Common.{sym, ap, ◌∙◌, inl, inr, ⊎_elim, eqb-true, eq-eqb}
 use Rattle.std.proofs.lemmas.Bool.{false≢true, and_from, and_parts}
 use Rattle.std.proofs.lemmas.Option.{none-some, same_Some}
 use Rattle.std.specs.Prelude.{◌≡◌, ℕ, ◌==◌, Bool, true, false, ◌&&◌, ◌⊎◌, List, [], ◌∷◌, Some, None, refl, if◌then◌else◌}
+use Rattle.blk_base.specs.Members.{In}
+use Rattle.page_cache.specs.Pages.{is_page, page_at, put_page, drop_page}
+use Rattle.page_cache.specs.declared.cached_page.CachedPage.{CachedPage}
+use Rattle.page_cache.specs.declared.cached_page.PageState.TheVariants.{Dirty}
+use Rattle.page_cache.specs.laws.Maps.{is_page-same, same-is_page, page_at-put, page_at-drop}
+use Rattle.host_machine.specs.Host.{dropped_pages, written_pages}
+use Rattle.host_machine.specs.Model.{Model, FileBlock}
+use Rattle.host_machine.specs.State.{Setup}
 
 -- some of these is the block (f, i)
 abbrev pub IsAmong : List FileBlock → ℕ → ℕ → Type 0

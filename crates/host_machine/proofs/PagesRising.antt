@@ -1,18 +1,12 @@
 -- Cached pages stand in the order of birth and index, so each stands once.
-use Rattle.page_cache.specs.Pages.{IsRising}
+use Rattle.std.specs.Prelude.{ℕ, List, [], ◌∷◌}
+use Rattle.page_cache.specs.Pages.{IsRising, put_page, drop_page}
+use Rattle.page_cache.specs.declared.cached_page.CachedPage.{CachedPage}
 use Rattle.page_cache.specs.laws.Order.{put-rising, drop-rising}
-use Rattle.blk_base.specs.Members.{In, In-filter}
 use Rattle.host_machine.proofs.PageMaps.{page_written}
 use Rattle.host_machine.specs.Host.{dropped_pages, written_pages}
 use Rattle.host_machine.specs.Model.{Model, FileBlock}
 use Rattle.host_machine.specs.State.{Setup}
-use Rattle.page_cache.specs.Pages.{is_page, is_below, page_at, put_page, drop_page}
-use Rattle.page_cache.specs.declared.cached_page.CachedPage.{CachedPage}
-use Rattle.page_cache.specs.laws.Maps.{is_page-same, same-is_page}
-use Rattle.std.proofs.Common.{sym, ap, subst, ◌∙◌, inl, inr, ⊎_elim, arith, eqb-true, eq-eqb}
-use Rattle.std.proofs.lemmas.Bool.{cases_lt, false≢true, or_cases, or_left, or_right, and_parts, and_from, ltb-true, lt-ltb}
-use Rattle.std.specs.List.{filter}
-use Rattle.std.specs.Prelude.{◌≡◌, ℕ, ◌<◌, ◌==◌, ◌⊎◌, Bool, true, false, not, ◌&&◌, nat_lt, List, [], ◌∷◌, Some, refl, ⊤, if◌then◌else◌}
 
 module _ {T V C R : Type 0} (M : Model T V C R) (u : Setup) where
   pub dropped-rising : (ps : List CachedPage) (ds : List FileBlock) → IsRising ps → IsRising (dropped_pages M u ps ds)

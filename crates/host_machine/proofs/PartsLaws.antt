@@ -1,12 +1,9 @@
 -- Laws of the host's parts: sets of numbers, and pages by birth and index.
+use Rattle.std.proofs.Common.{sym, subst, ◌∙◌, inl, inr, ⊎_elim, eqb-true, eq-eqb}
+use Rattle.std.proofs.lemmas.Bool.{cases_Bool, false≢true, not_from_true, not_from_false, false_from_ne_true}
+use Rattle.std.specs.Prelude.{◌≡◌, ℕ, ◌==◌, Bool, true, false, not, nat_lt, ◌⊎◌, List, [], ◌∷◌, refl, if◌then◌else◌}
 use Rattle.blk_base.specs.Members.{In, In-list_any, list_any-In, In-filter, filter-In}
 use Rattle.host_machine.specs.Parts.{has, with, with_all, without_all}
-use Rattle.page_cache.specs.Pages.{is_page, is_below, page_at, put_page, drop_page}
-use Rattle.page_cache.specs.declared.cached_page.CachedPage.{CachedPage}
-use Rattle.std.proofs.Common.{sym, ap, subst, ◌∙◌, inl, inr, ⊎_elim, eqb-true, eq-eqb}
-use Rattle.std.proofs.lemmas.Bool.{cases_Bool, false≢true, not_from_true, not_from_false, and_from, and_parts, false_from_ne_true}
-use Rattle.std.proofs.lemmas.Option.{none-some, same_Some}
-use Rattle.std.specs.Prelude.{◌≡◌, ℕ, ◌==◌, Bool, true, false, not, ◌&&◌, nat_lt, ◌⊎◌, List, [], ◌∷◌, Option, Some, None, refl, if◌then◌else◌}
 
 -- ---- sets of numbers
 

@@ -1,13 +1,12 @@
 -- What the requests of a plan are.
-use Rattle.host_machine.specs.laws.PlanNotes.{is_plan_note, IsRestOf, BarrierAhead}
+use Rattle.std.proofs.Common.{sym, ap, ◌∙◌, inl, inr, ⊎_elim}
+use Rattle.std.specs.Prelude.{◌≡◌, ℕ, zero, suc, ◌+◌, ◌-◌, Bool, true, false, List, [], ◌∷◌, ◌++◌, length, map, refl, if◌then◌else◌}
 use Rattle.blk_base.specs.Members.{In}
-use Rattle.host_machine.specs.Plan.{Writers, Planned, UnplacedBlock, chunks_from, chunks, revoke_block, body_block, described, all_described, logged_blocks, placed, with_barrier, plan_of}
+use Rattle.order_model.specs.declared.note.Note.TheVariants as notes
 use Rattle.log_model.specs.Marks.{Logged}
 use Rattle.log_model.specs.Ring.{Ring, places_on}
-use Rattle.order_model.specs.declared.note.Note.TheVariants as notes
-use Rattle.order_model.specs.declared.note.Note.{Note}
-use Rattle.std.proofs.Common.{sym, ap, ◌∙◌, inl, inr, ⊎_elim}
-use Rattle.std.specs.Prelude.{◌≡◌, ℕ, zero, suc, ◌+◌, ◌-◌, ◌⊎◌, Bool, true, false, List, [], ◌∷◌, ◌++◌, length, map, refl, if◌then◌else◌}
+use Rattle.host_machine.specs.Plan.{Writers, Planned, UnplacedBlock, chunks_from, chunks, revoke_block, body_block, described, all_described, logged_blocks, placed, with_barrier, plan_of}
+use Rattle.host_machine.specs.laws.PlanNotes.{is_plan_note, IsRestOf, BarrierAhead}
 
 abbrev ArePlanNotes : List Planned → Type 0
 ArePlanNotes ps = (p : Planned) → In p ps → is_plan_note p.note ≡ true

@@ -1,5 +1,17 @@
 -- The plan and the commit block keep the facts of images.
+use Rattle.std.proofs.Common.{sym, ap, subst, ◌∙◌, inl, inr, arith, length-append}
+use Rattle.std.proofs.lemmas.Bool.{cases_lt, false≢true}
+use Rattle.std.specs.Prelude.{◌≡◌, ℕ, ◌+◌, ◌-◌, ◌<◌, ◌≤◌, ◌⊎◌, true, false, List, [], ◌∷◌, ◌++◌, length, Some, slice_index_or, refl}
+use mathlib.Core.Path.{fun_ext}
 use Rattle.blk_base.specs.Members.{In}
+use Rattle.order_model.specs.declared.note.Note.TheVariants as notes
+use Rattle.order_model.specs.declared.request.Kind.TheVariants as puts
+use Rattle.order_model.specs.declared.request.Request.{Request}
+use Rattle.log_model.specs.Marks.{Transaction}
+use Rattle.volume_ops.specs.Reads.{answer}
+use Rattle.page_cache.specs.Pages.{page_at}
+use Rattle.page_cache.specs.declared.cached_page.CachedPage.{CachedPage}
+use Rattle.page_cache.specs.declared.cached_page.PageState.TheVariants.{Firm}
 use Rattle.crash_laws.specs.History.{History}
 use Rattle.crash_laws.specs.Rules.{CommitOrder}
 use Rattle.crash_laws.specs.Session.{image_of}
@@ -16,18 +28,6 @@ use Rattle.host_machine.specs.Views.{cut_of, some_in, alters_at, tree_after, tra
 use Rattle.host_machine.specs.laws.Contract.{IsAlike, Over, view_of, Contract, H, ImagesFacts, session, KeepsImages}
 use Rattle.host_machine.specs.laws.Facts.{View, Numbers, Present, Bodies, KeepsPlaces, PagesMapped, ZoneHistory, Altered, OnItsWay}
 use Rattle.host_machine.specs.laws.PlanNotes.{IsRestOf, BarrierAhead}
-use Rattle.log_model.specs.Marks.{Transaction}
-use Rattle.order_model.specs.declared.note.Note.TheVariants as notes
-use Rattle.order_model.specs.declared.request.Kind.TheVariants as puts
-use Rattle.order_model.specs.declared.request.Request.{Request}
-use Rattle.page_cache.specs.Pages.{page_at}
-use Rattle.page_cache.specs.declared.cached_page.CachedPage.{CachedPage}
-use Rattle.page_cache.specs.declared.cached_page.PageState.TheVariants.{Firm}
-use Rattle.std.proofs.Common.{sym, ap, subst, ◌∙◌, inl, inr, arith, length-append}
-use Rattle.std.proofs.lemmas.Bool.{cases_lt, false≢true}
-use Rattle.std.specs.Prelude.{◌≡◌, ℕ, ◌+◌, ◌-◌, ◌<◌, ◌≤◌, ◌⊎◌, true, false, List, [], ◌∷◌, ◌++◌, length, Some, slice_index_or, refl}
-use Rattle.volume_ops.specs.Reads.{answer}
-use mathlib.Core.Path.{fun_ext}
 
 module _ {A T V C R : Type 0} {o : Over A T V C R} {Stands : V → T → Type 0} (contract : Contract o Stands) (s : Host V C R) (txs : List Transaction) (N : ℕ) (facts : KeepsImages o Stands s txs N) where
   abbrev now : ℕ

@@ -1,5 +1,18 @@
 -- The running transaction closes: what the facts give of its image, and what they are for the next one.
+use Rattle.std.proofs.Common.{sym, ap, subst, ◌∙◌, inl, inr, ⊎_elim, arith, eqb-true, eq-eqb}
+use Rattle.std.proofs.lemmas.Bool.{cases_Bool, cases_lt, false≢true}
+use Rattle.std.proofs.lemmas.Option.{none-some}
+use Rattle.std.specs.Prelude.{◌≡◌, ℕ, ◌+◌, ◌-◌, ◌<◌, ◌≤◌, ◌==◌, ◌⊎◌, Bool, true, false, List, [], ◌∷◌, length, map, Some, refl, if◌then◌else◌}
 use Rattle.blk_base.specs.Members.{In, slice_get-length}
+use Rattle.order_model.specs.declared.note.Note.TheVariants.{Page}
+use Rattle.log_model.proofs.Marks.{clear≢set, mark-split}
+use Rattle.log_model.specs.Marks.{Transaction, Logged, Mark, Keep, Clear, Set, followed, bodies_mark, mark_in, transaction_mark, body_after, transactions_from}
+use Rattle.volume_ops.specs.Reads.{Reads, answer, blocks_read, AgreeOn}
+use Rattle.volume_ops.specs.ReadsLaws.{answer-agrees, blocks_read-agree}
+use Rattle.volume_ops.specs.Volume.{disk_of}
+use Rattle.page_cache.specs.Pages.{page_at}
+use Rattle.page_cache.specs.declared.cached_page.CachedPage.{CachedPage}
+use Rattle.page_cache.specs.declared.cached_page.PageState.TheVariants.{Firm}
 use Rattle.crash_laws.proofs.Commits.{commit_positive, commits_rise}
 use Rattle.crash_laws.proofs.Histories.{cuts_rise}
 use Rattle.crash_laws.proofs.LogSteps.{same_transactions}
@@ -10,19 +23,6 @@ use Rattle.crash_laws.specs.Session.{Session, IsCommit, image_of}
 use Rattle.host_machine.proofs.PartsLaws.{has-In, In-has}
 use Rattle.host_machine.specs.Parts.{has}
 use Rattle.host_machine.specs.laws.Facts.{View, IsPlain, Numbers, Present, Bodies, PlanRevokes, KeepsPlaces, PagesMapped, PagesSent, ZoneHistory, Altered, OnItsWay}
-use Rattle.log_model.proofs.Marks.{clear≢set, mark-split}
-use Rattle.log_model.specs.Marks.{Transaction, Logged, Mark, Keep, Clear, Set, followed, bodies_mark, mark_in, transaction_mark, body_after, transactions_from}
-use Rattle.order_model.specs.declared.note.Note.TheVariants.{Page}
-use Rattle.page_cache.specs.Pages.{page_at}
-use Rattle.page_cache.specs.declared.cached_page.CachedPage.{CachedPage}
-use Rattle.page_cache.specs.declared.cached_page.PageState.TheVariants.{Firm}
-use Rattle.std.proofs.Common.{sym, ap, subst, ◌∙◌, inl, inr, ⊎_elim, arith, eqb-true, eq-eqb}
-use Rattle.std.proofs.lemmas.Bool.{cases_Bool, cases_lt, false≢true}
-use Rattle.std.proofs.lemmas.Option.{none-some}
-use Rattle.std.specs.Prelude.{◌≡◌, ℕ, ◌+◌, ◌-◌, ◌<◌, ◌≤◌, ◌==◌, ◌⊎◌, Bool, true, false, List, [], ◌∷◌, length, map, Some, refl, if◌then◌else◌}
-use Rattle.volume_ops.specs.Reads.{Reads, answer, blocks_read, AgreeOn}
-use Rattle.volume_ops.specs.ReadsLaws.{answer-agrees, blocks_read-agree}
-use Rattle.volume_ops.specs.Volume.{disk_of}
 
 -- the bodies that blocks have now
 abbrev pub bodies_in : (ℕ → List ℕ) → List ℕ → List Logged

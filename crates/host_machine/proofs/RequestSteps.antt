@@ -1,5 +1,19 @@
 -- Requests keep the facts of images, and owe what the facts give: a page that is sent, a request that is neither
 -- a page nor a commit block, the plan, and the commit block.
+use Rattle.std.proofs.Common.{sym, ap, ◌∙◌, inl, inr, ⊎_elim, arith, length-append}
+use Rattle.std.proofs.lemmas.Bool.{cases_lt, false≢true}
+use Rattle.std.proofs.lemmas.Option.{none-some}
+use Rattle.std.specs.Prelude.{◌≡◌, ℕ, ◌+◌, ◌-◌, ◌<◌, Bool, true, false, List, [], ◌∷◌, length, Some, refl, if◌then◌else◌, IsTrue}
+use Rattle.order_model.specs.Submission.{kind_block, kind_body}
+use Rattle.order_model.specs.declared.note.Note.TheVariants as notes
+use Rattle.order_model.specs.declared.note.Note.{Note}
+use Rattle.order_model.specs.declared.request.Kind.TheVariants as puts
+use Rattle.order_model.specs.declared.request.Request.{Request}
+use Rattle.log_model.specs.Marks.{Transaction}
+use Rattle.page_cache.specs.Pages.{page_at, put_page, marked, IsRising}
+use Rattle.page_cache.specs.declared.cached_page.CachedPage.{CachedPage}
+use Rattle.page_cache.specs.declared.cached_page.PageState.TheVariants.{Clean, Loose, Firm}
+use Rattle.page_cache.specs.laws.Order.{put-rising}
 use Rattle.crash_laws.proofs.Growing.{fence_old}
 use Rattle.crash_laws.proofs.Histories.{mapped_was_written}
 use Rattle.crash_laws.specs.Clauses.{FitsClause, ImageClause}
@@ -16,20 +30,6 @@ use Rattle.host_machine.specs.Host.{send_page}
 use Rattle.host_machine.specs.State.{Entry, Phase, Idle, Closing, Committing, Host}
 use Rattle.host_machine.specs.laws.Contract.{Over, view_of, Contract, H, InPhase, ImagesFacts, session, KeepsImages}
 use Rattle.host_machine.specs.laws.Facts.{IsPlain, PagesMapped, PagesSent}
-use Rattle.log_model.specs.Marks.{Transaction}
-use Rattle.order_model.specs.Submission.{kind_block, kind_body}
-use Rattle.order_model.specs.declared.note.Note.TheVariants as notes
-use Rattle.order_model.specs.declared.note.Note.{Note}
-use Rattle.order_model.specs.declared.request.Kind.TheVariants as puts
-use Rattle.order_model.specs.declared.request.Request.{Request}
-use Rattle.page_cache.specs.Pages.{page_at, put_page, marked, IsRising}
-use Rattle.page_cache.specs.declared.cached_page.CachedPage.{CachedPage}
-use Rattle.page_cache.specs.declared.cached_page.PageState.TheVariants.{Clean, Loose, Firm}
-use Rattle.page_cache.specs.laws.Order.{put-rising}
-use Rattle.std.proofs.Common.{sym, ap, ◌∙◌, inl, inr, ⊎_elim, arith, length-append}
-use Rattle.std.proofs.lemmas.Bool.{cases_lt, false≢true}
-use Rattle.std.proofs.lemmas.Option.{none-some}
-use Rattle.std.specs.Prelude.{◌≡◌, ℕ, ◌+◌, ◌-◌, ◌<◌, Bool, true, false, List, [], ◌∷◌, length, Some, refl, if◌then◌else◌, IsTrue}
 
 module _ {A T V C R : Type 0} {o : Over A T V C R} {Stands : V → T → Type 0} (contract : Contract o Stands) where
   module _ {es : List (Entry C R)} {cuts : List ℕ} {s : Session} {r : ℕ} {touched revoked changed : List ℕ} {phase : Phase} {v : V} {pages : List CachedPage} {N : ℕ}

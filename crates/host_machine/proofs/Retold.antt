@@ -1,18 +1,18 @@
 -- Transactions may be told anew, as long as their commit block is not submitted.
+use Rattle.std.proofs.Common.{sym, ap, subst, ◌∙◌, inl, inr, ⊎_elim, arith}
+use Rattle.std.proofs.lemmas.Bool.{cases_lt}
+use Rattle.std.specs.Prelude.{◌≡◌, ℕ, ◌≤◌}
 use Rattle.blk_base.specs.Members.{In}
+use Rattle.log_model.specs.Log.{Spells}
+use Rattle.log_model.specs.Marks.{Transaction, mark_in, body_after, transactions_from}
+use Rattle.volume_ops.specs.Reads.{Reads, answer, blocks_read}
+use Rattle.volume_ops.specs.Volume.{disk_of}
 use Rattle.crash_laws.proofs.Commits.{commit_below}
 use Rattle.crash_laws.proofs.LogSteps.{same_transactions}
 use Rattle.crash_laws.specs.History.{History}
 use Rattle.crash_laws.specs.PageRules.{IsPageTo, place_at, PageOrder, DataBeforeCommit}
 use Rattle.crash_laws.specs.Rules.{OrderRules, CommitOrder}
 use Rattle.crash_laws.specs.Session.{Session, IsCommit, IsSubmitted, Before, Submitted, IsSuperOf, bodies_of, log_blocks, log_blocks_of, sequence_of, image_of}
-use Rattle.log_model.specs.Log.{Spells}
-use Rattle.log_model.specs.Marks.{Transaction, mark_in, body_after, transactions_from}
-use Rattle.std.proofs.Common.{sym, ap, subst, ◌∙◌, inl, inr, ⊎_elim, arith}
-use Rattle.std.proofs.lemmas.Bool.{cases_lt}
-use Rattle.std.specs.Prelude.{◌≡◌, ℕ, ◌≤◌}
-use Rattle.volume_ops.specs.Reads.{Reads, answer, blocks_read}
-use Rattle.volume_ops.specs.Volume.{disk_of}
 
 module _ {s : Session} (order : CommitOrder s) (transactions : ℕ → Transaction) (same : (k i : ℕ) → IsCommit s k i → transactions k ≡ s.transactions k) where
   abbrev pub retold : Session

@@ -1,10 +1,18 @@
 -- The order of zones that are used again: a page goes to a freed zone only behind the commit block of the
 -- transaction that freed it, and orderless only behind that of the transaction that took the zone.
-use Rattle.host_machine.specs.laws.Reuse.{ReusesFreed, IsTaken, OrderlessCommitted, FreedWait, Owned}
+use Rattle.std.proofs.Common.{sym, ap, subst, ◌∙◌, inl, inr, ⊎_elim, arith}
+use Rattle.std.proofs.lemmas.Bool.{cases_Bool, cases_lt, cases_eq, false≢true}
+use Rattle.std.proofs.lemmas.Option.{none-some, same_Some}
+use Rattle.std.specs.Prelude.{◌≡◌, ◌≢◌, ℕ, zero, suc, ◌+◌, ◌-◌, ◌<◌, ◌≤◌, ◌⊎◌, Bool, true, false, List, [], ◌∷◌, ◌++◌, length, set, Option, Some, None, is_none, slice_index_or, refl, if◌then◌else◌, IsTrue}
 use Rattle.blk_base.specs.Members.{In, slice_get-length}
+use Rattle.order_model.specs.Submission.{IsOrdered, kind_block}
+use Rattle.order_model.specs.declared.note.Note.TheVariants.{Page, Commit}
+use Rattle.volume_ops.specs.Reads.{Reads}
+use Rattle.page_cache.specs.Pages.{page_at}
+use Rattle.page_cache.specs.declared.cached_page.CachedPage.{CachedPage}
 use Rattle.crash_laws.proofs.Growing.{note_old, note_new, commit_before_old, ordered_old, ordered_new}
 use Rattle.crash_laws.proofs.Growth.{unmapped_old}
-use Rattle.crash_laws.specs.History.{History, Calm, last_write, HasTrees, IsEntryOf}
+use Rattle.crash_laws.specs.History.{History, last_write, HasTrees, IsEntryOf}
 use Rattle.crash_laws.specs.PageRules.{IsPageTo}
 use Rattle.crash_laws.specs.Session.{Session, CommitBefore}
 use Rattle.crash_laws.specs.Submitting.{Submitting, after, new_place, IsCommitted}
@@ -14,15 +22,7 @@ use Rattle.host_machine.specs.Host.{taken_zones}
 use Rattle.host_machine.specs.Model.{Model, FileBlock, Touched}
 use Rattle.host_machine.specs.State.{Setup}
 use Rattle.host_machine.specs.laws.Facts.{View, IsPlain, IsChange, Numbers, PagesMapped}
-use Rattle.order_model.specs.Submission.{IsOrdered, kind_block}
-use Rattle.order_model.specs.declared.note.Note.TheVariants.{Page, Commit}
-use Rattle.page_cache.specs.Pages.{page_at}
-use Rattle.page_cache.specs.declared.cached_page.CachedPage.{CachedPage}
-use Rattle.std.proofs.Common.{sym, ap, subst, ◌∙◌, inl, inr, ⊎_elim, arith}
-use Rattle.std.proofs.lemmas.Bool.{cases_Bool, cases_lt, cases_eq, false≢true}
-use Rattle.std.proofs.lemmas.Option.{none-some, same_Some}
-use Rattle.std.specs.Prelude.{◌≡◌, ◌≢◌, ℕ, zero, suc, ◌+◌, ◌-◌, ◌<◌, ◌≤◌, ◌⊎◌, Bool, true, false, List, [], ◌∷◌, ◌++◌, length, set, Option, Some, None, is_none, slice_index_or, refl, if◌then◌else◌, IsTrue}
-use Rattle.volume_ops.specs.Reads.{Reads}
+use Rattle.host_machine.specs.laws.Reuse.{ReusesFreed, IsTaken, OrderlessCommitted, FreedWait, Owned}
 
 -- ---- one entry more
 

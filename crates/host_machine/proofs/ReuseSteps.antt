@@ -1,4 +1,14 @@
 -- The write-back sends orderless only where the owner of the zone is submitted.
+use Rattle.std.proofs.Common.{sym, ap, ◌∙◌, ⊎_elim, arith}
+use Rattle.std.proofs.lemmas.Bool.{cases_Bool, ltb-true}
+use Rattle.std.proofs.lemmas.Option.{same_Some}
+use Rattle.std.specs.Prelude.{◌≡◌, ℕ, ◌+◌, ◌≤◌, Bool, true, false, List, length, Some, nat_lt, slice_index_or, refl}
+use Rattle.order_model.specs.declared.note.Note.TheVariants as notes
+use Rattle.order_model.specs.declared.request.Kind.TheVariants as puts
+use Rattle.order_model.specs.declared.request.Request.{Request}
+use Rattle.log_model.specs.Marks.{Transaction}
+use Rattle.page_cache.specs.Pages.{page_at}
+use Rattle.page_cache.specs.declared.cached_page.CachedPage.{CachedPage}
 use Rattle.crash_laws.specs.History.{last_write}
 use Rattle.crash_laws.specs.Submitting.{IsCommitted}
 use Rattle.host_machine.proofs.ChangeSteps.{last_write_within}
@@ -10,16 +20,6 @@ use Rattle.host_machine.specs.Host.{send_page}
 use Rattle.host_machine.specs.State.{Phase, Idle, Closing, Committing, Host, is_submitted}
 use Rattle.host_machine.specs.laws.Contract.{Over, view_of, Contract, H, InPhase, session, KeepsImages}
 use Rattle.host_machine.specs.laws.Reuse.{ReusesFreed, OrderlessCommitted, FreedWait, Owned}
-use Rattle.log_model.specs.Marks.{Transaction}
-use Rattle.order_model.specs.declared.note.Note.TheVariants as notes
-use Rattle.order_model.specs.declared.request.Kind.TheVariants as puts
-use Rattle.order_model.specs.declared.request.Request.{Request}
-use Rattle.page_cache.specs.Pages.{page_at}
-use Rattle.page_cache.specs.declared.cached_page.CachedPage.{CachedPage}
-use Rattle.std.proofs.Common.{sym, ap, ◌∙◌, ⊎_elim, arith}
-use Rattle.std.proofs.lemmas.Bool.{cases_Bool, ltb-true}
-use Rattle.std.proofs.lemmas.Option.{same_Some}
-use Rattle.std.specs.Prelude.{◌≡◌, ℕ, ◌+◌, ◌≤◌, Bool, true, false, List, length, Some, nat_lt, slice_index_or, refl}
 
 module _ {A T V C R : Type 0} {o : Over A T V C R} {Stands : V → T → Type 0} (contract : Contract o Stands) (s : Host V C R) (txs : List Transaction) (N : ℕ) (facts : KeepsImages o Stands s txs N) where
   -- what the host calls submitted has its commit block in the list

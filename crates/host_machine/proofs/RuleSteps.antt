@@ -1,15 +1,24 @@
 -- The order rules of images and pages are kept: wholly by entries and by pages that are sent; by other requests
 -- with the clauses that the ring owes.
-use Rattle.host_machine.specs.laws.Rules.{AllRules, Keeps}
+use Rattle.std.proofs.Common.{sym, ap, subst, ◌∙◌, ⊎_elim, arith}
+use Rattle.std.proofs.lemmas.Option.{none-some}
+use Rattle.std.specs.Option.{unwrap_or}
+use Rattle.std.specs.Prelude.{◌≡◌, ℕ, ◌+◌, ◌-◌, ◌≤◌, Bool, true, false, List, [], ◌∷◌, ◌++◌, length, Some, None, nat_lt, refl}
+use Rattle.order_model.specs.Submission.{IsFence, kind_body}
+use Rattle.order_model.specs.declared.note.Note.TheVariants as notes
+use Rattle.order_model.specs.declared.note.Note.{Note}
+use Rattle.order_model.specs.declared.request.Kind.TheVariants as puts
+use Rattle.order_model.specs.declared.request.Request.{Request}
+use Rattle.log_model.specs.Marks.{Transaction}
+use Rattle.page_cache.specs.Pages.{page_at}
+use Rattle.page_cache.specs.declared.cached_page.CachedPage.{CachedPage}
 use Rattle.crash_laws.proofs.Commits.{commit_positive}
 use Rattle.crash_laws.proofs.Growth.{page_order_grows, data_before_commit_grows}
 use Rattle.crash_laws.proofs.ImageSteps.{page_order_step, data_before_commit_step}
 use Rattle.crash_laws.proofs.OrderSteps.{order_rules_step}
 use Rattle.crash_laws.specs.Clauses.{CommitClause, FitsClause, LogClause, CheckpointClause, ImageClause}
-use Rattle.crash_laws.specs.History.{History}
 use Rattle.crash_laws.specs.PageClauses.{PageClause}
-use Rattle.crash_laws.specs.PageRules.{PageOrder, DataBeforeCommit}
-use Rattle.crash_laws.specs.Rules.{OrderRules, HasHeader}
+use Rattle.crash_laws.specs.Rules.{HasHeader}
 use Rattle.crash_laws.specs.Session.{Session, IsCommit, log_transaction}
 use Rattle.crash_laws.specs.Submitting.{Submitting, after}
 use Rattle.host_machine.proofs.CallSteps.{IsQuiet, change_keeps, end_keeps}
@@ -27,18 +36,7 @@ use Rattle.host_machine.specs.State.{Ending, Answered, Ends, Entry, Plan, Phase,
 use Rattle.host_machine.specs.Views.{transaction_of}
 use Rattle.host_machine.specs.laws.Contract.{Over, Contract, H, InPlan, ImagesFacts, session, KeepsImages}
 use Rattle.host_machine.specs.laws.PlanNotes.{BarrierAhead}
-use Rattle.log_model.specs.Marks.{Transaction}
-use Rattle.order_model.specs.Submission.{IsFence, kind_body}
-use Rattle.order_model.specs.declared.note.Note.TheVariants as notes
-use Rattle.order_model.specs.declared.note.Note.{Note}
-use Rattle.order_model.specs.declared.request.Kind.TheVariants as puts
-use Rattle.order_model.specs.declared.request.Request.{Request}
-use Rattle.page_cache.specs.Pages.{page_at}
-use Rattle.page_cache.specs.declared.cached_page.CachedPage.{CachedPage}
-use Rattle.std.proofs.Common.{sym, ap, subst, ◌∙◌, ⊎_elim, arith}
-use Rattle.std.proofs.lemmas.Option.{none-some}
-use Rattle.std.specs.Option.{unwrap_or}
-use Rattle.std.specs.Prelude.{◌≡◌, ℕ, ◌+◌, ◌-◌, ◌≤◌, Bool, true, false, List, [], ◌∷◌, ◌++◌, length, Some, None, nat_lt, refl}
+use Rattle.host_machine.specs.laws.Rules.{AllRules, Keeps}
 
 -- a page owes nothing to the log
 page_log : (p : Submitting) (f i v : ℕ) → p.note ≡ notes.Page f i v → LogClause p

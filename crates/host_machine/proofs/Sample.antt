@@ -1,6 +1,13 @@
 -- A small volume that keeps what the host is promised: one file of at most one block, and one block of metadata
 -- that says whether the file has it. So the promises can be kept together.
+use Rattle.std.proofs.Common.{sym, ap, subst, ◌∙◌, inl, inr, arith, eqb-true}
+use Rattle.std.proofs.lemmas.Bool.{false≢true, and_parts}
+use Rattle.std.proofs.lemmas.Option.{none-some, same_Some}
+use Rattle.std.specs.Prelude.{◌≡◌, ℕ, ◌<◌, ◌==◌, ◌&&◌, Bool, true, false, List, [], ◌∷◌, length, Option, Some, None, nat_lt, refl, if◌then◌else◌}
 use Rattle.blk_base.specs.Members.{In}
+use Rattle.log_model.specs.Log.{Plain}
+use Rattle.volume_ops.specs.Reads.{Ret, Read}
+use Rattle.volume_ops.specs.Volume.{disk_of}
 use Rattle.host_machine.proofs.Opening.{opened_keeps}
 use Rattle.host_machine.proofs.Steps.{advance_keeps}
 use Rattle.host_machine.specs.Host.{advance, opened}
@@ -10,13 +17,6 @@ use Rattle.host_machine.specs.State.{Host, Thread}
 use Rattle.host_machine.specs.Views.{waits_for}
 use Rattle.host_machine.specs.laws.Contract.{TreeLaws, Over, StandsFor, Tells, Contract}
 use Rattle.host_machine.specs.laws.Rules.{Keeps}
-use Rattle.log_model.specs.Log.{Plain}
-use Rattle.std.proofs.Common.{sym, ap, subst, ◌∙◌, inl, inr, arith, eqb-true}
-use Rattle.std.proofs.lemmas.Bool.{false≢true, and_parts}
-use Rattle.std.proofs.lemmas.Option.{none-some, same_Some}
-use Rattle.std.specs.Prelude.{◌≡◌, ℕ, ◌<◌, ◌==◌, ◌&&◌, Bool, true, false, List, [], ◌∷◌, length, Option, Some, None, nat_lt, refl, if◌then◌else◌}
-use Rattle.volume_ops.specs.Reads.{Ret, Read}
-use Rattle.volume_ops.specs.Volume.{disk_of}
 
 pub data Call : Type 0 where
   WriteIt : Call

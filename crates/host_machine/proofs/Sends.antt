@@ -1,5 +1,21 @@
 -- A page that is sent owes nothing that the facts do not give; and what a request leaves of the facts.
+use Rattle.std.proofs.Common.{sym, ap, subst, ◌∙◌, inl, inr, ⊎_elim, arith}
+use Rattle.std.proofs.lemmas.Bool.{cases_lt, false≢true}
+use Rattle.std.proofs.lemmas.Option.{none-some, same_Some}
+use Rattle.std.specs.Prelude.{◌≡◌, ℕ, ◌+◌, ◌-◌, ◌<◌, ◌≤◌, ◌⊎◌, Bool, true, false, List, [], ◌∷◌, ◌++◌, length, Some, refl, if◌then◌else◌, IsTrue}
 use Rattle.blk_base.specs.Members.{In, slice_get-length}
+use Rattle.order_model.specs.Submission.{IsPutOf, IsOrdered, kind_block, kind_body}
+use Rattle.order_model.specs.declared.note.Note.TheVariants.{Page, Commit}
+use Rattle.order_model.specs.declared.note.Note.{Note}
+use Rattle.order_model.specs.declared.request.Request.{Request}
+use Rattle.log_model.proofs.Marks.{mark-split, transaction_mark-clear}
+use Rattle.log_model.specs.Marks.{Mark, Keep, Clear, Set, followed, mark_in, transaction_mark, transactions_from}
+use Rattle.volume_ops.specs.Reads.{Reads}
+use Rattle.page_cache.specs.Pages.{is_page, page_at, put_page, marked}
+use Rattle.page_cache.specs.declared.cached_page.CachedPage.{CachedPage}
+use Rattle.page_cache.specs.declared.cached_page.PageState.TheVariants.{Clean, Firm}
+use Rattle.page_cache.specs.declared.cached_page.PageState.{PageState}
+use Rattle.page_cache.specs.laws.Maps.{is_page-same, page_at-put}
 use Rattle.crash_laws.proofs.Growing.{note_old, note_new, note_cases, put_old, put_new, new_put, put_back, ordered_old, ordered_new}
 use Rattle.crash_laws.proofs.Histories.{mapped_was_written}
 use Rattle.crash_laws.specs.History.{History, last_write, HasTrees}
@@ -8,22 +24,6 @@ use Rattle.crash_laws.specs.PageRules.{IsPageTo}
 use Rattle.crash_laws.specs.Session.{Session, HasNote, IsSubmitted, Before, Submitted}
 use Rattle.crash_laws.specs.Submitting.{Submitting, after, new_place, IsCommitted}
 use Rattle.host_machine.specs.laws.Facts.{View, IsPlain, Numbers, Bodies, PlanRevokes, KeepsPlaces, IsCached, PagesMapped, PagesSent, IsLive, IsDead, ZoneHistory}
-use Rattle.log_model.proofs.Marks.{mark-split, transaction_mark-clear}
-use Rattle.log_model.specs.Marks.{Mark, Keep, Clear, Set, followed, mark_in, transaction_mark, transactions_from}
-use Rattle.order_model.specs.Submission.{IsPutOf, IsOrdered, kind_block, kind_body}
-use Rattle.order_model.specs.declared.note.Note.TheVariants.{Page, Commit}
-use Rattle.order_model.specs.declared.note.Note.{Note}
-use Rattle.order_model.specs.declared.request.Request.{Request}
-use Rattle.page_cache.specs.Pages.{is_page, page_at, put_page, marked}
-use Rattle.page_cache.specs.declared.cached_page.CachedPage.{CachedPage}
-use Rattle.page_cache.specs.declared.cached_page.PageState.TheVariants.{Clean, Firm}
-use Rattle.page_cache.specs.declared.cached_page.PageState.{PageState}
-use Rattle.page_cache.specs.laws.Maps.{is_page-same, page_at-put}
-use Rattle.std.proofs.Common.{sym, ap, subst, ◌∙◌, inl, inr, ⊎_elim, arith}
-use Rattle.std.proofs.lemmas.Bool.{cases_lt, false≢true}
-use Rattle.std.proofs.lemmas.Option.{none-some, same_Some}
-use Rattle.std.specs.Prelude.{◌≡◌, ℕ, ◌+◌, ◌-◌, ◌<◌, ◌≤◌, ◌⊎◌, Bool, true, false, List, [], ◌∷◌, ◌++◌, length, Some, refl, if◌then◌else◌, IsTrue}
-use Rattle.volume_ops.specs.Reads.{Reads}
 
 -- ---- what a page owes
 

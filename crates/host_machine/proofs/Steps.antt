@@ -1,5 +1,16 @@
 -- A caller's step keeps the facts of images, and the rules of images and pages.
+use Rattle.std.proofs.Common.{sym, ap, subst, ◌∙◌, inl, inr}
+use Rattle.std.proofs.lemmas.Bool.{false≢true}
+use Rattle.std.proofs.lemmas.Option.{none-some, same_Some}
+use Rattle.std.specs.List.{filter, list_any}
+use Rattle.std.specs.Option.{option_map}
+use Rattle.std.specs.Prelude.{◌≡◌, ℕ, ◌+◌, ◌-◌, ◌==◌, Bool, true, false, ◌&&◌, ◌||◌, not, List, [], ◌∷◌, length, Option, Some, None, is_none, nat_lt, slice_get, slice_index_or, refl, if◌then◌else◌}
 use Rattle.blk_base.specs.Members.{In}
+use Rattle.order_model.specs.declared.completion.Completion.{Completion}
+use Rattle.log_model.specs.Marks.{Transaction}
+use Rattle.page_cache.specs.Pages.{is_unsent, is_page, page_at}
+use Rattle.page_cache.specs.declared.cached_page.CachedPage.{CachedPage}
+use Rattle.page_cache.specs.laws.Maps.{page_at-key}
 use Rattle.host_machine.proofs.CallSteps.{quiet_keeps, unanswered_quiet, answered_quiet}
 use Rattle.host_machine.proofs.RuleSteps.{entry_rules, change_both, end_both, send_both}
 use Rattle.host_machine.specs.Causes as causes
@@ -11,17 +22,6 @@ use Rattle.host_machine.specs.Parts.{first_page, log_needs}
 use Rattle.host_machine.specs.State.{Ending, Answered, Down, ReadOnly, SessionFull, Begins, Ends, Wait, Begun, Thread, Host, Setup, is_cut, first_failed, at_limit, is_flushed_after, flush_above, last_put, is_closing, is_submitted}
 use Rattle.host_machine.specs.laws.Contract.{Over, Contract}
 use Rattle.host_machine.specs.laws.Rules.{Keeps}
-use Rattle.log_model.specs.Marks.{Transaction}
-use Rattle.order_model.specs.declared.completion.Completion.{Completion}
-use Rattle.page_cache.specs.Pages.{is_unsent, is_page, page_at}
-use Rattle.page_cache.specs.declared.cached_page.CachedPage.{CachedPage}
-use Rattle.page_cache.specs.laws.Maps.{page_at-key}
-use Rattle.std.proofs.Common.{sym, ap, subst, ◌∙◌, inl, inr}
-use Rattle.std.proofs.lemmas.Bool.{false≢true}
-use Rattle.std.proofs.lemmas.Option.{none-some, same_Some}
-use Rattle.std.specs.List.{filter, list_any}
-use Rattle.std.specs.Option.{option_map}
-use Rattle.std.specs.Prelude.{◌≡◌, ℕ, ◌+◌, ◌-◌, ◌==◌, Bool, true, false, ◌&&◌, ◌||◌, not, List, [], ◌∷◌, length, Option, Some, None, is_none, nat_lt, slice_get, slice_index_or, refl, if◌then◌else◌}
 
 -- ---- pages that are found
 

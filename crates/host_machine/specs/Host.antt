@@ -1,5 +1,19 @@
 -- The steps of the host: a caller's, the commit actor's, the write-back's and the flush actor's. `full` says
 -- that the submission queue was full.
+use Rattle.std.specs.List.{filter, list_any}
+use Rattle.std.specs.Option.{option_map}
+use Rattle.std.specs.Prelude.{ℕ, ◌+◌, ◌-◌, ◌==◌, Bool, true, false, not, ◌&&◌, ◌||◌, nat_lt, nat_le, List, [], ◌∷◌, ◌++◌, length, map, set, replicate, Option, Some, None, is_none, slice_get, slice_index_or, if◌then◌else◌}
+use Rattle.order_model.specs.declared.completion.Completion.TheVariants as completions
+use Rattle.order_model.specs.declared.completion.Completion.{Completion}
+use Rattle.order_model.specs.declared.note.Note.TheVariants as notes
+use Rattle.order_model.specs.declared.note.Note.{Note}
+use Rattle.order_model.specs.declared.request.Kind.TheVariants as puts
+use Rattle.order_model.specs.declared.turn.Turn.TheVariants as turns
+use Rattle.order_model.specs.declared.turn.Turn.{Turn}
+use Rattle.log_model.specs.Marks.{Logged}
+use Rattle.page_cache.specs.Pages.{is_unsent, is_dirty, page_at, put_page, drop_page, marked}
+use Rattle.page_cache.specs.declared.cached_page.CachedPage.{CachedPage}
+use Rattle.page_cache.specs.declared.cached_page.PageState.TheVariants.{Dirty, Loose, Firm}
 use Rattle.host_machine.specs.Causes as causes
 use Rattle.host_machine.specs.Causes.{Cause}
 use Rattle.host_machine.specs.Model.{Model, Kind, Reading, FileSync, DataSync, WholeSync, is_begun, is_data, is_durable, is_reading, is_whole, Freed, FileBlock, Touched, Applied}
@@ -8,20 +22,6 @@ use Rattle.host_machine.specs.Outcomes.{Step}
 use Rattle.host_machine.specs.Parts.{has, with_all, without_all, first_page, Running, fresh, log_blocks_for, log_needs, Held, Conflicts, hold, want, unhold, least, LogRing, ring_free, place_blocks, commit_bodies, home_sent, all_home}
 use Rattle.host_machine.specs.Plan.{Planned, plan_of}
 use Rattle.host_machine.specs.State.{Ending, Answered, Down, ReadOnly, SessionFull, What, Begins, Ends, Wait, FlushPart, Plan, Phase, Idle, Closing, Committing, JournalPart, Begun, Thread, Host, Setup, is_cut, first_failed, is_over, at_limit, is_moved, is_flushed_after, flush_above, last_put, is_closing, is_submitted, latest_change, submit}
-use Rattle.log_model.specs.Marks.{Logged}
-use Rattle.order_model.specs.declared.completion.Completion.TheVariants as completions
-use Rattle.order_model.specs.declared.completion.Completion.{Completion}
-use Rattle.order_model.specs.declared.note.Note.TheVariants as notes
-use Rattle.order_model.specs.declared.note.Note.{Note}
-use Rattle.order_model.specs.declared.request.Kind.TheVariants as puts
-use Rattle.order_model.specs.declared.turn.Turn.TheVariants as turns
-use Rattle.order_model.specs.declared.turn.Turn.{Turn}
-use Rattle.page_cache.specs.Pages.{is_unsent, is_dirty, page_at, put_page, drop_page, marked}
-use Rattle.page_cache.specs.declared.cached_page.CachedPage.{CachedPage}
-use Rattle.page_cache.specs.declared.cached_page.PageState.TheVariants.{Dirty, Loose, Firm}
-use Rattle.std.specs.List.{filter, list_any}
-use Rattle.std.specs.Option.{option_map}
-use Rattle.std.specs.Prelude.{ℕ, ◌+◌, ◌-◌, ◌==◌, Bool, true, false, not, ◌&&◌, ◌||◌, nat_lt, nat_le, List, [], ◌∷◌, ◌++◌, length, map, set, replicate, Option, Some, None, is_none, slice_get, slice_index_or, if◌then◌else◌}
 
 -- ---- a step and what it answers
 

@@ -1,10 +1,10 @@
 -- The plan of a transaction: its log blocks in order, behind the superblock where the log was empty.
+use Rattle.std.specs.Prelude.{ℕ, zero, suc, ◌+◌, ◌-◌, Bool, true, false, List, [], ◌∷◌, ◌++◌, length, map, if◌then◌else◌}
+use Rattle.order_model.specs.declared.note.Note.TheVariants.{Super, Revoke, Descriptor, Body, Commit}
+use Rattle.order_model.specs.declared.note.Note.{Note}
 use Rattle.log_model.specs.Log.{Tag}
 use Rattle.log_model.specs.Marks.{Logged}
 use Rattle.log_model.specs.Ring.{Ring, places_on}
-use Rattle.order_model.specs.declared.note.Note.TheVariants.{Super, Revoke, Descriptor, Body, Commit}
-use Rattle.order_model.specs.declared.note.Note.{Note}
-use Rattle.std.specs.Prelude.{ℕ, zero, suc, ◌+◌, ◌-◌, Bool, true, false, List, [], ◌∷◌, ◌++◌, length, map, if◌then◌else◌}
 
 -- how the journal's blocks are written
 pub record Writers : Type 0 where

@@ -1,18 +1,15 @@
 -- Small sessions of the host, over a model whose calls say themselves what they touch.
-use Rattle.host_machine.specs.Causes as causes
-use Rattle.host_machine.specs.Host.{advance, commit_step, writeback, flush_step, opened}
-use Rattle.host_machine.specs.Model.{Kind, Changing, FileBarrier, DataBarrier, FileSync, FileBlock, Touched, Freed, Zones, Model}
-use Rattle.host_machine.specs.Outcomes as outcomes
-use Rattle.host_machine.specs.Parts.{without_all, LogRing}
-use Rattle.host_machine.specs.State.{Answered, What, Begins, Ends, Entry, Host, Setup}
+use Rattle.std.specs.List.{filter}
+use Rattle.std.specs.Prelude.{ℕ, zero, suc, ◌==◌, Bool, true, false, List, [], ◌∷◌, ◌++◌, length, map, Option, Some, None, not}
 use Rattle.order_model.specs.Submission.{kind_block}
 use Rattle.order_model.specs.declared.completion.Completion.TheVariants as completions
 use Rattle.order_model.specs.declared.completion.Completion.{Completion}
-use Rattle.order_model.specs.declared.note.Note.TheVariants.{Page, Super, Descriptor, Body, Commit, Home, Flush}
 use Rattle.order_model.specs.declared.note.Note.{Note}
 use Rattle.order_model.specs.declared.request.Request.{Request}
-use Rattle.std.specs.List.{filter}
-use Rattle.std.specs.Prelude.{◌≡◌, ℕ, zero, suc, ◌==◌, Bool, true, false, List, [], ◌∷◌, ◌++◌, length, map, Option, Some, None, not, refl}
+use Rattle.host_machine.specs.Host.{advance, commit_step, writeback, flush_step, opened}
+use Rattle.host_machine.specs.Model.{Kind, Changing, FileBarrier, DataBarrier, FileSync, FileBlock, Touched, Freed, Zones, Model}
+use Rattle.host_machine.specs.Parts.{without_all, LogRing}
+use Rattle.host_machine.specs.State.{Answered, What, Ends, Entry, Host, Setup}
 
 -- ---- calls that say what they do
 

@@ -1,16 +1,16 @@
 -- The host's state as plain data, and what its rules read of it.
-use Rattle.host_machine.specs.Model.{Kind}
-use Rattle.host_machine.specs.Parts.{Running, Conflicts, LogRing}
-use Rattle.host_machine.specs.Plan.{Writers, Planned}
-use Rattle.log_model.specs.Marks.{Logged}
+use Rattle.std.specs.List.{list_any}
+use Rattle.std.specs.Prelude.{ℕ, ◌+◌, ◌-◌, ◌==◌, Bool, true, false, ◌&&◌, ◌||◌, nat_lt, nat_le, List, [], ◌∷◌, ◌++◌, length, Option, Some, None, if◌then◌else◌}
 use Rattle.order_model.specs.declared.completion.Completion.TheVariants as completions
 use Rattle.order_model.specs.declared.completion.Completion.{Completion}
 use Rattle.order_model.specs.declared.note.Note.TheVariants as notes
 use Rattle.order_model.specs.declared.note.Note.{Note}
 use Rattle.order_model.specs.declared.request.Request.{Request}
+use Rattle.log_model.specs.Marks.{Logged}
 use Rattle.page_cache.specs.declared.cached_page.CachedPage.{CachedPage}
-use Rattle.std.specs.List.{list_any}
-use Rattle.std.specs.Prelude.{ℕ, ◌+◌, ◌-◌, ◌==◌, Bool, true, false, ◌&&◌, ◌||◌, nat_lt, nat_le, List, [], ◌∷◌, ◌++◌, length, Option, Some, None, if◌then◌else◌}
+use Rattle.host_machine.specs.Model.{Kind}
+use Rattle.host_machine.specs.Parts.{Running, Conflicts, LogRing}
+use Rattle.host_machine.specs.Plan.{Writers, Planned}
 
 -- ---- the history
 

@@ -1,13 +1,13 @@
 -- What the order rules read of a host: its session and its history. The bodies and revokes of closed
 -- transactions are told beside it.
+use Rattle.std.specs.Prelude.{ℕ, zero, suc, ◌+◌, ◌-◌, ◌==◌, Bool, true, false, ◌&&◌, ◌||◌, List, [], ◌∷◌, length, map, Option, Some, None, slice_get, slice_index_or, if◌then◌else◌}
+use Rattle.log_model.specs.Log.{Format}
+use Rattle.log_model.specs.Marks.{Logged, Transaction}
 use Rattle.crash_laws.specs.History.{History}
 use Rattle.crash_laws.specs.Session.{Session}
 use Rattle.host_machine.specs.Model.{Model, Freed}
 use Rattle.host_machine.specs.Parts.{Running}
 use Rattle.host_machine.specs.State.{Answered, What, Ends, Entry, Host, Setup}
-use Rattle.log_model.specs.Log.{Format}
-use Rattle.log_model.specs.Marks.{Logged, Transaction}
-use Rattle.std.specs.Prelude.{ℕ, zero, suc, ◌+◌, ◌-◌, ◌==◌, Bool, true, false, ◌&&◌, ◌||◌, List, [], ◌∷◌, length, map, Option, Some, None, slice_get, slice_index_or, if◌then◌else◌}
 
 -- a call that was answered; of these some act on the tree
 abbrev pub is_answered : {R : Type 0} → What R → Bool

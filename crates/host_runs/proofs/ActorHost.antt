@@ -1,7 +1,24 @@
 -- The whole steps of the commit actor, the write-back and the flush actor keep the order rules, the facts of images
 -- and of the ring, and those of all begun calls.
-use Rattle.host_runs.specs.laws.Kept.{HasRules}
+use Rattle.std.proofs.Common.{sym, ap, subst, ◌∙◌, ⊎_elim, arith, length-append}
+use Rattle.std.proofs.lemmas.Bool.{cases_Bool, false≢true, and_from}
+use Rattle.std.proofs.lemmas.Option.{same_Some}
+use Rattle.std.specs.List.{filter}
+use Rattle.std.specs.Prelude.{◌≡◌, ℕ, ◌+◌, ◌-◌, ◌<◌, ◌&&◌, Bool, true, false, not, List, [], ◌∷◌, ◌++◌, length, Option, Some, None, is_none, slice_get, slice_index_or, nat_lt, IsTrue, refl, if◌then◌else◌}
 use Rattle.blk_base.specs.Members.{In, In-filter, slice_get-In, slice_get-in_range}
+use Rattle.order_model.specs.declared.completion.Completion.{Completion}
+use Rattle.order_model.specs.declared.note.Note.TheVariants as notes
+use Rattle.order_model.specs.declared.note.Note.{Note}
+use Rattle.order_model.specs.declared.request.Kind.TheVariants as puts
+use Rattle.order_model.specs.declared.request.Request.{Request}
+use Rattle.order_model.specs.declared.turn.Turn.TheVariants as turns
+use Rattle.log_model.specs.Marks.{Logged, Transaction}
+use Rattle.page_cache.specs.Pages.{is_unsent, is_dirty, page_at}
+use Rattle.page_cache.specs.declared.cached_page.CachedPage.{CachedPage}
+use Rattle.page_cache.specs.declared.cached_page.PageState.TheVariants.{Clean, Dirty, Loose, Firm}
+use Rattle.page_cache.specs.declared.cached_page.PageState.{PageState}
+use Rattle.page_cache.specs.laws.Maps.{page_at-key}
+use Rattle.page_cache.specs.laws.Order.{keyed}
 use Rattle.crash_laws.proofs.Growing.{note_new}
 use Rattle.crash_laws.specs.Session.{HasNote, IsCommit}
 use Rattle.crash_laws.specs.Submitting.{after}
@@ -24,27 +41,9 @@ use Rattle.host_runs.proofs.CheckpointSteps.{home_request, super_request}
 use Rattle.host_runs.proofs.FlushFacts.{other_pushed, flush_pushed, waits_mapped, is_whole_sync, commit_opens_none, commit_needed}
 use Rattle.host_runs.proofs.RulesHost.{rephased, planned_keeps, committed_keeps, home_keeps, super_keeps, page_keeps, flush_keeps, flush_request}
 use Rattle.host_runs.specs.laws.CallFacts.{AllCalls, wait_of, CallFacts}
-use Rattle.host_runs.specs.laws.Kept.{KeepsRules, Calls, Flushes}
+use Rattle.host_runs.specs.laws.Kept.{HasRules, KeepsRules, Calls, Flushes}
 use Rattle.host_runs.specs.laws.RingFacts.{RingInPhase, request_of}
 use Rattle.host_runs.specs.laws.Written.{IsWord, AreWritten, IsWritable}
-use Rattle.log_model.specs.Marks.{Logged, Transaction}
-use Rattle.order_model.specs.declared.completion.Completion.{Completion}
-use Rattle.order_model.specs.declared.note.Note.TheVariants as notes
-use Rattle.order_model.specs.declared.note.Note.{Note}
-use Rattle.order_model.specs.declared.request.Kind.TheVariants as puts
-use Rattle.order_model.specs.declared.request.Request.{Request}
-use Rattle.order_model.specs.declared.turn.Turn.TheVariants as turns
-use Rattle.page_cache.specs.Pages.{is_unsent, is_dirty, page_at}
-use Rattle.page_cache.specs.declared.cached_page.CachedPage.{CachedPage}
-use Rattle.page_cache.specs.declared.cached_page.PageState.TheVariants.{Clean, Dirty, Loose, Firm}
-use Rattle.page_cache.specs.declared.cached_page.PageState.{PageState}
-use Rattle.page_cache.specs.laws.Maps.{page_at-key}
-use Rattle.page_cache.specs.laws.Order.{keyed}
-use Rattle.std.proofs.Common.{sym, ap, subst, ◌∙◌, ⊎_elim, arith, length-append}
-use Rattle.std.proofs.lemmas.Bool.{cases_Bool, false≢true, and_from}
-use Rattle.std.proofs.lemmas.Option.{same_Some}
-use Rattle.std.specs.List.{filter}
-use Rattle.std.specs.Prelude.{◌≡◌, ℕ, ◌+◌, ◌-◌, ◌<◌, ◌&&◌, Bool, true, false, not, List, [], ◌∷◌, ◌++◌, length, Option, Some, None, is_none, slice_get, slice_index_or, nat_lt, IsTrue, refl, if◌then◌else◌}
 
 sent_state : (st : PageState) → is_unsent st ≡ false → (st ≡ Clean → ⊥) → st ≡ Firm
 sent_state Clean e n = absurd (n refl)
@@ -247,7 +246,7 @@ module _ {A T V C R : Type 0} {o : Over A T V C R} {Stands : V → T → Type 0}
           by [] e = stays
           by (first ∷ rest) e = submits_rules full _ (plan_sent_rules p first rest at e)
 
-      -- One step of the commit actor: H5 and H6.
+      -- one step of the commit actor
       pub commit_step_rules : (full : Bool) → HasRules contract (commit_step o.model o.setup full s).host
       commit_step_rules full =
           either (λ (x : Turned V C R). HasRules contract x.host) (is_over s.journal.flush) _ _ (λ e. stays) (λ e. in_phase_rules full s.journal.phase refl kept.images.0.in_phase kept.ring.in_phase)

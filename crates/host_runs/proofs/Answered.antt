@@ -1,8 +1,9 @@
 -- What an Ok gives stays, whatever the host does after it.
-use Rattle.std.specs.Prelude.{◌≡◌, ℕ, ◌+◌, ◌-◌, ◌<◌, Bool, true, false, ◌≤◌, List, [], ◌∷◌, ◌++◌, length, Option, Some, None, slice_get, refl}
 use Rattle.std.proofs.Common.{sym, ap, subst, ◌∙◌, inl, inr, ⊎_elim, arith, length-append}
 use Rattle.std.proofs.lemmas.Bool.{false≢true}
+use Rattle.std.specs.Prelude.{◌≡◌, ℕ, ◌+◌, ◌-◌, Bool, true, ◌≤◌, List, [], ◌∷◌, length, Option, Some, None, slice_get, refl}
 use mathlib.Core.Path.{fun_ext}
+use Rattle.blk_base.specs.Members.{slice_get-length}
 use Rattle.order_model.specs.declared.completion.Completion.{Completion}
 use Rattle.log_model.specs.Log.{Format}
 use Rattle.log_model.specs.Marks.{Transaction}
@@ -10,26 +11,25 @@ use Rattle.log_model.specs.Ring.{Ring}
 use Rattle.crash_laws.specs.History.{History}
 use Rattle.crash_laws.specs.PromiseRules.{AreHeld}
 use Rattle.crash_laws.specs.Session.{Session}
-use Rattle.host_machine.specs.Host.{Stepped, stop_of, end_with, step_call, step_thread, continue_begun, advance, no_wait}
-use Rattle.host_machine.specs.Outcomes as outcomes
-use Rattle.host_machine.specs.State.{Ending, Answered, Down, ReadOnly, SessionFull, Begun, Thread, Host}
-use Rattle.host_machine.specs.Views.{some_in, alters_at, tree_after, writes_at, cut_of, transaction_of}
-use Rattle.host_machine.specs.laws.Contract.{Over, Contract, H, session}
 use Rattle.host_machine.proofs.ChangeSteps.{extends}
 use Rattle.host_machine.proofs.Entries.{cut_noted, entry_noted}
 use Rattle.host_machine.proofs.Sends.{plainly}
 use Rattle.host_machine.proofs.Steps.{stop-unanswered}
-use Rattle.blk_base.specs.Members.{slice_get-length}
-use Rattle.host_runs.specs.Promises.{KeepsOk, IsAnswered}
-use Rattle.host_runs.specs.Runs.{Event, Call, stepped, steps, AreWithin}
-use Rattle.host_runs.specs.laws.Kept.{HasRules, IsKept}
-use Rattle.host_runs.specs.laws.CallFacts.{wait_of}
-use Rattle.host_runs.specs.laws.Traces.{Trace, trace_of, Move, Stays, Puts, Enters, Cuts, Takes}
-use Rattle.host_runs.specs.laws.Written.{AreWritten}
+use Rattle.host_machine.specs.Host.{Stepped, stop_of, end_with, step_call, step_thread, continue_begun, advance}
+use Rattle.host_machine.specs.Outcomes as outcomes
+use Rattle.host_machine.specs.State.{Ending, Answered, Down, ReadOnly, SessionFull, Begun, Thread, Host}
+use Rattle.host_machine.specs.Views.{some_in, alters_at, tree_after, writes_at, transaction_of}
+use Rattle.host_machine.specs.laws.Contract.{Over, Contract, H, session}
 use Rattle.host_runs.proofs.CallerHost.{begun_ok}
 use Rattle.host_runs.proofs.OkSteps.{ok_pushed, ok_taken, ok_grows}
 use Rattle.host_runs.proofs.RunHost.{step_keeps}
 use Rattle.host_runs.proofs.Threads.{moved}
+use Rattle.host_runs.specs.Promises.{KeepsOk, IsAnswered}
+use Rattle.host_runs.specs.Runs.{Event, stepped, steps, AreWithin}
+use Rattle.host_runs.specs.laws.CallFacts.{wait_of}
+use Rattle.host_runs.specs.laws.Kept.{HasRules, IsKept}
+use Rattle.host_runs.specs.laws.Traces.{Trace, trace_of, Move, Stays, Puts, Enters, Cuts, Takes}
+use Rattle.host_runs.specs.laws.Written.{AreWritten}
 
 -- ---- a promise reads requests and notes alone
 
@@ -87,8 +87,8 @@ module _ {A T V C R : Type 0} {o : Over A T V C R} {Stands : V → T → Type 0}
         let le = ok.1 in
         subst OkAt q (
           ok_as o.base o.format o.setup.journal ring 0 o.setup.sequence (transaction_of []) o.reserved
-          (ok_grows ext ok.1 (ok_as sess.base sess.format sess.journal sess.ring sess.head sess.sequence sess.transactions sess.reserved ok.0)),
-          omega arith
+              (ok_grows ext ok.1 (ok_as sess.base sess.format sess.journal sess.ring sess.head sess.sequence sess.transactions sess.reserved ok.0)),
+          omega arith,
         )
     moves s has t (Cuts q) ok =
         subst OkAt q (subst (λ h. KeepsOk h (seen ring (trace_of s)) s.journal.flush.taken e b) (ap history_by (fun_ext (λ k. sym (cut_noted s.cuts (length s.history) k)))) ok.0, ok.1)

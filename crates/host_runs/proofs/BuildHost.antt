@@ -1,5 +1,14 @@
 -- The plan is built, and the history grows: the rules and the facts stay.
+use Rattle.std.proofs.Common.{sym, ap, subst, ◌∙◌, ⊎_elim, arith, lt-ltb}
+use Rattle.std.proofs.lemmas.Bool.{cases_lt, false≢true}
+use Rattle.std.proofs.lemmas.Option.{none-some}
+use Rattle.std.specs.Prelude.{◌≡◌, ℕ, suc, ◌+◌, ◌-◌, ◌≤◌, true, false, List, [], ◌∷◌, ◌++◌, map, length, Some, slice_index_or, nat_lt, refl}
+use mathlib.Core.Path.{fun_ext}
 use Rattle.blk_base.specs.Members.{In, In-map}
+use Rattle.log_model.specs.Marks.{Logged, Transaction}
+use Rattle.page_cache.specs.Pages.{page_at}
+use Rattle.page_cache.specs.declared.cached_page.CachedPage.{CachedPage}
+use Rattle.page_cache.specs.declared.cached_page.PageState.TheVariants.{Firm}
 use Rattle.crash_laws.proofs.Commits.{commit_positive}
 use Rattle.crash_laws.proofs.Growth.{page_order_grows, data_before_commit_grows}
 use Rattle.crash_laws.specs.History.{History}
@@ -22,15 +31,6 @@ use Rattle.host_runs.specs.laws.Homes.{IsApart}
 use Rattle.host_runs.specs.laws.Kept.{KeepsRules}
 use Rattle.host_runs.specs.laws.RingFacts.{RingKept}
 use Rattle.host_runs.specs.laws.Written.{IsWord, AreWritten, IsWritable}
-use Rattle.log_model.specs.Marks.{Logged, Transaction}
-use Rattle.page_cache.specs.Pages.{page_at}
-use Rattle.page_cache.specs.declared.cached_page.CachedPage.{CachedPage}
-use Rattle.page_cache.specs.declared.cached_page.PageState.TheVariants.{Firm}
-use Rattle.std.proofs.Common.{sym, ap, subst, ◌∙◌, ⊎_elim, arith, lt-ltb}
-use Rattle.std.proofs.lemmas.Bool.{cases_lt, false≢true}
-use Rattle.std.proofs.lemmas.Option.{none-some}
-use Rattle.std.specs.Prelude.{◌≡◌, ℕ, suc, ◌+◌, ◌-◌, ◌≤◌, true, false, List, [], ◌∷◌, ◌++◌, map, length, Some, slice_index_or, nat_lt, refl}
-use mathlib.Core.Path.{fun_ext}
 
 length_map : {X Y : Type 0} (g : X → Y) (xs : List X) → length (map g xs) ≡ length xs
 length_map g [] = refl

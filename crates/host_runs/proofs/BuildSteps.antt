@@ -1,5 +1,12 @@
 -- The plan of the running transaction is built: it has what its facts say, and its log blocks get their places.
+use Rattle.std.proofs.Common.{sym, ap, subst, ◌∙◌, inl, inr, ⊎_elim, arith, ne_eqb}
+use Rattle.std.specs.Prelude.{◌≡◌, ℕ, ◌+◌, ◌-◌, ◌<◌, ◌≤◌, ◌==◌, Bool, true, false, List, [], ◌∷◌, ◌++◌, map, length, Option, if◌then◌else◌, refl}
 use Rattle.blk_base.specs.Members.{In}
+use Rattle.order_model.specs.declared.note.Note.TheVariants.{Super, Commit}
+use Rattle.log_model.proofs.Ring.{places_on-add}
+use Rattle.log_model.specs.Log.{Spells}
+use Rattle.log_model.specs.Marks.{Logged, Transaction}
+use Rattle.log_model.specs.Ring.{Ring, places_on}
 use Rattle.crash_laws.proofs.LogBlocks.{filter_none, In-log_blocks}
 use Rattle.crash_laws.specs.Rules.{CommitOrder}
 use Rattle.crash_laws.specs.Session.{Session, log_transaction, IsLog, LogBlock, with_log_block, log_blocks, log_blocks_of, bodies_of, sequence_of}
@@ -8,13 +15,6 @@ use Rattle.host_machine.specs.Plan.{Writers, Planned, UnplacedBlock, logged_bloc
 use Rattle.host_runs.proofs.PlanLaws.{IsDraft, are_drafts, plan_spells, plan_counted}
 use Rattle.host_runs.specs.laws.RingFacts.{AreCommitted, PlaceFacts, places_of, IsFirstSuper, ArePlanned, count, if_log, log_bytes, EndsFenced, StartsWithSuper, PlanFacts}
 use Rattle.host_runs.specs.laws.Written.{IsWord, AreWritten, IsWritable}
-use Rattle.log_model.proofs.Ring.{places_on-add}
-use Rattle.log_model.specs.Log.{Spells}
-use Rattle.log_model.specs.Marks.{Logged, Transaction}
-use Rattle.log_model.specs.Ring.{Ring, places_on}
-use Rattle.order_model.specs.declared.note.Note.TheVariants.{Super, Commit}
-use Rattle.std.proofs.Common.{sym, ap, subst, ◌∙◌, inl, inr, ⊎_elim, arith, ne_eqb}
-use Rattle.std.specs.Prelude.{◌≡◌, ℕ, ◌+◌, ◌-◌, ◌<◌, ◌≤◌, ◌==◌, Bool, true, false, List, [], ◌∷◌, ◌++◌, map, length, Option, if◌then◌else◌, refl}
 
 -- ---- the last one is made a barrier
 

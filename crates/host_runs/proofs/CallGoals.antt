@@ -1,6 +1,13 @@
 -- What a data call finds when no page is left: the latest transaction on its way that changed its file, and the
 -- last put.
+use Rattle.std.proofs.Common.{sym, ap, ◌∙◌, inl, inr, ⊎_elim, arith, eq-eqb}
+use Rattle.std.proofs.lemmas.Bool.{cases_Bool, cases_lt, false≢true}
+use Rattle.std.proofs.lemmas.Option.{none-some, same_Some}
+use Rattle.std.specs.List.{list_any}
+use Rattle.std.specs.Prelude.{◌≡◌, ℕ, zero, suc, ◌+◌, ◌-◌, ◌<◌, ◌≤◌, ◌==◌, ◌⊎◌, Bool, true, false, List, [], ◌∷◌, length, Option, Some, None, slice_get, if◌then◌else◌, refl}
 use Rattle.blk_base.specs.Members.{In, list_any-In}
+use Rattle.order_model.specs.declared.note.Note.TheVariants.{Commit}
+use Rattle.order_model.specs.declared.note.Note.{Note}
 use Rattle.crash_laws.specs.History.{History, HasTrees}
 use Rattle.crash_laws.specs.PromiseRules.{Covers}
 use Rattle.crash_laws.specs.Session.{Session}
@@ -9,13 +16,6 @@ use Rattle.host_machine.specs.laws.Facts.{Numbers}
 use Rattle.host_runs.proofs.CallTargets.{IsQuiet, done_at_cut, quiet_running, quiet_both}
 use Rattle.host_runs.specs.Promises.{call_of}
 use Rattle.host_runs.specs.laws.CallFacts.{IsDone, Anywhere}
-use Rattle.order_model.specs.declared.note.Note.TheVariants.{Commit}
-use Rattle.order_model.specs.declared.note.Note.{Note}
-use Rattle.std.proofs.Common.{sym, ap, ◌∙◌, inl, inr, ⊎_elim, arith, eq-eqb}
-use Rattle.std.proofs.lemmas.Bool.{cases_Bool, cases_lt, false≢true}
-use Rattle.std.proofs.lemmas.Option.{none-some, same_Some}
-use Rattle.std.specs.List.{list_any}
-use Rattle.std.specs.Prelude.{◌≡◌, ℕ, zero, suc, ◌+◌, ◌-◌, ◌<◌, ◌≤◌, ◌==◌, ◌⊎◌, Bool, true, false, List, [], ◌∷◌, length, Option, Some, None, slice_get, if◌then◌else◌, refl}
 
 -- ---- the last put
 

@@ -1,6 +1,15 @@
 -- All begun calls at once, over the host's threads and waits: what each step of the host does to them.
-use Rattle.host_runs.specs.laws.CallFacts.{wait_of, AllCalls}
+use Rattle.std.proofs.Common.{sym, ap, subst, ◌∙◌, inl, inr, ⊎_elim, arith, eqb-true, false-eqb}
+use Rattle.std.proofs.lemmas.Bool.{cases_Bool}
+use Rattle.std.proofs.lemmas.Option.{none-some, same_Some}
+use Rattle.std.specs.Prelude.{◌≡◌, ◌≢◌, ℕ, zero, suc, ◌+◌, ◌-◌, ◌<◌, ◌==◌, ◌&&◌, ◌⊎◌, Bool, true, false, List, [], ◌∷◌, length, map, set, Option, Some, None, slice_get, IsTrue, if◌then◌else◌, refl}
 use Rattle.blk_base.specs.Members.{In, slice_get-length, slice_get-set_same, slice_get-set_other}
+use Rattle.order_model.specs.declared.note.Note.TheVariants.{Page}
+use Rattle.log_model.specs.Marks.{Transaction}
+use Rattle.volume_ops.specs.Reads.{Reads}
+use Rattle.page_cache.specs.Pages.{page_at, put_page, marked, is_unsent}
+use Rattle.page_cache.specs.declared.cached_page.CachedPage.{CachedPage}
+use Rattle.page_cache.specs.declared.cached_page.PageState.{PageState}
 use Rattle.crash_laws.specs.History.{History, IsUnmapped, HasTrees}
 use Rattle.crash_laws.specs.PromiseRules.{AreHeld}
 use Rattle.crash_laws.specs.Session.{Session, IsCommit}
@@ -14,17 +23,7 @@ use Rattle.host_machine.specs.laws.Facts.{View, IsPlain, Numbers, PagesMapped}
 use Rattle.host_runs.proofs.CallMoves.{call_sent}
 use Rattle.host_runs.proofs.CallSteps.{KeepsUnsent, call_pushed, call_grows}
 use Rattle.host_runs.proofs.CallTargets.{call_closes, call_needs}
-use Rattle.host_runs.specs.laws.CallFacts.{IsDone, CallFacts}
-use Rattle.log_model.specs.Marks.{Transaction}
-use Rattle.order_model.specs.declared.note.Note.TheVariants.{Page}
-use Rattle.page_cache.specs.Pages.{page_at, put_page, marked, is_unsent}
-use Rattle.page_cache.specs.declared.cached_page.CachedPage.{CachedPage}
-use Rattle.page_cache.specs.declared.cached_page.PageState.{PageState}
-use Rattle.std.proofs.Common.{sym, ap, subst, ◌∙◌, inl, inr, ⊎_elim, arith, eqb-true, false-eqb}
-use Rattle.std.proofs.lemmas.Bool.{cases_Bool}
-use Rattle.std.proofs.lemmas.Option.{none-some, same_Some}
-use Rattle.std.specs.Prelude.{◌≡◌, ◌≢◌, ℕ, zero, suc, ◌+◌, ◌-◌, ◌<◌, ◌==◌, ◌&&◌, ◌⊎◌, Bool, true, false, List, [], ◌∷◌, length, map, set, Option, Some, None, slice_get, slice_index_or, IsTrue, if◌then◌else◌, refl}
-use Rattle.volume_ops.specs.Reads.{Reads}
+use Rattle.host_runs.specs.laws.CallFacts.{wait_of, AllCalls, IsDone, CallFacts}
 
 -- ---- what a changing call makes of pages that are to do
 

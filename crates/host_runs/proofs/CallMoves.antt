@@ -1,5 +1,18 @@
 -- What a begun call's own steps give: its beginning, its walk along its list, and the pages that are sent.
+use Rattle.std.proofs.Common.{sym, ap, subst, ◌∙◌, inl, inr, ⊎_elim, arith, eq-eqb}
+use Rattle.std.proofs.lemmas.Bool.{cases_Bool, cond-true, cond-false, false≢true}
+use Rattle.std.proofs.lemmas.Option.{none-some, same_Some}
+use Rattle.std.specs.List.{filter}
+use Rattle.std.specs.Prelude.{◌≡◌, ℕ, ◌≤◌, ◌==◌, ◌&&◌, ◌||◌, ◌⊎◌, Bool, true, false, List, [], ◌∷◌, map, Option, Some, None, IsTrue, if◌then◌else◌, refl}
 use Rattle.blk_base.specs.Members.{In, filter-In, map-In, slice_get-length}
+use Rattle.order_model.specs.Submission.{is_flush}
+use Rattle.order_model.specs.declared.note.Note.TheVariants.{Page}
+use Rattle.volume_ops.specs.Reads.{Reads}
+use Rattle.page_cache.specs.Pages.{is_page, page_at, put_page, marked, is_unsent}
+use Rattle.page_cache.specs.declared.cached_page.CachedPage.{CachedPage}
+use Rattle.page_cache.specs.declared.cached_page.PageState.TheVariants.{Clean, Dirty, Loose, Firm}
+use Rattle.page_cache.specs.declared.cached_page.PageState.{PageState}
+use Rattle.page_cache.specs.laws.Maps.{is_page-same, page_at-key, page_at-put}
 use Rattle.crash_laws.proofs.Growing.{note_new, fence_new, ordered_new}
 use Rattle.crash_laws.specs.History.{History, last_write, HasTrees}
 use Rattle.crash_laws.specs.PromiseRules.{IsOn, Covers}
@@ -12,19 +25,6 @@ use Rattle.host_machine.specs.laws.Facts.{View, IsPlain, PagesMapped, PagesSent}
 use Rattle.host_runs.proofs.CallSteps.{mapped_or_gone, last_write_above, sent_old, done_old, call_pushed}
 use Rattle.host_runs.specs.Promises.{call_of}
 use Rattle.host_runs.specs.laws.CallFacts.{IsSent, IsDone, Anywhere, IsToDo, HasSentBarrier, CallFacts}
-use Rattle.order_model.specs.Submission.{is_flush}
-use Rattle.order_model.specs.declared.note.Note.TheVariants.{Page}
-use Rattle.page_cache.specs.Pages.{is_page, page_at, put_page, marked, is_unsent}
-use Rattle.page_cache.specs.declared.cached_page.CachedPage.{CachedPage}
-use Rattle.page_cache.specs.declared.cached_page.PageState.TheVariants.{Clean, Dirty, Loose, Firm}
-use Rattle.page_cache.specs.declared.cached_page.PageState.{PageState}
-use Rattle.page_cache.specs.laws.Maps.{is_page-same, page_at-key, page_at-put}
-use Rattle.std.proofs.Common.{sym, ap, subst, ◌∙◌, inl, inr, ⊎_elim, arith, eq-eqb}
-use Rattle.std.proofs.lemmas.Bool.{cases_Bool, cond-true, cond-false, false≢true}
-use Rattle.std.proofs.lemmas.Option.{none-some, same_Some}
-use Rattle.std.specs.List.{filter}
-use Rattle.std.specs.Prelude.{◌≡◌, ℕ, ◌≤◌, ◌==◌, ◌&&◌, ◌||◌, ◌⊎◌, Bool, true, false, List, [], ◌∷◌, map, Option, Some, None, IsTrue, if◌then◌else◌, refl}
-use Rattle.volume_ops.specs.Reads.{Reads}
 
 -- ---- pages
 

@@ -1,9 +1,15 @@
 -- Each Ok of a begun call keeps the order rule of such calls: through the caller's step.
-use Rattle.crash_laws.specs.PromiseRules.{CoversNothing}
-use Rattle.host_runs.specs.Promises.{IsCause, KeepsOk}
+use Rattle.std.proofs.Common.{sym, ap, subst, ◌∙◌, inl, inr, ⊎_elim, arith}
+use Rattle.std.proofs.lemmas.Bool.{false≢true, ltb-true}
+use Rattle.std.specs.List.{list_any}
+use Rattle.std.specs.Prelude.{◌≡◌, ℕ, ◌+◌, ◌<◌, ◌≤◌, ◌==◌, ◌&&◌, ◌||◌, ◌⊎◌, Bool, true, false, not, List, ◌∷◌, length, Option, Some, None, is_none, nat_lt, if◌then◌else◌, refl}
 use Rattle.blk_base.specs.Members.{In, In-list_any}
+use Rattle.order_model.specs.declared.completion.Completion.TheVariants as completions
+use Rattle.order_model.specs.declared.completion.Completion.{Completion}
+use Rattle.order_model.specs.declared.note.Note.TheVariants.{Page, Commit}
+use Rattle.page_cache.specs.declared.cached_page.CachedPage.{CachedPage}
 use Rattle.crash_laws.specs.History.{History, HasTrees}
-use Rattle.crash_laws.specs.PromiseRules.{KeepsBarrier, KeepsSync, Covers, CoversEntry}
+use Rattle.crash_laws.specs.PromiseRules.{CoversNothing, KeepsBarrier, KeepsSync, Covers, CoversEntry}
 use Rattle.crash_laws.specs.Rules.{CommitOrder}
 use Rattle.crash_laws.specs.Session.{Session, IsCommit}
 use Rattle.host_machine.specs.Causes as causes
@@ -15,16 +21,8 @@ use Rattle.host_machine.specs.laws.Facts.{Numbers}
 use Rattle.host_runs.proofs.CallGoals.{ChangedListed, latest_none, latest_some, put_before_last, nothing_put, nothing_covered}
 use Rattle.host_runs.proofs.CallMoves.{unsent_on-none}
 use Rattle.host_runs.proofs.CallTargets.{IsQuiet, held_without_target, ok_at_target, ok_by_own_barrier, ok_by_flush, call_has_need, call_has_target, call_needs, its_file, for_running, for_closed, cause_of_barrier, cause_of_sync}
-use Rattle.host_runs.specs.Promises.{call_of}
+use Rattle.host_runs.specs.Promises.{IsCause, KeepsOk, call_of}
 use Rattle.host_runs.specs.laws.CallFacts.{IsDone, Anywhere, CallFacts}
-use Rattle.order_model.specs.declared.completion.Completion.TheVariants as completions
-use Rattle.order_model.specs.declared.completion.Completion.{Completion}
-use Rattle.order_model.specs.declared.note.Note.TheVariants.{Page, Commit}
-use Rattle.page_cache.specs.declared.cached_page.CachedPage.{CachedPage}
-use Rattle.std.proofs.Common.{sym, ap, subst, ◌∙◌, inl, inr, ⊎_elim, arith}
-use Rattle.std.proofs.lemmas.Bool.{false≢true, ltb-true}
-use Rattle.std.specs.List.{list_any}
-use Rattle.std.specs.Prelude.{◌≡◌, ℕ, ◌+◌, ◌<◌, ◌≤◌, ◌==◌, ◌&&◌, ◌||◌, ◌⊎◌, Bool, true, false, not, List, ◌∷◌, length, Option, Some, None, is_none, nat_lt, if◌then◌else◌, refl}
 
 flushed_later : (id : ℕ) (c : Completion) → is_flushed_after id c ≡ true → (f : ℕ) × (c ≡ completions.Flushed f) × (id < f)
 flushed_later id (completions.Flushed f) e = (f, refl, ltb-true id f e)

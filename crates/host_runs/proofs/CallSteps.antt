@@ -1,5 +1,11 @@
 -- What becomes of a begun call's facts when one request more is submitted, and when the history grows.
+use Rattle.std.proofs.Common.{sym, ap, subst, ◌∙◌, inl, inr, ⊎_elim, arith}
+use Rattle.std.proofs.lemmas.Bool.{cases_Bool, cases_lt, cond-true, cond-false, false≢true}
+use Rattle.std.specs.Prelude.{◌≡◌, ℕ, zero, suc, ◌+◌, ◌-◌, ◌≤◌, ◌⊎◌, Bool, true, false, List, Some, refl}
 use Rattle.blk_base.specs.Members.{slice_get-length}
+use Rattle.order_model.specs.declared.note.Note.TheVariants.{Page, Commit}
+use Rattle.page_cache.specs.Pages.{page_at, is_unsent}
+use Rattle.page_cache.specs.declared.cached_page.CachedPage.{CachedPage}
 use Rattle.crash_laws.proofs.Growing.{note_old, note_cases, fence_old, ordered_old}
 use Rattle.crash_laws.proofs.Growth.{unmapped_old, unmapped_new}
 use Rattle.crash_laws.proofs.Histories.{stays_mapped}
@@ -14,12 +20,6 @@ use Rattle.host_machine.specs.State.{Begun, Wait}
 use Rattle.host_machine.specs.laws.Facts.{Numbers}
 use Rattle.host_runs.specs.Promises.{call_of}
 use Rattle.host_runs.specs.laws.CallFacts.{IsSent, IsDone, IsGoodFor, HasSentBarrier, CallFacts}
-use Rattle.order_model.specs.declared.note.Note.TheVariants.{Page, Commit}
-use Rattle.page_cache.specs.Pages.{page_at, is_unsent}
-use Rattle.page_cache.specs.declared.cached_page.CachedPage.{CachedPage}
-use Rattle.std.proofs.Common.{sym, ap, subst, ◌∙◌, inl, inr, ⊎_elim, arith}
-use Rattle.std.proofs.lemmas.Bool.{cases_Bool, cases_lt, cond-true, cond-false, false≢true}
-use Rattle.std.specs.Prelude.{◌≡◌, ℕ, zero, suc, ◌+◌, ◌-◌, ◌≤◌, ◌⊎◌, Bool, true, false, List, Some, refl}
 
 -- ---- the history alone
 

@@ -1,5 +1,14 @@
 -- A begun call gets its target or its need, its transaction is closed and committed, and it is answered.
+use Rattle.std.proofs.Common.{sym, ap, subst, ◌∙◌, inl, inr, ⊎_elim, arith}
+use Rattle.std.proofs.lemmas.Bool.{cases_Bool, cases_lt, false≢true}
+use Rattle.std.proofs.lemmas.Option.{none-some, same_Some}
+use Rattle.std.specs.Prelude.{◌≡◌, ℕ, zero, suc, ◌+◌, ◌-◌, ◌<◌, ◌≤◌, ◌⊎◌, true, false, not, List, Some, None, if◌then◌else◌}
 use Rattle.blk_base.specs.Members.{In}
+use Rattle.order_model.specs.Submission.{IsFence}
+use Rattle.order_model.specs.declared.completion.Completion.TheVariants.{Flushed}
+use Rattle.order_model.specs.declared.completion.Completion.{Completion}
+use Rattle.order_model.specs.declared.note.Note.TheVariants.{Page}
+use Rattle.page_cache.specs.declared.cached_page.CachedPage.{CachedPage}
 use Rattle.crash_laws.proofs.PromiseSteps.{barrier_at_end}
 use Rattle.crash_laws.specs.History.{History, Calm, HasTrees}
 use Rattle.crash_laws.specs.PromiseRules.{IsSuperseded, KeepsBarrier, KeepsSync, IsOn, Covers, CoversEntry}
@@ -11,15 +20,6 @@ use Rattle.host_machine.specs.laws.Facts.{Numbers}
 use Rattle.host_runs.proofs.CallSteps.{mapped_or_gone, later_bound}
 use Rattle.host_runs.specs.Promises.{call_of}
 use Rattle.host_runs.specs.laws.CallFacts.{IsSent, IsDone, Anywhere, IsGoodFor, IsHeldAt, IsBehindTarget, CallFacts}
-use Rattle.order_model.specs.Submission.{IsFence}
-use Rattle.order_model.specs.declared.completion.Completion.TheVariants.{Flushed}
-use Rattle.order_model.specs.declared.completion.Completion.{Completion}
-use Rattle.order_model.specs.declared.note.Note.TheVariants.{Page}
-use Rattle.page_cache.specs.declared.cached_page.CachedPage.{CachedPage}
-use Rattle.std.proofs.Common.{sym, ap, subst, ◌∙◌, inl, inr, ⊎_elim, arith}
-use Rattle.std.proofs.lemmas.Bool.{cases_Bool, cases_lt, false≢true}
-use Rattle.std.proofs.lemmas.Option.{none-some, same_Some}
-use Rattle.std.specs.Prelude.{◌≡◌, ℕ, zero, suc, ◌+◌, ◌-◌, ◌<◌, ◌≤◌, ◌⊎◌, true, false, not, List, Some, None, if◌then◌else◌}
 
 -- ---- a stretch of the history in which the file was not changed
 

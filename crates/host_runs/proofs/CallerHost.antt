@@ -1,7 +1,18 @@
 -- A caller's whole step keeps the order rules, the ring's facts and the facts of all begun calls; and each Ok keeps
 -- the order rule of such calls.
-use Rattle.host_runs.specs.laws.Kept.{Calls, Flushes}
+use Rattle.std.proofs.Common.{sym, ap, subst, ◌∙◌, inl, inr, arith}
+use Rattle.std.proofs.lemmas.Bool.{false≢true}
+use Rattle.std.proofs.lemmas.Option.{none-some, same_Some}
+use Rattle.std.specs.List.{filter, list_any}
+use Rattle.std.specs.Prelude.{◌≡◌, ℕ, ◌+◌, ◌-◌, ◌<◌, ◌==◌, ◌&&◌, ◌||◌, ◌⊎◌, Bool, true, false, not, List, [], ◌∷◌, ◌++◌, length, set, Option, Some, None, is_none, slice_get, nat_lt, IsTrue, refl, if◌then◌else◌}
 use Rattle.blk_base.specs.Members.{slice_get-length}
+use Rattle.order_model.specs.declared.note.Note.TheVariants as notes
+use Rattle.order_model.specs.declared.request.Kind.TheVariants as puts
+use Rattle.order_model.specs.declared.request.Request.{Request}
+use Rattle.log_model.specs.Marks.{Transaction}
+use Rattle.page_cache.specs.Pages.{put_page, marked}
+use Rattle.page_cache.specs.declared.cached_page.CachedPage.{CachedPage}
+use Rattle.page_cache.specs.declared.cached_page.PageState.TheVariants.{Firm}
 use Rattle.crash_laws.specs.History.{History, HasTrees}
 use Rattle.crash_laws.specs.Session.{Session}
 use Rattle.crash_laws.specs.Submitting.{after}
@@ -31,20 +42,8 @@ use Rattle.host_runs.proofs.RulesHost.{page_keeps}
 use Rattle.host_runs.specs.Promises.{KeepsOk}
 use Rattle.host_runs.specs.laws.CallFacts.{CallFacts, wait_of, AllCalls}
 use Rattle.host_runs.specs.laws.FlushFacts.{FlushFacts, is_open}
-use Rattle.host_runs.specs.laws.Kept.{KeepsRules}
+use Rattle.host_runs.specs.laws.Kept.{Calls, Flushes, KeepsRules}
 use Rattle.host_runs.specs.laws.RingFacts.{RingKept}
-use Rattle.log_model.specs.Marks.{Transaction}
-use Rattle.order_model.specs.declared.note.Note.TheVariants as notes
-use Rattle.order_model.specs.declared.request.Kind.TheVariants as puts
-use Rattle.order_model.specs.declared.request.Request.{Request}
-use Rattle.page_cache.specs.Pages.{put_page, marked}
-use Rattle.page_cache.specs.declared.cached_page.CachedPage.{CachedPage}
-use Rattle.page_cache.specs.declared.cached_page.PageState.TheVariants.{Firm}
-use Rattle.std.proofs.Common.{sym, ap, subst, ◌∙◌, inl, inr, arith}
-use Rattle.std.proofs.lemmas.Bool.{false≢true}
-use Rattle.std.proofs.lemmas.Option.{none-some, same_Some}
-use Rattle.std.specs.List.{filter, list_any}
-use Rattle.std.specs.Prelude.{◌≡◌, ℕ, ◌+◌, ◌-◌, ◌<◌, ◌==◌, ◌&&◌, ◌||◌, ◌⊎◌, Bool, true, false, not, List, [], ◌∷◌, ◌++◌, length, set, Option, Some, None, is_none, slice_get, nat_lt, IsTrue, refl, if◌then◌else◌}
 
 module _ {A T V C R : Type 0} {o : Over A T V C R} {Stands : V → T → Type 0} (contract : Contract o Stands) (txs : List Transaction) (N : ℕ) where
   -- the rules and the ring's facts, without those of images; and all calls

@@ -1,5 +1,20 @@
 -- The commit block, the Home requests of a checkpoint and the superblock of a new tail.
+use Rattle.std.proofs.Common.{sym, ap, subst, ◌∙◌, inl, inr, ⊎_elim, arith, append-nil, lt-ltb}
+use Rattle.std.proofs.lemmas.Bool.{cases_lt}
+use Rattle.std.proofs.lemmas.Option.{none-some, same_Some}
+use Rattle.std.specs.Option.{option_and_then, unwrap_or}
+use Rattle.std.specs.Prelude.{◌≡◌, ℕ, ◌+◌, ◌≤◌, ◌⊎◌, Bool, true, List, [], ◌∷◌, ◌++◌, length, Option, Some, slice_get, nat_lt, IsTrue, ◌||◌, refl}
 use Rattle.blk_base.specs.Members.{In, slice_get-length, slice_get-In, filter_all}
+use Rattle.order_model.specs.Submission.{is_flush, kind_body}
+use Rattle.order_model.specs.declared.note.Note.TheVariants.{Page, Super, Commit, Home, Flush, Raw}
+use Rattle.order_model.specs.declared.note.Note.{Note}
+use Rattle.order_model.specs.declared.request.Kind.TheVariants.{Put}
+use Rattle.order_model.specs.declared.request.Request.{Request}
+use Rattle.log_model.proofs.Marks.{mark-split, keep≢set, clear≢set}
+use Rattle.log_model.proofs.Ring.{places_on-place}
+use Rattle.log_model.specs.Log.{Spells}
+use Rattle.log_model.specs.Marks.{Logged, Transaction, Mark, Keep, Clear, Set, followed, transaction_mark, mark_in, transactions_from}
+use Rattle.log_model.specs.Ring.{places_on}
 use Rattle.crash_laws.proofs.Growing.{note_old, note_new, note_cases, log_within, log_cases, fence_new, request_new}
 use Rattle.crash_laws.proofs.LogBlocks.{In-log_blocks}
 use Rattle.crash_laws.proofs.LogSteps.{mark_old, below_submitted}
@@ -16,21 +31,6 @@ use Rattle.host_runs.proofs.RingStateLaws.{In-commit_homes, commit_homes-ascends
 use Rattle.host_runs.proofs.RingSteps.{sending, RingClause}
 use Rattle.host_runs.specs.laws.Homes.{IsApart, commit_homes}
 use Rattle.host_runs.specs.laws.RingFacts.{AreCommitted, PlaceFacts, IsHomeDone, HomeFacts, places_of, count, if_log, log_bytes, StartsWithSuper, PlanFacts}
-use Rattle.log_model.proofs.Marks.{mark-split, keep≢set, clear≢set}
-use Rattle.log_model.proofs.Ring.{places_on-place}
-use Rattle.log_model.specs.Log.{Spells}
-use Rattle.log_model.specs.Marks.{Logged, Transaction, Mark, Keep, Clear, Set, followed, transaction_mark, mark_in, transactions_from}
-use Rattle.log_model.specs.Ring.{places_on}
-use Rattle.order_model.specs.Submission.{is_flush, kind_body}
-use Rattle.order_model.specs.declared.note.Note.TheVariants.{Page, Super, Commit, Home, Flush, Raw}
-use Rattle.order_model.specs.declared.note.Note.{Note}
-use Rattle.order_model.specs.declared.request.Kind.TheVariants.{Put}
-use Rattle.order_model.specs.declared.request.Request.{Request}
-use Rattle.std.proofs.Common.{sym, ap, subst, ◌∙◌, inl, inr, ⊎_elim, arith, append-nil, lt-ltb}
-use Rattle.std.proofs.lemmas.Bool.{cases_lt}
-use Rattle.std.proofs.lemmas.Option.{none-some, same_Some}
-use Rattle.std.specs.Option.{option_and_then, unwrap_or}
-use Rattle.std.specs.Prelude.{◌≡◌, ℕ, ◌+◌, ◌≤◌, ◌⊎◌, Bool, true, List, [], ◌∷◌, ◌++◌, length, Option, Some, slice_get, nat_lt, IsTrue, ◌||◌, refl}
 
 -- ---- the commit block
 

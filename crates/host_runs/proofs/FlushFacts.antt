@@ -1,16 +1,16 @@
 -- Flushes are charged to sync calls: one flush at most for each that began.
-use Rattle.host_runs.specs.laws.FlushFacts.{one_if, count, is_open, is_begin, FlushFacts}
-use Rattle.blk_base.specs.Members.{In, In-list_any, In-set_cases, In-map}
-use Rattle.host_machine.specs.Host.{is_due, flush_due, need_commit}
-use Rattle.host_machine.specs.Model.{Kind, Reading, Changing, FileBarrier, DataBarrier, FileSync, DataSync, WholeSync, is_durable}
-use Rattle.host_machine.specs.State.{Begins, Ends, Entry, Wait, FlushPart, is_flush_note, flush_above, is_moved, is_over}
-use Rattle.order_model.specs.declared.note.Note.TheVariants as notes
-use Rattle.order_model.specs.declared.note.Note.{Note}
 use Rattle.std.proofs.Common.{sym, ap, subst, ◌∙◌, inl, inr, ⊎_elim, arith, lt-ltb, length-append, eqb-true}
 use Rattle.std.proofs.lemmas.Bool.{false≢true}
 use Rattle.std.proofs.lemmas.Option.{none-some, same_Some}
 use Rattle.std.specs.List.{list_any}
 use Rattle.std.specs.Prelude.{◌≡◌, ℕ, zero, suc, ◌+◌, ◌<◌, ◌≤◌, ◌==◌, ◌&&◌, ◌||◌, ◌⊎◌, Bool, true, false, not, List, [], ◌∷◌, ◌++◌, length, map, set, Option, Some, None, slice_get, nat_lt, if◌then◌else◌, refl}
+use Rattle.blk_base.specs.Members.{In, In-list_any, In-set_cases, In-map}
+use Rattle.order_model.specs.declared.note.Note.TheVariants as notes
+use Rattle.order_model.specs.declared.note.Note.{Note}
+use Rattle.host_machine.specs.Host.{is_due, flush_due, need_commit}
+use Rattle.host_machine.specs.Model.{Kind, Reading, Changing, FileBarrier, DataBarrier, FileSync, DataSync, WholeSync, is_durable}
+use Rattle.host_machine.specs.State.{Entry, Wait, FlushPart, is_flush_note, flush_above, is_moved, is_over}
+use Rattle.host_runs.specs.laws.FlushFacts.{one_if, count, is_open, is_begin, FlushFacts}
 
 -- ---- counting
 

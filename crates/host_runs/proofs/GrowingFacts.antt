@@ -1,5 +1,17 @@
 -- One request more: what becomes of the facts of ring, checkpoint and plan, whatever the request is.
+use Rattle.std.proofs.Common.{sym, ap, subst, ◌∙◌, inl, inr, ⊎_elim, arith, append-nil, length-append, eq-eqb}
+use Rattle.std.proofs.lemmas.Bool.{cases_lt, cond-true}
+use Rattle.std.proofs.lemmas.List.Elements.{filter-append}
+use Rattle.std.proofs.lemmas.Option.{none-some, same_Some}
+use Rattle.std.specs.Option.{option_and_then, unwrap_or}
+use Rattle.std.specs.Prelude.{◌≡◌, ◌≢◌, ℕ, ◌+◌, ◌<◌, ◌≤◌, ◌==◌, ◌⊎◌, List, [], ◌∷◌, ◌++◌, length, Option, Some, None, slice_get, refl}
 use Rattle.blk_base.specs.Members.{In, In-filter, slice_get-push_cases}
+use Rattle.order_model.specs.Submission.{kind_body}
+use Rattle.order_model.specs.declared.note.Note.TheVariants.{Super, Commit, Home}
+use Rattle.order_model.specs.declared.request.Request.{Request}
+use Rattle.log_model.specs.Log.{Spells}
+use Rattle.log_model.specs.Marks.{Logged, Transaction, mark_in, transactions_from}
+use Rattle.log_model.specs.Ring.{places_on}
 use Rattle.crash_laws.proofs.Growing.{note_old, note_cases, log_within, log_cases, commit_before_old, request_new, request_old, fence_old, body_old}
 use Rattle.crash_laws.proofs.LogBlocks.{In-log_blocks}
 use Rattle.crash_laws.proofs.LogSteps.{log_blocks-push, super_old, mark_old, below_submitted}
@@ -10,18 +22,6 @@ use Rattle.crash_laws.specs.Submitting.{Submitting, after, new_place}
 use Rattle.host_machine.specs.Parts.{LogRing}
 use Rattle.host_machine.specs.Plan.{Planned}
 use Rattle.host_runs.specs.laws.RingFacts.{AreCommitted, PlaceFacts, IsHomeDone, HomeFacts, places_of, if_log, count, log_bytes, ArePlanned, IsClosed, PlanFacts}
-use Rattle.log_model.specs.Log.{Spells}
-use Rattle.log_model.specs.Marks.{Logged, Transaction, mark_in, transactions_from}
-use Rattle.log_model.specs.Ring.{places_on}
-use Rattle.order_model.specs.Submission.{kind_body}
-use Rattle.order_model.specs.declared.note.Note.TheVariants.{Super, Commit, Home}
-use Rattle.order_model.specs.declared.request.Request.{Request}
-use Rattle.std.proofs.Common.{sym, ap, subst, ◌∙◌, inl, inr, ⊎_elim, arith, append-nil, length-append, eq-eqb}
-use Rattle.std.proofs.lemmas.Bool.{cases_lt, cond-true}
-use Rattle.std.proofs.lemmas.List.Elements.{filter-append}
-use Rattle.std.proofs.lemmas.Option.{none-some, same_Some}
-use Rattle.std.specs.Option.{option_and_then, unwrap_or}
-use Rattle.std.specs.Prelude.{◌≡◌, ◌≢◌, ℕ, ◌+◌, ◌<◌, ◌≤◌, ◌==◌, ◌⊎◌, List, [], ◌∷◌, ◌++◌, length, Option, Some, None, slice_get, refl}
 
 -- ---- numbers
 

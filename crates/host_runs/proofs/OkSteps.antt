@@ -1,6 +1,12 @@
 -- What an answered call keeps it keeps for good: with one request more, a longer history, one completion more, and
 -- transactions told anew.
+use Rattle.std.proofs.Common.{inl, inr, ⊎_elim, arith}
+use Rattle.std.specs.Prelude.{ℕ, ◌<◌, ◌≤◌, ◌++◌, ◌∷◌, [], List}
 use Rattle.blk_base.specs.Members.{In-push_left}
+use Rattle.order_model.specs.declared.completion.Completion.TheVariants.{Flushed}
+use Rattle.order_model.specs.declared.completion.Completion.{Completion}
+use Rattle.order_model.specs.declared.note.Note.TheVariants.{Commit}
+use Rattle.log_model.specs.Marks.{Transaction}
 use Rattle.crash_laws.proofs.Growing.{note_old}
 use Rattle.crash_laws.proofs.PromiseSteps.{held_for, held_grows, barrier_pushed, sync_pushed, barrier_grows, covers_old}
 use Rattle.crash_laws.specs.Extending.{Extends}
@@ -11,12 +17,6 @@ use Rattle.crash_laws.specs.Submitting.{Submitting, after}
 use Rattle.host_machine.specs.State.{Begun}
 use Rattle.host_runs.proofs.CallHost.{held_told}
 use Rattle.host_runs.specs.Promises.{call_of, KeepsOk}
-use Rattle.log_model.specs.Marks.{Transaction}
-use Rattle.order_model.specs.declared.completion.Completion.TheVariants.{Flushed}
-use Rattle.order_model.specs.declared.completion.Completion.{Completion}
-use Rattle.order_model.specs.declared.note.Note.TheVariants.{Commit}
-use Rattle.std.proofs.Common.{inl, inr, ⊎_elim, arith}
-use Rattle.std.specs.Prelude.{ℕ, ◌<◌, ◌≤◌, ◌++◌, ◌∷◌, [], List}
 
 -- one request more
 pub ok_pushed : {A : Type 0} {h : History A} {taken : List Completion} {e : ℕ} {b : Begun} (p : Submitting) → KeepsOk h p.session taken e b → KeepsOk h (after p) taken e b

@@ -1,18 +1,18 @@
 -- Places of the log that are in use are apart, and each log block is an entry.
-use Rattle.blk_base.specs.Members.{In, In-slice_get}
-use Rattle.crash_laws.specs.Rules.{LogLayout}
-use Rattle.crash_laws.specs.Session.{Session, log_transaction, IsLog, LogBlock, with_log_block, log_blocks_from, log_blocks, IsSuperOf}
-use Rattle.host_machine.specs.Parts.{LogRing}
-use Rattle.host_runs.specs.laws.RingFacts.{PlaceFacts}
-use Rattle.log_model.proofs.Ring.{places_on-add, places_on-place, place_after-last, places_on-up}
-use Rattle.log_model.specs.Ring.{Ring, places_on, IsPlace}
-use Rattle.order_model.specs.Submission.{IsPutOf}
-use Rattle.order_model.specs.declared.note.Note.{Note}
 use Rattle.std.proofs.Common.{sym, ap, subst, ◌∙◌, inl, inr, ⊎_elim, arith}
 use Rattle.std.proofs.lemmas.Bool.{cases_lt}
 use Rattle.std.proofs.lemmas.Option.{none-some, same_Some}
 use Rattle.std.specs.Option.{option_and_then}
 use Rattle.std.specs.Prelude.{◌≡◌, ◌≢◌, ℕ, zero, suc, ◌+◌, ◌-◌, ◌<◌, ◌≤◌, List, [], ◌∷◌, length, Option, Some, None, slice_get}
+use Rattle.blk_base.specs.Members.{In, In-slice_get}
+use Rattle.order_model.specs.Submission.{IsPutOf}
+use Rattle.order_model.specs.declared.note.Note.{Note}
+use Rattle.log_model.proofs.Ring.{places_on-add, places_on-place, place_after-last, places_on-up}
+use Rattle.log_model.specs.Ring.{Ring, places_on, IsPlace}
+use Rattle.crash_laws.specs.Rules.{LogLayout}
+use Rattle.crash_laws.specs.Session.{Session, log_transaction, IsLog, LogBlock, with_log_block, log_blocks_from, log_blocks, IsSuperOf}
+use Rattle.host_machine.specs.Parts.{LogRing}
+use Rattle.host_runs.specs.laws.RingFacts.{PlaceFacts}
 
 -- ---- places
 

@@ -1,17 +1,17 @@
 -- The log blocks of a plan spell its transaction, and there are as many as were counted.
-use Rattle.host_runs.specs.laws.Written.{IsWord, tag_of, AreWritten, IsWritable}
+use Rattle.std.proofs.Common.{sym, ap, subst, ◌∙◌, inl, inr, ⊎_elim, arith, append_assoc, append-nil, length-append}
+use Rattle.std.specs.Prelude.{◌≡◌, ℕ, zero, suc, ◌+◌, ◌-◌, ◌*◌, ◌<◌, ◌≤◌, List, [], ◌∷◌, ◌++◌, map, length, Some, refl}
 use Rattle.blk_base.specs.Members.{In, In-append_left, In-append_right, In-append_cases, In-map}
+use Rattle.order_model.specs.declared.note.Note.TheVariants.{Commit}
+use Rattle.log_model.proofs.Parts.{parts_spell}
+use Rattle.log_model.specs.Log.{Tag, Format, Spells}
+use Rattle.log_model.specs.Marks.{Logged, Transaction}
+use Rattle.log_model.specs.Parts.{Part, Describing, Revoking, restored, IsPart, AreParts, blocks_of_parts, bodies_of_parts, revokes_of_parts}
 use Rattle.crash_laws.specs.Rules.{HasHeader}
 use Rattle.crash_laws.specs.Session.{log_transaction}
 use Rattle.host_machine.specs.Parts.{parts_needed, log_blocks_for}
 use Rattle.host_machine.specs.Plan.{Writers, UnplacedBlock, chunks_from, chunks, revoke_block, body_block, described, all_described, logged_blocks}
-use Rattle.log_model.proofs.Parts.{parts_spell}
-use Rattle.log_model.specs.Log.{Tag, Plain, Describes, Revokes, Commits, Format, Spells}
-use Rattle.log_model.specs.Marks.{Logged, Transaction}
-use Rattle.log_model.specs.Parts.{Part, Describing, Revoking, restored, IsPart, AreParts, blocks_of_parts, bodies_of_parts, revokes_of_parts}
-use Rattle.order_model.specs.declared.note.Note.TheVariants.{Commit}
-use Rattle.std.proofs.Common.{sym, ap, subst, ◌∙◌, inl, inr, ⊎_elim, arith, append_assoc, append-nil, length-append}
-use Rattle.std.specs.Prelude.{◌≡◌, ℕ, zero, suc, ◌+◌, ◌-◌, ◌*◌, ◌<◌, ◌≤◌, List, [], ◌∷◌, ◌++◌, map, length, Some, refl}
+use Rattle.host_runs.specs.laws.Written.{IsWord, tag_of, AreWritten, IsWritable}
 
 -- ---- what is written is read back
 

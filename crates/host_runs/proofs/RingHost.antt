@@ -1,6 +1,11 @@
 -- The facts of ring, checkpoint and plan, over the host's state: each step of the commit actor keeps them and owes
 -- nothing more of the order rules than what images and pages owe.
-use Rattle.host_runs.specs.laws.RingFacts.{transaction_of_plan, IsStarted, IsOnWay, IsAtRest, RingInPhase, RingKept}
+use Rattle.std.proofs.Common.{sym, ap, subst, ◌∙◌, inl, inr, ⊎_elim, arith}
+use Rattle.std.proofs.lemmas.Bool.{false≢true}
+use Rattle.std.proofs.lemmas.Option.{none-some}
+use Rattle.std.specs.Prelude.{◌≡◌, ◌≢◌, ℕ, ◌+◌, ◌-◌, ◌≤◌, Bool, true, List, [], ◌∷◌, ◌++◌, length, Option, None, refl}
+use Rattle.order_model.specs.declared.note.Note.TheVariants.{Super, Commit, Home}
+use Rattle.log_model.specs.Marks.{Logged, Transaction, mark_in, transactions_from}
 use Rattle.crash_laws.proofs.LogSteps.{same_transactions}
 use Rattle.crash_laws.specs.Clauses.{CommitClause}
 use Rattle.crash_laws.specs.Rules.{CommitOrder, LogLayout, CheckpointOrder}
@@ -14,14 +19,8 @@ use Rattle.host_runs.proofs.CheckpointSteps.{commit_ring_clause, commit_numbers,
 use Rattle.host_runs.proofs.GrowingFacts.{places_step, homes_step, numbers_step, plan_stays}
 use Rattle.host_runs.proofs.RingSteps.{sending, RingClause, next_clause, planned_numbers, planned_homes, planned_places, plan_goes_on, next_planned, is_some}
 use Rattle.host_runs.specs.laws.Homes.{IsApart}
-use Rattle.host_runs.specs.laws.RingFacts.{AreCommitted, PlaceFacts, HomeFacts, places_of, count, PlanFacts}
+use Rattle.host_runs.specs.laws.RingFacts.{transaction_of_plan, IsOnWay, IsAtRest, RingInPhase, RingKept, AreCommitted, PlaceFacts, HomeFacts, places_of, count, PlanFacts}
 use Rattle.host_runs.specs.laws.Written.{IsWord, AreWritten, IsWritable}
-use Rattle.log_model.specs.Marks.{Logged, Transaction, mark_in, transactions_from}
-use Rattle.order_model.specs.declared.note.Note.TheVariants.{Super, Commit, Home}
-use Rattle.std.proofs.Common.{sym, ap, subst, ◌∙◌, inl, inr, ⊎_elim, arith}
-use Rattle.std.proofs.lemmas.Bool.{false≢true}
-use Rattle.std.proofs.lemmas.Option.{none-some}
-use Rattle.std.specs.Prelude.{◌≡◌, ◌≢◌, ℕ, ◌+◌, ◌-◌, ◌≤◌, Bool, true, false, List, [], ◌∷◌, ◌++◌, length, Option, None, refl}
 
 count-append : (xs ys : List Planned) → count (xs ++ ys) ≡ count xs + count ys
 count-append [] ys = omega arith

@@ -1,6 +1,20 @@
 -- The requests of a plan, of a checkpoint, and its superblock: what each owes of the order rules, and what
 -- becomes of the facts.
+use Rattle.std.proofs.Common.{sym, ap, subst, ◌∙◌, inl, inr, ⊎_elim, arith, append_assoc, length-append, le-ltb}
+use Rattle.std.proofs.lemmas.Option.{none-some, same_Some}
+use Rattle.std.specs.Option.{option_and_then, unwrap_or}
+use Rattle.std.specs.Prelude.{◌≡◌, ℕ, ◌+◌, ◌≤◌, ◌⊎◌, true, List, [], ◌∷◌, ◌++◌, length, Option, Some, None, nat_lt, IsTrue, ◌||◌, refl}
 use Rattle.blk_base.specs.Members.{slice_get-length}
+use Rattle.order_model.specs.Submission.{is_flush, kind_body}
+use Rattle.order_model.specs.declared.note.Note.TheVariants.{Page, Super, Commit, Home, Flush, Raw}
+use Rattle.order_model.specs.declared.note.Note.{Note}
+use Rattle.order_model.specs.declared.request.Kind.TheVariants.{Put}
+use Rattle.order_model.specs.declared.request.Request.{Request}
+use Rattle.log_model.proofs.Marks.{keep≢set}
+use Rattle.log_model.proofs.Ring.{places_on-place}
+use Rattle.log_model.specs.Log.{Spells}
+use Rattle.log_model.specs.Marks.{Logged, Transaction, Set, mark_in, transactions_from}
+use Rattle.log_model.specs.Ring.{places_on}
 use Rattle.crash_laws.proofs.CommitSteps.{commit_order_step}
 use Rattle.crash_laws.proofs.Growing.{note_new, note_cases, log_within, log_cases, fence_new, request_new}
 use Rattle.crash_laws.proofs.LogBlocks.{filter_none, In-log_blocks}
@@ -14,20 +28,6 @@ use Rattle.host_machine.specs.Plan.{Planned}
 use Rattle.host_runs.proofs.GrowingFacts.{count_grown, bodies_grown, places_step, homes_step, numbers_step}
 use Rattle.host_runs.proofs.PlaceLaws.{next_place_is_freed}
 use Rattle.host_runs.specs.laws.RingFacts.{AreCommitted, PlaceFacts, HomeFacts, request_of, places_of, IsFirstSuper, IsNextLog, ArePlanned, count, if_log, log_bytes, EndsFenced, StartsWithSuper, IsClosed, PlanFacts}
-use Rattle.log_model.proofs.Marks.{keep≢set}
-use Rattle.log_model.proofs.Ring.{places_on-place}
-use Rattle.log_model.specs.Log.{Spells}
-use Rattle.log_model.specs.Marks.{Logged, Transaction, Set, mark_in, transactions_from}
-use Rattle.log_model.specs.Ring.{places_on}
-use Rattle.order_model.specs.Submission.{is_flush, kind_body}
-use Rattle.order_model.specs.declared.note.Note.TheVariants.{Page, Super, Commit, Home, Flush, Raw}
-use Rattle.order_model.specs.declared.note.Note.{Note}
-use Rattle.order_model.specs.declared.request.Kind.TheVariants.{Put}
-use Rattle.order_model.specs.declared.request.Request.{Request}
-use Rattle.std.proofs.Common.{sym, ap, subst, ◌∙◌, inl, inr, ⊎_elim, arith, append_assoc, length-append, le-ltb}
-use Rattle.std.proofs.lemmas.Option.{none-some, same_Some}
-use Rattle.std.specs.Option.{option_and_then, unwrap_or}
-use Rattle.std.specs.Prelude.{◌≡◌, ℕ, ◌+◌, ◌≤◌, ◌⊎◌, true, List, [], ◌∷◌, ◌++◌, length, Option, Some, None, nat_lt, IsTrue, ◌||◌, refl}
 
 -- a planned put goes out
 abbrev pub sending : (s : Session) → length s.notes ≡ length s.requests → Planned → (transactions : ℕ → Transaction) → ((k i : ℕ) → IsCommit s k i → transactions k ≡ s.transactions k) → Submitting

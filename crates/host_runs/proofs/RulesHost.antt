@@ -1,14 +1,25 @@
 -- Images and ring together: each request that the host submits keeps all order rules, and the facts.
-use Rattle.host_machine.specs.laws.Rules.{AllRules}
-use Rattle.host_runs.specs.laws.Kept.{KeepsRules}
+use Rattle.std.proofs.Common.{sym, ap, subst, ◌∙◌, inl, inr, ⊎_elim, arith, length-append}
+use Rattle.std.proofs.lemmas.Bool.{false≢true}
+use Rattle.std.proofs.lemmas.Option.{none-some}
+use Rattle.std.specs.Option.{unwrap_or}
+use Rattle.std.specs.Prelude.{◌≡◌, ℕ, ◌+◌, ◌-◌, ◌≤◌, ◌⊎◌, Bool, true, false, List, [], ◌∷◌, ◌++◌, length, Some, None, ◌||◌, refl}
+use Rattle.order_model.specs.Submission.{IsFence, kind_body}
+use Rattle.order_model.specs.declared.note.Note.TheVariants as notes
+use Rattle.order_model.specs.declared.note.Note.{Note}
+use Rattle.order_model.specs.declared.request.Kind.TheVariants as puts
+use Rattle.order_model.specs.declared.request.Request.{Request}
+use Rattle.log_model.specs.Marks.{Logged, Transaction}
+use Rattle.volume_ops.specs.Reads.{Reads}
+use Rattle.page_cache.specs.Pages.{page_at}
+use Rattle.page_cache.specs.declared.cached_page.CachedPage.{CachedPage}
 use Rattle.crash_laws.proofs.Growing.{fence_old, fence_new}
 use Rattle.crash_laws.proofs.ImageSteps.{page_order_step, data_before_commit_step}
 use Rattle.crash_laws.proofs.OrderSteps.{order_rules_step}
 use Rattle.crash_laws.specs.Clauses.{FitsClause, ImageClause, OrderClause}
 use Rattle.crash_laws.specs.History.{History}
 use Rattle.crash_laws.specs.PageClauses.{PageClause}
-use Rattle.crash_laws.specs.PageRules.{PageOrder, DataBeforeCommit}
-use Rattle.crash_laws.specs.Rules.{OrderRules, HasHeader}
+use Rattle.crash_laws.specs.Rules.{HasHeader}
 use Rattle.crash_laws.specs.Session.{Session, log_transaction}
 use Rattle.crash_laws.specs.Submitting.{Submitting, after}
 use Rattle.host_machine.proofs.Commits.{commit_owes, commit_owes_images, other_owes, other_owes_images, way_pushed}
@@ -19,26 +30,14 @@ use Rattle.host_machine.specs.Host.{send_planned, committed, checkpoint, send_pa
 use Rattle.host_machine.specs.Parts.{home_sent, all_home}
 use Rattle.host_machine.specs.Plan.{Planned}
 use Rattle.host_machine.specs.State.{Entry, Plan, Phase, Closing, Committing, Host, submit}
-use Rattle.host_machine.specs.laws.Contract.{Over, Contract, H, InPlan, InPhase, ImagesFacts, session, KeepsImages}
+use Rattle.host_machine.specs.laws.Contract.{Over, Contract, H, InPlan, InPhase, ImagesFacts, session}
 use Rattle.host_machine.specs.laws.PlanNotes.{is_plan_note, IsRestOf, BarrierAhead}
+use Rattle.host_machine.specs.laws.Rules.{AllRules}
 use Rattle.host_runs.proofs.CheckpointSteps.{home_request, super_request}
 use Rattle.host_runs.proofs.RingHost.{plan_request, plan_commit, home_goes, super_goes, other_kept}
 use Rattle.host_runs.proofs.RingSteps.{RingClause}
+use Rattle.host_runs.specs.laws.Kept.{KeepsRules}
 use Rattle.host_runs.specs.laws.RingFacts.{request_of, RingKept}
-use Rattle.log_model.specs.Marks.{Logged, Transaction}
-use Rattle.order_model.specs.Submission.{IsFence, kind_body}
-use Rattle.order_model.specs.declared.note.Note.TheVariants as notes
-use Rattle.order_model.specs.declared.note.Note.{Note}
-use Rattle.order_model.specs.declared.request.Kind.TheVariants as puts
-use Rattle.order_model.specs.declared.request.Request.{Request}
-use Rattle.page_cache.specs.Pages.{page_at}
-use Rattle.page_cache.specs.declared.cached_page.CachedPage.{CachedPage}
-use Rattle.std.proofs.Common.{sym, ap, subst, ◌∙◌, inl, inr, ⊎_elim, arith, length-append}
-use Rattle.std.proofs.lemmas.Bool.{false≢true}
-use Rattle.std.proofs.lemmas.Option.{none-some}
-use Rattle.std.specs.Option.{unwrap_or}
-use Rattle.std.specs.Prelude.{◌≡◌, ℕ, ◌+◌, ◌-◌, ◌≤◌, ◌⊎◌, Bool, true, false, List, [], ◌∷◌, ◌++◌, length, Some, None, ◌||◌, refl}
-use Rattle.volume_ops.specs.Reads.{Reads}
 
 pub all_rules_step : {A : Type 0} {program : Reads A} {h : History A} (p : Submitting) → AllRules program h p.session → RingClause p → ImageClause program p → PageClause program h p → AllRules program h (after p)
 all_rules_step {program = program} {h = h} p old ring images pages =

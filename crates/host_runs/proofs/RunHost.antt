@@ -1,23 +1,23 @@
 -- Runs of the host: what holds where it is opened holds after every step.
-use Rattle.std.specs.Prelude.{◌≡◌, ℕ, ◌+◌, ◌-◌, ◌≤◌, List, [], ◌∷◌, refl}
 use Rattle.std.proofs.Common.{sym, subst, ⊎_elim, arith}
+use Rattle.std.specs.Prelude.{ℕ, ◌+◌, ◌-◌, List, [], ◌∷◌, refl}
 use Rattle.blk_base.specs.Members.{In, slice_get-In}
-use Rattle.volume_ops.specs.Volume.{disk_of}
 use Rattle.volume_ops.specs.Reads.{blocks_read, AgreeOn}
 use Rattle.volume_ops.specs.ReadsLaws.{blocks_read-agree}
+use Rattle.volume_ops.specs.Volume.{disk_of}
+use Rattle.host_machine.proofs.Opening.{opened_keeps}
 use Rattle.host_machine.specs.Host.{opened}
 use Rattle.host_machine.specs.Parts.{LogRing}
-use Rattle.host_machine.specs.State.{Host, Thread}
+use Rattle.host_machine.specs.State.{Host}
 use Rattle.host_machine.specs.laws.Contract.{Over, Contract, H, session}
-use Rattle.host_machine.proofs.Opening.{opened_keeps}
-use Rattle.host_runs.specs.Opened.{IsOpened}
-use Rattle.host_runs.specs.Runs.{Event, Call, Commit, WriteBack, FlushStep, AreBegun, stepped, steps, IsWithin, AreWithin}
-use Rattle.host_runs.specs.laws.Kept.{HasRules, IsKept}
-use Rattle.host_runs.specs.laws.Written.{IsWord, AreWritten}
 use Rattle.host_runs.proofs.ActorHost.{writeback_rules, flush_step_rules, commit_step_rules}
 use Rattle.host_runs.proofs.CallerHost.{advance_rules}
 use Rattle.host_runs.proofs.StartHost.{ring_at_start, calls_at_start, flushes_at_start, none_begun}
 use Rattle.host_runs.proofs.Threads.{moved}
+use Rattle.host_runs.specs.Opened.{IsOpened}
+use Rattle.host_runs.specs.Runs.{Event, Call, Commit, WriteBack, FlushStep, stepped, steps, IsWithin, AreWithin}
+use Rattle.host_runs.specs.laws.Kept.{HasRules, IsKept}
+use Rattle.host_runs.specs.laws.Written.{IsWord, AreWritten}
 
 module _ {A T V C R : Type 0} {o : Over A T V C R} {Stands : V → T → Type 0} (contract : Contract o Stands) where
   pub opened_has : (v : V) (ring : LogRing) (zones limit : ℕ) (programs : List (List C)) → IsOpened o Stands v ring zones limit programs → IsKept contract (opened o.model o.setup v ring zones limit programs)

@@ -1,23 +1,22 @@
 -- A power cut in a host's session: what its facts give of a medium that keeps the order of barriers.
-use Rattle.std.specs.Prelude.{◌≡◌, ℕ, zero, suc, ◌+◌, ◌<◌, ◌≤◌, ◌⊎◌, true, false, List, [], length}
 use Rattle.std.proofs.Common.{sym, subst, ⊎_elim, arith}
+use Rattle.std.specs.Prelude.{◌≡◌, ℕ, zero, suc, ◌+◌, ◌<◌, ◌⊎◌, List, [], length}
+use Rattle.order_model.specs.Submission.{IsOrderClosed}
 use Rattle.log_model.specs.Marks.{Transaction}
-use Rattle.volume_ops.specs.Reads.{answer}
 use Rattle.volume_ops.specs.Volume.{disk_of}
-use Rattle.crash_laws.specs.Found.{found, IsFound}
-use Rattle.crash_laws.specs.History.{History, HasTrees}
-use Rattle.crash_laws.specs.Session.{Session, Medium, image_of}
 use Rattle.crash_laws.proofs.Commits.{kept_commits_are_prefix}
 use Rattle.crash_laws.proofs.Sentences.{prefix_and_versions, promises}
-use Rattle.order_model.specs.Submission.{IsOrderClosed}
+use Rattle.crash_laws.specs.Found.{found, IsFound}
+use Rattle.crash_laws.specs.History.{History, HasTrees}
+use Rattle.crash_laws.specs.Session.{Session, Medium}
+use Rattle.host_machine.proofs.Entries.{trees_noted}
 use Rattle.host_machine.specs.State.{Begun, Host}
 use Rattle.host_machine.specs.Views.{cut_of, tree_after}
 use Rattle.host_machine.specs.laws.Contract.{Over, Contract, H, IsAlike, session}
-use Rattle.host_machine.proofs.Entries.{trees_noted}
-use Rattle.host_runs.specs.Promises.{call_of, KeepsOk, IsAnswered}
-use Rattle.host_runs.specs.Sentences.{KeepsSentences, IsAllSettled}
-use Rattle.host_runs.specs.laws.Kept.{KeepsRules, IsKept}
 use Rattle.host_runs.proofs.Answered.{ok_as}
+use Rattle.host_runs.specs.Promises.{call_of, KeepsOk, IsAnswered}
+use Rattle.host_runs.specs.Sentences.{KeepsSentences}
+use Rattle.host_runs.specs.laws.Kept.{KeepsRules}
 
 module _ {A T V C R : Type 0} {o : Over A T V C R} {Stands : V → T → Type 0} (contract : Contract o Stands) (s : Host V C R) (txs : List Transaction) (N : ℕ) (kept : KeepsRules contract s txs N) where
   abbrev sess : Session

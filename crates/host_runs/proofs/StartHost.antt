@@ -1,26 +1,26 @@
 -- Where a session is opened, the facts of the ring and of calls hold.
-use Rattle.host_runs.specs.Runs.{AreBegun}
+use Rattle.std.proofs.Common.{sym, ap, subst, ◌∙◌, arith}
+use Rattle.std.proofs.lemmas.Bool.{false≢true}
+use Rattle.std.proofs.lemmas.Option.{none-some}
+use Rattle.std.specs.Option.{option_and_then}
+use Rattle.std.specs.Prelude.{◌≡◌, ℕ, zero, suc, ◌+◌, false, List, [], ◌∷◌, map, length, Some, None, slice_get, refl}
 use Rattle.blk_base.specs.Members.{In, In-map, map_some-slice_get}
+use Rattle.order_model.specs.declared.note.Note.TheVariants.{Commit, Home}
+use Rattle.order_model.specs.declared.note.Note.{Note}
+use Rattle.log_model.proofs.Marks.{keep≢set}
+use Rattle.log_model.specs.Ring.{places_on}
+use Rattle.page_cache.specs.declared.cached_page.CachedPage.{CachedPage}
 use Rattle.crash_laws.specs.History.{History}
 use Rattle.crash_laws.specs.Session.{Session, HasNote, log_transaction, LogBlock, log_blocks, log_blocks_from}
 use Rattle.host_machine.specs.Host.{no_wait}
 use Rattle.host_machine.specs.Model.{Kind}
 use Rattle.host_machine.specs.Parts.{LogRing}
 use Rattle.host_machine.specs.State.{Wait, Thread, Idle}
+use Rattle.host_runs.specs.Runs.{AreBegun}
 use Rattle.host_runs.specs.laws.CallFacts.{wait_of, AllCalls}
 use Rattle.host_runs.specs.laws.FlushFacts.{FlushFacts, count, is_open}
 use Rattle.host_runs.specs.laws.Homes.{IsRisingHomes}
 use Rattle.host_runs.specs.laws.RingFacts.{RingKept}
-use Rattle.log_model.proofs.Marks.{keep≢set}
-use Rattle.log_model.specs.Ring.{places_on}
-use Rattle.order_model.specs.declared.note.Note.TheVariants.{Commit, Home}
-use Rattle.order_model.specs.declared.note.Note.{Note}
-use Rattle.page_cache.specs.declared.cached_page.CachedPage.{CachedPage}
-use Rattle.std.proofs.Common.{sym, ap, subst, ◌∙◌, arith}
-use Rattle.std.proofs.lemmas.Bool.{false≢true}
-use Rattle.std.proofs.lemmas.Option.{none-some}
-use Rattle.std.specs.Option.{option_and_then}
-use Rattle.std.specs.Prelude.{◌≡◌, ℕ, zero, suc, ◌+◌, false, List, [], ◌∷◌, map, length, Some, None, slice_get, refl}
 
 -- an empty ring
 pub record IsFresh (s : Session) (ring : LogRing) : Type 0 where

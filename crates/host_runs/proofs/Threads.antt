@@ -1,28 +1,26 @@
 -- Each step does one move, and leaves it so that only barrier and sync calls have begun.
-use Rattle.std.specs.Prelude.{◌≡◌, ℕ, ◌+◌, ◌-◌, ◌==◌, ◌&&◌, ◌||◌, Bool, true, false, not, List, [], ◌∷◌, length, set, slice_get, slice_index_or, is_none, nat_lt, Option, Some, None, refl, if◌then◌else◌}
+use Rattle.std.proofs.Common.{ap, subst, ◌∙◌, ⊎_elim}
+use Rattle.std.proofs.lemmas.Option.{none-some}
 use Rattle.std.specs.List.{filter, list_any}
-use Rattle.std.proofs.Common.{sym, ap, subst, ◌∙◌, inl, inr, ⊎_elim}
-use Rattle.std.proofs.lemmas.Option.{none-some, same_Some}
-use Rattle.blk_base.specs.Members.{In, In-set_cases, slice_get-In}
+use Rattle.std.specs.Prelude.{◌≡◌, ℕ, ◌+◌, ◌==◌, ◌&&◌, ◌||◌, Bool, true, false, not, List, [], ◌∷◌, length, set, slice_get, slice_index_or, is_none, nat_lt, Option, Some, None, refl, if◌then◌else◌}
+use Rattle.blk_base.specs.Members.{In-set_cases, slice_get-In}
 use Rattle.order_model.specs.declared.completion.Completion.{Completion}
 use Rattle.order_model.specs.declared.turn.Turn.TheVariants as turns
 use Rattle.log_model.specs.Marks.{Logged}
-use Rattle.page_cache.specs.declared.cached_page.CachedPage.{CachedPage}
 use Rattle.page_cache.specs.Pages.{is_unsent, is_dirty}
+use Rattle.page_cache.specs.declared.cached_page.CachedPage.{CachedPage}
 use Rattle.host_machine.proofs.Steps.{either}
 use Rattle.host_machine.specs.Causes as causes
 use Rattle.host_machine.specs.Causes.{Cause}
-use Rattle.host_machine.specs.Outcomes as outcomes
-use Rattle.host_machine.specs.Host.{Stepped, Turned, Goal, AwaitCommit, AnswerOk, AwaitLastPut, unsent_on, goal_of, cause_of, no_wait, with_flush, take_completion, flush_due, set_wait, set_thread, send_page, end_with, hindrance, hindered, plain, begin, await_durable, await_last_put, await_commit, pursue, walk_pages, continue_begun, stop_of, step_call, step_thread, advance, submits, build_plan, checkpoint, close_step, plan_sent, in_phase, commit_step, writeback, flush_step, wanting, change}
+use Rattle.host_machine.specs.Host.{Stepped, Turned, Goal, AwaitCommit, AnswerOk, AwaitLastPut, unsent_on, goal_of, no_wait, with_flush, take_completion, flush_due, set_wait, set_thread, send_page, end_with, hindrance, hindered, plain, begin, await_durable, await_last_put, await_commit, pursue, walk_pages, continue_begun, stop_of, step_call, step_thread, advance, submits, build_plan, checkpoint, close_step, plan_sent, in_phase, commit_step, writeback, flush_step, wanting, change}
 use Rattle.host_machine.specs.Model.{Model, is_begun, is_data, is_durable, Freed, Applied}
+use Rattle.host_machine.specs.Outcomes as outcomes
 use Rattle.host_machine.specs.Parts.{has, first_page, least, log_needs, ring_free}
 use Rattle.host_machine.specs.Plan.{Planned}
-use Rattle.host_machine.specs.State.{Ending, Answered, SessionFull, Wait, Plan, Phase, Idle, Closing, Committing, Begun, Thread, Host, Setup, at_limit, is_over, is_flushed_after, flush_above, last_put, is_submitted}
-use Rattle.host_runs.specs.laws.Traces.{trace_of, Move, Stays, Puts, Enters, Cuts, Takes}
-use Rattle.order_model.specs.declared.note.Note.TheVariants as notes
-use Rattle.host_machine.specs.State.{Entry, What, Begins, Ends}
-use Rattle.host_runs.specs.Runs.{Event, Call, Commit, WriteBack, FlushStep, AreBegun, stepped}
+use Rattle.host_machine.specs.State.{Ending, Answered, SessionFull, Wait, Plan, Phase, Idle, Closing, Committing, Begun, Thread, Host, Setup, at_limit, is_over, is_flushed_after, flush_above, last_put, is_submitted, Begins, Ends}
 use Rattle.host_machine.specs.laws.Contract.{Over}
+use Rattle.host_runs.specs.Runs.{Event, Call, Commit, WriteBack, FlushStep, AreBegun, stepped}
+use Rattle.host_runs.specs.laws.Traces.{trace_of, Move, Stays, Puts, Enters, Cuts, Takes}
 
 same_head : {X : Type 0} (x y : X) (xs ys : List X) → x ∷ xs ≡ y ∷ ys → x ≡ y
 same_head {X = X} x y xs ys e = ap (λ l. elim l as (λ _. X) [ [] ↦ x | z ∷ zs ↦ z ]) e
@@ -95,9 +93,9 @@ module _ {T V C R : Type 0} (M : Model T V C R) (u : Setup) (s : Host V C R) (ol
             either After (at_limit s.journal.flush) _ _ (λ e. ends SessionFull)
             (λ d. either After full _ _ (λ e. stays)
             (λ d. (
-            put_thread t (record { calls = c ∷ rest; begun = Some (record b { list = next.1; sent_barrier = b.sent_barrier || (is_data b.kind && is_none (unsent_on s.pages next.1)) }) })
-                (λ x more y calls k. subst (λ z. is_begun (M.kind z) ≡ true) (same_head c x rest more calls) kind),
-            Puts _ _ refl,
+              put_thread t (record { calls = c ∷ rest; begun = Some (record b { list = next.1; sent_barrier = b.sent_barrier || (is_data b.kind && is_none (unsent_on s.pages next.1)) }) })
+                  (λ x more y calls k. subst (λ z. is_begun (M.kind z) ≡ true) (same_head c x rest more calls) kind),
+              Puts _ _ refl,
             )))
 
     begun_move : is_begun (M.kind c) ≡ true → (full : Bool) (w : Wait) (b : Begun) → After (continue_begun M u full s t c rest w b)

@@ -4,7 +4,6 @@ use Rattle.blk_base.specs.Members.{In}
 use Rattle.log_model.specs.Ring.{IsPlace}
 use Rattle.volume_ops.specs.Volume.{disk_of}
 use Rattle.crash_laws.specs.Rules.{BaseImage}
-use Rattle.crash_laws.specs.Session.{Session}
 use Rattle.host_machine.specs.Host.{opened}
 use Rattle.host_machine.specs.Parts.{LogRing}
 use Rattle.host_machine.specs.laws.Contract.{Over, session}

@@ -1,32 +1,14 @@
 -- What a barrier or sync call has when it is answered Ok.
-use Rattle.crash_laws.specs.PromiseRules.{CoversNothing}
+use Rattle.std.specs.Prelude.{◌≡◌, ℕ, ◌<◌, ◌≤◌, ◌⊎◌, true, false, not, List, Some, None, if◌then◌else◌, []}
 use Rattle.blk_base.specs.Members.{In}
-use Rattle.crash_laws.specs.History.{History, Calm}
-use Rattle.crash_laws.specs.PromiseRules.{IsSuperseded, AreHeld, BegunCall, Covers, CoversEntry}
-use Rattle.crash_laws.specs.Session.{Session, HasNote, IsCommit}
-use Rattle.host_machine.specs.Model.{is_data, is_whole}
-use Rattle.host_machine.specs.State.{Begun, Wait}
-use Rattle.order_model.specs.Submission.{IsOrdered, IsFence}
-use Rattle.order_model.specs.declared.note.Note.TheVariants.{Page}
-use Rattle.page_cache.specs.Pages.{page_at, is_unsent}
-use Rattle.page_cache.specs.declared.cached_page.CachedPage.{CachedPage}
-use Rattle.std.specs.Prelude.{◌≡◌, ℕ, ◌<◌, ◌≤◌, ◌⊎◌, true, false, not, List, Some, None, if◌then◌else◌}
-use Rattle.blk_base.specs.Members.{In, In-list_any}
-use Rattle.crash_laws.specs.History.{History, HasTrees}
-use Rattle.crash_laws.specs.PromiseRules.{KeepsBarrier, KeepsSync, Covers, CoversEntry}
-use Rattle.crash_laws.specs.Rules.{CommitOrder}
-use Rattle.crash_laws.specs.Session.{Session, IsCommit}
-use Rattle.host_machine.specs.Causes as causes
-use Rattle.host_machine.specs.Host.{Stepped, Goal, AwaitCommit, unsent_on, data_goal, goal_of, cause_of, end_with, await_durable, await_last_put, await_commit, pursue, walk_pages, continue_begun, set_wait, wanting, set_thread, send_page}
-use Rattle.host_machine.specs.Model.{Model, Kind, Reading, Changing, FileBarrier, DataBarrier, FileSync, DataSync, WholeSync, is_data, is_durable}
-use Rattle.host_machine.specs.Outcomes as outcomes
-use Rattle.host_machine.specs.State.{Answered, SessionFull, Phase, Idle, Closing, Committing, JournalPart, Begun, Wait, Host, Setup, at_limit, is_flushed_after, flush_above, last_put, is_submitted, latest_change}
-use Rattle.host_machine.specs.laws.Contract.{Over, H, session}
 use Rattle.order_model.specs.declared.completion.Completion.TheVariants as completions
 use Rattle.order_model.specs.declared.completion.Completion.{Completion}
-use Rattle.order_model.specs.declared.note.Note.TheVariants.{Page, Commit}
-use Rattle.std.specs.List.{list_any}
-use Rattle.std.specs.Prelude.{◌≡◌, ℕ, ◌+◌, ◌<◌, ◌≤◌, ◌==◌, ◌&&◌, ◌||◌, ◌⊎◌, Bool, true, false, not, List, [], ◌∷◌, length, Option, Some, None, is_none, nat_lt, if◌then◌else◌, refl}
+use Rattle.crash_laws.specs.History.{History}
+use Rattle.crash_laws.specs.PromiseRules.{CoversNothing, BegunCall, Covers, CoversEntry, KeepsBarrier, KeepsSync}
+use Rattle.crash_laws.specs.Session.{Session, IsCommit}
+use Rattle.host_machine.specs.Model.{is_data, is_whole, is_durable}
+use Rattle.host_machine.specs.State.{Begun, Host}
+use Rattle.host_machine.specs.laws.Contract.{Over, H, session}
 
 -- what the call covers
 abbrev pub call_of : Begun → BegunCall

@@ -1,10 +1,10 @@
 -- What a power cut leaves of a host's session, on a medium that keeps the order of barriers.
 use Rattle.std.specs.Prelude.{◌≡◌, ℕ, ◌≤◌, true, false, List, length}
 use Rattle.blk_base.specs.Members.{In}
-use Rattle.order_model.specs.declared.completion.Completion.{Completion}
 use Rattle.order_model.specs.Submission.{IsOrderClosed, KeepsFlushed}
-use Rattle.volume_ops.specs.Reads.{answer}
+use Rattle.order_model.specs.declared.completion.Completion.{Completion}
 use Rattle.log_model.specs.Marks.{Transaction}
+use Rattle.volume_ops.specs.Reads.{answer}
 use Rattle.crash_laws.specs.Found.{found}
 use Rattle.crash_laws.specs.Headline.{HoldsPrefix}
 use Rattle.crash_laws.specs.PromiseRules.{Covers, CoversEntry, IsSettled, IsLaterKept}

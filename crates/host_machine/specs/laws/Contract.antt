@@ -1,5 +1,12 @@
 -- What the host is promised of trees and volumes, and what it keeps of images: over its own components.
+use Rattle.std.specs.Prelude.{◌≡◌, ℕ, ◌+◌, ◌-◌, ◌<◌, ◌≤◌, ◌⊎◌, true, false, List, length, Option, Some, None, nat_lt}
 use Rattle.blk_base.specs.Members.{In}
+use Rattle.order_model.specs.Submission.{IsFence}
+use Rattle.log_model.specs.Log.{Format}
+use Rattle.log_model.specs.Marks.{Transaction}
+use Rattle.volume_ops.specs.Reads.{Reads, answer, blocks_read}
+use Rattle.page_cache.specs.Pages.{IsRising}
+use Rattle.page_cache.specs.declared.cached_page.CachedPage.{CachedPage}
 use Rattle.crash_laws.specs.History.{History}
 use Rattle.crash_laws.specs.Session.{Session, image_of}
 use Rattle.host_machine.specs.Model.{Model, is_begun, FileBlock, Touched}
@@ -7,13 +14,6 @@ use Rattle.host_machine.specs.State.{Entry, Plan, Phase, Idle, Closing, Committi
 use Rattle.host_machine.specs.Views.{cut_of, tree_after, history_of, waits_for, session_of}
 use Rattle.host_machine.specs.laws.Facts.{View, Numbers, Present, Bodies, PlanRevokes, KeepsPlaces, PagesMapped, PagesSent, ZoneHistory, Altered, OnItsWay}
 use Rattle.host_machine.specs.laws.PlanNotes.{IsRestOf, BarrierAhead}
-use Rattle.log_model.specs.Log.{Format}
-use Rattle.log_model.specs.Marks.{Transaction}
-use Rattle.order_model.specs.Submission.{IsFence}
-use Rattle.page_cache.specs.Pages.{IsRising}
-use Rattle.page_cache.specs.declared.cached_page.CachedPage.{CachedPage}
-use Rattle.std.specs.Prelude.{◌≡◌, ℕ, ◌+◌, ◌-◌, ◌<◌, ◌≤◌, ◌⊎◌, true, false, List, length, Option, Some, None, nat_lt}
-use Rattle.volume_ops.specs.Reads.{Reads, answer, blocks_read}
 
 -- what the tree model keeps
 pub record TreeLaws {T V C R : Type 0} (M : Model T V C R) : Type 0 where

@@ -1,18 +1,18 @@
 -- The facts of the host's state about the images of its transactions, each over the components that it speaks
 -- of. `now` is the number of the last entry, r the running transaction, and N transactions are submitted.
+use Rattle.std.specs.Prelude.{◌≡◌, ℕ, ◌+◌, ◌-◌, ◌<◌, ◌≤◌, ◌⊎◌, Bool, true, false, List, Option, Some, None}
 use Rattle.blk_base.specs.Members.{In}
+use Rattle.order_model.specs.Submission.{IsOrdered}
+use Rattle.order_model.specs.declared.note.Note.TheVariants.{Page}
+use Rattle.log_model.specs.Marks.{Set, mark_in, transactions_from}
+use Rattle.volume_ops.specs.Reads.{Reads, answer, blocks_read}
+use Rattle.page_cache.specs.Pages.{page_at}
+use Rattle.page_cache.specs.declared.cached_page.CachedPage.{CachedPage}
+use Rattle.page_cache.specs.declared.cached_page.PageState.TheVariants.{Clean, Firm}
 use Rattle.crash_laws.specs.History.{History, IsUnmapped, Calm, last_write}
 use Rattle.crash_laws.specs.PageRules.{IsPageTo, place_at}
 use Rattle.crash_laws.specs.Session.{Session, HasNote, IsCommit, image_of}
 use Rattle.host_machine.specs.Model.{FileBlock, Touched}
-use Rattle.log_model.specs.Marks.{Set, mark_in, transactions_from}
-use Rattle.order_model.specs.Submission.{IsOrdered}
-use Rattle.order_model.specs.declared.note.Note.TheVariants.{Page}
-use Rattle.page_cache.specs.Pages.{page_at}
-use Rattle.page_cache.specs.declared.cached_page.CachedPage.{CachedPage}
-use Rattle.page_cache.specs.declared.cached_page.PageState.TheVariants.{Clean, Firm}
-use Rattle.std.specs.Prelude.{◌≡◌, ℕ, ◌+◌, ◌-◌, ◌<◌, ◌≤◌, ◌⊎◌, Bool, true, false, List, Option, Some, None}
-use Rattle.volume_ops.specs.Reads.{Reads, answer, blocks_read}
 
 -- what is seen of a volume: its blocks, which of them are metadata, the blocks of pages, and the transaction
 -- that a freed zone waits for

@@ -1,7 +1,7 @@
 -- What is left of a plan: log blocks and superblocks, and the commit block at its end.
 use Rattle.std.specs.Prelude.{◌≡◌, ℕ, ◌⊎◌, Bool, true, false, List, [], ◌∷◌}
-use Rattle.order_model.specs.declared.note.Note.{Note}
 use Rattle.order_model.specs.declared.note.Note.TheVariants as notes
+use Rattle.order_model.specs.declared.note.Note.{Note}
 use Rattle.host_machine.specs.Plan.{Planned}
 
 abbrev pub is_plan_note : Note → Bool

@@ -1,7 +1,7 @@
 -- The order rules of a host's session, but for that of barrier and sync calls.
 use Rattle.std.specs.Prelude.{ℕ, List}
-use Rattle.volume_ops.specs.Reads.{Reads}
 use Rattle.log_model.specs.Marks.{Transaction}
+use Rattle.volume_ops.specs.Reads.{Reads}
 use Rattle.crash_laws.specs.History.{History}
 use Rattle.crash_laws.specs.PageRules.{PageOrder, DataBeforeCommit}
 use Rattle.crash_laws.specs.Rules.{OrderRules}

@@ -1,30 +1,17 @@
 -- What the host keeps of barrier and sync calls that have begun and not ended.
-use Rattle.host_runs.specs.Promises.{call_of}
+use Rattle.std.specs.Prelude.{◌≡◌, ℕ, ◌<◌, ◌≤◌, ◌⊎◌, true, false, List, Some, None, length, slice_get, slice_index_or}
 use Rattle.blk_base.specs.Members.{In}
-use Rattle.crash_laws.specs.History.{History, Calm}
-use Rattle.crash_laws.specs.PromiseRules.{IsSuperseded, AreHeld, BegunCall, Covers, CoversEntry}
-use Rattle.crash_laws.specs.Session.{Session, HasNote, IsCommit}
-use Rattle.host_machine.specs.Model.{is_data, is_whole}
-use Rattle.host_machine.specs.State.{Begun, Wait}
 use Rattle.order_model.specs.Submission.{IsOrdered, IsFence}
 use Rattle.order_model.specs.declared.note.Note.TheVariants.{Page}
 use Rattle.page_cache.specs.Pages.{page_at, is_unsent}
 use Rattle.page_cache.specs.declared.cached_page.CachedPage.{CachedPage}
-use Rattle.std.specs.Prelude.{◌≡◌, ℕ, ◌<◌, ◌≤◌, ◌⊎◌, true, false, not, List, Some, None, if◌then◌else◌}
-use Rattle.blk_base.specs.Members.{In, slice_get-length, slice_get-set_same, slice_get-set_other}
-use Rattle.crash_laws.specs.History.{History, IsUnmapped, HasTrees}
-use Rattle.crash_laws.specs.PromiseRules.{AreHeld}
-use Rattle.crash_laws.specs.Session.{Session, IsCommit}
-use Rattle.crash_laws.specs.Submitting.{Submitting, after}
-use Rattle.host_machine.specs.Host.{no_wait, need_commit, dropped_pages, written_pages}
-use Rattle.host_machine.specs.Model.{Model, FileBlock, FileSync, WholeSync}
-use Rattle.host_machine.specs.State.{Begun, Wait, Thread, Setup}
-use Rattle.host_machine.specs.laws.Facts.{View, IsPlain, Numbers, PagesMapped}
-use Rattle.log_model.specs.Marks.{Transaction}
-use Rattle.page_cache.specs.Pages.{page_at, put_page, marked, is_unsent}
-use Rattle.page_cache.specs.declared.cached_page.PageState.{PageState}
-use Rattle.std.specs.Prelude.{◌≡◌, ◌≢◌, ℕ, zero, suc, ◌+◌, ◌-◌, ◌<◌, ◌==◌, ◌&&◌, ◌⊎◌, Bool, true, false, List, [], ◌∷◌, length, map, set, Option, Some, None, slice_get, slice_index_or, IsTrue, if◌then◌else◌, refl}
-use Rattle.volume_ops.specs.Reads.{Reads}
+use Rattle.crash_laws.specs.History.{History, Calm}
+use Rattle.crash_laws.specs.PromiseRules.{IsSuperseded, AreHeld, Covers, CoversEntry}
+use Rattle.crash_laws.specs.Session.{Session, HasNote, IsCommit}
+use Rattle.host_machine.specs.Host.{no_wait}
+use Rattle.host_machine.specs.Model.{is_data}
+use Rattle.host_machine.specs.State.{Begun, Wait, Thread}
+use Rattle.host_runs.specs.Promises.{call_of}
 
 -- An ordered request of the page (f, i) with a version of at least n is submitted, at a good place.
 pub record IsSent (s : Session) (Good : ℕ → Type 0) (f i n : ℕ) : Type 0 where
@@ -94,7 +81,6 @@ pub record CallFacts {A : Type 0} (h : History A) (s : Session) (pages : List Ca
   pub need : (id : ℕ) → w.need ≡ Some id → IsHeldAt h s b id
   -- a call that covers metadata needs a request at or behind its target's commit block
   pub cause : (id : ℕ) → w.need ≡ Some id → is_data b.kind ≡ false → IsBehindTarget s w id
-
 
 abbrev pub wait_of : List Wait → ℕ → Wait
 wait_of waits t = slice_index_or waits t no_wait

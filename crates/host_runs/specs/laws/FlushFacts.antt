@@ -1,12 +1,9 @@
 -- What the host keeps of flushes: each is charged to the Begin of a sync call.
-use Rattle.blk_base.specs.Members.{In, In-list_any, In-set_cases, In-map}
-use Rattle.host_machine.specs.Host.{is_due, flush_due, need_commit}
-use Rattle.host_machine.specs.Model.{Kind, Reading, Changing, FileBarrier, DataBarrier, FileSync, DataSync, WholeSync, is_durable}
-use Rattle.host_machine.specs.State.{Begins, Ends, Entry, Wait, FlushPart, is_flush_note, flush_above, is_moved, is_over}
-use Rattle.order_model.specs.declared.note.Note.TheVariants as notes
+use Rattle.std.specs.Prelude.{◌≡◌, ℕ, ◌+◌, ◌<◌, ◌≤◌, ◌&&◌, Bool, true, false, not, List, [], ◌∷◌, length, Some, None}
+use Rattle.blk_base.specs.Members.{In}
 use Rattle.order_model.specs.declared.note.Note.{Note}
-use Rattle.std.specs.List.{list_any}
-use Rattle.std.specs.Prelude.{◌≡◌, ℕ, zero, suc, ◌+◌, ◌<◌, ◌≤◌, ◌==◌, ◌&&◌, ◌||◌, ◌⊎◌, Bool, true, false, not, List, [], ◌∷◌, ◌++◌, length, map, set, Option, Some, None, slice_get, nat_lt, if◌then◌else◌, refl}
+use Rattle.host_machine.specs.Model.{Kind, is_durable}
+use Rattle.host_machine.specs.State.{Begins, Ends, Entry, Wait, is_flush_note, flush_above}
 
 abbrev pub one_if : Bool → ℕ
 one_if true = 1

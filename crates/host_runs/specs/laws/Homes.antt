@@ -1,9 +1,9 @@
 -- Bodies that are still to be sent home.
-use Rattle.blk_base.specs.Members.{In, In-filter, filter-In, In-list_any, IsAscending, IsAscending-filter}
-use Rattle.host_machine.specs.Parts.{has, put_home, put_homes}
-use Rattle.log_model.specs.Marks.{Mark, Keep, Clear, Set, followed, Logged, Transaction, bodies_mark, transaction_mark}
 use Rattle.std.specs.List.{filter}
-use Rattle.std.specs.Prelude.{◌≡◌, ◌≢◌, ℕ, ◌<◌, ◌==◌, ◌⊎◌, Bool, true, false, not, List, [], ◌∷◌, nat_lt, if◌then◌else◌, refl}
+use Rattle.std.specs.Prelude.{ℕ, not, List}
+use Rattle.blk_base.specs.Members.{In, IsAscending}
+use Rattle.log_model.specs.Marks.{Logged, Transaction}
+use Rattle.host_machine.specs.Parts.{has, put_homes}
 
 -- the homes that a transaction does not revoke, and what a commit block leaves
 abbrev pub unrevoked : List ℕ → List Logged → List Logged

@@ -5,9 +5,9 @@ use Rattle.host_machine.specs.State.{Host}
 use Rattle.host_machine.specs.laws.Contract.{Over, Contract, H, session, KeepsImages}
 use Rattle.host_machine.specs.laws.Rules.{AllRules}
 use Rattle.host_runs.specs.Runs.{AreBegun}
-use Rattle.host_runs.specs.laws.RingFacts.{RingKept}
 use Rattle.host_runs.specs.laws.CallFacts.{AllCalls}
 use Rattle.host_runs.specs.laws.FlushFacts.{FlushFacts}
+use Rattle.host_runs.specs.laws.RingFacts.{RingKept}
 
 -- `txs` are the bodies and revokes of its closed transactions, and N of them are submitted
 pub record KeepsRules {A T V C R : Type 0} {o : Over A T V C R} {Stands : V → T → Type 0} (contract : Contract o Stands) (s : Host V C R) (txs : List Transaction) (N : ℕ) : Type 0 where

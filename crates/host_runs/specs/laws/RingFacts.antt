@@ -1,31 +1,22 @@
 -- What the host keeps of its ring, of its checkpoint and of the plan on its way, over the submitted list.
+use Rattle.std.specs.Prelude.{◌≡◌, ℕ, ◌+◌, ◌-◌, ◌<◌, ◌≤◌, ◌⊎◌, ⊤, true, List, [], ◌∷◌, ◌++◌, length, Option, Some, None, slice_get, false}
 use Rattle.blk_base.specs.Members.{In}
+use Rattle.order_model.specs.Submission.{IsPutWith, IsFence}
+use Rattle.order_model.specs.declared.note.Note.TheVariants.{Super, Commit, Home}
+use Rattle.order_model.specs.declared.note.Note.{Note}
+use Rattle.order_model.specs.declared.request.Kind.TheVariants.{Put}
+use Rattle.order_model.specs.declared.request.Request.{Request}
+use Rattle.log_model.specs.Log.{Spells}
+use Rattle.log_model.specs.Marks.{Logged, Transaction, Set, mark_in, transactions_from}
+use Rattle.log_model.specs.Ring.{places_on}
 use Rattle.crash_laws.specs.Ordering.{IsClosedOff}
 use Rattle.crash_laws.specs.Rules.{HasHeader}
 use Rattle.crash_laws.specs.Session.{Session, HasNote, log_transaction, IsLog, IsCommit, CommitBefore, LogBlock, with_log_block, log_blocks, log_blocks_of, bodies_of, sequence_of, IsSuperOf}
 use Rattle.crash_laws.specs.Submitting.{IsCommitted}
 use Rattle.host_machine.specs.Parts.{LogRing}
 use Rattle.host_machine.specs.Plan.{Planned}
-use Rattle.host_runs.specs.laws.Homes.{IsRisingHomes}
-use Rattle.log_model.specs.Log.{Spells}
-use Rattle.log_model.specs.Marks.{Logged, Transaction, Set, mark_in, transactions_from}
-use Rattle.log_model.specs.Ring.{places_on}
-use Rattle.order_model.specs.Submission.{IsPutWith, IsFence}
-use Rattle.order_model.specs.declared.note.Note.TheVariants.{Super, Commit, Home}
-use Rattle.order_model.specs.declared.note.Note.{Note}
-use Rattle.order_model.specs.declared.request.Kind.TheVariants.{Put}
-use Rattle.order_model.specs.declared.request.Request.{Request}
-use Rattle.std.specs.Prelude.{◌≡◌, ℕ, ◌+◌, ◌-◌, ◌<◌, ◌≤◌, ◌⊎◌, ⊤, true, List, [], ◌∷◌, ◌++◌, length, Option, Some, None, slice_get}
-use Rattle.crash_laws.specs.Clauses.{CommitClause}
-use Rattle.crash_laws.specs.Rules.{CommitOrder, LogLayout, CheckpointOrder}
-use Rattle.crash_laws.specs.Session.{Session, log_transaction, with_log_block, IsSuperOf}
-use Rattle.crash_laws.specs.Submitting.{Submitting, after}
-use Rattle.host_machine.specs.Parts.{LogRing, log_blocks_for, ring_free, place_blocks, commit_bodies, home_sent, all_home}
-use Rattle.host_machine.specs.Plan.{Writers, Planned, plan_of}
 use Rattle.host_machine.specs.State.{Plan, Phase, Idle, Closing, Committing}
-use Rattle.host_runs.specs.laws.Homes.{IsApart}
-use Rattle.log_model.specs.Marks.{Logged, Transaction, mark_in, transactions_from}
-use Rattle.std.specs.Prelude.{◌≡◌, ◌≢◌, ℕ, ◌+◌, ◌-◌, ◌≤◌, Bool, true, false, List, [], ◌∷◌, ◌++◌, length, Option, None, refl}
+use Rattle.host_runs.specs.laws.Homes.{IsRisingHomes, IsApart}
 
 -- The commit blocks of transactions 1 to N are submitted, and no others. The log blocks are of transactions up
 -- to M: that is N, or N + 1 while the next one is on its way.
@@ -131,7 +122,6 @@ pub record PlanFacts (s : Session) (k : ℕ) (t : Transaction) (start : ℕ) (re
   pub begun : start ≤ length s.notes
   pub first : k ≡ 1 → ((i : ℕ) × IsSuperOf s i 0) ⊎ StartsWithSuper before
   pub spells : Spells s.format (sequence_of s k) (bodies_of s (log_blocks_of k (log_blocks s)) ++ (log_bytes before ++ commit.body ∷ [])) t
-
 
 abbrev pub transaction_of_plan : Plan → Transaction
 transaction_of_plan p = record { bodies = p.bodies; revokes = p.revokes }

@@ -1,9 +1,9 @@
 -- What others see of a host: its calls and cuts, what it submitted, and the completions that it took; and how one step
 -- changes it.
 use Rattle.std.specs.Prelude.{◌≡◌, ℕ, List, [], ◌∷◌, ◌++◌, length}
-use Rattle.order_model.specs.declared.request.Request.{Request}
-use Rattle.order_model.specs.declared.note.Note.{Note}
 use Rattle.order_model.specs.declared.completion.Completion.{Completion}
+use Rattle.order_model.specs.declared.note.Note.{Note}
+use Rattle.order_model.specs.declared.request.Request.{Request}
 use Rattle.host_machine.specs.State.{Entry, Host}
 
 pub record Trace (C R : Type 0) : Type 0 where

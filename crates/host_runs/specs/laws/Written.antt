@@ -1,14 +1,9 @@
 -- What the writers of the journal's blocks owe: what they write is read back.
-use Rattle.blk_base.specs.Members.{In, In-append_left, In-append_right, In-append_cases, In-map}
-use Rattle.crash_laws.specs.Rules.{HasHeader}
-use Rattle.crash_laws.specs.Session.{log_transaction}
-use Rattle.host_machine.specs.Parts.{parts_needed, log_blocks_for}
-use Rattle.host_machine.specs.Plan.{Writers, UnplacedBlock, chunks_from, chunks, revoke_block, body_block, described, all_described, logged_blocks}
-use Rattle.log_model.specs.Log.{Tag, Plain, Describes, Revokes, Commits, Format, Spells}
+use Rattle.std.specs.Prelude.{◌≡◌, ℕ, ◌<◌, ◌≤◌, List, length}
+use Rattle.blk_base.specs.Members.{In}
+use Rattle.log_model.specs.Log.{Tag, Plain, Describes, Revokes, Commits, Format}
 use Rattle.log_model.specs.Marks.{Logged, Transaction}
-use Rattle.log_model.specs.Parts.{Part, Describing, Revoking, restored, IsPart, AreParts, blocks_of_parts, bodies_of_parts, revokes_of_parts}
-use Rattle.order_model.specs.declared.note.Note.TheVariants.{Commit}
-use Rattle.std.specs.Prelude.{◌≡◌, ℕ, zero, suc, ◌+◌, ◌-◌, ◌*◌, ◌<◌, ◌≤◌, List, [], ◌∷◌, ◌++◌, map, length, Some, refl}
+use Rattle.host_machine.specs.Plan.{Writers}
 
 abbrev pub IsWord : ℕ → Type 0
 IsWord n = n < 4294967296

@@ -30,8 +30,8 @@ pub fn runs_keep_the_rules<A, T, V, C, R>()
         AreWritten o.format o.setup.writers → IsOpened o (StandsAs tree) v ring zones limit programs →
         AreWithin o (opened o.model o.setup v ring zones limit programs) es →
         (txs : List Transaction) × AllRules o.program
-            (H o (StandsAs tree) (steps o (opened o.model o.setup v ring zones limit programs) es).history (steps o (opened o.model o.setup v ring zones limit programs) es).cuts)
-            (session o (StandsAs tree) txs (steps o (opened o.model o.setup v ring zones limit programs) es)) }
+        (H o (StandsAs tree) (steps o (opened o.model o.setup v ring zones limit programs) es).history (steps o (opened o.model o.setup v ring zones limit programs) es).cuts)
+        (session o (StandsAs tree) txs (steps o (opened o.model o.setup v ring zones limit programs) es)) }
     ensures kept { (o : Over A T V C R) (tree : V → Option T) (contract : Contract o (StandsAs tree)) (s : Host V C R) (es : List Event) →
         AreWritten o.format o.setup.writers → IsKept contract s → AreWithin o s es → IsKept contract (steps o s es) }
 {}

@@ -1,5 +1,5 @@
-use Rattle.host_machine.proofs.Steps.{advance_keeps}
 use Rattle.host_machine.proofs.ActorSteps.{writeback_keeps_rules}
+use Rattle.host_machine.proofs.Steps.{advance_keeps}
 use Rattle.host_machine.proofs.laws.steps.pages_keep_the_rules_by_themselves.Goals as goal
 
 pub returns : goal.returns
