@@ -1,5 +1,4 @@
--- A small volume that keeps what the host is promised: one file of at most one block, and one block of metadata
--- that says whether the file has it. So the promises can be kept together.
+-- The small volume keeps what the host is promised, so the promises can be kept together.
 use Rattle.std.proofs.Common.{sym, ap, subst, ◌∙◌, inl, inr, arith, eqb-true}
 use Rattle.std.proofs.lemmas.Bool.{false≢true, and_parts}
 use Rattle.std.proofs.lemmas.Option.{none-some, same_Some}
@@ -17,141 +16,8 @@ use Rattle.host_machine.specs.State.{Host, Thread}
 use Rattle.host_machine.specs.Views.{waits_for}
 use Rattle.host_machine.specs.laws.Contract.{TreeLaws, Over, StandsFor, Tells, Contract}
 use Rattle.host_machine.specs.laws.Rules.{Keeps}
-
-pub data Call : Type 0 where
-  WriteIt : Call
-  RemoveIt : Call
-  Look : Call
-  Barrier : Call
-
--- the file's block, where it has one
-abbrev Tree : Type 0
-Tree = Option (List ℕ)
-
--- with the transaction that the zone waits for
-pub record Volume : Type 0 where
-  pub tree : Tree
-  pub waits : Option ℕ
-
-abbrev is_it : ℕ → ℕ → Bool
-is_it f i = f == 1 && i == 0
-
-abbrev has_block : Tree → Bool
-has_block None = false
-has_block (Some x) = true
-
-abbrev body : Tree → List ℕ
-body None = []
-body (Some x) = x
-
-abbrev the_page : FileBlock
-the_page = record { birth = 1; index = 0; block = 7 }
-
-abbrev waiting_of : Option ℕ → List Freed
-waiting_of None = []
-waiting_of (Some k) = record { zone = 7; transaction = k } ∷ []
-
-abbrev free_of : Tree → Option ℕ → List ℕ
-free_of None None = 7 ∷ []
-free_of t w = []
-
-abbrev acts : Tree → ℕ → Call → Tree
-acts t n WriteIt = Some (n ∷ [])
-acts t n RemoveIt = None
-acts t n Look = t
-acts t n Barrier = t
-
-abbrev kind_of : Call → Kind
-kind_of WriteIt = Changing
-kind_of RemoveIt = Changing
-kind_of Look = Reading
-kind_of Barrier = FileBarrier
-
-abbrev alters : Call → ℕ → Bool
-alters WriteIt f = f == 1
-alters RemoveIt f = f == 1
-alters Look f = false
-alters Barrier f = false
-
-abbrev writes : Call → ℕ → ℕ → Bool
-writes WriteIt f i = is_it f i
-writes other f i = false
-
-abbrev needs : Call → Tree → ℕ
-needs WriteIt None = 1
-needs other t = 0
-
-abbrev nothing : Touched
-nothing = record { blocks = []; freed = []; revoked = []; pages = []; dropped = []; nodes = [] }
-
-abbrev removed : Volume → ℕ → Tree → Applied Volume ℕ
-removed v r None = record { volume = v; reply = 0; touched = record { blocks = 1 ∷ []; freed = []; revoked = []; pages = []; dropped = []; nodes = 1 ∷ [] } }
-removed v r (Some x) = record { volume = record { tree = None; waits = Some r }; reply = 0; touched = record { blocks = 1 ∷ []; freed = 7 ∷ []; revoked = []; pages = []; dropped = the_page ∷ []; nodes = 1 ∷ [] } }
-
-abbrev applied : Volume → ℕ → ℕ → Call → Applied Volume ℕ
-applied v n r WriteIt = record { volume = record { tree = Some (n ∷ []); waits = v.waits }; reply = 0; touched = record { blocks = 1 ∷ []; freed = []; revoked = []; pages = the_page ∷ []; dropped = []; nodes = 1 ∷ [] } }
-applied v n r RemoveIt = removed v r v.tree
-applied v n r Look = record { volume = v; reply = 0; touched = nothing }
-applied v n r Barrier = record { volume = v; reply = 0; touched = nothing }
-
-abbrev released : Option ℕ → ℕ → Option ℕ
-released None k = None
-released (Some j) k = if j == k then None else Some j
-
-abbrev bytes_of : Tree → ℕ → List ℕ
-bytes_of t b = if b == 1 then (if has_block t then 1 else 0) ∷ [] else if b == 7 then body t else []
-
-abbrev zone_of : Tree → ℕ → ℕ → Option ℕ
-zone_of t f i = if is_it f i && has_block t then Some 7 else None
-
-abbrev model : Model Tree Volume Call ℕ
-model = record {
-  kind = kind_of;
-  ok = 0;
-  root = None;
-  call = acts;
-  maps = λ t f i. is_it f i && has_block t;
-  content = λ t f i. body t;
-  writes = λ t c f i. writes c f i;
-  alters = λ t n c f. alters c f;
-  reply = λ v c. None;
-  hinders = λ v c. is_changing c;
-  needs = λ v c. needs c v.tree;
-  apply = applied;
-  node = λ v c. 1;
-  zones = λ v. record { free = free_of v.tree v.waits; waiting = waiting_of v.waits };
-  release = λ v k. record { tree = v.tree; waits = released v.waits k };
-  bytes = λ v b. bytes_of v.tree b;
-  metadata = λ v b. b == 1;
-  zone = λ v f i. zone_of v.tree f i;
-}
-  where
-    is_changing : Call → Bool
-    is_changing WriteIt = true
-    is_changing RemoveIt = true
-    is_changing other = false
-
-abbrev over : Over (List ℕ) Tree Volume Call ℕ
-over = record {
-  model = model;
-  setup = record {
-    journal = 8;
-    sequence = 1;
-    writers = record { super = λ seq start. []; revoke = λ seq blocks. []; descriptor = λ seq tags. []; commit = λ seq. []; stored = λ b. b; is_escaped = λ b. false };
-    zmap = 1;
-    quota = 31;
-  };
-  program = Read 1 (λ b. Ret b);
-  place = λ a t f i. 7;
-  base = [] ∷ (0 ∷ []) ∷ [];
-  format = record { header = λ b. Plain; restore = λ tag b. b; tail = λ b. record { sequence = 0; start = 0 } };
-  reserved = 1 ∷ [];
-}
-
--- the tree is the volume's, and the zone of the file's block does not wait
-pub record Stands (v : Volume) (t : Tree) : Type 0 where
-  pub same : v.tree ≡ t
-  pub free : (x : List ℕ) → v.tree ≡ Some x → v.waits ≡ None
+use Rattle.host_machine.specs.Sample.{Call, Tree, Volume, is_it, has_block, body, the_page, waiting_of, free_of, acts, kind_of, alters, writes, needs, nothing, removed, applied, released, bytes_of, zone_of, model, over, Stands, ring, empty, begun_host, WriteIt, RemoveIt, Look, Barrier, told, both_done}
+use Rattle.host_machine.specs.laws.Contract.{StandsAs}
 
 zone-parts : (t : Tree) (f i z : ℕ) → zone_of t f i ≡ Some z → (is_it f i && has_block t ≡ true) × (7 ≡ z)
 zone-parts t f i z e = by (is_it f i && has_block t) refl e
@@ -416,15 +282,6 @@ contract = record {
 
 -- ---- a session over it keeps the facts and the rules
 
-abbrev ring : LogRing
-ring = record { places = record { first = 1; past = 128 }; head = 1; used = 0; started = false; homes = [] }
-
-abbrev empty : Volume
-empty = record { tree = None; waits = None }
-
-abbrev begun_host : Host Volume Call ℕ
-begun_host = opened model over.setup empty ring 8 100 ((WriteIt ∷ RemoveIt ∷ []) ∷ [])
-
 pub begun_keeps : Keeps over Stands begun_host [] 0
 begun_keeps =
     opened_keeps contract empty ring 8 100 ((WriteIt ∷ RemoveIt ∷ []) ∷ [])
@@ -435,9 +292,42 @@ begun_keeps =
     (λ b i. i)
 
 -- after both calls, the file is written and removed
-pub both_keep : Keeps over Stands (advance model over.setup false (advance model over.setup false begun_host 0).host 0).host [] 0
+pub both_keep : Keeps over Stands both_done [] 0
 both_keep =
     advance_keeps contract [] 0 (advance model over.setup false begun_host 0).host
     (advance_keeps contract [] 0 begun_host begun_keeps false 0 (λ th c rest x e q d. absurd (none-some x (ap (λ (t : Thread Call). t.begun) (same_Some _ th e) ∙ d))))
     false 0
     (λ th c rest x e q d. absurd (none-some x (ap (λ (t : Thread Call). t.begun) (same_Some _ th e) ∙ d)))
+
+-- ---- by the tree that is told
+
+to_told : (v : Volume) (t : Tree) → Stands v t → told v ≡ Some t
+to_told v t s = by v.tree refl v.waits refl
+  where
+    by : (x : Tree) → v.tree ≡ x → (w : Option ℕ) → v.waits ≡ w → elim x as (λ _. Option Tree) [ None ↦ Some None | Some y ↦ elim w as (λ _. Option Tree) [ None ↦ Some (Some y) | Some k ↦ None ] ] ≡ Some t
+    by None e w d = ap Some (sym e ∙ s.same)
+    by (Some x) e None d = ap Some (sym e ∙ s.same)
+    by (Some x) e (Some k) d = absurd (none-some k (sym (s.free x e) ∙ d))
+
+from_told : (v : Volume) (t : Tree) → told v ≡ Some t → Stands v t
+from_told v t s = by v.tree refl v.waits refl s
+  where
+    by : (x : Tree) → v.tree ≡ x → (w : Option ℕ) → v.waits ≡ w → elim x as (λ _. Option Tree) [ None ↦ Some None | Some y ↦ elim w as (λ _. Option Tree) [ None ↦ Some (Some y) | Some k ↦ None ] ] ≡ Some t → Stands v t
+    by None e w d q = record { same = e ∙ same_Some None t q; free = λ x f. absurd (none-some x (sym e ∙ f)) }
+    by (Some x) e None d q = record { same = e ∙ same_Some (Some x) t q; free = λ y f. d }
+    by (Some x) e (Some k) d q = absurd (none-some t q)
+
+pub told_contract : Contract over (StandsAs told)
+told_contract = record {
+  trees = contract.trees;
+  plain = λ v t s. contract.plain v t (from_told v t s);
+  applied = λ v t n r c s accepted plain enough. let x = contract.applied v t n r c (from_told v t s) accepted plain enough in (to_told _ _ x.0, x.1);
+  refused = λ v t n c why s e. contract.refused v t n c why (from_told v t s) e;
+  begun = contract.begun;
+  released = λ v t k s. to_told _ _ (contract.released v t k (from_told v t s));
+  same_bytes = contract.same_bytes;
+  same_metadata = contract.same_metadata;
+  same_zones = contract.same_zones;
+  waits_on = contract.waits_on;
+}
+

@@ -7,4 +7,5 @@ pub mod Outcomes
 pub mod Host
 pub mod Views
 pub mod Rows
+pub mod Sample
 pub mod laws

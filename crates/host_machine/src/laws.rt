@@ -1,6 +1,7 @@
 //! The laws, each a public function that does nothing when it is called.
 
 mod rows;
+mod sample;
 mod steps;
 mod zones;
 
@@ -10,5 +11,6 @@ pub use rows::{
     freed_zones_wait_for_their_commit_block, orderless_pages_are_sent_again,
     sync_calls_wait_for_one_flush,
 };
+pub use sample::promises_of_volumes_can_be_kept;
 pub use steps::{actors_keep_the_images, pages_keep_the_rules_by_themselves};
 pub use zones::pages_go_where_zones_were_given_up;
