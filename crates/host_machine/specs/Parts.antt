@@ -1,4 +1,5 @@
 -- The parts of the host as plain data: pages, the running transaction, conflicts, and the ring of the log.
+use Rattle.std.specs.Int.{div_ceil}
 use Rattle.std.specs.List.{filter, list_any}
 use Rattle.std.specs.Prelude.{ℕ, zero, suc, ◌+◌, ◌-◌, ◌==◌, Bool, false, not, nat_lt, List, [], ◌∷◌, ◌++◌, length, map, Option, Some, None, if◌then◌else◌}
 use Rattle.log_model.specs.Marks.{Logged}
@@ -43,15 +44,10 @@ pub record Running : Type 0 where
 abbrev pub fresh : ℕ → Running
 fresh k = record { number = k; touched = []; revoked = []; changed = []; wanted = false }
 
--- n parts of at most `most`
-abbrev pub parts_needed : ℕ → ℕ → ℕ → ℕ
-parts_needed most left zero = zero
-parts_needed most zero (suc n) = suc (parts_needed most (most - 1) n)
-parts_needed most (suc left) (suc n) = parts_needed most left n
-
--- log blocks of b bodies and r revokes
+-- log blocks of b bodies and r revokes: revoke blocks of at most 252 numbers, descriptors of at most 122 tags, the bodies
+-- and the commit block
 abbrev pub log_blocks_for : ℕ → ℕ → ℕ
-log_blocks_for b r = parts_needed 252 0 r + parts_needed 122 0 b + b + 1
+log_blocks_for b r = div_ceil r 252 + div_ceil b 122 + b + 1
 
 abbrev pub log_needs : Running → ℕ
 log_needs r = log_blocks_for (length r.touched) (length r.revoked)

@@ -1,5 +1,7 @@
 -- The log blocks of a plan spell its transaction, and there are as many as were counted.
 use Rattle.std.proofs.Common.{sym, ap, subst, ◌∙◌, inl, inr, ⊎_elim, arith, append_assoc, append-nil, length-append}
+use Rattle.std.proofs.lemmas.Grind.{div_ceil_times}
+use Rattle.std.specs.Int.{div_ceil}
 use Rattle.std.specs.Prelude.{◌≡◌, ℕ, zero, suc, ◌+◌, ◌-◌, ◌*◌, ◌<◌, ◌≤◌, List, [], ◌∷◌, ◌++◌, map, length, Some, refl}
 use Rattle.blk_base.specs.Members.{In, In-append_left, In-append_right, In-append_cases, In-map}
 use Rattle.order_model.specs.declared.note.Note.TheVariants.{Commit}
@@ -9,13 +11,19 @@ use Rattle.log_model.specs.Marks.{Logged, Transaction}
 use Rattle.log_model.specs.Parts.{Part, Describing, Revoking, restored, IsPart, AreParts, blocks_of_parts, bodies_of_parts, revokes_of_parts}
 use Rattle.crash_laws.specs.Rules.{HasHeader}
 use Rattle.crash_laws.specs.Session.{log_transaction}
-use Rattle.host_machine.specs.Parts.{parts_needed, log_blocks_for}
+use Rattle.host_machine.specs.Parts.{log_blocks_for}
 use Rattle.host_machine.specs.Plan.{Writers, UnplacedBlock, chunks_from, chunks, revoke_block, body_block, described, all_described, logged_blocks}
 use Rattle.host_runs.specs.laws.Written.{IsWord, tag_of, AreWritten, IsWritable}
 
 -- ---- what is written is read back
 
 -- ---- parts
+
+-- n elements in parts of at most `most`, of which `left` more fit into the part that is begun
+abbrev parts_needed : ℕ → ℕ → ℕ → ℕ
+parts_needed most left zero = zero
+parts_needed most zero (suc n) = suc (parts_needed most (most - 1) n)
+parts_needed most (suc left) (suc n) = parts_needed most left n
 
 abbrev flat : {X : Type 0} → List (List X) → List X
 flat [] = []
@@ -233,6 +241,38 @@ module _ (w : Writers) (k sequence : ℕ) (f : Format) (written : AreWritten f w
 
 -- ---- how many
 
+-- ---- as many as n / most, rounded up
+
+revokes_needed : (left n : ℕ) → left ≤ 251 → (n ≤ left + parts_needed 252 left n * 252) × (parts_needed 252 left n * 252 + left ≤ n + 251)
+revokes_needed left zero le = (omega arith, omega arith)
+revokes_needed zero (suc n) le = let rest = revokes_needed 251 n (omega arith) in let lo = rest.0 in let hi = rest.1 in (omega arith, omega arith)
+revokes_needed (suc left) (suc n) le = let rest = revokes_needed left n (omega arith) in let lo = rest.0 in let hi = rest.1 in (omega arith, omega arith)
+
+bodies_needed : (left n : ℕ) → left ≤ 121 → (n ≤ left + parts_needed 122 left n * 122) × (parts_needed 122 left n * 122 + left ≤ n + 121)
+bodies_needed left zero le = (omega arith, omega arith)
+bodies_needed zero (suc n) le = let rest = bodies_needed 121 n (omega arith) in let lo = rest.0 in let hi = rest.1 in (omega arith, omega arith)
+bodies_needed (suc left) (suc n) le = let rest = bodies_needed left n (omega arith) in let lo = rest.0 in let hi = rest.1 in (omega arith, omega arith)
+
+revoke_blocks : (r : ℕ) → parts_needed 252 0 r ≡ div_ceil r 252
+revoke_blocks r =
+    let x = revokes_needed 0 r (omega arith) in
+    let lo = x.0 in
+    let hi = x.1 in
+    let y = div_ceil_times r 252 (omega arith) in
+    let low = y.0 in
+    let high = y.1 in
+    omega arith
+
+descriptors : (b : ℕ) → parts_needed 122 0 b ≡ div_ceil b 122
+descriptors b =
+    let x = bodies_needed 0 b (omega arith) in
+    let lo = x.0 in
+    let hi = x.1 in
+    let y = div_ceil_times b 122 (omega arith) in
+    let low = y.0 in
+    let high = y.1 in
+    omega arith
+
 module _ (w : Writers) (k seq : ℕ) where
   mapped_counted : {X : Type 0} (g : X → UnplacedBlock) (xs : List X) → length (map g xs) ≡ length xs
   mapped_counted g [] = refl
@@ -255,27 +295,6 @@ module _ (w : Writers) (k seq : ℕ) where
       let d = chunks_counted 252 revokes (omega arith) in
       let e = chunks_counted 122 bodies (omega arith) in
       let g = ap length (chunks_flat 122 122 [] bodies) in
+      let x = revoke_blocks (length revokes) in
+      let y = descriptors (length bodies) in
       omega arith
-
--- ---- the printed count: n / most, rounded up
-
-revokes_needed : (left n : ℕ) → left ≤ 251 → (n ≤ left + parts_needed 252 left n * 252) × (parts_needed 252 left n * 252 + left ≤ n + 251)
-revokes_needed left zero le = (omega arith, omega arith)
-revokes_needed zero (suc n) le = let rest = revokes_needed 251 n (omega arith) in let lo = rest.0 in let hi = rest.1 in (omega arith, omega arith)
-revokes_needed (suc left) (suc n) le = let rest = revokes_needed left n (omega arith) in let lo = rest.0 in let hi = rest.1 in (omega arith, omega arith)
-
-bodies_needed : (left n : ℕ) → left ≤ 121 → (n ≤ left + parts_needed 122 left n * 122) × (parts_needed 122 left n * 122 + left ≤ n + 121)
-bodies_needed left zero le = (omega arith, omega arith)
-bodies_needed zero (suc n) le = let rest = bodies_needed 121 n (omega arith) in let lo = rest.0 in let hi = rest.1 in (omega arith, omega arith)
-bodies_needed (suc left) (suc n) le = let rest = bodies_needed left n (omega arith) in let lo = rest.0 in let hi = rest.1 in (omega arith, omega arith)
-
--- So many revoke blocks and descriptors hold r revokes and b bodies, and one fewer of either does not.
-pub parts_are_rounded_up : (b r : ℕ) → (r ≤ parts_needed 252 0 r * 252) × (parts_needed 252 0 r * 252 < r + 252) × (b ≤ parts_needed 122 0 b * 122) × (parts_needed 122 0 b * 122 < b + 122)
-parts_are_rounded_up b r =
-    let rs = revokes_needed 0 r (omega arith) in
-    let bs = bodies_needed 0 b (omega arith) in
-    let r0 = rs.0 in
-    let r1 = rs.1 in
-    let b0 = bs.0 in
-    let b1 = bs.1 in
-    (omega arith, omega arith, omega arith, omega arith)
