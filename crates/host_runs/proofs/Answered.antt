@@ -22,10 +22,10 @@ use Rattle.host_machine.specs.Views.{some_in, alters_at, tree_after, writes_at, 
 use Rattle.host_machine.specs.laws.Contract.{Over, Contract, H, session}
 use Rattle.host_runs.proofs.CallerHost.{begun_ok}
 use Rattle.host_runs.proofs.OkSteps.{ok_pushed, ok_taken, ok_grows}
-use Rattle.host_runs.proofs.RunHost.{step_keeps}
+use Rattle.host_runs.proofs.RunHost.{step_keeps, step_fits}
 use Rattle.host_runs.proofs.Threads.{moved}
 use Rattle.host_runs.specs.Promises.{KeepsOk, IsAnswered}
-use Rattle.host_runs.specs.Runs.{Event, stepped, steps, AreWithin}
+use Rattle.host_runs.specs.Runs.{Event, stepped, steps, Fits, HasBlocks}
 use Rattle.host_runs.specs.laws.CallFacts.{wait_of}
 use Rattle.host_runs.specs.laws.Kept.{HasRules, IsKept}
 use Rattle.host_runs.specs.laws.Traces.{Trace, trace_of, Move, Stays, Puts, Enters, Cuts, Takes}
@@ -77,7 +77,7 @@ module _ {A T V C R : Type 0} {o : Over A T V C R} {Stands : V → T → Type 0}
 
     moves : (s : Host V C R) → HasRules contract s → (t : Trace C R) → Move (trace_of s) t → OkAt (trace_of s) → OkAt t
     moves s has t (Stays q) ok = subst OkAt q ok
-    moves s has t (Puts request note q) ok = subst OkAt q (ok_pushed (plainly (seen ring (trace_of s)) has.2.images.0.counted request note) ok.0, ok.1)
+    moves s has t (Puts request note room q) ok = subst OkAt q (ok_pushed (plainly (seen ring (trace_of s)) has.2.images.0.counted request note) ok.0, ok.1)
     moves s has t (Takes c q) ok = subst OkAt q (ok_taken c ok.0, ok.1)
     moves s has t (Enters entry q) ok =
         let images = has.2.images.0 in
@@ -138,12 +138,12 @@ module _ {A T V C R : Type 0} {o : Over A T V C R} {Stands : V → T → Type 0}
 
   -- ---- it stays
 
-  module _ (written : AreWritten o.format o.setup.writers) where
-    pub answer_stays : (s : Host V C R) (es : List Event) (e : ℕ) (b : Begun) → IsKept contract s → AreWithin o s es → b.begin ≤ length s.history → IsAnswered o Stands s e b → IsAnswered o Stands (steps o s es) e b
-    answer_stays s [] e b kept within begun ok = ok
-    answer_stays s (event ∷ es) e b kept within begun ok =
+  module _ (written : AreWritten o.format o.setup.writers) (blocks : HasBlocks o Stands) where
+    pub answer_stays : (s : Host V C R) (es : List Event) (e : ℕ) (b : Begun) → IsKept contract s → Fits o s → b.begin ≤ length s.history → IsAnswered o Stands s e b → IsAnswered o Stands (steps o s es) e b
+    answer_stays s [] e b kept fits begun ok = ok
+    answer_stays s (event ∷ es) e b kept fits begun ok =
         let ring = s.journal.ring.places in
         let next = stepped o s event in
         let x = moves ring e b s kept.rules (trace_of next) (moved o s kept.begun event).1 (ok_as o.base o.format o.setup.journal ring 0 o.setup.sequence (transaction_of []) o.reserved ok, begun) in
         let sess = session o Stands [] next in
-        answer_stays next es e b (step_keeps contract written s event kept within.0) within.1 x.1 (ok_as sess.base sess.format sess.journal sess.ring sess.head sess.sequence sess.transactions sess.reserved x.0)
+        answer_stays next es e b (step_keeps contract written blocks s event kept fits) (step_fits contract written blocks s event kept fits) x.1 (ok_as sess.base sess.format sess.journal sess.ring sess.head sess.sequence sess.transactions sess.reserved x.0)

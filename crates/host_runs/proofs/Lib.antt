@@ -12,6 +12,7 @@ pub mod CallerHost
 pub mod CheckpointSteps
 pub mod FlushFacts
 pub mod GrowingFacts
+pub mod Numbers
 pub mod OkSteps
 pub mod PlaceLaws
 pub mod PlanLaws

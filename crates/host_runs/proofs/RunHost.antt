@@ -1,6 +1,6 @@
 -- Runs of the host: what holds where it is opened holds after every step.
 use Rattle.std.proofs.Common.{sym, subst, ⊎_elim, arith}
-use Rattle.std.specs.Prelude.{ℕ, ◌+◌, ◌-◌, List, [], ◌∷◌, refl}
+use Rattle.std.specs.Prelude.{ℕ, ◌+◌, ◌-◌, ◌<◌, ◌≤◌, List, [], ◌∷◌, refl}
 use Rattle.blk_base.specs.Members.{In, slice_get-In}
 use Rattle.volume_ops.specs.Reads.{blocks_read, AgreeOn}
 use Rattle.volume_ops.specs.ReadsLaws.{blocks_read-agree}
@@ -14,8 +14,11 @@ use Rattle.host_runs.proofs.ActorHost.{writeback_rules, flush_step_rules, commit
 use Rattle.host_runs.proofs.CallerHost.{advance_rules}
 use Rattle.host_runs.proofs.StartHost.{ring_at_start, calls_at_start, flushes_at_start, none_begun}
 use Rattle.host_runs.proofs.Threads.{moved}
+use Rattle.host_runs.proofs.Numbers.{room_stays, limits_stay, sequence_fits, first_fits, head_fits, writable}
+use Rattle.host_runs.specs.laws.Traces.{trace_of}
+use Rattle.log_model.specs.Ring.{Ring}
 use Rattle.host_runs.specs.Opened.{IsOpened}
-use Rattle.host_runs.specs.Runs.{Event, Call, Commit, WriteBack, FlushStep, stepped, steps, IsWithin, AreWithin}
+use Rattle.host_runs.specs.Runs.{Event, Call, Commit, WriteBack, FlushStep, stepped, steps, Fits, HasBlocks}
 use Rattle.host_runs.specs.laws.Kept.{HasRules, IsKept}
 use Rattle.host_runs.specs.laws.Written.{IsWord, AreWritten}
 
@@ -36,6 +39,7 @@ module _ {A T V C R : Type 0} {o : Over A T V C R} {Stands : V → T → Type 0}
           flushes_at_start o.model.kind programs,
         );
         begun = none_begun o.model.kind programs;
+        room = omega arith;
       }
     where
       -- the walk of the base image reads what the walk of the volume reads
@@ -45,15 +49,20 @@ module _ {A T V C R : Type 0} {o : Over A T V C R} {Stands : V → T → Type 0}
       walked : (b : ℕ) → In b (blocks_read (disk_of o.base) o.program) → In b o.reserved
       walked b i = (at.metadata b ((contract.plain v o.model.root at.stands).walk b (subst (In b) (blocks_read-agree (o.model.bytes v) (disk_of o.base) o.program same) i))).0
 
-  module _ (written : AreWritten o.format o.setup.writers) where
-    pub step_keeps : (s : Host V C R) (e : Event) → IsKept contract s → IsWithin o s → IsKept contract (stepped o s e)
-    step_keeps s e kept within = record { rules = by e; begun = (moved o s kept.begun e).0 }
+  module _ (written : AreWritten o.format o.setup.writers) (blocks : HasBlocks o Stands) where
+    pub step_keeps : (s : Host V C R) (e : Event) → IsKept contract s → Fits o s → IsKept contract (stepped o s e)
+    step_keeps s e kept fits =
+        let m = moved o s kept.begun e in
+        record { rules = by e; begun = m.0; room = room_stays (trace_of s) (trace_of (stepped o s e)) m.1 kept.room }
       where
         has : HasRules contract s
         has = kept.rules
 
+        running : IsWord (o.setup.sequence + (s.journal.running.number - 1))
+        running = sequence_fits contract s has.0 has.1 has.2 fits kept.room
+
         next : IsWord (o.setup.sequence + (has.1 + 1 - 1))
-        next = let w = within.sequence in ⊎_elim (λ e. omega arith) (λ e. omega arith) has.2.images.0.numbers.closed
+        next = let w = running in ⊎_elim (λ e. omega arith) (λ e. omega arith) has.2.images.0.numbers.closed
 
         by : (e : Event) → HasRules contract (stepped o s e)
         by (Call full t) =
@@ -61,10 +70,27 @@ module _ {A T V C R : Type 0} {o : Over A T V C R} {Stands : V → T → Type 0}
             (has.0, has.1, r.0, r.1, r.2)
         by (Commit full) =
             commit_step_rules contract s has.0 has.1 has.2 has.3 has.4
-            (record { written = written; writable = within.writable; next = next; running = within.sequence; first = within.first; head = within.head }) full
+            (record {
+            written = written;
+            writable = writable contract s has.0 has.1 has.2 fits kept.room blocks;
+            next = next;
+            running = running;
+            first = first_fits contract s has.0 has.1 has.2 fits kept.room;
+            head = head_fits contract s has.0 has.1 has.2 fits kept.room;
+            }) full
         by (WriteBack full pick) = writeback_rules contract s has.0 has.1 has.2 has.3 has.4 full pick
         by (FlushStep full next) = flush_step_rules contract s has.0 has.1 has.2 has.3 has.4 full next
 
-    pub steps_keep : (s : Host V C R) (es : List Event) → IsKept contract s → AreWithin o s es → IsKept contract (steps o s es)
-    steps_keep s [] kept within = kept
-    steps_keep s (e ∷ es) kept within = steps_keep (stepped o s e) es (step_keeps s e kept within.0) within.1
+    -- the limit and the places of the log never change
+    pub step_fits : (s : Host V C R) (e : Event) → IsKept contract s → Fits o s → Fits o (stepped o s e)
+    step_fits s e kept fits =
+        let same = limits_stay (trace_of s) (trace_of (stepped o s e)) (moved o s kept.begun e).1 in
+        record {
+          blocks = fits.blocks;
+          places = subst (λ (r : Ring). r.past ≤ 4294967296) (sym same.1) fits.places;
+          sequences = subst (λ n. o.setup.sequence + n + 1 < 4294967296) (sym same.0) fits.sequences;
+        }
+
+    pub steps_keep : (s : Host V C R) (es : List Event) → IsKept contract s → Fits o s → IsKept contract (steps o s es)
+    steps_keep s [] kept fits = kept
+    steps_keep s (e ∷ es) kept fits = steps_keep (stepped o s e) es (step_keeps s e kept fits) (step_fits s e kept fits)

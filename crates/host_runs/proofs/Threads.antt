@@ -1,8 +1,9 @@
 -- Each step does one move, and leaves it so that only barrier and sync calls have begun.
-use Rattle.std.proofs.Common.{ap, subst, ◌∙◌, ⊎_elim}
+use Rattle.std.proofs.Common.{sym, ap, subst, ◌∙◌, ⊎_elim}
+use Rattle.std.proofs.lemmas.Bool.{cases_lt, false≢true, le-leb}
 use Rattle.std.proofs.lemmas.Option.{none-some}
 use Rattle.std.specs.List.{filter, list_any}
-use Rattle.std.specs.Prelude.{◌≡◌, ℕ, ◌+◌, ◌==◌, ◌&&◌, ◌||◌, Bool, true, false, not, List, [], ◌∷◌, length, set, slice_get, slice_index_or, is_none, nat_lt, Option, Some, None, refl, if◌then◌else◌}
+use Rattle.std.specs.Prelude.{◌≡◌, ℕ, ◌<◌, ◌≤◌, ◌+◌, ◌==◌, ◌&&◌, ◌||◌, Bool, true, false, not, List, [], ◌∷◌, length, set, slice_get, slice_index_or, is_none, nat_lt, Option, Some, None, refl, if◌then◌else◌}
 use Rattle.blk_base.specs.Members.{In-set_cases, slice_get-In}
 use Rattle.order_model.specs.declared.completion.Completion.{Completion}
 use Rattle.order_model.specs.declared.turn.Turn.TheVariants as turns
@@ -31,6 +32,11 @@ module _ {T V C R : Type 0} (M : Model T V C R) (u : Setup) (s : Host V C R) (ol
 
   abbrev After : Stepped V C R → Type 0
   After x = Kept x.host
+
+  room : at_limit s.journal.flush ≡ false → length s.journal.flush.requests < s.journal.flush.limit
+  room d =
+      ⊎_elim (λ lt. lt) (λ le. absurd (false≢true (sym d ∙ le-leb s.journal.flush.limit (length s.journal.flush.requests) le)))
+      (cases_lt (length s.journal.flush.requests) s.journal.flush.limit)
 
   stays : Kept s
   stays = (old, Stays refl)
@@ -92,10 +98,10 @@ module _ {T V C R : Type 0} (M : Model T V C R) (u : Setup) (s : Host V C R) (ol
         by (Some next) =
             either After (at_limit s.journal.flush) _ _ (λ e. ends SessionFull)
             (λ d. either After full _ _ (λ e. stays)
-            (λ d. (
+            (λ e. (
               put_thread t (record { calls = c ∷ rest; begun = Some (record b { list = next.1; sent_barrier = b.sent_barrier || (is_data b.kind && is_none (unsent_on s.pages next.1)) }) })
                   (λ x more y calls k. subst (λ z. is_begun (M.kind z) ≡ true) (same_head c x rest more calls) kind),
-              Puts _ _ refl,
+              Puts _ _ (room d) refl,
             )))
 
     begun_move : is_begun (M.kind c) ≡ true → (full : Bool) (w : Wait) (b : Begun) → After (continue_begun M u full s t c rest w b)
@@ -165,8 +171,8 @@ module _ {T V C R : Type 0} (M : Model T V C R) (u : Setup) (s : Host V C R) (ol
   abbrev Turned_to : Turned V C R → Type 0
   Turned_to x = Kept x.host
 
-  submits_move : (full : Bool) (out : Host V C R) → Kept out → Turned_to (submits M u full s out)
-  submits_move full out next = either Turned_to (at_limit s.journal.flush) _ _ (λ e. stays) (λ e. either Turned_to full _ _ (λ e. stays) (λ e. next))
+  submits_move : (full : Bool) (out : Host V C R) → (at_limit s.journal.flush ≡ false → Kept out) → Turned_to (submits M u full s out)
+  submits_move full out next = either Turned_to (at_limit s.journal.flush) _ _ (λ e. stays) (λ d. either Turned_to full _ _ (λ e. stays) (λ e. next d))
 
   writeback_move : (full : Bool) (pick : ℕ) → Turned_to (writeback M u full s pick)
   writeback_move full pick = either Turned_to (is_over s.journal.flush) _ _ (λ e. stays) (λ e. by (slice_get (filter (λ (p : CachedPage). is_dirty p.state) s.pages) pick))
@@ -176,18 +182,18 @@ module _ {T V C R : Type 0} (M : Model T V C R) (u : Setup) (s : Host V C R) (ol
         | Some p ↦ submits M u full s (send_page M u s p (not (is_submitted s.journal (slice_index_or s.owners p.block 0))) false)
       ])
       by None = stays
-      by (Some p) = submits_move full _ (old, Puts _ _ refl)
+      by (Some p) = submits_move full _ (λ d. (old, Puts _ _ (room d) refl))
 
   flush_step_move : (full : Bool) (next : Option Completion) → Turned_to (flush_step M u full s next)
-  flush_step_move full next = either Turned_to (flush_due s.journal.flush) _ _ (λ e. submits_move full _ (old, Puts _ _ refl)) (λ e. by next)
+  flush_step_move full next = either Turned_to (flush_due s.journal.flush) _ _ (λ e. submits_move full _ (λ d. (old, Puts _ _ (room d) refl))) (λ e. by next)
     where
       by : (x : Option Completion) → Turned_to (elim x as (λ _. Turned V C R) [ None ↦ record { host = s; turn = turns.Idle } | Some c ↦ record { host = with_flush M u s (take_completion c s.journal.flush); turn = turns.Did } ])
       by None = stays
       by (Some c) = (old, Takes c refl)
 
-  checkpoint_move : (homes : List Logged) → Kept (checkpoint M u s homes)
-  checkpoint_move [] = (old, Puts _ _ refl)
-  checkpoint_move (h ∷ hs) = (old, Puts _ _ refl)
+  checkpoint_move : at_limit s.journal.flush ≡ false → (homes : List Logged) → Kept (checkpoint M u s homes)
+  checkpoint_move d [] = (old, Puts _ _ (room d) refl)
+  checkpoint_move d (h ∷ hs) = (old, Puts _ _ (room d) refl)
 
   close_move : (full : Bool) → Turned_to (close_step M u full s)
   close_move full = by (first_page (λ p. is_unsent p.state && has s.journal.running.changed p.birth) s.pages)
@@ -198,15 +204,15 @@ module _ {T V C R : Type 0} (M : Model T V C R) (u : Setup) (s : Host V C R) (ol
             if nat_lt (ring_free s.journal.ring) (log_needs s.journal.running) then submits M u full s (checkpoint M u s s.journal.ring.homes)
             else record { host = build_plan M u s; turn = turns.Did }
       ])
-      by (Some p) = submits_move full _ (old, Puts _ _ refl)
+      by (Some p) = submits_move full _ (λ d. (old, Puts _ _ (room d) refl))
       by None =
           either Turned_to (nat_lt (ring_free s.journal.ring) (log_needs s.journal.running)) _ _
-          (λ d. submits_move full _ (checkpoint_move s.journal.ring.homes))
+          (λ d. submits_move full _ (λ d. checkpoint_move d s.journal.ring.homes))
           (λ d. (old, Cuts refl))
 
-  plan_sent_move : (p : Plan) (first : Planned) (rest : List Planned) → Kept (plan_sent M u s p first rest)
-  plan_sent_move p first [] = (old, Puts _ _ refl)
-  plan_sent_move p first (q ∷ qs) = (old, Puts _ _ refl)
+  plan_sent_move : at_limit s.journal.flush ≡ false → (p : Plan) (first : Planned) (rest : List Planned) → Kept (plan_sent M u s p first rest)
+  plan_sent_move d p first [] = (old, Puts _ _ (room d) refl)
+  plan_sent_move d p first (q ∷ qs) = (old, Puts _ _ (room d) refl)
 
   phase_move : (full : Bool) (phase : Phase) → Turned_to (in_phase M u full s phase)
   phase_move full Idle = either Turned_to (s.journal.running.wanted && is_none (least s.journal.flush.conflicts)) _ _ (λ e. stays) (λ e. stays)
@@ -215,7 +221,7 @@ module _ {T V C R : Type 0} (M : Model T V C R) (u : Setup) (s : Host V C R) (ol
     where
       by : (x : List Planned) → Turned_to (elim x as (λ _. Turned V C R) [ [] ↦ record { host = s; turn = turns.Idle } | first ∷ rest ↦ submits M u full s (plan_sent M u s p first rest) ])
       by [] = stays
-      by (first ∷ rest) = submits_move full _ (plan_sent_move p first rest)
+      by (first ∷ rest) = submits_move full _ (λ d. plan_sent_move d p first rest)
 
   commit_step_move : (full : Bool) → Turned_to (commit_step M u full s)
   commit_step_move full = either Turned_to (is_over s.journal.flush) _ _ (λ e. stays) (λ e. phase_move full s.journal.phase)

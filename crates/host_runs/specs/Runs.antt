@@ -1,13 +1,12 @@
--- Runs of the host: lists of its steps, and what its numbers have to keep.
-use Rattle.std.specs.Prelude.{◌≡◌, ℕ, ◌+◌, ◌-◌, ⊤, Bool, true, List, [], ◌∷◌, Option, Some}
+-- Runs of the host: lists of its steps, and what numbers and volumes have to keep.
+use Rattle.std.specs.Prelude.{◌≡◌, ℕ, ◌+◌, ◌<◌, ◌≤◌, Bool, true, List, [], ◌∷◌, length, Option, Some}
 use Rattle.blk_base.specs.Members.{In}
 use Rattle.order_model.specs.declared.completion.Completion.{Completion}
 use Rattle.host_machine.specs.Host.{advance, commit_step, writeback, flush_step}
 use Rattle.host_machine.specs.Model.{Kind, is_begun}
 use Rattle.host_machine.specs.State.{Begun, Thread, Host}
-use Rattle.host_machine.specs.Views.{running_transaction}
+use Rattle.host_machine.specs.Views.{waits_for}
 use Rattle.host_machine.specs.laws.Contract.{Over}
-use Rattle.host_runs.specs.laws.Written.{IsWord, IsWritable}
 
 -- A step of the host: of this thread's call, of the commit actor, of the write-back with this pick, or of the flush actor
 -- with the next completion, if there is one. The Bool says that the submission queue is full.
@@ -32,15 +31,14 @@ module _ {A T V C R : Type 0} (o : Over A T V C R) where
   steps s [] = s
   steps s (e ∷ es) = steps (stepped s e) es
 
-  -- What the journal may write now: the running transaction has block numbers of 32 bits and whole blocks, and its sequence
-  -- and the places of the log are of 32 bits.
-  pub record IsWithin (s : Host V C R) : Type 0 where
-    pub writable : IsWritable (running_transaction o.model s.volume s.journal.running)
-    pub sequence : IsWord (o.setup.sequence + (s.journal.running.number - 1))
-    pub first : IsWord s.journal.ring.places.first
-    pub head : IsWord s.journal.ring.head
+  -- The blocks of the volume and the places of the log are numbered by words of 32 bits, and so are the sequences of all
+  -- transactions that a session of this limit can have.
+  pub record Fits (s : Host V C R) : Type 0 where
+    pub blocks : o.setup.journal ≤ 4294967296
+    pub places : s.journal.ring.places.past ≤ 4294967296
+    pub sequences : o.setup.sequence + s.journal.flush.limit + 1 < 4294967296
 
-  -- before each of these steps
-  abbrev pub AreWithin : Host V C R → List Event → Type 0
-  AreWithin s [] = ⊤
-  AreWithin s (e ∷ es) = IsWithin s × AreWithin (stepped s e) es
+  -- A volume has whole blocks, and no block of the journal or behind it waits to be free.
+  pub record HasBlocks (Stands : V → T → Type 0) : Type 0 where
+    pub sized : (v : V) (b : ℕ) → length (o.model.bytes v b) ≡ 1024
+    pub waiting : (v : V) (t : T) (b k : ℕ) → Stands v t → waits_for (o.model.zones v).waiting b ≡ Some k → b < o.setup.journal

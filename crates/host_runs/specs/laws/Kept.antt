@@ -1,5 +1,5 @@
 -- All that the host keeps: the order rules of its session, and what it knows of its state.
-use Rattle.std.specs.Prelude.{ℕ, List, length}
+use Rattle.std.specs.Prelude.{ℕ, ◌≤◌, List, length}
 use Rattle.log_model.specs.Marks.{Transaction}
 use Rattle.host_machine.specs.State.{Host}
 use Rattle.host_machine.specs.laws.Contract.{Over, Contract, H, session, KeepsImages}
@@ -28,3 +28,4 @@ HasRules contract s = (txs : List Transaction) × (N : ℕ) × KeepsRules contra
 pub record IsKept {A T V C R : Type 0} {o : Over A T V C R} {Stands : V → T → Type 0} (contract : Contract o Stands) (s : Host V C R) : Type 0 where
   pub rules : HasRules contract s
   pub begun : AreBegun o.model.kind s.threads
+  pub room : length s.journal.flush.requests ≤ s.journal.flush.limit

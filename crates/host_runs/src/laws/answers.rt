@@ -5,7 +5,7 @@ ghost use Rattle.host_machine.specs.Outcomes.{Done};
 ghost use Rattle.host_machine.specs.State.{Begun, Thread, Host, is_flush_note};
 ghost use Rattle.host_machine.specs.laws.Contract.{Over, Contract, StandsAs};
 ghost use Rattle.host_runs.specs.Promises.{IsAnswered};
-ghost use Rattle.host_runs.specs.Runs.{Event, steps, AreWithin};
+ghost use Rattle.host_runs.specs.Runs.{Event, steps, Fits, HasBlocks};
 ghost use Rattle.host_runs.specs.laws.FlushFacts.{count, is_begin};
 ghost use Rattle.host_runs.specs.laws.Kept.{IsKept};
 ghost use Rattle.host_runs.specs.laws.Written.{AreWritten};
@@ -18,7 +18,7 @@ pub fn answers_keep_their_promises<A, T, V, C, R>()
         IsKept contract s → slice_get s.threads t ≡ Some th → th.begun ≡ Some b → (advance o.model o.setup full s t).step ≡ Done o.model.ok →
         IsAnswered o (StandsAs tree) s (length s.history + 1) b }
     ensures later { (o : Over A T V C R) (tree : V → Option T) (contract : Contract o (StandsAs tree)) (s : Host V C R) (es : List Event) (e : ℕ) (b : Begun) →
-        AreWritten o.format o.setup.writers → IsKept contract s → AreWithin o s es → b.begin ≤ length s.history →
+        AreWritten o.format o.setup.writers → HasBlocks o (StandsAs tree) → IsKept contract s → Fits o s → b.begin ≤ length s.history →
         IsAnswered o (StandsAs tree) s e b → IsAnswered o (StandsAs tree) (steps o s es) e b }
 {}
 

@@ -7,7 +7,7 @@ ghost use Rattle.host_machine.specs.State.{Host};
 ghost use Rattle.host_machine.specs.laws.Contract.{Over, Contract, StandsAs, H, session};
 ghost use Rattle.host_machine.specs.laws.Rules.{AllRules};
 ghost use Rattle.host_runs.specs.Opened.{IsOpened};
-ghost use Rattle.host_runs.specs.Runs.{Event, stepped, steps, IsWithin, AreWithin};
+ghost use Rattle.host_runs.specs.Runs.{Event, stepped, steps, Fits, HasBlocks};
 ghost use Rattle.host_runs.specs.laws.Kept.{IsKept};
 ghost use Rattle.host_runs.specs.laws.Written.{AreWritten};
 
@@ -18,7 +18,7 @@ pub fn every_step_keeps_the_rules<A, T, V, C, R>()
     ensures opened { (o : Over A T V C R) (tree : V → Option T) (contract : Contract o (StandsAs tree)) (v : V) (ring : LogRing) (zones limit : ℕ) (programs : List (List C)) →
         IsOpened o (StandsAs tree) v ring zones limit programs → IsKept contract (opened o.model o.setup v ring zones limit programs) }
     ensures step { (o : Over A T V C R) (tree : V → Option T) (contract : Contract o (StandsAs tree)) (s : Host V C R) (e : Event) →
-        AreWritten o.format o.setup.writers → IsKept contract s → IsWithin o s → IsKept contract (stepped o s e) }
+        AreWritten o.format o.setup.writers → HasBlocks o (StandsAs tree) → IsKept contract s → Fits o s → IsKept contract (stepped o s e) }
 {}
 
 /// A law, which does nothing when it is called: from an opened host, any list of steps leaves a submitted list that
@@ -27,11 +27,11 @@ pub fn every_step_keeps_the_rules<A, T, V, C, R>()
 /// where a log body could go.
 pub fn runs_keep_the_rules<A, T, V, C, R>()
     ensures rules { (o : Over A T V C R) (tree : V → Option T) (contract : Contract o (StandsAs tree)) (v : V) (ring : LogRing) (zones limit : ℕ) (programs : List (List C)) (es : List Event) →
-        AreWritten o.format o.setup.writers → IsOpened o (StandsAs tree) v ring zones limit programs →
-        AreWithin o (opened o.model o.setup v ring zones limit programs) es →
+        AreWritten o.format o.setup.writers → HasBlocks o (StandsAs tree) → IsOpened o (StandsAs tree) v ring zones limit programs →
+        Fits o (opened o.model o.setup v ring zones limit programs) →
         (txs : List Transaction) × AllRules o.program
         (H o (StandsAs tree) (steps o (opened o.model o.setup v ring zones limit programs) es).history (steps o (opened o.model o.setup v ring zones limit programs) es).cuts)
         (session o (StandsAs tree) txs (steps o (opened o.model o.setup v ring zones limit programs) es)) }
     ensures kept { (o : Over A T V C R) (tree : V → Option T) (contract : Contract o (StandsAs tree)) (s : Host V C R) (es : List Event) →
-        AreWritten o.format o.setup.writers → IsKept contract s → AreWithin o s es → IsKept contract (steps o s es) }
+        AreWritten o.format o.setup.writers → HasBlocks o (StandsAs tree) → IsKept contract s → Fits o s → IsKept contract (steps o s es) }
 {}
