@@ -13,11 +13,11 @@ use Rattle.host_machine.specs.Model.{Touched}
 use Rattle.host_machine.specs.Parts.{with_all, without_all}
 use Rattle.host_machine.specs.State.{Entry, Phase, Idle, Closing, Committing}
 use Rattle.host_machine.specs.Views.{is_answered, cut_of, tree_after}
-use Rattle.host_machine.specs.laws.Contract.{Over, view_of, Contract, H, InPhase, ImagesFacts}
+use Rattle.host_machine.specs.laws.Contract.{Over, view_of, Contract, noted_history, InPhase, ImagesFacts}
 use Rattle.host_machine.specs.laws.Facts.{IsPlain, IsChange, Numbers, KeepsPlaces, PagesMapped, ZoneHistory}
 
 module _ {A T V C R : Type 0} {o : Over A T V C R} {Stands : V → T → Type 0} (contract : Contract o Stands) where
-  pub plain_at : (es : List (Entry C R)) (cuts : List ℕ) (s : Session) (v : V) (n : ℕ) → s.journal ≡ o.setup.journal → s.reserved ≡ o.reserved → Stands v (tree_after o.model es n) → IsPlain o.program (H o Stands es cuts) s n (view_of o v)
+  pub plain_at : (es : List (Entry C R)) (cuts : List ℕ) (s : Session) (v : V) (n : ℕ) → s.journal ≡ o.setup.journal → s.reserved ≡ o.reserved → Stands v (tree_after o.model es n) → IsPlain o.program (noted_history o Stands es cuts) s n (view_of o v)
   plain_at es cuts s v n journal reserved stands =
       let p = contract.plain v (tree_after o.model es n) stands in
       record {
@@ -41,9 +41,9 @@ module _ {A T V C R : Type 0} {o : Over A T V C R} {Stands : V → T → Type 0}
     -- the next entry, and what it did to the volume
     module _ (e : Entry C R) (w : V) (d : Touched)
         (stands : Stands w (tree_after o.model (es ++ e ∷ []) (length es + 1)))
-        (told : IsChange (H o Stands (es ++ e ∷ []) cuts) s (length es) r (view_of o v) (view_of o w) d)
+        (told : IsChange (noted_history o Stands (es ++ e ∷ []) cuts) s (length es) r (view_of o v) (view_of o w) d)
         (nodes : (f : ℕ) → (is_answered e.what && o.model.alters (tree_after o.model es (length es)) (suc (length es)) e.call f) ≡ true → In f d.nodes) where
-      entry : IsEntry (H o Stands es cuts) (H o Stands (es ++ e ∷ []) cuts) (length es) r
+      entry : IsEntry (noted_history o Stands es cuts) (noted_history o Stands (es ++ e ∷ []) cuts) (length es) r
       entry = entry_noted o.model es e o.place cuts r facts.closed facts.numbers.cuts
 
       grown : length es + 1 ≡ length (es ++ e ∷ [])
@@ -101,19 +101,19 @@ module _ {A T V C R : Type 0} {o : Over A T V C R} {Stands : V → T → Type 0}
             closed = facts.closed;
             rise = rises;
             stands = subst (λ n. Stands w (tree_after o.model (es ++ e ∷ []) n)) grown stands;
-            numbers = subst (λ n. Numbers (H o Stands (es ++ e ∷ []) cuts) s n r N) grown (numbers_grow entry facts.numbers);
+            numbers = subst (λ n. Numbers (noted_history o Stands (es ++ e ∷ []) cuts) s n r N) grown (numbers_grow entry facts.numbers);
             present = present_changed entry facts.numbers trees before after told touched facts.present;
             bodies = bodies_changed entry facts.numbers trees before after told touched revoked facts.bodies;
             plan_revokes = plan_revokes_changed entry facts.numbers trees before after told facts.plan_revokes;
             alike = λ k lt.
                 let x = facts.alike k lt in
                 (x.0, subst (λ t. Stands x.0 t) (sym (tree_old o.model es e (cut_of cuts (length es) k) (facts.numbers.cuts k)) ∙ ap (tree_after o.model (es ++ e ∷ [])) (sym (entry.cuts k lt))) x.1, x.2);
-            places = subst (λ n. KeepsPlaces o.program (H o Stands (es ++ e ∷ []) cuts) s n r (view_of o w)) grown (places_changed entry facts.numbers trees before after told facts.places);
-            mapped = subst (λ n. PagesMapped (H o Stands (es ++ e ∷ []) cuts) n (view_of o w) (written_pages o.model o.setup w (length es + 1) (dropped_pages o.model o.setup pages d.dropped) d.pages)) grown
+            places = subst (λ n. KeepsPlaces o.program (noted_history o Stands (es ++ e ∷ []) cuts) s n r (view_of o w)) grown (places_changed entry facts.numbers trees before after told facts.places);
+            mapped = subst (λ n. PagesMapped (noted_history o Stands (es ++ e ∷ []) cuts) n (view_of o w) (written_pages o.model o.setup w (length es + 1) (dropped_pages o.model o.setup pages d.dropped) d.pages)) grown
                 (pages_changed entry facts.numbers trees before after told o.model o.setup w (λ b. refl) pages facts.mapped);
             rising = written-rising o.model o.setup w (length es + 1) (dropped_pages o.model o.setup pages d.dropped) d.pages (dropped-rising o.model o.setup pages d.dropped facts.rising);
             sent = sent_changed entry facts.numbers trees before after told o.model o.setup w (λ b. refl) pages facts.sent;
-            zones = subst (λ n. ZoneHistory (H o Stands (es ++ e ∷ []) cuts) s n N (view_of o w)) grown (history_changed entry facts.numbers trees before after told facts.zones);
+            zones = subst (λ n. ZoneHistory (noted_history o Stands (es ++ e ∷ []) cuts) s n N (view_of o w)) grown (history_changed entry facts.numbers trees before after told facts.zones);
             altered = altered_changed entry facts.numbers trees before after told touched changed
                 (λ f ch. ⊎_elim inl (λ new. inr (nodes f new)) (changes_noted o.model es e o.place cuts r facts.closed facts.numbers.cuts f ch)) facts.altered;
             in_phase = phase_stays facts.in_phase;

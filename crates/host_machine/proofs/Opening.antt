@@ -19,7 +19,7 @@ use Rattle.host_machine.specs.Host.{opened}
 use Rattle.host_machine.specs.Parts.{LogRing}
 use Rattle.host_machine.specs.State.{Host}
 use Rattle.host_machine.specs.Views.{tree_after, cut_of}
-use Rattle.host_machine.specs.laws.Contract.{IsAlike, Over, Contract, H, session}
+use Rattle.host_machine.specs.laws.Contract.{IsAlike, Over, Contract, noted_history, session}
 use Rattle.host_machine.specs.laws.Rules.{Keeps}
 
 module _ {A T V C R : Type 0} {o : Over A T V C R} {Stands : V → T → Type 0} (contract : Contract o Stands) (v : V) (ring : LogRing) (zones limit : ℕ) (programs : List (List C)) where
@@ -75,7 +75,7 @@ module _ {A T V C R : Type 0} {o : Over A T V C R} {Stands : V → T → Type 0}
     ),
     record {
       order = rules_at_start o.program s refl refl first place base walked;
-      pages = pages_at_start o.program s refl (H o Stands [] []) trees;
+      pages = pages_at_start o.program s refl (noted_history o Stands [] []) trees;
       committed = record { sent = λ k c f i g ch m. absurd (none-some _ g) };
     },
   )
@@ -86,5 +86,5 @@ module _ {A T V C R : Type 0} {o : Over A T V C R} {Stands : V → T → Type 0}
       rise : (k : ℕ) → cut_of [] 0 k ≤ cut_of [] 0 (k + 1)
       rise k = let a = no_cut k in let b = no_cut (k + 1) in omega arith
 
-      trees : HasTrees (H o Stands [] [])
+      trees : HasTrees (noted_history o Stands [] [])
       trees = trees_noted o.model contract.trees o.place [] [] rise

@@ -25,7 +25,7 @@ use Rattle.host_machine.specs.Host.{build_plan, committed, send_planned}
 use Rattle.host_machine.specs.Plan.{Planned, plan_of}
 use Rattle.host_machine.specs.State.{Plan, Host}
 use Rattle.host_machine.specs.Views.{cut_of, some_in, alters_at, tree_after, transaction_of, waits_for}
-use Rattle.host_machine.specs.laws.Contract.{IsAlike, Over, view_of, Contract, H, ImagesFacts, session, KeepsImages}
+use Rattle.host_machine.specs.laws.Contract.{IsAlike, Over, view_of, Contract, noted_history, ImagesFacts, session, KeepsImages}
 use Rattle.host_machine.specs.laws.Facts.{View, Numbers, Present, Bodies, KeepsPlaces, PagesMapped, ZoneHistory, Altered, OnItsWay}
 use Rattle.host_machine.specs.laws.PlanNotes.{IsRestOf, BarrierAhead}
 
@@ -46,10 +46,10 @@ module _ {A T V C R : Type 0} {o : Over A T V C R} {Stands : V → T → Type 0}
       (all_sent : (f i : ℕ) (p : CachedPage) → In f s.journal.running.changed → page_at s.pages f i ≡ Some p → p.state ≡ Firm) where
     -- with the cut noted
     abbrev before : History A
-    before = H o Stands s.history s.cuts
+    before = noted_history o Stands s.history s.cuts
 
     abbrev after_plan : History A
-    after_plan = H o Stands s.history (s.cuts ++ now ∷ [])
+    after_plan = noted_history o Stands s.history (s.cuts ++ now ∷ [])
 
     abbrev history_by : (ℕ → ℕ) → History A
     history_by cut = record {
@@ -203,7 +203,7 @@ module _ {A T V C R : Type 0} {o : Over A T V C R} {Stands : V → T → Type 0}
       k = r - 1
 
       before : History A
-      before = H o Stands s.history s.cuts
+      before = noted_history o Stands s.history s.cuts
 
       request : Request
       request = record { id = length s.journal.flush.requests; kind = puts.Put first.block first.body; ordered = true; barrier = first.barrier }

@@ -28,24 +28,24 @@ use Rattle.host_machine.proofs.Machine.{plain_at}
 use Rattle.host_machine.proofs.Sends.{plainly, page≢commit, page_clause, no_body_now, numbers_pushed, history_pushed, sent_pushed, mapped_marked, sent_marked}
 use Rattle.host_machine.specs.Host.{send_page}
 use Rattle.host_machine.specs.State.{Entry, Phase, Idle, Closing, Committing, Host}
-use Rattle.host_machine.specs.laws.Contract.{Over, view_of, Contract, H, InPhase, ImagesFacts, session, KeepsImages}
+use Rattle.host_machine.specs.laws.Contract.{Over, view_of, Contract, noted_history, InPhase, ImagesFacts, session, KeepsImages}
 use Rattle.host_machine.specs.laws.Facts.{IsPlain, PagesMapped, PagesSent}
 
 module _ {A T V C R : Type 0} {o : Over A T V C R} {Stands : V → T → Type 0} (contract : Contract o Stands) where
   module _ {es : List (Entry C R)} {cuts : List ℕ} {s : Session} {r : ℕ} {touched revoked changed : List ℕ} {phase : Phase} {v : V} {pages : List CachedPage} {N : ℕ}
       (journal : s.journal ≡ o.setup.journal) (reserved : s.reserved ≡ o.reserved) (facts : ImagesFacts o Stands es cuts s r touched revoked changed phase v pages N) where
-    trees : HasTrees (H o Stands es cuts)
+    trees : HasTrees (noted_history o Stands es cuts)
     trees = trees_noted o.model contract.trees o.place es cuts facts.rise
 
-    plain : IsPlain o.program (H o Stands es cuts) s (length es) (view_of o v)
+    plain : IsPlain o.program (noted_history o Stands es cuts) s (length es) (view_of o v)
     plain = plain_at contract es cuts s v (length es) journal reserved facts.stands
 
     -- A page that is cached may be sent: what it owes of pages, of images and of its note.
     module _ (q : Request) (f i : ℕ) (p : CachedPage) (here : page_at pages f i ≡ Some p) (block : kind_block q.kind ≡ Some p.block) (body : kind_body q.kind ≡ Some p.body) where
-      new_page : NewPageClause o.program (H o Stands es cuts) s q f i p.version p.block
+      new_page : NewPageClause o.program (noted_history o Stands es cuts) s q f i p.version p.block
       new_page = page_clause facts.numbers plain facts.bodies facts.plan_revokes trees facts.places facts.mapped facts.sent facts.zones q f i p here body
 
-      pub page_owes_pages : PageClause o.program (H o Stands es cuts) (plainly s facts.counted q (notes.Page f i p.version))
+      pub page_owes_pages : PageClause o.program (noted_history o Stands es cuts) (plainly s facts.counted q (notes.Page f i p.version))
       page_owes_pages = page_owes facts.counted q f i p.version p.block block new_page
 
       pub page_owes_image : ImageClause o.program (plainly s facts.counted q (notes.Page f i p.version))
@@ -69,7 +69,7 @@ module _ {A T V C R : Type 0} {o : Over A T V C R} {Stands : V → T → Type 0}
 
     -- One request more, which is no commit block. A page goes to its block with its version.
     module _ (q : Request) (n : Note) (no_commit : (k : ℕ) → n ≡ notes.Commit k → ⊥)
-        (page : (f i w z : ℕ) → n ≡ notes.Page f i w → kind_block q.kind ≡ Some z → ((view_of o v).zone f i ≡ Some z) × (w ≡ last_write (H o Stands es cuts) f i (length es)))
+        (page : (f i w z : ℕ) → n ≡ notes.Page f i w → kind_block q.kind ≡ Some z → ((view_of o v).zone f i ≡ Some z) × (w ≡ last_write (noted_history o Stands es cuts) f i (length es)))
         (put : (f i w : ℕ) → n ≡ notes.Page f i w → (z : ℕ) × (kind_block q.kind ≡ Some z)) where
       abbrev pushed : Session
       pushed = after (plainly s facts.counted q n)
@@ -98,14 +98,14 @@ module _ {A T V C R : Type 0} {o : Over A T V C R} {Stands : V → T → Type 0}
                 let last = there.1 in
                 let written = mapped_was_written trees f i (length es) (plain.mapped f i z there.0) in
                 facts.places.kept k f i z below maps
-                (λ m lo hi un. ⊎_elim (λ later. written.calm m later hi un) (λ early. back m lo (omega arith) un) (cases_lt (last_write (H o Stands es cuts) f i (length es)) m))
+                (λ m lo hi un. ⊎_elim (λ later. written.calm m later hi un) (λ early. back m lo (omega arith) un) (cases_lt (last_write (noted_history o Stands es cuts) f i (length es)) m))
                 there.0)
                 (λ f i w z y e b set. no_body_now facts.numbers plain facts.bodies facts.plan_revokes f i z y (page f i w z e b).0 set)
                 x.owed;
             barred = λ f i l maps. ⊎_elim inl (λ b. inr (b.0, b.1, fence_old s.requests q b.0 b.2)) (x.barred f i l maps);
           }
 
-      pub pushed_keeps : (pages_after : List CachedPage) → PagesMapped (H o Stands es cuts) (length es) (view_of o v) pages_after → IsRising pages_after → PagesSent pushed pages_after
+      pub pushed_keeps : (pages_after : List CachedPage) → PagesMapped (noted_history o Stands es cuts) (length es) (view_of o v) pages_after → IsRising pages_after → PagesSent pushed pages_after
           → ImagesFacts o Stands es cuts pushed r touched revoked changed phase v pages_after N
       pushed_keeps pages_after mapped rising sent = record {
         counted = length-append s.notes (n ∷ []) ∙ ap (λ l. l + length (n ∷ [])) facts.counted ∙ sym (length-append s.requests (q ∷ []));
@@ -113,7 +113,7 @@ module _ {A T V C R : Type 0} {o : Over A T V C R} {Stands : V → T → Type 0}
         rise = facts.rise;
         stands = facts.stands;
         numbers = numbers_pushed (plainly s facts.counted q n) no_commit
-            (λ f i w e. let z = put f i w e in let last = (page f i w z.0 e z.1).1 in let le = last_write_within (H o Stands es cuts) f i (length es) in omega arith) facts.numbers;
+            (λ f i w e. let z = put f i w e in let last = (page f i w z.0 e z.1).1 in let le = last_write_within (noted_history o Stands es cuts) f i (length es) in omega arith) facts.numbers;
         present = record { present = facts.present.present };
         bodies = record { on_metadata = facts.bodies.on_metadata; bodies_on = facts.bodies.bodies_on; waits = facts.bodies.waits; own = facts.bodies.own };
         plan_revokes = record { waits = facts.plan_revokes.waits };
@@ -152,7 +152,7 @@ module _ {A T V C R : Type 0} {o : Over A T V C R} {Stands : V → T → Type 0}
         same_page : (f i w g j y : ℕ) → notes.Page f i w ≡ notes.Page g j y → (f ≡ g) × (i ≡ j) × (w ≡ y)
         same_page f i w g j y e = (cc, cc, cc)
 
-        page : (f i w z : ℕ) → notes.Page p.birth p.index p.version ≡ notes.Page f i w → Some p.block ≡ Some z → ((view_of o s.volume).zone f i ≡ Some z) × (w ≡ last_write (H o Stands s.history s.cuts) f i (length s.history))
+        page : (f i w z : ℕ) → notes.Page p.birth p.index p.version ≡ notes.Page f i w → Some p.block ≡ Some z → ((view_of o s.volume).zone f i ≡ Some z) × (w ≡ last_write (noted_history o Stands s.history s.cuts) f i (length s.history))
         page f i w z e b =
             let k = same_page p.birth p.index p.version f i w e in
             let c = facts.0.mapped.cached f i p (ap (λ g. page_at s.pages g i) (sym k.0) ∙ ap (page_at s.pages p.birth) (sym k.1) ∙ here) in

@@ -18,7 +18,7 @@ use Rattle.host_machine.proofs.Reuse.{reuses_pushed, orderless_pushed}
 use Rattle.host_machine.proofs.Sends.{plainly}
 use Rattle.host_machine.specs.Host.{send_page}
 use Rattle.host_machine.specs.State.{Phase, Idle, Closing, Committing, Host, is_submitted}
-use Rattle.host_machine.specs.laws.Contract.{Over, view_of, Contract, H, InPhase, session, KeepsImages}
+use Rattle.host_machine.specs.laws.Contract.{Over, view_of, Contract, noted_history, InPhase, session, KeepsImages}
 use Rattle.host_machine.specs.laws.Reuse.{ReusesFreed, OrderlessCommitted, FreedWait, Owned}
 
 module _ {A T V C R : Type 0} {o : Over A T V C R} {Stands : V → T → Type 0} (contract : Contract o Stands) (s : Host V C R) (txs : List Transaction) (N : ℕ) (facts : KeepsImages o Stands s txs N) where
@@ -41,21 +41,21 @@ module _ {A T V C R : Type 0} {o : Over A T V C R} {Stands : V → T → Type 0}
     same_page : (f i w g j y : ℕ) → notes.Page f i w ≡ notes.Page g j y → (f ≡ g) × (i ≡ j) × (w ≡ y)
     same_page f i w g j y e = (cc, cc, cc)
 
-    where_it_goes : (f i w z : ℕ) → notes.Page p.birth p.index p.version ≡ notes.Page f i w → Some p.block ≡ Some z → ((view_of o s.volume).zone f i ≡ Some z) × (w ≡ last_write (H o Stands s.history s.cuts) f i (length s.history))
+    where_it_goes : (f i w z : ℕ) → notes.Page p.birth p.index p.version ≡ notes.Page f i w → Some p.block ≡ Some z → ((view_of o s.volume).zone f i ≡ Some z) × (w ≡ last_write (noted_history o Stands s.history s.cuts) f i (length s.history))
     where_it_goes f i w z e b =
         let k = same_page p.birth p.index p.version f i w e in
         let c = facts.0.mapped.cached f i p (ap (λ g. page_at s.pages g i) (sym k.0) ∙ ap (page_at s.pages p.birth) (sym k.1) ∙ here) in
         (c.zone ∙ b, sym k.2 ∙ c.version)
 
-    pub send_reuses : {frees : ℕ → ℕ → Bool} → FreedWait (H o Stands s.history s.cuts) (session o Stands txs s) (length s.history) N (view_of o s.volume) frees → ReusesFreed (H o Stands s.history s.cuts) (session o Stands txs s) frees
-        → ReusesFreed (H o Stands s.history s.cuts) (session o Stands txs (send_page o.model o.setup s p ordered barrier)) frees
+    pub send_reuses : {frees : ℕ → ℕ → Bool} → FreedWait (noted_history o Stands s.history s.cuts) (session o Stands txs s) (length s.history) N (view_of o s.volume) frees → ReusesFreed (noted_history o Stands s.history s.cuts) (session o Stands txs s) frees
+        → ReusesFreed (noted_history o Stands s.history s.cuts) (session o Stands txs (send_page o.model o.setup s p ordered barrier)) frees
     send_reuses freed was =
         reuses_pushed (plainly (session o Stands txs s) facts.0.counted request (notes.Page p.birth p.index p.version))
         (plain_at contract s.history s.cuts (session o Stands txs s) s.volume (length s.history) refl refl facts.0.stands) freed
-        (λ f i w z e b. let x = where_it_goes f i w z e b in let version = x.1 in let le = last_write_within (H o Stands s.history s.cuts) f i (length s.history) in (x.0, omega arith)) was
+        (λ f i w z e b. let x = where_it_goes f i w z e b in let version = x.1 in let le = last_write_within (noted_history o Stands s.history s.cuts) f i (length s.history) in (x.0, omega arith)) was
 
-    pub send_orderless : (ordered ≡ false → is_submitted s.journal (slice_index_or s.owners p.block 0) ≡ true) → Owned (H o Stands s.history s.cuts) (length s.history) (view_of o s.volume) s.owners
-        → OrderlessCommitted (H o Stands s.history s.cuts) (session o Stands txs s) → OrderlessCommitted (H o Stands s.history s.cuts) (session o Stands txs (send_page o.model o.setup s p ordered barrier))
+    pub send_orderless : (ordered ≡ false → is_submitted s.journal (slice_index_or s.owners p.block 0) ≡ true) → Owned (noted_history o Stands s.history s.cuts) (length s.history) (view_of o s.volume) s.owners
+        → OrderlessCommitted (noted_history o Stands s.history s.cuts) (session o Stands txs s) → OrderlessCommitted (noted_history o Stands s.history s.cuts) (session o Stands txs (send_page o.model o.setup s p ordered barrier))
     send_orderless submitted owned was =
         orderless_pushed (plainly (session o Stands txs s) facts.0.counted request (notes.Page p.birth p.index p.version)) owned (trees_noted o.model contract.trees o.place s.history s.cuts facts.0.rise)
         (λ f i w z e b free.

@@ -34,7 +34,7 @@ use Rattle.host_machine.specs.Model.{is_begun}
 use Rattle.host_machine.specs.Plan.{Planned}
 use Rattle.host_machine.specs.State.{Ending, Answered, Ends, Entry, Plan, Phase, Host}
 use Rattle.host_machine.specs.Views.{transaction_of}
-use Rattle.host_machine.specs.laws.Contract.{Over, Contract, H, InPlan, ImagesFacts, session, KeepsImages}
+use Rattle.host_machine.specs.laws.Contract.{Over, Contract, noted_history, InPlan, ImagesFacts, session, KeepsImages}
 use Rattle.host_machine.specs.laws.PlanNotes.{BarrierAhead}
 use Rattle.host_machine.specs.laws.Rules.{AllRules, Keeps}
 
@@ -67,7 +67,7 @@ module _ {A T V C R : Type 0} {o : Over A T V C R} {Stands : V → T → Type 0}
   -- ---- entries
 
   pub entry_rules : {es : List (Entry C R)} {cuts : List ℕ} {s : Session} {r : ℕ} {touched revoked changed : List ℕ} {phase : Phase} {v : V} {pages : List CachedPage} {N : ℕ}
-      → ImagesFacts o Stands es cuts s r touched revoked changed phase v pages N → (e : Entry C R) → AllRules o.program (H o Stands es cuts) s → AllRules o.program (H o Stands (es ++ e ∷ []) cuts) s
+      → ImagesFacts o Stands es cuts s r touched revoked changed phase v pages N → (e : Entry C R) → AllRules o.program (noted_history o Stands es cuts) s → AllRules o.program (noted_history o Stands (es ++ e ∷ []) cuts) s
   entry_rules {es = es} {cuts = cuts} {r = r} facts e was =
       let grows = extends (entry_noted o.model es e o.place cuts r facts.closed facts.numbers.cuts) facts.numbers in
       record { order = was.order; pages = page_order_grows grows o.program was.pages; committed = data_before_commit_grows grows o.program was.committed }
@@ -103,8 +103,8 @@ module _ {A T V C R : Type 0} {o : Over A T V C R} {Stands : V → T → Type 0}
                 checkpoints = page_checkpoints sess request p.birth p.index p.version;
                 images = page_owes_image contract refl refl f request p.birth p.index p here refl refl;
               });
-          pages = page_order_step o.program (H o Stands s.history s.cuts) (plainly sess f.counted request note) was.order.commits commits was.pages pages;
-          committed = data_before_commit_step o.program (H o Stands s.history s.cuts) (plainly sess f.counted request note) was.order.commits commits was.committed pages;
+          pages = page_order_step o.program (noted_history o Stands s.history s.cuts) (plainly sess f.counted request note) was.order.commits commits was.pages pages;
+          committed = data_before_commit_step o.program (noted_history o Stands s.history s.cuts) (plainly sess f.counted request note) was.order.commits commits was.committed pages;
         },
       )
     where
@@ -127,51 +127,51 @@ module _ {A T V C R : Type 0} {o : Over A T V C R} {Stands : V → T → Type 0}
       pub log : LogClause (plainly (session o Stands txs s) facts.0.0.counted q n)
       pub checkpoints : CheckpointClause (session o Stands txs s) q n
 
-    rules_pushed : (n : Note) → RingOwes n → ImageClause o.program (plainly (session o Stands txs s) facts.0.0.counted q n) → PageClause o.program (H o Stands s.history s.cuts) (plainly (session o Stands txs s) facts.0.0.counted q n)
-        → AllRules o.program (H o Stands s.history s.cuts) (after (plainly (session o Stands txs s) facts.0.0.counted q n))
+    rules_pushed : (n : Note) → RingOwes n → ImageClause o.program (plainly (session o Stands txs s) facts.0.0.counted q n) → PageClause o.program (noted_history o Stands s.history s.cuts) (plainly (session o Stands txs s) facts.0.0.counted q n)
+        → AllRules o.program (noted_history o Stands s.history s.cuts) (after (plainly (session o Stands txs s) facts.0.0.counted q n))
     rules_pushed n ring images pages =
         let was = facts.1 in
         record {
           order = order_rules_step o.program (plainly (session o Stands txs s) facts.0.0.counted q n) was.order
               (record { fits = ring.fits; commits = ring.commits; log = ring.log; checkpoints = ring.checkpoints; images = images });
-          pages = page_order_step o.program (H o Stands s.history s.cuts) (plainly (session o Stands txs s) facts.0.0.counted q n) was.order.commits ring.commits was.pages pages;
-          committed = data_before_commit_step o.program (H o Stands s.history s.cuts) (plainly (session o Stands txs s) facts.0.0.counted q n) was.order.commits ring.commits was.committed pages;
+          pages = page_order_step o.program (noted_history o Stands s.history s.cuts) (plainly (session o Stands txs s) facts.0.0.counted q n) was.order.commits ring.commits was.pages pages;
+          committed = data_before_commit_step o.program (noted_history o Stands s.history s.cuts) (plainly (session o Stands txs s) facts.0.0.counted q n) was.order.commits ring.commits was.committed pages;
         }
 
     -- a log block, a superblock, a flush
     pub other_rules : (n : Note) → ((f i v : ℕ) → n ≡ notes.Page f i v → ⊥) → ((k : ℕ) → n ≡ notes.Commit k → ⊥) → ((b : ℕ) → n ≡ notes.Home b → ⊥) → RingOwes n
-        → AllRules o.program (H o Stands s.history s.cuts) (after (plainly (session o Stands txs s) facts.0.0.counted q n))
+        → AllRules o.program (noted_history o Stands s.history s.cuts) (after (plainly (session o Stands txs s) facts.0.0.counted q n))
     other_rules n no_page no_commit no_home ring =
         rules_pushed n ring (other_owes_images facts.0.0.counted q n no_page no_commit no_home) (other_owes facts.0.0.counted q n no_page no_commit)
 
     -- a home, whose body the ring knows
     pub home_rules : (b : ℕ) → RingOwes (notes.Home b) → ImageClause o.program (plainly (session o Stands txs s) facts.0.0.counted q (notes.Home b))
-        → AllRules o.program (H o Stands s.history s.cuts) (after (plainly (session o Stands txs s) facts.0.0.counted q (notes.Home b)))
+        → AllRules o.program (noted_history o Stands s.history s.cuts) (after (plainly (session o Stands txs s) facts.0.0.counted q (notes.Home b)))
     home_rules b ring images = rules_pushed (notes.Home b) ring images (other_owes facts.0.0.counted q (notes.Home b) (λ f i v e. let z : ⊥ = cc in z) (λ k e. let z : ⊥ = cc in z))
 
     -- the commit block, once it is all that is left of the plan
     pub commit_rules : (p : Plan) (last : Planned) → p.rest ≡ last ∷ [] → InPlan o Stands s.history s.cuts (session o Stands txs s) s.journal.running.number N p → RingOwes (notes.Commit (s.journal.running.number - 1))
-        → AllRules o.program (H o Stands s.history s.cuts) (after (plainly (session o Stands txs s) facts.0.0.counted q (notes.Commit (s.journal.running.number - 1))))
+        → AllRules o.program (noted_history o Stands s.history s.cuts) (after (plainly (session o Stands txs s) facts.0.0.counted q (notes.Commit (s.journal.running.number - 1))))
     commit_rules p last e plan ring =
         rules_pushed (notes.Commit (s.journal.running.number - 1)) ring
         (commit_owes_images facts.0.0.counted q (s.journal.running.number - 1) plan.from plan.owed fence)
         (commit_owes facts.0.0.counted q (s.journal.running.number - 1) plan.from plan.owed fence)
       where
-        fence : (f i : ℕ) → (H o Stands s.history s.cuts).changes (s.journal.running.number - 1) f ≡ true → (H o Stands s.history s.cuts).maps ((H o Stands s.history s.cuts).cut (s.journal.running.number - 1)) f i ≡ true → (b : ℕ) × (plan.from ≤ b) × IsFence s.journal.flush.requests b
+        fence : (f i : ℕ) → (noted_history o Stands s.history s.cuts).changes (s.journal.running.number - 1) f ≡ true → (noted_history o Stands s.history s.cuts).maps ((noted_history o Stands s.history s.cuts).cut (s.journal.running.number - 1)) f i ≡ true → (b : ℕ) × (plan.from ≤ b) × IsFence s.journal.flush.requests b
         fence f i ch maps = ⊎_elim (λ ahead. absurd (subst BarrierAhead e ahead)) (λ b. b) (plan.barred f i (plan.listed f ch) maps)
 
   -- ---- the plan tells a transaction
 
   pub plan_rules : (s : Host V C R) (txs : List Transaction) (N : ℕ) (facts : KeepsImages o Stands s txs N) → N + 1 ≡ s.journal.running.number
-      → (history : H o Stands s.history s.cuts ≡ H o Stands s.history (s.cuts ++ length s.history ∷ []))
-      → AllRules o.program (H o Stands s.history s.cuts) (session o Stands txs s)
-      → AllRules o.program (H o Stands s.history (s.cuts ++ length s.history ∷ [])) (session o Stands (txs ++ closing_transaction contract s txs N facts ∷ []) (build_plan o.model o.setup s))
+      → (history : noted_history o Stands s.history s.cuts ≡ noted_history o Stands s.history (s.cuts ++ length s.history ∷ []))
+      → AllRules o.program (noted_history o Stands s.history s.cuts) (session o Stands txs s)
+      → AllRules o.program (noted_history o Stands s.history (s.cuts ++ length s.history ∷ [])) (session o Stands (txs ++ closing_transaction contract s txs N facts ∷ []) (build_plan o.model o.setup s))
   plan_rules s txs N facts all_closed history was =
       subst (λ h. AllRules o.program h (record (session o Stands txs s) { transactions = transactions })) history
       (record {
         order = rules_retold was.order.commits transactions same was.order;
-        pages = pages_retold was.order.commits transactions same o.program (H o Stands s.history s.cuts) was.pages;
-        committed = data_retold was.order.commits transactions same o.program (H o Stands s.history s.cuts) was.committed;
+        pages = pages_retold was.order.commits transactions same o.program (noted_history o Stands s.history s.cuts) was.pages;
+        committed = data_retold was.order.commits transactions same o.program (noted_history o Stands s.history s.cuts) was.committed;
       })
     where
       transactions : ℕ → Transaction

@@ -33,7 +33,7 @@ use Rattle.host_machine.specs.Parts.{has, first_page, least, log_needs, ring_fre
 use Rattle.host_machine.specs.Plan.{Planned}
 use Rattle.host_machine.specs.State.{Begun, Wait, Thread, is_flush_note, Plan, Phase, Idle, Closing, Committing, Host, is_over, at_limit, is_submitted}
 use Rattle.host_machine.specs.Views.{transaction_of}
-use Rattle.host_machine.specs.laws.Contract.{Over, Contract, H, InPlan, InPhase, session}
+use Rattle.host_machine.specs.laws.Contract.{Over, Contract, noted_history, InPlan, InPhase, session}
 use Rattle.host_machine.specs.laws.PlanNotes.{is_plan_note, IsRestOf}
 use Rattle.host_runs.proofs.BuildHost.{transaction_now, same_history, build_keeps}
 use Rattle.host_runs.proofs.CallHost.{all_kept, all_pushed, all_sent, all_close, all_need, call_told, In_wait}
@@ -80,7 +80,7 @@ module _ {A T V C R : Type 0} {o : Over A T V C R} {Stands : V → T → Type 0}
         is_firm true e = refl
         is_firm false e = sym e
 
-    pushed : (q : Request) (n : Note) → Calls contract txs N s → AllCalls (H o Stands s.history s.cuts) (after (plainly (session o Stands txs s) kept.images.0.counted q n)) s.pages (length s.history) s.journal.running.number s.threads s.journal.flush.waits
+    pushed : (q : Request) (n : Note) → Calls contract txs N s → AllCalls (noted_history o Stands s.history s.cuts) (after (plainly (session o Stands txs s) kept.images.0.counted q n)) s.pages (length s.history) s.journal.running.number s.threads s.journal.flush.waits
     pushed q n c = all_pushed (plainly (session o Stands txs s) kept.images.0.counted q n) c
 
     submits_rules : (full : Bool) (out : Host V C R) → HasRules contract out → HasRules contract (submits o.model o.setup full s out).host
@@ -198,7 +198,7 @@ module _ {A T V C R : Type 0} {o : Over A T V C R} {Stands : V → T → Type 0}
               let th = slice_get-in_range s.threads t.0 (omega arith) in
               of_thread t.0 th.0 th.1 th.0.begun refl t.2
             where
-              none_of : (b : Begun) → CallFacts (H o Stands s.history s.cuts) (session o Stands txs s) s.pages (length s.history) s.journal.running.number b w → (x : Option ℕ) → w.need ≡ x → w.need ≡ None
+              none_of : (b : Begun) → CallFacts (noted_history o Stands s.history s.cuts) (session o Stands txs s) s.pages (length s.history) s.journal.running.number b w → (x : Option ℕ) → w.need ≡ x → w.need ≡ None
               none_of b facts None e = e
               none_of b facts (Some id) e =
                   let c = facts.cause id e (ap is_data (sym facts.kind) ∙ whole_kind w.kind sync) in
@@ -208,7 +208,7 @@ module _ {A T V C R : Type 0} {o : Over A T V C R} {Stands : V → T → Type 0}
 
               of_thread : (n : ℕ) (th : Thread C) → slice_get s.threads n ≡ Some th → (x : Option Begun) → th.begun ≡ x → wait_of s.journal.flush.waits n ≡ w → w.need ≡ None
               of_thread n th here None e at = sym (ap (λ (v : Wait). v.need) at) ∙ ap (λ (v : Wait). v.need) (calls.idle n th here e)
-              of_thread n th here (Some b) e at = none_of b (subst (CallFacts (H o Stands s.history s.cuts) (session o Stands txs s) s.pages (length s.history) s.journal.running.number b) at (calls.each n th b here e)) w.need refl
+              of_thread n th here (Some b) e at = none_of b (subst (CallFacts (noted_history o Stands s.history s.cuts) (session o Stands txs s) s.pages (length s.history) s.journal.running.number b) at (calls.each n th b here e)) w.need refl
 
       check_out_rules : s.journal.phase ≡ Closing → (homes : List Logged) → s.journal.ring.homes ≡ homes → HasRules contract (checkpoint o.model o.setup s homes)
       check_out_rules at [] e =

@@ -19,15 +19,15 @@ use Rattle.host_machine.specs.Host.{Stepped, stop_of, end_with, step_call, step_
 use Rattle.host_machine.specs.Outcomes as outcomes
 use Rattle.host_machine.specs.State.{Ending, Answered, Down, ReadOnly, SessionFull, Begun, Thread, Host}
 use Rattle.host_machine.specs.Views.{some_in, alters_at, tree_after, writes_at, transaction_of}
-use Rattle.host_machine.specs.laws.Contract.{Over, Contract, H, session}
+use Rattle.host_machine.specs.laws.Contract.{Over, Contract, noted_history, session}
 use Rattle.host_runs.proofs.CallerHost.{begun_ok}
 use Rattle.host_runs.proofs.OkSteps.{ok_pushed, ok_taken, ok_grows}
 use Rattle.host_runs.proofs.RunHost.{step_keeps, step_fits}
 use Rattle.host_runs.proofs.Threads.{moved}
 use Rattle.host_runs.specs.Promises.{KeepsOk, IsAnswered}
-use Rattle.host_runs.specs.Runs.{Event, stepped, steps, Fits, HasBlocks}
+use Rattle.host_runs.specs.Runs.{Event, stepped, steps, FitsWords, HasBlocks}
 use Rattle.host_runs.specs.laws.CallFacts.{wait_of}
-use Rattle.host_runs.specs.laws.Kept.{HasRules, IsKept}
+use Rattle.host_runs.specs.laws.Kept.{HasRules, IsSound}
 use Rattle.host_runs.specs.laws.Traces.{Trace, trace_of, Move, Stays, Puts, Enters, Cuts, Takes}
 use Rattle.host_runs.specs.laws.Written.{AreWritten}
 
@@ -73,7 +73,7 @@ module _ {A T V C R : Type 0} {o : Over A T V C R} {Stands : V → T → Type 0}
 
   module _ (ring : Ring) (e : ℕ) (b : Begun) where
     abbrev OkAt : Trace C R → Type 0
-    OkAt t = KeepsOk (H o Stands t.history t.cuts) (seen ring t) t.taken e b × (b.begin ≤ length t.history)
+    OkAt t = KeepsOk (noted_history o Stands t.history t.cuts) (seen ring t) t.taken e b × (b.begin ≤ length t.history)
 
     moves : (s : Host V C R) → HasRules contract s → (t : Trace C R) → Move (trace_of s) t → OkAt (trace_of s) → OkAt t
     moves s has t (Stays q) ok = subst OkAt q ok
@@ -105,7 +105,7 @@ module _ {A T V C R : Type 0} {o : Over A T V C R} {Stands : V → T → Type 0}
 
   -- ---- an answer
 
-  module _ (s : Host V C R) (kept : IsKept contract s) (full : Bool) (t : ℕ) (th : Thread C) (b : Begun) (at : slice_get s.threads t ≡ Some th) (begun : th.begun ≡ Some b) where
+  module _ (s : Host V C R) (kept : IsSound contract s) (full : Bool) (t : ℕ) (th : Thread C) (b : Begun) (at : slice_get s.threads t ≡ Some th) (begun : th.begun ≡ Some b) where
     pub answered_now : (r : R) → r ≡ o.model.ok → (advance o.model o.setup full s t).step ≡ outcomes.Done r → IsAnswered o Stands s (length s.history + 1) b
     answered_now r q done = of_calls th.calls refl (ap (λ (x : Stepped V C R). x.step) (sym here) ∙ done ∙ ap outcomes.Done q)
       where
@@ -139,7 +139,7 @@ module _ {A T V C R : Type 0} {o : Over A T V C R} {Stands : V → T → Type 0}
   -- ---- it stays
 
   module _ (written : AreWritten o.format o.setup.writers) (blocks : HasBlocks o Stands) where
-    pub answer_stays : (s : Host V C R) (es : List Event) (e : ℕ) (b : Begun) → IsKept contract s → Fits o s → b.begin ≤ length s.history → IsAnswered o Stands s e b → IsAnswered o Stands (steps o s es) e b
+    pub answer_stays : (s : Host V C R) (es : List Event) (e : ℕ) (b : Begun) → IsSound contract s → FitsWords o s → b.begin ≤ length s.history → IsAnswered o Stands s e b → IsAnswered o Stands (steps o s es) e b
     answer_stays s [] e b kept fits begun ok = ok
     answer_stays s (event ∷ es) e b kept fits begun ok =
         let ring = s.journal.ring.places in

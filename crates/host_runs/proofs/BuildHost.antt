@@ -24,7 +24,7 @@ use Rattle.host_machine.specs.Parts.{place_blocks, ring_free, log_blocks_for, lo
 use Rattle.host_machine.specs.Plan.{plan_of}
 use Rattle.host_machine.specs.State.{Entry, Plan, Closing, Committing, Host}
 use Rattle.host_machine.specs.Views.{some_in, alters_at, transaction_of}
-use Rattle.host_machine.specs.laws.Contract.{Over, Contract, H, InPhase, session}
+use Rattle.host_machine.specs.laws.Contract.{Over, Contract, noted_history, InPhase, session}
 use Rattle.host_machine.specs.laws.Rules.{AllRules}
 use Rattle.host_runs.proofs.RingHost.{plan_is_built}
 use Rattle.host_runs.specs.laws.Homes.{IsApart}
@@ -80,7 +80,7 @@ module _ {A T V C R : Type 0} {o : Over A T V C R} {Stands : V → T → Type 0}
         ap (λ k. slice_index_or (txs ++ transaction_now ∷ []) k (record { bodies = []; revokes = [] })) e ∙ index_push txs transaction_now (record { bodies = []; revokes = [] })
 
     abbrev before : History A
-    before = H o Stands s.history s.cuts
+    before = noted_history o Stands s.history s.cuts
 
     abbrev history_by : (ℕ → ℕ) → History A
     history_by cut = record {
@@ -92,7 +92,7 @@ module _ {A T V C R : Type 0} {o : Over A T V C R} {Stands : V → T → Type 0}
       place = before.place;
     }
 
-    pub same_history : before ≡ H o Stands s.history (s.cuts ++ length s.history ∷ [])
+    pub same_history : before ≡ noted_history o Stands s.history (s.cuts ++ length s.history ∷ [])
     same_history = ap history_by (fun_ext (λ k. sym (cut_noted s.cuts (length s.history) k)))
 
     abbrev the_plan : Plan
@@ -132,7 +132,7 @@ module _ {A T V C R : Type 0} {o : Over A T V C R} {Stands : V → T → Type 0}
   -- ---- an entry more
 
   -- Whatever it is, and whatever it did to volume and pages: the rules and the ring's facts stay.
-  pub entry_rules : (e : Entry C R) → AllRules o.program (H o Stands (s.history ++ e ∷ []) s.cuts) sess
+  pub entry_rules : (e : Entry C R) → AllRules o.program (noted_history o Stands (s.history ++ e ∷ []) s.cuts) sess
   entry_rules e =
       let numbers = kept.images.0.numbers in
       let ext = extends (entry_noted o.model s.history e o.place s.cuts r kept.images.0.closed numbers.cuts) numbers in

@@ -28,7 +28,7 @@ use Rattle.host_machine.specs.Model.{Kind, Reading, Changing, FileBarrier, DataB
 use Rattle.host_machine.specs.Outcomes as outcomes
 use Rattle.host_machine.specs.Parts.{log_needs}
 use Rattle.host_machine.specs.State.{Ending, Answered, SessionFull, Begins, Ends, Entry, Wait, Plan, Committing, Begun, Thread, Host, at_limit, is_flushed_after, flush_above, last_put, is_submitted, is_closing, latest_change}
-use Rattle.host_machine.specs.laws.Contract.{Over, view_of, Contract, H, InPlan, InPhase, session}
+use Rattle.host_machine.specs.laws.Contract.{Over, view_of, Contract, noted_history, InPlan, InPhase, session}
 use Rattle.host_machine.specs.laws.Facts.{IsPlain, PagesMapped}
 use Rattle.host_machine.specs.laws.Rules.{AllRules}
 use Rattle.host_runs.proofs.BuildHost.{entry_rules}
@@ -48,7 +48,7 @@ use Rattle.host_runs.specs.laws.RingFacts.{RingKept}
 module _ {A T V C R : Type 0} {o : Over A T V C R} {Stands : V → T → Type 0} (contract : Contract o Stands) (txs : List Transaction) (N : ℕ) where
   -- the rules and the ring's facts, without those of images; and all calls
   pub record KeepsCalls (x : Host V C R) : Type 0 where
-    pub rules : AllRules o.program (H o Stands x.history x.cuts) (session o Stands txs x)
+    pub rules : AllRules o.program (noted_history o Stands x.history x.cuts) (session o Stands txs x)
     pub ring : RingKept (session o Stands txs x) x.journal.ring N x.journal.phase
     pub calls : Calls contract txs N x
     pub flushes : Flushes contract txs N x
@@ -58,7 +58,7 @@ module _ {A T V C R : Type 0} {o : Over A T V C R} {Stands : V → T → Type 0}
 
   module _ (s : Host V C R) (kept : KeepsRules contract s txs N) (calls : Calls contract txs N s) (flushes : Flushes contract txs N s) where
     abbrev h : History A
-    h = H o Stands s.history s.cuts
+    h = noted_history o Stands s.history s.cuts
 
     abbrev sess : Session
     sess = session o Stands txs s
@@ -101,7 +101,7 @@ module _ {A T V C R : Type 0} {o : Over A T V C R} {Stands : V → T → Type 0}
             rules = entry_rules contract s txs N kept e;
             ring = kept.ring;
             calls =
-                subst (λ n. AllCalls (H o Stands (s.history ++ e ∷ []) s.cuts) sess s.pages n r (set s.threads t (record { calls = rest; begun = None })) (set s.journal.flush.waits t no_wait)) (sym (length_new o.model s.history e))
+                subst (λ n. AllCalls (noted_history o Stands (s.history ++ e ∷ []) s.cuts) sess s.pages n r (set s.threads t (record { calls = rest; begun = None })) (set s.journal.flush.waits t no_wait)) (sym (length_new o.model s.history e))
                 (all_set t (record { calls = rest; begun = None }) no_wait there (λ b k. absurd (none-some b k)) (λ k. refl) grown);
             flushes = wait_set (entry_counted flushes e) t no_wait (λ v k x. absurd (false≢true x)) (λ id x. absurd (none-some id x));
           }
@@ -267,8 +267,8 @@ module _ {A T V C R : Type 0} {o : Over A T V C R} {Stands : V → T → Type 0}
           flushes = begun_flushes (is_durable (o.model.kind c)) refl;
           calls =
               all_set t (record { calls = c ∷ rest; begun = Some b }) v there
-              (λ x k. subst (λ y. CallFacts (H o Stands (s.history ++ e ∷ []) s.cuts) sess s.pages (length (s.history ++ e ∷ [])) r y v) (same_Some b x k) new) (λ k. absurd (none-some b (sym k)))
-              (subst (λ n. AllCalls (H o Stands (s.history ++ e ∷ []) s.cuts) sess s.pages n r s.threads s.journal.flush.waits) (sym (length_new o.model s.history e)) grown);
+              (λ x k. subst (λ y. CallFacts (noted_history o Stands (s.history ++ e ∷ []) s.cuts) sess s.pages (length (s.history ++ e ∷ [])) r y v) (same_Some b x k) new) (λ k. absurd (none-some b (sym k)))
+              (subst (λ n. AllCalls (noted_history o Stands (s.history ++ e ∷ []) s.cuts) sess s.pages n r s.threads s.journal.flush.waits) (sym (length_new o.model s.history e)) grown);
         }
       where
         begun_flushes : (x : Bool) → is_durable (o.model.kind c) ≡ x → FlushFacts o.model.kind s.journal.flush.notes (set s.journal.flush.waits t (record { kind = o.model.kind c; target = None; need = None })) (s.history ++ record { thread = t; call = c; what = Begins } ∷ [])
@@ -314,9 +314,9 @@ module _ {A T V C R : Type 0} {o : Over A T V C R} {Stands : V → T → Type 0}
         let images = (change_keeps contract s txs N t c rest kept.images accepted plain (enough c free)).0 in
         let old = plain_at contract s.history s.cuts sess s.volume (length s.history) refl refl kept.images.0.stands in
         let next = length_new o.model s.history e in
-        let new = subst (λ n. IsPlain o.program (H o Stands es s.cuts) sess n (view_of o a.volume)) next (plain_at contract es s.cuts sess a.volume (length es) refl refl images.stands) in
+        let new = subst (λ n. IsPlain o.program (noted_history o Stands es s.cuts) sess n (view_of o a.volume)) next (plain_at contract es s.cuts sess a.volume (length es) refl refl images.stands) in
         let ps = written_pages o.model o.setup a.volume (length s.history + 1) (dropped_pages o.model o.setup s.pages a.touched.dropped) a.touched.pages in
-        let mapped = subst (λ n. PagesMapped (H o Stands es s.cuts) n (view_of o a.volume) ps) next images.mapped in
+        let mapped = subst (λ n. PagesMapped (noted_history o Stands es s.cuts) n (view_of o a.volume) ps) next images.mapped in
         let keeps = change_keeps_unsent o.model o.setup noted kept.images.0.numbers old new s.pages a.volume a.touched.dropped a.touched.pages kept.images.0.mapped mapped in
         let grown = all_grow noted kept.images.0.numbers keeps calls in
         record {
@@ -324,7 +324,7 @@ module _ {A T V C R : Type 0} {o : Over A T V C R} {Stands : V → T → Type 0}
           ring = kept.ring;
           flushes = wait_set (entry_counted flushes e) t no_wait (λ v k x. absurd (false≢true x)) (λ id x. absurd (none-some id x));
           calls =
-              subst (λ n. AllCalls (H o Stands es s.cuts) sess ps n r (set s.threads t (record { calls = rest; begun = None })) (set s.journal.flush.waits t no_wait)) (sym next)
+              subst (λ n. AllCalls (noted_history o Stands es s.cuts) sess ps n r (set s.threads t (record { calls = rest; begun = None })) (set s.journal.flush.waits t no_wait)) (sym next)
               (all_set t (record { calls = rest; begun = None }) no_wait there (λ b k. absurd (none-some b k)) (λ k. refl) grown);
         }
 

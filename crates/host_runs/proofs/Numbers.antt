@@ -13,7 +13,7 @@ use Rattle.host_machine.specs.Parts.{LogRing}
 use Rattle.host_machine.specs.State.{Phase, Idle, Closing, Committing, Host}
 use Rattle.host_machine.specs.Views.{running_transaction}
 use Rattle.host_machine.specs.laws.Contract.{Over, Contract, session}
-use Rattle.host_runs.specs.Runs.{Fits, HasBlocks}
+use Rattle.host_runs.specs.Runs.{FitsWords, HasBlocks}
 use Rattle.host_runs.specs.laws.Kept.{KeepsRules}
 use Rattle.host_runs.specs.laws.RingFacts.{PlaceFacts, RingInPhase}
 use Rattle.host_runs.specs.laws.Traces.{Trace, Move, Stays, Puts, Enters, Cuts, Takes}
@@ -68,7 +68,7 @@ module _ {A T V C R : Type 0} {o : Over A T V C R} {Stands : V → T → Type 0}
           let same = kept.images.0.counted in
           omega arith
 
-  module _ (fits : Fits o s) (room : length s.journal.flush.requests ≤ s.journal.flush.limit) where
+  module _ (fits : FitsWords o s) (room : length s.journal.flush.requests ≤ s.journal.flush.limit) where
     pub sequence_fits : IsWord (o.setup.sequence + (s.journal.running.number - 1))
     sequence_fits = let n = few in let w = fits.sequences in ⊎_elim (λ e. omega arith) (λ e. omega arith) kept.images.0.numbers.closed
 

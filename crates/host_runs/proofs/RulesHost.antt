@@ -30,7 +30,7 @@ use Rattle.host_machine.specs.Host.{send_planned, committed, checkpoint, send_pa
 use Rattle.host_machine.specs.Parts.{home_sent, all_home}
 use Rattle.host_machine.specs.Plan.{Planned}
 use Rattle.host_machine.specs.State.{Entry, Plan, Phase, Closing, Committing, Host, submit}
-use Rattle.host_machine.specs.laws.Contract.{Over, Contract, H, InPlan, InPhase, ImagesFacts, session}
+use Rattle.host_machine.specs.laws.Contract.{Over, Contract, noted_history, InPlan, InPhase, ImagesFacts, session}
 use Rattle.host_machine.specs.laws.PlanNotes.{is_plan_note, IsRestOf, BarrierAhead}
 use Rattle.host_machine.specs.laws.Rules.{AllRules}
 use Rattle.host_runs.proofs.CheckpointSteps.{home_request, super_request}
@@ -100,7 +100,7 @@ module _ {A T V C R : Type 0} {o : Over A T V C R} {Stands : V → T → Type 0}
     sess = session o Stands txs s
 
     abbrev h : History A
-    h = H o Stands s.history s.cuts
+    h = noted_history o Stands s.history s.cuts
 
     abbrev counted : length sess.notes ≡ length sess.requests
     counted = kept.images.0.counted

@@ -9,7 +9,7 @@ use Rattle.host_machine.proofs.Opening.{opened_keeps}
 use Rattle.host_machine.specs.Host.{opened}
 use Rattle.host_machine.specs.Parts.{LogRing}
 use Rattle.host_machine.specs.State.{Host}
-use Rattle.host_machine.specs.laws.Contract.{Over, Contract, H, session}
+use Rattle.host_machine.specs.laws.Contract.{Over, Contract, noted_history, session}
 use Rattle.host_runs.proofs.ActorHost.{writeback_rules, flush_step_rules, commit_step_rules}
 use Rattle.host_runs.proofs.CallerHost.{advance_rules}
 use Rattle.host_runs.proofs.StartHost.{ring_at_start, calls_at_start, flushes_at_start, none_begun}
@@ -18,12 +18,12 @@ use Rattle.host_runs.proofs.Numbers.{room_stays, limits_stay, sequence_fits, fir
 use Rattle.host_runs.specs.laws.Traces.{trace_of}
 use Rattle.log_model.specs.Ring.{Ring}
 use Rattle.host_runs.specs.Opened.{IsOpened}
-use Rattle.host_runs.specs.Runs.{Event, Call, Commit, WriteBack, FlushStep, stepped, steps, Fits, HasBlocks}
-use Rattle.host_runs.specs.laws.Kept.{HasRules, IsKept}
+use Rattle.host_runs.specs.Runs.{Event, Call, Commit, WriteBack, FlushStep, stepped, steps, FitsWords, HasBlocks}
+use Rattle.host_runs.specs.laws.Kept.{HasRules, IsSound}
 use Rattle.host_runs.specs.laws.Written.{IsWord, AreWritten}
 
 module _ {A T V C R : Type 0} {o : Over A T V C R} {Stands : V → T → Type 0} (contract : Contract o Stands) where
-  pub opened_has : (v : V) (ring : LogRing) (zones limit : ℕ) (programs : List (List C)) → IsOpened o Stands v ring zones limit programs → IsKept contract (opened o.model o.setup v ring zones limit programs)
+  pub opened_has : (v : V) (ring : LogRing) (zones limit : ℕ) (programs : List (List C)) → IsOpened o Stands v ring zones limit programs → IsSound contract (opened o.model o.setup v ring zones limit programs)
   opened_has v ring zones limit programs at =
       let k = opened_keeps contract v ring zones limit programs at.stands at.metadata at.first at.place at.base walked in
       record {
@@ -35,7 +35,7 @@ module _ {A T V C R : Type 0} {o : Over A T V C R} {Stands : V → T → Type 0}
             images = k.0;
             ring = ring_at_start (session o Stands [] (opened o.model o.setup v ring zones limit programs)) ring refl (record { places = refl; head = at.head; used = at.used; started = at.started; homes = at.homes });
           },
-          calls_at_start (H o Stands [] []) (session o Stands [] (opened o.model o.setup v ring zones limit programs)) [] 0 1 programs,
+          calls_at_start (noted_history o Stands [] []) (session o Stands [] (opened o.model o.setup v ring zones limit programs)) [] 0 1 programs,
           flushes_at_start o.model.kind programs,
         );
         begun = none_begun o.model.kind programs;
@@ -50,7 +50,7 @@ module _ {A T V C R : Type 0} {o : Over A T V C R} {Stands : V → T → Type 0}
       walked b i = (at.metadata b ((contract.plain v o.model.root at.stands).walk b (subst (In b) (blocks_read-agree (o.model.bytes v) (disk_of o.base) o.program same) i))).0
 
   module _ (written : AreWritten o.format o.setup.writers) (blocks : HasBlocks o Stands) where
-    pub step_keeps : (s : Host V C R) (e : Event) → IsKept contract s → Fits o s → IsKept contract (stepped o s e)
+    pub step_keeps : (s : Host V C R) (e : Event) → IsSound contract s → FitsWords o s → IsSound contract (stepped o s e)
     step_keeps s e kept fits =
         let m = moved o s kept.begun e in
         record { rules = by e; begun = m.0; room = room_stays (trace_of s) (trace_of (stepped o s e)) m.1 kept.room }
@@ -82,7 +82,7 @@ module _ {A T V C R : Type 0} {o : Over A T V C R} {Stands : V → T → Type 0}
         by (FlushStep full next) = flush_step_rules contract s has.0 has.1 has.2 has.3 has.4 full next
 
     -- the limit and the places of the log never change
-    pub step_fits : (s : Host V C R) (e : Event) → IsKept contract s → Fits o s → Fits o (stepped o s e)
+    pub step_fits : (s : Host V C R) (e : Event) → IsSound contract s → FitsWords o s → FitsWords o (stepped o s e)
     step_fits s e kept fits =
         let same = limits_stay (trace_of s) (trace_of (stepped o s e)) (moved o s kept.begun e).1 in
         record {
@@ -91,6 +91,6 @@ module _ {A T V C R : Type 0} {o : Over A T V C R} {Stands : V → T → Type 0}
           sequences = subst (λ n. o.setup.sequence + n + 1 < 4294967296) (sym same.0) fits.sequences;
         }
 
-    pub steps_keep : (s : Host V C R) (es : List Event) → IsKept contract s → Fits o s → IsKept contract (steps o s es)
+    pub steps_keep : (s : Host V C R) (es : List Event) → IsSound contract s → FitsWords o s → IsSound contract (steps o s es)
     steps_keep s [] kept fits = kept
     steps_keep s (e ∷ es) kept fits = steps_keep (stepped o s e) es (step_keeps s e kept fits) (step_fits s e kept fits)

@@ -12,7 +12,7 @@ use Rattle.crash_laws.specs.Session.{Session, Medium}
 use Rattle.host_machine.proofs.Entries.{trees_noted}
 use Rattle.host_machine.specs.State.{Begun, Host}
 use Rattle.host_machine.specs.Views.{cut_of, tree_after}
-use Rattle.host_machine.specs.laws.Contract.{Over, Contract, H, IsAlike, session}
+use Rattle.host_machine.specs.laws.Contract.{Over, Contract, noted_history, IsAlike, session}
 use Rattle.host_runs.proofs.Answered.{ok_as}
 use Rattle.host_runs.specs.Promises.{call_of, KeepsOk, IsAnswered}
 use Rattle.host_runs.specs.Sentences.{KeepsSentences}
@@ -23,7 +23,7 @@ module _ {A T V C R : Type 0} {o : Over A T V C R} {Stands : V → T → Type 0}
   sess = session o Stands txs s
 
   abbrev h : History A
-  h = H o Stands s.history s.cuts
+  h = noted_history o Stands s.history s.cuts
 
   trees : HasTrees h
   trees = trees_noted o.model contract.trees o.place s.history s.cuts kept.images.0.rise

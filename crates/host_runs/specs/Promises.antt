@@ -8,7 +8,7 @@ use Rattle.crash_laws.specs.PromiseRules.{CoversNothing, BegunCall, Covers, Cove
 use Rattle.crash_laws.specs.Session.{Session, IsCommit}
 use Rattle.host_machine.specs.Model.{is_data, is_whole, is_durable}
 use Rattle.host_machine.specs.State.{Begun, Host}
-use Rattle.host_machine.specs.laws.Contract.{Over, H, session}
+use Rattle.host_machine.specs.laws.Contract.{Over, noted_history, session}
 
 -- what the call covers
 abbrev pub call_of : Begun → BegunCall
@@ -33,4 +33,4 @@ pub record KeepsOk {A : Type 0} (h : History A) (s : Session) (taken : List Comp
 
 -- In this state the call that answered Ok as entry `ended_at` has it.
 abbrev pub IsAnswered : {A T V C R : Type 0} (o : Over A T V C R) (Stands : V → T → Type 0) → Host V C R → ℕ → Begun → Type 0
-IsAnswered o Stands s ended_at b = KeepsOk (H o Stands s.history s.cuts) (session o Stands [] s) s.journal.flush.taken ended_at b
+IsAnswered o Stands s ended_at b = KeepsOk (noted_history o Stands s.history s.cuts) (session o Stands [] s) s.journal.flush.taken ended_at b

@@ -33,7 +33,7 @@ module _ {A T V C R : Type 0} (o : Over A T V C R) where
 
   -- The blocks of the volume and the places of the log are numbered by words of 32 bits, and so are the sequences of all
   -- transactions that a session of this limit can have.
-  pub record Fits (s : Host V C R) : Type 0 where
+  pub record FitsWords (s : Host V C R) : Type 0 where
     pub blocks : o.setup.journal ≤ 4294967296
     pub places : s.journal.ring.places.past ≤ 4294967296
     pub sequences : o.setup.sequence + s.journal.flush.limit + 1 < 4294967296

@@ -13,7 +13,7 @@ use Rattle.crash_laws.specs.Session.{Medium}
 use Rattle.host_machine.specs.Model.{is_durable}
 use Rattle.host_machine.specs.State.{Begun, Host}
 use Rattle.host_machine.specs.Views.{cut_of, tree_after}
-use Rattle.host_machine.specs.laws.Contract.{Over, H, IsAlike, session}
+use Rattle.host_machine.specs.laws.Contract.{Over, noted_history, IsAlike, session}
 use Rattle.host_runs.specs.Promises.{call_of, IsAnswered}
 
 module _ {A T V C R : Type 0} (o : Over A T V C R) (Stands : V → T → Type 0) (s : Host V C R) (txs : List Transaction) where
@@ -23,7 +23,7 @@ module _ {A T V C R : Type 0} (o : Over A T V C R) (Stands : V → T → Type 0)
 
   -- all that the call covers survived or was superseded
   pub record IsAllSettled (m : Medium) (b : Begun) : Type 0 where
-    pub pages : (f i n : ℕ) → Covers (H o Stands s.history s.cuts) (call_of b) f i n → IsSettled o.program (H o Stands s.history s.cuts) (session o Stands txs s) m (kept_number m) f i n
+    pub pages : (f i n : ℕ) → Covers (noted_history o Stands s.history s.cuts) (call_of b) f i n → IsSettled o.program (noted_history o Stands s.history s.cuts) (session o Stands txs s) m (kept_number m) f i n
     pub metadata : (n : ℕ) → CoversEntry (call_of b) n → n ≤ cut_of s.cuts (length s.history) (kept_number m)
 
   -- `txs` are the bodies and revokes of the closed transactions.
@@ -31,13 +31,13 @@ module _ {A T V C R : Type 0} (o : Over A T V C R) (Stands : V → T → Type 0)
     -- The recovered disk holds the transactions whose commit block was kept, which are the first ones, and versions of
     -- the file blocks that are no older than those which the last change of their file asks for.
     pub prefix : (m : Medium) (disk : ℕ → List ℕ) → IsOrderClosed o.base s.journal.flush.requests m.image m.origins → IsRecovered (session o Stands txs s) m disk
-        → HoldsPrefix o.program (H o Stands s.history s.cuts) (session o Stands txs s) m disk (kept_number m)
+        → HoldsPrefix o.program (noted_history o Stands s.history s.cuts) (session o Stands txs s) m disk (kept_number m)
     -- and its tree is that after the last entry of the last of them
     pub tree : (m : Medium) (disk : ℕ → List ℕ) → IsOrderClosed o.base s.journal.flush.requests m.image m.origins → IsRecovered (session o Stands txs s) m disk
         → IsAlike o Stands (answer disk o.program) (tree_after o.model s.history (cut_of s.cuts (length s.history) (kept_number m)))
     -- a barrier call that answered Ok as entry e: where a later write survived
     pub barriers : (m : Medium) (e : ℕ) (b : Begun) → IsOrderClosed o.base s.journal.flush.requests m.image m.origins → IsAnswered o Stands s e b → is_durable b.kind ≡ false
-        → IsLaterKept (H o Stands s.history s.cuts) (session o Stands txs s) m (kept_number m) e → IsAllSettled m b
+        → IsLaterKept (noted_history o Stands s.history s.cuts) (session o Stands txs s) m (kept_number m) e → IsAllSettled m b
     -- a sync call that answered Ok, where the device keeps what it has flushed
     pub syncs : (m : Medium) (e : ℕ) (b : Begun) (sent : List Completion) → IsOrderClosed o.base s.journal.flush.requests m.image m.origins → KeepsFlushed s.journal.flush.requests m.origins sent
         → ((c : Completion) → In c s.journal.flush.taken → In c sent) → IsAnswered o Stands s e b → is_durable b.kind ≡ true → IsAllSettled m b

@@ -113,8 +113,8 @@ module _ {A T V C R : Type 0} (o : Over A T V C R) where
     -- ---- what the host keeps
 
     module _ (es : List (Entry C R)) (cuts : List ℕ) where
-      abbrev pub H : History A
-      H = history_of o.model o.place es cuts
+      abbrev pub noted_history : History A
+      noted_history = history_of o.model o.place es cuts
 
       -- The transaction before the running one is on its way, with this plan: what is left of it, the nodes that the
       -- transaction changed, and what its commit block will owe. Where one of them is a file with a
@@ -122,11 +122,11 @@ module _ {A T V C R : Type 0} (o : Over A T V C R) where
       pub record InPlan (s : Session) (r N : ℕ) (p : Plan) : Type 0 where
         pub on_way : N + 2 ≡ r
         pub rest : IsRestOf (r - 1) p.rest
-        pub listed : (f : ℕ) → H.changes (r - 1) f ≡ true → In f p.changed
+        pub listed : (f : ℕ) → noted_history.changes (r - 1) f ≡ true → In f p.changed
         pub from : ℕ
         pub within : from ≤ length s.notes
-        pub owed : OnItsWay o.program H s (r - 1) from
-        pub barred : (f i : ℕ) → In f p.changed → H.maps (H.cut (r - 1)) f i ≡ true → BarrierAhead p.rest ⊎ ((b : ℕ) × (from ≤ b) × IsFence s.requests b)
+        pub owed : OnItsWay o.program noted_history s (r - 1) from
+        pub barred : (f i : ℕ) → In f p.changed → noted_history.maps (noted_history.cut (r - 1)) f i ≡ true → BarrierAhead p.rest ⊎ ((b : ℕ) × (from ≤ b) × IsFence s.requests b)
 
       abbrev pub InPhase : Session → ℕ → ℕ → Phase → Type 0
       InPhase s r N Idle = N + 1 ≡ r
@@ -138,18 +138,18 @@ module _ {A T V C R : Type 0} (o : Over A T V C R) where
         pub closed : length cuts + 1 ≡ r
         pub rise : (k : ℕ) → cut_of cuts (length es) k ≤ cut_of cuts (length es) (k + 1)
         pub stands : Stands v (tree_after o.model es (length es))
-        pub numbers : Numbers H s (length es) r N
+        pub numbers : Numbers noted_history s (length es) r N
         pub present : Present s r (view_of v) touched
         pub bodies : Bodies s r (view_of v) touched revoked
         pub plan_revokes : PlanRevokes s r N (view_of v)
         -- the image of each closed transaction is alike to the tree at its end
         pub alike : (k : ℕ) → k < r → IsAlike (answer (image_of s k) o.program) (tree_after o.model es (cut_of cuts (length es) k))
-        pub places : KeepsPlaces o.program H s (length es) r (view_of v)
-        pub mapped : PagesMapped H (length es) (view_of v) pages
+        pub places : KeepsPlaces o.program noted_history s (length es) r (view_of v)
+        pub mapped : PagesMapped noted_history (length es) (view_of v) pages
         pub rising : IsRising pages
         pub sent : PagesSent s pages
-        pub zones : ZoneHistory H s (length es) N (view_of v)
-        pub altered : Altered H s r (view_of v) touched changed
+        pub zones : ZoneHistory noted_history s (length es) N (view_of v)
+        pub altered : Altered noted_history s r (view_of v) touched changed
         pub in_phase : InPhase s r N phase
 
     -- of a host; `txs` are the bodies and revokes of its closed transactions, and N of them are submitted

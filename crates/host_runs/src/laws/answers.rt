@@ -5,9 +5,9 @@ ghost use Rattle.host_machine.specs.Outcomes.{Done};
 ghost use Rattle.host_machine.specs.State.{Begun, Thread, Host, is_flush_note};
 ghost use Rattle.host_machine.specs.laws.Contract.{Over, Contract, StandsAs};
 ghost use Rattle.host_runs.specs.Promises.{IsAnswered};
-ghost use Rattle.host_runs.specs.Runs.{Event, steps, Fits, HasBlocks};
+ghost use Rattle.host_runs.specs.Runs.{Event, steps, FitsWords, HasBlocks};
 ghost use Rattle.host_runs.specs.laws.FlushFacts.{count, is_begin};
-ghost use Rattle.host_runs.specs.laws.Kept.{IsKept};
+ghost use Rattle.host_runs.specs.laws.Kept.{IsSound};
 ghost use Rattle.host_runs.specs.laws.Written.{AreWritten};
 
 /// A law, which does nothing when it is called: when a barrier or sync call is answered Ok, what it covers stands in the
@@ -15,10 +15,10 @@ ghost use Rattle.host_runs.specs.laws.Written.{AreWritten};
 /// commit block between its Begin and its End as its cause. It has it whatever the host does after it.
 pub fn answers_keep_their_promises<A, T, V, C, R>()
     ensures now { (o : Over A T V C R) (tree : V → Option T) (contract : Contract o (StandsAs tree)) (s : Host V C R) (full : Bool) (t : ℕ) (th : Thread C) (b : Begun) →
-        IsKept contract s → slice_get s.threads t ≡ Some th → th.begun ≡ Some b → (advance o.model o.setup full s t).step ≡ Done o.model.ok →
+        IsSound contract s → slice_get s.threads t ≡ Some th → th.begun ≡ Some b → (advance o.model o.setup full s t).step ≡ Done o.model.ok →
         IsAnswered o (StandsAs tree) s (length s.history + 1) b }
     ensures later { (o : Over A T V C R) (tree : V → Option T) (contract : Contract o (StandsAs tree)) (s : Host V C R) (es : List Event) (e : ℕ) (b : Begun) →
-        AreWritten o.format o.setup.writers → HasBlocks o (StandsAs tree) → IsKept contract s → Fits o s → b.begin ≤ length s.history →
+        AreWritten o.format o.setup.writers → HasBlocks o (StandsAs tree) → IsSound contract s → FitsWords o s → b.begin ≤ length s.history →
         IsAnswered o (StandsAs tree) s e b → IsAnswered o (StandsAs tree) (steps o s es) e b }
 {}
 
@@ -26,5 +26,5 @@ pub fn answers_keep_their_promises<A, T, V, C, R>()
 /// barrier rests on a flush.
 pub fn flushes_are_charged_to_sync_calls<A, T, V, C, R>()
     ensures charged { (o : Over A T V C R) (tree : V → Option T) (contract : Contract o (StandsAs tree)) (s : Host V C R) →
-        IsKept contract s → count is_flush_note s.journal.flush.notes ≤ count (is_begin o.model.kind) s.history }
+        IsSound contract s → count is_flush_note s.journal.flush.notes ≤ count (is_begin o.model.kind) s.history }
 {}

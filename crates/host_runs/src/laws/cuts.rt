@@ -4,7 +4,7 @@ ghost use Rattle.log_model.specs.Marks.{Transaction};
 ghost use Rattle.host_machine.specs.State.{Host};
 ghost use Rattle.host_machine.specs.laws.Contract.{Over, Contract, StandsAs};
 ghost use Rattle.host_runs.specs.Sentences.{KeepsSentences};
-ghost use Rattle.host_runs.specs.laws.Kept.{IsKept};
+ghost use Rattle.host_runs.specs.laws.Kept.{IsSound};
 
 /// A law, which does nothing when it is called: after a power cut on a medium that keeps the order of barriers, recovery
 /// gives the tree after a prefix of the transactions; each file block has a version no older than its file's last change
@@ -12,5 +12,5 @@ ghost use Rattle.host_runs.specs.laws.Kept.{IsKept};
 /// what a sync call that answered Ok covers did so in any case.
 pub fn power_cuts_leave_whole_transactions<A, T, V, C, R>()
     ensures sentences { (o : Over A T V C R) (tree : V → Option T) (contract : Contract o (StandsAs tree)) (s : Host V C R) →
-        IsKept contract s → (txs : List Transaction) × KeepsSentences o (StandsAs tree) s txs }
+        IsSound contract s → (txs : List Transaction) × KeepsSentences o (StandsAs tree) s txs }
 {}

@@ -4,11 +4,11 @@ ghost use Rattle.log_model.specs.Marks.{Transaction};
 ghost use Rattle.host_machine.specs.Host.{opened};
 ghost use Rattle.host_machine.specs.Parts.{LogRing};
 ghost use Rattle.host_machine.specs.State.{Host};
-ghost use Rattle.host_machine.specs.laws.Contract.{Over, Contract, StandsAs, H, session};
+ghost use Rattle.host_machine.specs.laws.Contract.{Over, Contract, StandsAs, noted_history, session};
 ghost use Rattle.host_machine.specs.laws.Rules.{AllRules};
 ghost use Rattle.host_runs.specs.Opened.{IsOpened};
-ghost use Rattle.host_runs.specs.Runs.{Event, stepped, steps, Fits, HasBlocks};
-ghost use Rattle.host_runs.specs.laws.Kept.{IsKept};
+ghost use Rattle.host_runs.specs.Runs.{Event, stepped, steps, FitsWords, HasBlocks};
+ghost use Rattle.host_runs.specs.laws.Kept.{IsSound};
 ghost use Rattle.host_runs.specs.laws.Written.{AreWritten};
 
 /// A law, which does nothing when it is called: a host that is opened has all that it keeps: the order rules, and what
@@ -16,9 +16,9 @@ ghost use Rattle.host_runs.specs.laws.Written.{AreWritten};
 /// commit actor, of the write-back and of the flush actor leaves it so.
 pub fn every_step_keeps_the_rules<A, T, V, C, R>()
     ensures opened { (o : Over A T V C R) (tree : V → Option T) (contract : Contract o (StandsAs tree)) (v : V) (ring : LogRing) (zones limit : ℕ) (programs : List (List C)) →
-        IsOpened o (StandsAs tree) v ring zones limit programs → IsKept contract (opened o.model o.setup v ring zones limit programs) }
+        IsOpened o (StandsAs tree) v ring zones limit programs → IsSound contract (opened o.model o.setup v ring zones limit programs) }
     ensures step { (o : Over A T V C R) (tree : V → Option T) (contract : Contract o (StandsAs tree)) (s : Host V C R) (e : Event) →
-        AreWritten o.format o.setup.writers → HasBlocks o (StandsAs tree) → IsKept contract s → Fits o s → IsKept contract (stepped o s e) }
+        AreWritten o.format o.setup.writers → HasBlocks o (StandsAs tree) → IsSound contract s → FitsWords o s → IsSound contract (stepped o s e) }
 {}
 
 /// A law, which does nothing when it is called: from an opened host, any list of steps leaves a submitted list that
@@ -28,10 +28,10 @@ pub fn every_step_keeps_the_rules<A, T, V, C, R>()
 pub fn runs_keep_the_rules<A, T, V, C, R>()
     ensures rules { (o : Over A T V C R) (tree : V → Option T) (contract : Contract o (StandsAs tree)) (v : V) (ring : LogRing) (zones limit : ℕ) (programs : List (List C)) (es : List Event) →
         AreWritten o.format o.setup.writers → HasBlocks o (StandsAs tree) → IsOpened o (StandsAs tree) v ring zones limit programs →
-        Fits o (opened o.model o.setup v ring zones limit programs) →
+        FitsWords o (opened o.model o.setup v ring zones limit programs) →
         (txs : List Transaction) × AllRules o.program
-        (H o (StandsAs tree) (steps o (opened o.model o.setup v ring zones limit programs) es).history (steps o (opened o.model o.setup v ring zones limit programs) es).cuts)
+        (noted_history o (StandsAs tree) (steps o (opened o.model o.setup v ring zones limit programs) es).history (steps o (opened o.model o.setup v ring zones limit programs) es).cuts)
         (session o (StandsAs tree) txs (steps o (opened o.model o.setup v ring zones limit programs) es)) }
     ensures kept { (o : Over A T V C R) (tree : V → Option T) (contract : Contract o (StandsAs tree)) (s : Host V C R) (es : List Event) →
-        AreWritten o.format o.setup.writers → HasBlocks o (StandsAs tree) → IsKept contract s → Fits o s → IsKept contract (steps o s es) }
+        AreWritten o.format o.setup.writers → HasBlocks o (StandsAs tree) → IsSound contract s → FitsWords o s → IsSound contract (steps o s es) }
 {}
