@@ -1,0 +1,37 @@
+//! Laws of plans and of the bodies that wait to be sent home.
+ghost use Rattle.std.specs.Prelude.{◌≡◌, ℕ, ◌+◌, ◌⊎◌, Bool, List, [], ◌∷◌, ◌++◌, length, map};
+ghost use Rattle.blk_base.specs.Members.{In};
+ghost use Rattle.log_model.specs.Log.{Format, Spells};
+ghost use Rattle.log_model.specs.Marks.{Logged, Transaction, Keep, Set, transaction_mark};
+ghost use Rattle.log_model.specs.Ring.{Ring};
+ghost use Rattle.host_machine.specs.Parts.{LogRing, commit_bodies, log_blocks_for};
+ghost use Rattle.host_machine.specs.Plan.{Writers, UnplacedBlock, logged_blocks, plan_of};
+ghost use Rattle.host_machine.specs.laws.PlanNotes.{IsRestOf, BarrierAhead};
+ghost use Rattle.host_runs.specs.laws.Homes.{IsApart, IsRisingHomes};
+ghost use Rattle.host_runs.specs.laws.Written.{IsWord, AreWritten, IsWritable};
+
+/// A law, which does nothing when it is called: the log blocks of a plan are read back as its transaction, and there are
+/// as many as were counted. A plan ends with the commit block, and before it go log blocks and the superblock; where the
+/// transaction has a body, one of these is a barrier.
+pub fn plans_spell_their_transaction()
+    ensures spells { (w : Writers) (k sequence : ℕ) (f : Format) (t : Transaction) → AreWritten f w → IsWritable t → IsWord sequence →
+        Spells f sequence (map (λ (b : UnplacedBlock). b.body) (logged_blocks w k sequence t.bodies t.revokes) ++ w.commit sequence ∷ []) t }
+    ensures counted { (w : Writers) (k sequence : ℕ) (bodies : List Logged) (revokes : List ℕ) →
+        length (logged_blocks w k sequence bodies revokes) + 1 ≡ log_blocks_for (length bodies) (length revokes) }
+    ensures ends { (w : Writers) (journal : ℕ) (ring : Ring) (head : ℕ) (started : Bool) (k sequence : ℕ) (bodies : List Logged) (revokes : List ℕ) →
+        IsRestOf k (plan_of w journal ring head started k sequence bodies revokes) }
+    ensures barrier { (w : Writers) (journal : ℕ) (ring : Ring) (head : ℕ) (started : Bool) (k sequence : ℕ) (l : Logged) (bodies : List Logged) (revokes : List ℕ) →
+        BarrierAhead (plan_of w journal ring head started k sequence (l ∷ bodies) revokes) }
+{}
+
+/// A law, which does nothing when it is called: after a commit block, the bodies that wait to be sent home are its
+/// transaction's and those that waited before, without what it revokes or has a newer body of.
+pub fn last_bodies_wait_to_be_sent_home()
+    ensures from { (ring : LogRing) (t : Transaction) (l : Logged) → IsApart t → IsRisingHomes ring.homes → In l (commit_bodies t.revokes t.bodies ring).homes →
+        (transaction_mark t l.block ≡ Set l.body) ⊎ (In l ring.homes × (transaction_mark t l.block ≡ Keep)) }
+    ensures new { (ring : LogRing) (t : Transaction) (b : ℕ) (x : List ℕ) → transaction_mark t b ≡ Set x →
+        In (record { block = b; body = x }) (commit_bodies t.revokes t.bodies ring).homes }
+    ensures left { (ring : LogRing) (t : Transaction) (l : Logged) → In l ring.homes → transaction_mark t l.block ≡ Keep →
+        In l (commit_bodies t.revokes t.bodies ring).homes }
+    ensures rising { (ring : LogRing) (t : Transaction) → IsRisingHomes ring.homes → IsRisingHomes (commit_bodies t.revokes t.bodies ring).homes }
+{}
