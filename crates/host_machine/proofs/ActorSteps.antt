@@ -1,7 +1,7 @@
 -- The steps of the commit actor, the write-back and the flush actor keep the facts of images.
 use Rattle.std.proofs.Common.{sym, ap, subst, ◌∙◌, inl, inr, ⊎_elim, arith, length-append}
 use Rattle.std.proofs.lemmas.Bool.{cases_Bool, false≢true, and_from}
-use Rattle.std.specs.List.{filter}
+use Rattle.std.specs.List.{find, filter}
 use Rattle.std.specs.Prelude.{◌≡◌, ℕ, ◌+◌, ◌-◌, ◌≤◌, ◌⊎◌, Bool, true, false, ◌&&◌, ◌||◌, not, List, [], ◌∷◌, ◌++◌, length, Option, Some, None, is_none, nat_lt, slice_get, slice_index_or, refl, if◌then◌else◌}
 use Rattle.blk_base.specs.Members.{In, In-filter, slice_get-In}
 use Rattle.order_model.specs.Submission.{IsFence}
@@ -29,7 +29,7 @@ use Rattle.host_machine.proofs.RuleSteps.{send_both}
 use Rattle.host_machine.proofs.Sends.{plainly}
 use Rattle.host_machine.proofs.Steps.{first_page-In, none_first, either}
 use Rattle.host_machine.specs.Host.{Turned, submits, build_plan, checkpoint, close_step, plan_sent, in_phase, commit_step, writeback, flush_step, flush_due, take_completion, send_page, with_flush}
-use Rattle.host_machine.specs.Parts.{has, first_page, least, log_needs, ring_free}
+use Rattle.host_machine.specs.Parts.{has, least, log_needs, ring_free}
 use Rattle.host_machine.specs.Plan.{Planned}
 use Rattle.host_machine.specs.State.{Entry, Plan, Phase, Idle, Closing, Committing, Host, is_over, at_limit, is_submitted}
 use Rattle.host_machine.specs.laws.Contract.{Over, Contract, ImagesFacts, InPhase, session, KeepsImages}
@@ -150,7 +150,7 @@ module _ {A T V C R : Type 0} {o : Over A T V C R} {Stands : V → T → Type 0}
         ),
       )
 
-      all_sent : first_page (λ p. is_unsent p.state && has s.journal.running.changed p.birth) s.pages ≡ None → (f i : ℕ) (p : CachedPage) → In f s.journal.running.changed → page_at s.pages f i ≡ Some p → p.state ≡ Firm
+      all_sent : find (λ p. is_unsent p.state && has s.journal.running.changed p.birth) s.pages ≡ None → (f i : ℕ) (p : CachedPage) → In f s.journal.running.changed → page_at s.pages f i ≡ Some p → p.state ≡ Firm
       all_sent none f i p changed here =
           firm_or_clean p.state
           (⊎_elim
@@ -162,9 +162,9 @@ module _ {A T V C R : Type 0} {o : Over A T V C R} {Stands : V → T → Type 0}
           (facts.0.sent.not_clean f i p here)
 
       close_keeps : (full : Bool) → N + 1 ≡ s.journal.running.number → HasImages (close_step o.model o.setup full s).host
-      close_keeps full all_closed = by (first_page (λ p. is_unsent p.state && has s.journal.running.changed p.birth) s.pages) refl
+      close_keeps full all_closed = by (find (λ p. is_unsent p.state && has s.journal.running.changed p.birth) s.pages) refl
         where
-          by : (x : Option CachedPage) → first_page (λ p. is_unsent p.state && has s.journal.running.changed p.birth) s.pages ≡ x → HasImages (elim x as (λ _. Turned V C R) [
+          by : (x : Option CachedPage) → find (λ p. is_unsent p.state && has s.journal.running.changed p.birth) s.pages ≡ x → HasImages (elim x as (λ _. Turned V C R) [
             | Some p ↦ submits o.model o.setup full s (send_page o.model o.setup s p true false)
             | None ↦
                 if nat_lt (ring_free s.journal.ring) (log_needs s.journal.running) then submits o.model o.setup full s (checkpoint o.model o.setup s s.journal.ring.homes)

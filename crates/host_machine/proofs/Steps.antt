@@ -2,7 +2,7 @@
 use Rattle.std.proofs.Common.{sym, ap, subst, ◌∙◌, inl, inr}
 use Rattle.std.proofs.lemmas.Bool.{false≢true}
 use Rattle.std.proofs.lemmas.Option.{none-some, same_Some}
-use Rattle.std.specs.List.{filter, list_any}
+use Rattle.std.specs.List.{find, filter, list_any}
 use Rattle.std.specs.Option.{option_map}
 use Rattle.std.specs.Prelude.{◌≡◌, ℕ, ◌+◌, ◌-◌, ◌==◌, Bool, true, false, ◌&&◌, ◌||◌, not, List, [], ◌∷◌, length, Option, Some, None, is_none, nat_lt, slice_get, slice_index_or, refl, if◌then◌else◌}
 use Rattle.blk_base.specs.Members.{In}
@@ -18,7 +18,7 @@ use Rattle.host_machine.specs.Causes.{Cause}
 use Rattle.host_machine.specs.Host.{Stepped, set_wait, set_thread, Goal, AwaitCommit, AnswerOk, AwaitLastPut, no_wait, unsent_on, goal_of, wanting, end_with, hindrance, hindered, fits, plain, begin, await_durable, await_last_put, await_commit, pursue, walk_pages, continue_begun, stop_of, step_call, step_thread, advance, send_page, change}
 use Rattle.host_machine.specs.Model.{Model, Kind, is_begun, is_data, is_durable, is_reading, Freed}
 use Rattle.host_machine.specs.Outcomes as outcomes
-use Rattle.host_machine.specs.Parts.{first_page, log_needs}
+use Rattle.host_machine.specs.Parts.{log_needs}
 use Rattle.host_machine.specs.State.{Ending, Answered, Down, ReadOnly, SessionFull, Begins, Ends, Wait, Begun, Thread, Host, Setup, is_cut, first_failed, at_limit, is_flushed_after, flush_above, last_put, is_closing, is_submitted}
 use Rattle.host_machine.specs.laws.Contract.{Over, Contract}
 use Rattle.host_machine.specs.laws.Rules.{Keeps}
@@ -42,20 +42,20 @@ unsent_on-cached pages (k ∷ ks) next e = by (unsent_on-cached pages ks next) (
             subst (λ (x : CachedPage). page_at pages x.birth x.index ≡ Some x) same (ap (λ f. page_at pages f p.index) key.0 ∙ ap (page_at pages k.0) key.1 ∙ q)
         second false d = rest d
 
-pub first_page-In : (test : CachedPage → Bool) (pages : List CachedPage) (p : CachedPage) → first_page test pages ≡ Some p → In p pages
+pub first_page-In : (test : CachedPage → Bool) (pages : List CachedPage) (p : CachedPage) → find test pages ≡ Some p → In p pages
 first_page-In test [] p e = absurd (none-some p e)
 first_page-In test (q ∷ ps) p e = by (first_page-In test ps p) (test q) e
   where
-    by : (first_page test ps ≡ Some p → In p ps) → (t : Bool) → (if t then Some q else first_page test ps) ≡ Some p → In p (q ∷ ps)
+    by : (find test ps ≡ Some p → In p ps) → (t : Bool) → (if t then Some q else find test ps) ≡ Some p → In p (q ∷ ps)
     by rest true d = inl (same_Some q p d)
     by rest false d = inr (rest d)
 
 -- where the first page with a property is none, no cached page has it
-pub none_first : (test : CachedPage → Bool) (pages : List CachedPage) → first_page test pages ≡ None → (f i : ℕ) (p : CachedPage) → page_at pages f i ≡ Some p → test p ≡ false
+pub none_first : (test : CachedPage → Bool) (pages : List CachedPage) → find test pages ≡ None → (f i : ℕ) (p : CachedPage) → page_at pages f i ≡ Some p → test p ≡ false
 none_first test [] e f i p d = absurd (none-some p d)
 none_first test (q ∷ ps) e f i p d = by (λ n. none_first test ps n f i p) (test q) refl e (is_page q f i) d
   where
-    by : (first_page test ps ≡ None → page_at ps f i ≡ Some p → test p ≡ false) → (t : Bool) → test q ≡ t → (if t then Some q else first_page test ps) ≡ None → (u : Bool) → (if u then Some q else page_at ps f i) ≡ Some p → test p ≡ false
+    by : (find test ps ≡ None → page_at ps f i ≡ Some p → test p ≡ false) → (t : Bool) → test q ≡ t → (if t then Some q else find test ps) ≡ None → (u : Bool) → (if u then Some q else page_at ps f i) ≡ Some p → test p ≡ false
     by rest true t n u d = absurd (none-some q (sym n))
     by rest false t n true d = subst (λ x. test x ≡ false) (same_Some q p d) t
     by rest false t n false d = rest n d

@@ -1,6 +1,6 @@
 -- The steps of the host: a caller's, the commit actor's, the write-back's and the flush actor's. `full` says
 -- that the submission queue was full.
-use Rattle.std.specs.List.{filter, list_any}
+use Rattle.std.specs.List.{find, filter, list_any}
 use Rattle.std.specs.Option.{option_map}
 use Rattle.std.specs.Prelude.{ℕ, ◌+◌, ◌-◌, ◌==◌, Bool, true, false, not, ◌&&◌, ◌||◌, nat_lt, nat_le, List, [], ◌∷◌, ◌++◌, length, map, set, replicate, Option, Some, None, is_none, slice_get, slice_index_or, if◌then◌else◌}
 use Rattle.order_model.specs.declared.completion.Completion.TheVariants as completions
@@ -11,7 +11,7 @@ use Rattle.order_model.specs.declared.request.Kind.TheVariants as puts
 use Rattle.order_model.specs.declared.turn.Turn.TheVariants as turns
 use Rattle.order_model.specs.declared.turn.Turn.{Turn}
 use Rattle.log_model.specs.Marks.{Logged}
-use Rattle.page_cache.specs.Pages.{is_unsent, is_dirty, page_at, put_page, drop_page, marked}
+use Rattle.page_cache.specs.Pages.{is_unsent, dirty_page, page_at, put_page, drop_page, marked}
 use Rattle.page_cache.specs.declared.cached_page.CachedPage.{CachedPage}
 use Rattle.page_cache.specs.declared.cached_page.PageState.TheVariants.{Dirty, Loose, Firm}
 use Rattle.host_machine.specs.Causes as causes
@@ -19,7 +19,7 @@ use Rattle.host_machine.specs.Causes.{Cause}
 use Rattle.host_machine.specs.Model.{Model, Kind, Reading, FileSync, DataSync, WholeSync, is_begun, is_data, is_durable, is_reading, is_whole, Freed, FileBlock, Touched, Applied}
 use Rattle.host_machine.specs.Outcomes as outcomes
 use Rattle.host_machine.specs.Outcomes.{Step}
-use Rattle.host_machine.specs.Parts.{has, with_all, without_all, first_page, Running, fresh, log_blocks_for, log_needs, Held, Conflicts, hold, want, unhold, least, LogRing, ring_free, place_blocks, commit_bodies, home_sent, all_home}
+use Rattle.host_machine.specs.Parts.{has, with_all, without_all, Running, fresh, log_blocks_for, log_needs, Held, Conflicts, hold, want, unhold, least, LogRing, ring_free, place_blocks, commit_bodies, home_sent, all_home}
 use Rattle.host_machine.specs.Plan.{Planned, plan_of}
 use Rattle.host_machine.specs.State.{Ending, Answered, Down, ReadOnly, SessionFull, What, Begins, Ends, Wait, FlushPart, Plan, Phase, Idle, Closing, Committing, JournalPart, Begun, Thread, Host, Setup, is_cut, first_failed, is_over, at_limit, is_moved, is_flushed_after, flush_above, last_put, is_closing, is_submitted, latest_change, submit}
 
@@ -377,7 +377,7 @@ module _ {T V C R : Type 0} (M : Model T V C R) (u : Setup) where
   -- in Closing: the pages of changed files, the checkpoint where there is too little room, the plan
   abbrev pub close_step : Bool → Host V C R → Turned V C R
   close_step full s =
-      elim (first_page (λ p. is_unsent p.state && has s.journal.running.changed p.birth) s.pages) as (λ _. Turned V C R) [
+      elim (find (λ p. is_unsent p.state && has s.journal.running.changed p.birth) s.pages) as (λ _. Turned V C R) [
         | Some p ↦ submits full s (send_page s p true false)
         | None ↦
             if nat_lt (ring_free s.journal.ring) (log_needs s.journal.running) then submits full s (checkpoint s s.journal.ring.homes)
@@ -415,7 +415,7 @@ module _ {T V C R : Type 0} (M : Model T V C R) (u : Setup) where
   abbrev pub writeback : Bool → Host V C R → ℕ → Turned V C R
   writeback full s pick =
       if is_over s.journal.flush then record { host = s; turn = turns.Idle }
-      else elim (slice_get (filter (λ (p : CachedPage). is_dirty p.state) s.pages) pick) as (λ _. Turned V C R) [
+      else elim (dirty_page s.pages pick) as (λ _. Turned V C R) [
         | None ↦ record { host = s; turn = turns.Idle }
         | Some p ↦ submits full s (send_page s p (not (is_submitted s.journal (slice_index_or s.owners p.block 0))) false)
       ]

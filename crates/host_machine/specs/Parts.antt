@@ -1,10 +1,10 @@
--- The parts of the host as plain data: pages, the running transaction, conflicts, and the ring of the log.
+-- The parts of the host as plain data: the running transaction, conflicts, and the ring of the log. Its pages are those
+-- of `page_cache`.
 use Rattle.std.specs.Int.{div_ceil}
 use Rattle.std.specs.List.{filter, list_any}
 use Rattle.std.specs.Prelude.{ℕ, zero, suc, ◌+◌, ◌-◌, ◌==◌, Bool, false, not, nat_lt, List, [], ◌∷◌, ◌++◌, length, map, Option, Some, None, if◌then◌else◌}
 use Rattle.log_model.specs.Marks.{Logged}
 use Rattle.log_model.specs.Ring.{Ring, places_on}
-use Rattle.page_cache.specs.declared.cached_page.CachedPage.{CachedPage}
 
 -- ---- sets of numbers, in rising order
 
@@ -21,13 +21,6 @@ with_all xs (y ∷ ys) = with_all (with xs y) ys
 
 abbrev pub without_all : List ℕ → List ℕ → List ℕ
 without_all xs ys = filter (λ x. not (has ys x)) xs
-
--- ---- pages
-
--- the first of these, in order
-abbrev pub first_page : (CachedPage → Bool) → List CachedPage → Option CachedPage
-first_page test [] = None
-first_page test (p ∷ ps) = if test p then Some p else first_page test ps
 
 -- ---- the running transaction
 

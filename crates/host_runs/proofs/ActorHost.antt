@@ -3,7 +3,7 @@
 use Rattle.std.proofs.Common.{sym, ap, subst, ◌∙◌, ⊎_elim, arith, length-append}
 use Rattle.std.proofs.lemmas.Bool.{cases_Bool, false≢true, and_from}
 use Rattle.std.proofs.lemmas.Option.{same_Some}
-use Rattle.std.specs.List.{filter}
+use Rattle.std.specs.List.{find, filter}
 use Rattle.std.specs.Prelude.{◌≡◌, ℕ, ◌+◌, ◌-◌, ◌<◌, ◌&&◌, Bool, true, false, not, List, [], ◌∷◌, ◌++◌, length, Option, Some, None, is_none, slice_get, slice_index_or, nat_lt, IsTrue, refl, if◌then◌else◌}
 use Rattle.blk_base.specs.Members.{In, In-filter, slice_get-In, slice_get-in_range}
 use Rattle.order_model.specs.declared.completion.Completion.{Completion}
@@ -29,7 +29,7 @@ use Rattle.host_machine.proofs.Sends.{plainly}
 use Rattle.host_machine.proofs.Steps.{first_page-In, none_first, either}
 use Rattle.host_machine.specs.Host.{Turned, submits, build_plan, checkpoint, close_step, plan_sent, in_phase, commit_step, writeback, flush_step, flush_due, take_completion, send_page, send_planned, committed, need_commit, with_flush}
 use Rattle.host_machine.specs.Model.{Kind, FileSync, WholeSync, is_data}
-use Rattle.host_machine.specs.Parts.{has, first_page, least, log_needs, ring_free}
+use Rattle.host_machine.specs.Parts.{has, least, log_needs, ring_free}
 use Rattle.host_machine.specs.Plan.{Planned}
 use Rattle.host_machine.specs.State.{Begun, Wait, Thread, is_flush_note, Plan, Phase, Idle, Closing, Committing, Host, is_over, at_limit, is_submitted}
 use Rattle.host_machine.specs.Views.{transaction_of}
@@ -125,7 +125,7 @@ module _ {A T V C R : Type 0} {o : Over A T V C R} {Stands : V → T → Type 0}
       pub head : IsWord s.journal.ring.head
 
     module _ (formats : Formats) where
-      all_firm : first_page (λ p. is_unsent p.state && has s.journal.running.changed p.birth) s.pages ≡ None → (f i : ℕ) (p : CachedPage) → In f s.journal.running.changed → page_at s.pages f i ≡ Some p → p.state ≡ Firm
+      all_firm : find (λ p. is_unsent p.state && has s.journal.running.changed p.birth) s.pages ≡ None → (f i : ℕ) (p : CachedPage) → In f s.journal.running.changed → page_at s.pages f i ≡ Some p → p.state ≡ Firm
       all_firm none f i p changed here =
           sent_state p.state
           (⊎_elim
@@ -216,9 +216,9 @@ module _ {A T V C R : Type 0} {o : Over A T V C R} {Stands : V → T → Type 0}
       check_out_rules at (b ∷ bs) e = (txs, N, home_keeps contract s txs N kept b bs at e, pushed (request_of (home_request b (elim bs as (λ _. Bool) [ [] ↦ true | x ∷ xs ↦ false ])) (length s.journal.flush.requests)) (notes.Home b.block) calls, other_pushed flushes (notes.Home b.block) refl)
 
       close_rules : (full : Bool) → s.journal.phase ≡ Closing → HasRules contract (close_step o.model o.setup full s).host
-      close_rules full at = by (first_page (λ p. is_unsent p.state && has s.journal.running.changed p.birth) s.pages) refl
+      close_rules full at = by (find (λ p. is_unsent p.state && has s.journal.running.changed p.birth) s.pages) refl
         where
-          by : (x : Option CachedPage) → first_page (λ p. is_unsent p.state && has s.journal.running.changed p.birth) s.pages ≡ x → HasRules contract (elim x as (λ _. Turned V C R) [
+          by : (x : Option CachedPage) → find (λ p. is_unsent p.state && has s.journal.running.changed p.birth) s.pages ≡ x → HasRules contract (elim x as (λ _. Turned V C R) [
             | Some p ↦ submits o.model o.setup full s (send_page o.model o.setup s p true false)
             | None ↦
                 if nat_lt (ring_free s.journal.ring) (log_needs s.journal.running) then submits o.model o.setup full s (checkpoint o.model o.setup s s.journal.ring.homes)

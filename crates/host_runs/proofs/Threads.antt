@@ -2,7 +2,7 @@
 use Rattle.std.proofs.Common.{sym, ap, subst, ◌∙◌, ⊎_elim}
 use Rattle.std.proofs.lemmas.Bool.{cases_lt, false≢true, le-leb}
 use Rattle.std.proofs.lemmas.Option.{none-some}
-use Rattle.std.specs.List.{filter, list_any}
+use Rattle.std.specs.List.{find, filter, list_any}
 use Rattle.std.specs.Prelude.{◌≡◌, ℕ, ◌<◌, ◌≤◌, ◌+◌, ◌==◌, ◌&&◌, ◌||◌, Bool, true, false, not, List, [], ◌∷◌, length, set, slice_get, slice_index_or, is_none, nat_lt, Option, Some, None, refl, if◌then◌else◌}
 use Rattle.blk_base.specs.Members.{In-set_cases, slice_get-In}
 use Rattle.order_model.specs.declared.completion.Completion.{Completion}
@@ -16,7 +16,7 @@ use Rattle.host_machine.specs.Causes.{Cause}
 use Rattle.host_machine.specs.Host.{Stepped, Turned, Goal, AwaitCommit, AnswerOk, AwaitLastPut, unsent_on, goal_of, no_wait, with_flush, take_completion, flush_due, set_wait, set_thread, send_page, end_with, hindrance, hindered, plain, begin, await_durable, await_last_put, await_commit, pursue, walk_pages, continue_begun, stop_of, step_call, step_thread, advance, submits, build_plan, checkpoint, close_step, plan_sent, in_phase, commit_step, writeback, flush_step, wanting, change}
 use Rattle.host_machine.specs.Model.{Model, is_begun, is_data, is_durable, Freed, Applied}
 use Rattle.host_machine.specs.Outcomes as outcomes
-use Rattle.host_machine.specs.Parts.{has, first_page, least, log_needs, ring_free}
+use Rattle.host_machine.specs.Parts.{has, least, log_needs, ring_free}
 use Rattle.host_machine.specs.Plan.{Planned}
 use Rattle.host_machine.specs.State.{Ending, Answered, SessionFull, Wait, Plan, Phase, Idle, Closing, Committing, Begun, Thread, Host, Setup, at_limit, is_over, is_flushed_after, flush_above, last_put, is_submitted, Begins, Ends}
 use Rattle.host_machine.specs.laws.Contract.{Over}
@@ -196,7 +196,7 @@ module _ {T V C R : Type 0} (M : Model T V C R) (u : Setup) (s : Host V C R) (ol
   checkpoint_move d (h ∷ hs) = (old, Puts _ _ (room d) refl)
 
   close_move : (full : Bool) → Turned_to (close_step M u full s)
-  close_move full = by (first_page (λ p. is_unsent p.state && has s.journal.running.changed p.birth) s.pages)
+  close_move full = by (find (λ p. is_unsent p.state && has s.journal.running.changed p.birth) s.pages)
     where
       by : (x : Option CachedPage) → Turned_to (elim x as (λ _. Turned V C R) [
         | Some p ↦ submits M u full s (send_page M u s p true false)
