@@ -4,17 +4,14 @@ use Rattle.std.proofs.lemmas.Bool.{false≢true, and_parts}
 use Rattle.std.proofs.lemmas.Option.{none-some, same_Some}
 use Rattle.std.specs.Prelude.{◌≡◌, ℕ, ◌<◌, ◌==◌, ◌&&◌, Bool, true, false, List, [], ◌∷◌, length, Option, Some, None, nat_lt, refl, if◌then◌else◌}
 use Rattle.blk_base.specs.Members.{In}
-use Rattle.log_model.specs.Log.{Plain}
-use Rattle.volume_ops.specs.Reads.{Ret, Read}
 use Rattle.volume_ops.specs.Volume.{disk_of}
 use Rattle.host_machine.proofs.Opening.{opened_keeps}
 use Rattle.host_machine.proofs.Steps.{advance_keeps}
-use Rattle.host_machine.specs.Host.{advance, opened}
-use Rattle.host_machine.specs.Model.{Model, Kind, Reading, Changing, FileBarrier, is_begun, FileBlock, Touched, Freed, Applied}
-use Rattle.host_machine.specs.Parts.{LogRing}
-use Rattle.host_machine.specs.State.{Host, Thread}
+use Rattle.host_machine.specs.Host.{advance}
+use Rattle.host_machine.specs.Model.{is_begun, FileBlock, Applied}
+use Rattle.host_machine.specs.State.{Thread}
 use Rattle.host_machine.specs.Views.{waits_for}
-use Rattle.host_machine.specs.laws.Contract.{TreeLaws, Over, StandsFor, Tells, Contract}
+use Rattle.host_machine.specs.laws.Contract.{TreeLaws, StandsFor, Tells, Contract}
 use Rattle.host_machine.specs.laws.Rules.{Keeps}
 use Rattle.host_machine.specs.Sample.{Call, Tree, Volume, is_it, has_block, body, the_page, waiting_of, free_of, acts, kind_of, alters, writes, needs, nothing, removed, applied, released, bytes_of, zone_of, model, over, Stands, ring, empty, begun_host, WriteIt, RemoveIt, Look, Barrier, told, both_done}
 use Rattle.host_machine.specs.laws.Contract.{StandsAs}
@@ -330,4 +327,3 @@ told_contract = record {
   same_zones = contract.same_zones;
   waits_on = contract.waits_on;
 }
-

@@ -1,17 +1,13 @@
 -- A small volume that keeps what the host is promised: one file of at most one block, and one block of metadata that says
 -- whether the file has it.
-use Rattle.std.specs.Prelude.{◌≡◌, ℕ, ◌<◌, ◌==◌, ◌&&◌, Bool, true, false, List, [], ◌∷◌, length, Option, Some, None, nat_lt, refl, if◌then◌else◌}
-use Rattle.blk_base.specs.Members.{In}
+use Rattle.std.specs.Prelude.{◌≡◌, ℕ, ◌==◌, ◌&&◌, Bool, true, false, List, [], ◌∷◌, Option, Some, None, if◌then◌else◌}
 use Rattle.log_model.specs.Log.{Plain}
 use Rattle.volume_ops.specs.Reads.{Ret, Read}
-use Rattle.volume_ops.specs.Volume.{disk_of}
 use Rattle.host_machine.specs.Host.{advance, opened}
-use Rattle.host_machine.specs.Model.{Model, Kind, Reading, Changing, FileBarrier, is_begun, FileBlock, Touched, Freed, Applied}
+use Rattle.host_machine.specs.Model.{Model, Kind, Reading, Changing, FileBarrier, FileBlock, Touched, Freed, Applied}
 use Rattle.host_machine.specs.Parts.{LogRing}
-use Rattle.host_machine.specs.State.{Host, Thread}
-use Rattle.host_machine.specs.Views.{waits_for}
-use Rattle.host_machine.specs.laws.Contract.{TreeLaws, Over, StandsFor, Tells, Contract}
-use Rattle.host_machine.specs.laws.Rules.{Keeps}
+use Rattle.host_machine.specs.State.{Host}
+use Rattle.host_machine.specs.laws.Contract.{Over}
 
 pub data Call : Type 0 where
   WriteIt : Call

@@ -17,5 +17,6 @@ pub use laws::{
     checkpoints_make_room_in_the_log, data_barriers_wait_where_they_sent_none,
     file_barriers_wait_for_no_device, freed_zones_wait_for_their_commit_block,
     orderless_pages_are_sent_again, pages_go_where_zones_were_given_up,
-    pages_keep_the_rules_by_themselves, promises_of_volumes_can_be_kept, sync_calls_wait_for_one_flush,
+    pages_keep_the_rules_by_themselves, promises_of_volumes_can_be_kept,
+    sync_calls_wait_for_one_flush,
 };

@@ -71,12 +71,12 @@ module _ {A T V C R : Type 0} {o : Over A T V C R} {Stands : V → T → Type 0}
         by (Commit full) =
             commit_step_rules contract s has.0 has.1 has.2 has.3 has.4
             (record {
-            written = written;
-            writable = writable contract s has.0 has.1 has.2 fits kept.room blocks;
-            next = next;
-            running = running;
-            first = first_fits contract s has.0 has.1 has.2 fits kept.room;
-            head = head_fits contract s has.0 has.1 has.2 fits kept.room;
+              written = written;
+              writable = writable contract s has.0 has.1 has.2 fits kept.room blocks;
+              next = next;
+              running = running;
+              first = first_fits contract s has.0 has.1 has.2 fits kept.room;
+              head = head_fits contract s has.0 has.1 has.2 fits kept.room;
             }) full
         by (WriteBack full pick) = writeback_rules contract s has.0 has.1 has.2 has.3 has.4 full pick
         by (FlushStep full next) = flush_step_rules contract s has.0 has.1 has.2 has.3 has.4 full next
