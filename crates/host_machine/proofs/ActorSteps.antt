@@ -50,7 +50,8 @@ firm_or_clean Loose e n = absurd (false≢true (sym e))
 firm_or_clean Firm e n = refl
 
 module _ {A T V C R : Type 0} {o : Over A T V C R} {Stands : V → T → Type 0} (contract : Contract o Stands) where
-  rephased : {es : List (Entry C R)} {cuts : List ℕ} {s : Session} {r : ℕ} {touched revoked changed : List ℕ} {phase : Phase} {v : V} {pages : List CachedPage} {N : ℕ} (next : Phase)
+  -- another phase with the same facts
+  pub rephased : {es : List (Entry C R)} {cuts : List ℕ} {s : Session} {r : ℕ} {touched revoked changed : List ℕ} {phase : Phase} {v : V} {pages : List CachedPage} {N : ℕ} (next : Phase)
       → InPhase o Stands es cuts s r N next → ImagesFacts o Stands es cuts s r touched revoked changed phase v pages N → ImagesFacts o Stands es cuts s r touched revoked changed next v pages N
   rephased next in_phase was = record {
     counted = was.counted;

@@ -85,6 +85,33 @@ stop-unanswered M u taken kind Down e t c b d = d
 stop-unanswered M u taken kind (ReadOnly id) e t c b d = d
 stop-unanswered M u taken kind SessionFull e t c b d = d
 
+-- a plain call that nothing hinders has the zones that it needs
+module _ {T V C R : Type 0} (M : Model T V C R) (u : Setup) (s : Host V C R) where
+  pub enough : (c : C) → hindrance M u s c ≡ None → M.hinders s.volume c ≡ true → nat_lt (length (M.zones s.volume).free) (M.needs s.volume c) ≡ false
+  enough c e h = first (M.hinders s.volume c) h e
+    where
+      lacks : ℕ
+      lacks = M.needs s.volume c - length (M.zones s.volume).free
+
+      fourth : (x : Bool) → (if x then Some (causes.Quarantine lacks) else None) ≡ None → x ≡ false
+      fourth true n = absurd (none-some (causes.Quarantine lacks) (sym n))
+      fourth false n = refl
+
+      third : (x : Bool) → (if not x then Some (causes.TxFull (log_needs s.journal.running)) else if nat_lt (length (M.zones s.volume).free) (M.needs s.volume c) then Some (causes.Quarantine lacks) else None) ≡ None
+          → nat_lt (length (M.zones s.volume).free) (M.needs s.volume c) ≡ false
+      third true n = fourth (nat_lt (length (M.zones s.volume).free) (M.needs s.volume c)) n
+      third false n = absurd (none-some (causes.TxFull (log_needs s.journal.running)) (sym n))
+
+      second : (x : Bool) → (if x then Some causes.Closing else if not (fits M u s.journal.running) then Some (causes.TxFull (log_needs s.journal.running)) else if nat_lt (length (M.zones s.volume).free) (M.needs s.volume c) then Some (causes.Quarantine lacks) else None) ≡ None
+          → nat_lt (length (M.zones s.volume).free) (M.needs s.volume c) ≡ false
+      second true n = absurd (none-some causes.Closing (sym n))
+      second false n = third (fits M u s.journal.running) n
+
+      first : (x : Bool) → x ≡ true → (if not x then None else if is_closing s.journal.phase then Some causes.Closing else if not (fits M u s.journal.running) then Some (causes.TxFull (log_needs s.journal.running)) else if nat_lt (length (M.zones s.volume).free) (M.needs s.volume c) then Some (causes.Quarantine lacks) else None) ≡ None
+          → nat_lt (length (M.zones s.volume).free) (M.needs s.volume c) ≡ false
+      first true d n = second (is_closing s.journal.phase) n
+      first false d n = absurd (false≢true d)
+
 module _ {A T V C R : Type 0} {o : Over A T V C R} {Stands : V → T → Type 0} (contract : Contract o Stands) (txs : List Transaction) (N : ℕ) where
   abbrev Kept : Stepped V C R → Type 0
   Kept x = Keeps o Stands x.host txs N
@@ -157,31 +184,6 @@ module _ {A T V C R : Type 0} {o : Over A T V C R} {Stands : V → T → Type 0}
 
     -- ---- a plain call
 
-    enough : (c : C) → hindrance o.model o.setup s c ≡ None → o.model.hinders s.volume c ≡ true → nat_lt (length (o.model.zones s.volume).free) (o.model.needs s.volume c) ≡ false
-    enough c e h = first (o.model.hinders s.volume c) h e
-      where
-        lacks : ℕ
-        lacks = o.model.needs s.volume c - length (o.model.zones s.volume).free
-
-        fourth : (x : Bool) → (if x then Some (causes.Quarantine lacks) else None) ≡ None → x ≡ false
-        fourth true n = absurd (none-some (causes.Quarantine lacks) (sym n))
-        fourth false n = refl
-
-        third : (x : Bool) → (if not x then Some (causes.TxFull (log_needs s.journal.running)) else if nat_lt (length (o.model.zones s.volume).free) (o.model.needs s.volume c) then Some (causes.Quarantine lacks) else None) ≡ None
-            → nat_lt (length (o.model.zones s.volume).free) (o.model.needs s.volume c) ≡ false
-        third true n = fourth (nat_lt (length (o.model.zones s.volume).free) (o.model.needs s.volume c)) n
-        third false n = absurd (none-some (causes.TxFull (log_needs s.journal.running)) (sym n))
-
-        second : (x : Bool) → (if x then Some causes.Closing else if not (fits o.model o.setup s.journal.running) then Some (causes.TxFull (log_needs s.journal.running)) else if nat_lt (length (o.model.zones s.volume).free) (o.model.needs s.volume c) then Some (causes.Quarantine lacks) else None) ≡ None
-            → nat_lt (length (o.model.zones s.volume).free) (o.model.needs s.volume c) ≡ false
-        second true n = absurd (none-some causes.Closing (sym n))
-        second false n = third (fits o.model o.setup s.journal.running) n
-
-        first : (x : Bool) → x ≡ true → (if not x then None else if is_closing s.journal.phase then Some causes.Closing else if not (fits o.model o.setup s.journal.running) then Some (causes.TxFull (log_needs s.journal.running)) else if nat_lt (length (o.model.zones s.volume).free) (o.model.needs s.volume c) then Some (causes.Quarantine lacks) else None) ≡ None
-            → nat_lt (length (o.model.zones s.volume).free) (o.model.needs s.volume c) ≡ false
-        first true d n = second (is_closing s.journal.phase) n
-        first false d n = absurd (false≢true d)
-
     hindered_keeps : (cause : Cause) → Keeps o Stands (hindered o.model o.setup s cause) txs N
     hindered_keeps causes.Closing = facts
     hindered_keeps (causes.TxFull n) = facts
@@ -198,7 +200,7 @@ module _ {A T V C R : Type 0} {o : Over A T V C R} {Stands : V → T → Type 0}
           | Some cause ↦ if at_limit s.journal.flush then end_with o.model o.setup s t c rest SessionFull else record { host = hindered o.model o.setup s cause; step = outcomes.Waiting cause }
           | None ↦ end_with o.model o.setup (change o.model o.setup s c (o.model.apply s.volume (length s.history + 1) s.journal.running.number c)) t c rest (Answered (o.model.apply s.volume (length s.history + 1) s.journal.running.number c).reply)
         ])
-        by None e = change_both contract s txs N t c rest facts accepted not_begun (enough c e)
+        by None e = change_both contract s txs N t c rest facts accepted not_begun (enough o.model o.setup s c e)
         by (Some cause) e =
             either Kept (at_limit s.journal.flush) _ _
             (λ e. end_both contract s txs N t c rest SessionFull (unanswered_quiet contract s.history (record { thread = t; call = c; what = Ends SessionFull }) refl) facts)

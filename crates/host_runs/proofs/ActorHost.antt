@@ -22,6 +22,7 @@ use Rattle.page_cache.specs.laws.Order.{keyed}
 use Rattle.crash_laws.proofs.Growing.{note_new}
 use Rattle.crash_laws.specs.Session.{HasNote, IsCommit}
 use Rattle.crash_laws.specs.Submitting.{after}
+use Rattle.host_machine.proofs.ActorSteps.{rephased}
 use Rattle.host_machine.proofs.Entries.{trees_noted}
 use Rattle.host_machine.proofs.PartsLaws.{In-has}
 use Rattle.host_machine.proofs.PlanSteps.{commit_keeps}
@@ -39,7 +40,7 @@ use Rattle.host_runs.proofs.BuildHost.{transaction_now, same_history, build_keep
 use Rattle.host_runs.proofs.CallHost.{all_kept, all_pushed, all_sent, all_close, all_need, call_told, In_wait}
 use Rattle.host_runs.proofs.CheckpointSteps.{home_request, super_request}
 use Rattle.host_runs.proofs.FlushFacts.{other_pushed, flush_pushed, waits_mapped, is_whole_sync, commit_opens_none, commit_needed}
-use Rattle.host_runs.proofs.RulesHost.{rephased, planned_keeps, committed_keeps, home_keeps, super_keeps, page_keeps, flush_keeps, flush_request}
+use Rattle.host_runs.proofs.RulesHost.{planned_keeps, committed_keeps, home_keeps, super_keeps, page_keeps, flush_keeps, flush_request}
 use Rattle.host_runs.specs.laws.CallFacts.{AllCalls, wait_of, CallFacts}
 use Rattle.host_runs.specs.laws.Kept.{HasRules, KeepsRules, Calls, Flushes}
 use Rattle.host_runs.specs.laws.RingFacts.{RingInPhase, request_of}

@@ -20,14 +20,13 @@ use Rattle.host_machine.proofs.CallSteps.{change_keeps, quiet_keeps, unanswered_
 use Rattle.host_machine.proofs.Entries.{length_new, entry_noted, trees_noted}
 use Rattle.host_machine.proofs.Machine.{plain_at}
 use Rattle.host_machine.proofs.Sends.{plainly}
-use Rattle.host_machine.proofs.Steps.{either, advance_keeps}
+use Rattle.host_machine.proofs.Steps.{enough, either, advance_keeps}
 use Rattle.host_machine.specs.Causes as causes
 use Rattle.host_machine.specs.Causes.{Cause}
-use Rattle.host_machine.specs.Host.{Stepped, Goal, AwaitCommit, AnswerOk, AwaitLastPut, no_wait, unsent_on, goal_of, data_goal, end_call, end_with, set_wait, set_thread, wanting, send_page, change, hindrance, hindered, plain, listed, begin, await_durable, await_last_put, await_commit, pursue, walk_pages, continue_begun, step_call, step_thread, advance, stop_of, dropped_pages, written_pages, fits}
+use Rattle.host_machine.specs.Host.{Stepped, Goal, AwaitCommit, AnswerOk, AwaitLastPut, no_wait, unsent_on, goal_of, data_goal, end_call, end_with, set_wait, set_thread, wanting, send_page, change, hindrance, hindered, plain, listed, begin, await_durable, await_last_put, await_commit, pursue, walk_pages, continue_begun, step_call, step_thread, advance, stop_of, dropped_pages, written_pages}
 use Rattle.host_machine.specs.Model.{Kind, Reading, Changing, FileBarrier, DataBarrier, FileSync, DataSync, WholeSync, is_begun, is_data, is_durable, Freed}
 use Rattle.host_machine.specs.Outcomes as outcomes
-use Rattle.host_machine.specs.Parts.{log_needs}
-use Rattle.host_machine.specs.State.{Ending, Answered, SessionFull, Begins, Ends, Entry, Wait, Plan, Committing, Begun, Thread, Host, at_limit, is_flushed_after, flush_above, last_put, is_submitted, is_closing, latest_change}
+use Rattle.host_machine.specs.State.{Ending, Answered, SessionFull, Begins, Ends, Entry, Wait, Plan, Committing, Begun, Thread, Host, at_limit, is_flushed_after, flush_above, last_put, is_submitted, latest_change}
 use Rattle.host_machine.specs.laws.Contract.{Over, view_of, Contract, noted_history, InPlan, InPhase, session}
 use Rattle.host_machine.specs.laws.Facts.{IsPlain, PagesMapped}
 use Rattle.host_machine.specs.laws.Rules.{AllRules}
@@ -279,31 +278,6 @@ module _ {A T V C R : Type 0} {o : Over A T V C R} {Stands : V → T → Type 0}
 
     -- ---- a plain call
 
-    enough : (c : C) → hindrance o.model o.setup s c ≡ None → o.model.hinders s.volume c ≡ true → nat_lt (length (o.model.zones s.volume).free) (o.model.needs s.volume c) ≡ false
-    enough c e h = first (o.model.hinders s.volume c) h e
-      where
-        lacks : ℕ
-        lacks = o.model.needs s.volume c - length (o.model.zones s.volume).free
-
-        fourth : (x : Bool) → (if x then Some (causes.Quarantine lacks) else None) ≡ None → x ≡ false
-        fourth true n = absurd (none-some (causes.Quarantine lacks) (sym n))
-        fourth false n = refl
-
-        third : (x : Bool) → (if not x then Some (causes.TxFull (log_needs s.journal.running)) else if nat_lt (length (o.model.zones s.volume).free) (o.model.needs s.volume c) then Some (causes.Quarantine lacks) else None) ≡ None
-            → nat_lt (length (o.model.zones s.volume).free) (o.model.needs s.volume c) ≡ false
-        third true n = fourth (nat_lt (length (o.model.zones s.volume).free) (o.model.needs s.volume c)) n
-        third false n = absurd (none-some (causes.TxFull (log_needs s.journal.running)) (sym n))
-
-        second : (x : Bool) → (if x then Some causes.Closing else if not (fits o.model o.setup s.journal.running) then Some (causes.TxFull (log_needs s.journal.running)) else if nat_lt (length (o.model.zones s.volume).free) (o.model.needs s.volume c) then Some (causes.Quarantine lacks) else None) ≡ None
-            → nat_lt (length (o.model.zones s.volume).free) (o.model.needs s.volume c) ≡ false
-        second true n = absurd (none-some causes.Closing (sym n))
-        second false n = third (fits o.model o.setup s.journal.running) n
-
-        first : (x : Bool) → x ≡ true → (if not x then None else if is_closing s.journal.phase then Some causes.Closing else if not (fits o.model o.setup s.journal.running) then Some (causes.TxFull (log_needs s.journal.running)) else if nat_lt (length (o.model.zones s.volume).free) (o.model.needs s.volume c) then Some (causes.Quarantine lacks) else None) ≡ None
-            → nat_lt (length (o.model.zones s.volume).free) (o.model.needs s.volume c) ≡ false
-        first true d n = second (is_closing s.journal.phase) n
-        first false d n = absurd (false≢true d)
-
     changes : (t : ℕ) (c : C) (rest : List C) → t < length s.threads → o.model.reply s.volume c ≡ None → is_begun (o.model.kind c) ≡ false → hindrance o.model o.setup s c ≡ None
         → KeepsCalls (end_call o.model o.setup (change o.model o.setup s c (o.model.apply s.volume (length s.history + 1) s.journal.running.number c)) t c rest (Answered (o.model.apply s.volume (length s.history + 1) s.journal.running.number c).reply))
     changes t c rest there accepted plain free =
@@ -311,7 +285,7 @@ module _ {A T V C R : Type 0} {o : Over A T V C R} {Stands : V → T → Type 0}
         let e : Entry C R = record { thread = t; call = c; what = Ends (Answered a.reply) } in
         let es = s.history ++ e ∷ [] in
         let noted = entry_noted o.model s.history e o.place s.cuts r kept.images.0.closed kept.images.0.numbers.cuts in
-        let images = (change_keeps contract s txs N t c rest kept.images accepted plain (enough c free)).0 in
+        let images = (change_keeps contract s txs N t c rest kept.images accepted plain (enough o.model o.setup s c free)).0 in
         let old = plain_at contract s.history s.cuts sess s.volume (length s.history) refl refl kept.images.0.stands in
         let next = length_new o.model s.history e in
         let new = subst (λ n. IsPlain o.program (noted_history o Stands es s.cuts) sess n (view_of o a.volume)) next (plain_at contract es s.cuts sess a.volume (length es) refl refl images.stands) in

@@ -1,12 +1,12 @@
 -- The numbers of a host's session are words, as long as its limit says so.
-use Rattle.std.specs.Prelude.{◌≡◌, ℕ, zero, suc, ◌+◌, ◌-◌, ◌≤◌, List, [], ◌∷◌, length, Some, refl}
-use Rattle.std.specs.Option.{option_and_then}
 use Rattle.std.proofs.Common.{sym, ap, subst, ◌∙◌, ⊎_elim, arith, length-append}
+use Rattle.std.specs.Option.{option_and_then}
+use Rattle.std.specs.Prelude.{◌≡◌, ℕ, zero, suc, ◌+◌, ◌-◌, ◌≤◌, List, [], ◌∷◌, length, Some, refl}
 use Rattle.blk_base.specs.Members.{In-map, slice_get-length}
 use Rattle.order_model.specs.declared.note.Note.TheVariants.{Commit}
+use Rattle.log_model.proofs.Ring.{places_on-place}
 use Rattle.log_model.specs.Marks.{Logged, Transaction}
 use Rattle.log_model.specs.Ring.{IsPlace}
-use Rattle.log_model.proofs.Ring.{places_on-place}
 use Rattle.crash_laws.specs.Rules.{CommitOrder}
 use Rattle.crash_laws.specs.Session.{Session, IsCommit, log_transaction, log_blocks}
 use Rattle.host_machine.specs.State.{Phase, Idle, Closing, Committing, Host}

@@ -1,12 +1,10 @@
--- What an answered call keeps it keeps for good: with one request more, a longer history, one completion more, and
--- transactions told anew.
+-- What an answered call keeps it keeps for good: with one request more, one completion more, and a longer history.
 use Rattle.std.proofs.Common.{inl, inr, ⊎_elim, arith}
 use Rattle.std.specs.Prelude.{ℕ, ◌<◌, ◌≤◌, ◌++◌, ◌∷◌, [], List}
 use Rattle.blk_base.specs.Members.{In-push_left}
 use Rattle.order_model.specs.declared.completion.Completion.TheVariants.{Flushed}
 use Rattle.order_model.specs.declared.completion.Completion.{Completion}
 use Rattle.order_model.specs.declared.note.Note.TheVariants.{Commit}
-use Rattle.log_model.specs.Marks.{Transaction}
 use Rattle.crash_laws.proofs.Growing.{note_old}
 use Rattle.crash_laws.proofs.PromiseSteps.{held_for, held_grows, barrier_pushed, sync_pushed, barrier_grows, covers_old}
 use Rattle.crash_laws.specs.Extending.{Extends}
@@ -15,7 +13,6 @@ use Rattle.crash_laws.specs.PromiseRules.{Covers, CoversEntry}
 use Rattle.crash_laws.specs.Session.{Session, Submitted}
 use Rattle.crash_laws.specs.Submitting.{Submitting, after}
 use Rattle.host_machine.specs.State.{Begun}
-use Rattle.host_runs.proofs.CallHost.{held_told}
 use Rattle.host_runs.specs.Promises.{call_of, KeepsOk}
 
 -- one request more
@@ -61,12 +58,4 @@ ok_grows {h = h} {more = more} {s = s} {b = b} ext begun old = record {
       let lo = x.begun in
       let hi = x.ended in
       record { k = x.k; c = x.c; commit = x.commit; begun = omega arith; ended = omega arith; flushed = x.flushed };
-}
-
--- transactions told anew
-pub ok_told : {A : Type 0} {h : History A} {s : Session} {taken : List Completion} {e : ℕ} {b : Begun} (transactions : ℕ → Transaction) → KeepsOk h s taken e b → KeepsOk h (record s { transactions = transactions }) taken e b
-ok_told transactions old = record {
-  barrier = λ d. let x = old.barrier d in record { barrier = x.barrier; fence = x.fence; held = held_told transactions x.held; pages = x.pages; commits = x.commits };
-  sync = λ d. ⊎_elim (λ k. inl (record { flush = k.flush; flushed = k.flushed; held = held_told transactions k.held })) (λ n. inr n) (old.sync d);
-  cause = λ d. let x = old.cause d in record { k = x.k; c = x.c; commit = x.commit; begun = x.begun; ended = x.ended; flushed = x.flushed };
 }

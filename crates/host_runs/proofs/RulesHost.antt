@@ -22,6 +22,7 @@ use Rattle.crash_laws.specs.PageClauses.{PageClause}
 use Rattle.crash_laws.specs.Rules.{HasHeader}
 use Rattle.crash_laws.specs.Session.{Session, log_transaction}
 use Rattle.crash_laws.specs.Submitting.{Submitting, after}
+use Rattle.host_machine.proofs.ActorSteps.{rephased}
 use Rattle.host_machine.proofs.Commits.{commit_owes, commit_owes_images, other_owes, other_owes_images, way_pushed}
 use Rattle.host_machine.proofs.PlanSteps.{commit_keeps}
 use Rattle.host_machine.proofs.RequestSteps.{send_keeps, request_keeps, page_owes_pages, page_owes_image, page_fits}
@@ -29,8 +30,8 @@ use Rattle.host_machine.proofs.Sends.{plainly}
 use Rattle.host_machine.specs.Host.{send_planned, committed, checkpoint, send_page, with_flush}
 use Rattle.host_machine.specs.Parts.{home_sent, all_home}
 use Rattle.host_machine.specs.Plan.{Planned}
-use Rattle.host_machine.specs.State.{Entry, Plan, Phase, Closing, Committing, Host, submit}
-use Rattle.host_machine.specs.laws.Contract.{Over, Contract, noted_history, InPlan, InPhase, ImagesFacts, session}
+use Rattle.host_machine.specs.State.{Plan, Phase, Closing, Committing, Host, submit}
+use Rattle.host_machine.specs.laws.Contract.{Over, Contract, noted_history, InPlan, InPhase, session}
 use Rattle.host_machine.specs.laws.PlanNotes.{is_plan_note, IsRestOf, BarrierAhead}
 use Rattle.host_machine.specs.laws.Rules.{AllRules}
 use Rattle.host_runs.proofs.CheckpointSteps.{home_request, super_request}
@@ -74,27 +75,6 @@ plain_clause p fits no_log no_super no_home header = record {
 }
 
 module _ {A T V C R : Type 0} {o : Over A T V C R} {Stands : V → T → Type 0} (contract : Contract o Stands) where
-  pub rephased : {es : List (Entry C R)} {cuts : List ℕ} {s : Session} {r : ℕ} {touched revoked changed : List ℕ} {phase : Phase} {v : V} {pages : List CachedPage} {N : ℕ} (next : Phase)
-      → InPhase o Stands es cuts s r N next → ImagesFacts o Stands es cuts s r touched revoked changed phase v pages N → ImagesFacts o Stands es cuts s r touched revoked changed next v pages N
-  rephased next in_phase was = record {
-    counted = was.counted;
-    closed = was.closed;
-    rise = was.rise;
-    stands = was.stands;
-    numbers = was.numbers;
-    present = was.present;
-    bodies = was.bodies;
-    plan_revokes = was.plan_revokes;
-    alike = was.alike;
-    places = was.places;
-    mapped = was.mapped;
-    rising = was.rising;
-    sent = was.sent;
-    zones = was.zones;
-    altered = was.altered;
-    in_phase = in_phase;
-  }
-
   module _ (s : Host V C R) (txs : List Transaction) (N : ℕ) (kept : KeepsRules contract s txs N) where
     abbrev sess : Session
     sess = session o Stands txs s
@@ -130,7 +110,7 @@ module _ {A T V C R : Type 0} {o : Over A T V C R} {Stands : V → T → Type 0}
               (other_owes_images counted (request_of first (length s.journal.flush.requests)) first.note no_page no_commit no_home)
               (other_owes counted (request_of first (length s.journal.flush.requests)) first.note no_page no_commit);
           images = (
-            rephased (Committing (record p { rest = q ∷ qs }))
+            rephased contract (Committing (record p { rest = q ∷ qs }))
                 (record {
                   on_way = plan.on_way;
                   rest = note.1;

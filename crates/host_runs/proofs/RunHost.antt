@@ -2,6 +2,7 @@
 use Rattle.std.proofs.Common.{sym, subst, ⊎_elim, arith}
 use Rattle.std.specs.Prelude.{ℕ, ◌+◌, ◌-◌, ◌<◌, ◌≤◌, List, [], ◌∷◌, refl}
 use Rattle.blk_base.specs.Members.{In, slice_get-In}
+use Rattle.log_model.specs.Ring.{Ring}
 use Rattle.volume_ops.specs.Reads.{blocks_read, AgreeOn}
 use Rattle.volume_ops.specs.ReadsLaws.{blocks_read-agree}
 use Rattle.volume_ops.specs.Volume.{disk_of}
@@ -12,14 +13,13 @@ use Rattle.host_machine.specs.State.{Host}
 use Rattle.host_machine.specs.laws.Contract.{Over, Contract, noted_history, session}
 use Rattle.host_runs.proofs.ActorHost.{writeback_rules, flush_step_rules, commit_step_rules}
 use Rattle.host_runs.proofs.CallerHost.{advance_rules}
+use Rattle.host_runs.proofs.Numbers.{room_stays, limits_stay, sequence_fits, first_fits, head_fits, writable}
 use Rattle.host_runs.proofs.StartHost.{ring_at_start, calls_at_start, flushes_at_start, none_begun}
 use Rattle.host_runs.proofs.Threads.{moved}
-use Rattle.host_runs.proofs.Numbers.{room_stays, limits_stay, sequence_fits, first_fits, head_fits, writable}
-use Rattle.host_runs.specs.laws.Traces.{trace_of}
-use Rattle.log_model.specs.Ring.{Ring}
 use Rattle.host_runs.specs.Opened.{IsOpened}
 use Rattle.host_runs.specs.Runs.{Event, Call, Commit, WriteBack, FlushStep, stepped, steps, FitsWords, HasBlocks}
 use Rattle.host_runs.specs.laws.Kept.{HasRules, IsSound}
+use Rattle.host_runs.specs.laws.Traces.{trace_of}
 use Rattle.host_runs.specs.laws.Written.{IsWord, AreWritten}
 
 module _ {A T V C R : Type 0} {o : Over A T V C R} {Stands : V → T → Type 0} (contract : Contract o Stands) where
