@@ -131,8 +131,8 @@ module _ {A T V C R : Type 0} {o : Over A T V C R} {Stands : V → T → Type 0}
     -- ---- the commit actor
 
     module _ (order : CommitOrder (session o Stands txs s)) where
-      check_out_keeps : (homes : List Logged) → HasImages (checkpoint o.model o.setup s homes)
-      check_out_keeps [] = (
+      checkpoint_keeps : (homes : List Logged) → HasImages (checkpoint o.model o.setup s homes)
+      checkpoint_keeps [] = (
         txs,
         N,
         (
@@ -141,7 +141,7 @@ module _ {A T V C R : Type 0} {o : Over A T V C R} {Stands : V → T → Type 0}
           facts.1,
         ),
       )
-      check_out_keeps (h ∷ hs) = (
+      checkpoint_keeps (h ∷ hs) = (
         txs,
         N,
         (
@@ -174,7 +174,7 @@ module _ {A T V C R : Type 0} {o : Over A T V C R} {Stands : V → T → Type 0}
           by (Some p) e = submits_keeps full _ (txs, N, send_keeps contract s txs N facts p true false (keyed s.pages facts.0.rising p (first_page-In (λ p. is_unsent p.state && has s.journal.running.changed p.birth) s.pages p e)))
           by None e =
               either (λ (x : Turned V C R). HasImages x.host) (nat_lt (ring_free s.journal.ring) (log_needs s.journal.running)) _ _
-              (λ d. submits_keeps full _ (check_out_keeps s.journal.ring.homes))
+              (λ d. submits_keeps full _ (checkpoint_keeps s.journal.ring.homes))
               (λ d. (txs ++ closing_transaction contract s txs N facts ∷ [], N, plan_keeps contract s txs N facts order all_closed (all_sent e)))
 
       plan_sent_keeps : (p : Plan) (first : Planned) (rest : List Planned) → p.rest ≡ first ∷ rest → InPhase o Stands s.history s.cuts (session o Stands txs s) s.journal.running.number N (Committing p)

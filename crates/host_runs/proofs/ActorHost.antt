@@ -211,10 +211,10 @@ module _ {A T V C R : Type 0} {o : Over A T V C R} {Stands : V → T → Type 0}
               of_thread n th here None e at = sym (ap (λ (v : Wait). v.need) at) ∙ ap (λ (v : Wait). v.need) (calls.idle n th here e)
               of_thread n th here (Some b) e at = none_of b (subst (CallFacts (noted_history o Stands s.history s.cuts) (session o Stands txs s) s.pages (length s.history) s.journal.running.number b) at (calls.each n th b here e)) w.need refl
 
-      check_out_rules : s.journal.phase ≡ Closing → (homes : List Logged) → s.journal.ring.homes ≡ homes → HasRules contract (checkpoint o.model o.setup s homes)
-      check_out_rules at [] e =
+      checkpoint_rules : s.journal.phase ≡ Closing → (homes : List Logged) → s.journal.ring.homes ≡ homes → HasRules contract (checkpoint o.model o.setup s homes)
+      checkpoint_rules at [] e =
           (txs, N, super_keeps contract s txs N kept at e (formats.written.super (o.setup.sequence + (s.journal.running.number - 1)) s.journal.ring.head formats.running formats.head), pushed (request_of (super_request o.setup.journal (o.setup.writers.super (o.setup.sequence + (s.journal.running.number - 1)) s.journal.ring.head)) (length s.journal.flush.requests)) notes.Super calls, other_pushed flushes notes.Super refl)
-      check_out_rules at (b ∷ bs) e = (txs, N, home_keeps contract s txs N kept b bs at e, pushed (request_of (home_request b (elim bs as (λ _. Bool) [ [] ↦ true | x ∷ xs ↦ false ])) (length s.journal.flush.requests)) (notes.Home b.block) calls, other_pushed flushes (notes.Home b.block) refl)
+      checkpoint_rules at (b ∷ bs) e = (txs, N, home_keeps contract s txs N kept b bs at e, pushed (request_of (home_request b (elim bs as (λ _. Bool) [ [] ↦ true | x ∷ xs ↦ false ])) (length s.journal.flush.requests)) (notes.Home b.block) calls, other_pushed flushes (notes.Home b.block) refl)
 
       close_rules : (full : Bool) → s.journal.phase ≡ Closing → HasRules contract (close_step o.model o.setup full s).host
       close_rules full at = by (find (λ p. is_unsent p.state && has s.journal.running.changed p.birth) s.pages) refl
@@ -228,7 +228,7 @@ module _ {A T V C R : Type 0} {o : Over A T V C R} {Stands : V → T → Type 0}
           by (Some p) e = submits_rules full _ (page_out p true false (keyed s.pages kept.images.0.rising p (first_page-In (λ p. is_unsent p.state && has s.journal.running.changed p.birth) s.pages p e)))
           by None e =
               either (λ (x : Turned V C R). HasRules contract x.host) (nat_lt (ring_free s.journal.ring) (log_needs s.journal.running)) _ _
-              (λ d. submits_rules full _ (check_out_rules at s.journal.ring.homes refl))
+              (λ d. submits_rules full _ (checkpoint_rules at s.journal.ring.homes refl))
               (λ d. (txs ++ transaction_now contract s txs N kept ∷ [], N, build_keeps contract s txs N kept at (all_firm e) d formats.written formats.writable formats.next formats.first, built at (all_firm e) d, flushes))
 
       plan_sent_rules : (p : Plan) (first : Planned) (rest : List Planned) → s.journal.phase ≡ Committing p → p.rest ≡ first ∷ rest → HasRules contract (plan_sent o.model o.setup s p first rest)
