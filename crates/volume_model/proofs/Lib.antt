@@ -1,1 +1,5 @@
 mod Moves
+mod Places
+mod Nodes
+mod SameTrees
+mod Images

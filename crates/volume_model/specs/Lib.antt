@@ -9,4 +9,5 @@ pub mod Cut
 pub mod Counts
 pub mod Touched
 pub mod Moves
+pub mod Plain
 pub mod laws

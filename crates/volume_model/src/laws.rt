@@ -11,12 +11,15 @@ ghost use Rattle.minix_layout.specs.declared.slot.Slot.{Slot};
 ghost use Rattle.minix_layout.specs.Geometry.{IsSound};
 ghost use Rattle.minix_layout.specs.Inodes.{FitInode};
 ghost use Rattle.minix_layout.specs.Slots.{slot_of, IsEntry};
+ghost use Rattle.tree_model.specs.declared.node.Node.{Node};
+ghost use Rattle.tree_model.specs.Trees.{IsSameButBirths};
 ghost use Rattle.tree_model.specs.Maps.{at_number, at_name, put_number, name_cmp};
 ghost use Rattle.tree_model.specs.Paths.{is_dot};
 ghost use Rattle.volume_ops.specs.declared.found.Mapped.{Mapped};
 ghost use Rattle.volume_ops.specs.Fields.{inode_at};
 ghost use Rattle.volume_ops.specs.Places.{table_block, zone_number};
-ghost use Rattle.volume_ops.specs.Volume.{disk_of};
+ghost use Rattle.volume_ops.specs.Volume.{disk_of, tree_of};
+ghost use Rattle.volume_ops.specs.Faultless.{IsFaultless};
 ghost use Rattle.volume_model.specs.declared.placed.Placed.{Placed};
 ghost use Rattle.volume_model.specs.declared.placed.Part.TheVariants as parts;
 ghost use Rattle.volume_model.specs.declared.placed.DirectoryPart.{DirectoryPart};
@@ -28,6 +31,8 @@ ghost use Rattle.volume_model.specs.Counts.{keeps_below, zones_of_file, indices_
 ghost use Rattle.volume_model.specs.Touched.{Contents, Touched, Tells, Follows, and_then};
 ghost use Rattle.volume_model.specs.Moves.{IsVolume, AreJust, MayAdd, MayChange, AreFree, added, node_removed, file_mapped, directory_mapped, file_mapped_touches, file_cut, file_cut_touches, name_added, name_removed};
 ghost use Rattle.volume_model.specs.Slots.{room};
+ghost use Rattle.volume_model.specs.Trees.{tree_now};
+ghost use Rattle.volume_model.specs.Plain.{IsPlainContents};
 
 /// A law, which does nothing when it is called: where the zones of numbers of an inode keep their bytes, each of its
 /// places has the zone that it had; and where its other zones and its inode do too, its node is stored as before.
@@ -149,4 +154,12 @@ pub fn calls_are_told_as_one()
         Tells g u v s (λ birth index. In (birth, index) first) →
         Tells g v w t (λ birth index. In (birth, index) second) → Follows w s t →
         Tells g u w (and_then s t) (λ birth index. In (birth, index) first ⊎ In (birth, index) second) }
+{}
+
+/// A law, which does nothing when it is called: the blocks of a plain volume that changes are an image without a
+/// fault, and whoever reads this image finds the volume's tree, but for the births of its nodes.
+pub fn plain_volumes_are_read_back()
+    ensures no_fault { (g : Geometry) (v : Contents) → IsPlainContents g v → IsFaultless g v.blocks }
+    ensures tree { (g : Geometry) (v : Contents) → IsPlainContents g v →
+        (tree : List (ℕ × Node)) × (tree_of g v.blocks ≡ Ok tree) × IsSameButBirths (tree_now v.blocks v.nodes) tree }
 {}

@@ -34,4 +34,5 @@ fn keeps_names_and_slots(rt: HostRuntime) {
     mapped_block_stands();
     cut_file_stands();
     calls_are_told_as_one();
+    plain_volumes_are_read_back();
 }
