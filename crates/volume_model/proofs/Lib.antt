@@ -3,3 +3,7 @@ mod Places
 mod Nodes
 mod SameTrees
 mod Images
+mod UsedSlots
+mod Bytes
+mod ImageSlots
+mod FromImages

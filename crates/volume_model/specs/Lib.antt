@@ -10,4 +10,5 @@ pub mod Counts
 pub mod Touched
 pub mod Moves
 pub mod Plain
+pub mod ImageNodes
 pub mod laws

@@ -1,9 +1,10 @@
 -- Plain volumes: those whose calls are told of here. As the blocks of an image, and as a volume that changes.
-use Rattle.std.specs.Prelude.{◌≡◌, ◌≢◌, ℕ, ◌*◌, ◌/◌, ◌<◌, ◌≤◌, false, List, codes, length, map, Option, Some, None, Ok, Err}
+use Rattle.std.specs.Prelude.{◌≡◌, ◌≢◌, ℕ, ◌*◌, ◌/◌, ◌<◌, ◌≤◌, false, List, codes, length, map, Option, Some, None, Result, Ok, Err}
 use Rattle.std.specs.List.{slice_get, range_with_len}
 use Rattle.minix_layout.specs.declared.division.Geometry.{Geometry}
 use Rattle.minix_layout.specs.declared.inode.Inode.{Inode}
 use Rattle.minix_layout.specs.declared.slot.Slot.{Slot}
+use Rattle.minix_layout.specs.declared.fault.LayoutFault.{LayoutFault}
 use Rattle.tree_model.specs.declared.node.Node.{Node}
 use Rattle.tree_model.specs.declared.node.Node.TheVariants as nodes
 use Rattle.tree_model.specs.declared.node.Directory.{Directory}
@@ -46,9 +47,13 @@ pub record HasSlotZones (blocks : List (List ℕ)) (i : Inode) (slots : ℕ) : T
 abbrev pub inode_born : Geometry → List (List ℕ) → ℕ → Inode
 inode_born g blocks birth = inode_at g blocks (inode_of_birth birth)
 
--- slot k of a directory; one that cannot be read counts as free here
+-- what was read; a slot that cannot be read counts as free here
+abbrev pub slot_or_free : Result (Option Slot) LayoutFault → Option Slot
+slot_or_free (Ok s) = s
+slot_or_free (Err fault) = None
+
 abbrev pub slot_in : List (List ℕ) → Inode → ℕ → Option Slot
-slot_in blocks i k = elim (slot_behind blocks i k) as (λ _. Option Slot) [ Ok s ↦ s | Err fault ↦ None ]
+slot_in blocks i k = slot_or_free (slot_behind blocks i k)
 
 -- the slots below the size of a directory
 abbrev pub slots_in : List (List ℕ) → Inode → List (Option Slot)

@@ -32,7 +32,8 @@ ghost use Rattle.volume_model.specs.Touched.{Contents, Touched, Tells, Follows, 
 ghost use Rattle.volume_model.specs.Moves.{IsVolume, AreJust, MayAdd, MayChange, AreFree, added, node_removed, file_mapped, directory_mapped, file_mapped_touches, file_cut, file_cut_touches, name_added, name_removed};
 ghost use Rattle.volume_model.specs.Slots.{room};
 ghost use Rattle.volume_model.specs.Trees.{tree_now};
-ghost use Rattle.volume_model.specs.Plain.{IsPlainContents};
+ghost use Rattle.volume_model.specs.Plain.{IsPlainVolume, IsPlainContents};
+ghost use Rattle.volume_model.specs.ImageNodes.{IsImage, contents_in};
 
 /// A law, which does nothing when it is called: where the zones of numbers of an inode keep their bytes, each of its
 /// places has the zone that it had; and where its other zones and its inode do too, its node is stored as before.
@@ -162,4 +163,13 @@ pub fn plain_volumes_are_read_back()
     ensures no_fault { (g : Geometry) (v : Contents) → IsPlainContents g v → IsFaultless g v.blocks }
     ensures tree { (g : Geometry) (v : Contents) → IsPlainContents g v →
         (tree : List (ℕ × Node)) × (tree_of g v.blocks ≡ Ok tree) × IsSameButBirths (tree_now v.blocks v.nodes) tree }
+{}
+
+/// A law, which does nothing when it is called: a plain image that was read is a plain volume that can change, with
+/// the nodes that the walk found, and it stands for the image's own tree.
+pub fn plain_images_can_change()
+    ensures stands { (g : Geometry) (blocks : List (List ℕ)) (tree : List (ℕ × Node)) → IsImage g blocks → 0 < g.inodes →
+        IsPlainVolume g blocks tree → IsPlainContents g (contents_in g blocks tree) }
+    ensures tree { (g : Geometry) (blocks : List (List ℕ)) (tree : List (ℕ × Node)) → IsImage g blocks → 0 < g.inodes →
+        IsPlainVolume g blocks tree → tree_now blocks (contents_in g blocks tree).nodes ≡ tree }
 {}

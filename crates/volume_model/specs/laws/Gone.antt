@@ -36,7 +36,7 @@ length-without (e ∷ es) name x h =
       | inr f ↦ rw f (ap suc (length-without es name x (rw f at h)))
     ]
 
-free-count : (slots : List (Option Slot)) (k : ℕ) (s : Slot) → slice_get slots k ≡ Some (Some s) → suc (used_count (slice_set slots k None)) ≡ used_count slots
+pub free-count : (slots : List (Option Slot)) (k : ℕ) (s : Slot) → slice_get slots k ≡ Some (Some s) → suc (used_count (slice_set slots k None)) ≡ used_count slots
 free-count [] k s h = absurd (cc)
 free-count (None ∷ slots) zero s h = absurd (none-some s (same_Some None (Some s) h))
 free-count (None ∷ slots) (suc k) s h = free-count slots k s h

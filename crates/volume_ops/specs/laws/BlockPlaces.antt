@@ -36,7 +36,7 @@ birth_back inode = grind arith
 
 module _ (g : Geometry) (blocks : List (List ℕ)) (tree : List (ℕ × Node)) (h : IsVolumeTree g blocks tree) where
   -- a name of the tree is a slot of the volume
-  named_by : (parent birth : ℕ) (name : List ℕ) → Gives tree parent name birth →
+  pub named_by : (parent birth : ℕ) (name : List ℕ) → Gives tree parent name birth →
       (place : ℕ) × (slot : Slot) × NamesAt g blocks (inode_of_birth parent) place slot × (birth_of slot.inode ≡ birth)
   named_by parent birth name gives =
       let says = h.fields.each parent (nodes.Directory gives.directory) gives.stands in
@@ -47,7 +47,7 @@ module _ (g : Geometry) (blocks : List (List ℕ)) (tree : List (ℕ × Node)) (
         x.birth_is,
       )
 
-  led_reached : {birth : ℕ} → IsLedTo tree birth → IsReached g blocks (inode_of_birth birth) × (birth_of (inode_of_birth birth) ≡ birth)
+  pub led_reached : {birth : ℕ} → IsLedTo tree birth → IsReached g blocks (inode_of_birth birth) × (birth_of (inode_of_birth birth) ≡ birth)
   led_reached at_root = (reached_root, refl)
   led_reached (by_name {parent} {birth} {name} led gives) =
       let x = named_by parent birth name gives in
