@@ -7,3 +7,4 @@ mod UsedSlots
 mod Bytes
 mod ImageSlots
 mod FromImages
+mod MovedSums

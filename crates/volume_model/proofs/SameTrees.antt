@@ -1,16 +1,16 @@
--- The tree of a plain volume that changes is that of its image but for the births.
-use Rattle.std.specs.Prelude.{◌≡◌, ◌≢◌, ℕ, ◌+◌, ◌==◌, Bool, cond, true, false, List, [], ◌∷◌, map, Option, Some, None, Result, Ok, Err, IsOk, refl}
+-- The tree of a plain volume that changes is that of its image but for the births, and the image is plain.
+use Rattle.std.specs.Prelude.{◌≡◌, ◌≢◌, ℕ, ◌+◌, ◌==◌, Bool, cond, true, false, ◌<◌, ◌≤◌, List, [], ◌∷◌, length, map, Option, Some, None, Result, Ok, Err, IsOk, refl}
 use Rattle.std.specs.List.{count_by}
 use Rattle.std.specs.List.Sorted.{IsStrictlySortedBy}
 use Rattle.std.specs.BTreeMap.{is_at}
-use Rattle.std.specs.Map.{keys_of, lookup}
+use Rattle.std.specs.Map.{keys_of, values_of, lookup}
 use Rattle.std.specs.Ordering.{nat_cmp}
 use Rattle.std.proofs.Common.{sym, ap, subst, ◌∙◌, inl, inr, ⊎_elim, arith}
 use Rattle.std.proofs.lemmas.Bool.{cases_Bool, cases_eq, eq-eqb, ne_eqb, true≢false}
 use Rattle.std.proofs.lemmas.Cmp.{nat_cmp_total, nat_list_cmp_total}
 use Rattle.std.proofs.lemmas.List.Sums.{sum_by-cons}
 use Rattle.std.proofs.lemmas.Option.{none-some, same_Some}
-use Rattle.blk_base.specs.Members.{In, slice_get-length}
+use Rattle.blk_base.specs.Members.{In, slice_get-length, slice_get-in_range, same_by_slice_get}
 use Rattle.minix_layout.specs.declared.division.Geometry.{Geometry}
 use Rattle.minix_layout.specs.declared.inode.Inode.{Inode}
 use Rattle.tree_model.specs.declared.node.Node.{Node}
@@ -21,6 +21,7 @@ use Rattle.tree_model.specs.Maps.{at_number, at_name, name_cmp}
 use Rattle.tree_model.specs.MapsLaws.{number_here, number_same, name_here, name_same}
 use Rattle.tree_model.specs.Paths.{is_dot}
 use Rattle.tree_model.specs.Listing.{Gives, IsLedTo, at_root, by_name}
+use Rattle.tree_model.specs.Plain.{names_in_node, names_to}
 use Rattle.tree_model.specs.Trees.{Refusal, step_at, led_to, node_of_path, is_directory, SameMetadata, SameMetadataAt, SameLinks, SameBytes, AreAlike, IsSameButBirths, directory_links}
 use Rattle.tree_model.specs.laws.Alike.{step_gives, step_given, led_on, led_parts, led_is_led}
 use Rattle.tree_model.specs.laws.MapOrder.{InOrder, in_order_put, at_put_cases}
@@ -31,17 +32,22 @@ use Rattle.volume_ops.specs.declared.found.Mapped.{Mapped}
 use Rattle.volume_ops.specs.Places.{birth_of, inode_of_birth}
 use Rattle.volume_ops.specs.Places.{is_directory as is_directory_mode}
 use Rattle.volume_ops.specs.Volume.{disk_of, bodies_of}
-use Rattle.volume_ops.specs.Fields.{inode_at, zone_behind, block_behind, HasName, IsDirectoryOf, IsFileOf, IsNodeOf}
+use Rattle.volume_ops.specs.Fields.{inode_at, zone_behind, block_behind, HasName, IsDirectoryOf, IsFileOf, IsNodeOf, IsBelow}
 use Rattle.volume_ops.specs.VolumeTrees.{IsVolumeTree}
+use Rattle.volume_ops.specs.laws.BlockPlaces.{led_reached}
 use Rattle.volume_ops.specs.laws.TreeUnique.{same_maps, same_options}
 use Rattle.volume_model.specs.declared.placed.Placed.{Placed}
 use Rattle.volume_model.specs.declared.placed.Part.{Part}
 use Rattle.volume_model.specs.declared.placed.Part.TheVariants as parts
-use Rattle.volume_model.specs.Volume.{IsDirectoryPart, IsFilePart, IsPart}
+use Rattle.volume_model.specs.declared.placed.DirectoryPart.{DirectoryPart}
+use Rattle.volume_model.specs.Volume.{zone_in, IsDirectoryPart, IsFilePart, IsPart}
 use Rattle.volume_model.specs.Touched.{Contents}
 use Rattle.volume_model.specs.Trees.{in_order, directory_from, node_from, node_now, tree_now}
-use Rattle.volume_model.specs.Plain.{IsPlainContents}
-use Rattle.volume_model.proofs.Nodes.{as_directory, slot_read, entry_got, no_directory_file, tree_at, tree_back, tree_directory, placing, stored, root_placing}
+use Rattle.volume_model.specs.Ways.{IsJust}
+use Rattle.volume_model.specs.Plain.{HasDots, HasSlotZones, inode_born, slots_in, IsPlainVolume, IsPlainContents}
+use Rattle.volume_model.proofs.Nodes.{as_directory, as_file, reached_node, slot_read, entry_got, no_directory_file, tree_at, tree_back, tree_directory, placing, stored, root_placing}
+use Rattle.volume_model.proofs.ImageSlots.{slots_length, slot_got}
+use Rattle.volume_model.proofs.MovedSums.{sum_moved}
 
 -- ---- maps with other values
 
@@ -374,3 +380,174 @@ module _ (g : Geometry) (v : Contents) (h : IsPlainContents g v) (t : List (ℕ 
 
   pub same_but_births : IsSameButBirths now t
   same_but_births = record { alike = alike; same_bytes = λ names b e. bytes_at b (at_path names b e) }
+
+  -- ---- names of a node
+
+  not_one : (c : ℕ) (p : Placed) → at_number v.nodes c ≡ Some p → to c ≢ 1
+  not_one c p at e = no_birth_one p.number (sym (to_is c p at) ∙ e)
+
+  one_of : (b c : ℕ) (p q : Placed) → at_number v.nodes b ≡ Some p → at_number v.nodes c ≡ Some q → to b ≡ to c → b ≡ c
+  one_of b c p q at too same = h.volume.0.numbers b c p q at too (sym (to_number b p at) ∙ (ap inode_of_birth same ∙ to_number c q too))
+
+  to_apart : (o : Option Placed) (b c : ℕ) (q : Placed) → at_number v.nodes b ≡ o → at_number v.nodes c ≡ Some q → b ≢ c → to b ≢ to c
+  to_apart None b c q none at differ same = not_one c q at (sym same ∙ ap birth_by_number none)
+  to_apart (Some p) b c q too at differ same = differ (one_of b c p q too at same)
+
+  same_test : (b c : ℕ) (q : Placed) → at_number v.nodes c ≡ Some q → (b == c) ≡ (to b == to c)
+  same_test b c q at =
+      ⊎_elim (λ e. eq-eqb b c e ∙ sym (eq-eqb (to b) (to c) (ap to e))) (λ differ. ne_eqb b c differ ∙ sym (ne_eqb (to b) (to c) (to_apart (at_number v.nodes b) b c q refl at differ))) (cases_eq b c)
+
+  count_values : (q : ℕ → Bool) (names : List (List ℕ × ℕ)) → count_by q (values_of (seen to names)) ≡ count_by (λ b. q (to b)) (values_of names)
+  count_values q [] = refl
+  count_values q (e ∷ es) =
+      sum_by-cons (λ b. cond (q b) 1 0) (to e.1) (values_of (seen to es))
+      ∙ (ap (λ n. cond (q (to e.1)) 1 0 + n) (count_values q es) ∙ sym (sum_by-cons (λ b. cond (q (to b)) 1 0) e.1 (values_of es)))
+
+  module _ (c : ℕ) (q : Placed) (at : at_number v.nodes c ≡ Some q) where
+    names_by : (b : ℕ) (i : Inode) (part : Part) (m : Node) → IsPart v.blocks i part → IsNodeOf v.blocks i m → InBoth b → at_number now b ≡ Some (node_from v.blocks i part) →
+        at_number t (to b) ≡ Some m → names_in_node c (node_from v.blocks i part) ≡ names_in_node (to c) m
+    names_by b i (parts.Directory d) (nodes.Directory e) part of both here there =
+        count_by_same (λ b. b == c) (λ b. to b == to c) (values_of d.names) (λ b. same_test b c q at)
+        ∙ (sym (count_values (λ b. b == to c) d.names) ∙ ap (λ (names : List (List ℕ × ℕ)). count_by (λ b. b == to c) (values_of names)) (names_there b (directory_from d) e both here there))
+    names_by b i (parts.Directory d) (nodes.File f) part of both here there = absurd (no_directory_file i.mode part.kind of.kind)
+    names_by b i (parts.Directory d) (nodes.Other mode) part of both here there = absurd (true≢false (sym part.kind ∙ of.no_directory))
+    names_by b i (parts.File zones) (nodes.Directory e) part of both here there = absurd (no_directory_file i.mode of.kind part.kind)
+    names_by b i (parts.File zones) (nodes.File f) part of both here there = refl
+    names_by b i (parts.File zones) (nodes.Other mode) part of both here there = refl
+
+    names_in_both : (b : ℕ) (x : InBoth b) → names_in_node c (node_now v.blocks x.node) ≡ names_in_node (to c) x.other
+    names_in_both b x =
+        names_by b x.node.inode x.node.part x.other (stored g v h b x.node x.stands).part (says b x.node x.other x.stands x.there) x (tree_at v.blocks v.nodes b x.node x.stands) x.there
+
+  -- ---- each node of the image is one of the volume
+
+  record FromNode (b : ℕ) (n : Node) : Type 0 where
+    pub birth : ℕ
+    pub node : Placed
+    pub stands : at_number v.nodes birth ≡ Some node
+    pub goes : to birth ≡ b
+    pub number_is : inode_of_birth b ≡ node.number
+    pub inode_is : inode_born g v.blocks b ≡ node.inode
+    pub of : IsNodeOf v.blocks node.inode n
+
+  from_node : (b : ℕ) (n : Node) → at_number t b ≡ Some n → FromNode b n
+  from_node b n at =
+      let r = led_reached g v.blocks t k (k.rooted.led_to b n at) in
+      let x = reached_node g v h r.0 in
+      let goes : to x.birth ≡ b = to_is x.birth x.node x.stands ∙ (ap birth_of x.number_is ∙ r.1) in
+      let number : inode_of_birth b ≡ x.node.number = ap inode_of_birth (sym goes) ∙ to_number x.birth x.node x.stands in
+      let inode : inode_born g v.blocks b ≡ x.node.inode = ap (inode_at g v.blocks) number ∙ (stored g v h x.birth x.node x.stands).inode in
+      record {
+        birth = x.birth;
+        node = x.node;
+        stands = x.stands;
+        goes = goes;
+        number_is = number;
+        inode_is = inode;
+        of = subst (λ i. IsNodeOf v.blocks i n) inode (k.fields.each b n at);
+      }
+
+  names_moved : (c : ℕ) (q : Placed) → at_number v.nodes c ≡ Some q → names_to now c ≡ names_to t (to c)
+  unfolding names_to
+  names_moved c q at =
+      sum_moved (names_in_node c) (names_in_node (to c)) to now t h.rooted.in_order k.rooted.in_order
+      (record {
+        forth = λ b n here.
+            let p = tree_back v.blocks v.nodes b n here in
+            let x = both_at b p.0 p.1 in
+            let same : node_now v.blocks x.node ≡ n = same_Some (node_now v.blocks x.node) n (sym (tree_at v.blocks v.nodes b x.node x.stands) ∙ here) in
+            (x.other, x.there, ap (names_in_node c) (sym same) ∙ names_in_both c q at b x);
+        back = λ b n there. (let x = from_node b n there in (x.birth, node_now v.blocks x.node, tree_at v.blocks v.nodes x.birth x.node x.stands, x.goes));
+        one = λ a b n m here too same.
+            let p = tree_back v.blocks v.nodes a n here in
+            let r = tree_back v.blocks v.nodes b m too in
+            one_of a b p.0 r.0 p.1 r.1 same;
+      })
+
+  -- ---- the image is plain
+
+  no_other_part : (i : Inode) (part : Part) (mode : ℕ) → IsPart v.blocks i part → IsNodeOf v.blocks i (nodes.Other mode) → ⊥
+  no_other_part i (parts.Directory d) mode part of = true≢false (sym part.kind ∙ of.no_directory)
+  no_other_part i (parts.File zones) mode part of = true≢false (sym part.kind ∙ of.no_file)
+
+  slots_are : (i : Inode) (d : DirectoryPart) → IsDirectoryPart v.blocks i d → slots_in v.blocks i ≡ d.slots
+  slots_are i d part =
+      let size = part.size in
+      let long : length (slots_in v.blocks i) ≡ length d.slots = (let slots = slots_length v.blocks i in omega arith) in
+      same_by_slice_get (slots_in v.blocks i) d.slots long
+      (λ k low.
+      let inside : k < length d.slots = omega arith in
+      let y = slice_get-in_range d.slots k inside in
+      slot_got v.blocks i k y.0 (omega arith) (slot_read v.blocks i d part k y.0 y.1) ∙ sym y.1)
+
+  parent_of : Node → ℕ
+  parent_of (nodes.Directory d) = d.parent
+  parent_of (nodes.File f) = 0
+  parent_of (nodes.Other mode) = 0
+
+  parent_goes : {c : ℕ} → IsLedTo now c → (d e : Directory) → at_number now c ≡ Some (nodes.Directory d) → at_number t (to c) ≡ Some (nodes.Directory e) → e.parent ≡ to d.parent
+  unfolding parent_of
+  parent_goes at_root d e here there =
+      let x = k.fields.root in
+      ap parent_of (same_Some (nodes.Directory e) (nodes.Directory x.0) (sym (ap (at_number t) (sym to_root) ∙ there) ∙ x.1)) ∙ (x.2 ∙ (sym to_root ∙ ap to (sym (h.root_parent d here))))
+  parent_goes (by_name {parent} {birth} {name} led gives) d e here there =
+      let x = k.fields.leads (to parent) name (to birth) (gives_there parent birth name (both led) gives) in
+      let below : e.parent ≡ to parent = subst (IsBelow (to parent)) (same_Some x.0 (nodes.Directory e) (sym x.1 ∙ there)) x.2 in
+      below ∙ ap to (sym (h.parents parent name birth d gives here))
+
+  -- a directory of the image, as it stands in the volume
+  record FromDirectory (b : ℕ) (e : Directory) (x : FromNode b (nodes.Directory e)) : Type 0 where
+    pub directory : DirectoryPart
+    pub part_is : x.node.part ≡ parts.Directory directory
+    pub part : IsDirectoryPart v.blocks x.node.inode directory
+    pub here : at_number now x.birth ≡ Some (nodes.Directory (directory_from directory))
+    pub there : at_number t (to x.birth) ≡ Some (nodes.Directory e)
+
+  from_directory_node : (b : ℕ) (e : Directory) (at : at_number t b ≡ Some (nodes.Directory e)) (x : FromNode b (nodes.Directory e)) → FromDirectory b e x
+  from_directory_node b e at x =
+      let d = as_directory v.blocks x.node.inode x.node.part (stored g v h x.birth x.node x.stands).part x.of.kind in
+      record { directory = d.0; part_is = d.1; part = d.2; here = tree_directory v.blocks v.nodes x.birth x.node d.0 x.stands d.1; there = ap (at_number t) x.goes ∙ at }
+
+  dots_there : (b : ℕ) (e : Directory) → at_number t b ≡ Some (nodes.Directory e) → HasDots (slots_in v.blocks (inode_born g v.blocks b)) (inode_of_birth b) (inode_of_birth e.parent)
+  dots_there b e at =
+      let x = from_node b (nodes.Directory e) at in
+      let y = from_directory_node b e at x in
+      let z = h.dots x.birth x.node y.directory x.stands y.part_is in
+      let goes = parent_goes (h.rooted.led_to x.birth (nodes.Directory (directory_from y.directory)) y.here) (directory_from y.directory) e y.here y.there in
+      let parent : inode_of_birth e.parent ≡ z.0.number = ap inode_of_birth goes ∙ to_number y.directory.parent z.0 z.1 in
+      subst (λ i. HasDots (slots_in v.blocks i) (inode_of_birth b) (inode_of_birth e.parent)) (sym x.inode_is)
+      (subst (λ ss. HasDots ss (inode_of_birth b) (inode_of_birth e.parent)) (sym (slots_are x.node.inode y.directory y.part))
+      (subst (λ n. HasDots y.directory.slots n (inode_of_birth e.parent)) (sym x.number_is)
+      (subst (HasDots y.directory.slots x.node.number) (sym parent) z.2)))
+
+  slot_zones_there : (b : ℕ) (e : Directory) → at_number t b ≡ Some (nodes.Directory e) → HasSlotZones v.blocks (inode_born g v.blocks b) e.slots
+  slot_zones_there b e at =
+      let x = from_node b (nodes.Directory e) at in
+      let y = from_directory_node b e at x in
+      let long : length y.directory.slots ≡ e.slots = (let slots = x.of.slots in let size = y.part.size in omega arith) in
+      subst (λ i. HasSlotZones v.blocks i e.slots) (sym x.inode_is) (subst (HasSlotZones v.blocks x.node.inode) long (h.slot_zones x.birth x.node y.directory x.stands y.part_is))
+
+  directory_links_there : (b : ℕ) (e : Directory) → at_number t b ≡ Some (nodes.Directory e) → (inode_born g v.blocks b).links ≡ directory_links t e
+  directory_links_there b e at =
+      let x = from_node b (nodes.Directory e) at in
+      let y = from_directory_node b e at x in
+      ap (λ (i : Inode). i.links) x.inode_is
+      ∙ (h.directory_links_are x.birth x.node y.directory x.stands y.part_is ∙ links_there x.birth (directory_from y.directory) e (both_at x.birth x.node x.stands) y.here y.there)
+
+  file_links_there : (b : ℕ) (f : File) → at_number t b ≡ Some (nodes.File f) → f.links ≡ names_to t b
+  file_links_there b f at =
+      let x = from_node b (nodes.File f) at in
+      let y = as_file v.blocks x.node.inode x.node.part (stored g v h x.birth x.node x.stands).part x.of.kind in
+      x.of.links ∙ (h.file_links_are x.birth x.node y.0 x.stands y.1 ∙ (names_moved x.birth x.node x.stands ∙ ap (names_to t) x.goes))
+
+  pub plain_image : IsPlainVolume g v.blocks t
+  plain_image = record {
+    stands = k;
+    no_other = λ b mode at. (let x = from_node b (nodes.Other mode) at in no_other_part x.node.inode x.node.part mode (stored g v h x.birth x.node x.stands).part x.of);
+    dots = dots_there;
+    slot_zones = slot_zones_there;
+    just = λ b n at. (let x = from_node b n at in subst (λ i. IsJust (λ x. zone_in v.blocks i x)) (sym x.inode_is) (h.volume.1 x.birth x.node x.stands));
+    directory_links_are = directory_links_there;
+    file_links_are = file_links_there;
+    few_links = λ b n at. (let x = from_node b n at in subst (λ (i : Inode). i.links ≤ 250) (sym x.inode_is) (h.few_links x.birth x.node x.stands));
+  }

@@ -157,12 +157,14 @@ pub fn calls_are_told_as_one()
         Tells g u w (and_then s t) (λ birth index. In (birth, index) first ⊎ In (birth, index) second) }
 {}
 
-/// A law, which does nothing when it is called: the blocks of a plain volume that changes are an image without a
+/// A law, which does nothing when it is called: the blocks of a plain volume that changes are a plain image without a
 /// fault, and whoever reads this image finds the volume's tree, but for the births of its nodes.
 pub fn plain_volumes_are_read_back()
     ensures no_fault { (g : Geometry) (v : Contents) → IsPlainContents g v → IsFaultless g v.blocks }
     ensures tree { (g : Geometry) (v : Contents) → IsPlainContents g v →
         (tree : List (ℕ × Node)) × (tree_of g v.blocks ≡ Ok tree) × IsSameButBirths (tree_now v.blocks v.nodes) tree }
+    ensures plain { (g : Geometry) (v : Contents) (tree : List (ℕ × Node)) → IsPlainContents g v →
+        tree_of g v.blocks ≡ Ok tree → IsPlainVolume g v.blocks tree }
 {}
 
 /// A law, which does nothing when it is called: a plain image that was read is a plain volume that can change, with

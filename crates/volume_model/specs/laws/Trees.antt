@@ -48,7 +48,7 @@ seen_same f h (e ∷ es) same =
 -- ---- maps in order
 
 -- a key that is found is above those before it
-found_above : {X : Type 0} (low k : ℕ) (es : List (ℕ × X)) (x : X) → AllByRecursion (λ y. nat_cmp low y ≡ Less) (keys_of es) → at_number es k ≡ Some x → low < k
+pub found_above : {X : Type 0} (low k : ℕ) (es : List (ℕ × X)) (x : X) → AllByRecursion (λ y. nat_cmp low y ≡ Less) (keys_of es) → at_number es k ≡ Some x → low < k
 found_above low k [] x h found = absurd (cc)
 found_above low k (e ∷ es) x h found =
     elim (cases_Bool (is_at (nat_cmp k) e.0)) [
