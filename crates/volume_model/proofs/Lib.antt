@@ -8,3 +8,4 @@ mod Bytes
 mod ImageSlots
 mod FromImages
 mod MovedSums
+mod NewVolumes

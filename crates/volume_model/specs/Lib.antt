@@ -11,4 +11,5 @@ pub mod Touched
 pub mod Moves
 pub mod Plain
 pub mod ImageNodes
+pub mod NewVolume
 pub mod laws

@@ -34,6 +34,7 @@ ghost use Rattle.volume_model.specs.Slots.{room};
 ghost use Rattle.volume_model.specs.Trees.{tree_now};
 ghost use Rattle.volume_model.specs.Plain.{IsPlainVolume, IsPlainContents};
 ghost use Rattle.volume_model.specs.ImageNodes.{IsImage, contents_in};
+ghost use Rattle.volume_model.specs.NewVolume.{new_volume};
 
 /// A law, which does nothing when it is called: where the zones of numbers of an inode keep their bytes, each of its
 /// places has the zone that it had; and where its other zones and its inode do too, its node is stored as before.
@@ -174,4 +175,10 @@ pub fn plain_images_can_change()
         IsPlainVolume g blocks tree → IsPlainContents g (contents_in g blocks tree) }
     ensures tree { (g : Geometry) (blocks : List (List ℕ)) (tree : List (ℕ × Node)) → IsImage g blocks → 0 < g.inodes →
         IsPlainVolume g blocks tree → tree_now blocks (contents_in g blocks tree).nodes ≡ tree }
+{}
+
+/// A law, which does nothing when it is called: there are plain volumes of every size, since a new volume with its
+/// root alone is one.
+pub fn new_volumes_are_plain()
+    ensures { (g : Geometry) → IsSound g → IsPlainContents g (new_volume g) }
 {}

@@ -34,6 +34,7 @@ fn keeps_names_and_slots(rt: HostRuntime) {
     mapped_block_stands();
     cut_file_stands();
     calls_are_told_as_one();
+    new_volumes_are_plain();
     plain_images_can_change();
     plain_volumes_are_read_back();
 }
