@@ -1,5 +1,5 @@
 -- What the nodes of a plain volume that changes say of its blocks: what names lead to, and that it has no fault.
-use Rattle.std.specs.Prelude.{◌≡◌, ℕ, ◌/◌, ◌%◌, ◌<◌, ◌≤◌, true, List, [], ◌∷◌, length, Option, Some, Ok, refl}
+use Rattle.std.specs.Prelude.{◌≡◌, ℕ, ◌/◌, ◌%◌, ◌<◌, ◌≤◌, true, List, [], ◌∷◌, length, Option, Some, Ok, refl, ◌⊎◌}
 use Rattle.std.specs.List.{slice_get}
 use Rattle.std.specs.BTreeMap.{is_at}
 use Rattle.std.specs.Ordering.{nat_cmp}
@@ -45,6 +45,11 @@ as_directory blocks i (parts.File zones) h kind = absurd (no_directory_file i.mo
 pub as_file : (blocks : List (List ℕ)) (i : Inode) (part : Part) → IsPart blocks i part → is_file i.mode ≡ true → (zones : List Mapped) × (part ≡ parts.File zones) × IsFilePart blocks i zones
 as_file blocks i (parts.Directory d) h kind = absurd (no_directory_file i.mode h.kind kind)
 as_file blocks i (parts.File zones) h kind = (zones, refl, h)
+
+-- a node is a directory or a file
+pub kind_of : (blocks : List (List ℕ)) (i : Inode) (part : Part) → IsPart blocks i part → (is_directory i.mode ≡ true) ⊎ (is_file i.mode ≡ true)
+kind_of blocks i (parts.Directory d) h = inl h.kind
+kind_of blocks i (parts.File zones) h = inr h.kind
 
 abbrev part_directory : Part → DirectoryPart → DirectoryPart
 part_directory (parts.Directory d) e = d
@@ -175,7 +180,7 @@ module _ (g : Geometry) (v : Contents) (h : IsPlainContents g v) where
 
   -- ---- no fault
 
-  zone_is : {n : ℕ} (x : HasNode v.nodes n) (place : ZonePlace) → zone_at_place g v.blocks n place ≡ zone_in v.blocks x.node.inode (from_walk place)
+  pub zone_is : {n : ℕ} (x : HasNode v.nodes n) (place : ZonePlace) → zone_at_place g v.blocks n place ≡ zone_in v.blocks x.node.inode (from_walk place)
   zone_is x place = ap (λ i. zone_walked v.blocks i place) (inode_is x) ∙ zone_from_walk v.blocks x.node.inode h.volume.0.whole place
 
   size_fits : {n : ℕ} (x : HasNode v.nodes n) → HasZones g v.blocks n → (inode_at g v.blocks n).size ≤ largest_size

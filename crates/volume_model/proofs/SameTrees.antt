@@ -33,6 +33,7 @@ use Rattle.volume_ops.specs.Places.{birth_of, inode_of_birth}
 use Rattle.volume_ops.specs.Places.{is_directory as is_directory_mode}
 use Rattle.volume_ops.specs.Volume.{disk_of, bodies_of}
 use Rattle.volume_ops.specs.Fields.{inode_at, zone_behind, block_behind, HasName, IsDirectoryOf, IsFileOf, IsNodeOf, IsBelow}
+use Rattle.volume_ops.specs.Faultless.{IsReached}
 use Rattle.volume_ops.specs.VolumeTrees.{IsVolumeTree}
 use Rattle.volume_ops.specs.laws.BlockPlaces.{led_reached}
 use Rattle.volume_ops.specs.laws.TreeUnique.{same_maps, same_options}
@@ -446,6 +447,12 @@ module _ (g : Geometry) (v : Contents) (h : IsPlainContents g v) (t : List (ℕ 
         inode_is = inode;
         of = subst (λ i. IsNodeOf v.blocks i n) inode (k.fields.each b n at);
       }
+
+  -- names lead to each node's inode
+  pub node_reached : (b : ℕ) (p : Placed) → at_number v.nodes b ≡ Some p → IsReached g v.blocks p.number
+  node_reached b p at =
+      let x = both_at b p at in
+      subst (IsReached g v.blocks) (to_number b p at) (led_reached g v.blocks t k (k.rooted.led_to (to b) x.other x.there)).0
 
   names_moved : (c : ℕ) (q : Placed) → at_number v.nodes c ≡ Some q → names_to now c ≡ names_to t (to c)
   unfolding names_to

@@ -21,7 +21,7 @@ use Rattle.volume_ops.specs.VolumeTrees.{IsVolumeTree}
 use Rattle.volume_model.specs.declared.placed.Placed.{Placed}
 use Rattle.volume_model.specs.declared.placed.Part.TheVariants as parts
 use Rattle.volume_model.specs.declared.placed.DirectoryPart.{DirectoryPart}
-use Rattle.volume_model.specs.Volume.{block, zone_in}
+use Rattle.volume_model.specs.Volume.{Place, block, zone_in}
 use Rattle.volume_model.specs.Ways.{IsJust}
 use Rattle.volume_model.specs.Touched.{Contents}
 use Rattle.volume_model.specs.Moves.{IsVolume}
@@ -93,3 +93,12 @@ pub record IsPlainContents (g : Geometry) (v : Contents) : Type 0 where
   pub file_links_are : (birth : ℕ) (p : Placed) (zones : List Mapped) → at_number v.nodes birth ≡ Some p → p.part ≡ parts.File zones →
       p.inode.links ≡ names_to (tree_now v.blocks v.nodes) birth
   pub few_links : (birth : ℕ) (p : Placed) → at_number v.nodes birth ≡ Some p → p.inode.links ≤ 250
+
+-- a node has this zone, for a block of it or for numbers of zones
+pub record HasZone (v : Contents) (zone : ℕ) : Type 0 where
+  pub birth : ℕ
+  pub placed : Placed
+  pub place : Place
+  pub stands : at_number v.nodes birth ≡ Some placed
+  pub zone_is : zone_in v.blocks placed.inode place ≡ zone
+  pub some : zone ≢ 0

@@ -1,5 +1,5 @@
 //! Laws of a changeable volume. Each does nothing when it is called.
-ghost use Rattle.std.specs.Prelude.{◌≡◌, ◌≢◌, ℕ, ◌+◌, ◌*◌, ◌/◌, ◌%◌, ◌^◌, ◌<◌, ◌≤◌, ◌⊎◌, nat_eq, nat_lt, Bool, false, List, [], ◌∷◌, filter, length, slice_index_or, slice_set, Option, Some, None, Ok, IfSome};
+ghost use Rattle.std.specs.Prelude.{◌≡◌, ◌≢◌, ℕ, ◌+◌, ◌*◌, ◌/◌, ◌%◌, ◌^◌, ◌<◌, ◌≤◌, ◌⊎◌, ◌↔◌, nat_eq, nat_lt, Bool, true, false, List, [], ◌∷◌, filter, length, slice_index_or, slice_set, Option, Some, None, Ok, IfSome};
 ghost use Rattle.std.specs.List.{slice_get};
 ghost use Rattle.std.specs.List.Sorted.{IsStrictlySortedBy};
 ghost use Rattle.std.specs.Map.{keys_of};
@@ -18,7 +18,9 @@ ghost use Rattle.tree_model.specs.Paths.{is_dot};
 ghost use Rattle.volume_ops.specs.declared.found.Mapped.{Mapped};
 ghost use Rattle.volume_ops.specs.Fields.{inode_at};
 ghost use Rattle.volume_ops.specs.Places.{table_block, zone_number};
-ghost use Rattle.volume_ops.specs.Volume.{disk_of, tree_of};
+ghost use Rattle.volume_ops.specs.Volume.{disk_of, walked, tree_of};
+ghost use Rattle.volume_ops.specs.Marks.{is_marked};
+ghost use Rattle.volume_ops.specs.Walk.{Walked};
 ghost use Rattle.volume_ops.specs.Faultless.{IsFaultless};
 ghost use Rattle.volume_model.specs.declared.placed.Placed.{Placed};
 ghost use Rattle.volume_model.specs.declared.placed.Part.TheVariants as parts;
@@ -32,7 +34,7 @@ ghost use Rattle.volume_model.specs.Touched.{Contents, Touched, Tells, Follows, 
 ghost use Rattle.volume_model.specs.Moves.{IsVolume, AreJust, MayAdd, MayChange, AreFree, added, node_removed, file_mapped, directory_mapped, file_mapped_touches, file_cut, file_cut_touches, name_added, name_removed};
 ghost use Rattle.volume_model.specs.Slots.{room};
 ghost use Rattle.volume_model.specs.Trees.{tree_now};
-ghost use Rattle.volume_model.specs.Plain.{IsPlainVolume, IsPlainContents};
+ghost use Rattle.volume_model.specs.Plain.{HasZone, IsPlainVolume, IsPlainContents};
 ghost use Rattle.volume_model.specs.ImageNodes.{IsImage, contents_in};
 ghost use Rattle.volume_model.specs.NewVolume.{new_volume};
 
@@ -159,13 +161,15 @@ pub fn calls_are_told_as_one()
 {}
 
 /// A law, which does nothing when it is called: the blocks of a plain volume that changes are a plain image without a
-/// fault, and whoever reads this image finds the volume's tree, but for the births of its nodes.
+/// fault, and whoever reads this image finds the volume's tree, but for the births of its nodes, and its zones.
 pub fn plain_volumes_are_read_back()
     ensures no_fault { (g : Geometry) (v : Contents) → IsPlainContents g v → IsFaultless g v.blocks }
     ensures tree { (g : Geometry) (v : Contents) → IsPlainContents g v →
         (tree : List (ℕ × Node)) × (tree_of g v.blocks ≡ Ok tree) × IsSameButBirths (tree_now v.blocks v.nodes) tree }
     ensures plain { (g : Geometry) (v : Contents) (tree : List (ℕ × Node)) → IsPlainContents g v →
         tree_of g v.blocks ≡ Ok tree → IsPlainVolume g v.blocks tree }
+    ensures zones { (g : Geometry) (v : Contents) (found : Walked) → IsPlainContents g v → walked g v.blocks ≡ Ok found →
+        (zone : ℕ) → (is_marked found.zones zone ≡ true) ↔ HasZone v zone }
 {}
 
 /// A law, which does nothing when it is called: a plain image that was read is a plain volume that can change, with
