@@ -9,3 +9,4 @@ mod ImageSlots
 mod FromImages
 mod MovedSums
 mod NewVolumes
+mod FoundNodes

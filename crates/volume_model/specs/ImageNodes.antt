@@ -5,6 +5,8 @@ use Rattle.minix_layout.specs.declared.division.Geometry.{Geometry}
 use Rattle.minix_layout.specs.declared.inode.Inode.{Inode}
 use Rattle.tree_model.specs.declared.node.Node.{Node}
 use Rattle.tree_model.specs.declared.node.Node.TheVariants as nodes
+use Rattle.volume_ops.specs.declared.found.Found.{Found}
+use Rattle.volume_ops.specs.declared.found.Found.TheVariants as found
 use Rattle.volume_ops.specs.Places.{inode_of_birth}
 use Rattle.volume_ops.specs.Volume.{disk_of}
 use Rattle.volume_ops.specs.Fields.{zone_behind}
@@ -26,6 +28,12 @@ abbrev pub part_in : List (List ℕ) → Inode → Node → Part
 part_in blocks i (nodes.Directory d) = parts.Directory (record { parent = d.parent; names = d.names; slots = slots_in blocks i })
 part_in blocks i (nodes.File f) = parts.File (map (λ k. record { index = k; zone = zone_behind blocks i k }) (keys_of f.blocks))
 part_in blocks i (nodes.Other mode) = parts.File []
+
+-- the same of what the walk found
+abbrev pub part_found : List (List ℕ) → Inode → Found → Part
+part_found blocks i (found.Directory d) = parts.Directory (record { parent = d.parent; names = d.names; slots = slots_in blocks i })
+part_found blocks i (found.File f) = parts.File f.zones
+part_found blocks i (found.Other mode) = parts.File []
 
 abbrev pub placed_in : Geometry → List (List ℕ) → ℕ → Node → Placed
 placed_in g blocks birth node = record {

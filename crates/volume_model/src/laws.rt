@@ -15,9 +15,10 @@ ghost use Rattle.tree_model.specs.declared.node.Node.{Node};
 ghost use Rattle.tree_model.specs.Trees.{IsSameButBirths};
 ghost use Rattle.tree_model.specs.Maps.{at_number, at_name, put_number, name_cmp};
 ghost use Rattle.tree_model.specs.Paths.{is_dot};
+ghost use Rattle.volume_ops.specs.declared.found.FoundNode.{FoundNode};
 ghost use Rattle.volume_ops.specs.declared.found.Mapped.{Mapped};
 ghost use Rattle.volume_ops.specs.Fields.{inode_at};
-ghost use Rattle.volume_ops.specs.Places.{table_block, zone_number};
+ghost use Rattle.volume_ops.specs.Places.{inode_of_birth, table_block, zone_number};
 ghost use Rattle.volume_ops.specs.Volume.{disk_of, walked, tree_of};
 ghost use Rattle.volume_ops.specs.Marks.{is_marked};
 ghost use Rattle.volume_ops.specs.Walk.{Walked};
@@ -34,8 +35,8 @@ ghost use Rattle.volume_model.specs.Touched.{Contents, Touched, Tells, Follows, 
 ghost use Rattle.volume_model.specs.Moves.{IsVolume, AreJust, MayAdd, MayChange, AreFree, added, node_removed, file_mapped, directory_mapped, file_mapped_touches, file_cut, file_cut_touches, name_added, name_removed};
 ghost use Rattle.volume_model.specs.Slots.{room};
 ghost use Rattle.volume_model.specs.Trees.{tree_now};
-ghost use Rattle.volume_model.specs.Plain.{HasZone, IsPlainVolume, IsPlainContents};
-ghost use Rattle.volume_model.specs.ImageNodes.{IsImage, contents_in};
+ghost use Rattle.volume_model.specs.Plain.{inode_born, HasZone, IsPlainVolume, IsPlainContents};
+ghost use Rattle.volume_model.specs.ImageNodes.{IsImage, part_found, contents_in};
 ghost use Rattle.volume_model.specs.NewVolume.{new_volume};
 
 /// A law, which does nothing when it is called: where the zones of numbers of an inode keep their bytes, each of its
@@ -179,6 +180,13 @@ pub fn plain_images_can_change()
         IsPlainVolume g blocks tree → IsPlainContents g (contents_in g blocks tree) }
     ensures tree { (g : Geometry) (blocks : List (List ℕ)) (tree : List (ℕ × Node)) → IsImage g blocks → 0 < g.inodes →
         IsPlainVolume g blocks tree → tree_now blocks (contents_in g blocks tree).nodes ≡ tree }
+    ensures found { (g : Geometry) (blocks : List (List ℕ)) (tree : List (ℕ × Node)) (all : Walked) → 0 < g.inodes →
+        IsPlainVolume g blocks tree → walked g blocks ≡ Ok all → (n : FoundNode) → In n all.nodes →
+        at_number (contents_in g blocks tree).nodes n.birth ≡ Some (record {
+          number = inode_of_birth n.birth;
+          inode = inode_born g blocks n.birth;
+          part = part_found blocks (inode_born g blocks n.birth) n.found;
+        }) }
 {}
 
 /// A law, which does nothing when it is called: there are plain volumes of every size, since a new volume with its

@@ -102,7 +102,7 @@ module _ (g : Geometry) (blocks : List (List ℕ)) (ends : (ns : List FoundNode)
   abbrev tree : List (ℕ × Node)
   tree = put_nodes blocks ns []
 
-  in_tree : (n : FoundNode) → In n ns → at_number tree n.birth ≡ Some (node_of blocks n.found)
+  pub in_tree : (n : FoundNode) → In n ns → at_number tree n.birth ≡ Some (node_of blocks n.found)
   in_tree n i = stands blocks ns [] n i (λ m j e. ap (λ n. node_of blocks n.found) (h.one m n j i e))
 
   of_tree : (birth : ℕ) (node : Node) → at_number tree birth ≡ Some node → WasFound blocks ns birth node
