@@ -16,9 +16,7 @@ mod tests;
 
 pub use laws::{
     calls_are_told_as_one, changed_node_stands, cut_file_stands, mapped_block_stands,
-    names_come_and_go, nodes_come_and_go, nodes_stay, writes_are_read,
-    added_node_stands, calls_are_told_as_one, changed_node_stands, cut_file_stands,
-    mapped_block_stands, names_come_and_go, new_volumes_are_plain, nodes_stay,
+    names_come_and_go, new_volumes_are_plain, nodes_come_and_go, nodes_stay,
     plain_images_can_change, plain_volumes_are_read_back, writes_are_read,
 };
 pub use names::NameMap;
