@@ -8,7 +8,7 @@ use Rattle.order_model.specs.Submission.{is_flush}
 use Rattle.barrier_reassign.specs.declared.closing.Closing.{Closing}
 use Rattle.barrier_reassign.specs.declared.closing.Closing.TheVariants as closings
 use Rattle.barrier_reassign.specs.Epoch.{EpochState, Waiting, eligible, without, waits_ordered, is_barrier_closing, picked, left, leaving, stands_before, may_leave, AreNumbered}
-use Rattle.barrier_reassign.specs.Kept.{IsPicked}
+use Rattle.barrier_reassign.specs.code.Kept.{IsPicked}
 use Rattle.barrier_reassign.proofs.Numbers.{remove-without}
 
 -- what is picked is what stands at the place that was found, and it may leave

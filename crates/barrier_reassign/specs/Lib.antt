@@ -1,12 +1,5 @@
-pub mod AcceptedLaws
-pub mod DispatchedLaws
 pub mod Epoch
-pub mod Kept
-pub mod OrderLaws
-pub mod Places
-pub mod ProgressLaws
 pub mod Sched
 pub mod Scheduler
-pub mod SchedulerLaws
-pub mod Valid
-pub mod WentLaws
+pub mod code
+pub mod laws

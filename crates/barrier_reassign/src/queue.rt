@@ -2,7 +2,7 @@ ghost use Rattle.std.specs.Prelude.{◌≡◌, ℕ, ◌+◌, ◌^◌, ◌<◌, �
 ghost use Rattle.std.specs.Option.{option_map, option_copied};
 ghost use Rattle.order_model.specs.Submission.{is_flush};
 ghost use Rattle.barrier_reassign.specs.Epoch.{Waiting, is_blocked, can_accept, closing_of, unflagged, accepted, have_one_block, stands_before, may_leave, eligible, waits_ordered, picked, left, leaving, is_barrier_closing, is_open, is_full};
-ghost use Rattle.barrier_reassign.specs.Kept.{IsPicked};
+ghost use Rattle.barrier_reassign.specs.code.Kept.{IsPicked};
 
 use crate::closing::{Closing, Held};
 use blk_base::NoMemory;
@@ -42,7 +42,7 @@ impl Model for EpochQueue {
 
     ghost Value = { EpochState };
 
-    ghost use Rattle.barrier_reassign.specs.Kept.{IsKept};
+    ghost use Rattle.barrier_reassign.specs.code.Kept.{IsKept};
 
     ghost view = { λ q. record { capacity = q.capacity; next = q.next; waiting = q.waiting.items; closing = q.closing } };
 

@@ -5,7 +5,7 @@ use Rattle.std.proofs.Math.Nat.{mod-eq_of_lt}
 use borrow.Rule.Slice.PartMut.{put_mid}
 use Rattle.byte_fields.specs.Fields.{Order, number_of, bytes_of, put_bytes, number_at, put}
 use Rattle.byte_fields.specs.Fields.Order.{little, big}
-use Rattle.byte_fields.specs.Laws.{length-bytes_of}
+use Rattle.byte_fields.specs.laws.ReadLaws.{length-bytes_of}
 
 -- a number that is read from the rest of a slice
 pub read_slice : (order : Order) (n at : ℕ) (b : List ℕ) {x : ℕ} → x ≡ number_of order n (take (length b - at) (drop at b)) → x ≡ number_at order n at b

@@ -6,7 +6,7 @@ use Rattle.std.proofs.lemmas.List.{map_push, get_or-map, get_or_read, length-map
 use Rattle.order_model.specs.declared.command.Command.{Command}
 use Rattle.command_queue.specs.declared.queue.Seat.{Seat}
 use Rattle.command_queue.specs.Queue.{Waiting, eligible, without, AreNumbered}
-use Rattle.command_queue.specs.Slots.{blank, waiting_at, seated, EachOnce, IsPicked}
+use Rattle.command_queue.specs.code.Slots.{blank, waiting_at, seated, EachOnce, IsPicked}
 use Rattle.command_queue.proofs.Numbers.{remove-without, AreNumbered-remove, AreNumbered-push}
 use Rattle.command_queue.proofs.Slots.{map-remove, seated-set, seats-within, last-within, last-not_seated, EachOnce-arrive, EachOnce-leave}
 

@@ -5,7 +5,7 @@ use Rattle.std.proofs.lemmas.Bool.{ne_eqb, eq-eqb, lt-ltb, le-ltb, cases_lt, cas
 use Rattle.std.proofs.lemmas.List.Sums.{sum_by_push, sum_by-remove, sum_by-cons, get_or-le-sum_by}
 use Rattle.order_model.specs.declared.command.Command.{Command}
 use Rattle.command_queue.specs.declared.queue.Seat.{Seat}
-use Rattle.command_queue.specs.Slots.{blank, seated, EachOnce}
+use Rattle.command_queue.specs.code.Slots.{blank, seated, EachOnce}
 
 -- ---- lists
 

@@ -3,7 +3,7 @@ ghost use Rattle.std.specs.Option.{option_map, option_copied};
 ghost use Rattle.std.specs.Vec.{vec_capacity};
 ghost use Rattle.order_model.specs.Device.{is_ordered};
 ghost use Rattle.command_queue.specs.Queue.{QueueState, Waiting, arrived, picked, left, eligible, is_free, have_common_block, stands_in_way};
-ghost use Rattle.command_queue.specs.Slots.{blank, waiting_at, seated, has_block, are_kept_in_order, EachOnce, IsPicked};
+ghost use Rattle.command_queue.specs.code.Slots.{blank, waiting_at, seated, has_block, are_kept_in_order, EachOnce, IsPicked};
 
 use blk_base::NoMemory;
 use order_model::{Command, Part, Parts, Priority};
@@ -35,7 +35,7 @@ impl Model for CommandQueue {
 
     ghost Value = { QueueState };
 
-    ghost use Rattle.command_queue.specs.Slots.{seated, IsSeated};
+    ghost use Rattle.command_queue.specs.code.Slots.{seated, IsSeated};
 
     ghost view = { λ q. record { depth = q.depth; next = q.next; waiting = seated q.slots.items q.seats.items } };
 

@@ -5,11 +5,11 @@ use Rattle.std.proofs.lemmas.Option.{none-some}
 use Rattle.minix_layout.specs.declared.division.Geometry.{Geometry}
 use Rattle.tree_model.specs.declared.node.Node.{Node}
 use Rattle.tree_model.specs.Calls.{Tree}
-use Rattle.tree_model.specs.Listing.{IsRooted}
+use Rattle.tree_model.specs.laws.Listing.{IsRooted}
 use Rattle.tree_model.specs.Maps.{at_number}
 use Rattle.tree_model.specs.Trees.{Refusal, node_of_path, AreAlike}
 use Rattle.tree_model.specs.laws.Alike.{path_stands, node_has_path}
-use Rattle.volume_ops.specs.AlikeLaws.{same_paths_found}
+use Rattle.volume_ops.specs.laws.AlikeLaws.{same_paths_found}
 use Rattle.volume_ops.specs.Volume.{put_nodes, walked, tree_found}
 use Rattle.crash_laws.specs.TreeHistory.{zone_in, zone_in_walk, IsPlaceIn}
 use Rattle.crash_laws.specs.Volumes.{WalkEnd}

@@ -7,7 +7,7 @@ use Rattle.std.proofs.lemmas.Option.{none-some}
 use Rattle.blk_base.specs.Members.{In, list_any-In, In-list_any}
 use Rattle.volume_ops.specs.Volume.{disk_of}
 use Rattle.volume_ops.specs.Reads.{Reads, answer, blocks_read, AgreeOn}
-use Rattle.volume_ops.specs.ReadsLaws.{answer-agrees, blocks_read-agree}
+use Rattle.volume_ops.specs.laws.ReadsLaws.{answer-agrees, blocks_read-agree}
 use Rattle.log_model.specs.Marks.{Transaction, Mark, Keep, Clear, Set, followed, bodies_mark, mark_in, transaction_mark, body_after, transactions_from}
 use Rattle.log_model.proofs.Marks.{clear≢set, mark-split}
 use Rattle.crash_laws.specs.History.{History, Calm, HasTrees}

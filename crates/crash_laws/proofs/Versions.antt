@@ -6,7 +6,7 @@ use Rattle.blk_base.specs.Members.{In}
 use Rattle.order_model.specs.Submission.{IsOrderClosed}
 use Rattle.volume_ops.specs.Volume.{disk_of}
 use Rattle.volume_ops.specs.Reads.{Reads, answer, blocks_read, AgreeOn}
-use Rattle.volume_ops.specs.ReadsLaws.{answer-agrees, blocks_read-agree}
+use Rattle.volume_ops.specs.laws.ReadsLaws.{answer-agrees, blocks_read-agree}
 use Rattle.log_model.specs.Marks.{Mark, Keep, Clear, Set, followed, mark_in, body_after, transactions_from, replayed}
 use Rattle.log_model.proofs.Marks.{mark-split}
 use Rattle.crash_laws.specs.Found.{IsFound}

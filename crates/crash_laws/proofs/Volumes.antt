@@ -9,10 +9,10 @@ use Rattle.tree_model.specs.declared.node.Node.{Node}
 use Rattle.tree_model.specs.Trees.{AreAlike}
 use Rattle.tree_model.specs.laws.Alike.{alike_chain}
 use Rattle.volume_ops.specs.Reads.{AgreeOn}
-use Rattle.volume_ops.specs.ReadsLaws.{blocks_read-agree}
+use Rattle.volume_ops.specs.laws.ReadsLaws.{blocks_read-agree}
 use Rattle.volume_ops.specs.Walk.{walk_volume}
 use Rattle.volume_ops.specs.Volume.{disk_of, metadata, tree_of}
-use Rattle.volume_ops.specs.AlikeLaws.{changed_alike}
+use Rattle.volume_ops.specs.laws.AlikeLaws.{changed_alike}
 use Rattle.crash_laws.specs.Clauses.{CommitClause}
 use Rattle.crash_laws.specs.Found.{IsFound}
 use Rattle.crash_laws.specs.Recovery.{IsRecovered}

@@ -13,26 +13,26 @@ use Rattle.order_model.specs.declared.history.Transfer.{Transfer}
 use Rattle.order_model.specs.declared.history.DeviceRecord.{DeviceRecord}
 use Rattle.order_model.specs.declared.completion.Completion.TheVariants.{Moved, Flushed, Failed, Cut}
 use Rattle.order_model.specs.Device.{is_ordered, IsQuiet}
-use Rattle.device_epochs.specs.KeptLaws.{quiet_is_empty, empty_is_quiet}
+use Rattle.device_epochs.specs.laws.KeptLaws.{quiet_is_empty, empty_is_quiet}
 use Rattle.order_model.specs.Received.{all_parts, part_at, first_part, completions_of, failures_of, transfers}
 use Rattle.order_model.proofs.Received.{first_part-next, first_part-le}
 use Rattle.command_queue.specs.Queue.{QueueState, Waiting, eligible, picked, left, arrived}
 use Rattle.device_epochs.specs.declared.cache.Entry.{Entry}
 use Rattle.device_epochs.specs.declared.device.DeviceSetup.{DeviceSetup}
 use Rattle.device_epochs.specs.Cache.{oldest, entries, put_all, without_entry}
-use Rattle.device_epochs.specs.CacheSteps.{part_at-lt}
+use Rattle.device_epochs.specs.laws.CacheSteps.{part_at-lt}
 use Rattle.device_epochs.specs.Device.{DeviceState, is_off, is_next, counted, may_transfer, has_stopped, transferable, tried, transferred, moved_in, failed_on, persistable, persisted, written, body_at, received, answered, answered_from, tells_cut, seen, opened}
-use Rattle.device_epochs.specs.Valid.{IsValid, QueueFacts}
+use Rattle.device_epochs.specs.laws.Valid.{IsValid, QueueFacts}
 use Rattle.device_epochs.specs.declared.device.EpochDevice.TheInside.{Inside}
-use Rattle.device_epochs.specs.Fields.{state_of, IsDevice}
-use Rattle.device_epochs.specs.Helpers.{IsPlain, EndsAt, starts_with_flush, flush_waits, is_held, is_flushed}
-use Rattle.device_epochs.specs.QueueLaws.{eligible-waits, eligible_clear, apart, number-lt}
-use Rattle.device_epochs.specs.EpochLaws.{flush-ordered, waiting-taken, ordered-first}
-use Rattle.device_epochs.specs.StepLaws.{transferable-waits, tried-fails, tried-moves, persistable-In}
-use Rattle.device_epochs.specs.PendingLaws.{numbered, pending-is, none-pending, queue-facts, faults-lt}
-use Rattle.device_epochs.specs.PendingLaws as pending
-use Rattle.device_epochs.specs.BoundLaws.{all_parts-le, moved-fits, cache-fits, completions-fit, failures-fit, steps-lt_transferable, steps-lt_persistable, epoch-le, sent-le_untold}
-use Rattle.device_epochs.specs.Laws.{transferred-valid, written-valid}
+use Rattle.device_epochs.specs.code.Fields.{state_of, IsDevice}
+use Rattle.device_epochs.specs.code.Helpers.{IsPlain, EndsAt, starts_with_flush, flush_waits, is_held, is_flushed}
+use Rattle.device_epochs.specs.laws.QueueLaws.{eligible-waits, eligible_clear, apart, number-lt}
+use Rattle.device_epochs.specs.laws.EpochLaws.{flush-ordered, waiting-taken, ordered-first}
+use Rattle.device_epochs.specs.laws.StepLaws.{transferable-waits, tried-fails, tried-moves, persistable-In}
+use Rattle.device_epochs.specs.laws.PendingLaws.{numbered, pending-is, none-pending, queue-facts, faults-lt}
+use Rattle.device_epochs.specs.laws.PendingLaws as pending
+use Rattle.device_epochs.specs.laws.BoundLaws.{all_parts-le, moved-fits, cache-fits, completions-fit, failures-fit, steps-lt_transferable, steps-lt_persistable, epoch-le, sent-le_untold}
+use Rattle.device_epochs.specs.laws.ReachableLaws.{transferred-valid, written-valid}
 use Rattle.device_epochs.proofs.Searches.{filter_none}
 
 -- ---- a flush that may go is the only command that may

@@ -4,7 +4,7 @@ ghost use Rattle.std.specs.VecDeque.{deque_len, deque_capacity};
 ghost use Rattle.std.specs.List.{list_any};
 ghost use Rattle.order_model.specs.declared.part.Part.{Part};
 ghost use Rattle.device_epochs.specs.Cache.{same_place, put_entry, entries, put_all, oldest, without_entry};
-ghost use Rattle.device_epochs.specs.Helpers.{IsPlain, EndsAt, IsPlaceOf};
+ghost use Rattle.device_epochs.specs.code.Helpers.{IsPlain, EndsAt, IsPlaceOf};
 
 use order_model::Part;
 use std::collections::VecDeque;

@@ -6,7 +6,7 @@ ghost use Rattle.circular_buffer.specs.Buffer.{buffer};
 ghost use Rattle.order_model.specs.declared.part.Part.{Part};
 ghost use Rattle.order_model.specs.Received.{completions_of, transfers};
 ghost use Rattle.device_epochs.specs.Device.{is_next, counted};
-ghost use Rattle.device_epochs.specs.Helpers.{is_flushed, told_failed, id_at};
+ghost use Rattle.device_epochs.specs.code.Helpers.{is_flushed, told_failed, id_at};
 
 use circular_buffer::HeapCircularBuffer;
 use order_model::{Command, Completion, Part, Transfer, Transfers};

@@ -2,8 +2,8 @@ ghost use Rattle.std.specs.Prelude.{◌≡◌, ℕ, ◌+◌, ◌≤◌, ◌<◌,
 ghost use Rattle.std.specs.Option.{option_map, option_map_or};
 ghost use Rattle.order_model.specs.declared.part.Part.{Part};
 ghost use Rattle.device_epochs.specs.Device.{DeviceState, opened, is_off, is_next, has_room, received, transferable, transferred, persistable, persisted, next_answer, answered, after_read, IsSound, seen};
-ghost use Rattle.device_epochs.specs.Valid.{left, IsValid};
-ghost use Rattle.device_epochs.specs.Helpers.{starts_with_flush, flush_waits, is_held};
+ghost use Rattle.device_epochs.specs.laws.Valid.{left, IsValid};
+ghost use Rattle.device_epochs.specs.code.Helpers.{starts_with_flush, flush_waits, is_held};
 ghost use Rattle.command_queue.specs.Queue.{QueueState};
 
 use crate::cache::{Entry, count_oldest, put_parts, take_entry};
@@ -69,7 +69,7 @@ impl Model for EpochDevice {
 
     ghost Value = { DeviceState };
 
-    ghost use Rattle.device_epochs.specs.Fields.{state_of, IsDevice};
+    ghost use Rattle.device_epochs.specs.code.Fields.{state_of, IsDevice};
 
     ghost view = { state_of };
 
@@ -362,10 +362,10 @@ impl OrderedDev for EpochDevice {
         }
     }
 
-    ghost use Rattle.device_epochs.specs.KeptLaws as kept;
-    ghost use Rattle.device_epochs.specs.SeenLaws as told;
-    ghost use Rattle.device_epochs.specs.StepLaws as steps;
-    ghost use Rattle.device_epochs.specs.MemberLaws as laws;
+    ghost use Rattle.device_epochs.specs.laws.KeptLaws as kept;
+    ghost use Rattle.device_epochs.specs.laws.SeenLaws as told;
+    ghost use Rattle.device_epochs.specs.laws.StepLaws as steps;
+    ghost use Rattle.device_epochs.specs.laws.MemberLaws as laws;
 
     ghost receives = { laws.receives };
 

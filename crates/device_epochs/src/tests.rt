@@ -1,5 +1,5 @@
 ghost use Rattle.std.specs.Prelude.{◌≡◌, ℕ, ◌+◌, ◌<◌, ◌≤◌, IfOk, length};
-ghost use Rattle.device_epochs.specs.Asked.{HasTaken, IsNext};
+ghost use Rattle.device_epochs.specs.tests.Asked.{HasTaken, IsNext};
 
 use super::*;
 use blk_base::{Block, Image, NoMemory};

@@ -15,11 +15,11 @@ use Rattle.barrier_reassign.specs.Epoch.{EpochState, Waiting, can_accept, eligib
 use Rattle.epoch_sched.specs.declared.sched.Sched.TheInside.{Inside}
 use Rattle.order_model.specs.Single.{parts_for, command_of_request}
 use Rattle.barrier_reassign.specs.Sched.{SchedState, seen_of}
-use Rattle.epoch_sched.specs.Fields.{IsSched, state_of}
-use Rattle.barrier_reassign.specs.Valid.{IsValid}
+use Rattle.epoch_sched.specs.code.Fields.{IsSched, state_of}
+use Rattle.barrier_reassign.specs.laws.Valid.{IsValid}
 use Rattle.barrier_reassign.specs.Scheduler.{IsAcceptable}
-use Rattle.barrier_reassign.specs.AcceptedLaws.{accepted-valid}
-use Rattle.barrier_reassign.specs.DispatchedLaws.{sent-valid, picked-leaves}
+use Rattle.barrier_reassign.specs.laws.AcceptedLaws.{accepted-valid}
+use Rattle.barrier_reassign.specs.laws.DispatchedLaws.{sent-valid, picked-leaves}
 
 -- ---- an acceptance
 

@@ -1,7 +1,7 @@
 ghost use Rattle.std.specs.Prelude.{◌≡◌, IfOk};
 ghost use Rattle.barrier_reassign.specs.Sched.{SchedState, opened, sched_steps};
-ghost use Rattle.barrier_reassign.specs.Valid.{IsValid};
-ghost use Rattle.barrier_reassign.specs.SchedulerLaws as laws;
+ghost use Rattle.barrier_reassign.specs.laws.Valid.{IsValid};
+ghost use Rattle.barrier_reassign.specs.laws.SchedulerLaws as laws;
 
 use barrier_reassign::{CAPACITY, EpochQueue, Held, LONGEST, Scheduler};
 use blk_base::NoMemory;
@@ -24,7 +24,7 @@ impl Model for Sched {
 
     ghost Value = { SchedState };
 
-    ghost use Rattle.epoch_sched.specs.Fields.{state_of, IsSched};
+    ghost use Rattle.epoch_sched.specs.code.Fields.{state_of, IsSched};
 
     ghost view = { state_of };
 

@@ -8,7 +8,7 @@ use Rattle.order_model.specs.declared.note.Note.{Note}
 use Rattle.log_model.proofs.Marks.{keep≢set}
 use Rattle.log_model.specs.Ring.{IsPlace}
 use Rattle.volume_ops.specs.Reads.{answer, blocks_read}
-use Rattle.volume_ops.specs.ReadsLaws.{answer-agrees}
+use Rattle.volume_ops.specs.laws.ReadsLaws.{answer-agrees}
 use Rattle.volume_ops.specs.Volume.{disk_of}
 use Rattle.crash_laws.proofs.Start.{rules_at_start, pages_at_start}
 use Rattle.crash_laws.specs.History.{HasTrees}

@@ -8,7 +8,7 @@ use Rattle.order_model.specs.declared.note.Note.TheVariants.{Page}
 use Rattle.log_model.proofs.Marks.{clear≢set, mark-split}
 use Rattle.log_model.specs.Marks.{Transaction, Logged, Mark, Keep, Clear, Set, followed, bodies_mark, mark_in, transaction_mark, body_after, transactions_from}
 use Rattle.volume_ops.specs.Reads.{Reads, answer, blocks_read, AgreeOn}
-use Rattle.volume_ops.specs.ReadsLaws.{answer-agrees, blocks_read-agree}
+use Rattle.volume_ops.specs.laws.ReadsLaws.{answer-agrees, blocks_read-agree}
 use Rattle.volume_ops.specs.Volume.{disk_of}
 use Rattle.page_cache.specs.Pages.{page_at}
 use Rattle.page_cache.specs.declared.cached_page.CachedPage.{CachedPage}

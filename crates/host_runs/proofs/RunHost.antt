@@ -4,7 +4,7 @@ use Rattle.std.specs.Prelude.{ℕ, ◌+◌, ◌-◌, ◌<◌, ◌≤◌, List, [
 use Rattle.blk_base.specs.Members.{In, slice_get-In}
 use Rattle.log_model.specs.Ring.{Ring}
 use Rattle.volume_ops.specs.Reads.{blocks_read, AgreeOn}
-use Rattle.volume_ops.specs.ReadsLaws.{blocks_read-agree}
+use Rattle.volume_ops.specs.laws.ReadsLaws.{blocks_read-agree}
 use Rattle.volume_ops.specs.Volume.{disk_of}
 use Rattle.host_machine.proofs.Opening.{opened_keeps}
 use Rattle.host_machine.specs.Host.{opened}

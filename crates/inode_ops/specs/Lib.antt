@@ -1,2 +1,2 @@
 pub mod Map
-pub mod MapLaws
+pub mod laws

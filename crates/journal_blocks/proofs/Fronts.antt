@@ -4,7 +4,7 @@ use Rattle.std.proofs.Common.{sym, ap, ◌∙◌, arith, append_assoc}
 use Rattle.std.proofs.lemmas.List.{take_at, drop_at, drop-drop, drop-replicate, replicate-append-replicate, length-take-le, length-append, take-append-drop}
 use Rattle.byte_fields.specs.Fields.{zeros, bytes_of, put, put_bytes}
 use Rattle.byte_fields.specs.Fields.Order.{big}
-use Rattle.byte_fields.specs.Laws.{length-bytes_of, length-zeros, length-put}
+use Rattle.byte_fields.specs.laws.ReadLaws.{length-bytes_of, length-zeros, length-put}
 use Rattle.journal_blocks.specs.code.{IsFront}
 
 drop-zeros : (n m : ℕ) → drop n (zeros m) ≡ zeros (m - n)

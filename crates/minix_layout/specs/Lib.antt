@@ -1,10 +1,7 @@
-pub mod Words
+pub mod Bits
 pub mod Geometry
-pub mod Super
 pub mod Inodes
 pub mod Slots
-pub mod Bits
-pub mod SuperLaws
-pub mod InodeLaws
-pub mod SlotLaws
-pub mod BitLaws
+pub mod Super
+pub mod Words
+pub mod laws

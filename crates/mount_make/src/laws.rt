@@ -5,7 +5,7 @@ ghost use Rattle.minix_layout.specs.declared.fault.LayoutFault.{LayoutFault};
 ghost use Rattle.tree_model.specs.declared.node.Node.{Node};
 ghost use Rattle.tree_model.specs.Maps.{at_number};
 ghost use Rattle.tree_model.specs.Trees.{AreAlike};
-ghost use Rattle.volume_ops.specs.Alike.{SameMetadataAtOrNone};
+ghost use Rattle.volume_ops.specs.laws.Alike.{SameMetadataAtOrNone};
 ghost use Rattle.volume_ops.specs.Defects.{IsDefect};
 ghost use Rattle.volume_ops.specs.FirstFault.{IsFirstFault};
 ghost use Rattle.mount_make.specs.declared.fault.ImageFault.{ImageFault};

@@ -330,8 +330,7 @@ flush_sent qs s d k flush run h =
     let a = run.carries.flushes c.0 flush (slice_get-In s.sent_out k c.0 sent) c.2 in
     let submitted = front-get s.accepted qs a.place a.request run.fits.accepted a.taken in
     let named : a.place ≡ flush = sym (run.ids a.place a.request submitted) ∙ a.named in
-    let taken : slice_get s.accepted flush ≡ Some a.request = ap (slice_get s.accepted) (sym named) ∙ a.taken in
-    (
+    let taken : slice_get s.accepted flush ≡ Some a.request = ap (slice_get s.accepted) (sym named) ∙ a.taken in (
       subst (λ o. IsSomeAnd o (λ (q : Request). q.kind ≡ Flush)) (sym taken) a.same,
       record {
         request = a.request;

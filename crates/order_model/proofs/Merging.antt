@@ -363,8 +363,7 @@ ordered s gs i j l v before h =
     let m = slice_get-length g.group g.second t.sent.command g.at_second in
     let lt = g.order in
     absurd (omega (arith, n, m, lt)) in
-    let any = list_any-In (λ (d : Command). d.barrier) b.1.group c.0 (slice_get-In b.1.group b.1.inside c.0 b.1.there) c.2 in
-    (
+    let any = list_any-In (λ (d : Command). d.barrier) b.1.group c.0 (slice_get-In b.1.group b.1.inside c.0 b.1.there) c.2 in (
       k.0,
       b.0,
       grouped s gs i o.0 k.0 v o.2 k.1,

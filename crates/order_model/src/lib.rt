@@ -33,7 +33,9 @@ pub use history::{Commands, Completions, DeviceRecord, History, Transfer, Transf
 pub use lawful::lawful_blocks;
 pub use list_queue::ListQueue;
 pub use note::Note;
-pub use order_law::{carries_requests_merged, carries_requests_sent_alone, keeps_order_to_the_medium};
+pub use order_law::{
+    carries_requests_merged, carries_requests_sent_alone, keeps_order_to_the_medium,
+};
 pub use part::{Part, Parts};
 pub use request::{Kind, Request};
 pub use sched_record::SchedRecord;

@@ -6,7 +6,7 @@ use Rattle.std.proofs.lemmas.Option.{none-some, same_Some}
 use Rattle.blk_base.specs.Members.{In, In-filter, filter-In, In-slice_get, slice_get-In, slice_get-out, slice_get-length}
 use Rattle.order_model.specs.Submission.{kind_block}
 use Rattle.barrier_reassign.specs.Epoch.{EpochState, Waiting, may_leave, eligible}
-use Rattle.barrier_reassign.specs.SchedulerLaws.{none_past}
+use Rattle.barrier_reassign.specs.laws.SchedulerLaws.{none_past}
 use Rattle.sched_elevator.specs.declared.searches.Found.{Found}
 use Rattle.sched_elevator.specs.Elevator.{meets_before, listed, in_order}
 use Rattle.sched_elevator.specs.laws.List.{Meets, block_at, IsInOrder, meets-true, true-meets, meets-trans, in_order-In, In-in_order, length-in_order, in_order-rises, rises-at, first-is, next-is, next-none}

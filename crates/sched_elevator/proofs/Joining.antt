@@ -133,16 +133,14 @@ pub joined_parts : (c : Command) (r : Request) (flagged : Bool) (block : ℕ) �
     → (length (joined c r flagged).parts ≡ length c.parts + 1) × (block_follows (joined c r flagged).parts (block + 1) ≡ true)
 joined_parts c r flagged block put =
     let p = put_parts r.id block r.kind put in
-    let parts = ap (λ l. c.parts ++ l) p.1 in
-    (
+    let parts = ap (λ l. c.parts ++ l) p.1 in (
       ap length parts ∙ length_push c.parts p.0,
       ap (λ l. block_follows l (block + 1)) parts ∙ ap (λ b. block_follows (c.parts ++ p.0 ∷ []) (b + 1)) (sym p.2) ∙ follows-push c.parts p.0,
     )
 
 pub follows_alone : (id block : ℕ) (k : Kind) → kind_block k ≡ Some block → (length (parts_for id k) ≡ 1) × (block_follows (parts_for id k) (block + 1) ≡ true)
 follows_alone id block k put =
-    let p = put_parts id block k put in
-    (
+    let p = put_parts id block k put in (
       ap length p.1,
       ap (λ l. block_follows l (block + 1)) p.1 ∙ ap (λ b. block_follows (p.0 ∷ []) (b + 1)) (sym p.2) ∙ follows-push [] p.0,
     )

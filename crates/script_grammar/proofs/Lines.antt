@@ -8,7 +8,7 @@ use Rattle.script_grammar.specs.declared.kinds.ScriptKind.{ScriptKind}
 use Rattle.script_grammar.specs.declared.reading.Reading.{Reading}
 use Rattle.script_grammar.specs.declared.script.Script.{Script}
 use Rattle.script_grammar.specs.Grammar.{read_line, read_from, ended}
-use Rattle.script_grammar.specs.Readers.{Reads}
+use Rattle.script_grammar.specs.code.Readers.{Reads}
 use Rattle.script_grammar.specs.declared.script_error.ScriptError.{ScriptError}
 use Rattle.script_grammar.specs.declared.script_error.ScriptError.TheVariants as script
 

@@ -25,8 +25,8 @@ use Rattle.script_grammar.specs.declared.words.Class.TheVariants as class
 use Rattle.script_grammar.specs.Spelling.{numeral}
 use Rattle.script_grammar.specs.Words.{first_word, header_word, body_word, plain_word, pick_word, is_volume_section, is_change, is_query, is_host_event, volume_word, word_of, class_of, count_of}
 use Rattle.script_grammar.specs.Grammar.{is_ordered_class, is_barrier_class, plain_event, pick_event}
-use Rattle.script_grammar.specs.Speller.{class_text, event_line_words}
-use Rattle.script_grammar.specs.Accepted.{with_count}
+use Rattle.script_grammar.specs.laws.Speller.{class_text, event_line_words}
+use Rattle.script_grammar.specs.laws.Accepted.{with_count}
 use Rattle.script_grammar.proofs.SaidNumbers.{decimal-numeral}
 
 -- ---- words, by group

@@ -6,7 +6,7 @@ use Rattle.std.proofs.lemmas.Bool.{and_parts, and_from, not-true, eq-eqb, ne_eqb
 use Rattle.std.proofs.lemmas.List.Elements.{All-nil, All-cons}
 use Rattle.std.proofs.lemmas.List.Splits.{slice_split_none, slice_split_at}
 use Rattle.script_grammar.specs.Spelling.{lines_of, words_of, ends_in_feed, without_last_feed}
-use Rattle.script_grammar.specs.Speller.{lines_text}
+use Rattle.script_grammar.specs.laws.Speller.{lines_text}
 
 -- ---- words without a byte
 

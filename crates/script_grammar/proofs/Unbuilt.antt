@@ -23,7 +23,7 @@ use Rattle.script_grammar.specs.declared.words.Line.{Line}
 use Rattle.script_grammar.specs.Spelling.{words_of, lines_of, is_skipped, numeral}
 use Rattle.script_grammar.specs.Words.{first_word, header_word, body_word, plain_word, pick_word, is_volume_section, is_change, is_query, is_host_event, word_of, line_of}
 use Rattle.script_grammar.specs.Grammar.{is_built, opened, new_reading, form_of, form_line, built_first, first_line, may_stand, stood_before, fits, after, taken, later_line, read_words, script_of}
-use Rattle.script_grammar.specs.FirstFault.{error_of, fault_of, behind_all, first_of, begins_unbuilt, IsFirstFault, IsFirstUnbuilt}
+use Rattle.script_grammar.specs.laws.FirstFault.{error_of, fault_of, behind_all, first_of, begins_unbuilt, IsFirstFault, IsFirstUnbuilt}
 use Rattle.script_grammar.proofs.FirstFault.{IsFirstFault-script_of, script_of-first_fault}
 
 -- ---- words

@@ -33,7 +33,7 @@ use Rattle.script_grammar.specs.declared.words.PlainWord.TheVariants as plain
 use Rattle.script_grammar.specs.declared.words.Word.{Word}
 use Rattle.script_grammar.specs.declared.words.Word.TheVariants as word
 use Rattle.script_grammar.specs.Grammar.{IsRequestOf, IsRunnable, form_blocks, is_scheduled, form_of, is_built, is_ordered_class, is_barrier_class, after, count_fits, fits, taken, later_line, may_stand, needs_scheduler, stood_before, put_request, flush_request, plain_event, pick_event, with_request, with_events, new_reading, opened, form_line, built_first, first_line, read_words, read_line, read_from, at_line, ended, ended_in, script_read, script_of}
-use Rattle.script_grammar.specs.Readers.{Reads}
+use Rattle.script_grammar.specs.code.Readers.{Reads}
 use Rattle.script_grammar.specs.Spelling.{is_digit, hex_digit, hex_byte, numeral, is_skipped, words_of, lines_of}
 use Rattle.script_grammar.specs.WellFormed.{IsEventOf, IsEventLineOf, IsFilled, IsWellFormed, expanded_of}
 use Rattle.script_grammar.specs.Words.{class_of, count_of, header_line, put_line, body_line, pick_line, line_of, word_of}

@@ -1,9 +1,9 @@
 //! Reads scripts, line by line.
 ghost use Rattle.std.specs.Prelude.{◌≡◌, ℕ, ◌+◌, ◌^◌, ◌<◌, ◌≤◌, nat_lt, true, false, None, map, length, IfOk};
 ghost use Rattle.script_grammar.specs.Grammar.{form_blocks, is_scheduled, form_of, is_built, new_reading, opened, form_line, built_first, first_line, stands_in, needs_scheduler, may_stand, stood_before, count_fits, fits, is_ordered_class, is_barrier_class, put_request, flush_request, with_request, with_events, plain_event, pick_event, after, taken, later_line, read_words, read_line, script_read, ended, read_from, script_of};
-ghost use Rattle.script_grammar.specs.Rows.{request_of};
+ghost use Rattle.script_grammar.specs.code.Rows.{request_of};
 ghost use Rattle.script_grammar.specs.WellFormed.{IsWellFormed};
-ghost use Rattle.script_grammar.specs.Readers.{Gives, Reads, fault_at};
+ghost use Rattle.script_grammar.specs.code.Readers.{Gives, Reads, fault_at};
 
 use crate::kinds::ScriptKind;
 use crate::limits::{

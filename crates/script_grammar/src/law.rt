@@ -4,10 +4,10 @@ ghost use Rattle.script_grammar.specs.declared.kinds.ScriptKind.{ScriptKind};
 ghost use Rattle.script_grammar.specs.declared.script.Script.{Script};
 ghost use Rattle.script_grammar.specs.Spelling.{lines_of};
 ghost use Rattle.script_grammar.specs.Grammar.{script_of};
-ghost use Rattle.script_grammar.specs.FirstFault.{IsFirstFault, IsFirstUnbuilt};
-ghost use Rattle.script_grammar.specs.Speller.{script_text};
+ghost use Rattle.script_grammar.specs.laws.FirstFault.{IsFirstFault, IsFirstUnbuilt};
+ghost use Rattle.script_grammar.specs.laws.Speller.{script_text};
 ghost use Rattle.script_grammar.specs.WellFormed.{IsWellFormed};
-ghost use Rattle.script_grammar.specs.Accepted.{kept_lines, SaysScript};
+ghost use Rattle.script_grammar.specs.laws.Accepted.{kept_lines, SaysScript};
 
 use crate::kinds::ScriptKind;
 

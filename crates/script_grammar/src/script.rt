@@ -76,7 +76,7 @@ pub(crate) struct Row {
 }
 
 impl Row {
-    ghost use Rattle.script_grammar.specs.Rows.{request_of};
+    ghost use Rattle.script_grammar.specs.code.Rows.{request_of};
 
     fn request(&self) -> Request
         ensures { result ≡ request_of self.now }
@@ -106,7 +106,7 @@ pub struct RequestList {
 impl Model for RequestList {
     ghost use Rattle.std.specs.Prelude.{List, map};
     ghost use Rattle.order_model.specs.declared.request.Request.{Request};
-    ghost use Rattle.script_grammar.specs.Rows.{request_of};
+    ghost use Rattle.script_grammar.specs.code.Rows.{request_of};
 
     ghost Value = { List Request };
 
@@ -115,7 +115,7 @@ impl Model for RequestList {
 
 impl RequestList {
     ghost use Rattle.std.specs.Prelude.{map};
-    ghost use Rattle.script_grammar.specs.Rows.{request_of};
+    ghost use Rattle.script_grammar.specs.code.Rows.{request_of};
 
     pub fn new(alloc: Global) -> RequestList
         ensures { result ≡ [] }

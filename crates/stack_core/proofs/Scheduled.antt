@@ -10,7 +10,7 @@ use Rattle.order_model.specs.Device.{Seen, IsReceivable}
 use Rattle.order_model.specs.Carrying.{SchedSeen, Carries, Fits}
 use Rattle.order_model.proofs.Next.{next_receivable}
 use Rattle.barrier_reassign.specs.Scheduler.{SchedSteps, IsAcceptable, Accepts, Sends, IsScheduler}
-use Rattle.barrier_reassign.specs.Places.{next_id-new}
+use Rattle.barrier_reassign.specs.laws.Places.{next_id-new}
 use Rattle.script_grammar.specs.Grammar.{IsRequestOf}
 use Rattle.stack_core.specs.Side.{SideState, SideRun, with_request, submitted, accepted_first, side_accepted, offered, offered_option, side_picked, dispatched_from, side_dispatched}
 use Rattle.stack_core.specs.Feed.{AreRequests, IsScheduled}

@@ -15,13 +15,19 @@ use barrier_reassign::Scheduler;
 use blk_base::{Image, NoMemory};
 use device_epochs::{DeviceSetup, EpochDevice};
 use epoch_sched::Sched;
-use sched_elevator::Elevator;
 use order_model::{OrderedDev, keeps_order_to_the_medium};
+use sched_elevator::Elevator;
 use script_grammar::{CoreEvent, EventLine, EventWord, Form, RequestList, Script};
 use std::alloc::Global;
 
 // One event.
-fn do_event<S: Scheduler, D: OrderedDev>(feed: &mut Feed, sched: &mut S, dev: &mut D, requests: &RequestList, event: CoreEvent)
+fn do_event<S: Scheduler, D: OrderedDev>(
+    feed: &mut Feed,
+    sched: &mut S,
+    dev: &mut D,
+    requests: &RequestList,
+    event: CoreEvent,
+)
     requires valid { D.valid (D.state dev.old) }
     requires scheduler { S.valid (S.state sched.old) }
     requires fed { IsFed feed.old (S.steps.seen (S.state sched.old)) requests.now (D.seen (D.state dev.old)) }
@@ -39,12 +45,19 @@ fn do_event<S: Scheduler, D: OrderedDev>(feed: &mut Feed, sched: &mut S, dev: &m
         CoreEvent::Persist(pick) => {
             dev.persist(pick);
         }
-        CoreEvent::Submit | CoreEvent::Accept | CoreEvent::Dispatch(_) => feed.step(sched, requests, event),
+        CoreEvent::Submit | CoreEvent::Accept | CoreEvent::Dispatch(_) => feed.step(
+            sched, requests, event,
+        ),
     }
 }
 
 // The next command goes to the device, where there is one and there is room.
-fn receive_next<S: Scheduler, D: OrderedDev>(feed: &mut Feed, sched: &mut S, dev: &mut D, requests: &RequestList)
+fn receive_next<S: Scheduler, D: OrderedDev>(
+    feed: &mut Feed,
+    sched: &mut S,
+    dev: &mut D,
+    requests: &RequestList,
+)
     requires valid { D.valid (D.state dev.old) }
     requires scheduler { S.valid (S.state sched.old) }
     requires fed { IsFed feed.old (S.steps.seen (S.state sched.old)) requests.now (D.seen (D.state dev.old)) }
@@ -65,7 +78,14 @@ fn receive_next<S: Scheduler, D: OrderedDev>(feed: &mut Feed, sched: &mut S, dev
 }
 
 // One event, so many times.
-fn repeat_event<S: Scheduler, D: OrderedDev>(feed: &mut Feed, sched: &mut S, dev: &mut D, requests: &RequestList, event: CoreEvent, count: u32)
+fn repeat_event<S: Scheduler, D: OrderedDev>(
+    feed: &mut Feed,
+    sched: &mut S,
+    dev: &mut D,
+    requests: &RequestList,
+    event: CoreEvent,
+    count: u32,
+)
     requires valid { D.valid (D.state dev.old) }
     requires scheduler { S.valid (S.state sched.old) }
     requires fed { IsFed feed.old (S.steps.seen (S.state sched.old)) requests.now (D.seen (D.state dev.old)) }
@@ -81,7 +101,13 @@ fn repeat_event<S: Scheduler, D: OrderedDev>(feed: &mut Feed, sched: &mut S, dev
 }
 
 // An event line, as often as it says.
-fn do_line<S: Scheduler, D: OrderedDev>(feed: &mut Feed, sched: &mut S, dev: &mut D, requests: &RequestList, line: EventLine)
+fn do_line<S: Scheduler, D: OrderedDev>(
+    feed: &mut Feed,
+    sched: &mut S,
+    dev: &mut D,
+    requests: &RequestList,
+    line: EventLine,
+)
     requires valid { D.valid (D.state dev.old) }
     requires scheduler { S.valid (S.state sched.old) }
     requires fed { IsFed feed.old (S.steps.seen (S.state sched.old)) requests.now (D.seen (D.state dev.old)) }
@@ -97,7 +123,13 @@ fn do_line<S: Scheduler, D: OrderedDev>(feed: &mut Feed, sched: &mut S, dev: &mu
 }
 
 // All event lines, one after the other.
-fn do_lines<S: Scheduler, D: OrderedDev>(feed: &mut Feed, sched: &mut S, dev: &mut D, requests: &RequestList, lines: &[EventLine])
+fn do_lines<S: Scheduler, D: OrderedDev>(
+    feed: &mut Feed,
+    sched: &mut S,
+    dev: &mut D,
+    requests: &RequestList,
+    lines: &[EventLine],
+)
     requires valid { D.valid (D.state dev.old) }
     requires scheduler { S.valid (S.state sched.old) }
     requires fed { IsFed feed.old (S.steps.seen (S.state sched.old)) requests.now (D.seen (D.state dev.old)) }
@@ -123,7 +155,12 @@ fn scheduled_count(script: &Script) -> u64
 }
 
 // Runs a script on this scheduler and this device, and cuts the power.
-fn run_with<S: Scheduler + Drop, D: OrderedDev + Drop>(alloc: Global, script: &Script, sched: S, dev: D) -> Result<Report, NoMemory>
+fn run_with<S: Scheduler + Drop, D: OrderedDev + Drop>(
+    alloc: Global,
+    script: &Script,
+    sched: S,
+    dev: D,
+) -> Result<Report, NoMemory>
     requires valid { D.valid (D.state dev) }
     requires scheduler { S.valid (S.state sched) }
     requires unused { (S.steps.seen (S.state sched)).accepted ≡ [] }
@@ -138,7 +175,13 @@ fn run_with<S: Scheduler + Drop, D: OrderedDev + Drop>(alloc: Global, script: &S
     let mut dev = dev;
     let mut sched = sched;
     let mut feed = Feed::open(alloc, script)?;
-    do_lines(&mut feed, &mut sched, &mut dev, &script.puts, script.events.as_slice());
+    do_lines(
+        &mut feed,
+        &mut sched,
+        &mut dev,
+        &script.puts,
+        script.events.as_slice(),
+    );
     keeps_order_to_the_medium(&dev);
     let submitted = script.puts.copy_front(alloc, feed.submitted())?;
     let script = script.copy(alloc)?;

@@ -7,8 +7,8 @@ ghost use Rattle.stack_core.specs.Side.{opened_side, submitted, side_accepted, o
 
 use barrier_reassign::Scheduler;
 use blk_base::NoMemory;
-use script_grammar::RequestList;
 use order_model::{Command, Inlet, ListQueue, Outlet, Request};
+use script_grammar::RequestList;
 use std::alloc::Global;
 use std::marker::Model;
 
@@ -27,7 +27,7 @@ pub struct SchedSide {
 
 impl Model for SchedSide {
     ghost use Rattle.stack_core.specs.Side.{SideState};
-    ghost use Rattle.stack_core.specs.Fields.{side_of, IsSideInside};
+    ghost use Rattle.stack_core.specs.code.Fields.{side_of, IsSideInside};
 
     ghost Value = { SideState };
 

@@ -143,7 +143,8 @@ fn has_no_scheduler_in_a_device_script(rt: HostRuntime) -> Result<(), Fail> {
 // Nothing is transferred behind a transfer that failed, and so nothing is written.
 #[test]
 fn first_transfer_of_a_run_fails(rt: HostRuntime) -> Result<(), Fail> {
-    let text = b"device 2\nput 0 11 free\nput 1 22 free\nevents\nreceive x 2\ntransfer 0 x 2\npersist 0 x 2\n";
+    let text =
+        b"device 2\nput 0 11 free\nput 1 22 free\nevents\nreceive x 2\ntransfer 0 x 2\npersist 0 x 2\n";
     let left = broken_by(rt.alloc(), text, 1)?;
     assert_eq!(rt; (left.steps, left.submitted, left.moved), (1, 2, 0));
     assert_eq!(rt; left.origins.as_slice(), [None, None].as_slice());
@@ -190,7 +191,8 @@ persist 0
 // The transfer that fails is the step at which the power goes off. The second request is not taken.
 #[test]
 fn a_run_fails_and_goes_off(rt: HostRuntime) -> Result<(), Fail> {
-    let text = b"device 1\ncut 1\nput 0 11 free\nput 0 22 free\nevents\nreceive\ntransfer 0\nreceive\npersist 0\n";
+    let text =
+        b"device 1\ncut 1\nput 0 11 free\nput 0 22 free\nevents\nreceive\ntransfer 0\nreceive\npersist 0\n";
     let left = broken_by(rt.alloc(), text, 1)?;
     assert_eq!(rt; (left.steps, left.submitted, left.moved), (1, 1, 0));
     assert_eq!(rt; left.origins.as_slice(), [None].as_slice());

@@ -12,9 +12,9 @@ use Rattle.tree_model.specs.declared.node.Node.{Node}
 use Rattle.tree_model.specs.declared.node.Node.TheVariants as nodes
 use Rattle.tree_model.specs.declared.node.Directory.{Directory}
 use Rattle.tree_model.specs.Maps.{at_number, name_cmp}
-use Rattle.tree_model.specs.Listing.{Listed, names_of, listed_below, Gives, IsRooted}
+use Rattle.tree_model.specs.laws.Listing.{Listed, names_of, listed_below, Gives, IsRooted}
 use Rattle.tree_model.proofs.Lookups.{In-at_name}
-use Rattle.tree_model.specs.MapsLaws.{name_here}
+use Rattle.tree_model.specs.laws.MapsLaws.{name_here}
 
 abbrev pub IsDirectoryAt : List (ℕ × Node) → ℕ → Type 0
 IsDirectoryAt tree birth = (d : Directory) × (at_number tree birth ≡ Some (nodes.Directory d))

@@ -3,7 +3,7 @@ ghost use Rattle.std.specs.Prelude.{◌≡◌, ℕ, List, [], ◌∷◌, ◌↔�
 ghost use Rattle.std.specs.List.{slice_get};
 ghost use Rattle.blk_base.specs.Members.{In};
 ghost use Rattle.tree_model.specs.declared.node.Node.{Node};
-ghost use Rattle.tree_model.specs.Listing.{IsRooted, Listed, Lists, listed_root, listing_text};
+ghost use Rattle.tree_model.specs.laws.Listing.{IsRooted, Listed, Lists, listed_root, listing_text};
 ghost use Rattle.tree_model.specs.Text.{tree_text};
 ghost use Rattle.tree_model.specs.Trees.{node_of_path, AreAlike, IsSameButBirths};
 ghost use Rattle.tree_model.specs.Maps.{at_number};

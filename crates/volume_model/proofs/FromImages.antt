@@ -16,15 +16,15 @@ use Rattle.tree_model.specs.declared.node.Node.TheVariants as nodes
 use Rattle.tree_model.specs.declared.node.Directory.{Directory}
 use Rattle.tree_model.specs.declared.node.File.{File}
 use Rattle.tree_model.specs.Maps.{at_number, at_name, name_cmp}
-use Rattle.tree_model.specs.MapsLaws.{number_here, number_same, name_here, name_same}
+use Rattle.tree_model.specs.laws.MapsLaws.{number_here, number_same, name_here, name_same}
 use Rattle.tree_model.specs.Paths.{is_dot}
 use Rattle.tree_model.specs.Trees.{directory_links}
-use Rattle.tree_model.specs.Listing.{Gives, IsRooted}
+use Rattle.tree_model.specs.laws.Listing.{Gives, IsRooted}
 use Rattle.tree_model.specs.Plain.{names_to}
 use Rattle.volume_ops.specs.declared.found.Mapped.{Mapped}
 use Rattle.volume_ops.specs.Places.{largest_size, birth_of, inode_of_birth, table_block}
 use Rattle.volume_ops.specs.Volume.{disk_of}
-use Rattle.volume_ops.specs.SlotsLaws.{inode_of_birth_of}
+use Rattle.volume_ops.specs.laws.SlotsLaws.{inode_of_birth_of}
 use Rattle.volume_ops.specs.Fields.{zone_behind, slot_behind, HasName, IsDirectoryOf, IsBelow}
 use Rattle.volume_ops.specs.ZonePlaces.{zone_in as zone_walked}
 use Rattle.volume_ops.specs.Faultless.{HasZones, IsEntryAt, IsReached, at_root, by_name}

@@ -12,7 +12,7 @@ use Rattle.std.proofs.lemmas.Map.Entries.{sum_by-remove_entry}
 use Rattle.std.proofs.lemmas.Map.Keys.{sorted_head, sorted_tail}
 use Rattle.std.proofs.lemmas.Option.{none-some}
 use Rattle.tree_model.specs.Maps.{at_number, without_number}
-use Rattle.tree_model.specs.MapsLaws.{number_here, number_same}
+use Rattle.tree_model.specs.laws.MapsLaws.{number_here, number_same}
 use Rattle.tree_model.specs.laws.MapOrder.{InOrder, in_order_without, at_without_here, at_without_apart}
 use Rattle.volume_ops.specs.laws.TreeUnique.{found_first, found_later}
 use Rattle.volume_model.specs.laws.Trees.{found_above}

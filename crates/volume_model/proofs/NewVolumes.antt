@@ -20,10 +20,10 @@ use Rattle.tree_model.specs.declared.node.Node.{Node}
 use Rattle.tree_model.specs.declared.node.Node.TheVariants as nodes
 use Rattle.tree_model.specs.declared.node.Directory.{Directory}
 use Rattle.tree_model.specs.Maps.{at_number, at_name, name_cmp}
-use Rattle.tree_model.specs.MapsLaws.{number_same}
+use Rattle.tree_model.specs.laws.MapsLaws.{number_same}
 use Rattle.tree_model.specs.Paths.{is_dot}
 use Rattle.tree_model.specs.Trees.{directory_links}
-use Rattle.tree_model.specs.Listing.{Gives, IsLedTo, at_root, IsRooted}
+use Rattle.tree_model.specs.laws.Listing.{Gives, IsLedTo, at_root, IsRooted}
 use Rattle.volume_ops.specs.Volume.{disk_of}
 use Rattle.volume_ops.specs.Fields.{inode_at}
 use Rattle.volume_model.specs.declared.placed.Placed.{Placed}

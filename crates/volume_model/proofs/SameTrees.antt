@@ -18,16 +18,16 @@ use Rattle.tree_model.specs.declared.node.Node.TheVariants as nodes
 use Rattle.tree_model.specs.declared.node.Directory.{Directory}
 use Rattle.tree_model.specs.declared.node.File.{File}
 use Rattle.tree_model.specs.Maps.{at_number, at_name, name_cmp}
-use Rattle.tree_model.specs.MapsLaws.{number_here, number_same, name_here, name_same}
+use Rattle.tree_model.specs.laws.MapsLaws.{number_here, number_same, name_here, name_same}
 use Rattle.tree_model.specs.Paths.{is_dot}
-use Rattle.tree_model.specs.Listing.{Gives, IsLedTo, at_root, by_name}
+use Rattle.tree_model.specs.laws.Listing.{Gives, IsLedTo, at_root, by_name}
 use Rattle.tree_model.specs.Plain.{names_in_node, names_to}
 use Rattle.tree_model.specs.Trees.{Refusal, step_at, led_to, node_of_path, is_directory, SameMetadata, SameMetadataAt, SameLinks, SameBytes, AreAlike, IsSameButBirths, directory_links}
 use Rattle.tree_model.specs.laws.Alike.{step_gives, step_given, led_on, led_parts, led_is_led}
 use Rattle.tree_model.specs.laws.MapOrder.{InOrder, in_order_put, at_put_cases}
 use Rattle.tree_model.specs.laws.Sums.{count_by_same}
-use Rattle.volume_ops.specs.ReadsLaws.{same_Ok}
-use Rattle.volume_ops.specs.SlotsLaws.{inode_of_birth_of}
+use Rattle.volume_ops.specs.laws.ReadsLaws.{same_Ok}
+use Rattle.volume_ops.specs.laws.SlotsLaws.{inode_of_birth_of}
 use Rattle.volume_ops.specs.declared.found.Mapped.{Mapped}
 use Rattle.volume_ops.specs.Places.{birth_of, inode_of_birth}
 use Rattle.volume_ops.specs.Places.{is_directory as is_directory_mode}

@@ -10,7 +10,7 @@ use Rattle.std.proofs.lemmas.Option.{none-some, same_Some}
 use Rattle.blk_base.specs.Members.{In, slice_get-length, slice_get-set_same, slice_get-set_other}
 use Rattle.minix_layout.specs.declared.slot.Slot.{Slot}
 use Rattle.tree_model.specs.Maps.{name_cmp}
-use Rattle.tree_model.specs.MapsLaws.{name_here}
+use Rattle.tree_model.specs.laws.MapsLaws.{name_here}
 use Rattle.volume_model.specs.Slots.{used_count}
 use Rattle.volume_model.specs.laws.Gone.{free-count}
 

@@ -12,7 +12,7 @@ use Rattle.tree_model.specs.declared.node.File.{File}
 use Rattle.tree_model.specs.Maps.{at_number}
 use Rattle.tree_model.specs.Paths.{is_dot}
 use Rattle.tree_model.specs.Trees.{directory_links}
-use Rattle.tree_model.specs.Listing.{Gives, IsRooted}
+use Rattle.tree_model.specs.laws.Listing.{Gives, IsRooted}
 use Rattle.tree_model.specs.Plain.{names_to}
 use Rattle.volume_ops.specs.declared.found.Mapped.{Mapped}
 use Rattle.volume_ops.specs.Places.{largest_size, inode_of_birth}

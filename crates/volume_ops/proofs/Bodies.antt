@@ -7,7 +7,7 @@ use Rattle.std.proofs.lemmas.List.{map_more}
 use Rattle.tree_model.specs.Maps.{put_number}
 use Rattle.volume_ops.specs.declared.found.Mapped.{Mapped}
 use Rattle.volume_ops.specs.Volume.{disk_of, bodies_of}
-use Rattle.volume_ops.specs.Rising.{RiseWithin, IsRising}
+use Rattle.volume_ops.specs.laws.Rising.{RiseWithin, IsRising}
 
 -- each key is below k
 abbrev pub KeysBelow : {X : Type 0} → ℕ → List (ℕ × X) → Type 0

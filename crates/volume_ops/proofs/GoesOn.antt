@@ -4,7 +4,7 @@ use Rattle.std.specs.Result.{IsErrAnd, IfErr}
 use Rattle.volume_ops.specs.declared.walk_fault.WalkFault.{WalkFault}
 use Rattle.volume_ops.specs.declared.walk_fault.WalkFault.TheVariants.{Layout, NoMemory}
 use Rattle.volume_ops.specs.Reads.{Reads, answer, go_on, if_ok}
-use Rattle.volume_ops.specs.ReadsLaws.{answer-and_then}
+use Rattle.volume_ops.specs.laws.ReadsLaws.{answer-and_then}
 use Rattle.volume_ops.specs.Zones.{Fault}
 use Rattle.volume_ops.specs.Volume.{IsTold}
 

@@ -4,7 +4,7 @@ use Rattle.std.specs.List.{All, range_with_len}
 use Rattle.byte_fields.specs.Fields.{record_at}
 use Rattle.minix_layout.specs.declared.division.Geometry.{Geometry}
 use Rattle.volume_ops.specs.declared.found.Mapped.{Mapped}
-use Rattle.volume_ops.specs.Births.{IsBirth, AreBirths}
+use Rattle.volume_ops.specs.code.Births.{IsBirth, AreBirths}
 use Rattle.volume_ops.specs.Places.{birth_of}
 use Rattle.volume_ops.specs.Reads.{answer}
 use Rattle.volume_ops.specs.Slots.{SlotScan, scan_slot, scan_places, scan_block, scan_slots}

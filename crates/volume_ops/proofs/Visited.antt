@@ -5,11 +5,11 @@ use Rattle.minix_layout.specs.declared.division.Geometry.{Geometry}
 use Rattle.minix_layout.specs.declared.inode.Inode.{Inode}
 use Rattle.minix_layout.specs.declared.fault.LayoutFault.TheVariants.{BadInode}
 use Rattle.volume_ops.specs.declared.found.Found.TheVariants as found
-use Rattle.volume_ops.specs.Births.{IsBirth, AreBirths}
+use Rattle.volume_ops.specs.code.Births.{IsBirth, AreBirths}
 use Rattle.volume_ops.specs.Places.{table_block, inode_in_block, is_directory, is_file, birth_of, inode_of_birth}
 use Rattle.volume_ops.specs.Reads.{Reads, Ret, answer, if_ok}
 use Rattle.volume_ops.specs.Slots.{SlotScan, scan_slots}
-use Rattle.volume_ops.specs.Visits.{met_next, file_visit, directory_visit, IsPending, ArePending}
+use Rattle.volume_ops.specs.code.Visits.{met_next, file_visit, directory_visit, IsPending, ArePending}
 use Rattle.volume_ops.specs.Walk.{WalkState, Pending, Visit, met_node, pending_in, is_bad_inode, visit_file, visit_directory, visit_other, visit_inode, visit}
 use Rattle.volume_ops.specs.Zones.{Fault, ZoneScan, scan_zones}
 use Rattle.std.proofs.lemmas.List.{reverse-append, reverse-reverse, map-append}

@@ -3,7 +3,7 @@ use Rattle.std.proofs.Common.{◌≡◌, ℕ, zero, suc, ◌+◌, ◌<◌, ◌++
 use Rattle.minix_layout.specs.declared.division.Geometry.{Geometry}
 use Rattle.volume_ops.specs.Marks.{no_marks, is_marked, marked}
 use Rattle.volume_ops.specs.Reads.{Reads, Ret, answer, if_ok}
-use Rattle.volume_ops.specs.Visits.{met_next, IsPending, ArePending}
+use Rattle.volume_ops.specs.code.Visits.{met_next, IsPending, ArePending}
 use Rattle.volume_ops.specs.Walk.{WalkState, Walked, found_in, Pending, Visit, visit, walk_through, walk, at_start, root, walk_volume}
 use Rattle.volume_ops.specs.Volume.{walked, disk_of}
 use Rattle.volume_ops.specs.Zones.{Fault}

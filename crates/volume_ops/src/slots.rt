@@ -4,7 +4,7 @@ ghost use Rattle.std.specs.List.{All, range_with_len};
 ghost use Rattle.byte_fields.specs.Fields.{record_at};
 ghost use Rattle.minix_layout.specs.Slots.{IsEntry};
 ghost use Rattle.tree_model.specs.Maps.{put_name};
-ghost use Rattle.volume_ops.specs.Births.{AreBirths};
+ghost use Rattle.volume_ops.specs.code.Births.{AreBirths};
 ghost use Rattle.volume_ops.specs.Places.{birth_of};
 ghost use Rattle.volume_ops.specs.Reads.{answer};
 ghost use Rattle.volume_ops.specs.Slots.{note_name, scan_entry, scan_slot, scan_places, scan_block, scan_slots};

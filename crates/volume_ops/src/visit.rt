@@ -3,7 +3,7 @@ ghost use Rattle.std.specs.Prelude.{◌≡◌, ◌^◌, ◌<◌, ◌++◌, [], O
 ghost use Rattle.std.specs.List.{All};
 ghost use Rattle.volume_ops.specs.Marks.{is_marked, marked};
 ghost use Rattle.volume_ops.specs.Reads.{answer};
-ghost use Rattle.volume_ops.specs.Visits.{met_next, file_visit, directory_visit, ArePending};
+ghost use Rattle.volume_ops.specs.code.Visits.{met_next, file_visit, directory_visit, ArePending};
 ghost use Rattle.volume_ops.specs.Volume.{disk_of, IsTold};
 ghost use Rattle.volume_ops.specs.Walk.{at_start, found_in, met_node, is_bad_inode, pending_in, visit};
 

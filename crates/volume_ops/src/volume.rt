@@ -5,7 +5,7 @@ ghost use Rattle.order_model.specs.Steps.{Reads};
 ghost use Rattle.minix_layout.specs.Geometry.{IsSound};
 ghost use Rattle.volume_ops.specs.Faultless.{IsUsed};
 ghost use Rattle.volume_ops.specs.Faults.{IsOutside};
-ghost use Rattle.volume_ops.specs.Rising.{IsRising, HasRising};
+ghost use Rattle.volume_ops.specs.laws.Rising.{IsRising, HasRising};
 ghost use Rattle.volume_ops.specs.Volume.{walked, bodies_of, node_of, tree_of, IsFaultOf};
 
 use crate::disk::Disk;

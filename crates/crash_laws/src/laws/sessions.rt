@@ -10,7 +10,7 @@ ghost use Rattle.tree_model.specs.declared.call.Call.{Call};
 ghost use Rattle.tree_model.specs.declared.call.Reply.{Reply};
 ghost use Rattle.tree_model.specs.declared.call.Room.{Room};
 ghost use Rattle.tree_model.specs.Calls.{Tree, tree_after};
-ghost use Rattle.tree_model.specs.Listing.{IsRooted};
+ghost use Rattle.tree_model.specs.laws.Listing.{IsRooted};
 ghost use Rattle.volume_ops.specs.Volume.{disk_of};
 ghost use Rattle.crash_laws.specs.Extending.{Extends};
 ghost use Rattle.crash_laws.specs.Found.{found};

@@ -6,7 +6,7 @@ use Rattle.std.proofs.lemmas.List.{drop_at}
 use Rattle.std.proofs.lemmas.List.Elements.{All-head, All-tail}
 use Rattle.byte_fields.specs.Fields.{zeros, bytes_of, number_at}
 use Rattle.byte_fields.specs.Fields.Order.{big}
-use Rattle.byte_fields.specs.Laws.{length-zeros, length-bytes_of}
+use Rattle.byte_fields.specs.laws.ReadLaws.{length-zeros, length-bytes_of}
 use Rattle.journal_blocks.specs.declared.tag.Tag.{Tag}
 use Rattle.journal_blocks.specs.declared.log_block.LogBlock.TheVariants.{Descriptor}
 use Rattle.journal_blocks.specs.Header.{magic_of, kind_of, sequence_of}

@@ -5,7 +5,7 @@ use Rattle.std.proofs.lemmas.Bool.{eqb-true, eqb-false}
 use Rattle.std.proofs.lemmas.List.{drop_at}
 use Rattle.byte_fields.specs.Fields.{bytes_of, number_of, number_at, put, put_bytes}
 use Rattle.byte_fields.specs.Fields.Order.{big}
-use Rattle.byte_fields.specs.Laws.{length-bytes_of, number_at-put_same}
+use Rattle.byte_fields.specs.laws.ReadLaws.{length-bytes_of, number_at-put_same}
 use Rattle.journal_blocks.specs.Header.{magic_of}
 use Rattle.journal_blocks.specs.Blocks.{escaped, restored}
 

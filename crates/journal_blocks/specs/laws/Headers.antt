@@ -4,7 +4,7 @@ use Rattle.std.proofs.Common.{sym, ap, ◌∙◌, lit<, arith, append_assoc, len
 use Rattle.std.proofs.lemmas.List.{drop_at}
 use Rattle.byte_fields.specs.Fields.{zeros, bytes_of, number_at}
 use Rattle.byte_fields.specs.Fields.Order.{big}
-use Rattle.byte_fields.specs.Laws.{length-zeros, length-bytes_of}
+use Rattle.byte_fields.specs.laws.ReadLaws.{length-zeros, length-bytes_of}
 use Rattle.journal_blocks.specs.Header.{magic_of, kind_of, sequence_of}
 use Rattle.journal_blocks.specs.Written.{header_bytes, block_with}
 use Rattle.journal_blocks.specs.laws.Numbers.{read_there, read_first}

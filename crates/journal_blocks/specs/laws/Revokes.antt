@@ -6,7 +6,7 @@ use Rattle.std.proofs.lemmas.Bool.{le-leb, and_from, eq-eqb}
 use Rattle.std.proofs.lemmas.List.Elements.{All-head, All-tail}
 use Rattle.byte_fields.specs.Fields.{zeros, bytes_of, number_at}
 use Rattle.byte_fields.specs.Fields.Order.{big}
-use Rattle.byte_fields.specs.Laws.{length-bytes_of}
+use Rattle.byte_fields.specs.laws.ReadLaws.{length-bytes_of}
 use Rattle.journal_blocks.specs.declared.log_block.LogBlock.TheVariants.{Commit, Revoke}
 use Rattle.journal_blocks.specs.Header.{magic_of, kind_of, sequence_of}
 use Rattle.journal_blocks.specs.Blocks.{count_of, is_count, revoked_at, revoked_of, log_block_of}

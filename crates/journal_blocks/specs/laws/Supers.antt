@@ -4,7 +4,7 @@ use Rattle.std.proofs.Common.{sym, ap, ◌∙◌, subst, inl, inr, lit<, arith}
 use Rattle.std.proofs.lemmas.Bool.{and_parts, and_from, eqb-true}
 use Rattle.byte_fields.specs.Fields.{Apart, zeros, bytes_of, number_at, put, Field, field, are_laid_out, HaveFields}
 use Rattle.byte_fields.specs.Fields.Order.{big}
-use Rattle.byte_fields.specs.Laws.{fields_read, get_or-put_other, length-put, length-bytes_of, length-zeros, length-written, number_at-written}
+use Rattle.byte_fields.specs.laws.ReadLaws.{fields_read, get_or-put_other, length-put, length-bytes_of, length-zeros, length-written, number_at-written}
 use Rattle.journal_blocks.specs.declared.super_block.JournalSuper.{JournalSuper}
 use Rattle.journal_blocks.specs.declared.fault.JournalFault.{JournalFault}
 use Rattle.journal_blocks.specs.declared.fault.JournalFault.TheVariants.{NotMagic, BadKind, BadCount, Feature}

@@ -14,11 +14,11 @@ use Rattle.byte_fields.specs.Fields.Order.{little}
 use Rattle.tree_model.specs.declared.node.Node.{Node}
 use Rattle.tree_model.specs.Maps.{at_number}
 use Rattle.tree_model.specs.Trees.{AreAlike}
-use Rattle.volume_ops.specs.ReadsLaws.{err-ok, same_Ok}
+use Rattle.volume_ops.specs.laws.ReadsLaws.{err-ok, same_Ok}
 use Rattle.volume_ops.specs.Walk.{Walked}
 use Rattle.volume_ops.specs.Zones.{Fault}
 use Rattle.volume_ops.specs.Volume.{disk_of, walked, put_nodes, tree_found, tree_of}
-use Rattle.volume_ops.specs.Alike.{SameMetadataAtOrNone}
+use Rattle.volume_ops.specs.laws.Alike.{SameMetadataAtOrNone}
 use Rattle.volume_ops.specs.Defects.{IsDefect}
 use Rattle.volume_ops.specs.FirstFault.{IsFirstFault}
 use Rattle.volume_ops.specs.Metadata.{of_volume, AgreeOnMetadata}

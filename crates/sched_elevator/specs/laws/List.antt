@@ -198,8 +198,7 @@ placed-in_order head w (v ∷ vs) order differ =
     elim (cases_Bool (meets_before head (block_at w) (block_at v))) [
       | inl t ↦
           let first = meets-true head (block_at w) (block_at v) t in
-          rw t
-          (
+          rw t (
             λ u h.
                 ⊎_elim
                 (λ e. subst (λ x. Meets head (block_at w) (block_at x)) e first)
@@ -210,8 +209,7 @@ placed-in_order head w (v ∷ vs) order differ =
       | inr f ↦
           let never : Meets head (block_at w) (block_at v) → ⊥ = λ m. both_ways (meets_before head (block_at w) (block_at v)) f (true-meets head (block_at w) (block_at v) m) in
           let first = meets-total head (block_at w) (block_at v) (differ v (inl refl)) never in
-          rw f
-          (
+          rw f (
             λ u h.
                 ⊎_elim
                 (λ e. subst (λ x. Meets head (block_at v) (block_at x)) e first)

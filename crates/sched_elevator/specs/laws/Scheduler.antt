@@ -8,9 +8,9 @@ use Rattle.order_model.specs.declared.request.Request.{Request}
 use Rattle.barrier_reassign.specs.Epoch.{EpochState, Waiting, can_accept, eligible, may_leave, unflagged}
 use Rattle.barrier_reassign.specs.Sched as plain
 use Rattle.barrier_reassign.specs.Scheduler.{IsAcceptable, Accepts, Sends, IsScheduler}
-use Rattle.barrier_reassign.specs.AcceptedLaws.{accepted-valid}
-use Rattle.barrier_reassign.specs.DispatchedLaws.{opened-valid}
-use Rattle.barrier_reassign.specs.SchedulerLaws as laws
+use Rattle.barrier_reassign.specs.laws.AcceptedLaws.{accepted-valid}
+use Rattle.barrier_reassign.specs.laws.DispatchedLaws.{opened-valid}
+use Rattle.barrier_reassign.specs.laws.SchedulerLaws as laws
 use Rattle.order_model.specs.Merging.{ungrouped}
 use Rattle.sched_elevator.specs.Elevator.{ElevatorState, opened, accepted, listed, picked, leaving_with, sent_as, dispatched, seen_of, elevator_steps}
 use Rattle.sched_elevator.specs.laws.List.{in_order-In, length-in_order}

@@ -23,9 +23,9 @@ use Rattle.order_model.proofs.Merging.{carries_merged}
 use Rattle.barrier_reassign.specs.Epoch.{EpochState, Waiting, may_leave, eligible, left, leaves_flagged}
 use Rattle.barrier_reassign.specs.Sched as plain
 use Rattle.barrier_reassign.specs.Sched.{SchedState, command_of}
-use Rattle.barrier_reassign.specs.Valid.{IsValid}
-use Rattle.barrier_reassign.specs.DispatchedLaws.{sent-valid, flagged_last}
-use Rattle.barrier_reassign.specs.OrderLaws.{carries}
+use Rattle.barrier_reassign.specs.laws.Valid.{IsValid}
+use Rattle.barrier_reassign.specs.laws.DispatchedLaws.{sent-valid, flagged_last}
+use Rattle.barrier_reassign.specs.laws.OrderLaws.{carries}
 use Rattle.sched_elevator.specs.Elevator.{ElevatorState, Gathering, seen_of, is_put_of, has_class, joins, next_part, joined, taken, gathered, alone, leaving_as, leaving_with, sent_as}
 use Rattle.sched_elevator.specs.laws.Eligible.{IsPutAt, put-is_flush}
 

@@ -13,7 +13,7 @@ use Rattle.tree_model.specs.declared.node.Node.TheVariants as nodes
 use Rattle.tree_model.specs.declared.node.Directory.{Directory}
 use Rattle.tree_model.specs.declared.node.File.{File}
 use Rattle.tree_model.specs.Maps.{at_number, put_number, without_number}
-use Rattle.tree_model.specs.MapsLaws.{number_same, at_put_number, at_put_number_apart}
+use Rattle.tree_model.specs.laws.MapsLaws.{number_same, at_put_number, at_put_number_apart}
 use Rattle.tree_model.specs.Calls.{Tree, Done, Found, Place, Move, walk_path, a_file, take_name, put_file, lose_link, with_links, without_target, target_at, moved_node, place_after, tree_moved, stays, block_or_zeros, patched, touched_blocks, written_blocks, written_file, cut_body, cut_file, leaves_tree}
 use Rattle.tree_model.specs.Histories.{block_in, block_at, maps_block, is_found_at, leads_to, is_touched, touches}
 use Rattle.tree_model.specs.laws.MapOrder.{InOrder, in_order_put, in_order_without, at_put_cases, at_without_cases}

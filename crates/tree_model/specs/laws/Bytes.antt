@@ -7,7 +7,7 @@ use Rattle.std.proofs.lemmas.List.{length-take, length-drop, length-append, leng
 use Rattle.std.proofs.lemmas.Option.{none-some, same_Some}
 use Rattle.tree_model.specs.declared.node.File.{File}
 use Rattle.tree_model.specs.Maps.{at_number, put_number}
-use Rattle.tree_model.specs.MapsLaws.{at_put_number, at_put_number_apart}
+use Rattle.tree_model.specs.laws.MapsLaws.{at_put_number, at_put_number_apart}
 use Rattle.tree_model.specs.Calls.{block_or_zeros, patched, touched_blocks, written_blocks, written_file, cut_body, cut_file, byte_at}
 use Rattle.tree_model.specs.Histories.{is_touched}
 use Rattle.tree_model.specs.Plain.{HasWholeBlocks}

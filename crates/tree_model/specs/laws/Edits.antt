@@ -9,8 +9,8 @@ use Rattle.tree_model.specs.declared.node.Node.TheVariants as nodes
 use Rattle.tree_model.specs.declared.node.Directory.{Directory}
 use Rattle.tree_model.specs.declared.node.File.{File}
 use Rattle.tree_model.specs.Maps.{at_number, at_name, put_number, put_name, without_number, name_cmp}
-use Rattle.tree_model.specs.MapsLaws.{name_here, name_same, at_put_number, at_put_number_apart, at_put_name, put_apart}
-use Rattle.tree_model.specs.Listing.{names_of}
+use Rattle.tree_model.specs.laws.MapsLaws.{name_here, name_same, at_put_number, at_put_number_apart, at_put_name, put_apart}
+use Rattle.tree_model.specs.laws.Listing.{names_of}
 use Rattle.tree_model.specs.Trees.{is_directory}
 use Rattle.tree_model.specs.Calls.{Tree, Place, with_name, without_name, give_name, take_name}
 use Rattle.tree_model.specs.Plain.{names_in_node, names_to}

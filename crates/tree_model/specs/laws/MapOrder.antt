@@ -15,7 +15,7 @@ use Rattle.std.proofs.lemmas.Map.{lookup-remove_entry}
 use Rattle.std.proofs.lemmas.Map.Keys.{IsDistinct-from_sorted}
 use Rattle.std.proofs.lemmas.Option.{none-some}
 use Rattle.tree_model.specs.Maps.{at_number, at_name, put_number, put_name, without_number, name_cmp}
-use Rattle.tree_model.specs.MapsLaws.{number_here, number_same, name_here, name_same, at_put_number, at_put_number_apart}
+use Rattle.tree_model.specs.laws.MapsLaws.{number_here, number_same, name_here, name_same, at_put_number, at_put_number_apart}
 
 -- ---- keys in order stay so
 

@@ -9,9 +9,9 @@ use Rattle.tree_model.specs.declared.node.Node.{Node}
 use Rattle.tree_model.specs.declared.node.Node.TheVariants as nodes
 use Rattle.tree_model.specs.declared.node.Directory.{Directory}
 use Rattle.tree_model.specs.Maps.{at_number, at_name, put_number}
-use Rattle.tree_model.specs.MapsLaws.{at_put_number, at_put_number_apart}
+use Rattle.tree_model.specs.laws.MapsLaws.{at_put_number, at_put_number_apart}
 use Rattle.tree_model.specs.Paths.{is_path_name, names_of_pieces, path_of}
-use Rattle.tree_model.specs.Listing.{names_of}
+use Rattle.tree_model.specs.laws.Listing.{names_of}
 use Rattle.tree_model.specs.Trees.{is_directory, node_of_path}
 use Rattle.tree_model.specs.laws.Effects.{place_leads}
 use Rattle.tree_model.specs.Calls.{Tree, Done, Place, last_name, is_named, with_name, give_name, new_directory, new_file}

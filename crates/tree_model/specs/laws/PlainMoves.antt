@@ -9,8 +9,8 @@ use Rattle.tree_model.specs.declared.node.Node.TheVariants as nodes
 use Rattle.tree_model.specs.declared.node.Directory.{Directory}
 use Rattle.tree_model.specs.declared.node.File.{File}
 use Rattle.tree_model.specs.Maps.{at_number, at_name, put_number, without_number}
-use Rattle.tree_model.specs.MapsLaws.{at_put_number, at_put_number_apart}
-use Rattle.tree_model.specs.Listing.{names_of}
+use Rattle.tree_model.specs.laws.MapsLaws.{at_put_number, at_put_number_apart}
+use Rattle.tree_model.specs.laws.Listing.{names_of}
 use Rattle.tree_model.specs.Trees.{is_directory, step_at, led_to}
 use Rattle.tree_model.specs.Calls.{Tree, Done, Found, Place, Move, a_file, all_but_last, above, is_file, with_name, without_name, give_name, take_name, put_file, with_links, lose_link, without_target, target_at, moves_directory, meets_directory, meets_file, stays, place_after, moved_node, tree_moved}
 use Rattle.tree_model.specs.Plain.{names_in_node, names_to}

@@ -8,8 +8,8 @@ use Rattle.tree_model.specs.declared.node.Node.TheVariants as nodes
 use Rattle.tree_model.specs.declared.node.Directory.{Directory}
 use Rattle.tree_model.specs.declared.node.File.{File}
 use Rattle.tree_model.specs.Maps.{at_number, at_name, without_number}
-use Rattle.tree_model.specs.MapsLaws.{at_put_number, at_put_number_apart}
-use Rattle.tree_model.specs.Listing.{names_of}
+use Rattle.tree_model.specs.laws.MapsLaws.{at_put_number, at_put_number_apart}
+use Rattle.tree_model.specs.laws.Listing.{names_of}
 use Rattle.tree_model.specs.Trees.{is_directory, node_of_path}
 use Rattle.tree_model.specs.laws.Effects.{led_kept, place_leads}
 use Rattle.tree_model.specs.Calls.{Tree, Done, Place, with_name, without_name, give_name, take_name, put_file, with_links}

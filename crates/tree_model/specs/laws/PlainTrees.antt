@@ -17,7 +17,7 @@ use Rattle.tree_model.specs.declared.node.Node.{Node}
 use Rattle.tree_model.specs.declared.node.Node.TheVariants as nodes
 use Rattle.tree_model.specs.declared.node.File.{File}
 use Rattle.tree_model.specs.Maps.{at_number, at_name, name_cmp, put_number, without_number}
-use Rattle.tree_model.specs.Listing.{names_of, IsRooted}
+use Rattle.tree_model.specs.laws.Listing.{names_of, IsRooted}
 use Rattle.tree_model.specs.Calls.{Tree, Done, Row, Found, new_directory, a_file, take_name, put_file, with_links, lose_link, without_target, stays, place_after, moved_node, tree_moved, row, outcome, tree_from, tree_after}
 use Rattle.tree_model.specs.Plain.{IsPlain, AreBornBefore, names_to}
 use Rattle.tree_model.specs.Examples.{new_tree}

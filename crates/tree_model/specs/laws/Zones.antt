@@ -14,7 +14,7 @@ use Rattle.tree_model.specs.declared.node.Node.{Node}
 use Rattle.tree_model.specs.declared.node.Node.TheVariants as nodes
 use Rattle.tree_model.specs.declared.node.File.{File}
 use Rattle.tree_model.specs.Maps.{at_number, put_number, without_number}
-use Rattle.tree_model.specs.MapsLaws.{at_put_number_apart}
+use Rattle.tree_model.specs.laws.MapsLaws.{at_put_number_apart}
 use Rattle.tree_model.specs.Calls.{Tree, Done, Row, Place, without_name, take_name, put_file, with_links, lose_link, cut_file, takes_no_zone, row, directory_zones, is_indirect, is_double_indirect, is_in_group, one_if, mapped_groups, file_zones, node_zones, used_zones, needs}
 use Rattle.tree_model.specs.Plain.{IsPlain}
 use Rattle.tree_model.specs.laws.MapOrder.{InOrder, in_order_put}

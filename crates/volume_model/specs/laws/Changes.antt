@@ -3,15 +3,15 @@ use Rattle.std.specs.Prelude.{◌≡◌, ℕ, ◌+◌, ◌/◌, ◌<◌, ◌≤�
 use Rattle.std.proofs.Common.{◌∙◌, inl, inr, arith}
 use Rattle.std.proofs.lemmas.List.{length-set}
 use Rattle.std.proofs.lemmas.Grind.{div_ceil_times}
-use Rattle.byte_fields.specs.Laws.{length-put_bytes}
+use Rattle.byte_fields.specs.laws.ReadLaws.{length-put_bytes}
 use Rattle.minix_layout.specs.declared.division.Geometry.{Geometry}
 use Rattle.minix_layout.specs.declared.inode.Inode.{Inode}
 use Rattle.minix_layout.specs.declared.slot.Slot.{Slot}
 use Rattle.minix_layout.specs.Geometry.{IsSound}
 use Rattle.minix_layout.specs.Inodes.{FitInode}
 use Rattle.minix_layout.specs.Slots.{IsEntry}
-use Rattle.minix_layout.specs.InodeLaws.{length-inode_bytes}
-use Rattle.minix_layout.specs.SlotLaws.{length-slot_bytes}
+use Rattle.minix_layout.specs.laws.InodeLaws.{length-inode_bytes}
+use Rattle.minix_layout.specs.laws.SlotLaws.{length-slot_bytes}
 use Rattle.volume_ops.specs.Places.{table_block}
 use Rattle.volume_model.specs.Edits.{put_inode, put_slot, set_bit, edited}
 use Rattle.volume_model.specs.Volume.{IsWhole}

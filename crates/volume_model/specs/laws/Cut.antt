@@ -8,7 +8,7 @@ use Rattle.std.proofs.lemmas.List.FromFn.{get_or-map-range_with_len, length-map-
 use Rattle.byteorder.specs.Endian.{little_number}
 use Rattle.byte_fields.specs.Fields.{zeros, number_at, number_of, put_bytes}
 use Rattle.byte_fields.specs.Fields.Order.{little}
-use Rattle.byte_fields.specs.Laws.{length-zeros, length-put_bytes, number_at-put_bytes}
+use Rattle.byte_fields.specs.laws.ReadLaws.{length-zeros, length-put_bytes, number_at-put_bytes}
 use Rattle.minix_layout.specs.declared.division.Geometry.{Geometry}
 use Rattle.minix_layout.specs.declared.inode.Inode.{Inode}
 use Rattle.minix_layout.specs.Geometry.{IsSound}

@@ -8,7 +8,7 @@ use Rattle.blk_base.specs.Members.{In, In-filter, filter-In, In-map, map-In, In-
 use Rattle.minix_layout.specs.declared.division.Geometry.{Geometry}
 use Rattle.minix_layout.specs.Geometry.{IsSound}
 use Rattle.tree_model.specs.Maps.{at_number, put_number}
-use Rattle.tree_model.specs.MapsLaws.{at_put_number, at_put_number_apart}
+use Rattle.tree_model.specs.laws.MapsLaws.{at_put_number, at_put_number_apart}
 use Rattle.volume_ops.specs.declared.found.Mapped.{Mapped}
 use Rattle.volume_ops.specs.Places.{table_block}
 use Rattle.volume_ops.specs.Volume.{disk_of}

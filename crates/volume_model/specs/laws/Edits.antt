@@ -11,8 +11,8 @@ use Rattle.minix_layout.specs.declared.slot.Slot.{Slot}
 use Rattle.minix_layout.specs.declared.fault.LayoutFault.{LayoutFault}
 use Rattle.minix_layout.specs.Inodes.{FitInode}
 use Rattle.minix_layout.specs.Slots.{slot_of, IsEntry, IsNamed}
-use Rattle.minix_layout.specs.InodeLaws.{inode_read_back, other_inode}
-use Rattle.minix_layout.specs.SlotLaws.{slot_read_back, other_slot}
+use Rattle.minix_layout.specs.laws.InodeLaws.{inode_read_back, other_inode}
+use Rattle.minix_layout.specs.laws.SlotLaws.{slot_read_back, other_slot}
 use Rattle.volume_ops.specs.Places.{table_block}
 use Rattle.volume_ops.specs.Volume.{disk_of}
 use Rattle.volume_ops.specs.Fields.{inode_at}

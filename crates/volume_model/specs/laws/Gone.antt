@@ -13,7 +13,7 @@ use Rattle.std.proofs.lemmas.Map.Keys.{IsDistinct-from_sorted}
 use Rattle.blk_base.specs.Members.{slice_get-set_same, slice_get-set_other, slice_get-length}
 use Rattle.minix_layout.specs.declared.slot.Slot.{Slot}
 use Rattle.tree_model.specs.Maps.{at_name, name_cmp}
-use Rattle.tree_model.specs.MapsLaws.{name_here, name_same}
+use Rattle.tree_model.specs.laws.MapsLaws.{name_here, name_same}
 use Rattle.tree_model.specs.Paths.{is_dot}
 use Rattle.volume_model.specs.declared.placed.Placed.{Placed}
 use Rattle.volume_model.specs.declared.placed.DirectoryPart.{DirectoryPart}

@@ -7,7 +7,7 @@ use Rattle.byteorder.specs.Endian.{little_number}
 use Rattle.blk_base.specs.Members.{In}
 use Rattle.byte_fields.specs.Fields.{zeros, number_at, number_of, put}
 use Rattle.byte_fields.specs.Fields.Order.{little}
-use Rattle.byte_fields.specs.Laws.{length-zeros, length-put}
+use Rattle.byte_fields.specs.laws.ReadLaws.{length-zeros, length-put}
 use Rattle.minix_layout.specs.declared.division.Geometry.{Geometry}
 use Rattle.minix_layout.specs.declared.inode.Inode.{Inode}
 use Rattle.minix_layout.specs.Geometry.{IsSound}

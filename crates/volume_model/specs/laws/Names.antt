@@ -6,7 +6,7 @@ use Rattle.std.proofs.lemmas.Bool.{cases_eq}
 use Rattle.std.proofs.lemmas.Option.{none-some, same_Some}
 use Rattle.minix_layout.specs.declared.slot.Slot.{Slot}
 use Rattle.tree_model.specs.Maps.{at_name, put_name}
-use Rattle.tree_model.specs.MapsLaws.{at_put_name, at_put_name_cases, at_put_name_kept}
+use Rattle.tree_model.specs.laws.MapsLaws.{at_put_name, at_put_name_cases, at_put_name_kept}
 use Rattle.tree_model.specs.Paths.{is_dot}
 use Rattle.volume_model.specs.declared.placed.Placed.{Placed}
 use Rattle.volume_model.specs.declared.placed.DirectoryPart.{DirectoryPart}

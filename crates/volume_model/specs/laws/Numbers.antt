@@ -5,9 +5,9 @@ use Rattle.std.proofs.lemmas.Bool.{cases_Bool, eqb-false, ltb-true, ltb-false, t
 use Rattle.std.proofs.lemmas.List.{get_or-set_same, get_or-set_other}
 use Rattle.byte_fields.specs.Fields.{put, Apart}
 use Rattle.byte_fields.specs.Fields.Order.{little}
-use Rattle.byte_fields.specs.Laws.{number_at-put_same, number_at-put_other}
+use Rattle.byte_fields.specs.laws.ReadLaws.{number_at-put_same, number_at-put_other}
 use Rattle.minix_layout.specs.declared.inode.Inode.{Inode}
-use Rattle.inode_ops.specs.MapLaws.{zone_at-indirect}
+use Rattle.inode_ops.specs.laws.MapLaws.{zone_at-indirect}
 use Rattle.inode_ops.specs.Map.{zone_at, entry_behind, indirect_start, double_start, map_end}
 use Rattle.volume_ops.specs.Places.{zone_number}
 use Rattle.volume_ops.specs.Volume.{disk_of}

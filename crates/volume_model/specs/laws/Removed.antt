@@ -17,7 +17,7 @@ use Rattle.minix_layout.specs.declared.division.Geometry.{Geometry}
 use Rattle.minix_layout.specs.Geometry.{IsSound}
 use Rattle.minix_layout.specs.Inodes.{FitInode}
 use Rattle.tree_model.specs.Maps.{at_number, at_name}
-use Rattle.tree_model.specs.MapsLaws.{number_here, number_same}
+use Rattle.tree_model.specs.laws.MapsLaws.{number_here, number_same}
 use Rattle.volume_ops.specs.Volume.{disk_of}
 use Rattle.volume_model.specs.declared.placed.Placed.{Placed}
 use Rattle.volume_model.specs.declared.placed.Part.TheVariants as parts

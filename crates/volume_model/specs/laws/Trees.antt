@@ -12,7 +12,7 @@ use Rattle.std.proofs.lemmas.Bool.{cases_Bool, true≢false}
 use Rattle.std.proofs.lemmas.Map.Keys.{sorted_head, sorted_tail}
 use Rattle.std.proofs.lemmas.Option.{same_Some, none-some}
 use Rattle.blk_base.specs.Members.{In}
-use Rattle.tree_model.specs.MapsLaws.{name_here}
+use Rattle.tree_model.specs.laws.MapsLaws.{name_here}
 use Rattle.tree_model.specs.Maps.{at_number, put_number, at_name, put_name, name_cmp}
 
 -- ---- maps whose values are seen by f

@@ -10,18 +10,18 @@ use Rattle.minix_layout.specs.declared.slot.Slot.{Slot}
 use Rattle.minix_layout.specs.Geometry.{IsSound}
 use Rattle.minix_layout.specs.Slots.{slot_of}
 use Rattle.inode_ops.specs.Map.{zone_at}
-use Rattle.inode_ops.specs.MapLaws.{zone_at-direct, zone_at-past, zone_at-indirect, zone_at-no_indirect, zone_at-double, zone_at-no_double, zone_at-no_inner}
+use Rattle.inode_ops.specs.laws.MapLaws.{zone_at-direct, zone_at-past, zone_at-indirect, zone_at-no_indirect, zone_at-double, zone_at-no_double, zone_at-no_inner}
 use Rattle.tree_model.specs.declared.node.Node.{Node}
 use Rattle.tree_model.specs.declared.node.Node.TheVariants as nodes
 use Rattle.tree_model.specs.declared.node.File.{File}
 use Rattle.tree_model.specs.Maps.{at_number}
 use Rattle.tree_model.specs.Paths.{is_dot}
-use Rattle.tree_model.specs.Listing.{Gives, IsLedTo, at_root, by_name}
+use Rattle.tree_model.specs.laws.Listing.{Gives, IsLedTo, at_root, by_name}
 use Rattle.volume_ops.specs.Places.{zone_number, table_block, inode_in_block, is_directory, is_file, birth_of, inode_of_birth}
 use Rattle.volume_ops.specs.Reads.{AgreeOn}
 use Rattle.volume_ops.specs.Volume.{disk_of, metadata}
 use Rattle.volume_ops.specs.Fields.{inode_at, zone_behind, slot_behind}
-use Rattle.volume_ops.specs.SlotsLaws.{inode_of_birth_of}
+use Rattle.volume_ops.specs.laws.SlotsLaws.{inode_of_birth_of}
 use Rattle.volume_ops.specs.ZonePlaces.{ZonePlace, block, indirect, double, inner, entry_of}
 use Rattle.volume_ops.specs.Faultless.{IsDirectory, IsFile, HasZones, zone_at_place, NamesAt, IsReached, at_root as reached_root, by_name as reached_by, IsFaultless}
 use Rattle.volume_ops.specs.Metadata.{HoldsNumbers, IsMetadata, of_volume, of_numbers, of_directory, AgreeOnMetadata, zone_of_block}

@@ -11,12 +11,12 @@ use Rattle.minix_layout.specs.declared.division.Geometry.{Geometry}
 use Rattle.minix_layout.specs.declared.fault.LayoutFault.{LayoutFault}
 use Rattle.minix_layout.specs.declared.fault.LayoutFault.TheVariants.{BadZone, BadSlot}
 use Rattle.tree_model.specs.Maps.{at_name, name_cmp}
-use Rattle.tree_model.specs.MapsLaws.{name_here, name_same}
+use Rattle.tree_model.specs.laws.MapsLaws.{name_here, name_same}
 use Rattle.tree_model.specs.Paths.{is_dot}
-use Rattle.volume_ops.specs.ReadsLaws.{err-ok}
+use Rattle.volume_ops.specs.laws.ReadsLaws.{err-ok}
 use Rattle.volume_ops.specs.Places.{inode_of_birth}
 use Rattle.volume_ops.specs.Fields.{inode_at}
-use Rattle.volume_ops.specs.SlotsLaws.{inode_of_birth_of}
+use Rattle.volume_ops.specs.laws.SlotsLaws.{inode_of_birth_of}
 use Rattle.volume_ops.specs.Volume.{walked}
 use Rattle.volume_ops.specs.Walk.{Walked}
 use Rattle.volume_ops.specs.Zones.{Fault}

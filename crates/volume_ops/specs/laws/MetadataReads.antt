@@ -15,13 +15,13 @@ use Rattle.minix_layout.specs.Slots.{slot_of}
 use Rattle.tree_model.specs.Paths.{is_dot}
 use Rattle.volume_ops.specs.declared.found.Mapped.{Mapped}
 use Rattle.volume_ops.specs.Reads.{Reads, Ret, Read, answer, blocks_read, if_ok, go_on}
-use Rattle.volume_ops.specs.ReadsLaws.{blocks_read-and_then, err-ok}
+use Rattle.volume_ops.specs.laws.ReadsLaws.{blocks_read-and_then, err-ok}
 use Rattle.volume_ops.specs.Places.{zone_numbers, table_block, inode_in_block, is_directory, is_file}
 use Rattle.volume_ops.specs.Marks.{is_marked}
 use Rattle.volume_ops.specs.Volume.{disk_of, metadata}
 use Rattle.volume_ops.specs.Fields.{inode_at}
 use Rattle.volume_ops.specs.Zones.{Fault, ZoneScan, take_zone, take_blocks, take_numbers, take_indirect, take_indirects, take_double, scan_zones}
-use Rattle.volume_ops.specs.ZonesLaws.{length-zone_numbers, zone_numbers_at, scan_zones-map}
+use Rattle.volume_ops.specs.laws.ZonesLaws.{length-zone_numbers, zone_numbers_at, scan_zones-map}
 use Rattle.volume_ops.specs.Slots.{SlotScan, is_bad_entry, note_name, scan_entry, scan_used, scan_slot, scan_places, scan_block, scan_slots}
 use Rattle.volume_ops.specs.Walk.{WalkState, Walked, found_in, Pending, Visit, is_bad_inode, visit_file, visit_directory, visit_other, visit, walk_through, walk, at_start, root, walk_volume}
 use Rattle.volume_ops.specs.ZonePlaces.{ZonePlace, indirect, double, inner, zone_in}

@@ -4,11 +4,11 @@ use Rattle.minix_layout.specs.declared.division.Geometry.{Geometry}
 use Rattle.tree_model.specs.declared.node.Node.{Node}
 use Rattle.tree_model.specs.Maps.{at_number}
 use Rattle.tree_model.specs.Trees.{AreAlike}
-use Rattle.volume_ops.specs.ReadsLaws.{answer-agrees}
+use Rattle.volume_ops.specs.laws.ReadsLaws.{answer-agrees}
 use Rattle.volume_ops.specs.Volume.{disk_of, walked, tree_of}
 use Rattle.volume_ops.specs.Walk.{walk_volume}
-use Rattle.volume_ops.specs.Alike.{SameMetadataAtOrNone}
-use Rattle.volume_ops.specs.AlikeLaws.{changed_all}
+use Rattle.volume_ops.specs.laws.Alike.{SameMetadataAtOrNone}
+use Rattle.volume_ops.specs.laws.AlikeLaws.{changed_all}
 use Rattle.volume_ops.specs.Metadata.{AgreeOnMetadata}
 use Rattle.volume_ops.specs.laws.BlockPlaces.{same_reads}
 

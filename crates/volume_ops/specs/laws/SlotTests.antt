@@ -16,21 +16,21 @@ use Rattle.minix_layout.specs.declared.fault.LayoutFault.{LayoutFault}
 use Rattle.minix_layout.specs.declared.fault.LayoutFault.TheVariants.{BadSlot}
 use Rattle.minix_layout.specs.Slots.{slot_of, inode_in, is_bad_name, name_in}
 use Rattle.tree_model.specs.Maps.{at_name, put_name, name_cmp}
-use Rattle.tree_model.specs.MapsLaws.{at_put_name, at_put_name_cases, at_put_name_kept, In-put_name}
+use Rattle.tree_model.specs.laws.MapsLaws.{at_put_name, at_put_name_cases, at_put_name_kept, In-put_name}
 use Rattle.tree_model.specs.Paths.{is_dot}
 use Rattle.volume_ops.specs.declared.found.Mapped.{Mapped}
 use Rattle.volume_ops.specs.Reads.{Reads, Ret, Read, answer, if_ok, go_on}
-use Rattle.volume_ops.specs.ReadsLaws.{answer-and_then, err-ok, same_Ok}
+use Rattle.volume_ops.specs.laws.ReadsLaws.{answer-and_then, err-ok, same_Ok}
 use Rattle.volume_ops.specs.Places.{table_block, inode_in_block, is_directory, birth_of}
 use Rattle.volume_ops.specs.Marks.{is_marked, marked}
-use Rattle.volume_ops.specs.MarksLaws.{is_marked_same, is_marked_kept, is_marked_new, length-marked}
+use Rattle.volume_ops.specs.laws.MarksLaws.{is_marked_same, is_marked_kept, is_marked_new, length-marked}
 use Rattle.volume_ops.specs.Volume.{disk_of}
 use Rattle.volume_ops.specs.Fields.{inode_at, zone_behind, slot_behind}
 use Rattle.volume_ops.specs.Zones.{Fault}
-use Rattle.volume_ops.specs.ZonesLaws.{block_at}
+use Rattle.volume_ops.specs.laws.ZonesLaws.{block_at}
 use Rattle.volume_ops.specs.Slots.{SlotScan, is_bad_entry, note_name, scan_entry, scan_used, scan_slot, scan_places, scan_block, scan_slots}
-use Rattle.volume_ops.specs.SortedLaws.{sorted_inserted}
-use Rattle.volume_ops.specs.Rising.{RiseWithin}
+use Rattle.volume_ops.specs.laws.SortedLaws.{sorted_inserted}
+use Rattle.volume_ops.specs.laws.Rising.{RiseWithin}
 use Rattle.volume_ops.specs.Faultless.{IsDirectory, IsEntryAt}
 
 -- a slot that can not be read has no name that can be

@@ -8,7 +8,7 @@ use Rattle.minix_layout.specs.declared.slot.Slot.{Slot}
 use Rattle.volume_ops.specs.declared.found.FoundNode.{FoundNode}
 use Rattle.volume_ops.specs.Places.{largest_size, is_directory}
 use Rattle.volume_ops.specs.Marks.{is_marked, marked}
-use Rattle.volume_ops.specs.MarksLaws.{is_marked_same, is_marked_kept, is_marked_new, length-marked}
+use Rattle.volume_ops.specs.laws.MarksLaws.{is_marked_same, is_marked_kept, is_marked_new, length-marked}
 use Rattle.volume_ops.specs.Fields.{inode_at, slot_behind}
 use Rattle.volume_ops.specs.Walk.{WalkState}
 use Rattle.volume_ops.specs.ZonePlaces.{ZonePlace}

@@ -20,22 +20,22 @@ use Rattle.tree_model.specs.declared.node.Node.{Node}
 use Rattle.tree_model.specs.declared.node.Node.TheVariants as nodes
 use Rattle.tree_model.specs.declared.node.File.{File}
 use Rattle.tree_model.specs.Maps.{at_number, at_name, name_cmp}
-use Rattle.tree_model.specs.MapsLaws.{same_pair, number_here, number_same, name_here, name_same}
-use Rattle.tree_model.specs.Listing.{Gives, IsLedTo, at_root, by_name}
+use Rattle.tree_model.specs.laws.MapsLaws.{same_pair, number_here, number_same, name_here, name_same}
+use Rattle.tree_model.specs.laws.Listing.{Gives, IsLedTo, at_root, by_name}
 use Rattle.volume_ops.specs.declared.found.Mapped.{Mapped}
 use Rattle.volume_ops.specs.declared.found.Found.{Found}
 use Rattle.volume_ops.specs.declared.found.Found.TheVariants as found
 use Rattle.volume_ops.specs.declared.found.FoundNode.{FoundNode}
-use Rattle.volume_ops.specs.ReadsLaws.{err-ok, same_Ok}
+use Rattle.volume_ops.specs.laws.ReadsLaws.{err-ok, same_Ok}
 use Rattle.volume_ops.specs.Places.{is_directory, is_file, inode_of_birth}
 use Rattle.volume_ops.specs.Volume.{walked, bodies_of, node_of, put_nodes, tree_found, tree_of}
 use Rattle.volume_ops.specs.Fields.{inode_at, IsNodeOf, IsBelow}
 use Rattle.volume_ops.specs.Zones.{Fault}
 use Rattle.volume_ops.specs.Walk.{Walked}
-use Rattle.volume_ops.specs.Rising.{RiseWithin, HasRising}
-use Rattle.volume_ops.specs.RisingLaws.{walked_rises}
-use Rattle.volume_ops.specs.TreeLaws.{was_found, tree_of-fields}
-use Rattle.volume_ops.specs.RootedLaws.{tree_of-rooted}
+use Rattle.volume_ops.specs.laws.Rising.{RiseWithin, HasRising}
+use Rattle.volume_ops.specs.laws.RisingLaws.{walked_rises}
+use Rattle.volume_ops.specs.laws.TreeLaws.{was_found, tree_of-fields}
+use Rattle.volume_ops.specs.laws.RootedLaws.{tree_of-rooted}
 use Rattle.blk_base.specs.Members.{All-In}
 use Rattle.volume_ops.specs.VolumeTrees.{IsVolumeTree}
 use Rattle.volume_ops.specs.laws.WalkTests.{walked_faultless, faultless_walked}

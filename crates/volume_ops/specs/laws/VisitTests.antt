@@ -14,21 +14,21 @@ use Rattle.minix_layout.specs.declared.fault.LayoutFault.TheVariants.{BadInode, 
 use Rattle.minix_layout.specs.Inodes.{zones_of, zone_of}
 use Rattle.minix_layout.specs.Slots.{slot_of}
 use Rattle.tree_model.specs.Maps.{at_name}
-use Rattle.tree_model.specs.MapsLaws.{at_name-In}
+use Rattle.tree_model.specs.laws.MapsLaws.{at_name-In}
 use Rattle.tree_model.specs.Paths.{is_dot}
 use Rattle.volume_ops.specs.declared.found.Found.TheVariants as found
 use Rattle.volume_ops.specs.Reads.{Reads, Ret, answer, if_ok, go_on}
-use Rattle.volume_ops.specs.ReadsLaws.{answer-and_then, err-ok, same_Ok}
+use Rattle.volume_ops.specs.laws.ReadsLaws.{answer-and_then, err-ok, same_Ok}
 use Rattle.volume_ops.specs.Places.{largest_size, table_block, is_directory, is_file, birth_of, inode_of_birth}
 use Rattle.volume_ops.specs.Marks.{is_marked, marked}
 use Rattle.volume_ops.specs.Volume.{disk_of}
 use Rattle.volume_ops.specs.Fields.{inode_at, zone_behind, HasName}
 use Rattle.volume_ops.specs.Zones.{Fault, ZoneScan, is_bad_zone, scan_zones}
-use Rattle.volume_ops.specs.ZonesLaws.{scan_zones-map}
+use Rattle.volume_ops.specs.laws.ZonesLaws.{scan_zones-map}
 use Rattle.volume_ops.specs.Slots.{SlotScan, scan_slots}
-use Rattle.volume_ops.specs.SlotsLaws.{slot_of-used, inode_of_birth_of}
-use Rattle.volume_ops.specs.Rising.{IsRising}
-use Rattle.volume_ops.specs.RisingLaws.{scan_rises}
+use Rattle.volume_ops.specs.laws.SlotsLaws.{slot_of-used, inode_of_birth_of}
+use Rattle.volume_ops.specs.laws.Rising.{IsRising}
+use Rattle.volume_ops.specs.laws.RisingLaws.{scan_rises}
 use Rattle.volume_ops.specs.Walk.{WalkState, Pending, Visit, pending_in, met_node, is_bad_inode, visit_file, visit_directory, visit_other, visit}
 use Rattle.volume_ops.specs.ZonePlaces.{ZonePlace, rank}
 use Rattle.volume_ops.specs.Faultless.{IsDirectory, IsFile, HasZones, zone_at_place, slots_of, IsEntryAt, NamesAt}

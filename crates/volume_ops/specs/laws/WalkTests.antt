@@ -7,9 +7,9 @@ use Rattle.minix_layout.specs.declared.division.Geometry.{Geometry}
 use Rattle.minix_layout.specs.declared.fault.LayoutFault.{LayoutFault}
 use Rattle.minix_layout.specs.declared.fault.LayoutFault.TheVariants.{BadZone, BadSlot}
 use Rattle.volume_ops.specs.Reads.{Reads, Ret, answer, if_ok, go_on}
-use Rattle.volume_ops.specs.ReadsLaws.{answer-and_then, err-ok, same_Ok}
+use Rattle.volume_ops.specs.laws.ReadsLaws.{answer-and_then, err-ok, same_Ok}
 use Rattle.volume_ops.specs.Marks.{no_marks, is_marked, unmet}
-use Rattle.volume_ops.specs.MarksLaws.{is_marked_same, is_marked_new, length-marked, no_mark, length-no_marks, unmet-no_marks, unmet-marked}
+use Rattle.volume_ops.specs.laws.MarksLaws.{is_marked_same, is_marked_new, length-marked, no_mark, length-no_marks, unmet-no_marks, unmet-marked}
 use Rattle.volume_ops.specs.Volume.{disk_of, walked}
 use Rattle.volume_ops.specs.Zones.{Fault}
 use Rattle.volume_ops.specs.Walk.{WalkState, Walked, found_in, Pending, Visit, visit, walk_through, walk, at_start, root, walk_volume}

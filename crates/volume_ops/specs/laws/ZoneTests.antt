@@ -6,15 +6,15 @@ use Rattle.std.proofs.lemmas.List.{get_or-take, length-take}
 use Rattle.minix_layout.specs.declared.division.Geometry.{Geometry}
 use Rattle.minix_layout.specs.declared.inode.Inode.{Inode}
 use Rattle.minix_layout.specs.declared.fault.LayoutFault.TheVariants.{BadZone}
-use Rattle.inode_ops.specs.MapLaws.{zone_at-direct, zone_at-past, zone_at-indirect, zone_at-no_indirect, zone_at-double, zone_at-no_double, zone_at-no_inner}
+use Rattle.inode_ops.specs.laws.MapLaws.{zone_at-direct, zone_at-past, zone_at-indirect, zone_at-no_indirect, zone_at-double, zone_at-no_double, zone_at-no_inner}
 use Rattle.volume_ops.specs.Reads.{Reads, Ret, answer, if_ok, go_on}
-use Rattle.volume_ops.specs.ReadsLaws.{answer-and_then}
+use Rattle.volume_ops.specs.laws.ReadsLaws.{answer-and_then}
 use Rattle.volume_ops.specs.Places.{zone_number, zone_numbers}
 use Rattle.volume_ops.specs.Volume.{disk_of}
 use Rattle.volume_ops.specs.Marks.{is_marked, marked}
-use Rattle.volume_ops.specs.MarksLaws.{is_marked_same, is_marked_kept, is_marked_new, length-marked}
+use Rattle.volume_ops.specs.laws.MarksLaws.{is_marked_same, is_marked_kept, is_marked_new, length-marked}
 use Rattle.volume_ops.specs.Zones.{Fault, ZoneScan, is_bad_zone, take_zone, take_blocks, take_numbers, take_indirect, take_indirects, take_double, scan_zones}
-use Rattle.volume_ops.specs.ZonesLaws.{length-zone_numbers, zone_numbers_at}
+use Rattle.volume_ops.specs.laws.ZonesLaws.{length-zone_numbers, zone_numbers_at}
 use Rattle.volume_ops.specs.ZonePlaces.{ZonePlace, block, indirect, double, inner, entry_of, zone_in, holder_in, rank}
 
 -- ---- ranks

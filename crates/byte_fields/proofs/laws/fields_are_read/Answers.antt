@@ -1,4 +1,4 @@
-use Rattle.byte_fields.specs.Laws.{fields_read, number_at-written}
+use Rattle.byte_fields.specs.laws.ReadLaws.{fields_read, number_at-written}
 use Rattle.byte_fields.proofs.laws.fields_are_read.Goals as goal
 
 pub returns : goal.returns

@@ -1,4 +1,4 @@
-use Rattle.byte_fields.specs.Laws.{number_at-put_same, number_at-put_bytes}
+use Rattle.byte_fields.specs.laws.ReadLaws.{number_at-put_same, number_at-put_bytes}
 use Rattle.byte_fields.proofs.laws.numbers_are_read.Goals as goal
 
 pub returns : goal.returns

@@ -1,7 +1,7 @@
 use Rattle.std.proofs.Common.{◌≡◌, ◌+◌, ◌≤◌, drop}
 use Rattle.std.specs.VecDeque.{deque_len, deque_capacity}
 use Rattle.device_epochs.specs.Cache.{entries, put_all}
-use Rattle.device_epochs.specs.Helpers.{IsPlain, EndsAt}
+use Rattle.device_epochs.specs.code.Helpers.{IsPlain, EndsAt}
 use Rattle.device_epochs.proofs.cache.put_parts.Given as goal
 
 abbrev pub invariant-loop-part : goal.invariant-loop-part

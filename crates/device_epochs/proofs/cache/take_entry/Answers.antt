@@ -2,7 +2,7 @@ use Rattle.std.proofs.Common.{◌≡◌, ◌≢◌, ◌<◌, ◌≤◌, length, 
 use Rattle.std.specs.Prelude.{slice_get}
 use Rattle.std.specs.List.{remove}
 use Rattle.std.proofs.lemmas.Option.{slice_get_read, slice_get-get_or}
-use Rattle.device_epochs.specs.CacheLaws.{remove_is_without}
+use Rattle.device_epochs.specs.laws.CacheLaws.{remove_is_without}
 use Rattle.device_epochs.proofs.Searches.{oldest_pick, oldest_past, oldest_out}
 use Rattle.device_epochs.proofs.cache.take_entry.Goals as goal
 

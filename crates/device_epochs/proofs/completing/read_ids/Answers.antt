@@ -1,6 +1,6 @@
 use Rattle.std.proofs.Common.{◌<◌, length, rules}
 use Rattle.std.proofs.lemmas.List.Edits.{map_over_more}
-use Rattle.device_epochs.specs.Helpers.{id_at}
+use Rattle.device_epochs.specs.code.Helpers.{id_at}
 use Rattle.device_epochs.proofs.completing.read_ids.Goals as goal
 
 pub loop-i-preserved : goal.loop-i-preserved

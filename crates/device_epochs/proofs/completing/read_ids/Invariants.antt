@@ -1,6 +1,6 @@
 use Rattle.std.proofs.Common.{◌≡◌, ◌++◌, drop, map, take}
 use Rattle.std.specs.Prelude.{vec_len}
-use Rattle.device_epochs.specs.Helpers.{id_at}
+use Rattle.device_epochs.specs.code.Helpers.{id_at}
 use Rattle.device_epochs.proofs.completing.read_ids.Given as goal
 
 abbrev pub invariant-loop-i : goal.invariant-loop-i

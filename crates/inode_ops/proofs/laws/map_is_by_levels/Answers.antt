@@ -1,4 +1,4 @@
-use Rattle.inode_ops.specs.MapLaws.{zone_at-direct, zone_at-no_indirect, zone_at-indirect, zone_at-no_double, zone_at-no_inner, zone_at-double, zone_at-past}
+use Rattle.inode_ops.specs.laws.MapLaws.{zone_at-direct, zone_at-no_indirect, zone_at-indirect, zone_at-no_double, zone_at-no_inner, zone_at-double, zone_at-past}
 use Rattle.inode_ops.proofs.laws.map_is_by_levels.Goals as goal
 
 pub returns : goal.returns

@@ -1,6 +1,6 @@
 use Rattle.std.proofs.Common.{rules, ◌≡◌, length}
 use Rattle.minix_layout.specs.Bits.{put_bit}
-use Rattle.minix_layout.specs.BitLaws.{bit_read_back, other_bit}
+use Rattle.minix_layout.specs.laws.BitLaws.{bit_read_back, other_bit}
 use Rattle.minix_layout.proofs.bits.write_bit.Goals as goal
 
 pub returns-clause-read : goal.returns-clause-read

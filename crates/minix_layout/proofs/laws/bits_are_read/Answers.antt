@@ -1,4 +1,4 @@
-use Rattle.minix_layout.specs.BitLaws.{bit_read_back, other_bit, byte_beside_bit}
+use Rattle.minix_layout.specs.laws.BitLaws.{bit_read_back, other_bit, byte_beside_bit}
 use Rattle.minix_layout.proofs.laws.bits_are_read.Goals as goal
 
 pub returns : goal.returns

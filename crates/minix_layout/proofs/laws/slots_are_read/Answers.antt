@@ -1,4 +1,4 @@
-use Rattle.minix_layout.specs.SlotLaws.{slot_read_back, other_slot, byte_beside_slot}
+use Rattle.minix_layout.specs.laws.SlotLaws.{slot_read_back, other_slot, byte_beside_slot}
 use Rattle.minix_layout.proofs.laws.slots_are_read.Goals as goal
 
 pub returns : goal.returns

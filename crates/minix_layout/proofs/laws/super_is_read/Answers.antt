@@ -1,4 +1,4 @@
-use Rattle.minix_layout.specs.SuperLaws.{super_read}
+use Rattle.minix_layout.specs.laws.SuperLaws.{super_read}
 use Rattle.minix_layout.proofs.laws.super_is_read.Goals as goal
 
 pub returns : goal.returns

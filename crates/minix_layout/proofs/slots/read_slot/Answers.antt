@@ -1,4 +1,4 @@
-use Rattle.minix_layout.specs.SlotLaws.{slot_free, slot_fault, slot_bad}
+use Rattle.minix_layout.specs.laws.SlotLaws.{slot_free, slot_fault, slot_bad}
 use Rattle.minix_layout.proofs.slots.read_slot.Goals as goal
 
 pub returns-clause-free : goal.returns-clause-free

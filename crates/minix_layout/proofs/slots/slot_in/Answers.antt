@@ -3,7 +3,7 @@ use Rattle.std.specs.List.{list_any}
 use Rattle.byte_fields.specs.Fields.{bytes_at}
 use Rattle.minix_layout.specs.Slots.{name_in, is_bad_name}
 use Rattle.minix_layout.specs.Words.{is_name}
-use Rattle.minix_layout.specs.SlotLaws.{used_bad, used_good, name_some, name_none, bad_slash, bad_empty, good_name}
+use Rattle.minix_layout.specs.laws.SlotLaws.{used_bad, used_good, name_some, name_none, bad_slash, bad_empty, good_name}
 use Rattle.minix_layout.proofs.slots.slot_in.Goals as goal
 
 pub returns-then-contains-clause-value : goal.returns-then-contains-clause-value

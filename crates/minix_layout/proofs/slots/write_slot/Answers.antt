@@ -1,5 +1,5 @@
 use Rattle.std.specs.Option.{option_copied}
-use Rattle.minix_layout.specs.SlotLaws.{slot_read_back, other_slot, all_entries}
+use Rattle.minix_layout.specs.laws.SlotLaws.{slot_read_back, other_slot, all_entries}
 use Rattle.minix_layout.proofs.slots.write_slot.Goals as goal
 
 pub returns-clause-read : goal.returns-clause-read

@@ -1,4 +1,4 @@
-use Rattle.minix_layout.specs.SuperLaws.{super_sound, name_width, bad_magic, bad_geometry}
+use Rattle.minix_layout.specs.laws.SuperLaws.{super_sound, name_width, bad_magic, bad_geometry}
 use Rattle.minix_layout.proofs.superblock.read_super.Goals as goal
 
 pub returns-clause-sound : goal.returns-clause-sound

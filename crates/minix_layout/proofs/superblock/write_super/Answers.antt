@@ -1,5 +1,5 @@
 use Rattle.std.proofs.Common.{refl}
-use Rattle.minix_layout.specs.SuperLaws.{super_read}
+use Rattle.minix_layout.specs.laws.SuperLaws.{super_read}
 use Rattle.minix_layout.specs.Super.{super_block}
 use Rattle.minix_layout.proofs.superblock.write_super.Goals as goal
 

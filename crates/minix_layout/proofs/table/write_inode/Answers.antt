@@ -1,4 +1,4 @@
-use Rattle.minix_layout.specs.InodeLaws.{inode_read_back, other_inode}
+use Rattle.minix_layout.specs.laws.InodeLaws.{inode_read_back, other_inode}
 use Rattle.minix_layout.proofs.table.write_inode.Goals as goal
 
 pub returns-clause-read : goal.returns-clause-read

@@ -1,4 +1,4 @@
-use Rattle.volume_ops.specs.ReadsLaws.{answer-agrees, blocks_read-agree}
+use Rattle.volume_ops.specs.laws.ReadsLaws.{answer-agrees, blocks_read-agree}
 use Rattle.volume_ops.specs.Volume.{disk_of, walked}
 use Rattle.volume_ops.specs.Walk.{walk_volume}
 use Rattle.volume_ops.proofs.laws.walks_read_metadata_alone.Goals as goal

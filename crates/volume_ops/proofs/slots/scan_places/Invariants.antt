@@ -1,6 +1,6 @@
 use Rattle.std.proofs.Common.{◌≡◌, ◌-◌}
 use Rattle.std.specs.List.{range_with_len}
-use Rattle.volume_ops.specs.Births.{AreBirths}
+use Rattle.volume_ops.specs.code.Births.{AreBirths}
 use Rattle.volume_ops.specs.Reads.{answer}
 use Rattle.volume_ops.specs.Slots.{scan_places}
 use Rattle.volume_ops.specs.Volume.{disk_of}

@@ -1,5 +1,5 @@
 use Rattle.std.proofs.Common.{◌≡◌, [], drop}
-use Rattle.volume_ops.specs.Births.{AreBirths}
+use Rattle.volume_ops.specs.code.Births.{AreBirths}
 use Rattle.volume_ops.specs.Reads.{answer}
 use Rattle.volume_ops.specs.Slots.{scan_slots}
 use Rattle.volume_ops.specs.Volume.{disk_of}

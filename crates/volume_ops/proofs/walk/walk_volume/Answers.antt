@@ -1,7 +1,7 @@
 use Rattle.std.proofs.Common.{◌≡◌, ◌<◌, ◌^◌, true, false, length, sym, ◌∙◌, arith}
 use Rattle.std.proofs.lemmas.List.Elements.{All-nil}
 use Rattle.volume_ops.specs.Marks.{is_marked}
-use Rattle.volume_ops.specs.Visits.{IsPending}
+use Rattle.volume_ops.specs.code.Visits.{IsPending}
 use Rattle.volume_ops.specs.Volume.{disk_of}
 use Rattle.volume_ops.proofs.GoesOn.{told_at_exit}
 use Rattle.volume_ops.proofs.WalkSteps.{walk_first, walk_first_fault, first_length, turn_met, turn_fault, turn_visit, turn_length, turn_smaller, last_pending}

@@ -1,6 +1,6 @@
 use Rattle.std.proofs.Common.{◌≡◌, ◌+◌, ◌*◌, ◌^◌, length, reverse}
 use Rattle.volume_ops.specs.Reads.{answer}
-use Rattle.volume_ops.specs.Visits.{ArePending}
+use Rattle.volume_ops.specs.code.Visits.{ArePending}
 use Rattle.volume_ops.specs.Volume.{disk_of, walked}
 use Rattle.volume_ops.specs.Walk.{walk}
 use Rattle.volume_ops.proofs.UnmetMarks.{to_meet}

@@ -1,7 +1,7 @@
 -- The request that was found is the one that was picked.
 use Rattle.std.proofs.Common.{ap, sym, subst, ◌∙◌}
 use Rattle.barrier_reassign.specs.Epoch.{EpochState, leaving, left}
-use Rattle.barrier_reassign.specs.Kept.{IsPicked}
+use Rattle.barrier_reassign.specs.code.Kept.{IsPicked}
 use Rattle.barrier_reassign.proofs.Leaving.{picked-at, picked-may_leave}
 use Rattle.barrier_reassign.proofs.queue.EpochQueue.leave.Goals as goal
 

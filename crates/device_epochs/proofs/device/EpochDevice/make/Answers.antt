@@ -2,8 +2,8 @@ use Rattle.std.proofs.Common.{length, sym, ap, subst, ◌∙◌, arith, rules}
 use Rattle.circular_buffer.specs.Buffer.{Buffer}
 use Rattle.order_model.specs.declared.completion.Completion.{Completion}
 use Rattle.order_model.specs.declared.history.DeviceRecord.{DeviceRecord}
-use Rattle.device_epochs.specs.Valid.{IsValid}
-use Rattle.device_epochs.specs.Laws.{opened-valid}
+use Rattle.device_epochs.specs.laws.Valid.{IsValid}
+use Rattle.device_epochs.specs.laws.ReachableLaws.{opened-valid}
 use Rattle.device_epochs.proofs.Moves.{opened_to}
 use Rattle.device_epochs.proofs.device.EpochDevice.make.Goals as goal
 

@@ -2,9 +2,9 @@ use Rattle.std.proofs.Common.{sym, ap, subst, arith}
 use Rattle.circular_buffer.specs.Buffer.{Buffer}
 use Rattle.order_model.specs.declared.completion.Completion.{Completion}
 use Rattle.order_model.specs.History.{HistoryState}
-use Rattle.device_epochs.specs.Valid.{IsValid}
-use Rattle.device_epochs.specs.Fields.{state_of}
-use Rattle.device_epochs.specs.Laws.{answered-valid}
+use Rattle.device_epochs.specs.laws.Valid.{IsValid}
+use Rattle.device_epochs.specs.code.Fields.{state_of}
+use Rattle.device_epochs.specs.laws.ReachableLaws.{answered-valid}
 use Rattle.device_epochs.proofs.Moves.{told_to}
 use Rattle.device_epochs.proofs.device.EpochDeviceOrderedDev.answer.Goals as goal
 

@@ -1,6 +1,6 @@
 use Rattle.std.proofs.Common.{arith}
-use Rattle.device_epochs.specs.Fields.{state_of}
-use Rattle.device_epochs.specs.BoundLaws.{steps-le}
+use Rattle.device_epochs.specs.code.Fields.{state_of}
+use Rattle.device_epochs.specs.laws.BoundLaws.{steps-le}
 use Rattle.device_epochs.proofs.device.EpochDeviceOrderedDev.can_persist.Goals as goal
 
 pub overflow_cast-result : goal.overflow_cast-result

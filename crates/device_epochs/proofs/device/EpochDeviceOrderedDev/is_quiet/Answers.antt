@@ -2,7 +2,7 @@ use Rattle.std.proofs.Common.{◌≡◌, true, false, length, subst, arith, rule
 use Rattle.std.proofs.lemmas.Bool.{both_ways}
 use Rattle.order_model.specs.Device.{IsQuiet}
 use Rattle.device_epochs.specs.Device.{DeviceState, seen}
-use Rattle.device_epochs.specs.Fields.{state_of}
+use Rattle.device_epochs.specs.code.Fields.{state_of}
 use Rattle.device_epochs.proofs.Moves.{quiet_when, not_quiet}
 use Rattle.device_epochs.proofs.device.EpochDeviceOrderedDev.is_quiet.Goals as goal
 use Rattle.device_epochs.proofs.device.EpochDeviceOrderedDev.is_quiet.Goals.{then-self-via-then-self, then-self-via-else-self+then-not-is_empty, then-self-via-else-self+else-not-is_empty+then-not-is_empty-2}

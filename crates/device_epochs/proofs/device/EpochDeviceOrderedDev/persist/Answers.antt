@@ -3,8 +3,8 @@ use Rattle.std.specs.Prelude.{slice_get}
 use Rattle.std.specs.Option.{option_map}
 use Rattle.order_model.specs.declared.part.Part.{Part}
 use Rattle.device_epochs.specs.Device.{DeviceState, persistable}
-use Rattle.device_epochs.specs.Valid.{IsValid}
-use Rattle.device_epochs.specs.Fields.{state_of}
+use Rattle.device_epochs.specs.laws.Valid.{IsValid}
+use Rattle.device_epochs.specs.code.Fields.{state_of}
 use Rattle.device_epochs.proofs.Moves.{can_write_from, written_to, a_step}
 use Rattle.device_epochs.proofs.device.EpochDeviceOrderedDev.persist.Goals as goal
 

@@ -5,10 +5,10 @@ use Rattle.order_model.specs.History.{HistoryState}
 use Rattle.order_model.specs.Device.{IsReceivable}
 use Rattle.command_queue.specs.Queue.{arrived}
 use Rattle.device_epochs.specs.Device.{DeviceState, seen, has_room, is_off}
-use Rattle.device_epochs.specs.Valid.{IsValid}
-use Rattle.device_epochs.specs.Fields.{state_of}
-use Rattle.device_epochs.specs.BoundLaws.{receivable-fits}
-use Rattle.device_epochs.specs.Laws.{received-valid}
+use Rattle.device_epochs.specs.laws.Valid.{IsValid}
+use Rattle.device_epochs.specs.code.Fields.{state_of}
+use Rattle.device_epochs.specs.laws.BoundLaws.{receivable-fits}
+use Rattle.device_epochs.specs.laws.ReachableLaws.{received-valid}
 use Rattle.device_epochs.proofs.Moves.{received_to}
 use Rattle.device_epochs.proofs.device.EpochDeviceOrderedDev.receive.Goals as goal
 

@@ -2,7 +2,7 @@
 use Rattle.std.proofs.Common.{refl, sym, subst}
 use Rattle.barrier_reassign.specs.Scheduler.{IsAcceptable}
 use Rattle.barrier_reassign.specs.Sched.{seen_of}
-use Rattle.epoch_sched.specs.Fields.{state_of}
+use Rattle.epoch_sched.specs.code.Fields.{state_of}
 use Rattle.epoch_sched.proofs.Steps.{accepted_fields}
 use Rattle.epoch_sched.proofs.sched.SchedScheduler.accept.Goals as goal
 

@@ -1,7 +1,7 @@
 -- The fields behind a request that left.
 use Rattle.std.proofs.Common.{◌∙◌, ap₂, sym, arith}
 use Rattle.order_model.specs.Single.{command_of_request}
-use Rattle.epoch_sched.specs.Fields.{state_of}
+use Rattle.epoch_sched.specs.code.Fields.{state_of}
 use Rattle.epoch_sched.proofs.Steps.{leaving-some, sent_room, parts_room, dispatched_fields}
 use Rattle.epoch_sched.proofs.sched.SchedScheduler.dispatch.Goals as goal
 

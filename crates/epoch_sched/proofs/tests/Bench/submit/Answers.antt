@@ -1,7 +1,7 @@
 use Rattle.std.proofs.Common.{rules, length, ap, sym, subst, ◌∙◌, arith}
 use Rattle.std.proofs.lemmas.List.{length_push}
 use Rattle.order_model.specs.Carrying.{AreAtIds}
-use Rattle.barrier_reassign.specs.Places.{next_id-new, AreAtIds-push}
+use Rattle.barrier_reassign.specs.laws.Places.{next_id-new, AreAtIds-push}
 use Rattle.barrier_reassign.specs.Sched.{SchedState}
 use Rattle.epoch_sched.proofs.tests.Bench.submit.Goals as goal
 

@@ -1,7 +1,7 @@
 use Rattle.std.proofs.Common.{◌∙◌, ap, arith, length, length-append}
 use Rattle.byte_fields.specs.Fields.{bytes_of}
 use Rattle.byte_fields.specs.Fields.Order.{big}
-use Rattle.byte_fields.specs.Laws.{length-bytes_of}
+use Rattle.byte_fields.specs.laws.ReadLaws.{length-bytes_of}
 use Rattle.journal_blocks.proofs.Fronts.{length-front, front-put, written-put}
 use Rattle.journal_blocks.proofs.cursor.Cursor.put_u32.Goals as goal
 

@@ -1,6 +1,6 @@
 use Rattle.std.proofs.Common.{◌∙◌, ap, arith, length, length-append}
 use Rattle.byte_fields.specs.Fields.{zeros}
-use Rattle.byte_fields.specs.Laws.{length-zeros}
+use Rattle.byte_fields.specs.laws.ReadLaws.{length-zeros}
 use Rattle.journal_blocks.proofs.Fronts.{length-front, front-skip, written-skip}
 use Rattle.journal_blocks.proofs.cursor.Cursor.skip.Goals as goal
 

@@ -1,7 +1,7 @@
 use Rattle.std.proofs.Common.{◌≡◌, ap, sym, ◌∙◌, reverse, subst}
 use Rattle.std.proofs.lemmas.Result.{on_ok_weaker, IfErr-weaker}
 use Rattle.volume_ops.specs.Reads.{answer}
-use Rattle.volume_ops.specs.Visits.{met_next, directory_visit}
+use Rattle.volume_ops.specs.code.Visits.{met_next, directory_visit}
 use Rattle.volume_ops.specs.Volume.{disk_of}
 use Rattle.volume_ops.specs.Walk.{Pending, visit}
 use Rattle.volume_ops.proofs.GoesOn.{told_on}

@@ -1,0 +1,9 @@
+-- Laws, their lemmas and the words of lemmas.
+pub mod AcceptedLaws
+pub mod DispatchedLaws
+pub mod OrderLaws
+pub mod Places
+pub mod ProgressLaws
+pub mod SchedulerLaws
+pub mod Valid
+pub mod WentLaws

@@ -1,0 +1,138 @@
+-- How many commands, parts, completions, entries and steps there are at most, by the ids that may be taken.
+use Rattle.std.specs.Prelude.{◌≡◌, ℕ, ◌+◌, ◌<◌, ◌≤◌, ◌==◌, true, false, List, [], ◌∷◌, length, map, Option, Some, None, is_some, refl}
+use Rattle.std.specs.Option.{option_to_list}
+use Rattle.std.proofs.Common.{◌∙◌, inl, inr, ⊎_elim, arith, length-append}
+use Rattle.std.proofs.lemmas.Bool.{cases_lt, eq-eqb, both_ways, cases_Bool}
+use Rattle.std.proofs.lemmas.List.{length-map}
+use Rattle.blk_base.specs.Members.{In}
+use Rattle.order_model.specs.declared.part.Part.{Part}
+use Rattle.order_model.specs.declared.command.Command.{Command}
+use Rattle.order_model.specs.Received.{all_parts, ids_of, all_ids, completions_of, failures_of}
+use Rattle.order_model.specs.Device.{IsReceivable}
+use Rattle.command_queue.specs.Queue.{Waiting}
+use Rattle.device_epochs.specs.Device.{DeviceState, transferable, seen}
+use Rattle.device_epochs.specs.laws.Valid.{left, IsValid}
+use Rattle.device_epochs.specs.laws.PendingLaws.{numbered, waits}
+use Rattle.device_epochs.specs.laws.QueueLaws.{sum_by-without}
+use Rattle.device_epochs.specs.laws.CompletionLaws.{length-completions, length-failures}
+use Rattle.device_epochs.specs.laws.CountLaws.{work}
+use Rattle.device_epochs.specs.laws.StepLaws.{untold, transferable-In, transferable-waits}
+
+-- ---- commands and parts, by their ids
+
+pub parts-le_ids : (c : Command) → length c.parts ≤ length (ids_of c)
+parts-le_ids c =
+    let n = length-append (map (λ (p : Part). p.id) c.parts) (option_to_list c.flush) in
+    let m = length-map c.parts (λ (p : Part). p.id) in
+    omega arith
+
+flush-some_ids : (o : Option ℕ) → is_some o ≡ true → 0 < length (option_to_list o)
+flush-some_ids None e = absurd (both_ways false refl e)
+flush-some_ids (Some id) e = omega arith
+
+-- a command that is a flush or has parts has some id
+pub some_ids : (c : Command) → is_some c.flush ≡ (length c.parts == 0) → 0 < length (ids_of c)
+some_ids c whole =
+    let n = length-append (map (λ (p : Part). p.id) c.parts) (option_to_list c.flush) in
+    let m = length-map c.parts (λ (p : Part). p.id) in
+    ⊎_elim
+    (λ some. omega arith)
+    (λ none.
+    let k = flush-some_ids c.flush (whole ∙ eq-eqb (length c.parts) 0 (omega arith)) in
+    omega arith)
+    (cases_lt 0 (length c.parts))
+
+pub all_parts-le_ids : (took : List Command) → length (all_parts took) ≤ length (all_ids took)
+all_parts-le_ids [] = omega arith
+all_parts-le_ids (c ∷ cs) =
+    let parts = length-append c.parts (all_parts cs) in
+    let ids = length-append (ids_of c) (all_ids cs) in
+    let one = parts-le_ids c in
+    let rest = all_parts-le_ids cs in
+    omega arith
+
+pub took-le_ids : (took : List Command) → ((c : Command) → In c took → is_some c.flush ≡ (length c.parts == 0)) → length took ≤ length (all_ids took)
+took-le_ids [] h = omega arith
+took-le_ids (c ∷ cs) h =
+    let ids = length-append (ids_of c) (all_ids cs) in
+    let one = some_ids c (h c (inl refl)) in
+    let rest = took-le_ids cs (λ d i. h d (inr i)) in
+    omega arith
+
+pub took-le : (s : DeviceState) → IsValid s → length s.took ≤ s.limit
+took-le s v = let n = took-le_ids s.took v.commands.whole in let few = v.commands.few in omega arith
+
+pub all_parts-le : (s : DeviceState) → IsValid s → length (all_parts s.took) ≤ s.limit
+all_parts-le s v = let n = all_parts-le_ids s.took in let few = v.commands.few in omega arith
+
+-- there is room for a command that may be given
+pub receivable-fits : (s : DeviceState) (c : Command) → IsValid s → IsReceivable (seen s) c → (length s.took < s.limit) × (length (all_parts s.took) + length c.parts ≤ s.limit)
+receivable-fits s c v r =
+    let few = r.few in
+    let n = length-append (all_ids s.took) (ids_of c) in
+    let took = took-le_ids s.took v.commands.whole in
+    let parts = all_parts-le_ids s.took in
+    let some = some_ids c r.whole in
+    let more = parts-le_ids c in
+    (omega arith, omega arith)
+
+-- ---- steps and epochs
+
+pub steps-le : (s : DeviceState) → IsValid s → left s + s.steps ≤ s.limit + s.limit
+steps-le s v = let a = took-le s v in let b = all_parts-le s v in let c = v.counts.steps in omega arith
+
+-- while something can be transferred or written, there is a step left
+pub steps-lt_transferable : (s : DeviceState) (w : Waiting) → IsValid s → In w (transferable s) → s.steps < s.limit + s.limit
+steps-lt_transferable s w v h =
+    let n = steps-le s v in
+    let m = sum_by-without work s.queue.next s.queue.waiting w (numbered s v) (transferable-waits s w h) in
+    omega arith
+
+pub steps-lt_persistable : (s : DeviceState) → IsValid s → 0 < length s.cache → s.steps < s.limit + s.limit
+steps-lt_persistable s v some = let n = steps-le s v in omega arith
+
+pub epoch-le : (s : DeviceState) → IsValid s → s.epoch ≤ s.limit + s.limit
+epoch-le s v = let n = steps-le s v in let m = v.counts.epochs in omega arith
+
+-- a command that goes into the cache fits there, and among what was moved and what completed
+pub moved-fits : (s : DeviceState) (w : Waiting) → IsValid s → In w (transferable s) → length s.moved + length w.command.parts ≤ s.limit
+moved-fits s w v h =
+    let n = all_parts-le s v in
+    let m = sum_by-without (λ (x : Waiting). length x.command.parts) s.queue.next v.pending w v.queue.numbered (waits s v w (transferable-waits s w h)) in
+    let k = v.counts.moved in
+    omega arith
+
+pub cache-fits : (s : DeviceState) (w : Waiting) → IsValid s → In w (transferable s) → length s.cache + length w.command.parts < s.limit + s.limit
+cache-fits s w v h =
+    let n = steps-le s v in
+    let m = sum_by-without work s.queue.next s.queue.waiting w (numbered s v) (transferable-waits s w h) in
+    omega arith
+
+ids-fit : (s : DeviceState) (w : Waiting) → IsValid s → In w (transferable s) → length s.sent + length s.waiting + length (ids_of w.command) ≤ s.limit
+ids-fit s w v h =
+    let m = sum_by-without (λ (x : Waiting). length (ids_of x.command)) s.queue.next s.queue.waiting w (numbered s v) (transferable-waits s w h) in
+    let few = v.commands.few in
+    let all = rw (untold s v (transferable-In s w h).0) at v.counts.completions in
+    omega arith
+
+pub completions-fit : (s : DeviceState) (w : Waiting) → IsValid s → In w (transferable s) → length s.sent + length s.waiting + length (completions_of w.command) ≤ s.limit
+completions-fit s w v h = let n = ids-fit s w v h in let k = length-completions w.command in omega arith
+
+pub failures-fit : (s : DeviceState) (w : Waiting) → IsValid s → In w (transferable s) → length s.sent + length s.waiting + length (failures_of w.command) ≤ s.limit
+failures-fit s w v h = let n = ids-fit s w v h in let k = length-failures w.command in omega arith
+
+-- what was handed out, and what can be, is at most one for each id and one for the cut
+pub sent-le : (s : DeviceState) → IsValid s → length s.sent + length s.waiting ≤ s.limit + 1
+sent-le s v =
+    let few = v.commands.few in
+    let all = v.counts.completions in
+    elim (cases_Bool s.told) [
+      | inl t ↦ let k = rw t at all in omega arith
+      | inr n ↦ let k = rw n at all in omega arith
+    ]
+
+pub sent-le_untold : (s : DeviceState) → IsValid s → s.told ≡ false → length s.sent + length s.waiting ≤ s.limit
+sent-le_untold s v n =
+    let few = v.commands.few in
+    let all = rw n at v.counts.completions in
+    omega arith

@@ -1,0 +1,219 @@
+-- What may be transferred and written, and what each step does to what is seen.
+use Rattle.std.specs.Prelude.{◌≡◌, ℕ, ◌<◌, ◌≤◌, ◌++◌, ◌==◌, not, true, false, List, [], ◌∷◌, length, Bool, Option, Some, None, slice_get, refl, if◌then◌else◌}
+use Rattle.std.proofs.Common.{sym, ap, subst, ◌∙◌, inl, inr, arith}
+use Rattle.std.proofs.lemmas.Bool.{cases_Bool, and_parts, or_parts, both_ways, not-true, false_from_ne_true}
+use Rattle.std.proofs.lemmas.List.{append-nil}
+use Rattle.std.proofs.lemmas.Option.{none-some}
+use Rattle.blk_base.specs.Members.{In, In-filter, filter-In, slice_get-In, slice_get-in_range, slice_get-out}
+use Rattle.order_model.specs.declared.command.Command.{Command}
+use Rattle.order_model.specs.declared.completion.Completion.{Completion}
+use Rattle.order_model.specs.declared.completion.Completion.TheVariants.{Cut}
+use Rattle.order_model.specs.Received.{completions_of, failures_of}
+use Rattle.order_model.specs.Steps.{Receives, Tells, Transfers, Persists, Answers}
+use Rattle.command_queue.specs.Queue.{Waiting, eligible}
+use Rattle.device_epochs.specs.declared.cache.Entry.{Entry}
+use Rattle.device_epochs.specs.Cache.{oldest}
+use Rattle.device_epochs.specs.Device.{DeviceState, is_off, is_next, received, may_transfer, has_stopped, transferable, moved_in, failed_on, tried, transferred, persistable, written, persisted, tells_cut, answers_left, next_answer, answered, answered_from, seen}
+use Rattle.device_epochs.specs.laws.PendingLaws.{waits}
+use Rattle.device_epochs.specs.laws.QueueLaws.{eligible-waits}
+use Rattle.device_epochs.specs.laws.Valid.{IsValid}
+
+-- ---- which steps can be taken
+
+-- the cut is not told while the power is on
+pub untold : (s : DeviceState) → IsValid s → is_off s ≡ false → s.told ≡ false
+untold s v on = false_from_ne_true s.told (λ t. both_ways (is_off s) on (v.completions.told_off t))
+
+pub transferable-In : (s : DeviceState) (w : Waiting) → In w (transferable s) → (is_off s ≡ false) × In w (eligible s.queue.waiting) × (may_transfer s w ≡ true) × (s.failed ≡ false)
+transferable-In s w h =
+    elim (cases_Bool (has_stopped s)) [
+      | inl t ↦ absurd (rw t at h)
+      | inr n ↦
+          let i = In-filter (may_transfer s) (eligible s.queue.waiting) w (rw n at h) in
+          let p = or_parts (is_off s) s.failed n in
+          (p.0, i.0, i.1, p.1)
+    ]
+
+pub transferable-waits : (s : DeviceState) (w : Waiting) → In w (transferable s) → In w s.queue.waiting
+transferable-waits s w h = eligible-waits s.queue.waiting w (transferable-In s w h).1
+
+pub is-transferable : (s : DeviceState) (w : Waiting) → is_off s ≡ false → s.failed ≡ false → In w (eligible s.queue.waiting) → may_transfer s w ≡ true → In w (transferable s)
+is-transferable s w n f h m =
+    let goes : has_stopped s ≡ false = rw (n, f) refl in
+    rw goes (filter-In (may_transfer s) (eligible s.queue.waiting) w h m)
+
+-- ---- a transfer that is performed, and one that fails
+
+pub tried-fails : (s : DeviceState) (w : Waiting) → is_next s.fail_at ≡ true → tried s (Some w) ≡ failed_on s w
+tried-fails s w t = rw t refl
+
+pub tried-moves : (s : DeviceState) (w : Waiting) → is_next s.fail_at ≡ false → tried s (Some w) ≡ moved_in s w
+tried-moves s w n = rw n refl
+
+-- what holds of the old state, of one in which the command failed and of one in which it was moved holds after the transfer
+pub tried-all : (P : DeviceState → Type 0) (s : DeviceState) (o : Option Waiting) → P s
+    → ((w : Waiting) → o ≡ Some w → is_next s.fail_at ≡ true → P (failed_on s w))
+    → ((w : Waiting) → o ≡ Some w → is_next s.fail_at ≡ false → P (moved_in s w)) → P (tried s o)
+tried-all P s None same fails moves = same
+tried-all P s (Some w) same fails moves =
+    elim (cases_Bool (is_next s.fail_at)) [
+      | inl t ↦ subst P (sym (tried-fails s w t)) (fails w refl t)
+      | inr n ↦ subst P (sym (tried-moves s w n)) (moves w refl n)
+    ]
+
+oldest-In : (cache : List Entry) (e : Entry) → In e (oldest cache) → In e cache
+oldest-In [] e h = absurd h
+oldest-In (d ∷ ds) e h = (In-filter (λ (f : Entry). f.epoch == d.epoch) (d ∷ ds) e h).0
+
+pub persistable-In : (s : DeviceState) (e : Entry) → In e (persistable s) → (is_off s ≡ false) × In e (oldest s.cache) × In e s.cache
+persistable-In s e h =
+    elim (cases_Bool (is_off s)) [
+      | inl t ↦ absurd (rw t at h)
+      | inr n ↦ let i : In e (oldest s.cache) = rw n at h in (n, i, oldest-In s.cache e i)
+    ]
+
+-- ---- the shape of each step
+
+pub Receives-received : (s : DeviceState) (c : Command) → Receives (seen s) c (seen (received s c))
+Receives-received s c = refl
+
+-- completions go behind those that wait, and behind them that the power went off
+Tells-new : (s new : DeviceState) (done : List Completion) → IsValid s → is_off s ≡ false → new.told ≡ s.told → new.waiting ≡ s.waiting ++ done → Tells (seen s) done (seen new)
+Tells-new s new done v on same added =
+    let not_told : new.told ≡ false = same ∙ untold s v on in
+    let old : answers_left s ≡ s.waiting ++ [] = rw on refl in
+    let before = sym (old ∙ append-nil s.waiting) in
+    elim (cases_Bool (is_off new)) [
+      | inl t ↦
+          let after : answers_left new ≡ new.waiting ++ Cut ∷ [] = rw (t, not_told) refl in
+          inr (on, t, after ∙ ap (λ (l : List Completion). l ++ Cut ∷ []) (added ∙ ap (λ (l : List Completion). l ++ done) before))
+      | inr n ↦
+          let after : answers_left new ≡ new.waiting ++ [] = rw n refl in
+          inl (after ∙ append-nil new.waiting ∙ added ∙ ap (λ (l : List Completion). l ++ done) before)
+    ]
+
+Transfers-moved_in : (s : DeviceState) (w : Waiting) → IsValid s → is_off s ≡ false → slice_get s.took w.number ≡ Some w.command → Transfers (seen s) (seen (moved_in s w))
+Transfers-moved_in s w v on taken = record {
+  given = record { base = refl; limit = refl; took = refl; sent = refl };
+  surface = refl;
+  origins = refl;
+  steps = refl;
+  number = w.number;
+  command = w.command;
+  taken = taken;
+  outcome = inl (record { epoch = s.epoch; moved = refl; told = Tells-new s (moved_in s w) (completions_of w.command) v on refl refl; failed = refl; faults = refl });
+}
+
+Transfers-failed_on : (s : DeviceState) (w : Waiting) → IsValid s → is_off s ≡ false → slice_get s.took w.number ≡ Some w.command → Transfers (seen s) (seen (failed_on s w))
+Transfers-failed_on s w v on taken = record {
+  given = record { base = refl; limit = refl; took = refl; sent = refl };
+  surface = refl;
+  origins = refl;
+  steps = refl;
+  number = w.number;
+  command = w.command;
+  taken = taken;
+  outcome = inr (record { moved = refl; told = Tells-new s (failed_on s w) (failures_of w.command) v on refl refl; failed = refl; faults = λ lt. omega arith });
+}
+
+pub Transfers-transferred : (s : DeviceState) (pick : ℕ) → IsValid s → pick < length (transferable s) → Transfers (seen s) (seen (transferred s pick))
+Transfers-transferred s pick v lt =
+    let w = slice_get-in_range (transferable s) pick lt in
+    let h = slice_get-In (transferable s) pick w.0 w.1 in
+    let on = (transferable-In s w.0 h).0 in
+    let taken = v.queue.queued w.0 (waits s v w.0 (transferable-waits s w.0 h)) in
+    elim (cases_Bool (is_next s.fail_at)) [
+      | inl t ↦ subst (λ (n : DeviceState). Transfers (seen s) (seen n)) (sym (ap (tried s) w.1 ∙ tried-fails s w.0 t)) (Transfers-failed_on s w.0 v on taken)
+      | inr n ↦ subst (λ (n : DeviceState). Transfers (seen s) (seen n)) (sym (ap (tried s) w.1 ∙ tried-moves s w.0 n)) (Transfers-moved_in s w.0 v on taken)
+    ]
+
+pub no_transfer : (s : DeviceState) (pick : ℕ) → length (transferable s) ≤ pick → transferred s pick ≡ s
+no_transfer s pick le = ap (tried s) (slice_get-out (transferable s) pick le)
+
+pub no_persist : (s : DeviceState) (pick : ℕ) → length (persistable s) ≤ pick → persisted s pick ≡ s
+no_persist s pick le = ap (written s) (slice_get-out (persistable s) pick le)
+
+-- an entry goes to the medium while the power is on
+pub Persists-written : (s : DeviceState) → IsValid s → (e : Entry) → is_off s ≡ false → Persists (seen s) (seen (written s (Some e)))
+Persists-written s v e on =
+    let not_told = untold s v on in
+    let before : answers_left s ≡ s.waiting ++ [] = rw on refl in
+    record {
+      given = record { base = refl; limit = refl; took = refl; sent = refl };
+      moved = refl;
+      waiting =
+          elim (cases_Bool (is_off (written s (Some e)))) [
+            | inl t ↦
+                let after : answers_left (written s (Some e)) ≡ s.waiting ++ Cut ∷ [] = rw (t, not_told) refl in
+                inr (on, t, after ∙ ap (λ (l : List Completion). l ++ Cut ∷ []) (sym (before ∙ append-nil s.waiting)))
+            | inr n ↦
+                let after : answers_left (written s (Some e)) ≡ s.waiting ++ [] = rw n refl in
+                inl (after ∙ sym before)
+          ];
+      failed = refl;
+      faults = refl;
+      steps = refl;
+    }
+
+on_from_persistable : (s : DeviceState) (pick : ℕ) → pick < length (persistable s) → is_off s ≡ false
+on_from_persistable s pick lt =
+    false_from_ne_true (is_off s) (λ t. let none : length (persistable s) ≡ 0 = rw t refl in absurd (omega arith))
+
+pub Persists-persisted : (s : DeviceState) → IsValid s → (pick : ℕ) → pick < length (persistable s) → Persists (seen s) (seen (persisted s pick))
+Persists-persisted s v pick lt =
+    let e = slice_get-in_range (persistable s) pick lt in
+    subst (λ o. Persists (seen s) (seen (written s o))) (sym e.1) (Persists-written s v e.0 (on_from_persistable s pick lt))
+
+nil_from_none : (cs : List Completion) → slice_get cs 0 ≡ None → cs ≡ []
+nil_from_none [] e = refl
+nil_from_none (c ∷ cs) e = absurd (none-some c (sym e))
+
+Answers-none : (s : DeviceState) → s.waiting ≡ [] → tells_cut s ≡ false → Answers (seen s) (next_answer s) (seen s)
+Answers-none s e n =
+    let nothing : answers_left s ≡ [] = rw (e, n) refl in
+    record {
+      rest = refl;
+      sent = rw nothing (sym (append-nil s.sent));
+      waiting = rw nothing refl;
+      none = λ z. nothing;
+    }
+
+Answers-from : (s : DeviceState) (cs : List Completion) → s.waiting ≡ cs → Answers (seen s) (next_answer s) (seen (answered_from s cs))
+Answers-from s (c ∷ cs) e =
+    record {
+      rest = refl;
+      sent = rw e refl;
+      waiting = rw e refl;
+      none = nil_from_none (answers_left s);
+    }
+Answers-from s [] e =
+    elim (cases_Bool (tells_cut s)) [
+      | inl t ↦
+          let p = and_parts (is_off s) (not s.told) t in
+          let untold : s.told ≡ false = not-true s.told p.1 in
+          rw t (record {
+            rest = refl;
+            sent = rw e refl;
+            waiting = rw (e, p.0) refl;
+            none = nil_from_none (s.waiting ++ Cut ∷ []);
+          })
+      | inr n ↦
+          subst
+          (λ b. Answers (seen s) (next_answer s) (seen (if b then record s { sent = s.sent ++ Cut ∷ []; told = true } else s)))
+          (sym n) (Answers-none s e n)
+    ]
+
+nothing_left : (s : DeviceState) (b : Bool) → tells_cut s ≡ b → slice_get (if b then Cut ∷ [] else []) 0 ≡ None → (if b then record s { sent = s.sent ++ Cut ∷ []; told = true } else s) ≡ s
+nothing_left s true e none = absurd (none-some Cut (sym none))
+nothing_left s false e none = refl
+
+no_answer-from : (s : DeviceState) (cs : List Completion) → slice_get (cs ++ (if tells_cut s then Cut ∷ [] else [])) 0 ≡ None → answered_from s cs ≡ s
+no_answer-from s (c ∷ cs) none = absurd (none-some c (sym none))
+no_answer-from s [] none = nothing_left s (tells_cut s) refl none
+
+-- where nothing is handed out, nothing changes
+pub no_answer : (s : DeviceState) → next_answer s ≡ None → answered s ≡ s
+no_answer s none = no_answer-from s s.waiting none
+
+pub Answers-answered : (s : DeviceState) → Answers (seen s) (next_answer s) (seen (answered s))
+Answers-answered s = Answers-from s s.waiting refl

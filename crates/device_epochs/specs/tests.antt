@@ -1,0 +1,2 @@
+-- Words of tests.
+pub mod Asked

@@ -1,0 +1,5 @@
+-- Laws, their lemmas and the words of lemmas.
+pub mod BitLaws
+pub mod InodeLaws
+pub mod SlotLaws
+pub mod SuperLaws
