@@ -90,6 +90,20 @@ def save(volume, path):
         image.write(volume.bytes)
 
 
+def full(path, zones):
+    """Files of 256 blocks, 64 in a directory, until nine tenths of the zones are used."""
+    files = (zones * 9 // 10) // 258
+    folders = -(-files // 64)
+    volume = Volume(1 + folders + files, zones)
+    volume.directory(1, 1, [(2 + f, b"folder%03d" % f) for f in range(folders)])
+    for f in range(folders):
+        held = range(64 * f, min(64 * (f + 1), files))
+        volume.directory(2 + f, 1, [(2 + folders + k, b"file%04d" % k) for k in held])
+        for k in held:
+            volume.file(2 + folders + k, bytes([k % 256]) * (256 * 1024))
+    save(volume, path)
+
+
 def filled(k):
     """Up to 20 blocks, each of one byte, and a last one that is cut."""
     blocks = bytes(b for block in range(k % 21) for b in [(k + block) % 256] * 1024)

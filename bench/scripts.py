@@ -6,29 +6,29 @@ import sys
 BLOCKS, REQUESTS = 4096, 10000
 
 
-def device(name, line):
+def device(name, line, requests=REQUESTS):
     """A device script: line(i) is request i; all are received, transferred and persisted."""
-    body = [line(i) for i in range(REQUESTS)]
+    body = [line(i) for i in range(requests)]
     text = ["device %d" % BLOCKS] + body + ["events"]
     done = 0
-    while done < REQUESTS:
-        n = min(32, REQUESTS - done)
+    while done < requests:
+        n = min(32, requests - done)
         text += ["receive x %d" % n, "transfer 0 x %d" % n]
         done += n
-    text += ["persist 0 x %d" % REQUESTS]
+    text += ["persist 0 x %d" % requests]
     return name, "\n".join(text) + "\n"
 
 
-def blocks(name, line, batch, header=()):
+def blocks(name, line, batch, header=(), requests=REQUESTS):
     """A blocks script: requests go through the scheduler, so many at a time."""
-    body = [line(i) for i in range(REQUESTS)]
+    body = [line(i) for i in range(requests)]
     text = ["blocks %d" % BLOCKS, *header] + body + ["events"]
     done = 0
-    while done < REQUESTS:
-        n = min(batch, REQUESTS - done)
+    while done < requests:
+        n = min(batch, requests - done)
         text += [event + " x %d" % n for event in ("submit", "accept", "dispatch 0", "receive", "transfer 0")]
         done += n
-    text += ["persist 0 x %d" % REQUESTS]
+    text += ["persist 0 x %d" % requests]
     return name, "\n".join(text) + "\n"
 
 
