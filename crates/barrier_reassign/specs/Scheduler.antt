@@ -1,5 +1,5 @@
 -- What a scheduler is: its steps over a plain state, and what they keep.
-use Rattle.std.specs.Prelude.{◌≡◌, ℕ, ◌<◌, ◌≤◌, ◌++◌, ◌↔◌, Bool, true, false, List, [], ◌∷◌, length, Option, None}
+use Rattle.std.specs.Prelude.{◌≡◌, ℕ, ◌<◌, ◌≤◌, ◌++◌, ◌↔◌, Bool, true, false, [], ◌∷◌, length, Option, None}
 use Rattle.std.specs.Option.{option_to_list}
 use Rattle.blk_base.specs.Members.{In}
 use Rattle.order_model.specs.declared.command.Command.{Command}

@@ -1,6 +1,6 @@
 -- What is on the medium where the commands that a device took carry what was submitted.
-use Rattle.std.proofs.Common.{◌≡◌, ℕ, ◌+◌, ◌<◌, ◌≤◌, ◌||◌, Bool, List, length, take, Some, slice_get, refl, sym, ap, subst, ◌∙◌, arith, ⊎_elim, IsTrue, IsSomeAnd}
-use Rattle.std.specs.Option.{option_and_then, option_to_list}
+use Rattle.std.proofs.Common.{◌≡◌, ℕ, ◌+◌, ◌<◌, ◌≤◌, ◌||◌, List, length, take, Some, slice_get, refl, sym, ap, subst, ◌∙◌, arith, ⊎_elim, IsTrue, IsSomeAnd}
+use Rattle.std.specs.Option.{option_and_then}
 use Rattle.std.proofs.lemmas.Bool.{cases_lt}
 use Rattle.std.proofs.lemmas.List.{length-map}
 use Rattle.std.proofs.lemmas.Option.{none-some, same_Some}

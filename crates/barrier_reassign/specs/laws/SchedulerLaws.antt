@@ -1,15 +1,15 @@
 -- The plain scheduler is a scheduler.
-use Rattle.std.specs.Prelude.{◌≡◌, ℕ, ◌<◌, ◌≤◌, ◌++◌, not, ◌↔◌, Bool, true, false, List, [], ◌∷◌, length, map, Option, Some, None, slice_get, refl}
+use Rattle.std.specs.Prelude.{◌≡◌, ℕ, ◌<◌, ◌≤◌, ◌↔◌, true, false, List, [], ◌∷◌, length, Option, Some, None, slice_get, refl}
 use Rattle.std.specs.Option.{option_map}
-use Rattle.std.proofs.Common.{ap, sym, subst, ◌∙◌, ⊎_elim, arith}
+use Rattle.std.proofs.Common.{ap, sym, ◌∙◌, ⊎_elim, arith}
 use Rattle.std.proofs.lemmas.Bool.{cases_lt, not-true}
 use Rattle.std.proofs.lemmas.List.{append-nil, map-append, length-map}
 use Rattle.std.proofs.lemmas.Option.{none-some}
 use Rattle.blk_base.specs.Members.{slice_get-in_range, slice_get-out}
 use Rattle.order_model.specs.declared.request.Request.{Request}
 use Rattle.barrier_reassign.specs.Epoch.{Waiting, can_accept, is_open, is_blocked, eligible, picked, unflagged}
-use Rattle.barrier_reassign.specs.Sched.{SchedState, accepted, sent, dispatched, command_of, seen_of, sched_steps}
-use Rattle.barrier_reassign.specs.Scheduler.{IsAcceptable, Accepts, Sends, IsScheduler}
+use Rattle.barrier_reassign.specs.Sched.{SchedState, accepted, sent, command_of, seen_of, sched_steps}
+use Rattle.barrier_reassign.specs.Scheduler.{Accepts, Sends, IsScheduler}
 use Rattle.barrier_reassign.specs.laws.Valid.{IsValid}
 use Rattle.barrier_reassign.specs.laws.AcceptedLaws.{accepted-valid}
 use Rattle.barrier_reassign.specs.laws.DispatchedLaws.{dispatched-valid}

@@ -2,7 +2,6 @@
 use Rattle.std.specs.Prelude.{◌≡◌, ℕ, ◌+◌, ◌<◌, ◌≤◌, ◌||◌, ◌⊎◌, Bool, true, false, List, length, count_by, Some, slice_get, if◌then◌else◌}
 use Rattle.blk_base.specs.Members.{In, IsAscending}
 use Rattle.order_model.specs.declared.command.Command.{Command}
-use Rattle.order_model.specs.declared.request.Kind.TheVariants.{Flush}
 use Rattle.order_model.specs.declared.request.Request.{Request}
 use Rattle.order_model.specs.Submission.{is_flush, IsPutOf, IsOrdered, IsFence}
 use Rattle.barrier_reassign.specs.declared.closing.Closing.TheVariants as closings

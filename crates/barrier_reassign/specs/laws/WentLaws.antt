@@ -1,6 +1,5 @@
 -- The command of a request, the element at a place, and what waits.
 use Rattle.std.specs.Prelude.{◌≡◌, ℕ, ◌<◌, ◌||◌, ◌⊎◌, Bool, true, List, [], ◌∷◌, ◌++◌, length, map, Option, Some, None, IsSomeAnd, slice_get, refl}
-use Rattle.std.specs.Option.{option_to_list}
 use Rattle.std.proofs.Common.{ap, sym, subst, ◌∙◌, inl, inr, ⊎_elim, get_or, false}
 use Rattle.std.proofs.lemmas.Bool.{false≢true, or_right}
 use Rattle.std.proofs.lemmas.Option.{same_Some}
@@ -13,8 +12,8 @@ use Rattle.order_model.specs.Received.{ids_of}
 use Rattle.barrier_reassign.specs.declared.closing.Closing.{Closing}
 use Rattle.barrier_reassign.specs.declared.closing.Closing.TheVariants as closings
 use Rattle.barrier_reassign.specs.Epoch.{Waiting, unflagged}
-use Rattle.order_model.specs.Single.{command_of_request, parts_for, flush_for}
-use Rattle.order_model.specs.Carrying.{IsCarriedBy, IsSentIn, IsWaitingAt, IsFlushAt}
+use Rattle.order_model.specs.Single.{command_of_request}
+use Rattle.order_model.specs.Carrying.{IsSentIn, IsWaitingAt, IsFlushAt}
 use Rattle.order_model.proofs.Direct.{ids_of-command, carried_alone}
 use Rattle.order_model.proofs.Medium.{carried-id}
 use Rattle.barrier_reassign.specs.Sched.{SchedState, seen_of}
