@@ -7,9 +7,9 @@ use Rattle.order_model.specs.declared.request.Kind.{Kind}
 use Rattle.order_model.specs.Submission.{is_flush}
 use Rattle.barrier_reassign.specs.declared.closing.Closing.{Closing}
 use Rattle.barrier_reassign.specs.declared.closing.Closing.TheVariants as closings
-use Rattle.barrier_reassign.specs.Epoch.{EpochState, Waiting, eligible, without, waits_ordered, is_barrier_closing, picked, left, leaving, stands_before, may_leave, AreNumbered}
+use Rattle.barrier_reassign.specs.Epoch.{EpochState, Waiting, eligible, without, waits_ordered, is_barrier_closing, left, leaving, stands_before, may_leave, AreNumbered}
 use Rattle.barrier_reassign.specs.code.Kept.{IsPicked}
-use Rattle.barrier_reassign.proofs.Numbers.{remove-without}
+use Rattle.order_model.specs.laws.ArrivalLaws.{there-is, remove-without}
 
 -- what is picked is what stands at the place that was found, and it may leave
 pub picked-at : (pick i : ℕ) (ws : List Waiting) → IsPicked ws pick i → slice_get (eligible ws) pick ≡ slice_get ws i
@@ -21,15 +21,9 @@ pub picked-may_leave : (pick i : ℕ) (ws : List Waiting) (w : Waiting) → IsPi
 picked-may_leave pick i ws w h at =
     (In-filter (may_leave ws) ws w (slice_get-In (eligible ws) pick w (picked-at pick i ws h ∙ at))).1
 
--- the request at place i, where it is there
-there-is : (ws : List Waiting) (i : ℕ) (w : Waiting) → i < length ws → w ≡ get_or ws i w → slice_get ws i ≡ Some w
-there-is ws i w lt at =
-    let x = slice_get-in_range ws i lt in
-    x.1 ∙ ap Some (sym (get_or_from_slice_get ws i x.0 w x.1) ∙ sym at)
-
 removed-is : (next i : ℕ) (ws ws' : List Waiting) (w : Waiting) → AreNumbered next ws → i < length ws → w ≡ get_or ws i w → ws' ≡ remove ws i → ws' ≡ without w.number ws
 removed-is next i ws ws' w numbered lt at removed =
-    removed ∙ remove-without next ws i w numbered lt ∙ ap (λ (v : Waiting). without v.number ws) (sym at)
+    removed ∙ remove-without (λ (v : Waiting). v.number) next ws i w numbered (there-is ws i w lt at)
 
 -- whether the request w leaves as the barrier, where the others still wait
 abbrev pub flagged_of : Closing → Waiting → List Waiting → Bool

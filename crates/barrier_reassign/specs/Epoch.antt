@@ -1,12 +1,13 @@
 -- One queue of requests in which barriers are reassigned: a barrier that enters closes the queue, and the
 -- order-preserving put that leaves last carries the flag. After Won et al., Barrier-Enabled IO Stack for
 -- Flash Storage, FAST 2018.
-use Rattle.std.specs.Prelude.{ℕ, ◌+◌, ◌<◌, ◌==◌, ◌||◌, ◌&&◌, not, Bool, true, false, List, [], ◌∷◌, ◌++◌, length, filter, nat_lt, Option, Some, None, slice_get, if◌then◌else◌}
+use Rattle.std.specs.Prelude.{ℕ, ◌+◌, ◌==◌, ◌||◌, ◌&&◌, not, Bool, true, false, List, [], ◌∷◌, ◌++◌, length, nat_lt, Option, Some, None, if◌then◌else◌}
 use Rattle.std.specs.List.{list_any, list_all}
 use Rattle.order_model.specs.declared.request.Kind.{Kind}
 use Rattle.order_model.specs.declared.request.Kind.TheVariants.{Put}
 use Rattle.order_model.specs.declared.request.Request.{Request}
 use Rattle.order_model.specs.Submission.{is_flush}
+use Rattle.order_model.specs.Arrivals as arrivals
 use Rattle.barrier_reassign.specs.declared.closing.Closing.{Closing}
 use Rattle.barrier_reassign.specs.declared.closing.Closing.TheVariants as closings
 
@@ -80,11 +81,11 @@ may_leave waiting w =
 
 -- the requests that may leave, in order of acceptance
 abbrev pub eligible : List Waiting → List Waiting
-eligible waiting = filter (may_leave waiting) waiting
+eligible waiting = arrivals.eligible may_leave waiting
 
 -- all but the request with this number
 abbrev pub without : ℕ → List Waiting → List Waiting
-without number waiting = filter (λ w. not (w.number == number)) waiting
+without number waiting = arrivals.without (λ (w : Waiting). w.number) number waiting
 
 -- an order-preserving request waits
 abbrev pub waits_ordered : List Waiting → Bool
@@ -98,7 +99,7 @@ leaves_flagged s w =
 
 -- the request at place pick of the eligible list
 abbrev pub picked : EpochState → ℕ → Option Waiting
-picked s pick = slice_get (eligible s.waiting) pick
+picked s pick = arrivals.picked may_leave s.waiting pick
 
 -- a request that was picked leaves; behind the flag the queue accepts again
 abbrev pub left : EpochState → Option Waiting → EpochState
@@ -115,12 +116,6 @@ leaving s (Some w) = Some (w.request, leaves_flagged s w)
 
 -- ---- what a queue keeps
 
--- every number is above n
-abbrev pub AllAfter : ℕ → List Waiting → Type 0
-AllAfter n [] = Unit {0}
-AllAfter n (w ∷ ws) = (n < w.number) × AllAfter n ws
-
 -- those that wait are numbered in order of acceptance, below next
 abbrev pub AreNumbered : ℕ → List Waiting → Type 0
-AreNumbered next [] = Unit {0}
-AreNumbered next (w ∷ ws) = (w.number < next) × AllAfter w.number ws × AreNumbered next ws
+AreNumbered next waiting = arrivals.AreNumbered (λ (w : Waiting). w.number) next waiting

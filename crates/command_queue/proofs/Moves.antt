@@ -2,12 +2,13 @@
 use Rattle.std.proofs.Common.{◌≡◌, ℕ, ◌+◌, ◌<◌, List, [], ◌∷◌, ◌++◌, length, get_or, set, All, Some, slice_get, refl, sym, ap, ap₂, ◌∙◌, subst, arith, get_or-set_same}
 use Rattle.std.specs.List.{remove}
 use Rattle.std.specs.Option.{option_map}
-use Rattle.std.proofs.lemmas.List.{map_push, get_or-map, get_or_read, length-map}
+use Rattle.std.proofs.lemmas.List.{map_push, get_or_read}
+use Rattle.blk_base.specs.Members.{slice_get-map}
 use Rattle.order_model.specs.declared.command.Command.{Command}
 use Rattle.command_queue.specs.declared.queue.Seat.{Seat}
 use Rattle.command_queue.specs.Queue.{Waiting, eligible, without, AreNumbered}
 use Rattle.command_queue.specs.code.Slots.{blank, waiting_at, seated, EachOnce, IsPicked}
-use Rattle.command_queue.proofs.Numbers.{remove-without, AreNumbered-remove, AreNumbered-push}
+use Rattle.order_model.specs.laws.ArrivalLaws.{there-is, remove-without, AreNumbered-remove, AreNumbered-push}
 use Rattle.command_queue.proofs.Slots.{map-remove, seated-set, seats-within, last-within, last-not_seated, EachOnce-arrive, EachOnce-leave}
 
 pub seats-in_slots : (depth : ℕ) (slots slots' : List Command) (seats seats' : List Seat) (free : List ℕ) → slots' ≡ slots → seats' ≡ seats → length slots ≡ depth → EachOnce depth seats free
@@ -53,7 +54,7 @@ seated-received depth number slot c slots seats seats' free rest each popped len
 
 pub AreNumbered-received : (next : ℕ) (c : Command) (slots slots' : List Command) (seats seats' : List Seat) → AreNumbered next (seated slots seats)
     → seated slots' seats' ≡ seated slots seats ++ record { number = next; command = c } ∷ [] → AreNumbered (next + 1) (seated slots' seats')
-AreNumbered-received next c slots slots' seats seats' h is = subst (AreNumbered (next + 1)) (sym is) (AreNumbered-push next (seated slots seats) c h)
+AreNumbered-received next c slots slots' seats seats' h is = subst (AreNumbered (next + 1)) (sym is) (AreNumbered-push (λ (w : Waiting). w.number) next (seated slots seats) (record { number = next; command = c }) h refl)
 
 -- ---- a command leaves
 
@@ -69,18 +70,14 @@ pub seated-left : (next i : ℕ) (seat : Seat) (slots : List Command) (seats sea
     → i < length seats → seat ≡ get_or seats i seat → seats' ≡ remove seats i
     → seated slots seats' ≡ without seat.number (seated slots seats)
 seated-left next i seat slots seats seats' numbered lt at removed =
-    let ws = seated slots seats in
-    let len = length-map seats (waiting_at slots) in
-    let within : i < length ws = omega arith in
-    let number = ap (λ (w : Waiting). w.number) (get_or-map (waiting_at slots) seats i seat (waiting_at slots seat) lt) ∙ ap (λ (s : Seat). s.number) (sym at) in
+    let there = slice_get-map (waiting_at slots) seats i ∙ ap (option_map (waiting_at slots)) (there-is seats i seat lt at) in
     ap (seated slots) removed
     ∙ map-remove (waiting_at slots) seats i
-    ∙ remove-without next ws i (waiting_at slots seat) numbered within
-    ∙ ap (λ n. without n ws) number
+    ∙ remove-without (λ (w : Waiting). w.number) next (seated slots seats) i (waiting_at slots seat) numbered there
 
 pub AreNumbered-left : (next i : ℕ) (slots : List Command) (seats seats' : List Seat) → AreNumbered next (seated slots seats) → seats' ≡ remove seats i → AreNumbered next (seated slots seats')
 AreNumbered-left next i slots seats seats' numbered removed =
-    subst (AreNumbered next) (sym (ap (seated slots) removed ∙ map-remove (waiting_at slots) seats i)) (AreNumbered-remove next (seated slots seats) i numbered)
+    subst (AreNumbered next) (sym (ap (seated slots) removed ∙ map-remove (waiting_at slots) seats i)) (AreNumbered-remove (λ (w : Waiting). w.number) next (seated slots seats) i numbered)
 
 -- the same, where the command was taken out of its slot
 pub seated-taken : (next depth i : ℕ) (c : Command) (seat : Seat) (slots : List Command) (seats seats' : List Seat) (free : List ℕ) → AreNumbered next (seated slots seats)

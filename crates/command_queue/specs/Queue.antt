@@ -1,10 +1,11 @@
 -- The commands that wait in a device, and which of them may go next: SIMPLE and ORDERED tasks after the
 -- SCSI architecture model (SAM-5), with commands of one block kept in order.
-use Rattle.std.specs.Prelude.{ℕ, ◌+◌, ◌<◌, ◌==◌, ◌||◌, ◌&&◌, not, Bool, List, [], ◌∷◌, ◌++◌, filter, nat_lt, Option, Some, None, slice_get}
+use Rattle.std.specs.Prelude.{ℕ, ◌+◌, ◌==◌, ◌||◌, ◌&&◌, not, Bool, List, [], ◌∷◌, ◌++◌, nat_lt, Option, Some, None}
 use Rattle.std.specs.List.{list_any, list_all}
 use Rattle.order_model.specs.declared.part.Part.{Part}
 use Rattle.order_model.specs.declared.command.Command.{Command}
 use Rattle.order_model.specs.Device.{is_ordered}
+use Rattle.order_model.specs.Arrivals as arrivals
 
 -- a command that waits, with its number in the order of arrival, from 0 on
 pub record Waiting : Type 0 where
@@ -31,11 +32,11 @@ is_free waiting v = list_all (λ w. not (stands_in_way w v)) waiting
 
 -- the commands that may go next, in order of arrival
 abbrev pub eligible : List Waiting → List Waiting
-eligible waiting = filter (is_free waiting) waiting
+eligible waiting = arrivals.eligible is_free waiting
 
 -- all but the command with this number
 abbrev pub without : ℕ → List Waiting → List Waiting
-without number waiting = filter (λ w. not (w.number == number)) waiting
+without number waiting = arrivals.without (λ (w : Waiting). w.number) number waiting
 
 -- a command arrives
 abbrev pub arrived : QueueState → Command → QueueState
@@ -43,19 +44,13 @@ arrived s c = record s { next = s.next + 1; waiting = s.waiting ++ record { numb
 
 -- the command at place pick of the eligible list
 abbrev pub picked : QueueState → ℕ → Option Waiting
-picked s pick = slice_get (eligible s.waiting) pick
+picked s pick = arrivals.picked is_free s.waiting pick
 
 -- a command that was picked leaves
 abbrev pub left : QueueState → Option Waiting → QueueState
 left s None = s
 left s (Some w) = record s { waiting = without w.number s.waiting }
 
--- every number is above n
-abbrev pub AllAfter : ℕ → List Waiting → Type 0
-AllAfter n [] = Unit {0}
-AllAfter n (w ∷ ws) = (n < w.number) × AllAfter n ws
-
 -- those that wait are numbered in order of arrival, below next
 abbrev pub AreNumbered : ℕ → List Waiting → Type 0
-AreNumbered next [] = Unit {0}
-AreNumbered next (w ∷ ws) = (w.number < next) × AllAfter w.number ws × AreNumbered next ws
+AreNumbered next waiting = arrivals.AreNumbered (λ (w : Waiting). w.number) next waiting

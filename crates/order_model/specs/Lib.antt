@@ -1,3 +1,4 @@
+pub mod Arrivals
 pub mod Carrying
 pub mod Device
 pub mod History
@@ -9,3 +10,4 @@ pub mod Received
 pub mod Single
 pub mod Steps
 pub mod Submission
+pub mod laws

@@ -2,17 +2,18 @@
 use Rattle.std.specs.Prelude.{◌≡◌, ℕ, ◌+◌, ◌<◌, ◌≤◌, ◌==◌, ◌||◌, ◌&&◌, not, ◌⊎◌, Bool, true, false, List, [], ◌∷◌, ◌++◌, length, count_by, nat_lt, Option, Some, None, IsTrue, slice_get, refl, if◌then◌else◌}
 use Rattle.std.specs.List.{list_all}
 use Rattle.std.proofs.Common.{ap, sym, subst, ◌∙◌, inl, inr, ⊎_elim, arith}
-use Rattle.std.proofs.lemmas.Bool.{cases_Bool, false≢true, both_ways, and_parts, and_from, and_cases, or_left, or_cases, or_parts, cases_lt, cases_eq, not-true, not-false, ne_eqb, eq-eqb, eqb-true, lt-ltb}
+use Rattle.std.proofs.lemmas.Bool.{cases_Bool, false≢true, both_ways, and_parts, and_from, and_cases, or_left, or_cases, or_parts, cases_lt, cases_eq, not-true, not-false, eq-eqb, eqb-true, lt-ltb}
 use Rattle.std.proofs.lemmas.Option.{none-some, same_Some}
 use Rattle.std.proofs.lemmas.List.{length_push}
 use Rattle.std.proofs.lemmas.List.Edits.{length-remove}
 use Rattle.std.proofs.lemmas.List.Sums.{sum_by_push}
-use Rattle.blk_base.specs.Members.{In, IsAscending, IsAscending-filter, remove-ascending, In-slice_get, In-filter, filter-In, In-list_any, none-list_any, all-list_all, slice_get-push, slice_get-push_left, slice_get-push_cases, slice_get-In}
+use Rattle.blk_base.specs.Members.{In, IsAscending, IsAscending-filter, remove-ascending, In-slice_get, In-filter, In-list_any, none-list_any, all-list_all, slice_get-push, slice_get-push_left, slice_get-push_cases, slice_get-In}
 use Rattle.order_model.specs.declared.command.Command.{Command}
 use Rattle.order_model.specs.declared.request.Kind.{Kind}
 use Rattle.order_model.specs.declared.request.Kind.TheVariants.{Put, Flush}
 use Rattle.order_model.specs.declared.request.Request.{Request}
 use Rattle.order_model.specs.Submission.{is_flush, kind_block, IsPutOf, IsFence}
+use Rattle.order_model.specs.laws.ArrivalLaws.{In-without, without-In}
 use Rattle.barrier_reassign.specs.declared.closing.Closing.{Closing}
 use Rattle.barrier_reassign.specs.declared.closing.Closing.TheVariants as closings
 use Rattle.barrier_reassign.specs.Epoch.{Waiting, is_open, is_barrier_closing, have_one_block, stands_before, may_leave, eligible, without, waits_ordered, leaves_flagged, picked}
@@ -101,14 +102,10 @@ flagged_last s w h put =
 
 -- what is left of those that wait
 stays : (s : SchedState) (u w : Waiting) → In u s.queue.waiting → (u.number ≡ w.number → ⊥) → In u (without w.number s.queue.waiting)
-stays s u w h n =
-    let p : not (u.number == w.number) ≡ true = ap not (ne_eqb u.number w.number n) in
-    filter-In (λ x. not (x.number == w.number)) s.queue.waiting u h p
+stays s u w h n = without-In (λ (v : Waiting). v.number) w.number s.queue.waiting u h n
 
 stayed : (s : SchedState) (u w : Waiting) → In u (without w.number s.queue.waiting) → In u s.queue.waiting × (u.number ≡ w.number → ⊥)
-stayed s u w h =
-    let p = In-filter (λ x. not (x.number == w.number)) s.queue.waiting u h in
-    (p.0, λ e. both_ways (u.number == w.number) (not-true (u.number == w.number) p.1) (eq-eqb u.number w.number e))
+stayed s u w h = In-without (λ (v : Waiting). v.number) w.number s.queue.waiting u h
 
 -- ---- what went
 

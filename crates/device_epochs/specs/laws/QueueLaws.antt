@@ -2,18 +2,18 @@
 use Rattle.std.specs.Prelude.{◌≡◌, ℕ, ◌+◌, ◌<◌, ◌≤◌, ◌++◌, ◌||◌, ◌==◌, ◌⊎◌, not, Bool, true, false, List, [], ◌∷◌, length, filter, nat_lt, sum_by, Some, is_some, slice_get, refl}
 use Rattle.std.specs.List.{list_any}
 use Rattle.std.proofs.Common.{sym, ap, subst, ◌∙◌, inl, inr, ⊎_elim, arith}
-use Rattle.std.proofs.lemmas.Bool.{cases_Bool, cases_lt, cases_eq, lt-ltb, le-ltb, ne_eqb, eq-eqb, eqb-false, and_left, or_parts, not-true, not_from_false, both_ways}
+use Rattle.std.proofs.lemmas.Bool.{cases_Bool, cases_lt, cases_eq, lt-ltb, le-ltb, eq-eqb, and_left, or_parts, not-true, both_ways}
 use Rattle.std.proofs.lemmas.List.{length_push}
-use Rattle.std.proofs.lemmas.List.Sums.{sum_by-cons}
 use Rattle.std.proofs.lemmas.Option.{same_Some}
-use Rattle.blk_base.specs.Members.{In, In-push, In-push_left, In-push_cases, In-append_cases, In-filter, filter-In, filter_all, All-In, list_any-In, all-list_all, slice_get-In, slice_get-length, slice_get-push, slice_get-push_left}
+use Rattle.blk_base.specs.Members.{In, In-push, In-push_left, In-push_cases, In-append_cases, In-filter, All-In, list_any-In, all-list_all, slice_get-In, slice_get-length, slice_get-push, slice_get-push_left}
 use Rattle.order_model.specs.declared.part.Part.{Part}
 use Rattle.order_model.specs.declared.command.Command.{Command}
 use Rattle.order_model.specs.declared.command.Priority.TheVariants.{Ordered}
 use Rattle.order_model.specs.Received.{all_parts, part_at, first_part, command_of}
 use Rattle.order_model.specs.Device.{Seen, IsReceivable, NoneTwice, is_ordered}
+use Rattle.order_model.specs.laws.ArrivalLaws as arrivals
 use Rattle.order_model.proofs.Received.{all_parts-push, all_ids-push, command_of-first, command_of-earlier, place_of, part_at-place}
-use Rattle.command_queue.specs.Queue.{QueueState, Waiting, have_common_block, stands_in_way, is_free, eligible, without, arrived, left, AllAfter, AreNumbered}
+use Rattle.command_queue.specs.Queue.{QueueState, Waiting, have_common_block, stands_in_way, is_free, eligible, without, arrived, left, AreNumbered}
 use Rattle.device_epochs.specs.laws.Valid.{IsDone, CommandFacts, QueueFacts}
 
 -- ---- commands
@@ -33,77 +33,27 @@ commands-received blocks limit s c f r same most =
 
 -- ---- numbers
 
-pub AllAfter-lt : (n : ℕ) (ws : List Waiting) (w : Waiting) → AllAfter n ws → In w ws → n < w.number
-AllAfter-lt n [] w a h = absurd h
-AllAfter-lt n (v ∷ vs) w a (inl e) = let same = ap (λ (x : Waiting). x.number) e in let lt = a.0 in omega arith
-AllAfter-lt n (v ∷ vs) w a (inr h) = AllAfter-lt n vs w a.1 h
-
-AllAfter-push : (n : ℕ) (ws : List Waiting) (w : Waiting) → AllAfter n ws → n < w.number → AllAfter n (ws ++ w ∷ [])
-AllAfter-push n [] w a lt = (lt, tt)
-AllAfter-push n (v ∷ vs) w a lt = (a.0, AllAfter-push n vs w a.1 lt)
-
-AllAfter-filter : (p : Waiting → Bool) (n : ℕ) (ws : List Waiting) → AllAfter n ws → AllAfter n (filter p ws)
-AllAfter-filter p n [] a = tt
-AllAfter-filter p n (v ∷ vs) a =
-    elim (cases_Bool (p v)) [
-      | inl t ↦ rw t ((a.0, AllAfter-filter p n vs a.1))
-      | inr f ↦ rw f (AllAfter-filter p n vs a.1)
-    ]
+-- the number of a command that waits
+abbrev number_of : Waiting → ℕ
+number_of w = w.number
 
 pub number-lt : (n : ℕ) (ws : List Waiting) (w : Waiting) → AreNumbered n ws → In w ws → w.number < n
-number-lt n [] w a h = absurd h
-number-lt n (v ∷ vs) w a (inl e) = let same = ap (λ (x : Waiting). x.number) e in let lt = a.0 in omega arith
-number-lt n (v ∷ vs) w a (inr h) = number-lt n vs w a.2 h
-
-pub AreNumbered-push : (n : ℕ) (ws : List Waiting) (w : Waiting) → AreNumbered n ws → w.number ≡ n → AreNumbered (n + 1) (ws ++ w ∷ [])
-AreNumbered-push n [] w a e = (omega arith, tt, tt)
-AreNumbered-push n (v ∷ vs) w a e =
-    let lt = a.0 in
-    (omega arith, AllAfter-push v.number vs w a.1 (omega arith), AreNumbered-push n vs w a.2 e)
+number-lt n ws w a h = a.below w h
 
 pub AreNumbered-filter : (p : Waiting → Bool) (n : ℕ) (ws : List Waiting) → AreNumbered n ws → AreNumbered n (filter p ws)
-AreNumbered-filter p n [] a = tt
-AreNumbered-filter p n (v ∷ vs) a =
-    elim (cases_Bool (p v)) [
-      | inl t ↦ rw t ((a.0, AllAfter-filter p v.number vs a.1, AreNumbered-filter p n vs a.2))
-      | inr f ↦ rw f (AreNumbered-filter p n vs a.2)
-    ]
+AreNumbered-filter p n ws a = arrivals.AreNumbered-filter number_of p n ws a
 
 -- ---- what is left without one number
 
-abbrev others : ℕ → Waiting → Bool
-others n w = not (w.number == n)
-
 pub In-without : (n : ℕ) (ws : List Waiting) (w : Waiting) → In w (without n ws) → In w ws × (w.number ≡ n → ⊥)
-In-without n ws w h =
-    let i = In-filter (others n) ws w h in
-    (i.0, eqb-false w.number n (not-true (w.number == n) i.1))
+In-without n ws w h = arrivals.In-without number_of n ws w h
 
 pub without-In : (n : ℕ) (ws : List Waiting) (w : Waiting) → In w ws → (w.number ≡ n → ⊥) → In w (without n ws)
-without-In n ws w h ne = filter-In (others n) ws w h (not_from_false (w.number == n) (ne_eqb w.number n ne))
+without-In n ws w h ne = arrivals.without-In number_of n ws w h ne
 
 -- what is summed over those that wait falls by the summand of the one that leaves
 pub sum_by-without : (f : Waiting → ℕ) (n : ℕ) (ws : List Waiting) (w : Waiting) → AreNumbered n ws → In w ws → sum_by f (without w.number ws) + f w ≡ sum_by f ws
-sum_by-without f n [] w a h = absurd h
-sum_by-without f n (v ∷ vs) w a (inl e) =
-    let num = ap (λ (x : Waiting). x.number) e in
-    let out : (v.number == w.number) ≡ true = eq-eqb v.number w.number num in
-    let all : without w.number vs ≡ vs =
-    filter_all (others w.number) vs
-    (λ x h. not_from_false (x.number == w.number) (ne_eqb x.number w.number (λ q. let lt = AllAfter-lt v.number vs x a.1 h in omega arith))) in
-    let here : sum_by f (without w.number (v ∷ vs)) ≡ sum_by f (without w.number vs) = rw out refl in
-    let first = sum_by-cons f v vs in
-    let same = ap f e in
-    let rest = ap (sum_by f) all in
-    omega arith
-sum_by-without f n (v ∷ vs) w a (inr h) =
-    let lt = AllAfter-lt v.number vs w a.1 h in
-    let out : (v.number == w.number) ≡ false = ne_eqb v.number w.number (λ q. omega arith) in
-    let here : sum_by f (without w.number (v ∷ vs)) ≡ sum_by f (v ∷ without w.number vs) = rw out refl in
-    let one = sum_by-cons f v (without w.number vs) in
-    let first = sum_by-cons f v vs in
-    let rest = sum_by-without f n vs w a.2 h in
-    omega arith
+sum_by-without f n ws w a h = arrivals.sum_by-without number_of f ws w a.rising h
 
 pub length-filter-le : {X : Type 0} (p : X → Bool) (xs : List X) → length (filter p xs) ≤ length xs
 length-filter-le p [] = omega arith
@@ -181,7 +131,7 @@ queue-received took q c f =
     record {
       some_depth = f.some_depth;
       next = let n = length_push took c in omega arith;
-      numbered = AreNumbered-push q.next q.waiting w f.numbered refl;
+      numbered = arrivals.AreNumbered-push number_of q.next q.waiting w f.numbered refl;
       queued = λ v h.
           ⊎_elim
           (λ i. slice_get-push_left took c v.number (slice_get-length took v.number v.command (f.queued v i)) ∙ f.queued v i)
@@ -211,7 +161,7 @@ queue-moved took q w f h =
     record {
       some_depth = f.some_depth;
       next = f.next;
-      numbered = AreNumbered-filter (others w.number) q.next q.waiting f.numbered;
+      numbered = AreNumbered-filter (λ v. not (v.number == w.number)) q.next q.waiting f.numbered;
       queued = λ v i. f.queued v (In-without w.number q.waiting v i).0;
       passed = λ v k c i done e.
           let there = (In-without w.number q.waiting v i).0 in

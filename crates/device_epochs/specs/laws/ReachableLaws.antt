@@ -48,7 +48,7 @@ opened-valid image setup some = record {
   queue = record {
     some_depth = some;
     next = refl;
-    numbered = tt;
+    numbered = record { rising = tt; below = λ w i. absurd i };
     queued = λ w i. absurd i;
     passed = λ w k c i. absurd i;
   };

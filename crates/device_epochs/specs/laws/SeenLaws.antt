@@ -7,7 +7,7 @@ use Rattle.std.proofs.lemmas.List.Sums.{sum_by-cons}
 use Rattle.blk_base.specs.Members.{In, map-In, filter-In, list_all-In, In-slice_get, slice_get-In, slice_get-in_range, slice_get-length}
 use Rattle.order_model.specs.declared.completion.Completion.{Completion}
 use Rattle.order_model.specs.declared.completion.Completion.TheVariants.{Failed}
-use Rattle.order_model.specs.Received.{ids_of, all_ids, completions_of}
+use Rattle.order_model.specs.Received.{ids_of, all_ids}
 use Rattle.order_model.specs.Device.{is_ordered, Completes, TellsCut, IsUnmoved, TellsFailure, completion_id}
 use Rattle.order_model.specs.Steps.{Progresses}
 use Rattle.order_model.proofs.Received.{all_ids-In}
@@ -16,7 +16,6 @@ use Rattle.device_epochs.specs.Device.{DeviceState, is_off, is_next, has_room, m
 use Rattle.device_epochs.specs.laws.Valid.{IsDone, CompletionFacts, left, IsValid}
 use Rattle.device_epochs.specs.laws.BoundLaws.{some_ids}
 use Rattle.device_epochs.specs.laws.PendingLaws.{lost-some, pending-is, numbered}
-use Rattle.device_epochs.specs.laws.QueueLaws.{AllAfter-lt}
 use Rattle.device_epochs.specs.laws.CacheLaws.{oldest_some}
 use Rattle.device_epochs.specs.laws.StepLaws.{transferable-waits, is-transferable, tried-fails, tried-moves, persistable-In}
 use Rattle.device_epochs.specs.laws.KeptLaws.{kept_is_moved}
@@ -100,7 +99,7 @@ some-eligible n (w ∷ ws) a =
     (λ v h.
     ⊎_elim
     (λ e. let same = ap (λ (x : Waiting). x.number) e in not_in_way v w (omega arith))
-    (λ i. let lt = AllAfter-lt w.number ws v a.1 i in not_in_way v w (omega arith))
+    (λ i. let lt = a.rising.0 v i in not_in_way v w (omega arith))
     h) in
     inl (w, filter-In (is_free (w ∷ ws)) (w ∷ ws) w (inl refl) free)
 

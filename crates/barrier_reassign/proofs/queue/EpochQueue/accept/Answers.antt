@@ -1,7 +1,7 @@
-use Rattle.std.proofs.Common.{length, ap, sym, ◌∙◌, arith}
+use Rattle.std.proofs.Common.{length, refl, ap, sym, ◌∙◌, arith}
 use Rattle.std.proofs.lemmas.Bool.{eqb-false}
 use Rattle.barrier_reassign.specs.Epoch.{is_full}
-use Rattle.barrier_reassign.proofs.Numbers.{AreNumbered-push}
+use Rattle.order_model.specs.laws.ArrivalLaws.{AreNumbered-push}
 use Rattle.barrier_reassign.proofs.queue.EpochQueue.accept.Goals as goal
 
 pub invariant_of-self : goal.invariant_of-self
@@ -13,5 +13,5 @@ invariant_of-self c =
       small = h.small;
       few = omega (arith, room, h.few, q.waiting.ok.0, c.push_back_reserved.ensures.len);
       room = omega (arith, h.room, c.push_back_reserved.ensures.capacity);
-      numbered = rw c.push_back_reserved.ensures.items (AreNumbered-push _ _ _ h.numbered);
+      numbered = rw c.push_back_reserved.ensures.items (AreNumbered-push _ _ _ _ h.numbered refl);
     }

@@ -2,7 +2,7 @@
 use Rattle.std.proofs.Common.{refl, Some, ap, ◌∙◌, arith}
 use Rattle.barrier_reassign.specs.Epoch.{EpochState, Waiting}
 use Rattle.barrier_reassign.proofs.Leaving.{flagged_of, leaving-is, left-is}
-use Rattle.barrier_reassign.proofs.Numbers.{AreNumbered-remove}
+use Rattle.order_model.specs.laws.ArrivalLaws.{AreNumbered-remove}
 use Rattle.barrier_reassign.proofs.queue.EpochQueue.leave_at.Goals as goal
 
 pub invariant_of-self-2 : goal.invariant_of-self-2
@@ -12,7 +12,7 @@ invariant_of-self-2 c =
       small = h.small;
       few = omega (arith, h.few, c.in_ok-request.ensures.len);
       room = omega (arith, h.room, c.in_ok-request.ensures.capacity);
-      numbered = rw c.in_ok-request.ensures.items (AreNumbered-remove _ _ _ h.numbered);
+      numbered = rw c.in_ok-request.ensures.items (AreNumbered-remove _ _ _ _ h.numbered);
     }
 
 pub returns-clause-given : goal.returns-clause-given

@@ -1,4 +1,4 @@
-use Rattle.std.proofs.Common.{◌<◌, length, sym, ◌∙◌, arith}
+use Rattle.std.proofs.Common.{sym, ◌∙◌, arith}
 use Rattle.command_queue.proofs.Moves.{seats-in_slots, picked-is, EachOnce-taken, seated-left, AreNumbered-left}
 use Rattle.command_queue.proofs.queue.CommandQueue.leave.Goals as goal
 
