@@ -9,7 +9,7 @@ use Rattle.tree_model.specs.laws.Listing.{IsRooted}
 use Rattle.tree_model.specs.Maps.{at_number}
 use Rattle.tree_model.specs.Trees.{Refusal, node_of_path, AreAlike}
 use Rattle.tree_model.specs.laws.Alike.{path_stands, node_has_path}
-use Rattle.volume_ops.specs.laws.AlikeLaws.{same_paths_found}
+use Rattle.volume_ops.proofs.AlikeLaws.{same_paths_found}
 use Rattle.volume_ops.specs.Volume.{put_nodes, walked, tree_found}
 use Rattle.crash_laws.specs.TreeHistory.{zone_in, zone_in_walk, IsPlaceIn}
 use Rattle.crash_laws.specs.Volumes.{WalkEnd}

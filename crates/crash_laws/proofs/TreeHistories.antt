@@ -5,8 +5,8 @@ use Rattle.tree_model.specs.declared.call.Room.{Room}
 use Rattle.tree_model.specs.declared.node.Node.TheVariants as nodes
 use Rattle.tree_model.specs.Histories.{block_in, maps_block, maps, tree_after_entries, changed_after}
 use Rattle.tree_model.specs.laws.Listing.{IsRooted}
-use Rattle.tree_model.specs.laws.PlainTrees.{history_rooted, new_plain, new_born}
-use Rattle.tree_model.specs.laws.Histories.{history_mapped, history_written, unchanged_between}
+use Rattle.tree_model.proofs.PlainTrees.{history_rooted, new_plain, new_born}
+use Rattle.tree_model.proofs.Histories.{history_mapped, history_written, unchanged_between}
 use Rattle.crash_laws.specs.History.{HasTrees}
 use Rattle.crash_laws.specs.LegalHistory.{Event, done_by, root_alone, tree_up_to}
 use Rattle.crash_laws.specs.TreeHistory.{AreCuts, history_of}

@@ -12,7 +12,7 @@ use Rattle.volume_ops.specs.Reads.{AgreeOn}
 use Rattle.volume_ops.specs.laws.ReadsLaws.{blocks_read-agree}
 use Rattle.volume_ops.specs.Walk.{walk_volume}
 use Rattle.volume_ops.specs.Volume.{disk_of, metadata, tree_of}
-use Rattle.volume_ops.specs.laws.AlikeLaws.{changed_alike}
+use Rattle.volume_ops.proofs.AlikeLaws.{changed_alike}
 use Rattle.crash_laws.specs.Clauses.{CommitClause}
 use Rattle.crash_laws.specs.Found.{IsFound}
 use Rattle.crash_laws.specs.Recovery.{IsRecovered}

@@ -1,2 +1,3 @@
+-- The file map of an inode.
 pub mod Map
 pub mod laws

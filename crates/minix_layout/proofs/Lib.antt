@@ -1,1 +1,2 @@
+-- Lemmas on the layout.
 mod Middles

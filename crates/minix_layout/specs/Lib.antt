@@ -1,3 +1,4 @@
+-- The layout of a volume.
 pub mod Bits
 pub mod Geometry
 pub mod Inodes

@@ -1,3 +1,4 @@
+-- Lemmas on trees, their text and calls on them.
 pub mod Entries
 pub mod PathForms
 pub mod Walks
@@ -5,3 +6,20 @@ pub mod Lookups
 pub mod ListedOnce
 pub mod TextListed
 pub mod PathsListed
+pub mod Blocks
+pub mod Bytes
+pub mod Causes
+pub mod Changes
+pub mod Edits
+pub mod Effects
+pub mod Examples
+pub mod Hanging
+pub mod Histories
+pub mod Outcomes
+pub mod Plain
+pub mod PlainCalls
+pub mod PlainMoves
+pub mod PlainNames
+pub mod PlainTrees
+pub mod Rows
+pub mod Zones

@@ -1,3 +1,4 @@
+-- What trees, their text and calls on them are.
 pub mod Calls
 pub mod Causes
 pub mod Examples

@@ -1,23 +1,6 @@
 -- Laws of trees and calls.
 pub mod Alike
-pub mod Blocks
-pub mod Bytes
-pub mod Causes
-pub mod Changes
-pub mod Edits
-pub mod Effects
-pub mod Examples
-pub mod Hanging
-pub mod Histories
 pub mod Listing
 pub mod MapOrder
 pub mod MapsLaws
-pub mod Outcomes
-pub mod Plain
-pub mod PlainCalls
-pub mod PlainMoves
-pub mod PlainNames
-pub mod PlainTrees
-pub mod Rows
 pub mod Sums
-pub mod Zones

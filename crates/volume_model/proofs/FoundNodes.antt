@@ -18,20 +18,20 @@ use Rattle.volume_ops.specs.declared.found.Found.TheVariants as found
 use Rattle.volume_ops.specs.declared.found.FoundNode.{FoundNode}
 use Rattle.volume_ops.specs.Reads.{Reads, Ret, answer, if_ok}
 use Rattle.volume_ops.specs.laws.ReadsLaws.{same_Ok}
-use Rattle.volume_ops.specs.laws.RisingLaws.{answered_then, either_answers, any_ok}
+use Rattle.volume_ops.proofs.RisingLaws.{answered_then, either_answers, any_ok}
 use Rattle.volume_ops.specs.Places.{table_block, is_directory, is_file, birth_of, inode_of_birth}
 use Rattle.volume_ops.specs.Marks.{is_marked}
 use Rattle.volume_ops.specs.Zones.{Fault, ZoneScan, scan_zones}
-use Rattle.volume_ops.specs.laws.ZonesLaws.{IsMapTo, scan_zones-map}
+use Rattle.volume_ops.proofs.ZonesLaws.{IsMapTo, scan_zones-map}
 use Rattle.volume_ops.specs.Slots.{scan_slots}
-use Rattle.volume_ops.specs.laws.SlotsLaws.{inode_of_birth_of}
-use Rattle.volume_ops.specs.laws.TreeLaws.{in_tree}
+use Rattle.volume_ops.proofs.SlotsLaws.{inode_of_birth_of}
+use Rattle.volume_ops.proofs.TreeLaws.{in_tree}
 use Rattle.volume_ops.specs.Walk.{WalkState, Walked, found_in, Pending, Visit, is_bad_inode, visit_file, visit_directory, visit, walk_through, walk, at_start, root, walk_volume}
-use Rattle.volume_ops.specs.laws.WalkLaws.{Ends, walk_volume-ends}
+use Rattle.volume_ops.proofs.WalkLaws.{Ends, walk_volume-ends}
 use Rattle.volume_ops.specs.Volume.{disk_of, walked, bodies_of, node_of, put_nodes, tree_found}
 use Rattle.volume_ops.specs.Fields.{inode_at, zone_behind}
-use Rattle.volume_ops.specs.laws.TreeUnique.{tree_walked}
-use Rattle.volume_ops.specs.laws.VisitTests.{nine}
+use Rattle.volume_ops.proofs.TreeUnique.{tree_walked}
+use Rattle.volume_ops.proofs.VisitTests.{nine}
 use Rattle.volume_model.specs.declared.placed.Part.TheVariants as parts
 use Rattle.volume_model.specs.Plain.{inode_born, IsPlainVolume}
 use Rattle.volume_model.specs.ImageNodes.{part_in, part_found, placed_in, contents_in}

@@ -11,8 +11,8 @@ use Rattle.volume_ops.specs.Places.{is_directory, is_file}
 use Rattle.volume_ops.specs.Volume.{walked, put_nodes, tree_found, tree_of}
 use Rattle.volume_ops.specs.Walk.{Walked}
 use Rattle.volume_ops.specs.ZonePlaces.{zone_in as zone_walked}
-use Rattle.volume_ops.specs.laws.WalkTests.{faultless_walked, walked_used}
-use Rattle.volume_ops.specs.laws.TreeUnique.{walked_tree}
+use Rattle.volume_ops.proofs.WalkTests.{faultless_walked, walked_used}
+use Rattle.volume_ops.proofs.TreeUnique.{walked_tree}
 use Rattle.volume_model.specs.Touched.{Contents}
 use Rattle.volume_model.specs.Trees.{tree_now}
 use Rattle.volume_model.specs.Plain.{HasZone, IsPlainVolume, IsPlainContents}

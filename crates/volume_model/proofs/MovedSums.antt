@@ -14,7 +14,7 @@ use Rattle.std.proofs.lemmas.Option.{none-some}
 use Rattle.tree_model.specs.Maps.{at_number, without_number}
 use Rattle.tree_model.specs.laws.MapsLaws.{number_here, number_same}
 use Rattle.tree_model.specs.laws.MapOrder.{InOrder, in_order_without, at_without_here, at_without_apart}
-use Rattle.volume_ops.specs.laws.TreeUnique.{found_first, found_later}
+use Rattle.volume_ops.proofs.TreeUnique.{found_first, found_later}
 use Rattle.volume_model.specs.laws.Trees.{found_above}
 
 module _ {X Y : Type 0} (F : X → ℕ) (G : Y → ℕ) (to : ℕ → ℕ) where

@@ -27,7 +27,7 @@ use Rattle.tree_model.specs.laws.Alike.{step_gives, step_given, led_on, led_part
 use Rattle.tree_model.specs.laws.MapOrder.{InOrder, in_order_put, at_put_cases}
 use Rattle.tree_model.specs.laws.Sums.{count_by_same}
 use Rattle.volume_ops.specs.laws.ReadsLaws.{same_Ok}
-use Rattle.volume_ops.specs.laws.SlotsLaws.{inode_of_birth_of}
+use Rattle.volume_ops.proofs.SlotsLaws.{inode_of_birth_of}
 use Rattle.volume_ops.specs.declared.found.Mapped.{Mapped}
 use Rattle.volume_ops.specs.Places.{birth_of, inode_of_birth}
 use Rattle.volume_ops.specs.Places.{is_directory as is_directory_mode}
@@ -35,8 +35,8 @@ use Rattle.volume_ops.specs.Volume.{disk_of, bodies_of}
 use Rattle.volume_ops.specs.Fields.{inode_at, zone_behind, block_behind, HasName, IsDirectoryOf, IsFileOf, IsNodeOf, IsBelow}
 use Rattle.volume_ops.specs.Faultless.{IsReached}
 use Rattle.volume_ops.specs.VolumeTrees.{IsVolumeTree}
-use Rattle.volume_ops.specs.laws.BlockPlaces.{led_reached}
-use Rattle.volume_ops.specs.laws.TreeUnique.{same_maps, same_options}
+use Rattle.volume_ops.proofs.BlockPlaces.{led_reached}
+use Rattle.volume_ops.proofs.TreeUnique.{same_maps, same_options}
 use Rattle.volume_model.specs.declared.placed.Placed.{Placed}
 use Rattle.volume_model.specs.declared.placed.Part.{Part}
 use Rattle.volume_model.specs.declared.placed.Part.TheVariants as parts

@@ -1,3 +1,4 @@
+-- Lemmas on the walk through a volume.
 pub mod GoesOn
 pub mod SlotScans
 pub mod Visited
@@ -7,3 +8,22 @@ pub mod Bodies
 pub mod DeviceReads
 pub mod ZoneNumbers
 pub mod ZoneScans
+pub mod AlikeLaws
+pub mod BlockPlaces
+pub mod FirstUnique
+pub mod MetadataReads
+pub mod RisingLaws
+pub mod RootedLaws
+pub mod SameWalks
+pub mod SlotTests
+pub mod SlotsLaws
+pub mod SoFar
+pub mod SortedLaws
+pub mod TreeLaws
+pub mod TreeUnique
+pub mod VisitLaws
+pub mod VisitTests
+pub mod WalkLaws
+pub mod WalkTests
+pub mod ZoneTests
+pub mod ZonesLaws

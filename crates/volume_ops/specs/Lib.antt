@@ -1,3 +1,4 @@
+-- What the walk through a volume is, and what it finds.
 pub mod Defects
 pub mod DeviceReads
 pub mod Faultless

@@ -1,24 +1,5 @@
 -- Laws of volumes: what the walk tests, and what it says of a volume.
 pub mod Alike
-pub mod AlikeLaws
-pub mod BlockPlaces
-pub mod FirstUnique
 pub mod MarksLaws
-pub mod MetadataReads
 pub mod ReadsLaws
 pub mod Rising
-pub mod RisingLaws
-pub mod RootedLaws
-pub mod SameWalks
-pub mod SlotTests
-pub mod SlotsLaws
-pub mod SoFar
-pub mod SortedLaws
-pub mod TreeLaws
-pub mod TreeUnique
-pub mod VisitLaws
-pub mod VisitTests
-pub mod WalkLaws
-pub mod WalkTests
-pub mod ZoneTests
-pub mod ZonesLaws

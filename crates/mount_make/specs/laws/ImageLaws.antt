@@ -23,10 +23,10 @@ use Rattle.volume_ops.specs.Defects.{IsDefect}
 use Rattle.volume_ops.specs.FirstFault.{IsFirstFault}
 use Rattle.volume_ops.specs.Metadata.{of_volume, AgreeOnMetadata}
 use Rattle.volume_ops.specs.VolumeTrees.{IsVolumeTree}
-use Rattle.volume_ops.specs.laws.FirstUnique.{first_told}
-use Rattle.volume_ops.specs.laws.WalkTests.{walked_first}
-use Rattle.volume_ops.specs.laws.TreeUnique.{walked_tree, tree_walked, one_tree}
-use Rattle.volume_ops.specs.laws.SameWalks.{same_trees}
+use Rattle.volume_ops.proofs.FirstUnique.{first_told}
+use Rattle.volume_ops.proofs.WalkTests.{walked_first}
+use Rattle.volume_ops.proofs.TreeUnique.{walked_tree, tree_walked, one_tree}
+use Rattle.volume_ops.proofs.SameWalks.{same_trees}
 use Rattle.mount_make.specs.declared.fault.ImageFault.{ImageFault}
 use Rattle.mount_make.specs.declared.fault.ImageFault.TheVariants as image
 use Rattle.mount_make.specs.Images.{Told, image_fault, has_journal, whole_volume, by_super, divided, by_walk, by_geometry, mounted, tree_after, image_tree}

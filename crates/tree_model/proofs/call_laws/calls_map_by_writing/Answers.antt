@@ -1,5 +1,5 @@
 -- Blocks that calls write.
-use Rattle.tree_model.specs.laws.Histories.{only_writes_map, written_is_mapped, unwritten_stays}
+use Rattle.tree_model.proofs.Histories.{only_writes_map, written_is_mapped, unwritten_stays}
 use Rattle.tree_model.proofs.call_laws.calls_map_by_writing.Goals as goal
 
 pub returns : goal.returns

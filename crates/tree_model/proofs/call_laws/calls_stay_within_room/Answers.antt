@@ -1,6 +1,6 @@
 -- Inodes and zones.
-use Rattle.tree_model.specs.laws.Outcomes.{row_done, row_no_inode, row_no_space, room_kept, slot_needs}
-use Rattle.tree_model.specs.laws.Zones.{needs_none}
+use Rattle.tree_model.proofs.Outcomes.{row_done, row_no_inode, row_no_space, room_kept, slot_needs}
+use Rattle.tree_model.proofs.Zones.{needs_none}
 use Rattle.tree_model.proofs.call_laws.calls_stay_within_room.Goals as goal
 
 pub returns : goal.returns

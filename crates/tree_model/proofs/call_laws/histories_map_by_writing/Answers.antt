@@ -1,6 +1,6 @@
 -- Blocks along a history.
-use Rattle.tree_model.specs.laws.Histories.{history_mapped, history_written, history_content, unchanged_between, last_wrote, last_is_last}
-use Rattle.tree_model.specs.laws.PlainTrees.{history_plain, history_rooted}
+use Rattle.tree_model.proofs.Histories.{history_mapped, history_written, history_content, unchanged_between, last_wrote, last_is_last}
+use Rattle.tree_model.proofs.PlainTrees.{history_plain, history_rooted}
 use Rattle.tree_model.proofs.call_laws.histories_map_by_writing.Goals as goal
 
 pub returns : goal.returns

@@ -1,5 +1,5 @@
 -- New names.
-use Rattle.tree_model.specs.laws.PlainTrees.{mkdir_leads, create_leads, link_leads}
+use Rattle.tree_model.proofs.PlainTrees.{mkdir_leads, create_leads, link_leads}
 use Rattle.tree_model.proofs.call_laws.new_names_lead_to_nodes.Goals as goal
 
 pub returns : goal.returns

@@ -1,6 +1,6 @@
 -- Refused calls.
-use Rattle.tree_model.specs.laws.Causes.{refused_for}
-use Rattle.tree_model.specs.laws.Outcomes.{refused_stays, bad_path_refused}
+use Rattle.tree_model.proofs.Causes.{refused_for}
+use Rattle.tree_model.proofs.Outcomes.{refused_stays, bad_path_refused}
 use Rattle.tree_model.proofs.call_laws.refusals_have_causes.Goals as goal
 
 pub returns : goal.returns

@@ -1,5 +1,5 @@
 -- Bytes of files.
-use Rattle.tree_model.specs.laws.Bytes.{byte_written, byte_kept, byte_below, byte_past, written_whole, cut_whole_blocks}
+use Rattle.tree_model.proofs.Bytes.{byte_written, byte_kept, byte_below, byte_past, written_whole, cut_whole_blocks}
 use Rattle.tree_model.proofs.call_laws.written_bytes_are_read_back.Goals as goal
 
 pub returns : goal.returns

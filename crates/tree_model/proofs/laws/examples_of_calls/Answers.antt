@@ -1,5 +1,5 @@
 -- What the definitions compute.
-use Rattle.tree_model.specs.laws.Examples.{replies_to_names, replies_to_moves, replies_to_last_block, first_block_needs, indirect_needs, double_indirect_needs, same_group_needs, next_group_needs}
+use Rattle.tree_model.proofs.Examples.{replies_to_names, replies_to_moves, replies_to_last_block, first_block_needs, indirect_needs, double_indirect_needs, same_group_needs, next_group_needs}
 use Rattle.tree_model.proofs.laws.examples_of_calls.Goals as goal
 
 pub returns : goal.returns

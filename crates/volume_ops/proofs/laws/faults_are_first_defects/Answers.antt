@@ -1,5 +1,5 @@
-use Rattle.volume_ops.specs.laws.FirstUnique.{first_told}
-use Rattle.volume_ops.specs.laws.WalkTests.{walked_first, no_defect}
+use Rattle.volume_ops.proofs.FirstUnique.{first_told}
+use Rattle.volume_ops.proofs.WalkTests.{walked_first, no_defect}
 use Rattle.volume_ops.proofs.laws.faults_are_first_defects.Goals as goal
 
 pub returns : goal.returns

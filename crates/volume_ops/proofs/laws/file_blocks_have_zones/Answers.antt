@@ -1,4 +1,4 @@
-use Rattle.volume_ops.specs.laws.BlockPlaces.{mapped, within, one_place, outside, keeps_zone}
+use Rattle.volume_ops.proofs.BlockPlaces.{mapped, within, one_place, outside, keeps_zone}
 use Rattle.volume_ops.proofs.laws.file_blocks_have_zones.Goals as goal
 
 pub returns : goal.returns

@@ -1,6 +1,6 @@
-use Rattle.volume_ops.specs.laws.BlockPlaces.{metadata_stays}
-use Rattle.volume_ops.specs.laws.MetadataReads.{walk_reads_metadata}
-use Rattle.volume_ops.specs.laws.SameWalks.{same_walk, same_trees}
+use Rattle.volume_ops.proofs.BlockPlaces.{metadata_stays}
+use Rattle.volume_ops.proofs.MetadataReads.{walk_reads_metadata}
+use Rattle.volume_ops.proofs.SameWalks.{same_walk, same_trees}
 use Rattle.volume_ops.proofs.laws.metadata_gives_trees.Goals as goal
 
 pub returns : goal.returns

@@ -1,4 +1,4 @@
-use Rattle.volume_ops.specs.laws.AlikeLaws.{changed_alike, changed_births}
+use Rattle.volume_ops.proofs.AlikeLaws.{changed_alike, changed_births}
 use Rattle.volume_ops.proofs.laws.same_metadata_gives_alike_trees.Goals as goal
 
 pub returns : goal.returns

@@ -1,4 +1,4 @@
-use Rattle.volume_ops.specs.laws.RootedLaws.{tree_of-rooted}
+use Rattle.volume_ops.proofs.RootedLaws.{tree_of-rooted}
 use Rattle.volume_ops.proofs.laws.trees_are_rooted.Goals as goal
 
 pub returns : goal.returns

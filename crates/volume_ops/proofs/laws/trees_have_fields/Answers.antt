@@ -1,4 +1,4 @@
-use Rattle.volume_ops.specs.laws.TreeLaws.{tree_of-fields}
+use Rattle.volume_ops.proofs.TreeLaws.{tree_of-fields}
 use Rattle.volume_ops.proofs.laws.trees_have_fields.Goals as goal
 
 pub returns : goal.returns

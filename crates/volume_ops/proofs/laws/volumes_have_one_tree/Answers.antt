@@ -1,4 +1,4 @@
-use Rattle.volume_ops.specs.laws.TreeUnique.{walked_tree, tree_walked, one_tree}
+use Rattle.volume_ops.proofs.TreeUnique.{walked_tree, tree_walked, one_tree}
 use Rattle.volume_ops.proofs.laws.volumes_have_one_tree.Goals as goal
 
 pub returns : goal.returns

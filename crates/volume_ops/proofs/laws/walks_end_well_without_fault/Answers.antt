@@ -1,4 +1,4 @@
-use Rattle.volume_ops.specs.laws.WalkTests.{walked_faultless, faultless_walked, walked_used}
+use Rattle.volume_ops.proofs.WalkTests.{walked_faultless, faultless_walked, walked_used}
 use Rattle.volume_ops.proofs.laws.walks_end_well_without_fault.Goals as goal
 
 pub returns : goal.returns

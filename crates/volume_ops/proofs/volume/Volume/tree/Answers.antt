@@ -1,6 +1,6 @@
 use Rattle.std.proofs.Common.{sym, subst}
 use Rattle.volume_ops.specs.laws.Rising.{HasRising}
-use Rattle.volume_ops.specs.laws.RisingLaws.{walked_rises, AllRise}
+use Rattle.volume_ops.proofs.RisingLaws.{walked_rises, AllRise}
 use Rattle.volume_ops.specs.declared.found.FoundNode.{FoundNode}
 use Rattle.volume_ops.specs.declared.volume.Volume.TheInside.{Inside}
 use Rattle.volume_ops.proofs.volume.Volume.tree.Goals as goal

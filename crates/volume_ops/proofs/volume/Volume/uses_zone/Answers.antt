@@ -2,7 +2,7 @@ use Rattle.std.proofs.Common.{◌≡◌, ◌↔◌, true, subst, sym}
 use Rattle.volume_ops.specs.declared.volume.Volume.TheInside.{Inside}
 use Rattle.volume_ops.specs.Faultless.{IsUsed}
 use Rattle.volume_ops.specs.Marks.{is_marked}
-use Rattle.volume_ops.specs.laws.WalkTests.{walked_used}
+use Rattle.volume_ops.proofs.WalkTests.{walked_used}
 use Rattle.volume_ops.proofs.volume.Volume.uses_zone.Goals as goal
 
 pub returns : goal.returns

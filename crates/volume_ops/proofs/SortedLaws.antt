@@ -1,0 +1,190 @@
+-- The walk finds the names of each directory in order, and a tree has its nodes in order.
+use Rattle.std.specs.Prelude.{◌≡◌, ℕ, zero, suc, ◌/◌, Bool, true, false, ◌-◌, ◌*◌, min, nat_lt, List, [], ◌∷◌, ◌++◌, Option, Some, None, Result, Ok, Err, IfOk, All, refl}
+use Rattle.std.proofs.Common.{ap, subst, ◌∙◌}
+use Rattle.std.specs.declared.cmp.Ordering.{Ordering}
+use Rattle.std.specs.declared.cmp.Ordering.TheVariants.{Less, Equal, Greater}
+use Rattle.std.specs.Cmp.{IsTotalOrder}
+use Rattle.std.specs.Ordering.{nat_cmp, ordering_reverse, match_ordering}
+use Rattle.std.specs.List.{AllByRecursion, range_with_len}
+use Rattle.std.specs.List.Sorted.{IsStrictlySortedBy}
+use Rattle.std.specs.Map.{keys_of}
+use Rattle.std.specs.BTreeMap.{insert_entry}
+use Rattle.std.proofs.lemmas.Cmp.{nat_cmp_total, nat_list_cmp_total}
+use Rattle.std.proofs.lemmas.List.Elements.{All-nil, All-push}
+use Rattle.byte_fields.specs.Fields.{record_at}
+use Rattle.blk_base.specs.Members.{In, All-In}
+use Rattle.minix_layout.specs.declared.division.Geometry.{Geometry}
+use Rattle.minix_layout.specs.declared.inode.Inode.{Inode}
+use Rattle.minix_layout.specs.declared.slot.Slot.{Slot}
+use Rattle.minix_layout.specs.declared.fault.LayoutFault.{LayoutFault}
+use Rattle.minix_layout.specs.declared.fault.LayoutFault.TheVariants.{BadInode, BadSlot}
+use Rattle.minix_layout.specs.Slots.{slot_of}
+use Rattle.tree_model.specs.declared.node.Node.{Node}
+use Rattle.tree_model.specs.Maps.{put_number, name_cmp}
+use Rattle.tree_model.specs.Paths.{is_dot}
+use Rattle.volume_ops.specs.declared.found.Mapped.{Mapped}
+use Rattle.volume_ops.specs.declared.found.Found.{Found}
+use Rattle.volume_ops.specs.declared.found.Found.TheVariants as found
+use Rattle.volume_ops.specs.declared.found.FoundNode.{FoundNode}
+use Rattle.volume_ops.specs.Reads.{Reads, Ret, answer, if_ok}
+use Rattle.volume_ops.proofs.RisingLaws.{answered_then, either_answers, either_ok, any_ok}
+use Rattle.volume_ops.specs.Places.{table_block, inode_in_block, is_directory, is_file, birth_of}
+use Rattle.volume_ops.specs.Marks.{is_marked}
+use Rattle.volume_ops.specs.Zones.{Fault, scan_zones}
+use Rattle.volume_ops.specs.Slots.{SlotScan, is_bad_entry, note_name, scan_entry, scan_used, scan_slot, scan_places, scan_block, scan_slots}
+use Rattle.volume_ops.specs.Walk.{WalkState, Walked, found_in, Pending, Visit, is_bad_inode, visit_file, visit_directory, visit, walk_through, walk, at_start, root, walk_volume}
+use Rattle.volume_ops.specs.Volume.{disk_of, walked, node_of, put_nodes}
+
+-- ---- a map in order stays so
+
+all_above : {K : Type 0} {cmp : K → K → Ordering} (order : IsTotalOrder cmp) (low k : K) (ks : List K) → cmp low k ≡ Less →
+    AllByRecursion (λ y. cmp k y ≡ Less) ks → AllByRecursion (λ y. cmp low y ≡ Less) ks
+all_above order low k [] first h = tt
+all_above order low k (y ∷ ys) first h = (order.trans low k y first h.0, all_above order low k ys first h.1)
+
+module _ {K X : Type 0} {cmp : K → K → Ordering} (order : IsTotalOrder cmp) where
+  all_inserted : (P : K → Type 0) (es : List (K × X)) (k : K) (x : X) → P k → AllByRecursion P (keys_of es) → AllByRecursion P (keys_of (insert_entry cmp es k x))
+  all_inserted P [] k x here h = (here, tt)
+  all_inserted P (e ∷ es) k x here h = by (cmp k e.0) (all_inserted P es k x here h.1)
+    where
+      by : (o : Ordering) → AllByRecursion P (keys_of (insert_entry cmp es k x)) →
+          AllByRecursion P (keys_of (match_ordering o ((k, x) ∷ e ∷ es) ((e.0, x) ∷ es) (e ∷ insert_entry cmp es k x)))
+      by Less more = (here, h)
+      by Equal more = h
+      by Greater more = (h.0, more)
+
+  pub sorted_inserted : (es : List (K × X)) (k : K) (x : X) → IsStrictlySortedBy cmp (keys_of es) → IsStrictlySortedBy cmp (keys_of (insert_entry cmp es k x))
+  unfolding IsStrictlySortedBy
+  sorted_inserted [] k x h = (tt, tt)
+  sorted_inserted (e ∷ es) k x h = by (cmp k e.0) refl (sorted_inserted es k x h.1)
+    where
+      by : (o : Ordering) → cmp k e.0 ≡ o → IsStrictlySortedBy cmp (keys_of (insert_entry cmp es k x)) →
+          IsStrictlySortedBy cmp (keys_of (match_ordering o ((k, x) ∷ e ∷ es) ((e.0, x) ∷ es) (e ∷ insert_entry cmp es k x)))
+      by Less q more = ((q, all_above order k e.0 (keys_of es) q h.0), h)
+      by Equal q more = h
+      by Greater q more = (all_inserted (λ y. cmp e.0 y ≡ Less) es k x (order.antisymm e.0 k ∙ ap ordering_reverse q) h.0, more)
+
+-- ---- the names of a directory
+
+abbrev AreSorted : List (List ℕ × ℕ) → Type 0
+AreSorted names = IsStrictlySortedBy name_cmp (keys_of names)
+
+abbrev NamesSorted : SlotScan → Type 0
+NamesSorted s = AreSorted s.names
+
+none_sorted : AreSorted []
+unfolding IsStrictlySortedBy
+none_sorted = tt
+
+note_sorted : (zone : ℕ) (slot : Slot) (s : SlotScan) (directory : Bool) → NamesSorted s → IfOk (note_name zone slot s directory) NamesSorted
+note_sorted zone slot s true h =
+    either_ok (is_marked s.named slot.inode) (Err (BadSlot, zone)) _ NamesSorted tt (sorted_inserted nat_list_cmp_total s.names slot.name (birth_of slot.inode) h)
+note_sorted zone slot s false h = sorted_inserted nat_list_cmp_total s.names slot.name (birth_of slot.inode) h
+
+module _ (disk : ℕ → List ℕ) (g : Geometry) where
+  entry_sorted : (zone : ℕ) (slot : Slot) (s : SlotScan) → NamesSorted s → IfOk (answer disk (scan_entry g zone slot s)) NamesSorted
+  entry_sorted zone slot s h =
+      either_answers disk (is_bad_entry g slot s) (Ret (Err (BadSlot, zone))) _ NamesSorted tt
+      (note_sorted zone slot s (is_directory (inode_in_block slot.inode (disk (table_block g slot.inode))).mode) h)
+
+  used_sorted : (zone : ℕ) (s : SlotScan) (o : Option Slot) → NamesSorted s → IfOk (answer disk (scan_used g zone s o)) NamesSorted
+  used_sorted zone s None h = h
+  used_sorted zone s (Some slot) h = either_answers disk (is_dot slot.name) (Ret (Ok s)) (scan_entry g zone slot s) NamesSorted h (entry_sorted zone slot s h)
+
+  slot_sorted : (zone : ℕ) (s : SlotScan) (read : Result (Option Slot) LayoutFault) → NamesSorted s →
+      IfOk (answer disk (elim read as (λ _. Reads (Result SlotScan Fault)) [ Err fault ↦ Ret (Err (fault, zone)) | Ok slot ↦ scan_used g zone s slot ])) NamesSorted
+  slot_sorted zone s (Ok o) h = used_sorted zone s o h
+  slot_sorted zone s (Err fault) h = tt
+
+  places_sorted : (zone : ℕ) (body ats : List ℕ) (s : SlotScan) → NamesSorted s → IfOk (answer disk (scan_places g zone body ats s)) NamesSorted
+  places_sorted zone body [] s h = h
+  places_sorted zone body (at ∷ ats) s h =
+      answered_then disk (scan_slot g zone (record_at 16 at body) s) (scan_places g zone body ats) NamesSorted NamesSorted
+      (slot_sorted zone s (slot_of (record_at 16 at body)) h) (λ t k. places_sorted zone body ats t k)
+
+  slots_sorted : (slots : ℕ) (ms : List Mapped) (s : SlotScan) → NamesSorted s → IfOk (answer disk (scan_slots g slots ms s)) NamesSorted
+  slots_sorted slots [] s h = h
+  slots_sorted slots (m ∷ ms) s h =
+      answered_then disk (scan_block g slots m s) (scan_slots g slots ms) NamesSorted NamesSorted
+      (either_answers disk (nat_lt (64 * m.index) slots) _ (Ret (Ok s)) NamesSorted
+      (places_sorted m.zone (disk m.zone) (range_with_len 0 (min 64 (slots - 64 * m.index))) s h) h)
+      (λ t k. slots_sorted slots ms t k)
+
+-- ---- the walk
+
+abbrev pub HasSorted : Found → Type 0
+HasSorted (found.Directory d) = AreSorted d.names
+HasSorted other = Unit {0}
+
+abbrev AllSorted : List FoundNode → Type 0
+AllSorted nodes = All (λ n. HasSorted n.found) nodes
+
+node_met : (nodes : List FoundNode) (birth : ℕ) (f : Found) → AllSorted nodes → HasSorted f → AllSorted (nodes ++ record { birth = birth; found = f } ∷ [])
+node_met nodes birth f h r = All-push (λ (n : FoundNode). HasSorted n.found) nodes (record { birth = birth; found = f }) h r
+
+abbrev FoundSorted : Walked → Type 0
+FoundSorted w = AllSorted w.nodes
+
+abbrev VisitSorted : Visit → Type 0
+VisitSorted v = AllSorted v.state.nodes
+
+module _ (disk : ℕ → List ℕ) (g : Geometry) where
+  directory_sorted : (w : WalkState) (e : Pending) (i : Inode) → AllSorted w.nodes →
+      IfOk (answer disk (if_ok (scan_zones g (table_block g e.inode) i.zones w.zones)
+      (λ z. if_ok (scan_slots g (i.size / 16) z.mapped (record { named = w.named; names = [] })) (λ s. Ret (visit_directory w e i z s))))) VisitSorted
+  directory_sorted w e i h =
+      answered_then disk (scan_zones g (table_block g e.inode) i.zones w.zones)
+      (λ z. if_ok (scan_slots g (i.size / 16) z.mapped (record { named = w.named; names = [] })) (λ s. Ret (visit_directory w e i z s)))
+      (λ _. Unit {0}) VisitSorted (any_ok (answer disk (scan_zones g (table_block g e.inode) i.zones w.zones)))
+      (λ z _. answered_then disk (scan_slots g (i.size / 16) z.mapped (record { named = w.named; names = [] })) (λ s. Ret (visit_directory w e i z s)) NamesSorted VisitSorted
+      (slots_sorted disk g (i.size / 16) z.mapped (record { named = w.named; names = [] }) none_sorted)
+      (λ s k. node_met w.nodes (birth_of e.inode) (found.Directory (record { parent = e.parent; slots = i.size / 16; names = s.names })) h k))
+
+  file_sorted : (w : WalkState) (e : Pending) (i : Inode) → AllSorted w.nodes →
+      IfOk (answer disk (if_ok (scan_zones g (table_block g e.inode) i.zones w.zones) (λ z. Ret (visit_file w e.inode i z)))) VisitSorted
+  file_sorted w e i h =
+      answered_then disk (scan_zones g (table_block g e.inode) i.zones w.zones) (λ z. Ret (visit_file w e.inode i z)) (λ _. Unit {0}) VisitSorted
+      (any_ok (answer disk (scan_zones g (table_block g e.inode) i.zones w.zones)))
+      (λ z _. node_met w.nodes (birth_of e.inode) (found.File (record { size = i.size; links = i.links; zones = z.mapped })) h tt)
+
+  visit_sorted : (w : WalkState) (e : Pending) → AllSorted w.nodes → IfOk (answer disk (visit g w e)) VisitSorted
+  unfolding visit
+  visit_sorted w e h =
+      let i : Inode = inode_in_block e.inode (disk (table_block g e.inode)) in
+      either_answers disk (is_bad_inode e.inode i) (Ret (Err (BadInode, table_block g e.inode))) _ VisitSorted tt
+      (either_answers disk (is_directory i.mode) _ _ VisitSorted (directory_sorted w e i h)
+      (either_answers disk (is_file i.mode) _ _ VisitSorted (file_sorted w e i h)
+      (node_met w.nodes (birth_of e.inode) (found.Other i.mode) h tt)))
+
+  through_sorted : (again : WalkState → List Pending → Reads (Result Walked Fault)) →
+      ((w : WalkState) (rest : List Pending) → AllSorted w.nodes → IfOk (answer disk (again w rest)) FoundSorted) →
+      (w : WalkState) (rest : List Pending) → AllSorted w.nodes → IfOk (answer disk (walk_through g again w rest)) FoundSorted
+  through_sorted again more w [] h = h
+  through_sorted again more w (e ∷ rest) h =
+      either_answers disk (is_marked w.inodes e.inode) (walk_through g again w rest) _ FoundSorted
+      (through_sorted again more w rest h)
+      (answered_then disk (visit g w e) (λ v. again v.state (v.names ++ rest)) VisitSorted FoundSorted (visit_sorted w e h) (λ v r. more v.state (v.names ++ rest) r))
+
+  walk_sorted : (n : ℕ) (w : WalkState) (rest : List Pending) → AllSorted w.nodes → IfOk (answer disk (walk n g w rest)) FoundSorted
+  walk_sorted zero w rest h = through_sorted (λ w rest. Ret (Ok (found_in w))) (λ w rest r. r) w rest h
+  walk_sorted (suc n) w rest h = through_sorted (walk n g) (walk_sorted n) w rest h
+
+-- each directory that the walk finds has its names in order
+pub walked_sorted : (g : Geometry) (blocks : List (List ℕ)) (w : Walked) → walked g blocks ≡ Ok w → (n : FoundNode) → In n w.nodes → HasSorted n.found
+unfolding walked walk_volume
+walked_sorted g blocks w e n i =
+    let r = walk_sorted (disk_of blocks) g g.inodes (at_start g) (root ∷ []) (All-nil (λ (n : FoundNode). HasSorted n.found)) in
+    All-In (λ (n : FoundNode). HasSorted n.found) w.nodes n (subst (λ x. IfOk x FoundSorted) e r) i
+
+-- ---- the tree
+
+abbrev InOrder : List (ℕ × Node) → Type 0
+InOrder tree = IsStrictlySortedBy nat_cmp (keys_of tree)
+
+put_sorted : (blocks : List (List ℕ)) (ns : List FoundNode) (tree : List (ℕ × Node)) → InOrder tree → InOrder (put_nodes blocks ns tree)
+put_sorted blocks [] tree h = h
+put_sorted blocks (n ∷ ns) tree h = put_sorted blocks ns (put_number tree n.birth (node_of blocks n.found)) (sorted_inserted nat_cmp_total tree n.birth (node_of blocks n.found) h)
+
+pub nodes_sorted : (blocks : List (List ℕ)) (ns : List FoundNode) → InOrder (put_nodes blocks ns [])
+unfolding IsStrictlySortedBy
+nodes_sorted blocks ns = put_sorted blocks ns [] tt
