@@ -3,7 +3,6 @@ use Rattle.std.proofs.Common.{◌≡◌, ℕ, zero, suc, ◌+◌, ◌*◌, ◌/�
 use Rattle.std.specs.Prelude.{All}
 use Rattle.std.proofs.lemmas.List.{length-take}
 use Rattle.std.proofs.lemmas.List.Elements.{All-nil, All-push}
-use Rattle.std.proofs.lemmas.List.FromFn.{length-map-range_with_len}
 use Rattle.minix_layout.specs.declared.division.Geometry.{Geometry}
 use Rattle.minix_layout.specs.declared.inode.Inode.{Inode}
 use Rattle.volume_ops.specs.declared.found.Mapped.{Mapped}
@@ -13,12 +12,13 @@ use Rattle.volume_ops.specs.declared.found.FoundNode.{FoundNode}
 use Rattle.volume_ops.specs.Reads.{Reads, Ret, Read, answer, if_ok, go_on}
 use Rattle.volume_ops.specs.laws.ReadsLaws.{answer-and_then}
 use Rattle.minix_layout.specs.declared.fault.LayoutFault.TheVariants.{BadInode}
-use Rattle.volume_ops.specs.Places.{zone_number, zone_numbers, table_block, inode_in_block, is_directory, is_file, birth_of}
+use Rattle.volume_ops.specs.Places.{zone_numbers, table_block, inode_in_block, is_directory, is_file, birth_of}
 use Rattle.volume_ops.specs.Marks.{is_marked}
 use Rattle.volume_ops.specs.Zones.{Fault, ZoneScan, take_zone, take_block, take_blocks, take_numbers, take_indirect, take_indirects, take_double, scan_zones}
 use Rattle.volume_ops.specs.Slots.{scan_slots}
 use Rattle.volume_ops.specs.Walk.{WalkState, Walked, found_in, Pending, Visit, is_bad_inode, visit_file, visit_directory, visit, walk_through, walk, at_start, root, walk_volume}
 use Rattle.volume_ops.specs.Volume.{disk_of, walked}
+use Rattle.volume_ops.proofs.ZonesLaws.{length-zone_numbers}
 use Rattle.volume_ops.specs.laws.Rising.{RiseWithin, IsRising, HasRising}
 
 -- ---- lists that rise
@@ -87,10 +87,6 @@ blocks_rise g holder index (zone ∷ zones) s h =
     (one_up s (rise_higher 0 s.mapped index (index + 1) (omega arith) h))
     (ok_then (take_block g holder index zone s) (take_blocks g holder (index + 1) zones) (Below (index + 1)) (Below end)
     (block_taken (take_zone g holder zone s.met) index zone s h) one_up)
-
-pub length-zone_numbers : (body : List ℕ) → length (zone_numbers body) ≡ 512
-unfolding zone_numbers
-length-zone_numbers body = length-map-range_with_len (zone_number body) 0 512
 
 zone_taken : (disk : ℕ → List ℕ) (r : Result (List Bool) Fault) (zone : ℕ) (s : ZoneScan) (next : List ℕ → ZoneScan → Reads (Result ZoneScan Fault)) (P : ZoneScan → Type 0)
     → ((met : List Bool) (body : List ℕ) → IfOk (answer disk (next (zone_numbers body) (record { met = met; mapped = s.mapped }))) P)

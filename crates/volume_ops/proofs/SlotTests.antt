@@ -29,7 +29,7 @@ use Rattle.volume_ops.specs.Fields.{inode_at, zone_behind, slot_behind}
 use Rattle.volume_ops.specs.Zones.{Fault}
 use Rattle.volume_ops.proofs.ZonesLaws.{block_at}
 use Rattle.volume_ops.specs.Slots.{SlotScan, is_bad_entry, note_name, scan_entry, scan_used, scan_slot, scan_places, scan_block, scan_slots}
-use Rattle.volume_ops.proofs.SortedLaws.{sorted_inserted}
+use Rattle.tree_model.specs.laws.MapOrder.{sorted_put}
 use Rattle.volume_ops.specs.laws.Rising.{RiseWithin}
 use Rattle.volume_ops.specs.Faultless.{IsDirectory, IsEntryAt}
 
@@ -190,7 +190,7 @@ module _ (g : Geometry) (blocks : List (List ℕ)) (i : Inode) (before : List Bo
           (λ same. subst (λ (x : List ℕ × ℕ). at_name after.names x.0 ≡ Some x.1) same here)
           (λ j. old x.0 x.1 (h.told x j))
           (In-put_name s.names slot.name (birth_of slot.inode) x (subst (λ names. In x names) n.names j));
-      sorted = subst (λ (names : List (List ℕ × ℕ)). IsStrictlySortedBy name_cmp (keys_of names)) (sym n.names) (sorted_inserted nat_list_cmp_total s.names slot.name (birth_of slot.inode) h.sorted);
+      sorted = subst (λ (names : List (List ℕ × ℕ)). IsStrictlySortedBy name_cmp (keys_of names)) (sym n.names) (sorted_put nat_list_cmp_total s.names slot.name (birth_of slot.inode) h.sorted);
     }
       where
         once_more : (q : ℕ) (t : Slot) → q < p + 1 → Entry q t → (r : ℕ) (u : Slot) → r < p + 1 → Entry r u → t.name ≡ u.name → q ≡ r

@@ -1,15 +1,10 @@
 -- The walk finds the names of each directory in order, and a tree has its nodes in order.
 use Rattle.std.specs.Prelude.{◌≡◌, ℕ, zero, suc, ◌/◌, Bool, true, false, ◌-◌, ◌*◌, min, nat_lt, List, [], ◌∷◌, ◌++◌, Option, Some, None, Result, Ok, Err, IfOk, All, refl}
-use Rattle.std.proofs.Common.{ap, subst, ◌∙◌}
-use Rattle.std.specs.declared.cmp.Ordering.{Ordering}
-use Rattle.std.specs.declared.cmp.Ordering.TheVariants.{Less, Equal, Greater}
-use Rattle.std.specs.Cmp.{IsTotalOrder}
-use Rattle.std.specs.Ordering.{nat_cmp, ordering_reverse, match_ordering}
-use Rattle.std.specs.List.{AllByRecursion, range_with_len}
+use Rattle.std.proofs.Common.{subst}
+use Rattle.std.specs.List.{range_with_len}
 use Rattle.std.specs.List.Sorted.{IsStrictlySortedBy}
 use Rattle.std.specs.Map.{keys_of}
-use Rattle.std.specs.BTreeMap.{insert_entry}
-use Rattle.std.proofs.lemmas.Cmp.{nat_cmp_total, nat_list_cmp_total}
+use Rattle.std.proofs.lemmas.Cmp.{nat_list_cmp_total}
 use Rattle.std.proofs.lemmas.List.Elements.{All-nil, All-push}
 use Rattle.byte_fields.specs.Fields.{record_at}
 use Rattle.blk_base.specs.Members.{In, All-In}
@@ -22,6 +17,7 @@ use Rattle.minix_layout.specs.Slots.{slot_of}
 use Rattle.tree_model.specs.declared.node.Node.{Node}
 use Rattle.tree_model.specs.Maps.{put_number, name_cmp}
 use Rattle.tree_model.specs.Paths.{is_dot}
+use Rattle.tree_model.specs.laws.MapOrder.{InOrder, sorted_put, in_order_put}
 use Rattle.volume_ops.specs.declared.found.Mapped.{Mapped}
 use Rattle.volume_ops.specs.declared.found.Found.{Found}
 use Rattle.volume_ops.specs.declared.found.Found.TheVariants as found
@@ -34,35 +30,6 @@ use Rattle.volume_ops.specs.Zones.{Fault, scan_zones}
 use Rattle.volume_ops.specs.Slots.{SlotScan, is_bad_entry, note_name, scan_entry, scan_used, scan_slot, scan_places, scan_block, scan_slots}
 use Rattle.volume_ops.specs.Walk.{WalkState, Walked, found_in, Pending, Visit, is_bad_inode, visit_file, visit_directory, visit, walk_through, walk, at_start, root, walk_volume}
 use Rattle.volume_ops.specs.Volume.{disk_of, walked, node_of, put_nodes}
-
--- ---- a map in order stays so
-
-all_above : {K : Type 0} {cmp : K → K → Ordering} (order : IsTotalOrder cmp) (low k : K) (ks : List K) → cmp low k ≡ Less →
-    AllByRecursion (λ y. cmp k y ≡ Less) ks → AllByRecursion (λ y. cmp low y ≡ Less) ks
-all_above order low k [] first h = tt
-all_above order low k (y ∷ ys) first h = (order.trans low k y first h.0, all_above order low k ys first h.1)
-
-module _ {K X : Type 0} {cmp : K → K → Ordering} (order : IsTotalOrder cmp) where
-  all_inserted : (P : K → Type 0) (es : List (K × X)) (k : K) (x : X) → P k → AllByRecursion P (keys_of es) → AllByRecursion P (keys_of (insert_entry cmp es k x))
-  all_inserted P [] k x here h = (here, tt)
-  all_inserted P (e ∷ es) k x here h = by (cmp k e.0) (all_inserted P es k x here h.1)
-    where
-      by : (o : Ordering) → AllByRecursion P (keys_of (insert_entry cmp es k x)) →
-          AllByRecursion P (keys_of (match_ordering o ((k, x) ∷ e ∷ es) ((e.0, x) ∷ es) (e ∷ insert_entry cmp es k x)))
-      by Less more = (here, h)
-      by Equal more = h
-      by Greater more = (h.0, more)
-
-  pub sorted_inserted : (es : List (K × X)) (k : K) (x : X) → IsStrictlySortedBy cmp (keys_of es) → IsStrictlySortedBy cmp (keys_of (insert_entry cmp es k x))
-  unfolding IsStrictlySortedBy
-  sorted_inserted [] k x h = (tt, tt)
-  sorted_inserted (e ∷ es) k x h = by (cmp k e.0) refl (sorted_inserted es k x h.1)
-    where
-      by : (o : Ordering) → cmp k e.0 ≡ o → IsStrictlySortedBy cmp (keys_of (insert_entry cmp es k x)) →
-          IsStrictlySortedBy cmp (keys_of (match_ordering o ((k, x) ∷ e ∷ es) ((e.0, x) ∷ es) (e ∷ insert_entry cmp es k x)))
-      by Less q more = ((q, all_above order k e.0 (keys_of es) q h.0), h)
-      by Equal q more = h
-      by Greater q more = (all_inserted (λ y. cmp e.0 y ≡ Less) es k x (order.antisymm e.0 k ∙ ap ordering_reverse q) h.0, more)
 
 -- ---- the names of a directory
 
@@ -78,8 +45,8 @@ none_sorted = tt
 
 note_sorted : (zone : ℕ) (slot : Slot) (s : SlotScan) (directory : Bool) → NamesSorted s → IfOk (note_name zone slot s directory) NamesSorted
 note_sorted zone slot s true h =
-    either_ok (is_marked s.named slot.inode) (Err (BadSlot, zone)) _ NamesSorted tt (sorted_inserted nat_list_cmp_total s.names slot.name (birth_of slot.inode) h)
-note_sorted zone slot s false h = sorted_inserted nat_list_cmp_total s.names slot.name (birth_of slot.inode) h
+    either_ok (is_marked s.named slot.inode) (Err (BadSlot, zone)) _ NamesSorted tt (sorted_put nat_list_cmp_total s.names slot.name (birth_of slot.inode) h)
+note_sorted zone slot s false h = sorted_put nat_list_cmp_total s.names slot.name (birth_of slot.inode) h
 
 module _ (disk : ℕ → List ℕ) (g : Geometry) where
   entry_sorted : (zone : ℕ) (slot : Slot) (s : SlotScan) → NamesSorted s → IfOk (answer disk (scan_entry g zone slot s)) NamesSorted
@@ -178,12 +145,9 @@ walked_sorted g blocks w e n i =
 
 -- ---- the tree
 
-abbrev InOrder : List (ℕ × Node) → Type 0
-InOrder tree = IsStrictlySortedBy nat_cmp (keys_of tree)
-
 put_sorted : (blocks : List (List ℕ)) (ns : List FoundNode) (tree : List (ℕ × Node)) → InOrder tree → InOrder (put_nodes blocks ns tree)
 put_sorted blocks [] tree h = h
-put_sorted blocks (n ∷ ns) tree h = put_sorted blocks ns (put_number tree n.birth (node_of blocks n.found)) (sorted_inserted nat_cmp_total tree n.birth (node_of blocks n.found) h)
+put_sorted blocks (n ∷ ns) tree h = put_sorted blocks ns (put_number tree n.birth (node_of blocks n.found)) (in_order_put tree n.birth (node_of blocks n.found) h)
 
 pub nodes_sorted : (blocks : List (List ℕ)) (ns : List FoundNode) → InOrder (put_nodes blocks ns [])
 unfolding IsStrictlySortedBy

@@ -10,7 +10,8 @@ use Rattle.volume_ops.specs.Zones.{Fault}
 use Rattle.std.proofs.lemmas.List.{reverse-append}
 use Rattle.std.proofs.lemmas.List.Elements.{All-head, All-pop}
 use Rattle.volume_ops.proofs.GoesOn.{answer-if_ok-ok, answer-if_ok-err}
-use Rattle.volume_ops.proofs.UnmetMarks.{to_meet, to_meet-marked, to_meet-root, start_unmarked, length-marked, length-start}
+use Rattle.volume_ops.specs.laws.MarksLaws.{no_mark, length-marked, length-no_marks}
+use Rattle.volume_ops.proofs.UnmetMarks.{to_meet, to_meet-marked, to_meet-root}
 
 module _ (disk : ℕ → List ℕ) (g : Geometry) (w : WalkState) where
   pub walk_none : (n : ℕ) → answer disk (walk n g w []) ≡ Ok (found_in w)
@@ -56,7 +57,7 @@ none_pending g (e ∷ es) none h = let p = All-head (IsPending g) e es h.each in
 
 module _ (g : Geometry) (blocks : List (List ℕ)) (w : WalkState) (start : w ≡ at_start g) where
   root_unmarked : is_marked w.inodes 1 ≡ false
-  root_unmarked = rw start (start_unmarked (g.inodes + 1) 1)
+  root_unmarked = rw start (no_mark (g.inodes + 1) 1)
 
   walked_is : walked g blocks ≡ answer (disk_of blocks) (walk g.inodes g w (root ∷ []))
   unfolding walked walk_volume
@@ -79,7 +80,7 @@ module _ (g : Geometry) (blocks : List (List ℕ)) (w : WalkState) (start : w �
     walk_first = sym (walked_is ∙ first_with g.inodes refl)
 
     pub first_length : length v.inodes ≡ g.inodes + 1
-    first_length = rw (marks, start) (length-marked (no_marks (g.inodes + 1)) 1 ∙ length-start g.inodes)
+    first_length = rw (marks, start) (length-marked (no_marks (g.inodes + 1)) 1 ∙ length-no_marks (g.inodes + 1))
 
 -- ---- from one turn to the next
 

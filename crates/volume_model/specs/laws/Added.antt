@@ -6,8 +6,8 @@ use Rattle.std.proofs.lemmas.Cmp.{nat_cmp_total}
 use Rattle.std.proofs.lemmas.Option.{none-some, same_Some}
 use Rattle.minix_layout.specs.declared.division.Geometry.{Geometry}
 use Rattle.tree_model.specs.Maps.{at_number, put_number}
+use Rattle.tree_model.specs.laws.MapOrder.{sorted_put}
 use Rattle.tree_model.specs.laws.MapsLaws.{at_put_number, at_put_number_apart}
-use Rattle.volume_ops.proofs.SortedLaws.{sorted_inserted}
 use Rattle.volume_model.specs.declared.placed.Placed.{Placed}
 use Rattle.volume_model.specs.declared.placed.DirectoryPart.{DirectoryPart}
 use Rattle.volume_model.specs.Edits.{put_inode, edited}
@@ -61,7 +61,7 @@ module _ (g : Geometry) (blocks : List (List ℕ)) (nodes : List (ℕ × Placed)
   added_stands = record {
     whole = changes.whole;
     size = changes.size ∙ h.size;
-    in_order = sorted_inserted nat_cmp_total nodes n q h.in_order;
+    in_order = sorted_put nat_cmp_total nodes n q h.in_order;
     each = λ b p at. elim (which b p at) [
       | new e same ↦ subst (IsStored g after) same may.stored
       | old a was ↦ (let told = h.each b p was in stored_kept g blocks after p told

@@ -6,8 +6,8 @@ use Rattle.std.proofs.lemmas.Cmp.{nat_cmp_total}
 use Rattle.std.proofs.lemmas.Option.{same_Some}
 use Rattle.minix_layout.specs.declared.division.Geometry.{Geometry}
 use Rattle.tree_model.specs.Maps.{at_number, put_number}
+use Rattle.tree_model.specs.laws.MapOrder.{sorted_put}
 use Rattle.tree_model.specs.laws.MapsLaws.{at_put_number, at_put_number_apart}
-use Rattle.volume_ops.proofs.SortedLaws.{sorted_inserted}
 use Rattle.volume_ops.specs.Volume.{disk_of}
 use Rattle.volume_model.specs.declared.placed.Placed.{Placed}
 use Rattle.volume_model.specs.declared.placed.DirectoryPart.{DirectoryPart}
@@ -70,7 +70,7 @@ module _ (g : Geometry) (blocks after : List (List ℕ)) (nodes : List (ℕ × P
   changed_stands = record {
     whole = may.changes.whole;
     size = may.changes.size ∙ h.size;
-    in_order = sorted_inserted nat_cmp_total nodes n q h.in_order;
+    in_order = sorted_put nat_cmp_total nodes n q h.in_order;
     each = λ b r at. elim (which b r at) [
       | changed e same ↦ subst (IsStored g after) same may.stored
       | other a was ↦ (let told = h.each b r was in stored_kept g blocks after r told
