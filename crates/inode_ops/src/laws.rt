@@ -1,3 +1,4 @@
+//! Laws of the file map.
 ghost use Rattle.std.specs.Prelude.{◌≡◌, ◌≢◌, ℕ, ◌+◌, ◌*◌, ◌<◌, ◌≤◌, List, slice_index};
 ghost use Rattle.inode_ops.specs.Map.{zone_at};
 

@@ -1,3 +1,4 @@
+//! The file map at each of its levels.
 ghost use Rattle.std.specs.Prelude.{◌≡◌, [], length, get_or};
 
 use super::*;

@@ -1,3 +1,4 @@
+//! The division of a volume, as its superblock says it.
 /// How a volume is divided into blocks of 1,024 bytes: the boot block, the superblock, the map of the
 /// inodes, the map of the zones, the table of the inodes, and from `first` on the zones of data.
 #[derive(Clone, Copy, Debug, PartialEq, Eq)]

@@ -1,3 +1,4 @@
+//! Superblocks: read, written and tested.
 ghost use Rattle.std.specs.Prelude.{◌≡◌, ◌≢◌, ◌≤◌, ◌↔◌, IfOk, IsErr};
 ghost use Rattle.minix_layout.specs.Words.{first_zone};
 ghost use Rattle.minix_layout.specs.Geometry.{geometry_made, is_consistent, IsSound};

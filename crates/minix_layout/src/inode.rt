@@ -1,3 +1,4 @@
+//! Inodes as values.
 use crate::Zones;
 
 /// An inode: a file, a directory or another thing that slots name.

@@ -1,3 +1,4 @@
+//! Laws of the layout: what is written is read back.
 ghost use Rattle.std.specs.Prelude.{◌≡◌, ◌≢◌, ℕ, ◌*◌, ◌/◌, ◌<◌, ◌≤◌, Bool, List, length, Option, Ok, IfSome, slice_index, slice_index_or};
 ghost use Rattle.blk_base.specs.Block.{filled};
 ghost use Rattle.byte_fields.specs.Fields.{Apart, record_at, put_record};

@@ -1,3 +1,4 @@
+//! Runs of bytes in a block.
 ghost use Rattle.std.specs.Prelude.{◌≡◌, ◌+◌, ◌≤◌, length};
 ghost use Rattle.byte_fields.specs.Fields.{bytes_at, put_bytes};
 

@@ -1,3 +1,4 @@
+//! Slots of directories as values.
 use crate::Name;
 
 /// A slot in use: the number of an inode, and the name under which it stands in its directory.

@@ -1,3 +1,4 @@
+//! Superblocks, inodes, slots and maps, with bytes worked out by hand.
 ghost use Rattle.std.specs.Prelude.{◌≤◌, length};
 
 use super::*;

@@ -1,3 +1,4 @@
+//! The zones of an inode.
 ghost use Rattle.std.specs.Prelude.{◌≡◌, ◌<◌, length, slice_index, slice_set};
 
 use std::marker::Model;

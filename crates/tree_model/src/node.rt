@@ -1,3 +1,4 @@
+//! The parts of a tree: directories, files and other nodes.
 ghost use Rattle.std.specs.Prelude.{◌≡◌, [], OnOk, OnErr};
 ghost use Rattle.tree_model.specs.Maps.{put_number};
 

@@ -1,3 +1,4 @@
+//! The text of a tree, paths, copies, and what is printed of calls.
 use super::*;
 use blk_base::{Block, NoMemory};
 use minix_layout::Name;

@@ -1,3 +1,4 @@
+//! The blocks of a volume in memory.
 ghost use Rattle.std.specs.Prelude.{◌≡◌};
 ghost use Rattle.volume_ops.specs.Volume.{disk_of};
 

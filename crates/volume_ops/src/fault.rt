@@ -1,3 +1,4 @@
+//! Why a volume was not read.
 use crate::walk_fault::WalkFault;
 use blk_base::NoMemory;
 use minix_layout::LayoutFault;

@@ -1,3 +1,4 @@
+//! Laws of the walk: what it reads, what it tells, and the tree that it finds.
 ghost use Rattle.std.specs.Prelude.{◌≡◌, ℕ, ◌<◌, ◌≤◌, ◌↔◌, true, List, Some, option_map, Ok, Err};
 ghost use Rattle.blk_base.specs.Members.{In};
 ghost use Rattle.minix_layout.specs.declared.division.Geometry.{Geometry};

@@ -1,3 +1,4 @@
+//! Marks by number.
 ghost use Rattle.std.specs.Prelude.{◌≡◌, IfOk};
 ghost use Rattle.volume_ops.specs.Marks.{no_marks, is_marked, marked};
 

@@ -1,3 +1,4 @@
+//! The laws as calls; volumes that are read stand in the tests of mounting.
 use super::*;
 
 #[test]

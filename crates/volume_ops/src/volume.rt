@@ -1,3 +1,4 @@
+//! Volumes that were read: their zones and their tree.
 ghost use Rattle.std.specs.Prelude.{◌≡◌, ◌≤◌, ◌↔◌, true, Ok, Err, length, take, IfOk, IfErr, IsOk, IsErrOf};
 ghost use Rattle.blk_base.specs.Streams.{Rose};
 ghost use Rattle.order_model.specs.Device.{IsQuiet};

@@ -1,3 +1,4 @@
+//! How a walk ends early.
 use blk_base::NoMemory;
 use minix_layout::LayoutFault;
 
