@@ -53,6 +53,10 @@ super_of b =
     else if not ((size_of b == 1024) && has_places (numbers_of b)) then Err BadCount
     else Ok (numbers_of b)
 
+-- a journal begins with this block: it is a superblock, of the first version, which is not read here, or the second
+abbrev pub is_journal : List ℕ → Bool
+is_journal b = (magic_of b == 0xC03B3998) && ((kind_of b == 3) || (kind_of b == 4))
+
 -- each number fits its bits
 pub record FitSuper (s : JournalSuper) : Type 0 where
   pub maxlen : s.maxlen < 2 ^ 32

@@ -11,6 +11,8 @@ pub(crate) const DESCRIPTOR: u32 = 1;
 
 pub(crate) const COMMIT: u32 = 2;
 
+pub(crate) const FIRST_SUPERBLOCK: u32 = 3;
+
 pub(crate) const SUPERBLOCK: u32 = 4;
 
 pub(crate) const REVOKE: u32 = 5;

@@ -34,6 +34,6 @@ pub use laws::{
 };
 pub use lists::{NumberList, TagList};
 pub use log_block::{LogBlock, read_block};
-pub use super_block::{JournalSuper, read_super, set_tail, write_super};
+pub use super_block::{JournalSuper, is_journal, read_super, set_tail, write_super};
 pub use tag::Tag;
 pub use writing::{write_commit, write_descriptor, write_revoke};

@@ -15,10 +15,10 @@
 ghost use Rattle.std.specs.Prelude.{◌≡◌, ◌≢◌, ◌↔◌, ℕ, ◌^◌, ◌<◌, ◌==◌, ◌&&◌, Ok, Err, IfOk, IsFalse, length, slice_index};
 ghost use Rattle.byte_fields.specs.Fields.{Apart};
 ghost use Rattle.journal_blocks.specs.Header.{magic_of, kind_of};
-ghost use Rattle.journal_blocks.specs.Super.{super_of, super_block, with_tail, size_of, numbers_of, unknown_bits, has_places, IsSound, FitSuper};
+ghost use Rattle.journal_blocks.specs.Super.{super_of, super_block, with_tail, size_of, numbers_of, unknown_bits, has_places, is_journal, IsSound, FitSuper};
 
 use crate::JournalFault;
-use crate::header::{MAGIC, SUPERBLOCK};
+use crate::header::{FIRST_SUPERBLOCK, MAGIC, SUPERBLOCK};
 use blk_base::Block;
 use byte_fields::{put_u32_be, u32_at_be, zeroed};
 
@@ -54,6 +54,15 @@ pub fn read_super(b: &Block) -> Result<JournalSuper, JournalFault>
     ensures memory { result ≢ Err JournalFault.NoMemory }
 {
     super_in(b.as_slice())
+}
+
+/// Whether a journal begins with this block: a superblock of either version. `read_super` reads the second alone.
+pub fn is_journal(b: &Block) -> bool
+    ensures { result ≡ is_journal b.now }
+{
+    let bytes = b.as_slice();
+    let kind = u32_at_be(bytes, 4);
+    u32_at_be(bytes, 0) == MAGIC && (kind == FIRST_SUPERBLOCK || kind == SUPERBLOCK)
 }
 
 // What 1,024 bytes say as a superblock.
