@@ -1,5 +1,5 @@
 -- The recovered image: the bodies of the journal's log in their homes, and the log empty.
-use Rattle.std.specs.Prelude.{◌≡◌, ℕ, ◌+◌, ◌^◌, ◌%◌, ◌<◌, ◌==◌, if◌then◌else◌, List, [], ◌∷◌, length, slice_set, nat_lt, ◌-◌, Option, Some, None, Result, Ok, Err}
+use Rattle.std.specs.Prelude.{◌≡◌, ◌⊎◌, ℕ, ◌+◌, ◌^◌, ◌%◌, ◌<◌, ◌==◌, if◌then◌else◌, List, [], ◌∷◌, length, slice_get, slice_set, nat_lt, ◌-◌, Option, Some, None, Result, Ok, Err}
 use Rattle.std.specs.Option.{option_map}
 use Rattle.log_model.specs.Marks.{Transaction, Mark, Set, mark_in, body_after}
 use Rattle.journal_blocks.specs.declared.super_block.JournalSuper.{JournalSuper}
@@ -43,6 +43,10 @@ by_super base image (Ok s) = if s.start == 0 then image else emptied base s imag
 
 unfoldable pub recovered : ℕ → List (List ℕ) → List (List ℕ)
 recovered base image = by_super base image (super_of (body_at image base))
+
+-- each block is as it was, or as it is in the end
+abbrev pub AreBetween : List (List ℕ) → List (List ℕ) → List (List ℕ) → Type 0
+AreBetween old end new = (b : ℕ) → (slice_get new b ≡ slice_get old b) ⊎ (slice_get new b ≡ slice_get end b)
 
 -- the journal's superblock is a block of the image, and no body of the log is for the journal
 pub record IsRecoverable (base : ℕ) (image : List (List ℕ)) : Type 0 where

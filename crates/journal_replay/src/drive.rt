@@ -21,6 +21,7 @@ fn send<D: OrderedDev>(dev: &mut D, plan: &mut Plan)
     ensures kept { KeepsAll (D.seen (D.state dev.old)) plan.old (D.seen (D.state dev.new)) plan.new }
     ensures others { D.seen (D.state dev.new) ≡ record (D.seen (D.state dev.old)) { took = (D.seen (D.state dev.new)).took } }
     ensures on { D.stays_on (D.state dev.old) → D.stays_on (D.state dev.new) }
+    ensures sound { D.sound (D.state dev.old) → D.sound (D.state dev.new) × ((D.seen (D.state dev.new)).faults ≡ (D.seen (D.state dev.old)).faults) }
 {
     while dev.room() {
         let Some(command) = plan.next() else {
@@ -39,6 +40,7 @@ fn step<D: OrderedDev>(dev: &mut D, choice: Choice)
     ensures kept { StepKeeps (D.seen (D.state dev.old)) (D.seen (D.state dev.new)) }
     ensures falls { choice ≡ Choice.Default → (0 < D.can_transfer (D.state dev.old)) ⊎ (0 < D.can_persist (D.state dev.old)) → D.left (D.state dev.new) < D.left (D.state dev.old) }
     ensures on { D.stays_on (D.state dev.old) → D.stays_on (D.state dev.new) }
+    ensures sound { D.sound (D.state dev.old) → D.sound (D.state dev.new) × ((D.seen (D.state dev.new)).faults ≡ (D.seen (D.state dev.old)).faults) }
 {
     match choice {
         Choice::Transfer(pick) => {
@@ -67,6 +69,7 @@ fn drain<D: OrderedDev>(dev: &mut D, end: End) -> End
     ensures kept { DrainKeeps (D.seen (D.state dev.old)) (D.seen (D.state dev.new)) }
     ensures empty { (D.seen (D.state dev.new)).waiting ≡ [] }
     ensures on { D.stays_on (D.state dev.old) → D.stays_on (D.state dev.new) }
+    ensures sound { D.sound (D.state dev.old) → D.sound (D.state dev.new) × ((D.seen (D.state dev.new)).faults ≡ (D.seen (D.state dev.old)).faults) }
     ensures left { D.left (D.state dev.new) ≡ D.left (D.state dev.old) }
 {
     let mut end = end;
@@ -88,6 +91,7 @@ fn turn<D: OrderedDev>(dev: &mut D, plan: &mut Plan, choice: Choice, end: End) -
     ensures end { result ≡ end_of (D.seen (D.state dev.new)) }
     ensures empty { (D.seen (D.state dev.new)).waiting ≡ [] }
     ensures on { D.stays_on (D.state dev.old) → D.stays_on (D.state dev.new) }
+    ensures sound { D.sound (D.state dev.old) → D.sound (D.state dev.new) × ((D.seen (D.state dev.new)).faults ≡ (D.seen (D.state dev.old)).faults) }
     ensures unsent { (D.has_room (D.state dev.old) ≡ false) ⊎ (plan.old ≡ []) → plan.new ≡ plan.old }
     ensures falls { (D.has_room (D.state dev.old) ≡ false) ⊎ (plan.old ≡ []) → is_running end ≡ true → choice ≡ Choice.Default → (0 < D.can_transfer (D.state dev.old)) ⊎ (0 < D.can_persist (D.state dev.old)) → D.left (D.state dev.new) < D.left (D.state dev.old) }
 {
@@ -112,6 +116,7 @@ pub(crate) fn follow<D: OrderedDev>(dev: &mut D, plan: &mut Plan, steer: &[Choic
     ensures end { result ≡ end_of (D.seen (D.state dev.new)) }
     ensures empty { (D.seen (D.state dev.new)).waiting ≡ [] }
     ensures on { D.stays_on (D.state dev.old) → D.stays_on (D.state dev.new) }
+    ensures sound { D.sound (D.state dev.old) → D.sound (D.state dev.new) × ((D.seen (D.state dev.new)).faults ≡ (D.seen (D.state dev.old)).faults) }
 {
     let mut end = End::Running;
     for choice in steer {
@@ -137,6 +142,7 @@ fn await_room<D: OrderedDev>(dev: &mut D, plan: &mut Plan, end: End) -> End
     ensures end { result ≡ end_of (D.seen (D.state dev.new)) }
     ensures empty { (D.seen (D.state dev.new)).waiting ≡ [] }
     ensures on { D.stays_on (D.state dev.new) }
+    ensures sound { D.sound (D.state dev.old) → D.sound (D.state dev.new) × ((D.seen (D.state dev.new)).faults ≡ (D.seen (D.state dev.old)).faults) }
     ensures unsent { plan.new ≡ plan.old }
     ensures room { is_running result ≡ true → D.has_room (D.state dev.new) ≡ true }
 {
@@ -160,6 +166,7 @@ pub(crate) fn finish<D: OrderedDev>(dev: &mut D, plan: &mut Plan, end: End) -> E
     ensures kept { RunKeeps (D.seen (D.state dev.old)) plan.old (D.seen (D.state dev.new)) plan.new }
     ensures end { result ≡ end_of (D.seen (D.state dev.new)) }
     ensures over { is_running result ≡ false }
+    ensures sound { D.sound (D.state dev.old) → D.sound (D.state dev.new) × ((D.seen (D.state dev.new)).faults ≡ (D.seen (D.state dev.old)).faults) }
 {
     let mut end = end;
     while !plan.is_done() {

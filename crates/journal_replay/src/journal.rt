@@ -38,6 +38,7 @@ pub(crate) fn open<D: OrderedDev>(
     ensures unchanged { HasRead (D.seen (D.state dev.old)) (D.seen (D.state dev.new)) }
     ensures valid { D.valid (D.state dev.new) }
     ensures on { D.stays_on (D.state dev.old) → D.stays_on (D.state dev.new) }
+    ensures sound { D.sound (D.state dev.old) → D.sound (D.state dev.new) × ((D.seen (D.state dev.new)).faults ≡ (D.seen (D.state dev.old)).faults) }
 {
     let blocks = dev.blocks();
     let Ok(superblock) = read_place(dev, base) else {

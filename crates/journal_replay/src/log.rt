@@ -81,6 +81,7 @@ pub fn scan<D: OrderedDev>(
     ensures unchanged { HasRead (D.seen (D.state dev.old)) (D.seen (D.state dev.new)) }
     ensures valid { D.valid (D.state dev.new) }
     ensures on { D.stays_on (D.state dev.old) → D.stays_on (D.state dev.new) }
+    ensures sound { D.sound (D.state dev.old) → D.sound (D.state dev.new) × ((D.seen (D.state dev.new)).faults ≡ (D.seen (D.state dev.old)).faults) }
 {
     if s.start == 0 {
         // By this call the device tells that its laws hold of its state.

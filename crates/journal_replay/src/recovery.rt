@@ -10,7 +10,7 @@ ghost use Rattle.journal_blocks.specs.declared.super_block.JournalSuper.{Journal
 ghost use Rattle.journal_blocks.specs.declared.fault.JournalFault.{JournalFault};
 ghost use Rattle.journal_blocks.specs.Super.{super_of};
 ghost use Rattle.journal_blocks.specs.Log.{body_at, log_of};
-ghost use Rattle.journal_replay.specs.Recovered.{recovered, transactions_of, next_sequence, journal_fault};
+ghost use Rattle.journal_replay.specs.Recovered.{recovered, transactions_of, next_sequence, journal_fault, AreBetween};
 ghost use Rattle.journal_replay.specs.Commands.{commands};
 ghost use Rattle.journal_replay.specs.Driving.{IsRun};
 ghost use Rattle.journal_replay.specs.code.Journals.{IsJournalOf};
@@ -79,6 +79,8 @@ pub fn recover<D: OrderedDev>(
     ensures failed_fine { (id : ℕ) → result ≡ Err (RecoverFault.DeviceFailed id) → journal_fault base (D.seen (D.state dev.old)).surface ≡ None }
     ensures unwritten { (fault : RecoverFault) → result ≡ Err fault → ((id : ℕ) → fault ≢ RecoverFault.DeviceFailed id) →
         Reads (D.seen (D.state dev.old)) (D.seen (D.state dev.new)) }
+    ensures between { AreBetween (D.seen (D.state dev.old)).surface (recovered base (D.seen (D.state dev.old)).surface) (D.seen (D.state dev.new)).surface }
+    ensures sound { D.sound (D.state dev.old) → D.sound (D.state dev.new) × ((D.seen (D.state dev.new)).faults ≡ (D.seen (D.state dev.old)).faults) }
 {
     let journal = open(alloc, dev, base)?;
     if journal.fields.start == 0 {
@@ -120,6 +122,8 @@ fn replay<D: OrderedDev>(
     ensures counts { (D.seen (D.state dev.old)).faults ≤ (D.seen (D.state dev.new)).faults }
     ensures refused { (fault : RecoverFault) → result ≡ Err fault → ((id : ℕ) → fault ≢ RecoverFault.DeviceFailed id) →
         (fault ≡ RecoverFault.NoMemory) × (D.state dev.new ≡ D.state dev.old) }
+    ensures between { AreBetween (D.seen (D.state dev.old)).surface (recovered base (D.seen (D.state dev.old)).surface) (D.seen (D.state dev.new)).surface }
+    ensures sound { D.sound (D.state dev.old) → D.sound (D.state dev.new) × ((D.seen (D.state dev.new)).faults ≡ (D.seen (D.state dev.old)).faults) }
 {
     let log = journal.log;
     let Ok(table) = revokes(alloc, &log) else {

@@ -197,6 +197,7 @@ pub(crate) fn read_place<D: OrderedDev>(dev: &mut D, block: u32) -> Result<Block
     ensures valid { D.valid (D.state dev.new) }
     ensures read { HasRead (D.seen (D.state dev.old)) (D.seen (D.state dev.new)) }
     ensures on { D.stays_on (D.state dev.old) → D.stays_on (D.state dev.new) }
+    ensures sound { D.sound (D.state dev.old) → D.sound (D.state dev.new) × ((D.seen (D.state dev.new)).faults ≡ (D.seen (D.state dev.old)).faults) }
     ensures fault { OnErr result (Rose (D.seen (D.state dev.old)).faults (D.seen (D.state dev.new)).faults) }
 {
     match dev.read(block) {
@@ -223,6 +224,7 @@ fn scan_range<D: OrderedDev>(
     ensures valid { D.valid (D.state dev.new) }
     ensures read { HasRead (D.seen (D.state dev.old)) (D.seen (D.state dev.new)) }
     ensures on { D.stays_on (D.state dev.old) → D.stays_on (D.state dev.new) }
+    ensures sound { D.sound (D.state dev.old) → D.sound (D.state dev.new) × ((D.seen (D.state dev.new)).faults ≡ (D.seen (D.state dev.old)).faults) }
     ensures fault { IsErrOf result ScanFault.ReadFault → Rose (D.seen (D.state dev.old)).faults (D.seen (D.state dev.new)).faults }
 {
     for place in from..to {
@@ -253,6 +255,7 @@ fn scan_ring<D: OrderedDev>(
     ensures valid { D.valid (D.state dev.new) }
     ensures read { HasRead (D.seen (D.state dev.old)) (D.seen (D.state dev.new)) }
     ensures on { D.stays_on (D.state dev.old) → D.stays_on (D.state dev.new) }
+    ensures sound { D.sound (D.state dev.old) → D.sound (D.state dev.new) × ((D.seen (D.state dev.new)).faults ≡ (D.seen (D.state dev.old)).faults) }
     ensures fault { IsErrOf result ScanFault.ReadFault → Rose (D.seen (D.state dev.old)).faults (D.seen (D.state dev.new)).faults }
 {
     if !scan_range(alloc, dev, scan, base, s.start, s.maxlen)? {
@@ -275,6 +278,7 @@ pub(crate) fn read_log<D: OrderedDev>(
     ensures valid { D.valid (D.state dev.new) }
     ensures read { HasRead (D.seen (D.state dev.old)) (D.seen (D.state dev.new)) }
     ensures on { D.stays_on (D.state dev.old) → D.stays_on (D.state dev.new) }
+    ensures sound { D.sound (D.state dev.old) → D.sound (D.state dev.new) × ((D.seen (D.state dev.new)).faults ≡ (D.seen (D.state dev.old)).faults) }
     ensures fault { IsErrOf result ScanFault.ReadFault → Rose (D.seen (D.state dev.old)).faults (D.seen (D.state dev.new)).faults }
 {
     // By this call the device tells that its laws hold of its state.

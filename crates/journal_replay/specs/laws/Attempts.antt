@@ -16,7 +16,7 @@ use Rattle.log_model.specs.Marks.{Keep, Clear, Set}
 use Rattle.journal_blocks.specs.Super.{super_of}
 use Rattle.journal_blocks.specs.laws.Supers.{tail_read}
 use Rattle.journal_blocks.specs.Log.{Entry, log_of, body_at, entry_at, places}
-use Rattle.journal_replay.specs.Recovered.{healed, log_mark, next_sequence, emptied_super, emptied, recovered, IsRecoverable}
+use Rattle.journal_replay.specs.Recovered.{healed, log_mark, next_sequence, emptied_super, emptied, recovered, IsRecoverable, AreBetween}
 use Rattle.journal_replay.specs.Commands.{for_block, home_of, homes, sends, commands}
 use Rattle.journal_replay.specs.laws.Sends.{AllBefore, part_at-prefix, sent_part, super_after_homes}
 use Rattle.journal_replay.specs.code.Scans.{after}
@@ -342,3 +342,44 @@ attempt_or base k s law order can took (Ok j) e = attempt_by base k s law order 
 -- medium holds recovers to the same image.
 pub attempt_keeps : (base k : ℕ) (s : Seen) → IsSurface s → KeepsEpochOrder s → IsRecoverable base s.base → s.took ≡ take k (commands base s.base) → recovered base s.surface ≡ recovered base s.base
 attempt_keeps base k s law order can took = attempt_or base k s law order can took (super_of (body_at s.base base)) refl
+
+-- ---- and each block is as it was or as in the recovered image
+
+between_before : (m : ℕ → Mark) (base : ℕ) (y : List ℕ) (old new : List (List ℕ)) → base < length old → ((b : ℕ) (x : List ℕ) → m b ≡ Set x → b < base) → IsBetween m old new → AreBetween old (slice_set (healed m 0 old) base y) new
+between_before m base y old new within below between q =
+    ⊎_elim inl
+    (λ h.
+    let lt = below q h.0 h.1 in
+    let differ : q ≢ base = λ e. omega (arith, lt, e) in
+    let a = slice_get-in_range old q (omega (arith, lt, within)) in
+    inr (h.2 ∙ sym (slice_get-set_other (healed m 0 old) base q y differ ∙ (healed-at m 0 q q old a.0 (omega arith) a.1 ∙ ap (λ k. Some (body_after k a.0)) h.1))))
+    (between q)
+
+between_by : (base k : ℕ) (s : Seen) → IsSurface s → KeepsEpochOrder s → IsRecoverable base s.base → s.took ≡ take k (commands base s.base)
+    → (j : JournalSuper) → super_of (body_at s.base base) ≡ Ok j → (b : Bool) → (j.start == 0) ≡ b → AreBetween s.base (recovered base s.base) s.surface
+between_by base k s law order can took j e true none =
+    let same = untouched s law (took ∙ (ap (take k) (commands-empty base s.base j e none) ∙ take_none k)) in
+    λ q. inl (ap (λ (image : List (List ℕ)). slice_get image q) same)
+between_by base k s law order can took j e false full =
+    let sent = took ∙ ap (take k) (commands-full base s.base j e full) in
+    let are = homes_are (log_mark base j s.base) base (can.below j e) in
+    ⊎_elim
+    (λ first.
+    let before = not_written (log_mark base j s.base) base _ _ s k law are sent first in
+    subst (λ (image : List (List ℕ)). AreBetween s.base image s.surface) (sym (recovered-full base s.base j e full))
+    (between_before (log_mark base j s.base) base (emptied_super base j s.base) s.base s.surface can.within (can.below j e) before.between))
+    (λ w.
+    let after = written (log_mark base j s.base) base _ _ s k law order are sent w in
+    let same = recovered-after base s.base s.surface j law.blocks can.within e full after in
+    λ q. inr (ap (λ (image : List (List ℕ)). slice_get image q) same))
+    (block_of_surface s base law)
+
+between_or : (base k : ℕ) (s : Seen) → IsSurface s → KeepsEpochOrder s → IsRecoverable base s.base → s.took ≡ take k (commands base s.base)
+    → (r : Result JournalSuper JournalFault) → super_of (body_at s.base base) ≡ r → AreBetween s.base (recovered base s.base) s.surface
+between_or base k s law order can took (Err f) e =
+    let same = untouched s law (took ∙ (ap (take k) (commands-err base s.base f e) ∙ take_none k)) in
+    λ q. inl (ap (λ (image : List (List ℕ)). slice_get image q) same)
+between_or base k s law order can took (Ok j) e = between_by base k s law order can took j e (j.start == 0) refl
+
+pub attempt_between : (base k : ℕ) (s : Seen) → IsSurface s → KeepsEpochOrder s → IsRecoverable base s.base → s.took ≡ take k (commands base s.base) → AreBetween s.base (recovered base s.base) s.surface
+attempt_between base k s law order can took = between_or base k s law order can took (super_of (body_at s.base base)) refl

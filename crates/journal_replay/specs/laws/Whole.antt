@@ -14,14 +14,14 @@ use Rattle.order_model.specs.Device.{Seen, IsSurface, KeepsEpochOrder, KeepsFlus
 use Rattle.order_model.proofs.Received.{all_parts-append}
 use Rattle.journal_replay.specs.declared.end.End.TheVariants as ends
 use Rattle.log_model.specs.Marks.{Logged}
-use Rattle.journal_replay.specs.Recovered.{recovered, log_mark, IsRecoverable}
+use Rattle.journal_replay.specs.Recovered.{recovered, log_mark, IsRecoverable, AreBetween}
 use Rattle.journal_replay.specs.Commands.{for_block, sends, commands, home_writes, ending}
 use Rattle.journal_replay.specs.laws.Sends.{parts-home_writes, sent_part}
 use Rattle.journal_replay.specs.Driving.{end_after, end_of}
 use Rattle.journal_replay.specs.code.Runs.{RunKeeps, FlushedLast, HasLog}
 use Rattle.journal_replay.specs.code.Sending.{CanSend, KeepsAll}
 use Rattle.journal_replay.specs.laws.Plans.{only_flush, flush_is_last, ends_in_flush, can_take, length-homes}
-use Rattle.journal_replay.specs.laws.Attempts.{IsWritten, commands-full, homes_are, untouched, written, recovered-after, attempt_keeps, In-homes, AreHomes, IsAfter}
+use Rattle.journal_replay.specs.laws.Attempts.{IsWritten, commands-full, homes_are, untouched, written, recovered-after, attempt_keeps, attempt_between, In-homes, AreHomes, IsAfter}
 use Rattle.journal_replay.specs.code.Scans.{after}
 
 silent_by : (s : Seen) → s.took ≡ [] → s.off ≡ false → Completes s → TellsFailure s → TellsCut s → (cs : List Completion) → s.sent ++ s.waiting ≡ cs → cs ≡ []
@@ -140,6 +140,14 @@ attempt_from base old new hs y left law none can log k now order =
     let same = base_is old new (sends hs (for_block base y)) left law none k in
     let took = front_taken old new (sends hs (for_block base y)) left none k ∙ ap (take (length new.took)) (commands_are base old.surface hs y log ∙ ap (commands base) (sym same)) in
     attempt_keeps base (length new.took) new now order (subst (IsRecoverable base) (sym same) can) took ∙ ap (recovered base) same
+
+-- and each block is as it was or as in that image
+pub between_from : (base : ℕ) (old new : Seen) (hs : List Logged) (y : List ℕ) (left : List Command) → IsSurface old → old.took ≡ [] → IsRecoverable base old.surface → HasLog base old.surface hs y
+    → KeepsAll old (sends hs (for_block base y)) new left → IsSurface new → KeepsEpochOrder new → AreBetween old.surface (recovered base old.surface) new.surface
+between_from base old new hs y left law none can log k now order =
+    let same = base_is old new (sends hs (for_block base y)) left law none k in
+    let took = front_taken old new (sends hs (for_block base y)) left none k ∙ ap (take (length new.took)) (commands_are base old.surface hs y log ∙ ap (commands base) (sym same)) in
+    subst (λ (image : List (List ℕ)). AreBetween image (recovered base image) new.surface) same (attempt_between base (length new.took) new now order (subst (IsRecoverable base) (sym same) can) took)
 
 -- where the flush was answered, the medium is the recovered image
 pub whole_from : (base : ℕ) (old new : Seen) (hs : List Logged) (y : List ℕ) (left : List Command) → IsSurface old → old.took ≡ [] → IsRecoverable base old.surface → HasLog base old.surface hs y

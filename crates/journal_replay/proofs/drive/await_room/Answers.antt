@@ -35,5 +35,6 @@ loop-dev-preserved g c =
       end = t.end;
       empty = t.empty;
       on = t.on i.on;
+      sound = λ sound. let p = i.sound sound in let q = t.sound p.0 in (q.0, q.1 ∙ p.1);
       unsent = t.unsent (inl full) ∙ i.unsent;
     }

@@ -16,6 +16,7 @@ invariant-loop-completion g l =
       end : l.end ≡ end_of (d.seen now);
       kept : DrainKeeps (d.seen (d.state l.fn.dev)) (d.seen now);
       on : d.stays_on (d.state l.fn.dev) → d.stays_on now;
+      sound : d.sound (d.state l.fn.dev) → d.sound (d.state l.dev) × ((d.seen (d.state l.dev)).faults ≡ (d.seen (d.state l.fn.dev)).faults);
       left : d.left now ≡ d.left (d.state l.fn.dev);
     }
 

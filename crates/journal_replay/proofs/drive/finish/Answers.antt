@@ -49,6 +49,7 @@ loop-dev-preserved g c =
       end = r.end ∙ sym same_end;
       empty = ap (λ (x : Seen). x.waiting) s.others ∙ r.empty;
       on = s.on r.on;
+      sound = λ sound. let p = i.sound sound in let q = r.sound p.0 in let w = s.sound q.0 in (w.0, w.1 ∙ (q.1 ∙ p.1));
     }
 
 pub loop-dev-2-smaller : goal.loop-dev-2-smaller
@@ -81,6 +82,7 @@ loop-dev-2-preserved g c =
       end = t.end;
       empty = t.empty;
       on = t.on i.on;
+      sound = λ sound. let p = i.sound sound in let q = t.sound p.0 in (q.0, q.1 ∙ p.1);
       done = t.unsent (inr i.done) ∙ i.done;
     }
 

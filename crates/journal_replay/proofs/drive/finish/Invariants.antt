@@ -17,6 +17,7 @@ invariant-loop-dev g l =
       end : l.end ≡ end_of (d.seen (d.state l.dev));
       empty : (d.seen (d.state l.dev)).waiting ≡ [];
       on : d.stays_on (d.state l.dev);
+      sound : d.sound (d.state l.fn.dev) → d.sound (d.state l.dev) × ((d.seen (d.state l.dev)).faults ≡ (d.seen (d.state l.fn.dev)).faults);
     }
 
 abbrev pub decreases-loop-dev : goal.decreases-loop-dev
@@ -34,6 +35,7 @@ invariant-loop-dev-2 g l =
       end : l.end ≡ end_of (d.seen (d.state l.dev));
       empty : (d.seen (d.state l.dev)).waiting ≡ [];
       on : d.stays_on (d.state l.dev);
+      sound : d.sound (d.state l.fn.dev) → d.sound (d.state l.dev) × ((d.seen (d.state l.dev)).faults ≡ (d.seen (d.state l.fn.dev)).faults);
       done : l.plan ≡ [];
     }
 

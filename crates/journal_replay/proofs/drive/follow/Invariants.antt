@@ -17,4 +17,5 @@ invariant-loop-choice g l =
       end : l.end ≡ end_of (d.seen (d.state l.dev));
       empty : (d.seen (d.state l.dev)).waiting ≡ [];
       on : d.stays_on (d.state l.fn.dev) → d.stays_on (d.state l.dev);
+      sound : d.sound (d.state l.fn.dev) → d.sound (d.state l.dev) × ((d.seen (d.state l.dev)).faults ≡ (d.seen (d.state l.fn.dev)).faults);
     }

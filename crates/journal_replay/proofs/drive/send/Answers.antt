@@ -39,6 +39,7 @@ loop-plan-preserved g c =
       kept = keeps-more (d.seen old) (d.seen now) (d.seen (d.received now command)) c.args.plan.now (command ∷ left) left (subst (KeepsAll (d.seen old) c.args.plan.now (d.seen now)) plan i.kept) kept;
       others = law.1 ∙ ap (λ (x : Seen). let made : Seen = record x { took = (d.seen now).took ++ command ∷ [] } in made) i.others ∙ ap (λ (cs : List Command). let made : Seen = record (d.seen old) { took = cs } in made) (sym (ap (λ (x : Seen). x.took) law.1));
       on = λ on. laws.stays_received now command (i.on on);
+      sound = λ sound. let p = i.sound sound in (laws.sound_received now command p.0, ap (λ (x : Seen). x.faults) law.1 ∙ p.1);
     })
 
 pub returns-clause-sent : goal.returns-clause-sent

@@ -16,6 +16,7 @@ invariant-loop-plan g l =
       kept : KeepsAll (d.seen (d.state l.fn.dev)) l.fn.plan (d.seen (d.state l.dev)) l.plan;
       others : d.seen (d.state l.dev) ≡ record (d.seen (d.state l.fn.dev)) { took = (d.seen (d.state l.dev)).took };
       on : d.stays_on (d.state l.fn.dev) → d.stays_on (d.state l.dev);
+      sound : d.sound (d.state l.fn.dev) → d.sound (d.state l.dev) × ((d.seen (d.state l.dev)).faults ≡ (d.seen (d.state l.fn.dev)).faults);
     }
 
 abbrev pub decreases-loop-plan : goal.decreases-loop-plan

@@ -8,7 +8,7 @@ use Rattle.journal_replay.specs.laws.Drives.{run-more}
 use Rattle.journal_replay.specs.code.Homes.{logged_of}
 use Rattle.journal_replay.specs.laws.Plans.{ends_in_flush}
 use Rattle.journal_replay.specs.code.Sending.{CanSend}
-use Rattle.journal_replay.specs.laws.Whole.{is_silent, can_send, attempt_from, whole_from, fault_from}
+use Rattle.journal_replay.specs.laws.Whole.{is_silent, can_send, attempt_from, between_from, whole_from, fault_from}
 use Rattle.order_model.specs.Machine.{Machine, machine_of}
 use Rattle.journal_replay.specs.code.Runs.{RunKeeps, IsFlushedLast}
 use Rattle.journal_replay.proofs.replay.write_back.Goals as goal
@@ -119,3 +119,23 @@ returns-clause-whole_run g c whole =
     let first = c.follow-end.ensures.driven ∙ ap (λ (cs : List Command). driven m c.args.steer.now (record { dev = d.state c.args.dev.now; rest = cs })) c.make-plan.ensures in
     let second = c.finish.ensures.driven in
     (second.0, ap (λ (x : Driven d.State). x.dev) (second.1 ∙ ap (driven m (replicate second.0 choices.Default)) first))
+
+pub returns-then-cut-clause-between : goal.returns-then-cut-clause-between
+returns-then-cut-clause-between g c =
+    let d = g.D.OrderedDev in
+    let laws = g.met.D.OrderedDev in
+    let old = d.state c.args.dev.now in
+    let new = d.state c.follow-end.new.dev in
+    let f = c.follow-end.ensures in
+    let kept = subst (λ (all : List Command). RunKeeps (d.seen old) all (d.seen new) c.follow-end.new.plan) c.make-plan.ensures f.kept in
+    between_from c.args.base (d.seen old) (d.seen new) _ c.args.superblock _ (laws.surface old c.blocks-2.ensures.valid) c.requires.fresh c.requires.image c.requires.log kept.all (laws.surface new f.valid) (laws.epoch_order new f.valid)
+
+pub returns-clause-between : goal.returns-clause-between
+returns-clause-between g c =
+    let d = g.D.OrderedDev in
+    let laws = g.met.D.OrderedDev in
+    let old = d.state c.args.dev.now in
+    let new = d.state c.finish.new.dev in
+    let f = c.finish.ensures in
+    let kept = subst (λ (all : List Command). RunKeeps (d.seen old) all (d.seen new) c.finish.new.plan) c.make-plan.ensures (run-more _ _ _ _ _ _ c.follow-end.ensures.kept f.kept) in
+    between_from c.args.base (d.seen old) (d.seen new) _ c.args.superblock _ (laws.surface old c.blocks-2.ensures.valid) c.requires.fresh c.requires.image c.requires.log kept.all (laws.surface new f.valid) (laws.epoch_order new f.valid)

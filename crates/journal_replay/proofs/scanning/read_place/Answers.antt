@@ -1,4 +1,4 @@
-use Rattle.std.proofs.Common.{sym, subst}
+use Rattle.std.proofs.Common.{◌≡◌, sym, subst}
 use Rattle.journal_replay.specs.code.Scans.{HasRead}
 use Rattle.journal_replay.specs.laws.Scans.{has_read}
 use Rattle.journal_replay.proofs.scanning.read_place.Goals as goal
@@ -28,3 +28,17 @@ returns-in-Err-clause-on g c on =
     let d = g.D.OrderedDev in
     let s = d.state c.args.dev.now in
     subst d.stays_on (sym c.read.ensures.state) (g.met.D.OrderedDev.stays s c.args.block on).3
+
+pub returns-in-Ok-clause-sound : goal.returns-in-Ok-clause-sound
+returns-in-Ok-clause-sound g c sound =
+    let d = g.D.OrderedDev in
+    let laws = g.met.D.OrderedDev in
+    let s = d.state c.args.dev.now in
+    subst (λ (x : d.State). d.sound x × ((d.seen x).faults ≡ (d.seen s).faults)) (sym c.read.ensures.state) ((laws.stays_sound s c.args.block sound).3, (laws.no_fault s c.args.block c.requires.valid sound).1)
+
+pub returns-in-Err-clause-sound : goal.returns-in-Err-clause-sound
+returns-in-Err-clause-sound g c sound =
+    let d = g.D.OrderedDev in
+    let laws = g.met.D.OrderedDev in
+    let s = d.state c.args.dev.now in
+    subst (λ (x : d.State). d.sound x × ((d.seen x).faults ≡ (d.seen s).faults)) (sym c.read.ensures.state) ((laws.stays_sound s c.args.block sound).3, (laws.no_fault s c.args.block c.requires.valid sound).1)

@@ -15,4 +15,5 @@ invariant-loop-place g l =
       valid : d.valid (d.state l.dev);
       read : HasRead (d.seen (d.state l.fn.dev)) (d.seen (d.state l.dev));
       on : d.stays_on (d.state l.fn.dev) → d.stays_on (d.state l.dev);
+      sound : d.sound (d.state l.fn.dev) → d.sound (d.state l.dev) × ((d.seen (d.state l.dev)).faults ≡ (d.seen (d.state l.fn.dev)).faults);
     }
