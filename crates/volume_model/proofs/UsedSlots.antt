@@ -11,8 +11,8 @@ use Rattle.blk_base.specs.Members.{In, slice_get-length, slice_get-set_same, sli
 use Rattle.minix_layout.specs.declared.slot.Slot.{Slot}
 use Rattle.tree_model.specs.Maps.{name_cmp}
 use Rattle.tree_model.specs.laws.MapsLaws.{name_here}
-use Rattle.volume_model.specs.Slots.{used_count}
-use Rattle.volume_model.specs.laws.Gone.{free-count}
+use Rattle.dir_ops.specs.Slots.{used_count}
+use Rattle.dir_ops.specs.laws.Slots.{free-count}
 
 -- no name stands twice
 abbrev pub AllDiffer : List (List ℕ) → Type 0

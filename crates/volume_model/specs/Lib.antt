@@ -1,4 +1,3 @@
-pub mod Slots
 pub mod Edits
 pub mod Volume
 pub mod Changes

@@ -16,7 +16,7 @@ use Rattle.volume_model.specs.declared.placed.Part.{Part}
 use Rattle.volume_model.specs.declared.placed.Part.TheVariants as parts
 use Rattle.volume_model.specs.declared.placed.DirectoryPart.{DirectoryPart}
 use Rattle.volume_model.specs.Edits.{put_inode, put_slot, edited, touched_by_all}
-use Rattle.volume_model.specs.Slots.{room, with_slot}
+use Rattle.dir_ops.specs.Slots.{room, with_slot}
 use Rattle.volume_model.specs.Volume.{Place, block, zone_in, IsStored, HasNames, IsVolumeOf}
 use Rattle.volume_model.specs.Changes.{Changes}
 use Rattle.volume_model.specs.Ways.{way, IsJust}

@@ -22,7 +22,7 @@ use Rattle.volume_model.specs.declared.placed.Placed.{Placed}
 use Rattle.volume_model.specs.declared.placed.Part.{Part}
 use Rattle.volume_model.specs.declared.placed.Part.TheVariants as parts
 use Rattle.volume_model.specs.declared.placed.DirectoryPart.{DirectoryPart}
-use Rattle.volume_model.specs.Slots.{used_count}
+use Rattle.dir_ops.specs.Slots.{used_count}
 
 -- where an inode has a zone: a block of it, its zone of numbers, and the two levels of the doubly indirect one
 pub data Place : Type 0 where

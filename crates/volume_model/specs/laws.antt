@@ -1,5 +1,4 @@
 -- Laws of a changeable volume.
-pub mod Slots
 pub mod Edits
 pub mod Changes
 pub mod Zones

@@ -4,13 +4,13 @@
 //! of each zone of an inode stands, `specs/MapBlock.antt` and `specs/Cut.antt` how a file's blocks come and go, and
 //! `specs/Touched.antt` what a call tells of the blocks, zones and pages that it changed. `laws` names the laws.
 //!
-//! Stands on `volume_ops`, which reads a volume, and on `tree_model`, whose tree it stands for.
+//! Stands on `volume_ops`, which reads a volume, on `dir_ops`, which has the slots of a directory, and on `tree_model`,
+//! whose tree it stands for.
 #![tactic(auto)]
 
 mod laws;
 mod names;
 mod placed;
-mod slots;
 #[cfg(test)]
 mod tests;
 
@@ -21,4 +21,3 @@ pub use laws::{
 };
 pub use names::NameMap;
 pub use placed::{DirectoryPart, Part, Placed};
-pub use slots::Slots;

@@ -1,5 +1,6 @@
 //! A node of a changeable volume, with its place in it.
-use crate::{NameMap, Slots};
+use crate::NameMap;
+use dir_ops::Slots;
 use minix_layout::Inode;
 use volume_ops::MappedZones;
 

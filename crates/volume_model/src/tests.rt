@@ -1,9 +1,9 @@
 //! Tests of the parts of a node.
 use super::*;
-use minix_layout::{Name, Slot};
+use minix_layout::Name;
 
 #[test]
-fn keeps_names_and_slots(rt: HostRuntime) {
+fn keeps_names(rt: HostRuntime) {
     let alloc = rt.alloc();
     let (Some(first), Some(second), Some(third)) = (Name::of(b"a"), Name::of(b"b"), Name::of(b"b"))
     else {
@@ -16,16 +16,6 @@ fn keeps_names_and_slots(rt: HostRuntime) {
     assert_eq!(rt; names.get(&third), Some(9));
     names.remove(&third);
     assert_eq!(rt; names.get(&third), None);
-    let mut slots = Slots::new(alloc);
-    assert_eq!(rt; (slots.room(), slots.len()), (0, 0));
-    let put = slots.put(
-        0,
-        Slot {
-            inode: 3,
-            name: third,
-        },
-    );
-    assert_eq!(rt; (put.is_ok(), slots.room(), slots.len()), (true, 1, 1));
     nodes_stay();
     writes_are_read();
     nodes_come_and_go();

@@ -17,7 +17,7 @@ use Rattle.tree_model.specs.laws.MapsLaws.{name_here, name_same}
 use Rattle.tree_model.specs.Paths.{is_dot}
 use Rattle.volume_model.specs.declared.placed.Placed.{Placed}
 use Rattle.volume_model.specs.declared.placed.DirectoryPart.{DirectoryPart}
-use Rattle.volume_model.specs.Slots.{used_count}
+use Rattle.dir_ops.specs.laws.Slots.{free-count}
 use Rattle.volume_model.specs.Volume.{HasNames}
 use Rattle.volume_model.specs.Moves.{without}
 
@@ -35,13 +35,6 @@ length-without (e ∷ es) name x h =
       | inl t ↦ rw t refl
       | inr f ↦ rw f (ap suc (length-without es name x (rw f at h)))
     ]
-
-pub free-count : (slots : List (Option Slot)) (k : ℕ) (s : Slot) → slice_get slots k ≡ Some (Some s) → suc (used_count (slice_set slots k None)) ≡ used_count slots
-free-count [] k s h = absurd (cc)
-free-count (None ∷ slots) zero s h = absurd (none-some s (same_Some None (Some s) h))
-free-count (None ∷ slots) (suc k) s h = free-count slots k s h
-free-count (Some t ∷ slots) zero s h = refl
-free-count (Some t ∷ slots) (suc k) s h = ap suc (free-count slots k s h)
 
 module _ (nodes : List (ℕ × Placed)) (d : DirectoryPart) (k : ℕ) (s : Slot) (h : HasNames nodes d) (sorted : IsStrictlySortedBy name_cmp (keys_of d.names))
     (stands : slice_get d.slots k ≡ Some (Some s)) (no_dot : is_dot s.name ≡ false) where

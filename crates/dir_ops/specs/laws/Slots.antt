@@ -1,12 +1,13 @@
 -- The slots of a directory with one more name.
-use Rattle.std.specs.Prelude.{◌≡◌, ◌≢◌, ℕ, suc, ◌+◌, ◌<◌, ◌≤◌, nat_lt, List, [], ◌∷◌, ◌++◌, length, slice_set, Option, Some, None, refl}
+use Rattle.std.specs.Prelude.{◌≡◌, ◌≢◌, ℕ, zero, suc, ◌+◌, ◌<◌, ◌≤◌, nat_lt, List, [], ◌∷◌, ◌++◌, length, slice_set, Option, Some, None, refl}
 use Rattle.std.specs.List.{slice_get}
 use Rattle.std.proofs.Common.{sym, ap, subst, ◌∙◌, inl, inr, ⊎_elim, arith}
 use Rattle.std.proofs.lemmas.Bool.{cases_Bool, ltb-true, ltb-false}
 use Rattle.std.proofs.lemmas.List.{length-set, length_push}
+use Rattle.std.proofs.lemmas.Option.{none-some, same_Some}
 use Rattle.blk_base.specs.Members.{slice_get-set_same, slice_get-set_other, slice_get-push, slice_get-push_left, slice_get-push_cases, slice_get-length}
 use Rattle.minix_layout.specs.declared.slot.Slot.{Slot}
-use Rattle.volume_model.specs.Slots.{room, with_slot, used_count}
+use Rattle.dir_ops.specs.Slots.{room, with_slot, used_count}
 
 -- a place among the slots, or the next
 pub room-within : (slots : List (Option Slot)) → room slots ≤ length slots
@@ -107,3 +108,10 @@ length-with_slot_most slots s =
       | inl t ↦ let e = length-with_slot slots (room slots) s (ltb-true _ _ t) in omega arith
       | inr f ↦ let e = length-with_slot_more slots (room slots) s (let high = ltb-false _ _ f in omega arith) in omega arith
     ]
+
+pub free-count : (slots : List (Option Slot)) (k : ℕ) (s : Slot) → slice_get slots k ≡ Some (Some s) → suc (used_count (slice_set slots k None)) ≡ used_count slots
+free-count [] k s h = absurd (cc)
+free-count (None ∷ slots) zero s h = absurd (none-some s (same_Some None (Some s) h))
+free-count (None ∷ slots) (suc k) s h = free-count slots k s h
+free-count (Some t ∷ slots) zero s h = refl
+free-count (Some t ∷ slots) (suc k) s h = ap suc (free-count slots k s h)

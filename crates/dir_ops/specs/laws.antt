@@ -1,0 +1,4 @@
+-- Laws of the slots of a directory.
+pub mod Slots
+pub mod Found
+pub mod Edited

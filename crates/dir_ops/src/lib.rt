@@ -1,0 +1,17 @@
+//! The slots of one directory: a name is found, comes and goes.
+//!
+//! A directory is a list of slots. A free one has no name and may be used again; a directory never shrinks. `slots`
+//! has the list, and `laws` what is found in it after each call.
+//!
+//! Stands on `minix_layout`, whose `Slot` has the number of an inode and a name, and on `blk_base`.
+#![tactic(auto)]
+
+mod laws;
+mod slots;
+#[cfg(test)]
+mod tests;
+
+pub use laws::{
+    added_names_are_found, names_are_found, removed_names_are_gone, room_is_the_least_free_place,
+};
+pub use slots::Slots;
