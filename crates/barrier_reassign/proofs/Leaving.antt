@@ -7,7 +7,7 @@ use Rattle.order_model.specs.declared.request.Kind.{Kind}
 use Rattle.order_model.specs.Submission.{is_flush}
 use Rattle.barrier_reassign.specs.declared.closing.Closing.{Closing}
 use Rattle.barrier_reassign.specs.declared.closing.Closing.TheVariants as closings
-use Rattle.barrier_reassign.specs.Epoch.{EpochState, Waiting, eligible, without, waits_ordered, is_barrier_closing, left, leaving, stands_before, may_leave, AreNumbered}
+use Rattle.barrier_reassign.specs.Epoch.{EpochState, Waiting, eligible, without, waits_ordered, is_barrier_closing, departed, leaving, stands_before, may_leave, AreNumbered}
 use Rattle.barrier_reassign.specs.code.Kept.{IsPicked}
 use Rattle.order_model.specs.laws.ArrivalLaws.{there-is, remove-without}
 
@@ -35,10 +35,10 @@ leaving-is s i w rest flagged numbered lt at removed told =
     rw (there-is s.waiting i w lt at)
     (ap (λ f. Some (w.request, f)) (told ∙ ap (flagged_of s.closing w) (removed-is s.next i s.waiting rest w numbered lt at removed)))
 
-pub left-is : (s : EpochState) (i : ℕ) (w : Waiting) (rest : List Waiting) (flagged : Bool) (closing : Closing) → AreNumbered s.next s.waiting → i < length s.waiting
+pub departed-is : (s : EpochState) (i : ℕ) (w : Waiting) (rest : List Waiting) (flagged : Bool) (closing : Closing) → AreNumbered s.next s.waiting → i < length s.waiting
     → w ≡ get_or s.waiting i w → rest ≡ remove s.waiting i → flagged ≡ flagged_of s.closing w rest → closing ≡ (if flagged then closings.Open else s.closing)
-    → record { capacity = s.capacity; next = s.next; waiting = rest; closing = closing } ≡ left s (slice_get s.waiting i)
-left-is s i w rest flagged closing numbered lt at removed told shut =
+    → record { capacity = s.capacity; next = s.next; waiting = rest; closing = closing } ≡ departed s (slice_get s.waiting i)
+departed-is s i w rest flagged closing numbered lt at removed told shut =
     let is = removed-is s.next i s.waiting rest w numbered lt at removed in
     let flag = told ∙ ap (flagged_of s.closing w) is in
     let shut' = shut ∙ ap (λ f. if f then closings.Open else s.closing) flag in
@@ -51,6 +51,6 @@ put-may_leave ws w k b is put all =
     rw put' all
 
 -- the numbers go on where they were
-pub left_next : (s : EpochState) (o : Option Waiting) → (left s o).next ≡ s.next
-left_next s None = refl
-left_next s (Some w) = refl
+pub departed_next : (s : EpochState) (o : Option Waiting) → (departed s o).next ≡ s.next
+departed_next s None = refl
+departed_next s (Some w) = refl

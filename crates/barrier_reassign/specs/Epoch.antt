@@ -102,9 +102,9 @@ abbrev pub picked : EpochState → ℕ → Option Waiting
 picked s pick = arrivals.picked may_leave s.waiting pick
 
 -- a request that was picked leaves; behind the flag the queue accepts again
-abbrev pub left : EpochState → Option Waiting → EpochState
-left s None = s
-left s (Some w) = record s {
+abbrev pub departed : EpochState → Option Waiting → EpochState
+departed s None = s
+departed s (Some w) = record s {
   waiting = without w.number s.waiting;
   closing = (if leaves_flagged s w then closings.Open else s.closing);
 }

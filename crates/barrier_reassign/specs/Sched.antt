@@ -7,7 +7,7 @@ use Rattle.order_model.specs.Single.{command_of_request}
 use Rattle.order_model.specs.Carrying.{SchedSeen}
 use Rattle.barrier_reassign.specs.declared.closing.Closing.TheVariants as closings
 use Rattle.barrier_reassign.specs.Epoch as epoch
-use Rattle.barrier_reassign.specs.Epoch.{EpochState, Waiting, can_accept, is_blocked, eligible, picked, left, leaves_flagged}
+use Rattle.barrier_reassign.specs.Epoch.{EpochState, Waiting, can_accept, is_blocked, eligible, picked, departed, leaves_flagged}
 use Rattle.barrier_reassign.specs.Scheduler.{SchedSteps}
 
 pub record SchedState : Type 0 where
@@ -33,7 +33,7 @@ command_of queue w = command_of_request w.request (leaves_flagged queue w)
 
 abbrev pub sent : SchedState → Option Waiting → SchedState
 sent s None = s
-sent s (Some w) = record s { sent_out = s.sent_out ++ command_of s.queue w ∷ []; queue = left s.queue (Some w) }
+sent s (Some w) = record s { sent_out = s.sent_out ++ command_of s.queue w ∷ []; queue = departed s.queue (Some w) }
 
 -- a pick that is not below the eligible list's length changes nothing
 abbrev pub dispatched : SchedState → ℕ → SchedState

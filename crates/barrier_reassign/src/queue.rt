@@ -1,7 +1,7 @@
 ghost use Rattle.std.specs.Prelude.{◌≡◌, ℕ, ◌+◌, ◌^◌, ◌<◌, ◌≤◌, ◌↔◌, ◌==◌, not, length, true, false, IsOk, IsTrue, IfOk, OnOk, IfErr, MatchOption, slice_get, if◌then◌else◌, [], ◌||◌, ◌&&◌};
 ghost use Rattle.std.specs.Option.{option_map, option_copied};
 ghost use Rattle.order_model.specs.Submission.{is_flush};
-ghost use Rattle.barrier_reassign.specs.Epoch.{Waiting, is_blocked, can_accept, closing_of, unflagged, accepted, have_one_block, stands_before, may_leave, eligible, waits_ordered, picked, left, leaving, is_barrier_closing, is_open, is_full};
+ghost use Rattle.barrier_reassign.specs.Epoch.{Waiting, is_blocked, can_accept, closing_of, unflagged, accepted, have_one_block, stands_before, may_leave, eligible, waits_ordered, picked, departed, leaving, is_barrier_closing, is_open, is_full};
 ghost use Rattle.barrier_reassign.specs.code.Kept.{IsPicked};
 
 use crate::closing::{Closing, Held};
@@ -118,7 +118,7 @@ impl EpochQueue {
     /// Takes the request at place `pick` of the eligible list, and says whether it leaves as the barrier.
     pub fn leave(&mut self, pick: u32) -> Option<(Request, bool)>
         ensures given { result ≡ leaving self.old (picked self.old pick) }
-        ensures state { self.new ≡ left self.old (picked self.old pick) }
+        ensures state { self.new ≡ departed self.old (picked self.old pick) }
     {
         let at = find_eligible(&self.waiting, pick)?;
         self.leave_at(at)
@@ -144,7 +144,7 @@ impl EpochQueue {
     pub fn leave_at(&mut self, at: usize) -> Option<(Request, bool)>
         requires { (w : Waiting) → slice_get self.old.waiting at ≡ Some w → may_leave self.old.waiting w ≡ true }
         ensures given { result ≡ leaving self.old (slice_get self.old.waiting at) }
-        ensures state { self.new ≡ left self.old (slice_get self.old.waiting at) }
+        ensures state { self.new ≡ departed self.old (slice_get self.old.waiting at) }
     {
         let Entry { number: _, request } = self.waiting.remove(at)?;
         let flagged = leaves_flagged(self.closing, &request, &self.waiting);
@@ -317,7 +317,7 @@ mod tests {
     }
 
     // The id of the request that leaves, the flag that it waited with, and whether it leaves as the barrier.
-    #[tactic(auto, using(crate::proofs::Leaving::left_next))]
+    #[tactic(auto, using(crate::proofs::Leaving::departed_next))]
     fn leave(q: &mut EpochQueue, pick: u32) -> Option<(u64, bool, bool)>
         ensures { q.new.next ≡ q.old.next }
     {

@@ -8,7 +8,7 @@ use Rattle.blk_base.specs.Streams.{AppendsFront}
 use Rattle.order_model.specs.Submission.{IsOrderClosed}
 use Rattle.script_grammar.specs.declared.script.Script.{Script}
 use Rattle.script_grammar.specs.Grammar.{script_of, blocks_of}
-use Rattle.stack_core.specs.Feed.{submitted_count}
+use Rattle.stack_core.specs.RequestPath.{submitted_count}
 use Rattle.stack_core.specs.Core.{core}
 use Rattle.stack_core.specs.declared.report.Report.{Report}
 use Rattle.barrierfs_cli.specs.declared.command_line.Command.{Command}
@@ -41,9 +41,9 @@ front_out old new bytes text fault out front = (front.0, went_out old new bytes 
 
 -- the medium of a report is order-closed for the first requests of its script
 closed_for : (input text : List ℕ) (report : Option Report) (is : IsReplay input report text)
-    → IsOrderClosed (zeros (blocks_of is.script)) (take (submitted_count (core is.script).feed) is.script.puts) is.result.cut.image is.result.cut.origins
+    → IsOrderClosed (zeros (blocks_of is.script)) (take (submitted_count (core is.script).path) is.script.puts) is.result.cut.image is.result.cut.origins
 closed_for input text report is =
-    subst (λ (s : Script). IsOrderClosed (zeros (blocks_of s)) (take (submitted_count (core is.script).feed) is.script.puts) is.result.cut.image is.result.cut.origins) is.core.script
+    subst (λ (s : Script). IsOrderClosed (zeros (blocks_of s)) (take (submitted_count (core is.script).path) is.script.puts) is.result.cut.image is.result.cut.origins) is.core.script
     (subst (λ qs. IsOrderClosed (zeros (blocks_of is.result.script)) qs is.result.cut.image is.result.cut.origins) is.core.submitted is.order.closed)
 
 tells : (old new : Option (List ℕ)) (report : Option Report) (text bytes : List ℕ) (fault : Option TopFault) → WasRead commands.Replay old new (λ input. Makes commands.Replay input report text)
@@ -53,7 +53,7 @@ tells old new report text bytes fault read written =
     record {
       script = is.script;
       read = record { input = read.input; drained = read.drained; short = read.short; holds = is.spelled };
-      submitted = submitted_count (core is.script).feed;
+      submitted = submitted_count (core is.script).path;
       image = is.result.cut.image;
       origins = is.result.cut.origins;
       closed = closed_for read.input text report is;

@@ -66,17 +66,17 @@ EachOnce-taken depth i seat seats seats' free free' each lt at removed pushed =
     rw (removed, pushed) moved'
 
 -- without the seat at place i, those that wait are the others
-pub seated-left : (next i : ℕ) (seat : Seat) (slots : List Command) (seats seats' : List Seat) → AreNumbered next (seated slots seats)
+pub seated-departed : (next i : ℕ) (seat : Seat) (slots : List Command) (seats seats' : List Seat) → AreNumbered next (seated slots seats)
     → i < length seats → seat ≡ get_or seats i seat → seats' ≡ remove seats i
     → seated slots seats' ≡ without seat.number (seated slots seats)
-seated-left next i seat slots seats seats' numbered lt at removed =
+seated-departed next i seat slots seats seats' numbered lt at removed =
     let there = slice_get-map (waiting_at slots) seats i ∙ ap (option_map (waiting_at slots)) (there-is seats i seat lt at) in
     ap (seated slots) removed
     ∙ map-remove (waiting_at slots) seats i
     ∙ remove-without (λ (w : Waiting). w.number) next (seated slots seats) i (waiting_at slots seat) numbered there
 
-pub AreNumbered-left : (next i : ℕ) (slots : List Command) (seats seats' : List Seat) → AreNumbered next (seated slots seats) → seats' ≡ remove seats i → AreNumbered next (seated slots seats')
-AreNumbered-left next i slots seats seats' numbered removed =
+pub AreNumbered-departed : (next i : ℕ) (slots : List Command) (seats seats' : List Seat) → AreNumbered next (seated slots seats) → seats' ≡ remove seats i → AreNumbered next (seated slots seats')
+AreNumbered-departed next i slots seats seats' numbered removed =
     subst (AreNumbered next) (sym (ap (seated slots) removed ∙ map-remove (waiting_at slots) seats i)) (AreNumbered-remove (λ (w : Waiting). w.number) next (seated slots seats) i numbered)
 
 -- the same, where the command was taken out of its slot
@@ -86,7 +86,7 @@ pub seated-taken : (next depth i : ℕ) (c : Command) (seat : Seat) (slots : Lis
 seated-taken next depth i c seat slots seats seats' free numbered each lt at removed =
     let moved = EachOnce-taken depth i seat seats seats' free (free ++ seat.slot ∷ []) each lt at removed refl in
     let none = last-not_seated depth seat.slot seats' free moved in
-    seated-set slots seats' seat.slot c none ∙ seated-left next i seat slots seats seats' numbered lt at removed
+    seated-set slots seats' seat.slot c none ∙ seated-departed next i seat slots seats seats' numbered lt at removed
 
 pub AreNumbered-taken : (next depth i : ℕ) (c : Command) (seat : Seat) (slots : List Command) (seats seats' : List Seat) (free : List ℕ) → AreNumbered next (seated slots seats)
     → EachOnce depth seats free → i < length seats → seat ≡ get_or seats i seat → seats' ≡ remove seats i
@@ -94,4 +94,4 @@ pub AreNumbered-taken : (next depth i : ℕ) (c : Command) (seat : Seat) (slots 
 AreNumbered-taken next depth i c seat slots seats seats' free numbered each lt at removed =
     let moved = EachOnce-taken depth i seat seats seats' free (free ++ seat.slot ∷ []) each lt at removed refl in
     let none = last-not_seated depth seat.slot seats' free moved in
-    subst (AreNumbered next) (sym (seated-set slots seats' seat.slot c none)) (AreNumbered-left next i slots seats seats' numbered removed)
+    subst (AreNumbered next) (sym (seated-set slots seats' seat.slot c none)) (AreNumbered-departed next i slots seats seats' numbered removed)

@@ -47,9 +47,9 @@ abbrev pub picked : QueueState → ℕ → Option Waiting
 picked s pick = arrivals.picked is_free s.waiting pick
 
 -- a command that was picked leaves
-abbrev pub left : QueueState → Option Waiting → QueueState
-left s None = s
-left s (Some w) = record s { waiting = without w.number s.waiting }
+abbrev pub departed : QueueState → Option Waiting → QueueState
+departed s None = s
+departed s (Some w) = record s { waiting = without w.number s.waiting }
 
 -- those that wait are numbered in order of arrival, below next
 abbrev pub AreNumbered : ℕ → List Waiting → Type 0

@@ -2,7 +2,7 @@ ghost use Rattle.std.specs.Prelude.{◌≡◌, ℕ, ◌+◌, ◌^◌, ◌<◌, �
 ghost use Rattle.std.specs.Option.{option_map, option_copied};
 ghost use Rattle.std.specs.Vec.{vec_capacity};
 ghost use Rattle.order_model.specs.Device.{is_ordered};
-ghost use Rattle.command_queue.specs.Queue.{QueueState, Waiting, arrived, picked, left, eligible, is_free, have_common_block, stands_in_way};
+ghost use Rattle.command_queue.specs.Queue.{QueueState, Waiting, arrived, picked, departed, eligible, is_free, have_common_block, stands_in_way};
 ghost use Rattle.command_queue.specs.code.Slots.{blank, waiting_at, seated, has_block, are_kept_in_order, EachOnce, IsPicked};
 
 use blk_base::NoMemory;
@@ -128,7 +128,7 @@ impl CommandQueue {
     /// Takes the command at place `pick` of the eligible list.
     pub fn take(&mut self, pick: u32) -> Option<Command>
         ensures command { result ≡ option_map (λ w. w.command) (picked self.old pick) }
-        ensures state { self.new ≡ left self.old (picked self.old pick) }
+        ensures state { self.new ≡ departed self.old (picked self.old pick) }
     {
         let at = find_free(&self.slots, &self.seats, pick)?;
         let seat = self.seats.remove(at);
@@ -139,7 +139,7 @@ impl CommandQueue {
     /// The command at place `pick` of the eligible list leaves, where there is one. Its bytes stay in its
     /// slot, which is free then.
     pub fn leave(&mut self, pick: u32)
-        ensures { self.new ≡ left self.old (picked self.old pick) }
+        ensures { self.new ≡ departed self.old (picked self.old pick) }
     {
         let Some(at) = find_free(&self.slots, &self.seats, pick) else {
             return;

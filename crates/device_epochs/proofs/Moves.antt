@@ -16,7 +16,7 @@ use Rattle.order_model.specs.Device.{is_ordered, IsQuiet}
 use Rattle.device_epochs.specs.laws.KeptLaws.{quiet_is_empty, empty_is_quiet}
 use Rattle.order_model.specs.Received.{all_parts, part_at, first_part, completions_of, failures_of, transfers}
 use Rattle.order_model.proofs.Received.{first_part-next, first_part-le}
-use Rattle.command_queue.specs.Queue.{QueueState, Waiting, eligible, picked, left, arrived}
+use Rattle.command_queue.specs.Queue.{QueueState, Waiting, eligible, picked, departed, arrived}
 use Rattle.device_epochs.specs.declared.cache.Entry.{Entry}
 use Rattle.device_epochs.specs.declared.device.DeviceSetup.{DeviceSetup}
 use Rattle.device_epochs.specs.Cache.{oldest, entries, put_all, without_entry}
@@ -259,7 +259,7 @@ can_move_from d s pick n c i e free a b =
 -- the state once the command was moved
 pub moved_to : (s : DeviceState) (w : Waiting) (first : ℕ) (moved : List Transfer) (waiting : List Completion) (queue : QueueState) (cache : List Entry) (epoch : ℕ)
     → first ≡ first_part s.took w.number → moved ≡ s.moved ++ transfers s.epoch first w.command.parts
-    → waiting ≡ s.waiting ++ completions_of w.command → queue ≡ left s.queue (Some w)
+    → waiting ≡ s.waiting ++ completions_of w.command → queue ≡ departed s.queue (Some w)
     → cache ≡ put_all (entries s.epoch first w.command.parts) s.cache
     → epoch ≡ (if w.command.barrier then s.epoch + 1 else s.epoch)
     → (fail_at : Option ℕ) → fail_at ≡ counted s.fail_at
@@ -269,7 +269,7 @@ moved_to s w first moved waiting queue cache epoch e m wa q c ep fail_at f =
 
 -- the state once the command failed
 pub failed_to : (s : DeviceState) (w : Waiting) (waiting : List Completion) (queue : QueueState) (fail_at : Option ℕ)
-    → waiting ≡ s.waiting ++ failures_of w.command → queue ≡ left s.queue (Some w) → fail_at ≡ counted s.fail_at
+    → waiting ≡ s.waiting ++ failures_of w.command → queue ≡ departed s.queue (Some w) → fail_at ≡ counted s.fail_at
     → record s { waiting = waiting; queue = queue; steps = s.steps + 1; fail_at = fail_at; failed = true; faults = s.faults + 1 } ≡ failed_on s w
 failed_to s w waiting queue fail_at wa q f =
     rw (wa, q, f) refl

@@ -8,7 +8,7 @@ use Rattle.order_model.specs.declared.completion.Completion.TheVariants.{Cut}
 use Rattle.order_model.specs.declared.history.Transfer.{Transfer}
 use Rattle.order_model.specs.Received.{part_at, first_part, completions_of, failures_of, transfers}
 use Rattle.order_model.specs.Device.{Seen}
-use Rattle.command_queue.specs.Queue.{QueueState, Waiting, arrived, left, eligible}
+use Rattle.command_queue.specs.Queue.{QueueState, Waiting, arrived, departed, eligible}
 use Rattle.device_epochs.specs.declared.cache.Entry.{Entry}
 use Rattle.device_epochs.specs.declared.device.DeviceSetup.{DeviceSetup}
 use Rattle.device_epochs.specs.Cache.{entries, put_all, oldest, without_entry}
@@ -102,7 +102,7 @@ abbrev pub moved_in : DeviceState → Waiting → DeviceState
 moved_in s w = record s {
   moved = s.moved ++ transfers s.epoch (first_part s.took w.number) w.command.parts;
   waiting = s.waiting ++ completions_of w.command;
-  queue = left s.queue (Some w);
+  queue = departed s.queue (Some w);
   cache = put_all (entries s.epoch (first_part s.took w.number) w.command.parts) s.cache;
   epoch = (if w.command.barrier then s.epoch + 1 else s.epoch);
   steps = s.steps + 1;
@@ -113,7 +113,7 @@ moved_in s w = record s {
 abbrev pub failed_on : DeviceState → Waiting → DeviceState
 failed_on s w = record s {
   waiting = s.waiting ++ failures_of w.command;
-  queue = left s.queue (Some w);
+  queue = departed s.queue (Some w);
   steps = s.steps + 1;
   fail_at = counted s.fail_at;
   failed = true;

@@ -11,7 +11,7 @@ use Rattle.order_model.specs.declared.request.Request.{Request}
 use Rattle.order_model.specs.History.{HistoryState}
 use Rattle.order_model.specs.Received.{all_parts}
 use Rattle.barrier_reassign.specs.Epoch as epoch
-use Rattle.barrier_reassign.specs.Epoch.{EpochState, Waiting, can_accept, eligible, picked, left, leaving, leaves_flagged}
+use Rattle.barrier_reassign.specs.Epoch.{EpochState, Waiting, can_accept, eligible, picked, departed, leaving, leaves_flagged}
 use Rattle.epoch_sched.specs.declared.sched.Sched.TheInside.{Inside}
 use Rattle.order_model.specs.Single.{parts_for, command_of_request}
 use Rattle.barrier_reassign.specs.Sched.{SchedState, seen_of}
@@ -85,16 +85,16 @@ parts_room s pick w r v e =
 abbrev sent_history : Inside → Command → HistoryState Command
 sent_history s c = record { items = s.trace.sent_out.items ++ c ∷ []; room = s.trace.sent_out.room }
 
-pub dispatched_fields : (s : Inside) (pick : ℕ) (w : Waiting) (command : Command) (queue : EpochState) (history : HistoryState Command) → IsSched s → picked s.queue pick ≡ Some w → command ≡ command_of_request w.request (leaves_flagged s.queue w) → queue ≡ left s.queue (picked s.queue pick) → history ≡ sent_history s command → IsSched (fields_with s queue s.trace.accepted history)
+pub dispatched_fields : (s : Inside) (pick : ℕ) (w : Waiting) (command : Command) (queue : EpochState) (history : HistoryState Command) → IsSched s → picked s.queue pick ≡ Some w → command ≡ command_of_request w.request (leaves_flagged s.queue w) → queue ≡ departed s.queue (picked s.queue pick) → history ≡ sent_history s command → IsSched (fields_with s queue s.trace.accepted history)
 dispatched_fields s pick w command queue history v e c q h =
     let now = command_of_request w.request (leaves_flagged s.queue w) in
     let may = picked-leaves (state_of s) pick w e in
-    let fields : IsSched (fields_with s (left s.queue (Some w)) s.trace.accepted (sent_history s now)) = record {
+    let fields : IsSched (fields_with s (departed s.queue (Some w)) s.trace.accepted (sent_history s now)) = record {
       valid = sent-valid (state_of s) w v.valid may.0 may.1;
       accepted = v.accepted;
       sent_out = v.sent_out;
     } in
-    let rest : left s.queue (Some w) ≡ queue = sym (q ∙ ap (left s.queue) e) in
+    let rest : departed s.queue (Some w) ≡ queue = sym (q ∙ ap (departed s.queue) e) in
     let kept : sent_history s now ≡ history = sym (h ∙ ap (sent_history s) c) in
     subst (λ g. IsSched (fields_with s queue s.trace.accepted g)) kept
     (subst (λ z. IsSched (fields_with s z s.trace.accepted (sent_history s now))) rest fields)

@@ -4,7 +4,7 @@ use Rattle.order_model.specs.declared.command.Command.{Command}
 use Rattle.order_model.specs.declared.completion.Completion.{Completion}
 use Rattle.order_model.specs.declared.completion.Completion.TheVariants as completion
 use Rattle.order_model.specs.Device.{Seen}
-use Rattle.order_model.specs.Steps.{Reads}
+use Rattle.order_model.specs.Steps.{OnlyReads}
 use Rattle.order_model.specs.Machine.{Machine}
 use Rattle.journal_replay.specs.declared.choice.Choice.{Choice}
 use Rattle.journal_replay.specs.declared.choice.Choice.TheVariants as choice
@@ -78,7 +78,7 @@ module _ {S : Type 0} where
 -- behind the list, it goes on by default to its end.
 pub record IsRun {S : Type 0} (m : Machine S) (commands : List Command) (steer : List Choice) (cut : Bool) (old new : S) : Type 0 where
   pub start : S
-  pub reads : Reads (m.seen old) (m.seen start)
+  pub reads : OnlyReads (m.seen old) (m.seen start)
   pub cut_run : cut ≡ true → new ≡ (driven m steer (record { dev = start; rest = commands })).dev
   pub whole_run : cut ≡ false → (turns : ℕ) × (new ≡ (driven m (replicate turns choice.Default) (driven m steer (record { dev = start; rest = commands }))).dev)
   pub over : cut ≡ false → is_running (end_of (m.seen new)) ≡ false

@@ -4,7 +4,7 @@ ghost use Rattle.blk_base.specs.Members.{In};
 ghost use Rattle.blk_base.specs.Streams.{Rose};
 ghost use Rattle.order_model.specs.declared.completion.Completion.{Completion};
 ghost use Rattle.order_model.specs.Device.{IsQuiet};
-ghost use Rattle.order_model.specs.Steps.{Reads};
+ghost use Rattle.order_model.specs.Steps.{OnlyReads};
 ghost use Rattle.order_model.specs.Machine.{machine_of};
 ghost use Rattle.journal_blocks.specs.declared.super_block.JournalSuper.{JournalSuper};
 ghost use Rattle.journal_blocks.specs.declared.fault.JournalFault.{JournalFault};
@@ -65,7 +65,7 @@ pub fn recover<D: OrderedDev>(
     ensures next { IfOk result (λ r. (s : JournalSuper) → super_of (body_at (recovered base (D.seen (D.state dev.old)).surface) base) ≡ Ok s →
         (s.sequence ≡ r.next) × (s.start ≡ 0)) }
     ensures empty { IfOk result (λ r. (s : JournalSuper) → super_of (body_at (D.seen (D.state dev.old)).surface base) ≡ Ok s → s.start ≡ 0 →
-        Reads (D.seen (D.state dev.old)) (D.seen (D.state dev.new)) × IsTrue r.ended) }
+        OnlyReads (D.seen (D.state dev.old)) (D.seen (D.state dev.new)) × IsTrue r.ended) }
     ensures run { IfOk result (λ r. (s : JournalSuper) → super_of (body_at (D.seen (D.state dev.old)).surface base) ≡ Ok s → s.start ≢ 0 →
         IsRun (machine_of D.OrderedDev) (commands base (D.seen (D.state dev.old)).surface) steer.now cut (D.state dev.old) (D.state dev.new)) }
     ensures failed_run { (id : ℕ) → result ≡ Err (RecoverFault.DeviceFailed id) →
@@ -78,7 +78,7 @@ pub fn recover<D: OrderedDev>(
     ensures fine { IfOk result (λ _. journal_fault base (D.seen (D.state dev.old)).surface ≡ None) }
     ensures failed_fine { (id : ℕ) → result ≡ Err (RecoverFault.DeviceFailed id) → journal_fault base (D.seen (D.state dev.old)).surface ≡ None }
     ensures unwritten { (fault : RecoverFault) → result ≡ Err fault → ((id : ℕ) → fault ≢ RecoverFault.DeviceFailed id) →
-        Reads (D.seen (D.state dev.old)) (D.seen (D.state dev.new)) }
+        OnlyReads (D.seen (D.state dev.old)) (D.seen (D.state dev.new)) }
     ensures between { AreBetween (D.seen (D.state dev.old)).surface (recovered base (D.seen (D.state dev.old)).surface) (D.seen (D.state dev.new)).surface }
     ensures sound { D.sound (D.state dev.old) → D.sound (D.state dev.new) × ((D.seen (D.state dev.new)).faults ≡ (D.seen (D.state dev.old)).faults) }
 {

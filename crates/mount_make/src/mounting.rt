@@ -2,7 +2,7 @@
 ghost use Rattle.std.specs.Prelude.{◌≡◌, ◌<◌, ◌≤◌, length, Ok, IfOk, IfErr, OnErr, IsErrOf};
 ghost use Rattle.blk_base.specs.Streams.{Rose};
 ghost use Rattle.order_model.specs.Device.{IsQuiet};
-ghost use Rattle.order_model.specs.Steps.{Reads};
+ghost use Rattle.order_model.specs.Steps.{OnlyReads};
 ghost use Rattle.minix_layout.specs.Geometry.{IsSound};
 ghost use Rattle.volume_ops.specs.Volume.{disk_of};
 ghost use Rattle.mount_make.specs.Reading.{HasRead};
@@ -31,7 +31,7 @@ pub fn mount<D: OrderedDev>(alloc: Global, dev: &mut D) -> Result<Mounted, Mount
     ensures volume { IfOk result (λ m. mounted (D.seen (D.state dev.old)).surface ≡ Ok m.volume) }
     ensures fault { IfErr result (IsTold (mounted (D.seen (D.state dev.old)).surface)) }
     ensures read_fault { IsErrOf result MountFault.ReadFault → Rose (D.seen (D.state dev.old)).faults (D.seen (D.state dev.new)).faults }
-    ensures reads { Reads (D.seen (D.state dev.old)) (D.seen (D.state dev.new)) }
+    ensures reads { OnlyReads (D.seen (D.state dev.old)) (D.seen (D.state dev.new)) }
     ensures no_fault { D.sound (D.state dev.old) → (D.seen (D.state dev.new)).faults ≡ (D.seen (D.state dev.old)).faults }
 {
     let g = read_geometry(dev)?;

@@ -13,24 +13,24 @@ use Rattle.order_model.specs.declared.request.Request.{Request}
 use Rattle.order_model.specs.Received.{all_parts, part_at, first_part, command_of, ids_of, IsBarrier, IsFlush}
 use Rattle.order_model.specs.Submission.{is_flush, kind_block, kind_body, IsPutOf, IsPutWith, IsOrderedBefore, HasOrigin, IsKept, IsOrderClosed, KeepsFlushed}
 use Rattle.order_model.specs.Device.{Seen, completed, origin_ids, IsPartKept, IsSurface, KeepsEpochOrder, KeepsFlush, Completes}
-use Rattle.order_model.specs.Carrying.{SchedSeen, IsCarriedBy, IsSentIn, IsFlushAt, Carries, AreAtIds, IsFrontOf, Fits}
+use Rattle.order_model.specs.Carrying.{SchedSeen, IsCarriedBy, IsSentIn, IsFlushAt, Carries, AreAtIds, IsPrefixOf, Fits}
 use Rattle.order_model.proofs.Received.{place_of, part_at-place, command_of-first, command_of-lt, part_at-first, part-lt, command_of-mono, flush-is, id_once, In-part-id, In-flush-id}
 use Rattle.order_model.proofs.OriginIds.{id_at, placed, origin_of, no_origin}
 
--- ---- fronts
+-- ---- prefixes
 
-pub front-get : {X : Type 0} (xs ys : List X) (i : ℕ) (x : X) → IsFrontOf xs ys → slice_get xs i ≡ Some x → slice_get ys i ≡ Some x
-front-get xs ys i x front at =
+pub prefix-get : {X : Type 0} (xs ys : List X) (i : ℕ) (x : X) → IsPrefixOf xs ys → slice_get xs i ≡ Some x → slice_get ys i ≡ Some x
+prefix-get xs ys i x front at =
     let cut : slice_get (take front.0 ys) i ≡ Some x = ap (λ l. slice_get l i) (sym front.1) ∙ at in
     ⊎_elim
     (λ lt. sym (slice_get-take front.0 ys i lt) ∙ cut)
     (λ le. absurd (none-some x (sym (slice_get-take_out front.0 ys i le) ∙ cut)))
     (cases_lt i front.0)
 
-front-same : {X : Type 0} (xs ys : List X) (i : ℕ) → IsFrontOf xs ys → i < length xs → slice_get ys i ≡ slice_get xs i
-front-same xs ys i front lt =
+prefix-same : {X : Type 0} (xs ys : List X) (i : ℕ) → IsPrefixOf xs ys → i < length xs → slice_get ys i ≡ slice_get xs i
+prefix-same xs ys i front lt =
     let x = slice_get-in_range xs i lt in
-    front-get xs ys i x.0 front x.1 ∙ sym x.1
+    prefix-get xs ys i x.0 front x.1 ∙ sym x.1
 
 -- ---- what was sent
 
@@ -83,10 +83,10 @@ request_of qs s d x p run at =
     let k = command_of d.took x in
     let place = place_of d.took x lt in
     let c = place.command in
-    let sent = front-get d.took s.sent_out k c run.fits.took place.taken in
+    let sent = prefix-get d.took s.sent_out k c run.fits.took place.taken in
     let inside = slice_get-In c.parts place.inside p (sym (part_at-place d.took x place) ∙ at) in
     let a = run.carries.parts c p (slice_get-In s.sent_out k c sent) inside in
-    let submitted = front-get s.accepted qs a.place a.request run.fits.accepted a.taken in
+    let submitted = prefix-get s.accepted qs a.place a.request run.fits.accepted a.taken in
     let named : a.place ≡ p.id = sym (run.ids a.place a.request submitted) ∙ a.named in
     record {
       sent = record {
@@ -114,7 +114,7 @@ accepted_part qs s d x p r = ap (option_and_then (λ (q : Request). kind_block q
 -- a put that was submitted and accepted
 accepted_put : (qs : List Request) (s : SchedSeen) (d : Seen) (i block : ℕ) → IsRun qs s d → i < length s.accepted → IsPutOf qs i block → IsPutOf s.accepted i block
 accepted_put qs s d i block run lt put =
-    ap (option_and_then (λ (r : Request). kind_block r.kind)) (sym (front-same s.accepted qs i run.fits.accepted lt)) ∙ put
+    ap (option_and_then (λ (r : Request). kind_block r.kind)) (sym (prefix-same s.accepted qs i run.fits.accepted lt)) ∙ put
 
 -- the part of a put that the device took
 record IsPartFor (took : List Command) (i k block : ℕ) : Type 0 where
@@ -130,8 +130,8 @@ part_for : (qs : List Request) (s : SchedSeen) (d : Seen) (i k block : ℕ) → 
 part_for qs s d i k block run put h lt =
     let took = d.took in
     let c = h.command in
-    let taken : slice_get took k ≡ Some c = sym (front-same took s.sent_out k run.fits.took lt) ∙ h.sent in
-    let submitted = front-get s.accepted qs i h.request run.fits.accepted h.taken in
+    let taken : slice_get took k ≡ Some c = sym (prefix-same took s.sent_out k run.fits.took lt) ∙ h.sent in
+    let submitted = prefix-get s.accepted qs i h.request run.fits.accepted h.taken in
     let named = run.ids i h.request submitted in
     let p = carried_part h.request.id block h.request.kind c (ap (option_and_then (λ (r : Request). kind_block r.kind)) (sym submitted) ∙ put) h.carried in
     let n = In-slice_get c.parts p.0 p.1 in
@@ -273,15 +273,15 @@ accepted_before qs s d i j run lt before =
     let less = before.fence.2 in
     record {
       first = (before.first.0, accepted_put qs s d i before.first.0 run (omega arith) before.first.1);
-      ordered = subst (λ o. IsSomeAnd o (λ (r : Request). IsTrue r.ordered)) (front-same s.accepted qs i run.fits.accepted (omega arith)) before.ordered;
+      ordered = subst (λ o. IsSomeAnd o (λ (r : Request). IsTrue r.ordered)) (prefix-same s.accepted qs i run.fits.accepted (omega arith)) before.ordered;
       second = (before.second.0, accepted_put qs s d j before.second.0 run lt before.second.1);
-      fence = (b, le, less, subst (λ o. IsSomeAnd o (λ (r : Request). IsTrue (r.barrier || is_flush r.kind))) (front-same s.accepted qs b run.fits.accepted (omega arith)) before.fence.3);
+      fence = (b, le, less, subst (λ o. IsSomeAnd o (λ (r : Request). IsTrue (r.barrier || is_flush r.kind))) (prefix-same s.accepted qs b run.fits.accepted (omega arith)) before.fence.3);
     }
 
 -- a barrier command that was taken
 taken_barrier : (qs : List Request) (s : SchedSeen) (d : Seen) (b : ℕ) → IsRun qs s d → b < length d.took → IsBarrier s.sent_out b → IsBarrier d.took b
 taken_barrier qs s d b run lt barrier =
-    subst (λ o. IsSomeAnd o (λ (c : Command). IsTrue c.barrier)) (front-same d.took s.sent_out b run.fits.took lt) barrier
+    subst (λ o. IsSomeAnd o (λ (c : Command). IsTrue c.barrier)) (prefix-same d.took s.sent_out b run.fits.took lt) barrier
 
 -- with a put that is kept, each put that is ordered before it is kept
 closed : (qs : List Request) (s : SchedSeen) (d : Seen) (i j : ℕ) → IsRun qs s d → KeepsEpochOrder d
@@ -326,9 +326,9 @@ order_closed qs s d run epochs = record {
 flush_sent : (qs : List Request) (s : SchedSeen) (d : Seen) (k flush : ℕ) → IsRun qs s d → IsFlush d.took k flush → IsFlushAt s.accepted flush × IsSentIn s flush k
 flush_sent qs s d k flush run h =
     let c = flush-is d.took k flush h in
-    let sent = front-get d.took s.sent_out k c.0 run.fits.took c.1 in
+    let sent = prefix-get d.took s.sent_out k c.0 run.fits.took c.1 in
     let a = run.carries.flushes c.0 flush (slice_get-In s.sent_out k c.0 sent) c.2 in
-    let submitted = front-get s.accepted qs a.place a.request run.fits.accepted a.taken in
+    let submitted = prefix-get s.accepted qs a.place a.request run.fits.accepted a.taken in
     let named : a.place ≡ flush = sym (run.ids a.place a.request submitted) ∙ a.named in
     let taken : slice_get s.accepted flush ≡ Some a.request = ap (slice_get s.accepted) (sym named) ∙ a.taken in (
       subst (λ o. IsSomeAnd o (λ (q : Request). q.kind ≡ Flush)) (sym taken) a.same,

@@ -90,15 +90,15 @@ pub record Carries (s : SchedSeen) : Type 0 where
 abbrev pub AreAtIds : List Request → Type 0
 AreAtIds requests = (i : ℕ) (r : Request) → slice_get requests i ≡ Some r → r.id ≡ i
 
--- xs is a front of ys
-abbrev pub IsFrontOf : {X : Type 0} → List X → List X → Type 0
-IsFrontOf xs ys = (n : ℕ) × (xs ≡ take n ys)
+-- xs is a prefix of ys
+abbrev pub IsPrefixOf : {X : Type 0} → List X → List X → Type 0
+IsPrefixOf xs ys = (n : ℕ) × (xs ≡ take n ys)
 
 -- The first requests of what was submitted were accepted, and the device took the first commands of what was
 -- sent out, each in order.
 pub record Fits (submitted : List Request) (s : SchedSeen) (d : Seen) : Type 0 where
-  pub accepted : IsFrontOf s.accepted submitted
-  pub took : IsFrontOf d.took s.sent_out
+  pub accepted : IsPrefixOf s.accepted submitted
+  pub took : IsPrefixOf d.took s.sent_out
 
 -- each flush has the barrier flag
 abbrev pub FlushesAreBarriers : List Request → Type 0

@@ -77,8 +77,8 @@ pub record Answers (old : Seen) (answer : Option Completion) (new : Seen) : Type
   pub none : answer ≡ None → old.waiting ≡ []
 
 -- a read may fail, and changes nothing else
-abbrev pub Reads : Seen → Seen → Type 0
-Reads old new = (new ≡ record old { faults = new.faults }) × (old.faults ≤ new.faults)
+abbrev pub OnlyReads : Seen → Seen → Type 0
+OnlyReads old new = (new ≡ record old { faults = new.faults }) × (old.faults ≤ new.faults)
 
 -- while work is left some step can be taken; once none is left there is room, and each id has completed
 pub record Progresses (s : Seen) (left : ℕ) (has_room : Bool) (can_transfer can_persist : ℕ) : Type 0 where

@@ -3,7 +3,7 @@ ghost use Rattle.blk_base.specs.Streams.{Rose};
 ghost use Rattle.order_model.specs.declared.command.Command.{Command};
 ghost use Rattle.order_model.specs.declared.completion.Completion.{Completion};
 ghost use Rattle.order_model.specs.Device.{Seen, IsReceivable, IsQuiet, IsSurface, KeepsEpochOrder, KeepsFlush, Completes, TellsCut, TellsFailure, Grows, origin_ids};
-ghost use Rattle.order_model.specs.Steps.{IsTraceOf, Receives, Transfers, Persists, Answers, Reads, Progresses};
+ghost use Rattle.order_model.specs.Steps.{IsTraceOf, Receives, Transfers, Persists, Answers, OnlyReads, Progresses};
 
 use crate::{Command, Completion, CutDisk, DeviceRecord};
 use blk_base::Block;
@@ -155,7 +155,7 @@ pub trait OrderedDev {
     ghost no_answer: { (s : Self.State) → next_answer s ≡ None → answered s ≡ s };
 
     /// A read changes nothing but the count of faults.
-    ghost reads: { (s : Self.State) (block : ℕ) → valid s → valid (after_read s block) × Reads (seen s) (seen (after_read s block)) };
+    ghost reads: { (s : Self.State) (block : ℕ) → valid s → valid (after_read s block) × OnlyReads (seen s) (seen (after_read s block)) };
 
     // ---- the laws of what is seen
 

@@ -14,7 +14,7 @@ use Rattle.order_model.specs.declared.request.Request.{Request}
 use Rattle.order_model.specs.Parts.{block_follows}
 use Rattle.order_model.specs.Single.{parts_for}
 use Rattle.order_model.specs.Submission.{kind_block}
-use Rattle.barrier_reassign.specs.Epoch.{EpochState, Waiting, may_leave, eligible, without, left, leaving, leaves_flagged}
+use Rattle.barrier_reassign.specs.Epoch.{EpochState, Waiting, may_leave, eligible, without, departed, leaving, leaves_flagged}
 use Rattle.sched_elevator.specs.Elevator.{Gathering, is_put_of, has_class, joins, next_part, joined, taken, gathered}
 use Rattle.sched_elevator.specs.laws.Eligible.{IsRising, IsPutAt, eligible-same}
 use Rattle.sched_elevator.specs.laws.Valid.{Leaves, Joins, next-joins}
@@ -113,8 +113,8 @@ first_differs queue block i ordered w rising first at class =
 -- ---- gathering
 
 -- the queue stays in order of acceptance
-pub left_rising : (queue : EpochState) (w : Waiting) → IsRising queue.waiting → IsRising (left queue (Some w)).waiting
-left_rising queue w rising = IsAscending-filter (λ (x : Waiting). x.number) (λ x. not (x.number == w.number)) queue.waiting rising
+pub departed_rising : (queue : EpochState) (w : Waiting) → IsRising queue.waiting → IsRising (departed queue (Some w)).waiting
+departed_rising queue w rising = IsAscending-filter (λ (x : Waiting). x.number) (λ x. not (x.number == w.number)) queue.waiting rising
 
 -- the block behind the last part
 pub follows-push : (ps : List Part) (p : Part) → block_follows (ps ++ p ∷ []) (p.block + 1) ≡ true
@@ -182,22 +182,22 @@ round_of queue block at ordered r flagged j given =
     }
 
 pub round_gathered : (n block at : ℕ) (ordered : Bool) (queue rest : EpochState) (command joint : Command) (r : Request) (flagged : Bool) → IsRound queue block ordered at r flagged → n < 16
-    → rest ≡ left queue (slice_get queue.waiting at) → joint ≡ joined command r flagged
+    → rest ≡ departed queue (slice_get queue.waiting at) → joint ≡ joined command r flagged
     → gathered (16 - (n + 1)) ordered (block + 1) (record { queue = rest; command = joint }) ≡ gathered (16 - n) ordered block (record { queue = queue; command = command })
 round_gathered n block at ordered queue rest command joint r flagged t lt state made =
     let w = t.waiting in
     let g : Gathering = record { queue = queue; command = command } in
     let more : 16 - n ≡ suc (16 - (n + 1)) = omega (arith, lt) in
-    let q = state ∙ ap (left queue) t.there in
+    let q = state ∙ ap (departed queue) t.there in
     let c = made ∙ ap₂ (λ (s : Request) (f : Bool). joined command s f) (sym t.same) (sym t.flag) in
     let now : record { queue = rest; command = joint } ≡ taken g w = λ i. record { queue = q i; command = c i } in
     ap (gathered (16 - (n + 1)) ordered (block + 1)) now
     ∙ sym (gathered-some (16 - (n + 1)) block ordered g w t.next)
     ∙ ap (λ k. gathered k ordered block g) (sym more)
 
-pub round_rising : (queue rest : EpochState) (block at : ℕ) (ordered : Bool) (r : Request) (flagged : Bool) → IsRound queue block ordered at r flagged → IsRising queue.waiting → rest ≡ left queue (slice_get queue.waiting at) → IsRising rest.waiting
+pub round_rising : (queue rest : EpochState) (block at : ℕ) (ordered : Bool) (r : Request) (flagged : Bool) → IsRound queue block ordered at r flagged → IsRising queue.waiting → rest ≡ departed queue (slice_get queue.waiting at) → IsRising rest.waiting
 round_rising queue rest block at ordered r flagged t rising state =
-    subst (λ (p : EpochState). IsRising p.waiting) (sym (state ∙ ap (left queue) t.there)) (left_rising queue t.waiting rising)
+    subst (λ (p : EpochState). IsRising p.waiting) (sym (state ∙ ap (departed queue) t.there)) (departed_rising queue t.waiting rising)
 
 gathered-zero : (block : ℕ) (ordered : Bool) (g : Gathering) → gathered 0 ordered block g ≡ g
 unfolding gathered

@@ -13,7 +13,7 @@ use Rattle.order_model.specs.Received.{all_parts}
 use Rattle.order_model.specs.Single.{command_of_request}
 use Rattle.order_model.proofs.Next.{sent_few}
 use Rattle.barrier_reassign.specs.Epoch as epoch
-use Rattle.barrier_reassign.specs.Epoch.{EpochState, Waiting, can_accept, may_leave, left, leaving, leaves_flagged}
+use Rattle.barrier_reassign.specs.Epoch.{EpochState, Waiting, can_accept, may_leave, departed, leaving, leaves_flagged}
 use Rattle.barrier_reassign.specs.Scheduler.{IsAcceptable}
 use Rattle.sched_elevator.specs.declared.elevator.Elevator.TheInside.{Inside}
 use Rattle.sched_elevator.specs.Elevator.{ElevatorState, Gathering, opened, picked, gathered, alone, leaving_as, leaving_with, sent_as, head_after, seen_of}
@@ -83,14 +83,14 @@ flush_alone : (q : EpochState) (w : Waiting) (k : Kind) → None ≡ option_map 
 flush_alone q w (Put b body) e = absurd (none-some (b + 1) e)
 flush_alone q w Flush e = refl
 
-alone_is : (q : EpochState) (o : Option Waiting) (w : Waiting) (r : Request) (flagged : Bool) (queue : EpochState) (command : Command) → o ≡ Some w → w.request ≡ r → leaves_flagged q w ≡ flagged → queue ≡ left q o → command ≡ command_of_request r flagged
+alone_is : (q : EpochState) (o : Option Waiting) (w : Waiting) (r : Request) (flagged : Bool) (queue : EpochState) (command : Command) → o ≡ Some w → w.request ≡ r → leaves_flagged q w ≡ flagged → queue ≡ departed q o → command ≡ command_of_request r flagged
     → record { queue = queue; command = command } ≡ alone q w
 alone_is q o w r flagged queue command there same flag state made =
-    let rest = state ∙ ap (left q) there in
+    let rest = state ∙ ap (departed q) there in
     let own = made ∙ sym (ap₂ command_of_request same flag) in
     λ i. record { queue = rest i; command = own i }
 
-pub put_together : (q : EpochState) (o : Option Waiting) (r : Request) (flagged : Bool) (block : ℕ) (queue : EpochState) (command : Command) (g : Gathering) → Some (r, flagged) ≡ leaving q o → queue ≡ left q o → command ≡ command_of_request r flagged
+pub put_together : (q : EpochState) (o : Option Waiting) (r : Request) (flagged : Bool) (block : ℕ) (queue : EpochState) (command : Command) (g : Gathering) → Some (r, flagged) ≡ leaving q o → queue ≡ departed q o → command ≡ command_of_request r flagged
     → Some block ≡ option_map (λ b. b + 1) (kind_block r.kind) → g ≡ gathered 15 r.ordered block (record { queue = queue; command = command }) → LeavesTogether q o g
 put_together q o r flagged block queue command g given state made next all =
     let l = leaving-some q o r flagged given in
@@ -103,7 +103,7 @@ put_together q o r flagged block queue command g given state made next all =
       all = all ∙ ap₂ (λ (s : Request) (h : Gathering). gathered 15 s.ordered block h) (sym l.2) first ∙ behind;
     }
 
-pub flush_together : (q : EpochState) (o : Option Waiting) (r : Request) (flagged : Bool) (queue : EpochState) (command : Command) → Some (r, flagged) ≡ leaving q o → queue ≡ left q o → command ≡ command_of_request r flagged
+pub flush_together : (q : EpochState) (o : Option Waiting) (r : Request) (flagged : Bool) (queue : EpochState) (command : Command) → Some (r, flagged) ≡ leaving q o → queue ≡ departed q o → command ≡ command_of_request r flagged
     → None ≡ option_map (λ b. b + 1) (kind_block r.kind) → LeavesTogether q o (record { queue = queue; command = command })
 flush_together q o r flagged queue command given state made next =
     let l = leaving-some q o r flagged given in

@@ -12,7 +12,7 @@ use Rattle.order_model.specs.Single.{parts_for}
 use Rattle.order_model.specs.Carrying.{SchedSeen}
 use Rattle.barrier_reassign.specs.declared.closing.Closing.TheVariants as closings
 use Rattle.barrier_reassign.specs.Epoch as epoch
-use Rattle.barrier_reassign.specs.Epoch.{EpochState, Waiting, can_accept, is_blocked, eligible, left, leaves_flagged}
+use Rattle.barrier_reassign.specs.Epoch.{EpochState, Waiting, can_accept, is_blocked, eligible, departed, leaves_flagged}
 use Rattle.barrier_reassign.specs.Sched.{command_of, waiting_ids}
 use Rattle.barrier_reassign.specs.Scheduler.{SchedSteps}
 
@@ -88,7 +88,7 @@ joined c r flagged = record {
 
 -- a request leaves the queue and joins the command
 abbrev pub taken : Gathering → Waiting → Gathering
-taken g w = record { queue = left g.queue (Some w); command = joined g.command w.request (leaves_flagged g.queue w) }
+taken g w = record { queue = departed g.queue (Some w); command = joined g.command w.request (leaves_flagged g.queue w) }
 
 -- up to n puts of this class join, of this block and the following ones, as long as there is one
 unfoldable pub gathered : ℕ → Bool → ℕ → Gathering → Gathering
@@ -97,7 +97,7 @@ gathered (suc n) ordered block g = option_map_or (λ w. gathered n ordered (bloc
 
 -- a request leaves as a command of its own
 abbrev pub alone : EpochState → Waiting → Gathering
-alone queue w = record { queue = left queue (Some w); command = command_of queue w }
+alone queue w = record { queue = departed queue (Some w); command = command_of queue w }
 
 -- a put takes up to 15 others with it
 abbrev pub leaving_as : EpochState → Waiting → Kind → Gathering

@@ -1,5 +1,5 @@
-pub mod Feeding
-pub mod Feeds
+pub mod DirectPath
+pub mod Paths
 pub mod Fitting
 pub mod Opening
 pub mod Repeats

@@ -12,11 +12,11 @@ use Rattle.order_model.proofs.Next.{next_receivable}
 use Rattle.barrier_reassign.specs.Scheduler.{SchedSteps, IsAcceptable, Accepts, Sends, IsScheduler}
 use Rattle.barrier_reassign.specs.laws.Places.{next_id-new}
 use Rattle.script_grammar.specs.Grammar.{IsRequestOf}
-use Rattle.stack_core.specs.Side.{SideState, SideRun, with_request, submitted, accepted_first, side_accepted, offered, offered_option, side_picked, dispatched_from, side_dispatched}
-use Rattle.stack_core.specs.Feed.{AreRequests, IsScheduled}
-use Rattle.stack_core.proofs.Feeding.{take_more_get, front_requests, block_within}
+use Rattle.stack_core.specs.BlockLayer.{QueuesState, BlockLayer, with_request, submitted, accepted_first, layer_accepted, queued_or_kept, queued_or_kept_option, layer_picked, dispatched_from, layer_dispatched}
+use Rattle.stack_core.specs.RequestPath.{AreRequests, IsScheduled}
+use Rattle.stack_core.proofs.DirectPath.{take_more_get, prefix_requests, block_within}
 
--- the item behind a front
+-- the item behind a prefix
 middle_get : {X : Type 0} (xs ys : List X) (y : X) → slice_get (xs ++ y ∷ ys) (length xs) ≡ Some y
 middle_get [] ys y = refl
 middle_get (x ∷ xs) ys y = middle_get xs ys y
@@ -24,23 +24,23 @@ middle_get (x ∷ xs) ys y = middle_get xs ys y
 -- ---- what was accepted
 
 -- the accepted requests are the script's first ones
-accepted_requests : (rs : List Request) (s : SideState) (p : SchedSeen) (d : Seen) → IsScheduled s p rs d → AreRequests (length d.base) p.accepted
+accepted_requests : (rs : List Request) (s : QueuesState) (p : SchedSeen) (d : Seen) → IsScheduled s p rs d → AreRequests (length d.base) p.accepted
 accepted_requests rs s p d v i r at =
-    front_requests s.next (length d.base) rs v.fitting i r
+    prefix_requests s.next (length d.base) rs v.fitting i r
     (ap (λ l. slice_get l i) (sym v.submitted) ∙ slice_get-append_left p.accepted s.submission i (slice_get-length p.accepted i r at) ∙ at)
 
-accepted_few : (rs : List Request) (s : SideState) (p : SchedSeen) (d : Seen) → IsScheduled s p rs d → length p.accepted ≤ length rs
+accepted_few : (rs : List Request) (s : QueuesState) (p : SchedSeen) (d : Seen) → IsScheduled s p rs d → length p.accepted ≤ length rs
 accepted_few rs s p d v =
     let n = ap length (sym v.submitted) ∙ length-append p.accepted s.submission in
     let m = length-take-le s.next rs v.within in
     omega (arith, n, m, v.within)
 
 -- the scheduler may be given the first request of the submission queue
-pub acceptable : (rs : List Request) (s : SideState) (p : SchedSeen) (d : Seen) → IsScheduled s p rs d → (r : Request) (qs : List Request) → s.submission ≡ r ∷ qs → IsAcceptable p r
+pub acceptable : (rs : List Request) (s : QueuesState) (p : SchedSeen) (d : Seen) → IsScheduled s p rs d → (r : Request) (qs : List Request) → s.submission ≡ r ∷ qs → IsAcceptable p r
 acceptable rs s p d v r qs waits =
     let n = length p.accepted in
     let at : slice_get (take s.next rs) n ≡ Some r = ap (λ l. slice_get l n) (sym v.submitted ∙ ap (λ l. p.accepted ++ l) waits) ∙ middle_get p.accepted qs r in
-    let q = front_requests s.next (length d.base) rs v.fitting n r at in
+    let q = prefix_requests s.next (length d.base) rs v.fitting n r at in
     let lt = slice_get-length (take s.next rs) n r at in
     let most = length-take-le s.next rs v.within in
     record {
@@ -52,7 +52,7 @@ acceptable rs s p d v r qs waits =
 
 -- ---- submit
 
-submitted_option : (rs : List Request) (s : SideState) (p : SchedSeen) (d : Seen) → IsScheduled s p rs d → (o : Option Request) → slice_get rs s.next ≡ o → IsScheduled (with_request s o) p rs d
+submitted_option : (rs : List Request) (s : QueuesState) (p : SchedSeen) (d : Seen) → IsScheduled s p rs d → (o : Option Request) → slice_get rs s.next ≡ o → IsScheduled (with_request s o) p rs d
 submitted_option rs s p d v None at = v
 submitted_option rs s p d v (Some r) at =
     let lt = slice_get-length rs s.next r at in
@@ -65,33 +65,33 @@ submitted_option rs s p d v (Some r) at =
       limit = v.limit;
     }
 
-submitted_where : (b : Bool) (rs : List Request) (s : SideState) (p : SchedSeen) (d : Seen) → IsScheduled s p rs d → IsScheduled (if b then with_request s (slice_get rs s.next) else s) p rs d
+submitted_where : (b : Bool) (rs : List Request) (s : QueuesState) (p : SchedSeen) (d : Seen) → IsScheduled s p rs d → IsScheduled (if b then with_request s (slice_get rs s.next) else s) p rs d
 submitted_where true rs s p d v = submitted_option rs s p d v (slice_get rs s.next) refl
 submitted_where false rs s p d v = v
 
-pub submitted_fed : (rs : List Request) (s : SideState) (p : SchedSeen) (d : Seen) → IsScheduled s p rs d → IsScheduled (submitted rs s) p rs d
-submitted_fed rs s p d v = submitted_where (nat_lt (length s.submission) s.capacity) rs s p d v
+pub submitted-path : (rs : List Request) (s : QueuesState) (p : SchedSeen) (d : Seen) → IsScheduled s p rs d → IsScheduled (submitted rs s) p rs d
+submitted-path rs s p d v = submitted_where (nat_lt (length s.submission) s.capacity) rs s p d v
 
 -- ---- a scheduler's state beside its queues
 
 module _ {K : Type 0} where
   -- the state is valid, and holds with the queues and the device
-  pub record IsBeside (k : SchedSteps K) (valid : K → Type 0) (r : SideRun K) (rs : List Request) (d : Seen) : Type 0 where
+  pub record IsBeside (k : SchedSteps K) (valid : K → Type 0) (r : BlockLayer K) (rs : List Request) (d : Seen) : Type 0 where
     pub keeps : valid r.sched
-    pub fed : IsScheduled r.side (k.seen r.sched) rs d
+    pub path : IsScheduled r.queues (k.seen r.sched) rs d
 
   -- ---- accept
 
-  accepted_list : (k : SchedSteps K) (valid : K → Type 0) (rs : List Request) (r : SideRun K) (d : Seen) → IsScheduler k valid → IsBeside k valid r rs d → k.can_accept r.sched ≡ true → (l : List Request) → r.side.submission ≡ l
+  accepted_list : (k : SchedSteps K) (valid : K → Type 0) (rs : List Request) (r : BlockLayer K) (d : Seen) → IsScheduler k valid → IsBeside k valid r rs d → k.can_accept r.sched ≡ true → (l : List Request) → r.queues.submission ≡ l
       → IsBeside k valid (accepted_first k r l) rs d
   accepted_list k valid rs r d laws v can [] waits = v
   accepted_list k valid rs r d laws v can (q ∷ qs) waits =
-      let old = v.fed in
+      let old = v.path in
       let p = k.seen r.sched in
-      let step = laws.accepts r.sched q v.keeps (acceptable rs r.side p d old q qs waits) can in
+      let step = laws.accepts r.sched q v.keeps (acceptable rs r.queues p d old q qs waits) can in
       record {
         keeps = step.0;
-        fed = record {
+        path = record {
           within = old.within;
           submitted = ap (λ l. l ++ qs) step.1.accepted ∙ append_assoc p.accepted (q ∷ []) qs ∙ ap (λ l. p.accepted ++ l) (sym waits) ∙ old.submitted;
           sent = step.1.sent_out ∙ old.sent;
@@ -101,20 +101,20 @@ module _ {K : Type 0} where
         };
       }
 
-  accepted_where : (b : Bool) (k : SchedSteps K) (valid : K → Type 0) (rs : List Request) (r : SideRun K) (d : Seen) → IsScheduler k valid → IsBeside k valid r rs d → k.can_accept r.sched ≡ b
-      → IsBeside k valid (if b then accepted_first k r r.side.submission else r) rs d
-  accepted_where true k valid rs r d laws v can = accepted_list k valid rs r d laws v can r.side.submission refl
+  accepted_where : (b : Bool) (k : SchedSteps K) (valid : K → Type 0) (rs : List Request) (r : BlockLayer K) (d : Seen) → IsScheduler k valid → IsBeside k valid r rs d → k.can_accept r.sched ≡ b
+      → IsBeside k valid (if b then accepted_first k r r.queues.submission else r) rs d
+  accepted_where true k valid rs r d laws v can = accepted_list k valid rs r d laws v can r.queues.submission refl
   accepted_where false k valid rs r d laws v can = v
 
-  pub accepted_fed : (k : SchedSteps K) (valid : K → Type 0) (rs : List Request) (r : SideRun K) (d : Seen) → IsScheduler k valid → IsBeside k valid r rs d → IsBeside k valid (side_accepted k r) rs d
-  accepted_fed k valid rs r d laws v = accepted_where (k.can_accept r.sched) k valid rs r d laws v refl
+  pub accepted-path : (k : SchedSteps K) (valid : K → Type 0) (rs : List Request) (r : BlockLayer K) (d : Seen) → IsScheduler k valid → IsBeside k valid r rs d → IsBeside k valid (layer_accepted k r) rs d
+  accepted-path k valid rs r d laws v = accepted_where (k.can_accept r.sched) k valid rs r d laws v refl
 
 -- ---- dispatch
 
 -- a command that was sent out goes into the dispatch queue, or is kept
-offered_where : (b : Bool) (rs : List Request) (s : SideState) (p : SchedSeen) (d : Seen) (c : Command) → IsScheduled (record s { kept = Some c }) p rs d
+queued_or_kept_where : (b : Bool) (rs : List Request) (s : QueuesState) (p : SchedSeen) (d : Seen) (c : Command) → IsScheduled (record s { kept = Some c }) p rs d
     → IsScheduled (if b then record s { kept = None; dispatched = s.dispatched ++ c ∷ [] } else record s { kept = Some c }) p rs d
-offered_where true rs s p d c v = record {
+queued_or_kept_where true rs s p d c v = record {
   within = v.within;
   submitted = v.submitted;
   sent = v.sent ∙ append_assoc d.took s.dispatched (c ∷ []) ∙ sym (append-nil (d.took ++ (s.dispatched ++ c ∷ [])));
@@ -122,11 +122,11 @@ offered_where true rs s p d c v = record {
   fitting = v.fitting;
   limit = v.limit;
 }
-offered_where false rs s p d c v = v
+queued_or_kept_where false rs s p d c v = v
 
 -- a command that was sent out, where there was one
-offered_fed : (rs : List Request) (s : SideState) (old new : SchedSeen) (d : Seen) → IsScheduled s old rs d → s.kept ≡ None → (o : Option Command) → Sends old o new → IsScheduled (offered_option s o) new rs d
-offered_fed rs s old new d v none None step = record {
+queued_or_kept-path : (rs : List Request) (s : QueuesState) (old new : SchedSeen) (d : Seen) → IsScheduled s old rs d → s.kept ≡ None → (o : Option Command) → Sends old o new → IsScheduled (queued_or_kept_option s o) new rs d
+queued_or_kept-path rs s old new d v none None step = record {
   within = v.within;
   submitted = ap (λ l. l ++ s.submission) step.accepted ∙ v.submitted;
   sent = step.sent_out ∙ append-nil old.sent_out ∙ v.sent;
@@ -134,8 +134,8 @@ offered_fed rs s old new d v none None step = record {
   fitting = v.fitting;
   limit = v.limit;
 }
-offered_fed rs s old new d v none (Some c) step =
-    offered_where (nat_lt (length s.dispatched) s.capacity) rs s new d c
+queued_or_kept-path rs s old new d v none (Some c) step =
+    queued_or_kept_where (nat_lt (length s.dispatched) s.capacity) rs s new d c
     (record {
       within = v.within;
       submitted = ap (λ l. l ++ s.submission) step.accepted ∙ v.submitted;
@@ -146,9 +146,9 @@ offered_fed rs s old new d v none (Some c) step =
     })
 
 -- the command that was kept
-kept_fed : (rs : List Request) (s : SideState) (p : SchedSeen) (d : Seen) (c : Command) → IsScheduled s p rs d → s.kept ≡ Some c → IsScheduled (offered s c) p rs d
-kept_fed rs s p d c v kept =
-    offered_where (nat_lt (length s.dispatched) s.capacity) rs s p d c
+kept-path : (rs : List Request) (s : QueuesState) (p : SchedSeen) (d : Seen) (c : Command) → IsScheduled s p rs d → s.kept ≡ Some c → IsScheduled (queued_or_kept s c) p rs d
+kept-path rs s p d c v kept =
+    queued_or_kept_where (nat_lt (length s.dispatched) s.capacity) rs s p d c
     (record {
       within = v.within;
       submitted = v.submitted;
@@ -159,29 +159,29 @@ kept_fed rs s p d c v kept =
     })
 
 module _ {K : Type 0} where
-  dispatched_option : (k : SchedSteps K) (valid : K → Type 0) (rs : List Request) (r : SideRun K) (d : Seen) (pick : ℕ) → IsScheduler k valid → IsBeside k valid r rs d → (o : Option Command) → r.side.kept ≡ o
+  dispatched_option : (k : SchedSteps K) (valid : K → Type 0) (rs : List Request) (r : BlockLayer K) (d : Seen) (pick : ℕ) → IsScheduler k valid → IsBeside k valid r rs d → (o : Option Command) → r.queues.kept ≡ o
       → IsBeside k valid (dispatched_from k r pick o) rs d
   dispatched_option k valid rs r d pick laws v None kept =
       let step = laws.dispatches r.sched pick v.keeps in
       record {
         keeps = step.0;
-        fed = offered_fed rs r.side (k.seen r.sched) (k.seen (k.dispatched r.sched pick)) d v.fed kept (k.command r.sched pick) step.1;
+        path = queued_or_kept-path rs r.queues (k.seen r.sched) (k.seen (k.dispatched r.sched pick)) d v.path kept (k.command r.sched pick) step.1;
       }
-  dispatched_option k valid rs r d pick laws v (Some c) kept = record { keeps = v.keeps; fed = kept_fed rs r.side (k.seen r.sched) d c v.fed kept }
+  dispatched_option k valid rs r d pick laws v (Some c) kept = record { keeps = v.keeps; path = kept-path rs r.queues (k.seen r.sched) d c v.path kept }
 
-  pub dispatched_fed : (k : SchedSteps K) (valid : K → Type 0) (rs : List Request) (r : SideRun K) (d : Seen) (pick : ℕ) → IsScheduler k valid → IsBeside k valid r rs d → IsBeside k valid (side_dispatched k r pick) rs d
-  dispatched_fed k valid rs r d pick laws v = dispatched_option k valid rs r d pick laws v r.side.kept refl
+  pub dispatched-path : (k : SchedSteps K) (valid : K → Type 0) (rs : List Request) (r : BlockLayer K) (d : Seen) (pick : ℕ) → IsScheduler k valid → IsBeside k valid r rs d → IsBeside k valid (layer_dispatched k r pick) rs d
+  dispatched-path k valid rs r d pick laws v = dispatched_option k valid rs r d pick laws v r.queues.kept refl
 
 -- ---- receive
 
 -- what the device took, the first command that waits for it, and the others
-sent_next : (rs : List Request) (s : SideState) (p : SchedSeen) (d : Seen) (c : Command) (cs : List Command) → IsScheduled s p rs d → s.dispatched ≡ c ∷ cs
+sent_next : (rs : List Request) (s : QueuesState) (p : SchedSeen) (d : Seen) (c : Command) (cs : List Command) → IsScheduled s p rs d → s.dispatched ≡ c ∷ cs
     → p.sent_out ≡ d.took ++ c ∷ (cs ++ option_to_list s.kept)
 sent_next rs s p d c cs v waits =
     v.sent ∙ ap (λ l. (d.took ++ l) ++ option_to_list s.kept) waits ∙ append_assoc d.took (c ∷ cs) (option_to_list s.kept)
 
 -- the device may be given the first command of the dispatch queue
-pub first_receivable : (rs : List Request) (s : SideState) (p : SchedSeen) (d : Seen) (c : Command) (cs : List Command) → IsScheduled s p rs d → Carries p → length d.surface ≡ length d.base → s.dispatched ≡ c ∷ cs → IsReceivable d c
+pub first_receivable : (rs : List Request) (s : QueuesState) (p : SchedSeen) (d : Seen) (c : Command) (cs : List Command) → IsScheduled s p rs d → Carries p → length d.surface ≡ length d.base → s.dispatched ≡ c ∷ cs → IsReceivable d c
 first_receivable rs s p d c cs v carries same waits =
     let few = accepted_few rs s p d v in
     next_receivable p d c (cs ++ option_to_list s.kept) carries (sent_next rs s p d c cs v waits)
@@ -189,7 +189,7 @@ first_receivable rs s p d c cs v carries same waits =
     (omega (arith, few, v.limit))
 
 -- the device took it
-pub first_received : (rs : List Request) (s : SideState) (p : SchedSeen) (d : Seen) (c : Command) (cs : List Command) → IsScheduled s p rs d → s.dispatched ≡ c ∷ cs
+pub first_received : (rs : List Request) (s : QueuesState) (p : SchedSeen) (d : Seen) (c : Command) (cs : List Command) → IsScheduled s p rs d → s.dispatched ≡ c ∷ cs
     → IsScheduled (record s { dispatched = cs }) p rs (record d { took = d.took ++ c ∷ [] })
 first_received rs s p d c cs v waits = record {
   within = v.within;
@@ -203,7 +203,7 @@ first_received rs s p d c cs v waits = record {
 -- ---- the order
 
 -- scheduler and device fit what was submitted
-pub scheduled_fits : (rs : List Request) (s : SideState) (p : SchedSeen) (d : Seen) → IsScheduled s p rs d → Fits (take s.next rs) p d
+pub scheduled_fits : (rs : List Request) (s : QueuesState) (p : SchedSeen) (d : Seen) → IsScheduled s p rs d → Fits (take s.next rs) p d
 scheduled_fits rs s p d v = record {
   accepted = (length p.accepted, sym (ap (take (length p.accepted)) (sym v.submitted) ∙ take_at p.accepted s.submission (length p.accepted) refl));
   took = (length d.took, sym (ap (take (length d.took)) (v.sent ∙ append_assoc d.took s.dispatched (option_to_list s.kept)) ∙ take_at d.took (s.dispatched ++ option_to_list s.kept) (length d.took) refl));

@@ -18,32 +18,32 @@ use Rattle.script_grammar.specs.declared.script.EventWord.TheVariants.{One}
 use Rattle.script_grammar.specs.declared.script.CoreEvent.{CoreEvent}
 use Rattle.script_grammar.specs.declared.script.CoreEvent.TheVariants.{Submit, Accept, Dispatch, Receive, Transfer, Persist}
 use Rattle.script_grammar.specs.Grammar.{blocks_of}
-use Rattle.stack_core.specs.declared.feed.Feed.{Feed}
-use Rattle.stack_core.specs.Feed.{FeedRun, opened_feed, scheduled_count, stepped, given}
+use Rattle.stack_core.specs.declared.request_path.RequestPath.{RequestPath}
+use Rattle.stack_core.specs.RequestPath.{PathState, opened_path, scheduled_count, stepped, given}
 
--- what stands before the device with its scheduler, and the device
+-- the request path with its scheduler, and the device
 pub record RunState (K S : Type 0) : Type 0 where
-  pub feed : Feed
+  pub path : RequestPath
   pub sched : K
   pub dev : S
 
 -- a command goes to the device, where there is one
-abbrev pub received_given : {K S : Type 0} → Machine S → RunState K S → Option (Command × Feed) → RunState K S
+abbrev pub received_given : {K S : Type 0} → Machine S → RunState K S → Option (Command × RequestPath) → RunState K S
 received_given m r None = r
-received_given m r (Some g) = record { feed = g.1; sched = r.sched; dev = m.received r.dev g.0 }
+received_given m r (Some g) = record { path = g.1; sched = r.sched; dev = m.received r.dev g.0 }
 
-abbrev pub on_device : {K S : Type 0} → FeedRun K → S → RunState K S
-on_device f dev = record { feed = f.feed; sched = f.sched; dev = dev }
+abbrev pub on_device : {K S : Type 0} → PathState K → S → RunState K S
+on_device f dev = record { path = f.path; sched = f.sched; dev = dev }
 
-abbrev pub before_device : {K S : Type 0} → RunState K S → FeedRun K
-before_device r = record { feed = r.feed; sched = r.sched }
+abbrev pub before_device : {K S : Type 0} → RunState K S → PathState K
+before_device r = record { path = r.path; sched = r.sched }
 
 -- an event that cannot act changes nothing
 abbrev pub happens : {K S : Type 0} → SchedSteps K → Machine S → List Request → RunState K S → CoreEvent → RunState K S
 happens k m requests r Submit = on_device (stepped k requests (before_device r) Submit) r.dev
 happens k m requests r Accept = on_device (stepped k requests (before_device r) Accept) r.dev
 happens k m requests r (Dispatch pick) = on_device (stepped k requests (before_device r) (Dispatch pick)) r.dev
-happens k m requests r Receive = if m.has_room r.dev then received_given m r (given requests r.feed) else r
+happens k m requests r Receive = if m.has_room r.dev then received_given m r (given requests r.path) else r
 happens k m requests r (Transfer pick) = record r { dev = m.transferred r.dev pick }
 happens k m requests r (Persist pick) = record r { dev = m.persisted r.dev pick }
 
@@ -64,16 +64,16 @@ run_lines k m requests r (l ∷ ls) = run_lines k m requests (happens_line k m r
 
 -- the run of a script on this scheduler and this device
 abbrev pub run_of : {K S : Type 0} → SchedSteps K → Machine S → Script → K → S → RunState K S
-run_of k m s sched dev = run_lines k m s.puts (record { feed = opened_feed s; sched = sched; dev = dev }) s.events
+run_of k m s sched dev = run_lines k m s.puts (record { path = opened_path s; sched = sched; dev = dev }) s.events
 
 -- where a run ends, with what is seen of its scheduler
 pub record EndState (S : Type 0) : Type 0 where
-  pub feed : Feed
+  pub path : RequestPath
   pub sched : SchedSeen
   pub dev : S
 
 abbrev pub ended : {K S : Type 0} → SchedSteps K → RunState K S → EndState S
-ended k r = record { feed = r.feed; sched = k.seen r.sched; dev = r.dev }
+ended k r = record { path = r.path; sched = k.seen r.sched; dev = r.dev }
 
 -- where a script ends on this device: on the scheduler that it names, in which 128 requests may wait
 abbrev pub end_on : {S : Type 0} → Machine S → Script → S → EndState S

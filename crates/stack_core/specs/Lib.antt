@@ -1,6 +1,6 @@
 pub mod Core
-pub mod Feed
+pub mod RequestPath
 pub mod Headline
 pub mod Report
-pub mod Side
+pub mod BlockLayer
 pub mod code

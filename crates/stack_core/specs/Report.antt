@@ -5,43 +5,43 @@ use Rattle.order_model.specs.Device.{Seen, origin_ids}
 use Rattle.order_model.specs.Steps.{IsTraceOf}
 use Rattle.order_model.specs.declared.completion.Completion.{Completion}
 use Rattle.order_model.specs.Single.{command_for}
-use Rattle.order_model.specs.Carrying.{SchedSeen, IsFrontOf}
+use Rattle.order_model.specs.Carrying.{SchedSeen, IsPrefixOf}
 use Rattle.barrier_reassign.specs.Scheduler.{IsSchedRecord}
 use Rattle.device_epochs.specs.Device.{seen}
 use Rattle.script_grammar.specs.declared.script.Script.{Script}
 use Rattle.script_grammar.specs.declared.script.Form.{Form}
 use Rattle.script_grammar.specs.declared.script.Form.TheVariants.{Device, Blocks}
 use Rattle.script_grammar.specs.Grammar.{blocks_of}
-use Rattle.stack_core.specs.declared.feed.Feed.{Feed}
+use Rattle.stack_core.specs.declared.request_path.RequestPath.{RequestPath}
 use Rattle.stack_core.specs.declared.report.Report.{Report}
-use Rattle.stack_core.specs.Feed.{submitted_count}
+use Rattle.stack_core.specs.RequestPath.{submitted_count}
 use Rattle.stack_core.specs.Core.{core}
 use Rattle.stack_core.specs.Headline.{KeepsOrder}
 
--- the report of a run that left the feed, the scheduler and the device so
-pub record IsReportOf (s : Script) (feed : Feed) (passed : SchedSeen) (left : Seen) (r : Report) : Type 0 where
+-- the report of a run that ends with the request path, the scheduler and the device so
+pub record IsReportOf (s : Script) (path : RequestPath) (passed : SchedSeen) (dev : Seen) (r : Report) : Type 0 where
   pub script : r.script ≡ s
-  pub submitted : r.submitted ≡ take (submitted_count feed) s.puts
+  pub submitted : r.submitted ≡ take (submitted_count path) s.puts
   pub sched : IsSchedRecord passed r.sched
-  pub image : r.cut.image ≡ left.surface
-  pub origins : r.cut.origins ≡ origin_ids left.took left.origins
-  pub trace : IsTraceOf left r.cut.trace
+  pub image : r.cut.image ≡ dev.surface
+  pub origins : r.cut.origins ≡ origin_ids dev.took dev.origins
+  pub trace : IsTraceOf dev r.cut.trace
 
 -- the report of the core run of the script
 abbrev pub IsCoreReport : Script → Report → Type 0
-IsCoreReport s r = IsReportOf s (core s).feed (core s).sched (seen (core s).dev) r
+IsCoreReport s r = IsReportOf s (core s).path (core s).sched (seen (core s).dev) r
 
 -- in a `device` script the device took each request as a command of its own, in order; in a `blocks` script
 -- the first commands that the scheduler sent out
 abbrev pub TookInOrder : Form → Report → Type 0
 TookInOrder (Device blocks) r = r.cut.trace.took.items ≡ map command_for r.submitted
-TookInOrder (Blocks blocks) r = IsFrontOf r.cut.trace.took.items r.sched.sent_out.items
+TookInOrder (Blocks blocks) r = IsPrefixOf r.cut.trace.took.items r.sched.sent_out.items
 
--- How the parts of a run fit: what each one took is a front of what the one before it gave.
+-- How the parts of a run fit: what each one took is a prefix of what the one before it gave.
 pub record PartsFit (r : Report) (completed : List Completion) : Type 0 where
-  pub accepted : IsFrontOf r.sched.accepted.items r.submitted
+  pub accepted : IsPrefixOf r.sched.accepted.items r.submitted
   pub took : TookInOrder r.script.kind r
-  pub sent : IsFrontOf r.cut.trace.sent.items completed
+  pub sent : IsPrefixOf r.cut.trace.sent.items completed
 
 -- The headline, as far as a script of block requests goes: its first sentence, over a medium of zeros. What
 -- completed is what was handed out, and what the device still had to hand out when the power was cut.

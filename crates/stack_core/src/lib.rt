@@ -6,10 +6,10 @@
 //! (`specs/Headline.antt`).
 #![tactic(auto)]
 
-mod feed;
 mod report;
+mod request_path;
 mod running;
-mod sched_side;
+mod scheduler_queues;
 #[cfg(test)]
 mod tests;
 

@@ -4,13 +4,13 @@ ghost use Rattle.blk_base.specs.Image.{zeros};
 ghost use Rattle.order_model.specs.Machine.{machine_of};
 ghost use Rattle.device_epochs.specs.Device.{seen};
 ghost use Rattle.script_grammar.specs.Grammar.{IsRunnable, blocks_of};
-ghost use Rattle.stack_core.specs.Feed.{IsFed, opened_feed, scheduled_count};
+ghost use Rattle.stack_core.specs.RequestPath.{PathFits, opened_path, scheduled_count};
 ghost use Rattle.stack_core.specs.Core.{RunState, happens, times, happens_line, run_lines, run_of, ended, end_on, core};
 ghost use Rattle.stack_core.specs.Report.{IsReportOf, IsCoreReport, PartsFit, Headline};
 ghost use Rattle.stack_core.specs.Headline.{KeepsOrder};
 
-use crate::feed::Feed;
 use crate::report::Report;
+use crate::request_path::RequestPath;
 use barrier_reassign::Scheduler;
 use blk_base::{Image, NoMemory};
 use device_epochs::{DeviceSetup, EpochDevice};
@@ -22,7 +22,7 @@ use std::alloc::Global;
 
 // One event.
 fn do_event<S: Scheduler, D: OrderedDev>(
-    feed: &mut Feed,
+    path: &mut RequestPath,
     sched: &mut S,
     dev: &mut D,
     requests: &RequestList,
@@ -30,22 +30,22 @@ fn do_event<S: Scheduler, D: OrderedDev>(
 )
     requires valid { D.valid (D.state dev.old) }
     requires scheduler { S.valid (S.state sched.old) }
-    requires fed { IsFed feed.old (S.steps.seen (S.state sched.old)) requests.now (D.seen (D.state dev.old)) }
-    ensures step { record { feed = feed.new; sched = S.state sched.new; dev = D.state dev.new } ≡ happens S.steps (machine_of D.OrderedDev) requests.now (record { feed = feed.old; sched = S.state sched.old; dev = D.state dev.old }) event }
+    requires path { PathFits path.old (S.steps.seen (S.state sched.old)) requests.now (D.seen (D.state dev.old)) }
+    ensures step { record { path = path.new; sched = S.state sched.new; dev = D.state dev.new } ≡ happens S.steps (machine_of D.OrderedDev) requests.now (record { path = path.old; sched = S.state sched.old; dev = D.state dev.old }) event }
     ensures valid { D.valid (D.state dev.new) }
     ensures scheduler { S.valid (S.state sched.new) }
     ensures base { (D.seen (D.state dev.new)).base ≡ (D.seen (D.state dev.old)).base }
-    ensures fed { IsFed feed.new (S.steps.seen (S.state sched.new)) requests.now (D.seen (D.state dev.new)) }
+    ensures path { PathFits path.new (S.steps.seen (S.state sched.new)) requests.now (D.seen (D.state dev.new)) }
 {
     match event {
-        CoreEvent::Receive => receive_next(feed, sched, dev, requests),
+        CoreEvent::Receive => receive_next(path, sched, dev, requests),
         CoreEvent::Transfer(pick) => {
             dev.transfer(pick);
         }
         CoreEvent::Persist(pick) => {
             dev.persist(pick);
         }
-        CoreEvent::Submit | CoreEvent::Accept | CoreEvent::Dispatch(_) => feed.step(
+        CoreEvent::Submit | CoreEvent::Accept | CoreEvent::Dispatch(_) => path.step(
             sched, requests, event,
         ),
     }
@@ -53,24 +53,24 @@ fn do_event<S: Scheduler, D: OrderedDev>(
 
 // The next command goes to the device, where there is one and there is room.
 fn receive_next<S: Scheduler, D: OrderedDev>(
-    feed: &mut Feed,
+    path: &mut RequestPath,
     sched: &mut S,
     dev: &mut D,
     requests: &RequestList,
 )
     requires valid { D.valid (D.state dev.old) }
     requires scheduler { S.valid (S.state sched.old) }
-    requires fed { IsFed feed.old (S.steps.seen (S.state sched.old)) requests.now (D.seen (D.state dev.old)) }
-    ensures step { record { feed = feed.new; sched = S.state sched.new; dev = D.state dev.new } ≡ happens S.steps (machine_of D.OrderedDev) requests.now (record { feed = feed.old; sched = S.state sched.old; dev = D.state dev.old }) CoreEvent.Receive }
+    requires path { PathFits path.old (S.steps.seen (S.state sched.old)) requests.now (D.seen (D.state dev.old)) }
+    ensures step { record { path = path.new; sched = S.state sched.new; dev = D.state dev.new } ≡ happens S.steps (machine_of D.OrderedDev) requests.now (record { path = path.old; sched = S.state sched.old; dev = D.state dev.old }) CoreEvent.Receive }
     ensures valid { D.valid (D.state dev.new) }
     ensures scheduler { S.valid (S.state sched.new) }
     ensures base { (D.seen (D.state dev.new)).base ≡ (D.seen (D.state dev.old)).base }
-    ensures fed { IsFed feed.new (S.steps.seen (S.state sched.new)) requests.now (D.seen (D.state dev.new)) }
+    ensures path { PathFits path.new (S.steps.seen (S.state sched.new)) requests.now (D.seen (D.state dev.new)) }
 {
     if !dev.room() {
         return;
     }
-    let Some(command) = feed.give(requests) else {
+    let Some(command) = path.give(requests) else {
         return;
     };
     // There is room.
@@ -79,7 +79,7 @@ fn receive_next<S: Scheduler, D: OrderedDev>(
 
 // One event, so many times.
 fn repeat_event<S: Scheduler, D: OrderedDev>(
-    feed: &mut Feed,
+    path: &mut RequestPath,
     sched: &mut S,
     dev: &mut D,
     requests: &RequestList,
@@ -88,21 +88,21 @@ fn repeat_event<S: Scheduler, D: OrderedDev>(
 )
     requires valid { D.valid (D.state dev.old) }
     requires scheduler { S.valid (S.state sched.old) }
-    requires fed { IsFed feed.old (S.steps.seen (S.state sched.old)) requests.now (D.seen (D.state dev.old)) }
-    ensures step { record { feed = feed.new; sched = S.state sched.new; dev = D.state dev.new } ≡ times count (λ s. happens S.steps (machine_of D.OrderedDev) requests.now s event) (record { feed = feed.old; sched = S.state sched.old; dev = D.state dev.old }) }
+    requires path { PathFits path.old (S.steps.seen (S.state sched.old)) requests.now (D.seen (D.state dev.old)) }
+    ensures step { record { path = path.new; sched = S.state sched.new; dev = D.state dev.new } ≡ times count (λ s. happens S.steps (machine_of D.OrderedDev) requests.now s event) (record { path = path.old; sched = S.state sched.old; dev = D.state dev.old }) }
     ensures valid { D.valid (D.state dev.new) }
     ensures scheduler { S.valid (S.state sched.new) }
     ensures base { (D.seen (D.state dev.new)).base ≡ (D.seen (D.state dev.old)).base }
-    ensures fed { IsFed feed.new (S.steps.seen (S.state sched.new)) requests.now (D.seen (D.state dev.new)) }
+    ensures path { PathFits path.new (S.steps.seen (S.state sched.new)) requests.now (D.seen (D.state dev.new)) }
 {
     for i in 0..count {
-        do_event(feed, sched, dev, requests, event);
+        do_event(path, sched, dev, requests, event);
     }
 }
 
 // An event line, as often as it says.
 fn do_line<S: Scheduler, D: OrderedDev>(
-    feed: &mut Feed,
+    path: &mut RequestPath,
     sched: &mut S,
     dev: &mut D,
     requests: &RequestList,
@@ -110,21 +110,21 @@ fn do_line<S: Scheduler, D: OrderedDev>(
 )
     requires valid { D.valid (D.state dev.old) }
     requires scheduler { S.valid (S.state sched.old) }
-    requires fed { IsFed feed.old (S.steps.seen (S.state sched.old)) requests.now (D.seen (D.state dev.old)) }
-    ensures step { record { feed = feed.new; sched = S.state sched.new; dev = D.state dev.new } ≡ happens_line S.steps (machine_of D.OrderedDev) requests.now (record { feed = feed.old; sched = S.state sched.old; dev = D.state dev.old }) line }
+    requires path { PathFits path.old (S.steps.seen (S.state sched.old)) requests.now (D.seen (D.state dev.old)) }
+    ensures step { record { path = path.new; sched = S.state sched.new; dev = D.state dev.new } ≡ happens_line S.steps (machine_of D.OrderedDev) requests.now (record { path = path.old; sched = S.state sched.old; dev = D.state dev.old }) line }
     ensures valid { D.valid (D.state dev.new) }
     ensures scheduler { S.valid (S.state sched.new) }
     ensures base { (D.seen (D.state dev.new)).base ≡ (D.seen (D.state dev.old)).base }
-    ensures fed { IsFed feed.new (S.steps.seen (S.state sched.new)) requests.now (D.seen (D.state dev.new)) }
+    ensures path { PathFits path.new (S.steps.seen (S.state sched.new)) requests.now (D.seen (D.state dev.new)) }
 {
     match line.what {
-        EventWord::One(event) => repeat_event(feed, sched, dev, requests, event, line.count),
+        EventWord::One(event) => repeat_event(path, sched, dev, requests, event, line.count),
     }
 }
 
 // All event lines, one after the other.
 fn do_lines<S: Scheduler, D: OrderedDev>(
-    feed: &mut Feed,
+    path: &mut RequestPath,
     sched: &mut S,
     dev: &mut D,
     requests: &RequestList,
@@ -132,15 +132,15 @@ fn do_lines<S: Scheduler, D: OrderedDev>(
 )
     requires valid { D.valid (D.state dev.old) }
     requires scheduler { S.valid (S.state sched.old) }
-    requires fed { IsFed feed.old (S.steps.seen (S.state sched.old)) requests.now (D.seen (D.state dev.old)) }
-    ensures run { record { feed = feed.new; sched = S.state sched.new; dev = D.state dev.new } ≡ run_lines S.steps (machine_of D.OrderedDev) requests.now (record { feed = feed.old; sched = S.state sched.old; dev = D.state dev.old }) lines.now }
+    requires path { PathFits path.old (S.steps.seen (S.state sched.old)) requests.now (D.seen (D.state dev.old)) }
+    ensures run { record { path = path.new; sched = S.state sched.new; dev = D.state dev.new } ≡ run_lines S.steps (machine_of D.OrderedDev) requests.now (record { path = path.old; sched = S.state sched.old; dev = D.state dev.old }) lines.now }
     ensures valid { D.valid (D.state dev.new) }
     ensures scheduler { S.valid (S.state sched.new) }
     ensures base { (D.seen (D.state dev.new)).base ≡ (D.seen (D.state dev.old)).base }
-    ensures fed { IsFed feed.new (S.steps.seen (S.state sched.new)) requests.now (D.seen (D.state dev.new)) }
+    ensures path { PathFits path.new (S.steps.seen (S.state sched.new)) requests.now (D.seen (D.state dev.new)) }
 {
     for line in lines {
-        do_line(feed, sched, dev, requests, *line);
+        do_line(path, sched, dev, requests, *line);
     }
 }
 
@@ -164,26 +164,26 @@ fn run_with<S: Scheduler + Drop, D: OrderedDev + Drop>(
     requires valid { D.valid (D.state dev) }
     requires scheduler { S.valid (S.state sched) }
     requires unused { (S.steps.seen (S.state sched)).accepted ≡ [] }
-    requires fed { IsFed (opened_feed script.now) (S.steps.seen (S.state sched)) script.now.puts (D.seen (D.state dev)) }
+    requires path { PathFits (opened_path script.now) (S.steps.seen (S.state sched)) script.now.puts (D.seen (D.state dev)) }
     ensures fits { let end = ended S.steps (run_of S.steps (machine_of D.OrderedDev) script.now (S.state sched) (D.state dev)) in
         IfOk result (λ r. PartsFit r (r.cut.trace.sent.items ++ (D.seen end.dev).waiting)) }
     ensures core { let end = ended S.steps (run_of S.steps (machine_of D.OrderedDev) script.now (S.state sched) (D.state dev)) in
-        IfOk result (IsReportOf script.now end.feed end.sched (D.seen end.dev)) }
+        IfOk result (IsReportOf script.now end.path end.sched (D.seen end.dev)) }
     ensures order { let end = ended S.steps (run_of S.steps (machine_of D.OrderedDev) script.now (S.state sched) (D.state dev)) in
         IfOk result (λ r. KeepsOrder (D.seen (D.state dev)).base r.submitted r.cut.image r.cut.origins (r.cut.trace.sent.items ++ (D.seen end.dev).waiting)) }
 {
     let mut dev = dev;
     let mut sched = sched;
-    let mut feed = Feed::open(alloc, script)?;
+    let mut path = RequestPath::open(alloc, script)?;
     do_lines(
-        &mut feed,
+        &mut path,
         &mut sched,
         &mut dev,
         &script.puts,
         script.events.as_slice(),
     );
     keeps_order_to_the_medium(&dev);
-    let submitted = script.puts.copy_front(alloc, feed.submitted())?;
+    let submitted = script.puts.copy_front(alloc, path.submitted())?;
     let script = script.copy(alloc)?;
     Ok(Report {
         script,
@@ -207,7 +207,7 @@ pub fn run_on<D: OrderedDev + Drop>(
     ensures fits { let end = end_on (machine_of D.OrderedDev) script.now (D.state dev) in
         IfOk result (λ r. PartsFit r (r.cut.trace.sent.items ++ (D.seen end.dev).waiting)) }
     ensures core { let end = end_on (machine_of D.OrderedDev) script.now (D.state dev) in
-        IfOk result (IsReportOf script.now end.feed end.sched (D.seen end.dev)) }
+        IfOk result (IsReportOf script.now end.path end.sched (D.seen end.dev)) }
     ensures order { let end = end_on (machine_of D.OrderedDev) script.now (D.state dev) in
         IfOk result (λ r. KeepsOrder (zeros (blocks_of script.now)) r.submitted r.cut.image r.cut.origins (r.cut.trace.sent.items ++ (D.seen end.dev).waiting)) }
 {

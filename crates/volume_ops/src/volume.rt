@@ -2,7 +2,7 @@
 ghost use Rattle.std.specs.Prelude.{◌≡◌, ◌≤◌, ◌↔◌, true, Ok, Err, length, take, IfOk, IfErr, IsOk, IsErrOf};
 ghost use Rattle.blk_base.specs.Streams.{Rose};
 ghost use Rattle.order_model.specs.Device.{IsQuiet};
-ghost use Rattle.order_model.specs.Steps.{Reads};
+ghost use Rattle.order_model.specs.Steps.{OnlyReads};
 ghost use Rattle.minix_layout.specs.Geometry.{IsSound};
 ghost use Rattle.volume_ops.specs.Faultless.{IsUsed};
 ghost use Rattle.volume_ops.specs.Faults.{IsOutside};
@@ -54,7 +54,7 @@ impl Volume {
         ensures readable { IfOk result (λ _. IsOk (walked g (take g.zones (D.seen (D.state dev.old)).surface))) }
         ensures fault { IfErr result (IsFaultOf g (take g.zones (D.seen (D.state dev.old)).surface)) }
         ensures read_fault { IsErrOf result VolumeFault.ReadFault → Rose (D.seen (D.state dev.old)).faults (D.seen (D.state dev.new)).faults }
-        ensures reads { Reads (D.seen (D.state dev.old)) (D.seen (D.state dev.new)) }
+        ensures reads { OnlyReads (D.seen (D.state dev.old)) (D.seen (D.state dev.new)) }
         ensures no_fault { D.sound (D.state dev.old) → (D.seen (D.state dev.new)).faults ≡ (D.seen (D.state dev.old)).faults }
     {
         // By this call the device tells that its laws hold of its state.
@@ -104,7 +104,7 @@ fn read_blocks<D: OrderedDev>(alloc: Global, dev: &mut D, blocks: u16) -> Result
     ensures image { IfOk result (λ i. i ≡ take blocks (D.seen (D.state dev.old)).surface) }
     ensures no_layout { IfErr result IsOutside }
     ensures read_fault { IsErrOf result VolumeFault.ReadFault → Rose (D.seen (D.state dev.old)).faults (D.seen (D.state dev.new)).faults }
-    ensures reads { Reads (D.seen (D.state dev.old)) (D.seen (D.state dev.new)) }
+    ensures reads { OnlyReads (D.seen (D.state dev.old)) (D.seen (D.state dev.new)) }
     ensures no_fault { D.sound (D.state dev.old) → (D.seen (D.state dev.new)).faults ≡ (D.seen (D.state dev.old)).faults }
 {
     let mut image = Image::zeroed(alloc, blocks.into())?;

@@ -8,7 +8,7 @@ use Rattle.command_queue.specs.Queue.{Waiting}
 use Rattle.device_epochs.specs.declared.cache.Entry.{Entry}
 use Rattle.order_model.specs.declared.command.Command.{Command}
 use Rattle.order_model.specs.Device.{IsReceivable, TellsCut, Grows}
-use Rattle.order_model.specs.Steps.{Receives, Transfers, Persists, Answers, Reads, Progresses}
+use Rattle.order_model.specs.Steps.{Receives, Transfers, Persists, Answers, OnlyReads, Progresses}
 use Rattle.device_epochs.specs.Device.{DeviceState, is_next, counted, has_room, received, transferable, tried, transferred, persistable, persisted, next_answer, answered, answered_from, after_read, written, tells_cut, IsSound, seen}
 use Rattle.device_epochs.specs.laws.Valid.{left, IsValid}
 use Rattle.device_epochs.specs.laws.StepLaws.{tried-all, Receives-received, Transfers-transferred, Persists-persisted, Answers-answered}
@@ -33,7 +33,7 @@ faults_read-le : (n : ℕ) (b : Bool) → n ≤ (if b then n + 1 else n)
 faults_read-le n true = omega arith
 faults_read-le n false = omega arith
 
-pub reads : (s : DeviceState) (block : ℕ) → IsValid s → IsValid (after_read s) × Reads (seen s) (seen (after_read s))
+pub reads : (s : DeviceState) (block : ℕ) → IsValid s → IsValid (after_read s) × OnlyReads (seen s) (seen (after_read s))
 reads s block v = (after_read-valid s v, (refl, faults_read-le s.faults (is_next s.bad_read)))
 
 pub power_cut : (s : DeviceState) → IsValid s → TellsCut (seen s) × ((seen s).off ≡ true → (has_room s ≡ false) × (length (transferable s) ≡ 0) × (length (persistable s) ≡ 0))

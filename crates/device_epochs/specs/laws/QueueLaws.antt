@@ -13,7 +13,7 @@ use Rattle.order_model.specs.Received.{all_parts, part_at, first_part, command_o
 use Rattle.order_model.specs.Device.{Seen, IsReceivable, NoneTwice, is_ordered}
 use Rattle.order_model.specs.laws.ArrivalLaws as arrivals
 use Rattle.order_model.proofs.Received.{all_parts-push, all_ids-push, command_of-first, command_of-earlier, place_of, part_at-place}
-use Rattle.command_queue.specs.Queue.{QueueState, Waiting, have_common_block, stands_in_way, is_free, eligible, without, arrived, left, AreNumbered}
+use Rattle.command_queue.specs.Queue.{QueueState, Waiting, have_common_block, stands_in_way, is_free, eligible, without, arrived, departed, AreNumbered}
 use Rattle.device_epochs.specs.laws.Valid.{IsDone, CommandFacts, QueueFacts}
 
 -- ---- commands
@@ -156,7 +156,7 @@ pub eligible_clear : (ws : List Waiting) (w v : Waiting) → In w (eligible ws) 
 eligible_clear ws w v h i =
     not-true (stands_in_way v w) (all-list_all (λ x. not (stands_in_way x w)) ws v (In-filter (is_free ws) ws w h).1 i)
 
-pub queue-moved : (took : List Command) (q : QueueState) (w : Waiting) → QueueFacts took q → In w (eligible q.waiting) → QueueFacts took (left q (Some w))
+pub queue-moved : (took : List Command) (q : QueueState) (w : Waiting) → QueueFacts took q → In w (eligible q.waiting) → QueueFacts took (departed q (Some w))
 queue-moved took q w f h =
     record {
       some_depth = f.some_depth;

@@ -1,7 +1,7 @@
 -- What a scan keeps.
 use Rattle.std.specs.Prelude.{ℕ, Bool, true, false, List, map, drop, Option}
 use Rattle.order_model.specs.Device.{Seen, IsQuiet}
-use Rattle.order_model.specs.Steps.{Reads}
+use Rattle.order_model.specs.Steps.{OnlyReads}
 use Rattle.log_model.specs.Marks.{Transaction}
 use Rattle.journal_blocks.specs.declared.tag.Tag.{Tag}
 use Rattle.journal_blocks.specs.Log.{Reading, Log, GoesOn, HasEnded}
@@ -31,5 +31,5 @@ after false r = HasEnded r
 
 -- a quiet device was read, and is quiet still
 pub record HasRead (old new : Seen) : Type 0 where
-  pub reads : Reads old new
+  pub reads : OnlyReads old new
   pub quiet : IsQuiet new

@@ -22,7 +22,7 @@ use Rattle.journal_replay.specs.code.Runs.{HasLog}
 use Rattle.journal_replay.specs.code.Journals.{IsJournalOf}
 use Rattle.order_model.specs.declared.command.Command.{Command}
 use Rattle.order_model.specs.Device.{Seen}
-use Rattle.order_model.specs.Steps.{Reads}
+use Rattle.order_model.specs.Steps.{OnlyReads}
 use Rattle.order_model.specs.Machine.{Machine}
 use Rattle.journal_replay.specs.declared.choice.Choice.{Choice}
 use Rattle.journal_replay.specs.declared.choice.Choice.TheVariants as choices
@@ -172,7 +172,7 @@ run_from m {xs = xs} {ys = ys} same steer cut old new cut_run whole_run over = r
 
 -- what was read before a run is read before it still
 pub run_behind : {S : Type 0} (m : Machine S) {xs ys : List Command} → xs ≡ ys → (steer : List Choice) (cut : Bool) (first old new : S)
-    → Reads (m.seen first) (m.seen old) → IsRun m xs steer cut old new → IsRun m ys steer cut first new
+    → OnlyReads (m.seen first) (m.seen old) → IsRun m xs steer cut old new → IsRun m ys steer cut first new
 run_behind m same steer cut first old new read run = record {
   start = run.start;
   reads = (run.reads.0 ∙ ap (λ (x : Seen). let made : Seen = record x { faults = (m.seen run.start).faults } in made) read.0, let a = read.1 in let b = run.reads.1 in omega (arith, a, b));

@@ -8,7 +8,7 @@ use Rattle.journal_blocks.specs.declared.super_block.JournalSuper.{JournalSuper}
 use Rattle.journal_blocks.specs.Log.{Reading, Entry, Log, said, said_by, by_said, Nothing, Said, read_log, by_tags, entry_at, body_at, places, found, beginning, log_of}
 use Rattle.journal_blocks.specs.laws.Logs.{stopped-stays, read_log-append}
 use Rattle.order_model.specs.Device.{Seen, IsQuiet}
-use Rattle.order_model.specs.Steps.{Reads}
+use Rattle.order_model.specs.Steps.{OnlyReads}
 use Rattle.journal_blocks.specs.declared.tag.Tag.{Tag}
 use Rattle.journal_blocks.specs.declared.log_block.LogBlock.{LogBlock}
 use Rattle.journal_blocks.specs.declared.fault.JournalFault.{JournalFault}
@@ -102,7 +102,7 @@ counted_quiet s n q = record {
   flushed = q.flushed;
 }
 
-pub has_read : (old new : Seen) → Reads old new → IsQuiet old → HasRead old new
+pub has_read : (old new : Seen) → OnlyReads old new → IsQuiet old → HasRead old new
 has_read old new r quiet = record { reads = r; quiet = subst IsQuiet (sym r.0) (counted_quiet old new.faults quiet) }
 
 pub read_none : (s : Seen) → IsQuiet s → HasRead s s

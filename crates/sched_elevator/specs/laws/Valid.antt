@@ -20,7 +20,7 @@ use Rattle.order_model.specs.Carrying.{Carries}
 use Rattle.order_model.specs.Merging.{ungrouped, first_flush, merged, IsGroup}
 use Rattle.order_model.proofs.Single.{part_is}
 use Rattle.order_model.proofs.Merging.{carries_merged}
-use Rattle.barrier_reassign.specs.Epoch.{EpochState, Waiting, may_leave, eligible, left, leaves_flagged}
+use Rattle.barrier_reassign.specs.Epoch.{EpochState, Waiting, may_leave, eligible, departed, leaves_flagged}
 use Rattle.barrier_reassign.specs.Sched as plain
 use Rattle.barrier_reassign.specs.Sched.{SchedState, command_of}
 use Rattle.barrier_reassign.specs.laws.Valid.{IsValid}
@@ -113,7 +113,7 @@ part_block id Flush block p e h = absurd (none-some block e)
 
 -- behind a put that leaves with the flag nothing of its class waits
 flagged_out : (s : SchedState) (w : Waiting) (ordered : Bool) → is_flush w.request.kind ≡ false → has_class ordered w.request ≡ true → leaves_flagged s.queue w ≡ true
-    → (u : Waiting) → In u (left s.queue (Some w)).waiting → has_class ordered u.request ≡ true → ⊥
+    → (u : Waiting) → In u (departed s.queue (Some w)).waiting → has_class ordered u.request ≡ true → ⊥
 flagged_out s w ordered put class flag u h other =
     let last = flagged_last s w flag put in
     has_class-same ordered w.request u.request last.0 (last.1 u h) class other
@@ -257,7 +257,7 @@ taken_open s before ordered block g w o j =
       group = o.group ++ c ∷ [];
       whole = joined_group s before ordered block g w o j;
       same = ap (λ (d : Command). joined d w.request (leaves_flagged g.queue w)) o.same ∙ joined_merged o.group w.request (leaves_flagged g.queue w) o.whole.some;
-      apart = subst (λ cs. IsValid (sent_apart s (left g.queue (Some w)) cs)) (append_assoc before o.group (c ∷ [])) (sent-valid p w o.apart j.leaves.there j.leaves.may);
+      apart = subst (λ cs. IsValid (sent_apart s (departed g.queue (Some w)) cs)) (append_assoc before o.group (c ∷ [])) (sent-valid p w o.apart j.leaves.there j.leaves.may);
       puts = λ d h.
           ⊎_elim
           (λ old. o.puts d old)

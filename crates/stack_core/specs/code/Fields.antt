@@ -1,10 +1,10 @@
 -- The fields of the queues round a scheduler, and what they keep.
 use Rattle.std.specs.Prelude.{◌≡◌}
-use Rattle.stack_core.specs.declared.sched_side.SchedSide.TheInside.{Inside}
-use Rattle.stack_core.specs.Side.{SideState}
+use Rattle.stack_core.specs.declared.scheduler_queues.SchedulerQueues.TheInside.{Inside}
+use Rattle.stack_core.specs.BlockLayer.{QueuesState}
 
-abbrev pub side_of : Inside → SideState
-side_of s = record {
+abbrev pub queues_of : Inside → QueuesState
+queues_of s = record {
   next = s.next;
   capacity = s.submission.capacity;
   submission = s.submission.held;
@@ -13,5 +13,5 @@ side_of s = record {
 }
 
 -- both queues have one capacity
-pub record IsSideInside (s : Inside) : Type 0 where
+pub record HaveOneCapacity (s : Inside) : Type 0 where
   pub capacity : s.dispatched.capacity ≡ s.submission.capacity

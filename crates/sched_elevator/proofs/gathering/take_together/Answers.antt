@@ -1,9 +1,9 @@
 -- The request that leaves, and those that its command takes along.
 use Rattle.std.proofs.Common.{Some, slice_get, sym, ap, subst, ◌∙◌}
-use Rattle.barrier_reassign.specs.Epoch.{EpochState, left}
+use Rattle.barrier_reassign.specs.Epoch.{EpochState, departed}
 use Rattle.sched_elevator.specs.Elevator.{Gathering, leaving_with}
 use Rattle.sched_elevator.specs.laws.Eligible.{IsRising}
-use Rattle.sched_elevator.proofs.Joining.{left_rising}
+use Rattle.sched_elevator.proofs.Joining.{departed_rising}
 use Rattle.sched_elevator.proofs.Steps.{leaving-some, put_together, flush_together, together_command, together_queue}
 use Rattle.sched_elevator.proofs.gathering.take_together.Goals as goal
 use Rattle.sched_elevator.proofs.gathering.take_together.Goals.{in-Some, in_default}
@@ -13,7 +13,7 @@ gather-requires-clause-rising c =
     let q = c.args.queue.now in
     let o = slice_get q.waiting c.args.at in
     let l = leaving-some q o c.in_ok-request.request c.in_ok-request.flagged c.in_ok-request.ensures.given in
-    subst (λ (p : EpochState). IsRising p.waiting) (sym (c.in_ok-request.ensures.state ∙ ap (left q) l.1)) (left_rising q l.0 c.requires.rising)
+    subst (λ (p : EpochState). IsRising p.waiting) (sym (c.in_ok-request.ensures.state ∙ ap (departed q) l.1)) (departed_rising q l.0 c.requires.rising)
 
 pub returns-clause-command : goal.returns-clause-command
 returns-clause-command c =

@@ -39,7 +39,7 @@ pub returns-clause-core : goal.returns-clause-core
 returns-clause-core c =
     let s = c.args.script.now in
     let same = opened_is s c.in_ok-dev.dev c.in_ok-image.image (setup_of s c.len.result) c.blocks-2.result c.in_ok-dev.ensures c.in_ok-image.ensures c.blocks-2.ensures (ap (setup_of s) c.len.ensures) in
-    subst (λ d. IfOk c.run_on.result (IsReportOf s (end_on epoch_machine s d).feed (end_on epoch_machine s d).sched (seen (end_on epoch_machine s d).dev))) same c.run_on.ensures.core
+    subst (λ d. IfOk c.run_on.result (IsReportOf s (end_on epoch_machine s d).path (end_on epoch_machine s d).sched (seen (end_on epoch_machine s d).dev))) same c.run_on.ensures.core
 
 pub returns-clause-order : goal.returns-clause-order
 returns-clause-order c =

@@ -18,13 +18,13 @@ loop-line-preserved g c =
     let n = c.loop-line.line-index in
     -- what the loop reads where there is no line
     let none : EventLine = record { what = One Submit; count = 0 } in
-    let more = run_lines-more k.steps m rs (record { feed = c.loop-line.feed; sched = k.state c.loop-line.sched; dev = d.state c.loop-line.dev }) lines n none c.loop-line-test.true in
+    let more = run_lines-more k.steps m rs (record { path = c.loop-line.path; sched = k.state c.loop-line.sched; dev = d.state c.loop-line.dev }) lines n none c.loop-line-test.true in
     record {
       run = ap (λ r. run_lines k.steps m rs r (drop (n + 1) lines)) c.do_line.ensures.step ∙ (sym more ∙ c.loop-line.invariant.run);
       valid = c.do_line.ensures.valid;
       scheduler = c.do_line.ensures.scheduler;
       base = c.do_line.ensures.base ∙ c.loop-line.invariant.base;
-      fed = c.do_line.ensures.fed;
+      path = c.do_line.ensures.path;
     }
 
 pub returns-clause-run : goal.returns-clause-run
@@ -32,4 +32,4 @@ returns-clause-run g c =
     let d = g.D.OrderedDev in
     let k = g.S.Scheduler in
     let m = machine_of d in
-    sym (run_lines-end k.steps m c.args.requests.now (record { feed = c.loop-line.feed; sched = k.state c.loop-line.sched; dev = d.state c.loop-line.dev }) c.args.lines.now c.loop-line.line-index c.loop-line-test.false) ∙ c.loop-line.invariant.run
+    sym (run_lines-end k.steps m c.args.requests.now (record { path = c.loop-line.path; sched = k.state c.loop-line.sched; dev = d.state c.loop-line.dev }) c.args.lines.now c.loop-line.line-index c.loop-line-test.false) ∙ c.loop-line.invariant.run

@@ -1,7 +1,7 @@
 -- Along the repeats: those that are left from here end where all of them from the start do.
 use Rattle.std.proofs.Common.{◌≡◌, ◌-◌}
 use Rattle.order_model.specs.Machine.{machine_of}
-use Rattle.stack_core.specs.Feed.{IsFed}
+use Rattle.stack_core.specs.RequestPath.{PathFits}
 use Rattle.stack_core.specs.Core.{happens, times}
 use Rattle.stack_core.proofs.running.repeat_event.Given as goal
 
@@ -11,10 +11,10 @@ invariant-loop-i g l =
     let k = g.S.Scheduler in
     let m = machine_of d in
     record {
-      run : times (l.count - l.i) (λ s. happens k.steps m l.requests s l.event) (record { feed = l.feed; sched = k.state l.sched; dev = d.state l.dev })
-          ≡ times l.count (λ s. happens k.steps m l.requests s l.event) (record { feed = l.fn.feed; sched = k.state l.fn.sched; dev = d.state l.fn.dev });
+      run : times (l.count - l.i) (λ s. happens k.steps m l.requests s l.event) (record { path = l.path; sched = k.state l.sched; dev = d.state l.dev })
+          ≡ times l.count (λ s. happens k.steps m l.requests s l.event) (record { path = l.fn.path; sched = k.state l.fn.sched; dev = d.state l.fn.dev });
       valid : d.valid (d.state l.dev);
       scheduler : k.valid (k.state l.sched);
       base : (d.seen (d.state l.dev)).base ≡ (d.seen (d.state l.fn.dev)).base;
-      fed : IsFed l.feed (k.steps.seen (k.state l.sched)) l.requests (d.seen (d.state l.dev));
+      path : PathFits l.path (k.steps.seen (k.state l.sched)) l.requests (d.seen (d.state l.dev));
     }

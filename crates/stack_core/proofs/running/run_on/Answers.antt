@@ -2,22 +2,22 @@
 use Rattle.std.proofs.Common.{sym, ap, subst, ◌∙◌}
 use Rattle.barrier_reassign.specs.Sched as plain
 use Rattle.sched_elevator.specs.Elevator as elevator
-use Rattle.stack_core.specs.Feed.{IsFed, opened_feed}
-use Rattle.stack_core.proofs.Opening.{fed_on}
+use Rattle.stack_core.specs.RequestPath.{PathFits, opened_path}
+use Rattle.stack_core.proofs.Opening.{path-opened}
 use Rattle.stack_core.proofs.running.run_on.Goals as goal
 
-pub run_with-requires-clause-fed : goal.run_with-requires-clause-fed
-run_with-requires-clause-fed g c =
+pub run_with-requires-clause-path : goal.run_with-requires-clause-path
+run_with-requires-clause-path g c =
     let t = g.D.OrderedDev in
     let s = c.args.script.now in
     let d = t.seen (t.state c.args.dev) in
-    subst (λ k. IsFed (opened_feed s) (elevator.seen_of k) s.puts d) (sym (c.in_ok-sched.ensures ∙ ap (λ n. elevator.opened n 128) c.scheduled_count-limit.ensures))
-    (fed_on s d c.requires.script c.requires.image c.requires.unused c.requires.ids)
+    subst (λ k. PathFits (opened_path s) (elevator.seen_of k) s.puts d) (sym (c.in_ok-sched.ensures ∙ ap (λ n. elevator.opened n 128) c.scheduled_count-limit.ensures))
+    (path-opened s d c.requires.script c.requires.image c.requires.unused c.requires.ids)
 
-pub run_with-requires-else-script-clause-fed : goal.run_with-requires-else-script-clause-fed
-run_with-requires-else-script-clause-fed g c =
+pub run_with-requires-else-script-clause-path : goal.run_with-requires-else-script-clause-path
+run_with-requires-else-script-clause-path g c =
     let t = g.D.OrderedDev in
     let s = c.args.script.now in
     let d = t.seen (t.state c.args.dev) in
-    subst (λ k. IsFed (opened_feed s) (plain.seen_of k) s.puts d) (sym (c.in_ok-sched-2.ensures ∙ ap (λ n. plain.opened n 128) c.scheduled_count-limit.ensures))
-    (fed_on s d c.requires.script c.requires.image c.requires.unused c.requires.ids)
+    subst (λ k. PathFits (opened_path s) (plain.seen_of k) s.puts d) (sym (c.in_ok-sched-2.ensures ∙ ap (λ n. plain.opened n 128) c.scheduled_count-limit.ensures))
+    (path-opened s d c.requires.script c.requires.image c.requires.unused c.requires.ids)

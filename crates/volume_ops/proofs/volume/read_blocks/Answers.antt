@@ -1,5 +1,5 @@
 use Rattle.std.proofs.Common.{◌≡◌, ◌<◌, length, sym, ap, ◌∙◌, subst, arith, length-set, take, ◌+◌}
-use Rattle.order_model.specs.Steps.{Reads}
+use Rattle.order_model.specs.Steps.{OnlyReads}
 use Rattle.volume_ops.specs.DeviceReads.{more_reads, quiet_after, same_surface}
 use Rattle.volume_ops.proofs.DeviceReads.{one_more}
 use Rattle.volume_ops.proofs.volume.read_blocks.Goals as goal
@@ -19,7 +19,7 @@ loop-block-preserved g c =
     let below : block < c.args.blocks = omega arith in
     record {
       valid = subst d.valid (sym after) step.0;
-      reads = more_reads _ _ _ so_far.reads (subst (λ s. Reads (d.seen now) (d.seen s)) (sym after) step.1);
+      reads = more_reads _ _ _ so_far.reads (subst (λ s. OnlyReads (d.seen now) (d.seen s)) (sym after) step.1);
       len = ap length c.put.ensures ∙ (length-set c.loop-block.image block c.in-Ok.body ∙ so_far.len);
       same = subst (λ i. take (block + 1) i ≡ take (block + 1) (d.seen (d.state c.args.dev.now)).surface) (sym c.put.ensures)
           (one_more c.loop-block.image (d.seen (d.state c.args.dev.now)).surface (d.seen now).surface block c.args.blocks c.in-Ok.body

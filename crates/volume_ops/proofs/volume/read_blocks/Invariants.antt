@@ -1,5 +1,5 @@
 use Rattle.std.proofs.Common.{◌≡◌, length, take}
-use Rattle.order_model.specs.Steps.{Reads}
+use Rattle.order_model.specs.Steps.{OnlyReads}
 use Rattle.volume_ops.proofs.volume.read_blocks.Given as goal
 
 abbrev pub invariant-loop-block : goal.invariant-loop-block
@@ -7,7 +7,7 @@ invariant-loop-block g l =
     let d = g.D.OrderedDev in
     record {
       valid : d.valid (d.state l.dev);
-      reads : Reads (d.seen (d.state l.fn.dev)) (d.seen (d.state l.dev));
+      reads : OnlyReads (d.seen (d.state l.fn.dev)) (d.seen (d.state l.dev));
       len : length l.image ≡ l.blocks;
       same : take l.block l.image ≡ take l.block (d.seen (d.state l.fn.dev)).surface;
       sound : d.sound (d.state l.fn.dev) → d.sound (d.state l.dev);

@@ -1,6 +1,6 @@
 -- The request that was found is the one that was picked.
 use Rattle.std.proofs.Common.{ap, sym, subst, ◌∙◌}
-use Rattle.barrier_reassign.specs.Epoch.{EpochState, leaving, left}
+use Rattle.barrier_reassign.specs.Epoch.{EpochState, leaving, departed}
 use Rattle.barrier_reassign.specs.code.Kept.{IsPicked}
 use Rattle.barrier_reassign.proofs.Leaving.{picked-at, picked-may_leave}
 use Rattle.barrier_reassign.proofs.queue.EpochQueue.leave.Goals as goal
@@ -21,4 +21,4 @@ pub returns-clause-state : goal.returns-clause-state
 returns-clause-state c =
     let s = c.args.self.now in
     let found = subst (λ (q : EpochState). IsPicked q.waiting c.args.pick c.in_ok-at.at) c.self.view_is c.in_ok-at.ensures in
-    c.leave_at.ensures.state ∙ ap (left s) (sym (picked-at c.args.pick c.in_ok-at.at s.waiting found))
+    c.leave_at.ensures.state ∙ ap (departed s) (sym (picked-at c.args.pick c.in_ok-at.at s.waiting found))

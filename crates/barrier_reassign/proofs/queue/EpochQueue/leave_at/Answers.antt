@@ -1,7 +1,7 @@
 -- The request at a place leaves.
 use Rattle.std.proofs.Common.{refl, Some, ap, ◌∙◌, arith}
 use Rattle.barrier_reassign.specs.Epoch.{EpochState, Waiting}
-use Rattle.barrier_reassign.proofs.Leaving.{flagged_of, leaving-is, left-is}
+use Rattle.barrier_reassign.proofs.Leaving.{flagged_of, leaving-is, departed-is}
 use Rattle.order_model.specs.laws.ArrivalLaws.{AreNumbered-remove}
 use Rattle.barrier_reassign.proofs.queue.EpochQueue.leave_at.Goals as goal
 
@@ -30,4 +30,4 @@ returns-clause-state c =
     let s : EpochState = record { capacity = q.capacity; next = q.next; waiting = q.waiting.items; closing = q.closing } in
     let told = c.leaves_flagged-flagged.ensures ∙ ap (λ (w : Waiting). flagged_of q.closing w c.remove.new.self.items) c.request.view_is in
     rw (← c.self.view_is)
-    (left-is s _ _ _ _ _ c.self.invariant.numbered (omega (arith, c.in_ok-request.ensures.variant.0 refl, q.waiting.ok.0)) c.in_ok-request.ensures.value c.in_ok-request.ensures.items told c.closing_after-self-inside.ensures)
+    (departed-is s _ _ _ _ _ c.self.invariant.numbered (omega (arith, c.in_ok-request.ensures.variant.0 refl, q.waiting.ok.0)) c.in_ok-request.ensures.value c.in_ok-request.ensures.items told c.closing_after-self-inside.ensures)

@@ -1,5 +1,5 @@
 use Rattle.std.proofs.Common.{sym, ◌∙◌, arith}
-use Rattle.command_queue.proofs.Moves.{seats-in_slots, picked-is, EachOnce-taken, seated-left, AreNumbered-left}
+use Rattle.command_queue.proofs.Moves.{seats-in_slots, picked-is, EachOnce-taken, seated-departed, AreNumbered-departed}
 use Rattle.command_queue.proofs.queue.CommandQueue.leave.Goals as goal
 
 pub find_free-requires : goal.find_free-requires
@@ -20,7 +20,7 @@ invariant_of-self c =
       room_seats = omega (arith, h.room_seats, c.remove-seat.ensures.capacity);
       room_free = omega (arith, h.room_free, c.push_reserved.ensures.capacity);
       apart = EachOnce-taken _ _ _ _ _ _ _ h.apart lt c.remove-seat.ensures.value c.remove-seat.ensures.items c.push_reserved.ensures.items;
-      numbered = AreNumbered-left _ _ _ _ _ h.numbered c.remove-seat.ensures.items;
+      numbered = AreNumbered-departed _ _ _ _ _ h.numbered c.remove-seat.ensures.items;
     }
 
 pub returns : goal.returns
@@ -28,6 +28,6 @@ returns c =
     let q = c.self.inside in
     let h = c.self.invariant in
     let lt = rw c.deref-2.ensures.value at c.in-Some.ensures.within in
-    let is = seated-left _ _ _ _ _ _ h.numbered lt c.remove-seat.ensures.value c.remove-seat.ensures.items in
+    let is = seated-departed _ _ _ _ _ _ h.numbered lt c.remove-seat.ensures.value c.remove-seat.ensures.items in
     let picked = picked-is _ _ _ _ _ _ c.remove-seat.result c.in-Some.ensures c.deref.ensures.value c.deref-2.ensures.value c.remove-seat.ensures.value in
     rw (← c.self.view_is, picked) (λ i. record { depth = q.depth; next = q.next; waiting = is i })

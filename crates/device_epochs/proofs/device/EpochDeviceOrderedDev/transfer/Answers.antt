@@ -4,7 +4,7 @@ use Rattle.order_model.specs.declared.part.Part.{Part}
 use Rattle.order_model.specs.declared.completion.Completion.{Completion}
 use Rattle.order_model.specs.declared.history.Transfer.{Transfer}
 use Rattle.order_model.specs.History.{HistoryState}
-use Rattle.command_queue.specs.Queue.{Waiting, left}
+use Rattle.command_queue.specs.Queue.{Waiting, departed}
 use Rattle.order_model.specs.Received.{transfers}
 use Rattle.device_epochs.specs.Cache.{entries, put_all}
 use Rattle.device_epochs.specs.Device.{DeviceState, transferable, transferred}
@@ -56,7 +56,7 @@ invariant_of-self c =
     let h = c.self.invariant in
     let w : Waiting = record { number = c.in-Some.number; command = c.in-Some-peek.command.now } in
     let waiting = ap (λ (b : Buffer Completion). b.items) c.complete_failed.ensures ∙ ap (λ (l : List Completion). s.waiting ++ l) (sym (failures-split w.command)) in
-    let queue = c.leave.ensures ∙ ap (left d.queue) can.picked in
+    let queue = c.leave.ensures ∙ ap (departed d.queue) can.picked in
     let to = failed_to s w c.complete_failed.new.waiting.items c.leave.new.self c.count_down.new.number waiting queue c.if-count_down.ensures.rest in
     let waiting_room = ap (λ (b : Buffer Completion). b.capacity) c.complete_failed.ensures in
     record {
@@ -81,7 +81,7 @@ returns-then-count_down-clause-state c =
     let s = state_of d in
     let w : Waiting = record { number = c.in-Some.number; command = c.in-Some-peek.command.now } in
     let waiting = ap (λ (b : Buffer Completion). b.items) c.complete_failed.ensures ∙ ap (λ (l : List Completion). s.waiting ++ l) (sym (failures-split w.command)) in
-    let queue = c.leave.ensures ∙ ap (left d.queue) can.picked in
+    let queue = c.leave.ensures ∙ ap (departed d.queue) can.picked in
     let to = failed_to s w c.complete_failed.new.waiting.items c.leave.new.self c.count_down.new.number waiting queue c.if-count_down.ensures.rest in
     to ∙ sym (can.fails (sym c.if-count_down.ensures.next)) ∙ ap (λ (t : DeviceState). transferred t c.args.pick) c.self.view_is
 
@@ -152,7 +152,7 @@ invariant_of-self-2 c =
     let slice = c.as_slice-parts.ensures in
     let moved = ap (λ (t : HistoryState Transfer). t.items) c.note_transfers.ensures ∙ ap (λ (ps : List Part). s.moved ++ transfers s.epoch first ps) slice in
     let waiting = ap (λ (b : Buffer Completion). b.items) c.complete.ensures in
-    let queue = c.leave-2.ensures ∙ ap (left d.queue) can.picked in
+    let queue = c.leave-2.ensures ∙ ap (departed d.queue) can.picked in
     let cache = c.put_parts.ensures.items ∙ ap (λ (ps : List Part). put_all (entries s.epoch first ps) s.cache) slice in
     let to = moved_to s w first c.note_transfers.new.moved.items c.complete.new.waiting.items c.leave-2.new.self c.put_parts.new.cache.items c.next_epoch-self-inside.result
     c.first_part-first.ensures moved waiting queue cache c.next_epoch-self-inside.ensures c.count_down.new.number c.if-count_down.ensures.rest in
@@ -184,7 +184,7 @@ returns-clause-state c =
     let slice = c.as_slice-parts.ensures in
     let moved = ap (λ (t : HistoryState Transfer). t.items) c.note_transfers.ensures ∙ ap (λ (ps : List Part). s.moved ++ transfers s.epoch first ps) slice in
     let waiting = ap (λ (b : Buffer Completion). b.items) c.complete.ensures in
-    let queue = c.leave-2.ensures ∙ ap (left d.queue) can.picked in
+    let queue = c.leave-2.ensures ∙ ap (departed d.queue) can.picked in
     let cache = c.put_parts.ensures.items ∙ ap (λ (ps : List Part). put_all (entries s.epoch first ps) s.cache) slice in
     let to = moved_to s w first c.note_transfers.new.moved.items c.complete.new.waiting.items c.leave-2.new.self c.put_parts.new.cache.items c.next_epoch-self-inside.result
     c.first_part-first.ensures moved waiting queue cache c.next_epoch-self-inside.ensures c.count_down.new.number c.if-count_down.ensures.rest in

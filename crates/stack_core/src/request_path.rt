@@ -1,34 +1,34 @@
-//! How the requests of a script reach the device.
+//! The request path: how the requests of a script reach the device.
 ghost use Rattle.std.specs.Prelude.{◌≡◌, ℕ, ◌≤◌, Some, None, IfOk, IfSome, IfNone};
 ghost use Rattle.order_model.specs.Device.{Seen};
-ghost use Rattle.stack_core.specs.Feed.{FeedRun, opened_feed, stepped, given, submitted_count, IsFed};
+ghost use Rattle.stack_core.specs.RequestPath.{PathState, opened_path, stepped, given, submitted_count, PathFits};
 
-use crate::sched_side::SchedSide;
+use crate::scheduler_queues::SchedulerQueues;
 use barrier_reassign::Scheduler;
 use blk_base::NoMemory;
 use order_model::Command;
 use script_grammar::{CoreEvent, Form, RequestList, Script};
 use std::alloc::Global;
 
-/// How the requests of a script reach the device.
+/// The request path: how the requests of a script reach the device.
 #[derive(Drop)]
-pub enum Feed {
+pub enum RequestPath {
     /// Each as a command of its own. So many went.
     Direct(usize),
-    /// Through a scheduler.
-    Scheduled(SchedSide),
+    /// Through the block layer.
+    Scheduled(SchedulerQueues),
 }
 
-impl Feed {
-    /// What stands before the device when the script begins.
-    pub fn open(alloc: Global, script: &Script) -> Result<Feed, NoMemory>
-        ensures { IfOk result (λ f. f ≡ opened_feed script.now) }
+impl RequestPath {
+    /// The request path when the script begins.
+    pub fn open(alloc: Global, script: &Script) -> Result<RequestPath, NoMemory>
+        ensures { IfOk result (λ f. f ≡ opened_path script.now) }
     {
         match script.kind {
-            Form::Device(_) => Ok(Feed::Direct(0)),
+            Form::Device(_) => Ok(RequestPath::Direct(0)),
             Form::Blocks(_) => {
-                let side = SchedSide::make(alloc, script.header.queue)?;
-                Ok(Feed::Scheduled(side))
+                let queues = SchedulerQueues::make(alloc, script.header.queue)?;
+                Ok(RequestPath::Scheduled(queues))
             }
         }
     }
@@ -38,23 +38,23 @@ impl Feed {
         ensures { result ≡ submitted_count self.now }
     {
         match self {
-            Feed::Direct(next) => *next,
-            Feed::Scheduled(side) => side.submitted(),
+            RequestPath::Direct(next) => *next,
+            RequestPath::Scheduled(queues) => queues.submitted(),
         }
     }
 
     /// An event of the host or the scheduler. Those of the device do nothing here.
     pub fn step<S: Scheduler>(&mut self, sched: &mut S, requests: &RequestList, event: CoreEvent)
-        requires { (d : Seen) × IsFed self.old (S.steps.seen (S.state sched.old)) requests.now d }
-        ensures { record { feed = self.new; sched = S.state sched.new } ≡ stepped S.steps requests.now (record { feed = self.old; sched = S.state sched.old }) event }
+        requires { (d : Seen) × PathFits self.old (S.steps.seen (S.state sched.old)) requests.now d }
+        ensures { record { path = self.new; sched = S.state sched.new } ≡ stepped S.steps requests.now (record { path = self.old; sched = S.state sched.old }) event }
     {
-        let Feed::Scheduled(side) = self else {
+        let RequestPath::Scheduled(queues) = self else {
             return;
         };
         match event {
-            CoreEvent::Submit => side.submit(requests),
-            CoreEvent::Accept => side.accept(sched),
-            CoreEvent::Dispatch(pick) => side.dispatch(sched, pick),
+            CoreEvent::Submit => queues.submit(requests),
+            CoreEvent::Accept => queues.accept(sched),
+            CoreEvent::Dispatch(pick) => queues.dispatch(sched, pick),
             _ => {}
         }
     }
@@ -65,13 +65,13 @@ impl Feed {
         ensures none { IfNone result ((given requests.now self.old ≡ None) × (self.new ≡ self.old)) }
     {
         match self {
-            Feed::Direct(next) => {
+            RequestPath::Direct(next) => {
                 let request = requests.get(*next)?;
                 *next += 1;
                 let flagged = request.barrier;
                 Some(Command::of_request(request, flagged))
             }
-            Feed::Scheduled(side) => side.give(),
+            RequestPath::Scheduled(queues) => queues.give(),
         }
     }
 }

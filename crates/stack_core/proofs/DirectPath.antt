@@ -14,7 +14,7 @@ use Rattle.order_model.specs.Single.{command_for}
 use Rattle.order_model.specs.Carrying.{Carries, AreAtIds, FlushesAreBarriers, sent_alone}
 use Rattle.order_model.proofs.Direct.{carries_alone}
 use Rattle.order_model.proofs.Next.{next_receivable}
-use Rattle.stack_core.specs.Feed.{IsDirect, AreRequests}
+use Rattle.stack_core.specs.RequestPath.{IsDirect, AreRequests}
 
 same_some : {X : Type 0} (x y : X) → Some x ≡ Some y → x ≡ y
 same_some x y e = cc
@@ -30,8 +30,8 @@ take_more_get xs n x at = rw add-one (take_suc_get xs n x at)
 -- ---- the requests
 
 -- the first requests fit as all do
-pub front_requests : (n blocks : ℕ) (rs : List Request) → AreRequests blocks rs → AreRequests blocks (take n rs)
-front_requests n blocks rs all i q at =
+pub prefix_requests : (n blocks : ℕ) (rs : List Request) → AreRequests blocks rs → AreRequests blocks (take n rs)
+prefix_requests n blocks rs all i q at =
     elim (cases_lt i n) [
       | inl lt ↦ all i q (sym (slice_get-take n rs i lt) ∙ at)
       | inr le ↦ absurd (none-some q (sym (slice_get-take_out n rs i le) ∙ at))
@@ -59,34 +59,34 @@ block_within blocks rs all i block put = option_within block blocks (slice_get r
 -- ---- the device
 
 -- the commands that were sent alone carry the first requests
-pub front_carries : (next blocks : ℕ) (rs : List Request) → AreRequests blocks rs → Carries (sent_alone (take next rs))
-front_carries next blocks rs all =
-    let front = front_requests next blocks rs all in
+pub prefix_carries : (next blocks : ℕ) (rs : List Request) → AreRequests blocks rs → Carries (sent_alone (take next rs))
+prefix_carries next blocks rs all =
+    let front = prefix_requests next blocks rs all in
     carries_alone (take next rs) (at_ids blocks (take next rs) front) (flagged blocks (take next rs) front)
 
 took_more : (next : ℕ) (rs : List Request) (d : Seen) (r : Request) → IsDirect next rs d → slice_get rs next ≡ Some r → map command_for (take (next + 1) rs) ≡ d.took ++ command_for r ∷ []
-took_more next rs d r fed at =
-    ap (map command_for) (take_more_get rs next r at) ∙ map-append command_for (take next rs) (r ∷ []) ∙ ap (λ l. l ++ command_for r ∷ []) (sym fed.took)
+took_more next rs d r path at =
+    ap (map command_for) (take_more_get rs next r at) ∙ map-append command_for (take next rs) (r ∷ []) ∙ ap (λ l. l ++ command_for r ∷ []) (sym path.took)
 
 pub receivable : (next : ℕ) (rs : List Request) (d : Seen) (r : Request) → IsDirect next rs d → length d.surface ≡ length d.base → slice_get rs next ≡ Some r → IsReceivable d (command_for r)
-receivable next rs d r fed same at =
-    let front = front_requests (next + 1) (length d.base) rs fed.fitting in
+receivable next rs d r path same at =
+    let front = prefix_requests (next + 1) (length d.base) rs path.fitting in
     let n = length-take (next + 1) rs in
-    let m = fed.limit in
+    let m = path.limit in
     let lt = slice_get-length rs next r at in
     let le = length-take-le (next + 1) rs (omega arith) in
     next_receivable (sent_alone (take (next + 1) rs)) d (command_for r) []
-    (front_carries (next + 1) (length d.base) rs fed.fitting)
-    (took_more next rs d r fed at)
+    (prefix_carries (next + 1) (length d.base) rs path.fitting)
+    (took_more next rs d r path at)
     (λ i block put. subst (λ n. block < n) (sym same) (block_within (length d.base) (take (next + 1) rs) front i block put))
     (omega (arith, m, lt, le))
 
-pub fed-more : (next : ℕ) (rs : List Request) (d : Seen) (r : Request) → IsDirect next rs d → slice_get rs next ≡ Some r → IsDirect (next + 1) rs (record d { took = d.took ++ command_for r ∷ [] })
-fed-more next rs d r fed at =
+pub path-more : (next : ℕ) (rs : List Request) (d : Seen) (r : Request) → IsDirect next rs d → slice_get rs next ≡ Some r → IsDirect (next + 1) rs (record d { took = d.took ++ command_for r ∷ [] })
+path-more next rs d r path at =
     let lt = slice_get-length rs next r at in
     record {
       within = omega (arith, lt);
-      took = sym (took_more next rs d r fed at);
-      fitting = fed.fitting;
-      limit = fed.limit;
+      took = sym (took_more next rs d r path at);
+      fitting = path.fitting;
+      limit = path.limit;
     }

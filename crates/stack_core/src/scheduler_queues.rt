@@ -1,9 +1,9 @@
-//! The queues before and behind a scheduler.
+//! The two queues of the block layer, before and behind its scheduler.
 ghost use Rattle.std.specs.Prelude.{◌≡◌, ◌∷◌, ◌+◌, ◌<◌, List, Some, None, true, length, IfOk, IfSome, IfNone};
 ghost use Rattle.order_model.specs.declared.request.Request.{Request};
 ghost use Rattle.order_model.specs.declared.command.Command.{Command};
 ghost use Rattle.barrier_reassign.specs.Scheduler.{IsAcceptable};
-ghost use Rattle.stack_core.specs.Side.{opened_side, submitted, side_accepted, offered, side_picked, side_dispatched, given_first};
+ghost use Rattle.stack_core.specs.BlockLayer.{opened_queues, submitted, layer_accepted, queued_or_kept, layer_picked, layer_dispatched, given_first};
 
 use barrier_reassign::Scheduler;
 use blk_base::NoMemory;
@@ -16,7 +16,7 @@ use std::marker::Model;
 ///
 /// All its room is reserved by `make`: no other call takes memory.
 #[derive(Drop)]
-pub struct SchedSide {
+pub struct SchedulerQueues {
     // How many requests were submitted.
     next: usize,
     submission: ListQueue<Request>,
@@ -25,23 +25,23 @@ pub struct SchedSide {
     dispatched: ListQueue<Command>,
 }
 
-impl Model for SchedSide {
-    ghost use Rattle.stack_core.specs.Side.{SideState};
-    ghost use Rattle.stack_core.specs.code.Fields.{side_of, IsSideInside};
+impl Model for SchedulerQueues {
+    ghost use Rattle.stack_core.specs.BlockLayer.{QueuesState};
+    ghost use Rattle.stack_core.specs.code.Fields.{queues_of, HaveOneCapacity};
 
-    ghost Value = { SideState };
+    ghost Value = { QueuesState };
 
-    ghost view = { side_of };
+    ghost view = { queues_of };
 
-    ghost invariant = { IsSideInside };
+    ghost invariant = { HaveOneCapacity };
 }
 
-impl SchedSide {
+impl SchedulerQueues {
     /// Two empty queues of this capacity.
-    pub fn make(alloc: Global, capacity: u32) -> Result<SchedSide, NoMemory>
-        ensures { IfOk result (λ s. s ≡ opened_side capacity) }
+    pub fn make(alloc: Global, capacity: u32) -> Result<SchedulerQueues, NoMemory>
+        ensures { IfOk result (λ s. s ≡ opened_queues capacity) }
     {
-        Ok(SchedSide {
+        Ok(SchedulerQueues {
             next: 0,
             submission: ListQueue::make(alloc, capacity)?,
             kept: None,
@@ -74,7 +74,7 @@ impl SchedSide {
     /// The scheduler takes a request from the submission queue, where it can accept one and there is one.
     pub fn accept<S: Scheduler>(&mut self, sched: &mut S)
         requires { (r : Request) (rs : List Request) → self.old.submission ≡ r ∷ rs → IsAcceptable (S.steps.seen (S.state sched.old)) r }
-        ensures { record { side = self.new; sched = S.state sched.new } ≡ side_accepted S.steps (record { side = self.old; sched = S.state sched.old }) }
+        ensures { record { queues = self.new; sched = S.state sched.new } ≡ layer_accepted S.steps (record { queues = self.old; sched = S.state sched.old }) }
     {
         if !sched.can_accept() {
             return;
@@ -87,7 +87,7 @@ impl SchedSide {
 
     /// The command that is kept is sent, or else the one of the scheduler's pick.
     pub fn dispatch<S: Scheduler>(&mut self, sched: &mut S, pick: u32)
-        ensures { record { side = self.new; sched = S.state sched.new } ≡ side_dispatched S.steps (record { side = self.old; sched = S.state sched.old }) pick }
+        ensures { record { queues = self.new; sched = S.state sched.new } ≡ layer_dispatched S.steps (record { queues = self.old; sched = S.state sched.old }) pick }
     {
         if self.kept.is_some() {
             self.send_kept();
@@ -98,7 +98,7 @@ impl SchedSide {
 
     // The command that is kept goes into the dispatch queue, unless that is full.
     fn send_kept(&mut self)
-        ensures { (c : Command) → self.old.kept ≡ Some c → self.new ≡ offered self.old c }
+        ensures { (c : Command) → self.old.kept ≡ Some c → self.new ≡ queued_or_kept self.old c }
     {
         if self.dispatched.is_full() {
             return;
@@ -111,7 +111,7 @@ impl SchedSide {
     // The scheduler sends its pick. A command that finds the dispatch queue full is kept.
     fn send_picked<S: Scheduler>(&mut self, sched: &mut S, pick: u32)
         requires { self.old.kept ≡ None }
-        ensures { record { side = self.new; sched = S.state sched.new } ≡ side_picked S.steps (record { side = self.old; sched = S.state sched.old }) pick }
+        ensures { record { queues = self.new; sched = S.state sched.new } ≡ layer_picked S.steps (record { queues = self.old; sched = S.state sched.old }) pick }
     {
         let Some(command) = sched.dispatch(pick) else {
             return;

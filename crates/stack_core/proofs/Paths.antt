@@ -1,0 +1,155 @@
+-- What holds between a request path, its scheduler and the device behind them, for both kinds of path.
+use Rattle.std.proofs.Common.{◌≡◌, ℕ, ◌+◌, ◌≤◌, List, [], ◌∷◌, ◌++◌, length, map, take, Option, Some, None, slice_get, refl, sym, ap, subst, ◌∙◌, arith}
+use Rattle.std.specs.Option.{option_map, option_to_list}
+use Rattle.std.proofs.lemmas.List.{take_all, length-take-le}
+use Rattle.std.proofs.lemmas.Option.{none-some, some_pair_parts}
+use Rattle.order_model.specs.declared.command.Command.{Command}
+use Rattle.order_model.specs.declared.request.Request.{Request}
+use Rattle.order_model.specs.Device.{Seen, completed, origin_ids, IsReceivable}
+use Rattle.order_model.specs.declared.completion.Completion.{Completion}
+use Rattle.order_model.specs.Submission.{IsOrderClosed, KeepsFlushed}
+use Rattle.order_model.specs.Single.{command_for}
+use Rattle.order_model.specs.Carrying.{SchedSeen, Carries, AreAtIds, Fits}
+use Rattle.barrier_reassign.specs.Scheduler.{SchedSteps, IsScheduler}
+use Rattle.script_grammar.specs.declared.script.Script.{Script}
+use Rattle.script_grammar.specs.declared.script.Form.{Form}
+use Rattle.script_grammar.specs.declared.script.Form.TheVariants.{Device, Blocks}
+use Rattle.script_grammar.specs.declared.script.CoreEvent.{CoreEvent}
+use Rattle.script_grammar.specs.declared.script.CoreEvent.TheVariants.{Submit, Accept, Dispatch, Receive, Transfer, Persist}
+use Rattle.stack_core.specs.declared.request_path.RequestPath.{RequestPath}
+use Rattle.stack_core.specs.declared.request_path.RequestPath.TheVariants.{Direct, Scheduled}
+use Rattle.stack_core.specs.BlockLayer.{QueuesState, BlockLayer, given_first}
+use Rattle.stack_core.specs.RequestPath.{PathState, AreRequests, PathFits, IsDirect, IsScheduled, opened_as, opened_path, scheduled_as, scheduled_count, stepped, stepped_as, layer_stepped, given, submitted_count, carried}
+use Rattle.stack_core.specs.Headline.{KeepsOrder}
+use Rattle.stack_core.proofs.DirectPath.{receivable, path-more, prefix_requests, prefix_carries, at_ids}
+use Rattle.stack_core.proofs.Scheduled.{IsBeside, submitted-path, accepted-path, dispatched-path, first_receivable, first_received, scheduled_fits}
+
+-- ---- the opening
+
+opened_as-path : (s : Script) (k : Form) (p : SchedSeen) (d : Seen) → AreRequests (length d.base) s.puts → length s.puts ≤ d.limit → d.took ≡ []
+    → p.limit ≡ scheduled_as s k → p.accepted ≡ [] → p.sent_out ≡ [] → PathFits (opened_as s k) p s.puts d
+opened_as-path s (Device blocks) p d fitting limit took may accepted sent = record { within = omega arith; took = took; fitting = fitting; limit = limit }
+opened_as-path s (Blocks blocks) p d fitting limit took may accepted sent = record {
+  within = omega arith;
+  submitted = ap (λ (l : List Request). l ++ []) accepted;
+  sent = sent ∙ ap (λ (l : List Command). l ++ [] ++ []) (sym took);
+  may_accept = may;
+  fitting = fitting;
+  limit = limit;
+}
+
+pub opened-path : (s : Script) (p : SchedSeen) (d : Seen) → AreRequests (length d.base) s.puts → length s.puts ≤ d.limit → d.took ≡ []
+    → p.limit ≡ scheduled_count s → p.accepted ≡ [] → p.sent_out ≡ [] → PathFits (opened_path s) p s.puts d
+opened-path s p d fitting limit took may accepted sent = opened_as-path s s.kind p d fitting limit took may accepted sent
+
+-- ---- the steps
+
+module _ {K : Type 0} where
+  layer_stepped-path : (k : SchedSteps K) (valid : K → Type 0) (rs : List Request) (r : BlockLayer K) (e : CoreEvent) (d : Seen) → IsScheduler k valid → IsBeside k valid r rs d → IsBeside k valid (layer_stepped k rs r e) rs d
+  layer_stepped-path k valid rs r Submit d laws v = record { keeps = v.keeps; path = submitted-path rs r.queues (k.seen r.sched) d v.path }
+  layer_stepped-path k valid rs r Accept d laws v = accepted-path k valid rs r d laws v
+  layer_stepped-path k valid rs r (Dispatch pick) d laws v = dispatched-path k valid rs r d pick laws v
+  layer_stepped-path k valid rs r Receive d laws v = v
+  layer_stepped-path k valid rs r (Transfer pick) d laws v = v
+  layer_stepped-path k valid rs r (Persist pick) d laws v = v
+
+  -- the scheduler is valid, and path and device hold together
+  pub record IsBefore (k : SchedSteps K) (valid : K → Type 0) (r : PathState K) (rs : List Request) (d : Seen) : Type 0 where
+    pub keeps : valid r.sched
+    pub path : PathFits r.path (k.seen r.sched) rs d
+
+  stepped_as-path : (k : SchedSteps K) (valid : K → Type 0) (rs : List Request) (f : RequestPath) (sched : K) (e : CoreEvent) (d : Seen) → IsScheduler k valid → valid sched → PathFits f (k.seen sched) rs d
+      → IsBefore k valid (stepped_as k rs f sched e) rs d
+  stepped_as-path k valid rs (Direct next) sched e d laws v path = record { keeps = v; path = path }
+  stepped_as-path k valid rs (Scheduled s) sched e d laws v path =
+      let b = layer_stepped-path k valid rs (record { queues = s; sched = sched }) e d laws (record { keeps = v; path = path }) in
+      record { keeps = b.keeps; path = b.path }
+
+  pub stepped-path : (k : SchedSteps K) (valid : K → Type 0) (rs : List Request) (r : PathState K) (e : CoreEvent) (d : Seen) → IsScheduler k valid → valid r.sched → PathFits r.path (k.seen r.sched) rs d
+      → IsBefore k valid (stepped k rs r e) rs d
+  stepped-path k valid rs r e d laws v path = stepped_as-path k valid rs r.path r.sched e d laws v path
+
+-- ---- the next command
+
+-- the request that a direct path gives
+pub given_direct : (next : ℕ) (o : Option Request) (c : Command) (g : RequestPath) → option_map {U = Command × RequestPath} (λ (r : Request). (command_for r, Direct (next + 1))) o ≡ Some (c, g)
+    → (r : Request) × (o ≡ Some r) × (command_for r ≡ c) × (Direct (next + 1) ≡ g)
+given_direct next None c g e = absurd (none-some (c, g) e)
+given_direct next (Some r) c g e =
+    let p = some_pair_parts (command_for r) c (Direct (next + 1)) g e in
+    (r, refl, p.0, p.1)
+
+-- the command that waits first
+pub given_scheduled : (s : QueuesState) (l : List Command) (c : Command) (g : RequestPath) → option_map {U = Command × RequestPath} (λ (x : Command × QueuesState). (x.0, Scheduled x.1)) (given_first s l) ≡ Some (c, g)
+    → (cs : List Command) × (l ≡ c ∷ cs) × (Scheduled (record s { dispatched = cs }) ≡ g)
+given_scheduled s [] c g e = absurd (none-some (c, g) e)
+given_scheduled s (b ∷ cs) c g e =
+    let p = some_pair_parts b c (Scheduled (record s { dispatched = cs })) g e in
+    (cs, ap (λ x. x ∷ cs) p.0, p.1)
+
+pub given_receivable : (rs : List Request) (f g : RequestPath) (p : SchedSeen) (c : Command) (d : Seen) → PathFits f p rs d → Carries p → length d.surface ≡ length d.base → given rs f ≡ Some (c, g) → IsReceivable d c
+given_receivable rs (Direct next) g p c d v carries same e =
+    let r = given_direct next (slice_get rs next) c g e in
+    subst (IsReceivable d) r.2 (receivable next rs d r.0 v same r.1)
+given_receivable rs (Scheduled s) g p c d v carries same e =
+    let r = given_scheduled s s.dispatched c g e in
+    first_receivable rs s p d c r.0 v carries same r.1
+
+pub given-path : (rs : List Request) (f g : RequestPath) (p : SchedSeen) (c : Command) (d : Seen) → PathFits f p rs d → given rs f ≡ Some (c, g) → PathFits g p rs (record d { took = d.took ++ c ∷ [] })
+given-path rs (Direct next) g p c d v e =
+    let r = given_direct next (slice_get rs next) c g e in
+    subst (λ h. PathFits h p rs (record d { took = d.took ++ c ∷ [] })) r.3
+    (subst (λ (b : Command). IsDirect (next + 1) rs (record d { took = d.took ++ b ∷ [] })) r.2 (path-more next rs d r.0 v r.1))
+given-path rs (Scheduled s) g p c d v e =
+    let r = given_scheduled s s.dispatched c g e in
+    subst (λ h. PathFits h p rs (record d { took = d.took ++ c ∷ [] })) r.2 (first_received rs s p d c r.0 v r.1)
+
+-- ---- the device's own steps
+
+pub seen-path : (f : RequestPath) (p : SchedSeen) (rs : List Request) (old new : Seen) → PathFits f p rs old → new.base ≡ old.base → new.limit ≡ old.limit → new.took ≡ old.took → PathFits f p rs new
+seen-path (Direct next) p rs old new v base limit took = record {
+  within = v.within;
+  took = took ∙ v.took;
+  fitting = subst (λ (b : List (List ℕ)). AreRequests (length b) rs) (sym base) v.fitting;
+  limit = subst (λ n. length rs ≤ n) (sym limit) v.limit;
+}
+seen-path (Scheduled s) p rs old new v base limit took = record {
+  within = v.within;
+  submitted = v.submitted;
+  sent = subst (λ (l : List Command). p.sent_out ≡ l ++ s.dispatched ++ option_to_list s.kept) (sym took) v.sent;
+  may_accept = v.may_accept;
+  fitting = subst (λ (b : List (List ℕ)). AreRequests (length b) rs) (sym base) v.fitting;
+  limit = subst (λ n. length rs ≤ n) (sym limit) v.limit;
+}
+
+-- ---- the order
+
+-- the requests that were submitted are carried by commands of which the device took the first
+pub record IsCarried (rs : List Request) (p : SchedSeen) (d : Seen) : Type 0 where
+  pub ids : AreAtIds rs
+  pub carries : Carries p
+  pub fits : Fits rs p d
+
+module _ {K : Type 0} where
+  pub path-carried : (k : SchedSteps K) (valid : K → Type 0) (rs : List Request) (f : RequestPath) (sched : K) (d : Seen) → IsScheduler k valid → valid sched → PathFits f (k.seen sched) rs d
+      → IsCarried (take (submitted_count f) rs) (carried k rs f sched) d
+  path-carried k valid rs (Direct next) sched d laws v path = record {
+    ids = at_ids (length d.base) (take next rs) (prefix_requests next (length d.base) rs path.fitting);
+    carries = prefix_carries next (length d.base) rs path.fitting;
+    fits = record {
+      accepted = (length (take next rs), sym (take_all (length (take next rs)) (take next rs) (omega arith)));
+      took = (length d.took, path.took ∙ sym (take_all (length d.took) (map command_for (take next rs)) (let n = ap length path.took in omega (arith, n))));
+    };
+  }
+  path-carried k valid rs (Scheduled s) sched d laws v path = record {
+    ids = at_ids (length d.base) (take s.next rs) (prefix_requests s.next (length d.base) rs path.fitting);
+    carries = laws.carries sched v;
+    fits = scheduled_fits rs s (k.seen sched) d path;
+  }
+
+-- what is seen of the device, as the report has it
+pub order_reported : (rs qs : List Request) (d : Seen) (base image : List (List ℕ)) (origins : List (Option ℕ)) (told : List Completion)
+    → base ≡ d.base → qs ≡ rs → image ≡ d.surface → origins ≡ origin_ids d.took d.origins → told ≡ completed d
+    → IsOrderClosed d.base rs d.surface (origin_ids d.took d.origins) → KeepsFlushed rs (origin_ids d.took d.origins) (completed d) → KeepsOrder base qs image origins told
+order_reported rs qs d base image origins told eb eq ei eo es closed flushed =
+    rw (eb, eq, ei, eo, es) (record { closed = closed; flushed = flushed })
