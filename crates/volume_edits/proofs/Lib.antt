@@ -1,0 +1,5 @@
+-- Lemmas over the steps of the code.
+mod MapSteps
+mod CutSteps
+mod HoleSteps
+mod FreedSteps

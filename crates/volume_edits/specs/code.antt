@@ -1,0 +1,4 @@
+-- The steps of single functions.
+pub mod Mapping
+pub mod Cutting
+pub mod Freed

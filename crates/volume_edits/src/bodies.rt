@@ -1,0 +1,31 @@
+//! What stands in the blocks of a volume.
+ghost use Rattle.std.specs.Prelude.{◌≡◌, ◌<◌};
+ghost use Rattle.inode_ops.specs.Map.{entry_behind};
+ghost use Rattle.volume_ops.specs.Volume.{disk_of};
+ghost use Rattle.volume_model.specs.Ways.{entry_of};
+
+use blk_base::{Block, Image};
+use byte_fields::u16_at_le;
+
+// The bytes of a block; zeros behind the last one.
+pub fn body(blocks: &Image, block: u32) -> Block
+    ensures { result ≡ disk_of blocks.now block }
+{
+    if block < blocks.len() {
+        blocks.block(block).copy()
+    } else {
+        Block::fill(0)
+    }
+}
+
+/// The number at place `at` of a zone of numbers, of 512. Behind a hole, zone 0, all are 0.
+pub fn zone_entry(blocks: &Image, zone: u16, at: u16) -> u16
+    requires { at < 512 }
+    ensures { result ≡ entry_behind (entry_of blocks.now) zone at }
+{
+    if zone == 0 {
+        0
+    } else {
+        u16_at_le(body(blocks, zone.into()).as_slice(), 2 * at as usize)
+    }
+}

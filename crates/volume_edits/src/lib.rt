@@ -1,0 +1,27 @@
+//! Writes to the blocks of a volume that changes.
+//!
+//! `edits` has single writes: an inode, a slot of a directory, a bit of a map, an entry of a zone of numbers, a body.
+//! `map_block` maps a block of a file, `cut_to` lets all blocks of a file go from an index on, and `holes` and
+//! `zones_cut` tell before the first write which zones that takes or frees. What each call makes of the blocks is a
+//! definition of `volume_model`. None of the calls that write takes memory, and a write behind the last block is left
+//! out, so no call has a condition on zones.
+//!
+//! Stands on `volume_model`, whose definitions and laws the calls meet, and on `minix_layout` for the format.
+#![tactic(auto)]
+
+mod bodies;
+mod cutting;
+mod edits;
+mod freed;
+mod wanted;
+mod kept;
+mod mapping;
+#[cfg(test)]
+mod tests;
+
+pub use bodies::zone_entry;
+pub use cutting::cut_to;
+pub use edits::{clear_from, put_body, put_entry, put_inode, put_slot, set_bit};
+pub use freed::{CutZones, zones_cut};
+pub use wanted::{WantedZones, holes};
+pub use mapping::{TakenZones, map_block};
