@@ -1,3 +1,4 @@
 pub mod Asked
 pub mod Moves
+pub mod Newest
 pub mod Searches

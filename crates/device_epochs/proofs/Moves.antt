@@ -1,11 +1,11 @@
 -- What the device's code needs to know where it moves a command, or writes an entry.
 use Rattle.std.specs.Prelude.{◌≡◌, ℕ, ◌+◌, ◌<◌, ◌≤◌, ◌==◌, not, Bool, true, false, List, [], ◌∷◌, ◌++◌, length, Option, Some, None, is_some, slice_get, slice_set, drop, replicate, Result, Ok, Err, IsOk, OnOk, IsTrue, if◌then◌else◌, refl, suc}
-use Rattle.std.specs.List.{list_any}
+use Rattle.std.specs.List.{All, list_any}
 use Rattle.std.specs.Option.{option_map, option_map_or}
 use Rattle.std.proofs.Common.{sym, ap, subst, ◌∙◌, inl, inr, ⊎_elim, arith}
 use Rattle.std.proofs.lemmas.Bool.{cases_Bool, cases_lt, both_ways, and_parts, or_parts, or_cases, or_left, or_right, false≢true, not-true}
 use Rattle.std.proofs.lemmas.Option.{none-some, same_Some}
-use Rattle.blk_base.specs.Members.{In, filter_all, none-list_any, list_any-none, slice_get-In, slice_get-in_range, slice_get-length, In-slice_get}
+use Rattle.blk_base.specs.Members.{In, In-All, filter_all, none-list_any, list_any-none, slice_get-In, slice_get-in_range, slice_get-length, In-slice_get}
 use Rattle.order_model.specs.declared.part.Part.{Part}
 use Rattle.order_model.specs.declared.command.Command.{Command}
 use Rattle.order_model.specs.declared.completion.Completion.{Completion}
@@ -20,9 +20,9 @@ use Rattle.command_queue.specs.Queue.{QueueState, Waiting, eligible, picked, dep
 use Rattle.device_epochs.specs.declared.cache.Entry.{Entry}
 use Rattle.device_epochs.specs.declared.device.DeviceSetup.{DeviceSetup}
 use Rattle.device_epochs.specs.Cache.{oldest, entries, put_all, without_entry}
-use Rattle.device_epochs.specs.laws.CacheSteps.{part_at-lt}
+use Rattle.device_epochs.specs.laws.CacheSteps.{part_at-lt, parts_of-waiting}
 use Rattle.device_epochs.specs.Device.{DeviceState, is_off, is_next, counted, may_transfer, has_stopped, transferable, tried, transferred, moved_in, failed_on, persistable, persisted, written, body_at, received, answered, answered_from, tells_cut, seen, opened}
-use Rattle.device_epochs.specs.laws.Valid.{IsValid, QueueFacts}
+use Rattle.device_epochs.specs.laws.Valid.{IsValid, QueueFacts, with_waiting}
 use Rattle.device_epochs.specs.declared.device.EpochDevice.TheInside.{Inside}
 use Rattle.device_epochs.specs.code.Fields.{state_of, IsDevice}
 use Rattle.device_epochs.specs.code.Helpers.{IsPlain, EndsAt, starts_with_flush, flush_waits, is_held, is_flushed}
@@ -147,6 +147,7 @@ pub record CanMove (s : DeviceState) (pick : ℕ) (w : Waiting) : Type 0 where
   pub places : first_part s.took w.number + length w.command.parts ≤ s.limit
   pub moved : length s.moved + length w.command.parts ≤ s.limit
   pub cache : length s.cache + length w.command.parts ≤ s.limit + s.limit
+  pub blocks : All (λ (p : Part). p.block < length s.surface) w.command.parts
   pub plain : IsPlain s.cache
   pub last : EndsAt s.epoch s.cache
   pub completions : length s.waiting + length (completions_of w.command) ≤ s.limit
@@ -160,6 +161,14 @@ pub record CanMove (s : DeviceState) (pick : ℕ) (w : Waiting) : Type 0 where
 
 pub is_plain : (s : DeviceState) → IsValid s → IsPlain s.cache
 is_plain s v = record { unique = v.cache.unique; sorted = v.cache.sorted }
+
+part_within : (s : DeviceState) → IsValid s → (w : Waiting) → In w s.queue.waiting → (p : Part) → In p w.command.parts → p.block < length s.surface
+part_within s v w waits p i =
+    let at = In-slice_get w.command.parts p i in
+    let there = parts_of-waiting s.took (with_waiting s.queue v.pending) w at.0 p v.queue (pending.waits s v w waits) at.2 in
+    let within = v.commands.within p (slice_get-In (all_parts s.took) (first_part s.took w.number + at.0) p there.0) in
+    let blocks = v.medium.blocks in
+    omega arith
 
 pub can_move : (s : DeviceState) (pick : ℕ) (w : Waiting) → IsValid s → has_stopped s ≡ false → flush_waits s ≡ false → picked s.queue pick ≡ Some w → CanMove s pick w
 can_move s pick w v goes n at =
@@ -181,6 +190,7 @@ can_move s pick w v goes n at =
       places = omega arith;
       moved = moved-fits s w v h;
       cache = omega arith;
+      blocks = In-All (λ (p : Part). p.block < length s.surface) w.command.parts (part_within s v w waits);
       plain = is_plain s v;
       last = record { within = λ e i. (v.cache.entries e i).past };
       completions = omega arith;

@@ -3,9 +3,9 @@ use Rattle.std.specs.Prelude.{◌≡◌, ◌≢◌, ℕ, zero, suc, ◌+◌, ◌
 use Rattle.std.specs.List.{list_any}
 use Rattle.std.specs.List.Sorted.{IsNonDecreasingBy, IsPartitionPoint}
 use Rattle.std.proofs.Common.{sym, ap, subst, ◌∙◌, inl, inr, arith, get_or, set, leb-true, leb-false}
-use Rattle.std.proofs.lemmas.Bool.{cases_eq, cases_lt, eq-eqb, ne_eqb, both_ways, false_from_ne_true}
+use Rattle.std.proofs.lemmas.Bool.{cases_eq, eq-eqb, ne_eqb, both_ways, false_from_ne_true}
 use Rattle.std.proofs.lemmas.Option.{none-some, same_Some, slice_get-get_or, get_or_from_slice_get}
-use Rattle.blk_base.specs.Members.{In, In-slice_get, list_any-In, list_any-none, slice_get-In, slice_get-out, slice_get-length}
+use Rattle.blk_base.specs.Members.{In, list_any-In, slice_get-In, slice_get-out, slice_get-length}
 use Rattle.order_model.specs.declared.part.Part.{Part}
 use Rattle.order_model.specs.Received.{transfers}
 use Rattle.device_epochs.specs.declared.cache.Entry.{Entry}
@@ -131,57 +131,6 @@ length-oldest (x ∷ xs) = length-filter-le (of_epoch x.epoch) (x ∷ xs)
 
 pub oldest_out : (c : List Entry) (i : ℕ) → length c ≤ i → slice_get (oldest c) i ≡ None
 oldest_out c i le = let few = length-oldest c in slice_get-out (oldest c) i (omega arith)
-
--- ---- the entry of an epoch and block
-
--- no entry from place i on is of the epoch and block of e
-pub record IsClear (e : Entry) (c : List Entry) (i : ℕ) : Type 0 where
-  pub within : i ≤ length c
-  pub clear : (k : ℕ) (f : Entry) → i ≤ k → slice_get c k ≡ Some f → same_place e f ≡ false
-
-pub clear_end : (e : Entry) (c : List Entry) (i : ℕ) → i ≡ length c → IsClear e c i
-clear_end e c i q = record { within = omega arith; clear = λ k f le at. let lt = slice_get-length c k f at in absurd (omega arith) }
-
-other_block : (e f : Entry) → f.block ≢ e.block → same_place e f ≡ false
-other_block e f ne = false_from_ne_true (same_place e f) (λ t. ne (sym (same_place_parts e f t).1))
-
-other_epoch : (e f : Entry) → f.epoch < e.epoch → same_place e f ≡ false
-other_epoch e f lt = false_from_ne_true (same_place e f) (λ t. let q = (same_place_parts e f t).0 in omega arith)
-
-pub clear_more : (e : Entry) (c : List Entry) (i j : ℕ) (f : Entry) → IsClear e c j → j ≡ i + 1 → slice_get c i ≡ Some f → f.block ≢ e.block → IsClear e c i
-clear_more e c i j f h q at ne =
-    let le = h.within in
-    record {
-      within = omega arith;
-      clear = λ k g low there.
-          elim (cases_eq k i) [
-            | inl same ↦
-                let it : f ≡ g = same_Some f g (sym at ∙ ap (slice_get c) (sym same) ∙ there) in
-                subst (λ x. same_place e x ≡ false) it (other_block e f ne)
-            | inr other ↦ h.clear k g (omega arith) there
-          ];
-    }
-
-pub clear_all : (e : Entry) (c : List Entry) → IsClear e c 0 → list_any (same_place e) c ≡ false
-clear_all e c h =
-    list_any-none (same_place e) c
-    (λ f i. let at = In-slice_get c f i in h.clear at.0 f (omega arith) at.2)
-
--- an earlier epoch than that of e stands before place j, and what is from j on is clear
-pub clear_before : (e : Entry) (c : List Entry) (i j : ℕ) (f : Entry) → IsPlain c → EndsAt e.epoch c → IsClear e c j → j ≡ i + 1 → slice_get c i ≡ Some f → f.epoch ≢ e.epoch → list_any (same_place e) c ≡ false
-clear_before e c i j f p last h q at ne =
-    let le = last.within f (slice_get-In c i f at) in
-    let lt : f.epoch < e.epoch = omega arith in
-    list_any-none (same_place e) c
-    (λ g k.
-    let there = In-slice_get c g k in
-    elim (cases_lt there.0 j) [
-      | inr from ↦ h.clear there.0 g from there.2
-      | inl before ↦ let rise = epochs_rise c there.0 i g f p.sorted (omega arith) there.2 at in other_epoch e g (omega arith)
-    ])
-
-pub found_place : (e : Entry) (c : List Entry) (i : ℕ) (f : Entry) → slice_get c i ≡ Some f → f.epoch ≡ e.epoch → f.block ≡ e.block → IsPlaceOf e c i
-found_place e c i f at a b = record { found = f; there = at; same = same_place_from e f (sym a) (sym b) }
 
 -- ---- the parts of a command, one after the other
 

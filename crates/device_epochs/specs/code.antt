@@ -1,3 +1,4 @@
 -- What the code sees of its own fields.
 pub mod Fields
 pub mod Helpers
+pub mod Newest

@@ -1,3 +1,4 @@
+//! The device behind the trait: its fields, how it is made, and its calls.
 ghost use Rattle.std.specs.Prelude.{◌≡◌, ℕ, ◌+◌, ◌≤◌, ◌<◌, ◌==◌, Bool, [], ◌^◌, true, false, length, replicate, IfOk, Some, None, slice_get, if◌then◌else◌};
 ghost use Rattle.std.specs.Option.{option_map, option_map_or};
 ghost use Rattle.order_model.specs.declared.part.Part.{Part};
@@ -6,7 +7,7 @@ ghost use Rattle.device_epochs.specs.laws.Valid.{left, IsValid};
 ghost use Rattle.device_epochs.specs.code.Helpers.{starts_with_flush, flush_waits, is_held};
 ghost use Rattle.command_queue.specs.Queue.{QueueState};
 
-use crate::cache::{Entry, count_oldest, put_parts, take_entry};
+use crate::cache::Cache;
 use crate::completing::{
     complete, complete_failed, count_down, holds_flush, note_transfers, read_ids,
 };
@@ -18,7 +19,6 @@ use order_model::{
     ReadFault, Trail,
 };
 use std::alloc::Global;
-use std::collections::VecDeque;
 use std::marker::Model;
 
 /// How a device is set up.
@@ -49,7 +49,7 @@ pub struct EpochDevice {
     trace: DeviceRecord,
     waiting: HeapCircularBuffer<Completion>,
     queue: CommandQueue,
-    cache: VecDeque<Entry>,
+    cache: Cache,
     epoch: u64,
     limit: u64,
     cut_at: Option<u64>,
@@ -91,6 +91,8 @@ impl EpochDevice {
         let room = setup.limit as usize;
         let base = trail_of(&image);
         let origins = no_origins(alloc, image.len())?;
+        // By the count of steps the cache holds no more than there were commands and parts.
+        let cache = Cache::make(alloc, 2 * room, image.len())?;
         Ok(EpochDevice {
             base,
             surface: image,
@@ -98,8 +100,7 @@ impl EpochDevice {
             trace: empty_record(alloc, room)?,
             waiting: HeapCircularBuffer::with_capacity(alloc, room + 1)?,
             queue: CommandQueue::make(alloc, setup.depth)?,
-            // By the count of steps the cache holds no more than there were commands and parts.
-            cache: VecDeque::with_capacity(alloc, 2 * room)?,
+            cache,
             epoch: 0,
             limit: setup.limit,
             cut_at: setup.cut_at,
@@ -276,7 +277,7 @@ impl OrderedDev for EpochDevice {
         if self.is_off() {
             return 0;
         }
-        count_oldest(&self.cache) as u32
+        self.cache.count_oldest() as u32
     }
 
     fn transfer(&mut self, pick: u32) -> bool {
@@ -302,7 +303,7 @@ impl OrderedDev for EpochDevice {
         let trace = &mut self.trace;
         note_transfers(&mut trace.moved, self.epoch, first, parts);
         trace.steps += 1;
-        put_parts(&mut self.cache, self.epoch, first, parts);
+        self.cache.put_parts(self.epoch, first, parts);
         complete(&mut self.waiting, command);
         self.epoch = next_epoch(self.epoch, command.barrier);
         self.queue.leave(pick);
@@ -313,7 +314,7 @@ impl OrderedDev for EpochDevice {
         if self.is_off() {
             return false;
         }
-        let Some(entry) = take_entry(&mut self.cache, pick as usize) else {
+        let Some(entry) = self.cache.take_entry(pick as usize) else {
             return false;
         };
         let body = body_of(self.trace.took.parts(), entry.part);

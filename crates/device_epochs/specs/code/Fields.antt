@@ -1,6 +1,5 @@
 -- The fields of a device, as its state.
-use Rattle.std.specs.Prelude.{◌+◌, ◌^◌, ◌<◌, ◌≤◌}
-use Rattle.std.specs.VecDeque.{deque_capacity}
+use Rattle.std.specs.Prelude.{◌≡◌, ◌+◌, ◌^◌, ◌<◌, ◌≤◌, length}
 use Rattle.device_epochs.specs.declared.device.EpochDevice.TheInside.{Inside}
 use Rattle.device_epochs.specs.Device.{DeviceState}
 use Rattle.device_epochs.specs.laws.Valid.{IsValid}
@@ -35,4 +34,7 @@ pub record IsDevice (d : Inside) : Type 0 where
   pub moved : d.limit ≤ d.trace.moved.room
   pub sent : d.limit + 1 ≤ d.trace.sent.room
   pub waiting : d.limit ≤ d.waiting.capacity
-  pub cache : d.limit + d.limit ≤ deque_capacity d.cache
+  pub cache : d.limit + d.limit ≤ d.cache.room
+  -- the cache knows each block, and no more entries were appended to it than parts were moved
+  pub blocks : d.cache.blocks ≡ length d.surface
+  pub appended : d.cache.appended ≤ length d.trace.moved.items

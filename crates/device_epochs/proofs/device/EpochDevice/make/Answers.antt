@@ -2,6 +2,7 @@ use Rattle.std.proofs.Common.{length, sym, ap, subst, ◌∙◌, arith, rules}
 use Rattle.circular_buffer.specs.Buffer.{Buffer}
 use Rattle.order_model.specs.declared.completion.Completion.{Completion}
 use Rattle.order_model.specs.declared.history.DeviceRecord.{DeviceRecord}
+use Rattle.device_epochs.specs.code.Newest.{CacheState}
 use Rattle.device_epochs.specs.laws.Valid.{IsValid}
 use Rattle.device_epochs.specs.laws.ReachableLaws.{opened-valid}
 use Rattle.device_epochs.proofs.Moves.{opened_to}
@@ -15,11 +16,12 @@ invariant_of-result-2 c =
     let moved = ap (λ (r : DeviceRecord). r.moved.room) trace in
     let sent = ap (λ (r : DeviceRecord). r.sent.room) trace in
     let waiting = c.in_ok-with_capacity.ensures in
+    let cache = c.in_ok-cache.ensures in
     let room = ap (λ (b : Buffer Completion). b.capacity) waiting in
     let items = ap (λ (b : Buffer Completion). b.items) waiting in
     let to = opened_to c.args.image c.trail_of-base.result.items c.image.inside.blocks.items c.args.setup c.len.result
-    c.in_ok-origins.origins.items c.in_ok-empty_record.field-0 c.in_ok-with_capacity.field-0.items c.in_ok-make.field-0 c.in_ok-with_capacity-2.field-0.items
-    c.trail_of-base.ensures c.image.view_is (c.len.ensures ∙ ap length (sym c.image.view_is)) c.in_ok-origins.ensures trace items c.in_ok-make.ensures c.in_ok-with_capacity-2.ensures.items in
+    c.in_ok-origins.origins.items c.in_ok-empty_record.field-0 c.in_ok-with_capacity.field-0.items c.in_ok-make.field-0 c.in_ok-cache.cache.items
+    c.trail_of-base.ensures c.image.view_is (c.len.ensures ∙ ap length (sym c.image.view_is)) c.in_ok-origins.ensures trace items c.in_ok-make.ensures (ap (λ (s : CacheState). s.items) cache) in
     record {
       valid = subst IsValid to (opened-valid c.args.image c.args.setup (omega (arith, depth.0)));
       few = search rules;
@@ -27,5 +29,7 @@ invariant_of-result-2 c =
       moved = omega (arith, moved);
       sent = omega (arith, sent);
       waiting = omega (arith, room);
-      cache = omega (arith, c.in_ok-with_capacity-2.ensures.exact);
+      cache = let wide = ap (λ (s : CacheState). s.room) cache in omega arith;
+      blocks = ap (λ (s : CacheState). s.blocks) cache ∙ c.len-2.ensures ∙ ap length (sym c.image.view_is);
+      appended = let none = ap (λ (s : CacheState). s.appended) cache in omega arith;
     }

@@ -26,4 +26,6 @@ invariant_of-self-then-not-self c =
       sent = omega (arith, sent, h.sent);
       waiting = omega (arith, waiting, h.waiting);
       cache = h.cache;
+      blocks = h.blocks;
+      appended = h.appended;
     }

@@ -7,5 +7,4 @@ pub overflow_cast-result : goal.overflow_cast-result
 overflow_cast-result c =
     let n = steps-le (state_of c.self.inside) c.self.invariant.valid in
     let few = c.self.invariant.few in
-    let long = c.self.inside.cache.ok.0 in
     omega (arith, n)

@@ -1,4 +1,4 @@
-use Rattle.std.proofs.Common.{◌≡◌, true, false, length, subst, arith, rules, IsTrue, not}
+use Rattle.std.proofs.Common.{◌≡◌, false, length, subst, arith, rules, IsTrue, not}
 use Rattle.std.proofs.lemmas.Bool.{both_ways}
 use Rattle.order_model.specs.Device.{IsQuiet}
 use Rattle.device_epochs.specs.Device.{DeviceState, seen}
@@ -9,7 +9,6 @@ use Rattle.device_epochs.proofs.device.EpochDeviceOrderedDev.is_quiet.Goals.{the
 
 pub returns-then-self : goal.returns-then-self
 returns-then-self c =
-    let long = c.self.inside.cache.ok.0 in
     subst (λ (s : DeviceState). (IsTrue false → IsQuiet (seen s)) × (IsQuiet (seen s) → IsTrue false)) c.self.view_is
     (not_quiet (state_of c.self.inside) c.self.invariant.valid
     (λ e.
@@ -21,7 +20,6 @@ returns-then-self c =
 
 pub returns : goal.returns
 returns c =
-    let long = c.self.inside.cache.ok.0 in
     let fine : c.self.inside.failed ≡ false = search rules in
     let queue : length c.self.inside.queue.waiting ≡ 0 = search rules in
     let cache : length c.self.inside.cache.items ≡ 0 = search rules in

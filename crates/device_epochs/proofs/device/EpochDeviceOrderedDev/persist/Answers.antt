@@ -1,4 +1,5 @@
 use Rattle.std.proofs.Common.{◌<◌, List, length, sym, ap, subst, ◌∙◌, arith}
+use Rattle.std.proofs.lemmas.List.{length-set}
 use Rattle.std.specs.Prelude.{slice_get}
 use Rattle.std.specs.Option.{option_map}
 use Rattle.order_model.specs.declared.part.Part.{Part}
@@ -43,7 +44,7 @@ invariant_of-self-2 c =
     let h = c.self.invariant in
     let e = c.in-Some.entry in
     let body = ap (λ (ps : List Part). option_map (λ (p : Part). p.body) (slice_get ps e.part)) (sym c.parts.ensures) ∙ c.body_of-body.ensures in
-    let to = written_to s e c.body_of-body.result c.put.new.self c.take_entry.new.cache.items body c.put.ensures c.in-Some.ensures.rest in
+    let to = written_to s e c.body_of-body.result c.put.new.self c.take_entry.new.self.items body c.put.ensures c.in-Some.ensures.rest in
     record {
       valid = subst IsValid (sym to) can.valid;
       few = h.few;
@@ -51,7 +52,9 @@ invariant_of-self-2 c =
       moved = h.moved;
       sent = h.sent;
       waiting = h.waiting;
-      cache = omega (arith, c.take_entry.ensures.capacity, h.cache);
+      cache = omega (arith, c.take_entry.ensures.room, h.cache);
+      blocks = let wide = ap length c.put.ensures in let same = length-set d.surface e.block c.body_of-body.result in omega (arith, c.take_entry.ensures.blocks, h.blocks);
+      appended = omega (arith, c.take_entry.ensures.appended, h.appended);
     }
 
 pub returns-clause-when : goal.returns-clause-when

@@ -57,4 +57,6 @@ invariant_of-self c =
       sent = h.sent;
       waiting = h.waiting;
       cache = h.cache;
+      blocks = h.blocks;
+      appended = h.appended;
     }

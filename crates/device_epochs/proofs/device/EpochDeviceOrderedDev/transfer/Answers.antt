@@ -1,4 +1,4 @@
-use Rattle.std.proofs.Common.{◌<◌, ◌++◌, List, length, sym, ap, subst, ◌∙◌, arith}
+use Rattle.std.proofs.Common.{◌<◌, ◌++◌, List, length, length-append, sym, ap, subst, ◌∙◌, arith}
 use Rattle.circular_buffer.specs.Buffer.{Buffer}
 use Rattle.order_model.specs.declared.part.Part.{Part}
 use Rattle.order_model.specs.declared.completion.Completion.{Completion}
@@ -11,6 +11,7 @@ use Rattle.device_epochs.specs.Device.{DeviceState, transferable, transferred}
 use Rattle.device_epochs.specs.laws.Valid.{IsValid}
 use Rattle.device_epochs.specs.code.Fields.{state_of}
 use Rattle.device_epochs.specs.laws.CompletionLaws.{failures-split}
+use Rattle.device_epochs.specs.laws.EpochLaws.{length-transfers}
 use Rattle.device_epochs.specs.laws.StepLaws.{no_transfer}
 use Rattle.device_epochs.proofs.Moves.{can_move_from, failed_to, moved_to, a_step, no_step, held-le, no_command-le}
 use Rattle.device_epochs.proofs.device.EpochDeviceOrderedDev.transfer.Goals as goal
@@ -67,6 +68,8 @@ invariant_of-self c =
       sent = h.sent;
       waiting = omega (arith, waiting_room, h.waiting);
       cache = h.cache;
+      blocks = h.blocks;
+      appended = h.appended;
     }
 
 pub returns-then-count_down-clause-when : goal.returns-then-count_down-clause-when
@@ -109,8 +112,19 @@ pub put_parts-requires-clause-room : goal.put_parts-requires-clause-room
 put_parts-requires-clause-room c =
     let can = can_move_from c.self.inside c.args.self.now c.args.pick c.in-Some.number c.in-Some-peek.command.now c.self.invariant c.self.view_is c.if-is_held.ensures.value c.in-Some.ensures c.in-Some-peek.ensures in
     let slice = ap length c.as_slice-parts.ensures in
-    let long = c.self.inside.cache.ok.0 in
-    omega (arith, can.cache, c.self.invariant.cache, slice, long)
+    omega (arith, can.cache, c.self.invariant.cache, slice)
+
+pub put_parts-requires-clause-blocks : goal.put_parts-requires-clause-blocks
+put_parts-requires-clause-blocks c =
+    let can = can_move_from c.self.inside c.args.self.now c.args.pick c.in-Some.number c.in-Some-peek.command.now c.self.invariant c.self.view_is c.if-is_held.ensures.value c.in-Some.ensures c.in-Some-peek.ensures in
+    let h = c.self.invariant in rw (c.as_slice-parts.ensures, h.blocks) can.blocks
+
+pub put_parts-requires-clause-appended : goal.put_parts-requires-clause-appended
+put_parts-requires-clause-appended c =
+    let can = can_move_from c.self.inside c.args.self.now c.args.pick c.in-Some.number c.in-Some-peek.command.now c.self.invariant c.self.view_is c.if-is_held.ensures.value c.in-Some.ensures c.in-Some-peek.ensures in
+    let slice = ap length c.as_slice-parts.ensures in
+    let h = c.self.invariant in
+    omega (arith, can.moved, h.appended, h.few, slice)
 
 pub put_parts-requires-clause-last : goal.put_parts-requires-clause-last
 put_parts-requires-clause-last c =
@@ -154,7 +168,7 @@ invariant_of-self-2 c =
     let waiting = ap (λ (b : Buffer Completion). b.items) c.complete.ensures in
     let queue = c.leave-2.ensures ∙ ap (departed d.queue) can.picked in
     let cache = c.put_parts.ensures.items ∙ ap (λ (ps : List Part). put_all (entries s.epoch first ps) s.cache) slice in
-    let to = moved_to s w first c.note_transfers.new.moved.items c.complete.new.waiting.items c.leave-2.new.self c.put_parts.new.cache.items c.next_epoch-self-inside.result
+    let to = moved_to s w first c.note_transfers.new.moved.items c.complete.new.waiting.items c.leave-2.new.self c.put_parts.new.self.items c.next_epoch-self-inside.result
     c.first_part-first.ensures moved waiting queue cache c.next_epoch-self-inside.ensures c.count_down.new.number c.if-count_down.ensures.rest in
     let moved_room = ap (λ (t : HistoryState Transfer). t.room) c.note_transfers.ensures in
     let waiting_room = ap (λ (b : Buffer Completion). b.capacity) c.complete.ensures in
@@ -165,7 +179,13 @@ invariant_of-self-2 c =
       moved = omega (arith, moved_room, h.moved);
       sent = h.sent;
       waiting = omega (arith, waiting_room, h.waiting);
-      cache = omega (arith, c.put_parts.ensures.capacity, h.cache);
+      cache = omega (arith, c.put_parts.ensures.room, h.cache);
+      blocks = c.put_parts.ensures.blocks ∙ h.blocks;
+      appended =
+          let more = ap length moved ∙ length-append s.moved (transfers s.epoch first w.command.parts) in
+          let new = length-transfers s.epoch first w.command.parts in
+          let parts = ap length slice in
+          omega (arith, c.put_parts.ensures.appended, h.appended);
     }
 
 pub returns-clause-when : goal.returns-clause-when
@@ -186,6 +206,6 @@ returns-clause-state c =
     let waiting = ap (λ (b : Buffer Completion). b.items) c.complete.ensures in
     let queue = c.leave-2.ensures ∙ ap (departed d.queue) can.picked in
     let cache = c.put_parts.ensures.items ∙ ap (λ (ps : List Part). put_all (entries s.epoch first ps) s.cache) slice in
-    let to = moved_to s w first c.note_transfers.new.moved.items c.complete.new.waiting.items c.leave-2.new.self c.put_parts.new.cache.items c.next_epoch-self-inside.result
+    let to = moved_to s w first c.note_transfers.new.moved.items c.complete.new.waiting.items c.leave-2.new.self c.put_parts.new.self.items c.next_epoch-self-inside.result
     c.first_part-first.ensures moved waiting queue cache c.next_epoch-self-inside.ensures c.count_down.new.number c.if-count_down.ensures.rest in
     to ∙ sym (can.moves (sym c.if-count_down.ensures.next)) ∙ ap (λ (t : DeviceState). transferred t c.args.pick) c.self.view_is
