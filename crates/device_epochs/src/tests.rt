@@ -1,3 +1,4 @@
+//! Tests of the device: worked rows, power cuts, and transfers and reads that fail.
 ghost use Rattle.std.specs.Prelude.{◌≡◌, ℕ, ◌+◌, ◌<◌, ◌≤◌, IfOk, length};
 ghost use Rattle.device_epochs.specs.tests.Asked.{HasTaken, IsNext};
 
@@ -268,6 +269,71 @@ fn later_put_takes_the_place(rt: HostRuntime) -> Result<(), Fail> {
         disk.origins.as_slice(),
         [Some(2), None, None, None].as_slice()
     );
+    Ok(())
+}
+
+// Two epochs have puts of block 0, the first one two of them.
+fn move_two_epochs(rt: &impl Abort, device: &mut EpochDevice)
+    requires { HasTaken device.old 0 }
+{
+    give(rt, device, 0, 1, put(0, 0, 0x01, false));
+    give(rt, device, 1, 2, put(1, 0, 0x02, false));
+    give(rt, device, 2, 3, put(2, 1, 0x03, true));
+    give(rt, device, 3, 4, put(3, 0, 0x04, false));
+    for _ in 0..4 {
+        assert!(rt; device.transfer(0));
+    }
+    assert_eq!(rt; device.can_persist(), 2);
+}
+
+#[test]
+fn first_epoch_writes_its_newest_put(rt: HostRuntime) -> Result<(), Fail> {
+    let mut device = device(rt.alloc(), None)?;
+    move_two_epochs(&rt, &mut device);
+    for _ in 0..2 {
+        assert!(rt; device.persist(0));
+    }
+    let disk = device.cut();
+    assert!(rt; is_filled(&disk.image, [0x02, 0x03, 0, 0]));
+    assert_eq!(rt;
+        disk.origins.as_slice(),
+        [Some(1), Some(2), None, None].as_slice()
+    );
+    assert_eq!(rt; disk.trace.steps, 6);
+    Ok(())
+}
+
+#[test]
+fn second_epoch_writes_its_own_put(rt: HostRuntime) -> Result<(), Fail> {
+    let mut device = device(rt.alloc(), None)?;
+    move_two_epochs(&rt, &mut device);
+    for _ in 0..3 {
+        assert!(rt; device.persist(0));
+    }
+    let disk = device.cut();
+    assert!(rt; is_filled(&disk.image, [0x04, 0x03, 0, 0]));
+    assert_eq!(rt;
+        disk.origins.as_slice(),
+        [Some(3), Some(2), None, None].as_slice()
+    );
+    assert_eq!(rt; disk.trace.steps, 7);
+    Ok(())
+}
+
+// A put finds the entry that it replaces where others stood before that one and left.
+#[test]
+fn put_finds_its_entry_once_others_left(rt: HostRuntime) -> Result<(), Fail> {
+    let mut device = device(rt.alloc(), None)?;
+    give(&rt, &mut device, 0, 1, put(0, 0, 0x11, false));
+    give(&rt, &mut device, 1, 2, put(1, 1, 0x22, false));
+    give(&rt, &mut device, 2, 3, put(2, 1, 0x33, false));
+    assert!(rt; device.transfer(0));
+    assert!(rt; device.transfer(0));
+    assert!(rt; device.persist(0));
+    assert!(rt; device.transfer(0));
+    assert_eq!(rt; device.can_persist(), 1);
+    assert!(rt; device.persist(0));
+    assert!(rt; is_filled(&device.cut().image, [0x11, 0x33, 0, 0]));
     Ok(())
 }
 
