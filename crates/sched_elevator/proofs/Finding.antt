@@ -1,14 +1,14 @@
 -- The put that the head meets next, and the list's request that it is.
-use Rattle.std.proofs.Common.{◌≡◌, ℕ, ◌+◌, ◌<◌, ◌≤◌, Bool, true, false, List, [], ◌∷◌, length, Option, Some, None, MatchOption, slice_get, filter, refl, sym, ap, subst, ◌∙◌, arith, add-one, inl, inr, ⊎_elim, zero, suc, if◌then◌else◌}
+use Rattle.std.proofs.Common.{◌≡◌, ℕ, ◌+◌, ◌<◌, ◌≤◌, Bool, true, false, List, [], ◌∷◌, length, Option, Some, None, slice_get, filter, refl, sym, ap, subst, ◌∙◌, arith, add-one, inl, inr, ⊎_elim}
 use Rattle.std.specs.Option.{option_and_then}
-use Rattle.std.proofs.lemmas.Bool.{cases_Bool, cases_lt, cases_eq, both_ways, false≢true}
+use Rattle.std.proofs.lemmas.Bool.{cases_Bool, cases_lt, both_ways, false≢true}
 use Rattle.std.proofs.lemmas.Option.{none-some, same_Some}
 use Rattle.blk_base.specs.Members.{In, In-filter, filter-In, In-slice_get, slice_get-In, slice_get-out, slice_get-length}
 use Rattle.order_model.specs.Submission.{kind_block}
-use Rattle.barrier_reassign.specs.Epoch.{EpochState, Waiting, may_leave, eligible}
+use Rattle.barrier_reassign.specs.Epoch.{Waiting, may_leave, eligible}
 use Rattle.barrier_reassign.specs.laws.SchedulerLaws.{none_past}
 use Rattle.sched_elevator.specs.declared.searches.Found.{Found}
-use Rattle.sched_elevator.specs.Elevator.{meets_before, listed, in_order}
+use Rattle.sched_elevator.specs.Elevator.{meets_before, listed}
 use Rattle.sched_elevator.specs.laws.List.{Meets, block_at, IsInOrder, meets-true, true-meets, meets-trans, in_order-In, In-in_order, length-in_order, in_order-rises, rises-at, first-is, next-is, next-none}
 use Rattle.sched_elevator.specs.laws.Eligible.{IsRising, IsPutAt, put-block, first-may_leave, eligible-put, eligible-apart, only-may_leave}
 use Rattle.sched_elevator.specs.code.Found.{block_there, is_behind, better_than, better, IsNextBelow, NoneBelow, IsBest, IsListedAt}

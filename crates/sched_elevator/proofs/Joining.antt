@@ -1,8 +1,8 @@
 -- The put that joins a command: the first of its block, where it is of the command's class.
-use Rattle.std.proofs.Common.{◌≡◌, ℕ, ◌+◌, ◌-◌, ◌<◌, ◌≤◌, ◌++◌, Bool, true, false, List, [], ◌∷◌, length, find, not, ◌==◌, Option, Some, None, slice_get, refl, sym, ap, subst, ◌∙◌, ap₂, arith, inl, inr, ⊎_elim, zero, suc, if◌then◌else◌}
+use Rattle.std.proofs.Common.{◌≡◌, ℕ, ◌+◌, ◌-◌, ◌<◌, ◌≤◌, ◌++◌, Bool, true, false, List, [], ◌∷◌, length, find, not, ◌==◌, Some, None, slice_get, refl, sym, ap, subst, ◌∙◌, ap₂, arith, inl, inr, ⊎_elim, zero, suc, if◌then◌else◌}
 use Rattle.std.proofs.Math.Bool.{beq}
-use Rattle.std.specs.Option.{option_and_then, option_map_or}
-use Rattle.std.proofs.lemmas.Bool.{cases_Bool, cases_lt, both_ways, false≢true, and_parts, and_from, not-true, eqb-true, eq-eqb}
+use Rattle.std.specs.Option.{option_map_or}
+use Rattle.std.proofs.lemmas.Bool.{cases_Bool, both_ways, false≢true, and_parts, and_from, eqb-true, eq-eqb}
 use Rattle.std.proofs.lemmas.List.{length_push}
 use Rattle.std.proofs.lemmas.Option.{none-some, same_Some}
 use Rattle.blk_base.specs.Members.{In, In-filter, In-slice_get, IsAscending-filter, slice_get-push}
@@ -14,10 +14,10 @@ use Rattle.order_model.specs.declared.request.Request.{Request}
 use Rattle.order_model.specs.Parts.{block_follows}
 use Rattle.order_model.specs.Single.{parts_for}
 use Rattle.order_model.specs.Submission.{kind_block}
-use Rattle.barrier_reassign.specs.Epoch.{EpochState, Waiting, may_leave, eligible, without, departed, leaving, leaves_flagged}
+use Rattle.barrier_reassign.specs.Epoch.{EpochState, Waiting, may_leave, eligible, departed, leaving, leaves_flagged}
 use Rattle.sched_elevator.specs.Elevator.{Gathering, is_put_of, has_class, joins, next_part, joined, taken, gathered}
 use Rattle.sched_elevator.specs.laws.Eligible.{IsRising, IsPutAt, eligible-same}
-use Rattle.sched_elevator.specs.laws.Valid.{Leaves, Joins, next-joins}
+use Rattle.sched_elevator.specs.laws.Valid.{next-joins}
 use Rattle.sched_elevator.specs.code.Found.{block_there, IsFirstPut, IsJoining}
 use Rattle.sched_elevator.proofs.Steps.{leaving-some}
 use Rattle.sched_elevator.proofs.Finding.{put_there, there_put, first_listed}

@@ -1,6 +1,6 @@
 -- The elevator: requests leave in rising order of block from where the last command ended, then from the
 -- lowest block on (circular LOOK), and puts of consecutive blocks leave in one command.
-use Rattle.std.specs.Prelude.{◌≡◌, ℕ, ◌+◌, ◌-◌, ◌==◌, ◌++◌, ◌||◌, ◌&&◌, not, zero, suc, Bool, true, false, List, [], ◌∷◌, length, nat_lt, find, Option, Some, None, slice_get, if◌then◌else◌}
+use Rattle.std.specs.Prelude.{ℕ, ◌+◌, ◌-◌, ◌==◌, ◌++◌, ◌||◌, ◌&&◌, not, zero, suc, Bool, false, List, [], ◌∷◌, length, nat_lt, find, Option, Some, slice_get, if◌then◌else◌}
 use Rattle.std.specs.Option.{option_map, option_map_or}
 use Rattle.order_model.specs.declared.part.Part.{Part}
 use Rattle.order_model.specs.declared.command.Command.{Command}

@@ -1,14 +1,14 @@
 -- Which requests may leave: of each block the put that was accepted first.
-use Rattle.std.specs.Prelude.{◌≡◌, ℕ, ◌<◌, ◌≤◌, ◌==◌, ◌&&◌, not, Bool, true, false, List, [], ◌∷◌, length, nat_lt, filter, Some, slice_get, refl}
+use Rattle.std.specs.Prelude.{◌≡◌, ℕ, ◌<◌, ◌≤◌, ◌&&◌, not, Bool, true, false, List, [], ◌∷◌, length, nat_lt, Some, slice_get, refl}
 use Rattle.std.proofs.Common.{ap, sym, subst, ◌∙◌, inl, inr, ⊎_elim, arith}
-use Rattle.std.proofs.lemmas.Bool.{cases_Bool, cases_lt, both_ways, false≢true, and_from, and_left, not-true, lt-ltb, le-ltb, eq-eqb, ne_eqb, eqb-true}
+use Rattle.std.proofs.lemmas.Bool.{cases_Bool, cases_lt, both_ways, false≢true, and_from, and_left, not-true, lt-ltb, le-ltb, eq-eqb, eqb-true}
 use Rattle.std.proofs.lemmas.Option.{none-some, same_Some}
-use Rattle.blk_base.specs.Members.{In, IsAscending, IsAscending-places, IsAscending-same, IsAscending-filter, In-filter, filter-In, In-slice_get, slice_get-In, slice_get-in_range, list_all-In, all-list_all}
+use Rattle.blk_base.specs.Members.{In, IsAscending, IsAscending-places, IsAscending-same, IsAscending-filter, In-filter, In-slice_get, list_all-In, all-list_all}
 use Rattle.order_model.specs.declared.request.Kind.{Kind}
 use Rattle.order_model.specs.declared.request.Kind.TheVariants.{Put, Flush}
 use Rattle.order_model.specs.Submission.{is_flush, kind_block}
-use Rattle.barrier_reassign.specs.Epoch.{EpochState, Waiting, have_one_block, stands_before, may_leave, eligible}
-use Rattle.sched_elevator.specs.Elevator.{block_of, listed}
+use Rattle.barrier_reassign.specs.Epoch.{Waiting, have_one_block, stands_before, may_leave, eligible}
+use Rattle.sched_elevator.specs.Elevator.{block_of}
 use Rattle.sched_elevator.specs.laws.List.{block_at, AreApart}
 
 abbrev pub IsRising : List Waiting → Type 0

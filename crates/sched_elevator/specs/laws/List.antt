@@ -1,11 +1,11 @@
 -- The elevator's list: the requests that may leave, in the order in which the head meets them.
-use Rattle.std.specs.Prelude.{◌≡◌, ℕ, ◌+◌, ◌<◌, ◌≤◌, ◌||◌, ◌&&◌, ◌⊎◌, zero, suc, Bool, true, false, List, [], ◌∷◌, length, nat_lt, Option, Some, None, slice_get, refl, if◌then◌else◌}
+use Rattle.std.specs.Prelude.{◌≡◌, ℕ, ◌<◌, ◌≤◌, ◌⊎◌, zero, suc, true, false, List, [], ◌∷◌, length, nat_lt, Some, None, slice_get, refl}
 use Rattle.std.proofs.Common.{ap, sym, subst, ◌∙◌, inl, inr, ⊎_elim, arith}
-use Rattle.std.proofs.lemmas.Bool.{cases_Bool, cases_lt, both_ways, false≢true, lt-ltb, le-ltb}
+use Rattle.std.proofs.lemmas.Bool.{cases_Bool, cases_lt, both_ways, lt-ltb, le-ltb}
 use Rattle.std.proofs.lemmas.Option.{none-some, same_Some}
-use Rattle.blk_base.specs.Members.{In, slice_get-In, slice_get-length}
-use Rattle.barrier_reassign.specs.Epoch.{Waiting, eligible}
-use Rattle.sched_elevator.specs.Elevator.{block_of, meets_before, placed, in_order, listed}
+use Rattle.blk_base.specs.Members.{In, slice_get-In}
+use Rattle.barrier_reassign.specs.Epoch.{Waiting}
+use Rattle.sched_elevator.specs.Elevator.{block_of, meets_before, placed, in_order}
 
 -- ---- the order of blocks
 

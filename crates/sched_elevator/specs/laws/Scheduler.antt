@@ -1,12 +1,11 @@
 -- The elevator is a scheduler.
-use Rattle.std.specs.Prelude.{◌≡◌, ℕ, ◌<◌, ◌≤◌, ◌++◌, ◌↔◌, Bool, true, false, List, [], ◌∷◌, length, map, Option, Some, None, slice_get, refl}
+use Rattle.std.specs.Prelude.{◌≡◌, ℕ, ◌<◌, true, [], ◌∷◌, length, Option, Some, None, refl}
 use Rattle.std.specs.Option.{option_map, option_map_or}
-use Rattle.std.proofs.Common.{ap, sym, subst, ◌∙◌, arith}
-use Rattle.std.proofs.lemmas.List.{append-nil, map-append, length-map}
+use Rattle.std.proofs.Common.{sym, arith}
+use Rattle.std.proofs.lemmas.List.{append-nil, map-append}
 use Rattle.blk_base.specs.Members.{In-filter, slice_get-In}
 use Rattle.order_model.specs.declared.request.Request.{Request}
-use Rattle.barrier_reassign.specs.Epoch.{EpochState, Waiting, can_accept, eligible, may_leave, unflagged}
-use Rattle.barrier_reassign.specs.Sched as plain
+use Rattle.barrier_reassign.specs.Epoch.{Waiting, can_accept, eligible, may_leave, unflagged}
 use Rattle.barrier_reassign.specs.Scheduler.{IsAcceptable, Accepts, Sends, IsScheduler}
 use Rattle.barrier_reassign.specs.laws.AcceptedLaws.{accepted-valid}
 use Rattle.barrier_reassign.specs.laws.DispatchedLaws.{opened-valid}

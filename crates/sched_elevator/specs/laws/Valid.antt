@@ -1,12 +1,12 @@
 -- What every elevator keeps: its commands are merged of those that the plain scheduler would have sent.
-use Rattle.std.specs.Prelude.{◌≡◌, ℕ, ◌+◌, ◌<◌, ◌≤◌, ◌==◌, ◌||◌, ◌&&◌, ◌++◌, not, zero, suc, Bool, true, false, List, [], ◌∷◌, length, map, find, Option, Some, None, is_some, slice_get, refl, if◌then◌else◌}
-use Rattle.std.specs.Option.{option_map, option_map_or}
+use Rattle.std.specs.Prelude.{◌≡◌, ℕ, ◌+◌, ◌<◌, ◌||◌, ◌++◌, zero, suc, Bool, true, false, List, [], ◌∷◌, length, map, find, Option, Some, None, is_some, refl, if◌then◌else◌}
+use Rattle.std.specs.Option.{option_map_or}
 use Rattle.std.specs.List.{list_any}
 use Rattle.std.proofs.Common.{ap, ap₂, sym, subst, ◌∙◌, inl, inr, ⊎_elim, arith, append_assoc}
-use Rattle.std.proofs.lemmas.Bool.{cases_Bool, cases_lt, both_ways, false≢true, and_parts, not-true, or_cases, eqb-true}
-use Rattle.std.proofs.lemmas.List.{append-nil, map-append, length-append, length_push}
+use Rattle.std.proofs.lemmas.Bool.{cases_Bool, both_ways, false≢true, and_parts, not-true, or_cases, eqb-true}
+use Rattle.std.proofs.lemmas.List.{append-nil, map-append, length_push}
 use Rattle.std.proofs.lemmas.Option.{none-some, same_Some}
-use Rattle.blk_base.specs.Members.{In, In-append_cases, In-filter, In-list_any, list_any-In, In-push_cases, In-push, slice_get-In, slice_get-length, slice_get-push_cases}
+use Rattle.blk_base.specs.Members.{In, In-filter, list_any-In, In-push_cases, slice_get-In, slice_get-length, slice_get-push_cases}
 use Rattle.order_model.specs.declared.part.Part.{Part}
 use Rattle.order_model.specs.declared.command.Command.{Command}
 use Rattle.order_model.specs.declared.command.Priority.TheVariants.{Simple, Ordered}
@@ -18,7 +18,6 @@ use Rattle.order_model.specs.Received.{all_parts}
 use Rattle.order_model.specs.Single.{parts_for, flush_for, command_of_request}
 use Rattle.order_model.specs.Carrying.{Carries}
 use Rattle.order_model.specs.Merging.{ungrouped, first_flush, merged, IsGroup}
-use Rattle.order_model.proofs.Single.{part_is}
 use Rattle.order_model.proofs.Merging.{carries_merged}
 use Rattle.barrier_reassign.specs.Epoch.{EpochState, Waiting, may_leave, eligible, departed, leaves_flagged}
 use Rattle.barrier_reassign.specs.Sched as plain

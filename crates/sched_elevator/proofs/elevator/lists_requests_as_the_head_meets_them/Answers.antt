@@ -1,5 +1,4 @@
 -- The list, in its own words.
-use Rattle.std.proofs.Common.{length, Some, slice_get, arith}
 use Rattle.sched_elevator.specs.laws.List.{in_order-In, In-in_order, length-in_order}
 use Rattle.sched_elevator.proofs.Finding.{listed-rises}
 use Rattle.barrier_reassign.specs.Epoch.{eligible}

@@ -1,7 +1,7 @@
 -- The request that leaves, and those that its command takes along.
 use Rattle.std.proofs.Common.{Some, slice_get, sym, ap, subst, ◌∙◌}
 use Rattle.barrier_reassign.specs.Epoch.{EpochState, departed}
-use Rattle.sched_elevator.specs.Elevator.{Gathering, leaving_with}
+use Rattle.sched_elevator.specs.Elevator.{Gathering}
 use Rattle.sched_elevator.specs.laws.Eligible.{IsRising}
 use Rattle.sched_elevator.proofs.Joining.{departed_rising}
 use Rattle.sched_elevator.proofs.Steps.{leaving-some, put_together, flush_together, together_command, together_queue}

@@ -1,5 +1,5 @@
 -- The request at a place of the list, by going from each to the next.
-use Rattle.std.proofs.Common.{◌≡◌, ◌+◌, None, MatchOption, length, slice_get, sym, ap, subst, ◌∙◌, arith}
+use Rattle.std.proofs.Common.{◌≡◌, ◌+◌, None, MatchOption, length, slice_get, sym, subst, ◌∙◌, arith}
 use Rattle.sched_elevator.specs.Elevator.{listed}
 use Rattle.sched_elevator.specs.code.Found.{IsListedAt}
 use Rattle.sched_elevator.proofs.Finding.{lone_first, lone_none, first_found, none_first, next_found, none_next, none_from}

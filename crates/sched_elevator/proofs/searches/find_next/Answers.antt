@@ -1,5 +1,5 @@
 -- One place more.
-use Rattle.std.proofs.Common.{◌≡◌, ◌+◌, None, sym, subst, ◌∙◌}
+use Rattle.std.proofs.Common.{◌+◌, sym, subst, ◌∙◌}
 use Rattle.sched_elevator.specs.code.Found.{IsBest}
 use Rattle.sched_elevator.proofs.Finding.{better_keeps, skip_keeps}
 use Rattle.sched_elevator.proofs.searches.find_next.Goals as goal

@@ -1,5 +1,4 @@
 -- An elevator that accepted nothing.
-use Rattle.std.proofs.Common.{ap}
 use Rattle.sched_elevator.proofs.Steps.{made_fields}
 use Rattle.sched_elevator.proofs.elevator.Elevator.make.Goals as goal
 

@@ -1,5 +1,5 @@
 -- The list has as many requests as may leave.
-use Rattle.std.proofs.Common.{◌≡◌, length, ap, sym, subst, ◌∙◌}
+use Rattle.std.proofs.Common.{◌≡◌, length, sym, subst, ◌∙◌}
 use Rattle.barrier_reassign.specs.Epoch.{eligible}
 use Rattle.sched_elevator.specs.Elevator.{ElevatorState, listed}
 use Rattle.sched_elevator.specs.laws.List.{length-in_order}
