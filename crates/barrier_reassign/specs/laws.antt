@@ -4,6 +4,7 @@ pub mod DispatchedLaws
 pub mod OrderLaws
 pub mod Places
 pub mod ProgressLaws
+pub mod Recorded
 pub mod SchedulerLaws
 pub mod Valid
 pub mod WentLaws

@@ -1,4 +1,4 @@
-ghost use Rattle.std.specs.Prelude.{◌≡◌, ℕ, ◌+◌, ◌^◌, ◌<◌, ◌≤◌, ◌↔◌, ◌==◌, not, length, true, false, IsOk, IsTrue, IfOk, OnOk, IfErr, MatchOption, slice_get, if◌then◌else◌, [], ◌||◌, ◌&&◌};
+ghost use Rattle.std.specs.Prelude.{◌≡◌, ℕ, ◌+◌, ◌^◌, ◌<◌, ◌≤◌, ◌↔◌, ◌==◌, ◌∷◌, ◌++◌, not, length, true, false, IsOk, IsTrue, IfOk, OnOk, IfErr, MatchOption, slice_get, if◌then◌else◌, [], ◌||◌, ◌&&◌};
 ghost use Rattle.std.specs.Option.{option_map, option_copied};
 ghost use Rattle.order_model.specs.Submission.{is_flush};
 ghost use Rattle.barrier_reassign.specs.Epoch.{Waiting, is_blocked, can_accept, closing_of, unflagged, accepted, have_one_block, stands_before, may_leave, eligible, waits_ordered, picked, departed, leaving, is_barrier_closing, is_open, is_full};
@@ -6,7 +6,7 @@ ghost use Rattle.barrier_reassign.specs.code.Kept.{IsPicked};
 
 use crate::closing::{Closing, Held};
 use blk_base::NoMemory;
-use order_model::{Kind, Request};
+use order_model::{History, Kind, Request};
 use std::alloc::Global;
 use std::collections::VecDeque;
 use std::marker::Model;
@@ -90,6 +90,28 @@ impl EpochQueue {
             request: unflagged(r),
         });
         self.next += 1;
+        Ok(())
+    }
+
+    /// Takes a request as `accept` does, and records it as it came.
+    pub fn accept_recorded(
+        &mut self,
+        history: &mut History<Request>,
+        r: Request,
+    ) -> Result<(), (Request, Held)>
+        requires barrier { r.barrier ≡ true → r.ordered ≡ true }
+        requires flush { r.kind ≡ Kind.Flush → (r.ordered ≡ true) × (r.barrier ≡ true) }
+        requires next { self.old.next + 1 < 2 ^ 64 }
+        requires room { length history.old.items < history.old.room }
+        ensures when { IsOk result ↔ IsTrue (can_accept self.old) }
+        ensures ok { OnOk result (self.new ≡ accepted self.old r) }
+        ensures recorded { OnOk result (history.new ≡ record { items = history.old.items ++ r ∷ []; room = history.old.room }) }
+        ensures back { IfErr result (λ e. (e.0 ≡ r) × (e.1 ≡ (if is_blocked self.old then Held.Blocked else Held.Full))) }
+        ensures kept { IfErr result (λ e. (self.new ≡ self.old) × (history.new ≡ history.old)) }
+    {
+        let submitted = r.copy();
+        self.accept(r)?;
+        history.push(submitted);
         Ok(())
     }
 
@@ -397,6 +419,24 @@ mod tests {
         assert_eq!(rt; accept(&mut q, flush(2)), Some(Held::Blocked));
         assert_eq!(rt; leave(&mut q, 0), Some((1, true, true)));
         assert_eq!(rt; accept(&mut q, put(2, 2, false, false)), None);
+        Ok(())
+    }
+
+    // The record has the flag that the queue keeps for another request, and nothing of one that came back.
+    #[test]
+    fn records_what_it_accepts(rt: HostRuntime) -> Result<(), NoMemory> {
+        let mut q = EpochQueue::make(rt.alloc(), 8)?;
+        let mut history = History::make(rt.alloc(), 2)?;
+        let accepted = q.accept_recorded(&mut history, put(7, 3, true, true));
+        assert!(rt; accepted.is_ok());
+        let blocked = q.accept_recorded(&mut history, put(8, 4, false, false));
+        assert!(rt; blocked.is_err());
+        assert_eq!(rt; history.as_slice().len(), 1);
+        match history.as_slice().get(0) {
+            Some(r) => assert_eq!(rt; (r.id, r.ordered, r.barrier), (7, true, true)),
+            None => assert!(rt; false),
+        }
+        assert_eq!(rt; leave(&mut q, 0), Some((7, false, true)));
         Ok(())
     }
 

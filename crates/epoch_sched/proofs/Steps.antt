@@ -19,26 +19,20 @@ use Rattle.epoch_sched.specs.code.Fields.{IsSched, state_of}
 use Rattle.barrier_reassign.specs.laws.Valid.{IsValid}
 use Rattle.barrier_reassign.specs.Scheduler.{IsAcceptable}
 use Rattle.barrier_reassign.specs.laws.AcceptedLaws.{accepted-valid}
+use Rattle.barrier_reassign.specs.laws.Recorded.{recorded}
 use Rattle.barrier_reassign.specs.laws.DispatchedLaws.{sent-valid, picked-leaves}
 
 -- ---- an acceptance
 
-abbrev accepted_history : Inside → Request → HistoryState Request
-accepted_history s r = record { items = s.trace.accepted.items ++ r ∷ []; room = s.trace.accepted.room }
-
-abbrev fields_with : Inside → EpochState → HistoryState Request → HistoryState Command → Inside
+abbrev pub fields_with : Inside → EpochState → HistoryState Request → HistoryState Command → Inside
 fields_with s queue accepted sent_out = record { limit = s.limit; queue = queue; trace = record { accepted = accepted; sent_out = sent_out } }
 
-pub accepted_fields : (s : Inside) (r copy : Request) (queue : EpochState) (history : HistoryState Request) → IsSched s → IsAcceptable (seen_of (state_of s)) r → can_accept s.queue ≡ true → queue ≡ epoch.accepted s.queue r → copy ≡ r → history ≡ accepted_history s copy → IsSched (fields_with s queue history s.trace.sent_out)
-accepted_fields s r copy queue history v a can e same h =
-    let fields : IsSched (fields_with s (epoch.accepted s.queue r) (accepted_history s r) s.trace.sent_out) = record {
-      valid = accepted-valid (state_of s) r v.valid a can;
-      accepted = v.accepted;
-      sent_out = v.sent_out;
-    } in
-    let kept : accepted_history s r ≡ history = sym (h ∙ ap (accepted_history s) same) in
-    subst (λ g. IsSched (fields_with s queue g s.trace.sent_out)) kept
-    (subst (λ q. IsSched (fields_with s q (accepted_history s r) s.trace.sent_out)) (sym e) fields)
+pub accepted_fields : (s : Inside) (r : Request) → IsSched s → IsAcceptable (seen_of (state_of s)) r → can_accept s.queue ≡ true → IsSched (fields_with s (epoch.accepted s.queue r) (recorded s.trace.accepted r) s.trace.sent_out)
+accepted_fields s r v a can = record {
+  valid = accepted-valid (state_of s) r v.valid a can;
+  accepted = v.accepted;
+  sent_out = v.sent_out;
+}
 
 -- ---- a dispatch
 

@@ -66,10 +66,7 @@ impl Scheduler for Sched {
     }
 
     fn accept(&mut self, r: Request) -> Result<(), (Request, Held)> {
-        let submitted = r.copy();
-        self.queue.accept(r)?;
-        self.trace.accepted.push(submitted);
-        Ok(())
+        self.queue.accept_recorded(&mut self.trace.accepted, r)
     }
 
     fn eligible(&self) -> u32 {

@@ -15,14 +15,15 @@ use Rattle.order_model.proofs.Next.{sent_few}
 use Rattle.barrier_reassign.specs.Epoch as epoch
 use Rattle.barrier_reassign.specs.Epoch.{EpochState, Waiting, can_accept, may_leave, departed, leaving, leaves_flagged}
 use Rattle.barrier_reassign.specs.Scheduler.{IsAcceptable}
+use Rattle.barrier_reassign.specs.laws.Recorded.{recorded}
 use Rattle.sched_elevator.specs.declared.elevator.Elevator.TheInside.{Inside}
-use Rattle.sched_elevator.specs.Elevator.{ElevatorState, Gathering, opened, picked, gathered, alone, leaving_as, leaving_with, sent_as, head_after, seen_of}
-use Rattle.sched_elevator.specs.laws.Valid.{IsElevator, Leaves, carries_requests, sent_valid}
+use Rattle.sched_elevator.specs.Elevator.{Gathering, opened, picked, gathered, alone, leaving_as, leaving_with, sent_as, head_after, seen_of}
+use Rattle.sched_elevator.specs.laws.Valid.{IsElevator, carries_requests, sent_valid}
 use Rattle.sched_elevator.specs.laws.Scheduler.{opened_valid, accepted_valid, picked_leaves}
 use Rattle.sched_elevator.specs.code.Fields.{state_of, IsInside}
 use Rattle.sched_elevator.specs.code.Found.{IsListedAt}
 
-abbrev fields_with : ℕ → EpochState → ℕ → HistoryState Request → HistoryState Command → Inside
+abbrev pub fields_with : ℕ → EpochState → ℕ → HistoryState Request → HistoryState Command → Inside
 fields_with limit queue head accepted sent_out = record { limit = limit; queue = queue; head = head; trace = record { accepted = accepted; sent_out = sent_out } }
 
 -- ---- made
@@ -41,20 +42,12 @@ made_fields limit capacity queue accepted sent_out q a b =
 
 -- ---- an acceptance
 
-abbrev accepted_history : Inside → Request → HistoryState Request
-accepted_history s r = record { items = s.trace.accepted.items ++ r ∷ []; room = s.trace.accepted.room }
-
-pub accepted_fields : (s : Inside) (r copy : Request) (queue : EpochState) (history : HistoryState Request) → IsInside s → IsAcceptable (seen_of (state_of s)) r → can_accept s.queue ≡ true → queue ≡ epoch.accepted s.queue r → copy ≡ r → history ≡ accepted_history s copy
-    → IsInside (fields_with s.limit queue s.head history s.trace.sent_out)
-accepted_fields s r copy queue history v a can e same h =
-    let fields : IsInside (fields_with s.limit (epoch.accepted s.queue r) s.head (accepted_history s r) s.trace.sent_out) = record {
-      valid = accepted_valid (state_of s) r v.valid a can;
-      accepted = v.accepted;
-      sent_out = v.sent_out;
-    } in
-    let kept : accepted_history s r ≡ history = sym (h ∙ ap (accepted_history s) same) in
-    subst (λ g. IsInside (fields_with s.limit queue s.head g s.trace.sent_out)) kept
-    (subst (λ q. IsInside (fields_with s.limit q s.head (accepted_history s r) s.trace.sent_out)) (sym e) fields)
+pub accepted_fields : (s : Inside) (r : Request) → IsInside s → IsAcceptable (seen_of (state_of s)) r → can_accept s.queue ≡ true → IsInside (fields_with s.limit (epoch.accepted s.queue r) s.head (recorded s.trace.accepted r) s.trace.sent_out)
+accepted_fields s r v a can = record {
+  valid = accepted_valid (state_of s) r v.valid a can;
+  accepted = v.accepted;
+  sent_out = v.sent_out;
+}
 
 -- ---- what leaves together
 

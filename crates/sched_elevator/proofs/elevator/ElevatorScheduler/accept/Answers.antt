@@ -1,13 +1,15 @@
--- The fields behind a request that was accepted.
-use Rattle.std.proofs.Common.{refl, sym, subst}
+-- The fields behind a request that was accepted, or came back.
+use Rattle.std.proofs.Common.{sym, subst}
 use Rattle.barrier_reassign.specs.Scheduler.{IsAcceptable}
+use Rattle.barrier_reassign.specs.laws.Recorded.{accepted_or_back}
 use Rattle.sched_elevator.specs.Elevator.{seen_of}
-use Rattle.sched_elevator.specs.code.Fields.{state_of}
-use Rattle.sched_elevator.proofs.Steps.{accepted_fields}
+use Rattle.sched_elevator.specs.code.Fields.{state_of, IsInside}
+use Rattle.sched_elevator.proofs.Steps.{fields_with, accepted_fields}
 use Rattle.sched_elevator.proofs.elevator.ElevatorScheduler.accept.Goals as goal
 
-pub invariant_of-self-2 : goal.invariant_of-self-2
-invariant_of-self-2 c =
-    let a : IsAcceptable (seen_of (state_of c.self.inside)) c.args.r = subst (λ s. IsAcceptable (seen_of s) c.args.r) (sym c.self.view_is) c.requires in
-    let e = c.in_ok-accept.ensures in
-    accepted_fields c.self.inside c.args.r _ _ _ c.self.invariant a (e.when.0 refl) e.ok c.copy-submitted.ensures c.push.ensures
+pub invariant_of-self : goal.invariant_of-self
+invariant_of-self c =
+    let s = c.self.inside in
+    let a : IsAcceptable (seen_of (state_of s)) c.args.r = subst (λ t. IsAcceptable (seen_of t) c.args.r) (sym c.self.view_is) c.requires in
+    let e = c.accept_recorded.ensures in
+    accepted_or_back (λ queue history. IsInside (fields_with s.limit queue s.head history s.trace.sent_out)) _ _ _ _ c.args.r _ c.self.invariant (accepted_fields s c.args.r c.self.invariant a) e.when e.ok e.recorded e.kept
