@@ -1,3 +1,4 @@
+//! What closes a queue, and why a request comes back.
 /// What keeps a queue from accepting requests.
 #[derive(Clone, Copy, PartialEq, Eq, Debug)]
 pub enum Closing {

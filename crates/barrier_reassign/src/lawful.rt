@@ -1,3 +1,4 @@
+//! What a caller may know of any scheduler.
 ghost use Rattle.std.specs.Prelude.{◌≡◌, ◌<◌, ℕ, true, false, length};
 ghost use Rattle.order_model.specs.Carrying.{Carries};
 

@@ -1,3 +1,4 @@
+//! The queue in which barriers are reassigned.
 ghost use Rattle.std.specs.Prelude.{◌≡◌, ℕ, ◌+◌, ◌^◌, ◌<◌, ◌≤◌, ◌↔◌, ◌==◌, ◌∷◌, ◌++◌, not, length, true, false, IsOk, IsTrue, IfOk, OnOk, IfErr, MatchOption, slice_get, if◌then◌else◌, [], ◌||◌, ◌&&◌};
 ghost use Rattle.std.specs.Option.{option_map, option_copied};
 ghost use Rattle.order_model.specs.Submission.{is_flush};

@@ -1,3 +1,4 @@
+//! The trait of schedulers, with its law.
 ghost use Rattle.std.specs.Prelude.{◌≡◌, ◌↔◌, true, IsOk, OnOk, IfErr, if◌then◌else◌};
 ghost use Rattle.barrier_reassign.specs.Scheduler.{SchedSteps, IsAcceptable, IsScheduler, IsSchedRecord};
 

@@ -1,3 +1,4 @@
+//! The queue of commands, each in a slot of its own.
 ghost use Rattle.std.specs.Prelude.{◌≡◌, ℕ, ◌+◌, ◌^◌, ◌<◌, ◌≤◌, ◌==◌, ◌↔◌, List, [], length, All, IsOk, IsTrue, IfOk, OnOk, IfErr, MatchOption, slice_get, vec_len};
 ghost use Rattle.std.specs.Option.{option_map, option_copied};
 ghost use Rattle.std.specs.Vec.{vec_capacity};

@@ -1,3 +1,4 @@
+//! The plain scheduler.
 ghost use Rattle.std.specs.Prelude.{◌≡◌, IfOk};
 ghost use Rattle.barrier_reassign.specs.Sched.{SchedState, opened, sched_steps};
 ghost use Rattle.barrier_reassign.specs.laws.Valid.{IsValid};

@@ -1,3 +1,4 @@
+//! Tests: requests that go in, and the commands that come out.
 ghost use Rattle.std.specs.Prelude.{◌≡◌, true, length};
 ghost use Rattle.order_model.specs.Submission.{is_flush};
 ghost use Rattle.order_model.specs.Carrying.{AreAtIds};

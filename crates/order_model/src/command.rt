@@ -1,3 +1,4 @@
+//! Commands: what a scheduler sends to a device.
 ghost use Rattle.std.specs.Prelude.{◌≡◌};
 ghost use Rattle.order_model.specs.Single.{command_of_request};
 

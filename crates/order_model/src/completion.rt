@@ -1,3 +1,4 @@
+//! Completions: what a device tells of its commands.
 /// What a device tells of a command that it has done, by the request's id.
 #[derive(Clone, Copy, PartialEq, Eq, Debug)]
 pub enum Completion {

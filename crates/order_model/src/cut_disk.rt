@@ -1,3 +1,4 @@
+//! What a power cut leaves, and what the device did.
 ghost use Rattle.std.specs.Prelude.{◌≡◌, ◌==◌, List, length, slice_get, Some};
 ghost use Rattle.std.specs.Option.{option_copied};
 

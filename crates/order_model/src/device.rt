@@ -1,3 +1,4 @@
+//! The trait of ordered devices, with its laws.
 ghost use Rattle.std.specs.Prelude.{◌≡◌, ℕ, ◌<◌, ◌≤◌, ◌++◌, not, Bool, true, false, List, [], ◌∷◌, length, Option, Some, None, IsTrue, ◌↔◌, IfOk, IfErr, OnOk, OnErr, is_ok, slice_get};
 ghost use Rattle.blk_base.specs.Streams.{Rose};
 ghost use Rattle.order_model.specs.declared.command.Command.{Command};

@@ -1,3 +1,4 @@
+//! The two ends of a queue, as traits.
 ghost use Rattle.std.specs.Prelude.{◌≡◌, List, [], ◌∷◌, ◌++◌, OnOk, IfErr, OnErr, IfSome, IfNone};
 
 /// The end of a queue at which items are put.

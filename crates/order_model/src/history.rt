@@ -1,3 +1,4 @@
+//! Lists that only grow, of what was taken, transferred, completed and accepted.
 ghost use Rattle.std.specs.Prelude.{◌≡◌, ℕ, ◌+◌, ◌≤◌, ◌<◌, List, [], ◌∷◌, ◌++◌, length, IfOk, slice_get, Some, vec_capacity, vec_len, ◌==◌};
 ghost use Rattle.order_model.specs.Received.{all_parts, first_part};
 

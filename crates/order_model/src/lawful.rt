@@ -1,3 +1,4 @@
+//! What a caller may know of any ordered device.
 ghost use Rattle.std.specs.Prelude.{◌≡◌, ℕ, ◌<◌, true, false, None, length};
 ghost use Rattle.order_model.specs.declared.command.Command.{Command};
 ghost use Rattle.order_model.specs.Device.{IsSurface, KeepsEpochOrder, KeepsFlush, Completes, TellsCut, TellsFailure, Grows};

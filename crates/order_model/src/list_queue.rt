@@ -1,3 +1,4 @@
+//! A queue of fixed capacity, for one thread.
 ghost use Rattle.std.specs.Prelude.{◌≡◌, ℕ, List, [], ◌∷◌, ◌++◌, ◌≤◌, ◌<◌, ◌↔◌, not, nat_lt, length, IfOk, OnOk, IfErr, IfSome, IfNone, IsOk};
 
 use crate::{Inlet, Outlet, Trail};

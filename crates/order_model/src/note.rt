@@ -1,3 +1,4 @@
+//! Notes on requests.
 /// What a submitted request carries.
 #[derive(Clone, Copy, PartialEq, Eq, Debug)]
 pub enum Note {

@@ -1,3 +1,4 @@
+//! The law from the commands that carry requests to the medium.
 ghost use Rattle.std.specs.Prelude.{◌≡◌, List, map};
 ghost use Rattle.order_model.specs.declared.request.Request.{Request};
 ghost use Rattle.order_model.specs.Submission.{IsOrderClosed, KeepsFlushed};

@@ -1,3 +1,4 @@
+//! The parts of a command.
 ghost use Rattle.std.specs.Prelude.{◌≡◌, ◌<◌, ◌≤◌, ◌+◌, ◌↔◌, List, [], ◌∷◌, ◌++◌, length, Some, IsOk, OnOk, IfErr, slice_get, ◌==◌};
 ghost use Rattle.std.specs.Option.{option_copied};
 ghost use Rattle.order_model.specs.Parts.{Follows, block_follows};

@@ -1,3 +1,4 @@
+//! Requests: what a host submits.
 ghost use Rattle.std.specs.Prelude.{◌≡◌};
 
 use blk_base::Block;

@@ -1,3 +1,4 @@
+//! Tests: parts, commands, lists and queues of a few items.
 ghost use Rattle.std.specs.Prelude.{◌≡◌};
 
 use super::*;

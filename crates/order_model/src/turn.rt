@@ -1,3 +1,4 @@
+//! What one step of a thread tells.
 /// What a step of a thread of the host did.
 #[derive(Clone, Copy, PartialEq, Eq, Debug)]
 pub enum Turn {

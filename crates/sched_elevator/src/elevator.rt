@@ -1,3 +1,4 @@
+//! The elevator.
 ghost use Rattle.std.specs.Prelude.{◌≡◌, ℕ, ◌<◌, ◌↔◌, List, length, Some, slice_get, IfOk};
 ghost use Rattle.blk_base.specs.Members.{In};
 ghost use Rattle.barrier_reassign.specs.Epoch.{Waiting, eligible};
