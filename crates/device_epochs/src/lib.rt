@@ -1,7 +1,8 @@
 //! The model device: a queue of commands, a volatile cache of epochs, and a medium.
 //!
 //! Stands on `command_queue`. `EpochDevice` implements `OrderedDev`; `specs/Device.antt` has its state
-//! as one plain value with the step of each call, and `specs/Valid.antt` the facts that each step keeps.
+//! as one plain value with the step of each call, and `specs/laws/Valid.antt` the facts that each step
+//! keeps. `cache.rt` has the cache, and `specs/code/Newest.antt` what its index says.
 #![tactic(auto)]
 
 mod cache;
