@@ -27,3 +27,5 @@ pub mod WalkLaws
 pub mod WalkTests
 pub mod ZoneTests
 pub mod ZonesLaws
+pub mod Answered
+pub mod WalkKeeps

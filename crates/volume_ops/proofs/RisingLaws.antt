@@ -1,22 +1,17 @@
 -- The walk finds the mapped blocks of each file in order.
-use Rattle.std.proofs.Common.{◌≡◌, ℕ, zero, suc, ◌+◌, ◌*◌, ◌/◌, ◌==◌, ◌≤◌, Bool, true, false, if◌then◌else◌, List, [], ◌∷◌, ◌++◌, length, take, slice_index, Result, Ok, Err, IfOk, sym, subst, arith}
+use Rattle.std.proofs.Common.{◌≡◌, ℕ, suc, ◌+◌, ◌*◌, ◌/◌, ◌==◌, ◌≤◌, Bool, List, [], ◌∷◌, ◌++◌, length, take, slice_index, Result, Ok, Err, IfOk, subst, arith}
 use Rattle.std.specs.Prelude.{All}
 use Rattle.std.proofs.lemmas.List.{length-take}
-use Rattle.std.proofs.lemmas.List.Elements.{All-nil, All-push}
 use Rattle.minix_layout.specs.declared.division.Geometry.{Geometry}
-use Rattle.minix_layout.specs.declared.inode.Inode.{Inode}
 use Rattle.volume_ops.specs.declared.found.Mapped.{Mapped}
-use Rattle.volume_ops.specs.declared.found.Found.{Found}
-use Rattle.volume_ops.specs.declared.found.Found.TheVariants as found
 use Rattle.volume_ops.specs.declared.found.FoundNode.{FoundNode}
-use Rattle.volume_ops.specs.Reads.{Reads, Ret, Read, answer, if_ok, go_on}
-use Rattle.volume_ops.specs.laws.ReadsLaws.{answer-and_then}
-use Rattle.minix_layout.specs.declared.fault.LayoutFault.TheVariants.{BadInode}
-use Rattle.volume_ops.specs.Places.{zone_numbers, table_block, inode_in_block, is_directory, is_file, birth_of}
-use Rattle.volume_ops.specs.Marks.{is_marked}
+use Rattle.volume_ops.specs.Reads.{Reads, Ret, Read, answer, if_ok}
+use Rattle.volume_ops.proofs.Answered.{ok_then, answered_then, either_ok, either_answers, any_ok, ok_weaker}
+use Rattle.volume_ops.proofs.WalkKeeps.{walked_has}
+use Rattle.volume_ops.specs.Places.{zone_numbers, table_block, inode_in_block}
 use Rattle.volume_ops.specs.Zones.{Fault, ZoneScan, take_zone, take_block, take_blocks, take_numbers, take_indirect, take_indirects, take_double, scan_zones}
 use Rattle.volume_ops.specs.Slots.{scan_slots}
-use Rattle.volume_ops.specs.Walk.{WalkState, Walked, found_in, Pending, Visit, is_bad_inode, visit_file, visit_directory, visit, walk_through, walk, at_start, root, walk_volume}
+use Rattle.volume_ops.specs.Walk.{Walked, walk}
 use Rattle.volume_ops.specs.Volume.{disk_of, walked}
 use Rattle.volume_ops.proofs.ZonesLaws.{length-zone_numbers}
 use Rattle.volume_ops.specs.laws.Rising.{RiseWithin, IsRising, HasRising}
@@ -30,40 +25,6 @@ rise_higher low (m ∷ ms) high more h r = (r.0, rise_higher (m.index + 1) ms hi
 pub rise_push : (low : ℕ) (ms : List Mapped) (high : ℕ) (m : Mapped) → high ≤ m.index → RiseWithin low ms high → RiseWithin low (ms ++ m ∷ []) (m.index + 1)
 rise_push low [] high m h r = (omega arith, omega arith)
 rise_push low (x ∷ xs) high m h r = (r.0, rise_push (x.index + 1) xs high m h r.1)
-
--- ---- what holds of the answers of programs
-
-ok_then : {A B E : Type 0} (r : Result A E) (f : A → Result B E) (Q : A → Type 0) (P : B → Type 0) → IfOk r Q → ((a : A) → Q a → IfOk (f a) P)
-    → IfOk (elim r as (λ _. Result B E) [ Err e ↦ Err e | Ok a ↦ f a ]) P
-ok_then (Ok a) f Q P h k = k a h
-ok_then (Err e) f Q P h k = tt
-
-going_on : {A B E : Type 0} (disk : ℕ → List ℕ) (r : Result A E) (next : A → Reads (Result B E)) (Q : A → Type 0) (P : B → Type 0)
-    → IfOk r Q → ((a : A) → Q a → IfOk (answer disk (next a)) P) → IfOk (answer disk (go_on next r)) P
-going_on disk (Ok a) next Q P h k = k a h
-going_on disk (Err e) next Q P h k = tt
-
-pub answered_then : {A B E : Type 0} (disk : ℕ → List ℕ) (p : Reads (Result A E)) (next : A → Reads (Result B E)) (Q : A → Type 0) (P : B → Type 0)
-    → IfOk (answer disk p) Q → ((a : A) → Q a → IfOk (answer disk (next a)) P) → IfOk (answer disk (if_ok p next)) P
-answered_then disk p next Q P h k =
-    subst (λ r. IfOk r P) (sym (answer-and_then disk p (go_on next))) (going_on disk (answer disk p) next Q P h k)
-
-pub either_ok : {A E : Type 0} (b : Bool) (r s : Result A E) (P : A → Type 0) → IfOk r P → IfOk s P → IfOk (if b then r else s) P
-either_ok true r s P h k = h
-either_ok false r s P h k = k
-
-pub either_answers : {A E : Type 0} (disk : ℕ → List ℕ) (b : Bool) (p q : Reads (Result A E)) (P : A → Type 0)
-    → IfOk (answer disk p) P → IfOk (answer disk q) P → IfOk (answer disk (if b then p else q)) P
-either_answers disk true p q P h k = h
-either_answers disk false p q P h k = k
-
-pub any_ok : {A E : Type 0} (r : Result A E) → IfOk r (λ _. Unit {0})
-any_ok (Ok a) = tt
-any_ok (Err e) = tt
-
-ok_weaker : {A E : Type 0} (r : Result A E) (Q P : A → Type 0) → IfOk r Q → ((a : A) → Q a → P a) → IfOk r P
-ok_weaker (Ok a) Q P h k = k a h
-ok_weaker (Err e) Q P h k = tt
 
 -- ---- the zones of one inode
 
@@ -147,59 +108,10 @@ scan_rises disk g holder zones met =
 abbrev pub AllRise : List FoundNode → Type 0
 AllRise nodes = All (λ n. HasRising n.found) nodes
 
-node_met : (nodes : List FoundNode) (birth : ℕ) (f : Found) → AllRise nodes → HasRising f → AllRise (nodes ++ record { birth = birth; found = f } ∷ [])
-node_met nodes birth f h r = All-push (λ (n : FoundNode). HasRising n.found) nodes (record { birth = birth; found = f }) h r
-
-abbrev FoundRise : Walked → Type 0
-FoundRise w = AllRise w.nodes
-
-abbrev VisitRises : Visit → Type 0
-VisitRises v = AllRise v.state.nodes
-
-directory_rises : (disk : ℕ → List ℕ) (g : Geometry) (w : WalkState) (e : Pending) (i : Inode) → AllRise w.nodes
-    → IfOk (answer disk (if_ok (scan_zones g (table_block g e.inode) i.zones w.zones)
-    (λ z. if_ok (scan_slots g (i.size / 16) z.mapped (record { named = w.named; names = [] })) (λ s. Ret (visit_directory w e i z s))))) VisitRises
-directory_rises disk g w e i h =
-    answered_then disk (scan_zones g (table_block g e.inode) i.zones w.zones)
-    (λ z. if_ok (scan_slots g (i.size / 16) z.mapped (record { named = w.named; names = [] })) (λ s. Ret (visit_directory w e i z s)))
-    (λ z. IsRising z.mapped) VisitRises (scan_rises disk g (table_block g e.inode) i.zones w.zones)
-    (λ z _. answered_then disk (scan_slots g (i.size / 16) z.mapped (record { named = w.named; names = [] })) (λ s. Ret (visit_directory w e i z s)) (λ _. Unit {0}) VisitRises
-    (any_ok (answer disk (scan_slots g (i.size / 16) z.mapped (record { named = w.named; names = [] }))))
-    (λ s _. node_met w.nodes (birth_of e.inode) (found.Directory (record { parent = e.parent; slots = i.size / 16; names = s.names })) h tt))
-
-file_rises : (disk : ℕ → List ℕ) (g : Geometry) (w : WalkState) (e : Pending) (i : Inode) → AllRise w.nodes
-    → IfOk (answer disk (if_ok (scan_zones g (table_block g e.inode) i.zones w.zones) (λ z. Ret (visit_file w e.inode i z)))) VisitRises
-file_rises disk g w e i h =
-    answered_then disk (scan_zones g (table_block g e.inode) i.zones w.zones) (λ z. Ret (visit_file w e.inode i z))
-    (λ z. IsRising z.mapped) VisitRises (scan_rises disk g (table_block g e.inode) i.zones w.zones)
-    (λ z r. node_met w.nodes (birth_of e.inode) (found.File (record { size = i.size; links = i.links; zones = z.mapped })) h r)
-
-visit_rises : (disk : ℕ → List ℕ) (g : Geometry) (w : WalkState) (e : Pending) → AllRise w.nodes → IfOk (answer disk (visit g w e)) VisitRises
-unfolding visit
-visit_rises disk g w e h =
-    let i : Inode = inode_in_block e.inode (disk (table_block g e.inode)) in
-    either_answers disk (is_bad_inode e.inode i) (Ret (Err (BadInode, table_block g e.inode))) _ VisitRises tt
-    (either_answers disk (is_directory i.mode) _ _ VisitRises (directory_rises disk g w e i h)
-    (either_answers disk (is_file i.mode) _ _ VisitRises (file_rises disk g w e i h)
-    (node_met w.nodes (birth_of e.inode) (found.Other i.mode) h tt)))
-
--- so do those that are found in all, where this holds of how the walk goes on
-through_rises : (disk : ℕ → List ℕ) (g : Geometry) (again : WalkState → List Pending → Reads (Result Walked Fault))
-    → ((w : WalkState) (rest : List Pending) → AllRise w.nodes → IfOk (answer disk (again w rest)) FoundRise)
-    → (w : WalkState) (rest : List Pending) → AllRise w.nodes → IfOk (answer disk (walk_through g again w rest)) FoundRise
-through_rises disk g again more w [] h = h
-through_rises disk g again more w (e ∷ rest) h =
-    either_answers disk (is_marked w.inodes e.inode) (walk_through g again w rest) _ FoundRise
-    (through_rises disk g again more w rest h)
-    (answered_then disk (visit g w e) (λ v. again v.state (v.names ++ rest)) VisitRises FoundRise (visit_rises disk g w e h) (λ v r. more v.state (v.names ++ rest) r))
-
-walk_rises : (disk : ℕ → List ℕ) (n : ℕ) (g : Geometry) (w : WalkState) (rest : List Pending) → AllRise w.nodes → IfOk (answer disk (walk n g w rest)) FoundRise
-walk_rises disk zero g w rest h = through_rises disk g (λ w rest. Ret (Ok (found_in w))) (λ w rest r. r) w rest h
-walk_rises disk (suc n) g w rest h = through_rises disk g (walk n g) (walk_rises disk n g) w rest h
-
 -- each file that the walk finds has blocks that rise
 pub walked_rises : (g : Geometry) (blocks : List (List ℕ)) (w : Walked) → walked g blocks ≡ Ok w → AllRise w.nodes
-unfolding walked walk_volume
 walked_rises g blocks w e =
-    let r = walk_rises (disk_of blocks) g.inodes g (at_start g) (root ∷ []) (All-nil (λ (n : FoundNode). HasRising n.found)) in
-    subst (λ x. IfOk x FoundRise) e r
+    walked_has g blocks (λ n. HasRising n.found) (λ number z. IsRising z.mapped) (λ s. Unit {0})
+    (λ w e. scan_rises (disk_of blocks) g (table_block g e.inode) (inode_in_block e.inode (disk_of blocks (table_block g e.inode))).zones w.zones)
+    (λ w e z. any_ok (answer (disk_of blocks) (scan_slots g ((inode_in_block e.inode (disk_of blocks (table_block g e.inode))).size / 16) z.mapped (record { named = w.named; names = [] }))))
+    (λ e z rises. rises) (λ e s k. tt) (λ e. tt) w e

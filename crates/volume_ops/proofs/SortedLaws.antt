@@ -1,18 +1,15 @@
 -- The walk finds the names of each directory in order, and a tree has its nodes in order.
-use Rattle.std.specs.Prelude.{◌≡◌, ℕ, zero, suc, ◌/◌, Bool, true, false, ◌-◌, ◌*◌, min, nat_lt, List, [], ◌∷◌, ◌++◌, Option, Some, None, Result, Ok, Err, IfOk, All, refl}
-use Rattle.std.proofs.Common.{subst}
+use Rattle.std.specs.Prelude.{◌≡◌, ℕ, ◌/◌, Bool, true, false, ◌-◌, ◌*◌, min, nat_lt, List, [], ◌∷◌, Option, Some, None, Result, Ok, Err, IfOk}
 use Rattle.std.specs.List.{range_with_len}
 use Rattle.std.specs.List.Sorted.{IsStrictlySortedBy}
 use Rattle.std.specs.Map.{keys_of}
 use Rattle.std.proofs.lemmas.Cmp.{nat_list_cmp_total}
-use Rattle.std.proofs.lemmas.List.Elements.{All-nil, All-push}
 use Rattle.byte_fields.specs.Fields.{record_at}
 use Rattle.blk_base.specs.Members.{In, All-In}
 use Rattle.minix_layout.specs.declared.division.Geometry.{Geometry}
-use Rattle.minix_layout.specs.declared.inode.Inode.{Inode}
 use Rattle.minix_layout.specs.declared.slot.Slot.{Slot}
 use Rattle.minix_layout.specs.declared.fault.LayoutFault.{LayoutFault}
-use Rattle.minix_layout.specs.declared.fault.LayoutFault.TheVariants.{BadInode, BadSlot}
+use Rattle.minix_layout.specs.declared.fault.LayoutFault.TheVariants.{BadSlot}
 use Rattle.minix_layout.specs.Slots.{slot_of}
 use Rattle.tree_model.specs.declared.node.Node.{Node}
 use Rattle.tree_model.specs.Maps.{put_number, name_cmp}
@@ -22,13 +19,14 @@ use Rattle.volume_ops.specs.declared.found.Mapped.{Mapped}
 use Rattle.volume_ops.specs.declared.found.Found.{Found}
 use Rattle.volume_ops.specs.declared.found.Found.TheVariants as found
 use Rattle.volume_ops.specs.declared.found.FoundNode.{FoundNode}
-use Rattle.volume_ops.specs.Reads.{Reads, Ret, answer, if_ok}
-use Rattle.volume_ops.proofs.RisingLaws.{answered_then, either_answers, either_ok, any_ok}
-use Rattle.volume_ops.specs.Places.{table_block, inode_in_block, is_directory, is_file, birth_of}
+use Rattle.volume_ops.specs.Reads.{Reads, Ret, answer}
+use Rattle.volume_ops.proofs.Answered.{answered_then, either_answers, either_ok, any_ok}
+use Rattle.volume_ops.proofs.WalkKeeps.{walked_has}
+use Rattle.volume_ops.specs.Places.{table_block, inode_in_block, is_directory, birth_of}
 use Rattle.volume_ops.specs.Marks.{is_marked}
 use Rattle.volume_ops.specs.Zones.{Fault, scan_zones}
 use Rattle.volume_ops.specs.Slots.{SlotScan, is_bad_entry, note_name, scan_entry, scan_used, scan_slot, scan_places, scan_block, scan_slots}
-use Rattle.volume_ops.specs.Walk.{WalkState, Walked, found_in, Pending, Visit, is_bad_inode, visit_file, visit_directory, visit, walk_through, walk, at_start, root, walk_volume}
+use Rattle.volume_ops.specs.Walk.{Walked, walk}
 use Rattle.volume_ops.specs.Volume.{disk_of, walked, node_of, put_nodes}
 
 -- ---- the names of a directory
@@ -83,65 +81,14 @@ abbrev pub HasSorted : Found → Type 0
 HasSorted (found.Directory d) = AreSorted d.names
 HasSorted other = Unit {0}
 
-abbrev AllSorted : List FoundNode → Type 0
-AllSorted nodes = All (λ n. HasSorted n.found) nodes
-
-node_met : (nodes : List FoundNode) (birth : ℕ) (f : Found) → AllSorted nodes → HasSorted f → AllSorted (nodes ++ record { birth = birth; found = f } ∷ [])
-node_met nodes birth f h r = All-push (λ (n : FoundNode). HasSorted n.found) nodes (record { birth = birth; found = f }) h r
-
-abbrev FoundSorted : Walked → Type 0
-FoundSorted w = AllSorted w.nodes
-
-abbrev VisitSorted : Visit → Type 0
-VisitSorted v = AllSorted v.state.nodes
-
-module _ (disk : ℕ → List ℕ) (g : Geometry) where
-  directory_sorted : (w : WalkState) (e : Pending) (i : Inode) → AllSorted w.nodes →
-      IfOk (answer disk (if_ok (scan_zones g (table_block g e.inode) i.zones w.zones)
-      (λ z. if_ok (scan_slots g (i.size / 16) z.mapped (record { named = w.named; names = [] })) (λ s. Ret (visit_directory w e i z s))))) VisitSorted
-  directory_sorted w e i h =
-      answered_then disk (scan_zones g (table_block g e.inode) i.zones w.zones)
-      (λ z. if_ok (scan_slots g (i.size / 16) z.mapped (record { named = w.named; names = [] })) (λ s. Ret (visit_directory w e i z s)))
-      (λ _. Unit {0}) VisitSorted (any_ok (answer disk (scan_zones g (table_block g e.inode) i.zones w.zones)))
-      (λ z _. answered_then disk (scan_slots g (i.size / 16) z.mapped (record { named = w.named; names = [] })) (λ s. Ret (visit_directory w e i z s)) NamesSorted VisitSorted
-      (slots_sorted disk g (i.size / 16) z.mapped (record { named = w.named; names = [] }) none_sorted)
-      (λ s k. node_met w.nodes (birth_of e.inode) (found.Directory (record { parent = e.parent; slots = i.size / 16; names = s.names })) h k))
-
-  file_sorted : (w : WalkState) (e : Pending) (i : Inode) → AllSorted w.nodes →
-      IfOk (answer disk (if_ok (scan_zones g (table_block g e.inode) i.zones w.zones) (λ z. Ret (visit_file w e.inode i z)))) VisitSorted
-  file_sorted w e i h =
-      answered_then disk (scan_zones g (table_block g e.inode) i.zones w.zones) (λ z. Ret (visit_file w e.inode i z)) (λ _. Unit {0}) VisitSorted
-      (any_ok (answer disk (scan_zones g (table_block g e.inode) i.zones w.zones)))
-      (λ z _. node_met w.nodes (birth_of e.inode) (found.File (record { size = i.size; links = i.links; zones = z.mapped })) h tt)
-
-  visit_sorted : (w : WalkState) (e : Pending) → AllSorted w.nodes → IfOk (answer disk (visit g w e)) VisitSorted
-  unfolding visit
-  visit_sorted w e h =
-      let i : Inode = inode_in_block e.inode (disk (table_block g e.inode)) in
-      either_answers disk (is_bad_inode e.inode i) (Ret (Err (BadInode, table_block g e.inode))) _ VisitSorted tt
-      (either_answers disk (is_directory i.mode) _ _ VisitSorted (directory_sorted w e i h)
-      (either_answers disk (is_file i.mode) _ _ VisitSorted (file_sorted w e i h)
-      (node_met w.nodes (birth_of e.inode) (found.Other i.mode) h tt)))
-
-  through_sorted : (again : WalkState → List Pending → Reads (Result Walked Fault)) →
-      ((w : WalkState) (rest : List Pending) → AllSorted w.nodes → IfOk (answer disk (again w rest)) FoundSorted) →
-      (w : WalkState) (rest : List Pending) → AllSorted w.nodes → IfOk (answer disk (walk_through g again w rest)) FoundSorted
-  through_sorted again more w [] h = h
-  through_sorted again more w (e ∷ rest) h =
-      either_answers disk (is_marked w.inodes e.inode) (walk_through g again w rest) _ FoundSorted
-      (through_sorted again more w rest h)
-      (answered_then disk (visit g w e) (λ v. again v.state (v.names ++ rest)) VisitSorted FoundSorted (visit_sorted w e h) (λ v r. more v.state (v.names ++ rest) r))
-
-  walk_sorted : (n : ℕ) (w : WalkState) (rest : List Pending) → AllSorted w.nodes → IfOk (answer disk (walk n g w rest)) FoundSorted
-  walk_sorted zero w rest h = through_sorted (λ w rest. Ret (Ok (found_in w))) (λ w rest r. r) w rest h
-  walk_sorted (suc n) w rest h = through_sorted (walk n g) (walk_sorted n) w rest h
-
 -- each directory that the walk finds has its names in order
 pub walked_sorted : (g : Geometry) (blocks : List (List ℕ)) (w : Walked) → walked g blocks ≡ Ok w → (n : FoundNode) → In n w.nodes → HasSorted n.found
-unfolding walked walk_volume
 walked_sorted g blocks w e n i =
-    let r = walk_sorted (disk_of blocks) g g.inodes (at_start g) (root ∷ []) (All-nil (λ (n : FoundNode). HasSorted n.found)) in
-    All-In (λ (n : FoundNode). HasSorted n.found) w.nodes n (subst (λ x. IfOk x FoundSorted) e r) i
+    let all = walked_has g blocks (λ n. HasSorted n.found) (λ number z. Unit {0}) NamesSorted
+    (λ w e. any_ok (answer (disk_of blocks) (scan_zones g (table_block g e.inode) (inode_in_block e.inode (disk_of blocks (table_block g e.inode))).zones w.zones)))
+    (λ w e z. slots_sorted (disk_of blocks) g ((inode_in_block e.inode (disk_of blocks (table_block g e.inode))).size / 16) z.mapped (record { named = w.named; names = [] }) none_sorted)
+    (λ e z k. tt) (λ e s sorted. sorted) (λ e. tt) w e in
+    All-In (λ (n : FoundNode). HasSorted n.found) w.nodes n all i
 
 -- ---- the tree
 
