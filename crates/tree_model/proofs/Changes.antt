@@ -15,7 +15,7 @@ use Rattle.tree_model.specs.declared.node.File.{File}
 use Rattle.tree_model.specs.Maps.{put_number, without_number}
 use Rattle.tree_model.specs.Paths.{path_of}
 use Rattle.tree_model.specs.Trees.{is_directory, directory_links}
-use Rattle.tree_model.specs.Calls.{Tree, Done, Found, Place, Move, names_in, is_root, walk, walk_path, a_directory, a_file, parent_of, above, is_named, most_links, is_full, give_name, take_name, put_file, with_links, lose_link, new_directory, new_file, mkdir, create, rmdir, unlink, link, target_at, moves_directory, meets_directory, meets_file, stays, changes_parent, place_after, tree_moved, rename, largest_size, written_file, write, cut_file, truncate, leaves_tree, bytes_from, read, list, stat_of, stat, barrier, row, if_room, outcome}
+use Rattle.tree_model.specs.Calls.{Tree, Done, Found, Place, Move, and_then, refuse_if, leaves, names_in, is_root, walk, walk_path, a_directory, a_file, parent_of, above, is_named, most_links, is_full, give_name, take_name, put_file, with_links, lose_link, new_directory, new_file, mkdir, create, rmdir, unlink, link, target_at, moves_directory, meets_directory, meets_file, stays, changes_parent, place_after, tree_moved, rename, largest_size, written_file, write, cut_file, truncate, leaves_tree, bytes_from, read, list, stat_of, stat, barrier, row, if_room, outcome}
 use Rattle.tree_model.proofs.Rows.{ok_ok, then_ok, refuse_ok, some_ok, directory_ok, file_ok, IsFound, walk_ok, walk_path_ok, IsPlace, parent_ok}
 
 -- a path's text and its names
@@ -283,11 +283,12 @@ rename_change tree n path other d h =
       reply_is = reply_by _ false replies.Ok d (ok_ok _ d o.1);
     })
 
-write_change : (tree : Tree) (path : List ℕ) (off : ℕ) (bytes : List ℕ) (d : Done) → write tree path off bytes ≡ Ok d → IsPut tree path (λ f. written_file f off bytes) d
-write_change tree path off bytes d h =
+put_change : (tree : Tree) (path : List ℕ) (too_big : Bool) (change : File → File) (d : Done) →
+    and_then (walk_path tree path) (λ found. and_then (a_file found.node) (λ f. refuse_if too_big replies.TooBig (leaves (put_file tree found.birth (change f))))) ≡ Ok d → IsPut tree path change d
+put_change tree path too_big change d h =
     let a = then_ok (walk_path tree path) _ d h in
     let b = then_ok (a_file a.0.node) _ d a.2 in
-    let c = refuse_ok (nat_lt largest_size (off + length bytes)) replies.TooBig _ d b.2 in
+    let c = refuse_ok too_big replies.TooBig _ d b.2 in
     let w = walk_path_ok tree path a.0 a.1 in
     record {
       names = w.0;
@@ -300,22 +301,11 @@ write_change tree path off bytes d h =
       reply_is = reply_by _ false replies.Ok d (ok_ok _ d c.1);
     }
 
+write_change : (tree : Tree) (path : List ℕ) (off : ℕ) (bytes : List ℕ) (d : Done) → write tree path off bytes ≡ Ok d → IsPut tree path (λ f. written_file f off bytes) d
+write_change tree path off bytes d h = put_change tree path (nat_lt largest_size (off + length bytes)) (λ f. written_file f off bytes) d h
+
 truncate_change : (tree : Tree) (path : List ℕ) (size : ℕ) (d : Done) → truncate tree path size ≡ Ok d → IsPut tree path (λ f. cut_file f size) d
-truncate_change tree path size d h =
-    let a = then_ok (walk_path tree path) _ d h in
-    let b = then_ok (a_file a.0.node) _ d a.2 in
-    let c = refuse_ok (nat_lt largest_size size) replies.TooBig _ d b.2 in
-    let w = walk_path_ok tree path a.0 a.1 in
-    record {
-      names = w.0;
-      found = a.0;
-      file = b.0;
-      walked = a.1;
-      is_found = w.2;
-      node_is = file_ok a.0.node b.0 b.1;
-      tree_is = tree_by _ false replies.Ok d (ok_ok _ d c.1);
-      reply_is = reply_by _ false replies.Ok d (ok_ok _ d c.1);
-    }
+truncate_change tree path size d h = put_change tree path (nat_lt largest_size size) (λ f. cut_file f size) d h
 
 read_stays : (tree : Tree) (path : List ℕ) (off len : ℕ) (d : Done) → read tree path off len ≡ Ok d → d.tree ≡ tree
 read_stays tree path off len d h =
