@@ -1,4 +1,4 @@
-//! Blocks of zone numbers, as a file map reads them.
+//! Blocks of zone numbers, as a trait.
 ghost use Rattle.std.specs.Prelude.{◌≡◌, ℕ, ◌<◌};
 
 /// The blocks of zone numbers of a volume: each zone seen as 512 numbers.

@@ -1,4 +1,4 @@
-//! Laws of the file map.
+//! The law of the map of a file, which does nothing when it is called.
 ghost use Rattle.std.specs.Prelude.{◌≡◌, ◌≢◌, ℕ, ◌+◌, ◌*◌, ◌<◌, ◌≤◌, List, slice_index};
 ghost use Rattle.inode_ops.specs.Map.{zone_at};
 

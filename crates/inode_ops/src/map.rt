@@ -1,4 +1,4 @@
-//! The file map: from a block of a file to its zone.
+//! The map of a file: the zone of each of its blocks.
 ghost use Rattle.std.specs.Prelude.{◌≡◌, ◌<◌};
 ghost use Rattle.inode_ops.specs.Map.{zone_at, entry_behind};
 

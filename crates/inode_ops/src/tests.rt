@@ -1,7 +1,8 @@
-//! The file map at each of its levels.
+//! Tests of the map of a file and of blocks of zone numbers.
 ghost use Rattle.std.specs.Prelude.{◌≡◌, [], length, get_or};
 
 use super::*;
+use byte_fields::u16_at_le;
 use minix_layout::{Inode, Zones};
 use std::alloc::{AllocError, Global};
 use std::test::Fail;
@@ -97,4 +98,16 @@ fn finds_zones_and_holes(rt: HostRuntime) -> Result<(), Fail> {
     }
     map_is_by_levels();
     Ok(())
+}
+
+#[test]
+fn numbers_stand_lowest_byte_first(rt: HostRuntime) {
+    let mut entries = [0; 512];
+    entries[1] = 0x0201;
+    entries[511] = 0xffff;
+    let block = encode_zone_block(&entries);
+    let bytes = block.as_slice();
+    assert_eq!(rt; bytes.get(..5), Some([0, 0, 1, 2, 0].as_slice()));
+    assert_eq!(rt; bytes.get(1021..), Some([0, 255, 255].as_slice()));
+    assert_eq!(rt; u16_at_le(bytes, 2), 0x0201);
 }
