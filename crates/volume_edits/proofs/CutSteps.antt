@@ -93,9 +93,9 @@ module _ (g : Geometry) (keeps : Place → Bool) (s : OpenInode) where
   cut_twice_by from left mid after group twice outer holder end l low high a b z h d e f =
       ap (λ (zs : List ℕ). record { blocks = after; inode = with_zones s.inode zs }) l
       ∙ cut_twice from mid after low high
-        (e ∙ (ap (λ c. clear_step g s.blocks c holder ((from - 519) % 512)) a ∙ ap (λ y. clear_step g s.blocks (keeps (inner ((from - 519) / 512))) y ((from - 519) % 512)) (h ∙ ap (λ y. entry_behind (entry_of s.blocks) y ((from - 519) / 512)) z)))
-        (f ∙ (ap (λ c. clear_step g mid c outer end) b ∙ (ap (λ y. clear_step g mid (keeps double) y end) z
-        ∙ ap (clear_step g mid (keeps double) (slice_index s.inode.zones 8)) (d ∙ ap (λ (c : Bool). if c then suc ((from - 519) / 512) else (from - 519) / 512) a))))
+      (e ∙ (ap (λ c. clear_step g s.blocks c holder ((from - 519) % 512)) a ∙ ap (λ y. clear_step g s.blocks (keeps (inner ((from - 519) / 512))) y ((from - 519) % 512)) (h ∙ ap (λ y. entry_behind (entry_of s.blocks) y ((from - 519) / 512)) z)))
+      (f ∙ (ap (λ c. clear_step g mid c outer end) b ∙ (ap (λ y. clear_step g mid (keeps double) y end) z
+      ∙ ap (clear_step g mid (keeps double) (slice_index s.inode.zones 8)) (d ∙ ap (λ (c : Bool). if c then suc ((from - 519) / 512) else (from - 519) / 512) a))))
 
 -- the bytes of a zone of numbers that is cleared, as the code makes them
 enough : (n m c : ℕ) → c ≡ 1024 - n → m ≡ 1024 → m ≤ n + c
@@ -105,7 +105,7 @@ pub cleared_as : (body : List ℕ) (n : ℕ) → length body ≡ 1024 → n ≤ 
 unfolding put_bytes zeros
 cleared_as body n size low =
     ap (λ (ys : List ℕ). take n body ++ ys) (drop-replicate n 1024 0 ∙ (sym (append-nil (replicate (1024 - n) 0)) ∙ ap (λ (rest : List ℕ). replicate (1024 - n) 0 ++ rest)
-        (sym (drop_all (n + length (replicate (1024 - n) 0)) body (enough n (length body) (length (replicate (1024 - n) 0)) (length-replicate (1024 - n) 0) size)))))
+    (sym (drop_all (n + length (replicate (1024 - n) 0)) body (enough n (length body) (length (replicate (1024 - n) 0)) (length-replicate (1024 - n) 0) size)))))
 
 pub keeps_listed_as : (zones : List Mapped) (from : ℕ) (x : Place) → keeps_listed zones from x ≡ keeps_below (indices_of zones) from x
 keeps_listed_as zones from (block i) = refl

@@ -4,12 +4,17 @@ use Rattle.std.specs.List.{range_with_len}
 use Rattle.std.proofs.Common.{sym, ap, ◌∙◌, inl, inr, arith}
 use Rattle.std.proofs.lemmas.Bool.{cases_Bool}
 use Rattle.std.proofs.lemmas.List.{append_assoc, append-nil}
+use Rattle.minix_layout.specs.declared.division.Geometry.{Geometry}
 use Rattle.minix_layout.specs.declared.inode.Inode.{Inode}
 use Rattle.inode_ops.specs.Map.{entry_behind}
+use Rattle.volume_ops.specs.declared.found.Mapped.{Mapped}
+use Rattle.volume_model.specs.declared.placed.Placed.{Placed}
 use Rattle.volume_model.specs.Volume.{Place, indirect, double, inner, zone_in}
 use Rattle.volume_model.specs.Ways.{entry_of}
 use Rattle.volume_model.specs.Counts.{number_places}
-use Rattle.volume_edits.specs.Zones.{numbers_cut}
+use Rattle.volume_model.specs.Touched.{Contents}
+use Rattle.volume_model.specs.Moves.{page_of, file_cut_touches}
+use Rattle.volume_edits.specs.Zones.{blocks_cut, numbers_cut}
 use Rattle.volume_edits.specs.code.Freed.{gone_of}
 
 -- the zones of numbers that go, of some places
@@ -67,3 +72,17 @@ module _ (blocks : List (List ℕ)) (i : Inode) (keeps : Place → Bool) where
 
   pub all_numbers : (gone : List ℕ) (group : ℕ) → 512 < group + 1 → gone ++ among (groups_from group) ≡ numbers_cut blocks i keeps → gone ≡ numbers_cut blocks i keeps
   all_numbers gone group far before = sym (append-nil gone) ∙ (sym (ap (λ xs. gone ++ xs) (ap among (groups-none group far) ∙ numbers-none)) ∙ before)
+
+-- ---- as a cut tells it
+
+module _ (g : Geometry) (v : Contents) (n : ℕ) (p : Placed) (zones : List Mapped) (keeps : Place → Bool) (from : ℕ) where
+  pub told_freed : (file_cut_touches g v n p zones keeps from).freed ≡ map (λ (m : Mapped). m.zone) (blocks_cut zones from) ++ numbers_cut v.blocks p.inode keeps
+  unfolding numbers_cut
+  told_freed = refl
+
+  pub told_revoked : (file_cut_touches g v n p zones keeps from).revoked ≡ numbers_cut v.blocks p.inode keeps
+  unfolding numbers_cut
+  told_revoked = refl
+
+  pub told_dropped : (file_cut_touches g v n p zones keeps from).dropped ≡ map (page_of n) (blocks_cut zones from)
+  told_dropped = refl

@@ -78,8 +78,8 @@ module _ (blocks : List (List ℕ)) (i : Inode) where
   block_twice index outer second z low high o f e = read_twice index outer second z low high o f e
       ∙ (sym (last_of_three (hole double) (hole (inner ((index - 519) / 512))) (hole (block index)))
       ∙ (sym (any_cons is_block double (inner ((index - 519) / 512) ∷ block index ∷ [])
-          ∙ ap (λ b. hole double && false || b) (any_cons is_block (inner ((index - 519) / 512)) (block index ∷ [])
-          ∙ ap (λ b. hole (inner ((index - 519) / 512)) && false || b) (any_cons is_block (block index) [])))
+      ∙ ap (λ b. hole double && false || b) (any_cons is_block (inner ((index - 519) / 512)) (block index ∷ [])
+      ∙ ap (λ b. hole (inner ((index - 519) / 512)) && false || b) (any_cons is_block (block index) [])))
       ∙ ap any_block (sym (way-twice index low high))))
 
   -- ---- how many
@@ -104,5 +104,5 @@ module _ (blocks : List (List ℕ)) (i : Inode) where
       ∙ (ap (λ b. bit (hole (block index)) + bit (nat_eq outer 0) + bit b) (read_second index outer second o f)
       ∙ (ap (λ h. bit (hole (block index)) + bit (nat_eq h 0) + bit (hole (inner ((index - 519) / 512)))) o
       ∙ ((let one = count_cons (block index) [] in let two = count_cons (inner ((index - 519) / 512)) (block index ∷ []) in
-          let three = count_cons double (inner ((index - 519) / 512) ∷ block index ∷ []) in omega arith)
+      let three = count_cons double (inner ((index - 519) / 512) ∷ block index ∷ []) in omega arith)
       ∙ ap count (sym (way-twice index low high)))))

@@ -24,7 +24,13 @@ pub fn cut_to(blocks: &mut Image, g: &Geometry, inode: &mut Inode, zones: &[Mapp
     }
     if from < 519 {
         let at = (from - 7) as u16;
-        clear_step(blocks, g, keeps_indirect(zones, from), inode.zones.zone(7), at);
+        clear_step(
+            blocks,
+            g,
+            keeps_indirect(zones, from),
+            inode.zones.zone(7),
+            at,
+        );
         inode.zones = left;
         return;
     }
@@ -34,7 +40,13 @@ pub fn cut_to(blocks: &mut Image, g: &Geometry, inode: &mut Inode, zones: &[Mapp
         let outer = inode.zones.zone(8);
         let holder = zone_entry(blocks, outer, j);
         clear_step(blocks, g, group, holder, ((from - 519) % 512) as u16);
-        clear_step(blocks, g, keeps_double(zones, from), outer, end_of(group, j));
+        clear_step(
+            blocks,
+            g,
+            keeps_double(zones, from),
+            outer,
+            end_of(group, j),
+        );
         inode.zones = left;
         return;
     }

@@ -9,7 +9,9 @@ use volume_ops::Mapped;
 pub fn keeps_indirect(zones: &[Mapped], from: u32) -> bool
     ensures { result ≡ keeps_listed zones.now from indirect }
 {
-    zones.iter().any(|m| m.index < from && (7 <= m.index && m.index < 519))
+    zones
+        .iter()
+        .any(|m| m.index < from && (7 <= m.index && m.index < 519))
 }
 
 /// The doubly indirect zone stays.

@@ -13,15 +13,17 @@ mod bodies;
 mod cutting;
 mod edits;
 mod freed;
-mod wanted;
 mod kept;
+mod laws;
 mod mapping;
 #[cfg(test)]
 mod tests;
+mod wanted;
 
 pub use bodies::zone_entry;
 pub use cutting::cut_to;
 pub use edits::{clear_from, put_body, put_entry, put_inode, put_slot, set_bit};
 pub use freed::{CutZones, zones_cut};
-pub use wanted::{WantedZones, holes};
+pub use laws::cut_zones_are_told;
 pub use mapping::{TakenZones, map_block};
+pub use wanted::{WantedZones, holes};

@@ -38,13 +38,29 @@ pub fn map_block(
     let none = Block::fill(0);
     if index < 519 {
         fill_slot(blocks, g, inode, 7, taken.outer, &none);
-        fill_entry(blocks, g, inode, inode.zones.zone(7), (index - 7) as u16, taken.data_zone, content);
+        fill_entry(
+            blocks,
+            g,
+            inode,
+            inode.zones.zone(7),
+            (index - 7) as u16,
+            taken.data_zone,
+            content,
+        );
         return;
     }
     if index < 262663 {
         let (j, k) = (((index - 519) / 512) as u16, ((index - 519) % 512) as u16);
         fill_slot(blocks, g, inode, 8, taken.outer, &none);
-        fill_entry(blocks, g, inode, inode.zones.zone(8), j, taken.second, &none);
+        fill_entry(
+            blocks,
+            g,
+            inode,
+            inode.zones.zone(8),
+            j,
+            taken.second,
+            &none,
+        );
         let holder = zone_entry(blocks, inode.zones.zone(8), j);
         fill_entry(blocks, g, inode, holder, k, taken.data_zone, content);
     }
