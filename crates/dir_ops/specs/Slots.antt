@@ -46,8 +46,8 @@ freed slots None = slots
 freed slots (Some at) = slice_set slots at None
 
 -- the slots without a name: its slot is free, and no other place changes
-abbrev pub without_name : List (Option Slot) → List ℕ → List (Option Slot)
-without_name slots name = freed slots (place_of slots name)
+abbrev pub slots_without : List (Option Slot) → List ℕ → List (Option Slot)
+slots_without slots name = freed slots (place_of slots name)
 
 -- no name stands in two slots
 abbrev pub NamesStandOnce : List (Option Slot) → Type 0

@@ -2,7 +2,7 @@
 ghost use Rattle.std.specs.Prelude.{◌≡◌, ◌≢◌, ◌↔◌, ℕ, suc, ◌+◌, ◌<◌, ◌≤◌, List, length, take, Option, Some, None};
 ghost use Rattle.std.specs.List.{slice_get};
 ghost use Rattle.minix_layout.specs.declared.slot.Slot.{Slot};
-ghost use Rattle.dir_ops.specs.Slots.{room, with_slot, reserved, used_count, slot_at, place_of, without_name, NamesStandOnce};
+ghost use Rattle.dir_ops.specs.Slots.{room, with_slot, reserved, used_count, slot_at, place_of, slots_without, NamesStandOnce};
 
 /// A law, which does nothing when it is called: a name is found at a slot in use that has it, and is not found exactly
 /// where no slot has it.
@@ -46,16 +46,16 @@ pub fn added_names_are_found()
 /// less is in use.
 pub fn removed_names_are_gone()
     ensures gone { (slots : List (Option Slot)) (name : List ℕ) → NamesStandOnce slots →
-        place_of (without_name slots name) name ≡ None }
+        place_of (slots_without slots name) name ≡ None }
     ensures others { (slots : List (Option Slot)) (name other : List ℕ) → other ≢ name →
-        place_of (without_name slots name) other ≡ place_of slots other }
+        place_of (slots_without slots name) other ≡ place_of slots other }
     ensures places { (slots : List (Option Slot)) (name : List ℕ) (at : ℕ) → place_of slots name ≢ Some at →
-        slot_at (without_name slots name) at ≡ slot_at slots at }
+        slot_at (slots_without slots name) at ≡ slot_at slots at }
     ensures free { (slots : List (Option Slot)) (name : List ℕ) (at : ℕ) → place_of slots name ≡ Some at →
-        slice_get (without_name slots name) at ≡ Some None }
+        slice_get (slots_without slots name) at ≡ Some None }
     ensures once { (slots : List (Option Slot)) (name : List ℕ) → NamesStandOnce slots →
-        NamesStandOnce (without_name slots name) }
-    ensures length { (slots : List (Option Slot)) (name : List ℕ) → length (without_name slots name) ≡ length slots }
+        NamesStandOnce (slots_without slots name) }
+    ensures length { (slots : List (Option Slot)) (name : List ℕ) → length (slots_without slots name) ≡ length slots }
     ensures counted { (slots : List (Option Slot)) (name : List ℕ) (at : ℕ) → place_of slots name ≡ Some at →
-        1 + used_count (without_name slots name) ≡ used_count slots }
+        1 + used_count (slots_without slots name) ≡ used_count slots }
 {}

@@ -2,7 +2,7 @@
 ghost use Rattle.std.specs.Prelude.{◌≡◌, ◌↔◌, [], ◌∷◌, ◌++◌, ◌<◌, ◌≤◌, OnOk, OnErr, IfOk, IsOk, Some, None, length, take};
 ghost use Rattle.std.specs.Option.{option_copied};
 ghost use Rattle.minix_layout.specs.declared.slot.Slot.{Slot};
-ghost use Rattle.dir_ops.specs.Slots.{room, with_slot, reserved, slot_at, has_name, place_of, slot_found, without_name};
+ghost use Rattle.dir_ops.specs.Slots.{room, with_slot, reserved, slot_at, has_name, place_of, slot_found, slots_without};
 
 use blk_base::NoMemory;
 use minix_layout::{Name, Slot};
@@ -114,7 +114,7 @@ impl Slots {
     pub fn remove(&mut self, name: &Name) -> Option<Slot>
         ensures value { result ≡ slot_found self.old (place_of self.old name.now) }
         ensures none { (result ≡ None) ↔ (place_of self.old name.now ≡ None) }
-        ensures slots { self.new ≡ without_name self.old name.now }
+        ensures slots { self.new ≡ slots_without self.old name.now }
     {
         let at = self.find(name)?;
         self.items[at].take()

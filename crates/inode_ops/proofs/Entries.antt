@@ -15,10 +15,11 @@ one_more bytes more entries n x low fits is e h =
     let size = h.0 in
     let there : 2 * n ≤ length bytes = omega arith in
     let room : 2 * n + 2 ≤ length bytes = omega arith in
-    subst (λ more. HasFirst more entries (n + 1)) (sym e)
-    ( length-put little 2 (2 * n) x bytes room ∙ size
-    , λ k less. elim (cases_eq k n) [
+    subst (λ more. HasFirst more entries (n + 1)) (sym e) (
+      length-put little 2 (2 * n) x bytes room ∙ size,
+      λ k less. elim (cases_eq k n) [
         | inl same ↦ ap (λ k. number_at little 2 (2 * k) (put little 2 (2 * n) x bytes)) same ∙ (number_at-put_same little 2 (2 * n) x bytes there fits ∙ (is ∙ ap (slice_index entries) (sym same)))
         | inr apart ↦ (let below : k < n = omega arith in let before : 2 * k + 2 ≤ length bytes = omega arith in
             number_at-put_other little 2 (2 * k) 2 (2 * n) x bytes before room (inl (omega arith)) ∙ h.1 k below)
-      ])
+      ],
+    )

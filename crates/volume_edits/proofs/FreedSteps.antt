@@ -1,5 +1,5 @@
 -- What a cut lets go, one after the other.
-use Rattle.std.specs.Prelude.{◌≡◌, ℕ, suc, ◌+◌, ◌-◌, ◌<◌, nat_lt, nat_eq, Bool, not, ◌&&◌, List, [], ◌∷◌, ◌++◌, map, filter, slice_index, drop, refl}
+use Rattle.std.specs.Prelude.{◌≡◌, ℕ, suc, ◌+◌, ◌-◌, ◌<◌, nat_eq, Bool, not, ◌&&◌, List, [], ◌∷◌, ◌++◌, map, filter, slice_index, refl}
 use Rattle.std.specs.List.{range_with_len}
 use Rattle.std.proofs.Common.{sym, ap, ◌∙◌, inl, inr, arith}
 use Rattle.std.proofs.lemmas.Bool.{cases_Bool}
@@ -11,7 +11,6 @@ use Rattle.volume_ops.specs.declared.found.Mapped.{Mapped}
 use Rattle.volume_model.specs.declared.placed.Placed.{Placed}
 use Rattle.volume_model.specs.Volume.{Place, indirect, double, inner, zone_in}
 use Rattle.volume_model.specs.Ways.{entry_of}
-use Rattle.volume_model.specs.Counts.{number_places}
 use Rattle.volume_model.specs.Touched.{Contents}
 use Rattle.volume_model.specs.Moves.{page_of, file_cut_touches}
 use Rattle.volume_edits.specs.Zones.{blocks_cut, numbers_cut}

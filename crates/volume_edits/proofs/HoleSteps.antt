@@ -3,15 +3,14 @@ use Rattle.std.specs.Prelude.{◌≡◌, ℕ, ◌+◌, ◌-◌, ◌/◌, ◌%◌
 use Rattle.std.specs.List.{list_any}
 use Rattle.std.proofs.Common.{sym, ap, ◌∙◌, inl, inr, arith}
 use Rattle.std.proofs.lemmas.Bool.{cases_Bool}
-use Rattle.minix_layout.specs.declared.division.Geometry.{Geometry}
 use Rattle.minix_layout.specs.declared.inode.Inode.{Inode}
 use Rattle.inode_ops.specs.Map.{entry_behind}
 use Rattle.inode_ops.specs.laws.MapLaws.{zone_at-direct}
 use Rattle.volume_model.specs.Volume.{Place, block, indirect, double, inner, zone_in}
 use Rattle.volume_model.specs.Ways.{way, entry_of}
 use Rattle.volume_model.specs.MapBlock.{OpenInode}
-use Rattle.volume_model.specs.laws.OnWay.{way-direct, way-single, way-twice, way-past}
-use Rattle.volume_edits.specs.Zones.{holes, is_block, is_outer, is_inner, bit}
+use Rattle.volume_model.specs.laws.OnWay.{way-direct, way-single, way-twice}
+use Rattle.volume_edits.specs.Zones.{holes, is_block, bit}
 use Rattle.volume_edits.proofs.MapSteps.{own_single, own_twice}
 
 -- of one, two and three tests

@@ -1,5 +1,5 @@
 -- The steps of mapping a block as the code takes them.
-use Rattle.std.specs.Prelude.{◌≡◌, ℕ, ◌-◌, ◌/◌, ◌%◌, ◌<◌, ◌≤◌, nat_eq, if◌then◌else◌, List, slice_index, slice_set, refl}
+use Rattle.std.specs.Prelude.{◌≡◌, ℕ, ◌-◌, ◌/◌, ◌%◌, ◌<◌, ◌≤◌, List, slice_index, refl}
 use Rattle.std.proofs.Common.{sym, ap, ◌∙◌, arith}
 use Rattle.std.proofs.lemmas.Bool.{lt-ltb, le-ltb}
 use Rattle.blk_base.specs.Block.{filled}
@@ -7,11 +7,10 @@ use Rattle.byte_fields.specs.Fields.{zeros}
 use Rattle.minix_layout.specs.declared.division.Geometry.{Geometry}
 use Rattle.inode_ops.specs.Map.{zone_at, entry_behind}
 use Rattle.inode_ops.specs.laws.MapLaws.{zone_at-direct}
-use Rattle.volume_model.specs.Edits.{put_body, put_entry, edited}
 use Rattle.volume_model.specs.Volume.{Place, block, indirect, double, inner}
 use Rattle.volume_model.specs.Ways.{slot, entry, home, entry_of}
 use Rattle.volume_model.specs.laws.Ways.{home-direct, home-single, home-twice, home-inner}
-use Rattle.volume_model.specs.MapBlock.{OpenInode, own_of, with_zones, TakenZones, taken_at, get_step, get_steps, map_block, first_body}
+use Rattle.volume_model.specs.MapBlock.{OpenInode, own_of, TakenZones, taken_at, get_step, get_steps, map_block, first_body}
 use Rattle.volume_edits.specs.code.Mapping.{slot_step, entry_step}
 use Rattle.volume_model.specs.laws.OnWay.{way-direct, way-single, way-twice, way-past}
 

@@ -1,4 +1,4 @@
-//! Single writes. Each copies one body at most; a write behind the last block is left out.
+//! Single writes. Each makes one body anew; a write behind the last block is left out.
 ghost use Rattle.std.specs.Prelude.{◌≡◌, ◌+◌, ◌-◌, ◌*◌, ◌/◌, ◌<◌, ◌≤◌, length};
 ghost use Rattle.std.specs.Option.{option_copied};
 ghost use Rattle.byte_fields.specs.Fields.{put, put_bytes, zeros};
@@ -58,7 +58,7 @@ pub fn put_entry(blocks: &mut Image, g: &Geometry, zone: u16, at: u16, number: u
     ensures { blocks.new ≡ edited g.now blocks.old (put_entry zone at number) }
 {
     if u32::from(zone) < blocks.len() {
-        let bytes = with_number(&body(blocks, zone.into()), at, number);
+        let bytes = with_number(blocks.block(zone.into()), at, number);
         blocks.put(zone.into(), bytes);
     }
 }
@@ -70,7 +70,7 @@ pub fn clear_from(blocks: &mut Image, g: &Geometry, zone: u16, at: u16)
     ensures { blocks.new ≡ edited g.now blocks.old (clear_from zone at) }
 {
     if u32::from(zone) < blocks.len() {
-        let bytes = cleared(&body(blocks, zone.into()), at);
+        let bytes = cleared(blocks.block(zone.into()), at);
         blocks.put(zone.into(), bytes);
     }
 }

@@ -8,7 +8,7 @@ use Rattle.std.proofs.lemmas.List.{get_or_past, get_or-set_other, get_or-set_sam
 use Rattle.std.proofs.lemmas.Grind.{common_steps}
 use Rattle.blk_base.specs.Members.{slice_get-set_same, slice_get-set_other, slice_get-length}
 use Rattle.minix_layout.specs.declared.slot.Slot.{Slot}
-use Rattle.dir_ops.specs.Slots.{room, with_slot, reserved, used_count, slot_at, has_name, place_of, freed, without_name, NamesStandOnce}
+use Rattle.dir_ops.specs.Slots.{room, with_slot, reserved, used_count, slot_at, has_name, place_of, freed, slots_without, NamesStandOnce}
 use Rattle.dir_ops.specs.laws.Slots.{room-within, with_slot-here, with_slot-other, free-count}
 use Rattle.dir_ops.specs.laws.Found.{has_name-same, has_name-other, placed, at_place, no_place, same_place, found, no_slot}
 
@@ -132,33 +132,33 @@ module _ (slots : List (Option Slot)) (s : Slot) where
 -- ---- a name goes
 
 module _ (slots : List (Option Slot)) (name : List ℕ) where
-  gone_at : (at : ℕ) → place_of slots name ≡ Some at → without_name slots name ≡ slice_set slots at None
+  gone_at : (at : ℕ) → place_of slots name ≡ Some at → slots_without slots name ≡ slice_set slots at None
   gone_at at e = ap (freed slots) e
 
-  gone_not : place_of slots name ≡ None → without_name slots name ≡ slots
+  gone_not : place_of slots name ≡ None → slots_without slots name ≡ slots
   gone_not e = ap (freed slots) e
 
   inside : (at : ℕ) → place_of slots name ≡ Some at → at < length slots
   inside at e = (at_place slots name at e).0
 
-  pub removed_free : (at : ℕ) → place_of slots name ≡ Some at → slice_get (without_name slots name) at ≡ Some None
+  pub removed_free : (at : ℕ) → place_of slots name ≡ Some at → slice_get (slots_without slots name) at ≡ Some None
   removed_free at e = ap (λ xs. slice_get xs at) (gone_at at e) ∙ slice_get-set_same slots at None (inside at e)
 
-  pub removed_places : (at : ℕ) → place_of slots name ≢ Some at → slot_at (without_name slots name) at ≡ slot_at slots at
+  pub removed_places : (at : ℕ) → place_of slots name ≢ Some at → slot_at (slots_without slots name) at ≡ slot_at slots at
   removed_places at apart = by (place_of slots name) refl
     where
-      by : (o : Option ℕ) → place_of slots name ≡ o → slot_at (without_name slots name) at ≡ slot_at slots at
+      by : (o : Option ℕ) → place_of slots name ≡ o → slot_at (slots_without slots name) at ≡ slot_at slots at
       by None e = ap (λ xs. slot_at xs at) (gone_not e)
       by (Some k) e = ap (λ xs. slot_at xs at) (gone_at k e) ∙ get_or-set_other slots k at None None (λ same. apart (e ∙ ap Some (sym same)))
 
-  pub removed_length : length (without_name slots name) ≡ length slots
+  pub removed_length : length (slots_without slots name) ≡ length slots
   removed_length = by (place_of slots name) refl
     where
-      by : (o : Option ℕ) → place_of slots name ≡ o → length (without_name slots name) ≡ length slots
+      by : (o : Option ℕ) → place_of slots name ≡ o → length (slots_without slots name) ≡ length slots
       by None e = ap length (gone_not e)
       by (Some k) e = ap length (gone_at k e) ∙ length-set slots k None
 
-  pub removed_count : (at : ℕ) → place_of slots name ≡ Some at → 1 + used_count (without_name slots name) ≡ used_count slots
+  pub removed_count : (at : ℕ) → place_of slots name ≡ Some at → 1 + used_count (slots_without slots name) ≡ used_count slots
   removed_count at e =
       let w = found slots name at e in
       let less = free-count slots at w.0 w.1 in
@@ -166,39 +166,39 @@ module _ (slots : List (Option Slot)) (name : List ℕ) where
       omega arith
 
   -- what is in use afterwards was before
-  left : (j : ℕ) (t : Slot) → slice_get (without_name slots name) j ≡ Some (Some t) → slice_get slots j ≡ Some (Some t)
+  left : (j : ℕ) (t : Slot) → slice_get (slots_without slots name) j ≡ Some (Some t) → slice_get slots j ≡ Some (Some t)
   left j t h = by (place_of slots name) refl
     where
       by : (o : Option ℕ) → place_of slots name ≡ o → slice_get slots j ≡ Some (Some t)
       by None e = ap (λ xs. slice_get xs j) (sym (gone_not e)) ∙ h
       by (Some k) e = elim (cases_eq j k) [
-        | inl same ↦ absurd (none-some t (same_Some None (Some t) (sym (removed_free k e) ∙ (ap (slice_get (without_name slots name)) (sym same) ∙ h))))
+        | inl same ↦ absurd (none-some t (same_Some None (Some t) (sym (removed_free k e) ∙ (ap (slice_get (slots_without slots name)) (sym same) ∙ h))))
         | inr n ↦ sym (slice_get-set_other slots k j None n) ∙ (ap (λ xs. slice_get xs j) (sym (gone_at k e)) ∙ h)
       ]
 
-  pub removed_once : NamesStandOnce slots → NamesStandOnce (without_name slots name)
+  pub removed_once : NamesStandOnce slots → NamesStandOnce (slots_without slots name)
   removed_once once j k s t a b same = once j k s t (left j s a) (left k t b) same
 
   -- the slot that goes is the only one with the name
-  pub removed_gone : NamesStandOnce slots → place_of (without_name slots name) name ≡ None
+  pub removed_gone : NamesStandOnce slots → place_of (slots_without slots name) name ≡ None
   removed_gone once = by (place_of slots name) refl
     where
-      by : (o : Option ℕ) → place_of slots name ≡ o → place_of (without_name slots name) name ≡ None
+      by : (o : Option ℕ) → place_of slots name ≡ o → place_of (slots_without slots name) name ≡ None
       by None e = ap (λ xs. place_of xs name) (gone_not e) ∙ e
-      by (Some k) e = again (place_of (without_name slots name) name) refl
+      by (Some k) e = again (place_of (slots_without slots name) name) refl
         where
-          again : (o : Option ℕ) → place_of (without_name slots name) name ≡ o → o ≡ None
+          again : (o : Option ℕ) → place_of (slots_without slots name) name ≡ o → o ≡ None
           again None h = refl
           again (Some j) h =
-              let w = found (without_name slots name) name j h in
+              let w = found (slots_without slots name) name j h in
               let v = found slots name k e in
               let same = once j k w.0 v.0 (left j w.0 w.1) v.1 (w.2 ∙ sym v.2) in
-              absurd (none-some w.0 (same_Some None (Some w.0) (sym (removed_free k e) ∙ (ap (slice_get (without_name slots name)) (sym same) ∙ w.1))))
+              absurd (none-some w.0 (same_Some None (Some w.0) (sym (removed_free k e) ∙ (ap (slice_get (slots_without slots name)) (sym same) ∙ w.1))))
 
-  pub removed_others : (other : List ℕ) → other ≢ name → place_of (without_name slots name) other ≡ place_of slots other
+  pub removed_others : (other : List ℕ) → other ≢ name → place_of (slots_without slots name) other ≡ place_of slots other
   removed_others other apart = by (place_of slots name) refl
     where
-      by : (o : Option ℕ) → place_of slots name ≡ o → place_of (without_name slots name) other ≡ place_of slots other
+      by : (o : Option ℕ) → place_of slots name ≡ o → place_of (slots_without slots name) other ≡ place_of slots other
       by None e = ap (λ xs. place_of xs other) (gone_not e)
       by (Some k) e = ap (λ xs. place_of xs other) (gone_at k e) ∙ same_place (slice_set slots k None) slots other (λ j. elim (cases_eq j k) [
         | inl same ↦

@@ -1,4 +1,4 @@
-use Rattle.std.proofs.Common.{rules, ◌≡◌, ◌<◌, slice_index, get_or, arith}
+use Rattle.std.proofs.Common.{rules, ◌<◌, slice_index, arith}
 use Rattle.inode_ops.proofs.Entries.{one_more}
 use Rattle.inode_ops.proofs.encode.encode_zone_block.Goals as goal
 

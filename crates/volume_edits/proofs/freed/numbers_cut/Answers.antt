@@ -1,4 +1,4 @@
-use Rattle.std.proofs.Common.{rules, ap, ◌∙◌, arith}
+use Rattle.std.proofs.Common.{ap, ◌∙◌, arith}
 use Rattle.volume_model.specs.Volume.{inner}
 use Rattle.volume_edits.specs.code.Cutting.{keeps_listed}
 use Rattle.volume_edits.proofs.FreedSteps.{first_numbers, next_number, all_numbers}
