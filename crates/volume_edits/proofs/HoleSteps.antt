@@ -10,7 +10,7 @@ use Rattle.volume_model.specs.Volume.{Place, block, indirect, double, inner, zon
 use Rattle.volume_model.specs.Ways.{way, entry_of}
 use Rattle.volume_model.specs.MapBlock.{OpenInode}
 use Rattle.volume_model.specs.laws.OnWay.{way-direct, way-single, way-twice}
-use Rattle.volume_edits.specs.Zones.{holes, is_block, bit}
+use Rattle.volume_edits.specs.Zones.{is_block, bit}
 use Rattle.volume_edits.proofs.MapSteps.{own_single, own_twice}
 
 -- of one, two and three tests
