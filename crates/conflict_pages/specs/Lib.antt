@@ -1,0 +1,4 @@
+pub mod Conflicts
+pub mod Calls
+pub mod code
+pub mod laws

@@ -1,0 +1,14 @@
+-- What holds of the fields of a table of conflicts.
+use Rattle.std.specs.Prelude.{ℕ, ◌<◌, List}
+use Rattle.blk_base.specs.Members.{In, IsAscending}
+use Rattle.conflict_pages.specs.declared.held.Held.{Held}
+use Rattle.number_sets.specs.Sets.{IsRising}
+
+-- both lists rise by block, have blocks of the volume alone, and there is room for one more than those
+pub record IsTable (blocks : ℕ) (held : List Held) (wanted : List ℕ) (held_room wanted_room : ℕ) : Type 0 where
+  pub rising : IsAscending (λ (h : Held). h.block) held
+  pub inside : (h : Held) → In h held → h.block < blocks
+  pub wanted_rising : IsRising wanted
+  pub wanted_inside : (b : ℕ) → In b wanted → b < blocks
+  pub reserved : blocks < held_room
+  pub wanted_reserved : blocks < wanted_room

@@ -1,0 +1,3 @@
+-- Laws of conflicts.
+pub mod Holds
+pub mod Wants

@@ -1,0 +1,20 @@
+//! Blocks that a transaction holds until it is on the medium, and those of them that the next one wants to change.
+//!
+//! A transaction holds the blocks of its bodies from when its log blocks are built until its commit block is done. A
+//! block that the running transaction touched and another one holds is a conflict: until it is let go, the running
+//! transaction is not closed.
+//!
+//! `conflicts` has the table, `held` what it keeps of a block, and `laws` what holds over any list of its calls.
+//!
+//! Stands on `number_sets`, whose lists in rising order it keeps.
+#![tactic(auto)]
+
+mod conflicts;
+mod held;
+mod laws;
+#[cfg(test)]
+mod tests;
+
+pub use conflicts::Conflicts;
+pub use held::Held;
+pub use laws::{blocks_have_one_holder, wanted_blocks_are_held};

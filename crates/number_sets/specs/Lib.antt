@@ -1,0 +1,4 @@
+pub mod Sets
+pub mod Keyed
+pub mod code
+pub mod laws

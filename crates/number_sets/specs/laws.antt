@@ -1,0 +1,4 @@
+-- Laws of sets of numbers.
+pub mod Members
+pub mod Rising
+pub mod Keyed
