@@ -5,8 +5,9 @@ use Rattle.std.specs.Prelude.{◌≡◌, ◌≢◌, ℕ, ◌<◌, ◌==◌, ◌�
 use Rattle.blk_base.specs.Members.{In, In-filter, filter-In, In-list_any, IsAscending-filter}
 use Rattle.log_model.proofs.Marks.{same_Set, keep≢set, clear≢set}
 use Rattle.log_model.specs.Marks.{Mark, Keep, Clear, Set, followed, Logged, Transaction, bodies_mark, transaction_mark}
-use Rattle.host_machine.specs.Parts.{has, put_home, put_homes}
-use Rattle.host_runs.specs.laws.Homes.{unrevoked, commit_homes, IsRisingHomes, IsApart}
+use Rattle.number_sets.specs.Sets.{has}
+use Rattle.journal_ring.specs.LogRing.{put_home, put_homes}
+use Rattle.journal_ring.specs.laws.Homes.{unrevoked, commit_homes, IsRisingHomes, IsApart}
 
 -- ---- one body
 

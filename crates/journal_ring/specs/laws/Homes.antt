@@ -3,7 +3,8 @@ use Rattle.std.specs.List.{filter}
 use Rattle.std.specs.Prelude.{ℕ, not, List}
 use Rattle.blk_base.specs.Members.{In, IsAscending}
 use Rattle.log_model.specs.Marks.{Logged, Transaction}
-use Rattle.host_machine.specs.Parts.{has, put_homes}
+use Rattle.number_sets.specs.Sets.{has}
+use Rattle.journal_ring.specs.LogRing.{put_homes}
 
 -- the homes that a transaction does not revoke, and what a commit block leaves
 abbrev pub unrevoked : List ℕ → List Logged → List Logged

@@ -1,0 +1,5 @@
+pub mod LogRing
+pub mod Journal
+pub mod Commits
+pub mod code
+pub mod laws
