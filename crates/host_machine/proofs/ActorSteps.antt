@@ -22,15 +22,18 @@ use Rattle.crash_laws.proofs.Growing.{fence_old, fence_new}
 use Rattle.crash_laws.specs.Rules.{CommitOrder}
 use Rattle.crash_laws.specs.Session.{Session}
 use Rattle.host_machine.proofs.Commits.{way_pushed}
-use Rattle.host_machine.proofs.PartsLaws.{In-has}
+use Rattle.number_sets.specs.laws.Members.{In-has}
 use Rattle.host_machine.proofs.PlanSteps.{closing_transaction, plan_keeps, commit_keeps}
 use Rattle.host_machine.proofs.RequestSteps.{send_keeps, request_keeps}
 use Rattle.host_machine.proofs.RuleSteps.{send_both}
 use Rattle.host_machine.proofs.Sends.{plainly}
 use Rattle.host_machine.proofs.Steps.{first_page-In, none_first, either}
 use Rattle.host_machine.specs.Host.{Turned, submits, build_plan, checkpoint, close_step, plan_sent, in_phase, commit_step, writeback, flush_step, flush_due, take_completion, send_page, with_flush}
-use Rattle.host_machine.specs.Parts.{has, least, log_needs, ring_free}
-use Rattle.host_machine.specs.Plan.{Planned}
+use Rattle.number_sets.specs.Sets.{has}
+use Rattle.conflict_pages.specs.Conflicts.{least}
+use Rattle.journal_ring.specs.LogRing.{ring_free}
+use Rattle.tx_running.specs.Running.{log_needs}
+use Rattle.tx_running.specs.Plan.{Planned}
 use Rattle.host_machine.specs.State.{Entry, Plan, Phase, Idle, Closing, Committing, Host, is_over, at_limit, is_submitted}
 use Rattle.host_machine.specs.laws.Contract.{Over, Contract, ImagesFacts, InPhase, session, KeepsImages}
 use Rattle.host_machine.specs.laws.PlanNotes.{is_plan_note, IsRestOf, BarrierAhead}

@@ -17,10 +17,10 @@ use Rattle.crash_laws.specs.History.{History, Calm, last_write, HasTrees}
 use Rattle.crash_laws.specs.PageRules.{IsPageTo, place_at}
 use Rattle.crash_laws.specs.Session.{Session, IsSubmitted, Before, Submitted, image_of}
 use Rattle.host_machine.proofs.PageMaps.{page_written, dropped-left, left-dropped, written-cases, written-stays, among-written}
-use Rattle.host_machine.proofs.PartsLaws.{In_or_not, In-with_all, with_all-In, In-without_all, without_all-In}
+use Rattle.number_sets.specs.laws.Members.{In_or_not, In-with_all, with_all-In, In-without_all, without_all-In}
 use Rattle.host_machine.specs.Host.{dropped_pages, written_pages}
 use Rattle.host_machine.specs.Model.{Model, FileBlock, Touched}
-use Rattle.host_machine.specs.Parts.{with_all, without_all}
+use Rattle.number_sets.specs.Sets.{with_all, without_all}
 use Rattle.host_machine.specs.State.{Setup}
 use Rattle.host_machine.specs.laws.Facts.{View, IsPlain, IsChange, Numbers, Present, Bodies, PlanRevokes, KeepsPlaces, IsCached, PagesMapped, PagesSent, IsLive, IsDead, ZoneHistory, Altered, OnItsWay}
 

@@ -7,7 +7,6 @@ pub mod Machine
 pub mod Opening
 pub mod PageMaps
 pub mod PagesRising
-pub mod PartsLaws
 pub mod PlanNotes
 pub mod PlanSteps
 pub mod Plans

@@ -10,7 +10,7 @@ use Rattle.host_machine.proofs.Entries.{tree_old, entry_noted, changes_noted, tr
 use Rattle.host_machine.proofs.PagesRising.{dropped-rising, written-rising}
 use Rattle.host_machine.specs.Host.{dropped_pages, written_pages}
 use Rattle.host_machine.specs.Model.{Touched}
-use Rattle.host_machine.specs.Parts.{with_all, without_all}
+use Rattle.number_sets.specs.Sets.{with_all, without_all}
 use Rattle.host_machine.specs.State.{Entry, Phase, Idle, Closing, Committing}
 use Rattle.host_machine.specs.Views.{is_answered, cut_of, tree_after}
 use Rattle.host_machine.specs.laws.Contract.{Over, view_of, Contract, noted_history, InPhase, ImagesFacts}

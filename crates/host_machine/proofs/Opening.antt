@@ -16,7 +16,7 @@ use Rattle.crash_laws.specs.Rules.{BaseImage}
 use Rattle.crash_laws.specs.Session.{image_of, Session, HasNote}
 use Rattle.host_machine.proofs.Entries.{index_past, trees_noted}
 use Rattle.host_machine.specs.Host.{opened}
-use Rattle.host_machine.specs.Parts.{LogRing}
+use Rattle.journal_ring.specs.LogRing.{LogRing}
 use Rattle.host_machine.specs.State.{Host}
 use Rattle.host_machine.specs.Views.{tree_after, cut_of}
 use Rattle.host_machine.specs.laws.Contract.{IsAlike, Over, Contract, noted_history, session}

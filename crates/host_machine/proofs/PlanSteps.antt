@@ -22,7 +22,7 @@ use Rattle.host_machine.proofs.PlanNotes.{plan-rest, plan-barrier}
 use Rattle.host_machine.proofs.Plans.{walk_before, walk_of_image, bodies_in, on_its_way, numbers_closed, present_closed, bodies_closed, plan_revokes_closed, places_closed, sent_told, history_told}
 use Rattle.host_machine.proofs.Sends.{plainly, page≢commit, numbers_committed, history_committed, sent_pushed}
 use Rattle.host_machine.specs.Host.{build_plan, committed, send_planned}
-use Rattle.host_machine.specs.Plan.{Planned, plan_of}
+use Rattle.tx_running.specs.Plan.{Planned, plan_of}
 use Rattle.host_machine.specs.State.{Plan, Host}
 use Rattle.host_machine.specs.Views.{cut_of, some_in, alters_at, tree_after, transaction_of, waits_for}
 use Rattle.host_machine.specs.laws.Contract.{IsAlike, Over, view_of, Contract, noted_history, ImagesFacts, session, KeepsImages}

@@ -20,8 +20,8 @@ use Rattle.crash_laws.specs.History.{History, last_write, HasTrees}
 use Rattle.crash_laws.specs.PageRules.{IsPageTo, place_at}
 use Rattle.crash_laws.specs.Rules.{CommitOrder}
 use Rattle.crash_laws.specs.Session.{Session, IsCommit, image_of}
-use Rattle.host_machine.proofs.PartsLaws.{has-In, In-has}
-use Rattle.host_machine.specs.Parts.{has}
+use Rattle.number_sets.specs.laws.Members.{has-In, In-has}
+use Rattle.number_sets.specs.Sets.{has}
 use Rattle.host_machine.specs.laws.Facts.{View, IsPlain, Numbers, Present, Bodies, PlanRevokes, KeepsPlaces, PagesMapped, PagesSent, ZoneHistory, Altered, OnItsWay}
 
 -- the bodies that blocks have now

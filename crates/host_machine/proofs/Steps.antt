@@ -18,7 +18,7 @@ use Rattle.host_machine.specs.Causes.{Cause}
 use Rattle.host_machine.specs.Host.{Stepped, set_wait, set_thread, Goal, AwaitCommit, AnswerOk, AwaitLastPut, no_wait, unsent_on, goal_of, wanting, end_with, hindrance, hindered, fits, plain, begin, await_durable, await_last_put, await_commit, pursue, walk_pages, continue_begun, stop_of, step_call, step_thread, advance, send_page, change}
 use Rattle.host_machine.specs.Model.{Model, Kind, is_begun, is_data, is_durable, is_reading, Freed}
 use Rattle.host_machine.specs.Outcomes as outcomes
-use Rattle.host_machine.specs.Parts.{log_needs}
+use Rattle.tx_running.specs.Running.{log_needs}
 use Rattle.host_machine.specs.State.{Ending, Answered, Down, ReadOnly, SessionFull, Begins, Ends, Wait, Begun, Thread, Host, Setup, is_cut, first_failed, at_limit, is_flushed_after, flush_above, last_put, is_closing, is_submitted}
 use Rattle.host_machine.specs.laws.Contract.{Over, Contract}
 use Rattle.host_machine.specs.laws.Rules.{Keeps}

@@ -19,8 +19,12 @@ use Rattle.host_machine.specs.Causes.{Cause}
 use Rattle.host_machine.specs.Model.{Model, Kind, Reading, FileSync, DataSync, WholeSync, is_begun, is_data, is_durable, is_reading, is_whole, Freed, FileBlock, Touched, Applied}
 use Rattle.host_machine.specs.Outcomes as outcomes
 use Rattle.host_machine.specs.Outcomes.{Step}
-use Rattle.host_machine.specs.Parts.{has, with_all, without_all, Running, fresh, log_blocks_for, log_needs, Held, Conflicts, hold, want, unhold, least, LogRing, ring_free, place_blocks, commit_bodies, home_sent, all_home}
-use Rattle.host_machine.specs.Plan.{Planned, plan_of}
+use Rattle.number_sets.specs.Sets.{has, with_all, without_all}
+use Rattle.conflict_pages.specs.Conflicts.{Conflicts, holder, hold, want, unhold, least}
+use Rattle.conflict_pages.specs.declared.held.Held.{Held}
+use Rattle.journal_ring.specs.LogRing.{LogRing, ring_free, place_blocks, commit_bodies, home_sent, all_home}
+use Rattle.tx_running.specs.Running.{Running, fresh, log_blocks_for, log_needs}
+use Rattle.tx_running.specs.Plan.{Planned, plan_of}
 use Rattle.host_machine.specs.State.{Ending, Answered, Down, ReadOnly, SessionFull, What, Begins, Ends, Wait, FlushPart, Plan, Phase, Idle, Closing, Committing, JournalPart, Begun, Thread, Host, Setup, is_cut, first_failed, is_over, at_limit, is_moved, is_flushed_after, flush_above, last_put, is_closing, is_submitted, latest_change, submit}
 
 -- ---- a step and what it answers
@@ -60,11 +64,6 @@ goal_of j b =
     if is_data b.kind then
     elim (latest_change j b.file) as (λ _. Goal) [ Some k ↦ AwaitCommit k | None ↦ data_goal b.kind b.sent_barrier j.running.number ]
     else AwaitCommit j.running.number
-
--- the transaction that holds a block
-abbrev pub holder : List Held → ℕ → ℕ
-holder [] b = 0
-holder (h ∷ hs) b = if h.block == b then h.transaction else holder hs b
 
 -- why a call waits for transaction k
 abbrev pub cause_of : JournalPart → ℕ → Cause

@@ -1,6 +1,4 @@
 pub mod Model
-pub mod Parts
-pub mod Plan
 pub mod State
 pub mod Causes
 pub mod Outcomes

@@ -8,7 +8,8 @@ use Rattle.order_model.specs.declared.note.Note.{Note}
 use Rattle.order_model.specs.declared.request.Request.{Request}
 use Rattle.host_machine.specs.Host.{advance, commit_step, writeback, flush_step, opened}
 use Rattle.host_machine.specs.Model.{Kind, Changing, FileBarrier, DataBarrier, FileSync, FileBlock, Touched, Freed, Zones, Model}
-use Rattle.host_machine.specs.Parts.{without_all, LogRing}
+use Rattle.number_sets.specs.Sets.{without_all}
+use Rattle.journal_ring.specs.LogRing.{LogRing}
 use Rattle.host_machine.specs.State.{Answered, What, Ends, Entry, Host, Setup}
 
 -- ---- calls that say what they do

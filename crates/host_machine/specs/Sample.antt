@@ -5,7 +5,7 @@ use Rattle.log_model.specs.Log.{Plain}
 use Rattle.volume_ops.specs.Reads.{Ret, Read}
 use Rattle.host_machine.specs.Host.{advance, opened}
 use Rattle.host_machine.specs.Model.{Model, Kind, Reading, Changing, FileBarrier, FileBlock, Touched, Freed, Applied}
-use Rattle.host_machine.specs.Parts.{LogRing}
+use Rattle.journal_ring.specs.LogRing.{LogRing}
 use Rattle.host_machine.specs.State.{Host}
 use Rattle.host_machine.specs.laws.Contract.{Over}
 

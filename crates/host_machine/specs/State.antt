@@ -9,8 +9,10 @@ use Rattle.order_model.specs.declared.request.Request.{Request}
 use Rattle.log_model.specs.Marks.{Logged}
 use Rattle.page_cache.specs.declared.cached_page.CachedPage.{CachedPage}
 use Rattle.host_machine.specs.Model.{Kind}
-use Rattle.host_machine.specs.Parts.{Running, Conflicts, LogRing}
-use Rattle.host_machine.specs.Plan.{Writers, Planned}
+use Rattle.conflict_pages.specs.Conflicts.{Conflicts}
+use Rattle.journal_ring.specs.LogRing.{LogRing}
+use Rattle.tx_running.specs.Running.{Running}
+use Rattle.tx_running.specs.Plan.{Writers, Planned}
 
 -- ---- the history
 

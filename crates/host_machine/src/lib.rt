@@ -2,7 +2,7 @@
 //!
 //! `specs/Host` has the steps: `advance` of a caller, `commit_step`, `writeback` and `flush_step`. They are steps over the
 //! records of `specs/State`: history and threads, the volume and its cached pages, and the journal's part with running
-//! transaction, log ring, plan and flushes. `specs/Parts` and `specs/Plan` have what these parts do; `specs/Model` what the
+//! transaction, log ring, plan and flushes, which stand in the crates of these parts; `specs/Model` has what the
 //! host uses of a tree model and of a volume; `specs/Views` the session and the history that the order rules of
 //! `crash_laws` speak of. `specs/laws/Contract` has what volume and tree model promise, and what the host keeps.
 //!

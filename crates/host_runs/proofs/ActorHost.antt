@@ -24,14 +24,17 @@ use Rattle.crash_laws.specs.Session.{HasNote, IsCommit}
 use Rattle.crash_laws.specs.Submitting.{after}
 use Rattle.host_machine.proofs.ActorSteps.{rephased}
 use Rattle.host_machine.proofs.Entries.{trees_noted}
-use Rattle.host_machine.proofs.PartsLaws.{In-has}
+use Rattle.number_sets.specs.laws.Members.{In-has}
 use Rattle.host_machine.proofs.PlanSteps.{commit_keeps}
 use Rattle.host_machine.proofs.Sends.{plainly}
 use Rattle.host_machine.proofs.Steps.{first_page-In, none_first, either}
 use Rattle.host_machine.specs.Host.{Turned, submits, build_plan, checkpoint, close_step, plan_sent, in_phase, commit_step, writeback, flush_step, flush_due, take_completion, send_page, send_planned, committed, need_commit, with_flush}
 use Rattle.host_machine.specs.Model.{Kind, FileSync, WholeSync, is_data}
-use Rattle.host_machine.specs.Parts.{has, least, log_needs, ring_free}
-use Rattle.host_machine.specs.Plan.{Planned}
+use Rattle.number_sets.specs.Sets.{has}
+use Rattle.conflict_pages.specs.Conflicts.{least}
+use Rattle.journal_ring.specs.LogRing.{ring_free}
+use Rattle.tx_running.specs.Running.{log_needs}
+use Rattle.tx_running.specs.Plan.{Planned}
 use Rattle.host_machine.specs.State.{Begun, Wait, Thread, is_flush_note, Plan, Phase, Idle, Closing, Committing, Host, is_over, at_limit, is_submitted}
 use Rattle.host_machine.specs.Views.{transaction_of}
 use Rattle.host_machine.specs.laws.Contract.{Over, Contract, noted_history, InPlan, InPhase, session}

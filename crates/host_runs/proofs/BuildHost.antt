@@ -20,14 +20,15 @@ use Rattle.host_machine.proofs.Machine.{plain_at}
 use Rattle.host_machine.proofs.PlanSteps.{closing_transaction, plan_keeps}
 use Rattle.host_machine.proofs.Retold.{rules_retold, pages_retold, data_retold}
 use Rattle.host_machine.specs.Host.{build_plan}
-use Rattle.host_machine.specs.Parts.{place_blocks, ring_free, log_blocks_for, log_needs}
-use Rattle.host_machine.specs.Plan.{plan_of}
+use Rattle.journal_ring.specs.LogRing.{place_blocks, ring_free}
+use Rattle.tx_running.specs.Running.{log_blocks_for, log_needs}
+use Rattle.tx_running.specs.Plan.{plan_of}
 use Rattle.host_machine.specs.State.{Entry, Plan, Closing, Committing, Host}
 use Rattle.host_machine.specs.Views.{some_in, alters_at, transaction_of}
 use Rattle.host_machine.specs.laws.Contract.{Over, Contract, noted_history, InPhase, session}
 use Rattle.host_machine.specs.laws.Rules.{AllRules}
 use Rattle.host_runs.proofs.RingHost.{plan_is_built}
-use Rattle.host_runs.specs.laws.Homes.{IsApart}
+use Rattle.journal_ring.specs.laws.Homes.{IsApart}
 use Rattle.host_runs.specs.laws.Kept.{KeepsRules}
 use Rattle.host_runs.specs.laws.RingFacts.{RingKept}
 use Rattle.host_runs.specs.laws.Written.{IsWord, AreWritten, IsWritable}

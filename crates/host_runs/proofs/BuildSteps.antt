@@ -10,8 +10,10 @@ use Rattle.log_model.specs.Ring.{Ring, places_on}
 use Rattle.crash_laws.proofs.LogBlocks.{filter_none, In-log_blocks}
 use Rattle.crash_laws.specs.Rules.{CommitOrder}
 use Rattle.crash_laws.specs.Session.{Session, log_transaction, IsLog, LogBlock, with_log_block, log_blocks, log_blocks_of, bodies_of, sequence_of}
-use Rattle.host_machine.specs.Parts.{log_blocks_for, LogRing, ring_free, place_blocks}
-use Rattle.host_machine.specs.Plan.{Writers, Planned, UnplacedBlock, logged_blocks, placed, with_barrier, plan_of}
+use Rattle.journal_ring.specs.LogRing.{LogRing, ring_free, place_blocks}
+use Rattle.tx_running.specs.Running.{log_blocks_for}
+use Rattle.tx_running.specs.Plan.{Writers, Planned, logged_blocks, placed, with_barrier, plan_of}
+use Rattle.tx_running.specs.declared.pieces.UnplacedBlock.{UnplacedBlock}
 use Rattle.host_runs.proofs.PlanLaws.{IsDraft, are_drafts, plan_spells, plan_counted}
 use Rattle.host_runs.specs.laws.RingFacts.{AreCommitted, PlaceFacts, places_of, IsFirstSuper, ArePlanned, count, if_log, log_bytes, EndsFenced, StartsWithSuper, PlanFacts}
 use Rattle.host_runs.specs.laws.Written.{IsWord, AreWritten, IsWritable}

@@ -23,13 +23,13 @@ use Rattle.crash_laws.specs.Ordering.{IsClosedOff}
 use Rattle.crash_laws.specs.Rules.{CommitOrder, LogLayout, CheckpointOrder, HasHeader}
 use Rattle.crash_laws.specs.Session.{Session, HasNote, log_transaction, IsLog, IsCommit, LogBlock, with_log_block, log_blocks, log_blocks_of, log_blocks_below, bodies_of, sequence_of, first_place, IsSuperOf}
 use Rattle.crash_laws.specs.Submitting.{Submitting, after, new_place, IsCommitted}
-use Rattle.host_machine.specs.Parts.{LogRing, all_home}
-use Rattle.host_machine.specs.Plan.{Planned}
+use Rattle.journal_ring.specs.LogRing.{LogRing, all_home}
+use Rattle.tx_running.specs.Plan.{Planned}
 use Rattle.host_runs.proofs.GrowingFacts.{number_submitted, entries_grown, bodies_grown, places_step, homes_step, home_done_old, numbers_step}
 use Rattle.host_runs.proofs.PlaceLaws.{next_place_is_freed}
-use Rattle.host_runs.proofs.RingStateLaws.{In-commit_homes, commit_homes-ascends, commit_homes-body, commit_homes-kept}
+use Rattle.journal_ring.specs.laws.Committed.{In-commit_homes, commit_homes-ascends, commit_homes-body, commit_homes-kept}
 use Rattle.host_runs.proofs.RingSteps.{sending, RingClause}
-use Rattle.host_runs.specs.laws.Homes.{IsApart, commit_homes}
+use Rattle.journal_ring.specs.laws.Homes.{IsApart, commit_homes}
 use Rattle.host_runs.specs.laws.RingFacts.{AreCommitted, PlaceFacts, IsHomeDone, HomeFacts, places_of, count, if_log, log_bytes, StartsWithSuper, PlanFacts}
 
 -- ---- the commit block

@@ -19,8 +19,8 @@ use Rattle.crash_laws.specs.Clauses.{CommitClause}
 use Rattle.crash_laws.specs.Rules.{CommitOrder, CheckpointOrder}
 use Rattle.crash_laws.specs.Session.{Session, log_transaction, IsSubmitted, Before, Submitted, body_at, LogBlock, with_log_block, log_blocks, log_blocks_of, bodies_of, sequence_of}
 use Rattle.crash_laws.specs.Submitting.{Submitting, after, new_place}
-use Rattle.host_machine.specs.Parts.{LogRing}
-use Rattle.host_machine.specs.Plan.{Planned}
+use Rattle.journal_ring.specs.LogRing.{LogRing}
+use Rattle.tx_running.specs.Plan.{Planned}
 use Rattle.host_runs.specs.laws.RingFacts.{AreCommitted, PlaceFacts, IsHomeDone, HomeFacts, places_of, if_log, count, log_bytes, ArePlanned, IsClosed, PlanFacts}
 
 -- ---- numbers

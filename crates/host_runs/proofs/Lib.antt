@@ -17,7 +17,6 @@ pub mod OkSteps
 pub mod PlaceLaws
 pub mod PlanLaws
 pub mod RingHost
-pub mod RingStateLaws
 pub mod RingSteps
 pub mod RulesHost
 pub mod RunHost

@@ -11,7 +11,7 @@ use Rattle.log_model.proofs.Ring.{places_on-add, places_on-place, place_after-la
 use Rattle.log_model.specs.Ring.{Ring, places_on, IsPlace}
 use Rattle.crash_laws.specs.Rules.{LogLayout}
 use Rattle.crash_laws.specs.Session.{Session, log_transaction, IsLog, LogBlock, with_log_block, log_blocks_from, log_blocks, IsSuperOf}
-use Rattle.host_machine.specs.Parts.{LogRing}
+use Rattle.journal_ring.specs.LogRing.{LogRing}
 use Rattle.host_runs.specs.laws.RingFacts.{PlaceFacts}
 
 -- ---- places

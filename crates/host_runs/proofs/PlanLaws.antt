@@ -11,8 +11,9 @@ use Rattle.log_model.specs.Marks.{Logged, Transaction}
 use Rattle.log_model.specs.Parts.{Part, Describing, Revoking, restored, IsPart, AreParts, blocks_of_parts, bodies_of_parts, revokes_of_parts}
 use Rattle.crash_laws.specs.Rules.{HasHeader}
 use Rattle.crash_laws.specs.Session.{log_transaction}
-use Rattle.host_machine.specs.Parts.{log_blocks_for}
-use Rattle.host_machine.specs.Plan.{Writers, UnplacedBlock, chunks_from, chunks, revoke_block, body_block, described, all_described, logged_blocks}
+use Rattle.tx_running.specs.Running.{log_blocks_for}
+use Rattle.tx_running.specs.Plan.{Writers, chunks_from, chunks, revoke_block, body_block, described, all_described, logged_blocks}
+use Rattle.tx_running.specs.declared.pieces.UnplacedBlock.{UnplacedBlock}
 use Rattle.host_runs.specs.laws.Written.{IsWord, tag_of, AreWritten, IsWritable}
 
 -- ---- what is written is read back

@@ -11,14 +11,15 @@ use Rattle.crash_laws.specs.Clauses.{CommitClause}
 use Rattle.crash_laws.specs.Rules.{CommitOrder, LogLayout, CheckpointOrder}
 use Rattle.crash_laws.specs.Session.{Session, log_transaction, with_log_block, IsSuperOf}
 use Rattle.crash_laws.specs.Submitting.{Submitting, after}
-use Rattle.host_machine.specs.Parts.{LogRing, log_blocks_for, ring_free, place_blocks, commit_bodies, home_sent, all_home}
-use Rattle.host_machine.specs.Plan.{Writers, Planned, plan_of}
+use Rattle.journal_ring.specs.LogRing.{LogRing, ring_free, place_blocks, commit_bodies, home_sent, all_home}
+use Rattle.tx_running.specs.Running.{log_blocks_for}
+use Rattle.tx_running.specs.Plan.{Writers, Planned, plan_of}
 use Rattle.host_machine.specs.State.{Plan, Phase, Idle, Closing, Committing}
 use Rattle.host_runs.proofs.BuildSteps.{built_plan, built_places}
 use Rattle.host_runs.proofs.CheckpointSteps.{commit_ring_clause, commit_numbers, commit_places, commit_home_facts, home_request, home_ring_clause, home_numbers, home_places, home_facts_step, super_request, super_ring_clause, super_numbers, super_homes, super_places}
 use Rattle.host_runs.proofs.GrowingFacts.{places_step, homes_step, numbers_step, plan_stays}
 use Rattle.host_runs.proofs.RingSteps.{sending, RingClause, next_clause, planned_numbers, planned_homes, planned_places, plan_goes_on, next_planned, is_some}
-use Rattle.host_runs.specs.laws.Homes.{IsApart}
+use Rattle.journal_ring.specs.laws.Homes.{IsApart}
 use Rattle.host_runs.specs.laws.RingFacts.{transaction_of_plan, IsOnWay, IsAtRest, RingInPhase, RingKept, AreCommitted, PlaceFacts, HomeFacts, places_of, count, PlanFacts}
 use Rattle.host_runs.specs.laws.Written.{IsWord, AreWritten, IsWritable}
 

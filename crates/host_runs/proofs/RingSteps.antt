@@ -23,8 +23,8 @@ use Rattle.crash_laws.specs.Clauses.{CommitClause, FitsClause, LogClause, SuperC
 use Rattle.crash_laws.specs.Rules.{CommitOrder, LogLayout, CheckpointOrder, HasHeader}
 use Rattle.crash_laws.specs.Session.{Session, HasNote, log_transaction, IsCommit, LogBlock, with_log_block, log_blocks, log_blocks_of, log_blocks_below, bodies_of, sequence_of, IsSuperOf}
 use Rattle.crash_laws.specs.Submitting.{Submitting, after, new_place, IsCommitted}
-use Rattle.host_machine.specs.Parts.{LogRing}
-use Rattle.host_machine.specs.Plan.{Planned}
+use Rattle.journal_ring.specs.LogRing.{LogRing}
+use Rattle.tx_running.specs.Plan.{Planned}
 use Rattle.host_runs.proofs.GrowingFacts.{count_grown, bodies_grown, places_step, homes_step, numbers_step}
 use Rattle.host_runs.proofs.PlaceLaws.{next_place_is_freed}
 use Rattle.host_runs.specs.laws.RingFacts.{AreCommitted, PlaceFacts, HomeFacts, request_of, places_of, IsFirstSuper, IsNextLog, ArePlanned, count, if_log, log_bytes, EndsFenced, StartsWithSuper, IsClosed, PlanFacts}

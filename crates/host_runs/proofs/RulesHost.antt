@@ -28,8 +28,8 @@ use Rattle.host_machine.proofs.PlanSteps.{commit_keeps}
 use Rattle.host_machine.proofs.RequestSteps.{send_keeps, request_keeps, page_owes_pages, page_owes_image, page_fits}
 use Rattle.host_machine.proofs.Sends.{plainly}
 use Rattle.host_machine.specs.Host.{send_planned, committed, checkpoint, send_page, with_flush}
-use Rattle.host_machine.specs.Parts.{home_sent, all_home}
-use Rattle.host_machine.specs.Plan.{Planned}
+use Rattle.journal_ring.specs.LogRing.{home_sent, all_home}
+use Rattle.tx_running.specs.Plan.{Planned}
 use Rattle.host_machine.specs.State.{Plan, Phase, Closing, Committing, Host, submit}
 use Rattle.host_machine.specs.laws.Contract.{Over, Contract, noted_history, InPlan, InPhase, session}
 use Rattle.host_machine.specs.laws.PlanNotes.{is_plan_note, IsRestOf, BarrierAhead}

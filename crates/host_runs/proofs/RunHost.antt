@@ -8,7 +8,7 @@ use Rattle.volume_ops.specs.laws.ReadsLaws.{blocks_read-agree}
 use Rattle.volume_ops.specs.Volume.{disk_of}
 use Rattle.host_machine.proofs.Opening.{opened_keeps}
 use Rattle.host_machine.specs.Host.{opened}
-use Rattle.host_machine.specs.Parts.{LogRing}
+use Rattle.journal_ring.specs.LogRing.{LogRing}
 use Rattle.host_machine.specs.State.{Host}
 use Rattle.host_machine.specs.laws.Contract.{Over, Contract, noted_history, session}
 use Rattle.host_runs.proofs.ActorHost.{writeback_rules, flush_step_rules, commit_step_rules}

@@ -14,12 +14,12 @@ use Rattle.crash_laws.specs.History.{History}
 use Rattle.crash_laws.specs.Session.{Session, HasNote, log_transaction, LogBlock, log_blocks, log_blocks_from}
 use Rattle.host_machine.specs.Host.{no_wait}
 use Rattle.host_machine.specs.Model.{Kind}
-use Rattle.host_machine.specs.Parts.{LogRing}
+use Rattle.journal_ring.specs.LogRing.{LogRing}
 use Rattle.host_machine.specs.State.{Wait, Thread, Idle}
 use Rattle.host_runs.specs.Runs.{AreBegun}
 use Rattle.host_runs.specs.laws.CallFacts.{wait_of, AllCalls}
 use Rattle.host_runs.specs.laws.FlushFacts.{FlushFacts, count, is_open}
-use Rattle.host_runs.specs.laws.Homes.{IsRisingHomes}
+use Rattle.journal_ring.specs.laws.Homes.{IsRisingHomes}
 use Rattle.host_runs.specs.laws.RingFacts.{RingKept}
 
 -- an empty ring

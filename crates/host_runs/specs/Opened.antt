@@ -5,7 +5,7 @@ use Rattle.log_model.specs.Ring.{IsPlace}
 use Rattle.volume_ops.specs.Volume.{disk_of}
 use Rattle.crash_laws.specs.Rules.{BaseImage}
 use Rattle.host_machine.specs.Host.{opened}
-use Rattle.host_machine.specs.Parts.{LogRing}
+use Rattle.journal_ring.specs.LogRing.{LogRing}
 use Rattle.host_machine.specs.laws.Contract.{Over, session}
 
 -- The volume stands for the tree that is opened, and its metadata is the base image's. The log begins at its first place,

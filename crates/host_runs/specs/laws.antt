@@ -1,7 +1,6 @@
 -- What the host keeps along a run.
 pub mod Traces
 pub mod Written
-pub mod Homes
 pub mod RingFacts
 pub mod CallFacts
 pub mod FlushFacts

@@ -7,5 +7,5 @@ mod steps;
 
 pub use answers::{answers_keep_their_promises, flushes_are_charged_to_sync_calls};
 pub use cuts::power_cuts_leave_whole_transactions;
-pub use plans::{last_bodies_wait_to_be_sent_home, plans_spell_their_transaction};
+pub use plans::plans_spell_their_transaction;
 pub use steps::{every_step_keeps_the_rules, runs_keep_the_rules};

@@ -12,6 +12,5 @@ mod laws;
 
 pub use laws::{
     answers_keep_their_promises, every_step_keeps_the_rules, flushes_are_charged_to_sync_calls,
-    last_bodies_wait_to_be_sent_home, plans_spell_their_transaction,
-    power_cuts_leave_whole_transactions, runs_keep_the_rules,
+    plans_spell_their_transaction, power_cuts_leave_whole_transactions, runs_keep_the_rules,
 };

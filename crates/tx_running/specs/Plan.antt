@@ -1,10 +1,11 @@
 -- The plan of a transaction: its log blocks in order, behind the superblock where the log was empty.
-use Rattle.std.specs.Prelude.{ℕ, zero, suc, ◌+◌, ◌-◌, Bool, true, false, List, [], ◌∷◌, ◌++◌, length, map, if◌then◌else◌}
+use Rattle.std.specs.Prelude.{ℕ, zero, suc, ◌+◌, ◌-◌, Bool, true, false, List, [], ◌∷◌, ◌++◌, length, map, Option, Some, None, if◌then◌else◌}
 use Rattle.order_model.specs.declared.note.Note.TheVariants.{Super, Revoke, Descriptor, Body, Commit}
 use Rattle.order_model.specs.declared.note.Note.{Note}
 use Rattle.log_model.specs.Log.{Tag}
 use Rattle.log_model.specs.Marks.{Logged}
 use Rattle.log_model.specs.Ring.{Ring, places_on}
+use Rattle.tx_running.specs.declared.pieces.UnplacedBlock.{UnplacedBlock}
 
 -- how the journal's blocks are written
 pub record Writers : Type 0 where
@@ -23,10 +24,10 @@ pub record Planned : Type 0 where
   pub body : List ℕ
   pub barrier : Bool
 
--- a log block before it has its place
-pub record UnplacedBlock : Type 0 where
-  pub note : Note
-  pub body : List ℕ
+-- the log block that is submitted first
+abbrev pub first_of : List UnplacedBlock → Option UnplacedBlock
+first_of [] = None
+first_of (b ∷ bs) = Some b
 
 -- parts of `most` elements, of which `left` more fit into the part that is begun
 abbrev pub chunks_from : {X : Type 0} → ℕ → ℕ → List X → List X → List (List X)
@@ -41,13 +42,16 @@ module _ (w : Writers) (k sequence : ℕ) where
   abbrev pub revoke_block : List ℕ → UnplacedBlock
   revoke_block blocks = record { note = Revoke k; body = w.revoke sequence blocks }
 
+  abbrev pub tag_of : Logged → Tag
+  tag_of l = record { block = l.block; escaped = w.is_escaped l.body }
+
   abbrev pub body_block : Logged → UnplacedBlock
   body_block l = record { note = Body k l.block; body = w.stored l.body }
 
   -- a descriptor, and its bodies behind it
   abbrev pub described : List Logged → List UnplacedBlock
   described bodies =
-      record { note = Descriptor k; body = w.descriptor sequence (map (λ (l : Logged). record { block = l.block; escaped = w.is_escaped l.body }) bodies) }
+      record { note = Descriptor k; body = w.descriptor sequence (map tag_of bodies) }
       ∷ map body_block bodies
 
   abbrev pub all_described : List (List Logged) → List UnplacedBlock

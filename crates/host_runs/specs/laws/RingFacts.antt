@@ -13,10 +13,10 @@ use Rattle.crash_laws.specs.Ordering.{IsClosedOff}
 use Rattle.crash_laws.specs.Rules.{HasHeader}
 use Rattle.crash_laws.specs.Session.{Session, HasNote, log_transaction, IsLog, IsCommit, CommitBefore, LogBlock, with_log_block, log_blocks, log_blocks_of, bodies_of, sequence_of, IsSuperOf}
 use Rattle.crash_laws.specs.Submitting.{IsCommitted}
-use Rattle.host_machine.specs.Parts.{LogRing}
-use Rattle.host_machine.specs.Plan.{Planned}
+use Rattle.journal_ring.specs.LogRing.{LogRing}
+use Rattle.tx_running.specs.Plan.{Planned}
 use Rattle.host_machine.specs.State.{Plan, Phase, Idle, Closing, Committing}
-use Rattle.host_runs.specs.laws.Homes.{IsRisingHomes, IsApart}
+use Rattle.journal_ring.specs.laws.Homes.{IsRisingHomes, IsApart}
 
 -- The commit blocks of transactions 1 to N are submitted, and no others. The log blocks are of transactions up
 -- to M: that is N, or N + 1 while the next one is on its way.

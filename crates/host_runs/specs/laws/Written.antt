@@ -3,7 +3,7 @@ use Rattle.std.specs.Prelude.{◌≡◌, ℕ, ◌<◌, ◌≤◌, List, length}
 use Rattle.blk_base.specs.Members.{In}
 use Rattle.log_model.specs.Log.{Tag, Plain, Describes, Revokes, Commits, Format}
 use Rattle.log_model.specs.Marks.{Logged, Transaction}
-use Rattle.host_machine.specs.Plan.{Writers}
+use Rattle.tx_running.specs.Plan.{Writers}
 
 abbrev pub IsWord : ℕ → Type 0
 IsWord n = n < 4294967296

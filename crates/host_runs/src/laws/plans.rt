@@ -1,13 +1,12 @@
-//! Laws of plans and of the bodies that wait to be sent home.
-ghost use Rattle.std.specs.Prelude.{◌≡◌, ℕ, ◌+◌, ◌⊎◌, Bool, List, [], ◌∷◌, ◌++◌, length, map};
-ghost use Rattle.blk_base.specs.Members.{In};
+//! Laws of plans.
+ghost use Rattle.std.specs.Prelude.{◌≡◌, ℕ, ◌+◌, Bool, List, [], ◌∷◌, ◌++◌, length, map};
 ghost use Rattle.log_model.specs.Log.{Format, Spells};
-ghost use Rattle.log_model.specs.Marks.{Logged, Transaction, Keep, Set, transaction_mark};
+ghost use Rattle.log_model.specs.Marks.{Logged, Transaction};
 ghost use Rattle.log_model.specs.Ring.{Ring};
-ghost use Rattle.host_machine.specs.Parts.{LogRing, commit_bodies, log_blocks_for};
-ghost use Rattle.host_machine.specs.Plan.{Writers, UnplacedBlock, logged_blocks, plan_of};
+ghost use Rattle.tx_running.specs.Running.{log_blocks_for};
+ghost use Rattle.tx_running.specs.Plan.{Writers, logged_blocks, plan_of};
+ghost use Rattle.tx_running.specs.declared.pieces.UnplacedBlock.{UnplacedBlock};
 ghost use Rattle.host_machine.specs.laws.PlanNotes.{IsRestOf, BarrierAhead};
-ghost use Rattle.host_runs.specs.laws.Homes.{IsApart, IsRisingHomes};
 ghost use Rattle.host_runs.specs.laws.Written.{IsWord, AreWritten, IsWritable};
 
 /// A law, which does nothing when it is called: the log blocks of a plan are read back as its transaction, and there are
@@ -22,16 +21,4 @@ pub fn plans_spell_their_transaction()
         IsRestOf k (plan_of w journal ring head started k sequence bodies revokes) }
     ensures barrier { (w : Writers) (journal : ℕ) (ring : Ring) (head : ℕ) (started : Bool) (k sequence : ℕ) (l : Logged) (bodies : List Logged) (revokes : List ℕ) →
         BarrierAhead (plan_of w journal ring head started k sequence (l ∷ bodies) revokes) }
-{}
-
-/// A law, which does nothing when it is called: after a commit block, the bodies that wait to be sent home are its
-/// transaction's and those that waited before, without what it revokes or has a newer body of.
-pub fn last_bodies_wait_to_be_sent_home()
-    ensures from { (ring : LogRing) (t : Transaction) (l : Logged) → IsApart t → IsRisingHomes ring.homes → In l (commit_bodies t.revokes t.bodies ring).homes →
-        (transaction_mark t l.block ≡ Set l.body) ⊎ (In l ring.homes × (transaction_mark t l.block ≡ Keep)) }
-    ensures new { (ring : LogRing) (t : Transaction) (b : ℕ) (x : List ℕ) → transaction_mark t b ≡ Set x →
-        In (record { block = b; body = x }) (commit_bodies t.revokes t.bodies ring).homes }
-    ensures left { (ring : LogRing) (t : Transaction) (l : Logged) → In l ring.homes → transaction_mark t l.block ≡ Keep →
-        In l (commit_bodies t.revokes t.bodies ring).homes }
-    ensures rising { (ring : LogRing) (t : Transaction) → IsRisingHomes ring.homes → IsRisingHomes (commit_bodies t.revokes t.bodies ring).homes }
 {}

@@ -2,7 +2,7 @@
 ghost use Rattle.std.specs.Prelude.{ℕ, List, [], Option};
 ghost use Rattle.log_model.specs.Marks.{Transaction};
 ghost use Rattle.host_machine.specs.Host.{opened};
-ghost use Rattle.host_machine.specs.Parts.{LogRing};
+ghost use Rattle.journal_ring.specs.LogRing.{LogRing};
 ghost use Rattle.host_machine.specs.State.{Host};
 ghost use Rattle.host_machine.specs.laws.Contract.{Over, Contract, StandsAs, noted_history, session};
 ghost use Rattle.host_machine.specs.laws.Rules.{AllRules};

@@ -1,0 +1,79 @@
+-- Parts of a list, one after the other.
+use Rattle.std.proofs.Common.{◌≡◌, ℕ, zero, suc, ◌+◌, ◌-◌, ◌<◌, ◌≤◌, ◌⊎◌, List, [], ◌∷◌, ◌++◌, length, map, take, drop, refl, sym, ap, subst, ◌∙◌, inl, inr, ⊎_elim, arith, append_assoc, append-nil}
+use Rattle.std.proofs.lemmas.Bool.{cases_eq}
+use Rattle.log_model.specs.Marks.{Logged}
+use Rattle.tx_running.specs.Plan.{Writers, chunks_from, chunks, described, all_described}
+use Rattle.tx_running.specs.declared.pieces.UnplacedBlock.{UnplacedBlock}
+
+cut_begun : {X : Type 0} (m left : ℕ) (b : X) (begun xs : List X) → chunks_from (suc m) left (b ∷ begun) xs ≡ ((b ∷ begun) ++ take left xs) ∷ chunks (suc m) (drop left xs)
+cut_begun m zero b begun [] = ap (λ l. (b ∷ l) ∷ []) (sym (append-nil begun))
+cut_begun m (suc left) b begun [] = ap (λ l. (b ∷ l) ∷ []) (sym (append-nil begun))
+cut_begun m zero b begun (x ∷ xs) =
+    let one : suc m - 1 ≡ m = omega arith in
+    ap (λ n. (b ∷ begun) ∷ chunks_from (suc m) n (x ∷ []) xs) one
+    ∙ ap (λ l. (b ∷ l) ∷ chunks_from (suc m) m (x ∷ []) xs) (sym (append-nil begun))
+cut_begun m (suc left) b begun (x ∷ xs) =
+    cut_begun m left b (begun ++ x ∷ []) xs
+    ∙ ap (λ l. (b ∷ l) ∷ chunks (suc m) (drop left xs)) (append_assoc begun (x ∷ []) (take left xs))
+
+whole_take : {X : Type 0} (n : ℕ) (xs : List X) → length xs ≤ n → take n xs ≡ take (length xs) xs
+whole_take zero [] h = refl
+whole_take (suc n) [] h = refl
+whole_take zero (x ∷ xs) h = absurd (omega (arith, h))
+whole_take (suc n) (x ∷ xs) h = ap (λ l. x ∷ l) (whole_take n xs (omega (arith, h)))
+
+whole_drop : {X : Type 0} (n : ℕ) (xs : List X) → length xs ≤ n → drop n xs ≡ drop (length xs) xs
+whole_drop zero [] h = refl
+whole_drop (suc n) [] h = refl
+whole_drop zero (x ∷ xs) h = absurd (omega (arith, h))
+whole_drop (suc n) (x ∷ xs) h = whole_drop n xs (omega (arith, h))
+
+cut_most : {X : Type 0} (m : ℕ) (xs : List X) → 0 < length xs → chunks (suc m) xs ≡ take (suc m) xs ∷ chunks (suc m) (drop (suc m) xs)
+cut_most m [] some = absurd (omega (arith, some))
+cut_most m (x ∷ xs) some = cut_begun m m x [] xs
+
+-- the first part has as many as fit, or all
+pub cut_first : {X : Type 0} (m n : ℕ) (xs : List X) → 0 < length xs → n ≤ suc m → n ≤ length xs → (n < suc m → n ≡ length xs) → chunks (suc m) xs ≡ take n xs ∷ chunks (suc m) (drop n xs)
+cut_first m n xs some most within all =
+    ⊎_elim
+    (λ e. cut_most m xs some ∙ ap (λ k. take k xs ∷ chunks (suc m) (drop k xs)) (sym e))
+    (λ ne.
+    let same = all (omega (arith, most, ne)) in
+    let few : length xs ≤ suc m = omega (arith, same, most) in
+    cut_most m xs some
+    ∙ ap (λ l. l ∷ chunks (suc m) (drop (suc m) xs)) (whole_take (suc m) xs few)
+    ∙ ap (λ l. take (length xs) xs ∷ chunks (suc m) l) (whole_drop (suc m) xs few)
+    ∙ ap (λ k. take k xs ∷ chunks (suc m) (drop k xs)) (sym same))
+    (cases_eq n (suc m))
+
+-- one part more was added
+pub part_added : {X : Type 0} (f : List X → UnplacedBlock) (m n : ℕ) (old now new : List UnplacedBlock) (all rest : List X)
+    → now ++ map f (chunks (suc m) rest) ≡ old ++ map f (chunks (suc m) all) → new ≡ now ++ f (take n rest) ∷ []
+    → 0 < length rest → n ≤ suc m → n ≤ length rest → (n < suc m → n ≡ length rest)
+    → new ++ map f (chunks (suc m) (drop n rest)) ≡ old ++ map f (chunks (suc m) all)
+part_added f m n old now new all rest h put some most within whole =
+    ap (λ l. l ++ map f (chunks (suc m) (drop n rest))) put
+    ∙ append_assoc now (f (take n rest) ∷ []) (map f (chunks (suc m) (drop n rest)))
+    ∙ ap (λ l. now ++ map f l) (sym (cut_first m n rest some most within whole))
+    ∙ h
+
+pub parts_added : {X : Type 0} (f : List X → UnplacedBlock) (m : ℕ) (old now : List UnplacedBlock) (all rest : List X)
+    → now ++ map f (chunks (suc m) rest) ≡ old ++ map f (chunks (suc m) all) → length rest ≡ 0 → now ≡ old ++ map f (chunks (suc m) all)
+parts_added f m old now all [] h none = sym (append-nil now) ∙ h
+parts_added f m old now all (x ∷ xs) h none = absurd (omega (arith, none))
+
+-- one descriptor more was added, with its bodies
+pub described_added : (w : Writers) (k sequence m n : ℕ) (old now new : List UnplacedBlock) (all rest : List Logged)
+    → now ++ all_described w k sequence (chunks (suc m) rest) ≡ old ++ all_described w k sequence (chunks (suc m) all) → new ≡ now ++ described w k sequence (take n rest)
+    → 0 < length rest → n ≤ suc m → n ≤ length rest → (n < suc m → n ≡ length rest)
+    → new ++ all_described w k sequence (chunks (suc m) (drop n rest)) ≡ old ++ all_described w k sequence (chunks (suc m) all)
+described_added w k sequence m n old now new all rest h put some most within whole =
+    ap (λ l. l ++ all_described w k sequence (chunks (suc m) (drop n rest))) put
+    ∙ append_assoc now (described w k sequence (take n rest)) (all_described w k sequence (chunks (suc m) (drop n rest)))
+    ∙ ap (λ l. now ++ all_described w k sequence l) (sym (cut_first m n rest some most within whole))
+    ∙ h
+
+pub all_added : (w : Writers) (k sequence m : ℕ) (old now : List UnplacedBlock) (all rest : List Logged)
+    → now ++ all_described w k sequence (chunks (suc m) rest) ≡ old ++ all_described w k sequence (chunks (suc m) all) → length rest ≡ 0 → now ≡ old ++ all_described w k sequence (chunks (suc m) all)
+all_added w k sequence m old now all [] h none = sym (append-nil now) ∙ h
+all_added w k sequence m old now all (x ∷ xs) h none = absurd (omega (arith, none))

@@ -1,0 +1,4 @@
+mod Adding
+mod Chunks
+mod Notes
+mod PlanBlocks

@@ -1,0 +1,12 @@
+use Rattle.std.proofs.Common.{◌≡◌, ◌++◌, length}
+use Rattle.tx_running.specs.Closing.{writers}
+use Rattle.tx_running.specs.Plan.{chunks, all_described}
+use Rattle.tx_running.proofs.closing.add_bodies.Given as goal
+
+abbrev pub invariant-loop-rest : goal.invariant-loop-rest
+invariant-loop-rest l =
+    l.pieces ++ all_described (writers l.stamp.made_with) l.stamp.tx l.stamp.sequence (chunks 122 l.rest)
+    ≡ l.fn.pieces ++ all_described (writers l.stamp.made_with) l.stamp.tx l.stamp.sequence (chunks 122 l.bodies)
+
+abbrev pub decreases-loop-rest : goal.decreases-loop-rest
+decreases-loop-rest l = length l.rest

@@ -1,0 +1,14 @@
+use Rattle.tx_running.specs.laws.Notes.{noted_all, apart_touched, apart_revoked, call_fits}
+use Rattle.tx_running.proofs.laws.calls_are_noted.Goals as goal
+
+pub returns-clause-noted : goal.returns-clause-noted
+returns-clause-noted c = noted_all
+
+pub returns-clause-touched : goal.returns-clause-touched
+returns-clause-touched c = apart_touched
+
+pub returns-clause-revoked : goal.returns-clause-revoked
+returns-clause-revoked c = apart_revoked
+
+pub returns-clause-room : goal.returns-clause-room
+returns-clause-room c = call_fits

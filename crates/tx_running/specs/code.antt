@@ -1,0 +1,2 @@
+-- What the code keeps of its own fields.
+pub mod Fields
