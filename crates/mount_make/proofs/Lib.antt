@@ -1,0 +1,5 @@
+mod NewBlocks
+mod MapBytes
+mod Filling
+mod MadeVolumes
+mod MadeImages

@@ -1,4 +1,5 @@
 pub mod Images
-pub mod Reading
 pub mod ImageTrees
+pub mod Made
+pub mod code
 pub mod laws

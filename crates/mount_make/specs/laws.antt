@@ -1,2 +1,3 @@
 -- Laws of images.
+pub mod Recovering
 pub mod ImageLaws

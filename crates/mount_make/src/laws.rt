@@ -1,5 +1,5 @@
 //! Laws of the trees of images.
-ghost use Rattle.std.specs.Prelude.{◌≡◌, ℕ, ◌↔◌, List, length, Ok, Err};
+ghost use Rattle.std.specs.Prelude.{◌≡◌, ℕ, ◌+◌, ◌≤◌, ◌↔◌, List, length, Some, None, Ok, Err};
 ghost use Rattle.minix_layout.specs.declared.division.Geometry.{Geometry};
 ghost use Rattle.minix_layout.specs.declared.fault.LayoutFault.{LayoutFault};
 ghost use Rattle.tree_model.specs.declared.node.Node.{Node};
@@ -9,11 +9,18 @@ ghost use Rattle.volume_ops.specs.laws.Alike.{SameMetadataAtOrNone};
 ghost use Rattle.volume_ops.specs.Defects.{IsDefect};
 ghost use Rattle.volume_ops.specs.FirstFault.{IsFirstFault};
 ghost use Rattle.mount_make.specs.declared.fault.ImageFault.{ImageFault};
-ghost use Rattle.mount_make.specs.Images.{divided, image_fault, mounted, image_tree};
-ghost use Rattle.mount_make.specs.ImageTrees.{volume_in, IsImageTree, AgreeOnImage};
+ghost use Rattle.mount_make.specs.Images.{divided, image_fault, fault_in_journal, volume_in, journal_at, recovered_image, mounted, image_tree};
+ghost use Rattle.mount_make.specs.ImageTrees.{IsImageTree, AgreeOnImage};
+ghost use Rattle.mount_make.specs.Made.{new_journal, made_image, root_alone};
+ghost use Rattle.minix_layout.specs.Geometry.{IsSound};
+ghost use Rattle.volume_ops.specs.Volume.{disk_of};
+ghost use Rattle.volume_model.specs.Plain.{IsPlainVolume};
+ghost use Rattle.volume_model.specs.NewVolume.{new_blocks};
 
-/// A law, which does nothing when it is called: an image has a tree just where it is whole and its volume has no
-/// fault, by its fields and in no order, and it has one only.
+use volume_model::{new_volumes_are_plain, plain_volumes_are_read_back};
+
+/// A law, which does nothing when it is called: an image has a tree just where it is whole, its journal has no
+/// fault and neither has its recovered volume, by its fields and in no order, and it has one only.
 pub fn images_have_one_tree()
     ensures both_ways { (blocks : List (List ℕ)) (tree : List (ℕ × Node)) → (image_tree blocks ≡ Ok tree) ↔ IsImageTree blocks tree }
     ensures one { (blocks : List (List ℕ)) (tree other : List (ℕ × Node)) →
@@ -29,11 +36,30 @@ pub fn image_metadata_gives_trees()
         ((birth : ℕ) → SameMetadataAtOrNone (at_number tree birth) (at_number changed birth)) }
 {}
 
-/// A law, which does nothing when it is called: of an image that is whole and has no journal the first fault of its
-/// volume in the order of the tests is told, and this is a defect that stands at the block told.
+/// A law, which does nothing when it is called: the first fault of an image that is whole is that of its journal, and
+/// behind this the first fault of its recovered volume in the order of the tests, which is a defect that stands at the
+/// block told.
 pub fn image_faults_are_first_defects()
-    ensures first { (blocks : List (List ℕ)) (g : Geometry) (fault : ImageFault) (block : ℕ) → divided blocks ≡ Ok g → mounted blocks ≡ Err (fault, block) →
+    ensures journal { (blocks : List (List ℕ)) (g : Geometry) (fault : ImageFault) (block : ℕ) → divided blocks ≡ Ok g →
+        fault_in_journal g.zones blocks ≡ Some (fault, block) → mounted blocks ≡ Err (fault, block) }
+    ensures first { (blocks : List (List ℕ)) (g : Geometry) (fault : ImageFault) (block : ℕ) → divided blocks ≡ Ok g →
+        fault_in_journal g.zones blocks ≡ None → mounted blocks ≡ Err (fault, block) →
         (kind : LayoutFault) × (image_fault kind ≡ fault) × IsDefect g (volume_in g blocks) kind block × IsFirstFault g (volume_in g blocks) kind block }
     ensures told { (blocks : List (List ℕ)) (g : Geometry) (kind : LayoutFault) (block : ℕ) → divided blocks ≡ Ok g →
-        IsFirstFault g (volume_in g blocks) kind block → mounted blocks ≡ Err (image_fault kind, block) }
+        fault_in_journal g.zones blocks ≡ None → IsFirstFault g (volume_in g blocks) kind block → mounted blocks ≡ Err (image_fault kind, block) }
 {}
+
+/// A law, which only calls laws: an image that was made has no fault, its tree is the root alone, its journal is empty
+/// and stays so by recovery, and its volume is plain, with the blocks of a new volume behind the superblock and the maps.
+pub fn made_images_are_plain()
+    ensures tree { (g : Geometry) (journal : ℕ) → IsSound g → 128 ≤ journal → journal ≤ 16384 → image_tree (made_image g journal) ≡ Ok root_alone }
+    ensures journal { (g : Geometry) (journal : ℕ) → IsSound g → 128 ≤ journal → journal ≤ 16384 →
+        (journal_at g.zones (made_image g journal) ≡ Some (new_journal journal)) × (recovered_image (made_image g journal) ≡ made_image g journal) }
+    ensures plain { (g : Geometry) (journal : ℕ) → IsSound g → 128 ≤ journal → journal ≤ 16384 →
+        (divided (made_image g journal) ≡ Ok g) × IsPlainVolume g (volume_in g (made_image g journal)) root_alone }
+    ensures new { (g : Geometry) (journal b : ℕ) → IsSound g → 128 ≤ journal → journal ≤ 16384 → 2 + g.imap + g.zmap ≤ b →
+        disk_of (volume_in g (made_image g journal)) b ≡ disk_of (new_blocks g) b }
+{
+    new_volumes_are_plain();
+    plain_volumes_are_read_back();
+}

@@ -183,7 +183,7 @@ fn mounted(alloc: Global, bytes: &[u8]) -> Result<Volume, MountFault> {
     };
     let setup = DeviceSetup {
         depth: 1,
-        limit: 1,
+        limit: u64::from(image.len()) + 2,
         fail_at: None,
         bad_read: None,
         cut_at: None,
@@ -311,15 +311,23 @@ fn refuses_images_that_are_cut_off(rt: HostRuntime) -> Result<(), Fail> {
 }
 
 #[test]
-fn refuses_a_journal(rt: HostRuntime) -> Result<(), Fail> {
+fn refuses_a_damaged_journal(rt: HostRuntime) -> Result<(), Fail> {
     let alloc = rt.alloc();
     let mut blocks = sample(alloc)?;
     blocks.push(Block::fill(0))?;
     let magic = [(40 * 1024, 0x3BC0), (40 * 1024 + 2, 0x9839)];
-    for kind in 3..5 {
-        let patches = [magic[0], magic[1], (40 * 1024 + 6, 256 * kind)];
-        let bytes = damaged(alloc, &blocks, &patches)?;
-        assert!(rt; is_refused(alloc, &bytes, ImageFault::NotBuilt, 40));
+    // The type of the first block, the incompatible features, and what is told.
+    let rows = [
+        (3, 0, ImageFault::BadKind),
+        (4, 0, ImageFault::BadCount),
+        (4, 2, ImageFault::Feature(2)),
+        (4, 31, ImageFault::Feature(30)),
+    ];
+    for (kind, features, fault) in rows {
+        let kind = (40 * 1024 + 6, 256 * kind);
+        let features = (40 * 1024 + 0x2A, 256 * features);
+        let bytes = damaged(alloc, &blocks, &[magic[0], magic[1], kind, features])?;
+        assert!(rt; is_refused(alloc, &bytes, fault, 40));
     }
     // Another block of a journal is none's begin.
     let patches = [magic[0], magic[1], (40 * 1024 + 6, 256 * 2)];

@@ -1,5 +1,5 @@
-use Rattle.mount_make.specs.laws.ImageLaws.{image_first, image_told}
+use Rattle.mount_make.specs.laws.ImageLaws.{journal_told, image_first, image_told}
 use Rattle.mount_make.proofs.laws.image_faults_are_first_defects.Goals as goal
 
 pub returns : goal.returns
-returns c = record { first = image_first; told = image_told }
+returns c = record { journal = journal_told; first = image_first; told = image_told }

@@ -1,0 +1,3 @@
+-- What the steps of mounting and making keep.
+pub mod Mounting
+pub mod Making

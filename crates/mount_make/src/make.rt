@@ -1,0 +1,87 @@
+//! Making: an image with a new volume and an empty journal.
+ghost use Rattle.std.specs.Prelude.{◌≡◌, ◌≢◌, ◌<◌, ◌≤◌, ◌⊎◌, ◌↔◌, length, Err, IfOk, IfSome};
+ghost use Rattle.minix_layout.specs.Geometry.{IsSound, geometry_made};
+ghost use Rattle.minix_layout.specs.Words.{first_zone};
+ghost use Rattle.mount_make.specs.Made.{new_journal, made_block, made_image};
+ghost use Rattle.mount_make.specs.code.Making.{IsFilled};
+
+use crate::volume_block::volume_block;
+use blk_base::Image;
+use journal_blocks::{JournalSuper, write_super};
+use minix_layout::Geometry;
+use std::alloc::Global;
+
+/// Why an image was not made.
+#[derive(Clone, Copy, Debug, PartialEq, Eq)]
+pub enum MakeFault {
+    /// The boot block, the superblock, both maps and the inodes leave no zone of data.
+    TooSmall,
+    /// The journal has fewer than 128 blocks, or more than 16,384.
+    JournalSize,
+    NoMemory,
+}
+
+const FEWEST_BLOCKS: u32 = 128;
+
+const MOST_BLOCKS: u32 = 16_384;
+
+/// An image with a new volume of so many inodes and blocks, and behind it an empty journal of so many blocks.
+///
+/// The root is its one directory, with the rights 755 and the time 0.
+pub fn make_volume(alloc: Global, inodes: u16, zones: u16, journal: u32) -> Result<Image, MakeFault>
+    requires { inodes ≢ 0 }
+    ensures image { IfOk result (λ i. i ≡ made_image (geometry_made inodes zones) journal) }
+    ensures too_small { (result ≡ Err MakeFault.TooSmall) ↔ (zones ≤ first_zone inodes zones) }
+    ensures journal_size { (result ≡ Err MakeFault.JournalSize) ↔ ((first_zone inodes zones < zones) × ((journal < 128) ⊎ (16384 < journal))) }
+{
+    let Ok(g) = Geometry::make(inodes, zones) else {
+        return Err(MakeFault::TooSmall);
+    };
+    if journal < FEWEST_BLOCKS || journal > MOST_BLOCKS {
+        return Err(MakeFault::JournalSize);
+    }
+    match image_of(alloc, &g, journal) {
+        Some(image) => Ok(image),
+        None => Err(MakeFault::NoMemory),
+    }
+}
+
+// None is want of memory.
+fn image_of(alloc: Global, g: &Geometry, journal: u32) -> Option<Image>
+    requires sound { IsSound g.now }
+    requires some { 0 < journal }
+    requires few { journal ≤ 16384 }
+    ensures { IfSome result (λ i. i ≡ made_image g.now journal) }
+{
+    let zones = u32::from(g.zones);
+    let Ok(mut image) = Image::zeroed(alloc, zones + journal) else {
+        return None;
+    };
+    put_volume(&mut image, g);
+    image.put(zones, write_super(&new_journal(journal)));
+    Some(image)
+}
+
+// Writes the blocks of a new volume.
+fn put_volume(image: &mut Image, g: &Geometry)
+    requires sound { IsSound g.now }
+    requires room { g.now.zones ≤ length image.old }
+    ensures { IsFilled (made_block g.now) g.now.zones image.old image.new }
+{
+    for block in 0..u32::from(g.zones) {
+        image.put(block, volume_block(g, block));
+    }
+}
+
+// A journal of so many blocks whose log is empty, and whose first transaction has the sequence 1.
+fn new_journal(blocks: u32) -> JournalSuper
+    ensures { result ≡ new_journal blocks }
+{
+    JournalSuper {
+        maxlen: blocks,
+        first: 1,
+        sequence: 1,
+        start: 0,
+        incompat: 1,
+    }
+}
