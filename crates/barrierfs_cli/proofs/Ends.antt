@@ -4,7 +4,6 @@ use Rattle.std.proofs.lemmas.Option.{none-some, same_Some}
 use Rattle.std.proofs.lemmas.Bool.Decides.{nat_tests}
 use Rattle.std.specs.Io.KnownBytes.{Consumes}
 use Rattle.std.specs.Prelude.{Result, IfOk, IfErr}
-use Rattle.std.specs.String.{string_bytes}
 use Rattle.blk_base.specs.Streams.{Rose, Drained}
 use Rattle.barrierfs_cli.specs.declared.fault.TopFault.{TopFault}
 use Rattle.barrierfs_cli.specs.declared.fault.TopFault.TheVariants as faults
@@ -12,22 +11,27 @@ use Rattle.barrierfs_cli.specs.declared.top.Printed.{Printed}
 use Rattle.barrierfs_cli.specs.declared.command_line.Command.{Command}
 use Rattle.barrierfs_cli.specs.declared.command_line.Command.TheVariants as commands
 use Rattle.stack_core.specs.declared.report.Report.{Report}
-use Rattle.barrierfs_cli.specs.Top.{command_of, most_of, Stream, WasRead, Makes, script_fault, image_fault, input_fault, IsInputFault, Does, IsRefused, Cause, expected, EndsAs}
+use Rattle.barrierfs_cli.specs.declared.command_line.Sizes.{Sizes}
+use Rattle.barrierfs_cli.specs.declared.command_line.Task.{Task}
+use Rattle.barrierfs_cli.specs.declared.command_line.Task.TheVariants as tasks
+use Rattle.barrierfs_cli.specs.Tasks.{most_of, task_of}
+use Rattle.barrierfs_cli.specs.Text.{output_bytes}
+use Rattle.barrierfs_cli.specs.Top.{Stream, WasRead, Makes, script_fault, image_fault, input_fault, IsInputFault, IsUnread, IsMade, IsDone, Does, IsRefused, Cause, expected, EndsAs}
 
 -- ---- before the first write
 
 -- what a command makes of the input that was read
-pub does_if : (words : List (List ℕ)) (source : Stream) (c : Command) (input : List ℕ) (r : Result Printed TopFault) → command_of words ≡ Some c
-    → Drained source.bytes source.bytes_after input → length input ≤ most_of c → IfOk r (λ p. Makes c input p.report (string_bytes p.text))
-    → IfOk r (λ p. Does words source p.report (string_bytes p.text))
+pub does_if : (words : List (List ℕ)) (source : Stream) (c : Command) (input : List ℕ) (r : Result Printed TopFault) → task_of words ≡ Some (tasks.Read c)
+    → Drained source.bytes source.bytes_after input → length input ≤ most_of c → IfOk r (λ p. Makes c input p.report (output_bytes p.output))
+    → IfOk r (λ p. Does words source p.report (output_bytes p.output))
 does_if words source c input (Ok p) asked drained short makes = record {
-  command = c;
+  task = tasks.Read c;
   asked = asked;
-  made = record { input = input; drained = drained; short = short; holds = makes };
+  done = record { input = input; drained = drained; short = short; holds = makes };
 }
 does_if words source c input (Err fault) asked drained short makes = tt
 
-refused : (words : List (List ℕ)) (source : Stream) (c : Command) (input : List ℕ) (fault : TopFault) → command_of words ≡ Some c
+refused : (words : List (List ℕ)) (source : Stream) (c : Command) (input : List ℕ) (fault : TopFault) → task_of words ≡ Some (tasks.Read c)
     → Drained source.bytes source.bytes_after input → length input ≤ most_of c → input_fault c input ≡ Some fault → IsRefused words source fault
 refused words source c input fault asked drained short is = record {
   command = c;
@@ -35,7 +39,7 @@ refused words source c input fault asked drained short is = record {
   read = record { input = input; drained = drained; short = short; holds = is };
 }
 
-cause_of : (words : List (List ℕ)) (source : Stream) (c : Command) (input : List ℕ) (fault : TopFault) → command_of words ≡ Some c
+cause_of : (words : List (List ℕ)) (source : Stream) (c : Command) (input : List ℕ) (fault : TopFault) → task_of words ≡ Some (tasks.Read c)
     → Drained source.bytes source.bytes_after input → length input ≤ most_of c → IsInputFault c input fault → Cause words source fault
 cause_of words source c input (faults.Script line kind) asked drained short is = refused words source c input (faults.Script line kind) asked drained short is
 cause_of words source c input (faults.Image kind block) asked drained short is = refused words source c input (faults.Image kind block) asked drained short is
@@ -46,10 +50,20 @@ cause_of words source c input faults.SinkFault asked drained short is = absurd i
 cause_of words source c input faults.TooLong asked drained short is = absurd is
 
 -- the fault of the input that was read
-pub cause_if : (words : List (List ℕ)) (source : Stream) (c : Command) (input : List ℕ) (r : Result Printed TopFault) → command_of words ≡ Some c
+pub cause_if : (words : List (List ℕ)) (source : Stream) (c : Command) (input : List ℕ) (r : Result Printed TopFault) → task_of words ≡ Some (tasks.Read c)
     → Drained source.bytes source.bytes_after input → length input ≤ most_of c → IfErr r (IsInputFault c input) → IfErr r (Cause words source)
 cause_if words source c input (Ok p) asked drained short is = tt
 cause_if words source c input (Err fault) asked drained short is = cause_of words source c input fault asked drained short is
+
+-- an image that was made
+pub made_if : (words : List (List ℕ)) (source : Stream) (s : Sizes) (r : Result Printed TopFault) → task_of words ≡ Some (tasks.Make s) → IsUnread source
+    → IfOk r (λ p. IsMade s p.report (output_bytes p.output)) → IfOk r (λ p. Does words source p.report (output_bytes p.output))
+made_if words source s (Ok p) asked unread made = record { task = tasks.Make s; asked = asked; done = (unread, made) }
+made_if words source s (Err fault) asked unread made = tt
+
+pub made_cause : (words : List (List ℕ)) (source : Stream) (r : Result Printed TopFault) → IfErr r (λ fault. fault ≡ faults.NoMemory) → IfErr r (Cause words source)
+made_cause words source (Ok p) memory = tt
+made_cause words source (Err fault) memory = subst (Cause words source) (sym memory) tt
 
 -- ---- where the input is told and no stream fails
 
@@ -67,11 +81,11 @@ front_read (Some left) (Some rest) text told e d =
     let m = ap length (sym s ∙ d) in
     omega arith
 
-pub one_command : (words : List (List ℕ)) (c d : Command) → command_of words ≡ Some c → command_of words ≡ Some d → c ≡ d
-one_command words c d this that = same_Some c d (sym this ∙ that)
+pub one_command : (words : List (List ℕ)) (c d : Command) → task_of words ≡ Some (tasks.Read c) → task_of words ≡ Some (tasks.Read d) → c ≡ d
+one_command words c d this that = let e : tasks.Read c ≡ tasks.Read d = same_Some (tasks.Read c) (tasks.Read d) (sym this ∙ that) in cc
 
-no_command : (words : List (List ℕ)) (c : Command) → command_of words ≡ None → command_of words ≡ Some c → ⊥
-no_command words c none some = none-some c (sym none ∙ some)
+no_command : (words : List (List ℕ)) (c : Command) → task_of words ≡ None → task_of words ≡ Some (tasks.Read c) → ⊥
+no_command words c none some = none-some (tasks.Read c) (sym none ∙ some)
 
 short_input : (c : Command) (text : List ℕ) → length text ≤ most_of c → expected c text ≡ input_fault c text
 short_input c text le = let e : nat_lt (most_of c) (length text) ≡ false = grind (arith, nat_tests) in rw e refl
@@ -94,19 +108,19 @@ no_fault commands.Show input report text makes = ap image_fault makes.0
 
 -- a command ends well
 pub ends_well : (words : List (List ℕ)) (source : Stream) (report : Option Report) (out : List ℕ) → Does words source report out
-    → (c : Command) → command_of words ≡ Some c → (text : List ℕ) → source.bytes ≡ Some text → EndsAs (expected c text) None
+    → (c : Command) → task_of words ≡ Some (tasks.Read c) → (text : List ℕ) → source.bytes ≡ Some text → EndsAs (expected c text) None
 ends_well words source report out does c asked text told =
-    subst (λ (d : Command). EndsAs (expected d text) None) (one_command words does.command c does.asked asked)
-    (ends_as does.command source.bytes source.bytes_after (λ input. Makes does.command input report out) text None does.made told (λ input makes. no_fault does.command input report out makes))
+    let read = subst (λ (t : Task). IsDone t source report out) (same_Some does.task (tasks.Read c) (sym does.asked ∙ asked)) does.done in
+    ends_as c source.bytes source.bytes_after (λ input. Makes c input report out) text None read told (λ input makes. no_fault c input report out makes)
 
-ends_refused : (words : List (List ℕ)) (source : Stream) (fault : TopFault) → IsRefused words source fault → (c : Command) → command_of words ≡ Some c
+ends_refused : (words : List (List ℕ)) (source : Stream) (fault : TopFault) → IsRefused words source fault → (c : Command) → task_of words ≡ Some (tasks.Read c)
     → (text : List ℕ) → source.bytes ≡ Some text → EndsAs (expected c text) (Some fault)
 ends_refused words source fault is c asked text told =
     subst (λ (d : Command). EndsAs (expected d text) (Some fault)) (one_command words is.command c is.asked asked)
     (ends_as is.command source.bytes source.bytes_after (λ input. input_fault is.command input ≡ Some fault) text (Some fault) is.read told (λ input e. e))
 
 -- what ends before the first write ends as the input says
-pub ends_early : (words : List (List ℕ)) (source : Stream) (fault : TopFault) → Cause words source fault → (c : Command) → command_of words ≡ Some c
+pub ends_early : (words : List (List ℕ)) (source : Stream) (fault : TopFault) → Cause words source fault → (c : Command) → task_of words ≡ Some (tasks.Read c)
     → (text : List ℕ) → source.bytes ≡ Some text → (Rose source.faults source.faults_after → ⊥) → EndsAs (expected c text) (Some fault)
 ends_early words source faults.BadWords cause c asked text told calm = absurd (no_command words c cause asked)
 ends_early words source (faults.Script line kind) cause c asked text told calm = ends_refused words source (faults.Script line kind) cause c asked text told

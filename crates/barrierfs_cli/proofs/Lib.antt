@@ -1,3 +1,4 @@
 pub mod BlockLines
 pub mod Ends
 pub mod Promised
+pub mod Pieces

@@ -11,12 +11,13 @@ use Rattle.script_grammar.specs.Grammar.{script_of, blocks_of}
 use Rattle.stack_core.specs.RequestPath.{submitted_count}
 use Rattle.stack_core.specs.Core.{core}
 use Rattle.stack_core.specs.declared.report.Report.{Report}
-use Rattle.barrierfs_cli.specs.declared.command_line.Command.{Command}
 use Rattle.barrierfs_cli.specs.declared.command_line.Command.TheVariants as commands
 use Rattle.barrierfs_cli.specs.declared.fault.TopFault.{TopFault}
-use Rattle.barrierfs_cli.specs.Top.{command_of, Stream, WasRead, IsReplay, Makes, Does}
+use Rattle.barrierfs_cli.specs.declared.command_line.Task.{Task}
+use Rattle.barrierfs_cli.specs.declared.command_line.Task.TheVariants as tasks
+use Rattle.barrierfs_cli.specs.Tasks.{task_of}
+use Rattle.barrierfs_cli.specs.Top.{Stream, WasRead, IsReplay, Makes, IsDone, Does}
 use Rattle.barrierfs_cli.specs.Promise.{WentOut, IsWritten, TellsOrderClosed}
-use Rattle.barrierfs_cli.proofs.Ends.{one_command}
 
 -- where nothing was written, nothing went out
 pub none_out : (taken : Option (List ℕ)) (bytes : List ℕ) → WentOut taken taken bytes → ⊥
@@ -63,8 +64,7 @@ tells old new report text bytes fault read written =
 
 -- the promise, where the words ask for a replay
 pub promised : (words : List (List ℕ)) (source : Stream) (report : Option Report) (text bytes : List ℕ) (fault : Option TopFault) → Does words source report text
-    → command_of words ≡ Some commands.Replay → IsWritten fault text bytes → TellsOrderClosed source.bytes source.bytes_after fault bytes
+    → task_of words ≡ Some (tasks.Read commands.Replay) → IsWritten fault text bytes → TellsOrderClosed source.bytes source.bytes_after fault bytes
 promised words source report text bytes fault does asked written =
-    let same = one_command words does.command commands.Replay does.asked asked in
-    let read = subst (λ (c : Command). WasRead c source.bytes source.bytes_after (λ input. Makes c input report text)) same does.made in
+    let read = subst (λ (t : Task). IsDone t source report text) (same_Some does.task (tasks.Read commands.Replay) (sym does.asked ∙ asked)) does.done in
     tells source.bytes source.bytes_after report text bytes fault read written

@@ -1,3 +1,4 @@
+pub mod Tasks
 pub mod Text
 pub mod Show
 pub mod Top

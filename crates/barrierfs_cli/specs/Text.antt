@@ -4,6 +4,10 @@ use Rattle.std.specs.Option.{option_map_or, option_and_then}
 use Rattle.std.specs.Fmt.{decimal}
 use Rattle.byte_text.specs.Hex.{hex_text}
 use Rattle.stack_core.specs.declared.report.Report.{Report}
+use Rattle.std.specs.List.{concat}
+use Rattle.std.specs.String.{string_bytes}
+use Rattle.barrierfs_cli.specs.declared.output.Output.{Output}
+use Rattle.barrierfs_cli.specs.declared.output.Output.TheVariants as outputs
 
 -- an origin's id, or a dash
 abbrev pub origin_text : Option ℕ → List ℕ
@@ -33,3 +37,8 @@ report_text steps image origins = codes "steps " ++ decimal steps ++ codes "\n" 
 -- the text of a report
 abbrev pub text_of : Report → List ℕ
 text_of r = report_text r.cut.trace.steps r.cut.image r.cut.origins
+
+-- the bytes that go out
+abbrev pub output_bytes : Output → List ℕ
+output_bytes (outputs.Text text) = string_bytes text
+output_bytes (outputs.Image image) = concat image

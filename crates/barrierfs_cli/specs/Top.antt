@@ -1,14 +1,18 @@
 -- What the top call did, by its fault.
-use Rattle.std.specs.Prelude.{◌≡◌, ℕ, ◌<◌, ◌≤◌, ◌⊎◌, List, [], ◌∷◌, codes, length, Option, Some, None, Result, Ok, Err, nat_lt, if◌then◌else◌}
-use Rattle.std.specs.Str.{bytes_eq}
+use Rattle.std.specs.Prelude.{◌≡◌, ℕ, ◌<◌, ◌≤◌, ◌⊎◌, List, length, Option, Some, None, Result, Ok, Err, nat_lt, if◌then◌else◌}
+use Rattle.std.specs.List.{concat}
 use Rattle.std.specs.Io.KnownBytes.{Keeps, Appends, Consumes}
 use Rattle.blk_base.specs.Streams.{Rose, Drained, AppendsFront}
-use Rattle.script_grammar.specs.declared.limits.TheConstants.{MOST_SCRIPT_BYTES}
 use Rattle.script_grammar.specs.declared.kinds.ScriptKind.{ScriptKind}
 use Rattle.blk_base.specs.Image.{whole_blocks}
 use Rattle.mount_make.specs.declared.fault.ImageFault.{ImageFault}
-use Rattle.barrierfs_cli.specs.declared.command_line.TheConstants.{MOST_IMAGE_BYTES}
+use Rattle.minix_layout.specs.Geometry.{geometry_made}
+use Rattle.mount_make.specs.Made.{made_image}
 use Rattle.barrierfs_cli.specs.declared.command_line.Command.{Command}
+use Rattle.barrierfs_cli.specs.declared.command_line.Sizes.{Sizes}
+use Rattle.barrierfs_cli.specs.declared.command_line.Task.{Task}
+use Rattle.barrierfs_cli.specs.declared.command_line.Task.TheVariants as tasks
+use Rattle.barrierfs_cli.specs.Tasks.{most_of, task_of}
 use Rattle.barrierfs_cli.specs.declared.command_line.Command.TheVariants as commands
 use Rattle.barrierfs_cli.specs.Show.{shown}
 use Rattle.barrierfs_cli.specs.declared.fault.TopFault.{TopFault}
@@ -22,19 +26,6 @@ use Rattle.stack_core.specs.declared.report.Report.{Report}
 use Rattle.script_grammar.specs.Grammar.{script_of}
 use Rattle.stack_core.specs.Report.{IsCoreReport, Headline}
 use Rattle.barrierfs_cli.specs.Text.{text_of}
-
--- the lists of words that are built
-abbrev pub command_of : List (List ℕ) → Option Command
-command_of (w ∷ []) =
-    if bytes_eq w (codes "replay") then Some commands.Replay
-    else if bytes_eq w (codes "show") then Some commands.Show
-    else None
-command_of words = None
-
--- the most bytes of a script, and of an image
-abbrev pub most_of : Command → ℕ
-most_of commands.Replay = MOST_SCRIPT_BYTES
-most_of commands.Show = MOST_IMAGE_BYTES
 
 -- the exit status of a fault
 abbrev pub status_of : Option TopFault → ℕ
@@ -83,7 +74,11 @@ pub record IsReplay (input : List ℕ) (report : Option Report) (text : List ℕ
   pub reported : report ≡ Some result
   pub printed : text ≡ text_of result
 
--- `show`: the text is that of the tree that the image has
+-- `make`: the bytes are those of a new image with these sizes, and there is no report
+abbrev pub IsMade : Sizes → Option Report → List ℕ → Type 0
+IsMade s report bytes = (bytes ≡ concat (made_image (geometry_made s.inodes s.zones) s.journal)) × (report ≡ None)
+
+-- `show`: the text is that of the tree that the image has once its journal was recovered
 abbrev pub Makes : Command → List ℕ → Option Report → List ℕ → Type 0
 Makes commands.Replay input report text = IsReplay input report text
 Makes commands.Show input report text = (shown (whole_blocks input) ≡ Ok text) × (report ≡ None)
@@ -111,26 +106,35 @@ IsInputFault c input other = ⊥
 
 -- ---- what the top call did
 
--- the words are a command, and this is what it makes of the source
+-- nothing was read
+abbrev pub IsUnread : Stream → Type 0
+IsUnread source = (source.bytes_after ≡ source.bytes) × (source.faults_after ≡ source.faults)
+
+-- what a command makes of the source, or the image that is made
+abbrev pub IsDone : Task → Stream → Option Report → List ℕ → Type 0
+IsDone (tasks.Read c) source report text = WasRead c source.bytes source.bytes_after (λ input. Makes c input report text)
+IsDone (tasks.Make s) source report text = IsUnread source × IsMade s report text
+
+-- the words ask for a task, and this is done
 pub record Does (words : List (List ℕ)) (source : Stream) (report : Option Report) (text : List ℕ) : Type 0 where
-  pub command : Command
-  pub asked : command_of words ≡ Some command
-  pub made : WasRead command source.bytes source.bytes_after (λ input. Makes command input report text)
+  pub task : Task
+  pub asked : task_of words ≡ Some task
+  pub done : IsDone task source report text
 
 -- the words are a command, and this is the fault of the source's bytes
 pub record IsRefused (words : List (List ℕ)) (source : Stream) (fault : TopFault) : Type 0 where
   pub command : Command
-  pub asked : command_of words ≡ Some command
+  pub asked : task_of words ≡ Some (tasks.Read command)
   pub read : WasRead command source.bytes source.bytes_after (λ input. input_fault command input ≡ Some fault)
 
 -- the cause of a fault for which nothing is written; want of memory is free
 abbrev pub Cause : List (List ℕ) → Stream → TopFault → Type 0
-Cause words source faults.BadWords = command_of words ≡ None
+Cause words source faults.BadWords = task_of words ≡ None
 Cause words source (faults.Script line kind) = IsRefused words source (faults.Script line kind)
 Cause words source (faults.Image kind block) = IsRefused words source (faults.Image kind block)
 Cause words source faults.SourceFault = Rose source.faults source.faults_after
 Cause words source faults.SinkFault = ⊥
-Cause words source faults.TooLong = (c : Command) × (command_of words ≡ Some c) × IsTooLong c source.bytes source.bytes_after
+Cause words source faults.TooLong = (c : Command) × (task_of words ≡ Some (tasks.Read c)) × IsTooLong c source.bytes source.bytes_after
 Cause words source faults.NoMemory = Unit {0}
 
 -- what was done to source and sink, by the fault

@@ -1,4 +1,4 @@
-//! Runs scripts on the model stack and prints what a power cut leaves, and prints the trees of images.
+//! Runs scripts on the model stack and prints what a power cut leaves, makes images and prints the trees of images.
 #![tactic(auto)]
 
 mod command_line;
@@ -7,6 +7,8 @@ mod example_tests;
 mod fault;
 #[cfg(test)]
 mod image_tests;
+mod number;
+mod output;
 mod show;
 #[cfg(test)]
 mod tests;

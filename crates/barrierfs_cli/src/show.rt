@@ -52,7 +52,7 @@ fn volume_of(alloc: Global, image: Image) -> Result<Volume, TopFault>
         Ok(mounted) => Ok(mounted.volume),
         Err(MountFault::Image(fault, block)) => Err(TopFault::Image(fault, block)),
         Err(MountFault::NoMemory) => Err(TopFault::NoMemory),
-        Err(MountFault::ReadFault) => unreachable!(),
+        Err(MountFault::ReadFault | MountFault::DeviceFailed(_)) => unreachable!(),
     }
 }
 

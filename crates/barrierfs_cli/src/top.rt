@@ -1,18 +1,24 @@
 //! The top call.
 ghost use Rattle.std.specs.Prelude.{◌≡◌, ℕ, ◌≤◌, List, Some, None, Ok, length, IfOk, IfErr, IsErrOf};
 ghost use Rattle.blk_base.specs.Streams.{Rose};
-ghost use Rattle.barrierfs_cli.specs.Top.{command_of, most_of, status_of, stream_of, IsReplay, Makes, IsInputFault, Does, Cause, Did, expected, EndsAs, top_fault, end_fault};
+ghost use Rattle.barrierfs_cli.specs.Tasks.{most_of, task_of, CanDo};
+ghost use Rattle.barrierfs_cli.specs.Text.{output_bytes};
+ghost use Rattle.barrierfs_cli.specs.Top.{status_of, stream_of, IsReplay, IsMade, Makes, IsInputFault, Does, Cause, Did, expected, EndsAs, top_fault, end_fault};
 ghost use Rattle.barrierfs_cli.specs.Promise.{WentOut, TellsOrderClosed};
 ghost use Rattle.std.specs.String.{string_bytes};
 ghost use Rattle.blk_base.specs.Image.{whole_blocks};
 ghost use Rattle.barrierfs_cli.specs.declared.command_line.Command.{Command};
+ghost use Rattle.barrierfs_cli.specs.declared.command_line.Sizes.{Sizes};
+ghost use Rattle.barrierfs_cli.specs.declared.command_line.Task.{Task};
 ghost use Rattle.barrierfs_cli.specs.Show.{shown};
 
-use crate::command_line::{Command, Words};
+use crate::command_line::{Command, Sizes, Task, Words};
 use crate::fault::TopFault;
+use crate::output::Output;
 use crate::show::show_text;
 use crate::text::put_report;
-use blk_base::{ReadEnd, Sink, Source, read_all, write_all};
+use blk_base::{ReadEnd, Sink, Source, read_all};
+use mount_make::{MakeFault, make_volume};
 use script_grammar::{MOST_SCRIPT_BYTES, ScriptError, read_script};
 use stack_core::{Report, core_run};
 use std::alloc::Global;
@@ -27,11 +33,11 @@ pub struct Outcome {
     pub report: Option<Report>,
 }
 
-// What a command has to write, and the report of a run.
+// What a task has to write, and the report of a run.
 #[derive(Drop)]
 struct Printed {
     report: Option<Report>,
-    text: String,
+    output: Output,
 }
 
 fn fault_of(error: ScriptError) -> TopFault
@@ -56,7 +62,7 @@ fn read_fault(end: ReadEnd) -> TopFault
 // Runs the script of these bytes, and makes its text.
 fn run_text(alloc: Global, bytes: &[u8]) -> Result<Printed, TopFault>
     requires { length bytes.now ≤ MOST_SCRIPT_BYTES }
-    ensures ok { IfOk result (λ p. IsReplay bytes.now p.report (string_bytes p.text)) }
+    ensures ok { IfOk result (λ p. IsReplay bytes.now p.report (output_bytes p.output)) }
     ensures err { IfErr result (IsInputFault Command.Replay bytes.now) }
 {
     let script = match read_script(alloc, bytes) {
@@ -75,7 +81,7 @@ fn run_text(alloc: Global, bytes: &[u8]) -> Result<Printed, TopFault>
     ) {
         Ok(()) => Ok(Printed {
             report: Some(report),
-            text,
+            output: Output::Text(text),
         }),
         Err(_) => Err(TopFault::NoMemory),
     }
@@ -83,17 +89,20 @@ fn run_text(alloc: Global, bytes: &[u8]) -> Result<Printed, TopFault>
 
 // The text of the tree of an image of these bytes.
 fn show(alloc: Global, bytes: Vec<u8>) -> Result<Printed, TopFault>
-    ensures ok { IfOk result (λ p. (shown (whole_blocks bytes.items) ≡ Ok (string_bytes p.text)) × (p.report ≡ None)) }
+    ensures ok { IfOk result (λ p. (shown (whole_blocks bytes.items) ≡ Ok (output_bytes p.output)) × (p.report ≡ None)) }
     ensures err { IfErr result (IsInputFault Command.Show bytes.items) }
 {
     let text = show_text(alloc, bytes)?;
-    Ok(Printed { report: None, text })
+    Ok(Printed {
+        report: None,
+        output: Output::Text(text),
+    })
 }
 
 // What a command makes of its input.
 fn print(alloc: Global, command: Command, bytes: Vec<u8>) -> Result<Printed, TopFault>
     requires { length bytes.items ≤ most_of command }
-    ensures ok { IfOk result (λ p. Makes command bytes.items p.report (string_bytes p.text)) }
+    ensures ok { IfOk result (λ p. Makes command bytes.items p.report (output_bytes p.output)) }
     ensures err { IfErr result (IsInputFault command bytes.items) }
 {
     match command {
@@ -102,38 +111,69 @@ fn print(alloc: Global, command: Command, bytes: Vec<u8>) -> Result<Printed, Top
     }
 }
 
-// All that comes before the first write.
-fn prepare<R: Source>(alloc: Global, words: &Words, src: &mut R) -> Result<Printed, TopFault>
-    ensures ok { IfOk result (λ p. Does words.now (stream_of R.left R.faults src.old src.new) p.report (string_bytes p.text)) }
-    ensures err { IfErr result (Cause words.now (stream_of R.left R.faults src.old src.new)) }
-    ensures words { command_of words.now ≡ None → IsErrOf result TopFault.BadWords }
+// An image of these sizes.
+fn make(alloc: Global, sizes: Sizes) -> Result<Printed, TopFault>
+    requires { CanDo (Task.Make sizes) }
+    ensures ok { IfOk result (λ p. IsMade sizes p.report (output_bytes p.output)) }
+    ensures err { IfErr result (λ fault. fault ≡ TopFault.NoMemory) }
 {
-    let Some(command) = words.command() else {
-        return Err(TopFault::BadWords);
-    };
+    match make_volume(alloc, sizes.inodes, sizes.zones, sizes.journal) {
+        Ok(image) => Ok(Printed {
+            report: None,
+            output: Output::Image(image),
+        }),
+        Err(MakeFault::NoMemory) => Err(TopFault::NoMemory),
+        Err(MakeFault::TooSmall | MakeFault::JournalSize) => unreachable!(),
+    }
+}
+
+// Reads the input of a command, and makes of it what the command does.
+fn read<R: Source>(alloc: Global, command: Command, src: &mut R) -> Result<Printed, TopFault>
+    ensures ok { (words : List (List ℕ)) → task_of words ≡ Some (Task.Read command) →
+        IfOk result (λ p. Does words (stream_of R.left R.faults src.old src.new) p.report (output_bytes p.output)) }
+    ensures err { (words : List (List ℕ)) → task_of words ≡ Some (Task.Read command) → IfErr result (Cause words (stream_of R.left R.faults src.old src.new)) }
+{
     match read_all(alloc, src, command.most()) {
         Ok(bytes) => print(alloc, command, bytes),
         Err(end) => Err(read_fault(end)),
     }
 }
 
+// All that comes before the first write.
+fn prepare<R: Source>(alloc: Global, words: &Words, src: &mut R) -> Result<Printed, TopFault>
+    ensures ok { IfOk result (λ p. Does words.now (stream_of R.left R.faults src.old src.new) p.report (output_bytes p.output)) }
+    ensures err { IfErr result (Cause words.now (stream_of R.left R.faults src.old src.new)) }
+    ensures words { task_of words.now ≡ None → IsErrOf result TopFault.BadWords }
+    ensures made { (s : Sizes) → task_of words.now ≡ Some (Task.Make s) → IfErr result (λ fault. fault ≡ TopFault.NoMemory) }
+{
+    let Some(task) = words.task() else {
+        return Err(TopFault::BadWords);
+    };
+    match task {
+        Task::Read(command) => read(alloc, command, src),
+        Task::Make(sizes) => make(alloc, sizes),
+    }
+}
+
 /// Does what the words say: `replay` reads a script of the source, runs it and writes its report to the sink,
-/// and `show` reads an image and writes the text of its tree.
+/// `show` reads an image and writes the text of the tree that it has once its journal was recovered, and `make` with
+/// the numbers of inodes, blocks of the volume and blocks of the journal writes a new image.
 ///
 /// The statuses are tested in the order 2, 5 and 7, 3 or 4, 6. Status 8, want of memory, may come at any place
 /// before the first write.
 pub fn alone<R: Source, W: Sink>(alloc: Global, words: &Words, src: &mut R, out: &mut W) -> Outcome
-    ensures promise { (bytes : List ℕ) → command_of words.now ≡ Some Command.Replay → WentOut (W.taken out.old) (W.taken out.new) bytes → TellsOrderClosed (R.left src.old) (R.left src.new) result.fault bytes }
+    ensures promise { (bytes : List ℕ) → task_of words.now ≡ Some (Task.Read Command.Replay) → WentOut (W.taken out.old) (W.taken out.new) bytes → TellsOrderClosed (R.left src.old) (R.left src.new) result.fault bytes }
     ensures status { result.status ≡ status_of result.fault }
     ensures did { Did words.now (stream_of R.left R.faults src.old src.new) (stream_of W.taken W.faults out.old out.new) result.report result.fault }
-    ensures words { command_of words.now ≡ None → result.fault ≡ Some TopFault.BadWords }
-    ensures complete { (c : Command) → command_of words.now ≡ Some c → (text : List ℕ) → R.left src.old ≡ Some text → ¬ Rose (R.faults src.old) (R.faults src.new) → ¬ Rose (W.faults out.old) (W.faults out.new) → EndsAs (expected c text) result.fault }
+    ensures words { task_of words.now ≡ None → result.fault ≡ Some TopFault.BadWords }
+    ensures complete { (c : Command) → task_of words.now ≡ Some (Task.Read c) → (text : List ℕ) → R.left src.old ≡ Some text → ¬ Rose (R.faults src.old) (R.faults src.new) → ¬ Rose (W.faults out.old) (W.faults out.new) → EndsAs (expected c text) result.fault }
+    ensures made { (s : Sizes) → task_of words.now ≡ Some (Task.Make s) → ¬ Rose (W.faults out.old) (W.faults out.new) → EndsAs None result.fault }
 {
     let printed = match prepare(alloc, words, src) {
         Ok(printed) => printed,
         Err(fault) => return failed(fault),
     };
-    match write_all(out, printed.text.as_bytes()) {
+    match printed.output.write(out) {
         Ok(()) => Outcome {
             status: 0,
             fault: None,

@@ -1,17 +1,20 @@
-use Rattle.std.specs.Prelude.{◌≤◌, length}
-use Rattle.std.proofs.Common.{sym, ◌∙◌, arith}
-use Rattle.barrierfs_cli.specs.Top.{most_of, stream_of}
-use Rattle.barrierfs_cli.proofs.Ends.{does_if, cause_if}
+use Rattle.std.proofs.Common.{◌≡◌, Some, sym, ap, ◌∙◌, subst, refl}
+use Rattle.barrierfs_cli.specs.declared.command_line.Task.TheVariants as tasks
+use Rattle.barrierfs_cli.specs.Tasks.{task_of, CanDo}
+use Rattle.barrierfs_cli.specs.Top.{stream_of}
+use Rattle.barrierfs_cli.proofs.Ends.{made_if, made_cause}
 use Rattle.barrierfs_cli.proofs.top.prepare.Goals as goal
 
-pub returns-in-Ok-clause-ok : goal.returns-in-Ok-clause-ok
-returns-in-Ok-clause-ok g c =
-    let source = stream_of g.R.Source.left g.R.Source.faults c.args.src.now c.read_all.new.src in
-    let short : length c.in-Ok.bytes.items ≤ most_of c.in-Some.command = grind (arith, c.in-Ok.ensures.short, c.most.ensures, c.in-Ok.bytes.ok) in
-    does_if c.args.words.now source c.in-Some.command c.in-Ok.bytes.items c.print.result (sym c.command.ensures ∙ c.in-Some.is) c.in-Ok.ensures.all short c.print.ensures.ok
+pub returns-in-Read-clause-ok : goal.returns-in-Read-clause-ok
+returns-in-Read-clause-ok g c = c.read.ensures.ok c.args.words.now (sym c.task.ensures.value ∙ (c.in-Some.is ∙ ap Some c.in-Read.is))
 
-pub returns-in-Ok-clause-err : goal.returns-in-Ok-clause-err
-returns-in-Ok-clause-err g c =
-    let source = stream_of g.R.Source.left g.R.Source.faults c.args.src.now c.read_all.new.src in
-    let short : length c.in-Ok.bytes.items ≤ most_of c.in-Some.command = grind (arith, c.in-Ok.ensures.short, c.most.ensures, c.in-Ok.bytes.ok) in
-    cause_if c.args.words.now source c.in-Some.command c.in-Ok.bytes.items c.print.result (sym c.command.ensures ∙ c.in-Some.is) c.in-Ok.ensures.all short c.print.ensures.err
+pub returns-in-Read-clause-err : goal.returns-in-Read-clause-err
+returns-in-Read-clause-err g c = c.read.ensures.err c.args.words.now (sym c.task.ensures.value ∙ (c.in-Some.is ∙ ap Some c.in-Read.is))
+
+pub returns-in-Make-clause-ok : goal.returns-in-Make-clause-ok
+returns-in-Make-clause-ok g c =
+    made_if c.args.words.now (stream_of g.R.Source.left g.R.Source.faults c.args.src.now c.args.src.now) c.in-Make.sizes c.make.result
+    (sym c.task.ensures.value ∙ (c.in-Some.is ∙ ap Some c.in-Make.is)) (refl, refl) c.make.ensures.ok
+
+pub returns-in-Make-clause-err : goal.returns-in-Make-clause-err
+returns-in-Make-clause-err g c = made_cause c.args.words.now (stream_of g.R.Source.left g.R.Source.faults c.args.src.now c.args.src.now) c.make.result c.make.ensures.err
