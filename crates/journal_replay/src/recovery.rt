@@ -78,7 +78,7 @@ pub fn recover<D: OrderedDev>(
     ensures fine { IfOk result (λ _. journal_fault base (D.seen (D.state dev.old)).surface ≡ None) }
     ensures failed_fine { (id : ℕ) → result ≡ Err (RecoverFault.DeviceFailed id) → journal_fault base (D.seen (D.state dev.old)).surface ≡ None }
     ensures unwritten { (fault : RecoverFault) → result ≡ Err fault → ((id : ℕ) → fault ≢ RecoverFault.DeviceFailed id) →
-        Reads (D.seen (D.state dev.old)) (D.seen (D.state dev.new)) }
+        OnlyReads (D.seen (D.state dev.old)) (D.seen (D.state dev.new)) }
     ensures counts { (D.seen (D.state dev.old)).faults ≤ (D.seen (D.state dev.new)).faults }
     ensures between { AreBetween (D.seen (D.state dev.old)).surface (recovered base (D.seen (D.state dev.old)).surface) (D.seen (D.state dev.new)).surface }
     ensures sound { D.sound (D.state dev.old) → D.sound (D.state dev.new) × ((D.seen (D.state dev.new)).faults ≡ (D.seen (D.state dev.old)).faults) }

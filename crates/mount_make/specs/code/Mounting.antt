@@ -1,12 +1,8 @@
 -- What the steps of mounting leave as it was.
 use Rattle.std.specs.Prelude.{◌≡◌, ℕ, ◌<◌, List, length}
 use Rattle.order_model.specs.Device.{Seen, IsQuiet}
-<<<<<<< HEAD:crates/mount_make/specs/Reading.antt
-use Rattle.order_model.specs.Steps.{OnlyReads}
-=======
 use Rattle.order_model.specs.Steps.{OnlyReads}
 use Rattle.volume_ops.specs.Volume.{disk_of}
->>>>>>> 0f632a5 (Recover the journal of an image that is mounted, and make images with an empty one):crates/mount_make/specs/code/Mounting.antt
 use Rattle.volume_ops.specs.DeviceReads.{quiet_after, same_surface}
 use Rattle.mount_make.specs.Images.{recovered_from}
 

@@ -3,7 +3,7 @@ use Rattle.minix_layout.specs.declared.division.Geometry.{Geometry}
 use Rattle.minix_layout.specs.Geometry.{IsSound}
 use Rattle.volume_ops.specs.Volume.{disk_of}
 use Rattle.volume_ops.specs.VolumeTrees.{IsVolumeTree}
-use Rattle.volume_ops.specs.laws.TreeUnique.{tree_walked}
+use Rattle.volume_ops.proofs.TreeUnique.{tree_walked}
 use Rattle.volume_model.specs.Plain.{IsPlainVolume}
 use Rattle.mount_make.specs.Made.{made_volume, made_image, root_alone}
 use Rattle.mount_make.specs.laws.ImageLaws.{image_has_tree}
