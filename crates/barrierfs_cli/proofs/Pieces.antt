@@ -6,7 +6,6 @@ use Rattle.std.proofs.Common.{sym, ap, subst, ◌∙◌, arith, append_assoc, ap
 use Rattle.std.proofs.KnownBytes.{Appends-trans}
 use Rattle.std.proofs.lemmas.Option.{none-some, same_Some}
 use Rattle.blk_base.specs.Streams.{AppendsFront}
-use Rattle.barrierfs_cli.specs.declared.command_line.Task.{Task}
 use Rattle.barrierfs_cli.specs.Tasks.{task_of}
 
 next_at : (xs : List (List ℕ)) (k : ℕ) (x : List ℕ) → slice_get xs k ≡ Some x → concat (take (suc k) xs) ≡ concat (take k xs) ++ x

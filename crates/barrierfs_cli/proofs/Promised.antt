@@ -1,5 +1,5 @@
 -- The bytes that `replay` writes are the text of an order-closed medium.
-use Rattle.std.proofs.Common.{◌≡◌, ℕ, ◌<◌, ◌++◌, List, [], length, take, Option, Some, None, refl, sym, ap, ◌∙◌, subst, arith, length-append, append-nil}
+use Rattle.std.proofs.Common.{◌≡◌, ℕ, ◌++◌, List, [], length, take, Option, Some, None, sym, ap, ◌∙◌, subst, arith, append-nil}
 use Rattle.std.proofs.lemmas.Option.{none-some, same_Some}
 use Rattle.std.proofs.lemmas.List.{append_cancel_left}
 use Rattle.std.specs.Io.KnownBytes.{Appends}
@@ -7,7 +7,7 @@ use Rattle.blk_base.specs.Image.{zeros}
 use Rattle.blk_base.specs.Streams.{AppendsFront}
 use Rattle.order_model.specs.Submission.{IsOrderClosed}
 use Rattle.script_grammar.specs.declared.script.Script.{Script}
-use Rattle.script_grammar.specs.Grammar.{script_of, blocks_of}
+use Rattle.script_grammar.specs.Grammar.{blocks_of}
 use Rattle.stack_core.specs.RequestPath.{submitted_count}
 use Rattle.stack_core.specs.Core.{core}
 use Rattle.stack_core.specs.declared.report.Report.{Report}

@@ -1,6 +1,4 @@
-use Rattle.std.proofs.Common.{◌≡◌, Some, sym, ap, ◌∙◌, subst, refl}
-use Rattle.barrierfs_cli.specs.declared.command_line.Task.TheVariants as tasks
-use Rattle.barrierfs_cli.specs.Tasks.{task_of, CanDo}
+use Rattle.std.proofs.Common.{Some, sym, ap, ◌∙◌, refl}
 use Rattle.barrierfs_cli.specs.Top.{stream_of}
 use Rattle.barrierfs_cli.proofs.Ends.{made_if, made_cause}
 use Rattle.barrierfs_cli.proofs.top.prepare.Goals as goal
