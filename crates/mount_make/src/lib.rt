@@ -10,6 +10,8 @@
 #![tactic(auto)]
 
 mod fault;
+#[cfg(test)]
+mod journal_tests;
 mod laws;
 mod make;
 mod mounting;

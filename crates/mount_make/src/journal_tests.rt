@@ -1,0 +1,175 @@
+//! Images that are made, and mounted with what stands in their journals.
+use super::*;
+use blk_base::{Block, Image, NoMemory};
+use device_epochs::{DeviceSetup, EpochDevice};
+use journal_blocks::{JournalSuper, Tag, write_commit, write_descriptor, write_super};
+use std::alloc::Global;
+use std::test::Fail;
+use tree_model::put_tree;
+
+// Where a block of the image of 32 inodes, 64 zones and a journal of 128 blocks is not all zeros, its first bytes and
+// the byte that follows them.
+fn made(at: u32) -> (&'static [u8], u8) {
+    match at {
+        1 => (
+            b"\x20\x00\x40\x00\x01\x00\x01\x00\x05\x00\x00\x00\x00\x1c\x08\x10\x7f\x13\x01\x00",
+            0,
+        ),
+        2 => (b"\x03\x00\x00\x00\xfe", 0xff),
+        3 => (b"\x03\x00\x00\x00\x00\x00\x00\xf0", 0xff),
+        4 => (
+            b"\xed\x41\x00\x00\x20\x00\x00\x00\x00\x00\x00\x00\x00\x02\x05\x00",
+            0,
+        ),
+        5 => (
+            b"\x01\x00.\x00\x00\x00\x00\x00\x00\x00\x00\x00\x00\x00\x00\x00\x01\x00..",
+            0,
+        ),
+        64 => (
+            b"\xc0\x3b\x39\x98\x00\x00\x00\x04\x00\x00\x00\x00\x00\x00\x04\x00\x00\x00\x00\x80\x00\x00\x00\x01\x00\x00\x00\x01\x00\x00\x00\x00\x00\x00\x00\x00\x00\x00\x00\x00\x00\x00\x00\x01\x00\x00\x00\x00\x00\x00\x00\x00\x00\x00\x00\x00\x00\x00\x00\x00\x00\x00\x00\x00\x00\x00\x00\x01",
+            0,
+        ),
+        _ => (b"", 0),
+    }
+}
+
+// Whether a block begins with these bytes, and goes on with this one.
+fn is_block(block: &Block, front: &[u8], rest: u8) -> bool {
+    for (k, byte) in block.as_slice().iter().enumerate() {
+        let wanted = match front.get(k) {
+            Some(wanted) => *wanted,
+            None => rest,
+        };
+        if *byte != wanted {
+            return false;
+        }
+    }
+    true
+}
+
+#[test]
+fn makes_each_block(rt: HostRuntime) -> Result<(), Fail> {
+    let image = make_volume(rt.alloc(), 32, 64, 128).map_err(|_| "not made")?;
+    assert_eq!(rt; image.len(), 192);
+    for at in 0..192 {
+        let (front, rest) = made(at);
+        if at < image.len() {
+            assert!(rt; is_block(image.block(at), front, rest), "{at}");
+        }
+    }
+    made_images_are_plain();
+    Ok(())
+}
+
+#[test]
+fn refuses_sizes(rt: HostRuntime) -> Result<(), Fail> {
+    let rows = [
+        (32, 5, 128, MakeFault::TooSmall),
+        (32, 5, 127, MakeFault::TooSmall),
+        (32, 6, 127, MakeFault::JournalSize),
+        (32, 6, 16_385, MakeFault::JournalSize),
+    ];
+    for (inodes, zones, journal, fault) in rows {
+        let made = make_volume(rt.alloc(), inodes, zones, journal);
+        assert!(rt; made.is_err_and(|f| f == fault), "{zones} {journal}");
+    }
+    Ok(())
+}
+
+// Writes a block that is there.
+fn put(image: &mut Image, at: u32, body: Block) {
+    if at < image.len() {
+        image.put(at, body);
+    }
+}
+
+// A made image whose log has an empty transaction of sequence 4, and one of sequence 5 without its commit block.
+fn skipping(alloc: Global) -> Result<Image, MakeFault> {
+    let mut image = make_volume(alloc, 32, 64, 128)?;
+    let superblock = JournalSuper {
+        maxlen: 128,
+        first: 1,
+        sequence: 4,
+        start: 1,
+        incompat: 1,
+    };
+    let tag = Tag {
+        block: 5,
+        escaped: false,
+    };
+    put(&mut image, 64, write_super(&superblock));
+    put(&mut image, 65, write_commit(4));
+    put(&mut image, 66, write_descriptor(5, &[tag]));
+    Ok(image)
+}
+
+fn mounted(
+    alloc: Global,
+    image: Image,
+    fail_at: Option<u64>,
+    bad_read: Option<u64>,
+) -> Result<Mounted, MountFault> {
+    let setup = DeviceSetup {
+        depth: 4,
+        limit: u64::from(image.len()) + 2,
+        fail_at,
+        bad_read,
+        cut_at: None,
+    };
+    let Ok(mut device) = EpochDevice::make(alloc, image, setup) else {
+        return Err(MountFault::NoMemory);
+    };
+    mount(alloc, &mut device)
+}
+
+fn shown(alloc: Global, mounted: &Mounted) -> Result<String, NoMemory> {
+    let mut text = String::new(alloc);
+    put_tree(alloc, &mut text, mounted.volume.tree(alloc)?)?;
+    Ok(text)
+}
+
+#[test]
+fn skips_the_missing_sequence(rt: HostRuntime) -> Result<(), Fail> {
+    let alloc = rt.alloc();
+    let image = skipping(alloc).map_err(|_| "not made")?;
+    let mounted = mounted(alloc, image, None, None).map_err(|_| "not mounted")?;
+    let log = mounted.log.ok_or("no journal")?;
+    assert_eq!(rt; (log.start, log.sequence, log.maxlen), (0, 6, 128));
+    assert!(rt; mounted.pages.state(0, 0).is_none());
+    assert_eq!(rt; shown(alloc, &mounted)?.as_str(), "dir /\n");
+    Ok(())
+}
+
+// What mounting is refused with on a device that fails so.
+fn refused(
+    alloc: Global,
+    fail_at: Option<u64>,
+    bad_read: Option<u64>,
+) -> Result<Option<MountFault>, MakeFault> {
+    Ok(mounted(alloc, skipping(alloc)?, fail_at, bad_read).err())
+}
+
+#[test]
+fn tells_what_the_device_failed(rt: HostRuntime) -> Result<(), Fail> {
+    let alloc = rt.alloc();
+    let told = refused(alloc, Some(1), None).map_err(|_| "not made")?;
+    assert_eq!(rt; told, Some(MountFault::DeviceFailed(0)));
+    let told = refused(alloc, Some(2), None).map_err(|_| "not made")?;
+    assert_eq!(rt; told, Some(MountFault::DeviceFailed(1)));
+    let told = refused(alloc, Some(3), None).map_err(|_| "not made")?;
+    assert_eq!(rt; told, None);
+    Ok(())
+}
+
+#[test]
+fn tells_each_read_that_fails(rt: HostRuntime) -> Result<(), Fail> {
+    let alloc = rt.alloc();
+    // The superblock, the journal's once and once more, four blocks from the start of its log on, and 64 zones.
+    for bad in 1..72 {
+        let told = refused(alloc, None, Some(bad)).map_err(|_| "not made")?;
+        assert_eq!(rt; told, Some(MountFault::ReadFault), "{bad}");
+    }
+    let told = refused(alloc, None, Some(72)).map_err(|_| "not made")?;
+    assert_eq!(rt; told, None);
+    Ok(())
+}
