@@ -1,5 +1,5 @@
 -- The fields of the ring at each step of the code.
-use Rattle.std.proofs.Common.{◌≡◌, ℕ, ◌+◌, ◌-◌, ◌<◌, ◌≤◌, List, length, refl, sym, ap, subst, ◌∙◌, arith}
+use Rattle.std.proofs.Common.{◌≡◌, ℕ, ◌+◌, ◌-◌, ◌<◌, ◌≤◌, List, length, sym, ap, subst, ◌∙◌, arith}
 use Rattle.blk_base.specs.Members.{IsAscending-filter}
 use Rattle.log_model.proofs.Ring.{places_on-up, places_on-add, place_after-last}
 use Rattle.log_model.specs.Marks.{Logged}
@@ -8,7 +8,7 @@ use Rattle.number_sets.specs.Sets.{has}
 use Rattle.std.specs.Prelude.{not}
 use Rattle.journal_blocks.specs.declared.super_block.JournalSuper.{JournalSuper}
 use Rattle.journal_ring.specs.Journal.{JournalRing, with_ring}
-use Rattle.journal_ring.specs.LogRing.{LogRing, put_homes, place_blocks}
+use Rattle.journal_ring.specs.LogRing.{put_homes, place_blocks}
 use Rattle.journal_ring.specs.code.Fields.{IsRing}
 use Rattle.journal_ring.proofs.Waiting.{block_of, unrevoked, put_homes-rising, put_homes-longer, unrevoked-fewer}
 

@@ -1,5 +1,5 @@
 -- The ring of the log of one journal.
-use Rattle.std.specs.Prelude.{◌≡◌, ℕ, false, List, [], ◌∷◌, Option, Some, None}
+use Rattle.std.specs.Prelude.{ℕ, false, [], ◌∷◌, Option, Some, None}
 use Rattle.log_model.specs.Marks.{Logged}
 use Rattle.journal_blocks.specs.declared.super_block.JournalSuper.{JournalSuper}
 use Rattle.journal_ring.specs.LogRing.{LogRing}

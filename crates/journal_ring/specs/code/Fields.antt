@@ -1,5 +1,5 @@
 -- What holds of the fields of a ring.
-use Rattle.std.specs.Prelude.{◌≡◌, ℕ, ◌<◌, ◌≤◌, ◌-◌, ◌^◌, List, length}
+use Rattle.std.specs.Prelude.{ℕ, ◌<◌, ◌≤◌, ◌-◌, ◌^◌, List, length}
 use Rattle.blk_base.specs.Members.{IsAscending}
 use Rattle.log_model.specs.Marks.{Logged}
 use Rattle.journal_blocks.specs.Super.{IsSound}

@@ -1,5 +1,5 @@
 -- Which places are in use.
-use Rattle.std.proofs.Common.{◌≡◌, ℕ, zero, suc, ◌+◌, ◌-◌, ◌<◌, ◌≤◌, List, [], ◌∷◌, ◌++◌, refl, sym, ap, ◌∙◌, arith}
+use Rattle.std.proofs.Common.{◌≡◌, ℕ, ◌+◌, ◌-◌, ◌<◌, ◌≤◌, ◌++◌, sym, ap, ◌∙◌, arith}
 use Rattle.std.specs.Prelude.{◌≢◌}
 use Rattle.log_model.proofs.Ring.{places_on-add, places_from-add, places_on-place, once_round, no_return}
 use Rattle.log_model.specs.Ring.{Ring, IsPlace, places_on, places_from}

@@ -1,7 +1,6 @@
-use Rattle.std.proofs.Common.{get_or, length, ◌≤◌, ap, ◌∙◌, arith}
+use Rattle.std.proofs.Common.{length, ◌≤◌, arith}
 use Rattle.std.specs.VecDeque.{deque_capacity}
-use Rattle.number_sets.specs.Keyed.{drop_by}
-use Rattle.journal_ring.proofs.Waiting.{block_of, dropping_more, dropped_all}
+use Rattle.journal_ring.proofs.Waiting.{dropping_more, dropped_all}
 use Rattle.journal_ring.proofs.homes.drop_homes.Goals as goal
 
 pub loop-block-preserved : goal.loop-block-preserved

@@ -1,4 +1,3 @@
-use Rattle.std.proofs.Common.{◌∷◌}
 use Rattle.std.specs.Vec.Iter.{into_iter_items, into_iter_len}
 use Rattle.std.specs.VecDeque.{deque_capacity}
 use Rattle.journal_ring.proofs.Waiting.{putting_more}

@@ -1,11 +1,10 @@
-use Rattle.std.proofs.Common.{◌≡◌, ◌+◌, ◌≤◌, List, ℕ, length, sym, ap, subst, ◌∙◌, arith}
-use Rattle.std.specs.List.{filter}
+use Rattle.std.proofs.Common.{length, sym, ap, subst, arith}
 use Rattle.std.specs.Prelude.{not}
 use Rattle.std.specs.VecDeque.{deque_capacity}
 use Rattle.blk_base.specs.Members.{IsAscending, IsAscending-filter}
 use Rattle.number_sets.specs.Sets.{has}
 use Rattle.journal_ring.proofs.Places.{view_room, ring_commits}
-use Rattle.journal_ring.proofs.Waiting.{block_of, unrevoked, unrevoked-fewer}
+use Rattle.journal_ring.proofs.Waiting.{block_of, unrevoked-fewer}
 use Rattle.journal_ring.proofs.ring.Ring.commit_bodies.Goals as goal
 
 pub put_homes-requires-clause-rising : goal.put_homes-requires-clause-rising

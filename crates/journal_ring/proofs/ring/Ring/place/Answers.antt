@@ -1,4 +1,4 @@
-use Rattle.std.proofs.Common.{◌≡◌, ◌+◌, ◌-◌, ◌<◌, ◌≤◌, sym, ◌∙◌, arith}
+use Rattle.std.proofs.Common.{◌≡◌, sym, ◌∙◌, arith}
 use Rattle.log_model.proofs.Ring.{places_on-up}
 use Rattle.log_model.specs.Ring.{Ring, places_on}
 use Rattle.journal_ring.proofs.Places.{places_over, placed_ring, view_free}
