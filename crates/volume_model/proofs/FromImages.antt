@@ -102,6 +102,10 @@ module _ (g : Geometry) (blocks : List (List ℕ)) (tree : List (ℕ × Node)) (
             record { mapped = mapped; stands = (rw (ne_eqb (zone_behind blocks (inode b) (k / 64)) 0 mapped) at x.1) };
       }
 
+  indices_stand : (zone : ℕ → ℕ) (ks : List ℕ) → map (λ (m : Mapped). m.index) (map (λ k. record { index = k; zone = zone k }) ks) ≡ ks
+  indices_stand zone [] = refl
+  indices_stand zone (k ∷ ks) = ap (λ (is : List ℕ). k ∷ is) (indices_stand zone ks)
+
   file_part : (b : ℕ) (f : File) → at_number tree b ≡ Some (nodes.File f) → IsFilePart blocks (inode b) (map (λ k. record { index = k; zone = zone_behind blocks (inode b) k }) (keys_of f.blocks))
   file_part b f at =
       let says = h.stands.fields.each b (nodes.File f) at in
@@ -115,6 +119,7 @@ module _ (g : Geometry) (blocks : List (List ℕ)) (tree : List (ℕ × Node)) (
         full = λ k mapped.
             let body : at_number f.blocks k ≡ Some (disk_of blocks (zone_behind blocks (inode b) k)) = says.bodies k ∙ rw (ne_eqb (zone_behind blocks (inode b) k) 0 mapped) refl in
             map-In (λ k. record { index = k; zone = zone_behind blocks (inode b) k }) (keys_of f.blocks) k (found_key nat_cmp number_here number_same f.blocks k (disk_of blocks (zone_behind blocks (inode b) k)) body);
+        rising = subst (IsStrictlySortedBy nat_cmp) (sym (indices_stand (zone_behind blocks (inode b)) (keys_of f.blocks))) (h.stands.blocks_in_order b f at);
       }
 
   part_stands : (b : ℕ) (n : Node) → at_number tree b ≡ Some n → IsPart blocks (inode b) (part_in blocks (inode b) n)

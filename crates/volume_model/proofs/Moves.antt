@@ -1,5 +1,5 @@
 -- The laws of moves, on volumes as a whole.
-use Rattle.std.proofs.Common.{◌≡◌, ℕ, ◌<◌, ◌+◌, nat_eq, List, ◌∷◌, length, filter, Some, subst, ◌∙◌}
+use Rattle.std.proofs.Common.{◌≡◌, ℕ, ◌<◌, ◌+◌, nat_eq, List, length, filter, Some, subst, ◌∙◌}
 use Rattle.minix_layout.specs.declared.division.Geometry.{Geometry}
 use Rattle.minix_layout.specs.Geometry.{IsSound}
 use Rattle.tree_model.specs.Maps.{at_number}
@@ -13,9 +13,10 @@ use Rattle.volume_model.specs.MapBlock.{TakenZones}
 use Rattle.volume_model.specs.Cut.{IsKeep}
 use Rattle.volume_model.specs.Counts.{keeps_below, zones_of_file, indices_of}
 use Rattle.volume_model.specs.Touched.{Contents, Tells}
-use Rattle.volume_model.specs.Moves.{IsVolume, AreFree, file_mapped, directory_mapped, file_mapped_touches, file_cut, file_cut_touches}
+use Rattle.volume_model.specs.Moves.{IsVolume, AreFree, with_mapped, file_mapped, directory_mapped, file_mapped_touches, file_cut, file_cut_touches}
 use Rattle.volume_model.specs.laws.Counts.{IsIndexed, count_map, keep_below}
 use Rattle.volume_model.specs.laws.Indexed.{file_indexed}
+use Rattle.volume_model.specs.laws.Mapped.{zones_mapped}
 use Rattle.volume_model.specs.laws.ZoneMoves.{grown, MapWrites, may_map, map_file, map_directory, map_just, moved_just, mapped_file_stands, mapped_directory_stands, cut_file_stands, cut_file_just}
 use Rattle.volume_model.specs.laws.MapTells.{map_tells}
 use Rattle.volume_model.specs.laws.CutTells.{cut_tells_all}
@@ -25,9 +26,9 @@ module _ (g : Geometry) (v : Contents) (n : ℕ) (p : Placed) where
       length content ≡ 1024 → index < 262663 → zone_in v.blocks p.inode (block index) ≡ 0 → AreFree g v.blocks v.nodes p.inode t (way index) → IsVolume g (file_mapped g v n p zones t content index)
   mapped_file zones t content index sound h at is size high hole free = (
     mapped_file_stands g sound v.blocks v.nodes n p h.0 at t content size index high free zones is hole,
-    moved_just g sound v.blocks v.nodes n p h.0 at (grown g sound v.blocks v.nodes n p h.0 at t content size index high free) (parts.File (record { index = index; zone = t.data_zone } ∷ zones))
+    moved_just g sound v.blocks v.nodes n p h.0 at (grown g sound v.blocks v.nodes n p h.0 at t content size index high free) (parts.File (with_mapped zones index t.data_zone))
         (MapWrites g sound v.blocks v.nodes n p h.0 at t content size index high free)
-        (may_map g sound v.blocks v.nodes n p h.0 at t content size index high free (parts.File (record { index = index; zone = t.data_zone } ∷ zones))
+        (may_map g sound v.blocks v.nodes n p h.0 at t content size index high free (parts.File (with_mapped zones index t.data_zone))
         (map_file g sound v.blocks v.nodes n p h.0 at t content size index high free zones hole (subst (IsPart v.blocks p.inode) is (h.0.each n p at).part))
         (λ e same. absurd (cc same)))
         h.1 (map_just g sound v.blocks v.nodes n p h.0 at t content size index high free (h.1 n p at)),
@@ -54,9 +55,9 @@ module _ (g : Geometry) (v : Contents) (n : ℕ) (p : Placed) where
   indexed : (zones : List Mapped) → IsVolume g v → at_number v.nodes n ≡ Some p → p.part ≡ parts.File zones → IsIndexed (λ x. zone_in v.blocks p.inode x) (indices_of zones)
   indexed zones h at is = file_indexed g v.blocks v.nodes n p zones h.0 at is (h.1 n p at)
 
-  pub mapped_counted : (zones : List Mapped) (index : ℕ) → IsVolume g v → at_number v.nodes n ≡ Some p → p.part ≡ parts.File zones → index < 262663 → zone_in v.blocks p.inode (block index) ≡ 0 →
-      zones_of_file (index ∷ indices_of zones) ≡ zones_of_file (indices_of zones) + length (filter (λ x. nat_eq (zone_in v.blocks p.inode x) 0) (way index))
-  mapped_counted zones index h at is high hole = count_map (λ x. zone_in v.blocks p.inode x) (indices_of zones) (indexed zones h at is) index high hole
+  pub mapped_counted : (zones : List Mapped) (index zone : ℕ) → IsVolume g v → at_number v.nodes n ≡ Some p → p.part ≡ parts.File zones → index < 262663 → zone_in v.blocks p.inode (block index) ≡ 0 →
+      zones_of_file (indices_of (with_mapped zones index zone)) ≡ zones_of_file (indices_of zones) + length (filter (λ x. nat_eq (zone_in v.blocks p.inode x) 0) (way index))
+  mapped_counted zones index zone h at is high hole = zones_mapped index zone zones ∙ count_map (λ x. zone_in v.blocks p.inode x) (indices_of zones) (indexed zones h at is) index high hole
 
   keep : (zones : List Mapped) (from : ℕ) → IsVolume g v → at_number v.nodes n ≡ Some p → p.part ≡ parts.File zones → IsKeep (λ x. zone_in v.blocks p.inode x) from (keeps_below (indices_of zones) from)
   keep zones from h at is = keep_below (λ x. zone_in v.blocks p.inode x) (indices_of zones) (indexed zones h at is) from

@@ -1,5 +1,5 @@
 -- Moves: what a volume is after one of its nodes came or changed. A call is a list of them.
-use Rattle.std.specs.Prelude.{◌≡◌, ◌≢◌, ℕ, ◌*◌, ◌/◌, ◌%◌, ◌^◌, ◌<◌, ◌≤◌, nat_lt, nat_eq, Bool, not, ◌==◌, ◌&&◌, List, [], ◌∷◌, ◌++◌, map, filter, length, replicate, slice_set, Option, Some, None}
+use Rattle.std.specs.Prelude.{◌≡◌, ◌≢◌, ℕ, ◌*◌, ◌/◌, ◌%◌, ◌^◌, ◌<◌, ◌≤◌, nat_lt, nat_eq, Bool, not, ◌==◌, ◌&&◌, if◌then◌else◌, List, [], ◌∷◌, ◌++◌, map, filter, length, replicate, slice_set, Option, Some, None}
 use Rattle.blk_base.specs.Members.{In}
 use Rattle.minix_layout.specs.declared.division.Geometry.{Geometry}
 use Rattle.minix_layout.specs.declared.inode.Inode.{Inode}
@@ -122,8 +122,13 @@ pub record AreFree (g : Geometry) (blocks : List (List ℕ)) (nodes : List (ℕ 
   pub free : (a : ℕ) (r : Placed) (x y : Place) → at_number nodes a ≡ Some r → In x xs → zone_in blocks i x ≡ 0 → zone_in blocks r.inode y ≢ taken_at t x
   pub differ : (x y : Place) → In x xs → In y xs → zone_in blocks i x ≡ 0 → zone_in blocks i y ≡ 0 → taken_at t x ≡ taken_at t y → x ≡ y
 
+-- a file's list of mapped blocks with one more, in rising order of index
+abbrev pub with_mapped : List Mapped → ℕ → ℕ → List Mapped
+with_mapped [] index zone = record { index = index; zone = zone } ∷ []
+with_mapped (m ∷ zones) index zone = if nat_lt index m.index then record { index = index; zone = zone } ∷ m ∷ zones else m ∷ with_mapped zones index zone
+
 abbrev pub file_mapped : Geometry → Contents → ℕ → Placed → List Mapped → TakenZones → List ℕ → ℕ → Contents
-file_mapped g v n p zones t content index = closed g v n p (map_block g t content (opened v p) index) (parts.File (record { index = index; zone = t.data_zone } ∷ zones))
+file_mapped g v n p zones t content index = closed g v n p (map_block g t content (opened v p) index) (parts.File (with_mapped zones index t.data_zone))
 
 abbrev pub directory_mapped : Geometry → Contents → ℕ → Placed → DirectoryPart → TakenZones → List ℕ → ℕ → Contents
 directory_mapped g v n p d t content index = closed g v n p (map_block g t content (opened v p) index) (parts.Directory d)

@@ -1,5 +1,5 @@
 -- What ties the blocks of a volume to its nodes.
-use Rattle.std.specs.Prelude.{◌≡◌, ◌≢◌, ℕ, ◌+◌, ◌*◌, ◌/◌, ◌%◌, ◌<◌, ◌≤◌, false, true, List, length, slice_index, Option, Some, Ok}
+use Rattle.std.specs.Prelude.{◌≡◌, ◌≢◌, ℕ, ◌+◌, ◌*◌, ◌/◌, ◌%◌, ◌<◌, ◌≤◌, false, true, List, length, map, slice_index, Option, Some, Ok}
 use Rattle.std.specs.List.{slice_get}
 use Rattle.std.specs.List.Sorted.{IsStrictlySortedBy}
 use Rattle.std.specs.Map.{keys_of}
@@ -58,11 +58,16 @@ pub record IsDirectoryPart (blocks : List (List ℕ)) (i : Inode) (d : Directory
   pub size : i.size ≡ 16 * length d.slots
   pub slots : (k : ℕ) (s : Option Slot) → slice_get d.slots k ≡ Some s → HasSlot blocks i k s
 
--- a file's list has its mapped blocks, and no others
+-- its mapped blocks stand in rising order of their indices, each once
+abbrev pub IsRising : List Mapped → Type 0
+IsRising zones = IsStrictlySortedBy nat_cmp (map (λ (m : Mapped). m.index) zones)
+
+-- a file's list has its mapped blocks, and no others, in order
 pub record IsFilePart (blocks : List (List ℕ)) (i : Inode) (zones : List Mapped) : Type 0 where
   pub kind : is_file i.mode ≡ true
   pub listed : (x : Mapped) → In x zones → (zone_behind blocks i x.index ≡ x.zone) × (x.zone ≢ 0)
   pub full : (index : ℕ) → zone_behind blocks i index ≢ 0 → In (record { index = index; zone = zone_behind blocks i index }) zones
+  pub rising : IsRising zones
 
 abbrev pub IsPart : List (List ℕ) → Inode → Part → Type 0
 IsPart blocks i (parts.Directory d) = IsDirectoryPart blocks i d

@@ -17,9 +17,11 @@ pub mod MapBlock
 pub mod OnWay
 pub mod Cut
 pub mod Counts
+pub mod Mapped
 pub mod Indexed
 pub mod NodeMoves
 pub mod ZoneMoves
 pub mod SlotMoves
 pub mod CutTells
 pub mod MapTells
+pub mod MapBody

@@ -32,7 +32,7 @@ ghost use Rattle.volume_model.specs.Ways.{way, IsJust};
 ghost use Rattle.volume_model.specs.MapBlock.{TakenZones};
 ghost use Rattle.volume_model.specs.Counts.{keeps_below, zones_of_file, indices_of};
 ghost use Rattle.volume_model.specs.Touched.{Contents, Touched, Tells, Follows, and_then};
-ghost use Rattle.volume_model.specs.Moves.{IsVolume, AreJust, MayAdd, MayChange, AreFree, added, node_removed, file_mapped, directory_mapped, file_mapped_touches, file_cut, file_cut_touches, name_added, name_removed};
+ghost use Rattle.volume_model.specs.Moves.{IsVolume, AreJust, MayAdd, MayChange, AreFree, added, node_removed, with_mapped, file_mapped, directory_mapped, file_mapped_touches, file_cut, file_cut_touches, name_added, name_removed};
 ghost use Rattle.dir_ops.specs.Slots.{room};
 ghost use Rattle.volume_model.specs.Trees.{tree_now};
 ghost use Rattle.volume_model.specs.Plain.{inode_born, HasZone, IsPlainVolume, IsPlainContents};
@@ -133,10 +133,10 @@ pub fn mapped_block_stands()
         zone_in v.blocks p.inode (block index) ≡ 0 → AreFree g v.blocks v.nodes p.inode t (way index) →
         Tells g v (file_mapped g v n p zones t content index) (file_mapped_touches g v n p t content index)
         (λ birth at. (birth ≡ n) × (at ≡ index)) }
-    ensures counted { (g : Geometry) (v : Contents) (n : ℕ) (p : Placed) (zones : List Mapped) (index : ℕ) →
+    ensures counted { (g : Geometry) (v : Contents) (n : ℕ) (p : Placed) (zones : List Mapped) (index zone : ℕ) →
         IsVolume g v → at_number v.nodes n ≡ Some p → p.part ≡ parts.File zones → index < 262663 →
         zone_in v.blocks p.inode (block index) ≡ 0 →
-        zones_of_file (index ∷ indices_of zones) ≡ zones_of_file (indices_of zones) +
+        zones_of_file (indices_of (with_mapped zones index zone)) ≡ zones_of_file (indices_of zones) +
         length (filter (λ x. nat_eq (zone_in v.blocks p.inode x) 0) (way index)) }
 {}
 

@@ -38,7 +38,7 @@ on_passes (inner g) i on = and_from _ _ (le-leb 519 i on.0) (eq-eqb ((i - 519) /
 count_same : (p q : ℕ → Bool) → ((g : ℕ) → p g ≡ q g) → (xs : List ℕ) → count_by p xs ≡ count_by q xs
 count_same p q same xs = ap (λ (f : ℕ → Bool). count_by f xs) (λ k. λ x. same x k)
 
-abbrev bit : Bool → ℕ
+abbrev pub bit : Bool → ℕ
 bit b = if b then 1 else 0
 
 count_cons : (p : ℕ → Bool) (x : ℕ) (xs : List ℕ) → count_by p (x ∷ xs) ≡ bit (p x) + count_by p xs
@@ -128,7 +128,7 @@ number_count p = by (p indirect) (p double) refl refl
     by false false e f = rw (e, f) (plus_none _ _ rest)
 
 -- the zones of a file as a sum over the kinds of places
-zones_sum : (indices : List ℕ) → zones_of_file indices ≡ length indices + bit (uses indices indirect) + bit (uses indices double) + count_by (λ g. uses indices (inner g)) (range_with_len 0 512)
+pub zones_sum : (indices : List ℕ) → zones_of_file indices ≡ length indices + bit (uses indices indirect) + bit (uses indices double) + count_by (λ g. uses indices (inner g)) (range_with_len 0 512)
 zones_sum indices = four (length indices) _ _ _ _ (number_count (uses indices))
   where
     four : (l u v c k : ℕ) → k ≡ u + v + c → l + k ≡ l + u + v + c
@@ -153,11 +153,11 @@ module _ (own : Place → ℕ) (indices : List ℕ) (is : IsIndexed own indices)
       let some = is.mapped w.0 w.1 in
       is.behind x w.0 (passes_on x w.0 n (is.low w.0 some) w.2) some
 
-  abbrev hole : Place → Bool
+  abbrev pub hole : Place → Bool
   hole x = nat_eq (own x) 0
 
   -- a place is used or a hole
-  used_or_hole : (x : Place) → IsOfNumbers x → hole x ≡ not (uses indices x)
+  pub used_or_hole : (x : Place) → IsOfNumbers x → hole x ≡ not (uses indices x)
   used_or_hole x n = elim (cases_Bool (uses indices x)) [
     | inl t ↦ ne_eqb (own x) 0 (uses_own x n t) ∙ ap not (sym t)
     | inr f ↦ elim (cases_Bool (hole x)) [
@@ -246,7 +246,7 @@ module _ (own : Place → ℕ) (indices : List ℕ) (is : IsIndexed own indices)
 
   -- ---- a cut
 
-  abbrev fewer : ℕ → List ℕ
+  abbrev pub fewer : ℕ → List ℕ
   fewer from = filter (λ i. nat_lt i from) indices
 
   uses_fewer : (from : ℕ) (x : Place) → uses (fewer from) x ≡ true → uses indices x ≡ true

@@ -45,7 +45,7 @@ touched_stay g own keeps (c ∷ cs) b there i =
     by rest t (inl e) = (c.0, there.0, t, there.1 t, e)
     by rest t (inr j) = rest j
 
-range-In : (a n k : ℕ) → a ≤ k → k < a + n → In k (range_with_len a n)
+pub range-In : (a n k : ℕ) → a ≤ k → k < a + n → In k (range_with_len a n)
 range-In a zero k low high = absurd (omega arith)
 range-In a (suc n) k low high = elim (cases_eq a k) [ inl e ↦ inl e | inr apart ↦ inr (range-In (a + 1) n k (omega arith) (omega arith)) ]
 
@@ -61,19 +61,19 @@ listed_place (block i) n some = elim n [ ]
 
 module _ (g : Geometry) (sound : IsSound g) (blocks : List (List ℕ)) (nodes : List (ℕ × Placed)) (n : ℕ) (p : Placed) (h : IsVolumeOf g blocks nodes) (stands : at_number nodes n ≡ Some p)
     (from : ℕ) (keeps : Place → Bool) (k : IsKeep (λ x. zone_in blocks p.inode x) from keeps) (just : IsJust (λ x. zone_in blocks p.inode x)) (zones : List Mapped) (is : p.part ≡ parts.File zones) where
-  abbrev own : Place → ℕ
+  abbrev pub own : Place → ℕ
   own x = zone_in blocks p.inode x
 
   abbrev page : Mapped → Page
   page m = record { birth = n; index = m.index; zone = m.zone }
 
-  abbrev goes : Place → Bool
+  abbrev pub goes : Place → Bool
   goes x = not (nat_eq (own x) 0) && not (keeps x)
 
-  abbrev gone : List Mapped
+  abbrev pub gone : List Mapped
   gone = filter (λ m. not (nat_lt m.index from)) zones
 
-  abbrev numbers_gone : List ℕ
+  abbrev pub numbers_gone : List ℕ
   numbers_gone = map own (filter goes number_places)
 
   abbrev pub cut_touched : Touched
@@ -86,10 +86,10 @@ module _ (g : Geometry) (sound : IsSound g) (blocks : List (List ℕ)) (nodes : 
     nodes = n ∷ [];
   }
 
-  abbrev after : OpenInode
+  abbrev pub after : OpenInode
   after = less g sound blocks nodes n p h stands from keeps k just
 
-  abbrev q : Placed
+  abbrev pub q : Placed
   q = record { number = p.number; inode = after.inode; part = parts.File (filter (λ m. nat_lt m.index from) zones) }
 
   abbrev v : Contents
@@ -100,7 +100,7 @@ module _ (g : Geometry) (sound : IsSound g) (blocks : List (List ℕ)) (nodes : 
 
   -- ---- how the two hang together
 
-  abbrev later : List (List ℕ)
+  abbrev pub later : List (List ℕ)
   later = edited g after.blocks (put_inode p.number after.inode)
 
   abbrev Z : ℕ → Type 0
@@ -118,16 +118,16 @@ module _ (g : Geometry) (sound : IsSound g) (blocks : List (List ℕ)) (nodes : 
   cases : (b : ℕ) (r : Placed) → at_number (put_number nodes n q) b ≡ Some r → IsWhich b r
   cases b r at = which g blocks later nodes n p q (λ z. Z z ⊎ ⊥) h change b r at
 
-  theirs : (b : ℕ) (r : Placed) → at_number nodes b ≡ Some r → b ≢ n → (x : Place) → zone_in later r.inode x ≡ zone_in blocks r.inode x
+  pub theirs : (b : ℕ) (r : Placed) → at_number nodes b ≡ Some r → b ≢ n → (x : Place) → zone_in later r.inode x ≡ zone_in blocks r.inode x
   theirs b r at apart = node_same_zone g blocks later nodes n p q (λ z. Z z ⊎ ⊥) h change b r at apart
 
   mine : (x : Place) → zone_in later after.inode x ≡ own_of after x
   mine = moved_same_zone g sound blocks nodes n p h stands after (parts.File (filter (λ m. nat_lt m.index from) zones)) Z may
 
-  stays_as : (x : Place) → keeps x ≡ true → zone_in later after.inode x ≡ own x
+  pub stays_as : (x : Place) → keeps x ≡ true → zone_in later after.inode x ≡ own x
   stays_as x t = mine x ∙ ((cut_outcome g sound blocks nodes n p h stands from keeps k just).cut x ∙ (let e : (if keeps x then own x else 0) ≡ own x = rw t refl in e))
 
-  left : (x : Place) → zone_in later after.inode x ≢ 0 → (keeps x ≡ true) × (zone_in later after.inode x ≡ own x)
+  pub left : (x : Place) → zone_in later after.inode x ≢ 0 → (keeps x ≡ true) × (zone_in later after.inode x ≡ own x)
   left x some = let w = cut_kept g sound blocks nodes n p h stands from keeps k just x (λ none. some (mine x ∙ none)) in (w.0, mine x ∙ w.1)
 
   here : at_number (put_number nodes n q) n ≡ Some q
@@ -157,13 +157,13 @@ module _ (g : Geometry) (sound : IsSound g) (blocks : List (List ℕ)) (nodes : 
     | other apart was ↦ of_directory a r d i was part (sym (theirs a r was apart (block i)) ∙ e) some
   ]
 
-  in_gone : (x : Place) → IsOfNumbers x → own x ≢ 0 → keeps x ≡ false → In (own x) numbers_gone
+  pub in_gone : (x : Place) → IsOfNumbers x → own x ≢ 0 → keeps x ≡ false → In (own x) numbers_gone
   in_gone x m some f =
       map-In own (filter goes number_places) x
       (filter-In goes number_places x (listed_place x m (λ none. some (own_none blocks p.inode h.whole x none)))
       (and_from _ _ (ap not (ne_eqb (own x) 0 some)) (ap not f)))
 
-  gone_is : (b : ℕ) → In b numbers_gone → (x : Place) × (own x ≡ b) × (own x ≢ 0) × (keeps x ≡ false)
+  pub gone_is : (b : ℕ) → In b numbers_gone → (x : Place) × (own x ≡ b) × (own x ≢ 0) × (keeps x ≡ false)
   gone_is b i =
       let w = In-map own (filter goes number_places) b i in
       let f = In-filter goes number_places w.0 w.1 in
@@ -289,7 +289,7 @@ module _ (g : Geometry) (sound : IsSound g) (blocks : List (List ℕ)) (nodes : 
         ]),
       )
 
-  page_bytes : (x : Page) → HasPage v x → disk_of later x.zone ≡ disk_of blocks x.zone
+  pub page_bytes : (x : Page) → HasPage v x → disk_of later x.zone ≡ disk_of blocks x.zone
   page_bytes x page = kept_bytes x.zone (λ i. elim i [
     | inl e ↦ (let t = in_table in let high = t.1 in let range = (h.each x.birth page.placed page.stands).zones (block x.index) (λ none. page.some (sym page.zone ∙ none)) in let low = range.0 in let z = page.zone in omega arith)
     | inr j ↦

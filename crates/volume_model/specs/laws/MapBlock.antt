@@ -367,7 +367,7 @@ module _ (g : Geometry) (sound : IsSound g) (t : TakenZones) (content : List ℕ
   empty_first double y k at = number_of_zeros k
   empty_first (inner n) y k at = number_of_zeros k
 
-  may_get : (s : OpenInode) (x : Place) (xs : List Place) → IsFresh g (own_of s) t (x ∷ xs) → IsReached (own_of s) x → own_of s x ≡ 0 → MayGet g s x (taken_at t x) (first_body content x)
+  pub may_get : (s : OpenInode) (x : Place) (xs : List Place) → IsFresh g (own_of s) t (x ∷ xs) → IsReached (own_of s) x → own_of s x ≡ 0 → MayGet g s x (taken_at t x) (first_body content x)
   may_get s x xs f r none = record {
     hole = record { hole = none; some = f.some x (inl refl) none; placed = r.placed; there = r.there };
     low = f.low x (inl refl) none;

@@ -27,7 +27,7 @@ use Rattle.volume_model.specs.laws.OnWay.{way_on, on_way, in_list, way-direct, w
 use Rattle.volume_model.specs.laws.NodeMoves.{Which, changed, other, which, same_zone as node_same_zone}
 use Rattle.volume_model.specs.Moves.{MayChange}
 use Rattle.volume_model.specs.laws.ZoneMoves.{fit_before, grown, MapWrites, map_outcome, may_map, map_file, may_change, MayMove, no_numbers, same_zone as moved_same_zone}
-use Rattle.volume_model.specs.Moves.{AreFree}
+use Rattle.volume_model.specs.Moves.{AreFree, with_mapped}
 
 -- ---- the writes as a list
 
@@ -149,25 +149,54 @@ way_is index high =
 top_reached : (own : Place → ℕ) (x : Place) (k : ℕ) → home x ≡ slot k → IsReached own x
 top_reached own x k at = record { placed = λ none. cc (sym at ∙ none); there = λ h j is none. cc (sym at ∙ is) }
 
+-- What is written on the way to a block, of a file or of a directory.
+module _ (g : Geometry) (sound : IsSound g) (blocks : List (List ℕ)) (nodes : List (ℕ × Placed)) (n : ℕ) (p : Placed) (h : IsVolumeOf g blocks nodes) (stands : at_number nodes n ≡ Some p)
+    (t : TakenZones) (content : List ℕ) (size : length content ≡ 1024) (index : ℕ) (high : index < 262663) (free : AreFree g blocks nodes p.inode t (way index)) where
+  abbrev start : OpenInode
+  start = record { blocks = blocks; inode = p.inode }
+
+  start_fresh : IsFresh g (own_of start) t (way index)
+  start_fresh = record { some = free.some; low = free.low; high = free.high; fits = free.fits; fresh = λ x y i none. free.free n p x y stands i none; differ = free.differ }
+
+  -- the writes on the way to the block
+  abbrev pub way_edits : List Edit
+  way_edits = all_edits g t content start (way index)
+
+  -- what is touched is a zone of a place afterwards: of numbers, or on the way
+  pub way_touched : (b : ℕ) → In b (touched_by_all g way_edits) →
+      (y : Place) × (own_of (map_block g t content start index) y ≢ 0) × (own_of (map_block g t content start index) y ≡ b) × (IsOfNumbers y ⊎ In y (way index))
+  unfolding map_block
+  way_touched b i =
+      let w = way_is index high in
+      subst (λ xs. In b (touched_by_all g (all_edits g t content start xs)) → (y : Place) × (own_of (get_steps g t content start xs) y ≢ 0) × (own_of (get_steps g t content start xs) y ≡ b) × (IsOfNumbers y ⊎ In y xs)) (sym w.is)
+      (λ j. all_touched g t content sound size start w.head w.tail b (fit_before g sound blocks nodes n p h stands) (subst (IsFresh g (own_of start) t) w.is start_fresh) (top_reached (own_of start) w.head w.top.0 w.top.1) w.chain j) i
+
+  -- the zone of each hole on the way is touched
+  pub way_holes : (z : Place) → In z (way index) → own_of start z ≡ 0 → In (taken_at t z) (touched_by_all g way_edits)
+  way_holes z i none =
+      let w = way_is index high in
+      subst (λ xs. In z xs → In (taken_at t z) (touched_by_all g (all_edits g t content start xs))) (sym w.is)
+      (λ j. hole_touched g t content sound size start w.head w.tail z (fit_before g sound blocks nodes n p h stands) (subst (IsFresh g (own_of start) t) w.is start_fresh) (top_reached (own_of start) w.head w.top.0 w.top.1) w.chain j none) i
+
 module _ (g : Geometry) (sound : IsSound g) (blocks : List (List ℕ)) (nodes : List (ℕ × Placed)) (n : ℕ) (p : Placed) (h : IsVolumeOf g blocks nodes) (stands : at_number nodes n ≡ Some p)
     (t : TakenZones) (content : List ℕ) (size : length content ≡ 1024) (index : ℕ) (high : index < 262663) (free : AreFree g blocks nodes p.inode t (way index))
     (zones : List Mapped) (is : p.part ≡ parts.File zones) (hole : zone_in blocks p.inode (block index) ≡ 0) where
-  abbrev s : OpenInode
+  abbrev pub s : OpenInode
   s = record { blocks = blocks; inode = p.inode }
 
-  abbrev own : Place → ℕ
+  abbrev pub own : Place → ℕ
   own x = zone_in blocks p.inode x
 
-  abbrev u : OpenInode
+  abbrev pub u : OpenInode
   u = grown g sound blocks nodes n p h stands t content size index high free
 
-  outcome : Outcome g t s u (way index)
+  pub outcome : Outcome g t s u (way index)
   outcome = map_outcome g sound blocks nodes n p h stands t content size index high free
 
   fit : IsFit g s
   fit = fit_before g sound blocks nodes n p h stands
 
-  fresh : IsFresh g own t (way index)
+  pub fresh : IsFresh g own t (way index)
   fresh = record { some = free.some; low = free.low; high = free.high; fits = free.fits; fresh = λ x y i none. free.free n p x y stands i none; differ = free.differ }
 
   abbrev edits : List Edit
@@ -184,13 +213,13 @@ module _ (g : Geometry) (sound : IsSound g) (blocks : List (List ℕ)) (nodes : 
     nodes = n ∷ [];
   }
 
-  abbrev listed : List Mapped
-  listed = record { index = index; zone = t.data_zone } ∷ zones
+  abbrev pub listed : List Mapped
+  listed = with_mapped zones index t.data_zone
 
-  abbrev q : Placed
+  abbrev pub q : Placed
   q = record { number = p.number; inode = u.inode; part = parts.File listed }
 
-  abbrev later : List (List ℕ)
+  abbrev pub later : List (List ℕ)
   later = edited g u.blocks (put_inode p.number u.inode)
 
   abbrev v : Contents
@@ -213,10 +242,10 @@ module _ (g : Geometry) (sound : IsSound g) (blocks : List (List ℕ)) (nodes : 
   cases : (b : ℕ) (r : Placed) → at_number (put_number nodes n q) b ≡ Some r → Which g blocks later nodes n p q (λ z. Z z ⊎ ⊥) h change b r
   cases b r at = which g blocks later nodes n p q (λ z. Z z ⊎ ⊥) h change b r at
 
-  theirs : (b : ℕ) (r : Placed) → at_number nodes b ≡ Some r → b ≢ n → (x : Place) → zone_in later r.inode x ≡ zone_in blocks r.inode x
+  pub theirs : (b : ℕ) (r : Placed) → at_number nodes b ≡ Some r → b ≢ n → (x : Place) → zone_in later r.inode x ≡ zone_in blocks r.inode x
   theirs b r at apart = node_same_zone g blocks later nodes n p q (λ z. Z z ⊎ ⊥) h change b r at apart
 
-  mine : (x : Place) → zone_in later u.inode x ≡ own_of u x
+  pub mine : (x : Place) → zone_in later u.inode x ≡ own_of u x
   mine = moved_same_zone g sound blocks nodes n p h stands u (parts.File listed) Z may
 
   stays_as : (x : Place) → own x ≢ 0 → zone_in later u.inode x ≡ own x
@@ -241,17 +270,10 @@ module _ (g : Geometry) (sound : IsSound g) (blocks : List (List ℕ)) (nodes : 
   one r b e at = same_Some p r (sym stands ∙ subst (λ b. at_number nodes b ≡ Some r) e at)
 
   touched_zone : (b : ℕ) → In b (touched_by_all g edits) → (y : Place) × (own_of u y ≢ 0) × (own_of u y ≡ b) × (IsOfNumbers y ⊎ In y (way index))
-  unfolding map_block
-  touched_zone b i =
-      let w = way_is index high in
-      subst (λ xs. In b (touched_by_all g (all_edits g t content s xs)) → (y : Place) × (own_of (get_steps g t content s xs) y ≢ 0) × (own_of (get_steps g t content s xs) y ≡ b) × (IsOfNumbers y ⊎ In y xs)) (sym w.is)
-      (λ j. all_touched g t content sound size s w.head w.tail b fit (subst (IsFresh g own t) w.is fresh) (top_reached own w.head w.top.0 w.top.1) w.chain j) i
+  touched_zone b i = way_touched g sound blocks nodes n p h stands t content size index high free b i
 
   hole_is_touched : (z : Place) → In z (way index) → own z ≡ 0 → In (taken_at t z) (touched_by_all g edits)
-  hole_is_touched z i none =
-      let w = way_is index high in
-      subst (λ xs. In z xs → In (taken_at t z) (touched_by_all g (all_edits g t content s xs))) (sym w.is)
-      (λ j. hole_touched g t content sound size s w.head w.tail z fit (subst (IsFresh g own t) w.is fresh) (top_reached own w.head w.top.0 w.top.1) w.chain j none) i
+  hole_is_touched z i none = way_holes g sound blocks nodes n p h stands t content size index high free z i none
 
   not_meta : (b : ℕ) → IsMeta g v b → b ≢ t.data_zone
   not_meta b (of_tables low) e = (let from = free.low (block index) on hole in omega arith)
@@ -335,7 +357,7 @@ module _ (g : Geometry) (sound : IsSound g) (blocks : List (List ℕ)) (nodes : 
       let e = w.3 in
       (of_numbers n q w.0 here w.1 (mine w.0 ∙ w.3) (λ none. w.2 (w.3 ∙ none)), (omega arith), (omega arith))
 
-  kept_bytes : (b : ℕ) → b ≢ t.data_zone → (In b map_touched.blocks → ⊥) → disk_of later b ≡ disk_of blocks b
+  pub kept_bytes : (b : ℕ) → b ≢ t.data_zone → (In b map_touched.blocks → ⊥) → disk_of later b ≡ disk_of blocks b
   unfolding map_block
   kept_bytes b apart none =
       edited_elsewhere g u.blocks (put_inode p.number u.inode) b (λ e. none (inl (sym e)))
@@ -363,7 +385,7 @@ module _ (g : Geometry) (sound : IsSound g) (blocks : List (List ℕ)) (nodes : 
   page_new : HasPage map_both (record { birth = n; index = index; zone = t.data_zone })
   page_new = record { placed = q; zones = listed; stands = here; is_file = refl; zone = page_zone; some = page_some }
 
-  page_bytes : (x : Page) → HasPage v x → disk_of later x.zone ≡ disk_of blocks x.zone
+  pub page_bytes : (x : Page) → HasPage v x → disk_of later x.zone ≡ disk_of blocks x.zone
   page_bytes x page = kept_bytes x.zone (λ e. free.free x.birth page.placed (block index) (block x.index) page.stands on hole (page.zone ∙ e)) (λ i. elim i [
     | inl e ↦ (let r = in_table in let up = r.1 in let range = (h.each x.birth page.placed page.stands).zones (block x.index) (λ none. page.some (sym page.zone ∙ none)) in let low = range.0 in let z = page.zone in omega arith)
     | inr j ↦

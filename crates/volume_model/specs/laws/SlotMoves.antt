@@ -67,6 +67,10 @@ module _ (g : Geometry) (sound : IsSound g) (v : Contents) (n : ℕ) (p : Placed
   abbrev u : OpenInode
   u = record { blocks = after; inode = with_size p.inode (16 * length next.slots) }
 
+  -- its inode, with the blocks after the slot was written
+  abbrev pub put_open : OpenInode
+  put_open = u
+
   range : (g.first ≤ z) × (z < g.zones)
   range = (h.0.each n p stands).zones (block (k / 64)) may.mapped
 
@@ -76,7 +80,7 @@ module _ (g : Geometry) (sound : IsSound g) (v : Contents) (n : ℕ) (p : Placed
   inside : z < length v.blocks
   inside = let size = h.0.size in let high = range.1 in omega arith
 
-  changes : Changes g (λ _. ⊥) (λ b. b ≡ z) v.blocks after
+  pub changes : Changes g (λ _. ⊥) (λ b. b ≡ z) v.blocks after
   changes = changes_slot g v.blocks z (k % 64) o sound h.0.whole h.0.size range.0 range.1 low may.entry
 
   -- no zone of numbers is the one that is written
@@ -87,7 +91,7 @@ module _ (g : Geometry) (sound : IsSound g) (v : Contents) (n : ℕ) (p : Placed
   zone_kept = zones_kept v.blocks after p.inode
       (λ x numbers some. changes.zones (zone_in v.blocks p.inode x) ((h.0.each n p stands).zones x some).0 (not_numbers x numbers some))
 
-  same_zone : (x : Place) → own_of u x ≡ zone_in v.blocks p.inode x
+  pub same_zone : (x : Place) → own_of u x ≡ zone_in v.blocks p.inode x
   same_zone x = sized after p.inode (16 * length next.slots) x ∙ zone_kept x
 
   fit : IsFit g u
@@ -137,7 +141,7 @@ module _ (g : Geometry) (sound : IsSound g) (v : Contents) (n : ℕ) (p : Placed
     ];
   }
 
-  may_move : MayMove g sound v.blocks v.nodes n p h.0 stands u (parts.Directory next) (λ b. b ≡ z)
+  pub may_move : MayMove g sound v.blocks v.nodes n p h.0 stands u (parts.Directory next) (λ b. b ≡ z)
   may_move = record {
     fit = fit;
     changes = changes;
@@ -158,31 +162,43 @@ module _ (g : Geometry) (sound : IsSound g) (v : Contents) (n : ℕ) (p : Placed
         (just_same (λ x. zone_in v.blocks p.inode x) (own_of u) same_zone (h.1 n p stands)),
   )
 
+-- a name and its slot may come
+pub may_add_name : (g : Geometry) (v : Contents) (n : ℕ) (p : Placed) (d : DirectoryPart) (s : Slot) (birth : ℕ) → IsVolume g v → at_number v.nodes n ≡ Some p →
+    p.part ≡ parts.Directory d → zone_in v.blocks p.inode (block (room d.slots / 64)) ≢ 0 → IsEntry s → is_dot s.name ≡ false → at_name d.names s.name ≡ None →
+    HasNumber v.nodes birth s.inode → 16 * (length d.slots + 1) < 2 ^ 32 → MayPut g v p d (room d.slots) (Some s) (with_name d s birth)
+may_add_name g v n p d s birth h stands is mapped entry no_dot free number few = record {
+  mapped = mapped;
+  entry = entry;
+  here = with_slot-here d.slots (room d.slots) s (room-within d.slots);
+  others = λ j x apart at. with_slot-other d.slots (room d.slots) j s x (room-within d.slots) apart at;
+  size = (let most = length-with_slot_most d.slots s in omega arith);
+  names = names_with v.nodes d s birth (h.0.names n p d stands is) free no_dot number;
+}
+
 -- a name and its slot come
 pub name_added_stands : (g : Geometry) (v : Contents) (n : ℕ) (p : Placed) (d : DirectoryPart) (s : Slot) (birth : ℕ) → IsSound g → IsVolume g v → at_number v.nodes n ≡ Some p →
     p.part ≡ parts.Directory d → zone_in v.blocks p.inode (block (room d.slots / 64)) ≢ 0 → IsEntry s → is_dot s.name ≡ false → at_name d.names s.name ≡ None →
     HasNumber v.nodes birth s.inode → 16 * (length d.slots + 1) < 2 ^ 32 → IsVolume g (name_added g v n p d s birth)
 name_added_stands g v n p d s birth sound h stands is mapped entry no_dot free number few =
-    put_stands g sound v n p h stands d is (room d.slots) (Some s) (with_name d s birth) (record {
-      mapped = mapped;
-      entry = entry;
-      here = with_slot-here d.slots (room d.slots) s (room-within d.slots);
-      others = λ j x apart at. with_slot-other d.slots (room d.slots) j s x (room-within d.slots) apart at;
-      size = (let most = length-with_slot_most d.slots s in omega arith);
-      names = names_with v.nodes d s birth (h.0.names n p d stands is) free no_dot number;
-    })
+    put_stands g sound v n p h stands d is (room d.slots) (Some s) (with_name d s birth) (may_add_name g v n p d s birth h stands is mapped entry no_dot free number few)
 
--- a name and its slot go
-pub name_removed_stands : (g : Geometry) (v : Contents) (n : ℕ) (p : Placed) (d : DirectoryPart) (k : ℕ) (s : Slot) → IsSound g → IsVolume g v → at_number v.nodes n ≡ Some p →
-    p.part ≡ parts.Directory d → IsStrictlySortedBy name_cmp (keys_of d.names) → slice_get d.slots k ≡ Some (Some s) → is_dot s.name ≡ false → IsVolume g (name_removed g v n p d k s)
-name_removed_stands g v n p d k s sound h stands is sorted at no_dot =
+-- a name and its slot may go
+pub may_take_name : (g : Geometry) (v : Contents) (n : ℕ) (p : Placed) (d : DirectoryPart) (k : ℕ) (s : Slot) → IsVolume g v → at_number v.nodes n ≡ Some p →
+    p.part ≡ parts.Directory d → IsStrictlySortedBy name_cmp (keys_of d.names) → slice_get d.slots k ≡ Some (Some s) → is_dot s.name ≡ false → MayPut g v p d k None (without_name d k s)
+may_take_name g v n p d k s h stands is sorted at no_dot =
     let told = h.0.each n p stands in
     let part : IsDirectoryPart v.blocks p.inode d = subst (IsPart v.blocks p.inode) is told.part in
-    put_stands g sound v n p h stands d is k None (without_name d k s) (record {
+    record {
       mapped = (part.slots k (Some s) at).mapped;
       entry = tt;
       here = slice_get-set_same d.slots k None (slice_get-length d.slots k (Some s) at);
       others = λ j x apart found. sym (slice_get-set_other d.slots k j None apart) ∙ found;
       size = (let long = length-set d.slots k None in let was = part.size in let fits = told.fits.size in omega arith);
       names = names_without v.nodes d k s (h.0.names n p d stands is) sorted at no_dot;
-    })
+    }
+
+-- a name and its slot go
+pub name_removed_stands : (g : Geometry) (v : Contents) (n : ℕ) (p : Placed) (d : DirectoryPart) (k : ℕ) (s : Slot) → IsSound g → IsVolume g v → at_number v.nodes n ≡ Some p →
+    p.part ≡ parts.Directory d → IsStrictlySortedBy name_cmp (keys_of d.names) → slice_get d.slots k ≡ Some (Some s) → is_dot s.name ≡ false → IsVolume g (name_removed g v n p d k s)
+name_removed_stands g v n p d k s sound h stands is sorted at no_dot =
+    put_stands g sound v n p h stands d is k None (without_name d k s) (may_take_name g v n p d k s h stands is sorted at no_dot)

@@ -35,6 +35,7 @@ module _ (blocks after : List (List ℕ)) (i : Inode) (same : (x : Place) → zo
     full = λ index some.
         let same = zone_kept (block index) in
         subst (λ zone. In (record { index = index; zone = zone }) zones) (sym same) (h.full index (λ none. some (same ∙ none)));
+    rising = h.rising;
   }
 
 -- A node stands as before, where its inode and all its zones do.

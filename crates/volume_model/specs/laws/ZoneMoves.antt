@@ -1,5 +1,5 @@
 -- Moves with zones: a block of a node is mapped, and blocks of a file from an index on go. Volumes stand before and after each.
-use Rattle.std.specs.Prelude.{◌≡◌, ◌≢◌, ℕ, ◌/◌, ◌%◌, ◌<◌, ◌≤◌, nat_lt, nat_eq, Bool, true, false, if◌then◌else◌, List, ◌∷◌, length, filter, Some, refl, ◌⊎◌}
+use Rattle.std.specs.Prelude.{◌≡◌, ◌≢◌, ℕ, ◌/◌, ◌%◌, ◌<◌, ◌≤◌, nat_lt, nat_eq, Bool, true, false, if◌then◌else◌, List, length, filter, Some, refl, ◌⊎◌}
 use Rattle.std.proofs.Common.{sym, ap, subst, ◌∙◌, inl, inr, arith}
 use Rattle.std.proofs.lemmas.Bool.{cases_Bool, cases_eq, eqb-true, eqb-false, true≢false}
 use Rattle.blk_base.specs.Members.{In, In-filter, filter-In}
@@ -29,8 +29,8 @@ use Rattle.volume_model.specs.laws.OnWay.{way_on, on_way, in_list, mapped_block,
 use Rattle.volume_model.specs.Cut.{IsKeep, cut_to}
 use Rattle.volume_model.specs.laws.Cut.{CutOutcome, cut_block}
 use Rattle.volume_model.specs.laws.NodeMoves.{changed_stands, changed_just}
-use Rattle.volume_model.specs.Moves.{MayChange, AreJust}
-use Rattle.volume_model.specs.Moves.{AreFree}
+use Rattle.volume_model.specs.Moves.{MayChange, AreJust, AreFree, with_mapped}
+use Rattle.volume_model.specs.laws.Mapped.{mapped_new, mapped_kept, mapped_cases, rising_mapped, rising_below}
 
 not_block : (x : Place) → IsOfNumbers x → is_block x ≡ false
 not_block indirect at_indirect = refl
@@ -174,25 +174,28 @@ module _ (g : Geometry) (sound : IsSound g) (blocks : List (List ℕ)) (nodes : 
     })
 
     -- a file's list has the block
-    pub map_file : (zones : List Mapped) → own_of before (block index) ≡ 0 → IsFilePart blocks p.inode zones → IsFilePart grown.blocks grown.inode (record { index = index; zone = t.data_zone } ∷ zones)
+    pub map_file : (zones : List Mapped) → own_of before (block index) ≡ 0 → IsFilePart blocks p.inode zones → IsFilePart grown.blocks grown.inode (with_mapped zones index t.data_zone)
     map_file zones hole is =
         let o = map_outcome in
         let i = on_way (block index) index (refl, index_low) in
         let here : own_of grown (block index) ≡ t.data_zone = o.got.taken (block index) i hole in
         record {
           kind = ap (λ (i : Inode). is_file i.mode) o.fields ∙ is.kind;
-          listed = λ m j. elim j [
+          listed = λ m j. elim (mapped_cases index t.data_zone zones m j) [
             | inl e ↦ (ap (λ (m : Mapped). own_of grown (block m.index)) (sym e) ∙ (here ∙ ap (λ (m : Mapped). m.zone) e), (λ none. free.some (block index) i hole (ap (λ (m : Mapped). m.zone) e ∙ none)))
             | inr old ↦
                 let told = is.listed m old in
                 (o.got.kept (block m.index) (λ none. told.1 (sym told.0 ∙ none)) ∙ told.0, told.1)
           ];
           full = λ j some. elim (cases_eq j index) [
-            | inl e ↦ inl (let z : own_of grown (block j) ≡ t.data_zone = ap (λ j. own_of grown (block j)) e ∙ here in λ k. record { index = sym e k; zone = sym z k })
+            | inl e ↦
+                let z : own_of grown (block j) ≡ t.data_zone = ap (λ j. own_of grown (block j)) e ∙ here in
+                subst (λ (m : Mapped). In m (with_mapped zones index t.data_zone)) (λ k. record { index = sym e k; zone = sym z k }) (mapped_new index t.data_zone zones)
             | inr a ↦
                 let same : own_of grown (block j) ≡ own_of before (block j) = o.got.others (block j) (λ l. (let on = way_on (block j) index l in a on.0)) in
-                inr (subst (λ z. In (record { index = j; zone = z }) zones) (sym same) (is.full j (λ none. some (same ∙ none))))
+                mapped_kept index t.data_zone zones _ (subst (λ z. In (record { index = j; zone = z }) zones) (sym same) (is.full j (λ none. some (same ∙ none))))
           ];
+          rising = rising_mapped index t.data_zone zones is.rising (λ m j e. (let told = is.listed m j in told.1 (sym told.0 ∙ (ap (λ k. own_of before (block k)) e ∙ hole))));
         }
 
     pub map_just : IsJust (own_of before) → IsJust (own_of grown)
@@ -206,9 +209,9 @@ module _ (g : Geometry) (sound : IsSound g) (blocks : List (List ℕ)) (nodes : 
 
     -- A block of a file is mapped.
     pub mapped_file_stands : (zones : List Mapped) → p.part ≡ parts.File zones → own_of before (block index) ≡ 0 →
-        IsVolumeOf g (edited g grown.blocks (put_inode p.number grown.inode)) (put_number nodes n (record { number = p.number; inode = grown.inode; part = parts.File (record { index = index; zone = t.data_zone } ∷ zones) }))
+        IsVolumeOf g (edited g grown.blocks (put_inode p.number grown.inode)) (put_number nodes n (record { number = p.number; inode = grown.inode; part = parts.File (with_mapped zones index t.data_zone) }))
     mapped_file_stands zones is hole =
-        moved_stands grown _ MapWrites (may_map (parts.File (record { index = index; zone = t.data_zone } ∷ zones)) (map_file zones hole (subst (IsPart blocks p.inode) is (h.each n p stands).part))
+        moved_stands grown _ MapWrites (may_map (parts.File (with_mapped zones index t.data_zone)) (map_file zones hole (subst (IsPart blocks p.inode) is (h.each n p stands).part))
         (λ e same. absurd (cc same)))
 
   -- ---- blocks from an index on go
@@ -242,6 +245,7 @@ module _ (g : Geometry) (sound : IsSound g) (blocks : List (List ℕ)) (nodes : 
           let w = cut_kept (block j) some in
           subst (λ z. In (record { index = j; zone = z }) (filter (λ m. nat_lt m.index from) zones)) (sym w.1)
           (filter-In (λ (m : Mapped). nat_lt m.index from) zones _ (is.full j (λ none. some (w.1 ∙ none))) (sym (k.blocks j) ∙ w.0));
+      rising = rising_below from zones is.rising;
     }
 
     pub may_cut : (zones : List Mapped) → p.part ≡ parts.File zones → MayMove less (parts.File (filter (λ m. nat_lt m.index from) zones)) CutWrites
