@@ -1,0 +1,121 @@
+-- Where a call's row and its steps go by a path, and which names come.
+use Rattle.std.specs.Prelude.{◌≡◌, ◌≤◌, ◌<◌, ◌^◌, ◌-◌, ℕ, ◌==◌, nat_le, nat_lt, Bool, true, false, not, ◌&&◌, List, [], ◌∷◌, length, Some, Ok, Err, refl}
+use Rattle.std.specs.List.{list_any, list_all}
+use Rattle.std.proofs.Common.{sym, ap, inl, inr, ◌∙◌, arith}
+use Rattle.std.proofs.lemmas.Bool.{cases_eq, and_parts, ne_eqb, true≢false, false≢true}
+use Rattle.minix_layout.specs.Slots.{IsEntry}
+use Rattle.tree_model.specs.declared.call.Call.{Call}
+use Rattle.tree_model.specs.declared.call.Reply.{Reply}
+use Rattle.tree_model.specs.declared.call.Reply.TheVariants as replies
+use Rattle.tree_model.specs.declared.call.Room.{Room}
+use Rattle.tree_model.specs.declared.node.Node.TheVariants as nodes
+use Rattle.tree_model.specs.declared.node.Directory.{Directory}
+use Rattle.tree_model.specs.Maps.{at_number}
+use Rattle.tree_model.specs.Paths.{is_name_byte, is_dot}
+use Rattle.tree_model.specs.Calls.{Tree, Done, Place, Found, names_in, parent_of, walk, and_then, refuse_if, row, outcome, if_room, HasInode, used_zones, used_zones}
+use Rattle.tree_model.proofs.Hanging.{IsGoodName}
+use Rattle.tree_model.proofs.Rows.{ok_ok, err_ok, then_ok, refuse_ok}
+use Rattle.volume_model.specs.declared.placed.Placed.{Placed}
+use Rattle.volume_model.specs.declared.placed.Part.{Part}
+use Rattle.volume_model.specs.declared.placed.Part.TheVariants as parts
+use Rattle.volume_model.specs.declared.placed.DirectoryPart.{DirectoryPart}
+use Rattle.volume_model.specs.Trees.{directory_from, node_from, node_now}
+use Rattle.volume_steps.specs.Now.{VolumeNow, Change, tree_of_now, unchanged}
+use Rattle.volume_steps.specs.Calls.{at_place, at_path}
+use Rattle.volume_steps.proofs.TreeSteps.{tree_back}
+
+-- ---- names
+
+no_byte : (x : ℕ) → is_name_byte x ≡ false → (name : List ℕ) → list_all is_name_byte name ≡ true → list_any (λ b. b == x) name ≡ false
+no_byte x bad [] all = refl
+no_byte x bad (b ∷ bs) all =
+    let both = and_parts (is_name_byte b) (list_all is_name_byte bs) all in
+    elim (cases_eq b x) [
+      | inl e ↦ absurd (true≢false (sym both.0 ∙ (ap is_name_byte e ∙ bad)))
+      | inr a ↦ rw (ne_eqb b x a) (no_byte x bad bs both.1)
+    ]
+
+not_true : (b : Bool) → not b ≡ true → b ≡ false
+not_true true e = absurd (true≢false (sym e))
+not_true false e = refl
+
+-- a name of a path is no dot
+pub good_no_dot : (name : List ℕ) → IsGoodName name → is_dot name ≡ false
+good_no_dot name good = not_true (is_dot name) (and_parts (list_all is_name_byte name) (not (is_dot name)) (and_parts (not (length name == 0)) (list_all is_name_byte name && not (is_dot name)) good.plain).1).1
+
+all_three : (a b c : Bool) → a ≡ true → b ≡ true → c ≡ true → (a && (b && c)) ≡ true
+all_three a b c e f h = rw (e, f, h) refl
+
+filled_lt : (n : ℕ) → (n == 0) ≡ false → nat_lt 0 n ≡ true
+filled_lt n f = grind arith
+
+at_most : (a b : ℕ) → a ≤ b → nat_le a b ≡ true
+at_most a b low = grind arith
+
+-- and stands in a slot
+pub good_entry : (name : List ℕ) (number : ℕ) → IsGoodName name → 0 < number → number < 2 ^ 16 → IsEntry (record { inode = number; name = name })
+good_entry name number good some fits =
+    let parts_of = and_parts (not (length name == 0)) (list_all is_name_byte name && not (is_dot name)) good.plain in
+    let bytes = (and_parts (list_all is_name_byte name) (not (is_dot name)) parts_of.1).0 in
+    let filled = not_true (length name == 0) parts_of.0 in
+    record {
+      used = some;
+      fits = fits;
+      name = all_three (nat_lt 0 (length name)) (nat_le (length name) 14) (not (list_any (λ b. b == 0) name)) (filled_lt (length name) filled) (at_most (length name) 14 good.short) (ap not (no_byte 0 refl name bytes));
+      no_slash = no_byte 47 refl name bytes;
+    }
+
+-- ---- rows
+
+-- a call that is done has its row, and an inode for a node that it makes
+pub done_row : (room : Room) (tree : Tree) (n : ℕ) (c : Call) (d : Done) → outcome room tree n c ≡ Ok d → (row tree n c ≡ Ok d) × HasInode room tree d
+unfolding outcome
+done_row room tree n c d h =
+    let one = then_ok (row tree n c) (if_room room tree) d h in
+    let inode = refuse_ok (one.0.takes_inode && nat_le room.inodes (length tree)) replies.NoInode
+    (refuse_if (nat_lt (room.capacity - used_zones tree) (used_zones one.0.tree - used_zones tree)) replies.NoSpace (Ok one.0)) d one.2 in
+    let space = refuse_ok (nat_lt (room.capacity - used_zones tree) (used_zones one.0.tree - used_zones tree)) replies.NoSpace (Ok one.0) d inode.1 in
+    let same = ok_ok one.0 d space.1 in
+    (one.1 ∙ ap Ok same, λ takes. few one.0.takes_inode (ap (λ (d : Done). d.takes_inode) same ∙ takes) inode.0)
+  where
+    few : (takes : Bool) → takes ≡ true → (takes && nat_le room.inodes (length tree)) ≡ false → length tree < room.inodes
+    few true e f = grind arith
+    few false e f = absurd (false≢true e)
+
+-- ---- where a path leads
+
+-- the reply for the root matters only there
+pub parent_any : (one other : Reply) (tree : Tree) (names : List (List ℕ)) (p : Place) → parent_of one tree names ≡ Ok p → parent_of other tree names ≡ Ok p
+parent_any one other tree [] p h = err_ok one p h
+parent_any one other tree (name ∷ names) p h = h
+
+pub at_place_is : (v : VolumeNow) (path : List ℕ) (names : List (List ℕ)) (p : Place) (reply : Reply) (change : Place → Change) → names_in path ≡ Ok names → parent_of reply (tree_of_now v) names ≡ Ok p →
+    at_place v path change ≡ change p
+at_place_is v path names p reply change e h =
+    ap (λ r. elim r as (λ _. Change) [ Err reply ↦ unchanged v | Ok place ↦ change place ])
+    (ap (λ x. and_then x (parent_of replies.Invalid (tree_of_now v))) e ∙ parent_any reply replies.Invalid (tree_of_now v) names p h)
+
+pub at_path_is : (v : VolumeNow) (path : List ℕ) (names : List (List ℕ)) (found : Found) (change : ℕ → Change) → names_in path ≡ Ok names → walk (tree_of_now v) names ≡ Ok found →
+    at_path v path change ≡ change found.birth
+at_path_is v path names found change e h =
+    ap (λ r. elim r as (λ _. Change) [ Err reply ↦ unchanged v | Ok found ↦ change found.birth ])
+    (ap (λ x. and_then x (walk (tree_of_now v))) e ∙ h)
+
+-- ---- directories of the tree
+
+-- a directory of the tree is one of the volume
+pub record DirectoryAt (v : VolumeNow) (birth : ℕ) (directory : Directory) : Type 0 where
+  pub placed : Placed
+  pub part : DirectoryPart
+  pub stands : at_number v.contents.nodes birth ≡ Some placed
+  pub is : placed.part ≡ parts.Directory part
+  pub same : directory_from part ≡ directory
+
+pub directory_at : (v : VolumeNow) (birth : ℕ) (directory : Directory) → at_number (tree_of_now v) birth ≡ Some (nodes.Directory directory) → DirectoryAt v birth directory
+directory_at v birth directory found =
+    let w = tree_back v.contents.blocks v.contents.nodes birth (nodes.Directory directory) found in
+    by w.0 w.0.part refl w.1 w.2
+  where
+    by : (p : Placed) (part : Part) → p.part ≡ part → at_number v.contents.nodes birth ≡ Some p → node_now v.contents.blocks p ≡ nodes.Directory directory → DirectoryAt v birth directory
+    by p (parts.Directory d) is at e = record { placed = p; part = d; stands = at; is = is; same = (let f = sym (ap (node_from v.contents.blocks p.inode) is) ∙ e in cc) }
+    by p (parts.File zones) is at e = absurd (cc (sym (ap (node_from v.contents.blocks p.inode) is) ∙ e))

@@ -1,0 +1,42 @@
+-- From what a call does where nothing refuses it to the call.
+use Rattle.std.specs.Prelude.{◌≡◌, ◌≤◌, ◌-◌, ℕ, [], Ok, Err, refl}
+use Rattle.std.proofs.Common.{ap, subst, inl, arith}
+use Rattle.tree_model.specs.declared.call.Call.{Call}
+use Rattle.tree_model.specs.Calls.{Done, Row, outcome, needs, tree_after, tree_from, used_zones}
+use Rattle.volume_steps.specs.Now.{VolumeNow, tree_of_now, room_of, unchanged}
+use Rattle.volume_steps.specs.Calls.{called, called_by, changed}
+use Rattle.volume_steps.specs.Plain.{IsInUse, IsPlainNow}
+use Rattle.volume_steps.specs.laws.Steady.{IsSteady}
+use Rattle.volume_steps.proofs.Taking.{frees}
+use Rattle.volume_steps.proofs.Grows.{takes_none, grown_steady}
+use Rattle.volume_steps.proofs.CallPaths.{done_row}
+use Rattle.volume_steps.proofs.CallEnds.{IsDone}
+
+-- nothing changes
+pub unchanged_steady : (tx : ℕ) (v : VolumeNow) → IsInUse v → IsSteady tx v (unchanged v) (λ birth index. ⊥)
+unchanged_steady tx v h = grown_steady tx v v.contents v.zones [] [] [] h h.volume
+    (record {
+      kept = λ a p at. record { placed = p; stands = at; kind = refl; zones = λ x some. refl };
+      had = λ a q x at some. inl (record { placed = q; stands = at; kind = refl; zone_is = refl });
+      bytes = λ b none. refl;
+      meta = λ b i. absurd i;
+      told = λ zone i. absurd i;
+      mapped = λ zone i. absurd i;
+    })
+    (takes_none v.zones) h.counted
+
+-- what is needed
+pub needs_are : (v : VolumeNow) (n : ℕ) (c : Call) (d : Done) → outcome (room_of v.geometry) (tree_of_now v) n c ≡ Ok d → needs (tree_of_now v) n c ≡ used_zones d.tree - used_zones (tree_of_now v)
+unfolding needs
+needs_are v n c d h = ap (λ r. elim r as (λ _. ℕ) [ Err reply ↦ 0 | Ok d ↦ used_zones d.tree - used_zones (tree_of_now v) ]) (done_row (room_of v.geometry) (tree_of_now v) n c d h).0
+
+-- A call that is refused changes nothing, and else does what was said.
+pub called_done : (tx : ℕ) (v : VolumeNow) (n : ℕ) (c : Call) → IsPlainNow v → needs (tree_of_now v) n c ≤ frees v.zones →
+    ((d : Done) → outcome (room_of v.geometry) (tree_of_now v) n c ≡ Ok d → used_zones d.tree - used_zones (tree_of_now v) ≤ frees v.zones → IsDone tx v (changed v n tx c) d.tree) →
+    IsDone tx v (called v n tx c).change (tree_after (room_of v.geometry) (tree_of_now v) n c)
+unfolding called tree_after
+called_done tx v n c h enough done = by (outcome (room_of v.geometry) (tree_of_now v) n c) refl
+  where
+    by : (r : Row) → outcome (room_of v.geometry) (tree_of_now v) n c ≡ r → IsDone tx v (called_by v n tx c r).change (tree_from (tree_of_now v) r)
+    by (Err why) e = record { steady = unchanged_steady tx v h.in_use; tree_is = refl; plain = h; waiting = (omega arith) }
+    by (Ok d) e = done d e (subst (λ k. k ≤ frees v.zones) (needs_are v n c d e) enough)

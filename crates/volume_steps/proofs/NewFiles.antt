@@ -1,0 +1,191 @@
+-- A file comes, in the lowest inode that is free.
+use Rattle.std.specs.Prelude.{◌≡◌, ◌≢◌, ◌<◌, ◌+◌, ◌/◌, ◌^◌, ℕ, zero, suc, ◌⊎◌, true, List, [], ◌∷◌, length, replicate, slice_index, None, refl}
+use Rattle.std.specs.List.Sorted.{IsStrictlySortedBy}
+use Rattle.std.proofs.Common.{sym, ap, subst, inl, inr, ⊎_elim, ◌∙◌, arith}
+use Rattle.std.proofs.lemmas.Bool.{cases_eq}
+use Rattle.minix_layout.specs.declared.division.Geometry.{Geometry}
+use Rattle.minix_layout.specs.declared.inode.Inode.{Inode}
+use Rattle.minix_layout.specs.Inodes.{FitInode}
+use Rattle.tree_model.specs.Maps.{at_number, put_number}
+use Rattle.tree_model.specs.Calls.{new_file, node_zones, used_zones, file_zones, mapped_groups}
+use Rattle.volume_ops.specs.Places.{table_block}
+use Rattle.volume_ops.specs.Fields.{inode_at}
+use Rattle.volume_model.specs.declared.placed.Placed.{Placed}
+use Rattle.volume_model.specs.declared.placed.Part.TheVariants as parts
+use Rattle.volume_model.specs.Changes.{Changes}
+use Rattle.volume_model.specs.Edits.{put_inode, edited}
+use Rattle.volume_model.specs.laws.Edits.{untouched, inode_here}
+use Rattle.volume_model.specs.laws.Changes.{changes_then, changes_bit, changes_inode, table_below}
+use Rattle.volume_model.specs.laws.MapBlock.{changes_wider}
+use Rattle.volume_model.specs.Volume.{Place, block, indirect, double, inner, zone_in, IsWhole}
+use Rattle.volume_model.specs.Ways.{home, slot, entry, nowhere, place_at}
+use Rattle.volume_model.specs.laws.Ways.{by_home, home_back, one_home, home-direct, own_slot, own_none, own_behind}
+use Rattle.volume_model.specs.Moves.{IsVolume}
+use Rattle.volume_steps.specs.Now.{VolumeNow, tree_of_now}
+use Rattle.volume_steps.specs.Zones.{inode_bit, new_number}
+use Rattle.volume_steps.specs.Steps.{new_file_inode, make_file}
+use Rattle.volume_steps.specs.Plain.{IsInUse}
+use Rattle.volume_steps.specs.laws.Steady.{IsSteady}
+use Rattle.volume_steps.proofs.Grows.{GrowsTo, takes_none, grown_steady}
+use Rattle.volume_steps.proofs.NodeSteps.{IsSettled, AreSlotted}
+use Rattle.volume_steps.proofs.NewNumbers.{IsNewNumber, number_is_new}
+use Rattle.volume_steps.proofs.Comes.{MayCome, ComesTold, come, come_stands, come_grows, come_settled, come_slotted}
+use Rattle.volume_steps.proofs.TreeSteps.{grown_pages, tree_put, tree_none, tree_in_order, used_put_new}
+
+-- ---- an inode with a first zone at most
+
+pub same_blank : (n b : ℕ) → slice_index (replicate n 0) b ≡ 0
+same_blank zero b = refl
+same_blank (suc n) zero = refl
+same_blank (suc n) (suc b) = same_blank n b
+
+block_of : Place → ℕ
+block_of (block index) = index
+block_of other = 0
+
+is_first : (x : Place) → (x ≡ block 0) ⊎ (x ≢ block 0)
+unfolding block_of
+is_first (block index) = ⊎_elim (λ e. inl (ap block e)) (λ differ. inr (λ e. differ (ap block_of e))) (cases_eq index 0)
+is_first indirect = inr (λ e. cc)
+is_first double = inr (λ e. cc)
+is_first (inner k) = inr (λ e. cc)
+
+pub first_index : (index : ℕ) → block index ≡ block 0 → index ≡ 0
+unfolding block_of
+first_index index e = ap block_of e
+
+module _ (blocks : List (List ℕ)) (whole : IsWhole blocks) (i : Inode) (z : ℕ) (zones : i.zones ≡ z ∷ replicate 8 0) where
+  pub own_first : zone_in blocks i (block 0) ≡ z
+  own_first = sym (own_slot blocks i whole (block 0) 0 (home-direct 0 (omega arith))) ∙ ap (λ zs. slice_index zs 0) zones
+
+  top_none : (x : Place) (k : ℕ) → home x ≡ slot k → x ≢ block 0 → zone_in blocks i x ≡ 0
+  top_none x zero at differ = absurd (differ (one_home x (block 0) (at ∙ sym (home-direct 0 (omega arith))) (λ e. (let no : slot 0 ≡ nowhere = sym at ∙ e in cc))))
+  top_none x (suc k) at differ = sym (own_slot blocks i whole x (suc k) at) ∙ (ap (λ zs. slice_index zs (suc k)) zones ∙ same_blank 8 k)
+
+  pub none_else : (x : Place) → x ≢ block 0 → zone_in blocks i x ≡ 0
+  none_else =
+      by_home (λ x. x ≢ block 0 → zone_in blocks i x ≡ 0) top_none
+      (λ x at differ. own_none blocks i whole x at)
+      (λ x h k at up differ.
+      own_behind blocks i whole x h k at
+      (up (λ e. differ (sym (home_back x (λ n. (let no : entry h k ≡ nowhere = sym at ∙ n in cc))) ∙ ap place_at (at ∙ ap (λ h. entry h k) e)))))
+
+  pub first_of : (x : Place) → zone_in blocks i x ≢ 0 → x ≡ block 0
+  first_of x some = ⊎_elim (λ e. e) (λ differ. absurd (some (none_else x differ))) (is_first x)
+
+  pub first_zone : (x : Place) → zone_in blocks i x ≢ 0 → zone_in blocks i x ≡ z
+  first_zone x some = ap (zone_in blocks i) (first_of x some) ∙ own_first
+
+-- ---- a file
+
+module _ (tx : ℕ) (v : VolumeNow) (in_use : IsInUse v) (n : ℕ) (none : at_number v.contents.nodes n ≡ None) (few : length v.contents.nodes < v.geometry.inodes) where
+  abbrev g : Geometry
+  g = v.geometry
+
+  abbrev number : ℕ
+  number = new_number g v.contents.nodes
+
+  new : IsNewNumber g v.contents.nodes number
+  new = number_is_new g v.contents.nodes few
+
+  file_fits : FitInode new_file_inode
+  file_fits = record { mode = omega arith; uid = omega arith; size = omega arith; time = omega arith; gid = omega arith; links = omega arith; nine = refl; zones = λ k. subst (λ z. z < 2 ^ 16) (sym (same_blank 9 k)) (omega arith) }
+
+  abbrev bits : List (List ℕ)
+  bits = edited g v.contents.blocks (inode_bit number true)
+
+  abbrev after : List (List ℕ)
+  after = edited g bits (put_inode number new_file_inode)
+
+  bits_change : Changes g (λ _. ⊥) (λ _. ⊥) v.contents.blocks bits
+  bits_change =
+      let high = new.within in
+      let room = in_use.sound.inode_bits in
+      changes_bit g v.contents.blocks 2 number true in_use.sound in_use.volume.0.whole in_use.volume.0.size (omega arith)
+
+  table_change : Changes g (λ j. j ≡ number) (λ _. ⊥) bits after
+  table_change = changes_inode g bits number new_file_inode in_use.sound bits_change.whole (bits_change.size ∙ in_use.volume.0.size) new.some new.within file_fits
+
+  changes : Changes g (λ j. j ≡ number) (λ _. ⊥) v.contents.blocks after
+  changes = changes_wider g (λ j i. elim i [ inl w ↦ absurd w | inr e ↦ e ]) (λ b i. elim i [ inl w ↦ w | inr w ↦ w ]) (changes_then g bits_change table_change)
+
+  abbrev q : Placed
+  q = record { number = number; inode = new_file_inode; part = parts.File [] }
+
+  no_zone : (x : Place) → zone_in after new_file_inode x ≢ 0 → ⊥
+  no_zone x some = some (first_zone after changes.whole new_file_inode 0 refl x some)
+
+  table_here : inode_at g after number ≡ new_file_inode
+  table_here =
+      let t = table_below g number in_use.sound new.some new.within in
+      let low = t.1 in
+      let some = in_use.sound.some_zone in
+      let size = bits_change.size ∙ in_use.volume.0.size in
+      inode_here g bits number new_file_inode bits_change.whole (omega arith) file_fits
+
+  may : MayCome g v.contents after n q (λ _. ⊥)
+  unfolding IsStrictlySortedBy
+  may = record {
+    birth = none;
+    unused = new.unused;
+    changes = changes;
+    not_theirs = λ a r x at some z. z;
+    stored = record {
+      some = new.some;
+      within = new.within;
+      fits = file_fits;
+      inode = table_here;
+      zones = λ x some. absurd (no_zone x some);
+      part = record { kind = refl; listed = λ m i. absurd i; full = λ index some. absurd (no_zone (block index) some); rising = tt };
+    };
+    apart = λ x y same some. absurd (no_zone x some);
+    none_of_theirs = λ a r x y at same some. no_zone x some;
+    names = λ d is. absurd (cc is);
+    just = λ x some. absurd (no_zone x some);
+  }
+
+  abbrev blocks : List ℕ
+  blocks = (2 + number / 8192) ∷ table_block g number ∷ []
+
+  told : ComesTold g v.contents after n q (λ _. ⊥) in_use.volume may in_use.sound blocks []
+  told = record {
+    zones = λ x some. absurd (no_zone x some);
+    bytes = λ b out. untouched g (inode_bit number true ∷ put_inode number new_file_inode ∷ []) v.contents.blocks b out;
+    meta = λ b i.
+        let t = table_below g number in_use.sound new.some new.within in
+        let low = t.0 in
+        let high = t.1 in
+        let within = new.within in
+        let room = in_use.sound.inode_bits in
+        let tables = in_use.sound.tables_below in
+        inl (elim i [ inl e ↦ ((omega arith), (omega arith)) | inr j ↦ elim j [ inl e ↦ ((omega arith), (omega arith)) | inr w ↦ absurd w ] ]);
+    mapped = λ zone i. absurd i;
+  }
+
+  grows : GrowsTo g v.contents (come g v.contents after n q (λ _. ⊥) in_use.volume may) blocks []
+  grows = come_grows g v.contents after n q (λ _. ⊥) in_use.volume may in_use.sound blocks [] told
+
+  stands : IsVolume g (come g v.contents after n q (λ _. ⊥) in_use.volume may)
+  stands = come_stands g v.contents after n q (λ _. ⊥) in_use.volume may
+
+  pub file_made_tree : tree_of_now (make_file v n).volume ≡ put_number (tree_of_now v) n new_file
+  file_made_tree = tree_put v.contents.blocks after v.contents.nodes in_use.volume.0.in_order
+      (grown_pages g v.contents (come g v.contents after n q (λ _. ⊥) in_use.volume may) blocks [] [] grows in_use.volume.0 stands.0) n q
+
+  pub no_zones : node_zones new_file ≡ 0
+  unfolding file_zones mapped_groups
+  no_zones = refl
+
+  pub file_made_steady : IsSteady tx v (make_file v n) (λ birth index. ⊥)
+  file_made_steady = grown_steady tx v (come g v.contents after n q (λ _. ⊥) in_use.volume may) v.zones blocks [] (n ∷ []) in_use stands grows (takes_none v.zones)
+      (let all = used_put_new (tree_of_now v) n new_file (tree_in_order v.contents.blocks v.contents.nodes in_use.volume.0.in_order) (tree_none v.contents.blocks v.contents.nodes n none) in
+      let same = ap used_zones file_made_tree in
+      let zero = no_zones in
+      let was = in_use.counted in
+      omega arith)
+
+  pub file_made_settled : IsSettled v.contents → (n ≡ 0 → ⊥) → IsSettled (make_file v n).volume.contents
+  file_made_settled old apart = come_settled g v.contents after n q (λ _. ⊥) in_use.volume may old apart (λ zones is. omega arith) (omega arith) (λ d is. absurd (cc is))
+
+  pub file_made_slotted : AreSlotted (λ a. ⊥) v.contents → AreSlotted (λ a. ⊥) (make_file v n).volume.contents
+  file_made_slotted old = come_slotted g v.contents after n q (λ _. ⊥) in_use.volume may old (λ d is. absurd (cc is))

@@ -1,0 +1,14 @@
+-- What the definitions compute.
+use Rattle.std.specs.Prelude.{refl}
+use Rattle.inode_ops.specs.Map.{zone_at}
+use Rattle.tree_model.specs.Paths.{path_of}
+use Rattle.tree_model.specs.Calls.{outcome, row, used_zones, file_zones, mapped_groups}
+use Rattle.dir_ops.specs.Slots.{with_slot}
+use Rattle.volume_model.specs.MapBlock.{map_block}
+use Rattle.volume_model.specs.Trees.{tree_now}
+use Rattle.volume_steps.specs.Calls.{called, changed}
+use Rattle.volume_steps.proofs.laws.examples_of_changes.Goals as goal
+
+pub returns : goal.returns
+unfolding called changed outcome row tree_now path_of used_zones file_zones mapped_groups with_slot map_block zone_at
+returns c = record { blocks = refl; numbers = refl; freed = refl; wait = refl; directories = refl }

@@ -1,0 +1,91 @@
+-- Calls on a volume: which steps each one is made of. What refuses a call, and what it replies, is the tree's matter.
+use Rattle.std.specs.Prelude.{ℕ, ◌+◌, ◌-◌, nat_le, if◌then◌else◌, List, length, replicate, Ok, Err}
+use Rattle.std.specs.Int.{div_ceil}
+use Rattle.tree_model.specs.declared.call.Call.{Call}
+use Rattle.tree_model.specs.declared.call.Call.TheVariants as calls
+use Rattle.tree_model.specs.declared.call.Reply.{Reply}
+use Rattle.tree_model.specs.declared.call.Reply.TheVariants as replies
+use Rattle.tree_model.specs.Calls.{Place, names_in, parent_of, walk_path, touched_blocks, max, Row, outcome, and_then as and_then_row}
+use Rattle.zone_maps.specs.Zones.{released}
+use Rattle.volume_steps.specs.Now.{VolumeNow, Change, tree_of_now, room_of, unchanged, followed_by, with_zone_states}
+use Rattle.volume_steps.specs.Steps.{at_node, set_links, resize, make_file, make_directory, add_name, take_name, drop_node, write_blocks, cut_blocks, clear_tail}
+
+-- ---- where a path leads
+
+abbrev pub at_place : VolumeNow → List ℕ → (Place → Change) → Change
+at_place v path change =
+    elim (and_then_row (names_in path) (parent_of replies.Invalid (tree_of_now v))) as (λ _. Change) [ Err reply ↦ unchanged v | Ok place ↦ change place ]
+
+abbrev pub at_path : VolumeNow → List ℕ → (ℕ → Change) → Change
+at_path v path change = elim (walk_path (tree_of_now v) path) as (λ _. Change) [ Err reply ↦ unchanged v | Ok found ↦ change found.birth ]
+
+-- ---- what each call does, where nothing refuses it
+
+abbrev pub mkdir : VolumeNow → ℕ → List ℕ → Change
+mkdir v n path = at_place v path (λ place.
+    followed_by (make_directory v n place.parent) (λ u.
+    followed_by (add_name u place.parent place.name n) (λ w.
+    set_links w place.parent (λ links. links + 1))))
+
+abbrev pub create : VolumeNow → ℕ → List ℕ → Change
+create v n path = at_place v path (λ place.
+    followed_by (make_file v n) (λ w. add_name w place.parent place.name n))
+
+abbrev pub rmdir : VolumeNow → ℕ → List ℕ → Change
+rmdir v tx path = at_place v path (λ place. at_path v path (λ birth.
+    followed_by (take_name v place.parent place.name) (λ u.
+    followed_by (set_links u place.parent (λ links. links - 1)) (λ w.
+    drop_node w tx birth))))
+
+-- a file has one link less; at no links it is gone
+abbrev pub lose_link : VolumeNow → ℕ → ℕ → Change
+lose_link v tx n = at_node v n (λ p. if nat_le p.inode.links 1 then drop_node v tx n else set_links v n (λ links. links - 1))
+
+abbrev pub unlink : VolumeNow → ℕ → List ℕ → Change
+unlink v tx path = at_place v path (λ place. at_path v path (λ birth.
+    followed_by (take_name v place.parent place.name) (λ w. lose_link w tx birth)))
+
+abbrev pub link : VolumeNow → List ℕ → List ℕ → Change
+link v path other = at_path v path (λ birth. at_place v other (λ place.
+    followed_by (set_links v birth (λ links. links + 1)) (λ w. add_name w place.parent place.name birth)))
+
+abbrev pub write : VolumeNow → List ℕ → ℕ → List ℕ → Change
+write v path off bytes = at_path v path (λ birth.
+    followed_by (write_blocks v birth off bytes (touched_blocks off (length bytes))) (λ w.
+    resize w birth (λ size. max size (off + length bytes))))
+
+abbrev pub truncate : VolumeNow → ℕ → List ℕ → ℕ → Change
+truncate v tx path size = at_path v path (λ birth.
+    followed_by (cut_blocks v tx birth (div_ceil size 1024)) (λ u.
+    followed_by (clear_tail u birth size) (λ w.
+    resize w birth (λ old. size))))
+
+-- The call with number n, in transaction tx. Renames are not built yet: they change nothing here.
+unfoldable pub changed : VolumeNow → ℕ → ℕ → Call → Change
+changed v n tx (calls.Mkdir path) = mkdir v n path
+changed v n tx (calls.Create path) = create v n path
+changed v n tx (calls.Rmdir path) = rmdir v tx path
+changed v n tx (calls.Unlink path) = unlink v tx path
+changed v n tx (calls.Link path other) = link v path other
+changed v n tx (calls.Write path off len value) = write v path off (replicate len value)
+changed v n tx (calls.Bytes path off bytes) = write v path off bytes
+changed v n tx (calls.Truncate path size) = truncate v tx path size
+changed v n tx other = unchanged v
+
+-- ---- a call
+
+pub record Called : Type 0 where
+  pub change : Change
+  pub reply : Reply
+
+-- by what the tree says of the call; one that is refused changes nothing
+abbrev pub called_by : VolumeNow → ℕ → ℕ → Call → Row → Called
+called_by v n tx c (Err reply) = record { change = unchanged v; reply = reply }
+called_by v n tx c (Ok done) = record { change = changed v n tx c; reply = done.reply }
+
+unfoldable pub called : VolumeNow → ℕ → ℕ → Call → Called
+called v n tx c = called_by v n tx c (outcome (room_of v.geometry) (tree_of_now v) n c)
+
+-- the zones that waited for a transaction are free
+abbrev pub after_release : VolumeNow → ℕ → VolumeNow
+after_release v tx = with_zone_states v (released v.zones tx)

@@ -1,0 +1,3 @@
+-- What proofs of calls on a volume need.
+pub mod Steady
+pub mod Called
