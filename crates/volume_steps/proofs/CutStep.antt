@@ -51,7 +51,7 @@ use Rattle.volume_steps.proofs.TreeSteps.{tree_at, tree_in_order, used_put_more}
 
 -- ---- places of zones of numbers, each once
 
-in_range : (a n i : ℕ) → In i (range_with_len a n) → (a ≤ i) × (i < a + n)
+pub in_range : (a n i : ℕ) → In i (range_with_len a n) → (a ≤ i) × (i < a + n)
 in_range a zero i j = absurd j
 in_range a (suc n) i (inl e) = (omega arith, omega arith)
 in_range a (suc n) i (inr j) = let r = in_range (a + 1) n i j in let low = r.0 in let high = r.1 in (omega arith, omega arith)

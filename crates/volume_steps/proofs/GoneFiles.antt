@@ -28,7 +28,7 @@ use Rattle.volume_steps.proofs.Grows.{is_directory_part}
 use Rattle.volume_steps.proofs.Taking.{AreApart, apart_both}
 use Rattle.volume_steps.proofs.Drops.{IsGone}
 
-in_from : (a n k : ℕ) → a ≤ k → k < a + n → In k (range_with_len a n)
+pub in_from : (a n k : ℕ) → a ≤ k → k < a + n → In k (range_with_len a n)
 in_from a zero k low high = absurd (omega arith)
 in_from a (suc n) k low high = elim (cases_eq a k) [ inl e ↦ inl e | inr far ↦ inr (in_from (a + 1) n k (omega arith) (omega arith)) ]
 
@@ -45,14 +45,14 @@ module _ (v : VolumeNow) (h : IsInUse v) (n : ℕ) (p : Placed) (at : at_number 
   pub one_place : (x y : Place) → own x ≡ own y → own x ≢ 0 → x ≡ y
   one_place x y same some = (h.volume.0.zones n n p p x y at at same some).1
 
-  goes_some : (x : Place) → goes x ≡ true → own x ≢ 0
+  pub goes_some : (x : Place) → goes x ≡ true → own x ≢ 0
   goes_some x t = by (nat_eq (own x) 0) refl t
     where
       by : (b : Bool) → nat_eq (own x) 0 ≡ b → (not b && true) ≡ true → own x ≢ 0
       by true e t = absurd (true≢false (sym t))
       by false e t = eqb-false _ _ e
 
-  some_goes : (x : Place) → own x ≢ 0 → goes x ≡ true
+  pub some_goes : (x : Place) → own x ≢ 0 → goes x ≡ true
   some_goes x some = rw (ne_eqb (own x) 0 some) refl
 
   in_places : (x : Place) → IsOfNumbers x → own x ≢ 0 → In x number_places

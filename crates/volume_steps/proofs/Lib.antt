@@ -36,4 +36,6 @@ pub mod FileCalls
 pub mod Release
 pub mod FileCases
 pub mod GoneFiles
+pub mod GoneDirectories
 pub mod UnlinkCall
+pub mod RmdirCall

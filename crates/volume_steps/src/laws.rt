@@ -39,9 +39,10 @@ pub fn nodes_and_names_come()
     ensures link { (path other : List ℕ) → AreCalled (calls.Link path other) (λ birth index. ⊥) }
 {}
 
-/// A law, which does nothing when it is called: a name that is taken from a file leaves the volume plain, its tree is the
-/// one that the call makes of the old one, and all that it touched is told. Where it was the last one, the file's zones
-/// wait for the transaction.
+/// A law, which does nothing when it is called: a name that is taken from a file, or a directory without names that is
+/// removed, leaves the volume plain, its tree is the one that the call makes of the old one, and all that it touched is
+/// told. The zones of a file that has no name then, and those of the directory, wait for the transaction.
 pub fn names_go()
     ensures unlink { (path : List ℕ) → AreCalled (calls.Unlink path) (λ birth index. ⊥) }
+    ensures rmdir { (path : List ℕ) → AreCalled (calls.Rmdir path) (λ birth index. ⊥) }
 {}
