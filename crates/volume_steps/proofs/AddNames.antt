@@ -2,7 +2,7 @@
 use Rattle.std.specs.Prelude.{◌≡◌, ◌≢◌, ◌≤◌, ◌<◌, ◌+◌, ◌*◌, ◌/◌, ◌%◌, ℕ, nat_eq, nat_lt, nat_le, ◌==◌, Bool, true, false, ◌&&◌, if◌then◌else◌, List, [], ◌∷◌, ◌++◌, length, codes, Option, Some, None, option_map, refl}
 use Rattle.std.proofs.Common.{sym, ap, subst, inl, inr, ◌∙◌, arith, eq-eqb, eqb-true}
 use Rattle.std.proofs.lemmas.Bool.{cases_Bool, cases_eq, cases_lt, eqb-false, lt-ltb, le-ltb, ne_eqb, true≢false}
-use Rattle.blk_base.specs.Members.{In}
+use Rattle.blk_base.specs.Members.{In, In-append_right}
 use Rattle.minix_layout.specs.declared.division.Geometry.{Geometry}
 use Rattle.minix_layout.specs.declared.slot.Slot.{Slot}
 use Rattle.minix_layout.specs.Slots.{IsEntry}
@@ -41,6 +41,7 @@ use Rattle.volume_steps.proofs.StepsTo.{StepsTo, links_at, links_put}
 use Rattle.volume_steps.proofs.QuietSteps.{at_node_is, at_directory_is}
 use Rattle.volume_steps.proofs.TreeSteps.{tree_at, tree_in_order, used_put_more}
 use Rattle.volume_steps.proofs.Rooms.{es, room_links, with_room, with_room_placed, room_taken, room_stands, room_grows, mapped_blocks, room_settled, room_slotted, room_tree, room_new, room_kept, room_back}
+use Rattle.volume_steps.proofs.Listed.{put_told, nodes_then}
 
 -- ---- where the slot is
 
@@ -165,7 +166,8 @@ module _ (tx : ℕ) (v : VolumeNow) (in_use : IsInUse v) (n : ℕ) (p : Placed) 
       steady = grown_steady tx v w v.zones (slot_blocks g in_use.sound v.contents n p in_use.volume at d is (room d.slots) (Some s) next put) [] (n ∷ []) in_use
           (put_stands g in_use.sound v.contents n p in_use.volume at d is (room d.slots) (Some s) next put)
           (slot_grows g in_use.sound v.contents n p in_use.volume at d is (room d.slots) (Some s) next put) (takes_none v.zones)
-          (let all = used_after in let was = in_use.counted in let same = ap used_zones tree_here in let no = no_more in omega arith);
+          (let all = used_after in let was = in_use.counted in let same = ap used_zones tree_here in let no = no_more in omega arith)
+          (put_told g v.contents w put_here.touched n _ refl (inl refl) (λ b i. elim i [ inl e ↦ sym e | inr z ↦ absurd z ]) (inr (inl refl)));
       tree_is = tree_here;
       settled = (let dots = old.dots n p d at is in
           slot_settled g in_use.sound v.contents n p in_use.volume at d is (room d.slots) (Some s) next put old (dots.0, dots.1, dots_with d.slots p.number dots.0.number s dots.2 no_dot));
@@ -336,7 +338,11 @@ module _ (tx : ℕ) (v : VolumeNow) (in_use : IsInUse v) (n : ℕ) (p : Placed) 
           let same = ap used_zones tree_there in
           let more = (room_taken v in_use n p at d is index high hole plenty).more in
           let needs = zones_more in
-          omega arith);
+          omega arith)
+          (nodes_then g v.contents r rw_after (tells_node n first_blocks) (tells_node n (slot_blocks g in_use.sound r n rp r_stands r_at d refl (room d.slots) (Some s) next put_there))
+          (put_told g v.contents r (tells_node n first_blocks) n rp refl (inl refl) (λ b i. elim i [ inl e ↦ sym e | inr z ↦ absurd z ])
+          (In-append_right (touched_by_all g (es v in_use n p at d is index high hole plenty)) (mapped_blocks v in_use n p at d is index high hole plenty) _ (inl refl)))
+          (put_told g r rw_after (tells_node n (slot_blocks g in_use.sound r n rp r_stands r_at d refl (room d.slots) (Some s) next put_there)) n _ refl (inl refl) (λ b i. elim i [ inl e ↦ sym e | inr z ↦ absurd z ]) (inr (inl refl))));
       tree_is = tree_there;
       settled =
           let later_old = room_settled v in_use n p at d is index high hole plenty old in

@@ -8,6 +8,7 @@ use Rattle.volume_steps.specs.Calls.{called, called_by, changed}
 use Rattle.volume_steps.specs.Plain.{IsInUse, IsPlainNow}
 use Rattle.volume_steps.specs.laws.Steady.{IsSteady}
 use Rattle.volume_steps.proofs.Taking.{frees}
+use Rattle.volume_steps.proofs.Listed.{none_told}
 use Rattle.volume_steps.proofs.Grows.{takes_none, grown_steady}
 use Rattle.volume_steps.proofs.CallPaths.{done_row}
 use Rattle.volume_steps.proofs.CallEnds.{IsDone}
@@ -23,7 +24,7 @@ unchanged_steady tx v h = grown_steady tx v v.contents v.zones [] [] [] h h.volu
       told = λ zone i. absurd i;
       mapped = λ zone i. absurd i;
     })
-    (takes_none v.zones) h.counted
+    (takes_none v.zones) h.counted (none_told v.geometry v.contents v.contents (unchanged v).touched refl refl)
 
 -- what is needed
 pub needs_are : (v : VolumeNow) (n : ℕ) (c : Call) (d : Done) → outcome (room_of v.geometry) (tree_of_now v) n c ≡ Ok d → needs (tree_of_now v) n c ≡ used_zones d.tree - used_zones (tree_of_now v)

@@ -44,10 +44,11 @@ use Rattle.volume_steps.proofs.Bits.{ChangesNone, AreZones, kept_volume, kept_zo
 use Rattle.volume_steps.proofs.FileSteps.{IsFileStep, IsFileAt, IsFileChange, change_settled, change_slotted, change_directories, file_at, at_file_is}
 use Rattle.volume_steps.proofs.Files.{bodies_kept, node_is_file, node_zones_are, tree_changed}
 use Rattle.volume_steps.proofs.PageStep.{unchanged_step}
-use Rattle.volume_steps.proofs.Taking.{AreApart, AreGiven, all_are_given, apart_both, in_zones, frees, uses}
+use Rattle.volume_steps.proofs.Taking.{given_lowest, AreApart, AreGiven, all_are_given, apart_both, in_zones, frees, uses}
 use Rattle.volume_steps.proofs.TakeZones.{zone_range}
 use Rattle.volume_steps.proofs.Together.{tells_as, used_waits}
 use Rattle.volume_steps.proofs.TreeSteps.{tree_at, tree_in_order, used_put_more}
+use Rattle.volume_steps.proofs.Listed.{put_told}
 
 -- ---- places of zones of numbers, each once
 
@@ -461,6 +462,8 @@ module _ (tx : ℕ) (v : VolumeNow) (h : IsInUse v) (n : ℕ) (p : Placed) (zone
     geometry = refl;
     in_use = in_use;
     told = told;
+    nodes = put_told g v.contents w cut.touched n q refl (inl refl) (λ b i. elim i [ inl e ↦ sym e | inr z ↦ absurd z ]) (In-append_right (touched_by_all g es) _ _ (inl refl));
+    lowest = given_lowest tx v.zones (all_given tx freed v.zones) freed given was_used;
     freed = λ z i. given.now z i;
     was_used = λ z i. was_used z i;
     waits_on = λ z holder waits. given.others z (λ i. used_waits holder (sym (was_used z i) ∙ waits)) ∙ waits;

@@ -31,7 +31,8 @@ use Rattle.volume_steps.specs.Plain.{IsInUse}
 use Rattle.volume_steps.specs.laws.Steady.{IsSteady}
 use Rattle.volume_steps.proofs.Together.{used_waits}
 use Rattle.volume_steps.proofs.Bits.{ChangesNone, AreZones, bits_change, bits_before, kept_zone, kept_volume}
-use Rattle.volume_steps.proofs.Taking.{AreApart, AreGiven, all_are_given, in_zones}
+use Rattle.volume_steps.proofs.Taking.{AreApart, AreGiven, all_are_given, in_zones, given_lowest}
+use Rattle.volume_steps.proofs.Listed.{gone_told}
 use Rattle.volume_steps.proofs.Grows.{is_directory_part, file_of}
 use Rattle.volume_steps.proofs.NodeSteps.{IsSettled, AreSlotted, zones_settled}
 use Rattle.volume_steps.proofs.StepsTo.{StepsTo, links_at}
@@ -260,6 +261,8 @@ module _ (tx : ℕ) (v : VolumeNow) (in_use : IsInUse v) (n : ℕ) (p : Placed) 
     geometry = refl;
     in_use = dropped_in_use;
     told = told;
+    nodes = gone_told g v.contents w touched n refl in_use.volume.0.in_order refl;
+    lowest = given_lowest tx v.zones (all_given tx gone v.zones) gone given gone_used;
     freed = given.now;
     was_used = gone_used;
     waits_on = λ z holder waits. given.others z (λ i. used_waits holder (sym (gone_used z i) ∙ waits)) ∙ waits;

@@ -21,7 +21,8 @@ use Rattle.volume_model.specs.Plain.{HasZone}
 use Rattle.volume_model.specs.laws.ZoneMoves.{no_numbers}
 use Rattle.volume_steps.specs.Now.{VolumeNow, Change, tree_of_now}
 use Rattle.volume_steps.specs.Plain.{IsInUse}
-use Rattle.volume_steps.specs.laws.Steady.{IsSteady}
+use Rattle.volume_steps.specs.laws.Steady.{IsSteady, TakesLowest, TellsNodes}
+use Rattle.volume_steps.proofs.Taking.{lowest_none}
 
 -- ---- kinds of nodes
 
@@ -152,6 +153,7 @@ pub record TakesTo (m n : Zones) (new : List ℕ) : Type 0 where
   pub taken : (zone : ℕ) → In zone new → state_of n zone ≡ Some states.Used
   pub waits_on : (zone holder : ℕ) → state_of m zone ≡ Some (states.Quarantined holder) → state_of n zone ≡ Some (states.Quarantined holder)
   pub waited : (zone holder : ℕ) → state_of n zone ≡ Some (states.Quarantined holder) → state_of m zone ≡ Some (states.Quarantined holder)
+  pub lowest : TakesLowest m n
 
 pub takes_none : (m : Zones) → TakesTo m m []
 takes_none m = record {
@@ -162,13 +164,15 @@ takes_none m = record {
   taken = λ zone i. absurd i;
   waits_on = λ zone holder waits. waits;
   waited = λ zone holder waits. waits;
+  lowest = lowest_none m;
 }
 
 -- ---- the step
 
 module _ (tx : ℕ) (v : VolumeNow) (w : Contents) (zones : Zones) (blocks new nodes : List ℕ) (in_use : IsInUse v) (stands : IsVolume v.geometry w)
     (h : GrowsTo v.geometry v.contents w blocks new) (takes : TakesTo v.zones zones new)
-    (counted : count_by is_used zones.states ≡ used_zones (tree_of_now (record { geometry = v.geometry; contents = w; zones = zones }))) where
+    (counted : count_by is_used zones.states ≡ used_zones (tree_of_now (record { geometry = v.geometry; contents = w; zones = zones })))
+    (listed : TellsNodes v.geometry v.contents w (record { blocks = blocks; freed = []; revoked = []; pages = []; dropped = []; nodes = nodes })) where
   abbrev pub grown : Change
   grown = record { volume = record { geometry = v.geometry; contents = w; zones = zones }; touched = record { blocks = blocks; freed = []; revoked = []; pages = []; dropped = []; nodes = nodes } }
 
@@ -190,6 +194,8 @@ module _ (tx : ℕ) (v : VolumeNow) (w : Contents) (zones : Zones) (blocks new n
     geometry = refl;
     in_use = grown_in_use;
     told = grown_tells v.geometry v.contents w blocks new nodes h stands.0;
+    nodes = listed;
+    lowest = takes.lowest;
     freed = λ zone i. absurd i;
     was_used = λ zone i. absurd i;
     waits_on = takes.waits_on;

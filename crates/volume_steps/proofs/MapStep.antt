@@ -49,6 +49,7 @@ use Rattle.volume_steps.proofs.Taking.{AreTaken, frees, uses, in_zones}
 use Rattle.volume_steps.proofs.TakeZones.{are_taken, are_free, numbers_are_zones, number_place, holes_counted, turn, turn_in}
 use Rattle.volume_steps.proofs.Together.{tells_as}
 use Rattle.volume_steps.proofs.TreeSteps.{tree_at, tree_in_order, used_put_more}
+use Rattle.volume_steps.proofs.Listed.{put_told}
 
 waits_used : (holder : ℕ) → ◌≡◌ {A = Option ZoneState} (Some (states.Quarantined holder)) (Some states.Used) → ⊥
 waits_used holder e = cc
@@ -287,6 +288,8 @@ module _ (tx : ℕ) (v : VolumeNow) (h : IsInUse v) (n : ℕ) (p : Placed) (zone
     geometry = refl;
     in_use = in_use;
     told = told;
+    nodes = put_told g v.contents w mapped.touched n q refl (inl refl) (λ b i. elim i [ inl e ↦ sym e | inr z ↦ absurd z ]) (In-append_right (touched_by_all g es) _ _ (inl refl));
+    lowest = taken.lowest;
     freed = λ z i. absurd i;
     was_used = λ z i. absurd i;
     waits_on = λ z holder waits. taken.others z (λ i. waits_free holder (sym waits ∙ taken.was z i)) ∙ waits;

@@ -36,6 +36,7 @@ use Rattle.volume_steps.specs.Plain.{IsInUse}
 use Rattle.volume_steps.specs.laws.Steady.{IsSteady}
 use Rattle.volume_steps.proofs.Grows.{is_directory_part, GrowsTo}
 use Rattle.volume_steps.proofs.NodeSteps.{MayGrow, IsSettled, AreSlotted, closed_grows, closed_settled, closed_slotted, zones_settled}
+use Rattle.volume_steps.proofs.Listed.{put_told}
 use Rattle.volume_steps.proofs.QuietSteps.{at_directory_is, quiet_steady}
 use Rattle.volume_steps.proofs.TreeSteps.{grown_pages, tree_put}
 
@@ -187,6 +188,7 @@ module _ (tx : ℕ) (v : VolumeNow) (in_use : IsInUse v) (n : ℕ) (p : Placed) 
       (may_move v.geometry in_use.sound v.contents n p in_use.volume at d is k None next put) (slot_blocks v.geometry in_use.sound v.contents n p in_use.volume at d is k None next put) (n ∷ [])
       (slot_grow v.geometry in_use.sound v.contents n p in_use.volume at d is k None next put) (put_stands v.geometry in_use.sound v.contents n p in_use.volume at d is k None next put)
       (ap directory_zones long ∙ sym (ap (λ part. node_zones (node_from v.contents.blocks p.inode part)) is))
+      (put_told v.geometry v.contents taken.volume.contents taken.touched n _ refl (inl refl) (λ b i. elim i [ inl e ↦ sym e | inr z ↦ absurd z ]) (inr (inl refl)))
 
   pub taken_tree : tree_of_now taken.volume ≡ put_number (tree_of_now v) n (nodes.Directory (tree_without_name (directory_from d) name))
   taken_tree = slot_tree v.geometry in_use.sound v.contents n p in_use.volume at d is k None next put

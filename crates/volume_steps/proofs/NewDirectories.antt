@@ -48,6 +48,7 @@ use Rattle.volume_steps.proofs.Taking.{AreTaken, frees, in_zones, one_taken}
 use Rattle.volume_steps.proofs.TakeZones.{zone_range, free_is_none}
 use Rattle.volume_steps.proofs.TreeSteps.{grown_pages, tree_put, tree_none, tree_in_order, used_put_new}
 use Rattle.volume_steps.proofs.NewFiles.{same_blank, first_index, own_first, first_of, first_zone}
+use Rattle.volume_steps.proofs.Listed.{put_told}
 
 -- ---- its dots
 
@@ -98,6 +99,7 @@ takes_of_taken m o zs h = record {
   taken = h.now;
   waits_on = λ zone holder waits. ⊎_elim (λ i. absurd (free_waits holder (sym (h.was zone i) ∙ waits))) (λ out. h.others zone out ∙ waits) (in_zones zone zs);
   waited = λ zone holder waits. ⊎_elim (λ i. absurd (used_waits holder (sym (h.now zone i) ∙ waits))) (λ out. sym (h.others zone out) ∙ waits) (in_zones zone zs);
+  lowest = h.lowest;
 }
   where
     free_waits : (holder : ℕ) → ◌≡◌ {A = Option ZoneState} (Some states.Free) (Some (states.Quarantined holder)) → ⊥
@@ -385,6 +387,7 @@ module _ (tx : ℕ) (v : VolumeNow) (in_use : IsInUse v) (n : ℕ) (none : at_nu
       let more = take.more in
       let was = in_use.counted in
       omega arith)
+      (put_told g v.contents w directory_made.touched n q refl (inl refl) (λ b i. elim i [ inl e ↦ sym e | inr z ↦ absurd z ]) (inr (inr (inr (inr (inr (inl refl)))))))
 
   pub directory_made_settled : IsSettled v.contents → (n ≡ 0 → ⊥) → IsSettled directory_made.volume.contents
   directory_made_settled old apart = come_settled g v.contents after n q (λ b. b ≡ zone) in_use.volume may old apart (λ zones is. absurd (cc is)) (omega arith)

@@ -31,6 +31,7 @@ use Rattle.volume_steps.proofs.NodeSteps.{IsSettled, AreSlotted}
 use Rattle.volume_steps.proofs.NewNumbers.{IsNewNumber, number_is_new}
 use Rattle.volume_steps.proofs.Comes.{MayCome, ComesTold, come, come_stands, come_grows, come_settled, come_slotted}
 use Rattle.volume_steps.proofs.TreeSteps.{grown_pages, tree_put, tree_none, tree_in_order, used_put_new}
+use Rattle.volume_steps.proofs.Listed.{put_told}
 
 -- ---- an inode with a first zone at most
 
@@ -183,6 +184,7 @@ module _ (tx : ℕ) (v : VolumeNow) (in_use : IsInUse v) (n : ℕ) (none : at_nu
       let zero = no_zones in
       let was = in_use.counted in
       omega arith)
+      (put_told g v.contents (come g v.contents after n q (λ _. ⊥) in_use.volume may) (make_file v n).touched n q refl (inl refl) (λ b i. elim i [ inl e ↦ sym e | inr z ↦ absurd z ]) (inr (inl refl)))
 
   pub file_made_settled : IsSettled v.contents → (n ≡ 0 → ⊥) → IsSettled (make_file v n).volume.contents
   file_made_settled old apart = come_settled g v.contents after n q (λ _. ⊥) in_use.volume may old apart (λ zones is. omega arith) (omega arith) (λ d is. absurd (cc is))

@@ -35,6 +35,8 @@ use Rattle.volume_steps.specs.Plain.{IsInUse}
 use Rattle.volume_steps.specs.Steps.{put_page}
 use Rattle.volume_steps.proofs.Bits.{kept_tells, node_kept}
 use Rattle.volume_steps.proofs.FileSteps.{IsFileStep}
+use Rattle.volume_steps.proofs.Listed.{none_told}
+use Rattle.volume_steps.proofs.Taking.{lowest_none}
 use Rattle.volume_steps.proofs.Files.{bodies_put, file_now, node_is_file, node_zones_are, put_itself, tree_rewritten}
 use Rattle.volume_steps.proofs.NodeSteps.{zones_settled}
 use Rattle.volume_steps.proofs.TreeSteps.{tree_at, tree_in_order, used_put_same}
@@ -47,6 +49,8 @@ unchanged_step tx v h n f found = record {
     geometry = refl;
     in_use = h;
     told = kept_tells v.geometry v.contents h.volume v.contents.blocks (changes_none v.geometry v.contents.blocks h.volume.0.whole) h.sound [] (λ b none. refl) (λ b i. absurd i);
+    nodes = none_told v.geometry v.contents v.contents (unchanged v).touched refl refl;
+    lowest = lowest_none v.zones;
     freed = λ z i. absurd i;
     was_used = λ z i. absurd i;
     waits_on = λ z holder waits. waits;
@@ -255,6 +259,8 @@ module _ (tx : ℕ) (v : VolumeNow) (h : IsInUse v) (n : ℕ) (p : Placed) (zone
       geometry = refl;
       in_use = in_use;
       told = told;
+      nodes = none_told v.geometry v.contents paged.volume.contents paged.touched refl refl;
+      lowest = lowest_none v.zones;
       freed = λ z i. absurd i;
       was_used = λ z i. absurd i;
       waits_on = λ z holder waits. waits;

@@ -31,7 +31,8 @@ use Rattle.volume_model.specs.laws.ZoneMoves.{MayMove, moved_stands, moved_just,
 use Rattle.volume_steps.specs.Now.{VolumeNow, Change, tree_of_now, with_contents, unchanged}
 use Rattle.volume_steps.specs.Steps.{at_node, at_directory, with_links, inode_put, set_links}
 use Rattle.volume_steps.specs.Plain.{IsInUse}
-use Rattle.volume_steps.specs.laws.Steady.{IsSteady}
+use Rattle.volume_steps.specs.laws.Steady.{IsSteady, TellsNodes}
+use Rattle.volume_steps.proofs.Listed.{same_told}
 use Rattle.volume_steps.proofs.Grows.{GrowsTo, takes_none, grown_steady}
 use Rattle.volume_steps.proofs.NodeSteps.{MayGrow, IsSettled, AreSlotted, closed_grows, closed_settled, closed_slotted, zones_settled}
 use Rattle.volume_steps.proofs.TreeSteps.{KeepsPages, grown_pages, tree_put, tree_at, tree_in_order, used_put_same, node_same}
@@ -68,11 +69,11 @@ module _ (tx : ℕ) (v : VolumeNow) (in_use : IsInUse v) (n : ℕ) (p : Placed) 
   pub quiet_tree : tree_of_now quiet.volume ≡ put_number (tree_of_now v) n (node_from after.blocks u.inode part)
   quiet_tree = tree_put v.contents.blocks after.blocks v.contents.nodes in_use.volume.0.in_order quiet_pages n (record { number = p.number; inode = u.inode; part = part })
 
-  pub quiet_steady : node_zones (node_from after.blocks u.inode part) ≡ node_zones (node_now v.contents.blocks p) → IsSteady tx v quiet (λ birth index. ⊥)
-  quiet_steady same = grown_steady tx v after v.zones blocks [] listed in_use stands grows (takes_none v.zones)
+  pub quiet_steady : node_zones (node_from after.blocks u.inode part) ≡ node_zones (node_now v.contents.blocks p) → TellsNodes v.geometry v.contents after quiet.touched → IsSteady tx v quiet (λ birth index. ⊥)
+  quiet_steady same told = grown_steady tx v after v.zones blocks [] listed in_use stands grows (takes_none v.zones)
       (in_use.counted ∙ sym (ap used_zones quiet_tree
       ∙ used_put_same (tree_of_now v) n (node_now v.contents.blocks p) (node_from after.blocks u.inode part) (tree_in_order v.contents.blocks v.contents.nodes in_use.volume.0.in_order)
-      (tree_at v.contents.blocks v.contents.nodes n p at) same))
+      (tree_at v.contents.blocks v.contents.nodes n p at) same)) told
 
 -- ---- a map in which a value is put again
 
@@ -163,6 +164,7 @@ module _ (tx : ℕ) (v : VolumeNow) (in_use : IsInUse v) (n : ℕ) (p : Placed) 
 
   pub linked_steady : IsSteady tx v linked (λ birth index. ⊥)
   linked_steady = quiet_steady tx v in_use n p at u p.part (λ _. ⊥) may (table_block g p.number ∷ []) [] grow stands (ap node_zones linked_bodies ∙ needs_same p.part)
+      (same_told g v.contents linked.volume.contents linked.touched n p (record { number = p.number; inode = with_links p.inode links; part = p.part }) refl at refl refl)
 
   pub linked_tree : tree_of_now linked.volume ≡ put_number (tree_of_now v) n (node_from v.contents.blocks (with_links p.inode links) p.part)
   linked_tree = quiet_tree tx v in_use n p at u p.part (λ _. ⊥) may (table_block g p.number ∷ []) [] grow stands ∙ ap (λ node. put_number (tree_of_now v) n node) linked_bodies

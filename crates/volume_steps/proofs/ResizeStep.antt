@@ -30,6 +30,7 @@ use Rattle.volume_steps.proofs.FileSteps.{IsFileStep, IsFileAt, file_at}
 use Rattle.volume_steps.proofs.Files.{in_order_same, bodies_in_order, node_is_file}
 use Rattle.volume_steps.proofs.NodeSteps.{MayGrow, cases, closed_settled, closed_slotted}
 use Rattle.volume_steps.proofs.PageStep.{unchanged_step}
+use Rattle.volume_steps.proofs.Listed.{put_told}
 use Rattle.volume_steps.proofs.QuietSteps.{at_node_is, quiet_pages, quiet_steady, quiet_tree}
 use Rattle.volume_steps.proofs.TreeSteps.{node_same}
 use Rattle.volume_steps.proofs.WriteSteps.{IsWriteStep}
@@ -111,7 +112,8 @@ module _ (tx : ℕ) (v : VolumeNow) (in_use : IsInUse v) (n : ℕ) (p : Placed) 
   -- The file has the size.
   pub sized_step : IsFileStep tx v n sized sized_file (λ birth index. ⊥)
   sized_step = record {
-    steady = quiet_steady tx v in_use n p at u p.part (λ _. ⊥) may written (n ∷ []) grow stands same_needs;
+    steady = quiet_steady tx v in_use n p at u p.part (λ _. ⊥) may written (n ∷ []) grow stands same_needs
+        (put_told g v.contents sized.volume.contents sized.touched n (record { number = p.number; inode = with_size p.inode size; part = p.part }) refl (inl refl) (λ b i. elim i [ inl e ↦ sym e | inr z ↦ absurd z ]) (inl refl));
     settled = λ old. closed_settled g in_use.sound v.contents n p in_use.volume at u p.part (λ _. ⊥) may written [] grow
         (record { sizes = λ zs file. fits; dots = λ d file. old.dots n p d at file; few_links = old.few_links n p at }) old;
     slotted = λ old. closed_slotted g in_use.sound v.contents n p in_use.volume at u p.part (λ _. ⊥) may written [] grow

@@ -1,7 +1,7 @@
 -- Zones are taken one after the other, and zones are given into quarantine: what each zone is then, and how many are free.
-use Rattle.std.specs.Prelude.{◌≡◌, ◌≢◌, ℕ, suc, ◌+◌, ◌-◌, ◌≤◌, false, option_map, List, [], ◌∷◌, ◌++◌, length, Option, Some, None, count_by, refl, ◌⊎◌}
+use Rattle.std.specs.Prelude.{◌≡◌, ◌≢◌, ℕ, suc, ◌+◌, ◌-◌, ◌≤◌, ◌<◌, false, option_map, List, [], ◌∷◌, ◌++◌, length, Option, Some, None, count_by, refl, ◌⊎◌}
 use Rattle.std.proofs.Common.{sym, ap, subst, ◌∙◌, inl, inr, ⊎_elim, arith}
-use Rattle.std.proofs.lemmas.Bool.{cases_eq}
+use Rattle.std.proofs.lemmas.Bool.{cases_eq, cases_lt}
 use Rattle.std.proofs.lemmas.List.{length-set}
 use Rattle.std.proofs.lemmas.List.Sums.{sum_by-cons}
 use Rattle.std.proofs.lemmas.Option.{none-some}
@@ -13,6 +13,7 @@ use Rattle.zone_maps.specs.laws.States.{state_written, state_elsewhere, inside}
 use Rattle.zone_maps.specs.laws.Lowest.{lowest_is}
 use Rattle.zone_maps.specs.laws.Counts.{one_if, count_written, taken_is}
 use Rattle.volume_steps.specs.Zones.{next_zone, all_given}
+use Rattle.volume_steps.specs.laws.Steady.{TakesLowest}
 
 abbrev pub frees : Zones → ℕ
 frees m = count_by is_free m.states
@@ -41,6 +42,27 @@ pub apart_parts : (xs ys : List ℕ) → AreApart (xs ++ ys) → (z : ℕ) → I
 apart_parts [] ys apart z i j = i
 apart_parts (x ∷ xs) ys apart z i j = ⊎_elim (λ e. apart.0 (subst (λ z. In z (xs ++ ys)) (sym e) (In-append_right xs ys z j))) (λ k. apart_parts xs ys apart.1 z k j) i
 
+-- ---- the lowest ones
+
+pub lowest_none : (m : Zones) → TakesLowest m m
+lowest_none m = record { was_free = λ z free. free; below = λ z y was now free. absurd (now was) }
+
+-- whether a zone is free
+free_or : (m : Zones) (z : ℕ) → (state_of m z ≡ Some states.Free) ⊎ (state_of m z ≢ Some states.Free)
+free_or m z = by (state_of m z)
+  where
+    by : (o : Option ZoneState) → (o ≡ Some states.Free) ⊎ (o ≢ Some states.Free)
+    by None = inr (λ e. cc e)
+    by (Some states.Free) = inl refl
+    by (Some states.Used) = inr (λ e. cc e)
+    by (Some (states.Quarantined tx)) = inr (λ e. cc e)
+
+pub lowest_then : (m n o : Zones) → TakesLowest m n → TakesLowest n o → TakesLowest m o
+lowest_then m n o h k = record {
+  was_free = λ z free. h.was_free z (k.was_free z free);
+  below = λ z y was now free. ⊎_elim (λ still. k.below z y still now free) (λ gone. h.below z y was gone (k.was_free y free)) (free_or n z);
+}
+
 -- ---- zones that are taken
 
 -- these zones were free and are in use now, each once
@@ -54,6 +76,7 @@ pub record AreTaken (m n : Zones) (zones : List ℕ) : Type 0 where
   pub fewer : frees n + length zones ≡ frees m
   pub more : uses n ≡ uses m + length zones
   pub same : waits n ≡ waits m
+  pub lowest : TakesLowest m n
 
 -- a zone is in a list or not
 pub in_zones : (z : ℕ) (zones : List ℕ) → In z zones ⊎ (In z zones → ⊥)
@@ -67,7 +90,7 @@ free_used : ◌≡◌ {A = Option ZoneState} (Some states.Free) (Some states.Use
 free_used e = cc
 
 pub none_taken : (m : Zones) → AreTaken m m []
-none_taken m = record { first = refl; size = refl; apart = tt; was = λ z i. absurd i; now = λ z i. absurd i; others = λ z none. refl; fewer = (omega arith); more = (omega arith); same = refl }
+none_taken m = record { first = refl; size = refl; apart = tt; was = λ z i. absurd i; now = λ z i. absurd i; others = λ z none. refl; fewer = (omega arith); more = (omega arith); same = refl; lowest = lowest_none m }
 
 pub taken_then : (m n o : Zones) (xs ys : List ℕ) → AreTaken m n xs → AreTaken n o ys → AreTaken m o (xs ++ ys)
 taken_then m n o xs ys h k = record {
@@ -82,6 +105,7 @@ taken_then m n o xs ys h k = record {
   fewer = (let a = h.fewer in let b = k.fewer in let l = length_both xs ys in omega arith);
   more = (let a = h.more in let b = k.more in let l = length_both xs ys in omega arith);
   same = k.same ∙ h.same;
+  lowest = lowest_then m n o h.lowest k.lowest;
 }
   where
     length_both : (xs ys : List ℕ) → length (xs ++ ys) ≡ length xs + length ys
@@ -132,7 +156,27 @@ one_taken m some =
       fewer = (omega arith);
       more = (omega arith);
       same = (omega arith);
+      lowest = one_lowest free;
     })
+  where
+    one_lowest : state_of m (next_zone m) ≡ Some states.Free → TakesLowest m (with_state m (next_zone m) states.Used)
+    one_lowest free = record {
+      was_free = λ z now. ⊎_elim
+          (λ e. absurd (free_used (sym now ∙ (ap (state_of (with_state m (next_zone m) states.Used)) e ∙ state_written m (next_zone m) states.Used states.Free free))))
+          (λ far. sym (state_elsewhere m (next_zone m) z states.Used states.Free free far) ∙ now) (cases_eq z (next_zone m));
+      below = λ z y was now left. ⊎_elim
+          (λ e. above z y e left)
+          (λ far. absurd (now (state_elsewhere m (next_zone m) z states.Used states.Free free far ∙ was))) (cases_eq z (next_zone m));
+    }
+      where
+        above : (z y : ℕ) → z ≡ next_zone m → state_of (with_state m (next_zone m) states.Used) y ≡ Some states.Free → z < y
+        above z y e left = elim (cases_eq y (next_zone m)) [
+          | inl here ↦ absurd (free_used (sym left ∙ (ap (state_of (with_state m (next_zone m) states.Used)) here ∙ state_written m (next_zone m) states.Used states.Free free)))
+          | inr far ↦ elim (cases_lt y (next_zone m)) [
+            | inl low ↦ absurd (((lowest_is m (next_zone m)).0 (next_is_lowest m some)).lowest y low (sym (state_elsewhere m (next_zone m) y states.Used states.Free free far) ∙ left))
+            | inr high ↦ (omega arith)
+          ]
+        ]
 
 -- ---- zones that are given
 
@@ -171,3 +215,13 @@ all_are_given tx (z ∷ zones) m apart used =
       fewer = (omega arith);
       more = (omega arith);
     }
+
+-- those that are given were not free
+pub given_lowest : (tx : ℕ) (m n : Zones) (zones : List ℕ) → AreGiven tx m n zones → ((z : ℕ) → In z zones → state_of m z ≡ Some states.Used) → TakesLowest m n
+given_lowest tx m n zones h used = record {
+  was_free = λ z free. ⊎_elim (λ i. absurd (waits_free (sym (h.now z i) ∙ free))) (λ out. sym (h.others z out) ∙ free) (in_zones z zones);
+  below = λ z y was now left. ⊎_elim (λ i. absurd (free_used (sym was ∙ used z i))) (λ out. absurd (now (h.others z out ∙ was))) (in_zones z zones);
+}
+  where
+    waits_free : ◌≡◌ {A = Option ZoneState} (Some (states.Quarantined tx)) (Some states.Free) → ⊥
+    waits_free e = cc

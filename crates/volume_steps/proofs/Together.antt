@@ -12,7 +12,9 @@ use Rattle.volume_model.specs.Volume.{block}
 use Rattle.volume_model.specs.Plain.{HasZone}
 use Rattle.volume_model.specs.laws.Touched.{tells_then}
 use Rattle.volume_steps.specs.Now.{VolumeNow, Change}
-use Rattle.volume_steps.specs.laws.Steady.{IsSteady}
+use Rattle.volume_steps.specs.laws.Steady.{IsSteady, TellsNodes}
+use Rattle.volume_steps.proofs.Taking.{lowest_then}
+use Rattle.volume_steps.proofs.Listed.{nodes_then}
 
 -- ---- what is metadata has a zone, or stands before the zones
 
@@ -49,6 +51,8 @@ steady_as tx v c Writes More h there back = record {
   geometry = h.geometry;
   in_use = h.in_use;
   told = tells_as v.geometry v.contents c.volume.contents c.touched Writes More h.told there back;
+  nodes = h.nodes;
+  lowest = h.lowest;
   freed = h.freed;
   was_used = h.was_used;
   waits_on = h.waits_on;
@@ -97,6 +101,9 @@ module _ (tx : ℕ) (v : VolumeNow) (c d : Change) (Writes More : ℕ → ℕ �
     in_use = k.in_use;
     told = tells_then v.geometry v.contents c.volume.contents d.volume.contents c.touched d.touched Writes More h.told
         (subst (λ g. Tells g c.volume.contents d.volume.contents d.touched More) h.geometry k.told) follows;
+    nodes = nodes_then v.geometry v.contents c.volume.contents d.volume.contents c.touched d.touched h.nodes
+        (subst (λ g. TellsNodes g c.volume.contents d.volume.contents d.touched) h.geometry k.nodes);
+    lowest = lowest_then v.zones c.volume.zones d.volume.zones h.lowest k.lowest;
     freed = λ zone i. ⊎_elim (λ first. k.waits_on zone tx (h.freed zone first)) (λ second. k.freed zone second) (In-append_cases c.touched.freed d.touched.freed zone i);
     was_used = λ zone i. ⊎_elim (λ first. h.was_used zone first) (λ second. after.not_new zone second (k.was_used zone second)) (In-append_cases c.touched.freed d.touched.freed zone i);
     waits_on = λ zone holder waits. k.waits_on zone holder (h.waits_on zone holder waits);

@@ -1,18 +1,47 @@
 -- What each step of a call keeps, and what it tells.
-use Rattle.std.specs.Prelude.{◌≡◌, ℕ, Some}
+use Rattle.std.specs.Prelude.{◌≡◌, ◌≢◌, ◌<◌, ℕ, List, Option, Some, option_map}
 use Rattle.blk_base.specs.Members.{In}
+use Rattle.minix_layout.specs.declared.division.Geometry.{Geometry}
+use Rattle.tree_model.specs.Maps.{at_number}
 use Rattle.zone_maps.specs.declared.zone_state.ZoneState.TheVariants as states
-use Rattle.zone_maps.specs.Zones.{state_of}
-use Rattle.volume_model.specs.Touched.{Tells}
+use Rattle.zone_maps.specs.Zones.{Zones, state_of}
+use Rattle.volume_ops.specs.Places.{table_block}
+use Rattle.volume_model.specs.declared.placed.Placed.{Placed}
+use Rattle.volume_model.specs.declared.placed.Part.{Part}
+use Rattle.volume_model.specs.Touched.{Contents, Touched, Tells}
 use Rattle.volume_steps.specs.Now.{VolumeNow, Change}
 use Rattle.volume_steps.specs.Plain.{IsInUse}
 
--- In transaction tx: the volume stays in use; what was touched is told; what is freed was in use and waits for the
--- transaction, and nothing else begins or ends to wait.
+-- Zones are taken from the lowest on: none becomes free, and one that is free no more lies below all that still are.
+pub record TakesLowest (m n : Zones) : Type 0 where
+  pub was_free : (zone : ℕ) → state_of n zone ≡ Some states.Free → state_of m zone ≡ Some states.Free
+  pub below : (zone left : ℕ) → state_of m zone ≡ Some states.Free → state_of n zone ≢ Some states.Free → state_of n left ≡ Some states.Free → zone < left
+
+-- a node but for its links and the other fields of its inode: its size, and its mapped blocks or its slots
+pub record Shape : Type 0 where
+  pub number : ℕ
+  pub size : ℕ
+  pub part : Part
+
+abbrev pub shape_of : Placed → Shape
+shape_of p = record { number = p.number; size = p.inode.size; part = p.part }
+
+abbrev pub shape_at : List (ℕ × Placed) → ℕ → Option Shape
+shape_at nodes birth = option_map shape_of (at_number nodes birth)
+
+-- A node that is not listed is as before, but for its links. One that is listed and is there has its block of the table written.
+pub record TellsNodes (g : Geometry) (v w : Contents) (t : Touched) : Type 0 where
+  pub others : (birth : ℕ) → (In birth t.nodes → ⊥) → shape_at w.nodes birth ≡ shape_at v.nodes birth
+  pub tables : (birth : ℕ) (p : Placed) → In birth t.nodes → at_number w.nodes birth ≡ Some p → In (table_block g p.number) t.blocks
+
+-- In transaction tx: the volume stays in use; what was touched is told; zones are taken from the lowest on; what is freed
+-- was in use and waits for the transaction, and nothing else begins or ends to wait.
 pub record IsSteady (tx : ℕ) (v : VolumeNow) (c : Change) (Writes : ℕ → ℕ → Type 0) : Type 0 where
   pub geometry : c.volume.geometry ≡ v.geometry
   pub in_use : IsInUse c.volume
   pub told : Tells v.geometry v.contents c.volume.contents c.touched Writes
+  pub nodes : TellsNodes v.geometry v.contents c.volume.contents c.touched
+  pub lowest : TakesLowest v.zones c.volume.zones
   pub freed : (zone : ℕ) → In zone c.touched.freed → state_of c.volume.zones zone ≡ Some (states.Quarantined tx)
   pub was_used : (zone : ℕ) → In zone c.touched.freed → state_of v.zones zone ≡ Some states.Used
   pub waits_on : (zone holder : ℕ) → state_of v.zones zone ≡ Some (states.Quarantined holder) → state_of c.volume.zones zone ≡ Some (states.Quarantined holder)
