@@ -39,5 +39,5 @@ unfolding called tree_after
 called_done tx v n c h enough done = by (outcome (room_of v.geometry) (tree_of_now v) n c) refl
   where
     by : (r : Row) → outcome (room_of v.geometry) (tree_of_now v) n c ≡ r → IsDone tx v (called_by v n tx c r).change (tree_from (tree_of_now v) r)
-    by (Err why) e = record { steady = unchanged_steady tx v h.in_use; tree_is = refl; plain = h; waiting = (omega arith) }
+    by (Err why) e = record { steady = unchanged_steady tx v h.in_use; tree_is = refl; plain = h; waiting = (omega arith); one_way = inl refl }
     by (Ok d) e = done d e (subst (λ k. k ≤ frees v.zones) (needs_are v n c d e) enough)

@@ -1,6 +1,7 @@
 -- The call that creates a file.
 use Rattle.std.specs.Prelude.{◌≡◌, ◌≢◌, ◌≤◌, ◌<◌, ◌-◌, ◌+◌, ℕ, true, false, List, [], length, is_some, Option, Some, None, option_map, Ok, refl}
-use Rattle.std.proofs.Common.{sym, ap, subst, ◌∙◌, arith}
+use Rattle.std.proofs.Common.{sym, ap, subst, ◌∙◌, inl, arith}
+use Rattle.blk_base.specs.Members.{In}
 use Rattle.std.proofs.lemmas.Bool.{true≢false}
 use Rattle.std.proofs.lemmas.Option.{none-some}
 use Rattle.tree_model.specs.declared.call.Call.TheVariants as calls
@@ -26,12 +27,12 @@ use Rattle.volume_steps.specs.Plain.{IsPlainNow}
 use Rattle.volume_steps.proofs.Taking.{frees}
 use Rattle.volume_steps.proofs.NewNumbers.{number_is_new}
 use Rattle.volume_steps.proofs.NewFiles.{file_made_steady, file_made_tree, file_made_settled, file_made_slotted, no_zones}
-use Rattle.volume_steps.proofs.AddNames.{name_comes}
+use Rattle.volume_steps.proofs.AddNames.{name_comes, name_frees}
 use Rattle.volume_steps.proofs.StepsTo.{StepsTo, joined, steps_then, links_at}
 use Rattle.volume_steps.proofs.CallPaths.{good_no_dot, good_entry, done_row, at_place_is, DirectoryAt, directory_at}
 use Rattle.volume_steps.proofs.DirectoryLinks.{AreLinked, linked_before, made_linked}
 use Rattle.volume_steps.proofs.PlainNow.{tree_is_plain, settled_before, slotted_before}
-use Rattle.volume_steps.proofs.CallEnds.{IsDone, birth_is_new, birth_not_root, done_plain, call_ends}
+use Rattle.volume_steps.proofs.CallEnds.{IsDone, none_freed, birth_is_new, birth_not_root, done_plain, call_ends}
 use Rattle.volume_steps.proofs.TreeSteps.{tree_length, tree_in_order, tree_none, tree_at, used_put_more, used_put_new}
 
 -- ---- a place for a name that comes
@@ -164,6 +165,13 @@ module _ (tx : ℕ) (v : VolumeNow) (h : IsPlainNow v) (n : ℕ) (before : AreBo
       (good_entry place.name q.number x.good new.some (let within = new.within in let fit = h.in_use.sound.fits.inodes in omega arith))
       first.settled first.slotted x.left more
 
+  names_free : (zone : ℕ) → In zone (add_name v1 place.parent place.name n).touched.freed → ⊥
+  names_free =
+      let new = number_is_new v.geometry v.contents.nodes few in
+      name_frees tx v1 first.steady.in_use place.parent x.at.placed at1 x.at.part x.at.is place.name n q child1 (λ e. apart (sym e)) x.free (good_no_dot place.name x.good)
+      (good_entry place.name q.number x.good new.some (let within = new.within in let fit = h.in_use.sound.fits.inodes in omega arith))
+      first.settled first.slotted x.left more
+
   whole : StepsTo tx v (joined (make_file v n) (add_name v1 place.parent place.name n)) d.tree (links_at v1.contents.nodes)
   whole = subst (λ tree. StepsTo tx v (joined (make_file v n) (add_name v1 place.parent place.name n)) tree (links_at v1.contents.nodes)) tree_same
       (steps_then tx v (make_file v n) (add_name v1 place.parent place.name n) _ _ _ _ first second (λ zone i used. used) (λ y i. i))
@@ -190,4 +198,4 @@ module _ (tx : ℕ) (v : VolumeNow) (h : IsPlainNow v) (n : ℕ) (before : AreBo
   pub create_done : IsDone tx v (create v n path) d.tree
   create_done = subst (λ c. IsDone tx v c d.tree)
       (sym (at_place_is v path said.names place replies.Exists (λ place. followed_by (make_file v n) (λ w. add_name w place.parent place.name n)) said.named said.parent))
-      (call_ends tx v (joined (make_file v n) (add_name v1 place.parent place.name n)) d.tree (links_at v1.contents.nodes) whole (done_plain v n (calls.Create path) d h before done) linked)
+      (call_ends tx v (joined (make_file v n) (add_name v1 place.parent place.name n)) d.tree (links_at v1.contents.nodes) whole (done_plain v n (calls.Create path) d h before done) linked (inl (none_freed (add_name v1 place.parent place.name n).touched.freed names_free)))

@@ -31,7 +31,7 @@ use Rattle.volume_steps.specs.Plain.{IsInUse}
 use Rattle.volume_steps.specs.laws.Steady.{IsSteady}
 use Rattle.volume_steps.proofs.Together.{used_waits}
 use Rattle.volume_steps.proofs.Bits.{ChangesNone, AreZones, bits_change, bits_before, kept_zone, kept_volume}
-use Rattle.volume_steps.proofs.Taking.{AreApart, AreGiven, all_are_given, in_zones, given_lowest}
+use Rattle.volume_steps.proofs.Taking.{frees, AreApart, AreGiven, all_are_given, in_zones, given_lowest}
 use Rattle.volume_steps.proofs.Listed.{gone_told}
 use Rattle.volume_steps.proofs.Grows.{is_directory_part, file_of}
 use Rattle.volume_steps.proofs.NodeSteps.{IsSettled, AreSlotted, zones_settled}
@@ -226,6 +226,9 @@ module _ (tx : ℕ) (v : VolumeNow) (in_use : IsInUse v) (n : ℕ) (p : Placed) 
 
   pub dropped_tree : tree_of_now dropped_change.volume ≡ without_number (tree_of_now v) n
   dropped_tree = tree_without v.contents.blocks w.blocks v.contents.nodes in_use.volume.0.in_order pages_kept n
+
+  pub dropped_frees : frees dropped_change.volume.zones ≡ frees v.zones
+  dropped_frees = given.same
 
   dropped_in_use : IsInUse dropped_change.volume
   dropped_in_use = record {

@@ -62,13 +62,13 @@ module _ (tx : ℕ) (v : VolumeNow) (num : ℕ) (c : Call) where
 
 -- ---- nodes that change
 
-same_itself : (o : Option Node) → same_file o o ≡ true
+pub same_itself : (o : Option Node) → same_file o o ≡ true
 same_itself None = refl
 same_itself (Some (nodes.Directory d)) = refl
 same_itself (Some (nodes.Other mode)) = refl
 same_itself (Some (nodes.File f)) = and_from _ _ (eq-eqb f.size f.size refl) ((bytes_eq-Decides (keys_of f.blocks) (keys_of f.blocks)).1 refl)
 
-same_shape : (f e : File) → e.size ≡ f.size → keys_of e.blocks ≡ keys_of f.blocks → same_file (Some (nodes.File f)) (Some (nodes.File e)) ≡ true
+pub same_shape : (f e : File) → e.size ≡ f.size → keys_of e.blocks ≡ keys_of f.blocks → same_file (Some (nodes.File f)) (Some (nodes.File e)) ≡ true
 same_shape f e size keys = and_from _ _ (eq-eqb f.size e.size (sym size)) ((bytes_eq-Decides (keys_of f.blocks) (keys_of e.blocks)).1 (sym keys))
 
 -- what is had of a call on a file that is done

@@ -40,3 +40,4 @@ pub mod GoneFiles
 pub mod GoneDirectories
 pub mod UnlinkCall
 pub mod RmdirCall
+pub mod AllCalls

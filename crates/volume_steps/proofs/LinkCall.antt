@@ -1,6 +1,7 @@
 -- The call that gives a file one name more.
 use Rattle.std.specs.Prelude.{◌≡◌, ◌≢◌, ◌≤◌, ◌-◌, ◌+◌, ◌==◌, ℕ, false, List, length, Option, Some, option_map, cond, Ok, refl}
 use Rattle.std.proofs.Common.{sym, ap, subst, ◌∙◌, inl, inr, arith}
+use Rattle.blk_base.specs.Members.{In}
 use Rattle.std.proofs.lemmas.Bool.{cases_eq}
 use Rattle.tree_model.specs.declared.call.Call.TheVariants as calls
 use Rattle.tree_model.specs.declared.call.Reply.TheVariants as replies
@@ -25,13 +26,13 @@ use Rattle.volume_steps.specs.Steps.{add_name, set_links, with_links as inode_wi
 use Rattle.volume_steps.specs.Calls.{link, at_place}
 use Rattle.volume_steps.specs.Plain.{IsPlainNow}
 use Rattle.volume_steps.proofs.Taking.{frees}
-use Rattle.volume_steps.proofs.AddNames.{name_comes}
+use Rattle.volume_steps.proofs.AddNames.{name_comes, name_frees}
 use Rattle.volume_steps.proofs.QuietSteps.{linked, linked_steady, linked_file, linked_settled, linked_slotted, set_links_is}
 use Rattle.volume_steps.proofs.StepsTo.{StepsTo, joined, steps_then, links_at}
 use Rattle.volume_steps.proofs.CallPaths.{good_no_dot, good_entry, done_row, at_place_is, at_path_is}
 use Rattle.volume_steps.proofs.DirectoryLinks.{AreLinked, linked_before, links_same, links_put_name, weigh}
 use Rattle.volume_steps.proofs.PlainNow.{tree_is_plain, settled_before, slotted_before}
-use Rattle.volume_steps.proofs.CallEnds.{IsDone, done_plain, call_ends}
+use Rattle.volume_steps.proofs.CallEnds.{IsDone, none_freed, done_plain, call_ends}
 use Rattle.volume_steps.proofs.CreateCall.{NewPlace, new_place}
 use Rattle.volume_steps.proofs.TreeSteps.{tree_in_order, tree_at, tree_back, used_put_more, used_put_same}
 
@@ -212,6 +213,13 @@ module _ (tx : ℕ) (v : VolumeNow) (h : IsPlainNow v) (n : ℕ) (before : AreBo
       (good_entry place.name child.number x.good told.some (let within = told.within in let fit = h.in_use.sound.fits.inodes in omega arith))
       first.settled first.slotted x.left more
 
+  names_free : (zone : ℕ) → In zone named.touched.freed → ⊥
+  names_free =
+      let told = h.in_use.volume.0.each birth y.placed y.stands in
+      name_frees tx v1 first.steady.in_use place.parent x.at.placed at1 x.at.part x.at.is place.name birth child child1 (λ e. apart (sym e)) x.free (good_no_dot place.name x.good)
+      (good_entry place.name child.number x.good told.some (let within = told.within in let fit = h.in_use.sound.fits.inodes in omega arith))
+      first.settled first.slotted x.left more
+
   whole : StepsTo tx v (joined made named) d.tree (links_at v1.contents.nodes)
   whole = subst (λ tree. StepsTo tx v (joined made named) tree (links_at v1.contents.nodes))
       (ap (λ tree. put_number tree place.parent (nodes.Directory (with_name (directory_from x.at.part) place.name birth))) first.tree_is ∙ tree_same)
@@ -257,4 +265,4 @@ module _ (tx : ℕ) (v : VolumeNow) (h : IsPlainNow v) (n : ℕ) (before : AreBo
       (sym (at_path_is v path said.names said.found (λ birth. at_place v other (λ place. followed_by (set_links v birth (λ links. links + 1)) (λ w. add_name w place.parent place.name birth))) said.named said.walked
       ∙ (at_place_is v other said.more place replies.Exists (λ place. followed_by (set_links v birth (λ links. links + 1)) (λ w. add_name w place.parent place.name birth)) said.also said.parent
       ∙ ap (λ c. followed_by c (λ w. add_name w place.parent place.name birth)) (set_links_is tx v h.in_use birth y.placed y.stands now room_for_link (λ links. links + 1) refl))))
-      (call_ends tx v (joined made named) d.tree (links_at v1.contents.nodes) whole (done_plain v n (calls.Link path other) d h before done) links_all)
+      (call_ends tx v (joined made named) d.tree (links_at v1.contents.nodes) whole (done_plain v n (calls.Link path other) d h before done) links_all (inl (none_freed named.touched.freed names_free)))

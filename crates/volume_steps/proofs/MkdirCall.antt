@@ -1,6 +1,6 @@
 -- The call that makes a directory.
 use Rattle.std.specs.Prelude.{◌≡◌, ◌≢◌, ◌≤◌, ◌<◌, ◌-◌, ◌+◌, ◌==◌, ◌&&◌, ℕ, Bool, true, false, not, if◌then◌else◌, List, [], length, is_some, Some, None, option_map, Ok, refl}
-use Rattle.std.proofs.Common.{sym, ap, subst, ⊎_elim, ◌∙◌, arith}
+use Rattle.std.proofs.Common.{sym, ap, subst, inl, ⊎_elim, ◌∙◌, arith}
 use Rattle.std.proofs.lemmas.Option.{none-some, same_Some}
 use Rattle.tree_model.specs.declared.call.Call.TheVariants as calls
 use Rattle.tree_model.specs.declared.call.Reply.TheVariants as replies
@@ -32,7 +32,7 @@ use Rattle.volume_steps.proofs.StepsTo.{StepsTo, joined, steps_then, links_at}
 use Rattle.volume_steps.proofs.CallPaths.{good_no_dot, good_entry, done_row, at_place_is, DirectoryAt, directory_at}
 use Rattle.volume_steps.proofs.DirectoryLinks.{AreLinked, linked_before, made_linked}
 use Rattle.volume_steps.proofs.PlainNow.{tree_is_plain, settled_before, slotted_before}
-use Rattle.volume_steps.proofs.CallEnds.{IsDone, birth_is_new, birth_not_root, done_plain, call_ends}
+use Rattle.volume_steps.proofs.CallEnds.{IsDone, none_freed, birth_is_new, birth_not_root, done_plain, call_ends}
 use Rattle.volume_steps.proofs.CreateCall.{NewPlace, new_place}
 use Rattle.volume_steps.proofs.TreeSteps.{tree_length, tree_in_order, tree_none, tree_at, used_put_more, used_put_new}
 
@@ -229,6 +229,10 @@ module _ (tx : ℕ) (v : VolumeNow) (h : IsPlainNow v) (n : ℕ) (before : AreBo
     waiting = omega arith;
   }
 
+  -- no zone is freed
+  no_freed : (zone : ℕ) → In zone (joined named last).touched.freed → ⊥
+  no_freed zone i = ⊎_elim (λ j. names_free zone j) (λ j. j) (In-append_cases named.touched.freed [] zone i)
+
   tree_all : tree_of_now v2 ≡ d.tree
   tree_all = second.tree_is ∙ (ap (λ tree. put_number tree place.parent (nodes.Directory (with_name (directory_from x.at.part) place.name n))) first.tree_is ∙ tree_same)
 
@@ -236,10 +240,6 @@ module _ (tx : ℕ) (v : VolumeNow) (h : IsPlainNow v) (n : ℕ) (before : AreBo
   whole = subst (λ tree. StepsTo tx v (joined made (joined named last)) tree (links_at last.volume.contents.nodes)) tree_all
       (steps_then tx v made (joined named last) _ _ _ _ first (steps_then tx v1 named last _ _ _ _ second third (λ zone i used. absurd i) (λ y i. second_pages y i)) (λ zone i used. absurd (no_freed zone i)) (λ y i. i))
     where
-      -- the zones of names are not freed
-      no_freed : (zone : ℕ) → In zone (joined named last).touched.freed → ⊥
-      no_freed zone i = ⊎_elim (λ j. names_free zone j) (λ j. j) (In-append_cases named.touched.freed [] zone i)
-
       second_pages : (y : Page) → In y named.touched.pages → ⊥
       second_pages y i = (second.steady.told.pages_are_written y i).1
 
@@ -272,4 +272,4 @@ module _ (tx : ℕ) (v : VolumeNow) (h : IsPlainNow v) (n : ℕ) (before : AreBo
       ∙ (ap (λ c. followed_by c (λ u. followed_by (add_name u place.parent place.name n) (λ w. set_links w place.parent (λ links. links + 1))))
       (make_directory_is tx v h.in_use n none few place.parent x.at.placed x.at.stands one_free)
       ∙ ap (λ c. joined made (joined named c)) (set_links_is tx v2 second.steady.in_use place.parent x2.placed x2.stands (x2.placed.inode.links + 1) room_for_link (λ links. links + 1) refl))))
-      (call_ends tx v (joined made (joined named last)) d.tree (links_at last.volume.contents.nodes) whole (done_plain v n (calls.Mkdir path) d h before done) links_all)
+      (call_ends tx v (joined made (joined named last)) d.tree (links_at last.volume.contents.nodes) whole (done_plain v n (calls.Mkdir path) d h before done) links_all (inl (none_freed (joined made (joined named last)).touched.freed no_freed)))

@@ -35,7 +35,7 @@ use Rattle.volume_steps.specs.Plain.{IsPlainNow}
 use Rattle.volume_steps.proofs.CallEnds.{IsDone, done_plain, call_ends}
 use Rattle.volume_steps.proofs.CallPaths.{done_row, at_place_is, at_path_is, DirectoryAt, directory_at}
 use Rattle.volume_steps.proofs.DirectoryLinks.{AreLinked, linked_before, links_same, links_take_name, leads_in, weigh_directory}
-use Rattle.volume_steps.proofs.Drops.{dropped_change, drops}
+use Rattle.volume_steps.proofs.Drops.{dropped_change, dropped_frees, drops}
 use Rattle.volume_steps.proofs.GoneDirectories.{lists_of_directory, count_of_directory}
 use Rattle.volume_steps.proofs.NameSteps.{taken, taken_steady, taken_tree, taken_settled, taken_slotted, take_name_is}
 use Rattle.volume_steps.proofs.PlainNow.{tree_is_plain, settled_before, slotted_before}
@@ -314,7 +314,9 @@ module _ (tx : ℕ) (v : VolumeNow) (h : IsPlainNow v) (n : ℕ) (before : AreBo
       ∙ (ap (λ c. followed_by c (λ u. followed_by (set_links u place.parent (λ links. links - 1)) (λ w. drop_node w tx birth))) (take_name_is tx v h.in_use place.parent x.placed x.stands x.part x.is place.name birth named sorted)
       ∙ (ap (λ c. joined less (followed_by c (λ w. drop_node w tx birth))) (set_links_is tx v1 first.steady.in_use place.parent x1.placed x1.stands (x1.placed.inode.links - 1) few (λ links. links - 1) refl)
       ∙ ap (λ c. joined less (joined unlinked c)) (at_node_is v2 birth y.placed dropped_of at2))))))
-      (call_ends tx v (joined less (joined unlinked gone)) d.tree (links_at gone.volume.contents.nodes) whole plain_after (subst (λ tree. AreLinked tree (links_at gone.volume.contents.nodes)) (sym said.tree_is) links_all))
+      (call_ends tx v (joined less (joined unlinked gone)) d.tree (links_at gone.volume.contents.nodes) whole plain_after (subst (λ tree. AreLinked tree (links_at gone.volume.contents.nodes)) (sym said.tree_is) links_all)
+      (inr (dropped_frees tx v2 second.steady.in_use birth y.placed at2 (block_zones v2.contents y.placed y.placed.part ++ all_numbers v2.contents y.placed) (metadata_gone v2.contents y.placed y.placed.part) (pages_gone birth y.placed.part)
+      (lists_of_directory v2 second.steady.in_use birth y.placed at2 y.part y.is slot_zones) (count_of_directory v2 second.steady.in_use birth y.placed at2 y.part y.is slot_zones) unnamed)))
     where
       dropped_of : Placed → Change
       dropped_of p = record {

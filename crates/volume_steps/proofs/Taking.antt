@@ -4,12 +4,13 @@ use Rattle.std.proofs.Common.{sym, ap, subst, ◌∙◌, inl, inr, ⊎_elim, ari
 use Rattle.std.proofs.lemmas.Bool.{cases_eq, cases_lt}
 use Rattle.std.proofs.lemmas.List.{length-set}
 use Rattle.std.proofs.lemmas.List.Sums.{sum_by-cons}
-use Rattle.std.proofs.lemmas.Option.{none-some}
+use Rattle.std.proofs.lemmas.Option.{none-some, same_Some}
+use Rattle.std.specs.List.{slice_get}
 use Rattle.blk_base.specs.Members.{In, In-append_left, In-append_right, In-append_cases}
 use Rattle.zone_maps.specs.declared.zone_state.ZoneState.{ZoneState}
 use Rattle.zone_maps.specs.declared.zone_state.ZoneState.TheVariants as states
 use Rattle.zone_maps.specs.Zones.{Zones, state_of, with_state, lowest_free, least_free, taken, given, is_free, is_used, is_quarantined}
-use Rattle.zone_maps.specs.laws.States.{state_written, state_elsewhere, inside}
+use Rattle.zone_maps.specs.laws.States.{state_written, state_elsewhere, state_above, above_first, inside}
 use Rattle.zone_maps.specs.laws.Lowest.{lowest_is}
 use Rattle.zone_maps.specs.laws.Counts.{one_if, count_written, taken_is}
 use Rattle.volume_steps.specs.Zones.{next_zone, all_given}
@@ -225,3 +226,29 @@ given_lowest tx m n zones h used = record {
   where
     waits_free : ◌≡◌ {A = Option ZoneState} (Some (states.Quarantined tx)) (Some states.Free) → ⊥
     waits_free e = cc
+
+-- ---- how many are free
+
+count_fewer : (xs ys : List ZoneState) → length xs ≡ length ys → ((k : ℕ) → slice_get xs k ≡ Some states.Free → slice_get ys k ≡ Some states.Free) → count_by is_free xs ≤ count_by is_free ys
+count_fewer [] ys long free = omega arith
+count_fewer (x ∷ xs) [] long free = absurd (omega arith)
+count_fewer (x ∷ xs) (y ∷ ys) long free =
+    let one = sum_by-cons (λ z. one_if (is_free z)) x xs in
+    let two = sum_by-cons (λ z. one_if (is_free z)) y ys in
+    let rest = count_fewer xs ys (omega arith) (λ k at. free (suc k) at) in
+    let here = first x y (λ e. same_Some y states.Free (free 0 (ap Some e))) in
+    omega arith
+  where
+    first : (x y : ZoneState) → (x ≡ states.Free → y ≡ states.Free) → one_if (is_free x) ≤ one_if (is_free y)
+    first states.Free y same = (let e : one_if (is_free y) ≡ 1 = ap (λ z. one_if (is_free z)) (same refl) in omega arith)
+    first states.Used y same = omega arith
+    first (states.Quarantined tx) y same = omega arith
+
+pub fewer_free : (m n : Zones) → n.first ≡ m.first → length n.states ≡ length m.states → TakesLowest m n → frees n ≤ frees m
+fewer_free m n first size h = count_fewer n.states m.states size (λ k at.
+    let zone = n.first + k in
+    let here : state_of n zone ≡ Some states.Free = state_above n zone (omega arith) ∙ (ap (slice_get n.states) (let e : zone - n.first ≡ k = omega arith in e) ∙ at) in
+    inside_at m zone k (λ low. (omega arith)) (h.was_free zone here))
+  where
+    inside_at : (m : Zones) (zone k : ℕ) → (m.first ≤ zone → zone - m.first ≡ k) → state_of m zone ≡ Some states.Free → slice_get m.states k ≡ Some states.Free
+    inside_at m zone k place free = sym (ap (slice_get m.states) (place (above_first m zone states.Free free))) ∙ inside m zone states.Free free

@@ -34,7 +34,7 @@ use Rattle.volume_ops.specs.Places.{table_block}
 use Rattle.volume_steps.specs.Steps.{take_name as take_name_step, set_links, drop_node, all_numbers, block_zones, metadata_gone, pages_gone}
 use Rattle.volume_steps.specs.Calls.{unlink, lose_link as lose_link_step, at_path}
 use Rattle.volume_steps.specs.Plain.{IsPlainNow}
-use Rattle.volume_steps.proofs.Drops.{dropped_change, drops}
+use Rattle.volume_steps.proofs.Drops.{dropped_change, dropped_frees, drops}
 use Rattle.volume_steps.proofs.GoneFiles.{lists_of_file, count_of_file}
 use Rattle.volume_steps.proofs.NameSteps.{taken, taken_steady, taken_tree, taken_settled, taken_slotted, take_name_is}
 use Rattle.volume_steps.proofs.QuietSteps.{at_node_is, linked, linked_steady, linked_file, linked_settled, linked_slotted, set_links_is}
@@ -258,7 +258,8 @@ module _ (tx : ℕ) (v : VolumeNow) (h : IsPlainNow v) (n : ℕ) (before : AreBo
       (subst (λ tree. IsDone tx v (joined less kept) tree) tree_all
       (call_ends tx v (joined less kept) _ _ (steps_then tx v less kept _ _ _ _ first kept_step (λ zone i used. used) (λ y i. i)) (subst IsPlain (sym tree_all) plain_after)
       (subst (λ tree. AreLinked tree (links_at kept.volume.contents.nodes)) (ap (λ tree. put_file tree birth (with_links said.file (said.file.links - 1))) (sym first.tree_is))
-      (links_all (put_file tree1 birth (with_links said.file (said.file.links - 1))) (links_at kept.volume.contents.nodes) kinds was))))
+      (links_all (put_file tree1 birth (with_links said.file (said.file.links - 1))) (links_at kept.volume.contents.nodes) kinds was))
+      (inl refl)))
     where
       tree_all : put_file (tree_of_now v1) birth (with_links said.file (said.file.links - 1)) ≡ d.tree
       tree_all = ap (λ tree. put_file tree birth (with_links said.file (said.file.links - 1))) first.tree_is
@@ -282,7 +283,9 @@ module _ (tx : ℕ) (v : VolumeNow) (h : IsPlainNow v) (n : ℕ) (before : AreBo
       (subst (λ tree. IsDone tx v (joined less (gone last)) tree) tree_all
       (call_ends tx v (joined less (gone last)) _ _ (steps_then tx v less (gone last) _ _ _ _ first (gone_step last) (λ zone i used. used) (λ y i. i)) (subst IsPlain (sym tree_all) plain_after)
       (subst (λ tree. AreLinked tree (links_at (gone last).volume.contents.nodes)) (ap (λ tree. without_number tree birth) (sym first.tree_is))
-      (links_all (without_number tree1 birth) (links_at (gone last).volume.contents.nodes) kinds was))))
+      (links_all (without_number tree1 birth) (links_at (gone last).volume.contents.nodes) kinds was))
+      (inr (dropped_frees tx v1 first.steady.in_use birth y.placed at1 (block_zones v1.contents y.placed y.placed.part ++ all_numbers v1.contents y.placed) (metadata_gone v1.contents y.placed y.placed.part) (pages_gone birth y.placed.part)
+      (lists_of_file v1 first.steady.in_use birth y.placed at1 y.zones y.is) (count_of_file v1 first.steady.in_use birth y.placed at1 y.zones y.is) (unnamed last)))))
     where
       last : said.file.links ≤ 1
       last = leb-true said.file.links 1 none

@@ -13,6 +13,8 @@ use Rattle.volume_model.specs.Plain.{IsPlainContents, HasZone}
 use Rattle.volume_steps.specs.Now.{VolumeNow, tree_of_now}
 
 -- Between steps: the blocks say the nodes, and a zone is in use exactly where a node has it; as many are as the tree counts.
+-- It does not hold within `add_name`, between `make_room` and `put_name_slot`: there a directory has a zone more than its
+-- slots need. So `add_name` is one step.
 pub record IsInUse (v : VolumeNow) : Type 0 where
   pub sound : IsSound v.geometry
   pub volume : IsVolume v.geometry v.contents
@@ -33,3 +35,8 @@ is_of_bytes (calls.Write path off len value) = true
 is_of_bytes (calls.Bytes path off bytes) = true
 is_of_bytes (calls.Truncate path size) = true
 is_of_bytes other = false
+
+-- a call that gives a node another name in place of its own
+abbrev pub is_rename : Call → Bool
+is_rename (calls.Rename path other) = true
+is_rename other = false

@@ -1,13 +1,20 @@
-//! Laws of calls on a volume. Each does nothing when it is called.
-ghost use Rattle.std.specs.Prelude.{◌≡◌, ℕ, List, [], ◌∷◌, Err};
+//! Laws of calls on a volume, and of releases. Each does nothing when it is called.
+ghost use Rattle.std.specs.Prelude.{◌≡◌, ◌≢◌, ℕ, ◌+◌, false, true, List, [], ◌∷◌, length, Some, Ok, Err, count_by};
+ghost use Rattle.blk_base.specs.Members.{In};
 ghost use Rattle.tree_model.specs.declared.call.Call.{Call};
-ghost use Rattle.tree_model.specs.declared.call.Call.TheVariants as calls;
 ghost use Rattle.tree_model.specs.declared.call.Reply.{Reply};
-ghost use Rattle.tree_model.specs.Calls.{outcome};
-ghost use Rattle.volume_steps.specs.Now.{VolumeNow, tree_of_now, room_of, unchanged};
+ghost use Rattle.tree_model.specs.Calls.{Done, outcome, tree_after, needs, used_zones};
+ghost use Rattle.tree_model.specs.Histories.{same_file, writes};
+ghost use Rattle.tree_model.specs.Maps.{at_number};
 ghost use Rattle.zone_maps.specs.declared.zone_state.ZoneState.TheVariants as states;
-ghost use Rattle.volume_steps.specs.Calls.{called};
-ghost use Rattle.volume_steps.specs.laws.Called.{AreCalled};
+ghost use Rattle.zone_maps.specs.Zones.{state_of, is_free, is_quarantined};
+ghost use Rattle.volume_ops.specs.Places.{table_block};
+ghost use Rattle.volume_model.specs.declared.placed.Placed.{Placed};
+ghost use Rattle.volume_steps.specs.Now.{VolumeNow, tree_of_now, room_of, unchanged};
+ghost use Rattle.volume_steps.specs.Plain.{IsPlainNow, is_of_bytes};
+ghost use Rattle.volume_steps.specs.Calls.{called, after_release};
+ghost use Rattle.volume_steps.specs.laws.Called.{FindsRoom};
+ghost use Rattle.volume_steps.specs.laws.Steady.{IsSteady, TakesLowest, shape_at};
 ghost use Rattle.volume_steps.specs.Sample.{small_volume, after_calls, touched_in, count_once, numbers_of, first_zones, first_session, removing_session, ten_directories};
 
 /// A law, which does nothing when it is called: a call that the tree refuses changes nothing and touches nothing.
@@ -29,20 +36,67 @@ pub fn examples_of_changes()
     ensures directories { count_once (touched_in 1 1 small_volume ten_directories).blocks ≡ 14 }
 {}
 
-/// A law, which does nothing when it is called: a file or a directory that is made, or a name that a file gets, leaves
-/// the volume plain, its tree is the one that the call makes of the old one, and all that it touched is told. So it is
-/// wherever the volume is plain, no node has the number of the call or a higher one, and there are as many free zones
-/// as the call needs; else the call waits. It writes no block of a file.
-pub fn nodes_and_names_come()
-    ensures create { (path : List ℕ) → AreCalled (calls.Create path) (λ birth index. ⊥) }
-    ensures mkdir { (path : List ℕ) → AreCalled (calls.Mkdir path) (λ birth index. ⊥) }
-    ensures link { (path other : List ℕ) → AreCalled (calls.Link path other) (λ birth index. ⊥) }
+/// A law, which does nothing when it is called: a call leaves a plain volume plain. So it is where no node has the call's
+/// number or a higher one, and as many zones are free as it needs; else it waits. Renames are not built yet.
+pub fn calls_keep_volumes_plain()
+    ensures { (v : VolumeNow) (n tx : ℕ) (c : Call) → FindsRoom v n c → IsPlainNow (called v n tx c).change.volume }
 {}
 
-/// A law, which does nothing when it is called: a name that is taken from a file, or a directory without names that is
-/// removed, leaves the volume plain, its tree is the one that the call makes of the old one, and all that it touched is
-/// told. The zones of a file that has no name then, and those of the directory, wait for the transaction.
-pub fn names_go()
-    ensures unlink { (path : List ℕ) → AreCalled (calls.Unlink path) (λ birth index. ⊥) }
-    ensures rmdir { (path : List ℕ) → AreCalled (calls.Rmdir path) (λ birth index. ⊥) }
+/// A law, which does nothing when it is called: the volume then stands for the tree that the call makes of its tree.
+pub fn calls_do_the_tree_step()
+    ensures { (v : VolumeNow) (n tx : ℕ) (c : Call) → FindsRoom v n c →
+        tree_of_now (called v n tx c).change.volume ≡ tree_after (room_of v.geometry) (tree_of_now v) n c }
+{}
+
+/// A law, which does nothing when it is called: what a call touched is told. Its pages are the blocks of files that it
+/// writes; only calls that write or cut a file have any. A node that comes or goes, or whose size, mapped blocks or slots
+/// change, is among the nodes; and where one of these is there afterwards, the block of the table that has its inode is
+/// among the blocks.
+pub fn calls_tell_what_they_touch()
+    ensures told { (v : VolumeNow) (n tx : ℕ) (c : Call) → FindsRoom v n c →
+        IsSteady tx v (called v n tx c).change
+        (λ birth index. writes (room_of v.geometry) (tree_of_now v) n c birth index ≡ true) }
+    ensures no_pages { (v : VolumeNow) (n tx : ℕ) (c : Call) → FindsRoom v n c → is_of_bytes c ≡ false →
+        (called v n tx c).change.touched.pages ≡ [] }
+    ensures nodes { (v : VolumeNow) (n tx : ℕ) (c : Call) → FindsRoom v n c → (birth : ℕ) →
+        shape_at (called v n tx c).change.volume.contents.nodes birth ≢ shape_at v.contents.nodes birth →
+        In birth (called v n tx c).change.touched.nodes }
+    ensures files { (v : VolumeNow) (n tx : ℕ) (c : Call) → FindsRoom v n c → (birth : ℕ) →
+        same_file (at_number (tree_of_now v) birth) (at_number (tree_of_now (called v n tx c).change.volume) birth) ≡ false →
+        In birth (called v n tx c).change.touched.nodes }
+    ensures tables { (v : VolumeNow) (n tx : ℕ) (c : Call) → FindsRoom v n c → (birth : ℕ) (p : Placed) →
+        In birth (called v n tx c).change.touched.nodes →
+        at_number (called v n tx c).change.volume.contents.nodes birth ≡ Some p →
+        In (table_block v.geometry p.number) (called v n tx c).change.touched.blocks }
+{}
+
+/// A law, which does nothing when it is called: a call that is done takes as many free zones as it needs, from the lowest
+/// on: none becomes free by it, and those that it took lie below all that are free afterwards. What it frees waits, so
+/// that each zone that the tree uses more was free before.
+pub fn calls_take_what_they_need()
+    ensures taken { (v : VolumeNow) (n tx : ℕ) (c : Call) (d : Done) → FindsRoom v n c →
+        outcome (room_of v.geometry) (tree_of_now v) n c ≡ Ok d →
+        count_by is_free (called v n tx c).change.volume.zones.states + needs (tree_of_now v) n c ≡
+        count_by is_free v.zones.states }
+    ensures lowest { (v : VolumeNow) (n tx : ℕ) (c : Call) → FindsRoom v n c →
+        TakesLowest v.zones (called v n tx c).change.volume.zones }
+    ensures waiting { (v : VolumeNow) (n tx : ℕ) (c : Call) → FindsRoom v n c →
+        count_by is_quarantined (called v n tx c).change.volume.zones.states ≡
+        count_by is_quarantined v.zones.states + length (called v n tx c).change.touched.freed }
+    ensures balance { (v : VolumeNow) (n tx : ℕ) (c : Call) → FindsRoom v n c →
+        count_by is_free (called v n tx c).change.volume.zones.states +
+        used_zones (tree_of_now (called v n tx c).change.volume) + length (called v n tx c).change.touched.freed ≡
+        count_by is_free v.zones.states + used_zones (tree_of_now v) }
+{}
+
+/// A law, which does nothing when it is called: a release keeps a plain volume plain, with its tree and all its blocks.
+/// It frees the zones that waited for its transaction, and no others.
+pub fn releases_only_free()
+    ensures plain { (v : VolumeNow) (tx : ℕ) → IsPlainNow v → IsPlainNow (after_release v tx) }
+    ensures tree { (v : VolumeNow) (tx : ℕ) → tree_of_now (after_release v tx) ≡ tree_of_now v }
+    ensures contents { (v : VolumeNow) (tx : ℕ) → (after_release v tx).contents ≡ v.contents }
+    ensures frees { (v : VolumeNow) (tx zone : ℕ) → state_of v.zones zone ≡ Some (states.Quarantined tx) →
+        state_of (after_release v tx).zones zone ≡ Some states.Free }
+    ensures others { (v : VolumeNow) (tx zone : ℕ) → state_of v.zones zone ≢ Some (states.Quarantined tx) →
+        state_of (after_release v tx).zones zone ≡ state_of v.zones zone }
 {}

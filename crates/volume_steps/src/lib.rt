@@ -8,11 +8,10 @@
 //! call and what it replies.
 #![tactic(auto)]
 
-mod file_laws;
 mod laws;
 
-pub use file_laws::{
-    file_calls_do_the_tree_step, file_calls_keep_volumes_plain, file_calls_take_what_they_need,
-    file_calls_tell_what_they_touch, releases_only_free,
+pub use laws::{
+    calls_do_the_tree_step, calls_keep_volumes_plain, calls_take_what_they_need,
+    calls_tell_what_they_touch, examples_of_changes, refused_calls_change_nothing,
+    releases_only_free,
 };
-pub use laws::{examples_of_changes, names_go, nodes_and_names_come, refused_calls_change_nothing};

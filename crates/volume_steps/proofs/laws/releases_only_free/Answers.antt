@@ -1,7 +1,7 @@
 use Rattle.std.specs.Prelude.{refl}
 use Rattle.zone_maps.specs.laws.Lasting.{release_frees, release_keeps}
 use Rattle.volume_steps.proofs.Release.{release_plain}
-use Rattle.volume_steps.proofs.file_laws.releases_only_free.Goals as goal
+use Rattle.volume_steps.proofs.laws.releases_only_free.Goals as goal
 
 pub returns : goal.returns
 returns c = record {
