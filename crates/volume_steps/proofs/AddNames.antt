@@ -36,12 +36,14 @@ use Rattle.volume_steps.proofs.Taking.{frees}
 use Rattle.volume_steps.proofs.Grows.{GrowsTo, takes_none, grown_steady}
 use Rattle.volume_steps.proofs.NodeSteps.{IsSettled, AreSlotted, grows_then}
 use Rattle.volume_steps.proofs.NewDirectories.{takes_of_taken}
-use Rattle.volume_steps.proofs.NameSteps.{slot_blocks, slot_grows, slot_settled, slot_slotted, slot_tree}
+use Rattle.volume_steps.proofs.NameSteps.{slot_blocks, slot_grows, slot_maps, slot_numbers, slot_settled, slot_slotted, slot_tree}
 use Rattle.volume_steps.proofs.StepsTo.{StepsTo, links_at, links_put}
 use Rattle.volume_steps.proofs.QuietSteps.{at_node_is, at_directory_is}
 use Rattle.volume_steps.proofs.TreeSteps.{tree_at, tree_in_order, used_put_more}
-use Rattle.volume_steps.proofs.Rooms.{es, room_links, with_room, with_room_placed, room_taken, room_stands, room_grows, mapped_blocks, room_settled, room_slotted, room_tree, room_new, room_kept, room_back}
+use Rattle.volume_steps.proofs.Rooms.{es, room_links, room_maps, room_numbers, with_room, with_room_placed, room_taken, room_stands, room_grows, mapped_blocks, room_settled, room_slotted, room_tree, room_new, room_kept, room_back}
 use Rattle.volume_steps.proofs.Listed.{put_told, nodes_then}
+use Rattle.volume_steps.proofs.Marked.{marks_same, marks_taken, numbers_both}
+use Rattle.volume_steps.proofs.TakeZones.{numbers_are_zones}
 
 -- ---- where the slot is
 
@@ -167,7 +169,9 @@ module _ (tx : ℕ) (v : VolumeNow) (in_use : IsInUse v) (n : ℕ) (p : Placed) 
           (put_stands g in_use.sound v.contents n p in_use.volume at d is (room d.slots) (Some s) next put)
           (slot_grows g in_use.sound v.contents n p in_use.volume at d is (room d.slots) (Some s) next put) (takes_none v.zones)
           (let all = used_after in let was = in_use.counted in let same = ap used_zones tree_here in let no = no_more in omega arith)
-          (put_told g v.contents w put_here.touched n _ refl (inl refl) (λ b i. elim i [ inl e ↦ sym e | inr z ↦ absurd z ]) (inr (inl refl)));
+          (put_told g v.contents w put_here.touched n _ refl (inl refl) (λ b i. elim i [ inl e ↦ sym e | inr z ↦ absurd z ]) (inr (inl refl)))
+          (marks_same g in_use.sound v.contents w v.zones in_use.volume.0.whole in_use.volume.0.size
+          (slot_maps g in_use.sound v.contents n p in_use.volume at d is (room d.slots) (Some s) next put) (slot_numbers g in_use.sound v.contents n p in_use.volume at d is (room d.slots) (Some s) next put));
       tree_is = tree_here;
       settled = (let dots = old.dots n p d at is in
           slot_settled g in_use.sound v.contents n p in_use.volume at d is (room d.slots) (Some s) next put old (dots.0, dots.1, dots_with d.slots p.number dots.0.number s dots.2 no_dot));
@@ -342,7 +346,11 @@ module _ (tx : ℕ) (v : VolumeNow) (in_use : IsInUse v) (n : ℕ) (p : Placed) 
           (nodes_then g v.contents r rw_after (tells_node n first_blocks) (tells_node n (slot_blocks g in_use.sound r n rp r_stands r_at d refl (room d.slots) (Some s) next put_there))
           (put_told g v.contents r (tells_node n first_blocks) n rp refl (inl refl) (λ b i. elim i [ inl e ↦ sym e | inr z ↦ absurd z ])
           (In-append_right (touched_by_all g (es v in_use n p at d is index high hole plenty)) (mapped_blocks v in_use n p at d is index high hole plenty) _ (inl refl)))
-          (put_told g r rw_after (tells_node n (slot_blocks g in_use.sound r n rp r_stands r_at d refl (room d.slots) (Some s) next put_there)) n _ refl (inl refl) (λ b i. elim i [ inl e ↦ sym e | inr z ↦ absurd z ]) (inr (inl refl))));
+          (put_told g r rw_after (tells_node n (slot_blocks g in_use.sound r n rp r_stands r_at d refl (room d.slots) (Some s) next put_there)) n _ refl (inl refl) (λ b i. elim i [ inl e ↦ sym e | inr z ↦ absurd z ]) (inr (inl refl))))
+          (marks_taken g in_use.sound v.contents rw_after v.zones taken_zones.zones taken_zones.numbers in_use.volume.0.whole in_use.volume.0.size (numbers_are_zones v in_use p.inode index plenty)
+          (room_taken v in_use n p at d is index high hole plenty)
+          (λ b low below. slot_maps g in_use.sound r n rp r_stands r_at d refl (room d.slots) (Some s) next put_there b low below ∙ room_maps v in_use n p at d is index high hole plenty b low below)
+          (numbers_both v.contents.nodes r.nodes rw_after.nodes (room_numbers v in_use n p at d is index high hole plenty) (slot_numbers g in_use.sound r n rp r_stands r_at d refl (room d.slots) (Some s) next put_there)));
       tree_is = tree_there;
       settled =
           let later_old = room_settled v in_use n p at d is index high hole plenty old in

@@ -12,6 +12,7 @@ use Rattle.volume_steps.proofs.Listed.{none_told}
 use Rattle.volume_steps.proofs.Grows.{takes_none, grown_steady}
 use Rattle.volume_steps.proofs.CallPaths.{done_row}
 use Rattle.volume_steps.proofs.CallEnds.{IsDone}
+use Rattle.volume_steps.proofs.Marked.{marks_same, numbers_same}
 
 -- nothing changes
 pub unchanged_steady : (tx : ℕ) (v : VolumeNow) → IsInUse v → IsSteady tx v (unchanged v) (λ birth index. ⊥)
@@ -25,6 +26,7 @@ unchanged_steady tx v h = grown_steady tx v v.contents v.zones [] [] [] h h.volu
       mapped = λ zone i. absurd i;
     })
     (takes_none v.zones) h.counted (none_told v.geometry v.contents v.contents (unchanged v).touched refl refl)
+    (marks_same v.geometry h.sound v.contents v.contents v.zones h.volume.0.whole h.volume.0.size (λ b low high. refl) (numbers_same v.contents.nodes v.contents.nodes refl))
 
 -- what is needed
 pub needs_are : (v : VolumeNow) (n : ℕ) (c : Call) (d : Done) → outcome (room_of v.geometry) (tree_of_now v) n c ≡ Ok d → needs (tree_of_now v) n c ≡ used_zones d.tree - used_zones (tree_of_now v)

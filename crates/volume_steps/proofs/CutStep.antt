@@ -23,9 +23,9 @@ use Rattle.volume_model.specs.declared.placed.Placed.{Placed}
 use Rattle.volume_model.specs.declared.placed.Part.TheVariants as parts
 use Rattle.volume_model.specs.Counts.{indices_of, keeps_below, number_places, uses as uses_place, zones_of_file}
 use Rattle.volume_model.specs.Cut.{IsKeep, cuts, cut_edits, cut_to}
-use Rattle.volume_model.specs.Edits.{Edit, touched_by_all}
-use Rattle.volume_model.specs.MapBlock.{OpenInode}
-use Rattle.volume_model.specs.Moves.{IsVolume, file_cut, file_cut_touches, numbers_gone, page_of}
+use Rattle.volume_model.specs.Edits.{Edit, touched_by_all, put_inode}
+use Rattle.volume_model.specs.MapBlock.{OpenInode, own_of}
+use Rattle.volume_model.specs.Moves.{IsVolume, file_cut, file_cut_touches, numbers_gone, page_of, opened}
 use Rattle.volume_model.specs.Plain.{HasZone}
 use Rattle.volume_model.specs.Touched.{Contents, Page, Touched, Tells}
 use Rattle.volume_model.specs.Trees.{node_now, tree_now}
@@ -49,6 +49,9 @@ use Rattle.volume_steps.proofs.TakeZones.{zone_range}
 use Rattle.volume_steps.proofs.Together.{tells_as, used_waits}
 use Rattle.volume_steps.proofs.TreeSteps.{tree_at, tree_in_order, used_put_more}
 use Rattle.volume_steps.proofs.Listed.{put_told}
+use Rattle.volume_steps.proofs.Marked.{SameMaps, marks_given, numbers_put}
+use Rattle.volume_model.specs.laws.Edits.{edited_elsewhere, untouched}
+use Rattle.volume_model.specs.laws.Changes.{table_below}
 
 -- ---- places of zones of numbers, each once
 
@@ -111,6 +114,18 @@ pub above_all : (low : ℕ) (zones : List Mapped) → AllByRecursion (λ y. nat_
 above_all low [] h m i = absurd i
 above_all low (z ∷ zones) h m (inl e) = (let next = is_less low z.index h.0 in let f : z.index ≡ m.index = ap (λ (m : Mapped). m.index) e in omega arith)
 above_all low (z ∷ zones) h m (inr i) = above_all low zones h.1 m i
+
+-- the zones that a cut writes are the node's
+cut_touched : (g : Geometry) (own : Place → ℕ) (keeps : Place → Bool) (cs : List (Place × ℕ)) (b : ℕ) → In b (touched_by_all g (cut_edits own keeps cs)) → (x : Place) × (own x ≡ b)
+cut_touched g own keeps [] b i = absurd i
+cut_touched g own keeps (c ∷ cs) b i = elim (cases_Bool (keeps c.0)) [
+  | inr f ↦ cut_touched g own keeps cs b (rw f at i)
+  | inl t ↦ by (λ j. cut_touched g own keeps cs b j) (rw t at i)
+]
+  where
+    by : (In b (touched_by_all g (cut_edits own keeps cs)) → (x : Place) × (own x ≡ b)) → (own c.0 ≡ b) ⊎ In b (touched_by_all g (cut_edits own keeps cs)) → (x : Place) × (own x ≡ b)
+    by rest (inl e) = (c.0, e)
+    by rest (inr j) = rest j
 
 -- ---- the step
 
@@ -457,6 +472,20 @@ module _ (tx : ℕ) (v : VolumeNow) (h : IsInUse v) (n : ℕ) (p : Placed) (zone
       waits_used : ◌≡◌ {A = Option ZoneState} (Some (states.Quarantined tx)) (Some states.Used) → ⊥
       waits_used e = cc
 
+  -- the zones that are written lie behind the maps
+  maps_stay : SameMaps g c.blocks w.blocks
+  unfolding cut_to
+  maps_stay b low below =
+      edited_elsewhere g (cut_to g keeps (opened c p) from).blocks (put_inode p.number (cut_to g keeps (opened c p) from).inode) b
+      (λ e. (let stored = volume.0.each n p at in let far = (table_below g p.number h.sound stored.some stored.within).0 in omega arith))
+      ∙ untouched g (cut_edits (own_of (opened c p)) keeps (cuts keeps from)) c.blocks b (λ i.
+      let x = cut_touched g (own_of (opened c p)) keeps (cuts keeps from) b i in
+      let e = x.1 in
+      elim (cases_eq (own_of (opened c p) x.0) 0) [
+        | inl none ↦ omega arith
+        | inr some ↦ (let range = ((volume.0.each n p at).zones x.0 some).0 in let same : zone_in c.blocks p.inode x.0 ≡ b = e in let tables = h.sound.tables_below in omega arith)
+      ])
+
   steady : IsSteady tx v cut (λ birth index. ⊥)
   steady = record {
     geometry = refl;
@@ -464,6 +493,7 @@ module _ (tx : ℕ) (v : VolumeNow) (h : IsInUse v) (n : ℕ) (p : Placed) (zone
     told = told;
     nodes = put_told g v.contents w cut.touched n q refl (inl refl) (λ b i. elim i [ inl e ↦ sym e | inr z ↦ absurd z ]) (In-append_right (touched_by_all g es) _ _ (inl refl));
     lowest = given_lowest tx v.zones (all_given tx freed v.zones) freed given was_used;
+    marks = marks_given tx g h.sound v.contents w v.zones (all_given tx freed v.zones) freed h.volume.0.whole h.volume.0.size within given maps_stay (numbers_put v.contents.nodes w.nodes n p q refl at refl);
     freed = λ z i. given.now z i;
     was_used = λ z i. was_used z i;
     waits_on = λ z holder waits. given.others z (λ i. used_waits holder (sym (was_used z i) ∙ waits)) ∙ waits;

@@ -1,7 +1,7 @@
 -- A node without a name goes, and its zones wait for the transaction: what this keeps and tells.
 use Rattle.std.specs.Prelude.{◌≡◌, ◌≢◌, ◌≤◌, ◌<◌, ℕ, ◌⊎◌, Bool, true, false, List, [], ◌∷◌, ◌++◌, map, length, Some, refl}
 use Rattle.std.proofs.Common.{sym, ap, subst, inl, inr, ⊎_elim, ◌∙◌, arith}
-use Rattle.std.proofs.lemmas.Bool.{cases_eq}
+use Rattle.std.proofs.lemmas.Bool.{cases_eq, false≢true}
 use Rattle.std.proofs.lemmas.Option.{same_Some, none-some}
 use Rattle.blk_base.specs.Members.{In, In-append_left, In-append_right, In-append_cases}
 use Rattle.minix_layout.specs.declared.division.Geometry.{Geometry}
@@ -28,7 +28,7 @@ use Rattle.volume_model.specs.Trees.{node_now}
 use Rattle.volume_steps.specs.Now.{VolumeNow, Change, tree_of_now, written}
 use Rattle.volume_steps.specs.Zones.{inode_bit, zone_bit, all_given}
 use Rattle.volume_steps.specs.Plain.{IsInUse}
-use Rattle.volume_steps.specs.laws.Steady.{IsSteady}
+use Rattle.volume_steps.specs.laws.Steady.{IsSteady, KeepsMarks}
 use Rattle.volume_steps.proofs.Together.{used_waits}
 use Rattle.volume_steps.proofs.Bits.{ChangesNone, AreZones, bits_change, bits_before, kept_zone, kept_volume}
 use Rattle.volume_steps.proofs.Taking.{frees, AreApart, AreGiven, all_are_given, in_zones, given_lowest}
@@ -37,6 +37,7 @@ use Rattle.volume_steps.proofs.Grows.{is_directory_part, file_of}
 use Rattle.volume_steps.proofs.NodeSteps.{IsSettled, AreSlotted, zones_settled}
 use Rattle.volume_steps.proofs.StepsTo.{StepsTo, links_at}
 use Rattle.volume_steps.proofs.TreeSteps.{KeepsPages, tree_without, tree_at, used_without_one}
+use Rattle.volume_steps.proofs.Marked.{marks_then, marks_inode, marks_given, numbers_same, number_goes, numbers_stay}
 
 -- What is asked of the lists: all zones of the node, each once; those of metadata; and the pages of a file.
 pub record IsGone (own : Place → ℕ) (n : ℕ) (directory : Bool) (gone revoked : List ℕ) (dropped : List Page) : Type 0 where
@@ -259,6 +260,24 @@ module _ (tx : ℕ) (v : VolumeNow) (in_use : IsInUse v) (n : ℕ) (p : Placed) 
         omega arith;
   }
 
+  -- the inode's bit goes first, and then those of the zones
+  abbrev unused : Contents
+  unused = record { blocks = edited g v.contents.blocks (inode_bit p.number false); nodes = w.nodes }
+
+  dropped_marks : KeepsMarks g v.contents w v.zones (all_given tx gone v.zones)
+  dropped_marks =
+      let old = in_use.volume.0.each n p at in
+      let within = old.within in
+      let room = in_use.sound.inode_bits in
+      let one = changes_bit g v.contents.blocks 2 p.number false in_use.sound in_use.volume.0.whole in_use.volume.0.size (omega arith) in
+      marks_then g v.contents unused w v.zones v.zones (all_given tx gone v.zones)
+      (marks_inode g in_use.sound v.contents unused v.zones p.number false in_use.volume.0.whole in_use.volume.0.size old.some old.within (λ b low high. refl)
+      ((λ t. absurd (false≢true t)), (λ has. absurd (number_goes v.contents.nodes n p in_use.volume.0.in_order at in_use.volume.0.numbers has)))
+      (numbers_stay v.contents.nodes n p in_use.volume.0.in_order at in_use.volume.0.numbers))
+      (marks_given tx g in_use.sound unused w v.zones (all_given tx gone v.zones) gone one.whole (one.size ∙ in_use.volume.0.size) gone_zones given
+      (λ b low high. edited_elsewhere g c.blocks (put_inode p.number zero_inode) b (λ e. (let far = (table_below g p.number in_use.sound old.some old.within).0 in omega arith)))
+      (numbers_same w.nodes w.nodes refl))
+
   dropped_steady : IsSteady tx v dropped_change (λ birth index. ⊥)
   dropped_steady = record {
     geometry = refl;
@@ -266,6 +285,7 @@ module _ (tx : ℕ) (v : VolumeNow) (in_use : IsInUse v) (n : ℕ) (p : Placed) 
     told = told;
     nodes = gone_told g v.contents w touched n refl in_use.volume.0.in_order refl;
     lowest = given_lowest tx v.zones (all_given tx gone v.zones) gone given gone_used;
+    marks = dropped_marks;
     freed = given.now;
     was_used = gone_used;
     waits_on = λ z holder waits. given.others z (λ i. used_waits holder (sym (gone_used z i) ∙ waits)) ∙ waits;

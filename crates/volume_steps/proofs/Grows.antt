@@ -21,7 +21,7 @@ use Rattle.volume_model.specs.Plain.{HasZone}
 use Rattle.volume_model.specs.laws.ZoneMoves.{no_numbers}
 use Rattle.volume_steps.specs.Now.{VolumeNow, Change, tree_of_now}
 use Rattle.volume_steps.specs.Plain.{IsInUse}
-use Rattle.volume_steps.specs.laws.Steady.{IsSteady, TakesLowest, TellsNodes}
+use Rattle.volume_steps.specs.laws.Steady.{IsSteady, TakesLowest, TellsNodes, KeepsMarks}
 use Rattle.volume_steps.proofs.Taking.{lowest_none}
 
 -- ---- kinds of nodes
@@ -172,7 +172,7 @@ takes_none m = record {
 module _ (tx : ℕ) (v : VolumeNow) (w : Contents) (zones : Zones) (blocks new nodes : List ℕ) (in_use : IsInUse v) (stands : IsVolume v.geometry w)
     (h : GrowsTo v.geometry v.contents w blocks new) (takes : TakesTo v.zones zones new)
     (counted : count_by is_used zones.states ≡ used_zones (tree_of_now (record { geometry = v.geometry; contents = w; zones = zones })))
-    (listed : TellsNodes v.geometry v.contents w (record { blocks = blocks; freed = []; revoked = []; pages = []; dropped = []; nodes = nodes })) where
+    (listed : TellsNodes v.geometry v.contents w (record { blocks = blocks; freed = []; revoked = []; pages = []; dropped = []; nodes = nodes })) (marked : KeepsMarks v.geometry v.contents w v.zones zones) where
   abbrev pub grown : Change
   grown = record { volume = record { geometry = v.geometry; contents = w; zones = zones }; touched = record { blocks = blocks; freed = []; revoked = []; pages = []; dropped = []; nodes = nodes } }
 
@@ -196,6 +196,7 @@ module _ (tx : ℕ) (v : VolumeNow) (w : Contents) (zones : Zones) (blocks new n
     told = grown_tells v.geometry v.contents w blocks new nodes h stands.0;
     nodes = listed;
     lowest = takes.lowest;
+    marks = marked;
     freed = λ zone i. absurd i;
     was_used = λ zone i. absurd i;
     waits_on = takes.waits_on;

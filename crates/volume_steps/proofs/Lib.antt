@@ -2,6 +2,7 @@ pub mod Together
 pub mod Bits
 pub mod Taking
 pub mod Listed
+pub mod Marked
 pub mod TakeZones
 pub mod Grows
 pub mod TreeSteps

@@ -20,8 +20,8 @@ use Rattle.zone_maps.specs.Zones.{state_of}
 use Rattle.volume_model.specs.declared.placed.Placed.{Placed}
 use Rattle.volume_model.specs.declared.placed.Part.TheVariants as parts
 use Rattle.volume_model.specs.Counts.{indices_of, zones_of_file}
-use Rattle.volume_model.specs.Edits.{Edit, touched_by_all}
-use Rattle.volume_model.specs.MapBlock.{OpenInode, own_of}
+use Rattle.volume_model.specs.Edits.{Edit, touched_by_all, put_inode}
+use Rattle.volume_model.specs.MapBlock.{OpenInode, own_of, map_block}
 use Rattle.volume_model.specs.Moves.{IsVolume, AreFree, with_mapped, file_mapped, file_mapped_touches}
 use Rattle.volume_model.specs.Plain.{HasZone}
 use Rattle.volume_model.specs.Touched.{Contents, Tells}
@@ -32,11 +32,11 @@ use Rattle.volume_model.specs.laws.Counts.{count_map}
 use Rattle.volume_model.specs.laws.Indexed.{file_indexed}
 use Rattle.volume_model.specs.laws.MapBlock.{Outcome}
 use Rattle.volume_model.specs.laws.MapBody.{mapped_content}
-use Rattle.volume_model.specs.laws.MapTells.{map_tells, theirs as theirs_mapped, mine as mine_mapped, outcome as outcome_mapped, page_bytes}
+use Rattle.volume_model.specs.laws.MapTells.{map_tells, theirs as theirs_mapped, mine as mine_mapped, outcome as outcome_mapped, page_bytes, blocks_by, way_edits, way_touched}
 use Rattle.volume_model.specs.laws.Mapped.{zones_mapped}
 use Rattle.volume_model.specs.laws.OnWay.{in_list}
 use Rattle.volume_model.specs.laws.Touched.{tells_then}
-use Rattle.volume_model.specs.laws.ZoneMoves.{grown, MapWrites, may_map, map_file, map_just, moved_just, mapped_file_stands}
+use Rattle.volume_model.specs.laws.ZoneMoves.{grown, MapWrites, may_map, map_file, map_just, moved_just, mapped_file_stands, MayMove}
 use Rattle.volume_steps.specs.Now.{VolumeNow, Change, tree_of_now, written, tells_writes}
 use Rattle.volume_steps.specs.Plain.{IsInUse}
 use Rattle.volume_steps.specs.Steps.{map_file_block}
@@ -50,6 +50,9 @@ use Rattle.volume_steps.proofs.TakeZones.{are_taken, are_free, numbers_are_zones
 use Rattle.volume_steps.proofs.Together.{tells_as}
 use Rattle.volume_steps.proofs.TreeSteps.{tree_at, tree_in_order, used_put_more}
 use Rattle.volume_steps.proofs.Listed.{put_told}
+use Rattle.volume_steps.proofs.Marked.{SameMaps, marks_taken, numbers_put}
+use Rattle.volume_model.specs.laws.Edits.{edited_elsewhere, untouched}
+use Rattle.volume_model.specs.laws.Changes.{table_below}
 
 waits_used : (holder : ℕ) → ◌≡◌ {A = Option ZoneState} (Some (states.Quarantined holder)) (Some states.Used) → ⊥
 waits_used holder e = cc
@@ -117,14 +120,17 @@ module _ (tx : ℕ) (v : VolumeNow) (h : IsInUse v) (n : ℕ) (p : Placed) (zone
   part : IsFilePart c.blocks p.inode zones
   part = subst (IsPart c.blocks p.inode) is (volume.0.each n p at).part
 
+  may : MayMove g h.sound c.blocks c.nodes n p volume.0 at u (parts.File listed) (MapWrites g h.sound c.blocks c.nodes n p volume.0 at t.taken content size index high free)
+  may = may_map g h.sound c.blocks c.nodes n p volume.0 at t.taken content size index high free (parts.File listed)
+      (map_file g h.sound c.blocks c.nodes n p volume.0 at t.taken content size index high free zones gap part)
+      (λ e same. absurd (cc same))
+
   stands : IsVolume g w
   stands = (
     mapped_file_stands g h.sound c.blocks c.nodes n p volume.0 at t.taken content size index high free zones is gap,
     moved_just g h.sound c.blocks c.nodes n p volume.0 at u (parts.File listed)
         (MapWrites g h.sound c.blocks c.nodes n p volume.0 at t.taken content size index high free)
-        (may_map g h.sound c.blocks c.nodes n p volume.0 at t.taken content size index high free (parts.File listed)
-        (map_file g h.sound c.blocks c.nodes n p volume.0 at t.taken content size index high free zones gap part)
-        (λ e same. absurd (cc same)))
+        may
         volume.1 (map_just g h.sound c.blocks c.nodes n p volume.0 at t.taken content size index high free (volume.1 n p at)),
   )
 
@@ -283,6 +289,20 @@ module _ (tx : ℕ) (v : VolumeNow) (h : IsInUse v) (n : ℕ) (p : Placed) (zone
       (record { not_taken = λ b i j. i; not_dropped = λ x i j. i; not_mapped = λ x zone i page. i }))
       (λ birth at e. ⊎_elim (λ z. absurd z) (λ e. e) e) (λ birth at e. inr e)
 
+  -- the zones that are written lie behind the maps
+  maps_stay : SameMaps g c.blocks w.blocks
+  unfolding map_block
+  maps_stay b low below =
+      edited_elsewhere g u.blocks (put_inode p.number u.inode) b
+      (λ e. (let stored = volume.0.each n p at in let far = (table_below g p.number h.sound stored.some stored.within).0 in omega arith))
+      ∙ (ap (λ a. disk_of a b) (blocks_by g t.taken content (record { blocks = c.blocks; inode = p.inode }) (way index))
+      ∙ untouched g (way_edits g h.sound c.blocks c.nodes n p volume.0 at t.taken content size index high free) c.blocks b (λ i.
+      let y = way_touched g h.sound c.blocks c.nodes n p volume.0 at t.taken content size index high free b i in
+      let range = (may.fit.within y.0 y.1).0 in
+      let e = y.2 in
+      let tables = h.sound.tables_below in
+      omega arith))
+
   steady : IsSteady tx v mapped IsMapped
   steady = record {
     geometry = refl;
@@ -290,6 +310,7 @@ module _ (tx : ℕ) (v : VolumeNow) (h : IsInUse v) (n : ℕ) (p : Placed) (zone
     told = told;
     nodes = put_told g v.contents w mapped.touched n q refl (inl refl) (λ b i. elim i [ inl e ↦ sym e | inr z ↦ absurd z ]) (In-append_right (touched_by_all g es) _ _ (inl refl));
     lowest = taken.lowest;
+    marks = marks_taken g h.sound v.contents w v.zones t.zones t.numbers h.volume.0.whole h.volume.0.size (numbers_are_zones v h p.inode index enough) taken maps_stay (numbers_put v.contents.nodes w.nodes n p q refl at refl);
     freed = λ z i. absurd i;
     was_used = λ z i. absurd i;
     waits_on = λ z holder waits. taken.others z (λ i. waits_free holder (sym waits ∙ taken.was z i)) ∙ waits;

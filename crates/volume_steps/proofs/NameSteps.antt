@@ -35,10 +35,11 @@ use Rattle.volume_steps.specs.Steps.{has_name, place_of, take_name, tells_node}
 use Rattle.volume_steps.specs.Plain.{IsInUse}
 use Rattle.volume_steps.specs.laws.Steady.{IsSteady}
 use Rattle.volume_steps.proofs.Grows.{is_directory_part, GrowsTo}
-use Rattle.volume_steps.proofs.NodeSteps.{MayGrow, IsSettled, AreSlotted, closed_grows, closed_settled, closed_slotted, zones_settled}
+use Rattle.volume_steps.proofs.NodeSteps.{MayGrow, IsSettled, AreSlotted, closed_grows, closed_maps, closed_numbers, closed_settled, closed_slotted, zones_settled}
 use Rattle.volume_steps.proofs.Listed.{put_told}
 use Rattle.volume_steps.proofs.QuietSteps.{at_directory_is, quiet_steady}
 use Rattle.volume_steps.proofs.TreeSteps.{grown_pages, tree_put}
+use Rattle.volume_steps.proofs.Marked.{SameMaps, SameNumbers}
 
 -- ---- a slot is written
 
@@ -67,6 +68,14 @@ module _ (g : Geometry) (sound : IsSound g) (v : Contents) (n : ℕ) (p : Placed
 
   pub slot_grows : GrowsTo g v (slot_put g v n p k o next) slot_blocks []
   slot_grows = closed_grows g sound v n p h at (put_open g sound v n p h at d is k o next put) (parts.Directory next) (λ b. b ≡ zone_in v.blocks p.inode (block (k / 64)))
+      (may_move g sound v n p h at d is k o next put) slot_blocks [] slot_grow
+
+  pub slot_maps : SameMaps g v.blocks (slot_put g v n p k o next).blocks
+  slot_maps = closed_maps g sound v n p h at (put_open g sound v n p h at d is k o next put) (parts.Directory next) (λ b. b ≡ zone_in v.blocks p.inode (block (k / 64)))
+      (may_move g sound v n p h at d is k o next put) slot_blocks [] slot_grow
+
+  pub slot_numbers : SameNumbers v.nodes (slot_put g v n p k o next).nodes
+  slot_numbers = closed_numbers g sound v n p h at (put_open g sound v n p h at d is k o next put) (parts.Directory next) (λ b. b ≡ zone_in v.blocks p.inode (block (k / 64)))
       (may_move g sound v n p h at d is k o next put) slot_blocks [] slot_grow
 
   pub slot_settled : IsSettled v → ((r : Placed) × (at_number v.nodes next.parent ≡ Some r) × HasDots next.slots p.number r.number) → IsSettled (slot_put g v n p k o next)

@@ -24,7 +24,7 @@ use Rattle.volume_model.specs.declared.placed.Placed.{Placed}
 use Rattle.volume_model.specs.declared.placed.Part.TheVariants as parts
 use Rattle.volume_model.specs.declared.placed.DirectoryPart.{DirectoryPart}
 use Rattle.volume_model.specs.Changes.{Changes}
-use Rattle.volume_model.specs.Edits.{put_inode, put_slot, put_body, edited, edited_all, touched_by_all}
+use Rattle.volume_model.specs.Edits.{put_inode, put_slot, put_body, edited, edited_all, touched_by_all, Edit}
 use Rattle.volume_model.specs.laws.Edits.{length-edited, edited_elsewhere, untouched, inode_here, inode_kept, slot_here, slot_elsewhere, whole_edited}
 use Rattle.volume_model.specs.laws.Changes.{changes_then, changes_bit, changes_inode, changes_slot, table_below}
 use Rattle.volume_model.specs.laws.MapBlock.{changes_wider}
@@ -37,7 +37,7 @@ use Rattle.volume_steps.specs.Now.{VolumeNow, Change, tree_of_now}
 use Rattle.volume_steps.specs.Zones.{inode_bit, zone_bit, new_number, next_zone}
 use Rattle.volume_steps.specs.Steps.{new_directory_inode, new_directory_edits, dot_slots, make_directory}
 use Rattle.volume_steps.specs.Plain.{IsInUse}
-use Rattle.volume_steps.specs.laws.Steady.{IsSteady}
+use Rattle.volume_steps.specs.laws.Steady.{IsSteady, KeepsMarks}
 use Rattle.volume_steps.proofs.Together.{used_waits}
 use Rattle.volume_steps.proofs.Grows.{GrowsTo, TakesTo, grown_steady}
 use Rattle.volume_steps.proofs.NodeSteps.{IsSettled, AreSlotted}
@@ -49,6 +49,8 @@ use Rattle.volume_steps.proofs.TakeZones.{zone_range, free_is_none}
 use Rattle.volume_steps.proofs.TreeSteps.{grown_pages, tree_put, tree_none, tree_in_order, used_put_new}
 use Rattle.volume_steps.proofs.NewFiles.{same_blank, first_index, own_first, first_of, first_zone}
 use Rattle.volume_steps.proofs.Listed.{put_told}
+use Rattle.volume_steps.proofs.Marked.{marks_then, marks_inode, marks_taken, number_comes, numbers_come, numbers_same}
+use Rattle.blk_base.specs.Members.{In}
 
 -- ---- its dots
 
@@ -379,6 +381,37 @@ module _ (tx : ℕ) (v : VolumeNow) (in_use : IsInUse v) (n : ℕ) (none : at_nu
   directory_made_tree = tree_put v.contents.blocks after v.contents.nodes in_use.volume.0.in_order
       (grown_pages g v.contents w blocks (zone ∷ []) [] grows in_use.volume.0 stands.0) n q
 
+  -- the inode's bit is written first, and then that of the zone
+  abbrev with_inode : Contents
+  with_inode = record { blocks = edited g v.contents.blocks (inode_bit number true); nodes = w.nodes }
+
+  abbrev writes_after : List Edit
+  writes_after = put_body zone (zeros 1024) ∷ put_slot zone 0 (Some (record { inode = number; name = codes "." })) ∷ put_slot zone 1 (Some (record { inode = p.number; name = codes ".." })) ∷ put_inode number (new_directory_inode zone) ∷ []
+
+  behind_maps : (b : ℕ) → b < 2 + g.imap + g.zmap → In b (touched_by_all g writes_after) → ⊥
+  behind_maps b high i =
+      let from = range.0 in
+      let far = (table_below g number in_use.sound new.some new.within).0 in
+      let tables = in_use.sound.tables_below in
+      elim i [
+        | inl e ↦ omega arith
+        | inr i ↦ elim i [
+          | inl e ↦ omega arith
+          | inr i ↦ elim i [
+            | inl e ↦ omega arith
+            | inr i ↦ elim i [ inl e ↦ omega arith | inr z ↦ absurd z ]
+          ]
+        ]
+      ]
+
+  made_marks : KeepsMarks g v.contents w v.zones (taken v.zones)
+  made_marks = marks_then g v.contents with_inode w v.zones v.zones (taken v.zones)
+      (marks_inode g in_use.sound v.contents with_inode v.zones number true in_use.volume.0.whole in_use.volume.0.size new.some new.within (λ b low high. refl)
+      ((λ t. number_comes v.contents.nodes n q), (λ has. refl)) (λ other apart. numbers_come v.contents.nodes n q none other apart))
+      (marks_taken g in_use.sound with_inode w v.zones (taken v.zones) (zone ∷ []) c1.whole (c1.size ∙ in_use.volume.0.size) (λ z i. elim i [ inl e ↦ subst (λ z. (g.first ≤ z) × (z < g.zones)) e range | inr z ↦ absurd z ]) take
+      (λ b low high. untouched g writes_after (edited g (edited g v.contents.blocks (inode_bit number true)) (zone_bit g true zone)) b (behind_maps b high))
+      (numbers_same w.nodes w.nodes refl))
+
   pub directory_made_steady : IsSteady tx v directory_made (λ birth index. ⊥)
   directory_made_steady = grown_steady tx v w (taken v.zones) blocks (zone ∷ []) (n ∷ []) in_use stands grows (takes_of_taken v.zones (taken v.zones) (zone ∷ []) take)
       (let all = used_put_new (tree_of_now v) n (new_directory parent) (tree_in_order v.contents.blocks v.contents.nodes in_use.volume.0.in_order) (tree_none v.contents.blocks v.contents.nodes n none) in
@@ -388,6 +421,7 @@ module _ (tx : ℕ) (v : VolumeNow) (in_use : IsInUse v) (n : ℕ) (none : at_nu
       let was = in_use.counted in
       omega arith)
       (put_told g v.contents w directory_made.touched n q refl (inl refl) (λ b i. elim i [ inl e ↦ sym e | inr z ↦ absurd z ]) (inr (inr (inr (inr (inr (inl refl)))))))
+      made_marks
 
   pub directory_made_settled : IsSettled v.contents → (n ≡ 0 → ⊥) → IsSettled directory_made.volume.contents
   directory_made_settled old apart = come_settled g v.contents after n q (λ b. b ≡ zone) in_use.volume may old apart (λ zones is. absurd (cc is)) (omega arith)

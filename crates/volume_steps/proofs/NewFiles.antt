@@ -14,7 +14,7 @@ use Rattle.volume_model.specs.declared.placed.Placed.{Placed}
 use Rattle.volume_model.specs.declared.placed.Part.TheVariants as parts
 use Rattle.volume_model.specs.Changes.{Changes}
 use Rattle.volume_model.specs.Edits.{put_inode, edited}
-use Rattle.volume_model.specs.laws.Edits.{untouched, inode_here}
+use Rattle.volume_model.specs.laws.Edits.{untouched, inode_here, edited_elsewhere}
 use Rattle.volume_model.specs.laws.Changes.{changes_then, changes_bit, changes_inode, table_below}
 use Rattle.volume_model.specs.laws.MapBlock.{changes_wider}
 use Rattle.volume_model.specs.Volume.{Place, block, indirect, double, inner, zone_in, IsWhole}
@@ -32,6 +32,7 @@ use Rattle.volume_steps.proofs.NewNumbers.{IsNewNumber, number_is_new}
 use Rattle.volume_steps.proofs.Comes.{MayCome, ComesTold, come, come_stands, come_grows, come_settled, come_slotted}
 use Rattle.volume_steps.proofs.TreeSteps.{grown_pages, tree_put, tree_none, tree_in_order, used_put_new}
 use Rattle.volume_steps.proofs.Listed.{put_told}
+use Rattle.volume_steps.proofs.Marked.{marks_inode, number_comes, numbers_come}
 
 -- ---- an inode with a first zone at most
 
@@ -185,6 +186,9 @@ module _ (tx : ℕ) (v : VolumeNow) (in_use : IsInUse v) (n : ℕ) (none : at_nu
       let was = in_use.counted in
       omega arith)
       (put_told g v.contents (come g v.contents after n q (λ _. ⊥) in_use.volume may) (make_file v n).touched n q refl (inl refl) (λ b i. elim i [ inl e ↦ sym e | inr z ↦ absurd z ]) (inr (inl refl)))
+      (marks_inode g in_use.sound v.contents (come g v.contents after n q (λ _. ⊥) in_use.volume may) v.zones number true in_use.volume.0.whole in_use.volume.0.size new.some new.within
+      (λ b low high. edited_elsewhere g bits (put_inode number new_file_inode) b (λ e. (let far = (table_below g number in_use.sound new.some new.within).0 in omega arith)))
+      ((λ t. number_comes v.contents.nodes n q), (λ has. refl)) (λ other apart. numbers_come v.contents.nodes n q none other apart))
 
   pub file_made_settled : IsSettled v.contents → (n ≡ 0 → ⊥) → IsSettled (make_file v n).volume.contents
   file_made_settled old apart = come_settled g v.contents after n q (λ _. ⊥) in_use.volume may old apart (λ zones is. omega arith) (omega arith) (λ d is. absurd (cc is))

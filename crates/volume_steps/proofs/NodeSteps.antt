@@ -1,5 +1,5 @@
 -- Steps by which one node changes, or bits of the maps: how they grow a volume.
-use Rattle.std.specs.Prelude.{◌≡◌, ◌≢◌, ◌≤◌, ◌<◌, ℕ, ◌⊎◌, true, List, ◌++◌, length, Some, refl}
+use Rattle.std.specs.Prelude.{◌≡◌, ◌≢◌, ◌≤◌, ◌<◌, ℕ, ◌⊎◌, true, List, ◌++◌, length, Some, refl, ◌+◌}
 use Rattle.std.proofs.Common.{sym, ap, subst, inl, inr, ⊎_elim, ◌∙◌, arith}
 use Rattle.std.proofs.lemmas.Bool.{cases_eq}
 use Rattle.std.proofs.lemmas.Option.{same_Some}
@@ -27,6 +27,7 @@ use Rattle.volume_model.specs.Plain.{HasDots, HasSlotZones}
 use Rattle.volume_model.specs.laws.NodeMoves.{Which, changed, other, which, same_zone as node_same_zone}
 use Rattle.volume_model.specs.laws.ZoneMoves.{MayMove, may_change, same_zone as moved_same_zone}
 use Rattle.volume_steps.proofs.Grows.{is_directory_part, directory_of, GrowsTo, StaysIn, HadZone, stays, zone_kept}
+use Rattle.volume_steps.proofs.Marked.{SameMaps, SameNumbers, numbers_put}
 
 -- ---- what the tree does not say
 
@@ -220,6 +221,28 @@ module _ (g : Geometry) (sound : IsSound g) (v : Contents) (n : ℕ) (p : Placed
       | other _ was ↦ zones_settled v.blocks after.blocks r.inode r.inode (length d.slots) (theirs a r was apart) (old a r d was is apart)
       | changed e same ↦ absurd (apart e)
     ]
+
+    -- no block of the maps is written, and its inode is the same
+    pub closed_maps : SameMaps g v.blocks after.blocks
+    closed_maps b low high =
+        let out = no_map b high in
+        edited_elsewhere g u.blocks (put_inode p.number u.inode) b (λ e. out (subst (λ b. In b blocks) (sym e) grow.table)) ∙ grow.bytes b out
+      where
+        no_map : (b : ℕ) → b < 2 + g.imap + g.zmap → In b blocks → ⊥
+        no_map b high i = ⊎_elim
+            (λ e.
+            let told = h.0.each n p at in
+            let far = (table_below g p.number sound told.some told.within).0 in
+            omega arith)
+            (λ (w : (y : Place) × (own_of u y ≢ 0) × (own_of u y ≡ b) × (is_directory_part part ≡ true)).
+            let far = (may.fit.within w.0 w.1).0 in
+            let e = w.2 in
+            let tables = sound.tables_below in
+            omega arith)
+            (grow.meta b i)
+
+    pub closed_numbers : SameNumbers v.nodes after.nodes
+    closed_numbers = numbers_put v.nodes after.nodes n p q refl at refl
 
     pub closed_grows : GrowsTo g v after blocks new
     closed_grows = record {

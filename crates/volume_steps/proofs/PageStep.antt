@@ -40,6 +40,7 @@ use Rattle.volume_steps.proofs.Taking.{lowest_none}
 use Rattle.volume_steps.proofs.Files.{bodies_put, file_now, node_is_file, node_zones_are, put_itself, tree_rewritten}
 use Rattle.volume_steps.proofs.NodeSteps.{zones_settled}
 use Rattle.volume_steps.proofs.TreeSteps.{tree_at, tree_in_order, used_put_same}
+use Rattle.volume_steps.proofs.Marked.{SameMaps, marks_same, numbers_same}
 
 -- ---- nothing changes
 
@@ -51,6 +52,7 @@ unchanged_step tx v h n f found = record {
     told = kept_tells v.geometry v.contents h.volume v.contents.blocks (changes_none v.geometry v.contents.blocks h.volume.0.whole) h.sound [] (λ b none. refl) (λ b i. absurd i);
     nodes = none_told v.geometry v.contents v.contents (unchanged v).touched refl refl;
     lowest = lowest_none v.zones;
+    marks = marks_same v.geometry h.sound v.contents v.contents v.zones h.volume.0.whole h.volume.0.size (λ b low high. refl) (numbers_same v.contents.nodes v.contents.nodes refl);
     freed = λ z i. absurd i;
     was_used = λ z i. absurd i;
     waits_on = λ z holder waits. waits;
@@ -252,6 +254,12 @@ module _ (tx : ℕ) (v : VolumeNow) (h : IsInUse v) (n : ℕ) (p : Placed) (zone
     counted = h.counted ∙ sym (ap used_zones tree ∙ used_put_same (tree_of_now v) n (node_now blocks p) (nodes.File page_file) (tree_in_order blocks v.contents.nodes h.volume.0.in_order) (tree_at blocks v.contents.nodes n p at) same_needs);
   }
 
+  maps_stay : SameMaps v.geometry blocks after
+  maps_stay b low high =
+      let from = range.0 in
+      let tables = h.sound.tables_below in
+      edited_elsewhere v.geometry blocks (put_body zone content) b (omega arith)
+
   -- The page has the bytes.
   pub page_step : IsFileStep tx v n paged page_file IsPaged
   page_step = record {
@@ -261,6 +269,7 @@ module _ (tx : ℕ) (v : VolumeNow) (h : IsInUse v) (n : ℕ) (p : Placed) (zone
       told = told;
       nodes = none_told v.geometry v.contents paged.volume.contents paged.touched refl refl;
       lowest = lowest_none v.zones;
+      marks = marks_same v.geometry h.sound v.contents paged.volume.contents v.zones h.volume.0.whole h.volume.0.size maps_stay (numbers_same v.contents.nodes v.contents.nodes refl);
       freed = λ z i. absurd i;
       was_used = λ z i. absurd i;
       waits_on = λ z holder waits. waits;

@@ -34,8 +34,9 @@ use Rattle.volume_steps.specs.Plain.{IsInUse}
 use Rattle.volume_steps.specs.laws.Steady.{IsSteady, TellsNodes}
 use Rattle.volume_steps.proofs.Listed.{same_told}
 use Rattle.volume_steps.proofs.Grows.{GrowsTo, takes_none, grown_steady}
-use Rattle.volume_steps.proofs.NodeSteps.{MayGrow, IsSettled, AreSlotted, closed_grows, closed_settled, closed_slotted, zones_settled}
+use Rattle.volume_steps.proofs.NodeSteps.{MayGrow, IsSettled, AreSlotted, closed_grows, closed_maps, closed_numbers, closed_settled, closed_slotted, zones_settled}
 use Rattle.volume_steps.proofs.TreeSteps.{KeepsPages, grown_pages, tree_put, tree_at, tree_in_order, used_put_same, node_same}
+use Rattle.volume_steps.proofs.Marked.{marks_same}
 
 -- ---- at a node
 
@@ -74,6 +75,8 @@ module _ (tx : ℕ) (v : VolumeNow) (in_use : IsInUse v) (n : ℕ) (p : Placed) 
       (in_use.counted ∙ sym (ap used_zones quiet_tree
       ∙ used_put_same (tree_of_now v) n (node_now v.contents.blocks p) (node_from after.blocks u.inode part) (tree_in_order v.contents.blocks v.contents.nodes in_use.volume.0.in_order)
       (tree_at v.contents.blocks v.contents.nodes n p at) same)) told
+      (marks_same v.geometry in_use.sound v.contents after v.zones in_use.volume.0.whole in_use.volume.0.size
+      (closed_maps v.geometry in_use.sound v.contents n p in_use.volume at u part Z may blocks [] grow) (closed_numbers v.geometry in_use.sound v.contents n p in_use.volume at u part Z may blocks [] grow))
 
 -- ---- a map in which a value is put again
 

@@ -36,9 +36,10 @@ use Rattle.volume_steps.proofs.Bits.{ChangesNone, bits_none, bits_before, kept_z
 use Rattle.volume_steps.proofs.Taking.{AreTaken, frees}
 use Rattle.volume_steps.proofs.TakeZones.{are_taken, are_free, numbers_are_zones, number_place, turn, turn_in}
 use Rattle.volume_steps.proofs.Grows.{is_directory_part, GrowsTo}
-use Rattle.volume_steps.proofs.NodeSteps.{MayGrow, IsSettled, AreSlotted, zones_settled, grows_then, closed_grows, closed_settled, closed_slotted_but}
+use Rattle.volume_steps.proofs.NodeSteps.{MayGrow, IsSettled, AreSlotted, zones_settled, grows_then, closed_grows, closed_maps, closed_numbers, closed_settled, closed_slotted_but}
 use Rattle.volume_steps.proofs.TreeSteps.{grown_pages, tree_put, tree_at, tree_in_order}
 use Rattle.volume_steps.proofs.QuietSteps.{put_again}
+use Rattle.volume_steps.proofs.Marked.{SameMaps, SameNumbers}
 
 -- bits that are written before the first zone
 pub bits_grow : (g : Geometry) → IsSound g → (v : Contents) (h : IsVolume g v) (after : List (List ℕ)) → ChangesNone g v.blocks after → (ts : List ℕ) →
@@ -206,6 +207,13 @@ module _ (v : VolumeNow) (in_use : IsInUse v) (n : ℕ) (p : Placed) (at : at_nu
     where
       node_of : Part → Node
       node_of part = node_from v.contents.blocks p.inode part
+
+  -- no bit of the maps changes after the zones were taken, and the inode is the same
+  pub room_maps : SameMaps g c.blocks with_room.blocks
+  room_maps = closed_maps g in_use.sound c n p volume at u (parts.Directory d) Z may mapped_blocks t.numbers grow
+
+  pub room_numbers : SameNumbers c.nodes with_room.nodes
+  room_numbers = closed_numbers g in_use.sound c n p volume at u (parts.Directory d) Z may mapped_blocks t.numbers grow
 
   -- the node, and which blocks it has
   abbrev pub with_room_placed : Placed

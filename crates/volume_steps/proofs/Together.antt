@@ -12,9 +12,10 @@ use Rattle.volume_model.specs.Volume.{block}
 use Rattle.volume_model.specs.Plain.{HasZone}
 use Rattle.volume_model.specs.laws.Touched.{tells_then}
 use Rattle.volume_steps.specs.Now.{VolumeNow, Change}
-use Rattle.volume_steps.specs.laws.Steady.{IsSteady, TellsNodes}
+use Rattle.volume_steps.specs.laws.Steady.{IsSteady, TellsNodes, KeepsMarks}
 use Rattle.volume_steps.proofs.Taking.{lowest_then}
 use Rattle.volume_steps.proofs.Listed.{nodes_then}
+use Rattle.volume_steps.proofs.Marked.{marks_then}
 
 -- ---- what is metadata has a zone, or stands before the zones
 
@@ -53,6 +54,7 @@ steady_as tx v c Writes More h there back = record {
   told = tells_as v.geometry v.contents c.volume.contents c.touched Writes More h.told there back;
   nodes = h.nodes;
   lowest = h.lowest;
+  marks = h.marks;
   freed = h.freed;
   was_used = h.was_used;
   waits_on = h.waits_on;
@@ -104,6 +106,8 @@ module _ (tx : ℕ) (v : VolumeNow) (c d : Change) (Writes More : ℕ → ℕ �
     nodes = nodes_then v.geometry v.contents c.volume.contents d.volume.contents c.touched d.touched h.nodes
         (subst (λ g. TellsNodes g c.volume.contents d.volume.contents d.touched) h.geometry k.nodes);
     lowest = lowest_then v.zones c.volume.zones d.volume.zones h.lowest k.lowest;
+    marks = marks_then v.geometry v.contents c.volume.contents d.volume.contents v.zones c.volume.zones d.volume.zones h.marks
+        (subst (λ g. KeepsMarks g c.volume.contents d.volume.contents c.volume.zones d.volume.zones) h.geometry k.marks);
     freed = λ zone i. ⊎_elim (λ first. k.waits_on zone tx (h.freed zone first)) (λ second. k.freed zone second) (In-append_cases c.touched.freed d.touched.freed zone i);
     was_used = λ zone i. ⊎_elim (λ first. h.was_used zone first) (λ second. after.not_new zone second (k.was_used zone second)) (In-append_cases c.touched.freed d.touched.freed zone i);
     waits_on = λ zone holder waits. k.waits_on zone holder (h.waits_on zone holder waits);

@@ -1,7 +1,9 @@
 -- What each step of a call keeps, and what it tells.
-use Rattle.std.specs.Prelude.{◌≡◌, ◌≢◌, ◌<◌, ℕ, List, Option, Some, option_map}
+use Rattle.std.specs.Prelude.{◌≡◌, ◌≢◌, ◌+◌, ◌<◌, ◌≤◌, ◌↔◌, ◌⊎◌, ℕ, Bool, true, List, Option, Some, option_map}
 use Rattle.blk_base.specs.Members.{In}
 use Rattle.minix_layout.specs.declared.division.Geometry.{Geometry}
+use Rattle.minix_layout.specs.declared.bits.BitPlace.{BitPlace}
+use Rattle.minix_layout.specs.Bits.{inode_bit, zone_bit, has_bit}
 use Rattle.tree_model.specs.Maps.{at_number}
 use Rattle.zone_maps.specs.declared.zone_state.ZoneState.TheVariants as states
 use Rattle.zone_maps.specs.Zones.{Zones, state_of}
@@ -34,6 +36,27 @@ pub record TellsNodes (g : Geometry) (v w : Contents) (t : Touched) : Type 0 whe
   pub others : (birth : ℕ) → (In birth t.nodes → ⊥) → shape_at w.nodes birth ≡ shape_at v.nodes birth
   pub tables : (birth : ℕ) (p : Placed) → In birth t.nodes → at_number w.nodes birth ≡ Some p → In (table_block g p.number) t.blocks
 
+-- a node has this inode
+pub record HasNumber (nodes : List (ℕ × Placed)) (number : ℕ) : Type 0 where
+  pub birth : ℕ
+  pub placed : Placed
+  pub stands : at_number nodes birth ≡ Some placed
+  pub is : placed.number ≡ number
+
+-- A bit and what it stands for: neither changes, or the bit says it afterwards.
+abbrev pub Marks : Bool → Type 0 → Bool → Type 0 → Type 0
+Marks bit Used after Now = ((after ≡ bit) × (Now ↔ Used)) ⊎ ((after ≡ true) ↔ Now)
+
+-- The bits of inodes and of zones mark which are in use, and no other bit of the maps changes.
+pub record KeepsMarks (g : Geometry) (v w : Contents) (m n : Zones) : Type 0 where
+  pub inodes : (number : ℕ) → 0 < number → number ≤ g.inodes →
+      Marks (has_bit v.blocks (inode_bit g number)) (HasNumber v.nodes number) (has_bit w.blocks (inode_bit g number)) (HasNumber w.nodes number)
+  pub zones : (zone : ℕ) → g.first ≤ zone → zone < g.zones →
+      Marks (has_bit v.blocks (zone_bit g zone)) (state_of m zone ≡ Some states.Used) (has_bit w.blocks (zone_bit g zone)) (state_of n zone ≡ Some states.Used)
+  pub others : (p : BitPlace) → 2 ≤ p.block → p.block < 2 + g.imap + g.zmap → p.at < 8192 →
+      ((number : ℕ) → 0 < number → number ≤ g.inodes → p ≢ inode_bit g number) → ((zone : ℕ) → g.first ≤ zone → zone < g.zones → p ≢ zone_bit g zone) →
+      has_bit w.blocks p ≡ has_bit v.blocks p
+
 -- In transaction tx: the volume stays in use; what was touched is told; zones are taken from the lowest on; what is freed
 -- was in use and waits for the transaction, and nothing else begins or ends to wait.
 pub record IsSteady (tx : ℕ) (v : VolumeNow) (c : Change) (Writes : ℕ → ℕ → Type 0) : Type 0 where
@@ -42,6 +65,7 @@ pub record IsSteady (tx : ℕ) (v : VolumeNow) (c : Change) (Writes : ℕ → �
   pub told : Tells v.geometry v.contents c.volume.contents c.touched Writes
   pub nodes : TellsNodes v.geometry v.contents c.volume.contents c.touched
   pub lowest : TakesLowest v.zones c.volume.zones
+  pub marks : KeepsMarks v.geometry v.contents c.volume.contents v.zones c.volume.zones
   pub freed : (zone : ℕ) → In zone c.touched.freed → state_of c.volume.zones zone ≡ Some (states.Quarantined tx)
   pub was_used : (zone : ℕ) → In zone c.touched.freed → state_of v.zones zone ≡ Some states.Used
   pub waits_on : (zone holder : ℕ) → state_of v.zones zone ≡ Some (states.Quarantined holder) → state_of c.volume.zones zone ≡ Some (states.Quarantined holder)
