@@ -42,7 +42,7 @@ use Rattle.volume_steps.proofs.QuietSteps.{at_node_is, at_directory_is}
 use Rattle.volume_steps.proofs.TreeSteps.{tree_at, tree_in_order, used_put_more}
 use Rattle.volume_steps.proofs.Rooms.{es, room_links, room_maps, room_numbers, with_room, with_room_placed, room_taken, room_stands, room_grows, mapped_blocks, room_settled, room_slotted, room_tree, room_new, room_kept, room_back}
 use Rattle.volume_steps.proofs.Listed.{put_told, nodes_then}
-use Rattle.volume_steps.proofs.Marked.{marks_same, marks_taken, numbers_both}
+use Rattle.volume_steps.proofs.Marked.{marks_same, marks_taken, numbers_both, SameNumbers}
 use Rattle.volume_steps.proofs.TakeZones.{numbers_are_zones}
 
 -- ---- where the slot is
@@ -194,6 +194,9 @@ module _ (tx : ℕ) (v : VolumeNow) (in_use : IsInUse v) (n : ℕ) (p : Placed) 
 
     here_is : make_room v n ≡ unchanged v → add_name v n name birth ≡ put_here
     here_is e = ap (λ c. followed_by c (λ w. put_name_slot w n name birth)) e ∙ ap (λ c. followed_by (unchanged v) (λ w. c)) slot_is
+
+    numbers_here : SameNumbers v.contents.nodes put_here.volume.contents.nodes
+    numbers_here = slot_numbers g in_use.sound v.contents n p in_use.volume at d is (room d.slots) (Some s) next put
 
     here_all : make_room v n ≡ unchanged v → StepsTo tx v (add_name v n name birth) later (links_at v.contents.nodes)
     here_all e = subst (λ c. StepsTo tx v c later (links_at v.contents.nodes)) (sym (here_is e)) named_here
@@ -386,6 +389,9 @@ module _ (tx : ℕ) (v : VolumeNow) (in_use : IsInUse v) (n : ℕ) (p : Placed) 
     there_is = ap (λ c. followed_by c (λ w. put_name_slot w n name birth)) block_is
         ∙ ap (λ c. followed_by (map_directory_block v n p d index) (λ w. c)) slot_is_behind
 
+    numbers_there : SameNumbers v.contents.nodes put_behind.volume.contents.nodes
+    numbers_there = numbers_both v.contents.nodes r.nodes rw_after.nodes (room_numbers v in_use n p at d is index high hole plenty) (slot_numbers g in_use.sound r n rp r_stands r_at d refl (room d.slots) (Some s) next put_there)
+
     there_all : StepsTo tx v (add_name v n name birth) later (links_at v.contents.nodes)
     there_all = subst (λ c. StepsTo tx v c later (links_at v.contents.nodes)) (sym there_is) named_behind
 
@@ -400,6 +406,7 @@ module _ (tx : ℕ) (v : VolumeNow) (in_use : IsInUse v) (n : ℕ) (p : Placed) 
   record Comes : Type 0 where
     step : StepsTo tx v (add_name v n name birth) later (links_at v.contents.nodes)
     frees_none : (zone : ℕ) → In zone (add_name v n name birth).touched.freed → ⊥
+    numbers : SameNumbers v.contents.nodes (add_name v n name birth).volume.contents.nodes
 
   all_comes : Comes
   all_comes = by place
@@ -412,13 +419,14 @@ module _ (tx : ℕ) (v : VolumeNow) (in_use : IsInUse v) (n : ℕ) (p : Placed) 
       here mapped no_more zones_after e = record {
         step = here_all mapped no_more zones_after e;
         frees_none = λ zone i. subst (λ c. In zone c.touched.freed → ⊥) (sym (here_is mapped no_more zones_after e)) (λ j. j) i;
+        numbers = subst (λ c. SameNumbers v.contents.nodes c.volume.contents.nodes) (sym (here_is mapped no_more zones_after e)) (numbers_here mapped no_more zones_after);
       }
 
       by : Where d name → Comes
       by (among low e) = here (slot_zones.no_hole (room d.slots / 64) (omega arith)) (ap directory_zones e) (subst (HasSlotZones v.contents.blocks p.inode) (sym e) slot_zones)
           (no_room (rw (ne_eqb (room d.slots) (length d.slots) (λ same. (omega arith))) refl))
       by (behind all e few) = elim (cases_eq (length d.slots % 64) 0) [
-        | inl whole ↦ record { step = there_all all few whole e; frees_none = λ zone i. subst (λ c. In zone c.touched.freed → ⊥) (sym (there_is all few whole e)) (λ j. j) i }
+        | inl whole ↦ record { step = there_all all few whole e; frees_none = λ zone i. subst (λ c. In zone c.touched.freed → ⊥) (sym (there_is all few whole e)) (λ j. j) i; numbers = subst (λ c. SameNumbers v.contents.nodes c.volume.contents.nodes) (sym (there_is all few whole e)) (numbers_there all few whole e) }
         | inr part ↦ here (slot_zones.no_hole (room d.slots / 64) (omega arith))
             (ap directory_zones e
             ∙ (slot_needs (length d.slots)
@@ -436,6 +444,9 @@ module _ (tx : ℕ) (v : VolumeNow) (in_use : IsInUse v) (n : ℕ) (p : Placed) 
   -- The name is there, and its slot.
   pub name_comes : StepsTo tx v (add_name v n name birth) later (links_at v.contents.nodes)
   name_comes = all_comes.step
+
+  pub name_numbers : SameNumbers v.contents.nodes (add_name v n name birth).volume.contents.nodes
+  name_numbers = all_comes.numbers
 
   pub name_frees : (zone : ℕ) → In zone (add_name v n name birth).touched.freed → ⊥
   name_frees = all_comes.frees_none

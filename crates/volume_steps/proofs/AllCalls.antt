@@ -1,6 +1,6 @@
 -- Each call, whether it is done or refused.
-use Rattle.std.specs.Prelude.{◌≡◌, ◌≢◌, ◌-◌, ◌+◌, ◌&&◌, ℕ, Bool, true, false, List, [], ◌∷◌, length, Option, Some, None, option_map, Ok, Err, refl}
-use Rattle.std.proofs.Common.{sym, ap, subst, inl, ◌∙◌, ⊎_elim, arith}
+use Rattle.std.specs.Prelude.{◌≡◌, ◌≢◌, ◌-◌, ◌+◌, ◌&&◌, ℕ, Bool, true, false, List, [], ◌∷◌, length, Option, Some, None, option_map, Ok, Err, refl, ◌≤◌, ◌<◌, ◌↔◌}
+use Rattle.std.proofs.Common.{sym, ap, subst, inl, ◌∙◌, ⊎_elim, arith, inr}
 use Rattle.std.proofs.lemmas.Bool.{true≢false}
 use Rattle.std.proofs.lemmas.Option.{same_Some, none-some}
 use Rattle.blk_base.specs.Members.{In}
@@ -18,13 +18,13 @@ use Rattle.volume_model.specs.declared.placed.Part.{Part}
 use Rattle.volume_model.specs.declared.placed.Part.TheVariants as parts
 use Rattle.volume_model.specs.Touched.{Page}
 use Rattle.volume_model.specs.Trees.{node_from, node_now}
-use Rattle.volume_model.specs.Volume.{IsPart}
+use Rattle.volume_model.specs.Volume.{IsPart, IsStored}
 use Rattle.volume_model.specs.laws.Indexed.{keys_bodies}
 use Rattle.volume_steps.specs.Now.{VolumeNow, Change, tree_of_now, room_of, unchanged}
 use Rattle.volume_steps.specs.Calls.{called, called_by, changed}
 use Rattle.volume_steps.specs.Plain.{IsInUse, IsPlainNow, is_of_bytes}
 use Rattle.volume_steps.specs.laws.Called.{FindsRoom}
-use Rattle.volume_steps.specs.laws.Steady.{IsSteady, shape_of, shape_at}
+use Rattle.volume_steps.specs.laws.Steady.{IsSteady, shape_of, shape_at, HasNumber, Marks, KeepsMarks}
 use Rattle.volume_steps.proofs.CallEnds.{IsDone, done_takes}
 use Rattle.volume_steps.proofs.Called.{called_done, needs_are, unchanged_steady}
 use Rattle.volume_steps.proofs.CreateCall.{create_done}
@@ -36,9 +36,14 @@ use Rattle.volume_steps.proofs.MkdirCall.{mkdir_done}
 use Rattle.volume_steps.proofs.PlainNow.{tree_is_plain}
 use Rattle.volume_steps.proofs.RmdirCall.{rmdir_done}
 use Rattle.volume_steps.proofs.Taking.{frees, waits, in_zones}
-use Rattle.volume_steps.proofs.Together.{steady_as}
+use Rattle.volume_steps.proofs.Together.{steady_as, used_waits}
 use Rattle.volume_steps.proofs.TreeSteps.{tree_at, tree_none}
 use Rattle.volume_steps.proofs.UnlinkCall.{unlink_done}
+use Rattle.minix_layout.specs.declared.division.Geometry.{Geometry}
+use Rattle.minix_layout.specs.Bits.{has_bit, inode_bit, zone_bit}
+use Rattle.zone_maps.specs.Zones.{state_of}
+use Rattle.volume_steps.proofs.TakeZones.{zone_range}
+use Rattle.zone_maps.specs.declared.zone_state.ZoneState.TheVariants as states
 
 abbrev pub Writes : VolumeNow → ℕ → Call → ℕ → ℕ → Type 0
 Writes v n c birth index = writes (room_of v.geometry) (tree_of_now v) n c birth index ≡ true
@@ -196,3 +201,64 @@ module _ (tx : ℕ) (v : VolumeNow) (n : ℕ) (c : Call) (h : FindsRoom v n c) (
 
   pub file_listed : same_file (at_number (tree_of_now v) b) (at_number (tree_of_now (called v n tx c).change.volume) b) ≡ false → In b (called v n tx c).change.touched.nodes
   file_listed differs = node_listed (λ same. true≢false (sym (same_shape_file v (called v n tx c).change.volume h.plain.in_use (any_call tx v n c h).steady.in_use b same) ∙ differs))
+
+-- ---- bits
+
+-- a bit that says what came into use is set, one of what went is clear, and others are as before
+came : (bit after : Bool) (Used Now : Type 0) → Marks bit Used after Now → (Used → ⊥) → Now → after ≡ true
+came bit after Used Now (inl same) was now = absurd (was (same.1.0 now))
+came bit after Used Now (inr says) was now = says.0.1 now
+
+went : (bit after : Bool) (Used Now : Type 0) → Marks bit Used after Now → Used → (Now → ⊥) → after ≡ false
+went bit after Used Now (inl same) was gone = absurd (gone (same.1.1 was))
+went bit after Used Now (inr says) was gone = by after says.0
+  where
+    by : (after : Bool) → (after ≡ true) ↔ Now → after ≡ false
+    by true says = absurd (gone (says.0 refl))
+    by false says = refl
+
+stayed : (bit after : Bool) (Used Now : Type 0) → Marks bit Used after Now → Now ↔ Used → after ≡ bit
+stayed bit after Used Now (inl same) alike = same.0
+stayed bit after Used Now (inr says) alike = absurd (says.1 alike)
+
+module _ (tx : ℕ) (v : VolumeNow) (n : ℕ) (c : Call) (h : FindsRoom v n c) where
+  abbrev w : VolumeNow
+  w = (called v n tx c).change.volume
+
+  marks : KeepsMarks v.geometry v.contents w.contents v.zones w.zones
+  marks = (any_call tx v n c h).steady.marks
+
+  after_in_use : IsInUse w
+  after_in_use = (any_call tx v n c h).steady.in_use
+
+  geometry : w.geometry ≡ v.geometry
+  geometry = (any_call tx v n c h).steady.geometry
+
+  pub taken_zone : (zone : ℕ) → state_of v.zones zone ≢ Some states.Used → state_of w.zones zone ≡ Some states.Used → has_bit w.contents.blocks (zone_bit v.geometry zone) ≡ true
+  taken_zone zone was now =
+      let range = subst (λ (g : Geometry). (g.first ≤ zone) × (zone < g.zones)) geometry (zone_range w after_in_use zone states.Used now) in
+      came _ _ _ _ (marks.zones zone range.0 range.1) was now
+
+  pub freed_zone : (zone : ℕ) → In zone (called v n tx c).change.touched.freed → has_bit w.contents.blocks (zone_bit v.geometry zone) ≡ false
+  freed_zone zone i =
+      let steady = (any_call tx v n c h).steady in
+      let range = zone_range v h.plain.in_use zone states.Used (steady.was_used zone i) in
+      went _ _ _ _ (marks.zones zone range.0 range.1) (steady.was_used zone i) (λ used. used_waits tx (sym used ∙ steady.freed zone i))
+
+  pub other_zone : (zone : ℕ) → v.geometry.first ≤ zone → zone < v.geometry.zones → (state_of w.zones zone ≡ Some states.Used) ↔ (state_of v.zones zone ≡ Some states.Used) →
+      has_bit w.contents.blocks (zone_bit v.geometry zone) ≡ has_bit v.contents.blocks (zone_bit v.geometry zone)
+  other_zone zone low high same = stayed _ _ _ _ (marks.zones zone low high) same
+
+  pub taken_inode : (number : ℕ) → (HasNumber v.contents.nodes number → ⊥) → HasNumber w.contents.nodes number → has_bit w.contents.blocks (inode_bit v.geometry number) ≡ true
+  taken_inode number was now =
+      let stored = subst (λ (g : Geometry). IsStored g w.contents.blocks now.placed) geometry (after_in_use.volume.0.each now.birth now.placed now.stands) in
+      came _ _ _ _ (marks.inodes number (subst (λ k. 0 < k) now.is stored.some) (subst (λ k. k ≤ v.geometry.inodes) now.is stored.within)) was now
+
+  pub freed_inode : (number : ℕ) → HasNumber v.contents.nodes number → (HasNumber w.contents.nodes number → ⊥) → has_bit w.contents.blocks (inode_bit v.geometry number) ≡ false
+  freed_inode number was gone =
+      let stored = h.plain.in_use.volume.0.each was.birth was.placed was.stands in
+      went _ _ _ _ (marks.inodes number (subst (λ k. 0 < k) was.is stored.some) (subst (λ k. k ≤ v.geometry.inodes) was.is stored.within)) was gone
+
+  pub other_inode : (number : ℕ) → 0 < number → number ≤ v.geometry.inodes → HasNumber w.contents.nodes number ↔ HasNumber v.contents.nodes number →
+      has_bit w.contents.blocks (inode_bit v.geometry number) ≡ has_bit v.contents.blocks (inode_bit v.geometry number)
+  other_inode number some high same = stayed _ _ _ _ (marks.inodes number some high) same

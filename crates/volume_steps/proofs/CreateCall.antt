@@ -1,6 +1,6 @@
 -- The call that creates a file.
 use Rattle.std.specs.Prelude.{◌≡◌, ◌≢◌, ◌≤◌, ◌<◌, ◌-◌, ◌+◌, ℕ, true, false, List, [], length, is_some, Option, Some, None, option_map, Ok, refl}
-use Rattle.std.proofs.Common.{sym, ap, subst, ◌∙◌, inl, arith}
+use Rattle.std.proofs.Common.{sym, ap, subst, ◌∙◌, inl, inr, arith}
 use Rattle.blk_base.specs.Members.{In}
 use Rattle.std.proofs.lemmas.Bool.{true≢false}
 use Rattle.std.proofs.lemmas.Option.{none-some}
@@ -27,13 +27,14 @@ use Rattle.volume_steps.specs.Plain.{IsPlainNow}
 use Rattle.volume_steps.proofs.Taking.{frees}
 use Rattle.volume_steps.proofs.NewNumbers.{number_is_new}
 use Rattle.volume_steps.proofs.NewFiles.{file_made_steady, file_made_tree, file_made_settled, file_made_slotted, no_zones}
-use Rattle.volume_steps.proofs.AddNames.{name_comes, name_frees}
+use Rattle.volume_steps.proofs.AddNames.{name_comes, name_frees, name_numbers}
 use Rattle.volume_steps.proofs.StepsTo.{StepsTo, joined, steps_then, links_at}
 use Rattle.volume_steps.proofs.CallPaths.{good_no_dot, good_entry, done_row, at_place_is, DirectoryAt, directory_at}
 use Rattle.volume_steps.proofs.DirectoryLinks.{AreLinked, linked_before, made_linked}
 use Rattle.volume_steps.proofs.PlainNow.{tree_is_plain, settled_before, slotted_before}
 use Rattle.volume_steps.proofs.CallEnds.{IsDone, none_freed, birth_is_new, birth_not_root, done_plain, call_ends}
 use Rattle.volume_steps.proofs.TreeSteps.{tree_length, tree_in_order, tree_none, tree_at, used_put_more, used_put_new}
+use Rattle.volume_steps.proofs.Marked.{SameNumbers}
 
 -- ---- a place for a name that comes
 
@@ -172,9 +173,16 @@ module _ (tx : ℕ) (v : VolumeNow) (h : IsPlainNow v) (n : ℕ) (before : AreBo
       (good_entry place.name q.number x.good new.some (let within = new.within in let fit = h.in_use.sound.fits.inodes in omega arith))
       first.settled first.slotted x.left more
 
+  name_same : SameNumbers v1.contents.nodes (add_name v1 place.parent place.name n).volume.contents.nodes
+  name_same =
+      let new = number_is_new v.geometry v.contents.nodes few in
+      name_numbers tx v1 first.steady.in_use place.parent x.at.placed at1 x.at.part x.at.is place.name n q child1 (λ e. apart (sym e)) x.free (good_no_dot place.name x.good)
+      (good_entry place.name q.number x.good new.some (let within = new.within in let fit = h.in_use.sound.fits.inodes in omega arith))
+      first.settled first.slotted x.left more
+
   whole : StepsTo tx v (joined (make_file v n) (add_name v1 place.parent place.name n)) d.tree (links_at v1.contents.nodes)
   whole = subst (λ tree. StepsTo tx v (joined (make_file v n) (add_name v1 place.parent place.name n)) tree (links_at v1.contents.nodes)) tree_same
-      (steps_then tx v (make_file v n) (add_name v1 place.parent place.name n) _ _ _ _ first second (λ zone i used. used) (λ y i. i))
+      (steps_then tx v (make_file v n) (add_name v1 place.parent place.name n) _ _ _ _ first second (λ zone i used. used) (λ y i. i) (inr name_same))
 
   linked : AreLinked d.tree (links_at v1.contents.nodes)
   linked = subst (λ tree. AreLinked tree (links_at v1.contents.nodes)) (ap (λ directory. put_number (put_number (tree_of_now v) n new_file) place.parent (nodes.Directory (with_name directory place.name n))) x.at.same ∙ sym said.tree_is)

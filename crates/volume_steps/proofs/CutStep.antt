@@ -493,7 +493,7 @@ module _ (tx : ℕ) (v : VolumeNow) (h : IsInUse v) (n : ℕ) (p : Placed) (zone
     told = told;
     nodes = put_told g v.contents w cut.touched n q refl (inl refl) (λ b i. elim i [ inl e ↦ sym e | inr z ↦ absurd z ]) (In-append_right (touched_by_all g es) _ _ (inl refl));
     lowest = given_lowest tx v.zones (all_given tx freed v.zones) freed given was_used;
-    marks = marks_given tx g h.sound v.contents w v.zones (all_given tx freed v.zones) freed h.volume.0.whole h.volume.0.size within given maps_stay (numbers_put v.contents.nodes w.nodes n p q refl at refl);
+    marks = marks_given tx g h.sound v.contents w v.zones (all_given tx freed v.zones) freed h.volume.0.whole h.volume.0.size within given was_used maps_stay (numbers_put v.contents.nodes w.nodes n p q refl at refl);
     freed = λ z i. given.now z i;
     was_used = λ z i. was_used z i;
     waits_on = λ z holder waits. given.others z (λ i. used_waits holder (sym (was_used z i) ∙ waits)) ∙ waits;
@@ -520,12 +520,7 @@ module _ (tx : ℕ) (v : VolumeNow) (h : IsInUse v) (n : ℕ) (p : Placed) (zone
     tree = tree;
     waiting = given.more;
     directories = change_directories v.contents w n p q change;
-    listed = inl (inl refl);
-    number = λ r s found after. (ap (λ (s : Placed). s.number) (sym (same_Some q s (sym here ∙ after))) ∙ ap (λ (r : Placed). r.number) (same_Some p r (sym at ∙ found)));
-    tables = λ b i. elim i [
-      | inl e ↦ (sym e, λ r found. In-append_right (touched_by_all g es) _ _ (inl (ap (λ (r : Placed). table_block g r.number) (same_Some p r (sym at ∙ found)))))
-      | inr z ↦ absurd z
-    ];
+    numbers = numbers_put v.contents.nodes w.nodes n p q refl at refl;
   }
 
   pub cut_free : frees cut.volume.zones ≡ frees v.zones

@@ -273,10 +273,12 @@ module _ (tx : ℕ) (v : VolumeNow) (in_use : IsInUse v) (n : ℕ) (p : Placed) 
       marks_then g v.contents unused w v.zones v.zones (all_given tx gone v.zones)
       (marks_inode g in_use.sound v.contents unused v.zones p.number false in_use.volume.0.whole in_use.volume.0.size old.some old.within (λ b low high. refl)
       ((λ t. absurd (false≢true t)), (λ has. absurd (number_goes v.contents.nodes n p in_use.volume.0.in_order at in_use.volume.0.numbers has)))
+      (λ alike. number_goes v.contents.nodes n p in_use.volume.0.in_order at in_use.volume.0.numbers (alike.1 (record { birth = n; placed = p; stands = at; is = refl })))
       (numbers_stay v.contents.nodes n p in_use.volume.0.in_order at in_use.volume.0.numbers))
-      (marks_given tx g in_use.sound unused w v.zones (all_given tx gone v.zones) gone one.whole (one.size ∙ in_use.volume.0.size) gone_zones given
+      (marks_given tx g in_use.sound unused w v.zones (all_given tx gone v.zones) gone one.whole (one.size ∙ in_use.volume.0.size) gone_zones given gone_used
       (λ b low high. edited_elsewhere g c.blocks (put_inode p.number zero_inode) b (λ e. (let far = (table_below g p.number in_use.sound old.some old.within).0 in omega arith)))
       (numbers_same w.nodes w.nodes refl))
+      (inr (numbers_same w.nodes w.nodes refl)) (λ zone low high first second. first ((λ u. u), (λ u. u)))
 
   dropped_steady : IsSteady tx v dropped_change (λ birth index. ⊥)
   dropped_steady = record {

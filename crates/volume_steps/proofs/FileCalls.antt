@@ -1,7 +1,7 @@
 -- The calls that write and cut files, as calls on a volume.
 use Rattle.std.specs.Prelude.{◌≡◌, ◌≢◌, ℕ, ◌+◌, ◌-◌, ◌/◌, ◌%◌, ◌≤◌, ◌==◌, not, ◌&&◌, Bool, true, false, List, length, Option, Some, None, Ok, Err, is_some, refl}
-use Rattle.std.proofs.Common.{sym, ap, subst, ◌∙◌, inl, inr, ⊎_elim, arith}
-use Rattle.std.proofs.lemmas.Bool.{cases_eq, eqb-true, eqb-false, eq-eqb, ne_eqb, and_from, and_parts, true≢false}
+use Rattle.std.proofs.Common.{sym, ap, subst, ◌∙◌, arith}
+use Rattle.std.proofs.lemmas.Bool.{eqb-true, eqb-false, eq-eqb, ne_eqb, and_from, and_parts, true≢false}
 use Rattle.std.proofs.lemmas.Slice.Eq.{bytes_eq-Decides}
 use Rattle.blk_base.specs.Members.{In, In-list_any, list_any-In}
 use Rattle.tree_model.specs.declared.call.Call.{Call}
@@ -14,14 +14,11 @@ use Rattle.tree_model.specs.declared.node.Node.{Node}
 use Rattle.tree_model.specs.declared.node.Node.TheVariants as nodes
 use Rattle.tree_model.specs.Maps.{at_number, put_number}
 use Rattle.tree_model.proofs.Changes.{outcome_row}
-use Rattle.tree_model.specs.laws.MapsLaws.{at_put_number, at_put_number_apart}
 use Rattle.tree_model.proofs.PlainTrees.{call_plain}
 use Rattle.tree_model.proofs.Zones.{needs_none}
 use Rattle.tree_model.specs.Calls.{Tree, Done, Row, Found, walk_path, row, outcome, tree_after, tree_from, reply_of, reply_from, needs, used_zones, written_file, cut_file, touched_blocks, write as write_row, truncate as truncate_row}
 use Rattle.tree_model.specs.Histories.{same_file, touches, writes, leads_to, is_found_at, is_touched, is_ok, maps_block, block_in}
 use Rattle.tree_model.specs.Plain.{IsPlain, AreBornBefore}
-use Rattle.volume_ops.specs.Places.{table_block}
-use Rattle.volume_model.specs.declared.placed.Placed.{Placed}
 use Rattle.volume_steps.specs.Calls.{called, called_by, changed, write, truncate}
 use Rattle.volume_steps.specs.Now.{VolumeNow, Change, tree_of_now, room_of}
 use Rattle.volume_steps.specs.Plain.{IsPlainNow}
@@ -78,8 +75,6 @@ pub record IsFileCall (tx : ℕ) (v : VolumeNow) (num : ℕ) (c : Call) (change 
   pub plain : AreBornBefore num (tree_of_now v) → IsPlainNow change.volume
   pub taken : frees change.volume.zones + needs (tree_of_now v) num c ≡ frees v.zones
   pub waiting : waits change.volume.zones ≡ waits v.zones + length change.touched.freed
-  pub tables : (b : ℕ) (p : Placed) → In b change.touched.nodes → at_number v.contents.nodes b ≡ Some p → In (table_block v.geometry p.number) change.touched.blocks
-  pub listed : (b : ℕ) → same_file (at_number (tree_of_now v) b) (at_number (tree_of_now change.volume) b) ≡ false → In b change.touched.nodes
 
 -- a step on a file that is what a call does
 module _ (tx : ℕ) (v : VolumeNow) (plain : IsPlainNow v) (num : ℕ) (c : Call) (d : Done) (done : outcome (room_of v.geometry) (tree_of_now v) num c ≡ Ok d) (ok : d.reply ≡ replies.Ok)
@@ -90,22 +85,6 @@ module _ (tx : ℕ) (v : VolumeNow) (plain : IsPlainNow v) (num : ℕ) (c : Call
   tree_same : tree_of_now change.volume ≡ tree_after (room_of v.geometry) (tree_of_now v) num c
   tree_same = s.tree ∙ (sym is ∙ sym (after_is tx v num c d done))
 
-  at_after : (b : ℕ) → at_number (tree_of_now change.volume) b ≡ at_number (put_number (tree_of_now v) n (nodes.File e)) b
-  at_after b = ap (λ tree. at_number tree b) s.tree
-
-  listed : (b : ℕ) → same_file (at_number (tree_of_now v) b) (at_number (tree_of_now change.volume) b) ≡ false → In b change.touched.nodes
-  listed b differ = elim (cases_eq b n) [
-    | inr apart ↦ absurd (true≢false (sym (same_itself (at_number (tree_of_now v) b)) ∙ (ap (same_file (at_number (tree_of_now v) b)) (sym (at_after b ∙ at_put_number_apart (tree_of_now v) n (nodes.File e) b apart)) ∙ differ)))
-    | inl here ↦ ⊎_elim
-        (λ i. subst (λ b. In b change.touched.nodes) (sym here) i)
-        (λ shape.
-        let same = shape f found in
-        let before : at_number (tree_of_now v) b ≡ Some (nodes.File f) = ap (at_number (tree_of_now v)) here ∙ found in
-        let after : at_number (tree_of_now change.volume) b ≡ Some (nodes.File e) = at_after b ∙ (ap (at_number (put_number (tree_of_now v) n (nodes.File e))) here ∙ at_put_number (tree_of_now v) n (nodes.File e)) in
-        absurd (true≢false (sym (same_shape f e same.0 same.1) ∙ (ap (λ o. same_file o (Some (nodes.File e))) (sym before) ∙ (ap (same_file (at_number (tree_of_now v) b)) (sym after) ∙ differ)))))
-        s.listed
-  ]
-
   pub file_call : IsFileCall tx v num c change
   file_call = record {
     steady = steady_as tx v change Writes (λ birth index. writes (room_of v.geometry) (tree_of_now v) num c birth index ≡ true) s.steady
@@ -115,8 +94,6 @@ module _ (tx : ℕ) (v : VolumeNow) (plain : IsPlainNow v) (num : ℕ) (c : Call
         (s.settled (settled_before v plain)) (s.slotted (slotted_before v plain)) (links_kept tx v n change f e Writes found s plain.plain.directory_links_are);
     taken = taken;
     waiting = s.waiting;
-    listed = listed;
-    tables = λ b p i at. (let t = s.tables b i in t.1 p (ap (at_number v.contents.nodes) (sym t.0) ∙ at));
   }
 
 -- ---- writes

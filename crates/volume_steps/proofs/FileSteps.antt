@@ -1,10 +1,8 @@
 -- Steps on one file: what they keep of a volume, and how they hang together.
-use Rattle.std.specs.Prelude.{◌≡◌, ◌≢◌, ℕ, ◌+◌, ◌-◌, ◌≤◌, List, length, Some, refl, ◌⊎◌, ◌++◌}
-use Rattle.std.specs.Map.{keys_of}
-use Rattle.std.proofs.Common.{sym, ap, subst, ◌∙◌, inl, inr, arith, ⊎_elim}
+use Rattle.std.specs.Prelude.{◌≡◌, ◌≢◌, ℕ, ◌+◌, ◌-◌, ◌≤◌, List, length, Some, refl}
+use Rattle.std.proofs.Common.{sym, ap, subst, ◌∙◌, inl, inr, arith}
 use Rattle.std.proofs.lemmas.Bool.{cases_eq}
 use Rattle.std.proofs.lemmas.Option.{same_Some}
-use Rattle.blk_base.specs.Members.{In, In-append_left, In-append_right, In-append_cases}
 use Rattle.minix_layout.specs.declared.division.Geometry.{Geometry}
 use Rattle.tree_model.specs.declared.node.File.{File}
 use Rattle.tree_model.specs.declared.node.Node.TheVariants as nodes
@@ -12,13 +10,13 @@ use Rattle.tree_model.specs.Maps.{at_number, put_number}
 use Rattle.tree_model.specs.laws.MapsLaws.{at_put_number, at_put_number_apart}
 use Rattle.tree_model.specs.Calls.{used_zones}
 use Rattle.volume_ops.specs.declared.found.Mapped.{Mapped}
-use Rattle.volume_ops.specs.Places.{largest_size, table_block}
+use Rattle.volume_ops.specs.Places.{largest_size}
 use Rattle.volume_model.specs.declared.placed.Placed.{Placed}
 use Rattle.volume_model.specs.declared.placed.Part.{Part}
 use Rattle.volume_model.specs.declared.placed.Part.TheVariants as parts
 use Rattle.volume_model.specs.declared.placed.DirectoryPart.{DirectoryPart}
 use Rattle.volume_model.specs.Plain.{HasDots}
-use Rattle.volume_model.specs.Touched.{Contents, Touched}
+use Rattle.volume_model.specs.Touched.{Contents}
 use Rattle.volume_model.specs.Trees.{node_from, node_now}
 use Rattle.volume_model.specs.Volume.{Place, zone_in, IsPart, IsFilePart}
 use Rattle.zone_maps.specs.laws.Counts.{all_counted}
@@ -31,22 +29,11 @@ use Rattle.volume_steps.proofs.QuietSteps.{at_node_is}
 use Rattle.volume_steps.proofs.Taking.{frees, uses, waits}
 use Rattle.volume_steps.proofs.TreeSteps.{tree_back}
 use Rattle.volume_steps.proofs.Files.{file_now, node_is_file}
+use Rattle.volume_steps.proofs.Marked.{SameNumbers}
 
 -- each directory is there as before
 abbrev pub KeepsDirectories : Contents → Contents → Type 0
 KeepsDirectories v w = (a : ℕ) (r : Placed) (d : DirectoryPart) → at_number w.nodes a ≡ Some r → r.part ≡ parts.Directory d → at_number v.nodes a ≡ Some r
-
--- the file at this birth has the size and the mapped blocks that it had
-abbrev pub KeepsShape : VolumeNow → ℕ → File → Type 0
-KeepsShape v n e = (f : File) → at_number (tree_of_now v) n ≡ Some (nodes.File f) → (e.size ≡ f.size) × (keys_of e.blocks ≡ keys_of f.blocks)
-
--- the node at this birth keeps its inode
-abbrev pub KeepsNumber : VolumeNow → VolumeNow → ℕ → Type 0
-KeepsNumber v w n = (p q : Placed) → at_number v.contents.nodes n ≡ Some p → at_number w.contents.nodes n ≡ Some q → q.number ≡ p.number
-
--- no other node is told, and where this one is the block of its inode is too
-abbrev pub TellsTables : VolumeNow → ℕ → Touched → Type 0
-TellsTables v n t = (b : ℕ) → In b t.nodes → (b ≡ n) × ((p : Placed) → at_number v.contents.nodes n ≡ Some p → In (table_block v.geometry p.number) t.blocks)
 
 -- In transaction tx: the step is steady and keeps what the tree does not say. The tree has this file then, and what was
 -- freed waits.
@@ -57,9 +44,7 @@ pub record IsFileStep (tx : ℕ) (v : VolumeNow) (n : ℕ) (c : Change) (f : Fil
   pub tree : tree_of_now c.volume ≡ put_number (tree_of_now v) n (nodes.File f)
   pub waiting : waits c.volume.zones ≡ waits v.zones + length c.touched.freed
   pub directories : KeepsDirectories v.contents c.volume.contents
-  pub listed : In n c.touched.nodes ⊎ KeepsShape v n f
-  pub number : KeepsNumber v c.volume n
-  pub tables : TellsTables v n c.touched
+  pub numbers : SameNumbers v.contents.nodes c.volume.contents.nodes
 
 -- ---- a file of the tree, as a node of the volume
 
@@ -91,39 +76,6 @@ at_file_is v n p zones change at is =
 -- a file that the tree has after a step stands at its birth
 pub file_stands : (tx : ℕ) (v : VolumeNow) (n : ℕ) (c : Change) (f : File) (Writes : ℕ → ℕ → Type 0) → IsFileStep tx v n c f Writes → at_number (tree_of_now c.volume) n ≡ Some (nodes.File f)
 file_stands tx v n c f Writes s = ap (λ tree. at_number tree n) s.tree ∙ at_put_number (tree_of_now v) n (nodes.File f)
-
--- two steps on it, one after the other
-pub listed_then : (tx : ℕ) (v : VolumeNow) (n : ℕ) (c d : Change) (f e : File) (Writes : ℕ → ℕ → Type 0) → IsFileStep tx v n c f Writes → In n d.touched.nodes ⊎ KeepsShape c.volume n e → In n (c.touched.nodes ++ d.touched.nodes) ⊎ KeepsShape v n e
-listed_then tx v n c d f e Writes one two = ⊎_elim
-    (λ i. inl (In-append_left c.touched.nodes d.touched.nodes n i))
-    (λ first. ⊎_elim
-    (λ i. inl (In-append_right c.touched.nodes d.touched.nodes n i))
-    (λ second. inr (λ g found. (
-    let a = first g found in
-    let b = second f (file_stands tx v n c f Writes one) in
-    (b.0 ∙ a.0, b.1 ∙ a.1)
-    )))
-    two)
-    one.listed
-
-pub number_then : (tx : ℕ) (v w : VolumeNow) (n : ℕ) (c : Change) (f : File) (Writes : ℕ → ℕ → Type 0) → IsFileStep tx v n c f Writes → KeepsNumber c.volume w n → KeepsNumber v w n
-number_then tx v w n c f Writes one two p q at found =
-    let x = file_at c.volume one.steady.in_use n f (file_stands tx v n c f Writes one) in
-    two x.placed q x.stands found ∙ one.number p x.placed at x.stands
-
-pub tables_then : (tx : ℕ) (v : VolumeNow) (n : ℕ) (c d : Change) (f : File) (Writes : ℕ → ℕ → Type 0) → IsFileStep tx v n c f Writes → TellsTables c.volume n d.touched →
-    (b : ℕ) → In b (c.touched.nodes ++ d.touched.nodes) → (b ≡ n) × ((p : Placed) → at_number v.contents.nodes n ≡ Some p → In (table_block v.geometry p.number) (c.touched.blocks ++ d.touched.blocks))
-tables_then tx v n c d f Writes one two b i = ⊎_elim
-    (λ first. (let t = one.tables b first in (t.0, λ p at. In-append_left c.touched.blocks d.touched.blocks _ (t.1 p at))))
-    (λ second. (let t = two b second in (
-      t.0,
-      λ p at.
-          let x = file_at c.volume one.steady.in_use n f (file_stands tx v n c f Writes one) in
-          In-append_right c.touched.blocks d.touched.blocks _
-          (subst (λ g. In (table_block g p.number) d.touched.blocks) one.steady.geometry
-          (subst (λ number. In (table_block c.volume.geometry number) d.touched.blocks) (one.number p x.placed at x.stands) (t.1 x.placed x.stands))),
-    )))
-    (In-append_cases c.touched.nodes d.touched.nodes b i)
 
 -- ---- free zones
 

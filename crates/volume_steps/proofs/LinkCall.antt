@@ -27,7 +27,7 @@ use Rattle.volume_steps.specs.Calls.{link, at_place}
 use Rattle.volume_steps.specs.Plain.{IsPlainNow}
 use Rattle.volume_steps.proofs.Taking.{frees}
 use Rattle.volume_steps.proofs.AddNames.{name_comes, name_frees}
-use Rattle.volume_steps.proofs.QuietSteps.{linked, linked_steady, linked_file, linked_settled, linked_slotted, set_links_is}
+use Rattle.volume_steps.proofs.QuietSteps.{linked, linked_steady, linked_file, linked_settled, linked_slotted, set_links_is, linked_numbers}
 use Rattle.volume_steps.proofs.StepsTo.{StepsTo, joined, steps_then, links_at}
 use Rattle.volume_steps.proofs.CallPaths.{good_no_dot, good_entry, done_row, at_place_is, at_path_is}
 use Rattle.volume_steps.proofs.DirectoryLinks.{AreLinked, linked_before, links_same, links_put_name, weigh}
@@ -223,7 +223,7 @@ module _ (tx : ℕ) (v : VolumeNow) (h : IsPlainNow v) (n : ℕ) (before : AreBo
   whole : StepsTo tx v (joined made named) d.tree (links_at v1.contents.nodes)
   whole = subst (λ tree. StepsTo tx v (joined made named) tree (links_at v1.contents.nodes))
       (ap (λ tree. put_number tree place.parent (nodes.Directory (with_name (directory_from x.at.part) place.name birth))) first.tree_is ∙ tree_same)
-      (steps_then tx v made named _ _ _ _ first second (λ zone i used. used) (λ y i. i))
+      (steps_then tx v made named _ _ _ _ first second (λ zone i used. used) (λ y i. i) (inl (linked_numbers tx v h.in_use birth y.placed y.stands now room_for_link)))
 
   -- no directory comes or goes
   kind_same : (b : ℕ) → is_directory (at_number d.tree b) ≡ is_directory (at_number (tree_of_now v) b)

@@ -12,7 +12,7 @@ use Rattle.tree_model.specs.Maps.{at_number, put_number}
 use Rattle.tree_model.specs.laws.MapsLaws.{at_put_number, at_put_number_apart}
 use Rattle.tree_model.specs.Calls.{node_zones, used_zones}
 use Rattle.volume_ops.specs.declared.found.Mapped.{Mapped}
-use Rattle.volume_ops.specs.Places.{largest_size, table_block}
+use Rattle.volume_ops.specs.Places.{largest_size}
 use Rattle.volume_ops.specs.Volume.{disk_of, bodies_of}
 use Rattle.zone_maps.specs.declared.zone_state.ZoneState.{ZoneState}
 use Rattle.zone_maps.specs.declared.zone_state.ZoneState.TheVariants as states
@@ -337,10 +337,5 @@ module _ (tx : ℕ) (v : VolumeNow) (h : IsInUse v) (n : ℕ) (p : Placed) (zone
     tree = tree;
     waiting = (let same = taken.same in omega arith);
     directories = change_directories v.contents w n p q change;
-    listed = inl (inl refl);
-    number = λ r s found after. (ap (λ (s : Placed). s.number) (sym (same_Some q s (sym here ∙ after))) ∙ ap (λ (r : Placed). r.number) (same_Some p r (sym at ∙ found)));
-    tables = λ b i. elim i [
-      | inl e ↦ (sym e, λ r found. In-append_right (touched_by_all g es) _ _ (inl (ap (λ (r : Placed). table_block g r.number) (same_Some p r (sym at ∙ found)))))
-      | inr z ↦ absurd z
-    ];
+    numbers = numbers_put v.contents.nodes w.nodes n p q refl at refl;
   }

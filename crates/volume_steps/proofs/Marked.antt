@@ -1,5 +1,5 @@
 -- The bits of both maps after writes: which of them change.
-use Rattle.std.specs.Prelude.{◌≡◌, ◌≢◌, ◌+◌, ◌-◌, ◌/◌, ◌%◌, ◌<◌, ◌≤◌, ◌↔◌, ℕ, Bool, true, false, List, [], ◌∷◌, length, map, Option, Some, None, refl}
+use Rattle.std.specs.Prelude.{◌≡◌, ◌≢◌, ◌+◌, ◌-◌, ◌/◌, ◌%◌, ◌<◌, ◌≤◌, ◌↔◌, ℕ, Bool, true, false, List, [], ◌∷◌, length, map, Option, Some, None, refl, ◌⊎◌}
 use Rattle.std.specs.List.Sorted.{IsStrictlySortedBy}
 use Rattle.std.specs.Map.{keys_of, remove_entry}
 use Rattle.std.specs.BTreeMap.{is_at}
@@ -29,7 +29,7 @@ use Rattle.volume_model.specs.Volume.{IsWhole}
 use Rattle.volume_steps.specs.Zones.{inode_bit, zone_bit}
 use Rattle.volume_steps.specs.laws.Steady.{HasNumber, Marks, KeepsMarks}
 use Rattle.volume_steps.proofs.Bits.{AreZones}
-use Rattle.volume_steps.proofs.Taking.{AreTaken, AreGiven, in_zones}
+use Rattle.volume_steps.proofs.Taking.{AreTaken, AreGiven, free_used, in_zones}
 
 -- ---- one bit
 
@@ -148,23 +148,29 @@ same_bit blocks after p same = ap (λ body. bit_of body p.at) same
 -- Zones come into use, or go; their bits are written, and nothing else of the maps.
 pub marks_zones : (g : Geometry) → IsSound g → (v w : Contents) (m n : Zones) (value : Bool) (zs : List ℕ) → IsWhole v.blocks → length v.blocks ≡ g.zones → AreZones g zs →
     SameMaps g (edited_all g v.blocks (map (zone_bit g value) zs)) w.blocks → SameNumbers v.nodes w.nodes →
-    ((z : ℕ) → In z zs → (value ≡ true) ↔ (state_of n z ≡ Some states.Used)) →
+    ((z : ℕ) → In z zs → (value ≡ true) ↔ (state_of n z ≡ Some states.Used)) → ((z : ℕ) → In z zs → ((state_of n z ≡ Some states.Used) ↔ (state_of m z ≡ Some states.Used)) → ⊥) →
     ((z : ℕ) → (In z zs → ⊥) → (state_of n z ≡ Some states.Used) ↔ (state_of m z ≡ Some states.Used)) → KeepsMarks g v w m n
-marks_zones g sound v w m n value zs whole size within same numbers now others = record {
+marks_zones g sound v w m n value zs whole size within same numbers now differ others = record {
   inodes = λ number some high.
       let inside = inode_inside g sound number high in
-      inl (same_bit (edited_all g v.blocks (map (zone_bit g value) zs)) w.blocks (inode_place g number) (same (2 + number / 8192) (omega arith) (omega arith))
-      ∙ zones_away g sound value zs v.blocks whole size within (inode_place g number) (λ z i block at. (omega arith)), numbers number);
+      inl (
+        same_bit (edited_all g v.blocks (map (zone_bit g value) zs)) w.blocks (inode_place g number) (same (2 + number / 8192) (omega arith) (omega arith))
+            ∙ zones_away g sound value zs v.blocks whole size within (inode_place g number) (λ z i block at. (omega arith)),
+        numbers number,
+      );
   zones = λ zone low high.
       let inside = zone_inside g sound value zone low high in
       let read = same_bit (edited_all g v.blocks (map (zone_bit g value) zs)) w.blocks (zone_place g zone) (same (2 + g.imap + (zone - g.first + 1) / 8192) (omega arith) (omega arith)) in
       elim (in_zones zone zs) [
         | inl i ↦
             let here = read ∙ zones_here g sound value zs v.blocks whole size within zone i in
-            inr ((λ t. (now zone i).0 (sym here ∙ t)), (λ used. here ∙ (now zone i).1 used))
+            inr (((λ t. (now zone i).0 (sym here ∙ t)), (λ used. here ∙ (now zone i).1 used)), differ zone i)
         | inr out ↦
-            inl (read ∙ zones_away g sound value zs v.blocks whole size within (zone_place g zone)
-            (λ z i block at. out (subst (λ z. In z zs) (sym (zones_differ g sound value zone z low (within z i).0 block at)) i)), others zone out)
+            inl (
+              read ∙ zones_away g sound value zs v.blocks whole size within (zone_place g zone)
+                  (λ z i block at. out (subst (λ z. In z zs) (sym (zones_differ g sound value zone z low (within z i).0 block at)) i)),
+              others zone out,
+            )
       ];
   others = λ p low high at inode zone.
       same_bit (edited_all g v.blocks (map (zone_bit g value) zs)) w.blocks p (same p.block low high)
@@ -173,26 +179,29 @@ marks_zones g sound v w m n value zs whole size within same numbers now others =
 
 -- nothing of the maps changes
 pub marks_same : (g : Geometry) → IsSound g → (v w : Contents) (m : Zones) → IsWhole v.blocks → length v.blocks ≡ g.zones → SameMaps g v.blocks w.blocks → SameNumbers v.nodes w.nodes → KeepsMarks g v w m m
-marks_same g sound v w m whole size same numbers = marks_zones g sound v w m m true [] whole size (λ z i. absurd i) same numbers (λ z i. absurd i) (λ z out. ((λ u. u), (λ u. u)))
+marks_same g sound v w m whole size same numbers = marks_zones g sound v w m m true [] whole size (λ z i. absurd i) same numbers (λ z i. absurd i) (λ z i. absurd i) (λ z out. ((λ u. u), (λ u. u)))
 
 -- An inode comes into use, or goes.
 pub marks_inode : (g : Geometry) → IsSound g → (v w : Contents) (m : Zones) (number : ℕ) (value : Bool) → IsWhole v.blocks → length v.blocks ≡ g.zones → 0 < number → number ≤ g.inodes →
-    SameMaps g (edited g v.blocks (inode_bit number value)) w.blocks → ((value ≡ true) ↔ HasNumber w.nodes number) → ((other : ℕ) → other ≢ number → HasNumber w.nodes other ↔ HasNumber v.nodes other) → KeepsMarks g v w m m
-marks_inode g sound v w m number value whole size some high same now numbers = record {
+    SameMaps g (edited g v.blocks (inode_bit number value)) w.blocks → ((value ≡ true) ↔ HasNumber w.nodes number) → ((HasNumber w.nodes number ↔ HasNumber v.nodes number) → ⊥) → ((other : ℕ) → other ≢ number → HasNumber w.nodes other ↔ HasNumber v.nodes other) → KeepsMarks g v w m m
+marks_inode g sound v w m number value whole size some high same now differ numbers = record {
   inodes = λ other low most.
       let inside = inode_inside g sound other most in
       let read = same_bit (edited g v.blocks (inode_bit number value)) w.blocks (inode_place g other) (same (2 + other / 8192) (omega arith) (omega arith)) in
       elim (cases_eq other number) [
         | inl e ↦
             let here : has_bit w.blocks (inode_place g other) ≡ value = read ∙ bit_here g v.blocks whole 2 number value in_blocks (inode_place g other) (ap (λ k. 2 + k / 8192) e) (ap (λ k. k % 8192) e) in
-            inr ((λ t. subst (HasNumber w.nodes) (sym e) (now.0 (sym here ∙ t))), (λ has. here ∙ now.1 (subst (HasNumber w.nodes) e has)))
+            inr (((λ t. subst (HasNumber w.nodes) (sym e) (now.0 (sym here ∙ t))), (λ has. here ∙ now.1 (subst (HasNumber w.nodes) e has))), (λ alike. differ (subst (λ number. HasNumber w.nodes number ↔ HasNumber v.nodes number) e alike)))
         | inr far ↦ inl (read ∙ bit_away g v.blocks whole 2 number value in_blocks (inode_place g other) (λ block at. far (same_place other number (omega arith) at)), numbers other far)
       ];
   zones = λ zone low most.
       let inside = zone_inside g sound value zone low most in
       let first = inode_inside g sound number high in
-      inl (same_bit (edited g v.blocks (inode_bit number value)) w.blocks (zone_place g zone) (same (2 + g.imap + (zone - g.first + 1) / 8192) (omega arith) (omega arith))
-      ∙ bit_away g v.blocks whole 2 number value in_blocks (zone_place g zone) (λ block at. (omega arith)), ((λ u. u), (λ u. u)));
+      inl (
+        same_bit (edited g v.blocks (inode_bit number value)) w.blocks (zone_place g zone) (same (2 + g.imap + (zone - g.first + 1) / 8192) (omega arith) (omega arith))
+            ∙ bit_away g v.blocks whole 2 number value in_blocks (zone_place g zone) (λ block at. (omega arith)),
+        ((λ u. u), (λ u. u)),
+      );
   others = λ p low most at inode zone.
       same_bit (edited g v.blocks (inode_bit number value)) w.blocks p (same p.block low most)
       ∙ bit_away g v.blocks whole 2 number value in_blocks p (λ block at. inode number some high (place_same p (inode_place g number) block at));
@@ -203,15 +212,21 @@ marks_inode g sound v w m number value whole size some high same now numbers = r
 
 -- ---- one after the other
 
-marks_both : (bit between after : Bool) (Used Then Now : Type 0) → Marks bit Used between Then → Marks between Then after Now → Marks bit Used after Now
-marks_both bit between after Used Then Now h (inr says) = inr says
-marks_both bit between after Used Then Now (inl before) (inl same) = inl (same.0 ∙ before.0, ((λ now. before.1.0 (same.1.0 now)), (λ used. same.1.1 (before.1.1 used))))
-marks_both bit between after Used Then Now (inr says) (inl same) = inr ((λ t. same.1.1 (says.0 (sym same.0 ∙ t))), (λ now. same.0 ∙ says.1 (same.1.0 now)))
+marks_both : (bit between after : Bool) (Used Then Now : Type 0) → (((Then ↔ Used) → ⊥) → ((Now ↔ Then) → ⊥) → ⊥) → Marks bit Used between Then → Marks between Then after Now → Marks bit Used after Now
+marks_both bit between after Used Then Now once (inl before) (inl same) = inl (same.0 ∙ before.0, ((λ now. before.1.0 (same.1.0 now)), (λ used. same.1.1 (before.1.1 used))))
+marks_both bit between after Used Then Now once (inr says) (inl same) =
+    inr (((λ t. same.1.1 (says.0.0 (sym same.0 ∙ t))), (λ now. same.0 ∙ says.0.1 (same.1.0 now))), (λ alike. says.1 ((λ then. alike.0 (same.1.1 then)), (λ used. same.1.0 (alike.1 used)))))
+marks_both bit between after Used Then Now once (inl before) (inr says) = inr (says.0, (λ alike. says.1 ((λ now. before.1.1 (alike.0 now)), (λ then. alike.1 (before.1.0 then)))))
+marks_both bit between after Used Then Now once (inr first) (inr second) = absurd (once first.1 second.1)
 
-pub marks_then : (g : Geometry) (v w z : Contents) (m n o : Zones) → KeepsMarks g v w m n → KeepsMarks g w z n o → KeepsMarks g v z m o
-marks_then g v w z m n o h k = record {
-  inodes = λ number some high. marks_both _ _ _ _ _ _ (h.inodes number some high) (k.inodes number some high);
-  zones = λ zone low high. marks_both _ _ _ _ _ _ (h.zones zone low high) (k.zones zone low high);
+-- no zone comes into use and goes, or goes and comes again; nor does an inode
+pub marks_then : (g : Geometry) (v w z : Contents) (m n o : Zones) → KeepsMarks g v w m n → KeepsMarks g w z n o → SameNumbers v.nodes w.nodes ⊎ SameNumbers w.nodes z.nodes →
+    ((zone : ℕ) → g.first ≤ zone → zone < g.zones → (((state_of n zone ≡ Some states.Used) ↔ (state_of m zone ≡ Some states.Used)) → ⊥) → (((state_of o zone ≡ Some states.Used) ↔ (state_of n zone ≡ Some states.Used)) → ⊥) → ⊥) →
+    KeepsMarks g v z m o
+marks_then g v w z m n o h k numbers once = record {
+  inodes = λ number some high. marks_both _ _ _ _ _ _ (λ first second. ⊎_elim (λ (same : SameNumbers v.nodes w.nodes). first (same number)) (λ (same : SameNumbers w.nodes z.nodes). second (same number)) numbers)
+      (h.inodes number some high) (k.inodes number some high);
+  zones = λ zone low high. marks_both _ _ _ _ _ _ (once zone low high) (h.zones zone low high) (k.zones zone low high);
   others = λ p low high at inode zone. k.others p low high at inode zone ∙ h.others p low high at inode zone;
 }
 
@@ -226,8 +241,8 @@ numbers_come nodes n q none number other = (
         absurd (other (sym (ap (λ (q : Placed). q.number) one ∙ has.is)))
   ]),
   (λ has.
-  let far : has.birth ≢ n = λ e. none-some has.placed (sym none ∙ (ap (at_number nodes) (sym e) ∙ has.stands)) in
-  record { birth = has.birth; placed = has.placed; stands = at_put_number_apart nodes n q has.birth far ∙ has.stands; is = has.is }),
+      let far : has.birth ≢ n = λ e. none-some has.placed (sym none ∙ (ap (at_number nodes) (sym e) ∙ has.stands)) in
+      record { birth = has.birth; placed = has.placed; stands = at_put_number_apart nodes n q has.birth far ∙ has.stands; is = has.is }),
 )
 
 pub number_comes : (nodes : List (ℕ × Placed)) (n : ℕ) (q : Placed) → HasNumber (put_number nodes n q) q.number
@@ -251,8 +266,8 @@ module _ (nodes : List (ℕ × Placed)) (n : ℕ) (p : Placed) (sorted : IsStric
   numbers_stay number other = (
     (λ has. let old = was number has in record { birth = has.birth; placed = has.placed; stands = old.1; is = has.is }),
     (λ has.
-    let far : has.birth ≢ n = λ e. other (sym has.is ∙ ap (λ (p : Placed). p.number) (same_Some has.placed p (sym has.stands ∙ (ap (at_number nodes) e ∙ at)))) in
-    record { birth = has.birth; placed = has.placed; stands = at_without_apart nodes n has.birth sorted far ∙ has.stands; is = has.is }),
+        let far : has.birth ≢ n = λ e. other (sym has.is ∙ ap (λ (p : Placed). p.number) (same_Some has.placed p (sym has.stands ∙ (ap (at_number nodes) e ∙ at)))) in
+        record { birth = has.birth; placed = has.placed; stands = at_without_apart nodes n has.birth sorted far ∙ has.stands; is = has.is }),
   )
 
 -- ---- zones that are taken and given
@@ -261,12 +276,14 @@ pub marks_taken : (g : Geometry) → IsSound g → (v w : Contents) (m n : Zones
     SameMaps g (edited_all g v.blocks (map (zone_bit g true) zs)) w.blocks → SameNumbers v.nodes w.nodes → KeepsMarks g v w m n
 marks_taken g sound v w m n zs whole size within h same numbers = marks_zones g sound v w m n true zs whole size within same numbers
     (λ z i. ((λ t. h.now z i), (λ used. refl)))
+    (λ z i alike. free_used (sym (h.was z i) ∙ alike.0 (h.now z i)))
     (λ z out. ((λ used. sym (h.others z out) ∙ used), (λ used. h.others z out ∙ used)))
 
-pub marks_given : (tx : ℕ) (g : Geometry) → IsSound g → (v w : Contents) (m n : Zones) (zs : List ℕ) → IsWhole v.blocks → length v.blocks ≡ g.zones → AreZones g zs → AreGiven tx m n zs →
+pub marks_given : (tx : ℕ) (g : Geometry) → IsSound g → (v w : Contents) (m n : Zones) (zs : List ℕ) → IsWhole v.blocks → length v.blocks ≡ g.zones → AreZones g zs → AreGiven tx m n zs → ((z : ℕ) → In z zs → state_of m z ≡ Some states.Used) →
     SameMaps g (edited_all g v.blocks (map (zone_bit g false) zs)) w.blocks → SameNumbers v.nodes w.nodes → KeepsMarks g v w m n
-marks_given tx g sound v w m n zs whole size within h same numbers = marks_zones g sound v w m n false zs whole size within same numbers
+marks_given tx g sound v w m n zs whole size within h was same numbers = marks_zones g sound v w m n false zs whole size within same numbers
     (λ z i. ((λ t. absurd (false≢true t)), (λ used. absurd (waits_used (sym (h.now z i) ∙ used)))))
+    (λ z i alike. waits_used (sym (h.now z i) ∙ alike.1 (was z i)))
     (λ z out. ((λ used. sym (h.others z out) ∙ used), (λ used. h.others z out ∙ used)))
   where
     waits_used : ◌≡◌ {A = Option ZoneState} (Some (states.Quarantined tx)) (Some states.Used) → ⊥

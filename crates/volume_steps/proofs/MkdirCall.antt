@@ -1,6 +1,6 @@
 -- The call that makes a directory.
 use Rattle.std.specs.Prelude.{◌≡◌, ◌≢◌, ◌≤◌, ◌<◌, ◌-◌, ◌+◌, ◌==◌, ◌&&◌, ℕ, Bool, true, false, not, if◌then◌else◌, List, [], length, is_some, Some, None, option_map, Ok, refl}
-use Rattle.std.proofs.Common.{sym, ap, subst, inl, ⊎_elim, ◌∙◌, arith}
+use Rattle.std.proofs.Common.{sym, ap, subst, inl, inr, ⊎_elim, ◌∙◌, arith}
 use Rattle.std.proofs.lemmas.Option.{none-some, same_Some}
 use Rattle.tree_model.specs.declared.call.Call.TheVariants as calls
 use Rattle.tree_model.specs.declared.call.Reply.TheVariants as replies
@@ -26,8 +26,8 @@ use Rattle.volume_steps.specs.Plain.{IsPlainNow}
 use Rattle.volume_steps.proofs.Taking.{frees, one_taken}
 use Rattle.volume_steps.proofs.NewNumbers.{number_is_new}
 use Rattle.volume_steps.proofs.NewDirectories.{q, directory_made, make_directory_is, directory_made_tree, directory_made_steady, directory_made_settled, directory_made_slotted}
-use Rattle.volume_steps.proofs.AddNames.{name_comes, name_frees}
-use Rattle.volume_steps.proofs.QuietSteps.{linked, linked_steady, linked_directory, linked_settled, linked_slotted, set_links_is}
+use Rattle.volume_steps.proofs.AddNames.{name_comes, name_frees, name_numbers}
+use Rattle.volume_steps.proofs.QuietSteps.{linked, linked_steady, linked_directory, linked_settled, linked_slotted, set_links_is, linked_numbers}
 use Rattle.volume_steps.proofs.StepsTo.{StepsTo, joined, steps_then, links_at}
 use Rattle.volume_steps.proofs.CallPaths.{good_no_dot, good_entry, done_row, at_place_is, DirectoryAt, directory_at}
 use Rattle.volume_steps.proofs.DirectoryLinks.{AreLinked, linked_before, made_linked}
@@ -35,6 +35,7 @@ use Rattle.volume_steps.proofs.PlainNow.{tree_is_plain, settled_before, slotted_
 use Rattle.volume_steps.proofs.CallEnds.{IsDone, none_freed, birth_is_new, birth_not_root, done_plain, call_ends}
 use Rattle.volume_steps.proofs.CreateCall.{NewPlace, new_place}
 use Rattle.volume_steps.proofs.TreeSteps.{tree_length, tree_in_order, tree_none, tree_at, used_put_more, used_put_new}
+use Rattle.volume_steps.proofs.Marked.{SameNumbers, numbers_both}
 
 -- what the row says
 pub record Mkdirs (v : VolumeNow) (n : ℕ) (path : List ℕ) (d : Done) : Type 0 where
@@ -194,6 +195,13 @@ module _ (tx : ℕ) (v : VolumeNow) (h : IsPlainNow v) (n : ℕ) (before : AreBo
       (good_entry place.name child.number x.good new.some (let within = new.within in let fit = h.in_use.sound.fits.inodes in omega arith))
       first.settled first.slotted x.left more
 
+  name_same : SameNumbers v1.contents.nodes v2.contents.nodes
+  name_same =
+      let new = number_is_new v.geometry v.contents.nodes few in
+      name_numbers tx v1 first.steady.in_use place.parent x.at.placed at1 x.at.part x.at.is place.name n child child1 (λ e. apart (sym e)) x.free (good_no_dot place.name x.good)
+      (good_entry place.name child.number x.good new.some (let within = new.within in let fit = h.in_use.sound.fits.inodes in omega arith))
+      first.settled first.slotted x.left more
+
   -- the directory has one link more
   x2 : DirectoryAt v2 place.parent (with_name (directory_from x.at.part) place.name n)
   x2 = directory_at v2 place.parent (with_name (directory_from x.at.part) place.name n)
@@ -238,7 +246,8 @@ module _ (tx : ℕ) (v : VolumeNow) (h : IsPlainNow v) (n : ℕ) (before : AreBo
 
   whole : StepsTo tx v (joined made (joined named last)) d.tree (links_at last.volume.contents.nodes)
   whole = subst (λ tree. StepsTo tx v (joined made (joined named last)) tree (links_at last.volume.contents.nodes)) tree_all
-      (steps_then tx v made (joined named last) _ _ _ _ first (steps_then tx v1 named last _ _ _ _ second third (λ zone i used. absurd i) (λ y i. second_pages y i)) (λ zone i used. absurd (no_freed zone i)) (λ y i. i))
+      (steps_then tx v made (joined named last) _ _ _ _ first (steps_then tx v1 named last _ _ _ _ second third (λ zone i used. absurd i) (λ y i. second_pages y i) (inl name_same)) (λ zone i used. absurd (no_freed zone i)) (λ y i. i)
+      (inr (numbers_both v1.contents.nodes v2.contents.nodes last.volume.contents.nodes name_same (linked_numbers tx v2 second.steady.in_use place.parent x2.placed x2.stands (x2.placed.inode.links + 1) room_for_link))))
     where
       second_pages : (y : Page) → In y named.touched.pages → ⊥
       second_pages y i = (second.steady.told.pages_are_written y i).1

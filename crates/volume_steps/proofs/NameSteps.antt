@@ -216,6 +216,9 @@ module _ (tx : ℕ) (v : VolumeNow) (in_use : IsInUse v) (n : ℕ) (p : Placed) 
   taken_slotted old = slot_slotted v.geometry in_use.sound v.contents n p in_use.volume at d is k None next put (λ a r e found is apart. old a r e found is (λ z. z))
       (subst (HasSlotZones v.contents.blocks p.inode) (sym long) (old n p d at is (λ z. z)))
 
+  pub taken_numbers : SameNumbers v.contents.nodes taken.volume.contents.nodes
+  taken_numbers = slot_numbers v.geometry in_use.sound v.contents n p in_use.volume at d is k None next put
+
   pub take_name_is : take_name v n name ≡ taken
   take_name_is =
       at_directory_is v n p d (λ p d. elim (slice_get d.slots (place_of name d.slots)) as (λ _. Change) [ None ↦ unchanged v | Some o ↦ by p d o ]) at is

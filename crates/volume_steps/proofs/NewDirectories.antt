@@ -37,7 +37,7 @@ use Rattle.volume_steps.specs.Now.{VolumeNow, Change, tree_of_now}
 use Rattle.volume_steps.specs.Zones.{inode_bit, zone_bit, new_number, next_zone}
 use Rattle.volume_steps.specs.Steps.{new_directory_inode, new_directory_edits, dot_slots, make_directory}
 use Rattle.volume_steps.specs.Plain.{IsInUse}
-use Rattle.volume_steps.specs.laws.Steady.{IsSteady, KeepsMarks}
+use Rattle.volume_steps.specs.laws.Steady.{IsSteady, KeepsMarks, HasNumber}
 use Rattle.volume_steps.proofs.Together.{used_waits}
 use Rattle.volume_steps.proofs.Grows.{GrowsTo, TakesTo, grown_steady}
 use Rattle.volume_steps.proofs.NodeSteps.{IsSettled, AreSlotted}
@@ -404,13 +404,17 @@ module _ (tx : ℕ) (v : VolumeNow) (in_use : IsInUse v) (n : ℕ) (none : at_nu
         ]
       ]
 
+  not_before : HasNumber v.contents.nodes number → ⊥
+  not_before has = new.unused has.birth has.placed has.stands has.is
+
   made_marks : KeepsMarks g v.contents w v.zones (taken v.zones)
   made_marks = marks_then g v.contents with_inode w v.zones v.zones (taken v.zones)
       (marks_inode g in_use.sound v.contents with_inode v.zones number true in_use.volume.0.whole in_use.volume.0.size new.some new.within (λ b low high. refl)
-      ((λ t. number_comes v.contents.nodes n q), (λ has. refl)) (λ other apart. numbers_come v.contents.nodes n q none other apart))
+      ((λ t. number_comes v.contents.nodes n q), (λ has. refl)) (λ alike. not_before (alike.0 (number_comes v.contents.nodes n q))) (λ other apart. numbers_come v.contents.nodes n q none other apart))
       (marks_taken g in_use.sound with_inode w v.zones (taken v.zones) (zone ∷ []) c1.whole (c1.size ∙ in_use.volume.0.size) (λ z i. elim i [ inl e ↦ subst (λ z. (g.first ≤ z) × (z < g.zones)) e range | inr z ↦ absurd z ]) take
       (λ b low high. untouched g writes_after (edited g (edited g v.contents.blocks (inode_bit number true)) (zone_bit g true zone)) b (behind_maps b high))
       (numbers_same w.nodes w.nodes refl))
+      (inr (numbers_same w.nodes w.nodes refl)) (λ zone low high first second. first ((λ u. u), (λ u. u)))
 
   pub directory_made_steady : IsSteady tx v directory_made (λ birth index. ⊥)
   directory_made_steady = grown_steady tx v w (taken v.zones) blocks (zone ∷ []) (n ∷ []) in_use stands grows (takes_of_taken v.zones (taken v.zones) (zone ∷ []) take)

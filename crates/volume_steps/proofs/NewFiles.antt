@@ -25,7 +25,7 @@ use Rattle.volume_steps.specs.Now.{VolumeNow, tree_of_now}
 use Rattle.volume_steps.specs.Zones.{inode_bit, new_number}
 use Rattle.volume_steps.specs.Steps.{new_file_inode, make_file}
 use Rattle.volume_steps.specs.Plain.{IsInUse}
-use Rattle.volume_steps.specs.laws.Steady.{IsSteady}
+use Rattle.volume_steps.specs.laws.Steady.{IsSteady, HasNumber}
 use Rattle.volume_steps.proofs.Grows.{GrowsTo, takes_none, grown_steady}
 use Rattle.volume_steps.proofs.NodeSteps.{IsSettled, AreSlotted}
 use Rattle.volume_steps.proofs.NewNumbers.{IsNewNumber, number_is_new}
@@ -178,6 +178,9 @@ module _ (tx : ℕ) (v : VolumeNow) (in_use : IsInUse v) (n : ℕ) (none : at_nu
   unfolding file_zones mapped_groups
   no_zones = refl
 
+  not_before : HasNumber v.contents.nodes number → ⊥
+  not_before has = new.unused has.birth has.placed has.stands has.is
+
   pub file_made_steady : IsSteady tx v (make_file v n) (λ birth index. ⊥)
   file_made_steady = grown_steady tx v (come g v.contents after n q (λ _. ⊥) in_use.volume may) v.zones blocks [] (n ∷ []) in_use stands grows (takes_none v.zones)
       (let all = used_put_new (tree_of_now v) n new_file (tree_in_order v.contents.blocks v.contents.nodes in_use.volume.0.in_order) (tree_none v.contents.blocks v.contents.nodes n none) in
@@ -188,7 +191,7 @@ module _ (tx : ℕ) (v : VolumeNow) (in_use : IsInUse v) (n : ℕ) (none : at_nu
       (put_told g v.contents (come g v.contents after n q (λ _. ⊥) in_use.volume may) (make_file v n).touched n q refl (inl refl) (λ b i. elim i [ inl e ↦ sym e | inr z ↦ absurd z ]) (inr (inl refl)))
       (marks_inode g in_use.sound v.contents (come g v.contents after n q (λ _. ⊥) in_use.volume may) v.zones number true in_use.volume.0.whole in_use.volume.0.size new.some new.within
       (λ b low high. edited_elsewhere g bits (put_inode number new_file_inode) b (λ e. (let far = (table_below g number in_use.sound new.some new.within).0 in omega arith)))
-      ((λ t. number_comes v.contents.nodes n q), (λ has. refl)) (λ other apart. numbers_come v.contents.nodes n q none other apart))
+      ((λ t. number_comes v.contents.nodes n q), (λ has. refl)) (λ alike. not_before (alike.0 (number_comes v.contents.nodes n q))) (λ other apart. numbers_come v.contents.nodes n q none other apart))
 
   pub file_made_settled : IsSettled v.contents → (n ≡ 0 → ⊥) → IsSettled (make_file v n).volume.contents
   file_made_settled old apart = come_settled g v.contents after n q (λ _. ⊥) in_use.volume may old apart (λ zones is. omega arith) (omega arith) (λ d is. absurd (cc is))

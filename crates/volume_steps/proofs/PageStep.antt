@@ -1,6 +1,5 @@
 -- Bytes are put into a block of a file that has a zone, and steps that change nothing.
 use Rattle.std.specs.Prelude.{◌≡◌, ◌≢◌, ℕ, ◌<◌, ◌≤◌, List, [], length, Some, refl}
-use Rattle.std.specs.Map.{keys_of}
 use Rattle.std.proofs.Common.{sym, ap, subst, ◌∙◌, inl, inr, arith}
 use Rattle.std.proofs.lemmas.Bool.{cases_eq}
 use Rattle.std.proofs.lemmas.Option.{same_Some}
@@ -24,7 +23,6 @@ use Rattle.volume_model.specs.Trees.{node_now}
 use Rattle.volume_model.specs.Volume.{Place, block, zone_in, IsPart, IsFilePart, IsStored}
 use Rattle.volume_model.specs.laws.Changes.{changes_none}
 use Rattle.volume_model.specs.laws.Edits.{edited_here, edited_elsewhere}
-use Rattle.volume_model.specs.laws.Indexed.{keys_bodies}
 use Rattle.volume_model.specs.laws.MapBlock.{changes_zone}
 use Rattle.volume_model.specs.laws.OnWay.{just_same}
 use Rattle.volume_model.specs.laws.Written.{stored_kept}
@@ -37,7 +35,7 @@ use Rattle.volume_steps.proofs.Bits.{kept_tells, node_kept}
 use Rattle.volume_steps.proofs.FileSteps.{IsFileStep}
 use Rattle.volume_steps.proofs.Listed.{none_told}
 use Rattle.volume_steps.proofs.Taking.{lowest_none}
-use Rattle.volume_steps.proofs.Files.{bodies_put, file_now, node_is_file, node_zones_are, put_itself, tree_rewritten}
+use Rattle.volume_steps.proofs.Files.{bodies_put, node_is_file, node_zones_are, put_itself, tree_rewritten}
 use Rattle.volume_steps.proofs.NodeSteps.{zones_settled}
 use Rattle.volume_steps.proofs.TreeSteps.{tree_at, tree_in_order, used_put_same}
 use Rattle.volume_steps.proofs.Marked.{SameMaps, marks_same, numbers_same}
@@ -63,9 +61,7 @@ unchanged_step tx v h n f found = record {
   tree = sym (put_itself (tree_of_now v) n (nodes.File f) (tree_in_order v.contents.blocks v.contents.nodes h.volume.0.in_order) found);
   waiting = (omega arith);
   directories = λ a r d found file. found;
-  listed = inr (λ e there. (let same : f ≡ e = cc (sym found ∙ there) in (ap (λ (f : File). f.size) same, ap (λ (f : File). keys_of f.blocks) same)));
-  number = λ p q a b. ap (λ (p : Placed). p.number) (same_Some q p (sym b ∙ a));
-  tables = λ b i. absurd i;
+  numbers = numbers_same v.contents.nodes v.contents.nodes refl;
 }
 
 -- ---- a page is written
@@ -280,8 +276,5 @@ module _ (tx : ℕ) (v : VolumeNow) (h : IsInUse v) (n : ℕ) (p : Placed) (zone
     tree = tree;
     waiting = (omega arith);
     directories = λ a r d found file. found;
-    listed = inr (λ e there. (let same : file_now blocks p zones ≡ e = cc (sym (tree_at blocks v.contents.nodes n p at ∙ ap Some (node_is_file blocks p zones is part.rising)) ∙ there) in
-        (ap (λ (f : File). f.size) same, ap keys_of (sym bodies) ∙ (keys_bodies after zones ∙ (sym (keys_bodies blocks zones) ∙ ap (λ (f : File). keys_of f.blocks) same)))));
-    number = λ r q a b. ap (λ (p : Placed). p.number) (same_Some q r (sym b ∙ a));
-    tables = λ b i. absurd i;
+    numbers = numbers_same v.contents.nodes v.contents.nodes refl;
   }

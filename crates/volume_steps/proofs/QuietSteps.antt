@@ -36,7 +36,7 @@ use Rattle.volume_steps.proofs.Listed.{same_told}
 use Rattle.volume_steps.proofs.Grows.{GrowsTo, takes_none, grown_steady}
 use Rattle.volume_steps.proofs.NodeSteps.{MayGrow, IsSettled, AreSlotted, closed_grows, closed_maps, closed_numbers, closed_settled, closed_slotted, zones_settled}
 use Rattle.volume_steps.proofs.TreeSteps.{KeepsPages, grown_pages, tree_put, tree_at, tree_in_order, used_put_same, node_same}
-use Rattle.volume_steps.proofs.Marked.{marks_same}
+use Rattle.volume_steps.proofs.Marked.{marks_same, SameNumbers}
 
 -- ---- at a node
 
@@ -203,6 +203,9 @@ module _ (tx : ℕ) (v : VolumeNow) (in_use : IsInUse v) (n : ℕ) (p : Placed) 
   linked_slotted old = closed_slotted g in_use.sound v.contents n p in_use.volume at u p.part (λ _. ⊥) may (table_block g p.number ∷ []) [] grow
       (λ a r d found is apart. old a r d found is (λ z. z))
       (λ d is. zones_settled v.contents.blocks v.contents.blocks p.inode (with_links p.inode links) (length d.slots) (linked_zone v.contents.blocks p.inode links) (old n p d at is (λ z. z)))
+
+  pub linked_numbers : SameNumbers v.contents.nodes linked.volume.contents.nodes
+  linked_numbers = closed_numbers g in_use.sound v.contents n p in_use.volume at u p.part (λ _. ⊥) may (table_block g p.number ∷ []) [] grow
 
   pub set_links_is : (change : ℕ → ℕ) → change p.inode.links ≡ links → set_links v n change ≡ linked
   set_links_is change e =

@@ -2,13 +2,11 @@
 use Rattle.std.specs.Prelude.{◌≡◌, ◌≤◌, ◌<◌, ◌==◌, ℕ, if◌then◌else◌, List, [], ◌∷◌, Some, refl}
 use Rattle.std.proofs.Common.{sym, ap, subst, inl, inr, ◌∙◌, arith}
 use Rattle.std.proofs.lemmas.Bool.{cases_Bool, eqb-true}
-use Rattle.std.proofs.lemmas.Option.{same_Some}
 use Rattle.minix_layout.specs.declared.division.Geometry.{Geometry}
 use Rattle.minix_layout.specs.declared.inode.Inode.{Inode}
 use Rattle.tree_model.specs.declared.node.File.{File}
 use Rattle.tree_model.specs.declared.node.Node.TheVariants as nodes
 use Rattle.tree_model.specs.Maps.{at_number, put_number}
-use Rattle.tree_model.specs.laws.MapsLaws.{at_put_number}
 use Rattle.tree_model.specs.Calls.{node_zones}
 use Rattle.volume_ops.specs.declared.found.Mapped.{Mapped}
 use Rattle.volume_ops.specs.Places.{table_block, largest_size}
@@ -28,7 +26,7 @@ use Rattle.volume_steps.specs.Plain.{IsInUse}
 use Rattle.volume_steps.specs.Steps.{inode_put, resize, tells_node}
 use Rattle.volume_steps.proofs.FileSteps.{IsFileStep, IsFileAt, file_at}
 use Rattle.volume_steps.proofs.Files.{in_order_same, bodies_in_order, node_is_file}
-use Rattle.volume_steps.proofs.NodeSteps.{MayGrow, cases, closed_settled, closed_slotted}
+use Rattle.volume_steps.proofs.NodeSteps.{MayGrow, cases, closed_settled, closed_slotted, closed_numbers}
 use Rattle.volume_steps.proofs.PageStep.{unchanged_step}
 use Rattle.volume_steps.proofs.Listed.{put_told}
 use Rattle.volume_steps.proofs.QuietSteps.{at_node_is, quiet_pages, quiet_steady, quiet_tree}
@@ -124,14 +122,7 @@ module _ (tx : ℕ) (v : VolumeNow) (in_use : IsInUse v) (n : ℕ) (p : Placed) 
       | changed e same ↦ absurd (cc (sym is ∙ (ap (λ (r : Placed). r.part) same ∙ file)))
       | other apart was ↦ was
     ];
-    listed = inl (inl refl);
-    number = λ r s found after.
-        ap (λ (s : Placed). s.number) (same_Some s (record { number = p.number; inode = with_size p.inode size; part = p.part }) (sym after ∙ at_put_number v.contents.nodes n (record { number = p.number; inode = with_size p.inode size; part = p.part })))
-        ∙ ap (λ (r : Placed). r.number) (same_Some p r (sym at ∙ found));
-    tables = λ b i. elim i [
-      | inl e ↦ (sym e, λ r found. inl (ap (λ (r : Placed). table_block g r.number) (same_Some p r (sym at ∙ found))))
-      | inr z ↦ absurd z
-    ];
+    numbers = closed_numbers g in_use.sound v.contents n p in_use.volume at u p.part (λ _. ⊥) may written [] grow;
   }
 
 -- ---- the step

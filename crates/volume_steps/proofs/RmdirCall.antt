@@ -37,11 +37,12 @@ use Rattle.volume_steps.proofs.CallPaths.{done_row, at_place_is, at_path_is, Dir
 use Rattle.volume_steps.proofs.DirectoryLinks.{AreLinked, linked_before, links_same, links_take_name, leads_in, weigh_directory}
 use Rattle.volume_steps.proofs.Drops.{dropped_change, dropped_frees, drops}
 use Rattle.volume_steps.proofs.GoneDirectories.{lists_of_directory, count_of_directory}
-use Rattle.volume_steps.proofs.NameSteps.{taken, taken_steady, taken_tree, taken_settled, taken_slotted, take_name_is}
+use Rattle.volume_steps.proofs.NameSteps.{taken, taken_steady, taken_tree, taken_settled, taken_slotted, take_name_is, taken_numbers}
 use Rattle.volume_steps.proofs.PlainNow.{tree_is_plain, settled_before, slotted_before}
-use Rattle.volume_steps.proofs.QuietSteps.{at_node_is, linked, linked_steady, linked_directory, linked_settled, linked_slotted, set_links_is}
+use Rattle.volume_steps.proofs.QuietSteps.{at_node_is, linked, linked_steady, linked_directory, linked_settled, linked_slotted, set_links_is, linked_numbers}
 use Rattle.volume_steps.proofs.StepsTo.{StepsTo, joined, steps_then, links_at, links_put}
 use Rattle.volume_steps.proofs.TreeSteps.{tree_at}
+use Rattle.volume_steps.proofs.Marked.{SameNumbers}
 
 -- ---- the row
 
@@ -254,9 +255,15 @@ module _ (tx : ℕ) (v : VolumeNow) (h : IsPlainNow v) (n : ℕ) (before : AreBo
   tree_all : without_number (tree_of_now v2) birth ≡ d.tree
   tree_all = ap (λ tree. without_number tree birth) tree2 ∙ sym said.tree_is
 
+  same_first : SameNumbers v.contents.nodes v1.contents.nodes
+  same_first = taken_numbers tx v h.in_use place.parent x.placed x.stands x.part x.is place.name birth named sorted
+
+  same_second : SameNumbers v1.contents.nodes v2.contents.nodes
+  same_second = linked_numbers tx v1 first.steady.in_use place.parent x1.placed x1.stands (x1.placed.inode.links - 1) few
+
   whole : StepsTo tx v (joined less (joined unlinked gone)) d.tree (links_at gone.volume.contents.nodes)
   whole = subst (λ tree. StepsTo tx v (joined less (joined unlinked gone)) tree (links_at gone.volume.contents.nodes)) tree_all
-      (steps_then tx v less (joined unlinked gone) _ _ _ _ first (steps_then tx v1 unlinked gone _ _ _ _ second third (λ zone i used. used) (λ y i. i)) (λ zone i used. used) (λ y i. i))
+      (steps_then tx v less (joined unlinked gone) _ _ _ _ first (steps_then tx v1 unlinked gone _ _ _ _ second third (λ zone i used. used) (λ y i. i) (inl same_second)) (λ zone i used. used) (λ y i. i) (inl same_first))
 
   -- ---- links of directories
 

@@ -14,6 +14,7 @@ use Rattle.volume_steps.specs.laws.Steady.{IsSteady}
 use Rattle.volume_steps.proofs.Together.{steady_then, steady_as}
 use Rattle.volume_steps.proofs.Taking.{waits}
 use Rattle.volume_steps.proofs.NodeSteps.{IsSettled, AreSlotted}
+use Rattle.volume_steps.proofs.Marked.{SameNumbers}
 
 -- the links of a node, if it is there
 abbrev pub links_at : List (ℕ × Placed) → ℕ → Option ℕ
@@ -46,14 +47,15 @@ joined c d = record { volume = d.volume; touched = and_then c.touched d.touched 
 -- the second writes no page and frees only what was in use before the first
 pub steps_then : (tx : ℕ) (v : VolumeNow) (c d : Change) (between tree : Tree) (first links : ℕ → Option ℕ) → StepsTo tx v c between first → StepsTo tx c.volume d tree links →
     ((zone : ℕ) → In zone d.touched.freed → state_of c.volume.zones zone ≡ Some states.Used → state_of v.zones zone ≡ Some states.Used) →
-    ((x : Page) → In x c.touched.pages → ⊥) → StepsTo tx v (joined c d) tree links
-steps_then tx v c d between tree first links h k not_new no_page = record {
+    ((x : Page) → In x c.touched.pages → ⊥) →
+    SameNumbers v.contents.nodes c.volume.contents.nodes ⊎ SameNumbers c.volume.contents.nodes d.volume.contents.nodes → StepsTo tx v (joined c d) tree links
+steps_then tx v c d between tree first links h k not_new no_page numbers = record {
   steady = steady_as tx v (joined c d) (λ birth index. ⊥ ⊎ ⊥) (λ birth index. ⊥)
       (steady_then tx v c d (λ birth index. ⊥) (λ birth index. ⊥) h.steady k.steady (record {
         not_dropped = λ x i j. no_page x i;
         not_written = λ x y dropped i same also. (k.steady.told.pages_are_written y i).1;
         not_new = not_new;
-      }))
+      }) numbers)
       (λ birth index w. ⊎_elim (λ z. z) (λ z. z) w) (λ birth index z. inl z);
   tree_is = k.tree_is;
   settled = k.settled;

@@ -87,7 +87,7 @@ in_zones z (y ∷ ys) = elim (cases_eq y z) [
   | inr a ↦ elim (in_zones z ys) [ inl i ↦ inl (inr i) | inr n ↦ inr (λ i. elim i [ inl e ↦ a e | inr j ↦ n j ]) ]
 ]
 
-free_used : ◌≡◌ {A = Option ZoneState} (Some states.Free) (Some states.Used) → ⊥
+pub free_used : ◌≡◌ {A = Option ZoneState} (Some states.Free) (Some states.Used) → ⊥
 free_used e = cc
 
 pub none_taken : (m : Zones) → AreTaken m m []

@@ -1,6 +1,6 @@
 -- Two steps of a call, one after the other, as one step.
-use Rattle.std.specs.Prelude.{◌≡◌, ◌≤◌, ℕ, ◌⊎◌, Option, Some, refl}
-use Rattle.std.proofs.Common.{sym, subst, ⊎_elim, ◌∙◌, arith}
+use Rattle.std.specs.Prelude.{◌≡◌, ◌≢◌, ◌≤◌, ◌<◌, ◌-◌, ◌↔◌, ℕ, zero, suc, ◌⊎◌, List, [], ◌∷◌, length, Option, Some, None, refl}
+use Rattle.std.proofs.Common.{sym, subst, inl, inr, ⊎_elim, ◌∙◌, arith}
 use Rattle.blk_base.specs.Members.{In, In-append_left, In-append_right, In-append_cases}
 use Rattle.minix_layout.specs.declared.division.Geometry.{Geometry}
 use Rattle.zone_maps.specs.declared.zone_state.ZoneState.{ZoneState}
@@ -13,9 +13,12 @@ use Rattle.volume_model.specs.Plain.{HasZone}
 use Rattle.volume_model.specs.laws.Touched.{tells_then}
 use Rattle.volume_steps.specs.Now.{VolumeNow, Change}
 use Rattle.volume_steps.specs.laws.Steady.{IsSteady, TellsNodes, KeepsMarks}
-use Rattle.volume_steps.proofs.Taking.{lowest_then}
+use Rattle.volume_steps.proofs.Taking.{lowest_then, free_used, in_zones}
 use Rattle.volume_steps.proofs.Listed.{nodes_then}
-use Rattle.volume_steps.proofs.Marked.{marks_then}
+use Rattle.volume_steps.proofs.Marked.{SameNumbers, marks_then}
+use Rattle.std.specs.List.{slice_get}
+use Rattle.zone_maps.specs.laws.States.{state_above}
+use Rattle.volume_steps.specs.Plain.{IsInUse}
 
 -- ---- what is metadata has a zone, or stands before the zones
 
@@ -61,6 +64,27 @@ steady_as tx v c Writes More h there back = record {
   waited = h.waited;
 }
 
+-- ---- states of zones
+
+-- each zone of data of a volume in use has a state
+pub zone_state : (v : VolumeNow) → IsInUse v → (zone : ℕ) → v.geometry.first ≤ zone → zone < v.geometry.zones → (s : ZoneState) × (state_of v.zones zone ≡ Some s)
+zone_state v h zone low high =
+    let first = h.first in
+    let size = h.size in
+    let w = there v.zones.states (zone - v.zones.first) (omega arith) in
+    (w.0, state_above v.zones zone (omega arith) ∙ w.1)
+  where
+    there : (zs : List ZoneState) (k : ℕ) → k < length zs → (s : ZoneState) × (slice_get zs k ≡ Some s)
+    there [] k low = absurd (omega arith)
+    there (z ∷ zs) zero low = (z, refl)
+    there (z ∷ zs) (suc k) low = there zs k (omega arith)
+
+used_or : (o : Option ZoneState) → (o ≡ Some states.Used) ⊎ (o ≢ Some states.Used)
+used_or None = inr (λ e. cc e)
+used_or (Some states.Free) = inr (λ e. cc e)
+used_or (Some states.Used) = inl refl
+used_or (Some (states.Quarantined tx)) = inr (λ e. cc e)
+
 -- ---- one after the other
 
 -- What the second step may not do: drop or write again what the first wrote or dropped, and free what the first took.
@@ -69,7 +93,8 @@ pub record ComesAfter (v w : VolumeNow) (s t : Touched) : Type 0 where
   pub not_written : (x y : Page) → In x s.dropped → In y t.pages → y.birth ≡ x.birth → y.index ≡ x.index → ⊥
   pub not_new : (zone : ℕ) → In zone t.freed → state_of w.zones zone ≡ Some states.Used → state_of v.zones zone ≡ Some states.Used
 
-module _ (tx : ℕ) (v : VolumeNow) (c d : Change) (Writes More : ℕ → ℕ → Type 0) (h : IsSteady tx v c Writes) (k : IsSteady tx c.volume d More) (after : ComesAfter v c.volume c.touched d.touched) where
+module _ (tx : ℕ) (v : VolumeNow) (c d : Change) (Writes More : ℕ → ℕ → Type 0) (h : IsSteady tx v c Writes) (k : IsSteady tx c.volume d More) (after : ComesAfter v c.volume c.touched d.touched)
+    (numbers : SameNumbers v.contents.nodes c.volume.contents.nodes ⊎ SameNumbers c.volume.contents.nodes d.volume.contents.nodes) where
   -- what the first revoked waits, so the second has it nowhere
   not_taken : (b : ℕ) → In b c.touched.revoked → In b d.touched.blocks → ⊥
   not_taken b gone taken =
@@ -94,6 +119,38 @@ module _ (tx : ℕ) (v : VolumeNow) (c d : Change) (Writes More : ℕ → ℕ �
         (page_before (record { birth = x.birth; index = x.index; zone = zone }) page (λ y i same also. after.not_written x y dropped i same also));
   }
 
+  -- each zone comes into use or goes at most once
+  once : (zone : ℕ) → v.geometry.first ≤ zone → zone < v.geometry.zones → (((state_of c.volume.zones zone ≡ Some states.Used) ↔ (state_of v.zones zone ≡ Some states.Used)) → ⊥) →
+      (((state_of d.volume.zones zone ≡ Some states.Used) ↔ (state_of c.volume.zones zone ≡ Some states.Used)) → ⊥) → ⊥
+  once zone low high first second =
+      let between = zone_state c.volume h.in_use zone (subst (λ (g : Geometry). g.first ≤ zone) (sym h.geometry) low) (subst (λ (g : Geometry). zone < g.zones) (sym h.geometry) high) in
+      by between.0 between.1
+    where
+      by : (s : ZoneState) → state_of c.volume.zones zone ≡ Some s → ⊥
+      by states.Free e = ⊎_elim
+          (λ used. free_used (sym (h.lowest.was_free zone e) ∙ used))
+          (λ other. first ((λ u. absurd (free_used (sym e ∙ u))), (λ u. absurd (other u))))
+          (used_or (state_of v.zones zone))
+      by (states.Quarantined holder) e = ⊎_elim
+          (λ used. used_waits holder (sym used ∙ k.waits_on zone holder e))
+          (λ other. second ((λ u. absurd (other u)), (λ u. absurd (used_waits holder (sym u ∙ e)))))
+          (used_or (state_of d.volume.zones zone))
+      by states.Used e =
+          let place : d.volume.geometry ≡ v.geometry = k.geometry ∙ h.geometry in
+          let last = zone_state d.volume k.in_use zone (subst (λ (g : Geometry). g.first ≤ zone) (sym place) low) (subst (λ (g : Geometry). zone < g.zones) (sym place) high) in
+          ⊎_elim
+          (λ used. first ((λ u. used), (λ u. e)))
+          (λ other. end other last.0 last.1)
+          (used_or (state_of v.zones zone))
+        where
+          end : (state_of v.zones zone ≢ Some states.Used) → (s : ZoneState) → state_of d.volume.zones zone ≡ Some s → ⊥
+          end other states.Free f = free_used (sym (k.lowest.was_free zone f) ∙ e)
+          end other states.Used f = second ((λ u. e), (λ u. f))
+          end other (states.Quarantined holder) f = ⊎_elim
+              (λ i. other (after.not_new zone i e))
+              (λ out. used_waits holder (sym e ∙ k.waited zone holder out f))
+              (in_zones zone d.touched.freed)
+
   abbrev both : Change
   both = record { volume = d.volume; touched = and_then c.touched d.touched }
 
@@ -107,7 +164,7 @@ module _ (tx : ℕ) (v : VolumeNow) (c d : Change) (Writes More : ℕ → ℕ �
         (subst (λ g. TellsNodes g c.volume.contents d.volume.contents d.touched) h.geometry k.nodes);
     lowest = lowest_then v.zones c.volume.zones d.volume.zones h.lowest k.lowest;
     marks = marks_then v.geometry v.contents c.volume.contents d.volume.contents v.zones c.volume.zones d.volume.zones h.marks
-        (subst (λ g. KeepsMarks g c.volume.contents d.volume.contents c.volume.zones d.volume.zones) h.geometry k.marks);
+        (subst (λ g. KeepsMarks g c.volume.contents d.volume.contents c.volume.zones d.volume.zones) h.geometry k.marks) numbers once;
     freed = λ zone i. ⊎_elim (λ first. k.waits_on zone tx (h.freed zone first)) (λ second. k.freed zone second) (In-append_cases c.touched.freed d.touched.freed zone i);
     was_used = λ zone i. ⊎_elim (λ first. h.was_used zone first) (λ second. after.not_new zone second (k.was_used zone second)) (In-append_cases c.touched.freed d.touched.freed zone i);
     waits_on = λ zone holder waits. k.waits_on zone holder (h.waits_on zone holder waits);

@@ -28,7 +28,7 @@ use Rattle.volume_steps.specs.Plain.{IsInUse}
 use Rattle.volume_steps.specs.Steps.{clear_tail, cut_blocks, inode_put, put_page, resize, tells_node}
 use Rattle.volume_steps.proofs.Taking.{frees}
 use Rattle.volume_steps.proofs.CutStep.{IsCutStep, with_blocks_below, cut_blocks_step}
-use Rattle.volume_steps.proofs.FileSteps.{IsFileStep, listed_then, number_then, tables_then, IsFileAt, file_at, at_file_is, file_stands}
+use Rattle.volume_steps.proofs.FileSteps.{IsFileStep, IsFileAt, file_at, at_file_is, file_stands}
 use Rattle.volume_steps.proofs.Files.{bodies_in_order, maps_same, put_twice}
 use Rattle.volume_steps.proofs.PageStep.{page_step, unchanged_step}
 use Rattle.volume_steps.proofs.ResizeStep.{with_file_size, resize_step}
@@ -36,6 +36,7 @@ use Rattle.volume_steps.proofs.Together.{steady_then}
 use Rattle.volume_steps.proofs.TreeSteps.{tree_in_order}
 use Rattle.volume_steps.proofs.WriteCall.{at_path_is, IsFilePut, file_put}
 use Rattle.volume_steps.proofs.WriteSteps.{IsWriteStep, with_block, none_at, body_at, writes_then, write_as, same_in}
+use Rattle.volume_steps.proofs.Marked.{numbers_both}
 
 -- ---- entries below an index
 
@@ -243,7 +244,7 @@ module _ (tx : ℕ) (v : VolumeNow) (h : IsInUse v) (n from : ℕ) (c d : Change
       not_dropped = λ x i j. same_in c.touched.pages one.no_pages x i;
       not_written = λ x y i j same also. (let gone = one.dropped x i in let low = under y.birth y.index (two.step.steady.told.pages_are_written y j).1 in let high = gone.1 in omega arith);
       not_new = λ zone i used. absurd (same_in d.touched.freed two.none_freed zone i);
-    });
+    }) (inl one.step.numbers);
     settled = λ old. two.step.settled (one.step.settled old);
     slotted = λ old. two.step.slotted (one.step.slotted old);
     tree = two.step.tree ∙ (ap (λ tree. put_number tree n (nodes.File e)) one.step.tree ∙ put_twice (tree_of_now v) n (nodes.File f) (nodes.File e) (tree_in_order v.contents.blocks v.contents.nodes h.volume.0.in_order));
@@ -254,9 +255,7 @@ module _ (tx : ℕ) (v : VolumeNow) (h : IsInUse v) (n from : ℕ) (c d : Change
         let all = length-append c.touched.freed d.touched.freed in
         omega arith;
     directories = λ a r e found file. one.step.directories a r e (two.step.directories a r e found file) file;
-    listed = listed_then tx v n c d f e (λ birth index. ⊥) one.step two.step.listed;
-    number = number_then tx v d.volume n c f (λ birth index. ⊥) one.step two.step.number;
-    tables = tables_then tx v n c d f (λ birth index. ⊥) one.step two.step.tables;
+    numbers = numbers_both v.contents.nodes c.volume.contents.nodes d.volume.contents.nodes one.step.numbers two.step.numbers;
   }
 
 -- ---- zones that stay

@@ -36,7 +36,7 @@ use Rattle.volume_steps.specs.Calls.{unlink, lose_link as lose_link_step, at_pat
 use Rattle.volume_steps.specs.Plain.{IsPlainNow}
 use Rattle.volume_steps.proofs.Drops.{dropped_change, dropped_frees, drops}
 use Rattle.volume_steps.proofs.GoneFiles.{lists_of_file, count_of_file}
-use Rattle.volume_steps.proofs.NameSteps.{taken, taken_steady, taken_tree, taken_settled, taken_slotted, take_name_is}
+use Rattle.volume_steps.proofs.NameSteps.{taken, taken_steady, taken_tree, taken_settled, taken_slotted, take_name_is, taken_numbers}
 use Rattle.volume_steps.proofs.QuietSteps.{at_node_is, linked, linked_steady, linked_file, linked_settled, linked_slotted, set_links_is}
 use Rattle.volume_steps.proofs.StepsTo.{StepsTo, joined, steps_then, links_at, links_put}
 use Rattle.volume_steps.proofs.CallPaths.{done_row, at_place_is, at_path_is, DirectoryAt, directory_at}
@@ -45,6 +45,7 @@ use Rattle.volume_steps.proofs.PlainNow.{tree_is_plain, settled_before, slotted_
 use Rattle.volume_steps.proofs.CallEnds.{IsDone, done_plain, call_ends}
 use Rattle.volume_steps.proofs.LinkCall.{FileAt, file_found}
 use Rattle.volume_steps.proofs.TreeSteps.{tree_at}
+use Rattle.volume_steps.proofs.Marked.{SameNumbers}
 
 -- the parent of each directory of a plain tree is a directory
 pub parent_there : (tree : Tree) → IsPlain tree → (a : ℕ) (d : Directory) → at_number tree a ≡ Some (nodes.Directory d) → (e : Directory) × (at_number tree d.parent ≡ Some (nodes.Directory e))
@@ -153,6 +154,9 @@ module _ (tx : ℕ) (v : VolumeNow) (h : IsPlainNow v) (n : ℕ) (before : AreBo
   stands1 : at_number (tree_of_now v1) birth ≡ Some (nodes.File said.file)
   stands1 = ap (λ tree. at_number tree birth) first.tree_is ∙ (at_put_number_apart (tree_of_now v) place.parent (nodes.Directory (without_name place.directory place.name)) birth apart ∙ file_stands)
 
+  same_first : SameNumbers v.contents.nodes v1.contents.nodes
+  same_first = taken_numbers tx v h.in_use place.parent x.placed x.stands x.part x.is place.name birth named sorted
+
   -- ---- it keeps another name
 
   few : y.placed.inode.links - 1 ≤ 250
@@ -256,7 +260,7 @@ module _ (tx : ℕ) (v : VolumeNow) (h : IsPlainNow v) (n : ℕ) (before : AreBo
       (sym (unlink_is ∙ (ap (λ (b : Bool). joined less (if b then drop_node v1 tx birth else set_links v1 birth (λ links. links - 1))) (ap (λ k. nat_le k 1) y.links_are ∙ more)
       ∙ ap (λ c. joined less c) (set_links_is tx v1 first.steady.in_use birth y.placed at1 (y.placed.inode.links - 1) few (λ links. links - 1) refl))))
       (subst (λ tree. IsDone tx v (joined less kept) tree) tree_all
-      (call_ends tx v (joined less kept) _ _ (steps_then tx v less kept _ _ _ _ first kept_step (λ zone i used. used) (λ y i. i)) (subst IsPlain (sym tree_all) plain_after)
+      (call_ends tx v (joined less kept) _ _ (steps_then tx v less kept _ _ _ _ first kept_step (λ zone i used. used) (λ y i. i) (inl same_first)) (subst IsPlain (sym tree_all) plain_after)
       (subst (λ tree. AreLinked tree (links_at kept.volume.contents.nodes)) (ap (λ tree. put_file tree birth (with_links said.file (said.file.links - 1))) (sym first.tree_is))
       (links_all (put_file tree1 birth (with_links said.file (said.file.links - 1))) (links_at kept.volume.contents.nodes) kinds was))
       (inl refl)))
@@ -281,7 +285,7 @@ module _ (tx : ℕ) (v : VolumeNow) (h : IsPlainNow v) (n : ℕ) (before : AreBo
       (sym (unlink_is ∙ (ap (λ (b : Bool). joined less (if b then drop_node v1 tx birth else set_links v1 birth (λ links. links - 1))) (ap (λ k. nat_le k 1) y.links_are ∙ none)
       ∙ ap (λ c. joined less c) (at_node_is v1 birth y.placed dropped_of at1))))
       (subst (λ tree. IsDone tx v (joined less (gone last)) tree) tree_all
-      (call_ends tx v (joined less (gone last)) _ _ (steps_then tx v less (gone last) _ _ _ _ first (gone_step last) (λ zone i used. used) (λ y i. i)) (subst IsPlain (sym tree_all) plain_after)
+      (call_ends tx v (joined less (gone last)) _ _ (steps_then tx v less (gone last) _ _ _ _ first (gone_step last) (λ zone i used. used) (λ y i. i) (inl same_first)) (subst IsPlain (sym tree_all) plain_after)
       (subst (λ tree. AreLinked tree (links_at (gone last).volume.contents.nodes)) (ap (λ tree. without_number tree birth) (sym first.tree_is))
       (links_all (without_number tree1 birth) (links_at (gone last).volume.contents.nodes) kinds was))
       (inr (dropped_frees tx v1 first.steady.in_use birth y.placed at1 (block_zones v1.contents y.placed y.placed.part ++ all_numbers v1.contents y.placed) (metadata_gone v1.contents y.placed y.placed.part) (pages_gone birth y.placed.part)

@@ -1,6 +1,8 @@
 //! Laws of calls on a volume, and of releases. Each does nothing when it is called.
-ghost use Rattle.std.specs.Prelude.{◌≡◌, ◌≢◌, ℕ, ◌+◌, false, true, List, [], ◌∷◌, length, Some, Ok, Err, count_by};
+ghost use Rattle.std.specs.Prelude.{◌≡◌, ◌≢◌, ◌≤◌, ◌<◌, ◌↔◌, ℕ, ◌+◌, false, true, List, [], ◌∷◌, length, Some, Ok, Err, count_by};
 ghost use Rattle.blk_base.specs.Members.{In};
+ghost use Rattle.minix_layout.specs.declared.bits.BitPlace.{BitPlace};
+ghost use Rattle.minix_layout.specs.Bits.{has_bit, inode_bit, zone_bit};
 ghost use Rattle.tree_model.specs.declared.call.Call.{Call};
 ghost use Rattle.tree_model.specs.declared.call.Reply.{Reply};
 ghost use Rattle.tree_model.specs.Calls.{Done, outcome, tree_after, needs, used_zones};
@@ -14,7 +16,7 @@ ghost use Rattle.volume_steps.specs.Now.{VolumeNow, tree_of_now, room_of, unchan
 ghost use Rattle.volume_steps.specs.Plain.{IsPlainNow, is_of_bytes};
 ghost use Rattle.volume_steps.specs.Calls.{called, after_release};
 ghost use Rattle.volume_steps.specs.laws.Called.{FindsRoom};
-ghost use Rattle.volume_steps.specs.laws.Steady.{IsSteady, TakesLowest, shape_at};
+ghost use Rattle.volume_steps.specs.laws.Steady.{HasNumber, IsSteady, TakesLowest, shape_at};
 ghost use Rattle.volume_steps.specs.Sample.{small_volume, after_calls, touched_in, count_once, numbers_of, first_zones, first_session, removing_session, ten_directories};
 
 /// A law, which does nothing when it is called: a call that the tree refuses changes nothing and touches nothing.
@@ -87,6 +89,39 @@ pub fn calls_take_what_they_need()
         count_by is_free (called v n tx c).change.volume.zones.states +
         used_zones (tree_of_now (called v n tx c).change.volume) + length (called v n tx c).change.touched.freed ≡
         count_by is_free v.zones.states + used_zones (tree_of_now v) }
+{}
+
+/// A law, which does nothing when it is called: a call keeps both maps. The bit of each zone and of each inode that it
+/// took is set, that of each that it freed is clear, and no other bit changes.
+pub fn calls_mark_what_is_in_use()
+    ensures taken_zones { (v : VolumeNow) (n tx : ℕ) (c : Call) → FindsRoom v n c → (zone : ℕ) →
+        state_of v.zones zone ≢ Some states.Used →
+        state_of (called v n tx c).change.volume.zones zone ≡ Some states.Used →
+        has_bit (called v n tx c).change.volume.contents.blocks (zone_bit v.geometry zone) ≡ true }
+    ensures freed_zones { (v : VolumeNow) (n tx : ℕ) (c : Call) → FindsRoom v n c → (zone : ℕ) →
+        In zone (called v n tx c).change.touched.freed →
+        has_bit (called v n tx c).change.volume.contents.blocks (zone_bit v.geometry zone) ≡ false }
+    ensures other_zones { (v : VolumeNow) (n tx : ℕ) (c : Call) → FindsRoom v n c → (zone : ℕ) →
+        v.geometry.first ≤ zone → zone < v.geometry.zones →
+        (state_of (called v n tx c).change.volume.zones zone ≡ Some states.Used) ↔ (state_of v.zones zone ≡ Some states.Used) →
+        has_bit (called v n tx c).change.volume.contents.blocks (zone_bit v.geometry zone) ≡
+        has_bit v.contents.blocks (zone_bit v.geometry zone) }
+    ensures taken_inodes { (v : VolumeNow) (n tx : ℕ) (c : Call) → FindsRoom v n c → (number : ℕ) →
+        (HasNumber v.contents.nodes number → ⊥) → HasNumber (called v n tx c).change.volume.contents.nodes number →
+        has_bit (called v n tx c).change.volume.contents.blocks (inode_bit v.geometry number) ≡ true }
+    ensures freed_inodes { (v : VolumeNow) (n tx : ℕ) (c : Call) → FindsRoom v n c → (number : ℕ) →
+        HasNumber v.contents.nodes number → (HasNumber (called v n tx c).change.volume.contents.nodes number → ⊥) →
+        has_bit (called v n tx c).change.volume.contents.blocks (inode_bit v.geometry number) ≡ false }
+    ensures other_inodes { (v : VolumeNow) (n tx : ℕ) (c : Call) → FindsRoom v n c → (number : ℕ) →
+        0 < number → number ≤ v.geometry.inodes →
+        HasNumber (called v n tx c).change.volume.contents.nodes number ↔ HasNumber v.contents.nodes number →
+        has_bit (called v n tx c).change.volume.contents.blocks (inode_bit v.geometry number) ≡
+        has_bit v.contents.blocks (inode_bit v.geometry number) }
+    ensures other_bits { (v : VolumeNow) (n tx : ℕ) (c : Call) → FindsRoom v n c → (p : BitPlace) →
+        2 ≤ p.block → p.block < 2 + v.geometry.imap + v.geometry.zmap → p.at < 8192 →
+        ((number : ℕ) → 0 < number → number ≤ v.geometry.inodes → p ≢ inode_bit v.geometry number) →
+        ((zone : ℕ) → v.geometry.first ≤ zone → zone < v.geometry.zones → p ≢ zone_bit v.geometry zone) →
+        has_bit (called v n tx c).change.volume.contents.blocks p ≡ has_bit v.contents.blocks p }
 {}
 
 /// A law, which does nothing when it is called: a release keeps a plain volume plain, with its tree and all its blocks.

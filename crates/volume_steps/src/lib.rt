@@ -11,7 +11,7 @@
 mod laws;
 
 pub use laws::{
-    calls_do_the_tree_step, calls_keep_volumes_plain, calls_take_what_they_need,
-    calls_tell_what_they_touch, examples_of_changes, refused_calls_change_nothing,
-    releases_only_free,
+    calls_do_the_tree_step, calls_keep_volumes_plain, calls_mark_what_is_in_use,
+    calls_take_what_they_need, calls_tell_what_they_touch, examples_of_changes,
+    refused_calls_change_nothing, releases_only_free,
 };

@@ -43,9 +43,9 @@ pub record HasNumber (nodes : List (ℕ × Placed)) (number : ℕ) : Type 0 wher
   pub stands : at_number nodes birth ≡ Some placed
   pub is : placed.number ≡ number
 
--- A bit and what it stands for: neither changes, or the bit says it afterwards.
+-- A bit and what it stands for: neither changes; or that changes, and the bit says it afterwards.
 abbrev pub Marks : Bool → Type 0 → Bool → Type 0 → Type 0
-Marks bit Used after Now = ((after ≡ bit) × (Now ↔ Used)) ⊎ ((after ≡ true) ↔ Now)
+Marks bit Used after Now = ((after ≡ bit) × (Now ↔ Used)) ⊎ (((after ≡ true) ↔ Now) × ((Now ↔ Used) → ⊥))
 
 -- The bits of inodes and of zones mark which are in use, and no other bit of the maps changes.
 pub record KeepsMarks (g : Geometry) (v w : Contents) (m n : Zones) : Type 0 where
