@@ -1,5 +1,5 @@
 -- A node without a name goes, and its zones wait for the transaction: what this keeps and tells.
-use Rattle.std.specs.Prelude.{◌≡◌, ◌≢◌, ◌≤◌, ◌<◌, ℕ, ◌⊎◌, Bool, true, false, List, [], ◌∷◌, ◌++◌, map, length, Some, refl}
+use Rattle.std.specs.Prelude.{◌≡◌, ◌≢◌, ◌≤◌, ◌<◌, ℕ, ◌⊎◌, Bool, true, false, List, [], ◌∷◌, ◌++◌, length, Some, refl}
 use Rattle.std.proofs.Common.{sym, ap, subst, inl, inr, ⊎_elim, ◌∙◌, arith}
 use Rattle.std.proofs.lemmas.Bool.{cases_eq, false≢true}
 use Rattle.std.proofs.lemmas.Option.{same_Some, none-some}
@@ -26,8 +26,9 @@ use Rattle.volume_model.specs.Moves.{IsVolume, zero_inode, node_removed}
 use Rattle.volume_model.specs.Touched.{Contents, Touched, Page, Tells, IsMeta, of_tables, of_numbers, of_directory, HasPage}
 use Rattle.volume_model.specs.Trees.{node_now}
 use Rattle.volume_steps.specs.Now.{VolumeNow, Change, tree_of_now, written}
-use Rattle.volume_steps.specs.Zones.{inode_bit, zone_bit, all_given}
+use Rattle.volume_steps.specs.Zones.{inode_bit, all_given}
 use Rattle.volume_steps.specs.Plain.{IsInUse}
+use Rattle.volume_steps.specs.Steps.{drop_edits}
 use Rattle.volume_steps.specs.laws.Steady.{IsSteady, KeepsMarks}
 use Rattle.volume_steps.proofs.Together.{used_waits}
 use Rattle.volume_steps.proofs.Bits.{ChangesNone, AreZones, bits_change, bits_before, kept_zone, kept_volume}
@@ -60,7 +61,7 @@ module _ (tx : ℕ) (v : VolumeNow) (in_use : IsInUse v) (n : ℕ) (p : Placed) 
   own x = zone_in v.contents.blocks p.inode x
 
   abbrev es : List Edit
-  es = inode_bit p.number false ∷ map (zone_bit g false) gone
+  es = drop_edits g p gone
 
   abbrev c : Contents
   c = written g v.contents es
@@ -77,7 +78,7 @@ module _ (tx : ℕ) (v : VolumeNow) (in_use : IsInUse v) (n : ℕ) (p : Placed) 
       let within = told.within in
       let room = in_use.sound.inode_bits in
       let one = changes_bit g v.contents.blocks 2 p.number false in_use.sound in_use.volume.0.whole in_use.volume.0.size (omega arith) in
-      let rest = bits_change g in_use.sound false gone (edited g v.contents.blocks (inode_bit p.number false)) one.whole (one.size ∙ in_use.volume.0.size) gone_zones in
+      let rest = bits_change g in_use.sound _ gone (edited g v.contents.blocks (inode_bit p.number false)) one.whole (one.size ∙ in_use.volume.0.size) gone_zones in
       changes_wider g (λ j i. elim i [ inl z ↦ z | inr z ↦ z ]) (λ b i. elim i [ inl z ↦ z | inr z ↦ z ]) (changes_then g one rest)
 
   volume : IsVolume g c
@@ -121,7 +122,7 @@ module _ (tx : ℕ) (v : VolumeNow) (in_use : IsInUse v) (n : ℕ) (p : Placed) 
             let room = in_use.sound.inode_bits in
             let tables = in_use.sound.tables_below in
             ((omega arith), (omega arith))
-        | inr k ↦ bits_before g in_use.sound false gone gone_zones b k
+        | inr k ↦ bits_before g in_use.sound _ gone gone_zones b k
       ])
       (λ j. elim j [ inl e ↦ (let t = table_low in let low = t.0 in let high = t.1 in ((omega arith), (omega arith))) | inr z ↦ absurd z ])
       (In-append_cases (touched_by_all g es) (table_block g p.number ∷ []) b i)

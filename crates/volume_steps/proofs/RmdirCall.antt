@@ -1,7 +1,7 @@
 -- The call that removes a directory without names.
 use Rattle.std.specs.List.Sorted.{IsStrictlySortedBy}
 use Rattle.std.specs.Map.{keys_of}
-use Rattle.std.specs.Prelude.{◌≡◌, ◌≢◌, ◌≤◌, ◌-◌, ◌+◌, ℕ, ◌==◌, not, Bool, true, false, List, [], ◌∷◌, ◌++◌, length, map, is_some, Option, Some, option_map, Ok, refl}
+use Rattle.std.specs.Prelude.{◌≡◌, ◌≢◌, ◌≤◌, ◌-◌, ◌+◌, ℕ, ◌==◌, not, Bool, true, false, List, [], ◌∷◌, ◌++◌, length, is_some, Option, Some, option_map, Ok, refl}
 use Rattle.std.proofs.Common.{sym, ap, subst, ◌∙◌, inl, inr, arith}
 use Rattle.std.proofs.lemmas.Bool.{cases_eq, eqb-true, false≢true}
 use Rattle.std.proofs.lemmas.Option.{none-some, same_Some}
@@ -22,14 +22,10 @@ use Rattle.tree_model.proofs.Rows.{ok_ok, then_ok, refuse_ok, directory_ok, IsFo
 use Rattle.volume_model.specs.declared.placed.Placed.{Placed}
 use Rattle.volume_model.specs.declared.placed.Part.TheVariants as parts
 use Rattle.volume_model.specs.declared.placed.DirectoryPart.{DirectoryPart}
-use Rattle.volume_model.specs.Edits.{touched_by_all}
-use Rattle.volume_model.specs.Moves.{node_removed}
 use Rattle.volume_model.specs.Plain.{HasSlotZones}
 use Rattle.volume_model.specs.Trees.{directory_from, node_from}
-use Rattle.volume_ops.specs.Places.{table_block}
-use Rattle.volume_steps.specs.Now.{VolumeNow, Change, tree_of_now, room_of, followed_by, written}
-use Rattle.volume_steps.specs.Zones.{inode_bit, zone_bit, all_given}
-use Rattle.volume_steps.specs.Steps.{take_name as take_name_step, set_links, with_links, drop_node, all_numbers, block_zones, metadata_gone, pages_gone}
+use Rattle.volume_steps.specs.Now.{VolumeNow, Change, tree_of_now, room_of, followed_by}
+use Rattle.volume_steps.specs.Steps.{take_name as take_name_step, set_links, with_links, drop_node, node_dropped, all_numbers, block_zones, metadata_gone, pages_gone}
 use Rattle.volume_steps.specs.Calls.{rmdir, at_path}
 use Rattle.volume_steps.specs.Plain.{IsPlainNow}
 use Rattle.volume_steps.proofs.CallEnds.{IsDone, done_plain, call_ends}
@@ -320,24 +316,7 @@ module _ (tx : ℕ) (v : VolumeNow) (h : IsPlainNow v) (n : ℕ) (before : AreBo
       ∙ (at_path_is v path said.names said.found (λ birth. followed_by (take_name_step v place.parent place.name) (λ u. followed_by (set_links u place.parent (λ links. links - 1)) (λ w. drop_node w tx birth))) said.named said.walked
       ∙ (ap (λ c. followed_by c (λ u. followed_by (set_links u place.parent (λ links. links - 1)) (λ w. drop_node w tx birth))) (take_name_is tx v h.in_use place.parent x.placed x.stands x.part x.is place.name birth named sorted)
       ∙ (ap (λ c. joined less (followed_by c (λ w. drop_node w tx birth))) (set_links_is tx v1 first.steady.in_use place.parent x1.placed x1.stands (x1.placed.inode.links - 1) few (λ links. links - 1) refl)
-      ∙ ap (λ c. joined less (joined unlinked c)) (at_node_is v2 birth y.placed dropped_of at2))))))
+      ∙ ap (λ c. joined less (joined unlinked c)) (at_node_is v2 birth y.placed (node_dropped v2 tx birth) at2))))))
       (call_ends tx v (joined less (joined unlinked gone)) d.tree (links_at gone.volume.contents.nodes) whole plain_after (subst (λ tree. AreLinked tree (links_at gone.volume.contents.nodes)) (sym said.tree_is) links_all)
       (inr (dropped_frees tx v2 second.steady.in_use birth y.placed at2 (block_zones v2.contents y.placed y.placed.part ++ all_numbers v2.contents y.placed) (metadata_gone v2.contents y.placed y.placed.part) (pages_gone birth y.placed.part)
       (lists_of_directory v2 second.steady.in_use birth y.placed at2 y.part y.is slot_zones) (count_of_directory v2 second.steady.in_use birth y.placed at2 y.part y.is slot_zones) unnamed)))
-    where
-      dropped_of : Placed → Change
-      dropped_of p = record {
-        volume = record {
-          geometry = v2.geometry;
-          contents = node_removed v2.geometry (written v2.geometry v2.contents (inode_bit p.number false ∷ map (zone_bit v2.geometry false) (block_zones v2.contents p p.part ++ all_numbers v2.contents p))) birth p;
-          zones = all_given tx (block_zones v2.contents p p.part ++ all_numbers v2.contents p) v2.zones;
-        };
-        touched = record {
-          blocks = touched_by_all v2.geometry (inode_bit p.number false ∷ map (zone_bit v2.geometry false) (block_zones v2.contents p p.part ++ all_numbers v2.contents p)) ++ table_block v2.geometry p.number ∷ [];
-          freed = block_zones v2.contents p p.part ++ all_numbers v2.contents p;
-          revoked = metadata_gone v2.contents p p.part;
-          pages = [];
-          dropped = pages_gone birth p.part;
-          nodes = birth ∷ [];
-        };
-      }

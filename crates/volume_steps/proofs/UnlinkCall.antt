@@ -1,7 +1,7 @@
 -- The call that takes a name from a file, which goes with its last one.
 use Rattle.std.specs.List.Sorted.{IsStrictlySortedBy}
 use Rattle.std.specs.Map.{keys_of}
-use Rattle.std.specs.Prelude.{◌≡◌, ◌≢◌, ◌≤◌, ◌-◌, ◌+◌, ℕ, nat_le, cond, Bool, true, false, if◌then◌else◌, List, [], ◌∷◌, ◌++◌, map, Option, Some, option_map, Ok, refl}
+use Rattle.std.specs.Prelude.{◌≡◌, ◌≢◌, ◌≤◌, ◌-◌, ◌+◌, ℕ, nat_le, cond, Bool, true, false, if◌then◌else◌, List, ◌++◌, Option, Some, option_map, Ok, refl}
 use Rattle.std.proofs.Common.{sym, ap, subst, ◌∙◌, inl, inr, arith}
 use Rattle.std.proofs.lemmas.Bool.{cases_Bool, leb-true}
 use Rattle.std.proofs.lemmas.Option.{none-some}
@@ -26,12 +26,8 @@ use Rattle.volume_model.specs.declared.placed.Placed.{Placed}
 use Rattle.volume_model.specs.declared.placed.Part.TheVariants as parts
 use Rattle.volume_model.specs.declared.placed.DirectoryPart.{DirectoryPart}
 use Rattle.volume_model.specs.Trees.{directory_from, node_from}
-use Rattle.volume_steps.specs.Now.{VolumeNow, Change, tree_of_now, room_of, followed_by, written}
-use Rattle.volume_steps.specs.Zones.{inode_bit, zone_bit, all_given}
-use Rattle.volume_model.specs.Edits.{touched_by_all}
-use Rattle.volume_model.specs.Moves.{node_removed}
-use Rattle.volume_ops.specs.Places.{table_block}
-use Rattle.volume_steps.specs.Steps.{take_name as take_name_step, set_links, drop_node, all_numbers, block_zones, metadata_gone, pages_gone}
+use Rattle.volume_steps.specs.Now.{VolumeNow, Change, tree_of_now, room_of, followed_by}
+use Rattle.volume_steps.specs.Steps.{take_name as take_name_step, set_links, drop_node, node_dropped, all_numbers, block_zones, metadata_gone, pages_gone}
 use Rattle.volume_steps.specs.Calls.{unlink, lose_link as lose_link_step, at_path}
 use Rattle.volume_steps.specs.Plain.{IsPlainNow}
 use Rattle.volume_steps.proofs.Drops.{dropped_change, dropped_frees, drops}
@@ -283,7 +279,7 @@ module _ (tx : ℕ) (v : VolumeNow) (h : IsPlainNow v) (n : ℕ) (before : AreBo
   when_gone none =
       subst (λ c. IsDone tx v c d.tree)
       (sym (unlink_is ∙ (ap (λ (b : Bool). joined less (if b then drop_node v1 tx birth else set_links v1 birth (λ links. links - 1))) (ap (λ k. nat_le k 1) y.links_are ∙ none)
-      ∙ ap (λ c. joined less c) (at_node_is v1 birth y.placed dropped_of at1))))
+      ∙ ap (λ c. joined less c) (at_node_is v1 birth y.placed (node_dropped v1 tx birth) at1))))
       (subst (λ tree. IsDone tx v (joined less (gone last)) tree) tree_all
       (call_ends tx v (joined less (gone last)) _ _ (steps_then tx v less (gone last) _ _ _ _ first (gone_step last) (λ zone i used. used) (λ y i. i) (inl same_first)) (subst IsPlain (sym tree_all) plain_after)
       (subst (λ tree. AreLinked tree (links_at (gone last).volume.contents.nodes)) (ap (λ tree. without_number tree birth) (sym first.tree_is))
@@ -293,23 +289,6 @@ module _ (tx : ℕ) (v : VolumeNow) (h : IsPlainNow v) (n : ℕ) (before : AreBo
     where
       last : said.file.links ≤ 1
       last = leb-true said.file.links 1 none
-
-      dropped_of : Placed → Change
-      dropped_of p = record {
-        volume = record {
-          geometry = v1.geometry;
-          contents = node_removed v1.geometry (written v1.geometry v1.contents (inode_bit p.number false ∷ map (zone_bit v1.geometry false) (block_zones v1.contents p p.part ++ all_numbers v1.contents p))) birth p;
-          zones = all_given tx (block_zones v1.contents p p.part ++ all_numbers v1.contents p) v1.zones;
-        };
-        touched = record {
-          blocks = touched_by_all v1.geometry (inode_bit p.number false ∷ map (zone_bit v1.geometry false) (block_zones v1.contents p p.part ++ all_numbers v1.contents p)) ++ table_block v1.geometry p.number ∷ [];
-          freed = block_zones v1.contents p p.part ++ all_numbers v1.contents p;
-          revoked = metadata_gone v1.contents p p.part;
-          pages = [];
-          dropped = pages_gone birth p.part;
-          nodes = birth ∷ [];
-        };
-      }
 
       tree_all : without_number (tree_of_now v1) birth ≡ d.tree
       tree_all = ap (λ tree. without_number tree birth) first.tree_is

@@ -209,11 +209,15 @@ abbrev pub pages_gone : ℕ → Part → List Page
 pages_gone n (parts.File zones) = map (page_of n) zones
 pages_gone n (parts.Directory d) = []
 
+-- the bits that are cleared
+abbrev pub drop_edits : Geometry → Placed → List ℕ → List Edit
+drop_edits g p gone = inode_bit p.number false ∷ map (zone_bit g false) gone
+
 -- A node that has no name goes: its inode becomes zeros, and its zones wait for the transaction.
-abbrev pub drop_node : VolumeNow → ℕ → ℕ → Change
-drop_node v tx n = at_node v n (λ p.
+abbrev pub node_dropped : VolumeNow → ℕ → ℕ → Placed → Change
+node_dropped v tx n p =
     let gone = block_zones v.contents p p.part ++ all_numbers v.contents p in
-    let es = inode_bit p.number false ∷ map (zone_bit v.geometry false) gone in
+    let es = drop_edits v.geometry p gone in
     record {
       volume = record {
         geometry = v.geometry;
@@ -228,7 +232,10 @@ drop_node v tx n = at_node v n (λ p.
         dropped = pages_gone n p.part;
         nodes = n ∷ [];
       };
-    })
+    }
+
+abbrev pub drop_node : VolumeNow → ℕ → ℕ → Change
+drop_node v tx n = at_node v n (node_dropped v tx n)
 
 -- ---- bytes of a file
 
