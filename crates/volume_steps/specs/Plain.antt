@@ -13,8 +13,8 @@ use Rattle.volume_model.specs.Plain.{IsPlainContents, HasZone}
 use Rattle.volume_steps.specs.Now.{VolumeNow, tree_of_now}
 
 -- Between steps: the blocks say the nodes, and a zone is in use exactly where a node has it; as many are as the tree counts.
--- It does not hold within `add_name`, between `make_room` and `put_name_slot`: there a directory has a zone more than its
--- slots need. So `add_name` is one step.
+-- It does not hold within `add_name`, between `make_room` and `put_name_slot`: there a directory has a zone more than the
+-- tree counts for its slots. So `add_name` is one step.
 pub record IsInUse (v : VolumeNow) : Type 0 where
   pub sound : IsSound v.geometry
   pub volume : IsVolume v.geometry v.contents
