@@ -7,6 +7,8 @@ mod example_tests;
 mod fault;
 #[cfg(test)]
 mod image_tests;
+#[cfg(test)]
+mod make_tests;
 mod number;
 mod output;
 mod show;
