@@ -1,8 +1,9 @@
 #!/usr/bin/env python3
 """Writes Minix V1 images to the folder that is given, and prints their names.
 
-Use: images.py FOLDER [NAME ..]; with no name the three of bench/run. `volume-chain` is 20,000 directories, one in
-the other, whose text has some 400 MB.
+Use: images.py FOLDER [NAME ..]; with no name the four of bench/run. `journal-full` has a log of 16,384 blocks with
+every block of a file that is zeros without it. `volume-chain` is 20,000 directories, one in the other, whose text has
+some 400 MB.
 """
 import os
 import random
@@ -85,6 +86,43 @@ def chain(path, depth):
     save(volume, path)
 
 
+MAGIC = 0xC03B3998
+DESCRIPTOR, COMMIT, SUPERBLOCK = 1, 2, 4
+SAME_UUID, LAST = 2, 8
+
+
+def journal_block(kind, sequence, body=b""):
+    return (struct.pack(">III", MAGIC, kind, sequence) + body).ljust(1024, b"\0")
+
+
+def transaction(sequence, zones):
+    """A descriptor with a tag for each of the zones, their bodies, and a commit block."""
+    tags = []
+    for k, zone in enumerate(zones):
+        flags = (SAME_UUID if k else 0) | (LAST if k == len(zones) - 1 else 0)
+        tags.append(struct.pack(">II", zone, flags) + (b"" if k else bytes(16)))
+    bodies = [bytes([zone % 256]) * 1024 for zone in zones]
+    return [journal_block(DESCRIPTOR, sequence, b"".join(tags)), *bodies, journal_block(COMMIT, sequence)]
+
+
+def logged(path, blocks):
+    """A file whose zones are zeros, and behind the volume a journal of so many blocks, full of their bodies."""
+    volume = Volume(2, ZONES)
+    volume.directory(1, 1, [(2, b"logged")])
+    log, rest = [], blocks - 1
+    zones = []
+    while rest >= 3:
+        tags = min(122, rest - 2)
+        added = [volume.zone(b"") for _ in range(tags)]
+        log += transaction(1 + len(log) // 124, added)
+        zones += added
+        rest -= tags + 2
+    volume.inode(2, FILE, 1024 * len(zones), 1, zones)
+    numbers = struct.pack(">IIIII8xI20xI", 1024, blocks, 1, 1, 1, 1, 1)
+    volume.bytes += journal_block(SUPERBLOCK, 0, numbers) + b"".join(log) + bytes(1024 * rest)
+    save(volume, path)
+
+
 def save(volume, path):
     with open(path, "wb") as image:
         image.write(volume.bytes)
@@ -122,11 +160,12 @@ IMAGES = {
     "volume-empty": empty,
     "volume-files": lambda path: tree(path, 4000, filled),
     "volume-mail": lambda path: tree(path, 4000, letters),
+    "journal-full": lambda path: logged(path, 16384),
     "volume-chain": lambda path: chain(path, 20000),
 }
 
 if __name__ == "__main__":
-    folder, names = sys.argv[1], sys.argv[2:] or list(IMAGES)[:3]
+    folder, names = sys.argv[1], sys.argv[2:] or list(IMAGES)[:4]
     for name in names:
         IMAGES[name](os.path.join(folder, name))
         print(name)

@@ -1,15 +1,18 @@
 #!/usr/bin/env python3
-"""Runs a program with a word on an input, and prints its wall time in seconds and its peak memory in MB."""
+"""Runs a program with its words on an input, and prints its wall time in seconds and its peak memory in MB.
+
+Use: measure.py PROGRAM INPUT WORD ..
+"""
 import os
 import resource
 import subprocess
 import sys
 import time
 
-program, word, path = sys.argv[1:4]
+program, path, *words = sys.argv[1:]
 with open(path, "rb") as source:
     start = time.monotonic()
-    done = subprocess.run([program, word], stdin=source, stdout=subprocess.DEVNULL)
+    done = subprocess.run([program, *words], stdin=source, stdout=subprocess.DEVNULL)
     seconds = time.monotonic() - start
 if done.returncode != 0:
     sys.exit("%s ended with status %d" % (os.path.basename(path), done.returncode))
