@@ -1,0 +1,134 @@
+-- How the top call ends.
+use Rattle.std.proofs.Common.{◌≡◌, ℕ, ◌<◌, ◌≤◌, true, false, List, length, Option, Some, None, Ok, Err, nat_lt, refl, sym, ap, ◌∙◌, subst, arith, inl, inr, length-append}
+use Rattle.std.proofs.lemmas.Option.{none-some, same_Some}
+use Rattle.std.proofs.lemmas.Bool.Decides.{nat_tests}
+use Rattle.std.specs.Io.KnownBytes.{Consumes}
+use Rattle.std.specs.Prelude.{Result, IfOk, IfErr}
+use Rattle.blk_base.specs.Streams.{Rose, Drained}
+use Rattle.barrierfs_top.specs.declared.fault.TopFault.{TopFault}
+use Rattle.barrierfs_top.specs.declared.fault.TopFault.TheVariants as faults
+use Rattle.barrierfs_top.specs.declared.top.Printed.{Printed}
+use Rattle.barrierfs_top.specs.declared.command_line.Command.{Command}
+use Rattle.barrierfs_top.specs.declared.command_line.Command.TheVariants as commands
+use Rattle.stack_core.specs.declared.report.Report.{Report}
+use Rattle.barrierfs_top.specs.declared.command_line.Sizes.{Sizes}
+use Rattle.barrierfs_top.specs.declared.command_line.Task.{Task}
+use Rattle.barrierfs_top.specs.declared.command_line.Task.TheVariants as tasks
+use Rattle.barrierfs_top.specs.Tasks.{most_of, task_of}
+use Rattle.barrierfs_top.specs.Text.{output_bytes}
+use Rattle.barrierfs_top.specs.Top.{Stream, WasRead, Makes, script_fault, image_fault, input_fault, IsInputFault, IsUnread, IsMade, IsDone, Does, IsRefused, Cause, expected, EndsAs}
+
+-- ---- before the first write
+
+-- what a command makes of the input that was read
+pub does_if : (words : List (List ℕ)) (source : Stream) (c : Command) (input : List ℕ) (r : Result Printed TopFault) → task_of words ≡ Some (tasks.Read c)
+    → Drained source.bytes source.bytes_after input → length input ≤ most_of c → IfOk r (λ p. Makes c input p.report (output_bytes p.output))
+    → IfOk r (λ p. Does words source p.report (output_bytes p.output))
+does_if words source c input (Ok p) asked drained short makes = record {
+  task = tasks.Read c;
+  asked = asked;
+  done = record { input = input; drained = drained; short = short; holds = makes };
+}
+does_if words source c input (Err fault) asked drained short makes = tt
+
+refused : (words : List (List ℕ)) (source : Stream) (c : Command) (input : List ℕ) (fault : TopFault) → task_of words ≡ Some (tasks.Read c)
+    → Drained source.bytes source.bytes_after input → length input ≤ most_of c → input_fault c input ≡ Some fault → IsRefused words source fault
+refused words source c input fault asked drained short is = record {
+  command = c;
+  asked = asked;
+  read = record { input = input; drained = drained; short = short; holds = is };
+}
+
+cause_of : (words : List (List ℕ)) (source : Stream) (c : Command) (input : List ℕ) (fault : TopFault) → task_of words ≡ Some (tasks.Read c)
+    → Drained source.bytes source.bytes_after input → length input ≤ most_of c → IsInputFault c input fault → Cause words source fault
+cause_of words source c input (faults.Script line kind) asked drained short is = refused words source c input (faults.Script line kind) asked drained short is
+cause_of words source c input (faults.Image kind block) asked drained short is = refused words source c input (faults.Image kind block) asked drained short is
+cause_of words source c input faults.NoMemory asked drained short is = tt
+cause_of words source c input faults.BadWords asked drained short is = absurd is
+cause_of words source c input faults.SourceFault asked drained short is = absurd is
+cause_of words source c input faults.SinkFault asked drained short is = absurd is
+cause_of words source c input faults.TooLong asked drained short is = absurd is
+
+-- the fault of the input that was read
+pub cause_if : (words : List (List ℕ)) (source : Stream) (c : Command) (input : List ℕ) (r : Result Printed TopFault) → task_of words ≡ Some (tasks.Read c)
+    → Drained source.bytes source.bytes_after input → length input ≤ most_of c → IfErr r (IsInputFault c input) → IfErr r (Cause words source)
+cause_if words source c input (Ok p) asked drained short is = tt
+cause_if words source c input (Err fault) asked drained short is = cause_of words source c input fault asked drained short is
+
+-- an image that was made
+pub made_if : (words : List (List ℕ)) (source : Stream) (s : Sizes) (r : Result Printed TopFault) → task_of words ≡ Some (tasks.Make s) → IsUnread source
+    → IfOk r (λ p. IsMade s p.report (output_bytes p.output)) → IfOk r (λ p. Does words source p.report (output_bytes p.output))
+made_if words source s (Ok p) asked unread made = record { task = tasks.Make s; asked = asked; done = (unread, made) }
+made_if words source s (Err fault) asked unread made = tt
+
+pub made_cause : (words : List (List ℕ)) (source : Stream) (r : Result Printed TopFault) → IfErr r (λ fault. fault ≡ faults.NoMemory) → IfErr r (Cause words source)
+made_cause words source (Ok p) memory = tt
+made_cause words source (Err fault) memory = subst (Cause words source) (sym memory) tt
+
+-- ---- where the input is told and no stream fails
+
+all_read : (old new : Option (List ℕ)) (text told : List ℕ) → old ≡ Some told → Drained old new text → text ≡ told
+all_read None new text told e d = let P : ⊥ = cc in absurd P
+all_read (Some left) None text told e d = absurd d
+all_read (Some left) (Some rest) text told e d = let s : left ≡ told = cc in d.0 ∙ s
+
+front_read : (old new : Option (List ℕ)) (text told : List ℕ) → old ≡ Some told → Consumes old new text → length text ≤ length told
+front_read None new text told e d = let P : ⊥ = cc in absurd P
+front_read (Some left) None text told e d = absurd d
+front_read (Some left) (Some rest) text told e d =
+    let s : left ≡ told = cc in
+    let n = length-append text rest in
+    let m = ap length (sym s ∙ d) in
+    omega arith
+
+pub one_command : (words : List (List ℕ)) (c d : Command) → task_of words ≡ Some (tasks.Read c) → task_of words ≡ Some (tasks.Read d) → c ≡ d
+one_command words c d this that = let e : tasks.Read c ≡ tasks.Read d = same_Some (tasks.Read c) (tasks.Read d) (sym this ∙ that) in cc
+
+no_command : (words : List (List ℕ)) (c : Command) → task_of words ≡ None → task_of words ≡ Some (tasks.Read c) → ⊥
+no_command words c none some = none-some (tasks.Read c) (sym none ∙ some)
+
+short_input : (c : Command) (text : List ℕ) → length text ≤ most_of c → expected c text ≡ input_fault c text
+short_input c text le = let e : nat_lt (most_of c) (length text) ≡ false = grind (arith, nat_tests) in rw e refl
+
+long_input : (c : Command) (text : List ℕ) → most_of c < length text → expected c text ≡ Some faults.TooLong
+long_input c text lt = let e : nat_lt (most_of c) (length text) ≡ true = grind (arith, nat_tests) in rw e refl
+
+-- an input that was read to its end is the one that was told, and ends as what holds of it says
+ends_as : (c : Command) (old new : Option (List ℕ)) (Holds : List ℕ → Type 0) (text : List ℕ) (end : Option TopFault) → WasRead c old new Holds → old ≡ Some text
+    → ((input : List ℕ) → Holds input → input_fault c input ≡ end) → EndsAs (expected c text) end
+ends_as c old new Holds text end read told says =
+    let same = all_read old new read.input text told read.drained in
+    let short = subst (λ (l : List ℕ). length l ≤ most_of c) same read.short in
+    inl (sym (short_input c text short ∙ says text (subst Holds same read.holds)))
+
+-- where a command makes something of its input, that has no fault
+no_fault : (c : Command) (input : List ℕ) (report : Option Report) (text : List ℕ) → Makes c input report text → input_fault c input ≡ None
+no_fault commands.Replay input report text makes = ap script_fault makes.spelled
+no_fault commands.Show input report text makes = ap image_fault makes.0
+
+-- a command ends well
+pub ends_well : (words : List (List ℕ)) (source : Stream) (report : Option Report) (out : List ℕ) → Does words source report out
+    → (c : Command) → task_of words ≡ Some (tasks.Read c) → (text : List ℕ) → source.bytes ≡ Some text → EndsAs (expected c text) None
+ends_well words source report out does c asked text told =
+    let read = subst (λ (t : Task). IsDone t source report out) (same_Some does.task (tasks.Read c) (sym does.asked ∙ asked)) does.done in
+    ends_as c source.bytes source.bytes_after (λ input. Makes c input report out) text None read told (λ input makes. no_fault c input report out makes)
+
+ends_refused : (words : List (List ℕ)) (source : Stream) (fault : TopFault) → IsRefused words source fault → (c : Command) → task_of words ≡ Some (tasks.Read c)
+    → (text : List ℕ) → source.bytes ≡ Some text → EndsAs (expected c text) (Some fault)
+ends_refused words source fault is c asked text told =
+    subst (λ (d : Command). EndsAs (expected d text) (Some fault)) (one_command words is.command c is.asked asked)
+    (ends_as is.command source.bytes source.bytes_after (λ input. input_fault is.command input ≡ Some fault) text (Some fault) is.read told (λ input e. e))
+
+-- what ends before the first write ends as the input says
+pub ends_early : (words : List (List ℕ)) (source : Stream) (fault : TopFault) → Cause words source fault → (c : Command) → task_of words ≡ Some (tasks.Read c)
+    → (text : List ℕ) → source.bytes ≡ Some text → (Rose source.faults source.faults_after → ⊥) → EndsAs (expected c text) (Some fault)
+ends_early words source faults.BadWords cause c asked text told calm = absurd (no_command words c cause asked)
+ends_early words source (faults.Script line kind) cause c asked text told calm = ends_refused words source (faults.Script line kind) cause c asked text told
+ends_early words source (faults.Image kind block) cause c asked text told calm = ends_refused words source (faults.Image kind block) cause c asked text told
+ends_early words source faults.SourceFault cause c asked text told calm = absurd (calm cause)
+ends_early words source faults.SinkFault cause c asked text told calm = absurd cause
+ends_early words source faults.TooLong (d, this, long) c asked text told calm =
+    let most = front_read source.bytes source.bytes_after long.input text told long.read in
+    let past : most_of d < length text = let l = long.long in omega arith in
+    inl (sym (subst (λ (e : Command). expected e text ≡ Some faults.TooLong) (one_command words d c this asked) (long_input d text past)))
+ends_early words source faults.NoMemory cause c asked text told calm = inr refl

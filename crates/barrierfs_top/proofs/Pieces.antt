@@ -1,0 +1,65 @@
+-- Lists that are written piece by piece.
+use Rattle.std.specs.Prelude.{◌≡◌, ℕ, zero, suc, ◌+◌, ◌<◌, ◌≤◌, List, [], ◌∷◌, ◌++◌, take, length, slice_get, Option, Some, None, refl}
+use Rattle.std.specs.List.{concat}
+use Rattle.std.specs.Io.KnownBytes.{Appends}
+use Rattle.std.proofs.Common.{sym, ap, subst, ◌∙◌, arith, append_assoc, append-nil}
+use Rattle.std.proofs.KnownBytes.{Appends-trans}
+use Rattle.std.proofs.lemmas.Option.{none-some, same_Some}
+use Rattle.blk_base.specs.Streams.{AppendsFront}
+use Rattle.barrierfs_top.specs.Tasks.{task_of}
+
+next_at : (xs : List (List ℕ)) (k : ℕ) (x : List ℕ) → slice_get xs k ≡ Some x → concat (take (suc k) xs) ≡ concat (take k xs) ++ x
+next_at [] k x e = absurd (none-some x e)
+next_at (y ∷ ys) zero x e = append-nil y ∙ same_Some y x e
+next_at (y ∷ ys) (suc k) x e = ap (λ (zs : List ℕ). y ++ zs) (next_at ys k x e) ∙ sym (append_assoc y (concat (take k ys)) x)
+
+-- one piece more
+pub concat_next : (xs : List (List ℕ)) (k : ℕ) (x : List ℕ) → slice_get xs k ≡ Some x → concat (take (k + 1) xs) ≡ concat (take k xs) ++ x
+concat_next xs k x e =
+    let one : k + 1 ≡ suc k = omega arith in
+    ap (λ (n : ℕ). concat (take n xs)) one ∙ next_at xs k x e
+
+pub concat_all : (xs : List (List ℕ)) (k : ℕ) → length xs ≤ k → concat (take k xs) ≡ concat xs
+concat_all [] zero few = refl
+concat_all [] (suc k) few = refl
+concat_all (x ∷ xs) zero few = absurd (omega (arith, few))
+concat_all (x ∷ xs) (suc k) few = ap (λ (zs : List ℕ). x ++ zs) (concat_all xs k (omega (arith, few)))
+
+split_at : (xs : List (List ℕ)) (k : ℕ) (x : List ℕ) → slice_get xs k ≡ Some x → (rest : List ℕ) × (concat xs ≡ concat (take k xs) ++ (x ++ rest))
+split_at [] k x e = absurd (none-some x e)
+split_at (y ∷ ys) zero x e = (concat ys, ap (λ (z : List ℕ). z ++ concat ys) (same_Some y x e))
+split_at (y ∷ ys) (suc k) x e = let r = split_at ys k x e in (r.0, ap (λ (zs : List ℕ). y ++ zs) r.1 ∙ sym (append_assoc y (concat (take k ys)) (x ++ r.0)))
+
+front_in : (xs rest : List ℕ) (m : ℕ) → (n : ℕ) × (take n (xs ++ rest) ≡ take m xs)
+front_in [] rest zero = (0, refl)
+front_in [] rest (suc m) = (0, refl)
+front_in (x ∷ xs) rest zero = (0, refl)
+front_in (x ∷ xs) rest (suc m) = let r = front_in xs rest m in (suc r.0, ap (λ (zs : List ℕ). x ∷ zs) r.1)
+
+front_behind : (ps xs rest : List ℕ) (m : ℕ) → (n : ℕ) × (take n (ps ++ (xs ++ rest)) ≡ ps ++ take m xs)
+front_behind [] xs rest m = front_in xs rest m
+front_behind (p ∷ ps) xs rest m = let r = front_behind ps xs rest m in (suc r.0, ap (λ (zs : List ℕ). p ∷ zs) r.1)
+
+-- some pieces and a front of the next are a front of all
+pub front_of_all : (xs : List (List ℕ)) (k : ℕ) (x : List ℕ) (old mid new : Option (List ℕ)) → slice_get xs k ≡ Some x → Appends old mid (concat (take k xs)) → AppendsFront mid new x → AppendsFront old new (concat xs)
+front_of_all xs k x old mid new e done front =
+    let s = split_at xs k x e in
+    let n = front_behind (concat (take k xs)) x s.0 front.0 in
+    (n.0, subst (Appends old new) (sym (ap (take n.0) s.1 ∙ n.1)) (Appends-trans old mid new (concat (take k xs)) (take front.0 x) done front.1))
+
+-- ---- words that are no task
+
+pub no_task_of_few : (words : List (List ℕ)) → 2 ≤ length words → length words < 4 → task_of words ≡ None
+no_task_of_few [] low high = absurd (omega (arith, low))
+no_task_of_few (a ∷ []) low high = absurd (omega (arith, low))
+no_task_of_few (a ∷ b ∷ []) low high = refl
+no_task_of_few (a ∷ b ∷ c ∷ []) low high = refl
+no_task_of_few (a ∷ b ∷ c ∷ d ∷ words) low high = absurd (omega (arith, high))
+
+pub no_task_of_many : (words : List (List ℕ)) → 5 ≤ length words → task_of words ≡ None
+no_task_of_many [] low = absurd (omega (arith, low))
+no_task_of_many (a ∷ []) low = absurd (omega (arith, low))
+no_task_of_many (a ∷ b ∷ []) low = absurd (omega (arith, low))
+no_task_of_many (a ∷ b ∷ c ∷ []) low = absurd (omega (arith, low))
+no_task_of_many (a ∷ b ∷ c ∷ d ∷ []) low = absurd (omega (arith, low))
+no_task_of_many (a ∷ b ∷ c ∷ d ∷ e ∷ words) low = refl

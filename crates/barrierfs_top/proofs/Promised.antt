@@ -1,0 +1,70 @@
+-- The bytes that `replay` writes are the text of an order-closed medium.
+use Rattle.std.proofs.Common.{◌≡◌, ℕ, ◌++◌, List, [], length, take, Option, Some, None, sym, ap, ◌∙◌, subst, arith, append-nil}
+use Rattle.std.proofs.lemmas.Option.{none-some, same_Some}
+use Rattle.std.proofs.lemmas.List.{append_cancel_left}
+use Rattle.std.specs.Io.KnownBytes.{Appends}
+use Rattle.blk_base.specs.Image.{zeros}
+use Rattle.blk_base.specs.Streams.{AppendsFront}
+use Rattle.order_model.specs.Submission.{IsOrderClosed}
+use Rattle.script_grammar.specs.declared.script.Script.{Script}
+use Rattle.script_grammar.specs.Grammar.{blocks_of}
+use Rattle.stack_core.specs.RequestPath.{submitted_count}
+use Rattle.stack_core.specs.Core.{core}
+use Rattle.stack_core.specs.declared.report.Report.{Report}
+use Rattle.barrierfs_top.specs.declared.command_line.Command.TheVariants as commands
+use Rattle.barrierfs_top.specs.declared.fault.TopFault.{TopFault}
+use Rattle.barrierfs_top.specs.declared.command_line.Task.{Task}
+use Rattle.barrierfs_top.specs.declared.command_line.Task.TheVariants as tasks
+use Rattle.barrierfs_top.specs.Tasks.{task_of}
+use Rattle.barrierfs_top.specs.Top.{Stream, WasRead, IsReplay, Makes, IsDone, Does}
+use Rattle.barrierfs_top.specs.Promise.{WentOut, IsWritten, TellsOrderClosed}
+
+-- where nothing was written, nothing went out
+pub none_out : (taken : Option (List ℕ)) (bytes : List ℕ) → WentOut taken taken bytes → ⊥
+none_out taken bytes out =
+    let same : out.before ++ [] ≡ out.before ++ bytes = append-nil out.before ∙ same_Some out.before (out.before ++ bytes) (sym out.told ∙ out.after) in
+    let none : [] ≡ bytes = append_cancel_left out.before [] bytes same in
+    let some = out.some in
+    let n = ap length none in
+    omega arith
+
+-- what was appended is what went out
+pub went_out : (old new : Option (List ℕ)) (bytes text : List ℕ) → WentOut old new bytes → Appends old new text → bytes ≡ text
+went_out None new bytes text out appended = absurd (none-some out.before out.told)
+went_out (Some x) None bytes text out appended = absurd appended
+went_out (Some x) (Some y) bytes text out appended =
+    let before : x ≡ out.before = same_Some x out.before out.told in
+    let after : y ≡ out.before ++ bytes = same_Some y (out.before ++ bytes) out.after in
+    append_cancel_left out.before bytes text (sym after ∙ appended ∙ ap (λ l. l ++ text) before)
+
+pub front_out : (old new : Option (List ℕ)) (bytes text : List ℕ) (fault : TopFault) → WentOut old new bytes → AppendsFront old new text → IsWritten (Some fault) text bytes
+front_out old new bytes text fault out front = (front.0, went_out old new bytes (take front.0 text) out front.1)
+
+-- the medium of a report is order-closed for the first requests of its script
+closed_for : (input text : List ℕ) (report : Option Report) (is : IsReplay input report text)
+    → IsOrderClosed (zeros (blocks_of is.script)) (take (submitted_count (core is.script).path) is.script.puts) is.result.cut.image is.result.cut.origins
+closed_for input text report is =
+    subst (λ (s : Script). IsOrderClosed (zeros (blocks_of s)) (take (submitted_count (core is.script).path) is.script.puts) is.result.cut.image is.result.cut.origins) is.core.script
+    (subst (λ qs. IsOrderClosed (zeros (blocks_of is.result.script)) qs is.result.cut.image is.result.cut.origins) is.core.submitted is.order.closed)
+
+tells : (old new : Option (List ℕ)) (report : Option Report) (text bytes : List ℕ) (fault : Option TopFault) → WasRead commands.Replay old new (λ input. Makes commands.Replay input report text)
+    → IsWritten fault text bytes → TellsOrderClosed old new fault bytes
+tells old new report text bytes fault read written =
+    let is = read.holds in
+    record {
+      script = is.script;
+      read = record { input = read.input; drained = read.drained; short = read.short; holds = is.spelled };
+      submitted = submitted_count (core is.script).path;
+      image = is.result.cut.image;
+      origins = is.result.cut.origins;
+      closed = closed_for read.input text report is;
+      steps = is.result.cut.trace.steps;
+      written = subst (λ l. IsWritten fault l bytes) is.printed written;
+    }
+
+-- the promise, where the words ask for a replay
+pub promised : (words : List (List ℕ)) (source : Stream) (report : Option Report) (text bytes : List ℕ) (fault : Option TopFault) → Does words source report text
+    → task_of words ≡ Some (tasks.Read commands.Replay) → IsWritten fault text bytes → TellsOrderClosed source.bytes source.bytes_after fault bytes
+promised words source report text bytes fault does asked written =
+    let read = subst (λ (t : Task). IsDone t source report text) (same_Some does.task (tasks.Read commands.Replay) (sym does.asked ∙ asked)) does.done in
+    tells source.bytes source.bytes_after report text bytes fault read written

@@ -1,0 +1,48 @@
+-- What lists of words ask for.
+use Rattle.std.specs.Prelude.{ℕ, ◌<◌, ◌≤◌, Bool, ◌&&◌, nat_lt, nat_le, if◌then◌else◌, List, [], ◌∷◌, codes, Option, Some, None}
+use Rattle.std.specs.Str.{bytes_eq}
+use Rattle.std.specs.Option.{option_map}
+use Rattle.script_grammar.specs.declared.limits.TheConstants.{MOST_SCRIPT_BYTES}
+use Rattle.script_grammar.specs.Spelling.{numeral}
+use Rattle.minix_layout.specs.Words.{first_zone}
+use Rattle.barrierfs_top.specs.declared.command_line.TheConstants.{MOST_IMAGE_BYTES}
+use Rattle.barrierfs_top.specs.declared.command_line.Command.{Command}
+use Rattle.barrierfs_top.specs.declared.command_line.Command.TheVariants as commands
+use Rattle.barrierfs_top.specs.declared.command_line.Sizes.{Sizes}
+use Rattle.barrierfs_top.specs.declared.command_line.Task.{Task}
+use Rattle.barrierfs_top.specs.declared.command_line.Task.TheVariants as tasks
+
+-- the words for commands
+abbrev pub command_of : List ℕ → Option Command
+command_of w =
+    if bytes_eq w (codes "replay") then Some commands.Replay
+    else if bytes_eq w (codes "show") then Some commands.Show
+    else None
+
+-- the most bytes of a script, and of an image
+abbrev pub most_of : Command → ℕ
+most_of commands.Replay = MOST_SCRIPT_BYTES
+most_of commands.Show = MOST_IMAGE_BYTES
+
+-- an image can be made: of 1 to 65,535 inodes, as many blocks, which leave a zone of data, and 128 to 16,384 blocks of journal
+abbrev pub can_make : ℕ → ℕ → ℕ → Bool
+can_make inodes zones journal =
+    nat_lt 0 inodes && (nat_le inodes 65535 && (nat_le zones 65535 && (nat_le 128 journal && (nat_le journal 16384 && nat_lt (first_zone inodes zones) zones))))
+
+abbrev pub sizes_of : Option ℕ → Option ℕ → Option ℕ → Option Sizes
+sizes_of (Some inodes) (Some zones) (Some journal) = if can_make inodes zones journal then Some (record { inodes = inodes; zones = zones; journal = journal }) else None
+sizes_of inodes zones journal = None
+
+abbrev pub make_of : List ℕ → Option Sizes → Option Task
+make_of w sizes = if bytes_eq w (codes "make") then option_map tasks.Make sizes else None
+
+-- a command, or `make` and three decimal numbers without a sign or a leading zero
+abbrev pub task_of : List (List ℕ) → Option Task
+task_of (w ∷ []) = option_map tasks.Read (command_of w)
+task_of (w ∷ i ∷ z ∷ j ∷ []) = make_of w (sizes_of (numeral i) (numeral z) (numeral j))
+task_of words = None
+
+-- what holds of a task that words ask for
+abbrev pub CanDo : Task → Type 0
+CanDo (tasks.Read c) = Unit {0}
+CanDo (tasks.Make s) = (0 < s.inodes) × (first_zone s.inodes s.zones < s.zones) × (128 ≤ s.journal) × (s.journal ≤ 16384)

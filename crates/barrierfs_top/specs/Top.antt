@@ -1,0 +1,168 @@
+-- What the top call did, by its fault.
+use Rattle.std.specs.Prelude.{◌≡◌, ℕ, ◌<◌, ◌≤◌, ◌⊎◌, List, length, Option, Some, None, Result, Ok, Err, nat_lt, if◌then◌else◌}
+use Rattle.std.specs.List.{concat}
+use Rattle.std.specs.Io.KnownBytes.{Keeps, Appends, Consumes}
+use Rattle.blk_base.specs.Streams.{Rose, Drained, AppendsFront}
+use Rattle.script_grammar.specs.declared.kinds.ScriptKind.{ScriptKind}
+use Rattle.blk_base.specs.Image.{whole_blocks}
+use Rattle.mount_make.specs.declared.fault.ImageFault.{ImageFault}
+use Rattle.minix_layout.specs.Geometry.{geometry_made}
+use Rattle.mount_make.specs.Made.{made_image}
+use Rattle.barrierfs_top.specs.declared.command_line.Command.{Command}
+use Rattle.barrierfs_top.specs.declared.command_line.Sizes.{Sizes}
+use Rattle.barrierfs_top.specs.declared.command_line.Task.{Task}
+use Rattle.barrierfs_top.specs.declared.command_line.Task.TheVariants as tasks
+use Rattle.barrierfs_top.specs.Tasks.{most_of, task_of}
+use Rattle.barrierfs_top.specs.declared.command_line.Command.TheVariants as commands
+use Rattle.barrierfs_top.specs.Show.{shown}
+use Rattle.barrierfs_top.specs.declared.fault.TopFault.{TopFault}
+use Rattle.barrierfs_top.specs.declared.fault.TopFault.TheVariants as faults
+use Rattle.script_grammar.specs.declared.script.Script.{Script}
+use Rattle.script_grammar.specs.declared.script_error.ScriptError.{ScriptError}
+use Rattle.script_grammar.specs.declared.script_error.ScriptError.TheVariants as errors
+use Rattle.blk_base.specs.declared.reading.ReadEnd.{ReadEnd}
+use Rattle.blk_base.specs.declared.reading.ReadEnd.TheVariants as ends
+use Rattle.stack_core.specs.declared.report.Report.{Report}
+use Rattle.script_grammar.specs.Grammar.{script_of}
+use Rattle.stack_core.specs.Report.{IsCoreReport, Headline}
+use Rattle.barrierfs_top.specs.Text.{text_of}
+
+-- the exit status of a fault
+abbrev pub status_of : Option TopFault → ℕ
+status_of None = 0
+status_of (Some faults.BadWords) = 2
+status_of (Some (faults.Script line kind)) = 3
+status_of (Some (faults.Image kind block)) = 4
+status_of (Some faults.SourceFault) = 5
+status_of (Some faults.SinkFault) = 6
+status_of (Some faults.TooLong) = 7
+status_of (Some faults.NoMemory) = 8
+
+-- what a call did to a stream: its bytes, where they are told, and its count of faults, before and after
+pub record Stream : Type 0 where
+  pub bytes : Option (List ℕ)
+  pub bytes_after : Option (List ℕ)
+  pub faults : ℕ
+  pub faults_after : ℕ
+
+abbrev pub stream_of : {X : Type 0} → (X → Option (List ℕ)) → (X → ℕ) → X → X → Stream
+stream_of bytes faults before after = record { bytes = bytes before; bytes_after = bytes after; faults = faults before; faults_after = faults after }
+
+-- a source was read to its end, and its bytes are no more than the command may have
+pub record WasRead (c : Command) (old new : Option (List ℕ)) (Holds : List ℕ → Type 0) : Type 0 where
+  pub input : List ℕ
+  pub drained : Drained old new input
+  pub short : length input ≤ most_of c
+  pub holds : Holds input
+
+-- more bytes were read than the command may have
+pub record IsTooLong (c : Command) (old new : Option (List ℕ)) : Type 0 where
+  pub input : List ℕ
+  pub long : most_of c < length input
+  pub read : Consumes old new input
+
+-- ---- what a command makes of its input
+
+-- `replay`: the input spells a script, the report is that of the script's core run and keeps the order that
+-- the host asked for, and the text is the report's
+pub record IsReplay (input : List ℕ) (report : Option Report) (text : List ℕ) : Type 0 where
+  pub script : Script
+  pub spelled : script_of input ≡ Ok script
+  pub result : Report
+  pub core : IsCoreReport script result
+  pub order : Headline result
+  pub reported : report ≡ Some result
+  pub printed : text ≡ text_of result
+
+-- `make`: the bytes are those of a new image with these sizes, and there is no report
+abbrev pub IsMade : Sizes → Option Report → List ℕ → Type 0
+IsMade s report bytes = (bytes ≡ concat (made_image (geometry_made s.inodes s.zones) s.journal)) × (report ≡ None)
+
+-- `show`: the text is that of the tree that the image has once its journal was recovered
+abbrev pub Makes : Command → List ℕ → Option Report → List ℕ → Type 0
+Makes commands.Replay input report text = IsReplay input report text
+Makes commands.Show input report text = (shown (whole_blocks input) ≡ Ok text) × (report ≡ None)
+
+-- the first faulty line of a text that is no script, with its kind
+abbrev pub script_fault : Result Script (ℕ × ScriptKind) → Option TopFault
+script_fault (Ok s) = None
+script_fault (Err (line, kind)) = Some (faults.Script line kind)
+
+-- the first fault of an image, with its block
+abbrev pub image_fault : Result (List ℕ) (ImageFault × ℕ) → Option TopFault
+image_fault (Ok text) = None
+image_fault (Err (kind, block)) = Some (faults.Image kind block)
+
+abbrev pub input_fault : Command → List ℕ → Option TopFault
+input_fault commands.Replay input = script_fault (script_of input)
+input_fault commands.Show input = image_fault (shown (whole_blocks input))
+
+-- this is the fault of the input; want of memory is free
+abbrev pub IsInputFault : Command → List ℕ → TopFault → Type 0
+IsInputFault c input (faults.Script line kind) = input_fault c input ≡ Some (faults.Script line kind)
+IsInputFault c input (faults.Image kind block) = input_fault c input ≡ Some (faults.Image kind block)
+IsInputFault c input faults.NoMemory = Unit {0}
+IsInputFault c input other = ⊥
+
+-- ---- what the top call did
+
+-- nothing was read
+abbrev pub IsUnread : Stream → Type 0
+IsUnread source = (source.bytes_after ≡ source.bytes) × (source.faults_after ≡ source.faults)
+
+-- what a command makes of the source, or the image that is made
+abbrev pub IsDone : Task → Stream → Option Report → List ℕ → Type 0
+IsDone (tasks.Read c) source report text = WasRead c source.bytes source.bytes_after (λ input. Makes c input report text)
+IsDone (tasks.Make s) source report text = IsUnread source × IsMade s report text
+
+-- the words ask for a task, and this is done
+pub record Does (words : List (List ℕ)) (source : Stream) (report : Option Report) (text : List ℕ) : Type 0 where
+  pub task : Task
+  pub asked : task_of words ≡ Some task
+  pub done : IsDone task source report text
+
+-- the words are a command, and this is the fault of the source's bytes
+pub record IsRefused (words : List (List ℕ)) (source : Stream) (fault : TopFault) : Type 0 where
+  pub command : Command
+  pub asked : task_of words ≡ Some (tasks.Read command)
+  pub read : WasRead command source.bytes source.bytes_after (λ input. input_fault command input ≡ Some fault)
+
+-- the cause of a fault for which nothing is written; want of memory is free
+abbrev pub Cause : List (List ℕ) → Stream → TopFault → Type 0
+Cause words source faults.BadWords = task_of words ≡ None
+Cause words source (faults.Script line kind) = IsRefused words source (faults.Script line kind)
+Cause words source (faults.Image kind block) = IsRefused words source (faults.Image kind block)
+Cause words source faults.SourceFault = Rose source.faults source.faults_after
+Cause words source faults.SinkFault = ⊥
+Cause words source faults.TooLong = (c : Command) × (task_of words ≡ Some (tasks.Read c)) × IsTooLong c source.bytes source.bytes_after
+Cause words source faults.NoMemory = Unit {0}
+
+-- what was done to source and sink, by the fault
+abbrev pub Did : List (List ℕ) → Stream → Stream → Option Report → Option TopFault → Type 0
+-- the sink took exactly what is to be written
+Did words source sink report None = (text : List ℕ) × Does words source report text × Appends sink.bytes sink.bytes_after text
+-- a front of it went out
+Did words source sink report (Some faults.SinkFault) =
+    (text : List ℕ) × Does words source report text × AppendsFront sink.bytes sink.bytes_after text × Rose sink.faults sink.faults_after
+-- nothing was written
+Did words source sink report (Some fault) = Cause words source fault × (report ≡ None) × Keeps sink.bytes sink.bytes_after
+
+-- ---- how a call ends where the input is told and neither stream fails
+
+abbrev pub expected : Command → List ℕ → Option TopFault
+expected c text = if nat_lt (most_of c) (length text) then Some faults.TooLong else input_fault c text
+
+-- so, or by want of memory
+abbrev pub EndsAs : Option TopFault → Option TopFault → Type 0
+EndsAs wanted fault = (fault ≡ wanted) ⊎ (fault ≡ Some faults.NoMemory)
+
+-- ---- faults of the parts
+
+abbrev pub top_fault : ScriptError → TopFault
+top_fault (errors.Fault line kind) = faults.Script line kind
+top_fault errors.NoMemory = faults.NoMemory
+
+abbrev pub end_fault : ReadEnd → TopFault
+end_fault ends.Fault = faults.SourceFault
+end_fault ends.TooLong = faults.TooLong
+end_fault ends.NoMemory = faults.NoMemory

@@ -1,0 +1,146 @@
+//! What the words of the command line ask for.
+ghost use Rattle.std.specs.Prelude.{◌≡◌, ◌++◌, ◌∷◌, [], Some, IfSome, OnOk, OnErr};
+ghost use Rattle.script_grammar.specs.Spelling.{numeral};
+ghost use Rattle.barrierfs_top.specs.Tasks.{command_of, most_of, sizes_of, task_of, CanDo};
+
+use crate::number::numeral;
+use blk_base::NoMemory;
+use minix_layout::Geometry;
+use script_grammar::MOST_SCRIPT_BYTES;
+use std::alloc::Global;
+use std::marker::Model;
+
+/// What the program does with its input.
+#[derive(Clone, Copy, PartialEq, Eq, Debug)]
+pub enum Command {
+    /// Runs a script and prints its report.
+    Replay,
+    /// Prints the tree of an image.
+    Show,
+}
+
+impl Command {
+    /// The most bytes that its input may have.
+    pub fn most(self) -> u64
+        ensures { result ≡ most_of self }
+    {
+        match self {
+            Command::Replay => MOST_SCRIPT_BYTES as u64,
+            Command::Show => MOST_IMAGE_BYTES,
+        }
+    }
+}
+
+/// The sizes of an image that is made: its inodes, the blocks of its volume and those of its journal.
+#[derive(Clone, Copy, PartialEq, Eq, Debug)]
+pub struct Sizes {
+    pub inodes: u16,
+    pub zones: u16,
+    pub journal: u32,
+}
+
+/// What the program does.
+#[derive(Clone, Copy, PartialEq, Eq, Debug)]
+pub enum Task {
+    /// Reads an input.
+    Read(Command),
+    /// Makes an image. Nothing is read.
+    Make(Sizes),
+}
+
+/// The most bytes of an image.
+pub const MOST_IMAGE_BYTES: u64 = 134_217_728;
+
+/// The words of the command line, without the program's name.
+#[derive(Drop)]
+pub struct Words {
+    items: Vec<String>,
+}
+
+impl Model for Words {
+    ghost use Rattle.std.specs.Prelude.{List, ℕ, map};
+    ghost use Rattle.std.specs.String.{string_bytes};
+
+    ghost Value = { List (List ℕ) };
+
+    ghost view = { λ w. map string_bytes w.items.items };
+}
+
+impl Words {
+    /// No words. It takes no memory.
+    pub fn make(alloc: Global) -> Words
+        ensures { result ≡ [] }
+    {
+        Words {
+            items: Vec::new(alloc),
+        }
+    }
+
+    pub fn push(&mut self, alloc: Global, word: &str) -> Result<(), NoMemory>
+        ensures pushed { OnOk result (self.new ≡ self.old ++ word.now ∷ []) }
+        ensures kept { OnErr result (self.new ≡ self.old) }
+    {
+        self.items.push(String::from_str(alloc, word)?)?;
+        Ok(())
+    }
+
+    /// What is to be done, where the words say so. Sizes of which no image can be made are no such words.
+    pub fn task(&self) -> Option<Task>
+        ensures value { result ≡ task_of self.now }
+        ensures can { IfSome result (λ t. CanDo t) }
+    {
+        match self.items.as_slice() {
+            [word] => Some(Task::Read(command_named(word.as_str())?)),
+            [make, inodes, zones, journal] => {
+                if make.as_str() != "make" {
+                    return None;
+                }
+                let sizes = sizes_named(inodes.as_str(), zones.as_str(), journal.as_str())?;
+                Some(Task::Make(sizes))
+            }
+            _ => None,
+        }
+    }
+}
+
+fn command_named(word: &str) -> Option<Command>
+    ensures { result ≡ command_of word.now }
+{
+    match word {
+        "replay" => Some(Command::Replay),
+        "show" => Some(Command::Show),
+        _ => None,
+    }
+}
+
+fn sizes_named(inodes: &str, zones: &str, journal: &str) -> Option<Sizes>
+    ensures value { result ≡ sizes_of (numeral inodes.now) (numeral zones.now) (numeral journal.now) }
+    ensures can { IfSome result (λ s. CanDo (Task.Make s)) }
+{
+    let inodes = numeral(inodes.as_bytes())?;
+    let zones = numeral(zones.as_bytes())?;
+    let journal = numeral(journal.as_bytes())?;
+    checked(inodes, zones, journal)
+}
+
+// The sizes, where an image can be made of them.
+fn checked(inodes: u64, zones: u64, journal: u64) -> Option<Sizes>
+    ensures value { result ≡ sizes_of (Some inodes) (Some zones) (Some journal) }
+    ensures can { IfSome result (λ s. CanDo (Task.Make s)) }
+{
+    if inodes == 0 || inodes > 65_535 || zones > 65_535 {
+        return None;
+    }
+    if journal < 128 || journal > 16_384 {
+        return None;
+    }
+    let (inodes, zones) = (inodes as u16, zones as u16);
+    if Geometry::make(inodes, zones).is_err() {
+        return None;
+    }
+    Some(Sizes {
+        inodes,
+        zones,
+        journal: journal as u32,
+    })
+}

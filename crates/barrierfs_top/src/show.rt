@@ -1,0 +1,67 @@
+//! The tree of an image.
+ghost use Rattle.std.specs.Prelude.{◌≡◌, Ok, IfOk, IfErr};
+ghost use Rattle.std.specs.String.{string_bytes};
+ghost use Rattle.blk_base.specs.Image.{whole_blocks};
+ghost use Rattle.mount_make.specs.Images.{mounted};
+ghost use Rattle.barrierfs_top.specs.Show.{shown, shown_volume, IsMountedFault};
+ghost use Rattle.barrierfs_top.specs.Top.{IsInputFault};
+ghost use Rattle.barrierfs_top.specs.declared.command_line.Command.{Command};
+
+use crate::fault::TopFault;
+use blk_base::{Image, NoMemory};
+use device_epochs::{DeviceSetup, EpochDevice};
+use mount_make::{MountFault, mount};
+use script_grammar::DEFAULT_DEPTH;
+use std::alloc::Global;
+use tree_model::put_tree;
+use volume_ops::Volume;
+
+/// The text of the tree that an image of these bytes has.
+pub fn show_text(alloc: Global, bytes: Vec<u8>) -> Result<String, TopFault>
+    ensures ok { IfOk result (λ text. shown (whole_blocks bytes.items) ≡ Ok (string_bytes text)) }
+    ensures err { IfErr result (IsInputFault Command.Show bytes.items) }
+{
+    let image = Image::from_bytes(alloc, &bytes);
+    drop(bytes);
+    let Ok(image) = image else {
+        return Err(TopFault::NoMemory);
+    };
+    let volume = volume_of(alloc, image)?;
+    match tree_text(alloc, &volume) {
+        Ok(text) => Ok(text),
+        Err(_) => Err(TopFault::NoMemory),
+    }
+}
+
+// The volume of an image. Its device has the depth of a script's, and room for its recovery.
+fn volume_of(alloc: Global, image: Image) -> Result<Volume, TopFault>
+    ensures ok { IfOk result (λ v. mounted image ≡ Ok v) }
+    ensures err { IfErr result (IsMountedFault image) }
+{
+    let setup = DeviceSetup {
+        depth: DEFAULT_DEPTH,
+        limit: u64::from(image.len()) + 2,
+        fail_at: None,
+        bad_read: None,
+        cut_at: None,
+    };
+    let Ok(mut device) = EpochDevice::make(alloc, image, setup) else {
+        return Err(TopFault::NoMemory);
+    };
+    match mount(alloc, &mut device) {
+        Ok(mounted) => Ok(mounted.volume),
+        Err(MountFault::Image(fault, block)) => Err(TopFault::Image(fault, block)),
+        Err(MountFault::NoMemory) => Err(TopFault::NoMemory),
+        Err(MountFault::ReadFault | MountFault::DeviceFailed(_)) => unreachable!(),
+    }
+}
+
+// The text of the tree of a volume.
+fn tree_text(alloc: Global, volume: &Volume) -> Result<String, NoMemory>
+    ensures { IfOk result (λ text. shown_volume volume.now ≡ Ok (string_bytes text)) }
+{
+    let tree = volume.tree(alloc)?;
+    let mut text = String::new(alloc);
+    put_tree(alloc, &mut text, tree)?;
+    Ok(text)
+}

@@ -1,0 +1,215 @@
+//! The top call.
+ghost use Rattle.std.specs.Prelude.{◌≡◌, ℕ, ◌≤◌, List, Some, None, Ok, length, IfOk, IfErr, IsErrOf};
+ghost use Rattle.blk_base.specs.Streams.{Rose};
+ghost use Rattle.barrierfs_top.specs.Tasks.{most_of, task_of, CanDo};
+ghost use Rattle.barrierfs_top.specs.Text.{output_bytes};
+ghost use Rattle.barrierfs_top.specs.Top.{status_of, stream_of, IsReplay, IsMade, Makes, IsInputFault, Does, Cause, Did, expected, EndsAs, top_fault, end_fault};
+ghost use Rattle.barrierfs_top.specs.Promise.{WentOut, TellsOrderClosed};
+ghost use Rattle.std.specs.String.{string_bytes};
+ghost use Rattle.blk_base.specs.Image.{whole_blocks};
+ghost use Rattle.barrierfs_top.specs.declared.command_line.Command.{Command};
+ghost use Rattle.barrierfs_top.specs.declared.command_line.Sizes.{Sizes};
+ghost use Rattle.barrierfs_top.specs.declared.command_line.Task.{Task};
+ghost use Rattle.barrierfs_top.specs.Show.{shown};
+
+use crate::command_line::{Command, Sizes, Task, Words};
+use crate::fault::TopFault;
+use crate::output::Output;
+use crate::show::show_text;
+use crate::text::put_report;
+use blk_base::{ReadEnd, Sink, Source, read_all};
+use mount_make::{MakeFault, make_volume};
+use script_grammar::{MOST_SCRIPT_BYTES, ScriptError, read_script};
+use stack_core::{Report, core_run};
+use std::alloc::Global;
+
+/// How the top call ended.
+#[derive(Drop)]
+pub struct Outcome {
+    /// The exit status: 0 where there is no fault.
+    pub status: u8,
+    pub fault: Option<TopFault>,
+    /// What the run left, where a script was run to its end.
+    pub report: Option<Report>,
+}
+
+// What a task has to write, and the report of a run.
+#[derive(Drop)]
+struct Printed {
+    report: Option<Report>,
+    output: Output,
+}
+
+fn fault_of(error: ScriptError) -> TopFault
+    ensures { result ≡ top_fault error }
+{
+    match error {
+        ScriptError::Fault(line, kind) => TopFault::Script(line, kind),
+        ScriptError::NoMemory => TopFault::NoMemory,
+    }
+}
+
+fn read_fault(end: ReadEnd) -> TopFault
+    ensures { result ≡ end_fault end }
+{
+    match end {
+        ReadEnd::Fault => TopFault::SourceFault,
+        ReadEnd::TooLong => TopFault::TooLong,
+        ReadEnd::NoMemory => TopFault::NoMemory,
+    }
+}
+
+// Runs the script of these bytes, and makes its text.
+fn run_text(alloc: Global, bytes: &[u8]) -> Result<Printed, TopFault>
+    requires { length bytes.now ≤ MOST_SCRIPT_BYTES }
+    ensures ok { IfOk result (λ p. IsReplay bytes.now p.report (output_bytes p.output)) }
+    ensures err { IfErr result (IsInputFault Command.Replay bytes.now) }
+{
+    let script = match read_script(alloc, bytes) {
+        Ok(script) => script,
+        Err(error) => return Err(fault_of(error)),
+    };
+    let Ok(report) = core_run(alloc, &script) else {
+        return Err(TopFault::NoMemory);
+    };
+    let mut text = String::new(alloc);
+    match put_report(
+        &mut text,
+        report.cut.trace.steps,
+        &report.cut.image,
+        report.cut.origins.as_slice(),
+    ) {
+        Ok(()) => Ok(Printed {
+            report: Some(report),
+            output: Output::Text(text),
+        }),
+        Err(_) => Err(TopFault::NoMemory),
+    }
+}
+
+// The text of the tree of an image of these bytes.
+fn show(alloc: Global, bytes: Vec<u8>) -> Result<Printed, TopFault>
+    ensures ok { IfOk result (λ p. (shown (whole_blocks bytes.items) ≡ Ok (output_bytes p.output)) × (p.report ≡ None)) }
+    ensures err { IfErr result (IsInputFault Command.Show bytes.items) }
+{
+    let text = show_text(alloc, bytes)?;
+    Ok(Printed {
+        report: None,
+        output: Output::Text(text),
+    })
+}
+
+// What a command makes of its input.
+fn print(alloc: Global, command: Command, bytes: Vec<u8>) -> Result<Printed, TopFault>
+    requires { length bytes.items ≤ most_of command }
+    ensures ok { IfOk result (λ p. Makes command bytes.items p.report (output_bytes p.output)) }
+    ensures err { IfErr result (IsInputFault command bytes.items) }
+{
+    match command {
+        Command::Replay => run_text(alloc, &bytes),
+        Command::Show => show(alloc, bytes),
+    }
+}
+
+// An image of these sizes.
+fn make(alloc: Global, sizes: Sizes) -> Result<Printed, TopFault>
+    requires { CanDo (Task.Make sizes) }
+    ensures ok { IfOk result (λ p. IsMade sizes p.report (output_bytes p.output)) }
+    ensures err { IfErr result (λ fault. fault ≡ TopFault.NoMemory) }
+{
+    match make_volume(alloc, sizes.inodes, sizes.zones, sizes.journal) {
+        Ok(image) => Ok(Printed {
+            report: None,
+            output: Output::Image(image),
+        }),
+        Err(MakeFault::NoMemory) => Err(TopFault::NoMemory),
+        Err(MakeFault::TooSmall | MakeFault::JournalSize) => unreachable!(),
+    }
+}
+
+// Reads the input of a command, and makes of it what the command does.
+fn read<R: Source>(alloc: Global, command: Command, src: &mut R) -> Result<Printed, TopFault>
+    ensures ok { (words : List (List ℕ)) → task_of words ≡ Some (Task.Read command) →
+        IfOk result (λ p. Does words (stream_of R.left R.faults src.old src.new) p.report (output_bytes p.output)) }
+    ensures err { (words : List (List ℕ)) → task_of words ≡ Some (Task.Read command) → IfErr result (Cause words (stream_of R.left R.faults src.old src.new)) }
+{
+    match read_all(alloc, src, command.most()) {
+        Ok(bytes) => print(alloc, command, bytes),
+        Err(end) => Err(read_fault(end)),
+    }
+}
+
+// All that comes before the first write.
+fn prepare<R: Source>(alloc: Global, words: &Words, src: &mut R) -> Result<Printed, TopFault>
+    ensures ok { IfOk result (λ p. Does words.now (stream_of R.left R.faults src.old src.new) p.report (output_bytes p.output)) }
+    ensures err { IfErr result (Cause words.now (stream_of R.left R.faults src.old src.new)) }
+    ensures words { task_of words.now ≡ None → IsErrOf result TopFault.BadWords }
+    ensures made { (s : Sizes) → task_of words.now ≡ Some (Task.Make s) → IfErr result (λ fault. fault ≡ TopFault.NoMemory) }
+{
+    let Some(task) = words.task() else {
+        return Err(TopFault::BadWords);
+    };
+    match task {
+        Task::Read(command) => read(alloc, command, src),
+        Task::Make(sizes) => make(alloc, sizes),
+    }
+}
+
+/// Does what the words say: `replay` reads a script of the source, runs it and writes its report to the sink,
+/// `show` reads an image and writes the text of the tree that it has once its journal was recovered, and `make` with
+/// the numbers of inodes, blocks of the volume and blocks of the journal writes a new image.
+///
+/// The statuses are tested in the order 2, 5 and 7, 3 or 4, 6. Status 8, want of memory, may come at any place
+/// before the first write.
+pub fn alone<R: Source, W: Sink>(alloc: Global, words: &Words, src: &mut R, out: &mut W) -> Outcome
+    ensures promise { (bytes : List ℕ) → task_of words.now ≡ Some (Task.Read Command.Replay) → WentOut (W.taken out.old) (W.taken out.new) bytes → TellsOrderClosed (R.left src.old) (R.left src.new) result.fault bytes }
+    ensures status { result.status ≡ status_of result.fault }
+    ensures did { Did words.now (stream_of R.left R.faults src.old src.new) (stream_of W.taken W.faults out.old out.new) result.report result.fault }
+    ensures words { task_of words.now ≡ None → result.fault ≡ Some TopFault.BadWords }
+    ensures complete { (c : Command) → task_of words.now ≡ Some (Task.Read c) → (text : List ℕ) → R.left src.old ≡ Some text → ¬ Rose (R.faults src.old) (R.faults src.new) → ¬ Rose (W.faults out.old) (W.faults out.new) → EndsAs (expected c text) result.fault }
+    ensures made { (s : Sizes) → task_of words.now ≡ Some (Task.Make s) → ¬ Rose (W.faults out.old) (W.faults out.new) → EndsAs None result.fault }
+{
+    let printed = match prepare(alloc, words, src) {
+        Ok(printed) => printed,
+        Err(fault) => return failed(fault),
+    };
+    match printed.output.write(out) {
+        Ok(()) => Outcome {
+            status: 0,
+            fault: None,
+            report: printed.report,
+        },
+        Err(_) => Outcome {
+            status: 6,
+            fault: Some(TopFault::SinkFault),
+            report: printed.report,
+        },
+    }
+}
+
+// Nothing was written.
+fn failed(fault: TopFault) -> Outcome
+    ensures status { result.status ≡ status_of (Some fault) }
+    ensures fault { result.fault ≡ Some fault }
+    ensures report { result.report ≡ None }
+{
+    Outcome {
+        status: status(fault),
+        fault: Some(fault),
+        report: None,
+    }
+}
+
+fn status(fault: TopFault) -> u8
+    ensures { result ≡ status_of (Some fault) }
+{
+    match fault {
+        TopFault::BadWords => 2,
+        TopFault::Script(_, _) => 3,
+        TopFault::Image(_, _) => 4,
+        TopFault::SourceFault => 5,
+        TopFault::SinkFault => 6,
+        TopFault::TooLong => 7,
+        TopFault::NoMemory => 8,
+    }
+}
