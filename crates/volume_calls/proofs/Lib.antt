@@ -1,0 +1,4 @@
+-- Lemmas on the code of calls.
+pub mod NameTexts
+pub mod WalkSteps
+pub mod DirectorySlots

@@ -1,0 +1,142 @@
+-- Where names lead, step by step, over the nodes of a volume.
+use Rattle.std.proofs.Common.{◌≡◌, ◌≢◌, ◌<◌, arith, ℕ, Bool, true, false, nat_lt, List, [], ◌∷◌, length, Option, Some, None, Ok, Err, Result, IsTrue, refl, sym, ap, ◌∙◌}
+use Rattle.std.specs.List.{list_all}
+use Rattle.std.proofs.lemmas.Bool.{and_parts}
+use Rattle.tree_model.specs.declared.call.Reply.{Reply}
+use Rattle.tree_model.specs.declared.call.Reply.TheVariants as replies
+use Rattle.tree_model.specs.declared.node.Node.TheVariants as nodes
+use Rattle.tree_model.specs.Calls.{Tree, Found, Place, and_then, birth_at, walk, found_at, refused_walk, parent_of, all_but_last, last_name, a_directory, refuse_if}
+use Rattle.tree_model.specs.Maps.{at_number}
+use Rattle.tree_model.specs.Paths.{is_path_name}
+use Rattle.tree_model.specs.Trees.{Refusal, step_at, led_to}
+use Rattle.volume_model.specs.declared.placed.Placed.{Placed}
+use Rattle.volume_model.specs.declared.placed.Part.TheVariants as parts
+use Rattle.volume_model.specs.declared.placed.DirectoryPart.{DirectoryPart}
+use Rattle.volume_model.specs.Trees.{directory_from, node_from, node_now, tree_now}
+use Rattle.volume_steps.proofs.TreeSteps.{tree_at, tree_none}
+use Rattle.volume_calls.proofs.NameTexts.{first_piece}
+use Rattle.volume_ops.specs.declared.found.Mapped.{Mapped}
+use Rattle.volume_calls.specs.code.Paths.{names_below, replied, next_at, led_from, above_last, last_in}
+
+-- ---- one step
+
+pub step_some : (blocks : List (List ℕ)) (placed : List (ℕ × Placed)) (birth : ℕ) (p : Placed) (name : List ℕ) (r : Result ℕ Reply) → at_number placed birth ≡ Some p →
+    r ≡ replied (step_at (Some (node_from blocks p.inode p.part)) name) → r ≡ next_at (tree_now blocks placed) birth name
+step_some blocks placed birth p name r at is = is ∙ ap (λ o. replied (step_at o name)) (sym (tree_at blocks placed birth p at))
+
+pub step_none : (blocks : List (List ℕ)) (placed : List (ℕ × Placed)) (birth : ℕ) (name : List ℕ) → at_number placed birth ≡ None →
+    Err replies.NotDir ≡ next_at (tree_now blocks placed) birth name
+step_none blocks placed birth name none = ap (λ o. replied (step_at o name)) (sym (tree_none blocks placed birth none))
+
+-- ---- one name after the other
+
+module _ (tree : Tree) (birth : ℕ) (name : List ℕ) (names : List (List ℕ)) where
+  abbrev on : Result ℕ Refusal → Result ℕ Refusal
+  on (Err refusal) = Err refusal
+  on (Ok next) = led_to tree next names
+
+  on_is : (x : Result ℕ Refusal) → elim x as (λ _. Result ℕ Refusal) [ Err refusal ↦ Err refusal | Ok next ↦ led_to tree next names ] ≡ on x
+  on_is (Err refusal) = refl
+  on_is (Ok next) = refl
+
+  pub led_err : (reply : Reply) → next_at tree birth name ≡ Err reply → led_from tree birth (name ∷ names) ≡ Err reply
+  led_err reply e = ap replied (on_is (step_at (at_number tree birth) name)) ∙ by (step_at (at_number tree birth) name) e
+    where
+      by : (x : Result ℕ Refusal) → replied x ≡ Err reply → replied (on x) ≡ Err reply
+      by (Err refusal) e = e
+      by (Ok next) e = absurd (cc)
+
+  pub led_ok : (next : ℕ) → next_at tree birth name ≡ Ok next → led_from tree birth (name ∷ names) ≡ led_from tree next names
+  led_ok next e = ap replied (on_is (step_at (at_number tree birth) name)) ∙ by (step_at (at_number tree birth) name) e
+    where
+      by : (x : Result ℕ Refusal) → replied x ≡ Ok next → replied (on x) ≡ led_from tree next names
+      by (Err refusal) e = absurd (cc)
+      by (Ok other) e = (let same : other ≡ next = cc in ap (λ n. led_from tree n names) same)
+
+pub birth_is : (tree : Tree) (names : List (List ℕ)) → birth_at tree names ≡ led_from tree 0 names
+birth_is tree names = by (led_to tree 0 names)
+  where
+    by : (x : Result ℕ Refusal) → elim x as (λ _. Result ℕ Reply) [ Err refusal ↦ Err (refused_walk refusal) | Ok birth ↦ Ok birth ] ≡ replied x
+    by (Err refusal) = refl
+    by (Ok birth) = refl
+
+-- the words of a text, after its first
+pub words_parts : (text name more : List ℕ) → names_below text ≡ name ∷ names_below more → IsTrue (list_all is_path_name (names_below text)) →
+    IsTrue (is_path_name name) × IsTrue (list_all is_path_name (names_below more))
+words_parts text name more is all = and_parts (is_path_name name) (list_all is_path_name (names_below more)) (sym (ap (list_all is_path_name) is) ∙ all)
+
+-- the state of a walk after a step
+pub led_more : (tree : Tree) (birth next : ℕ) (text name more : List ℕ) (all : Result ℕ Reply) → names_below text ≡ name ∷ names_below more → next_at tree birth name ≡ Ok next →
+    led_from tree birth (names_below text) ≡ all → led_from tree next (names_below more) ≡ all
+led_more tree birth next text name more all is step led = sym (led_ok tree birth name (names_below more) next step) ∙ (sym (ap (led_from tree birth) is) ∙ led)
+
+pub led_no_more : (tree : Tree) (birth : ℕ) (text name more : List ℕ) (reply : Reply) (all : Result ℕ Reply) → names_below text ≡ name ∷ names_below more → next_at tree birth name ≡ Err reply →
+    led_from tree birth (names_below text) ≡ all → all ≡ Err reply
+led_no_more tree birth text name more reply all is step led = sym led ∙ (ap (led_from tree birth) is ∙ led_err tree birth name (names_below more) reply step)
+
+pub led_end : (tree : Tree) (birth : ℕ) (text : List ℕ) (all : Result ℕ Reply) → text ≡ [] → led_from tree birth (names_below text) ≡ all → Ok birth ≡ all
+led_end tree birth text all none led = sym (ap (λ xs. led_from tree birth (names_below xs)) none) ∙ led
+
+-- ---- nodes
+
+pub walk_some : (blocks : List (List ℕ)) (placed : List (ℕ × Placed)) (names : List (List ℕ)) (birth : ℕ) (p : Placed) → birth_at (tree_now blocks placed) names ≡ Ok birth → at_number placed birth ≡ Some p →
+    walk (tree_now blocks placed) names ≡ Ok (record { birth = birth; node = node_now blocks p })
+walk_some blocks placed names birth p led at =
+    ap (λ x. and_then x (λ birth. found_at birth (at_number (tree_now blocks placed) birth))) led ∙ ap (found_at birth) (tree_at blocks placed birth p at)
+
+pub walk_none : (blocks : List (List ℕ)) (placed : List (ℕ × Placed)) (names : List (List ℕ)) (birth : ℕ) → birth_at (tree_now blocks placed) names ≡ Ok birth → at_number placed birth ≡ None →
+    walk (tree_now blocks placed) names ≡ Err replies.NotFound
+walk_none blocks placed names birth led none =
+    ap (λ x. and_then x (λ birth. found_at birth (at_number (tree_now blocks placed) birth))) led ∙ ap (found_at birth) (tree_none blocks placed birth none)
+
+-- ---- the directory of a last name
+
+abbrev pub then_place : List ℕ → Found → Result Place Reply
+then_place last found =
+    and_then (a_directory found.node) (λ d. refuse_if (nat_lt 14 (length last)) replies.NameTooLong (Ok (record { parent = found.birth; directory = d; name = last })))
+
+parent_parts : (at_root : Reply) (tree : Tree) (names : List (List ℕ)) → names ≢ [] → parent_of at_root tree names ≡ and_then (walk tree (above_last names)) (then_place (last_in names))
+parent_parts at_root tree [] some = absurd (some refl)
+parent_parts at_root tree (name ∷ names) some = refl
+
+some_names : (text : List ℕ) → 0 < length text → names_below text ≢ []
+some_names [] some = absurd (omega arith)
+some_names (b ∷ bytes) some = λ none. (let first = first_piece bytes in cc)
+
+module _ (blocks : List (List ℕ)) (placed : List (ℕ × Placed)) (text : List ℕ) (some : 0 < length text) (at_root : Reply) where
+  abbrev tree : Tree
+  tree = tree_now blocks placed
+
+  abbrev names : List (List ℕ)
+  names = names_below text
+
+  of_walk : (x : Result Found Reply) → walk tree (above_last names) ≡ x → parent_of at_root tree names ≡ and_then x (then_place (last_in names))
+  of_walk x is = parent_parts at_root tree names (some_names text some) ∙ ap (λ r. and_then r (then_place (last_in names))) is
+
+  walk_err : (names : List (List ℕ)) (reply : Reply) → led_from tree 0 names ≡ Err reply → walk tree names ≡ Err reply
+  walk_err names reply led = ap (λ x. and_then x (λ birth. found_at birth (at_number tree birth))) (birth_is tree names ∙ led)
+
+  pub above_refused : (reply : Reply) → led_from tree 0 (above_last names) ≡ Err reply → parent_of at_root tree names ≡ Err reply
+  above_refused reply led = of_walk (Err reply) (walk_err (above_last names) reply led)
+
+  module _ (parent : ℕ) (led : led_from tree 0 (above_last names) ≡ Ok parent) where
+    pub parent_none : at_number placed parent ≡ None → parent_of at_root tree names ≡ Err replies.NotFound
+    parent_none none = of_walk (Err replies.NotFound) (walk_none blocks placed (above_last names) parent (birth_is tree (above_last names) ∙ led) none)
+
+    of_node : (p : Placed) → at_number placed parent ≡ Some p → parent_of at_root tree names ≡ then_place (last_in names) (record { birth = parent; node = node_now blocks p })
+    of_node p at = of_walk (Ok (record { birth = parent; node = node_now blocks p })) (walk_some blocks placed (above_last names) parent p (birth_is tree (above_last names) ∙ led) at)
+
+    pub parent_file : (p : Placed) (zones : List Mapped) → at_number placed parent ≡ Some p → p.part ≡ parts.File zones → parent_of at_root tree names ≡ Err replies.NotDir
+    parent_file p zones at is = of_node p at ∙ ap (λ part. then_place (last_in names) (record { birth = parent; node = node_from blocks p.inode part })) is
+
+    pub parent_long : (p : Placed) (d : DirectoryPart) → at_number placed parent ≡ Some p → p.part ≡ parts.Directory d → nat_lt 14 (length (last_in names)) ≡ true → parent_of at_root tree names ≡ Err replies.NameTooLong
+    parent_long p d at is long =
+        of_node p at ∙ ap (λ part. then_place (last_in names) (record { birth = parent; node = node_from blocks p.inode part })) is
+        ∙ ap (λ test. refuse_if test replies.NameTooLong (Ok (record { parent = parent; directory = directory_from d; name = last_in names }))) long
+
+    pub parent_place : (p : Placed) (d : DirectoryPart) (name : List ℕ) → at_number placed parent ≡ Some p → p.part ≡ parts.Directory d → nat_lt 14 (length (last_in names)) ≡ false → name ≡ last_in names →
+        parent_of at_root tree names ≡ Ok (record { parent = parent; directory = directory_from d; name = name })
+    parent_place p d name at is short same =
+        of_node p at ∙ ap (λ part. then_place (last_in names) (record { birth = parent; node = node_from blocks p.inode part })) is
+        ∙ ap (λ test. refuse_if test replies.NameTooLong (Ok (record { parent = parent; directory = directory_from d; name = last_in names }))) short
+        ∙ ap (λ n. Ok (record { parent = parent; directory = directory_from d; name = n })) (sym same)

@@ -1,0 +1,6 @@
+use Rattle.std.proofs.Common.{nat_eq, ap, ◌∙◌, length}
+use Rattle.volume_calls.proofs.DirectorySlots.{room_tells}
+use Rattle.volume_calls.proofs.directories.needs_slot.Goals as goal
+
+pub returns : goal.returns
+returns c = rw (c.room.ensures, c.len.ensures) (room_tells c.args.directory.now c.requires)

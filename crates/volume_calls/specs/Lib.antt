@@ -1,0 +1,3 @@
+-- What the code of calls on a volume has besides the definitions of the layers below.
+pub mod Asked
+pub mod code

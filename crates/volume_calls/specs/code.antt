@@ -1,0 +1,3 @@
+-- The code's view of paths, rows and its own fields.
+pub mod Paths
+pub mod Rows

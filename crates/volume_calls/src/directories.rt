@@ -1,0 +1,69 @@
+//! The slots of a directory, beside its names.
+ghost use Rattle.std.specs.Prelude.{◌≡◌, ◌==◌, ◌+◌, List, ℕ, None, is_some, length};
+ghost use Rattle.dir_ops.specs.Slots.{slot_at, used_count};
+ghost use Rattle.tree_model.specs.Calls.{needs_slot, is_full, directory_zones, one_if, slots_with};
+ghost use Rattle.tree_model.specs.Maps.{at_name};
+ghost use Rattle.volume_model.specs.Trees.{directory_from};
+
+use dir_ops::Slots;
+use volume_model::DirectoryPart;
+
+// No slot is free for one name more.
+fn needs_slot(directory: &DirectoryPart) -> bool
+    requires { used_count directory.now.slots ≡ 2 + length directory.now.names }
+    ensures { result ≡ needs_slot (directory_from directory.now) }
+{
+    directory.slots.room() == directory.slots.len()
+}
+
+// One name more would make it too big.
+pub fn is_full(directory: &DirectoryPart) -> bool
+    requires { used_count directory.now.slots ≡ 2 + length directory.now.names }
+    ensures { result ≡ is_full (directory_from directory.now) }
+{
+    needs_slot(directory) && directory.slots.len() >= 33216
+}
+
+// It has no names but for `.` and `..`.
+pub fn has_no_names(directory: &DirectoryPart) -> bool
+    requires { used_count directory.now.slots ≡ 2 + length directory.now.names }
+    ensures { result ≡ (length directory.now.names == 0) }
+{
+    used_count(&directory.slots) == 2
+}
+
+// How many slots are in use.
+fn used_count(slots: &Slots) -> usize
+    ensures { result ≡ used_count slots.now }
+{
+    let mut used = 0;
+    for at in 0..slots.len() {
+        used += one_if(is_used(slots, at)) as usize;
+    }
+    used
+}
+
+fn is_used(slots: &Slots, at: usize) -> bool
+    ensures { result ≡ is_some (slot_at slots.now at) }
+{
+    slots.get(at).is_some()
+}
+
+pub fn one_if(test: bool) -> u32
+    ensures { result ≡ one_if test }
+{
+    u32::from(test)
+}
+
+// The zones that a directory takes for one name more.
+pub fn slot_zones(directory: &DirectoryPart) -> u32
+    requires { used_count directory.now.slots ≡ 2 + length directory.now.names }
+    ensures { (name : List ℕ) → at_name directory.now.names name ≡ None →
+        directory_zones (length directory.now.slots) + result ≡ directory_zones (slots_with (directory_from directory.now) name) }
+{
+    if !needs_slot(directory) {
+        return 0;
+    }
+    let slots = directory.slots.len();
+    one_if(slots % 64 == 0) + one_if(slots == 448)
+}

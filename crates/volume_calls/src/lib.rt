@@ -1,0 +1,16 @@
+//! A plain volume that is in use: what calls on it answer and take.
+//!
+//! `plain` has the volume, `paths` how a path is walked in its text, `rows` what refuses each call and which zones it
+//! takes, and `answer` the answers.
+//!
+//! Stands on `volume_steps`, whose plain data a volume is, on `tree_model`, which says what refuses a call, and on
+//! `zone_maps`.
+#![tactic(auto)]
+
+mod directories;
+mod paths;
+mod plain;
+mod rows;
+mod walk;
+
+pub use plain::PlainVolume;

@@ -1,0 +1,54 @@
+//! What refuses a call that takes no zone.
+ghost use Rattle.std.specs.Prelude.{◌≡◌};
+ghost use Rattle.tree_model.specs.Calls.{rmdir, unlink, truncate, read, list, stat, barrier};
+ghost use Rattle.volume_steps.specs.Now.{tree_of_now};
+ghost use Rattle.volume_calls.specs.code.Rows.{Agrees};
+
+use crate::PlainVolume;
+use crate::directories::has_no_names;
+use crate::paths::names_of;
+use tree_model::{ByteList, Reply};
+use volume_model::Part;
+
+impl PlainVolume {
+    pub(crate) fn rmdir(&self, path: &ByteList) -> Result<(), Reply>
+        ensures { Agrees result (rmdir (tree_of_now self.now) path.now) }
+    {
+        let names = names_of(path)?;
+        if names.is_empty() {
+            return Err(Reply::Invalid);
+        }
+        let _ = self.place_of(names)?;
+        let found = self.found(names)?;
+        let Part::Directory(directory) = &found.placed.part else {
+            return Err(Reply::NotDir);
+        };
+        if !has_no_names(directory) {
+            return Err(Reply::NotEmpty);
+        }
+        Ok(())
+    }
+
+    pub(crate) fn unlink(&self, path: &ByteList) -> Result<(), Reply>
+        ensures { Agrees result (unlink (tree_of_now self.now) path.now) }
+    {
+        let names = names_of(path)?;
+        if names.is_empty() {
+            return Err(Reply::Invalid);
+        }
+        let _ = self.place_of(names)?;
+        let found = self.found(names)?;
+        match &found.placed.part {
+            Part::Directory(_) => Err(Reply::IsDir),
+            Part::File(_) => Ok(()),
+        }
+    }
+
+    pub(crate) fn barrier(&self, path: &ByteList) -> Result<(), Reply>
+        ensures { Agrees result (barrier (tree_of_now self.now) path.now) }
+    {
+        let names = names_of(path)?;
+        let _ = self.found(names)?;
+        Ok(())
+    }
+}
