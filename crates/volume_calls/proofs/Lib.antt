@@ -2,3 +2,4 @@
 pub mod NameTexts
 pub mod WalkSteps
 pub mod DirectorySlots
+pub mod TakeSteps

@@ -1,5 +1,5 @@
 //! The slots of a directory, beside its names.
-ghost use Rattle.std.specs.Prelude.{◌≡◌, ◌==◌, ◌+◌, List, ℕ, None, is_some, length};
+ghost use Rattle.std.specs.Prelude.{◌≡◌, ◌≤◌, ◌==◌, ◌+◌, List, ℕ, None, is_some, length};
 ghost use Rattle.dir_ops.specs.Slots.{slot_at, used_count};
 ghost use Rattle.tree_model.specs.Calls.{needs_slot, is_full, directory_zones, one_if, slots_with};
 ghost use Rattle.tree_model.specs.Maps.{at_name};
@@ -58,8 +58,9 @@ pub fn one_if(test: bool) -> u32
 // The zones that a directory takes for one name more.
 pub fn slot_zones(directory: &DirectoryPart) -> u32
     requires { used_count directory.now.slots ≡ 2 + length directory.now.names }
-    ensures { (name : List ℕ) → at_name directory.now.names name ≡ None →
+    ensures more { (name : List ℕ) → at_name directory.now.names name ≡ None →
         directory_zones (length directory.now.slots) + result ≡ directory_zones (slots_with (directory_from directory.now) name) }
+    ensures most { result ≤ 2 }
 {
     if !needs_slot(directory) {
         return 0;

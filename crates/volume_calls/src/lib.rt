@@ -11,6 +11,7 @@ mod directories;
 mod paths;
 mod plain;
 mod rows;
+mod takes;
 mod walk;
 
 pub use plain::PlainVolume;

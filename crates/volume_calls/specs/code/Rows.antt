@@ -1,7 +1,7 @@
 -- What rows say, as the code tells it.
-use Rattle.std.specs.Prelude.{◌≡◌, ℕ, ◌-◌, false, Result, Ok, Err}
+use Rattle.std.specs.Prelude.{◌≡◌, false, Result, Ok, Err}
 use Rattle.tree_model.specs.declared.call.Reply.{Reply}
-use Rattle.tree_model.specs.Calls.{Tree, Row, used_zones}
+use Rattle.tree_model.specs.Calls.{Row}
 
 -- the same refusal, or none; a call that takes no inode is done
 abbrev pub Agrees : Result (Unit {0}) Reply → Row → Type 0

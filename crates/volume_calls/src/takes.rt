@@ -1,0 +1,108 @@
+//! What refuses a call that makes a name, and which zones it takes.
+ghost use Rattle.std.specs.Prelude.{◌≡◌, ℕ, is_some};
+ghost use Rattle.tree_model.specs.Maps.{at_name};
+ghost use Rattle.tree_model.specs.Calls.{mkdir, create, link};
+ghost use Rattle.tree_model.specs.Plain.{AreBornBefore};
+ghost use Rattle.volume_steps.specs.Now.{tree_of_now};
+ghost use Rattle.volume_calls.specs.code.Asked.{IsAsked};
+
+use crate::PlainVolume;
+use crate::directories::{is_full, slot_zones};
+use crate::paths::names_of;
+use crate::walk::Place;
+use tree_model::{ByteList, Reply};
+use volume_model::Part;
+
+/// What a call takes that nothing refuses.
+#[derive(Clone, Copy, PartialEq, Eq, Debug)]
+pub struct Wants {
+    pub inode: bool,
+    pub zones: u32,
+}
+
+// As many links as a node can have.
+const MOST_LINKS: u8 = 250;
+
+fn is_named(place: &Place<'_>) -> bool
+    ensures { result ≡ is_some (at_name place.now.directory.now.names place.now.name) }
+{
+    place.directory.names.get(&place.name).is_some()
+}
+
+impl PlainVolume {
+    pub(crate) fn mkdir(&self, path: &ByteList) -> Result<Wants, Reply>
+        ensures { (n : ℕ) → AreBornBefore n (tree_of_now self.now) →
+            IsAsked (tree_of_now self.now) result (mkdir (tree_of_now self.now) n path.now) }
+    {
+        let _ = &self.geometry;
+        let names = names_of(path)?;
+        if names.is_empty() {
+            return Err(Reply::Exists);
+        }
+        let place = self.place_of(names)?;
+        if is_named(&place) {
+            return Err(Reply::Exists);
+        }
+        if place.placed.inode.links == MOST_LINKS {
+            return Err(Reply::TooManyLinks);
+        }
+        if is_full(place.directory) {
+            return Err(Reply::TooBig);
+        }
+        Ok(Wants {
+            inode: true,
+            zones: 1 + slot_zones(place.directory),
+        })
+    }
+
+    pub(crate) fn create(&self, path: &ByteList) -> Result<Wants, Reply>
+        ensures { (n : ℕ) → AreBornBefore n (tree_of_now self.now) →
+            IsAsked (tree_of_now self.now) result (create (tree_of_now self.now) n path.now) }
+    {
+        let _ = &self.geometry;
+        let names = names_of(path)?;
+        if names.is_empty() {
+            return Err(Reply::Exists);
+        }
+        let place = self.place_of(names)?;
+        if is_named(&place) {
+            return Err(Reply::Exists);
+        }
+        if is_full(place.directory) {
+            return Err(Reply::TooBig);
+        }
+        Ok(Wants {
+            inode: true,
+            zones: slot_zones(place.directory),
+        })
+    }
+
+    pub(crate) fn link(&self, path: &ByteList, other: &ByteList) -> Result<Wants, Reply>
+        ensures { IsAsked (tree_of_now self.now) result (link (tree_of_now self.now) path.now other.now) }
+    {
+        let _ = &self.geometry;
+        let names = names_of(path)?;
+        let more = names_of(other)?;
+        let found = self.found(names)?;
+        if let Part::Directory(_) = &found.placed.part {
+            return Err(Reply::IsDir);
+        }
+        if more.is_empty() {
+            return Err(Reply::Exists);
+        }
+        let place = self.place_of(more)?;
+        if is_named(&place) {
+            return Err(Reply::Exists);
+        }
+        if found.placed.inode.links == MOST_LINKS {
+            return Err(Reply::TooManyLinks);
+        }
+        if is_full(place.directory) {
+            return Err(Reply::TooBig);
+        }
+        Ok(Wants {
+            inode: false,
+            zones: slot_zones(place.directory),
+        })
+    }
+}
