@@ -3,3 +3,4 @@ pub mod NameTexts
 pub mod WalkSteps
 pub mod DirectorySlots
 pub mod TakeSteps
+pub mod AskSteps

@@ -1,7 +1,20 @@
--- What is asked of a volume besides its calls.
-use Rattle.std.specs.Prelude.{ℕ, List, Option, Some, None, Ok, Err}
-use Rattle.tree_model.specs.Calls.{Tree, walk_path}
+-- What is asked of a volume before a call is done.
+use Rattle.std.specs.Prelude.{◌≡◌, Bool, true, false, Ok, Err}
+use Rattle.tree_model.specs.declared.call.Call.{Call}
+use Rattle.tree_model.specs.declared.call.Call.TheVariants as calls
+use Rattle.tree_model.specs.Calls.{Row}
+use Rattle.volume_calls.specs.declared.answer.Answer.{Answer}
+use Rattle.volume_calls.specs.declared.answer.Answer.TheVariants.{Refused, Change}
 
--- the birth of the node to which a path leads
-abbrev pub birth_in : Tree → List ℕ → Option ℕ
-birth_in tree path = elim (walk_path tree path) as (λ _. Option ℕ) [ Err reply ↦ None | Ok found ↦ Some found.birth ]
+-- the refusal, or that there is none
+abbrev pub Answers : Answer → Row → Type 0
+Answers (Refused reply) (Err why) = reply ≡ why
+Answers Change (Ok done) = Unit {0}
+Answers answer row = ⊥
+
+-- calls that are told of: all but renames and writes
+abbrev pub is_told : Call → Bool
+is_told (calls.Rename path other) = false
+is_told (calls.Write path off len value) = false
+is_told (calls.Bytes path off bytes) = false
+is_told other = true

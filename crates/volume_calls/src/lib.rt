@@ -7,6 +7,7 @@
 //! `zone_maps`.
 #![tactic(auto)]
 
+mod answer;
 mod directories;
 mod paths;
 mod plain;
@@ -14,4 +15,5 @@ mod rows;
 mod takes;
 mod walk;
 
+pub use answer::Answer;
 pub use plain::PlainVolume;
