@@ -4,3 +4,4 @@ pub mod WalkSteps
 pub mod DirectorySlots
 pub mod TakeSteps
 pub mod AskSteps
+pub mod NewInUse

@@ -9,6 +9,7 @@
 
 mod answer;
 mod directories;
+mod laws;
 mod paths;
 mod plain;
 mod rows;
@@ -16,4 +17,5 @@ mod takes;
 mod walk;
 
 pub use answer::Answer;
+pub use laws::new_volumes_are_in_use;
 pub use plain::PlainVolume;

@@ -2,6 +2,7 @@
 ghost use Rattle.std.specs.Prelude.{◌≡◌};
 ghost use Rattle.volume_ops.specs.Volume.{disk_of};
 ghost use Rattle.volume_steps.specs.Calls.{after_release};
+ghost use Rattle.volume_steps.specs.Plain.{IsPlainNow};
 
 use blk_base::{Block, Image};
 use minix_layout::Geometry;
@@ -31,6 +32,24 @@ impl Model for PlainVolume {
 }
 
 impl PlainVolume {
+    /// The volume of these blocks and nodes, and what each zone of data of it is.
+    pub fn of(
+        geometry: Geometry,
+        blocks: Image,
+        nodes: BTreeMap<u64, Placed>,
+        zones: ZoneMap,
+    ) -> PlainVolume
+        requires { IsPlainNow (record { geometry = geometry; contents = record { blocks = blocks; nodes = nodes.entries }; zones = zones }) }
+        ensures { result ≡ record { geometry = geometry; contents = record { blocks = blocks; nodes = nodes.entries }; zones = zones } }
+    {
+        PlainVolume {
+            geometry,
+            blocks,
+            nodes,
+            zones,
+        }
+    }
+
     /// How the volume is divided.
     pub fn geometry(&self) -> &Geometry
         ensures { result.now ≡ self.now.geometry }
