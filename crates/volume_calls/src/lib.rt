@@ -14,6 +14,8 @@ mod paths;
 mod plain;
 mod rows;
 mod takes;
+#[cfg(test)]
+mod tests;
 mod walk;
 
 pub use answer::Answer;
