@@ -1,5 +1,5 @@
 -- From what a row says to what is answered.
-use Rattle.std.proofs.Common.{◌≡◌, ◌≤◌, ◌<◌, ℕ, List, ◌+◌, ◌-◌, nat_le, nat_lt, Bool, true, false, ◌&&◌, length, count_by, Ok, Err, Result, refl, sym, ap, subst, ◌∙◌, arith}
+use Rattle.std.proofs.Common.{◌≡◌, ◌≤◌, ◌<◌, ℕ, List, ◌+◌, ◌-◌, nat_le, nat_lt, Bool, true, false, ◌&&◌, length, count_by, Ok, Err, refl, sym, ap, subst, ◌∙◌, arith}
 use Rattle.tree_model.specs.declared.call.Call.{Call}
 use Rattle.tree_model.specs.declared.call.Reply.{Reply}
 use Rattle.tree_model.specs.declared.call.Reply.TheVariants as replies

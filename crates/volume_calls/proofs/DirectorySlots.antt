@@ -1,9 +1,9 @@
 -- What the slots of a directory say of its names.
-use Rattle.std.proofs.Common.{◌≡◌, ◌≢◌, ◌≤◌, ◌<◌, ℕ, zero, suc, ◌+◌, ◌%◌, nat_eq, nat_lt, ◌==◌, Bool, true, false, not, ◌&&◌, if◌then◌else◌, List, [], ◌∷◌, length, take, Option, Some, None, is_some, refl, sym, ap, ◌∙◌, inl, inr, arith, add-one}
-use Rattle.std.proofs.lemmas.Bool.{cases_eq, ne_eqb, eq-eqb}
+use Rattle.std.proofs.Common.{◌≡◌, ◌≤◌, ◌<◌, ℕ, zero, suc, ◌+◌, ◌%◌, nat_eq, nat_lt, ◌==◌, Bool, true, false, not, if◌then◌else◌, List, [], ◌∷◌, length, take, Option, Some, None, is_some, refl, inl, inr, arith, add-one}
+use Rattle.std.proofs.lemmas.Bool.{cases_eq}
 use Rattle.minix_layout.specs.declared.slot.Slot.{Slot}
 use Rattle.dir_ops.specs.Slots.{room, used_count, slot_at}
-use Rattle.dir_ops.specs.laws.Slots.{room-within, room-count, full-count, used-most}
+use Rattle.dir_ops.specs.laws.Slots.{room-within, room-count, full-count}
 use Rattle.tree_model.specs.Calls.{needs_slot, directory_zones, one_if, slots_with}
 use Rattle.tree_model.specs.Maps.{at_name}
 use Rattle.tree_model.proofs.Outcomes.{slot_needs}

@@ -1,10 +1,9 @@
 -- The names of a text, one after the other.
-use Rattle.std.proofs.Common.{◌≡◌, ◌≢◌, ◌≤◌, ◌<◌, ◌^◌, ℕ, ◌==◌, ◌+◌, ◌&&◌, nat_lt, nat_le, Bool, true, false, not, cond, List, [], ◌∷◌, length, take, drop, Option, Some, None, Ok, Err, Result, IsTrue, if◌then◌else◌, refl, sym, ap, ◌∙◌, inl, inr, arith, add-one, one-add, lit<}
+use Rattle.std.proofs.Common.{◌≡◌, ◌≢◌, ◌≤◌, ℕ, ◌==◌, ◌+◌, ◌&&◌, nat_lt, nat_le, Bool, true, false, not, List, [], ◌∷◌, length, take, drop, Option, Some, None, Ok, Err, IsTrue, if◌then◌else◌, refl, sym, ap, ◌∙◌, inl, inr, arith, one-add, lit<}
 use Rattle.std.specs.List.{slice_split, onto_first, position_or_len, position, list_all, list_any}
-use Rattle.std.specs.Option.{ok_or, unwrap_or}
+use Rattle.std.specs.Option.{unwrap_or}
 use Rattle.std.proofs.lemmas.Bool.{cases_Bool}
-use Rattle.minix_layout.specs.Words.{is_name, name_from}
-use Rattle.tree_model.specs.declared.call.Reply.{Reply}
+use Rattle.minix_layout.specs.Words.{name_from}
 use Rattle.tree_model.specs.declared.call.Reply.TheVariants as replies
 use Rattle.tree_model.specs.Calls.{names_in, if_some}
 use Rattle.tree_model.specs.Paths.{is_path_name, path_of}

@@ -1,14 +1,12 @@
 -- Which zones a name takes, and what the rows of names say where nothing refuses them.
-use Rattle.std.proofs.Common.{◌≡◌, ◌≢◌, ◌<◌, ℕ, ◌+◌, ◌-◌, ◌==◌, Bool, true, false, List, [], ◌∷◌, length, Option, Some, None, Ok, Err, Result, is_some, refl, sym, ap, subst, ◌∙◌, arith}
-use Rattle.tree_model.specs.declared.call.Reply.{Reply}
+use Rattle.std.proofs.Common.{◌≡◌, ◌≢◌, ℕ, ◌+◌, ◌-◌, ◌==◌, false, List, Option, Some, None, Ok, refl, sym, ap, ◌∙◌, arith}
 use Rattle.tree_model.specs.declared.call.Reply.TheVariants as replies
 use Rattle.tree_model.specs.declared.node.Node.{Node}
 use Rattle.tree_model.specs.declared.node.Node.TheVariants as nodes
 use Rattle.tree_model.specs.declared.node.File.{File}
-use Rattle.tree_model.specs.declared.node.Directory.{Directory}
-use Rattle.tree_model.specs.Maps.{at_number, put_number, at_name}
+use Rattle.tree_model.specs.Maps.{at_number, put_number}
 use Rattle.tree_model.specs.Plain.{AreBornBefore}
-use Rattle.tree_model.specs.Calls.{Tree, Row, Done, Place, Found, and_then, refuse_if, makes, leaves, names_in, parent_of, walk, a_file, is_named, is_full, most_links, with_links, with_name, give_name, put_file, new_file, new_directory, slots_with, directory_zones, node_zones, used_zones, mkdir, create, link}
+use Rattle.tree_model.specs.Calls.{Tree, Row, Place, Found, and_then, refuse_if, makes, leaves, names_in, parent_of, walk, a_file, is_named, is_full, most_links, with_links, with_name, give_name, put_file, new_file, new_directory, slots_with, directory_zones, node_zones, used_zones, mkdir, create, link}
 use Rattle.tree_model.specs.Trees.{directory_links}
 use Rattle.tree_model.specs.laws.MapOrder.{InOrder, in_order_put}
 use Rattle.tree_model.specs.laws.MapsLaws.{at_put_number_apart}
@@ -21,7 +19,6 @@ use Rattle.volume_model.specs.Trees.{directory_from, node_from, in_order}
 use Rattle.volume_ops.specs.Volume.{bodies_of}
 use Rattle.volume_steps.specs.Now.{VolumeNow, tree_of_now}
 use Rattle.volume_steps.proofs.TreeSteps.{tree_at, used_put_more, used_put_new, used_put_same}
-use Rattle.volume_calls.specs.code.Asked.{IsAsked}
 
 -- ---- nodes of the tree
 

@@ -1,11 +1,10 @@
 -- Where names lead, step by step, over the nodes of a volume.
-use Rattle.std.proofs.Common.{◌≡◌, ◌≢◌, ◌<◌, arith, ℕ, Bool, true, false, nat_lt, List, [], ◌∷◌, length, Option, Some, None, Ok, Err, Result, IsTrue, refl, sym, ap, ◌∙◌}
+use Rattle.std.proofs.Common.{◌≡◌, ◌≢◌, ◌<◌, arith, ℕ, true, false, nat_lt, List, [], ◌∷◌, length, Some, None, Ok, Err, Result, IsTrue, refl, sym, ap, ◌∙◌}
 use Rattle.std.specs.List.{list_all}
 use Rattle.std.proofs.lemmas.Bool.{and_parts}
 use Rattle.tree_model.specs.declared.call.Reply.{Reply}
 use Rattle.tree_model.specs.declared.call.Reply.TheVariants as replies
-use Rattle.tree_model.specs.declared.node.Node.TheVariants as nodes
-use Rattle.tree_model.specs.Calls.{Tree, Found, Place, and_then, birth_at, walk, found_at, refused_walk, parent_of, all_but_last, last_name, a_directory, refuse_if}
+use Rattle.tree_model.specs.Calls.{Tree, Found, Place, and_then, birth_at, walk, found_at, refused_walk, parent_of, a_directory, refuse_if}
 use Rattle.tree_model.specs.Maps.{at_number}
 use Rattle.tree_model.specs.Paths.{is_path_name}
 use Rattle.tree_model.specs.Trees.{Refusal, step_at, led_to}

@@ -107,23 +107,44 @@ fn answers_on_a_new_volume(rt: HostRuntime) -> Result<(), Fail> {
     let call = Call::Mkdir(path(alloc, b"/a")?);
     assert_eq!(rt; shown(alloc, &volume, &call)?.as_str(), "Change, 1");
     let call = Call::Mkdir(path(alloc, b"/")?);
-    assert_eq!(rt; shown(alloc, &volume, &call)?.as_str(), "Refused(Exists), 0");
+    assert_eq!(rt;
+        shown(alloc, &volume, &call)?.as_str(),
+        "Refused(Exists), 0"
+    );
     let call = Call::Create(path(alloc, b"/a")?);
     assert_eq!(rt; shown(alloc, &volume, &call)?.as_str(), "Change, 0");
     let call = Call::Create(path(alloc, b"a")?);
-    assert_eq!(rt; shown(alloc, &volume, &call)?.as_str(), "Refused(BadPath), 0");
+    assert_eq!(rt;
+        shown(alloc, &volume, &call)?.as_str(),
+        "Refused(BadPath), 0"
+    );
     let call = Call::Create(path(alloc, b"/b/z")?);
-    assert_eq!(rt; shown(alloc, &volume, &call)?.as_str(), "Refused(NotFound), 0");
+    assert_eq!(rt;
+        shown(alloc, &volume, &call)?.as_str(),
+        "Refused(NotFound), 0"
+    );
     let call = Call::Create(path(alloc, b"/abcdefghijklmno")?);
-    assert_eq!(rt; shown(alloc, &volume, &call)?.as_str(), "Refused(NameTooLong), 0");
+    assert_eq!(rt;
+        shown(alloc, &volume, &call)?.as_str(),
+        "Refused(NameTooLong), 0"
+    );
     let call = Call::Rmdir(path(alloc, b"/")?);
-    assert_eq!(rt; shown(alloc, &volume, &call)?.as_str(), "Refused(Invalid), 0");
+    assert_eq!(rt;
+        shown(alloc, &volume, &call)?.as_str(),
+        "Refused(Invalid), 0"
+    );
     let call = Call::Unlink(path(alloc, b"/a")?);
-    assert_eq!(rt; shown(alloc, &volume, &call)?.as_str(), "Refused(NotFound), 0");
+    assert_eq!(rt;
+        shown(alloc, &volume, &call)?.as_str(),
+        "Refused(NotFound), 0"
+    );
     let call = Call::List(path(alloc, b"/")?);
     assert_eq!(rt; shown(alloc, &volume, &call)?.as_str(), "Change, 0");
     let call = Call::Fsync(path(alloc, b"/x")?);
-    assert_eq!(rt; shown(alloc, &volume, &call)?.as_str(), "Refused(NotFound), 0");
+    assert_eq!(rt;
+        shown(alloc, &volume, &call)?.as_str(),
+        "Refused(NotFound), 0"
+    );
     let call = Call::Link(path(alloc, b"/")?, path(alloc, b"/a")?);
     assert_eq!(rt; shown(alloc, &volume, &call)?.as_str(), "Refused(IsDir), 0");
     assert_eq!(rt; shown(alloc, &volume, &Call::Sync)?.as_str(), "Change, 0");
@@ -132,7 +153,10 @@ fn answers_on_a_new_volume(rt: HostRuntime) -> Result<(), Fail> {
     volume.release(3);
     assert_eq!(rt; volume.zones().free_count(), 58);
     assert_eq!(rt; volume.geometry().first, 5);
-    assert_eq!(rt; volume.block_bytes(5).as_slice().get(2).copied(), Some(b'.'));
+    assert_eq!(rt;
+        volume.block_bytes(5).as_slice().get(2).copied(),
+        Some(b'.')
+    );
     assert_eq!(rt; volume.block_bytes(64).as_slice().get(2).copied(), Some(0));
     Ok(())
 }

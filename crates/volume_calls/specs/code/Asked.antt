@@ -1,5 +1,5 @@
 -- What a row says, told by what the call takes.
-use Rattle.std.specs.Prelude.{◌≡◌, ℕ, ◌-◌, Result, Ok, Err}
+use Rattle.std.specs.Prelude.{◌≡◌, ◌-◌, Result, Ok, Err}
 use Rattle.tree_model.specs.declared.call.Reply.{Reply}
 use Rattle.tree_model.specs.Calls.{Tree, Row, used_zones}
 use Rattle.volume_calls.specs.declared.takes.Wants.{Wants}

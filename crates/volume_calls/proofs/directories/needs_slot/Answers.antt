@@ -1,4 +1,3 @@
-use Rattle.std.proofs.Common.{nat_eq, ap, ◌∙◌, length}
 use Rattle.volume_calls.proofs.DirectorySlots.{room_tells}
 use Rattle.volume_calls.proofs.directories.needs_slot.Goals as goal
 

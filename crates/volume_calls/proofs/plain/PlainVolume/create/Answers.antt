@@ -1,4 +1,4 @@
-use Rattle.std.proofs.Common.{◌≡◌, ◌∙◌, sym, ap, subst, refl, true, false, Ok}
+use Rattle.std.proofs.Common.{sym, subst, refl, true, Ok}
 use Rattle.tree_model.specs.declared.call.Reply.TheVariants as replies
 use Rattle.tree_model.specs.Calls.{Place}
 use Rattle.volume_model.specs.Trees.{directory_from}

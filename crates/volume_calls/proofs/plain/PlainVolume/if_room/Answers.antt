@@ -1,5 +1,4 @@
-use Rattle.std.proofs.Common.{◌≡◌, ◌<◌, ◌≤◌, ◌-◌, sym, subst, arith, ℕ}
-use Rattle.tree_model.specs.Calls.{used_zones}
+use Rattle.std.proofs.Common.{◌<◌, ◌≤◌, sym, subst, ℕ}
 use Rattle.volume_steps.specs.Now.{VolumeNow, tree_of_now, room_of}
 use Rattle.volume_calls.proofs.AskSteps.{no_inode, no_space, may_change}
 use Rattle.volume_calls.proofs.plain.PlainVolume.if_room.Goals as goal

@@ -1,4 +1,4 @@
-use Rattle.std.proofs.Common.{◌≡◌, ◌∙◌, sym, ap, subst, refl, true, false, Ok}
+use Rattle.std.proofs.Common.{sym, ap, subst, refl, false, Ok}
 use Rattle.std.proofs.lemmas.Bool.{ne_eqb}
 use Rattle.tree_model.specs.declared.call.Reply.TheVariants as replies
 use Rattle.tree_model.specs.declared.node.File.{File}
@@ -26,7 +26,7 @@ returns c =
     let stands = directory_stands v p.parent p.placed.now p.directory.now told.stands told.kind in
     let grows = c.slot_zones.ensures.more p.name (none_of _ (sym c.if-is_named.ensures)) in
     let row = link_row (tree_of_now v) c.args.path.now c.args.other.now (names_below c.in_ok-names.names.now) (names_below c.in_ok-more.more.now) found file place
-        c.in_ok-names.ensures.names c.in_ok-more.ensures.names c.in_ok-found.ensures.found (ap (node_from v.contents.blocks q.placed.now.inode) c.in_default.is)
-        (told.place replies.Exists) (sym c.if-is_named.ensures) (ne_eqb _ _ c.if-found.false) (sym c.if-is_full.ensures) in
+    c.in_ok-names.ensures.names c.in_ok-more.ensures.names c.in_ok-found.ensures.found (ap (node_from v.contents.blocks q.placed.now.inode) c.in_default.is)
+    (told.place replies.Exists) (sym c.if-is_named.ensures) (ne_eqb _ _ c.if-found.false) (sym c.if-is_full.ensures) in
     subst (IsAsked (tree_of_now v) (Ok (record { inode = false; zones = c.slot_zones.result }))) (sym row)
     (refl, link_takes (tree_of_now v) order q.birth file place c.slot_zones.result (file_stands v q.birth q.placed.now c.in_default.field-0 c.in_ok-found.ensures.stands c.in_default.is) stands grows)

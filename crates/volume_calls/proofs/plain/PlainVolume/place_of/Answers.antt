@@ -1,4 +1,4 @@
-use Rattle.std.proofs.Common.{◌≡◌, sym, ap, ◌∙◌, refl, subst, nat_lt, length, true, false, Bool, ℕ, List}
+use Rattle.std.proofs.Common.{◌≡◌, ◌∙◌, refl, subst, nat_lt, length, true, false, ℕ, List}
 use Rattle.volume_steps.specs.Now.{VolumeNow}
 use Rattle.volume_calls.specs.code.Paths.{names_below, last_in}
 use Rattle.volume_calls.proofs.WalkSteps.{parent_none, parent_file, parent_long, parent_place}
@@ -19,7 +19,7 @@ pub returns-in_default-short_name-clause-fault : goal.returns-in_default-short_n
 returns-in_default-short_name-clause-fault c at_root =
     let v : VolumeNow = c.args.self.now in
     let long : nat_lt 14 (length (last_in (names_below c.args.names.now))) ≡ true =
-        subst (λ (n : List ℕ). nat_lt 14 (length n) ≡ true) c.in_ok-parent.ensures.name c.in_default-short_name.ensures.long in
+    subst (λ (n : List ℕ). nat_lt 14 (length n) ≡ true) c.in_ok-parent.ensures.name c.in_default-short_name.ensures.long in
     parent_long v.contents.blocks v.contents.nodes c.args.names.now c.requires.some at_root c.in_ok-parent.parent c.in_ok-parent.ensures.led
     c.in-Some.placed.now c.in-Directory.directory c.in-Some.ensures.some c.in-Directory.is long
 
@@ -27,6 +27,6 @@ pub returns-clause-place : goal.returns-clause-place
 returns-clause-place c at_root =
     let v : VolumeNow = c.args.self.now in
     let short : nat_lt 14 (length (last_in (names_below c.args.names.now))) ≡ false =
-        subst (λ (n : List ℕ). nat_lt 14 (length n) ≡ false) c.in_ok-parent.ensures.name c.in-Ok.ensures.short in
+    subst (λ (n : List ℕ). nat_lt 14 (length n) ≡ false) c.in_ok-parent.ensures.name c.in-Ok.ensures.short in
     parent_place v.contents.blocks v.contents.nodes c.args.names.now c.requires.some at_root c.in_ok-parent.parent c.in_ok-parent.ensures.led
     c.in-Some.placed.now c.in-Directory.directory c.in-Ok.name c.in-Some.ensures.some c.in-Directory.is short (c.in-Ok.ensures.name ∙ c.in_ok-parent.ensures.name)
