@@ -1,7 +1,8 @@
 //! A plain volume that is in use: what calls on it answer and take.
 //!
-//! `plain` has the volume, `paths` how a path is walked in its text, `rows` what refuses each call and which zones it
-//! takes, and `answer` the answers.
+//! `plain` has the volume, `walk` where paths lead in it and `paths` their names in a text, with no list of them. `rows`
+//! and `takes` say what refuses each call and which zones it takes, `directories` what a name takes of a directory's
+//! slots, and `answer` has the answers: no call takes memory. `laws` has a law of new volumes.
 //!
 //! Stands on `volume_steps`, whose plain data a volume is, on `tree_model`, which says what refuses a call, and on
 //! `zone_maps`.
