@@ -33,6 +33,13 @@ impl Disk {
         }
     }
 
+    /// The blocks alone.
+    pub fn into_blocks(self) -> Image
+        ensures { result ≡ self }
+    {
+        self.blocks
+    }
+
     /// The bytes of a block, zeros where the volume ends before it.
     pub fn body(&self, block: u32) -> &Block
         ensures { result.now ≡ disk_of self.now block }

@@ -47,6 +47,13 @@ impl MappedZones {
         Ok(())
     }
 
+    /// The blocks as a vector, for a file that is to change.
+    pub fn into_vec(self) -> Vec<Mapped>
+        ensures { result.items ≡ self }
+    {
+        self.items
+    }
+
     pub fn as_slice(&self) -> &[Mapped]
         ensures { result.now ≡ self.now }
     {

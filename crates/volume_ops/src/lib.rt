@@ -36,4 +36,4 @@ pub use laws::{
     same_metadata_gives_alike_trees, trees_are_rooted, trees_have_fields, volumes_have_one_tree,
     walks_end_well_without_fault, walks_read_metadata_alone,
 };
-pub use volume::Volume;
+pub use volume::{Volume, WalkedVolume};

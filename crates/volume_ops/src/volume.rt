@@ -12,13 +12,22 @@ ghost use Rattle.volume_ops.specs.Volume.{walked, bodies_of, node_of, tree_of, I
 use crate::disk::Disk;
 use crate::visit::Walked;
 use crate::walk::walk_volume;
-use crate::{Found, Mapped, VolumeFault};
+use crate::{Found, FoundNode, Mapped, VolumeFault};
 use blk_base::{Image, NoMemory};
 use minix_layout::Geometry;
 use order_model::OrderedDev;
 use std::alloc::Global;
 use std::marker::Model;
 use tree_model::{Directory, File, FileBlocks, Node, Tree};
+
+/// The parts of a volume that was read: how it is divided, its blocks, and its nodes in the order in which the walk met
+/// them.
+#[derive(Drop)]
+pub struct WalkedVolume {
+    pub geometry: Geometry,
+    pub blocks: Image,
+    pub nodes: Vec<FoundNode>,
+}
 
 /// A volume that was read, with all its blocks, those of files too.
 #[derive(Drop)]
@@ -74,6 +83,20 @@ impl Volume {
         ensures { result.now ≡ self.now.geometry }
     {
         &self.geometry
+    }
+
+    /// Hands out the parts, for a volume that is to change.
+    pub fn into_parts(self) -> WalkedVolume
+        ensures geometry { result.geometry ≡ self.geometry }
+        ensures blocks { result.blocks ≡ self.blocks }
+        ensures readable { IsOk (walked self.geometry self.blocks) }
+        ensures nodes { IfOk (walked self.geometry self.blocks) (λ w. result.nodes.items ≡ w.nodes) }
+    {
+        WalkedVolume {
+            geometry: self.geometry,
+            blocks: self.disk.into_blocks(),
+            nodes: self.found.nodes,
+        }
     }
 
     /// Whether the volume's tree has this zone: for a block of a file or a directory, or for numbers of zones.
