@@ -8,12 +8,14 @@
 //! whose tree it stands for.
 #![tactic(auto)]
 
+mod file_zones;
 mod laws;
 mod names;
 mod placed;
 #[cfg(test)]
 mod tests;
 
+pub use file_zones::FileZones;
 pub use laws::{
     calls_are_told_as_one, changed_node_stands, cut_file_stands, mapped_block_stands,
     names_come_and_go, new_volumes_are_plain, nodes_come_and_go, nodes_stay,

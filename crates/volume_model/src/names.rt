@@ -1,5 +1,5 @@
 //! The names of a directory.
-ghost use Rattle.std.specs.Prelude.{◌≡◌, [], OnOk, OnErr, None};
+ghost use Rattle.std.specs.Prelude.{◌≡◌, [], OnOk, OnErr, None, length};
 ghost use Rattle.std.specs.Map.{remove_entry};
 ghost use Rattle.std.specs.BTreeMap.{is_at};
 ghost use Rattle.tree_model.specs.Maps.{at_name, put_name, name_cmp};
@@ -32,6 +32,13 @@ impl NameMap {
         NameMap {
             map: BTreeMap::new(alloc),
         }
+    }
+
+    /// How many names there are.
+    pub fn len(&self) -> usize
+        ensures { result ≡ length self.now }
+    {
+        self.map.len()
     }
 
     /// The birth of the node with this name, if there is one.

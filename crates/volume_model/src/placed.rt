@@ -1,8 +1,7 @@
 //! A node of a changeable volume, with its place in it.
-use crate::NameMap;
+use crate::{FileZones, NameMap};
 use dir_ops::Slots;
 use minix_layout::Inode;
-use volume_ops::MappedZones;
 
 /// A directory as it stands in a volume.
 #[derive(Drop)]
@@ -18,7 +17,7 @@ pub struct DirectoryPart {
 #[derive(Drop)]
 pub enum Part {
     Directory(DirectoryPart),
-    File(MappedZones),
+    File(FileZones),
 }
 
 /// A node with its place in the volume: the number of its inode, and the inode as it stands there.
