@@ -15,6 +15,7 @@ pub mod Effects
 pub mod Examples
 pub mod Hanging
 pub mod Histories
+pub mod NameTexts
 pub mod Outcomes
 pub mod Plain
 pub mod PlainCalls
@@ -23,3 +24,4 @@ pub mod PlainNames
 pub mod PlainTrees
 pub mod Rows
 pub mod Zones
+pub mod TextWalks

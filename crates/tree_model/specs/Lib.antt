@@ -5,6 +5,7 @@ pub mod Examples
 pub mod Histories
 pub mod Maps
 pub mod Paths
+pub mod PathTexts
 pub mod Plain
 pub mod Text
 pub mod Trees

@@ -1,8 +1,9 @@
 //! Trees of directories and files, the paths that lead through them, and their text.
 //!
 //! A tree has its nodes by their births: the root has birth 0, and a node that was read of a volume has the
-//! number of its inode. `node` has the parts of a tree, `maps` the maps in them, `path` reads paths, and
-//! `text` writes the text of a tree. `call` has the calls on a tree and their replies, and `lists` the lists in them.
+//! number of its inode. `node` has the parts of a tree, `maps` the maps in them, `path` reads paths, `path_text` takes
+//! their names from the text with no list of them, and `text` writes the text of a tree. `call` has the calls on a tree
+//! and their replies, and `lists` the lists in them.
 //!
 //! `specs/Trees.antt` says what a path leads to and when two trees have the same metadata, `specs/Text.antt` has the
 //! text as it is made, `specs/laws/Listing.antt` the names of a tree in its order. `specs/Calls.antt` has the row of each
@@ -22,6 +23,7 @@ mod lists;
 mod maps;
 mod node;
 mod path;
+mod path_text;
 #[cfg(test)]
 mod tests;
 mod text;
@@ -37,4 +39,5 @@ pub use lists::{ByteList, NameList};
 pub use maps::{FileBlocks, Names};
 pub use node::{Directory, File, Node, Tree};
 pub use path::{Path, is_dot, paths_are_spelled, read_path};
+pub use path_text::{first_name, names_of, short_name};
 pub use text::put_tree;

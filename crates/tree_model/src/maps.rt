@@ -1,6 +1,9 @@
 //! The maps in a tree. Contracts see each as the list of its entries, in the order of the keys.
-ghost use Rattle.std.specs.Prelude.{◌≡◌, [], IfOk, OnOk, OnErr};
-ghost use Rattle.tree_model.specs.Maps.{at_name, put_name, put_number};
+ghost use Rattle.std.specs.Prelude.{◌≡◌, ◌<◌, ◌^◌, [], length, IfOk, OnOk, OnErr};
+ghost use Rattle.std.specs.BTreeMap.{is_at};
+ghost use Rattle.std.specs.Map.{remove_entry};
+ghost use Rattle.std.specs.Option.{option_copied};
+ghost use Rattle.tree_model.specs.Maps.{at_name, at_number, name_cmp, put_name, put_number};
 
 use blk_base::{Block, NoMemory};
 use minix_layout::Name;
@@ -50,6 +53,21 @@ impl Names {
         }
     }
 
+    /// How many names there are.
+    pub fn len(&self) -> usize
+        ensures len { result ≡ length self.now }
+        ensures small { result < 2 ^ 63 }
+    {
+        self.map.len()
+    }
+
+    /// Takes a name away, if it is there.
+    pub fn remove(&mut self, name: &Name)
+        ensures { self.new ≡ remove_entry (is_at (name_cmp name.now)) self.old }
+    {
+        let _ = self.map.remove(name);
+    }
+
     /// The names in the order of their bytes.
     pub fn as_map(&self) -> &BTreeMap<Name, u64>
         ensures { result.now.entries ≡ self.now }
@@ -93,6 +111,13 @@ impl FileBlocks {
         }
     }
 
+    /// The block at this place, if it is mapped.
+    pub fn get(&self, index: u32) -> Option<&Block>
+        ensures { option_copied result ≡ at_number self.now index }
+    {
+        self.map.get(&index)
+    }
+
     /// Maps a block of the file.
     pub fn put(&mut self, index: u32, body: Block) -> Result<(), NoMemory>
         ensures put { OnOk result (self.new ≡ put_number self.old index body) }
@@ -109,5 +134,16 @@ impl FileBlocks {
         ensures { result.now.entries ≡ self.now }
     {
         &self.map
+    }
+
+    /// The same blocks again.
+    pub fn copy(&self, alloc: Global) -> Result<FileBlocks, NoMemory>
+        ensures { IfOk result (λ b. b ≡ self.now) }
+    {
+        let mut copy = FileBlocks::new(alloc);
+        for (index, body) in &self.map {
+            copy.put(*index, body.copy())?;
+        }
+        Ok(copy)
     }
 }

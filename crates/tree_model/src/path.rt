@@ -45,7 +45,7 @@ fn are_name_bytes(name: &[u8]) -> bool
     name.iter().all(|b| is_name_byte(*b))
 }
 
-fn is_path_name(name: &[u8]) -> bool
+pub fn is_path_name(name: &[u8]) -> bool
     ensures { result ≡ is_path_name name.now }
 {
     !name.is_empty() && are_name_bytes(name) && !is_dot(name)
