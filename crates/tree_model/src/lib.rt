@@ -40,4 +40,4 @@ pub use maps::{FileBlocks, Names};
 pub use node::{Directory, File, Node, Tree};
 pub use path::{Path, is_dot, paths_are_spelled, read_path};
 pub use path_text::{first_name, names_of, short_name};
-pub use text::put_tree;
+pub use text::{put_name, put_tree};

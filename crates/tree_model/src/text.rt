@@ -27,10 +27,11 @@ fn put_byte(out: &mut String, b: u8) -> Result<(), AllocError>
     put_hex(out, b)
 }
 
-fn put_name(out: &mut String, name: &Name) -> Result<(), AllocError>
+/// Appends a name. A byte that is no printable ASCII, a space and the backslash are written as `\xVV`.
+pub fn put_name(out: &mut String, name: &[u8]) -> Result<(), AllocError>
     ensures { OnOk result (string_bytes out.new ≡ string_bytes out.old ++ name_text name.now) }
 {
-    for b in name.as_slice() {
+    for b in name {
         put_byte(out, *b)?;
     }
     Ok(())
@@ -53,7 +54,7 @@ fn path_below(alloc: Global, path: &str, name: &Name) -> Result<String, AllocErr
 {
     let mut below = String::from_str(alloc, path)?;
     below.push_str("/")?;
-    put_name(&mut below, name)?;
+    put_name(&mut below, name.as_slice())?;
     Ok(below)
 }
 

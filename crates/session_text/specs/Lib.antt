@@ -1,0 +1,3 @@
+-- The texts of a session's answers.
+pub mod Replies
+pub mod Lines
