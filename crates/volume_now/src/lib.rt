@@ -1,15 +1,20 @@
 //! A volume that is in use, as code: its parts, and what a change of it touched.
 //!
 //! `volume` has the parts, `touched` the lists of what was touched. They are what the steps of calls take: a step that is
-//! done in place notes what it touched in lists whose room was made before the first write.
+//! done in place notes what it touched in lists whose room was made before the first write. `taking` takes zones for a
+//! block, with their bits, and `ways` has the zones on the way to it.
 //!
-//! Stands on `volume_steps`, whose plain data a volume is.
+//! Stands on `volume_steps`, whose plain data a volume is, and on `volume_edits` for single writes.
 #![tactic(auto)]
 
+mod taking;
 #[cfg(test)]
 mod tests;
 mod touched;
 mod volume;
+mod ways;
 
+pub use taking::{mark_zone, take_zones};
 pub use touched::{Page, Touched};
 pub use volume::VolumeNow;
+pub use ways::block_zone;
