@@ -21,33 +21,50 @@ at_path v path change = elim (walk_path (tree_of_now v) path) as (λ _. Change) 
 
 -- ---- what each call does, where nothing refuses it
 
+-- a directory comes under this name, in the directory with this birth
+abbrev pub mkdir_in : VolumeNow → ℕ → ℕ → List ℕ → Change
+mkdir_in v n parent name =
+    followed_by (make_directory v n parent) (λ u.
+    followed_by (add_name u parent name n) (λ w.
+    set_links w parent (λ links. links + 1)))
+
 abbrev pub mkdir : VolumeNow → ℕ → List ℕ → Change
-mkdir v n path = at_place v path (λ place.
-    followed_by (make_directory v n place.parent) (λ u.
-    followed_by (add_name u place.parent place.name n) (λ w.
-    set_links w place.parent (λ links. links + 1))))
+mkdir v n path = at_place v path (λ place. mkdir_in v n place.parent place.name)
+
+-- so does a file
+abbrev pub create_in : VolumeNow → ℕ → ℕ → List ℕ → Change
+create_in v n parent name = followed_by (make_file v n) (λ w. add_name w parent name n)
 
 abbrev pub create : VolumeNow → ℕ → List ℕ → Change
-create v n path = at_place v path (λ place.
-    followed_by (make_file v n) (λ w. add_name w place.parent place.name n))
+create v n path = at_place v path (λ place. create_in v n place.parent place.name)
+
+-- the directory with this birth goes, with its name
+abbrev pub rmdir_in : VolumeNow → ℕ → ℕ → List ℕ → ℕ → Change
+rmdir_in v tx parent name birth =
+    followed_by (take_name v parent name) (λ u.
+    followed_by (set_links u parent (λ links. links - 1)) (λ w.
+    drop_node w tx birth))
 
 abbrev pub rmdir : VolumeNow → ℕ → List ℕ → Change
-rmdir v tx path = at_place v path (λ place. at_path v path (λ birth.
-    followed_by (take_name v place.parent place.name) (λ u.
-    followed_by (set_links u place.parent (λ links. links - 1)) (λ w.
-    drop_node w tx birth))))
+rmdir v tx path = at_place v path (λ place. at_path v path (λ birth. rmdir_in v tx place.parent place.name birth))
 
 -- a file has one link less; at no links it is gone
 abbrev pub lose_link : VolumeNow → ℕ → ℕ → Change
 lose_link v tx n = at_node v n (λ p. if nat_le p.inode.links 1 then drop_node v tx n else set_links v n (λ links. links - 1))
 
+-- a name of the file with this birth goes
+abbrev pub unlink_in : VolumeNow → ℕ → ℕ → List ℕ → ℕ → Change
+unlink_in v tx parent name birth = followed_by (take_name v parent name) (λ w. lose_link w tx birth)
+
 abbrev pub unlink : VolumeNow → ℕ → List ℕ → Change
-unlink v tx path = at_place v path (λ place. at_path v path (λ birth.
-    followed_by (take_name v place.parent place.name) (λ w. lose_link w tx birth)))
+unlink v tx path = at_place v path (λ place. at_path v path (λ birth. unlink_in v tx place.parent place.name birth))
+
+-- the file with this birth gets a name more
+abbrev pub link_in : VolumeNow → ℕ → ℕ → List ℕ → Change
+link_in v birth parent name = followed_by (set_links v birth (λ links. links + 1)) (λ w. add_name w parent name birth)
 
 abbrev pub link : VolumeNow → List ℕ → List ℕ → Change
-link v path other = at_path v path (λ birth. at_place v other (λ place.
-    followed_by (set_links v birth (λ links. links + 1)) (λ w. add_name w place.parent place.name birth)))
+link v path other = at_path v path (λ birth. at_place v other (λ place. link_in v birth place.parent place.name))
 
 abbrev pub write : VolumeNow → List ℕ → ℕ → List ℕ → Change
 write v path off bytes = at_path v path (λ birth.
