@@ -1,3 +1,4 @@
+pub mod Holes
 pub mod Edits
 pub mod Volume
 pub mod Changes

@@ -17,6 +17,7 @@ use Rattle.volume_model.specs.declared.placed.Part.TheVariants as parts
 use Rattle.volume_model.specs.declared.placed.DirectoryPart.{DirectoryPart}
 use Rattle.volume_model.specs.Edits.{put_inode, put_slot, edited, touched_by_all}
 use Rattle.dir_ops.specs.Slots.{room, with_slot}
+pub use Rattle.volume_model.specs.Holes.{with_mapped}
 use Rattle.volume_model.specs.Volume.{Place, block, zone_in, IsStored, HasNames, IsVolumeOf}
 use Rattle.volume_model.specs.Changes.{Changes}
 use Rattle.volume_model.specs.Ways.{way, IsJust}
@@ -121,11 +122,6 @@ pub record AreFree (g : Geometry) (blocks : List (List ℕ)) (nodes : List (ℕ 
   pub fits : (x : Place) → In x xs → zone_in blocks i x ≡ 0 → taken_at t x < 2 ^ 16
   pub free : (a : ℕ) (r : Placed) (x y : Place) → at_number nodes a ≡ Some r → In x xs → zone_in blocks i x ≡ 0 → zone_in blocks r.inode y ≢ taken_at t x
   pub differ : (x y : Place) → In x xs → In y xs → zone_in blocks i x ≡ 0 → zone_in blocks i y ≡ 0 → taken_at t x ≡ taken_at t y → x ≡ y
-
--- a file's list of mapped blocks with one more, in rising order of index
-abbrev pub with_mapped : List Mapped → ℕ → ℕ → List Mapped
-with_mapped [] index zone = record { index = index; zone = zone } ∷ []
-with_mapped (m ∷ zones) index zone = if nat_lt index m.index then record { index = index; zone = zone } ∷ m ∷ zones else m ∷ with_mapped zones index zone
 
 abbrev pub file_mapped : Geometry → Contents → ℕ → Placed → List Mapped → TakenZones → List ℕ → ℕ → Contents
 file_mapped g v n p zones t content index = closed g v n p (map_block g t content (opened v p) index) (parts.File (with_mapped zones index t.data_zone))

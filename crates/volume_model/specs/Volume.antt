@@ -23,6 +23,7 @@ use Rattle.volume_model.specs.declared.placed.Part.{Part}
 use Rattle.volume_model.specs.declared.placed.Part.TheVariants as parts
 use Rattle.volume_model.specs.declared.placed.DirectoryPart.{DirectoryPart}
 use Rattle.dir_ops.specs.Slots.{used_count}
+pub use Rattle.volume_model.specs.Holes.{IsRising}
 
 -- where an inode has a zone: a block of it, its zone of numbers, and the two levels of the doubly indirect one
 pub data Place : Type 0 where
@@ -57,10 +58,6 @@ pub record IsDirectoryPart (blocks : List (List ℕ)) (i : Inode) (d : Directory
   pub kind : is_directory i.mode ≡ true
   pub size : i.size ≡ 16 * length d.slots
   pub slots : (k : ℕ) (s : Option Slot) → slice_get d.slots k ≡ Some s → HasSlot blocks i k s
-
--- its mapped blocks stand in rising order of their indices, each once
-abbrev pub IsRising : List Mapped → Type 0
-IsRising zones = IsStrictlySortedBy nat_cmp (map (λ (m : Mapped). m.index) zones)
 
 -- a file's list has its mapped blocks, and no others, in order
 pub record IsFilePart (blocks : List (List ℕ)) (i : Inode) (zones : List Mapped) : Type 0 where

@@ -18,6 +18,7 @@ pub mod OnWay
 pub mod Cut
 pub mod Counts
 pub mod Mapped
+pub mod Holes
 pub mod Indexed
 pub mod NodeMoves
 pub mod ZoneMoves
