@@ -66,16 +66,22 @@ link_in v birth parent name = followed_by (set_links v birth (λ links. links + 
 abbrev pub link : VolumeNow → List ℕ → List ℕ → Change
 link v path other = at_path v path (λ birth. at_place v other (λ place. link_in v birth place.parent place.name))
 
-abbrev pub write : VolumeNow → List ℕ → ℕ → List ℕ → Change
-write v path off bytes = at_path v path (λ birth.
+abbrev pub write_at : VolumeNow → ℕ → ℕ → List ℕ → Change
+write_at v birth off bytes =
     followed_by (write_blocks v birth off bytes (touched_blocks off (length bytes))) (λ w.
-    resize w birth (λ size. max size (off + length bytes))))
+    resize w birth (λ size. max size (off + length bytes)))
 
-abbrev pub truncate : VolumeNow → ℕ → List ℕ → ℕ → Change
-truncate v tx path size = at_path v path (λ birth.
+abbrev pub write : VolumeNow → List ℕ → ℕ → List ℕ → Change
+write v path off bytes = at_path v path (λ birth. write_at v birth off bytes)
+
+abbrev pub truncate_at : VolumeNow → ℕ → ℕ → ℕ → Change
+truncate_at v tx birth size =
     followed_by (cut_blocks v tx birth (div_ceil size 1024)) (λ u.
     followed_by (clear_tail u birth size) (λ w.
-    resize w birth (λ old. size))))
+    resize w birth (λ old. size)))
+
+abbrev pub truncate : VolumeNow → ℕ → List ℕ → ℕ → Change
+truncate v tx path size = at_path v path (λ birth. truncate_at v tx birth size)
 
 -- The call with number n, in transaction tx. Renames are not built yet: they change nothing here.
 unfoldable pub changed : VolumeNow → ℕ → ℕ → Call → Change
