@@ -47,7 +47,7 @@ impl PlainVolume {
         requires { takes_no_zone call.now ≡ true }
         ensures { (n : ℕ) → IsAsked (tree_of_now self.now) result (row (tree_of_now self.now) n call.now) }
     {
-        let _ = &self.geometry;
+        let _ = &self.parts.geometry;
         match self.refused(call) {
             Ok(()) => Ok(Wants {
                 inode: false,
@@ -88,14 +88,16 @@ impl PlainVolume {
     fn lacks_inode(&self, wants: Wants) -> bool
         ensures { result ≡ (wants.inode && nat_le self.now.geometry.inodes (length (tree_of_now self.now))) }
     {
-        wants.inode && self.nodes.len() >= usize::from(self.geometry.inodes)
+        let parts = &self.parts;
+        wants.inode && parts.nodes.len() >= usize::from(parts.geometry.inodes)
     }
 
     // The zones that the tree does not use, those that wait too.
     fn zones_left(&self) -> u32
         ensures { result ≡ (room_of self.now.geometry).capacity - used_zones (tree_of_now self.now) }
     {
-        self.zones.free_count() + self.zones.quarantined()
+        let parts = &self.parts;
+        parts.zones.free_count() + parts.zones.quarantined()
     }
 
     // The last refusals: no inode, and no space.

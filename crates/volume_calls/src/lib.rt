@@ -4,8 +4,8 @@
 //! and `takes` say what refuses each call and which zones it takes, `directories` what a name takes of a directory's
 //! slots, and `answer` has the answers: no call takes memory. `laws` has a law of new volumes.
 //!
-//! Stands on `volume_steps`, whose plain data a volume is, on `tree_model`, which says what refuses a call, and on
-//! `zone_maps`.
+//! Stands on `volume_now`, whose parts a volume keeps, on `volume_steps`, whose plain data it is, on `tree_model`, which
+//! says what refuses a call, and on `zone_maps`.
 #![tactic(auto)]
 
 mod answer;

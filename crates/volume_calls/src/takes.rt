@@ -34,7 +34,7 @@ impl PlainVolume {
         ensures { (n : ℕ) → AreBornBefore n (tree_of_now self.now) →
             IsAsked (tree_of_now self.now) result (mkdir (tree_of_now self.now) n path.now) }
     {
-        let _ = &self.geometry;
+        let _ = &self.parts.geometry;
         let names = names_of(path)?;
         if names.is_empty() {
             return Err(Reply::Exists);
@@ -59,7 +59,7 @@ impl PlainVolume {
         ensures { (n : ℕ) → AreBornBefore n (tree_of_now self.now) →
             IsAsked (tree_of_now self.now) result (create (tree_of_now self.now) n path.now) }
     {
-        let _ = &self.geometry;
+        let _ = &self.parts.geometry;
         let names = names_of(path)?;
         if names.is_empty() {
             return Err(Reply::Exists);
@@ -80,7 +80,7 @@ impl PlainVolume {
     pub(crate) fn link(&self, path: &ByteList, other: &ByteList) -> Result<Wants, Reply>
         ensures { IsAsked (tree_of_now self.now) result (link (tree_of_now self.now) path.now other.now) }
     {
-        let _ = &self.geometry;
+        let _ = &self.parts.geometry;
         let names = names_of(path)?;
         let more = names_of(other)?;
         let found = self.found(names)?;

@@ -15,6 +15,7 @@ use std::test::Fail;
 use tree_model::{ByteList, Call};
 use volume_edits::{put_inode, put_slot};
 use volume_model::{DirectoryPart, NameMap, Part, Placed};
+use volume_now::VolumeNow;
 use zone_maps::ZoneMap;
 
 // Five blocks are no zones of data.
@@ -85,7 +86,12 @@ fn new_volume(alloc: Global, g: Geometry) -> Result<PlainVolume, NoMemory>
     let mut nodes = BTreeMap::new(alloc);
     nodes.insert(0, root(alloc, &g)?)?;
     let zones = ZoneMap::make(alloc, &g, &[g.first])?;
-    Ok(PlainVolume::of(g, blocks, nodes, zones))
+    Ok(PlainVolume::of(VolumeNow {
+        geometry: g,
+        blocks,
+        nodes,
+        zones,
+    }))
 }
 
 fn path(alloc: Global, text: &[u8]) -> Result<ByteList, NoMemory> {

@@ -70,7 +70,7 @@ impl PlainVolume {
         ensures some { IfSome result (λ p. at_number self.now.contents.nodes birth ≡ Some p.now) }
         ensures none { IsNone result → at_number self.now.contents.nodes birth ≡ None }
     {
-        self.nodes.get(&birth)
+        self.parts.nodes.get(&birth)
     }
 
     // Where a name leads from a node.
@@ -108,7 +108,7 @@ impl PlainVolume {
         ensures counted { IfOk result (λ f. (d : DirectoryPart) → f.placed.now.part ≡ parts.Directory d → used_count d.slots ≡ 2 + length d.names) }
         ensures fault { IfErr result (λ reply. walk (tree_of_now self.now) (names_below names.now) ≡ Err reply) }
     {
-        let _ = &self.geometry;
+        let _ = &self.parts.geometry;
         let birth = self.birth_at(names)?;
         match self.node_at(birth) {
             Some(placed) => Ok(Found { birth, placed }),
@@ -150,7 +150,7 @@ impl PlainVolume {
         ensures links { IfOk result (λ p. p.placed.now.inode.links ≡ directory_links (tree_of_now self.now) (directory_from p.directory.now)) }
         ensures fault { IfErr result (λ reply. (at_root : Reply) → parent_of at_root (tree_of_now self.now) (names_below names.now) ≡ Err reply) }
     {
-        let _ = &self.geometry;
+        let _ = &self.parts.geometry;
         let (parent, last) = self.above(names)?;
         let Some(placed) = self.node_at(parent) else {
             return Err(Reply::NotFound);

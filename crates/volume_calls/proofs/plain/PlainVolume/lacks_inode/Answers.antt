@@ -3,5 +3,6 @@ use Rattle.volume_calls.proofs.plain.PlainVolume.lacks_inode.Goals as goal
 
 pub returns-then-wants : goal.returns-then-wants
 returns-then-wants c =
-    rw (← c.self.view_is)
-    (no_inode_left c.self.inside.blocks c.self.inside.nodes.entries c.args.wants.inode c.self.inside.geometry.inodes c.from.result c.len.result c.if-wants.true c.from.ensures c.len.ensures.len)
+    let p = c.parts.inside in
+    rw (← c.self.view_is, ← c.parts.view_is)
+    (no_inode_left p.blocks p.nodes.entries c.args.wants.inode p.geometry.inodes c.from.result c.len.result c.if-wants.true c.from.ensures c.len.ensures.len)

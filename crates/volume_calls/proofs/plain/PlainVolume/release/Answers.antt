@@ -7,6 +7,8 @@ use Rattle.volume_calls.proofs.plain.PlainVolume.release.Goals as goal
 
 pub invariant_of-self : goal.invariant_of-self
 invariant_of-self c =
-    let v : VolumeNow = record { geometry = c.self.inside.geometry; contents = record { blocks = c.self.inside.blocks; nodes = c.self.inside.nodes.entries }; zones = c.self.inside.zones } in
-    subst (λ (z : Zones). IsPlainNow (record { geometry = c.self.inside.geometry; contents = record { blocks = c.self.inside.blocks; nodes = c.self.inside.nodes.entries }; zones = z }))
-    (sym c.release.ensures) (release_plain v c.args.tx c.self.invariant)
+    let p = c.parts.inside in
+    let v : VolumeNow = record { geometry = p.geometry; contents = record { blocks = p.blocks; nodes = p.nodes.entries }; zones = p.zones } in
+    let plain : IsPlainNow v = rw c.parts.view_is c.self.invariant in
+    subst (λ (z : Zones). IsPlainNow (record { geometry = p.geometry; contents = record { blocks = p.blocks; nodes = p.nodes.entries }; zones = z }))
+    (sym c.release.ensures) (release_plain v c.args.tx plain)
