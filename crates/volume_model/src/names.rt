@@ -34,6 +34,20 @@ impl NameMap {
         }
     }
 
+    /// The names of a map.
+    pub fn of(map: BTreeMap<Name, u64>) -> NameMap
+        ensures { result ≡ map.entries }
+    {
+        NameMap { map }
+    }
+
+    /// The names in the order of their bytes.
+    pub fn as_map(&self) -> &BTreeMap<Name, u64>
+        ensures { result.now.entries ≡ self.now }
+    {
+        &self.map
+    }
+
     /// How many names there are.
     pub fn len(&self) -> usize
         ensures { result ≡ length self.now }

@@ -1,0 +1,4 @@
+-- Lemmas on what nodes answer.
+pub mod Listed
+pub mod Nodes
+pub mod Steps

@@ -1,0 +1,3 @@
+-- What nodes of a volume in use answer.
+pub mod Replies
+pub mod code

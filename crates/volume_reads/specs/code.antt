@@ -1,0 +1,2 @@
+-- The code's view of a file's bytes.
+pub mod Pieces
