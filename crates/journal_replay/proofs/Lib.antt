@@ -1,3 +1,4 @@
 mod Plans
 mod Results
 mod Faults
+mod Fillings

@@ -44,6 +44,12 @@ impl Log {
         &self.transactions
     }
 
+    pub(crate) fn into_transactions(self) -> Vec<LogTransaction>
+        ensures { map transaction_of result.items ≡ self }
+    {
+        self.transactions
+    }
+
     /// How many transactions it has.
     pub fn len(&self) -> usize
         ensures { result ≡ length self.now }

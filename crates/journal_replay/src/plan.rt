@@ -53,7 +53,8 @@ impl Plan {
         if at < count {
             self.at = at + 1;
             let home = &self.homes[at];
-            return Some(write(at as u64, home.block, home.body.copy(), at + 1 == count));
+            let body = home.body.as_block().copy();
+            return Some(write(at as u64, home.block, body, at + 1 == count));
         }
         if at == count {
             self.at = at + 1;

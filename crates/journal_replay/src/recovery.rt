@@ -130,13 +130,11 @@ fn replay<D: OrderedDev>(
     let Ok(table) = revokes(alloc, &log) else {
         return Err(RecoverFault::NoMemory);
     };
-    let Ok(homes) = homes_of(alloc, log.as_slice(), &table, base) else {
+    let replayed = log.len() as u32;
+    let Ok(homes) = homes_of(alloc, log, &table, base) else {
         return Err(RecoverFault::NoMemory);
     };
-    let replayed = log.len() as u32;
-    // The bodies are in their homes now.
     drop(table);
-    drop(log);
     let next = journal
         .fields
         .sequence

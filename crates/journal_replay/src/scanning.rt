@@ -10,7 +10,7 @@ ghost use Rattle.journal_blocks.specs.Log.{Reading, Entry, read_log, by_tags, by
 ghost use Rattle.journal_replay.specs.Commands.{for_block};
 ghost use Rattle.journal_replay.specs.code.Scans.{after, HasRead, transaction_of};
 
-use crate::{Home, LogTransaction};
+use crate::{BoxedBlock, Home, LogTransaction};
 use blk_base::{Block, NoMemory};
 use journal_blocks::{
     JournalFault, JournalSuper, LogBlock, Tag, TagList, read_block, restore, sequence_in,
@@ -84,7 +84,7 @@ impl Scan {
         ensures { IfOk result (λ goes. by_tags zones self.old (record { at = at; body = body.now }) self.old.tags ≡ after goes self.new) }
     {
         if self.has_tag() {
-            self.take_body(body)?;
+            self.take_body(alloc, body)?;
             return Ok(true);
         }
         if sequence_in(body) != self.sequence {
@@ -107,7 +107,7 @@ impl Scan {
     }
 
     // The block is the body of the next tag.
-    fn take_body(&mut self, body: &Block) -> Result<(), NoMemory>
+    fn take_body(&mut self, alloc: Global, body: &Block) -> Result<(), NoMemory>
         requires { 0 < length self.old.tags }
         ensures { IfOk result (λ _. (t : Tag) (ts : List Tag) → self.old.tags ≡ t ∷ ts → self.new ≡ record self.old { tags = ts; bodies = self.old.bodies ++ for_block t.block (restored t.escaped body.now) ∷ [] }) }
     {
@@ -115,7 +115,7 @@ impl Scan {
         self.next += 1;
         self.bodies.push(Home {
             block: tag.block,
-            body: restore(body, tag.escaped),
+            body: BoxedBlock::make(alloc, restore(body, tag.escaped))?,
         })?;
         Ok(())
     }

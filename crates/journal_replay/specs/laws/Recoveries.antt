@@ -143,10 +143,10 @@ recovered_super-empty base image s t e none f =
 
 -- ---- what a replay has of a journal
 
-pub has_log : (base : ℕ) (image : List (List ℕ)) (j : Journal) (hs : List Logged) (log : List Transaction) (n : ℕ) (b : List ℕ) → IsJournalOf base image j → j.fields.start ≢ 0
-    → log ≡ j.log → hs ≡ homes (mark_in log) 0 base → n ≡ length j.log → b ≡ with_tail (((j.fields.sequence + n) % 2 ^ 32 + 1) % 2 ^ 32) 0 j.superblock → HasLog base image hs b
-has_log base image j hs log n b is full same listed count tail =
-    let all : log ≡ (log_of base j.fields image).done = same ∙ (is.log ∙ transactions-full base j.fields image full) in
+pub has_log : (base : ℕ) (image : List (List ℕ)) (j : Journal) (hs : List Logged) (n : ℕ) (b : List ℕ) → IsJournalOf base image j → j.fields.start ≢ 0
+    → hs ≡ homes (mark_in j.log) 0 base → n ≡ length j.log → b ≡ with_tail (((j.fields.sequence + n) % 2 ^ 32 + 1) % 2 ^ 32) 0 j.superblock → HasLog base image hs b
+has_log base image j hs n b is full listed count tail =
+    let all : j.log ≡ (log_of base j.fields image).done = is.log ∙ transactions-full base j.fields image full in
     let next = next_is base j.fields image n is.sound full (count ∙ ap (λ (ts : List Transaction). length ts) is.log) in
     record {
       journal = j.fields;

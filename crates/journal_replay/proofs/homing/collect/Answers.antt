@@ -1,16 +1,17 @@
-use Rattle.std.proofs.Common.{◌∙◌, ◌++◌, ℕ, List, Option, take, ap, sym, arith}
-use Rattle.journal_replay.specs.laws.Homes.{collect_more}
-use Rattle.journal_replay.specs.code.Homes.{listed, entry}
-use Rattle.log_model.specs.Marks.{Logged}
+use Rattle.std.specs.Vec.Iter.{into_iter_items, into_iter_len}
+use Rattle.std.proofs.Common.{length, ap, arith}
+use Rattle.journal_replay.proofs.Fillings.{collecting_more}
 use Rattle.journal_replay.proofs.homing.collect.Goals as goal
 
-pub loop-block-preserved : goal.loop-block-preserved
-loop-block-preserved c =
-    let slot = c.index-table-block.result in
-    let k = c.loop-block.block in
-    let table = c.args.table.now in
-    let front : List Logged = listed 0 (take k table) in
-    c.in_ok-push_home.ensures
-    ∙ (ap (λ (xs : List Logged). xs ++ entry k slot) c.loop-block.invariant
-    ∙ (ap (λ (o : Option (List ℕ)). front ++ entry k o) c.index-table-block.is
-    ∙ sym (collect_more table k slot (omega arith))))
+pub loop-slot-preserved : goal.loop-slot-preserved
+loop-slot-preserved c =
+    let at = c.loop-slot in
+    let front = c.in-Some.ensures.steps.0 in
+    let left = c.in-Some.ensures.steps.1 in
+    let size = at.invariant.size in
+    let longer = ap length front in
+    record {
+      size = omega (arith, left, size, longer);
+      collecting = collecting_more c.args.table.items (into_iter_items at.slot-iterator) at.block at.homes.items c.in-Some.slot (into_iter_items c.next.new.self) c.push_home.new.homes.items
+          at.invariant.collecting front c.in_ok-push_home.ensures;
+    }

@@ -1,7 +1,10 @@
-use Rattle.std.proofs.Common.{◌≡◌, take}
-use Rattle.journal_replay.specs.code.Homes.{listed}
-use Rattle.journal_replay.specs.code.Homes.{logged_of}
+use Rattle.std.specs.Vec.Iter.{into_iter_items, into_iter_len}
+use Rattle.std.proofs.Common.{◌≡◌, length}
+use Rattle.journal_replay.proofs.Fillings.{Collecting}
 use Rattle.journal_replay.proofs.homing.collect.Given as goal
 
-abbrev pub invariant-loop-block : goal.invariant-loop-block
-invariant-loop-block l = logged_of l.homes.items ≡ listed 0 (take l.block l.table)
+abbrev pub invariant-loop-slot : goal.invariant-loop-slot
+invariant-loop-slot l = record {
+  size : into_iter_len l.slot-iterator ≡ length (into_iter_items l.slot-iterator);
+  collecting : Collecting l.fn.table.items (into_iter_items l.slot-iterator) l.block l.homes.items;
+}

@@ -1,15 +1,18 @@
-use Rattle.std.proofs.Common.{◌∙◌, ℕ, List, Option, slice_get, length, ap, arith}
+use Rattle.std.specs.Vec.Iter.{into_iter_items, into_iter_len}
+use Rattle.std.proofs.Common.{length, ap, arith}
 use Rattle.journal_replay.specs.Revokes.{place_of}
-use Rattle.journal_replay.specs.Revokes.{cancels}
-use Rattle.journal_replay.specs.laws.Homes.{bodies_step, length-with_body}
+use Rattle.journal_replay.proofs.Fillings.{putting_more}
 use Rattle.journal_replay.proofs.homing.put_bodies.Goals as goal
 
 pub loop-home-preserved : goal.loop-home-preserved
 loop-home-preserved c =
-    let h = c.home-item.result in
-    let stop = cancels (place_of c.args.revokes.now h.block) c.args.at in
+    let at = c.loop-home in
+    let front = c.in-Some.ensures.steps.0 in
+    let left = c.in-Some.ensures.steps.1 in
+    let size = at.invariant.size in
+    let longer = ap length front in
     record {
-      len = ap (λ (os : List (Option (List ℕ))). length os) c.put_body.ensures ∙ (length-with_body c.loop-home.table.items stop h.block h.body ∙ c.loop-home.invariant.len);
-      each = λ b o e. ap (λ (os : List (Option (List ℕ))). slice_get os b) c.put_body.ensures
-          ∙ bodies_step c.loop-home.table.items (place_of c.args.revokes.now) c.args.bodies.now c.loop-home.home-index c.args.at h b o (omega arith) c.home-item.is (c.loop-home.invariant.each b o e);
+      size = omega (arith, left, size, longer);
+      putting = putting_more (place_of c.args.revokes.now) c.args.at c.args.table.now.items at.table.items c.args.bodies.items (into_iter_items at.home-iterator) c.in-Some.home (into_iter_items c.next.new.self) c.put_body.new.table.items
+          at.invariant.putting front c.put_body.ensures;
     }

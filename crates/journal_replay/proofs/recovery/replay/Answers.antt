@@ -1,4 +1,4 @@
-use Rattle.std.proofs.Common.{◌≡◌, ◌∙◌, ℕ, List, length, map, ap, sym, subst, arith}
+use Rattle.std.proofs.Common.{◌≡◌, ◌∙◌, ℕ, List, length, ap, sym, subst, arith}
 use Rattle.std.proofs.lemmas.List.{length-map}
 use Rattle.blk_base.specs.Members.{In}
 use Rattle.order_model.specs.declared.completion.Completion.TheVariants.{Failed}
@@ -6,7 +6,6 @@ use Rattle.order_model.specs.Machine.{Machine, machine_of}
 use Rattle.log_model.specs.Marks.{Logged, Transaction, mark_in}
 use Rattle.journal_replay.specs.Driving.{is_running}
 use Rattle.journal_replay.specs.code.Homes.{logged, logged_of}
-use Rattle.journal_replay.specs.code.Scans.{transaction_of}
 use Rattle.journal_replay.specs.laws.Plans.{length-homes}
 use Rattle.journal_replay.specs.laws.Whole.{commands_are, failed_in}
 use Rattle.journal_replay.specs.laws.Recoveries.{has_log, run_from, recoverable_from, fine_log, few_transactions, next_is}
@@ -33,12 +32,12 @@ write_back-requires-clause-image g c =
 pub write_back-requires-clause-log : goal.write_back-requires-clause-log
 write_back-requires-clause-log g c =
     let d = g.D.OrderedDev in
-    has_log c.args.base (d.seen (d.state c.args.dev.now)).surface c.args.journal (logged_of c.in-Ok-homes_of.homes.items) (map transaction_of c.as_slice.result.now) c.len-replayed.result c.set_tail.new.b c.requires.journal c.requires.full c.as_slice.ensures c.in-Ok-homes_of.ensures c.len-replayed.ensures c.set_tail.ensures.value
+    has_log c.args.base (d.seen (d.state c.args.dev.now)).surface c.args.journal (logged_of c.in-Ok-homes_of.homes.items) c.len-replayed.result c.set_tail.new.b c.requires.journal c.requires.full c.in-Ok-homes_of.ensures c.len-replayed.ensures c.set_tail.ensures.value
 
 pub write_back-requires-clause-few : goal.write_back-requires-clause-few
 write_back-requires-clause-few g c =
     let size : length (logged_of c.in-Ok-homes_of.homes.items) ≡ length c.in-Ok-homes_of.homes.items = length-map c.in-Ok-homes_of.homes.items logged in
-    let few = length-homes (mark_in (map transaction_of c.as_slice.result.now)) 0 c.args.base in
+    let few = length-homes (mark_in c.args.journal.log) 0 c.args.base in
     let same = ap (λ (hs : List Logged). length hs) c.in-Ok-homes_of.ensures in
     let fits = c.ranges.base.fits in
     omega arith
@@ -59,21 +58,21 @@ pub returns-in-Flushed-clause-run : goal.returns-in-Flushed-clause-run
 returns-in-Flushed-clause-run g c =
     let d = g.D.OrderedDev in
     let m : Machine d.State = machine_of d in
-    run_from m (commands_are c.args.base (d.seen (d.state c.args.dev.now)).surface (logged_of c.in-Ok-homes_of.homes.items) c.set_tail.new.b (has_log c.args.base (d.seen (d.state c.args.dev.now)).surface c.args.journal (logged_of c.in-Ok-homes_of.homes.items) (map transaction_of c.as_slice.result.now) c.len-replayed.result c.set_tail.new.b c.requires.journal c.requires.full c.as_slice.ensures c.in-Ok-homes_of.ensures c.len-replayed.ensures c.set_tail.ensures.value)) c.args.steer.now c.args.cut (d.state c.args.dev.now) (d.state c.write_back.new.dev) c.write_back.ensures.cut_run c.write_back.ensures.whole_run
+    run_from m (commands_are c.args.base (d.seen (d.state c.args.dev.now)).surface (logged_of c.in-Ok-homes_of.homes.items) c.set_tail.new.b (has_log c.args.base (d.seen (d.state c.args.dev.now)).surface c.args.journal (logged_of c.in-Ok-homes_of.homes.items) c.len-replayed.result c.set_tail.new.b c.requires.journal c.requires.full c.in-Ok-homes_of.ensures c.len-replayed.ensures c.set_tail.ensures.value)) c.args.steer.now c.args.cut (d.state c.args.dev.now) (d.state c.write_back.new.dev) c.write_back.ensures.cut_run c.write_back.ensures.whole_run
     (λ whole. ap is_running (sym c.write_back.ensures.told) ∙ c.write_back.ensures.ended whole)
 
 pub returns-in-Running-clause-run : goal.returns-in-Running-clause-run
 returns-in-Running-clause-run g c =
     let d = g.D.OrderedDev in
     let m : Machine d.State = machine_of d in
-    run_from m (commands_are c.args.base (d.seen (d.state c.args.dev.now)).surface (logged_of c.in-Ok-homes_of.homes.items) c.set_tail.new.b (has_log c.args.base (d.seen (d.state c.args.dev.now)).surface c.args.journal (logged_of c.in-Ok-homes_of.homes.items) (map transaction_of c.as_slice.result.now) c.len-replayed.result c.set_tail.new.b c.requires.journal c.requires.full c.as_slice.ensures c.in-Ok-homes_of.ensures c.len-replayed.ensures c.set_tail.ensures.value)) c.args.steer.now c.args.cut (d.state c.args.dev.now) (d.state c.write_back.new.dev) c.write_back.ensures.cut_run c.write_back.ensures.whole_run
+    run_from m (commands_are c.args.base (d.seen (d.state c.args.dev.now)).surface (logged_of c.in-Ok-homes_of.homes.items) c.set_tail.new.b (has_log c.args.base (d.seen (d.state c.args.dev.now)).surface c.args.journal (logged_of c.in-Ok-homes_of.homes.items) c.len-replayed.result c.set_tail.new.b c.requires.journal c.requires.full c.in-Ok-homes_of.ensures c.len-replayed.ensures c.set_tail.ensures.value)) c.args.steer.now c.args.cut (d.state c.args.dev.now) (d.state c.write_back.new.dev) c.write_back.ensures.cut_run c.write_back.ensures.whole_run
     (λ whole. ap is_running (sym c.write_back.ensures.told) ∙ c.write_back.ensures.ended whole)
 
 pub returns-in-Failed-clause-failed_run : goal.returns-in-Failed-clause-failed_run
 returns-in-Failed-clause-failed_run g c id e =
     let d = g.D.OrderedDev in
     let m : Machine d.State = machine_of d in
-    run_from m (commands_are c.args.base (d.seen (d.state c.args.dev.now)).surface (logged_of c.in-Ok-homes_of.homes.items) c.set_tail.new.b (has_log c.args.base (d.seen (d.state c.args.dev.now)).surface c.args.journal (logged_of c.in-Ok-homes_of.homes.items) (map transaction_of c.as_slice.result.now) c.len-replayed.result c.set_tail.new.b c.requires.journal c.requires.full c.as_slice.ensures c.in-Ok-homes_of.ensures c.len-replayed.ensures c.set_tail.ensures.value)) c.args.steer.now c.args.cut (d.state c.args.dev.now) (d.state c.write_back.new.dev) c.write_back.ensures.cut_run c.write_back.ensures.whole_run
+    run_from m (commands_are c.args.base (d.seen (d.state c.args.dev.now)).surface (logged_of c.in-Ok-homes_of.homes.items) c.set_tail.new.b (has_log c.args.base (d.seen (d.state c.args.dev.now)).surface c.args.journal (logged_of c.in-Ok-homes_of.homes.items) c.len-replayed.result c.set_tail.new.b c.requires.journal c.requires.full c.in-Ok-homes_of.ensures c.len-replayed.ensures c.set_tail.ensures.value)) c.args.steer.now c.args.cut (d.state c.args.dev.now) (d.state c.write_back.new.dev) c.write_back.ensures.cut_run c.write_back.ensures.whole_run
     (λ whole. ap is_running (sym c.write_back.ensures.told) ∙ c.write_back.ensures.ended whole)
 
 pub returns-in-Failed-clause-device_failed : goal.returns-in-Failed-clause-device_failed

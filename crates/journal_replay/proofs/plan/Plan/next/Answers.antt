@@ -17,7 +17,7 @@ returns-then-at-count-clause-some c =
     let next = home_next hs p.at (ending (length hs) (for_block p.base p.superblock)) (for_block h.block h.body) here in
     let same : c.len-count.result ≡ length hs = omega arith in
     sym c.self.view_is ∙ (next ∙ ap (λ (x : Command). x ∷ drop (p.at + 1) (sends hs (for_block p.base p.superblock)))
-    (ap (λ (n : ℕ). write p.at (for_block h.block h.body) (p.at + 1 == n)) (sym same) ∙ (ap (λ (b : List ℕ). write p.at (for_block h.block b) (p.at + 1 == c.len-count.result)) (sym c.copy.ensures) ∙ sym c.write.ensures)))
+    (ap (λ (n : ℕ). write p.at (for_block h.block h.body) (p.at + 1 == n)) (sym same) ∙ (ap (λ (b : List ℕ). write p.at (for_block h.block b) (p.at + 1 == c.len-count.result)) (sym (c.copy-body.ensures ∙ c.as_block.ensures)) ∙ sym c.write.ensures)))
 
 pub returns-then-at-count-2-clause-some : goal.returns-then-at-count-2-clause-some
 returns-then-at-count-2-clause-some c =
@@ -27,7 +27,7 @@ returns-then-at-count-2-clause-some c =
     let at = c.if-at-count-2.true in
     let next = super_next hs (for_block p.base p.superblock) p.at (omega arith) in
     sym c.self.view_is ∙ (next ∙ ap (λ (x : Command). x ∷ drop (p.at + 1) (sends hs (for_block p.base p.superblock)))
-    (ap (λ (b : List ℕ). write p.at (for_block p.base b) true) (sym c.copy-then-at-count-2.ensures) ∙ sym c.write-then-at-count-2.ensures))
+    (ap (λ (b : List ℕ). write p.at (for_block p.base b) true) (sym c.copy.ensures) ∙ sym c.write-then-at-count-2.ensures))
 
 pub returns-then-at-count-3-clause-some : goal.returns-then-at-count-3-clause-some
 returns-then-at-count-3-clause-some c =
