@@ -1,8 +1,11 @@
 //! The blocks of a volume in memory.
 ghost use Rattle.std.specs.Prelude.{◌≡◌};
+ghost use Rattle.volume_ops.specs.Places.{zone_number};
 ghost use Rattle.volume_ops.specs.Volume.{disk_of};
 
 use blk_base::{Block, Image};
+use byte_fields::u16_at_le;
+use inode_ops::ZoneBlocks;
 use std::marker::Model;
 
 /// The blocks of a volume. Behind them stand zeros.
@@ -49,5 +52,14 @@ impl Disk {
         } else {
             &self.zeros
         }
+    }
+}
+
+impl ZoneBlocks for Disk {
+    ghost entries = { λ s zone at. zone_number (disk_of s zone) at };
+
+    fn entry(&self, zone: u16, at: u16) -> u16 {
+        let bytes = self.body(zone.into()).as_slice();
+        u16_at_le(bytes, 2 * usize::from(at))
     }
 }

@@ -29,6 +29,7 @@ mod walk;
 mod walk_fault;
 mod zones;
 
+pub use disk::Disk;
 pub use fault::VolumeFault;
 pub use found::{Found, FoundFile, FoundNode, Mapped, MappedZones};
 pub use laws::{
@@ -36,4 +37,5 @@ pub use laws::{
     same_metadata_gives_alike_trees, trees_are_rooted, trees_have_fields, volumes_have_one_tree,
     walks_end_well_without_fault, walks_read_metadata_alone,
 };
+pub use places::{inode_at, inode_of_birth};
 pub use volume::{Volume, WalkedVolume};

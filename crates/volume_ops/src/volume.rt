@@ -89,6 +89,8 @@ impl Volume {
     pub fn into_parts(self) -> WalkedVolume
         ensures geometry { result.geometry ≡ self.geometry }
         ensures blocks { result.blocks ≡ self.blocks }
+        ensures sound { IsSound self.geometry }
+        ensures size { length self.blocks ≡ self.geometry.zones }
         ensures readable { IsOk (walked self.geometry self.blocks) }
         ensures nodes { IfOk (walked self.geometry self.blocks) (λ w. result.nodes.items ≡ w.nodes) }
     {
