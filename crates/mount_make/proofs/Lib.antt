@@ -3,3 +3,4 @@ mod MapBytes
 mod Filling
 mod MadeVolumes
 mod MadeImages
+mod MadeMaps

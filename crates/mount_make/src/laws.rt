@@ -1,5 +1,5 @@
 //! Laws of the trees of images.
-ghost use Rattle.std.specs.Prelude.{◌≡◌, ℕ, ◌+◌, ◌≤◌, ◌↔◌, List, length, Some, None, Ok, Err};
+ghost use Rattle.std.specs.Prelude.{◌≡◌, ◌≢◌, ℕ, ◌+◌, ◌<◌, ◌≤◌, ◌==◌, ◌↔◌, List, length, true, Some, None, Ok, Err};
 ghost use Rattle.minix_layout.specs.declared.division.Geometry.{Geometry};
 ghost use Rattle.minix_layout.specs.declared.fault.LayoutFault.{LayoutFault};
 ghost use Rattle.tree_model.specs.declared.node.Node.{Node};
@@ -12,7 +12,9 @@ ghost use Rattle.mount_make.specs.declared.fault.ImageFault.{ImageFault};
 ghost use Rattle.mount_make.specs.Images.{divided, image_fault, fault_in_journal, volume_in, journal_at, recovered_image, mounted, image_tree};
 ghost use Rattle.mount_make.specs.ImageTrees.{IsImageTree, AgreeOnImage};
 ghost use Rattle.mount_make.specs.Made.{new_journal, made_image, root_alone};
+ghost use Rattle.minix_layout.specs.declared.bits.BitPlace.{BitPlace};
 ghost use Rattle.minix_layout.specs.Geometry.{IsSound};
+ghost use Rattle.minix_layout.specs.Bits.{inode_bit, zone_bit, has_bit};
 ghost use Rattle.volume_ops.specs.Volume.{disk_of};
 ghost use Rattle.volume_model.specs.Plain.{IsPlainVolume};
 ghost use Rattle.volume_model.specs.NewVolume.{new_blocks};
@@ -63,3 +65,16 @@ pub fn made_images_are_plain()
     new_volumes_are_plain();
     plain_volumes_are_read_back();
 }
+
+/// A law, which does nothing when it is called: in an image that was made the maps mark the root alone. Of all inodes
+/// just the first is in use, of all zones of data just the first, and the bits that stand for none are set.
+pub fn made_maps_mark_the_root()
+    ensures inodes { (g : Geometry) (journal inode : ℕ) → IsSound g → 1 ≤ inode → inode ≤ g.inodes →
+        has_bit (made_image g journal) (inode_bit g inode) ≡ (inode == 1) }
+    ensures zones { (g : Geometry) (journal zone : ℕ) → IsSound g → g.first ≤ zone → zone < g.zones →
+        has_bit (made_image g journal) (zone_bit g zone) ≡ (zone == g.first) }
+    ensures others { (g : Geometry) (journal : ℕ) (p : BitPlace) → IsSound g → 2 ≤ p.block → p.block < 2 + g.imap + g.zmap → p.at < 8192 →
+        ((inode : ℕ) → 1 ≤ inode → inode ≤ g.inodes → p ≢ inode_bit g inode) →
+        ((zone : ℕ) → g.first ≤ zone → zone < g.zones → p ≢ zone_bit g zone) →
+        has_bit (made_image g journal) p ≡ true }
+{}

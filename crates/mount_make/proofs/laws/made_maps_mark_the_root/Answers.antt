@@ -1,0 +1,9 @@
+use Rattle.mount_make.proofs.MadeMaps.{inode_marked, zone_marked, other_marked}
+use Rattle.mount_make.proofs.laws.made_maps_mark_the_root.Goals as goal
+
+pub returns : goal.returns
+returns c = record {
+  inodes = λ g journal inode sound. inode_marked g journal sound inode;
+  zones = λ g journal zone sound. zone_marked g journal sound zone;
+  others = λ g journal p sound. other_marked g journal sound p;
+}
