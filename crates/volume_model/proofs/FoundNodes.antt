@@ -62,7 +62,7 @@ module _ (g : Geometry) (blocks : List (List ℕ)) where
 
   -- ---- what it finds stands in the tree
 
-  walked_stands : (all : Walked) → walked g blocks ≡ Ok all → (n : FoundNode) → In n all.nodes → at_number (put_nodes blocks all.nodes []) n.birth ≡ Some (node_of blocks n.found)
+  pub walked_stands : (all : Walked) → walked g blocks ≡ Ok all → (n : FoundNode) → In n all.nodes → at_number (put_nodes blocks all.nodes []) n.birth ≡ Some (node_of blocks n.found)
   unfolding walked
   walked_stands all e =
       let ends : Ends g blocks all.nodes = walk_volume-ends g blocks all e in

@@ -1,12 +1,12 @@
 mod Moves
 mod Places
-mod Nodes
-mod SameTrees
-mod Images
+pub mod Nodes
+pub mod SameTrees
+pub mod Images
 mod UsedSlots
 mod Bytes
-mod ImageSlots
+pub mod ImageSlots
 mod FromImages
 mod MovedSums
 mod NewVolumes
-mod FoundNodes
+pub mod FoundNodes
