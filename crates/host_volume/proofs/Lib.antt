@@ -1,0 +1,16 @@
+pub mod Roots
+pub mod Waiting
+pub mod Metadata
+pub mod Pages
+pub mod FoundPaths
+pub mod WalkedZones
+pub mod SameRows
+pub mod TreeSteps
+pub mod Standing
+pub mod Telling
+pub mod Promises
+pub mod Numbered
+pub mod OpenedVolumes
+pub mod AlikeFound
+pub mod SessionsKept
+pub mod Asked

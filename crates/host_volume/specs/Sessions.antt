@@ -1,0 +1,84 @@
+-- The host's machine over volumes: the model, and the sessions on an opened volume whose tree is the root alone.
+use Rattle.std.specs.Prelude.{◌≡◌, ℕ, List, [], ◌∷◌, Some, unwrap_or, slice_index}
+use Rattle.std.specs.List.{range_with_len}
+use Rattle.minix_layout.specs.declared.division.Geometry.{Geometry}
+use Rattle.log_model.specs.Log.{Format}
+use Rattle.tx_running.specs.Plan.{Writers}
+use Rattle.tree_model.specs.declared.call.Call.{Call}
+use Rattle.tree_model.specs.declared.call.Reply.{Reply}
+use Rattle.tree_model.specs.declared.call.Reply.TheVariants as replies
+use Rattle.tree_model.specs.Histories.{block_at, maps_block}
+use Rattle.tree_model.specs.Maps.{at_number}
+use Rattle.volume_ops.specs.Volume.{disk_of}
+use Rattle.volume_ops.specs.Walk.{walk_volume}
+use Rattle.volume_model.specs.declared.placed.Placed.{Placed}
+use Rattle.volume_steps.specs.Now.{VolumeNow, tree_of_now, room_of}
+use Rattle.volume_steps.specs.Calls.{after_release}
+use Rattle.volume_steps.specs.Plain.{IsPlainNow}
+use Rattle.crash_laws.specs.Volumes.{WalkEnd}
+use Rattle.host_machine.specs.Model.{Model}
+use Rattle.host_machine.specs.laws.Contract.{Over}
+use Rattle.host_volume.specs.Calls.{kind_of, node_of, refusal, needed, would_change, done_as}
+use Rattle.host_volume.specs.Paths.{place_in}
+use Rattle.host_volume.specs.PlainTrees.{PlainTree, root_tree, tree_after_call, call_writes, call_alters}
+use Rattle.host_volume.specs.Volumes.{is_metadata, zone_of, zones_of}
+
+-- plain trees and volumes in use, of this division
+abbrev pub model : Geometry → Model PlainTree VolumeNow Call Reply
+model g = record {
+  kind = kind_of;
+  ok = replies.Ok;
+  root = root_tree;
+  call = tree_after_call (room_of g);
+  maps = λ t f i. maps_block t.tree f i;
+  content = λ t f i. unwrap_or (block_at t.tree f i) [];
+  writes = call_writes (room_of g);
+  alters = call_alters (room_of g);
+  reply = refusal;
+  hinders = would_change;
+  needs = needed;
+  apply = done_as;
+  node = node_of;
+  zones = zones_of;
+  release = after_release;
+  bytes = λ v b. disk_of v.contents.blocks b;
+  metadata = is_metadata;
+  zone = zone_of;
+}
+
+-- A session: how the volume is divided, the zone of its root, the image that it was opened with, of volume and
+-- journal, and how journal blocks are written and read.
+pub record Opening : Type 0 where
+  pub geometry : Geometry
+  pub root : ℕ
+  pub image : List (List ℕ)
+  pub writers : Writers
+  pub format : Format
+  -- the sequence of transaction 1, and how many log blocks a transaction may have
+  pub sequence : ℕ
+  pub quota : ℕ
+
+-- The journal lies behind the zones. The metadata of the image is what lies before them, and the root's zone.
+abbrev pub over : Opening → Over WalkEnd PlainTree VolumeNow Call Reply
+over s = record {
+  model = model s.geometry;
+  setup = record { journal = s.geometry.zones; sequence = s.sequence; writers = s.writers; zmap = s.geometry.zmap; quota = s.quota };
+  program = walk_volume s.geometry;
+  place = λ found t f i. place_in found t.tree f i;
+  base = s.image;
+  format = s.format;
+  reserved = s.root ∷ range_with_len 0 s.geometry.first;
+}
+
+-- the first block of the root has this zone
+pub record HasRoot (v : VolumeNow) (zone : ℕ) : Type 0 where
+  pub placed : Placed
+  pub stands : at_number v.contents.nodes 0 ≡ Some placed
+  pub zone_is : slice_index placed.inode.zones 0 ≡ zone
+
+-- A volume in use of a session stands for a plain tree. Its root keeps the zone that it had.
+pub record Stands (s : Opening) (v : VolumeNow) (t : PlainTree) : Type 0 where
+  pub plain : IsPlainNow v
+  pub geometry : v.geometry ≡ s.geometry
+  pub tree : tree_of_now v ≡ t.tree
+  pub root : HasRoot v s.root

@@ -1,0 +1,2 @@
+-- Laws that definitions rest on.
+pub mod Numbers

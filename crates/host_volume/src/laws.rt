@@ -1,0 +1,11 @@
+//! The laws, each a public function that does nothing when it is called.
+
+mod histories;
+mod promises;
+mod sessions;
+
+pub use histories::{files_have_places, histories_number_their_calls};
+pub use promises::{
+    calls_are_asked_without_a_number, volumes_are_seen_as_they_are, volumes_keep_their_promises,
+};
+pub use sessions::{new_volumes_can_be_opened, sessions_keep_rules_and_trees};

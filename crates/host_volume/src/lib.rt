@@ -1,0 +1,20 @@
+//! The host's machine over volumes in use: the session on a journaled volume of Minix V1, from calls to requests.
+//!
+//! `host_machine` has the host's steps over any volume that keeps a few promises; here the volume is that of
+//! `volume_steps`, and the trees are those of `tree_model`. `specs/Sessions` has the model and what a session is opened
+//! with, `specs/Volumes` what the host sees of a volume, `specs/Calls` what it asks and does, `specs/PlainTrees` and
+//! `specs/Numbers` the trees with the numbers of calls, `specs/Paths` where a walk finds a file, and `specs/Runs` runs of
+//! a session with what a power cut leaves of them.
+//!
+//! Renames are not built yet: each is refused as `Invalid`, by `decided` of `specs/Numbers`.
+//!
+//! The public functions do nothing when they are called: each is a law, and its clauses say it.
+#![tactic(auto)]
+
+mod laws;
+
+pub use laws::{
+    calls_are_asked_without_a_number, files_have_places, histories_number_their_calls,
+    new_volumes_can_be_opened, sessions_keep_rules_and_trees, volumes_are_seen_as_they_are,
+    volumes_keep_their_promises,
+};
