@@ -14,3 +14,4 @@ pub mod OpenedVolumes
 pub mod AlikeFound
 pub mod SessionsKept
 pub mod Asked
+pub mod StillCalls

@@ -1,9 +1,10 @@
 -- Whole sessions on a volume keep the order rules, and a power cut leaves the tree after a prefix of the calls.
-use Rattle.std.specs.Prelude.{◌≡◌, ◌<◌, ℕ, List, [], length, Ok, refl}
-use Rattle.std.proofs.Common.{sym, ap, subst, ◌∙◌}
+use Rattle.std.specs.Prelude.{◌≡◌, ◌<◌, ◌≤◌, ℕ, ◌+◌, Bool, List, [], ◌∷◌, length, slice_get, Some, Ok, refl}
+use Rattle.std.proofs.Common.{sym, ap, subst, ◌∙◌, arith}
 use Rattle.log_model.specs.Marks.{Transaction}
 use Rattle.tree_model.specs.declared.call.Call.{Call}
 use Rattle.tree_model.specs.declared.call.Reply.{Reply}
+use Rattle.tree_model.specs.declared.call.Reply.TheVariants as replies
 use Rattle.tree_model.specs.Calls.{Tree}
 use Rattle.tree_model.specs.Trees.{AreAlike}
 use Rattle.tree_model.specs.laws.Alike.{alike_chain}
@@ -17,14 +18,19 @@ use Rattle.volume_steps.specs.Now.{VolumeNow, tree_of_now}
 use Rattle.volume_steps.specs.Plain.{IsPlainNow}
 use Rattle.volume_calls.specs.NewNow.{new_now}
 use Rattle.journal_ring.specs.LogRing.{LogRing}
-use Rattle.host_machine.specs.State.{Host}
+use Rattle.host_machine.specs.Host.{advance}
+use Rattle.host_machine.specs.Outcomes.{Done}
+use Rattle.host_machine.specs.State.{Begun, Thread, Host, is_flush_note}
 use Rattle.host_machine.specs.Views.{tree_after, cut_of}
 use Rattle.host_machine.specs.laws.Contract.{IsAlike}
-use Rattle.host_runs.specs.Runs.{Event}
+use Rattle.host_runs.specs.Promises.{IsAnswered}
+use Rattle.host_runs.specs.Runs.{Event, stepped, steps, FitsWords}
+use Rattle.host_runs.specs.laws.FlushFacts.{count, is_begin}
 use Rattle.host_runs.specs.Sentences.{kept_number}
 use Rattle.host_runs.specs.laws.Kept.{IsSound as IsSoundHost}
 use Rattle.host_runs.specs.laws.Written.{AreWritten}
-use Rattle.host_runs.proofs.RunHost.{opened_has, steps_keep}
+use Rattle.host_runs.proofs.Answered.{answered_now, answer_stays}
+use Rattle.host_runs.proofs.RunHost.{opened_has, step_keeps, step_fits, steps_keep}
 use Rattle.host_runs.proofs.Sentences.{sentences}
 use Rattle.host_volume.specs.PlainTrees.{PlainTree}
 use Rattle.host_volume.specs.Runs.{IsOpenedVolume, HasEmptyJournal, HasTreeLike, KeepsSession, opened_host, host_after}
@@ -91,10 +97,37 @@ module _ (s : Opening) (v : VolumeNow) (ring : LogRing) (limit : ℕ) (programs 
   abbrev first : Host VolumeNow Call Reply
   first = opened_host s v ring limit programs
 
+  first_fits : FitsWords (over s) first
+  first_fits = fits_words s v o ring limit programs j
+
+  first_sound : IsSoundHost (promises s) first
+  first_sound = opened_has (promises s) v ring s.geometry.zones limit programs (is_opened s v o ring limit programs j)
+
+  fit_on : (h : Host VolumeNow Call Reply) (events : List Event) → IsSoundHost (promises s) h → FitsWords (over s) h → FitsWords (over s) (steps (over s) h events)
+  fit_on h [] kept fits = fits
+  fit_on h (e ∷ events) kept fits =
+      fit_on (stepped (over s) h e) events (step_keeps (promises s) written (blocks_are_whole s) h e kept fits) (step_fits (promises s) written (blocks_are_whole s) h e kept fits)
+
+  sound_after : (events : List Event) → IsSoundHost (promises s) (host_after s v ring limit programs events)
+  sound_after events = steps_keep (promises s) written (blocks_are_whole s) first events first_sound first_fits
+
   pub session_runs : (events : List Event) → KeepsSession s (host_after s v ring limit programs events)
-  session_runs events =
-      session_kept s (host_after s v ring limit programs events)
-      (steps_keep (promises s) written (blocks_are_whole s) first events (opened_has (promises s) v ring s.geometry.zones limit programs (is_opened s v o ring limit programs j)) (fits_words s v o ring limit programs j))
+  session_runs events = session_kept s (host_after s v ring limit programs events) (sound_after events)
+
+  -- an Ok has what it stands for, then and later
+  pub answered_in_run : (events more : List Event) (full : Bool) (t : ℕ) (th : Thread Call) (b : Begun) → slice_get (host_after s v ring limit programs events).threads t ≡ Some th → th.begun ≡ Some b →
+      (advance (over s).model (over s).setup full (host_after s v ring limit programs events) t).step ≡ Done replies.Ok →
+      IsAnswered (over s) (Stands s) (steps (over s) (host_after s v ring limit programs events) more) (length (host_after s v ring limit programs events).history + 1) b
+  answered_in_run events more full t th b at begun done =
+      let h = host_after s v ring limit programs events in
+      let sound = sound_after events in
+      answer_stays (promises s) written (blocks_are_whole s) h more (length h.history + 1) b sound (fit_on first events first_sound first_fits)
+      (sound.rules.3.each t th b at begun).begun
+      (answered_now (promises s) h sound full t th b at begun replies.Ok refl done)
+
+  -- flushes are submitted for sync calls alone
+  pub flushes_in_run : (events : List Event) → count is_flush_note (host_after s v ring limit programs events).journal.flush.notes ≤ count (is_begin (over s).model.kind) (host_after s v ring limit programs events).history
+  flushes_in_run events = (let charged = (sound_after events).rules.4.charged in omega arith)
 
 -- ---- new volumes
 

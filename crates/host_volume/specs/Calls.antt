@@ -1,11 +1,15 @@
 -- Calls as the host sees them: their kinds, what refuses them, what they need, and what they do.
-use Rattle.std.specs.Prelude.{ℕ, ◌/◌, ◌%◌, ◌==◌, Bool, true, false, not, ◌&&◌, ◌||◌, map, Option, Some, None, List, Ok, Err}
+use Rattle.std.specs.List.{list_any}
+use Rattle.std.specs.Prelude.{ℕ, ◌*◌, ◌/◌, ◌%◌, ◌==◌, nat_le, is_some, Bool, true, false, not, ◌&&◌, ◌||◌, map, Option, Some, None, List, Ok, Err}
 use Rattle.tree_model.specs.declared.call.Call.{Call}
 use Rattle.tree_model.specs.declared.call.Call.TheVariants as calls
 use Rattle.tree_model.specs.declared.call.Reply.{Reply}
+use Rattle.tree_model.specs.declared.node.File.{File}
+use Rattle.tree_model.specs.declared.node.Node.{Node}
 use Rattle.tree_model.specs.declared.node.Node.TheVariants as nodes
-use Rattle.tree_model.specs.Calls.{Tree, Row, Found, walk_path, needs}
-use Rattle.tree_model.specs.Histories.{maps_block, is_found_at}
+use Rattle.tree_model.specs.Calls.{Tree, Row, walk_path, needs}
+use Rattle.tree_model.specs.Histories.{is_found_at}
+use Rattle.tree_model.specs.Maps.{at_number}
 use Rattle.volume_model.specs.Touched.{Page, Touched}
 use Rattle.volume_steps.specs.Now.{VolumeNow, tree_of_now, room_of}
 use Rattle.volume_steps.specs.Calls.{Called, called}
@@ -64,15 +68,18 @@ refusal v c = refused_by (decided (room_of v.geometry) (tree_of_now v) (next_bir
 unfoldable pub needed : VolumeNow → Call → ℕ
 needed v c = needs (tree_of_now v) (next_birth (tree_of_now v)) c
 
--- a file keeps its size, and no byte of it is cleared
-abbrev pub keeps_size : Tree → ℕ → Found → Bool
-keeps_size tree size found = elim found.node as (λ _. Bool) [
-  | nodes.File f ↦ (f.size == size) && ((size % 1024 == 0) || not (maps_block tree found.birth (size / 1024)))
-  | other ↦ false
-]
+-- A file keeps its size and its blocks, and no byte of them is cleared.
+abbrev pub keeps_file : ℕ → File → Bool
+keeps_file size f =
+    (f.size == size) && (not (list_any (λ (e : ℕ × List ℕ). nat_le size (1024 * e.0)) f.blocks)
+    && ((size % 1024 == 0) || not (is_some (at_number f.blocks (size / 1024)))))
+
+abbrev pub keeps_size : ℕ → Node → Bool
+keeps_size size (nodes.File f) = keeps_file size f
+keeps_size size other = false
 
 abbrev pub cuts_nothing : Tree → List ℕ → ℕ → Bool
-cuts_nothing tree path size = elim (walk_path tree path) as (λ _. Bool) [ Err reply ↦ false | Ok found ↦ keeps_size tree size found ]
+cuts_nothing tree path size = elim (walk_path tree path) as (λ _. Bool) [ Err reply ↦ false | Ok found ↦ keeps_size size found.node ]
 
 -- both paths lead to one node
 abbrev pub names_one : Tree → List ℕ → List ℕ → Bool

@@ -14,7 +14,8 @@
 mod laws;
 
 pub use laws::{
-    calls_are_asked_without_a_number, files_have_places, histories_number_their_calls,
+    answers_of_sessions_hold, calls_are_asked_without_a_number,
+    calls_that_change_nothing_are_not_hindered, files_have_places, histories_number_their_calls,
     new_volumes_can_be_opened, sessions_keep_rules_and_trees, volumes_are_seen_as_they_are,
     volumes_keep_their_promises,
 };

@@ -1,8 +1,9 @@
 //! Laws of volumes: what the host sees of them is what is there, and what it is promised holds.
-ghost use Rattle.std.specs.Prelude.{◌≡◌, ◌≤◌, ◌↔◌, ℕ, Bool, true, false, Some};
+ghost use Rattle.std.specs.Prelude.{◌≡◌, ◌≤◌, ◌↔◌, ℕ, Bool, true, false, Some, None};
 ghost use Rattle.blk_base.specs.Members.{In, IsAscending};
 ghost use Rattle.tree_model.specs.declared.call.Call.{Call};
-ghost use Rattle.tree_model.specs.Calls.{outcome, needs};
+ghost use Rattle.tree_model.specs.Calls.{outcome, needs, tree_after};
+ghost use Rattle.tree_model.specs.Histories.{writes};
 ghost use Rattle.tree_model.specs.Plain.{AreBornBefore};
 ghost use Rattle.zone_maps.specs.declared.zone_state.ZoneState.TheVariants as states;
 ghost use Rattle.zone_maps.specs.Zones.{state_of};
@@ -12,7 +13,7 @@ ghost use Rattle.volume_steps.specs.Plain.{IsPlainNow, is_rename};
 ghost use Rattle.host_machine.specs.Views.{waits_for};
 ghost use Rattle.host_machine.specs.laws.Contract.{Contract};
 ghost use Rattle.host_runs.specs.Runs.{HasBlocks};
-ghost use Rattle.host_volume.specs.Calls.{refused_by, refusal, needed};
+ghost use Rattle.host_volume.specs.Calls.{refused_by, refusal, needed, would_change};
 ghost use Rattle.host_volume.specs.Sessions.{Opening, over, Stands};
 ghost use Rattle.host_volume.specs.Volumes.{is_metadata, zone_of, zones_of};
 
@@ -43,4 +44,13 @@ pub fn calls_are_asked_without_a_number()
         refusal v c ≡ refused_by (outcome (room_of v.geometry) (tree_of_now v) n c) }
     ensures needed { (v : VolumeNow) (n : ℕ) (c : Call) → IsPlainNow v → AreBornBefore n (tree_of_now v) →
         needed v c ≡ needs (tree_of_now v) n c }
+{}
+
+/// A law, which does nothing when it is called: a call that nothing refuses, and that is not hindered where the journal
+/// has no room, changes neither the tree nor a page. Such are calls that read, barrier and sync calls, and those that
+/// cut a file where it ends.
+pub fn calls_that_change_nothing_are_not_hindered()
+    ensures still { (v : VolumeNow) (n : ℕ) (c : Call) → IsPlainNow v → refusal v c ≡ None → would_change v c ≡ false →
+        (tree_after (room_of v.geometry) (tree_of_now v) n c ≡ tree_of_now v) ×
+        ((birth index : ℕ) → writes (room_of v.geometry) (tree_of_now v) n c birth index ≡ false) }
 {}

@@ -1,17 +1,24 @@
 //! Laws of whole sessions on a volume.
 
-ghost use Rattle.std.specs.Prelude.{◌≡◌, ◌<◌, ℕ, List};
+ghost use Rattle.std.specs.Prelude.{◌≡◌, ◌<◌, ◌≤◌, ℕ, ◌+◌, Bool, List, length, slice_get, Option, Some};
 ghost use Rattle.minix_layout.specs.Geometry.{IsSound};
 ghost use Rattle.tree_model.specs.declared.call.Call.{Call};
+ghost use Rattle.tree_model.specs.declared.call.Reply.TheVariants as replies;
 ghost use Rattle.volume_ops.specs.Volume.{disk_of};
 ghost use Rattle.volume_model.specs.NewVolume.{new_volume};
 ghost use Rattle.volume_steps.specs.Now.{VolumeNow};
 ghost use Rattle.volume_calls.specs.NewNow.{new_now};
 ghost use Rattle.journal_ring.specs.LogRing.{LogRing};
-ghost use Rattle.host_runs.specs.Runs.{Event};
+ghost use Rattle.host_machine.specs.Host.{advance};
+ghost use Rattle.host_machine.specs.Outcomes.{Done};
+ghost use Rattle.host_machine.specs.State.{Begun, Thread, is_flush_note};
+ghost use Rattle.host_runs.specs.Promises.{IsAnswered};
+ghost use Rattle.host_runs.specs.Runs.{Event, steps};
+ghost use Rattle.host_runs.specs.laws.FlushFacts.{count, is_begin};
 ghost use Rattle.host_runs.specs.laws.Written.{AreWritten};
 ghost use Rattle.host_volume.specs.Runs.{IsOpenedVolume, HasEmptyJournal, host_after, KeepsSession};
-ghost use Rattle.host_volume.specs.Sessions.{Opening};
+ghost use Rattle.host_volume.specs.Calls.{kind_of};
+ghost use Rattle.host_volume.specs.Sessions.{Opening, over, Stands};
 
 use volume_calls::new_volumes_are_in_use;
 
@@ -24,6 +31,23 @@ pub fn sessions_keep_rules_and_trees()
     ensures kept { (s : Opening) (v : VolumeNow) (ring : LogRing) (limit : ℕ) (programs : List (List Call)) (events : List Event) →
         AreWritten s.format s.writers → IsOpenedVolume s v → HasEmptyJournal s ring limit →
         KeepsSession s (host_after s v ring limit programs events) }
+{}
+
+/// A law, which does nothing when it is called: when a barrier or sync call is answered Ok in such a session, what it
+/// covers stands at or before a barrier, or below a flush that was answered, and it does so whatever the host does after
+/// it. At most as many flushes are submitted as sync calls have begun, so no barrier rests on a flush.
+pub fn answers_of_sessions_hold()
+    ensures answered { (s : Opening) (v : VolumeNow) (ring : LogRing) (limit : ℕ) (programs : List (List Call)) (events more : List Event)
+        (full : Bool) (t : ℕ) (th : Thread Call) (b : Begun) →
+        AreWritten s.format s.writers → IsOpenedVolume s v → HasEmptyJournal s ring limit →
+        slice_get (host_after s v ring limit programs events).threads t ≡ Some th → th.begun ≡ Some b →
+        (advance (over s).model (over s).setup full (host_after s v ring limit programs events) t).step ≡ Done replies.Ok →
+        IsAnswered (over s) (Stands s) (steps (over s) (host_after s v ring limit programs events) more)
+        (length (host_after s v ring limit programs events).history + 1) b }
+    ensures flushes { (s : Opening) (v : VolumeNow) (ring : LogRing) (limit : ℕ) (programs : List (List Call)) (events : List Event) →
+        AreWritten s.format s.writers → IsOpenedVolume s v → HasEmptyJournal s ring limit →
+        count is_flush_note (host_after s v ring limit programs events).journal.flush.notes ≤
+        count (is_begin kind_of) (host_after s v ring limit programs events).history }
 {}
 
 /// A law, which does nothing when it is called: a session can be opened on a new volume of any size, where the image
