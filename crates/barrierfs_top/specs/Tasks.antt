@@ -3,7 +3,7 @@ use Rattle.std.specs.Prelude.{ℕ, ◌<◌, ◌≤◌, Bool, ◌&&◌, nat_lt, n
 use Rattle.std.specs.Str.{bytes_eq}
 use Rattle.std.specs.Option.{option_map}
 use Rattle.script_grammar.specs.declared.limits.TheConstants.{MOST_SCRIPT_BYTES}
-use Rattle.script_grammar.specs.Spelling.{numeral}
+use Rattle.script_words.specs.Spelling.{numeral}
 use Rattle.minix_layout.specs.Words.{first_zone}
 use Rattle.barrierfs_top.specs.declared.command_line.TheConstants.{MOST_IMAGE_BYTES}
 use Rattle.barrierfs_top.specs.declared.command_line.Command.{Command}

@@ -1,12 +1,12 @@
 //! What the words of the command line ask for.
 ghost use Rattle.std.specs.Prelude.{◌≡◌, ◌++◌, ◌∷◌, [], Some, IfSome, OnOk, OnErr};
-ghost use Rattle.script_grammar.specs.Spelling.{numeral};
+ghost use Rattle.script_words.specs.Spelling.{numeral};
 ghost use Rattle.barrierfs_top.specs.Tasks.{command_of, most_of, sizes_of, task_of, CanDo};
 
-use crate::number::numeral;
 use blk_base::NoMemory;
 use minix_layout::Geometry;
 use script_grammar::MOST_SCRIPT_BYTES;
+use script_words::numeral;
 use std::alloc::Global;
 use std::marker::Model;
 

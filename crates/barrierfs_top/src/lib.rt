@@ -13,7 +13,6 @@ mod fault;
 mod image_tests;
 #[cfg(test)]
 mod make_tests;
-mod number;
 mod output;
 mod program;
 mod show;

@@ -23,13 +23,13 @@ use Rattle.script_grammar.specs.declared.words.PickWord.{PickWord}
 use Rattle.script_grammar.specs.declared.words.PickWord.TheVariants as picks
 use Rattle.script_grammar.specs.declared.words.Word.TheVariants as word
 use Rattle.script_grammar.specs.declared.words.Line.TheVariants as line
-use Rattle.script_grammar.specs.Spelling.{is_skipped, words_of, lines_of}
+use Rattle.script_words.specs.Spelling.{is_skipped, words_of, lines_of}
 use Rattle.script_grammar.specs.Words.{count_of}
 use Rattle.script_grammar.specs.Grammar.{form_blocks, is_scheduled, needs_scheduler, count_fits, with_request, with_events, plain_event, pick_event, new_reading, read_words, at_line, read_from, ended, ended_in, script_read, script_of, IsRequestOf}
 use Rattle.script_grammar.specs.WellFormed.{IsEventOf, IsEventLineOf, IsFilled, IsWellFormed, expanded_of}
 use Rattle.script_grammar.specs.laws.Speller.{form_words, cut_lines, elevator_lines, request_words, event_words, what_words, event_line_words}
 use Rattle.script_grammar.specs.laws.Accepted.{kept_lines, begins, beginning, or_default, default_depth, filled_queue, with_count, SaysScript}
-use Rattle.script_grammar.proofs.SpelledNumbers.{numeral-decimal}
+use Rattle.script_words.proofs.SpelledNumbers.{numeral-decimal}
 use Rattle.script_grammar.proofs.SpelledLines.{IsRead, EndsIn, read_from-step, at_header, before_events, later_line-read, may_stand-event, count_fits-from, IsRead-form, IsRead-depth, IsRead-queue, IsRead-cut, IsRead-elevator, IsRead-request, IsRead-events}
 use Rattle.script_grammar.proofs.Spelled.{with_line, with_lines, with_requests, IsRead-event_line}
 use Rattle.script_grammar.proofs.SaidWords.{one_text, default_text, line_with}

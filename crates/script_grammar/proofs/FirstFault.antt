@@ -5,7 +5,7 @@ use Rattle.script_grammar.specs.declared.kinds.ScriptKind.TheVariants as kinds
 use Rattle.script_grammar.specs.declared.reading.Reading.{Reading}
 use Rattle.script_grammar.specs.declared.reading.Section.{Section}
 use Rattle.script_grammar.specs.declared.reading.Section.TheVariants as sections
-use Rattle.script_grammar.specs.Spelling.{words_of, lines_of, is_skipped}
+use Rattle.script_words.specs.Spelling.{words_of, lines_of, is_skipped}
 use Rattle.script_grammar.specs.Grammar.{read_words, at_line, read_line, read_from, ended, ended_in, script_of}
 use Rattle.script_grammar.specs.laws.FirstFault.{error_of, fault_of, read_on, behind, AreRead, behind_all, are_events, has_events, IsFirstFault}
 

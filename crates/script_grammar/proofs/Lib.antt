@@ -1,14 +1,10 @@
 pub mod FirstFault
 pub mod Lines
-pub mod Numerals
 pub mod Spelled
 pub mod SpelledLines
-pub mod SpelledNumbers
-pub mod SpelledWords
 pub mod Unbuilt
 pub mod WellFormed
 pub mod Requests
-pub mod SaidNumbers
 pub mod SaidWords
 pub mod Said
 pub mod Accepts

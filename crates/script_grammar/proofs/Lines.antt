@@ -1,9 +1,6 @@
 -- Reading line by line: what is left to read after one line more.
-use Rattle.std.proofs.Common.{◌≡◌, ℕ, ◌+◌, ◌<◌, ◌≤◌, Bool, List, ◌∷◌, length, get_or, drop, map, Option, Ok, Err, refl, ap, arith, add-one, drop-cons}
-use Rattle.std.specs.List.{slice_split}
-use Rattle.std.proofs.lemmas.List.{drop_all, length-map}
-use Rattle.std.proofs.lemmas.List.Splits.{length-slice_split}
-use Rattle.std.proofs.lemmas.List.Sums.{count_by-le-length}
+use Rattle.std.proofs.Common.{◌≡◌, ℕ, ◌+◌, ◌<◌, ◌≤◌, List, ◌∷◌, length, get_or, drop, map, Option, Ok, Err, refl, add-one, drop-cons}
+use Rattle.std.proofs.lemmas.List.{drop_all}
 use Rattle.script_grammar.specs.declared.kinds.ScriptKind.{ScriptKind}
 use Rattle.script_grammar.specs.declared.reading.Reading.{Reading}
 use Rattle.script_grammar.specs.declared.script.Script.{Script}
@@ -35,7 +32,3 @@ read_from-ended f xs i n reading le = rw (drop_all i xs le) refl
 pub Reads-stops : {X : Type 0} (f : X → List ℕ) (xs : List X) (i n : ℕ) (d : X) (reading : Option Reading) (fault : ScriptError) → i < length xs → Reads {A = Option Reading} (Err fault) (read_line n reading (f (get_or xs i d))) → Reads {A = Script} (Err fault) (read_from n reading (map f (drop i xs)))
 Reads-stops f xs i n d reading (script.Fault m kind) lt h = read_from-stops f xs i n d reading (m, kind) lt h
 Reads-stops f xs i n d reading script.NoMemory lt h = tt
-
--- a list is cut into at most one part more than it has elements
-pub few_parts : {X : Type 0} (f : X → List ℕ) (xs : List X) (p : ℕ → Bool) (bytes : List ℕ) → map f xs ≡ slice_split p bytes → length xs ≤ length bytes + 1
-few_parts f xs p bytes h = omega (arith, length-map xs f, ap length h, length-slice_split p bytes, count_by-le-length p bytes)

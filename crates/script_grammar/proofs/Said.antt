@@ -29,14 +29,15 @@ use Rattle.script_grammar.specs.declared.words.Word.TheVariants as word
 use Rattle.script_grammar.specs.declared.words.Line.{Line}
 use Rattle.script_grammar.specs.declared.words.Line.TheVariants as line
 use Rattle.byte_text.specs.Hex.{hex_text}
-use Rattle.script_grammar.specs.Spelling.{numeral, hex_byte, is_skipped, words_of, lines_of}
+use Rattle.script_words.specs.Spelling.{numeral, hex_byte, is_skipped, words_of, lines_of}
 use Rattle.script_grammar.specs.Words.{class_of, count_of, header_line, put_line, pick_line, line_of, word_of}
 use Rattle.script_grammar.specs.Grammar.{form_blocks, is_scheduled, form_of, is_built, new_reading, opened, form_line, built_first, first_line, stands_in, may_stand, stood_before, fits, put_request, flush_request, with_request, with_events, plain_event, pick_event, after, taken, later_line, read_words, at_line, read_line, script_read, ended_in, ended, read_from, script_of}
 use Rattle.script_grammar.specs.laws.Speller.{form_words, cut_lines, elevator_lines, request_words, event_line_words}
 use Rattle.script_grammar.specs.laws.Accepted.{kept_lines, begins, beginning, or_default, default_depth, filled_queue, with_count, SaysScript}
-use Rattle.script_grammar.proofs.WellFormed.{ok_behind, ok_past, ok_beside, mapped, chained, read_then}
+use Rattle.script_grammar.proofs.WellFormed.{ok_behind, ok_past, ok_beside, read_then}
+use Rattle.script_words.proofs.Chosen.{mapped, chained}
 use Rattle.script_grammar.proofs.SpelledLines.{before_events, body_byte-filled}
-use Rattle.script_grammar.proofs.SaidNumbers.{decimal-numeral, hex_text-byte}
+use Rattle.script_words.proofs.SaidNumbers.{decimal-numeral, hex_text-byte}
 use Rattle.script_grammar.proofs.SaidWords.{IsNamed, named, class_named, plain_text, pick_text, default_text, with_count-plain, with_count-pick, line_with, plain_said, pick_said}
 
 -- ---- what the lines that were read say of the reading

@@ -1,7 +1,7 @@
 -- Words that are read are spelled as the speller writes them.
-use Rattle.std.proofs.Common.{◌≡◌, ℕ, ◌-◌, ◌^◌, ◌<◌, ◌||◌, Bool, true, false, List, [], ◌∷◌, ◌++◌, codes, decimal, Option, Some, None, refl, sym, ap, ◌∙◌, subst, lit<, lit≤, if◌then◌else◌}
+use Rattle.std.proofs.Common.{◌≡◌, ℕ, ◌-◌, ◌^◌, ◌<◌, ◌||◌, Bool, true, false, List, [], ◌∷◌, ◌++◌, codes, decimal, Some, None, refl, sym, ap, ◌∙◌, subst, lit<, lit≤, if◌then◌else◌}
 use Rattle.std.specs.Str.{bytes_eq}
-use Rattle.std.specs.Option.{option_map, option_or}
+use Rattle.std.specs.Option.{option_or}
 use Rattle.std.proofs.lemmas.Fmt.{decimal_digit, decimal_step}
 use Rattle.std.proofs.lemmas.Option.{same_Some, none-some}
 use Rattle.std.proofs.lemmas.Slice.Eq.{bytes_eq-Decides}
@@ -22,12 +22,13 @@ use Rattle.script_grammar.specs.declared.words.Word.{Word}
 use Rattle.script_grammar.specs.declared.words.Word.TheVariants as word
 use Rattle.script_grammar.specs.declared.words.Class.{Class}
 use Rattle.script_grammar.specs.declared.words.Class.TheVariants as class
-use Rattle.script_grammar.specs.Spelling.{numeral}
+use Rattle.script_words.specs.Spelling.{numeral}
 use Rattle.script_grammar.specs.Words.{first_word, header_word, body_word, plain_word, pick_word, is_volume_section, is_change, is_query, is_host_event, volume_word, word_of, class_of, count_of}
 use Rattle.script_grammar.specs.Grammar.{is_ordered_class, is_barrier_class, plain_event, pick_event}
 use Rattle.script_grammar.specs.laws.Speller.{class_text, event_line_words}
 use Rattle.script_grammar.specs.laws.Accepted.{with_count}
-use Rattle.script_grammar.proofs.SaidNumbers.{decimal-numeral}
+use Rattle.script_words.proofs.Chosen.{choose, group_or}
+use Rattle.script_words.proofs.SaidNumbers.{decimal-numeral}
 
 -- ---- words, by group
 
@@ -56,14 +57,6 @@ abbrev pub pick_text : PickWord → List ℕ
 pick_text picks.Dispatch = codes "dispatch"
 pick_text picks.Transfer = codes "transfer"
 pick_text picks.Persist = codes "persist"
-
--- a word that is one of several, tested one after the other
-chosen : {A : Type 0} (text : A → List ℕ) (w : List ℕ) (x y : A) (rest : Option A) (same : Bool) → bytes_eq w (text x) ≡ same → (if same then Some x else rest) ≡ Some y → (rest ≡ Some y → w ≡ text y) → w ≡ text y
-chosen text w x y rest true e h other = (bytes_eq-Decides w (text x)).0 e ∙ ap text (same_Some x y h)
-chosen text w x y rest false e h other = other h
-
-choose : {A : Type 0} (text : A → List ℕ) (w : List ℕ) (x y : A) (rest : Option A) → (if bytes_eq w (text x) then Some x else rest) ≡ Some y → (rest ≡ Some y → w ≡ text y) → w ≡ text y
-choose text w x y rest h other = chosen text w x y rest (bytes_eq w (text x)) refl h other
 
 first_named : (w : List ℕ) (f : FirstWord) → first_word w ≡ Some f → w ≡ first_text f
 first_named w f h =
@@ -105,11 +98,6 @@ IsNamed w word.Events = w ≡ codes "events"
 IsNamed w (word.Plain p) = w ≡ plain_text p
 IsNamed w (word.Pick p) = w ≡ pick_text p
 IsNamed w word.OfVolume = Unit {0}
-
--- the first of two groups that knows the word
-group_or : {X A : Type 0} (f : X → A) (o : Option X) (rest : Option A) (y : A) (P : A → Type 0) → option_or (option_map f o) rest ≡ Some y → ((x : X) → o ≡ Some x → P (f x)) → (rest ≡ Some y → P y) → P y
-group_or f None rest y P h known other = other h
-group_or f (Some x) rest y P h known other = subst P (same_Some (f x) y h) (known x refl)
 
 volume_named : (w : List ℕ) (v : Word) (is : Bool) → (if is then Some word.OfVolume else None) ≡ Some v → IsNamed w v
 volume_named w v true h = subst (IsNamed w) (same_Some word.OfVolume v h) tt

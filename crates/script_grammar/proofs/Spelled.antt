@@ -16,8 +16,9 @@ use Rattle.script_grammar.specs.declared.script.EventWord.{EventWord}
 use Rattle.script_grammar.specs.declared.script.EventWord.TheVariants.{One}
 use Rattle.script_grammar.specs.Grammar.{is_scheduled, form_blocks, new_reading, with_request, read_from, ended_in, script_read, script_of, IsRequestOf}
 use Rattle.script_grammar.specs.WellFormed.{IsWordOf, IsEventLineOf, IsFilled, IsWellFormed, expanded_of}
-use Rattle.script_grammar.specs.laws.Speller.{form_words, queue_lines, cut_lines, elevator_lines, request_words, what_words, event_line_words, script_lines, lines_text, script_text}
-use Rattle.script_grammar.proofs.SpelledWords.{AreClearLines, lines_of-text}
+use Rattle.script_grammar.specs.laws.Speller.{form_words, queue_lines, cut_lines, elevator_lines, request_words, what_words, event_line_words, script_lines, script_text}
+use Rattle.script_words.specs.laws.Texts.{lines_text}
+use Rattle.script_words.proofs.SpelledWords.{AreClearLines, lines_of-text}
 use Rattle.script_grammar.proofs.SpelledLines.{IsRead, EndsIn, EndsIn-line, at_header, before_events, IsRead-form, IsRead-depth, IsRead-queue, IsRead-cut, IsRead-elevator, IsRead-request, IsRead-events, IsRead-event}
 
 -- the lines, each as its words, are read to this script behind what was read

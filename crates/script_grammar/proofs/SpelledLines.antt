@@ -31,13 +31,13 @@ use Rattle.script_grammar.specs.declared.words.Class.TheVariants as class
 use Rattle.script_grammar.specs.declared.words.Line.{Line}
 use Rattle.script_grammar.specs.declared.words.Line.TheVariants as line
 use Rattle.byte_text.specs.Hex.{hex_text}
-use Rattle.script_grammar.specs.Spelling.{numeral, hex_byte, is_skipped, words_of}
+use Rattle.script_words.specs.Spelling.{numeral, hex_byte, is_skipped, words_of}
 use Rattle.script_grammar.specs.Words.{class_of, line_of}
 use Rattle.script_grammar.specs.Grammar.{is_scheduled, form_blocks, new_reading, opened, form_of, is_built, may_stand, stands_in, needs_scheduler, stood_before, fits, count_fits, is_ordered_class, is_barrier_class, with_request, with_events, plain_event, pick_event, after, taken, later_line, read_words, at_line, read_line, read_from, IsRequestOf}
 use Rattle.script_grammar.specs.WellFormed.{IsEventOf, IsFilled}
 use Rattle.script_grammar.specs.laws.Speller.{form_words, class_text, body_byte, kind_words, request_words, event_words}
-use Rattle.script_grammar.proofs.SpelledWords.{IsClear, AreClear, words_of-joined}
-use Rattle.script_grammar.proofs.SpelledNumbers.{numeral-decimal, IsClear-decimal, hex_byte-text, IsClear-hex_text}
+use Rattle.script_words.proofs.SpelledWords.{IsClear, AreClear, words_of-joined}
+use Rattle.script_words.proofs.SpelledNumbers.{numeral-decimal, IsClear-decimal, hex_byte-text, IsClear-hex_text}
 
 -- ---- one line
 

@@ -1,5 +1,5 @@
 -- What is not built is told exactly of a line that begins with a word whose form is not built.
-use Rattle.std.proofs.Common.{◌≡◌, ℕ, ◌-◌, ◌||◌, ◌==◌, not, List, [], ◌∷◌, codes, take, Bool, true, false, Option, Some, None, Result, Ok, Err, refl, ap, ◌∙◌, arith, nat_le, slice_get, if◌then◌else◌, ◌⊎◌, inl, inr, ◌&&◌}
+use Rattle.std.proofs.Common.{◌≡◌, ℕ, ◌-◌, ◌||◌, ◌==◌, not, List, [], ◌∷◌, codes, take, Bool, true, false, Option, Some, None, Result, Ok, Err, refl, ap, ◌∙◌, arith, nat_le, slice_get, if◌then◌else◌, inl, inr, ◌&&◌}
 use Rattle.std.specs.Str.{bytes_eq}
 use Rattle.std.specs.Option.{option_map, option_or}
 use Rattle.std.specs.List.{onto_first}
@@ -20,7 +20,7 @@ use Rattle.script_grammar.specs.declared.words.PickWord.{PickWord}
 use Rattle.script_grammar.specs.declared.words.Word.{Word}
 use Rattle.script_grammar.specs.declared.words.Word.TheVariants as word
 use Rattle.script_grammar.specs.declared.words.Line.{Line}
-use Rattle.script_grammar.specs.Spelling.{words_of, lines_of, is_skipped, numeral}
+use Rattle.script_words.specs.Spelling.{words_of, lines_of, is_skipped, numeral}
 use Rattle.script_grammar.specs.Words.{first_word, header_word, body_word, plain_word, pick_word, is_volume_section, is_change, is_query, is_host_event, word_of, line_of}
 use Rattle.script_grammar.specs.Grammar.{is_built, opened, new_reading, form_of, form_line, built_first, first_line, may_stand, stood_before, fits, after, taken, later_line, read_words, script_of}
 use Rattle.script_grammar.specs.laws.FirstFault.{error_of, fault_of, behind_all, first_of, begins_unbuilt, IsFirstFault, IsFirstUnbuilt}

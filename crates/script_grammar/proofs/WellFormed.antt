@@ -1,7 +1,6 @@
 -- Every script that is read is well-formed: what holds of the reading is kept by each line.
-use Rattle.std.proofs.Common.{◌≡◌, ℕ, zero, suc, ◌+◌, ◌-◌, ◌<◌, ◌≤◌, List, [], ◌∷◌, ◌++◌, length, Bool, true, false, Option, Some, None, Result, Ok, Err, refl, sym, subst, ap, ◌∙◌, arith, length-append, nat_le, not, unwrap_or, slice_get, ◌&&◌, ◌||◌, if◌then◌else◌, lit≤, IfOk}
+use Rattle.std.proofs.Common.{◌≡◌, ℕ, zero, suc, ◌+◌, ◌<◌, ◌≤◌, List, [], ◌∷◌, ◌++◌, length, Bool, true, false, Option, Some, None, Result, Ok, Err, refl, sym, subst, ap, ◌∙◌, arith, length-append, nat_le, not, unwrap_or, slice_get, ◌&&◌, ◌||◌, if◌then◌else◌, lit≤, IfOk}
 use borrow.Author.Tests.{ltb-true, leb-true}
-use Rattle.std.specs.Option.{option_and_then, option_map}
 use Rattle.std.proofs.lemmas.Bool.{and_parts, false≢true}
 use Rattle.std.proofs.lemmas.Option.{same_Some, none-some}
 use Rattle.blk_base.specs.Block.{filled}
@@ -34,7 +33,9 @@ use Rattle.script_grammar.specs.declared.words.Word.{Word}
 use Rattle.script_grammar.specs.declared.words.Word.TheVariants as word
 use Rattle.script_grammar.specs.Grammar.{IsRequestOf, IsRunnable, form_blocks, is_scheduled, form_of, is_built, is_ordered_class, is_barrier_class, after, count_fits, fits, taken, later_line, may_stand, needs_scheduler, stood_before, put_request, flush_request, plain_event, pick_event, with_request, with_events, new_reading, opened, form_line, built_first, first_line, read_words, read_line, read_from, at_line, ended, ended_in, script_read, script_of}
 use Rattle.script_grammar.specs.code.Readers.{Reads}
-use Rattle.script_grammar.specs.Spelling.{is_digit, hex_digit, hex_byte, numeral, is_skipped, words_of, lines_of}
+use Rattle.script_words.proofs.Chosen.{mapped, chained}
+use Rattle.script_words.proofs.SaidNumbers.{hex_byte-small}
+use Rattle.script_words.specs.Spelling.{hex_byte, numeral, is_skipped, words_of, lines_of}
 use Rattle.script_grammar.specs.WellFormed.{IsEventOf, IsEventLineOf, IsFilled, IsWellFormed, expanded_of}
 use Rattle.script_grammar.specs.Words.{class_of, count_of, header_line, put_line, body_line, pick_line, line_of, word_of}
 
@@ -141,36 +142,6 @@ IsLineOf scheduled line.Elevator = scheduled ≡ true
 IsLineOf scheduled line.Events = Unit {0}
 IsLineOf scheduled (line.Plain w count) = IsEventOf scheduled (plain_event w)
 IsLineOf scheduled (line.Pick w pick count) = pick < PLACES → IsEventOf scheduled (pick_event w pick)
-
-pub mapped : {X Y : Type 0} (P : Y → Type 0) (f : X → Y) (o : Option X) (y : Y) → option_map f o ≡ Some y → ((x : X) → o ≡ Some x → P (f x)) → P y
-mapped P f None y h all = absurd (none-some y h)
-mapped P f (Some x) y h all = subst P (same_Some (f x) y h) (all x refl)
-
-pub chained : {X Y : Type 0} (P : Y → Type 0) (f : X → Option Y) (o : Option X) (y : Y) → option_and_then f o ≡ Some y → ((x : X) → o ≡ Some x → f x ≡ Some y → P y) → P y
-chained P f None y h all = absurd (none-some y h)
-chained P f (Some x) y h all = all x refl h
-
-digit-small : (b : ℕ) (decimal letter : Bool) (x : ℕ) → is_digit b ≡ decimal → (nat_le 97 b && nat_le b 102) ≡ letter → (if decimal then Some (b - 48) else (if letter then Some (b - 87) else None)) ≡ Some x → x < 16
-digit-small b true letter x d l h =
-    let bound = leb-true b 57 (and_parts (nat_le 48 b) (nat_le b 57) d).1 in
-    let same = same_Some (b - 48) x h in
-    omega (arith, bound, same)
-digit-small b false true x d l h =
-    let bound = leb-true b 102 (and_parts (nat_le 97 b) (nat_le b 102) l).1 in
-    let same = same_Some (b - 87) x h in
-    omega (arith, bound, same)
-digit-small b false false x d l h = absurd (none-some x h)
-
-hex_digit-small : (b x : ℕ) → hex_digit b ≡ Some x → x < 16
-hex_digit-small b x h = digit-small b (is_digit b) (nat_le 97 b && nat_le b 102) x refl refl h
-
-hex_byte-small : (w : List ℕ) (value : ℕ) → hex_byte w ≡ Some value → value < 256
-hex_byte-small [] value h = absurd (none-some value h)
-hex_byte-small (b ∷ []) value h = absurd (none-some value h)
-hex_byte-small (b ∷ c ∷ []) value h =
-    chained (λ v. v < 256) _ (hex_digit b) value h
-    (λ high e g. mapped (λ v. v < 256) _ (hex_digit c) value g (λ low f. omega (arith, hex_digit-small b high e, hex_digit-small c low f)))
-hex_byte-small (b ∷ c ∷ d ∷ w) value h = absurd (none-some value h)
 
 needed : (scheduled : Bool) → (scheduled || false) ≡ true → scheduled ≡ true
 needed true s = refl

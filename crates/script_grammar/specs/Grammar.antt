@@ -27,7 +27,7 @@ use Rattle.script_grammar.specs.declared.words.Class.{Class}
 use Rattle.script_grammar.specs.declared.words.Class.TheVariants as class
 use Rattle.script_grammar.specs.declared.words.Line.{Line}
 use Rattle.script_grammar.specs.declared.words.Line.TheVariants as line
-use Rattle.script_grammar.specs.Spelling.{lines_of, words_of, is_skipped, numeral}
+use Rattle.script_words.specs.Spelling.{lines_of, words_of, is_skipped, numeral}
 use Rattle.script_grammar.specs.Words.{word_of, line_of}
 
 -- ---- kinds of script

@@ -1,5 +1,4 @@
 pub mod Grammar
-pub mod Spelling
 pub mod WellFormed
 pub mod Words
 pub mod code

@@ -18,7 +18,7 @@ use Rattle.script_grammar.specs.declared.words.Class.{Class}
 use Rattle.script_grammar.specs.declared.words.Class.TheVariants as class
 use Rattle.script_grammar.specs.declared.words.Line.{Line}
 use Rattle.script_grammar.specs.declared.words.Line.TheVariants as line
-use Rattle.script_grammar.specs.Spelling.{numeral, hex_byte}
+use Rattle.script_words.specs.Spelling.{numeral, hex_byte}
 
 -- ---- words, by group
 

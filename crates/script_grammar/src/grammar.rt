@@ -16,10 +16,10 @@ use crate::script::{
     Asked, CoreEvent, EventLine, EventWord, Events, Form, Header, RequestList, Row, Script,
 };
 use crate::script_error::{LineError, ScriptError};
-use crate::spelling::{is_skipped, lines, numeral, words};
 use crate::word_table::read_word;
 use crate::words::{Class, FirstWord, HeaderWord, Line, PickWord, PlainWord, Word};
 use blk_base::NoMemory;
+use script_words::{is_skipped, lines, numeral, words};
 use std::alloc::Global;
 
 /// Reads a script, or says its first faulty line and what is wrong with it.

@@ -13,7 +13,6 @@ mod line_forms;
 mod reading;
 mod script;
 mod script_error;
-mod spelling;
 mod word_table;
 mod words;
 

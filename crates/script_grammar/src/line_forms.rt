@@ -2,9 +2,9 @@
 ghost use Rattle.std.specs.Prelude.{◌≡◌, map};
 ghost use Rattle.script_grammar.specs.Words.{header_line, put_line, body_line, count_of, plain_line, pick_line, events_line, line_of};
 
-use crate::spelling::{hex_byte, numeral};
 use crate::word_table::read_class;
 use crate::words::{BodyWord, HeaderWord, Line, PickWord, PlainWord, Word};
+use script_words::{hex_byte, numeral};
 
 /// The line that these words spell, the first of which is `word`.
 pub fn read_line_of(word: Word, words: &[&[u8]]) -> Option<Line>

@@ -5,7 +5,7 @@ use Rattle.std.specs.List.{filter}
 use Rattle.std.specs.Str.{bytes_eq}
 use Rattle.blk_base.specs.Members.{In}
 use Rattle.script_grammar.specs.declared.script.Script.{Script}
-use Rattle.script_grammar.specs.Spelling.{words_of, is_skipped}
+use Rattle.script_words.specs.Spelling.{words_of, is_skipped}
 use Rattle.script_grammar.specs.Grammar.{is_scheduled}
 use Rattle.script_grammar.specs.laws.Speller.{form_words, depth_lines, queue_lines, cut_lines, elevator_lines, request_words, event_line_words}
 

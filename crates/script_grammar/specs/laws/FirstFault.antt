@@ -7,7 +7,7 @@ use Rattle.script_grammar.specs.declared.kinds.ScriptKind.TheVariants as kinds
 use Rattle.script_grammar.specs.declared.reading.Reading.{Reading}
 use Rattle.script_grammar.specs.declared.reading.Section.{Section}
 use Rattle.script_grammar.specs.declared.reading.Section.TheVariants as sections
-use Rattle.script_grammar.specs.Spelling.{words_of, is_skipped}
+use Rattle.script_words.specs.Spelling.{words_of, is_skipped}
 use Rattle.script_grammar.specs.Grammar.{read_words}
 
 -- ---- one line

@@ -1,6 +1,5 @@
 -- A small speller of scripts.
 use Rattle.std.specs.Prelude.{ℕ, ◌++◌, Bool, true, false, List, [], ◌∷◌, codes, map, Option, Some, None, if◌then◌else◌, slice_get}
-use Rattle.std.specs.List.{join_with_byte}
 use Rattle.std.specs.Option.{option_map_or}
 use Rattle.std.specs.Fmt.{decimal}
 use Rattle.order_model.specs.declared.request.Request.{Request}
@@ -16,6 +15,7 @@ use Rattle.script_grammar.specs.declared.script.CoreEvent.{CoreEvent}
 use Rattle.script_grammar.specs.declared.script.CoreEvent.TheVariants.{Submit, Accept, Dispatch, Receive, Transfer, Persist}
 use Rattle.script_grammar.specs.Grammar.{is_scheduled}
 use Rattle.byte_text.specs.Hex.{hex_text}
+use Rattle.script_words.specs.laws.Texts.{lines_text}
 
 -- ---- the words of each line
 
@@ -74,14 +74,6 @@ abbrev pub script_lines : Script → List (List (List ℕ))
 script_lines s =
     form_words s.kind ∷ depth_lines s ++ queue_lines s ++ cut_lines s.header.cut ++ elevator_lines s.header.elevator
     ++ map request_words s.puts ++ (codes "events" ∷ []) ∷ map event_line_words s.events
-
--- words with one space between each two, and a line feed at the end
-abbrev pub line_text : List (List ℕ) → List ℕ
-line_text ws = join_with_byte 32 ws ++ 10 ∷ []
-
-unfoldable pub lines_text : List (List (List ℕ)) → List ℕ
-lines_text [] = []
-lines_text (ws ∷ ls) = line_text ws ++ lines_text ls
 
 abbrev pub script_text : Script → List ℕ
 script_text s = lines_text (script_lines s)

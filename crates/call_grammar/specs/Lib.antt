@@ -1,0 +1,4 @@
+pub mod CallLines
+pub mod Programs
+pub mod WellFormed
+pub mod laws

@@ -1,0 +1,2 @@
+-- The words of laws.
+pub mod Speller

@@ -1,0 +1,5 @@
+pub mod ClearLines
+pub mod EventLaws
+pub mod EventNames
+pub mod SteerLaws
+pub mod SteerSteps

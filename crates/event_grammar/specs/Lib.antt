@@ -1,0 +1,4 @@
+pub mod EventLines
+pub mod SteerLines
+pub mod WellFormed
+pub mod laws

@@ -1,0 +1,2 @@
+-- The words of laws, and lemmas.
+pub mod Speller

@@ -1,0 +1,2 @@
+-- The code's view of its own results.
+pub mod Readers
