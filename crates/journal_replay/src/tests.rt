@@ -145,6 +145,68 @@ fn magic_body() -> Block {
     body
 }
 
+// A body of block 9 whose block is revoked later, and behind it bodies of blocks 3 and 4.
+fn revoked(alloc: Global) -> Result<Image, NoMemory> {
+    let mut image = image_with(alloc, &FOUR)?;
+    put(&mut image, 9, Block::fill(3));
+    put_log(&mut image, 1, write_descriptor(4, &[tag(9)]));
+    put_log(&mut image, 2, Block::fill(7));
+    put_log(&mut image, 3, write_commit(4));
+    put_log(&mut image, 4, write_revoke(5, &[9]));
+    put_log(&mut image, 5, write_commit(5));
+    put_log(&mut image, 6, write_descriptor(6, &[tag(3), tag(4)]));
+    put_log(&mut image, 7, Block::fill(1));
+    put_log(&mut image, 8, Block::fill(2));
+    put_log(&mut image, 9, write_commit(6));
+    Ok(image)
+}
+
+// One transaction of sequence 7 whose one body begins with the magic number.
+fn escaped(alloc: Global) -> Result<Image, NoMemory> {
+    let seven = JournalSuper {
+        sequence: 7,
+        ..FOUR
+    };
+    let mut image = image_with(alloc, &seven)?;
+    let (stored, escaped) = escape(&magic_body());
+    put_log(
+        &mut image,
+        1,
+        write_descriptor(7, &[Tag { block: 9, escaped }]),
+    );
+    put_log(&mut image, 2, stored);
+    put_log(&mut image, 3, write_commit(7));
+    Ok(image)
+}
+
+// One transaction with bodies of blocks 2 to 6.
+fn of_five(alloc: Global) -> Result<Image, NoMemory> {
+    let mut image = image_with(alloc, &FOUR)?;
+    let tags = [tag(2), tag(3), tag(4), tag(5), tag(6)];
+    put_log(&mut image, 1, write_descriptor(4, &tags));
+    for body in 2..7u8 {
+        put_log(&mut image, u32::from(body), Block::fill(body));
+    }
+    put_log(&mut image, 7, write_commit(4));
+    Ok(image)
+}
+
+// The log begins behind its middle, and its sequences come round.
+fn wrapped(alloc: Global) -> Result<Image, NoMemory> {
+    let s = JournalSuper {
+        maxlen: 5,
+        start: 3,
+        sequence: u32::MAX,
+        ..FOUR
+    };
+    let mut image = image_with(alloc, &s)?;
+    put_log(&mut image, 3, write_descriptor(u32::MAX, &[tag(9)]));
+    put_log(&mut image, 4, Block::fill(7));
+    put_log(&mut image, 1, write_commit(u32::MAX));
+    put_log(&mut image, 2, write_commit(0));
+    Ok(image)
+}
+
 // Two transactions with bodies for blocks 9 and 10, and a later one for block 10.
 fn full(alloc: Global) -> Result<Image, NoMemory> {
     let mut image = image_with(alloc, &FOUR)?;
@@ -201,16 +263,11 @@ fn sends_before_it_looks_at_the_list(rt: HostRuntime) -> Result<(), Fail> {
 #[test]
 fn a_later_revoke_cancels_a_body(rt: HostRuntime) -> Result<(), Fail> {
     let alloc = rt.alloc();
-    let mut image = image_with(alloc, &FOUR)?;
-    put(&mut image, 9, Block::fill(3));
-    put_log(&mut image, 1, write_descriptor(4, &[tag(9)]));
-    put_log(&mut image, 2, Block::fill(7));
-    put_log(&mut image, 3, write_commit(4));
-    put_log(&mut image, 4, write_revoke(5, &[9]));
-    put_log(&mut image, 5, write_commit(5));
-    let (result, image) = attempt(&rt, alloc, image, &[], false)?;
-    assert_eq!(rt; result, ended(2, 7));
+    let (result, image) = attempt(&rt, alloc, revoked(alloc)?, &[], false)?;
+    assert_eq!(rt; result, ended(3, 8));
     assert_eq!(rt; body(&image, 9), Some(&Block::fill(3)));
+    assert_eq!(rt; body(&image, 3), Some(&Block::fill(1)));
+    assert_eq!(rt; body(&image, 4), Some(&Block::fill(2)));
     Ok(())
 }
 
@@ -224,46 +281,70 @@ fn the_last_body_counts(rt: HostRuntime) -> Result<(), Fail> {
     Ok(())
 }
 
-// The log begins behind its middle, and its sequences come round.
 #[test]
 fn logs_and_sequences_come_round(rt: HostRuntime) -> Result<(), Fail> {
     let alloc = rt.alloc();
-    let s = JournalSuper {
-        maxlen: 5,
-        start: 3,
-        sequence: u32::MAX,
-        ..FOUR
-    };
-    let mut image = image_with(alloc, &s)?;
-    put_log(&mut image, 3, write_descriptor(u32::MAX, &[tag(9)]));
-    put_log(&mut image, 4, Block::fill(7));
-    put_log(&mut image, 1, write_commit(u32::MAX));
-    put_log(&mut image, 2, write_commit(0));
-    let (result, image) = attempt(&rt, alloc, image, &[], false)?;
+    let (result, image) = attempt(&rt, alloc, wrapped(alloc)?, &[], false)?;
     assert_eq!(rt; result, ended(2, 2));
     assert_eq!(rt; body(&image, 9), Some(&Block::fill(7)));
     Ok(())
 }
 
-// Cut behind each number of steps, then cut again with other steps, then run to its end.
-#[test]
-fn attempts_lead_to_one_image(rt: HostRuntime) -> Result<(), Fail> {
-    let alloc = rt.alloc();
-    let (_, whole) = attempt(&rt, alloc, full(alloc)?, &[], false)?;
-    let steps = [Choice::Default; 10];
-    let others = [
+// The steps of attempts that are made one after the other.
+const OTHERS: [[Choice; 4]; 3] = [
+    [
         Choice::Persist(1),
         Choice::Transfer(1),
         Choice::Transfer(0),
         Choice::Persist(0),
-    ];
-    for count in 0..11usize {
+    ],
+    [
+        Choice::Transfer(2),
+        Choice::Default,
+        Choice::Persist(0),
+        Choice::Transfer(0),
+    ],
+    [
+        Choice::Transfer(0),
+        Choice::Transfer(3),
+        Choice::Persist(2),
+        Choice::Default,
+    ],
+];
+
+// Cuts a recovery behind each number of steps, cuts others behind it, and then recovers to the end.
+fn try_attempts(rt: &impl Abort, alloc: Global, image: &Image) -> Result<(), NoMemory> {
+    let (_, whole) = attempt(rt, alloc, image.copy(alloc)?, &[], false)?;
+    let steps = [Choice::Default; 16];
+    let (result, _) = attempt(rt, alloc, image.copy(alloc)?, &steps, true)?;
+    assert!(rt; result.is_ok_and(|r| r.ended));
+    for count in 0..17usize {
         let steer = steps.get(..count).unwrap_or(&[]);
-        let (_, first) = attempt(&rt, alloc, full(alloc)?, steer, true)?;
-        let (_, second) = attempt(&rt, alloc, first, &others, true)?;
-        let (result, last) = attempt(&rt, alloc, second, &[], false)?;
+        let (_, mut left) = attempt(rt, alloc, image.copy(alloc)?, steer, true)?;
+        for steer in OTHERS {
+            let (_, more) = attempt(rt, alloc, left, &steer, true)?;
+            left = more;
+        }
+        let (result, last) = attempt(rt, alloc, left, &[], false)?;
         assert!(rt; result.is_ok());
-        assert!(rt; are_same(&last, &whole));
+        assert!(rt; are_same(&last, &whole), "{count}");
+    }
+    Ok(())
+}
+
+#[test]
+fn attempts_lead_to_one_image(rt: HostRuntime) -> Result<(), Fail> {
+    let alloc = rt.alloc();
+    let images = [
+        skipping(alloc)?,
+        revoked(alloc)?,
+        escaped(alloc)?,
+        of_five(alloc)?,
+        wrapped(alloc)?,
+        full(alloc)?,
+    ];
+    for image in images {
+        try_attempts(&rt, alloc, &image)?;
     }
     Ok(())
 }
