@@ -1,4 +1,3 @@
-mod Plans
 mod Results
 mod Faults
 mod Fillings

@@ -33,6 +33,12 @@ impl BoxedBlock {
     {
         &self.block
     }
+
+    pub fn into_block(self) -> Block
+        ensures { result ≡ self }
+    {
+        Box::into_inner(self.block)
+    }
 }
 
 /// A block of the volume, and a body that the log has for it.

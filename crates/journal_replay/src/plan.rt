@@ -7,27 +7,32 @@ use crate::Home;
 use blk_base::Block;
 use order_model::{Command, Kind, Request};
 use std::marker::Model;
+use std::vec::IntoIter;
 
-/// What a recovery has still to send: the homes, the superblock of an empty log and a flush.
+/// What a recovery has still to send: the homes, the superblock of an empty log and a flush. A body that was sent is not
+/// held any longer.
 #[derive(Drop)]
 pub(crate) struct Plan {
-    homes: Vec<Home>,
+    homes: IntoIter<Home>,
+    count: usize,
     base: u32,
     superblock: Block,
     at: usize,
 }
 
 impl Model for Plan {
-    ghost use Rattle.std.specs.Prelude.{List, map, drop, ◌≤◌, ◌<◌, ◌+◌, ◌^◌, vec_len};
+    ghost use Rattle.std.specs.Prelude.{◌≡◌, List, length, ◌≤◌, ◌<◌, ◌+◌, ◌-◌, ◌^◌};
+    ghost use Rattle.std.specs.Vec.Iter.{into_iter_items, into_iter_len};
     ghost use Rattle.order_model.specs.declared.command.Command.{Command};
-    ghost use Rattle.journal_replay.specs.Commands.{for_block, sends};
+    ghost use Rattle.journal_replay.specs.Commands.{for_block};
     ghost use Rattle.journal_replay.specs.code.Homes.{logged_of};
+    ghost use Rattle.journal_replay.specs.code.Plans.{left_of};
 
     ghost Value = { List Command };
 
-    ghost view = { λ p. drop p.at (sends (logged_of p.homes.items) (for_block p.base p.superblock)) };
+    ghost view = { λ p. left_of p.count p.at (logged_of (into_iter_items p.homes)) (for_block p.base p.superblock) };
 
-    ghost invariant = { λ p. (p.at ≤ vec_len p.homes + 2) × (vec_len p.homes < 2 ^ 32) };
+    ghost invariant = { λ p. (length (into_iter_items p.homes) ≡ p.count - p.at) × (into_iter_len p.homes ≡ p.count - p.at) × (p.at ≤ p.count + 2) × (p.count < 2 ^ 32) };
 }
 
 impl Plan {
@@ -36,7 +41,8 @@ impl Plan {
         ensures { result ≡ sends (logged_of homes.items) (for_block base superblock) }
     {
         Plan {
-            homes,
+            count: homes.len(),
+            homes: homes.into_iter(),
             base,
             superblock,
             at: 0,
@@ -49,18 +55,16 @@ impl Plan {
         ensures none { IfNone result ((self.old ≡ []) × (self.new ≡ [])) }
     {
         let at = self.at;
-        let count = self.homes.len();
-        if at < count {
+        if let Some(home) = self.homes.next() {
             self.at = at + 1;
-            let home = &self.homes[at];
-            let body = home.body.as_block().copy();
-            return Some(write(at as u64, home.block, body, at + 1 == count));
+            let last = self.homes.len() == 0;
+            return Some(write(at as u64, home.block, home.body.into_block(), last));
         }
-        if at == count {
+        if at == self.count {
             self.at = at + 1;
             return Some(write(at as u64, self.base, self.superblock.copy(), true));
         }
-        if at == count + 1 {
+        if at == self.count + 1 {
             self.at = at + 1;
             return Some(flush(at as u64));
         }
@@ -70,7 +74,7 @@ impl Plan {
     pub(crate) fn is_done(&self) -> bool
         ensures { result ≡ (length self.now == 0) }
     {
-        self.at >= self.homes.len() + 2
+        self.at >= self.count + 2
     }
 }
 

@@ -226,6 +226,14 @@ fn full(alloc: Global) -> Result<Image, NoMemory> {
 }
 
 #[test]
+fn boxed_blocks_have_their_bytes(rt: HostRuntime) -> Result<(), Fail> {
+    let boxed = BoxedBlock::make(rt.alloc(), magic_body())?;
+    assert_eq!(rt; boxed.as_block(), &magic_body());
+    assert_eq!(rt; boxed.into_block(), magic_body());
+    Ok(())
+}
+
+#[test]
 fn skips_the_missing_sequence(rt: HostRuntime) -> Result<(), Fail> {
     let alloc = rt.alloc();
     let (result, image) = attempt(&rt, alloc, skipping(alloc)?, &[], false)?;
