@@ -98,6 +98,6 @@ module _ {A T V C R : Type 0} {o : Over A T V C R} {Stands : V → T → Type 0}
           omega arith;
       bodies = λ l i.
           let m = In-map (λ b. record { block = b; body = o.model.bytes s.volume b }) s.journal.running.touched l i in
-          ap length (sym (ap (λ (x : Logged). x.body) m.2)) ∙ has.sized s.volume m.0;
+          ap length (sym (ap (λ (x : Logged). x.body) m.2)) ∙ has.sized s.volume _ m.0 kept.images.0.stands;
       revokes = λ b i. let low = has.waiting s.volume _ b _ kept.images.0.stands (kept.images.0.bodies.waits b i) in let w = fits.blocks in omega arith;
     }

@@ -40,5 +40,5 @@ module _ {A T V C R : Type 0} (o : Over A T V C R) where
 
   -- A volume has whole blocks, and no block of the journal or behind it waits to be free.
   pub record HasBlocks (Stands : V → T → Type 0) : Type 0 where
-    pub sized : (v : V) (b : ℕ) → length (o.model.bytes v b) ≡ 1024
+    pub sized : (v : V) (t : T) (b : ℕ) → Stands v t → length (o.model.bytes v b) ≡ 1024
     pub waiting : (v : V) (t : T) (b k : ℕ) → Stands v t → waits_for (o.model.zones v).waiting b ≡ Some k → b < o.setup.journal
