@@ -12,7 +12,7 @@ use Rattle.crash_laws.specs.Session.{Session, IsCommit, log_transaction, log_blo
 use Rattle.host_machine.specs.State.{Phase, Idle, Closing, Committing, Host}
 use Rattle.host_machine.specs.Views.{running_transaction}
 use Rattle.host_machine.specs.laws.Contract.{Over, Contract, session}
-use Rattle.host_runs.specs.Runs.{FitsWords, HasBlocks}
+use Rattle.host_runs.specs.Runs.{FitsWords, HasBlocks, IsBlock}
 use Rattle.host_runs.specs.laws.Kept.{KeepsRules}
 use Rattle.host_runs.specs.laws.RingFacts.{PlaceFacts, RingInPhase}
 use Rattle.host_runs.specs.laws.Traces.{Trace, Move, Stays, Puts, Enters, Cuts, Takes}
@@ -98,6 +98,6 @@ module _ {A T V C R : Type 0} {o : Over A T V C R} {Stands : V → T → Type 0}
           omega arith;
       bodies = λ l i.
           let m = In-map (λ b. record { block = b; body = o.model.bytes s.volume b }) s.journal.running.touched l i in
-          ap length (sym (ap (λ (x : Logged). x.body) m.2)) ∙ has.sized s.volume _ m.0 kept.images.0.stands;
+          subst (λ (x : Logged). IsBlock x.body) m.2 (has.whole s.volume _ m.0 kept.images.0.stands);
       revokes = λ b i. let low = has.waiting s.volume _ b _ kept.images.0.stands (kept.images.0.bodies.waits b i) in let w = fits.blocks in omega arith;
     }

@@ -14,6 +14,7 @@ use Rattle.crash_laws.specs.Session.{log_transaction}
 use Rattle.tx_running.specs.Running.{log_blocks_for}
 use Rattle.tx_running.specs.Plan.{Writers, chunks_from, chunks, revoke_block, body_block, described, all_described, logged_blocks}
 use Rattle.tx_running.specs.declared.pieces.UnplacedBlock.{UnplacedBlock}
+use Rattle.host_runs.specs.Runs.{IsBlock}
 use Rattle.host_runs.specs.laws.Written.{IsWord, tag_of, AreWritten, IsWritable}
 
 -- ---- what is written is read back
@@ -116,13 +117,13 @@ module _ (w : Writers) (k seq : ℕ) where
   plan_bytes bodies revokes = revoke_bytes (chunks 252 revokes) (all_described w k seq (chunks 122 bodies)) (body_parts (chunks 122 bodies)) (described_bytes (chunks 122 bodies))
 
   module _ (f : Format) (written : AreWritten f w) where
-    restored_back : (c : List Logged) → ((l : Logged) → In l c → length l.body ≡ 1024) → restored f (tags c) (map (λ (l : Logged). w.stored l.body) c) ≡ c
+    restored_back : (c : List Logged) → ((l : Logged) → In l c → IsBlock l.body) → restored f (tags c) (map (λ (l : Logged). w.stored l.body) c) ≡ c
     restored_back [] h = refl
     restored_back (l ∷ ls) h =
         ap (λ (x : List ℕ). record { block = l.block; body = x } ∷ restored f (tags ls) (map (λ (m : Logged). w.stored m.body) ls)) (written.stored l.block l.body (h l (inl refl)))
         ∙ ap (λ ms. l ∷ ms) (restored_back ls (λ m i. h m (inr i)))
 
-    body_bodies : (cs : List (List Logged)) → ((c : List Logged) (l : Logged) → In c cs → In l c → length l.body ≡ 1024) → bodies_of_parts f (body_parts cs) ≡ flat cs
+    body_bodies : (cs : List (List Logged)) → ((c : List Logged) (l : Logged) → In c cs → In l c → IsBlock l.body) → bodies_of_parts f (body_parts cs) ≡ flat cs
     body_bodies [] h = refl
     body_bodies (c ∷ cs) h =
         ap (λ zs. zs ++ bodies_of_parts f (body_parts cs)) (restored_back c (λ l i. h c l (inl refl) i))
@@ -207,13 +208,13 @@ abbrev pub IsDraft : Format → ℕ → ℕ → UnplacedBlock → Type 0
 IsDraft f sequence k b = (log_transaction b.note ≡ Some k) × ((j : ℕ) → b.note ≡ Commit j → ⊥) × HasHeader sequence b.note (f.header b.body)
 
 module _ (w : Writers) (k sequence : ℕ) (f : Format) (written : AreWritten f w) (fits : IsWord (sequence + (k - 1))) where
-  body_draft : (l : Logged) → length l.body ≡ 1024 → IsDraft f sequence k (body_block w k (sequence + (k - 1)) l)
+  body_draft : (l : Logged) → IsBlock l.body → IsDraft f sequence k (body_block w k (sequence + (k - 1)) l)
   body_draft l n = (refl, λ j e. cc, written.plain l.body n)
 
   revoke_draft : (c : List ℕ) → (1 ≤ length c) × (length c ≤ 252) → ((b : ℕ) → In b c → IsWord b) → IsDraft f sequence k (revoke_block w k (sequence + (k - 1)) c)
   revoke_draft c size h = (refl, λ j e. cc, (c, written.revoke (sequence + (k - 1)) c fits size.0 size.1 h))
 
-  described_drafts : (c : List Logged) → (1 ≤ length c) × (length c ≤ 122) → ((l : Logged) → In l c → IsWord l.block) → ((l : Logged) → In l c → length l.body ≡ 1024)
+  described_drafts : (c : List Logged) → (1 ≤ length c) × (length c ≤ 122) → ((l : Logged) → In l c → IsWord l.block) → ((l : Logged) → In l c → IsBlock l.body)
       → (b : UnplacedBlock) → In b (described w k (sequence + (k - 1)) c) → IsDraft f sequence k b
   described_drafts c size words whole b (inl e) =
       subst (IsDraft f sequence k) e (refl, λ j q. cc, (map (tag_of w) c, (body_is_part w k (sequence + (k - 1)) f written c fits size words).0))
@@ -221,7 +222,7 @@ module _ (w : Writers) (k sequence : ℕ) (f : Format) (written : AreWritten f w
       let m = In-map (body_block w k (sequence + (k - 1))) c b i in
       subst (IsDraft f sequence k) m.2 (body_draft m.0 (whole m.0 m.1))
 
-  all_drafts : (cs : List (List Logged)) → ((c : List Logged) → In c cs → (1 ≤ length c) × (length c ≤ 122)) → ((c : List Logged) (l : Logged) → In c cs → In l c → IsWord l.block × (length l.body ≡ 1024))
+  all_drafts : (cs : List (List Logged)) → ((c : List Logged) → In c cs → (1 ≤ length c) × (length c ≤ 122)) → ((c : List Logged) (l : Logged) → In c cs → In l c → IsWord l.block × (IsBlock l.body))
       → (b : UnplacedBlock) → In b (all_described w k (sequence + (k - 1)) cs) → IsDraft f sequence k b
   all_drafts [] size h b i = absurd i
   all_drafts (c ∷ cs) size h b i =

@@ -1,5 +1,5 @@
 -- Runs of the host: lists of its steps, and what numbers and volumes have to keep.
-use Rattle.std.specs.Prelude.{◌≡◌, ℕ, ◌+◌, ◌<◌, ◌≤◌, Bool, true, List, [], ◌∷◌, length, Option, Some}
+use Rattle.std.specs.Prelude.{◌≡◌, ℕ, ◌+◌, ◌<◌, ◌≤◌, Bool, true, List, [], ◌∷◌, length, slice_index, Option, Some}
 use Rattle.blk_base.specs.Members.{In}
 use Rattle.order_model.specs.declared.completion.Completion.{Completion}
 use Rattle.host_machine.specs.Host.{advance, commit_step, writeback, flush_step}
@@ -15,6 +15,10 @@ pub data Event : Type 0 where
   Commit : Bool → Event
   WriteBack : Bool → ℕ → Event
   FlushStep : Bool → Option Completion → Event
+
+-- a block of 1,024 bytes
+abbrev pub IsBlock : List ℕ → Type 0
+IsBlock body = (length body ≡ 1024) × ((k : ℕ) → slice_index body k < 256)
 
 -- only barrier and sync calls have begun
 abbrev pub AreBegun : {C : Type 0} → (C → Kind) → List (Thread C) → Type 0
@@ -38,7 +42,7 @@ module _ {A T V C R : Type 0} (o : Over A T V C R) where
     pub places : s.journal.ring.places.past ≤ 4294967296
     pub sequences : o.setup.sequence + s.journal.flush.limit + 1 < 4294967296
 
-  -- A volume has whole blocks, and no block of the journal or behind it waits to be free.
+  -- A volume has whole blocks of bytes, and no block of the journal or behind it waits to be free.
   pub record HasBlocks (Stands : V → T → Type 0) : Type 0 where
-    pub sized : (v : V) (t : T) (b : ℕ) → Stands v t → length (o.model.bytes v b) ≡ 1024
+    pub whole : (v : V) (t : T) (b : ℕ) → Stands v t → IsBlock (o.model.bytes v b)
     pub waiting : (v : V) (t : T) (b k : ℕ) → Stands v t → waits_for (o.model.zones v).waiting b ≡ Some k → b < o.setup.journal

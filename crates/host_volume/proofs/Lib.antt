@@ -1,3 +1,4 @@
+pub mod StepLooks
 pub mod Roots
 pub mod Waiting
 pub mod Metadata
@@ -15,3 +16,5 @@ pub mod AlikeFound
 pub mod SessionsKept
 pub mod Asked
 pub mod StillCalls
+pub mod BytesKept
+pub mod RealJournal

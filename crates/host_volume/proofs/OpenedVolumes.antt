@@ -6,7 +6,7 @@ use Rattle.std.proofs.lemmas.Bool.{cases_Bool}
 use Rattle.std.proofs.lemmas.Option.{none-some, same_Some}
 use Rattle.blk_base.specs.Members.{In}
 use Rattle.minix_layout.specs.declared.division.Geometry.{Geometry}
-use Rattle.tree_model.specs.declared.call.Call.{Call}
+use Rattle.host_volume.specs.ByteCalls.{ByteCall}
 use Rattle.tree_model.specs.declared.node.Node.{Node}
 use Rattle.tree_model.specs.declared.node.Node.TheVariants as nodes
 use Rattle.tree_model.specs.Maps.{at_number}
@@ -49,7 +49,7 @@ no_way (block i) n w = elim n [ ]
 
 module _ (s : Opening) (v : VolumeNow) (o : IsOpenedVolume s v) where
   pub opened_stands : Stands s v root_tree
-  opened_stands = record { plain = o.plain; geometry = o.geometry; tree = o.tree; root = o.root }
+  opened_stands = record { plain = o.plain; geometry = o.geometry; tree = o.tree; root = o.root; bytes = o.bytes }
 
   birth_is : (n : ℕ) (p : Placed) → at_number v.contents.nodes n ≡ Some p → n ≡ 0
   birth_is n p at = only_root n (node_now v.contents.blocks p) (ap (λ tree. at_number tree n) (sym o.tree) ∙ tree_at v.contents.blocks v.contents.nodes n p at)
@@ -94,7 +94,7 @@ module _ (s : Opening) (v : VolumeNow) (o : IsOpenedVolume s v) where
   reserved_low : (b : ℕ) → In b (over s).reserved → b < s.geometry.zones
   reserved_low b i = meta_low s v root_tree opened_stands b (reserved_meta s v root_tree opened_stands b i)
 
-  module _ (ring : LogRing) (limit : ℕ) (programs : List (List Call)) (j : HasEmptyJournal s ring limit) where
+  module _ (ring : LogRing) (limit : ℕ) (programs : List (List ByteCall)) (j : HasEmptyJournal s ring limit) where
     base_image : BaseImage (session (over s) (Stands s) [] (opened_host s v ring limit programs))
     base_image = record { start = j.start; reserved = reserved_low; plain = j.plain }
 

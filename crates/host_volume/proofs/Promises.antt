@@ -16,6 +16,7 @@ use Rattle.host_machine.specs.Model.{is_begun}
 use Rattle.host_machine.specs.laws.Contract.{Contract, Tells}
 use Rattle.host_runs.specs.Runs.{HasBlocks}
 use Rattle.minix_layout.specs.declared.division.Geometry.{Geometry}
+use Rattle.host_volume.specs.ByteCalls.{ByteCall}
 use Rattle.host_volume.specs.Calls.{refused_by, refusal, needed, would_change, kind_of, done_as}
 use Rattle.host_volume.specs.Numbers.{next_birth, number_in, decided}
 use Rattle.host_volume.specs.PlainTrees.{PlainTree, tree_after_call, call_writes, call_alters}
@@ -54,8 +55,8 @@ module _ (s : Opening) (v : VolumeNow) (t : PlainTree) (h : Stands s v t) (c : C
 
 module _ (s : Opening) where
   -- a call that the volume does not refuse, and that finds the zones that it needs
-  applied : (v : VolumeNow) (t : PlainTree) (n r : ℕ) (c : Call) → Stands s v t → refusal v c ≡ None → (would_change v c ≡ true → nat_lt (length (zones_of v).free) (needed v c) ≡ false) →
-      Stands s (done_as v n r c).volume (tree_after_call (room_of s.geometry) t n c) × Tells (over s) t n r c v (done_as v n r c).volume (done_as v n r c).touched
+  applied : (v : VolumeNow) (t : PlainTree) (n r : ℕ) (c : ByteCall) → Stands s v t → refusal v c.call ≡ None → (would_change v c.call ≡ true → nat_lt (length (zones_of v).free) (needed v c.call) ≡ false) →
+      Stands s (done_as v n r c.call).volume (tree_after_call (room_of s.geometry) t n c.call) × Tells (over s) t n r c v (done_as v n r c.call).volume (done_as v n r c.call).touched
   unfolding done_as
   applied v t n r c h none enough = (stands_after s v t h n r c none enough, tells_host s v t h n r c none enough)
 
@@ -67,7 +68,7 @@ module _ (s : Opening) where
       (same, quiet_writes (room_of s.geometry) t n c quiet, stays_unaltered (room_of s.geometry) t n c same)
 
   released_stands : (v : VolumeNow) (t : PlainTree) (k : ℕ) → Stands s v t → Stands s (after_release v k) t
-  released_stands v t k h = record { plain = release_plain v k h.plain; geometry = h.geometry; tree = h.tree; root = record { placed = h.root.placed; stands = h.root.stands; zone_is = h.root.zone_is } }
+  released_stands v t k h = record { plain = release_plain v k h.plain; geometry = h.geometry; tree = h.tree; root = record { placed = h.root.placed; stands = h.root.stands; zone_is = h.root.zone_is }; bytes = h.bytes }
 
   pub promises : Contract (over s) (Stands s)
   unfolding is_metadata zone_of
@@ -75,8 +76,8 @@ module _ (s : Opening) where
     trees = tree_laws s.geometry;
     plain = λ v t h. stands_for s v t h;
     applied = λ v t n r c h none begun enough. applied v t n r c h none enough;
-    refused = λ v t n c why h refused. refused_all s v t h c why refused n;
-    begun = begun_all;
+    refused = λ v t n c why h refused. refused_all s v t h c.call why refused n;
+    begun = λ t n c begun. begun_all t n c.call begun;
     released = released_stands;
     same_bytes = λ v k. refl;
     same_metadata = λ v k. refl;
@@ -86,7 +87,7 @@ module _ (s : Opening) where
 
   pub blocks_are_whole : HasBlocks (over s) (Stands s)
   blocks_are_whole = record {
-    sized = λ v t b h. h.plain.in_use.volume.0.whole b;
+    whole = λ v t b h. (h.plain.in_use.volume.0.whole b, h.bytes b);
     waiting = λ v t b k h waits.
         let state = holder_state (state_of v.zones b) k (sym (waits_is v b) ∙ waits) in
         let high = (zone_range v h.plain.in_use b (states.Quarantined k) state).1 in

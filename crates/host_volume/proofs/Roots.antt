@@ -1,5 +1,5 @@
 -- The root keeps the zone of its first block, whatever a call does.
-use Rattle.std.specs.Prelude.{◌≡◌, ◌≢◌, ◌+◌, ◌-◌, ◌/◌, ◌%◌, ◌&&◌, ◌||◌, ℕ, zero, suc, nat_eq, nat_lt, nat_le, Bool, true, false, if◌then◌else◌, List, [], ◌∷◌, length, map, replicate, slice_index, slice_get, slice_set, Option, Some, None, Result, Ok, Err, refl}
+use Rattle.std.specs.Prelude.{◌≡◌, ◌≢◌, ◌+◌, ◌-◌, ◌/◌, ◌%◌, ◌&&◌, ◌||◌, ℕ, zero, suc, nat_eq, nat_lt, nat_le, Bool, true, false, if◌then◌else◌, List, [], ◌∷◌, length, map, replicate, slice_index, slice_get, slice_set, Option, Some, None, Ok, Err, refl}
 use Rattle.std.proofs.Common.{sym, ap, subst, ◌∙◌, arith, inl, inr}
 use Rattle.std.specs.Int.{div_ceil}
 use Rattle.std.specs.List.{list_any}
@@ -13,7 +13,6 @@ use Rattle.minix_layout.specs.declared.inode.Inode.{Inode}
 use Rattle.minix_layout.specs.declared.slot.Slot.{Slot}
 use Rattle.tree_model.specs.declared.call.Call.{Call}
 use Rattle.tree_model.specs.declared.call.Call.TheVariants as calls
-use Rattle.tree_model.specs.declared.call.Reply.{Reply}
 use Rattle.tree_model.specs.declared.call.Reply.TheVariants as replies
 use Rattle.tree_model.specs.Calls.{Tree, Place, Found, Row, names_in, parent_of, walk, walk_path, and_then, touched_blocks, max, outcome}
 use Rattle.tree_model.specs.Maps.{at_number, put_number, without_number}
@@ -28,13 +27,14 @@ use Rattle.volume_model.specs.declared.placed.DirectoryPart.{DirectoryPart}
 use Rattle.volume_model.specs.MapBlock.{OpenInode, own_of, TakenZones, taken_at, first_body, get_zone, get_step, get_steps, map_block, slot_written}
 use Rattle.volume_model.specs.Ways.{slot, entry, nowhere, home, way}
 use Rattle.dir_ops.specs.Slots.{room}
-use Rattle.volume_model.specs.Moves.{opened, name_removed}
+use Rattle.volume_model.specs.Moves.{opened}
 use Rattle.volume_model.specs.Volume.{Place as FilePlace, block, indirect, double, inner, zone_in}
-use Rattle.volume_ops.specs.Places.{table_block}
-use Rattle.volume_steps.specs.Now.{VolumeNow, Change, tree_of_now, room_of, unchanged, with_contents, written}
-use Rattle.volume_steps.specs.Steps.{at_node, at_directory, at_file, set_links, resize, make_file, make_directory, map_directory_block, make_room, put_name_slot, add_name, take_name, place_of, drop_node, tells_node, write_block, write_blocks, cut_blocks, clear_tail}
+use Rattle.volume_steps.specs.Now.{VolumeNow, Change, tree_of_now, room_of, unchanged, written}
+use Rattle.volume_steps.specs.Steps.{set_links, resize, make_file, make_directory, map_directory_block, make_room, put_name_slot, add_name, take_name, place_of, drop_node, write_block, write_blocks, cut_blocks, clear_tail}
 use Rattle.volume_steps.specs.Zones.{zone_bit, take_zones}
-use Rattle.volume_steps.specs.Calls.{at_place, at_path, lose_link, write, changed, called, called_by}
+use Rattle.host_volume.proofs.StepLooks.{taken_out, by_node, by_directory, by_file, by_test, by_place, by_path}
+use Rattle.volume_model.specs.Touched.{Contents}
+use Rattle.volume_steps.specs.Calls.{lose_link, write, changed, called, called_by}
 
 abbrev is_directory_part : Part → Bool
 is_directory_part (parts.Directory d) = true
@@ -53,8 +53,11 @@ module _ (zone : ℕ) (some : zone ≢ 0) where
     pub directory : is_directory_part placed.part ≡ true
     pub zone_is : slice_index placed.inode.zones 0 ≡ zone
 
+  abbrev P : Contents → Type 0
+  P c = RootIs c.nodes
+
   abbrev InChange : Change → Type 0
-  InChange c = RootIs c.volume.contents.nodes
+  InChange c = P c.volume.contents
 
   -- ---- a node is put or taken away
 
@@ -97,61 +100,26 @@ module _ (zone : ℕ) (some : zone ≢ 0) where
   gone_apart : (nodes : List (ℕ × Placed)) (n : ℕ) → n ≢ 0 → RootIs nodes → RootIs (without_number nodes n)
   gone_apart nodes n apart r = record { placed = r.placed; stands = found_after nodes n r.placed apart r.stands; directory = r.directory; zone_is = r.zone_is }
 
-  -- ---- where a step looks
-
-  by_node : (v : VolumeNow) (n : ℕ) (change : Placed → Change) → RootIs v.contents.nodes → ((p : Placed) → at_number v.contents.nodes n ≡ Some p → InChange (change p)) → InChange (at_node v n change)
-  by_node v n change r h = by (at_number v.contents.nodes n) refl
-    where
-      by : (o : Option Placed) → at_number v.contents.nodes n ≡ o → InChange (elim o as (λ _. Change) [ None ↦ unchanged v | Some p ↦ change p ])
-      by None e = r
-      by (Some p) e = h p e
-
-  by_directory : (v : VolumeNow) (n : ℕ) (change : Placed → DirectoryPart → Change) → RootIs v.contents.nodes →
-      ((p : Placed) (d : DirectoryPart) → at_number v.contents.nodes n ≡ Some p → p.part ≡ parts.Directory d → InChange (change p d)) → InChange (at_directory v n change)
-  by_directory v n change r h = by_node v n (λ p. elim p.part as (λ _. Change) [ parts.Directory d ↦ change p d | parts.File zones ↦ unchanged v ]) r (λ p at. by p at p.part refl)
-    where
-      by : (p : Placed) → at_number v.contents.nodes n ≡ Some p → (part : Part) → p.part ≡ part → InChange (elim part as (λ _. Change) [ parts.Directory d ↦ change p d | parts.File zones ↦ unchanged v ])
-      by p at (parts.Directory d) e = h p d at e
-      by p at (parts.File zones) e = r
-
-  by_file : (v : VolumeNow) (n : ℕ) (change : Placed → List Mapped → Change) → RootIs v.contents.nodes →
-      ((p : Placed) (zones : List Mapped) → at_number v.contents.nodes n ≡ Some p → p.part ≡ parts.File zones → InChange (change p zones)) → InChange (at_file v n change)
-  by_file v n change r h = by_node v n (λ p. elim p.part as (λ _. Change) [ parts.Directory d ↦ unchanged v | parts.File zones ↦ change p zones ]) r (λ p at. by p at p.part refl)
-    where
-      by : (p : Placed) → at_number v.contents.nodes n ≡ Some p → (part : Part) → p.part ≡ part → InChange (elim part as (λ _. Change) [ parts.Directory d ↦ unchanged v | parts.File zones ↦ change p zones ])
-      by p at (parts.Directory d) e = r
-      by p at (parts.File zones) e = h p zones at e
-
-  by_test : (t : Bool) (one other : Change) → InChange one → InChange other → InChange (if t then one else other)
-  by_test true one other h k = h
-  by_test false one other h k = k
-
   -- ---- links, sizes and names
 
   links_keep : (v : VolumeNow) (n : ℕ) (change : ℕ → ℕ) → RootIs v.contents.nodes → InChange (set_links v n change)
-  links_keep v n change r = by_node v n _ r (λ p at. put_like v.contents.nodes n p _ at refl (λ z. z) r)
+  links_keep v n change r = by_node P v n _ r (λ p at. put_like v.contents.nodes n p _ at refl (λ z. z) r)
 
   resize_keeps : (v : VolumeNow) (n : ℕ) (change : ℕ → ℕ) → RootIs v.contents.nodes → InChange (resize v n change)
-  resize_keeps v n change r = by_node v n _ r (λ p at. by_test (nat_eq (change p.inode.size) p.inode.size) _ _ r (put_like v.contents.nodes n p _ at refl (λ z. z) r))
+  resize_keeps v n change r = by_node P v n _ r (λ p at. by_test P (nat_eq (change p.inode.size) p.inode.size) _ _ r (put_like v.contents.nodes n p _ at refl (λ z. z) r))
 
   file_made : (v : VolumeNow) (n : ℕ) → n ≢ 0 → RootIs v.contents.nodes → InChange (make_file v n)
   file_made v n apart r = put_apart v.contents.nodes n _ apart r
 
   directory_made : (v : VolumeNow) (n parent : ℕ) → n ≢ 0 → RootIs v.contents.nodes → InChange (make_directory v n parent)
-  directory_made v n parent apart r = by_node v parent _ r (λ p at. put_apart v.contents.nodes n _ apart r)
+  directory_made v n parent apart r = by_node P v parent _ r (λ p at. put_apart v.contents.nodes n _ apart r)
 
   slot_put_keeps : (v : VolumeNow) (n : ℕ) (name : List ℕ) (birth : ℕ) → RootIs v.contents.nodes → InChange (put_name_slot v n name birth)
   slot_put_keeps v n name birth r =
-      by_directory v n _ r (λ p d at is. by_node v birth _ r (λ child there. put_like v.contents.nodes n p _ at (sym (ap is_directory_part is)) (λ z. z) r))
-
-  abbrev taken_out : VolumeNow → ℕ → Placed → DirectoryPart → ℕ → Slot → Change
-  taken_out v n p d k s = record {
-    volume = with_contents v (name_removed v.geometry v.contents n p d k s);
-    touched = tells_node n (zone_in v.contents.blocks p.inode (block (k / 64)) ∷ table_block v.geometry p.number ∷ []);
-  }
+      by_directory P v n _ r (λ p d at is. by_node P v birth _ r (λ child there. put_like v.contents.nodes n p _ at (sym (ap is_directory_part is)) (λ z. z) r))
 
   name_taken : (v : VolumeNow) (n : ℕ) (name : List ℕ) → RootIs v.contents.nodes → InChange (take_name v n name)
-  name_taken v n name r = by_directory v n _ r (λ p d at is. by p d at is (slice_get d.slots (place_of name d.slots)))
+  name_taken v n name r = by_directory P v n _ r (λ p d at is. by p d at is (slice_get d.slots (place_of name d.slots)))
     where
       by : (p : Placed) (d : DirectoryPart) → at_number v.contents.nodes n ≡ Some p → p.part ≡ parts.Directory d → (o : Option (Option Slot)) → InChange (elim o as (λ _. Change) [
         | None ↦ unchanged v
@@ -210,7 +178,7 @@ module _ (zone : ℕ) (some : zone ≢ 0) where
       put_like v.contents.nodes n p _ at (sym (ap is_directory_part is)) (λ z. map_keeps v.geometry t.taken (zeros 1024) (opened c p) index z) r
 
   room_keeps : (v : VolumeNow) (n : ℕ) → RootIs v.contents.nodes → InChange (make_room v n)
-  room_keeps v n r = by_directory v n _ r (λ p d at is. by_test (nat_eq (room d.slots) (length d.slots) && nat_eq (length d.slots % 64) 0) _ _ (directory_mapped_keeps v n p d (length d.slots / 64) at is r) r)
+  room_keeps v n r = by_directory P v n _ r (λ p d at is. by_test P (nat_eq (room d.slots) (length d.slots) && nat_eq (length d.slots % 64) 0) _ _ (directory_mapped_keeps v n p d (length d.slots / 64) at is r) r)
 
   name_added : (v : VolumeNow) (n : ℕ) (name : List ℕ) (birth : ℕ) → RootIs v.contents.nodes → InChange (add_name v n name birth)
   name_added v n name birth r = slot_put_keeps (make_room v n).volume n name birth (room_keeps v n r)
@@ -218,42 +186,27 @@ module _ (zone : ℕ) (some : zone ≢ 0) where
   -- ---- nodes and blocks go
 
   node_gone : (v : VolumeNow) (tx n : ℕ) → n ≢ 0 → RootIs v.contents.nodes → InChange (drop_node v tx n)
-  node_gone v tx n apart r = by_node v n _ r (λ p at. gone_apart v.contents.nodes n apart r)
+  node_gone v tx n apart r = by_node P v n _ r (λ p at. gone_apart v.contents.nodes n apart r)
 
   link_lost : (v : VolumeNow) (tx n : ℕ) → n ≢ 0 → RootIs v.contents.nodes → InChange (lose_link v tx n)
-  link_lost v tx n apart r = by_node v n _ r (λ p at. by_test (nat_le p.inode.links 1) _ _ (node_gone v tx n apart r) (links_keep v n (λ links. links - 1) r))
+  link_lost v tx n apart r = by_node P v n _ r (λ p at. by_test P (nat_le p.inode.links 1) _ _ (node_gone v tx n apart r) (links_keep v n (λ links. links - 1) r))
 
   cut_keeps : (v : VolumeNow) (tx n from : ℕ) → RootIs v.contents.nodes → InChange (cut_blocks v tx n from)
-  cut_keeps v tx n from r = by_file v n _ r (λ p zones at is.
-      by_test (list_any (λ (m : Mapped). nat_le from m.index) zones) _ _ (put_apart v.contents.nodes n _ (file_apart v.contents.nodes n p zones at is r) r) r)
+  cut_keeps v tx n from r = by_file P v n _ r (λ p zones at is.
+      by_test P (list_any (λ (m : Mapped). nat_le from m.index) zones) _ _ (put_apart v.contents.nodes n _ (file_apart v.contents.nodes n p zones at is r) r) r)
 
   tail_keeps : (v : VolumeNow) (n size : ℕ) → RootIs v.contents.nodes → InChange (clear_tail v n size)
-  tail_keeps v n size r = by_file v n _ r (λ p zones at is. by_test (nat_eq (size % 1024) 0 || nat_eq (zone_in v.contents.blocks p.inode (block (size / 1024))) 0) _ _ r r)
+  tail_keeps v n size r = by_file P v n _ r (λ p zones at is. by_test P (nat_eq (size % 1024) 0 || nat_eq (zone_in v.contents.blocks p.inode (block (size / 1024))) 0) _ _ r r)
 
   block_keeps : (v : VolumeNow) (n off : ℕ) (bytes : List ℕ) (index : ℕ) → RootIs v.contents.nodes → InChange (write_block v n off bytes index)
-  block_keeps v n off bytes index r = by_file v n _ r (λ p zones at is.
-      by_test (nat_eq (zone_in v.contents.blocks p.inode (block index)) 0) _ _ (put_apart v.contents.nodes n _ (file_apart v.contents.nodes n p zones at is r) r) r)
+  block_keeps v n off bytes index r = by_file P v n _ r (λ p zones at is.
+      by_test P (nat_eq (zone_in v.contents.blocks p.inode (block index)) 0) _ _ (put_apart v.contents.nodes n _ (file_apart v.contents.nodes n p zones at is r) r) r)
 
   blocks_keep : (v : VolumeNow) (n off : ℕ) (bytes : List ℕ) (indices : List ℕ) → RootIs v.contents.nodes → InChange (write_blocks v n off bytes indices)
   blocks_keep v n off bytes [] r = r
   blocks_keep v n off bytes (index ∷ indices) r = blocks_keep (write_block v n off bytes index).volume n off bytes indices (block_keeps v n off bytes index r)
 
   -- ---- calls
-
-  by_place : (v : VolumeNow) (path : List ℕ) (change : Place → Change) → RootIs v.contents.nodes →
-      ((place : Place) → and_then (names_in path) (parent_of replies.Invalid (tree_of_now v)) ≡ Ok place → InChange (change place)) → InChange (at_place v path change)
-  by_place v path change r h = by (and_then (names_in path) (parent_of replies.Invalid (tree_of_now v))) refl
-    where
-      by : (x : Result Place Reply) → and_then (names_in path) (parent_of replies.Invalid (tree_of_now v)) ≡ x → InChange (elim x as (λ _. Change) [ Err reply ↦ unchanged v | Ok place ↦ change place ])
-      by (Err reply) e = r
-      by (Ok place) e = h place e
-
-  by_path : (v : VolumeNow) (path : List ℕ) (change : ℕ → Change) → RootIs v.contents.nodes → ((found : Found) → walk_path (tree_of_now v) path ≡ Ok found → InChange (change found.birth)) → InChange (at_path v path change)
-  by_path v path change r h = by (walk_path (tree_of_now v) path) refl
-    where
-      by : (x : Result Found Reply) → walk_path (tree_of_now v) path ≡ x → InChange (elim x as (λ _. Change) [ Err reply ↦ unchanged v | Ok found ↦ change found.birth ])
-      by (Err reply) e = r
-      by (Ok found) e = h found e
 
   -- a path that has a parent does not lead to the root
   below_root : (tree : Tree) → IsRooted tree → (path : List ℕ) (place : Place) (found : Found) → and_then (names_in path) (parent_of replies.Invalid tree) ≡ Ok place → walk_path tree path ≡ Ok found → found.birth ≢ 0
@@ -267,25 +220,25 @@ module _ (zone : ℕ) (some : zone ≢ 0) where
 
   module _ (v : VolumeNow) (rooted : IsRooted (tree_of_now v)) (n tx : ℕ) (apart : n ≢ 0) (r : RootIs v.contents.nodes) where
     written_keeps : (path : List ℕ) (off : ℕ) (bytes : List ℕ) → InChange (write v path off bytes)
-    written_keeps path off bytes = by_path v path _ r (λ found f.
+    written_keeps path off bytes = by_path P v path _ r (λ found f.
         resize_keeps (write_blocks v found.birth off bytes (touched_blocks off (length bytes))).volume found.birth (λ size. max size (off + length bytes))
         (blocks_keep v found.birth off bytes (touched_blocks off (length bytes)) r))
 
     changed_keeps : (c : Call) → InChange (changed v n tx c)
     unfolding changed
-    changed_keeps (calls.Mkdir path) = by_place v path _ r (λ place e.
+    changed_keeps (calls.Mkdir path) = by_place P v path _ r (λ place e.
         links_keep _ place.parent (λ links. links + 1) (name_added (make_directory v n place.parent).volume place.parent place.name n (directory_made v n place.parent apart r)))
-    changed_keeps (calls.Create path) = by_place v path _ r (λ place e. name_added (make_file v n).volume place.parent place.name n (file_made v n apart r))
-    changed_keeps (calls.Rmdir path) = by_place v path _ r (λ place e. by_path v path _ r (λ found f.
+    changed_keeps (calls.Create path) = by_place P v path _ r (λ place e. name_added (make_file v n).volume place.parent place.name n (file_made v n apart r))
+    changed_keeps (calls.Rmdir path) = by_place P v path _ r (λ place e. by_path P v path _ r (λ found f.
         node_gone _ tx found.birth (below_root (tree_of_now v) rooted path place found e f)
         (links_keep (take_name v place.parent place.name).volume place.parent (λ links. links - 1) (name_taken v place.parent place.name r))))
-    changed_keeps (calls.Unlink path) = by_place v path _ r (λ place e. by_path v path _ r (λ found f.
+    changed_keeps (calls.Unlink path) = by_place P v path _ r (λ place e. by_path P v path _ r (λ found f.
         link_lost (take_name v place.parent place.name).volume tx found.birth (below_root (tree_of_now v) rooted path place found e f) (name_taken v place.parent place.name r)))
-    changed_keeps (calls.Link path other) = by_path v path _ r (λ found f. by_place v other _ r (λ place e.
+    changed_keeps (calls.Link path other) = by_path P v path _ r (λ found f. by_place P v other _ r (λ place e.
         name_added (set_links v found.birth (λ links. links + 1)).volume place.parent place.name found.birth (links_keep v found.birth (λ links. links + 1) r)))
     changed_keeps (calls.Write path off len value) = written_keeps path off (replicate len value)
     changed_keeps (calls.Bytes path off bytes) = written_keeps path off bytes
-    changed_keeps (calls.Truncate path size) = by_path v path _ r (λ found f.
+    changed_keeps (calls.Truncate path size) = by_path P v path _ r (λ found f.
         resize_keeps _ found.birth (λ old. size)
         (tail_keeps (cut_blocks v tx found.birth (div_ceil size 1024)).volume found.birth size (cut_keeps v tx found.birth (div_ceil size 1024) r)))
     changed_keeps other = r

@@ -2,7 +2,7 @@
 use Rattle.std.specs.Prelude.{◌≡◌, ◌<◌, ◌≤◌, ℕ, ◌+◌, Bool, List, [], ◌∷◌, length, slice_get, Some, Ok, refl}
 use Rattle.std.proofs.Common.{sym, ap, subst, ◌∙◌, arith}
 use Rattle.log_model.specs.Marks.{Transaction}
-use Rattle.tree_model.specs.declared.call.Call.{Call}
+use Rattle.host_volume.specs.ByteCalls.{ByteCall}
 use Rattle.tree_model.specs.declared.call.Reply.{Reply}
 use Rattle.tree_model.specs.declared.call.Reply.TheVariants as replies
 use Rattle.tree_model.specs.Calls.{Tree}
@@ -35,6 +35,7 @@ use Rattle.host_runs.proofs.Sentences.{sentences}
 use Rattle.host_volume.specs.PlainTrees.{PlainTree}
 use Rattle.host_volume.specs.Runs.{IsOpenedVolume, HasEmptyJournal, HasTreeLike, KeepsSession, opened_host, host_after}
 use Rattle.host_volume.specs.Sessions.{Opening, over, model, Stands}
+use Rattle.host_volume.proofs.BytesKept.{new_bytes}
 use Rattle.host_volume.proofs.AlikeFound.{found_alike}
 use Rattle.host_volume.proofs.Numbered.{trees_are}
 use Rattle.host_volume.proofs.OpenedVolumes.{is_opened, fits_words}
@@ -76,7 +77,7 @@ module _ (s : Opening) (u : PlainTree) (blocks : List (List ℕ)) (alike : IsAli
 
 -- ---- a session
 
-module _ (s : Opening) (h : Host VolumeNow Call Reply) (kept : IsSoundHost (promises s) h) where
+module _ (s : Opening) (h : Host VolumeNow ByteCall Reply) (kept : IsSoundHost (promises s) h) where
   abbrev closed : List Transaction
   closed = kept.rules.0
 
@@ -93,8 +94,8 @@ module _ (s : Opening) (h : Host VolumeNow Call Reply) (kept : IsSoundHost (prom
             (tree_like s (tree_after (model s.geometry) h.history last) recovered (said.tree m (disk_of recovered) order recovers));
       }
 
-module _ (s : Opening) (v : VolumeNow) (ring : LogRing) (limit : ℕ) (programs : List (List Call)) (written : AreWritten s.format s.writers) (o : IsOpenedVolume s v) (j : HasEmptyJournal s ring limit) where
-  abbrev first : Host VolumeNow Call Reply
+module _ (s : Opening) (v : VolumeNow) (ring : LogRing) (limit : ℕ) (programs : List (List ByteCall)) (written : AreWritten s.format s.writers) (o : IsOpenedVolume s v) (j : HasEmptyJournal s ring limit) where
+  abbrev first : Host VolumeNow ByteCall Reply
   first = opened_host s v ring limit programs
 
   first_fits : FitsWords (over s) first
@@ -103,7 +104,7 @@ module _ (s : Opening) (v : VolumeNow) (ring : LogRing) (limit : ℕ) (programs 
   first_sound : IsSoundHost (promises s) first
   first_sound = opened_has (promises s) v ring s.geometry.zones limit programs (is_opened s v o ring limit programs j)
 
-  fit_on : (h : Host VolumeNow Call Reply) (events : List Event) → IsSoundHost (promises s) h → FitsWords (over s) h → FitsWords (over s) (steps (over s) h events)
+  fit_on : (h : Host VolumeNow ByteCall Reply) (events : List Event) → IsSoundHost (promises s) h → FitsWords (over s) h → FitsWords (over s) (steps (over s) h events)
   fit_on h [] kept fits = fits
   fit_on h (e ∷ events) kept fits =
       fit_on (stepped (over s) h e) events (step_keeps (promises s) written (blocks_are_whole s) h e kept fits) (step_fits (promises s) written (blocks_are_whole s) h e kept fits)
@@ -115,7 +116,7 @@ module _ (s : Opening) (v : VolumeNow) (ring : LogRing) (limit : ℕ) (programs 
   session_runs events = session_kept s (host_after s v ring limit programs events) (sound_after events)
 
   -- an Ok has what it stands for, then and later
-  pub answered_in_run : (events more : List Event) (full : Bool) (t : ℕ) (th : Thread Call) (b : Begun) → slice_get (host_after s v ring limit programs events).threads t ≡ Some th → th.begun ≡ Some b →
+  pub answered_in_run : (events more : List Event) (full : Bool) (t : ℕ) (th : Thread ByteCall) (b : Begun) → slice_get (host_after s v ring limit programs events).threads t ≡ Some th → th.begun ≡ Some b →
       (advance (over s).model (over s).setup full (host_after s v ring limit programs events) t).step ≡ Done replies.Ok →
       IsAnswered (over s) (Stands s) (steps (over s) (host_after s v ring limit programs events) more) (length (host_after s v ring limit programs events).history + 1) b
   answered_in_run events more full t th b at begun done =
@@ -138,5 +139,6 @@ new_opened s plain root image = record {
   geometry = refl;
   tree = refl;
   root = record { placed = root_placed s.geometry; stands = refl; zone_is = sym root };
+  bytes = new_bytes s.geometry;
   image = image;
 }

@@ -28,6 +28,7 @@ use Rattle.volume_steps.proofs.PlainNow.{tree_is_plain}
 use Rattle.host_machine.specs.Model.{FileBlock}
 use Rattle.host_machine.specs.Views.{waits_for}
 use Rattle.host_machine.specs.laws.Contract.{Tells}
+use Rattle.host_volume.specs.ByteCalls.{ByteCall}
 use Rattle.host_volume.specs.Calls.{refusal, needed, would_change, file_block, done_as}
 use Rattle.host_volume.specs.Numbers.{next_birth, number_in, decided}
 use Rattle.host_volume.specs.PlainTrees.{PlainTree, tree_after_call, call_writes, call_alters}
@@ -36,6 +37,7 @@ use Rattle.host_volume.specs.Volumes.{is_metadata, zone_of, zones_of}
 use Rattle.host_volume.specs.laws.Numbers.{born_before, born_before_next}
 use Rattle.host_volume.proofs.Metadata.{meta_tested, tested_meta, not_meta}
 use Rattle.host_volume.proofs.Pages.{page_at, zone_page, page_zone, no_page, zone_maps, maps_zone}
+use Rattle.host_volume.proofs.BytesKept.{bytes_kept}
 use Rattle.host_volume.proofs.Roots.{called_keeps}
 use Rattle.host_volume.proofs.SameRows.{needs_same, writes_same}
 use Rattle.host_volume.proofs.Standing.{root_some, root_is, stands_for}
@@ -86,8 +88,11 @@ module _ (v : VolumeNow) (h : IsPlainNow v) (n : ℕ) (c : Call) (none : refusal
 
 -- ---- after the call
 
-module _ (s : Opening) (v : VolumeNow) (t : PlainTree) (h : Stands s v t) (n r : ℕ) (c : Call) (none : refusal v c ≡ None)
-    (enough : would_change v c ≡ true → nat_lt (length (zones_of v).free) (needed v c) ≡ false) where
+module _ (s : Opening) (v : VolumeNow) (t : PlainTree) (h : Stands s v t) (n r : ℕ) (call : ByteCall) (none : refusal v call.call ≡ None)
+    (enough : would_change v call.call ≡ true → nat_lt (length (zones_of v).free) (needed v call.call) ≡ false) where
+  abbrev c : Call
+  c = call.call
+
   abbrev number : ℕ
   number = number_in (tree_of_now v) n
 
@@ -121,7 +126,7 @@ module _ (s : Opening) (v : VolumeNow) (t : PlainTree) (h : Stands s v t) (n r :
       root_apart e = (let low = born_before (tree_of_now v) n 0 _ h.plain.plain.rooted.root.1 in omega arith)
 
   pub stands_after : Stands s w (tree_after_call (room_of s.geometry) t n c)
-  stands_after = record { plain = all.plain; geometry = all.steady.geometry ∙ h.geometry; tree = tree_is; root = root_kept }
+  stands_after = record { plain = all.plain; geometry = all.steady.geometry ∙ h.geometry; tree = tree_is; root = root_kept; bytes = bytes_kept v number r h.bytes c call.bytes }
 
   -- ---- what is told
 
@@ -191,7 +196,7 @@ module _ (s : Opening) (v : VolumeNow) (t : PlainTree) (h : Stands s v t) (n r :
       table_below : (number : ℕ) → 0 < number → number ≤ w.geometry.inodes → table_block v.geometry number < v.geometry.first
       table_below number some within = (table_below_first v.geometry number h.plain.in_use.sound some (let same = ap (λ (g : Geometry). g.inodes) all.steady.geometry in omega arith)).1
 
-  pub tells_host : Tells (over s) t n r c v w (done_as v n r c).touched
+  pub tells_host : Tells (over s) t n r call v w (done_as v n r c).touched
   unfolding done_as
   tells_host = record {
     fresh = λ b m. ⊎_elim (λ was. inl (meta_tested v h.plain b was)) (λ i. inr i) (told.fresh_are_touched b (meta_after b m));

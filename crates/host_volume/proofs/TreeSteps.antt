@@ -208,9 +208,9 @@ root_maps birth index = by _
 pub tree_laws : (g : Geometry) → TreeLaws (model g)
 tree_laws g = record {
   empty = root_maps;
-  mapped = λ t n c f i none there. mapped_by (room_of g) t n c f i none there;
-  written = λ t n c f i wrote. written_by (room_of g) t n c f i wrote;
+  mapped = λ t n c f i none there. mapped_by (room_of g) t n c.call f i none there;
+  written = λ t n c f i wrote. written_by (room_of g) t n c.call f i wrote;
   same = λ t n c f i unaltered.
-      let same = not_false (same_file (at_number t.tree f) (at_number (tree_after_call (room_of g) t n c).tree f)) unaltered in
-      sym (file_maps (at_number t.tree f) (at_number (tree_after_call (room_of g) t n c).tree f) i same);
+      let same = not_false (same_file (at_number t.tree f) (at_number (tree_after_call (room_of g) t n c.call).tree f)) unaltered in
+      sym (file_maps (at_number t.tree f) (at_number (tree_after_call (room_of g) t n c.call).tree f) i same);
 }

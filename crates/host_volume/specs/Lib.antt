@@ -3,6 +3,7 @@ pub mod PlainTrees
 pub mod Paths
 pub mod Volumes
 pub mod Calls
+pub mod ByteCalls
 pub mod Sessions
 pub mod Runs
 pub mod laws

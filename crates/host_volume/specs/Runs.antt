@@ -23,21 +23,24 @@ use Rattle.host_machine.specs.laws.Contract.{noted_history, session}
 use Rattle.host_machine.specs.laws.Rules.{AllRules}
 use Rattle.host_runs.specs.Runs.{Event, steps}
 use Rattle.host_runs.specs.Sentences.{kept_number, KeepsSentences}
+use Rattle.host_volume.specs.ByteCalls.{ByteCall}
+use Rattle.host_volume.specs.Volumes.{HaveBytes}
 use Rattle.host_volume.specs.Sessions.{Opening, over, HasRoot, Stands}
 
 -- the call of an entry that acts on the tree, as the tree model has it; renames are refused
-abbrev pub call_of_entry : Entry Call Reply → Option Call
-call_of_entry e = if is_answered e.what && not (is_rename e.call) then Some e.call else None
+abbrev pub call_of_entry : Entry ByteCall Reply → Option Call
+call_of_entry e = if is_answered e.what && not (is_rename e.call.call) then Some e.call.call else None
 
-abbrev pub calls_of : List (Entry Call Reply) → List (Option Call)
+abbrev pub calls_of : List (Entry ByteCall Reply) → List (Option Call)
 calls_of es = map call_of_entry es
 
--- A plain volume of the root alone, whose blocks are the first of the image.
+-- A plain volume of the root alone, whose blocks have bytes and are the first of the image.
 pub record IsOpenedVolume (s : Opening) (v : VolumeNow) : Type 0 where
   pub plain : IsPlainNow v
   pub geometry : v.geometry ≡ s.geometry
   pub tree : tree_of_now v ≡ root_alone
   pub root : HasRoot v s.root
+  pub bytes : HaveBytes v.contents.blocks
   pub image : (b : ℕ) → b < s.geometry.zones → disk_of s.image b ≡ disk_of v.contents.blocks b
 
 -- An empty journal behind it, of places that are numbered by words, as are the sequences of all transactions that a session
@@ -55,10 +58,10 @@ pub record HasEmptyJournal (s : Opening) (ring : LogRing) (limit : ℕ) : Type 0
   pub sequences : s.sequence + limit + 1 < 4294967296
 
 -- the host of a session that is opened, with the programs of its threads, and that after so many steps
-abbrev pub opened_host : Opening → VolumeNow → LogRing → ℕ → List (List Call) → Host VolumeNow Call Reply
+abbrev pub opened_host : Opening → VolumeNow → LogRing → ℕ → List (List ByteCall) → Host VolumeNow ByteCall Reply
 opened_host s v ring limit programs = opened (over s).model (over s).setup v ring s.geometry.zones limit programs
 
-abbrev pub host_after : Opening → VolumeNow → LogRing → ℕ → List (List Call) → List Event → Host VolumeNow Call Reply
+abbrev pub host_after : Opening → VolumeNow → LogRing → ℕ → List (List ByteCall) → List Event → Host VolumeNow ByteCall Reply
 host_after s v ring limit programs events = steps (over s) (opened_host s v ring limit programs) events
 
 -- the volume of these blocks has a tree that is alike to this one
@@ -68,11 +71,11 @@ pub record HasTreeLike (s : Opening) (blocks : List (List ℕ)) (after : Tree) :
   pub alike : AreAlike after tree
 
 -- the tree after the calls of the first k transactions
-abbrev pub tree_after_transactions : Opening → Host VolumeNow Call Reply → ℕ → Tree
+abbrev pub tree_after_transactions : Opening → Host VolumeNow ByteCall Reply → ℕ → Tree
 tree_after_transactions s h k = tree_after_entries (room_of s.geometry) root_alone 0 (calls_of h.history) (cut_of h.cuts (length h.history) k)
 
 -- What holds of a session: `closed` are the bodies and revokes of its closed transactions.
-pub record KeepsSession (s : Opening) (h : Host VolumeNow Call Reply) : Type 0 where
+pub record KeepsSession (s : Opening) (h : Host VolumeNow ByteCall Reply) : Type 0 where
   pub closed : List Transaction
   pub rules : AllRules (over s).program (noted_history (over s) (Stands s) h.history h.cuts) (session (over s) (Stands s) closed h)
   pub sentences : KeepsSentences (over s) (Stands s) h closed

@@ -4,7 +4,6 @@ use Rattle.std.specs.List.{range_with_len}
 use Rattle.minix_layout.specs.declared.division.Geometry.{Geometry}
 use Rattle.log_model.specs.Log.{Format}
 use Rattle.tx_running.specs.Plan.{Writers}
-use Rattle.tree_model.specs.declared.call.Call.{Call}
 use Rattle.tree_model.specs.declared.call.Reply.{Reply}
 use Rattle.tree_model.specs.declared.call.Reply.TheVariants as replies
 use Rattle.tree_model.specs.Histories.{block_at, maps_block}
@@ -18,27 +17,28 @@ use Rattle.volume_steps.specs.Plain.{IsPlainNow}
 use Rattle.crash_laws.specs.Volumes.{WalkEnd}
 use Rattle.host_machine.specs.Model.{Model}
 use Rattle.host_machine.specs.laws.Contract.{Over}
+use Rattle.host_volume.specs.ByteCalls.{ByteCall}
 use Rattle.host_volume.specs.Calls.{kind_of, node_of, refusal, needed, would_change, done_as}
 use Rattle.host_volume.specs.Paths.{place_in}
 use Rattle.host_volume.specs.PlainTrees.{PlainTree, root_tree, tree_after_call, call_writes, call_alters}
-use Rattle.host_volume.specs.Volumes.{is_metadata, zone_of, zones_of}
+use Rattle.host_volume.specs.Volumes.{HaveBytes, is_metadata, zone_of, zones_of}
 
 -- plain trees and volumes in use, of this division
-abbrev pub model : Geometry → Model PlainTree VolumeNow Call Reply
+abbrev pub model : Geometry → Model PlainTree VolumeNow ByteCall Reply
 model g = record {
-  kind = kind_of;
+  kind = λ c. kind_of c.call;
   ok = replies.Ok;
   root = root_tree;
-  call = tree_after_call (room_of g);
+  call = λ t n c. tree_after_call (room_of g) t n c.call;
   maps = λ t f i. maps_block t.tree f i;
   content = λ t f i. unwrap_or (block_at t.tree f i) [];
-  writes = call_writes (room_of g);
-  alters = call_alters (room_of g);
-  reply = refusal;
-  hinders = would_change;
-  needs = needed;
-  apply = done_as;
-  node = node_of;
+  writes = λ t c f i. call_writes (room_of g) t c.call f i;
+  alters = λ t n c f. call_alters (room_of g) t n c.call f;
+  reply = λ v c. refusal v c.call;
+  hinders = λ v c. would_change v c.call;
+  needs = λ v c. needed v c.call;
+  apply = λ v n k c. done_as v n k c.call;
+  node = λ v c. node_of v c.call;
   zones = zones_of;
   release = after_release;
   bytes = λ v b. disk_of v.contents.blocks b;
@@ -59,7 +59,7 @@ pub record Opening : Type 0 where
   pub quota : ℕ
 
 -- The journal lies behind the zones. The metadata of the image is what lies before them, and the root's zone.
-abbrev pub over : Opening → Over WalkEnd PlainTree VolumeNow Call Reply
+abbrev pub over : Opening → Over WalkEnd PlainTree VolumeNow ByteCall Reply
 over s = record {
   model = model s.geometry;
   setup = record { journal = s.geometry.zones; sequence = s.sequence; writers = s.writers; zmap = s.geometry.zmap; quota = s.quota };
@@ -76,9 +76,10 @@ pub record HasRoot (v : VolumeNow) (zone : ℕ) : Type 0 where
   pub stands : at_number v.contents.nodes 0 ≡ Some placed
   pub zone_is : slice_index placed.inode.zones 0 ≡ zone
 
--- A volume in use of a session stands for a plain tree. Its root keeps the zone that it had.
+-- A volume in use of a session stands for a plain tree. Its blocks have bytes, and its root keeps the zone that it had.
 pub record Stands (s : Opening) (v : VolumeNow) (t : PlainTree) : Type 0 where
   pub plain : IsPlainNow v
   pub geometry : v.geometry ≡ s.geometry
   pub tree : tree_of_now v ≡ t.tree
   pub root : HasRoot v s.root
+  pub bytes : HaveBytes v.contents.blocks

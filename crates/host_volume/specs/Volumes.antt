@@ -1,8 +1,9 @@
 -- What the host sees of a volume in use: its metadata, the zones of blocks of files, and which zones are free or wait.
-use Rattle.std.specs.Prelude.{ℕ, ◌+◌, ◌==◌, Bool, ◌||◌, nat_lt, if◌then◌else◌, List, [], ◌∷◌, Option, Some, None}
+use Rattle.std.specs.Prelude.{ℕ, ◌+◌, ◌<◌, ◌==◌, slice_index, Bool, ◌||◌, nat_lt, if◌then◌else◌, List, [], ◌∷◌, Option, Some, None}
 use Rattle.std.specs.List.{list_any}
 use Rattle.minix_layout.specs.declared.inode.Inode.{Inode}
 use Rattle.tree_model.specs.Maps.{at_number}
+use Rattle.volume_ops.specs.Volume.{disk_of}
 use Rattle.zone_maps.specs.declared.zone_state.ZoneState.{ZoneState}
 use Rattle.zone_maps.specs.declared.zone_state.ZoneState.TheVariants as states
 use Rattle.volume_model.specs.declared.placed.Placed.{Placed}
@@ -12,6 +13,13 @@ use Rattle.volume_model.specs.Volume.{block, zone_in}
 use Rattle.volume_steps.specs.Now.{VolumeNow}
 use Rattle.volume_steps.specs.Steps.{metadata_gone}
 use Rattle.host_machine.specs.Model.{Freed, Zones}
+
+-- all numbers are bytes: of a list, and of each block
+abbrev pub AreBytes : List ℕ → Type 0
+AreBytes xs = (k : ℕ) → slice_index xs k < 256
+
+abbrev pub HaveBytes : List (List ℕ) → Type 0
+HaveBytes blocks = (b : ℕ) → AreBytes (disk_of blocks b)
 
 -- a block is metadata of this node: a zone of numbers, or one of a directory's slots
 abbrev pub is_metadata_of : VolumeNow → ℕ → Placed → Bool

@@ -10,5 +10,6 @@ pub use promises::{
     volumes_are_seen_as_they_are, volumes_keep_their_promises,
 };
 pub use sessions::{
-    answers_of_sessions_hold, new_volumes_can_be_opened, sessions_keep_rules_and_trees,
+    answers_of_sessions_hold, journals_are_read_as_written, new_volumes_can_be_opened,
+    sessions_keep_rules_and_trees,
 };

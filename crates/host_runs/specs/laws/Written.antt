@@ -4,6 +4,7 @@ use Rattle.blk_base.specs.Members.{In}
 use Rattle.log_model.specs.Log.{Tag, Plain, Describes, Revokes, Commits, Format}
 use Rattle.log_model.specs.Marks.{Logged, Transaction}
 use Rattle.tx_running.specs.Plan.{Writers}
+use Rattle.host_runs.specs.Runs.{IsBlock}
 
 abbrev pub IsWord : ℕ → Type 0
 IsWord n = n < 4294967296
@@ -17,12 +18,12 @@ pub record AreWritten (f : Format) (w : Writers) : Type 0 where
   pub revoke : (seq : ℕ) (blocks : List ℕ) → IsWord seq → 1 ≤ length blocks → length blocks ≤ 252 → ((b : ℕ) → In b blocks → IsWord b) → f.header (w.revoke seq blocks) ≡ Revokes seq blocks
   pub commit : (seq : ℕ) → IsWord seq → f.header (w.commit seq) ≡ Commits seq
   -- a stored body is escaped, so it never begins as a header does
-  pub plain : (body : List ℕ) → length body ≡ 1024 → f.header (w.stored body) ≡ Plain
-  pub stored : (b : ℕ) (body : List ℕ) → length body ≡ 1024 → f.restore (record { block = b; escaped = w.is_escaped body }) (w.stored body) ≡ body
+  pub plain : (body : List ℕ) → IsBlock body → f.header (w.stored body) ≡ Plain
+  pub stored : (b : ℕ) (body : List ℕ) → IsBlock body → f.restore (record { block = b; escaped = w.is_escaped body }) (w.stored body) ≡ body
   pub super : (seq start : ℕ) → IsWord seq → IsWord start → f.tail (w.super seq start) ≡ record { sequence = seq; start = start }
 
 -- its numbers fit into words, and its bodies are whole blocks
 pub record IsWritable (t : Transaction) : Type 0 where
   pub blocks : (l : Logged) → In l t.bodies → IsWord l.block
-  pub bodies : (l : Logged) → In l t.bodies → length l.body ≡ 1024
+  pub bodies : (l : Logged) → In l t.bodies → IsBlock l.body
   pub revokes : (b : ℕ) → In b t.revokes → IsWord b
