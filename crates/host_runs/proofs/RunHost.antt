@@ -25,7 +25,7 @@ use Rattle.host_runs.specs.laws.Written.{IsWord, AreWritten}
 module _ {A T V C R : Type 0} {o : Over A T V C R} {Stands : V → T → Type 0} (contract : Contract o Stands) where
   pub opened_has : (v : V) (ring : LogRing) (zones limit : ℕ) (programs : List (List C)) → IsOpened o Stands v ring zones limit programs → IsSound contract (opened o.model o.setup v ring zones limit programs)
   opened_has v ring zones limit programs at =
-      let k = opened_keeps contract v ring zones limit programs at.stands at.metadata at.first at.place at.base walked in
+      let k = opened_keeps contract v ring zones limit programs at.stands at.metadata at.log.first at.log.place at.base walked in
       record {
         rules = (
           [],
@@ -33,7 +33,7 @@ module _ {A T V C R : Type 0} {o : Over A T V C R} {Stands : V → T → Type 0}
           record {
             rules = k.1;
             images = k.0;
-            ring = ring_at_start (session o Stands [] (opened o.model o.setup v ring zones limit programs)) ring refl (record { places = refl; head = at.head; used = at.used; started = at.started; homes = at.homes });
+            ring = ring_at_start (session o Stands [] (opened o.model o.setup v ring zones limit programs)) ring refl (record { places = refl; head = at.log.head; used = at.log.used; started = at.log.started; homes = at.log.homes });
           },
           calls_at_start (noted_history o Stands [] []) (session o Stands [] (opened o.model o.setup v ring zones limit programs)) [] 0 1 programs,
           flushes_at_start o.model.kind programs,

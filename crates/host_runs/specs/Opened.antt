@@ -8,15 +8,18 @@ use Rattle.host_machine.specs.Host.{opened}
 use Rattle.journal_ring.specs.LogRing.{LogRing}
 use Rattle.host_machine.specs.laws.Contract.{Over, session}
 
--- The volume stands for the tree that is opened, and its metadata is the base image's. The log begins at its first place,
--- and nothing is in it.
-pub record IsOpened {A T V C R : Type 0} (o : Over A T V C R) (Stands : V → T → Type 0) (v : V) (ring : LogRing) (zones limit : ℕ) (programs : List (List C)) : Type 0 where
-  pub stands : Stands v o.model.root
-  pub metadata : (b : ℕ) → o.model.metadata v b ≡ true → In b o.reserved × (o.model.bytes v b ≡ disk_of o.base b)
-  pub base : BaseImage (session o Stands [] (opened o.model o.setup v ring zones limit programs))
+-- The log begins at its first place, and nothing is in it.
+pub record IsEmptyLog (ring : LogRing) : Type 0 where
   pub first : 1 ≤ ring.places.first
   pub place : IsPlace ring.places ring.places.first
   pub head : ring.head ≡ ring.places.first
   pub used : ring.used ≡ 0
   pub started : ring.started ≡ false
   pub homes : ring.homes ≡ []
+
+-- The volume stands for the tree that is opened, and its metadata is the base image's.
+pub record IsOpened {A T V C R : Type 0} (o : Over A T V C R) (Stands : V → T → Type 0) (v : V) (ring : LogRing) (zones limit : ℕ) (programs : List (List C)) : Type 0 where
+  pub stands : Stands v o.model.root
+  pub metadata : (b : ℕ) → o.model.metadata v b ≡ true → In b o.reserved × (o.model.bytes v b ≡ disk_of o.base b)
+  pub base : BaseImage (session o Stands [] (opened o.model o.setup v ring zones limit programs))
+  pub log : IsEmptyLog ring

@@ -103,12 +103,7 @@ module _ (s : Opening) (v : VolumeNow) (o : IsOpenedVolume s v) where
       stands = opened_stands;
       metadata = λ b m. (listed b (tested_meta v o.plain b m), sym (o.image b (meta_low s v root_tree opened_stands b m)));
       base = base_image;
-      first = j.first;
-      place = j.place;
-      head = j.head;
-      used = j.used;
-      started = j.started;
-      homes = j.homes;
+      log = j.log;
     }
 
     pub fits_words : FitsWords (over s) (opened_host s v ring limit programs)

@@ -3,7 +3,7 @@ use Rattle.std.specs.Prelude.{◌≡◌, ℕ, ◌==◌, Bool, true, false, not, 
 use Rattle.std.specs.Map.{keys_of}
 use Rattle.std.specs.Ordering.{nat_cmp}
 use Rattle.std.specs.Str.{bytes_eq}
-use Rattle.std.proofs.Common.{sym, ap, subst, ◌∙◌, inl, inr}
+use Rattle.std.proofs.Common.{arith, sym, ap, subst, ◌∙◌, inl, inr}
 use Rattle.std.proofs.lemmas.Bool.{cases_Bool, and_parts, true≢false, false≢true, eq-eqb}
 use Rattle.std.proofs.lemmas.Slice.Eq.{bytes_eq-Decides}
 use Rattle.blk_base.specs.Members.{In}
@@ -16,7 +16,7 @@ use Rattle.tree_model.specs.declared.node.File.{File}
 use Rattle.tree_model.specs.declared.node.Node.{Node}
 use Rattle.tree_model.specs.declared.node.Node.TheVariants as nodes
 use Rattle.tree_model.specs.Calls.{Tree, Row, outcome, tree_from, tree_after, leaves_tree, reply_of, reply_from}
-use Rattle.tree_model.specs.Histories.{block_in, maps_block, same_file, writes, touches, is_ok}
+use Rattle.tree_model.specs.Histories.{block_in, maps_block, same_file, writes, touches, is_ok, tree_after_entries}
 use Rattle.tree_model.specs.Maps.{at_number}
 use Rattle.tree_model.specs.Plain.{IsPlain}
 use Rattle.tree_model.specs.laws.MapsLaws.{number_here, number_same}
@@ -27,6 +27,7 @@ use Rattle.tree_model.proofs.Outcomes.{quiet_stays}
 use Rattle.volume_model.proofs.ImageSlots.{key_found, found_key}
 use Rattle.volume_steps.specs.Plain.{is_rename}
 use Rattle.crash_laws.specs.LegalHistory.{root_alone}
+use Rattle.crash_laws.proofs.TreeHistories.{real_trees}
 use Rattle.host_machine.specs.laws.Contract.{TreeLaws}
 use Rattle.host_machine.specs.Model.{is_begun}
 use Rattle.minix_layout.specs.declared.division.Geometry.{Geometry}
@@ -199,11 +200,8 @@ stays_unaltered room t n c same birth =
 -- ---- the laws of trees
 
 root_maps : (birth index : ℕ) → maps_block root_alone birth index ≡ false
-root_maps birth index = by _
-  where
-    by : (here : Bool) → is_some (block_in (if here then Some (nodes.Directory (record { parent = 0; slots = 2; names = [] })) else None) index) ≡ false
-    by true = refl
-    by false = refl
+unfolding tree_after_entries
+root_maps birth index = (real_trees (record { inodes = 0; capacity = 0 }) [] (λ k. 0) (λ n found f i. 0) (record { first = refl; rise = λ k. omega arith })).empty birth index
 
 pub tree_laws : (g : Geometry) → TreeLaws (model g)
 tree_laws g = record {

@@ -1,5 +1,5 @@
 -- Sessions on a volume: what they are opened with, and what their histories have of the tree model.
-use Rattle.std.specs.Prelude.{◌≡◌, ◌≢◌, ℕ, ◌+◌, ◌<◌, ◌≤◌, false, not, ◌&&◌, if◌then◌else◌, List, [], length, map, Option, Some, None, Ok}
+use Rattle.std.specs.Prelude.{◌≡◌, ◌≢◌, ℕ, ◌+◌, ◌<◌, ◌≤◌, not, ◌&&◌, if◌then◌else◌, List, length, map, Option, Some, None, Ok}
 use Rattle.log_model.specs.Log.{Commits}
 use Rattle.log_model.specs.Marks.{Transaction}
 use Rattle.log_model.specs.Ring.{IsPlace}
@@ -21,6 +21,7 @@ use Rattle.host_machine.specs.State.{Entry, Host}
 use Rattle.host_machine.specs.Views.{is_answered, cut_of}
 use Rattle.host_machine.specs.laws.Contract.{noted_history, session}
 use Rattle.host_machine.specs.laws.Rules.{AllRules}
+use Rattle.host_runs.specs.Opened.{IsEmptyLog}
 use Rattle.host_runs.specs.Runs.{Event, steps}
 use Rattle.host_runs.specs.Sentences.{kept_number, KeepsSentences}
 use Rattle.host_volume.specs.ByteCalls.{ByteCall}
@@ -48,12 +49,7 @@ pub record IsOpenedVolume (s : Opening) (v : VolumeNow) : Type 0 where
 pub record HasEmptyJournal (s : Opening) (ring : LogRing) (limit : ℕ) : Type 0 where
   pub start : (s.format.tail (disk_of s.image s.geometry.zones)).start ≡ 0
   pub plain : (p sequence : ℕ) → IsPlace ring.places p → s.format.header (disk_of s.image (s.geometry.zones + p)) ≢ Commits sequence
-  pub first : 1 ≤ ring.places.first
-  pub place : IsPlace ring.places ring.places.first
-  pub head : ring.head ≡ ring.places.first
-  pub used : ring.used ≡ 0
-  pub started : ring.started ≡ false
-  pub homes : ring.homes ≡ []
+  pub log : IsEmptyLog ring
   pub places : ring.places.past ≤ 4294967296
   pub sequences : s.sequence + limit + 1 < 4294967296
 

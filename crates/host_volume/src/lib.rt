@@ -2,10 +2,9 @@
 //!
 //! `host_machine` has the host's steps over any volume that keeps a few promises; here the volume is that of
 //! `volume_steps`, and the trees are those of `tree_model`. `specs/Sessions` has the model and what a session is opened
-//! with, `specs/Volumes` what the host sees of a volume, `specs/Calls` what it asks and does, `specs/ByteCalls` the calls as code has
-//! them, `specs/PlainTrees` and
-//! `specs/Numbers` the trees with the numbers of calls, `specs/Paths` where a walk finds a file, and `specs/Runs` runs of
-//! a session with what a power cut leaves of them.
+//! with, `specs/Volumes` what the host sees of a volume, `specs/Calls` what it asks and does, `specs/ByteCalls` the calls
+//! as code has them, `specs/PlainTrees` and `specs/Numbers` the trees with the numbers of calls, `specs/Paths` where a
+//! walk finds a file, and `specs/Runs` runs of a session with what a power cut leaves of them.
 //!
 //! Renames are not built yet: each is refused as `Invalid`, by `decided` of `specs/Numbers`.
 //!
