@@ -5,7 +5,7 @@ use Rattle.std.specs.Prelude.{◌≢◌, is_ok}
 use Rattle.std.proofs.lemmas.Bool.{ne_eqb}
 use Rattle.std.proofs.lemmas.Option.{same_Some}
 use Rattle.blk_base.specs.Members.{In, IsAscending, IsAscending-filter, In-filter, slice_get-In, list_any-In, list_any-none}
-use Rattle.conflict_pages.specs.Conflicts.{ConflictTable, with_conflicts, unhold, holder, put_held}
+use Rattle.conflict_pages.specs.Conflicts.{ConflictTable, with_conflicts, unhold_by, holder, put_held}
 use Rattle.conflict_pages.specs.code.Table.{IsTable}
 use Rattle.conflict_pages.specs.declared.held.Held.{Held}
 use Rattle.conflict_pages.specs.laws.Holds.{block_of, holder_of}
@@ -36,16 +36,16 @@ pub inside_table : (t k : ConflictTable) (b : ℕ) → t ≡ k → b < k.blocks 
 inside_table t k b e less = let same = ap (λ (x : ConflictTable). x.blocks) e in omega (arith, less, same)
 
 -- what a release leaves
-pub released_table : (blocks k : ℕ) (hs left : List Held) (ws still : List ℕ) (t : ConflictTable)
-    → left ≡ filter (λ (h : Held). not (h.transaction == k)) hs → still ≡ filter (λ b. list_any (λ (h : Held). h.block == b) left) ws
+pub released_table : (blocks : ℕ) (ended : ℕ → Bool) (hs left : List Held) (ws still : List ℕ) (t : ConflictTable)
+    → left ≡ filter (λ (h : Held). not (ended h.transaction)) hs → still ≡ filter (λ b. list_any (λ (h : Held). h.block == b) left) ws
     → record { blocks = blocks; conflicts = record { held = hs; wanted = ws } } ≡ t
-    → record { blocks = blocks; conflicts = record { held = left; wanted = still } } ≡ with_conflicts t (unhold k t.conflicts)
-released_table blocks k hs left ws still t e d view =
-    let ended = filter (λ (h : Held). not (h.transaction == k)) hs in
-    let wanted : still ≡ filter (λ b. list_any (λ (h : Held). h.block == b) ended) ws = d ∙ ap (λ (l : List Held). filter (λ b. list_any (λ (h : Held). h.block == b) l) ws) e in
+    → record { blocks = blocks; conflicts = record { held = left; wanted = still } } ≡ with_conflicts t (unhold_by ended t.conflicts)
+released_table blocks ended hs left ws still t e d view =
+    let gone = filter (λ (h : Held). not (ended h.transaction)) hs in
+    let wanted : still ≡ filter (λ b. list_any (λ (h : Held). h.block == b) gone) ws = d ∙ ap (λ (l : List Held). filter (λ b. list_any (λ (h : Held). h.block == b) l) ws) e in
     ap (λ (l : List Held). let r : ConflictTable = record { blocks = blocks; conflicts = record { held = l; wanted = still } } in r) e
-    ∙ ap (λ (l : List ℕ). let r : ConflictTable = record { blocks = blocks; conflicts = record { held = ended; wanted = l } } in r) wanted
-    ∙ ap (λ (x : ConflictTable). with_conflicts x (unhold k x.conflicts)) view
+    ∙ ap (λ (l : List ℕ). let r : ConflictTable = record { blocks = blocks; conflicts = record { held = gone; wanted = l } } in r) wanted
+    ∙ ap (λ (x : ConflictTable). with_conflicts x (unhold_by ended x.conflicts)) view
 
 pub held_room : (blocks : ℕ) (hs : List Held) (ws : List ℕ) (m n : ℕ) → IsTable blocks hs ws m n → length hs < m
 held_room blocks hs ws m n t =

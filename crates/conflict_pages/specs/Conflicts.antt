@@ -26,11 +26,14 @@ hold k (b ∷ bs) c = hold k bs (record c { held = put_held c.held k b })
 abbrev pub want : List ℕ → Conflicts → Conflicts
 want blocks c = record c { wanted = with_all c.wanted (filter (is_held c) blocks) }
 
--- the holds of transaction k end, and a block that nobody holds is not wanted
-abbrev pub unhold : ℕ → Conflicts → Conflicts
-unhold k c =
-    let left = filter (λ (h : Held). not (h.transaction == k)) c.held in
+-- the holds of transactions that ended end, and a block that nobody holds is not wanted
+abbrev pub unhold_by : (ℕ → Bool) → Conflicts → Conflicts
+unhold_by ended c =
+    let left = filter (λ (h : Held). not (ended h.transaction)) c.held in
     record { held = left; wanted = filter (λ b. list_any (λ (h : Held). h.block == b) left) c.wanted }
+
+abbrev pub unhold : ℕ → Conflicts → Conflicts
+unhold k = unhold_by (λ t. t == k)
 
 -- the lowest block that is wanted
 abbrev pub least : Conflicts → Option ℕ

@@ -1,4 +1,5 @@
 pub mod Conflicts
+pub mod Commits
 pub mod Calls
 pub mod code
 pub mod laws

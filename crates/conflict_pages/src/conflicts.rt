@@ -1,10 +1,11 @@
 //! Which blocks are held, and which of these are wanted.
 ghost use Rattle.std.specs.Prelude.{◌≡◌, ◌<◌, ◌∷◌, [], IfOk, is_none};
 ghost use Rattle.std.specs.Option.{option_map};
-ghost use Rattle.conflict_pages.specs.Conflicts.{with_conflicts, hold, want, unhold, least, holder};
+ghost use Rattle.conflict_pages.specs.Commits.{is_committed};
+ghost use Rattle.conflict_pages.specs.Conflicts.{with_conflicts, hold, want, unhold, unhold_by, least, holder};
 
-use crate::Held;
-use crate::held::{end_holds, holder, is_held, keep_held, put_held};
+use crate::held::{end_committed, end_holds, holder, is_held, keep_held, put_held};
+use crate::{Commits, Held};
 use blk_base::NoMemory;
 use number_sets::add_u32;
 use std::alloc::Global;
@@ -69,6 +70,15 @@ impl Conflicts {
         ensures { self.new ≡ with_conflicts self.old (unhold tx self.old.conflicts) }
     {
         end_holds(&mut self.held, tx);
+        keep_held(&mut self.wanted, &self.held);
+    }
+
+    /// The holds of each transaction end whose commit block stands before request `before`, and what is wanted of them is
+    /// wanted no longer.
+    pub fn release_before(&mut self, commits: &Commits, before: u64)
+        ensures { self.new ≡ with_conflicts self.old (unhold_by (λ k. is_committed before k commits.now.commits) self.old.conflicts) }
+    {
+        end_committed(&mut self.held, commits, before);
         keep_held(&mut self.wanted, &self.held);
     }
 

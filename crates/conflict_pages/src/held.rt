@@ -2,9 +2,12 @@
 ghost use Rattle.std.specs.Prelude.{◌≡◌, ◌≢◌, ◌<◌, ◌==◌, not, length, vec_capacity};
 ghost use Rattle.std.specs.List.{filter, list_any};
 ghost use Rattle.blk_base.specs.Members.{IsAscending};
+ghost use Rattle.conflict_pages.specs.Commits.{is_committed};
 ghost use Rattle.conflict_pages.specs.Conflicts.{holder, put_held};
 ghost use Rattle.conflict_pages.specs.declared.held.Held.{Held};
 ghost use Rattle.number_sets.specs.laws.Keyed.{IsKeyPlace};
+
+use crate::Commits;
 
 /// A block, and the transaction that holds it.
 #[derive(Clone, Copy, Debug, PartialEq, Eq)]
@@ -71,4 +74,12 @@ pub fn end_holds(held: &mut Vec<Held>, transaction: u32)
     ensures capacity { vec_capacity held.new ≡ vec_capacity held.old }
 {
     held.retain(|h| h.transaction != transaction);
+}
+
+// Ends the holds of the transactions whose commit block stands before request `before`.
+pub fn end_committed(held: &mut Vec<Held>, commits: &Commits, before: u64)
+    ensures held { held.new.items ≡ filter (λ (h : Held). not (is_committed before h.transaction commits.now.commits)) held.old.items }
+    ensures capacity { vec_capacity held.new ≡ vec_capacity held.old }
+{
+    held.retain(|h| !commits.is_before(h.transaction, before));
 }

@@ -4,17 +4,20 @@
 //! block that the running transaction touched and another one holds is a conflict: until it is let go, the running
 //! transaction is not closed.
 //!
-//! `conflicts` has the table, `held` what it keeps of a block, and `laws` what holds over any list of its calls.
+//! `conflicts` has the table, `held` what it keeps of a block, `commits` where commit blocks stand, and `laws` what holds
+//! over any list of its calls.
 //!
 //! Stands on `number_sets`, whose lists in rising order it keeps.
 #![tactic(auto)]
 
+mod commits;
 mod conflicts;
 mod held;
 mod laws;
 #[cfg(test)]
 mod tests;
 
+pub use commits::{CommitBlock, Commits};
 pub use conflicts::Conflicts;
 pub use held::Held;
 pub use laws::{blocks_have_one_holder, wanted_blocks_are_held};

@@ -28,13 +28,16 @@ use Rattle.host_machine.proofs.RequestSteps.{send_keeps, request_keeps}
 use Rattle.host_machine.proofs.RuleSteps.{send_both}
 use Rattle.host_machine.proofs.Sends.{plainly}
 use Rattle.host_machine.proofs.Steps.{first_page-In, none_first, either}
-use Rattle.host_machine.specs.Host.{Turned, submits, build_plan, checkpoint, close_step, plan_sent, in_phase, commit_step, writeback, flush_step, flush_due, take_completion, send_page, with_flush}
+use Rattle.host_machine.specs.Host.{Turned, submits, build_plan, checkpoint, close_step, plan_sent, in_phase, commit_step, writeback, flush_step, send_page, with_flush}
 use Rattle.number_sets.specs.Sets.{has}
 use Rattle.conflict_pages.specs.Conflicts.{least}
 use Rattle.journal_ring.specs.LogRing.{ring_free}
 use Rattle.tx_running.specs.Running.{log_needs}
 use Rattle.tx_running.specs.Plan.{Planned}
-use Rattle.host_machine.specs.State.{Entry, Plan, Phase, Idle, Closing, Committing, Host, is_over, at_limit, is_submitted}
+use Rattle.host_machine.specs.State.{Entry, Host}
+use Rattle.commit_actor.specs.Journal.{Plan, Phase, Idle, Closing, Committing, is_submitted}
+use Rattle.flush_actor.specs.Part.{is_over, at_limit}
+use Rattle.flush_actor.specs.Steps.{flush_due, take_completion}
 use Rattle.host_machine.specs.laws.Contract.{Over, Contract, ImagesFacts, InPhase, session, KeepsImages}
 use Rattle.host_machine.specs.laws.PlanNotes.{is_plan_note, IsRestOf, BarrierAhead}
 use Rattle.host_machine.specs.laws.Rules.{Keeps}

@@ -10,9 +10,11 @@ use Rattle.crash_laws.specs.Session.{Session}
 use Rattle.host_machine.proofs.Entries.{tree_new, writes_new}
 use Rattle.host_machine.proofs.Machine.{entry_keeps}
 use Rattle.host_machine.specs.Host.{change, end_call}
-use Rattle.host_machine.specs.Model.{is_begun, Touched, Applied}
+use Rattle.host_machine.specs.Model.{Touched, Applied}
 use Rattle.number_sets.specs.Sets.{has, with_all, without_all}
-use Rattle.host_machine.specs.State.{Ending, Answered, Ends, Entry, Phase, Host}
+use Rattle.host_machine.specs.State.{Ending, Answered, Ends, Entry, Host}
+use Rattle.commit_actor.specs.Journal.{Phase}
+use Rattle.flush_actor.specs.Kinds.{is_begun}
 use Rattle.host_machine.specs.Views.{is_answered, acted, tree_after, writes_at}
 use Rattle.host_machine.specs.laws.Contract.{Over, Contract, ImagesFacts, KeepsImages}
 

@@ -11,7 +11,8 @@ use Rattle.host_machine.proofs.PagesRising.{dropped-rising, written-rising}
 use Rattle.host_machine.specs.Host.{dropped_pages, written_pages}
 use Rattle.host_machine.specs.Model.{Touched}
 use Rattle.number_sets.specs.Sets.{with_all, without_all}
-use Rattle.host_machine.specs.State.{Entry, Phase, Idle, Closing, Committing}
+use Rattle.host_machine.specs.State.{Entry}
+use Rattle.commit_actor.specs.Journal.{Phase, Idle, Closing, Committing}
 use Rattle.host_machine.specs.Views.{is_answered, cut_of, tree_after}
 use Rattle.host_machine.specs.laws.Contract.{Over, view_of, Contract, noted_history, InPhase, ImagesFacts}
 use Rattle.host_machine.specs.laws.Facts.{IsPlain, IsChange, Numbers, KeepsPlaces, PagesMapped, ZoneHistory}

@@ -23,7 +23,8 @@ use Rattle.host_machine.proofs.Plans.{walk_before, walk_of_image, bodies_in, on_
 use Rattle.host_machine.proofs.Sends.{plainly, page≢commit, numbers_committed, history_committed, sent_pushed}
 use Rattle.host_machine.specs.Host.{build_plan, committed, send_planned}
 use Rattle.tx_running.specs.Plan.{Planned, plan_of}
-use Rattle.host_machine.specs.State.{Plan, Host}
+use Rattle.host_machine.specs.State.{Host}
+use Rattle.commit_actor.specs.Journal.{Plan}
 use Rattle.host_machine.specs.Views.{cut_of, some_in, alters_at, tree_after, transaction_of, waits_for}
 use Rattle.host_machine.specs.laws.Contract.{IsAlike, Over, view_of, Contract, noted_history, ImagesFacts, session, KeepsImages}
 use Rattle.host_machine.specs.laws.Facts.{View, Numbers, Present, Bodies, KeepsPlaces, PagesMapped, ZoneHistory, Altered, OnItsWay}

@@ -27,7 +27,8 @@ use Rattle.host_machine.proofs.Entries.{trees_noted}
 use Rattle.host_machine.proofs.Machine.{plain_at}
 use Rattle.host_machine.proofs.Sends.{plainly, page≢commit, page_clause, no_body_now, numbers_pushed, history_pushed, sent_pushed, mapped_marked, sent_marked}
 use Rattle.host_machine.specs.Host.{send_page}
-use Rattle.host_machine.specs.State.{Entry, Phase, Idle, Closing, Committing, Host}
+use Rattle.host_machine.specs.State.{Entry, Host}
+use Rattle.commit_actor.specs.Journal.{Phase, Idle, Closing, Committing}
 use Rattle.host_machine.specs.laws.Contract.{Over, view_of, Contract, noted_history, InPhase, ImagesFacts, session, KeepsImages}
 use Rattle.host_machine.specs.laws.Facts.{IsPlain, PagesMapped, PagesSent}
 

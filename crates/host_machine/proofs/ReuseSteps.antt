@@ -17,7 +17,8 @@ use Rattle.host_machine.proofs.Machine.{plain_at}
 use Rattle.host_machine.proofs.Reuse.{reuses_pushed, orderless_pushed}
 use Rattle.host_machine.proofs.Sends.{plainly}
 use Rattle.host_machine.specs.Host.{send_page}
-use Rattle.host_machine.specs.State.{Phase, Idle, Closing, Committing, Host, is_submitted}
+use Rattle.host_machine.specs.State.{Host}
+use Rattle.commit_actor.specs.Journal.{Phase, Idle, Closing, Committing, is_submitted}
 use Rattle.host_machine.specs.laws.Contract.{Over, view_of, Contract, noted_history, InPhase, session, KeepsImages}
 use Rattle.host_machine.specs.laws.Reuse.{ReusesFreed, OrderlessCommitted, FreedWait, Owned}
 

@@ -30,9 +30,10 @@ use Rattle.host_machine.proofs.RequestSteps.{page_fits, page_owes_image, page_ow
 use Rattle.host_machine.proofs.Retold.{rules_retold, pages_retold, data_retold}
 use Rattle.host_machine.proofs.Sends.{plainly, page≢commit}
 use Rattle.host_machine.specs.Host.{change, end_call, send_page, build_plan}
-use Rattle.host_machine.specs.Model.{is_begun}
 use Rattle.tx_running.specs.Plan.{Planned}
-use Rattle.host_machine.specs.State.{Ending, Answered, Ends, Entry, Plan, Phase, Host}
+use Rattle.host_machine.specs.State.{Ending, Answered, Ends, Entry, Host}
+use Rattle.commit_actor.specs.Journal.{Plan, Phase}
+use Rattle.flush_actor.specs.Kinds.{is_begun}
 use Rattle.host_machine.specs.Views.{transaction_of}
 use Rattle.host_machine.specs.laws.Contract.{Over, Contract, noted_history, InPlan, ImagesFacts, session, KeepsImages}
 use Rattle.host_machine.specs.laws.PlanNotes.{BarrierAhead}

@@ -15,11 +15,17 @@ use Rattle.host_machine.proofs.CallSteps.{quiet_keeps, unanswered_quiet, answere
 use Rattle.host_machine.proofs.RuleSteps.{entry_rules, change_both, end_both, send_both}
 use Rattle.host_machine.specs.Causes as causes
 use Rattle.host_machine.specs.Causes.{Cause}
-use Rattle.host_machine.specs.Host.{Stepped, set_wait, set_thread, Goal, AwaitCommit, AnswerOk, AwaitLastPut, no_wait, unsent_on, goal_of, wanting, end_with, hindrance, hindered, fits, plain, begin, await_durable, await_last_put, await_commit, pursue, walk_pages, continue_begun, stop_of, step_call, step_thread, advance, send_page, change}
-use Rattle.host_machine.specs.Model.{Model, Kind, is_begun, is_data, is_durable, is_reading, Freed}
+use Rattle.host_machine.specs.Host.{Stepped, set_wait, set_thread, Goal, AwaitCommit, AnswerOk, AwaitLastPut, unsent_on, goal_of, wanting, end_with, hindrance, hindered, fits, plain, begin, await_durable, await_last_put, await_commit, pursue, walk_pages, continue_begun, stop_of, step_call, step_thread, advance, send_page, change}
+use Rattle.host_machine.specs.Model.{Model, Freed}
 use Rattle.host_machine.specs.Outcomes as outcomes
 use Rattle.tx_running.specs.Running.{log_needs}
-use Rattle.host_machine.specs.State.{Ending, Answered, Down, ReadOnly, SessionFull, Begins, Ends, Wait, Begun, Thread, Host, Setup, is_cut, first_failed, at_limit, is_flushed_after, flush_above, last_put, is_closing, is_submitted}
+use Rattle.host_machine.specs.State.{Ending, Answered, Down, ReadOnly, SessionFull, Begins, Ends, Begun, Thread, Host, Setup}
+use Rattle.commit_actor.specs.Journal.{is_closing, is_submitted}
+use Rattle.flush_actor.specs.Kinds.{is_begun, is_data, is_durable, is_reading}
+use Rattle.flush_actor.specs.Part.{is_cut, first_failed, at_limit, is_flushed_after, flush_above, last_put}
+use Rattle.flush_actor.specs.Waits.{no_wait}
+use Rattle.flush_actor.specs.declared.call_kind.CallKind.{CallKind}
+use Rattle.flush_actor.specs.declared.wait.Wait.{Wait}
 use Rattle.host_machine.specs.laws.Contract.{Over, Contract}
 use Rattle.host_machine.specs.laws.Rules.{Keeps}
 
@@ -67,7 +73,7 @@ either P true x y p q = p refl
 either P false x y p q = q refl
 
 -- a stop is no answer
-pub stop-unanswered : {T V C R : Type 0} (M : Model T V C R) (u : Setup) (taken : List Completion) (kind : Kind) (stop : Ending R) → stop_of M u taken kind ≡ Some stop → (t : ℕ) (c : C) → (is_answered_end : Bool) → is_answered_end ≡ (elim stop as (λ _. Bool) [ Answered r ↦ true | other ↦ false ]) → is_answered_end ≡ false
+pub stop-unanswered : {T V C R : Type 0} (M : Model T V C R) (u : Setup) (taken : List Completion) (kind : CallKind) (stop : Ending R) → stop_of M u taken kind ≡ Some stop → (t : ℕ) (c : C) → (is_answered_end : Bool) → is_answered_end ≡ (elim stop as (λ _. Bool) [ Answered r ↦ true | other ↦ false ]) → is_answered_end ≡ false
 stop-unanswered M u taken kind (Answered r) e t c b d = absurd (first (list_any is_cut taken) e)
   where
     third : (x : Option ℕ) → option_map ReadOnly x ≡ Some (Answered r) → ⊥

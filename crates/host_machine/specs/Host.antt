@@ -3,7 +3,6 @@
 use Rattle.std.specs.List.{find, filter, list_any}
 use Rattle.std.specs.Option.{option_map}
 use Rattle.std.specs.Prelude.{ℕ, ◌+◌, ◌-◌, ◌==◌, Bool, true, false, not, ◌&&◌, ◌||◌, nat_lt, nat_le, List, [], ◌∷◌, ◌++◌, length, map, set, replicate, Option, Some, None, is_none, slice_get, slice_index_or, if◌then◌else◌}
-use Rattle.order_model.specs.declared.completion.Completion.TheVariants as completions
 use Rattle.order_model.specs.declared.completion.Completion.{Completion}
 use Rattle.order_model.specs.declared.note.Note.TheVariants as notes
 use Rattle.order_model.specs.declared.note.Note.{Note}
@@ -16,16 +15,23 @@ use Rattle.page_cache.specs.declared.cached_page.CachedPage.{CachedPage}
 use Rattle.page_cache.specs.declared.cached_page.PageState.TheVariants.{Dirty, Loose, Firm}
 use Rattle.host_machine.specs.Causes as causes
 use Rattle.host_machine.specs.Causes.{Cause}
-use Rattle.host_machine.specs.Model.{Model, Kind, Reading, FileSync, DataSync, WholeSync, is_begun, is_data, is_durable, is_reading, is_whole, Freed, FileBlock, Touched, Applied}
+use Rattle.host_machine.specs.Model.{Model, Freed, FileBlock, Touched, Applied}
 use Rattle.host_machine.specs.Outcomes as outcomes
 use Rattle.host_machine.specs.Outcomes.{Step}
 use Rattle.number_sets.specs.Sets.{has, with_all, without_all}
-use Rattle.conflict_pages.specs.Conflicts.{Conflicts, holder, hold, want, unhold, least}
-use Rattle.conflict_pages.specs.declared.held.Held.{Held}
+use Rattle.conflict_pages.specs.Conflicts.{holder, hold, want, least}
 use Rattle.journal_ring.specs.LogRing.{LogRing, ring_free, place_blocks, commit_bodies, home_sent, all_home}
 use Rattle.tx_running.specs.Running.{Running, fresh, log_blocks_for, log_needs}
 use Rattle.tx_running.specs.Plan.{Planned, plan_of}
-use Rattle.host_machine.specs.State.{Ending, Answered, Down, ReadOnly, SessionFull, What, Begins, Ends, Wait, FlushPart, Plan, Phase, Idle, Closing, Committing, JournalPart, Begun, Thread, Host, Setup, is_cut, first_failed, is_over, at_limit, is_moved, is_flushed_after, flush_above, last_put, is_closing, is_submitted, latest_change, submit}
+use Rattle.host_machine.specs.State.{Ending, Answered, Down, ReadOnly, SessionFull, What, Begins, Ends, Begun, Thread, Host, Setup}
+use Rattle.commit_actor.specs.Journal.{Plan, Phase, Idle, Closing, Committing, JournalPart, is_closing, is_submitted, latest_change}
+use Rattle.flush_actor.specs.Kinds.{is_begun, is_data, is_durable, is_reading, is_whole}
+use Rattle.flush_actor.specs.Part.{FlushPart, is_cut, first_failed, is_over, at_limit, is_flushed_after, flush_above, last_put, submit}
+use Rattle.flush_actor.specs.Steps.{flush_due, take_completion}
+use Rattle.flush_actor.specs.Waits.{no_wait, need_commit}
+use Rattle.flush_actor.specs.declared.call_kind.CallKind.{CallKind}
+use Rattle.flush_actor.specs.declared.call_kind.CallKind.TheVariants.{DataSync}
+use Rattle.flush_actor.specs.declared.wait.Wait.{Wait}
 
 -- ---- a step and what it answers
 
@@ -36,9 +42,6 @@ pub record Stepped (V C R : Type 0) : Type 0 where
 pub record Turned (V C R : Type 0) : Type 0 where
   pub host : Host V C R
   pub turn : Turn
-
-abbrev pub no_wait : Wait
-no_wait = record { kind = Reading; target = None; need = None }
 
 -- a list's elements that are there
 abbrev pub unsent_on : List CachedPage → List (ℕ × ℕ) → Option (CachedPage × List (ℕ × ℕ))
@@ -55,7 +58,7 @@ pub data Goal : Type 0 where
   AnswerOk : Goal
   AwaitLastPut : Goal
 
-abbrev pub data_goal : Kind → Bool → ℕ → Goal
+abbrev pub data_goal : CallKind → Bool → ℕ → Goal
 data_goal DataSync sent running = AwaitLastPut
 data_goal other sent running = if sent then AnswerOk else AwaitCommit running
 
@@ -71,49 +74,6 @@ cause_of j k =
     if k == j.running.number then
     elim (least j.flush.conflicts) as (λ _. Cause) [ Some b ↦ causes.Conflict b (holder j.flush.conflicts.held b) | None ↦ causes.Commit k ]
     else causes.Commit k
-
--- the commit block of transaction k is request id: the calls that it makes durable need it
-abbrev pub need_commit : ℕ → ℕ → Wait → Wait
-need_commit k id w =
-    if (elim w.kind as (λ _. Bool) [ FileSync ↦ true | WholeSync ↦ true | other ↦ false ])
-    && elim w.target as (λ _. Bool) [ Some t ↦ t == k | None ↦ false ]
-    then record w { need = Some id } else w
-
--- a durability call waits for transaction k
-abbrev pub awaits : ℕ → Wait → Bool
-awaits k w = is_durable w.kind && elim w.target as (λ _. Bool) [ Some t ↦ t == k | None ↦ false ]
-
--- transaction k has its commit block before request id
-abbrev pub commits_before : ℕ → ℕ → ℕ → List Note → Bool
-commits_before k id i [] = false
-commits_before k id i (notes.Commit t ∷ ns) = (t == k && nat_lt i id) || commits_before k id (i + 1) ns
-commits_before k id i (n ∷ ns) = commits_before k id (i + 1) ns
-
--- a call needs a request durable whose completion was taken, and no flush behind it is submitted
-abbrev pub is_due : FlushPart → Wait → Bool
-is_due f w = elim w.need as (λ _. Bool) [ None ↦ false | Some id ↦ list_any (is_moved id) f.taken && not (flush_above id 0 f.notes) ]
-
-abbrev pub flush_due : FlushPart → Bool
-flush_due f = not (is_over f) && list_any (is_due f) f.waits
-
--- the holds of transactions whose commit block stands before flush id end
-abbrev pub unhold_before : ℕ → List Note → Conflicts → Conflicts
-unhold_before id ns c =
-    let left = filter (λ (h : Held). not (commits_before h.transaction id 0 ns)) c.held in
-    record { held = left; wanted = filter (λ b. list_any (λ (h : Held). h.block == b) left) c.wanted }
-
-abbrev pub after_moved : Option Note → List Wait → Conflicts → Conflicts
-after_moved (Some (notes.Commit k)) waits c = if list_any (awaits k) waits then c else unhold k c
-after_moved other waits c = c
-
-abbrev pub after_completion : Completion → FlushPart → Conflicts
-after_completion (completions.Moved id) f = after_moved (slice_get f.notes id) f.waits f.conflicts
-after_completion (completions.Flushed id) f = unhold_before id f.notes f.conflicts
-after_completion other f = f.conflicts
-
--- the completion is taken
-abbrev pub take_completion : Completion → FlushPart → FlushPart
-take_completion c f = record f { taken = f.taken ++ c ∷ []; conflicts = after_completion c f }
 
 module _ {T V C R : Type 0} (M : Model T V C R) (u : Setup) where
   -- ---- parts of steps
@@ -236,7 +196,7 @@ module _ {T V C R : Type 0} (M : Model T V C R) (u : Setup) where
   -- ---- barrier and sync calls
 
   -- the unsent pages of its file, or of all
-  abbrev pub listed : List CachedPage → Kind → ℕ → List (ℕ × ℕ)
+  abbrev pub listed : List CachedPage → CallKind → ℕ → List (ℕ × ℕ)
   listed pages kind file =
       map (λ (p : CachedPage). (p.birth, p.index)) (filter (λ (p : CachedPage). is_unsent p.state && (is_whole kind || p.birth == file)) pages)
 
@@ -310,7 +270,7 @@ module _ {T V C R : Type 0} (M : Model T V C R) (u : Setup) where
   -- ---- a caller's step
 
   -- what ends every call, or every call but those that read
-  abbrev pub stop_of : List Completion → Kind → Option (Ending R)
+  abbrev pub stop_of : List Completion → CallKind → Option (Ending R)
   stop_of taken kind =
       if list_any is_cut taken then Some Down
       else if is_reading kind then None

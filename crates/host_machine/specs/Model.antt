@@ -1,42 +1,6 @@
 -- What the host uses of the tree model and of a volume.
-use Rattle.std.specs.Prelude.{ℕ, Bool, true, false, List, Option}
-
--- kinds of calls: read, list and stat; the calls that may change the tree; and the barrier and sync calls
-pub data Kind : Type 0 where
-  Reading : Kind
-  Changing : Kind
-  FileBarrier : Kind
-  DataBarrier : Kind
-  FileSync : Kind
-  DataSync : Kind
-  WholeSync : Kind
-
--- barrier and sync calls begin and end; all others are answered in one step
-abbrev pub is_begun : Kind → Bool
-is_begun Reading = false
-is_begun Changing = false
-is_begun other = true
-
-abbrev pub is_data : Kind → Bool
-is_data DataBarrier = true
-is_data DataSync = true
-is_data other = false
-
--- those that wait for the device
-abbrev pub is_durable : Kind → Bool
-is_durable FileSync = true
-is_durable DataSync = true
-is_durable WholeSync = true
-is_durable other = false
-
--- those that a failed completion does not end
-abbrev pub is_reading : Kind → Bool
-is_reading Reading = true
-is_reading other = false
-
-abbrev pub is_whole : Kind → Bool
-is_whole WholeSync = true
-is_whole other = false
+use Rattle.std.specs.Prelude.{ℕ, Bool, List, Option}
+use Rattle.flush_actor.specs.declared.call_kind.CallKind.{CallKind}
 
 -- a block of a file: the file's birth, the index, and the zone
 pub record FileBlock : Type 0 where
@@ -73,7 +37,7 @@ pub record Applied (V R : Type 0) : Type 0 where
 
 -- T are trees, V volumes, C calls and R their replies.
 pub record Model (T V C R : Type 0) : Type 0 where
-  pub kind : C → Kind
+  pub kind : C → CallKind
   pub ok : R
   -- trees: the one that was opened; the tree after call number n; blocks of files, and which of them a call
   -- writes; and the files whose size, zones or slots it changes

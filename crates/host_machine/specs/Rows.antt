@@ -7,15 +7,17 @@ use Rattle.order_model.specs.declared.completion.Completion.{Completion}
 use Rattle.order_model.specs.declared.note.Note.{Note}
 use Rattle.order_model.specs.declared.request.Request.{Request}
 use Rattle.host_machine.specs.Host.{advance, commit_step, writeback, flush_step, opened}
-use Rattle.host_machine.specs.Model.{Kind, Changing, FileBarrier, DataBarrier, FileSync, FileBlock, Touched, Freed, Zones, Model}
+use Rattle.host_machine.specs.Model.{FileBlock, Touched, Freed, Zones, Model}
 use Rattle.number_sets.specs.Sets.{without_all}
 use Rattle.journal_ring.specs.LogRing.{LogRing}
 use Rattle.host_machine.specs.State.{Answered, What, Ends, Entry, Host, Setup}
+use Rattle.flush_actor.specs.declared.call_kind.CallKind.{CallKind}
+use Rattle.flush_actor.specs.declared.call_kind.CallKind.TheVariants.{Changing, FileBarrier, DataBarrier, FileSync}
 
 -- ---- calls that say what they do
 
 pub record Call : Type 0 where
-  pub kind : Kind
+  pub kind : CallKind
   pub node : ℕ
   -- zones that it takes
   pub takes : List ℕ
@@ -111,7 +113,7 @@ answers s = map (λ (e : Entry Call ℕ). e.what) s.history
 abbrev pub changing : List ℕ → List ℕ → List FileBlock → List ℕ → Call
 changing takes blocks pages nodes = record { kind = Changing; node = 0; takes = takes; touched = record { blocks = blocks; freed = []; revoked = []; pages = pages; dropped = []; nodes = nodes } }
 
-abbrev pub begun : Kind → ℕ → Call
+abbrev pub begun : CallKind → ℕ → Call
 begun kind node = record { kind = kind; node = node; takes = []; touched = nothing }
 
 abbrev pub ok : What ℕ

@@ -4,9 +4,11 @@ use Rattle.std.specs.Prelude.{◌≡◌, ℕ, ◌==◌, ◌&&◌, Bool, true, fa
 use Rattle.log_model.specs.Log.{Plain}
 use Rattle.volume_ops.specs.Reads.{Ret, Read}
 use Rattle.host_machine.specs.Host.{advance, opened}
-use Rattle.host_machine.specs.Model.{Model, Kind, Reading, Changing, FileBarrier, FileBlock, Touched, Freed, Applied}
+use Rattle.host_machine.specs.Model.{Model, FileBlock, Touched, Freed, Applied}
 use Rattle.journal_ring.specs.LogRing.{LogRing}
 use Rattle.host_machine.specs.State.{Host}
+use Rattle.flush_actor.specs.declared.call_kind.CallKind.{CallKind}
+use Rattle.flush_actor.specs.declared.call_kind.CallKind.TheVariants.{Reading, Changing, FileBarrier}
 use Rattle.host_machine.specs.laws.Contract.{Over}
 
 pub data Call : Type 0 where
@@ -52,7 +54,7 @@ acts t n RemoveIt = None
 acts t n Look = t
 acts t n Barrier = t
 
-abbrev pub kind_of : Call → Kind
+abbrev pub kind_of : Call → CallKind
 kind_of WriteIt = Changing
 kind_of RemoveIt = Changing
 kind_of Look = Reading

@@ -28,14 +28,21 @@ use Rattle.number_sets.specs.laws.Members.{In-has}
 use Rattle.host_machine.proofs.PlanSteps.{commit_keeps}
 use Rattle.host_machine.proofs.Sends.{plainly}
 use Rattle.host_machine.proofs.Steps.{first_page-In, none_first, either}
-use Rattle.host_machine.specs.Host.{Turned, submits, build_plan, checkpoint, close_step, plan_sent, in_phase, commit_step, writeback, flush_step, flush_due, take_completion, send_page, send_planned, committed, need_commit, with_flush}
-use Rattle.host_machine.specs.Model.{Kind, FileSync, WholeSync, is_data}
+use Rattle.host_machine.specs.Host.{Turned, submits, build_plan, checkpoint, close_step, plan_sent, in_phase, commit_step, writeback, flush_step, send_page, send_planned, committed, with_flush}
 use Rattle.number_sets.specs.Sets.{has}
 use Rattle.conflict_pages.specs.Conflicts.{least}
 use Rattle.journal_ring.specs.LogRing.{ring_free}
 use Rattle.tx_running.specs.Running.{log_needs}
 use Rattle.tx_running.specs.Plan.{Planned}
-use Rattle.host_machine.specs.State.{Begun, Wait, Thread, is_flush_note, Plan, Phase, Idle, Closing, Committing, Host, is_over, at_limit, is_submitted}
+use Rattle.host_machine.specs.State.{Begun, Thread, Host}
+use Rattle.commit_actor.specs.Journal.{Plan, Phase, Idle, Closing, Committing, is_submitted}
+use Rattle.flush_actor.specs.Kinds.{is_data}
+use Rattle.flush_actor.specs.Part.{is_flush_note, is_over, at_limit}
+use Rattle.flush_actor.specs.Steps.{flush_due, take_completion}
+use Rattle.flush_actor.specs.Waits.{need_commit}
+use Rattle.flush_actor.specs.declared.call_kind.CallKind.{CallKind}
+use Rattle.flush_actor.specs.declared.call_kind.CallKind.TheVariants.{FileSync, WholeSync}
+use Rattle.flush_actor.specs.declared.wait.Wait.{Wait}
 use Rattle.host_machine.specs.Views.{transaction_of}
 use Rattle.host_machine.specs.laws.Contract.{Over, Contract, noted_history, InPlan, InPhase, session}
 use Rattle.host_machine.specs.laws.PlanNotes.{is_plan_note, IsRestOf}
@@ -189,7 +196,7 @@ module _ {A T V C R : Type 0} {o : Over A T V C R} {Stands : V → T → Type 0}
           (λ w i. commit_opens_none (s.journal.flush.notes ++ first.note ∷ []) (s.journal.running.number - 1) (length s.journal.flush.requests) w (λ sync target. unknown (s.journal.running.number - 1) (omega arith) w i sync target))
           (λ w i id e. commit_needed (s.journal.flush.notes ++ first.note ∷ []) (s.journal.running.number - 1) (length s.journal.flush.requests) w (omega arith) (λ j q. pushed_flushes.needed w i j q) id e)
         where
-          whole_kind : (k : Kind) → is_whole_sync k ≡ true → is_data k ≡ false
+          whole_kind : (k : CallKind) → is_whole_sync k ≡ true → is_data k ≡ false
           whole_kind FileSync e = refl
           whole_kind WholeSync e = refl
           whole_kind other e = absurd (false≢true e)

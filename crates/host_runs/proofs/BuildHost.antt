@@ -23,7 +23,8 @@ use Rattle.host_machine.specs.Host.{build_plan}
 use Rattle.journal_ring.specs.LogRing.{place_blocks, ring_free}
 use Rattle.tx_running.specs.Running.{log_blocks_for, log_needs}
 use Rattle.tx_running.specs.Plan.{plan_of}
-use Rattle.host_machine.specs.State.{Entry, Plan, Closing, Committing, Host}
+use Rattle.host_machine.specs.State.{Entry, Host}
+use Rattle.commit_actor.specs.Journal.{Plan, Closing, Committing}
 use Rattle.host_machine.specs.Views.{some_in, alters_at, transaction_of}
 use Rattle.host_machine.specs.laws.Contract.{Over, Contract, noted_history, InPhase, session}
 use Rattle.host_machine.specs.laws.Rules.{AllRules}

@@ -11,7 +11,9 @@ use Rattle.order_model.specs.declared.note.Note.{Note}
 use Rattle.crash_laws.specs.History.{History, HasTrees}
 use Rattle.crash_laws.specs.PromiseRules.{Covers}
 use Rattle.crash_laws.specs.Session.{Session}
-use Rattle.host_machine.specs.State.{Plan, Phase, Idle, Closing, Committing, JournalPart, Begun, is_flush_note, last_put, latest_change}
+use Rattle.host_machine.specs.State.{Begun}
+use Rattle.commit_actor.specs.Journal.{Plan, Phase, Idle, Closing, Committing, JournalPart, latest_change}
+use Rattle.flush_actor.specs.Part.{is_flush_note, last_put}
 use Rattle.host_machine.specs.laws.Facts.{Numbers}
 use Rattle.host_runs.proofs.CallTargets.{IsQuiet, done_at_cut, quiet_running, quiet_both}
 use Rattle.host_runs.specs.Promises.{call_of}

@@ -16,9 +16,12 @@ use Rattle.crash_laws.specs.Session.{Session, IsCommit}
 use Rattle.crash_laws.specs.Submitting.{Submitting, after}
 use Rattle.host_machine.proofs.ChangeSteps.{IsEntry}
 use Rattle.host_machine.proofs.PageMaps.{dropped-left, written-cases}
-use Rattle.host_machine.specs.Host.{no_wait, need_commit, dropped_pages, written_pages}
-use Rattle.host_machine.specs.Model.{Model, FileBlock, FileSync, WholeSync}
-use Rattle.host_machine.specs.State.{Begun, Wait, Thread, Setup}
+use Rattle.host_machine.specs.Host.{dropped_pages, written_pages}
+use Rattle.host_machine.specs.Model.{Model, FileBlock}
+use Rattle.host_machine.specs.State.{Begun, Thread, Setup}
+use Rattle.flush_actor.specs.Waits.{no_wait, need_commit}
+use Rattle.flush_actor.specs.declared.call_kind.CallKind.TheVariants.{FileSync, WholeSync}
+use Rattle.flush_actor.specs.declared.wait.Wait.{Wait}
 use Rattle.host_machine.specs.laws.Facts.{View, IsPlain, Numbers, PagesMapped}
 use Rattle.host_runs.proofs.CallMoves.{call_sent}
 use Rattle.host_runs.proofs.CallSteps.{KeepsUnsent, call_pushed, call_grows}

@@ -19,8 +19,10 @@ use Rattle.crash_laws.specs.PromiseRules.{IsOn, Covers}
 use Rattle.crash_laws.specs.Session.{Session}
 use Rattle.crash_laws.specs.Submitting.{Submitting, after, new_place}
 use Rattle.host_machine.specs.Host.{unsent_on}
-use Rattle.host_machine.specs.Model.{Kind, is_whole}
-use Rattle.host_machine.specs.State.{Begun, Wait}
+use Rattle.host_machine.specs.State.{Begun}
+use Rattle.flush_actor.specs.Kinds.{is_whole}
+use Rattle.flush_actor.specs.declared.call_kind.CallKind.{CallKind}
+use Rattle.flush_actor.specs.declared.wait.Wait.{Wait}
 use Rattle.host_machine.specs.laws.Facts.{View, IsPlain, PagesMapped, PagesSent}
 use Rattle.host_runs.proofs.CallSteps.{mapped_or_gone, last_write_above, sent_old, done_old, call_pushed}
 use Rattle.host_runs.specs.Promises.{call_of}
@@ -105,13 +107,13 @@ module _ (pages : List CachedPage) where
 
 module _ {A : Type 0} {program : Reads A} {h : History A} {s : Session} {now : ℕ} {v : View} (trees : HasTrees h) (plain : IsPlain program h s now v) (pages : List CachedPage) (mapped : PagesMapped h now v pages) (sent : PagesSent s pages) where
   -- a page of the call that is unsent is listed
-  abbrev is_of_call : Kind → ℕ → CachedPage → Bool
+  abbrev is_of_call : CallKind → ℕ → CachedPage → Bool
   is_of_call kind file p = is_unsent p.state && (is_whole kind || p.birth == file)
 
-  abbrev listed : Kind → ℕ → List (ℕ × ℕ)
+  abbrev listed : CallKind → ℕ → List (ℕ × ℕ)
   listed kind file = map (λ (p : CachedPage). (p.birth, p.index)) (filter (is_of_call kind file) pages)
 
-  on_file : (kind : Kind) (file f : ℕ) → IsOn (if is_whole kind then None else Some file) f → (is_whole kind || f == file) ≡ true
+  on_file : (kind : CallKind) (file f : ℕ) → IsOn (if is_whole kind then None else Some file) f → (is_whole kind || f == file) ≡ true
   on_file kind file f on = by (is_whole kind) on
     where
       by : (t : Bool) → IsOn (if t then None else Some file) f → (t || f == file) ≡ true

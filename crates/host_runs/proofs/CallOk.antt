@@ -14,9 +14,15 @@ use Rattle.crash_laws.specs.Rules.{CommitOrder}
 use Rattle.crash_laws.specs.Session.{Session, IsCommit}
 use Rattle.host_machine.specs.Causes as causes
 use Rattle.host_machine.specs.Host.{Stepped, Goal, AwaitCommit, unsent_on, data_goal, goal_of, cause_of, end_with, await_durable, await_last_put, await_commit, pursue, walk_pages, continue_begun, set_wait, wanting, set_thread, send_page}
-use Rattle.host_machine.specs.Model.{Model, Kind, Reading, Changing, FileBarrier, DataBarrier, FileSync, DataSync, WholeSync, is_data, is_durable}
+use Rattle.host_machine.specs.Model.{Model}
 use Rattle.host_machine.specs.Outcomes as outcomes
-use Rattle.host_machine.specs.State.{Answered, SessionFull, Phase, Idle, Closing, Committing, JournalPart, Begun, Wait, Host, Setup, at_limit, is_flushed_after, flush_above, last_put, is_submitted, latest_change}
+use Rattle.host_machine.specs.State.{Answered, SessionFull, Begun, Host, Setup}
+use Rattle.commit_actor.specs.Journal.{Phase, Idle, Closing, Committing, JournalPart, is_submitted, latest_change}
+use Rattle.flush_actor.specs.Kinds.{is_data, is_durable}
+use Rattle.flush_actor.specs.Part.{at_limit, is_flushed_after, flush_above, last_put}
+use Rattle.flush_actor.specs.declared.call_kind.CallKind.{CallKind}
+use Rattle.flush_actor.specs.declared.call_kind.CallKind.TheVariants.{Reading, Changing, FileBarrier, DataBarrier, FileSync, DataSync, WholeSync}
+use Rattle.flush_actor.specs.declared.wait.Wait.{Wait}
 use Rattle.host_machine.specs.laws.Facts.{Numbers}
 use Rattle.host_runs.proofs.CallGoals.{ChangedListed, latest_none, latest_some, put_before_last, nothing_put, nothing_covered}
 use Rattle.host_runs.proofs.CallMoves.{unsent_on-none}
@@ -151,7 +157,7 @@ module _ {T V C R : Type 0} (M : Model T V C R) (u : Setup) {A : Type 0} {h : Hi
         goals : (x y : ℕ) → AwaitCommit x ≡ AwaitCommit y → x ≡ y
         goals x y q = cc
 
-        of_kind : (kind : Kind) (x : Bool) → data_goal kind x j.running.number ≡ AwaitCommit k → j.running.number ≡ k
+        of_kind : (kind : CallKind) (x : Bool) → data_goal kind x j.running.number ≡ AwaitCommit k → j.running.number ≡ k
         of_kind DataSync x q = absurd (let z : ⊥ = cc in z)
         of_kind DataBarrier true q = absurd (let z : ⊥ = cc in z)
         of_kind DataBarrier false q = cc
@@ -198,7 +204,7 @@ module _ {T V C R : Type 0} (M : Model T V C R) (u : Setup) {A : Type 0} {h : Hi
         by true e = cc
         by false e = cc
 
-    of_data_goal : is_data b.kind ≡ true → latest_change j b.file ≡ None → (k : Kind) → b.kind ≡ k → (x : Bool) → b.sent_barrier ≡ x → (pursue M u host t c rest w (data_goal k x j.running.number)).step ≡ outcomes.Done M.ok → KeepsOk h s taken (now + 1) b
+    of_data_goal : is_data b.kind ≡ true → latest_change j b.file ≡ None → (k : CallKind) → b.kind ≡ k → (x : Bool) → b.sent_barrier ≡ x → (pursue M u host t c rest w (data_goal k x j.running.number)).step ≡ outcomes.Done M.ok → KeepsOk h s taken (now + 1) b
     of_data_goal of_data none DataSync kind x q e = flush_ok kind none e
     of_data_goal of_data none DataBarrier kind true q e = pass_ok kind none q
     of_data_goal of_data none DataBarrier kind false q e = absurd (no_wait_ok j.running.number e)

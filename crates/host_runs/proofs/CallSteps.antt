@@ -16,7 +16,8 @@ use Rattle.crash_laws.specs.PromiseRules.{IsSuperseded, Covers, CoversEntry}
 use Rattle.crash_laws.specs.Session.{Session}
 use Rattle.crash_laws.specs.Submitting.{Submitting, after}
 use Rattle.host_machine.proofs.ChangeSteps.{IsEntry, extends}
-use Rattle.host_machine.specs.State.{Begun, Wait}
+use Rattle.host_machine.specs.State.{Begun}
+use Rattle.flush_actor.specs.declared.wait.Wait.{Wait}
 use Rattle.host_machine.specs.laws.Facts.{Numbers}
 use Rattle.host_runs.specs.Promises.{call_of}
 use Rattle.host_runs.specs.laws.CallFacts.{IsSent, IsDone, IsGoodFor, HasSentBarrier, CallFacts}

@@ -14,8 +14,11 @@ use Rattle.crash_laws.specs.History.{History, Calm, HasTrees}
 use Rattle.crash_laws.specs.PromiseRules.{IsSuperseded, KeepsBarrier, KeepsSync, IsOn, Covers, CoversEntry}
 use Rattle.crash_laws.specs.Rules.{CommitOrder}
 use Rattle.crash_laws.specs.Session.{Session, HasNote, IsCommit}
-use Rattle.host_machine.specs.Model.{Kind, is_data, is_whole, DataBarrier, DataSync}
-use Rattle.host_machine.specs.State.{Begun, Wait}
+use Rattle.host_machine.specs.State.{Begun}
+use Rattle.flush_actor.specs.Kinds.{is_data, is_whole}
+use Rattle.flush_actor.specs.declared.call_kind.CallKind.{CallKind}
+use Rattle.flush_actor.specs.declared.call_kind.CallKind.TheVariants.{DataBarrier, DataSync}
+use Rattle.flush_actor.specs.declared.wait.Wait.{Wait}
 use Rattle.host_machine.specs.laws.Facts.{Numbers}
 use Rattle.host_runs.proofs.CallSteps.{mapped_or_gone, later_bound}
 use Rattle.host_runs.specs.Promises.{call_of}
@@ -310,7 +313,7 @@ module _ {A : Type 0} {h : History A} {s : Session} {pages : List CachedPage} {n
   pub its_file : is_data b.kind ≡ true → (f i n : ℕ) → Covers h (call_of b) f i n → b.file ≡ f
   its_file of_data f i n c = by b.kind of_data c.0
     where
-      by : (k : Kind) → is_data k ≡ true → IsOn (if is_whole k then None else Some b.file) f → b.file ≡ f
+      by : (k : CallKind) → is_data k ≡ true → IsOn (if is_whole k then None else Some b.file) f → b.file ≡ f
       by DataBarrier e on = on
       by DataSync e on = on
       by other e on = absurd (false≢true e)

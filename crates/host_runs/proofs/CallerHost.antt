@@ -23,10 +23,17 @@ use Rattle.host_machine.proofs.Sends.{plainly}
 use Rattle.host_machine.proofs.Steps.{enough, either, advance_keeps}
 use Rattle.host_machine.specs.Causes as causes
 use Rattle.host_machine.specs.Causes.{Cause}
-use Rattle.host_machine.specs.Host.{Stepped, Goal, AwaitCommit, AnswerOk, AwaitLastPut, no_wait, unsent_on, goal_of, data_goal, end_call, end_with, set_wait, set_thread, wanting, send_page, change, hindrance, hindered, plain, listed, begin, await_durable, await_last_put, await_commit, pursue, walk_pages, continue_begun, step_call, step_thread, advance, stop_of, dropped_pages, written_pages}
-use Rattle.host_machine.specs.Model.{Kind, Reading, Changing, FileBarrier, DataBarrier, FileSync, DataSync, WholeSync, is_begun, is_data, is_durable, Freed}
+use Rattle.host_machine.specs.Host.{Stepped, Goal, AwaitCommit, AnswerOk, AwaitLastPut, unsent_on, goal_of, data_goal, end_call, end_with, set_wait, set_thread, wanting, send_page, change, hindrance, hindered, plain, listed, begin, await_durable, await_last_put, await_commit, pursue, walk_pages, continue_begun, step_call, step_thread, advance, stop_of, dropped_pages, written_pages}
+use Rattle.host_machine.specs.Model.{Freed}
 use Rattle.host_machine.specs.Outcomes as outcomes
-use Rattle.host_machine.specs.State.{Ending, Answered, SessionFull, Begins, Ends, Entry, Wait, Plan, Committing, Begun, Thread, Host, at_limit, is_flushed_after, flush_above, last_put, is_submitted, latest_change}
+use Rattle.host_machine.specs.State.{Ending, Answered, SessionFull, Begins, Ends, Entry, Begun, Thread, Host}
+use Rattle.commit_actor.specs.Journal.{Plan, Committing, is_submitted, latest_change}
+use Rattle.flush_actor.specs.Kinds.{is_begun, is_data, is_durable}
+use Rattle.flush_actor.specs.Part.{at_limit, is_flushed_after, flush_above, last_put}
+use Rattle.flush_actor.specs.Waits.{no_wait}
+use Rattle.flush_actor.specs.declared.call_kind.CallKind.{CallKind}
+use Rattle.flush_actor.specs.declared.call_kind.CallKind.TheVariants.{Reading, Changing, FileBarrier, DataBarrier, FileSync, DataSync, WholeSync}
+use Rattle.flush_actor.specs.declared.wait.Wait.{Wait}
 use Rattle.host_machine.specs.laws.Contract.{Over, view_of, Contract, noted_history, InPlan, InPhase, session}
 use Rattle.host_machine.specs.laws.Facts.{IsPlain, PagesMapped}
 use Rattle.host_machine.specs.laws.Rules.{AllRules}
@@ -159,7 +166,7 @@ module _ {A T V C R : Type 0} {o : Over A T V C R} {Stands : V → T → Type 0}
           flush_goal : goal_of s.journal b ≡ AwaitLastPut → (b.kind ≡ DataSync) × (latest_change s.journal b.file ≡ None)
           flush_goal e = by (is_data b.kind) (latest_change s.journal b.file) refl e
             where
-              of_kind : (k : Kind) (x : Bool) → data_goal k x r ≡ AwaitLastPut → k ≡ DataSync
+              of_kind : (k : CallKind) (x : Bool) → data_goal k x r ≡ AwaitLastPut → k ≡ DataSync
               of_kind DataSync x q = refl
               of_kind DataBarrier true q = absurd (let z : ⊥ = cc in z)
               of_kind DataBarrier false q = absurd (let z : ⊥ = cc in z)

@@ -7,9 +7,14 @@ use Rattle.std.specs.Prelude.{◌≡◌, ℕ, zero, suc, ◌+◌, ◌<◌, ◌�
 use Rattle.blk_base.specs.Members.{In, In-list_any, In-set_cases, In-map}
 use Rattle.order_model.specs.declared.note.Note.TheVariants as notes
 use Rattle.order_model.specs.declared.note.Note.{Note}
-use Rattle.host_machine.specs.Host.{is_due, flush_due, need_commit}
-use Rattle.host_machine.specs.Model.{Kind, Reading, Changing, FileBarrier, DataBarrier, FileSync, DataSync, WholeSync, is_durable}
-use Rattle.host_machine.specs.State.{Entry, Wait, FlushPart, is_flush_note, flush_above, is_moved, is_over}
+use Rattle.host_machine.specs.State.{Entry}
+use Rattle.flush_actor.specs.Kinds.{is_durable}
+use Rattle.flush_actor.specs.Part.{FlushPart, is_flush_note, flush_above, is_moved, is_over}
+use Rattle.flush_actor.specs.Steps.{is_due, flush_due}
+use Rattle.flush_actor.specs.Waits.{need_commit}
+use Rattle.flush_actor.specs.declared.call_kind.CallKind.{CallKind}
+use Rattle.flush_actor.specs.declared.call_kind.CallKind.TheVariants.{Reading, Changing, FileBarrier, DataBarrier, FileSync, DataSync, WholeSync}
+use Rattle.flush_actor.specs.declared.wait.Wait.{Wait}
 use Rattle.host_runs.specs.laws.FlushFacts.{one_if, count, is_open, is_begin, FlushFacts}
 
 -- ---- counting
@@ -65,7 +70,7 @@ count-map p f (x ∷ xs) = ap (λ n. one_if (p (f x)) + n) (count-map p f xs)
 -- ---- what is counted
 
 -- There are at most as many flushes as sync calls began.
-pub flushes_charged : {C R : Type 0} (kind : C → Kind) (ns : List Note) (waits : List Wait) (history : List (Entry C R)) → FlushFacts kind ns waits history → count is_flush_note ns ≤ count (is_begin kind) history
+pub flushes_charged : {C R : Type 0} (kind : C → CallKind) (ns : List Note) (waits : List Wait) (history : List (Entry C R)) → FlushFacts kind ns waits history → count is_flush_note ns ≤ count (is_begin kind) history
 flushes_charged kind ns waits history facts = let all = facts.charged in omega arith
 
 -- ---- flushes behind a request
@@ -105,7 +110,7 @@ open-push ns n w h = by w.need refl h
     by None e t = t
     by (Some id) e t = parts (is_durable w.kind) (flush_above id 0 ns) (is_flush_note n && nat_lt id (0 + length ns)) (flush_above id 0 (ns ++ n ∷ [])) (above-push id 0 ns n) t
 
-module _ {C R : Type 0} {kind : C → Kind} {ns : List Note} {waits : List Wait} {history : List (Entry C R)} (old : FlushFacts kind ns waits history) where
+module _ {C R : Type 0} {kind : C → CallKind} {ns : List Note} {waits : List Wait} {history : List (Entry C R)} (old : FlushFacts kind ns waits history) where
   needed_push : (n : Note) (w : Wait) → In w waits → (id : ℕ) → w.need ≡ Some id → (id < length (ns ++ n ∷ [])) × (is_durable w.kind ≡ true)
   needed_push n w i id e = let x = old.needed w i id e in let lt = x.0 in let longer = length-append ns (n ∷ []) in (omega arith, x.1)
 
@@ -208,7 +213,7 @@ module _ {C R : Type 0} {kind : C → Kind} {ns : List Note} {waits : List Wait}
       }
 
 -- the kinds of calls whose need is fixed by a commit block
-abbrev pub is_whole_sync : Kind → Bool
+abbrev pub is_whole_sync : CallKind → Bool
 is_whole_sync FileSync = true
 is_whole_sync WholeSync = true
 is_whole_sync other = false
@@ -233,7 +238,7 @@ commit_opens_none ns k id w fresh is_now = by w.kind refl w.target refl is_now
     targets sync (Some t) e o = matched sync t e (t == k) refl o
     targets sync None e o = o
 
-    by : (x : Kind) → w.kind ≡ x → (g : Option ℕ) → w.target ≡ g
+    by : (x : CallKind) → w.kind ≡ x → (g : Option ℕ) → w.target ≡ g
         → is_open ns (if elim x as (λ _. Bool) [ FileSync ↦ true | WholeSync ↦ true | other ↦ false ] && elim g as (λ _. Bool) [ Some t ↦ t == k | None ↦ false ] then record w { need = Some id } else w) ≡ true → is_open ns w ≡ true
     by FileSync e g f o = targets (ap is_whole_sync e) g f o
     by WholeSync e g f o = targets (ap is_whole_sync e) g f o
@@ -251,7 +256,7 @@ commit_needed ns k id w lt old i e = by w.kind refl w.target e
     kept true d e = let same = same_Some id i e in (omega arith, d)
     kept false d e = old i e
 
-    by : (x : Kind) → w.kind ≡ x → (g : Option ℕ)
+    by : (x : CallKind) → w.kind ≡ x → (g : Option ℕ)
         → (if elim x as (λ _. Bool) [ FileSync ↦ true | WholeSync ↦ true | other ↦ false ] && elim g as (λ _. Bool) [ Some t ↦ t == k | None ↦ false ] then record w { need = Some id } else w).need ≡ Some i
         → (i < length ns) × (is_durable (if elim x as (λ _. Bool) [ FileSync ↦ true | WholeSync ↦ true | other ↦ false ] && elim g as (λ _. Bool) [ Some t ↦ t == k | None ↦ false ] then record w { need = Some id } else w).kind ≡ true)
     by FileSync q (Some t) e = kept (t == k) (ap is_durable q) e

@@ -9,7 +9,8 @@ use Rattle.log_model.specs.Marks.{Logged, Transaction}
 use Rattle.log_model.specs.Ring.{IsPlace}
 use Rattle.crash_laws.specs.Rules.{CommitOrder}
 use Rattle.crash_laws.specs.Session.{Session, IsCommit, log_transaction, log_blocks}
-use Rattle.host_machine.specs.State.{Phase, Idle, Closing, Committing, Host}
+use Rattle.host_machine.specs.State.{Host}
+use Rattle.commit_actor.specs.Journal.{Phase, Idle, Closing, Committing}
 use Rattle.host_machine.specs.Views.{running_transaction}
 use Rattle.host_machine.specs.laws.Contract.{Over, Contract, session}
 use Rattle.host_runs.specs.Runs.{FitsWords, HasBlocks, IsBlock}

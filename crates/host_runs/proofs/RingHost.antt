@@ -14,7 +14,7 @@ use Rattle.crash_laws.specs.Submitting.{Submitting, after}
 use Rattle.journal_ring.specs.LogRing.{LogRing, ring_free, place_blocks, commit_bodies, home_sent, all_home}
 use Rattle.tx_running.specs.Running.{log_blocks_for}
 use Rattle.tx_running.specs.Plan.{Writers, Planned, plan_of}
-use Rattle.host_machine.specs.State.{Plan, Phase, Idle, Closing, Committing}
+use Rattle.commit_actor.specs.Journal.{Plan, Phase, Idle, Closing, Committing}
 use Rattle.host_runs.proofs.BuildSteps.{built_plan, built_places}
 use Rattle.host_runs.proofs.CheckpointSteps.{commit_ring_clause, commit_numbers, commit_places, commit_home_facts, home_request, home_ring_clause, home_numbers, home_places, home_facts_step, super_request, super_ring_clause, super_numbers, super_homes, super_places}
 use Rattle.host_runs.proofs.GrowingFacts.{places_step, homes_step, numbers_step, plan_stays}

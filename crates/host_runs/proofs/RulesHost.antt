@@ -30,7 +30,9 @@ use Rattle.host_machine.proofs.Sends.{plainly}
 use Rattle.host_machine.specs.Host.{send_planned, committed, checkpoint, send_page, with_flush}
 use Rattle.journal_ring.specs.LogRing.{home_sent, all_home}
 use Rattle.tx_running.specs.Plan.{Planned}
-use Rattle.host_machine.specs.State.{Plan, Phase, Closing, Committing, Host, submit}
+use Rattle.host_machine.specs.State.{Host}
+use Rattle.commit_actor.specs.Journal.{Plan, Phase, Closing, Committing}
+use Rattle.flush_actor.specs.Part.{submit}
 use Rattle.host_machine.specs.laws.Contract.{Over, Contract, noted_history, InPlan, InPhase, session}
 use Rattle.host_machine.specs.laws.PlanNotes.{is_plan_note, IsRestOf, BarrierAhead}
 use Rattle.host_machine.specs.laws.Rules.{AllRules}

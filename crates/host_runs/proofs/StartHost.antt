@@ -12,10 +12,12 @@ use Rattle.log_model.specs.Ring.{places_on}
 use Rattle.page_cache.specs.declared.cached_page.CachedPage.{CachedPage}
 use Rattle.crash_laws.specs.History.{History}
 use Rattle.crash_laws.specs.Session.{Session, HasNote, log_transaction, LogBlock, log_blocks, log_blocks_from}
-use Rattle.host_machine.specs.Host.{no_wait}
-use Rattle.host_machine.specs.Model.{Kind}
 use Rattle.journal_ring.specs.LogRing.{LogRing}
-use Rattle.host_machine.specs.State.{Wait, Thread, Idle}
+use Rattle.host_machine.specs.State.{Thread}
+use Rattle.commit_actor.specs.Journal.{Idle}
+use Rattle.flush_actor.specs.Waits.{no_wait}
+use Rattle.flush_actor.specs.declared.call_kind.CallKind.{CallKind}
+use Rattle.flush_actor.specs.declared.wait.Wait.{Wait}
 use Rattle.host_runs.specs.Runs.{AreBegun}
 use Rattle.host_runs.specs.laws.CallFacts.{wait_of, AllCalls}
 use Rattle.host_runs.specs.laws.FlushFacts.{FlushFacts, count, is_open}
@@ -89,12 +91,12 @@ none_open : {C : Type 0} (programs : List (List C)) → count (is_open []) (map 
 none_open [] = refl
 none_open (p ∷ ps) = let e = none_open ps in omega arith
 
-pub flushes_at_start : {C R : Type 0} (kind : C → Kind) (programs : List (List C)) → FlushFacts {R = R} kind [] (map (λ (p : List C). no_wait) programs) []
+pub flushes_at_start : {C R : Type 0} (kind : C → CallKind) (programs : List (List C)) → FlushFacts {R = R} kind [] (map (λ (p : List C). no_wait) programs) []
 flushes_at_start {C = C} kind programs = record {
   charged = let e = none_open programs in omega arith;
   needed = λ w i id e. absurd (none-some id (ap (λ (v : Wait). v.need) (In-map (λ (p : List C). no_wait) programs w i).2 ∙ e));
 }
 
-pub none_begun : {C : Type 0} (kind : C → Kind) (programs : List (List C)) → AreBegun kind (map (λ (p : List C). record { calls = p; begun = None }) programs)
+pub none_begun : {C : Type 0} (kind : C → CallKind) (programs : List (List C)) → AreBegun kind (map (λ (p : List C). record { calls = p; begun = None }) programs)
 none_begun {C = C} kind programs th c rest b i calls begun =
     absurd (none-some b (ap (λ (x : Thread C). x.begun) (In-map (λ (p : List C). record { calls = p; begun = None }) programs th i).2 ∙ begun))

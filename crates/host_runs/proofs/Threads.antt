@@ -13,15 +13,21 @@ use Rattle.page_cache.specs.declared.cached_page.CachedPage.{CachedPage}
 use Rattle.host_machine.proofs.Steps.{either}
 use Rattle.host_machine.specs.Causes as causes
 use Rattle.host_machine.specs.Causes.{Cause}
-use Rattle.host_machine.specs.Host.{Stepped, Turned, Goal, AwaitCommit, AnswerOk, AwaitLastPut, unsent_on, goal_of, no_wait, with_flush, take_completion, flush_due, set_wait, set_thread, send_page, end_with, hindrance, hindered, plain, begin, await_durable, await_last_put, await_commit, pursue, walk_pages, continue_begun, stop_of, step_call, step_thread, advance, submits, build_plan, checkpoint, close_step, plan_sent, in_phase, commit_step, writeback, flush_step, wanting, change}
-use Rattle.host_machine.specs.Model.{Model, is_begun, is_data, is_durable, Freed, Applied}
+use Rattle.host_machine.specs.Host.{Stepped, Turned, Goal, AwaitCommit, AnswerOk, AwaitLastPut, unsent_on, goal_of, with_flush, set_wait, set_thread, send_page, end_with, hindrance, hindered, plain, begin, await_durable, await_last_put, await_commit, pursue, walk_pages, continue_begun, stop_of, step_call, step_thread, advance, submits, build_plan, checkpoint, close_step, plan_sent, in_phase, commit_step, writeback, flush_step, wanting, change}
+use Rattle.host_machine.specs.Model.{Model, Freed, Applied}
 use Rattle.host_machine.specs.Outcomes as outcomes
 use Rattle.number_sets.specs.Sets.{has}
 use Rattle.conflict_pages.specs.Conflicts.{least}
 use Rattle.journal_ring.specs.LogRing.{ring_free}
 use Rattle.tx_running.specs.Running.{log_needs}
 use Rattle.tx_running.specs.Plan.{Planned}
-use Rattle.host_machine.specs.State.{Ending, Answered, SessionFull, Wait, Plan, Phase, Idle, Closing, Committing, Begun, Thread, Host, Setup, at_limit, is_over, is_flushed_after, flush_above, last_put, is_submitted, Begins, Ends}
+use Rattle.host_machine.specs.State.{Ending, Answered, SessionFull, Begun, Thread, Host, Setup, Begins, Ends}
+use Rattle.commit_actor.specs.Journal.{Plan, Phase, Idle, Closing, Committing, is_submitted}
+use Rattle.flush_actor.specs.Kinds.{is_begun, is_data, is_durable}
+use Rattle.flush_actor.specs.Part.{at_limit, is_over, is_flushed_after, flush_above, last_put}
+use Rattle.flush_actor.specs.Steps.{take_completion, flush_due}
+use Rattle.flush_actor.specs.Waits.{no_wait}
+use Rattle.flush_actor.specs.declared.wait.Wait.{Wait}
 use Rattle.host_machine.specs.laws.Contract.{Over}
 use Rattle.host_runs.specs.Runs.{Event, Call, Commit, WriteBack, FlushStep, AreBegun, stepped}
 use Rattle.host_runs.specs.laws.Traces.{trace_of, Move, Stays, Puts, Enters, Cuts, Takes}

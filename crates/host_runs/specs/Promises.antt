@@ -6,8 +6,8 @@ use Rattle.order_model.specs.declared.completion.Completion.{Completion}
 use Rattle.crash_laws.specs.History.{History}
 use Rattle.crash_laws.specs.PromiseRules.{CoversNothing, BegunCall, Covers, CoversEntry, KeepsBarrier, KeepsSync}
 use Rattle.crash_laws.specs.Session.{Session, IsCommit}
-use Rattle.host_machine.specs.Model.{is_data, is_whole, is_durable}
 use Rattle.host_machine.specs.State.{Begun, Host}
+use Rattle.flush_actor.specs.Kinds.{is_data, is_whole, is_durable}
 use Rattle.host_machine.specs.laws.Contract.{Over, noted_history, session}
 
 -- what the call covers

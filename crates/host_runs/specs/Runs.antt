@@ -3,8 +3,9 @@ use Rattle.std.specs.Prelude.{◌≡◌, ℕ, ◌+◌, ◌<◌, ◌≤◌, Bool,
 use Rattle.blk_base.specs.Members.{In}
 use Rattle.order_model.specs.declared.completion.Completion.{Completion}
 use Rattle.host_machine.specs.Host.{advance, commit_step, writeback, flush_step}
-use Rattle.host_machine.specs.Model.{Kind, is_begun}
 use Rattle.host_machine.specs.State.{Begun, Thread, Host}
+use Rattle.flush_actor.specs.Kinds.{is_begun}
+use Rattle.flush_actor.specs.declared.call_kind.CallKind.{CallKind}
 use Rattle.host_machine.specs.Views.{waits_for}
 use Rattle.host_machine.specs.laws.Contract.{Over}
 
@@ -21,7 +22,7 @@ abbrev pub IsBlock : List ℕ → Type 0
 IsBlock body = (length body ≡ 1024) × ((k : ℕ) → slice_index body k < 256)
 
 -- only barrier and sync calls have begun
-abbrev pub AreBegun : {C : Type 0} → (C → Kind) → List (Thread C) → Type 0
+abbrev pub AreBegun : {C : Type 0} → (C → CallKind) → List (Thread C) → Type 0
 AreBegun {C = C} kind threads = (th : Thread C) (c : C) (rest : List C) (b : Begun) → In th threads → th.calls ≡ c ∷ rest → th.begun ≡ Some b → is_begun (kind c) ≡ true
 
 module _ {A T V C R : Type 0} (o : Over A T V C R) where

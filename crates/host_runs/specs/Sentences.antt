@@ -10,8 +10,8 @@ use Rattle.crash_laws.specs.Headline.{HoldsPrefix}
 use Rattle.crash_laws.specs.PromiseRules.{Covers, CoversEntry, IsSettled, IsLaterKept}
 use Rattle.crash_laws.specs.Recovery.{IsRecovered}
 use Rattle.crash_laws.specs.Session.{Medium}
-use Rattle.host_machine.specs.Model.{is_durable}
 use Rattle.host_machine.specs.State.{Begun, Host}
+use Rattle.flush_actor.specs.Kinds.{is_durable}
 use Rattle.host_machine.specs.Views.{cut_of, tree_after}
 use Rattle.host_machine.specs.laws.Contract.{Over, noted_history, IsAlike, session}
 use Rattle.host_runs.specs.Promises.{call_of, IsAnswered}

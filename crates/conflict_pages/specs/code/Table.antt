@@ -1,6 +1,7 @@
--- What holds of the fields of a table of conflicts.
-use Rattle.std.specs.Prelude.{ℕ, ◌<◌, List}
+-- What holds of the fields of a table of conflicts, and of one of commit blocks.
+use Rattle.std.specs.Prelude.{ℕ, ◌<◌, ◌≤◌, List, length}
 use Rattle.blk_base.specs.Members.{In, IsAscending}
+use Rattle.conflict_pages.specs.declared.commits.CommitBlock.{CommitBlock}
 use Rattle.conflict_pages.specs.declared.held.Held.{Held}
 use Rattle.number_sets.specs.Sets.{IsRising}
 
@@ -12,3 +13,9 @@ pub record IsTable (blocks : ℕ) (held : List Held) (wanted : List ℕ) (held_r
   pub wanted_inside : (b : ℕ) → In b wanted → b < blocks
   pub reserved : blocks < held_room
   pub wanted_reserved : blocks < wanted_room
+
+-- what holds of the fields of a table of commit blocks: they rise by transaction, and there is room for all
+pub record IsCommitTable (room : ℕ) (commits : List CommitBlock) (capacity : ℕ) : Type 0 where
+  pub rising : IsAscending (λ (c : CommitBlock). c.transaction) commits
+  pub few : length commits ≤ room
+  pub reserved : room ≤ capacity

@@ -9,8 +9,10 @@ use Rattle.page_cache.specs.Pages.{IsRising}
 use Rattle.page_cache.specs.declared.cached_page.CachedPage.{CachedPage}
 use Rattle.crash_laws.specs.History.{History}
 use Rattle.crash_laws.specs.Session.{Session, image_of}
-use Rattle.host_machine.specs.Model.{Model, is_begun, FileBlock, Touched}
-use Rattle.host_machine.specs.State.{Entry, Plan, Phase, Idle, Closing, Committing, Host, Setup}
+use Rattle.host_machine.specs.Model.{Model, FileBlock, Touched}
+use Rattle.host_machine.specs.State.{Entry, Host, Setup}
+use Rattle.commit_actor.specs.Journal.{Plan, Phase, Idle, Closing, Committing}
+use Rattle.flush_actor.specs.Kinds.{is_begun}
 use Rattle.host_machine.specs.Views.{cut_of, tree_after, history_of, waits_for, session_of}
 use Rattle.host_machine.specs.laws.Facts.{View, Numbers, Present, Bodies, PlanRevokes, KeepsPlaces, PagesMapped, PagesSent, ZoneHistory, Altered, OnItsWay}
 use Rattle.host_machine.specs.laws.PlanNotes.{IsRestOf, BarrierAhead}

@@ -4,8 +4,8 @@ ghost use Rattle.order_model.specs.declared.completion.Completion.{Completion};
 ghost use Rattle.log_model.specs.Marks.{Transaction};
 ghost use Rattle.crash_laws.specs.Rules.{CommitOrder};
 ghost use Rattle.host_machine.specs.Host.{advance, commit_step, writeback, flush_step};
-ghost use Rattle.host_machine.specs.Model.{is_begun};
 ghost use Rattle.host_machine.specs.State.{Begun, Thread, Host};
+ghost use Rattle.flush_actor.specs.Kinds.{is_begun};
 ghost use Rattle.host_machine.specs.laws.Contract.{Over, Contract, StandsAs, KeepsImages, session};
 ghost use Rattle.host_machine.specs.laws.Rules.{Keeps};
 

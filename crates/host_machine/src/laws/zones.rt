@@ -4,7 +4,8 @@ ghost use Rattle.log_model.specs.Marks.{Transaction};
 ghost use Rattle.page_cache.specs.Pages.{page_at};
 ghost use Rattle.page_cache.specs.declared.cached_page.CachedPage.{CachedPage};
 ghost use Rattle.host_machine.specs.Host.{send_page};
-ghost use Rattle.host_machine.specs.State.{Host, is_submitted};
+ghost use Rattle.host_machine.specs.State.{Host};
+ghost use Rattle.commit_actor.specs.Journal.{is_submitted};
 ghost use Rattle.host_machine.specs.laws.Contract.{Over, Contract, StandsAs, noted_history, KeepsImages, session, view_of};
 ghost use Rattle.host_machine.specs.laws.Reuse.{ReusesFreed, OrderlessCommitted, FreedWait, Owned};
 

@@ -8,9 +8,10 @@ use Rattle.page_cache.specs.declared.cached_page.CachedPage.{CachedPage}
 use Rattle.crash_laws.specs.History.{History, Calm}
 use Rattle.crash_laws.specs.PromiseRules.{IsSuperseded, AreHeld, Covers, CoversEntry}
 use Rattle.crash_laws.specs.Session.{Session, HasNote, IsCommit}
-use Rattle.host_machine.specs.Host.{no_wait}
-use Rattle.host_machine.specs.Model.{is_data}
-use Rattle.host_machine.specs.State.{Begun, Wait, Thread}
+use Rattle.host_machine.specs.State.{Begun, Thread}
+use Rattle.flush_actor.specs.Kinds.{is_data}
+use Rattle.flush_actor.specs.Waits.{no_wait}
+use Rattle.flush_actor.specs.declared.wait.Wait.{Wait}
 use Rattle.host_runs.specs.Promises.{call_of}
 
 -- An ordered request of the page (f, i) with a version of at least n is submitted, at a good place.

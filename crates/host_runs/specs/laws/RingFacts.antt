@@ -15,7 +15,7 @@ use Rattle.crash_laws.specs.Session.{Session, HasNote, log_transaction, IsLog, I
 use Rattle.crash_laws.specs.Submitting.{IsCommitted}
 use Rattle.journal_ring.specs.LogRing.{LogRing}
 use Rattle.tx_running.specs.Plan.{Planned}
-use Rattle.host_machine.specs.State.{Plan, Phase, Idle, Closing, Committing}
+use Rattle.commit_actor.specs.Journal.{Plan, Phase, Idle, Closing, Committing}
 use Rattle.journal_ring.specs.laws.Homes.{IsRisingHomes, IsApart}
 
 -- The commit blocks of transactions 1 to N are submitted, and no others. The log blocks are of transactions up

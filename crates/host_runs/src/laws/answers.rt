@@ -2,7 +2,8 @@
 ghost use Rattle.std.specs.Prelude.{◌≡◌, ℕ, ◌+◌, ◌≤◌, Bool, List, length, slice_get, Option, Some};
 ghost use Rattle.host_machine.specs.Host.{advance};
 ghost use Rattle.host_machine.specs.Outcomes.{Done};
-ghost use Rattle.host_machine.specs.State.{Begun, Thread, Host, is_flush_note};
+ghost use Rattle.host_machine.specs.State.{Begun, Thread, Host};
+ghost use Rattle.flush_actor.specs.Part.{is_flush_note};
 ghost use Rattle.host_machine.specs.laws.Contract.{Over, Contract, StandsAs};
 ghost use Rattle.host_runs.specs.Promises.{IsAnswered};
 ghost use Rattle.host_runs.specs.Runs.{Event, steps, FitsWords, HasBlocks};

@@ -24,6 +24,6 @@ invariant_of-self c =
 pub returns : goal.returns
 returns c =
     let t = c.self.inside in
-    released_table t.blocks c.args.tx t.held.items c.end_holds.new.held.items t.wanted.items c.keep_held.new.blocks.items c.args.self.now c.end_holds.ensures.held
+    released_table t.blocks (λ k. k == c.args.tx) t.held.items c.end_holds.new.held.items t.wanted.items c.keep_held.new.blocks.items c.args.self.now c.end_holds.ensures.held
     (c.keep_held.ensures.blocks ∙ ap (λ (l : List Held). filter (λ b. list_any (λ (h : Held). h.block == b) l) t.wanted.items) c.deref.ensures.value)
     c.self.view_is

@@ -1,0 +1,12 @@
+use Rattle.std.proofs.Common.{◌<◌, vec_capacity, subst, sym, ap, length, arith}
+use Rattle.conflict_pages.proofs.CommitBlocks.{table_noted}
+use Rattle.conflict_pages.specs.Commits.{CommitTable}
+use Rattle.conflict_pages.specs.code.Table.{IsCommitTable}
+use Rattle.conflict_pages.proofs.commits.Commits.note.Goals as goal
+
+pub invariant_of-self : goal.invariant_of-self
+invariant_of-self c =
+    let t = c.self.inside in
+    let less : length t.commits.items < t.room = subst (λ (x : CommitTable). length x.commits < x.room) (sym c.self.view_is) c.requires in
+    subst (λ n. IsCommitTable t.room c.put_commit.new.commits.items n) (sym c.put_commit.ensures.capacity)
+    (table_noted t.room t.commits.items c.put_commit.new.commits.items (vec_capacity t.commits) c.args.tx c.args.id c.self.invariant less c.put_commit.ensures.commits)
