@@ -1,3 +1,4 @@
--- Laws of conflicts.
+-- Laws of conflicts, and of commit blocks.
 pub mod Holds
 pub mod Wants
+pub mod CommitBlocks

@@ -1,8 +1,10 @@
-//! Laws of conflicts. Each does nothing when it is called.
-ghost use Rattle.std.specs.Prelude.{◌≡◌, ◌≢◌, ◌↔◌, ◌⊎◌, ℕ, ◌≤◌, true, Some, None, List, [], ◌∷◌};
+//! Laws of conflicts and of commit blocks. Each does nothing when it is called.
+ghost use Rattle.std.specs.Prelude.{◌≡◌, ◌≢◌, ◌↔◌, ◌⊎◌, ℕ, ◌≤◌, ◌==◌, ◌&&◌, ◌||◌, nat_lt, true, Some, None, List, [], ◌∷◌};
 ghost use Rattle.blk_base.specs.Members.{In};
 ghost use Rattle.conflict_pages.specs.Calls.{ConflictCall, after, nothing_held, IsSound};
+ghost use Rattle.conflict_pages.specs.Commits.{is_committed, with_commit};
 ghost use Rattle.conflict_pages.specs.Conflicts.{Conflicts, is_held, holder, hold, want, unhold, least};
+ghost use Rattle.conflict_pages.specs.declared.commits.CommitBlock.{CommitBlock};
 ghost use Rattle.conflict_pages.specs.declared.held.Held.{Held};
 
 /// A law, which does nothing when it is called: after any calls on a table of which nothing was held, each block has
@@ -29,4 +31,11 @@ pub fn wanted_blocks_are_held()
     ensures least { (c : Conflicts) (b : ℕ) → IsSound c → least c ≡ Some b →
         In b c.wanted × ((x : ℕ) → In x c.wanted → b ≤ x) }
     ensures clear { (c : Conflicts) → (least c ≡ None) ↔ (c.wanted ≡ []) }
+{}
+
+/// A law, which does nothing when it is called: where one more commit block is known, behind all others, its transaction
+/// has it if it had none, and each other transaction has what it had.
+pub fn first_commit_blocks_count()
+    ensures { (cs : List CommitBlock) (k id n j : ℕ) → ((c : CommitBlock) → In c cs → c.id ≤ id) →
+        is_committed n j (with_commit k id cs) ≡ (is_committed n j cs || (k == j && nat_lt id n)) }
 {}

@@ -20,4 +20,4 @@ mod tests;
 pub use commits::{CommitBlock, Commits};
 pub use conflicts::Conflicts;
 pub use held::Held;
-pub use laws::{blocks_have_one_holder, wanted_blocks_are_held};
+pub use laws::{blocks_have_one_holder, first_commit_blocks_count, wanted_blocks_are_held};

@@ -1,0 +1,4 @@
+mod Notes
+mod Completions
+mod Waiting
+mod Holds

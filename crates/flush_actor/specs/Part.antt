@@ -30,8 +30,11 @@ first_failed (completions.Failed id ∷ cs) = Some id
 first_failed (c ∷ cs) = first_failed cs
 
 -- after a Cut or Failed nothing more is submitted
+abbrev pub has_stopped : List Completion → Bool
+has_stopped taken = list_any is_cut taken || elim (first_failed taken) as (λ _. Bool) [ None ↦ false | Some id ↦ true ]
+
 abbrev pub is_over : FlushPart → Bool
-is_over f = list_any is_cut f.taken || elim (first_failed f.taken) as (λ _. Bool) [ None ↦ false | Some id ↦ true ]
+is_over f = has_stopped f.taken
 
 abbrev pub at_limit : FlushPart → Bool
 at_limit f = nat_le f.limit (length f.requests)

@@ -20,8 +20,11 @@ commits_before k id i (notes.Commit t ∷ ns) = (t == k && nat_lt i id) || commi
 commits_before k id i (n ∷ ns) = commits_before k id (i + 1) ns
 
 -- a call needs a request durable whose completion was taken, and no flush behind it is submitted
+abbrev pub is_due_in : List Note → List Completion → Wait → Bool
+is_due_in notes taken w = elim w.need as (λ _. Bool) [ None ↦ false | Some id ↦ list_any (is_moved id) taken && not (flush_above id 0 notes) ]
+
 abbrev pub is_due : FlushPart → Wait → Bool
-is_due f w = elim w.need as (λ _. Bool) [ None ↦ false | Some id ↦ list_any (is_moved id) f.taken && not (flush_above id 0 f.notes) ]
+is_due f = is_due_in f.notes f.taken
 
 abbrev pub flush_due : FlushPart → Bool
 flush_due f = not (is_over f) && list_any (is_due f) f.waits
