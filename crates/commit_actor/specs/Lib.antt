@@ -1,1 +1,4 @@
 pub mod Journal
+pub mod Steps
+pub mod Actor
+pub mod code

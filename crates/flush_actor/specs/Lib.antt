@@ -1,7 +1,7 @@
 pub mod Kinds
 pub mod Waits
 pub mod Part
-pub mod Steps
 pub mod Outcomes
+pub mod Steps
 pub mod Actor
 pub mod code

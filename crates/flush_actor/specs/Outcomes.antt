@@ -9,6 +9,10 @@ abbrev pub is_queue_full : Turn → Bool
 is_queue_full turns.QueueFull = true
 is_queue_full other = false
 
+abbrev pub is_did : Turn → Bool
+is_did turns.Did = true
+is_did other = false
+
 -- what was submitted between two states
 abbrev pub sent_between : FlushPart → FlushPart → List Request
 sent_between old new = drop (length old.requests) new.requests

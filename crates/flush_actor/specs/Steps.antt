@@ -6,9 +6,11 @@ use Rattle.order_model.specs.declared.completion.Completion.{Completion}
 use Rattle.order_model.specs.declared.note.Note.TheVariants as notes
 use Rattle.order_model.specs.declared.note.Note.{Note}
 use Rattle.order_model.specs.declared.request.Kind.TheVariants as puts
+use Rattle.order_model.specs.declared.request.Request.{Request}
 use Rattle.order_model.specs.declared.turn.Turn.TheVariants as turns
 use Rattle.order_model.specs.declared.turn.Turn.{Turn}
 use Rattle.conflict_pages.specs.Conflicts.{Conflicts, unhold, unhold_by}
+use Rattle.flush_actor.specs.Outcomes.{is_did}
 use Rattle.flush_actor.specs.Part.{FlushPart, is_over, at_limit, is_moved, flush_above, submit}
 use Rattle.flush_actor.specs.Waits.{awaits}
 use Rattle.flush_actor.specs.declared.wait.Wait.{Wait}
@@ -51,6 +53,13 @@ take_completion c f = record f { taken = f.taken ++ c ∷ []; conflicts = after_
 pub record FlushTurn : Type 0 where
   pub part : FlushPart
   pub turn : Turn
+
+-- what one answers that submits, and the part after it
+abbrev pub submit_turn : Bool → FlushPart → Turn
+submit_turn full f = if at_limit f then turns.SessionFull else if full then turns.QueueFull else turns.Did
+
+abbrev pub after_submit : Turn → Request → Note → FlushPart → FlushPart
+after_submit t r n f = if is_did t then submit r n f else f
 
 -- one that submits; `out` is the part after it
 abbrev pub submits : Bool → FlushPart → FlushPart → FlushTurn

@@ -7,9 +7,9 @@ ghost use Rattle.conflict_pages.specs.Conflicts as holds;
 ghost use Rattle.conflict_pages.specs.Conflicts.{least, holder};
 ghost use Rattle.flush_actor.specs.Actor.{made, with_part, with_conflicts};
 ghost use Rattle.flush_actor.specs.Outcomes.{is_queue_full, sent_between};
-ghost use Rattle.flush_actor.specs.Part.{is_cut, first_failed, is_over, at_limit, is_flushed_after, flush_above, last_put, submit};
+ghost use Rattle.flush_actor.specs.Part.{is_cut, first_failed, is_over, at_limit, is_flushed_after, flush_above, last_put};
 ghost use Rattle.blk_base.specs.Members.{In};
-ghost use Rattle.flush_actor.specs.Steps.{submits, is_due_in, flush_due, after_moved, after_completion, take_completion};
+ghost use Rattle.flush_actor.specs.Steps.{submit_turn, after_submit, is_due_in, flush_due, after_moved, after_completion, take_completion};
 ghost use Rattle.flush_actor.specs.declared.wait.Wait.{Wait};
 ghost use Rattle.flush_actor.specs.Waits.{need_commit};
 
@@ -123,9 +123,9 @@ impl FlushPart {
         note: Note,
         out: &mut O,
     ) -> Turn
-        ensures step { record { part = self.new.part; turn = result } ≡ submits (is_queue_full result) self.old.part
-            (submit (record { id = length self.old.part.requests; kind = kind; ordered = ordered; barrier = barrier }) note self.old.part) }
-        ensures blocks { self.new.blocks ≡ self.old.blocks }
+        ensures turn { result ≡ submit_turn (is_queue_full result) self.old.part }
+        ensures part { self.new ≡ with_part self.old (after_submit result
+            (record { id = length self.old.part.requests; kind = kind; ordered = ordered; barrier = barrier }) note self.old.part) }
         ensures sent { O.sent out.new ≡ O.sent out.old ++ sent_between self.old.part self.new.part }
         ensures full { result ≡ QueueFull → O.was_full out.old out.new }
         ensures rest { O.rest out.new ≡ O.rest out.old }

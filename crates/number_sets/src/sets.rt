@@ -12,6 +12,14 @@ pub fn has_u32(numbers: &[u32], number: u32) -> bool
     place_u32(numbers, number).is_ok()
 }
 
+/// Whether a number is there. It takes as many steps as the length has binary digits.
+pub fn has_u64(numbers: &[u64], number: u64) -> bool
+    requires { IsRising numbers.now }
+    ensures { result ≡ has numbers.now number }
+{
+    place_u64(numbers, number).is_ok()
+}
+
 /// Adds a number, if it is not there. It takes no memory, and moves those that are higher.
 pub fn add_u32(numbers: &mut Vec<u32>, number: u32)
     requires rising { IsRising numbers.old.items }

@@ -26,4 +26,5 @@ fn adds_long_numbers(rt: HostRuntime) {
     add_u64(&mut births, 8_589_934_593);
     add_u64(&mut births, 1);
     assert!(rt; births.as_slice() == [1, 8_589_934_593].as_slice());
+    assert_eq!(rt; (has_u64(&births, 1), has_u64(&births, 2)), (true, false));
 }

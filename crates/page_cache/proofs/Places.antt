@@ -1,10 +1,10 @@
 -- Places in a list of pages that stand in order.
 use Rattle.std.proofs.Common.{◌≡◌, ℕ, zero, suc, ◌+◌, ◌<◌, ◌≤◌, ◌==◌, ◌⊎◌, ◌&&◌, Bool, true, false, not, cond, nat_lt, if◌then◌else◌, List, [], ◌∷◌, length, get_or, slice_set, Option, Some, None, refl, sym, ap, ◌∙◌, inl, inr, ⊎_elim, arith, eqb-true, eq-eqb}
-use Rattle.std.specs.List.{slice_get, insert, remove}
+use Rattle.std.specs.List.{slice_get, find, insert, remove}
 use Rattle.std.specs.List.Sorted.{IsPartitionedBy, IsPartitionPoint}
 use Rattle.std.proofs.Math.Path.{ap₂}
 use Rattle.std.proofs.lemmas.Bool.{cases_eq, cases_lt, cases_Bool, false≢true, true≢false, and_from, and_parts, or_cases, or_left, or_right, ltb-true, lt-ltb}
-use Rattle.std.proofs.lemmas.Option.{slice_get-get_or, slice_get_past}
+use Rattle.std.proofs.lemmas.Option.{slice_get-get_or, slice_get_past, none-some, same_Some}
 use Rattle.std.proofs.lemmas.List.{get_or_default}
 use Rattle.std.proofs.lemmas.List.Sums.{position_or_len_is}
 use Rattle.std.proofs.lemmas.List.Folds.{find_at}
@@ -364,3 +364,13 @@ pub nothing_next : (ps : List CachedPage) (f from : ℕ) → next_unsent ps f fr
 nothing_next ps f from e =
     (next_in_file_none ps f from).1
     (λ q i u b. ⊎_elim (λ lt. absurd (omega arith)) (λ h. h.1) (before_by q f from ((next_none ps f from).0 e q i u)))
+
+-- ---- what is found
+
+pub found_is_there : (test : CachedPage → Bool) (ps : List CachedPage) (p : CachedPage) → find test ps ≡ Some p → In p ps
+found_is_there test [] p e = absurd (none-some p e)
+found_is_there test (x ∷ ps) p e = by (test x) e (found_is_there test ps p)
+  where
+    by : (t : Bool) → cond t (Some x) (find test ps) ≡ Some p → (find test ps ≡ Some p → In p ps) → In p (x ∷ ps)
+    by true d rest = inl (same_Some x p d)
+    by false d rest = inr (rest d)

@@ -2,6 +2,7 @@
 use Rattle.std.specs.Prelude.{◌≡◌, ℕ, ◌<◌, ◌==◌, ◌⊎◌, ⊤, nat_lt, nat_le, Bool, true, false, not, ◌&&◌, ◌||◌, if◌then◌else◌, List, [], ◌∷◌, Option, Some, None}
 use Rattle.std.specs.List.{filter, find, slice_get}
 use Rattle.blk_base.specs.Members.{In}
+use Rattle.number_sets.specs.Sets.{has}
 use Rattle.page_cache.specs.declared.cached_page.CachedPage.{CachedPage}
 use Rattle.page_cache.specs.declared.cached_page.PageState.{PageState}
 use Rattle.page_cache.specs.declared.cached_page.PageState.TheVariants as page_states
@@ -74,6 +75,10 @@ next_unsent ps f from = find (λ p. is_unsent p.state && not (is_before p f from
 -- the first unsent page of a file, from an index on
 abbrev pub next_in_file : List CachedPage → ℕ → ℕ → Option CachedPage
 next_in_file ps f from = find (λ p. is_unsent p.state && (p.birth == f && nat_le from p.index)) ps
+
+-- the first unsent page, in order, of one of the files with these births
+abbrev pub unsent_of : List CachedPage → List ℕ → Option CachedPage
+unsent_of ps births = find (λ p. is_unsent p.state && has births p.birth) ps
 
 -- the Dirty page number `pick`, in order
 abbrev pub dirty_page : List CachedPage → ℕ → Option CachedPage

@@ -5,7 +5,7 @@
 //!
 //! `pages` has the cache, `cached_page` what it keeps of a page, and `laws` what its list of pages says as a map.
 //!
-//! Stands on `blk_base`, whose `Block` has the bytes of a page.
+//! Stands on `blk_base`, whose `Block` has the bytes of a page, and on `number_sets`.
 #![tactic(auto)]
 
 mod cached_page;

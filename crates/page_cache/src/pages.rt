@@ -1,11 +1,12 @@
 //! The cache of pages.
-ghost use Rattle.std.specs.Prelude.{◌≡◌, ◌≢◌, ◌↔◌, IfOk, OnErr, IsErr, None, [], length};
+ghost use Rattle.std.specs.Prelude.{◌≡◌, ◌≢◌, ◌↔◌, IfOk, OnErr, IsErr, Some, None, [], length};
 ghost use Rattle.std.specs.Option.{option_copied, option_map};
 ghost use Rattle.page_cache.specs.declared.cached_page.CachedPage.{CachedPage};
 ghost use Rattle.page_cache.specs.declared.cached_page.PageState.TheVariants as page_states;
-ghost use Rattle.page_cache.specs.Pages.{Cache, with_pages, page_at, put_page, drop_page, mark_page, next_in_file, next_unsent, dirty_page, key_of};
+ghost use Rattle.page_cache.specs.Pages.{Cache, with_pages, page_at, put_page, drop_page, mark_page, next_in_file, next_unsent, unsent_of, dirty_page, key_of};
+ghost use Rattle.number_sets.specs.Sets as sets;
 
-use crate::search::{dirty_page, find, first_unsent};
+use crate::search::{dirty_page, find, first_unsent, unsent_of};
 use crate::{CachedPage, PageState};
 use blk_base::{Block, NoMemory};
 use std::alloc::Global;
@@ -147,6 +148,15 @@ impl Pages {
     {
         let page = first_unsent(&self.pages, birth, from)?;
         Some((page.birth, page.index))
+    }
+
+    /// The first page, in order, of one of the files with these births that is not sent, or was sent without order.
+    pub fn unsent_of(&self, births: &[u64]) -> Option<&CachedPage>
+        requires { sets.IsRising births.now }
+        ensures page { option_copied result ≡ unsent_of self.now.pages births.now }
+        ensures found { (p : CachedPage) → unsent_of self.now.pages births.now ≡ Some p → page_at self.now.pages p.birth p.index ≡ Some p }
+    {
+        unsent_of(&self.pages, births)
     }
 
     /// The Dirty page number `pick`, in order, as its birth and index.

@@ -3,11 +3,13 @@ ghost use Rattle.std.specs.Prelude.{◌≡◌, ◌≤◌, ◌<◌, IfOk, IfErr, 
 ghost use Rattle.std.specs.List.{insert, remove};
 ghost use Rattle.std.specs.Option.{option_copied};
 ghost use Rattle.page_cache.specs.declared.cached_page.CachedPage.{CachedPage};
-ghost use Rattle.page_cache.specs.Pages.{page_at, put_page, drop_page, next_unsent, dirty_page, IsRising};
+ghost use Rattle.page_cache.specs.Pages.{page_at, put_page, drop_page, next_unsent, unsent_of, dirty_page, IsRising};
+ghost use Rattle.number_sets.specs.Sets as sets;
 ghost use Rattle.page_cache.specs.code.Pages.{place_of};
 
 use crate::CachedPage;
 use crate::cached_page::{is_before, is_dirty, is_page, is_unsent};
+use number_sets::has_u64;
 
 // How many pages stand before that one.
 fn place_of(pages: &[CachedPage], birth: u64, index: u32) -> usize
@@ -45,6 +47,19 @@ pub fn first_unsent(pages: &[CachedPage], birth: u64, from: u32) -> Option<&Cach
     for at in start..pages.len() {
         if is_unsent(pages[at].state) {
             return Some(&pages[at]);
+        }
+    }
+    None
+}
+
+// The first unsent page of one of these files.
+pub fn unsent_of<'a>(pages: &'a [CachedPage], births: &[u64]) -> Option<&'a CachedPage>
+    requires { sets.IsRising births.now }
+    ensures { option_copied result ≡ unsent_of pages.now births.now }
+{
+    for page in pages {
+        if is_unsent(page.state) && has_u64(births, page.birth) {
+            return Some(page);
         }
     }
     None

@@ -70,4 +70,7 @@ fn finds_what_is_left_to_send(rt: HostRuntime) {
         (Some((7, 3)), None)
     );
     assert_eq!(rt; pages.dirty(0), None);
+    let found = pages.unsent_of(&[2, 7, 9]).map(|page| page.index);
+    assert_eq!(rt; found, Some(3));
+    assert!(rt; pages.unsent_of(&[2, 9]).is_none());
 }

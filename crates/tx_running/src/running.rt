@@ -1,6 +1,7 @@
 //! The running transaction.
 ghost use Rattle.std.specs.Prelude.{◌≡◌, ◌≢◌, ◌+◌, ◌<◌, ◌^◌, true, IfOk, OnErr, slice_get};
 ghost use Rattle.journal_blocks.specs.Super.{IsSound};
+ghost use Rattle.number_sets.specs.Sets.{IsRising};
 ghost use Rattle.tx_running.specs.Closing.{writers, logged_of, unplaced_blocks};
 ghost use Rattle.tx_running.specs.Open.{made, reserved, noted, with_running, quota, sequence_of};
 ghost use Rattle.tx_running.specs.Running.{fresh, log_blocks_for, log_needs, fits_in, touched_one, revoked_one, changed_one, wanted_one};
@@ -170,6 +171,14 @@ impl Running {
         ensures { result ≡ slice_get self.now.running.changed at }
     {
         self.changed.get(at as usize).copied()
+    }
+
+    /// The births of all nodes that it changed.
+    pub fn changed_births(&self) -> &[u64]
+        ensures births { result.now ≡ self.now.running.changed }
+        ensures rising { IsRising result.now }
+    {
+        &self.changed
     }
 
     /// Closes it: its log blocks are built, with the present bodies of `bodies`, and the next transaction runs.

@@ -1,0 +1,72 @@
+-- The commit actor of one journal.
+use Rattle.std.specs.Prelude.{◌≡◌, ℕ, ◌+◌, Bool, true, false, not, ◌&&◌, nat_lt, nat_le, List, [], ◌∷◌, length, is_none, if◌then◌else◌}
+use Rattle.order_model.specs.declared.turn.Turn.{Turn}
+use Rattle.page_cache.specs.Pages.{unsent_of}
+use Rattle.page_cache.specs.declared.cached_page.CachedPage.{CachedPage}
+use Rattle.journal_blocks.specs.declared.super_block.JournalSuper.{JournalSuper}
+use Rattle.journal_ring.specs.Journal.{JournalRing}
+use Rattle.journal_ring.specs.LogRing.{LogRing, ring_free}
+use Rattle.tx_running.specs.Running.{Running, fresh, log_needs}
+use Rattle.flush_actor.specs.Actor as flush
+use Rattle.flush_actor.specs.Outcomes.{is_did}
+use Rattle.flush_actor.specs.Part.{FlushPart, is_over}
+use Rattle.commit_actor.specs.Journal.{Phase, Idle, JournalPart, is_closing}
+
+-- the part without its phase, with the superblock that the journal was made from and its block, how many blocks there
+-- are, and for how many notes of the running transaction there is room
+pub record LogState : Type 0 where
+  pub made_with : JournalSuper
+  pub journal : ℕ
+  pub blocks : ℕ
+  pub spare : ℕ
+  pub flush : FlushPart
+  pub ring : LogRing
+  pub running : Running
+
+-- the same with the whole part
+pub record CommitActor : Type 0 where
+  pub made_with : JournalSuper
+  pub journal : ℕ
+  pub blocks : ℕ
+  pub spare : ℕ
+  pub part : JournalPart
+
+abbrev pub with_part : CommitActor → JournalPart → CommitActor
+with_part a j = record { made_with = a.made_with; journal = a.journal; blocks = a.blocks; spare = a.spare; part = j }
+
+-- ---- the part without its phase
+
+abbrev pub part_of : LogState → Phase → JournalPart
+part_of l p = record { flush = l.flush; ring = l.ring; running = l.running; phase = p }
+
+abbrev pub with_parts : LogState → JournalPart → LogState
+with_parts l j = record { made_with = l.made_with; journal = l.journal; blocks = l.blocks; spare = l.spare; flush = j.flush; ring = j.ring; running = j.running }
+
+abbrev pub actor_of : LogState → Phase → CommitActor
+actor_of l p = record { made_with = l.made_with; journal = l.journal; blocks = l.blocks; spare = l.spare; part = part_of l p }
+
+-- what a step leaves where it did something, and else
+abbrev pub if_did : {X : Type 0} → Turn → X → X → X
+if_did t x y = if is_did t then x else y
+
+-- ---- calls
+
+-- nothing was submitted
+abbrev pub made_log : JournalRing → ℕ → ℕ → ℕ → LogState
+made_log r journal blocks threads = record {
+  made_with = r.made_with;
+  journal = journal;
+  blocks = blocks;
+  spare = 0;
+  flush = (flush.made r.limit blocks threads).part;
+  ring = r.ring;
+  running = fresh 1;
+}
+
+abbrev pub made : JournalRing → ℕ → ℕ → ℕ → CommitActor
+made r journal blocks threads = actor_of (made_log r journal blocks threads) Idle
+
+-- its step builds a plan
+abbrev pub builds_plan : JournalPart → List CachedPage → Bool
+builds_plan j ps =
+    not (is_over j.flush) && (is_closing j.phase && (is_none (unsent_of ps j.running.changed) && not (nat_lt (ring_free j.ring) (log_needs j.running))))

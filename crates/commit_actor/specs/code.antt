@@ -1,0 +1,3 @@
+-- What the code keeps of its own fields.
+pub mod Sending
+pub mod Fields

@@ -1,0 +1,274 @@
+//! The journal's part of the host.
+ghost use Rattle.std.specs.Prelude.{◌≡◌, ◌≢◌, ◌==◌, ◌+◌, ◌≤◌, ◌<◌, ◌^◌, ◌++◌, ◌∷◌, [], true, false, nat_lt, Some, None, ℕ, List, IfOk, IfSome, IfNone, length};
+ghost use Rattle.order_model.specs.declared.turn.Turn.TheVariants as turns;
+ghost use Rattle.log_model.specs.Ring.{IsPlace};
+ghost use Rattle.page_cache.specs.Pages.{with_pages, unsent_of};
+ghost use Rattle.page_cache.specs.declared.cached_page.CachedPage.{CachedPage};
+ghost use Rattle.std.specs.List.{list_any};
+ghost use Rattle.journal_blocks.specs.Super.{IsSound};
+ghost use Rattle.journal_ring.specs.Journal as new_ring;
+ghost use Rattle.journal_ring.specs.LogRing.{ring_free};
+ghost use Rattle.tx_running.specs.Closing.{writers};
+ghost use Rattle.tx_running.specs.Running.{log_needs};
+ghost use Rattle.flush_actor.specs.Steps.{submit_turn};
+ghost use Rattle.flush_actor.specs.Outcomes.{is_queue_full, sent_between};
+ghost use Rattle.commit_actor.specs.Actor.{made, with_part, with_parts, part_of, builds_plan};
+ghost use Rattle.commit_actor.specs.Journal as model;
+ghost use Rattle.commit_actor.specs.Steps.{idle_turn, plan_turn, close_turn, commit_turn, planned_done};
+ghost use Rattle.commit_actor.specs.code.Fields.{IsAtRest, IsInPhase, IsOnItsWay, phase_of};
+ghost use Rattle.commit_actor.specs.code.Sending.{plan_left, rest_of};
+ghost use Rattle.commit_actor.specs.declared.phase.Phase.TheVariants as phases;
+
+use crate::log::{Log, did};
+use crate::phase::Phase;
+use crate::sending::Sending;
+use blk_base::{BodySource, NoMemory};
+use flush_actor::FlushPart;
+use journal_ring::Ring;
+use order_model::{Outlet, Request, Turn};
+use page_cache::{PageState, Pages};
+use std::alloc::Global;
+use std::marker::Model;
+use std::mem;
+use tx_running::Running;
+
+/// What was submitted, the ring of the log, the running transaction, and how far it is closed. Only a step that builds a
+/// plan takes memory, and `reserve`.
+#[derive(Drop)]
+pub struct JournalPart {
+    log: Log,
+    phase: Phase,
+}
+
+impl Model for JournalPart {
+    ghost use Rattle.commit_actor.specs.Actor.{CommitActor, actor_of};
+    ghost use Rattle.commit_actor.specs.code.Fields.{IsInPhase, phase_of};
+
+    ghost Value = { CommitActor };
+
+    ghost view = { λ j. actor_of j.log (phase_of j.log j.phase) };
+
+    ghost invariant = { λ j. IsInPhase j.log j.phase };
+}
+
+impl JournalPart {
+    /// The part of a session that may submit `limit` requests, of a volume with so many blocks, whose journal's superblock
+    /// stands at block `journal`. The ring is one of an empty log.
+    pub fn make(
+        alloc: Global,
+        ring: Ring,
+        limit: u64,
+        journal: u32,
+        blocks: u32,
+        threads: u32,
+    ) -> Result<JournalPart, NoMemory>
+        requires ring { ring ≡ new_ring.made ring.made_with limit }
+        requires sound { IsSound ring.made_with }
+        requires empty { ring.made_with.start ≡ 0 }
+        requires first { ring.made_with.first ≡ 1 }
+        requires places { journal + ring.made_with.maxlen ≤ 2 ^ 32 }
+        requires sequences { ring.made_with.sequence + limit + 1 < 2 ^ 32 }
+        ensures { IfOk result (λ j. j ≡ made ring journal blocks threads) }
+    {
+        Ok(JournalPart {
+            log: Log::make(alloc, ring, limit, journal, blocks, threads)?,
+            phase: Phase::Idle,
+        })
+    }
+
+    /// What was submitted and completed.
+    pub fn flush(&self) -> &FlushPart
+        ensures { result.now ≡ record { blocks = self.now.blocks; part = self.now.part.flush } }
+    {
+        self.log.flush()
+    }
+
+    /// The running transaction.
+    pub fn running(&self) -> &Running
+        ensures { result.now ≡ record { made_with = self.now.made_with; spare = self.now.spare; running = self.now.part.running } }
+    {
+        self.log.running()
+    }
+
+    /// Whether the running transaction is being closed.
+    pub fn is_closing(&self) -> bool
+        ensures { result ≡ model.is_closing self.now.part.phase }
+    {
+        matches!(self.phase, Phase::Closing)
+    }
+
+    /// Whether the commit block of a transaction was submitted.
+    pub fn is_submitted(&self, tx: u64) -> bool
+        ensures { result ≡ model.is_submitted self.now.part tx }
+    {
+        let number = self.log.running().number();
+        match &self.phase {
+            Phase::Committing(_) => tx < number - 1,
+            Phase::Idle | Phase::Closing => tx < number,
+        }
+    }
+
+    /// The latest transaction whose commit block was not submitted and that changed the node with this birth.
+    pub fn latest_change(&self, birth: u64) -> Option<u64>
+        ensures { result ≡ model.latest_change self.now.part birth }
+    {
+        let running = self.log.running();
+        if has(running.changed_births(), birth) {
+            return Some(running.number());
+        }
+        match &self.phase {
+            Phase::Committing(sending) if has(&sending.changed, birth) => {
+                Some(running.number() - 1)
+            }
+            _ => None,
+        }
+    }
+
+    // One step.
+    pub fn step<B: BodySource, O: Outlet<Request>>(
+        &mut self,
+        alloc: Global,
+        pages: &mut Pages,
+        bodies: &B,
+        out: &mut O,
+    ) -> Turn
+        ensures step { result ≢ turns.NoMemory → record { part = self.new.part; pages = pages.new.pages; turn = result } ≡
+            commit_turn (writers self.old.made_with) self.old.journal self.old.made_with.sequence (is_queue_full result) (B.bodies bodies.now) self.old.part pages.old.pages }
+        ensures memory { result ≡ turns.NoMemory → (builds_plan self.old.part pages.old.pages ≡ true) × (self.new ≡ self.old) × (pages.new ≡ pages.old) }
+        ensures same { self.new ≡ with_part self.old self.new.part }
+        ensures pages { pages.new ≡ with_pages pages.old pages.new.pages }
+        ensures sent { O.sent out.new ≡ O.sent out.old ++ sent_between self.old.part.flush self.new.part.flush }
+        ensures full { result ≡ turns.QueueFull → O.was_full out.old out.new }
+        ensures rest { O.rest out.new ≡ O.rest out.old }
+    {
+        if self.log.is_over() {
+            return Turn::Idle;
+        }
+        match mem::replace(&mut self.phase, Phase::Idle) {
+            Phase::Idle => {
+                if !self.log.is_due() {
+                    return Turn::Idle;
+                }
+                self.phase = Phase::Closing;
+                Turn::Did
+            }
+            Phase::Closing => {
+                let (phase, turn) = close(&mut self.log, alloc, pages, bodies, out);
+                self.phase = phase;
+                turn
+            }
+            Phase::Committing(sending) => {
+                let (phase, turn) = send_planned(&mut self.log, sending, out);
+                self.phase = phase;
+                turn
+            }
+        }
+    }
+}
+
+// Whether a birth is among these.
+fn has(births: &[u64], birth: u64) -> bool
+    ensures { result ≡ list_any (λ g. g == birth) births.now }
+{
+    births.contains(&birth)
+}
+
+// Sends a page of a changed file, or does a step of the checkpoint, or builds the plan.
+fn close<B: BodySource, O: Outlet<Request>>(
+    log: &mut Log,
+    alloc: Global,
+    pages: &mut Pages,
+    bodies: &B,
+    out: &mut O,
+) -> (Phase, Turn)
+    requires { IsAtRest log.old }
+    ensures step { result.1 ≢ turns.NoMemory → record { part = part_of log.new (phase_of log.new result.0); pages = pages.new.pages; turn = result.1 } ≡
+        close_turn (writers log.old.made_with) log.old.journal log.old.made_with.sequence (is_queue_full result.1) (B.bodies bodies.now) (part_of log.old model.Closing) pages.old.pages }
+    ensures memory { result.1 ≡ turns.NoMemory → (unsent_of pages.old.pages log.old.running.changed ≡ None) × (nat_lt (ring_free log.old.ring) (log_needs log.old.running) ≡ false) ×
+        (log.new ≡ log.old) × (phase_of log.new result.0 ≡ model.Closing) × (pages.new ≡ pages.old) }
+    ensures same { log.new ≡ with_parts log.old (part_of log.new model.Closing) }
+    ensures phase { IsInPhase log.new result.0 }
+    ensures pages { pages.new ≡ with_pages pages.old pages.new.pages }
+    ensures sent { O.sent out.new ≡ O.sent out.old ++ sent_between log.old.flush log.new.flush }
+    ensures full { result.1 ≡ turns.QueueFull → O.was_full out.old out.new }
+    ensures rest { O.rest out.new ≡ O.rest out.old }
+{
+    if let Some(turn) = send_changed(log, pages, out) {
+        return (Phase::Closing, turn);
+    }
+    if log.is_short() {
+        return (Phase::Closing, log.checkpoint(out));
+    }
+    match log.build(alloc, bodies) {
+        Ok(sending) => (Phase::Committing(sending), Turn::Did),
+        Err(_) => (Phase::Closing, Turn::NoMemory),
+    }
+}
+
+// Sends a page of a changed file, if one is to be sent.
+fn send_changed<O: Outlet<Request>>(log: &mut Log, pages: &mut Pages, out: &mut O) -> Option<Turn>
+    ensures none { IfNone result ((unsent_of pages.old.pages log.old.running.changed ≡ None) × (log.new ≡ log.old) × (pages.new ≡ pages.old) × (out.new ≡ out.old)) }
+    ensures step { IfSome result (λ t. (bodies : ℕ → List ℕ) → record { part = part_of log.new model.Closing; pages = pages.new.pages; turn = t } ≡
+        close_turn (writers log.old.made_with) log.old.journal log.old.made_with.sequence (is_queue_full t) bodies (part_of log.old model.Closing) pages.old.pages) }
+    ensures turn { IfSome result (λ t. t ≡ submit_turn (is_queue_full t) log.old.flush) }
+    ensures same { log.new ≡ with_parts log.old (part_of log.new model.Closing) }
+    ensures phase { IsAtRest log.old → IsAtRest log.new }
+    ensures pages { pages.new ≡ with_pages pages.old pages.new.pages }
+    ensures sent { O.sent out.new ≡ O.sent out.old ++ sent_between log.old.flush log.new.flush }
+    ensures full { result ≡ Some turns.QueueFull → O.was_full out.old out.new }
+    ensures rest { O.rest out.new ≡ O.rest out.old }
+{
+    let page = pages.unsent_of(log.changed_births())?;
+    let (birth, index) = (page.birth, page.index);
+    let turn = log.send_page(page, out);
+    if did(turn) {
+        pages.mark(birth, index, PageState::Firm);
+    }
+    Some(turn)
+}
+
+// Submits the next request of a plan.
+fn send_planned<O: Outlet<Request>>(log: &mut Log, sending: Sending, out: &mut O) -> (Phase, Turn)
+    requires { IsOnItsWay log.old sending }
+    ensures memory { result.1 ≢ turns.NoMemory }
+    ensures step { (ps : List CachedPage) → record { part = part_of log.new (phase_of log.new result.0); pages = ps; turn = result.1 } ≡
+        plan_turn (is_queue_full result.1) (part_of log.old (model.Committing (plan_left log.old.journal log.old.made_with log.old.ring.places sending))) ps
+        (plan_left log.old.journal log.old.made_with log.old.ring.places sending) }
+    ensures same { log.new ≡ with_parts log.old (part_of log.new model.Closing) }
+    ensures phase { IsInPhase log.new result.0 }
+    ensures sent { O.sent out.new ≡ O.sent out.old ++ sent_between log.old.flush log.new.flush }
+    ensures full { result.1 ≡ turns.QueueFull → O.was_full out.old out.new }
+    ensures rest { O.rest out.new ≡ O.rest out.old }
+{
+    let Some(put) = log.next_put(&sending) else {
+        return (Phase::Committing(sending), Turn::Idle);
+    };
+    let turn = log.send_planned(put, out);
+    if !did(turn) {
+        return (Phase::Committing(sending), turn);
+    }
+    (planned_sent(log, sending), turn)
+}
+
+// The first request of a plan was submitted.
+fn planned_sent(log: &mut Log, sending: Sending) -> Phase
+    requires first { 2 ≤ log.old.running.number }
+    requires number { log.old.running.number ≤ length log.old.flush.requests + 1 }
+    requires waiting { length log.old.ring.homes + length sending.homes.pairs.items + 1 ≤ length log.old.flush.requests + length sending.pieces }
+    requires left { 1 ≤ length sending.pieces }
+    requires place { IsPlace log.old.ring.places sending.place }
+    ensures part { part_of log.new (phase_of log.new result) ≡ planned_done
+        (part_of log.old (model.Committing (plan_left log.old.journal log.old.made_with log.old.ring.places sending)))
+        (plan_left log.old.journal log.old.made_with log.old.ring.places sending)
+        (rest_of log.old.journal log.old.made_with log.old.ring.places sending) }
+    ensures same { log.new ≡ with_parts log.old (part_of log.new model.Closing) }
+    ensures phase { IsInPhase log.new result }
+{
+    let mut sending = sending;
+    log.advance(&mut sending);
+    if sending.pieces.len() > 0 {
+        return Phase::Committing(sending);
+    }
+    log.commit(sending.homes);
+    Phase::Idle
+}
