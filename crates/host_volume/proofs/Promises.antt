@@ -12,7 +12,7 @@ use Rattle.volume_steps.specs.Calls.{after_release}
 use Rattle.volume_steps.specs.Now.{VolumeNow, tree_of_now, room_of}
 use Rattle.volume_steps.proofs.Release.{release_plain}
 use Rattle.volume_steps.proofs.TakeZones.{zone_range}
-use Rattle.host_machine.specs.Model.{is_begun}
+use Rattle.flush_actor.specs.Kinds.{is_begun}
 use Rattle.host_machine.specs.laws.Contract.{Contract, Tells}
 use Rattle.host_runs.specs.Runs.{HasBlocks}
 use Rattle.minix_layout.specs.declared.division.Geometry.{Geometry}

@@ -20,7 +20,8 @@ use Rattle.volume_calls.specs.NewNow.{new_now}
 use Rattle.journal_ring.specs.LogRing.{LogRing}
 use Rattle.host_machine.specs.Host.{advance}
 use Rattle.host_machine.specs.Outcomes.{Done}
-use Rattle.host_machine.specs.State.{Begun, Thread, Host, is_flush_note}
+use Rattle.host_machine.specs.State.{Begun, Thread, Host}
+use Rattle.flush_actor.specs.Part.{is_flush_note}
 use Rattle.host_machine.specs.Views.{tree_after, cut_of}
 use Rattle.host_machine.specs.laws.Contract.{IsAlike}
 use Rattle.host_runs.specs.Promises.{IsAnswered}

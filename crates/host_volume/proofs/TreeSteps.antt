@@ -29,7 +29,7 @@ use Rattle.volume_steps.specs.Plain.{is_rename}
 use Rattle.crash_laws.specs.LegalHistory.{root_alone}
 use Rattle.crash_laws.proofs.TreeHistories.{real_trees}
 use Rattle.host_machine.specs.laws.Contract.{TreeLaws}
-use Rattle.host_machine.specs.Model.{is_begun}
+use Rattle.flush_actor.specs.Kinds.{is_begun}
 use Rattle.minix_layout.specs.declared.division.Geometry.{Geometry}
 use Rattle.volume_steps.specs.Now.{room_of}
 use Rattle.host_volume.specs.Calls.{kind_of}

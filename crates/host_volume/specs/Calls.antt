@@ -14,10 +14,12 @@ use Rattle.volume_model.specs.Touched.{Page, Touched}
 use Rattle.volume_steps.specs.Now.{VolumeNow, tree_of_now, room_of}
 use Rattle.volume_steps.specs.Calls.{Called, called}
 use Rattle.host_machine.specs.Model as host
-use Rattle.host_machine.specs.Model.{Kind, Reading, Changing, FileBarrier, DataBarrier, FileSync, DataSync, WholeSync, FileBlock, Applied}
+use Rattle.host_machine.specs.Model.{FileBlock, Applied}
+use Rattle.flush_actor.specs.declared.call_kind.CallKind.{CallKind}
+use Rattle.flush_actor.specs.declared.call_kind.CallKind.TheVariants.{Reading, Changing, FileBarrier, DataBarrier, FileSync, DataSync, WholeSync}
 use Rattle.host_volume.specs.Numbers.{next_birth, number_in, decided}
 
-abbrev pub kind_of : Call → Kind
+abbrev pub kind_of : Call → CallKind
 kind_of (calls.Read path off len) = Reading
 kind_of (calls.List path) = Reading
 kind_of (calls.Stat path) = Reading
