@@ -1,9 +1,7 @@
 -- The table of homes while the log is moved into it, and the homes while the table is moved into them.
-use Rattle.std.specs.Prelude.{◌≡◌, ℕ, suc, ◌+◌, ◌==◌, Bool, true, false, if◌then◌else◌, List, [], ◌∷◌, ◌++◌, length, map, Option, Some, None, slice_get, refl}
+use Rattle.std.specs.Prelude.{◌≡◌, ℕ, ◌+◌, ◌==◌, Bool, true, false, if◌then◌else◌, List, ◌∷◌, ◌++◌, length, map, Option, Some, None, slice_get, refl}
 use Rattle.std.proofs.Common.{sym, ap, ◌∙◌, inl, inr, arith, append_assoc}
 use Rattle.std.proofs.lemmas.Bool.{cases_Bool}
-use Rattle.std.proofs.lemmas.List.{append-nil}
-use Rattle.log_model.specs.Marks.{Logged}
 use Rattle.log_model.specs.LastLogged.{bodies_of, last_of}
 use Rattle.journal_replay.specs.declared.home.Home.{Home}
 use Rattle.journal_replay.specs.declared.home.LogTransaction.{LogTransaction}
@@ -11,6 +9,10 @@ use Rattle.journal_replay.specs.Revokes.{cancels, or_else, replayed_by}
 use Rattle.journal_replay.specs.code.Homes.{logged_of, entry, listed}
 use Rattle.journal_replay.specs.code.Scans.{transaction_of}
 use Rattle.journal_replay.specs.laws.Homes.{with_body, if_same, body_more, stop_same, length-with_body}
+
+-- an item fewer is left
+pub one_fewer : {X : Type 0} {rest tail : List X} {x : X} {left less : ℕ} → left ≡ length rest → rest ≡ x ∷ tail → less + 1 ≡ left → less ≡ length tail
+one_fewer size e one = let longer = ap length e in omega (arith, size, longer, one)
 
 -- ---- the bodies of one transaction
 
@@ -32,13 +34,11 @@ left_more r at h hs b o false go =
       | inr other ↦ rw (go, other) refl
     ]
 
+-- what is left of the bodies ends for each block where all of them do
 pub record Putting (rev : ℕ → Option ℕ) (at : ℕ) (first table : List (Option (List ℕ))) (all rest : List Home) : Type 0 where
   pub long : length table ≡ length first
   pub each : (b : ℕ) (o : Option (List ℕ)) → slice_get first b ≡ Some o →
       (now : Option (List ℕ)) × (slice_get table b ≡ Some now) × (left_by (rev b) at rest b now ≡ left_by (rev b) at all b o)
-
-pub putting_none : (rev : ℕ → Option ℕ) (at : ℕ) (first : List (Option (List ℕ))) (all rest : List Home) → rest ≡ all → Putting rev at first first all rest
-putting_none rev at first all rest e = record { long = refl; each = λ b o is. (o, is, ap (λ hs. left_by (rev b) at hs b o) e) }
 
 pub putting_more : (rev : ℕ → Option ℕ) (at : ℕ) (first table : List (Option (List ℕ))) (all rest : List Home) (h : Home) (tail : List Home) (new : List (Option (List ℕ)))
     → Putting rev at first table all rest → rest ≡ h ∷ tail → new ≡ with_body table (cancels (rev h.block) at) h.block h.body → Putting rev at first new all tail
@@ -53,26 +53,14 @@ putting_more rev at first table all rest h tail new p e put = record {
       );
 }
 
-pub put_all : (rev : ℕ → Option ℕ) (at : ℕ) (first table : List (Option (List ℕ))) (all rest : List Home) → Putting rev at first table all rest → length rest ≡ 0
-    → (b : ℕ) (o : Option (List ℕ)) → slice_get first b ≡ Some o → slice_get table b ≡ Some (left_by (rev b) at all b o)
-put_all rev at first table all [] p none b o is =
-    let was = p.each b o is in was.1 ∙ ap Some (sym (if_same (cancels (rev b) at) was.0) ∙ was.2)
-put_all rev at first table all (h ∷ hs) p none b o is = absurd (omega (arith, none))
-
 -- ---- the transactions of a log
 
+-- what is left of the log ends for each block where all of it does
 pub record Replaying (rev : ℕ → Option ℕ) (first table : List (Option (List ℕ))) (all rest : List LogTransaction) (at : ℕ) : Type 0 where
   pub place : at + length rest ≡ length all
   pub long : length table ≡ length first
   pub each : (b : ℕ) (o : Option (List ℕ)) → slice_get first b ≡ Some o →
       (now : Option (List ℕ)) × (slice_get table b ≡ Some now) × (replayed_by (rev b) at (map transaction_of rest) b now ≡ replayed_by (rev b) 0 (map transaction_of all) b o)
-
-pub replaying_none : (rev : ℕ → Option ℕ) (first : List (Option (List ℕ))) (all rest : List LogTransaction) → rest ≡ all → Replaying rev first first all rest 0
-replaying_none rev first all rest e = record {
-  place = let size = ap length e in omega (arith, size);
-  long = refl;
-  each = λ b o is. (o, is, ap (λ ts. replayed_by (rev b) 0 (map transaction_of ts) b o) e);
-}
 
 pub replaying_more : (rev : ℕ → Option ℕ) (first table : List (Option (List ℕ))) (all rest : List LogTransaction) (at : ℕ) (t : LogTransaction) (tail : List LogTransaction) (new : List (Option (List ℕ)))
     → Replaying rev first table all rest at → rest ≡ t ∷ tail → length new ≡ length table
@@ -89,19 +77,12 @@ replaying_more rev first table all rest at t tail new p e same put = record {
       );
 }
 
-pub replayed_all : (rev : ℕ → Option ℕ) (first table : List (Option (List ℕ))) (all rest : List LogTransaction) (at : ℕ) → Replaying rev first table all rest at → length rest ≡ 0
-    → (b : ℕ) (o : Option (List ℕ)) → slice_get first b ≡ Some o → slice_get table b ≡ Some (replayed_by (rev b) 0 (map transaction_of all) b o)
-replayed_all rev first table all [] at p none b o is = let was = p.each b o is in was.1 ∙ ap Some was.2
-replayed_all rev first table all (t ∷ ts) at p none b o is = absurd (omega (arith, none))
-
 -- ---- the homes
 
+-- the homes so far, and behind them those in what is left of the table
 pub record Collecting (all rest : List (Option (List ℕ))) (block : ℕ) (homes : List Home) : Type 0 where
   pub place : block + length rest ≡ length all
   pub told : logged_of homes ++ listed block rest ≡ listed 0 all
-
-pub collecting_none : (all rest : List (Option (List ℕ))) → rest ≡ all → Collecting all rest 0 []
-collecting_none all rest e = record { place = let size = ap length e in omega (arith, size); told = ap (listed 0) e }
 
 pub collecting_more : (all rest : List (Option (List ℕ))) (block : ℕ) (homes : List Home) (o : Option (List ℕ)) (tail : List (Option (List ℕ))) (new : List Home)
     → Collecting all rest block homes → rest ≡ o ∷ tail → logged_of new ≡ logged_of homes ++ entry block o → Collecting all tail (block + 1) new
@@ -110,7 +91,3 @@ collecting_more all rest block homes o tail new p e push = record {
   told = ap (λ xs. xs ++ listed (block + 1) tail) push
       ∙ (append_assoc (logged_of homes) (entry block o) (listed (block + 1) tail) ∙ (ap (λ os. logged_of homes ++ listed block os) (sym e) ∙ p.told));
 }
-
-pub collected_all : (all rest : List (Option (List ℕ))) (block : ℕ) (homes : List Home) → Collecting all rest block homes → length rest ≡ 0 → logged_of homes ≡ listed 0 all
-collected_all all [] block homes p none = sym (append-nil (logged_of homes)) ∙ p.told
-collected_all all (o ∷ os) block homes p none = absurd (omega (arith, none))
