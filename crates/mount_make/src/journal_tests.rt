@@ -58,6 +58,7 @@ fn makes_each_block(rt: HostRuntime) -> Result<(), Fail> {
         }
     }
     made_images_are_plain();
+    made_maps_mark_the_root();
     Ok(())
 }
 
