@@ -85,8 +85,8 @@ pub fn put_body(blocks: &mut Image, g: &Geometry, zone: u16, content: &Block)
     }
 }
 
-// The block of the table that has an inode.
-fn table_block(g: &Geometry, number: u16) -> u32
+/// The block of the table that has an inode.
+pub fn table_block(g: &Geometry, number: u16) -> u32
     requires { 0 < number }
     ensures { result ≡ table_block g.now number }
 {

@@ -22,7 +22,7 @@ mod wanted;
 
 pub use bodies::zone_entry;
 pub use cutting::cut_to;
-pub use edits::{clear_from, put_body, put_entry, put_inode, put_slot, set_bit};
+pub use edits::{clear_from, put_body, put_entry, put_inode, put_slot, set_bit, table_block};
 pub use freed::{CutZones, zones_cut};
 pub use laws::cut_zones_are_told;
 pub use mapping::{TakenZones, map_block};

@@ -1,0 +1,92 @@
+-- Steps at one node, from what the code did.
+use Rattle.std.specs.Prelude.{◌≡◌, ℕ, ◌-◌, ◌*◌, ◌/◌, ◌%◌, List, [], ◌∷◌, ◌++◌, Option, Some, refl}
+use Rattle.std.proofs.Common.{sym, ap, ◌∙◌, append_assoc}
+use Rattle.std.proofs.lemmas.List.{append-nil}
+use Rattle.std.specs.Ordering.{nat_cmp}
+use Rattle.std.specs.BTreeMap.{is_at}
+use Rattle.std.specs.Map.{set_value}
+use Rattle.minix_layout.specs.declared.division.Geometry.{Geometry}
+use Rattle.minix_layout.specs.declared.slot.Slot.{Slot}
+use Rattle.tree_model.specs.Maps.{at_number, put_number}
+use Rattle.tree_model.specs.laws.MapOrder.{InOrder}
+use Rattle.zone_maps.specs.Zones.{Zones}
+use Rattle.volume_ops.specs.Places.{table_block}
+use Rattle.volume_model.specs.declared.placed.Placed.{Placed}
+use Rattle.volume_model.specs.Edits.{put_inode, put_slot, edited}
+use Rattle.volume_model.specs.Volume.{block, zone_in}
+use Rattle.volume_model.specs.Moves.{closed, with_size}
+use Rattle.volume_model.specs.Touched.{Touched, and_then}
+use Rattle.volume_model.specs.laws.Trees.{set_is_put}
+use Rattle.volume_steps.specs.Now.{VolumeNow, Change, with_contents, tells_blocks}
+use Rattle.volume_steps.specs.Steps.{at_node, tells_node, with_links, inode_put, set_links}
+use Rattle.volume_steps.proofs.QuietSteps.{at_node_is}
+use Rattle.volume_now.specs.Noted.{Noted, with_block, with_node}
+use Rattle.volume_names.specs.code.Steps.{After, slot_written}
+
+abbrev pub volume_of : Geometry → List (List ℕ) → List (ℕ × Placed) → Zones → VolumeNow
+volume_of g blocks nodes zones = record { geometry = g; contents = record { blocks = blocks; nodes = nodes }; zones = zones }
+
+-- equal parts are one volume
+same_volume : (g h : Geometry) (blocks blocks' : List (List ℕ)) (nodes nodes' : List (ℕ × Placed)) (zones zones' : Zones) → g ≡ h → blocks ≡ blocks' → nodes ≡ nodes' → zones ≡ zones' →
+    volume_of g blocks nodes zones ≡ volume_of h blocks' nodes' zones'
+same_volume g h blocks blocks' nodes nodes' zones zones' e b n z =
+    ap (λ g. volume_of g blocks nodes zones) e ∙ (ap (λ b. volume_of h b nodes zones) b ∙ (ap (λ n. volume_of h blocks' n zones) n ∙ ap (volume_of h blocks' nodes') z))
+
+-- a node was written through a borrow
+pub changed_at : (v : VolumeNow) (n : ℕ) (p q : Placed) (change : Placed → Change) (before touched : Touched) (blocks : List (List ℕ)) (nodes : List (ℕ × Placed)) (zones : Zones) →
+    InOrder v.contents.nodes → at_number v.contents.nodes n ≡ Some p → nodes ≡ set_value (is_at (nat_cmp n)) v.contents.nodes q →
+    v.geometry ≡ (change p).volume.geometry → blocks ≡ (change p).volume.contents.blocks → put_number v.contents.nodes n q ≡ (change p).volume.contents.nodes → zones ≡ (change p).volume.zones →
+    touched ≡ and_then before (change p).touched → After before (at_node v n change) (volume_of v.geometry blocks nodes zones) touched
+changed_at v n p q change before touched blocks nodes zones order at set g b m z t = record {
+  volume_is =
+      same_volume v.geometry (change p).volume.geometry blocks (change p).volume.contents.blocks nodes (change p).volume.contents.nodes zones (change p).volume.zones g b
+      (set ∙ (set_is_put v.contents.nodes n q p order at ∙ m)) z
+      ∙ sym (ap (λ (c : Change). c.volume) (at_node_is v n p change at));
+  touched_is = t ∙ sym (ap (λ (c : Change). and_then before c.touched) (at_node_is v n p change at));
+}
+
+-- ---- what was noted
+
+pub noted_table : (s u : Noted) (b x : ℕ) → u ≡ with_block s b → b ≡ x → u.touched ≡ and_then s.touched (tells_blocks (x ∷ []))
+noted_table s u b x e same = ap (λ (u : Noted). u.touched) (e ∙ ap (with_block s) same) ∙ told s.touched x
+  where
+    told : (t : Touched) (x : ℕ) → record t { blocks = t.blocks ++ x ∷ [] } ≡ and_then t (tells_blocks (x ∷ []))
+    told t x = simp append-nil
+
+pub noted_slot : (s u w z : Noted) (a b x y n : ℕ) → u ≡ with_block s a → w ≡ with_block u b → z ≡ with_node w n → a ≡ x → b ≡ y → z.touched ≡ and_then s.touched (tells_node n (x ∷ y ∷ []))
+noted_slot s u w z a b x y n e f h k l =
+    ap (λ (z : Noted). z.touched) (h ∙ ap (λ w. with_node w n) (f ∙ (ap (λ u. with_block u b) (e ∙ ap (with_block s) k) ∙ ap (with_block (with_block s x)) l)))
+    ∙ told s.touched x y n
+  where
+    told : (t : Touched) (x y n : ℕ) → record t { blocks = (t.blocks ++ x ∷ []) ++ y ∷ []; nodes = t.nodes ++ n ∷ [] } ≡ and_then t (tells_node n (x ∷ y ∷ []))
+    told t x y n = simp (append_assoc, append-nil)
+
+-- ---- the steps
+
+module _ (v : VolumeNow) (n : ℕ) (p : Placed) (before touched : Touched) (blocks : List (List ℕ)) (nodes : List (ℕ × Placed)) (order : InOrder v.contents.nodes) (at : at_number v.contents.nodes n ≡ Some p) where
+  -- links
+  pub links_changed : (change : ℕ → ℕ) → nodes ≡ set_value (is_at (nat_cmp n)) v.contents.nodes (record { number = p.number; inode = with_links p.inode (change p.inode.links); part = p.part }) →
+      blocks ≡ edited v.geometry v.contents.blocks (put_inode p.number (with_links p.inode (change p.inode.links))) → touched ≡ and_then before (tells_blocks (table_block v.geometry p.number ∷ [])) →
+      After before (set_links v n change) (volume_of v.geometry blocks nodes v.zones) touched
+  links_changed change set b t = changed_at v n p (record { number = p.number; inode = with_links p.inode (change p.inode.links); part = p.part })
+      (λ p. record { volume = inode_put v n p (with_links p.inode (change p.inode.links)); touched = tells_blocks (table_block v.geometry p.number ∷ []) })
+      before touched blocks nodes v.zones order at set refl b refl refl t
+
+  -- a slot
+  pub slot_changed : (k : ℕ) (slot : Option Slot) (slots zone : ℕ) (first : List (List ℕ)) → zone ≡ zone_in v.contents.blocks p.inode (block (k / 64)) →
+      nodes ≡ set_value (is_at (nat_cmp n)) v.contents.nodes (record { number = p.number; inode = with_size p.inode (16 * slots); part = p.part }) →
+      first ≡ edited v.geometry v.contents.blocks (put_slot zone (k % 64) slot) →
+      blocks ≡ edited v.geometry first (put_inode p.number (with_size p.inode (16 * slots))) →
+      touched ≡ and_then before (tells_node n (zone ∷ table_block v.geometry p.number ∷ [])) →
+      After before (slot_written v n k slot slots) (volume_of v.geometry blocks nodes v.zones) touched
+  slot_changed k slot slots zone first e set f b t = changed_at v n p (record { number = p.number; inode = with_size p.inode (16 * slots); part = p.part })
+      (λ p. record {
+        volume = with_contents v (closed v.geometry v.contents n p (record {
+          blocks = edited v.geometry v.contents.blocks (put_slot (zone_in v.contents.blocks p.inode (block (k / 64))) (k % 64) slot);
+          inode = with_size p.inode (16 * slots);
+        }) p.part);
+        touched = tells_node n (zone_in v.contents.blocks p.inode (block (k / 64)) ∷ table_block v.geometry p.number ∷ []);
+      })
+      before touched blocks nodes v.zones order at set refl
+      (b ∙ ap (λ first. edited v.geometry first (put_inode p.number (with_size p.inode (16 * slots)))) (f ∙ ap (λ zone. edited v.geometry v.contents.blocks (put_slot zone (k % 64) slot)) e))
+      refl refl (t ∙ ap (λ zone. and_then before (tells_node n (zone ∷ table_block v.geometry p.number ∷ []))) e)

@@ -1,0 +1,2 @@
+-- What calls on names ask of a volume.
+pub mod code

@@ -1,0 +1,3 @@
+-- The code's view of directories and nodes.
+pub mod NewSlot
+pub mod Steps

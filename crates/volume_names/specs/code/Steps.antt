@@ -1,0 +1,50 @@
+-- Steps as the code takes them: a name is in its directory before the blocks are written.
+use Rattle.std.specs.Prelude.{◌≡◌, ℕ, ◌+◌, ◌*◌, ◌/◌, ◌%◌, Bool, true, if◌then◌else◌, List, [], ◌∷◌, ◌++◌, map, Option, Some}
+use Rattle.byte_fields.specs.Fields.{zeros}
+use Rattle.minix_layout.specs.declared.slot.Slot.{Slot}
+use Rattle.volume_ops.specs.Places.{table_block}
+use Rattle.volume_model.specs.Edits.{put_slot, edited, touched_by_all}
+use Rattle.volume_model.specs.Volume.{block, zone_in}
+use Rattle.volume_model.specs.Ways.{way}
+use Rattle.volume_model.specs.MapBlock.{OpenInode, own_of, map_block, all_edits}
+use Rattle.volume_model.specs.Touched.{Touched, and_then}
+use Rattle.volume_model.specs.Moves.{opened, closed, with_size}
+use Rattle.volume_steps.specs.Now.{VolumeNow, Change, with_contents, written, unchanged, followed_by, tells_writes}
+use Rattle.volume_steps.specs.Zones.{zone_bit, take_zones}
+use Rattle.volume_steps.specs.Steps.{at_node, tells_node, set_links}
+use Rattle.volume_names.specs.declared.directories.NewSlot.{NewSlot}
+
+-- a change was done after others that touched this
+pub record After (before : Touched) (change : Change) (volume : VolumeNow) (touched : Touched) : Type 0 where
+  pub volume_is : volume ≡ change.volume
+  pub touched_is : touched ≡ and_then before change.touched
+
+-- a slot of a directory is written, which has so many then
+abbrev pub slot_written : VolumeNow → ℕ → ℕ → Option Slot → ℕ → Change
+slot_written v n at slot slots = at_node v n (λ p. record {
+  volume = with_contents v (closed v.geometry v.contents n p (record {
+    blocks = edited v.geometry v.contents.blocks (put_slot (zone_in v.contents.blocks p.inode (block (at / 64))) (at % 64) slot);
+    inode = with_size p.inode (16 * slots);
+  }) p.part);
+  touched = tells_node n (zone_in v.contents.blocks p.inode (block (at / 64)) ∷ table_block v.geometry p.number ∷ []);
+})
+
+abbrev pub more_links : VolumeNow → ℕ → Change
+more_links v n = set_links v n (λ links. links + 1)
+
+-- a directory gets a block, which is full of free slots
+abbrev pub block_added : VolumeNow → ℕ → ℕ → Change
+block_added v n index = at_node v n (λ p.
+    let t = take_zones (own_of (opened v.contents p)) index v.zones in
+    let es = map (zone_bit v.geometry true) t.numbers in
+    let c = written v.geometry v.contents es in
+    record {
+      volume = record { geometry = v.geometry; contents = closed v.geometry c n p (map_block v.geometry t.taken (zeros 1024) (opened c p) index) p.part; zones = t.zones };
+      touched = and_then (tells_writes v.geometry es)
+          (tells_node n (table_block v.geometry p.number ∷ touched_by_all v.geometry (all_edits v.geometry t.taken (zeros 1024) (opened c p) (way index))));
+    })
+
+-- the blocks of a directory are written for a slot that came
+abbrev pub name_written : VolumeNow → ℕ → Slot → NewSlot → Change
+name_written v n slot new =
+    followed_by (if new.begins then block_added v n (new.at / 64) else unchanged v) (λ w. slot_written w n new.at (Some slot) new.slots)

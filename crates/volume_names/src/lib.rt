@@ -1,0 +1,7 @@
+//! Calls that make and take names, done in place on a volume that is in use.
+#![tactic(auto)]
+
+mod directories;
+mod nodes;
+mod numbers;
+mod slots;
