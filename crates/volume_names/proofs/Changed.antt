@@ -1,27 +1,34 @@
 -- Steps at one node, from what the code did.
-use Rattle.std.specs.Prelude.{◌≡◌, ℕ, ◌-◌, ◌*◌, ◌/◌, ◌%◌, List, [], ◌∷◌, ◌++◌, Option, Some, refl}
+use Rattle.std.specs.Prelude.{◌≡◌, ℕ, ◌-◌, ◌*◌, ◌/◌, ◌%◌, ◌<◌, true, map, List, [], ◌∷◌, ◌++◌, Option, Some, refl}
 use Rattle.std.proofs.Common.{sym, ap, ◌∙◌, append_assoc}
 use Rattle.std.proofs.lemmas.List.{append-nil}
 use Rattle.std.specs.Ordering.{nat_cmp}
 use Rattle.std.specs.BTreeMap.{is_at}
 use Rattle.std.specs.Map.{set_value}
 use Rattle.minix_layout.specs.declared.division.Geometry.{Geometry}
+use Rattle.minix_layout.specs.declared.inode.Inode.{Inode}
 use Rattle.minix_layout.specs.declared.slot.Slot.{Slot}
+use Rattle.blk_base.specs.Block.{filled}
+use Rattle.byte_fields.specs.Fields.{zeros}
 use Rattle.tree_model.specs.Maps.{at_number, put_number}
 use Rattle.tree_model.specs.laws.MapOrder.{InOrder}
 use Rattle.zone_maps.specs.Zones.{Zones}
 use Rattle.volume_ops.specs.Places.{table_block}
 use Rattle.volume_model.specs.declared.placed.Placed.{Placed}
-use Rattle.volume_model.specs.Edits.{put_inode, put_slot, edited}
+use Rattle.volume_model.specs.Edits.{Edit, put_inode, put_slot, edited, touched_by_all}
 use Rattle.volume_model.specs.Volume.{block, zone_in}
-use Rattle.volume_model.specs.Moves.{closed, with_size}
-use Rattle.volume_model.specs.Touched.{Touched, and_then}
+use Rattle.volume_model.specs.Moves.{opened, closed, with_size}
+use Rattle.volume_model.specs.Ways.{way}
+use Rattle.volume_model.specs.MapBlock.{OpenInode, TakenZones, own_of, map_block, all_edits}
+use Rattle.volume_model.specs.Touched.{Touched, Contents, and_then}
 use Rattle.volume_model.specs.laws.Trees.{set_is_put}
-use Rattle.volume_steps.specs.Now.{VolumeNow, Change, with_contents, tells_blocks}
+use Rattle.volume_steps.specs.Now.{VolumeNow, Change, with_contents, written, tells_blocks, tells_writes}
+use Rattle.volume_steps.specs.Zones.{TakenFor, zone_bit, take_zones}
 use Rattle.volume_steps.specs.Steps.{at_node, tells_node, with_links, inode_put, set_links}
 use Rattle.volume_steps.proofs.QuietSteps.{at_node_is}
 use Rattle.volume_now.specs.Noted.{Noted, with_block, with_node}
-use Rattle.volume_names.specs.code.Steps.{After, slot_written}
+use Rattle.volume_names.specs.code.Steps.{After, HasHole, slot_written, block_added, blocks_mapped}
+use Rattle.volume_names.proofs.Mapped.{blocks_are}
 
 abbrev pub volume_of : Geometry → List (List ℕ) → List (ℕ × Placed) → Zones → VolumeNow
 volume_of g blocks nodes zones = record { geometry = g; contents = record { blocks = blocks; nodes = nodes }; zones = zones }
@@ -90,3 +97,74 @@ module _ (v : VolumeNow) (n : ℕ) (p : Placed) (before touched : Touched) (bloc
       before touched blocks nodes v.zones order at set refl
       (b ∙ ap (λ first. edited v.geometry first (put_inode p.number (with_size p.inode (16 * slots)))) (f ∙ ap (λ zone. edited v.geometry v.contents.blocks (put_slot zone (k % 64) slot)) e))
       refl refl (t ∙ ap (λ zone. and_then before (tells_node n (zone ∷ table_block v.geometry p.number ∷ []))) e)
+
+-- ---- a block
+
+pub noted_block : (s u w z x : Noted) (g : Geometry) (es : List Edit) (table number n : ℕ) (blocks : List ℕ) → u.touched ≡ and_then s.touched (tells_writes g es) → w ≡ with_block u table → table ≡ number →
+    z.touched ≡ and_then w.touched (tells_blocks blocks) → x ≡ with_node z n → x.touched ≡ and_then s.touched (and_then (tells_writes g es) (tells_node n (number ∷ blocks)))
+noted_block s u w z x g es table number n blocks e f same h k =
+    ap (λ (x : Noted). x.touched) k
+    ∙ (ap (λ (t : Touched). record t { nodes = t.nodes ++ n ∷ [] })
+      (h ∙ ap (λ t. and_then t (tells_blocks blocks))
+      (ap (λ (w : Noted). w.touched) (f ∙ ap (with_block u) same) ∙ ap (λ (t : Touched). record t { blocks = t.blocks ++ number ∷ [] }) e))
+    ∙ told s.touched (touched_by_all g es) number n blocks)
+  where
+    told : (t : Touched) (bits : List ℕ) (number n : ℕ) (blocks : List ℕ) →
+        record {
+          blocks = ((t.blocks ++ bits) ++ number ∷ []) ++ blocks;
+          freed = (t.freed ++ []) ++ [];
+          revoked = (t.revoked ++ []) ++ [];
+          pages = (t.pages ++ []) ++ [];
+          dropped = (t.dropped ++ []) ++ [];
+          nodes = ((t.nodes ++ []) ++ []) ++ n ∷ [];
+        } ≡ and_then t (and_then (tells_blocks bits) (tells_node n (number ∷ blocks)))
+    told t bits number n blocks = simp (append_assoc, append-nil)
+
+module _ (v : VolumeNow) (n : ℕ) (p : Placed) (before touched : Touched) (blocks : List (List ℕ)) (nodes : List (ℕ × Placed)) (order : InOrder v.contents.nodes) (at : at_number v.contents.nodes n ≡ Some p)
+    (index : ℕ) (few : index < 519) (hole : HasHole v p index) (zones : Zones) (taken : TakenZones) (first second : List (List ℕ)) (content : List ℕ) (i : Inode) where
+  abbrev t : TakenFor
+  t = take_zones (own_of (opened v.contents p)) index v.zones
+
+  abbrev es : List Edit
+  es = map (zone_bit v.geometry true) t.numbers
+
+  abbrev c : Contents
+  c = written v.geometry v.contents es
+
+  abbrev made : OpenInode
+  made = map_block v.geometry t.taken (zeros 1024) (opened c p) index
+
+  no_bytes : filled 0 ≡ zeros 1024
+  unfolding filled zeros
+  no_bytes = refl
+
+  mapped_as : taken ≡ t.taken → first ≡ c.blocks → content ≡ filled 0 → ◌≡◌ {A = OpenInode} (record { blocks = second; inode = i }) (map_block v.geometry taken content (record { blocks = first; inode = p.inode }) index) →
+      ◌≡◌ {A = OpenInode} (record { blocks = second; inode = i }) made
+  mapped_as k f z m =
+      m ∙ (ap (λ taken. map_block v.geometry taken content (record { blocks = first; inode = p.inode }) index) k
+      ∙ (ap (λ content. map_block v.geometry t.taken content (record { blocks = first; inode = p.inode }) index) (z ∙ no_bytes)
+      ∙ ap (λ first. map_block v.geometry t.taken (zeros 1024) (record { blocks = first; inode = p.inode }) index) f))
+
+  pub block_changed : zones ≡ t.zones → taken ≡ t.taken → first ≡ c.blocks → content ≡ filled 0 →
+      ◌≡◌ {A = OpenInode} (record { blocks = second; inode = i }) (map_block v.geometry taken content (record { blocks = first; inode = p.inode }) index) →
+      blocks ≡ edited v.geometry second (put_inode p.number i) → nodes ≡ set_value (is_at (nat_cmp n)) v.contents.nodes (record { number = p.number; inode = i; part = p.part }) →
+      touched ≡ and_then before (and_then (tells_writes v.geometry es) (tells_node n (table_block v.geometry p.number ∷ blocks_mapped p.inode index taken))) →
+      After before (block_added v n index) (volume_of v.geometry blocks nodes zones) touched
+  block_changed y k f z m b set told =
+      let made_is = mapped_as k f z m in
+      changed_at v n p (record { number = p.number; inode = i; part = p.part })
+      (λ p.
+        let t = take_zones (own_of (opened v.contents p)) index v.zones in
+        let es = map (zone_bit v.geometry true) t.numbers in
+        let c = written v.geometry v.contents es in
+        record {
+          volume = record { geometry = v.geometry; contents = closed v.geometry c n p (map_block v.geometry t.taken (zeros 1024) (opened c p) index) p.part; zones = t.zones };
+          touched = and_then (tells_writes v.geometry es)
+              (tells_node n (table_block v.geometry p.number ∷ touched_by_all v.geometry (all_edits v.geometry t.taken (zeros 1024) (opened c p) (way index))));
+        })
+      before touched blocks nodes zones order at set refl
+      (b ∙ ap (λ (u : OpenInode). edited v.geometry u.blocks (put_inode p.number u.inode)) made_is)
+      (ap (λ (u : OpenInode). put_number v.contents.nodes n (record { number = p.number; inode = u.inode; part = p.part })) made_is)
+      y
+      (told ∙ ap (λ blocks. and_then before (and_then (tells_writes v.geometry es) (tells_node n (table_block v.geometry p.number ∷ blocks))))
+      (ap (blocks_mapped p.inode index) k ∙ sym (blocks_are v.geometry t.taken (opened c p) index hole.hole few hole.nine)))

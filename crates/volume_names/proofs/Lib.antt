@@ -1,3 +1,4 @@
 pub mod NameMaps
 pub mod FreeNumbers
 pub mod Changed
+pub mod Mapped

@@ -2,6 +2,6 @@
 #![tactic(auto)]
 
 mod directories;
+mod growth;
 mod nodes;
 mod numbers;
-mod slots;

@@ -1,12 +1,14 @@
 -- Steps as the code takes them: a name is in its directory before the blocks are written.
-use Rattle.std.specs.Prelude.{◌≡◌, ℕ, ◌+◌, ◌*◌, ◌/◌, ◌%◌, Bool, true, if◌then◌else◌, List, [], ◌∷◌, ◌++◌, map, Option, Some}
+use Rattle.std.specs.Prelude.{◌≡◌, ℕ, ◌+◌, ◌*◌, ◌/◌, ◌%◌, nat_lt, nat_eq, slice_index, Bool, true, if◌then◌else◌, List, [], ◌∷◌, ◌++◌, map, length, Option, Some}
 use Rattle.byte_fields.specs.Fields.{zeros}
+use Rattle.minix_layout.specs.declared.inode.Inode.{Inode}
 use Rattle.minix_layout.specs.declared.slot.Slot.{Slot}
 use Rattle.volume_ops.specs.Places.{table_block}
+use Rattle.volume_model.specs.declared.placed.Placed.{Placed}
 use Rattle.volume_model.specs.Edits.{put_slot, edited, touched_by_all}
 use Rattle.volume_model.specs.Volume.{block, zone_in}
 use Rattle.volume_model.specs.Ways.{way}
-use Rattle.volume_model.specs.MapBlock.{OpenInode, own_of, map_block, all_edits}
+use Rattle.volume_model.specs.MapBlock.{OpenInode, TakenZones, own_of, map_block, all_edits}
 use Rattle.volume_model.specs.Touched.{Touched, and_then}
 use Rattle.volume_model.specs.Moves.{opened, closed, with_size}
 use Rattle.volume_steps.specs.Now.{VolumeNow, Change, with_contents, written, unchanged, followed_by, tells_writes}
@@ -43,6 +45,18 @@ block_added v n index = at_node v n (λ p.
       touched = and_then (tells_writes v.geometry es)
           (tells_node n (table_block v.geometry p.number ∷ touched_by_all v.geometry (all_edits v.geometry t.taken (zeros 1024) (opened c p) (way index))));
     })
+
+-- the block has no zone, also once the bits of those that are taken for it are set
+pub record HasHole (v : VolumeNow) (p : Placed) (index : ℕ) : Type 0 where
+  pub nine : length p.inode.zones ≡ 9
+  pub hole : zone_in (written v.geometry v.contents (map (zone_bit v.geometry true) (take_zones (own_of (opened v.contents p)) index v.zones).numbers)).blocks p.inode (block index) ≡ 0
+
+-- the blocks that are written where a block below 519 is mapped
+abbrev pub blocks_mapped : Inode → ℕ → TakenZones → List ℕ
+blocks_mapped i index t =
+    if nat_lt index 7 then t.data_zone ∷ []
+    else (if nat_eq (slice_index i.zones 7) 0 then t.outer ∷ t.data_zone ∷ t.outer ∷ []
+    else t.data_zone ∷ slice_index i.zones 7 ∷ [])
 
 -- the blocks of a directory are written for a slot that came
 abbrev pub name_written : VolumeNow → ℕ → Slot → NewSlot → Change

@@ -1,1 +1,0 @@
-//! A slot is written.
