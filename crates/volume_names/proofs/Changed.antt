@@ -27,7 +27,7 @@ use Rattle.volume_steps.specs.Zones.{TakenFor, zone_bit, take_zones}
 use Rattle.volume_steps.specs.Steps.{at_node, tells_node, with_links, inode_put, set_links}
 use Rattle.volume_steps.proofs.QuietSteps.{at_node_is}
 use Rattle.volume_now.specs.Noted.{Noted, with_block, with_node}
-use Rattle.volume_names.specs.code.Steps.{After, HasHole, slot_written, block_added, blocks_mapped}
+use Rattle.volume_names.specs.code.Steps.{After, HasHole, slot_step, slot_written, block_step, block_added, blocks_mapped}
 use Rattle.volume_names.proofs.Mapped.{blocks_are}
 
 abbrev pub volume_of : Geometry → List (List ℕ) → List (ℕ × Placed) → Zones → VolumeNow
@@ -87,13 +87,7 @@ module _ (v : VolumeNow) (n : ℕ) (p : Placed) (before touched : Touched) (bloc
       touched ≡ and_then before (tells_node n (zone ∷ table_block v.geometry p.number ∷ [])) →
       After before (slot_written v n k slot slots) (volume_of v.geometry blocks nodes v.zones) touched
   slot_changed k slot slots zone first e set f b t = changed_at v n p (record { number = p.number; inode = with_size p.inode (16 * slots); part = p.part })
-      (λ p. record {
-        volume = with_contents v (closed v.geometry v.contents n p (record {
-          blocks = edited v.geometry v.contents.blocks (put_slot (zone_in v.contents.blocks p.inode (block (k / 64))) (k % 64) slot);
-          inode = with_size p.inode (16 * slots);
-        }) p.part);
-        touched = tells_node n (zone_in v.contents.blocks p.inode (block (k / 64)) ∷ table_block v.geometry p.number ∷ []);
-      })
+      (slot_step v n k slot slots)
       before touched blocks nodes v.zones order at set refl
       (b ∙ ap (λ first. edited v.geometry first (put_inode p.number (with_size p.inode (16 * slots)))) (f ∙ ap (λ zone. edited v.geometry v.contents.blocks (put_slot zone (k % 64) slot)) e))
       refl refl (t ∙ ap (λ zone. and_then before (tells_node n (zone ∷ table_block v.geometry p.number ∷ []))) e)
@@ -153,15 +147,7 @@ module _ (v : VolumeNow) (n : ℕ) (p : Placed) (before touched : Touched) (bloc
   block_changed y k f z m b set told =
       let made_is = mapped_as k f z m in
       changed_at v n p (record { number = p.number; inode = i; part = p.part })
-      (λ p.
-        let t = take_zones (own_of (opened v.contents p)) index v.zones in
-        let es = map (zone_bit v.geometry true) t.numbers in
-        let c = written v.geometry v.contents es in
-        record {
-          volume = record { geometry = v.geometry; contents = closed v.geometry c n p (map_block v.geometry t.taken (zeros 1024) (opened c p) index) p.part; zones = t.zones };
-          touched = and_then (tells_writes v.geometry es)
-              (tells_node n (table_block v.geometry p.number ∷ touched_by_all v.geometry (all_edits v.geometry t.taken (zeros 1024) (opened c p) (way index))));
-        })
+      (block_step v n index)
       before touched blocks nodes zones order at set refl
       (b ∙ ap (λ (u : OpenInode). edited v.geometry u.blocks (put_inode p.number u.inode)) made_is)
       (ap (λ (u : OpenInode). put_number v.contents.nodes n (record { number = p.number; inode = u.inode; part = p.part })) made_is)

@@ -2,3 +2,6 @@ pub mod NameMaps
 pub mod FreeNumbers
 pub mod Changed
 pub mod Mapped
+pub mod Entered
+pub mod NameRooms
+pub mod Named

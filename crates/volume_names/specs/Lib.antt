@@ -1,2 +1,3 @@
 -- What calls on names ask of a volume.
+pub mod May
 pub mod code

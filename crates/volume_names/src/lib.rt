@@ -2,6 +2,9 @@
 #![tactic(auto)]
 
 mod directories;
+mod entries;
 mod growth;
+mod inodes;
+mod names;
 mod nodes;
 mod numbers;

@@ -52,7 +52,7 @@ pub data Where (d : DirectoryPart) (name : List ℕ) : Type 0 where
   among : room d.slots < length d.slots → slots_with (directory_from d) name ≡ length d.slots → Where d name
   behind : room d.slots ≡ length d.slots → slots_with (directory_from d) name ≡ length d.slots + 1 → length d.slots < 33216 → Where d name
 
-where_is : (placed : List (ℕ × Placed)) (d : DirectoryPart) (name : List ℕ) → HasNames placed d → at_name d.names name ≡ None → is_full (directory_from d) ≡ false → Where d name
+pub where_is : (placed : List (ℕ × Placed)) (d : DirectoryPart) (name : List ℕ) → HasNames placed d → at_name d.names name ≡ None → is_full (directory_from d) ≡ false → Where d name
 where_is placed d name h free_name left = elim (cases_lt (room d.slots) (length d.slots)) [
   | inl low ↦
       let used = room-count d.slots low in
@@ -216,7 +216,7 @@ module _ (tx : ℕ) (v : VolumeNow) (in_use : IsInUse v) (n : ℕ) (p : Placed) 
     ends : 64 * index ≡ length d.slots
     ends = omega arith
 
-    hole : zone_in v.contents.blocks p.inode (block index) ≡ 0
+    pub hole : zone_in v.contents.blocks p.inode (block index) ≡ 0
     hole = elim (cases_Bool (nat_eq (zone_in v.contents.blocks p.inode (block index)) 0)) [
       | inl t ↦ eqb-true _ _ t
       | inr f ↦ (let low = slot_zones.no_more index (eqb-false _ _ f) in let e = ends in absurd (omega arith))
@@ -270,7 +270,7 @@ module _ (tx : ℕ) (v : VolumeNow) (in_use : IsInUse v) (n : ℕ) (p : Placed) 
         sum_one : (x a b : ℕ) (l : List ℕ) → a ≡ 1 → length l ≡ 1 + b → x + a + b ≡ x + length l
         sum_one x a b l e f = omega arith
 
-    plenty : length (take_zones (λ x. zone_in v.contents.blocks p.inode x) index v.zones).numbers ≤ frees v.zones
+    pub plenty : length (take_zones (λ x. zone_in v.contents.blocks p.inode x) index v.zones).numbers ≤ frees v.zones
     plenty = let more = zones_more in let all = enough in omega arith
 
     abbrev r : Contents

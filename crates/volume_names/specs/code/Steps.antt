@@ -1,19 +1,23 @@
 -- Steps as the code takes them: a name is in its directory before the blocks are written.
-use Rattle.std.specs.Prelude.{◌≡◌, ℕ, ◌+◌, ◌*◌, ◌/◌, ◌%◌, nat_lt, nat_eq, slice_index, Bool, true, if◌then◌else◌, List, [], ◌∷◌, ◌++◌, map, length, Option, Some}
+use Rattle.std.specs.Prelude.{◌≡◌, ℕ, ◌+◌, ◌*◌, ◌/◌, ◌%◌, ◌<◌, ◌≤◌, nat_lt, nat_eq, slice_index, Bool, true, if◌then◌else◌, List, [], ◌∷◌, ◌++◌, map, length, Option, Some}
 use Rattle.byte_fields.specs.Fields.{zeros}
 use Rattle.minix_layout.specs.declared.inode.Inode.{Inode}
+use Rattle.minix_layout.specs.Geometry.{IsSound}
+use Rattle.tree_model.specs.Maps.{at_number, put_number}
 use Rattle.minix_layout.specs.declared.slot.Slot.{Slot}
 use Rattle.volume_ops.specs.Places.{table_block}
 use Rattle.volume_model.specs.declared.placed.Placed.{Placed}
-use Rattle.volume_model.specs.Edits.{put_slot, edited, touched_by_all}
+use Rattle.volume_model.specs.declared.placed.Part.TheVariants as parts
+use Rattle.volume_model.specs.declared.placed.DirectoryPart.{DirectoryPart}
+use Rattle.volume_model.specs.Edits.{Edit, put_inode, put_slot, edited, touched_by_all}
 use Rattle.volume_model.specs.Volume.{block, zone_in}
 use Rattle.volume_model.specs.Ways.{way}
 use Rattle.volume_model.specs.MapBlock.{OpenInode, TakenZones, own_of, map_block, all_edits}
 use Rattle.volume_model.specs.Touched.{Touched, and_then}
-use Rattle.volume_model.specs.Moves.{opened, closed, with_size}
+use Rattle.volume_model.specs.Moves.{opened, closed, with_size, with_name}
 use Rattle.volume_steps.specs.Now.{VolumeNow, Change, with_contents, written, unchanged, followed_by, tells_writes}
-use Rattle.volume_steps.specs.Zones.{zone_bit, take_zones}
-use Rattle.volume_steps.specs.Steps.{at_node, tells_node, set_links}
+use Rattle.volume_steps.specs.Zones.{inode_bit, zone_bit, take_zones}
+use Rattle.volume_steps.specs.Steps.{at_node, tells_node, set_links, new_file_inode}
 use Rattle.volume_names.specs.declared.directories.NewSlot.{NewSlot}
 
 -- a change was done after others that touched this
@@ -22,21 +26,24 @@ pub record After (before : Touched) (change : Change) (volume : VolumeNow) (touc
   pub touched_is : touched ≡ and_then before change.touched
 
 -- a slot of a directory is written, which has so many then
-abbrev pub slot_written : VolumeNow → ℕ → ℕ → Option Slot → ℕ → Change
-slot_written v n at slot slots = at_node v n (λ p. record {
+abbrev pub slot_step : VolumeNow → ℕ → ℕ → Option Slot → ℕ → Placed → Change
+slot_step v n at slot slots p = record {
   volume = with_contents v (closed v.geometry v.contents n p (record {
     blocks = edited v.geometry v.contents.blocks (put_slot (zone_in v.contents.blocks p.inode (block (at / 64))) (at % 64) slot);
     inode = with_size p.inode (16 * slots);
   }) p.part);
   touched = tells_node n (zone_in v.contents.blocks p.inode (block (at / 64)) ∷ table_block v.geometry p.number ∷ []);
-})
+}
+
+abbrev pub slot_written : VolumeNow → ℕ → ℕ → Option Slot → ℕ → Change
+slot_written v n at slot slots = at_node v n (slot_step v n at slot slots)
 
 abbrev pub more_links : VolumeNow → ℕ → Change
 more_links v n = set_links v n (λ links. links + 1)
 
 -- a directory gets a block, which is full of free slots
-abbrev pub block_added : VolumeNow → ℕ → ℕ → Change
-block_added v n index = at_node v n (λ p.
+abbrev pub block_step : VolumeNow → ℕ → ℕ → Placed → Change
+block_step v n index p =
     let t = take_zones (own_of (opened v.contents p)) index v.zones in
     let es = map (zone_bit v.geometry true) t.numbers in
     let c = written v.geometry v.contents es in
@@ -44,7 +51,10 @@ block_added v n index = at_node v n (λ p.
       volume = record { geometry = v.geometry; contents = closed v.geometry c n p (map_block v.geometry t.taken (zeros 1024) (opened c p) index) p.part; zones = t.zones };
       touched = and_then (tells_writes v.geometry es)
           (tells_node n (table_block v.geometry p.number ∷ touched_by_all v.geometry (all_edits v.geometry t.taken (zeros 1024) (opened c p) (way index))));
-    })
+    }
+
+abbrev pub block_added : VolumeNow → ℕ → ℕ → Change
+block_added v n index = at_node v n (block_step v n index)
 
 -- the block has no zone, also once the bits of those that are taken for it are set
 pub record HasHole (v : VolumeNow) (p : Placed) (index : ℕ) : Type 0 where
@@ -62,3 +72,29 @@ blocks_mapped i index t =
 abbrev pub name_written : VolumeNow → ℕ → Slot → NewSlot → Change
 name_written v n slot new =
     followed_by (if new.begins then block_added v n (new.at / 64) else unchanged v) (λ w. slot_written w n new.at (Some slot) new.slots)
+
+-- what that asks
+pub record MayWrite (v : VolumeNow) (n : ℕ) (new : NewSlot) : Type 0 where
+  pub sound : IsSound v.geometry
+  pub placed : Placed
+  pub stands : at_number v.contents.nodes n ≡ Some placed
+  pub number : 0 < placed.number
+  pub place : new.at < 33216
+  pub few : new.slots ≤ 33216
+  pub hole : new.begins ≡ true → HasHole v placed (new.at / 64)
+
+-- a name is in its directory, and the blocks are as they were
+abbrev pub entered : List (ℕ × Placed) → ℕ → Placed → DirectoryPart → Slot → ℕ → List (ℕ × Placed)
+entered nodes n p d slot birth = put_number nodes n (record { number = p.number; inode = p.inode; part = parts.Directory (with_name d slot birth) })
+
+abbrev pub entered_in : VolumeNow → ℕ → Placed → DirectoryPart → Slot → ℕ → VolumeNow
+entered_in v n p d slot birth = with_contents v (record { blocks = v.contents.blocks; nodes = entered v.contents.nodes n p d slot birth })
+
+-- the inode of a new file is written
+abbrev pub file_written : VolumeNow → ℕ → ℕ → Change
+file_written v n number =
+    let es : List Edit = inode_bit number true ∷ [] in
+    record {
+      volume = with_contents v (record { blocks = edited v.geometry (written v.geometry v.contents es).blocks (put_inode number new_file_inode); nodes = v.contents.nodes });
+      touched = and_then (tells_writes v.geometry es) (tells_node n (table_block v.geometry number ∷ []));
+    }
