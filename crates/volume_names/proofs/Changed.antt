@@ -99,8 +99,8 @@ pub noted_block : (s u w z x : Noted) (g : Geometry) (es : List Edit) (table num
 noted_block s u w z x g es table number n blocks e f same h k =
     ap (λ (x : Noted). x.touched) k
     ∙ (ap (λ (t : Touched). record t { nodes = t.nodes ++ n ∷ [] })
-      (h ∙ ap (λ t. and_then t (tells_blocks blocks))
-      (ap (λ (w : Noted). w.touched) (f ∙ ap (with_block u) same) ∙ ap (λ (t : Touched). record t { blocks = t.blocks ++ number ∷ [] }) e))
+    (h ∙ ap (λ t. and_then t (tells_blocks blocks))
+    (ap (λ (w : Noted). w.touched) (f ∙ ap (with_block u) same) ∙ ap (λ (t : Touched). record t { blocks = t.blocks ++ number ∷ [] }) e))
     ∙ told s.touched (touched_by_all g es) number n blocks)
   where
     told : (t : Touched) (bits : List ℕ) (number n : ℕ) (blocks : List ℕ) →

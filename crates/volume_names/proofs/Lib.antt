@@ -5,3 +5,4 @@ pub mod Mapped
 pub mod Entered
 pub mod NameRooms
 pub mod Named
+pub mod Creates

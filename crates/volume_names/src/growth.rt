@@ -43,12 +43,7 @@ pub fn add_block(v: &mut VolumeNow, n: u64, index: u32, touched: &mut Touched)
         &taken,
         &Block::fill(0),
     );
-    put_inode(
-        &mut v.blocks,
-        &v.geometry,
-        placed.number,
-        &placed.inode,
-    );
+    put_inode(&mut v.blocks, &v.geometry, placed.number, &placed.inode);
     touched.note_node(n);
 }
 

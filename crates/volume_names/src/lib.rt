@@ -1,6 +1,7 @@
 //! Calls that make and take names, done in place on a volume that is in use.
 #![tactic(auto)]
 
+mod creation;
 mod directories;
 mod entries;
 mod growth;
@@ -8,3 +9,5 @@ mod inodes;
 mod names;
 mod nodes;
 mod numbers;
+
+pub use creation::create;

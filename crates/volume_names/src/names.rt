@@ -7,20 +7,14 @@ ghost use Rattle.volume_names.specs.code.Steps.{After, MayWrite, block_added, na
 
 use crate::directories::NewSlot;
 use crate::growth::add_block;
-use crate::nodes::write_slot;
 use crate::inodes::new_file_inode;
+use crate::nodes::write_slot;
 use minix_layout::Slot;
 use volume_edits::{put_inode, set_bit, table_block};
 use volume_now::{Touched, VolumeNow};
 
 /// Writes the slot that came into the directory with this birth, which gets a block where one begins.
-pub fn write_name(
-    v: &mut VolumeNow,
-    n: u64,
-    slot: &Slot,
-    new: NewSlot,
-    touched: &mut Touched,
-)
+pub fn write_name(v: &mut VolumeNow, n: u64, slot: &Slot, new: NewSlot, touched: &mut Touched)
     requires may { MayWrite v.old n new }
     requires room { 11 ≤ touched.old.spare }
     ensures done { After touched.old.touched (name_written v.old n slot.now new) v.new touched.new.touched }
@@ -52,12 +46,7 @@ pub fn write_file(v: &mut VolumeNow, n: u64, number: u16, touched: &mut Touched)
 {
     set_bit(&mut v.blocks, &v.geometry, 2, number, true);
     touched.note_block(2 + u32::from(number / 8192));
-    put_inode(
-        &mut v.blocks,
-        &v.geometry,
-        number,
-        &new_file_inode(),
-    );
+    put_inode(&mut v.blocks, &v.geometry, number, &new_file_inode());
     touched.note_block(table_block(&v.geometry, number));
     touched.note_node(n);
 }
