@@ -6,3 +6,4 @@ pub mod Entered
 pub mod NameRooms
 pub mod Named
 pub mod Creates
+pub mod Links

@@ -3,12 +3,13 @@ ghost use Rattle.std.specs.Prelude.{◌≡◌, IfOk, OnErr};
 ghost use Rattle.volume_steps.specs.Calls.{create_in};
 ghost use Rattle.volume_names.specs.May.{MayCreate};
 
+use crate::directories::slot_of;
 use crate::entries::enter_new;
 use crate::inodes::new_file_inode;
 use crate::names::{write_file, write_name};
 use crate::numbers::free_number;
 use blk_base::NoMemory;
-use minix_layout::{Name, Slot};
+use minix_layout::Name;
 use std::alloc::Global;
 use volume_model::{FileZones, Part, Placed};
 use volume_now::{Touched, VolumeNow};
@@ -37,14 +38,4 @@ pub fn create(
     write_file(v, n, number, &mut touched);
     write_name(v, parent, &slot, new, &mut touched);
     Ok(touched)
-}
-
-// The slot of a name.
-fn slot_of(number: u16, name: &Name) -> Slot
-    ensures { result ≡ record { inode = number; name = name.now } }
-{
-    Slot {
-        inode: number,
-        name: name.copy(),
-    }
 }

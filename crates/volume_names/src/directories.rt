@@ -6,7 +6,7 @@ ghost use Rattle.volume_model.specs.Moves.{with_name};
 ghost use Rattle.volume_names.specs.code.NewSlot.{new_slot};
 
 use blk_base::NoMemory;
-use minix_layout::Slot;
+use minix_layout::{Name, Slot};
 use volume_model::DirectoryPart;
 
 /// Where a slot came: its place, whether a block of the directory begins with it, and how many slots there are then.
@@ -37,5 +37,15 @@ pub fn add_name(directory: &mut DirectoryPart, slot: Slot, birth: u64) -> Result
             directory.names.remove(&name);
             Err(NoMemory)
         }
+    }
+}
+
+/// The slot of a name.
+pub fn slot_of(number: u16, name: &Name) -> Slot
+    ensures { result ≡ record { inode = number; name = name.now } }
+{
+    Slot {
+        inode: number,
+        name: name.copy(),
     }
 }

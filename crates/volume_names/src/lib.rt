@@ -6,8 +6,10 @@ mod directories;
 mod entries;
 mod growth;
 mod inodes;
+mod linking;
 mod names;
 mod nodes;
 mod numbers;
 
 pub use creation::create;
+pub use linking::link;

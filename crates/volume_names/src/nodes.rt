@@ -7,7 +7,9 @@ ghost use Rattle.volume_model.specs.declared.placed.Placed.{Placed};
 ghost use Rattle.volume_names.specs.code.Steps.{After, slot_written, more_links};
 
 use minix_layout::Slot;
+use std::collections::BTreeMap;
 use volume_edits::{put_inode, put_slot, table_block};
+use volume_model::Placed;
 use volume_now::{Touched, VolumeNow, block_zone};
 
 /// Writes slot `at` of a directory, which has so many slots then.
@@ -52,4 +54,14 @@ pub fn add_link(v: &mut VolumeNow, n: u64, touched: &mut Touched)
     placed.inode.links += 1;
     put_inode(&mut v.blocks, &v.geometry, placed.number, &placed.inode);
     touched.note_block(table_block(&v.geometry, placed.number));
+}
+
+/// The inode of a node; 0 where there is no such node.
+pub fn number_of(nodes: &BTreeMap<u64, Placed>, n: u64) -> u16
+    ensures { (p : Placed) → at_number nodes.now.entries n ≡ Some p → result ≡ p.number }
+{
+    match nodes.get(&n) {
+        Some(placed) => placed.number,
+        None => 0,
+    }
 }
