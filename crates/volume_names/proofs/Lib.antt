@@ -7,3 +7,4 @@ pub mod NameRooms
 pub mod Named
 pub mod Creates
 pub mod Links
+pub mod Makes

@@ -47,3 +47,13 @@ pub record MayLink (v : VolumeNow) (birth parent : ℕ) (name : List ℕ) : Type
   pub links : placed.inode.links < most_links
   pub place : FreePlace v parent name
   pub zones : LeavesZones v parent name place 0
+
+-- a directory with birth n may come under this name
+pub record MayMkdir (v : VolumeNow) (n parent : ℕ) (name : List ℕ) : Type 0 where
+  pub plain : IsPlainNow v
+  pub born : AreBornBefore n (tree_of_now v)
+  pub inode : length v.contents.nodes < v.geometry.inodes
+  pub place : FreePlace v parent name
+  pub links : place.placed.inode.links < most_links
+  pub zones : LeavesZones v parent name place 1
+  pub some_zone : 1 ≤ count_by is_free v.zones.states

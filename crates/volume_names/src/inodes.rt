@@ -1,8 +1,13 @@
-//! Inodes of new nodes.
-ghost use Rattle.std.specs.Prelude.{◌≡◌};
-ghost use Rattle.volume_steps.specs.Steps.{new_file_inode};
+//! Inodes and slots of new nodes.
+ghost use Rattle.std.specs.Prelude.{◌≡◌, [], codes, IfOk};
+ghost use Rattle.volume_model.specs.declared.placed.Part.TheVariants as parts;
+ghost use Rattle.volume_steps.specs.Steps.{dot_slots, new_file_inode, new_directory_inode};
 
-use minix_layout::{Inode, Zones};
+use blk_base::NoMemory;
+use dir_ops::Slots;
+use minix_layout::{Inode, Name, Slot, Zones};
+use std::alloc::Global;
+use volume_model::{DirectoryPart, NameMap, Part, Placed};
 
 /// A regular file with the rights 644, of no bytes, with one link.
 pub fn new_file_inode() -> Inode
@@ -17,4 +22,63 @@ pub fn new_file_inode() -> Inode
         links: 1,
         zones: Zones::of([0; 9]),
     }
+}
+
+/// A directory with the rights 755, of two slots in this zone, with two links.
+pub fn new_directory_inode(zone: u16) -> Inode
+    ensures { result ≡ new_directory_inode zone }
+{
+    Inode {
+        mode: 0o040_755,
+        uid: 0,
+        size: 32,
+        time: 0,
+        gid: 0,
+        links: 2,
+        zones: Zones::of([zone, 0, 0, 0, 0, 0, 0, 0, 0]),
+    }
+}
+
+/// The slot of a directory for itself.
+pub fn dot(own: u16) -> Slot
+    ensures { result ≡ record { inode = own; name = codes "." } }
+{
+    Slot {
+        inode: own,
+        name: Name::of(b".").unwrap(),
+    }
+}
+
+/// The slot of a directory for the one above it.
+pub fn dots(above: u16) -> Slot
+    ensures { result ≡ record { inode = above; name = codes ".." } }
+{
+    Slot {
+        inode: above,
+        name: Name::of(b"..").unwrap(),
+    }
+}
+
+/// A directory without names, before it has a zone.
+pub fn new_directory(
+    alloc: Global,
+    number: u16,
+    parent: u64,
+    above: u16,
+) -> Result<Placed, NoMemory>
+    ensures { IfOk result (λ p. p ≡ record {
+        number = number; inode = new_directory_inode 0;
+        part = parts.Directory (record { parent = parent; names = []; slots = dot_slots number above });
+    }) }
+{
+    let slots = Vec::from_array(alloc, [Some(dot(number)), Some(dots(above))])?;
+    Ok(Placed {
+        number,
+        inode: new_directory_inode(0),
+        part: Part::Directory(DirectoryPart {
+            parent,
+            names: NameMap::new(alloc),
+            slots: Slots::of(slots),
+        }),
+    })
 }

@@ -7,9 +7,12 @@ mod entries;
 mod growth;
 mod inodes;
 mod linking;
+mod making;
+mod marks;
 mod names;
 mod nodes;
 mod numbers;
 
 pub use creation::create;
 pub use linking::link;
+pub use making::mkdir;

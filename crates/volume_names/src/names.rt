@@ -8,9 +8,10 @@ ghost use Rattle.volume_names.specs.code.Steps.{After, MayWrite, block_added, na
 use crate::directories::NewSlot;
 use crate::growth::add_block;
 use crate::inodes::new_file_inode;
+use crate::marks::mark_inode;
 use crate::nodes::write_slot;
 use minix_layout::Slot;
-use volume_edits::{put_inode, set_bit, table_block};
+use volume_edits::{put_inode, table_block};
 use volume_now::{Touched, VolumeNow};
 
 /// Writes the slot that came into the directory with this birth, which gets a block where one begins.
@@ -44,8 +45,13 @@ pub fn write_file(v: &mut VolumeNow, n: u64, number: u16, touched: &mut Touched)
     ensures done { After touched.old.touched (file_written v.old n number) v.new touched.new.touched }
     ensures spare { touched.old.spare ≤ touched.new.spare + 3 }
 {
-    set_bit(&mut v.blocks, &v.geometry, 2, number, true);
-    touched.note_block(2 + u32::from(number / 8192));
+    mark_inode(
+        &mut v.blocks,
+        &v.geometry,
+        true,
+        number,
+        touched,
+    );
     put_inode(&mut v.blocks, &v.geometry, number, &new_file_inode());
     touched.note_block(table_block(&v.geometry, number));
     touched.note_node(n);

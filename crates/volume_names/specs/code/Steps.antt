@@ -1,5 +1,5 @@
 -- Steps as the code takes them: a name is in its directory before the blocks are written.
-use Rattle.std.specs.Prelude.{◌≡◌, ℕ, ◌+◌, ◌*◌, ◌/◌, ◌%◌, ◌<◌, ◌≤◌, nat_lt, nat_eq, slice_index, Bool, true, if◌then◌else◌, List, [], ◌∷◌, ◌++◌, map, length, Option, Some}
+use Rattle.std.specs.Prelude.{◌≡◌, ℕ, ◌+◌, ◌*◌, ◌/◌, ◌%◌, ◌<◌, ◌≤◌, nat_lt, nat_eq, slice_index, Bool, true, if◌then◌else◌, List, [], ◌∷◌, ◌++◌, map, length, codes, Option, Some}
 use Rattle.byte_fields.specs.Fields.{zeros}
 use Rattle.minix_layout.specs.declared.inode.Inode.{Inode}
 use Rattle.minix_layout.specs.Geometry.{IsSound}
@@ -9,15 +9,16 @@ use Rattle.volume_ops.specs.Places.{table_block}
 use Rattle.volume_model.specs.declared.placed.Placed.{Placed}
 use Rattle.volume_model.specs.declared.placed.Part.TheVariants as parts
 use Rattle.volume_model.specs.declared.placed.DirectoryPart.{DirectoryPart}
-use Rattle.volume_model.specs.Edits.{Edit, put_inode, put_slot, edited, touched_by_all}
+use Rattle.volume_model.specs.Edits.{Edit, put_body, put_inode, put_slot, edited, touched_by_all}
 use Rattle.volume_model.specs.Volume.{block, zone_in}
 use Rattle.volume_model.specs.Ways.{way}
 use Rattle.volume_model.specs.MapBlock.{OpenInode, TakenZones, own_of, map_block, all_edits}
 use Rattle.volume_model.specs.Touched.{Touched, and_then}
 use Rattle.volume_model.specs.Moves.{opened, closed, with_size, with_name}
 use Rattle.volume_steps.specs.Now.{VolumeNow, Change, with_contents, written, unchanged, followed_by, tells_writes}
-use Rattle.volume_steps.specs.Zones.{inode_bit, zone_bit, take_zones}
-use Rattle.volume_steps.specs.Steps.{at_node, tells_node, set_links, new_file_inode}
+use Rattle.volume_steps.specs.Zones.{inode_bit, zone_bit, next_zone, take_zones}
+use Rattle.zone_maps.specs.Zones.{taken}
+use Rattle.volume_steps.specs.Steps.{at_node, tells_node, set_links, new_file_inode, new_directory_inode, new_directory_edits}
 use Rattle.volume_names.specs.declared.directories.NewSlot.{NewSlot}
 
 -- a change was done after others that touched this
@@ -98,3 +99,28 @@ file_written v n number =
       volume = with_contents v (record { blocks = edited v.geometry (written v.geometry v.contents es).blocks (put_inode number new_file_inode); nodes = v.contents.nodes });
       touched = and_then (tells_writes v.geometry es) (tells_node n (table_block v.geometry number ∷ []));
     }
+
+-- a new directory gets its zone, and is written
+abbrev pub directory_step : VolumeNow → ℕ → ℕ → Placed → Change
+directory_step v n above q =
+    let zone = next_zone v.zones in
+    let es = new_directory_edits v.geometry q.number zone above in
+    record {
+      volume = record {
+        geometry = v.geometry;
+        contents = record {
+          blocks = (written v.geometry v.contents es).blocks;
+          nodes = put_number v.contents.nodes n (record { number = q.number; inode = new_directory_inode zone; part = q.part });
+        };
+        zones = taken v.zones;
+      };
+      touched = and_then (tells_writes v.geometry es) (tells_node n []);
+    }
+
+abbrev pub directory_written : VolumeNow → ℕ → ℕ → Change
+directory_written v n above = at_node v n (directory_step v n above)
+
+-- the zone of a new directory
+abbrev pub dot_edits : ℕ → ℕ → ℕ → List Edit
+dot_edits zone own above =
+    put_body zone (zeros 1024) ∷ put_slot zone 0 (Some (record { inode = own; name = codes "." })) ∷ put_slot zone 1 (Some (record { inode = above; name = codes ".." })) ∷ []
