@@ -1,0 +1,6 @@
+pub mod Patches
+pub mod Steps
+pub mod Told
+pub mod Writes
+pub mod Sizes
+pub mod WholeWrites

@@ -1,0 +1,2 @@
+-- What the code does to a file that is open.
+pub mod Work

@@ -1,0 +1,18 @@
+//! Bytes of files in a volume that is in use, as code: what `write` and `truncate` do where their path has led.
+//!
+//! `content` has what is written, `open` takes a file's node out and puts it back, `blocks` writes single blocks, and
+//! `writing` all of them. What memory is asked for comes first: then nothing is refused.
+//!
+//! Stands on `volume_now`, whose parts of a volume it changes and whose notes it takes, and on `volume_steps`, whose
+//! definitions the calls meet.
+#![tactic(auto)]
+
+mod blocks;
+mod bodies;
+mod content;
+mod numbers;
+mod open;
+mod writing;
+
+pub use content::Content;
+pub use writing::write;
