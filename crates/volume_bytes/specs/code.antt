@@ -1,2 +1,3 @@
 -- What the code does to a file that is open.
 pub mod Work
+pub mod Cutting

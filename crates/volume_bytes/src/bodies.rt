@@ -1,5 +1,5 @@
 //! Bodies of blocks, each made anew.
-ghost use Rattle.std.specs.Prelude.{◌≡◌, ◌≤◌, ◌<◌, ◌+◌, ◌*◌, ◌-◌, length, take, drop, replicate, ◌++◌};
+ghost use Rattle.std.specs.Prelude.{◌≡◌, ◌≢◌, ◌≤◌, ◌<◌, ◌+◌, ◌*◌, ◌-◌, ◌/◌, ◌%◌, length, take, drop, replicate, ◌++◌};
 ghost use Rattle.tree_model.specs.Calls.{patched, cut_body, largest_size};
 ghost use Rattle.volume_ops.specs.Volume.{disk_of};
 ghost use Rattle.volume_bytes.specs.Contents.{bytes_of};
@@ -76,5 +76,18 @@ pub fn patched_zone(blocks: &Image, zone: u16, index: u32, off: u32, content: &C
         patched(blocks.block(zone.into()), index, off, content)
     } else {
         patched(&Block::fill(0), index, off, content)
+    }
+}
+
+// The block of a zone in which a size ends, with zeros behind that.
+pub fn cut_zone(blocks: &Image, zone: u16, size: u32) -> Block
+    requires { size % 1024 ≢ 0 }
+    ensures { result ≡ cut_body size (size / 1024) (disk_of blocks.now zone) }
+{
+    let keep = (size % 1024) as usize;
+    if u32::from(zone) < blocks.len() {
+        cut_off(blocks.block(zone.into()), keep)
+    } else {
+        cut_off(&Block::fill(0), keep)
     }
 }

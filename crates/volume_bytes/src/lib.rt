@@ -10,6 +10,7 @@
 mod blocks;
 mod bodies;
 mod content;
+mod cutting;
 mod numbers;
 mod open;
 mod writing;

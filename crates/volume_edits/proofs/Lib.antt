@@ -3,3 +3,4 @@ mod MapSteps
 mod CutSteps
 mod HoleSteps
 mod FreedSteps
+mod WrittenSteps

@@ -19,6 +19,7 @@ mod mapping;
 #[cfg(test)]
 mod tests;
 mod wanted;
+mod written;
 
 pub use bodies::zone_entry;
 pub use cutting::cut_to;
@@ -27,3 +28,4 @@ pub use freed::{CutZones, zones_cut};
 pub use laws::cut_zones_are_told;
 pub use mapping::{TakenZones, map_block};
 pub use wanted::{WantedZones, holes};
+pub use written::{WrittenZones, zones_written};

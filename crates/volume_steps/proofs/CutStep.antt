@@ -242,7 +242,7 @@ module _ (tx : ℕ) (v : VolumeNow) (h : IsInUse v) (n : ℕ) (p : Placed) (zone
           let same : x ≡ w.0 = one_place x w.0 (sym w.2) (there (nat_eq (own x) 0) refl t) in
           apart.0 (subst (λ z. In z xs) (sym same) y)
 
-  freed_apart : AreApart freed
+  pub freed_apart : AreApart freed
   freed_apart = apart_both data_gone numbers (zones_apart zones (λ m i. i) part.rising) (numbers_apart number_places places_apart) (λ z i j.
       let w = data_at z i in
       let told = part.listed w.0 w.1 in
