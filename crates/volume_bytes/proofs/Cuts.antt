@@ -51,9 +51,9 @@ any_gone from (m ∷ zones) = elim (cases_lt m.index from) [
   | inr high ↦ rw (le-ltb m.index from high, le-leb from m.index high) (sym (ap not (ne_eqb (suc (length (blocks_gone zones from))) 0 (λ e. (omega arith)))))
 ]
 
-numbers_same : (blocks : List (List ℕ)) (v : VolumeNow) (p : Placed) (keeps : Place → Bool) → numbers_cut v.contents.blocks p.inode keeps ≡ numbers_gone v.contents p keeps
+pub numbers_same : (v : VolumeNow) (p : Placed) (keeps : Place → Bool) → numbers_cut v.contents.blocks p.inode keeps ≡ numbers_gone v.contents p keeps
 unfolding numbers_cut
-numbers_same blocks v p keeps = refl
+numbers_same v p keeps = refl
 
 -- what is told, in one piece
 told_as : (t : Touched) (bits freed revoked written : List ℕ) (dropped : List Page) (table n : ℕ) →

@@ -6,3 +6,4 @@ pub mod Sizes
 pub mod Freeing
 pub mod Cuts
 pub mod WholeWrites
+pub mod WholeCuts

@@ -1,7 +1,7 @@
 //! Bytes of files in a volume that is in use, as code: what `write` and `truncate` do where their path has led.
 //!
-//! `content` has what is written, `open` takes a file's node out and puts it back, `blocks` writes single blocks, and
-//! `writing` all of them. What memory is asked for comes first: then nothing is refused.
+//! `content` has what is written. `open` takes a file's node out and puts it back, and `blocks` and `cutting` change it
+//! meanwhile; `writing` and `truncating` have the calls. What memory is asked for comes first: then nothing is refused.
 //!
 //! Stands on `volume_now`, whose parts of a volume it changes and whose notes it takes, and on `volume_steps`, whose
 //! definitions the calls meet.
@@ -13,7 +13,9 @@ mod content;
 mod cutting;
 mod numbers;
 mod open;
+mod truncating;
 mod writing;
 
 pub use content::Content;
+pub use truncating::truncate;
 pub use writing::write;

@@ -75,8 +75,8 @@ abbrev pub cut_work : ℕ → ℕ → List Mapped → List ℕ → List ℕ → 
 cut_work tx from ms numbers written w =
     if nat_eq (length ms) 0 then w
     else
-      let c = all_freed tx w.file.birth ms numbers (record { volume = w.volume; touched = w.touched }) in
-      map_cut from written (record { volume = c.volume; file = w.file; touched = c.touched })
+    let c = all_freed tx w.file.birth ms numbers (record { volume = w.volume; touched = w.touched }) in
+    map_cut from written (record { volume = c.volume; file = w.file; touched = c.touched })
 
 -- a block in which the size ends has zeros behind it
 abbrev pub tail_work : ℕ → Work → Work
