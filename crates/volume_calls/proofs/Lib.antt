@@ -3,5 +3,6 @@ pub mod NameTexts
 pub mod WalkSteps
 pub mod DirectorySlots
 pub mod TakeSteps
+pub mod AskReplies
 pub mod AskSteps
 pub mod NewInUse

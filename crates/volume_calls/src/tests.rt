@@ -1,6 +1,7 @@
 //! Tests of what a new volume answers.
 ghost use Rattle.std.specs.Prelude.{◌≡◌, true, IfOk};
 ghost use Rattle.minix_layout.specs.Geometry.{IsSound};
+ghost use Rattle.tree_model.specs.Calls.{leaves_tree};
 ghost use Rattle.volume_model.specs.NewVolume.{new_blocks, root_inode, root_placed};
 ghost use Rattle.volume_calls.specs.Asked.{is_told};
 ghost use Rattle.volume_calls.specs.NewNow.{new_now};
@@ -164,5 +165,41 @@ fn answers_on_a_new_volume(rt: HostRuntime) -> Result<(), Fail> {
         Some(b'.')
     );
     assert_eq!(rt; volume.block_bytes(64).as_slice().get(2).copied(), Some(0));
+    Ok(())
+}
+
+// What a call is answered that changes nothing.
+fn asked(alloc: Global, volume: &PlainVolume, call: &Call) -> Result<String, AllocError>
+    requires { leaves_tree call.now ≡ true }
+{
+    let Ok(reply) = volume.ask(alloc, call) else {
+        return Err(AllocError);
+    };
+    format!(in alloc; "{reply:?}")
+}
+
+#[test]
+fn tells_of_the_root(rt: HostRuntime) -> Result<(), Fail> {
+    let alloc = rt.alloc();
+    let volume = new_volume(alloc, SMALL)?;
+    let call = Call::Stat(path(alloc, b"/")?);
+    assert_eq!(rt;
+        asked(alloc, &volume, &call)?.as_str(),
+        "Stat { dir: true, size: 32, links: 2 }"
+    );
+    let call = Call::List(path(alloc, b"/")?);
+    assert_eq!(rt;
+        asked(alloc, &volume, &call)?.as_str(),
+        "Names(NameList { names: [] })"
+    );
+    let call = Call::Read {
+        path: path(alloc, b"/")?,
+        off: 0,
+        len: 4,
+    };
+    assert_eq!(rt; asked(alloc, &volume, &call)?.as_str(), "IsDir");
+    let call = Call::Fsync(path(alloc, b"/a")?);
+    assert_eq!(rt; asked(alloc, &volume, &call)?.as_str(), "NotFound");
+    assert_eq!(rt; asked(alloc, &volume, &Call::Sync)?.as_str(), "Ok");
     Ok(())
 }
