@@ -19,7 +19,7 @@ use Rattle.volume_model.specs.Ways.{OnWay}
 use Rattle.volume_model.specs.laws.OnWay.{way_mapped}
 use Rattle.volume_model.specs.laws.ZoneMoves.{no_numbers}
 use Rattle.volume_steps.specs.Now.{VolumeNow}
-use Rattle.volume_steps.specs.Plain.{IsInUse}
+use Rattle.volume_model.specs.Moves.{IsVolume}
 use Rattle.volume_steps.specs.Steps.{all_numbers, block_zones, metadata_gone, pages_gone}
 use Rattle.volume_steps.proofs.CutStep.{in_range, length_map, length_both}
 use Rattle.volume_steps.proofs.Grows.{is_directory_part}
@@ -35,7 +35,7 @@ length_range : (a n : ℕ) → length (range_with_len a n) ≡ n
 length_range a zero = refl
 length_range a (suc n) = ap suc (length_range (a + 1) n)
 
-module _ (v : VolumeNow) (h : IsInUse v) (n : ℕ) (p : Placed) (at : at_number v.contents.nodes n ≡ Some p) (d : DirectoryPart) (is : p.part ≡ parts.Directory d)
+module _ (v : VolumeNow) (h : IsVolume v.geometry v.contents) (n : ℕ) (p : Placed) (at : at_number v.contents.nodes n ≡ Some p) (d : DirectoryPart) (is : p.part ≡ parts.Directory d)
     (slotted : HasSlotZones v.contents.blocks p.inode (length d.slots)) where
   abbrev own : Place → ℕ
   own x = zone_in v.contents.blocks p.inode x
@@ -119,7 +119,7 @@ module _ (v : VolumeNow) (h : IsInUse v) (n : ℕ) (p : Placed) (at : at_number 
   no_second x i = elim (cases_Bool (goes x)) [
     | inr f ↦ f
     | inl t ↦
-        let w = h.volume.1 n p at x (goes_some v h n p at x t) in
+        let w = h.1 n p at x (goes_some v h n p at x t) in
         let low = near w.0 w.1 in
         absurd (far x i w.0 w.2 low)
   ]
@@ -136,11 +136,11 @@ module _ (v : VolumeNow) (h : IsInUse v) (n : ℕ) (p : Placed) (at : at_number 
   first_goes = elim (cases_Bool (nat_lt 448 (length d.slots))) [
     | inl t ↦
         let more = ltb-true _ _ t in
-        some_goes v h n p at indirect (way_mapped v.contents.blocks p.inode h.volume.0.whole indirect 7 ((omega arith), (omega arith)) (slotted.no_hole 7 (omega arith))) ∙ sym t
+        some_goes v h n p at indirect (way_mapped v.contents.blocks p.inode h.0.whole indirect 7 ((omega arith), (omega arith)) (slotted.no_hole 7 (omega arith))) ∙ sym t
     | inr f ↦ elim (cases_Bool (goes indirect)) [
       | inr g ↦ g ∙ sym f
       | inl t ↦
-          let w = h.volume.1 n p at indirect (goes_some v h n p at indirect t) in
+          let w = h.1 n p at indirect (goes_some v h n p at indirect t) in
           let low = slotted.no_more w.0 w.1 in
           let high = w.2.0 in
           let few = ltb-false _ _ f in

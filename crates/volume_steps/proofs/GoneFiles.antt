@@ -10,7 +10,7 @@ use Rattle.volume_ops.specs.declared.found.Mapped.{Mapped}
 use Rattle.volume_model.specs.declared.placed.Placed.{Placed}
 use Rattle.volume_model.specs.declared.placed.Part.TheVariants as parts
 use Rattle.volume_model.specs.Counts.{indices_of, number_places, uses as uses_place}
-use Rattle.volume_model.specs.Moves.{page_of}
+use Rattle.volume_model.specs.Moves.{IsVolume, page_of}
 use Rattle.volume_model.specs.Touched.{Page}
 use Rattle.tree_model.specs.Calls.{node_zones}
 use Rattle.volume_model.specs.Trees.{node_now}
@@ -20,7 +20,6 @@ use Rattle.volume_model.specs.laws.Indexed.{file_indexed}
 use Rattle.volume_model.specs.laws.Ways.{own_none}
 use Rattle.volume_model.specs.laws.ZoneMoves.{no_numbers}
 use Rattle.volume_steps.specs.Now.{VolumeNow}
-use Rattle.volume_steps.specs.Plain.{IsInUse}
 use Rattle.volume_steps.specs.Steps.{all_numbers, block_zones, metadata_gone, pages_gone}
 use Rattle.volume_steps.proofs.CutStep.{places_apart, of_numbers_place, above_all, length_map, length_both, filter_agree_in}
 use Rattle.volume_steps.proofs.Files.{node_zones_are}
@@ -32,7 +31,7 @@ pub in_from : (a n k : ℕ) → a ≤ k → k < a + n → In k (range_with_len a
 in_from a zero k low high = absurd (omega arith)
 in_from a (suc n) k low high = elim (cases_eq a k) [ inl e ↦ inl e | inr far ↦ inr (in_from (a + 1) n k (omega arith) (omega arith)) ]
 
-module _ (v : VolumeNow) (h : IsInUse v) (n : ℕ) (p : Placed) (at : at_number v.contents.nodes n ≡ Some p) where
+module _ (v : VolumeNow) (h : IsVolume v.geometry v.contents) (n : ℕ) (p : Placed) (at : at_number v.contents.nodes n ≡ Some p) where
   abbrev own : Place → ℕ
   own x = zone_in v.contents.blocks p.inode x
 
@@ -43,7 +42,7 @@ module _ (v : VolumeNow) (h : IsInUse v) (n : ℕ) (p : Placed) (at : at_number 
   numbers = all_numbers v.contents p
 
   pub one_place : (x y : Place) → own x ≡ own y → own x ≢ 0 → x ≡ y
-  one_place x y same some = (h.volume.0.zones n n p p x y at at same some).1
+  one_place x y same some = (h.0.zones n n p p x y at at same some).1
 
   pub goes_some : (x : Place) → goes x ≡ true → own x ≢ 0
   goes_some x t = by (nat_eq (own x) 0) refl t
@@ -60,7 +59,7 @@ module _ (v : VolumeNow) (h : IsInUse v) (n : ℕ) (p : Placed) (at : at_number 
   in_places double numbers some = inr (inl refl)
   in_places (inner k) numbers some = elim (cases_lt k 512) [
     | inl low ↦ inr (inr (map-In inner (range_with_len 0 512) k (in_from 0 512 k (omega arith) (omega arith))))
-    | inr high ↦ absurd (some (own_none v.contents.blocks p.inode h.volume.0.whole (inner k) (rw (le-ltb k 512 high) refl)))
+    | inr high ↦ absurd (some (own_none v.contents.blocks p.inode h.0.whole (inner k) (rw (le-ltb k 512 high) refl)))
   ]
   in_places (block i) numbers some = elim numbers [ ]
 
@@ -94,7 +93,7 @@ module _ (v : VolumeNow) (h : IsInUse v) (n : ℕ) (p : Placed) (at : at_number 
 
   module _ (zones : List Mapped) (is : p.part ≡ parts.File zones) where
     part : IsFilePart v.contents.blocks p.inode zones
-    part = subst (IsPart v.contents.blocks p.inode) is (h.volume.0.each n p at).part
+    part = subst (IsPart v.contents.blocks p.inode) is (h.0.each n p at).part
 
     abbrev data_zones : List ℕ
     data_zones = map (λ (m : Mapped). m.zone) zones
@@ -150,7 +149,7 @@ module _ (v : VolumeNow) (h : IsInUse v) (n : ℕ) (p : Placed) (at : at_number 
         all_in (inner k) some = In-append_right data_zones numbers (own (inner k)) (number_in (inner k) at_inner some)
 
     indexed : IsIndexed own (indices_of zones)
-    indexed = file_indexed v.geometry v.contents.blocks v.contents.nodes n p zones h.volume.0 at is (h.volume.1 n p at)
+    indexed = file_indexed v.geometry v.contents.blocks v.contents.nodes n p zones h.0 at is (h.1 n p at)
 
     sums : (a b c d e f t : ℕ) → a ≡ b → c ≡ d → d ≡ e → f ≡ b → t ≡ a + c → t ≡ f + e
     sums a b c d e f t p q r s x = omega arith

@@ -242,11 +242,11 @@ module _ (tx : ℕ) (v : VolumeNow) (h : IsPlainNow v) (n : ℕ) (before : AreBo
 
   abbrev gone : Change
   gone = dropped_change tx v2 second.steady.in_use birth y.placed at2 (block_zones v2.contents y.placed y.placed.part ++ all_numbers v2.contents y.placed) (metadata_gone v2.contents y.placed y.placed.part) (pages_gone birth y.placed.part)
-      (lists_of_directory v2 second.steady.in_use birth y.placed at2 y.part y.is slot_zones) (count_of_directory v2 second.steady.in_use birth y.placed at2 y.part y.is slot_zones) unnamed
+      (lists_of_directory v2 second.steady.in_use.volume birth y.placed at2 y.part y.is slot_zones) (count_of_directory v2 second.steady.in_use.volume birth y.placed at2 y.part y.is slot_zones) unnamed
 
   third : StepsTo tx v2 gone (without_number (tree_of_now v2) birth) (links_at gone.volume.contents.nodes)
   third = drops tx v2 second.steady.in_use birth y.placed at2 (block_zones v2.contents y.placed y.placed.part ++ all_numbers v2.contents y.placed) (metadata_gone v2.contents y.placed y.placed.part) (pages_gone birth y.placed.part)
-      (lists_of_directory v2 second.steady.in_use birth y.placed at2 y.part y.is slot_zones) (count_of_directory v2 second.steady.in_use birth y.placed at2 y.part y.is slot_zones) unnamed second.settled second.slotted no_child
+      (lists_of_directory v2 second.steady.in_use.volume birth y.placed at2 y.part y.is slot_zones) (count_of_directory v2 second.steady.in_use.volume birth y.placed at2 y.part y.is slot_zones) unnamed second.settled second.slotted no_child
 
   tree_all : without_number (tree_of_now v2) birth ≡ d.tree
   tree_all = ap (λ tree. without_number tree birth) tree2 ∙ sym said.tree_is
@@ -319,4 +319,4 @@ module _ (tx : ℕ) (v : VolumeNow) (h : IsPlainNow v) (n : ℕ) (before : AreBo
       ∙ ap (λ c. joined less (joined unlinked c)) (at_node_is v2 birth y.placed (node_dropped v2 tx birth) at2))))))
       (call_ends tx v (joined less (joined unlinked gone)) d.tree (links_at gone.volume.contents.nodes) whole plain_after (subst (λ tree. AreLinked tree (links_at gone.volume.contents.nodes)) (sym said.tree_is) links_all)
       (inr (dropped_frees tx v2 second.steady.in_use birth y.placed at2 (block_zones v2.contents y.placed y.placed.part ++ all_numbers v2.contents y.placed) (metadata_gone v2.contents y.placed y.placed.part) (pages_gone birth y.placed.part)
-      (lists_of_directory v2 second.steady.in_use birth y.placed at2 y.part y.is slot_zones) (count_of_directory v2 second.steady.in_use birth y.placed at2 y.part y.is slot_zones) unnamed)))
+      (lists_of_directory v2 second.steady.in_use.volume birth y.placed at2 y.part y.is slot_zones) (count_of_directory v2 second.steady.in_use.volume birth y.placed at2 y.part y.is slot_zones) unnamed)))

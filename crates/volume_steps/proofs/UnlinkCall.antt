@@ -188,7 +188,7 @@ module _ (tx : ℕ) (v : VolumeNow) (h : IsPlainNow v) (n : ℕ) (before : AreBo
 
     abbrev gone : Change
     gone = dropped_change tx v1 first.steady.in_use birth y.placed at1 (block_zones v1.contents y.placed y.placed.part ++ all_numbers v1.contents y.placed) (metadata_gone v1.contents y.placed y.placed.part) (pages_gone birth y.placed.part)
-        (lists_of_file v1 first.steady.in_use birth y.placed at1 y.zones y.is) (count_of_file v1 first.steady.in_use birth y.placed at1 y.zones y.is) unnamed
+        (lists_of_file v1 first.steady.in_use.volume birth y.placed at1 y.zones y.is) (count_of_file v1 first.steady.in_use.volume birth y.placed at1 y.zones y.is) unnamed
 
     no_child : (a : ℕ) (r : Placed) (e : DirectoryPart) → a ≢ birth → at_number v1.contents.nodes a ≡ Some r → r.part ≡ parts.Directory e → e.parent ≢ birth
     no_child a r e far at part same =
@@ -205,7 +205,7 @@ module _ (tx : ℕ) (v : VolumeNow) (h : IsPlainNow v) (n : ℕ) (before : AreBo
 
     gone_step : StepsTo tx v1 gone (without_number (tree_of_now v1) birth) (links_at gone.volume.contents.nodes)
     gone_step = drops tx v1 first.steady.in_use birth y.placed at1 (block_zones v1.contents y.placed y.placed.part ++ all_numbers v1.contents y.placed) (metadata_gone v1.contents y.placed y.placed.part) (pages_gone birth y.placed.part)
-        (lists_of_file v1 first.steady.in_use birth y.placed at1 y.zones y.is) (count_of_file v1 first.steady.in_use birth y.placed at1 y.zones y.is) unnamed first.settled first.slotted no_child
+        (lists_of_file v1 first.steady.in_use.volume birth y.placed at1 y.zones y.is) (count_of_file v1 first.steady.in_use.volume birth y.placed at1 y.zones y.is) unnamed first.settled first.slotted no_child
 
   -- ---- links of directories
 
@@ -285,7 +285,7 @@ module _ (tx : ℕ) (v : VolumeNow) (h : IsPlainNow v) (n : ℕ) (before : AreBo
       (subst (λ tree. AreLinked tree (links_at (gone last).volume.contents.nodes)) (ap (λ tree. without_number tree birth) (sym first.tree_is))
       (links_all (without_number tree1 birth) (links_at (gone last).volume.contents.nodes) kinds was))
       (inr (dropped_frees tx v1 first.steady.in_use birth y.placed at1 (block_zones v1.contents y.placed y.placed.part ++ all_numbers v1.contents y.placed) (metadata_gone v1.contents y.placed y.placed.part) (pages_gone birth y.placed.part)
-      (lists_of_file v1 first.steady.in_use birth y.placed at1 y.zones y.is) (count_of_file v1 first.steady.in_use birth y.placed at1 y.zones y.is) (unnamed last)))))
+      (lists_of_file v1 first.steady.in_use.volume birth y.placed at1 y.zones y.is) (count_of_file v1 first.steady.in_use.volume birth y.placed at1 y.zones y.is) (unnamed last)))))
     where
       last : said.file.links ≤ 1
       last = leb-true said.file.links 1 none
