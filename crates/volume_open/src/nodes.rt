@@ -1,0 +1,88 @@
+//! The nodes that a walk found, each with its place in the volume.
+ghost use Rattle.std.specs.Prelude.{◌≡◌, [], IfOk, OnOk};
+ghost use Rattle.blk_base.specs.Members.{In};
+ghost use Rattle.tree_model.specs.Maps.{put_number};
+ghost use Rattle.volume_ops.specs.declared.found.FoundNode.{FoundNode};
+ghost use Rattle.volume_model.specs.ImageNodes.{part_found};
+ghost use Rattle.volume_open.specs.code.Placing.{HasOrder, IsNodeFound, placed_found, put_all};
+
+use crate::fields::slots_in;
+use blk_base::NoMemory;
+use minix_layout::{Geometry, Inode};
+use std::alloc::Global;
+use std::collections::BTreeMap;
+use tree_model::Names;
+use volume_model::{DirectoryPart, FileZones, NameMap, Part, Placed};
+use volume_ops::{Disk, Found, FoundNode, inode_at, inode_of_birth};
+
+// The names of a directory that may change.
+fn name_map(alloc: Global, names: &Names) -> Result<NameMap, NoMemory>
+    ensures { IfOk result (λ map. map ≡ names.now) }
+{
+    let mut map = NameMap::new(alloc);
+    for (name, birth) in names.as_map() {
+        map.put(name.copy(), *birth)?;
+    }
+    Ok(map)
+}
+
+fn part_found(alloc: Global, disk: &Disk, inode: &Inode, found: Found) -> Result<Part, NoMemory>
+    requires { HasOrder found }
+    ensures { IfOk result (λ part. part ≡ part_found disk.now inode.now found) }
+{
+    match found {
+        Found::Directory(directory) => Ok(Part::Directory(DirectoryPart {
+            parent: directory.parent,
+            names: name_map(alloc, &directory.names)?,
+            slots: slots_in(alloc, disk, inode)?,
+        })),
+        Found::File(file) => Ok(Part::File(FileZones::of(file.zones.into_vec()))),
+        Found::Other(_) => Ok(Part::File(FileZones::new(alloc))),
+    }
+}
+
+fn placed_found(
+    alloc: Global,
+    g: &Geometry,
+    disk: &Disk,
+    node: FoundNode,
+) -> Result<Placed, NoMemory>
+    requires { IsNodeFound node }
+    ensures { IfOk result (λ placed. placed ≡ placed_found g.now disk.now node) }
+{
+    let number = inode_of_birth(node.birth);
+    let inode = inode_at(disk, g, number);
+    let part = part_found(alloc, disk, &inode, node.found)?;
+    Ok(Placed {
+        number,
+        inode,
+        part,
+    })
+}
+
+fn put_node(nodes: &mut BTreeMap<u64, Placed>, birth: u64, placed: Placed) -> Result<(), NoMemory>
+    ensures { OnOk result (nodes.new.entries ≡ put_number nodes.old.entries birth placed) }
+{
+    match nodes.insert(birth, placed) {
+        Ok(_) => Ok(()),
+        Err(_) => Err(NoMemory),
+    }
+}
+
+/// The nodes by birth. What is no directory and no file becomes a file without blocks.
+pub fn placed_nodes(
+    alloc: Global,
+    g: &Geometry,
+    disk: &Disk,
+    found: Vec<FoundNode>,
+) -> Result<BTreeMap<u64, Placed>, NoMemory>
+    requires { (n : FoundNode) → In n found.items → IsNodeFound n }
+    ensures { IfOk result (λ nodes. nodes.entries ≡ put_all (placed_found g.now disk.now) found.items []) }
+{
+    let mut nodes = BTreeMap::new(alloc);
+    for node in found {
+        let birth = node.birth;
+        put_node(&mut nodes, birth, placed_found(alloc, g, disk, node)?)?;
+    }
+    Ok(nodes)
+}
