@@ -1,6 +1,6 @@
 mod NewBlocks
-mod MapBytes
-mod Filling
-mod MadeVolumes
+pub mod MapBytes
+pub mod Filling
+pub mod MadeVolumes
 mod MadeImages
 mod MadeMaps
