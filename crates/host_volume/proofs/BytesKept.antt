@@ -46,10 +46,10 @@ use Rattle.host_volume.proofs.StepLooks.{taken_out, by_node, by_directory, by_fi
 
 -- ---- lists of bytes
 
-none_bytes : AreBytes []
+pub none_bytes : AreBytes []
 none_bytes k = omega arith
 
-cons_bytes : (x : ℕ) (xs : List ℕ) → x < 256 → AreBytes xs → AreBytes (x ∷ xs)
+pub cons_bytes : (x : ℕ) (xs : List ℕ) → x < 256 → AreBytes xs → AreBytes (x ∷ xs)
 cons_bytes x xs low h zero = low
 cons_bytes x xs low h (suc k) = h k
 
@@ -76,7 +76,7 @@ set_bytes [] i x low h = h
 set_bytes (y ∷ ys) zero x low h = cons_bytes x ys low (λ k. h (suc k))
 set_bytes (y ∷ ys) (suc i) x low h = cons_bytes y (slice_set ys i x) (h 0) (set_bytes ys i x low (λ k. h (suc k)))
 
-zero_bytes : (n : ℕ) → AreBytes (zeros n)
+pub zero_bytes : (n : ℕ) → AreBytes (zeros n)
 unfolding zeros
 zero_bytes n = same_bytes n 0 (omega arith)
 
@@ -105,7 +105,7 @@ field_bytes : (n at x : ℕ) (xs : List ℕ) → AreBytes xs → AreBytes (put l
 unfolding put
 field_bytes n at x xs h = over_bytes at (bytes_of little n x) xs (number_bytes n x) h
 
-fields_bytes : (fs : List Field) (xs : List ℕ) → AreBytes xs → AreBytes (written_fields little fs xs)
+pub fields_bytes : (fs : List Field) (xs : List ℕ) → AreBytes xs → AreBytes (written_fields little fs xs)
 fields_bytes [] xs h = h
 fields_bytes (f ∷ fs) xs h = field_bytes f.width f.at f.value (written_fields little fs xs) (fields_bytes fs xs h)
 
@@ -410,10 +410,14 @@ module _ (v : VolumeNow) (n tx : ℕ) (r : P v.contents) where
 
 -- ---- new volumes
 
-filled_bytes : (n c : ℕ) → AreBytes (slice_index_or (replicate n (filled 0)) c (filled 0))
+-- a block of zeros
+pub filled_block : AreBytes (filled 0)
 unfolding filled
-filled_bytes zero c = same_bytes 1024 0 (omega arith)
-filled_bytes (suc n) zero = same_bytes 1024 0 (omega arith)
+filled_block = same_bytes 1024 0 (omega arith)
+
+filled_bytes : (n c : ℕ) → AreBytes (slice_index_or (replicate n (filled 0)) c (filled 0))
+filled_bytes zero c = filled_block
+filled_bytes (suc n) zero = filled_block
 filled_bytes (suc n) (suc c) = filled_bytes n c
 
 pub new_bytes : (g : Geometry) → HaveBytes (new_blocks g)

@@ -47,7 +47,8 @@ length_tags : (tags : List model.Tag) → length (map written_tag tags) ≡ leng
 length_tags [] = refl
 length_tags (t ∷ ts) = (let rest = length_tags ts in omega arith)
 
-super_has : (s : JournalSuper) → HaveFields big (super_block s) (super_fields s)
+-- a superblock has its fields
+pub super_has : (s : JournalSuper) → HaveFields big (super_block s) (super_fields s)
 unfolding super_block
 super_has s = fields_read big 1024 (super_fields s) (zeros 1024) refl (length-zeros 1024)
 

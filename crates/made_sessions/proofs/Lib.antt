@@ -1,0 +1,3 @@
+pub mod MadeInUse
+pub mod MadeBytes
+pub mod MadeJournal

@@ -1,0 +1,23 @@
+//! The law of sessions on images that were made.
+ghost use Rattle.std.specs.Prelude.{◌≤◌, ◌<◌, ◌+◌, ℕ, List};
+ghost use Rattle.minix_layout.specs.declared.division.Geometry.{Geometry};
+ghost use Rattle.minix_layout.specs.Geometry.{IsSound};
+ghost use Rattle.volume_steps.specs.Plain.{IsPlainNow};
+ghost use Rattle.host_runs.specs.Runs.{Event};
+ghost use Rattle.host_volume.specs.ByteCalls.{ByteCall};
+ghost use Rattle.host_volume.specs.Runs.{host_after, KeepsSession};
+ghost use Rattle.made_sessions.specs.MadeSessions.{made_now, made_opening, made_ring};
+
+use volume_calls::new_volumes_are_in_use;
+
+/// A law, which does nothing when it is called: whatever callers and actors do in a session on an image that was made,
+/// with any division of its volume and a JBD2 journal of a size that is allowed, the submitted list keeps all order
+/// rules, and a power cut leaves a volume whose tree is that after a prefix of the calls.
+pub fn sessions_on_made_images_keep_rules_and_trees()
+    ensures plain { (g : Geometry) → IsSound g → IsPlainNow (made_now g) }
+    ensures kept { (g : Geometry) (journal quota limit : ℕ) (programs : List (List ByteCall)) (events : List Event) →
+        IsSound g → 128 ≤ journal → journal ≤ 16384 → limit + 2 < 4294967296 →
+        KeepsSession (made_opening g journal quota) (host_after (made_opening g journal quota) (made_now g) (made_ring journal) limit programs events) }
+{
+    new_volumes_are_in_use();
+}
