@@ -5,4 +5,3 @@ pub mod DirectorySlots
 pub mod TakeSteps
 pub mod AskReplies
 pub mod AskSteps
-pub mod NewInUse

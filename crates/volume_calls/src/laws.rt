@@ -2,7 +2,7 @@
 ghost use Rattle.minix_layout.specs.Geometry.{IsSound};
 ghost use Rattle.minix_layout.specs.declared.division.Geometry.{Geometry};
 ghost use Rattle.volume_steps.specs.Plain.{IsPlainNow};
-ghost use Rattle.volume_calls.specs.NewNow.{new_now};
+ghost use Rattle.volume_now.specs.NewNow.{new_now};
 
 use volume_model::new_volumes_are_plain;
 

@@ -4,7 +4,7 @@ ghost use Rattle.minix_layout.specs.Geometry.{IsSound};
 ghost use Rattle.tree_model.specs.Calls.{leaves_tree};
 ghost use Rattle.volume_model.specs.NewVolume.{new_blocks, root_inode, root_placed};
 ghost use Rattle.volume_calls.specs.Asked.{is_told};
-ghost use Rattle.volume_calls.specs.NewNow.{new_now};
+ghost use Rattle.volume_now.specs.NewNow.{new_now};
 
 use super::*;
 use blk_base::{Image, NoMemory};

@@ -8,3 +8,5 @@ pub mod Named
 pub mod Creates
 pub mod Links
 pub mod Makes
+pub mod Callers
+pub mod NewMay

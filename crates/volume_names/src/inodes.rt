@@ -1,13 +1,14 @@
 //! Inodes and slots of new nodes.
-ghost use Rattle.std.specs.Prelude.{◌≡◌, [], codes, IfOk};
+ghost use Rattle.std.specs.Prelude.{◌≡◌, [], IfOk};
 ghost use Rattle.volume_model.specs.declared.placed.Part.TheVariants as parts;
 ghost use Rattle.volume_steps.specs.Steps.{dot_slots, new_file_inode, new_directory_inode};
 
 use blk_base::NoMemory;
 use dir_ops::Slots;
-use minix_layout::{Inode, Name, Slot, Zones};
+use minix_layout::{Inode, Zones};
 use std::alloc::Global;
 use volume_model::{DirectoryPart, NameMap, Part, Placed};
+use volume_now::{dot, dots};
 
 /// A regular file with the rights 644, of no bytes, with one link.
 pub fn new_file_inode() -> Inode
@@ -36,26 +37,6 @@ pub fn new_directory_inode(zone: u16) -> Inode
         gid: 0,
         links: 2,
         zones: Zones::of([zone, 0, 0, 0, 0, 0, 0, 0, 0]),
-    }
-}
-
-/// The slot of a directory for itself.
-pub fn dot(own: u16) -> Slot
-    ensures { result ≡ record { inode = own; name = codes "." } }
-{
-    Slot {
-        inode: own,
-        name: Name::of(b".").unwrap(),
-    }
-}
-
-/// The slot of a directory for the one above it.
-pub fn dots(above: u16) -> Slot
-    ensures { result ≡ record { inode = above; name = codes ".." } }
-{
-    Slot {
-        inode: above,
-        name: Name::of(b"..").unwrap(),
     }
 }
 

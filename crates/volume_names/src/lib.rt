@@ -12,6 +12,8 @@ mod marks;
 mod names;
 mod nodes;
 mod numbers;
+#[cfg(test)]
+mod tests;
 
 pub use creation::create;
 pub use linking::link;

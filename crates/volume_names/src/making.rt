@@ -16,7 +16,7 @@ ghost use Rattle.volume_names.specs.code.Steps.{After, directory_written, dot_ed
 
 use crate::directories::slot_of;
 use crate::entries::enter_new;
-use crate::inodes::{dot, dots, new_directory, new_directory_inode};
+use crate::inodes::{new_directory, new_directory_inode};
 use crate::marks::mark_inode;
 use crate::names::write_name;
 use crate::nodes::{add_link, number_of};
@@ -25,7 +25,7 @@ use blk_base::{Block, Image, NoMemory};
 use minix_layout::{Geometry, Name};
 use std::alloc::Global;
 use volume_edits::{put_body, put_inode, put_slot, table_block};
-use volume_now::{Touched, VolumeNow, mark_zone};
+use volume_now::{Touched, VolumeNow, dot, dots, mark_zone};
 use zone_maps::ZoneMap;
 
 /// Makes a directory with birth `n`, under this name in the directory with birth `parent`.

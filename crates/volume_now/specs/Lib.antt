@@ -1,2 +1,3 @@
 -- What a change touched, with its room.
 pub mod Noted
+pub mod NewNow

@@ -4,16 +4,20 @@
 //! done in place notes what it touched in lists whose room was made before the first write. `taking` takes zones for a
 //! block, with their bits, and `ways` has the zones on the way to it.
 //!
+//! `new` makes a volume of its root alone.
+//!
 //! Stands on `volume_steps`, whose plain data a volume is, and on `volume_edits` for single writes.
 #![tactic(auto)]
 
 mod taking;
+mod new;
 #[cfg(test)]
 mod tests;
 mod touched;
 mod volume;
 mod ways;
 
+pub use new::{dot, dots, new_volume};
 pub use taking::{mark_zone, take_zones};
 pub use touched::{Page, Touched};
 pub use volume::VolumeNow;

@@ -93,13 +93,13 @@ creates v n path d h =
 
 module _ (tx : ℕ) (v : VolumeNow) (h : IsPlainNow v) (n : ℕ) (before : AreBornBefore n (tree_of_now v)) (path : List ℕ) (d : Done)
     (done : outcome (room_of v.geometry) (tree_of_now v) n (calls.Create path) ≡ Ok d) (enough : used_zones d.tree - used_zones (tree_of_now v) ≤ frees v.zones) where
-  said : Creates v n path d
+  pub said : Creates v n path d
   said = creates v n path d (done_row (room_of v.geometry) (tree_of_now v) n (calls.Create path) d done).0
 
   abbrev place : Place
   place = said.place
 
-  x : NewPlace v path place
+  pub x : NewPlace v path place
   x = new_place v path said.names place said.named said.parent said.free said.left
 
   plain : IsPlain (tree_of_now v)
@@ -108,7 +108,7 @@ module _ (tx : ℕ) (v : VolumeNow) (h : IsPlainNow v) (n : ℕ) (before : AreBo
   none : at_number v.contents.nodes n ≡ None
   none = birth_is_new v n before
 
-  few : length v.contents.nodes < v.geometry.inodes
+  pub few : length v.contents.nodes < v.geometry.inodes
   few =
       let low = (done_row (room_of v.geometry) (tree_of_now v) n (calls.Create path) d done).1 said.takes in
       let long : length (tree_of_now v) ≡ length v.contents.nodes = tree_length v.contents.blocks v.contents.nodes in
@@ -144,7 +144,7 @@ module _ (tx : ℕ) (v : VolumeNow) (h : IsPlainNow v) (n : ℕ) (before : AreBo
       ap (λ tree. put_number tree place.parent (nodes.Directory (with_name (directory_from x.at.part) place.name n))) first.tree_is
       ∙ (ap (λ directory. put_number (put_number (tree_of_now v) n new_file) place.parent (nodes.Directory (with_name directory place.name n))) x.at.same ∙ sym said.tree_is)
 
-  more : directory_zones (slots_with (directory_from x.at.part) place.name) ≤ directory_zones (length x.at.part.slots) + frees v.zones
+  pub more : directory_zones (slots_with (directory_from x.at.part) place.name) ≤ directory_zones (length x.at.part.slots) + frees v.zones
   more =
       let order = tree_in_order v.contents.blocks v.contents.nodes h.in_use.volume.0.in_order in
       all_in_all (used_zones (tree_of_now v)) (node_zones new_file) (used_zones (tree_of_now v1)) (used_zones d.tree) (directory_zones (slots_with (directory_from x.at.part) place.name)) (directory_zones (length x.at.part.slots)) (frees v.zones)

@@ -118,7 +118,7 @@ links v n path other d h =
 
 module _ (tx : ℕ) (v : VolumeNow) (h : IsPlainNow v) (n : ℕ) (before : AreBornBefore n (tree_of_now v)) (path other : List ℕ) (d : Done)
     (done : outcome (room_of v.geometry) (tree_of_now v) n (calls.Link path other) ≡ Ok d) (enough : used_zones d.tree - used_zones (tree_of_now v) ≤ frees v.zones) where
-  said : Links v path other d
+  pub said : Links v path other d
   said = links v n path other d (done_row (room_of v.geometry) (tree_of_now v) n (calls.Link path other) d done).0
 
   abbrev place : Place
@@ -127,7 +127,7 @@ module _ (tx : ℕ) (v : VolumeNow) (h : IsPlainNow v) (n : ℕ) (before : AreBo
   abbrev birth : ℕ
   birth = said.found.birth
 
-  x : NewPlace v other place
+  pub x : NewPlace v other place
   x = new_place v other said.more place said.also said.parent said.free said.left
 
   plain : IsPlain (tree_of_now v)
@@ -136,7 +136,7 @@ module _ (tx : ℕ) (v : VolumeNow) (h : IsPlainNow v) (n : ℕ) (before : AreBo
   file_stands : at_number (tree_of_now v) birth ≡ Some (nodes.File said.file)
   file_stands = (walk_ok (tree_of_now v) said.names said.found said.walked).stands ∙ ap Some said.is_file
 
-  y : FileAt v birth said.file
+  pub y : FileAt v birth said.file
   y = file_found v birth said.file file_stands
 
   stands_in : at_number (tree_of_now v) place.parent ≡ Some (nodes.Directory (directory_from x.at.part))
@@ -148,7 +148,7 @@ module _ (tx : ℕ) (v : VolumeNow) (h : IsPlainNow v) (n : ℕ) (before : AreBo
   abbrev now : ℕ
   now = y.placed.inode.links + 1
 
-  room_for_link : now ≤ 250
+  pub room_for_link : now ≤ 250
   room_for_link = by y.placed.inode.links said.file.links y.links_are (h.plain.few_links birth y.placed y.stands) said.few
     where
       by : (a c : ℕ) → a ≡ c → a ≤ 250 → (c == 250) ≡ false → a + 1 ≤ 250
@@ -192,7 +192,7 @@ module _ (tx : ℕ) (v : VolumeNow) (h : IsPlainNow v) (n : ℕ) (before : AreBo
   tree_same : put_number tree1 place.parent (nodes.Directory (with_name (directory_from x.at.part) place.name birth)) ≡ d.tree
   tree_same = ap (λ directory. put_number tree1 place.parent (nodes.Directory (with_name directory place.name birth))) x.at.same ∙ sym said.tree_is
 
-  more : directory_zones (slots_with (directory_from x.at.part) place.name) ≤ directory_zones (length x.at.part.slots) + frees v.zones
+  pub more : directory_zones (slots_with (directory_from x.at.part) place.name) ≤ directory_zones (length x.at.part.slots) + frees v.zones
   more = by (used_zones (tree_of_now v)) (used_zones tree1) (used_zones d.tree) (directory_zones (length x.at.part.slots)) (directory_zones (slots_with (directory_from x.at.part) place.name)) (frees v.zones)
       (used_put_same (tree_of_now v) birth (nodes.File said.file) (nodes.File (with_links said.file (said.file.links + 1))) order file_stands refl)
       (subst (λ tree. used_zones tree + directory_zones (length x.at.part.slots) ≡ used_zones tree1 + directory_zones (slots_with (directory_from x.at.part) place.name)) tree_same

@@ -90,22 +90,22 @@ slots_grow D name = by (not (is_some (at_name D.names name)) && needs_slot D)
 
 module _ (tx : ℕ) (v : VolumeNow) (h : IsPlainNow v) (n : ℕ) (before : AreBornBefore n (tree_of_now v)) (path : List ℕ) (d : Done)
     (done : outcome (room_of v.geometry) (tree_of_now v) n (calls.Mkdir path) ≡ Ok d) (enough : used_zones d.tree - used_zones (tree_of_now v) ≤ frees v.zones) where
-  said : Mkdirs v n path d
+  pub said : Mkdirs v n path d
   said = mkdirs v n path d (done_row (room_of v.geometry) (tree_of_now v) n (calls.Mkdir path) d done).0
 
   abbrev place : Place
   place = said.place
 
-  x : NewPlace v path place
+  pub x : NewPlace v path place
   x = new_place v path said.names place said.named said.parent said.free said.left
 
   plain : IsPlain (tree_of_now v)
   plain = tree_is_plain v h
 
-  none : at_number v.contents.nodes n ≡ None
+  pub none : at_number v.contents.nodes n ≡ None
   none = birth_is_new v n before
 
-  few : length v.contents.nodes < v.geometry.inodes
+  pub few : length v.contents.nodes < v.geometry.inodes
   few =
       let low = (done_row (room_of v.geometry) (tree_of_now v) n (calls.Mkdir path) d done).1 said.takes in
       let long : length (tree_of_now v) ≡ length v.contents.nodes = tree_length v.contents.blocks v.contents.nodes in
@@ -136,7 +136,7 @@ module _ (tx : ℕ) (v : VolumeNow) (h : IsPlainNow v) (n : ℕ) (before : AreBo
   used2 = subst (λ tree. used_zones tree + directory_zones (length x.at.part.slots) ≡ used_zones tree1 + directory_zones (slots_with (directory_from x.at.part) place.name)) tree_same
       (used_put_more tree1 place.parent (nodes.Directory (directory_from x.at.part)) (nodes.Directory (with_name (directory_from x.at.part) place.name n)) (in_order_put (tree_of_now v) n (new_directory place.parent) order) stands1)
 
-  one_free : 1 ≤ frees v.zones
+  pub one_free : 1 ≤ frees v.zones
   one_free = by (used_zones (tree_of_now v)) (used_zones tree1) (used_zones d.tree) (directory_zones (length x.at.part.slots)) (directory_zones (slots_with (directory_from x.at.part) place.name)) (frees v.zones)
       used1 used2 (slots_grow (directory_from x.at.part) place.name) enough
     where
@@ -168,7 +168,7 @@ module _ (tx : ℕ) (v : VolumeNow) (h : IsPlainNow v) (n : ℕ) (before : AreBo
   child1 : at_number v1.contents.nodes n ≡ Some child
   child1 = at_put_number v.contents.nodes n child
 
-  more : directory_zones (slots_with (directory_from x.at.part) place.name) ≤ directory_zones (length x.at.part.slots) + frees v1.zones
+  pub more : directory_zones (slots_with (directory_from x.at.part) place.name) ≤ directory_zones (length x.at.part.slots) + frees v1.zones
   more = by (used_zones (tree_of_now v)) (used_zones tree1) (used_zones d.tree) (directory_zones (length x.at.part.slots)) (directory_zones (slots_with (directory_from x.at.part) place.name)) (frees v.zones) (frees v1.zones)
       used1 used2 enough (one_taken v.zones one_free).fewer
     where

@@ -1,4 +1,4 @@
-use Rattle.volume_calls.proofs.NewInUse.{new_in_use}
+use Rattle.volume_now.proofs.NewInUse.{new_in_use}
 use Rattle.volume_calls.proofs.laws.new_volumes_are_in_use.Goals as goal
 
 pub returns : goal.returns

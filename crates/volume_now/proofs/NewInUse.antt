@@ -26,7 +26,7 @@ use Rattle.volume_model.specs.Ways.{OnWay}
 use Rattle.volume_steps.specs.Now.{VolumeNow, tree_of_now}
 use Rattle.volume_steps.specs.Plain.{IsPlainNow, IsInUse}
 use Rattle.volume_steps.proofs.TreeSteps.{tree_back}
-use Rattle.volume_calls.specs.NewNow.{new_now}
+use Rattle.volume_now.specs.NewNow.{new_now}
 
 -- ---- the states of zones
 

@@ -1,0 +1,89 @@
+//! A new volume.
+ghost use Rattle.std.specs.Prelude.{◌≡◌, codes, IfOk};
+ghost use Rattle.volume_model.specs.NewVolume.{new_blocks, root_inode, root_placed};
+ghost use Rattle.volume_now.specs.NewNow.{new_now};
+
+use crate::VolumeNow;
+use blk_base::{Image, NoMemory};
+use dir_ops::Slots;
+use minix_layout::{Geometry, Inode, Name, Slot, Zones};
+use std::alloc::Global;
+use std::collections::BTreeMap;
+use volume_edits::{put_inode, put_slot};
+use volume_model::{DirectoryPart, NameMap, Part, Placed};
+use zone_maps::ZoneMap;
+
+/// A volume whose root is all that it has, in the first zone of data.
+pub fn new_volume(alloc: Global, geometry: Geometry) -> Result<VolumeNow, NoMemory>
+    ensures { IfOk result (λ v. v ≡ new_now geometry) }
+{
+    let blocks = new_blocks(alloc, &geometry)?;
+    let mut nodes = BTreeMap::new(alloc);
+    nodes.insert(0, root(alloc, &geometry)?)?;
+    let zones = ZoneMap::make(alloc, &geometry, &[geometry.first])?;
+    Ok(VolumeNow {
+        geometry,
+        blocks,
+        nodes,
+        zones,
+    })
+}
+
+/// The slot of a directory for itself.
+pub fn dot(own: u16) -> Slot
+    ensures { result ≡ record { inode = own; name = codes "." } }
+{
+    Slot {
+        inode: own,
+        name: Name::of(b".").unwrap(),
+    }
+}
+
+/// The slot of a directory for the one above it.
+pub fn dots(above: u16) -> Slot
+    ensures { result ≡ record { inode = above; name = codes ".." } }
+{
+    Slot {
+        inode: above,
+        name: Name::of(b"..").unwrap(),
+    }
+}
+
+fn root_inode(g: &Geometry) -> Inode
+    ensures { result ≡ root_inode g.now }
+{
+    Inode {
+        mode: 0o040_755,
+        uid: 0,
+        size: 32,
+        time: 0,
+        gid: 0,
+        links: 2,
+        zones: Zones::of([g.first, 0, 0, 0, 0, 0, 0, 0, 0]),
+    }
+}
+
+fn new_blocks(alloc: Global, g: &Geometry) -> Result<Image, NoMemory>
+    ensures { IfOk result (λ i. i ≡ new_blocks g.now) }
+{
+    let mut blocks = Image::zeroed(alloc, g.zones.into())?;
+    put_inode(&mut blocks, g, 1, &root_inode(g));
+    put_slot(&mut blocks, g, g.first, 0, Some(&dot(1)));
+    put_slot(&mut blocks, g, g.first, 1, Some(&dots(1)));
+    Ok(blocks)
+}
+
+fn root(alloc: Global, g: &Geometry) -> Result<Placed, NoMemory>
+    ensures { IfOk result (λ p. p ≡ root_placed g.now) }
+{
+    let slots = Vec::from_array(alloc, [Some(dot(1)), Some(dots(1))])?;
+    Ok(Placed {
+        number: 1,
+        inode: root_inode(g),
+        part: Part::Directory(DirectoryPart {
+            parent: 0,
+            names: NameMap::new(alloc),
+            slots: Slots::of(slots),
+        }),
+    })
+}
