@@ -7,3 +7,5 @@ pub mod Freeing
 pub mod Cuts
 pub mod WholeWrites
 pub mod WholeCuts
+pub mod MayCall
+pub mod Wants

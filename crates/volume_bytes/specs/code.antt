@@ -2,3 +2,4 @@
 pub mod Work
 pub mod Cutting
 pub mod Listed
+pub mod Wants

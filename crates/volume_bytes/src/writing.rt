@@ -45,7 +45,7 @@ pub fn write(
 }
 
 // How many blocks these bytes touch.
-fn block_count(off: u32, len: u32) -> u32
+pub fn block_count(off: u32, len: u32) -> u32
     requires { off + len ≤ largest_size }
     ensures blocks { range_with_len (off / 1024) result ≡ touched_blocks off len }
     ensures ends { 1024 * (off / 1024 + result) < off + len + 1024 }
@@ -58,7 +58,7 @@ fn block_count(off: u32, len: u32) -> u32
 }
 
 // Writes the bytes to so many blocks.
-fn write_blocks(
+pub fn write_blocks(
     v: &mut VolumeNow,
     file: &mut OpenFile,
     off: u32,
