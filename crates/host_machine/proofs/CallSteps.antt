@@ -71,7 +71,7 @@ module _ {A T V C R : Type 0} {o : Over A T V C R} {Stands : V → T → Type 0}
                 newly = told.newly;
                 nodes = told.nodes;
               })
-              (λ f a. told.all_nodes (suc (length s.history)) f a),
+              (λ f a. told.all_nodes f (ap (λ n. o.model.alters before n c f) next ∙ a)),
           facts.1,
         )
 

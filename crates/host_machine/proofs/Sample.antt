@@ -62,11 +62,11 @@ stands_for v t s = record {
   places = λ f i z e. (zone-parts v.tree f i z e).1;
 }
 
-abbrev Told : ℕ → Call → Volume → Applied Volume ℕ → Type 0
-Told r c v a = Tells over v.tree r c v a.volume a.touched
+abbrev Told : ℕ → ℕ → Call → Volume → Applied Volume ℕ → Type 0
+Told n r c v a = Tells over v.tree n r c v a.volume a.touched
 
-look_told : (v : Volume) (r : ℕ) (c : Call) → ((f i : ℕ) → writes c f i ≡ false) → ((f : ℕ) → alters c f ≡ false) → Told r c v (record { volume = v; reply = 0; touched = nothing })
-look_told v r c no_write no_change = record {
+look_told : (v : Volume) (n r : ℕ) (c : Call) → ((f i : ℕ) → writes c f i ≡ false) → ((f : ℕ) → alters c f ≡ false) → Told n r c v (record { volume = v; reply = 0; touched = nothing })
+look_told v n r c no_write no_change = record {
   fresh = λ b m. inl m;
   gone = λ b m n. absurd (false≢true (sym n ∙ m));
   revoked = λ b i. absurd i;
@@ -79,12 +79,12 @@ look_told v r c no_write no_change = record {
   dropped = λ x i. absurd i;
   all_dropped = λ f i z e n. absurd (none-some z (sym n ∙ e));
   same_zone = λ f i z y e d. same_Some y z (sym d ∙ e);
-  all_nodes = λ n f a. absurd (false≢true (sym (no_change f) ∙ a));
+  all_nodes = λ f a. absurd (false≢true (sym (no_change f) ∙ a));
   newly = λ f i z n e. absurd (none-some z (sym n ∙ e));
   nodes = λ f i z l e. absurd l;
 }
 
-write_told : (v : Volume) (n r : ℕ) → Told r WriteIt v (applied v n r WriteIt)
+write_told : (v : Volume) (n r : ℕ) → Told n r WriteIt v (applied v n r WriteIt)
 write_told v n r = record {
   fresh = λ b m. inl m;
   gone = λ b m g. absurd (false≢true (sym g ∙ m));
@@ -101,7 +101,7 @@ write_told v n r = record {
       let there = zone-there (Some (n ∷ [])) f i (both (is_it f i) (and_parts (is_it f i) (has_block v.tree) p.0).0) in
       absurd (none-some 7 (sym g ∙ there));
   same_zone = λ f i z y e d. sym (zone-parts (Some (n ∷ [])) f i y d).1 ∙ (zone-parts v.tree f i z e).1;
-  all_nodes = λ m f a. inl (sym (eqb-true f 1 a));
+  all_nodes = λ f a. inl (sym (eqb-true f 1 a));
   newly = λ f i z g e. inl (sym (it f i (and_parts (is_it f i) true (zone-parts (Some (n ∷ [])) f i z e).0).0).0);
   nodes = λ f i z l e. (1, inl refl, inl refl);
 }
@@ -121,8 +121,8 @@ no_zone f i = by (is_it f i)
     by true = refl
     by false = refl
 
-remove_told : (t : Tree) (w : Option ℕ) (r : ℕ) → ((x : List ℕ) → t ≡ Some x → w ≡ None) → Told r RemoveIt (record { tree = t; waits = w }) (removed (record { tree = t; waits = w }) r t)
-remove_told None w r free = record {
+remove_told : (t : Tree) (w : Option ℕ) (n r : ℕ) → ((x : List ℕ) → t ≡ Some x → w ≡ None) → Told n r RemoveIt (record { tree = t; waits = w }) (removed (record { tree = t; waits = w }) r t)
+remove_told None w n r free = record {
   fresh = λ b m. inl m;
   gone = λ b m g. absurd (false≢true (sym g ∙ m));
   revoked = λ b i. absurd i;
@@ -135,11 +135,11 @@ remove_told None w r free = record {
   dropped = λ x i. absurd i;
   all_dropped = λ f i z e g. absurd (none-some z (sym g ∙ e));
   same_zone = λ f i z y e d. same_Some y z (sym d ∙ e);
-  all_nodes = λ m f a. inl (sym (eqb-true f 1 a));
+  all_nodes = λ f a. inl (sym (eqb-true f 1 a));
   newly = λ f i z g e. absurd (none-some z (sym g ∙ e));
   nodes = λ f i z l e. absurd (none-some z (sym (no_zone f i) ∙ e));
 }
-remove_told (Some x) w r free = record {
+remove_told (Some x) w n r free = record {
   fresh = λ b m. inl m;
   gone = λ b m g. absurd (false≢true (sym g ∙ m));
   revoked = λ b i. absurd i;
@@ -155,7 +155,7 @@ remove_told (Some x) w r free = record {
       let k = it f i (and_parts (is_it f i) true p.0).0 in
       (inl p.1, (the_page, inl refl, sym k.0, sym k.1));
   same_zone = λ f i z y e d. absurd (none-some y (sym (no_zone f i) ∙ d));
-  all_nodes = λ m f a. inl (sym (eqb-true f 1 a));
+  all_nodes = λ f a. inl (sym (eqb-true f 1 a));
   newly = λ f i z g e. absurd (none-some z (sym (no_zone f i) ∙ e));
   nodes = λ f i z l e. absurd (none-some z (sym (no_zone f i) ∙ e));
 }
@@ -261,20 +261,20 @@ contract = record {
     gone v r None e = record { same = e; free = λ x d. absurd (none-some x (sym e ∙ d)) }
     gone v r (Some x) e = record { same = refl; free = λ y d. absurd (none-some y d) }
 
-    told_by : (v : Volume) (r : ℕ) (u : Tree) → v.tree ≡ u → ((x : List ℕ) → v.tree ≡ Some x → v.waits ≡ None) → Told r RemoveIt v (removed v r v.tree)
-    told_by v r u e free = remove_told v.tree v.waits r free
+    told_by : (v : Volume) (n r : ℕ) (u : Tree) → v.tree ≡ u → ((x : List ℕ) → v.tree ≡ Some x → v.waits ≡ None) → Told n r RemoveIt v (removed v r v.tree)
+    told_by v n r u e free = remove_told v.tree v.waits n r free
 
     done : (v : Volume) (t : Tree) (n r : ℕ) (c : Call) → Stands v t → is_begun (kind_of c) ≡ false → (model.hinders v c ≡ true → nat_lt (length (free_of v.tree v.waits)) (needs c v.tree) ≡ false)
-        → Stands (applied v n r c).volume (acts t n c) × Tells over t r c v (applied v n r c).volume (applied v n r c).touched
+        → Stands (applied v n r c).volume (acts t n c) × Tells over t n r c v (applied v n r c).volume (applied v n r c).touched
     done v t n r WriteIt s plain enough = (
       record { same = refl; free = λ x e. not_waiting v (enough refl) s.free },
-      subst (λ u. Tells over u r WriteIt v (applied v n r WriteIt).volume (applied v n r WriteIt).touched) s.same (write_told v n r),
+      subst (λ u. Tells over u n r WriteIt v (applied v n r WriteIt).volume (applied v n r WriteIt).touched) s.same (write_told v n r),
     )
     done v t n r RemoveIt s plain enough = (
       gone v r v.tree refl,
-      subst (λ u. Tells over u r RemoveIt v (applied v n r RemoveIt).volume (applied v n r RemoveIt).touched) s.same (told_by v r v.tree refl s.free),
+      subst (λ u. Tells over u n r RemoveIt v (applied v n r RemoveIt).volume (applied v n r RemoveIt).touched) s.same (told_by v n r v.tree refl s.free),
     )
-    done v t n r Look s plain enough = (s, subst (λ u. Tells over u r Look v v nothing) s.same (look_told v r Look (λ f i. refl) (λ f. refl)))
+    done v t n r Look s plain enough = (s, subst (λ u. Tells over u n r Look v v nothing) s.same (look_told v n r Look (λ f i. refl) (λ f. refl)))
     done v t n r Barrier s plain enough = absurd (false≢true (sym plain))
 
 -- ---- a session over it keeps the facts and the rules

@@ -62,8 +62,8 @@ module _ {A T V C R : Type 0} (o : Over A T V C R) where
     pub walk : (b : ℕ) → In b (blocks_read (o.model.bytes v) o.program) → o.model.metadata v b ≡ true
     pub places : (f i z : ℕ) → o.model.zone v f i ≡ Some z → o.place (answer (o.model.bytes v) o.program) t f i ≡ z
 
-  -- of a call that is done in transaction r, where the tree was t before
-  pub record Tells (t : T) (r : ℕ) (c : C) (old new : V) (d : Touched) : Type 0 where
+  -- of a call that is done as call number n in transaction r, where the tree was t before
+  pub record Tells (t : T) (n r : ℕ) (c : C) (old new : V) (d : Touched) : Type 0 where
     -- fresh metadata is touched, also where its bytes come out as the old ones
     pub fresh : (b : ℕ) → o.model.metadata new b ≡ true → (o.model.metadata old b ≡ true) ⊎ In b d.blocks
     -- metadata that goes is revoked; a revoked zone is freed, is no metadata after, and none of the base image's
@@ -84,7 +84,7 @@ module _ {A T V C R : Type 0} (o : Over A T V C R) where
     pub same_zone : (f i z y : ℕ) → o.model.zone old f i ≡ Some z → o.model.zone new f i ≡ Some y → y ≡ z
     -- each node that it changed is listed, a file with a new block too; for a listed file that has a block, metadata
     -- of the base image is touched
-    pub all_nodes : (n f : ℕ) → o.model.alters t n c f ≡ true → In f d.nodes
+    pub all_nodes : (f : ℕ) → o.model.alters t n c f ≡ true → In f d.nodes
     pub newly : (f i z : ℕ) → o.model.zone old f i ≡ None → o.model.zone new f i ≡ Some z → In f d.nodes
     pub nodes : (f i z : ℕ) → In f d.nodes → o.model.zone new f i ≡ Some z → (b : ℕ) × In b d.blocks × In b o.reserved
 
@@ -95,7 +95,7 @@ module _ {A T V C R : Type 0} (o : Over A T V C R) where
       -- a plain call that is not refused, and whose need of zones is met
       pub applied : (v : V) (t : T) (n r : ℕ) (c : C) → Stands v t → o.model.reply v c ≡ None → is_begun (o.model.kind c) ≡ false
           → (o.model.hinders v c ≡ true → nat_lt (length (o.model.zones v).free) (o.model.needs v c) ≡ false)
-          → Stands (o.model.apply v n r c).volume (o.model.call t n c) × Tells t r c v (o.model.apply v n r c).volume (o.model.apply v n r c).touched
+          → Stands (o.model.apply v n r c).volume (o.model.call t n c) × Tells t n r c v (o.model.apply v n r c).volume (o.model.apply v n r c).touched
       -- a refused call does nothing to the tree, nor does a barrier or sync call
       pub refused : (v : V) (t : T) (n : ℕ) (c : C) (why : R) → Stands v t → o.model.reply v c ≡ Some why
           → (o.model.call t n c ≡ t) × ((f i : ℕ) → o.model.writes t c f i ≡ false) × ((f : ℕ) → o.model.alters t n c f ≡ false)
