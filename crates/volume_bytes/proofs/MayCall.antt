@@ -4,7 +4,8 @@ use Rattle.std.specs.Prelude.{◌≡◌, ℕ, ◌+◌, ◌-◌, ◌<◌, ◌≤�
 use Rattle.std.specs.Map.{keys_of}
 use Rattle.std.proofs.Common.{sym, ap, subst, ◌∙◌, inl, inr, arith}
 use Rattle.std.proofs.lemmas.Bool.{cases_Bool, eqb-true, eqb-false, eq-eqb, ne_eqb, le-ltb}
-use Rattle.number_sets.specs.Sets.{with, with_all}
+use Rattle.blk_base.specs.Members.{IsAscending, In-map}
+use Rattle.number_sets.specs.Sets.{IsRising, with, with_all}
 use Rattle.tree_model.specs.declared.call.Call.{Call}
 use Rattle.tree_model.specs.declared.call.Call.TheVariants as calls
 use Rattle.tree_model.specs.declared.call.Reply.{Reply}
@@ -17,7 +18,12 @@ use Rattle.tree_model.specs.Maps.{at_number}
 use Rattle.volume_ops.specs.declared.found.Mapped.{Mapped}
 use Rattle.volume_ops.specs.Volume.{bodies_of}
 use Rattle.volume_model.specs.Counts.{indices_of}
-use Rattle.volume_model.specs.laws.Indexed.{keys_bodies}
+use Rattle.volume_model.specs.declared.placed.Placed.{Placed}
+use Rattle.volume_model.specs.declared.placed.Part.TheVariants as parts
+use Rattle.volume_model.specs.Volume.{zone_in, IsPart}
+use Rattle.volume_model.specs.laws.Counts.{IsIndexed}
+use Rattle.volume_model.specs.laws.Holes.{index_of, rising_ascending}
+use Rattle.volume_model.specs.laws.Indexed.{file_indexed, keys_bodies}
 use Rattle.volume_steps.specs.Now.{VolumeNow, tree_of_now, room_of}
 use Rattle.volume_steps.specs.Plain.{IsInUse}
 use Rattle.volume_steps.specs.laws.Called.{FindsRoom}
@@ -119,3 +125,16 @@ may_truncate v n path size d found h done walked =
       file = record { placed = x.placed; zones = x.zones; stands = subst (λ b. at_number v.contents.nodes b ≡ Some x.placed) birth_is x.stands; is_file = x.is_file };
       fits = put.1;
     }
+
+-- ---- what `wanted` asks of a file's inode
+
+indices_rising : (zones : List Mapped) → IsAscending index_of zones → IsAscending (λ (k : ℕ). k) (indices_of zones)
+indices_rising [] h = tt
+indices_rising (m ∷ zones) h = (λ k i. (let w = In-map (λ (m : Mapped). m.index) zones k i in subst (λ k. m.index < k) w.2 (h.0 w.0 w.1)), indices_rising zones h.1)
+
+pub file_wants : (v : VolumeNow) → IsInUse v → (n : ℕ) (p : Placed) (zones : List Mapped) → at_number v.contents.nodes n ≡ Some p → p.part ≡ parts.File zones →
+    IsRising (indices_of zones) × IsIndexed (λ x. zone_in v.contents.blocks p.inode x) (indices_of zones)
+file_wants v h n p zones at is = (
+  indices_rising zones (rising_ascending zones (subst (IsPart v.contents.blocks p.inode) is (h.volume.0.each n p at).part).rising),
+  file_indexed v.geometry v.contents.blocks v.contents.nodes n p zones h.volume.0 at is (h.volume.1 n p at),
+)

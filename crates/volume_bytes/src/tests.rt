@@ -6,13 +6,14 @@ use crate::blocks::set_size;
 use crate::cutting::clear_tail;
 use crate::open::OpenFile;
 use crate::writing::write_blocks;
-use blk_base::{Image, NoMemory};
+use blk_base::{Block, Image, NoMemory};
 use minix_layout::{Geometry, Inode, Zones};
 use std::alloc::Global;
 use std::collections::BTreeMap;
 use std::test::Fail;
+use volume_edits::put_body;
 use volume_model::FileZones;
-use volume_now::{Page, Touched, VolumeNow};
+use volume_now::{Touched, VolumeNow};
 use volume_ops::Mapped;
 use zone_maps::ZoneMap;
 
@@ -73,53 +74,36 @@ fn writes_over_two_blocks(rt: HostRuntime) -> Result<(), Fail> {
     let mut touched = Touched::with_room(alloc, 20)?;
     file.zones.add_holes(6, 2)?;
     let content = Content::Same { len: 100, value: 7 };
+    assert_eq!(rt; wanted(&v.blocks, &file.inode, 7144, content.count()), 3);
     write_blocks(&mut v, &mut file, 7144, &content, 2, &mut touched);
     let mapped: [Mapped; 2] = [Mapped { index: 6, zone: 6 }, Mapped { index: 7, zone: 7 }];
     assert_eq!(rt; file.zones.as_slice(), mapped.as_slice());
-    assert_eq!(rt;
-        file.inode.zones.as_slice(),
-        [0, 0, 0, 0, 0, 0, 6, 8, 0].as_slice()
-    );
-    let ends: [Option<u8>; 4] = [
-        byte(&v, 6, 999),
-        byte(&v, 6, 1000),
-        byte(&v, 7, 75),
-        byte(&v, 7, 76),
-    ];
-    assert_eq!(rt; ends, [Some(0), Some(7), Some(7), Some(0)]);
+    assert_eq!(rt; (byte(&v, 6, 999), byte(&v, 6, 1000)), (Some(0), Some(7)));
+    assert_eq!(rt; (byte(&v, 7, 75), byte(&v, 7, 76)), (Some(7), Some(0)));
     assert_eq!(rt; touched.blocks(), [3, 4, 3, 3, 4, 8, 8].as_slice());
-    let page = Page {
-        birth: 3,
-        index: 6,
-        zone: 6,
-    };
-    assert_eq!(rt; touched.pages().first().copied(), Some(page));
     Ok(())
 }
 
 #[test]
-fn writes_bytes_and_gives_sizes(rt: HostRuntime) -> Result<(), Fail> {
+fn gives_a_size(rt: HostRuntime) -> Result<(), Fail> {
     let alloc = rt.alloc();
     let mut v = blank_volume(alloc)?;
     let mut file = empty_file(alloc);
-    let mut touched = Touched::with_room(alloc, 20)?;
+    let mut touched = Touched::with_room(alloc, 2)?;
     set_size(&mut v, &mut file, 1027, &mut touched);
     assert_eq!(rt; (file.inode.size, byte(&v, 4, 36)), (1027, Some(3)));
-    let mut other = empty_file(alloc);
-    let mut notes = Touched::with_room(alloc, 20)?;
-    let mut w = blank_volume(alloc)?;
-    other.zones.add_holes(0, 1)?;
-    write_blocks(
-        &mut w,
-        &mut other,
-        2,
-        &Content::Bytes(b"abc"),
-        1,
-        &mut notes,
-    );
-    assert_eq!(rt; (byte(&w, 6, 1), byte(&w, 6, 4)), (Some(0), Some(b'c')));
-    let mut last = Touched::with_room(alloc, 1)?;
-    clear_tail(&mut w, &other, 4, &mut last);
-    assert_eq!(rt; (byte(&w, 6, 3), byte(&w, 6, 4)), (Some(b'b'), Some(0)));
+    Ok(())
+}
+
+#[test]
+fn clears_what_lies_behind_a_size(rt: HostRuntime) -> Result<(), Fail> {
+    let alloc = rt.alloc();
+    let mut v = blank_volume(alloc)?;
+    let mut file = empty_file(alloc);
+    file.inode.zones = Zones::of([6, 0, 0, 0, 0, 0, 0, 0, 0]);
+    put_body(&mut v.blocks, &SMALL, 6, &Block::fill(9));
+    let mut touched = Touched::with_room(alloc, 1)?;
+    clear_tail(&mut v, &file, 4, &mut touched);
+    assert_eq!(rt; (byte(&v, 6, 3), byte(&v, 6, 4)), (Some(9), Some(0)));
     Ok(())
 }
