@@ -28,20 +28,11 @@ use Rattle.volume_steps.specs.Zones.{zone_bit, all_given}
 use Rattle.volume_steps.proofs.CutStep.{cut_step, freed_apart}
 use Rattle.volume_steps.proofs.FileSteps.{at_file_is}
 use Rattle.volume_steps.proofs.Files.{put_twice}
+use Rattle.volume_steps.proofs.Taking.{frees}
 use Rattle.volume_bytes.specs.code.Cutting.{MayGive, all_freed, map_cut, cut_work, tail_work}
 use Rattle.volume_bytes.specs.code.Work.{Work, with_nodes, put_work}
 use Rattle.volume_bytes.proofs.Freeing.{may_give, all_come_to, volume_freed, bits_told, tells_gone, zones_of}
-use Rattle.volume_bytes.proofs.Writes.{work_of}
-
--- After a change the work is at the file as it is then, and what the change told is told.
-pub record IsAt (v : VolumeNow) (nodes : List (ℕ × Placed)) (n : ℕ) (c : Change) (w : Work) (t : Touched) : Type 0 where
-  pub placed : Placed
-  pub zones : List Mapped
-  pub stands : at_number c.volume.contents.nodes n ≡ Some placed
-  pub is_file : placed.part ≡ parts.File zones
-  pub same : w ≡ work_of c.volume nodes n placed zones [] (and_then t c.touched)
-  pub puts : (r : Placed) → put_number c.volume.contents.nodes n r ≡ put_number v.contents.nodes n r
-  pub in_use : IsInUse c.volume
+use Rattle.volume_bytes.proofs.Writes.{IsDone, no_more, nothing_done, work_of}
 
 -- whether any blocks go
 any_gone : (from : ℕ) (zones : List Mapped) → list_any (λ (m : Mapped). nat_le from m.index) zones ≡ not (nat_eq (length (blocks_gone zones from)) 0)
@@ -110,16 +101,8 @@ module _ (tx : ℕ) (v : VolumeNow) (h : IsInUse v) (nodes : List (ℕ × Placed
   cut_of p zones = if list_any (λ (m : Mapped). nat_le from m.index) zones then blocks_cut v tx n p zones (keeps_below (indices_of zones) from) from else unchanged v
 
   either : (b : Bool) → nat_eq (length gone) 0 ≡ b →
-      IsAt v nodes n (if not b then c else unchanged v) (if b then start else map_cut from written (record { volume = freed.volume; file = start.file; touched = freed.touched })) t
-  either true none = record {
-    placed = p;
-    zones = zones;
-    stands = at;
-    is_file = is;
-    same = ap (λ (t : Touched). work_of v nodes n p zones [] t) (sym (and_nothing t));
-    puts = λ r. refl;
-    in_use = h;
-  }
+      IsDone v nodes n (if not b then c else unchanged v) (if b then start else map_cut from written (record { volume = freed.volume; file = start.file; touched = freed.touched })) [] t
+  either true none = nothing_done v h nodes n p zones at is t
   either false some = record {
     placed = q;
     zones = kept;
@@ -128,13 +111,14 @@ module _ (tx : ℕ) (v : VolumeNow) (h : IsInUse v) (nodes : List (ℕ × Placed
     same = cut_same;
     puts = λ r. put_twice v.contents.nodes n q r h.volume.0.in_order;
     in_use = (cut_step tx v h n p zones at is from).steady.in_use;
+    room = no_more (file_zones (indices_of kept)) (frees c.volume.zones);
   }
 
-  pub cut_done : IsAt v nodes n (cut_blocks v tx n from) (cut_work tx from gone numbers written start) t
+  pub cut_done : IsDone v nodes n (cut_blocks v tx n from) (cut_work tx from gone numbers written start) [] t
   cut_done =
       let is_cut : cut_blocks v tx n from ≡ (if not (nat_eq (length gone) 0) then c else unchanged v) =
       at_file_is v n p zones cut_of at is ∙ ap (λ (b : Bool). if b then c else unchanged v) (any_gone from zones) in
-      subst (λ c. IsAt v nodes n c (cut_work tx from gone numbers written start) t) (sym is_cut) (either (nat_eq (length gone) 0) refl)
+      subst (λ c. IsDone v nodes n c (cut_work tx from gone numbers written start) [] t) (sym is_cut) (either (nat_eq (length gone) 0) refl)
 
 -- ---- the block in which the size ends
 

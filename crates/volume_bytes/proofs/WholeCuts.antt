@@ -32,11 +32,11 @@ use Rattle.volume_bytes.specs.MayWrite.{MayTruncate}
 use Rattle.volume_bytes.specs.code.Cutting.{MayGive, cut_work, tail_work}
 use Rattle.volume_bytes.specs.code.Listed.{IsListed}
 use Rattle.volume_bytes.specs.code.Work.{Work, blank, node_of, with_nodes, size_work}
-use Rattle.volume_bytes.proofs.Cuts.{IsAt, IsCleared, cut_done, may_go, numbers_same, tail_done}
+use Rattle.volume_bytes.proofs.Cuts.{IsCleared, cut_done, may_go, numbers_same, tail_done}
 use Rattle.volume_bytes.proofs.Freeing.{zones_of}
 use Rattle.volume_bytes.proofs.Sizes.{closed_work, closed_as}
 use Rattle.volume_bytes.proofs.WholeWrites.{size_keeps}
-use Rattle.volume_bytes.proofs.Writes.{work_of}
+use Rattle.volume_bytes.proofs.Writes.{IsDone, work_of}
 
 -- the same of equal blocks and zones
 pub told_moved : (g : Geometry) (blocks after : List (List ℕ)) (i : Inode) (zones next : List Mapped) (from : ℕ) (told : List ℕ) → blocks ≡ after → zones ≡ next →
@@ -91,7 +91,7 @@ module _ (v : VolumeNow) (tx birth size : ℕ) (m : MayTruncate v birth size) (g
   abbrev c : Change
   c = cut_blocks v tx birth from
 
-  pub cut : IsAt v nodes birth c (cut_work tx from (blocks_gone file.zones from) (numbers_gone v.contents p (keeps_below (indices_of file.zones) from)) (told_of p file.zones) (work_of v nodes birth p file.zones [] untouched)) untouched
+  pub cut : IsDone v nodes birth c (cut_work tx from (blocks_gone file.zones from) (numbers_gone v.contents p (keeps_below (indices_of file.zones) from)) (told_of p file.zones) (work_of v nodes birth p file.zones [] untouched)) [] untouched
   cut = cut_done tx v m.in_use nodes birth p file.zones at refl from untouched
 
   abbrev q : Placed

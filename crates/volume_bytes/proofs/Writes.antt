@@ -249,10 +249,13 @@ module _ (v : VolumeNow) (h : IsInUse v) (nodes : List (ℕ × Placed)) (n : ℕ
 
 -- ---- all blocks
 
-pub blocks_done : (v : VolumeNow) → IsInUse v → (nodes : List (ℕ × Placed)) (n : ℕ) (p : Placed) (zones : List Mapped) → at_number v.contents.nodes n ≡ Some p → p.part ≡ parts.File zones →
-    (off : ℕ) (bytes indices : List ℕ) → ((i : ℕ) → In i indices → IsAmong off (length bytes) i) → file_zones (with_all (indices_of zones) indices) - file_zones (indices_of zones) ≤ frees v.zones → (t : Touched) →
-    IsDone v nodes n (write_blocks v n off bytes indices) (blocks_work off bytes indices (work_of v nodes n p zones indices t)) [] t
-blocks_done v h nodes n p zones at is off bytes [] among room t = record {
+pub no_more : (k m : ℕ) → k - k ≤ m
+no_more k m = omega arith
+
+-- where nothing is done
+pub nothing_done : (v : VolumeNow) → IsInUse v → (nodes : List (ℕ × Placed)) (n : ℕ) (p : Placed) (zones : List Mapped) → at_number v.contents.nodes n ≡ Some p → p.part ≡ parts.File zones → (t : Touched) →
+    IsDone v nodes n (unchanged v) (work_of v nodes n p zones [] t) [] t
+nothing_done v h nodes n p zones at is t = record {
   placed = p;
   zones = zones;
   stands = at;
@@ -260,8 +263,13 @@ blocks_done v h nodes n p zones at is off bytes [] among room t = record {
   same = ap (λ (t : Touched). work_of v nodes n p zones [] t) (sym (and_nothing t));
   puts = λ r. refl;
   in_use = h;
-  room = room;
+  room = no_more (file_zones (indices_of zones)) (frees v.zones);
 }
+
+pub blocks_done : (v : VolumeNow) → IsInUse v → (nodes : List (ℕ × Placed)) (n : ℕ) (p : Placed) (zones : List Mapped) → at_number v.contents.nodes n ≡ Some p → p.part ≡ parts.File zones →
+    (off : ℕ) (bytes indices : List ℕ) → ((i : ℕ) → In i indices → IsAmong off (length bytes) i) → file_zones (with_all (indices_of zones) indices) - file_zones (indices_of zones) ≤ frees v.zones → (t : Touched) →
+    IsDone v nodes n (write_blocks v n off bytes indices) (blocks_work off bytes indices (work_of v nodes n p zones indices t)) [] t
+blocks_done v h nodes n p zones at is off bytes [] among room t = nothing_done v h nodes n p zones at is t
 blocks_done v h nodes n p zones at is off bytes (i ∷ indices) among room t =
     let c = write_block v n off bytes i in
     let one = block_done v h nodes n p zones at is i indices room t off bytes (among i (inl refl)) in

@@ -135,6 +135,11 @@ fn maps_and_cuts_a_file(rt: HostRuntime) -> Result<(), Fail> {
     let gone = zones_cut(rt.alloc(), &blocks, &inode, &mapped, 8)?;
     assert_eq!(rt; gone.blocks.as_slice(), mapped.get(2..).ok_or("four")?);
     assert_eq!(rt; gone.numbers.as_slice(), [11, 12].as_slice());
+    let written = WrittenZones {
+        inner: None,
+        outer: Some(8),
+    };
+    assert!(rt; zones_written(&blocks, &inode, &mapped, 8) == written);
     cut_to(&mut blocks, &SMALL, &mut inode, &mapped, 8);
     assert_eq!(rt;
         inode.zones.as_slice(),

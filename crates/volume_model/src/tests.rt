@@ -1,6 +1,8 @@
 //! Tests of the parts of a node.
 use super::*;
 use minix_layout::Name;
+use std::test::Fail;
+use volume_ops::Mapped;
 
 #[test]
 fn keeps_names(rt: HostRuntime) {
@@ -27,4 +29,23 @@ fn keeps_names(rt: HostRuntime) {
     new_volumes_are_plain();
     plain_images_can_change();
     plain_volumes_are_read_back();
+}
+
+#[test]
+fn holes_get_zones(rt: HostRuntime) -> Result<(), Fail> {
+    let mut zones = FileZones::new(rt.alloc());
+    zones.add_holes(4, 1)?;
+    zones.set_zone(4, 9);
+    zones.add_holes(3, 3)?;
+    zones.set_zone(5, 7);
+    zones.set_zone(6, 8);
+    let mapped: [Mapped; 3] = [
+        Mapped { index: 3, zone: 0 },
+        Mapped { index: 4, zone: 9 },
+        Mapped { index: 5, zone: 7 },
+    ];
+    assert_eq!(rt; zones.as_slice(), mapped.as_slice());
+    zones.cut(4);
+    assert_eq!(rt; zones.as_slice().len(), 1);
+    Ok(())
 }
