@@ -1,0 +1,2 @@
+-- Lemmas on the code of calls on a tree.
+pub mod Fewer

@@ -1,0 +1,2 @@
+-- The code's view of what a call does.
+pub mod Steps
