@@ -1,2 +1,4 @@
 -- Lemmas on the code of calls on a tree.
 pub mod Fewer
+pub mod Cuts
+pub mod Turns
