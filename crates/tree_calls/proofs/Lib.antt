@@ -2,3 +2,5 @@
 pub mod Fewer
 pub mod Cuts
 pub mod Turns
+pub mod Sums
+pub mod Rooms

@@ -1,2 +1,3 @@
 -- The code's view of what a call does.
 pub mod Steps
+pub mod Sums

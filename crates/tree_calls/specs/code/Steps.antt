@@ -66,3 +66,17 @@ HasNodes tree (steps.Truncate o size) = HasFile tree o × (size ≤ largest_size
 HasNodes tree (steps.Fill o off len value) = HasFile tree o × (off + len ≤ largest_size)
 HasNodes tree (steps.Write o off bytes) = HasFile tree o × (off + length bytes.now ≤ largest_size)
 HasNodes tree other = Unit {0}
+
+-- ---- what is told of a step
+
+abbrev pub takes_inode : Step → Bool
+takes_inode (steps.MakeDirectory p) = true
+takes_inode (steps.MakeFile p) = true
+takes_inode other = false
+
+abbrev pub changes : Step → Bool
+changes (steps.Read f off len) = false
+changes (steps.List d) = false
+changes (steps.Stat dir size links) = false
+changes steps.Nothing = false
+changes other = true
