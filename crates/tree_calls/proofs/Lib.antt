@@ -4,3 +4,4 @@ pub mod Cuts
 pub mod Turns
 pub mod Sums
 pub mod Rooms
+pub mod Counted

@@ -61,7 +61,7 @@ each_without P t b order none all c = at_without_cases P t b c order (λ e. none
 
 -- ---- names
 
-same_name : (k m : List ℕ) → (k ≡ m) ⊎ (k ≢ m)
+pub same_name : (k m : List ℕ) → (k ≡ m) ⊎ (k ≢ m)
 same_name k m =
     elim (cases_Bool (is_eq (name_cmp k m))) [
       | inl t ↦ inl (name_same k m t)

@@ -497,7 +497,7 @@ free_by tree w p at none (Some b) e =
     by None s t = absurd (false≢true t)
 
 -- a node stands there, and the name leads to it
-named_by : (tree : Tree) (t : Found) (o : Option ℕ) →
+pub named_by : (tree : Tree) (t : Found) (o : Option ℕ) →
     ◌≡◌ {A = Option Found}
     (elim o as (λ _. Option Found) [ None ↦ None | Some birth ↦ elim (at_number tree birth) as (λ _. Option Found) [ None ↦ None | Some x ↦ Some (record { birth = birth; node = x }) ] ])
     (Some t) → o ≡ Some t.birth
