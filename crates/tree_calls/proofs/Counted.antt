@@ -1,14 +1,13 @@
 -- Each call keeps the numbers of a tree within those of a volume.
-use Rattle.std.proofs.Common.{◌≡◌, ◌≢◌, ◌≤◌, ◌<◌, ◌+◌, ◌-◌, ◌==◌, ◌⊎◌, ℕ, Bool, true, false, not, ◌&&◌, ◌||◌, nat_le, nat_lt, if◌then◌else◌, List, [], ◌∷◌, length, map, replicate, Option, Some, None, is_some, is_none, Ok, Err, refl, sym, ap, subst, ◌∙◌, inl, inr, ⊎_elim, arith, unwrap_or, option_map}
+use Rattle.std.proofs.Common.{◌≡◌, ◌≢◌, ◌≤◌, ◌<◌, ◌+◌, ◌-◌, ◌==◌, ◌⊎◌, ℕ, Bool, true, false, not, ◌&&◌, ◌||◌, nat_le, nat_lt, if◌then◌else◌, List, [], ◌∷◌, length, replicate, Option, Some, None, is_some, is_none, Ok, Err, refl, sym, ap, subst, ◌∙◌, inl, inr, ⊎_elim, arith, unwrap_or, option_map}
 use Rattle.std.specs.List.{sum_by, list_any}
-use Rattle.std.specs.List.Sorted.{IsStrictlySortedBy}
-use Rattle.std.specs.Map.{keys_of, remove_entry, values_of}
+use Rattle.std.specs.Map.{remove_entry, values_of}
 use Rattle.std.specs.BTreeMap.{is_at}
-use Rattle.std.proofs.lemmas.Bool.{cases_Bool, cases_eq, eqb-true, eqb-false, ne_eqb, true≢false, false≢true}
+use Rattle.std.proofs.lemmas.Bool.{eqb-true, eqb-false, true≢false, false≢true}
 use Rattle.std.proofs.lemmas.Cmp.{nat_list_cmp_total}
 use Rattle.std.proofs.lemmas.List.Sums.{sum_by-cons}
 use Rattle.std.proofs.lemmas.Map.Entries.{sum_by-insert_entry, sum_by-remove_entry, length-values_of}
-use Rattle.std.proofs.lemmas.Option.{none-some, same_Some}
+use Rattle.std.proofs.lemmas.Option.{same_Some}
 use Rattle.tree_model.specs.declared.call.Call.{Call}
 use Rattle.tree_model.specs.declared.call.Call.TheVariants as calls
 use Rattle.tree_model.specs.declared.call.Reply.TheVariants as replies
@@ -19,15 +18,14 @@ use Rattle.tree_model.specs.declared.node.Directory.{Directory}
 use Rattle.tree_model.specs.declared.node.File.{File}
 use Rattle.tree_model.specs.Maps.{at_number, at_name, put_name, put_number, without_number, name_cmp}
 use Rattle.tree_model.specs.Plain.{IsPlain}
-use Rattle.tree_model.specs.Calls.{Tree, Done, Row, Found, Place, Move, and_then, names_in, parent_of, walk, a_file, is_root, above, refuse_if, is_named, is_full, needs_slot, slots_with, most_links, most_slots, with_name, without_name, with_links, give_name, take_name, put_file, lose_link, new_directory, new_file, mkdir, create, link, rename, target_at, moves_directory, meets_directory, meets_file, stays, changes_parent, place_after, moved_node, without_target, tree_moved, row, outcome, tree_from, tree_after, if_room, written_file, cut_file}
-use Rattle.tree_model.specs.Examples.{new_tree}
+use Rattle.tree_model.specs.Calls.{Tree, Done, Row, Found, Place, Move, names_in, parent_of, walk, a_file, is_root, above, is_named, is_full, needs_slot, slots_with, most_links, most_slots, with_name, without_name, with_links, give_name, take_name, put_file, lose_link, new_directory, new_file, mkdir, create, link, rename, target_at, moves_directory, meets_directory, meets_file, stays, changes_parent, place_after, moved_node, without_target, tree_moved, row, outcome, tree_from, tree_after, written_file, cut_file}
 use Rattle.tree_model.specs.Trees.{is_directory, directory_links}
 use Rattle.tree_model.specs.laws.MapOrder.{InOrder, in_order_put, NamesInOrder, names_in_order_without, at_name_without_apart}
 use Rattle.tree_model.proofs.Blocks.{target_stands}
-use Rattle.tree_model.proofs.Changes.{Change, IsRenamed, stayed, made_directory, made_file, removed, unlinked, linked, renamed, written, written_bytes, truncated, row_change, outcome_row}
+use Rattle.tree_model.proofs.Changes.{Change, stayed, made_directory, made_file, removed, unlinked, linked, renamed, written, written_bytes, truncated, row_change, outcome_row}
 use Rattle.tree_model.proofs.Edits.{each_put, each_without, same_name}
 use Rattle.tree_model.proofs.PlainMoves.{named_by}
-use Rattle.tree_model.proofs.Rows.{IsPlace, IsFound, then_ok, refuse_ok, ok_ok, parent_ok, walk_ok, file_ok, place_names}
+use Rattle.tree_model.proofs.Rows.{then_ok, refuse_ok, ok_ok, parent_ok, walk_ok, file_ok, place_names}
 use Rattle.tree_calls.specs.Countable.{IsCountable}
 
 abbrev pub Fits : Option Node → Type 0
@@ -220,9 +218,9 @@ module _ (tree : Tree) (plain : IsPlain tree) (all : AllFit tree) where
         by false e met other =
             ⊎_elim
             (λ same.
-                let parent : m.to.parent ≡ m.from.parent = eqb-true m.to.parent m.from.parent (not_not (m.to.parent == m.from.parent) e) in
-                let old : at_name m.to.directory.names m.to.name ≡ Some m.moved.birth = ap (λ (d : Directory). at_name d.names m.to.name) (same_directory parent) ∙ (ap (at_name m.from.directory.names) (sym same) ∙ named) in
-                absurd (other (same_Some t.birth m.moved.birth (sym met ∙ old))))
+            let parent : m.to.parent ≡ m.from.parent = eqb-true m.to.parent m.from.parent (not_not (m.to.parent == m.from.parent) e) in
+            let old : at_name m.to.directory.names m.to.name ≡ Some m.moved.birth = ap (λ (d : Directory). at_name d.names m.to.name) (same_directory parent) ∙ (ap (at_name m.from.directory.names) (sym same) ∙ named) in
+            absurd (other (same_Some t.birth m.moved.birth (sym met ∙ old))))
             (λ away. ap is_some (at_name_without_apart m.to.directory.names m.from.name m.to.name (sorted_at m.to to) away ∙ met))
             (same_name m.from.name m.to.name)
           where

@@ -1,5 +1,5 @@
 -- The blocks of a file that is cut, block by block.
-use Rattle.std.proofs.Common.{◌≡◌, ◌<◌, ◌*◌, ◌-◌, ◌%◌, ◌/◌, ℕ, Bool, true, false, nat_lt, List, [], ◌∷◌, ◌++◌, map, filter, replicate, slice_index, drop, Option, Some, None, cond, refl, sym, ap, subst, ◌∙◌, inl, inr, arith}
+use Rattle.std.proofs.Common.{◌≡◌, ◌*◌, ℕ, true, nat_lt, List, [], ◌∷◌, ◌++◌, map, filter, cond, sym, ap, subst, ◌∙◌, inl, inr}
 use Rattle.std.specs.declared.cmp.Ordering.TheVariants.{Less}
 use Rattle.std.specs.List.{AllByRecursion}
 use Rattle.std.specs.List.Sorted.{IsStrictlySortedBy}

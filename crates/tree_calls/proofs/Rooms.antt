@@ -4,7 +4,7 @@ use Rattle.tree_model.specs.declared.call.Call.{Call}
 use Rattle.tree_model.specs.declared.call.Reply.{Reply}
 use Rattle.tree_model.specs.declared.call.Reply.TheVariants as replies
 use Rattle.tree_model.specs.declared.call.Room.{Room}
-use Rattle.tree_model.specs.Calls.{Tree, Row, Done, and_then, refuse_if, if_room, row, outcome, reply_from, reply_of, tree_from, tree_after, used_zones}
+use Rattle.tree_model.specs.Calls.{Tree, Row, Done, and_then, refuse_if, if_room, needs, row, outcome, reply_from, reply_of, tree_from, tree_after, used_zones}
 use Rattle.tree_calls.specs.declared.step.Step.{Step}
 use Rattle.tree_calls.specs.declared.step.Step.TheVariants as steps
 use Rattle.tree_calls.specs.code.Steps.{done_by, takes_inode, changes}
@@ -92,3 +92,15 @@ module _ (room : Room) (tree : Tree) (n : ℕ) (c : Call) where
       where
         not_short : (left used : ℕ) → nat_lt left (used - used) ≡ false
         not_short left used = grind arith
+
+-- ---- zones
+
+pub needs_none : (tree : Tree) (n : ℕ) (c : Call) (reply : Reply) → row tree n c ≡ Err reply → 0 ≡ needs tree n c
+unfolding needs
+needs_none tree n c reply e = ap (λ (r : Row). elim r as (λ _. ℕ) [ Err reply ↦ 0 | Ok d ↦ used_zones d.tree - used_zones tree ]) (sym e)
+
+pub needs_step : (tree : Tree) (n : ℕ) (c : Call) (step : Step) (left : Tree) → row tree n c ≡ done_by tree n step → left ≡ tree_from tree (done_by tree n step) → used_zones left - used_zones tree ≡ needs tree n c
+unfolding needs
+needs_step tree n c step left is made =
+    ap (λ (t : Tree). used_zones t - used_zones tree) made
+    ∙ ap (λ (r : Row). elim r as (λ _. ℕ) [ Err reply ↦ 0 | Ok d ↦ used_zones d.tree - used_zones tree ]) (sym (is ∙ done_is tree n step))

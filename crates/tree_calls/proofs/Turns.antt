@@ -1,5 +1,5 @@
 -- Turns of loops over numbers in order.
-use Rattle.std.proofs.Common.{◌≡◌, ◌<◌, ◌*◌, ◌+◌, ◌-◌, ◌%◌, zero, suc, ℕ, slice_index, replicate, List, [], ◌∷◌, ◌++◌, map, refl, sym, ap, ◌∙◌, arith}
+use Rattle.std.proofs.Common.{◌≡◌, ◌<◌, ◌+◌, ◌-◌, ◌%◌, zero, suc, ℕ, slice_index, replicate, List, [], ◌∷◌, ◌++◌, map, refl, sym, ap, ◌∙◌, arith}
 use Rattle.std.proofs.lemmas.List.{append_assoc}
 use Rattle.std.specs.List.{range_with_len}
 use Rattle.tree_model.specs.Maps.{at_number, put_number}

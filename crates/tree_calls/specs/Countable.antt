@@ -1,10 +1,10 @@
 -- Trees whose numbers are those of a volume.
-use Rattle.std.specs.Prelude.{◌≡◌, ◌≤◌, ◌<◌, ℕ, ◌+◌, ◌^◌, length, Some}
+use Rattle.std.specs.Prelude.{◌≡◌, ◌≤◌, ℕ, ◌+◌, length, Some}
 use Rattle.tree_model.specs.declared.node.Node.TheVariants as nodes
 use Rattle.tree_model.specs.declared.node.Directory.{Directory}
 use Rattle.tree_model.specs.declared.node.File.{File}
 use Rattle.tree_model.specs.Maps.{at_number}
-use Rattle.tree_model.specs.Calls.{Tree, most_links, most_slots, used_zones}
+use Rattle.tree_model.specs.Calls.{Tree, most_links, most_slots}
 
 -- No file has more links than a node can have, the names of a directory stand in its slots, and a directory has no more
 -- slots than it can have.

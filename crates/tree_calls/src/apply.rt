@@ -1,10 +1,11 @@
 //! Calls done to a tree.
 ghost use Rattle.std.specs.Prelude.{◌≡◌, IfOk, OnErr};
 ghost use Rattle.std.specs.Option.{unwrap_or};
-ghost use Rattle.tree_model.specs.Calls.{reply_of, tree_after};
+ghost use Rattle.tree_model.specs.Calls.{needs, reply_of, tree_after};
 ghost use Rattle.tree_calls.specs.Countable.{IsCountable};
 
-use crate::outcome::{Answered, outcome};
+use crate::decide::decide;
+use crate::outcome::{Answered, changed_tree, outcome, zones_more};
 use blk_base::NoMemory;
 use std::alloc::Global;
 use tree_model::{Call, Reply, Room, Tree};
@@ -35,4 +36,17 @@ pub fn apply_plain(
     let Answered { after, reply } = outcome(alloc, tree, g, n, c)?;
     settle(tree, after);
     Ok(reply)
+}
+
+/// How many zones call number `n` would take; none where its row refuses it. Like the call itself, it makes the tree that
+/// the call leaves beside the one before it.
+pub fn needs(alloc: Global, tree: &Tree, n: u64, c: &Call) -> Result<u128, NoMemory>
+    requires { IsCountable tree.now }
+    ensures { IfOk result (λ zones. zones ≡ needs tree.now n c.now) }
+{
+    let Ok(step) = decide(tree, c) else {
+        return Ok(0);
+    };
+    let after = changed_tree(alloc, tree, n, &step)?;
+    Ok(zones_more(tree, &after))
 }

@@ -43,12 +43,7 @@ fn body_at(blocks: &FileBlocks, index: u32) -> Block
     }
 }
 
-fn put_part(
-    blocks: &mut FileBlocks,
-    index: u32,
-    off: u32,
-    bytes: &[u8],
-) -> Result<(), NoMemory>
+fn put_part(blocks: &mut FileBlocks, index: u32, off: u32, bytes: &[u8]) -> Result<(), NoMemory>
     requires { off < 1024 * index + 1024 }
     ensures { OnOk result (blocks.new ≡ put_number blocks.old index (patched index off bytes.now (block_or_zeros (at_number blocks.old index)))) }
 {

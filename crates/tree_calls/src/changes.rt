@@ -35,11 +35,7 @@ fn with_name(directory: Directory, name: &Name, birth: u64) -> Result<Directory,
     Ok(named)
 }
 
-fn without_name(
-    alloc: Global,
-    directory: &Directory,
-    name: &Name,
-) -> Result<Directory, NoMemory>
+fn without_name(alloc: Global, directory: &Directory, name: &Name) -> Result<Directory, NoMemory>
     ensures { IfOk result (λ d. d ≡ without_name directory.now name.now) }
 {
     let mut left = directory.copy(alloc)?;
@@ -116,12 +112,7 @@ pub fn gain_link(alloc: Global, tree: &mut Tree, opened: &Opened<'_>) -> Result<
 }
 
 // A file has one link less; at no links it is gone.
-pub fn lose_link(
-    alloc: Global,
-    tree: &mut Tree,
-    birth: u64,
-    file: &File,
-) -> Result<(), NoMemory>
+pub fn lose_link(alloc: Global, tree: &mut Tree, birth: u64, file: &File) -> Result<(), NoMemory>
     ensures { OnOk result (tree.new ≡ lose_link tree.old birth file.now) }
 {
     if file.links <= 1 {

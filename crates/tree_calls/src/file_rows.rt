@@ -87,12 +87,7 @@ pub fn truncate<'a>(tree: &'a Tree, path: &ByteList, size: u32) -> Result<Step<'
     Ok(Step::Truncate(opened, size))
 }
 
-pub fn read<'a>(
-    tree: &'a Tree,
-    path: &ByteList,
-    off: u32,
-    len: u32,
-) -> Result<Step<'a>, Reply>
+pub fn read<'a>(tree: &'a Tree, path: &ByteList, off: u32, len: u32) -> Result<Step<'a>, Reply>
     ensures row { (n : ℕ) → Decides tree.now n result (read tree.now path.now off len) }
     ensures nodes { IfOk result (HasNodes tree.now) }
 {

@@ -37,9 +37,7 @@ impl Step<'_> {
         ensures { IfOk result (λ r. (tree : Tree) (n : ℕ) → r ≡ reply_from (done_by tree n self.now)) }
     {
         match self {
-            Step::Read(file, off, len) => {
-                Ok(Reply::Bytes(bytes_from(alloc, file, *off, *len)?))
-            }
+            Step::Read(file, off, len) => { Ok(Reply::Bytes(bytes_from(alloc, file, *off, *len)?)) }
             Step::List(directory) => Ok(Reply::Names(names_in(alloc, directory)?)),
             Step::Stat(dir, size, links) => Ok(Reply::Stat {
                 dir: *dir,
@@ -90,12 +88,7 @@ fn change(alloc: Global, tree: &mut Tree, n: u64, step: &Step<'_>) -> Result<(),
 }
 
 // The tree after a step, made beside the one before it.
-fn changed_tree(
-    alloc: Global,
-    tree: &Tree,
-    n: u64,
-    step: &Step<'_>,
-) -> Result<Tree, NoMemory>
+pub fn changed_tree(alloc: Global, tree: &Tree, n: u64, step: &Step<'_>) -> Result<Tree, NoMemory>
     requires countable { IsCountable tree.now }
     requires nodes { HasNodes tree.now step.now }
     ensures { IfOk result (λ t. t ≡ tree_from tree.now (done_by tree.now n step.now)) }
@@ -112,13 +105,19 @@ fn lacks_inode(room: &Room, tree: &Tree, step: &Step<'_>) -> bool
     step.takes_inode() && tree.len() >= usize::from(room.inodes)
 }
 
+// How many zones a step takes.
+pub fn zones_more(tree: &Tree, after: &Tree) -> u128
+    ensures { result ≡ used_zones after.now - used_zones tree.now }
+{
+    used_zones(after).saturating_sub(used_zones(tree))
+}
+
 // There are not as many zones as a step takes.
 fn lacks_zones(room: &Room, tree: &Tree, after: &Tree) -> bool
     ensures { result ≡ nat_lt (room.now.capacity - used_zones tree.now) (used_zones after.now - used_zones tree.now) }
 {
-    let used = used_zones(tree);
-    let left = u128::from(room.capacity).saturating_sub(used);
-    used_zones(after).saturating_sub(used) > left
+    let left = u128::from(room.capacity).saturating_sub(used_zones(tree));
+    zones_more(tree, after) > left
 }
 
 // What a call answers, and the tree that it leaves where it changes one.

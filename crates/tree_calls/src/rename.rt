@@ -67,9 +67,7 @@ impl Moved<'_> {
         ensures { result ≡ meets_directory (move_from self.now) }
     {
         match &self.target {
-            Some(target) => {
-                is_directory(Some(target.node)) && target.birth != self.moved.birth
-            }
+            Some(target) => { is_directory(Some(target.node)) && target.birth != self.moved.birth }
             None => false,
         }
     }
@@ -163,11 +161,7 @@ fn rename_to<'a>(tree: &'a Tree, moved: Moved<'a>) -> Result<Step<'a>, Reply>
     Ok(Step::Rename(moved))
 }
 
-pub fn rename<'a>(
-    tree: &'a Tree,
-    path: &ByteList,
-    other: &ByteList,
-) -> Result<Step<'a>, Reply>
+pub fn rename<'a>(tree: &'a Tree, path: &ByteList, other: &ByteList) -> Result<Step<'a>, Reply>
     ensures row { (n : ℕ) → Decides tree.now n result (rename tree.now path.now other.now) }
     ensures nodes { IfOk result (HasNodes tree.now) }
 {

@@ -88,11 +88,7 @@ pub fn unlink<'a>(tree: &'a Tree, path: &ByteList) -> Result<Step<'a>, Reply>
     ))
 }
 
-pub fn link<'a>(
-    tree: &'a Tree,
-    path: &ByteList,
-    other: &ByteList,
-) -> Result<Step<'a>, Reply>
+pub fn link<'a>(tree: &'a Tree, path: &ByteList, other: &ByteList) -> Result<Step<'a>, Reply>
     ensures row { (n : ℕ) → Decides tree.now n result (link tree.now path.now other.now) }
     ensures nodes { IfOk result (HasNodes tree.now) }
 {

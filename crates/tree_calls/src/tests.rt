@@ -1,12 +1,8 @@
 //! Tests of calls on a tree, with replies from worked sessions.
-ghost use Rattle.std.specs.Prelude.{◌≡◌, ◌+◌, IfOk, OnOk};
-ghost use Rattle.tree_model.specs.Examples.{new_tree};
-ghost use Rattle.tree_model.specs.Plain.{AreBornBefore, IsPlain};
-ghost use Rattle.tree_calls.specs.Countable.{IsCountable};
-
 use super::*;
 use blk_base::NoMemory;
 use std::alloc::Global;
+use std::marker::Model;
 use std::test::Fail;
 use tree_model::{ByteList, Call, Directory, Names, Node, Room, Tree, calls_keep_trees_plain};
 
@@ -16,39 +12,53 @@ const SMALL: Room = Room {
     capacity: 59,
 };
 
-fn new_tree(alloc: Global) -> Result<Tree, NoMemory>
-    ensures tree { IfOk result (λ t. t ≡ new_tree) }
-    ensures plain { IfOk result IsPlain }
-    ensures born { IfOk result (AreBornBefore 1) }
-    ensures countable { IfOk result IsCountable }
-{
-    calls_keep_trees_plain();
-    calls_keep_trees_countable();
-    let mut tree = Tree::new(alloc);
-    let root = Directory {
-        parent: 0,
-        slots: 2,
-        names: Names::new(alloc),
-    };
-    tree.put(0, Node::Directory(root))?;
-    Ok(tree)
+// A plain tree, and the number of the last call on it.
+struct Session {
+    tree: Tree,
+    last: u64,
 }
 
-// Does a call, and shows its reply.
-fn shown(alloc: Global, tree: &mut Tree, n: u64, call: &Call) -> Result<String, NoMemory>
-    requires plain { IsPlain tree.old }
-    requires born { AreBornBefore n tree.old }
-    requires countable { IsCountable tree.old }
-    ensures plain { OnOk result (IsPlain tree.new) }
-    ensures born { OnOk result (AreBornBefore (n + 1) tree.new) }
-    ensures countable { OnOk result (IsCountable tree.new) }
-{
-    calls_keep_trees_plain();
-    calls_keep_trees_countable();
-    let reply = apply_plain(alloc, tree, &SMALL, n, call)?;
-    match format!(in alloc; "{reply:?}") {
-        Ok(text) => Ok(text),
-        Err(_) => Err(NoMemory),
+impl Model for Session {
+    ghost use Rattle.std.specs.Prelude.{◌+◌, ℕ};
+    ghost use Rattle.tree_model.specs.Calls.{Tree};
+    ghost use Rattle.tree_model.specs.Plain.{AreBornBefore, IsPlain};
+    ghost use Rattle.tree_calls.specs.Countable.{IsCountable};
+
+    ghost Value = { Tree × ℕ };
+
+    ghost view = { λ s. (s.tree, s.last) };
+
+    ghost invariant = { λ s. record { plain : IsPlain s.tree; born : AreBornBefore (s.last + 1) s.tree; countable : IsCountable s.tree } };
+}
+
+impl Session {
+    // On a new volume.
+    fn new(alloc: Global) -> Result<Session, NoMemory> {
+        calls_keep_trees_plain();
+        calls_keep_trees_countable();
+        let mut tree = Tree::new(alloc);
+        let root = Directory {
+            parent: 0,
+            slots: 2,
+            names: Names::new(alloc),
+        };
+        tree.put(0, Node::Directory(root))?;
+        Ok(Session { tree, last: 0 })
+    }
+
+    // Does a call, and shows its reply.
+    fn shown(&mut self, alloc: Global, call: &Call) -> Result<String, NoMemory> {
+        calls_keep_trees_plain();
+        calls_keep_trees_countable();
+        let Some(number) = self.last.checked_add(1) else {
+            return Err(NoMemory);
+        };
+        let reply = apply_plain(alloc, &mut self.tree, &SMALL, number, call)?;
+        self.last = number;
+        match format!(in alloc; "{reply:?}") {
+            Ok(text) => Ok(text),
+            Err(_) => Err(NoMemory),
+        }
     }
 }
 
@@ -59,7 +69,7 @@ fn path(alloc: Global, text: &[u8]) -> Result<ByteList, NoMemory> {
 #[test]
 fn replies_of_a_session(rt: HostRuntime) -> Result<(), Fail> {
     let alloc = rt.alloc();
-    let mut tree = new_tree(alloc)?;
+    let mut session = Session::new(alloc)?;
     let rows: [(Call, &str); 16] = [
         (Call::Mkdir(path(alloc, b"/a")?), "Ok"),
         (Call::Mkdir(path(alloc, b"/a")?), "Exists"),
@@ -86,10 +96,7 @@ fn replies_of_a_session(rt: HostRuntime) -> Result<(), Fail> {
             },
             "Bytes(ByteList { bytes: [] })",
         ),
-        (
-            Call::Truncate(path(alloc, b"/a/abcdefghijklmn")?, 3),
-            "Ok",
-        ),
+        (Call::Truncate(path(alloc, b"/a/abcdefghijklmn")?, 3), "Ok"),
         (
             Call::Read {
                 path: path(alloc, b"/a/abcdefghijklmn")?,
@@ -99,10 +106,7 @@ fn replies_of_a_session(rt: HostRuntime) -> Result<(), Fail> {
             "Bytes(ByteList { bytes: [0, 0, 0] })",
         ),
         (Call::Create(path(alloc, b"a")?), "BadPath"),
-        (
-            Call::Create(path(alloc, b"/a/abcdefghijklmn/z")?),
-            "NotDir",
-        ),
+        (Call::Create(path(alloc, b"/a/abcdefghijklmn/z")?), "NotDir"),
         (Call::Create(path(alloc, b"/b/z")?), "NotFound"),
         (Call::Rmdir(path(alloc, b"/")?), "Invalid"),
         (
@@ -110,10 +114,8 @@ fn replies_of_a_session(rt: HostRuntime) -> Result<(), Fail> {
             "Stat { dir: true, size: 48, links: 3 }",
         ),
     ];
-    let mut n = 0;
     for (call, reply) in &rows {
-        n += 1;
-        assert_eq!(rt; shown(alloc, &mut tree, n, call)?.as_str(), *reply);
+        assert_eq!(rt; session.shown(alloc, call)?.as_str(), *reply);
     }
     Ok(())
 }
@@ -121,26 +123,26 @@ fn replies_of_a_session(rt: HostRuntime) -> Result<(), Fail> {
 #[test]
 fn writes_the_last_block(rt: HostRuntime) -> Result<(), Fail> {
     let alloc = rt.alloc();
-    let mut tree = new_tree(alloc)?;
+    let mut session = Session::new(alloc)?;
     let call = Call::Create(path(alloc, b"/f")?);
-    assert_eq!(rt; shown(alloc, &mut tree, 1, &call)?.as_str(), "Ok");
+    assert_eq!(rt; session.shown(alloc, &call)?.as_str(), "Ok");
     let call = Call::Write {
         path: path(alloc, b"/f")?,
         off: 268965888,
         len: 1024,
         value: 0xAA,
     };
-    assert_eq!(rt; shown(alloc, &mut tree, 2, &call)?.as_str(), "Ok");
+    assert_eq!(rt; session.shown(alloc, &call)?.as_str(), "Ok");
     let call = Call::Write {
         path: path(alloc, b"/f")?,
         off: 268966912,
         len: 1,
         value: 0xAA,
     };
-    assert_eq!(rt; shown(alloc, &mut tree, 3, &call)?.as_str(), "TooBig");
+    assert_eq!(rt; session.shown(alloc, &call)?.as_str(), "TooBig");
     let call = Call::Stat(path(alloc, b"/f")?);
     assert_eq!(rt;
-        shown(alloc, &mut tree, 4, &call)?.as_str(),
+        session.shown(alloc, &call)?.as_str(),
         "Stat { dir: false, size: 268966912, links: 1 }"
     );
     Ok(())
@@ -149,30 +151,37 @@ fn writes_the_last_block(rt: HostRuntime) -> Result<(), Fail> {
 #[test]
 fn links_and_renames(rt: HostRuntime) -> Result<(), Fail> {
     let alloc = rt.alloc();
-    let mut tree = new_tree(alloc)?;
+    let mut session = Session::new(alloc)?;
     let call = Call::Create(path(alloc, b"/f")?);
-    assert_eq!(rt; shown(alloc, &mut tree, 1, &call)?.as_str(), "Ok");
+    assert_eq!(rt; session.shown(alloc, &call)?.as_str(), "Ok");
     let call = Call::Link(path(alloc, b"/f")?, path(alloc, b"/g")?);
-    assert_eq!(rt; shown(alloc, &mut tree, 2, &call)?.as_str(), "Ok");
+    assert_eq!(rt; session.shown(alloc, &call)?.as_str(), "Ok");
     let call = Call::Bytes {
         path: path(alloc, b"/g")?,
         off: 1022,
         bytes: path(alloc, b"abcd")?,
     };
-    assert_eq!(rt; shown(alloc, &mut tree, 3, &call)?.as_str(), "Ok");
+    assert_eq!(rt; session.shown(alloc, &call)?.as_str(), "Ok");
     let call = Call::Mkdir(path(alloc, b"/d")?);
-    assert_eq!(rt; shown(alloc, &mut tree, 4, &call)?.as_str(), "Ok");
+    assert_eq!(rt; session.shown(alloc, &call)?.as_str(), "Ok");
+    let zones = needs(
+        alloc,
+        &session.tree,
+        5,
+        &Call::Rename(path(alloc, b"/f")?, path(alloc, b"/d/h")?),
+    )?;
+    assert_eq!(rt; zones, 0);
     let call = Call::Rename(path(alloc, b"/f")?, path(alloc, b"/d/h")?);
-    assert_eq!(rt; shown(alloc, &mut tree, 5, &call)?.as_str(), "Ok");
+    assert_eq!(rt; session.shown(alloc, &call)?.as_str(), "Ok");
     let call = Call::Unlink(path(alloc, b"/g")?);
-    assert_eq!(rt; shown(alloc, &mut tree, 6, &call)?.as_str(), "Ok");
+    assert_eq!(rt; session.shown(alloc, &call)?.as_str(), "Ok");
     let call = Call::Read {
         path: path(alloc, b"/d/h")?,
         off: 1020,
         len: 8,
     };
     assert_eq!(rt;
-        shown(alloc, &mut tree, 7, &call)?.as_str(),
+        session.shown(alloc, &call)?.as_str(),
         "Bytes(ByteList { bytes: [0, 0, 97, 98, 99, 100] })"
     );
     Ok(())

@@ -24,4 +24,3 @@ pub mod PlainNames
 pub mod PlainTrees
 pub mod Rows
 pub mod Zones
-pub mod TextWalks

@@ -1,8 +1,8 @@
 -- The names of a text, one after the other.
-use Rattle.std.proofs.Common.{◌≡◌, ◌≢◌, ◌≤◌, ℕ, ◌==◌, ◌+◌, ◌&&◌, nat_lt, nat_le, Bool, true, false, not, List, [], ◌∷◌, length, take, drop, Option, Some, None, Ok, Err, IsTrue, if◌then◌else◌, refl, sym, ap, ◌∙◌, inl, inr, arith, one-add, lit<}
+use Rattle.std.proofs.Common.{◌≡◌, ◌≢◌, ◌≤◌, ℕ, ◌==◌, ◌+◌, ◌&&◌, nat_lt, nat_le, Bool, true, false, not, List, [], ◌∷◌, length, take, drop, Option, Some, None, Ok, Err, IsTrue, if◌then◌else◌, refl, sym, ap, ◌∙◌, inl, inr, arith, one-add}
 use Rattle.std.specs.List.{slice_split, onto_first, position_or_len, position, list_all, list_any}
 use Rattle.std.specs.Option.{unwrap_or}
-use Rattle.std.proofs.lemmas.Bool.{and_parts, cases_Bool, cases_eq, ne_eqb, true≢false, false≢true}
+use Rattle.std.proofs.lemmas.Bool.{and_parts, cases_Bool, cases_eq, ne_eqb, true≢false}
 use Rattle.minix_layout.specs.Words.{is_name, name_from}
 use Rattle.tree_model.specs.declared.call.Reply.TheVariants as replies
 use Rattle.tree_model.specs.Calls.{names_in, if_some}
@@ -69,7 +69,7 @@ named_path path text b rest same is slash more all =
 
 -- ---- names of slots
 
-no_byte : (x : ℕ) → is_name_byte x ≡ false → (name : List ℕ) → list_all is_name_byte name ≡ true → list_any (λ b. b == x) name ≡ false
+pub no_byte : (x : ℕ) → is_name_byte x ≡ false → (name : List ℕ) → list_all is_name_byte name ≡ true → list_any (λ b. b == x) name ≡ false
 no_byte x bad [] all = refl
 no_byte x bad (b ∷ bs) all =
     let both = and_parts (is_name_byte b) (list_all is_name_byte bs) all in
@@ -78,7 +78,7 @@ no_byte x bad (b ∷ bs) all =
       | inr a ↦ rw (ne_eqb b x a) (no_byte x bad bs both.1)
     ]
 
-not_true : (b : Bool) → not b ≡ true → b ≡ false
+pub not_true : (b : Bool) → not b ≡ true → b ≡ false
 not_true true e = absurd (true≢false (sym e))
 not_true false e = refl
 

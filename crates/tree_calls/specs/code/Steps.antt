@@ -5,7 +5,7 @@ use Rattle.tree_model.specs.declared.call.Reply.{Reply}
 use Rattle.tree_model.specs.declared.call.Reply.TheVariants as replies
 use Rattle.tree_model.specs.declared.node.Node.TheVariants as nodes
 use Rattle.tree_model.specs.Maps.{at_number, put_number, without_number}
-use Rattle.tree_model.specs.Calls.{Tree, Row, Done, Found, Place, Move, leaves, makes, answers, give_name, take_name, put_file, with_links, lose_link, new_directory, new_file, stays, tree_moved, written_file, cut_file, bytes_from, most_links, largest_size}
+use Rattle.tree_model.specs.Calls.{Tree, Row, Found, Place, Move, leaves, makes, answers, give_name, take_name, put_file, with_links, lose_link, new_directory, new_file, stays, tree_moved, written_file, cut_file, bytes_from, most_links, largest_size}
 use Rattle.tree_calls.specs.declared.walk.Found.{Found as FoundNode}
 use Rattle.tree_calls.specs.declared.walk.Place.{Place as NamePlace}
 use Rattle.tree_calls.specs.declared.step.Moved.{Moved}

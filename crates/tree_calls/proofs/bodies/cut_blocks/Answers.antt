@@ -1,5 +1,5 @@
 use Rattle.std.proofs.Common.{arith}
-use Rattle.std.proofs.Common.{◌≡◌, ◌∙◌, ap}
+use Rattle.std.proofs.Common.{◌∙◌, ap}
 use Rattle.tree_model.specs.Maps.{put_number}
 use Rattle.tree_calls.proofs.Cuts.{cut_turn}
 use Rattle.tree_calls.proofs.bodies.cut_blocks.Goals as goal

@@ -1,5 +1,4 @@
-use Rattle.std.proofs.Common.{◌<◌, ◌+◌, ◌-◌, ◌/◌, ◌≤◌, length, ap, arith}
-use Rattle.tree_model.specs.Calls.{touched_blocks, written_blocks}
+use Rattle.std.proofs.Common.{◌+◌, ◌-◌, ◌/◌, length, arith}
 use Rattle.tree_calls.proofs.Turns.{write_turn}
 use Rattle.tree_calls.proofs.bodies.put_bytes.Goals as goal
 

@@ -1,4 +1,4 @@
-use Rattle.std.proofs.Common.{◌≡◌, ◌-◌, ℕ, sym, ap, ◌∙◌, nat_lt}
+use Rattle.std.proofs.Common.{◌-◌, sym, ap, ◌∙◌, nat_lt}
 use Rattle.std.specs.Option.{unwrap_or}
 use Rattle.tree_model.specs.Calls.{Tree, used_zones}
 use Rattle.tree_calls.specs.declared.outcome.Answered.{Answered}

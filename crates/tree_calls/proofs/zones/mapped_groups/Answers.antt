@@ -1,4 +1,4 @@
-use Rattle.std.proofs.Common.{◌≡◌, ◌+◌, ◌-◌, ap, sym, ◌∙◌, arith}
+use Rattle.std.proofs.Common.{◌≡◌, ◌-◌, ap, ◌∙◌, arith}
 use Rattle.std.specs.Map.{keys_of}
 use Rattle.tree_calls.specs.code.Sums.{groups_from}
 use Rattle.tree_calls.proofs.Sums.{groups_all, groups_none, groups_turn, one_most}

@@ -1,4 +1,4 @@
-use Rattle.std.proofs.Common.{◌≡◌, ◌<◌, ◌+◌, ◌^◌, length, ap, sym, ◌∙◌, arith, ℕ, rules}
+use Rattle.std.proofs.Common.{◌≡◌, ◌<◌, ◌^◌, length, ap, ◌∙◌, arith, rules}
 use Rattle.tree_calls.specs.code.Sums.{zones_of}
 use Rattle.tree_calls.proofs.Sums.{zones_all, zones_none, zones_turn}
 use Rattle.tree_calls.proofs.zones.used_zones.Goals as goal

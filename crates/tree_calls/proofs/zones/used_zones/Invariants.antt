@@ -1,4 +1,4 @@
-use Rattle.std.proofs.Common.{◌≡◌, ◌≤◌, ◌<◌, ◌+◌, ◌*◌, ◌^◌, length}
+use Rattle.std.proofs.Common.{◌≡◌, ◌<◌, ◌+◌, ◌*◌, ◌^◌, length}
 use Rattle.tree_model.specs.Calls.{used_zones}
 use Rattle.tree_calls.specs.code.Sums.{zones_of}
 use Rattle.tree_calls.proofs.zones.used_zones.Given as goal
