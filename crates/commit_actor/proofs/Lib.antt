@@ -1,3 +1,4 @@
 mod Logs
 mod Plans
 mod Turns
+mod Calls

@@ -1,11 +1,9 @@
 -- What holds of the log while requests are submitted.
-use Rattle.std.proofs.Common.{◌≡◌, ℕ, ◌+◌, ◌<◌, ◌≤◌, ◌==◌, ◌-◌, ◌^◌, ◌&&◌, ◌||◌, Bool, true, false, List, [], ◌∷◌, ◌++◌, length, length-append, map, drop, get_or, Some, None, Option, nat_lt, nat_le, if◌then◌else◌, refl, sym, ap, subst, ◌∙◌, arith}
-use Rattle.std.specs.Option.{option_map}
+use Rattle.std.proofs.Common.{◌≡◌, ℕ, ◌+◌, ◌<◌, ◌≤◌, ◌==◌, ◌^◌, ◌&&◌, ◌||◌, Bool, true, false, List, [], ◌∷◌, ◌++◌, length, length-append, map, drop, get_or, nat_lt, nat_le, if◌then◌else◌, refl, sym, ap, subst, ◌∙◌, arith}
 use Rattle.std.proofs.lemmas.Bool.{false≢true, leb-false, ltb-false, ltb-true, and_parts}
 use Rattle.std.proofs.lemmas.List.{drop_more}
-use Rattle.std.proofs.lemmas.Option.{none-some, slice_get-get_or}
+use Rattle.std.proofs.lemmas.Option.{slice_get-get_or}
 use Rattle.order_model.specs.declared.note.Note.{Note}
-use Rattle.order_model.specs.declared.note.Note.TheVariants.{Home, Super}
 use Rattle.order_model.specs.declared.request.Request.{Request}
 use Rattle.order_model.specs.declared.turn.Turn.TheVariants.{SessionFull, QueueFull, Did}
 use Rattle.order_model.specs.declared.turn.Turn.{Turn}
@@ -23,14 +21,11 @@ use Rattle.tx_running.specs.Closing.{logged_of}
 use Rattle.tx_running.specs.Open as transaction
 use Rattle.tx_running.specs.Open.{OpenTransaction, with_running}
 use Rattle.tx_running.specs.Running.{fresh, log_needs}
-use Rattle.tx_running.specs.Plan.{Writers}
 use Rattle.flush_actor.specs.Actor as flush
 use Rattle.flush_actor.specs.Actor.{FlushActor, with_part, with_conflicts}
 use Rattle.flush_actor.specs.Outcomes.{is_did}
-use Rattle.flush_actor.specs.Part.{FlushPart, at_limit, submit}
+use Rattle.flush_actor.specs.Part.{FlushPart, submit}
 use Rattle.flush_actor.specs.Steps.{submit_turn, after_submit}
-use Rattle.commit_actor.specs.Journal.{JournalPart}
-use Rattle.commit_actor.specs.Steps.{put_out, checkpoint}
 use Rattle.commit_actor.specs.code.Fields.{IsLog}
 
 -- ---- a request is submitted

@@ -1,18 +1,18 @@
 -- What is left of a plan, request by request.
-use Rattle.std.proofs.Common.{◌≡◌, ℕ, zero, suc, ◌+◌, ◌-◌, ◌<◌, ◌≤◌, Bool, true, false, not, List, [], ◌∷◌, ◌++◌, length, length-append, map, Option, Some, None, nat_le, if◌then◌else◌, refl, sym, ap, subst, ◌∙◌, arith, tests}
+use Rattle.std.proofs.Common.{◌≡◌, ℕ, suc, ◌+◌, Bool, true, false, not, List, [], ◌∷◌, ◌++◌, length, length-append, map, Some, nat_le, if◌then◌else◌, refl, sym, ap, ◌∙◌, arith, tests}
 use Rattle.std.proofs.lemmas.Option.{none-some, same_Some}
 use Rattle.order_model.specs.declared.note.Note.TheVariants.{Super}
 use Rattle.log_model.specs.Marks.{Logged}
-use Rattle.log_model.specs.Ring.{Ring, places_on, place_after}
+use Rattle.log_model.specs.Ring.{Ring, places_on}
 use Rattle.journal_blocks.specs.declared.super_block.JournalSuper.{JournalSuper}
 use Rattle.journal_ring.specs.LogRing.{LogRing}
 use Rattle.tx_running.specs.Closing.{writers, unplaced_blocks, logged_of}
-use Rattle.tx_running.specs.Plan.{Writers, Planned, first_of, logged_blocks, commit_block, placed, with_barrier, plan_of}
+use Rattle.tx_running.specs.Plan.{Planned, first_of, logged_blocks, commit_block, placed, with_barrier, plan_of}
 use Rattle.tx_running.specs.declared.pieces.UnplacedBlock.{UnplacedBlock}
 use Rattle.tx_running.specs.Running.{Running}
 use Rattle.flush_actor.specs.Part.{FlushPart}
-use Rattle.commit_actor.specs.Journal.{Plan, Phase, Committing, JournalPart}
-use Rattle.commit_actor.specs.code.Sending.{first_planned, with_barriers, unbarred, rest_of}
+use Rattle.commit_actor.specs.Journal.{Phase, Committing, JournalPart}
+use Rattle.commit_actor.specs.code.Sending.{first_planned, with_barriers, rest_of}
 use Rattle.commit_actor.specs.declared.sending.Sending.{Sending}
 
 -- ---- places and barriers

@@ -1,11 +1,12 @@
 -- The commit actor of one journal.
-use Rattle.std.specs.Prelude.{◌≡◌, ℕ, ◌+◌, Bool, true, false, not, ◌&&◌, nat_lt, nat_le, List, [], ◌∷◌, length, is_none, if◌then◌else◌}
+use Rattle.std.specs.Prelude.{ℕ, Bool, not, ◌&&◌, nat_lt, List, is_none, if◌then◌else◌}
 use Rattle.order_model.specs.declared.turn.Turn.{Turn}
 use Rattle.page_cache.specs.Pages.{unsent_of}
 use Rattle.page_cache.specs.declared.cached_page.CachedPage.{CachedPage}
 use Rattle.journal_blocks.specs.declared.super_block.JournalSuper.{JournalSuper}
 use Rattle.journal_ring.specs.Journal.{JournalRing}
 use Rattle.journal_ring.specs.LogRing.{LogRing, ring_free}
+use Rattle.tx_running.specs.Open.{OpenTransaction}
 use Rattle.tx_running.specs.Running.{Running, fresh, log_needs}
 use Rattle.flush_actor.specs.Actor as flush
 use Rattle.flush_actor.specs.Outcomes.{is_did}
@@ -41,6 +42,16 @@ part_of l p = record { flush = l.flush; ring = l.ring; running = l.running; phas
 
 abbrev pub with_parts : LogState → JournalPart → LogState
 with_parts l j = record { made_with = l.made_with; journal = l.journal; blocks = l.blocks; spare = l.spare; flush = j.flush; ring = j.ring; running = j.running }
+
+abbrev pub with_flush : LogState → FlushPart → LogState
+with_flush l f = record { made_with = l.made_with; journal = l.journal; blocks = l.blocks; spare = l.spare; flush = f; ring = l.ring; running = l.running }
+
+-- the running transaction, with what it is made with and its room
+abbrev pub open_of : LogState → OpenTransaction
+open_of l = record { made_with = l.made_with; spare = l.spare; running = l.running }
+
+abbrev pub with_open : LogState → OpenTransaction → LogState
+with_open l t = record { made_with = l.made_with; journal = l.journal; blocks = l.blocks; spare = t.spare; flush = l.flush; ring = l.ring; running = t.running }
 
 abbrev pub actor_of : LogState → Phase → CommitActor
 actor_of l p = record { made_with = l.made_with; journal = l.journal; blocks = l.blocks; spare = l.spare; part = part_of l p }

@@ -1,4 +1,5 @@
 pub mod Journal
 pub mod Steps
 pub mod Actor
+pub mod Calls
 pub mod code

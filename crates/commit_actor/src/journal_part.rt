@@ -1,5 +1,5 @@
 //! The journal's part of the host.
-ghost use Rattle.std.specs.Prelude.{◌≡◌, ◌≢◌, ◌==◌, ◌+◌, ◌≤◌, ◌<◌, ◌^◌, ◌++◌, ◌∷◌, [], true, false, nat_lt, Some, None, ℕ, List, IfOk, IfSome, IfNone, length};
+ghost use Rattle.std.specs.Prelude.{◌≡◌, ◌≢◌, ◌==◌, ◌+◌, ◌≤◌, ◌<◌, ◌^◌, ◌++◌, ◌∷◌, [], true, false, nat_lt, Some, None, ℕ, List, IfOk, OnErr, IfSome, IfNone, drop, length, set};
 ghost use Rattle.order_model.specs.declared.turn.Turn.TheVariants as turns;
 ghost use Rattle.log_model.specs.Ring.{IsPlace};
 ghost use Rattle.page_cache.specs.Pages.{with_pages, unsent_of};
@@ -9,10 +9,13 @@ ghost use Rattle.journal_blocks.specs.Super.{IsSound};
 ghost use Rattle.journal_ring.specs.Journal as new_ring;
 ghost use Rattle.journal_ring.specs.LogRing.{ring_free};
 ghost use Rattle.tx_running.specs.Closing.{writers};
-ghost use Rattle.tx_running.specs.Running.{log_needs};
-ghost use Rattle.flush_actor.specs.Steps.{submit_turn};
-ghost use Rattle.flush_actor.specs.Outcomes.{is_queue_full, sent_between};
+ghost use Rattle.tx_running.specs.Running.{log_needs, touched_one, revoked_one, changed_one, wanted_one};
+ghost use Rattle.tx_running.specs.Open.{reserved, noted, with_running};
+ghost use Rattle.conflict_pages.specs.Conflicts.{want};
+ghost use Rattle.flush_actor.specs.Steps.{submit_turn, after_submit, flush_turn};
+ghost use Rattle.flush_actor.specs.Outcomes.{is_queue_full, sent_between, first_since};
 ghost use Rattle.commit_actor.specs.Actor.{made, with_part, with_parts, part_of, builds_plan};
+ghost use Rattle.commit_actor.specs.Calls.{with_flush, open_of, with_open};
 ghost use Rattle.commit_actor.specs.Journal as model;
 ghost use Rattle.commit_actor.specs.Steps.{idle_turn, plan_turn, close_turn, commit_turn, planned_done};
 ghost use Rattle.commit_actor.specs.code.Fields.{IsAtRest, IsInPhase, IsOnItsWay, phase_of};
@@ -23,9 +26,9 @@ use crate::log::{Log, did};
 use crate::phase::Phase;
 use crate::sending::Sending;
 use blk_base::{BodySource, NoMemory};
-use flush_actor::FlushPart;
+use flush_actor::{FlushPart, Wait};
 use journal_ring::Ring;
-use order_model::{Outlet, Request, Turn};
+use order_model::{Completion, Inlet, Kind, Note, Outlet, Request, Turn};
 use page_cache::{PageState, Pages};
 use std::alloc::Global;
 use std::marker::Model;
@@ -122,6 +125,103 @@ impl JournalPart {
             }
             _ => None,
         }
+    }
+
+    /// Submits a request.
+    pub fn submit<O: Outlet<Request>>(
+        &mut self,
+        kind: Kind,
+        ordered: bool,
+        barrier: bool,
+        note: Note,
+        out: &mut O,
+    ) -> Turn
+        ensures turn { result ≡ submit_turn (is_queue_full result) self.old.part.flush }
+        ensures part { self.new ≡ with_flush self.old (after_submit result
+            (record { id = length self.old.part.flush.requests; kind = kind; ordered = ordered; barrier = barrier }) note self.old.part.flush) }
+        ensures sent { O.sent out.new ≡ O.sent out.old ++ sent_between self.old.part.flush self.new.part.flush }
+        ensures full { result ≡ turns.QueueFull → O.was_full out.old out.new }
+        ensures rest { O.rest out.new ≡ O.rest out.old }
+    {
+        self.log.submit(kind, ordered, barrier, note, out)
+    }
+
+    /// A step of the flush actor.
+    pub fn flush_step<O: Outlet<Request>, I: Inlet<Completion>>(
+        &mut self,
+        out: &mut O,
+        from: &mut I,
+    ) -> Turn
+        requires { length self.old.part.flush.taken ≤ self.old.part.flush.limit }
+        ensures step { record { part = self.new.part.flush; turn = result } ≡
+            flush_turn (is_queue_full result) (first_since (I.taken from.old) (I.taken from.new)) self.old.part.flush }
+        ensures same { self.new ≡ with_flush self.old self.new.part.flush }
+        ensures sent { O.sent out.new ≡ O.sent out.old ++ sent_between self.old.part.flush self.new.part.flush }
+        ensures taken { I.taken from.new ≡ I.taken from.old ++ drop (length self.old.part.flush.taken) self.new.part.flush.taken }
+        ensures full { result ≡ turns.QueueFull → O.was_full out.old out.new }
+        ensures empty { result ≡ turns.Idle → I.was_empty from.old from.new }
+        ensures out { O.rest out.new ≡ O.rest out.old }
+        ensures from { I.rest from.new ≡ I.rest from.old }
+    {
+        self.log.flush_step(out, from)
+    }
+
+    /// The call of a thread waits for this from now on.
+    pub fn set_wait(&mut self, thread: u32, wait: Wait)
+        requires thread { thread < length self.old.part.flush.waits }
+        requires need { (id : ℕ) → wait.need ≡ Some id → id < length self.old.part.flush.requests }
+        ensures { self.new ≡ with_flush self.old (record self.old.part.flush { waits = set self.old.part.flush.waits thread wait }) }
+    {
+        self.log.set_wait(thread, wait);
+    }
+
+    /// The running transaction wants a block.
+    pub fn want_block(&mut self, block: u32)
+        requires { block < self.old.blocks }
+        ensures { self.new ≡ with_flush self.old (record self.old.part.flush { conflicts = want (block ∷ []) self.old.part.flush.conflicts }) }
+    {
+        self.log.want_block(block);
+    }
+
+    /// Makes room for at least `more` notes of the running transaction.
+    pub fn reserve(&mut self, alloc: Global, more: u32) -> Result<(), NoMemory>
+        ensures ok { IfOk result (λ u. self.new ≡ with_open self.old (reserved more (open_of self.old))) }
+        ensures err { OnErr result (self.new ≡ self.old) }
+    {
+        self.log.reserve(alloc, more)?;
+        Ok(())
+    }
+
+    /// A call changed a block: its body is to be logged.
+    pub fn touch(&mut self, block: u32)
+        requires spare { self.old.spare ≢ 0 }
+        requires block { block < self.old.blocks }
+        ensures { self.new ≡ with_open self.old (noted (touched_one block self.old.part.running) (open_of self.old)) }
+    {
+        self.log.touch(block);
+    }
+
+    /// A call freed a block of metadata: it is revoked, and no body of it is logged.
+    pub fn revoke(&mut self, block: u32)
+        requires { self.old.spare ≢ 0 }
+        ensures { self.new ≡ with_open self.old (noted (revoked_one block self.old.part.running) (open_of self.old)) }
+    {
+        self.log.revoke(block);
+    }
+
+    /// A call changed the size, the zones or the slots of the node with this birth.
+    pub fn change(&mut self, birth: u64)
+        requires { self.old.spare ≢ 0 }
+        ensures { self.new ≡ with_open self.old (noted (changed_one birth self.old.part.running) (open_of self.old)) }
+    {
+        self.log.change(birth);
+    }
+
+    /// Somebody wants the running transaction closed.
+    pub fn want_closed(&mut self)
+        ensures { self.new ≡ with_open self.old (with_running (open_of self.old) (wanted_one self.old.part.running)) }
+    {
+        self.log.want_closed();
     }
 
     // One step.

@@ -15,6 +15,8 @@ mod journal_part;
 mod log;
 mod phase;
 mod sending;
+#[cfg(test)]
+mod tests;
 
 pub use actor::commit_step;
 pub use journal_part::JournalPart;

@@ -1,32 +1,33 @@
 //! What the commit actor writes to, without its phase.
-ghost use Rattle.std.specs.Prelude.{◌≡◌, ◌≢◌, ℕ, ◌+◌, ◌-◌, ◌≤◌, ◌<◌, ◌^◌, ◌++◌, ◌∷◌, [], false, Some, None, nat_lt, is_none, ◌&&◌, IfOk, OnErr, length, map};
+ghost use Rattle.std.specs.Prelude.{◌≡◌, ◌≢◌, ℕ, ◌+◌, ◌-◌, ◌≤◌, ◌<◌, ◌^◌, ◌++◌, ◌∷◌, [], false, Some, None, nat_lt, is_none, ◌&&◌, IfOk, OnErr, drop, length, map, set};
 ghost use Rattle.std.specs.Option.{option_map};
 ghost use Rattle.blk_base.specs.Members.{In};
-ghost use Rattle.order_model.specs.declared.turn.Turn.TheVariants.{QueueFull};
+ghost use Rattle.order_model.specs.declared.turn.Turn.TheVariants.{Idle, QueueFull};
 ghost use Rattle.number_sets.specs.Sets.{IsRising};
 ghost use Rattle.log_model.specs.Marks.{Logged};
 ghost use Rattle.log_model.specs.Ring.{IsPlace};
-ghost use Rattle.conflict_pages.specs.Conflicts.{hold, least};
+ghost use Rattle.conflict_pages.specs.Conflicts.{hold, want, least};
 ghost use Rattle.journal_blocks.specs.Super.{IsSound};
 ghost use Rattle.journal_ring.specs.Journal as new_ring;
 ghost use Rattle.journal_ring.specs.LogRing.{ring_free};
 ghost use Rattle.tx_running.specs.Closing.{writers};
-ghost use Rattle.tx_running.specs.Running.{log_needs};
+ghost use Rattle.tx_running.specs.Running.{log_needs, touched_one, revoked_one, changed_one, wanted_one};
+ghost use Rattle.tx_running.specs.Open.{reserved, noted, with_running};
 ghost use Rattle.flush_actor.specs.Actor.{with_conflicts};
-ghost use Rattle.flush_actor.specs.Outcomes.{is_did, is_queue_full, sent_between};
+ghost use Rattle.flush_actor.specs.Outcomes.{is_did, is_queue_full, sent_between, first_since};
 ghost use Rattle.flush_actor.specs.Part.{is_over};
-ghost use Rattle.flush_actor.specs.Steps.{submit_turn};
-ghost use Rattle.commit_actor.specs.Actor.{made_log, part_of, with_parts, if_did};
+ghost use Rattle.flush_actor.specs.Steps.{submit_turn, after_submit, flush_turn};
+ghost use Rattle.commit_actor.specs.Actor.{made_log, part_of, with_parts, with_flush, with_open, open_of, if_did};
 ghost use Rattle.commit_actor.specs.Journal.{Closing, Committing};
 ghost use Rattle.commit_actor.specs.Steps.{page_sent, planned_out, checkpoint, plan_built, committed};
 ghost use Rattle.commit_actor.specs.code.Sending.{plan_left, rest_of, planned_of, first_planned, sent_one};
 
 use crate::sending::{PlannedPut, Sending};
 use blk_base::{BodySource, NoMemory};
-use flush_actor::FlushPart;
+use flush_actor::{FlushPart, Wait, flush_step};
 use journal_blocks::write_super;
 use journal_ring::{Bodies, LoggedBody, Ring};
-use order_model::{Kind, Note, Outlet, Request, Turn};
+use order_model::{Completion, Inlet, Kind, Note, Outlet, Request, Turn};
 use page_cache::CachedPage;
 use std::alloc::Global;
 use std::marker::Model;
@@ -95,6 +96,103 @@ impl Log {
         ensures { result.now ≡ record { made_with = self.now.made_with; spare = self.now.spare; running = self.now.running } }
     {
         &self.running
+    }
+
+    // Submits a request.
+    pub fn submit<O: Outlet<Request>>(
+        &mut self,
+        kind: Kind,
+        ordered: bool,
+        barrier: bool,
+        note: Note,
+        out: &mut O,
+    ) -> Turn
+        ensures turn { result ≡ submit_turn (is_queue_full result) self.old.flush }
+        ensures log { self.new ≡ with_flush self.old (after_submit result
+            (record { id = length self.old.flush.requests; kind = kind; ordered = ordered; barrier = barrier }) note self.old.flush) }
+        ensures sent { O.sent out.new ≡ O.sent out.old ++ sent_between self.old.flush self.new.flush }
+        ensures full { result ≡ QueueFull → O.was_full out.old out.new }
+        ensures rest { O.rest out.new ≡ O.rest out.old }
+    {
+        self.flush.submit(kind, ordered, barrier, note, out)
+    }
+
+    // A step of the flush actor.
+    pub fn flush_step<O: Outlet<Request>, I: Inlet<Completion>>(
+        &mut self,
+        out: &mut O,
+        from: &mut I,
+    ) -> Turn
+        requires { length self.old.flush.taken ≤ self.old.flush.limit }
+        ensures step { record { part = self.new.flush; turn = result } ≡
+            flush_turn (is_queue_full result) (first_since (I.taken from.old) (I.taken from.new)) self.old.flush }
+        ensures same { self.new ≡ with_flush self.old self.new.flush }
+        ensures sent { O.sent out.new ≡ O.sent out.old ++ sent_between self.old.flush self.new.flush }
+        ensures taken { I.taken from.new ≡ I.taken from.old ++ drop (length self.old.flush.taken) self.new.flush.taken }
+        ensures full { result ≡ QueueFull → O.was_full out.old out.new }
+        ensures empty { result ≡ Idle → I.was_empty from.old from.new }
+        ensures out { O.rest out.new ≡ O.rest out.old }
+        ensures from { I.rest from.new ≡ I.rest from.old }
+    {
+        flush_step(&mut self.flush, out, from)
+    }
+
+    // The call of a thread waits for this.
+    pub fn set_wait(&mut self, thread: u32, wait: Wait)
+        requires thread { thread < length self.old.flush.waits }
+        requires need { (id : ℕ) → wait.need ≡ Some id → id < length self.old.flush.requests }
+        ensures { self.new ≡ with_flush self.old (record self.old.flush { waits = set self.old.flush.waits thread wait }) }
+    {
+        self.flush.set_wait(thread, wait);
+    }
+
+    // The running transaction wants a block.
+    pub fn want_block(&mut self, block: u32)
+        requires { block < self.old.blocks }
+        ensures { self.new ≡ with_flush self.old (record self.old.flush { conflicts = want (block ∷ []) self.old.flush.conflicts }) }
+    {
+        self.flush.want(block);
+    }
+
+    // Makes room for notes of the running transaction.
+    pub fn reserve(&mut self, alloc: Global, more: u32) -> Result<(), NoMemory>
+        ensures ok { IfOk result (λ u. self.new ≡ with_open self.old (reserved more (open_of self.old))) }
+        ensures err { OnErr result (self.new ≡ self.old) }
+    {
+        self.running.reserve(alloc, more)?;
+        Ok(())
+    }
+
+    // A call changed a block.
+    pub fn touch(&mut self, block: u32)
+        requires spare { self.old.spare ≢ 0 }
+        requires block { block < self.old.blocks }
+        ensures { self.new ≡ with_open self.old (noted (touched_one block self.old.running) (open_of self.old)) }
+    {
+        self.running.touch(block);
+    }
+
+    // A call freed a block of metadata.
+    pub fn revoke(&mut self, block: u32)
+        requires { self.old.spare ≢ 0 }
+        ensures { self.new ≡ with_open self.old (noted (revoked_one block self.old.running) (open_of self.old)) }
+    {
+        self.running.revoke(block);
+    }
+
+    // A call changed a node.
+    pub fn change(&mut self, birth: u64)
+        requires { self.old.spare ≢ 0 }
+        ensures { self.new ≡ with_open self.old (noted (changed_one birth self.old.running) (open_of self.old)) }
+    {
+        self.running.change(birth);
+    }
+
+    // Somebody wants the running transaction closed.
+    pub fn want_closed(&mut self)
+        ensures { self.new ≡ with_open self.old (with_running (open_of self.old) (wanted_one self.old.running)) }
+    {
+        self.running.want();
     }
 
     // Sends a page of a changed file.

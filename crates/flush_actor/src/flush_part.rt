@@ -221,6 +221,13 @@ impl FlushPart {
 
     // ---- what is held
 
+    /// How many blocks there are.
+    pub fn blocks(&self) -> u32
+        ensures { result ≡ self.now.blocks }
+    {
+        self.blocks
+    }
+
     /// Transaction `tx` holds a block.
     pub fn hold(&mut self, tx: u32, block: u32)
         requires { block < self.old.blocks }

@@ -76,7 +76,7 @@ fn holds_end_with_the_commit_block(rt: HostRuntime) {
     assert_eq!(rt; session.told(Completion::Moved(0)), Turn::Did);
     assert_eq!(rt; session.commit(2), Turn::Did);
     assert_eq!(rt; session.told(Completion::Moved(1)), Turn::Did);
-    assert!(rt; session.part.is_clear());
+    assert!(rt; session.part.is_clear() && session.part.blocks() == 10);
     assert_eq!(rt; session.step(), Turn::Idle);
     assert_eq!(rt; session.commit(3), Turn::QueueFull);
     assert_eq!(rt; (session.part.submitted(), session.part.taken()), (2, 2));

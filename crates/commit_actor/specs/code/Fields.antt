@@ -1,5 +1,5 @@
 -- What holds of the fields of the commit actor.
-use Rattle.std.specs.Prelude.{◌≡◌, ℕ, ◌+◌, ◌<◌, ◌≤◌, ◌^◌, List, length}
+use Rattle.std.specs.Prelude.{◌≡◌, ℕ, ◌+◌, ◌<◌, ◌≤◌, ◌^◌, length}
 use Rattle.blk_base.specs.Members.{In}
 use Rattle.log_model.specs.Ring.{IsPlace}
 use Rattle.journal_ring.specs.Journal.{JournalRing}

@@ -1,5 +1,5 @@
 -- What is left of a plan, as the code keeps it.
-use Rattle.std.specs.Prelude.{ℕ, ◌+◌, Bool, true, false, List, [], ◌∷◌, length, drop, nat_le, Option, Some, None, if◌then◌else◌}
+use Rattle.std.specs.Prelude.{ℕ, false, List, [], ◌∷◌, length, drop, nat_le, Option, Some, None, if◌then◌else◌}
 use Rattle.log_model.specs.Ring.{Ring, place_after}
 use Rattle.journal_blocks.specs.declared.super_block.JournalSuper.{JournalSuper}
 use Rattle.order_model.specs.declared.note.Note.TheVariants.{Super}

@@ -1,9 +1,9 @@
-use Rattle.std.proofs.Common.{◌≡◌, ◌≤◌, ◌<◌, ◌+◌, [], length, ap, sym, subst, ◌∙◌, arith}
-use Rattle.commit_actor.specs.Actor.{LogState, part_of}
+use Rattle.std.proofs.Common.{◌≤◌, ◌+◌, [], length, ap, arith}
+use Rattle.commit_actor.specs.Actor.{part_of}
 use Rattle.commit_actor.specs.Journal as model
 use Rattle.commit_actor.specs.code.Sending.{plan_left}
 use Rattle.commit_actor.specs.declared.sending.Sending.{Sending}
-use Rattle.commit_actor.proofs.Turns.{more_left, last_sent, none_left, at_rest}
+use Rattle.commit_actor.proofs.Turns.{more_left, last_sent, at_rest}
 use Rattle.commit_actor.proofs.journal_part.planned_sent.Goals as goal
 
 pub returns-then-len-gt0-clause-part : goal.returns-then-len-gt0-clause-part

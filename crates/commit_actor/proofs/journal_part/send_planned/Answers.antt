@@ -1,4 +1,4 @@
-use Rattle.std.proofs.Common.{◌≡◌, true, if◌then◌else◌, ap, sym, ◌∙◌, drop}
+use Rattle.std.proofs.Common.{if◌then◌else◌, ap, sym, ◌∙◌, drop}
 use Rattle.commit_actor.specs.Actor.{LogState, part_of, with_parts}
 use Rattle.commit_actor.specs.Journal as model
 use Rattle.commit_actor.specs.Steps.{planned_out, planned_done, plan_sent}

@@ -1,4 +1,4 @@
-use Rattle.std.proofs.Common.{◌<◌, sym, subst, ap, ◌∙◌, rules}
+use Rattle.std.proofs.Common.{◌<◌, sym, subst, ap, ◌∙◌}
 use Rattle.log_model.specs.Marks.{Logged}
 use Rattle.commit_actor.proofs.Logs.{held_inside}
 use Rattle.commit_actor.proofs.log.hold_all.Goals as goal

@@ -1,5 +1,4 @@
-use Rattle.std.proofs.Common.{◌≡◌, ◌+◌, ◌-◌, ◌<◌, ◌≤◌, ◌^◌, ℕ, List, not, true, false, nat_lt, length, map, sym, subst, ap, ◌∙◌, rules}
-use Rattle.blk_base.specs.Members.{In}
+use Rattle.std.proofs.Common.{◌≡◌, ◌<◌, ◌^◌, ℕ, List, not, true, false, nat_lt, map, sym, subst, ap, ◌∙◌, rules}
 use Rattle.log_model.specs.Marks.{Logged}
 use Rattle.log_model.specs.Ring.{IsPlace}
 use Rattle.journal_blocks.specs.declared.super_block.JournalSuper.{JournalSuper}

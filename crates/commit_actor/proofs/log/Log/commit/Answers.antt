@@ -1,6 +1,5 @@
-use Rattle.std.proofs.Common.{refl, ◌≡◌, ◌≤◌, ap, subst, sym, length, arith}
-use Rattle.flush_actor.specs.Actor.{FlushActor}
-use Rattle.commit_actor.proofs.Logs.{IsKept, log_kept, IsSameRing}
+use Rattle.std.proofs.Common.{refl, ap, subst, sym, arith}
+use Rattle.commit_actor.proofs.Logs.{IsKept, log_kept}
 use Rattle.journal_ring.specs.Journal.{JournalRing}
 use Rattle.commit_actor.proofs.log.Log.commit.Goals as goal
 
