@@ -9,6 +9,7 @@ pub mod PageMaps
 pub mod PagesRising
 pub mod PlanNotes
 pub mod PlanSteps
+pub mod Parts
 pub mod Plans
 pub mod RequestSteps
 pub mod Retold

@@ -3,6 +3,7 @@ pub mod State
 pub mod Causes
 pub mod Outcomes
 pub mod Host
+pub mod Parts
 pub mod Views
 pub mod Rows
 pub mod Sample

@@ -1,10 +1,12 @@
 //! The laws, each a public function that does nothing when it is called.
 
+mod parts;
 mod rows;
 mod sample;
 mod steps;
 mod zones;
 
+pub use parts::actors_step_on_their_parts;
 pub use rows::{
     calls_wait_for_room_and_for_held_blocks, checkpoints_make_room_in_the_log,
     data_barriers_wait_where_they_sent_none, file_barriers_wait_for_no_device,
