@@ -1,5 +1,5 @@
 -- Commit blocks of transactions, at each step of the code.
-use Rattle.std.proofs.Common.{◌≡◌, ℕ, ◌+◌, ◌<◌, ◌≤◌, ◌==◌, ◌&&◌, Bool, true, false, nat_lt, List, [], ◌∷◌, length, Some, Ok, Err, Result, refl, sym, ap, subst, ◌∙◌, inl, inr, arith, eq-eqb, if◌then◌else◌}
+use Rattle.std.proofs.Common.{◌≡◌, ℕ, ◌<◌, ◌==◌, ◌&&◌, Bool, true, false, nat_lt, List, [], ◌∷◌, length, Some, Ok, Err, Result, refl, sym, ap, subst, ◌∙◌, inl, inr, arith, eq-eqb, if◌then◌else◌}
 use Rattle.std.specs.List.{slice_get, insert}
 use Rattle.std.specs.Prelude.{◌≢◌, is_ok}
 use Rattle.std.proofs.Math.Bool.{or-false}
@@ -11,7 +11,7 @@ use Rattle.conflict_pages.specs.code.Table.{IsCommitTable}
 use Rattle.conflict_pages.specs.laws.CommitBlocks.{key_of, with_commit-longer}
 use Rattle.conflict_pages.specs.declared.commits.CommitBlock.{CommitBlock}
 use Rattle.number_sets.specs.Keyed.{put_by}
-use Rattle.number_sets.specs.laws.Keyed.{IsKeyPlace, KeyStandsAt, KeyBelongsAt, ascending-put_by, put_by-longer}
+use Rattle.number_sets.specs.laws.Keyed.{IsKeyPlace, KeyStandsAt, KeyBelongsAt, ascending-put_by}
 
 pub commit_there : (cs : List CommitBlock) (k : ℕ) (r : Result ℕ ℕ) → IsKeyPlace key_of cs k r → is_ok r ≡ has_commit k cs
 commit_there cs k (Ok at) p = sym (list_any-In (λ (c : CommitBlock). c.transaction == k) cs p.here (slice_get-In cs at p.here p.read) (eq-eqb p.here.transaction k p.same))

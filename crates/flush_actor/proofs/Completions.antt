@@ -1,5 +1,5 @@
 -- What is kept of the completions, when one more is taken.
-use Rattle.std.proofs.Common.{◌≡◌, ℕ, ◌+◌, ◌<◌, ◌≤◌, ◌==◌, ◌&&◌, ◌||◌, ◌⊎◌, Bool, true, false, nat_lt, if◌then◌else◌, List, [], ◌∷◌, ◌++◌, length, length-append, Option, Some, None, set, refl, sym, ap, subst, ◌∙◌, inl, inr, ⊎_elim, arith, tests, eq-eqb}
+use Rattle.std.proofs.Common.{◌≡◌, ℕ, ◌+◌, ◌<◌, ◌≤◌, ◌==◌, ◌||◌, ◌⊎◌, Bool, true, false, nat_lt, List, [], ◌∷◌, ◌++◌, length, length-append, Option, Some, None, set, refl, sym, ap, subst, ◌∙◌, inl, inr, arith, tests, eq-eqb}
 use Rattle.std.specs.List.{list_any, slice_get}
 use Rattle.std.proofs.Math.Bool.{or-false}
 use Rattle.std.proofs.lemmas.Bool.{cases_eq, ne_eqb}
@@ -10,7 +10,7 @@ use Rattle.order_model.specs.declared.completion.Completion.{Completion}
 use Rattle.blk_base.specs.Members.{slice_get-set_same, slice_get-set_other}
 use Rattle.flush_actor.specs.Part.{is_cut, first_failed, is_moved, is_flushed_after}
 use Rattle.flush_actor.specs.code.Fields.{IsCompleted}
-use Rattle.flush_actor.specs.code.Summary.{is_above, greater, first_of, flushed_with, failed_with, moved_with}
+use Rattle.flush_actor.specs.code.Summary.{is_above, greater, flushed_with, failed_with, moved_with}
 
 any-push : (p : Completion → Bool) (cs : List Completion) (c : Completion) → list_any p (cs ++ c ∷ []) ≡ (list_any p cs || p c)
 any-push p cs c = list_any-append p cs (c ∷ []) ∙ ap (λ t. list_any p cs || t) (or-false (p c))

@@ -1,12 +1,12 @@
 -- What is kept of the notes, when one more comes.
-use Rattle.std.proofs.Common.{◌≡◌, ℕ, ◌+◌, ◌<◌, ◌≤◌, ◌==◌, ◌&&◌, ◌||◌, Bool, true, false, nat_lt, if◌then◌else◌, List, [], ◌∷◌, ◌++◌, length, length-append, Option, Some, None, refl, sym, ap, subst, ◌∙◌, inl, inr, ⊎_elim, arith, tests}
+use Rattle.std.proofs.Common.{◌≡◌, ℕ, ◌+◌, ◌<◌, ◌≤◌, ◌==◌, ◌&&◌, ◌||◌, Bool, true, false, nat_lt, if◌then◌else◌, List, [], ◌∷◌, ◌++◌, length, length-append, Option, Some, None, refl, sym, ap, subst, ◌∙◌, ⊎_elim, arith, tests}
 use Rattle.std.proofs.Math.Bool.{or-false}
-use Rattle.std.proofs.lemmas.Option.{same_Some, none-some}
+use Rattle.std.proofs.lemmas.Option.{same_Some}
 use Rattle.order_model.specs.declared.note.Note.TheVariants as notes
 use Rattle.order_model.specs.declared.note.Note.{Note}
 use Rattle.order_model.specs.declared.request.Request.{Request}
 use Rattle.blk_base.specs.Members.{In}
-use Rattle.conflict_pages.specs.Commits.{CommitTable, is_committed, with_commit, with_commits}
+use Rattle.conflict_pages.specs.Commits.{CommitTable, is_committed, with_commits}
 use Rattle.conflict_pages.specs.declared.commits.CommitBlock.{CommitBlock}
 use Rattle.conflict_pages.specs.laws.CommitBlocks.{committed_more, In-with_commit, with_commit-longer}
 use Rattle.flush_actor.specs.Part.{is_flush_note, flush_above, last_put}

@@ -1,5 +1,5 @@
 -- What the threads' calls wait for, one after the other.
-use Rattle.std.proofs.Common.{◌≡◌, ℕ, zero, suc, ◌+◌, ◌<◌, ◌≤◌, ◌||◌, ◌&&◌, ◌==◌, if◌then◌else◌, replicate, Bool, true, false, List, [], ◌∷◌, ◌++◌, length, length-append, map, set, drop, get_or, Some, None, Option, refl, sym, ap, subst, ◌∙◌, inl, inr, ⊎_elim, arith}
+use Rattle.std.proofs.Common.{◌≡◌, ℕ, zero, suc, ◌+◌, ◌<◌, ◌≤◌, ◌||◌, ◌&&◌, ◌==◌, if◌then◌else◌, replicate, Bool, true, false, List, [], ◌∷◌, ◌++◌, length, length-append, map, set, drop, get_or, Some, None, refl, sym, ap, subst, ◌∙◌, ⊎_elim, arith}
 use Rattle.std.specs.List.{list_any}
 use Rattle.std.proofs.lemmas.List.{drop_more, drop_all}
 use Rattle.blk_base.specs.Members.{In, In-set_cases, In-map, In-replicate}

@@ -1,12 +1,11 @@
 -- The flush actor of one volume, and its two halves: what was submitted, and what was completed.
-use Rattle.std.specs.Prelude.{ℕ, ◌+◌, List, [], ◌∷◌, ◌++◌, replicate}
+use Rattle.std.specs.Prelude.{ℕ, List, [], replicate}
 use Rattle.order_model.specs.declared.completion.Completion.{Completion}
 use Rattle.order_model.specs.declared.note.Note.{Note}
 use Rattle.order_model.specs.declared.request.Request.{Request}
 use Rattle.conflict_pages.specs.Conflicts.{Conflicts}
 use Rattle.flush_actor.specs.Part.{FlushPart}
 use Rattle.flush_actor.specs.Waits.{no_wait}
-use Rattle.flush_actor.specs.declared.wait.Wait.{Wait}
 
 -- how many requests there may be, which they are, and what each carries
 pub record Submission : Type 0 where

@@ -1,5 +1,5 @@
 -- What a step did, as it is seen from outside.
-use Rattle.std.specs.Prelude.{ℕ, Bool, true, false, List, length, drop, Option, slice_get}
+use Rattle.std.specs.Prelude.{Bool, true, false, List, length, drop, Option, slice_get}
 use Rattle.order_model.specs.declared.request.Request.{Request}
 use Rattle.order_model.specs.declared.turn.Turn.TheVariants as turns
 use Rattle.order_model.specs.declared.turn.Turn.{Turn}

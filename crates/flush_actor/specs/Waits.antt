@@ -1,5 +1,5 @@
 -- What begun calls wait for.
-use Rattle.std.specs.Prelude.{ℕ, ◌==◌, Bool, true, false, ◌&&◌, Option, Some, None, if◌then◌else◌}
+use Rattle.std.specs.Prelude.{ℕ, ◌==◌, Bool, false, ◌&&◌, Some, None, if◌then◌else◌}
 use Rattle.flush_actor.specs.Kinds.{is_durable, makes_durable}
 use Rattle.flush_actor.specs.declared.call_kind.CallKind.TheVariants.{Reading}
 use Rattle.flush_actor.specs.declared.wait.Wait.{Wait}

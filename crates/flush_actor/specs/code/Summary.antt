@@ -1,12 +1,12 @@
 -- What is kept in place of whole lists: each changes with one note or one completion.
-use Rattle.std.specs.Prelude.{ℕ, Bool, true, false, ◌||◌, nat_lt, List, Option, Some, None, set, if◌then◌else◌}
+use Rattle.std.specs.Prelude.{ℕ, Bool, true, false, nat_lt, List, Option, Some, None, set, if◌then◌else◌}
 use Rattle.order_model.specs.declared.completion.Completion.TheVariants as completions
 use Rattle.order_model.specs.declared.completion.Completion.{Completion}
 use Rattle.order_model.specs.declared.note.Note.TheVariants as notes
 use Rattle.order_model.specs.declared.note.Note.{Note}
 use Rattle.conflict_pages.specs.Commits.{with_commit}
 use Rattle.conflict_pages.specs.declared.commits.CommitBlock.{CommitBlock}
-use Rattle.flush_actor.specs.Part.{is_cut, is_flush_note}
+use Rattle.flush_actor.specs.Part.{is_flush_note}
 
 -- the number is above id
 abbrev pub is_above : ℕ → Option ℕ → Bool

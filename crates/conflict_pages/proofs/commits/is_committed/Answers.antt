@@ -1,4 +1,4 @@
-use Rattle.std.proofs.Common.{sym, get_or, ◌∙◌}
+use Rattle.std.proofs.Common.{sym, get_or}
 use Rattle.std.proofs.lemmas.Option.{slice_get-get_or}
 use Rattle.conflict_pages.proofs.CommitBlocks.{found_before, committed_none}
 use Rattle.conflict_pages.specs.declared.commits.CommitBlock.{CommitBlock}

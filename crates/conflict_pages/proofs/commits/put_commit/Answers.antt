@@ -1,4 +1,4 @@
-use Rattle.std.proofs.Common.{rules, sym, subst, ◌∙◌}
+use Rattle.std.proofs.Common.{rules, sym, subst}
 use Rattle.conflict_pages.proofs.CommitBlocks.{commit_new, commit_old}
 use Rattle.conflict_pages.specs.laws.CommitBlocks.{key_of}
 use Rattle.number_sets.specs.laws.Keyed.{KeyStandsAt, KeyBelongsAt}

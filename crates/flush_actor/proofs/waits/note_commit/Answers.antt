@@ -1,4 +1,4 @@
-use Rattle.std.proofs.Common.{◌≡◌, ◌+◌, ◌<◌, ◌≤◌, suc, length, set, length-set, get_or, sym, subst, ap, ◌∙◌, arith, add-one, map}
+use Rattle.std.proofs.Common.{◌≡◌, ◌+◌, suc, set, length-set, get_or, sym, ap, ◌∙◌, arith}
 use Rattle.flush_actor.proofs.Waiting.{none_changed, changed_one, all_changed, changed_from}
 use Rattle.flush_actor.specs.Waits.{need_commit}
 use Rattle.flush_actor.specs.declared.wait.Wait.{Wait}

@@ -1,4 +1,4 @@
-use Rattle.std.proofs.Common.{◌<◌, vec_capacity, subst, sym, ap, length, arith}
+use Rattle.std.proofs.Common.{◌<◌, vec_capacity, subst, sym, length}
 use Rattle.conflict_pages.proofs.CommitBlocks.{table_noted}
 use Rattle.conflict_pages.specs.Commits.{CommitTable}
 use Rattle.conflict_pages.specs.code.Table.{IsCommitTable}

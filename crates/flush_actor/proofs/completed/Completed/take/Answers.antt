@@ -1,8 +1,6 @@
 use Rattle.std.proofs.Common.{◌≤◌, length, sym, subst}
 use Rattle.flush_actor.proofs.Completions.{completed_more, completed_same}
 use Rattle.flush_actor.specs.Actor.{Completed}
-use Rattle.flush_actor.specs.Part.{is_cut}
-use Rattle.flush_actor.specs.code.Summary.{flushed_with, failed_with, moved_with}
 use Rattle.flush_actor.proofs.completed.Completed.take.Goals as goal
 
 pub invariant_of-self : goal.invariant_of-self

@@ -1,4 +1,4 @@
-use Rattle.std.proofs.Common.{ap, sym, ◌∙◌, ◌≡◌}
+use Rattle.std.proofs.Common.{ap, sym, ◌∙◌}
 use Rattle.order_model.specs.declared.completion.Completion.TheVariants.{Flushed}
 use Rattle.conflict_pages.specs.Conflicts.{ConflictTable}
 use Rattle.flush_actor.proofs.Holds.{unhold_same}

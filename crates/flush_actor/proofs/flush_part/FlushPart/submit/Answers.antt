@@ -1,4 +1,4 @@
-use Rattle.std.proofs.Common.{◌≡◌, ◌<◌, false, length, nat_le, sym, subst, ap, ◌∙◌, arith, tests}
+use Rattle.std.proofs.Common.{◌≡◌, ◌<◌, false, length, nat_le, sym, ap, ◌∙◌, arith, tests}
 use Rattle.flush_actor.proofs.Waiting.{part_submitted}
 use Rattle.flush_actor.specs.Actor.{FlushActor}
 use Rattle.flush_actor.specs.Part.{at_limit}

@@ -1,4 +1,4 @@
-use Rattle.std.proofs.Common.{◌≡◌, ◌+◌, ◌<◌, length, sym, subst, ap, ◌∙◌, arith, vec_capacity}
+use Rattle.std.proofs.Common.{◌≡◌, ◌+◌, ◌<◌, length, sym, subst, ap, ◌∙◌, vec_capacity}
 use Rattle.conflict_pages.specs.Commits.{with_commits}
 use Rattle.flush_actor.proofs.Notes.{submission_more, submission_same}
 use Rattle.flush_actor.specs.Actor.{Submission}
