@@ -1,6 +1,6 @@
 -- A new volume may get a first name, in its root.
 use Rattle.std.specs.Prelude.{◌≡◌, ◌<◌, ◌≤◌, ◌+◌, ℕ, IsTrue, false, List, [], ◌∷◌, length, count_by, Option, Some, None, refl}
-use Rattle.std.proofs.Common.{sym, ap, ◌∙◌, inl, inr, arith, nat_cmp, is_eq}
+use Rattle.std.proofs.Common.{sym, ap, ◌∙◌, inl, inr, arith, nat_cmp, is_eq, lit<, lit≤}
 use Rattle.std.proofs.lemmas.Bool.{cases_Bool}
 use Rattle.std.proofs.lemmas.Option.{none-some}
 use Rattle.minix_layout.specs.declared.division.Geometry.{Geometry}
@@ -59,3 +59,25 @@ new_may_mkdir g name plain many some word short = record {
   zones = omega arith;
   some_zone = some;
 }
+
+-- ---- a small one
+
+abbrev pub small : Geometry
+small = record { inodes = 32; zones = 64; imap = 1; zmap = 1; first = 5; width = 14 }
+
+pub small_sound : IsSound small
+small_sound = record {
+  fits = record { inodes = lit< tt; zones = lit< tt; imap = lit< tt; zmap = lit< tt; first = lit< tt };
+  width = refl;
+  some_inode = lit< tt;
+  some_zone = lit< tt;
+  tables_below = lit≤ tt;
+  inode_bits = lit< tt;
+  zone_bits = lit< tt;
+}
+
+pub small_create : IsPlainNow (new_now small) → MayCreate (new_now small) 1 0 (97 ∷ [])
+small_create plain = new_may_create small (97 ∷ []) plain (lit< tt) refl (lit≤ tt)
+
+pub small_mkdir : IsPlainNow (new_now small) → MayMkdir (new_now small) 1 0 (97 ∷ [])
+small_mkdir plain = new_may_mkdir small (97 ∷ []) plain (lit< tt) (lit≤ tt) refl (lit≤ tt)

@@ -1,9 +1,9 @@
 //! A name comes into a directory, or goes, before its blocks are written.
-ghost use Rattle.std.specs.Prelude.{◌≡◌, ◌≤◌, ◌<◌, ◌+◌, ◌%◌, ◌&&◌, nat_eq, ℕ, length, IfOk, IfSome, IfNone, OnErr, Some, None};
-ghost use Rattle.dir_ops.specs.Slots.{room, place_of, slots_without};
+ghost use Rattle.std.specs.Prelude.{◌≡◌, ◌≤◌, ◌<◌, ◌+◌, ◌%◌, ◌&&◌, nat_eq, ℕ, length, IfOk, OnErr, Some, None};
+ghost use Rattle.dir_ops.specs.Slots.{place_of};
 ghost use Rattle.tree_model.specs.Maps.{at_name};
 ghost use Rattle.volume_model.specs.Moves.{with_name};
-ghost use Rattle.volume_names.specs.code.NewSlot.{new_slot, left_by};
+ghost use Rattle.volume_names.specs.code.NewSlot.{new_slot};
 
 use blk_base::NoMemory;
 use minix_layout::{Name, Slot};
@@ -48,25 +48,4 @@ pub fn slot_of(number: u16, name: &Name) -> Slot
         inode: number,
         name: name.copy(),
     }
-}
-
-/// Where a slot was that went: its place, and how many slots there are.
-#[derive(Clone, Copy)]
-pub struct OldSlot {
-    pub at: usize,
-    pub slots: usize,
-}
-
-/// A name goes with its slot, which is free then. It takes no memory; where the name is not there, nothing goes.
-pub fn remove_name(directory: &mut DirectoryPart, name: &Name) -> Option<OldSlot>
-    ensures some { IfSome result (λ old. (place_of directory.old.slots name.now ≡ Some old.at) × (old.slots ≡ length directory.old.slots) × (directory.new ≡ left_by directory.old name.now)) }
-    ensures none { IfNone result (place_of directory.old.slots name.now ≡ None) }
-{
-    let at = directory.slots.find(name)?;
-    let _ = directory.slots.remove(name);
-    directory.names.remove(name);
-    Some(OldSlot {
-        at,
-        slots: directory.slots.len(),
-    })
 }

@@ -4,6 +4,7 @@ ghost use Rattle.std.specs.Prelude.{◌≡◌, codes, IfOk};
 use super::*;
 use minix_layout::{Geometry, Name, read_inode, read_slot};
 use std::test::Fail;
+use volume_model::new_volumes_are_plain;
 use volume_now::new_volume;
 
 // Five blocks are no zones of data.
@@ -24,6 +25,7 @@ fn short_name() -> Name
 
 #[test]
 fn creates_a_file(rt: HostRuntime) -> Result<(), Fail> {
+    new_volumes_are_plain();
     let mut volume = new_volume(rt.alloc(), SMALL)?;
     let touched = create(rt.alloc(), &mut volume, 1, 0, &short_name())?;
     assert_eq!(rt; touched.blocks(), [2, 4, 5, 4].as_slice());
@@ -38,6 +40,7 @@ fn creates_a_file(rt: HostRuntime) -> Result<(), Fail> {
 
 #[test]
 fn makes_a_directory(rt: HostRuntime) -> Result<(), Fail> {
+    new_volumes_are_plain();
     let mut volume = new_volume(rt.alloc(), SMALL)?;
     let touched = mkdir(rt.alloc(), &mut volume, 1, 0, &short_name())?;
     assert_eq!(rt;

@@ -1,8 +1,7 @@
 -- Where a slot comes.
 use Rattle.std.specs.Prelude.{ℕ, ◌%◌, ◌&&◌, nat_eq, List, Option, length}
 use Rattle.minix_layout.specs.declared.slot.Slot.{Slot}
-use Rattle.dir_ops.specs.Slots.{room, with_slot, slots_without}
-use Rattle.volume_model.specs.Moves.{without}
+use Rattle.dir_ops.specs.Slots.{room, with_slot}
 use Rattle.volume_model.specs.declared.placed.DirectoryPart.{DirectoryPart}
 use Rattle.volume_names.specs.declared.directories.NewSlot.{NewSlot}
 
@@ -13,7 +12,3 @@ new_slot d s = record {
   begins = nat_eq (room d.slots) (length d.slots) && nat_eq (length d.slots % 64) 0;
   slots = length (with_slot d.slots (room d.slots) s);
 }
-
--- a directory that a name left, with its slot
-abbrev pub left_by : DirectoryPart → List ℕ → DirectoryPart
-left_by d name = record { parent = d.parent; names = without d.names name; slots = slots_without d.slots name }
