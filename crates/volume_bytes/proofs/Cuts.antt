@@ -1,11 +1,11 @@
 -- What is done to an open file that is cut is what the steps of the cut do to the volume.
-use Rattle.std.specs.Prelude.{◌≡◌, ◌≢◌, ℕ, suc, ◌-◌, ◌/◌, ◌%◌, ◌<◌, ◌≤◌, nat_eq, nat_lt, nat_le, ◌||◌, Bool, true, false, not, if◌then◌else◌, List, [], ◌∷◌, ◌++◌, length, map, filter, Some, refl, ◌⊎◌}
+use Rattle.std.specs.Prelude.{◌≡◌, ℕ, suc, ◌/◌, ◌%◌, nat_eq, nat_lt, nat_le, ◌||◌, Bool, true, false, not, if◌then◌else◌, List, [], ◌∷◌, ◌++◌, length, map, filter, Some, refl}
 use Rattle.std.specs.List.{list_any}
 use Rattle.std.proofs.Common.{sym, ap, subst, ◌∙◌, inl, inr, append_assoc, arith}
-use Rattle.std.proofs.lemmas.Bool.{cases_Bool, cases_lt, eqb-true, eqb-false, lt-ltb, le-ltb, le-leb, lt-leb, ne_eqb}
+use Rattle.std.proofs.lemmas.Bool.{cases_lt, lt-ltb, le-ltb, le-leb, lt-leb, ne_eqb}
 use Rattle.std.proofs.lemmas.List.{append-nil}
 use Rattle.tree_model.specs.Calls.{cut_body, file_zones}
-use Rattle.tree_model.specs.Maps.{at_number, put_number}
+use Rattle.tree_model.specs.Maps.{at_number}
 use Rattle.tree_model.specs.laws.MapsLaws.{at_put_number}
 use Rattle.volume_ops.specs.declared.found.Mapped.{Mapped}
 use Rattle.volume_ops.specs.Places.{table_block}
@@ -14,24 +14,24 @@ use Rattle.volume_model.specs.declared.placed.Placed.{Placed}
 use Rattle.volume_model.specs.declared.placed.Part.TheVariants as parts
 use Rattle.volume_model.specs.Counts.{keeps_below, indices_of}
 use Rattle.volume_model.specs.Cut.{cut_to, cuts, cut_edits}
-use Rattle.volume_model.specs.Edits.{Edit, edited, edited_all, put_inode, touched_by_all}
+use Rattle.volume_model.specs.Edits.{Edit, edited_all, touched_by_all}
 use Rattle.volume_model.specs.MapBlock.{OpenInode}
-use Rattle.volume_model.specs.Moves.{page_of, file_cut_touches, numbers_gone}
+use Rattle.volume_model.specs.Moves.{page_of, numbers_gone}
 use Rattle.volume_model.specs.Touched.{Page, Touched, and_then}
 use Rattle.volume_model.specs.Volume.{Place, block, zone_in}
 use Rattle.volume_edits.specs.Zones.{blocks_cut as blocks_gone, numbers_cut}
 use Rattle.volume_now.proofs.Notes.{and_nothing}
-use Rattle.volume_steps.specs.Now.{VolumeNow, Change, unchanged, tells_writes}
+use Rattle.volume_steps.specs.Now.{VolumeNow, Change, unchanged}
 use Rattle.volume_steps.specs.Plain.{IsInUse}
 use Rattle.volume_steps.specs.Steps.{blocks_cut, cut_blocks, clear_tail, put_page, tells_node}
-use Rattle.volume_steps.specs.Zones.{zone_bit, all_given}
+use Rattle.volume_steps.specs.Zones.{zone_bit}
 use Rattle.volume_steps.proofs.CutStep.{cut_step, freed_apart}
 use Rattle.volume_steps.proofs.FileSteps.{at_file_is}
 use Rattle.volume_steps.proofs.Files.{put_twice}
 use Rattle.volume_steps.proofs.Taking.{frees}
 use Rattle.volume_bytes.specs.code.Cutting.{MayGive, all_freed, map_cut, cut_work, tail_work}
 use Rattle.volume_bytes.specs.code.Work.{Work, with_nodes, put_work}
-use Rattle.volume_bytes.proofs.Freeing.{may_give, all_come_to, volume_freed, bits_told, tells_gone, zones_of}
+use Rattle.volume_bytes.proofs.Freeing.{may_give, all_come_to, bits_told, tells_gone, zones_of}
 use Rattle.volume_bytes.proofs.Writes.{IsDone, no_more, nothing_done, work_of}
 
 -- whether any blocks go

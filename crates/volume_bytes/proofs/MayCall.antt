@@ -1,6 +1,6 @@
 -- A call on bytes of a file that need not wait, and that nothing refuses, may be done where its path leads; and how many
 -- zones it takes there.
-use Rattle.std.specs.Prelude.{◌≡◌, ℕ, ◌+◌, ◌-◌, ◌<◌, ◌≤◌, ◌==◌, nat_lt, Bool, true, false, List, [], ◌∷◌, length, replicate, Some, Ok, Result, refl}
+use Rattle.std.specs.Prelude.{◌≡◌, ℕ, ◌+◌, ◌<◌, ◌≤◌, ◌==◌, nat_lt, List, [], ◌∷◌, length, replicate, Some, Ok, Result, refl}
 use Rattle.std.specs.Map.{keys_of}
 use Rattle.std.proofs.Common.{sym, ap, subst, ◌∙◌, inl, inr, arith}
 use Rattle.std.proofs.lemmas.Bool.{cases_Bool, eqb-true, eqb-false, eq-eqb, ne_eqb, le-ltb}
@@ -13,10 +13,9 @@ use Rattle.tree_model.specs.declared.node.File.{File}
 use Rattle.tree_model.specs.declared.node.Node.TheVariants as nodes
 use Rattle.tree_model.specs.Maps.{put_number}
 use Rattle.tree_model.proofs.Changes.{outcome_row}
-use Rattle.tree_model.specs.Calls.{Done, Found, block_or_zeros, file_zones, largest_size, needs, node_zones, outcome, patched, row, touched_blocks, used_zones, walk_path, write as write_row, truncate as truncate_row, written_blocks, written_file, cut_file}
+use Rattle.tree_model.specs.Calls.{Done, Found, block_or_zeros, file_zones, largest_size, needs, node_zones, outcome, patched, row, touched_blocks, used_zones, walk_path, write as write_row, written_blocks, written_file, cut_file}
 use Rattle.tree_model.specs.Maps.{at_number}
 use Rattle.volume_ops.specs.declared.found.Mapped.{Mapped}
-use Rattle.volume_ops.specs.Volume.{bodies_of}
 use Rattle.volume_model.specs.Counts.{indices_of}
 use Rattle.volume_model.specs.declared.placed.Placed.{Placed}
 use Rattle.volume_model.specs.declared.placed.Part.TheVariants as parts

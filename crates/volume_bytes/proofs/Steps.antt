@@ -1,11 +1,10 @@
 -- What the code does to an open file, step by step.
-use Rattle.std.specs.Prelude.{◌≡◌, ℕ, ◌+◌, ◌-◌, ◌/◌, ◌<◌, ◌≤◌, nat_eq, nat_lt, true, if◌then◌else◌, List, [], ◌∷◌, ◌++◌, map, refl}
+use Rattle.std.specs.Prelude.{◌≡◌, ℕ, ◌-◌, ◌/◌, ◌<◌, ◌≤◌, nat_eq, true, if◌then◌else◌, List, [], ◌∷◌, ◌++◌, map, refl}
 use Rattle.std.proofs.Common.{sym, ap, ◌∙◌, append_assoc, arith}
 use Rattle.std.proofs.lemmas.Bool.{eq-eqb, lt-ltb, le-ltb}
 use Rattle.std.proofs.lemmas.List.{append-nil}
 use Rattle.blk_base.specs.Block.{filled}
 use Rattle.byte_fields.specs.Fields.{zeros}
-use Rattle.minix_layout.specs.declared.division.Geometry.{Geometry}
 use Rattle.minix_layout.specs.declared.inode.Inode.{Inode}
 use Rattle.tree_model.specs.Calls.{patched}
 use Rattle.volume_ops.specs.declared.found.Mapped.{Mapped}
@@ -18,7 +17,7 @@ use Rattle.volume_model.specs.Volume.{Place, block, indirect, double, inner, zon
 use Rattle.volume_now.proofs.Notes.{and_assoc}
 use Rattle.volume_now.specs.Noted.{Noted, with_block, with_page, with_node}
 use Rattle.volume_steps.specs.Now.{VolumeNow, tells_blocks, tells_writes}
-use Rattle.volume_steps.specs.Zones.{TakenFor, take_zones, zone_bit}
+use Rattle.volume_steps.specs.Zones.{take_zones, zone_bit}
 use Rattle.zone_maps.specs.Zones.{Zones}
 use Rattle.volume_bytes.specs.declared.open.OpenFile.{OpenFile}
 use Rattle.volume_bytes.specs.code.Work.{Work, held, single_told, outer_told, second_told, numbers_told, map_work, block_work}

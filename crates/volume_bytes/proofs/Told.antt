@@ -1,8 +1,8 @@
 -- The zones of numbers that are written where a block of a file is mapped, one by one.
-use Rattle.std.specs.Prelude.{◌≡◌, ◌≢◌, ℕ, ◌-◌, ◌/◌, ◌%◌, ◌<◌, ◌≤◌, nat_eq, nat_lt, ◌==◌, Bool, true, false, not, if◌then◌else◌, List, [], ◌∷◌, ◌++◌, length, map, filter, Some, refl}
+use Rattle.std.specs.Prelude.{◌≡◌, ◌≢◌, ℕ, ◌-◌, ◌/◌, ◌%◌, ◌<◌, ◌≤◌, nat_eq, ◌==◌, Bool, true, false, not, if◌then◌else◌, List, [], ◌∷◌, ◌++◌, length, map, filter, Some, refl}
 use Rattle.std.proofs.Common.{sym, ap, subst, ◌∙◌, inl, inr, ⊎_elim, arith}
 use Rattle.std.proofs.lemmas.Bool.{cases_Bool, eqb-true, eqb-false, eq-eqb, ne_eqb, lt-ltb, le-ltb}
-use Rattle.blk_base.specs.Members.{In, In-append_cases}
+use Rattle.blk_base.specs.Members.{In}
 use Rattle.minix_layout.specs.declared.division.Geometry.{Geometry}
 use Rattle.minix_layout.specs.Geometry.{IsSound}
 use Rattle.tree_model.specs.Maps.{at_number}
@@ -14,8 +14,8 @@ use Rattle.volume_model.specs.MapBlock.{OpenInode, TakenZones, own_of, taken_at,
 use Rattle.volume_model.specs.Moves.{IsVolume, AreFree}
 use Rattle.volume_model.specs.Touched.{Contents}
 use Rattle.volume_model.specs.Volume.{Place, block, indirect, double, inner, zone_in}
-use Rattle.volume_model.specs.Ways.{Home, slot, entry, home, way}
-use Rattle.volume_model.specs.laws.MapBlock.{Got, IsFit, IsFresh, IsReached, Outcome, one_step, fresh_rest, there_now, next_reached}
+use Rattle.volume_model.specs.Ways.{slot, entry, home, way}
+use Rattle.volume_model.specs.laws.MapBlock.{Got, IsFit, IsFresh, IsReached, one_step, fresh_rest, there_now, next_reached}
 use Rattle.volume_model.specs.laws.MapTells.{fresh}
 use Rattle.volume_model.specs.laws.OnWay.{way-direct, way-single, way-twice}
 use Rattle.volume_model.specs.laws.Ways.{direct, single, twice, past, range, home-direct, home-single, home-twice, home-inner}

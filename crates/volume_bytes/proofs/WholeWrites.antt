@@ -1,15 +1,13 @@
 -- A whole write: what the code did is the call on the volume.
-use Rattle.std.specs.Prelude.{◌≡◌, ℕ, suc, ◌+◌, ◌-◌, ◌*◌, ◌/◌, ◌<◌, ◌≤◌, nat_eq, nat_lt, ◌==◌, Bool, true, false, List, [], ◌∷◌, length, Some, refl}
+use Rattle.std.specs.Prelude.{◌≡◌, ℕ, suc, ◌+◌, ◌-◌, ◌*◌, ◌/◌, ◌<◌, ◌≤◌, nat_eq, List, [], length, Some, refl}
 use Rattle.std.specs.List.{range_with_len}
 use Rattle.std.proofs.Common.{sym, ap, subst, ◌∙◌, inl, inr, arith}
-use Rattle.std.proofs.lemmas.Bool.{cases_Bool, eqb-true, eqb-false}
+use Rattle.std.proofs.lemmas.Bool.{cases_Bool}
 use Rattle.std.proofs.lemmas.Option.{same_Some}
-use Rattle.blk_base.specs.Members.{In}
 use Rattle.byte_fields.specs.Fields.{zeros}
 use Rattle.number_sets.specs.Sets.{with_all}
 use Rattle.minix_layout.specs.Geometry.{IsSound}
-use Rattle.minix_layout.specs.declared.division.Geometry.{Geometry}
-use Rattle.tree_model.specs.Calls.{file_zones, largest_size, max, patched, touched_blocks}
+use Rattle.tree_model.specs.Calls.{file_zones, max, patched, touched_blocks}
 use Rattle.tree_model.specs.Maps.{at_number, put_number}
 use Rattle.tree_model.specs.laws.MapsLaws.{at_put_number}
 use Rattle.volume_ops.specs.Volume.{disk_of}
@@ -18,9 +16,8 @@ use Rattle.volume_model.specs.declared.placed.Placed.{Placed}
 use Rattle.volume_model.specs.declared.placed.Part.TheVariants as parts
 use Rattle.volume_model.specs.Counts.{indices_of}
 use Rattle.volume_model.specs.Holes.{with_holes}
-use Rattle.volume_model.specs.Touched.{Touched, and_then}
+use Rattle.volume_model.specs.Touched.{Touched}
 use Rattle.volume_model.specs.Volume.{block, zone_in}
-use Rattle.volume_now.specs.Noted.{Noted, nothing}
 use Rattle.volume_steps.specs.Calls.{write_at}
 use Rattle.volume_steps.specs.Now.{VolumeNow, Change, untouched}
 use Rattle.volume_steps.specs.Steps.{write_blocks}
@@ -28,7 +25,7 @@ use Rattle.volume_steps.proofs.Files.{put_twice}
 use Rattle.volume_steps.proofs.Taking.{frees}
 use Rattle.volume_steps.proofs.WriteCall.{touched_among}
 use Rattle.volume_bytes.specs.declared.open.OpenFile.{OpenFile}
-use Rattle.volume_bytes.specs.MayWrite.{MayWrite, wanted_zones}
+use Rattle.volume_bytes.specs.MayWrite.{MayWrite}
 use Rattle.volume_bytes.specs.code.Work.{Work, blank, node_of, with_nodes, map_work, put_work, block_work, blocks_work, size_work}
 use Rattle.volume_bytes.proofs.Sizes.{closed_work, closed_as}
 use Rattle.volume_bytes.proofs.Writes.{IsDone, work_of, blocks_done}

@@ -19,7 +19,7 @@ use Rattle.volume_model.specs.declared.placed.Part.TheVariants as parts
 use Rattle.volume_model.specs.Counts.{indices_of, zones_of_file}
 use Rattle.volume_model.specs.Edits.{Edit, edited_all}
 use Rattle.volume_model.specs.MapBlock.{OpenInode, own_of, map_block}
-use Rattle.volume_model.specs.Holes.{has_index, with_hole, with_holes, with_mapped, with_zone}
+use Rattle.volume_model.specs.Holes.{has_index, with_hole, with_holes, with_mapped}
 use Rattle.volume_model.specs.Touched.{Touched, and_then}
 use Rattle.volume_model.specs.Volume.{Place, block, zone_in, IsPart, IsFilePart}
 use Rattle.volume_model.specs.laws.Counts.{count_map}
@@ -27,7 +27,7 @@ use Rattle.volume_model.specs.laws.Holes.{index_of, rising_ascending, hole_mappe
 use Rattle.volume_model.specs.laws.Indexed.{file_indexed}
 use Rattle.volume_model.specs.laws.Mapped.{zones_mapped}
 use Rattle.volume_now.proofs.Notes.{and_nothing, and_assoc}
-use Rattle.volume_steps.specs.Now.{VolumeNow, Change, followed_by, unchanged, tells_writes}
+use Rattle.volume_steps.specs.Now.{VolumeNow, Change, unchanged, tells_writes}
 use Rattle.volume_steps.specs.Plain.{IsInUse}
 use Rattle.volume_steps.specs.Steps.{write_block, write_blocks, map_file_block, put_page}
 use Rattle.volume_steps.specs.Zones.{TakenFor, take_zones, zone_bit}

@@ -9,7 +9,6 @@ use Rattle.zone_maps.specs.Zones.{Zones, given, state_of}
 use Rattle.volume_model.specs.Counts.{keeps_below, indices_of}
 use Rattle.volume_model.specs.Cut.{cut_to}
 use Rattle.volume_model.specs.Edits.{edited, put_inode, touched_by}
-use Rattle.volume_model.specs.MapBlock.{OpenInode}
 use Rattle.volume_model.specs.Moves.{page_of}
 use Rattle.volume_model.specs.Touched.{Touched, and_then}
 use Rattle.volume_model.specs.Volume.{block, zone_in}

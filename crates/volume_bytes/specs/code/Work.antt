@@ -1,5 +1,5 @@
 -- A file that is open: its node is taken out, and what is done to it is done to this, to the blocks and to the zones.
-use Rattle.std.specs.Prelude.{ℕ, ◌+◌, ◌-◌, ◌/◌, nat_eq, nat_lt, if◌then◌else◌, List, [], ◌∷◌, ◌++◌, map, true}
+use Rattle.std.specs.Prelude.{ℕ, ◌-◌, ◌/◌, nat_eq, nat_lt, if◌then◌else◌, List, [], ◌∷◌, ◌++◌, map, true}
 use Rattle.byte_fields.specs.Fields.{zeros}
 use Rattle.tree_model.specs.Calls.{patched}
 use Rattle.volume_ops.specs.Places.{table_block}

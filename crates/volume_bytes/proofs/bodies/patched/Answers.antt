@@ -1,4 +1,4 @@
-use Rattle.std.proofs.Common.{rules, ◌∙◌, ◌+◌, ap, sym, length, replicate}
+use Rattle.std.proofs.Common.{rules, ◌+◌, replicate}
 use Rattle.volume_bytes.specs.Contents.{bytes_of}
 use Rattle.volume_bytes.proofs.Patches.{three_parts}
 use Rattle.volume_bytes.proofs.bodies.patched.Goals as goal

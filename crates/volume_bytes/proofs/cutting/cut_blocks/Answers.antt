@@ -1,4 +1,4 @@
-use Rattle.std.proofs.Common.{rules, sym, subst, List, ℕ}
+use Rattle.std.proofs.Common.{sym, subst, List, ℕ}
 use Rattle.minix_layout.specs.Geometry.{IsSound}
 use Rattle.volume_ops.specs.declared.found.Mapped.{Mapped}
 use Rattle.zone_maps.specs.Zones.{Zones}

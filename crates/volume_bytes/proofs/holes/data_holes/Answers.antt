@@ -1,4 +1,4 @@
-use Rattle.std.proofs.Common.{rules, arith}
+use Rattle.std.proofs.Common.{rules}
 use Rattle.volume_model.specs.Volume.{zone_in}
 use Rattle.volume_bytes.proofs.Wants.{data_step, data_done}
 use Rattle.volume_bytes.proofs.holes.data_holes.Goals as goal

@@ -1,4 +1,4 @@
-use Rattle.std.proofs.Common.{◌≡◌, ◌+◌, ◌-◌, ◌≤◌}
+use Rattle.std.proofs.Common.{◌≡◌, ◌+◌, ◌≤◌}
 use Rattle.volume_model.specs.Volume.{zone_in}
 use Rattle.volume_bytes.specs.code.Wants.{data_holes}
 use Rattle.volume_bytes.proofs.holes.data_holes.Given as goal

@@ -1,4 +1,4 @@
-use Rattle.std.proofs.Common.{rules, arith}
+use Rattle.std.proofs.Common.{rules}
 use Rattle.volume_model.specs.Volume.{zone_in}
 use Rattle.volume_bytes.proofs.Wants.{group_step, group_done}
 use Rattle.volume_bytes.proofs.holes.group_holes.Goals as goal

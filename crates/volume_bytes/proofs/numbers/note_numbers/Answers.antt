@@ -2,7 +2,7 @@ use Rattle.std.proofs.Common.{rules, ap, ◌∙◌, ◌-◌, ◌/◌}
 use Rattle.inode_ops.specs.Map.{entry_behind}
 use Rattle.volume_model.specs.MapBlock.{own_of}
 use Rattle.volume_model.specs.Ways.{entry_of}
-use Rattle.volume_bytes.proofs.Steps.{none_noted, single_noted, twice_noted}
+use Rattle.volume_bytes.proofs.Steps.{single_noted, twice_noted}
 use Rattle.volume_bytes.proofs.numbers.note_numbers.Goals as goal
 
 pub returns-then-index-lt519-clause-told : goal.returns-then-index-lt519-clause-told

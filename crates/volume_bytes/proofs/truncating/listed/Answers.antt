@@ -1,7 +1,4 @@
-use Rattle.std.proofs.Common.{rules, ap, sym, ◌∙◌, List}
-use Rattle.volume_ops.specs.declared.found.Mapped.{Mapped}
-use Rattle.volume_model.specs.Counts.{keeps_below, indices_of}
-use Rattle.volume_edits.specs.Zones.{blocks_cut}
+use Rattle.std.proofs.Common.{rules, ap}
 use Rattle.volume_steps.specs.Now.{VolumeNow}
 use Rattle.volume_bytes.proofs.WholeCuts.{told_moved}
 use Rattle.volume_bytes.proofs.truncating.listed.Goals as goal

@@ -1,6 +1,5 @@
-use Rattle.std.proofs.Common.{rules, ◌∙◌, ap, sym}
+use Rattle.std.proofs.Common.{rules, ◌∙◌, ap}
 use Rattle.volume_bytes.specs.Contents.{bytes_of}
-use Rattle.volume_bytes.specs.code.Work.{Work}
 use Rattle.volume_bytes.proofs.Sizes.{put_back}
 use Rattle.volume_bytes.proofs.WholeWrites.{all_written, some_number, there_before, number_after, there_after, write_closed}
 use Rattle.volume_bytes.proofs.writing.write.Goals as goal

@@ -1,4 +1,4 @@
-use Rattle.std.proofs.Common.{◌/◌, ◌+◌}
+use Rattle.std.proofs.Common.{◌/◌}
 use Rattle.std.specs.List.{range_with_len}
 use Rattle.volume_bytes.specs.Contents.{bytes_of}
 use Rattle.volume_bytes.specs.code.Work.{blocks_work}
