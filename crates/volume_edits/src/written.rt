@@ -21,12 +21,7 @@ pub struct WrittenZones {
 }
 
 /// Which zones of numbers `cut_to` writes in a cut at block `from`.
-pub fn zones_written(
-    blocks: &Image,
-    inode: &Inode,
-    zones: &[Mapped],
-    from: u32,
-) -> WrittenZones
+pub fn zones_written(blocks: &Image, inode: &Inode, zones: &[Mapped], from: u32) -> WrittenZones
     ensures { (g : Geometry) → written_list result ≡ touched_by_all g
         (cut_edits (λ x. zone_in blocks.now inode.now x) (keeps_below (indices_of zones.now) from)
         (cuts (keeps_below (indices_of zones.now) from) from)) }
