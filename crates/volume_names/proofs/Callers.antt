@@ -1,12 +1,12 @@
 -- What is asked before a call is done holds where the tree does not refuse it, and as many zones are free as it needs.
-use Rattle.std.specs.Prelude.{◌≡◌, ◌≤◌, ◌<◌, ◌+◌, ◌-◌, ◌==◌, ℕ, false, List, length, Ok, Err, Result, refl}
+use Rattle.std.specs.Prelude.{◌≡◌, ◌≤◌, ◌<◌, ◌-◌, ◌==◌, ℕ, false, List, Ok, Result}
 use Rattle.std.proofs.Common.{sym, ap, subst, ◌∙◌, arith}
 use Rattle.tree_model.specs.declared.call.Call.TheVariants as calls
 use Rattle.tree_model.specs.declared.call.Call.{Call}
 use Rattle.tree_model.specs.declared.call.Reply.{Reply}
 use Rattle.tree_model.specs.declared.call.Reply.TheVariants as replies
 use Rattle.tree_model.specs.declared.node.Directory.{Directory}
-use Rattle.tree_model.specs.Calls.{Done, Found, Place, directory_zones, slots_with, most_links, outcome, names_in, parent_of, used_zones, walk}
+use Rattle.tree_model.specs.Calls.{Done, Found, Place, most_links, outcome, names_in, parent_of, used_zones, walk}
 use Rattle.tree_model.specs.Trees.{directory_links}
 use Rattle.volume_model.specs.Trees.{directory_from}
 use Rattle.volume_steps.specs.Now.{VolumeNow, tree_of_now, room_of}

@@ -1,5 +1,5 @@
 -- Steps at one node, from what the code did.
-use Rattle.std.specs.Prelude.{◌≡◌, ℕ, ◌-◌, ◌*◌, ◌/◌, ◌%◌, ◌<◌, true, map, List, [], ◌∷◌, ◌++◌, Option, Some, refl}
+use Rattle.std.specs.Prelude.{◌≡◌, ℕ, ◌*◌, ◌/◌, ◌%◌, ◌<◌, true, map, List, [], ◌∷◌, ◌++◌, Option, Some, refl}
 use Rattle.std.proofs.Common.{sym, ap, ◌∙◌, append_assoc}
 use Rattle.std.proofs.lemmas.List.{append-nil}
 use Rattle.std.specs.Ordering.{nat_cmp}
@@ -17,12 +17,11 @@ use Rattle.volume_ops.specs.Places.{table_block}
 use Rattle.volume_model.specs.declared.placed.Placed.{Placed}
 use Rattle.volume_model.specs.Edits.{Edit, put_inode, put_slot, edited, touched_by_all}
 use Rattle.volume_model.specs.Volume.{block, zone_in}
-use Rattle.volume_model.specs.Moves.{opened, closed, with_size}
-use Rattle.volume_model.specs.Ways.{way}
-use Rattle.volume_model.specs.MapBlock.{OpenInode, TakenZones, own_of, map_block, all_edits}
+use Rattle.volume_model.specs.Moves.{opened, with_size}
+use Rattle.volume_model.specs.MapBlock.{OpenInode, TakenZones, own_of, map_block}
 use Rattle.volume_model.specs.Touched.{Touched, Contents, and_then}
 use Rattle.volume_model.specs.laws.Trees.{set_is_put}
-use Rattle.volume_steps.specs.Now.{VolumeNow, Change, with_contents, written, tells_blocks, tells_writes}
+use Rattle.volume_steps.specs.Now.{VolumeNow, Change, written, tells_blocks, tells_writes}
 use Rattle.volume_steps.specs.Zones.{TakenFor, zone_bit, take_zones}
 use Rattle.volume_steps.specs.Steps.{at_node, tells_node, with_links, inode_put, set_links}
 use Rattle.volume_steps.proofs.QuietSteps.{at_node_is}

@@ -1,5 +1,5 @@
 -- A file that is created.
-use Rattle.std.specs.Prelude.{◌≡◌, ◌≢◌, ◌<◌, ◌≤◌, ◌+◌, ◌^◌, ℕ, false, List, [], length, Option, Some, None, refl}
+use Rattle.std.specs.Prelude.{◌≡◌, ◌≢◌, ◌<◌, ℕ, false, List, [], Option, Some, None}
 use Rattle.std.proofs.Common.{sym, ap, subst, ◌∙◌, arith}
 use Rattle.std.proofs.lemmas.Option.{none-some}
 use Rattle.minix_layout.specs.declared.slot.Slot.{Slot}
@@ -15,7 +15,7 @@ use Rattle.volume_model.specs.declared.placed.Part.TheVariants as parts
 use Rattle.volume_model.specs.declared.placed.DirectoryPart.{DirectoryPart}
 use Rattle.volume_model.specs.Volume.{HasNames}
 use Rattle.volume_model.specs.Touched.{Touched, and_then}
-use Rattle.volume_steps.specs.Now.{VolumeNow, Change, tree_of_now, untouched, followed_by}
+use Rattle.volume_steps.specs.Now.{VolumeNow, Change, untouched, followed_by}
 use Rattle.volume_steps.specs.Zones.{new_number}
 use Rattle.volume_steps.specs.Steps.{make_file, new_file_inode}
 use Rattle.volume_steps.specs.Calls.{create_in}

@@ -1,6 +1,6 @@
 -- The lowest number that is not marked.
 use Rattle.std.specs.Prelude.{◌≡◌, ◌+◌, ◌≤◌, ◌<◌, ◌==◌, ◌||◌, ℕ, zero, suc, Bool, false, not, if◌then◌else◌, List, [], ◌∷◌, Option, Some, None, refl}
-use Rattle.std.proofs.Common.{sym, ap, ◌∙◌, arith}
+use Rattle.std.proofs.Common.{ap, ◌∙◌, arith}
 use Rattle.std.specs.List.{list_any, find, range_with_len}
 use Rattle.std.specs.Map.{values_of}
 use Rattle.minix_layout.specs.declared.division.Geometry.{Geometry}

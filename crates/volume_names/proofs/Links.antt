@@ -1,5 +1,5 @@
 -- A file that gets a name more.
-use Rattle.std.specs.Prelude.{◌≡◌, ◌≢◌, ◌<◌, ◌≤◌, ◌+◌, ◌^◌, ℕ, List, [], ◌∷◌, length, Option, Some, None, refl}
+use Rattle.std.specs.Prelude.{◌≡◌, ◌≢◌, ◌<◌, ◌≤◌, ◌+◌, ℕ, List, [], ◌∷◌, Some, None}
 use Rattle.std.proofs.Common.{sym, ap, subst, ◌∙◌, inl, inr, arith}
 use Rattle.std.proofs.lemmas.Bool.{cases_eq}
 use Rattle.std.proofs.lemmas.Option.{same_Some}
@@ -13,17 +13,17 @@ use Rattle.volume_model.specs.declared.placed.Placed.{Placed}
 use Rattle.volume_model.specs.declared.placed.Part.TheVariants as parts
 use Rattle.volume_model.specs.declared.placed.DirectoryPart.{DirectoryPart}
 use Rattle.volume_model.specs.Edits.{put_inode, edited}
-use Rattle.volume_model.specs.Touched.{Touched, and_then}
+use Rattle.volume_model.specs.Touched.{and_then}
 use Rattle.volume_model.specs.Moves.{with_name}
 use Rattle.volume_steps.specs.Now.{VolumeNow, Change, followed_by, tells_blocks}
-use Rattle.volume_steps.specs.Steps.{with_links, inode_put, set_links, add_name}
+use Rattle.volume_steps.specs.Steps.{with_links, inode_put, add_name}
 use Rattle.volume_steps.specs.Calls.{link_in}
 use Rattle.volume_steps.proofs.Files.{maps_same}
 use Rattle.volume_steps.proofs.QuietSteps.{at_node_is, linked, linked_steady, linked_settled, linked_slotted}
 use Rattle.volume_steps.proofs.CallPaths.{good_no_dot, good_entry}
 use Rattle.volume_steps.proofs.PlainNow.{settled_before, slotted_before}
 use Rattle.volume_names.specs.declared.directories.NewSlot.{NewSlot}
-use Rattle.volume_names.specs.May.{MayLink, FreePlace}
+use Rattle.volume_names.specs.May.{MayLink}
 use Rattle.volume_names.specs.code.NewSlot.{new_slot}
 use Rattle.volume_names.specs.code.Steps.{MayWrite, entered, entered_in, more_links, name_written}
 use Rattle.volume_names.proofs.Changed.{volume_of}

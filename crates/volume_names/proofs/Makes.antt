@@ -1,5 +1,5 @@
 -- A directory that is made.
-use Rattle.std.specs.Prelude.{◌≡◌, ◌≢◌, ◌<◌, ◌≤◌, ◌+◌, ◌^◌, ℕ, true, List, [], ◌∷◌, ◌++◌, codes, length, Option, Some, None, option_map, refl}
+use Rattle.std.specs.Prelude.{◌≡◌, ◌≢◌, ◌<◌, ◌+◌, ℕ, true, List, [], ◌∷◌, ◌++◌, codes, Some, None, option_map, refl}
 use Rattle.std.proofs.Common.{sym, ap, subst, ◌∙◌, arith, append_assoc}
 use Rattle.std.proofs.lemmas.List.{append-nil}
 use Rattle.std.proofs.lemmas.Option.{none-some, same_Some}
@@ -12,7 +12,7 @@ use Rattle.minix_layout.specs.declared.division.Geometry.{Geometry}
 use Rattle.minix_layout.specs.declared.inode.Inode.{Inode}
 use Rattle.minix_layout.specs.declared.slot.Slot.{Slot}
 use Rattle.dir_ops.specs.Slots.{place_of}
-use Rattle.tree_model.specs.Maps.{at_number, at_name, put_number}
+use Rattle.tree_model.specs.Maps.{at_number, put_number}
 use Rattle.tree_model.specs.laws.MapsLaws.{at_put_number, at_put_number_apart}
 use Rattle.tree_model.specs.laws.MapOrder.{InOrder, in_order_put}
 use Rattle.zone_maps.specs.Zones.{Zones, taken}
@@ -20,30 +20,29 @@ use Rattle.volume_ops.specs.Places.{table_block}
 use Rattle.volume_model.specs.declared.placed.Placed.{Placed}
 use Rattle.volume_model.specs.declared.placed.Part.TheVariants as parts
 use Rattle.volume_model.specs.declared.placed.DirectoryPart.{DirectoryPart}
-use Rattle.volume_model.specs.Edits.{Edit, put_body, put_inode, put_slot, edited, edited_all, touched_by_all}
+use Rattle.volume_model.specs.Edits.{put_body, put_inode, put_slot, edited, edited_all, touched_by_all}
 use Rattle.volume_model.specs.Touched.{Touched, and_then}
 use Rattle.volume_model.specs.Moves.{with_name}
 use Rattle.volume_steps.specs.Now.{VolumeNow, Change, followed_by, tells_blocks, tells_writes}
 use Rattle.volume_steps.specs.Zones.{inode_bit, zone_bit, new_number, next_zone}
-use Rattle.volume_steps.specs.Steps.{tells_node, dot_slots, make_directory, new_directory_inode, new_directory_edits, add_name, set_links}
+use Rattle.volume_steps.specs.Steps.{tells_node, dot_slots, new_directory_inode, new_directory_edits, add_name, set_links}
 use Rattle.volume_steps.specs.Calls.{mkdir_in}
 use Rattle.volume_steps.proofs.Taking.{one_taken}
 use Rattle.volume_steps.proofs.Files.{put_twice}
 use Rattle.volume_steps.proofs.NewNumbers.{IsNewNumber, number_is_new}
 use Rattle.volume_steps.proofs.NewDirectories.{directory_made, make_directory_is, directory_made_steady, directory_made_settled, directory_made_slotted}
 use Rattle.volume_steps.proofs.QuietSteps.{at_node_is}
-use Rattle.volume_steps.proofs.StepsTo.{links_at}
 use Rattle.volume_steps.proofs.AddNames.{name_comes}
 use Rattle.volume_steps.proofs.CallPaths.{good_no_dot, good_entry}
 use Rattle.volume_steps.proofs.CallEnds.{birth_is_new, birth_not_root}
 use Rattle.volume_steps.proofs.PlainNow.{tree_is_plain, settled_before, slotted_before}
 use Rattle.volume_now.specs.Noted.{Noted, with_block, with_node}
 use Rattle.volume_names.specs.declared.directories.NewSlot.{NewSlot}
-use Rattle.volume_names.specs.May.{MayMkdir, FreePlace}
+use Rattle.volume_names.specs.May.{MayMkdir}
 use Rattle.volume_names.specs.code.NewSlot.{new_slot}
 use Rattle.volume_names.specs.code.Steps.{After, MayWrite, entered, entered_in, dot_edits, directory_step, directory_written, more_links, name_written}
 use Rattle.volume_names.proofs.Changed.{volume_of, changed_at}
-use Rattle.volume_names.proofs.Creates.{good, free_name, free_slot}
+use Rattle.volume_names.proofs.Creates.{good, free_slot}
 use Rattle.volume_names.proofs.Links.{put_either}
 use Rattle.volume_names.proofs.NameRooms.{NameRoom, may_write}
 use Rattle.volume_names.proofs.Named.{named}
@@ -70,7 +69,7 @@ pub noted_directory : (s u w x y z : Noted) (g : Geometry) (number zone above ta
 noted_directory s u w x y z g number zone above table n a b c d e f inode i =
     ap (λ (z : Noted). z.touched) (f ∙ ap (λ y. with_node y n) (d ∙ ap (with_block x) e))
     ∙ (ap (λ (t : Touched). record t { blocks = t.blocks ++ table_block g number ∷ []; nodes = t.nodes ++ n ∷ [] })
-      (c ∙ ap (λ t. and_then t (tells_writes g (dot_edits zone number above))) (b ∙ ap (λ t. and_then t (tells_writes g (zone_bit g true zone ∷ []))) a))
+    (c ∙ ap (λ t. and_then t (tells_writes g (dot_edits zone number above))) (b ∙ ap (λ t. and_then t (tells_writes g (zone_bit g true zone ∷ []))) a))
     ∙ told s.touched (touched_by_all g (inode_bit number true ∷ [])) (touched_by_all g (zone_bit g true zone ∷ [])) zone (table_block g number) n)
   where
     told : (t : Touched) (one two : List ℕ) (zone table n : ℕ) → record {
@@ -222,7 +221,7 @@ module _ (v : VolumeNow) (n parent : ℕ) (name : List ℕ) (h : MayMkdir v n pa
         let coming = name_comes 0 w room.in_use parent h.place.placed stands h.place.part h.place.is name n child has room.apart room.free room.no_dot room.entry room.settled room.slotted room.left room.enough in
         let here : at_number (add_name w parent name n).volume.contents.nodes parent ≡ Some p = ap (λ (x : VolumeNow). at_number x.contents.nodes parent) (sym (f ∙ ap (λ (c : Change). c.volume) (name_is u e))) ∙ found in
         let links : Some p.inode.links ≡ Some h.place.placed.inode.links =
-            sym (ap (option_map (λ (p : Placed). p.inode.links)) here) ∙ (coming.links_are parent ∙ ap (option_map (λ (p : Placed). p.inode.links)) stands) in
+        sym (ap (option_map (λ (p : Placed). p.inode.links)) here) ∙ (coming.links_are parent ∙ ap (option_map (λ (p : Placed). p.inode.links)) stands) in
         let same = same_Some p.inode.links h.place.placed.inode.links links in
         let few = h.links in
         ((coming.steady.in_use.volume.0.each parent p here).some, (omega arith))

@@ -1,8 +1,8 @@
 -- Which blocks are written where a block of a directory is mapped.
-use Rattle.std.specs.Prelude.{◌≡◌, ◌≢◌, ◌-◌, ◌*◌, ◌<◌, ◌≤◌, ℕ, nat_eq, true, false, List, [], ◌∷◌, ◌++◌, length, slice_index, slice_set, refl}
+use Rattle.std.specs.Prelude.{◌≡◌, ◌-◌, ◌*◌, ◌<◌, ◌≤◌, ℕ, nat_eq, true, false, List, [], ◌∷◌, length, slice_index, slice_set, refl}
 use Rattle.std.proofs.Math.ListN.{set}
 use Rattle.std.proofs.Common.{sym, ap, ◌∙◌, inl, inr, arith}
-use Rattle.std.proofs.lemmas.Bool.{cases_Bool, cases_lt, lt-ltb, le-ltb, eqb-true}
+use Rattle.std.proofs.lemmas.Bool.{cases_Bool, cases_lt, lt-ltb, le-ltb}
 use Rattle.std.proofs.lemmas.List.{get_or-set_same, get_or_past, length-set, drop-replicate}
 use Rattle.blk_base.specs.Block.{filled}
 use Rattle.byteorder.specs.Endian.{little_number}
@@ -11,7 +11,7 @@ use Rattle.minix_layout.specs.declared.division.Geometry.{Geometry}
 use Rattle.inode_ops.specs.Map.{zone_at, entry_behind}
 use Rattle.volume_ops.specs.Places.{zone_number}
 use Rattle.volume_ops.specs.Volume.{disk_of}
-use Rattle.volume_model.specs.Edits.{put_body, edited, edited_all, touched_by_all}
+use Rattle.volume_model.specs.Edits.{put_body, edited, touched_by_all}
 use Rattle.volume_model.specs.Volume.{block, indirect}
 use Rattle.volume_model.specs.Ways.{way, entry_of}
 use Rattle.volume_model.specs.MapBlock.{OpenInode, TakenZones, own_of, all_edits, get_zone}

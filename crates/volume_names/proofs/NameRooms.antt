@@ -1,6 +1,6 @@
 -- A volume in which a name may come, in the midst of a call.
 use Rattle.std.specs.Prelude.{◌≡◌, ◌≢◌, ◌<◌, ◌≤◌, ◌+◌, ◌/◌, ◌%◌, ◌&&◌, ℕ, nat_eq, true, false, Bool, List, map, length, Some, None, refl}
-use Rattle.std.proofs.Common.{sym, ap, subst, ◌∙◌, inl, inr, arith, eqb-true}
+use Rattle.std.proofs.Common.{sym, subst, ◌∙◌, arith, eqb-true}
 use Rattle.std.proofs.lemmas.Bool.{ne_eqb, true≢false}
 use Rattle.minix_layout.specs.declared.slot.Slot.{Slot}
 use Rattle.minix_layout.specs.Slots.{IsEntry}
@@ -14,7 +14,7 @@ use Rattle.volume_model.specs.declared.placed.Placed.{Placed}
 use Rattle.volume_model.specs.declared.placed.Part.TheVariants as parts
 use Rattle.volume_model.specs.declared.placed.DirectoryPart.{DirectoryPart}
 use Rattle.volume_model.specs.Trees.{directory_from}
-use Rattle.volume_model.specs.Volume.{block, zone_in}
+use Rattle.volume_model.specs.Volume.{block}
 use Rattle.volume_model.specs.Moves.{opened}
 use Rattle.volume_model.specs.MapBlock.{own_of}
 use Rattle.volume_steps.specs.Now.{VolumeNow, written}

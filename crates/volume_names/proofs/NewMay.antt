@@ -1,19 +1,17 @@
 -- A new volume may get a first name, in its root.
-use Rattle.std.specs.Prelude.{◌≡◌, ◌<◌, ◌≤◌, ◌+◌, ℕ, IsTrue, false, List, [], ◌∷◌, length, count_by, Option, Some, None, refl}
-use Rattle.std.proofs.Common.{sym, ap, ◌∙◌, inl, inr, arith, nat_cmp, is_eq, lit<, lit≤}
+use Rattle.std.specs.Prelude.{◌≡◌, ◌<◌, ◌≤◌, ℕ, IsTrue, List, [], ◌∷◌, length, count_by, Some, None, refl}
+use Rattle.std.proofs.Common.{sym, ◌∙◌, inl, inr, arith, nat_cmp, is_eq, lit<, lit≤}
 use Rattle.std.proofs.lemmas.Bool.{cases_Bool}
 use Rattle.std.proofs.lemmas.Option.{none-some}
 use Rattle.minix_layout.specs.declared.division.Geometry.{Geometry}
 use Rattle.minix_layout.specs.Geometry.{IsSound}
-use Rattle.tree_model.specs.declared.node.Node.{Node}
 use Rattle.tree_model.specs.Maps.{at_number}
 use Rattle.tree_model.specs.laws.MapsLaws.{number_same}
 use Rattle.tree_model.specs.Paths.{is_path_name}
 use Rattle.tree_model.specs.Plain.{AreBornBefore}
 use Rattle.zone_maps.specs.Zones.{is_free}
 use Rattle.volume_model.specs.NewVolume.{root_placed}
-use Rattle.volume_model.specs.declared.placed.Placed.{Placed}
-use Rattle.volume_steps.specs.Now.{VolumeNow, tree_of_now}
+use Rattle.volume_steps.specs.Now.{tree_of_now}
 use Rattle.volume_steps.specs.Plain.{IsPlainNow}
 use Rattle.volume_steps.proofs.TreeSteps.{tree_back}
 use Rattle.volume_now.specs.NewNow.{new_now}

@@ -48,8 +48,9 @@ pub fn new_directory(
     above: u16,
 ) -> Result<Placed, NoMemory>
     ensures { IfOk result (λ p. p ≡ record {
-        number = number; inode = new_directory_inode 0;
-        part = parts.Directory (record { parent = parent; names = []; slots = dot_slots number above });
+      number = number;
+      inode = new_directory_inode 0;
+      part = parts.Directory (record { parent = parent; names = []; slots = dot_slots number above });
     }) }
 {
     let slots = Vec::from_array(alloc, [Some(dot(number)), Some(dots(above))])?;

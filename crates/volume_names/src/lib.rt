@@ -1,4 +1,10 @@
-//! Calls that make and take names, done in place on a volume that is in use.
+//! Calls that make names, done in place on a volume that is in use, where the path has led.
+//!
+//! `creation`, `linking` and `making` have the calls. Each takes all its memory first: `numbers` finds an inode, and
+//! `entries` puts node and name into the maps, which can be undone. Then it writes what cannot fail: `names` the slot,
+//! with a block of the directory from `growth` where one begins, and `nodes` the links.
+//!
+//! Stands on `volume_steps`, whose steps the calls do, on `volume_now` for the volume, and on `volume_edits` for writes.
 #![tactic(auto)]
 
 mod creation;

@@ -65,13 +65,7 @@ fn write_directory(v: &mut VolumeNow, n: u64, above: u16, touched: &mut Touched)
     };
     let zone = take_zone(&mut v.zones);
     placed.inode = new_directory_inode(zone);
-    mark_inode(
-        &mut v.blocks,
-        &v.geometry,
-        true,
-        placed.number,
-        touched,
-    );
+    mark_inode(&mut v.blocks, &v.geometry, true, placed.number, touched);
     mark_zone(&mut v.blocks, &v.geometry, true, zone, touched);
     write_dots(
         &mut v.blocks,
@@ -81,12 +75,7 @@ fn write_directory(v: &mut VolumeNow, n: u64, above: u16, touched: &mut Touched)
         above,
         touched,
     );
-    put_inode(
-        &mut v.blocks,
-        &v.geometry,
-        placed.number,
-        &placed.inode,
-    );
+    put_inode(&mut v.blocks, &v.geometry, placed.number, &placed.inode);
     touched.note_block(table_block(&v.geometry, placed.number));
     touched.note_node(n);
 }

@@ -11,13 +11,7 @@ use volume_edits::set_bit;
 use volume_now::Touched;
 
 /// Writes the bit of an inode: whether it is in use.
-pub fn mark_inode(
-    blocks: &mut Image,
-    g: &Geometry,
-    value: bool,
-    number: u16,
-    touched: &mut Touched,
-)
+pub fn mark_inode(blocks: &mut Image, g: &Geometry, value: bool, number: u16, touched: &mut Touched)
     requires { 1 ≤ touched.old.spare }
     ensures blocks { blocks.new ≡ edited_all g.now blocks.old (inode_bit number value ∷ []) }
     ensures touched { touched.new.touched ≡ and_then touched.old.touched (tells_writes g.now (inode_bit number value ∷ [])) }

@@ -45,13 +45,7 @@ pub fn write_file(v: &mut VolumeNow, n: u64, number: u16, touched: &mut Touched)
     ensures done { After touched.old.touched (file_written v.old n number) v.new touched.new.touched }
     ensures spare { touched.old.spare ≤ touched.new.spare + 3 }
 {
-    mark_inode(
-        &mut v.blocks,
-        &v.geometry,
-        true,
-        number,
-        touched,
-    );
+    mark_inode(&mut v.blocks, &v.geometry, true, number, touched);
     put_inode(&mut v.blocks, &v.geometry, number, &new_file_inode());
     touched.note_block(table_block(&v.geometry, number));
     touched.note_node(n);

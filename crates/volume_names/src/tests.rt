@@ -43,10 +43,7 @@ fn makes_a_directory(rt: HostRuntime) -> Result<(), Fail> {
     new_volumes_are_plain();
     let mut volume = new_volume(rt.alloc(), SMALL)?;
     let touched = mkdir(rt.alloc(), &mut volume, 1, 0, &short_name())?;
-    assert_eq!(rt;
-        touched.blocks(),
-        [2, 3, 6, 6, 6, 4, 5, 4, 4].as_slice()
-    );
+    assert_eq!(rt; touched.blocks(), [2, 3, 6, 6, 6, 4, 5, 4, 4].as_slice());
     assert_eq!(rt; volume.zones.free_count(), 57);
     assert!(rt; volume.blocks.len() > 5);
     assert_eq!(rt; read_inode(volume.blocks.block(4), 0).links, 3);

@@ -1,5 +1,5 @@
 -- Where a slot comes.
-use Rattle.std.specs.Prelude.{ℕ, ◌%◌, ◌&&◌, nat_eq, List, Option, length}
+use Rattle.std.specs.Prelude.{◌%◌, ◌&&◌, nat_eq, length}
 use Rattle.minix_layout.specs.declared.slot.Slot.{Slot}
 use Rattle.dir_ops.specs.Slots.{room, with_slot}
 use Rattle.volume_model.specs.declared.placed.DirectoryPart.{DirectoryPart}

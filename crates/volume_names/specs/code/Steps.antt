@@ -1,5 +1,5 @@
 -- Steps as the code takes them: a name is in its directory before the blocks are written.
-use Rattle.std.specs.Prelude.{◌≡◌, ℕ, ◌+◌, ◌*◌, ◌/◌, ◌%◌, ◌<◌, ◌≤◌, nat_lt, nat_eq, slice_index, Bool, true, if◌then◌else◌, List, [], ◌∷◌, ◌++◌, map, length, codes, Option, Some}
+use Rattle.std.specs.Prelude.{◌≡◌, ℕ, ◌+◌, ◌*◌, ◌/◌, ◌%◌, ◌<◌, ◌≤◌, nat_lt, nat_eq, slice_index, true, if◌then◌else◌, List, [], ◌∷◌, map, length, codes, Option, Some}
 use Rattle.byte_fields.specs.Fields.{zeros}
 use Rattle.minix_layout.specs.declared.inode.Inode.{Inode}
 use Rattle.minix_layout.specs.Geometry.{IsSound}
@@ -12,7 +12,7 @@ use Rattle.volume_model.specs.declared.placed.DirectoryPart.{DirectoryPart}
 use Rattle.volume_model.specs.Edits.{Edit, put_body, put_inode, put_slot, edited, touched_by_all}
 use Rattle.volume_model.specs.Volume.{block, zone_in}
 use Rattle.volume_model.specs.Ways.{way}
-use Rattle.volume_model.specs.MapBlock.{OpenInode, TakenZones, own_of, map_block, all_edits}
+use Rattle.volume_model.specs.MapBlock.{TakenZones, own_of, map_block, all_edits}
 use Rattle.volume_model.specs.Touched.{Touched, and_then}
 use Rattle.volume_model.specs.Moves.{opened, closed, with_size, with_name}
 use Rattle.volume_steps.specs.Now.{VolumeNow, Change, with_contents, written, unchanged, followed_by, tells_writes}

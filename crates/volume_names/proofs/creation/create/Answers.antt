@@ -1,10 +1,9 @@
-use Rattle.std.proofs.Common.{ap, ◌∙◌, ◌≡◌, sym, subst, List, []}
+use Rattle.std.proofs.Common.{ap, ◌∙◌, sym, subst, List}
 use Rattle.volume_model.specs.declared.placed.Placed.{Placed}
 use Rattle.volume_model.specs.declared.placed.Part.TheVariants as parts
 use Rattle.volume_ops.specs.declared.found.Mapped.{Mapped}
 use Rattle.minix_layout.specs.declared.inode.Inode.{Inode}
 use Rattle.dir_ops.specs.Slots.{place_of}
-use Rattle.volume_steps.specs.Now.{VolumeNow, Change}
 use Rattle.volume_steps.specs.Steps.{new_file_inode}
 use Rattle.volume_steps.specs.Calls.{create_in}
 use Rattle.volume_names.specs.code.NewSlot.{new_slot}
@@ -13,7 +12,7 @@ use Rattle.volume_names.specs.code.Steps.{entered, name_written}
 use Rattle.tree_model.specs.Maps.{put_number}
 use Rattle.volume_now.specs.Noted.{Noted}
 use Rattle.volume_names.proofs.Changed.{volume_of}
-use Rattle.volume_names.proofs.Creates.{after_then, after_nothing, none, apart, no_name, no_place, some, may_be_written, created}
+use Rattle.volume_names.proofs.Creates.{after_then, after_nothing, none, apart, no_place, some, may_be_written, created}
 use Rattle.volume_names.proofs.creation.create.Goals as goal
 
 pub enter_new-requires-clause-birth : goal.enter_new-requires-clause-birth

@@ -1,7 +1,6 @@
-use Rattle.std.proofs.Common.{ap, ◌∙◌, ◌≡◌, ◌<◌, ◌≤◌, ℕ, List, Some, sym, subst, arith}
+use Rattle.std.proofs.Common.{ap, ◌∙◌, ◌≡◌, ◌<◌, ℕ, sym, subst, arith}
 use Rattle.std.proofs.lemmas.Option.{same_Some}
 use Rattle.minix_layout.specs.declared.slot.Slot.{Slot}
-use Rattle.tree_model.specs.Maps.{at_number}
 use Rattle.volume_model.specs.declared.placed.Placed.{Placed}
 use Rattle.dir_ops.specs.Slots.{place_of}
 use Rattle.volume_steps.specs.Calls.{link_in}

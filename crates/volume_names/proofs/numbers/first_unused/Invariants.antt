@@ -1,4 +1,4 @@
-use Rattle.std.proofs.Common.{◌≡◌, ◌-◌, ◌+◌, ℕ, not}
+use Rattle.std.proofs.Common.{◌≡◌, ◌-◌, ◌+◌, not}
 use Rattle.std.specs.List.{find, range_with_len}
 use Rattle.volume_ops.specs.Marks.{is_marked}
 use Rattle.volume_names.proofs.numbers.first_unused.Given as goal
