@@ -3,5 +3,8 @@ pub mod NameTexts
 pub mod WalkSteps
 pub mod DirectorySlots
 pub mod TakeSteps
+pub mod Applied
+pub mod CalledSteps
+pub mod Doing
 pub mod AskReplies
 pub mod AskSteps

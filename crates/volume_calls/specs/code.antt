@@ -2,3 +2,4 @@
 pub mod Paths
 pub mod Rows
 pub mod Asked
+pub mod Sites

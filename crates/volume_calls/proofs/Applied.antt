@@ -1,0 +1,73 @@
+-- What a call does that nothing refuses, where its path has led.
+use Rattle.std.proofs.Common.{◌≡◌, ℕ, List, Result, Ok, Err, IsOk, refl, sym, ap, subst, ◌∙◌}
+use Rattle.std.proofs.lemmas.Bool.{true≢false}
+use Rattle.tree_model.specs.declared.call.Call.{Call}
+use Rattle.tree_model.specs.declared.call.Call.TheVariants as calls
+use Rattle.tree_model.specs.declared.call.Reply.{Reply}
+use Rattle.tree_model.specs.declared.call.Reply.TheVariants as replies
+use Rattle.tree_model.specs.Calls.{Tree, Row, Done, Place, Found, and_then, refuse_if, names_in, parent_of, walk_path, a_file, is_named, is_full, most_links, makes, give_name, new_file, new_directory, create, mkdir, truncate, largest_size, row, outcome}
+use Rattle.tree_model.proofs.Rows.{err_ok, then_ok}
+use Rattle.volume_steps.specs.Now.{VolumeNow, Change, tree_of_now, room_of, unchanged}
+use Rattle.volume_steps.specs.Calls.{Called, called, called_by, changed, create_in, mkdir_in, truncate_at}
+use Rattle.volume_steps.specs.Plain.{IsPlainNow}
+use Rattle.volume_steps.specs.laws.Called.{FindsRoom}
+use Rattle.volume_steps.proofs.CallPaths.{done_row, parent_any, at_place_is}
+use Rattle.volume_calls.specs.code.Sites.{IsSite, place_in}
+
+pub ok_of : {A E : Type 0} (r : Result A E) → IsOk r → (a : A) × (r ≡ Ok a)
+ok_of (Ok a) h = (a, refl)
+ok_of (Err e) h = absurd (true≢false (sym h))
+
+-- a call that is done leaves what it changed
+pub done_plain : (v : VolumeNow) (n tx : ℕ) (c : Call) (d : Done) → outcome (room_of v.geometry) (tree_of_now v) n c ≡ Ok d → IsPlainNow (called v n tx c).change.volume → IsPlainNow (changed v n tx c).volume
+unfolding called
+done_plain v n tx c d done plain = subst (λ (x : Called). IsPlainNow x.change.volume) (ap (called_by v n tx c) done) plain
+
+-- ---- the site of a path
+
+pub record Parted (tree : Tree) (path : List ℕ) (place : Place) : Type 0 where
+  pub names : List (List ℕ)
+  pub named : names_in path ≡ Ok names
+  pub leads : parent_of replies.Invalid tree names ≡ Ok place
+
+pub parted : (tree : Tree) (path : List ℕ) (place : Place) → place_in tree path ≡ Ok place → Parted tree path place
+parted tree path place is = (let w = then_ok (names_in path) (parent_of replies.Invalid tree) place is in record { names = w.0; named = w.1; leads = w.2 })
+
+site_there : (tree : Tree) (path : List ℕ) (at_root : Reply) (next : Place → Row) (d : Done) (reply : Reply) → and_then (names_in path) (λ names. and_then (parent_of at_root tree names) next) ≡ Ok d →
+    place_in tree path ≡ Err reply → ⊥
+site_there tree path at_root next d reply done none =
+    let w = then_ok (names_in path) (λ names. and_then (parent_of at_root tree names) next) d done in
+    let p = then_ok (parent_of at_root tree w.0) next d w.2 in
+    err_ok reply p.0 (sym none ∙ (ap (λ x. and_then x (parent_of replies.Invalid tree)) w.1 ∙ parent_any at_root replies.Invalid tree w.0 p.0 p.1))
+
+module _ (v : VolumeNow) (n : ℕ) (path : List ℕ) (d : Done) where
+  abbrev tree : Tree
+  tree = tree_of_now v
+
+  pub no_file_site : outcome (room_of v.geometry) tree n (calls.Create path) ≡ Ok d → (reply : Reply) → place_in tree path ≡ Err reply → ⊥
+  unfolding row
+  no_file_site done reply none = site_there tree path replies.Exists _ d reply (done_row (room_of v.geometry) tree n (calls.Create path) d done).0 none
+
+  pub no_directory_site : outcome (room_of v.geometry) tree n (calls.Mkdir path) ≡ Ok d → (reply : Reply) → place_in tree path ≡ Err reply → ⊥
+  unfolding row
+  no_directory_site done reply none = site_there tree path replies.Exists _ d reply (done_row (room_of v.geometry) tree n (calls.Mkdir path) d done).0 none
+
+  pub no_cut_path : (size : ℕ) → outcome (room_of v.geometry) tree n (calls.Truncate path size) ≡ Ok d → (reply : Reply) → walk_path tree path ≡ Err reply → ⊥
+  unfolding row
+  no_cut_path size done reply none =
+      let w = then_ok (walk_path tree path) _ d (done_row (room_of v.geometry) tree n (calls.Truncate path size) d done).0 in
+      err_ok reply w.0 (sym none ∙ w.1)
+
+-- ---- what is changed
+
+pub create_is : (v : VolumeNow) (n tx : ℕ) (path : List ℕ) (place : Place) → Parted (tree_of_now v) path place → changed v n tx (calls.Create path) ≡ create_in v n place.parent place.name
+unfolding changed
+create_is v n tx path place p = at_place_is v path p.names place replies.Invalid (λ place. create_in v n place.parent place.name) p.named p.leads
+
+pub mkdir_is : (v : VolumeNow) (n tx : ℕ) (path : List ℕ) (place : Place) → Parted (tree_of_now v) path place → changed v n tx (calls.Mkdir path) ≡ mkdir_in v n place.parent place.name
+unfolding changed
+mkdir_is v n tx path place p = at_place_is v path p.names place replies.Invalid (λ place. mkdir_in v n place.parent place.name) p.named p.leads
+
+pub truncate_is : (v : VolumeNow) (n tx : ℕ) (path : List ℕ) (size : ℕ) (found : Found) → walk_path (tree_of_now v) path ≡ Ok found → changed v n tx (calls.Truncate path size) ≡ truncate_at v tx found.birth size
+unfolding changed
+truncate_is v n tx path size found e = ap (λ r. elim r as (λ _. Change) [ Err reply ↦ unchanged v | Ok found ↦ truncate_at v tx found.birth size ]) e

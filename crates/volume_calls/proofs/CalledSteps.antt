@@ -1,0 +1,105 @@
+-- From what was done to what the call is.
+use Rattle.std.proofs.Common.{◌≡◌, ℕ, Bool, true, false, Result, Ok, Err, IsOk, refl, sym, ap, subst, ◌∙◌}
+use Rattle.std.proofs.lemmas.Bool.{true≢false, false≢true}
+use Rattle.tree_model.specs.declared.call.Call.{Call}
+use Rattle.tree_model.specs.declared.call.Call.TheVariants as calls
+use Rattle.tree_model.specs.declared.call.Reply.{Reply}
+use Rattle.tree_model.specs.declared.call.Reply.TheVariants as replies
+use Rattle.tree_model.specs.Calls.{Tree, Row, Done, leaves_tree, outcome, reply_of, reply_from}
+use Rattle.tree_model.proofs.Changes.{Change as TreeChange, stayed, made_directory, made_file, removed, unlinked, linked, renamed, written, written_bytes, truncated, outcome_change}
+use Rattle.volume_model.specs.Touched.{Touched}
+use Rattle.volume_steps.specs.Now.{VolumeNow, Change, tree_of_now, room_of, unchanged}
+use Rattle.volume_steps.specs.Calls.{Called, called, called_by, changed}
+use Rattle.volume_calls.specs.declared.answer.Answer.{Answer}
+use Rattle.volume_calls.specs.declared.answer.Answer.TheVariants.{Refused, Change as Changes}
+use Rattle.volume_calls.specs.Asked.{Answers, is_told, is_applied}
+
+-- ---- nothing changes
+
+quiet_changed : (v : VolumeNow) (n tx : ℕ) (c : Call) → leaves_tree c ≡ true → changed v n tx c ≡ unchanged v
+unfolding changed
+quiet_changed v n tx (calls.Read path off len) quiet = refl
+quiet_changed v n tx (calls.List path) quiet = refl
+quiet_changed v n tx (calls.Stat path) quiet = refl
+quiet_changed v n tx (calls.Fsync path) quiet = refl
+quiet_changed v n tx (calls.Fdatasync path) quiet = refl
+quiet_changed v n tx (calls.Fbarrier path) quiet = refl
+quiet_changed v n tx (calls.Fdatabarrier path) quiet = refl
+quiet_changed v n tx calls.Sync quiet = refl
+quiet_changed v n tx (calls.Rename path other) quiet = refl
+quiet_changed v n tx (calls.Mkdir path) quiet = absurd (false≢true quiet)
+quiet_changed v n tx (calls.Rmdir path) quiet = absurd (false≢true quiet)
+quiet_changed v n tx (calls.Create path) quiet = absurd (false≢true quiet)
+quiet_changed v n tx (calls.Unlink path) quiet = absurd (false≢true quiet)
+quiet_changed v n tx (calls.Link path other) quiet = absurd (false≢true quiet)
+quiet_changed v n tx (calls.Truncate path size) quiet = absurd (false≢true quiet)
+quiet_changed v n tx (calls.Write path off len value) quiet = absurd (false≢true quiet)
+quiet_changed v n tx (calls.Bytes path off bytes) quiet = absurd (false≢true quiet)
+
+abbrev told : Change → Reply → Called
+told change reply = record { change = change; reply = reply }
+
+pub quiet_called : (v : VolumeNow) (n tx : ℕ) (c : Call) (reply : Reply) → leaves_tree c ≡ true → reply ≡ reply_of (room_of v.geometry) (tree_of_now v) n c → told (unchanged v) reply ≡ called v n tx c
+unfolding called reply_of
+quiet_called v n tx c reply quiet is = by (outcome (room_of v.geometry) (tree_of_now v) n c) is
+  where
+    by : (r : Row) → reply ≡ reply_from r → told (unchanged v) reply ≡ called_by v n tx c r
+    by (Err why) e = ap (told (unchanged v)) e
+    by (Ok d) e = ap (told (unchanged v)) e ∙ ap (λ change. told change d.reply) (sym (quiet_changed v n tx c quiet))
+
+pub refused_called : (v : VolumeNow) (n tx : ℕ) (c : Call) (reply : Reply) → Answers (Refused reply) (outcome (room_of v.geometry) (tree_of_now v) n c) → told (unchanged v) reply ≡ called v n tx c
+unfolding called
+refused_called v n tx c reply answers = by (outcome (room_of v.geometry) (tree_of_now v) n c) answers
+  where
+    by : (r : Row) → Answers (Refused reply) r → told (unchanged v) reply ≡ called_by v n tx c r
+    by (Err why) e = ap (told (unchanged v)) e
+    by (Ok d) e = absurd e
+
+-- ---- something does
+
+pub may_change : (r : Row) → Answers Changes r → IsOk r
+may_change (Err why) e = absurd e
+may_change (Ok d) e = refl
+
+reply_is : (tree : Tree) (n : ℕ) (c : Call) (d : Done) → TreeChange tree n d c → leaves_tree c ≡ false → d.reply ≡ replies.Ok
+reply_is tree n c d (stayed quiet same) f = absurd (true≢false (sym quiet ∙ f))
+reply_is tree n _ d (made_directory parent h e g) f = h.reply_is
+reply_is tree n _ d (made_file h) f = h.reply_is
+reply_is tree n _ d (removed h) f = h.reply_is
+reply_is tree n _ d (unlinked h) f = h.reply_is
+reply_is tree n _ d (linked h) f = h.reply_is
+reply_is tree n _ d (renamed h) f = h.reply_is
+reply_is tree n _ d (written h) f = h.reply_is
+reply_is tree n _ d (written_bytes h) f = h.reply_is
+reply_is tree n _ d (truncated h) f = h.reply_is
+
+pub changed_called : (v : VolumeNow) (n tx : ℕ) (c : Call) (change : Change) → leaves_tree c ≡ false → IsOk (outcome (room_of v.geometry) (tree_of_now v) n c) → change ≡ changed v n tx c → told change replies.Ok ≡ called v n tx c
+unfolding called
+changed_called v n tx c change changes may is = by (outcome (room_of v.geometry) (tree_of_now v) n c) refl may
+  where
+    by : (r : Row) → outcome (room_of v.geometry) (tree_of_now v) n c ≡ r → IsOk r → told change replies.Ok ≡ called_by v n tx c r
+    by (Err why) e may = absurd (true≢false (sym may))
+    by (Ok d) e may =
+        ap (λ reply. told change reply) (sym (reply_is (tree_of_now v) n c d (outcome_change (room_of v.geometry) (tree_of_now v) n c d e) changes))
+        ∙ ap (λ change. told change d.reply) is
+
+-- ---- which calls are done
+
+pub applied_told : (c : Call) → is_applied c ≡ true → is_told c ≡ true
+applied_told (calls.Rename path other) a = absurd (false≢true a)
+applied_told (calls.Write path off len value) a = absurd (false≢true a)
+applied_told (calls.Bytes path off bytes) a = absurd (false≢true a)
+applied_told (calls.Mkdir path) a = refl
+applied_told (calls.Rmdir path) a = refl
+applied_told (calls.Create path) a = refl
+applied_told (calls.Unlink path) a = refl
+applied_told (calls.Link path other) a = refl
+applied_told (calls.Truncate path size) a = refl
+applied_told (calls.Read path off len) a = refl
+applied_told (calls.List path) a = refl
+applied_told (calls.Stat path) a = refl
+applied_told (calls.Fsync path) a = refl
+applied_told (calls.Fdatasync path) a = refl
+applied_told (calls.Fbarrier path) a = refl
+applied_told (calls.Fdatabarrier path) a = refl
+applied_told calls.Sync a = refl

@@ -1,0 +1,87 @@
+-- Calls on names and bytes, done in the parts of a volume.
+use Rattle.std.proofs.Common.{◌≡◌, ℕ, List, Result, Ok, Err, IsOk, refl, sym, ap, subst, ◌∙◌}
+use Rattle.tree_model.specs.declared.call.Call.{Call}
+use Rattle.tree_model.specs.declared.call.Call.TheVariants as calls
+use Rattle.tree_model.specs.declared.call.Reply.{Reply}
+use Rattle.tree_model.specs.declared.call.Reply.TheVariants as replies
+use Rattle.tree_model.specs.Calls.{Found, walk_path, outcome}
+use Rattle.volume_model.specs.Touched.{Touched}
+use Rattle.volume_steps.specs.Now.{VolumeNow, Change, tree_of_now, room_of}
+use Rattle.volume_steps.specs.Calls.{changed, create_in, mkdir_in, truncate_at}
+use Rattle.volume_steps.specs.Plain.{IsPlainNow}
+use Rattle.volume_steps.specs.laws.Called.{FindsRoom}
+use Rattle.volume_steps.proofs.AllCalls.{any_call}
+use Rattle.volume_names.specs.May.{MayCreate, MayMkdir}
+use Rattle.volume_names.proofs.Callers.{create_may, mkdir_may}
+use Rattle.volume_bytes.specs.MayWrite.{MayTruncate}
+use Rattle.volume_bytes.proofs.MayCall.{may_truncate}
+use Rattle.volume_calls.specs.code.Sites.{IsSite, place_in}
+use Rattle.volume_calls.proofs.Applied.{ok_of, done_plain, parted, no_file_site, no_directory_site, no_cut_path, create_is, mkdir_is, truncate_is}
+
+-- what was done is the call's change, and leaves the volume plain
+pub record IsCall (v : VolumeNow) (n tx : ℕ) (c : Call) (w : VolumeNow) (t : Touched) : Type 0 where
+  pub change : ◌≡◌ {A = Change} (record { volume = w; touched = t }) (changed v n tx c)
+  pub plain : IsPlainNow w
+
+call_done : (v : VolumeNow) (n tx : ℕ) (c : Call) → FindsRoom v n c → IsOk (outcome (room_of v.geometry) (tree_of_now v) n c) → (w : VolumeNow) (t : Touched) →
+    ◌≡◌ {A = Change} (record { volume = w; touched = t }) (changed v n tx c) → IsCall v n tx c w t
+call_done v n tx c room may w t e =
+    let d = ok_of (outcome (room_of v.geometry) (tree_of_now v) n c) may in
+    record { change = e; plain = subst (λ (x : Change). IsPlainNow x.volume) (sym e) (done_plain v n tx c d.0 d.1 (any_call tx v n c room).plain) }
+
+module _ (v parts : VolumeNow) (same : parts ≡ v) (n : ℕ) (path : List ℕ) where
+  -- ---- a file
+
+  module _ (room : FindsRoom v n (calls.Create path)) (may : IsOk (outcome (room_of v.geometry) (tree_of_now v) n (calls.Create path))) where
+    pub create_led : (reply : Reply) → place_in (tree_of_now v) path ≡ Err reply → ⊥
+    create_led reply none = (let d = ok_of (outcome (room_of v.geometry) (tree_of_now v) n (calls.Create path)) may in no_file_site v n path d.0 d.1 reply none)
+
+    module _ (parent : ℕ) (name : List ℕ) (site : IsSite (tree_of_now v) path parent name) where
+      pub create_ready : MayCreate parts n parent name
+      create_ready =
+          let d = ok_of (outcome (room_of v.geometry) (tree_of_now v) n (calls.Create path)) may in
+          let p = parted (tree_of_now v) path (record { parent = parent; directory = site.directory; name = name }) site.is in
+          subst (λ (u : VolumeNow). MayCreate u n parent name) (sym same)
+          (create_may v n path d.0 p.names (record { parent = parent; directory = site.directory; name = name }) replies.Invalid room d.1 p.named p.leads)
+
+      pub create_done : (tx : ℕ) (w : VolumeNow) (t : Touched) → ◌≡◌ {A = Change} (record { volume = w; touched = t }) (create_in parts n parent name) → IsCall v n tx (calls.Create path) w t
+      create_done tx w t e =
+          let p = parted (tree_of_now v) path (record { parent = parent; directory = site.directory; name = name }) site.is in
+          call_done v n tx (calls.Create path) room may w t
+          (e ∙ (ap (λ (u : VolumeNow). create_in u n parent name) same ∙ sym (create_is v n tx path (record { parent = parent; directory = site.directory; name = name }) p)))
+
+  -- ---- a directory
+
+  module _ (room : FindsRoom v n (calls.Mkdir path)) (may : IsOk (outcome (room_of v.geometry) (tree_of_now v) n (calls.Mkdir path))) where
+    pub mkdir_led : (reply : Reply) → place_in (tree_of_now v) path ≡ Err reply → ⊥
+    mkdir_led reply none = (let d = ok_of (outcome (room_of v.geometry) (tree_of_now v) n (calls.Mkdir path)) may in no_directory_site v n path d.0 d.1 reply none)
+
+    module _ (parent : ℕ) (name : List ℕ) (site : IsSite (tree_of_now v) path parent name) where
+      pub mkdir_ready : MayMkdir parts n parent name
+      mkdir_ready =
+          let d = ok_of (outcome (room_of v.geometry) (tree_of_now v) n (calls.Mkdir path)) may in
+          let p = parted (tree_of_now v) path (record { parent = parent; directory = site.directory; name = name }) site.is in
+          subst (λ (u : VolumeNow). MayMkdir u n parent name) (sym same)
+          (mkdir_may v n path d.0 p.names (record { parent = parent; directory = site.directory; name = name }) replies.Invalid room d.1 p.named p.leads)
+
+      pub mkdir_done : (tx : ℕ) (w : VolumeNow) (t : Touched) → ◌≡◌ {A = Change} (record { volume = w; touched = t }) (mkdir_in parts n parent name) → IsCall v n tx (calls.Mkdir path) w t
+      mkdir_done tx w t e =
+          let p = parted (tree_of_now v) path (record { parent = parent; directory = site.directory; name = name }) site.is in
+          call_done v n tx (calls.Mkdir path) room may w t
+          (e ∙ (ap (λ (u : VolumeNow). mkdir_in u n parent name) same ∙ sym (mkdir_is v n tx path (record { parent = parent; directory = site.directory; name = name }) p)))
+
+  -- ---- a file's size
+
+  module _ (size : ℕ) (room : FindsRoom v n (calls.Truncate path size)) (may : IsOk (outcome (room_of v.geometry) (tree_of_now v) n (calls.Truncate path size))) where
+    pub cut_led : (reply : Reply) → walk_path (tree_of_now v) path ≡ Err reply → ⊥
+    cut_led reply none = (let d = ok_of (outcome (room_of v.geometry) (tree_of_now v) n (calls.Truncate path size)) may in no_cut_path v n path d.0 size d.1 reply none)
+
+    module _ (found : Found) (led : walk_path (tree_of_now v) path ≡ Ok found) where
+      pub cut_ready : MayTruncate parts found.birth size
+      cut_ready =
+          let d = ok_of (outcome (room_of v.geometry) (tree_of_now v) n (calls.Truncate path size)) may in
+          subst (λ (u : VolumeNow). MayTruncate u found.birth size) (sym same) (may_truncate v n path size d.0 found room d.1 led)
+
+      pub cut_done : (tx : ℕ) (w : VolumeNow) (t : Touched) → ◌≡◌ {A = Change} (record { volume = w; touched = t }) (truncate_at parts tx found.birth size) → IsCall v n tx (calls.Truncate path size) w t
+      cut_done tx w t e =
+          call_done v n tx (calls.Truncate path size) room may w t (e ∙ (ap (λ (u : VolumeNow). truncate_at u tx found.birth size) same ∙ sym (truncate_is v n tx path size found led)))

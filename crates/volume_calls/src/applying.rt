@@ -1,0 +1,159 @@
+//! Calls that are done.
+ghost use Rattle.std.specs.Prelude.{◌≡◌, ℕ, true, false, IfOk, IfErr, OnErr, IsOk, Err};
+ghost use Rattle.tree_model.specs.declared.call.Call.TheVariants as calls;
+ghost use Rattle.tree_model.specs.Calls.{leaves_tree, outcome};
+ghost use Rattle.volume_steps.specs.Now.{room_of, tree_of_now};
+ghost use Rattle.volume_steps.specs.Calls.{called, changed};
+ghost use Rattle.volume_steps.specs.laws.Called.{FindsRoom};
+ghost use Rattle.volume_calls.specs.Asked.{is_applied};
+ghost use Rattle.volume_calls.specs.code.Sites.{IsSite, place_in};
+
+use crate::PlainVolume;
+use crate::answer::Answer;
+use crate::paths::names_of;
+use blk_base::NoMemory;
+use minix_layout::Name;
+use std::alloc::Global;
+use tree_model::{ByteList, Call, Reply};
+use volume_now::Touched;
+
+// The directory of a path's last name, by its birth, and the name.
+#[derive(Drop)]
+pub struct Site {
+    pub parent: u64,
+    pub name: Name,
+}
+
+fn leaves_tree(call: &Call) -> bool
+    ensures { result ≡ leaves_tree call.now }
+{
+    matches!(
+        call,
+        Call::Read { .. }
+            | Call::List(_)
+            | Call::Stat(_)
+            | Call::Fsync(_)
+            | Call::Fdatasync(_)
+            | Call::Fbarrier(_)
+            | Call::Fdatabarrier(_)
+            | Call::Sync
+    )
+}
+
+impl PlainVolume {
+    fn site(&self, path: &ByteList) -> Result<Site, Reply>
+        ensures site { IfOk result (λ s. IsSite (tree_of_now self.now) path.now s.parent s.name) }
+        ensures fault { IfErr result (λ reply. place_in (tree_of_now self.now) path.now ≡ Err reply) }
+    {
+        let names = names_of(path)?;
+        if names.is_empty() {
+            return Err(Reply::Invalid);
+        }
+        let place = self.place_of(names)?;
+        Ok(Site {
+            parent: place.parent,
+            name: place.name,
+        })
+    }
+
+    fn make_file(&mut self, alloc: Global, n: u64, path: &ByteList) -> Result<Touched, NoMemory>
+        requires room { FindsRoom self.old n (calls.Create path.now) }
+        requires may { IsOk (outcome (room_of self.old.geometry) (tree_of_now self.old) n (calls.Create path.now)) }
+        ensures done { (tx : ℕ) → IfOk result (λ t. record { volume = self.new; touched = t.touched } ≡ changed self.old n tx (calls.Create path.now)) }
+        ensures memory { OnErr result (self.new ≡ self.old) }
+    {
+        let Ok(site) = self.site(path) else {
+            unreachable!();
+        };
+        let touched = volume_names::create(alloc, &mut self.parts, n, site.parent, &site.name)?;
+        Ok(touched)
+    }
+
+    fn make_directory(
+        &mut self,
+        alloc: Global,
+        n: u64,
+        path: &ByteList,
+    ) -> Result<Touched, NoMemory>
+        requires room { FindsRoom self.old n (calls.Mkdir path.now) }
+        requires may { IsOk (outcome (room_of self.old.geometry) (tree_of_now self.old) n (calls.Mkdir path.now)) }
+        ensures done { (tx : ℕ) → IfOk result (λ t. record { volume = self.new; touched = t.touched } ≡ changed self.old n tx (calls.Mkdir path.now)) }
+        ensures memory { OnErr result (self.new ≡ self.old) }
+    {
+        let Ok(site) = self.site(path) else {
+            unreachable!();
+        };
+        let touched = volume_names::mkdir(alloc, &mut self.parts, n, site.parent, &site.name)?;
+        Ok(touched)
+    }
+
+    fn cut_file(
+        &mut self,
+        alloc: Global,
+        n: u64,
+        tx: u32,
+        path: &ByteList,
+        size: u32,
+    ) -> Result<Touched, NoMemory>
+        requires room { FindsRoom self.old n (calls.Truncate path.now size) }
+        requires may { IsOk (outcome (room_of self.old.geometry) (tree_of_now self.old) n (calls.Truncate path.now size)) }
+        ensures done { IfOk result (λ t. record { volume = self.new; touched = t.touched } ≡ changed self.old n tx (calls.Truncate path.now size)) }
+        ensures memory { OnErr result (self.new ≡ self.old) }
+    {
+        let birth = match self.reached(path) {
+            Ok(found) => found.birth,
+            Err(_) => unreachable!(),
+        };
+        let touched = volume_bytes::truncate(alloc, &mut self.parts, tx, birth, size)?;
+        Ok(touched)
+    }
+
+    // Does a call that nothing refuses.
+    fn change(&mut self, alloc: Global, n: u64, tx: u32, call: &Call) -> Result<Touched, NoMemory>
+        requires room { FindsRoom self.old n call.now }
+        requires may { IsOk (outcome (room_of self.old.geometry) (tree_of_now self.old) n call.now) }
+        requires applied { is_applied call.now ≡ true }
+        requires changes { leaves_tree call.now ≡ false }
+        ensures done { IfOk result (λ t. record { volume = self.new; touched = t.touched } ≡ changed self.old n tx call.now) }
+        ensures memory { OnErr result (self.new ≡ self.old) }
+    {
+        match call {
+            Call::Mkdir(path) => self.make_directory(alloc, n, path),
+            Call::Create(path) => self.make_file(alloc, n, path),
+            Call::Truncate(path, size) => self.cut_file(alloc, n, tx, path, *size),
+            _ => unreachable!(),
+        }
+    }
+
+    /// Does the call with number `n` in transaction `tx`, and gives its reply and what it touched. Memory is asked for
+    /// before the first write, and where it is refused all is as before. Renames are not built yet; writes, links and
+    /// removals are not done here yet.
+    pub fn apply(
+        &mut self,
+        alloc: Global,
+        n: u64,
+        tx: u32,
+        call: &Call,
+    ) -> Result<(Reply, Touched), NoMemory>
+        requires room { FindsRoom self.old n call.now }
+        requires applied { is_applied call.now ≡ true }
+        ensures done { IfOk result (λ x. record { change = record { volume = self.new; touched = x.1.touched }; reply = x.0 } ≡ called self.old n tx call.now) }
+        ensures memory { OnErr result (self.new ≡ self.old) }
+    {
+        if leaves_tree(call) {
+            let reply = self.ask(alloc, call)?;
+            let touched = Touched::with_room(alloc, 0)?;
+            return Ok((reply, touched));
+        }
+        match self.reply(call) {
+            Answer::Refused(reply) => {
+                let touched = Touched::with_room(alloc, 0)?;
+                Ok((reply, touched))
+            }
+            Answer::Change => {
+                let touched = self.change(alloc, n, tx, call)?;
+                Ok((Reply::Ok, touched))
+            }
+        }
+    }
+}
