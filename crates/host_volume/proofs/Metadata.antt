@@ -45,12 +45,12 @@ module _ (v : VolumeNow) (h : IsPlainNow v) where
 
   -- a zone of numbers is listed, of a file or a directory
   numbers_listed : (n : ℕ) (p : Placed) (at : at_number v.contents.nodes n ≡ Some p) (x : Place) → IsOfNumbers x → own p x ≢ 0 → (part : Part) → p.part ≡ part → In (own p x) (metadata_gone v.contents p p.part)
-  numbers_listed n p at x is some (parts.File zones) e = subst (λ part. In (own p x) (metadata_gone v.contents p part)) (sym e) (number_in v h.in_use n p at x is some)
+  numbers_listed n p at x is some (parts.File zones) e = subst (λ part. In (own p x) (metadata_gone v.contents p part)) (sym e) (number_in v h.in_use.volume n p at x is some)
   numbers_listed n p at x is some (parts.Directory d) e =
-      (lists_of_directory v h.in_use n p at d e (h.plain.slot_zones n p d at e)).meta x some (inl is)
+      (lists_of_directory v h.in_use.volume n p at d e (h.plain.slot_zones n p d at e)).meta x some (inl is)
 
   slots_listed : (n : ℕ) (p : Placed) (at : at_number v.contents.nodes n ≡ Some p) (d : DirectoryPart) (e : p.part ≡ parts.Directory d) (i : ℕ) → own p (block i) ≢ 0 → In (own p (block i)) (metadata_gone v.contents p p.part)
-  slots_listed n p at d e i some = (lists_of_directory v h.in_use n p at d e (h.plain.slot_zones n p d at e)).meta (block i) some (inr (ap is_directory_part e))
+  slots_listed n p at d e i some = (lists_of_directory v h.in_use.volume n p at d e (h.plain.slot_zones n p d at e)).meta (block i) some (inr (ap is_directory_part e))
 
   -- and what is listed is metadata
   of_place : (n : ℕ) (p : Placed) (at : at_number v.contents.nodes n ≡ Some p) (d : DirectoryPart) (e : p.part ≡ parts.Directory d) (b : ℕ) (x : Place) → own p x ≢ 0 → own p x ≡ b → IsMeta v.geometry v.contents b
@@ -61,10 +61,10 @@ module _ (v : VolumeNow) (h : IsPlainNow v) where
 
   listed_meta : (n : ℕ) (p : Placed) (at : at_number v.contents.nodes n ≡ Some p) (b : ℕ) → In b (metadata_gone v.contents p p.part) → (part : Part) → p.part ≡ part → IsMeta v.geometry v.contents b
   listed_meta n p at b i (parts.File zones) e =
-      let w = in_number v h.in_use n p at b (subst (λ part. In b (metadata_gone v.contents p part)) e i) in
+      let w = in_number v h.in_use.volume n p at b (subst (λ part. In b (metadata_gone v.contents p part)) e i) in
       of_numbers n p w.0 at w.1 w.3 (λ none. w.2 (w.3 ∙ none))
   listed_meta n p at b i (parts.Directory d) e =
-      let w = (lists_of_directory v h.in_use n p at d e (h.plain.slot_zones n p d at e)).meta_has b i in
+      let w = (lists_of_directory v h.in_use.volume n p at d e (h.plain.slot_zones n p d at e)).meta_has b i in
       of_place n p at d e b w.0 w.1 w.2
 
   -- ---- the test

@@ -13,7 +13,7 @@ use Rattle.volume_ops.specs.Volume.{disk_of}
 use Rattle.volume_model.specs.NewVolume.{root_placed}
 use Rattle.volume_model.specs.Trees.{tree_now}
 use Rattle.volume_steps.specs.Plain.{IsPlainNow}
-use Rattle.volume_calls.specs.NewNow.{new_now}
+use Rattle.volume_now.specs.NewNow.{new_now}
 use Rattle.mount_make.specs.Made.{made_volume, made_image, new_journal}
 use Rattle.mount_make.proofs.Filling.{length-made}
 use Rattle.host_runs.specs.Runs.{Event}

@@ -6,7 +6,7 @@ ghost use Rattle.tree_model.specs.declared.call.Reply.TheVariants as replies;
 ghost use Rattle.volume_ops.specs.Volume.{disk_of};
 ghost use Rattle.volume_model.specs.NewVolume.{new_volume};
 ghost use Rattle.volume_steps.specs.Now.{VolumeNow};
-ghost use Rattle.volume_calls.specs.NewNow.{new_now};
+ghost use Rattle.volume_now.specs.NewNow.{new_now};
 ghost use Rattle.journal_blocks.specs.Readers.{format};
 ghost use Rattle.journal_blocks.specs.declared.super_block.JournalSuper.{JournalSuper};
 ghost use Rattle.journal_ring.specs.LogRing.{LogRing};
