@@ -167,6 +167,14 @@ impl Pages {
         Some((page.birth, page.index))
     }
 
+    /// The Dirty page number `pick`, in order.
+    pub fn dirty_page(&self, pick: u32) -> Option<&CachedPage>
+        ensures page { option_copied result ≡ dirty_page self.now.pages pick }
+        ensures found { (p : CachedPage) → dirty_page self.now.pages pick ≡ Some p → page_at self.now.pages p.birth p.index ≡ Some p }
+    {
+        dirty_page(&self.pages, pick)
+    }
+
     // A page, if it is there.
     fn page(&self, birth: u64, index: u32) -> Option<&CachedPage>
         ensures { option_copied result ≡ page_at self.now.pages birth index }
