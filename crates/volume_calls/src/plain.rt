@@ -4,7 +4,7 @@ ghost use Rattle.volume_ops.specs.Volume.{disk_of};
 ghost use Rattle.volume_steps.specs.Calls.{after_release};
 ghost use Rattle.volume_steps.specs.Plain.{IsPlainNow};
 
-use blk_base::Block;
+use blk_base::{Block, BodySource};
 use minix_layout::Geometry;
 use std::marker::Model;
 use volume_now::VolumeNow;
@@ -67,5 +67,13 @@ impl PlainVolume {
     {
         let parts = &mut self.parts;
         parts.zones.release(tx);
+    }
+}
+
+impl BodySource for PlainVolume {
+    ghost bodies = { λ v b. disk_of v.contents.blocks b };
+
+    fn block_bytes(&self, b: u32) -> Block {
+        PlainVolume::block_bytes(self, b)
     }
 }
