@@ -30,6 +30,10 @@ abbrev pub is_closing : Phase → Bool
 is_closing Closing = true
 is_closing other = false
 
+-- the closed transaction whose log blocks are still to be submitted
+abbrev pub committing : JournalPart → Option ℕ
+committing j = elim j.phase as (λ _. Option ℕ) [ Idle ↦ None | Closing ↦ None | Committing p ↦ Some (j.running.number - 1) ]
+
 -- The commit block of transaction k is submitted: all below the running one are closed, and only the last of
 -- them may have a plan that is not done.
 abbrev pub is_submitted : JournalPart → ℕ → Bool

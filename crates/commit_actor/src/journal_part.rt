@@ -100,6 +100,26 @@ impl JournalPart {
         matches!(self.phase, Phase::Closing)
     }
 
+    /// The closed transaction whose log blocks are still to be submitted, if there is one.
+    pub fn committing(&self) -> Option<u32>
+        ensures { result ≡ model.committing self.now.part }
+    {
+        match &self.phase {
+            Phase::Committing(_) => Some(self.log.last_closed()),
+            Phase::Idle | Phase::Closing => None,
+        }
+    }
+
+    /// Whether a step of the commit actor would build a plan.
+    pub fn builds_plan(&self, pages: &Pages) -> bool
+        ensures { result ≡ builds_plan self.now.part pages.now.pages }
+    {
+        !self.log.is_over()
+            && self.is_closing()
+            && pages.unsent_of(self.log.changed_births()).is_none()
+            && !self.log.is_short()
+    }
+
     /// Whether the commit block of a transaction was submitted.
     pub fn is_submitted(&self, tx: u64) -> bool
         ensures { result ≡ model.is_submitted self.now.part tx }

@@ -287,6 +287,15 @@ impl Log {
         }
     }
 
+    // The transaction before the running one.
+    pub fn last_closed(&self) -> u32
+        requires first { 2 ≤ self.now.running.number }
+        requires number { self.now.running.number ≤ length self.now.flush.requests + 2 }
+        ensures { result ≡ self.now.running.number - 1 }
+    {
+        (self.running.number() - 1) as u32
+    }
+
     // Whether nothing more is submitted.
     pub fn is_over(&self) -> bool
         ensures { result ≡ is_over self.now.flush }
