@@ -5,13 +5,13 @@ use Rattle.tree_model.specs.declared.call.Call.{Call}
 use Rattle.tree_model.specs.declared.call.Call.TheVariants as calls
 use Rattle.tree_model.specs.declared.call.Reply.{Reply}
 use Rattle.tree_model.specs.declared.call.Reply.TheVariants as replies
-use Rattle.tree_model.specs.Calls.{Tree, Row, Done, Place, Found, and_then, refuse_if, names_in, parent_of, walk_path, a_file, is_named, is_full, most_links, makes, give_name, new_file, new_directory, create, mkdir, truncate, largest_size, row, outcome}
+use Rattle.tree_model.specs.Calls.{Tree, Row, Done, Place, Found, and_then, refuse_if, names_in, parent_of, walk_path, a_file, is_named, is_full, most_links, makes, give_name, new_file, new_directory, create, mkdir, truncate, link, walk, largest_size, row, outcome}
 use Rattle.tree_model.proofs.Rows.{err_ok, then_ok}
 use Rattle.volume_steps.specs.Now.{VolumeNow, Change, tree_of_now, room_of, unchanged}
-use Rattle.volume_steps.specs.Calls.{Called, called, called_by, changed, create_in, mkdir_in, truncate_at}
+use Rattle.volume_steps.specs.Calls.{Called, at_place, called, called_by, changed, create_in, link_in, mkdir_in, truncate_at}
 use Rattle.volume_steps.specs.Plain.{IsPlainNow}
 use Rattle.volume_steps.specs.laws.Called.{FindsRoom}
-use Rattle.volume_steps.proofs.CallPaths.{done_row, parent_any, at_place_is}
+use Rattle.volume_steps.proofs.CallPaths.{done_row, parent_any, at_place_is, at_path_is}
 use Rattle.volume_calls.specs.code.Sites.{IsSite, place_in}
 
 pub ok_of : {A E : Type 0} (r : Result A E) → IsOk r → (a : A) × (r ≡ Ok a)
@@ -58,6 +58,39 @@ module _ (v : VolumeNow) (n : ℕ) (path : List ℕ) (d : Done) where
       let w = then_ok (walk_path tree path) _ d (done_row (room_of v.geometry) tree n (calls.Truncate path size) d done).0 in
       err_ok reply w.0 (sym none ∙ w.1)
 
+module _ (v : VolumeNow) (n : ℕ) (path other : List ℕ) (d : Done) where
+  -- a link that is done has its row's beginning
+  record LinkParts : Type 0 where
+    names : List (List ℕ)
+    more : List (List ℕ)
+    found : Found
+    place : Place
+    named : names_in path ≡ Ok names
+    also : names_in other ≡ Ok more
+    walked : walk (tree_of_now v) names ≡ Ok found
+    leads : parent_of replies.Exists (tree_of_now v) more ≡ Ok place
+
+  link_parts : link (tree_of_now v) path other ≡ Ok d → LinkParts
+  link_parts done =
+      let a = then_ok (names_in path) _ d done in
+      let b = then_ok (names_in other) _ d a.2 in
+      let c = then_ok (walk (tree_of_now v) a.0) _ d b.2 in
+      let e = then_ok (a_file c.0.node) _ d c.2 in
+      let f = then_ok (parent_of replies.Exists (tree_of_now v) b.0) _ d e.2 in
+      record { names = a.0; more = b.0; found = c.0; place = f.0; named = a.1; also = b.1; walked = c.1; leads = f.1 }
+
+  link_row : outcome (room_of v.geometry) (tree_of_now v) n (calls.Link path other) ≡ Ok d → LinkParts
+  unfolding row
+  link_row done = link_parts (done_row (room_of v.geometry) (tree_of_now v) n (calls.Link path other) d done).0
+
+  pub no_link_path : outcome (room_of v.geometry) (tree_of_now v) n (calls.Link path other) ≡ Ok d → (reply : Reply) → walk_path (tree_of_now v) path ≡ Err reply → ⊥
+  no_link_path done reply none = (let p = link_row done in err_ok reply p.found (sym none ∙ (ap (λ x. and_then x (walk (tree_of_now v))) p.named ∙ p.walked)))
+
+  pub no_link_site : outcome (room_of v.geometry) (tree_of_now v) n (calls.Link path other) ≡ Ok d → (reply : Reply) → place_in (tree_of_now v) other ≡ Err reply → ⊥
+  no_link_site done reply none =
+      let p = link_row done in
+      err_ok reply p.place (sym none ∙ (ap (λ x. and_then x (parent_of replies.Invalid (tree_of_now v))) p.also ∙ parent_any replies.Exists replies.Invalid (tree_of_now v) p.more p.place p.leads))
+
 -- ---- what is changed
 
 pub create_is : (v : VolumeNow) (n tx : ℕ) (path : List ℕ) (place : Place) → Parted (tree_of_now v) path place → changed v n tx (calls.Create path) ≡ create_in v n place.parent place.name
@@ -71,3 +104,19 @@ mkdir_is v n tx path place p = at_place_is v path p.names place replies.Invalid 
 pub truncate_is : (v : VolumeNow) (n tx : ℕ) (path : List ℕ) (size : ℕ) (found : Found) → walk_path (tree_of_now v) path ≡ Ok found → changed v n tx (calls.Truncate path size) ≡ truncate_at v tx found.birth size
 unfolding changed
 truncate_is v n tx path size found e = ap (λ r. elim r as (λ _. Change) [ Err reply ↦ unchanged v | Ok found ↦ truncate_at v tx found.birth size ]) e
+
+-- the names of a path that was walked
+pub record Walked (tree : Tree) (path : List ℕ) (found : Found) : Type 0 where
+  pub names : List (List ℕ)
+  pub named : names_in path ≡ Ok names
+  pub leads : walk tree names ≡ Ok found
+
+pub walked_parts : (tree : Tree) (path : List ℕ) (found : Found) → walk_path tree path ≡ Ok found → Walked tree path found
+walked_parts tree path found is = (let w = then_ok (names_in path) (walk tree) found is in record { names = w.0; named = w.1; leads = w.2 })
+
+pub link_is : (v : VolumeNow) (n tx : ℕ) (path other : List ℕ) (found : Found) (place : Place) → Walked (tree_of_now v) path found → Parted (tree_of_now v) other place →
+    changed v n tx (calls.Link path other) ≡ link_in v found.birth place.parent place.name
+unfolding changed
+link_is v n tx path other found place w p =
+    at_path_is v path w.names found (λ birth. at_place v other (λ place. link_in v birth place.parent place.name)) w.named w.leads
+    ∙ at_place_is v other p.names place replies.Invalid (λ place. link_in v found.birth place.parent place.name) p.named p.leads

@@ -7,16 +7,16 @@ use Rattle.tree_model.specs.declared.call.Reply.TheVariants as replies
 use Rattle.tree_model.specs.Calls.{Found, walk_path, outcome}
 use Rattle.volume_model.specs.Touched.{Touched}
 use Rattle.volume_steps.specs.Now.{VolumeNow, Change, tree_of_now, room_of}
-use Rattle.volume_steps.specs.Calls.{changed, create_in, mkdir_in, truncate_at}
+use Rattle.volume_steps.specs.Calls.{changed, create_in, link_in, mkdir_in, truncate_at}
 use Rattle.volume_steps.specs.Plain.{IsPlainNow}
 use Rattle.volume_steps.specs.laws.Called.{FindsRoom}
 use Rattle.volume_steps.proofs.AllCalls.{any_call}
-use Rattle.volume_names.specs.May.{MayCreate, MayMkdir}
-use Rattle.volume_names.proofs.Callers.{create_may, mkdir_may}
+use Rattle.volume_names.specs.May.{MayCreate, MayLink, MayMkdir}
+use Rattle.volume_names.proofs.Callers.{create_may, link_may, mkdir_may}
 use Rattle.volume_bytes.specs.MayWrite.{MayTruncate}
 use Rattle.volume_bytes.proofs.MayCall.{may_truncate}
 use Rattle.volume_calls.specs.code.Sites.{IsSite, place_in}
-use Rattle.volume_calls.proofs.Applied.{ok_of, done_plain, parted, no_file_site, no_directory_site, no_cut_path, create_is, mkdir_is, truncate_is}
+use Rattle.volume_calls.proofs.Applied.{ok_of, done_plain, parted, no_file_site, no_directory_site, no_cut_path, no_link_path, no_link_site, walked_parts, create_is, link_is, mkdir_is, truncate_is}
 
 -- what was done is the call's change, and leaves the volume plain
 pub record IsCall (v : VolumeNow) (n tx : ℕ) (c : Call) (w : VolumeNow) (t : Touched) : Type 0 where
@@ -85,3 +85,28 @@ module _ (v parts : VolumeNow) (same : parts ≡ v) (n : ℕ) (path : List ℕ) 
       pub cut_done : (tx : ℕ) (w : VolumeNow) (t : Touched) → ◌≡◌ {A = Change} (record { volume = w; touched = t }) (truncate_at parts tx found.birth size) → IsCall v n tx (calls.Truncate path size) w t
       cut_done tx w t e =
           call_done v n tx (calls.Truncate path size) room may w t (e ∙ (ap (λ (u : VolumeNow). truncate_at u tx found.birth size) same ∙ sym (truncate_is v n tx path size found led)))
+
+  -- ---- a file's other name
+
+  module _ (other : List ℕ) (room : FindsRoom v n (calls.Link path other)) (may : IsOk (outcome (room_of v.geometry) (tree_of_now v) n (calls.Link path other))) where
+    pub link_led : (reply : Reply) → walk_path (tree_of_now v) path ≡ Err reply → ⊥
+    link_led reply none = (let d = ok_of (outcome (room_of v.geometry) (tree_of_now v) n (calls.Link path other)) may in no_link_path v n path other d.0 d.1 reply none)
+
+    pub link_placed : (reply : Reply) → place_in (tree_of_now v) other ≡ Err reply → ⊥
+    link_placed reply none = (let d = ok_of (outcome (room_of v.geometry) (tree_of_now v) n (calls.Link path other)) may in no_link_site v n path other d.0 d.1 reply none)
+
+    module _ (found : Found) (led : walk_path (tree_of_now v) path ≡ Ok found) (parent : ℕ) (name : List ℕ) (site : IsSite (tree_of_now v) other parent name) where
+      pub link_ready : MayLink parts found.birth parent name
+      link_ready =
+          let d = ok_of (outcome (room_of v.geometry) (tree_of_now v) n (calls.Link path other)) may in
+          let w = walked_parts (tree_of_now v) path found led in
+          let p = parted (tree_of_now v) other (record { parent = parent; directory = site.directory; name = name }) site.is in
+          subst (λ (u : VolumeNow). MayLink u found.birth parent name) (sym same)
+          (link_may v n path other d.0 w.names p.names found (record { parent = parent; directory = site.directory; name = name }) replies.Invalid room d.1 w.named w.leads p.named p.leads)
+
+      pub link_done : (tx : ℕ) (w : VolumeNow) (t : Touched) → ◌≡◌ {A = Change} (record { volume = w; touched = t }) (link_in parts found.birth parent name) → IsCall v n tx (calls.Link path other) w t
+      link_done tx w t e =
+          call_done v n tx (calls.Link path other) room may w t
+          (e ∙ (ap (λ (u : VolumeNow). link_in u found.birth parent name) same
+          ∙ sym (link_is v n tx path other found (record { parent = parent; directory = site.directory; name = name }) (walked_parts (tree_of_now v) path found led)
+          (parted (tree_of_now v) other (record { parent = parent; directory = site.directory; name = name }) site.is))))

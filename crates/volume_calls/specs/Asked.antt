@@ -19,11 +19,10 @@ is_told (calls.Write path off len value) = false
 is_told (calls.Bytes path off bytes) = false
 is_told other = true
 
--- calls that are done here: those that change nothing, and those that make a node or cut a file
+-- calls that are done here: those that change nothing, make a node, link or cut a file
 abbrev pub is_applied : Call → Bool
 is_applied (calls.Rmdir path) = false
 is_applied (calls.Unlink path) = false
-is_applied (calls.Link path other) = false
 is_applied (calls.Rename path other) = false
 is_applied (calls.Write path off len value) = false
 is_applied (calls.Bytes path off bytes) = false

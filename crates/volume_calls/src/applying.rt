@@ -87,6 +87,29 @@ impl PlainVolume {
         Ok(touched)
     }
 
+    fn add_link(
+        &mut self,
+        alloc: Global,
+        n: u64,
+        path: &ByteList,
+        other: &ByteList,
+    ) -> Result<Touched, NoMemory>
+        requires room { FindsRoom self.old n (calls.Link path.now other.now) }
+        requires may { IsOk (outcome (room_of self.old.geometry) (tree_of_now self.old) n (calls.Link path.now other.now)) }
+        ensures done { (tx : ℕ) → IfOk result (λ t. record { volume = self.new; touched = t.touched } ≡ changed self.old n tx (calls.Link path.now other.now)) }
+        ensures memory { OnErr result (self.new ≡ self.old) }
+    {
+        let birth = match self.reached(path) {
+            Ok(found) => found.birth,
+            Err(_) => unreachable!(),
+        };
+        let Ok(site) = self.site(other) else {
+            unreachable!();
+        };
+        let touched = volume_names::link(alloc, &mut self.parts, birth, site.parent, &site.name)?;
+        Ok(touched)
+    }
+
     fn cut_file(
         &mut self,
         alloc: Global,
@@ -120,13 +143,14 @@ impl PlainVolume {
         match call {
             Call::Mkdir(path) => self.make_directory(alloc, n, path),
             Call::Create(path) => self.make_file(alloc, n, path),
+            Call::Link(path, other) => self.add_link(alloc, n, path, other),
             Call::Truncate(path, size) => self.cut_file(alloc, n, tx, path, *size),
             _ => unreachable!(),
         }
     }
 
     /// Does the call with number `n` in transaction `tx`, and gives its reply and what it touched. Memory is asked for
-    /// before the first write, and where it is refused all is as before. Renames are not built yet; writes, links and
+    /// before the first write, and where it is refused all is as before. Renames are not built yet; writes and
     /// removals are not done here yet.
     pub fn apply(
         &mut self,
