@@ -5,14 +5,13 @@ use Rattle.tree_model.specs.declared.call.Call.{Call}
 use Rattle.tree_model.specs.declared.call.Call.TheVariants as calls
 use Rattle.tree_model.specs.declared.call.Reply.{Reply}
 use Rattle.tree_model.specs.declared.call.Reply.TheVariants as replies
-use Rattle.tree_model.specs.Calls.{Tree, Row, Done, Place, Found, and_then, refuse_if, names_in, parent_of, walk_path, a_file, is_named, is_full, most_links, makes, give_name, new_file, new_directory, create, mkdir, truncate, link, walk, largest_size, row, outcome}
+use Rattle.tree_model.specs.Calls.{Tree, Row, Done, Place, Found, and_then, names_in, parent_of, walk_path, a_file, link, walk, row, outcome}
 use Rattle.tree_model.proofs.Rows.{err_ok, then_ok}
 use Rattle.volume_steps.specs.Now.{VolumeNow, Change, tree_of_now, room_of, unchanged}
 use Rattle.volume_steps.specs.Calls.{Called, at_place, called, called_by, changed, create_in, link_in, mkdir_in, truncate_at}
 use Rattle.volume_steps.specs.Plain.{IsPlainNow}
-use Rattle.volume_steps.specs.laws.Called.{FindsRoom}
 use Rattle.volume_steps.proofs.CallPaths.{done_row, parent_any, at_place_is, at_path_is}
-use Rattle.volume_calls.specs.code.Sites.{IsSite, place_in}
+use Rattle.volume_calls.specs.code.Sites.{place_in}
 
 pub ok_of : {A E : Type 0} (r : Result A E) → IsOk r → (a : A) × (r ≡ Ok a)
 ok_of (Ok a) h = (a, refl)

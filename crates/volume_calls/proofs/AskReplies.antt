@@ -1,5 +1,5 @@
 -- From where a path leads to what a call is answered that changes nothing.
-use Rattle.std.proofs.Common.{◌≡◌, ℕ, ◌+◌, ◌-◌, nat_lt, true, false, List, Result, Ok, Err, Some, refl, sym, ap, ◌∙◌, arith}
+use Rattle.std.proofs.Common.{◌≡◌, ℕ, ◌-◌, nat_lt, true, false, List, Result, Ok, Err, refl, ap, arith}
 use Rattle.std.proofs.lemmas.Bool.{false≢true, le-ltb}
 use Rattle.tree_model.specs.declared.call.Call.{Call}
 use Rattle.tree_model.specs.declared.call.Call.TheVariants as calls
@@ -8,7 +8,7 @@ use Rattle.tree_model.specs.declared.call.Reply.TheVariants as replies
 use Rattle.tree_model.specs.declared.call.Room.{Room}
 use Rattle.tree_model.specs.declared.node.Node.{Node}
 use Rattle.tree_model.specs.declared.node.Node.TheVariants as nodes
-use Rattle.tree_model.specs.Calls.{Tree, Row, Done, Found, and_then, refuse_if, answers, reply_from, if_room, used_zones, walk_path, leaves_tree, row, outcome, reply_of}
+use Rattle.tree_model.specs.Calls.{Tree, Row, Done, Found, and_then, answers, reply_from, if_room, used_zones, walk_path, leaves_tree, row, outcome, reply_of}
 use Rattle.volume_reads.specs.Replies.{read_at, list_at, stat_at}
 
 -- ---- nothing refuses a call that leaves the tree and takes no inode

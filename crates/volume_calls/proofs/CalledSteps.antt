@@ -1,5 +1,5 @@
 -- From what was done to what the call is.
-use Rattle.std.proofs.Common.{◌≡◌, ℕ, Bool, true, false, Result, Ok, Err, IsOk, refl, sym, ap, subst, ◌∙◌}
+use Rattle.std.proofs.Common.{◌≡◌, ℕ, true, false, Ok, Err, IsOk, refl, sym, ap, ◌∙◌}
 use Rattle.std.proofs.lemmas.Bool.{true≢false, false≢true}
 use Rattle.tree_model.specs.declared.call.Call.{Call}
 use Rattle.tree_model.specs.declared.call.Call.TheVariants as calls
@@ -7,10 +7,8 @@ use Rattle.tree_model.specs.declared.call.Reply.{Reply}
 use Rattle.tree_model.specs.declared.call.Reply.TheVariants as replies
 use Rattle.tree_model.specs.Calls.{Tree, Row, Done, leaves_tree, outcome, reply_of, reply_from}
 use Rattle.tree_model.proofs.Changes.{Change as TreeChange, stayed, made_directory, made_file, removed, unlinked, linked, renamed, written, written_bytes, truncated, outcome_change}
-use Rattle.volume_model.specs.Touched.{Touched}
 use Rattle.volume_steps.specs.Now.{VolumeNow, Change, tree_of_now, room_of, unchanged}
 use Rattle.volume_steps.specs.Calls.{Called, called, called_by, changed}
-use Rattle.volume_calls.specs.declared.answer.Answer.{Answer}
 use Rattle.volume_calls.specs.declared.answer.Answer.TheVariants.{Refused, Change as Changes}
 use Rattle.volume_calls.specs.Asked.{Answers, is_told, is_applied}
 

@@ -1,4 +1,4 @@
-use Rattle.std.proofs.Common.{◌≡◌, true, false, sym, ap, ◌∙◌}
+use Rattle.std.proofs.Common.{sym, ap, ◌∙◌}
 use Rattle.tree_model.specs.Calls.{outcome}
 use Rattle.volume_now.specs.Noted.{Noted}
 use Rattle.volume_steps.specs.Calls.{Called}
