@@ -2,3 +2,4 @@
 pub mod Listed
 pub mod Nodes
 pub mod Steps
+pub mod TreeTurns
