@@ -4,6 +4,7 @@ use Rattle.std.specs.List.{range_with_len}
 use Rattle.minix_layout.specs.declared.division.Geometry.{Geometry}
 use Rattle.log_model.specs.Log.{Format}
 use Rattle.tx_running.specs.Plan.{Writers}
+use Rattle.tree_model.specs.declared.call.Call.{Call}
 use Rattle.tree_model.specs.declared.call.Reply.{Reply}
 use Rattle.tree_model.specs.declared.call.Reply.TheVariants as replies
 use Rattle.tree_model.specs.Histories.{block_at, maps_block}
@@ -23,28 +24,32 @@ use Rattle.host_volume.specs.Paths.{place_in}
 use Rattle.host_volume.specs.PlainTrees.{PlainTree, root_tree, tree_after_call, call_writes, call_alters}
 use Rattle.host_volume.specs.Volumes.{HaveBytes, is_metadata, zone_of, zones_of}
 
--- plain trees and volumes in use, of this division
-abbrev pub model : Geometry → Model PlainTree VolumeNow ByteCall Reply
-model g = record {
-  kind = λ c. kind_of c.call;
+-- plain trees and volumes in use, of this division, and what has calls of the tree model
+abbrev pub model_of : {C : Type 0} → (C → Call) → Geometry → Model PlainTree VolumeNow C Reply
+model_of call_of g = record {
+  kind = λ c. kind_of (call_of c);
   ok = replies.Ok;
   root = root_tree;
-  call = λ t n c. tree_after_call (room_of g) t n c.call;
+  call = λ t n c. tree_after_call (room_of g) t n (call_of c);
   maps = λ t f i. maps_block t.tree f i;
   content = λ t f i. unwrap_or (block_at t.tree f i) [];
-  writes = λ t c f i. call_writes (room_of g) t c.call f i;
-  alters = λ t n c f. call_alters (room_of g) t n c.call f;
-  reply = λ v c. refusal v c.call;
-  hinders = λ v c. would_change v c.call;
-  needs = λ v c. needed v c.call;
-  apply = λ v n k c. done_as v n k c.call;
-  node = λ v c. node_of v c.call;
+  writes = λ t c f i. call_writes (room_of g) t (call_of c) f i;
+  alters = λ t n c f. call_alters (room_of g) t n (call_of c) f;
+  reply = λ v c. refusal v (call_of c);
+  hinders = λ v c. would_change v (call_of c);
+  needs = λ v c. needed v (call_of c);
+  apply = λ v n k c. done_as v n k (call_of c);
+  node = λ v c. node_of v (call_of c);
   zones = zones_of;
   release = after_release;
   bytes = λ v b. disk_of v.contents.blocks b;
   metadata = is_metadata;
   zone = zone_of;
 }
+
+-- the same with calls as code has them
+abbrev pub model : Geometry → Model PlainTree VolumeNow ByteCall Reply
+model g = model_of (λ c. c.call) g
 
 -- A session: how the volume is divided, the zone of its root, the image that it was opened with, of volume and
 -- journal, and how journal blocks are written and read.
