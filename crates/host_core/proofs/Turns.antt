@@ -1,0 +1,185 @@
+-- The steps of the actors on their parts are those of the machine.
+use Rattle.std.proofs.Common.{◌≡◌, ℕ, ◌+◌, ◌-◌, Bool, true, false, not, ◌&&◌, List, [], ◌∷◌, ◌++◌, length, map, Option, Some, None, is_none, nat_lt, nat_le, slice_index_or, if◌then◌else◌, refl, sym, ap, subst, ◌∙◌}
+use Rattle.order_model.specs.declared.note.Note.TheVariants as notes
+use Rattle.order_model.specs.declared.request.Kind.TheVariants as puts
+use Rattle.order_model.specs.declared.request.Request.{Request}
+use Rattle.order_model.specs.declared.turn.Turn.TheVariants as turns
+use Rattle.order_model.specs.declared.turn.Turn.{Turn}
+use Rattle.log_model.specs.Marks.{Logged}
+use Rattle.page_cache.specs.Pages.{unsent_of, dirty_page, page_at, put_page, mark_page, marked}
+use Rattle.page_cache.specs.declared.cached_page.CachedPage.{CachedPage}
+use Rattle.page_cache.specs.declared.cached_page.PageState.TheVariants.{Loose, Firm}
+use Rattle.conflict_pages.specs.Conflicts.{least}
+use Rattle.journal_ring.specs.LogRing.{LogRing, ring_free}
+use Rattle.tx_running.specs.Running.{Running, log_needs}
+use Rattle.tx_running.specs.Plan.{Planned}
+use Rattle.flush_actor.specs.Outcomes.{is_did}
+use Rattle.flush_actor.specs.Part.{FlushPart, at_limit, is_over}
+use Rattle.flush_actor.specs.Steps.{submit_turn, after_submit}
+use Rattle.commit_actor.specs.Actor.{builds_plan}
+use Rattle.commit_actor.specs.Journal.{Plan, Phase, Idle, Closing, Committing, JournalPart, is_closing, is_submitted, committing}
+use Rattle.commit_actor.specs.Steps as actor
+use Rattle.commit_actor.specs.Steps.{CommitTurn}
+use Rattle.host_machine.specs.Host as machine
+use Rattle.host_machine.specs.Host.{Turned}
+use Rattle.host_machine.specs.Model.{Model}
+use Rattle.host_machine.specs.State.{Host, Setup, Entry, Thread}
+use Rattle.host_core.specs.code.Steps.{cuts_after, released}
+
+module _ {T V C R : Type 0} (M : Model T V C R) (u : Setup) where
+  -- ---- the commit actor
+
+  -- what a step leaves, where it notes a cut or not, and where this transaction was on its way before
+  abbrev pub lifted : Bool → Option ℕ → Host V C R → CommitTurn → Turned V C R
+  lifted noted before s x = record {
+    host = record {
+      journal = x.part;
+      volume = released M.release before (committing x.part) s.volume;
+      pages = x.pages;
+      owners = s.owners;
+      history = s.history;
+      cuts = cuts_after noted (length s.history) s.cuts;
+      threads = s.threads;
+    };
+    turn = x.turn;
+  }
+
+  module _ (f : FlushPart) (r : LogRing) (t : Running) (v : V) (ps : List CachedPage) (owners : List ℕ) (history : List (Entry C R)) (cuts : List ℕ) (threads : List (Thread C)) (q : Bool) where
+    abbrev part : Phase → JournalPart
+    part p = record { flush = f; ring = r; running = t; phase = p }
+
+    abbrev host : Phase → Host V C R
+    host p = record { journal = part p; volume = v; pages = ps; owners = owners; history = history; cuts = cuts; threads = threads }
+
+    -- both submit, or not
+    submits_same : (limit full : Bool) (p : Phase) (before : Option ℕ) (out : JournalPart) (outs : List CachedPage) → released M.release before (committing (part p)) v ≡ v
+        → lifted false before (host p) (if limit then record { part = part p; pages = ps; turn = turns.SessionFull } else if full then record { part = part p; pages = ps; turn = turns.QueueFull } else actor.did out outs)
+        ≡ (if limit then record { host = host p; turn = turns.SessionFull } else if full then record { host = host p; turn = turns.QueueFull }
+        else record { host = (lifted false before (host p) (actor.did out outs)).host; turn = turns.Did })
+    submits_same true full p before out outs e = ap (λ (w : V). let x : Turned V C R = record { host = record (host p) { volume = w }; turn = turns.SessionFull } in x) e
+    submits_same false true p before out outs e = ap (λ (w : V). let x : Turned V C R = record { host = record (host p) { volume = w }; turn = turns.QueueFull } in x) e
+    submits_same false false p before out outs e = refl
+
+    idle_same : (due : Bool) → lifted false None (host Idle) (if due then actor.did (part Closing) ps else actor.idle (part Idle) ps)
+        ≡ (if due then record { host = host Closing; turn = turns.Did } else record { host = host Idle; turn = turns.Idle })
+    idle_same true = refl
+    idle_same false = refl
+
+    checkpoint_same : (homes : List Logged) → lifted false None (host Closing) (actor.submits q (part Closing) ps (actor.checkpoint u.writers u.journal u.sequence (part Closing) homes) ps)
+        ≡ machine.submits M u q (host Closing) (machine.checkpoint M u (host Closing) homes)
+    checkpoint_same [] = submits_same (at_limit f) q Closing None _ ps refl
+    checkpoint_same (h ∷ hs) = submits_same (at_limit f) q Closing None _ ps refl
+
+    close_same : (next : Option CachedPage) (short : Bool) →
+        lifted (is_none next && not short) None (host Closing)
+        (elim next as (λ _. CommitTurn) [
+          | Some p ↦ actor.submits q (part Closing) ps (actor.page_sent (part Closing) p) (put_page ps (marked p Firm))
+          | None ↦
+              if short then actor.submits q (part Closing) ps (actor.checkpoint u.writers u.journal u.sequence (part Closing) r.homes) ps
+              else actor.did (actor.plan_built u.writers u.journal u.sequence (M.bytes v) (part Closing)) ps
+        ])
+        ≡ (elim next as (λ _. Turned V C R) [
+          | Some p ↦ machine.submits M u q (host Closing) (machine.send_page M u (host Closing) p true false)
+          | None ↦
+              if short then machine.submits M u q (host Closing) (machine.checkpoint M u (host Closing) r.homes)
+              else record { host = machine.build_plan M u (host Closing); turn = turns.Did }
+        ])
+    close_same (Some p) short = submits_same (at_limit f) q Closing None _ _ refl
+    close_same None true = checkpoint_same r.homes
+    close_same None false = refl
+
+    plan_same : (p : Plan) (rest : List Planned) →
+        lifted false (Some (t.number - 1)) (host (Committing p))
+        (elim rest as (λ _. CommitTurn) [ [] ↦ actor.idle (part (Committing p)) ps | first ∷ more ↦ actor.submits q (part (Committing p)) ps (actor.plan_sent (part (Committing p)) p first more) ps ])
+        ≡ (elim rest as (λ _. Turned V C R) [ [] ↦ record { host = host (Committing p); turn = turns.Idle } | first ∷ more ↦ machine.submits M u q (host (Committing p)) (machine.plan_sent M u (host (Committing p)) p first more) ])
+    plan_same p [] = refl
+    plan_same p (x ∷ []) = submits_same (at_limit f) q (Committing p) (Some (t.number - 1)) _ ps refl
+    plan_same p (x ∷ y ∷ ys) = submits_same (at_limit f) q (Committing p) (Some (t.number - 1)) _ ps refl
+
+    commit_same : (over : Bool) (p : Phase) →
+        lifted (not over && (is_closing p && (is_none (unsent_of ps t.changed) && not (nat_lt (ring_free r) (log_needs t))))) (committing (part p)) (host p)
+        (if over then actor.idle (part p) ps else actor.phase_turn u.writers u.journal u.sequence q (M.bytes v) (part p) ps p)
+        ≡ (if over then record { host = host p; turn = turns.Idle } else machine.in_phase M u q (host p) p)
+    commit_same true Idle = refl
+    commit_same true Closing = refl
+    commit_same true (Committing p) = refl
+    commit_same false Idle = idle_same (t.wanted && is_none (least f.conflicts))
+    commit_same false Closing = close_same (unsent_of ps t.changed) (nat_lt (ring_free r) (log_needs t))
+    commit_same false (Committing p) = plan_same p p.rest
+
+  pub commit_is : (s : Host V C R) (q : Bool) → lifted (builds_plan s.journal s.pages) (committing s.journal) s (actor.commit_turn u.writers u.journal u.sequence q (M.bytes s.volume) s.journal s.pages) ≡ machine.commit_step M u q s
+  commit_is s q = commit_same s.journal.flush s.journal.ring s.journal.running s.volume s.pages s.owners s.history s.cuts s.threads q (is_over s.journal.flush) s.journal.phase
+
+  -- the same, as the code has it
+  pub commit_done : (s : Host V C R) (q : Bool) (j : JournalPart) (v : V) (ps : List CachedPage) (cuts : List ℕ) (t : Turn) (noted : Bool) (before after : Option ℕ) (now : ℕ)
+      → noted ≡ builds_plan s.journal s.pages → before ≡ committing s.journal → after ≡ committing j → now ≡ length s.history
+      → v ≡ released M.release before after s.volume → cuts ≡ cuts_after noted now s.cuts
+      → (let x : CommitTurn = record { part = j; pages = ps; turn = t } in x) ≡ actor.commit_turn u.writers u.journal u.sequence q (M.bytes s.volume) s.journal s.pages
+      → (let x : Turned V C R = record { host = record { journal = j; volume = v; pages = ps; owners = s.owners; history = s.history; cuts = cuts; threads = s.threads }; turn = t } in x) ≡ machine.commit_step M u q s
+  commit_done s q j v ps cuts t noted before after now is_noted is_before is_after is_now volume cut done =
+      ap (λ w. at w cuts) (volume ∙ ap (λ b. released M.release b after s.volume) is_before ∙ ap (λ a. released M.release (committing s.journal) a s.volume) is_after)
+      ∙ ap (at (released M.release (committing s.journal) (committing j) s.volume)) (cut ∙ ap (λ b. cuts_after b now s.cuts) is_noted ∙ ap (λ n. cuts_after (builds_plan s.journal s.pages) n s.cuts) is_now)
+      ∙ ap (lifted (builds_plan s.journal s.pages) (committing s.journal) s) done
+      ∙ commit_is s q
+    where
+      at : V → List ℕ → Turned V C R
+      at w cs = record { host = record { journal = j; volume = w; pages = ps; owners = s.owners; history = s.history; cuts = cs; threads = s.threads }; turn = t }
+
+  -- ---- the write-back
+
+  -- it sends this page
+  pub writeback_is : (s : Host V C R) (q : Bool) (pick : ℕ) (p : CachedPage) (ordered : Bool) → is_over s.journal.flush ≡ false → dirty_page s.pages pick ≡ Some p
+      → ordered ≡ not (is_submitted s.journal (slice_index_or s.owners p.block 0))
+      → machine.submits M u q s (machine.send_page M u s p ordered false) ≡ machine.writeback M u q s pick
+  writeback_is s q pick p ordered over there e =
+      ap (λ o. machine.submits M u q s (machine.send_page M u s p o false)) e
+      ∙ sym (ap picked there)
+      ∙ sym (ap (λ b. if b then idle else picked (dirty_page s.pages pick)) over)
+    where
+      idle : Turned V C R
+      idle = record { host = s; turn = turns.Idle }
+
+      picked : Option CachedPage → Turned V C R
+      picked o = elim o as (λ _. Turned V C R) [
+        | None ↦ idle
+        | Some x ↦ machine.submits M u q s (machine.send_page M u s x (not (is_submitted s.journal (slice_index_or s.owners x.block 0))) false)
+      ]
+
+  abbrev pub page_request : Host V C R → CachedPage → Bool → Request
+  page_request s p ordered = record { id = length s.journal.flush.requests; kind = puts.Put p.block p.body; ordered = ordered; barrier = false }
+
+  pub page_is : (s : Host V C R) (q : Bool) (p : CachedPage) (t : Turn) (ordered : Bool) → t ≡ submit_turn q s.journal.flush → page_at s.pages p.birth p.index ≡ Some p
+      → (let x : Turned V C R = record {
+        host = record s {
+          journal = record s.journal { flush = after_submit t (page_request s p ordered) (notes.Page p.birth p.index p.version) s.journal.flush };
+          pages = if is_did t then mark_page s.pages p.birth p.index (if ordered then Firm else Loose) else s.pages;
+        };
+        turn = t;
+      } in x)
+      ≡ machine.submits M u q s (machine.send_page M u s p ordered false)
+  page_is s q p t ordered e there =
+      ap (λ (t : Turn). let x : Turned V C R = record {
+        host = record s {
+          journal = record s.journal { flush = after_submit t (page_request s p ordered) (notes.Page p.birth p.index p.version) s.journal.flush };
+          pages = if is_did t then mark_page s.pages p.birth p.index (if ordered then Firm else Loose) else s.pages;
+        };
+        turn = t;
+      } in x) e
+      ∙ by (at_limit s.journal.flush) q
+    where
+      marks : mark_page s.pages p.birth p.index (if ordered then Firm else Loose) ≡ put_page s.pages (marked p (if ordered then Firm else Loose))
+      marks = ap (λ (o : Option CachedPage). elim o as (λ _. List CachedPage) [ None ↦ s.pages | Some x ↦ put_page s.pages (marked x (if ordered then Firm else Loose)) ]) there
+
+      by : (limit q : Bool) →
+          (let t = (if limit then turns.SessionFull else if q then turns.QueueFull else turns.Did) in
+          let x : Turned V C R = record {
+            host = record s {
+              journal = record s.journal { flush = after_submit t (page_request s p ordered) (notes.Page p.birth p.index p.version) s.journal.flush };
+              pages = if is_did t then mark_page s.pages p.birth p.index (if ordered then Firm else Loose) else s.pages;
+            };
+            turn = t;
+          } in x)
+          ≡ (if limit then record { host = s; turn = turns.SessionFull } else if q then record { host = s; turn = turns.QueueFull } else record { host = machine.send_page M u s p ordered false; turn = turns.Did })
+      by true q = refl
+      by false true = refl
+      by false false = ap (λ (ps : List CachedPage). let x : Turned V C R = record { host = record (machine.send_page M u s p ordered false) { pages = ps }; turn = turns.Did } in x) marks

@@ -1,0 +1,4 @@
+-- What a host over a volume in use is.
+pub mod Now
+pub mod Entries
+pub mod code

@@ -1,0 +1,3 @@
+-- What the code keeps of its own fields, and how a step goes.
+pub mod Steps
+pub mod Fields
