@@ -1,5 +1,5 @@
 -- A host that is made is the machine's, opened.
-use Rattle.std.proofs.Common.{◌≡◌, ℕ, Bool, true, false, if◌then◌else◌, ◌⊎◌, List, [], ◌∷◌, ◌++◌, length, map, replicate, drop, Option, Some, None, refl, sym, ap, subst, ◌∙◌, inl, inr}
+use Rattle.std.proofs.Common.{◌≡◌, ℕ, Bool, true, false, if◌then◌else◌, ◌⊎◌, List, [], ◌∷◌, ◌++◌, length, map, replicate, drop, None, refl, sym, ap, subst, ◌∙◌, inl, inr}
 use Rattle.blk_base.specs.Members.{In, In-push_cases}
 use Rattle.page_cache.specs.Pages.{Cache}
 use Rattle.page_cache.specs.declared.cached_page.CachedPage.{CachedPage}

@@ -1,5 +1,5 @@
 -- The steps of the actors on their parts are those of the machine.
-use Rattle.std.proofs.Common.{◌≡◌, ℕ, ◌+◌, ◌-◌, Bool, true, false, not, ◌&&◌, List, [], ◌∷◌, ◌++◌, length, map, Option, Some, None, is_none, nat_lt, nat_le, slice_index_or, if◌then◌else◌, refl, sym, ap, subst, ◌∙◌}
+use Rattle.std.proofs.Common.{◌≡◌, ℕ, ◌-◌, Bool, true, false, not, ◌&&◌, List, [], ◌∷◌, length, Option, Some, None, is_none, nat_lt, slice_index_or, if◌then◌else◌, refl, sym, ap, ◌∙◌}
 use Rattle.order_model.specs.declared.note.Note.TheVariants as notes
 use Rattle.order_model.specs.declared.request.Kind.TheVariants as puts
 use Rattle.order_model.specs.declared.request.Request.{Request}
