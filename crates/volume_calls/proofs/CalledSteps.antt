@@ -10,7 +10,7 @@ use Rattle.tree_model.proofs.Changes.{Change as TreeChange, stayed, made_directo
 use Rattle.volume_steps.specs.Now.{VolumeNow, Change, tree_of_now, room_of, unchanged}
 use Rattle.volume_steps.specs.Calls.{Called, called, called_by, changed}
 use Rattle.volume_calls.specs.declared.answer.Answer.TheVariants.{Refused, Change as Changes}
-use Rattle.volume_calls.specs.Asked.{Answers, is_told, is_applied}
+use Rattle.volume_calls.specs.Asked.{Answers}
 
 -- ---- nothing changes
 
@@ -80,24 +80,3 @@ changed_called v n tx c change changes may is = by (outcome (room_of v.geometry)
     by (Ok d) e may =
         ap (λ reply. told change reply) (sym (reply_is (tree_of_now v) n c d (outcome_change (room_of v.geometry) (tree_of_now v) n c d e) changes))
         ∙ ap (λ change. told change d.reply) is
-
--- ---- which calls are done
-
-pub applied_told : (c : Call) → is_applied c ≡ true → is_told c ≡ true
-applied_told (calls.Rename path other) a = absurd (false≢true a)
-applied_told (calls.Write path off len value) a = absurd (false≢true a)
-applied_told (calls.Bytes path off bytes) a = absurd (false≢true a)
-applied_told (calls.Mkdir path) a = refl
-applied_told (calls.Rmdir path) a = refl
-applied_told (calls.Create path) a = refl
-applied_told (calls.Unlink path) a = refl
-applied_told (calls.Link path other) a = refl
-applied_told (calls.Truncate path size) a = refl
-applied_told (calls.Read path off len) a = refl
-applied_told (calls.List path) a = refl
-applied_told (calls.Stat path) a = refl
-applied_told (calls.Fsync path) a = refl
-applied_told (calls.Fdatasync path) a = refl
-applied_told (calls.Fbarrier path) a = refl
-applied_told (calls.Fdatabarrier path) a = refl
-applied_told calls.Sync a = refl

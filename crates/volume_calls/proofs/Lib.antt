@@ -3,6 +3,7 @@ pub mod NameTexts
 pub mod WalkSteps
 pub mod DirectorySlots
 pub mod TakeSteps
+pub mod WriteTakes
 pub mod Applied
 pub mod CalledSteps
 pub mod Doing

@@ -12,13 +12,6 @@ Answers (Refused reply) (Err why) = reply ≡ why
 Answers Change (Ok done) = Unit {0}
 Answers answer row = ⊥
 
--- calls that are told of: all but renames and writes
-abbrev pub is_told : Call → Bool
-is_told (calls.Rename path other) = false
-is_told (calls.Write path off len value) = false
-is_told (calls.Bytes path off bytes) = false
-is_told other = true
-
 -- calls that are done here: those that change nothing, make a node, link or cut a file
 abbrev pub is_applied : Call → Bool
 is_applied (calls.Rmdir path) = false

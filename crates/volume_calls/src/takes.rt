@@ -1,7 +1,7 @@
-//! What refuses a call that makes a name, and which zones it takes.
-ghost use Rattle.std.specs.Prelude.{◌≡◌, ℕ, is_some};
+//! What refuses a call that makes a name or writes bytes, and which zones it takes.
+ghost use Rattle.std.specs.Prelude.{◌≡◌, ◌+◌, ℕ, List, is_some, length, nat_lt};
 ghost use Rattle.tree_model.specs.Maps.{at_name};
-ghost use Rattle.tree_model.specs.Calls.{mkdir, create, link};
+ghost use Rattle.tree_model.specs.Calls.{mkdir, create, largest_size, link, write};
 ghost use Rattle.tree_model.specs.Plain.{AreBornBefore};
 ghost use Rattle.volume_steps.specs.Now.{tree_of_now};
 ghost use Rattle.volume_calls.specs.code.Asked.{IsAsked};
@@ -9,6 +9,7 @@ ghost use Rattle.volume_calls.specs.code.Asked.{IsAsked};
 use crate::PlainVolume;
 use crate::directories::{is_full, slot_zones};
 use crate::paths::names_of;
+use crate::rows::LARGEST_SIZE;
 use crate::walk::Place;
 use tree_model::{ByteList, Reply};
 use volume_model::Part;
@@ -27,6 +28,13 @@ fn is_named(place: &Place<'_>) -> bool
     ensures { result ≡ is_some (at_name place.now.directory.now.names place.now.name) }
 {
     place.directory.names.get(&place.name).is_some()
+}
+
+// So many bytes from `off` on end behind the largest size.
+fn is_too_big(off: u32, len: usize) -> bool
+    ensures { result ≡ nat_lt largest_size (off + len) }
+{
+    off > LARGEST_SIZE || len > (LARGEST_SIZE - off) as usize
 }
 
 impl PlainVolume {
@@ -103,6 +111,26 @@ impl PlainVolume {
         Ok(Wants {
             inode: false,
             zones: slot_zones(place.directory),
+        })
+    }
+
+    // A write of so many bytes from `off` on.
+    pub(crate) fn write(&self, path: &ByteList, off: u32, len: usize) -> Result<Wants, Reply>
+        ensures { (bytes : List ℕ) → length bytes ≡ len →
+            IsAsked (tree_of_now self.now) result (write (tree_of_now self.now) path.now off bytes) }
+    {
+        let parts = &self.parts;
+        let found = self.reached(path)?;
+        if let Part::Directory(_) = &found.placed.part {
+            return Err(Reply::IsDir);
+        }
+        if is_too_big(off, len) {
+            return Err(Reply::TooBig);
+        }
+        let zones = volume_bytes::wanted(&parts.blocks, &found.placed.inode, off, len as u32);
+        Ok(Wants {
+            inode: false,
+            zones,
         })
     }
 }

@@ -1,9 +1,9 @@
 //! Tests of what a new volume answers.
-ghost use Rattle.std.specs.Prelude.{◌≡◌, true, IfOk};
+ghost use Rattle.std.specs.Prelude.{◌≡◌, true, false, IfOk};
 ghost use Rattle.minix_layout.specs.Geometry.{IsSound};
 ghost use Rattle.tree_model.specs.Calls.{leaves_tree};
 ghost use Rattle.volume_model.specs.NewVolume.{new_blocks, root_inode, root_placed};
-ghost use Rattle.volume_calls.specs.Asked.{is_told};
+ghost use Rattle.volume_steps.specs.Plain.{is_rename};
 ghost use Rattle.volume_now.specs.NewNow.{new_now};
 
 use super::*;
@@ -101,7 +101,7 @@ fn path(alloc: Global, text: &[u8]) -> Result<ByteList, NoMemory> {
 
 // What a call is answered, and the zones that it would take.
 fn shown(alloc: Global, volume: &PlainVolume, call: &Call) -> Result<String, AllocError>
-    requires { is_told call.now ≡ true }
+    requires { is_rename call.now ≡ false }
 {
     let zones = volume.needs(call);
     format!(in alloc; "{:?}, {zones}", volume.reply(call))
@@ -165,6 +165,29 @@ fn answers_on_a_new_volume(rt: HostRuntime) -> Result<(), Fail> {
         Some(b'.')
     );
     assert_eq!(rt; volume.block_bytes(64).as_slice().get(2).copied(), Some(0));
+    Ok(())
+}
+
+#[test]
+fn answers_writes_on_a_new_volume(rt: HostRuntime) -> Result<(), Fail> {
+    let alloc = rt.alloc();
+    let volume = new_volume(alloc, SMALL)?;
+    let call = Call::Write {
+        path: path(alloc, b"/")?,
+        off: 0,
+        len: 4,
+        value: 7,
+    };
+    assert_eq!(rt; shown(alloc, &volume, &call)?.as_str(), "Refused(IsDir), 0");
+    let call = Call::Bytes {
+        path: path(alloc, b"/a")?,
+        off: 1024,
+        bytes: path(alloc, b"xyz")?,
+    };
+    assert_eq!(rt;
+        shown(alloc, &volume, &call)?.as_str(),
+        "Refused(NotFound), 0"
+    );
     Ok(())
 }
 
