@@ -5,13 +5,17 @@ use Rattle.tree_model.specs.declared.call.Call.{Call}
 use Rattle.tree_model.specs.declared.call.Call.TheVariants as calls
 use Rattle.tree_model.specs.declared.call.Reply.{Reply}
 use Rattle.tree_model.specs.declared.call.Reply.TheVariants as replies
-use Rattle.tree_model.specs.Calls.{Tree, Row, Done, Place, Found, and_then, names_in, parent_of, walk_path, a_file, link, walk, row, outcome}
+use Rattle.tree_model.specs.Calls.{Tree, Row, Done, Place, Found, and_then, names_in, parent_of, walk_path, a_file, link, walk, row, outcome, write as write_row}
 use Rattle.tree_model.proofs.Rows.{err_ok, then_ok}
 use Rattle.volume_steps.specs.Now.{VolumeNow, Change, tree_of_now, room_of, unchanged}
-use Rattle.volume_steps.specs.Calls.{Called, at_place, called, called_by, changed, create_in, link_in, mkdir_in, truncate_at}
+use Rattle.volume_steps.specs.Calls.{Called, at_place, called, called_by, changed, create_in, link_in, mkdir_in, truncate_at, write, write_at}
 use Rattle.volume_steps.specs.Plain.{IsPlainNow}
 use Rattle.volume_steps.proofs.CallPaths.{done_row, parent_any, at_place_is, at_path_is}
+use Rattle.volume_bytes.specs.Contents.{bytes_of}
+use Rattle.volume_bytes.specs.declared.content.Content.{Content}
+use Rattle.volume_bytes.specs.declared.content.Content.TheVariants as contents
 use Rattle.volume_calls.specs.code.Sites.{place_in}
+use Rattle.volume_calls.specs.code.Writes.{write_call}
 
 pub ok_of : {A E : Type 0} (r : Result A E) → IsOk r → (a : A) × (r ≡ Ok a)
 ok_of (Ok a) h = (a, refl)
@@ -39,6 +43,11 @@ site_there tree path at_root next d reply done none =
     let p = then_ok (parent_of at_root tree w.0) next d w.2 in
     err_ok reply p.0 (sym none ∙ (ap (λ x. and_then x (parent_of replies.Invalid tree)) w.1 ∙ parent_any at_root replies.Invalid tree w.0 p.0 p.1))
 
+pub write_call_row : (tree : Tree) (n : ℕ) (path : List ℕ) (off : ℕ) (content : Content) → row tree n (write_call path off content) ≡ write_row tree path off (bytes_of content)
+unfolding row
+write_call_row tree n path off (contents.Same len value) = refl
+write_call_row tree n path off (contents.Bytes bytes) = refl
+
 module _ (v : VolumeNow) (n : ℕ) (path : List ℕ) (d : Done) where
   abbrev tree : Tree
   tree = tree_of_now v
@@ -55,6 +64,11 @@ module _ (v : VolumeNow) (n : ℕ) (path : List ℕ) (d : Done) where
   unfolding row
   no_cut_path size done reply none =
       let w = then_ok (walk_path tree path) _ d (done_row (room_of v.geometry) tree n (calls.Truncate path size) d done).0 in
+      err_ok reply w.0 (sym none ∙ w.1)
+
+  pub no_write_path : (off : ℕ) (content : Content) → outcome (room_of v.geometry) tree n (write_call path off content) ≡ Ok d → (reply : Reply) → walk_path tree path ≡ Err reply → ⊥
+  no_write_path off content done reply none =
+      let w = then_ok (walk_path tree path) _ d (sym (write_call_row tree n path off content) ∙ (done_row (room_of v.geometry) tree n (write_call path off content) d done).0) in
       err_ok reply w.0 (sym none ∙ w.1)
 
 module _ (v : VolumeNow) (n : ℕ) (path other : List ℕ) (d : Done) where
@@ -103,6 +117,16 @@ mkdir_is v n tx path place p = at_place_is v path p.names place replies.Invalid 
 pub truncate_is : (v : VolumeNow) (n tx : ℕ) (path : List ℕ) (size : ℕ) (found : Found) → walk_path (tree_of_now v) path ≡ Ok found → changed v n tx (calls.Truncate path size) ≡ truncate_at v tx found.birth size
 unfolding changed
 truncate_is v n tx path size found e = ap (λ r. elim r as (λ _. Change) [ Err reply ↦ unchanged v | Ok found ↦ truncate_at v tx found.birth size ]) e
+
+write_changes : (v : VolumeNow) (n tx : ℕ) (path : List ℕ) (off : ℕ) (content : Content) → changed v n tx (write_call path off content) ≡ write v path off (bytes_of content)
+unfolding changed
+write_changes v n tx path off (contents.Same len value) = refl
+write_changes v n tx path off (contents.Bytes bytes) = refl
+
+pub write_is : (v : VolumeNow) (n tx : ℕ) (path : List ℕ) (off : ℕ) (content : Content) (found : Found) → walk_path (tree_of_now v) path ≡ Ok found →
+    changed v n tx (write_call path off content) ≡ write_at v found.birth off (bytes_of content)
+write_is v n tx path off content found e =
+    write_changes v n tx path off content ∙ ap (λ r. elim r as (λ _. Change) [ Err reply ↦ unchanged v | Ok found ↦ write_at v found.birth off (bytes_of content) ]) e
 
 -- the names of a path that was walked
 pub record Walked (tree : Tree) (path : List ℕ) (found : Found) : Type 0 where

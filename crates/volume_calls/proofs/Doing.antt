@@ -1,5 +1,5 @@
 -- Calls on names and bytes, done in the parts of a volume.
-use Rattle.std.proofs.Common.{◌≡◌, ℕ, List, Ok, Err, IsOk, sym, ap, subst, ◌∙◌}
+use Rattle.std.proofs.Common.{◌≡◌, ℕ, List, length, Ok, Err, IsOk, sym, ap, subst, ◌∙◌}
 use Rattle.tree_model.specs.declared.call.Call.{Call}
 use Rattle.tree_model.specs.declared.call.Call.TheVariants as calls
 use Rattle.tree_model.specs.declared.call.Reply.{Reply}
@@ -7,16 +7,20 @@ use Rattle.tree_model.specs.declared.call.Reply.TheVariants as replies
 use Rattle.tree_model.specs.Calls.{Found, walk_path, outcome}
 use Rattle.volume_model.specs.Touched.{Touched}
 use Rattle.volume_steps.specs.Now.{VolumeNow, Change, tree_of_now, room_of}
-use Rattle.volume_steps.specs.Calls.{changed, create_in, link_in, mkdir_in, truncate_at}
+use Rattle.volume_steps.specs.Calls.{changed, create_in, link_in, mkdir_in, truncate_at, write_at}
 use Rattle.volume_steps.specs.Plain.{IsPlainNow}
 use Rattle.volume_steps.specs.laws.Called.{FindsRoom}
 use Rattle.volume_steps.proofs.AllCalls.{any_call}
 use Rattle.volume_names.specs.May.{MayCreate, MayLink, MayMkdir}
 use Rattle.volume_names.proofs.Callers.{create_may, link_may, mkdir_may}
-use Rattle.volume_bytes.specs.MayWrite.{MayTruncate}
-use Rattle.volume_bytes.proofs.MayCall.{may_truncate}
+use Rattle.tree_model.proofs.Changes.{outcome_row}
+use Rattle.volume_bytes.specs.declared.content.Content.{Content}
+use Rattle.volume_bytes.specs.Contents.{bytes_of}
+use Rattle.volume_bytes.specs.MayWrite.{MayTruncate, MayWrite}
+use Rattle.volume_bytes.proofs.MayCall.{may_be_written, may_truncate}
 use Rattle.volume_calls.specs.code.Sites.{IsSite, place_in}
-use Rattle.volume_calls.proofs.Applied.{ok_of, done_plain, parted, no_file_site, no_directory_site, no_cut_path, no_link_path, no_link_site, walked_parts, create_is, link_is, mkdir_is, truncate_is}
+use Rattle.volume_calls.specs.code.Writes.{write_call}
+use Rattle.volume_calls.proofs.Applied.{ok_of, done_plain, parted, no_file_site, no_directory_site, no_cut_path, no_link_path, no_link_site, no_write_path, walked_parts, create_is, link_is, mkdir_is, truncate_is, write_call_row, write_is}
 
 -- what was done is the call's change, and leaves the volume plain
 pub record IsCall (v : VolumeNow) (n tx : ℕ) (c : Call) (w : VolumeNow) (t : Touched) : Type 0 where
@@ -85,6 +89,25 @@ module _ (v parts : VolumeNow) (same : parts ≡ v) (n : ℕ) (path : List ℕ) 
       pub cut_done : (tx : ℕ) (w : VolumeNow) (t : Touched) → ◌≡◌ {A = Change} (record { volume = w; touched = t }) (truncate_at parts tx found.birth size) → IsCall v n tx (calls.Truncate path size) w t
       cut_done tx w t e =
           call_done v n tx (calls.Truncate path size) room may w t (e ∙ (ap (λ (u : VolumeNow). truncate_at u tx found.birth size) same ∙ sym (truncate_is v n tx path size found led)))
+
+  -- ---- a file's bytes
+
+  module _ (off : ℕ) (content : Content) (room : FindsRoom v n (write_call path off content)) (may : IsOk (outcome (room_of v.geometry) (tree_of_now v) n (write_call path off content))) where
+    pub write_led : (reply : Reply) → walk_path (tree_of_now v) path ≡ Err reply → ⊥
+    write_led reply none = (let d = ok_of (outcome (room_of v.geometry) (tree_of_now v) n (write_call path off content)) may in no_write_path v n path d.0 off content d.1 reply none)
+
+    module _ (found : Found) (led : walk_path (tree_of_now v) path ≡ Ok found) where
+      pub write_ready : MayWrite parts found.birth off (length (bytes_of content))
+      write_ready =
+          let c = write_call path off content in
+          let d = ok_of (outcome (room_of v.geometry) (tree_of_now v) n c) may in
+          subst (λ (u : VolumeNow). MayWrite u found.birth off (length (bytes_of content))) (sym same)
+          (may_be_written v room.plain.in_use n c path off (bytes_of content) d.0 (outcome_row (room_of v.geometry) (tree_of_now v) n c d.0 d.1) (write_call_row (tree_of_now v) n path off content) found led room.enough)
+
+      pub write_done : (tx : ℕ) (w : VolumeNow) (t : Touched) → ◌≡◌ {A = Change} (record { volume = w; touched = t }) (write_at parts found.birth off (bytes_of content)) → IsCall v n tx (write_call path off content) w t
+      write_done tx w t e =
+          call_done v n tx (write_call path off content) room may w t
+          (e ∙ (ap (λ (u : VolumeNow). write_at u found.birth off (bytes_of content)) same ∙ sym (write_is v n tx path off content found led)))
 
   -- ---- a file's other name
 

@@ -12,11 +12,9 @@ Answers (Refused reply) (Err why) = reply ≡ why
 Answers Change (Ok done) = Unit {0}
 Answers answer row = ⊥
 
--- calls that are done here: those that change nothing, make a node, link or cut a file
+-- calls that are done here: all but removals and renames
 abbrev pub is_applied : Call → Bool
 is_applied (calls.Rmdir path) = false
 is_applied (calls.Unlink path) = false
 is_applied (calls.Rename path other) = false
-is_applied (calls.Write path off len value) = false
-is_applied (calls.Bytes path off bytes) = false
 is_applied other = true

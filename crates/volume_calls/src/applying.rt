@@ -7,6 +7,7 @@ ghost use Rattle.volume_steps.specs.Calls.{called, changed};
 ghost use Rattle.volume_steps.specs.laws.Called.{FindsRoom};
 ghost use Rattle.volume_calls.specs.Asked.{is_applied};
 ghost use Rattle.volume_calls.specs.code.Sites.{IsSite, place_in};
+ghost use Rattle.volume_calls.specs.code.Writes.{write_call};
 
 use crate::PlainVolume;
 use crate::answer::Answer;
@@ -15,6 +16,7 @@ use blk_base::NoMemory;
 use minix_layout::Name;
 use std::alloc::Global;
 use tree_model::{ByteList, Call, Reply};
+use volume_bytes::Content;
 use volume_now::Touched;
 
 // The directory of a path's last name, by its birth, and the name.
@@ -131,6 +133,27 @@ impl PlainVolume {
         Ok(touched)
     }
 
+    fn write_file(
+        &mut self,
+        alloc: Global,
+        n: u64,
+        path: &ByteList,
+        off: u32,
+        content: &Content<'_>,
+    ) -> Result<Touched, NoMemory>
+        requires room { FindsRoom self.old n (write_call path.now off content.now) }
+        requires may { IsOk (outcome (room_of self.old.geometry) (tree_of_now self.old) n (write_call path.now off content.now)) }
+        ensures done { (tx : ℕ) → IfOk result (λ t. record { volume = self.new; touched = t.touched } ≡ changed self.old n tx (write_call path.now off content.now)) }
+        ensures memory { OnErr result (self.new ≡ self.old) }
+    {
+        let birth = match self.reached(path) {
+            Ok(found) => found.birth,
+            Err(_) => unreachable!(),
+        };
+        let touched = volume_bytes::write(alloc, &mut self.parts, birth, off, content)?;
+        Ok(touched)
+    }
+
     // Does a call that nothing refuses.
     fn change(&mut self, alloc: Global, n: u64, tx: u32, call: &Call) -> Result<Touched, NoMemory>
         requires room { FindsRoom self.old n call.now }
@@ -145,13 +168,29 @@ impl PlainVolume {
             Call::Create(path) => self.make_file(alloc, n, path),
             Call::Link(path, other) => self.add_link(alloc, n, path, other),
             Call::Truncate(path, size) => self.cut_file(alloc, n, tx, path, *size),
+            Call::Write {
+                path,
+                off,
+                len,
+                value,
+            } => {
+                let content = Content::Same {
+                    len: *len,
+                    value: *value,
+                };
+                self.write_file(alloc, n, path, *off, &content)
+            }
+            Call::Bytes { path, off, bytes } => {
+                let content = Content::Bytes(bytes.as_slice());
+                self.write_file(alloc, n, path, *off, &content)
+            }
             _ => unreachable!(),
         }
     }
 
     /// Does the call with number `n` in transaction `tx`, and gives its reply and what it touched. Memory is asked for
-    /// before the first write, and where it is refused all is as before. Renames are not built yet; writes and
-    /// removals are not done here yet.
+    /// before the first write, and where it is refused all is as before. Renames are not built yet; removals are not
+    /// done here yet.
     pub fn apply(
         &mut self,
         alloc: Global,
