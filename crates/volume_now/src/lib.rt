@@ -9,8 +9,8 @@
 //! Stands on `volume_steps`, whose plain data a volume is, and on `volume_edits` for single writes.
 #![tactic(auto)]
 
-mod taking;
 mod new;
+mod taking;
 #[cfg(test)]
 mod tests;
 mod touched;

@@ -12,8 +12,7 @@ pub loop-birth-init : goal.loop-birth-init
 loop-birth-init c =
     let v : VolumeNow = c.args.v.now in
     let same : c.into_iter-birth-iterator.result ≡ v.contents.nodes = c.into_iter-birth-iterator.ensures.into_iter_gives.0 ∙ ap (λ (v : VolumeNow). v.contents.nodes) c.v.view_is in
-    let stands = c.requires.in_use.volume.0 in
-    (
+    let stands = c.requires.in_use.volume.0 in (
       rw c.new-tree.ensures (ap (tree_now v.contents.blocks) same),
       λ e i. (stands.each e.0 e.1 (In-at v.contents.nodes e.0 e.1 stands.in_order (subst (λ (es : List (ℕ × Placed)). In e es) same i))).part,
     )
@@ -28,10 +27,9 @@ pub loop-birth-preserved : goal.loop-birth-preserved
 loop-birth-preserved c =
     let v : VolumeNow = c.args.v.now in
     let blocks = ap (λ (v : VolumeNow). v.contents.blocks) c.v.view_is in
-    let steps : c.loop-birth.birth-iterator ≡ (c.in-Some.birth.now, c.in-Some.placed.now) ∷ c.next.new.self = c.in-Some.ensures.steps in
-    (
+    let steps : c.loop-birth.birth-iterator ≡ (c.in-Some.birth.now, c.in-Some.placed.now) ∷ c.next.new.self = c.in-Some.ensures.steps in (
       node_turn v.contents.blocks v.contents.nodes c.loop-birth.birth-iterator c.next.new.self c.in-Some.birth.now c.in-Some.placed.now c.loop-birth.tree c.put.new.self c.in_ok-node.field-0
-      c.requires.in_use.volume.0.in_order steps (c.in_ok-node.ensures ∙ ap (λ b. node_now b c.in-Some.placed.now) blocks) c.loop-birth.invariant.0 c.in_ok-put.ensures.put,
+          c.requires.in_use.volume.0.in_order steps (c.in_ok-node.ensures ∙ ap (λ b. node_now b c.in-Some.placed.now) blocks) c.loop-birth.invariant.0 c.in_ok-put.ensures.put,
       λ e i. c.loop-birth.invariant.1 e (rw steps (inr i)),
     )
 
