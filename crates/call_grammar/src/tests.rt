@@ -1,7 +1,7 @@
 //! Calls that were read by hand.
 use super::*;
 use script_words::{LineFault, WordsError};
-use std::alloc::Global;
+use std::alloc::{AllocError, Global};
 use std::process::Abort;
 use std::test::Fail;
 use tree_model::Call;
@@ -21,45 +21,33 @@ fn expect_fault(rt: &impl Abort, found: Result<Call, WordsError>, fault: LineFau
     }
 }
 
+// A call that is read, or its fault, as text.
+fn shown(alloc: Global, word: &[u8], words: &[&[u8]]) -> Result<String, AllocError> {
+    match call(alloc, word, words) {
+        Ok(call) => format!(in alloc; "{call:?}"),
+        Err(error) => format!(in alloc; "{error:?}"),
+    }
+}
+
 #[test]
 fn reads_calls(rt: HostRuntime) -> Result<(), Fail> {
     let alloc = rt.alloc();
-    match call(alloc, b"write", &[b"/a", b"10", b"65536", b"7e"]) {
-        Ok(
-            Call::Write {
-                path,
-                off,
-                len,
-                value,
-            },
-        ) => {
-            assert_eq!(rt; path.as_slice(), b"/a".as_slice());
-            assert_eq!(rt; (off, len), (10, 65_536));
-            assert_eq!(rt; value, 0x7E);
-        }
-        _ => assert!(rt; false, "no write"),
-    }
-    match call(alloc, b"bytes", &[b"?", b"4294967295", b"aBcD"]) {
-        Ok(Call::Bytes { path, off, bytes }) => {
-            assert_eq!(rt; path.as_slice(), b"?".as_slice());
-            assert_eq!(rt; off, u32::MAX);
-            assert_eq!(rt; bytes.as_slice(), [0xAB, 0xCD].as_slice());
-        }
-        _ => assert!(rt; false, "no bytes"),
-    }
-    match call(alloc, b"rename", &[b"/a", b"/b"]) {
-        Ok(Call::Rename(path, other)) => {
-            assert_eq!(rt; path.as_slice(), b"/a".as_slice());
-            assert_eq!(rt; other.as_slice(), b"/b".as_slice());
-        }
-        _ => assert!(rt; false, "no rename"),
-    }
-    assert!(rt; matches!(call(alloc, b"sync", &[]), Ok(Call::Sync)));
-    assert!(rt;
-        matches!(
-            call(alloc, b"fdatabarrier", &[b"/a"]),
-            Ok(Call::Fdatabarrier(_))
-        )
+    assert_eq!(rt;
+        shown(alloc, b"write", &[b"/a", b"10", b"65536", b"7e"])?.as_str(),
+        "Write { path: ByteList { bytes: [47, 97] }, off: 10, len: 65536, value: 126 }"
+    );
+    assert_eq!(rt;
+        shown(alloc, b"bytes", &[b"?", b"4294967295", b"aBcD"])?.as_str(),
+        "Bytes { path: ByteList { bytes: [63] }, off: 4294967295, bytes: ByteList { bytes: [171, 205] } }"
+    );
+    assert_eq!(rt;
+        shown(alloc, b"rename", &[b"/a", b"/b"])?.as_str(),
+        "Rename(ByteList { bytes: [47, 97] }, ByteList { bytes: [47, 98] })"
+    );
+    assert_eq!(rt; shown(alloc, b"sync", &[])?.as_str(), "Sync");
+    assert_eq!(rt;
+        shown(alloc, b"fdatabarrier", &[b"/a"])?.as_str(),
+        "Fdatabarrier(ByteList { bytes: [47, 97] })"
     );
     calls_are_spelled();
     Ok(())

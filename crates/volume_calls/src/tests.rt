@@ -168,29 +168,6 @@ fn answers_on_a_new_volume(rt: HostRuntime) -> Result<(), Fail> {
     Ok(())
 }
 
-#[test]
-fn answers_writes_on_a_new_volume(rt: HostRuntime) -> Result<(), Fail> {
-    let alloc = rt.alloc();
-    let volume = new_volume(alloc, SMALL)?;
-    let call = Call::Write {
-        path: path(alloc, b"/")?,
-        off: 0,
-        len: 4,
-        value: 7,
-    };
-    assert_eq!(rt; shown(alloc, &volume, &call)?.as_str(), "Refused(IsDir), 0");
-    let call = Call::Bytes {
-        path: path(alloc, b"/a")?,
-        off: 1024,
-        bytes: path(alloc, b"xyz")?,
-    };
-    assert_eq!(rt;
-        shown(alloc, &volume, &call)?.as_str(),
-        "Refused(NotFound), 0"
-    );
-    Ok(())
-}
-
 // What a call is answered that changes nothing.
 fn asked(alloc: Global, volume: &PlainVolume, call: &Call) -> Result<String, AllocError>
     requires { leaves_tree call.now ≡ true }
