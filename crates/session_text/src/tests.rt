@@ -49,6 +49,25 @@ fn prints_replies(rt: HostRuntime) -> Result<(), Fail> {
     Ok(())
 }
 
+#[test]
+fn prints_refusals(rt: HostRuntime) -> Result<(), Fail> {
+    let alloc = rt.alloc();
+    assert_eq!(rt; text(alloc, &Reply::NotFound)?.as_str(), "not found");
+    assert_eq!(rt; text(alloc, &Reply::Exists)?.as_str(), "exists");
+    assert_eq!(rt; text(alloc, &Reply::NotDir)?.as_str(), "not a directory");
+    assert_eq!(rt; text(alloc, &Reply::IsDir)?.as_str(), "is a directory");
+    assert_eq!(rt; text(alloc, &Reply::NotEmpty)?.as_str(), "not empty");
+    assert_eq!(rt; text(alloc, &Reply::NameTooLong)?.as_str(), "name too long");
+    assert_eq!(rt; text(alloc, &Reply::TooBig)?.as_str(), "too big");
+    assert_eq!(rt; text(alloc, &Reply::NoSpace)?.as_str(), "no space");
+    assert_eq!(rt; text(alloc, &Reply::NoInode)?.as_str(), "no inode");
+    assert_eq!(rt; text(alloc, &Reply::BadPath)?.as_str(), "bad path");
+    assert_eq!(rt; text(alloc, &Reply::Invalid)?.as_str(), "invalid");
+    assert_eq!(rt; text(alloc, &Reply::Down)?.as_str(), "down");
+    assert_eq!(rt; text(alloc, &Reply::SessionFull)?.as_str(), "session full");
+    Ok(())
+}
+
 // The line of the third of four calls.
 fn third(alloc: Global, state: Stand) -> Result<String, AllocError> {
     let mut out = String::new(alloc);
