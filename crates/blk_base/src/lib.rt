@@ -11,8 +11,6 @@ mod memory;
 mod reading;
 mod sink;
 mod source;
-#[cfg(test)]
-mod tests;
 mod writing;
 
 pub use block::Block;

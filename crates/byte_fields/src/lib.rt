@@ -11,8 +11,6 @@ ghost use Rattle.byte_fields.specs.Fields.{Order, number_at, put, zeros};
 ghost use Rattle.byte_fields.specs.Fields.Order.{little, big};
 
 mod laws;
-#[cfg(test)]
-mod tests;
 
 use byteorder::{BigEndian, ByteOrder, LittleEndian};
 pub use laws::{fields_are_read, numbers_are_read, records_are_read};

@@ -5,8 +5,6 @@
 
 mod hex;
 mod runs;
-#[cfg(test)]
-mod tests;
 
 pub use hex::put_hex;
 pub use runs::{put_runs, runs_are_maximal};

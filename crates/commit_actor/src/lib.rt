@@ -15,8 +15,6 @@ mod journal_part;
 mod log;
 mod phase;
 mod sending;
-#[cfg(test)]
-mod tests;
 
 pub use actor::commit_step;
 pub use journal_part::JournalPart;

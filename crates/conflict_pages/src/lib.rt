@@ -14,8 +14,6 @@ mod commits;
 mod conflicts;
 mod held;
 mod laws;
-#[cfg(test)]
-mod tests;
 
 pub use commits::{CommitBlock, Commits};
 pub use conflicts::Conflicts;

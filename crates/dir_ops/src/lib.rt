@@ -8,8 +8,6 @@
 
 mod laws;
 mod slots;
-#[cfg(test)]
-mod tests;
 
 pub use laws::{
     added_names_are_found, names_are_found, removed_names_are_gone, room_is_the_least_free_place,

@@ -6,7 +6,5 @@
 #![tactic(auto)]
 
 mod sched;
-#[cfg(test)]
-mod tests;
 
 pub use sched::Sched;

@@ -10,8 +10,6 @@ mod blocks;
 mod encode;
 mod laws;
 mod map;
-#[cfg(test)]
-mod tests;
 
 pub use blocks::ZoneBlocks;
 pub use encode::encode_zone_block;

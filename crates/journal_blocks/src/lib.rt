@@ -21,8 +21,6 @@ mod lists;
 mod log_block;
 mod super_block;
 mod tag;
-#[cfg(test)]
-mod tests;
 mod writing;
 
 pub use escapes::{escape, restore};

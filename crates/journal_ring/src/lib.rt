@@ -14,8 +14,6 @@ mod homes;
 mod laws;
 mod logged_body;
 mod ring;
-#[cfg(test)]
-mod tests;
 
 pub use laws::{
     bodies_wait_until_they_are_sent, last_bodies_wait_to_be_sent_home, places_are_free_or_in_use,

@@ -21,8 +21,6 @@ mod slot;
 mod slots;
 mod superblock;
 mod table;
-#[cfg(test)]
-mod tests;
 mod zones;
 
 pub use bits::{BitPlace, read_bit, write_bit};

@@ -11,8 +11,6 @@
 mod laws;
 mod search;
 mod sets;
-#[cfg(test)]
-mod tests;
 
 pub use laws::sets_have_what_was_added;
 pub use sets::{add_u32, add_u64, has_u32, has_u64, take_u32};

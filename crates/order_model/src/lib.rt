@@ -19,8 +19,6 @@ mod order_law;
 mod part;
 mod request;
 mod sched_record;
-#[cfg(test)]
-mod tests;
 mod trail;
 mod turn;
 

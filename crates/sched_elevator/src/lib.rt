@@ -8,7 +8,5 @@
 mod elevator;
 mod gathering;
 mod searches;
-#[cfg(test)]
-mod tests;
 
 pub use elevator::{Elevator, lists_requests_as_the_head_meets_them};

@@ -22,8 +22,6 @@ mod rename;
 mod replies;
 mod rows;
 mod step;
-#[cfg(test)]
-mod tests;
 mod walk;
 mod zones;
 

@@ -24,8 +24,6 @@ mod maps;
 mod node;
 mod path;
 mod path_text;
-#[cfg(test)]
-mod tests;
 mod text;
 
 pub use call::{Call, Reply, Room};

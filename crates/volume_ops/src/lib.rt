@@ -21,8 +21,6 @@ mod laws;
 mod marks;
 mod places;
 mod slots;
-#[cfg(test)]
-mod tests;
 mod visit;
 mod volume;
 mod walk;

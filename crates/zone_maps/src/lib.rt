@@ -11,8 +11,6 @@
 
 mod laws;
 mod search;
-#[cfg(test)]
-mod tests;
 mod zone_map;
 mod zone_state;
 

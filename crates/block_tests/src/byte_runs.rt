@@ -1,0 +1,35 @@
+//! Runs and digits that were written by hand.
+use byte_text::{put_hex, put_runs, runs_are_maximal};
+use std::alloc::{AllocError, Global};
+use std::test::Fail;
+
+fn runs(alloc: Global, bytes: &[u8]) -> Result<String, AllocError> {
+    let mut out = String::new(alloc);
+    put_runs(&mut out, bytes)?;
+    Ok(out)
+}
+
+#[test]
+fn writes_runs(rt: HostRuntime) -> Result<(), Fail> {
+    let rows: [(&[u8], &str); 4] = [
+        (b"", "-"),
+        (b"aaa", "3x61"),
+        (&[0, 0, 1], "2x00+1x01"),
+        (&[0xFF, 0, 0xFF], "1xff+1x00+1xff"),
+    ];
+    for (bytes, text) in rows {
+        assert_eq!(rt; runs(rt.alloc(), bytes)?.as_str(), text);
+    }
+    assert_eq!(rt; runs(rt.alloc(), &[0x7E; 1024])?.as_str(), "1024x7e");
+    runs_are_maximal();
+    Ok(())
+}
+
+#[test]
+fn writes_a_byte(rt: HostRuntime) -> Result<(), Fail> {
+    let mut out = String::new(rt.alloc());
+    put_hex(&mut out, 0xA7)?;
+    put_hex(&mut out, 0x09)?;
+    assert_eq!(rt; out.as_str(), "a709");
+    Ok(())
+}

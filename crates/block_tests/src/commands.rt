@@ -1,0 +1,178 @@
+//! Tests: parts, commands, lists and queues of a few items.
+ghost use Rattle.std.specs.Prelude.{◌≡◌};
+
+use blk_base::{Block, NoMemory};
+use order_model::{
+    Command, Commands, Completion, History, Inlet, Kind, ListQueue, Outlet, Part, Parts, Priority,
+    Request,
+};
+use std::process::Abort;
+
+// A part whose body is its block's number, over and over.
+fn part(id: u64, block: u8) -> Part {
+    Part {
+        id,
+        block: u32::from(block),
+        body: Block::fill(block),
+    }
+}
+
+// Puts two numbers by the bounds alone, and takes one.
+fn passes<Q: Outlet<u32> + Inlet<u32>>(
+    queue: &mut Q,
+) -> (Result<(), u32>, Result<(), u32>, Option<u32>) {
+    (queue.put(7), queue.put(8), queue.take())
+}
+
+#[test]
+fn queue_keeps_order(rt: HostRuntime) -> Result<(), NoMemory> {
+    let mut queue = ListQueue::make(rt.alloc(), 3)?;
+    assert_eq!(rt; queue.take(), None);
+    for number in [10, 20, 30] {
+        assert_eq!(rt; queue.put(number), Ok(()));
+    }
+    assert_eq!(rt; queue.put(40), Err(40));
+    assert_eq!(rt; queue.take(), Some(10));
+    assert_eq!(rt; queue.put(50), Ok(()));
+    assert_eq!(rt; queue.put(60), Err(60));
+    for number in [20, 30, 50] {
+        assert_eq!(rt; queue.take(), Some(number));
+    }
+    assert_eq!(rt; queue.take(), None);
+    Ok(())
+}
+
+#[test]
+fn queue_of_no_room(rt: HostRuntime) -> Result<(), NoMemory> {
+    let mut queue = ListQueue::make(rt.alloc(), 0)?;
+    assert!(rt; queue.is_full());
+    assert_eq!(rt; queue.put(1), Err(1));
+    assert_eq!(rt; queue.take(), None);
+    Ok(())
+}
+
+#[test]
+fn queue_by_its_bounds(rt: HostRuntime) -> Result<(), NoMemory> {
+    let mut queue = ListQueue::make(rt.alloc(), 1)?;
+    assert_eq!(rt; passes(&mut queue), (Ok(()), Err(8), Some(7)));
+    Ok(())
+}
+
+#[test]
+fn parts_follow(rt: HostRuntime) {
+    let mut parts = Parts::none();
+    assert!(rt; parts.is_empty());
+    for block in 0..16 {
+        assert_eq!(rt; parts.push(part(u64::from(block) + 100, block + 3)), Ok(()));
+    }
+    assert_eq!(rt; parts.push(part(116, 19)), Err(part(116, 19)));
+    assert_eq!(rt; parts.len(), 16);
+    assert_eq!(rt; parts.get(0), Some(&part(100, 3)));
+    assert_eq!(rt; parts.get(15), Some(&part(115, 18)));
+    assert_eq!(rt; parts.get(16), None);
+    assert_eq!(rt; parts.get(u32::MAX), None);
+
+    let mut parts = Parts::one(part(1, 5));
+    for block in [5, 7, 4] {
+        assert_eq!(rt;
+            parts.push(part(2, block)),
+            Err(part(2, block)),
+            "block {block}"
+        );
+    }
+    assert_eq!(rt; parts.push(part(2, 6)), Ok(()));
+    assert_eq!(rt; parts.as_slice(), [part(1, 5), part(2, 6)].as_slice());
+}
+
+#[test]
+fn requests_copy(rt: HostRuntime) {
+    let put = Request {
+        id: 3,
+        kind: Kind::Put {
+            block: 9,
+            body: Block::fill(4),
+        },
+        ordered: true,
+        barrier: true,
+    };
+    assert_eq!(rt; put.copy(), put);
+    let flush = Request {
+        id: 4,
+        kind: Kind::Flush,
+        ordered: true,
+        barrier: false,
+    };
+    assert_eq!(rt; flush.copy(), flush);
+}
+
+#[test]
+fn commands_of_one_request(rt: HostRuntime) {
+    let put = Request {
+        id: 3,
+        kind: Kind::Put {
+            block: 9,
+            body: Block::fill(9),
+        },
+        ordered: true,
+        barrier: false,
+    };
+    let command = Command::of_request(put, true);
+    assert_eq!(rt; command.parts.as_slice(), [part(3, 9)].as_slice());
+    assert_eq!(rt; command.priority, Priority::Ordered);
+    assert!(rt; command.barrier && command.flush.is_none());
+}
+
+// A command of these parts, or a flush.
+fn command(parts: Parts, flush: Option<u64>) -> Command
+    ensures { result.parts ≡ parts }
+{
+    Command {
+        parts,
+        priority: Priority::Ordered,
+        barrier: false,
+        flush,
+    }
+}
+
+// A put of blocks 5 and 6, a flush, and a put of block 9.
+#[test]
+fn commands_in_order(rt: HostRuntime) -> Result<(), NoMemory> {
+    let mut commands = Commands::make(rt.alloc(), 3)?;
+    assert!(rt; commands.is_empty());
+    let mut parts = Parts::one(part(0, 5));
+    assert!(rt; parts.push(part(1, 6)).is_ok());
+    commands.push(&command(parts, None));
+    commands.push(&command(Parts::none(), Some(2)));
+    commands.push(&command(Parts::one(part(3, 9)), None));
+    assert_eq!(rt; commands.len(), 3);
+    assert_eq!(rt;
+        commands.parts(),
+        [part(0, 5), part(1, 6), part(3, 9)].as_slice()
+    );
+    for (k, first) in [(0, 0), (1, 2), (2, 2), (3, 3)] {
+        assert_eq!(rt; commands.first_part(k), first, "command {k}");
+    }
+    Ok(())
+}
+
+#[test]
+fn history_grows(rt: HostRuntime) -> Result<(), NoMemory> {
+    let mut history = History::make(rt.alloc(), 2)?;
+    assert!(rt; history.as_slice().is_empty());
+    history.push(Completion::Moved(4));
+    history.push(Completion::Cut);
+    assert_eq!(rt;
+        history.as_slice(),
+        [Completion::Moved(4), Completion::Cut].as_slice()
+    );
+    Ok(())
+}
+
+#[test]
+fn begins_with_nothing(rt: HostRuntime) -> Result<(), NoMemory> {
+    assert!(rt; Parts::none().is_empty());
+    let commands = Commands::make(rt.alloc(), 1)?;
+    assert!(rt; commands.is_empty());
+    assert_eq!(rt; commands.len(), 0);
+    Ok(())
+}

@@ -1,0 +1,15 @@
+//! Tests of the parts of a host: cached pages, conflicts, the ring of the log, and the flush and commit actors.
+//!
+//! Stands on `page_cache`, `conflict_pages`, `journal_ring`, `flush_actor` and `commit_actor`.
+#![tactic(auto)]
+
+#[cfg(test)]
+mod commits;
+#[cfg(test)]
+mod conflicts;
+#[cfg(test)]
+mod flushes;
+#[cfg(test)]
+mod pages;
+#[cfg(test)]
+mod ring;

@@ -1,0 +1,193 @@
+//! Superblocks, inodes, slots and maps, with bytes worked out by hand.
+ghost use Rattle.std.specs.Prelude.{◌≤◌, length};
+
+use blk_base::Block;
+use minix_layout::{
+    BitPlace, Geometry, Inode, LayoutFault, Name, TooSmall, Zones, bits_are_read, inodes_are_read,
+    maps_are_read, read_bit, read_inode, read_slot, read_super, slots_are_read, super_is_read,
+    write_bit, write_inode, write_slot, write_super,
+};
+
+// A block whose first bytes are these, and the others 0.
+fn block(front: &[u8]) -> Block
+    requires { length front.now ≤ 1024 }
+{
+    let mut b = Block::fill(0);
+    for (at, byte) in front.iter().enumerate() {
+        b.set(at, *byte);
+    }
+    b
+}
+
+// The superblock of 100 inodes and 1,000 zones.
+const SUPER: [u8; 20] = [
+    0x64, 0, 0xE8, 0x03, 1, 0, 1, 0, 8, 0, 0, 0, 0x00, 0x1C, 0x08, 0x10, 0x7F, 0x13, 1, 0,
+];
+
+#[test]
+fn makes_and_writes_a_superblock(rt: HostRuntime) {
+    let made = Geometry {
+        inodes: 100,
+        zones: 1000,
+        imap: 1,
+        zmap: 1,
+        first: 8,
+        width: 14,
+    };
+    assert_eq!(rt; Geometry::make(100, 1000), Ok(made));
+    assert!(rt; write_super(&made) == block(&SUPER));
+    assert_eq!(rt; read_super(&block(&SUPER)), Ok(made));
+    assert_eq!(rt; Geometry::make(100, 8), Err(TooSmall));
+    assert_eq!(rt; Geometry::make(100, 9).map(|g| g.first), Ok(8));
+    assert_eq!(rt;
+        Geometry::make(u16::MAX, u16::MAX).map(|g| g.first),
+        Ok(2066)
+    );
+    super_is_read();
+    inodes_are_read();
+    slots_are_read();
+    bits_are_read();
+    maps_are_read();
+}
+
+#[test]
+fn refuses_superblocks(rt: HostRuntime) {
+    let rows: [(&str, usize, [u8; 2], LayoutFault); 9] = [
+        (
+            "names of 30 bytes",
+            16,
+            [0x8F, 0x13],
+            LayoutFault::NameWidth,
+        ),
+        ("version 2", 16, [0x68, 0x24], LayoutFault::BadMagic),
+        ("zones of two blocks", 10, [1, 0], LayoutFault::BadGeometry),
+        ("no inodes", 0, [0, 0], LayoutFault::BadGeometry),
+        ("no zone of data", 2, [8, 0], LayoutFault::BadGeometry),
+        (
+            "a zone of data in the tables",
+            8,
+            [7, 0],
+            LayoutFault::BadGeometry,
+        ),
+        (
+            "too few bits for the inodes",
+            4,
+            [0, 0],
+            LayoutFault::BadGeometry,
+        ),
+        (
+            "too few bits for the zones",
+            6,
+            [0, 0],
+            LayoutFault::BadGeometry,
+        ),
+        (
+            "sums above 16 bits",
+            4,
+            [0xFF, 0xFF],
+            LayoutFault::BadGeometry,
+        ),
+    ];
+    for (what, at, bytes, fault) in rows {
+        assert!(rt; at < 1000);
+        let mut b = block(&SUPER);
+        b.set(at, bytes[0]);
+        b.set(at + 1, bytes[1]);
+        assert_eq!(rt; read_super(&b), Err(fault), "{what}");
+    }
+}
+
+#[test]
+fn writes_the_maps(rt: HostRuntime) {
+    let Ok(g) = Geometry::make(8192, 16384) else {
+        panic!(rt; "no volume");
+    };
+    let rows: [(BitPlace, u32, u16); 4] = [
+        (g.inode_bit(1), 2, 1),
+        (g.inode_bit(8192), 3, 0),
+        (g.zone_bit(263), 4, 1),
+        (g.zone_bit(8454), 5, 0),
+    ];
+    for (place, block, at) in rows {
+        assert_eq!(rt; (place.block, place.at), (block, at));
+    }
+    let mut b = Block::fill(0);
+    for at in [0, 1, 9, 8191] {
+        write_bit(&mut b, at, true);
+    }
+    write_bit(&mut b, 1, false);
+    assert_eq!(rt; &b.as_slice()[..3], [1, 2, 0].as_slice());
+    assert_eq!(rt; b.as_slice()[1023], 0x80);
+    assert!(rt; read_bit(&b, 9) && !read_bit(&b, 10));
+}
+
+const INODE: [u8; 32] = [
+    0xA4, 0x81, 0x02, 0x01, 0x45, 0x23, 0x01, 0x80, 0xFF, 0x10, 0x5E, 0x5F, 7, 2, 0x10, 0, 0x11, 0,
+    0x12, 0, 0, 0, 0x14, 0, 0x15, 0, 0x16, 0, 0x34, 0x12, 0xFF, 0xFF,
+];
+
+#[test]
+fn reads_and_writes_an_inode(rt: HostRuntime) {
+    let inode = Inode {
+        mode: 0x81A4,
+        uid: 0x0102,
+        size: 0x8001_2345,
+        time: 0x5F5E_10FF,
+        gid: 7,
+        links: 2,
+        zones: Zones::of([0x10, 0x11, 0x12, 0, 0x14, 0x15, 0x16, 0x1234, 0xFFFF]),
+    };
+    let mut b = Block::fill(0xAA);
+    write_inode(&mut b, 31, &inode);
+    let (before, written) = b.as_slice().split_at(992);
+    assert!(rt; before.iter().all(|byte| *byte == 0xAA));
+    assert_eq!(rt; written, INODE.as_slice());
+    assert_eq!(rt; read_inode(&b, 31), inode);
+    assert_eq!(rt; read_inode(&block(&INODE), 0), inode);
+    assert_eq!(rt; read_inode(&b, 30).zones.zone(8), 0xAAAA);
+}
+
+// Two slots in use, a free one, an empty name, and a name with a `/`.
+const SLOTS: [u8; 80] = [
+    5, 0, b'a', b'b', 0, b'/', 0xFF, 0, 0, 0, 0, 0, 0, 0, 0, 0, //
+    0x34, 0x12, 0x80, 0xFF, b'c', b'd', b'e', b'f', b'g', b'h', b'i', b'j', b'k', b'l', b'm', b'n', //
+    0, 0, b'/', 0, b'x', 0, 0, 0, 0, 0, 0, 0, 0, 0, 0, 0, //
+    1, 0, 0, b'a', 0, 0, 0, 0, 0, 0, 0, 0, 0, 0, 0, 0, //
+    1, 0, b'a', b'/', 0, 0, 0, 0, 0, 0, 0, 0, 0, 0, 0, 0, //
+];
+
+#[test]
+fn reads_and_writes_slots(rt: HostRuntime) {
+    let mut b = block(&SLOTS);
+    let rows: [(u8, u16, &[u8]); 2] = [(0, 5, b"ab"), (1, 0x1234, b"\x80\xFFcdefghijklmn")];
+    for (at, inode, name) in rows {
+        assert!(rt; at < 2);
+        let Ok(Some(slot)) = read_slot(&b, at) else {
+            panic!(rt; "no slot at {at}");
+        };
+        assert_eq!(rt; slot.inode, inode);
+        assert_eq!(rt; slot.name.as_slice(), name);
+        write_slot(&mut b, at + 5, Some(&slot));
+    }
+    assert_eq!(rt; &b.as_slice()[80..86], [5, 0, b'a', b'b', 0, 0].as_slice());
+    assert_eq!(rt; &b.as_slice()[96..112], &SLOTS[16..32]);
+    assert!(rt; matches!(read_slot(&b, 2), Ok(None)));
+    assert!(rt; matches!(read_slot(&b, 3), Err(LayoutFault::BadSlot)));
+    assert!(rt; matches!(read_slot(&b, 4), Err(LayoutFault::BadSlot)));
+    write_slot(&mut b, 1, None);
+    assert!(rt; b.as_slice()[16..32].iter().all(|byte| *byte == 0));
+}
+
+#[test]
+fn takes_names(rt: HostRuntime) {
+    let rows: [(&[u8], bool); 5] = [
+        (b"", false),
+        (b"a", true),
+        (b"a\0b", false),
+        (b"fourteen bytes", true),
+        (b"fifteen bytes .", false),
+    ];
+    for (bytes, taken) in rows {
+        assert_eq!(rt; Name::of(bytes).is_some(), taken);
+    }
+}

@@ -1,0 +1,19 @@
+//! Tests of what a Minix V1 volume has, part by part, and of trees and calls on them.
+//!
+//! Stands on `minix_layout`, `zone_maps`, `inode_ops`, `dir_ops`, `tree_model`, `tree_calls` and `volume_ops`.
+#![tactic(auto)]
+
+#[cfg(test)]
+mod calls_on_trees;
+#[cfg(test)]
+mod directory_slots;
+#[cfg(test)]
+mod file_maps;
+#[cfg(test)]
+mod free_zones;
+#[cfg(test)]
+mod layout;
+#[cfg(test)]
+mod trees;
+#[cfg(test)]
+mod walks;

@@ -1,0 +1,184 @@
+//! The text of a tree, paths, copies, and what is printed of calls.
+use blk_base::{Block, NoMemory};
+use minix_layout::Name;
+use std::alloc::{AllocError, Global};
+use std::test::Fail;
+use tree_model::{
+    ByteList, Call, Directory, File, FileBlocks, NameList, Names, Node, Path, Reply, Room, Tree,
+    asking_changes_nothing, calls_keep_trees_plain, calls_map_by_writing, calls_stay_within_room,
+    examples_of_calls, histories_map_by_writing, is_dot, new_names_lead_to_nodes, nodes_have_paths,
+    paths_are_spelled, put_tree, read_path, refusals_have_causes, same_metadata_chains,
+    texts_list_paths, written_bytes_are_read_back,
+};
+
+fn name(bytes: &[u8]) -> Result<Name, Fail> {
+    Ok(Name::of(bytes).ok_or("no name")?)
+}
+
+fn directory(alloc: Global, names: &[(&[u8], u64)]) -> Result<Node, Fail> {
+    let mut map = Names::new(alloc);
+    for (bytes, birth) in names {
+        map.put(name(bytes)?, *birth)?;
+    }
+    Ok(Node::Directory(Directory {
+        parent: 0,
+        slots: 2,
+        names: map,
+    }))
+}
+
+// Blocks 0, 2, 3 and 4 are mapped, and the size ends in block 3.
+fn file(alloc: Global) -> Result<Node, NoMemory> {
+    let mut last_one = Block::fill(0);
+    last_one.set(1023, 1);
+    let mut blocks = FileBlocks::new(alloc);
+    blocks.put(4, Block::fill(9))?;
+    blocks.put(3, Block::fill(7))?;
+    blocks.put(2, last_one)?;
+    blocks.put(0, Block::fill(b'a'))?;
+    Ok(Node::File(File {
+        size: 3075,
+        links: 2,
+        blocks,
+    }))
+}
+
+const TEXT: &str = "dir /
+file /a size 3075 links 2
+block 0 1024x61
+block 2 1023x00+1x01
+block 3 3x07
+dir /d
+link /d/a /a
+dir /d/e
+other /x\\x20\\x5c\\xff mode 020644
+";
+
+#[test]
+fn shows_a_tree(rt: HostRuntime) -> Result<(), Fail> {
+    let alloc = rt.alloc();
+    let mut tree = Tree::new(alloc);
+    tree.put(4, Node::Other(0o020644))?;
+    tree.put(3, directory(alloc, &[])?)?;
+    tree.put(2, file(alloc)?)?;
+    tree.put(1, directory(alloc, &[(b"e", 3), (b"a", 2)])?)?;
+    tree.put(
+        0,
+        directory(alloc, &[(b"x \\\xFF", 4), (b"d", 1), (b"a", 2)])?,
+    )?;
+    let mut out = String::new(alloc);
+    put_tree(alloc, &mut out, tree)?;
+    assert_eq!(rt; out.as_str(), TEXT);
+    texts_list_paths();
+    Ok(())
+}
+
+fn shown(alloc: Global, path: &Option<Path>) -> Result<String, AllocError> {
+    format!(in alloc; "{path:?}")
+}
+
+#[test]
+fn reads_paths(rt: HostRuntime) -> Result<(), Fail> {
+    let rows: [(&[u8], &str); 10] = [
+        (b"/", "Some(Path { names: [] })"),
+        (b"/a", "Some(Path { names: [[97]] })"),
+        (b"/a/b", "Some(Path { names: [[97], [98]] })"),
+        (
+            b"/Z_0/..-",
+            "Some(Path { names: [[90, 95, 48], [46, 46, 45]] })",
+        ),
+        (b"", "None"),
+        (b"a", "None"),
+        (b"/a/", "None"),
+        (b"//a", "None"),
+        (b"/.", "None"),
+        (b"/a b", "None"),
+    ];
+    for (text, path) in rows {
+        let read = read_path(rt.alloc(), text)?;
+        assert_eq!(rt; shown(rt.alloc(), &read)?.as_str(), path);
+    }
+    let path = read_path(rt.alloc(), b"/a/bc")?.ok_or("no path")?;
+    let last = path.as_slice().last().ok_or("no name")?;
+    assert_eq!(rt; last.as_slice(), b"bc".as_slice());
+    assert!(rt; is_dot(b".") && is_dot(b"..") && !is_dot(b"..."));
+    paths_are_spelled();
+    Ok(())
+}
+
+#[test]
+fn copies_names(rt: HostRuntime) -> Result<(), Fail> {
+    let mut names = Names::new(rt.alloc());
+    names.put(name(b"b")?, 7)?;
+    names.put(name(b"a")?, 5)?;
+    names.put(name(b"b")?, 8)?;
+    let copy = names.copy(rt.alloc())?;
+    assert_eq!(rt; copy.get(&name(b"a")?), Some(5));
+    assert_eq!(rt; copy.get(&name(b"b")?), Some(8));
+    assert_eq!(rt; copy.get(&name(b"c")?), None);
+    assert_eq!(rt; copy.as_map().len(), 2);
+    let blocks = FileBlocks::new(rt.alloc());
+    assert!(rt; blocks.as_map().is_empty());
+    Ok(())
+}
+
+fn bytes(alloc: Global, text: &[u8]) -> Result<ByteList, NoMemory> {
+    Ok(ByteList::of(text.to_vec(alloc)?))
+}
+
+#[test]
+fn copies_bytes(rt: HostRuntime) -> Result<(), Fail> {
+    let path = bytes(rt.alloc(), b"/a")?;
+    let copy = path.copy(rt.alloc())?;
+    assert_eq!(rt; copy.as_slice(), b"/a".as_slice());
+    Ok(())
+}
+
+#[test]
+fn copies_name_lists(rt: HostRuntime) -> Result<(), Fail> {
+    let mut names = NameList::new(rt.alloc());
+    names.push(bytes(rt.alloc(), b"b")?)?;
+    names.push(bytes(rt.alloc(), b"c")?)?;
+    let copy = names.copy(rt.alloc())?;
+    assert_eq!(rt; copy.as_slice().len(), 2);
+    let last = copy.as_slice().last().ok_or("no name")?;
+    assert_eq!(rt; last.as_slice(), b"c".as_slice());
+    Ok(())
+}
+
+#[test]
+fn shows_calls(rt: HostRuntime) -> Result<(), Fail> {
+    let call = Call::Truncate(bytes(rt.alloc(), b"/")?, 3);
+    let shown = format!(in rt.alloc(); "{call:?}")?;
+    assert_eq!(rt; shown.as_str(), "Truncate(ByteList { bytes: [47] }, 3)");
+    Ok(())
+}
+
+#[test]
+fn shows_replies(rt: HostRuntime) -> Result<(), Fail> {
+    let reply = Reply::ReadOnly(7);
+    let shown = format!(in rt.alloc(); "{reply:?}")?;
+    assert_eq!(rt; shown.as_str(), "ReadOnly(7)");
+    Ok(())
+}
+
+#[test]
+fn laws_do_nothing(rt: HostRuntime) -> Result<(), Fail> {
+    same_metadata_chains();
+    nodes_have_paths();
+    examples_of_calls();
+    calls_keep_trees_plain();
+    refusals_have_causes();
+    asking_changes_nothing();
+    calls_stay_within_room();
+    calls_map_by_writing();
+    histories_map_by_writing();
+    written_bytes_are_read_back();
+    new_names_lead_to_nodes();
+    let room = Room {
+        inodes: 32,
+        capacity: 59,
+    };
+    assert_eq!(rt; room.capacity, 59);
+    Ok(())
+}
