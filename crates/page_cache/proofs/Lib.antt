@@ -1,2 +1,3 @@
 mod Places
 mod Steps
+pub mod OfFiles

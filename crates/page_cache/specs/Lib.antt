@@ -1,3 +1,4 @@
 pub mod Pages
+pub mod Unsent
 pub mod code
 pub mod laws

@@ -1,6 +1,7 @@
 //! What is kept of a page.
 ghost use Rattle.std.specs.Prelude.{◌≡◌};
 ghost use Rattle.page_cache.specs.Pages.{is_page, is_before, is_unsent, is_dirty};
+ghost use Rattle.page_cache.specs.Unsent.{is_in};
 
 use blk_base::Block;
 
@@ -59,5 +60,15 @@ pub fn is_dirty(state: PageState) -> bool
     match state {
         PageState::Dirty => true,
         PageState::Clean | PageState::Loose | PageState::Firm => false,
+    }
+}
+
+// Whether the page is of that file; of any, where none is said.
+pub fn is_in(page: &CachedPage, file: Option<u64>) -> bool
+    ensures { result ≡ is_in file page.now }
+{
+    match file {
+        Some(birth) => page.birth == birth,
+        None => true,
     }
 }

@@ -12,8 +12,6 @@ mod cached_page;
 mod laws;
 mod pages;
 mod search;
-#[cfg(test)]
-mod tests;
 
 pub use cached_page::{CachedPage, PageState};
 pub use laws::{next_page_is_least, pages_are_a_map, pages_stand_in_order};

@@ -4,8 +4,10 @@ ghost use Rattle.std.specs.Option.{option_copied, option_map};
 ghost use Rattle.page_cache.specs.declared.cached_page.CachedPage.{CachedPage};
 ghost use Rattle.page_cache.specs.declared.cached_page.PageState.TheVariants as page_states;
 ghost use Rattle.page_cache.specs.Pages.{Cache, with_pages, page_at, put_page, drop_page, mark_page, next_in_file, next_unsent, unsent_of, dirty_page, key_of};
+ghost use Rattle.page_cache.specs.Unsent.{with_room_for, unsent_keys};
 ghost use Rattle.number_sets.specs.Sets as sets;
 
+use crate::cached_page::{is_in, is_unsent};
 use crate::search::{dirty_page, find, first_unsent, unsent_of};
 use crate::{CachedPage, PageState};
 use blk_base::{Block, NoMemory};
@@ -16,7 +18,7 @@ use std::marker::Model;
 #[derive(Clone, Copy, Debug, PartialEq, Eq)]
 pub struct NoRoom;
 
-/// The pages of files, in order of birth and index. No call but `load` takes memory.
+/// The pages of files, in order of birth and index. Only `load`, `reserve` and `unsent_keys` take memory.
 #[derive(Drop)]
 pub struct Pages {
     pages: Vec<CachedPage>,
@@ -44,6 +46,35 @@ impl Pages {
             pages: Vec::with_capacity(alloc, room as usize)?,
             room,
         })
+    }
+
+    /// Makes room for at least `more` pages besides those that are there.
+    pub fn reserve(&mut self, _alloc: Global, more: u32) -> Result<(), NoMemory>
+        ensures ok { IfOk result (λ u. self.new ≡ with_room_for more self.old) }
+        ensures err { OnErr result (self.new ≡ self.old) }
+    {
+        let Some(wanted) = (self.pages.len() as u32).checked_add(more) else {
+            return Err(NoMemory);
+        };
+        if wanted <= self.room {
+            return Ok(());
+        }
+        self.pages.reserve(more as usize)?;
+        self.room = wanted;
+        Ok(())
+    }
+
+    /// Birth and index of each page, in order, that is not sent, or was sent without order; of one file, or of all.
+    pub fn unsent_keys(&self, alloc: Global, file: Option<u64>) -> Result<Vec<(u64, u32)>, NoMemory>
+        ensures { IfOk result (λ keys. keys.items ≡ unsent_keys file self.now.pages) }
+    {
+        let mut keys = Vec::new(alloc);
+        for page in &self.pages {
+            if is_unsent(page.state) && is_in(page, file) {
+                keys.push((page.birth, page.index))?;
+            }
+        }
+        Ok(keys)
     }
 
     /// Keeps the bytes that call `call` gave a page, as not sent; it goes to this block. `NoRoom` where the page is
@@ -175,8 +206,8 @@ impl Pages {
         dirty_page(&self.pages, pick)
     }
 
-    // A page, if it is there.
-    fn page(&self, birth: u64, index: u32) -> Option<&CachedPage>
+    /// A page, if it is there.
+    pub fn page(&self, birth: u64, index: u32) -> Option<&CachedPage>
         ensures { option_copied result ≡ page_at self.now.pages birth index }
     {
         match find(&self.pages, birth, index) {

@@ -3,13 +3,12 @@ ghost use Rattle.std.specs.Prelude.{◌≡◌, ◌≤◌, ◌<◌, IfOk, IfErr, 
 ghost use Rattle.std.specs.List.{insert, remove};
 ghost use Rattle.std.specs.Option.{option_copied};
 ghost use Rattle.page_cache.specs.declared.cached_page.CachedPage.{CachedPage};
-ghost use Rattle.page_cache.specs.Pages.{page_at, put_page, drop_page, next_unsent, unsent_of, dirty_page, IsRising};
+ghost use Rattle.page_cache.specs.Pages.{page_at, put_page, drop_page, next_in_file, next_unsent, unsent_of, dirty_page, IsRising};
 ghost use Rattle.number_sets.specs.Sets as sets;
 ghost use Rattle.page_cache.specs.code.Pages.{place_of};
 
 use crate::CachedPage;
 use crate::cached_page::{is_before, is_dirty, is_page, is_unsent};
-use number_sets::has_u64;
 
 // How many pages stand before that one.
 fn place_of(pages: &[CachedPage], birth: u64, index: u32) -> usize
@@ -52,13 +51,31 @@ pub fn first_unsent(pages: &[CachedPage], birth: u64, from: u32) -> Option<&Cach
     None
 }
 
-// The first unsent page of one of these files.
+// The first unsent page of this file.
+fn unsent_in(pages: &[CachedPage], birth: u64) -> Option<&CachedPage>
+    requires { IsRising pages.now }
+    ensures { option_copied result ≡ next_in_file pages.now birth 0 }
+{
+    let first = place_of(pages, birth, 0);
+    for at in first..pages.len() {
+        if pages[at].birth != birth {
+            return None;
+        }
+        if is_unsent(pages[at].state) {
+            return Some(&pages[at]);
+        }
+    }
+    None
+}
+
+// The first unsent page of one of these files: each is looked for in turn, so that other files cost nothing.
 pub fn unsent_of<'a>(pages: &'a [CachedPage], births: &[u64]) -> Option<&'a CachedPage>
-    requires { sets.IsRising births.now }
+    requires pages { IsRising pages.now }
+    requires births { sets.IsRising births.now }
     ensures { option_copied result ≡ unsent_of pages.now births.now }
 {
-    for page in pages {
-        if is_unsent(page.state) && has_u64(births, page.birth) {
+    for at in 0..births.len() {
+        if let Some(page) = unsent_in(pages, births[at]) {
             return Some(page);
         }
     }
