@@ -1,7 +1,7 @@
 -- What is kept of the notes, when one more comes.
-use Rattle.std.proofs.Common.{◌≡◌, ℕ, ◌+◌, ◌<◌, ◌≤◌, ◌==◌, ◌&&◌, ◌||◌, Bool, true, false, nat_lt, if◌then◌else◌, List, [], ◌∷◌, ◌++◌, length, length-append, Option, Some, None, refl, sym, ap, subst, ◌∙◌, ⊎_elim, arith, tests}
+use Rattle.std.proofs.Common.{◌≡◌, ℕ, ◌+◌, ◌<◌, ◌≤◌, ◌==◌, ◌&&◌, ◌||◌, Bool, true, false, nat_lt, if◌then◌else◌, List, [], ◌∷◌, ◌++◌, length, length-append, Option, Some, None, IfSome, refl, sym, ap, subst, ◌∙◌, ⊎_elim, arith, tests}
 use Rattle.std.proofs.Math.Bool.{or-false}
-use Rattle.std.proofs.lemmas.Option.{same_Some}
+use Rattle.std.proofs.lemmas.Option.{none-some, same_Some}
 use Rattle.order_model.specs.declared.note.Note.TheVariants as notes
 use Rattle.order_model.specs.declared.note.Note.{Note}
 use Rattle.order_model.specs.declared.request.Request.{Request}
@@ -151,3 +151,21 @@ submission_same limit rs ns more capacity room flush put last before commits new
     (subst (λ x. IsSubmission limit rs ns capacity x before new) (sym c)
     (subst (λ x. IsSubmission limit rs ns capacity flush x new) (sym d)
     (subst (λ x. IsSubmission limit rs ns capacity flush put x) (sym e) s))))
+
+-- ---- the last put
+
+last-within : (i bound : ℕ) (ns : List Note) (last : Option ℕ) → i + length ns ≤ bound → ((id : ℕ) → last ≡ Some id → id < bound)
+    → (id : ℕ) → last_put i ns last ≡ Some id → id < bound
+last-within i bound [] last most h id e = h id e
+last-within i bound (n ∷ ns) last most h id e = last-within (i + 1) bound ns _ (omega (arith, most)) (next (is_flush_note n)) id e
+  where
+    next : (t : Bool) (id : ℕ) → (if t then last else Some i) ≡ Some id → id < bound
+    next true id e = h id e
+    next false id e = (let same : i ≡ id = same_Some i id e in omega (arith, most, same))
+
+pub last_put-within : (ns : List Note) (id : ℕ) → last_put 0 ns None ≡ Some id → id < length ns
+last_put-within ns id e = last-within 0 (length ns) ns None (omega arith) (λ i none. absurd (none-some i none)) id e
+
+pub last_of : (o : Option ℕ) (ns : List Note) (n : ℕ) → o ≡ last_put 0 ns None → length ns ≡ n → IfSome o (λ id. id < n)
+last_of None ns n e size = tt
+last_of (Some id) ns n e size = let less = last_put-within ns id (sym e) in omega (arith, less, size)

@@ -1,5 +1,5 @@
 //! The flush actor's part of the host.
-ghost use Rattle.std.specs.Prelude.{◌≡◌, ◌+◌, ◌<◌, ◌≤◌, ◌^◌, ℕ, true, false, Some, None, is_none, if◌then◌else◌, [], ◌∷◌, ◌++◌, IfOk, length, map, set, slice_get};
+ghost use Rattle.std.specs.Prelude.{◌≡◌, ◌+◌, ◌<◌, ◌≤◌, ◌^◌, ℕ, true, false, Some, None, is_none, if◌then◌else◌, [], ◌∷◌, ◌++◌, IfOk, IfSome, length, map, set, slice_get};
 ghost use Rattle.std.specs.List.{list_any};
 ghost use Rattle.std.specs.Option.{option_map};
 ghost use Rattle.order_model.specs.declared.turn.Turn.TheVariants.{QueueFull};
@@ -109,7 +109,8 @@ impl FlushPart {
 
     /// The id of the last put.
     pub fn last_put(&self) -> Option<u64>
-        ensures { result ≡ last_put 0 self.now.part.notes None }
+        ensures put { result ≡ last_put 0 self.now.part.notes None }
+        ensures within { IfSome result (λ id. id < length self.now.part.requests) }
     {
         self.submission.last_put()
     }

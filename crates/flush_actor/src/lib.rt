@@ -15,8 +15,6 @@ mod call_kind;
 mod completed;
 mod flush_part;
 mod submission;
-#[cfg(test)]
-mod tests;
 mod wait;
 mod waits;
 
