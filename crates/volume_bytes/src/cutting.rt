@@ -60,8 +60,8 @@ fn free_number(v: &mut VolumeNow, tx: u32, zone: u16, touched: &mut Touched)
     touched.note_revoked(zone);
 }
 
-// The zones of these blocks go.
-fn free_blocks(v: &mut VolumeNow, tx: u32, birth: u64, gone: &[Mapped], touched: &mut Touched)
+/// The zones of these blocks of a file wait for transaction `tx`, one after the other, with their bits.
+pub fn free_blocks(v: &mut VolumeNow, tx: u32, birth: u64, gone: &[Mapped], touched: &mut Touched)
     requires sound { IsSound v.old.geometry }
     requires used { MayGive tx v.old.zones (map (λ m. m.zone) gone.now) }
     requires room { 3 * length gone.now ≤ touched.old.spare }
@@ -74,8 +74,8 @@ fn free_blocks(v: &mut VolumeNow, tx: u32, birth: u64, gone: &[Mapped], touched:
     }
 }
 
-// These zones of numbers go.
-fn free_numbers(v: &mut VolumeNow, tx: u32, gone: &[u16], touched: &mut Touched)
+/// These zones, which are metadata, wait for transaction `tx`, one after the other, with their bits.
+pub fn free_numbers(v: &mut VolumeNow, tx: u32, gone: &[u16], touched: &mut Touched)
     requires sound { IsSound v.old.geometry }
     requires used { MayGive tx v.old.zones gone.now }
     requires room { 3 * length gone.now ≤ touched.old.spare }

@@ -21,6 +21,7 @@ mod truncating;
 mod writing;
 
 pub use content::Content;
+pub use cutting::{free_blocks, free_numbers};
 pub use holes::wanted;
 pub use truncating::truncate;
 pub use writing::write;

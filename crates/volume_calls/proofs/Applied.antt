@@ -8,8 +8,10 @@ use Rattle.tree_model.specs.declared.call.Reply.TheVariants as replies
 use Rattle.tree_model.specs.Calls.{Tree, Row, Done, Place, Found, and_then, names_in, parent_of, walk_path, a_file, link, walk, row, outcome, write as write_row}
 use Rattle.tree_model.proofs.Rows.{err_ok, then_ok}
 use Rattle.volume_steps.specs.Now.{VolumeNow, Change, tree_of_now, room_of, unchanged}
-use Rattle.volume_steps.specs.Calls.{Called, at_place, called, called_by, changed, create_in, link_in, mkdir_in, truncate_at, write, write_at}
+use Rattle.volume_steps.specs.Calls.{Called, at_path, at_place, called, called_by, changed, create_in, link_in, mkdir_in, rmdir_in, truncate_at, unlink_in, write, write_at}
 use Rattle.volume_steps.specs.Plain.{IsPlainNow}
+use Rattle.volume_steps.proofs.RmdirCall.{rmdirs}
+use Rattle.volume_steps.proofs.UnlinkCall.{unlinks}
 use Rattle.volume_steps.proofs.CallPaths.{done_row, parent_any, at_place_is, at_path_is}
 use Rattle.volume_bytes.specs.Contents.{bytes_of}
 use Rattle.volume_bytes.specs.declared.content.Content.{Content}
@@ -104,6 +106,28 @@ module _ (v : VolumeNow) (n : ℕ) (path other : List ℕ) (d : Done) where
       let p = link_row done in
       err_ok reply p.place (sym none ∙ (ap (λ x. and_then x (parent_of replies.Invalid (tree_of_now v))) p.also ∙ parent_any replies.Exists replies.Invalid (tree_of_now v) p.more p.place p.leads))
 
+-- ---- names that are taken away
+
+-- a path whose last name stands in a directory is walked, and has a site
+path_walked : (tree : Tree) (path : List ℕ) (names : List (List ℕ)) (found : Found) (reply : Reply) → names_in path ≡ Ok names → walk tree names ≡ Ok found → walk_path tree path ≡ Err reply → ⊥
+path_walked tree path names found reply named walked none = err_ok reply found (sym none ∙ (ap (λ x. and_then x (walk tree)) named ∙ walked))
+
+path_placed : (tree : Tree) (path : List ℕ) (names : List (List ℕ)) (place : Place) (reply : Reply) → names_in path ≡ Ok names → parent_of replies.Invalid tree names ≡ Ok place → place_in tree path ≡ Err reply → ⊥
+path_placed tree path names place reply named leads none = err_ok reply place (sym none ∙ (ap (λ x. and_then x (parent_of replies.Invalid tree)) named ∙ leads))
+
+module _ (v : VolumeNow) (n : ℕ) (path : List ℕ) (d : Done) (reply : Reply) where
+  pub no_unlink_path : outcome (room_of v.geometry) (tree_of_now v) n (calls.Unlink path) ≡ Ok d → walk_path (tree_of_now v) path ≡ Err reply → ⊥
+  no_unlink_path done none = (let s = unlinks v n path d (done_row (room_of v.geometry) (tree_of_now v) n (calls.Unlink path) d done).0 in path_walked (tree_of_now v) path s.names s.found reply s.named s.walked none)
+
+  pub no_unlink_site : outcome (room_of v.geometry) (tree_of_now v) n (calls.Unlink path) ≡ Ok d → place_in (tree_of_now v) path ≡ Err reply → ⊥
+  no_unlink_site done none = (let s = unlinks v n path d (done_row (room_of v.geometry) (tree_of_now v) n (calls.Unlink path) d done).0 in path_placed (tree_of_now v) path s.names s.place reply s.named s.parent none)
+
+  pub no_rmdir_path : outcome (room_of v.geometry) (tree_of_now v) n (calls.Rmdir path) ≡ Ok d → walk_path (tree_of_now v) path ≡ Err reply → ⊥
+  no_rmdir_path done none = (let s = rmdirs v n path d (done_row (room_of v.geometry) (tree_of_now v) n (calls.Rmdir path) d done).0 in path_walked (tree_of_now v) path s.names s.found reply s.named s.walked none)
+
+  pub no_rmdir_site : outcome (room_of v.geometry) (tree_of_now v) n (calls.Rmdir path) ≡ Ok d → place_in (tree_of_now v) path ≡ Err reply → ⊥
+  no_rmdir_site done none = (let s = rmdirs v n path d (done_row (room_of v.geometry) (tree_of_now v) n (calls.Rmdir path) d done).0 in path_placed (tree_of_now v) path s.names s.place reply s.named s.parent none)
+
 -- ---- what is changed
 
 pub create_is : (v : VolumeNow) (n tx : ℕ) (path : List ℕ) (place : Place) → Parted (tree_of_now v) path place → changed v n tx (calls.Create path) ≡ create_in v n place.parent place.name
@@ -143,3 +167,17 @@ unfolding changed
 link_is v n tx path other found place w p =
     at_path_is v path w.names found (λ birth. at_place v other (λ place. link_in v birth place.parent place.name)) w.named w.leads
     ∙ at_place_is v other p.names place replies.Invalid (λ place. link_in v found.birth place.parent place.name) p.named p.leads
+
+pub unlink_is : (v : VolumeNow) (n tx : ℕ) (path : List ℕ) (found : Found) (place : Place) → Walked (tree_of_now v) path found → Parted (tree_of_now v) path place →
+    changed v n tx (calls.Unlink path) ≡ unlink_in v tx place.parent place.name found.birth
+unfolding changed
+unlink_is v n tx path found place w p =
+    at_place_is v path p.names place replies.Invalid (λ place. at_path v path (λ birth. unlink_in v tx place.parent place.name birth)) p.named p.leads
+    ∙ at_path_is v path w.names found (λ birth. unlink_in v tx place.parent place.name birth) w.named w.leads
+
+pub rmdir_is : (v : VolumeNow) (n tx : ℕ) (path : List ℕ) (found : Found) (place : Place) → Walked (tree_of_now v) path found → Parted (tree_of_now v) path place →
+    changed v n tx (calls.Rmdir path) ≡ rmdir_in v tx place.parent place.name found.birth
+unfolding changed
+rmdir_is v n tx path found place w p =
+    at_place_is v path p.names place replies.Invalid (λ place. at_path v path (λ birth. rmdir_in v tx place.parent place.name birth)) p.named p.leads
+    ∙ at_path_is v path w.names found (λ birth. rmdir_in v tx place.parent place.name birth) w.named w.leads

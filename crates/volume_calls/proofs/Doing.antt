@@ -4,15 +4,18 @@ use Rattle.tree_model.specs.declared.call.Call.{Call}
 use Rattle.tree_model.specs.declared.call.Call.TheVariants as calls
 use Rattle.tree_model.specs.declared.call.Reply.{Reply}
 use Rattle.tree_model.specs.declared.call.Reply.TheVariants as replies
-use Rattle.tree_model.specs.Calls.{Found, walk_path, outcome}
+use Rattle.tree_model.specs.Calls.{Found, Place, walk, walk_path, outcome}
+use Rattle.tree_model.proofs.Rows.{ok_ok}
 use Rattle.volume_model.specs.Touched.{Touched}
 use Rattle.volume_steps.specs.Now.{VolumeNow, Change, tree_of_now, room_of}
-use Rattle.volume_steps.specs.Calls.{changed, create_in, link_in, mkdir_in, truncate_at, write_at}
+use Rattle.volume_steps.specs.Calls.{changed, create_in, link_in, mkdir_in, rmdir_in, truncate_at, unlink_in, write_at}
 use Rattle.volume_steps.specs.Plain.{IsPlainNow}
 use Rattle.volume_steps.specs.laws.Called.{FindsRoom}
 use Rattle.volume_steps.proofs.AllCalls.{any_call}
 use Rattle.volume_names.specs.May.{MayCreate, MayLink, MayMkdir}
 use Rattle.volume_names.proofs.Callers.{create_may, link_may, mkdir_may}
+use Rattle.volume_removals.specs.May.{MayRmdir, MayUnlink}
+use Rattle.volume_removals.proofs.Callers.{rmdir_may, unlink_may}
 use Rattle.tree_model.proofs.Changes.{outcome_row}
 use Rattle.volume_bytes.specs.declared.content.Content.{Content}
 use Rattle.volume_bytes.specs.Contents.{bytes_of}
@@ -20,7 +23,7 @@ use Rattle.volume_bytes.specs.MayWrite.{MayTruncate, MayWrite}
 use Rattle.volume_bytes.proofs.MayCall.{may_be_written, may_truncate}
 use Rattle.volume_calls.specs.code.Sites.{IsSite, place_in}
 use Rattle.volume_calls.specs.code.Writes.{write_call}
-use Rattle.volume_calls.proofs.Applied.{ok_of, done_plain, parted, no_file_site, no_directory_site, no_cut_path, no_link_path, no_link_site, no_write_path, walked_parts, create_is, link_is, mkdir_is, truncate_is, write_call_row, write_is}
+use Rattle.volume_calls.proofs.Applied.{ok_of, done_plain, parted, no_file_site, no_directory_site, no_cut_path, no_link_path, no_link_site, no_rmdir_path, no_rmdir_site, no_unlink_path, no_unlink_site, no_write_path, walked_parts, create_is, link_is, mkdir_is, rmdir_is, truncate_is, unlink_is, write_call_row, write_is}
 
 -- what was done is the call's change, and leaves the volume plain
 pub record IsCall (v : VolumeNow) (n tx : ℕ) (c : Call) (w : VolumeNow) (t : Touched) : Type 0 where
@@ -133,3 +136,55 @@ module _ (v parts : VolumeNow) (same : parts ≡ v) (n : ℕ) (path : List ℕ) 
           (e ∙ (ap (λ (u : VolumeNow). link_in u found.birth parent name) same
           ∙ sym (link_is v n tx path other found (record { parent = parent; directory = site.directory; name = name }) (walked_parts (tree_of_now v) path found led)
           (parted (tree_of_now v) other (record { parent = parent; directory = site.directory; name = name }) site.is))))
+
+  -- ---- a file's name that goes
+
+  module _ (room : FindsRoom v n (calls.Unlink path)) (may : IsOk (outcome (room_of v.geometry) (tree_of_now v) n (calls.Unlink path))) where
+    pub unlink_led : (reply : Reply) → walk_path (tree_of_now v) path ≡ Err reply → ⊥
+    unlink_led reply none = (let d = ok_of (outcome (room_of v.geometry) (tree_of_now v) n (calls.Unlink path)) may in no_unlink_path v n path d.0 reply d.1 none)
+
+    pub unlink_placed : (reply : Reply) → place_in (tree_of_now v) path ≡ Err reply → ⊥
+    unlink_placed reply none = (let d = ok_of (outcome (room_of v.geometry) (tree_of_now v) n (calls.Unlink path)) may in no_unlink_site v n path d.0 reply d.1 none)
+
+    module _ (found : Found) (led : walk_path (tree_of_now v) path ≡ Ok found) (parent : ℕ) (name : List ℕ) (site : IsSite (tree_of_now v) path parent name) where
+      pub unlink_ready : MayUnlink parts found.birth parent name
+      unlink_ready =
+          let d = ok_of (outcome (room_of v.geometry) (tree_of_now v) n (calls.Unlink path)) may in
+          let place : Place = record { parent = parent; directory = site.directory; name = name } in
+          let p = parted (tree_of_now v) path place site.is in
+          let w = walked_parts (tree_of_now v) path found led in
+          subst (λ (u : VolumeNow). MayUnlink u found.birth parent name) (sym same)
+          (unlink_may v path p.names p.named place replies.Invalid p.leads found (sym (ap (walk (tree_of_now v)) (ok_ok w.names p.names (sym w.named ∙ p.named))) ∙ w.leads) room.plain n d.0 d.1)
+
+      pub unlink_done : (tx : ℕ) (w : VolumeNow) (t : Touched) → ◌≡◌ {A = Change} (record { volume = w; touched = t }) (unlink_in parts tx parent name found.birth) → IsCall v n tx (calls.Unlink path) w t
+      unlink_done tx w t e =
+          call_done v n tx (calls.Unlink path) room may w t
+          (e ∙ (ap (λ (u : VolumeNow). unlink_in u tx parent name found.birth) same
+          ∙ sym (unlink_is v n tx path found (record { parent = parent; directory = site.directory; name = name }) (walked_parts (tree_of_now v) path found led)
+          (parted (tree_of_now v) path (record { parent = parent; directory = site.directory; name = name }) site.is))))
+
+  -- ---- a directory that goes
+
+  module _ (room : FindsRoom v n (calls.Rmdir path)) (may : IsOk (outcome (room_of v.geometry) (tree_of_now v) n (calls.Rmdir path))) where
+    pub rmdir_led : (reply : Reply) → walk_path (tree_of_now v) path ≡ Err reply → ⊥
+    rmdir_led reply none = (let d = ok_of (outcome (room_of v.geometry) (tree_of_now v) n (calls.Rmdir path)) may in no_rmdir_path v n path d.0 reply d.1 none)
+
+    pub rmdir_placed : (reply : Reply) → place_in (tree_of_now v) path ≡ Err reply → ⊥
+    rmdir_placed reply none = (let d = ok_of (outcome (room_of v.geometry) (tree_of_now v) n (calls.Rmdir path)) may in no_rmdir_site v n path d.0 reply d.1 none)
+
+    module _ (found : Found) (led : walk_path (tree_of_now v) path ≡ Ok found) (parent : ℕ) (name : List ℕ) (site : IsSite (tree_of_now v) path parent name) where
+      pub rmdir_ready : MayRmdir parts found.birth parent name
+      rmdir_ready =
+          let d = ok_of (outcome (room_of v.geometry) (tree_of_now v) n (calls.Rmdir path)) may in
+          let place : Place = record { parent = parent; directory = site.directory; name = name } in
+          let p = parted (tree_of_now v) path place site.is in
+          let w = walked_parts (tree_of_now v) path found led in
+          subst (λ (u : VolumeNow). MayRmdir u found.birth parent name) (sym same)
+          (rmdir_may v path p.names p.named place replies.Invalid p.leads found (sym (ap (walk (tree_of_now v)) (ok_ok w.names p.names (sym w.named ∙ p.named))) ∙ w.leads) room.plain n d.0 d.1)
+
+      pub rmdir_done : (tx : ℕ) (w : VolumeNow) (t : Touched) → ◌≡◌ {A = Change} (record { volume = w; touched = t }) (rmdir_in parts tx parent name found.birth) → IsCall v n tx (calls.Rmdir path) w t
+      rmdir_done tx w t e =
+          call_done v n tx (calls.Rmdir path) room may w t
+          (e ∙ (ap (λ (u : VolumeNow). rmdir_in u tx parent name found.birth) same
+          ∙ sym (rmdir_is v n tx path found (record { parent = parent; directory = site.directory; name = name }) (walked_parts (tree_of_now v) path found led)
+          (parted (tree_of_now v) path (record { parent = parent; directory = site.directory; name = name }) site.is))))

@@ -23,7 +23,7 @@ use Rattle.volume_steps.proofs.FileCalls.{needs_is}
 use Rattle.volume_bytes.specs.MayWrite.{IsFileOf, wanted_zones}
 use Rattle.volume_bytes.proofs.MayCall.{file_is, needs_wanted}
 use Rattle.volume_calls.specs.code.Asked.{IsAsked}
-use Rattle.volume_calls.proofs.TakeSteps.{file_of}
+use Rattle.volume_steps.proofs.TakeSteps.{file_of}
 
 pub write_row : (tree : Tree) (path : List ℕ) (off : ℕ) (bytes : List ℕ) (found : Found) (f : File) → walk_path tree path ≡ Ok found → found.node ≡ nodes.File f → nat_lt largest_size (off + length bytes) ≡ false →
     write tree path off bytes ≡ leaves (put_file tree found.birth (written_file f off bytes))

@@ -1,6 +1,6 @@
--- The code's view of paths, rows, writes and its own fields.
-pub mod Paths
+-- The code's view of rows, writes and its own fields.
 pub mod Rows
 pub mod Asked
 pub mod Sites
 pub mod Writes
+pub mod Kept

@@ -1,21 +1,20 @@
 //! Calls that are done.
-ghost use Rattle.std.specs.Prelude.{◌≡◌, ℕ, true, false, IfOk, IfErr, OnErr, IsOk, Err};
+ghost use Rattle.std.specs.Prelude.{◌≡◌, ℕ, false, IfOk, IfErr, OnErr, IsOk, Err};
 ghost use Rattle.tree_model.specs.declared.call.Call.TheVariants as calls;
 ghost use Rattle.tree_model.specs.Calls.{leaves_tree, outcome};
 ghost use Rattle.volume_steps.specs.Now.{room_of, tree_of_now};
 ghost use Rattle.volume_steps.specs.Calls.{called, changed};
+ghost use Rattle.volume_steps.specs.Plain.{is_rename};
 ghost use Rattle.volume_steps.specs.laws.Called.{FindsRoom};
-ghost use Rattle.volume_calls.specs.Asked.{is_applied};
 ghost use Rattle.volume_calls.specs.code.Sites.{IsSite, place_in};
 ghost use Rattle.volume_calls.specs.code.Writes.{write_call};
 
 use crate::PlainVolume;
 use crate::answer::Answer;
-use crate::paths::names_of;
 use blk_base::NoMemory;
 use minix_layout::Name;
 use std::alloc::Global;
-use tree_model::{ByteList, Call, Reply};
+use tree_model::{ByteList, Call, Reply, names_of};
 use volume_bytes::Content;
 use volume_now::Touched;
 
@@ -112,6 +111,54 @@ impl PlainVolume {
         Ok(touched)
     }
 
+    fn take_link(
+        &mut self,
+        alloc: Global,
+        n: u64,
+        tx: u32,
+        path: &ByteList,
+    ) -> Result<Touched, NoMemory>
+        requires room { FindsRoom self.old n (calls.Unlink path.now) }
+        requires may { IsOk (outcome (room_of self.old.geometry) (tree_of_now self.old) n (calls.Unlink path.now)) }
+        ensures done { IfOk result (λ t. record { volume = self.new; touched = t.touched } ≡ changed self.old n tx (calls.Unlink path.now)) }
+        ensures memory { OnErr result (self.new ≡ self.old) }
+    {
+        let birth = match self.reached(path) {
+            Ok(found) => found.birth,
+            Err(_) => unreachable!(),
+        };
+        let Ok(site) = self.site(path) else {
+            unreachable!();
+        };
+        let parts = &mut self.parts;
+        let touched = volume_removals::unlink(alloc, parts, tx, birth, site.parent, &site.name)?;
+        Ok(touched)
+    }
+
+    fn remove_directory(
+        &mut self,
+        alloc: Global,
+        n: u64,
+        tx: u32,
+        path: &ByteList,
+    ) -> Result<Touched, NoMemory>
+        requires room { FindsRoom self.old n (calls.Rmdir path.now) }
+        requires may { IsOk (outcome (room_of self.old.geometry) (tree_of_now self.old) n (calls.Rmdir path.now)) }
+        ensures done { IfOk result (λ t. record { volume = self.new; touched = t.touched } ≡ changed self.old n tx (calls.Rmdir path.now)) }
+        ensures memory { OnErr result (self.new ≡ self.old) }
+    {
+        let birth = match self.reached(path) {
+            Ok(found) => found.birth,
+            Err(_) => unreachable!(),
+        };
+        let Ok(site) = self.site(path) else {
+            unreachable!();
+        };
+        let parts = &mut self.parts;
+        let touched = volume_removals::rmdir(alloc, parts, tx, birth, site.parent, &site.name)?;
+        Ok(touched)
+    }
+
     fn cut_file(
         &mut self,
         alloc: Global,
@@ -158,7 +205,7 @@ impl PlainVolume {
     fn change(&mut self, alloc: Global, n: u64, tx: u32, call: &Call) -> Result<Touched, NoMemory>
         requires room { FindsRoom self.old n call.now }
         requires may { IsOk (outcome (room_of self.old.geometry) (tree_of_now self.old) n call.now) }
-        requires applied { is_applied call.now ≡ true }
+        requires no_rename { is_rename call.now ≡ false }
         requires changes { leaves_tree call.now ≡ false }
         ensures done { IfOk result (λ t. record { volume = self.new; touched = t.touched } ≡ changed self.old n tx call.now) }
         ensures memory { OnErr result (self.new ≡ self.old) }
@@ -167,6 +214,8 @@ impl PlainVolume {
             Call::Mkdir(path) => self.make_directory(alloc, n, path),
             Call::Create(path) => self.make_file(alloc, n, path),
             Call::Link(path, other) => self.add_link(alloc, n, path, other),
+            Call::Unlink(path) => self.take_link(alloc, n, tx, path),
+            Call::Rmdir(path) => self.remove_directory(alloc, n, tx, path),
             Call::Truncate(path, size) => self.cut_file(alloc, n, tx, path, *size),
             Call::Write {
                 path,
@@ -189,8 +238,7 @@ impl PlainVolume {
     }
 
     /// Does the call with number `n` in transaction `tx`, and gives its reply and what it touched. Memory is asked for
-    /// before the first write, and where it is refused all is as before. Renames are not built yet; removals are not
-    /// done here yet.
+    /// before the first write, and where it is refused all is as before. Renames are not built yet.
     pub fn apply(
         &mut self,
         alloc: Global,
@@ -199,7 +247,6 @@ impl PlainVolume {
         call: &Call,
     ) -> Result<(Reply, Touched), NoMemory>
         requires room { FindsRoom self.old n call.now }
-        requires applied { is_applied call.now ≡ true }
         ensures done { IfOk result (λ x. record { change = record { volume = self.new; touched = x.1.touched }; reply = x.0 } ≡ called self.old n tx call.now) }
         ensures memory { OnErr result (self.new ≡ self.old) }
     {

@@ -6,11 +6,10 @@ ghost use Rattle.volume_model.specs.Trees.{node_now};
 ghost use Rattle.volume_steps.specs.Now.{room_of, tree_of_now};
 
 use crate::PlainVolume;
-use crate::paths::names_of;
 use crate::walk::Found;
 use blk_base::NoMemory;
 use std::alloc::Global;
-use tree_model::{ByteList, Call, Reply};
+use tree_model::{ByteList, Call, Reply, names_of};
 
 impl PlainVolume {
     // The node to which a path leads.

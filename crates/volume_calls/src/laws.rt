@@ -1,15 +1,11 @@
-//! A law of volumes in use. It does nothing when it is called.
-ghost use Rattle.minix_layout.specs.Geometry.{IsSound};
-ghost use Rattle.minix_layout.specs.declared.division.Geometry.{Geometry};
+//! The law of volumes in use. It does nothing when it is called.
 ghost use Rattle.volume_steps.specs.Plain.{IsPlainNow};
-ghost use Rattle.volume_now.specs.NewNow.{new_now};
 
-use volume_model::new_volumes_are_plain;
+use crate::PlainVolume;
 
-/// A law, which does nothing when it is called: a new volume, whose root has the first zone of data, is plain in use,
-/// however it is divided.
-pub fn new_volumes_are_in_use()
-    ensures { (g : Geometry) → IsSound g → IsPlainNow (new_now g) }
+/// A law, which does nothing when it is called: a volume is plain in use.
+pub fn volumes_are_plain(volume: &PlainVolume)
+    ensures { IsPlainNow volume.now }
 {
-    new_volumes_are_plain();
+    let _ = &volume.parts;
 }

@@ -1,13 +1,13 @@
 //! A plain volume that is in use: what calls on it answer and take.
 //!
-//! `plain` has the volume, `walk` where paths lead in it and `paths` their names in a text, with no list of them. `rows`
-//! and `takes` say what refuses each call and which zones it takes, `directories` what a name takes of a directory's
-//! slots, and `answer` has the answers: none of this takes memory. `asking` does the calls that change nothing, and
-//! `applying` those that are done in place. `laws` has a law of new volumes.
+//! `plain` has the volume, and `walk` where paths lead in it, with no list of their names. `rows` and `takes` say what
+//! refuses each call and which zones it takes, `directories` what a name takes of a directory's slots, and `answer` has
+//! the answers: none of this takes memory. `asking` does the calls that change nothing, and `applying` those that are
+//! done in place. `looks` has what else is asked before a call, and `laws` that volumes are plain in use.
 //!
-//! Stands on `volume_names`, `volume_bytes` and `volume_reads`, which do calls where a path has led, on `volume_now`,
-//! whose parts a volume keeps, on `volume_steps`, whose plain data it is, on `tree_model`, which
-//! says what refuses a call, and on `zone_maps`.
+//! Stands on `volume_names`, `volume_removals`, `volume_bytes` and `volume_reads`, which do calls where a path has led, on
+//! `volume_now`, whose parts a volume keeps, on `volume_steps`, whose plain data it is, on `tree_model`, which says what
+//! refuses a call, and on `zone_maps`.
 #![tactic(auto)]
 
 mod answer;
@@ -15,7 +15,7 @@ mod applying;
 mod asking;
 mod directories;
 mod laws;
-mod paths;
+mod looks;
 mod plain;
 mod rows;
 mod takes;
@@ -24,5 +24,5 @@ mod tests;
 mod walk;
 
 pub use answer::Answer;
-pub use laws::new_volumes_are_in_use;
+pub use laws::volumes_are_plain;
 pub use plain::PlainVolume;

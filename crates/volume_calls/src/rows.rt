@@ -6,8 +6,7 @@ ghost use Rattle.volume_calls.specs.code.Rows.{Agrees};
 
 use crate::PlainVolume;
 use crate::directories::has_no_names;
-use crate::paths::names_of;
-use tree_model::{ByteList, Reply};
+use tree_model::{ByteList, Reply, names_of};
 use volume_model::Part;
 
 // The most bytes that a file can have.

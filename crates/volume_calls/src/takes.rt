@@ -8,10 +8,9 @@ ghost use Rattle.volume_calls.specs.code.Asked.{IsAsked};
 
 use crate::PlainVolume;
 use crate::directories::{is_full, slot_zones};
-use crate::paths::names_of;
 use crate::rows::LARGEST_SIZE;
 use crate::walk::Place;
-use tree_model::{ByteList, Reply};
+use tree_model::{ByteList, Reply, names_of};
 use volume_model::Part;
 
 /// What a call takes that nothing refuses.

@@ -4,7 +4,7 @@ ghost use Rattle.minix_layout.specs.Geometry.{IsSound};
 ghost use Rattle.tree_model.specs.Calls.{leaves_tree};
 ghost use Rattle.volume_model.specs.NewVolume.{new_blocks, root_inode, root_placed};
 ghost use Rattle.volume_steps.specs.Plain.{is_rename};
-ghost use Rattle.volume_now.specs.NewNow.{new_now};
+ghost use Rattle.volume_steps.specs.NewNow.{new_now};
 
 use super::*;
 use blk_base::{Image, NoMemory};
@@ -17,6 +17,7 @@ use tree_model::{ByteList, Call};
 use volume_edits::{put_inode, put_slot};
 use volume_model::{DirectoryPart, NameMap, Part, Placed};
 use volume_now::VolumeNow;
+use volume_steps::new_volumes_are_in_use;
 use zone_maps::ZoneMap;
 
 // Five blocks are no zones of data.

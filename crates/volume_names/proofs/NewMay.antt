@@ -14,7 +14,7 @@ use Rattle.volume_model.specs.NewVolume.{root_placed}
 use Rattle.volume_steps.specs.Now.{tree_of_now}
 use Rattle.volume_steps.specs.Plain.{IsPlainNow}
 use Rattle.volume_steps.proofs.TreeSteps.{tree_back}
-use Rattle.volume_now.specs.NewNow.{new_now}
+use Rattle.volume_steps.specs.NewNow.{new_now}
 use Rattle.volume_names.specs.May.{FreePlace, MayCreate, MayMkdir}
 
 -- the root alone was born

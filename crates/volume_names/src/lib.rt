@@ -24,3 +24,4 @@ mod tests;
 pub use creation::create;
 pub use linking::link;
 pub use making::mkdir;
+pub use marks::mark_inode;

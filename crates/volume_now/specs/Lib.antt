@@ -1,3 +1,2 @@
 -- What a change touched, with its room.
 pub mod Noted
-pub mod NewNow

@@ -1,7 +1,7 @@
 //! A new volume.
 ghost use Rattle.std.specs.Prelude.{◌≡◌, codes, IfOk};
 ghost use Rattle.volume_model.specs.NewVolume.{new_blocks, root_inode, root_placed};
-ghost use Rattle.volume_now.specs.NewNow.{new_now};
+ghost use Rattle.volume_steps.specs.NewNow.{new_now};
 
 use crate::VolumeNow;
 use blk_base::{Image, NoMemory};

@@ -42,3 +42,5 @@ pub mod GoneDirectories
 pub mod UnlinkCall
 pub mod RmdirCall
 pub mod AllCalls
+pub mod TakeSteps
+pub mod NewInUse

@@ -3,5 +3,8 @@ pub mod Zones
 pub mod Steps
 pub mod Calls
 pub mod Plain
+pub mod NewNow
+pub mod Numbers
+pub mod Cuts
 pub mod Sample
 pub mod laws

@@ -15,9 +15,22 @@ ghost use Rattle.volume_model.specs.declared.placed.Placed.{Placed};
 ghost use Rattle.volume_steps.specs.Now.{VolumeNow, tree_of_now, room_of, unchanged};
 ghost use Rattle.volume_steps.specs.Plain.{IsPlainNow, is_of_bytes};
 ghost use Rattle.volume_steps.specs.Calls.{called, after_release};
+ghost use Rattle.volume_steps.specs.NewNow.{new_now};
+ghost use Rattle.minix_layout.specs.Geometry.{IsSound};
+ghost use Rattle.minix_layout.specs.declared.division.Geometry.{Geometry};
 ghost use Rattle.volume_steps.specs.laws.Called.{FindsRoom};
 ghost use Rattle.volume_steps.specs.laws.Steady.{HasNumber, IsSteady, TakesLowest, shape_at};
 ghost use Rattle.volume_steps.specs.Sample.{small_volume, after_calls, touched_in, count_once, numbers_of, first_zones, first_session, removing_session, ten_directories};
+
+use volume_model::new_volumes_are_plain;
+
+/// A law, which does nothing when it is called: a new volume, whose root has the first zone of data, is plain in use,
+/// however it is divided.
+pub fn new_volumes_are_in_use()
+    ensures { (g : Geometry) → IsSound g → IsPlainNow (new_now g) }
+{
+    new_volumes_are_plain();
+}
 
 /// A law, which does nothing when it is called: a call that the tree refuses changes nothing and touches nothing.
 pub fn refused_calls_change_nothing()

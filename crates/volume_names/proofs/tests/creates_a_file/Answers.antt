@@ -1,7 +1,7 @@
 use Rattle.std.proofs.Common.{List, ℕ, sym, subst}
 use Rattle.volume_steps.specs.Now.{VolumeNow}
-use Rattle.volume_now.specs.NewNow.{new_now}
-use Rattle.volume_now.proofs.NewInUse.{new_in_use}
+use Rattle.volume_steps.specs.NewNow.{new_now}
+use Rattle.volume_steps.proofs.NewInUse.{new_in_use}
 use Rattle.volume_names.specs.May.{MayCreate}
 use Rattle.volume_names.proofs.NewMay.{small, small_sound, small_create}
 use Rattle.volume_names.proofs.tests.creates_a_file.Goals as goal

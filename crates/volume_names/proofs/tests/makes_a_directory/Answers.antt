@@ -1,7 +1,7 @@
 use Rattle.std.proofs.Common.{List, ℕ, sym, subst}
 use Rattle.volume_steps.specs.Now.{VolumeNow}
-use Rattle.volume_now.specs.NewNow.{new_now}
-use Rattle.volume_now.proofs.NewInUse.{new_in_use}
+use Rattle.volume_steps.specs.NewNow.{new_now}
+use Rattle.volume_steps.proofs.NewInUse.{new_in_use}
 use Rattle.volume_names.specs.May.{MayMkdir}
 use Rattle.volume_names.proofs.NewMay.{small, small_sound, small_mkdir}
 use Rattle.volume_names.proofs.tests.makes_a_directory.Goals as goal

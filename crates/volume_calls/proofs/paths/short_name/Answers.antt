@@ -1,5 +1,0 @@
-use Rattle.volume_calls.proofs.NameTexts.{no_name}
-use Rattle.volume_calls.proofs.paths.short_name.Goals as goal
-
-pub returns-in-None-clause-long : goal.returns-in-None-clause-long
-returns-in-None-clause-long c = no_name c.args.name.now c.requires c.in-None.ensures

@@ -1,0 +1,46 @@
+//! A name goes out of its directory, with its slot. No call takes memory.
+ghost use Rattle.std.specs.Prelude.{◌≡◌, ◌≤◌, ◌+◌, IfSome, IsNone, None, Some};
+ghost use Rattle.dir_ops.specs.Slots.{place_of};
+ghost use Rattle.volume_steps.specs.Steps.{take_name};
+ghost use Rattle.volume_names.specs.code.Steps.{After};
+ghost use Rattle.volume_removals.specs.code.Naming.{CanTake, without_slot};
+
+use minix_layout::Name;
+use volume_edits::{put_inode, put_slot, table_block};
+use volume_model::{DirectoryPart, Part};
+use volume_now::{Touched, VolumeNow, block_zone};
+
+/// Takes a name out of the directory with this birth.
+pub fn take_name(v: &mut VolumeNow, n: u64, name: &Name, touched: &mut Touched)
+    requires may { CanTake v.old n name.now }
+    requires room { 3 ≤ touched.old.spare }
+    ensures done { After touched.old.touched (take_name v.old n name.now) v.new touched.new.touched }
+    ensures spare { touched.new.spare + 3 ≡ touched.old.spare }
+{
+    let Some(placed) = v.nodes.get_mut(&n) else {
+        unreachable!();
+    };
+    let Part::Directory(directory) = &mut placed.part else {
+        unreachable!();
+    };
+    let Some(at) = remove_name(directory, name) else {
+        unreachable!();
+    };
+    let zone = block_zone(&v.blocks, &placed.inode, (at / 64) as u32);
+    put_slot(&mut v.blocks, &v.geometry, zone, (at % 64) as u8, None);
+    put_inode(&mut v.blocks, &v.geometry, placed.number, &placed.inode);
+    touched.note_block(zone.into());
+    touched.note_block(table_block(&v.geometry, placed.number));
+    touched.note_node(n);
+}
+
+// A name goes, and the slot at the place that is told is free. The directory keeps its length.
+fn remove_name(directory: &mut DirectoryPart, name: &Name) -> Option<usize>
+    ensures some { IfSome result (λ at. (place_of directory.old.slots name.now ≡ Some at) × (directory.new ≡ without_slot directory.old at name.now)) }
+    ensures none { IsNone result → place_of directory.old.slots name.now ≡ None }
+{
+    let at = directory.slots.find(name)?;
+    let _ = directory.slots.remove(name);
+    directory.names.remove(name);
+    Some(at)
+}
