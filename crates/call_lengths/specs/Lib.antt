@@ -1,0 +1,2 @@
+-- How much a call tells.
+pub mod Lengths
