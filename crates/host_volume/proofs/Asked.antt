@@ -4,7 +4,7 @@ use Rattle.std.proofs.Common.{ap, ◌∙◌}
 use Rattle.tree_model.specs.declared.call.Call.{Call}
 use Rattle.tree_model.specs.Calls.{Row, outcome, needs}
 use Rattle.tree_model.specs.Plain.{AreBornBefore}
-use Rattle.volume_calls.proofs.TakeSteps.{none_born}
+use Rattle.volume_steps.proofs.TakeSteps.{none_born}
 use Rattle.volume_steps.specs.Now.{VolumeNow, tree_of_now, room_of}
 use Rattle.volume_steps.specs.Plain.{IsPlainNow, is_rename}
 use Rattle.volume_steps.proofs.PlainNow.{tree_is_plain}

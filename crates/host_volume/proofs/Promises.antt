@@ -5,7 +5,7 @@ use Rattle.std.proofs.lemmas.Option.{none-some, same_Some}
 use Rattle.tree_model.specs.declared.call.Call.{Call}
 use Rattle.tree_model.specs.declared.call.Reply.{Reply}
 use Rattle.tree_model.specs.Calls.{Row}
-use Rattle.volume_calls.proofs.TakeSteps.{none_born}
+use Rattle.volume_steps.proofs.TakeSteps.{none_born}
 use Rattle.zone_maps.specs.Zones.{state_of}
 use Rattle.zone_maps.specs.declared.zone_state.ZoneState.TheVariants as states
 use Rattle.volume_steps.specs.Calls.{after_release}

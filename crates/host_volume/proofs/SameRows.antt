@@ -13,7 +13,7 @@ use Rattle.tree_model.specs.Trees.{directory_links}
 use Rattle.tree_model.specs.laws.MapOrder.{InOrder}
 use Rattle.tree_model.proofs.Outcomes.{slot_needs}
 use Rattle.tree_model.proofs.Rows.{parent_ok}
-use Rattle.volume_calls.proofs.TakeSteps.{mkdir_takes, create_takes}
+use Rattle.volume_steps.proofs.TakeSteps.{mkdir_takes, create_takes}
 use Rattle.volume_steps.specs.Plain.{is_rename}
 use Rattle.host_volume.specs.Numbers.{decided}
 

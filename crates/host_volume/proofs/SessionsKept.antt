@@ -16,7 +16,7 @@ use Rattle.volume_model.specs.Trees.{tree_now}
 use Rattle.volume_model.proofs.SameTrees.{same_but_births}
 use Rattle.volume_steps.specs.Now.{VolumeNow, tree_of_now}
 use Rattle.volume_steps.specs.Plain.{IsPlainNow}
-use Rattle.volume_now.specs.NewNow.{new_now}
+use Rattle.volume_steps.specs.NewNow.{new_now}
 use Rattle.journal_ring.specs.LogRing.{LogRing}
 use Rattle.host_machine.specs.Host.{advance}
 use Rattle.host_machine.specs.Outcomes.{Done}

@@ -13,7 +13,7 @@ use Rattle.tree_model.specs.Calls.{takes_no_zone, tree_after, needs}
 use Rattle.tree_model.specs.Histories.{same_file, maps_block, writes}
 use Rattle.tree_model.specs.Maps.{at_number}
 use Rattle.tree_model.proofs.Zones.{needs_none}
-use Rattle.volume_calls.proofs.TakeSteps.{none_born}
+use Rattle.volume_steps.proofs.TakeSteps.{none_born}
 use Rattle.volume_ops.specs.Places.{table_block}
 use Rattle.zone_maps.specs.Zones.{state_of}
 use Rattle.volume_model.specs.Touched.{IsMeta, Page, Tells as TellsBlocks}

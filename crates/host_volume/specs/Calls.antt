@@ -18,6 +18,7 @@ use Rattle.host_machine.specs.Model.{FileBlock, Applied}
 use Rattle.flush_actor.specs.declared.call_kind.CallKind.{CallKind}
 use Rattle.flush_actor.specs.declared.call_kind.CallKind.TheVariants.{Reading, Changing, FileBarrier, DataBarrier, FileSync, DataSync, WholeSync}
 use Rattle.host_volume.specs.Numbers.{next_birth, number_in, decided}
+pub use Rattle.volume_steps.specs.Cuts.{keeps_file, keeps_size, cuts_nothing}
 
 abbrev pub kind_of : Call → CallKind
 kind_of (calls.Read path off len) = Reading
@@ -69,19 +70,6 @@ refusal v c = refused_by (decided (room_of v.geometry) (tree_of_now v) (next_bir
 
 unfoldable pub needed : VolumeNow → Call → ℕ
 needed v c = needs (tree_of_now v) (next_birth (tree_of_now v)) c
-
--- A file keeps its size and its blocks, and no byte of them is cleared.
-abbrev pub keeps_file : ℕ → File → Bool
-keeps_file size f =
-    (f.size == size) && (not (list_any (λ (e : ℕ × List ℕ). nat_le size (1024 * e.0)) f.blocks)
-    && ((size % 1024 == 0) || not (is_some (at_number f.blocks (size / 1024)))))
-
-abbrev pub keeps_size : ℕ → Node → Bool
-keeps_size size (nodes.File f) = keeps_file size f
-keeps_size size other = false
-
-abbrev pub cuts_nothing : Tree → List ℕ → ℕ → Bool
-cuts_nothing tree path size = elim (walk_path tree path) as (λ _. Bool) [ Err reply ↦ false | Ok found ↦ keeps_size size found.node ]
 
 -- both paths lead to one node
 abbrev pub names_one : Tree → List ℕ → List ℕ → Bool

@@ -12,6 +12,7 @@ use Rattle.tree_model.specs.Trees.{AreAlike}
 use Rattle.volume_ops.specs.Volume.{disk_of, tree_of}
 use Rattle.volume_steps.specs.Now.{VolumeNow, tree_of_now, room_of}
 use Rattle.volume_steps.specs.Plain.{IsPlainNow, is_rename}
+pub use Rattle.volume_steps.specs.NewNow.{new_now}
 use Rattle.journal_ring.specs.LogRing.{LogRing}
 use Rattle.crash_laws.specs.LegalHistory.{root_alone}
 use Rattle.crash_laws.specs.Recovery.{IsRecovered}
@@ -22,7 +23,8 @@ use Rattle.host_machine.specs.Views.{is_answered, cut_of}
 use Rattle.host_machine.specs.laws.Contract.{noted_history, session}
 use Rattle.host_machine.specs.laws.Rules.{AllRules}
 use Rattle.host_runs.specs.Opened.{IsEmptyLog}
-use Rattle.host_runs.specs.Runs.{Event, steps}
+pub use Rattle.host_runs.specs.Runs.{Event}
+use Rattle.host_runs.specs.Runs.{steps}
 use Rattle.host_runs.specs.Sentences.{kept_number, KeepsSentences}
 use Rattle.host_volume.specs.ByteCalls.{ByteCall}
 use Rattle.host_volume.specs.Volumes.{HaveBytes}

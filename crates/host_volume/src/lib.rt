@@ -19,3 +19,4 @@ pub use laws::{
     journals_are_read_as_written, new_volumes_can_be_opened, sessions_keep_rules_and_trees,
     volumes_are_seen_as_they_are, volumes_keep_their_promises,
 };
+pub use volume_steps::new_volumes_are_in_use;

@@ -16,7 +16,7 @@ use Rattle.volume_model.specs.Volume.{Place, zone_in}
 use Rattle.volume_model.specs.laws.Zones.{zones_kept}
 use Rattle.volume_steps.specs.Now.{tree_of_now}
 use Rattle.volume_steps.specs.Plain.{IsInUse, IsPlainNow}
-use Rattle.volume_now.specs.NewNow.{new_now}
+use Rattle.host_volume.specs.Runs.{new_now}
 use Rattle.made_sessions.specs.MadeSessions.{made_now}
 
 module _ (g : Geometry) (sound : IsSound g) (new : IsPlainNow (new_now g)) where

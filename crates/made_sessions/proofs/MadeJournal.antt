@@ -13,12 +13,10 @@ use Rattle.volume_ops.specs.Volume.{disk_of}
 use Rattle.volume_model.specs.NewVolume.{root_placed}
 use Rattle.volume_model.specs.Trees.{tree_now}
 use Rattle.volume_steps.specs.Plain.{IsPlainNow}
-use Rattle.volume_now.specs.NewNow.{new_now}
 use Rattle.mount_make.specs.Made.{made_volume, made_image, new_journal}
 use Rattle.mount_make.proofs.Filling.{length-made}
-use Rattle.host_runs.specs.Runs.{Event}
 use Rattle.host_volume.specs.ByteCalls.{ByteCall}
-use Rattle.host_volume.specs.Runs.{IsOpenedVolume, HasEmptyJournal, host_after, KeepsSession}
+use Rattle.host_volume.specs.Runs.{Event, new_now, IsOpenedVolume, HasEmptyJournal, host_after, KeepsSession}
 use Rattle.host_volume.proofs.RealJournal.{super_has, no_header, journal_written}
 use Rattle.host_volume.proofs.SessionsKept.{session_runs}
 use Rattle.made_sessions.specs.MadeSessions.{made_now, made_opening, made_ring}

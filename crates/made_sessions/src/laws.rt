@@ -3,12 +3,11 @@ ghost use Rattle.std.specs.Prelude.{◌≤◌, ◌<◌, ◌+◌, ℕ, List};
 ghost use Rattle.minix_layout.specs.declared.division.Geometry.{Geometry};
 ghost use Rattle.minix_layout.specs.Geometry.{IsSound};
 ghost use Rattle.volume_steps.specs.Plain.{IsPlainNow};
-ghost use Rattle.host_runs.specs.Runs.{Event};
 ghost use Rattle.host_volume.specs.ByteCalls.{ByteCall};
-ghost use Rattle.host_volume.specs.Runs.{host_after, KeepsSession};
+ghost use Rattle.host_volume.specs.Runs.{Event, host_after, KeepsSession};
 ghost use Rattle.made_sessions.specs.MadeSessions.{made_now, made_opening, made_ring};
 
-use volume_calls::new_volumes_are_in_use;
+use host_volume::new_volumes_are_in_use;
 
 /// A law, which does nothing when it is called: whatever callers and actors do in a session on an image that was made,
 /// with any division of its volume and a JBD2 journal of a size that is allowed, the submitted list keeps all order

@@ -6,7 +6,7 @@ ghost use Rattle.tree_model.specs.declared.call.Reply.TheVariants as replies;
 ghost use Rattle.volume_ops.specs.Volume.{disk_of};
 ghost use Rattle.volume_model.specs.NewVolume.{new_volume};
 ghost use Rattle.volume_steps.specs.Now.{VolumeNow};
-ghost use Rattle.volume_now.specs.NewNow.{new_now};
+ghost use Rattle.volume_steps.specs.NewNow.{new_now};
 ghost use Rattle.journal_blocks.specs.Readers.{format};
 ghost use Rattle.journal_blocks.specs.declared.super_block.JournalSuper.{JournalSuper};
 ghost use Rattle.journal_ring.specs.LogRing.{LogRing};
@@ -23,7 +23,7 @@ ghost use Rattle.host_volume.specs.Runs.{IsOpenedVolume, HasEmptyJournal, host_a
 ghost use Rattle.host_volume.specs.ByteCalls.{ByteCall};
 ghost use Rattle.host_volume.specs.Sessions.{Opening, over, Stands};
 
-use volume_calls::new_volumes_are_in_use;
+use volume_steps::new_volumes_are_in_use;
 
 /// A law, which does nothing when it is called: whatever callers and actors do in a session that was opened on a plain
 /// volume of the root alone, behind which an empty journal lies, the submitted list keeps all order rules; and a power
