@@ -1,0 +1,3 @@
+mod Listed
+mod Sends
+mod Machine

@@ -1,0 +1,2 @@
+-- What the code answers, as the steps have it.
+pub mod Told
