@@ -1,0 +1,3 @@
+mod Noted
+mod Cached
+pub mod Machine

@@ -1,0 +1,2 @@
+-- The notes one by one, as the code takes them.
+pub mod Noting
