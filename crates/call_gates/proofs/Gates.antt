@@ -1,0 +1,76 @@
+-- What a volume says of a call is what the host asks.
+use Rattle.std.specs.List.{count_by}
+use Rattle.std.proofs.Common.{◌≡◌, ℕ, ◌+◌, ◌==◌, Bool, true, false, cond, if◌then◌else◌, List, [], ◌∷◌, length, Option, Some, None, Result, Ok, Err, refl, sym, ap, ◌∙◌, arith}
+use Rattle.std.specs.Prelude.{unwrap_or}
+use Rattle.std.proofs.lemmas.List.Sums.{sum_by-cons}
+use Rattle.tree_model.specs.declared.call.Call.{Call}
+use Rattle.tree_model.specs.declared.call.Reply.{Reply}
+use Rattle.tree_model.specs.declared.call.Reply.TheVariants as replies
+use Rattle.tree_model.specs.Calls.{Tree, Row, Found, walk_path, outcome, needs}
+use Rattle.tree_model.specs.Histories.{is_found_at}
+use Rattle.tree_model.specs.Plain.{AreBornBefore}
+use Rattle.zone_maps.specs.declared.zone_state.ZoneState.{ZoneState}
+use Rattle.zone_maps.specs.declared.zone_state.ZoneState.TheVariants as states
+use Rattle.zone_maps.specs.Zones.{is_free}
+use Rattle.volume_steps.specs.Now.{VolumeNow, tree_of_now, room_of}
+use Rattle.volume_steps.specs.Plain.{is_rename}
+use Rattle.volume_calls.specs.Asked.{Answers}
+use Rattle.volume_calls.specs.Births.{birth_in}
+use Rattle.volume_calls.specs.declared.answer.Answer.{Answer}
+use Rattle.volume_calls.specs.declared.answer.Answer.TheVariants.{Refused, Change}
+use Rattle.host_volume.specs.Calls.{refused_by, refusal, needed, birth_on, names_one}
+use Rattle.host_volume.specs.Numbers.{next_birth, decided}
+use Rattle.host_volume.specs.Volumes.{free_from, zones_of}
+use Rattle.host_volume.specs.laws.Numbers.{born_before_next}
+
+-- ---- what refuses it
+
+abbrev pub told : Answer → Option Reply
+told (Refused reply) = Some reply
+told Change = None
+
+told_as : (a : Answer) (r : Row) → Answers a r → told a ≡ refused_by r
+told_as (Refused reply) (Err why) e = ap Some e
+told_as (Refused reply) (Ok d) e = absurd e
+told_as Change (Err why) e = absurd e
+told_as Change (Ok d) e = refl
+
+pub refused_as : (v : VolumeNow) (c : Call) (a : Answer) → is_rename c ≡ false → ((n : ℕ) → AreBornBefore n (tree_of_now v) → Answers a (outcome (room_of v.geometry) (tree_of_now v) n c)) → told a ≡ refusal v c
+unfolding refusal decided
+refused_as v c a other h =
+    let tree = tree_of_now v in
+    told_as a (outcome (room_of v.geometry) tree (next_birth tree) c) (h (next_birth tree) (born_before_next tree))
+    ∙ sym (ap (λ (t : Bool). refused_by (if t then Err replies.Invalid else outcome (room_of v.geometry) tree (next_birth tree) c)) other)
+
+pub renamed_as : (v : VolumeNow) (c : Call) → is_rename c ≡ true → Some replies.Invalid ≡ refusal v c
+unfolding refusal decided
+renamed_as v c is =
+    sym (ap (λ (t : Bool). refused_by (if t then Err replies.Invalid else outcome (room_of v.geometry) (tree_of_now v) (next_birth (tree_of_now v)) c)) is)
+
+pub needed_as : (v : VolumeNow) (c : Call) (n : ℕ) → ((m : ℕ) → AreBornBefore m (tree_of_now v) → n ≡ needs (tree_of_now v) m c) → n ≡ needed v c
+unfolding needed
+needed_as v c n h = h (next_birth (tree_of_now v)) (born_before_next (tree_of_now v))
+
+-- ---- paths
+
+pub birth_is : (tree : Tree) (path : List ℕ) → unwrap_or (birth_in tree path) 0 ≡ birth_on tree path
+birth_is tree path = by (walk_path tree path)
+  where
+    by : (r : Result Found Reply) → unwrap_or (elim r as (λ _. Option ℕ) [ Err reply ↦ None | Ok found ↦ Some found.birth ]) 0 ≡ elim r as (λ _. ℕ) [ Err reply ↦ 0 | Ok found ↦ found.birth ]
+    by (Err reply) = refl
+    by (Ok found) = refl
+
+-- ---- free zones
+
+one_more : (z : ZoneState) (zs : List ZoneState) → count_by is_free (z ∷ zs) ≡ cond (is_free z) 1 0 + count_by is_free zs
+one_more z zs = sum_by-cons (λ (x : ZoneState). cond (is_free x) 1 0) z zs
+
+pub free_are : (zone : ℕ) (zs : List ZoneState) → count_by is_free zs ≡ length (free_from zone zs)
+free_are zone [] = refl
+free_are zone (states.Free ∷ zs) = (let one = one_more states.Free zs in let rest = free_are (zone + 1) zs in omega (arith, one, rest))
+free_are zone (states.Used ∷ zs) = (let one = one_more states.Used zs in let rest = free_are (zone + 1) zs in omega (arith, one, rest))
+free_are zone (states.Quarantined tx ∷ zs) = (let one = one_more (states.Quarantined tx) zs in let rest = free_are (zone + 1) zs in omega (arith, one, rest))
+
+pub free_is : (v : VolumeNow) → count_by is_free v.zones.states ≡ length (zones_of v).free
+unfolding zones_of
+free_is v = free_are v.zones.first v.zones.states

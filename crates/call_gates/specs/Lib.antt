@@ -1,0 +1,2 @@
+-- Why a call waits.
+pub mod Hindrances

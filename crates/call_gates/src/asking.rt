@@ -1,0 +1,75 @@
+//! What a volume says of a call before it is done.
+ghost use Rattle.std.specs.Prelude.{◌≡◌, false};
+ghost use Rattle.host_volume.specs.Calls.{refusal, needed, would_change, node_of, names_one};
+ghost use Rattle.volume_steps.specs.Now.{tree_of_now};
+ghost use Rattle.volume_steps.specs.Plain.{is_rename};
+
+use crate::kinds::call_path;
+use tree_model::{ByteList, Call, Reply};
+use volume_calls::{Answer, PlainVolume};
+
+fn is_rename(call: &Call) -> bool
+    ensures { result ≡ is_rename call.now }
+{
+    matches!(call, Call::Rename(_, _))
+}
+
+/// What refuses a call, if anything does. Renames are not built yet, and each of them is refused.
+pub fn refusal(volume: &PlainVolume, call: &Call) -> Option<Reply>
+    ensures { result ≡ refusal volume.now call.now }
+{
+    if is_rename(call) {
+        return Some(Reply::Invalid);
+    }
+    match volume.reply(call) {
+        Answer::Refused(reply) => Some(reply),
+        Answer::Change => None,
+    }
+}
+
+/// How many zones a call would take that is no rename.
+pub fn needed(volume: &PlainVolume, call: &Call) -> u32
+    requires { is_rename call.now ≡ false }
+    ensures { result ≡ needed volume.now call.now }
+{
+    volume.needs(call)
+}
+
+// Both paths lead to one node.
+fn names_one(volume: &PlainVolume, path: &ByteList, other: &ByteList) -> bool
+    ensures { result ≡ names_one (tree_of_now volume.now) path.now other.now }
+{
+    match (volume.node(path), volume.node(other)) {
+        (Some(birth), Some(also)) => also == birth,
+        _ => false,
+    }
+}
+
+/// Whether a call that nothing refuses would change the tree or a page.
+#[tactic(auto, unfolding(host_volume::specs::Calls::would_change))]
+pub fn would_change(volume: &PlainVolume, call: &Call) -> bool
+    ensures { result ≡ would_change volume.now call.now }
+{
+    match call {
+        Call::Mkdir(_)
+        | Call::Rmdir(_)
+        | Call::Create(_)
+        | Call::Unlink(_)
+        | Call::Link(_, _)
+        | Call::Write { .. }
+        | Call::Bytes { .. } => true,
+        Call::Rename(path, other) => !names_one(volume, path, other),
+        Call::Truncate(path, size) => !volume.cuts_nothing(path, *size),
+        _ => false,
+    }
+}
+
+/// The birth of the node that a call is on; the root's where its path leads to none.
+pub fn node_of(volume: &PlainVolume, call: &Call) -> u64
+    ensures { result ≡ node_of volume.now call.now }
+{
+    match call_path(call) {
+        Some(path) => volume.node(path).unwrap_or(0),
+        None => 0,
+    }
+}
