@@ -1,0 +1,5 @@
+mod Rows
+mod Answered
+mod Machine
+mod Waiting
+mod Finds

@@ -1,0 +1,5 @@
+-- One step of a plain call.
+pub mod Steps
+pub mod Parts
+pub mod Replies
+pub mod code

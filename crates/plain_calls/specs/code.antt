@@ -1,0 +1,3 @@
+-- What the code answers and counts.
+pub mod Told
+pub mod Waiting
