@@ -1,13 +1,15 @@
-//! What a host answers: to a step of a caller, and of how a caller stands.
+//! What a host answers: to a step of a caller, of how a caller stands, and of the calls that began and ended.
 //!
-//! `step` has the answers to a step, with the causes for which a call waits, and `standing` how a caller stands when it is
-//! asked. What each of them means is said by the host.
+//! `step` has the answers to a step, with the causes for which a call waits, `standing` how a caller stands when it is
+//! asked, and `entry` what is noted of calls. What each of them means is said by the host.
 //!
 //! Stands on `tree_model`, which has the replies to calls.
 #![tactic(auto)]
 
+mod entry;
 mod standing;
 mod step;
 
+pub use entry::{Entry, EntryKind};
 pub use standing::{Stand, Standing};
 pub use step::{Cause, Step};

@@ -1,2 +1,13 @@
 mod Opened
 mod Turns
+mod SameDivision
+mod ListReplies
+mod WaitsKept
+mod Endings
+mod Noted
+mod Plainly
+mod Steps
+mod Kept
+mod Stops
+mod Advanced
+mod Stands

@@ -1,5 +1,6 @@
 -- A host that is made is the machine's, opened.
-use Rattle.std.proofs.Common.{◌≡◌, ℕ, Bool, true, false, if◌then◌else◌, ◌⊎◌, List, [], ◌∷◌, ◌++◌, length, map, replicate, drop, None, refl, sym, ap, subst, ◌∙◌, inl, inr}
+use Rattle.std.proofs.Common.{◌≡◌, ◌<◌, ◌^◌, ℕ, Bool, true, false, if◌then◌else◌, ◌⊎◌, List, [], ◌∷◌, ◌++◌, length, map, replicate, drop, None, refl, sym, ap, subst, arith, ◌∙◌, inl, inr}
+use Rattle.std.proofs.lemmas.List.{length-map, length-replicate}
 use Rattle.blk_base.specs.Members.{In, In-push_cases}
 use Rattle.page_cache.specs.Pages.{Cache}
 use Rattle.page_cache.specs.declared.cached_page.CachedPage.{CachedPage}
@@ -13,8 +14,8 @@ use Rattle.flush_actor.specs.Waits.{no_wait}
 use Rattle.flush_actor.specs.declared.wait.Wait.{Wait}
 use Rattle.host_machine.specs.State as machine
 use Rattle.host_core.specs.Now.{HostNow, host_made}
-use Rattle.host_core.specs.code.Fields.{thread_of, program_of, AreFresh, host_of}
-use Rattle.host_core.specs.declared.entry.Entry.{Entry}
+use Rattle.host_core.specs.code.Fields.{thread_of, program_of, IsFresh, AreFresh, IsHost, host_of}
+use Rattle.host_answers.specs.declared.entry.Entry.{Entry}
 use Rattle.host_core.specs.declared.thread.Thread.{Thread}
 
 abbrev fresh : List Call → machine.Thread Call
@@ -25,34 +26,31 @@ fresh_threads [] h = refl
 fresh_threads (t ∷ ts) h =
     let own = h t (inl refl) in
     let one : thread_of t ≡ fresh (program_of t) =
-    ap (λ n. let x : machine.Thread Call = record { calls = drop n t.program.items; begun = t.begun } in x) own.0
-    ∙ ap (λ b. let x : machine.Thread Call = record { calls = t.program.items; begun = b } in x) own.1 in
+    ap (λ n. let x : machine.Thread Call = record { calls = drop n t.program.items; begun = t.begun } in x) own.ended
+    ∙ ap (λ b. let x : machine.Thread Call = record { calls = t.program.items; begun = b } in x) own.begun in
     ap (λ x. x ∷ map thread_of ts) one ∙ ap (λ xs. fresh (program_of t) ∷ xs) (fresh_threads ts (λ u i. h u (inr i)))
 
 waits_of : (ts : List Thread) → replicate (length ts) no_wait ≡ map (λ (p : List Call). no_wait) (map program_of ts)
 waits_of [] = refl
 waits_of (t ∷ ts) = ap (λ (ws : List Wait). no_wait ∷ ws) (waits_of ts)
 
-pub fresh_more : (ts new : List Thread) (t : Thread) → AreFresh ts → new ≡ ts ++ t ∷ [] → t.ended ≡ 0 → t.begun ≡ None → AreFresh new
-fresh_more ts new t h e ended begun = subst AreFresh (sym e) (λ u i. by u (In-push_cases ts t u i))
+pub fresh_more : (ts new : List Thread) (t : Thread) → AreFresh ts → new ≡ ts ++ t ∷ [] → IsFresh t → AreFresh new
+fresh_more ts new t h e own = subst AreFresh (sym e) (λ u i. by u (In-push_cases ts t u i))
   where
-    by : (u : Thread) → In u ts ⊎ (t ≡ u) → (u.ended ≡ 0) × (u.begun ≡ None)
+    by : (u : Thread) → In u ts ⊎ (t ≡ u) → IsFresh u
     by u (inl i) = h u i
-    by u (inr same) = subst (λ (x : Thread). (x.ended ≡ 0) × (x.begun ≡ None)) same (ended, begun)
+    by u (inr same) = subst IsFresh same own
 
-pub fresh_pushed : (ts new : List Thread) (t : Thread) (b : Bool) → AreFresh ts → new ≡ (if b then ts ++ t ∷ [] else ts) → t.ended ≡ 0 → t.begun ≡ None → AreFresh new
-fresh_pushed ts new t true h e ended begun = fresh_more ts new t h e ended begun
-fresh_pushed ts new t false h e ended begun = subst AreFresh (sym e) h
+pub fresh_pushed : (ts new : List Thread) (t : Thread) (b : Bool) → AreFresh ts → new ≡ (if b then ts ++ t ∷ [] else ts) → t.ended ≡ 0 → t.begun ≡ None → length t.program.items < 2 ^ 32 → AreFresh new
+fresh_pushed ts new t true h e ended begun short = fresh_more ts new t h e (record { ended = ended; begun = begun; short = short })
+fresh_pushed ts new t false h e ended begun short = subst AreFresh (sym e) h
 
 -- ---- a host that is made
 
-abbrev built : VolumeNow → JournalRing → ℕ → ℕ → ℕ → List CachedPage → List Wait → List (machine.Thread Call) → List (List Call) → HostNow
-built v r zones owners room pages waits threads programs = record {
+abbrev built : VolumeNow → JournalRing → ℕ → ℕ → List CachedPage → List Wait → List (machine.Thread Call) → List (List Call) → HostNow
+built v r zones owners pages waits threads programs = record {
   made_with = r.made_with;
   journal = zones;
-  blocks = zones;
-  spare = 0;
-  room = room;
   programs = programs;
   host = record {
     journal = record {
@@ -81,9 +79,18 @@ made_done j v w ps qs owners history cuts ts r programs blocks zones callers ej 
     ∙ ap (λ x. host_of (made r blocks blocks callers) w qs x history cuts ts) eo
     ∙ ap (λ x. host_of (made r blocks blocks callers) w qs (replicate zones 0) x cuts ts) eh
     ∙ ap (λ x. host_of (made r blocks blocks callers) w qs (replicate zones 0) [] x ts) ec
-    ∙ ap (λ n. built w r n zones qs.room qs.pages (replicate callers no_wait) (map thread_of ts) (map program_of ts)) eb
-    ∙ ap (λ n. built w r w.geometry.zones n qs.room qs.pages (replicate callers no_wait) (map thread_of ts) (map program_of ts)) ez
-    ∙ ap (λ x. built w r w.geometry.zones w.geometry.zones qs.room x (replicate callers no_wait) (map thread_of ts) (map program_of ts)) none
-    ∙ ap (λ x. built w r w.geometry.zones w.geometry.zones qs.room [] x (map thread_of ts) (map program_of ts)) (ap (λ n. replicate n no_wait) en ∙ waits_of ts)
-    ∙ ap (λ x. built w r w.geometry.zones w.geometry.zones qs.room [] (map (λ (p : List Call). no_wait) (map program_of ts)) x (map program_of ts)) (fresh_threads ts fresh_ts)
-    ∙ ap (λ x. built w r w.geometry.zones w.geometry.zones qs.room [] (map (λ (p : List Call). no_wait) x) (map fresh x) x) et
+    ∙ ap (λ n. built w r n zones qs.pages (replicate callers no_wait) (map thread_of ts) (map program_of ts)) eb
+    ∙ ap (λ n. built w r w.geometry.zones n qs.pages (replicate callers no_wait) (map thread_of ts) (map program_of ts)) ez
+    ∙ ap (λ x. built w r w.geometry.zones w.geometry.zones x (replicate callers no_wait) (map thread_of ts) (map program_of ts)) none
+    ∙ ap (λ x. built w r w.geometry.zones w.geometry.zones [] x (map thread_of ts) (map program_of ts)) (ap (λ n. replicate n no_wait) en ∙ waits_of ts)
+    ∙ ap (λ x. built w r w.geometry.zones w.geometry.zones [] (map (λ (p : List Call). no_wait) (map program_of ts)) x (map program_of ts)) (fresh_threads ts fresh_ts)
+    ∙ ap (λ x. built w r w.geometry.zones w.geometry.zones [] (map (λ (p : List Call). no_wait) x) (map fresh x) x) et
+
+pub made_is_host : (j : CommitActor) (v w : VolumeNow) (ts : List Thread) (r : JournalRing) (programs : List (List Call)) (blocks callers : ℕ)
+    → j ≡ made r blocks blocks callers → v ≡ w → blocks ≡ w.geometry.zones → callers ≡ length ts → map program_of ts ≡ programs → length programs < 2 ^ 32 → AreFresh ts → IsHost j v ts
+made_is_host j v w ts r programs blocks callers ej ev eb ec et few fresh_ts = record {
+  blocks = ap (λ (a : CommitActor). a.blocks) ej ∙ eb ∙ ap (λ (x : VolumeNow). x.geometry.zones) (sym ev);
+  waits = ap (λ (a : CommitActor). length a.part.flush.waits) ej ∙ length-replicate callers no_wait ∙ ec;
+  few = let n = length-map ts program_of in let e : length (map program_of ts) ≡ length programs = ap length et in omega arith;
+  within = λ t i. let own = fresh_ts t i in record { ended = let zero : t.ended ≡ 0 = own.ended in omega arith; short = own.short };
+}

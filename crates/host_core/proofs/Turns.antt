@@ -1,5 +1,6 @@
 -- The steps of the actors on their parts are those of the machine.
 use Rattle.std.proofs.Common.{◌≡◌, ℕ, ◌-◌, Bool, true, false, not, ◌&&◌, List, [], ◌∷◌, length, Option, Some, None, is_none, nat_lt, slice_index_or, if◌then◌else◌, refl, sym, ap, ◌∙◌}
+use Rattle.order_model.specs.declared.completion.Completion.{Completion}
 use Rattle.order_model.specs.declared.note.Note.TheVariants as notes
 use Rattle.order_model.specs.declared.request.Kind.TheVariants as puts
 use Rattle.order_model.specs.declared.request.Request.{Request}
@@ -15,7 +16,7 @@ use Rattle.tx_running.specs.Running.{Running, log_needs}
 use Rattle.tx_running.specs.Plan.{Planned}
 use Rattle.flush_actor.specs.Outcomes.{is_did}
 use Rattle.flush_actor.specs.Part.{FlushPart, at_limit, is_over}
-use Rattle.flush_actor.specs.Steps.{submit_turn, after_submit}
+use Rattle.flush_actor.specs.Steps.{FlushTurn, submit_turn, after_submit, flush_due, flush_turn, submit_flush, take_completion}
 use Rattle.commit_actor.specs.Actor.{builds_plan}
 use Rattle.commit_actor.specs.Journal.{Plan, Phase, Idle, Closing, Committing, JournalPart, is_closing, is_submitted, committing}
 use Rattle.commit_actor.specs.Steps as actor
@@ -124,6 +125,29 @@ module _ {T V C R : Type 0} (M : Model T V C R) (u : Setup) where
     where
       at : V → List ℕ → Turned V C R
       at w cs = record { host = record { journal = j; volume = w; pages = ps; owners = s.owners; history = s.history; cuts = cs; threads = s.threads }; turn = t }
+
+  -- ---- the flush actor
+
+  pub flush_done : (s : Host V C R) (q : Bool) (next : Option Completion) (j : JournalPart) (t : Turn)
+      → (let x : FlushTurn = record { part = j.flush; turn = t } in x) ≡ flush_turn q next s.journal.flush → j ≡ record s.journal { flush = j.flush }
+      → (let x : Turned V C R = record { host = record s { journal = j }; turn = t } in x) ≡ machine.flush_step M u q s next
+  flush_done s q next j t done same =
+      ap (λ (k : JournalPart). let x : Turned V C R = record { host = record s { journal = k }; turn = t } in x) same
+      ∙ ap taken done ∙ by (flush_due s.journal.flush) (at_limit s.journal.flush) q next
+    where
+      taken : FlushTurn → Turned V C R
+      taken x = record { host = machine.with_flush M u s x.part; turn = x.turn }
+
+      by : (due limit full : Bool) (o : Option Completion) →
+          taken (if due then if limit then record { part = s.journal.flush; turn = turns.SessionFull } else if full then record { part = s.journal.flush; turn = turns.QueueFull } else record { part = submit_flush s.journal.flush; turn = turns.Did }
+          else elim o as (λ _. FlushTurn) [ None ↦ record { part = s.journal.flush; turn = turns.Idle } | Some c ↦ record { part = take_completion c s.journal.flush; turn = turns.Did } ])
+          ≡ (if due then if limit then record { host = s; turn = turns.SessionFull } else if full then record { host = s; turn = turns.QueueFull } else record { host = machine.with_flush M u s (submit_flush s.journal.flush); turn = turns.Did }
+          else elim o as (λ _. Turned V C R) [ None ↦ record { host = s; turn = turns.Idle } | Some c ↦ record { host = machine.with_flush M u s (take_completion c s.journal.flush); turn = turns.Did } ])
+      by true true full o = refl
+      by true false true o = refl
+      by true false false o = refl
+      by false limit full None = refl
+      by false limit full (Some c) = refl
 
   -- ---- the write-back
 

@@ -5,9 +5,9 @@ use Rattle.tree_model.specs.declared.call.Call.TheVariants.{Sync}
 use Rattle.tree_model.specs.declared.call.Reply.{Reply}
 use Rattle.tree_model.specs.declared.call.Reply.TheVariants as replies
 use Rattle.host_machine.specs.State as machine
-use Rattle.host_core.specs.declared.entry.Entry.{Entry}
-use Rattle.host_core.specs.declared.entry.EntryKind.{EntryKind}
-use Rattle.host_core.specs.declared.entry.EntryKind.TheVariants.{Begin, End}
+use Rattle.host_answers.specs.declared.entry.Entry.{Entry}
+use Rattle.host_answers.specs.declared.entry.EntryKind.{EntryKind}
+use Rattle.host_answers.specs.declared.entry.EntryKind.TheVariants.{Begin, End}
 
 -- what ended a call stands as its reply
 abbrev pub ending_of : Reply → machine.Ending Reply

@@ -1,4 +1,6 @@
 -- What a host over a volume in use is.
 pub mod Now
 pub mod Entries
+pub mod Answers
+pub mod Standings
 pub mod code

@@ -14,19 +14,15 @@ use Rattle.host_machine.specs.State.{Host, Setup}
 use Rattle.host_volume.specs.PlainTrees.{PlainTree}
 use Rattle.host_volume.specs.Sessions.{model_of}
 
--- the superblock that the journal was made from and its block, how many blocks there are, for how many notes of the
--- running transaction and for how many pages there is room, all calls of each thread, and the host
+-- the superblock that the journal was made from and its block, all calls of each thread, and the host
 pub record HostNow : Type 0 where
   pub made_with : JournalSuper
   pub journal : ℕ
-  pub blocks : ℕ
-  pub spare : ℕ
-  pub room : ℕ
   pub programs : List (List Call)
   pub host : Host VolumeNow Call Reply
 
 abbrev pub with_host : HostNow → Host VolumeNow Call Reply → HostNow
-with_host h x = record { made_with = h.made_with; journal = h.journal; blocks = h.blocks; spare = h.spare; room = h.room; programs = h.programs; host = x }
+with_host h x = record { made_with = h.made_with; journal = h.journal; programs = h.programs; host = x }
 
 -- a host that is made: with a volume, a cache of no pages, the ring of an empty log, and programs
 abbrev pub host_made : VolumeNow → Cache → JournalRing → List (List Call) → HostNow
@@ -35,9 +31,6 @@ host_made v ps r programs =
     record {
       made_with = r.made_with;
       journal = v.geometry.zones;
-      blocks = v.geometry.zones;
-      spare = 0;
-      room = ps.room;
       programs = programs;
       host = opened (model_of (λ (c : Call). c) v.geometry) u v r.ring v.geometry.zones r.limit programs;
     }

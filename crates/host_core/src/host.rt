@@ -12,38 +12,37 @@ ghost use Rattle.journal_blocks.specs.Super.{IsSound};
 ghost use Rattle.journal_ring.specs.Journal as new_ring;
 ghost use Rattle.host_core.specs.Now.{host_made, model_now, setup_now, with_host};
 
-use crate::entry::Entry;
+use crate::parts::Parts;
 use crate::programs::Programs;
 use crate::thread::Thread;
 use blk_base::NoMemory;
 use commit_actor::{JournalPart, commit_step};
+use host_answers::Entry;
 use journal_ring::Ring;
 use order_model::{Completion, Inlet, Kind, Note, Outlet, Request, Turn};
 use page_cache::{PageState, Pages};
+use plain_calls::PlainVolume;
 use std::alloc::Global;
 use std::marker::Model;
-use volume_calls::PlainVolume;
 
 /// The volume, its cached pages, the journal, and the callers, with what they did.
 #[derive(Drop)]
 pub struct Host {
-    journal: JournalPart,
-    volume: PlainVolume,
-    pages: Pages,
-    // For each zone the transaction that took it for a file.
-    owners: Vec<u64>,
-    history: Vec<Entry>,
+    pub(crate) parts: Parts,
+    pub(crate) history: Vec<Entry>,
     cuts: Vec<u64>,
-    threads: Vec<Thread>,
+    pub(crate) threads: Vec<Thread>,
 }
 
 impl Model for Host {
     ghost use Rattle.host_core.specs.Now.{HostNow};
-    ghost use Rattle.host_core.specs.code.Fields.{host_of};
+    ghost use Rattle.host_core.specs.code.Fields.{host_of, IsHost};
 
     ghost Value = { HostNow };
 
-    ghost view = { λ h. host_of h.journal h.volume h.pages h.owners.items h.history.items h.cuts.items h.threads.items };
+    ghost view = { λ h. host_of h.parts.journal h.parts.volume h.parts.pages h.parts.owners.items h.history.items h.cuts.items h.threads.items };
+
+    ghost invariant = { λ h. IsHost h.parts.journal h.parts.volume h.threads.items };
 }
 
 impl Host {
@@ -72,11 +71,14 @@ impl Host {
         let blocks = u32::from(zones);
         let threads = programs.into_threads();
         let callers = threads.len() as u32;
-        Ok(Host {
+        let parts = Parts {
             journal: JournalPart::make(alloc, ring, limit, blocks, blocks, callers)?,
             volume,
             pages,
             owners: vec![in alloc; 0; usize::from(zones)]?,
+        };
+        Ok(Host {
+            parts,
             history: Vec::new(alloc),
             cuts: Vec::new(alloc),
             threads,
@@ -101,28 +103,35 @@ impl Host {
     pub fn submitted(&self) -> u64
         ensures { result ≡ length self.now.host.journal.flush.requests }
     {
-        self.journal.flush().submitted()
+        self.parts.journal.flush().submitted()
     }
 
     /// What each of them carries.
     pub fn notes(&self) -> &[Note]
         ensures { result.now ≡ self.now.host.journal.flush.notes }
     {
-        self.journal.flush().notes()
+        self.parts.journal.flush().notes()
     }
 
     /// How many completions were taken.
     pub fn taken_count(&self) -> u64
         ensures { result ≡ length self.now.host.journal.flush.taken }
     {
-        self.journal.flush().taken()
+        self.parts.journal.flush().taken()
+    }
+
+    /// How many requests may be submitted.
+    pub fn limit(&self) -> u64
+        ensures { result ≡ self.now.host.journal.flush.limit }
+    {
+        self.parts.journal.flush().limit()
     }
 
     /// Whether the power went or a request failed.
     pub fn has_stopped(&self) -> bool
         ensures { result ≡ has_stopped self.now.host.journal.flush.taken }
     {
-        self.journal.flush().is_over()
+        self.parts.journal.flush().is_over()
     }
 
     /// The step of the flush actor: a flush where one is due, or else a completion. It takes no memory.
@@ -142,7 +151,7 @@ impl Host {
         ensures out { O.rest out.new ≡ O.rest out.old }
         ensures from { I.rest from.new ≡ I.rest from.old }
     {
-        self.journal.flush_step(out, from)
+        self.parts.journal.flush_step(out, from)
     }
 
     /// The step of the commit actor. Only where it builds a plan it takes memory, and where that is refused, all is as it
@@ -156,17 +165,27 @@ impl Host {
         ensures full { result ≡ turns.QueueFull → O.was_full out.old out.new }
         ensures rest { O.rest out.new ≡ O.rest out.old }
     {
-        let builds = self.journal.builds_plan(&self.pages);
+        let builds = self.parts.journal.builds_plan(&self.parts.pages);
         if reserve_cut(&mut self.cuts, builds).is_err() {
             return Turn::NoMemory;
         }
-        let before = self.journal.committing();
-        let turn = commit_step(alloc, &mut self.journal, &mut self.pages, &self.volume, out);
+        let before = self.parts.journal.committing();
+        let turn = commit_step(
+            alloc,
+            &mut self.parts.journal,
+            &mut self.parts.pages,
+            &self.parts.volume,
+            out,
+        );
         if matches!(turn, Turn::NoMemory) {
             return turn;
         }
         note_cut(&mut self.cuts, builds, self.history.len() as u64);
-        release_closed(&mut self.volume, before, self.journal.committing());
+        release_closed(
+            &mut self.parts.volume,
+            before,
+            self.parts.journal.committing(),
+        );
         turn
     }
 
@@ -180,15 +199,20 @@ impl Host {
         ensures full { result ≡ turns.QueueFull → O.was_full out.old out.new }
         ensures rest { O.rest out.new ≡ O.rest out.old }
     {
-        if self.journal.flush().is_over() {
+        if self.parts.journal.flush().is_over() {
             return Turn::Idle;
         }
-        let Some(page) = self.pages.dirty_page(pick) else {
+        let Some(page) = self.parts.pages.dirty_page(pick) else {
             return Turn::Idle;
         };
         let (birth, index) = (page.birth, page.index);
-        let owner = self.owners.get(page.block as usize).copied().unwrap_or(0);
-        let ordered = !self.journal.is_submitted(owner);
+        let owner = self
+            .parts
+            .owners
+            .get(page.block as usize)
+            .copied()
+            .unwrap_or(0);
+        let ordered = !self.parts.journal.is_submitted(owner);
         let kind = Kind::Put {
             block: page.block,
             body: page.body.copy(),
@@ -198,14 +222,14 @@ impl Host {
             index,
             call: page.version,
         };
-        let turn = self.journal.submit(kind, ordered, false, note, out);
+        let turn = self.parts.journal.submit(kind, ordered, false, note, out);
         if matches!(turn, Turn::Did) {
             let state = if ordered {
                 PageState::Firm
             } else {
                 PageState::Loose
             };
-            self.pages.mark(birth, index, state);
+            self.parts.pages.mark(birth, index, state);
         }
         turn
     }

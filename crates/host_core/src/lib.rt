@@ -1,20 +1,29 @@
 //! The host: the callers' volume, its cached pages and the journal, and the steps of the actors that send them.
 //!
-//! Each step is that of `host_machine`, over a volume in use. So far the host has the actors' steps: the flush actor sends
-//! flushes and takes completions, the commit actor closes transactions and sends their log blocks, and the write-back
-//! sends single pages. The callers' own step is not built yet, so no call is answered.
+//! Each step is that of `host_machine`, over a volume in use. A caller's call is done in one step, or begins, sends its
+//! pages and waits. The flush actor sends flushes and takes completions, the commit actor closes transactions and sends
+//! their log blocks, and the write-back sends single pages.
 //!
-//! `host` has the host, `programs` the callers' calls, `thread` a caller, and `entry` what is noted of calls.
+//! `host` has the host with the actors' steps, `calling` the callers' step, and `standing` how a caller stands. `stepping`
+//! has what a step finds of a call, on the `parts` of the host that calls change, and `found` and `answer` what that is;
+//! `settling` has what the host then notes of the call. `programs` has the callers' calls, and `thread` a caller.
 //!
-//! Stands on `commit_actor` and `flush_actor`, whose parts it has together, on `page_cache`, and on `volume_calls`, which
-//! has the volume; `host_volume` says what the machine is over it.
+//! Stands on `commit_actor` and `flush_actor`, whose parts it has together, on `page_cache`, and on `begun_calls`
+//! and `plain_calls` for the steps of calls, which has the volume, too; `host_volume` says what the
+//! machine is over it.
 #![tactic(auto)]
 
-mod entry;
+mod answer;
+mod calling;
+mod found;
 mod host;
+mod parts;
 mod programs;
+mod settling;
+mod standing;
+mod stepping;
 mod thread;
 
-pub use entry::{Entry, EntryKind};
 pub use host::Host;
+pub use plain_calls::PlainVolume;
 pub use programs::Programs;

@@ -1,5 +1,5 @@
 //! The callers' programs.
-ghost use Rattle.std.specs.Prelude.{◌≡◌, ◌++◌, ◌∷◌, [], IfOk, OnErr, length, map};
+ghost use Rattle.std.specs.Prelude.{◌≡◌, ◌<◌, ◌^◌, ◌++◌, ◌∷◌, [], IfOk, OnErr, length, map};
 ghost use Rattle.host_core.specs.code.Fields.{program_of, AreFresh};
 
 use crate::thread::Thread;
@@ -38,6 +38,7 @@ impl Programs {
 
     /// One caller more, with these calls.
     pub fn add(&mut self, program: Vec<Call>) -> Result<(), NoMemory>
+        requires { length program.items < 2 ^ 32 }
         ensures ok { IfOk result (λ u. self.new ≡ self.old ++ program.items ∷ []) }
         ensures err { OnErr result (self.new ≡ self.old) }
     {

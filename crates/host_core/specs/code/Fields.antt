@@ -1,5 +1,5 @@
 -- How the fields of a host make up the machine's.
-use Rattle.std.specs.Prelude.{◌≡◌, ℕ, List, None, drop, map}
+use Rattle.std.specs.Prelude.{◌≡◌, ◌<◌, ◌≤◌, ◌^◌, ℕ, List, ◌∷◌, Some, None, drop, length, map, slice_get}
 use Rattle.blk_base.specs.Members.{In}
 use Rattle.commit_actor.specs.Actor.{CommitActor}
 use Rattle.page_cache.specs.Pages.{Cache}
@@ -8,7 +8,7 @@ use Rattle.volume_steps.specs.Now.{VolumeNow}
 use Rattle.host_machine.specs.State as machine
 use Rattle.host_core.specs.Now.{HostNow}
 use Rattle.host_core.specs.Entries.{entry_in}
-use Rattle.host_core.specs.declared.entry.Entry.{Entry}
+use Rattle.host_answers.specs.declared.entry.Entry.{Entry}
 use Rattle.host_core.specs.declared.thread.Thread.{Thread}
 
 -- the calls that are left
@@ -18,17 +18,39 @@ thread_of t = record { calls = drop t.ended t.program.items; begun = t.begun }
 abbrev pub program_of : Thread → List Call
 program_of t = t.program.items
 
--- none has begun
+-- none of its calls has begun, and their places fit 32 bits
+pub record IsFresh (t : Thread) : Type 0 where
+  pub ended : t.ended ≡ 0
+  pub begun : t.begun ≡ None
+  pub short : length t.program.items < 2 ^ 32
+
 abbrev pub AreFresh : List Thread → Type 0
-AreFresh threads = (t : Thread) → In t threads → (t.ended ≡ 0) × (t.begun ≡ None)
+AreFresh threads = (t : Thread) → In t threads → IsFresh t
+
+-- no more calls have ended than there are, and their places fit 32 bits
+pub record IsWithin (t : Thread) : Type 0 where
+  pub ended : t.ended ≤ length t.program.items
+  pub short : length t.program.items < 2 ^ 32
+
+abbrev pub AreWithin : List Thread → Type 0
+AreWithin threads = (t : Thread) → In t threads → IsWithin t
+
+-- The journal is over the volume's blocks, and has a wait for each thread.
+pub record IsHost (j : CommitActor) (v : VolumeNow) (threads : List Thread) : Type 0 where
+  pub blocks : j.blocks ≡ v.geometry.zones
+  pub waits : length j.part.flush.waits ≡ length threads
+  pub few : length threads < 2 ^ 32
+  pub within : AreWithin threads
+
+-- this is the thread at a place, and its next call, with the rest behind it
+pub record IsNext (threads : List Thread) (at : ℕ) (t : Thread) (c : Call) (rest : List Call) : Type 0 where
+  pub there : slice_get threads at ≡ Some t
+  pub calls : drop t.ended t.program.items ≡ c ∷ rest
 
 abbrev pub host_of : CommitActor → VolumeNow → Cache → List ℕ → List Entry → List ℕ → List Thread → HostNow
 host_of j v ps owners history cuts threads = record {
   made_with = j.made_with;
   journal = j.journal;
-  blocks = j.blocks;
-  spare = j.spare;
-  room = ps.room;
   programs = map program_of threads;
   host = record {
     journal = j.part;

@@ -1,0 +1,80 @@
+-- What steps keep of a host.
+use Rattle.std.proofs.Common.{◌≡◌, ℕ, Bool, List, length, set, Option, Some, None, Result, Ok, Err, OnErr, refl, sym, ap, arith, ◌∙◌}
+use Rattle.std.proofs.Math.ListN.{length-set}
+use Rattle.blk_base.specs.Members.{each_set}
+use Rattle.minix_layout.specs.declared.division.Geometry.{Geometry}
+use Rattle.page_cache.specs.declared.cached_page.CachedPage.{CachedPage}
+use Rattle.tree_model.specs.declared.call.Call.{Call}
+use Rattle.volume_steps.specs.Now.{VolumeNow}
+use Rattle.volume_steps.specs.Calls.{after_release}
+use Rattle.commit_actor.specs.Actor.{CommitActor}
+use Rattle.commit_actor.specs.Calls.{with_flush}
+use Rattle.commit_actor.specs.Journal.{JournalPart}
+use Rattle.flush_actor.specs.Part.{FlushPart}
+use Rattle.flush_actor.specs.declared.wait.Wait.{Wait}
+use Rattle.host_machine.specs.State.{Begun}
+use Rattle.begun_calls.specs.Steps.{Gone, goes_on, keeps_all}
+use Rattle.plain_calls.specs.Steps.{with_part, Progress, Went, steps_plainly}
+use Rattle.host_core.specs.code.Fields.{IsHost, IsWithin}
+use Rattle.host_core.specs.code.Progress.{KeepsHost, parts_now}
+use Rattle.host_core.specs.code.Steps.{released}
+use Rattle.host_core.specs.declared.parts.Parts.{Parts}
+use Rattle.host_core.specs.declared.thread.Thread.{Thread}
+use Rattle.host_core.proofs.Plainly.{plainly_silent}
+use Rattle.host_core.proofs.WaitsKept.{going_keeps}
+
+pub kept : (j k : CommitActor) (v w : VolumeNow) (ts : List Thread) → IsHost j v ts → k.blocks ≡ j.blocks → w.geometry ≡ v.geometry → length k.part.flush.waits ≡ length j.part.flush.waits → IsHost k w ts
+kept j k v w ts h blocks geometry waits = record {
+  blocks = blocks ∙ h.blocks ∙ ap (λ (g : Geometry). g.zones) (sym geometry);
+  waits = waits ∙ h.waits;
+  few = h.few;
+  within = h.within;
+}
+
+-- one thread changes
+pub kept_with : (j : CommitActor) (v : VolumeNow) (ts : List Thread) (at : ℕ) (new : Thread) → IsHost j v ts → IsWithin new → IsHost j v (set ts at new)
+kept_with j v ts at new h own = record {
+  blocks = h.blocks;
+  waits = h.waits ∙ sym (length-set ts at new);
+  few = let same = length-set ts at new in let few = h.few in omega arith;
+  within = each_set IsWithin ts at new h.within own;
+}
+
+-- a caller's step, with what it found and what was noted
+pub kept_noted : (old mid : Parts) (l : CommitActor) (f : FlushPart) (ts : List Thread) (at : ℕ) (new : Thread) → IsHost old.journal old.volume ts → KeepsHost old mid
+    → l ≡ with_flush mid.journal f → length l.part.flush.waits ≡ length mid.journal.part.flush.waits → IsWithin new → IsHost l mid.volume (set ts at new)
+kept_noted old mid l f ts at new h k noted waits own =
+    kept_with l mid.volume ts at new (kept old.journal l old.volume mid.volume ts h (ap (λ (a : CommitActor). a.blocks) noted ∙ k.blocks) k.geometry (waits ∙ k.waits)) own
+
+pub released_same : (before after : Option ℕ) (v : VolumeNow) → (released after_release before after v).geometry ≡ v.geometry
+released_same None after v = refl
+released_same (Some k) (Some j) v = refl
+released_same (Some k) None v = refl
+
+pub any_err : {T E P : Type 0} (r : Result T E) → P → OnErr r P
+any_err (Ok x) p = tt
+any_err (Err e) p = p
+
+-- what a begun call's step keeps
+pub going_kept : (old new : Parts) (full : Bool) (t : ℕ) (w : Wait) (b : Begun) (part : JournalPart) (pages : List CachedPage) (x : Gone) → x.part ≡ new.journal.part
+    → x ≡ goes_on full old.journal.part old.pages.pages t w b → keeps_all old.journal new.journal → new.volume ≡ old.volume → KeepsHost old new
+going_kept old new full t w b part pages x is e same volume = record {
+  made_with = ap (λ (a : CommitActor). a.made_with) same;
+  journal = ap (λ (a : CommitActor). a.journal) same;
+  blocks = ap (λ (a : CommitActor). a.blocks) same;
+  geometry = ap (λ (v : VolumeNow). v.geometry) volume;
+  waits = ap (λ (j : JournalPart). length j.flush.waits) (sym is) ∙ ap (λ (g : Gone). length g.part.flush.waits) e ∙ going_keeps full old.journal.part old.pages.pages t w b;
+}
+
+-- and a plain call's
+pub plain_kept : (old new : Parts) (zmap most n : ℕ) (c : Call) (x : Progress) → (let w : Went = record { parts = parts_now new; progress = x } in w) ≡ steps_plainly zmap most (parts_now old) n c
+    → new.journal ≡ with_part old.journal new.journal.spare new.journal.part → KeepsHost old new
+plain_kept old new zmap most n c x e same =
+    let silent = plainly_silent zmap most (parts_now old) n c in
+    record {
+      made_with = ap (λ (a : CommitActor). a.made_with) same;
+      journal = ap (λ (a : CommitActor). a.journal) same;
+      blocks = ap (λ (a : CommitActor). a.blocks) same;
+      geometry = ap (λ (w : Went). w.parts.volume.geometry) e ∙ silent.geometry;
+      waits = ap (λ (w : Went). length w.parts.journal.flush.waits) e ∙ ap length silent.waits;
+    }

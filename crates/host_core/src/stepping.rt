@@ -1,0 +1,147 @@
+//! One step of a thread's call, on the parts of the host that calls change.
+ghost use Rattle.std.specs.Prelude.{◌≡◌, ◌<◌, ◌++◌, [], ℕ, true, false, List, Some, None, IfOk, IfSome, OnErr, length};
+ghost use Rattle.std.specs.Option.{option_map};
+ghost use Rattle.flush_actor.specs.Outcomes.{sent_between};
+ghost use Rattle.tx_running.specs.Open.{quota};
+ghost use Rattle.host_volume.specs.Calls as volumes;
+ghost use Rattle.host_core.specs.code.Progress.{KeepsHost, Over, goes_further, is_queue_full, list_of, parts_now, progress_is, starts, steps_call, went_plainly};
+ghost use Rattle.host_core.specs.code.Progress as steps;
+ghost use Rattle.plain_calls.specs.Steps.{steps_plainly};
+
+use crate::answer::Answer;
+use crate::found::Found;
+use crate::parts::Parts;
+use begun_calls::{Begun, go_on};
+use blk_base::NoMemory;
+use flush_actor::{CallKind, FlushPart};
+use order_model::{Outlet, Request};
+use plain_calls::{kind_of, node_of, refusal, replies_are_of_the_tree, step_plainly};
+use std::alloc::Global;
+use tree_model::Call;
+
+// What ends every call, or every call but those that read.
+fn stop_of(flush: &FlushPart, kind: CallKind) -> Option<Found>
+    ensures stop { (list : List (ℕ × ℕ)) → option_map (progress_is list) result ≡ option_map Over (steps.stop_of flush.now.part.taken kind) }
+    ensures queue { IfSome result (λ f. is_queue_full f ≡ false) }
+{
+    if flush.is_cut() {
+        return Some(Found::Down);
+    }
+    if kind.is_reading() {
+        return None;
+    }
+    match flush.first_failed() {
+        Some(id) => Some(Found::ReadOnly(id)),
+        None => None,
+    }
+}
+
+// The step of a call that has begun.
+fn go_further<O: Outlet<Request>>(
+    parts: &mut Parts,
+    thread: u32,
+    begun: &Begun,
+    out: &mut O,
+) -> Result<Found, NoMemory>
+    requires { thread < length parts.old.journal.part.flush.waits }
+    ensures step { (zmap most n : ℕ) (c : Call) → IfOk result (λ f. record { parts = parts_now parts.new; progress = progress_is begun.now.list f } ≡
+        goes_further (is_queue_full f) zmap most (parts_now parts.old) n thread (Some begun.now) c) }
+    ensures err { OnErr result (parts_now parts.new ≡ parts_now parts.old) }
+    ensures same { KeepsHost parts.old parts.new }
+    ensures sent { O.sent out.new ≡ O.sent out.old ++ sent_between parts.old.journal.part.flush parts.new.journal.part.flush }
+    ensures full { IfOk result (λ f. is_queue_full f ≡ true → O.was_full out.old out.new) }
+    ensures rest { O.rest out.new ≡ O.rest out.old }
+{
+    match go_on(&mut parts.journal, &mut parts.pages, thread, begun, out)? {
+        begun_calls::Progress::Answered => Ok(Found::Done),
+        begun_calls::Progress::Full => Ok(Found::Full),
+        begun_calls::Progress::Sent {
+            id,
+            passed,
+            barrier,
+        } => Ok(Found::Sent {
+            id,
+            passed,
+            barrier,
+        }),
+        begun_calls::Progress::Waiting(cause) => Ok(Found::Waiting(cause)),
+    }
+}
+
+// The step of a plain call, as entry `number`.
+fn perform(alloc: Global, parts: &mut Parts, number: u64, call: &Call) -> Result<Found, NoMemory>
+    requires refused { volumes.refusal parts.old.volume call.now ≡ None }
+    requires blocks { parts.old.journal.blocks ≡ parts.old.volume.geometry.zones }
+    ensures step { IfOk result (λ f. record { parts = parts_now parts.new; progress = progress_is [] f } ≡
+        went_plainly (steps_plainly parts.old.volume.geometry.zmap (quota parts.old.journal.made_with) (parts_now parts.old) number call.now)) }
+    ensures err { OnErr result (parts_now parts.new ≡ parts_now parts.old) }
+    ensures same { KeepsHost parts.old parts.new }
+    ensures silent { parts.new.journal.part.flush.requests ≡ parts.old.journal.part.flush.requests }
+    ensures queue { IfOk result (λ f. is_queue_full f ≡ false) }
+{
+    replies_are_of_the_tree();
+    let Parts {
+        journal,
+        volume,
+        pages,
+        owners,
+    } = parts;
+    match step_plainly(alloc, journal, volume, pages, owners, number, call)? {
+        plain_calls::Progress::Answered(reply) => Ok(Found::Answered(Answer::of(alloc, reply)?)),
+        plain_calls::Progress::Full => Ok(Found::Full),
+        plain_calls::Progress::Waiting(cause) => Ok(Found::Waiting(cause)),
+    }
+}
+
+// The first step of a call.
+fn start(alloc: Global, parts: &mut Parts, number: u64, call: &Call) -> Result<Found, NoMemory>
+    requires { parts.old.journal.blocks ≡ parts.old.volume.geometry.zones }
+    ensures step { IfOk result (λ f. record { parts = parts_now parts.new; progress = progress_is [] f } ≡
+        starts parts.old.volume.geometry.zmap (quota parts.old.journal.made_with) (parts_now parts.old) number call.now) }
+    ensures err { OnErr result (parts_now parts.new ≡ parts_now parts.old) }
+    ensures same { KeepsHost parts.old parts.new }
+    ensures silent { parts.new.journal.part.flush.requests ≡ parts.old.journal.part.flush.requests }
+    ensures queue { IfOk result (λ f. is_queue_full f ≡ false) }
+{
+    replies_are_of_the_tree();
+    if let Some(reply) = refusal(&parts.volume, call) {
+        return Ok(Found::Answered(Answer::of(alloc, reply)?));
+    }
+    let kind = kind_of(call);
+    if !kind.is_begun() {
+        return perform(alloc, parts, number, call);
+    }
+    let file = node_of(&parts.volume, call);
+    let begun = Begun::of(alloc, &parts.pages, number, kind, file)?;
+    Ok(Found::Begun(begun))
+}
+
+// The step of thread `thread`'s call, which has begun or not, and whose entry would be `number`. Threads are counted from
+// 0.
+pub fn step_call<O: Outlet<Request>>(
+    alloc: Global,
+    parts: &mut Parts,
+    number: u64,
+    thread: u32,
+    begun: &Option<Begun>,
+    call: &Call,
+    out: &mut O,
+) -> Result<Found, NoMemory>
+    requires thread { thread < length parts.old.journal.part.flush.waits }
+    requires blocks { parts.old.journal.blocks ≡ parts.old.volume.geometry.zones }
+    ensures step { IfOk result (λ f. record { parts = parts_now parts.new; progress = progress_is (list_of begun.now) f } ≡
+        steps_call (is_queue_full f) parts.old.volume.geometry.zmap (quota parts.old.journal.made_with) (parts_now parts.old) number thread begun.now call.now) }
+    ensures err { OnErr result (parts_now parts.new ≡ parts_now parts.old) }
+    ensures same { KeepsHost parts.old parts.new }
+    ensures sent { O.sent out.new ≡ O.sent out.old ++ sent_between parts.old.journal.part.flush parts.new.journal.part.flush }
+    ensures full { IfOk result (λ f. is_queue_full f ≡ true → O.was_full out.old out.new) }
+    ensures rest { O.rest out.new ≡ O.rest out.old }
+{
+    if let Some(found) = stop_of(parts.journal.flush(), kind_of(call)) {
+        return Ok(found);
+    }
+    match begun {
+        Some(begun) => go_further(parts, thread, begun, out),
+        None => start(alloc, parts, number, call),
+    }
+}
