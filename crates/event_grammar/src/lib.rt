@@ -5,7 +5,7 @@
 //! `specs/SteerLines.antt`, and what holds of all that is read in `specs/WellFormed.antt`. The laws
 //! `events_are_spelled` and `steers_are_spelled` tie both to the small speller of `specs/laws/Speller.antt`.
 //!
-//! Stands on `script_words`, and on `byte_text` for its laws.
+//! Stands on `script_words`.
 #![tactic(auto)]
 
 mod event;

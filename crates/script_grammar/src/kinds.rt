@@ -15,6 +15,8 @@ pub enum ScriptKind {
     Twice,
     /// A number is outside its limit.
     Number,
+    /// Of the sizes in the first line no volume with a journal can be made.
+    Geometry,
 }
 
 impl fmt::Display for ScriptKind {
@@ -25,6 +27,7 @@ impl fmt::Display for ScriptKind {
             ScriptKind::Order => "order",
             ScriptKind::Twice => "twice",
             ScriptKind::Number => "number",
+            ScriptKind::Geometry => "geometry",
         })
     }
 }

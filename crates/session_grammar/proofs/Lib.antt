@@ -1,0 +1,15 @@
+pub mod Accepts
+pub mod BodyRead
+pub mod FirstFault
+pub mod HeaderRead
+pub mod Lines
+pub mod Names
+pub mod Others
+pub mod ReadsTo
+pub mod Said
+pub mod Spelled
+pub mod Steps
+pub mod ThreadLines
+pub mod Threads
+pub mod Unbuilt
+pub mod WellFormed

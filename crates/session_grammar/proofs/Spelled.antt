@@ -1,0 +1,161 @@
+-- What is written of a well-formed script says it, and is read back.
+use Rattle.std.proofs.Common.{◌≡◌, ℕ, ◌+◌, ◌^◌, ◌<◌, ◌≤◌, Bool, true, false, List, [], ◌∷◌, ◌++◌, length, take, drop, map, codes, Option, Some, None, Ok, refl, sym, subst, inl, inr, arith}
+use Rattle.std.specs.List.{join_with_byte}
+use Rattle.blk_base.specs.Members.{In}
+use Rattle.tree_model.specs.declared.call.Call.{Call}
+use Rattle.script_words.specs.Spelling.{is_skipped, words_of}
+use Rattle.script_words.proofs.SpelledNumbers.{IsClear-decimal}
+use Rattle.script_words.proofs.SpelledWords.{IsClear, AreClear, AreClearLines}
+use Rattle.call_grammar.proofs.ClearCalls.{AreClear-line_of, there-line_of}
+use Rattle.event_grammar.specs.declared.event.EventLine.{EventLine}
+use Rattle.event_grammar.specs.declared.steer.Steer.{Steer}
+use Rattle.event_grammar.specs.WellFormed.{IsSteerLine}
+use Rattle.event_grammar.specs.laws.Speller.{event_line_words, steer_words}
+use Rattle.event_grammar.proofs.ClearLines.{AreClear-event, there-event, AreClear-steers}
+use Rattle.event_grammar.proofs.EventLaws.{SaysEvent-words}
+use Rattle.session_grammar.specs.declared.session_script.SessionHeader.{SessionHeader}
+use Rattle.session_grammar.specs.declared.session_script.SessionScript.{SessionScript}
+use Rattle.session_grammar.specs.Grammar.{session_of}
+use Rattle.session_grammar.specs.WellFormed.{AreSizes, IsHeader, all_calls, AreLinesOf, IsEventOf, IsWellFormed}
+use Rattle.session_grammar.specs.laws.Speller.{volume_words, number_words, cut_lines, elevator_lines, header_lines, thread_lines, recover_words, session_text}
+use Rattle.session_grammar.specs.laws.Accepted.{is_header_line, IsHeaderOf, SayEvents, SaysSession}
+use Rattle.session_grammar.proofs.ReadsTo.{AreKept, kept_of-text}
+use Rattle.session_grammar.proofs.BodyRead.{AreLinesOf-front}
+use Rattle.session_grammar.proofs.Accepts.{session_of-SaysSession}
+
+-- ---- lines that are written are read again as they are
+
+-- words without spaces and line feeds, which are no comment
+record AreWritten (ls : List (List (List ℕ))) : Type 0 where
+  clear : AreClearLines ls
+  kept : AreKept ls
+
+AreWritten-none : AreWritten []
+AreWritten-none = record { clear = tt; kept = tt }
+
+AreWritten-line : (l : List (List ℕ)) (ls : List (List (List ℕ))) → AreClear l → is_skipped (join_with_byte 32 l) ≡ false → AreWritten ls → AreWritten (l ∷ ls)
+AreWritten-line l ls clear kept are = record { clear = (clear, are.clear); kept = (kept, are.kept) }
+
+AreWritten-append : (ls ms : List (List (List ℕ))) → AreWritten ls → AreWritten ms → AreWritten (ls ++ ms)
+AreWritten-append [] ms first second = second
+AreWritten-append (l ∷ ls) ms first second =
+    AreWritten-line l (ls ++ ms) first.clear.0 first.kept.0 (AreWritten-append ls ms (record { clear = first.clear.1; kept = first.kept.1 }) second)
+
+number_written : (name : List ℕ) (n : ℕ) (ls : List (List (List ℕ))) → IsClear name → is_skipped (join_with_byte 32 (number_words name n)) ≡ false → n < 2 ^ 64 → AreWritten ls → AreWritten (number_words name n ∷ ls)
+number_written name n ls clear there lt are = AreWritten-line (number_words name n) ls (clear, (IsClear-decimal n lt, tt)) there are
+
+cut_written : (cut : Option ℕ) → ((n : ℕ) → cut ≡ Some n → n ≤ 1000000000) → AreWritten (cut_lines cut)
+cut_written None few = AreWritten-none
+cut_written (Some n) few = let most = few n refl in number_written (codes "cut") n [] (record { feed = refl; space = refl }) refl (omega (arith, most)) AreWritten-none
+
+elevator_written : (elevator : Bool) → AreWritten (elevator_lines elevator)
+elevator_written true = AreWritten-line (codes "elevator" ∷ []) [] (record { feed = refl; space = refl }, tt) refl AreWritten-none
+elevator_written false = AreWritten-none
+
+header_written : (h : SessionHeader) → IsHeader h → AreWritten (header_lines h)
+header_written h is =
+    let depth = is.depth in
+    let queue = is.queue in
+    let limit = is.limit in
+    let seed = is.seed in
+    number_written (codes "depth") h.depth _ (record { feed = refl; space = refl }) refl (omega (arith, depth))
+    (number_written (codes "queue") h.queue _ (record { feed = refl; space = refl }) refl (omega (arith, queue))
+    (number_written (codes "limit") h.limit _ (record { feed = refl; space = refl }) refl (omega (arith, limit))
+    (number_written (codes "seed") h.seed _ (record { feed = refl; space = refl }) refl (omega (arith, seed))
+    (AreWritten-append (cut_lines h.cut) (elevator_lines h.elevator) (cut_written h.cut is.cut) (elevator_written h.elevator)))))
+
+calls_written : (ls : List (List ℕ)) (cs : List Call) → AreLinesOf ls cs → AreWritten (map words_of ls)
+calls_written [] [] are = AreWritten-none
+calls_written [] (c ∷ cs) are = absurd are
+calls_written (l ∷ ls) [] are = absurd are
+calls_written (l ∷ ls) (c ∷ cs) are =
+    AreWritten-line (words_of l) (map words_of ls) (AreClear-line_of (words_of l) c are.0) (there-line_of (words_of l) c are.0) (calls_written ls cs are.1)
+
+threads_written : (ps : List (List Call)) (t : ℕ) (ls : List (List ℕ)) → t + length ps ≤ 17 → AreLinesOf ls (all_calls ps) → AreWritten (thread_lines t ps ls)
+unfolding thread_lines
+threads_written [] t ls few are = AreWritten-none
+threads_written (p ∷ ps) t ls few are =
+    let both = AreLinesOf-front p (all_calls ps) ls are in
+    number_written (codes "thread") t _ (record { feed = refl; space = refl }) refl (omega (arith, few))
+    (AreWritten-append (map words_of (take (length p) ls)) (thread_lines (t + 1) ps (drop (length p) ls)) (calls_written (take (length p) ls) p both.0)
+    (threads_written ps (t + 1) (drop (length p) ls) (omega (arith, few)) both.1))
+
+events_written : (es : List EventLine) (threads : ℕ) → ((e : EventLine) → In e es → IsEventOf threads e) → AreWritten (map event_line_words es)
+events_written [] threads are = AreWritten-none
+events_written (e ∷ es) threads are =
+    AreWritten-line (event_line_words e) (map event_line_words es) (AreClear-event e (are e (inl refl)).line) (there-event e) (events_written es threads (λ d i. are d (inr i)))
+
+recover_there : (ws : List (List ℕ)) → is_skipped (join_with_byte 32 (codes "recover" ∷ ws)) ≡ false
+recover_there [] = refl
+recover_there (w ∷ ws) = refl
+
+recovers_written : (rs : List (List Steer)) → ((ss : List Steer) → In ss rs → IsSteerLine ss) → AreWritten (map recover_words rs)
+recovers_written [] are = AreWritten-none
+recovers_written (ss ∷ rs) are =
+    AreWritten-line (recover_words ss) (map recover_words rs) (record { feed = refl; space = refl }, AreClear-steers ss (are ss (inl refl)).each) (recover_there (steer_words ss)) (recovers_written rs (λ x i. are x (inr i)))
+
+volume_clear : (inodes zones journal : ℕ) → AreSizes inodes zones journal → AreClear (volume_words inodes zones journal)
+volume_clear inodes zones journal is =
+    let first = is.most_inodes in
+    let second = is.most_zones in
+    let third = is.most_journal in
+    let word : IsClear (codes "volume") = record { feed = refl; space = refl } in
+    (word, (record { feed = refl; space = refl }, (IsClear-decimal inodes (omega (arith, first)), (record { feed = refl; space = refl }, (IsClear-decimal zones (omega (arith, second)), (record { feed = refl; space = refl }, (IsClear-decimal journal (omega (arith, third)), tt)))))))
+
+-- the lines behind the first
+abbrev lines_behind : SessionScript → List (List (List ℕ))
+lines_behind s =
+    header_lines s.header
+    ++ (thread_lines 1 s.programs s.lines
+    ++ ((codes "events" ∷ []) ∷ map event_line_words s.events ++ map recover_words s.recovers))
+
+session_written : (s : SessionScript) → IsWellFormed s → AreWritten (volume_words s.inodes s.zones s.journal ∷ lines_behind s)
+session_written s well =
+    let threads = well.threads in
+    AreWritten-line (volume_words s.inodes s.zones s.journal) (lines_behind s) (volume_clear s.inodes s.zones s.journal well.sizes) refl
+    (AreWritten-append (header_lines s.header) _ (header_written s.header well.header)
+    (AreWritten-append (thread_lines 1 s.programs s.lines) _ (threads_written s.programs 1 s.lines (omega (arith, threads)) well.lines)
+    (AreWritten-line (codes "events" ∷ []) _ (record { feed = refl; space = refl }, tt) refl
+    (AreWritten-append (map event_line_words s.events) (map recover_words s.recovers) (events_written s.events (length s.programs) well.events) (recovers_written s.recovers well.recovers)))))
+
+-- ---- they say the script
+
+header_known : (depth queue limit seed : ℕ) (cut : Option ℕ) (elevator : Bool) (l : List (List ℕ)) → In l (header_lines (record { depth = depth; queue = queue; limit = limit; cut = cut; seed = seed; elevator = elevator })) → is_header_line l ≡ true
+header_known depth queue limit seed cut elevator l (inl e) = subst (λ x. is_header_line x ≡ true) e refl
+header_known depth queue limit seed cut elevator l (inr (inl e)) = subst (λ x. is_header_line x ≡ true) e refl
+header_known depth queue limit seed cut elevator l (inr (inr (inl e))) = subst (λ x. is_header_line x ≡ true) e refl
+header_known depth queue limit seed cut elevator l (inr (inr (inr (inl e)))) = subst (λ x. is_header_line x ≡ true) e refl
+header_known depth queue limit seed None true l (inr (inr (inr (inr (inl e))))) = subst (λ x. is_header_line x ≡ true) e refl
+header_known depth queue limit seed None true l (inr (inr (inr (inr (inr h))))) = absurd h
+header_known depth queue limit seed None false l (inr (inr (inr (inr h)))) = absurd h
+header_known depth queue limit seed (Some n) true l (inr (inr (inr (inr (inl e))))) = subst (λ x. is_header_line x ≡ true) e refl
+header_known depth queue limit seed (Some n) true l (inr (inr (inr (inr (inr (inl e)))))) = subst (λ x. is_header_line x ≡ true) e refl
+header_known depth queue limit seed (Some n) true l (inr (inr (inr (inr (inr (inr h)))))) = absurd h
+header_known depth queue limit seed (Some n) false l (inr (inr (inr (inr (inl e))))) = subst (λ x. is_header_line x ≡ true) e refl
+header_known depth queue limit seed (Some n) false l (inr (inr (inr (inr (inr h))))) = absurd h
+
+header_said : (depth queue limit seed : ℕ) (cut : Option ℕ) (elevator : Bool) → IsHeaderOf (record { depth = depth; queue = queue; limit = limit; cut = cut; seed = seed; elevator = elevator }) (header_lines (record { depth = depth; queue = queue; limit = limit; cut = cut; seed = seed; elevator = elevator }))
+header_said depth queue limit seed None true = record { depth = refl; queue = refl; limit = refl; seed = refl; cut = refl; elevator = refl; known = header_known depth queue limit seed None true }
+header_said depth queue limit seed None false = record { depth = refl; queue = refl; limit = refl; seed = refl; cut = refl; elevator = refl; known = header_known depth queue limit seed None false }
+header_said depth queue limit seed (Some n) true = record { depth = refl; queue = refl; limit = refl; seed = refl; cut = refl; elevator = refl; known = header_known depth queue limit seed (Some n) true }
+header_said depth queue limit seed (Some n) false = record { depth = refl; queue = refl; limit = refl; seed = refl; cut = refl; elevator = refl; known = header_known depth queue limit seed (Some n) false }
+
+events_said : (es : List EventLine) (threads : ℕ) → ((e : EventLine) → In e es → IsEventOf threads e) → SayEvents es (map event_line_words es)
+events_said [] threads are = tt
+events_said (e ∷ es) threads are = (SaysEvent-words e (are e (inl refl)).line, events_said es threads (λ d i. are d (inr i)))
+
+SaysSession-written : (s : SessionScript) → IsWellFormed s → SaysSession s (volume_words s.inodes s.zones s.journal ∷ lines_behind s)
+SaysSession-written s well = record {
+  header = header_lines s.header;
+  events = map event_line_words s.events;
+  whole = refl;
+  headed = header_said s.header.depth s.header.queue s.header.limit s.header.seed s.header.cut s.header.elevator;
+  said = events_said s.events (length s.programs) well.events;
+}
+
+-- the law: a well-formed script is read back
+pub session_of-session_text : (s : SessionScript) → IsWellFormed s → session_of (session_text s) ≡ Ok s
+session_of-session_text s well =
+    let written = session_written s well in
+    let kept = kept_of-text (volume_words s.inodes s.zones s.journal) (lines_behind s) written.clear written.kept in
+    session_of-SaysSession (session_text s) s well (subst (SaysSession s) (sym kept) (SaysSession-written s well))

@@ -1,0 +1,98 @@
+-- Calls and events of lines whose first words may stand in a volume script.
+use Rattle.std.proofs.Common.{◌≡◌, ℕ, Bool, true, false, not, nat_le, List, [], ◌∷◌, codes, Option, Some, Result, Ok, Err, refl, sym, ap, ◌∙◌, if◌then◌else◌}
+use Rattle.std.proofs.lemmas.Bool.{and_parts, leb-true}
+use Rattle.tree_model.specs.declared.call.Call.{Call}
+use Rattle.tree_model.specs.declared.call.Call.TheVariants as call
+use Rattle.call_grammar.specs.declared.words.CallWord.{CallWord}
+use Rattle.call_grammar.specs.declared.words.CallWord.TheVariants as calls
+use Rattle.call_grammar.specs.declared.words.PairWord.TheVariants as pairs
+use Rattle.call_grammar.specs.CallLines.{call_word}
+use Rattle.call_grammar.specs.laws.Speller.{call_words, with_lower_digits}
+use Rattle.call_grammar.proofs.SpelledCalls.{unchanged}
+use Rattle.event_grammar.specs.declared.event.CoreEvent.{CoreEvent}
+use Rattle.event_grammar.specs.declared.event.CoreEvent.TheVariants as core
+use Rattle.event_grammar.specs.declared.event.EventWord.{EventWord}
+use Rattle.event_grammar.specs.declared.event.EventWord.TheVariants.{One, Round, Back}
+use Rattle.event_grammar.specs.declared.words.EventFirst.{EventFirst}
+use Rattle.event_grammar.specs.declared.words.EventFirst.TheVariants as event
+use Rattle.event_grammar.specs.declared.words.PlainWord.TheVariants as plain
+use Rattle.event_grammar.specs.EventLines.{event_word}
+use Rattle.event_grammar.specs.laws.Speller.{with_count, counted, SayEvent}
+use Rattle.session_grammar.specs.declared.words.Word.TheVariants as word
+use Rattle.session_grammar.specs.Grammar.{is_built, is_submit, names_thread}
+use Rattle.session_grammar.specs.WellFormed.{IsBuilt, IsStepOf, IsTurnOf}
+
+-- a test that has to pass
+pub ok_under : {A E : Type 0} (b : Bool) (read : Result A E) (y : A) (e : E) → (if b then read else Err e) ≡ Ok y → (b ≡ true) × (read ≡ Ok y)
+ok_under true read y e h = (refl, h)
+ok_under false read y e h = cc
+
+-- the first of the words
+abbrev first_of : List (List ℕ) → List ℕ
+first_of [] = []
+first_of (w ∷ ws) = w
+
+-- a known word is one word alone
+same_word : {A : Type 0} (know : List ℕ → Option A) (w u : List ℕ) (v other : A) → w ≡ u → know w ≡ Some v → know u ≡ Some other → other ≡ v
+same_word know w u v other same h g = let e : Some other ≡ Some v = sym g ∙ ap know (sym same) ∙ h in cc
+
+-- ---- calls
+
+not_rename : (w p q : List ℕ) (ws : List (List ℕ)) (v : CallWord) → call_word w ≡ Some v → is_built (word.Call v) ≡ true → with_lower_digits (w ∷ ws) ≡ codes "rename" ∷ p ∷ q ∷ [] → ⊥
+not_rename w p q ws v known built h =
+    let named : w ≡ codes "rename" = ap first_of (unchanged (w ∷ ws) (codes "rename" ∷ p ∷ q ∷ []) refl h) in
+    let same : calls.OfPair pairs.Rename ≡ v = same_word call_word w (codes "rename") v (calls.OfPair pairs.Rename) named known refl in
+    let unbuilt : false ≡ true = ap (λ x. is_built (word.Call x)) same ∙ built in
+    cc
+
+pub IsBuilt-said : (w : List ℕ) (ws : List (List ℕ)) (v : CallWord) (c : Call) → call_word w ≡ Some v → is_built (word.Call v) ≡ true → with_lower_digits (w ∷ ws) ≡ call_words c → IsBuilt c
+IsBuilt-said w ws v (call.Rename p q) known built h = not_rename w p q ws v known built h
+IsBuilt-said w ws v (call.Mkdir p) known built h = tt
+IsBuilt-said w ws v (call.Rmdir p) known built h = tt
+IsBuilt-said w ws v (call.Create p) known built h = tt
+IsBuilt-said w ws v (call.Unlink p) known built h = tt
+IsBuilt-said w ws v (call.Link p q) known built h = tt
+IsBuilt-said w ws v (call.Truncate p size) known built h = tt
+IsBuilt-said w ws v (call.Write p off len value) known built h = tt
+IsBuilt-said w ws v (call.Bytes p off bytes) known built h = tt
+IsBuilt-said w ws v (call.Read p off len) known built h = tt
+IsBuilt-said w ws v (call.List p) known built h = tt
+IsBuilt-said w ws v (call.Stat p) known built h = tt
+IsBuilt-said w ws v (call.Fsync p) known built h = tt
+IsBuilt-said w ws v (call.Fdatasync p) known built h = tt
+IsBuilt-said w ws v (call.Fbarrier p) known built h = tt
+IsBuilt-said w ws v (call.Fdatabarrier p) known built h = tt
+IsBuilt-said w ws v call.Sync known built h = tt
+
+-- ---- events
+
+with_count-first : (w : List ℕ) (ws : List (List ℕ)) → first_of (with_count (w ∷ ws)) ≡ w
+with_count-first w [] = refl
+with_count-first w (a ∷ []) = refl
+with_count-first w (a ∷ b ∷ ws) = refl
+
+not_submit : (w : List ℕ) (ws : List (List ℕ)) (v : EventFirst) (count : ℕ) → event_word w ≡ Some v → not (is_submit v) ≡ true → with_count (w ∷ ws) ≡ counted (codes "submit" ∷ []) count → ⊥
+not_submit w ws v count known other h =
+    let named : w ≡ codes "submit" = sym (with_count-first w ws) ∙ ap first_of h in
+    let same : event.Plain plain.Submit ≡ v = same_word event_word w (codes "submit") v (event.Plain plain.Submit) named known refl in
+    let contra : false ≡ true = ap (λ x. not (is_submit x)) same ∙ other in
+    cc
+
+IsStepOf-said : (threads : ℕ) (e : CoreEvent) (count : ℕ) (w : List ℕ) (ws : List (List ℕ)) (v : EventFirst) → event_word w ≡ Some v → not (is_submit v) ≡ true → names_thread threads (One e) ≡ true → SayEvent (One e) count (w ∷ ws) → IsStepOf threads e
+IsStepOf-said threads (core.Call t) count w ws v known other names says =
+    let p = and_parts (nat_le 1 t) (nat_le t threads) names in (leb-true 1 t p.0, leb-true t threads p.1)
+IsStepOf-said threads core.Submit count w ws v known other names says = not_submit w ws v count known other says
+IsStepOf-said threads core.Commit count w ws v known other names says = tt
+IsStepOf-said threads core.FlushStep count w ws v known other names says = tt
+IsStepOf-said threads (core.Writeback pick) count w ws v known other names says = tt
+IsStepOf-said threads core.Accept count w ws v known other names says = tt
+IsStepOf-said threads (core.Dispatch pick) count w ws v known other names says = tt
+IsStepOf-said threads core.Receive count w ws v known other names says = tt
+IsStepOf-said threads (core.Transfer pick) count w ws v known other names says = tt
+IsStepOf-said threads (core.Persist pick) count w ws v known other names says = tt
+IsStepOf-said threads core.Answer count w ws v known other names says = tt
+
+pub IsTurnOf-said : (threads : ℕ) (what : EventWord) (count : ℕ) (w : List ℕ) (ws : List (List ℕ)) (v : EventFirst) → event_word w ≡ Some v → not (is_submit v) ≡ true → names_thread threads what ≡ true → SayEvent what count (w ∷ ws) → IsTurnOf threads what
+IsTurnOf-said threads (One e) count w ws v known other names says = IsStepOf-said threads e count w ws v known other names says
+IsTurnOf-said threads Round count w ws v known other names says = tt
+IsTurnOf-said threads Back count w ws v known other names says = tt

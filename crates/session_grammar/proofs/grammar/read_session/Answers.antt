@@ -1,0 +1,5 @@
+use Rattle.session_grammar.proofs.WellFormed.{IsWellFormed-from_reads}
+use Rattle.session_grammar.proofs.grammar.read_session.Goals as goal
+
+pub returns-clause-well_formed : goal.returns-clause-well_formed
+returns-clause-well_formed c = IsWellFormed-from_reads c.read_lines.result _ c.read_lines.ensures

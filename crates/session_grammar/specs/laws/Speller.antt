@@ -1,0 +1,53 @@
+-- A small speller of volume scripts.
+use Rattle.std.specs.Prelude.{ℕ, ◌+◌, ◌++◌, Bool, List, [], ◌∷◌, codes, length, map, take, drop, Option, Some, None, if◌then◌else◌}
+use Rattle.std.specs.Fmt.{decimal}
+use Rattle.tree_model.specs.declared.call.Call.{Call}
+use Rattle.event_grammar.specs.declared.steer.Steer.{Steer}
+use Rattle.event_grammar.specs.laws.Speller.{event_line_words, steer_words}
+use Rattle.script_words.specs.Spelling.{words_of}
+use Rattle.script_words.specs.laws.Texts.{lines_text}
+use Rattle.session_grammar.specs.declared.session_script.SessionHeader.{SessionHeader}
+use Rattle.session_grammar.specs.declared.session_script.SessionScript.{SessionScript}
+
+-- ---- the words of each line
+
+abbrev pub volume_words : ℕ → ℕ → ℕ → List (List ℕ)
+volume_words inodes zones journal = codes "volume" ∷ codes "inodes" ∷ decimal inodes ∷ codes "zones" ∷ decimal zones ∷ codes "journal" ∷ decimal journal ∷ []
+
+abbrev pub number_words : List ℕ → ℕ → List (List ℕ)
+number_words name n = name ∷ decimal n ∷ []
+
+abbrev pub cut_lines : Option ℕ → List (List (List ℕ))
+cut_lines None = []
+cut_lines (Some n) = number_words (codes "cut") n ∷ []
+
+abbrev pub elevator_lines : Bool → List (List (List ℕ))
+elevator_lines elevator = if elevator then (codes "elevator" ∷ []) ∷ [] else []
+
+abbrev pub header_lines : SessionHeader → List (List (List ℕ))
+header_lines h =
+    number_words (codes "depth") h.depth ∷ number_words (codes "queue") h.queue ∷ number_words (codes "limit") h.limit ∷ number_words (codes "seed") h.seed
+    ∷ cut_lines h.cut ++ elevator_lines h.elevator
+
+abbrev pub thread_words : ℕ → List (List ℕ)
+thread_words t = number_words (codes "thread") t
+
+-- each thread, from this number on, and behind it the lines of its calls
+unfoldable pub thread_lines : ℕ → List (List Call) → List (List ℕ) → List (List (List ℕ))
+thread_lines t [] lines = []
+thread_lines t (p ∷ ps) lines = thread_words t ∷ map words_of (take (length p) lines) ++ thread_lines (t + 1) ps (drop (length p) lines)
+
+abbrev pub recover_words : List Steer → List (List ℕ)
+recover_words ss = codes "recover" ∷ steer_words ss
+
+-- ---- the text
+
+-- the lines of a script, each as its words
+abbrev pub session_lines : SessionScript → List (List (List ℕ))
+session_lines s =
+    volume_words s.inodes s.zones s.journal ∷ header_lines s.header
+    ++ (thread_lines 1 s.programs s.lines
+    ++ ((codes "events" ∷ []) ∷ map event_line_words s.events ++ map recover_words s.recovers))
+
+abbrev pub session_text : SessionScript → List ℕ
+session_text s = lines_text (session_lines s)

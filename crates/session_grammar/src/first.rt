@@ -1,0 +1,166 @@
+//! The first line of a volume script.
+ghost use Rattle.std.specs.Prelude.{◌≡◌, ◌≢◌, map};
+ghost use Rattle.session_grammar.specs.Grammar.{is_built, are_sizes, have_geometry, none_told, new_reading, opened, sizes_taken, journal_line, zones_line, volume_line, built_first, first_line};
+
+use crate::limits::{JOURNALS, LEAST_JOURNAL, MOST_JOURNAL, MOST_NUMBERED};
+use crate::reading::{Reading, Section, Told};
+use crate::words::{FirstWord, HeaderWord, Word};
+use call_grammar::{CallWord, LineList, PairWord, Programs};
+use event_grammar::{Events, SteerList};
+use minix_layout::Geometry;
+use script_grammar::ScriptKind;
+use script_words::numeral;
+use std::alloc::Global;
+
+/// Whether the form of such lines is built.
+pub fn is_built(word: Word) -> bool
+    ensures { result ≡ is_built word }
+{
+    match word {
+        Word::Header(HeaderWord::Fail) => false,
+        Word::Call(CallWord::OfPair(PairWord::Rename)) => false,
+        _ => true,
+    }
+}
+
+fn are_sizes(inodes: u64, zones: u64, journal: u64) -> bool
+    ensures { result ≡ are_sizes inodes zones journal }
+{
+    inodes >= 1
+        && inodes <= MOST_NUMBERED
+        && zones >= 1
+        && zones <= MOST_NUMBERED
+        && journal < JOURNALS
+}
+
+fn have_geometry(inodes: u16, zones: u16, journal: u32) -> bool
+    requires { inodes ≢ 0 }
+    ensures { result ≡ have_geometry inodes zones journal }
+{
+    Geometry::make(inodes, zones).is_ok() && journal >= LEAST_JOURNAL && journal <= MOST_JOURNAL
+}
+
+fn none_told() -> Told
+    ensures { result ≡ none_told }
+{
+    Told {
+        depth: None,
+        queue: None,
+        limit: None,
+        cut: None,
+        seed: None,
+        elevator: false,
+    }
+}
+
+fn new_reading(alloc: Global, inodes: u16, zones: u16, journal: u32) -> Reading
+    ensures { result ≡ new_reading inodes zones journal }
+{
+    Reading {
+        inodes,
+        zones,
+        journal,
+        told: none_told(),
+        section: Section::Opening,
+        programs: Programs::new(alloc),
+        lines: LineList::new(alloc),
+        events: Events::new(alloc),
+        expanded: 0,
+        recovers: SteerList::new(alloc),
+    }
+}
+
+fn sizes_taken(alloc: Global, inodes: u64, zones: u64, journal: u64) -> Result<Reading, ScriptKind>
+    ensures { result ≡ sizes_taken inodes zones journal }
+{
+    if !are_sizes(inodes, zones, journal) {
+        return Err(ScriptKind::Number);
+    }
+    let (inodes, zones, journal) = (inodes as u16, zones as u16, journal as u32);
+    if !have_geometry(inodes, zones, journal) {
+        return Err(ScriptKind::Geometry);
+    }
+    Ok(new_reading(alloc, inodes, zones, journal))
+}
+
+fn opened(
+    alloc: Global,
+    inodes: Option<u64>,
+    zones: Option<u64>,
+    journal: Option<u64>,
+) -> Result<Reading, ScriptKind>
+    ensures { result ≡ opened inodes zones journal }
+{
+    let (Some(inodes), Some(zones), Some(journal)) = (inodes, zones, journal) else {
+        return Err(ScriptKind::Word);
+    };
+    sizes_taken(alloc, inodes, zones, journal)
+}
+
+fn journal_line(
+    alloc: Global,
+    inodes: Option<u64>,
+    zones: Option<u64>,
+    words: &[&[u8]],
+) -> Result<Reading, ScriptKind>
+    ensures { result ≡ journal_line inodes zones (map (λ x. x.now) words.now) }
+{
+    let [j, journal] = words else {
+        return Err(ScriptKind::Word);
+    };
+    if *j == b"journal".as_slice() {
+        opened(alloc, inodes, zones, numeral(journal))
+    } else {
+        Err(ScriptKind::Word)
+    }
+}
+
+#[tactic(auto, using(crate::proofs::Others::zones_of_few))]
+fn zones_line(alloc: Global, inodes: Option<u64>, words: &[&[u8]]) -> Result<Reading, ScriptKind>
+    ensures { result ≡ zones_line inodes (map (λ x. x.now) words.now) }
+{
+    let [z, zones, rest @ ..] = words else {
+        return Err(ScriptKind::Word);
+    };
+    if *z == b"zones".as_slice() {
+        journal_line(alloc, inodes, numeral(zones), rest)
+    } else {
+        Err(ScriptKind::Word)
+    }
+}
+
+#[tactic(auto, using(crate::proofs::Others::volume_of_few))]
+fn volume_line(alloc: Global, words: &[&[u8]]) -> Result<Reading, ScriptKind>
+    ensures { result ≡ volume_line (map (λ x. x.now) words.now) }
+{
+    let [i, inodes, rest @ ..] = words else {
+        return Err(ScriptKind::Word);
+    };
+    if *i == b"inodes".as_slice() {
+        zones_line(alloc, numeral(inodes), rest)
+    } else {
+        Err(ScriptKind::Word)
+    }
+}
+
+fn built_first(alloc: Global, word: Word, words: &[&[u8]]) -> Result<Reading, ScriptKind>
+    ensures { result ≡ built_first word (map (λ x. x.now) words.now) }
+{
+    match word {
+        Word::First(FirstWord::Volume) => volume_line(alloc, words),
+        _ => Err(ScriptKind::Order),
+    }
+}
+
+/// Reads the first line, or says what is wrong with it.
+pub fn first_line(alloc: Global, word: Option<Word>, words: &[&[u8]]) -> Result<Reading, ScriptKind>
+    ensures { result ≡ first_line word (map (λ x. x.now) words.now) }
+{
+    let Some(word) = word else {
+        return Err(ScriptKind::Word);
+    };
+    if !is_built(word) {
+        return Err(ScriptKind::NotBuilt);
+    }
+    built_first(alloc, word, words)
+}

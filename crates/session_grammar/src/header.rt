@@ -1,0 +1,86 @@
+//! The header lines.
+ghost use Rattle.std.specs.Prelude.{◌≡◌, true, map, is_some};
+ghost use Rattle.session_grammar.specs.Grammar.{told_number, number_fits, with_number, number_taken, header_line, header_taken};
+
+use crate::limits::{MOST_SEED, MOST_SESSION};
+use crate::reading::{Reading, Told};
+use crate::words::{HeaderWord, NumberWord};
+use script_grammar::{MOST_DEPTH, MOST_QUEUE, MOST_STEPS, ScriptKind};
+use script_words::numeral;
+
+/// The header line with this word stood before.
+pub fn is_told(told: Told, word: NumberWord) -> bool
+    ensures { result ≡ is_some (told_number told word) }
+{
+    match word {
+        NumberWord::Depth => told.depth.is_some(),
+        NumberWord::Queue => told.queue.is_some(),
+        NumberWord::Limit => told.limit.is_some(),
+        NumberWord::Cut => told.cut.is_some(),
+        NumberWord::Seed => told.seed.is_some(),
+    }
+}
+
+fn number_fits(word: NumberWord, number: u64) -> bool
+    ensures { result ≡ number_fits word number }
+{
+    match word {
+        NumberWord::Depth => number >= 1 && number <= MOST_DEPTH,
+        NumberWord::Queue => number >= 1 && number <= MOST_QUEUE,
+        NumberWord::Limit => number >= 1 && number <= MOST_SESSION,
+        NumberWord::Cut => number <= MOST_STEPS,
+        NumberWord::Seed => number <= MOST_SEED,
+    }
+}
+
+fn with_number(told: Told, word: NumberWord, number: u64) -> Told
+    requires { number_fits word number ≡ true }
+    ensures { result ≡ with_number told word number }
+{
+    let mut told = told;
+    match word {
+        NumberWord::Depth => told.depth = Some(number as u32),
+        NumberWord::Queue => told.queue = Some(number as u32),
+        NumberWord::Limit => told.limit = Some(number),
+        NumberWord::Cut => told.cut = Some(number),
+        NumberWord::Seed => told.seed = Some(number),
+    }
+    told
+}
+
+fn number_taken(told: Told, word: NumberWord, number: Option<u64>) -> Result<Told, ScriptKind>
+    ensures { result ≡ number_taken told word number }
+{
+    let Some(number) = number else {
+        return Err(ScriptKind::Word);
+    };
+    if !number_fits(word, number) {
+        return Err(ScriptKind::Number);
+    }
+    Ok(with_number(told, word, number))
+}
+
+fn header_line(told: Told, word: HeaderWord, words: &[&[u8]]) -> Result<Told, ScriptKind>
+    ensures { result ≡ header_line told word (map (λ x. x.now) words.now) }
+{
+    match (word, words) {
+        (HeaderWord::Number(word), [number]) => number_taken(told, word, numeral(number)),
+        (HeaderWord::Elevator, []) => Ok(Told {
+            elevator: true,
+            ..told
+        }),
+        _ => Err(ScriptKind::Word),
+    }
+}
+
+/// Reads a header line, or says what is wrong with it.
+pub fn header_taken(
+    mut reading: Reading,
+    word: HeaderWord,
+    words: &[&[u8]],
+) -> Result<Reading, ScriptKind>
+    ensures { result ≡ header_taken reading (header_line reading.told word (map (λ x. x.now) words.now)) }
+{
+    reading.told = header_line(reading.told, word, words)?;
+    Ok(reading)
+}

@@ -1,0 +1,35 @@
+//! The limits of a volume script, and what a header line that is missing stands for. Those that other crates have
+//! too are theirs.
+
+/// The most inodes, and the most blocks of the volume.
+pub const MOST_NUMBERED: u64 = 65_535;
+
+/// The journal's number of blocks is below this where it is spelled.
+pub const JOURNALS: u64 = 4_294_967_296;
+
+/// The least blocks of a journal.
+pub const LEAST_JOURNAL: u32 = 128;
+
+/// The most blocks of a journal.
+pub const MOST_JOURNAL: u32 = 16_384;
+
+/// The most threads.
+pub const MOST_THREADS: usize = 16;
+
+/// The most calls of one thread.
+pub const MOST_CALLS: usize = 10_000;
+
+/// The most requests of a session.
+pub const MOST_SESSION: u64 = 200_000;
+
+/// The greatest seed.
+pub const MOST_SEED: u64 = 1_000_000_000;
+
+/// The most `recover` lines.
+pub const MOST_RECOVERS: usize = 100;
+
+/// The most requests of a session where no line says it.
+pub const DEFAULT_LIMIT: u64 = 20_000;
+
+/// The seed where no line says one.
+pub const DEFAULT_SEED: u64 = 1;

@@ -1,0 +1,40 @@
+//! What was read of a volume script so far.
+use call_grammar::{LineList, Programs};
+use event_grammar::{Events, SteerList};
+
+/// The parts of a script, after its first line.
+#[derive(Clone, Copy, PartialEq, Eq, Debug)]
+pub enum Section {
+    /// Header lines, and from the first thread on threads with their calls.
+    Opening,
+    Events,
+    Recovery,
+}
+
+/// What the header lines said so far.
+#[derive(Clone, Copy, PartialEq, Eq, Debug)]
+pub struct Told {
+    pub depth: Option<u32>,
+    pub queue: Option<u32>,
+    pub limit: Option<u64>,
+    pub cut: Option<u64>,
+    pub seed: Option<u64>,
+    /// The line `elevator` stood.
+    pub elevator: bool,
+}
+
+/// The state of reading between two lines.
+#[derive(Drop)]
+pub struct Reading {
+    pub inodes: u16,
+    pub zones: u16,
+    pub journal: u32,
+    pub told: Told,
+    pub section: Section,
+    pub programs: Programs,
+    pub lines: LineList,
+    pub events: Events,
+    /// How many events there are, with their repeats.
+    pub expanded: u64,
+    pub recovers: SteerList,
+}

@@ -1,0 +1,299 @@
+//! Volume scripts that were read by hand, and the faults of texts that are none.
+use super::*;
+use event_grammar::{CoreEvent, EventLine, EventWord, Steer};
+use script_grammar::ScriptKind::{Geometry, NotBuilt, Number, Order, Twice, Word};
+use script_grammar::{MOST_SCRIPT_BYTES, ScriptError, ScriptKind};
+use std::alloc::{AllocError, Global};
+use std::process::Abort;
+use std::test::Fail;
+
+type Row = (&'static str, u32, ScriptKind);
+
+const V: &str = "volume inodes 32 zones 64 journal 128\n";
+
+// A text of several parts.
+fn text(alloc: Global, parts: &[&str]) -> Result<Vec<u8>, AllocError> {
+    let mut text = Vec::new(alloc);
+    for part in parts {
+        text.extend_from_slice(part.as_bytes())?;
+    }
+    Ok(text)
+}
+
+// One part, and behind it another one so often.
+fn repeated(alloc: Global, head: &str, line: &str, count: u32) -> Result<Vec<u8>, AllocError> {
+    let mut text = Vec::new(alloc);
+    text.extend_from_slice(head.as_bytes())?;
+    for _ in 0..count {
+        text.extend_from_slice(line.as_bytes())?;
+    }
+    Ok(text)
+}
+
+fn read(rt: &impl Abort, alloc: Global, text: &[u8]) -> Result<SessionScript, ScriptError> {
+    assert!(rt; text.len() <= MOST_SCRIPT_BYTES);
+    read_session(alloc, text)
+}
+
+fn expect_fault(rt: &impl Abort, alloc: Global, text: &[u8], line: u32, kind: ScriptKind) {
+    match read(rt, alloc, text) {
+        Ok(_) => assert!(rt; false, "line {line} of {text:?} is taken"),
+        Err(fault) => assert_eq!(rt; fault, ScriptError::Fault(line, kind), "at {text:?}"),
+    }
+}
+
+fn expect_faults(rt: &impl Abort, alloc: Global, rows: &[Row]) {
+    for (text, line, kind) in rows {
+        expect_fault(rt, alloc, text.as_bytes(), *line, *kind);
+    }
+}
+
+// The same behind the first line of a volume.
+fn expect_behind(rt: &impl Abort, alloc: Global, rows: &[Row]) -> Result<(), AllocError> {
+    for (rest, line, kind) in rows {
+        let whole = text(alloc, &[V, rest])?;
+        expect_fault(rt, alloc, &whole, *line, *kind);
+    }
+    Ok(())
+}
+
+fn event(what: EventWord, count: u32) -> EventLine {
+    EventLine { what, count }
+}
+
+fn expect_events(rt: &impl Abort, script: &SessionScript, wanted: &[EventLine]) {
+    assert_eq!(rt; script.events.as_slice(), wanted);
+}
+
+#[test]
+fn reads_threads_and_events(rt: HostRuntime) -> Result<(), Fail> {
+    let alloc = rt.alloc();
+    let calls = "thread 1\nmkdir /a\ncreate /a/f\nwrite /a/f 0 3 61\nfbarrier /a/f\n";
+    let whole = text(
+        alloc,
+        &[V, calls, "events\ncall 1 x 6\ncommit x 10\ncall 1\n"],
+    )?;
+    let script = read(&rt, alloc, &whole)?;
+    assert_eq!(rt;
+        (script.inodes, script.zones, script.journal),
+        (32, 64, 128)
+    );
+    let defaults = SessionHeader {
+        depth: 32,
+        queue: 32,
+        limit: 20_000,
+        cut: None,
+        seed: 1,
+        elevator: false,
+    };
+    assert_eq!(rt; script.header, defaults);
+    let programs = format!(in alloc; "{:?}", script.programs)?;
+    assert_eq!(rt;
+        programs.as_str(),
+        "Programs { threads: [Program { calls: [Mkdir(ByteList { bytes: [47, 97] }), Create(ByteList { bytes: [47, 97, 47, 102] }), Write { path: ByteList { bytes: [47, 97, 47, 102] }, off: 0, len: 3, value: 97 }, Fbarrier(ByteList { bytes: [47, 97, 47, 102] })] }] }"
+    );
+    let lines = script.lines.as_slice();
+    assert_eq!(rt; lines.len(), 4);
+    let third = lines.get(2).map(|line| line.as_slice());
+    assert_eq!(rt; third, Some(b"write /a/f 0 3 61".as_slice()));
+    let wanted = [
+        event(EventWord::One(CoreEvent::Call(1)), 6),
+        event(EventWord::One(CoreEvent::Commit), 10),
+        event(EventWord::One(CoreEvent::Call(1)), 1),
+    ];
+    expect_events(&rt, &script, &wanted);
+    assert_eq!(rt; script.recovers.len(), 0);
+    sessions_tell_first_fault();
+    sessions_are_read_back();
+    sessions_are_what_is_spelled();
+    Ok(())
+}
+
+#[test]
+fn reads_conflicts(rt: HostRuntime) -> Result<(), Fail> {
+    let alloc = rt.alloc();
+    let calls = "thread 1\nmkdir /a\nfbarrier /a\nmkdir /b\nfbarrier /b\n";
+    let events = "events\ncall 1 x 3\ncommit x 10\ncall 1 x 4\ncommit x 5\nback 100\ncall 1\n";
+    let script = read(&rt, alloc, &text(alloc, &[V, calls, events])?)?;
+    assert_eq!(rt; script.lines.as_slice().len(), 4);
+    let wanted = [
+        event(EventWord::One(CoreEvent::Call(1)), 3),
+        event(EventWord::One(CoreEvent::Commit), 10),
+        event(EventWord::One(CoreEvent::Call(1)), 4),
+        event(EventWord::One(CoreEvent::Commit), 5),
+        event(EventWord::Back, 100),
+        event(EventWord::One(CoreEvent::Call(1)), 1),
+    ];
+    expect_events(&rt, &script, &wanted);
+    Ok(())
+}
+
+#[test]
+fn reads_recoveries(rt: HostRuntime) -> Result<(), Fail> {
+    let alloc = rt.alloc();
+    let calls = "thread 1\nmkdir /a\ncreate /a/f\nwrite /a/f 0 3 61\nfsync /a/f\n";
+    let whole = text(
+        alloc,
+        &[
+            V,
+            calls,
+            "events\nround 100\nrecover d3\nrecover t0 t0 p1\nrecover",
+        ],
+    )?;
+    let script = read(&rt, alloc, &whole)?;
+    expect_events(&rt, &script, &[event(EventWord::Round, 100)]);
+    let recovers = script.recovers.as_slice();
+    assert_eq!(rt; recovers.len(), 3);
+    let first = recovers.get(0).map(|line| line.as_slice());
+    assert_eq!(rt; first, Some([Steer::Default(3)].as_slice()));
+    let second = recovers.get(1).map(|line| line.as_slice());
+    let wanted = [Steer::Transfer(0), Steer::Transfer(0), Steer::Persist(1)];
+    assert_eq!(rt; second, Some(wanted.as_slice()));
+    let third = recovers.get(2).map(|line| line.as_slice().len());
+    assert_eq!(rt; third, Some(0));
+    Ok(())
+}
+
+#[test]
+fn reads_headers(rt: HostRuntime) -> Result<(), Fail> {
+    let alloc = rt.alloc();
+    let calls = "thread 1\ncreate /f\nwrite /f 0 2048 aa\nfbarrier /f\nevents\ncall 1 x 5";
+    let full = read(&rt, alloc, &text(alloc, &[V, "queue 1\n", calls])?)?;
+    assert_eq!(rt; (full.header.queue, full.header.limit), (1, 20_000));
+    let ended = read(&rt, alloc, &text(alloc, &[V, "limit 1\n", calls])?)?;
+    assert_eq!(rt; (ended.header.queue, ended.header.limit), (32, 1));
+    let all =
+        "# all of them\n\nseed 7\nelevator\ncut 0\ndepth 64\nlimit 200000\nqueue 64\nevents\n";
+    let script = read(&rt, alloc, &text(alloc, &[V, all])?)?;
+    let wanted = SessionHeader {
+        depth: 64,
+        queue: 64,
+        limit: 200_000,
+        cut: Some(0),
+        seed: 7,
+        elevator: true,
+    };
+    assert_eq!(rt; script.header, wanted);
+    assert_eq!(rt; script.programs.len(), 0);
+    Ok(())
+}
+
+#[test]
+fn tests_first_lines(rt: HostRuntime) {
+    let rows = [
+        ("", 1, Order),
+        ("\n# nothing\n", 3, Order),
+        ("device 3\nevents\n", 1, Order),
+        ("mkdir /a\n", 1, Order),
+        ("rename /a /b\n", 1, NotBuilt),
+        ("fail 3\n", 1, NotBuilt),
+        ("volumes\n", 1, Word),
+        ("volume inodes 32 zones 64\n", 1, Word),
+        ("volume zones 64 inodes 32 journal 128\n", 1, Word),
+        ("volume inodes 32 zones 64 journal x\n", 1, Word),
+        ("volume inodes 32 zones 64 journal 128 names 30\n", 1, Word),
+        ("volume inodes 0 zones 64 journal 128\n", 1, Number),
+        ("volume inodes 65536 zones 64 journal 128\n", 1, Number),
+        ("volume inodes 32 zones 0 journal 128\n", 1, Number),
+        ("volume inodes 32 zones 65536 journal 128\n", 1, Number),
+        ("volume inodes 32 zones 64 journal 4294967296\n", 1, Number),
+        ("volume inodes 32 zones 5 journal 128\n", 1, Geometry),
+        ("volume inodes 33 zones 6 journal 128\n", 1, Geometry),
+        ("volume inodes 32 zones 64 journal 127\n", 1, Geometry),
+        ("volume inodes 32 zones 64 journal 16385\n", 1, Geometry),
+        (
+            "volume inodes 32 zones 64 journal 4294967295\n",
+            1,
+            Geometry,
+        ),
+        ("volume inodes 32 zones 6 journal 16384\n", 2, Order),
+    ];
+    expect_faults(&rt, rt.alloc(), &rows);
+}
+
+#[test]
+fn names_geometry(rt: HostRuntime) -> Result<(), Fail> {
+    let shown = format!(in rt.alloc(); "{}", Geometry)?;
+    assert_eq!(rt; shown.as_str(), "geometry");
+    Ok(())
+}
+
+#[test]
+fn tests_order(rt: HostRuntime) -> Result<(), Fail> {
+    let rows = [
+        ("put 0 11 free\n", 2, Order),
+        ("flush\n", 2, Order),
+        ("blocks 3\n", 2, Order),
+        ("recover\n", 2, Order),
+        ("mkdir /a\n", 2, Order),
+        ("thread 1\ndepth 3\n", 3, Order),
+        ("thread 1\ncall 1\n", 3, Order),
+        ("thread 1\nstat /a", 4, Order),
+        ("events\nsubmit\n", 3, Order),
+        ("events\nmkdir /a\n", 3, Order),
+        ("events\nthread 1\n", 3, Order),
+        ("events\nevents\n", 3, Order),
+        ("events\nrecover\ncommit\n", 4, Order),
+        ("events\nrename /a /b\n", 3, NotBuilt),
+        ("thread 1\nfail x\n", 3, NotBuilt),
+        ("depth 3\nqueue 3\ndepth\n", 4, Twice),
+        ("elevator\nelevator 3\n", 3, Twice),
+        ("thread 1\nmkdirs /a\n", 3, Word),
+        ("thread 1\nwrite 0\n", 3, Word),
+        ("events\nwrite /a 0 1 61\n", 3, Word),
+        ("events x 3\n", 2, Word),
+        ("events\nrecover d1000001 x\n", 3, Word),
+    ];
+    expect_behind(&rt, rt.alloc(), &rows)?;
+    Ok(())
+}
+
+#[test]
+fn tests_numbers(rt: HostRuntime) -> Result<(), Fail> {
+    let rows = [
+        ("depth 0\n", 2, Number),
+        ("queue 65\n", 2, Number),
+        ("limit 200001\n", 2, Number),
+        ("cut 1000000001\n", 2, Number),
+        ("seed 1000000001\n", 2, Number),
+        ("thread 2\n", 2, Number),
+        ("thread 1\nthread 1\n", 3, Number),
+        ("thread 1\nread /a 0 65537\n", 3, Number),
+        ("events\ncall 1\n", 3, Number),
+        ("thread 1\nevents\ncall 0\n", 4, Number),
+        ("thread 1\nevents\ncall 1\ncall 2\n", 5, Number),
+        ("events\nwrite 4294967296\n", 3, Number),
+        ("events\nrecover d1000001\n", 3, Number),
+        // a round of no thread has eight events, one of two threads ten
+        (
+            "events\nround 1000000 x 2\nback 500000\ncommit\n",
+            5,
+            Number,
+        ),
+        (
+            "thread 1\nthread 2\nevents\nround 1000000 x 2\ncommit\n",
+            6,
+            Number,
+        ),
+    ];
+    expect_behind(&rt, rt.alloc(), &rows)?;
+    Ok(())
+}
+
+#[test]
+fn counts_lines(rt: HostRuntime) -> Result<(), Fail> {
+    let alloc = rt.alloc();
+    let head = text(alloc, &[V, "thread 1\n"])?;
+    let head = String::from_utf8(head)?;
+    let mut calls = repeated(alloc, &head, "sync\n", 10_000)?;
+    calls.extend_from_slice(b"thread 2\nsync\nevents\n")?;
+    let script = read(&rt, alloc, &calls)?;
+    assert_eq!(rt; script.programs.len(), 2);
+    let more = repeated(alloc, &head, "sync\n", 10_001)?;
+    expect_fault(&rt, alloc, &more, 10_003, Number);
+    let head = text(alloc, &[V, "events\n"])?;
+    let head = String::from_utf8(head)?;
+    let recovers = repeated(alloc, &head, "recover t0\n", 101)?;
+    expect_fault(&rt, alloc, &recovers, 103, Number);
+    Ok(())
+}

@@ -1,0 +1,44 @@
+//! The words that begin lines of volume scripts, in groups by where the lines stand.
+use call_grammar::CallWord;
+use event_grammar::EventFirst;
+
+/// The words that begin a script.
+#[derive(Clone, Copy, PartialEq, Eq, Debug)]
+pub enum FirstWord {
+    Device,
+    Blocks,
+    Volume,
+}
+
+/// The words of header lines with a number behind them.
+#[derive(Clone, Copy, PartialEq, Eq, Debug)]
+pub enum NumberWord {
+    Depth,
+    Queue,
+    Limit,
+    Cut,
+    Seed,
+}
+
+/// The words of header lines.
+#[derive(Clone, Copy, PartialEq, Eq, Debug)]
+pub enum HeaderWord {
+    Number(NumberWord),
+    Elevator,
+    Fail,
+}
+
+/// The first word of a line.
+#[derive(Clone, Copy, PartialEq, Eq, Debug)]
+pub enum Word {
+    First(FirstWord),
+    Header(HeaderWord),
+    /// A request of a script of block requests.
+    Put,
+    Thread,
+    /// The line between the threads and the event lines.
+    Events,
+    Recover,
+    Call(CallWord),
+    Event(EventFirst),
+}
