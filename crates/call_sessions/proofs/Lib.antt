@@ -1,0 +1,6 @@
+pub mod StepsAs
+pub mod ActorsAs
+pub mod RunsAs
+pub mod SessionsAs
+pub mod CallsKept
+pub mod Spelled

@@ -1,0 +1,2 @@
+pub mod CallsAs
+pub mod Sessions
