@@ -1,0 +1,122 @@
+-- The requests of a plan are such that a reader of the journal finds no fault with them.
+use Rattle.std.specs.Prelude.{◌≡◌, ℕ, zero, suc, ◌+◌, ◌-◌, ◌≤◌, Bool, true, false, List, [], ◌∷◌, ◌++◌, length, map, refl, if◌then◌else◌}
+use Rattle.std.proofs.Common.{sym, ap, subst, ◌∙◌, inl, inr, ⊎_elim, arith, append_assoc, length-append}
+use Rattle.blk_base.specs.Members.{In, In-append_left, In-append_right, In-append_cases, In-map}
+use Rattle.order_model.specs.declared.note.Note.TheVariants as notes
+use Rattle.log_model.specs.Log.{Tag, Format}
+use Rattle.log_model.specs.Marks.{Logged}
+use Rattle.log_model.specs.Ring.{Ring, places_on}
+use Rattle.tx_running.specs.Plan.{Writers, Planned, chunks_from, chunks, revoke_block, body_block, described, all_described, logged_blocks, commit_block, placed, with_barrier, plan_of}
+use Rattle.tx_running.specs.declared.pieces.UnplacedBlock.{UnplacedBlock}
+use Rattle.host_runs.specs.laws.Written.{IsWord, tag_of, AreWritten}
+use Rattle.session_images.specs.Requests.{IsLoggable, IsReadable}
+
+abbrev pub AreReadable : Format → Writers → ℕ → List Planned → Type 0
+AreReadable f w zones ps = (p : Planned) → In p ps → IsReadable f w zones p.note p.body
+
+-- ---- parts of a list
+
+abbrev flat : {X : Type 0} → List (List X) → List X
+flat [] = []
+flat (xs ∷ xss) = xs ++ flat xss
+
+chunks_flat : {X : Type 0} (most left : ℕ) (begun xs : List X) → flat (chunks_from most left begun xs) ≡ begun ++ xs
+chunks_flat most left [] [] = refl
+chunks_flat most left (b ∷ bs) [] = refl
+chunks_flat most zero begun (x ∷ xs) = ap (λ ys. begun ++ ys) (chunks_flat most (most - 1) (x ∷ []) xs)
+chunks_flat most (suc left) begun (x ∷ xs) = chunks_flat most left (begun ++ x ∷ []) xs ∙ append_assoc begun (x ∷ []) xs
+
+chunks_sized : {X : Type 0} (most left : ℕ) (begun xs c : List X) → 1 ≤ most → length begun + left ≡ most → In c (chunks_from most left begun xs) → (1 ≤ length c) × (length c ≤ most)
+chunks_sized most left [] [] c pos e i = absurd i
+chunks_sized most left (b ∷ bs) [] c pos e (inl q) = subst (λ ys. (1 ≤ length ys) × (length ys ≤ most)) q (omega arith, omega arith)
+chunks_sized most left (b ∷ bs) [] c pos e (inr i) = absurd i
+chunks_sized most zero begun (x ∷ xs) c pos e (inl q) = subst (λ ys. (1 ≤ length ys) × (length ys ≤ most)) q (omega arith, omega arith)
+chunks_sized most zero begun (x ∷ xs) c pos e (inr i) = chunks_sized most (most - 1) (x ∷ []) xs c pos (omega arith) i
+chunks_sized most (suc left) begun (x ∷ xs) c pos e i =
+    let grown = length-append begun (x ∷ []) in
+    chunks_sized most left (begun ++ x ∷ []) xs c pos (omega arith) i
+
+In-flat : {X : Type 0} (xss : List (List X)) (c : List X) (x : X) → In c xss → In x c → In x (flat xss)
+In-flat [] c x i j = absurd i
+In-flat (xs ∷ xss) c x (inl e) j = In-append_left xs (flat xss) x (subst (λ ys. In x ys) (sym e) j)
+In-flat (xs ∷ xss) c x (inr i) j = In-append_right xs (flat xss) x (In-flat xss c x i j)
+
+In-chunks : {X : Type 0} (most : ℕ) (xs c : List X) (x : X) → In c (chunks most xs) → In x c → In x xs
+In-chunks most xs c x i j = subst (In x) (chunks_flat most most [] xs) (In-flat (chunks most xs) c x i j)
+
+length_tags : (w : Writers) (c : List Logged) → length (map (tag_of w) c) ≡ length c
+length_tags w [] = refl
+length_tags w (l ∷ ls) = ap suc (length_tags w ls)
+
+-- ---- a plan
+
+module _ (f : Format) (w : Writers) (zones : ℕ) where
+  barrier_readable : (ps : List Planned) → AreReadable f w zones ps → AreReadable f w zones (with_barrier ps)
+  barrier_readable [] h p i = absurd i
+  barrier_readable (x ∷ []) h p (inl e) = subst (λ (y : Planned). IsReadable f w zones y.note y.body) e (h x (inl refl))
+  barrier_readable (x ∷ []) h p (inr i) = absurd i
+  barrier_readable (x ∷ y ∷ ys) h p (inl e) = h p (inl e)
+  barrier_readable (x ∷ y ∷ ys) h p (inr i) = barrier_readable (y ∷ ys) (λ z j. h z (inr j)) p i
+
+  placed_readable : (journal : ℕ) (ring : Ring) (head : ℕ) (ls : List UnplacedBlock) → ((l : UnplacedBlock) → In l ls → IsReadable f w zones l.note l.body) → AreReadable f w zones (placed journal ring head ls)
+  placed_readable journal ring head [] h p i = absurd i
+  placed_readable journal ring head (l ∷ ls) h p (inl e) = subst (λ (y : Planned). IsReadable f w zones y.note y.body) e (h l (inl refl))
+  placed_readable journal ring head (l ∷ ls) h p (inr i) = placed_readable journal ring (places_on ring 1 head) ls (λ z j. h z (inr j)) p i
+
+  joined : {X : Type 0} (P : X → Type 0) (xs ys : List X) → ((x : X) → In x xs → P x) → ((x : X) → In x ys → P x) → (x : X) → In x (xs ++ ys) → P x
+  joined P xs ys h g x i = ⊎_elim (h x) (g x) (In-append_cases xs ys x i)
+
+  super_readable : (journal head sequence : ℕ) (started : Bool) → AreReadable f w zones (if started then [] else record { note = notes.Super; block = journal; body = w.super sequence head; barrier = false } ∷ [])
+  super_readable journal head sequence true p i = absurd i
+  super_readable journal head sequence false p (inl e) = subst (λ (y : Planned). IsReadable f w zones y.note y.body) e (sequence, head, refl)
+  super_readable journal head sequence false p (inr i) = absurd i
+
+  module _ (written : AreWritten f w) (small : zones ≤ 4294967296) (k sequence : ℕ) (fits : IsWord sequence) where
+    abbrev IsGood : UnplacedBlock → Type 0
+    IsGood b = IsReadable f w zones b.note b.body
+
+    revoke_readable : (c : List ℕ) → (1 ≤ length c) × (length c ≤ 252) → ((b : ℕ) → In b c → IsWord b) → IsGood (revoke_block w k sequence c)
+    revoke_readable c size words = (sequence, c, written.revoke sequence c fits size.0 size.1 words, size.0)
+
+    tag_loggable : (c : List Logged) → ((l : Logged) → In l c → IsLoggable zones l.block) → (t : Tag) → In t (map (tag_of w) c) → IsLoggable zones t.block
+    tag_loggable c h t i = let m = In-map (tag_of w) c t i in subst (λ (u : Tag). IsLoggable zones u.block) m.2 (h m.0 m.1)
+
+    described_readable : (c : List Logged) → (1 ≤ length c) × (length c ≤ 122) → ((l : Logged) → In l c → IsLoggable zones l.block) → (b : UnplacedBlock) → In b (described w k sequence c) → IsGood b
+    described_readable c size h b (inl e) =
+        let n = length_tags w c in
+        let lo = size.0 in
+        let hi = size.1 in
+        let tags = map (tag_of w) c in
+        subst IsGood e (sequence, tags, written.descriptor sequence tags fits (omega arith) (omega arith) (λ t i. let x = (tag_loggable c h t i).1 in omega arith), tag_loggable c h)
+    described_readable c size h b (inr i) = let m = In-map (body_block w k sequence) c b i in subst IsGood m.2 tt
+
+    all_readable : (cs : List (List Logged)) → ((c : List Logged) → In c cs → (1 ≤ length c) × (length c ≤ 122)) → ((c : List Logged) (l : Logged) → In c cs → In l c → IsLoggable zones l.block)
+        → (b : UnplacedBlock) → In b (all_described w k sequence cs) → IsGood b
+    all_readable [] size h b i = absurd i
+    all_readable (c ∷ cs) size h b i =
+        ⊎_elim
+        (λ j. described_readable c (size c (inl refl)) (λ l m. h c l (inl refl) m) b j)
+        (λ j. all_readable cs (λ d m. size d (inr m)) (λ d l m n. h d l (inr m) n) b j)
+        (In-append_cases (described w k sequence c) (all_described w k sequence cs) b i)
+
+    revokes_readable : (revokes : List ℕ) → ((b : ℕ) → In b revokes → IsWord b) → (b : UnplacedBlock) → In b (map (revoke_block w k sequence) (chunks 252 revokes)) → IsGood b
+    revokes_readable revokes words b i =
+        let m = In-map (revoke_block w k sequence) (chunks 252 revokes) b i in
+        subst IsGood m.2 (revoke_readable m.0 (chunks_sized 252 252 [] revokes m.0 (omega arith) (omega arith) m.1) (λ c j. words c (In-chunks 252 revokes m.0 c m.1 j)))
+
+    -- The requests of a plan whose bodies are for blocks that are logged.
+    pub plan_readable : (journal : ℕ) (ring : Ring) (head : ℕ) (started : Bool) (bodies : List Logged) (revokes : List ℕ) → ((l : Logged) → In l bodies → IsLoggable zones l.block) → ((b : ℕ) → In b revokes → IsWord b)
+        → AreReadable f w zones (plan_of w journal ring head started k sequence bodies revokes)
+    plan_readable journal ring head started bodies revokes low words =
+        let blocks = logged_blocks w k sequence bodies revokes in
+        let super : List Planned = if started then [] else record { note = notes.Super; block = journal; body = w.super sequence head; barrier = false } ∷ [] in
+        joined (λ (p : Planned). IsReadable f w zones p.note p.body) (with_barrier (super ++ placed journal ring head blocks)) (with_barrier (placed journal ring (places_on ring (length blocks) head) (commit_block w k sequence ∷ [])))
+        (barrier_readable (super ++ placed journal ring head blocks)
+        (joined (λ (p : Planned). IsReadable f w zones p.note p.body) super (placed journal ring head blocks) (super_readable journal head sequence started)
+        (placed_readable journal ring head blocks
+        (joined IsGood (map (revoke_block w k sequence) (chunks 252 revokes)) (all_described w k sequence (chunks 122 bodies))
+        (revokes_readable revokes words)
+        (all_readable (chunks 122 bodies) (λ c i. chunks_sized 122 122 [] bodies c (omega arith) (omega arith) i) (λ c l i j. low l (In-chunks 122 bodies c l i j)))))))
+        (barrier_readable (placed journal ring (places_on ring (length blocks) head) (commit_block w k sequence ∷ []))
+        (placed_readable journal ring (places_on ring (length blocks) head) (commit_block w k sequence ∷ [])
+        (λ l i. ⊎_elim (λ e. subst IsGood e tt) (λ j. absurd j) i)))
