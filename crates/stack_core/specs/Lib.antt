@@ -4,3 +4,4 @@ pub mod Headline
 pub mod Report
 pub mod BlockLayer
 pub mod code
+pub mod Dispatching

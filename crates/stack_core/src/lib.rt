@@ -6,6 +6,7 @@
 //! (`specs/Headline.antt`).
 #![tactic(auto)]
 
+mod dispatch_queue;
 mod report;
 mod request_path;
 mod running;
@@ -13,5 +14,7 @@ mod scheduler_queues;
 #[cfg(test)]
 mod tests;
 
+pub use dispatch_queue::DispatchQueue;
 pub use report::Report;
 pub use running::{core_run, run_on};
+pub use scheduler_queues::accept_from;

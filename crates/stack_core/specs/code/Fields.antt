@@ -8,10 +8,10 @@ queues_of s = record {
   next = s.next;
   capacity = s.submission.capacity;
   submission = s.submission.held;
-  kept = s.kept;
-  dispatched = s.dispatched.held;
+  kept = s.behind.kept;
+  dispatched = s.behind.dispatched;
 }
 
 -- both queues have one capacity
 pub record HaveOneCapacity (s : Inside) : Type 0 where
-  pub capacity : s.dispatched.capacity ≡ s.submission.capacity
+  pub capacity : s.behind.capacity ≡ s.submission.capacity
