@@ -1,0 +1,15 @@
+pub mod CallerSteps
+pub mod HostSteps
+pub mod Growing
+pub mod Origins
+pub mod BegunCalls
+pub mod Ends
+pub mod EndCauses
+pub mod Orders
+pub mod TreeReplies
+pub mod LegalEnds
+pub mod VolumeReplies
+pub mod SessionTrees
+pub mod SessionHistory
+pub mod SessionAnswers
+pub mod SessionReplies

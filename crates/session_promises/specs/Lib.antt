@@ -1,0 +1,5 @@
+pub mod Entries
+pub mod Causes
+pub mod Trees
+pub mod Legal
+pub mod Answers

@@ -1,0 +1,59 @@
+//! The laws, each a public function that does nothing when it is called.
+ghost use Rattle.std.specs.Prelude.{◌≡◌, ℕ, false, List};
+ghost use Rattle.tree_model.specs.declared.call.Call.{Call};
+ghost use Rattle.tree_model.specs.declared.call.Reply.{Reply};
+ghost use Rattle.volume_steps.specs.Now.{VolumeNow, room_of};
+ghost use Rattle.crash_laws.specs.LegalHistory.{is_turned_away, IsLegal};
+ghost use Rattle.journal_ring.specs.LogRing.{LogRing};
+ghost use Rattle.flush_actor.specs.Kinds.{is_data};
+ghost use Rattle.host_machine.specs.State.{Answered};
+ghost use Rattle.host_runs.specs.Runs.{Event};
+ghost use Rattle.host_runs.specs.laws.Written.{AreWritten};
+ghost use Rattle.host_volume.specs.Calls.{kind_of};
+ghost use Rattle.host_volume.specs.Runs.{IsOpenedVolume, HasEmptyJournal};
+ghost use Rattle.host_volume.specs.Sessions.{Opening};
+ghost use Rattle.call_sessions.specs.Sessions.{WriteBytes, host_behind};
+ghost use Rattle.session_promises.specs.Answers.{AnsweredAt, HasOkCause, KeepsPromises};
+ghost use Rattle.session_promises.specs.Causes.{HaveCauses};
+ghost use Rattle.session_promises.specs.Entries.{EndsAt};
+ghost use Rattle.session_promises.specs.Legal.{events_in, program_of, FollowsTree};
+ghost use Rattle.session_promises.specs.Trees.{HaveNoRenames};
+
+/// A law, which does nothing when it is called: in every session a call ends with Down only where the power's completion
+/// was taken before; with ReadOnly only by the first failed request of all that were taken; and with SessionFull only where
+/// all requests that there may be were submitted. No call that only reads ends by the last two, and what ended one call ends
+/// those behind it. No answer of a call reads as one of these.
+pub fn calls_end_for_a_cause()
+    ensures causes { (s : Opening) (v : VolumeNow) (ring : LogRing) (limit : ℕ) (programs : List (List Call)) (events : List Event) →
+        HaveCauses kind_of limit (host_behind s v ring limit programs events) }
+    ensures answers { (s : Opening) (v : VolumeNow) (ring : LogRing) (limit : ℕ) (programs : List (List Call)) (events : List Event) (e t : ℕ) (c : Call) (r : Reply) →
+        EndsAt (host_behind s v ring limit programs events).history e t c (Answered r) → is_turned_away r ≡ false }
+{}
+
+/// A law, which does nothing when it is called: in a session that was opened on a plain volume of the root alone with an
+/// empty journal behind it, each barrier or sync call that was answered Ok began at a place before, on the node to which its
+/// path led there. What it covers survives every power cut or was superseded: of a barrier call where a write behind its
+/// answer survived, of a sync call in any case, since all that it covers stands below a flush that was answered, if it
+/// covers anything. Of a call that covers metadata a commit block was submitted whose transaction ends between the Begin
+/// and the End.
+pub fn answered_calls_keep_their_promises()
+    ensures promises { (s : Opening) (v : VolumeNow) (ring : LogRing) (limit : ℕ) (programs : List (List Call)) (events : List Event) →
+        AreWritten s.format s.writers → IsOpenedVolume s v → HasEmptyJournal s ring limit → WriteBytes programs →
+        KeepsPromises s (host_behind s v ring limit programs events) }
+    ensures causes { (s : Opening) (v : VolumeNow) (ring : LogRing) (limit : ℕ) (programs : List (List Call)) (events : List Event) (e t : ℕ) (c : Call) →
+        AreWritten s.format s.writers → IsOpenedVolume s v → HasEmptyJournal s ring limit → WriteBytes programs →
+        AnsweredAt (host_behind s v ring limit programs events) e t c → is_data (kind_of c) ≡ false →
+        HasOkCause (host_behind s v ring limit programs events) e t c }
+{}
+
+/// A law, which does nothing when it is called: in such a session the entries of each thread are its program, in order, and
+/// each answer is what the tree model says of the tree after the entries before. Renames are refused; where no program has
+/// one, the history is legal.
+pub fn histories_follow_the_tree()
+    ensures follows { (s : Opening) (v : VolumeNow) (ring : LogRing) (limit : ℕ) (programs : List (List Call)) (events : List Event) →
+        AreWritten s.format s.writers → IsOpenedVolume s v → HasEmptyJournal s ring limit → WriteBytes programs →
+        FollowsTree s programs (host_behind s v ring limit programs events) }
+    ensures legal { (s : Opening) (v : VolumeNow) (ring : LogRing) (limit : ℕ) (programs : List (List Call)) (events : List Event) →
+        AreWritten s.format s.writers → IsOpenedVolume s v → HasEmptyJournal s ring limit → WriteBytes programs → HaveNoRenames programs →
+        IsLegal (room_of s.geometry) (program_of programs) (events_in (host_behind s v ring limit programs events).history) }
+{}
