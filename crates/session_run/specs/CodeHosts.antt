@@ -1,0 +1,25 @@
+-- Hosts as code has them, in a session.
+use Rattle.std.specs.Prelude.{◌≡◌, ℕ, List}
+use Rattle.tree_model.specs.declared.call.Call.{Call}
+use Rattle.tx_running.specs.Closing.{writers}
+use Rattle.tx_running.specs.Open.{quota}
+use Rattle.volume_steps.specs.Now.{VolumeNow}
+use Rattle.journal_blocks.specs.declared.super_block.JournalSuper.{JournalSuper}
+use Rattle.journal_ring.specs.LogRing.{LogRing}
+use Rattle.host_core.specs.Now.{HostNow}
+use Rattle.host_runs.specs.Runs.{Event}
+use Rattle.host_volume.specs.Sessions.{Opening}
+use Rattle.call_sessions.specs.Sessions.{host_behind}
+
+-- The session has the journal of this superblock.
+pub record HasJournal (s : Opening) (made_with : JournalSuper) : Type 0 where
+  pub sequence : made_with.sequence ≡ s.sequence
+  pub writers_are : writers made_with ≡ s.writers
+  pub quota_is : quota made_with ≡ s.quota
+
+-- The host is where the session's machine is after these steps.
+pub record IsInSession (s : Opening) (v : VolumeNow) (ring : LogRing) (limit : ℕ) (programs : List (List Call)) (events : List Event) (h : HostNow) : Type 0 where
+  pub host : h.host ≡ host_behind s v ring limit programs events
+  pub calls : h.programs ≡ programs
+  pub behind_zones : h.journal ≡ s.geometry.zones
+  pub journal : HasJournal s h.made_with

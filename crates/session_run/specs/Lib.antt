@@ -1,0 +1,4 @@
+pub mod CodeHosts
+pub mod Beginning
+pub mod End
+pub mod code
