@@ -74,11 +74,21 @@ module _ {S : Type 0} where
   driven m [] d = if is_running (end_of (m.seen d.dev)) then sent m d.dev d.rest else d
   driven m (c ∷ cs) d = driven m cs (turned m c d)
 
+  -- blocks are read, one after the other
+  abbrev pub after_reads : Machine S → S → List ℕ → S
+  after_reads m s [] = s
+  after_reads m s (b ∷ bs) = after_reads m (m.after_read s b) bs
+
+  -- some blocks were read, and nothing else was done
+  abbrev pub AreReads : Machine S → S → S → Type 0
+  AreReads m first now = (blocks : List ℕ) × (now ≡ after_reads m first blocks)
+
 -- The device was read, and then these commands went to it: the steps are those of the list, and where the run is not cut
 -- behind the list, it goes on by default to its end.
 pub record IsRun {S : Type 0} (m : Machine S) (commands : List Command) (steer : List Choice) (cut : Bool) (old new : S) : Type 0 where
   pub start : S
   pub reads : OnlyReads (m.seen old) (m.seen start)
+  pub from : AreReads m old start
   pub cut_run : cut ≡ true → new ≡ (driven m steer (record { dev = start; rest = commands })).dev
   pub whole_run : cut ≡ false → (turns : ℕ) × (new ≡ (driven m (replicate turns choice.Default) (driven m steer (record { dev = start; rest = commands }))).dev)
   pub over : cut ≡ false → is_running (end_of (m.seen new)) ≡ false

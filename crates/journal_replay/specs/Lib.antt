@@ -4,4 +4,3 @@ pub mod Revokes
 pub mod Driving
 pub mod code
 pub mod laws
-pub mod tests

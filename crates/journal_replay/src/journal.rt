@@ -2,6 +2,8 @@
 ghost use Rattle.std.specs.Prelude.{◌≡◌, ◌≢◌, ℕ, ◌<◌, Some, None, Ok, Err, length, IfOk};
 ghost use Rattle.blk_base.specs.Streams.{Rose};
 ghost use Rattle.order_model.specs.Device.{IsQuiet};
+ghost use Rattle.order_model.specs.Machine.{machine_of};
+ghost use Rattle.journal_replay.specs.Driving.{AreReads};
 ghost use Rattle.journal_blocks.specs.declared.fault.JournalFault.{JournalFault};
 ghost use Rattle.journal_replay.specs.Recovered.{journal_fault};
 ghost use Rattle.journal_replay.specs.code.Journals.{IsJournalOf};
@@ -38,6 +40,7 @@ pub(crate) fn open<D: OrderedDev>(
     ensures unchanged { HasRead (D.seen (D.state dev.old)) (D.seen (D.state dev.new)) }
     ensures valid { D.valid (D.state dev.new) }
     ensures on { D.stays_on (D.state dev.old) → D.stays_on (D.state dev.new) }
+    ensures reads { (first : D.State) → AreReads (machine_of D.OrderedDev) first (D.state dev.old) → AreReads (machine_of D.OrderedDev) first (D.state dev.new) }
     ensures sound { D.sound (D.state dev.old) → D.sound (D.state dev.new) × ((D.seen (D.state dev.new)).faults ≡ (D.seen (D.state dev.old)).faults) }
 {
     let blocks = dev.blocks();

@@ -26,8 +26,6 @@ mod recovery;
 mod replay;
 mod revoke_map;
 mod scanning;
-#[cfg(test)]
-mod tests;
 
 pub use choice::Choice;
 pub use fault::RecoverFault;

@@ -3,6 +3,8 @@ ghost use Rattle.std.specs.Prelude.{◌≡◌, ◌≢◌, ◌+◌, ◌-◌, ◌^
 ghost use Rattle.std.specs.List.{range_with_len, list_any};
 ghost use Rattle.blk_base.specs.Streams.{Rose};
 ghost use Rattle.order_model.specs.Device.{IsQuiet};
+ghost use Rattle.order_model.specs.Machine.{machine_of};
+ghost use Rattle.journal_replay.specs.Driving.{AreReads};
 ghost use Rattle.log_model.specs.Marks.{Logged};
 ghost use Rattle.journal_blocks.specs.declared.tag.Tag.{Tag};
 ghost use Rattle.journal_blocks.specs.Blocks.{restored};
@@ -197,6 +199,7 @@ pub(crate) fn read_place<D: OrderedDev>(dev: &mut D, block: u32) -> Result<Block
     ensures valid { D.valid (D.state dev.new) }
     ensures read { HasRead (D.seen (D.state dev.old)) (D.seen (D.state dev.new)) }
     ensures on { D.stays_on (D.state dev.old) → D.stays_on (D.state dev.new) }
+    ensures reads { (first : D.State) → AreReads (machine_of D.OrderedDev) first (D.state dev.old) → AreReads (machine_of D.OrderedDev) first (D.state dev.new) }
     ensures sound { D.sound (D.state dev.old) → D.sound (D.state dev.new) × ((D.seen (D.state dev.new)).faults ≡ (D.seen (D.state dev.old)).faults) }
     ensures fault { OnErr result (Rose (D.seen (D.state dev.old)).faults (D.seen (D.state dev.new)).faults) }
 {
@@ -224,6 +227,7 @@ fn scan_range<D: OrderedDev>(
     ensures valid { D.valid (D.state dev.new) }
     ensures read { HasRead (D.seen (D.state dev.old)) (D.seen (D.state dev.new)) }
     ensures on { D.stays_on (D.state dev.old) → D.stays_on (D.state dev.new) }
+    ensures reads { (first : D.State) → AreReads (machine_of D.OrderedDev) first (D.state dev.old) → AreReads (machine_of D.OrderedDev) first (D.state dev.new) }
     ensures sound { D.sound (D.state dev.old) → D.sound (D.state dev.new) × ((D.seen (D.state dev.new)).faults ≡ (D.seen (D.state dev.old)).faults) }
     ensures fault { IsErrOf result ScanFault.ReadFault → Rose (D.seen (D.state dev.old)).faults (D.seen (D.state dev.new)).faults }
 {
@@ -255,6 +259,7 @@ fn scan_ring<D: OrderedDev>(
     ensures valid { D.valid (D.state dev.new) }
     ensures read { HasRead (D.seen (D.state dev.old)) (D.seen (D.state dev.new)) }
     ensures on { D.stays_on (D.state dev.old) → D.stays_on (D.state dev.new) }
+    ensures reads { (first : D.State) → AreReads (machine_of D.OrderedDev) first (D.state dev.old) → AreReads (machine_of D.OrderedDev) first (D.state dev.new) }
     ensures sound { D.sound (D.state dev.old) → D.sound (D.state dev.new) × ((D.seen (D.state dev.new)).faults ≡ (D.seen (D.state dev.old)).faults) }
     ensures fault { IsErrOf result ScanFault.ReadFault → Rose (D.seen (D.state dev.old)).faults (D.seen (D.state dev.new)).faults }
 {
@@ -278,6 +283,7 @@ pub(crate) fn read_log<D: OrderedDev>(
     ensures valid { D.valid (D.state dev.new) }
     ensures read { HasRead (D.seen (D.state dev.old)) (D.seen (D.state dev.new)) }
     ensures on { D.stays_on (D.state dev.old) → D.stays_on (D.state dev.new) }
+    ensures reads { (first : D.State) → AreReads (machine_of D.OrderedDev) first (D.state dev.old) → AreReads (machine_of D.OrderedDev) first (D.state dev.new) }
     ensures sound { D.sound (D.state dev.old) → D.sound (D.state dev.new) × ((D.seen (D.state dev.new)).faults ≡ (D.seen (D.state dev.old)).faults) }
     ensures fault { IsErrOf result ScanFault.ReadFault → Rose (D.seen (D.state dev.old)).faults (D.seen (D.state dev.new)).faults }
 {

@@ -1,5 +1,5 @@
 -- Laws of what a recovery knows before it sends.
-use Rattle.std.specs.Prelude.{◌≡◌, ℕ, ◌+◌, ◌-◌, ◌^◌, ◌%◌, Bool, false, if◌then◌else◌, [], ◌<◌, ◌≤◌, ◌==◌, ◌≢◌, ◌&&◌, nat_lt, nat_le, true, replicate, List, length, Option, Some, None, Result, Ok, Err, IfOk, refl}
+use Rattle.std.specs.Prelude.{◌≡◌, ℕ, ◌+◌, ◌-◌, ◌^◌, ◌%◌, Bool, false, if◌then◌else◌, [], ◌∷◌, ◌++◌, ◌<◌, ◌≤◌, ◌==◌, ◌≢◌, ◌&&◌, nat_lt, nat_le, true, replicate, List, length, Option, Some, None, Result, Ok, Err, IfOk, refl}
 use Rattle.std.proofs.Common.{sym, ap, ◌∙◌, subst, inl, inr, arith}
 use Rattle.std.proofs.lemmas.Bool.{lt-ltb, le-ltb, eq-eqb, ne_eqb, and_parts, or_cases, eqb-true, leb-true, ltb-true}
 use Rattle.journal_blocks.specs.declared.super_block.JournalSuper.{JournalSuper}
@@ -17,7 +17,7 @@ use Rattle.log_model.specs.Marks.{Logged, Transaction, mark_in}
 use Rattle.journal_blocks.specs.Super.{with_tail}
 use Rattle.journal_replay.specs.declared.journal.Journal.{Journal}
 use Rattle.journal_replay.specs.declared.recovery.Recovered.{Recovered}
-use Rattle.journal_replay.specs.Commands.{homes}
+use Rattle.journal_replay.specs.Commands.{homes, commands}
 use Rattle.journal_replay.specs.code.Runs.{HasLog}
 use Rattle.journal_replay.specs.code.Journals.{IsJournalOf}
 use Rattle.order_model.specs.declared.command.Command.{Command}
@@ -26,7 +26,7 @@ use Rattle.order_model.specs.Steps.{OnlyReads}
 use Rattle.order_model.specs.Machine.{Machine}
 use Rattle.journal_replay.specs.declared.choice.Choice.{Choice}
 use Rattle.journal_replay.specs.declared.choice.Choice.TheVariants as choices
-use Rattle.journal_replay.specs.Driving.{driven, end_of, is_running, IsRun}
+use Rattle.journal_replay.specs.Driving.{driven, end_of, is_running, IsRun, after_reads, AreReads}
 use Rattle.journal_replay.specs.Recovered.{healed, emptied_super, next_sequence, recovered, transactions_of, fault_of, fault_by, journal_fault, IsRecoverable, log_mark}
 use Rattle.log_model.specs.Marks.{Set}
 
@@ -156,6 +156,18 @@ has_log base image j hs n b is full listed count tail =
       super = tail ∙ (ap (λ (k : ℕ). with_tail k 0 j.superblock) next ∙ ap (with_tail (next_sequence (log_of base j.fields image)) 0) (sym is.superblock));
     }
 
+-- ---- reads
+
+after_reads-append : {S : Type 0} (m : Machine S) (s : S) (xs ys : List ℕ) → after_reads m s (xs ++ ys) ≡ after_reads m (after_reads m s xs) ys
+after_reads-append m s [] ys = refl
+after_reads-append m s (x ∷ xs) ys = after_reads-append m (m.after_read s x) xs ys
+
+pub reads_on : {S : Type 0} (m : Machine S) (first old new : S) → AreReads m first old → AreReads m old new → AreReads m first new
+reads_on m first old new a b = (a.0 ++ b.0, b.1 ∙ (ap (λ s. after_reads m s b.0) a.1 ∙ sym (after_reads-append m first a.0 b.0)))
+
+pub read_more_of : {S : Type 0} (m : Machine S) (first old : S) (block : ℕ) → AreReads m first old → AreReads m first (m.after_read old block)
+read_more_of m first old block a = reads_on m first old (m.after_read old block) a (block ∷ [], refl)
+
 -- ---- a run that was made
 
 pub run_from : {S : Type 0} (m : Machine S) {xs ys : List Command} → xs ≡ ys → (steer : List Choice) (cut : Bool) (old new : S)
@@ -165,6 +177,7 @@ pub run_from : {S : Type 0} (m : Machine S) {xs ys : List Command} → xs ≡ ys
 run_from m {xs = xs} {ys = ys} same steer cut old new cut_run whole_run over = record {
   start = old;
   reads = (refl, omega arith);
+  from = ([], refl);
   cut_run = λ e. cut_run e ∙ ap (λ (cs : List Command). (driven m steer (record { dev = old; rest = cs })).dev) same;
   whole_run = λ e. let w = whole_run e in (w.0, w.1 ∙ ap (λ (cs : List Command). (driven m (replicate w.0 choices.Default) (driven m steer (record { dev = old; rest = cs }))).dev) same);
   over = over;
@@ -172,14 +185,22 @@ run_from m {xs = xs} {ys = ys} same steer cut old new cut_run whole_run over = r
 
 -- what was read before a run is read before it still
 pub run_behind : {S : Type 0} (m : Machine S) {xs ys : List Command} → xs ≡ ys → (steer : List Choice) (cut : Bool) (first old new : S)
-    → OnlyReads (m.seen first) (m.seen old) → IsRun m xs steer cut old new → IsRun m ys steer cut first new
-run_behind m same steer cut first old new read run = record {
+    → OnlyReads (m.seen first) (m.seen old) → AreReads m first old → IsRun m xs steer cut old new → IsRun m ys steer cut first new
+run_behind m same steer cut first old new read from run = record {
   start = run.start;
   reads = (run.reads.0 ∙ ap (λ (x : Seen). let made : Seen = record x { faults = (m.seen run.start).faults } in made) read.0, let a = read.1 in let b = run.reads.1 in omega (arith, a, b));
+  from = reads_on m first old run.start from run.from;
   cut_run = λ e. run.cut_run e ∙ ap (λ (cs : List Command). (driven m steer (record { dev = run.start; rest = cs })).dev) same;
   whole_run = λ e. let w = run.whole_run e in (w.0, w.1 ∙ ap (λ (cs : List Command). (driven m (replicate w.0 choices.Default) (driven m steer (record { dev = run.start; rest = cs }))).dev) same);
   over = run.over;
 }
+
+-- so where it comes to an end, of the image that was read before
+pub run_read : {S E : Type 0} (m : Machine S) (base : ℕ) (image : List (List ℕ)) (r : Result Recovered E) {xs : List Command} → xs ≡ commands base image → (steer : List Choice) (cut : Bool) (first old new : S)
+    → OnlyReads (m.seen first) (m.seen old) → AreReads m first old → IfOk r (λ x. IsRun m xs steer cut old new)
+    → IfOk r (λ x. (s : JournalSuper) → super_of (body_at image base) ≡ Ok s → s.start ≢ 0 → IsRun m (commands base image) steer cut first new)
+run_read m base image (Ok x) same steer cut first old new read from run = λ s is some. run_behind m same steer cut first old new read from run
+run_read m base image (Err e) same steer cut first old new read from run = tt
 
 -- what a replay says of the next sequence, of the image that was read before
 pub next_from : {E : Type 0} (base : ℕ) (image now : List (List ℕ)) (j : Journal) (r : Result Recovered E) → IsJournalOf base image j → j.fields.start ≢ 0 → base < length image → now ≡ image

@@ -1,0 +1,5 @@
+pub mod Attempted
+pub mod FoundSessions
+pub mod Kept
+pub mod Mounted
+pub mod TailCounts

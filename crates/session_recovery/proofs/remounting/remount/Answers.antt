@@ -1,0 +1,37 @@
+use Rattle.std.proofs.Common.{◌+◌, ℕ, length, sym, ap, ◌∙◌}
+use Rattle.journal_replay.specs.Recovered.{transactions_of}
+use Rattle.mount_make.specs.Images.{journal_at, mounted, recovered_image}
+use Rattle.session_recovery.proofs.Mounted.{mountable, zones_are, mounted_still, log_after, reached_by, counted_as, volume_is}
+use Rattle.session_recovery.proofs.remounting.remount.Goals as goal
+
+pub mount_image-requires-clause-mounts : goal.mount_image-requires-clause-mounts
+mount_image-requires-clause-mounts c =
+    let v = c.requires.mounts in
+    let zones = zones_are c.args.image v.0.geometry c.args.base (mountable c.args.image v.0 v.1).is_divided c.requires.base in
+    (v.0, (mounted_still c.args.base c.args.image c.in_ok-attempts.left v.0 v.1 zones c.requires.journal c.in_ok-attempts.ensures.left).mounts)
+
+pub returns-clause-volume : goal.returns-clause-volume
+returns-clause-volume c =
+    let v = c.requires.mounts in
+    let zones = zones_are c.args.image v.0.geometry c.args.base (mountable c.args.image v.0 v.1).is_divided c.requires.base in
+    v.1 ∙ (sym (mounted_still c.args.base c.args.image c.in_ok-attempts.left v.0 v.1 zones c.requires.journal c.in_ok-attempts.ensures.left).mounts ∙ c.in_ok-volume.ensures.volume)
+
+pub returns-clause-left : goal.returns-clause-left
+returns-clause-left c = ap mounted (sym c.in_ok-attempts.ensures.image) ∙ c.in_ok-volume.ensures.volume
+
+pub returns-clause-found : goal.returns-clause-found
+returns-clause-found c =
+    let base = c.args.base in
+    let image = c.args.image in
+    let left = c.in_ok-attempts.left in
+    let s = c.journal_of-journal.result in
+    let read = c.journal_of-journal.ensures in
+    let v = c.requires.mounts in
+    let zones = zones_are image v.0.geometry base (mountable image v.0 v.1).is_divided c.requires.base in
+    let same = volume_is left v.0 c.in_ok-volume.field-0.volume (mounted_still base image left v.0 v.1 zones c.requires.journal c.in_ok-attempts.ensures.left).mounts c.in_ok-volume.ensures.volume in
+    counted_as base c.args.first_sequence image s c.found_before.result read.read c.found_before.ensures.none
+    (λ some.
+    c.found_before.ensures.some _ (s.sequence + length (transactions_of base s image)) some
+    (c.in_ok-volume.ensures.log ∙ (ap (λ (n : ℕ). journal_at n (recovered_image left)) (same ∙ zones)
+    ∙ log_after base image left v.0 v.1 zones c.requires.journal c.in_ok-attempts.ensures.left s read.read read.size some))
+    (reached_by base image s read.sound.fits.sequence some))

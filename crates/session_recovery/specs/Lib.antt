@@ -1,0 +1,4 @@
+pub mod Attempts
+pub mod Found
+pub mod Images
+pub mod code

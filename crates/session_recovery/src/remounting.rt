@@ -1,0 +1,100 @@
+//! Mounting after a power cut, behind attempts of recovery that are cut.
+ghost use Rattle.std.specs.Prelude.{◌≡◌, ◌≢◌, ℕ, ◌+◌, ◌^◌, ◌%◌, ◌<◌, ◌≤◌, true, List, length, None, Some, Ok, IfOk};
+ghost use Rattle.journal_blocks.specs.Log.{body_at};
+ghost use Rattle.journal_blocks.specs.declared.super_block.JournalSuper.{JournalSuper};
+ghost use Rattle.journal_blocks.specs.Super.{super_of, IsSound};
+ghost use Rattle.journal_replay.specs.Recovered.{journal_fault};
+ghost use Rattle.volume_ops.specs.Volume.{VolumeState};
+ghost use Rattle.mount_make.specs.Images.{mounted, divided, has_journal, journal_at, recovered_image};
+ghost use Rattle.session_recovery.specs.Attempts.{attempts_of, image_after};
+ghost use Rattle.session_recovery.specs.Found.{words_from, found_in};
+
+use crate::attempts::{Attempt, device_over, recover_lines};
+use blk_base::{Image, NoMemory};
+use event_grammar::SteerLine;
+use journal_blocks::{JournalSuper, read_super};
+use mount_make::{MountFault, Mounted, mount};
+use std::alloc::Global;
+use volume_ops::Volume;
+
+/// What was mounted after a power cut.
+#[derive(Drop)]
+pub struct Remounted {
+    pub attempts: Vec<Attempt>,
+    pub volume: Volume,
+    /// How many transactions of the session the volume has.
+    pub found: u32,
+}
+
+/// Makes the attempts of these lines, and then recovers to the end and mounts, on a device of its own. The journal begins
+/// at block `base`, and `first_sequence` is the sequence of the first transaction of the session.
+pub fn remount(
+    alloc: Global,
+    depth: u32,
+    base: u32,
+    first_sequence: u32,
+    image: Image,
+    lines: &[SteerLine],
+) -> Result<Remounted, NoMemory>
+    requires depth { (1 ≤ depth) × (depth ≤ 64) }
+    requires mounts { (v : VolumeState) × (mounted image ≡ Ok v) }
+    requires base { IfOk (divided image) (λ g. g.zones ≡ base) }
+    requires journal { has_journal base image ≡ true }
+    ensures attempts { IfOk result (λ r. r.attempts.items ≡ attempts_of depth base image lines.now) }
+    ensures volume { IfOk result (λ r. mounted image ≡ Ok r.volume) }
+    ensures left { IfOk result (λ r. mounted (image_after depth base image lines.now) ≡ Ok r.volume) }
+    ensures found { IfOk result (λ r. r.found ≡ found_in base first_sequence image) }
+{
+    let journal = journal_of(&image, base);
+    let (attempts, left) = recover_lines(alloc, depth, base, image, lines)?;
+    let Mounted { volume, log, .. } = mount_image(alloc, depth, left)?;
+    Ok(Remounted {
+        attempts,
+        volume,
+        found: found_before(first_sequence, journal, log),
+    })
+}
+
+// What the superblock of a journal without a fault says.
+fn journal_of(image: &Image, base: u32) -> JournalSuper
+    requires within { base < length image.now }
+    requires fine { journal_fault base image.now ≡ None }
+    ensures read { super_of (body_at image.now base) ≡ Ok result }
+    ensures sound { IsSound result }
+    ensures size { length (body_at image.now base) ≡ 1024 }
+{
+    match read_super(image.block(base)) {
+        Ok(journal) => journal,
+        Err(_) => unreachable!(),
+    }
+}
+
+// Mounts an image without a fault on a device of its own.
+fn mount_image(alloc: Global, depth: u32, image: Image) -> Result<Mounted, NoMemory>
+    requires depth { (1 ≤ depth) × (depth ≤ 64) }
+    requires mounts { (v : VolumeState) × (mounted image ≡ Ok v) }
+    ensures volume { IfOk result (λ m. mounted image ≡ Ok m.volume) }
+    ensures log { IfOk result (λ m. m.log ≡ journal_at m.volume.geometry.zones (recovered_image image)) }
+{
+    let mut device = device_over(alloc, depth, image)?;
+    match mount(alloc, &mut device) {
+        Ok(mounted) => Ok(mounted),
+        Err(MountFault::NoMemory) => Err(NoMemory),
+        Err(MountFault::Image(..) | MountFault::ReadFault | MountFault::DeviceFailed(_)) => {
+            unreachable!()
+        }
+    }
+}
+
+// How many transactions there are from the first of the session to the first that the log misses. The journal said this
+// at the power cut, and was recovered to say that.
+fn found_before(first: u32, cut: JournalSuper, recovered: Option<JournalSuper>) -> u32
+    ensures none { cut.start ≡ 0 → result ≡ 0 }
+    ensures some { (s : JournalSuper) (reached : ℕ) → cut.start ≢ 0 → recovered ≡ Some s → s.sequence ≡ (reached + 1) % 2 ^ 32 →
+        result ≡ words_from first reached }
+{
+    match recovered {
+        Some(log) if cut.start != 0 => log.sequence.wrapping_sub(1).wrapping_sub(first),
+        _ => 0,
+    }
+}
