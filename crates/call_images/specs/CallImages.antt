@@ -1,0 +1,62 @@
+-- Sessions over calls as code has them, on images that were made, and the media that a power cut leaves of them.
+use Rattle.std.specs.Prelude.{ℕ, ◌+◌, ◌<◌, ◌≤◌, List, []}
+use Rattle.minix_layout.specs.declared.division.Geometry.{Geometry}
+use Rattle.minix_layout.specs.Geometry.{IsSound}
+use Rattle.order_model.specs.Submission.{IsOrderClosed}
+use Rattle.log_model.specs.Marks.{Transaction}
+use Rattle.tx_running.specs.Open.{quota}
+use Rattle.tree_model.specs.declared.call.Call.{Call}
+use Rattle.tree_model.specs.declared.call.Reply.{Reply}
+use Rattle.tree_model.specs.Calls.{Tree}
+use Rattle.volume_steps.specs.Now.{VolumeNow}
+use Rattle.crash_laws.specs.Found.{found}
+use Rattle.crash_laws.specs.Headline.{HoldsPrefix}
+use Rattle.crash_laws.specs.Session.{Session, Medium}
+use Rattle.host_machine.specs.State.{Host}
+use Rattle.host_machine.specs.laws.Contract.{noted_history, session}
+use Rattle.host_runs.specs.Runs.{Event}
+use Rattle.host_volume.specs.Sessions.{Opening, Stands}
+use Rattle.mount_make.specs.Made.{made_image, new_journal}
+pub use Rattle.session_recovery.specs.Attempts.{attempts_of, image_after}
+pub use Rattle.session_recovery.specs.Found.{found_in}
+use Rattle.call_sessions.specs.Sessions.{WriteBytes, made_now, made_opening, made_ring, call_over, host_behind, tree_behind}
+
+-- ---- sessions
+
+-- what a session on an image is opened with that was made of this division and a journal of so many blocks
+abbrev pub opening_on : Geometry → ℕ → Opening
+opening_on g journal = made_opening g journal (quota (new_journal journal))
+
+-- the host after these events, where it may have so many requests and its threads have these programs
+abbrev pub made_session : Geometry → ℕ → ℕ → List (List Call) → List Event → Host VolumeNow Call Reply
+made_session g journal limit programs events = host_behind (opening_on g journal) (made_now g) (made_ring journal) limit programs events
+
+-- ---- power cuts
+
+-- A medium that a power cut leaves of a session, where the device keeps the order of barriers. The image has the sizes of
+-- one that is made, the sequences of the log, one round of it ahead, are words, and all calls write bytes.
+pub record IsCut (g : Geometry) (journal limit : ℕ) (programs : List (List Call)) (events : List Event) (m : Medium) : Type 0 where
+  pub sound : IsSound g
+  pub least : 128 ≤ journal
+  pub most : journal ≤ 16384
+  pub words : limit + journal < 4294967296
+  pub bytes : WriteBytes programs
+  pub order : IsOrderClosed (made_image g journal) (made_session g journal limit programs events).journal.flush.requests m.image m.origins
+
+-- the list that a host has submitted, as the laws of power cuts see it, with what its closed transactions hold
+abbrev pub submitted_by : Geometry → ℕ → List Transaction → Host VolumeNow Call Reply → Session
+submitted_by g journal closed h = session (call_over (opening_on g journal)) (Stands (opening_on g journal)) closed h
+
+-- how many transactions have their commit block on the medium, and the tree after them
+abbrev pub kept_count : Geometry → ℕ → Host VolumeNow Call Reply → Medium → ℕ
+kept_count g journal h m = found (submitted_by g journal [] h) m
+
+abbrev pub kept_tree : Geometry → ℕ → Host VolumeNow Call Reply → Medium → Tree
+kept_tree g journal h m = tree_behind (opening_on g journal) h (kept_count g journal h m)
+
+-- What a disk has of the metadata and the files after these transactions: the walk through it finds what it finds in the
+-- image after them, and each mapped block of a file has a version that is no older than its file's last change asks for.
+abbrev pub KeepsFiles : Geometry → ℕ → List Transaction → Host VolumeNow Call Reply → Medium → (ℕ → List ℕ) → Type 0
+KeepsFiles g journal closed h m disk =
+    let s = opening_on g journal in
+    HoldsPrefix (call_over s).program (noted_history (call_over s) (Stands s) h.history h.cuts) (submitted_by g journal closed h) m disk (kept_count g journal h m)

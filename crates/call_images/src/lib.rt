@@ -1,0 +1,15 @@
+//! What a power cut leaves of a session over calls as code has them, on an image that was made.
+//!
+//! `session_images` says it of calls that carry the proof that they write bytes. Here it is said of calls alone, and of
+//! the host that `call_sessions` has of them. `specs/CallImages` has the session, the media that a power cut leaves of it,
+//! and how many transactions they keep; `session_recovery` counts these on the medium, and what it recovers goes on from
+//! here. The public functions of `laws` do nothing when they are called: each is a law, and its clauses say it.
+#![tactic(auto)]
+
+mod laws;
+
+pub use laws::{
+    cut_sessions_have_the_tree_of_a_prefix, cut_sessions_keep_files, cut_sessions_mount,
+    cut_sessions_tell_how_many,
+};
+pub use session_recovery::{Attempt, Remounted, remount};
