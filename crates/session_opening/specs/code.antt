@@ -1,0 +1,2 @@
+-- How an image is copied block by block.
+pub mod Copying

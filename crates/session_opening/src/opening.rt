@@ -1,0 +1,70 @@
+//! The session.
+ghost use Rattle.std.specs.Prelude.{◌≡◌, ◌+◌, ◌<◌, ◌≤◌, ◌^◌, ℕ, [], IfOk, length, slice_index_or};
+ghost use Rattle.minix_layout.specs.Geometry.{geometry_made};
+ghost use Rattle.minix_layout.specs.Words.{first_zone};
+ghost use Rattle.mount_make.specs.Made.{made_image};
+ghost use Rattle.session_opening.specs.Opened.{opened_now};
+
+use crate::programs::host_programs;
+use crate::volume::made_volume;
+use blk_base::{Image, NoMemory};
+use host_core::Host;
+use journal_blocks::JournalSuper;
+use journal_ring::Ring;
+use minix_layout::Geometry;
+use mount_make::make_volume;
+use page_cache::Pages;
+use std::alloc::Global;
+
+/// The image of a new volume with its journal, and the host of a session on it.
+#[derive(Drop)]
+pub struct OpenedSession {
+    pub image: Image,
+    pub host: Host,
+}
+
+// A journal of so many blocks whose log is empty.
+fn new_journal(blocks: u32) -> JournalSuper
+    ensures { result ≡ Rattle.mount_make.specs.Made.new_journal blocks }
+{
+    JournalSuper {
+        maxlen: blocks,
+        first: 1,
+        sequence: 1,
+        start: 0,
+        incompat: 1,
+    }
+}
+
+/// Opens a session on a new image of these sizes, of at most `limit` requests, with the calls of each thread.
+pub fn open_session(
+    alloc: Global,
+    inodes: u16,
+    zones: u16,
+    journal: u32,
+    limit: u64,
+    programs: &call_grammar::Programs,
+) -> Result<OpenedSession, NoMemory>
+    requires some_inode { 1 ≤ inodes }
+    requires some_data { first_zone inodes zones < zones }
+    requires least { 128 ≤ journal }
+    requires most { journal ≤ 16384 }
+    requires limit { limit + 2 < 2 ^ 32 }
+    requires threads { length programs.now < 2 ^ 32 }
+    requires short { (i : ℕ) → length (slice_index_or programs.now i []) < 2 ^ 32 }
+    ensures image { IfOk result (λ o. o.image ≡ made_image (geometry_made inodes zones) journal) }
+    ensures host { IfOk result (λ o. o.host ≡ opened_now (geometry_made inodes zones) journal limit programs.now) }
+{
+    let (Ok(g), Ok(image)) = (
+        Geometry::make(inodes, zones),
+        make_volume(alloc, inodes, zones, journal),
+    ) else {
+        return Err(NoMemory);
+    };
+    let volume = made_volume(alloc, &g, journal, &image)?;
+    let ring = Ring::make(alloc, &new_journal(journal), limit)?;
+    let pages = Pages::load(alloc, zones.into())?;
+    let programs = host_programs(alloc, programs)?;
+    let host = Host::make(alloc, volume, pages, ring, programs, limit)?;
+    Ok(OpenedSession { image, host })
+}
