@@ -1,0 +1,91 @@
+-- What the power cut leaves of a script's session.
+use Rattle.std.proofs.Common.{◌≡◌, ℕ, true, List, [], IfOk, Ok, sym, ap, subst, ◌∙◌, arith}
+use Rattle.minix_layout.specs.Geometry.{IsSound}
+use Rattle.order_model.specs.Submission.{IsOrderClosed}
+use Rattle.mount_make.specs.Images.{image_tree, mounted, divided, has_journal, recovered_image}
+use Rattle.minix_layout.specs.declared.division.Geometry.{Geometry}
+use Rattle.volume_ops.specs.Volume.{VolumeState}
+use Rattle.volume_steps.specs.Now.{VolumeNow}
+use Rattle.host_machine.specs.State.{Host}
+use Rattle.tree_model.specs.declared.call.Call.{Call}
+use Rattle.tree_model.specs.declared.call.Reply.{Reply}
+use Rattle.tree_model.specs.Calls.{Tree}
+use Rattle.tree_model.specs.Trees.{AreAlike}
+use Rattle.crash_laws.specs.Session.{Medium}
+use Rattle.host_runs.specs.Runs.{Event}
+use Rattle.session_run.specs.Beginning.{WriteBytes}
+use Rattle.session_run.specs.End.{tree_behind}
+use Rattle.call_images.specs.CallImages.{found_in, IsCut, made_session, submitted_by, kept_count, kept_tree}
+use Rattle.crash_laws.specs.Found.{IsFound}
+use Rattle.crash_laws.specs.Recovery.{IsRecovered}
+use Rattle.log_model.specs.Marks.{Transaction}
+use Rattle.volume_ops.specs.Volume.{disk_of}
+use Rattle.session_grammar.specs.declared.session_script.SessionScript.{SessionScript}
+use Rattle.session_grammar.specs.WellFormed.{IsWellFormed}
+use Rattle.session_run.specs.declared.session.SessionEnd.{SessionEnd}
+use Rattle.session_core.specs.Core.{EndState, geometry_of, opening_of, core}
+use Rattle.session_core.specs.Report.{HasPrefix}
+use Rattle.session_core.specs.code.Ends.{KeepsTheOrder, IsBehind}
+use Rattle.session_core.specs.declared.report.SessionReport.{SessionReport}
+
+-- the power cut left this medium
+abbrev pub cut_medium : SessionEnd → Medium
+cut_medium r = record { image = r.cut.image; origins = r.cut.origins }
+
+pub cut_is : (s : SessionScript) → IsWellFormed s → IsSound (geometry_of s) → WriteBytes s.programs → (end : EndState) (r : SessionEnd) → KeepsTheOrder s end r → (b : IsBehind s end)
+    → IsCut (geometry_of s) s.journal s.header.limit s.programs b.events (cut_medium r)
+cut_is s is sound bytes end r order b =
+    let least = is.sizes.least_journal in
+    let most = is.sizes.most_journal in
+    let limit = is.header.limit in
+    record {
+      sound = sound;
+      least = least;
+      most = most;
+      words = omega (arith, most, limit);
+      bytes = bytes;
+      order = subst (λ h. IsOrderClosed (opening_of s).image h.journal.flush.requests r.cut.image r.cut.origins) b.host order.closed;
+    }
+
+-- ---- what mounting asks for
+
+pub mounts_copy : (image copy : List (List ℕ)) → copy ≡ image → (v : VolumeState) × (mounted image ≡ Ok v) → (v : VolumeState) × (mounted copy ≡ Ok v)
+mounts_copy image copy e is = (is.0, ap mounted e ∙ is.1)
+
+pub base_of : (g : Geometry) (image copy : List (List ℕ)) (base : ℕ) → copy ≡ image → base ≡ g.zones → divided image ≡ Ok g → IfOk (divided copy) (λ d. d.zones ≡ base)
+base_of g image copy base e zones is = subst (λ r. IfOk r (λ (d : Geometry). d.zones ≡ base)) (sym (ap divided e ∙ is)) (sym zones)
+
+pub journal_of : (g : Geometry) (image copy : List (List ℕ)) (base : ℕ) → copy ≡ image → base ≡ g.zones → has_journal g.zones image ≡ true → has_journal base copy ≡ true
+journal_of g image copy base e zones is = ap (λ n. has_journal n copy) zones ∙ (ap (has_journal g.zones) e ∙ is)
+
+-- ---- the prefix
+
+pub prefix_is : (s : SessionScript) (r : SessionReport) (m : Medium) (h : Host VolumeNow Call Reply) → (core s).host ≡ h → m.image ≡ r.cut.image
+    → r.found ≡ kept_count (geometry_of s) s.journal h m → (tree : Tree) × (image_tree m.image ≡ Ok tree) × AreAlike (kept_tree (geometry_of s) s.journal h m) tree → HasPrefix s r
+prefix_is s r m h host image count is = record {
+  tree = is.0;
+  found = sym (ap image_tree image) ∙ is.1;
+  alike = subst (λ n. AreAlike (tree_behind (opening_of s) (core s).host n) is.0) (sym count)
+      (subst (λ x. AreAlike (tree_behind (opening_of s) x (kept_count (geometry_of s) s.journal h m)) is.0) (sym host) is.2);
+}
+
+-- ---- the rest of what is left
+
+found_at : (s : SessionScript) (n : ℕ) (m : Medium) (copy : List (List ℕ)) (base : ℕ) (h : Host VolumeNow Call Reply) → copy ≡ m.image → base ≡ (geometry_of s).zones → n ≡ found_in base 1 copy
+    → found_in (geometry_of s).zones 1 m.image ≡ kept_count (geometry_of s) s.journal h m → n ≡ kept_count (geometry_of s) s.journal h m
+found_at s n m copy base h e zones is count = is ∙ (ap (λ b. found_in b 1 copy) zones ∙ (ap (found_in (geometry_of s).zones 1) e ∙ count))
+
+pub found_count : (s : SessionScript) (n : ℕ) (m : Medium) (copy : List (List ℕ)) (base : ℕ) (events : List Event) (h : Host VolumeNow Call Reply)
+    → h ≡ made_session (geometry_of s) s.journal s.header.limit s.programs events → copy ≡ m.image → base ≡ (geometry_of s).zones → n ≡ found_in base 1 copy
+    → found_in (geometry_of s).zones 1 m.image ≡ kept_count (geometry_of s) s.journal (made_session (geometry_of s) s.journal s.header.limit s.programs events) m → n ≡ kept_count (geometry_of s) s.journal h m
+found_count s n m copy base events h host e zones is count = found_at s n m copy base h e zones is (count ∙ ap (λ x. kept_count (geometry_of s) s.journal x m) (sym host))
+
+pub kept_of : (s : SessionScript) (m : Medium) (events : List Event) (h : Host VolumeNow Call Reply) → h ≡ made_session (geometry_of s) s.journal s.header.limit s.programs events
+    → (let x = made_session (geometry_of s) s.journal s.header.limit s.programs events in IsFound (submitted_by (geometry_of s) s.journal [] x) m (kept_count (geometry_of s) s.journal x m))
+    → IsFound (submitted_by (geometry_of s) s.journal [] h) m (kept_count (geometry_of s) s.journal h m)
+kept_of s m events h host is = subst (λ x. IsFound (submitted_by (geometry_of s) s.journal [] x) m (kept_count (geometry_of s) s.journal x m)) (sym host) is
+
+pub recovered_of : (s : SessionScript) (m : Medium) (events : List Event) (h : Host VolumeNow Call Reply) → h ≡ made_session (geometry_of s) s.journal s.header.limit s.programs events
+    → ((closed : List Transaction) → IsRecovered (submitted_by (geometry_of s) s.journal closed (made_session (geometry_of s) s.journal s.header.limit s.programs events)) m (disk_of (recovered_image m.image)))
+    → (closed : List Transaction) → IsRecovered (submitted_by (geometry_of s) s.journal closed h) m (disk_of (recovered_image m.image))
+recovered_of s m events h host is closed = subst (λ x. IsRecovered (submitted_by (geometry_of s) s.journal closed x) m (disk_of (recovered_image m.image))) (sym host) (is closed)

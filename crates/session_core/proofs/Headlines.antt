@@ -1,0 +1,93 @@
+-- The sentences of a session, from the laws of its host and of its power cut.
+use Rattle.std.proofs.Common.{take, ◌≡◌, ℕ, ◌++◌, false, List, [], refl, sym, subst}
+use Rattle.blk_base.specs.Members.{In, In-take, In-append_left}
+use Rattle.order_model.specs.declared.completion.Completion.{Completion}
+use Rattle.order_model.specs.Carrying.{IsPrefixOf}
+use Rattle.log_model.specs.Marks.{Transaction}
+use Rattle.device_epochs.specs.Device.{seen}
+use Rattle.tree_model.specs.declared.call.Call.{Call}
+use Rattle.tree_model.specs.declared.call.Reply.{Reply}
+use Rattle.volume_ops.specs.Volume.{disk_of}
+use Rattle.volume_steps.specs.Now.{VolumeNow, room_of}
+use Rattle.volume_steps.specs.Plain.{is_rename}
+use Rattle.mount_make.specs.Images.{recovered_image}
+use Rattle.crash_laws.specs.Found.{IsFound}
+use Rattle.crash_laws.specs.LegalHistory.{IsLegal}
+use Rattle.crash_laws.specs.Recovery.{IsRecovered}
+use Rattle.flush_actor.specs.Kinds.{is_data}
+use Rattle.host_machine.specs.State.{Host}
+use Rattle.host_volume.specs.Calls.{kind_of}
+use Rattle.call_images.specs.CallImages.{submitted_by, kept_count}
+use Rattle.session_promises.specs.Answers.{AnsweredAt, HasOkCause, KeepsPromises}
+use Rattle.session_promises.specs.Causes.{HaveCauses}
+use Rattle.session_promises.specs.Legal.{events_in, program_of, FollowsTree}
+use Rattle.session_promises.specs.Trees.{HaveNoRenames}
+use Rattle.session_grammar.specs.declared.session_script.SessionScript.{SessionScript}
+use Rattle.session_grammar.specs.WellFormed.{IsWellFormed, IsBuilt}
+use Rattle.session_core.specs.Core.{geometry_of, opening_of, core}
+use Rattle.session_core.specs.Headline.{medium_of, Headline}
+use Rattle.session_core.specs.Report.{ReportKeepsOrder, HasPrefix}
+use Rattle.session_core.specs.declared.report.SessionReport.{SessionReport}
+use Rattle.session_core.proofs.Made.{of_program}
+use Rattle.tree_model.specs.declared.call.Call.TheVariants as calls
+
+-- no call of a script that was read is a rename
+no_rename : (c : Call) → IsBuilt c → is_rename c ≡ false
+no_rename (calls.Rename p q) built = absurd built
+no_rename (calls.Mkdir p) built = refl
+no_rename (calls.Rmdir p) built = refl
+no_rename (calls.Create p) built = refl
+no_rename (calls.Unlink p) built = refl
+no_rename (calls.Link p q) built = refl
+no_rename (calls.Truncate p n) built = refl
+no_rename (calls.Write p o n v) built = refl
+no_rename (calls.Bytes p o b) built = refl
+no_rename (calls.Read p o n) built = refl
+no_rename (calls.List p) built = refl
+no_rename (calls.Stat p) built = refl
+no_rename (calls.Fsync p) built = refl
+no_rename (calls.Fdatasync p) built = refl
+no_rename (calls.Fbarrier p) built = refl
+no_rename (calls.Fdatabarrier p) built = refl
+no_rename calls.Sync built = refl
+
+pub script_has_no_renames : (s : SessionScript) → IsWellFormed s → HaveNoRenames s.programs
+script_has_no_renames s is = λ p c there here. no_rename c (is.calls c (of_program s.programs p c there here)).1
+
+-- what holds of the host of a script's session
+pub record HostFacts (s : SessionScript) (h : Host VolumeNow Call Reply) : Type 0 where
+  pub promises : KeepsPromises (opening_of s) h
+  pub ok_causes : (e t : ℕ) (c : Call) → AnsweredAt h e t c → is_data (kind_of c) ≡ false → HasOkCause h e t c
+  pub causes : HaveCauses kind_of s.header.limit h
+  pub follows : FollowsTree (opening_of s) s.programs h
+  pub legal : IsLegal (room_of (geometry_of s)) (program_of s.programs) (events_in h.history)
+
+-- what was taken was sent
+took : (n : ℕ) (taken sent : List Completion) (c : Completion) → taken ≡ take n sent → In c taken → In c sent
+took n taken sent c front here = In-take n sent c (subst (In c) front here)
+
+pub headline_of : (s : SessionScript) (r : SessionReport) → HostFacts s (core s).host → ReportKeepsOrder s r → IsPrefixOf (core s).host.journal.flush.taken (seen (core s).dev).sent
+    → r.cut.trace.sent.items ≡ (seen (core s).dev).sent → r.found ≡ kept_count (geometry_of s) s.journal (core s).host (medium_of r)
+    → IsFound (submitted_by (geometry_of s) s.journal [] (core s).host) (medium_of r) (kept_count (geometry_of s) s.journal (core s).host (medium_of r)) → HasPrefix s r
+    → ((closed : List Transaction) → IsRecovered (submitted_by (geometry_of s) s.journal closed (core s).host) (medium_of r) (disk_of (recovered_image r.cut.image))) → Headline s r
+headline_of s r facts order taken sent count found prefix recovered =
+    let p = facts.promises in
+    record {
+      closed = p.kept.closed;
+      notes = p.kept.rules.order.fits;
+      order = order;
+      taken = taken;
+      follows = facts.follows;
+      legal = facts.legal;
+      transactions = subst (λ n. IsFound (submitted_by (geometry_of s) s.journal [] (core s).host) (medium_of r) n) (sym count) found;
+      counted = count;
+      prefix = prefix;
+      files = p.kept.sentences.prefix (medium_of r) (disk_of (recovered_image r.cut.image)) order.closed (recovered p.kept.closed);
+      answered = p.answered;
+      barriers = λ e t c ok kind later. p.barriers (medium_of r) e t c ok kind order.closed later;
+      syncs = λ e t c ok kind. p.syncs (medium_of r) (r.cut.trace.sent.items ++ (seen (core s).dev).waiting) e t c ok kind order.closed order.flushed
+          (λ x here. In-append_left r.cut.trace.sent.items (seen (core s).dev).waiting x (subst (In x) (sym sent) (took taken.0 (core s).host.journal.flush.taken (seen (core s).dev).sent x taken.1 here)));
+      causes = facts.causes;
+      ok_causes = facts.ok_causes;
+      flushes = p.kept.flushes;
+    }

@@ -1,0 +1,107 @@
+-- A session that a script opens can run, and where its host ends.
+use Rattle.std.proofs.Common.{take, ◌≡◌, ℕ, ◌<◌, ◌≤◌, ◌↔◌, ◌++◌, List, [], ◌∷◌, length, Result, Ok, Err, IfOk, IsErr, slice_index_or, zero, suc, refl, sym, ap, subst, ◌∙◌, arith, inl, inr}
+use Rattle.blk_base.specs.Members.{In, In-append_left, In-append_right}
+use Rattle.order_model.specs.declared.device.OrderedDev as devices
+use Rattle.order_model.specs.Carrying.{SchedSeen, IsPrefixOf}
+use Rattle.barrier_reassign.specs.declared.scheduler.Scheduler as schedulers
+use Rattle.blk_base.specs.declared.memory.NoMemory.{NoMemory}
+use Rattle.barrier_reassign.specs.Scheduler.{SchedSteps}
+use Rattle.device_epochs.specs.Device.{DeviceState, seen}
+use Rattle.stack_core.specs.Core.{epoch_machine}
+use Rattle.event_grammar.specs.declared.event.EventLine.{EventLine}
+use Rattle.minix_layout.specs.declared.division.Geometry.{Geometry}
+use Rattle.minix_layout.specs.declared.division.TooSmall.{TooSmall}
+use Rattle.minix_layout.specs.Geometry.{IsSound, geometry_made}
+use Rattle.minix_layout.specs.Words.{first_zone}
+use Rattle.mount_make.specs.Made.{made_image}
+use Rattle.tree_model.specs.declared.call.Call.{Call}
+use Rattle.call_grammar.specs.WellFormed as call
+use Rattle.host_volume.specs.ByteCalls.{HasBytes}
+use Rattle.session_grammar.specs.declared.session_script.SessionScript.{SessionScript}
+use Rattle.session_grammar.specs.WellFormed.{IsWellFormed, all_calls}
+use Rattle.session_machine.specs.Machine.{core_session, opened_session, events_of, host_events}
+use Rattle.host_runs.specs.Runs.{steps}
+use Rattle.session_machine.specs.MadeStart.{IsNew}
+use Rattle.session_machine.specs.Fits.{SessionFits}
+use Rattle.std.specs.Option.{option_to_list}
+use Rattle.session_run.specs.Beginning.{HostNow, WriteBytes, call_over, IsMadeFor}
+use Rattle.session_run.specs.End.{IsEndOf, EndKeepsOrder}
+use Rattle.session_run.specs.declared.session.SessionEnd.{SessionEnd}
+use Rattle.session_core.specs.Core.{geometry_of, opening_of, start_of, device_for, ended}
+use Rattle.session_core.specs.code.Ends.{IsNewScheduler, session_on, EndsIn, KeepsTheOrder, IsBehind, TookWhatWasSent}
+
+-- ---- its calls
+
+pub of_program : (ps : List (List Call)) (p : List Call) (c : Call) → In p ps → In c p → In c (all_calls ps)
+of_program [] p c there here = absurd there
+of_program (q ∷ qs) p c (inl e) here = In-append_left q (all_calls qs) c (subst (λ (x : List Call). In c x) (sym e) here)
+of_program (q ∷ qs) p c (inr there) here = In-append_right q (all_calls qs) c (of_program qs p c there here)
+
+pub script_writes_bytes : (s : SessionScript) → IsWellFormed s → ((c : Call) → call.IsWellFormed c → HasBytes c) → WriteBytes s.programs
+script_writes_bytes s is bytes = λ p c there here. bytes c (is.calls c (of_program s.programs p c there here)).0
+
+-- ---- its parts
+
+pub made_for : {A B : Type 0} (k : schedulers.Ghosts A) (d : devices.Ghosts B) (s : SessionScript) (made h : HostNow) (sched : k.State) (dev : d.State) (n : ℕ) → h ≡ made → n ≡ length s.programs
+    → IsMadeFor k d (opening_of s) (start_of s) made s.header.queue (length s.programs) sched dev → IsMadeFor k d (opening_of s) (start_of s) h s.header.queue n sched dev
+made_for k d s made h sched dev n host count is =
+    subst (λ m. IsMadeFor k d (opening_of s) (start_of s) h s.header.queue m sched dev) (sym count)
+    (subst (λ x. IsMadeFor k d (opening_of s) (start_of s) x s.header.queue (length s.programs) sched dev) (sym host) is)
+
+-- ---- its sizes, and what it begins with
+
+pub sound_of : (r : Result Geometry TooSmall) (inodes zones : ℕ) → IfOk r (λ g. IsSound g) → IfOk r (λ g. g ≡ geometry_made inodes zones) → (IsErr r ↔ (zones ≤ first_zone inodes zones)) → first_zone inodes zones < zones
+    → IsSound (geometry_made inodes zones)
+sound_of (Ok g) inodes zones sound made small some = subst IsSound made sound
+sound_of (Err e) inodes zones sound made small some = let le = small.0 refl in absurd (omega (arith, le, some))
+
+pub is_new : (s : SessionScript) (p : SchedSeen) (dev : DeviceState) → IsNewScheduler s.header.limit p → dev ≡ device_for s → IsNew (made_image (geometry_of s) s.journal) s.header.limit p (seen dev)
+is_new s p dev new e =
+    subst (λ (d : DeviceState). IsNew (made_image (geometry_of s) s.journal) s.header.limit p (seen d)) (sym e)
+    (record { image = refl; took = refl; sent = refl; ids = omega arith; accepted = new.accepted; sent_out = new.sent_out; requests = new.requests })
+
+-- ---- its end
+
+pub ends_in : {K : Type 0} (k : SchedSteps K) (s : SessionScript) (sched : K) (dev : DeviceState) (lines : List EventLine) (r : Result SessionEnd NoMemory) → dev ≡ device_for s → lines ≡ s.events
+    → IfOk r (IsEndOf k epoch_machine (core_session (opening_of s) k epoch_machine (start_of s) sched dev lines)) → IfOk r (EndsIn (ended k (session_on s k sched)))
+ends_in k s sched dev lines (Err e) device events is = tt
+ends_in k s sched dev lines (Ok x) device events is =
+    let there = subst (λ (l : List EventLine). IsEndOf k epoch_machine (core_session (opening_of s) k epoch_machine (start_of s) sched (device_for s) l) x) events
+    (subst (λ (d : DeviceState). IsEndOf k epoch_machine (core_session (opening_of s) k epoch_machine (start_of s) sched d lines) x) device is) in
+    record { host = there.host; sched = there.sched; image = there.image; origins = there.origins; trace = there.trace }
+
+pub keeps_order : {K : Type 0} (k : SchedSteps K) (s : SessionScript) (sched : K) (dev : DeviceState) (lines : List EventLine) (r : Result SessionEnd NoMemory) → dev ≡ device_for s → lines ≡ s.events
+    → IfOk r (EndKeepsOrder epoch_machine (opening_of s) (core_session (opening_of s) k epoch_machine (start_of s) sched dev lines)) → IfOk r (KeepsTheOrder s (ended k (session_on s k sched)))
+keeps_order k s sched dev lines (Err e) device events is = tt
+keeps_order k s sched dev lines (Ok x) device events is =
+    subst (λ (l : List EventLine). EndKeepsOrder epoch_machine (opening_of s) (core_session (opening_of s) k epoch_machine (start_of s) sched (device_for s) l) x) events
+    (subst (λ (d : DeviceState). EndKeepsOrder epoch_machine (opening_of s) (core_session (opening_of s) k epoch_machine (start_of s) sched d lines) x) device is)
+
+-- its host took the steps that its events say
+pub behind_of : {K X E : Type 0} (k : SchedSteps K) (s : SessionScript) (sched : K) (r : Result X E)
+    → (session_on s k sched).host ≡ steps (call_over (opening_of s)) (opened_session (opening_of s) (start_of s) sched (device_for s)).host (host_events (opening_of s) k epoch_machine (opened_session (opening_of s) (start_of s) sched (device_for s)) (events_of (length s.programs) s.events))
+    → IfOk r (λ x. IsBehind s (ended k (session_on s k sched)))
+behind_of k s sched (Ok x) e = record { events = host_events (opening_of s) k epoch_machine (opened_session (opening_of s) (start_of s) sched (device_for s)) (events_of (length s.programs) s.events); host = e }
+behind_of k s sched (Err x) e = tt
+
+-- ---- its programs are short
+
+pub programs_short : (ps : List (List Call)) (n : ℕ) → ((p : List Call) → In p ps → length p ≤ n) → (i : ℕ) → length (slice_index_or ps i []) ≤ n
+programs_short [] n short i = omega arith
+programs_short (p ∷ ps) n short zero = short p (inl refl)
+programs_short (p ∷ ps) n short (suc i) = programs_short ps n (λ q there. short q (inr there)) i
+
+-- the completions that its host took are the first that were sent
+pub took_front : {X : Type 0} (xs ys zs : List X) → xs ≡ take (length xs) (xs ++ ys ++ zs)
+took_front [] ys zs = refl
+took_front (x ∷ xs) ys zs = ap (λ r. x ∷ r) (took_front xs ys zs)
+
+pub took_sent : {K X E : Type 0} (k : SchedSteps K) (s : SessionScript) (sched : K) (dev : DeviceState) (r : Result X E) → dev ≡ device_for s
+    → SessionFits k epoch_machine (core_session (opening_of s) k epoch_machine (start_of s) sched dev s.events) → IfOk r (λ x. TookWhatWasSent (ended k (session_on s k sched)))
+took_sent k s sched dev (Err x) e fits = tt
+took_sent k s sched dev (Ok x) e fits =
+    let at = core_session (opening_of s) k epoch_machine (start_of s) sched dev s.events in
+    let taken = at.host.journal.flush.taken in
+    let sent = (seen at.dev).sent in
+    let front : IsPrefixOf taken sent = (length taken, took_front taken at.completions (option_to_list at.kept) ∙ ap (take (length taken)) (sym fits.completions)) in
+    subst (λ (d : DeviceState). TookWhatWasSent (ended k (core_session (opening_of s) k epoch_machine (start_of s) sched d s.events))) e (record { front = front })

@@ -1,0 +1,70 @@
+-- The session that a volume script says: what it opens, and where its events lead.
+use Rattle.std.specs.Prelude.{ℕ, zero, suc, ◌+◌, ◌++◌, List, [], ◌∷◌, Option, Some, None, if◌then◌else◌}
+use Rattle.order_model.specs.Carrying.{SchedSeen}
+use Rattle.barrier_reassign.specs.Scheduler.{SchedSteps}
+use Rattle.barrier_reassign.specs.Sched as plain
+use Rattle.sched_elevator.specs.Elevator as elevator
+use Rattle.device_epochs.specs.declared.device.DeviceSetup.{DeviceSetup}
+use Rattle.device_epochs.specs.Device as epochs
+use Rattle.device_epochs.specs.Device.{DeviceState}
+use Rattle.minix_layout.specs.declared.division.Geometry.{Geometry}
+use Rattle.minix_layout.specs.Geometry.{geometry_made}
+use Rattle.tree_model.specs.declared.call.Call.{Call}
+use Rattle.tree_model.specs.declared.call.Reply.{Reply}
+use Rattle.volume_steps.specs.Now.{VolumeNow}
+use Rattle.tx_running.specs.Open.{quota}
+use Rattle.mount_make.specs.Made.{new_journal, made_image}
+use Rattle.host_answers.specs.declared.standing.Standing.{Standing}
+use Rattle.host_machine.specs.State.{Host}
+pub use Rattle.session_run.specs.Beginning.{HostNow}
+use Rattle.session_run.specs.Beginning.{made_opening}
+pub use Rattle.session_run.specs.End.{entry_in, standing_of}
+use Rattle.host_volume.specs.Sessions.{Opening}
+use Rattle.stack_core.specs.Core.{epoch_machine}
+use Rattle.session_grammar.specs.declared.session_script.SessionScript.{SessionScript}
+use Rattle.session_machine.specs.Machine.{SessionState, Start, core_session}
+use Rattle.session_machine.specs.MadeStart.{made_start}
+
+-- how its volume is divided
+abbrev pub geometry_of : SessionScript → Geometry
+geometry_of s = geometry_made s.inodes s.zones
+
+-- a new volume with an empty journal behind it
+abbrev pub opening_of : SessionScript → Opening
+opening_of s = made_opening (geometry_of s) s.journal (quota (new_journal s.journal))
+
+abbrev pub start_of : SessionScript → Start
+start_of s = made_start (geometry_of s) s.journal s.header.limit s.header.queue s.programs
+
+-- a device over the image, with room for all requests, and no fault to come
+abbrev pub setup_for : SessionScript → DeviceSetup
+setup_for s = record { depth = s.header.depth; limit = s.header.limit; fail_at = None; bad_read = None; cut_at = s.header.cut }
+
+abbrev pub device_for : SessionScript → DeviceState
+device_for s = epochs.opened (made_image (geometry_of s) s.journal) (setup_for s)
+
+-- where a session ends, with what is seen of its scheduler
+pub record EndState : Type 0 where
+  pub host : Host VolumeNow Call Reply
+  pub sched : SchedSeen
+  pub dev : DeviceState
+
+abbrev pub ended : {K : Type 0} → SchedSteps K → SessionState K DeviceState → EndState
+ended k r = record { host = r.host; sched = k.seen r.sched; dev = r.dev }
+
+-- all its events on the parts that it opens, on the scheduler that it names, in which 128 requests may wait
+abbrev pub core : SessionScript → EndState
+core s =
+    if s.header.elevator then
+    ended elevator.elevator_steps (core_session (opening_of s) elevator.elevator_steps epoch_machine (start_of s) (elevator.opened s.header.limit 128) (device_for s) s.events)
+    else ended plain.sched_steps (core_session (opening_of s) plain.sched_steps epoch_machine (start_of s) (plain.opened s.header.limit 128) (device_for s) s.events)
+
+-- one more, where there is one
+abbrev pub with_standing : List Standing → Option Standing → List Standing
+with_standing ss None = ss
+with_standing ss (Some s) = ss ++ s ∷ []
+
+-- how so many threads stand, from the first on
+abbrev pub standings_of : HostNow → ℕ → List Standing
+standings_of h zero = []
+standings_of h (suc n) = with_standing (standings_of h n) (standing_of h (n + 1))

@@ -1,0 +1,4 @@
+pub mod Core
+pub mod Report
+pub mod Headline
+pub mod code

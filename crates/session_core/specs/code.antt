@@ -1,0 +1,2 @@
+-- How a session's run on one scheduler ends.
+pub mod Ends

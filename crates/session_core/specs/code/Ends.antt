@@ -1,0 +1,44 @@
+-- How a session's run on one scheduler ends, for the code that runs it.
+use Rattle.std.specs.Prelude.{◌≡◌, ℕ, ◌++◌, List, []}
+use Rattle.order_model.specs.Carrying.{SchedSeen, IsPrefixOf}
+use Rattle.order_model.specs.Device.{origin_ids}
+use Rattle.order_model.specs.Steps.{IsTraceOf}
+use Rattle.barrier_reassign.specs.Scheduler.{SchedSteps, IsSchedRecord}
+use Rattle.device_epochs.specs.Device.{DeviceState, seen}
+use Rattle.host_runs.specs.Runs.{Event}
+use Rattle.stack_core.specs.Core.{epoch_machine}
+use Rattle.stack_core.specs.Headline.{KeepsOrder}
+use Rattle.session_grammar.specs.declared.session_script.SessionScript.{SessionScript}
+use Rattle.session_machine.specs.Machine.{SessionState, core_session}
+use Rattle.call_images.specs.CallImages.{made_session}
+use Rattle.session_run.specs.declared.session.SessionEnd.{SessionEnd}
+use Rattle.session_core.specs.Core.{EndState, geometry_of, opening_of, start_of, device_for}
+
+-- it accepted and sent out nothing, and may accept so many requests
+pub record IsNewScheduler (limit : ℕ) (p : SchedSeen) : Type 0 where
+  pub accepted : p.accepted ≡ []
+  pub sent_out : p.sent_out ≡ []
+  pub requests : p.limit ≡ limit
+
+-- where the script's session ends on such a scheduler
+abbrev pub session_on : {K : Type 0} → SessionScript → SchedSteps K → K → SessionState K DeviceState
+session_on s k sched = core_session (opening_of s) k epoch_machine (start_of s) sched (device_for s) s.events
+
+pub record EndsIn (end : EndState) (r : SessionEnd) : Type 0 where
+  pub host : r.host.host ≡ end.host
+  pub sched : IsSchedRecord end.sched r.sched
+  pub image : r.cut.image ≡ (seen end.dev).surface
+  pub origins : r.cut.origins ≡ origin_ids (seen end.dev).took (seen end.dev).origins
+  pub trace : IsTraceOf (seen end.dev) r.cut.trace
+
+abbrev pub KeepsTheOrder : SessionScript → EndState → SessionEnd → Type 0
+KeepsTheOrder s end r = KeepsOrder (opening_of s).image end.host.journal.flush.requests r.cut.image r.cut.origins (r.cut.trace.sent.items ++ (seen end.dev).waiting)
+
+-- the completions that its host took are the first that its device sent
+pub record TookWhatWasSent (end : EndState) : Type 0 where
+  pub front : IsPrefixOf end.host.journal.flush.taken (seen end.dev).sent
+
+-- its host took these steps
+pub record IsBehind (s : SessionScript) (end : EndState) : Type 0 where
+  pub events : List Event
+  pub host : end.host ≡ made_session (geometry_of s) s.journal s.header.limit s.programs events
