@@ -1,5 +1,5 @@
 -- How the top call ends.
-use Rattle.std.proofs.Common.{◌≡◌, ℕ, ◌<◌, ◌≤◌, true, false, List, length, Option, Some, None, Ok, Err, nat_lt, refl, sym, ap, ◌∙◌, subst, arith, inl, inr, length-append}
+use Rattle.std.proofs.Common.{◌≡◌, ℕ, ◌<◌, ◌≤◌, Bool, true, false, List, length, Option, Some, None, Ok, Err, nat_lt, refl, sym, ap, ◌∙◌, subst, arith, inl, inr, length-append}
 use Rattle.std.proofs.lemmas.Option.{none-some, same_Some}
 use Rattle.std.proofs.lemmas.Bool.Decides.{nat_tests}
 use Rattle.std.specs.Io.KnownBytes.{Consumes}
@@ -10,13 +10,14 @@ use Rattle.barrierfs_top.specs.declared.fault.TopFault.TheVariants as faults
 use Rattle.barrierfs_top.specs.declared.top.Printed.{Printed}
 use Rattle.barrierfs_top.specs.declared.command_line.Command.{Command}
 use Rattle.barrierfs_top.specs.declared.command_line.Command.TheVariants as commands
-use Rattle.stack_core.specs.declared.report.Report.{Report}
+use Rattle.barrierfs_top.specs.declared.run_report.RunReport.{RunReport}
+use Rattle.barrierfs_top.specs.Sessions.{is_session}
 use Rattle.barrierfs_top.specs.declared.command_line.Sizes.{Sizes}
 use Rattle.barrierfs_top.specs.declared.command_line.Task.{Task}
 use Rattle.barrierfs_top.specs.declared.command_line.Task.TheVariants as tasks
 use Rattle.barrierfs_top.specs.Tasks.{most_of, task_of}
 use Rattle.barrierfs_top.specs.Text.{output_bytes}
-use Rattle.barrierfs_top.specs.Top.{Stream, WasRead, Makes, script_fault, image_fault, input_fault, IsInputFault, IsUnread, IsMade, IsDone, Does, IsRefused, Cause, expected, EndsAs}
+use Rattle.barrierfs_top.specs.Top.{Stream, WasRead, Makes, script_fault, image_fault, input_fault, IsInputFault, IsUnread, IsMade, IsDone, Does, IsRefused, Cause, expected, EndsAs, IsReplayAs, fault_as}
 
 -- ---- before the first write
 
@@ -101,13 +102,17 @@ ends_as c old new Holds text end read told says =
     let short = subst (λ (l : List ℕ). length l ≤ most_of c) same read.short in
     inl (sym (short_input c text short ∙ says text (subst Holds same read.holds)))
 
+replay_fits : (session : Bool) (input : List ℕ) (report : Option RunReport) (text : List ℕ) → IsReplayAs session input report text → fault_as session input ≡ None
+replay_fits true input report text is = ap script_fault is.spelled
+replay_fits false input report text is = ap script_fault is.spelled
+
 -- where a command makes something of its input, that has no fault
-no_fault : (c : Command) (input : List ℕ) (report : Option Report) (text : List ℕ) → Makes c input report text → input_fault c input ≡ None
-no_fault commands.Replay input report text makes = ap script_fault makes.spelled
+no_fault : (c : Command) (input : List ℕ) (report : Option RunReport) (text : List ℕ) → Makes c input report text → input_fault c input ≡ None
+no_fault commands.Replay input report text makes = replay_fits (is_session input) input report text makes
 no_fault commands.Show input report text makes = ap image_fault makes.0
 
 -- a command ends well
-pub ends_well : (words : List (List ℕ)) (source : Stream) (report : Option Report) (out : List ℕ) → Does words source report out
+pub ends_well : (words : List (List ℕ)) (source : Stream) (report : Option RunReport) (out : List ℕ) → Does words source report out
     → (c : Command) → task_of words ≡ Some (tasks.Read c) → (text : List ℕ) → source.bytes ≡ Some text → EndsAs (expected c text) None
 ends_well words source report out does c asked text told =
     let read = subst (λ (t : Task). IsDone t source report out) (same_Some does.task (tasks.Read c) (sym does.asked ∙ asked)) does.done in

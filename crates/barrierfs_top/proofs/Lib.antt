@@ -2,3 +2,4 @@ pub mod BlockLines
 pub mod Ends
 pub mod Promised
 pub mod Pieces
+pub mod SessionEnds

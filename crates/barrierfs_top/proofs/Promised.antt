@@ -1,23 +1,25 @@
 -- The bytes that `replay` writes are the text of an order-closed medium.
-use Rattle.std.proofs.Common.{◌≡◌, ℕ, ◌++◌, List, [], length, take, Option, Some, None, sym, ap, ◌∙◌, subst, arith, append-nil}
+use Rattle.std.proofs.Common.{◌≡◌, ℕ, ◌++◌, Bool, true, false, List, [], length, take, inl, inr, ◌≤◌, Option, Some, None, sym, ap, ◌∙◌, subst, arith, append-nil}
 use Rattle.std.proofs.lemmas.Option.{none-some, same_Some}
 use Rattle.std.proofs.lemmas.List.{append_cancel_left}
 use Rattle.std.specs.Io.KnownBytes.{Appends}
 use Rattle.blk_base.specs.Image.{zeros}
-use Rattle.blk_base.specs.Streams.{AppendsFront}
+use Rattle.blk_base.specs.Streams.{AppendsFront, Drained}
 use Rattle.order_model.specs.Submission.{IsOrderClosed}
 use Rattle.script_grammar.specs.declared.script.Script.{Script}
 use Rattle.script_grammar.specs.Grammar.{blocks_of}
 use Rattle.stack_core.specs.RequestPath.{submitted_count}
 use Rattle.stack_core.specs.Core.{core}
-use Rattle.stack_core.specs.declared.report.Report.{Report}
+use Rattle.barrierfs_top.specs.declared.run_report.RunReport.{RunReport}
+use Rattle.barrierfs_top.specs.Sessions.{is_session, IsSessionReplay}
 use Rattle.barrierfs_top.specs.declared.command_line.Command.TheVariants as commands
 use Rattle.barrierfs_top.specs.declared.fault.TopFault.{TopFault}
 use Rattle.barrierfs_top.specs.declared.command_line.Task.{Task}
 use Rattle.barrierfs_top.specs.declared.command_line.Task.TheVariants as tasks
-use Rattle.barrierfs_top.specs.Tasks.{task_of}
-use Rattle.barrierfs_top.specs.Top.{Stream, WasRead, IsReplay, Makes, IsDone, Does}
-use Rattle.barrierfs_top.specs.Promise.{WentOut, IsWritten, TellsOrderClosed}
+use Rattle.barrierfs_top.specs.Tasks.{most_of, task_of}
+use Rattle.barrierfs_top.proofs.SessionEnds.{ends_in_tree}
+use Rattle.barrierfs_top.specs.Top.{Stream, IsBlocksReplay, IsReplayAs, IsDone, Does}
+use Rattle.barrierfs_top.specs.Promise.{WentOut, IsWritten, TellsOrderClosed, TellsPrefix, TellsRun}
 
 -- where nothing was written, nothing went out
 pub none_out : (taken : Option (List ℕ)) (bytes : List ℕ) → WentOut taken taken bytes → ⊥
@@ -41,30 +43,45 @@ pub front_out : (old new : Option (List ℕ)) (bytes text : List ℕ) (fault : T
 front_out old new bytes text fault out front = (front.0, went_out old new bytes (take front.0 text) out front.1)
 
 -- the medium of a report is order-closed for the first requests of its script
-closed_for : (input text : List ℕ) (report : Option Report) (is : IsReplay input report text)
+closed_for : (input text : List ℕ) (report : Option RunReport) (is : IsBlocksReplay input report text)
     → IsOrderClosed (zeros (blocks_of is.script)) (take (submitted_count (core is.script).path) is.script.puts) is.result.cut.image is.result.cut.origins
 closed_for input text report is =
     subst (λ (s : Script). IsOrderClosed (zeros (blocks_of s)) (take (submitted_count (core is.script).path) is.script.puts) is.result.cut.image is.result.cut.origins) is.core.script
     (subst (λ qs. IsOrderClosed (zeros (blocks_of is.result.script)) qs is.result.cut.image is.result.cut.origins) is.core.submitted is.order.closed)
 
-tells : (old new : Option (List ℕ)) (report : Option Report) (text bytes : List ℕ) (fault : Option TopFault) → WasRead commands.Replay old new (λ input. Makes commands.Replay input report text)
-    → IsWritten fault text bytes → TellsOrderClosed old new fault bytes
-tells old new report text bytes fault read written =
-    let is = read.holds in
-    record {
-      script = is.script;
-      read = record { input = read.input; drained = read.drained; short = read.short; holds = is.spelled };
-      submitted = submitted_count (core is.script).path;
-      image = is.result.cut.image;
-      origins = is.result.cut.origins;
-      closed = closed_for read.input text report is;
-      steps = is.result.cut.trace.steps;
-      written = subst (λ l. IsWritten fault l bytes) is.printed written;
-    }
+module _ (old new : Option (List ℕ)) (report : Option RunReport) (text bytes : List ℕ) (fault : Option TopFault) (written : IsWritten fault text bytes) (input : List ℕ) (drained : Drained old new input) (short : length input ≤ most_of commands.Replay) where
+  of_blocks : IsBlocksReplay input report text → TellsOrderClosed old new fault bytes
+  of_blocks is = record {
+    script = is.script;
+    read = record { input = input; drained = drained; short = short; holds = is.spelled };
+    submitted = submitted_count (core is.script).path;
+    image = is.result.cut.image;
+    origins = is.result.cut.origins;
+    closed = closed_for input text report is;
+    steps = is.result.cut.trace.steps;
+    written = subst (λ l. IsWritten fault l bytes) is.printed written;
+  }
+
+  of_session : IsSessionReplay input report text → TellsPrefix old new fault bytes
+  of_session is =
+      let ends = ends_in_tree is.script is.result text is.core_is is.headline.prefix is.printed in
+      record {
+        script = is.script;
+        read = record { input = input; drained = drained; short = short; holds = is.spelled };
+        found = is.result.found;
+        tree = is.headline.prefix.tree;
+        alike = is.headline.prefix.alike;
+        head = ends.0;
+        written = subst (λ l. IsWritten fault l bytes) ends.1 written;
+      }
+
+  told_as : (session : Bool) → IsReplayAs session input report text → TellsRun old new fault bytes
+  told_as true is = inr (of_session is)
+  told_as false is = inl (of_blocks is)
 
 -- the promise, where the words ask for a replay
-pub promised : (words : List (List ℕ)) (source : Stream) (report : Option Report) (text bytes : List ℕ) (fault : Option TopFault) → Does words source report text
-    → task_of words ≡ Some (tasks.Read commands.Replay) → IsWritten fault text bytes → TellsOrderClosed source.bytes source.bytes_after fault bytes
+pub promised : (words : List (List ℕ)) (source : Stream) (report : Option RunReport) (text bytes : List ℕ) (fault : Option TopFault) → Does words source report text
+    → task_of words ≡ Some (tasks.Read commands.Replay) → IsWritten fault text bytes → TellsRun source.bytes source.bytes_after fault bytes
 promised words source report text bytes fault does asked written =
     let read = subst (λ (t : Task). IsDone t source report text) (same_Some does.task (tasks.Read commands.Replay) (sym does.asked ∙ asked)) does.done in
-    tells source.bytes source.bytes_after report text bytes fault read written
+    told_as source.bytes source.bytes_after report text bytes fault written read.input read.drained read.short (is_session read.input) read.holds

@@ -1,5 +1,5 @@
 -- What the top call did, by its fault.
-use Rattle.std.specs.Prelude.{◌≡◌, ℕ, ◌<◌, ◌≤◌, ◌⊎◌, List, length, Option, Some, None, Result, Ok, Err, nat_lt, if◌then◌else◌}
+use Rattle.std.specs.Prelude.{◌≡◌, ℕ, ◌<◌, ◌≤◌, ◌⊎◌, Bool, true, false, List, length, Option, Some, None, Result, Ok, Err, is_some, nat_lt, if◌then◌else◌}
 use Rattle.std.specs.List.{concat}
 use Rattle.std.specs.Io.KnownBytes.{Keeps, Appends, Consumes}
 use Rattle.blk_base.specs.Streams.{Rose, Drained, AppendsFront}
@@ -24,6 +24,10 @@ use Rattle.blk_base.specs.declared.reading.ReadEnd.{ReadEnd}
 use Rattle.blk_base.specs.declared.reading.ReadEnd.TheVariants as ends
 use Rattle.stack_core.specs.declared.report.Report.{Report}
 use Rattle.script_grammar.specs.Grammar.{script_of}
+use Rattle.session_grammar.specs.Grammar.{session_of}
+use Rattle.barrierfs_top.specs.declared.run_report.RunReport.{RunReport}
+use Rattle.barrierfs_top.specs.declared.run_report.RunReport.TheVariants as reports
+use Rattle.barrierfs_top.specs.Sessions.{is_session, IsSessionReplay}
 use Rattle.stack_core.specs.Report.{IsCoreReport, Headline}
 use Rattle.barrierfs_top.specs.Text.{text_of}
 
@@ -63,30 +67,43 @@ pub record IsTooLong (c : Command) (old new : Option (List ℕ)) : Type 0 where
 
 -- ---- what a command makes of its input
 
--- `replay`: the input spells a script, the report is that of the script's core run and keeps the order that
+-- a script of block requests: the input spells it, the report is that of the script's core run and keeps the order that
 -- the host asked for, and the text is the report's
-pub record IsReplay (input : List ℕ) (report : Option Report) (text : List ℕ) : Type 0 where
+pub record IsBlocksReplay (input : List ℕ) (report : Option RunReport) (text : List ℕ) : Type 0 where
   pub script : Script
   pub spelled : script_of input ≡ Ok script
   pub result : Report
   pub core : IsCoreReport script result
   pub order : Headline result
-  pub reported : report ≡ Some result
+  pub reported : report ≡ Some (reports.Blocks result)
   pub printed : text ≡ text_of result
 
+-- `replay`: by the kind of the script
+abbrev pub IsReplayAs : Bool → List ℕ → Option RunReport → List ℕ → Type 0
+IsReplayAs true input report text = IsSessionReplay input report text
+IsReplayAs false input report text = IsBlocksReplay input report text
+
+abbrev pub IsReplay : List ℕ → Option RunReport → List ℕ → Type 0
+IsReplay input report text = IsReplayAs (is_session input) input report text
+
 -- `make`: the bytes are those of a new image with these sizes, and there is no report
-abbrev pub IsMade : Sizes → Option Report → List ℕ → Type 0
+abbrev pub IsMade : Sizes → Option RunReport → List ℕ → Type 0
 IsMade s report bytes = (bytes ≡ concat (made_image (geometry_made s.inodes s.zones) s.journal)) × (report ≡ None)
 
 -- `show`: the text is that of the tree that the image has once its journal was recovered
-abbrev pub Makes : Command → List ℕ → Option Report → List ℕ → Type 0
+abbrev pub Makes : Command → List ℕ → Option RunReport → List ℕ → Type 0
 Makes commands.Replay input report text = IsReplay input report text
 Makes commands.Show input report text = (shown (whole_blocks input) ≡ Ok text) × (report ≡ None)
 
 -- the first faulty line of a text that is no script, with its kind
-abbrev pub script_fault : Result Script (ℕ × ScriptKind) → Option TopFault
+abbrev pub script_fault : {S : Type 0} → Result S (ℕ × ScriptKind) → Option TopFault
 script_fault (Ok s) = None
 script_fault (Err (line, kind)) = Some (faults.Script line kind)
+
+-- of a text that is to be a script of this kind
+abbrev pub fault_as : Bool → List ℕ → Option TopFault
+fault_as true input = script_fault (session_of input)
+fault_as false input = script_fault (script_of input)
 
 -- the first fault of an image, with its block
 abbrev pub image_fault : Result (List ℕ) (ImageFault × ℕ) → Option TopFault
@@ -94,7 +111,7 @@ image_fault (Ok text) = None
 image_fault (Err (kind, block)) = Some (faults.Image kind block)
 
 abbrev pub input_fault : Command → List ℕ → Option TopFault
-input_fault commands.Replay input = script_fault (script_of input)
+input_fault commands.Replay input = fault_as (is_session input) input
 input_fault commands.Show input = image_fault (shown (whole_blocks input))
 
 -- this is the fault of the input; want of memory is free
@@ -104,6 +121,18 @@ IsInputFault c input (faults.Image kind block) = input_fault c input ≡ Some (f
 IsInputFault c input faults.NoMemory = Unit {0}
 IsInputFault c input other = ⊥
 
+-- the same of a script of one kind
+abbrev pub IsFaultAs : Bool → List ℕ → TopFault → Type 0
+IsFaultAs session input (faults.Script line kind) = fault_as session input ≡ Some (faults.Script line kind)
+IsFaultAs session input faults.NoMemory = Unit {0}
+IsFaultAs session input other = ⊥
+
+abbrev pub IsBlocksFault : List ℕ → TopFault → Type 0
+IsBlocksFault input fault = IsFaultAs false input fault
+
+abbrev pub IsSessionFault : List ℕ → TopFault → Type 0
+IsSessionFault input fault = IsFaultAs true input fault
+
 -- ---- what the top call did
 
 -- nothing was read
@@ -111,12 +140,12 @@ abbrev pub IsUnread : Stream → Type 0
 IsUnread source = (source.bytes_after ≡ source.bytes) × (source.faults_after ≡ source.faults)
 
 -- what a command makes of the source, or the image that is made
-abbrev pub IsDone : Task → Stream → Option Report → List ℕ → Type 0
+abbrev pub IsDone : Task → Stream → Option RunReport → List ℕ → Type 0
 IsDone (tasks.Read c) source report text = WasRead c source.bytes source.bytes_after (λ input. Makes c input report text)
 IsDone (tasks.Make s) source report text = IsUnread source × IsMade s report text
 
 -- the words ask for a task, and this is done
-pub record Does (words : List (List ℕ)) (source : Stream) (report : Option Report) (text : List ℕ) : Type 0 where
+pub record Does (words : List (List ℕ)) (source : Stream) (report : Option RunReport) (text : List ℕ) : Type 0 where
   pub task : Task
   pub asked : task_of words ≡ Some task
   pub done : IsDone task source report text
@@ -138,7 +167,7 @@ Cause words source faults.TooLong = (c : Command) × (task_of words ≡ Some (ta
 Cause words source faults.NoMemory = Unit {0}
 
 -- what was done to source and sink, by the fault
-abbrev pub Did : List (List ℕ) → Stream → Stream → Option Report → Option TopFault → Type 0
+abbrev pub Did : List (List ℕ) → Stream → Stream → Option RunReport → Option TopFault → Type 0
 -- the sink took exactly what is to be written
 Did words source sink report None = (text : List ℕ) × Does words source report text × Appends sink.bytes sink.bytes_after text
 -- a front of it went out
@@ -146,6 +175,12 @@ Did words source sink report (Some faults.SinkFault) =
     (text : List ℕ) × Does words source report text × AppendsFront sink.bytes sink.bytes_after text × Rose sink.faults sink.faults_after
 -- nothing was written
 Did words source sink report (Some fault) = Cause words source fault × (report ≡ None) × Keeps sink.bytes sink.bytes_after
+
+-- a call did that with some report, and this tells whether it had one
+pub record DidSome (words : List (List ℕ)) (source sink : Stream) (reported : Bool) (fault : Option TopFault) : Type 0 where
+  pub report : Option RunReport
+  pub did : Did words source sink report fault
+  pub told : reported ≡ is_some report
 
 -- ---- how a call ends where the input is told and neither stream fails
 

@@ -1,8 +1,16 @@
 //! The words and the streams that a process has, and how it ends.
+ghost use Rattle.std.specs.Prelude.{◌≡◌, ℕ, List, Some};
+ghost use Rattle.barrierfs_top.specs.Promise.{WentOut, TellsRun};
+ghost use Rattle.barrierfs_top.specs.Tasks.{task_of};
+ghost use Rattle.barrierfs_top.specs.Top.{status_of, stream_of, DidSome};
+ghost use Rattle.barrierfs_top.specs.declared.command_line.Command.{Command};
+ghost use Rattle.barrierfs_top.specs.declared.command_line.Task.{Task};
+
 use crate::command_line::Words;
 use crate::fault::TopFault;
 use crate::top::alone;
-use blk_base::{NoMemory, StdSink, StdSource};
+use blk_base::{NoMemory, Sink, Source, StdSink, StdSource};
+use std::alloc::Global;
 use std::process::ExitCode;
 use std::rt::Env;
 use std::{env, io};
@@ -20,7 +28,36 @@ fn words_of(rt: &(impl Env + AllocGlobal)) -> Result<Words, NoMemory> {
     Ok(words)
 }
 
-/// All that `main` does: hands the words and the standard streams to `alone`, prints the fault on standard error where
+/// How the program ends.
+#[derive(Drop, PartialEq, Eq, Debug)]
+pub struct Ended {
+    /// The exit status: 0 where there is no fault.
+    pub status: u8,
+    pub fault: Option<TopFault>,
+    /// Whether a script was run to its end.
+    pub reported: bool,
+}
+
+/// Does what `alone` does, and lets its report go.
+pub fn run_words<R: Source, W: Sink>(
+    alloc: Global,
+    words: &Words,
+    src: &mut R,
+    out: &mut W,
+) -> Ended
+    ensures promise { (bytes : List ℕ) → task_of words.now ≡ Some (Task.Read Command.Replay) → WentOut (W.taken out.old) (W.taken out.new) bytes → TellsRun (R.left src.old) (R.left src.new) result.fault bytes }
+    ensures status { result.status ≡ status_of result.fault }
+    ensures did { DidSome words.now (stream_of R.left R.faults src.old src.new) (stream_of W.taken W.faults out.old out.new) result.reported result.fault }
+{
+    let outcome = alone(alloc, words, src, out);
+    Ended {
+        status: outcome.status,
+        fault: outcome.fault,
+        reported: outcome.report.is_some(),
+    }
+}
+
+/// All that `main` does: hands the words and the standard streams to `run_words`, prints the fault on standard error where
 /// there is one, and answers the status.
 pub fn run_program(rt: &(impl Env + Input + Print + Eprint + AllocGlobal)) -> ExitCode {
     let Ok(words) = words_of(rt) else {
@@ -29,9 +66,9 @@ pub fn run_program(rt: &(impl Env + Input + Print + Eprint + AllocGlobal)) -> Ex
     };
     let mut source = StdSource::new(rt.reader());
     let mut sink = StdSink::new(io::writer(rt));
-    let outcome = alone(rt.alloc(), &words, &mut source, &mut sink);
-    if let Some(fault) = outcome.fault {
+    let ended = run_words(rt.alloc(), &words, &mut source, &mut sink);
+    if let Some(fault) = ended.fault {
         let _ = eprintln!(rt; "barrierfs: {fault}");
     }
-    ExitCode::from(outcome.status)
+    ExitCode::from(ended.status)
 }

@@ -56,8 +56,8 @@ fn volume_of(alloc: Global, image: Image) -> Result<Volume, TopFault>
     }
 }
 
-// The text of the tree of a volume.
-fn tree_text(alloc: Global, volume: &Volume) -> Result<String, NoMemory>
+/// The text of the tree of a volume.
+pub fn tree_text(alloc: Global, volume: &Volume) -> Result<String, NoMemory>
     ensures { IfOk result (λ text. shown_volume volume.now ≡ Ok (string_bytes text)) }
 {
     let tree = volume.tree(alloc)?;

@@ -3,8 +3,8 @@ ghost use Rattle.std.specs.Prelude.{◌≡◌, ℕ, ◌≤◌, List, Some, None,
 ghost use Rattle.blk_base.specs.Streams.{Rose};
 ghost use Rattle.barrierfs_top.specs.Tasks.{most_of, task_of, CanDo};
 ghost use Rattle.barrierfs_top.specs.Text.{output_bytes};
-ghost use Rattle.barrierfs_top.specs.Top.{status_of, stream_of, IsReplay, IsMade, Makes, IsInputFault, Does, Cause, Did, expected, EndsAs, top_fault, end_fault};
-ghost use Rattle.barrierfs_top.specs.Promise.{WentOut, TellsOrderClosed};
+ghost use Rattle.barrierfs_top.specs.Top.{status_of, stream_of, IsReplay, IsBlocksReplay, IsBlocksFault, IsMade, Makes, IsInputFault, Does, Cause, Did, expected, EndsAs, top_fault, end_fault};
+ghost use Rattle.barrierfs_top.specs.Promise.{WentOut, TellsRun};
 ghost use Rattle.std.specs.String.{string_bytes};
 ghost use Rattle.blk_base.specs.Image.{whole_blocks};
 ghost use Rattle.barrierfs_top.specs.declared.command_line.Command.{Command};
@@ -15,12 +15,14 @@ ghost use Rattle.barrierfs_top.specs.Show.{shown};
 use crate::command_line::{Command, Sizes, Task, Words};
 use crate::fault::TopFault;
 use crate::output::Output;
+use crate::run_report::RunReport;
+use crate::session::{is_session, run_session_text};
 use crate::show::show_text;
 use crate::text::put_report;
 use blk_base::{ReadEnd, Sink, Source, read_all};
 use mount_make::{MakeFault, make_volume};
 use script_grammar::{MOST_SCRIPT_BYTES, ScriptError, read_script};
-use stack_core::{Report, core_run};
+use stack_core::core_run;
 use std::alloc::Global;
 
 /// How the top call ended.
@@ -30,17 +32,17 @@ pub struct Outcome {
     pub status: u8,
     pub fault: Option<TopFault>,
     /// What the run left, where a script was run to its end.
-    pub report: Option<Report>,
+    pub report: Option<RunReport>,
 }
 
 // What a task has to write, and the report of a run.
 #[derive(Drop)]
-struct Printed {
-    report: Option<Report>,
-    output: Output,
+pub struct Printed {
+    pub report: Option<RunReport>,
+    pub output: Output,
 }
 
-fn fault_of(error: ScriptError) -> TopFault
+pub fn fault_of(error: ScriptError) -> TopFault
     ensures { result ≡ top_fault error }
 {
     match error {
@@ -59,11 +61,11 @@ fn read_fault(end: ReadEnd) -> TopFault
     }
 }
 
-// Runs the script of these bytes, and makes its text.
-fn run_text(alloc: Global, bytes: &[u8]) -> Result<Printed, TopFault>
+// Runs the script of block requests of these bytes, and makes its text.
+fn run_blocks_text(alloc: Global, bytes: &[u8]) -> Result<Printed, TopFault>
     requires { length bytes.now ≤ MOST_SCRIPT_BYTES }
-    ensures ok { IfOk result (λ p. IsReplay bytes.now p.report (output_bytes p.output)) }
-    ensures err { IfErr result (IsInputFault Command.Replay bytes.now) }
+    ensures ok { IfOk result (λ p. IsBlocksReplay bytes.now p.report (output_bytes p.output)) }
+    ensures err { IfErr result (IsBlocksFault bytes.now) }
 {
     let script = match read_script(alloc, bytes) {
         Ok(script) => script,
@@ -80,10 +82,26 @@ fn run_text(alloc: Global, bytes: &[u8]) -> Result<Printed, TopFault>
         report.cut.origins.as_slice(),
     ) {
         Ok(()) => Ok(Printed {
-            report: Some(report),
+            report: Some(RunReport::Blocks(report)),
             output: Output::Text(text),
         }),
         Err(_) => Err(TopFault::NoMemory),
+    }
+}
+
+// Runs the script of these bytes, whichever kind it is, and makes its text.
+fn run_text(alloc: Global, bytes: &[u8]) -> Result<Printed, TopFault>
+    requires { length bytes.now ≤ MOST_SCRIPT_BYTES }
+    ensures ok { IfOk result (λ p. IsReplay bytes.now p.report (output_bytes p.output)) }
+    ensures err { IfErr result (IsInputFault Command.Replay bytes.now) }
+{
+    let Ok(session) = is_session(alloc, bytes) else {
+        return Err(TopFault::NoMemory);
+    };
+    if session {
+        run_session_text(alloc, bytes)
+    } else {
+        run_blocks_text(alloc, bytes)
     }
 }
 
@@ -155,14 +173,15 @@ fn prepare<R: Source>(alloc: Global, words: &Words, src: &mut R) -> Result<Print
     }
 }
 
-/// Does what the words say: `replay` reads a script of the source, runs it and writes its report to the sink,
+/// Does what the words say: `replay` reads a script of the source, runs it and writes its report to the sink: what is left of
+/// the blocks, or of a volume script the replies to its calls and the tree that recovery finds,
 /// `show` reads an image and writes the text of the tree that it has once its journal was recovered, and `make` with
 /// the numbers of inodes, blocks of the volume and blocks of the journal writes a new image.
 ///
 /// The statuses are tested in the order 2, 5 and 7, 3 or 4, 6. Status 8, want of memory, may come at any place
 /// before the first write.
 pub fn alone<R: Source, W: Sink>(alloc: Global, words: &Words, src: &mut R, out: &mut W) -> Outcome
-    ensures promise { (bytes : List ℕ) → task_of words.now ≡ Some (Task.Read Command.Replay) → WentOut (W.taken out.old) (W.taken out.new) bytes → TellsOrderClosed (R.left src.old) (R.left src.new) result.fault bytes }
+    ensures promise { (bytes : List ℕ) → task_of words.now ≡ Some (Task.Read Command.Replay) → WentOut (W.taken out.old) (W.taken out.new) bytes → TellsRun (R.left src.old) (R.left src.new) result.fault bytes }
     ensures status { result.status ≡ status_of result.fault }
     ensures did { Did words.now (stream_of R.left R.faults src.old src.new) (stream_of W.taken W.faults out.old out.new) result.report result.fault }
     ensures words { task_of words.now ≡ None → result.fault ≡ Some TopFault.BadWords }

@@ -1,9 +1,7 @@
 //! Scripts through the top call, with sources and sinks in memory.
 ghost use Rattle.std.specs.Prelude.{None};
 
-use crate::command_line::Words;
-use crate::fault::TopFault;
-use crate::top::{Outcome, alone};
+use barrierfs_top::{Ended, TopFault, Words, run_words};
 use blk_base::{Failed, Image, MemSink, MemSource, NoMemory, PlainSink, PlainSource, Sink, Source};
 use device_epochs::{DeviceSetup, EpochDevice};
 use order_model::{Commands, Parts, lawful_blocks};
@@ -11,37 +9,37 @@ use script_grammar::ScriptKind;
 use std::alloc::Global;
 use std::test::Fail;
 
-// What the top call answers to these words.
-fn outcome_of<R: Source, W: Sink>(
+// How the program ends with these words.
+fn end_of<R: Source, W: Sink>(
     alloc: Global,
     list: &[&str],
     src: &mut R,
     out: &mut W,
-) -> Result<Outcome, NoMemory> {
+) -> Result<Ended, NoMemory> {
     let mut words = Words::make(alloc);
     for word in list {
         words.push(alloc, word)?;
     }
-    Ok(alone(alloc, &words, src, out))
+    Ok(run_words(alloc, &words, src, out))
 }
 
 // The status and the fault, whether there is a report, and what was written.
 #[derive(Drop)]
-pub struct Ended {
+pub struct Printed {
     pub status: u8,
     pub fault: Option<TopFault>,
     pub reported: bool,
     pub printed: Vec<u8>,
 }
 
-pub fn run(alloc: Global, list: &[&str], input: &[u8]) -> Result<Ended, NoMemory> {
+pub fn run(alloc: Global, list: &[&str], input: &[u8]) -> Result<Printed, NoMemory> {
     let mut source = MemSource::new(input.to_vec(alloc)?, Vec::new(alloc));
     let mut sink = MemSink::new(Vec::new(alloc), Vec::new(alloc));
-    let outcome = outcome_of(alloc, list, &mut source, &mut sink)?;
-    Ok(Ended {
-        status: outcome.status,
-        fault: outcome.fault,
-        reported: outcome.report.is_some(),
+    let ended = end_of(alloc, list, &mut source, &mut sink)?;
+    Ok(Printed {
+        status: ended.status,
+        fault: ended.fault,
+        reported: ended.reported,
         printed: sink.bytes().to_vec(alloc)?,
     })
 }
@@ -203,8 +201,8 @@ fn refuses_what_is_no_script(rt: HostRuntime) -> Result<(), Fail> {
         ("device 2\nput 0 11 ordered\n", 3, ScriptKind::Order),
         (
             "volume inodes 32 zones 64 journal 128\n",
-            1,
-            ScriptKind::NotBuilt,
+            2,
+            ScriptKind::Order,
         ),
         ("# one\nblocks 2\nqueue 65\nevents\n", 3, ScriptKind::Number),
     ];
@@ -244,18 +242,18 @@ pub fn status_of_reads(
 ) -> Result<u8, NoMemory> {
     let mut source = MemSource::new(input.to_vec(alloc)?, fails.to_vec(alloc)?);
     let mut sink = MemSink::new(Vec::new(alloc), Vec::new(alloc));
-    let outcome = outcome_of(alloc, &[word], &mut source, &mut sink)?;
+    let ended = end_of(alloc, &[word], &mut source, &mut sink)?;
     if !sink.bytes().is_empty() {
         return Ok(0);
     }
-    Ok(outcome.status)
+    Ok(ended.status)
 }
 
 // The status over this sink.
 fn status_over<W: Sink>(alloc: Global, out: &mut W) -> Result<u8, NoMemory> {
     let mut source = MemSource::new(b"device 1\nevents\n".to_vec(alloc)?, Vec::new(alloc));
-    let outcome = outcome_of(alloc, &["replay"], &mut source, out)?;
-    Ok(outcome.status)
+    let ended = end_of(alloc, &["replay"], &mut source, out)?;
+    Ok(ended.status)
 }
 
 // A sink that takes nothing.
@@ -306,8 +304,8 @@ fn tells_of_a_sink_that_takes_nothing(rt: HostRuntime) -> Result<(), Fail> {
 #[test]
 fn reads_and_writes_plainly(rt: HostRuntime) -> Result<(), Fail> {
     let mut source = PlainSource::new(b"device 1\nevents\n");
-    let outcome = outcome_of(rt.alloc(), &["replay"], &mut source, &mut PlainSink)?;
-    assert_eq!(rt; outcome.status, 0);
+    let ended = end_of(rt.alloc(), &["replay"], &mut source, &mut PlainSink)?;
+    assert_eq!(rt; ended.status, 0);
     Ok(())
 }
 

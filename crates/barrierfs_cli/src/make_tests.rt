@@ -1,6 +1,6 @@
 //! Images that are made, and shown with what stands in their journals, through the top call.
-use crate::fault::TopFault;
 use crate::tests::run;
+use barrierfs_top::TopFault;
 use blk_base::NoMemory;
 use mount_make::ImageFault;
 use std::alloc::Global;

@@ -1,6 +1,6 @@
 //! Images through the top call.
-use crate::fault::TopFault;
 use crate::tests::{run, status_of_reads};
+use barrierfs_top::TopFault;
 use blk_base::{Block, NoMemory};
 use minix_layout::{Geometry, Inode, Name, Slot, Zones, write_inode, write_slot, write_super};
 use mount_make::ImageFault;

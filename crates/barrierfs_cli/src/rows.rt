@@ -1,0 +1,42 @@
+//! Volume scripts beside what they print, worked out by hand: each module has those of one subject.
+mod barriers;
+mod calls;
+mod commits;
+mod log_space;
+mod syncs;
+
+use crate::tests::replayed;
+use std::test::Fail;
+
+#[test]
+fn prints_what_was_worked_out(rt: HostRuntime) -> Result<(), Fail> {
+    let rows = [
+        (calls::LAST_BLOCK, calls::LAST_BLOCK_PRINTS),
+        (calls::NAMES, calls::NAMES_PRINTS),
+        (calls::FULL_QUEUE, calls::FULL_QUEUE_PRINTS),
+        (calls::FULL_SESSION, calls::FULL_SESSION_PRINTS),
+        (calls::FULL_TRANSACTION, calls::FULL_TRANSACTION_PRINTS),
+        (calls::NEXT_TRANSACTION, calls::NEXT_TRANSACTION_PRINTS),
+        (commits::SUBMITTED, commits::SUBMITTED_PRINTS),
+        (commits::PERSISTED, commits::PERSISTED_PRINTS),
+        (commits::ALL_BUT_ONE, commits::ALL_BUT_ONE_PRINTS),
+        (commits::CONFLICT, commits::CONFLICT_PRINTS),
+        (commits::CONFLICT_ENDS, commits::CONFLICT_ENDS_PRINTS),
+        (barriers::FIRST_VERSION, barriers::FIRST_VERSION_PRINTS),
+        (barriers::LAST_VERSION, barriers::LAST_VERSION_PRINTS),
+        (barriers::WAITS, barriers::WAITS_PRINTS),
+        (syncs::SYNC, syncs::SYNC_PRINTS),
+        (syncs::DOWN, syncs::DOWN_PRINTS),
+        (log_space::FREED, log_space::FREED_PRINTS),
+        (log_space::WAITS, log_space::WAITS_PRINTS),
+        (log_space::REVOKED, log_space::REVOKED_PRINTS),
+    ];
+    for (script, printed) in rows {
+        assert_eq!(rt;
+            replayed(rt.alloc(), script)?.as_slice(),
+            printed.as_bytes(),
+            "{script}"
+        );
+    }
+    Ok(())
+}

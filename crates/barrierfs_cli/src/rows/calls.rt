@@ -1,0 +1,269 @@
+//! Replies of calls, and scripts that are refused.
+use crate::tests::run;
+use barrierfs_top::TopFault;
+use script_grammar::ScriptKind;
+use std::test::Fail;
+
+// Replies of calls that need no device: the last block of a file, names and kinds, a queue, a session and a
+// transaction that are full. The two ends of the last: the eleventh directory waits, and is made once the transaction
+// is closed.
+pub const LAST_BLOCK: &str = "\
+volume inodes 32 zones 64 journal 128
+thread 1
+create /f
+write /f 268965888 1024 aa
+write /f 268966912 1 aa
+stat /f
+events
+call 1 x 4
+";
+
+pub const LAST_BLOCK_PRINTS: &str = "\
+steps 0
+requests 0
+1 create /f: ok
+1 write /f 268965888 1024 aa: ok
+1 write /f 268966912 1 aa: too big
+1 stat /f: file size 268966912 links 1
+thread 1: 4 of 4
+closed 0
+found 0
+dir /
+";
+
+pub const NAMES: &str = "\
+volume inodes 32 zones 64 journal 128
+thread 1
+mkdir /a
+mkdir /a
+create /a/abcdefghijklmn
+create /a/abcdefghijklmno
+rmdir /a
+unlink /a
+list /a
+read /a/abcdefghijklmn 0 5
+truncate /a/abcdefghijklmn 3
+read /a/abcdefghijklmn 0 5
+create a
+create /a/abcdefghijklmn/z
+create /b/z
+rmdir /
+stat /
+events
+call 1
+call 1
+call 1
+call 1
+call 1
+call 1
+call 1
+call 1
+call 1
+call 1
+call 1
+call 1
+call 1
+call 1
+call 1
+";
+
+pub const NAMES_PRINTS: &str = "\
+steps 0
+requests 0
+1 mkdir /a: ok
+1 mkdir /a: exists
+1 create /a/abcdefghijklmn: ok
+1 create /a/abcdefghijklmno: name too long
+1 rmdir /a: not empty
+1 unlink /a: is a directory
+1 list /a: names abcdefghijklmn
+1 read /a/abcdefghijklmn 0 5: bytes -
+1 truncate /a/abcdefghijklmn 3: ok
+1 read /a/abcdefghijklmn 0 5: bytes 3x00
+1 create a: bad path
+1 create /a/abcdefghijklmn/z: not a directory
+1 create /b/z: not found
+1 rmdir /: invalid
+1 stat /: dir size 48 links 3
+thread 1: 15 of 15
+closed 0
+found 0
+dir /
+";
+
+pub const FULL_QUEUE: &str = "\
+volume inodes 32 zones 64 journal 128
+queue 1
+thread 1
+create /f
+write /f 0 2048 aa
+fbarrier /f
+events
+call 1 x 5
+";
+
+pub const FULL_QUEUE_PRINTS: &str = "\
+steps 0
+requests 1
+1 create /f: ok
+1 write /f 0 2048 aa: ok
+thread 1: 2 of 3 sending
+closed 0
+found 0
+dir /
+";
+
+pub const FULL_SESSION: &str = "\
+volume inodes 32 zones 64 journal 128
+limit 1
+thread 1
+create /f
+write /f 0 2048 aa
+fbarrier /f
+events
+call 1 x 5
+";
+
+pub const FULL_SESSION_PRINTS: &str = "\
+steps 0
+requests 1
+1 create /f: ok
+1 write /f 0 2048 aa: ok
+1 fbarrier /f: session full
+thread 1: 3 of 3
+closed 0
+found 0
+dir /
+";
+
+pub const FULL_TRANSACTION: &str = "\
+volume inodes 32 zones 64 journal 128
+thread 1
+mkdir /a
+mkdir /b
+mkdir /c
+mkdir /d
+mkdir /e
+mkdir /f
+mkdir /g
+mkdir /h
+mkdir /i
+mkdir /j
+mkdir /k
+events
+call 1 x 11
+";
+
+pub const FULL_TRANSACTION_PRINTS: &str = "\
+steps 0
+requests 0
+1 mkdir /a: ok
+1 mkdir /b: ok
+1 mkdir /c: ok
+1 mkdir /d: ok
+1 mkdir /e: ok
+1 mkdir /f: ok
+1 mkdir /g: ok
+1 mkdir /h: ok
+1 mkdir /i: ok
+1 mkdir /j: ok
+thread 1: 10 of 11
+closed 0
+found 0
+dir /
+";
+
+pub const NEXT_TRANSACTION: &str = "\
+volume inodes 32 zones 64 journal 128
+thread 1
+mkdir /a
+mkdir /b
+mkdir /c
+mkdir /d
+mkdir /e
+mkdir /f
+mkdir /g
+mkdir /h
+mkdir /i
+mkdir /j
+mkdir /k
+events
+call 1 x 11
+commit x 19
+call 1
+";
+
+pub const NEXT_TRANSACTION_PRINTS: &str = "\
+steps 0
+requests 17
+1 mkdir /a: ok
+1 mkdir /b: ok
+1 mkdir /c: ok
+1 mkdir /d: ok
+1 mkdir /e: ok
+1 mkdir /f: ok
+1 mkdir /g: ok
+1 mkdir /h: ok
+1 mkdir /i: ok
+1 mkdir /j: ok
+1 mkdir /k: ok
+thread 1: 11 of 11
+closed 1
+found 0
+dir /
+";
+
+// Scripts that are refused, with the line and the kind of their fault.
+const REFUSED: [(&str, u32, ScriptKind); 8] = [
+    (
+        "volume inodes 32 zones 64 journal 128\n",
+        2,
+        ScriptKind::Order,
+    ),
+    (
+        "volume inodes 32 zones 5 journal 128\nevents\n",
+        1,
+        ScriptKind::Geometry,
+    ),
+    (
+        "volume inodes 32 zones 64 journal 1\nevents\n",
+        1,
+        ScriptKind::Geometry,
+    ),
+    (
+        "volume inodes 32 zones 64 journal 128\nthread 17\nevents\n",
+        2,
+        ScriptKind::Number,
+    ),
+    (
+        "volume inodes 32 zones 64 journal 128\nthread 1\nevents\ncall 2\n",
+        4,
+        ScriptKind::Number,
+    ),
+    (
+        "volume inodes 32 zones 64 journal 128\nput 0 11 free\nevents\n",
+        2,
+        ScriptKind::Order,
+    ),
+    (
+        "volume inodes 32 zones 64 journal 128\nlimit 5\nlimit 5\nevents\n",
+        3,
+        ScriptKind::Twice,
+    ),
+    (
+        "volume inodes 32 zones 64 journal 128\nthread 1\nmkdir\nevents\n",
+        3,
+        ScriptKind::Word,
+    ),
+];
+
+#[test]
+fn refuses_what_is_no_volume_script(rt: HostRuntime) -> Result<(), Fail> {
+    for (script, line, kind) in REFUSED {
+        let ended = run(rt.alloc(), &["replay"], script.as_bytes())?;
+        assert_eq!(rt; ended.status, 3, "{script}");
+        assert_eq!(rt; ended.fault, Some(TopFault::Script(line, kind)), "{script}");
+        assert!(rt; ended.printed.is_empty(), "{script}");
+    }
+    Ok(())
+}

@@ -1,0 +1,217 @@
+//! Commits of transactions, and what a power cut leaves of them.
+use crate::tests::replayed;
+use std::test::Fail;
+
+// A barrier that waits for no device: the tree is there only once the last block of its transaction is on the medium.
+// Then two transactions that change one block: the second waits for the first.
+pub const SUBMITTED: &str = "\
+volume inodes 32 zones 64 journal 128
+thread 1
+mkdir /a
+create /a/f
+write /a/f 0 3 61
+fbarrier /a/f
+events
+call 1 x 6
+commit x 10
+call 1
+";
+
+pub const SUBMITTED_PRINTS: &str = "\
+steps 0
+requests 9
+1 mkdir /a: ok
+1 create /a/f: ok
+1 write /a/f 0 3 61: ok
+1 fbarrier /a/f: ok
+thread 1: 4 of 4
+closed 1
+found 0
+dir /
+";
+
+pub const PERSISTED: &str = "\
+volume inodes 32 zones 64 journal 128
+thread 1
+mkdir /a
+create /a/f
+write /a/f 0 3 61
+fbarrier /a/f
+events
+call 1 x 6
+commit x 10
+call 1
+accept x 8
+dispatch 0 x 8
+accept
+dispatch 0
+receive x 9
+transfer 0 x 9
+persist 0 x 9
+";
+
+pub const PERSISTED_PRINTS: &str = "\
+steps 18
+requests 9
+1 mkdir /a: ok
+1 create /a/f: ok
+1 write /a/f 0 3 61: ok
+1 fbarrier /a/f: ok
+thread 1: 4 of 4
+closed 1
+found 1
+dir /
+dir /a
+file /a/f size 3 links 1
+block 0 3x61
+";
+
+pub const ALL_BUT_ONE: &str = "\
+volume inodes 32 zones 64 journal 128
+thread 1
+mkdir /a
+create /a/f
+write /a/f 0 3 61
+fbarrier /a/f
+events
+call 1 x 6
+commit x 10
+call 1
+accept x 8
+dispatch 0 x 8
+accept
+dispatch 0
+receive x 9
+transfer 0 x 9
+persist 0 x 8
+";
+
+pub const ALL_BUT_ONE_PRINTS: &str = "\
+steps 17
+requests 9
+1 mkdir /a: ok
+1 create /a/f: ok
+1 write /a/f 0 3 61: ok
+1 fbarrier /a/f: ok
+thread 1: 4 of 4
+closed 1
+found 0
+dir /
+";
+
+pub const CONFLICT: &str = "\
+volume inodes 32 zones 64 journal 128
+thread 1
+mkdir /a
+fbarrier /a
+mkdir /b
+fbarrier /b
+events
+call 1 x 3
+commit x 10
+call 1 x 4
+commit x 5
+";
+
+pub const CONFLICT_PRINTS: &str = "\
+steps 0
+requests 8
+1 mkdir /a: ok
+1 fbarrier /a: ok
+1 mkdir /b: ok
+thread 1: 3 of 4 waiting conflict 2 1
+closed 1
+found 0
+dir /
+";
+
+pub const CONFLICT_ENDS: &str = "\
+volume inodes 32 zones 64 journal 128
+thread 1
+mkdir /a
+fbarrier /a
+mkdir /b
+fbarrier /b
+events
+call 1 x 3
+commit x 10
+call 1 x 4
+commit x 5
+back 100
+call 1
+";
+
+pub const CONFLICT_ENDS_PRINTS: &str = "\
+steps 30
+requests 15
+1 mkdir /a: ok
+1 fbarrier /a: ok
+1 mkdir /b: ok
+1 fbarrier /b: ok
+thread 1: 4 of 4
+closed 2
+found 2
+dir /
+dir /a
+dir /b
+";
+
+const AFTER_THE_FIRST_LINE: &str = "\
+thread 1
+mkdir /a
+create /a/f
+write /a/f 0 3 61
+fbarrier /a/f
+events
+call 1 x 6
+commit x 10
+call 1
+accept x 8
+dispatch 0 x 8
+accept
+dispatch 0
+receive x 9
+transfer 0 x 9
+persist 0 x 9
+";
+
+const REPLIES: &str = "\
+requests 9
+1 mkdir /a: ok
+1 create /a/f: ok
+1 write /a/f 0 3 61: ok
+1 fbarrier /a/f: ok
+thread 1: 4 of 4
+closed 1
+";
+
+const BEFORE: &str = "\
+found 0
+dir /
+";
+
+const AFTER: &str = "\
+found 1
+dir /
+dir /a
+file /a/f size 3 links 1
+block 0 3x61
+";
+
+// The commit of one transaction, with the power cut after each of its 18 steps: its tree is there whole, or not at all.
+#[test]
+fn leaves_all_of_a_transaction_or_nothing(rt: HostRuntime) -> Result<(), Fail> {
+    let alloc = rt.alloc();
+    for cut in 0..19_u32 {
+        let script = format!(in alloc;
+            "volume inodes 32 zones 64 journal 128\ncut {cut}\n{AFTER_THE_FIRST_LINE}"
+        )?;
+        let tree = if cut < 18 { BEFORE } else { AFTER };
+        let printed = format!(in alloc; "steps {cut}\n{REPLIES}{tree}")?;
+        assert_eq!(rt;
+            replayed(alloc, script.as_str())?.as_slice(),
+            printed.as_bytes()
+        );
+    }
+    Ok(())
+}

@@ -1,0 +1,162 @@
+//! Space that is used again: zones of files, and blocks of the log.
+use crate::tests::replayed;
+use blk_base::NoMemory;
+use std::alloc::Global;
+use std::test::Fail;
+
+// A zone that was freed is taken again only once the transaction that freed it has its commit block in the queue; a
+// block that was logged, freed and taken for data is not written over by its old copy in the log.
+pub const FREED: &str = "\
+volume inodes 32 zones 7 journal 128
+thread 1
+create /a
+create /b
+write /a 0 1024 aa
+fsync /a
+unlink /a
+write /b 0 1024 bb
+events
+call 1 x 6
+back 100
+call 1 x 3
+commit x 8
+call 1
+write 0
+accept x 5
+dispatch 0 x 5
+accept
+dispatch 0
+accept
+dispatch 0
+receive x 7
+transfer 0 x 7
+persist 0 x 5
+persist 1
+";
+
+pub const FREED_PRINTS: &str = "\
+steps 29
+requests 16
+1 create /a: ok
+1 create /b: ok
+1 write /a 0 1024 aa: ok
+1 fsync /a: ok
+1 unlink /a: ok
+1 write /b 0 1024 bb: ok
+thread 1: 6 of 6
+closed 2
+found 1
+dir /
+file /a size 1024 links 1
+block 0 1024xaa
+file /b size 0 links 1
+";
+
+pub const WAITS: &str = "\
+volume inodes 32 zones 7 journal 128
+thread 1
+create /a
+create /b
+write /a 0 1024 aa
+fsync /a
+unlink /a
+write /b 0 1024 bb
+events
+call 1 x 6
+back 100
+call 1 x 3
+";
+
+pub const WAITS_PRINTS: &str = "\
+steps 17
+requests 9
+1 create /a: ok
+1 create /b: ok
+1 write /a 0 1024 aa: ok
+1 fsync /a: ok
+1 unlink /a: ok
+thread 1: 5 of 6
+closed 1
+found 1
+dir /
+file /a size 1024 links 1
+block 0 1024xaa
+file /b size 0 links 1
+";
+
+pub const REVOKED: &str = "\
+volume inodes 32 zones 7 journal 128
+thread 1
+mkdir /d
+fsync /d
+rmdir /d
+create /f
+write /f 0 1024 ee
+fsync /f
+events
+round 200
+";
+
+pub const REVOKED_PRINTS: &str = "\
+steps 42
+requests 22
+1 mkdir /d: ok
+1 fsync /d: ok
+1 rmdir /d: ok
+1 create /f: ok
+1 write /f 0 1024 ee: ok
+1 fsync /f: ok
+thread 1: 6 of 6
+closed 3
+found 3
+dir /
+file /f size 1024 links 1
+block 0 1024xee
+";
+
+// A file of a hundred blocks, with a barrier behind each.
+fn wrapping(alloc: Global, header: &str) -> Result<String, NoMemory> {
+    let mut script = format!(in alloc;
+        "volume inodes 32 zones 256 journal 128\n{header}thread 1\ncreate /f\n"
+    )?;
+    for block in 0..100_u32 {
+        let at = block * 1024;
+        write!(script, "write /f {at} 1024 {block:02x}\nfbarrier /f\n")?;
+    }
+    script.push_str("events\nround 5000\n")?;
+    Ok(script)
+}
+
+// What it prints.
+fn wrapped(alloc: Global) -> Result<String, NoMemory> {
+    let mut text = String::from_str(alloc, "steps 1220\nrequests 610\n1 create /f: ok\n")?;
+    for block in 0..100_u32 {
+        let at = block * 1024;
+        write!(
+            text,
+            "1 write /f {at} 1024 {block:02x}: ok\n1 fbarrier /f: ok\n"
+        )?;
+    }
+    text.push_str("thread 1: 201 of 201\nclosed 100\nfound 100\n")?;
+    text.push_str("dir /\nfile /f size 102400 links 1\n")?;
+    for block in 0..100_u32 {
+        write!(text, "block {block} 1024x{block:02x}\n")?;
+    }
+    Ok(text)
+}
+
+// A hundred transactions in a log that has room for a quarter of them: 100 pages, the log's 6 blocks for the first, 4 for
+// each of the next six and 5 for each of the other 93, which have an indirect block, the first superblock, and three
+// checkpoints, behind 26, 51 and 76 transactions, of 5, 3 and 3 blocks that go home and a superblock each.
+#[test]
+fn wraps_the_log(rt: HostRuntime) -> Result<(), Fail> {
+    let alloc = rt.alloc();
+    for header in ["", "elevator\n"] {
+        let script = wrapping(alloc, header)?;
+        assert_eq!(rt;
+            replayed(alloc, script.as_str())?.as_slice(),
+            wrapped(alloc)?.as_bytes()
+        );
+    }
+    Ok(())
+}

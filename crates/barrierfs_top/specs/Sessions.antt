@@ -1,0 +1,53 @@
+-- What `replay` makes of a volume script.
+use Rattle.std.specs.Prelude.{◌≡◌, ℕ, ◌++◌, Bool, false, List, [], ◌∷◌, codes, length, map, Option, Some, Ok, if◌then◌else◌}
+use Rattle.std.specs.Str.{bytes_eq}
+use Rattle.script_words.specs.Spelling.{lines_of, words_of, is_skipped}
+use Rattle.host_answers.specs.declared.entry.Entry.{Entry}
+use Rattle.session_grammar.specs.declared.session_script.SessionScript.{SessionScript}
+use Rattle.session_grammar.specs.Grammar.{session_of}
+use Rattle.session_report.specs.ReportText.{Figures, session_lines}
+use Rattle.session_core.specs.Core.{core, entry_in}
+use Rattle.session_core.specs.Headline.{Headline}
+use Rattle.session_core.specs.Report.{IsReportOf}
+use Rattle.session_core.specs.declared.report.SessionReport.{SessionReport}
+use Rattle.barrierfs_top.specs.declared.run_report.RunReport.{RunReport}
+use Rattle.barrierfs_top.specs.declared.run_report.RunReport.TheVariants as reports
+use Rattle.barrierfs_top.specs.Show.{shown_volume}
+
+-- ---- which scripts are of sessions
+
+abbrev pub names_volume : List (List ℕ) → Bool
+names_volume [] = false
+names_volume (w ∷ ws) = bytes_eq w (codes "volume")
+
+-- the first line that is not skipped begins with the word `volume`
+abbrev pub begins_session : List (List ℕ) → Bool
+begins_session [] = false
+begins_session (l ∷ ls) = if is_skipped l then begins_session ls else names_volume (words_of l)
+
+abbrev pub is_session : List ℕ → Bool
+is_session input = begins_session (lines_of input)
+
+-- ---- the text of a report
+
+abbrev pub figures_of : SessionReport → Figures
+figures_of r = record { steps = r.cut.trace.steps; requests = length r.host.host.journal.flush.requests; closed = length r.host.host.cuts; found = r.found }
+
+-- The lines of the session, with what the host noted of its calls, and then those of the tree that was mounted.
+pub record IsSessionText (s : SessionScript) (r : SessionReport) (text : List ℕ) : Type 0 where
+  pub history : List Entry
+  pub noted : r.host.host.history ≡ map (entry_in r.host.programs) history
+  pub tree : List ℕ
+  pub shown : shown_volume r.volume ≡ Ok tree
+  pub printed : text ≡ session_lines s.programs s.lines (figures_of r) history r.standings.items ++ tree
+
+-- The input spells a volume script, the report is that of its session and keeps all that sessions promise, and the text is the
+-- report's.
+pub record IsSessionReplay (input : List ℕ) (report : Option RunReport) (text : List ℕ) : Type 0 where
+  pub script : SessionScript
+  pub spelled : session_of input ≡ Ok script
+  pub result : SessionReport
+  pub core_is : IsReportOf script (core script) result
+  pub headline : Headline script result
+  pub reported : report ≡ Some (reports.Session result)
+  pub printed : IsSessionText script result text

@@ -1,0 +1,107 @@
+//! The replay of volume scripts.
+ghost use Rattle.std.specs.Prelude.{◌≡◌, ◌≤◌, length, map, IfOk, IfErr};
+ghost use Rattle.std.specs.String.{string_bytes};
+ghost use Rattle.script_words.specs.Spelling.{words_of};
+ghost use Rattle.script_grammar.specs.declared.limits.TheConstants.{MOST_SCRIPT_BYTES};
+ghost use Rattle.session_grammar.specs.WellFormed.{IsWellFormed};
+ghost use Rattle.session_core.specs.Core.{core};
+ghost use Rattle.session_core.specs.Report.{IsReportOf};
+ghost use Rattle.barrierfs_top.specs.Sessions.{begins_session, is_session, names_volume, IsSessionText, IsSessionReplay};
+ghost use Rattle.barrierfs_top.specs.Top.{IsSessionFault};
+ghost use Rattle.barrierfs_top.specs.Text.{output_bytes};
+
+use crate::fault::TopFault;
+use crate::output::Output;
+use crate::run_report::RunReport;
+use crate::show::tree_text;
+use crate::top::{Printed, fault_of};
+use blk_base::NoMemory;
+use script_words::{is_skipped, lines, words};
+use session_core::{SessionReport, core_run};
+use session_grammar::{SessionScript, read_session};
+use session_report::{Figures, lines_of_scripts_are_ascii, put_session};
+use std::alloc::Global;
+
+// The words of a line begin with `volume`.
+fn names_volume(alloc: Global, line: &[u8]) -> Result<bool, NoMemory>
+    ensures { IfOk result (λ is. is ≡ names_volume (words_of line.now)) }
+{
+    let words = words(alloc, line)?;
+    Ok(match words.first() {
+        Some(word) => *word == b"volume".as_slice(),
+        None => false,
+    })
+}
+
+// The first of these lines that is not skipped begins with `volume`.
+fn begins_session(alloc: Global, lines: &[&[u8]]) -> Result<bool, NoMemory>
+    ensures { IfOk result (λ is. is ≡ begins_session (map (λ x. x.now) lines.now)) }
+{
+    for line in lines {
+        if !is_skipped(line) {
+            return names_volume(alloc, line);
+        }
+    }
+    Ok(false)
+}
+
+/// Whether a text is a volume script: its first line that is not skipped begins so.
+pub fn is_session(alloc: Global, bytes: &[u8]) -> Result<bool, NoMemory>
+    ensures { IfOk result (λ is. is ≡ is_session bytes.now) }
+{
+    let lines = lines(alloc, bytes)?;
+    begins_session(alloc, &lines)
+}
+
+// The text of a session's report.
+fn session_text(
+    alloc: Global,
+    script: &SessionScript,
+    report: &SessionReport,
+) -> Result<String, NoMemory>
+    requires script { IsWellFormed script.now }
+    requires report { IsReportOf script.now (core script.now) report.now }
+    ensures { IfOk result (λ text. IsSessionText script.now report.now (string_bytes text)) }
+{
+    lines_of_scripts_are_ascii();
+    let figures = Figures {
+        steps: report.cut.trace.steps,
+        requests: report.host.submitted(),
+        closed: report.host.cuts().len() as u64,
+        found: report.found.into(),
+    };
+    let mut text = String::new(alloc);
+    put_session(
+        &mut text,
+        &script.programs,
+        &script.lines,
+        &figures,
+        report.host.history(),
+        &report.standings,
+    )?;
+    let tree = tree_text(alloc, &report.volume)?;
+    text.push_str(&tree)?;
+    Ok(text)
+}
+
+/// Runs the volume script of these bytes, and makes its text.
+pub fn run_session_text(alloc: Global, bytes: &[u8]) -> Result<Printed, TopFault>
+    requires { length bytes.now ≤ MOST_SCRIPT_BYTES }
+    ensures ok { IfOk result (λ p. IsSessionReplay bytes.now p.report (output_bytes p.output)) }
+    ensures err { IfErr result (IsSessionFault bytes.now) }
+{
+    let script = match read_session(alloc, bytes) {
+        Ok(script) => script,
+        Err(error) => return Err(fault_of(error)),
+    };
+    let Ok(report) = core_run(alloc, &script) else {
+        return Err(TopFault::NoMemory);
+    };
+    match session_text(alloc, &script, &report) {
+        Ok(text) => Ok(Printed {
+            report: Some(RunReport::Session(report)),
+            output: Output::Text(text),
+        }),
+        Err(_) => Err(TopFault::NoMemory),
+    }
+}
