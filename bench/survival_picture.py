@@ -1,0 +1,124 @@
+#!/usr/bin/env python3
+"""Draws the table of examples/survival as an SVG: what is there after a power cut at each device step.
+
+Use: survival_picture.py TABLE > docs/survival.svg      (TABLE is examples/survival.table)
+
+A column is one run, with the power off after so many steps; a row is a call. The row of a write is coloured where
+recovery finds its bytes, or newer ones of the same file; that of a barrier or sync call has a mark at the first column
+where the program printed its answer `ok`.
+"""
+import html
+import itertools
+import sys
+
+LEFT, COLUMN, ROW, WIDTH = 172, 18, 24, 920
+THIS, NEWER, EMPTY, CALL, GREY, INK = "#1b6ca8", "#a9cde6", "#f3f3f1", "#c8553d", "#777", "#222"
+TITLES = {
+    "barriers": ("Barrier calls: answered before anything is there, and the order holds",
+                 "A call covers what the rows above write to its file, and fbarrier also the files that they make. In each",
+                 "column in which anything below a mark is there, all that the call covers is there, or newer bytes in its place."),
+    "syncs": ("Sync calls: what was answered is there",
+              "A mark stands only where all that the call covers is there: the call waited for that. In each column recovery",
+              "is cut off twice before it may go to its end."),
+}
+NOTES = {("barriers", "write /g 0 1024 b2"): "no call covers this write, so it may come last"}
+
+
+def sessions(text):
+    """Of each session its name, its calls, and a dictionary for each step."""
+    for part in text.strip().split("\n\nsession "):
+        head, rows = part.split("\n\n")
+        name, *calls = head.removeprefix("session ").splitlines()
+        columns, *lines = [line.split() for line in rows.splitlines()]
+        yield name, [call.split(None, 2)[2] for call in calls], [dict(zip(columns, line)) for line in lines]
+
+
+def spans(calls, steps, at):
+    """For each step 'this', 'newer' or None: whether the effect of a call is there."""
+    words = calls[at].split()
+    order = [call.split()[4] for call in calls if call.startswith("write %s " % words[1])]
+    for row in steps:
+        version = row[words[1]]
+        if version == "-":
+            yield None
+        elif words[0] != "write":
+            yield "this"
+        elif version not in order or order.index(version) < order.index(words[4]):
+            yield None
+        else:
+            yield "this" if version == words[4] else "newer"
+
+
+def text(x, y, words, **more):
+    more = "".join(' %s="%s"' % (name.replace("_", "-"), value) for name, value in more.items())
+    return '<text x="%g" y="%g"%s>%s</text>' % (x, y, more, html.escape(words))
+
+
+def panel(top, name, calls, steps):
+    """The lines of one session's part of the picture, and the place below it."""
+    title, *reading = TITLES[name]
+    yield text(16, top + 18, title, font_size=16, font_weight="bold", fill=INK)
+    for at, line in enumerate(reading):
+        yield text(16, top + 40 + 17 * at, line, fill="#444")
+    top += 40 + 17 * len(reading) + 4
+    right, bottom = LEFT + COLUMN * len(steps), top + ROW * len(calls)
+    marks, notes = [], []
+    for at, call in enumerate(calls):
+        y = top + ROW * at
+        words = call.split()
+        if words[0] in ("write", "create", "mkdir"):
+            label = "write %s %s" % (words[1], words[4]) if words[0] == "write" else call
+            yield text(LEFT - 10, y + 16, label, text_anchor="end", fill=INK)
+            yield '<rect x="%d" y="%d" width="%d" height="%d" fill="%s"/>' % (LEFT, y + 3, right - LEFT, ROW - 6, EMPTY)
+            step = 0
+            for kind, run in itertools.groupby(spans(calls, steps, at)):
+                wide = len(list(run))
+                if kind:
+                    yield '<rect x="%d" y="%d" width="%d" height="%d" fill="%s"/>' % (
+                        LEFT + COLUMN * step, y + 3, COLUMN * wide, ROW - 6, THIS if kind == "this" else NEWER)
+                step += wide
+            if (name, call) in NOTES:
+                notes.append(text(LEFT + 8, y + 16, NOTES[name, call], fill=GREY, font_style="italic"))
+        else:
+            yield text(LEFT - 10, y + 16, call, text_anchor="end", fill=CALL, font_weight="bold")
+            step = next(step for step, row in enumerate(steps) if int(row["ok"]) > at)
+            x, middle = LEFT + COLUMN * step + COLUMN / 2, y + ROW / 2
+            marks.append('<path d="M%g %gH%d" stroke="%s" stroke-width="1.5"/>' % (x, middle, right, CALL))
+            marks.append('<path d="M%g %gl7 7l-7 7l-7 -7z" fill="%s"/>' % (x, middle - 7, CALL))
+    for step in range(len(steps)):
+        x = LEFT + COLUMN * step
+        yield '<path d="M%d %dV%d" stroke="#fff" stroke-width="1"/>' % (x, top, bottom)
+        if step % 5 == 0:
+            yield '<path d="M%d %dv5" stroke="%s"/>' % (x + COLUMN / 2, bottom, GREY)
+            yield text(x + COLUMN / 2, bottom + 18, str(step), text_anchor="middle", fill=INK)
+    yield from marks + notes
+    yield text((LEFT + right) / 2, bottom + 36, "the power goes off after this many steps of the device", text_anchor="middle", fill="#444")
+
+
+def height_of(calls):
+    return 40 + 17 * 2 + 4 + ROW * len(calls) + 60
+
+
+def legend(top):
+    x = 16
+    for colour, words, width in ((THIS, "there after recovery", 180), (NEWER, "newer bytes stand in its place", 250), (EMPTY, "not there", 110)):
+        yield '<rect x="%d" y="%d" width="14" height="14" fill="%s" stroke="#bbb" stroke-width="0.5"/>' % (x, top, colour)
+        yield text(x + 20, top + 12, words, fill=INK)
+        x += width
+    yield '<path d="M%d %dl7 7l-7 7l-7 -7z" fill="%s"/>' % (x + 8, top, CALL)
+    yield text(x + 22, top + 12, "from this column on the answer was ok", fill=INK)
+
+
+def main():
+    with open(sys.argv[1]) as source:
+        parts = list(sessions(source.read()))
+    lines, top = list(legend(16)), 46
+    for name, calls, steps in parts:
+        lines += panel(top, name, calls, steps)
+        top += height_of(calls)
+    print('<svg xmlns="http://www.w3.org/2000/svg" width="%d" height="%d" viewBox="0 0 %d %d" font-family="sans-serif" font-size="13">' % (WIDTH, top, WIDTH, top))
+    print('<rect width="%d" height="%d" fill="white"/>\n%s\n</svg>' % (WIDTH, top, "\n".join(lines)))
+
+
+if __name__ == "__main__":
+    main()
