@@ -1,5 +1,5 @@
 #!/usr/bin/env python3
-"""Writes the largest scripts that the limits allow to the folder that is given."""
+"""Writes the largest scripts that the limits allow, and volume scripts of several sizes, to the folder that is given."""
 import os
 import sys
 
@@ -32,6 +32,41 @@ def blocks(name, line, batch, header=(), requests=REQUESTS):
     return name, "\n".join(text) + "\n"
 
 
+def volume(name, groups, length, rounds):
+    """A volume script of one thread: groups of five `create` and `write`, with an `fbarrier` behind the last of them."""
+    text = ["volume inodes 4608 zones 16384 journal 1024", "limit 200000", "thread 1"]
+    for group in range(groups):
+        for file in range(5 * group, 5 * group + 5):
+            text += ["create /f%d" % file, "write /f%d 0 %d %02x" % (file, length, file % 256)]
+        text.append("fbarrier /f%d" % (5 * group + 4))
+    return name, "\n".join(text + ["events", "round %d" % rounds]) + "\n"
+
+
+def letters(name, threads, count, rounds):
+    """A volume script of mail servers: each thread makes so many files of 2,000 bytes, with an `fsync` behind each."""
+    text = ["volume inodes 2048 zones 8192 journal 1024", "limit 200000"]
+    for thread in range(1, threads + 1):
+        text.append("thread %d" % thread)
+        for letter in range(count):
+            path = "/t%dm%d" % (thread, letter)
+            text += ["create " + path, "write %s 0 2000 %02x" % (path, letter % 256), "fsync " + path]
+    return name, "\n".join(text + ["events", "round %d" % rounds]) + "\n"
+
+
+def wraps(name, files, blocks, rounds):
+    """A volume script that goes round a small log: files of so many blocks, with an `fbarrier` behind each block.
+
+    Each block is a transaction of four log blocks at least, as descriptor, map of the zones, inodes and commit block, and
+    the log has 127 places: so it is gone round `files * blocks * 4 / 127` times and more.
+    """
+    text = ["volume inodes 64 zones 4096 journal 128", "limit 200000", "thread 1"]
+    for file in range(files):
+        text.append("create /f%d" % file)
+        for block in range(blocks):
+            text += ["write /f%d %d 1024 %02x" % (file, 1024 * block, block), "fbarrier /f%d" % file]
+    return name, "\n".join(text + ["events", "round %d" % rounds]) + "\n"
+
+
 def put(i, kind):
     return "put %d %02x %s" % (i * 7 % BLOCKS, i % 256, kind)
 
@@ -49,6 +84,11 @@ def cases():
         yield blocks(scheduler + "-orderless", lambda i: put(i, "free"), 32, header)
         yield blocks(scheduler + "-every-barrier", lambda i: put(i, "barrier"), 1, header)
         yield blocks(scheduler + "-mixed", lambda i: put(i, ("free", "ordered", "barrier")[i % 3]), 3, header)
+    for name, groups in (("100", 9), ("1000", 91), ("10000", 909)):
+        yield volume("volume-%s-calls" % name, groups, 1000, 40 * groups)
+    yield volume("volume-large-writes", 91, 32000, 20000)
+    yield letters("volume-letters", 8, 200, 8000)
+    yield wraps("volume-hundred-wraps", 32, 100, 45000)
 
 
 def main():
