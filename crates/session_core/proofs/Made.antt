@@ -42,11 +42,15 @@ script_writes_bytes s is bytes = λ p c there here. bytes c (is.calls c (of_prog
 
 -- ---- its parts
 
-pub made_for : {A B : Type 0} (k : schedulers.Ghosts A) (d : devices.Ghosts B) (s : SessionScript) (made h : HostNow) (sched : k.State) (dev : d.State) (n : ℕ) → h ≡ made → n ≡ length s.programs
-    → IsMadeFor k d (opening_of s) (start_of s) made s.header.queue (length s.programs) sched dev → IsMadeFor k d (opening_of s) (start_of s) h s.header.queue n sched dev
-made_for k d s made h sched dev n host count is =
-    subst (λ m. IsMadeFor k d (opening_of s) (start_of s) h s.header.queue m sched dev) (sym count)
-    (subst (λ x. IsMadeFor k d (opening_of s) (start_of s) x s.header.queue (length s.programs) sched dev) (sym host) is)
+-- its host is the one that was made
+pub made_for : {A B : Type 0} (k : schedulers.Ghosts A) (d : devices.Ghosts B) (s : SessionScript) (made h : HostNow) (sched : k.State) (dev : d.State) → h ≡ made
+    → IsMadeFor k d (opening_of s) (start_of s) made s.header.queue (length s.programs) sched dev → IsMadeFor k d (opening_of s) (start_of s) h s.header.queue (length s.programs) sched dev
+made_for k d s made h sched dev host is = subst (λ x. IsMadeFor k d (opening_of s) (start_of s) x s.header.queue (length s.programs) sched dev) (sym host) is
+
+-- it has so many threads
+pub with_threads : {A B : Type 0} (k : schedulers.Ghosts A) (d : devices.Ghosts B) (s : SessionScript) (h : HostNow) (sched : k.State) (dev : d.State) (n : ℕ) → n ≡ length s.programs
+    → IsMadeFor k d (opening_of s) (start_of s) h s.header.queue (length s.programs) sched dev → IsMadeFor k d (opening_of s) (start_of s) h s.header.queue n sched dev
+with_threads k d s h sched dev n count is = subst (λ m. IsMadeFor k d (opening_of s) (start_of s) h s.header.queue m sched dev) (sym count) is
 
 -- ---- its sizes, and what it begins with
 

@@ -1,8 +1,10 @@
 //! The run of a volume script.
-ghost use Rattle.std.specs.Prelude.{◌≡◌, ◌^◌, ◌<◌, IfOk};
+ghost use Rattle.std.specs.Prelude.{◌≡◌, ◌^◌, ◌<◌, length, IfOk};
+ghost use Rattle.device_epochs.specs.contracts.device.EpochDeviceOrderedDev.TheImpl.{ghosts as epoch_device};
 ghost use Rattle.session_grammar.specs.WellFormed.{IsWellFormed};
 ghost use Rattle.session_opening.specs.Opened.{opened_now};
-ghost use Rattle.session_core.specs.Core.{core, device_for, ended, geometry_of, standings_of};
+ghost use Rattle.session_run.specs.Beginning.{IsMadeFor};
+ghost use Rattle.session_core.specs.Core.{core, device_for, ended, geometry_of, opening_of, start_of, standings_of};
 ghost use Rattle.session_core.specs.Headline.{Headline};
 ghost use Rattle.session_core.specs.Report.{IsReportOf};
 ghost use Rattle.session_core.specs.code.Ends.{IsNewScheduler, session_on, EndsIn, KeepsTheOrder, IsBehind, TookWhatWasSent};
@@ -71,6 +73,27 @@ fn open_parts(alloc: Global, script: &SessionScript) -> Result<(Host, EpochDevic
     Ok((host, EpochDevice::make(alloc, image, setup)?))
 }
 
+// The host and the device that a script opens, and what lets a session run on them and this new scheduler.
+fn open_for<S: Scheduler>(
+    alloc: Global,
+    script: &SessionScript,
+    sched: &S,
+) -> Result<(Host, EpochDevice), NoMemory>
+    requires script { IsWellFormed script.now }
+    requires scheduler { IsNewScheduler script.now.header.limit (S.steps.seen (S.state sched.now)) }
+    ensures made { IfOk result (λ p. IsMadeFor S.Scheduler epoch_device (opening_of script.now) (start_of script.now) p.0 script.now.header.queue (length script.now.programs) (S.state sched.now) p.1) }
+    ensures device { IfOk result (λ p. p.1 ≡ device_for script.now) }
+{
+    // These calls tell what holds of sizes, calls, and a new scheduler and device.
+    let _ = Geometry::make(script.inodes, script.zones);
+    calls_of_scripts_write_bytes();
+    sessions_on_made_images_can_be_run::<S, EpochDevice>();
+    let _ = sched.can_accept();
+    let (host, dev) = open_parts(alloc, script)?;
+    let _ = dev.blocks();
+    Ok((host, dev))
+}
+
 // The session of a script on this scheduler.
 fn run_on<S: Scheduler + Drop>(
     alloc: Global,
@@ -85,14 +108,9 @@ fn run_on<S: Scheduler + Drop>(
     ensures taken { IfOk result (λ _. TookWhatWasSent (ended S.steps (session_on script.now S.steps (S.state sched)))) }
     ensures calls { IfOk result (λ r. r.host.programs ≡ script.now.programs) }
 {
-    // These calls tell what holds of sizes, calls, and a new scheduler and device.
-    let _ = Geometry::make(script.inodes, script.zones);
-    calls_of_scripts_write_bytes();
-    sessions_on_made_images_can_be_run::<S, EpochDevice>();
+    let (host, dev) = open_for(alloc, script, &sched)?;
+    // These calls tell what sessions keep.
     hosts_of_sessions_take_their_steps::<S, EpochDevice>();
-    let _ = sched.can_accept();
-    let (host, dev) = open_parts(alloc, script)?;
-    let _ = dev.blocks();
     parts_of_sessions_fit::<S, EpochDevice>();
     let threads = script.programs.len() as u32;
     let lines = script.events.as_slice();
