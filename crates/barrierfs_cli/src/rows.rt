@@ -2,6 +2,7 @@
 mod barriers;
 mod calls;
 mod commits;
+mod files;
 mod log_space;
 mod syncs;
 
@@ -13,6 +14,7 @@ fn prints_what_was_worked_out(rt: HostRuntime) -> Result<(), Fail> {
     let rows = [
         (calls::LAST_BLOCK, calls::LAST_BLOCK_PRINTS),
         (calls::NAMES, calls::NAMES_PRINTS),
+        (calls::REFUSALS, calls::REFUSALS_PRINTS),
         (calls::FULL_QUEUE, calls::FULL_QUEUE_PRINTS),
         (calls::FULL_SESSION, calls::FULL_SESSION_PRINTS),
         (calls::FULL_TRANSACTION, calls::FULL_TRANSACTION_PRINTS),
@@ -27,6 +29,8 @@ fn prints_what_was_worked_out(rt: HostRuntime) -> Result<(), Fail> {
         (barriers::WAITS, barriers::WAITS_PRINTS),
         (syncs::SYNC, syncs::SYNC_PRINTS),
         (syncs::DOWN, syncs::DOWN_PRINTS),
+        (files::FULL_VOLUME, files::FULL_VOLUME_PRINTS),
+        (files::HOLES, files::HOLES_PRINTS),
         (log_space::FREED, log_space::FREED_PRINTS),
         (log_space::WAITS, log_space::WAITS_PRINTS),
         (log_space::REVOKED, log_space::REVOKED_PRINTS),

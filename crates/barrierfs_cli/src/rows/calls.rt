@@ -91,6 +91,107 @@ found 0
 dir /
 ";
 
+// Refusals of each call, the first one told where two would do.
+pub const REFUSALS: &str = "\
+volume inodes 32 zones 64 journal 128
+thread 1
+mkdir /d
+create /d/f
+link /d/f /g
+mkdir /
+mkdir d
+mkdir /d/f/x
+mkdir /x/abcdefghijklmno
+mkdir /d/f/abcdefghijklmno
+create /
+create /d
+rmdir /x
+rmdir /g
+rmdir /d
+unlink /
+unlink /x
+unlink /d
+link d /x
+link /x x
+link /x /y
+link /d /y
+link /d /
+link /g /
+link /g /d
+link /g /x/y
+write /d 0 1 61
+write /x 0 1 61
+write /g 268966912 1 61
+write /d 268966912 1 61
+bytes /d 0 61
+truncate /d 0
+truncate /g 268966913
+read /d 0 1
+read /x 0 1
+list /g
+list /x
+stat x
+stat /g/x
+fsync /x
+fdatasync x
+fbarrier /g/x
+fdatabarrier /abcdefghijklmno
+stat /g
+events
+call 1 x 42
+";
+
+pub const REFUSALS_PRINTS: &str = "\
+steps 0
+requests 0
+1 mkdir /d: ok
+1 create /d/f: ok
+1 link /d/f /g: ok
+1 mkdir /: exists
+1 mkdir d: bad path
+1 mkdir /d/f/x: not a directory
+1 mkdir /x/abcdefghijklmno: not found
+1 mkdir /d/f/abcdefghijklmno: not a directory
+1 create /: exists
+1 create /d: exists
+1 rmdir /x: not found
+1 rmdir /g: not a directory
+1 rmdir /d: not empty
+1 unlink /: invalid
+1 unlink /x: not found
+1 unlink /d: is a directory
+1 link d /x: bad path
+1 link /x x: bad path
+1 link /x /y: not found
+1 link /d /y: is a directory
+1 link /d /: is a directory
+1 link /g /: exists
+1 link /g /d: exists
+1 link /g /x/y: not found
+1 write /d 0 1 61: is a directory
+1 write /x 0 1 61: not found
+1 write /g 268966912 1 61: too big
+1 write /d 268966912 1 61: is a directory
+1 bytes /d 0 61: is a directory
+1 truncate /d 0: is a directory
+1 truncate /g 268966913: too big
+1 read /d 0 1: is a directory
+1 read /x 0 1: not found
+1 list /g: not a directory
+1 list /x: not found
+1 stat x: bad path
+1 stat /g/x: not a directory
+1 fsync /x: not found
+1 fdatasync x: bad path
+1 fbarrier /g/x: not a directory
+1 fdatabarrier /abcdefghijklmno: name too long
+1 stat /g: file size 0 links 2
+thread 1: 42 of 42
+closed 0
+found 0
+dir /
+";
+
 pub const FULL_QUEUE: &str = "\
 volume inodes 32 zones 64 journal 128
 queue 1

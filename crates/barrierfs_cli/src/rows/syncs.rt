@@ -1,5 +1,7 @@
 //! Calls that wait for the medium, and recovery.
 use crate::tests::replayed;
+use blk_base::NoMemory;
+use std::alloc::Global;
 use std::test::Fail;
 
 // A file that is synced is there; power that is off at once.
@@ -51,14 +53,67 @@ found 0
 dir /
 ";
 
+// That script, cut after so many steps.
+fn cut_at(alloc: Global, steps: u32) -> Result<String, NoMemory> {
+    let mut script = String::from_str(alloc, "volume inodes 32 zones 64 journal 128\n")?;
+    writeln!(script, "cut {steps}")?;
+    script.push_str("thread 1\nmkdir /a\ncreate /a/f\nwrite /a/f 0 3 61\nfsync /a/f\n")?;
+    script.push_str("events\nround 100\nrecover d3\nrecover t0 t0 p1\n")?;
+    Ok(script)
+}
+
+// What it prints. A request goes out a round and takes two steps of the device in it, the flush one: the page, then the
+// superblock, the descriptor, five bodies, the commit block, and the flush. The host submits on until it hears of the cut.
+fn cut_prints(alloc: Global, steps: u32, requests: u32) -> Result<String, NoMemory> {
+    let mut text = format!(in alloc;
+        "steps {steps}\nrequests {requests}\n1 mkdir /a: ok\n1 create /a/f: ok\n"
+    )?;
+    let (written, closed) = if steps == 0 {
+        ("down", 0)
+    } else {
+        ("ok", 1_u32)
+    };
+    let synced = if steps == 19 { "ok" } else { "down" };
+    write!(
+        text,
+        "1 write /a/f 0 3 61: {written}\n1 fsync /a/f: {synced}\nthread 1: 4 of 4\nclosed {closed}\n"
+    )?;
+    if steps < 18 {
+        text.push_str("found 0\ndir /\n")?;
+    } else {
+        text.push_str("found 1\ndir /\ndir /a\nfile /a/f size 3 links 1\nblock 0 3x61\n")?;
+    }
+    Ok(text)
+}
+
+// Wherever the power goes off, all of the transaction is there or nothing of it, and all once the call was answered.
+#[test]
+fn keeps_what_was_answered(rt: HostRuntime) -> Result<(), Fail> {
+    let alloc = rt.alloc();
+    let requests = [
+        0, 1, 1, 4, 4, 5, 5, 6, 6, 7, 7, 8, 8, 9, 9, 9, 9, 10, 10, 10,
+    ];
+    let mut steps = 0_u32;
+    for submitted in requests {
+        let script = cut_at(alloc, steps)?;
+        let printed = cut_prints(alloc, steps, submitted)?;
+        assert_eq!(rt;
+            replayed(alloc, script.as_str())?.as_slice(),
+            printed.as_bytes(),
+            "{steps}"
+        );
+        steps = steps.saturating_add(1);
+    }
+    Ok(())
+}
+
 // The log of that file is recovered by two attempts that are cut after so many steps each, and a last one.
 #[test]
 fn recovers_after_attempts_that_were_cut(rt: HostRuntime) -> Result<(), Fail> {
     let alloc = rt.alloc();
-    let attempts = ["d0", "d1", "d3", "d8", "d14", "t0 t0 p1"];
-    for first in attempts {
-        for second in attempts {
-            let script = format!(in alloc; "{SYNC}recover {first}\nrecover {second}\n")?;
+    for first in 0..15_u32 {
+        for second in 0..15_u32 {
+            let script = format!(in alloc; "{SYNC}recover d{first}\nrecover d{second}\n")?;
             assert_eq!(rt;
                 replayed(alloc, script.as_str())?.as_slice(),
                 SYNC_PRINTS.as_bytes(),
@@ -66,5 +121,10 @@ fn recovers_after_attempts_that_were_cut(rt: HostRuntime) -> Result<(), Fail> {
             );
         }
     }
+    let script = format!(in alloc; "{SYNC}recover d3\nrecover t0 t0 p1\n")?;
+    assert_eq!(rt;
+        replayed(alloc, script.as_str())?.as_slice(),
+        SYNC_PRINTS.as_bytes()
+    );
     Ok(())
 }
