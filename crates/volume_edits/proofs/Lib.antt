@@ -4,3 +4,4 @@ mod CutSteps
 mod HoleSteps
 mod FreedSteps
 mod WrittenSteps
+mod ReadNumbers

@@ -26,6 +26,18 @@ pub fn zone_entry(blocks: &Image, zone: u16, at: u16) -> u16
     if zone == 0 {
         0
     } else {
-        u16_at_le(body(blocks, zone.into()).as_slice(), 2 * at as usize)
+        number_in(blocks, zone.into(), at)
+    }
+}
+
+// A number of a block, read where it stands; 0 behind the last block.
+fn number_in(blocks: &Image, block: u32, at: u16) -> u16
+    requires { at < 512 }
+    ensures { result ≡ entry_of blocks.now block at }
+{
+    if block < blocks.len() {
+        u16_at_le(blocks.block(block).as_slice(), 2 * at as usize)
+    } else {
+        0
     }
 }

@@ -1,6 +1,7 @@
 //! What a cut lets go. It is listed before the first write, since that takes memory.
 ghost use Rattle.std.specs.Prelude.{◌≡◌, ◌++◌, IfOk, OnOk};
 ghost use Rattle.volume_model.specs.Counts.{keeps_below, indices_of};
+ghost use Rattle.volume_model.specs.Volume.{inner};
 ghost use Rattle.volume_edits.specs.Zones.{blocks_cut, numbers_cut};
 ghost use Rattle.volume_edits.specs.code.Cutting.{keeps_listed};
 ghost use Rattle.volume_edits.specs.code.Freed.{gone_of};
@@ -64,7 +65,7 @@ fn numbers_cut(
     push_gone(&mut gone, double, keeps_double(zones, from))?;
     for group in 0..512 {
         let zone = zone_entry(blocks, double, group);
-        push_gone(&mut gone, zone, keeps_inner(zones, from, group.into()))?;
+        push_inner(&mut gone, zone, zones, from, group.into())?;
     }
     Ok(gone)
 }
@@ -75,6 +76,23 @@ fn push_gone(gone: &mut Vec<u16>, zone: u16, keep: bool) -> Result<(), NoMemory>
     ensures { OnOk result (gone.new.items ≡ gone.old.items ++ gone_of zone keep) }
 {
     if zone != 0 && !keep {
+        gone.push(zone)?;
+    }
+    Ok(())
+}
+
+// The same of zone of numbers `group` of the doubly indirect one. The list is walked only where it is there.
+#[tactic(auto, unfolding(crate::specs::code::Freed::gone_of))]
+fn push_inner(
+    gone: &mut Vec<u16>,
+    zone: u16,
+    zones: &[Mapped],
+    from: u32,
+    group: u32,
+) -> Result<(), NoMemory>
+    ensures { OnOk result (gone.new.items ≡ gone.old.items ++ gone_of zone (keeps_listed zones.now from (inner group))) }
+{
+    if zone != 0 && !keeps_inner(zones, from, group) {
         gone.push(zone)?;
     }
     Ok(())

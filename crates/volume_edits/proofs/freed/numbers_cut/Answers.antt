@@ -1,4 +1,4 @@
-use Rattle.std.proofs.Common.{ap, ◌∙◌, arith}
+use Rattle.std.proofs.Common.{ap, arith}
 use Rattle.volume_model.specs.Volume.{inner}
 use Rattle.volume_edits.specs.code.Cutting.{keeps_listed}
 use Rattle.volume_edits.proofs.FreedSteps.{first_numbers, next_number, all_numbers}
@@ -12,10 +12,10 @@ loop-group-init c =
 
 pub loop-group-preserved : goal.loop-group-preserved
 loop-group-preserved c =
-    next_number c.args.blocks.now c.args.inode.now (keeps_listed c.args.zones.now c.args.from) c.loop-group.gone.items c.push_gone-in-loop-group.new.gone.items
-    c.loop-group.group c.zone-double.result c.zone_entry-zone.result c.keeps_inner.result c.loop-group-test.true c.zone-double.ensures c.zone_entry-zone.ensures
-    (c.keeps_inner.ensures ∙ ap (λ k. keeps_listed c.args.zones.now c.args.from (inner k)) c.into.ensures)
-    c.in_ok-push_gone-3.ensures c.loop-group.invariant
+    next_number c.args.blocks.now c.args.inode.now (keeps_listed c.args.zones.now c.args.from) c.loop-group.gone.items c.push_inner.new.gone.items
+    c.loop-group.group c.zone-double.result c.zone_entry-zone.result (keeps_listed c.args.zones.now c.args.from (inner c.into.result)) c.loop-group-test.true c.zone-double.ensures c.zone_entry-zone.ensures
+    (ap (λ k. keeps_listed c.args.zones.now c.args.from (inner k)) c.into.ensures)
+    c.in_ok-push_inner.ensures c.loop-group.invariant
 
 pub returns : goal.returns
 returns c =
