@@ -67,6 +67,31 @@ def wraps(name, files, blocks, rounds):
     return name, "\n".join(text + ["events", "round %d" % rounds]) + "\n"
 
 
+def files(name, count, rounds):
+    """A volume script of one thread: so many `create` and `write` of 1,000 bytes, with an `fbarrier` behind every tenth file."""
+    text = ["volume inodes 4608 zones 16384 journal 1024", "limit 200000", "thread 1"]
+    for file in range(count):
+        text += ["create /f%d" % file, "write /f%d 0 1000 %02x" % (file, file % 256)]
+        if file % 10 == 9:
+            text.append("fbarrier /f%d" % file)
+    return name, "\n".join(text + ["events", "round %d" % rounds]) + "\n"
+
+
+def turns(name, count, rounds):
+    """A volume script that goes round a small log with few calls: five directories come and go again, so many times.
+
+    A transaction in which they come has 15 log blocks: a descriptor, the blocks of five directories and of their five
+    parents, both maps, the inodes and the commit block. One in which they go has 11: a descriptor, a revoke, the parents,
+    the maps, the inodes and the commit block.
+    """
+    text = ["volume inodes 64 zones 256 journal 128", "limit 200000", "thread 1"]
+    text += ["mkdir /d%d" % place for place in range(5)]
+    for turn in range(count):
+        text += ["mkdir /d%d/x" % place for place in range(5)] + ["fbarrier /d0"]
+        text += ["rmdir /d%d/x" % place for place in range(5)] + ["fbarrier /d0"]
+    return name, "\n".join(text + ["events", "round %d" % rounds]) + "\n"
+
+
 def put(i, kind):
     return "put %d %02x %s" % (i * 7 % BLOCKS, i % 256, kind)
 
@@ -86,9 +111,12 @@ def cases():
         yield blocks(scheduler + "-mixed", lambda i: put(i, ("free", "ordered", "barrier")[i % 3]), 3, header)
     for name, groups in (("100", 9), ("1000", 91), ("10000", 909)):
         yield volume("volume-%s-calls" % name, groups, 1000, 40 * groups)
+    yield files("volume-thousand-files", 1000, 16000)
     yield volume("volume-large-writes", 91, 32000, 20000)
     yield letters("volume-letters", 8, 200, 8000)
     yield wraps("volume-hundred-wraps", 32, 100, 45000)
+    for name, count in (("quarter", 123), ("half", 245), ("whole", 489)):
+        yield turns("volume-turns-" + name, count, 80 * count)
 
 
 def main():
