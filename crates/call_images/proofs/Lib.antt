@@ -1,1 +1,3 @@
 pub mod CutCalls
+pub mod ShownBlocks
+pub mod ShownFiles

@@ -1,5 +1,5 @@
 -- Sessions over calls as code has them, on images that were made, and the media that a power cut leaves of them.
-use Rattle.std.specs.Prelude.{ℕ, ◌+◌, ◌<◌, ◌≤◌, List, []}
+use Rattle.std.specs.Prelude.{◌≡◌, ℕ, ◌+◌, ◌<◌, ◌≤◌, ◌⊎◌, true, List, [], Some}
 use Rattle.minix_layout.specs.declared.division.Geometry.{Geometry}
 use Rattle.minix_layout.specs.Geometry.{IsSound}
 use Rattle.order_model.specs.Submission.{IsOrderClosed}
@@ -8,10 +8,14 @@ use Rattle.tx_running.specs.Open.{quota}
 use Rattle.tree_model.specs.declared.call.Call.{Call}
 use Rattle.tree_model.specs.declared.call.Reply.{Reply}
 use Rattle.tree_model.specs.Calls.{Tree}
+use Rattle.tree_model.specs.Histories.{block_at}
 use Rattle.volume_steps.specs.Now.{VolumeNow}
 use Rattle.crash_laws.specs.Found.{found}
 use Rattle.crash_laws.specs.Headline.{HoldsPrefix}
+use Rattle.crash_laws.specs.History.{History, last_write, IsLastChange}
+use Rattle.crash_laws.specs.PromiseRules.{IsSettled, IsSuperseded}
 use Rattle.crash_laws.specs.Session.{Session, Medium}
+use Rattle.crash_laws.specs.Volumes.{WalkEnd}
 use Rattle.host_machine.specs.State.{Host}
 use Rattle.host_machine.specs.laws.Contract.{noted_history, session}
 use Rattle.host_runs.specs.Runs.{Event}
@@ -60,3 +64,31 @@ abbrev pub KeepsFiles : Geometry → ℕ → List Transaction → Host VolumeNow
 KeepsFiles g journal closed h m disk =
     let s = opening_on g journal in
     HoldsPrefix (call_over s).program (noted_history (call_over s) (Stands s) h.history h.cuts) (submitted_by g journal closed h) m disk (kept_count g journal h m)
+
+-- ---- the tree that is shown
+
+-- what is told of the calls of a session: which blocks of files they wrote, and where its transactions end
+abbrev pub history_of : Geometry → ℕ → Host VolumeNow Call Reply → History WalkEnd
+history_of g journal h = noted_history (call_over (opening_on g journal)) (Stands (opening_on g journal)) h.history h.cuts
+
+-- The tree of a recovered volume, into whose births `to` leads, has this block of the file in a version that is no older
+-- than entry n.
+pub record IsShown (told : History WalkEnd) (tree : Tree) (to : ℕ → ℕ) (f i n : ℕ) : Type 0 where
+  pub version : ℕ
+  pub later : n ≤ version
+  pub shown : block_at tree (to f) i ≡ Some (told.content f i version)
+
+-- so, or an entry of the transactions that were kept removed the file or unmapped the block
+abbrev pub IsShownOrGone : History WalkEnd → ℕ → Tree → (ℕ → ℕ) → ℕ → ℕ → ℕ → Type 0
+IsShownOrGone told kept tree to f i n = IsShown told tree to f i n ⊎ IsSuperseded told f i n (told.cut kept)
+
+-- What such a tree shows of the files, where so many transactions were kept.
+pub record ShowsFiles (g : Geometry) (journal : ℕ) (closed : List Transaction) (h : Host VolumeNow Call Reply) (m : Medium) (tree : Tree) (to : ℕ → ℕ) : Type 0 where
+  -- each block that is mapped after them, in a version that is no older than the one which its file's last change asks for
+  pub latest : let told = history_of g journal h in
+      let kept = kept_count g journal h m in
+      (f i k : ℕ) → told.maps (told.cut kept) f i ≡ true → IsLastChange told f kept k → IsShown told tree to f i (last_write told f i (told.cut k))
+  -- what survived the power cut is shown, and what is not shown was superseded
+  pub settled : let told = history_of g journal h in
+      let kept = kept_count g journal h m in
+      (f i n : ℕ) → IsSettled (call_over (opening_on g journal)).program told (submitted_by g journal closed h) m kept f i n → IsShownOrGone told kept tree to f i n

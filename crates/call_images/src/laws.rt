@@ -13,7 +13,7 @@ ghost use Rattle.host_runs.specs.Runs.{Event};
 ghost use Rattle.mount_make.specs.Images.{divided, has_journal, fault_in_journal, mounted, recovered_image, image_tree};
 ghost use Rattle.mount_make.specs.Made.{new_journal};
 ghost use Rattle.session_recovery.specs.Found.{found_in};
-ghost use Rattle.call_images.specs.CallImages.{made_session, IsCut, submitted_by, kept_count, kept_tree, KeepsFiles};
+ghost use Rattle.call_images.specs.CallImages.{made_session, IsCut, submitted_by, kept_count, kept_tree, KeepsFiles, ShowsFiles};
 
 use call_sessions::sessions_of_calls_on_made_images;
 use session_recovery::{
@@ -67,6 +67,19 @@ pub fn cut_sessions_keep_files()
     sessions_of_calls_on_made_images();
     sessions_leave_no_fault();
     sessions_recover_their_files();
+}
+
+/// A law, which only calls laws: a tree of the recovered image that is alike to the one after the kept transactions has each
+/// block of a file in a version that is no older than its file's last change asks for, and all that survived the power cut.
+pub fn cut_sessions_show_files()
+    ensures { (g : Geometry) (journal limit : ℕ) (programs : List (List Call)) (events : List Event) (m : Medium) (closed : List Transaction) (tree : Tree) →
+        IsCut g journal limit programs events m → let h = made_session g journal limit programs events in
+        KeepsFiles g journal closed h m (disk_of (recovered_image m.image)) → image_tree m.image ≡ Ok tree →
+        (alike : AreAlike (kept_tree g journal h m) tree) → ShowsFiles g journal closed h m tree alike.to }
+{
+    sessions_of_calls_on_made_images();
+    cut_sessions_mount();
+    cut_sessions_keep_files();
 }
 
 /// A law, which only calls laws: the number that is counted by the journal's superblock and its log on the medium is that
