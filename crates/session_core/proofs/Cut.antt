@@ -15,7 +15,7 @@ use Rattle.crash_laws.specs.Session.{Medium}
 use Rattle.host_runs.specs.Runs.{Event}
 use Rattle.session_run.specs.Beginning.{WriteBytes}
 use Rattle.session_run.specs.End.{tree_behind}
-use Rattle.call_images.specs.CallImages.{found_in, IsCut, made_session, submitted_by, kept_count, kept_tree}
+use Rattle.call_images.specs.CallImages.{found_in, IsCut, made_session, submitted_by, kept_count, kept_tree, KeepsFiles, ShowsFiles}
 use Rattle.crash_laws.specs.Found.{IsFound}
 use Rattle.crash_laws.specs.Recovery.{IsRecovered}
 use Rattle.log_model.specs.Marks.{Transaction}
@@ -89,3 +89,18 @@ pub recovered_of : (s : SessionScript) (m : Medium) (events : List Event) (h : H
     → ((closed : List Transaction) → IsRecovered (submitted_by (geometry_of s) s.journal closed (made_session (geometry_of s) s.journal s.header.limit s.programs events)) m (disk_of (recovered_image m.image)))
     → (closed : List Transaction) → IsRecovered (submitted_by (geometry_of s) s.journal closed h) m (disk_of (recovered_image m.image))
 recovered_of s m events h host is closed = subst (λ x. IsRecovered (submitted_by (geometry_of s) s.journal closed x) m (disk_of (recovered_image m.image))) (sym host) (is closed)
+
+-- what the law of cut sessions says of trees that are shown, as of the host and the number of a report
+pub shown_of : (s : SessionScript) (m : Medium) (events : List Event) (h : Host VolumeNow Call Reply) (found : ℕ) → h ≡ made_session (geometry_of s) s.journal s.header.limit s.programs events
+    → found ≡ kept_count (geometry_of s) s.journal h m
+    → ((closed : List Transaction) (tree : Tree) → let x = made_session (geometry_of s) s.journal s.header.limit s.programs events in
+    KeepsFiles (geometry_of s) s.journal closed x m (disk_of (recovered_image m.image)) → image_tree m.image ≡ Ok tree →
+    (alike : AreAlike (kept_tree (geometry_of s) s.journal x m) tree) → ShowsFiles (geometry_of s) s.journal closed x m tree alike.to)
+    → (closed : List Transaction) → KeepsFiles (geometry_of s) s.journal closed h m (disk_of (recovered_image m.image)) → (tree : Tree) → image_tree m.image ≡ Ok tree
+    → (alike : AreAlike (tree_behind (opening_of s) h found) tree) → ShowsFiles (geometry_of s) s.journal closed h m tree alike.to
+shown_of s m events h found host count law closed files tree is =
+    let g = geometry_of s in
+    let shows : (alike : AreAlike (kept_tree g s.journal h m) tree) → ShowsFiles g s.journal closed h m tree alike.to =
+    subst (λ x. KeepsFiles g s.journal closed x m (disk_of (recovered_image m.image)) → (alike : AreAlike (kept_tree g s.journal x m) tree) → ShowsFiles g s.journal closed x m tree alike.to) (sym host)
+    (λ kept. law closed tree kept is) files in
+    subst (λ k. (alike : AreAlike (tree_behind (opening_of s) h k) tree) → ShowsFiles g s.journal closed h m tree alike.to) (sym count) shows

@@ -1,5 +1,5 @@
 -- The sentences of a session, from the laws of its host and of its power cut.
-use Rattle.std.proofs.Common.{take, ◌≡◌, ℕ, ◌++◌, false, List, [], refl, sym, subst}
+use Rattle.std.proofs.Common.{take, ◌≡◌, ℕ, ◌++◌, true, false, List, [], Ok, refl, sym, subst}
 use Rattle.blk_base.specs.Members.{In, In-take, In-append_left}
 use Rattle.order_model.specs.declared.completion.Completion.{Completion}
 use Rattle.order_model.specs.Carrying.{IsPrefixOf}
@@ -7,17 +7,24 @@ use Rattle.log_model.specs.Marks.{Transaction}
 use Rattle.device_epochs.specs.Device.{seen}
 use Rattle.tree_model.specs.declared.call.Call.{Call}
 use Rattle.tree_model.specs.declared.call.Reply.{Reply}
+use Rattle.tree_model.specs.Calls.{Tree}
+use Rattle.tree_model.specs.Trees.{AreAlike}
 use Rattle.volume_ops.specs.Volume.{disk_of}
 use Rattle.volume_steps.specs.Now.{VolumeNow, room_of}
 use Rattle.volume_steps.specs.Plain.{is_rename}
-use Rattle.mount_make.specs.Images.{recovered_image}
+use Rattle.mount_make.specs.Images.{recovered_image, image_tree}
 use Rattle.crash_laws.specs.Found.{IsFound}
+use Rattle.crash_laws.specs.History.{last_write, IsLastChange}
 use Rattle.crash_laws.specs.LegalHistory.{IsLegal}
 use Rattle.crash_laws.specs.Recovery.{IsRecovered}
 use Rattle.flush_actor.specs.Kinds.{is_data}
-use Rattle.host_machine.specs.State.{Host}
+use Rattle.host_machine.specs.State.{Begun, Host}
+use Rattle.host_runs.specs.Sentences.{IsAllSettled}
 use Rattle.host_volume.specs.Calls.{kind_of}
-use Rattle.call_images.specs.CallImages.{submitted_by, kept_count}
+use Rattle.host_volume.specs.Sessions.{Stands}
+use Rattle.session_run.specs.Beginning.{call_over}
+use Rattle.session_run.specs.End.{tree_behind}
+use Rattle.call_images.specs.CallImages.{submitted_by, kept_count, KeepsFiles, ShowsFiles, IsShown}
 use Rattle.session_promises.specs.Answers.{AnsweredAt, HasOkCause, KeepsPromises}
 use Rattle.session_promises.specs.Causes.{HaveCauses}
 use Rattle.session_promises.specs.Legal.{events_in, program_of, FollowsTree}
@@ -25,7 +32,7 @@ use Rattle.session_promises.specs.Trees.{HaveNoRenames}
 use Rattle.session_grammar.specs.declared.session_script.SessionScript.{SessionScript}
 use Rattle.session_grammar.specs.WellFormed.{IsWellFormed, IsBuilt}
 use Rattle.session_core.specs.Core.{geometry_of, opening_of, core}
-use Rattle.session_core.specs.Headline.{medium_of, Headline}
+use Rattle.session_core.specs.Headline.{medium_of, told_of, IsAllShown, Headline}
 use Rattle.session_core.specs.Report.{ReportKeepsOrder, HasPrefix}
 use Rattle.session_core.specs.declared.report.SessionReport.{SessionReport}
 use Rattle.session_core.proofs.Made.{of_program}
@@ -66,12 +73,21 @@ pub record HostFacts (s : SessionScript) (h : Host VolumeNow Call Reply) : Type 
 took : (n : ℕ) (taken sent : List Completion) (c : Completion) → taken ≡ take n sent → In c taken → In c sent
 took n taken sent c front here = In-take n sent c (subst (In c) front here)
 
+-- what the recovered disk has of the files is shown by each tree of the image that is alike to the one after the calls of the
+-- transactions that were found
+abbrev pub IsShownAs : SessionScript → SessionReport → List Transaction → Type 0
+IsShownAs s r closed =
+    KeepsFiles (geometry_of s) s.journal closed (core s).host (medium_of r) (disk_of (recovered_image r.cut.image)) → (tree : Tree) → image_tree r.cut.image ≡ Ok tree →
+    (alike : AreAlike (tree_behind (opening_of s) (core s).host r.found) tree) → ShowsFiles (geometry_of s) s.journal closed (core s).host (medium_of r) tree alike.to
+
 pub headline_of : (s : SessionScript) (r : SessionReport) → HostFacts s (core s).host → ReportKeepsOrder s r → IsPrefixOf (core s).host.journal.flush.taken (seen (core s).dev).sent
     → r.cut.trace.sent.items ≡ (seen (core s).dev).sent → r.found ≡ kept_count (geometry_of s) s.journal (core s).host (medium_of r)
     → IsFound (submitted_by (geometry_of s) s.journal [] (core s).host) (medium_of r) (kept_count (geometry_of s) s.journal (core s).host (medium_of r)) → HasPrefix s r
-    → ((closed : List Transaction) → IsRecovered (submitted_by (geometry_of s) s.journal closed (core s).host) (medium_of r) (disk_of (recovered_image r.cut.image))) → Headline s r
-headline_of s r facts order taken sent count found prefix recovered =
+    → ((closed : List Transaction) → IsRecovered (submitted_by (geometry_of s) s.journal closed (core s).host) (medium_of r) (disk_of (recovered_image r.cut.image)))
+    → ((closed : List Transaction) → IsShownAs s r closed) → Headline s r
+headline_of s r facts order taken sent count found prefix recovered shows =
     let p = facts.promises in
+    let files = p.kept.sentences.prefix (medium_of r) (disk_of (recovered_image r.cut.image)) order.closed (recovered p.kept.closed) in
     record {
       closed = p.kept.closed;
       notes = p.kept.rules.order.fits;
@@ -82,7 +98,8 @@ headline_of s r facts order taken sent count found prefix recovered =
       transactions = subst (λ n. IsFound (submitted_by (geometry_of s) s.journal [] (core s).host) (medium_of r) n) (sym count) found;
       counted = count;
       prefix = prefix;
-      files = p.kept.sentences.prefix (medium_of r) (disk_of (recovered_image r.cut.image)) order.closed (recovered p.kept.closed);
+      files = files;
+      shown = shows p.kept.closed files prefix.tree prefix.found prefix.alike;
       answered = p.answered;
       barriers = λ e t c ok kind later. p.barriers (medium_of r) e t c ok kind order.closed later;
       syncs = λ e t c ok kind. p.syncs (medium_of r) (r.cut.trace.sent.items ++ (seen (core s).dev).waiting) e t c ok kind order.closed order.flushed
@@ -91,3 +108,21 @@ headline_of s r facts order taken sent count found prefix recovered =
       ok_causes = facts.ok_causes;
       flushes = p.kept.flushes;
     }
+
+-- ---- what the tree shows of what a call covers
+
+-- what survived or was superseded is shown or was superseded, with so many transactions as were found
+pub all_shown : (s : SessionScript) (r : SessionReport) (is : Headline s r) (b : Begun)
+    → IsAllSettled (call_over (opening_of s)) (Stands (opening_of s)) (core s).host is.closed (medium_of r) b → IsAllShown s r.found is.prefix.tree is.prefix.alike.to b
+all_shown s r is b x = subst (λ n. IsAllShown s n is.prefix.tree is.prefix.alike.to b) (sym is.counted) (record {
+  pages = λ f i n covers. is.shown.settled f i n (x.pages f i n covers);
+  metadata = x.metadata;
+})
+
+pub latest_shown : (s : SessionScript) (r : SessionReport) (is : Headline s r) (f i k : ℕ) → (told_of s).maps ((told_of s).cut r.found) f i ≡ true
+    → IsLastChange (told_of s) f r.found k → IsShown (told_of s) is.prefix.tree is.prefix.alike.to f i (last_write (told_of s) f i ((told_of s).cut k))
+latest_shown s r is =
+    subst
+    (λ n. (f i k : ℕ) → (told_of s).maps ((told_of s).cut n) f i ≡ true → IsLastChange (told_of s) f n k →
+    IsShown (told_of s) is.prefix.tree is.prefix.alike.to f i (last_write (told_of s) f i ((told_of s).cut k)))
+    (sym is.counted) is.shown.latest

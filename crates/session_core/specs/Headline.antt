@@ -4,24 +4,31 @@ use Rattle.order_model.specs.Carrying.{IsPrefixOf}
 use Rattle.log_model.specs.Marks.{Transaction}
 use Rattle.device_epochs.specs.Device.{seen}
 use Rattle.tree_model.specs.declared.call.Call.{Call}
+use Rattle.tree_model.specs.Calls.{Tree}
 use Rattle.volume_ops.specs.Volume.{disk_of}
 use Rattle.volume_steps.specs.Now.{room_of}
 use Rattle.mount_make.specs.Images.{recovered_image}
 use Rattle.crash_laws.specs.Found.{IsFound}
 use Rattle.crash_laws.specs.LegalHistory.{IsLegal}
-use Rattle.crash_laws.specs.PromiseRules.{IsLaterKept}
+pub use Rattle.crash_laws.specs.History.{History, last_write, IsLastChange}
+use Rattle.crash_laws.specs.PromiseRules.{Covers, CoversEntry, IsLaterKept}
 use Rattle.crash_laws.specs.Rules.{FitsNotes}
-use Rattle.crash_laws.specs.Session.{Medium}
-use Rattle.flush_actor.specs.Kinds.{is_data, is_durable}
+pub use Rattle.crash_laws.specs.Session.{Medium}
+use Rattle.crash_laws.specs.Volumes.{WalkEnd}
+pub use Rattle.flush_actor.specs.Kinds.{is_durable}
+use Rattle.flush_actor.specs.Kinds.{is_data}
 use Rattle.flush_actor.specs.Part.{is_flush_note}
-use Rattle.host_machine.specs.laws.Contract.{noted_history}
+use Rattle.host_machine.specs.State.{Begun}
+use Rattle.host_runs.specs.Promises.{call_of}
 use Rattle.host_runs.specs.Sentences.{IsAllSettled}
 use Rattle.host_runs.specs.laws.FlushFacts.{count, is_begin}
-use Rattle.host_volume.specs.Calls.{kind_of}
+pub use Rattle.host_volume.specs.Calls.{kind_of}
 use Rattle.host_volume.specs.Sessions.{Stands}
 use Rattle.session_run.specs.Beginning.{call_over}
-use Rattle.call_images.specs.CallImages.{KeepsFiles, submitted_by, kept_count}
-use Rattle.session_promises.specs.Answers.{AnsweredAt, HasOkCause, WasAnswered}
+use Rattle.call_images.specs.CallImages.{KeepsFiles, ShowsFiles, IsShownOrGone, submitted_by, kept_count, history_of}
+pub use Rattle.call_images.specs.CallImages.{IsShown}
+pub use Rattle.session_promises.specs.Answers.{AnsweredAt, WasAnswered}
+use Rattle.session_promises.specs.Answers.{HasOkCause}
 use Rattle.session_promises.specs.Causes.{HaveCauses}
 use Rattle.session_promises.specs.Legal.{events_in, program_of, FollowsTree}
 use Rattle.session_grammar.specs.declared.session_script.SessionScript.{SessionScript}
@@ -33,11 +40,22 @@ use Rattle.session_core.specs.declared.report.SessionReport.{SessionReport}
 abbrev pub medium_of : SessionReport → Medium
 medium_of r = record { image = r.cut.image; origins = r.cut.origins }
 
--- a write made after entry e survived the power cut
-abbrev pub IsLaterSurvived : SessionScript → List Transaction → SessionReport → ℕ → Type 0
-IsLaterSurvived s closed r e =
-    let h = (core s).host in
-    IsLaterKept (noted_history (call_over (opening_of s)) (Stands (opening_of s)) h.history h.cuts) (submitted_by (geometry_of s) s.journal closed h) (medium_of r) (kept_count (geometry_of s) s.journal h (medium_of r)) e
+-- what is told of the calls of a script's session, and how many of its transactions a medium has
+abbrev pub told_of : SessionScript → History WalkEnd
+told_of s = history_of (geometry_of s) s.journal (core s).host
+
+abbrev pub kept_on : SessionScript → Medium → ℕ
+kept_on s m = kept_count (geometry_of s) s.journal (core s).host m
+
+-- a write made after entry e survived the power cut that left this medium
+abbrev pub IsLaterSurvived : SessionScript → Medium → ℕ → Type 0
+IsLaterSurvived s m e = IsLaterKept (told_of s) (submitted_by (geometry_of s) s.journal [] (core s).host) m (kept_on s m) e
+
+-- A tree, into whose births `to` leads, shows all blocks that a barrier or sync call covers, but for those that the kept
+-- transactions superseded; and the metadata that the call covers is of these transactions.
+pub record IsAllShown (s : SessionScript) (kept : ℕ) (tree : Tree) (to : ℕ → ℕ) (b : Begun) : Type 0 where
+  pub pages : (f i n : ℕ) → Covers (told_of s) (call_of b) f i n → IsShownOrGone (told_of s) kept tree to f i n
+  pub metadata : (n : ℕ) → CoversEntry (call_of b) n → n ≤ (told_of s).cut kept
 
 -- The sentences, over the script's session and what is left of it. `closed` is what the closed transactions hold, one list
 -- for all of them.
@@ -59,11 +77,13 @@ pub record Headline (s : SessionScript) (r : SessionReport) : Type 0 where
   -- The recovered disk has the metadata after them, and each block of a file in a version that is no older than the one
   -- which the last change of its file asks for.
   pub files : KeepsFiles (geometry_of s) s.journal closed (core s).host (medium_of r) (disk_of (recovered_image r.cut.image))
+  -- The tree that was recovered shows it: each block of a file in such a version, and all that survived.
+  pub shown : ShowsFiles (geometry_of s) s.journal closed (core s).host (medium_of r) prefix.tree prefix.alike.to
   -- A barrier or sync call that was answered Ok: where a write made after a barrier call survived, all that the call covers
   -- survived or was superseded; all that a sync call covers did so in any case. It survives at the place where the recovered
-  -- disk has the block, by `files`.
+  -- disk has the block, by `files`, and so does the tree, by `shown`.
   pub answered : (e t : ℕ) (c : Call) → AnsweredAt (core s).host e t c → WasAnswered (opening_of s) (core s).host e t c
-  pub barriers : (e t : ℕ) (c : Call) (ok : AnsweredAt (core s).host e t c) → is_durable (kind_of c) ≡ false → IsLaterSurvived s closed r (e + 1)
+  pub barriers : (e t : ℕ) (c : Call) (ok : AnsweredAt (core s).host e t c) → is_durable (kind_of c) ≡ false → IsLaterSurvived s (medium_of r) (e + 1)
       → IsAllSettled (call_over (opening_of s)) (Stands (opening_of s)) (core s).host closed (medium_of r) (answered e t c ok).begun
   pub syncs : (e t : ℕ) (c : Call) (ok : AnsweredAt (core s).host e t c) → is_durable (kind_of c) ≡ true
       → IsAllSettled (call_over (opening_of s)) (Stands (opening_of s)) (core s).host closed (medium_of r) (answered e t c ok).begun

@@ -14,7 +14,7 @@ use barrier_reassign::Scheduler;
 use blk_base::NoMemory;
 use call_images::{
     Remounted, cut_sessions_have_the_tree_of_a_prefix, cut_sessions_keep_files, cut_sessions_mount,
-    cut_sessions_tell_how_many, remount,
+    cut_sessions_show_files, cut_sessions_tell_how_many, remount,
 };
 use device_epochs::{DeviceSetup, EpochDevice};
 use epoch_sched::Sched;
@@ -147,6 +147,7 @@ pub fn core_run(alloc: Global, script: &SessionScript) -> Result<SessionReport, 
     cut_sessions_have_the_tree_of_a_prefix();
     cut_sessions_tell_how_many();
     cut_sessions_keep_files();
+    cut_sessions_show_files();
     sessions_of_calls_on_made_images();
     answered_calls_keep_their_promises();
     calls_end_for_a_cause();

@@ -5,7 +5,7 @@ use Rattle.session_run.specs.Beginning.{made_now, made_ring}
 use Rattle.session_core.specs.Core.{geometry_of, opening_of, core}
 use Rattle.call_images.specs.CallImages.{kept_count}
 use Rattle.session_core.proofs.Made.{script_writes_bytes, sound_of}
-use Rattle.session_core.proofs.Cut.{cut_medium, cut_is, mounts_copy, base_of, journal_of, prefix_is, found_count, kept_of, recovered_of}
+use Rattle.session_core.proofs.Cut.{cut_medium, cut_is, mounts_copy, base_of, journal_of, prefix_is, found_count, kept_of, recovered_of, shown_of}
 use Rattle.session_core.proofs.Headlines.{HostFacts, headline_of, script_has_no_renames}
 use Rattle.session_core.proofs.running.core_run.Goals as goal
 
@@ -80,3 +80,4 @@ returns-clause-headline c =
     (kept_of s m b.events (core s).host b.host (c.cut_sessions_have_the_tree_of_a_prefix.ensures.transactions g s.journal n ps b.events m cut))
     (prefix_is s _ m _ b.host refl (count ∙ ap (λ h. kept_count g s.journal h m) b.host) (c.cut_sessions_have_the_tree_of_a_prefix.ensures.tree g s.journal n ps b.events m cut))
     (recovered_of s m b.events (core s).host b.host (λ closed. c.cut_sessions_keep_files.ensures.recovered g s.journal n ps b.events m closed cut))
+    (shown_of s m b.events (core s).host c.in_ok-attempts.field-0.found b.host count (λ closed tree kept is alike. c.cut_sessions_show_files.ensures g s.journal n ps b.events m closed tree cut kept is alike))
