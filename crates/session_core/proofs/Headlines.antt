@@ -34,6 +34,7 @@ use Rattle.session_grammar.specs.WellFormed.{IsWellFormed, IsBuilt}
 use Rattle.session_core.specs.Core.{geometry_of, opening_of, core}
 use Rattle.session_core.specs.Headline.{medium_of, told_of, IsAllShown, Headline}
 use Rattle.session_core.specs.Report.{ReportKeepsOrder, HasPrefix}
+use Rattle.session_core.specs.code.Ends.{EndFits}
 use Rattle.session_core.specs.declared.report.SessionReport.{SessionReport}
 use Rattle.session_core.proofs.Made.{of_program}
 use Rattle.tree_model.specs.declared.call.Call.TheVariants as calls
@@ -80,19 +81,21 @@ IsShownAs s r closed =
     KeepsFiles (geometry_of s) s.journal closed (core s).host (medium_of r) (disk_of (recovered_image r.cut.image)) → (tree : Tree) → image_tree r.cut.image ≡ Ok tree →
     (alike : AreAlike (tree_behind (opening_of s) (core s).host r.found) tree) → ShowsFiles (geometry_of s) s.journal closed (core s).host (medium_of r) tree alike.to
 
-pub headline_of : (s : SessionScript) (r : SessionReport) → HostFacts s (core s).host → ReportKeepsOrder s r → IsPrefixOf (core s).host.journal.flush.taken (seen (core s).dev).sent
+pub headline_of : (s : SessionScript) (r : SessionReport) → HostFacts s (core s).host → ReportKeepsOrder s r → EndFits (core s)
     → r.cut.trace.sent.items ≡ (seen (core s).dev).sent → r.found ≡ kept_count (geometry_of s) s.journal (core s).host (medium_of r)
     → IsFound (submitted_by (geometry_of s) s.journal [] (core s).host) (medium_of r) (kept_count (geometry_of s) s.journal (core s).host (medium_of r)) → HasPrefix s r
     → ((closed : List Transaction) → IsRecovered (submitted_by (geometry_of s) s.journal closed (core s).host) (medium_of r) (disk_of (recovered_image r.cut.image)))
     → ((closed : List Transaction) → IsShownAs s r closed) → Headline s r
-headline_of s r facts order taken sent count found prefix recovered shows =
+headline_of s r facts order fits sent count found prefix recovered shows =
     let p = facts.promises in
     let files = p.kept.sentences.prefix (medium_of r) (disk_of (recovered_image r.cut.image)) order.closed (recovered p.kept.closed) in
     record {
       closed = p.kept.closed;
       notes = p.kept.rules.order.fits;
       order = order;
-      taken = taken;
+      accepted = fits.accepted;
+      received = fits.received;
+      taken = fits.taken;
       follows = facts.follows;
       legal = facts.legal;
       transactions = subst (λ n. IsFound (submitted_by (geometry_of s) s.journal [] (core s).host) (medium_of r) n) (sym count) found;
@@ -103,7 +106,7 @@ headline_of s r facts order taken sent count found prefix recovered shows =
       answered = p.answered;
       barriers = λ e t c ok kind later. p.barriers (medium_of r) e t c ok kind order.closed later;
       syncs = λ e t c ok kind. p.syncs (medium_of r) (r.cut.trace.sent.items ++ (seen (core s).dev).waiting) e t c ok kind order.closed order.flushed
-          (λ x here. In-append_left r.cut.trace.sent.items (seen (core s).dev).waiting x (subst (In x) (sym sent) (took taken.0 (core s).host.journal.flush.taken (seen (core s).dev).sent x taken.1 here)));
+          (λ x here. In-append_left r.cut.trace.sent.items (seen (core s).dev).waiting x (subst (In x) (sym sent) (took fits.taken.0 (core s).host.journal.flush.taken (seen (core s).dev).sent x fits.taken.1 here)));
       causes = facts.causes;
       ok_causes = facts.ok_causes;
       flushes = p.kept.flushes;

@@ -28,7 +28,7 @@ use Rattle.session_run.specs.Beginning.{HostNow, WriteBytes, call_over, IsMadeFo
 use Rattle.session_run.specs.End.{IsEndOf, EndKeepsOrder}
 use Rattle.session_run.specs.declared.session.SessionEnd.{SessionEnd}
 use Rattle.session_core.specs.Core.{geometry_of, opening_of, start_of, device_for, ended}
-use Rattle.session_core.specs.code.Ends.{IsNewScheduler, session_on, EndsIn, KeepsTheOrder, IsBehind, TookWhatWasSent}
+use Rattle.session_core.specs.code.Ends.{IsNewScheduler, session_on, EndsIn, KeepsTheOrder, IsBehind, EndFits}
 
 -- ---- its calls
 
@@ -95,17 +95,26 @@ programs_short [] n short i = omega arith
 programs_short (p ∷ ps) n short zero = short p (inl refl)
 programs_short (p ∷ ps) n short (suc i) = programs_short ps n (λ q there. short q (inr there)) i
 
--- the completions that its host took are the first that were sent
-pub took_front : {X : Type 0} (xs ys zs : List X) → xs ≡ take (length xs) (xs ++ ys ++ zs)
-took_front [] ys zs = refl
-took_front (x ∷ xs) ys zs = ap (λ r. x ∷ r) (took_front xs ys zs)
+-- ---- its parts fit
 
-pub took_sent : {K X E : Type 0} (k : SchedSteps K) (s : SessionScript) (sched : K) (dev : DeviceState) (r : Result X E) → dev ≡ device_for s
-    → SessionFits k epoch_machine (core_session (opening_of s) k epoch_machine (start_of s) sched dev s.events) → IfOk r (λ x. TookWhatWasSent (ended k (session_on s k sched)))
-took_sent k s sched dev (Err x) e fits = tt
-took_sent k s sched dev (Ok x) e fits =
+two_fronts : {X : Type 0} (xs ys : List X) → xs ≡ take (length xs) (xs ++ ys)
+two_fronts [] ys = refl
+two_fronts (x ∷ xs) ys = ap (λ r. x ∷ r) (two_fronts xs ys)
+
+three_fronts : {X : Type 0} (xs ys zs : List X) → xs ≡ take (length xs) (xs ++ ys ++ zs)
+three_fronts [] ys zs = refl
+three_fronts (x ∷ xs) ys zs = ap (λ r. x ∷ r) (three_fronts xs ys zs)
+
+pub end_fits : {K X E : Type 0} (k : SchedSteps K) (s : SessionScript) (sched : K) (dev : DeviceState) (r : Result X E) → dev ≡ device_for s
+    → SessionFits k epoch_machine (core_session (opening_of s) k epoch_machine (start_of s) sched dev s.events) → IfOk r (λ x. EndFits (ended k (session_on s k sched)))
+end_fits k s sched dev (Err x) e fits = tt
+end_fits k s sched dev (Ok x) e fits =
     let at = core_session (opening_of s) k epoch_machine (start_of s) sched dev s.events in
+    let accepted = (k.seen at.sched).accepted in
+    let took = (seen at.dev).took in
     let taken = at.host.journal.flush.taken in
-    let sent = (seen at.dev).sent in
-    let front : IsPrefixOf taken sent = (length taken, took_front taken at.completions (option_to_list at.kept) ∙ ap (take (length taken)) (sym fits.completions)) in
-    subst (λ (d : DeviceState). TookWhatWasSent (ended k (core_session (opening_of s) k epoch_machine (start_of s) sched d s.events))) e (record { front = front })
+    subst (λ (d : DeviceState). EndFits (ended k (core_session (opening_of s) k epoch_machine (start_of s) sched d s.events))) e (record {
+      accepted = (length accepted, two_fronts accepted at.queues.submission ∙ ap (take (length accepted)) fits.requests.submitted);
+      received = (length took, three_fronts took at.queues.dispatched (option_to_list at.queues.kept) ∙ ap (take (length took)) (sym fits.requests.sent));
+      taken = (length taken, three_fronts taken at.completions (option_to_list at.kept) ∙ ap (take (length taken)) (sym fits.completions));
+    })

@@ -62,9 +62,12 @@ pub record IsAllShown (s : SessionScript) (kept : ℕ) (tree : Tree) (to : ℕ �
 pub record Headline (s : SessionScript) (r : SessionReport) : Type 0 where
   pub closed : List Transaction
   -- Each request goes where its note says. The medium is order-closed for what was submitted, and where a flush completed,
-  -- all before it is kept. The completions that the host took are the first that the device sent.
+  -- all before it is kept. What the scheduler accepted are the first requests that were submitted, what the device took are the
+  -- first commands that were sent out, and the completions that the host took are the first that the device sent.
   pub notes : FitsNotes (submitted_by (geometry_of s) s.journal closed (core s).host)
   pub order : ReportKeepsOrder s r
+  pub accepted : IsPrefixOf (core s).sched.accepted (core s).host.journal.flush.requests
+  pub received : IsPrefixOf (seen (core s).dev).took (core s).sched.sent_out
   pub taken : IsPrefixOf (core s).host.journal.flush.taken (seen (core s).dev).sent
   -- The history goes by the programs and by the tree of calls.
   pub follows : FollowsTree (opening_of s) s.programs (core s).host

@@ -7,7 +7,7 @@ ghost use Rattle.session_run.specs.Beginning.{IsMadeFor};
 ghost use Rattle.session_core.specs.Core.{core, device_for, ended, geometry_of, opening_of, start_of, standings_of};
 ghost use Rattle.session_core.specs.Headline.{Headline};
 ghost use Rattle.session_core.specs.Report.{IsReportOf};
-ghost use Rattle.session_core.specs.code.Ends.{IsNewScheduler, session_on, EndsIn, KeepsTheOrder, IsBehind, TookWhatWasSent};
+ghost use Rattle.session_core.specs.code.Ends.{IsNewScheduler, session_on, EndsIn, KeepsTheOrder, IsBehind, EndFits};
 
 use crate::report::SessionReport;
 use barrier_reassign::Scheduler;
@@ -105,7 +105,7 @@ fn run_on<S: Scheduler + Drop>(
     ensures end { IfOk result (EndsIn (ended S.steps (session_on script.now S.steps (S.state sched)))) }
     ensures order { IfOk result (KeepsTheOrder script.now (ended S.steps (session_on script.now S.steps (S.state sched)))) }
     ensures behind { IfOk result (λ _. IsBehind script.now (ended S.steps (session_on script.now S.steps (S.state sched)))) }
-    ensures taken { IfOk result (λ _. TookWhatWasSent (ended S.steps (session_on script.now S.steps (S.state sched)))) }
+    ensures fits { IfOk result (λ _. EndFits (ended S.steps (session_on script.now S.steps (S.state sched)))) }
     ensures calls { IfOk result (λ r. r.host.programs ≡ script.now.programs) }
 {
     let (host, dev) = open_for(alloc, script, &sched)?;
@@ -123,7 +123,7 @@ fn run(alloc: Global, script: &SessionScript) -> Result<SessionEnd, NoMemory>
     ensures end { IfOk result (EndsIn (core script.now)) }
     ensures order { IfOk result (KeepsTheOrder script.now (core script.now)) }
     ensures behind { IfOk result (λ _. IsBehind script.now (core script.now)) }
-    ensures taken { IfOk result (λ _. TookWhatWasSent (core script.now)) }
+    ensures fits { IfOk result (λ _. EndFits (core script.now)) }
     ensures calls { IfOk result (λ r. r.host.programs ≡ script.now.programs) }
 {
     let limit = script.header.limit;

@@ -34,9 +34,12 @@ pub record EndsIn (end : EndState) (r : SessionEnd) : Type 0 where
 abbrev pub KeepsTheOrder : SessionScript → EndState → SessionEnd → Type 0
 KeepsTheOrder s end r = KeepsOrder (opening_of s).image end.host.journal.flush.requests r.cut.image r.cut.origins (r.cut.trace.sent.items ++ (seen end.dev).waiting)
 
--- the completions that its host took are the first that its device sent
-pub record TookWhatWasSent (end : EndState) : Type 0 where
-  pub front : IsPrefixOf end.host.journal.flush.taken (seen end.dev).sent
+-- How its parts fit: what was accepted are the first requests that its host submitted, what the device took are the first commands
+-- that were sent out, and the completions that the host took are the first that the device sent.
+pub record EndFits (end : EndState) : Type 0 where
+  pub accepted : IsPrefixOf end.sched.accepted end.host.journal.flush.requests
+  pub received : IsPrefixOf (seen end.dev).took end.sched.sent_out
+  pub taken : IsPrefixOf end.host.journal.flush.taken (seen end.dev).sent
 
 -- its host took these steps
 pub record IsBehind (s : SessionScript) (end : EndState) : Type 0 where

@@ -76,7 +76,7 @@ returns-clause-headline c =
     }) in
     let count = found_count s c.in_ok-attempts.field-0.found m c.in_ok-image.image c.into.result b.events (core s).host b.host c.in_ok-image.ensures c.into.ensures c.in_ok-attempts.ensures.found
     (c.cut_sessions_tell_how_many.ensures g s.journal n ps b.events m cut) in
-    headline_of s _ facts c.in_ok-host.ensures.order c.in_ok-host.ensures.taken.front c.in_ok-host.ensures.end.trace.sent count
+    headline_of s _ facts c.in_ok-host.ensures.order c.in_ok-host.ensures.fits c.in_ok-host.ensures.end.trace.sent count
     (kept_of s m b.events (core s).host b.host (c.cut_sessions_have_the_tree_of_a_prefix.ensures.transactions g s.journal n ps b.events m cut))
     (prefix_is s _ m _ b.host refl (count ∙ ap (λ h. kept_count g s.journal h m) b.host) (c.cut_sessions_have_the_tree_of_a_prefix.ensures.tree g s.journal n ps b.events m cut))
     (recovered_of s m b.events (core s).host b.host (λ closed. c.cut_sessions_keep_files.ensures.recovered g s.journal n ps b.events m closed cut))

@@ -1,7 +1,7 @@
 use Rattle.std.proofs.Common.{length}
 use Rattle.session_machine.specs.Machine.{opened_session, events_of}
 use Rattle.session_core.specs.Core.{opening_of, start_of, device_for}
-use Rattle.session_core.proofs.Made.{with_threads, ends_in, keeps_order, behind_of, took_sent}
+use Rattle.session_core.proofs.Made.{with_threads, ends_in, keeps_order, behind_of, end_fits}
 use Rattle.session_core.proofs.running.run_on.Goals as goal
 
 pub run_session-requires : goal.run_session-requires
@@ -32,14 +32,14 @@ returns-clause-behind gg c =
     behind_of k.steps s (k.state c.args.sched) c.run_session.result
     (c.hosts_of_sessions_take_their_steps.ensures.steps (opening_of s) (opened_session (opening_of s) (start_of s) (k.state c.args.sched) (device_for s)) (events_of (length s.programs) s.events))
 
-pub returns-clause-taken : goal.returns-clause-taken
-returns-clause-taken gg c =
+pub returns-clause-fits : goal.returns-clause-fits
+returns-clause-fits gg c =
     let s = c.args.script.now in
     let k = gg.S.Scheduler in
     let sched = k.state c.args.sched in
     let dev = c.in_ok-host.dev in
     let from = c.in_ok-host.ensures.made.begins in
-    took_sent k.steps s sched dev c.run_session.result c.in_ok-host.ensures.device
+    end_fits k.steps s sched dev c.run_session.result c.in_ok-host.ensures.device
     (c.parts_of_sessions_fit.ensures.fit (opening_of s) (start_of s) sched dev (events_of (length s.programs) s.events)
     from.written from.opened from.journal from.bytes from.sched_is from.dev_is from.starts)
 
