@@ -39,5 +39,6 @@ pub fn made_volume(
     sessions_on_made_images_keep_rules_and_trees();
     let mut parts = new_volume(alloc, *g)?;
     parts.blocks = front(alloc, image, g.zones.into())?;
-    Ok(PlainVolume::of(parts))
+    let volume = PlainVolume::of(alloc, parts)?;
+    Ok(volume)
 }

@@ -28,6 +28,10 @@ pub done_plain : (v : VolumeNow) (n tx : ℕ) (c : Call) (d : Done) → outcome 
 unfolding called
 done_plain v n tx c d done plain = subst (λ (x : Called). IsPlainNow x.change.volume) (ap (called_by v n tx c) done) plain
 
+pub done_change : (v : VolumeNow) (n tx : ℕ) (c : Call) (d : Done) → outcome (room_of v.geometry) (tree_of_now v) n c ≡ Ok d → (called v n tx c).change ≡ changed v n tx c
+unfolding called
+done_change v n tx c d done = ap (λ r. (called_by v n tx c r).change) done
+
 -- ---- the site of a path
 
 pub record Parted (tree : Tree) (path : List ℕ) (place : Place) : Type 0 where

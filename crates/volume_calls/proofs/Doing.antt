@@ -1,5 +1,6 @@
 -- Calls on names and bytes, done in the parts of a volume.
-use Rattle.std.proofs.Common.{◌≡◌, ℕ, List, length, Ok, Err, IsOk, sym, ap, subst, ◌∙◌}
+use Rattle.std.proofs.Common.{◌≡◌, ℕ, Bool, List, length, Some, None, option_map, Ok, Err, IsOk, sym, ap, subst, ◌∙◌}
+use Rattle.minix_layout.specs.declared.division.Geometry.{Geometry}
 use Rattle.tree_model.specs.declared.call.Call.{Call}
 use Rattle.tree_model.specs.declared.call.Call.TheVariants as calls
 use Rattle.tree_model.specs.declared.call.Reply.{Reply}
@@ -12,6 +13,12 @@ use Rattle.volume_steps.specs.Calls.{changed, create_in, link_in, mkdir_in, rmdi
 use Rattle.volume_steps.specs.Plain.{IsPlainNow}
 use Rattle.volume_steps.specs.laws.Called.{FindsRoom}
 use Rattle.volume_steps.proofs.AllCalls.{any_call}
+use Rattle.tree_model.specs.Maps.{at_number}
+use Rattle.volume_model.specs.declared.placed.Placed.{Placed}
+use Rattle.volume_ops.specs.Marks.{marked}
+use Rattle.volume_steps.specs.Zones.{new_number}
+use Rattle.volume_names.specs.UsedInodes.{MarksNodes, unmarked}
+use Rattle.volume_names.proofs.InodeMarks.{same_birth, KeepsNumbers, marks_kept, Comes, marks_come, Loses, marks_lose}
 use Rattle.volume_names.specs.May.{MayCreate, MayLink, MayMkdir}
 use Rattle.volume_names.proofs.Callers.{create_may, link_may, mkdir_may}
 use Rattle.volume_removals.specs.May.{MayRmdir, MayUnlink}
@@ -23,18 +30,61 @@ use Rattle.volume_bytes.specs.MayWrite.{MayTruncate, MayWrite}
 use Rattle.volume_bytes.proofs.MayCall.{may_be_written, may_truncate}
 use Rattle.volume_calls.specs.code.Sites.{IsSite, place_in}
 use Rattle.volume_calls.specs.code.Writes.{write_call}
-use Rattle.volume_calls.proofs.Applied.{ok_of, done_plain, parted, no_file_site, no_directory_site, no_cut_path, no_link_path, no_link_site, no_rmdir_path, no_rmdir_site, no_unlink_path, no_unlink_site, no_write_path, walked_parts, create_is, link_is, mkdir_is, rmdir_is, truncate_is, unlink_is, write_call_row, write_is}
+use Rattle.volume_calls.specs.code.MarkedVolume.{IsMarkedVolume}
+use Rattle.volume_calls.proofs.KeptNumbers.{create_comes, mkdir_comes, link_keeps, write_keeps, truncate_keeps, unlink_loses, rmdir_loses}
+use Rattle.volume_calls.proofs.Applied.{ok_of, done_plain, done_change, parted, no_file_site, no_directory_site, no_cut_path, no_link_path, no_link_site, no_rmdir_path, no_rmdir_site, no_unlink_path, no_unlink_site, no_write_path, walked_parts, create_is, link_is, mkdir_is, rmdir_is, truncate_is, unlink_is, write_call_row, write_is}
 
 -- what was done is the call's change, and leaves the volume plain
 pub record IsCall (v : VolumeNow) (n tx : ℕ) (c : Call) (w : VolumeNow) (t : Touched) : Type 0 where
   pub change : ◌≡◌ {A = Change} (record { volume = w; touched = t }) (changed v n tx c)
   pub plain : IsPlainNow w
+  pub geometry : w.geometry ≡ v.geometry
 
 call_done : (v : VolumeNow) (n tx : ℕ) (c : Call) → FindsRoom v n c → IsOk (outcome (room_of v.geometry) (tree_of_now v) n c) → (w : VolumeNow) (t : Touched) →
     ◌≡◌ {A = Change} (record { volume = w; touched = t }) (changed v n tx c) → IsCall v n tx c w t
 call_done v n tx c room may w t e =
     let d = ok_of (outcome (room_of v.geometry) (tree_of_now v) n c) may in
-    record { change = e; plain = subst (λ (x : Change). IsPlainNow x.volume) (sym e) (done_plain v n tx c d.0 d.1 (any_call tx v n c room).plain) }
+    let k = any_call tx v n c room in
+    record {
+      change = e;
+      plain = subst (λ (x : Change). IsPlainNow x.volume) (sym e) (done_plain v n tx c d.0 d.1 k.plain);
+      geometry = ap (λ (x : Change). x.volume.geometry) (e ∙ sym (done_change v n tx c d.0 d.1)) ∙ k.steady.geometry;
+    }
+
+-- ---- the inodes that are marked
+
+module _ (v parts : VolumeNow) (same : parts ≡ v) (marks : List Bool) (h : IsMarkedVolume parts marks) (n tx : ℕ) (c : Call) (w : VolumeNow) (t : Touched) (done : IsCall v n tx c w t)
+    (next : Change) (is : ◌≡◌ {A = Change} (record { volume = w; touched = t }) next) where
+  marked_as : (now : List Bool) → MarksNodes parts.geometry next.volume.contents.nodes now → IsMarkedVolume w now
+  marked_as now inodes = record {
+    plain = done.plain;
+    inodes = subst (λ (g : Geometry). MarksNodes g w.contents.nodes now) (ap (λ (v : VolumeNow). v.geometry) same ∙ sym done.geometry)
+        (subst (λ (x : Change). MarksNodes parts.geometry x.volume.contents.nodes now) (sym is) inodes);
+  }
+
+  -- no node came or went
+  pub still_marked : KeepsNumbers parts.contents.nodes next.volume.contents.nodes → IsMarkedVolume w marks
+  still_marked kept = marked_as marks (marks_kept parts.geometry parts.contents.nodes next.volume.contents.nodes marks h.inodes kept)
+
+  -- a node came, and has the lowest inode
+  pub one_marked : Comes parts.contents.nodes next.volume.contents.nodes n (new_number parts.geometry parts.contents.nodes) →
+      (number : ℕ) → number ≡ new_number parts.geometry parts.contents.nodes → IsMarkedVolume w (marked marks number)
+  one_marked comes number lowest =
+      marked_as (marked marks number)
+      (subst (λ k. MarksNodes parts.geometry next.volume.contents.nodes (marked marks k)) (sym lowest)
+      (marks_come parts.geometry parts.contents.nodes next.volume.contents.nodes marks n (new_number parts.geometry parts.contents.nodes) h.inodes comes))
+
+  -- a node may have gone
+  pub one_unmarked : (birth : ℕ) → Loses parts.contents.nodes next.volume.contents.nodes birth → (p : Placed) → at_number v.contents.nodes birth ≡ Some p →
+      (now : List Bool) → (at_number w.contents.nodes birth ≡ None → now ≡ unmarked marks p.number) → ((q : Placed) → at_number w.contents.nodes birth ≡ Some q → now ≡ marks) → IsMarkedVolume w now
+  one_unmarked birth loses p at now gone stays =
+      let stands : at_number parts.contents.nodes birth ≡ Some p = subst (λ (u : VolumeNow). at_number u.contents.nodes birth ≡ Some p) (sym same) at in
+      let nodes : w.contents.nodes ≡ next.volume.contents.nodes = ap (λ (x : Change). x.volume.contents.nodes) is in
+      marked_as now
+      (marks_lose parts.geometry parts.contents.nodes next.volume.contents.nodes marks birth p.number h.inodes loses (ap (option_map (λ (p : Placed). p.number)) stands)
+      (λ b also. same_birth parts.contents.nodes b birth p.number h.plain.in_use.volume.0.numbers also (ap (option_map (λ (p : Placed). p.number)) stands)) now
+      (λ none. gone (ap (λ nodes. at_number nodes birth) nodes ∙ none))
+      (λ q some. stays q (ap (λ nodes. at_number nodes birth) nodes ∙ some)))
 
 module _ (v parts : VolumeNow) (same : parts ≡ v) (n : ℕ) (path : List ℕ) where
   -- ---- a file
@@ -57,6 +107,10 @@ module _ (v parts : VolumeNow) (same : parts ≡ v) (n : ℕ) (path : List ℕ) 
           call_done v n tx (calls.Create path) room may w t
           (e ∙ (ap (λ (u : VolumeNow). create_in u n parent name) same ∙ sym (create_is v n tx path (record { parent = parent; directory = site.directory; name = name }) p)))
 
+      pub create_marked : (marks : List Bool) → IsMarkedVolume parts marks → (w : VolumeNow) (t : Touched) → ◌≡◌ {A = Change} (record { volume = w; touched = t }) (create_in parts n parent name) →
+          (number : ℕ) → number ≡ new_number parts.geometry parts.contents.nodes → IsMarkedVolume w (marked marks number)
+      create_marked marks h w t e = one_marked v parts same marks h n 0 (calls.Create path) w t (create_done 0 w t e) (create_in parts n parent name) e (create_comes parts n parent name create_ready)
+
   -- ---- a directory
 
   module _ (room : FindsRoom v n (calls.Mkdir path)) (may : IsOk (outcome (room_of v.geometry) (tree_of_now v) n (calls.Mkdir path))) where
@@ -77,6 +131,10 @@ module _ (v parts : VolumeNow) (same : parts ≡ v) (n : ℕ) (path : List ℕ) 
           call_done v n tx (calls.Mkdir path) room may w t
           (e ∙ (ap (λ (u : VolumeNow). mkdir_in u n parent name) same ∙ sym (mkdir_is v n tx path (record { parent = parent; directory = site.directory; name = name }) p)))
 
+      pub mkdir_marked : (marks : List Bool) → IsMarkedVolume parts marks → (w : VolumeNow) (t : Touched) → ◌≡◌ {A = Change} (record { volume = w; touched = t }) (mkdir_in parts n parent name) →
+          (number : ℕ) → number ≡ new_number parts.geometry parts.contents.nodes → IsMarkedVolume w (marked marks number)
+      mkdir_marked marks h w t e = one_marked v parts same marks h n 0 (calls.Mkdir path) w t (mkdir_done 0 w t e) (mkdir_in parts n parent name) e (mkdir_comes parts n parent name mkdir_ready)
+
   -- ---- a file's size
 
   module _ (size : ℕ) (room : FindsRoom v n (calls.Truncate path size)) (may : IsOk (outcome (room_of v.geometry) (tree_of_now v) n (calls.Truncate path size))) where
@@ -92,6 +150,9 @@ module _ (v parts : VolumeNow) (same : parts ≡ v) (n : ℕ) (path : List ℕ) 
       pub cut_done : (tx : ℕ) (w : VolumeNow) (t : Touched) → ◌≡◌ {A = Change} (record { volume = w; touched = t }) (truncate_at parts tx found.birth size) → IsCall v n tx (calls.Truncate path size) w t
       cut_done tx w t e =
           call_done v n tx (calls.Truncate path size) room may w t (e ∙ (ap (λ (u : VolumeNow). truncate_at u tx found.birth size) same ∙ sym (truncate_is v n tx path size found led)))
+
+      pub cut_marked : (marks : List Bool) → IsMarkedVolume parts marks → (tx : ℕ) (w : VolumeNow) (t : Touched) → ◌≡◌ {A = Change} (record { volume = w; touched = t }) (truncate_at parts tx found.birth size) → IsMarkedVolume w marks
+      cut_marked marks h tx w t e = still_marked v parts same marks h n tx (calls.Truncate path size) w t (cut_done tx w t e) (truncate_at parts tx found.birth size) e (truncate_keeps parts tx found.birth size)
 
   -- ---- a file's bytes
 
@@ -111,6 +172,10 @@ module _ (v parts : VolumeNow) (same : parts ≡ v) (n : ℕ) (path : List ℕ) 
       write_done tx w t e =
           call_done v n tx (write_call path off content) room may w t
           (e ∙ (ap (λ (u : VolumeNow). write_at u found.birth off (bytes_of content)) same ∙ sym (write_is v n tx path off content found led)))
+
+      pub write_marked : (marks : List Bool) → IsMarkedVolume parts marks → (w : VolumeNow) (t : Touched) → ◌≡◌ {A = Change} (record { volume = w; touched = t }) (write_at parts found.birth off (bytes_of content)) → IsMarkedVolume w marks
+      write_marked marks h w t e =
+          still_marked v parts same marks h n 0 (write_call path off content) w t (write_done 0 w t e) (write_at parts found.birth off (bytes_of content)) e (write_keeps parts found.birth off (bytes_of content))
 
   -- ---- a file's other name
 
@@ -136,6 +201,9 @@ module _ (v parts : VolumeNow) (same : parts ≡ v) (n : ℕ) (path : List ℕ) 
           (e ∙ (ap (λ (u : VolumeNow). link_in u found.birth parent name) same
           ∙ sym (link_is v n tx path other found (record { parent = parent; directory = site.directory; name = name }) (walked_parts (tree_of_now v) path found led)
           (parted (tree_of_now v) other (record { parent = parent; directory = site.directory; name = name }) site.is))))
+
+      pub link_marked : (marks : List Bool) → IsMarkedVolume parts marks → (w : VolumeNow) (t : Touched) → ◌≡◌ {A = Change} (record { volume = w; touched = t }) (link_in parts found.birth parent name) → IsMarkedVolume w marks
+      link_marked marks h w t e = still_marked v parts same marks h n 0 (calls.Link path other) w t (link_done 0 w t e) (link_in parts found.birth parent name) e (link_keeps parts found.birth parent name)
 
   -- ---- a file's name that goes
 
@@ -163,6 +231,13 @@ module _ (v parts : VolumeNow) (same : parts ≡ v) (n : ℕ) (path : List ℕ) 
           ∙ sym (unlink_is v n tx path found (record { parent = parent; directory = site.directory; name = name }) (walked_parts (tree_of_now v) path found led)
           (parted (tree_of_now v) path (record { parent = parent; directory = site.directory; name = name }) site.is))))
 
+      pub unlink_marked : (marks : List Bool) → IsMarkedVolume parts marks → (tx : ℕ) (w : VolumeNow) (t : Touched) → ◌≡◌ {A = Change} (record { volume = w; touched = t }) (unlink_in parts tx parent name found.birth) →
+          (p : Placed) → at_number v.contents.nodes found.birth ≡ Some p → (now : List Bool) → (at_number w.contents.nodes found.birth ≡ None → now ≡ unmarked marks p.number) →
+          ((q : Placed) → at_number w.contents.nodes found.birth ≡ Some q → now ≡ marks) → IsMarkedVolume w now
+      unlink_marked marks h tx w t e =
+          one_unmarked v parts same marks h n tx (calls.Unlink path) w t (unlink_done tx w t e) (unlink_in parts tx parent name found.birth) e found.birth
+          (unlink_loses parts tx parent name found.birth h.plain.in_use.volume.0.in_order)
+
   -- ---- a directory that goes
 
   module _ (room : FindsRoom v n (calls.Rmdir path)) (may : IsOk (outcome (room_of v.geometry) (tree_of_now v) n (calls.Rmdir path))) where
@@ -188,3 +263,10 @@ module _ (v parts : VolumeNow) (same : parts ≡ v) (n : ℕ) (path : List ℕ) 
           (e ∙ (ap (λ (u : VolumeNow). rmdir_in u tx parent name found.birth) same
           ∙ sym (rmdir_is v n tx path found (record { parent = parent; directory = site.directory; name = name }) (walked_parts (tree_of_now v) path found led)
           (parted (tree_of_now v) path (record { parent = parent; directory = site.directory; name = name }) site.is))))
+
+      pub rmdir_marked : (marks : List Bool) → IsMarkedVolume parts marks → (tx : ℕ) (w : VolumeNow) (t : Touched) → ◌≡◌ {A = Change} (record { volume = w; touched = t }) (rmdir_in parts tx parent name found.birth) →
+          (p : Placed) → at_number v.contents.nodes found.birth ≡ Some p → (now : List Bool) → (at_number w.contents.nodes found.birth ≡ None → now ≡ unmarked marks p.number) →
+          ((q : Placed) → at_number w.contents.nodes found.birth ≡ Some q → now ≡ marks) → IsMarkedVolume w now
+      rmdir_marked marks h tx w t e =
+          one_unmarked v parts same marks h n tx (calls.Rmdir path) w t (rmdir_done tx w t e) (rmdir_in parts tx parent name found.birth) e found.birth
+          (rmdir_loses parts tx parent name found.birth h.plain.in_use.volume.0.in_order)

@@ -2,7 +2,7 @@
 use Rattle.std.specs.List.{list_any}
 use Rattle.std.specs.Map.{keys_of}
 use Rattle.std.specs.Ordering.{nat_cmp, is_lt}
-use Rattle.std.proofs.Common.{◌≡◌, ℕ, suc, ◌+◌, ◌*◌, ◌/◌, ◌%◌, ◌<◌, ◌≤◌, ◌==◌, nat_le, nat_lt, cond, Less, Equal, Greater, Bool, true, false, not, ◌&&◌, ◌||◌, if◌then◌else◌, List, [], ◌∷◌, map, is_some, Option, Some, None, Result, Ok, Err, refl, sym, ap, subst, ◌∙◌, inl, inr, ⊎_elim, arith, eq-eqb, ne_eqb}
+use Rattle.std.proofs.Common.{◌≡◌, ℕ, ◌+◌, ◌*◌, ◌/◌, ◌%◌, ◌<◌, ◌≤◌, ◌==◌, nat_le, nat_lt, cond, Less, Equal, Greater, Bool, true, false, not, ◌&&◌, ◌||◌, if◌then◌else◌, List, [], ◌∷◌, map, is_some, Some, Result, Ok, Err, refl, sym, ap, ◌∙◌, inl, inr, arith, eq-eqb, ne_eqb}
 use Rattle.std.proofs.lemmas.Bool.{ltb-false, ltb-true, lt-ltb, true≢false}
 use Rattle.blk_base.specs.Members.{In}
 use Rattle.tree_model.specs.declared.node.File.{File}
@@ -18,7 +18,7 @@ use Rattle.volume_ops.specs.declared.found.Mapped.{Mapped}
 use Rattle.volume_model.specs.declared.placed.Placed.{Placed}
 use Rattle.volume_model.specs.Trees.{tree_now, node_now}
 use Rattle.volume_steps.specs.Cuts.{keeps_file, keeps_size, cuts_nothing}
-use Rattle.volume_steps.specs.Numbers.{next_birth, number_in}
+use Rattle.volume_steps.specs.Numbers.{next_birth}
 use Rattle.volume_calls.specs.code.Kept.{keeps_mapped}
 
 -- ---- the number above all births

@@ -4,6 +4,7 @@ pub mod DirectorySlots
 pub mod WriteTakes
 pub mod Applied
 pub mod CalledSteps
+pub mod KeptNumbers
 pub mod Doing
 pub mod AskReplies
 pub mod AskSteps

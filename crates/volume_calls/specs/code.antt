@@ -4,3 +4,4 @@ pub mod Asked
 pub mod Sites
 pub mod Writes
 pub mod Kept
+pub mod MarkedVolume

@@ -1,11 +1,14 @@
 //! Calls that are done.
-ghost use Rattle.std.specs.Prelude.{◌≡◌, ℕ, false, IfOk, IfErr, OnErr, IsOk, Err};
+ghost use Rattle.std.specs.Prelude.{◌≡◌, ◌<◌, ℕ, false, IfOk, IfErr, OnErr, IsOk, Err, Some, None};
 ghost use Rattle.tree_model.specs.declared.call.Call.TheVariants as calls;
 ghost use Rattle.tree_model.specs.Calls.{leaves_tree, outcome};
+ghost use Rattle.tree_model.specs.Maps.{at_number};
+ghost use Rattle.volume_model.specs.declared.placed.Placed.{Placed};
 ghost use Rattle.volume_steps.specs.Now.{room_of, tree_of_now};
 ghost use Rattle.volume_steps.specs.Calls.{called, changed};
 ghost use Rattle.volume_steps.specs.Plain.{is_rename};
 ghost use Rattle.volume_steps.specs.laws.Called.{FindsRoom};
+ghost use Rattle.volume_names.specs.UsedInodes.{unmarked};
 ghost use Rattle.volume_calls.specs.code.Sites.{IsSite, place_in};
 ghost use Rattle.volume_calls.specs.code.Writes.{write_call};
 
@@ -16,7 +19,8 @@ use minix_layout::Name;
 use std::alloc::Global;
 use tree_model::{ByteList, Call, Reply, names_of};
 use volume_bytes::Content;
-use volume_now::Touched;
+use volume_names::InodeMap;
+use volume_now::{Touched, VolumeNow};
 
 // The directory of a path's last name, by its birth, and the name.
 #[derive(Drop)]
@@ -39,6 +43,18 @@ fn leaves_tree(call: &Call) -> bool
             | Call::Fdatabarrier(_)
             | Call::Sync
     )
+}
+
+// Gives back the inode of a node that is gone.
+fn give_back(inodes: &mut InodeMap, v: &VolumeNow, birth: u64, number: u16)
+    requires { 0 < number }
+    ensures gone { at_number v.now.contents.nodes birth ≡ None → inodes.new ≡ unmarked inodes.old number }
+    ensures stays { (p : Placed) → at_number v.now.contents.nodes birth ≡ Some p → inodes.new ≡ inodes.old }
+{
+    match v.nodes.get(&birth) {
+        Some(_) => {}
+        None => inodes.give_back(number),
+    }
 }
 
 impl PlainVolume {
@@ -66,7 +82,10 @@ impl PlainVolume {
         let Ok(site) = self.site(path) else {
             unreachable!();
         };
-        let touched = volume_names::create(alloc, &mut self.parts, n, site.parent, &site.name)?;
+        let number = self.inodes.lowest();
+        let parts = &mut self.parts;
+        let touched = volume_names::create(alloc, parts, n, number, site.parent, &site.name)?;
+        self.inodes.take(number);
         Ok(touched)
     }
 
@@ -84,7 +103,10 @@ impl PlainVolume {
         let Ok(site) = self.site(path) else {
             unreachable!();
         };
-        let touched = volume_names::mkdir(alloc, &mut self.parts, n, site.parent, &site.name)?;
+        let number = self.inodes.lowest();
+        let parts = &mut self.parts;
+        let touched = volume_names::mkdir(alloc, parts, n, number, site.parent, &site.name)?;
+        self.inodes.take(number);
         Ok(touched)
     }
 
@@ -123,8 +145,8 @@ impl PlainVolume {
         ensures done { IfOk result (λ t. record { volume = self.new; touched = t.touched } ≡ changed self.old n tx (calls.Unlink path.now)) }
         ensures memory { OnErr result (self.new ≡ self.old) }
     {
-        let birth = match self.reached(path) {
-            Ok(found) => found.birth,
+        let (birth, number) = match self.reached(path) {
+            Ok(found) => (found.birth, found.placed.number),
             Err(_) => unreachable!(),
         };
         let Ok(site) = self.site(path) else {
@@ -132,6 +154,7 @@ impl PlainVolume {
         };
         let parts = &mut self.parts;
         let touched = volume_removals::unlink(alloc, parts, tx, birth, site.parent, &site.name)?;
+        give_back(&mut self.inodes, &self.parts, birth, number);
         Ok(touched)
     }
 
@@ -147,8 +170,8 @@ impl PlainVolume {
         ensures done { IfOk result (λ t. record { volume = self.new; touched = t.touched } ≡ changed self.old n tx (calls.Rmdir path.now)) }
         ensures memory { OnErr result (self.new ≡ self.old) }
     {
-        let birth = match self.reached(path) {
-            Ok(found) => found.birth,
+        let (birth, number) = match self.reached(path) {
+            Ok(found) => (found.birth, found.placed.number),
             Err(_) => unreachable!(),
         };
         let Ok(site) = self.site(path) else {
@@ -156,6 +179,7 @@ impl PlainVolume {
         };
         let parts = &mut self.parts;
         let touched = volume_removals::rmdir(alloc, parts, tx, birth, site.parent, &site.name)?;
+        give_back(&mut self.inodes, &self.parts, birth, number);
         Ok(touched)
     }
 

@@ -1,39 +1,45 @@
 //! A plain volume that is in use.
-ghost use Rattle.std.specs.Prelude.{◌≡◌};
+ghost use Rattle.std.specs.Prelude.{◌≡◌, IfOk};
 ghost use Rattle.volume_ops.specs.Volume.{disk_of};
 ghost use Rattle.volume_steps.specs.Calls.{after_release};
 ghost use Rattle.volume_steps.specs.Plain.{IsPlainNow};
 
-use blk_base::{Block, BodySource};
+use blk_base::{Block, BodySource, NoMemory};
 use minix_layout::Geometry;
+use std::alloc::Global;
 use std::marker::Model;
+use volume_names::InodeMap;
 use volume_now::VolumeNow;
 use zone_maps::ZoneMap;
 
-/// A plain volume that is in use: its blocks, its nodes by birth, and what each zone of data is.
+/// A plain volume that is in use: its blocks, its nodes by birth, what each zone of data is, and which inodes
+/// are in use.
 #[derive(Drop)]
 pub struct PlainVolume {
     pub(crate) parts: VolumeNow,
+    // The inodes that its nodes have.
+    pub(crate) inodes: InodeMap,
 }
 
 impl Model for PlainVolume {
     ghost use Rattle.volume_steps.specs.Now as volumes;
-    ghost use Rattle.volume_steps.specs.Plain.{IsPlainNow};
+    ghost use Rattle.volume_calls.specs.code.MarkedVolume.{IsMarkedVolume};
 
     ghost Value = { volumes.VolumeNow };
 
     ghost view = { λ v. v.parts };
 
-    ghost invariant = { λ v. IsPlainNow v.parts };
+    ghost invariant = { λ v. IsMarkedVolume v.parts v.inodes };
 }
 
 impl PlainVolume {
     /// The volume of these parts.
-    pub fn of(parts: VolumeNow) -> PlainVolume
+    pub fn of(alloc: Global, parts: VolumeNow) -> Result<PlainVolume, NoMemory>
         requires { IsPlainNow parts }
-        ensures { result ≡ parts }
+        ensures { IfOk result (λ v. v ≡ parts) }
     {
-        PlainVolume { parts }
+        let inodes = InodeMap::of(alloc, &parts.geometry, &parts.nodes)?;
+        Ok(PlainVolume { parts, inodes })
     }
 
     /// How the volume is divided.

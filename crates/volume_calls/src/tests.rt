@@ -88,12 +88,15 @@ fn new_volume(alloc: Global, g: Geometry) -> Result<PlainVolume, NoMemory>
     let mut nodes = BTreeMap::new(alloc);
     nodes.insert(0, root(alloc, &g)?)?;
     let zones = ZoneMap::make(alloc, &g, &[g.first])?;
-    Ok(PlainVolume::of(VolumeNow {
-        geometry: g,
-        blocks,
-        nodes,
-        zones,
-    }))
+    PlainVolume::of(
+        alloc,
+        VolumeNow {
+            geometry: g,
+            blocks,
+            nodes,
+            zones,
+        },
+    )
 }
 
 fn path(alloc: Global, text: &[u8]) -> Result<ByteList, NoMemory> {

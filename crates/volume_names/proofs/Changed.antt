@@ -22,7 +22,7 @@ use Rattle.volume_model.specs.MapBlock.{OpenInode, TakenZones, own_of, map_block
 use Rattle.volume_model.specs.Touched.{Touched, Contents, and_then}
 use Rattle.volume_model.specs.laws.Trees.{set_is_put}
 use Rattle.volume_steps.specs.Now.{VolumeNow, Change, written, tells_blocks, tells_writes}
-use Rattle.volume_steps.specs.Zones.{TakenFor, zone_bit, take_zones}
+use Rattle.volume_steps.specs.Zones.{TakenFor, new_number, zone_bit, take_zones}
 use Rattle.volume_steps.specs.Steps.{at_node, tells_node, with_links, inode_put, set_links}
 use Rattle.volume_steps.proofs.QuietSteps.{at_node_is}
 use Rattle.volume_now.specs.Noted.{Noted, with_block, with_node}
@@ -31,6 +31,11 @@ use Rattle.volume_names.proofs.Mapped.{blocks_are}
 
 abbrev pub volume_of : Geometry → List (List ℕ) → List (ℕ × Placed) → Zones → VolumeNow
 volume_of g blocks nodes zones = record { geometry = g; contents = record { blocks = blocks; nodes = nodes }; zones = zones }
+
+-- the lowest inode of a volume is that of its parts
+pub lowest_in : (g : Geometry) (blocks : List (List ℕ)) (nodes : List (ℕ × Placed)) (zones : Zones) (now : VolumeNow) → volume_of g blocks nodes zones ≡ now →
+    (number : ℕ) → number ≡ new_number now.geometry now.contents.nodes → number ≡ new_number g nodes
+lowest_in g blocks nodes zones now same number is = is ∙ ap (λ (v : VolumeNow). new_number v.geometry v.contents.nodes) (sym same)
 
 -- equal parts are one volume
 same_volume : (g h : Geometry) (blocks blocks' : List (List ℕ)) (nodes nodes' : List (ℕ × Placed)) (zones zones' : Zones) → g ≡ h → blocks ≡ blocks' → nodes ≡ nodes' → zones ≡ zones' →

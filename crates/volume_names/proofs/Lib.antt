@@ -1,5 +1,6 @@
 pub mod NameMaps
-pub mod FreeNumbers
+pub mod LowestInodes
+pub mod InodeMarks
 pub mod Changed
 pub mod Mapped
 pub mod Entered

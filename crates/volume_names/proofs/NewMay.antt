@@ -1,6 +1,6 @@
 -- A new volume may get a first name, in its root.
 use Rattle.std.specs.Prelude.{◌≡◌, ◌<◌, ◌≤◌, ℕ, IsTrue, List, [], ◌∷◌, length, count_by, Some, None, refl}
-use Rattle.std.proofs.Common.{sym, ◌∙◌, inl, inr, arith, nat_cmp, is_eq, lit<, lit≤}
+use Rattle.std.proofs.Common.{sym, ap, ◌∙◌, inl, inr, arith, nat_cmp, is_eq, lit<, lit≤}
 use Rattle.std.proofs.lemmas.Bool.{cases_Bool}
 use Rattle.std.proofs.lemmas.Option.{none-some}
 use Rattle.minix_layout.specs.declared.division.Geometry.{Geometry}
@@ -11,7 +11,8 @@ use Rattle.tree_model.specs.Paths.{is_path_name}
 use Rattle.tree_model.specs.Plain.{AreBornBefore}
 use Rattle.zone_maps.specs.Zones.{is_free}
 use Rattle.volume_model.specs.NewVolume.{root_placed}
-use Rattle.volume_steps.specs.Now.{tree_of_now}
+use Rattle.volume_steps.specs.Now.{VolumeNow, tree_of_now}
+use Rattle.volume_steps.specs.Zones.{new_number}
 use Rattle.volume_steps.specs.Plain.{IsPlainNow}
 use Rattle.volume_steps.proofs.TreeSteps.{tree_back}
 use Rattle.volume_steps.specs.NewNow.{new_now}
@@ -79,3 +80,7 @@ small_create plain = new_may_create small (97 ∷ []) plain (lit< tt) refl (lit�
 
 pub small_mkdir : IsPlainNow (new_now small) → MayMkdir (new_now small) 1 0 (97 ∷ [])
 small_mkdir plain = new_may_mkdir small (97 ∷ []) plain (lit< tt) (lit≤ tt) refl (lit≤ tt)
+
+-- the second inode is free
+pub small_number : (v : VolumeNow) → v ≡ new_now small → 2 ≡ new_number v.geometry v.contents.nodes
+small_number v is = sym (ap (λ (v : VolumeNow). new_number v.geometry v.contents.nodes) is)

@@ -1,3 +1,4 @@
 -- What calls on names ask of a volume.
 pub mod May
+pub mod UsedInodes
 pub mod code

@@ -1,3 +1,4 @@
 -- The code's view of directories and nodes.
 pub mod NewSlot
 pub mod Steps
+pub mod InodeMap

@@ -1,8 +1,9 @@
 //! Calls that make names, done in place on a volume that is in use, where the path has led.
 //!
-//! `creation`, `linking` and `making` have the calls. Each takes all its memory first: `numbers` finds an inode, and
-//! `entries` puts node and name into the maps, which can be undone. Then it writes what cannot fail: `names` the slot,
-//! with a block of the directory from `growth` where one begins, and `nodes` the links.
+//! `creation`, `linking` and `making` have the calls. Each takes all its memory first: `entries` puts node and name into
+//! the maps, which can be undone. Then it writes what cannot fail: `names` the slot, with a block of the directory from
+//! `growth` where one begins, and `nodes` the links. `inode_map` says which inodes are in use: who makes a node finds the
+//! lowest free one in it.
 //!
 //! Stands on `volume_steps`, whose steps the calls do, on `volume_now` for the volume, and on `volume_edits` for writes.
 #![tactic(auto)]
@@ -11,17 +12,18 @@ mod creation;
 mod directories;
 mod entries;
 mod growth;
+mod inode_map;
 mod inodes;
 mod linking;
 mod making;
 mod marks;
 mod names;
 mod nodes;
-mod numbers;
 #[cfg(test)]
 mod tests;
 
 pub use creation::create;
+pub use inode_map::InodeMap;
 pub use linking::link;
 pub use making::mkdir;
 pub use marks::mark_inode;

@@ -8,7 +8,7 @@ ghost use Rattle.volume_model.specs.declared.placed.Placed.{Placed};
 ghost use Rattle.volume_model.specs.Edits.{edited_all, put_body, put_slot};
 ghost use Rattle.volume_model.specs.Touched.{and_then};
 ghost use Rattle.volume_steps.specs.Now.{tells_writes};
-ghost use Rattle.volume_steps.specs.Zones.{next_zone};
+ghost use Rattle.volume_steps.specs.Zones.{new_number, next_zone};
 ghost use Rattle.zone_maps.specs.Zones.{taken};
 ghost use Rattle.volume_steps.specs.Calls.{mkdir_in};
 ghost use Rattle.volume_names.specs.May.{MayMkdir};
@@ -20,7 +20,6 @@ use crate::inodes::{new_directory, new_directory_inode};
 use crate::marks::mark_inode;
 use crate::names::write_name;
 use crate::nodes::{add_link, number_of};
-use crate::numbers::free_number;
 use blk_base::{Block, Image, NoMemory};
 use minix_layout::{Geometry, Name};
 use std::alloc::Global;
@@ -28,20 +27,21 @@ use volume_edits::{put_body, put_inode, put_slot, table_block};
 use volume_now::{Touched, VolumeNow, dot, dots, mark_zone};
 use zone_maps::ZoneMap;
 
-/// Makes a directory with birth `n`, under this name in the directory with birth `parent`.
+/// Makes a directory with birth `n` in the lowest free inode, under this name in the directory with birth `parent`.
 pub fn mkdir(
     alloc: Global,
     v: &mut VolumeNow,
     n: u64,
+    number: u16,
     parent: u64,
     name: &Name,
 ) -> Result<Touched, NoMemory>
-    requires { MayMkdir v.old n parent name.now }
+    requires may { MayMkdir v.old n parent name.now }
+    requires number { number ≡ new_number v.old.geometry v.old.contents.nodes }
     ensures done { IfOk result (λ t. record { volume = v.new; touched = t.touched } ≡ mkdir_in v.old n parent name.now) }
     ensures memory { OnErr result (v.new ≡ v.old) }
 {
     let mut touched = Touched::with_room(alloc, 19)?;
-    let number = free_number(alloc, &v.geometry, &v.nodes)?;
     let above = number_of(&v.nodes, parent);
     let directory = new_directory(alloc, number, parent, above)?;
     let slot = slot_of(number, name);

@@ -27,7 +27,7 @@ fn short_name() -> Name
 fn creates_a_file(rt: HostRuntime) -> Result<(), Fail> {
     new_volumes_are_plain();
     let mut volume = new_volume(rt.alloc(), SMALL)?;
-    let touched = create(rt.alloc(), &mut volume, 1, 0, &short_name())?;
+    let touched = create(rt.alloc(), &mut volume, 1, 2, 0, &short_name())?;
     assert_eq!(rt; touched.blocks(), [2, 4, 5, 4].as_slice());
     assert_eq!(rt; touched.nodes(), [1, 0].as_slice());
     assert_eq!(rt; volume.nodes.len(), 2);
@@ -42,11 +42,28 @@ fn creates_a_file(rt: HostRuntime) -> Result<(), Fail> {
 fn makes_a_directory(rt: HostRuntime) -> Result<(), Fail> {
     new_volumes_are_plain();
     let mut volume = new_volume(rt.alloc(), SMALL)?;
-    let touched = mkdir(rt.alloc(), &mut volume, 1, 0, &short_name())?;
+    let touched = mkdir(rt.alloc(), &mut volume, 1, 2, 0, &short_name())?;
     assert_eq!(rt; touched.blocks(), [2, 3, 6, 6, 6, 4, 5, 4, 4].as_slice());
     assert_eq!(rt; volume.zones.free_count(), 57);
     assert!(rt; volume.blocks.len() > 5);
     assert_eq!(rt; read_inode(volume.blocks.block(4), 0).links, 3);
     assert_eq!(rt; read_inode(volume.blocks.block(4), 1).links, 2);
+    Ok(())
+}
+
+#[test]
+fn takes_the_lowest_inode(rt: HostRuntime) -> Result<(), Fail> {
+    let volume = new_volume(rt.alloc(), SMALL)?;
+    let mut inodes = InodeMap::of(rt.alloc(), &volume.geometry, &volume.nodes)?;
+    let first = inodes.lowest();
+    if first == 0 {
+        return Err("no inode is free".into());
+    }
+    inodes.take(first);
+    let second = inodes.lowest();
+    inodes.take(second);
+    inodes.give_back(first);
+    let third = inodes.lowest();
+    assert_eq!(rt; [first, second, third], [2, 3, 2]);
     Ok(())
 }

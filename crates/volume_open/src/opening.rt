@@ -56,10 +56,12 @@ pub fn open_volume(alloc: Global, volume: Volume) -> Result<PlainVolume, NoMemor
     let disk = Disk::new(blocks);
     plain_when_read(&disk, &geometry);
     let nodes = placed_nodes(alloc, &geometry, &disk, nodes)?;
-    Ok(PlainVolume::of(VolumeNow {
+    let parts = VolumeNow {
         geometry,
         blocks: disk.into_blocks(),
         nodes,
         zones,
-    }))
+    };
+    let opened = PlainVolume::of(alloc, parts)?;
+    Ok(opened)
 }

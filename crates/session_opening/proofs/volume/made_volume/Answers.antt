@@ -13,4 +13,4 @@ pub returns : goal.returns
 returns c =
     let g = c.args.g.now in
     let whole = opened_is g _ c.args.journal c.args.image.now c.in_ok-parts-inside.field-0 c.into.result (c.parts.view_is ∙ c.in_ok-parts.ensures) c.requires.image c.into.ensures c.in_ok-parts-inside.ensures in
-    c.of.ensures ∙ whole
+    c.in_ok-volume.ensures ∙ whole

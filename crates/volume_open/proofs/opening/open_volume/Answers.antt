@@ -24,7 +24,7 @@ returns-clause-tree c =
     let g = c.into_parts-blocks.result.geometry in
     tree_told c.args.volume c.requires g c.new-disk.result parts.geometry (c.new-disk.ensures ∙ parts.blocks) c.plain_when_read.ensures
     c.into_parts-blocks.result.nodes.items parts.nodes c.in_ok-used.used.items c.in_ok-used.ensures
-    c.in_ok-nodes.nodes.entries c.in_ok-nodes.ensures c.in_ok-zones.zones (c.in_ok-zones.ensures ∙ ap (made g) c.deref.ensures.value) c.of.result (rw c.into_blocks.ensures at c.of.ensures)
+    c.in_ok-nodes.nodes.entries c.in_ok-nodes.ensures c.in_ok-zones.zones (c.in_ok-zones.ensures ∙ ap (made g) c.deref.ensures.value) c.in_ok-opened.opened (rw c.into_blocks.ensures at c.in_ok-opened.ensures)
 
 pub returns-clause-nodes : goal.returns-clause-nodes
 returns-clause-nodes c =
@@ -32,7 +32,7 @@ returns-clause-nodes c =
     let g = c.into_parts-blocks.result.geometry in
     contents_told c.args.volume c.requires g c.new-disk.result parts.geometry (c.new-disk.ensures ∙ parts.blocks) c.plain_when_read.ensures
     c.into_parts-blocks.result.nodes.items parts.nodes c.in_ok-used.used.items c.in_ok-used.ensures
-    c.in_ok-nodes.nodes.entries c.in_ok-nodes.ensures c.in_ok-zones.zones (c.in_ok-zones.ensures ∙ ap (made g) c.deref.ensures.value) c.of.result (rw c.into_blocks.ensures at c.of.ensures)
+    c.in_ok-nodes.nodes.entries c.in_ok-nodes.ensures c.in_ok-zones.zones (c.in_ok-zones.ensures ∙ ap (made g) c.deref.ensures.value) c.in_ok-opened.opened (rw c.into_blocks.ensures at c.in_ok-opened.ensures)
 
 pub returns-clause-none_waits : goal.returns-clause-none_waits
 returns-clause-none_waits c =
@@ -40,4 +40,4 @@ returns-clause-none_waits c =
     let g = c.into_parts-blocks.result.geometry in
     none_waiting c.args.volume c.requires g c.new-disk.result parts.geometry (c.new-disk.ensures ∙ parts.blocks) c.plain_when_read.ensures
     c.into_parts-blocks.result.nodes.items parts.nodes c.in_ok-used.used.items c.in_ok-used.ensures
-    c.in_ok-nodes.nodes.entries c.in_ok-nodes.ensures c.in_ok-zones.zones (c.in_ok-zones.ensures ∙ ap (made g) c.deref.ensures.value) c.of.result (rw c.into_blocks.ensures at c.of.ensures)
+    c.in_ok-nodes.nodes.entries c.in_ok-nodes.ensures c.in_ok-zones.zones (c.in_ok-zones.ensures ∙ ap (made g) c.deref.ensures.value) c.in_ok-opened.opened (rw c.into_blocks.ensures at c.in_ok-opened.ensures)

@@ -1,6 +1,6 @@
 use Rattle.volume_model.specs.Trees.{node_now}
 use Rattle.volume_steps.specs.Now.{VolumeNow}
-use Rattle.volume_calls.proofs.Doing.{link_led, link_placed, link_ready, link_done}
+use Rattle.volume_calls.proofs.Doing.{link_led, link_placed, link_ready, link_done, link_marked}
 use Rattle.volume_calls.proofs.plain.PlainVolume.add_link.Goals as goal
 
 pub unreachable-requires : goal.unreachable-requires
@@ -22,9 +22,9 @@ link-requires c =
 pub invariant_of-self-2 : goal.invariant_of-self-2
 invariant_of-self-2 c =
     let v : VolumeNow = c.args.self.now in
-    (link_done v c.self.inside.parts c.self.view_is c.args.n c.args.path.now c.args.other.now c.requires.room c.requires.may
+    link_marked v c.self.inside.parts c.self.view_is c.args.n c.args.path.now c.args.other.now c.requires.room c.requires.may
     (record { birth = c.in-Ok.found.birth; node = node_now v.contents.blocks c.in-Ok.found.placed.now }) c.in-Ok.ensures.found c.in-Ok-site.site.parent c.in-Ok-site.site.name c.in-Ok-site.ensures.site
-    0 c.link.new.v c.in_ok-touched.touched.touched c.in_ok-touched.ensures.done).plain
+    c.self.inside.inodes c.self.invariant c.link.new.v c.in_ok-touched.touched.touched c.in_ok-touched.ensures.done
 
 pub returns-clause-done : goal.returns-clause-done
 returns-clause-done c tx =

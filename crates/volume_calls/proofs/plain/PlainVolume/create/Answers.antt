@@ -16,7 +16,7 @@ returns c n before =
     let told = c.in_ok-place.ensures in
     let p = c.in_ok-place.place in
     let place : Place = record { parent = p.parent; directory = directory_from p.directory.now; name = p.name } in
-    let plain : IsPlainNow v = rw (← c.self.view_is) c.self.invariant in
+    let plain : IsPlainNow v = rw (← c.self.view_is) c.self.invariant.plain in
     let order = plain.plain.rooted.in_order in
     let stands = directory_stands v p.parent p.placed.now p.directory.now told.stands told.kind in
     let grows = c.slot_zones.ensures.more p.name (none_of _ (sym c.if-is_named.ensures)) in

@@ -1,5 +1,8 @@
+use Rattle.std.proofs.Common.{sym, subst, ◌∙◌}
 use Rattle.volume_steps.specs.Now.{VolumeNow}
-use Rattle.volume_calls.proofs.Doing.{mkdir_led, mkdir_ready, mkdir_done}
+use Rattle.volume_names.proofs.LowestInodes.{lowest_is_new}
+use Rattle.volume_calls.specs.code.MarkedVolume.{IsMarkedVolume}
+use Rattle.volume_calls.proofs.Doing.{mkdir_led, mkdir_ready, mkdir_done, mkdir_marked}
 use Rattle.volume_calls.proofs.plain.PlainVolume.make_directory.Goals as goal
 
 pub unreachable-requires : goal.unreachable-requires
@@ -7,16 +10,24 @@ unreachable-requires c =
     let v : VolumeNow = c.args.self.now in
     mkdir_led v c.self.inside.parts c.self.view_is c.args.n c.args.path.now c.requires.room c.requires.may c.in_default.field-0 c.in_default.ensures.fault
 
-pub mkdir-requires : goal.mkdir-requires
-mkdir-requires c =
+pub mkdir-requires-clause-may : goal.mkdir-requires-clause-may
+mkdir-requires-clause-may c =
     let v : VolumeNow = c.args.self.now in
     mkdir_ready v c.self.inside.parts c.self.view_is c.args.n c.args.path.now c.requires.room c.requires.may c.in-Ok.site.parent c.in-Ok.site.name c.in-Ok.ensures.site
+
+pub mkdir-requires-clause-number : goal.mkdir-requires-clause-number
+mkdir-requires-clause-number c =
+    let parts : VolumeNow = c.self.inside.parts in
+    c.lowest-number.ensures ∙ lowest_is_new parts.geometry parts.contents.nodes c.self.inside.inodes c.self.invariant.plain.in_use.volume.0.in_order c.self.invariant.inodes
 
 pub invariant_of-self-2 : goal.invariant_of-self-2
 invariant_of-self-2 c =
     let v : VolumeNow = c.args.self.now in
-    (mkdir_done v c.self.inside.parts c.self.view_is c.args.n c.args.path.now c.requires.room c.requires.may c.in-Ok.site.parent c.in-Ok.site.name c.in-Ok.ensures.site 0 c.mkdir.new.v
-    c.in_ok-touched.touched.touched c.in_ok-touched.ensures.done).plain
+    let parts : VolumeNow = c.self.inside.parts in
+    let lowest = c.lowest-number.ensures ∙ lowest_is_new parts.geometry parts.contents.nodes c.self.inside.inodes c.self.invariant.plain.in_use.volume.0.in_order c.self.invariant.inodes in
+    subst (IsMarkedVolume c.mkdir.new.v) (sym c.take.ensures)
+    (mkdir_marked v c.self.inside.parts c.self.view_is c.args.n c.args.path.now c.requires.room c.requires.may c.in-Ok.site.parent c.in-Ok.site.name c.in-Ok.ensures.site c.self.inside.inodes c.self.invariant
+    c.mkdir.new.v c.in_ok-touched.touched.touched c.in_ok-touched.ensures.done c.lowest-number.result lowest)
 
 pub returns-clause-done : goal.returns-clause-done
 returns-clause-done c tx =

@@ -7,5 +7,5 @@ use Rattle.volume_calls.proofs.plain.PlainVolume.takes_nothing.Goals as goal
 pub returns-in-Ok : goal.returns-in-Ok
 returns-in-Ok c n =
     let v : VolumeNow = c.args.self.now in
-    let plain : IsPlainNow v = rw (← c.self.view_is) c.self.invariant in
+    let plain : IsPlainNow v = rw (← c.self.view_is) c.self.invariant.plain in
     takes_none (tree_of_now v) (tree_is_plain v plain) n c.args.call.now c.requires (c.in-Ok.ensures n)

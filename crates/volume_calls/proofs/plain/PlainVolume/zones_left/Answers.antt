@@ -7,5 +7,5 @@ pub returns : goal.returns
 returns c =
     let p = c.parts.inside in
     let v : VolumeNow = record { geometry = p.geometry; contents = record { blocks = p.blocks; nodes = p.nodes.entries }; zones = p.zones } in
-    let plain : IsPlainNow v = rw c.parts.view_is c.self.invariant in
+    let plain : IsPlainNow v = rw c.parts.view_is c.self.invariant.plain in
     rw (← c.self.view_is, ← c.parts.view_is, c.free_count.ensures, c.quarantined.ensures) (left_counted v plain.in_use)

@@ -3,7 +3,7 @@ use Rattle.std.specs.List.{list_any}
 use Rattle.std.specs.Map.Iter.{deref}
 use Rattle.volume_ops.specs.Marks.{is_marked}
 use Rattle.volume_model.specs.declared.placed.Placed.{Placed}
-use Rattle.volume_names.proofs.numbers.used_numbers.Given as goal
+use Rattle.volume_names.proofs.inode_map.used_numbers.Given as goal
 
 abbrev pub invariant-loop-placed : goal.invariant-loop-placed
 invariant-loop-placed l = record {
