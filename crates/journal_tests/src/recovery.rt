@@ -301,39 +301,54 @@ fn logs_and_sequences_come_round(rt: HostRuntime) -> Result<(), Fail> {
     Ok(())
 }
 
-// The steps of attempts that are made one after the other.
-const OTHERS: [[Choice; 4]; 3] = [
-    [
-        Choice::Persist(1),
-        Choice::Transfer(1),
-        Choice::Transfer(0),
-        Choice::Persist(0),
-    ],
-    [
-        Choice::Transfer(2),
-        Choice::Default,
-        Choice::Persist(0),
-        Choice::Transfer(0),
-    ],
-    [
-        Choice::Transfer(0),
-        Choice::Transfer(3),
-        Choice::Persist(2),
-        Choice::Default,
-    ],
-];
+// The next number of a fixed row that looks like chance.
+fn next(state: &mut u32) -> u32 {
+    *state = (u64::from(*state) * 48_271 % 2_147_483_647) as u32;
+    *state
+}
 
-// Cuts a recovery behind each number of steps, cuts others behind it, and then recovers to the end.
-fn try_attempts(rt: &impl Abort, alloc: Global, image: &Image) -> Result<(), NoMemory> {
+// A step by such a number. Its place may be past what is there.
+fn drawn(state: &mut u32) -> Choice {
+    let n = next(state);
+    match n % 3 {
+        0 => Choice::Transfer(n / 3 % 5),
+        1 => Choice::Persist(n / 3 % 5),
+        _ => Choice::Default,
+    }
+}
+
+// Cuts a recovery behind each number of steps, cuts others behind it, and then recovers to the end. It takes `needed`
+// steps to have ended.
+fn try_attempts(
+    rt: &impl Abort,
+    alloc: Global,
+    image: &Image,
+    needed: usize,
+    state: &mut u32,
+) -> Result<(), NoMemory> {
     let (_, whole) = attempt(rt, alloc, image.copy(alloc)?, &[], false)?;
-    let steps = [Choice::Default; 16];
-    let (result, _) = attempt(rt, alloc, image.copy(alloc)?, &steps, true)?;
-    assert!(rt; result.is_ok_and(|r| r.ended));
-    for count in 0..17usize {
+    let steps = [Choice::Default; 13];
+    for count in 0..14usize {
         let steer = steps.get(..count).unwrap_or(&[]);
-        let (_, mut left) = attempt(rt, alloc, image.copy(alloc)?, steer, true)?;
-        for steer in OTHERS {
-            let (_, more) = attempt(rt, alloc, left, &steer, true)?;
+        let (result, mut left) = attempt(rt, alloc, image.copy(alloc)?, steer, true)?;
+        assert!(rt;
+            result.is_ok_and(|r| r.ended == (count >= needed)),
+            "{count}"
+        );
+        for _ in 0..3 {
+            let list = [
+                drawn(state),
+                drawn(state),
+                drawn(state),
+                drawn(state),
+                drawn(state),
+                drawn(state),
+                drawn(state),
+                drawn(state),
+            ];
+            let length = (next(state) % 9) as usize;
+            let steer = list.get(..length).unwrap_or(&[]);
+            let (_, more) = attempt(rt, alloc, left, steer, true)?;
             left = more;
         }
         let (result, last) = attempt(rt, alloc, left, &[], false)?;
@@ -343,19 +358,27 @@ fn try_attempts(rt: &impl Abort, alloc: Global, image: &Image) -> Result<(), NoM
     Ok(())
 }
 
+// Two steps for each home write and for the superblock, and one for the flush. An empty log takes none.
 #[test]
 fn attempts_lead_to_one_image(rt: HostRuntime) -> Result<(), Fail> {
     let alloc = rt.alloc();
+    let empty = JournalSuper {
+        sequence: 1,
+        start: 0,
+        ..FOUR
+    };
     let images = [
-        skipping(alloc)?,
-        revoked(alloc)?,
-        escaped(alloc)?,
-        of_five(alloc)?,
-        wrapped(alloc)?,
-        full(alloc)?,
+        (skipping(alloc)?, 3),
+        (revoked(alloc)?, 7),
+        (escaped(alloc)?, 5),
+        (of_five(alloc)?, 13),
+        (wrapped(alloc)?, 5),
+        (full(alloc)?, 7),
+        (image_with(alloc, &empty)?, 0),
     ];
-    for image in images {
-        try_attempts(&rt, alloc, &image)?;
+    let mut state = 1;
+    for (image, needed) in images {
+        try_attempts(&rt, alloc, &image, needed, &mut state)?;
     }
     Ok(())
 }
