@@ -10,7 +10,7 @@ use std::alloc::Global;
 use std::test::Fail;
 
 // A block that begins with these bytes, and has zeros behind them.
-fn block_of(front: &[u8]) -> Block {
+pub(crate) fn block_of(front: &[u8]) -> Block {
     let mut block = Block::fill(0);
     for (at, byte) in front.iter().enumerate() {
         if at < 1024 {
@@ -158,6 +158,7 @@ fn revoke_and_commit(rt: HostRuntime) -> Result<(), Fail> {
         block_of(&[0xC0, 0x3B, 0x39, 0x98, 0, 0, 0, 2, 0, 0, 0, 7])
     );
     assert!(rt; fault_of(alloc, &commit).is_none());
+    assert_eq!(rt; sequence_in(&commit), 7);
     log_blocks_are_read();
     readers_agree();
     logs_hold_whole_transactions();

@@ -2,6 +2,7 @@
 ghost use Rattle.std.specs.Prelude.{◌≡◌, ◌<◌, IfOk, length};
 ghost use Rattle.journal_tests.specs.Ready.{IsReady};
 
+use crate::log_blocks::block_of;
 use blk_base::{Block, Image, NoMemory};
 use device_epochs::{DeviceSetup, EpochDevice};
 use journal_blocks::{
@@ -409,6 +410,92 @@ fn sends_no_body_that_is_revoked(rt: HostRuntime) -> Result<(), Fail> {
     Ok(())
 }
 
+// Recovers a log with these blocks: how many transactions count, and the byte that block 9, which was zero, has then.
+fn try_log(
+    rt: &impl Abort,
+    alloc: Global,
+    name: &str,
+    maxlen: u32,
+    log: &[Block],
+    replayed: u32,
+    byte: u8,
+) -> Result<(), NoMemory> {
+    let mut image = image_with(alloc, &JournalSuper { maxlen, ..FOUR })?;
+    let mut place = 1u32;
+    for block in log {
+        put_log(&mut image, place, block.copy());
+        place = place.saturating_add(1);
+    }
+    let (result, after) = attempt(rt, alloc, image, &[], false)?;
+    let next = replayed.saturating_add(5);
+    assert!(rt; result == ended(replayed, next), "{name}");
+    assert!(rt; body(&after, 9) == Some(&Block::fill(byte)), "{name}");
+    Ok(())
+}
+
+// Two tags with a uuid each, for blocks 9 and 10, in sequence 4.
+const WITH_UUIDS: [u8; 60] = [
+    0xC0, 0x3B, 0x39, 0x98, 0, 0, 0, 1, 0, 0, 0, 4, // header
+    0, 0, 0, 9, 0, 0, 0, 0, 1, 2, 3, 4, 5, 6, 7, 8, 9, 10, 11, 12, 13, 14, 15, 16, // uuid
+    0, 0, 0, 10, 0, 0, 0, 8, 1, 2, 3, 4, 5, 6, 7, 8, 9, 10, 11, 12, 13, 14, 15, 16, // uuid, last
+];
+
+#[test]
+fn tells_what_counts_in_a_log(rt: HostRuntime) -> Result<(), Fail> {
+    let alloc = rt.alloc();
+    let bodies = write_descriptor(4, &[tag(9)]);
+    let log = [
+        write_commit(4),
+        write_descriptor(3, &[tag(9)]),
+        Block::fill(7),
+        write_commit(3),
+    ];
+    try_log(&rt, alloc, "older sequence", 128, &log, 1, 0)?;
+    let log = [
+        write_revoke(4, &[9]),
+        bodies.copy(),
+        Block::fill(7),
+        write_commit(4),
+    ];
+    try_log(&rt, alloc, "revoke before its body", 128, &log, 1, 0)?;
+    let log = [
+        bodies.copy(),
+        Block::fill(7),
+        write_revoke(4, &[9]),
+        write_commit(4),
+    ];
+    try_log(&rt, alloc, "revoke behind its body", 128, &log, 1, 0)?;
+    let log = [
+        write_revoke(4, &[9]),
+        write_commit(4),
+        write_descriptor(5, &[tag(9)]),
+        Block::fill(7),
+        write_commit(5),
+    ];
+    try_log(&rt, alloc, "earlier revoke", 128, &log, 2, 7)?;
+    let log = [
+        write_revoke(4, &[5000]),
+        bodies,
+        Block::fill(7),
+        write_commit(4),
+    ];
+    try_log(&rt, alloc, "revoke past the volume", 128, &log, 1, 7)?;
+    let log = [
+        write_commit(4),
+        write_descriptor(5, &[tag(9), tag(10)]),
+        Block::fill(7),
+    ];
+    try_log(&rt, alloc, "bodies past the log", 4, &log, 1, 0)?;
+    let log = [
+        block_of(&WITH_UUIDS),
+        Block::fill(7),
+        Block::fill(8),
+        write_commit(4),
+    ];
+    try_log(&rt, alloc, "tags with a uuid each", 128, &log, 1, 7)?;
+    Ok(())
+}
+
 // The commands are two home writes, the superblock and a flush; the log has seven blocks, and one more ends it.
 #[test]
 fn tells_what_failed(rt: HostRuntime) -> Result<(), Fail> {
@@ -453,7 +540,9 @@ fn tells_what_is_wrong_with_a_superblock(rt: HostRuntime) -> Result<(), Fail> {
         (0x2B, 3, JournalFault::Feature(2)),
         (0x0E, 8, JournalFault::BadCount),
         (0x13, 129, JournalFault::BadCount),
+        (0x13, 1, JournalFault::BadCount),
         (0x17, 0, JournalFault::BadCount),
+        (0x17, 2, JournalFault::BadCount),
         (0x1F, 128, JournalFault::BadCount),
     ];
     for (at, value, fault) in table {
