@@ -1,4 +1,4 @@
--- The bytes that `replay` writes are the text of an order-closed medium.
+-- The bytes that `replay` writes are the text of an order-closed medium, or of a session and its tree.
 use Rattle.std.proofs.Common.{◌≡◌, ℕ, ◌++◌, Bool, true, false, List, [], length, take, inl, inr, ◌≤◌, Option, Some, None, sym, ap, ◌∙◌, subst, arith, append-nil}
 use Rattle.std.proofs.lemmas.Option.{none-some, same_Some}
 use Rattle.std.proofs.lemmas.List.{append_cancel_left}
@@ -10,16 +10,18 @@ use Rattle.script_grammar.specs.declared.script.Script.{Script}
 use Rattle.script_grammar.specs.Grammar.{blocks_of}
 use Rattle.stack_core.specs.RequestPath.{submitted_count}
 use Rattle.stack_core.specs.Core.{core}
+use Rattle.session_core.specs.Headline.{medium_of}
+use Rattle.session_core.proofs.Headlines.{latest_shown, all_shown}
 use Rattle.barrierfs_top.specs.declared.run_report.RunReport.{RunReport}
-use Rattle.barrierfs_top.specs.Sessions.{is_session, IsSessionReplay}
+use Rattle.barrierfs_top.specs.Sessions.{is_session, figures_of, IsSessionReplay}
 use Rattle.barrierfs_top.specs.declared.command_line.Command.TheVariants as commands
 use Rattle.barrierfs_top.specs.declared.fault.TopFault.{TopFault}
 use Rattle.barrierfs_top.specs.declared.command_line.Task.{Task}
 use Rattle.barrierfs_top.specs.declared.command_line.Task.TheVariants as tasks
 use Rattle.barrierfs_top.specs.Tasks.{most_of, task_of}
-use Rattle.barrierfs_top.proofs.SessionEnds.{ends_in_tree}
+use Rattle.barrierfs_top.proofs.SessionEnds.{text_is, noted_of, stand_of}
 use Rattle.barrierfs_top.specs.Top.{Stream, IsBlocksReplay, IsReplayAs, IsDone, Does}
-use Rattle.barrierfs_top.specs.Promise.{WentOut, IsWritten, TellsOrderClosed, TellsPrefix, TellsRun}
+use Rattle.barrierfs_top.specs.Promise.{WentOut, IsWritten, TellsOrderClosed, TellsSession, TellsRun}
 
 -- where nothing was written, nothing went out
 pub none_out : (taken : Option (List ℕ)) (bytes : List ℕ) → WentOut taken taken bytes → ⊥
@@ -62,17 +64,30 @@ module _ (old new : Option (List ℕ)) (report : Option RunReport) (text bytes :
     written = subst (λ l. IsWritten fault l bytes) is.printed written;
   }
 
-  of_session : IsSessionReplay input report text → TellsPrefix old new fault bytes
+  of_session : IsSessionReplay input report text → TellsSession old new fault bytes
   of_session is =
-      let ends = ends_in_tree is.script is.result text is.core_is is.headline.prefix is.printed in
+      let s = is.script in
+      let r = is.result in
+      let h = is.headline in
       record {
-        script = is.script;
+        script = s;
         read = record { input = input; drained = drained; short = short; holds = is.spelled };
-        found = is.result.found;
-        tree = is.headline.prefix.tree;
-        alike = is.headline.prefix.alike;
-        head = ends.0;
-        written = subst (λ l. IsWritten fault l bytes) ends.1 written;
+        figures = figures_of r;
+        history = is.printed.history;
+        noted = noted_of s r is.printed.history is.core_is is.printed.noted;
+        standings = r.standings.items;
+        stand = stand_of s r is.core_is;
+        tree = h.prefix.tree;
+        written = subst (λ l. IsWritten fault l bytes) (text_is s r text is.core_is h.prefix is.printed) written;
+        medium = medium_of r;
+        order = h.order.closed;
+        recovered = h.prefix.found;
+        counted = h.counted;
+        alike = h.prefix.alike;
+        files = latest_shown s r h;
+        answered = h.answered;
+        barriers = λ e t c ok kind later. all_shown s r h (h.answered e t c ok).begun (h.barriers e t c ok kind later);
+        syncs = λ e t c ok kind. all_shown s r h (h.answered e t c ok).begun (h.syncs e t c ok kind);
       }
 
   told_as : (session : Bool) → IsReplayAs session input report text → TellsRun old new fault bytes

@@ -1,15 +1,14 @@
--- The text of a session's report ends in that of its tree.
-use Rattle.std.proofs.Common.{◌≡◌, ℕ, zero, suc, ◌+◌, ◌<◌, ◌≤◌, ◌++◌, List, [], ◌∷◌, Option, Some, None, arith, length-append, codes, decimal, length, Ok, sym, ap, ◌∙◌, append_assoc}
+-- The text of a session's report is that of the lines of its host and of its tree.
+use Rattle.std.proofs.Common.{◌≡◌, ℕ, zero, suc, ◌+◌, ◌<◌, ◌≤◌, ◌++◌, List, [], ◌∷◌, Option, Some, None, arith, length-append, length, map, Ok, refl, sym, ap, ◌∙◌}
 use Rattle.volume_ops.specs.laws.ReadsLaws.{same_Ok}
 use Rattle.tree_model.specs.Text.{tree_text}
 use Rattle.mount_make.specs.Images.{tree_after, image_tree}
-use Rattle.session_text.specs.Lines.{count_line}
 use Rattle.host_answers.specs.declared.entry.Entry.{Entry}
 use Rattle.session_grammar.specs.declared.session_script.SessionScript.{SessionScript}
-use Rattle.session_report.specs.ReportText.{session_lines, answers_text, threads_text}
+use Rattle.session_report.specs.ReportText.{session_lines}
 use Rattle.host_answers.specs.declared.standing.Standing.{Standing}
 use Rattle.session_grammar.specs.WellFormed.{IsWellFormed}
-use Rattle.session_core.specs.Core.{HostNow, standing_of, core, with_standing, standings_of}
+use Rattle.session_core.specs.Core.{HostNow, entry_in, standing_of, core, with_standing, standings_of}
 use Rattle.session_core.specs.Report.{IsReportOf, HasPrefix}
 use Rattle.session_core.specs.declared.report.SessionReport.{SessionReport}
 use Rattle.barrierfs_top.specs.Sessions.{IsSessionText, figures_of}
@@ -21,28 +20,27 @@ tree_shown s r told is p shown =
     let same : text_after (image_tree r.cut.image) ≡ shown_volume r.volume = ap (λ m. text_after (tree_after m)) is.volume in
     same_Ok told (tree_text p.tree) (sym shown ∙ (sym same ∙ ap text_after p.found))
 
-brackets : (head word n feed tree : List ℕ) → head ++ (word ++ n ++ feed) ++ tree ≡ head ++ word ++ n ++ feed ++ tree
-brackets head word n feed tree =
-    ap (λ (x : List ℕ). x ++ tree) (sym (append_assoc head (word ++ n) feed) ∙ ap (λ (x : List ℕ). x ++ feed) (sym (append_assoc head word n)))
+-- the text is that of the session's lines and of its tree
+pub text_is : (s : SessionScript) (r : SessionReport) (text : List ℕ) → IsReportOf s (core s) r → (p : HasPrefix s r) → (t : IsSessionText s r text)
+    → text ≡ session_lines s.programs s.lines (figures_of r) t.history r.standings.items ++ tree_text p.tree
+text_is s r text is p t = t.printed ∙ ap (λ (x : List ℕ). session_lines s.programs s.lines (figures_of r) t.history r.standings.items ++ x) (tree_shown s r t.tree is p t.shown)
 
--- all lines but the last
-abbrev head_of : SessionScript → SessionReport → List Entry → List ℕ
-head_of s r history =
-    count_line (codes "steps") r.cut.trace.steps ++ count_line (codes "requests") (figures_of r).requests ++ answers_text s.programs s.lines history
-    ++ threads_text 1 r.standings.items ++ count_line (codes "closed") (figures_of r).closed
+-- ---- what it says is of the script's host
 
-lines_end : (s : SessionScript) (r : SessionReport) (history : List Entry) (tree : List ℕ)
-    → session_lines s.programs s.lines (figures_of r) history r.standings.items ++ tree ≡ head_of s r history ++ codes "found " ++ decimal r.found ++ codes "\n" ++ tree
-unfolding session_lines
-lines_end s r history tree = brackets (head_of s r history) (codes "found ") (decimal r.found) (codes "\n") tree
+pub noted_of : (s : SessionScript) (r : SessionReport) (history : List Entry) → IsReportOf s (core s) r → r.host.host.history ≡ map (entry_in r.host.programs) history
+    → (core s).host.history ≡ map (entry_in s.programs) history
+noted_of s r history is noted = ap (λ h. h.history) (sym is.host) ∙ (noted ∙ ap (λ ps. map (entry_in ps) history) is.programs)
 
-pub ends_in_tree : (s : SessionScript) (r : SessionReport) (text : List ℕ) → IsReportOf s (core s) r → (p : HasPrefix s r) → IsSessionText s r text
-    → (head : List ℕ) × (text ≡ head ++ codes "found " ++ decimal r.found ++ codes "\n" ++ tree_text p.tree)
-ends_in_tree s r text is p t = (
-  head_of s r t.history,
-  t.printed ∙ (ap (λ (x : List ℕ). session_lines s.programs s.lines (figures_of r) t.history r.standings.items ++ x) (tree_shown s r t.tree is p t.shown)
-      ∙ lines_end s r t.history (tree_text p.tree)),
-)
+-- how threads stand is read off the host and the programs alone
+same_standings : (g h : HostNow) → g.host ≡ h.host → g.programs ≡ h.programs → (n : ℕ) → standings_of g n ≡ standings_of h n
+same_standings g h e f zero = refl
+same_standings g h e f (suc n) =
+    ap (λ ss. with_standing ss (standing_of g (n + 1))) (same_standings g h e f n)
+    ∙ (ap (λ x. with_standing (standings_of h n) (standing_of (record g { host = x }) (n + 1))) e
+    ∙ ap (λ ps. with_standing (standings_of h n) (standing_of (record g { host = h.host; programs = ps }) (n + 1))) f)
+
+pub stand_of : (s : SessionScript) (r : SessionReport) → IsReportOf s (core s) r → (h : HostNow) → h.host ≡ (core s).host → h.programs ≡ s.programs → r.standings.items ≡ standings_of h (length s.programs)
+stand_of s r is h host programs = is.standings ∙ same_standings r.host h (is.host ∙ sym host) (is.programs ∙ sym programs) (length s.programs)
 
 -- ---- no more threads stand than the script has
 

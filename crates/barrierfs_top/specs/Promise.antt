@@ -1,6 +1,5 @@
 -- What `replay` promises of the bytes that it writes.
-use Rattle.std.specs.Prelude.{◌≡◌, ℕ, ◌<◌, ◌++◌, ◌⊎◌, List, length, take, codes, Option, Some, None, Ok}
-use Rattle.std.specs.Fmt.{decimal}
+use Rattle.std.specs.Prelude.{◌≡◌, ℕ, ◌+◌, ◌<◌, ◌++◌, ◌⊎◌, true, false, List, length, map, take, Option, Some, None, Ok}
 use Rattle.blk_base.specs.Image.{zeros}
 use Rattle.order_model.specs.Submission.{IsOrderClosed}
 use Rattle.script_grammar.specs.declared.script.Script.{Script}
@@ -8,12 +7,18 @@ use Rattle.script_grammar.specs.Grammar.{script_of, blocks_of}
 use Rattle.barrierfs_top.specs.declared.command_line.Command.TheVariants as commands
 use Rattle.barrierfs_top.specs.declared.fault.TopFault.{TopFault}
 use Rattle.barrierfs_top.specs.Text.{report_text}
+use Rattle.tree_model.specs.declared.call.Call.{Call}
 use Rattle.tree_model.specs.Calls.{Tree}
 use Rattle.tree_model.specs.Text.{tree_text}
 use Rattle.tree_model.specs.Trees.{AreAlike}
+use Rattle.mount_make.specs.Images.{image_tree}
+use Rattle.host_answers.specs.declared.entry.Entry.{Entry}
+use Rattle.host_answers.specs.declared.standing.Standing.{Standing}
 use Rattle.session_grammar.specs.declared.session_script.SessionScript.{SessionScript}
 use Rattle.session_grammar.specs.Grammar.{session_of}
-use Rattle.session_core.specs.Core.{core, opening_of}
+use Rattle.session_report.specs.ReportText.{Figures, session_lines}
+use Rattle.session_core.specs.Core.{HostNow, core, opening_of, entry_in, standings_of}
+use Rattle.session_core.specs.Headline.{Medium, IsLastChange, last_write, is_durable, kind_of, AnsweredAt, WasAnswered, told_of, kept_on, IsLaterSurvived, IsShown, IsAllShown}
 use Rattle.session_core.specs.Report.{tree_behind}
 use Rattle.barrierfs_top.specs.Top.{WasRead}
 
@@ -41,17 +46,39 @@ pub record TellsOrderClosed (old new : Option (List ℕ)) (fault : Option TopFau
   pub steps : ℕ
   pub written : IsWritten fault (report_text steps image origins) bytes
 
--- The source spells a volume script, and the bytes are a text that ends in that of a tree, which is alike to the one after the
--- calls of the first transactions of the script's session, so many as the line before it says.
-pub record TellsPrefix (old new : Option (List ℕ)) (fault : Option TopFault) (bytes : List ℕ) : Type 0 where
+-- The source spells a volume script, and the bytes are the text of its session: the answers to its calls, how its threads
+-- stand, and the tree of what was recovered after the power cut.
+pub record TellsSession (old new : Option (List ℕ)) (fault : Option TopFault) (bytes : List ℕ) : Type 0 where
   pub script : SessionScript
   pub read : WasRead commands.Replay old new (λ input. session_of input ≡ Ok script)
-  pub found : ℕ
+  -- What is printed: figures, what the host noted of the calls, how the threads stand, and a tree.
+  pub figures : Figures
+  pub history : List Entry
+  pub noted : (core script).host.history ≡ map (entry_in script.programs) history
+  pub standings : List Standing
+  pub stand : (h : HostNow) → h.host ≡ (core script).host → h.programs ≡ script.programs → standings ≡ standings_of h (length script.programs)
   pub tree : Tree
-  pub alike : AreAlike (tree_behind (opening_of script) (core script).host found) tree
-  pub head : List ℕ
-  pub written : IsWritten fault (head ++ codes "found " ++ decimal found ++ codes "\n" ++ tree_text tree) bytes
+  pub written : IsWritten fault (session_lines script.programs script.lines figures history standings ++ tree_text tree) bytes
+  -- The tree is that of a medium, once it was recovered. The medium is order-closed for what the host submitted, and has the
+  -- commit blocks of so many transactions as the figures say.
+  pub medium : Medium
+  pub order : IsOrderClosed (opening_of script).image (core script).host.journal.flush.requests medium.image medium.origins
+  pub recovered : image_tree medium.image ≡ Ok tree
+  pub counted : figures.found ≡ kept_on script medium
+  -- The tree is alike to the one after the calls of the first transactions, as many as that.
+  pub alike : AreAlike (tree_behind (opening_of script) (core script).host figures.found) tree
+  -- It has each block of a file in a version that is no older than the one which the last change of its file asks for.
+  pub files : (f i k : ℕ) → (told_of script).maps ((told_of script).cut figures.found) f i ≡ true → IsLastChange (told_of script) f figures.found k
+      → IsShown (told_of script) tree alike.to f i (last_write (told_of script) f i ((told_of script).cut k))
+  -- A barrier or sync call that was answered Ok began before, on the node to which its path led there. Where a write made after
+  -- the answer of a barrier call survived, all that the call covers is shown or was superseded; all that a sync call covers
+  -- is so in any case.
+  pub answered : (e t : ℕ) (c : Call) → AnsweredAt (core script).host e t c → WasAnswered (opening_of script) (core script).host e t c
+  pub barriers : (e t : ℕ) (c : Call) (ok : AnsweredAt (core script).host e t c) → is_durable (kind_of c) ≡ false → IsLaterSurvived script medium (e + 1)
+      → IsAllShown script figures.found tree alike.to (answered e t c ok).begun
+  pub syncs : (e t : ℕ) (c : Call) (ok : AnsweredAt (core script).host e t c) → is_durable (kind_of c) ≡ true
+      → IsAllShown script figures.found tree alike.to (answered e t c ok).begun
 
 -- one or the other
 abbrev pub TellsRun : Option (List ℕ) → Option (List ℕ) → Option TopFault → List ℕ → Type 0
-TellsRun old new fault bytes = TellsOrderClosed old new fault bytes ⊎ TellsPrefix old new fault bytes
+TellsRun old new fault bytes = TellsOrderClosed old new fault bytes ⊎ TellsSession old new fault bytes
