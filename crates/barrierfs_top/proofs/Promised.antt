@@ -19,7 +19,7 @@ use Rattle.barrierfs_top.specs.declared.fault.TopFault.{TopFault}
 use Rattle.barrierfs_top.specs.declared.command_line.Task.{Task}
 use Rattle.barrierfs_top.specs.declared.command_line.Task.TheVariants as tasks
 use Rattle.barrierfs_top.specs.Tasks.{most_of, task_of}
-use Rattle.barrierfs_top.proofs.SessionEnds.{text_is, noted_of, stand_of}
+use Rattle.barrierfs_top.proofs.SessionEnds.{text_is, noted_of, stand_of, order_of}
 use Rattle.barrierfs_top.specs.Top.{Stream, IsBlocksReplay, IsReplayAs, IsDone, Does}
 use Rattle.barrierfs_top.specs.Promise.{WentOut, IsWritten, TellsOrderClosed, TellsSession, TellsRun}
 
@@ -80,7 +80,7 @@ module _ (old new : Option (List ℕ)) (report : Option RunReport) (text bytes :
         tree = h.prefix.tree;
         written = subst (λ l. IsWritten fault l bytes) (text_is s r text is.core_is h.prefix is.printed) written;
         medium = medium_of r;
-        order = h.order.closed;
+        order = order_of s r is.core_is h.order;
         recovered = h.prefix.found;
         counted = h.counted;
         alike = h.prefix.alike;

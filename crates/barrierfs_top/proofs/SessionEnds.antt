@@ -1,5 +1,7 @@
 -- The text of a session's report is that of the lines of its host and of its tree.
-use Rattle.std.proofs.Common.{◌≡◌, ℕ, zero, suc, ◌+◌, ◌<◌, ◌≤◌, ◌++◌, List, [], ◌∷◌, Option, Some, None, arith, length-append, length, map, Ok, refl, sym, ap, ◌∙◌}
+use Rattle.std.proofs.Common.{◌≡◌, ℕ, zero, suc, ◌+◌, ◌<◌, ◌≤◌, ◌++◌, List, [], ◌∷◌, Option, Some, None, arith, length-append, length, map, Ok, refl, sym, ap, subst, ◌∙◌}
+use Rattle.device_epochs.specs.Device.{seen}
+use Rattle.stack_core.specs.Headline.{KeepsOrder}
 use Rattle.volume_ops.specs.laws.ReadsLaws.{same_Ok}
 use Rattle.tree_model.specs.Text.{tree_text}
 use Rattle.mount_make.specs.Images.{tree_after, image_tree}
@@ -8,8 +10,8 @@ use Rattle.session_grammar.specs.declared.session_script.SessionScript.{SessionS
 use Rattle.session_report.specs.ReportText.{session_lines}
 use Rattle.host_answers.specs.declared.standing.Standing.{Standing}
 use Rattle.session_grammar.specs.WellFormed.{IsWellFormed}
-use Rattle.session_core.specs.Core.{HostNow, entry_in, standing_of, core, with_standing, standings_of}
-use Rattle.session_core.specs.Report.{IsReportOf, HasPrefix}
+use Rattle.session_core.specs.Core.{HostNow, entry_in, standing_of, core, opening_of, with_standing, standings_of}
+use Rattle.session_core.specs.Report.{IsReportOf, ReportKeepsOrder, HasPrefix}
 use Rattle.session_core.specs.declared.report.SessionReport.{SessionReport}
 use Rattle.barrierfs_top.specs.Sessions.{IsSessionText, figures_of}
 use Rattle.barrierfs_top.specs.Show.{shown_volume, text_after}
@@ -41,6 +43,11 @@ same_standings g h e f (suc n) =
 
 pub stand_of : (s : SessionScript) (r : SessionReport) → IsReportOf s (core s) r → (h : HostNow) → h.host ≡ (core s).host → h.programs ≡ s.programs → r.standings.items ≡ standings_of h (length s.programs)
 stand_of s r is h host programs = is.standings ∙ same_standings r.host h (is.host ∙ sym host) (is.programs ∙ sym programs) (length s.programs)
+
+-- the completions of the trace are those that the device sent
+pub order_of : (s : SessionScript) (r : SessionReport) → IsReportOf s (core s) r → ReportKeepsOrder s r
+    → KeepsOrder (opening_of s).image (core s).host.journal.flush.requests r.cut.image r.cut.origins ((seen (core s).dev).sent ++ (seen (core s).dev).waiting)
+order_of s r is order = subst (λ sent. KeepsOrder (opening_of s).image (core s).host.journal.flush.requests r.cut.image r.cut.origins (sent ++ (seen (core s).dev).waiting)) is.trace.sent order
 
 -- ---- no more threads stand than the script has
 

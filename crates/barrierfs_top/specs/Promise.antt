@@ -2,6 +2,8 @@
 use Rattle.std.specs.Prelude.{◌≡◌, ℕ, ◌+◌, ◌<◌, ◌++◌, ◌⊎◌, true, false, List, length, map, take, Option, Some, None, Ok}
 use Rattle.blk_base.specs.Image.{zeros}
 use Rattle.order_model.specs.Submission.{IsOrderClosed}
+use Rattle.device_epochs.specs.Device.{seen}
+use Rattle.stack_core.specs.Headline.{KeepsOrder}
 use Rattle.script_grammar.specs.declared.script.Script.{Script}
 use Rattle.script_grammar.specs.Grammar.{script_of, blocks_of}
 use Rattle.barrierfs_top.specs.declared.command_line.Command.TheVariants as commands
@@ -59,10 +61,11 @@ pub record TellsSession (old new : Option (List ℕ)) (fault : Option TopFault) 
   pub stand : (h : HostNow) → h.host ≡ (core script).host → h.programs ≡ script.programs → standings ≡ standings_of h (length script.programs)
   pub tree : Tree
   pub written : IsWritten fault (session_lines script.programs script.lines figures history standings ++ tree_text tree) bytes
-  -- The tree is that of a medium, once it was recovered. The medium is order-closed for what the host submitted, and has the
-  -- commit blocks of so many transactions as the figures say.
+  -- The tree is that of a medium, once it was recovered. The medium is order-closed for what the host submitted, and where a
+  -- flush completed, all before it is kept. It has the commit blocks of so many transactions as the figures say.
   pub medium : Medium
-  pub order : IsOrderClosed (opening_of script).image (core script).host.journal.flush.requests medium.image medium.origins
+  pub order : KeepsOrder (opening_of script).image (core script).host.journal.flush.requests medium.image medium.origins
+      ((seen (core script).dev).sent ++ (seen (core script).dev).waiting)
   pub recovered : image_tree medium.image ≡ Ok tree
   pub counted : figures.found ≡ kept_on script medium
   -- The tree is alike to the one after the calls of the first transactions, as many as that.
