@@ -82,6 +82,7 @@ module _ (old new : Option (List ℕ)) (report : Option RunReport) (text bytes :
         medium = medium_of r;
         order = order_of s r is.core_is h.order;
         recovered = h.prefix.found;
+        transactions = h.transactions;
         counted = h.counted;
         alike = h.prefix.alike;
         files = latest_shown s r h;

@@ -20,7 +20,7 @@ use Rattle.session_grammar.specs.declared.session_script.SessionScript.{SessionS
 use Rattle.session_grammar.specs.Grammar.{session_of}
 use Rattle.session_report.specs.ReportText.{Figures, session_lines}
 use Rattle.session_core.specs.Core.{HostNow, core, opening_of, entry_in, standings_of}
-use Rattle.session_core.specs.Headline.{Medium, IsLastChange, last_write, is_durable, kind_of, AnsweredAt, WasAnswered, told_of, kept_on, IsLaterSurvived, IsShown, IsAllShown}
+use Rattle.session_core.specs.Headline.{Medium, IsLastChange, last_write, is_durable, kind_of, AnsweredAt, WasAnswered, told_of, submitted_of, kept_on, IsFound, IsLaterSurvived, IsShown, IsAllShown}
 use Rattle.session_core.specs.Report.{tree_behind}
 use Rattle.barrierfs_top.specs.Top.{WasRead}
 
@@ -62,13 +62,15 @@ pub record TellsSession (old new : Option (List ℕ)) (fault : Option TopFault) 
   pub tree : Tree
   pub written : IsWritten fault (session_lines script.programs script.lines figures history standings ++ tree_text tree) bytes
   -- The tree is that of a medium, once it was recovered. The medium is order-closed for what the host submitted, and where a
-  -- flush completed, all before it is kept. It has the commit blocks of so many transactions as the figures say.
+  -- flush completed, all before it is kept. The commit blocks that it has are those of the first transactions, as many as the
+  -- figures say.
   pub medium : Medium
   pub order : KeepsOrder (opening_of script).image (core script).host.journal.flush.requests medium.image medium.origins
       ((seen (core script).dev).sent ++ (seen (core script).dev).waiting)
   pub recovered : image_tree medium.image ≡ Ok tree
+  pub transactions : IsFound (submitted_of script) medium figures.found
   pub counted : figures.found ≡ kept_on script medium
-  -- The tree is alike to the one after the calls of the first transactions, as many as that.
+  -- The tree is alike to the one after the calls of these transactions.
   pub alike : AreAlike (tree_behind (opening_of script) (core script).host figures.found) tree
   -- It has each block of a file in a version that is no older than the one which the last change of its file asks for.
   pub files : (f i k : ℕ) → (told_of script).maps ((told_of script).cut figures.found) f i ≡ true → IsLastChange (told_of script) f figures.found k

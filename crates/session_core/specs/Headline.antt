@@ -8,12 +8,13 @@ use Rattle.tree_model.specs.Calls.{Tree}
 use Rattle.volume_ops.specs.Volume.{disk_of}
 use Rattle.volume_steps.specs.Now.{room_of}
 use Rattle.mount_make.specs.Images.{recovered_image}
-use Rattle.crash_laws.specs.Found.{IsFound}
+pub use Rattle.crash_laws.specs.Found.{IsFound}
 use Rattle.crash_laws.specs.LegalHistory.{IsLegal}
 pub use Rattle.crash_laws.specs.History.{History, last_write, IsLastChange}
 use Rattle.crash_laws.specs.PromiseRules.{Covers, CoversEntry, IsLaterKept}
 use Rattle.crash_laws.specs.Rules.{FitsNotes}
 pub use Rattle.crash_laws.specs.Session.{Medium}
+use Rattle.crash_laws.specs.Session.{Session}
 use Rattle.crash_laws.specs.Volumes.{WalkEnd}
 pub use Rattle.flush_actor.specs.Kinds.{is_durable}
 use Rattle.flush_actor.specs.Kinds.{is_data}
@@ -40,16 +41,19 @@ use Rattle.session_core.specs.declared.report.SessionReport.{SessionReport}
 abbrev pub medium_of : SessionReport → Medium
 medium_of r = record { image = r.cut.image; origins = r.cut.origins }
 
--- what is told of the calls of a script's session, and how many of its transactions a medium has
+-- what is told of the calls of a script's session, what its host submitted, and how many of its transactions a medium has
 abbrev pub told_of : SessionScript → History WalkEnd
 told_of s = history_of (geometry_of s) s.journal (core s).host
+
+abbrev pub submitted_of : SessionScript → Session
+submitted_of s = submitted_by (geometry_of s) s.journal [] (core s).host
 
 abbrev pub kept_on : SessionScript → Medium → ℕ
 kept_on s m = kept_count (geometry_of s) s.journal (core s).host m
 
 -- a write made after entry e survived the power cut that left this medium
 abbrev pub IsLaterSurvived : SessionScript → Medium → ℕ → Type 0
-IsLaterSurvived s m e = IsLaterKept (told_of s) (submitted_by (geometry_of s) s.journal [] (core s).host) m (kept_on s m) e
+IsLaterSurvived s m e = IsLaterKept (told_of s) (submitted_of s) m (kept_on s m) e
 
 -- A tree, into whose births `to` leads, shows all blocks that a barrier or sync call covers, but for those that the kept
 -- transactions superseded; and the metadata that the call covers is of these transactions.
@@ -74,8 +78,8 @@ pub record Headline (s : SessionScript) (r : SessionReport) : Type 0 where
   pub legal : IsLegal (room_of (geometry_of s)) (program_of s.programs) (events_in (core s).host.history)
   -- The transactions whose commit block was kept are the first ones, as many as were found; and the metadata recovered is
   -- that after them.
-  pub transactions : IsFound (submitted_by (geometry_of s) s.journal [] (core s).host) (medium_of r) r.found
-  pub counted : r.found ≡ kept_count (geometry_of s) s.journal (core s).host (medium_of r)
+  pub transactions : IsFound (submitted_of s) (medium_of r) r.found
+  pub counted : r.found ≡ kept_on s (medium_of r)
   pub prefix : HasPrefix s r
   -- The recovered disk has the metadata after them, and each block of a file in a version that is no older than the one
   -- which the last change of its file asks for.
