@@ -1,5 +1,5 @@
 //! The trait of schedulers, with its law.
-ghost use Rattle.std.specs.Prelude.{◌≡◌, ◌↔◌, true, IsOk, OnOk, IfErr, if◌then◌else◌};
+ghost use Rattle.std.specs.Prelude.{◌≡◌, ◌↔◌, true, false, Some, None, IsOk, OnOk, IfErr, if◌then◌else◌};
 ghost use Rattle.barrier_reassign.specs.Scheduler.{SchedSteps, IsAcceptable, IsScheduler, IsSchedRecord};
 
 use crate::closing::Held;
@@ -46,6 +46,13 @@ pub trait Scheduler {
     /// Takes the request at place `pick` of its list, and gives the command that carries it.
     fn dispatch(&mut self, pick: u32) -> Option<Command>
         ensures command { result ≡ steps.command (state self.old) pick }
+        ensures state { state self.new ≡ steps.dispatched (state self.old) pick };
+
+    /// As `dispatch` does, but the command that comes is written into one that the caller keeps. Where none
+    /// comes, that one stays as it was.
+    fn dispatch_into(&mut self, pick: u32, into: &mut Command) -> bool
+        ensures command { steps.command (state self.old) pick ≡ (if result then Some into.new else None) }
+        ensures kept { result ≡ false → into.new ≡ into.old }
         ensures state { state self.new ≡ steps.dispatched (state self.old) pick };
 
     /// What was accepted and sent out so far.

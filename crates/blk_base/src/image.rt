@@ -1,5 +1,5 @@
 //! Images: blocks numbered from 0.
-ghost use Rattle.std.specs.Prelude.{◌≡◌, ℕ, ◌+◌, ◌<◌, ◌≤◌, List, length, IfOk, slice_get, slice_set, Some, vec_len, ◌/◌, ◌==◌};
+ghost use Rattle.std.specs.Prelude.{◌≡◌, ℕ, ◌+◌, ◌<◌, ◌≤◌, List, length, IfOk, slice_get, slice_set, Some, vec_len, ◌/◌, ◌==◌, ◌^◌};
 ghost use Rattle.blk_base.specs.Image.{zeros, whole_blocks, bytes_at};
 
 use crate::{Block, NoMemory};
@@ -47,6 +47,14 @@ impl Image {
             list.push_reserved(block_at(bytes, b));
         }
         Ok(Image { blocks: list })
+    }
+
+    /// The image of these blocks, which are not copied.
+    pub fn of_blocks(blocks: Vec<Block>) -> Image
+        requires { vec_len blocks < 2 ^ 32 }
+        ensures { result ≡ blocks.items }
+    {
+        Image { blocks }
     }
 
     pub fn len(&self) -> u32

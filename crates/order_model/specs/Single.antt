@@ -1,11 +1,15 @@
--- The command that carries one request alone.
-use Rattle.std.specs.Prelude.{ℕ, Bool, List, [], ◌∷◌, Option, Some, None, if◌then◌else◌}
+-- The command that carries one request alone, and the one that carries none.
+use Rattle.std.specs.Prelude.{ℕ, Bool, false, List, [], ◌∷◌, Option, Some, None, if◌then◌else◌}
 use Rattle.order_model.specs.declared.part.Part.{Part}
 use Rattle.order_model.specs.declared.command.Command.{Command}
 use Rattle.order_model.specs.declared.command.Priority.TheVariants.{Simple, Ordered}
 use Rattle.order_model.specs.declared.request.Kind.{Kind}
 use Rattle.order_model.specs.declared.request.Kind.TheVariants.{Put, Flush}
 use Rattle.order_model.specs.declared.request.Request.{Request}
+
+-- a command of no parts
+abbrev pub blank_command : Command
+blank_command = record { parts = []; priority = Simple; barrier = false; flush = None }
 
 abbrev pub parts_for : ℕ → Kind → List Part
 parts_for id (Put block body) = record { id = id; block = block; body = body } ∷ []

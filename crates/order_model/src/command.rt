@@ -1,6 +1,6 @@
 //! Commands: what a scheduler sends to a device.
-ghost use Rattle.std.specs.Prelude.{◌≡◌};
-ghost use Rattle.order_model.specs.Single.{command_of_request};
+ghost use Rattle.std.specs.Prelude.{◌≡◌, if◌then◌else◌};
+ghost use Rattle.order_model.specs.Single.{blank_command, command_of_request};
 
 use crate::{Kind, Part, Parts, Request};
 
@@ -24,30 +24,44 @@ pub struct Command {
 }
 
 impl Command {
+    /// A command of no parts, in which others are written.
+    pub fn blank() -> Command
+        ensures { result ≡ blank_command }
+    {
+        Command {
+            parts: Parts::none(),
+            priority: Priority::Simple,
+            barrier: false,
+            flush: None,
+        }
+    }
+
     /// The command that carries one request alone, ORDERED and a barrier where it is flagged. It takes no
     /// memory.
     pub fn of_request(r: Request, flagged: bool) -> Command
         ensures { result ≡ command_of_request r flagged }
     {
-        let priority = if flagged {
-            Priority::Ordered
-        } else {
-            Priority::Simple
-        };
+        let mut command = Command::blank();
+        command.carry(r, flagged);
+        command
+    }
+
+    /// Becomes the command that carries one request alone, where it stands: 1 KB of its 16 is written.
+    pub fn carry(&mut self, r: Request, flagged: bool)
+        ensures { self.new ≡ command_of_request r flagged }
+    {
         let id = r.id;
+        self.priority = priority_of(flagged);
+        self.barrier = flagged;
         match r.kind {
-            Kind::Put { block, body } => Command {
-                parts: Parts::one(Part { id, block, body }),
-                priority,
-                barrier: flagged,
-                flush: None,
-            },
-            Kind::Flush => Command {
-                parts: Parts::none(),
-                priority,
-                barrier: flagged,
-                flush: Some(id),
-            },
+            Kind::Put { block, body } => {
+                self.parts.set_one(Part { id, block, body });
+                self.flush = None;
+            }
+            Kind::Flush => {
+                self.parts.clear();
+                self.flush = Some(id);
+            }
         }
     }
 
@@ -59,5 +73,16 @@ impl Command {
         self.priority = from.priority;
         self.barrier = from.barrier;
         self.flush = from.flush;
+    }
+}
+
+// A barrier is ORDERED.
+fn priority_of(flagged: bool) -> Priority
+    ensures { result ≡ (if flagged then Priority.Ordered else Priority.Simple) }
+{
+    if flagged {
+        Priority::Ordered
+    } else {
+        Priority::Simple
     }
 }

@@ -95,6 +95,12 @@ pub trait OrderedDev {
         ensures ok { OnOk result (state self.new ≡ received (state self.old) c) }
         ensures back { IfErr result (λ d. (d ≡ c) × (state self.new ≡ state self.old)) };
 
+    /// Takes the same as a command, where there is room. Its parts are copied, and nothing else is moved.
+    fn take_in(&mut self, c: &Command)
+        requires command { IsReceivable (seen (state self.old)) c.now }
+        requires room { has_room (state self.old) ≡ true }
+        ensures { state self.new ≡ received (state self.old) c.now };
+
     /// How many of the commands that wait may be transferred next.
     fn can_transfer(&self) -> u32
         ensures { result ≡ can_transfer (state self.now) };

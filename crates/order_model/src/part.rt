@@ -88,6 +88,21 @@ impl Parts {
         Ok(())
     }
 
+    /// All parts go. What is in their places stays there and does not count.
+    pub fn clear(&mut self)
+        ensures { self.new ≡ [] }
+    {
+        self.items.clear();
+    }
+
+    /// This part takes the place of all that are held, where it stands.
+    pub fn set_one(&mut self, p: Part)
+        ensures { self.new ≡ p ∷ [] }
+    {
+        self.items.clear();
+        self.items.push(p);
+    }
+
     /// The parts of another list take the place of these, where they stand.
     pub fn refill(&mut self, from: &Parts)
         ensures { self.new ≡ from.now }
