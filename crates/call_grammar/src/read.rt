@@ -3,7 +3,7 @@ ghost use Rattle.std.specs.Prelude.{◌≡◌, ◌==◌, ◌≤◌, ◌&&◌, no
 ghost use Rattle.std.specs.List.{list_all};
 ghost use Rattle.std.specs.Option.{option_map};
 ghost use Rattle.call_grammar.specs.CallLines.{is_printed, is_path_text, hex_text, path_call, pair_call, length_fits, call_taken, call_of, path_spelled, pair_spelled, truncate_spelled, place_spelled, call_at, write_at, bytes_at, read_at, sync_spelled};
-ghost use Rattle.script_words.specs.code.Readers.{Gives};
+ghost use Rattle.script_words.specs.code.Readers.{IsReadAs};
 
 use crate::limits::{MOST_DIGITS, MOST_LENGTH, OFFSETS};
 use crate::words::{CallWord, PairWord, PathWord, PlaceWord};
@@ -19,7 +19,7 @@ const NUMBER: WordsError = WordsError::Fault(LineFault::Number);
 
 /// Reads the words behind the first as a call, or says what is wrong with them.
 pub fn read_call(alloc: Global, word: CallWord, words: &[&[u8]]) -> Result<Call, WordsError>
-    ensures { Gives result (call_of word (map (λ x. x.now) words.now)) }
+    ensures { IsReadAs result (call_of word (map (λ x. x.now) words.now)) }
 {
     match word {
         CallWord::OfPath(word) => read_path_call(alloc, word, words),
@@ -92,7 +92,7 @@ fn path_call(word: PathWord, path: ByteList) -> Call
 }
 
 fn read_path_call(alloc: Global, word: PathWord, words: &[&[u8]]) -> Result<Call, WordsError>
-    ensures { Gives result (call_taken (path_spelled word (map (λ x. x.now) words.now))) }
+    ensures { IsReadAs result (call_taken (path_spelled word (map (λ x. x.now) words.now))) }
 {
     let [path] = words else {
         return Err(SPELLING);
@@ -113,7 +113,7 @@ fn pair_call(word: PairWord, path: ByteList, other: ByteList) -> Call
 }
 
 fn read_pair_call(alloc: Global, word: PairWord, words: &[&[u8]]) -> Result<Call, WordsError>
-    ensures { Gives result (call_taken (pair_spelled word (map (λ x. x.now) words.now))) }
+    ensures { IsReadAs result (call_taken (pair_spelled word (map (λ x. x.now) words.now))) }
 {
     let [path, other] = words else {
         return Err(SPELLING);
@@ -127,7 +127,7 @@ fn read_pair_call(alloc: Global, word: PairWord, words: &[&[u8]]) -> Result<Call
 }
 
 fn read_truncate(alloc: Global, words: &[&[u8]]) -> Result<Call, WordsError>
-    ensures { Gives result (call_taken (truncate_spelled (map (λ x. x.now) words.now))) }
+    ensures { IsReadAs result (call_taken (truncate_spelled (map (λ x. x.now) words.now))) }
 {
     let [path, size] = words else {
         return Err(SPELLING);
@@ -146,7 +146,7 @@ fn read_truncate(alloc: Global, words: &[&[u8]]) -> Result<Call, WordsError>
 
 #[tactic(auto, using(crate::proofs::Others::place_of_few))]
 fn read_place_call(alloc: Global, word: PlaceWord, words: &[&[u8]]) -> Result<Call, WordsError>
-    ensures { Gives result (call_taken (place_spelled word (map (λ x. x.now) words.now))) }
+    ensures { IsReadAs result (call_taken (place_spelled word (map (λ x. x.now) words.now))) }
 {
     let [path, off, rest @ ..] = words else {
         return Err(SPELLING);
@@ -165,7 +165,7 @@ fn read_place_call(alloc: Global, word: PlaceWord, words: &[&[u8]]) -> Result<Ca
 }
 
 fn read_write(alloc: Global, path: &[u8], off: u64, words: &[&[u8]]) -> Result<Call, WordsError>
-    ensures { Gives result (call_taken (write_at path.now off (map (λ x. x.now) words.now))) }
+    ensures { IsReadAs result (call_taken (write_at path.now off (map (λ x. x.now) words.now))) }
 {
     let [len, value] = words else {
         return Err(SPELLING);
@@ -185,7 +185,7 @@ fn read_write(alloc: Global, path: &[u8], off: u64, words: &[&[u8]]) -> Result<C
 }
 
 fn read_bytes(alloc: Global, path: &[u8], off: u64, words: &[&[u8]]) -> Result<Call, WordsError>
-    ensures { Gives result (call_taken (bytes_at path.now off (map (λ x. x.now) words.now))) }
+    ensures { IsReadAs result (call_taken (bytes_at path.now off (map (λ x. x.now) words.now))) }
 {
     let [digits] = words else {
         return Err(SPELLING);
@@ -204,7 +204,7 @@ fn read_bytes(alloc: Global, path: &[u8], off: u64, words: &[&[u8]]) -> Result<C
 }
 
 fn read_read(alloc: Global, path: &[u8], off: u64, words: &[&[u8]]) -> Result<Call, WordsError>
-    ensures { Gives result (call_taken (read_at path.now off (map (λ x. x.now) words.now))) }
+    ensures { IsReadAs result (call_taken (read_at path.now off (map (λ x. x.now) words.now))) }
 {
     let [len] = words else {
         return Err(SPELLING);
@@ -223,7 +223,7 @@ fn read_read(alloc: Global, path: &[u8], off: u64, words: &[&[u8]]) -> Result<Ca
 }
 
 fn read_sync(words: &[&[u8]]) -> Result<Call, WordsError>
-    ensures { Gives result (call_taken (sync_spelled (map (λ x. x.now) words.now))) }
+    ensures { IsReadAs result (call_taken (sync_spelled (map (λ x. x.now) words.now))) }
 {
     match words {
         [] => Ok(Call::Sync),

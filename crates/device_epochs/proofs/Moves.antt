@@ -21,7 +21,7 @@ use Rattle.device_epochs.specs.declared.cache.Entry.{Entry}
 use Rattle.device_epochs.specs.declared.device.DeviceSetup.{DeviceSetup}
 use Rattle.device_epochs.specs.Cache.{oldest, entries, put_all, without_entry}
 use Rattle.device_epochs.specs.laws.CacheSteps.{part_at-lt, parts_of-waiting}
-use Rattle.device_epochs.specs.Device.{DeviceState, is_off, is_next, counted, may_transfer, has_stopped, transferable, tried, transferred, moved_in, failed_on, persistable, persisted, written, body_at, received, answered, answered_from, tells_cut, seen, opened}
+use Rattle.device_epochs.specs.Device.{DeviceState, is_off, is_next, counted, may_transfer, has_stopped, transferable, tried, transferred, performed, failed_on, persistable, persisted, written, body_at, received, answered, answered_from, tells_cut, seen, opened}
 use Rattle.device_epochs.specs.laws.Valid.{IsValid, QueueFacts, with_waiting}
 use Rattle.device_epochs.specs.declared.device.EpochDevice.TheInside.{Inside}
 use Rattle.device_epochs.specs.code.Fields.{state_of, IsDevice}
@@ -155,7 +155,7 @@ pub record CanMove (s : DeviceState) (pick : ℕ) (w : Waiting) : Type 0 where
   pub epoch : s.epoch ≤ s.limit + s.limit
   pub failures : length s.waiting + length (failures_of w.command) ≤ s.limit
   pub faults : s.faults ≤ 2
-  pub moves : is_next s.fail_at ≡ false → transferred s pick ≡ moved_in s w
+  pub moves : is_next s.fail_at ≡ false → transferred s pick ≡ performed s w
   pub fails : is_next s.fail_at ≡ true → transferred s pick ≡ failed_on s w
   pub valid : IsValid (transferred s pick)
 
@@ -273,7 +273,7 @@ pub moved_to : (s : DeviceState) (w : Waiting) (first : ℕ) (moved : List Trans
     → cache ≡ put_all (entries s.epoch first w.command.parts) s.cache
     → epoch ≡ (if w.command.barrier then s.epoch + 1 else s.epoch)
     → (fail_at : Option ℕ) → fail_at ≡ counted s.fail_at
-    → record s { moved = moved; waiting = waiting; queue = queue; cache = cache; epoch = epoch; steps = s.steps + 1; fail_at = fail_at } ≡ moved_in s w
+    → record s { moved = moved; waiting = waiting; queue = queue; cache = cache; epoch = epoch; steps = s.steps + 1; fail_at = fail_at } ≡ performed s w
 moved_to s w first moved waiting queue cache epoch e m wa q c ep fail_at f =
     rw (m, wa, q, c, ep, f, e) refl
 

@@ -98,8 +98,8 @@ abbrev pub transferable : DeviceState → List Waiting
 transferable s = if has_stopped s then [] else filter (may_transfer s) (eligible s.queue.waiting)
 
 -- the command goes into the cache, or, where it is a flush, is done
-abbrev pub moved_in : DeviceState → Waiting → DeviceState
-moved_in s w = record s {
+abbrev pub performed : DeviceState → Waiting → DeviceState
+performed s w = record s {
   moved = s.moved ++ transfers s.epoch (first_part s.took w.number) w.command.parts;
   waiting = s.waiting ++ completions_of w.command;
   queue = departed s.queue (Some w);
@@ -123,7 +123,7 @@ failed_on s w = record s {
 -- a command was picked
 abbrev pub tried : DeviceState → Option Waiting → DeviceState
 tried s None = s
-tried s (Some w) = if is_next s.fail_at then failed_on s w else moved_in s w
+tried s (Some w) = if is_next s.fail_at then failed_on s w else performed s w
 
 abbrev pub transferred : DeviceState → ℕ → DeviceState
 transferred s pick = tried s (slice_get (transferable s) pick)

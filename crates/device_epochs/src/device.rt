@@ -3,7 +3,7 @@ ghost use Rattle.std.specs.Prelude.{◌≡◌, ℕ, ◌+◌, ◌≤◌, ◌<◌,
 ghost use Rattle.std.specs.Option.{option_map, option_map_or};
 ghost use Rattle.order_model.specs.declared.part.Part.{Part};
 ghost use Rattle.device_epochs.specs.Device.{DeviceState, opened, is_off, is_next, has_room, received, transferable, transferred, persistable, persisted, next_answer, answered, after_read, IsSound, seen};
-ghost use Rattle.device_epochs.specs.laws.Valid.{left, IsValid};
+ghost use Rattle.device_epochs.specs.laws.Valid.{work_left, IsValid};
 ghost use Rattle.device_epochs.specs.code.Helpers.{starts_with_flush, flush_waits, is_held};
 ghost use Rattle.command_queue.specs.Queue.{QueueState};
 
@@ -235,7 +235,7 @@ impl OrderedDev for EpochDevice {
 
     ghost after_read = { λ s _. after_read s };
 
-    ghost left = { left };
+    ghost work_left = { work_left };
 
     ghost stays_on = { λ s. s.cut_at ≡ None };
 

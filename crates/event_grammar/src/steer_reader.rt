@@ -1,6 +1,6 @@
 //! Reads `recover` lines.
 ghost use Rattle.std.specs.Prelude.{◌≡◌, map};
-ghost use Rattle.script_words.specs.code.Readers.{Gives};
+ghost use Rattle.script_words.specs.code.Readers.{IsReadAs};
 ghost use Rattle.event_grammar.specs.SteerLines.{steer_of, steer_taken, all_of, steers_of};
 
 use crate::limits::{MOST_DEFAULTS, MOST_STEERS, PLACES};
@@ -10,7 +10,7 @@ use std::alloc::Global;
 
 /// Reads the words behind `recover`, or says what is wrong with them.
 pub fn read_steers(alloc: Global, words: &[&[u8]]) -> Result<SteerLine, WordsError>
-    ensures { Gives result (steers_of (map (λ x. x.now) words.now)) }
+    ensures { IsReadAs result (steers_of (map (λ x. x.now) words.now)) }
 {
     if words.len() > MOST_STEERS {
         return Err(WordsError::Fault(LineFault::Spelling));
@@ -19,7 +19,7 @@ pub fn read_steers(alloc: Global, words: &[&[u8]]) -> Result<SteerLine, WordsErr
 }
 
 fn read_words(alloc: Global, words: &[&[u8]]) -> Result<SteerLine, WordsError>
-    ensures { Gives result (all_of (map (λ x. x.now) words.now)) }
+    ensures { IsReadAs result (all_of (map (λ x. x.now) words.now)) }
 {
     let mut steers = SteerLine::new(alloc);
     let mut is_within = true;

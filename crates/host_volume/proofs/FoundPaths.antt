@@ -13,7 +13,7 @@ use Rattle.tree_model.specs.Calls.{Tree}
 use Rattle.tree_model.specs.Maps.{at_number, without_number}
 use Rattle.tree_model.specs.Trees.{Refusal, node_of_path}
 use Rattle.tree_model.specs.laws.Alike.{led_push, step_given, path_stands}
-use Rattle.tree_model.specs.laws.Listing.{IsRooted, IsLedTo, at_root, by_name, Gives, names_of}
+use Rattle.tree_model.specs.laws.Listing.{IsRooted, IsLedTo, at_root, by_name, HasEntry, names_of}
 use Rattle.tree_model.specs.laws.MapOrder.{InOrder, at_without_apart, in_order_without}
 use Rattle.tree_model.specs.laws.MapsLaws.{found-In, number_here, number_same, at_name-In}
 use Rattle.tree_model.proofs.Lookups.{In-at_name}
@@ -104,13 +104,13 @@ first_is up (x ∷ xs) g before i e = by (λ j. first_is up xs g before j e) (up
 module _ (tree : Tree) (rooted : IsRooted tree) where
   -- ---- what is found is a path
 
-  given_gives : (birth : ℕ) (g : Given) → IsGivenIn birth tree g → Gives tree g.parent g.name birth
+  given_gives : (birth : ℕ) (g : Given) → IsGivenIn birth tree g → HasEntry tree g.parent g.name birth
   given_gives birth g x = by x.node refl x.named
     where
       stands : at_number tree g.parent ≡ Some x.node
       stands = In-at tree g.parent x.node rooted.in_order x.stands
 
-      by : (node : Node) → x.node ≡ node → In (g.name, birth) (names_of (Some node)) → Gives tree g.parent g.name birth
+      by : (node : Node) → x.node ≡ node → In (g.name, birth) (names_of (Some node)) → HasEntry tree g.parent g.name birth
       by (nodes.Directory d) e i =
           let at = stands ∙ ap Some e in
           record { directory = d; stands = at; named = In-at_name d.names g.name birth (rooted.names_in_order g.parent d at) i }
@@ -143,7 +143,7 @@ module _ (tree : Tree) (rooted : IsRooted tree) where
 
   pub data Chain : ℕ → ℕ → Type 0 where
     starts : {k : ℕ} → Chain k 0
-    goes_on : {k parent birth : ℕ} {name : List ℕ} → Chain k parent → Gives tree parent name birth → Chain (suc k) birth
+    goes_on : {k parent birth : ℕ} {name : List ℕ} → Chain k parent → HasEntry tree parent name birth → Chain (suc k) birth
 
   at_once : (k : ℕ) → path_within tree k 0 ≡ Some []
   at_once zero = refl
@@ -170,7 +170,7 @@ module _ (tree : Tree) (rooted : IsRooted tree) where
   -- names lead by these nodes, the last one first, none of them twice
   pub data IsWay : List ℕ → ℕ → Type 0 where
     from_root : IsWay [] 0
-    by_new : {bs : List ℕ} {parent birth : ℕ} {name : List ℕ} → IsWay bs parent → Gives tree parent name birth → (In birth bs → ⊥) → IsWay (birth ∷ bs) birth
+    by_new : {bs : List ℕ} {parent birth : ℕ} {name : List ℕ} → IsWay bs parent → HasEntry tree parent name birth → (In birth bs → ⊥) → IsWay (birth ∷ bs) birth
 
   way_chain : {bs : List ℕ} {birth : ℕ} → IsWay bs birth → Chain (length bs) birth
   way_chain from_root = starts

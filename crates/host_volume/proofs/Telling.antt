@@ -148,7 +148,7 @@ module _ (s : Opening) (v : VolumeNow) (t : PlainTree) (h : Stands s v t) (n r :
   waits_after : (zone : ℕ) → (In zone (called v number r c).change.touched.freed → ⊥) → waits_for (zones_of w).waiting zone ≡ waits_for (zones_of v).waiting zone
   waits_after zone out =
       waits_is w zone
-      ∙ (holder_same (state_of v.zones zone) (state_of w.zones zone) (λ holder e. all.steady.waits_on zone holder e) (λ holder e. all.steady.waited zone holder out e)
+      ∙ (holder_same (state_of v.zones zone) (state_of w.zones zone) (λ freed_by e. all.steady.waits_on zone freed_by e) (λ freed_by e. all.steady.waited zone freed_by out e)
       ∙ sym (waits_is v zone))
 
   page_in : (x : FileBlock) (pages : List Page) → In x (map file_block pages) → (y : Page) × In y pages × (file_block y ≡ x)

@@ -60,11 +60,11 @@ waits_from first (states.Used ∷ more) zone = elim (cases_eq first zone) [
   | inl e ↦ (let past : nat_lt zone (first + 1) ≡ true = grind arith in waits_from (first + 1) more zone ∙ rw past (sym (ap holder_of (state_here states.Used more first zone e))))
   | inr apart ↦ waits_from (first + 1) more zone ∙ sym (ap holder_of (state_apart states.Used more first zone apart))
 ]
-waits_from first (states.Quarantined holder ∷ more) zone = elim (cases_eq first zone) [
-  | inl e ↦ ap (λ (b : Bool). if b then Some holder else waits_for (waiting_from (first + 1) more) zone) (eq-eqb first zone e) ∙ sym (ap holder_of (state_here (states.Quarantined holder) more first zone e))
+waits_from first (states.Quarantined freed_by ∷ more) zone = elim (cases_eq first zone) [
+  | inl e ↦ ap (λ (b : Bool). if b then Some freed_by else waits_for (waiting_from (first + 1) more) zone) (eq-eqb first zone e) ∙ sym (ap holder_of (state_here (states.Quarantined freed_by) more first zone e))
   | inr apart ↦
-      ap (λ (b : Bool). if b then Some holder else waits_for (waiting_from (first + 1) more) zone) (ne_eqb first zone apart)
-      ∙ (waits_from (first + 1) more zone ∙ sym (ap holder_of (state_apart (states.Quarantined holder) more first zone apart)))
+      ap (λ (b : Bool). if b then Some freed_by else waits_for (waiting_from (first + 1) more) zone) (ne_eqb first zone apart)
+      ∙ (waits_from (first + 1) more zone ∙ sym (ap holder_of (state_apart (states.Quarantined freed_by) more first zone apart)))
 ]
 
 -- what a zone waits for
@@ -76,7 +76,7 @@ free_counted : (first : ℕ) (zs : List ZoneState) → length (free_from first z
 free_counted first [] = refl
 free_counted first (states.Free ∷ more) = (let rest = free_counted (first + 1) more in let all = sum_by-cons (λ x. one_if (is_free x)) states.Free more in omega arith)
 free_counted first (states.Used ∷ more) = (let rest = free_counted (first + 1) more in let all = sum_by-cons (λ x. one_if (is_free x)) states.Used more in omega arith)
-free_counted first (states.Quarantined holder ∷ more) = (let rest = free_counted (first + 1) more in let all = sum_by-cons (λ x. one_if (is_free x)) (states.Quarantined holder) more in omega arith)
+free_counted first (states.Quarantined freed_by ∷ more) = (let rest = free_counted (first + 1) more in let all = sum_by-cons (λ x. one_if (is_free x)) (states.Quarantined freed_by) more in omega arith)
 
 -- as many zones are free
 pub free_is : (v : VolumeNow) → length (zones_of v).free ≡ count_by is_free v.zones.states
@@ -85,24 +85,24 @@ free_is v = free_counted v.zones.first v.zones.states
 
 -- ---- where nothing begins or ends to wait
 
-holder_none : (o : Option ZoneState) → ((holder : ℕ) → o ≡ Some (states.Quarantined holder) → ⊥) → holder_of o ≡ None
+holder_none : (o : Option ZoneState) → ((freed_by : ℕ) → o ≡ Some (states.Quarantined freed_by) → ⊥) → holder_of o ≡ None
 holder_none None h = refl
 holder_none (Some states.Free) h = refl
 holder_none (Some states.Used) h = refl
-holder_none (Some (states.Quarantined holder)) h = absurd (h holder refl)
+holder_none (Some (states.Quarantined freed_by)) h = absurd (h freed_by refl)
 
-pub holder_same : (old new : Option ZoneState) → ((holder : ℕ) → old ≡ Some (states.Quarantined holder) → new ≡ Some (states.Quarantined holder)) →
-    ((holder : ℕ) → new ≡ Some (states.Quarantined holder) → old ≡ Some (states.Quarantined holder)) → holder_of new ≡ holder_of old
-holder_same None new on back = holder_none new (λ holder e. (let no = back holder e in cc))
-holder_same (Some states.Free) new on back = holder_none new (λ holder e. (let no = back holder e in cc))
-holder_same (Some states.Used) new on back = holder_none new (λ holder e. (let no = back holder e in cc))
-holder_same (Some (states.Quarantined holder)) new on back = ap holder_of (on holder refl)
+pub holder_same : (old new : Option ZoneState) → ((freed_by : ℕ) → old ≡ Some (states.Quarantined freed_by) → new ≡ Some (states.Quarantined freed_by)) →
+    ((freed_by : ℕ) → new ≡ Some (states.Quarantined freed_by) → old ≡ Some (states.Quarantined freed_by)) → holder_of new ≡ holder_of old
+holder_same None new on back = holder_none new (λ freed_by e. (let no = back freed_by e in cc))
+holder_same (Some states.Free) new on back = holder_none new (λ freed_by e. (let no = back freed_by e in cc))
+holder_same (Some states.Used) new on back = holder_none new (λ freed_by e. (let no = back freed_by e in cc))
+holder_same (Some (states.Quarantined freed_by)) new on back = ap holder_of (on freed_by refl)
 
-pub holder_state : (o : Option ZoneState) (holder : ℕ) → holder_of o ≡ Some holder → o ≡ Some (states.Quarantined holder)
-holder_state None holder e = absurd (cc e)
-holder_state (Some states.Free) holder e = absurd (cc e)
-holder_state (Some states.Used) holder e = absurd (cc e)
-holder_state (Some (states.Quarantined other)) holder e = ap (λ k. Some (states.Quarantined k)) (same_Some other holder e)
+pub holder_state : (o : Option ZoneState) (freed_by : ℕ) → holder_of o ≡ Some freed_by → o ≡ Some (states.Quarantined freed_by)
+holder_state None freed_by e = absurd (cc e)
+holder_state (Some states.Free) freed_by e = absurd (cc e)
+holder_state (Some states.Used) freed_by e = absurd (cc e)
+holder_state (Some (states.Quarantined other)) freed_by e = ap (λ k. Some (states.Quarantined k)) (same_Some other freed_by e)
 
 -- ---- releases
 
@@ -126,13 +126,13 @@ free_above first [] zone i = absurd i
 free_above first (states.Free ∷ more) zone (inl e) = omega arith
 free_above first (states.Free ∷ more) zone (inr i) = (let le = free_above (first + 1) more zone i in omega arith)
 free_above first (states.Used ∷ more) zone i = (let le = free_above (first + 1) more zone i in omega arith)
-free_above first (states.Quarantined holder ∷ more) zone i = (let le = free_above (first + 1) more zone i in omega arith)
+free_above first (states.Quarantined freed_by ∷ more) zone i = (let le = free_above (first + 1) more zone i in omega arith)
 
 free_rising : (first : ℕ) (zs : List ZoneState) → IsAscending (λ (zone : ℕ). zone) (free_from first zs)
 free_rising first [] = tt
 free_rising first (states.Free ∷ more) = ((λ zone i. let le = free_above (first + 1) more zone i in omega arith), free_rising (first + 1) more)
 free_rising first (states.Used ∷ more) = free_rising (first + 1) more
-free_rising first (states.Quarantined holder ∷ more) = free_rising (first + 1) more
+free_rising first (states.Quarantined freed_by ∷ more) = free_rising (first + 1) more
 
 pub rising : (v : VolumeNow) → IsAscending (λ (zone : ℕ). zone) (zones_of v).free
 unfolding zones_of
@@ -143,7 +143,7 @@ free_state first [] zone i = absurd i
 free_state first (states.Free ∷ more) zone (inl e) = state_here states.Free more first zone e
 free_state first (states.Free ∷ more) zone (inr i) = (let le = free_above (first + 1) more zone i in state_apart states.Free more first zone (λ e. omega arith) ∙ free_state (first + 1) more zone i)
 free_state first (states.Used ∷ more) zone i = (let le = free_above (first + 1) more zone i in state_apart states.Used more first zone (λ e. omega arith) ∙ free_state (first + 1) more zone i)
-free_state first (states.Quarantined holder ∷ more) zone i = (let le = free_above (first + 1) more zone i in state_apart (states.Quarantined holder) more first zone (λ e. omega arith) ∙ free_state (first + 1) more zone i)
+free_state first (states.Quarantined freed_by ∷ more) zone i = (let le = free_above (first + 1) more zone i in state_apart (states.Quarantined freed_by) more first zone (λ e. omega arith) ∙ free_state (first + 1) more zone i)
 
 none_free : (first zone : ℕ) → state_from first [] zone ≡ Some states.Free → ⊥
 none_free first zone = by (nat_lt zone first)
@@ -162,9 +162,9 @@ state_free first (states.Used ∷ more) zone e = elim (cases_eq first zone) [
   | inl here ↦ (let no_state : ◌≡◌ {A = Option ZoneState} (Some states.Used) (Some states.Free) = sym (state_here states.Used more first zone here) ∙ e in absurd (cc no_state))
   | inr apart ↦ state_free (first + 1) more zone (sym (state_apart states.Used more first zone apart) ∙ e)
 ]
-state_free first (states.Quarantined holder ∷ more) zone e = elim (cases_eq first zone) [
-  | inl here ↦ (let no_state : ◌≡◌ {A = Option ZoneState} (Some (states.Quarantined holder)) (Some states.Free) = sym (state_here (states.Quarantined holder) more first zone here) ∙ e in absurd (cc no_state))
-  | inr apart ↦ state_free (first + 1) more zone (sym (state_apart (states.Quarantined holder) more first zone apart) ∙ e)
+state_free first (states.Quarantined freed_by ∷ more) zone e = elim (cases_eq first zone) [
+  | inl here ↦ (let no_state : ◌≡◌ {A = Option ZoneState} (Some (states.Quarantined freed_by)) (Some states.Free) = sym (state_here (states.Quarantined freed_by) more first zone here) ∙ e in absurd (cc no_state))
+  | inr apart ↦ state_free (first + 1) more zone (sym (state_apart (states.Quarantined freed_by) more first zone apart) ∙ e)
 ]
 
 -- the free zones, and no others

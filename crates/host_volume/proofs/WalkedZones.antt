@@ -15,7 +15,7 @@ use Rattle.tree_model.specs.declared.node.Node.TheVariants as nodes
 use Rattle.tree_model.specs.Maps.{at_number, at_name}
 use Rattle.tree_model.specs.Trees.{Refusal, node_of_path, led_to, step_at}
 use Rattle.tree_model.specs.laws.Alike.{led_on, led_parts, same_ok, step_gives, step_given}
-use Rattle.tree_model.specs.laws.Listing.{Gives}
+use Rattle.tree_model.specs.laws.Listing.{HasEntry}
 use Rattle.tree_model.specs.laws.MapsLaws.{number_here, number_same}
 use Rattle.volume_ops.specs.declared.found.Found.{Found}
 use Rattle.volume_ops.specs.declared.found.Found.TheVariants as found
@@ -127,9 +127,9 @@ module _ (g : Geometry) (v : Contents) (h : IsPlainContents g v) where
   record Step (p : Placed) (name : List ℕ) (c : ℕ) : Type 0 where
     pub placed : Placed
     pub met : IsMet c placed
-    pub gives : Gives t (birth_of p.number) name (birth_of placed.number)
+    pub gives : HasEntry t (birth_of p.number) name (birth_of placed.number)
 
-  step : (b c : ℕ) (name : List ℕ) (p : Placed) → IsMet b p → Gives now b name c → Step p name c
+  step : (b c : ℕ) (name : List ℕ) (p : Placed) → IsMet b p → HasEntry now b name c → Step p name c
   step b c name p met gives =
       let x = placing v.blocks v.nodes b gives.directory gives.stands in
       let same : x.node ≡ p = same_Some x.node p (sym x.stands ∙ met.stands) in
@@ -148,7 +148,7 @@ module _ (g : Geometry) (v : Contents) (h : IsPlainContents g v) where
         no_dot = n.no_dot;
         birth_is = ap birth_of (sym n.number.2);
       } in
-      let there : Gives t (birth_of p.number) name (birth_of n.number.0.number) = record { directory = m.0; stands = met.there ∙ ap Some m.1; named = (m.2.names name (birth_of n.number.0.number)).1 has } in
+      let there : HasEntry t (birth_of p.number) name (birth_of n.number.0.number) = record { directory = m.0; stands = met.there ∙ ap Some m.1; named = (m.2.names name (birth_of n.number.0.number)).1 has } in
       let y = k.fields.leads (birth_of p.number) name (birth_of n.number.0.number) there in
       record { placed = n.number.0; met = record { stands = n.number.1; node = y.0; there = y.1 }; gives = there }
 

@@ -38,7 +38,7 @@ fn step<D: OrderedDev>(dev: &mut D, choice: Choice)
     ensures chosen { D.state dev.new ≡ chosen (machine_of D.OrderedDev) choice (D.state dev.old) }
     ensures valid { D.valid (D.state dev.new) }
     ensures kept { StepKeeps (D.seen (D.state dev.old)) (D.seen (D.state dev.new)) }
-    ensures falls { choice ≡ Choice.Default → (0 < D.can_transfer (D.state dev.old)) ⊎ (0 < D.can_persist (D.state dev.old)) → D.left (D.state dev.new) < D.left (D.state dev.old) }
+    ensures falls { choice ≡ Choice.Default → (0 < D.can_transfer (D.state dev.old)) ⊎ (0 < D.can_persist (D.state dev.old)) → D.work_left (D.state dev.new) < D.work_left (D.state dev.old) }
     ensures on { D.stays_on (D.state dev.old) → D.stays_on (D.state dev.new) }
     ensures sound { D.sound (D.state dev.old) → D.sound (D.state dev.new) × ((D.seen (D.state dev.new)).faults ≡ (D.seen (D.state dev.old)).faults) }
 {
@@ -70,7 +70,7 @@ fn drain<D: OrderedDev>(dev: &mut D, end: End) -> End
     ensures empty { (D.seen (D.state dev.new)).waiting ≡ [] }
     ensures on { D.stays_on (D.state dev.old) → D.stays_on (D.state dev.new) }
     ensures sound { D.sound (D.state dev.old) → D.sound (D.state dev.new) × ((D.seen (D.state dev.new)).faults ≡ (D.seen (D.state dev.old)).faults) }
-    ensures left { D.left (D.state dev.new) ≡ D.left (D.state dev.old) }
+    ensures left { D.work_left (D.state dev.new) ≡ D.work_left (D.state dev.old) }
 {
     let mut end = end;
     while let Some(completion) = dev.answer() {
@@ -93,7 +93,7 @@ fn turn<D: OrderedDev>(dev: &mut D, plan: &mut Plan, choice: Choice, end: End) -
     ensures on { D.stays_on (D.state dev.old) → D.stays_on (D.state dev.new) }
     ensures sound { D.sound (D.state dev.old) → D.sound (D.state dev.new) × ((D.seen (D.state dev.new)).faults ≡ (D.seen (D.state dev.old)).faults) }
     ensures unsent { (D.has_room (D.state dev.old) ≡ false) ⊎ (plan.old ≡ []) → plan.new ≡ plan.old }
-    ensures falls { (D.has_room (D.state dev.old) ≡ false) ⊎ (plan.old ≡ []) → is_running end ≡ true → choice ≡ Choice.Default → (0 < D.can_transfer (D.state dev.old)) ⊎ (0 < D.can_persist (D.state dev.old)) → D.left (D.state dev.new) < D.left (D.state dev.old) }
+    ensures falls { (D.has_room (D.state dev.old) ≡ false) ⊎ (plan.old ≡ []) → is_running end ≡ true → choice ≡ Choice.Default → (0 < D.can_transfer (D.state dev.old)) ⊎ (0 < D.can_persist (D.state dev.old)) → D.work_left (D.state dev.new) < D.work_left (D.state dev.old) }
 {
     if !end.is_running() {
         return end;

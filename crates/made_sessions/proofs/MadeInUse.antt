@@ -4,7 +4,7 @@ use Rattle.std.proofs.Common.{sym, ap, subst, ◌∙◌, arith}
 use Rattle.minix_layout.specs.declared.division.Geometry.{Geometry}
 use Rattle.minix_layout.specs.Geometry.{IsSound}
 use Rattle.tree_model.specs.Calls.{used_zones}
-use Rattle.tree_model.specs.laws.Listing.{Gives}
+use Rattle.tree_model.specs.laws.Listing.{HasEntry}
 use Rattle.tree_model.specs.Maps.{at_number}
 use Rattle.mount_make.specs.Made.{made_volume}
 use Rattle.mount_make.proofs.MadeVolumes.{same, made_plain}
@@ -55,5 +55,5 @@ module _ (g : Geometry) (sound : IsSound g) (new : IsPlainNow (new_now g)) where
   made_in_use = record {
     in_use = in_use;
     plain = made_plain g sound new.plain;
-    path_names = λ parent name birth gives. new.path_names parent name birth (subst (λ tree. Gives tree parent name birth) (sym tree_same) gives);
+    path_names = λ parent name birth gives. new.path_names parent name birth (subst (λ tree. HasEntry tree parent name birth) (sym tree_same) gives);
   }

@@ -24,7 +24,7 @@ use Rattle.tree_model.specs.declared.node.Directory.{Directory}
 use Rattle.tree_model.specs.Maps.{at_number, at_name}
 use Rattle.tree_model.specs.Paths.{is_dot}
 use Rattle.tree_model.specs.laws.MapsLaws.{number_same}
-use Rattle.tree_model.specs.laws.Listing.{Gives, IsRooted}
+use Rattle.tree_model.specs.laws.Listing.{HasEntry, IsRooted}
 use Rattle.tree_model.specs.Trees.{directory_links}
 use Rattle.tree_model.specs.Plain.{names_to}
 use Rattle.volume_ops.specs.Places.{inode_in_block, inode_of_birth, table_block}
@@ -94,7 +94,7 @@ names_in (nodes.Directory d) = d.names
 names_in (nodes.File f) = []
 names_in (nodes.Other mode) = []
 
-no_name : (parent : ℕ) (name : List ℕ) (b : ℕ) → Gives root_alone parent name b → ⊥
+no_name : (parent : ℕ) (name : List ℕ) (b : ℕ) → HasEntry root_alone parent name b → ⊥
 unfolding names_in
 no_name parent name b gives =
     let e : [] ≡ gives.directory.names = ap names_in (only_node parent (nodes.Directory gives.directory) gives.stands).1 in
@@ -185,7 +185,7 @@ module _ (g : Geometry) (sound : IsSound g) (new : IsPlainContents g (new_volume
     rooted = subst IsRooted (sym trees) new.rooted;
     root_number = new.root_number;
     root_parent = λ d at. new.root_parent d (subst (λ (t : List (ℕ × Node)). at_number t 0 ≡ Some (nodes.Directory d)) trees at);
-    parents = λ parent name b d gives at. new.parents parent name b d (subst (λ (t : List (ℕ × Node)). Gives t parent name b) trees gives) (subst (λ (t : List (ℕ × Node)). at_number t b ≡ Some (nodes.Directory d)) trees at);
+    parents = λ parent name b d gives at. new.parents parent name b d (subst (λ (t : List (ℕ × Node)). HasEntry t parent name b) trees gives) (subst (λ (t : List (ℕ × Node)). at_number t b ≡ Some (nodes.Directory d)) trees at);
     sizes = new.sizes;
     dots = new.dots;
     slot_zones = λ b p d at is.

@@ -62,7 +62,7 @@ pub trait OrderedDev {
     ghost after_read: { Self.State → ℕ → Self.State };
 
     /// A number that each transfer and each write to the medium lowers.
-    ghost left: { Self.State → ℕ };
+    ghost work_left: { Self.State → ℕ };
 
     /// The power is never cut.
     ghost stays_on: { Self.State → Type 0 };
@@ -191,10 +191,10 @@ pub trait OrderedDev {
     ghost monotone: { (s : Self.State) (pick : ℕ) → valid s → Grows (seen s) (seen (transferred s pick)) × Grows (seen s) (seen (persisted s pick)) };
 
     /// Progress law: there is a step while work is left, and once none is left all is answered.
-    ghost progress: { (s : Self.State) → valid s → (seen s).off ≡ false → (seen s).failed ≡ false → Progresses (seen s) (left s) (has_room s) (can_transfer s) (can_persist s) };
+    ghost progress: { (s : Self.State) → valid s → (seen s).off ≡ false → (seen s).failed ≡ false → Progresses (seen s) (work_left s) (has_room s) (can_transfer s) (can_persist s) };
 
     /// Each transfer and each write to the medium lowers what is left; completions and reads leave it.
-    ghost falls: { (s : Self.State) (pick : ℕ) → valid s → (pick < can_transfer s → left (transferred s pick) < left s) × (pick < can_persist s → left (persisted s pick) < left s) × (left (answered s) ≡ left s) × (left (after_read s pick) ≡ left s) };
+    ghost falls: { (s : Self.State) (pick : ℕ) → valid s → (pick < can_transfer s → work_left (transferred s pick) < work_left s) × (pick < can_persist s → work_left (persisted s pick) < work_left s) × (work_left (answered s) ≡ work_left s) × (work_left (after_read s pick) ≡ work_left s) };
 
     /// A device that stays on is on.
     ghost on: { (s : Self.State) → valid s → stays_on s → (seen s).off ≡ false };

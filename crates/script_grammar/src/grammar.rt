@@ -3,7 +3,7 @@ ghost use Rattle.std.specs.Prelude.{◌≡◌, ℕ, ◌+◌, ◌^◌, ◌<◌, �
 ghost use Rattle.script_grammar.specs.Grammar.{form_blocks, is_scheduled, form_of, is_built, new_reading, opened, form_line, built_first, first_line, stands_in, needs_scheduler, may_stand, stood_before, count_fits, fits, is_ordered_class, is_barrier_class, put_request, flush_request, with_request, with_events, plain_event, pick_event, after, taken, later_line, read_words, read_line, script_read, ended, read_from, script_of};
 ghost use Rattle.script_grammar.specs.code.Rows.{request_of};
 ghost use Rattle.script_grammar.specs.WellFormed.{IsWellFormed};
-ghost use Rattle.script_grammar.specs.code.Readers.{Gives, Reads, fault_at};
+ghost use Rattle.script_grammar.specs.code.Readers.{IsReadAs, Reads, fault_at};
 
 use crate::kinds::ScriptKind;
 use crate::limits::{
@@ -319,7 +319,7 @@ fn after(mut reading: Reading, line: Line) -> Result<Reading, NoMemory>
 }
 
 fn taken(reading: Reading, line: Option<Line>) -> Result<Reading, LineError>
-    ensures { Gives result (taken reading line) }
+    ensures { IsReadAs result (taken reading line) }
 {
     let Some(line) = line else {
         return Err(LineError::Kind(ScriptKind::Word));
@@ -331,7 +331,7 @@ fn taken(reading: Reading, line: Option<Line>) -> Result<Reading, LineError>
 }
 
 fn later_line(reading: Reading, word: Option<Word>, words: &[&[u8]]) -> Result<Reading, LineError>
-    ensures { Gives result (later_line reading word (map (λ x. x.now) words.now)) }
+    ensures { IsReadAs result (later_line reading word (map (λ x. x.now) words.now)) }
 {
     let Some(word) = word else {
         return Err(LineError::Kind(ScriptKind::Word));
@@ -353,7 +353,7 @@ fn read_words(
     reading: Option<Reading>,
     words: &[&[u8]],
 ) -> Result<Reading, LineError>
-    ensures { Gives result (read_words reading (map (λ x. x.now) words.now)) }
+    ensures { IsReadAs result (read_words reading (map (λ x. x.now) words.now)) }
 {
     let [word, rest @ ..] = words else {
         return Err(LineError::Kind(ScriptKind::Word));

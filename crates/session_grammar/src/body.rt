@@ -1,6 +1,6 @@
 //! Threads with their calls, event lines and `recover` lines.
 ghost use Rattle.std.specs.Prelude.{◌≡◌, ◌+◌, ◌<◌, ◌≤◌, ◌^◌, nat_le, true, map, length, IfOk};
-ghost use Rattle.script_grammar.specs.code.Readers.{Gives};
+ghost use Rattle.script_grammar.specs.code.Readers.{IsReadAs};
 ghost use Rattle.call_grammar.specs.CallLines.{call_of};
 ghost use Rattle.event_grammar.specs.EventLines.{event_of};
 ghost use Rattle.event_grammar.specs.SteerLines.{steers_of};
@@ -45,7 +45,7 @@ fn with_thread(alloc: Global, mut reading: Reading) -> Result<Reading, NoMemory>
 }
 
 fn thread_taken(alloc: Global, reading: Reading, number: Option<u64>) -> Result<Reading, LineError>
-    ensures { Gives result (thread_taken reading number) }
+    ensures { IsReadAs result (thread_taken reading number) }
 {
     let Some(number) = number else {
         return Err(LineError::Kind(ScriptKind::Word));
@@ -59,7 +59,7 @@ fn thread_taken(alloc: Global, reading: Reading, number: Option<u64>) -> Result<
 
 /// Reads the line that begins a thread, or says what is wrong with it.
 pub fn thread_line(alloc: Global, reading: Reading, words: &[&[u8]]) -> Result<Reading, LineError>
-    ensures { Gives result (thread_line reading (map (λ x. x.now) words.now)) }
+    ensures { IsReadAs result (thread_line reading (map (λ x. x.now) words.now)) }
 {
     let [number] = words else {
         return Err(LineError::Kind(ScriptKind::Word));
@@ -88,7 +88,7 @@ fn call_added(
     call: Call,
 ) -> Result<Reading, LineError>
     requires { 0 < length reading.programs }
-    ensures { Gives result (call_added reading line.now call) }
+    ensures { IsReadAs result (call_added reading line.now call) }
 {
     if reading.programs.last_len() >= MOST_CALLS {
         return Err(LineError::Kind(ScriptKind::Number));
@@ -105,7 +105,7 @@ pub fn call_taken(
     words: &[&[u8]],
 ) -> Result<Reading, LineError>
     requires { 0 < length reading.programs }
-    ensures { Gives result (call_taken reading line.now (call_of word (map (λ x. x.now) words.now))) }
+    ensures { IsReadAs result (call_taken reading line.now (call_of word (map (λ x. x.now) words.now))) }
 {
     match read_call(alloc, word, words) {
         Ok(call) => call_added(alloc, reading, line, call),
@@ -167,7 +167,7 @@ fn with_event(mut reading: Reading, line: EventLine) -> Result<Reading, NoMemory
 }
 
 fn event_added(reading: Reading, line: EventLine) -> Result<Reading, LineError>
-    ensures { Gives result (event_added reading line) }
+    ensures { IsReadAs result (event_added reading line) }
 {
     if !event_fits(&reading, line) {
         return Err(LineError::Kind(ScriptKind::Number));
@@ -181,7 +181,7 @@ pub fn event_taken(
     word: EventFirst,
     words: &[&[u8]],
 ) -> Result<Reading, LineError>
-    ensures { Gives result (event_taken reading (event_of word (map (λ x. x.now) words.now))) }
+    ensures { IsReadAs result (event_taken reading (event_of word (map (λ x. x.now) words.now))) }
 {
     match read_event(word, words) {
         Ok(line) => event_added(reading, line),
@@ -198,7 +198,7 @@ fn with_recover(mut reading: Reading, line: SteerLine) -> Result<Reading, NoMemo
 }
 
 fn recover_added(reading: Reading, line: SteerLine) -> Result<Reading, LineError>
-    ensures { Gives result (recover_added reading line) }
+    ensures { IsReadAs result (recover_added reading line) }
 {
     if reading.recovers.len() >= MOST_RECOVERS {
         return Err(LineError::Kind(ScriptKind::Number));
@@ -208,7 +208,7 @@ fn recover_added(reading: Reading, line: SteerLine) -> Result<Reading, LineError
 
 /// Reads the words of a `recover` line, or says what is wrong with them.
 pub fn recover_taken(alloc: Global, reading: Reading, words: &[&[u8]]) -> Result<Reading, LineError>
-    ensures { Gives result (recover_taken reading (steers_of (map (λ x. x.now) words.now))) }
+    ensures { IsReadAs result (recover_taken reading (steers_of (map (λ x. x.now) words.now))) }
 {
     match read_steers(alloc, words) {
         Ok(line) => recover_added(reading, line),

@@ -1,6 +1,6 @@
 //! Reads volume scripts, line by line.
 ghost use Rattle.std.specs.Prelude.{◌≡◌, ℕ, ◌+◌, ◌^◌, ◌<◌, ◌≤◌, true, None, map, length, IfOk, unwrap_or};
-ghost use Rattle.script_grammar.specs.code.Readers.{Gives, Reads, fault_at};
+ghost use Rattle.script_grammar.specs.code.Readers.{IsReadAs, Reads, fault_at};
 ghost use Rattle.session_grammar.specs.Grammar.{is_submit, stands_in, has_threads, may_stand, stood_before, line_taken, later_line, is_behind_events, read_words, read_line, header_of, script_read, ended, read_from, session_of};
 ghost use Rattle.session_grammar.specs.WellFormed.{IsWellFormed};
 
@@ -76,7 +76,7 @@ fn line_taken(
     words: &[&[u8]],
 ) -> Result<Reading, LineError>
     requires { may_stand reading word ≡ true }
-    ensures { Gives result (line_taken reading line.now word (map (λ x. x.now) words.now)) }
+    ensures { IsReadAs result (line_taken reading line.now word (map (λ x. x.now) words.now)) }
 {
     match word {
         Word::Header(word) => of_kind(header_taken(reading, word, words)),
@@ -90,7 +90,7 @@ fn line_taken(
 }
 
 fn of_kind(read: Result<Reading, ScriptKind>) -> Result<Reading, LineError>
-    ensures { Gives result read }
+    ensures { IsReadAs result read }
 {
     match read {
         Ok(reading) => Ok(reading),
@@ -105,7 +105,7 @@ fn later_line(
     word: Option<Word>,
     words: &[&[u8]],
 ) -> Result<Reading, LineError>
-    ensures { Gives result (later_line reading line.now word (map (λ x. x.now) words.now)) }
+    ensures { IsReadAs result (later_line reading line.now word (map (λ x. x.now) words.now)) }
 {
     let Some(word) = word else {
         return Err(LineError::Kind(ScriptKind::Word));
@@ -137,7 +137,7 @@ fn read_words(
     line: &[u8],
     words: &[&[u8]],
 ) -> Result<Reading, LineError>
-    ensures { Gives result (read_words reading line.now (map (λ x. x.now) words.now)) }
+    ensures { IsReadAs result (read_words reading line.now (map (λ x. x.now) words.now)) }
 {
     let [word, rest @ ..] = words else {
         return Err(LineError::Kind(ScriptKind::Word));

@@ -12,7 +12,7 @@ use Rattle.tree_model.specs.declared.node.Node.{Node}
 use Rattle.tree_model.specs.declared.node.Node.TheVariants as nodes
 use Rattle.tree_model.specs.declared.node.Directory.{Directory}
 use Rattle.tree_model.specs.Maps.{at_number, name_cmp}
-use Rattle.tree_model.specs.laws.Listing.{Listed, names_of, listed_below, Gives, IsRooted}
+use Rattle.tree_model.specs.laws.Listing.{Listed, names_of, listed_below, HasEntry, IsRooted}
 use Rattle.tree_model.proofs.Lookups.{In-at_name}
 use Rattle.tree_model.specs.laws.MapsLaws.{name_here}
 
@@ -29,7 +29,7 @@ pub record HasParent (tree : List (ℕ × Node)) (before : List Listed) (birth :
   pub parent : Listed
   pub listed : In parent before
   pub name : List ℕ
-  pub gives : Gives tree parent.birth name birth
+  pub gives : HasEntry tree parent.birth name birth
 
 abbrev pub IsPlaced : List (ℕ × Node) → List Listed → Listed → Type 0
 IsPlaced tree before x = (x.birth ≡ 0) ⊎ HasParent tree before x.birth
@@ -45,7 +45,7 @@ each_key P (y ∷ ys) x h (inr i) = each_key P ys x h.1 i
 module _ (tree : List (ℕ × Node)) (rooted : IsRooted tree) where
   -- ---- what a name gives
 
-  pub gives_by : (parent : ℕ) (node : Option Node) → at_number tree parent ≡ node → (name : List ℕ) (birth : ℕ) → In (name, birth) (names_of node) → Gives tree parent name birth
+  pub gives_by : (parent : ℕ) (node : Option Node) → at_number tree parent ≡ node → (name : List ℕ) (birth : ℕ) → In (name, birth) (names_of node) → HasEntry tree parent name birth
   gives_by parent None is name birth i = absurd i
   gives_by parent (Some (nodes.Directory d)) is name birth i =
       record { directory = d; stands = is; named = In-at_name d.names name birth (rooted.names_in_order parent d is) i }
@@ -59,21 +59,21 @@ module _ (tree : List (ℕ × Node)) (rooted : IsRooted tree) where
   distinct_by parent (Some (nodes.File f)) is = tt
   distinct_by parent (Some (nodes.Other mode)) is = tt
 
-  pub child_given : (e y : Listed) → In y (children tree e) → (name : List ℕ) × Gives tree e.birth name y.birth
+  pub child_given : (e y : Listed) → In y (children tree e) → (name : List ℕ) × HasEntry tree e.birth name y.birth
   child_given e y i =
       let x = In-map (λ (n : List ℕ × ℕ). record { names = e.names ++ n.0 ∷ []; birth = n.1 }) (names_of (at_number tree e.birth)) y i in
-      (x.0.0, subst (λ y. Gives tree e.birth x.0.0 y.birth) x.2 (gives_by e.birth (at_number tree e.birth) refl x.0.0 x.0.1 x.1))
+      (x.0.0, subst (λ y. HasEntry tree e.birth x.0.0 y.birth) x.2 (gives_by e.birth (at_number tree e.birth) refl x.0.0 x.0.1 x.1))
 
   -- ---- names below one directory are apart
 
-  below_apart : (e : Listed) (entries : List (List ℕ × ℕ)) → ((name : List ℕ) (birth : ℕ) → In (name, birth) entries → Gives tree e.birth name birth) →
+  below_apart : (e : Listed) (entries : List (List ℕ × ℕ)) → ((name : List ℕ) (birth : ℕ) → In (name, birth) entries → HasEntry tree e.birth name birth) →
       IsDistinct (eq_by_cmp name_cmp) (keys_of entries) → ListsOnce tree (listed_below e.names entries)
   below_apart e [] given distinct = tt
   below_apart e (n ∷ ns) given distinct = (
     λ y i directory same.
         let x = In-map (λ (n : List ℕ × ℕ). record { names = e.names ++ n.0 ∷ []; birth = n.1 }) ns y i in
         let birth : x.0.1 ≡ n.1 = ap (λ y. y.birth) x.2 ∙ sym same in
-        let other : Gives tree e.birth x.0.0 n.1 = subst (λ birth. Gives tree e.birth x.0.0 birth) birth (given x.0.0 x.0.1 (inr x.1)) in
+        let other : HasEntry tree e.birth x.0.0 n.1 = subst (λ birth. HasEntry tree e.birth x.0.0 birth) birth (given x.0.0 x.0.1 (inr x.1)) in
         let one = rooted.one_name e.birth e.birth n.0 x.0.0 n.1 directory.0 (given n.0 n.1 (inl refl)) other directory.1 in
         let apart : is_eq (name_cmp n.0 x.0.0) ≡ false =
         each_key (λ k. eq_by_cmp name_cmp n.0 k ≡ false) (keys_of ns) x.0.0 (IsDistinct-head (eq_by_cmp name_cmp) n.0 (keys_of ns) distinct) (map-In (λ (n : List ℕ × ℕ). n.0) ns x.0 x.1) in
@@ -141,7 +141,7 @@ module _ (tree : List (ℕ × Node)) (rooted : IsRooted tree) where
       ⊎_elim
       (λ root. rooted.no_root e.birth child.0 y.birth child.1 (sym same ∙ root))
       (λ p.
-      let other : Gives tree p.parent.birth p.name y.birth = subst (λ birth. Gives tree p.parent.birth p.name birth) same p.gives in
+      let other : HasEntry tree p.parent.birth p.name y.birth = subst (λ birth. HasEntry tree p.parent.birth p.name birth) same p.gives in
       let one = rooted.one_name p.parent.birth e.birth p.name child.0 y.birth directory.0 other child.1 directory.1 in
       apart_before before e rest p.parent w.apart p.listed (child.1.directory, child.1.stands) one.0)
       (w.placed x i)

@@ -13,7 +13,7 @@ use Rattle.tree_model.specs.declared.node.Node.{Node}
 use Rattle.tree_model.specs.declared.node.Node.TheVariants as nodes
 use Rattle.tree_model.specs.Maps.{at_number, at_name, name_cmp}
 use Rattle.tree_model.specs.Trees.{Refusal, step_at, led_to, node_of_path, name_too_long, not_found, not_directory}
-use Rattle.tree_model.specs.laws.Listing.{Listed, listed_root, names_of, listed_below, Lists, Gives, IsRooted}
+use Rattle.tree_model.specs.laws.Listing.{Listed, listed_root, names_of, listed_below, Lists, HasEntry, IsRooted}
 use Rattle.tree_model.specs.laws.MapsLaws.{name_here, at_name-In}
 use Rattle.tree_model.proofs.ListedOnce.{children, each_key, gives_by, distinct_by}
 
@@ -25,7 +25,7 @@ same_ok a b h = cc
 abbrev found : Option ℕ → Result ℕ Refusal
 found o = elim o as (λ _. Result ℕ Refusal) [ None ↦ Err not_found | Some birth ↦ Ok birth ]
 
-step_given : (tree : List (ℕ × Node)) (rooted : IsRooted tree) (parent : ℕ) (name : List ℕ) (birth : ℕ) → Gives tree parent name birth → step_at (at_number tree parent) name ≡ Ok birth
+step_given : (tree : List (ℕ × Node)) (rooted : IsRooted tree) (parent : ℕ) (name : List ℕ) (birth : ℕ) → HasEntry tree parent name birth → step_at (at_number tree parent) name ≡ Ok birth
 step_given tree rooted parent name birth g =
     let short : nat_lt 14 (length name) ≡ false = le-ltb 14 (length name) (rooted.short parent name birth g) in
     rw (g.stands, short, g.named) refl

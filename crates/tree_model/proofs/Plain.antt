@@ -18,7 +18,7 @@ use Rattle.tree_model.specs.declared.node.Node.TheVariants as nodes
 use Rattle.tree_model.specs.declared.node.Directory.{Directory}
 use Rattle.tree_model.specs.declared.node.File.{File}
 use Rattle.tree_model.specs.Maps.{at_number, at_name, put_number, put_name, without_number, name_cmp}
-use Rattle.tree_model.specs.laws.Listing.{names_of, Gives, IsLedTo, IsRooted}
+use Rattle.tree_model.specs.laws.Listing.{names_of, HasEntry, IsLedTo, IsRooted}
 use Rattle.tree_model.specs.laws.Listing.IsLedTo.{at_root, by_name}
 use Rattle.tree_model.specs.Trees.{is_directory}
 use Rattle.tree_model.specs.Calls.{Tree}
@@ -66,16 +66,16 @@ some_at : (o : Option Node) → is_some o ≡ true → (node : Node) × (o ≡ S
 some_at (Some node) h = (node, refl)
 some_at None h = absurd (false≢true h)
 
-pub gives_edge : (tree : Tree) (p : ℕ) (m : List ℕ) (b : ℕ) → Gives tree p m b → edge_of tree p m ≡ Some b
+pub gives_edge : (tree : Tree) (p : ℕ) (m : List ℕ) (b : ℕ) → HasEntry tree p m b → edge_of tree p m ≡ Some b
 gives_edge tree p m b g = ap (λ o. at_name (names_of o) m) g.stands ∙ g.named
 
-edge_gives_by : (tree : Tree) (p : ℕ) (m : List ℕ) (b : ℕ) (o : Option Node) → at_number tree p ≡ o → at_name (names_of o) m ≡ Some b → Gives tree p m b
+edge_gives_by : (tree : Tree) (p : ℕ) (m : List ℕ) (b : ℕ) (o : Option Node) → at_number tree p ≡ o → at_name (names_of o) m ≡ Some b → HasEntry tree p m b
 edge_gives_by tree p m b (Some (nodes.Directory d)) e h = record { directory = d; stands = e; named = h }
 edge_gives_by tree p m b (Some (nodes.File f)) e h = absurd (none-some b h)
 edge_gives_by tree p m b (Some (nodes.Other mode)) e h = absurd (none-some b h)
 edge_gives_by tree p m b None e h = absurd (none-some b h)
 
-pub edge_gives : (tree : Tree) (p : ℕ) (m : List ℕ) (b : ℕ) → edge_of tree p m ≡ Some b → Gives tree p m b
+pub edge_gives : (tree : Tree) (p : ℕ) (m : List ℕ) (b : ℕ) → edge_of tree p m ≡ Some b → HasEntry tree p m b
 edge_gives tree p m b h = edge_gives_by tree p m b (at_number tree p) refl h
 
 led_reached : (tree : Tree) (b : ℕ) → IsLedTo tree b → IsReached (edge_of tree) b

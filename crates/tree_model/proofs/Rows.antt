@@ -11,7 +11,7 @@ use Rattle.tree_model.specs.declared.node.Directory.{Directory}
 use Rattle.tree_model.specs.declared.node.File.{File}
 use Rattle.tree_model.specs.Maps.{at_number, at_name}
 use Rattle.tree_model.specs.Paths.{path_of}
-use Rattle.tree_model.specs.laws.Listing.{Gives, IsLedTo}
+use Rattle.tree_model.specs.laws.Listing.{HasEntry, IsLedTo}
 use Rattle.tree_model.specs.laws.Listing.IsLedTo.{at_root}
 use Rattle.tree_model.specs.Trees.{Refusal, step_at, led_to, node_of_path}
 use Rattle.tree_model.specs.Calls.{Tree, Found, Place, refuse_if, and_then, if_some, names_in, refused_walk, birth_at, found_at, walk, walk_path, a_directory, a_file, all_but_last, last_name, parent_of}
@@ -124,7 +124,7 @@ led_last tree start parent birth name (next ∷ names) h k =
     let same : x.0 ≡ y.0 = same_ok x.0 y.0 (sym x.1 ∙ y.1) in
     led_last tree x.0 parent birth next names x.2 (subst (λ s. led_to tree s (next ∷ names) ≡ Ok birth) (sym same) y.2)
 
-pub place_gives : (tree : Tree) (names : List (List ℕ)) (p : Place) (found : Found) → IsPlace tree names p → IsFound tree names found → Gives tree p.parent p.name found.birth
+pub place_gives : (tree : Tree) (names : List (List ℕ)) (p : Place) (found : Found) → IsPlace tree names p → IsFound tree names found → HasEntry tree p.parent p.name found.birth
 place_gives tree names p found h f =
     step_gives tree p.parent p.name found.birth
     (subst (λ name. step_at (at_number tree p.parent) name ≡ Ok found.birth) h.name_is

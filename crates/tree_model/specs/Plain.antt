@@ -8,7 +8,7 @@ use Rattle.tree_model.specs.declared.node.Directory.{Directory}
 use Rattle.tree_model.specs.declared.node.File.{File}
 use Rattle.tree_model.specs.Maps.{at_number}
 use Rattle.tree_model.specs.Paths.{is_path_name}
-use Rattle.tree_model.specs.laws.Listing.{Gives, IsRooted}
+use Rattle.tree_model.specs.laws.Listing.{HasEntry, IsRooted}
 use Rattle.tree_model.specs.Calls.{Tree}
 
 -- how many names a directory has for a node
@@ -25,9 +25,9 @@ names_to tree birth = sum_by (names_in_node birth) (values_of tree)
 pub record IsPlain (tree : Tree) : Type 0 where
   pub rooted : IsRooted tree
   pub no_other : (birth mode : ℕ) → at_number tree birth ≡ Some (nodes.Other mode) → ⊥
-  pub plain_names : (parent : ℕ) (name : List ℕ) (birth : ℕ) → Gives tree parent name birth → IsTrue (is_path_name name)
+  pub plain_names : (parent : ℕ) (name : List ℕ) (birth : ℕ) → HasEntry tree parent name birth → IsTrue (is_path_name name)
   pub links : (birth : ℕ) (f : File) → at_number tree birth ≡ Some (nodes.File f) → f.links ≡ names_to tree birth
-  pub parents : (parent : ℕ) (name : List ℕ) (birth : ℕ) (d : Directory) → Gives tree parent name birth → at_number tree birth ≡ Some (nodes.Directory d) → d.parent ≡ parent
+  pub parents : (parent : ℕ) (name : List ℕ) (birth : ℕ) (d : Directory) → HasEntry tree parent name birth → at_number tree birth ≡ Some (nodes.Directory d) → d.parent ≡ parent
   pub root_parent : (d : Directory) → at_number tree 0 ≡ Some (nodes.Directory d) → d.parent ≡ 0
 
 -- each node was born before n

@@ -37,17 +37,17 @@ module _ (own : Place → ℕ) (t : TakenZones) (index : ℕ) (old : Touched) wh
       let by : numbers_told own t index ≡ single_told own t = rw (le-ltb index 7 low, lt-ltb index 519 high) refl in
       e ∙ (ap (λ (z : ℕ). and_then old (tells_blocks (if nat_eq z 0 then t.outer ∷ t.outer ∷ [] else z ∷ []))) is ∙ ap (λ (bs : List ℕ). and_then old (tells_blocks bs)) (sym by))
 
-  pub twice_noted : (outer second holder : ℕ) (mid new : Touched) → 519 ≤ index → outer ≡ own double → second ≡ own (inner ((index - 519) / 512)) → holder ≡ (if nat_eq outer 0 then t.outer else outer) →
-      mid ≡ and_then old (tells_blocks (if nat_eq outer 0 then t.outer ∷ [] else [])) → new ≡ and_then mid (tells_blocks (if nat_eq second 0 then t.second ∷ holder ∷ t.second ∷ [] else second ∷ [])) →
+  pub twice_noted : (outer second pointer_block : ℕ) (mid new : Touched) → 519 ≤ index → outer ≡ own double → second ≡ own (inner ((index - 519) / 512)) → pointer_block ≡ (if nat_eq outer 0 then t.outer else outer) →
+      mid ≡ and_then old (tells_blocks (if nat_eq outer 0 then t.outer ∷ [] else [])) → new ≡ and_then mid (tells_blocks (if nat_eq second 0 then t.second ∷ pointer_block ∷ t.second ∷ [] else second ∷ [])) →
       new ≡ and_then old (tells_blocks (numbers_told own t index))
   unfolding outer_told second_told
-  twice_noted outer second holder mid new low is also held_is e f =
+  twice_noted outer second pointer_block mid new low is also held_is e f =
       let j = (index - 519) / 512 in
       let by : numbers_told own t index ≡ outer_told own t ++ second_told own t j = rw (le-ltb index 7 (omega arith), le-ltb index 519 low) refl in
-      let kept : holder ≡ held own t double = held_is ∙ ap (λ (z : ℕ). if nat_eq z 0 then t.outer else z) is in
+      let kept : pointer_block ≡ held own t double = held_is ∙ ap (λ (z : ℕ). if nat_eq z 0 then t.outer else z) is in
       let first : mid ≡ and_then old (tells_blocks (outer_told own t)) = e ∙ ap (λ (z : ℕ). and_then old (tells_blocks (if nat_eq z 0 then t.outer ∷ [] else []))) is in
       let last : new ≡ and_then mid (tells_blocks (second_told own t j)) =
-      f ∙ (ap (λ (z : ℕ). and_then mid (tells_blocks (if nat_eq z 0 then t.second ∷ holder ∷ t.second ∷ [] else z ∷ []))) also
+      f ∙ (ap (λ (z : ℕ). and_then mid (tells_blocks (if nat_eq z 0 then t.second ∷ pointer_block ∷ t.second ∷ [] else z ∷ []))) also
       ∙ ap (λ (k : ℕ). and_then mid (tells_blocks (if nat_eq (own (inner j)) 0 then t.second ∷ k ∷ t.second ∷ [] else own (inner j) ∷ []))) kept) in
       last
       ∙ (ap (λ (m : Touched). and_then m (tells_blocks (second_told own t j))) first

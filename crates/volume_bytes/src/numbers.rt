@@ -72,14 +72,14 @@ fn note_outer(zone: u16, taken: u16, touched: &mut Touched)
 }
 
 // Notes the zone of numbers below it, and where that comes, the doubly indirect one in which it will stand.
-fn note_second(zone: u16, taken: u16, holder: u16, touched: &mut Touched)
+fn note_second(zone: u16, taken: u16, pointer_block: u16, touched: &mut Touched)
     requires { 3 ≤ touched.old.spare }
-    ensures told { touched.new.touched ≡ and_then touched.old.touched (tells_blocks (if nat_eq zone 0 then taken ∷ holder ∷ taken ∷ [] else zone ∷ [])) }
+    ensures told { touched.new.touched ≡ and_then touched.old.touched (tells_blocks (if nat_eq zone 0 then taken ∷ pointer_block ∷ taken ∷ [] else zone ∷ [])) }
     ensures spare { touched.old.spare ≤ touched.new.spare + 3 }
 {
     if zone == 0 {
         touched.note_block(taken.into());
-        touched.note_block(holder.into());
+        touched.note_block(pointer_block.into());
         touched.note_block(taken.into());
     } else {
         touched.note_block(zone.into());

@@ -85,15 +85,15 @@ module _ (g : Geometry) (keeps : Place → Bool) (s : OpenInode) where
       ap (λ (zs : List ℕ). record { blocks = after; inode = with_zones s.inode zs }) l
       ∙ cut_single from after low high (e ∙ (ap (λ b. clear_step g s.blocks b zone (from - 7)) k ∙ ap (λ z. clear_step g s.blocks (keeps indirect) z (from - 7)) z))
 
-  pub cut_twice_by : (from : ℕ) (left : List ℕ) (mid after : List (List ℕ)) (group twice : Bool) (outer holder end : ℕ) → left ≡ cut_zones keeps s.inode.zones → 519 ≤ from → from < 262663 →
-      group ≡ keeps (inner ((from - 519) / 512)) → twice ≡ keeps double → outer ≡ slice_index s.inode.zones 8 → holder ≡ entry_behind (entry_of s.blocks) outer ((from - 519) / 512) →
+  pub cut_twice_by : (from : ℕ) (left : List ℕ) (mid after : List (List ℕ)) (group twice : Bool) (outer pointer_block end : ℕ) → left ≡ cut_zones keeps s.inode.zones → 519 ≤ from → from < 262663 →
+      group ≡ keeps (inner ((from - 519) / 512)) → twice ≡ keeps double → outer ≡ slice_index s.inode.zones 8 → pointer_block ≡ entry_behind (entry_of s.blocks) outer ((from - 519) / 512) →
       end ≡ (if group then suc ((from - 519) / 512) else (from - 519) / 512) →
-      mid ≡ clear_step g s.blocks group holder ((from - 519) % 512) → after ≡ clear_step g mid twice outer end →
+      mid ≡ clear_step g s.blocks group pointer_block ((from - 519) % 512) → after ≡ clear_step g mid twice outer end →
       record { blocks = after; inode = with_zones s.inode left } ≡ cut_to g keeps s from
-  cut_twice_by from left mid after group twice outer holder end l low high a b z h d e f =
+  cut_twice_by from left mid after group twice outer pointer_block end l low high a b z h d e f =
       ap (λ (zs : List ℕ). record { blocks = after; inode = with_zones s.inode zs }) l
       ∙ cut_twice from mid after low high
-      (e ∙ (ap (λ c. clear_step g s.blocks c holder ((from - 519) % 512)) a ∙ ap (λ y. clear_step g s.blocks (keeps (inner ((from - 519) / 512))) y ((from - 519) % 512)) (h ∙ ap (λ y. entry_behind (entry_of s.blocks) y ((from - 519) / 512)) z)))
+      (e ∙ (ap (λ c. clear_step g s.blocks c pointer_block ((from - 519) % 512)) a ∙ ap (λ y. clear_step g s.blocks (keeps (inner ((from - 519) / 512))) y ((from - 519) % 512)) (h ∙ ap (λ y. entry_behind (entry_of s.blocks) y ((from - 519) / 512)) z)))
       (f ∙ (ap (λ c. clear_step g mid c outer end) b ∙ (ap (λ y. clear_step g mid (keeps double) y end) z
       ∙ ap (clear_step g mid (keeps double) (slice_index s.inode.zones 8)) (d ∙ ap (λ (c : Bool). if c then suc ((from - 519) / 512) else (from - 519) / 512) a))))
 

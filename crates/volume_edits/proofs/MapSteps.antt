@@ -65,16 +65,16 @@ module _ (g : Geometry) (t : TakenZones) (content : List ℕ) where
   unfolding filled zeros
   no_bytes = refl
 
-  pub map_single_by : (s u w : OpenInode) (index : ℕ) (nothing : List ℕ) (holder : ℕ) → 7 ≤ index → index < 519 → nothing ≡ filled 0 → holder ≡ slice_index u.inode.zones 7 →
-      u ≡ slot_step g s 7 t.outer nothing → w ≡ entry_step g u holder (index - 7) t.data_zone content → w ≡ map_block g t content s index
-  map_single_by s u w index nothing holder low high z k e f =
+  pub map_single_by : (s u w : OpenInode) (index : ℕ) (nothing : List ℕ) (pointer_block : ℕ) → 7 ≤ index → index < 519 → nothing ≡ filled 0 → pointer_block ≡ slice_index u.inode.zones 7 →
+      u ≡ slot_step g s 7 t.outer nothing → w ≡ entry_step g u pointer_block (index - 7) t.data_zone content → w ≡ map_block g t content s index
+  map_single_by s u w index nothing pointer_block low high z k e f =
       map_single s u w index low high (e ∙ ap (slot_step g s 7 t.outer) (z ∙ no_bytes)) (f ∙ ap (λ h. entry_step g u h (index - 7) t.data_zone content) k)
 
-  pub map_twice_by : (s u w x : OpenInode) (index : ℕ) (nothing : List ℕ) (holder also inside : ℕ) → 519 ≤ index → index < 262663 → nothing ≡ filled 0 →
-      holder ≡ slice_index u.inode.zones 8 → also ≡ slice_index w.inode.zones 8 → inside ≡ entry_behind (entry_of w.blocks) also ((index - 519) / 512) →
-      u ≡ slot_step g s 8 t.outer nothing → w ≡ entry_step g u holder ((index - 519) / 512) t.second nothing →
+  pub map_twice_by : (s u w x : OpenInode) (index : ℕ) (nothing : List ℕ) (pointer_block also inside : ℕ) → 519 ≤ index → index < 262663 → nothing ≡ filled 0 →
+      pointer_block ≡ slice_index u.inode.zones 8 → also ≡ slice_index w.inode.zones 8 → inside ≡ entry_behind (entry_of w.blocks) also ((index - 519) / 512) →
+      u ≡ slot_step g s 8 t.outer nothing → w ≡ entry_step g u pointer_block ((index - 519) / 512) t.second nothing →
       x ≡ entry_step g w inside ((index - 519) % 512) t.data_zone content → x ≡ map_block g t content s index
-  map_twice_by s u w x index nothing holder also inside low high z k l m e f h =
+  map_twice_by s u w x index nothing pointer_block also inside low high z k l m e f h =
       map_twice s u w x index low high (e ∙ ap (slot_step g s 8 t.outer) (z ∙ no_bytes))
       (f ∙ (ap (λ h. entry_step g u h ((index - 519) / 512) t.second nothing) k ∙ ap (entry_step g u (slice_index u.inode.zones 8) ((index - 519) / 512) t.second) (z ∙ no_bytes)))
       (h ∙ ap (λ h. entry_step g w h ((index - 519) % 512) t.data_zone content) (m ∙ ap (λ v. entry_behind (entry_of w.blocks) v ((index - 519) / 512)) l))

@@ -38,8 +38,8 @@ pub fn cut_to(blocks: &mut Image, g: &Geometry, inode: &mut Inode, zones: &[Mapp
         let j = ((from - 519) / 512) as u16;
         let group = keeps_inner(zones, from, j.into());
         let outer = inode.zones.zone(8);
-        let holder = zone_entry(blocks, outer, j);
-        clear_step(blocks, g, group, holder, ((from - 519) % 512) as u16);
+        let pointer_block = zone_entry(blocks, outer, j);
+        clear_step(blocks, g, group, pointer_block, ((from - 519) % 512) as u16);
         clear_step(
             blocks,
             g,

@@ -61,8 +61,8 @@ pub fn map_block(
             taken.second,
             &none,
         );
-        let holder = zone_entry(blocks, inode.zones.zone(8), j);
-        fill_entry(blocks, g, inode, holder, k, taken.data_zone, content);
+        let pointer_block = zone_entry(blocks, inode.zones.zone(8), j);
+        fill_entry(blocks, g, inode, pointer_block, k, taken.data_zone, content);
     }
 }
 
@@ -85,17 +85,17 @@ fn fill_entry(
     blocks: &mut Image,
     g: &Geometry,
     inode: &Inode,
-    holder: u16,
+    pointer_block: u16,
     at: u16,
     zone: u16,
     body: &Block,
 )
     requires { at < 512 }
     ensures { record { blocks = blocks.new; inode = inode.now } ≡
-        entry_step g.now (record { blocks = blocks.old; inode = inode.now }) holder at zone body.now }
+        entry_step g.now (record { blocks = blocks.old; inode = inode.now }) pointer_block at zone body.now }
 {
-    if zone_entry(blocks, holder, at) == 0 {
+    if zone_entry(blocks, pointer_block, at) == 0 {
         put_body(blocks, g, zone, body);
-        put_entry(blocks, g, holder, at, zone);
+        put_entry(blocks, g, pointer_block, at, zone);
     }
 }

@@ -19,7 +19,7 @@ use Rattle.tree_model.specs.Maps.{at_number, at_name, name_cmp}
 use Rattle.tree_model.specs.laws.MapsLaws.{number_here, number_same, name_here, name_same}
 use Rattle.tree_model.specs.Paths.{is_dot}
 use Rattle.tree_model.specs.Trees.{directory_links}
-use Rattle.tree_model.specs.laws.Listing.{Gives, IsRooted}
+use Rattle.tree_model.specs.laws.Listing.{HasEntry, IsRooted}
 use Rattle.tree_model.specs.Plain.{names_to}
 use Rattle.volume_ops.specs.declared.found.Mapped.{Mapped}
 use Rattle.volume_ops.specs.Places.{largest_size, birth_of, inode_of_birth, table_block}
@@ -356,7 +356,7 @@ module _ (g : Geometry) (blocks : List (List ℕ)) (tree : List (ℕ × Node)) (
       let x = h.stands.fields.root in
       ap parent_of (same_Some (nodes.Directory d) (nodes.Directory x.0) (sym at ∙ x.1)) ∙ x.2
 
-  parent_by_name : (parent : ℕ) (name : List ℕ) (birth : ℕ) (d : Directory) → Gives tree parent name birth → at_number tree birth ≡ Some (nodes.Directory d) → d.parent ≡ parent
+  parent_by_name : (parent : ℕ) (name : List ℕ) (birth : ℕ) (d : Directory) → HasEntry tree parent name birth → at_number tree birth ≡ Some (nodes.Directory d) → d.parent ≡ parent
   parent_by_name parent name birth d gives at =
       let x = h.stands.fields.leads parent name birth gives in
       subst (IsBelow parent) (same_Some x.0 (nodes.Directory d) (sym x.1 ∙ at)) x.2
@@ -411,7 +411,7 @@ module _ (g : Geometry) (blocks : List (List ℕ)) (tree : List (ℕ × Node)) (
     root_number = λ p at. sym (made_number 0 p at);
     root_parent = λ d at. parent_at_root d (subst (λ t. at_number t 0 ≡ Some (nodes.Directory d)) now_is at);
     parents = λ parent name birth d gives at.
-        parent_by_name parent name birth d (subst (λ t. Gives t parent name birth) now_is gives) (subst (λ t. at_number t birth ≡ Some (nodes.Directory d)) now_is at);
+        parent_by_name parent name birth d (subst (λ t. HasEntry t parent name birth) now_is gives) (subst (λ t. at_number t birth ≡ Some (nodes.Directory d)) now_is at);
     sizes = λ b p zones at is.
         let x = made_file b p zones at is in
         subst (λ (i : Inode). i.size ≤ largest_size) (made_inode b p at) (h.stands.faultless.size (inode_of_birth b) (reached b (nodes.File x.file) x.stands) (has_zones b (nodes.File x.file) x.stands));

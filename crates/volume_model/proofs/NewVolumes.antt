@@ -23,7 +23,7 @@ use Rattle.tree_model.specs.Maps.{at_number, at_name, name_cmp}
 use Rattle.tree_model.specs.laws.MapsLaws.{number_same}
 use Rattle.tree_model.specs.Paths.{is_dot}
 use Rattle.tree_model.specs.Trees.{directory_links}
-use Rattle.tree_model.specs.laws.Listing.{Gives, IsLedTo, at_root, IsRooted}
+use Rattle.tree_model.specs.laws.Listing.{HasEntry, IsLedTo, at_root, IsRooted}
 use Rattle.volume_ops.specs.Volume.{disk_of}
 use Rattle.volume_ops.specs.Fields.{inode_at}
 use Rattle.volume_model.specs.declared.placed.Placed.{Placed}
@@ -287,7 +287,7 @@ module _ (g : Geometry) (sound : IsSound g) where
   parent_in (nodes.File f) = 0
   parent_in (nodes.Other mode) = 0
 
-  no_name : (parent : ℕ) (name : List ℕ) (b : ℕ) → Gives tree parent name b → ⊥
+  no_name : (parent : ℕ) (name : List ℕ) (b : ℕ) → HasEntry tree parent name b → ⊥
   unfolding names_in
   no_name parent name b gives =
       let e : [] ≡ gives.directory.names = ap names_in (only_node parent (nodes.Directory gives.directory) gives.stands).1 in
@@ -327,7 +327,7 @@ module _ (g : Geometry) (sound : IsSound g) where
     rooted = subst IsRooted (sym tree_is) rooted;
     root_number = λ p at. sym (ap (λ (p : Placed). p.number) (only 0 p at).1);
     root_parent = λ d at. sym (ap parent_in (only_node 0 (nodes.Directory d) (subst (λ t. at_number t 0 ≡ Some (nodes.Directory d)) tree_is at)).1);
-    parents = λ parent name b d gives at. absurd (no_name parent name b (subst (λ t. Gives t parent name b) tree_is gives));
+    parents = λ parent name b d gives at. absurd (no_name parent name b (subst (λ t. HasEntry t parent name b) tree_is gives));
     sizes = λ b p zones at is. absurd (let e : parts.Directory root_part ≡ parts.File zones = ap (λ (p : Placed). p.part) (only b p at).1 ∙ is in cc);
     dots = λ b p d at is.
         subst (λ (d : DirectoryPart). (q : Placed) × (at_number placed d.parent ≡ Some q) × HasDots d.slots p.number q.number) (part_of b p d at is)

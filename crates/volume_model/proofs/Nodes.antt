@@ -14,7 +14,7 @@ use Rattle.tree_model.specs.declared.node.Node.{Node}
 use Rattle.tree_model.specs.declared.node.Node.TheVariants as nodes
 use Rattle.tree_model.specs.declared.node.Directory.{Directory}
 use Rattle.tree_model.specs.Maps.{at_number, at_name}
-use Rattle.tree_model.specs.laws.Listing.{Gives}
+use Rattle.tree_model.specs.laws.Listing.{HasEntry}
 use Rattle.volume_ops.specs.laws.ReadsLaws.{same_Ok}
 use Rattle.volume_ops.specs.declared.found.Mapped.{Mapped}
 use Rattle.volume_ops.specs.Places.{largest_size, is_directory, is_file}
@@ -155,7 +155,7 @@ module _ (g : Geometry) (v : Contents) (h : IsPlainContents g v) where
       record { part = d.0; part_is = d.1; got = got; birth = full.0; named = full.1; leads = full.2 }
 
   -- the tree gives the name
-  pub gives : {n : ℕ} (x : HasNode v.nodes n) (place : ℕ) (slot : Slot) (y : NamesNode v.nodes x.node place slot) → Gives (tree_now v.blocks v.nodes) x.birth slot.name y.birth
+  pub gives : {n : ℕ} (x : HasNode v.nodes n) (place : ℕ) (slot : Slot) (y : NamesNode v.nodes x.node place slot) → HasEntry (tree_now v.blocks v.nodes) x.birth slot.name y.birth
   gives {n} x place slot y = record { directory = directory_from y.part; stands = tree_directory v.blocks v.nodes x.birth x.node y.part x.stands y.part_is; named = y.named }
 
   abbrev pub root_placing : Placing v.blocks v.nodes 0 h.rooted.root.0
@@ -221,7 +221,7 @@ module _ (g : Geometry) (v : Contents) (h : IsPlainContents g v) where
       let d = directory_at (led_node a) kind in
       let births : b.birth ≡ a.birth = sym (same_birth (led_node a) (led_node b) same) in
       let names = h.rooted.one_name x.birth y.birth slot.name more.name a.birth (directory_from d.0) (gives x place slot a)
-      (subst (Gives (tree_now v.blocks v.nodes) y.birth more.name) births (gives y other more b))
+      (subst (HasEntry (tree_now v.blocks v.nodes) y.birth more.name) births (gives y other more b))
       (tree_directory v.blocks v.nodes a.birth a.leads.0 d.0 a.leads.1 d.1) in
       let node = same_placed x.birth y.birth x.node y.node x.stands y.stands names.0 in (
         sym x.number_is ∙ (ap (λ (p : Placed). p.number) node ∙ y.number_is),

@@ -20,7 +20,7 @@ use Rattle.tree_model.specs.declared.node.File.{File}
 use Rattle.tree_model.specs.Maps.{at_number, at_name, name_cmp}
 use Rattle.tree_model.specs.laws.MapsLaws.{number_here, number_same, name_here, name_same}
 use Rattle.tree_model.specs.Paths.{is_dot}
-use Rattle.tree_model.specs.laws.Listing.{Gives, IsLedTo, at_root, by_name}
+use Rattle.tree_model.specs.laws.Listing.{HasEntry, IsLedTo, at_root, by_name}
 use Rattle.tree_model.specs.Plain.{names_in_node, names_to}
 use Rattle.tree_model.specs.Trees.{Refusal, step_at, led_to, node_of_path, is_directory, SameMetadata, SameMetadataAt, SameLinks, SameBytes, AreAlike, IsSameButBirths, directory_links}
 use Rattle.tree_model.specs.laws.Alike.{step_gives, step_given, led_on, led_parts, led_is_led}
@@ -209,7 +209,7 @@ module _ (g : Geometry) (v : Contents) (h : IsPlainContents g v) (t : List (ℕ 
     pub other : Node
     pub there : at_number t (to b) ≡ Some other
 
-  gives_there : (b c : ℕ) (name : List ℕ) → InBoth b → Gives now b name c → Gives t (to b) name (to c)
+  gives_there : (b c : ℕ) (name : List ℕ) → InBoth b → HasEntry now b name c → HasEntry t (to b) name (to c)
   gives_there b c name both gives =
       let x = placing v.blocks v.nodes b gives.directory gives.stands in
       let named : at_name x.part.names name ≡ Some c = ap (λ (d : Directory). at_name d.names name) x.same ∙ gives.named in
@@ -229,7 +229,7 @@ module _ (g : Geometry) (v : Contents) (h : IsPlainContents g v) (t : List (ℕ 
       } in
       record { directory = m.0; stands = both.there ∙ ap Some m.1; named = (m.2.names name (to c)).1 has }
 
-  gives_here : (b c : ℕ) (name : List ℕ) → InBoth b → Gives t (to b) name c → (d : ℕ) × Gives now b name d × (to d ≡ c)
+  gives_here : (b c : ℕ) (name : List ℕ) → InBoth b → HasEntry t (to b) name c → (d : ℕ) × HasEntry now b name d × (to d ≡ c)
   gives_here b c name both gives =
       let of : IsDirectoryOf v.blocks both.node.inode gives.directory = says b both.node (nodes.Directory gives.directory) both.stands gives.stands in
       let d = as_directory v.blocks both.node.inode both.node.part (stored g v h b both.node both.stands).part of.kind in

@@ -12,7 +12,7 @@ use Rattle.tree_model.specs.declared.node.File.{File}
 use Rattle.tree_model.specs.Maps.{at_number}
 use Rattle.tree_model.specs.Paths.{is_dot}
 use Rattle.tree_model.specs.Trees.{directory_links}
-use Rattle.tree_model.specs.laws.Listing.{Gives, IsRooted}
+use Rattle.tree_model.specs.laws.Listing.{HasEntry, IsRooted}
 use Rattle.tree_model.specs.Plain.{names_to}
 use Rattle.volume_ops.specs.declared.found.Mapped.{Mapped}
 use Rattle.volume_ops.specs.Places.{largest_size, inode_of_birth}
@@ -82,7 +82,7 @@ pub record IsPlainContents (g : Geometry) (v : Contents) : Type 0 where
   pub rooted : IsRooted (tree_now v.blocks v.nodes)
   pub root_number : (p : Placed) → at_number v.nodes 0 ≡ Some p → p.number ≡ 1
   pub root_parent : (d : Directory) → at_number (tree_now v.blocks v.nodes) 0 ≡ Some (nodes.Directory d) → d.parent ≡ 0
-  pub parents : (parent : ℕ) (name : List ℕ) (birth : ℕ) (d : Directory) → Gives (tree_now v.blocks v.nodes) parent name birth →
+  pub parents : (parent : ℕ) (name : List ℕ) (birth : ℕ) (d : Directory) → HasEntry (tree_now v.blocks v.nodes) parent name birth →
       at_number (tree_now v.blocks v.nodes) birth ≡ Some (nodes.Directory d) → d.parent ≡ parent
   pub sizes : (birth : ℕ) (p : Placed) (zones : List Mapped) → at_number v.nodes birth ≡ Some p → p.part ≡ parts.File zones → p.inode.size ≤ largest_size
   pub dots : (birth : ℕ) (p : Placed) (d : DirectoryPart) → at_number v.nodes birth ≡ Some p → p.part ≡ parts.Directory d →

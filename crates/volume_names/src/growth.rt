@@ -58,13 +58,13 @@ fn note_mapped(inode: &Inode, index: u32, taken: &TakenZones, touched: &mut Touc
         touched.note_block(taken.data_zone.into());
         return;
     }
-    let holder = inode.zones.zone(7);
-    if holder == 0 {
+    let pointer_block = inode.zones.zone(7);
+    if pointer_block == 0 {
         touched.note_block(taken.outer.into());
         touched.note_block(taken.data_zone.into());
         touched.note_block(taken.outer.into());
     } else {
         touched.note_block(taken.data_zone.into());
-        touched.note_block(holder.into());
+        touched.note_block(pointer_block.into());
     }
 }

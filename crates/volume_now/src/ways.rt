@@ -20,8 +20,8 @@ pub fn block_zone(blocks: &Image, inode: &Inode, index: u32) -> u16
         return zone_entry(blocks, inode.zones.zone(7), (index - 7) as u16);
     }
     if index < 262663 {
-        let holder = inner_zone(blocks, inode, index);
-        return zone_entry(blocks, holder, ((index - 519) % 512) as u16);
+        let pointer_block = inner_zone(blocks, inode, index);
+        return zone_entry(blocks, pointer_block, ((index - 519) % 512) as u16);
     }
     0
 }

@@ -5,7 +5,7 @@ use Rattle.blk_base.specs.Members.{In}
 use Rattle.minix_layout.specs.declared.division.Geometry.{Geometry}
 use Rattle.tree_model.specs.Calls.{Tree, used_zones}
 use Rattle.tree_model.specs.Paths.{is_path_name}
-use Rattle.tree_model.specs.laws.Listing.{Gives}
+use Rattle.tree_model.specs.laws.Listing.{HasEntry}
 use Rattle.zone_maps.specs.Zones.{mark, made, is_used}
 use Rattle.volume_ops.specs.Faultless.{IsUsed}
 use Rattle.volume_model.specs.declared.placed.Placed.{Placed}
@@ -83,9 +83,9 @@ module _ (g : Geometry) (blocks : List (List ℕ)) (tree : Tree) (r : IsRead g b
     counted = counted;
   }
 
-  pub opened_plain : ((parent : ℕ) (name : List ℕ) (birth : ℕ) → Gives tree parent name birth → IsTrue (is_path_name name)) → IsPlainNow v
+  pub opened_plain : ((parent : ℕ) (name : List ℕ) (birth : ℕ) → HasEntry tree parent name birth → IsTrue (is_path_name name)) → IsPlainNow v
   opened_plain path_names = record {
     in_use = in_use;
     plain = contents_stand;
-    path_names = λ parent name birth gives. path_names parent name birth (subst (λ (t : Tree). Gives t parent name birth) tree_is gives);
+    path_names = λ parent name birth gives. path_names parent name birth (subst (λ (t : Tree). HasEntry t parent name birth) tree_is gives);
   }

@@ -1,7 +1,7 @@
 -- Which volumes can be opened.
 use Rattle.std.specs.Prelude.{ℕ, List, IsTrue}
 use Rattle.tree_model.specs.Paths.{is_path_name}
-use Rattle.tree_model.specs.laws.Listing.{Gives}
+use Rattle.tree_model.specs.laws.Listing.{HasEntry}
 use Rattle.tree_model.specs.Calls.{Tree}
 use Rattle.volume_ops.specs.Volume.{VolumeState}
 use Rattle.volume_model.specs.Plain.{IsPlainVolume}
@@ -10,4 +10,4 @@ use Rattle.volume_model.specs.Plain.{IsPlainVolume}
 pub record CanOpen (v : VolumeState) : Type 0 where
   pub tree : Tree
   pub plain : IsPlainVolume v.geometry v.blocks tree
-  pub path_names : (parent : ℕ) (name : List ℕ) (birth : ℕ) → Gives tree parent name birth → IsTrue (is_path_name name)
+  pub path_names : (parent : ℕ) (name : List ℕ) (birth : ℕ) → HasEntry tree parent name birth → IsTrue (is_path_name name)

@@ -21,7 +21,7 @@ use Rattle.tree_model.specs.laws.MapsLaws.{at_put_number, at_put_number_apart}
 use Rattle.volume_ops.specs.Zones.{Fault}
 use Rattle.volume_ops.specs.Walk.{Walked, walk_volume}
 use Rattle.volume_ops.specs.Volume.{disk_of, walked, metadata, bodies_of, node_of, put_nodes, tree_found, tree_of}
-use Rattle.tree_model.specs.laws.Listing.{Gives}
+use Rattle.tree_model.specs.laws.Listing.{HasEntry}
 use Rattle.tree_model.specs.laws.Sums.{count_by_same}
 use Rattle.volume_ops.specs.Fields.{IsTreeOf}
 use Rattle.volume_ops.proofs.TreeLaws.{tree_of-fields}
@@ -41,7 +41,7 @@ named_by d name birth false (Some next) e h = e ∙ ap Some (same_Ok next birth 
 
 -- a step that is not refused is by a name of the tree
 step_names : (tree : List (ℕ × Node)) (parent : ℕ) (name : List ℕ) (birth : ℕ) (o : Option Node) → at_number tree parent ≡ o →
-    step_at o name ≡ Ok birth → Gives tree parent name birth
+    step_at o name ≡ Ok birth → HasEntry tree parent name birth
 step_names tree parent name birth None e h = absurd (err-ok _ birth h)
 step_names tree parent name birth (Some (nodes.Directory d)) e h =
     record { directory = d; stands = e; named = named_by d name birth (nat_lt 14 (length name)) (at_name d.names name) refl h }

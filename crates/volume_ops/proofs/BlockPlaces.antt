@@ -16,7 +16,7 @@ use Rattle.tree_model.specs.declared.node.Node.TheVariants as nodes
 use Rattle.tree_model.specs.declared.node.File.{File}
 use Rattle.tree_model.specs.Maps.{at_number}
 use Rattle.tree_model.specs.Paths.{is_dot}
-use Rattle.tree_model.specs.laws.Listing.{Gives, IsLedTo, at_root, by_name}
+use Rattle.tree_model.specs.laws.Listing.{HasEntry, IsLedTo, at_root, by_name}
 use Rattle.volume_ops.specs.Places.{zone_number, table_block, inode_in_block, is_directory, is_file, birth_of, inode_of_birth}
 use Rattle.volume_ops.specs.Reads.{AgreeOn}
 use Rattle.volume_ops.specs.Volume.{disk_of, metadata}
@@ -36,7 +36,7 @@ birth_back inode = grind arith
 
 module _ (g : Geometry) (blocks : List (List ℕ)) (tree : List (ℕ × Node)) (h : IsVolumeTree g blocks tree) where
   -- a name of the tree is a slot of the volume
-  pub named_by : (parent birth : ℕ) (name : List ℕ) → Gives tree parent name birth →
+  pub named_by : (parent birth : ℕ) (name : List ℕ) → HasEntry tree parent name birth →
       (place : ℕ) × (slot : Slot) × NamesAt g blocks (inode_of_birth parent) place slot × (birth_of slot.inode ≡ birth)
   named_by parent birth name gives =
       let says = h.fields.each parent (nodes.Directory gives.directory) gives.stands in

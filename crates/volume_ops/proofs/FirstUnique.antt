@@ -22,7 +22,7 @@ use Rattle.volume_ops.specs.Walk.{Walked}
 use Rattle.volume_ops.specs.Zones.{Fault}
 use Rattle.volume_ops.specs.ZonePlaces.{ZonePlace, rank}
 use Rattle.volume_ops.specs.Faultless.{IsDirectory, HasZones, zone_at_place, slots_of, NamesAt, IsReached, at_root, by_name, AreFaultless}
-use Rattle.volume_ops.specs.FirstFault.{holder_of, slot_zone, IsBadInode, root_is_none, size_too_large, part_of_a_slot, IsBadZone, too_low, too_high, had_by, had_here, IsBadSlot, no_name, no_inode, name_before, names_root, named_by, named_here, AreNamed, by_directory, by_none, AreMet, at_start, again, next, IsFirstHere, of_inode, of_zone, of_slot, IsFirstFault}
+use Rattle.volume_ops.specs.FirstFault.{pointer_block_of, slot_zone, IsBadInode, root_is_none, size_too_large, part_of_a_slot, IsBadZone, too_low, too_high, had_by, had_here, IsBadSlot, no_name, no_inode, name_before, names_root, named_by, named_here, AreNamed, by_directory, by_none, AreMet, at_start, again, next, IsFirstHere, of_inode, of_zone, of_slot, IsFirstFault}
 use Rattle.volume_ops.proofs.ZoneTests.{same_rank}
 use Rattle.volume_ops.proofs.VisitTests.{slot_used}
 use Rattle.volume_ops.proofs.TreeUnique.{same_maps, found_first, found_later, same_options}
@@ -190,7 +190,7 @@ module _ (g : Geometry) (blocks : List (List ℕ)) where
       (λ high.
       ⊎_elim
       (λ lower. absurd (earlier y lower there b))
-      (λ higher. ap (λ x. (BadZone, holder_of g blocks n x)) (same_rank x y (omega arith)))
+      (λ higher. ap (λ x. (BadZone, pointer_block_of g blocks n x)) (same_rank x y (omega arith)))
       (cases_lt (rank y) (rank x)))
       (cases_lt (rank x) (rank y))
   same_here met n fault other block more (of_zone x good z earlier some bad) (of_slot p fine d zones before below b) = absurd (zones x some bad)

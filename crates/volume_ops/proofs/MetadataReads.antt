@@ -64,23 +64,23 @@ module _ (disk : ℕ → List ℕ) (P : ℕ → Type 0) where
     numbers_read_by z s next (Err fault) h rest = λ b i. absurd i
     numbers_read_by z s next (Ok met) h rest = λ b i. ⊎_elim (λ e. subst P e h) (rest (record { met = met; mapped = s.mapped }) b) i
 
-    numbers_read : (holder z : ℕ) (s : ZoneScan) (next : List ℕ → ZoneScan → Reads (Result ZoneScan Fault)) → (z ≢ 0 → P z) →
-        (z ≢ 0 → (t : ZoneScan) → AllAre P (blocks_read disk (next (zone_numbers (disk z)) t))) → AllAre P (blocks_read disk (take_numbers g holder z s next))
-    numbers_read holder z s next h rest =
+    numbers_read : (pointer_block z : ℕ) (s : ZoneScan) (next : List ℕ → ZoneScan → Reads (Result ZoneScan Fault)) → (z ≢ 0 → P z) →
+        (z ≢ 0 → (t : ZoneScan) → AllAre P (blocks_read disk (next (zone_numbers (disk z)) t))) → AllAre P (blocks_read disk (take_numbers g pointer_block z s next))
+    numbers_read pointer_block z s next h rest =
         ⊎_elim
         (λ none. rw (eq-eqb z 0 none) (λ b i. absurd i))
-        (λ some. rw (ne_eqb z 0 some) (numbers_read_by z s next (take_zone g holder z s.met) (h some) (rest some)))
+        (λ some. rw (ne_eqb z 0 some) (numbers_read_by z s next (take_zone g pointer_block z s.met) (h some) (rest some)))
         (cases_eq z 0)
 
-    indirect_reads : (holder index z : ℕ) (s : ZoneScan) → (z ≢ 0 → P z) → AllAre P (blocks_read disk (take_indirect g holder index z s))
-    indirect_reads holder index z s h = numbers_read holder z s (λ numbers after. Ret (take_blocks g z index numbers after)) h (λ some t b i. absurd i)
+    indirect_reads : (pointer_block index z : ℕ) (s : ZoneScan) → (z ≢ 0 → P z) → AllAre P (blocks_read disk (take_indirect g pointer_block index z s))
+    indirect_reads pointer_block index z s h = numbers_read pointer_block z s (λ numbers after. Ret (take_blocks g z index numbers after)) h (λ some t b i. absurd i)
 
-    indirects_read : (holder index : ℕ) (zs : List ℕ) (s : ZoneScan) → ((k : ℕ) → k < length zs → slice_index zs k ≢ 0 → P (slice_index zs k)) →
-        AllAre P (blocks_read disk (take_indirects g holder index zs s))
-    indirects_read holder index [] s h = λ b i. absurd i
-    indirects_read holder index (z ∷ zs) s h =
-        reads_both (take_indirect g holder index z s) (take_indirects g holder (index + 512) zs) (indirect_reads holder index z s (h 0 (omega arith)))
-        (λ t _. indirects_read holder (index + 512) zs t (λ k low. h (suc k) (omega arith)))
+    indirects_read : (pointer_block index : ℕ) (zs : List ℕ) (s : ZoneScan) → ((k : ℕ) → k < length zs → slice_index zs k ≢ 0 → P (slice_index zs k)) →
+        AllAre P (blocks_read disk (take_indirects g pointer_block index zs s))
+    indirects_read pointer_block index [] s h = λ b i. absurd i
+    indirects_read pointer_block index (z ∷ zs) s h =
+        reads_both (take_indirect g pointer_block index z s) (take_indirects g pointer_block (index + 512) zs) (indirect_reads pointer_block index z s (h 0 (omega arith)))
+        (λ t _. indirects_read pointer_block (index + 512) zs t (λ k low. h (suc k) (omega arith)))
 
     -- ---- slots
 
@@ -122,24 +122,24 @@ module _ (g : Geometry) (blocks : List (List ℕ)) (P : ℕ → Type 0) (i : Ino
   inner_zone : (k : ℕ) → k < 512 → slice_index i.zones 8 ≢ 0 → zone_in blocks i (inner k) ≡ slice_index (zone_numbers (disk_of blocks (slice_index i.zones 8))) k
   inner_zone k few some = rw (lt-ltb k 512 few, ne_eqb (slice_index i.zones 8) 0 some) (sym (zone_numbers_at (disk_of blocks (slice_index i.zones 8)) k few))
 
-  double_reads : (holder : ℕ) (s : ZoneScan) → AllAre P (blocks_read (disk_of blocks) (take_double g holder (slice_index i.zones 8) s))
-  double_reads holder s =
-      numbers_read (disk_of blocks) P g holder (slice_index i.zones 8) s (λ numbers after. take_indirects g (slice_index i.zones 8) 519 numbers after) (h double tt)
+  double_reads : (pointer_block : ℕ) (s : ZoneScan) → AllAre P (blocks_read (disk_of blocks) (take_double g pointer_block (slice_index i.zones 8) s))
+  double_reads pointer_block s =
+      numbers_read (disk_of blocks) P g pointer_block (slice_index i.zones 8) s (λ numbers after. take_indirects g (slice_index i.zones 8) 519 numbers after) (h double tt)
       (λ some t.
       indirects_read (disk_of blocks) P g (slice_index i.zones 8) 519 (zone_numbers (disk_of blocks (slice_index i.zones 8))) t
       (λ k low.
       let few : k < 512 = omega (arith, length-zone_numbers (disk_of blocks (slice_index i.zones 8))) in
       subst (λ z. z ≢ 0 → P z) (inner_zone k few some) (h (inner k) tt)))
 
-  zones_read : (holder : ℕ) (met : List Bool) → AllAre P (blocks_read (disk_of blocks) (scan_zones g holder i.zones met))
+  zones_read : (pointer_block : ℕ) (met : List Bool) → AllAre P (blocks_read (disk_of blocks) (scan_zones g pointer_block i.zones met))
   unfolding scan_zones
-  zones_read holder met =
-      reads_both (disk_of blocks) P (Ret (take_blocks g holder 0 (take 7 i.zones) (record { met = met; mapped = [] })))
-      (λ s. if_ok (take_indirect g holder 7 (slice_index i.zones 7) s) (take_double g holder (slice_index i.zones 8)))
+  zones_read pointer_block met =
+      reads_both (disk_of blocks) P (Ret (take_blocks g pointer_block 0 (take 7 i.zones) (record { met = met; mapped = [] })))
+      (λ s. if_ok (take_indirect g pointer_block 7 (slice_index i.zones 7) s) (take_double g pointer_block (slice_index i.zones 8)))
       (λ b i. absurd i)
       (λ s _.
-      reads_both (disk_of blocks) P (take_indirect g holder 7 (slice_index i.zones 7) s) (take_double g holder (slice_index i.zones 8))
-      (indirect_reads (disk_of blocks) P g holder 7 (slice_index i.zones 7) s (h indirect tt)) (λ t _. double_reads holder t))
+      reads_both (disk_of blocks) P (take_indirect g pointer_block 7 (slice_index i.zones 7) s) (take_double g pointer_block (slice_index i.zones 8))
+      (indirect_reads (disk_of blocks) P g pointer_block 7 (slice_index i.zones 7) s (h indirect tt)) (λ t _. double_reads pointer_block t))
 
 -- ---- the walk
 
@@ -200,7 +200,7 @@ module _ (g : Geometry) (blocks : List (List ℕ)) (some_inode : 0 < g.inodes) w
   Next = WalkState → List Pending → Reads (Result Walked Fault)
 
   ok_so_far : (met : List ℕ) (w : WalkState) (e : Pending) (rest : List Pending) (h : IsSoFar g blocks met (e.inode ∷ numbers_of rest) w) (new : In e.inode met → ⊥) (v : Visit) →
-      (r : Result Visit Fault) → visit_tests.Gives g blocks met (numbers_of rest) w e h new r → r ≡ Ok v → IsSoFar g blocks (met ++ e.inode ∷ []) (numbers_of (v.names ++ rest)) v.state
+      (r : Result Visit Fault) → visit_tests.IsTested g blocks met (numbers_of rest) w e h new r → r ≡ Ok v → IsSoFar g blocks (met ++ e.inode ∷ []) (numbers_of (v.names ++ rest)) v.state
   ok_so_far met w e rest h new v (Ok u) good is =
       let same : u ≡ v = (let k = is in cc) in
       subst (λ (v : Visit). IsSoFar g blocks (met ++ e.inode ∷ []) (numbers_of (v.names ++ rest)) v.state) same

@@ -11,7 +11,7 @@ use Rattle.volume_ops.proofs.WalkKeeps.{walked_has}
 use Rattle.volume_ops.specs.Places.{zone_numbers, table_block, inode_in_block}
 use Rattle.volume_ops.specs.Zones.{Fault, ZoneScan, take_zone, take_block, take_blocks, take_numbers, take_indirect, take_indirects, take_double, scan_zones}
 use Rattle.volume_ops.specs.Slots.{scan_slots}
-use Rattle.volume_ops.specs.Walk.{Walked, walk}
+use Rattle.volume_ops.specs.Walk.{Walked}
 use Rattle.volume_ops.specs.Volume.{disk_of, walked}
 use Rattle.volume_ops.proofs.ZonesLaws.{length-zone_numbers}
 use Rattle.volume_ops.specs.laws.Rising.{RiseWithin, IsRising, HasRising}
@@ -37,17 +37,17 @@ block_taken : (r : Result (List Bool) Fault) (index zone : ℕ) (s : ZoneScan) �
 block_taken (Ok met) index zone s h = rise_push 0 s.mapped index (record { index = index; zone = zone }) (omega arith) h
 block_taken (Err fault) index zone s h = tt
 
-blocks_rise : (g : Geometry) (holder index : ℕ) (zones : List ℕ) (s : ZoneScan) → Below index s → IfOk (take_blocks g holder index zones s) (Below (index + length zones))
-blocks_rise g holder index [] s h = rise_higher 0 s.mapped index (index + 0) (omega arith) h
-blocks_rise g holder index (zone ∷ zones) s h =
+blocks_rise : (g : Geometry) (pointer_block index : ℕ) (zones : List ℕ) (s : ZoneScan) → Below index s → IfOk (take_blocks g pointer_block index zones s) (Below (index + length zones))
+blocks_rise g pointer_block index [] s h = rise_higher 0 s.mapped index (index + 0) (omega arith) h
+blocks_rise g pointer_block index (zone ∷ zones) s h =
     let end = index + suc (length zones) in
-    let one_up : (t : ZoneScan) → Below (index + 1) t → IfOk (take_blocks g holder (index + 1) zones t) (Below end) =
+    let one_up : (t : ZoneScan) → Below (index + 1) t → IfOk (take_blocks g pointer_block (index + 1) zones t) (Below end) =
     λ t below. let e : index + 1 + length zones ≡ end = omega arith in
-    subst (λ high. IfOk (take_blocks g holder (index + 1) zones t) (Below high)) e (blocks_rise g holder (index + 1) zones t below) in
+    subst (λ high. IfOk (take_blocks g pointer_block (index + 1) zones t) (Below high)) e (blocks_rise g pointer_block (index + 1) zones t below) in
     either_ok (zone == 0) _ _ (Below end)
     (one_up s (rise_higher 0 s.mapped index (index + 1) (omega arith) h))
-    (ok_then (take_block g holder index zone s) (take_blocks g holder (index + 1) zones) (Below (index + 1)) (Below end)
-    (block_taken (take_zone g holder zone s.met) index zone s h) one_up)
+    (ok_then (take_block g pointer_block index zone s) (take_blocks g pointer_block (index + 1) zones) (Below (index + 1)) (Below end)
+    (block_taken (take_zone g pointer_block zone s.met) index zone s h) one_up)
 
 zone_taken : (disk : ℕ → List ℕ) (r : Result (List Bool) Fault) (zone : ℕ) (s : ZoneScan) (next : List ℕ → ZoneScan → Reads (Result ZoneScan Fault)) (P : ZoneScan → Type 0)
     → ((met : List Bool) (body : List ℕ) → IfOk (answer disk (next (zone_numbers body) (record { met = met; mapped = s.mapped }))) P)
@@ -55,52 +55,52 @@ zone_taken : (disk : ℕ → List ℕ) (r : Result (List Bool) Fault) (zone : �
 zone_taken disk (Ok met) zone s next P h = h met (disk zone)
 zone_taken disk (Err fault) zone s next P h = tt
 
-numbers_taken : (disk : ℕ → List ℕ) (g : Geometry) (holder zone : ℕ) (s : ZoneScan) (next : List ℕ → ZoneScan → Reads (Result ZoneScan Fault)) (P : ZoneScan → Type 0)
+numbers_taken : (disk : ℕ → List ℕ) (g : Geometry) (pointer_block zone : ℕ) (s : ZoneScan) (next : List ℕ → ZoneScan → Reads (Result ZoneScan Fault)) (P : ZoneScan → Type 0)
     → P s → ((met : List Bool) (body : List ℕ) → IfOk (answer disk (next (zone_numbers body) (record { met = met; mapped = s.mapped }))) P)
-    → IfOk (answer disk (take_numbers g holder zone s next)) P
-numbers_taken disk g holder zone s next P hole h =
-    either_answers disk (zone == 0) (Ret (Ok s)) _ P hole (zone_taken disk (take_zone g holder zone s.met) zone s next P h)
+    → IfOk (answer disk (take_numbers g pointer_block zone s next)) P
+numbers_taken disk g pointer_block zone s next P hole h =
+    either_answers disk (zone == 0) (Ret (Ok s)) _ P hole (zone_taken disk (take_zone g pointer_block zone s.met) zone s next P h)
 
-indirect_rises : (disk : ℕ → List ℕ) (g : Geometry) (holder index zone : ℕ) (s : ZoneScan) → Below index s → IfOk (answer disk (take_indirect g holder index zone s)) (Below (index + 512))
-indirect_rises disk g holder index zone s h =
-    numbers_taken disk g holder zone s (λ numbers after. Ret (take_blocks g zone index numbers after)) (Below (index + 512))
+indirect_rises : (disk : ℕ → List ℕ) (g : Geometry) (pointer_block index zone : ℕ) (s : ZoneScan) → Below index s → IfOk (answer disk (take_indirect g pointer_block index zone s)) (Below (index + 512))
+indirect_rises disk g pointer_block index zone s h =
+    numbers_taken disk g pointer_block zone s (λ numbers after. Ret (take_blocks g zone index numbers after)) (Below (index + 512))
     (rise_higher 0 s.mapped index (index + 512) (omega arith) h)
     (λ met body. subst (λ n. IfOk (take_blocks g zone index (zone_numbers body) (record { met = met; mapped = s.mapped })) (Below (index + n)))
     (length-zone_numbers body) (blocks_rise g zone index (zone_numbers body) (record { met = met; mapped = s.mapped }) h))
 
-indirects_rise : (disk : ℕ → List ℕ) (g : Geometry) (holder index : ℕ) (zones : List ℕ) (s : ZoneScan) → Below index s
-    → IfOk (answer disk (take_indirects g holder index zones s)) (Below (index + 512 * length zones))
-indirects_rise disk g holder index [] s h = rise_higher 0 s.mapped index (index + 512 * 0) (omega arith) h
-indirects_rise disk g holder index (zone ∷ zones) s h =
-    answered_then disk (take_indirect g holder index zone s) (take_indirects g holder (index + 512) zones) (Below (index + 512)) (Below (index + 512 * suc (length zones)))
-    (indirect_rises disk g holder index zone s h)
+indirects_rise : (disk : ℕ → List ℕ) (g : Geometry) (pointer_block index : ℕ) (zones : List ℕ) (s : ZoneScan) → Below index s
+    → IfOk (answer disk (take_indirects g pointer_block index zones s)) (Below (index + 512 * length zones))
+indirects_rise disk g pointer_block index [] s h = rise_higher 0 s.mapped index (index + 512 * 0) (omega arith) h
+indirects_rise disk g pointer_block index (zone ∷ zones) s h =
+    answered_then disk (take_indirect g pointer_block index zone s) (take_indirects g pointer_block (index + 512) zones) (Below (index + 512)) (Below (index + 512 * suc (length zones)))
+    (indirect_rises disk g pointer_block index zone s h)
     (λ t below. let e : index + 512 + 512 * length zones ≡ index + 512 * suc (length zones) = omega arith in
-    subst (λ high. IfOk (answer disk (take_indirects g holder (index + 512) zones t)) (Below high)) e (indirects_rise disk g holder (index + 512) zones t below))
+    subst (λ high. IfOk (answer disk (take_indirects g pointer_block (index + 512) zones t)) (Below high)) e (indirects_rise disk g pointer_block (index + 512) zones t below))
 
-double_rises : (disk : ℕ → List ℕ) (g : Geometry) (holder zone : ℕ) (s : ZoneScan) → Below 519 s → IfOk (answer disk (take_double g holder zone s)) (λ z. IsRising z.mapped)
-double_rises disk g holder zone s h =
-    numbers_taken disk g holder zone s (λ numbers after. take_indirects g zone 519 numbers after) (λ z. IsRising z.mapped)
+double_rises : (disk : ℕ → List ℕ) (g : Geometry) (pointer_block zone : ℕ) (s : ZoneScan) → Below 519 s → IfOk (answer disk (take_double g pointer_block zone s)) (λ z. IsRising z.mapped)
+double_rises disk g pointer_block zone s h =
+    numbers_taken disk g pointer_block zone s (λ numbers after. take_indirects g zone 519 numbers after) (λ z. IsRising z.mapped)
     (rise_higher 0 s.mapped 519 262663 (omega arith) h)
     (λ met body. subst (λ n. IfOk (answer disk (take_indirects g zone 519 (zone_numbers body) (record { met = met; mapped = s.mapped }))) (Below (519 + 512 * n)))
     (length-zone_numbers body) (indirects_rise disk g zone 519 (zone_numbers body) (record { met = met; mapped = s.mapped }) h))
 
-data_rises : (g : Geometry) (holder : ℕ) (zones : List ℕ) (met : List Bool) → IfOk (take_blocks g holder 0 (take 7 zones) (record { met = met; mapped = [] })) (Below 7)
-data_rises g holder zones met =
+data_rises : (g : Geometry) (pointer_block : ℕ) (zones : List ℕ) (met : List Bool) → IfOk (take_blocks g pointer_block 0 (take 7 zones) (record { met = met; mapped = [] })) (Below 7)
+data_rises g pointer_block zones met =
     let few = length-take 7 zones in
-    ok_weaker (take_blocks g holder 0 (take 7 zones) (record { met = met; mapped = [] })) (Below (0 + length (take 7 zones))) (Below 7)
-    (blocks_rise g holder 0 (take 7 zones) (record { met = met; mapped = [] }) (omega arith))
+    ok_weaker (take_blocks g pointer_block 0 (take 7 zones) (record { met = met; mapped = [] })) (Below (0 + length (take 7 zones))) (Below 7)
+    (blocks_rise g pointer_block 0 (take 7 zones) (record { met = met; mapped = [] }) (omega arith))
     (λ s h. rise_higher 0 s.mapped (0 + length (take 7 zones)) 7 (omega (arith, few)) h)
 
 -- the scan of an inode's zones maps blocks that rise
-pub scan_rises : (disk : ℕ → List ℕ) (g : Geometry) (holder : ℕ) (zones : List ℕ) (met : List Bool) → IfOk (answer disk (scan_zones g holder zones met)) (λ z. IsRising z.mapped)
+pub scan_rises : (disk : ℕ → List ℕ) (g : Geometry) (pointer_block : ℕ) (zones : List ℕ) (met : List Bool) → IfOk (answer disk (scan_zones g pointer_block zones met)) (λ z. IsRising z.mapped)
 unfolding scan_zones
-scan_rises disk g holder zones met =
-    answered_then disk (Ret (take_blocks g holder 0 (take 7 zones) (record { met = met; mapped = [] })))
-    (λ s. if_ok (take_indirect g holder 7 (slice_index zones 7) s) (take_double g holder (slice_index zones 8)))
-    (Below 7) (λ z. IsRising z.mapped) (data_rises g holder zones met)
-    (λ s h. answered_then disk (take_indirect g holder 7 (slice_index zones 7) s) (take_double g holder (slice_index zones 8)) (Below 519) (λ z. IsRising z.mapped)
-    (indirect_rises disk g holder 7 (slice_index zones 7) s h)
-    (λ t below. double_rises disk g holder (slice_index zones 8) t below))
+scan_rises disk g pointer_block zones met =
+    answered_then disk (Ret (take_blocks g pointer_block 0 (take 7 zones) (record { met = met; mapped = [] })))
+    (λ s. if_ok (take_indirect g pointer_block 7 (slice_index zones 7) s) (take_double g pointer_block (slice_index zones 8)))
+    (Below 7) (λ z. IsRising z.mapped) (data_rises g pointer_block zones met)
+    (λ s h. answered_then disk (take_indirect g pointer_block 7 (slice_index zones 7) s) (take_double g pointer_block (slice_index zones 8)) (Below 519) (λ z. IsRising z.mapped)
+    (indirect_rises disk g pointer_block 7 (slice_index zones 7) s h)
+    (λ t below. double_rises disk g pointer_block (slice_index zones 8) t below))
 
 -- ---- the walk
 

@@ -16,7 +16,7 @@ use Rattle.tree_model.specs.declared.node.Node.{Node}
 use Rattle.tree_model.specs.declared.node.Node.TheVariants as nodes
 use Rattle.tree_model.specs.declared.node.Directory.{Directory}
 use Rattle.tree_model.specs.Maps.{at_number, name_cmp}
-use Rattle.tree_model.specs.laws.Listing.{Gives, IsRooted}
+use Rattle.tree_model.specs.laws.Listing.{HasEntry, IsRooted}
 use Rattle.volume_ops.specs.declared.found.Found.{Found}
 use Rattle.volume_ops.specs.declared.found.Found.TheVariants as found
 use Rattle.volume_ops.specs.laws.ReadsLaws.{err-ok, same_Ok}
@@ -82,10 +82,10 @@ module _ (g : Geometry) (blocks : List (List ℕ)) (all : Walked) (walk : walked
       (λ x. sorted_by blocks x.one.found d x.node_is (walked_sorted g blocks all walk x.one x.within))
       (was_found blocks all.nodes [] birth (nodes.Directory d) is)
 
-  no_root_named : (parent : ℕ) (name : List ℕ) (birth : ℕ) → Gives found_tree parent name birth → birth ≢ 0
+  no_root_named : (parent : ℕ) (name : List ℕ) (birth : ℕ) → HasEntry found_tree parent name birth → birth ≢ 0
   no_root_named parent name birth n =
       let ends = walked_ends g blocks all walk in
-      let here : Gives (put_nodes blocks ends.state.nodes []) parent name birth = subst (λ ms. Gives (put_nodes blocks ms []) parent name birth) (sym ends.nodes) n in
+      let here : HasEntry (put_nodes blocks ends.state.nodes []) parent name birth = subst (λ ms. HasEntry (put_nodes blocks ms []) parent name birth) (sym ends.nodes) n in
       ends.walked.no_root parent name birth (named_of g blocks (all.nodes, ends) parent name birth here)
 
   found_rooted : tree_of g blocks ≡ Ok found_tree → IsRooted found_tree

@@ -92,9 +92,9 @@ module _ (g : Geometry) (blocks : List (List ℕ)) (i : Inode) (before : List Bo
     pub bad : IsBadAt p
 
   -- n slots were gone through, or there is a fault
-  abbrev pub Gives : ℕ → Result SlotScan Fault → Type 0
-  Gives n (Ok s) = AreScanned n s
-  Gives n (Err fault) = (p : ℕ) × StopsAt p × (fault ≡ (BadSlot, zone_behind blocks i (p / 64)))
+  abbrev pub IsTested : ℕ → Result SlotScan Fault → Type 0
+  IsTested n (Ok s) = AreScanned n s
+  IsTested n (Err fault) = (p : ℕ) × StopsAt p × (fault ≡ (BadSlot, zone_behind blocks i (p / 64)))
 
   -- slots that name nothing
   passed_over : (n m : ℕ) (s : SlotScan) → AreScanned n s → n ≤ m →
@@ -223,7 +223,7 @@ module _ (g : Geometry) (blocks : List (List ℕ)) (i : Inode) (before : List Bo
 
     module _ (inside : slot.inode ≤ g.inodes) (free : is_some (at_name s.names slot.name) ≡ false) where
       directory_by : (was : Bool) → is_marked s.named slot.inode ≡ was → IsDirectory g blocks slot.inode →
-          Gives (p + 1) (if was then Err (BadSlot, z) else Ok (record { named = marked s.named slot.inode; names = put_name s.names slot.name (birth_of slot.inode) }))
+          IsTested (p + 1) (if was then Err (BadSlot, z) else Ok (record { named = marked s.named slot.inode; names = put_name s.names slot.name (birth_of slot.inode) }))
       directory_by true was d = stops p z s h e.below zone_is (twice was d)
       directory_by false was d =
           scanned_more p slot s (record { named = marked s.named slot.inode; names = put_name s.names slot.name (birth_of slot.inode) }) h e inside free
@@ -238,7 +238,7 @@ module _ (g : Geometry) (blocks : List (List ℕ)) (i : Inode) (before : List Bo
             size = length-marked s.named slot.inode;
           })
 
-      note_by : (directory : Bool) → is_directory (inode_at g blocks slot.inode).mode ≡ directory → Gives (p + 1) (note_name z slot s directory)
+      note_by : (directory : Bool) → is_directory (inode_at g blocks slot.inode).mode ≡ directory → IsTested (p + 1) (note_name z slot s directory)
       note_by true d = directory_by (is_marked s.named slot.inode) refl d
       note_by false d =
           scanned_more p slot s (record { named = s.named; names = put_name s.names slot.name (birth_of slot.inode) }) h e inside free
@@ -251,7 +251,7 @@ module _ (g : Geometry) (blocks : List (List ℕ)) (i : Inode) (before : List Bo
           })
 
     entry_by : (bad : Bool) → is_bad_entry g slot s ≡ bad →
-        Gives (p + 1) (answer disk (if bad then Ret (Err (BadSlot, z)) else Read (table_block g slot.inode) (λ body. Ret (note_name z slot s (is_directory (inode_in_block slot.inode body).mode)))))
+        IsTested (p + 1) (answer disk (if bad then Ret (Err (BadSlot, z)) else Read (table_block g slot.inode) (λ body. Ret (note_name z slot s (is_directory (inode_in_block slot.inode body).mode)))))
     entry_by true bad =
         stops p z s h e.below zone_is
         (⊎_elim
@@ -277,7 +277,7 @@ module _ (g : Geometry) (blocks : List (List ℕ)) (i : Inode) (before : List Bo
         (λ q slot low high e. none slot (subst (λ q. Entry q slot) (sym (same q low high)) e))
 
     dot_by : (slot : Slot) (dot : Bool) → is_dot slot.name ≡ dot → slot_of (record_at 16 (p % 64) (disk z)) ≡ Ok (Some slot) →
-        Gives (p + 1) (answer disk (if dot then Ret (Ok s) else scan_entry g z slot s))
+        IsTested (p + 1) (answer disk (if dot then Ret (Ok s) else scan_entry g z slot s))
     dot_by slot true dot read =
         one_over
         (λ t e.
@@ -287,35 +287,35 @@ module _ (g : Geometry) (blocks : List (List ℕ)) (i : Inode) (before : List Bo
     dot_by slot false dot read =
         entry_by p z slot s h (record { below = below; stands = slot_is ∙ read; no_dot = dot }) zone_is (is_bad_entry g slot s) refl
 
-    used_by : (o : Option Slot) → slot_of (record_at 16 (p % 64) (disk z)) ≡ Ok o → Gives (p + 1) (answer disk (scan_used g z s o))
+    used_by : (o : Option Slot) → slot_of (record_at 16 (p % 64) (disk z)) ≡ Ok o → IsTested (p + 1) (answer disk (scan_used g z s o))
     used_by None read =
         one_over (λ t e. none-some t (same_Ok None (Some t) (sym read ∙ (sym slot_is ∙ e.stands)))) None read
     used_by (Some slot) read = dot_by slot (is_dot slot.name) refl read
 
     slot_by : (r : Result (Option Slot) LayoutFault) → slot_of (record_at 16 (p % 64) (disk z)) ≡ r →
-        Gives (p + 1) (answer disk (elim r as (λ _. Reads (Result SlotScan Fault)) [ Err fault ↦ Ret (Err (fault, z)) | Ok slot ↦ scan_used g z s slot ]))
+        IsTested (p + 1) (answer disk (elim r as (λ _. Reads (Result SlotScan Fault)) [ Err fault ↦ Ret (Err (fault, z)) | Ok slot ↦ scan_used g z s slot ]))
     slot_by (Ok o) read = used_by o read
     slot_by (Err fault) read =
         let bad : BadSlot ≡ fault = slot_fault (record_at 16 (p % 64) (disk z)) fault read in
         subst (λ fault. (q : ℕ) × StopsAt q × (◌≡◌ {A = Fault} (fault, z) (BadSlot, zone_behind blocks i (q / 64)))) bad
         (stops p z s h below zone_is (no_name (slot_is ∙ (read ∙ ap Err (sym bad)))))
 
-    slot_scan : Gives (p + 1) (answer disk (scan_slot g z (record_at 16 (p % 64) (disk z)) s))
+    slot_scan : IsTested (p + 1) (answer disk (scan_slot g z (record_at 16 (p % 64) (disk z)) s))
     slot_scan = slot_by (slot_of (record_at 16 (p % 64) (disk z))) refl
 
   -- ---- the slots of a block, and of all blocks
 
-  going_on : (r : Result SlotScan Fault) (next : SlotScan → Reads (Result SlotScan Fault)) (n m : ℕ) → Gives n r →
-      ((s : SlotScan) → AreScanned n s → Gives m (answer disk (next s))) → Gives m (answer disk (go_on next r))
+  going_on : (r : Result SlotScan Fault) (next : SlotScan → Reads (Result SlotScan Fault)) (n m : ℕ) → IsTested n r →
+      ((s : SlotScan) → AreScanned n s → IsTested m (answer disk (next s))) → IsTested m (answer disk (go_on next r))
   going_on (Ok s) next n m h more = more s h
   going_on (Err fault) next n m h more = h
 
-  given_then : (program : Reads (Result SlotScan Fault)) (next : SlotScan → Reads (Result SlotScan Fault)) (n m : ℕ) → Gives n (answer disk program) →
-      ((s : SlotScan) → AreScanned n s → Gives m (answer disk (next s))) → Gives m (answer disk (if_ok program next))
-  given_then program next n m h more = subst (λ r. Gives m r) (sym (answer-and_then disk program (go_on next))) (going_on (answer disk program) next n m h more)
+  given_then : (program : Reads (Result SlotScan Fault)) (next : SlotScan → Reads (Result SlotScan Fault)) (n m : ℕ) → IsTested n (answer disk program) →
+      ((s : SlotScan) → AreScanned n s → IsTested m (answer disk (next s))) → IsTested m (answer disk (if_ok program next))
+  given_then program next n m h more = subst (λ r. IsTested m r) (sym (answer-and_then disk program (go_on next))) (going_on (answer disk program) next n m h more)
 
   places_scan : (index z a n : ℕ) (s : SlotScan) → a + n ≤ 64 → zone_behind blocks i index ≡ z → z ≢ 0 → 64 * index + (a + n) ≤ i.size / 16 →
-      AreScanned (64 * index + a) s → Gives (64 * index + (a + n)) (answer disk (scan_places g z (disk z) (range_with_len a n) s))
+      AreScanned (64 * index + a) s → IsTested (64 * index + (a + n)) (answer disk (scan_places g z (disk z) (range_with_len a n) s))
   places_scan index z a zero s few zone_is some below h = let e : 64 * index + a ≡ 64 * index + (a + 0) = omega arith in subst (λ n. AreScanned n s) e h
   places_scan index z a (suc n) s few zone_is some below h =
       let block : (64 * index + a) / 64 ≡ index = omega arith in
@@ -323,10 +323,10 @@ module _ (g : Geometry) (blocks : List (List ℕ)) (i : Inode) (before : List Bo
       let next : (64 * index + a) + 1 ≡ 64 * index + (a + 1) = omega arith in
       let end : 64 * index + ((a + 1) + n) ≡ 64 * index + (a + suc n) = omega arith in
       given_then (scan_slot g z (record_at 16 a (disk z)) s) (scan_places g z (disk z) (range_with_len (a + 1) n)) (64 * index + (a + 1)) (64 * index + (a + suc n))
-      (subst (λ m. Gives m (answer disk (scan_slot g z (record_at 16 a (disk z)) s))) next
-      (subst (λ k. Gives (64 * index + a + 1) (answer disk (scan_slot g z (record_at 16 k (disk z)) s))) at
+      (subst (λ m. IsTested m (answer disk (scan_slot g z (record_at 16 a (disk z)) s))) next
+      (subst (λ k. IsTested (64 * index + a + 1) (answer disk (scan_slot g z (record_at 16 k (disk z)) s))) at
       (slot_scan (64 * index + a) z s h (omega arith) (ap (zone_behind blocks i) block ∙ zone_is) some)))
-      (λ t k. subst (λ m. Gives m (answer disk (scan_places g z (disk z) (range_with_len (a + 1) n) t))) end (places_scan index z (a + 1) n t (omega arith) zone_is some (omega arith) k))
+      (λ t k. subst (λ m. IsTested m (answer disk (scan_places g z (disk z) (range_with_len (a + 1) n) t))) end (places_scan index z (a + 1) n t (omega arith) zone_is some (omega arith) k))
 
   -- behind the size there is nothing
   past_size : (n m : ℕ) (s : SlotScan) → AreScanned n s → n ≤ m → ((p : ℕ) → n ≤ p → p < m → i.size / 16 ≤ p) → AreScanned m s
@@ -336,13 +336,13 @@ module _ (g : Geometry) (blocks : List (List ℕ)) (i : Inode) (before : List Bo
       (λ p slot low high e. let far = past p low high in let below = e.below in omega arith)
 
   -- a result that is good for more
-  gives_more : (r : Result SlotScan Fault) (n m : ℕ) → Gives n r → ((s : SlotScan) → AreScanned n s → AreScanned m s) → Gives m r
+  gives_more : (r : Result SlotScan Fault) (n m : ℕ) → IsTested n r → ((s : SlotScan) → AreScanned n s → AreScanned m s) → IsTested m r
   gives_more (Ok s) n m h on = on s h
   gives_more (Err fault) n m h on = h
 
   block_by : (index z : ℕ) (s : SlotScan) (some_slots : Bool) → nat_lt (64 * index) (i.size / 16) ≡ some_slots → zone_behind blocks i index ≡ z → z ≢ 0 →
       AreScanned (64 * index) s →
-      Gives (64 * (index + 1)) (answer disk (if some_slots
+      IsTested (64 * (index + 1)) (answer disk (if some_slots
       then Read z (λ body. scan_places g z body (range_with_len 0 (min 64 (i.size / 16 - 64 * index))) s)
       else Ret (Ok s)))
   block_by index z s true lower zone_is some h =
@@ -373,7 +373,7 @@ module _ (g : Geometry) (blocks : List (List ℕ)) (i : Inode) (before : List Bo
   pub slots_scan : (ms : List Mapped) (low high : ℕ) (s : SlotScan) → RiseWithin low ms high →
       ((m : Mapped) → In m ms → (zone_behind blocks i m.index ≡ m.zone) × (m.zone ≢ 0)) →
       ((k : ℕ) → low ≤ k → zone_behind blocks i k ≢ 0 → In (block_at k (zone_behind blocks i k)) ms) →
-      AreScanned (64 * low) s → Gives (64 * high) (answer disk (scan_slots g (i.size / 16) ms s))
+      AreScanned (64 * low) s → IsTested (64 * high) (answer disk (scan_slots g (i.size / 16) ms s))
   slots_scan [] low high s rise right full h =
       holes_over low high s h rise (λ k from to. ⊎_elim (λ none. none) (λ some. absurd (full k from some)) (cases_eq (zone_behind blocks i k) 0))
   slots_scan (m ∷ ms) low high s rise right full h =

@@ -26,7 +26,7 @@ use Rattle.volume_ops.specs.Places.{table_block, inode_in_block, is_directory, b
 use Rattle.volume_ops.specs.Marks.{is_marked}
 use Rattle.volume_ops.specs.Zones.{Fault, scan_zones}
 use Rattle.volume_ops.specs.Slots.{SlotScan, is_bad_entry, note_name, scan_entry, scan_used, scan_slot, scan_places, scan_block, scan_slots}
-use Rattle.volume_ops.specs.Walk.{Walked, walk}
+use Rattle.volume_ops.specs.Walk.{Walked}
 use Rattle.volume_ops.specs.Volume.{disk_of, walked, node_of, put_nodes}
 
 -- ---- the names of a directory

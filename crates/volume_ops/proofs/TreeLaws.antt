@@ -20,7 +20,7 @@ use Rattle.volume_ops.specs.Zones.{Fault}
 use Rattle.volume_ops.specs.Walk.{Walked}
 use Rattle.volume_ops.specs.Volume.{walked, node_of, put_nodes, tree_found, tree_of}
 use Rattle.volume_ops.specs.Fields.{inode_at, IsNodeOf, IsBelow, IsTreeOf}
-use Rattle.tree_model.specs.laws.Listing.{Gives, IsLedTo, at_root, by_name}
+use Rattle.tree_model.specs.laws.Listing.{HasEntry, IsLedTo, at_root, by_name}
 use Rattle.volume_ops.proofs.VisitLaws.{names_in}
 use Rattle.volume_ops.proofs.WalkLaws.{NamedIn, IsReachedIn, from_root, from_parent, IsWalked, Ends, walk_volume-ends}
 
@@ -108,7 +108,7 @@ module _ (g : Geometry) (blocks : List (List ℕ)) (ends : (ns : List FoundNode)
   of_tree : (birth : ℕ) (node : Node) → at_number tree birth ≡ Some node → WasFound blocks ns birth node
   of_tree birth node e = ⊎_elim (λ none. absurd (none-some node none)) (λ x. x) (was_found blocks ns [] birth node e)
 
-  pub named_of : (parent : ℕ) (name : List ℕ) (birth : ℕ) → Gives tree parent name birth → NamedIn blocks ns parent name birth
+  pub named_of : (parent : ℕ) (name : List ℕ) (birth : ℕ) → HasEntry tree parent name birth → NamedIn blocks ns parent name birth
   named_of parent name birth n =
       let x = of_tree parent (nodes.Directory n.directory) n.stands in
       record {
@@ -118,7 +118,7 @@ module _ (g : Geometry) (blocks : List (List ℕ)) (ends : (ns : List FoundNode)
         named = subst (λ node. at_name (names_in node) name ≡ Some birth) (sym x.node_is) n.named;
       }
 
-  of_named : (parent : ℕ) (name : List ℕ) (birth : ℕ) → NamedIn blocks ns parent name birth → Gives tree parent name birth
+  of_named : (parent : ℕ) (name : List ℕ) (birth : ℕ) → NamedIn blocks ns parent name birth → HasEntry tree parent name birth
   of_named parent name birth n =
       let d = directory_of (node_of blocks n.namer.found) name birth n.named in
       record {
@@ -133,7 +133,7 @@ module _ (g : Geometry) (blocks : List (List ℕ)) (ends : (ns : List FoundNode)
       subst (λ node. IsNodeOf blocks (inode_at g blocks (inode_of_birth birth)) node) x.node_is
       (subst (λ birth. IsNodeOf blocks (inode_at g blocks (inode_of_birth birth)) (node_of blocks x.one.found)) x.birth_is (h.each x.one x.within))
 
-  leads_to : (parent : ℕ) (name : List ℕ) (birth : ℕ) → Gives tree parent name birth → (node : Node) × (at_number tree birth ≡ Some node) × IsBelow parent node
+  leads_to : (parent : ℕ) (name : List ℕ) (birth : ℕ) → HasEntry tree parent name birth → (node : Node) × (at_number tree birth ≡ Some node) × IsBelow parent node
   leads_to parent name birth names =
       let n = named_of parent name birth names in
       let t : is_marked ends.1.state.inodes (inode_of_birth birth) ≡ true = ⊎_elim (λ t. t) (λ i. absurd i) (h.leads parent name birth n) in
@@ -149,13 +149,13 @@ module _ (g : Geometry) (blocks : List (List ℕ)) (ends : (ns : List FoundNode)
             (λ d. (h.once y.0 parent y.1 name birth other n d).0),
       )
 
-  has_names : (birth : ℕ) (node : Node) → at_number tree birth ≡ Some node → birth ≢ 0 → (parent : ℕ) × (name : List ℕ) × Gives tree parent name birth
+  has_names : (birth : ℕ) (node : Node) → at_number tree birth ≡ Some node → birth ≢ 0 → (parent : ℕ) × (name : List ℕ) × HasEntry tree parent name birth
   has_names birth node e some =
       let x = of_tree birth node e in
       let y = h.has_name x.one x.within (λ none. some (sym x.birth_is ∙ none)) in
       (y.0, y.1, of_named y.0 y.1 birth (subst (λ birth. NamedIn blocks ns y.0 y.1 birth) x.birth_is y.2))
 
-  one_names : (parent other : ℕ) (name more : List ℕ) (birth : ℕ) (d : Directory) → Gives tree parent name birth → Gives tree other more birth →
+  one_names : (parent other : ℕ) (name more : List ℕ) (birth : ℕ) (d : Directory) → HasEntry tree parent name birth → HasEntry tree other more birth →
       at_number tree birth ≡ Some (nodes.Directory d) → (parent ≡ other) × (name ≡ more)
   one_names parent other name more birth d m n e =
       h.once parent other name more birth (named_of parent name birth m) (named_of other more birth n) (each_says birth (nodes.Directory d) e).kind

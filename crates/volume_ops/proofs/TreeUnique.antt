@@ -21,7 +21,7 @@ use Rattle.tree_model.specs.declared.node.Node.TheVariants as nodes
 use Rattle.tree_model.specs.declared.node.File.{File}
 use Rattle.tree_model.specs.Maps.{at_number, at_name, name_cmp}
 use Rattle.tree_model.specs.laws.MapsLaws.{same_pair, number_here, number_same, name_here, name_same}
-use Rattle.tree_model.specs.laws.Listing.{Gives, IsLedTo, at_root, by_name}
+use Rattle.tree_model.specs.laws.Listing.{HasEntry, IsLedTo, at_root, by_name}
 use Rattle.volume_ops.specs.declared.found.Mapped.{Mapped}
 use Rattle.volume_ops.specs.declared.found.Found.{Found}
 use Rattle.volume_ops.specs.declared.found.Found.TheVariants as found
@@ -157,7 +157,7 @@ module _ (g : Geometry) (blocks : List (List ℕ)) where
       c.1 ∙ ap Some (sym same ∙ first)
   led_same t u h k (by_name {parent} {birth} {name} led gives) n e =
       let above : at_number u parent ≡ Some (nodes.Directory gives.directory) = led_same t u h k led (nodes.Directory gives.directory) gives.stands in
-      let there : Gives u parent name birth = record { directory = gives.directory; stands = above; named = gives.named } in
+      let there : HasEntry u parent name birth = record { directory = gives.directory; stands = above; named = gives.named } in
       let x = h.fields.leads parent name birth gives in
       let y = k.fields.leads parent name birth there in
       let first : x.0 ≡ n = same_Some x.0 n (sym x.1 ∙ e) in

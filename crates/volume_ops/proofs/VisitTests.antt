@@ -32,7 +32,7 @@ use Rattle.volume_ops.proofs.RisingLaws.{scan_rises}
 use Rattle.volume_ops.specs.Walk.{WalkState, Pending, Visit, pending_in, met_node, is_bad_inode, visit_file, visit_directory, visit_other, visit}
 use Rattle.volume_ops.specs.ZonePlaces.{ZonePlace, rank}
 use Rattle.volume_ops.specs.Faultless.{IsDirectory, IsFile, HasZones, zone_at_place, slots_of, IsEntryAt, NamesAt}
-use Rattle.volume_ops.specs.FirstFault.{holder_of, slot_zone, IsBadInode, root_is_none, size_too_large, part_of_a_slot, IsBadZone, too_low, too_high, had_by, had_here, IsBadSlot, no_name, no_inode, name_before, names_root, named_by, named_here, by_directory, by_none, IsFirstHere, of_inode, of_zone, of_slot}
+use Rattle.volume_ops.specs.FirstFault.{pointer_block_of, slot_zone, IsBadInode, root_is_none, size_too_large, part_of_a_slot, IsBadZone, too_low, too_high, had_by, had_here, IsBadSlot, no_name, no_inode, name_before, names_root, named_by, named_here, by_directory, by_none, IsFirstHere, of_inode, of_zone, of_slot}
 use Rattle.volume_ops.proofs.ZoneTests as zone_tests
 use Rattle.volume_ops.proofs.ZoneTests.{AreTaken, zones_scan, all_ranked}
 use Rattle.volume_ops.proofs.SlotTests as slot_tests
@@ -129,15 +129,15 @@ module _ (g : Geometry) (blocks : List (List ℕ)) (met ahead : List ℕ) (w : W
   Before k = In k met
 
   -- the walk goes on, or the fault is the first
-  abbrev pub Gives : Result Visit Fault → Type 0
-  Gives (Ok v) = IsSoFar g blocks (met ++ n ∷ []) (numbers_of v.names ++ ahead) v.state × (v.state.inodes ≡ marked w.inodes n)
-  Gives (Err fault) = IsFirstHere g blocks Before n fault.0 fault.1
+  abbrev pub IsTested : Result Visit Fault → Type 0
+  IsTested (Ok v) = IsSoFar g blocks (met ++ n ∷ []) (numbers_of v.names ++ ahead) v.state × (v.state.inodes ≡ marked w.inodes n)
+  IsTested (Err fault) = IsFirstHere g blocks Before n fault.0 fault.1
 
   module _ (good : IsBadInode g blocks n → ⊥) where
     -- ---- its zones
 
     abbrev Taken : ℕ → List Bool → Type 0
-    Taken = zone_tests.AreTaken g (zone_at_place g blocks n) (holder_of g blocks n) w.zones
+    Taken = zone_tests.AreTaken g (zone_at_place g blocks n) (pointer_block_of g blocks n) w.zones
 
     module _ (zoned : HasZones g blocks n) where
       no_bad_zone : (rank_end : ℕ) (marks : List Bool) → Taken rank_end marks → (x : ZonePlace) → rank x < rank_end → zone_at_place g blocks n x ≢ 0 → IsBadZone g blocks Before n x → ⊥
@@ -165,8 +165,8 @@ module _ (g : Geometry) (blocks : List (List ℕ)) (met ahead : List ℕ) (w : W
           (or_cases (nat_le g.zones (zone_at_place g blocks n x)) (is_marked marks (zone_at_place g blocks n x)) more))
           (or_cases (nat_lt (zone_at_place g blocks n x) g.first) (nat_le g.zones (zone_at_place g blocks n x) || is_marked marks (zone_at_place g blocks n x)) bad)
 
-      zone_fault : (fault : Fault) (x : ZonePlace) → zone_tests.StopsAt g (zone_at_place g blocks n) (holder_of g blocks n) w.zones x →
-          fault ≡ (BadZone, holder_of g blocks n x) → IsFirstHere g blocks Before n fault.0 fault.1
+      zone_fault : (fault : Fault) (x : ZonePlace) → zone_tests.StopsAt g (zone_at_place g blocks n) (pointer_block_of g blocks n) w.zones x →
+          fault ≡ (BadZone, pointer_block_of g blocks n x) → IsFirstHere g blocks Before n fault.0 fault.1
       zone_fault fault x stop told =
           subst (λ (f : Fault). IsFirstHere g blocks Before n f.0 f.1) (sym told)
           (of_zone x good zoned (λ y low some bad. no_bad_zone (rank x) stop.met stop.taken y low some bad) stop.some (bad_zone x stop.met stop.taken stop.bad))
@@ -303,11 +303,11 @@ module _ (g : Geometry) (blocks : List (List ℕ)) (met ahead : List ℕ) (w : W
     abbrev slot_scan : ZoneScan → Reads (Result SlotScan Fault)
     slot_scan z = scan_slots g (j.size / 16) z.mapped (record { named = w.named; names = [] })
 
-    zones_tested : zone_tests.Gives g (zone_at_place g blocks n) (holder_of g blocks n) w.zones 263177 (answer disk scan)
+    zones_tested : zone_tests.IsTested g (zone_at_place g blocks n) (pointer_block_of g blocks n) w.zones 263177 (answer disk scan)
     zones_tested = zones_scan g blocks (table_block g n) j (nine g blocks n) w.zones h.zones_size
 
-    directory_by : IsDirectory g blocks n → (z : ZoneScan) → Taken 263177 z.met → (r : Result SlotScan Fault) → slot_tests.Gives g blocks j w.named 16810432 r →
-        Gives (answer disk (go_on (on_slots z) r))
+    directory_by : IsDirectory g blocks n → (z : ZoneScan) → Taken 263177 z.met → (r : Result SlotScan Fault) → slot_tests.IsTested g blocks j w.named 16810432 r →
+        IsTested (answer disk (go_on (on_slots z) r))
     directory_by d z t (Err fault) stopped = slot_fault d z.met fault stopped.0 t stopped.1 stopped.2
     directory_by d z t (Ok s) scanned = (
       subst (λ ks. IsSoFar g blocks (met ++ n ∷ []) (ks ++ ahead)
@@ -316,7 +316,7 @@ module _ (g : Geometry) (blocks : List (List ℕ)) (met ahead : List ℕ) (w : W
       refl,
     )
 
-    slots_tested : (z : ZoneScan) → answer disk scan ≡ Ok z → slot_tests.Gives g blocks j w.named 16810432 (answer disk (slot_scan z))
+    slots_tested : (z : ZoneScan) → answer disk scan ≡ Ok z → slot_tests.IsTested g blocks j w.named 16810432 (answer disk (slot_scan z))
     slots_tested z is =
         let of_map = scan_zones-map disk g (table_block g n) j.zones w.zones z (nine g blocks n) is in
         slots_scan g blocks j w.named z.mapped 0 262663 (record { named = w.named; names = [] })
@@ -328,38 +328,38 @@ module _ (g : Geometry) (blocks : List (List ℕ)) (met ahead : List ℕ) (w : W
     on_directory z = if_ok (slot_scan z) (on_slots z)
 
     directory_after : IsDirectory g blocks n → (r : Result ZoneScan Fault) → answer disk scan ≡ r →
-        zone_tests.Gives g (zone_at_place g blocks n) (holder_of g blocks n) w.zones 263177 r → Gives (answer disk (go_on on_directory r))
+        zone_tests.IsTested g (zone_at_place g blocks n) (pointer_block_of g blocks n) w.zones 263177 r → IsTested (answer disk (go_on on_directory r))
     directory_after d (Err fault) is stopped = zone_fault (inl d) fault stopped.0 stopped.1 stopped.2
     directory_after d (Ok z) is taken =
-        subst Gives (sym (answer-and_then disk (slot_scan z) (go_on (on_slots z)))) (directory_by d z taken (answer disk (slot_scan z)) (slots_tested z is))
+        subst IsTested (sym (answer-and_then disk (slot_scan z) (go_on (on_slots z)))) (directory_by d z taken (answer disk (slot_scan z)) (slots_tested z is))
 
-    directory_tested : IsDirectory g blocks n → Gives (answer disk (if_ok scan on_directory))
-    directory_tested d = subst Gives (sym (answer-and_then disk scan (go_on on_directory))) (directory_after d (answer disk scan) refl zones_tested)
+    directory_tested : IsDirectory g blocks n → IsTested (answer disk (if_ok scan on_directory))
+    directory_tested d = subst IsTested (sym (answer-and_then disk scan (go_on on_directory))) (directory_after d (answer disk scan) refl zones_tested)
 
     abbrev on_file : ZoneScan → Reads (Result Visit Fault)
     on_file z = Ret (visit_file w n j z)
 
     file_after : (IsDirectory g blocks n → ⊥) → IsFile g blocks n → (r : Result ZoneScan Fault) →
-        zone_tests.Gives g (zone_at_place g blocks n) (holder_of g blocks n) w.zones 263177 r → Gives (answer disk (go_on on_file r))
+        zone_tests.IsTested g (zone_at_place g blocks n) (pointer_block_of g blocks n) w.zones 263177 r → IsTested (answer disk (go_on on_file r))
     file_after none f (Err fault) stopped = zone_fault (inr f) fault stopped.0 stopped.1 stopped.2
     file_after none f (Ok z) taken =
         (further g blocks met ahead w n h new good z.met w.named [] _ (zones_added (inr f) z.met taken) (no_names none), refl)
 
-    file_tested : (IsDirectory g blocks n → ⊥) → IsFile g blocks n → Gives (answer disk (if_ok scan on_file))
-    file_tested none f = subst Gives (sym (answer-and_then disk scan (go_on on_file))) (file_after none f (answer disk scan) zones_tested)
+    file_tested : (IsDirectory g blocks n → ⊥) → IsFile g blocks n → IsTested (answer disk (if_ok scan on_file))
+    file_tested none f = subst IsTested (sym (answer-and_then disk scan (go_on on_file))) (file_after none f (answer disk scan) zones_tested)
 
-    other_tested : (IsDirectory g blocks n → ⊥) → (IsFile g blocks n → ⊥) → Gives (visit_other w n j)
+    other_tested : (IsDirectory g blocks n → ⊥) → (IsFile g blocks n → ⊥) → IsTested (visit_other w n j)
     other_tested none no_file =
         (further g blocks met ahead w n h new good w.zones w.named [] _ (no_zones (λ z. ⊎_elim none no_file z)) (no_names none), refl)
 
     kind_by : (directory file : Bool) → is_directory j.mode ≡ directory → is_file j.mode ≡ file →
-        Gives (answer disk (if directory then if_ok scan on_directory else if file then if_ok scan on_file else Ret (visit_other w n j)))
+        IsTested (answer disk (if directory then if_ok scan on_directory else if file then if_ok scan on_file else Ret (visit_other w n j)))
     kind_by true file d f = directory_tested d
     kind_by false true d f = file_tested (λ t. true≢false (sym t ∙ d)) f
     kind_by false false d f = other_tested (λ t. true≢false (sym t ∙ d)) (λ t. true≢false (sym t ∙ f))
 
   inode_by : (bad : Bool) → is_bad_inode n j ≡ bad →
-      Gives (answer disk (if bad then Ret (Err (BadInode, table_block g n))
+      IsTested (answer disk (if bad then Ret (Err (BadInode, table_block g n))
       else if is_directory j.mode then if_ok (scan_zones g (table_block g n) j.zones w.zones)
       (λ z. if_ok (scan_slots g (j.size / 16) z.mapped (record { named = w.named; names = [] })) (λ s. Ret (visit_directory w e j z s)))
       else if is_file j.mode then if_ok (scan_zones g (table_block g n) j.zones w.zones) (λ z. Ret (visit_file w n j z)) else Ret (visit_other w n j)))
@@ -367,6 +367,6 @@ module _ (g : Geometry) (blocks : List (List ℕ)) (met ahead : List ℕ) (w : W
   inode_by false bad = kind_by (good_inode g blocks n bad) (is_directory j.mode) (is_file j.mode) refl refl
 
   -- the visit goes on, with the inode met, or tells its first fault
-  pub visit_tested : Gives (answer disk (visit g w e))
+  pub visit_tested : IsTested (answer disk (visit g w e))
   unfolding visit
   visit_tested = inode_by (is_bad_inode n j) refl

@@ -17,26 +17,26 @@ use Rattle.std.proofs.lemmas.List.Elements.{All-append, All-nil, All-cons, All-h
 use Rattle.volume_ops.proofs.GoesOn.{answer-if_ok-ok, answer-if_ok-err}
 
 module _ (disk : ℕ → List ℕ) (g : Geometry) (w : WalkState) (i : Inode) where
-  pub file_visited : (inode holder : ℕ) (z : ZoneScan) (v : WalkState) → holder ≡ table_block g inode → answer disk (scan_zones g holder i.zones w.zones) ≡ Ok z → v ≡ met_node w inode z.met w.named (found.File (record { size = i.size; links = i.links; zones = z.mapped })) → answer disk (file_visit g w inode i) ≡ Ok (record { state = v; names = [] })
-  file_visited inode holder z v at zones is =
+  pub file_visited : (inode pointer_block : ℕ) (z : ZoneScan) (v : WalkState) → pointer_block ≡ table_block g inode → answer disk (scan_zones g pointer_block i.zones w.zones) ≡ Ok z → v ≡ met_node w inode z.met w.named (found.File (record { size = i.size; links = i.links; zones = z.mapped })) → answer disk (file_visit g w inode i) ≡ Ok (record { state = v; names = [] })
+  file_visited inode pointer_block z v at zones is =
       rw is
       (answer-if_ok-ok disk (scan_zones g (table_block g inode) i.zones w.zones) (λ z. Ret (visit_file w inode i z)) z (rw at at zones))
 
-  pub file_fault : (inode holder : ℕ) (f : Fault) → holder ≡ table_block g inode → answer disk (scan_zones g holder i.zones w.zones) ≡ Err f → answer disk (file_visit g w inode i) ≡ Err f
-  file_fault inode holder f at zones =
+  pub file_fault : (inode pointer_block : ℕ) (f : Fault) → pointer_block ≡ table_block g inode → answer disk (scan_zones g pointer_block i.zones w.zones) ≡ Err f → answer disk (file_visit g w inode i) ≡ Err f
+  file_fault inode pointer_block f at zones =
       answer-if_ok-err disk (scan_zones g (table_block g inode) i.zones w.zones) (λ z. Ret (visit_file w inode i z)) f (rw at at zones)
 
-  module _ (e : Pending) (holder : ℕ) (at : holder ≡ table_block g e.inode) where
-    directory_is : (z : ZoneScan) → answer disk (scan_zones g holder i.zones w.zones) ≡ Ok z → answer disk (directory_visit g w e i) ≡ answer disk (if_ok (scan_slots g (i.size / 16) z.mapped (record { named = w.named; names = [] })) (λ s. Ret (visit_directory w e i z s)))
+  module _ (e : Pending) (pointer_block : ℕ) (at : pointer_block ≡ table_block g e.inode) where
+    directory_is : (z : ZoneScan) → answer disk (scan_zones g pointer_block i.zones w.zones) ≡ Ok z → answer disk (directory_visit g w e i) ≡ answer disk (if_ok (scan_slots g (i.size / 16) z.mapped (record { named = w.named; names = [] })) (λ s. Ret (visit_directory w e i z s)))
     directory_is z zones = answer-if_ok-ok disk (scan_zones g (table_block g e.inode) i.zones w.zones) (λ z. if_ok (scan_slots g (i.size / 16) z.mapped (record { named = w.named; names = [] })) (λ s. Ret (visit_directory w e i z s))) z (rw at at zones)
 
-    pub directory_zones_fault : (f : Fault) → answer disk (scan_zones g holder i.zones w.zones) ≡ Err f → answer disk (directory_visit g w e i) ≡ Err f
+    pub directory_zones_fault : (f : Fault) → answer disk (scan_zones g pointer_block i.zones w.zones) ≡ Err f → answer disk (directory_visit g w e i) ≡ Err f
     directory_zones_fault f zones = answer-if_ok-err disk (scan_zones g (table_block g e.inode) i.zones w.zones) (λ z. if_ok (scan_slots g (i.size / 16) z.mapped (record { named = w.named; names = [] })) (λ s. Ret (visit_directory w e i z s))) f (rw at at zones)
 
-    pub directory_slots_fault : (z : ZoneScan) (f : Fault) → answer disk (scan_zones g holder i.zones w.zones) ≡ Ok z → answer disk (scan_slots g (i.size / 16) z.mapped (record { named = w.named; names = [] })) ≡ Err f → answer disk (directory_visit g w e i) ≡ Err f
+    pub directory_slots_fault : (z : ZoneScan) (f : Fault) → answer disk (scan_zones g pointer_block i.zones w.zones) ≡ Ok z → answer disk (scan_slots g (i.size / 16) z.mapped (record { named = w.named; names = [] })) ≡ Err f → answer disk (directory_visit g w e i) ≡ Err f
     directory_slots_fault z f zones slots = directory_is z zones ∙ answer-if_ok-err disk (scan_slots g (i.size / 16) z.mapped (record { named = w.named; names = [] })) (λ s. Ret (visit_directory w e i z s)) f slots
 
-    pub directory_visited : (z : ZoneScan) (s : SlotScan) (birth : ℕ) (v : WalkState) (stack pushed : List Pending) → answer disk (scan_zones g holder i.zones w.zones) ≡ Ok z → answer disk (scan_slots g (i.size / 16) z.mapped (record { named = w.named; names = [] })) ≡ Ok s → birth ≡ birth_of e.inode → pushed ≡ stack ++ reverse (pending_in birth s.names) → v ≡ met_node w e.inode z.met s.named (found.Directory (record { parent = e.parent; slots = i.size / 16; names = s.names })) → met_next (answer disk (directory_visit g w e i)) (reverse stack) ≡ Ok (v, reverse pushed)
+    pub directory_visited : (z : ZoneScan) (s : SlotScan) (birth : ℕ) (v : WalkState) (stack pushed : List Pending) → answer disk (scan_zones g pointer_block i.zones w.zones) ≡ Ok z → answer disk (scan_slots g (i.size / 16) z.mapped (record { named = w.named; names = [] })) ≡ Ok s → birth ≡ birth_of e.inode → pushed ≡ stack ++ reverse (pending_in birth s.names) → v ≡ met_node w e.inode z.met s.named (found.Directory (record { parent = e.parent; slots = i.size / 16; names = s.names })) → met_next (answer disk (directory_visit g w e i)) (reverse stack) ≡ Ok (v, reverse pushed)
     directory_visited z s birth v stack pushed zones slots born put is =
         let whole : answer disk (directory_visit g w e i) ≡ visit_directory w e i z s =
         directory_is z zones ∙ answer-if_ok-ok disk (scan_slots g (i.size / 16) z.mapped (record { named = w.named; names = [] })) (λ s. Ret (visit_directory w e i z s)) s slots in

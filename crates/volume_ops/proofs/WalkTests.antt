@@ -15,7 +15,7 @@ use Rattle.volume_ops.specs.Zones.{Fault}
 use Rattle.volume_ops.specs.Walk.{WalkState, Walked, found_in, Pending, Visit, visit, walk_through, walk, at_start, root, walk_volume}
 use Rattle.volume_ops.specs.Faultless.{IsDirectory, IsUsed, IsReached, at_root, by_name, AreFaultless, IsFaultless}
 use Rattle.volume_ops.specs.ZonePlaces.{rank}
-use Rattle.volume_ops.specs.FirstFault.{holder_of, slot_zone, IsBadInode, root_is_none, size_too_large, part_of_a_slot, IsBadZone, too_low, too_high, had_by, had_here, IsBadSlot, no_name, no_inode, name_before, names_root, named_by, named_here, AreMet, again, next as next_met, at_start as met_none, IsFirstFault, IsFirstHere, of_inode, of_zone, of_slot}
+use Rattle.volume_ops.specs.FirstFault.{pointer_block_of, slot_zone, IsBadInode, root_is_none, size_too_large, part_of_a_slot, IsBadZone, too_low, too_high, had_by, had_here, IsBadSlot, no_name, no_inode, name_before, names_root, named_by, named_here, AreMet, again, next as next_met, at_start as met_none, IsFirstFault, IsFirstHere, of_inode, of_zone, of_slot}
 use Rattle.volume_ops.specs.Defects.{IsDefect, bad_inode, zone_outside, zone_twice, slot_without_name, slot_without_inode, name_twice, root_named, directory_twice}
 use Rattle.volume_ops.proofs.SoFar.{IsSoFar}
 use Rattle.volume_ops.proofs.VisitTests as visit_tests
@@ -73,7 +73,7 @@ module _ (g : Geometry) (blocks : List (List ℕ)) where
   first_defect met n r reached new fault block (of_inode bad) = bad_inode r bad
   first_defect met n r reached new fault block (of_zone x good zoned earlier some bad) = by bad
     where
-      by : IsBadZone g blocks met n x → IsDefect g blocks BadZone (holder_of g blocks n x)
+      by : IsBadZone g blocks met n x → IsDefect g blocks BadZone (pointer_block_of g blocks n x)
       by (too_low low) = zone_outside x r zoned some (inl low)
       by (too_high high) = zone_outside x r zoned some (inr high)
       by (had_by other y was z same) = zone_twice x y r (reached other was) zoned z some (sym same) (λ e _. new (subst met (sym e) was))
@@ -92,7 +92,7 @@ module _ (g : Geometry) (blocks : List (List ℕ)) where
   module _ (n : ℕ) (next : WalkState → List Pending → Reads (Result Walked Fault))
       (goes : (met : List ℕ) (w : WalkState) (rest : List Pending) → IsSoFar g blocks met (numbers_of rest) w → unmet w.inodes ≤ n → Ends g blocks (answer disk (next w rest))) where
     visited : (met : List ℕ) (w : WalkState) (e : Pending) (rest : List Pending) (h : IsSoFar g blocks met (e.inode ∷ numbers_of rest) w) (new : In e.inode met → ⊥) →
-        unmet w.inodes ≤ n + 1 → (r : Result Visit Fault) → visit_tests.Gives g blocks met (numbers_of rest) w e h new r →
+        unmet w.inodes ≤ n + 1 → (r : Result Visit Fault) → visit_tests.IsTested g blocks met (numbers_of rest) w e h new r →
         Ends g blocks (answer disk (go_on (λ v. next v.state (v.names ++ rest)) r))
     visited met w e rest h new budget (Ok v) good =
         let few : unmet w.inodes ≡ unmet v.state.inodes + 1 =

@@ -15,7 +15,7 @@ use Rattle.volume_ops.specs.Marks.{is_marked, marked}
 use Rattle.volume_ops.specs.laws.MarksLaws.{is_marked_same, is_marked_kept, is_marked_new, length-marked}
 use Rattle.volume_ops.specs.Zones.{Fault, ZoneScan, is_bad_zone, take_zone, take_blocks, take_numbers, take_indirect, take_indirects, take_double, scan_zones}
 use Rattle.volume_ops.proofs.ZonesLaws.{length-zone_numbers, zone_numbers_at}
-use Rattle.volume_ops.specs.ZonePlaces.{ZonePlace, block, indirect, double, inner, entry_of, zone_in, holder_in, rank}
+use Rattle.volume_ops.specs.ZonePlaces.{ZonePlace, block, indirect, double, inner, entry_of, zone_in, pointer_block_in, rank}
 
 -- ---- ranks
 
@@ -88,7 +88,7 @@ same_rank (inner j) (inner k) e = ap (λ k. inner k) (omega arith)
 
 -- ---- what was taken so far
 
-module _ (g : Geometry) (zone holder : ZonePlace → ℕ) (before : List Bool) where
+module _ (g : Geometry) (zone pointer_block : ZonePlace → ℕ) (before : List Bool) where
   -- The zones at the first n places were taken: each is one of the zones of data, was not met before, and is had at
   -- one place; just these and those before are met now.
   pub record AreTaken (n : ℕ) (met : List Bool) : Type 0 where
@@ -108,9 +108,9 @@ module _ (g : Geometry) (zone holder : ZonePlace → ℕ) (before : List Bool) w
     pub bad : is_bad_zone g (zone x) met ≡ true
 
   -- n places were gone through, or there is a fault
-  abbrev pub Gives : ℕ → Result ZoneScan Fault → Type 0
-  Gives n (Ok s) = AreTaken n s.met
-  Gives n (Err fault) = (x : ZonePlace) × StopsAt x × (fault ≡ (BadZone, holder x))
+  abbrev pub IsTested : ℕ → Result ZoneScan Fault → Type 0
+  IsTested n (Ok s) = AreTaken n s.met
+  IsTested n (Err fault) = (x : ZonePlace) × StopsAt x × (fault ≡ (BadZone, pointer_block x))
 
   -- holes
   taken_holes : (n m : ℕ) (met : List Bool) → AreTaken n met → n ≤ m → ((x : ZonePlace) → n ≤ rank x → rank x < m → zone x ≡ 0) → AreTaken m met
@@ -179,8 +179,8 @@ module _ (g : Geometry) (zone holder : ZonePlace → ℕ) (before : List Bool) w
   accepted : (h z : ℕ) (met : List Bool) → is_bad_zone g z met ≡ false → take_zone g h z met ≡ Ok (marked met z)
   accepted h z met good = rw good refl
 
-  bad_here : (p : ZonePlace) (n h : ℕ) (met : List Bool) → rank p ≡ n → holder p ≡ h → zone p ≢ 0 → AreTaken n met → is_bad_zone g (zone p) met ≡ true →
-      (x : ZonePlace) × StopsAt x × (◌≡◌ {A = Fault} (BadZone, h) (BadZone, holder x))
+  bad_here : (p : ZonePlace) (n h : ℕ) (met : List Bool) → rank p ≡ n → pointer_block p ≡ h → zone p ≢ 0 → AreTaken n met → is_bad_zone g (zone p) met ≡ true →
+      (x : ZonePlace) × StopsAt x × (◌≡◌ {A = Fault} (BadZone, h) (BadZone, pointer_block x))
   bad_here p n h met r e some t bad =
       (p, record { met = met; taken = subst (λ n. AreTaken n met) (sym r) t; some = some; bad = bad }, ap (λ h. (BadZone, h)) (sym e))
 
@@ -194,9 +194,9 @@ module _ (g : Geometry) (zone holder : ZonePlace → ℕ) (before : List Bool) w
 
   -- the blocks from `index` on have these zones, whose numbers stand in block h
   abbrev AreBlocks : ℕ → ℕ → ℕ → List ℕ → Type 0
-  AreBlocks h index n zs = (j : ℕ) → j < length zs → (zone (block (index + j)) ≡ slice_index zs j) × (rank (block (index + j)) ≡ n + j) × (holder (block (index + j)) ≡ h)
+  AreBlocks h index n zs = (j : ℕ) → j < length zs → (zone (block (index + j)) ≡ slice_index zs j) × (rank (block (index + j)) ≡ n + j) × (pointer_block (block (index + j)) ≡ h)
 
-  blocks_given : (h index n : ℕ) (zs : List ℕ) (s : ZoneScan) → AreBlocks h index n zs → AreTaken n s.met → Gives (n + length zs) (take_blocks g h index zs s)
+  blocks_given : (h index n : ℕ) (zs : List ℕ) (s : ZoneScan) → AreBlocks h index n zs → AreTaken n s.met → IsTested (n + length zs) (take_blocks g h index zs s)
   blocks_given h index n [] s at t = let e : n ≡ n + 0 = omega arith in subst (λ n. AreTaken n s.met) e t
   blocks_given h index n (z ∷ zs) s at t =
       let none_on : index + 0 ≡ index = omega arith in
@@ -204,15 +204,15 @@ module _ (g : Geometry) (zone holder : ZonePlace → ℕ) (before : List Bool) w
       let first_is = at 0 (omega arith) in
       let here : zone (block index) ≡ z = rw none_on at first_is.0 in
       let rank_is : rank (block index) ≡ n = subst (λ k. rank (block k) ≡ n) none_on (first_is.1 ∙ first) in
-      let held : holder (block index) ≡ h = subst (λ k. holder (block k) ≡ h) none_on first_is.2 in
+      let held : pointer_block (block index) ≡ h = subst (λ k. pointer_block (block k) ≡ h) none_on first_is.2 in
       let rest : AreBlocks h (index + 1) (n + 1) zs =
       (λ j below.
       let e : index + suc j ≡ (index + 1) + j = omega arith in
       let more : n + suc j ≡ (n + 1) + j = omega arith in
       let y = at (suc j) (omega arith) in
-      (subst (λ k. zone (block k) ≡ slice_index zs j) e y.0, subst (λ k. rank (block k) ≡ (n + 1) + j) e (y.1 ∙ more), subst (λ k. holder (block k) ≡ h) e y.2)) in
+      (subst (λ k. zone (block k) ≡ slice_index zs j) e y.0, subst (λ k. rank (block k) ≡ (n + 1) + j) e (y.1 ∙ more), subst (λ k. pointer_block (block k) ≡ h) e y.2)) in
       let end : (n + 1) + length zs ≡ n + suc (length zs) = omega arith in
-      subst (λ m. Gives m (take_blocks g h index (z ∷ zs) s)) end
+      subst (λ m. IsTested m (take_blocks g h index (z ∷ zs) s)) end
       (⊎_elim
       (λ none. rw (eq-eqb z 0 none) (blocks_given h (index + 1) (n + 1) zs s rest (hole_here (block index) n s.met rank_is (here ∙ none) t)))
       (λ some.
@@ -228,10 +228,10 @@ module _ (g : Geometry) (zone holder : ZonePlace → ℕ) (before : List Bool) w
 
   -- a zone of numbers, and what is behind it
   numbers_given : (disk : ℕ → List ℕ) (p : ZonePlace) (h z n m : ℕ) (s : ZoneScan) (next : List ℕ → ZoneScan → Reads (Result ZoneScan Fault)) →
-      zone p ≡ z → rank p ≡ n → holder p ≡ h → AreTaken n s.met → n + 1 ≤ m →
+      zone p ≡ z → rank p ≡ n → pointer_block p ≡ h → AreTaken n s.met → n + 1 ≤ m →
       (z ≡ 0 → (x : ZonePlace) → n < rank x → rank x < m → zone x ≡ 0) →
-      (z ≢ 0 → (t : ZoneScan) → AreTaken (n + 1) t.met → Gives m (answer disk (next (zone_numbers (disk z)) t))) →
-      Gives m (answer disk (take_numbers g h z s next))
+      (z ≢ 0 → (t : ZoneScan) → AreTaken (n + 1) t.met → IsTested m (answer disk (next (zone_numbers (disk z)) t))) →
+      IsTested m (answer disk (take_numbers g h z s next))
   numbers_given disk p h z n m s next here rank_is held t more holes behind =
       ⊎_elim
       (λ none. rw (eq-eqb z 0 none)
@@ -248,15 +248,15 @@ module _ (g : Geometry) (zone holder : ZonePlace → ℕ) (before : List Bool) w
       (cases_eq z 0)
 
   -- one part, and then another
-  going_on : (disk : ℕ → List ℕ) (r : Result ZoneScan Fault) (next : ZoneScan → Reads (Result ZoneScan Fault)) (n m : ℕ) → Gives n r →
-      ((s : ZoneScan) → AreTaken n s.met → Gives m (answer disk (next s))) → Gives m (answer disk (go_on next r))
+  going_on : (disk : ℕ → List ℕ) (r : Result ZoneScan Fault) (next : ZoneScan → Reads (Result ZoneScan Fault)) (n m : ℕ) → IsTested n r →
+      ((s : ZoneScan) → AreTaken n s.met → IsTested m (answer disk (next s))) → IsTested m (answer disk (go_on next r))
   going_on disk (Ok s) next n m h more = more s h
   going_on disk (Err fault) next n m h more = h
 
-  given_then : (disk : ℕ → List ℕ) (program : Reads (Result ZoneScan Fault)) (next : ZoneScan → Reads (Result ZoneScan Fault)) (n m : ℕ) → Gives n (answer disk program) →
-      ((s : ZoneScan) → AreTaken n s.met → Gives m (answer disk (next s))) → Gives m (answer disk (if_ok program next))
+  given_then : (disk : ℕ → List ℕ) (program : Reads (Result ZoneScan Fault)) (next : ZoneScan → Reads (Result ZoneScan Fault)) (n m : ℕ) → IsTested n (answer disk program) →
+      ((s : ZoneScan) → AreTaken n s.met → IsTested m (answer disk (next s))) → IsTested m (answer disk (if_ok program next))
   given_then disk program next n m h more =
-      subst (λ r. Gives m r) (sym (answer-and_then disk program (go_on next))) (going_on disk (answer disk program) next n m h more)
+      subst (λ r. IsTested m r) (sym (answer-and_then disk program (go_on next))) (going_on disk (answer disk program) next n m h more)
 
 -- ---- the zones of an inode
 
@@ -270,14 +270,14 @@ module _ (g : Geometry) (blocks : List (List ℕ)) (table : ℕ) (i : Inode) (ni
   abbrev zone : ZonePlace → ℕ
   zone = zone_in blocks i
 
-  abbrev holder : ZonePlace → ℕ
-  holder = holder_in blocks table i
+  abbrev pointer_block : ZonePlace → ℕ
+  pointer_block = pointer_block_in blocks table i
 
   abbrev Taken : ℕ → List Bool → Type 0
-  Taken = AreTaken g zone holder before
+  Taken = AreTaken g zone pointer_block before
 
   abbrev Scans : ℕ → Result ZoneScan Fault → Type 0
-  Scans = Gives g zone holder before
+  Scans = IsTested g zone pointer_block before
 
   -- behind holes there are holes
   behind_indirect : slice_index i.zones 7 ≡ 0 → (x : ZonePlace) → 7 < rank x → rank x < 520 → zone x ≡ 0
@@ -326,13 +326,13 @@ module _ (g : Geometry) (blocks : List (List ℕ)) (table : ℕ) (i : Inode) (ni
   behind_inner j few none (inner k) low high = absurd (omega arith)
 
   -- the parts of the map
-  direct_blocks : AreBlocks g zone holder before table 0 0 (take 7 i.zones)
+  direct_blocks : AreBlocks g zone pointer_block before table 0 0 (take 7 i.zones)
   direct_blocks j below =
       let low : j < 7 = omega (arith, length-take 7 i.zones) in
       let e : 0 + j ≡ j = omega arith in
       (rw e (zone_at-direct entries i.zones j low ∙ sym (get_or-take 7 i.zones j 0 low)), rw e (rank_low j low), rw (e, lt-ltb j 7 low) refl)
 
-  indirect_blocks : slice_index i.zones 7 ≢ 0 → AreBlocks g zone holder before (slice_index i.zones 7) 7 8 (zone_numbers (disk (slice_index i.zones 7)))
+  indirect_blocks : slice_index i.zones 7 ≢ 0 → AreBlocks g zone pointer_block before (slice_index i.zones 7) 7 8 (zone_numbers (disk (slice_index i.zones 7)))
   indirect_blocks some j below =
       let low : j < 512 = omega (arith, length-zone_numbers (disk (slice_index i.zones 7))) in
       let seven : 7 ≤ 7 + j = omega arith in
@@ -343,7 +343,7 @@ module _ (g : Geometry) (blocks : List (List ℕ)) (table : ℕ) (i : Inode) (ni
       )
 
   inner_blocks : (k : ℕ) → k < 512 → slice_index i.zones 8 ≢ 0 → (z : ℕ) → entries (slice_index i.zones 8) k ≡ z → z ≢ 0 →
-      AreBlocks g zone holder before z (519 + 512 * k) (522 + 513 * k) (zone_numbers (disk z))
+      AreBlocks g zone pointer_block before z (519 + 512 * k) (522 + 513 * k) (zone_numbers (disk z))
   inner_blocks k few some z is there j below =
       let low : j < 512 = omega (arith, length-zone_numbers (disk z)) in
       let outer : ((519 + 512 * k + j) - 519) / 512 ≡ k = omega arith in
@@ -359,11 +359,11 @@ module _ (g : Geometry) (blocks : List (List ℕ)) (table : ℕ) (i : Inode) (ni
 
   indirect_scans : (s : ZoneScan) → Taken 7 s.met → Scans 520 (answer disk (take_indirect g table 7 (slice_index i.zones 7) s))
   indirect_scans s t =
-      numbers_given g zone holder before disk indirect table (slice_index i.zones 7) 7 520 s (λ numbers after. Ret (take_blocks g (slice_index i.zones 7) 7 numbers after))
+      numbers_given g zone pointer_block before disk indirect table (slice_index i.zones 7) 7 520 s (λ numbers after. Ret (take_blocks g (slice_index i.zones 7) 7 numbers after))
       refl refl refl t (omega arith) behind_indirect
       (λ some u h.
       subst (λ n. Scans (8 + n) (take_blocks g (slice_index i.zones 7) 7 (zone_numbers (disk (slice_index i.zones 7))) u)) (length-zone_numbers (disk (slice_index i.zones 7)))
-      (blocks_given g zone holder before (slice_index i.zones 7) 7 8 (zone_numbers (disk (slice_index i.zones 7))) u (indirect_blocks some) h))
+      (blocks_given g zone pointer_block before (slice_index i.zones 7) 7 8 (zone_numbers (disk (slice_index i.zones 7))) u (indirect_blocks some) h))
 
   inner_scans : (k : ℕ) → k < 512 → slice_index i.zones 8 ≢ 0 → (z : ℕ) → entries (slice_index i.zones 8) k ≡ z → (s : ZoneScan) → Taken (521 + 513 * k) s.met →
       Scans (521 + 513 * (k + 1)) (answer disk (take_indirect g (slice_index i.zones 8) (519 + 512 * k) z s))
@@ -371,11 +371,11 @@ module _ (g : Geometry) (blocks : List (List ℕ)) (table : ℕ) (i : Inode) (ni
       let here : zone (inner k) ≡ z = rw (lt-ltb k 512 few, ne_eqb (slice_index i.zones 8) 0 some) is in
       let start : 521 + 513 * k + 1 ≡ 522 + 513 * k = omega arith in
       let end : 522 + 513 * k + 512 ≡ 521 + 513 * (k + 1) = omega arith in
-      numbers_given g zone holder before disk (inner k) (slice_index i.zones 8) z (521 + 513 * k) (521 + 513 * (k + 1)) s (λ numbers after. Ret (take_blocks g z (519 + 512 * k) numbers after))
+      numbers_given g zone pointer_block before disk (inner k) (slice_index i.zones 8) z (521 + 513 * k) (521 + 513 * (k + 1)) s (λ numbers after. Ret (take_blocks g z (519 + 512 * k) numbers after))
       here refl refl t (omega arith) (λ none. behind_inner k few (is ∙ none))
       (λ there u h.
       subst (λ n. Scans n (take_blocks g z (519 + 512 * k) (zone_numbers (disk z)) u)) (ap (λ n. 522 + 513 * k + n) (length-zone_numbers (disk z)) ∙ end)
-      (blocks_given g zone holder before z (519 + 512 * k) (522 + 513 * k) (zone_numbers (disk z)) u (inner_blocks k few some z is there)
+      (blocks_given g zone pointer_block before z (519 + 512 * k) (522 + 513 * k) (zone_numbers (disk z)) u (inner_blocks k few some z is there)
       (subst (λ n. Taken n u.met) start h)))
 
   inners_scan : (zs : List ℕ) (k : ℕ) → k + length zs ≤ 512 → slice_index i.zones 8 ≢ 0 →
@@ -386,7 +386,7 @@ module _ (g : Geometry) (blocks : List (List ℕ)) (table : ℕ) (i : Inode) (ni
       let none_on : k + 0 ≡ k = omega arith in
       let next : 519 + 512 * k + 512 ≡ 519 + 512 * (k + 1) = omega arith in
       let end : (k + 1) + length zs ≡ k + suc (length zs) = omega arith in
-      given_then g zone holder before disk (take_indirect g (slice_index i.zones 8) (519 + 512 * k) z s) (take_indirects g (slice_index i.zones 8) (519 + 512 * k + 512) zs) (521 + 513 * (k + 1)) (521 + 513 * (k + suc (length zs)))
+      given_then g zone pointer_block before disk (take_indirect g (slice_index i.zones 8) (519 + 512 * k) z s) (take_indirects g (slice_index i.zones 8) (519 + 512 * k + 512) zs) (521 + 513 * (k + 1)) (521 + 513 * (k + suc (length zs)))
       (inner_scans k (omega arith) some z (subst (λ k. entries (slice_index i.zones 8) k ≡ z) none_on (at 0 (omega arith))) s t)
       (λ u h.
       subst (λ m. Scans (521 + 513 * (k + suc (length zs))) (answer disk (take_indirects g (slice_index i.zones 8) m zs u))) (sym next)
@@ -398,7 +398,7 @@ module _ (g : Geometry) (blocks : List (List ℕ)) (table : ℕ) (i : Inode) (ni
   double_scans : (s : ZoneScan) → Taken 520 s.met → Scans 263177 (answer disk (take_double g table (slice_index i.zones 8) s))
   double_scans s t =
       let size : 0 + length (zone_numbers (disk (slice_index i.zones 8))) ≡ 512 = omega (arith, length-zone_numbers (disk (slice_index i.zones 8))) in
-      numbers_given g zone holder before disk double table (slice_index i.zones 8) 520 263177 s (λ numbers after. take_indirects g (slice_index i.zones 8) 519 numbers after)
+      numbers_given g zone pointer_block before disk double table (slice_index i.zones 8) 520 263177 s (λ numbers after. take_indirects g (slice_index i.zones 8) 519 numbers after)
       refl refl refl t (omega arith) behind_double
       (λ some u h.
       subst (λ n. Scans (521 + 513 * n) (answer disk (take_indirects g (slice_index i.zones 8) 519 (zone_numbers (disk (slice_index i.zones 8))) u))) size
@@ -422,12 +422,12 @@ module _ (g : Geometry) (blocks : List (List ℕ)) (table : ℕ) (i : Inode) (ni
   unfolding scan_zones
   zones_scan size =
       let seven : 0 + length (take 7 i.zones) ≡ 7 = omega (arith, length-take 7 i.zones) in
-      given_then g zone holder before disk (Ret (take_blocks g table 0 (take 7 i.zones) (record { met = before; mapped = [] })))
+      given_then g zone pointer_block before disk (Ret (take_blocks g table 0 (take 7 i.zones) (record { met = before; mapped = [] })))
       (λ s. if_ok (take_indirect g table 7 (slice_index i.zones 7) s) (take_double g table (slice_index i.zones 8))) 7 263177
       (subst (λ n. Scans n (take_blocks g table 0 (take 7 i.zones) (record { met = before; mapped = [] }))) seven
-      (blocks_given g zone holder before table 0 0 (take 7 i.zones) (record { met = before; mapped = [] }) direct_blocks (none_taken size)))
+      (blocks_given g zone pointer_block before table 0 0 (take 7 i.zones) (record { met = before; mapped = [] }) direct_blocks (none_taken size)))
       (λ s h.
-      given_then g zone holder before disk (take_indirect g table 7 (slice_index i.zones 7) s) (take_double g table (slice_index i.zones 8)) 520 263177
+      given_then g zone pointer_block before disk (take_indirect g table 7 (slice_index i.zones 7) s) (take_double g table (slice_index i.zones 8)) 520 263177
       (indirect_scans s h) (λ u k. double_scans u k))
 
   -- no place behind the last has a zone

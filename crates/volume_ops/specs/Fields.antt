@@ -13,7 +13,7 @@ use Rattle.tree_model.specs.declared.node.Directory.{Directory}
 use Rattle.tree_model.specs.declared.node.File.{File}
 use Rattle.tree_model.specs.Maps.{at_number, at_name}
 use Rattle.tree_model.specs.Paths.{is_dot}
-use Rattle.tree_model.specs.laws.Listing.{Gives}
+use Rattle.tree_model.specs.laws.Listing.{HasEntry}
 use Rattle.volume_ops.specs.Places.{table_block, inode_in_block, is_directory, is_file, zone_number, birth_of, inode_of_birth}
 use Rattle.volume_ops.specs.Volume.{disk_of}
 
@@ -77,6 +77,6 @@ IsBelow birth node = Unit {0}
 pub record IsTreeOf (g : Geometry) (blocks : List (List ℕ)) (tree : List (ℕ × Node)) : Type 0 where
   pub each : (birth : ℕ) (node : Node) → at_number tree birth ≡ Some node → IsNodeOf blocks (inode_at g blocks (inode_of_birth birth)) node
   pub root : (d : Directory) × (at_number tree 0 ≡ Some (nodes.Directory d)) × (d.parent ≡ 0)
-  pub leads : (parent : ℕ) (name : List ℕ) (birth : ℕ) → Gives tree parent name birth → (node : Node) × (at_number tree birth ≡ Some node) × IsBelow parent node
-  pub has_name : (birth : ℕ) (node : Node) → at_number tree birth ≡ Some node → birth ≢ 0 → (parent : ℕ) × (name : List ℕ) × Gives tree parent name birth
-  pub one_name : (parent other : ℕ) (name more : List ℕ) (birth : ℕ) (d : Directory) → Gives tree parent name birth → Gives tree other more birth → at_number tree birth ≡ Some (nodes.Directory d) → (parent ≡ other) × (name ≡ more)
+  pub leads : (parent : ℕ) (name : List ℕ) (birth : ℕ) → HasEntry tree parent name birth → (node : Node) × (at_number tree birth ≡ Some node) × IsBelow parent node
+  pub has_name : (birth : ℕ) (node : Node) → at_number tree birth ≡ Some node → birth ≢ 0 → (parent : ℕ) × (name : List ℕ) × HasEntry tree parent name birth
+  pub one_name : (parent other : ℕ) (name more : List ℕ) (birth : ℕ) (d : Directory) → HasEntry tree parent name birth → HasEntry tree other more birth → at_number tree birth ≡ Some (nodes.Directory d) → (parent ≡ other) × (name ≡ more)

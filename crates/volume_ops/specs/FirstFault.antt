@@ -10,12 +10,12 @@ use Rattle.minix_layout.specs.declared.fault.LayoutFault.TheVariants.{BadInode, 
 use Rattle.tree_model.specs.Maps.{at_name, name_cmp}
 use Rattle.volume_ops.specs.Places.{largest_size, table_block, inode_of_birth}
 use Rattle.volume_ops.specs.Fields.{inode_at, zone_behind, slot_behind, HasName}
-use Rattle.volume_ops.specs.ZonePlaces.{ZonePlace, holder_in, rank}
+use Rattle.volume_ops.specs.ZonePlaces.{ZonePlace, pointer_block_in, rank}
 use Rattle.volume_ops.specs.Faultless.{IsDirectory, HasZones, zone_at_place, slots_of, NamesAt, AreFaultless}
 
 -- the block that holds the number of a zone of an inode
-abbrev pub holder_of : Geometry → List (List ℕ) → ℕ → ZonePlace → ℕ
-holder_of g blocks inode x = holder_in blocks (table_block g inode) (inode_at g blocks inode) x
+abbrev pub pointer_block_of : Geometry → List (List ℕ) → ℕ → ZonePlace → ℕ
+pointer_block_of g blocks inode x = pointer_block_in blocks (table_block g inode) (inode_at g blocks inode) x
 
 -- the zone that a slot stands in
 abbrev pub slot_zone : Geometry → List (List ℕ) → ℕ → ℕ → ℕ
@@ -72,7 +72,7 @@ pub data IsFirstHere (g : Geometry) (blocks : List (List ℕ)) (met : ℕ → Ty
   of_inode : IsBadInode g blocks inode → IsFirstHere g blocks met inode BadInode (table_block g inode)
   of_zone : (x : ZonePlace) → (IsBadInode g blocks inode → ⊥) → HasZones g blocks inode →
       ((y : ZonePlace) → rank y < rank x → zone_at_place g blocks inode y ≢ 0 → IsBadZone g blocks met inode y → ⊥) →
-      zone_at_place g blocks inode x ≢ 0 → IsBadZone g blocks met inode x → IsFirstHere g blocks met inode BadZone (holder_of g blocks inode x)
+      zone_at_place g blocks inode x ≢ 0 → IsBadZone g blocks met inode x → IsFirstHere g blocks met inode BadZone (pointer_block_of g blocks inode x)
   of_slot : (place : ℕ) → (IsBadInode g blocks inode → ⊥) → IsDirectory g blocks inode →
       ((y : ZonePlace) → zone_at_place g blocks inode y ≢ 0 → IsBadZone g blocks met inode y → ⊥) →
       ((earlier : ℕ) → earlier < place → IsBadSlot g blocks met inode earlier → ⊥) →

@@ -26,14 +26,14 @@ zone_in blocks i double = slice_index i.zones 8
 zone_in blocks i (inner k) = if nat_lt k 512 then entry_of blocks (slice_index i.zones 8) k else 0
 
 -- the block that holds the number of the zone; the inode stands in block `table`
-abbrev pub holder_in : List (List ℕ) → ℕ → Inode → ZonePlace → ℕ
-holder_in blocks table i (block index) =
+abbrev pub pointer_block_in : List (List ℕ) → ℕ → Inode → ZonePlace → ℕ
+pointer_block_in blocks table i (block index) =
     if nat_lt index 7 then table
     else if nat_lt index 519 then slice_index i.zones 7
     else entry_of blocks (slice_index i.zones 8) ((index - 519) / 512)
-holder_in blocks table i indirect = table
-holder_in blocks table i double = table
-holder_in blocks table i (inner k) = slice_index i.zones 8
+pointer_block_in blocks table i indirect = table
+pointer_block_in blocks table i double = table
+pointer_block_in blocks table i (inner k) = slice_index i.zones 8
 
 -- How many numbers are tested before this one: the nine of the inode in order, and the entries of a zone of
 -- numbers right after its own number.

@@ -22,49 +22,49 @@ abbrev pub is_bad_zone : Geometry → ℕ → List Bool → Bool
 is_bad_zone g zone met = nat_lt zone g.first || (nat_le g.zones zone || is_marked met zone)
 
 abbrev pub take_zone : Geometry → ℕ → ℕ → List Bool → Result (List Bool) Fault
-take_zone g holder zone met = if is_bad_zone g zone met then Err (BadZone, holder) else Ok (marked met zone)
+take_zone g pointer_block zone met = if is_bad_zone g zone met then Err (BadZone, pointer_block) else Ok (marked met zone)
 
 -- a zone of data, as block `index` of the file
 abbrev pub take_block : Geometry → ℕ → ℕ → ℕ → ZoneScan → Result ZoneScan Fault
-take_block g holder index zone s =
-    elim (take_zone g holder zone s.met) as (λ _. Result ZoneScan Fault) [
+take_block g pointer_block index zone s =
+    elim (take_zone g pointer_block zone s.met) as (λ _. Result ZoneScan Fault) [
       | Err fault ↦ Err fault
       | Ok met ↦ Ok (record { met = met; mapped = s.mapped ++ record { index = index; zone = zone } ∷ [] })
     ]
 
 -- the zones of the file's blocks from `index` on; 0 is a hole
 abbrev pub take_blocks : Geometry → ℕ → ℕ → List ℕ → ZoneScan → Result ZoneScan Fault
-take_blocks g holder index [] s = Ok s
-take_blocks g holder index (zone ∷ zones) s =
-    if zone == 0 then take_blocks g holder (index + 1) zones s
-    else elim (take_block g holder index zone s) as (λ _. Result ZoneScan Fault)
-    [ Err fault ↦ Err fault | Ok after ↦ take_blocks g holder (index + 1) zones after ]
+take_blocks g pointer_block index [] s = Ok s
+take_blocks g pointer_block index (zone ∷ zones) s =
+    if zone == 0 then take_blocks g pointer_block (index + 1) zones s
+    else elim (take_block g pointer_block index zone s) as (λ _. Result ZoneScan Fault)
+    [ Err fault ↦ Err fault | Ok after ↦ take_blocks g pointer_block (index + 1) zones after ]
 
 -- a zone of numbers, and what is done by its numbers
 abbrev pub take_numbers : Geometry → ℕ → ℕ → ZoneScan → (List ℕ → ZoneScan → Reads (Result ZoneScan Fault)) → Reads (Result ZoneScan Fault)
-take_numbers g holder zone s next =
+take_numbers g pointer_block zone s next =
     if zone == 0 then Ret (Ok s)
-    else elim (take_zone g holder zone s.met) as (λ _. Reads (Result ZoneScan Fault)) [
+    else elim (take_zone g pointer_block zone s.met) as (λ _. Reads (Result ZoneScan Fault)) [
       | Err fault ↦ Ret (Err fault)
       | Ok met ↦ Read zone (λ body. next (zone_numbers body) (record { met = met; mapped = s.mapped }))
     ]
 
 -- an indirect zone: the numbers of the 512 blocks from `index` on
 abbrev pub take_indirect : Geometry → ℕ → ℕ → ℕ → ZoneScan → Reads (Result ZoneScan Fault)
-take_indirect g holder index zone s = take_numbers g holder zone s (λ numbers after. Ret (take_blocks g zone index numbers after))
+take_indirect g pointer_block index zone s = take_numbers g pointer_block zone s (λ numbers after. Ret (take_blocks g zone index numbers after))
 
 -- indirect zones one after the other, the first for the blocks from `index` on
 abbrev pub take_indirects : Geometry → ℕ → ℕ → List ℕ → ZoneScan → Reads (Result ZoneScan Fault)
-take_indirects g holder index [] s = Ret (Ok s)
-take_indirects g holder index (zone ∷ zones) s =
-    if_ok (take_indirect g holder index zone s) (take_indirects g holder (index + 512) zones)
+take_indirects g pointer_block index [] s = Ret (Ok s)
+take_indirects g pointer_block index (zone ∷ zones) s =
+    if_ok (take_indirect g pointer_block index zone s) (take_indirects g pointer_block (index + 512) zones)
 
 -- a doubly indirect zone: the numbers of 512 indirect zones, for the blocks from 519 on
 abbrev pub take_double : Geometry → ℕ → ℕ → ZoneScan → Reads (Result ZoneScan Fault)
-take_double g holder zone s = take_numbers g holder zone s (λ numbers after. take_indirects g zone 519 numbers after)
+take_double g pointer_block zone s = take_numbers g pointer_block zone s (λ numbers after. take_indirects g zone 519 numbers after)
 
--- the nine zones of an inode, which stand in block `holder`: seven of data, one indirect, one doubly indirect
+-- the nine zones of an inode, which stand in block `pointer_block`: seven of data, one indirect, one doubly indirect
 unfoldable pub scan_zones : Geometry → ℕ → List ℕ → List Bool → Reads (Result ZoneScan Fault)
-scan_zones g holder zones met =
-    if_ok (Ret (take_blocks g holder 0 (take 7 zones) (record { met = met; mapped = [] })))
-    (λ s. if_ok (take_indirect g holder 7 (slice_index zones 7) s) (take_double g holder (slice_index zones 8)))
+scan_zones g pointer_block zones met =
+    if_ok (Ret (take_blocks g pointer_block 0 (take 7 zones) (record { met = met; mapped = [] })))
+    (λ s. if_ok (take_indirect g pointer_block 7 (slice_index zones 7) s) (take_double g pointer_block (slice_index zones 8)))

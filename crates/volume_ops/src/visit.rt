@@ -152,8 +152,8 @@ impl Walker {
         ensures within { OnOk result (ArePending g.now stack.old.items → ArePending g.now stack.new.items) }
         ensures fault { IfErr result (IsTold (answer (disk_of disk.now) (directory_visit g.now self.old e i.now))) }
     {
-        let holder = table_block(g, e.inode);
-        let zones = scan_zones(alloc, disk, g, holder, &i.zones, &mut self.zones)?;
+        let pointer_block = table_block(g, e.inode);
+        let zones = scan_zones(alloc, disk, g, pointer_block, &i.zones, &mut self.zones)?;
         let slots = i.size / 16;
         let names = scan_slots(alloc, disk, g, slots, zones.as_slice(), &mut self.named)?;
         push_names(stack, birth_of(e.inode), &names)?;
@@ -181,8 +181,8 @@ impl Walker {
         ensures marks { OnOk result (self.new.inodes ≡ marked self.old.inodes inode) }
         ensures fault { IfErr result (IsTold (answer (disk_of disk.now) (file_visit g.now self.old inode i.now))) }
     {
-        let holder = table_block(g, inode);
-        let zones = scan_zones(alloc, disk, g, holder, &i.zones, &mut self.zones)?;
+        let pointer_block = table_block(g, inode);
+        let zones = scan_zones(alloc, disk, g, pointer_block, &i.zones, &mut self.zones)?;
         self.meet(
             inode,
             Found::File(FoundFile {

@@ -14,33 +14,40 @@ use byte_fields::u16_at_le;
 use minix_layout::{Geometry, LayoutFault, Zones};
 use std::alloc::Global;
 
-/// Tests the nine zones of an inode and what lies behind them, and notes its mapped blocks. `holder` is the
+/// Tests the nine zones of an inode and what lies behind them, and notes its mapped blocks. `pointer_block` is the
 /// block of the inode.
 pub fn scan_zones(
     alloc: Global,
     disk: &Disk,
     g: &Geometry,
-    holder: u32,
+    pointer_block: u32,
     zones: &Zones,
     met: &mut Marks,
 ) -> Result<MappedZones, WalkFault>
-    ensures ok { IfOk result (λ mapped. answer (disk_of disk.now) (scan_zones g.now holder zones.now met.old) ≡ Ok (record { met = met.new; mapped = mapped })) }
-    ensures fault { IfErr result (IsTold (answer (disk_of disk.now) (scan_zones g.now holder zones.now met.old))) }
+    ensures ok { IfOk result (λ mapped. answer (disk_of disk.now) (scan_zones g.now pointer_block zones.now met.old) ≡ Ok (record { met = met.new; mapped = mapped })) }
+    ensures fault { IfErr result (IsTold (answer (disk_of disk.now) (scan_zones g.now pointer_block zones.now met.old))) }
 {
     let mut mapped = MappedZones::new(alloc);
-    take_blocks(g, holder, 0, &zones.as_slice()[..7], met, &mut mapped)?;
-    take_indirect(disk, g, holder, 7, zones.zone(7), met, &mut mapped)?;
-    take_double(disk, g, holder, zones.zone(8), met, &mut mapped)?;
+    take_blocks(
+        g,
+        pointer_block,
+        0,
+        &zones.as_slice()[..7],
+        met,
+        &mut mapped,
+    )?;
+    take_indirect(disk, g, pointer_block, 7, zones.zone(7), met, &mut mapped)?;
+    take_double(disk, g, pointer_block, zones.zone(8), met, &mut mapped)?;
     Ok(mapped)
 }
 
 // Notes that a zone was met. It must be a zone of data that was not met before.
-fn take_zone(g: &Geometry, holder: u32, zone: u16, met: &mut Marks) -> Result<(), WalkFault>
-    ensures ok { OnOk result (take_zone g.now holder zone met.old ≡ Ok met.new) }
-    ensures fault { IfErr result (IsTold (take_zone g.now holder zone met.old)) }
+fn take_zone(g: &Geometry, pointer_block: u32, zone: u16, met: &mut Marks) -> Result<(), WalkFault>
+    ensures ok { OnOk result (take_zone g.now pointer_block zone met.old ≡ Ok met.new) }
+    ensures fault { IfErr result (IsTold (take_zone g.now pointer_block zone met.old)) }
 {
     if zone < g.first || zone >= g.zones || met.is_marked(zone as usize) {
-        return Err(WalkFault::Layout(LayoutFault::BadZone, holder));
+        return Err(WalkFault::Layout(LayoutFault::BadZone, pointer_block));
     }
     met.mark(zone as usize);
     Ok(())
@@ -49,15 +56,15 @@ fn take_zone(g: &Geometry, holder: u32, zone: u16, met: &mut Marks) -> Result<()
 // Takes a zone as a block of the file.
 fn take_block(
     g: &Geometry,
-    holder: u32,
+    pointer_block: u32,
     block: Mapped,
     met: &mut Marks,
     mapped: &mut MappedZones,
 ) -> Result<(), WalkFault>
-    ensures ok { OnOk result (take_block g.now holder block.index block.zone (record { met = met.old; mapped = mapped.old }) ≡ Ok (record { met = met.new; mapped = mapped.new })) }
-    ensures fault { IfErr result (IsTold (take_block g.now holder block.index block.zone (record { met = met.old; mapped = mapped.old }))) }
+    ensures ok { OnOk result (take_block g.now pointer_block block.index block.zone (record { met = met.old; mapped = mapped.old }) ≡ Ok (record { met = met.new; mapped = mapped.new })) }
+    ensures fault { IfErr result (IsTold (take_block g.now pointer_block block.index block.zone (record { met = met.old; mapped = mapped.old }))) }
 {
-    take_zone(g, holder, block.zone, met)?;
+    take_zone(g, pointer_block, block.zone, met)?;
     mapped.push(block)?;
     Ok(())
 }
@@ -65,15 +72,15 @@ fn take_block(
 // Takes the zones of the file's blocks from `index` on. 0 is a hole.
 fn take_blocks(
     g: &Geometry,
-    holder: u32,
+    pointer_block: u32,
     index: u32,
     numbers: &[u16],
     met: &mut Marks,
     mapped: &mut MappedZones,
 ) -> Result<(), WalkFault>
     requires { index + length numbers.now < 2 ^ 32 }
-    ensures ok { OnOk result (take_blocks g.now holder index numbers.now (record { met = met.old; mapped = mapped.old }) ≡ Ok (record { met = met.new; mapped = mapped.new })) }
-    ensures fault { IfErr result (IsTold (take_blocks g.now holder index numbers.now (record { met = met.old; mapped = mapped.old }))) }
+    ensures ok { OnOk result (take_blocks g.now pointer_block index numbers.now (record { met = met.old; mapped = mapped.old }) ≡ Ok (record { met = met.new; mapped = mapped.new })) }
+    ensures fault { IfErr result (IsTold (take_blocks g.now pointer_block index numbers.now (record { met = met.old; mapped = mapped.old }))) }
 {
     for (k, zone) in numbers.iter().enumerate() {
         if *zone != 0 {
@@ -81,7 +88,7 @@ fn take_blocks(
                 index: index + k as u32,
                 zone: *zone,
             };
-            take_block(g, holder, block, met, mapped)?;
+            take_block(g, pointer_block, block, met, mapped)?;
         }
     }
     Ok(())
@@ -103,20 +110,20 @@ fn zone_numbers(body: &Block) -> [u16; 512]
 fn take_indirect(
     disk: &Disk,
     g: &Geometry,
-    holder: u32,
+    pointer_block: u32,
     index: u32,
     zone: u16,
     met: &mut Marks,
     mapped: &mut MappedZones,
 ) -> Result<(), WalkFault>
     requires { index + 512 < 2 ^ 32 }
-    ensures ok { OnOk result (answer (disk_of disk.now) (take_indirect g.now holder index zone (record { met = met.old; mapped = mapped.old })) ≡ Ok (record { met = met.new; mapped = mapped.new })) }
-    ensures fault { IfErr result (IsTold (answer (disk_of disk.now) (take_indirect g.now holder index zone (record { met = met.old; mapped = mapped.old })))) }
+    ensures ok { OnOk result (answer (disk_of disk.now) (take_indirect g.now pointer_block index zone (record { met = met.old; mapped = mapped.old })) ≡ Ok (record { met = met.new; mapped = mapped.new })) }
+    ensures fault { IfErr result (IsTold (answer (disk_of disk.now) (take_indirect g.now pointer_block index zone (record { met = met.old; mapped = mapped.old })))) }
 {
     if zone == 0 {
         return Ok(());
     }
-    take_zone(g, holder, zone, met)?;
+    take_zone(g, pointer_block, zone, met)?;
     let zone = u32::from(zone);
     let numbers = zone_numbers(disk.body(zone));
     take_blocks(g, zone, index, &numbers, met, mapped)
@@ -126,18 +133,26 @@ fn take_indirect(
 fn take_indirects(
     disk: &Disk,
     g: &Geometry,
-    holder: u32,
+    pointer_block: u32,
     index: u32,
     numbers: &[u16],
     met: &mut Marks,
     mapped: &mut MappedZones,
 ) -> Result<(), WalkFault>
     requires { index + 512 * length numbers.now < 2 ^ 32 }
-    ensures ok { OnOk result (answer (disk_of disk.now) (take_indirects g.now holder index numbers.now (record { met = met.old; mapped = mapped.old })) ≡ Ok (record { met = met.new; mapped = mapped.new })) }
-    ensures fault { IfErr result (IsTold (answer (disk_of disk.now) (take_indirects g.now holder index numbers.now (record { met = met.old; mapped = mapped.old })))) }
+    ensures ok { OnOk result (answer (disk_of disk.now) (take_indirects g.now pointer_block index numbers.now (record { met = met.old; mapped = mapped.old })) ≡ Ok (record { met = met.new; mapped = mapped.new })) }
+    ensures fault { IfErr result (IsTold (answer (disk_of disk.now) (take_indirects g.now pointer_block index numbers.now (record { met = met.old; mapped = mapped.old })))) }
 {
     for (k, zone) in numbers.iter().enumerate() {
-        take_indirect(disk, g, holder, index + 512 * k as u32, *zone, met, mapped)?;
+        take_indirect(
+            disk,
+            g,
+            pointer_block,
+            index + 512 * k as u32,
+            *zone,
+            met,
+            mapped,
+        )?;
     }
     Ok(())
 }
@@ -146,18 +161,18 @@ fn take_indirects(
 fn take_double(
     disk: &Disk,
     g: &Geometry,
-    holder: u32,
+    pointer_block: u32,
     zone: u16,
     met: &mut Marks,
     mapped: &mut MappedZones,
 ) -> Result<(), WalkFault>
-    ensures ok { OnOk result (answer (disk_of disk.now) (take_double g.now holder zone (record { met = met.old; mapped = mapped.old })) ≡ Ok (record { met = met.new; mapped = mapped.new })) }
-    ensures fault { IfErr result (IsTold (answer (disk_of disk.now) (take_double g.now holder zone (record { met = met.old; mapped = mapped.old })))) }
+    ensures ok { OnOk result (answer (disk_of disk.now) (take_double g.now pointer_block zone (record { met = met.old; mapped = mapped.old })) ≡ Ok (record { met = met.new; mapped = mapped.new })) }
+    ensures fault { IfErr result (IsTold (answer (disk_of disk.now) (take_double g.now pointer_block zone (record { met = met.old; mapped = mapped.old })))) }
 {
     if zone == 0 {
         return Ok(());
     }
-    take_zone(g, holder, zone, met)?;
+    take_zone(g, pointer_block, zone, met)?;
     let zone = u32::from(zone);
     let numbers = zone_numbers(disk.body(zone));
     take_indirects(disk, g, zone, 519, &numbers, met, mapped)

@@ -496,8 +496,8 @@ module _ (tx : ℕ) (v : VolumeNow) (h : IsInUse v) (n : ℕ) (p : Placed) (zone
     marks = marks_given tx g h.sound v.contents w v.zones (all_given tx freed v.zones) freed h.volume.0.whole h.volume.0.size within given was_used maps_stay (numbers_put v.contents.nodes w.nodes n p q refl at refl);
     freed = λ z i. given.now z i;
     was_used = λ z i. was_used z i;
-    waits_on = λ z holder waits. given.others z (λ i. used_waits holder (sym (was_used z i) ∙ waits)) ∙ waits;
-    waited = λ z holder out waits. sym (given.others z out) ∙ waits;
+    waits_on = λ z freed_by waits. given.others z (λ i. used_waits freed_by (sym (was_used z i) ∙ waits)) ∙ waits;
+    waited = λ z freed_by out waits. sym (given.others z out) ∙ waits;
   }
 
   change : IsFileChange v.contents w n p q

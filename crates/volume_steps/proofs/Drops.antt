@@ -291,8 +291,8 @@ module _ (tx : ℕ) (v : VolumeNow) (in_use : IsInUse v) (n : ℕ) (p : Placed) 
     marks = dropped_marks;
     freed = given.now;
     was_used = gone_used;
-    waits_on = λ z holder waits. given.others z (λ i. used_waits holder (sym (gone_used z i) ∙ waits)) ∙ waits;
-    waited = λ z holder out waits. sym (given.others z out) ∙ waits;
+    waits_on = λ z freed_by waits. given.others z (λ i. used_waits freed_by (sym (gone_used z i) ∙ waits)) ∙ waits;
+    waited = λ z freed_by out waits. sym (given.others z out) ∙ waits;
   }
 
   -- It goes, where no other directory has it as its parent.

@@ -151,8 +151,8 @@ pub record TakesTo (m n : Zones) (new : List ℕ) : Type 0 where
   pub was : (zone : ℕ) → state_of n zone ≡ Some states.Used → (state_of m zone ≡ Some states.Used) ⊎ In zone new
   pub stays : (zone : ℕ) → state_of m zone ≡ Some states.Used → state_of n zone ≡ Some states.Used
   pub taken : (zone : ℕ) → In zone new → state_of n zone ≡ Some states.Used
-  pub waits_on : (zone holder : ℕ) → state_of m zone ≡ Some (states.Quarantined holder) → state_of n zone ≡ Some (states.Quarantined holder)
-  pub waited : (zone holder : ℕ) → state_of n zone ≡ Some (states.Quarantined holder) → state_of m zone ≡ Some (states.Quarantined holder)
+  pub waits_on : (zone freed_by : ℕ) → state_of m zone ≡ Some (states.Quarantined freed_by) → state_of n zone ≡ Some (states.Quarantined freed_by)
+  pub waited : (zone freed_by : ℕ) → state_of n zone ≡ Some (states.Quarantined freed_by) → state_of m zone ≡ Some (states.Quarantined freed_by)
   pub lowest : TakesLowest m n
 
 pub takes_none : (m : Zones) → TakesTo m m []
@@ -162,8 +162,8 @@ takes_none m = record {
   was = λ zone used. inl used;
   stays = λ zone used. used;
   taken = λ zone i. absurd i;
-  waits_on = λ zone holder waits. waits;
-  waited = λ zone holder waits. waits;
+  waits_on = λ zone freed_by waits. waits;
+  waited = λ zone freed_by waits. waits;
   lowest = lowest_none m;
 }
 
@@ -200,5 +200,5 @@ module _ (tx : ℕ) (v : VolumeNow) (w : Contents) (zones : Zones) (blocks new n
     freed = λ zone i. absurd i;
     was_used = λ zone i. absurd i;
     waits_on = takes.waits_on;
-    waited = λ zone holder none waits. takes.waited zone holder waits;
+    waited = λ zone freed_by none waits. takes.waited zone freed_by waits;
   }

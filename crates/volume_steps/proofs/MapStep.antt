@@ -54,11 +54,11 @@ use Rattle.volume_steps.proofs.Marked.{SameMaps, marks_taken, numbers_put}
 use Rattle.volume_model.specs.laws.Edits.{edited_elsewhere, untouched}
 use Rattle.volume_model.specs.laws.Changes.{table_below}
 
-waits_used : (holder : ℕ) → ◌≡◌ {A = Option ZoneState} (Some (states.Quarantined holder)) (Some states.Used) → ⊥
-waits_used holder e = cc
+waits_used : (freed_by : ℕ) → ◌≡◌ {A = Option ZoneState} (Some (states.Quarantined freed_by)) (Some states.Used) → ⊥
+waits_used freed_by e = cc
 
-waits_free : (holder : ℕ) → ◌≡◌ {A = Option ZoneState} (Some (states.Quarantined holder)) (Some states.Free) → ⊥
-waits_free holder e = cc
+waits_free : (freed_by : ℕ) → ◌≡◌ {A = Option ZoneState} (Some (states.Quarantined freed_by)) (Some states.Free) → ⊥
+waits_free freed_by e = cc
 
 module _ (tx : ℕ) (v : VolumeNow) (h : IsInUse v) (n : ℕ) (p : Placed) (zones : List Mapped) (at : at_number v.contents.nodes n ≡ Some p) (is : p.part ≡ parts.File zones)
     (content : List ℕ) (size : length content ≡ 1024) (index : ℕ) (high : index < 262663) (hole : zone_in v.contents.blocks p.inode (block index) ≡ 0)
@@ -313,8 +313,8 @@ module _ (tx : ℕ) (v : VolumeNow) (h : IsInUse v) (n : ℕ) (p : Placed) (zone
     marks = marks_taken g h.sound v.contents w v.zones t.zones t.numbers h.volume.0.whole h.volume.0.size (numbers_are_zones v h p.inode index enough) taken maps_stay (numbers_put v.contents.nodes w.nodes n p q refl at refl);
     freed = λ z i. absurd i;
     was_used = λ z i. absurd i;
-    waits_on = λ z holder waits. taken.others z (λ i. waits_free holder (sym waits ∙ taken.was z i)) ∙ waits;
-    waited = λ z holder out waits. sym (taken.others z (λ i. waits_used holder (sym waits ∙ taken.now z i))) ∙ waits;
+    waits_on = λ z freed_by waits. taken.others z (λ i. waits_free freed_by (sym waits ∙ taken.was z i)) ∙ waits;
+    waited = λ z freed_by out waits. sym (taken.others z (λ i. waits_used freed_by (sym waits ∙ taken.now z i))) ∙ waits;
   }
 
   change : IsFileChange v.contents w n p q

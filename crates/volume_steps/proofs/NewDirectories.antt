@@ -99,13 +99,13 @@ takes_of_taken m o zs h = record {
   was = λ zone used. ⊎_elim (λ i. inr i) (λ out. inl (sym (h.others zone out) ∙ used)) (in_zones zone zs);
   stays = λ zone used. ⊎_elim (λ i. h.now zone i) (λ out. h.others zone out ∙ used) (in_zones zone zs);
   taken = h.now;
-  waits_on = λ zone holder waits. ⊎_elim (λ i. absurd (free_waits holder (sym (h.was zone i) ∙ waits))) (λ out. h.others zone out ∙ waits) (in_zones zone zs);
-  waited = λ zone holder waits. ⊎_elim (λ i. absurd (used_waits holder (sym (h.now zone i) ∙ waits))) (λ out. sym (h.others zone out) ∙ waits) (in_zones zone zs);
+  waits_on = λ zone freed_by waits. ⊎_elim (λ i. absurd (free_waits freed_by (sym (h.was zone i) ∙ waits))) (λ out. h.others zone out ∙ waits) (in_zones zone zs);
+  waited = λ zone freed_by waits. ⊎_elim (λ i. absurd (used_waits freed_by (sym (h.now zone i) ∙ waits))) (λ out. sym (h.others zone out) ∙ waits) (in_zones zone zs);
   lowest = h.lowest;
 }
   where
-    free_waits : (holder : ℕ) → ◌≡◌ {A = Option ZoneState} (Some states.Free) (Some (states.Quarantined holder)) → ⊥
-    free_waits holder e = cc
+    free_waits : (freed_by : ℕ) → ◌≡◌ {A = Option ZoneState} (Some states.Free) (Some (states.Quarantined freed_by)) → ⊥
+    free_waits freed_by e = cc
 
 changes_body : (g : Geometry) (blocks : List (List ℕ)) (zone : ℕ) → IsSound g → IsWhole blocks → length blocks ≡ g.zones → g.first ≤ zone → zone < g.zones →
     Changes g (λ _. ⊥) (λ b. b ≡ zone) blocks (edited g blocks (put_body zone (zeros 1024)))

@@ -12,7 +12,7 @@ use Rattle.inode_ops.specs.Map.{zone_at}
 use Rattle.tree_model.specs.declared.node.Node.{Node}
 use Rattle.tree_model.specs.declared.node.Node.TheVariants as nodes
 use Rattle.tree_model.specs.Maps.{at_number, at_name}
-use Rattle.tree_model.specs.laws.Listing.{Gives}
+use Rattle.tree_model.specs.laws.Listing.{HasEntry}
 use Rattle.tree_model.specs.laws.MapsLaws.{number_same}
 use Rattle.tree_model.specs.Calls.{used_zones}
 use Rattle.zone_maps.specs.declared.zone_state.ZoneState.TheVariants as states
@@ -153,7 +153,7 @@ module _ (g : Geometry) (sound : IsSound g) (plain : IsPlainContents g (new_volu
   unfolding used_zones tree_now
   one_tree = refl
 
-  no_name : (parent : ℕ) (name : List ℕ) (birth : ℕ) → Gives (tree_of_now v) parent name birth → ⊥
+  no_name : (parent : ℕ) (name : List ℕ) (birth : ℕ) → HasEntry (tree_of_now v) parent name birth → ⊥
   no_name parent name birth gives =
       let back = tree_back v.contents.blocks v.contents.nodes parent (nodes.Directory gives.directory) gives.stands in
       let root = only parent (root_placed g) back.0 back.1 in

@@ -53,8 +53,8 @@ unchanged_step tx v h n f found = record {
     marks = marks_same v.geometry h.sound v.contents v.contents v.zones h.volume.0.whole h.volume.0.size (λ b low high. refl) (numbers_same v.contents.nodes v.contents.nodes refl);
     freed = λ z i. absurd i;
     was_used = λ z i. absurd i;
-    waits_on = λ z holder waits. waits;
-    waited = λ z holder none waits. waits;
+    waits_on = λ z freed_by waits. waits;
+    waited = λ z freed_by none waits. waits;
   };
   settled = λ old. old;
   slotted = λ old. old;
@@ -268,8 +268,8 @@ module _ (tx : ℕ) (v : VolumeNow) (h : IsInUse v) (n : ℕ) (p : Placed) (zone
       marks = marks_same v.geometry h.sound v.contents paged.volume.contents v.zones h.volume.0.whole h.volume.0.size maps_stay (numbers_same v.contents.nodes v.contents.nodes refl);
       freed = λ z i. absurd i;
       was_used = λ z i. absurd i;
-      waits_on = λ z holder waits. waits;
-      waited = λ z holder none waits. waits;
+      waits_on = λ z freed_by waits. waits;
+      waited = λ z freed_by none waits. waits;
     };
     settled = λ old. record { root_number = old.root_number; sizes = old.sizes; dots = old.dots; few_links = old.few_links };
     slotted = λ old a r d found file none. zones_settled blocks after r.inode r.inode (length d.slots) (same_zone a r found) (old a r d found file none);

@@ -26,28 +26,28 @@ used_released tx (z ∷ zs) =
     let one = here z in
     omega arith
   where
-    by : (t : Bool) (holder : ℕ) → one_if (is_used (if t then states.Free else states.Quarantined holder)) ≡ 0
-    by true holder = refl
-    by false holder = refl
+    by : (t : Bool) (freed_by : ℕ) → one_if (is_used (if t then states.Free else states.Quarantined freed_by)) ≡ 0
+    by true freed_by = refl
+    by false freed_by = refl
 
     here : (z : ZoneState) → one_if (is_used (let_go tx z)) ≡ one_if (is_used z)
     here states.Free = refl
     here states.Used = refl
-    here (states.Quarantined holder) = by (holder == tx) holder
+    here (states.Quarantined freed_by) = by (freed_by == tx) freed_by
 
 -- a zone is in use after a release just where it was
 used_after : (m : Zones) (tx zone : ℕ) → state_of (released m tx) zone ≡ Some states.Used → state_of m zone ≡ Some states.Used
 used_after m tx zone h = by (state_of m zone) refl (sym (state_released m zone tx) ∙ h)
   where
-    freed : (t : Bool) (holder : ℕ) → Some (if t then states.Free else states.Quarantined holder) ≡ Some states.Used → ⊥
-    freed true holder e = cc
-    freed false holder e = cc
+    freed : (t : Bool) (freed_by : ℕ) → Some (if t then states.Free else states.Quarantined freed_by) ≡ Some states.Used → ⊥
+    freed true freed_by e = cc
+    freed false freed_by e = cc
 
     by : (o : Option ZoneState) → state_of m zone ≡ o → option_map (let_go tx) o ≡ Some states.Used → o ≡ Some states.Used
     by None e q = absurd (cc q)
     by (Some states.Free) e q = q
     by (Some states.Used) e q = q
-    by (Some (states.Quarantined holder)) e q = absurd (freed (holder == tx) holder q)
+    by (Some (states.Quarantined freed_by)) e q = absurd (freed (freed_by == tx) freed_by q)
 
 used_waits : (tx : ℕ) → ◌≡◌ {A = Option ZoneState} (Some states.Used) (Some (states.Quarantined tx)) → ⊥
 used_waits tx e = cc

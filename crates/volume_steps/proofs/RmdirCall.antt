@@ -15,7 +15,7 @@ use Rattle.tree_model.specs.laws.MapOrder.{InOrder, in_order_put, at_put_cases, 
 use Rattle.tree_model.specs.laws.MapsLaws.{at_put_number, at_put_number_apart}
 use Rattle.tree_model.specs.Plain.{IsPlain, AreBornBefore}
 use Rattle.tree_model.specs.Trees.{is_directory, directory_links}
-use Rattle.tree_model.specs.laws.Listing.{Gives, IsLedTo}
+use Rattle.tree_model.specs.laws.Listing.{HasEntry, IsLedTo}
 use Rattle.tree_model.specs.laws.Listing.IsLedTo.{at_root, by_name}
 use Rattle.tree_model.specs.Calls.{Tree, Done, Place, Found, row, outcome, names_in, parent_of, walk, a_directory, and_then, refuse_if, leaves, take_name, without_name}
 use Rattle.tree_model.proofs.Rows.{ok_ok, then_ok, refuse_ok, directory_ok, IsFound, walk_ok, IsPlace, parent_ok, place_names}
@@ -125,7 +125,7 @@ module _ (tx : ℕ) (v : VolumeNow) (h : IsPlainNow v) (n : ℕ) (before : AreBo
   gives : at_name place.directory.names place.name ≡ Some birth
   gives = place_names (tree_of_now v) said.names place said.found is_place is_found
 
-  parent_gives : Gives (tree_of_now v) place.parent place.name birth
+  parent_gives : HasEntry (tree_of_now v) place.parent place.name birth
   parent_gives = record { directory = place.directory; stands = is_place.stands; named = gives }
 
   -- it has no names, and its parent has one

@@ -131,9 +131,9 @@ module _ (tx : ℕ) (v : VolumeNow) (c d : Change) (Writes More : ℕ → ℕ �
           (λ used. free_used (sym (h.lowest.was_free zone e) ∙ used))
           (λ other. first ((λ u. absurd (free_used (sym e ∙ u))), (λ u. absurd (other u))))
           (used_or (state_of v.zones zone))
-      by (states.Quarantined holder) e = ⊎_elim
-          (λ used. used_waits holder (sym used ∙ k.waits_on zone holder e))
-          (λ other. second ((λ u. absurd (other u)), (λ u. absurd (used_waits holder (sym u ∙ e)))))
+      by (states.Quarantined freed_by) e = ⊎_elim
+          (λ used. used_waits freed_by (sym used ∙ k.waits_on zone freed_by e))
+          (λ other. second ((λ u. absurd (other u)), (λ u. absurd (used_waits freed_by (sym u ∙ e)))))
           (used_or (state_of d.volume.zones zone))
       by states.Used e =
           let place : d.volume.geometry ≡ v.geometry = k.geometry ∙ h.geometry in
@@ -146,9 +146,9 @@ module _ (tx : ℕ) (v : VolumeNow) (c d : Change) (Writes More : ℕ → ℕ �
           end : (state_of v.zones zone ≢ Some states.Used) → (s : ZoneState) → state_of d.volume.zones zone ≡ Some s → ⊥
           end other states.Free f = free_used (sym (k.lowest.was_free zone f) ∙ e)
           end other states.Used f = second ((λ u. e), (λ u. f))
-          end other (states.Quarantined holder) f = ⊎_elim
+          end other (states.Quarantined freed_by) f = ⊎_elim
               (λ i. other (after.not_new zone i e))
-              (λ out. used_waits holder (sym e ∙ k.waited zone holder out f))
+              (λ out. used_waits freed_by (sym e ∙ k.waited zone freed_by out f))
               (in_zones zone d.touched.freed)
 
   abbrev both : Change
@@ -167,8 +167,8 @@ module _ (tx : ℕ) (v : VolumeNow) (c d : Change) (Writes More : ℕ → ℕ �
         (subst (λ g. KeepsMarks g c.volume.contents d.volume.contents c.volume.zones d.volume.zones) h.geometry k.marks) numbers once;
     freed = λ zone i. ⊎_elim (λ first. k.waits_on zone tx (h.freed zone first)) (λ second. k.freed zone second) (In-append_cases c.touched.freed d.touched.freed zone i);
     was_used = λ zone i. ⊎_elim (λ first. h.was_used zone first) (λ second. after.not_new zone second (k.was_used zone second)) (In-append_cases c.touched.freed d.touched.freed zone i);
-    waits_on = λ zone holder waits. k.waits_on zone holder (h.waits_on zone holder waits);
-    waited = λ zone holder none waits.
-        h.waited zone holder (λ i. none (In-append_left c.touched.freed d.touched.freed zone i))
-        (k.waited zone holder (λ i. none (In-append_right c.touched.freed d.touched.freed zone i)) waits);
+    waits_on = λ zone freed_by waits. k.waits_on zone freed_by (h.waits_on zone freed_by waits);
+    waited = λ zone freed_by none waits.
+        h.waited zone freed_by (λ i. none (In-append_left c.touched.freed d.touched.freed zone i))
+        (k.waited zone freed_by (λ i. none (In-append_right c.touched.freed d.touched.freed zone i)) waits);
   }

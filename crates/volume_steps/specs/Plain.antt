@@ -4,7 +4,7 @@ use Rattle.minix_layout.specs.Geometry.{IsSound}
 use Rattle.tree_model.specs.declared.call.Call.{Call}
 use Rattle.tree_model.specs.declared.call.Call.TheVariants as calls
 use Rattle.tree_model.specs.Paths.{is_path_name}
-use Rattle.tree_model.specs.laws.Listing.{Gives}
+use Rattle.tree_model.specs.laws.Listing.{HasEntry}
 use Rattle.tree_model.specs.Calls.{used_zones}
 use Rattle.zone_maps.specs.declared.zone_state.ZoneState.TheVariants as states
 use Rattle.zone_maps.specs.Zones.{is_used, state_of}
@@ -27,7 +27,7 @@ pub record IsInUse (v : VolumeNow) : Type 0 where
 pub record IsPlainNow (v : VolumeNow) : Type 0 where
   pub in_use : IsInUse v
   pub plain : IsPlainContents v.geometry v.contents
-  pub path_names : (parent : ℕ) (name : List ℕ) (birth : ℕ) → Gives (tree_of_now v) parent name birth → IsTrue (is_path_name name)
+  pub path_names : (parent : ℕ) (name : List ℕ) (birth : ℕ) → HasEntry (tree_of_now v) parent name birth → IsTrue (is_path_name name)
 
 -- a call that writes or cuts a file
 abbrev pub is_of_bytes : Call → Bool

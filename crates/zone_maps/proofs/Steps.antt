@@ -97,7 +97,7 @@ taken_map first zs low free held at h is none =
 for_is_held : (tx : ℕ) (z : ZoneState) → one_if (is_quarantined_for tx z) ≤ one_if (is_quarantined z)
 for_is_held tx states.Free = omega arith
 for_is_held tx states.Used = omega arith
-for_is_held tx (states.Quarantined holder) = at_most (is_quarantined_for tx (states.Quarantined holder))
+for_is_held tx (states.Quarantined freed_by) = at_most (is_quarantined_for tx (states.Quarantined freed_by))
   where
     at_most : (t : Bool) → one_if t ≤ 1
     at_most true = omega arith
@@ -106,7 +106,7 @@ for_is_held tx (states.Quarantined holder) = at_most (is_quarantined_for tx (sta
 to_is_held : (tx : ℕ) (z : ZoneState) → one_if (is_quarantined_to tx z) ≤ one_if (is_quarantined z)
 to_is_held tx states.Free = omega arith
 to_is_held tx states.Used = omega arith
-to_is_held tx (states.Quarantined holder) = at_most (is_quarantined_to tx (states.Quarantined holder))
+to_is_held tx (states.Quarantined freed_by) = at_most (is_quarantined_to tx (states.Quarantined freed_by))
   where
     at_most : (t : Bool) → one_if t ≤ 1
     at_most true = omega arith

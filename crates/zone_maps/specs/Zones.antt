@@ -32,11 +32,11 @@ is_quarantined (states.Quarantined tx) = true
 is_quarantined other = false
 
 abbrev pub is_quarantined_for : ℕ → ZoneState → Bool
-is_quarantined_for tx (states.Quarantined holder) = holder == tx
+is_quarantined_for tx (states.Quarantined freed_by) = freed_by == tx
 is_quarantined_for tx other = false
 
 abbrev pub is_quarantined_to : ℕ → ZoneState → Bool
-is_quarantined_to tx (states.Quarantined holder) = nat_le holder tx
+is_quarantined_to tx (states.Quarantined freed_by) = nat_le freed_by tx
 is_quarantined_to tx other = false
 
 -- a zone that is listed is in use, and another is free

@@ -25,7 +25,7 @@ pub fn is_quarantined_for(state: ZoneState, tx: u32) -> bool
     ensures { result ≡ is_quarantined_for tx state }
 {
     match state {
-        ZoneState::Quarantined(holder) => holder == tx,
+        ZoneState::Quarantined(freed_by) => freed_by == tx,
         ZoneState::Free | ZoneState::Used => false,
     }
 }
@@ -35,7 +35,7 @@ pub fn is_quarantined_to(state: ZoneState, tx: u32) -> bool
     ensures { result ≡ is_quarantined_to tx state }
 {
     match state {
-        ZoneState::Quarantined(holder) => holder <= tx,
+        ZoneState::Quarantined(freed_by) => freed_by <= tx,
         ZoneState::Free | ZoneState::Used => false,
     }
 }

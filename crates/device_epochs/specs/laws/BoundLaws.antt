@@ -11,7 +11,7 @@ use Rattle.order_model.specs.Received.{all_parts, ids_of, all_ids, completions_o
 use Rattle.order_model.specs.Device.{IsReceivable}
 use Rattle.command_queue.specs.Queue.{Waiting}
 use Rattle.device_epochs.specs.Device.{DeviceState, transferable, seen}
-use Rattle.device_epochs.specs.laws.Valid.{left, IsValid}
+use Rattle.device_epochs.specs.laws.Valid.{work_left, IsValid}
 use Rattle.device_epochs.specs.laws.PendingLaws.{numbered, waits}
 use Rattle.device_epochs.specs.laws.QueueLaws.{sum_by-without}
 use Rattle.device_epochs.specs.laws.CompletionLaws.{length-completions, length-failures}
@@ -78,7 +78,7 @@ receivable-fits s c v r =
 
 -- ---- steps and epochs
 
-pub steps-le : (s : DeviceState) → IsValid s → left s + s.steps ≤ s.limit + s.limit
+pub steps-le : (s : DeviceState) → IsValid s → work_left s + s.steps ≤ s.limit + s.limit
 steps-le s v = let a = took-le s v in let b = all_parts-le s v in let c = v.counts.steps in omega arith
 
 -- while something can be transferred or written, there is a step left

@@ -13,8 +13,8 @@ use Rattle.order_model.proofs.Received.{length-all_parts-push, length-all_ids-pu
 use Rattle.command_queue.specs.Queue.{Waiting, AreNumbered, without}
 use Rattle.device_epochs.specs.declared.cache.Entry.{Entry}
 use Rattle.device_epochs.specs.Cache.{same_place, entries, without_entry}
-use Rattle.device_epochs.specs.Device.{DeviceState, is_off, tells_cut, received, moved_in, failed_on, written, answered, answered_from}
-use Rattle.device_epochs.specs.laws.Valid.{left, CountFacts}
+use Rattle.device_epochs.specs.Device.{DeviceState, is_off, tells_cut, received, performed, failed_on, written, answered, answered_from}
+use Rattle.device_epochs.specs.laws.Valid.{work_left, CountFacts}
 use Rattle.device_epochs.specs.laws.CacheLaws.{length-put_all, length-entries}
 use Rattle.device_epochs.specs.laws.QueueLaws.{sum_by-without, length-filter-le, length-filter-lt}
 use Rattle.device_epochs.specs.laws.EpochLaws.{length-transfers}
@@ -45,35 +45,35 @@ never_off s e = rw e refl
 abbrev pub work : Waiting → ℕ
 work w = length w.command.parts + 1
 
-pub left-received : (s : DeviceState) (c : Command) → left (received s c) ≡ left s + length c.parts + 1
-left-received s c =
+pub work_left-received : (s : DeviceState) (c : Command) → work_left (received s c) ≡ work_left s + length c.parts + 1
+work_left-received s c =
     let n = sum_by_push work s.queue.waiting (record { number = s.queue.next; command = c }) in
     omega arith
 
-pub left-moved : (s : DeviceState) (w : Waiting) → AreNumbered s.queue.next s.queue.waiting → In w s.queue.waiting → left (moved_in s w) < left s
-left-moved s w a h =
+pub work_left-moved : (s : DeviceState) (w : Waiting) → AreNumbered s.queue.next s.queue.waiting → In w s.queue.waiting → work_left (performed s w) < work_left s
+work_left-moved s w a h =
     let n = sum_by-without work s.queue.next s.queue.waiting w a h in
     let new = entries s.epoch (first_part s.took w.number) w.command.parts in
     let m = length-put_all new s.cache in
     let k = length-entries s.epoch (first_part s.took w.number) w.command.parts in
     omega arith
 
-pub left-failed : (s : DeviceState) (w : Waiting) → AreNumbered s.queue.next s.queue.waiting → In w s.queue.waiting → left (failed_on s w) < left s
-left-failed s w a h = let n = sum_by-without work s.queue.next s.queue.waiting w a h in omega arith
+pub work_left-failed : (s : DeviceState) (w : Waiting) → AreNumbered s.queue.next s.queue.waiting → In w s.queue.waiting → work_left (failed_on s w) < work_left s
+work_left-failed s w a h = let n = sum_by-without work s.queue.next s.queue.waiting w a h in omega arith
 
-pub left-written : (s : DeviceState) (e : Entry) → In e s.cache → left (written s (Some e)) < left s
-left-written s e h = let n = without_entry-shorter e s.cache h in omega arith
+pub work_left-written : (s : DeviceState) (e : Entry) → In e s.cache → work_left (written s (Some e)) < work_left s
+work_left-written s e h = let n = without_entry-shorter e s.cache h in omega arith
 
-left-answered_from : (s : DeviceState) (cs : List Completion) → left (answered_from s cs) ≡ left s
-left-answered_from s (c ∷ cs) = refl
-left-answered_from s [] =
+work_left-answered_from : (s : DeviceState) (cs : List Completion) → work_left (answered_from s cs) ≡ work_left s
+work_left-answered_from s (c ∷ cs) = refl
+work_left-answered_from s [] =
     elim (cases_Bool (tells_cut s)) [
       | inl t ↦ rw t refl
       | inr f ↦ rw f refl
     ]
 
-pub left-answered : (s : DeviceState) → left (answered s) ≡ left s
-left-answered s = left-answered_from s s.waiting
+pub work_left-answered : (s : DeviceState) → work_left (answered s) ≡ work_left s
+work_left-answered s = work_left-answered_from s s.waiting
 
 -- ---- the counts
 
@@ -85,7 +85,7 @@ counts-received s pending c f fits =
     let ids = length-all_ids-push s.took c in
     record {
       fits = let n = length_push s.queue.waiting w in omega arith;
-      steps = let n = left-received s c in let old = f.steps in omega arith;
+      steps = let n = work_left-received s c in let old = f.steps in omega arith;
       epochs = f.epochs;
       moved = let n = sum_by_push (λ (x : Waiting). length x.command.parts) pending w in let old = f.moved in omega arith;
       completions = let n = sum_by_push (λ (x : Waiting). length (ids_of x.command)) s.queue.waiting w in let old = f.completions in omega arith;
@@ -99,11 +99,11 @@ epoch-after false epoch = omega arith
 fits-without : (n depth : ℕ) (ws : List Waiting) → length ws ≤ depth → length (without n ws) ≤ depth
 fits-without n depth ws le = let k = length-filter-le (λ (w : Waiting). not (w.number == n)) ws in omega arith
 
-pub counts-moved : (s : DeviceState) (pending : List Waiting) (w : Waiting) → AreNumbered s.queue.next s.queue.waiting → AreNumbered s.queue.next pending → In w s.queue.waiting → In w pending → is_off s ≡ false → CountFacts s pending → CountFacts (moved_in s w) (without w.number pending)
+pub counts-moved : (s : DeviceState) (pending : List Waiting) (w : Waiting) → AreNumbered s.queue.next s.queue.waiting → AreNumbered s.queue.next pending → In w s.queue.waiting → In w pending → is_off s ≡ false → CountFacts s pending → CountFacts (performed s w) (without w.number pending)
 counts-moved s pending w a b h i on f =
     record {
       fits = fits-without w.number s.queue.depth s.queue.waiting f.fits;
-      steps = let n = left-moved s w a h in let old = f.steps in omega arith;
+      steps = let n = work_left-moved s w a h in let old = f.steps in omega arith;
       epochs = let n = epoch-after w.command.barrier s.epoch in let old = f.epochs in omega arith;
       moved =
           let n = sum_by-without (λ (x : Waiting). length x.command.parts) s.queue.next pending w b i in
@@ -124,7 +124,7 @@ pub counts-failed : (s : DeviceState) (pending : List Waiting) (w : Waiting) →
 counts-failed s pending w a h on f =
     record {
       fits = fits-without w.number s.queue.depth s.queue.waiting f.fits;
-      steps = let n = left-failed s w a h in let old = f.steps in omega arith;
+      steps = let n = work_left-failed s w a h in let old = f.steps in omega arith;
       epochs = let old = f.epochs in omega arith;
       moved = f.moved;
       completions =
@@ -140,7 +140,7 @@ pub counts-written : (s : DeviceState) (pending : List Waiting) (e : Entry) → 
 counts-written s pending e h on f =
     record {
       fits = f.fits;
-      steps = let n = left-written s e h in let old = f.steps in omega arith;
+      steps = let n = work_left-written s e h in let old = f.steps in omega arith;
       epochs = let old = f.epochs in omega arith;
       moved = f.moved;
       completions = f.completions;

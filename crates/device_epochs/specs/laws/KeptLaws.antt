@@ -14,7 +14,7 @@ use Rattle.command_queue.specs.Queue.{Waiting}
 use Rattle.device_epochs.specs.declared.cache.Entry.{Entry}
 use Rattle.device_epochs.specs.laws.CacheSteps.{part_at-lt, part_of-waiting, parts_of-waiting, IsHeld-written}
 use Rattle.device_epochs.specs.laws.CompletionLaws.{flush-completes, completions-seen, flushed-seen}
-use Rattle.device_epochs.specs.Device.{DeviceState, is_off, answers_left, transferable, moved_in, failed_on, transferred, persistable, written, persisted, seen}
+use Rattle.device_epochs.specs.Device.{DeviceState, is_off, answers_left, transferable, performed, failed_on, transferred, persistable, written, persisted, seen}
 use Rattle.device_epochs.specs.laws.EpochLaws.{barrier-ordered, waiting-taken, done-before_ordered, ordered-done_before, waits-or-done}
 use Rattle.device_epochs.specs.laws.QueueLaws.{place-before}
 use Rattle.device_epochs.specs.laws.StepLaws.{tried-all, persistable-In}
@@ -138,8 +138,8 @@ flush_law s v k id x told h lt before =
 Grows-same : (s : DeviceState) → Grows (seen s) (seen s)
 Grows-same s = record { kept = λ x k. k; steps = omega arith; faults = omega arith }
 
-Grows-moved_in : (s : DeviceState) (w : Waiting) → Grows (seen s) (seen (moved_in s w))
-Grows-moved_in s w = record {
+Grows-performed : (s : DeviceState) (w : Waiting) → Grows (seen s) (seen (performed s w))
+Grows-performed s w = record {
   kept = λ x k. record { part = k.part; taken = k.taken; origin = k.origin; held = k.held; later = k.later };
   steps = omega arith;
   faults = omega arith;
@@ -156,7 +156,7 @@ pub Grows-transferred : (s : DeviceState) (pick : ℕ) → Grows (seen s) (seen 
 Grows-transferred s pick =
     tried-all (λ n. Grows (seen s) (seen n)) s (slice_get (transferable s) pick) (Grows-same s)
     (λ w e t. Grows-failed_on s w)
-    (λ w e n. Grows-moved_in s w)
+    (λ w e n. Grows-performed s w)
 
 Grows-written : (s : DeviceState) → IsValid s → (o : Option Entry) → ((e : Entry) → o ≡ Some e → In e s.cache) → Grows (seen s) (seen (written s o))
 Grows-written s v None h = Grows-same s

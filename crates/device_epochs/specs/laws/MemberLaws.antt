@@ -10,7 +10,7 @@ use Rattle.order_model.specs.declared.command.Command.{Command}
 use Rattle.order_model.specs.Device.{IsReceivable, TellsCut, Grows}
 use Rattle.order_model.specs.Steps.{Receives, Transfers, Persists, Answers, OnlyReads, Progresses}
 use Rattle.device_epochs.specs.Device.{DeviceState, is_next, counted, has_room, received, transferable, tried, transferred, persistable, persisted, next_answer, answered, answered_from, after_read, written, tells_cut, IsSound, seen}
-use Rattle.device_epochs.specs.laws.Valid.{left, IsValid}
+use Rattle.device_epochs.specs.laws.Valid.{work_left, IsValid}
 use Rattle.device_epochs.specs.laws.StepLaws.{tried-all, Receives-received, Transfers-transferred, Persists-persisted, Answers-answered}
 use Rattle.device_epochs.specs.laws.KeptLaws.{Grows-transferred, Grows-persisted}
 use Rattle.device_epochs.specs.laws.CountLaws.{never_off}
@@ -42,7 +42,7 @@ power_cut s v = (power_cut_law s v, off-nothing s)
 pub monotone : (s : DeviceState) (pick : ℕ) → IsValid s → Grows (seen s) (seen (transferred s pick)) × Grows (seen s) (seen (persisted s pick))
 monotone s pick v = (Grows-transferred s pick, Grows-persisted s v pick)
 
-pub progress : (s : DeviceState) → IsValid s → (seen s).off ≡ false → (seen s).failed ≡ false → Progresses (seen s) (left s) (has_room s) (length (transferable s)) (length (persistable s))
+pub progress : (s : DeviceState) → IsValid s → (seen s).off ≡ false → (seen s).failed ≡ false → Progresses (seen s) (work_left s) (has_room s) (length (transferable s)) (length (persistable s))
 progress s v on fine = progress_law s v on fine
 
 pub on : (s : DeviceState) → IsValid s → s.cut_at ≡ None → (seen s).off ≡ false

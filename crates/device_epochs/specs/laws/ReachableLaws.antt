@@ -16,7 +16,7 @@ use Rattle.device_epochs.specs.declared.device.DeviceSetup.{DeviceSetup}
 use Rattle.device_epochs.specs.laws.CacheSteps.{CacheFacts-received, MediumFacts-received, CacheFacts-moved, MediumFacts-moved, CacheFacts-written, MediumFacts-written}
 use Rattle.device_epochs.specs.laws.CompletionLaws.{completions-received, completions-moved, completions-failed, completions-persisted, completions-answered_from}
 use Rattle.device_epochs.specs.laws.CountLaws.{counts-received, counts-moved, counts-failed, counts-written, counts-answered_from}
-use Rattle.device_epochs.specs.Device.{DeviceState, opened, is_off, is_next, has_room, received, transferable, moved_in, failed_on, transferred, after_read, persistable, written, persisted, tells_cut, answered_from, answered, seen}
+use Rattle.device_epochs.specs.Device.{DeviceState, opened, is_off, is_next, has_room, received, transferable, performed, failed_on, transferred, after_read, persistable, written, persisted, tells_cut, answered_from, answered, seen}
 use Rattle.device_epochs.specs.laws.EpochLaws.{present-received, present-moved, moved-received, moved-moved, epoch_of_eligible}
 use Rattle.device_epochs.specs.laws.PendingLaws.{pending-received, pending-moved, pending-failed, lost-lt, lost-none, pending-is, waits, numbered, faults-counted, faults-failed, faults-read, to_come-le}
 use Rattle.device_epochs.specs.laws.QueueLaws.{commands-received, queue-received, queue-moved, eligible-waits}
@@ -115,8 +115,8 @@ received-valid s c v r room =
 
 -- ---- a command is transferred
 
-pub moved_in-valid : (s : DeviceState) (w : Waiting) → IsValid s → In w (transferable s) → IsValid (moved_in s w)
-moved_in-valid s w v h =
+pub performed-valid : (s : DeviceState) (w : Waiting) → IsValid s → In w (transferable s) → IsValid (performed s w)
+performed-valid s w v h =
     let may = transferable-In s w h in
     let q = with_waiting s.queue v.pending in
     let free : In w (eligible v.pending) = subst (λ ws. In w (eligible ws)) (sym (pending-is s v may.3)) may.1 in
@@ -134,9 +134,9 @@ moved_in-valid s w v h =
       cache = CacheFacts-moved s.took q s.epoch s.cache w v.queue inside present v.cache;
       medium = MediumFacts-moved s.base (length s.base) s.limit s.took q s.epoch s.cache s.surface s.origins w v.commands v.queue v.present v.cache v.medium free may.2;
       completions =
-          subst (λ cs. CompletionFacts s.took (without w.number v.pending) None cs (is_off (moved_in s w)) s.told)
+          subst (λ cs. CompletionFacts s.took (without w.number v.pending) None cs (is_off (performed s w)) s.told)
           (append_assoc s.sent s.waiting (completions_of w.command))
-          (completions-moved s.took q (s.sent ++ s.waiting) (is_off s) (is_off (moved_in s w)) s.told w v.commands.fresh v.queue (unlost s v may.3) inside (untold s v may.0));
+          (completions-moved s.took q (s.sent ++ s.waiting) (is_off s) (is_off (performed s w)) s.told w v.commands.fresh v.queue (unlost s v may.3) inside (untold s v may.0));
       counts = counts-moved s v.pending w (numbered s v) v.queue.numbered (eligible-waits s.queue.waiting w may.1) inside may.0 v.counts;
     }
 
@@ -169,7 +169,7 @@ pub transferred-valid : (s : DeviceState) (pick : ℕ) → IsValid s → IsValid
 transferred-valid s pick v =
     tried-all IsValid s (slice_get (transferable s) pick) v
     (λ w e t. failed_on-valid s w v (slice_get-In (transferable s) pick w e) t)
-    (λ w e n. moved_in-valid s w v (slice_get-In (transferable s) pick w e))
+    (λ w e n. performed-valid s w v (slice_get-In (transferable s) pick w e))
 
 -- ---- an entry goes to the medium
 

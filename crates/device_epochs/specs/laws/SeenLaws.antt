@@ -13,14 +13,14 @@ use Rattle.order_model.specs.Steps.{Progresses}
 use Rattle.order_model.proofs.Received.{all_ids-In}
 use Rattle.command_queue.specs.Queue.{Waiting, have_common_block, stands_in_way, is_free, eligible, AreNumbered}
 use Rattle.device_epochs.specs.Device.{DeviceState, is_off, is_next, has_room, may_transfer, has_stopped, transferable, tried, transferred, persistable, written, persisted, answers_left, answered, after_read, seen}
-use Rattle.device_epochs.specs.laws.Valid.{IsDone, CompletionFacts, left, IsValid}
+use Rattle.device_epochs.specs.laws.Valid.{IsDone, CompletionFacts, work_left, IsValid}
 use Rattle.device_epochs.specs.laws.BoundLaws.{some_ids}
 use Rattle.device_epochs.specs.laws.PendingLaws.{lost-some, pending-is, numbered}
 use Rattle.device_epochs.specs.laws.CacheLaws.{oldest_some}
 use Rattle.device_epochs.specs.laws.StepLaws.{transferable-waits, is-transferable, tried-fails, tried-moves, persistable-In}
 use Rattle.device_epochs.specs.laws.KeptLaws.{kept_is_moved}
 use Rattle.device_epochs.specs.laws.CompletionLaws.{id-In_completions, cut-told, completions-seen, moved-seen, flushed-seen, failed-seen}
-use Rattle.device_epochs.specs.laws.CountLaws.{work, left-moved, left-failed, left-written, left-answered}
+use Rattle.device_epochs.specs.laws.CountLaws.{work, work_left-moved, work_left-failed, work_left-written, work_left-answered}
 
 -- ---- completions, the power and failed transfers
 
@@ -110,10 +110,10 @@ waiting-le : (ws : List Waiting) → length ws ≤ sum_by work ws
 waiting-le [] = omega arith
 waiting-le (w ∷ ws) = let n = sum_by-cons work w ws in let rest = waiting-le ws in omega arith
 
-none-waits : (s : DeviceState) → left s ≡ 0 → s.queue.waiting ≡ []
+none-waits : (s : DeviceState) → work_left s ≡ 0 → s.queue.waiting ≡ []
 none-waits s e = let n = waiting-le s.queue.waiting in nil_from_length s.queue.waiting (omega arith)
 
-pub works : (s : DeviceState) → IsValid s → is_off s ≡ false → s.failed ≡ false → 0 < left s → (0 < length (transferable s)) ⊎ (0 < length (persistable s))
+pub works : (s : DeviceState) → IsValid s → is_off s ≡ false → s.failed ≡ false → 0 < work_left s → (0 < length (transferable s)) ⊎ (0 < length (persistable s))
 works s v on fine some =
     ⊎_elim
     (λ cached. let front = oldest_some s.cache cached in inr (rw on front))
@@ -130,13 +130,13 @@ works s v on fine some =
     (some-eligible s.queue.next s.queue.waiting (numbered s v)))
     (cases_lt 0 (length s.cache))
 
-pub has_room-quiet : (s : DeviceState) → IsValid s → is_off s ≡ false → left s ≡ 0 → has_room s ≡ true
+pub has_room-quiet : (s : DeviceState) → IsValid s → is_off s ≡ false → work_left s ≡ 0 → has_room s ≡ true
 has_room-quiet s v on e =
     let none = ap length (none-waits s e) in
     let some = v.queue.some_depth in
     and_from (not (is_off s)) (nat_lt (length s.queue.waiting) s.queue.depth) (not_from_false (is_off s) on) (lt-ltb (length s.queue.waiting) s.queue.depth (omega arith))
 
-pub all-completed : (s : DeviceState) → IsValid s → s.failed ≡ false → left s ≡ 0 → (id : ℕ) → In id (all_ids s.took) → (c : Completion) × In c (s.sent ++ answers_left s) × (completion_id c ≡ Some id)
+pub all-completed : (s : DeviceState) → IsValid s → s.failed ≡ false → work_left s ≡ 0 → (id : ℕ) → In id (all_ids s.took) → (c : Completion) × In c (s.sent ++ answers_left s) × (completion_id c ≡ Some id)
 all-completed s v fine e id h =
     let at = all_ids-In s.took id h in
     let x = id-In_completions at.1 id at.3 in
@@ -147,24 +147,24 @@ all-completed s v fine e id h =
     } in
     (x.0, (completions-all s v).1.all at.0 at.1 x.0 (record { taken = at.2; cause = inl (done, x.1) }), x.2)
 
-pub progress_law : (s : DeviceState) → IsValid s → is_off s ≡ false → s.failed ≡ false → Progresses (seen s) (left s) (has_room s) (length (transferable s)) (length (persistable s))
+pub progress_law : (s : DeviceState) → IsValid s → is_off s ≡ false → s.failed ≡ false → Progresses (seen s) (work_left s) (has_room s) (length (transferable s)) (length (persistable s))
 progress_law s v on fine =
     record { works = works s v on fine; room = has_room-quiet s v on; done = all-completed s v fine }
 
-pub falls-transferred : (s : DeviceState) (pick : ℕ) → IsValid s → pick < length (transferable s) → left (transferred s pick) < left s
+pub falls-transferred : (s : DeviceState) (pick : ℕ) → IsValid s → pick < length (transferable s) → work_left (transferred s pick) < work_left s
 falls-transferred s pick v lt =
     let w = slice_get-in_range (transferable s) pick lt in
     let there = transferable-waits s w.0 (slice_get-In (transferable s) pick w.0 w.1) in
     elim (cases_Bool (is_next s.fail_at)) [
-      | inl t ↦ subst (λ (n : DeviceState). left n < left s) (sym (ap (tried s) w.1 ∙ tried-fails s w.0 t)) (left-failed s w.0 (numbered s v) there)
-      | inr n ↦ subst (λ (n : DeviceState). left n < left s) (sym (ap (tried s) w.1 ∙ tried-moves s w.0 n)) (left-moved s w.0 (numbered s v) there)
+      | inl t ↦ subst (λ (n : DeviceState). work_left n < work_left s) (sym (ap (tried s) w.1 ∙ tried-fails s w.0 t)) (work_left-failed s w.0 (numbered s v) there)
+      | inr n ↦ subst (λ (n : DeviceState). work_left n < work_left s) (sym (ap (tried s) w.1 ∙ tried-moves s w.0 n)) (work_left-moved s w.0 (numbered s v) there)
     ]
 
-pub falls-persisted : (s : DeviceState) (pick : ℕ) → pick < length (persistable s) → left (persisted s pick) < left s
+pub falls-persisted : (s : DeviceState) (pick : ℕ) → pick < length (persistable s) → work_left (persisted s pick) < work_left s
 falls-persisted s pick lt =
     let e = slice_get-in_range (persistable s) pick lt in
-    subst (λ o. left (written s o) < left s) (sym e.1) (left-written s e.0 (persistable-In s e.0 (slice_get-In (persistable s) pick e.0 e.1)).2)
+    subst (λ o. work_left (written s o) < work_left s) (sym e.1) (work_left-written s e.0 (persistable-In s e.0 (slice_get-In (persistable s) pick e.0 e.1)).2)
 
 pub falls : (s : DeviceState) (pick : ℕ) → IsValid s
-    → (pick < length (transferable s) → left (transferred s pick) < left s) × (pick < length (persistable s) → left (persisted s pick) < left s) × (left (answered s) ≡ left s) × (left (after_read s) ≡ left s)
-falls s pick v = (falls-transferred s pick v, falls-persisted s pick, left-answered s, refl)
+    → (pick < length (transferable s) → work_left (transferred s pick) < work_left s) × (pick < length (persistable s) → work_left (persisted s pick) < work_left s) × (work_left (answered s) ≡ work_left s) × (work_left (after_read s) ≡ work_left s)
+falls s pick v = (falls-transferred s pick v, falls-persisted s pick, work_left-answered s, refl)

@@ -13,7 +13,7 @@ use Rattle.order_model.specs.Steps.{Receives, Tells, Transfers, Persists, Answer
 use Rattle.command_queue.specs.Queue.{Waiting, eligible}
 use Rattle.device_epochs.specs.declared.cache.Entry.{Entry}
 use Rattle.device_epochs.specs.Cache.{oldest}
-use Rattle.device_epochs.specs.Device.{DeviceState, is_off, is_next, received, may_transfer, has_stopped, transferable, moved_in, failed_on, tried, transferred, persistable, written, persisted, tells_cut, answers_left, next_answer, answered, answered_from, seen}
+use Rattle.device_epochs.specs.Device.{DeviceState, is_off, is_next, received, may_transfer, has_stopped, transferable, performed, failed_on, tried, transferred, persistable, written, persisted, tells_cut, answers_left, next_answer, answered, answered_from, seen}
 use Rattle.device_epochs.specs.laws.PendingLaws.{waits}
 use Rattle.device_epochs.specs.laws.QueueLaws.{eligible-waits}
 use Rattle.device_epochs.specs.laws.Valid.{IsValid}
@@ -47,13 +47,13 @@ is-transferable s w n f h m =
 pub tried-fails : (s : DeviceState) (w : Waiting) → is_next s.fail_at ≡ true → tried s (Some w) ≡ failed_on s w
 tried-fails s w t = rw t refl
 
-pub tried-moves : (s : DeviceState) (w : Waiting) → is_next s.fail_at ≡ false → tried s (Some w) ≡ moved_in s w
+pub tried-moves : (s : DeviceState) (w : Waiting) → is_next s.fail_at ≡ false → tried s (Some w) ≡ performed s w
 tried-moves s w n = rw n refl
 
 -- what holds of the old state, of one in which the command failed and of one in which it was moved holds after the transfer
 pub tried-all : (P : DeviceState → Type 0) (s : DeviceState) (o : Option Waiting) → P s
     → ((w : Waiting) → o ≡ Some w → is_next s.fail_at ≡ true → P (failed_on s w))
-    → ((w : Waiting) → o ≡ Some w → is_next s.fail_at ≡ false → P (moved_in s w)) → P (tried s o)
+    → ((w : Waiting) → o ≡ Some w → is_next s.fail_at ≡ false → P (performed s w)) → P (tried s o)
 tried-all P s None same fails moves = same
 tried-all P s (Some w) same fails moves =
     elim (cases_Bool (is_next s.fail_at)) [
@@ -92,8 +92,8 @@ Tells-new s new done v on same added =
           inl (after ∙ append-nil new.waiting ∙ added ∙ ap (λ (l : List Completion). l ++ done) before)
     ]
 
-Transfers-moved_in : (s : DeviceState) (w : Waiting) → IsValid s → is_off s ≡ false → slice_get s.took w.number ≡ Some w.command → Transfers (seen s) (seen (moved_in s w))
-Transfers-moved_in s w v on taken = record {
+Transfers-performed : (s : DeviceState) (w : Waiting) → IsValid s → is_off s ≡ false → slice_get s.took w.number ≡ Some w.command → Transfers (seen s) (seen (performed s w))
+Transfers-performed s w v on taken = record {
   given = record { base = refl; limit = refl; took = refl; sent = refl };
   surface = refl;
   origins = refl;
@@ -101,7 +101,7 @@ Transfers-moved_in s w v on taken = record {
   number = w.number;
   command = w.command;
   taken = taken;
-  outcome = inl (record { epoch = s.epoch; moved = refl; told = Tells-new s (moved_in s w) (completions_of w.command) v on refl refl; failed = refl; faults = refl });
+  outcome = inl (record { epoch = s.epoch; moved = refl; told = Tells-new s (performed s w) (completions_of w.command) v on refl refl; failed = refl; faults = refl });
 }
 
 Transfers-failed_on : (s : DeviceState) (w : Waiting) → IsValid s → is_off s ≡ false → slice_get s.took w.number ≡ Some w.command → Transfers (seen s) (seen (failed_on s w))
@@ -124,7 +124,7 @@ Transfers-transferred s pick v lt =
     let taken = v.queue.queued w.0 (waits s v w.0 (transferable-waits s w.0 h)) in
     elim (cases_Bool (is_next s.fail_at)) [
       | inl t ↦ subst (λ (n : DeviceState). Transfers (seen s) (seen n)) (sym (ap (tried s) w.1 ∙ tried-fails s w.0 t)) (Transfers-failed_on s w.0 v on taken)
-      | inr n ↦ subst (λ (n : DeviceState). Transfers (seen s) (seen n)) (sym (ap (tried s) w.1 ∙ tried-moves s w.0 n)) (Transfers-moved_in s w.0 v on taken)
+      | inr n ↦ subst (λ (n : DeviceState). Transfers (seen s) (seen n)) (sym (ap (tried s) w.1 ∙ tried-moves s w.0 n)) (Transfers-performed s w.0 v on taken)
     ]
 
 pub no_transfer : (s : DeviceState) (pick : ℕ) → length (transferable s) ≤ pick → transferred s pick ≡ s

@@ -149,12 +149,12 @@ pub record CompletionFacts (took : List Command) (waiting : List Waiting) (lost 
 -- ---- counts
 
 -- what is left to do: for each command that waits one step and one for each part, and one for each entry
-abbrev pub left : DeviceState → ℕ
-left s = sum_by (λ (w : Waiting). length w.command.parts + 1) s.queue.waiting + length s.cache
+abbrev pub work_left : DeviceState → ℕ
+work_left s = sum_by (λ (w : Waiting). length w.command.parts + 1) s.queue.waiting + length s.cache
 
 pub record CountFacts (s : DeviceState) (pending : List Waiting) : Type 0 where
   pub fits : length s.queue.waiting ≤ s.queue.depth
-  pub steps : left s + s.steps ≤ length s.took + length (all_parts s.took)
+  pub steps : work_left s + s.steps ≤ length s.took + length (all_parts s.took)
   pub epochs : s.epoch ≤ s.steps
   pub moved : length s.moved + sum_by (λ (w : Waiting). length w.command.parts) pending ≡ length (all_parts s.took)
   pub completions : length s.sent + length s.waiting + sum_by (λ (w : Waiting). length (ids_of w.command)) s.queue.waiting ≡ length (all_ids s.took) + (if s.told then 1 else 0)

@@ -7,10 +7,10 @@ use Rattle.script_grammar.specs.declared.script_error.ScriptError.{ScriptError}
 use Rattle.script_grammar.specs.declared.script_error.ScriptError.TheVariants as script
 
 -- a line was read as the grammar reads it
-abbrev pub Gives : {A : Type 0} → Result A LineError → Result A ScriptKind → Type 0
-Gives (Ok x) read = read ≡ Ok x
-Gives (Err (line.Kind kind)) read = read ≡ Err kind
-Gives (Err line.NoMemory) read = Unit {0}
+abbrev pub IsReadAs : {A : Type 0} → Result A LineError → Result A ScriptKind → Type 0
+IsReadAs (Ok x) read = read ≡ Ok x
+IsReadAs (Err (line.Kind kind)) read = read ≡ Err kind
+IsReadAs (Err line.NoMemory) read = Unit {0}
 
 -- lines were read as the grammar reads them
 abbrev pub Reads : {A : Type 0} → Result A ScriptError → Result A (ℕ × ScriptKind) → Type 0

@@ -5,7 +5,7 @@ use Rattle.std.proofs.lemmas.Bool.{le-ltb}
 use Rattle.tree_model.specs.declared.node.Node.{Node}
 use Rattle.tree_model.specs.declared.node.Node.TheVariants as nodes
 use Rattle.tree_model.specs.Maps.{at_number, at_name}
-use Rattle.tree_model.specs.laws.Listing.{Gives, IsRooted, IsLedTo}
+use Rattle.tree_model.specs.laws.Listing.{HasEntry, IsRooted, IsLedTo}
 use Rattle.tree_model.specs.laws.Listing.IsLedTo.{at_root, by_name}
 use Rattle.tree_model.specs.Trees.{Refusal, step_at, led_to, node_of_path, name_too_long, not_found, not_directory, SameMetadata, SameMetadataAt, SameLinks, SameBytes, AreAlike, IsSameButBirths}
 
@@ -26,7 +26,7 @@ named_by true o birth h = no_ok name_too_long birth h
 named_by false None birth h = no_ok not_found birth h
 named_by false (Some b) birth h = ap Some (same_ok b birth h)
 
-gives_from : (tree : List (ℕ × Node)) (parent : ℕ) (name : List ℕ) (birth : ℕ) (o : Option Node) → at_number tree parent ≡ o → step_at o name ≡ Ok birth → Gives tree parent name birth
+gives_from : (tree : List (ℕ × Node)) (parent : ℕ) (name : List ℕ) (birth : ℕ) (o : Option Node) → at_number tree parent ≡ o → step_at o name ≡ Ok birth → HasEntry tree parent name birth
 gives_from tree parent name birth None e h = no_ok not_directory birth h
 gives_from tree parent name birth (Some (nodes.Directory d)) e h =
     record { directory = d; stands = e; named = named_by (nat_lt 14 (length name)) (at_name d.names name) birth h }
@@ -34,7 +34,7 @@ gives_from tree parent name birth (Some (nodes.File f)) e h = no_ok not_director
 gives_from tree parent name birth (Some (nodes.Other mode)) e h = no_ok not_directory birth h
 
 -- a step is by a name of the tree
-pub step_gives : (tree : List (ℕ × Node)) (parent : ℕ) (name : List ℕ) (birth : ℕ) → step_at (at_number tree parent) name ≡ Ok birth → Gives tree parent name birth
+pub step_gives : (tree : List (ℕ × Node)) (parent : ℕ) (name : List ℕ) (birth : ℕ) → step_at (at_number tree parent) name ≡ Ok birth → HasEntry tree parent name birth
 step_gives tree parent name birth h = gives_from tree parent name birth (at_number tree parent) refl h
 
 abbrev pub led_on : List (ℕ × Node) → Result ℕ Refusal → List (List ℕ) → Result ℕ Refusal
@@ -192,7 +192,7 @@ led_push tree (n ∷ ns) b p q name h s =
     ap (λ (r : Result ℕ Refusal). led_on tree r (ns ++ name ∷ [])) parts.1 ∙ led_push tree ns parts.0 p q name parts.2 s
 
 -- a name of a tree is a step
-pub step_given : (tree : List (ℕ × Node)) → IsRooted tree → (parent : ℕ) (name : List ℕ) (birth : ℕ) → Gives tree parent name birth → step_at (at_number tree parent) name ≡ Ok birth
+pub step_given : (tree : List (ℕ × Node)) → IsRooted tree → (parent : ℕ) (name : List ℕ) (birth : ℕ) → HasEntry tree parent name birth → step_at (at_number tree parent) name ≡ Ok birth
 step_given tree rooted parent name birth g =
     let short : nat_lt 14 (length name) ≡ false = le-ltb 14 (length name) (rooted.short parent name birth g) in
     rw (g.stands, short, g.named) refl

@@ -63,7 +63,7 @@ listing_text tree before (e ∷ rest) = lines_of tree before e ++ listing_text t
 -- ---- trees that hang together
 
 -- a directory of the tree gives this name to this node
-pub record Gives (tree : List (ℕ × Node)) (parent : ℕ) (name : List ℕ) (birth : ℕ) : Type 0 where
+pub record HasEntry (tree : List (ℕ × Node)) (parent : ℕ) (name : List ℕ) (birth : ℕ) : Type 0 where
   pub directory : Directory
   pub stands : at_number tree parent ≡ Some (nodes.Directory directory)
   pub named : at_name directory.names name ≡ Some birth
@@ -71,7 +71,7 @@ pub record Gives (tree : List (ℕ × Node)) (parent : ℕ) (name : List ℕ) (b
 -- names lead to this node from the root, one after the other
 pub data IsLedTo (tree : List (ℕ × Node)) : ℕ → Type 0 where
   at_root : IsLedTo tree 0
-  by_name : {parent birth : ℕ} {name : List ℕ} → IsLedTo tree parent → Gives tree parent name birth → IsLedTo tree birth
+  by_name : {parent birth : ℕ} {name : List ℕ} → IsLedTo tree parent → HasEntry tree parent name birth → IsLedTo tree birth
 
 -- A tree that hangs together: its nodes stand in the order of their births, each once, and in each directory the
 -- names in the order of their bytes, each once. The root is a directory. Each name has at most 14 bytes and leads
@@ -80,8 +80,8 @@ pub record IsRooted (tree : List (ℕ × Node)) : Type 0 where
   pub in_order : IsStrictlySortedBy nat_cmp (keys_of tree)
   pub names_in_order : (birth : ℕ) (d : Directory) → at_number tree birth ≡ Some (nodes.Directory d) → IsStrictlySortedBy name_cmp (keys_of d.names)
   pub root : (d : Directory) × (at_number tree 0 ≡ Some (nodes.Directory d))
-  pub short : (parent : ℕ) (name : List ℕ) (birth : ℕ) → Gives tree parent name birth → length name ≤ 14
-  pub leads : (parent : ℕ) (name : List ℕ) (birth : ℕ) → Gives tree parent name birth → (node : Node) × (at_number tree birth ≡ Some node)
-  pub no_root : (parent : ℕ) (name : List ℕ) (birth : ℕ) → Gives tree parent name birth → birth ≢ 0
-  pub one_name : (parent other : ℕ) (name more : List ℕ) (birth : ℕ) (d : Directory) → Gives tree parent name birth → Gives tree other more birth → at_number tree birth ≡ Some (nodes.Directory d) → (parent ≡ other) × (name ≡ more)
+  pub short : (parent : ℕ) (name : List ℕ) (birth : ℕ) → HasEntry tree parent name birth → length name ≤ 14
+  pub leads : (parent : ℕ) (name : List ℕ) (birth : ℕ) → HasEntry tree parent name birth → (node : Node) × (at_number tree birth ≡ Some node)
+  pub no_root : (parent : ℕ) (name : List ℕ) (birth : ℕ) → HasEntry tree parent name birth → birth ≢ 0
+  pub one_name : (parent other : ℕ) (name more : List ℕ) (birth : ℕ) (d : Directory) → HasEntry tree parent name birth → HasEntry tree other more birth → at_number tree birth ≡ Some (nodes.Directory d) → (parent ≡ other) × (name ≡ more)
   pub led_to : (birth : ℕ) (node : Node) → at_number tree birth ≡ Some node → IsLedTo tree birth

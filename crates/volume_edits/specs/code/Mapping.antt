@@ -14,6 +14,6 @@ slot_step g s k z body =
 
 -- an entry of a zone of numbers
 unfoldable pub entry_step : Geometry → OpenInode → ℕ → ℕ → ℕ → List ℕ → OpenInode
-entry_step g s holder k z body =
-    if nat_eq (entry_behind (entry_of s.blocks) holder k) 0 then record { blocks = edited g (edited g s.blocks (put_body z body)) (put_entry holder k z); inode = s.inode }
+entry_step g s pointer_block k z body =
+    if nat_eq (entry_behind (entry_of s.blocks) pointer_block k) 0 then record { blocks = edited g (edited g s.blocks (put_body z body)) (put_entry pointer_block k z); inode = s.inode }
     else s

@@ -61,10 +61,10 @@ slot_at (slot k) = k
 slot_at (entry h k) = 0
 slot_at nowhere = 0
 
-abbrev pub holder_at : Home → Place
-holder_at (entry h k) = h
-holder_at (slot k) = block 0
-holder_at nowhere = block 0
+abbrev pub pointer_block_at : Home → Place
+pointer_block_at (entry h k) = h
+pointer_block_at (slot k) = block 0
+pointer_block_at nowhere = block 0
 
 abbrev pub is_block : Place → Bool
 is_block (block i) = true
@@ -111,8 +111,8 @@ pub no_child : (y : Place) (i k : ℕ) → home y ≢ entry (block i) k
 no_child (block index) i k at =
     elim (range index) [
       | direct low ↦ true≢false (ap is_slot (sym (home-direct index low) ∙ at))
-      | single low high ↦ true≢false (sym (ap (λ e. is_block (holder_at e)) (sym (home-single index low high) ∙ at)))
-      | twice low high ↦ true≢false (sym (ap (λ e. is_block (holder_at e)) (sym (home-twice index low high) ∙ at)))
+      | single low high ↦ true≢false (sym (ap (λ e. is_block (pointer_block_at e)) (sym (home-single index low high) ∙ at)))
+      | twice low high ↦ true≢false (sym (ap (λ e. is_block (pointer_block_at e)) (sym (home-twice index low high) ∙ at)))
       | past low ↦ slots_apart (sym (home-past index low) ∙ at)
     ]
   where
@@ -122,7 +122,7 @@ no_child indirect i k at = true≢false (ap is_slot at)
 no_child double i k at = true≢false (ap is_slot at)
 no_child (inner n) i k at =
     elim (cases_Bool (nat_lt n 512)) [
-      | inl t ↦ true≢false (sym (ap (λ e. is_block (holder_at e)) (sym (home-inner n (ltb-true _ _ t)) ∙ at)))
+      | inl t ↦ true≢false (sym (ap (λ e. is_block (pointer_block_at e)) (sym (home-inner n (ltb-true _ _ t)) ∙ at)))
       | inr f ↦ other (sym (home-inner_past n (ltb-false _ _ f)) ∙ at)
     ]
   where
@@ -187,7 +187,7 @@ module _ (g : Geometry) (s : OpenInode) (x : Place) (z : ℕ) (body : List ℕ) 
     slot_other = λ j no. refl;
     entry_here = λ r j at.
         let e : entry r j ≡ entry h k = sym at ∙ is in
-        let up : own_of s r ≡ own_of s h = ap (λ e. own_of s (holder_at e)) e in
+        let up : own_of s r ≡ own_of s h = ap (λ e. own_of s (pointer_block_at e)) e in
         let same : j ≡ k = ap entry_at e in
         ap (λ b. zone_number (disk_of (edited g one (put_entry (own_of s h) k z)) b) j) up
         ∙ (ap (zone_number (disk_of (edited g one (put_entry (own_of s h) k z)) (own_of s h))) same
@@ -441,7 +441,7 @@ module _ (g : Geometry) (sound : IsSound g) (t : TakenZones) (content : List ℕ
   pub next_reached : (u : OpenInode) (x y : Place) (k : ℕ) → home y ≡ entry x k → own_of u x ≢ 0 → IsReached (own_of u) y
   next_reached u x y k at some = record {
     placed = λ no. cc (sym at ∙ no);
-    there = λ h j is none. some (ap (λ e. own_of u (holder_at e)) (sym at ∙ is) ∙ none);
+    there = λ h j is none. some (ap (λ e. own_of u (pointer_block_at e)) (sym at ∙ is) ∙ none);
   }
 
   pub all_steps : (s : OpenInode) (x : Place) (xs : List Place) → IsFit g s → IsFresh g (own_of s) t (x ∷ xs) → IsReached (own_of s) x → IsChain x xs → Outcome g t s (get_steps g t content s (x ∷ xs)) (x ∷ xs)

@@ -49,17 +49,17 @@ behind_same e f zone k same = elim (cases_Bool (nat_eq zone 0)) [ inl t ↦ rw t
 
 module _ (blocks : List (List ℕ)) (i : Inode) (k z : ℕ) (whole : (b : ℕ) → length (disk_of blocks b) ≡ 1024) (some : slice_index i.zones 7 ≢ 0) (within : slice_index i.zones 7 < length blocks) (low : k < 512) (fits : z < 256 ^ 2)
     (apart : (x y : Place) → zone_in blocks i x ≡ zone_in blocks i y → zone_in blocks i x ≢ 0 → x ≡ y) where
-  abbrev holder : ℕ
-  holder = slice_index i.zones 7
+  abbrev pointer_block : ℕ
+  pointer_block = slice_index i.zones 7
 
   abbrev after : List (List ℕ)
-  after = slice_set blocks holder (with_number (disk_of blocks holder) k z)
+  after = slice_set blocks pointer_block (with_number (disk_of blocks pointer_block) k z)
 
-  at_holder : disk_of after holder ≡ with_number (disk_of blocks holder) k z
-  at_holder = get_or-set_same blocks holder _ _ within
+  at_pointer_block : disk_of after pointer_block ≡ with_number (disk_of blocks pointer_block) k z
+  at_pointer_block = get_or-set_same blocks pointer_block _ _ within
 
-  elsewhere : (b : ℕ) → b ≢ holder → disk_of after b ≡ disk_of blocks b
-  elsewhere b differ = get_or-set_other blocks holder b _ _ differ
+  elsewhere : (b : ℕ) → b ≢ pointer_block → disk_of after b ≡ disk_of blocks b
+  elsewhere b differ = get_or-set_other blocks pointer_block b _ _ differ
 
   abbrev e : ℕ → ℕ → ℕ
   e zone at = zone_number (disk_of blocks zone) at
@@ -71,28 +71,28 @@ module _ (blocks : List (List ℕ)) (i : Inode) (k z : ℕ) (whole : (b : ℕ) �
   is_indirect indirect = true
   is_indirect x = false
 
-  not_holder : (x : Place) → is_indirect x ≡ false → zone_in blocks i x ≢ 0 → zone_in blocks i x ≢ holder
-  not_holder x other there same = true≢false (sym (ap is_indirect (apart x indirect same there)) ∙ other)
+  not_pointer_block : (x : Place) → is_indirect x ≡ false → zone_in blocks i x ≢ 0 → zone_in blocks i x ≢ pointer_block
+  not_pointer_block x other there same = true≢false (sym (ap is_indirect (apart x indirect same there)) ∙ other)
 
   outer : (n : ℕ) → entry_behind f (slice_index i.zones 8) n ≡ entry_behind e (slice_index i.zones 8) n
-  outer n = behind_same e f (slice_index i.zones 8) n (λ there. ap (λ body. zone_number body n) (elsewhere (slice_index i.zones 8) (not_holder double refl there)))
+  outer n = behind_same e f (slice_index i.zones 8) n (λ there. ap (λ body. zone_number body n) (elsewhere (slice_index i.zones 8) (not_pointer_block double refl there)))
 
   two_levels : (n j : ℕ) → entry_behind f (entry_behind f (slice_index i.zones 8) n) j ≡ entry_behind e (entry_behind e (slice_index i.zones 8) n) j
   two_levels n j =
       ap (λ zone. entry_behind f zone j) (outer n)
-      ∙ behind_same e f (entry_behind e (slice_index i.zones 8) n) j (λ there. ap (λ body. zone_number body j) (elsewhere (entry_behind e (slice_index i.zones 8) n) (not_holder (inner n) refl there)))
+      ∙ behind_same e f (entry_behind e (slice_index i.zones 8) n) j (λ there. ap (λ body. zone_number body j) (elsewhere (entry_behind e (slice_index i.zones 8) n) (not_pointer_block (inner n) refl there)))
 
   -- the block that is mapped
   pub mapped_here : zone_in after i (block (7 + k)) ≡ z
-  mapped_here = zone_at-indirect f i.zones k some low ∙ ap (λ body. zone_number body k) at_holder ∙ number_here (disk_of blocks holder) k z (whole holder) low fits
+  mapped_here = zone_at-indirect f i.zones k some low ∙ ap (λ body. zone_number body k) at_pointer_block ∙ number_here (disk_of blocks pointer_block) k z (whole pointer_block) low fits
 
   -- all other places
   pub mapped_others : (x : Place) → x ≢ block (7 + k) → zone_in after i x ≡ zone_in blocks i x
   mapped_others (block index) differ =
       zone_at-same e f i.zones index
-      (λ from to. behind_same e f holder (index - 7) (λ there.
-      ap (λ body. zone_number body (index - 7)) at_holder
-      ∙ number_elsewhere (disk_of blocks holder) k (index - 7) z (whole holder) low (omega arith)
+      (λ from to. behind_same e f pointer_block (index - 7) (λ there.
+      ap (λ body. zone_number body (index - 7)) at_pointer_block
+      ∙ number_elsewhere (disk_of blocks pointer_block) k (index - 7) z (whole pointer_block) low (omega arith)
       (λ same. differ (ap block (let up : index ≡ 7 + k = omega arith in up)))))
       two_levels
   mapped_others indirect differ = refl

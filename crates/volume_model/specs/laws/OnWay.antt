@@ -12,7 +12,7 @@ use Rattle.volume_model.specs.Ways.{entry, nowhere, home, way, IsJust, OnWay}
 use Rattle.volume_model.specs.laws.Ways.{direct, single, twice, past, range, home-direct, home-single, home-twice, home-inner, own_behind}
 use Rattle.volume_model.specs.laws.Gets.{cases_place}
 use Rattle.volume_model.specs.MapBlock.{OpenInode, own_of, TakenZones, taken_at, map_block}
-use Rattle.volume_model.specs.laws.MapBlock.{Got, IsFit, IsFresh, Outcome, all_steps, holder_at, home-inner_past}
+use Rattle.volume_model.specs.laws.MapBlock.{Got, IsFit, IsFresh, Outcome, all_steps, pointer_block_at, home-inner_past}
 
 pub way-direct : (index : ℕ) → index < 7 → way index ≡ block index ∷ []
 way-direct index low = rw (lt-ltb index 7 low) refl
@@ -66,15 +66,15 @@ way_up (block i) h k index at on =
     let high = on.1 in
     elim (range index) [
       | direct low ↦ absurd (cc (sym (home-direct index low) ∙ (ap (λ i. home (block i)) (sym e) ∙ at)))
-      | single low up ↦ subst (λ h. OnWay h index) (ap holder_at (sym (home-single index low up) ∙ (ap (λ i. home (block i)) (sym e) ∙ at))) (low, up)
-      | twice low up ↦ subst (λ h. OnWay h index) (ap holder_at (sym (home-twice index low up) ∙ (ap (λ i. home (block i)) (sym e) ∙ at))) (low, up, refl)
+      | single low up ↦ subst (λ h. OnWay h index) (ap pointer_block_at (sym (home-single index low up) ∙ (ap (λ i. home (block i)) (sym e) ∙ at))) (low, up)
+      | twice low up ↦ subst (λ h. OnWay h index) (ap pointer_block_at (sym (home-twice index low up) ∙ (ap (λ i. home (block i)) (sym e) ∙ at))) (low, up, refl)
       | past low ↦ absurd (omega arith)
     ]
 way_up indirect h k index at on = absurd (cc at)
 way_up double h k index at on = absurd (cc at)
 way_up (inner j) h k index at on =
     elim (cases_Bool (nat_lt j 512)) [
-      | inl t ↦ subst (λ h. OnWay h index) (ap holder_at (sym (home-inner j (ltb-true _ _ t)) ∙ at)) (on.0, on.1)
+      | inl t ↦ subst (λ h. OnWay h index) (ap pointer_block_at (sym (home-inner j (ltb-true _ _ t)) ∙ at)) (on.0, on.1)
       | inr f ↦ absurd (cc (sym (home-inner_past j (ltb-false _ _ f)) ∙ at))
     ]
 

@@ -68,6 +68,6 @@ pub record IsSteady (tx : ℕ) (v : VolumeNow) (c : Change) (Writes : ℕ → �
   pub marks : KeepsMarks v.geometry v.contents c.volume.contents v.zones c.volume.zones
   pub freed : (zone : ℕ) → In zone c.touched.freed → state_of c.volume.zones zone ≡ Some (states.Quarantined tx)
   pub was_used : (zone : ℕ) → In zone c.touched.freed → state_of v.zones zone ≡ Some states.Used
-  pub waits_on : (zone holder : ℕ) → state_of v.zones zone ≡ Some (states.Quarantined holder) → state_of c.volume.zones zone ≡ Some (states.Quarantined holder)
-  pub waited : (zone holder : ℕ) → (In zone c.touched.freed → ⊥) → state_of c.volume.zones zone ≡ Some (states.Quarantined holder) →
-      state_of v.zones zone ≡ Some (states.Quarantined holder)
+  pub waits_on : (zone freed_by : ℕ) → state_of v.zones zone ≡ Some (states.Quarantined freed_by) → state_of c.volume.zones zone ≡ Some (states.Quarantined freed_by)
+  pub waited : (zone freed_by : ℕ) → (In zone c.touched.freed → ⊥) → state_of c.volume.zones zone ≡ Some (states.Quarantined freed_by) →
+      state_of v.zones zone ≡ Some (states.Quarantined freed_by)

@@ -47,14 +47,14 @@ released_free tx (z ∷ zs) =
     let one = here z in
     omega arith
   where
-    by : (t : Bool) (holder : ℕ) → one_if (is_free (if t then states.Free else states.Quarantined holder)) ≡ 0 + one_if t
-    by true holder = refl
-    by false holder = refl
+    by : (t : Bool) (freed_by : ℕ) → one_if (is_free (if t then states.Free else states.Quarantined freed_by)) ≡ 0 + one_if t
+    by true freed_by = refl
+    by false freed_by = refl
 
     here : (z : ZoneState) → one_if (is_free (let_go tx z)) ≡ one_if (is_free z) + one_if (is_quarantined_for tx z)
     here states.Free = refl
     here states.Used = refl
-    here (states.Quarantined holder) = by (holder == tx) holder
+    here (states.Quarantined freed_by) = by (freed_by == tx) freed_by
 
 pub released_quarantined : (tx : ℕ) (zs : List ZoneState) → count_by is_quarantined (map (let_go tx) zs) + count_by (is_quarantined_for tx) zs ≡ count_by is_quarantined zs
 released_quarantined tx [] = refl
@@ -66,14 +66,14 @@ released_quarantined tx (z ∷ zs) =
     let one = here z in
     omega arith
   where
-    by : (t : Bool) (holder : ℕ) → one_if (is_quarantined (if t then states.Free else states.Quarantined holder)) + one_if t ≡ 1
-    by true holder = refl
-    by false holder = refl
+    by : (t : Bool) (freed_by : ℕ) → one_if (is_quarantined (if t then states.Free else states.Quarantined freed_by)) + one_if t ≡ 1
+    by true freed_by = refl
+    by false freed_by = refl
 
     here : (z : ZoneState) → one_if (is_quarantined (let_go tx z)) + one_if (is_quarantined_for tx z) ≡ one_if (is_quarantined z)
     here states.Free = refl
     here states.Used = refl
-    here (states.Quarantined holder) = by (holder == tx) holder
+    here (states.Quarantined freed_by) = by (freed_by == tx) freed_by
 
 pub taken_is : (m : Zones) (zone : ℕ) → lowest_free m ≡ Some zone → taken m ≡ with_state m zone states.Used
 taken_is m zone e = ap (λ (o : Option ℕ). elim o as (λ _. Zones) [ None ↦ m | Some zone ↦ with_state m zone states.Used ]) e

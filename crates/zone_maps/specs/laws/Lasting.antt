@@ -26,8 +26,8 @@ kept_by_take m zone z h busy = by (lowest_free m) refl
 go_kept : (tx : ℕ) (z : ZoneState) → (z ≡ states.Quarantined tx → ⊥) → let_go tx z ≡ z
 go_kept tx states.Free other = refl
 go_kept tx states.Used other = refl
-go_kept tx (states.Quarantined holder) other =
-    ap (λ t. if t then states.Free else states.Quarantined holder) (ne_eqb holder tx (λ e. other (ap states.Quarantined e)))
+go_kept tx (states.Quarantined freed_by) other =
+    ap (λ t. if t then states.Free else states.Quarantined freed_by) (ne_eqb freed_by tx (λ e. other (ap states.Quarantined e)))
 
 pub release_frees : (m : Zones) (zone tx : ℕ) → state_of m zone ≡ Some (states.Quarantined tx) → state_of (released m tx) zone ≡ Some states.Free
 release_frees m zone tx h =
@@ -46,9 +46,9 @@ pub used_lasts : (m : Zones) (events : List ZoneEvent) (zone : ℕ) → state_of
     → ((tx : ℕ) → In (give zone tx) events → ⊥) → state_of (after m events) zone ≡ Some states.Used
 used_lasts m [] zone h allowed none = h
 used_lasts m (take ∷ es) zone h allowed none = used_lasts (taken m) es zone (kept_by_take m zone states.Used h (λ e. cc)) allowed.1 (λ tx i. none tx (inr i))
-used_lasts m (give other holder ∷ es) zone h allowed none =
-    used_lasts (given m other holder) es zone
-    (state_elsewhere m other zone (states.Quarantined holder) states.Used allowed.0 (λ same. none holder (inl (ap (λ z. give z holder) (sym same)))) ∙ h)
+used_lasts m (give other freed_by ∷ es) zone h allowed none =
+    used_lasts (given m other freed_by) es zone
+    (state_elsewhere m other zone (states.Quarantined freed_by) states.Used allowed.0 (λ same. none freed_by (inl (ap (λ z. give z freed_by) (sym same)))) ∙ h)
     allowed.1 (λ tx i. none tx (inr i))
 used_lasts m (release tx ∷ es) zone h allowed none =
     used_lasts (released m tx) es zone (release_keeps m zone tx (λ e. used_waits tx (sym h ∙ e)) ∙ h) allowed.1 (λ t i. none t (inr i))
@@ -62,17 +62,17 @@ pub quarantine_lasts : (m : Zones) (events : List ZoneEvent) (zone tx : ℕ) →
 quarantine_lasts m [] zone tx h allowed none = h
 quarantine_lasts m (take ∷ es) zone tx h allowed none =
     quarantine_lasts (taken m) es zone tx (kept_by_take m zone (states.Quarantined tx) h (λ e. cc)) allowed.1 (λ i. none (inr i))
-quarantine_lasts m (give other holder ∷ es) zone tx h allowed none =
-    quarantine_lasts (given m other holder) es zone tx
-    (state_elsewhere m other zone (states.Quarantined holder) states.Used allowed.0 (λ same. waits_used (sym h ∙ ap (state_of m) same ∙ allowed.0)) ∙ h)
+quarantine_lasts m (give other freed_by ∷ es) zone tx h allowed none =
+    quarantine_lasts (given m other freed_by) es zone tx
+    (state_elsewhere m other zone (states.Quarantined freed_by) states.Used allowed.0 (λ same. waits_used (sym h ∙ ap (state_of m) same ∙ allowed.0)) ∙ h)
     allowed.1 (λ i. none (inr i))
   where
     waits_used : ◌≡◌ {A = Option ZoneState} (Some (states.Quarantined tx)) (Some states.Used) → ⊥
     waits_used e = cc
-quarantine_lasts m (release holder ∷ es) zone tx h allowed none =
-    quarantine_lasts (released m holder) es zone tx
-    (release_keeps m zone holder (λ e. none (inl (ap release (held_by holder (sym e ∙ h))))) ∙ h)
+quarantine_lasts m (release freed_by ∷ es) zone tx h allowed none =
+    quarantine_lasts (released m freed_by) es zone tx
+    (release_keeps m zone freed_by (λ e. none (inl (ap release (held_by freed_by (sym e ∙ h))))) ∙ h)
     allowed.1 (λ i. none (inr i))
   where
-    held_by : (holder : ℕ) → ◌≡◌ {A = Option ZoneState} (Some (states.Quarantined holder)) (Some (states.Quarantined tx)) → holder ≡ tx
-    held_by holder e = cc
+    held_by : (freed_by : ℕ) → ◌≡◌ {A = Option ZoneState} (Some (states.Quarantined freed_by)) (Some (states.Quarantined tx)) → freed_by ≡ tx
+    held_by freed_by e = cc

@@ -22,4 +22,4 @@ invariant-loop-dev g l =
     }
 
 abbrev pub decreases-loop-dev : goal.decreases-loop-dev
-decreases-loop-dev g l = g.D.OrderedDev.left (g.D.OrderedDev.state l.dev)
+decreases-loop-dev g l = g.D.OrderedDev.work_left (g.D.OrderedDev.state l.dev)

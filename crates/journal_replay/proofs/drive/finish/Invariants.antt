@@ -40,4 +40,4 @@ invariant-loop-dev-2 g l =
     }
 
 abbrev pub decreases-loop-dev-2 : goal.decreases-loop-dev-2
-decreases-loop-dev-2 g l = g.D.OrderedDev.left (g.D.OrderedDev.state l.dev)
+decreases-loop-dev-2 g l = g.D.OrderedDev.work_left (g.D.OrderedDev.state l.dev)

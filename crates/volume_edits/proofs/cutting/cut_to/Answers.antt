@@ -21,7 +21,7 @@ pub returns-then-from-lt262663 : goal.returns-then-from-lt262663
 returns-then-from-lt262663 c =
     let s : OpenInode = record { blocks = c.args.blocks.now; inode = c.args.inode.now } in
     cut_twice_by c.args.g.now (keeps_listed c.args.zones.now c.args.from) s c.args.from c.zones_left-left.result
-    c.clear_step-then-from-lt262663.new.blocks c.clear_step-then-from-lt262663-2.new.blocks c.keeps_inner-group.result c.keeps_double.result c.zone-outer.result c.zone_entry-holder.result c.end_of.result
+    c.clear_step-then-from-lt262663.new.blocks c.clear_step-then-from-lt262663-2.new.blocks c.keeps_inner-group.result c.keeps_double.result c.zone-outer.result c.zone_entry-pointer_block.result c.end_of.result
     c.zones_left-left.ensures (search rules) (search rules) (search rules) c.keeps_double.ensures c.zone-outer.ensures (search rules) c.end_of.ensures.value (search rules) c.clear_step-then-from-lt262663-2.ensures
     ∙ below c.args.g.now c.args.zones.now c.args.from s
 

@@ -15,7 +15,7 @@ pub returns-then-index-lt262663 : goal.returns-then-index-lt262663
 returns-then-index-lt262663 c =
     let u : OpenInode = record { blocks = c.fill_slot-then-index-lt262663.new.blocks; inode = c.fill_slot-then-index-lt262663.new.inode } in
     let w : OpenInode = record { blocks = c.fill_entry-then-index-lt262663.new.blocks; inode = c.fill_slot-then-index-lt262663.new.inode } in
-    map_twice_by _ _ _ _ u w _ c.args.index c.fill-none.result c.zone-then-index-lt262663.result c.zone-then-index-lt262663-2.result c.zone_entry-holder.result (search rules) (search rules) (search rules) (search rules) (search rules) (search rules) (search rules) (search rules) (search rules)
+    map_twice_by _ _ _ _ u w _ c.args.index c.fill-none.result c.zone-then-index-lt262663.result c.zone-then-index-lt262663-2.result c.zone_entry-pointer_block.result (search rules) (search rules) (search rules) (search rules) (search rules) (search rules) (search rules) (search rules) (search rules)
 
 pub returns-else-index-lt262663 : goal.returns-else-index-lt262663
 returns-else-index-lt262663 c = map_past _ _ _ _ _ (search rules)

@@ -6,5 +6,5 @@ use Rattle.volume_ops.proofs.zones.take_indirects.Given as goal
 
 abbrev pub invariant-loop-k : goal.invariant-loop-k
 invariant-loop-k l =
-    answer (disk_of l.disk) (take_indirects l.g l.holder (l.index + 512 * l.k) (drop l.k l.numbers) (record { met = l.met; mapped = l.mapped }))
-    ≡ answer (disk_of l.disk) (take_indirects l.g l.holder l.index l.numbers (record { met = l.fn.met; mapped = l.fn.mapped }))
+    answer (disk_of l.disk) (take_indirects l.g l.pointer_block (l.index + 512 * l.k) (drop l.k l.numbers) (record { met = l.met; mapped = l.mapped }))
+    ≡ answer (disk_of l.disk) (take_indirects l.g l.pointer_block l.index l.numbers (record { met = l.fn.met; mapped = l.fn.mapped }))
