@@ -4,6 +4,8 @@ pub mod Medium
 pub mod Merging
 pub mod Next
 pub mod Received
+pub mod KeptRows
+pub mod Rows
 mod Walks
 pub mod OriginIds
 pub mod Single

@@ -10,4 +10,5 @@ pub mod Received
 pub mod Single
 pub mod Steps
 pub mod Submission
+pub mod code
 pub mod laws

@@ -1,9 +1,13 @@
 //! Lists that only grow, of what was taken, transferred, completed and accepted.
 ghost use Rattle.std.specs.Prelude.{◌≡◌, ℕ, ◌+◌, ◌≤◌, ◌<◌, List, [], ◌∷◌, ◌++◌, length, IfOk, slice_get, Some, vec_capacity, vec_len, ◌==◌};
-ghost use Rattle.order_model.specs.Received.{all_parts, first_part};
+ghost use Rattle.std.specs.Option.{option_map};
+ghost use Rattle.order_model.specs.Received.{all_parts, part_at, first_part};
+ghost use Rattle.order_model.specs.code.Bodies.{IsThere};
+ghost use Rattle.order_model.specs.code.Rows.{part_of, parts_kept, AreThere};
 
+use crate::bodies::{KeptBody, body, keep};
 use crate::{Command, Completion, Part, Priority};
-use blk_base::NoMemory;
+use blk_base::{Block, NoMemory};
 use std::alloc::Global;
 use std::marker::Model;
 
@@ -67,25 +71,48 @@ pub type Transfers = History<Transfer>;
 
 pub type Completions = History<Completion>;
 
-/// The commands that a device took, in order: one list of their parts, and one of their ends and flags.
+// A part, with its body as it is kept.
+#[derive(Clone, Copy, PartialEq, Eq, Debug)]
+pub(crate) struct PartRow {
+    pub(crate) id: u64,
+    pub(crate) block: u32,
+    pub(crate) body: KeptBody,
+}
+
+impl PartRow {
+    // The part of a row, whose body is there.
+    fn part(&self, stored: &[Block]) -> Part
+        requires { IsThere (length stored.now) self.now.body }
+        ensures { result ≡ part_of stored.now self.now }
+    {
+        Part {
+            id: self.id,
+            block: self.block,
+            body: body(stored, self.body),
+        }
+    }
+}
+
+/// The commands that a device took, in order: one list of their parts, one of the bodies that are not full of one
+/// byte, and one of their ends and flags.
 #[derive(Drop)]
 pub struct Commands {
-    parts: Vec<Part>,
+    rows: Vec<PartRow>,
+    stored: Vec<Block>,
     ends: Vec<CommandEnd>,
     room: usize,
 }
 
 impl Model for Commands {
-    ghost use Rattle.std.specs.Prelude.{◌≤◌, vec_len};
-    ghost use Rattle.std.specs.Vec.{vec_capacity};
     ghost use Rattle.order_model.specs.declared.command.Command.{Command};
-    ghost use Rattle.order_model.specs.History.{HistoryState, commands_of, EndAt};
+    ghost use Rattle.order_model.specs.History.{HistoryState};
+    ghost use Rattle.order_model.specs.code.Rows.{commands_kept, AreCommands};
 
     ghost Value = { HistoryState Command };
 
-    ghost view = { λ c. record { items = commands_of 0 c.ends.items c.parts.items; room = c.room } };
+    ghost view = { commands_kept };
 
-    ghost invariant = { λ c. (vec_len c.parts ≤ c.room) × (c.room ≤ vec_capacity c.parts) × (vec_len c.ends ≤ c.room) × (c.room ≤ vec_capacity c.ends) × EndAt 0 c.ends.items (vec_len c.parts) };
+    ghost invariant = { AreCommands };
 }
 
 impl Commands {
@@ -94,7 +121,8 @@ impl Commands {
         ensures { IfOk result (λ c. c ≡ record { items = []; room = room }) }
     {
         Ok(Commands {
-            parts: Vec::with_capacity(alloc, room)?,
+            rows: Vec::with_capacity(alloc, room)?,
+            stored: Vec::with_capacity(alloc, room)?,
             ends: Vec::with_capacity(alloc, room)?,
             room,
         })
@@ -113,11 +141,27 @@ impl Commands {
         self.ends.is_empty()
     }
 
-    /// The parts of all commands, in order.
-    pub fn parts(&self) -> &[Part]
-        ensures { result.now ≡ all_parts self.now.items }
+    /// How many parts all commands have together.
+    pub fn count_parts(&self) -> usize
+        ensures { result ≡ length (all_parts self.now.items) }
     {
-        &self.parts
+        self.rows.len()
+    }
+
+    /// The part at this place among those of all commands, in order.
+    pub fn part(&self, place: usize) -> Option<Part>
+        ensures { result ≡ part_at self.now.items place }
+    {
+        let row = self.rows.get(place)?;
+        Some(row.part(&self.stored))
+    }
+
+    /// The id of the part at this place.
+    pub fn part_id(&self, place: usize) -> Option<u64>
+        ensures { result ≡ option_map (λ (p : Part). p.id) (part_at self.now.items place) }
+    {
+        let row = self.rows.get(place)?;
+        Some(row.id)
     }
 
     /// How many parts stand before those of command `k`.
@@ -128,15 +172,15 @@ impl Commands {
         if k == 0 { 0 } else { self.ends[k - 1].end }
     }
 
-    /// Appends a command. Its parts are copied.
+    /// Appends a command. Its parts are copied, but for the bodies that are full of one byte.
     pub fn push(&mut self, c: &Command)
         requires commands { length self.old.items < self.old.room }
         requires parts { length (all_parts self.old.items) + length c.now.parts ≤ self.old.room }
         ensures { self.new ≡ record { items = self.old.items ++ c.now ∷ []; room = self.old.room } }
     {
-        append_parts(&mut self.parts, c.parts.as_slice());
+        append_parts(&mut self.rows, &mut self.stored, c.parts.as_slice());
         self.ends.push_reserved(CommandEnd {
-            end: self.parts.len(),
+            end: self.rows.len(),
             priority: c.priority,
             barrier: c.barrier,
             flush: c.flush,
@@ -145,14 +189,24 @@ impl Commands {
 }
 
 // Copies the parts behind those that are there.
-fn append_parts(all: &mut Vec<Part>, parts: &[Part])
-    requires { vec_len all.old + length parts.now ≤ vec_capacity all.old }
-    ensures items { all.new.items ≡ all.old.items ++ parts.now }
-    ensures len { vec_len all.new ≡ vec_len all.old + length parts.now }
-    ensures capacity { vec_capacity all.new ≡ vec_capacity all.old }
+fn append_parts(rows: &mut Vec<PartRow>, stored: &mut Vec<Block>, parts: &[Part])
+    requires rows { vec_len rows.old + length parts.now ≤ vec_capacity rows.old }
+    requires bodies { vec_len stored.old + length parts.now ≤ vec_capacity stored.old }
+    requires there { AreThere (length stored.old.items) rows.old.items }
+    ensures items { parts_kept stored.new.items rows.new.items ≡ parts_kept stored.old.items rows.old.items ++ parts.now }
+    ensures there { AreThere (length stored.new.items) rows.new.items }
+    ensures len { vec_len rows.new ≡ vec_len rows.old + length parts.now }
+    ensures few { vec_len stored.new ≤ vec_len stored.old + length parts.now }
+    ensures capacity { vec_capacity rows.new ≡ vec_capacity rows.old }
+    ensures bodies { vec_capacity stored.new ≡ vec_capacity stored.old }
 {
     for part in parts {
-        all.push_reserved(part.copy());
+        let body = keep(stored, &part.body);
+        rows.push_reserved(PartRow {
+            id: part.id,
+            block: part.block,
+            body,
+        });
     }
 }
 

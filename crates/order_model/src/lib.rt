@@ -6,6 +6,7 @@
 //! a device shows and its laws. The public item that matters most is the trait `OrderedDev`.
 #![tactic(auto)]
 
+mod bodies;
 mod command;
 mod completion;
 mod cut_disk;
@@ -18,6 +19,7 @@ mod note;
 mod order_law;
 mod part;
 mod request;
+mod requests;
 mod sched_record;
 mod trail;
 mod turn;
@@ -36,6 +38,7 @@ pub use order_law::{
 };
 pub use part::{Part, Parts};
 pub use request::{Kind, Request};
+pub use requests::Requests;
 pub use sched_record::SchedRecord;
 pub use trail::Trail;
 pub use turn::Turn;

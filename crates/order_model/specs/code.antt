@@ -1,0 +1,3 @@
+-- What the code sees of its own fields.
+pub mod Bodies
+pub mod Rows
