@@ -75,10 +75,21 @@ impl Scheduler for Sched {
     }
 
     fn dispatch(&mut self, pick: u32) -> Option<Command> {
-        let (r, flagged) = self.queue.leave(pick)?;
-        let command = Command::of_request(r, flagged);
-        self.trace.sent_out.push(&command);
-        Some(command)
+        let mut command = Command::blank();
+        if self.dispatch_into(pick, &mut command) {
+            Some(command)
+        } else {
+            None
+        }
+    }
+
+    fn dispatch_into(&mut self, pick: u32, into: &mut Command) -> bool {
+        let Some((r, flagged)) = self.queue.leave(pick) else {
+            return false;
+        };
+        into.carry(r, flagged);
+        self.trace.sent_out.push(into);
+        true
     }
 
     fn trace(&self) -> &SchedRecord {
