@@ -1,6 +1,7 @@
 -- The fields of an elevator when it is made, and after an acceptance and a dispatch.
-use Rattle.std.proofs.Common.{◌≡◌, ℕ, ◌+◌, ◌<◌, ◌≤◌, ◌++◌, Bool, true, List, [], ◌∷◌, length, Option, Some, None, slice_get, refl, ap, ap₂, sym, subst, ◌∙◌, arith}
+use Rattle.std.proofs.Common.{◌≡◌, ℕ, ◌+◌, ◌<◌, ◌≤◌, ◌++◌, Bool, true, false, List, [], ◌∷◌, length, Option, Some, None, slice_get, if◌then◌else◌, refl, ap, ap₂, sym, subst, ◌∙◌, arith}
 use Rattle.std.specs.Option.{option_map, option_map_or}
+use Rattle.std.proofs.lemmas.Bool.{false≢true}
 use Rattle.std.proofs.lemmas.List.{length_push, length-append}
 use Rattle.std.proofs.lemmas.Option.{none-some, same_Some, some_pair_parts}
 use Rattle.order_model.specs.declared.command.Command.{Command}
@@ -122,12 +123,18 @@ pub record IsSent (s : Inside) (pick : ℕ) (command : Command) (queue : EpochSt
   pub command_is : command ≡ (leaving_with s.queue waiting).command
   pub queue_is : queue ≡ (leaving_with s.queue waiting).queue
 
-pub sent_is : (s : Inside) (pick at : ℕ) (command : Command) (queue : EpochState) → IsListedAt s.queue.waiting s.head pick at → Some command ≡ option_map (λ w. (leaving_with s.queue w).command) (slice_get s.queue.waiting at)
+-- something left
+came : (sent : Bool) (command : Command) (o : Option Command) → o ≡ (if sent then Some command else None) → sent ≡ true → Some command ≡ o
+came true command o e t = sym e
+came false command o e t = absurd (false≢true t)
+
+pub sent_is : (s : Inside) (pick at : ℕ) (sent : Bool) (command : Command) (queue : EpochState) → IsListedAt s.queue.waiting s.head pick at → sent ≡ true
+    → option_map (λ w. (leaving_with s.queue w).command) (slice_get s.queue.waiting at) ≡ (if sent then Some command else None)
     → queue ≡ option_map_or (λ w. (leaving_with s.queue w).queue) (slice_get s.queue.waiting at) s.queue → IsSent s pick command queue
-sent_is s pick at command queue found c q = record {
+sent_is s pick at sent command queue found t c q = record {
   waiting = found.waiting;
   picked_at = found.listed_at;
-  command_is = same_Some command (leaving_with s.queue found.waiting).command (c ∙ ap (option_map (λ w. (leaving_with s.queue w).command)) found.there);
+  command_is = same_Some command (leaving_with s.queue found.waiting).command (came sent command _ c t ∙ ap (option_map (λ w. (leaving_with s.queue w).command)) found.there);
   queue_is = q ∙ ap (λ o. option_map_or (λ w. (leaving_with s.queue w).queue) o s.queue) found.there;
 }
 

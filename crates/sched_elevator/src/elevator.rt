@@ -83,11 +83,24 @@ impl Scheduler for Elevator {
     }
 
     fn dispatch(&mut self, pick: u32) -> Option<Command> {
-        let at = find_listed(&self.queue, self.head, pick)?;
-        let command = take_together(&mut self.queue, at)?;
-        self.head = head_after(self.head, &command.parts);
-        self.trace.sent_out.push(&command);
-        Some(command)
+        let mut command = Command::blank();
+        if self.dispatch_into(pick, &mut command) {
+            Some(command)
+        } else {
+            None
+        }
+    }
+
+    fn dispatch_into(&mut self, pick: u32, into: &mut Command) -> bool {
+        let Some(at) = find_listed(&self.queue, self.head, pick) else {
+            return false;
+        };
+        if !take_together(&mut self.queue, at, into) {
+            return false;
+        }
+        self.head = head_after(self.head, &into.parts);
+        self.trace.sent_out.push(into);
+        true
     }
 
     fn trace(&self) -> &SchedRecord {

@@ -1,5 +1,5 @@
 //! Requests that leave in one command.
-ghost use Rattle.std.specs.Prelude.{◌≡◌, ℕ, ◌+◌, ◌<◌, ◌≤◌, ◌^◌, true, length, Some, None, IsTrue, slice_get};
+ghost use Rattle.std.specs.Prelude.{◌≡◌, ℕ, ◌+◌, ◌<◌, ◌≤◌, ◌^◌, true, false, length, Some, None, slice_get, if◌then◌else◌};
 ghost use Rattle.std.specs.Option.{option_map, option_map_or};
 ghost use Rattle.order_model.specs.Parts.{block_follows};
 ghost use Rattle.order_model.specs.Submission.{kind_block};
@@ -59,21 +59,25 @@ fn block_behind(kind: &Kind) -> Option<u64>
     }
 }
 
-// The request at this place of those that wait leaves, with those that its command takes along.
-pub fn take_together(queue: &mut EpochQueue, at: usize) -> Option<Command>
+// The request at this place of those that wait leaves, with those that its command takes along. The command
+// is written where it stands.
+pub fn take_together(queue: &mut EpochQueue, at: usize, into: &mut Command) -> bool
     requires may { (w : Waiting) → slice_get queue.old.waiting at ≡ Some w → may_leave queue.old.waiting w ≡ true }
     requires rising { IsRising queue.old.waiting }
-    ensures command { result ≡ option_map (λ w. (leaving_with queue.old w).command) (slice_get queue.old.waiting at) }
+    ensures command { option_map (λ w. (leaving_with queue.old w).command) (slice_get queue.old.waiting at) ≡ (if result then Some into.new else None) }
+    ensures kept { result ≡ false → into.new ≡ into.old }
     ensures state { queue.new ≡ option_map_or (λ w. (leaving_with queue.old w).queue) (slice_get queue.old.waiting at) queue.old }
 {
-    let (request, flagged) = queue.leave_at(at)?;
-    let ordered = request.ordered;
-    let next = block_behind(&request.kind);
-    let mut command = Command::of_request(request, flagged);
+    let Some((first, flagged)) = queue.leave_at(at) else {
+        return false;
+    };
+    let ordered = first.ordered;
+    let next = block_behind(&first.kind);
+    into.carry(first, flagged);
     if let Some(block) = next {
-        gather(queue, &mut command, ordered, block);
+        gather(queue, into, ordered, block);
     }
-    Some(command)
+    true
 }
 
 // The block behind the last part. A flush, which has none, leaves the head where it is.
