@@ -59,11 +59,6 @@ leaving-some q (Some w) r flagged e =
     let p = some_pair_parts w.request r (leaves_flagged q w) flagged (sym e) in
     (w, refl, p.0, p.1)
 
--- where a request left, another one does not stay
-pub leaving-found : (q : EpochState) (o : Option Waiting) (w : Waiting) → o ≡ Some w → None ≡ leaving q o → ⊥
-leaving-found q None w e none = absurd (none-some w e)
-leaving-found q (Some v) w e none = absurd (none-some (v.request, leaves_flagged q v) none)
-
 pub record LeavesTogether (q : EpochState) (o : Option Waiting) (g : Gathering) : Type 0 where
   pub waiting : Waiting
   pub there : o ≡ Some waiting
@@ -72,10 +67,6 @@ pub record LeavesTogether (q : EpochState) (o : Option Waiting) (g : Gathering) 
 put_behind : (q : EpochState) (w : Waiting) (k : Kind) (block : ℕ) → Some block ≡ option_map (λ b. b + 1) (kind_block k) → gathered 15 w.request.ordered block (alone q w) ≡ leaving_as q w k
 put_behind q w (Put b body) block e = ap (λ n. gathered 15 w.request.ordered n (alone q w)) (same_Some block (b + 1) e)
 put_behind q w Flush block e = absurd (none-some block (sym e))
-
-flush_alone : (q : EpochState) (w : Waiting) (k : Kind) → None ≡ option_map (λ b. b + 1) (kind_block k) → alone q w ≡ leaving_as q w k
-flush_alone q w (Put b body) e = absurd (none-some (b + 1) e)
-flush_alone q w Flush e = refl
 
 alone_is : (q : EpochState) (o : Option Waiting) (w : Waiting) (r : Request) (flagged : Bool) (queue : EpochState) (command : Command) → o ≡ Some w → w.request ≡ r → leaves_flagged q w ≡ flagged → queue ≡ departed q o → command ≡ command_of_request r flagged
     → record { queue = queue; command = command } ≡ alone q w
@@ -97,22 +88,8 @@ put_together q o r flagged block queue command g given state made next all =
       all = all ∙ ap₂ (λ (s : Request) (h : Gathering). gathered 15 s.ordered block h) (sym l.2) first ∙ behind;
     }
 
-pub flush_together : (q : EpochState) (o : Option Waiting) (r : Request) (flagged : Bool) (queue : EpochState) (command : Command) → Some (r, flagged) ≡ leaving q o → queue ≡ departed q o → command ≡ command_of_request r flagged
-    → None ≡ option_map (λ b. b + 1) (kind_block r.kind) → LeavesTogether q o (record { queue = queue; command = command })
-flush_together q o r flagged queue command given state made next =
-    let l = leaving-some q o r flagged given in
-    let w = l.0 in
-    record {
-      waiting = w;
-      there = l.1;
-      all = alone_is q o w r flagged queue command l.1 l.2 l.3 state made ∙ flush_alone q w w.request.kind (next ∙ ap (λ (s : Request). option_map (λ b. b + 1) (kind_block s.kind)) (sym l.2));
-    }
-
 pub together_command : (q : EpochState) (o : Option Waiting) (g : Gathering) → LeavesTogether q o g → Some g.command ≡ option_map (λ w. (leaving_with q w).command) o
 together_command q o g l = ap (λ (h : Gathering). Some h.command) l.all ∙ ap (option_map (λ w. (leaving_with q w).command)) (sym l.there)
-
-pub together_queue : (q : EpochState) (o : Option Waiting) (g : Gathering) → LeavesTogether q o g → g.queue ≡ option_map_or (λ w. (leaving_with q w).queue) o q
-together_queue q o g l = ap (λ (h : Gathering). h.queue) l.all ∙ ap (λ p. option_map_or (λ w. (leaving_with q w).queue) p q) (sym l.there)
 
 -- ---- a dispatch
 
