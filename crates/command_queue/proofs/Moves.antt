@@ -5,9 +5,10 @@ use Rattle.std.specs.Option.{option_map}
 use Rattle.std.proofs.lemmas.List.{map_push, get_or_read}
 use Rattle.blk_base.specs.Members.{slice_get-map}
 use Rattle.order_model.specs.declared.command.Command.{Command}
+use Rattle.order_model.specs.Single.{blank_command}
 use Rattle.command_queue.specs.declared.queue.Seat.{Seat}
 use Rattle.command_queue.specs.Queue.{Waiting, eligible, without, AreNumbered}
-use Rattle.command_queue.specs.code.Slots.{blank, waiting_at, seated, EachOnce, IsPicked}
+use Rattle.command_queue.specs.code.Slots.{waiting_at, seated, EachOnce, IsPicked}
 use Rattle.order_model.specs.laws.ArrivalLaws.{there-is, remove-without, AreNumbered-remove, AreNumbered-push}
 use Rattle.command_queue.proofs.Slots.{map-remove, seated-set, seats-within, last-within, last-not_seated, EachOnce-arrive, EachOnce-leave}
 
@@ -28,7 +29,7 @@ pub picked-command : (pick i : ℕ) (slots slots' : List Command) (seats seats' 
     → seat.slot < length slots → c ≡ get_or slots seat.slot c
     → Some c ≡ option_map (λ w. w.command) (slice_get (eligible (seated slots seats)) pick)
 picked-command pick i slots slots' seats seats' seat c h a b at lt read =
-    rw (picked-is pick i slots slots' seats seats' seat h a b at) (ap Some (get_or_read slots seat.slot c lt read blank))
+    rw (picked-is pick i slots slots' seats seats' seat h a b at) (ap Some (get_or_read slots seat.slot c lt read blank_command))
 
 -- ---- a command arrives
 
@@ -50,7 +51,7 @@ seated-received depth number slot c slots seats seats' free rest each popped len
     let lt = last-within depth slot seats rest each' in
     let within : slot < length slots = omega arith in
     ap (seated new) pushed ∙ map_push (waiting_at new) seats (record { number = number; slot = slot })
-    ∙ ap₂ (λ ws d. ws ++ record { number = number; command = d } ∷ []) (seated-set slots seats slot c none) (get_or-set_same slots slot c blank within)
+    ∙ ap₂ (λ ws d. ws ++ record { number = number; command = d } ∷ []) (seated-set slots seats slot c none) (get_or-set_same slots slot c blank_command within)
 
 pub AreNumbered-received : (next : ℕ) (c : Command) (slots slots' : List Command) (seats seats' : List Seat) → AreNumbered next (seated slots seats)
     → seated slots' seats' ≡ seated slots seats ++ record { number = next; command = c } ∷ [] → AreNumbered (next + 1) (seated slots' seats')

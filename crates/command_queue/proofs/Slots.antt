@@ -4,8 +4,9 @@ use Rattle.std.specs.List.{remove}
 use Rattle.std.proofs.lemmas.Bool.{ne_eqb, eq-eqb, lt-ltb, le-ltb, cases_lt, cases_eq, cases_order, cond_both}
 use Rattle.std.proofs.lemmas.List.Sums.{sum_by_push, sum_by-remove, sum_by-cons, get_or-le-sum_by}
 use Rattle.order_model.specs.declared.command.Command.{Command}
+use Rattle.order_model.specs.Single.{blank_command}
 use Rattle.command_queue.specs.declared.queue.Seat.{Seat}
-use Rattle.command_queue.specs.code.Slots.{blank, seated, EachOnce}
+use Rattle.command_queue.specs.code.Slots.{seated, EachOnce}
 
 -- ---- lists
 
@@ -37,7 +38,7 @@ seated-set slots (s ∷ seats) slot c none =
       | inr differs ↦
           (let zero = ap {B = ℕ} (λ b. cond b 1 0) (ne_eqb s.slot slot differs) in
           let sum = sym parts ∙ none in
-          let other = get_or-set_other slots slot s.slot c blank differs in
+          let other = get_or-set_other slots slot s.slot c blank_command differs in
           let rest = seated-set slots seats slot c (omega arith) in
           (λ i. record { number = s.number; command = other i } ∷ rest i))
     ]

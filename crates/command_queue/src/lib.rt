@@ -1,9 +1,14 @@
-//! The queue of commands in a device: which command may go next, by SIMPLE and ORDERED tasks.
+//! The queue of commands in a device: which command may go next, by SIMPLE and ORDERED tasks. And the ring
+//! of commands between a scheduler and a device, first in, first out.
 //!
-//! Stands on `order_model`. The type `CommandQueue` is the whole surface; its meaning, a list of numbered
-//! commands and an eligible list, is in `specs/Queue.antt`.
+//! Stands on `order_model`. `CommandQueue` has the calls of the queue; its meaning, a list of numbered
+//! commands and an eligible list, is in `specs/Queue.antt`. `CommandRing` has those of the ring; its meaning,
+//! a capacity and a list of commands, is in `specs/Ring.antt`. In both a command lies in one slot from its
+//! arrival until it leaves.
 #![tactic(auto)]
 
 mod queue;
+mod ring;
 
 pub use queue::CommandQueue;
+pub use ring::CommandRing;

@@ -4,10 +4,10 @@ ghost use Rattle.std.specs.Option.{option_map, option_copied};
 ghost use Rattle.std.specs.Vec.{vec_capacity};
 ghost use Rattle.order_model.specs.Device.{is_ordered};
 ghost use Rattle.command_queue.specs.Queue.{QueueState, Waiting, arrived, picked, departed, eligible, is_free, have_common_block, stands_in_way};
-ghost use Rattle.command_queue.specs.code.Slots.{blank, waiting_at, seated, has_block, are_kept_in_order, EachOnce, IsPicked};
+ghost use Rattle.command_queue.specs.code.Slots.{waiting_at, seated, has_block, are_kept_in_order, EachOnce, IsPicked};
 
 use blk_base::NoMemory;
-use order_model::{Command, Part, Parts, Priority};
+use order_model::{Command, Part, Priority};
 use std::alloc::Global;
 use std::marker::Model;
 use std::mem;
@@ -134,7 +134,7 @@ impl CommandQueue {
         let at = find_free(&self.slots, &self.seats, pick)?;
         let seat = self.seats.remove(at);
         self.free.push_reserved(seat.slot);
-        Some(mem::replace(&mut self.slots[seat.slot], blank_command()))
+        Some(mem::replace(&mut self.slots[seat.slot], Command::blank()))
     }
 
     /// The command at place `pick` of the eligible list leaves, where there is one. Its bytes stay in its
@@ -150,24 +150,12 @@ impl CommandQueue {
     }
 }
 
-// A command of no parts, which lies in a free slot.
-fn blank_command() -> Command
-    ensures { result ≡ blank }
-{
-    Command {
-        parts: Parts::none(),
-        priority: Priority::Simple,
-        barrier: false,
-        flush: None,
-    }
-}
-
-fn blank_slots(alloc: Global, depth: usize) -> Result<Vec<Command>, NoMemory>
+pub(crate) fn blank_slots(alloc: Global, depth: usize) -> Result<Vec<Command>, NoMemory>
     ensures { IfOk result (λ v. vec_len v ≡ depth) }
 {
     let mut slots = Vec::with_capacity(alloc, depth)?;
     for _ in 0..depth {
-        slots.push_reserved(blank_command());
+        slots.push_reserved(Command::blank());
     }
     Ok(slots)
 }

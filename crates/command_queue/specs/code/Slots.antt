@@ -1,22 +1,18 @@
 -- How the commands that wait are kept: each lies in a slot, and a seat says which one, in order of arrival.
-use Rattle.std.specs.Prelude.{◌≡◌, ℕ, ◌+◌, ◌≤◌, ◌<◌, ◌==◌, ◌||◌, Bool, false, List, [], map, count_by, cond, nat_lt, None, Some, slice_get, length, slice_index_or, vec_len}
+use Rattle.std.specs.Prelude.{◌≡◌, ℕ, ◌+◌, ◌≤◌, ◌<◌, ◌==◌, ◌||◌, Bool, List, map, count_by, cond, nat_lt, Some, slice_get, length, slice_index_or, vec_len}
 use Rattle.std.specs.List.{list_any}
 use Rattle.std.specs.Vec.{vec_capacity}
 use Rattle.order_model.specs.declared.part.Part.{Part}
 use Rattle.order_model.specs.declared.command.Command.{Command}
-use Rattle.order_model.specs.declared.command.Priority.TheVariants.{Simple}
 use Rattle.order_model.specs.Device.{is_ordered}
+use Rattle.order_model.specs.Single.{blank_command}
 use Rattle.command_queue.specs.declared.queue.Seat.{Seat}
 use Rattle.command_queue.specs.declared.queue.CommandQueue.TheInside.{Inside}
 use Rattle.command_queue.specs.Queue.{Waiting, AreNumbered, have_common_block, eligible}
 
--- a command of no parts
-abbrev pub blank : Command
-blank = record { parts = []; priority = Simple; barrier = false; flush = None }
-
 -- the command of a seat, with its number
 abbrev pub waiting_at : List Command → Seat → Waiting
-waiting_at slots s = record { number = s.number; command = slice_index_or slots s.slot blank }
+waiting_at slots s = record { number = s.number; command = slice_index_or slots s.slot blank_command }
 
 -- the commands of these seats
 abbrev pub seated : List Command → List Seat → List Waiting
