@@ -2,6 +2,7 @@
 use crate::walk_fault::WalkFault;
 use blk_base::NoMemory;
 use minix_layout::LayoutFault;
+use std::alloc::AllocError;
 
 /// Why a volume was not read.
 #[derive(Clone, Copy, Debug, PartialEq, Eq)]
@@ -20,6 +21,17 @@ impl From<NoMemory> for VolumeFault {
     ghost from_gives = { λ _ e. e ≡ faults.NoMemory };
 
     fn from(_: NoMemory) -> Self {
+        VolumeFault::NoMemory
+    }
+}
+
+impl From<AllocError> for VolumeFault {
+    ghost use Rattle.std.specs.Prelude.{◌≡◌};
+    ghost use Rattle.volume_ops.specs.declared.fault.VolumeFault.TheVariants as faults;
+
+    ghost from_gives = { λ _ e. e ≡ faults.NoMemory };
+
+    fn from(_: AllocError) -> Self {
         VolumeFault::NoMemory
     }
 }

@@ -132,14 +132,14 @@ fn read_blocks<D: OrderedDev>(alloc: Global, dev: &mut D, blocks: u16) -> Result
     ensures reads { OnlyReads (D.seen (D.state dev.old)) (D.seen (D.state dev.new)) }
     ensures no_fault { D.sound (D.state dev.old) → (D.seen (D.state dev.new)).faults ≡ (D.seen (D.state dev.old)).faults }
 {
-    let mut image = Image::zeroed(alloc, blocks.into())?;
+    let mut bodies = Vec::with_capacity(alloc, blocks.into())?;
     for block in 0..u32::from(blocks) {
         let Ok(body) = dev.read(block) else {
             return Err(VolumeFault::ReadFault);
         };
-        image.put(block, body);
+        bodies.push_reserved(body);
     }
-    Ok(image)
+    Ok(Image::of_blocks(bodies))
 }
 
 // A node with the bodies of its file.

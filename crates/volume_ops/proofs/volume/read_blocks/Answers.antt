@@ -1,4 +1,4 @@
-use Rattle.std.proofs.Common.{◌≡◌, ◌<◌, length, sym, ap, ◌∙◌, subst, arith, length-set, take, ◌+◌}
+use Rattle.std.proofs.Common.{◌<◌, sym, ap, ◌∙◌, subst, arith}
 use Rattle.order_model.specs.Steps.{OnlyReads}
 use Rattle.volume_ops.specs.DeviceReads.{more_reads, quiet_after, same_surface}
 use Rattle.volume_ops.proofs.DeviceReads.{one_more}
@@ -20,10 +20,11 @@ loop-block-preserved g c =
     record {
       valid = subst d.valid (sym after) step.0;
       reads = more_reads _ _ _ so_far.reads (subst (λ s. OnlyReads (d.seen now) (d.seen s)) (sym after) step.1);
-      len = ap length c.put.ensures ∙ (length-set c.loop-block.image block c.in-Ok.body ∙ so_far.len);
-      same = subst (λ i. take (block + 1) i ≡ take (block + 1) (d.seen (d.state c.args.dev.now)).surface) (sym c.put.ensures)
-          (one_more c.loop-block.image (d.seen (d.state c.args.dev.now)).surface (d.seen now).surface block c.args.blocks c.in-Ok.body
-          below c.requires.whole so_far.len (same_surface _ _ so_far.reads) c.in-Ok.ensures.body so_far.same);
+      read =
+          one_more _ _ (d.seen (d.state c.args.dev.now)).surface (d.seen now).surface block c.args.blocks c.in-Ok.body
+          below c.requires.whole (same_surface _ _ so_far.reads) c.in-Ok.ensures.body so_far.read c.push_reserved.ensures.items;
+      len = omega (arith, so_far.len, c.push_reserved.ensures.len);
+      room = omega (arith, so_far.room, c.push_reserved.ensures.capacity);
       sound = λ sound. subst d.sound (sym after) (laws.stays_sound now block (so_far.sound sound)).3;
       no_fault = λ sound. ap (λ s. (d.seen s).faults) after ∙ ((laws.no_fault now block so_far.valid (so_far.sound sound)).1 ∙ so_far.no_fault sound);
     }

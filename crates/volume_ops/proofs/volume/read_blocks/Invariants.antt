@@ -1,4 +1,4 @@
-use Rattle.std.proofs.Common.{◌≡◌, length, take}
+use Rattle.std.proofs.Common.{◌≡◌, ◌≤◌, take, vec_len, vec_capacity}
 use Rattle.order_model.specs.Steps.{OnlyReads}
 use Rattle.volume_ops.proofs.volume.read_blocks.Given as goal
 
@@ -8,8 +8,9 @@ invariant-loop-block g l =
     record {
       valid : d.valid (d.state l.dev);
       reads : OnlyReads (d.seen (d.state l.fn.dev)) (d.seen (d.state l.dev));
-      len : length l.image ≡ l.blocks;
-      same : take l.block l.image ≡ take l.block (d.seen (d.state l.fn.dev)).surface;
+      read : l.bodies.items ≡ take l.block (d.seen (d.state l.fn.dev)).surface;
+      len : vec_len l.bodies ≡ l.block;
+      room : l.blocks ≤ vec_capacity l.bodies;
       sound : d.sound (d.state l.fn.dev) → d.sound (d.state l.dev);
       no_fault : d.sound (d.state l.fn.dev) → (d.seen (d.state l.dev)).faults ≡ (d.seen (d.state l.fn.dev)).faults;
     }
