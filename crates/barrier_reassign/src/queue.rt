@@ -7,7 +7,7 @@ ghost use Rattle.barrier_reassign.specs.code.Kept.{IsPicked};
 
 use crate::closing::{Closing, Held};
 use blk_base::NoMemory;
-use order_model::{History, Kind, Request};
+use order_model::{Kind, Request, Requests};
 use std::alloc::Global;
 use std::collections::VecDeque;
 use std::marker::Model;
@@ -97,7 +97,7 @@ impl EpochQueue {
     /// Takes a request as `accept` does, and records it as it came.
     pub fn accept_recorded(
         &mut self,
-        history: &mut History<Request>,
+        history: &mut Requests,
         r: Request,
     ) -> Result<(), (Request, Held)>
         requires barrier { r.barrier ≡ true → r.ordered ≡ true }
@@ -110,10 +110,10 @@ impl EpochQueue {
         ensures back { IfErr result (λ e. (e.0 ≡ r) × (e.1 ≡ (if is_blocked self.old then Held.Blocked else Held.Full))) }
         ensures kept { IfErr result (λ e. (self.new ≡ self.old) × (history.new ≡ history.old)) }
     {
-        let submitted = r.copy();
-        self.accept(r)?;
-        history.push(submitted);
-        Ok(())
+        if self.can_accept() {
+            history.push(&r);
+        }
+        self.accept(r)
     }
 
     fn is_full(&self) -> bool

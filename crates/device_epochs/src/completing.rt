@@ -4,12 +4,12 @@ ghost use Rattle.std.specs.List.{list_any};
 ghost use Rattle.std.specs.Option.{option_map, option_and_then};
 ghost use Rattle.circular_buffer.specs.Buffer.{buffer};
 ghost use Rattle.order_model.specs.declared.part.Part.{Part};
-ghost use Rattle.order_model.specs.Received.{completions_of, transfers};
+ghost use Rattle.order_model.specs.Received.{all_parts, completions_of, transfers};
 ghost use Rattle.device_epochs.specs.Device.{is_next, counted};
 ghost use Rattle.device_epochs.specs.code.Helpers.{is_flushed, told_failed, id_at};
 
 use circular_buffer::HeapCircularBuffer;
-use order_model::{Command, Completion, Part, Transfer, Transfers};
+use order_model::{Command, Commands, Completion, Part, Transfer, Transfers};
 
 // Notes that parts went into the cache. The first of them stands at this place among all parts taken.
 pub(crate) fn note_transfers(moved: &mut Transfers, epoch: u64, first: u64, parts: &[Part])
@@ -79,19 +79,19 @@ pub(crate) fn holds_flush(waiting: &HeapCircularBuffer<Completion>) -> bool
 }
 
 // The id of the part at this place.
-fn id_at(parts: &[Part], place: Option<u64>) -> Option<u64>
-    ensures { result ≡ id_at parts.now place }
+fn id_at(took: &Commands, place: Option<u64>) -> Option<u64>
+    ensures { result ≡ id_at (all_parts took.now.items) place }
 {
-    parts.get(place? as usize).map(|p| p.id)
+    took.part_id(place? as usize)
 }
 
 // The places of parts, turned into their ids where they stand.
-pub(crate) fn read_ids(places: Vec<Option<u64>>, parts: &[Part]) -> Vec<Option<u64>>
-    ensures { result.items ≡ map (id_at parts.now) places.items }
+pub(crate) fn read_ids(places: Vec<Option<u64>>, took: &Commands) -> Vec<Option<u64>>
+    ensures { result.items ≡ map (id_at (all_parts took.now.items)) places.items }
 {
     let mut ids = places;
     for i in 0..ids.len() {
-        ids[i] = id_at(parts, ids[i]);
+        ids[i] = id_at(took, ids[i]);
     }
     ids
 }

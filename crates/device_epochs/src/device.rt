@@ -2,6 +2,7 @@
 ghost use Rattle.std.specs.Prelude.{◌≡◌, ℕ, ◌+◌, ◌≤◌, ◌<◌, ◌==◌, Bool, [], ◌^◌, true, false, length, replicate, IfOk, Some, None, slice_get, if◌then◌else◌};
 ghost use Rattle.std.specs.Option.{option_map, option_map_or};
 ghost use Rattle.order_model.specs.declared.part.Part.{Part};
+ghost use Rattle.order_model.specs.Received.{all_parts, part_at};
 ghost use Rattle.device_epochs.specs.Device.{DeviceState, opened, is_off, is_next, has_room, received, transferable, transferred, persistable, persisted, next_answer, answered, after_read, IsSound, seen};
 ghost use Rattle.device_epochs.specs.laws.Valid.{work_left, IsValid};
 ghost use Rattle.device_epochs.specs.code.Helpers.{starts_with_flush, flush_waits, is_held};
@@ -165,12 +166,15 @@ fn starts_with_flush(queue: &CommandQueue) -> bool
 }
 
 // The bytes of the part at this place.
-fn body_of(parts: &[Part], place: u64) -> Block
-    requires there { place < length parts.now }
+fn body_of(took: &Commands, place: u64) -> Block
+    requires there { place < length (all_parts took.now.items) }
     requires few { place < 2 ^ 31 }
-    ensures { option_map (λ (p : Part). p.body) (slice_get parts.now place) ≡ Some result }
+    ensures { option_map (λ (p : Part). p.body) (part_at took.now.items place) ≡ Some result }
 {
-    parts[place as usize].body.copy()
+    let Some(part) = took.part(place as usize) else {
+        unreachable!();
+    };
+    part.body
 }
 
 // The blocks of an image, for contracts alone.
@@ -317,7 +321,7 @@ impl OrderedDev for EpochDevice {
         let Some(entry) = self.cache.take_entry(pick as usize) else {
             return false;
         };
-        let body = body_of(self.trace.took.parts(), entry.part);
+        let body = body_of(&self.trace.took, entry.part);
         self.surface.put(entry.block, body);
         self.origins[entry.block as usize] = Some(entry.part);
         self.trace.steps += 1;
@@ -355,7 +359,7 @@ impl OrderedDev for EpochDevice {
             trace,
             ..
         } = self;
-        let ids = read_ids(origins, trace.took.parts());
+        let ids = read_ids(origins, &trace.took);
         CutDisk {
             image: surface,
             origins: Origins::new(ids),

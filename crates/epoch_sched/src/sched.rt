@@ -6,7 +6,7 @@ ghost use Rattle.barrier_reassign.specs.laws.SchedulerLaws as laws;
 
 use barrier_reassign::{CAPACITY, EpochQueue, Held, LONGEST, Scheduler};
 use blk_base::NoMemory;
-use order_model::{Command, Commands, History, Request, SchedRecord};
+use order_model::{Command, Commands, Request, Requests, SchedRecord};
 use std::alloc::Global;
 use std::marker::Model;
 
@@ -46,7 +46,7 @@ impl Sched {
             limit,
             queue: EpochQueue::make(alloc, CAPACITY)?,
             trace: SchedRecord {
-                accepted: History::make(alloc, room)?,
+                accepted: Requests::make(alloc, room)?,
                 sent_out: Commands::make(alloc, room)?,
             },
         })

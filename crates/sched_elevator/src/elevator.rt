@@ -11,7 +11,7 @@ use crate::gathering::{head_after, take_together};
 use crate::searches::find_listed;
 use barrier_reassign::{CAPACITY, EpochQueue, Held, LONGEST, Scheduler};
 use blk_base::NoMemory;
-use order_model::{Command, Commands, History, Request, SchedRecord};
+use order_model::{Command, Commands, Request, Requests, SchedRecord};
 use std::alloc::Global;
 use std::marker::Model;
 
@@ -54,7 +54,7 @@ impl Elevator {
             queue: EpochQueue::make(alloc, CAPACITY)?,
             head: 0,
             trace: SchedRecord {
-                accepted: History::make(alloc, room)?,
+                accepted: Requests::make(alloc, room)?,
                 sent_out: Commands::make(alloc, room)?,
             },
         })

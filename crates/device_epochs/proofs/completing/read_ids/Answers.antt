@@ -1,5 +1,6 @@
 use Rattle.std.proofs.Common.{◌<◌, length, rules}
 use Rattle.std.proofs.lemmas.List.Edits.{map_over_more}
+use Rattle.order_model.specs.Received.{all_parts}
 use Rattle.device_epochs.specs.code.Helpers.{id_at}
 use Rattle.device_epochs.proofs.completing.read_ids.Goals as goal
 
@@ -12,5 +13,5 @@ loop-i-preserved c =
       len = search rules;
       rest =
           rw c.id_at.ensures
-          (map_over_more (id_at c.args.parts.now) ids c.loop-i.ids.items c.loop-i.i c.index.result.now lt c.loop-i.invariant.rest (search rules));
+          (map_over_more (id_at (all_parts c.args.took.now.items)) ids c.loop-i.ids.items c.loop-i.i c.index.result.now lt c.loop-i.invariant.rest (search rules));
     }

@@ -12,8 +12,7 @@ use Rattle.device_epochs.proofs.device.EpochDeviceOrderedDev.persist.Goals as go
 pub body_of-body-requires-clause-there : goal.body_of-body-requires-clause-there
 body_of-body-requires-clause-there c =
     let can = can_write_from c.self.inside c.args.self.now c.args.pick c.in-Some.entry c.self.invariant c.self.view_is c.if-is_off.ensures.value c.in-Some.ensures.entry in
-    let parts = ap length c.parts.ensures in
-    omega (arith, can.part, parts)
+    omega (arith, can.part)
 
 pub body_of-body-requires-clause-few : goal.body_of-body-requires-clause-few
 body_of-body-requires-clause-few c =
@@ -43,7 +42,7 @@ invariant_of-self-2 c =
     let s = state_of d in
     let h = c.self.invariant in
     let e = c.in-Some.entry in
-    let body = ap (λ (ps : List Part). option_map (λ (p : Part). p.body) (slice_get ps e.part)) (sym c.parts.ensures) ∙ c.body_of-body.ensures in
+    let body = c.body_of-body.ensures in
     let to = written_to s e c.body_of-body.result c.put.new.self c.take_entry.new.self.items body c.put.ensures c.in-Some.ensures.rest in
     record {
       valid = subst IsValid (sym to) can.valid;
