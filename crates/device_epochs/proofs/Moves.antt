@@ -1,9 +1,9 @@
 -- What the device's code needs to know where it moves a command, or writes an entry.
-use Rattle.std.specs.Prelude.{◌≡◌, ℕ, ◌+◌, ◌<◌, ◌≤◌, ◌==◌, not, Bool, true, false, List, [], ◌∷◌, ◌++◌, length, Option, Some, None, is_some, slice_get, slice_set, drop, replicate, Result, Ok, Err, IsOk, OnOk, IsTrue, if◌then◌else◌, refl, suc}
+use Rattle.std.specs.Prelude.{◌≡◌, ℕ, ◌+◌, ◌<◌, ◌≤◌, ◌==◌, not, nat_lt, Bool, true, false, List, [], ◌∷◌, ◌++◌, length, Option, Some, None, is_some, slice_get, slice_set, drop, replicate, Result, Ok, Err, IsOk, OnOk, IsTrue, if◌then◌else◌, refl, suc}
 use Rattle.std.specs.List.{All, list_any}
 use Rattle.std.specs.Option.{option_map, option_map_or}
 use Rattle.std.proofs.Common.{sym, ap, subst, ◌∙◌, inl, inr, ⊎_elim, arith}
-use Rattle.std.proofs.lemmas.Bool.{cases_Bool, cases_lt, both_ways, and_parts, or_parts, or_cases, or_left, or_right, false≢true, not-true}
+use Rattle.std.proofs.lemmas.Bool.{cases_Bool, cases_lt, both_ways, and_parts, or_parts, or_cases, or_left, or_right, ltb-true, false≢true, not-true}
 use Rattle.std.proofs.lemmas.Option.{none-some, same_Some}
 use Rattle.blk_base.specs.Members.{In, In-All, filter_all, none-list_any, list_any-none, slice_get-In, slice_get-in_range, slice_get-length, In-slice_get}
 use Rattle.order_model.specs.declared.part.Part.{Part}
@@ -21,7 +21,7 @@ use Rattle.device_epochs.specs.declared.cache.Entry.{Entry}
 use Rattle.device_epochs.specs.declared.device.DeviceSetup.{DeviceSetup}
 use Rattle.device_epochs.specs.Cache.{oldest, entries, put_all, without_entry}
 use Rattle.device_epochs.specs.laws.CacheSteps.{part_at-lt, parts_of-waiting}
-use Rattle.device_epochs.specs.Device.{DeviceState, is_off, is_next, counted, may_transfer, has_stopped, transferable, tried, transferred, performed, failed_on, persistable, persisted, written, body_at, received, answered, answered_from, tells_cut, seen, opened}
+use Rattle.device_epochs.specs.Device.{DeviceState, is_off, is_next, has_room, counted, may_transfer, has_stopped, transferable, tried, transferred, performed, failed_on, persistable, persisted, written, body_at, received, answered, answered_from, tells_cut, seen, opened}
 use Rattle.device_epochs.specs.laws.Valid.{IsValid, QueueFacts, with_waiting}
 use Rattle.device_epochs.specs.declared.device.EpochDevice.TheInside.{Inside}
 use Rattle.device_epochs.specs.code.Fields.{state_of, IsDevice}
@@ -341,6 +341,9 @@ no_entry-le d s pick e on none =
 pub on_ok : {T E : Type 0} (P : Type 0) (r : Result T E) → IsOk r → OnOk r P → P
 on_ok P (Ok x) i h = h
 on_ok P (Err e) i h = absurd (false≢true i)
+
+pub room-fits : (s : DeviceState) → has_room s ≡ true → length s.queue.waiting < s.queue.depth
+room-fits s room = ltb-true (length s.queue.waiting) s.queue.depth (and_parts (not (is_off s)) (nat_lt (length s.queue.waiting) s.queue.depth) room).1
 
 pub received_to : (s : DeviceState) (c : Command) (took : List Command) (queue : QueueState)
     → took ≡ s.took ++ c ∷ [] → queue ≡ arrived s.queue c → record s { took = took; queue = queue } ≡ received s c

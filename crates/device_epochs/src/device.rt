@@ -262,12 +262,16 @@ impl OrderedDev for EpochDevice {
     }
 
     fn receive(&mut self, c: Command) -> Result<(), Command> {
-        if self.is_off() || !self.queue.room() {
+        if !self.room() {
             return Err(c);
         }
-        self.trace.took.push(&c);
-        self.queue.push(&c);
+        self.take_in(&c);
         Ok(())
+    }
+
+    fn take_in(&mut self, c: &Command) {
+        self.trace.took.push(c);
+        self.queue.push(c);
     }
 
     fn can_transfer(&self) -> u32 {

@@ -143,6 +143,17 @@ fn give(rt: &impl Abort, device: &mut EpochDevice, from: u64, to: u64, c: Comman
     assert!(rt; device.receive(c).is_ok());
 }
 
+// The same by the call that copies the command.
+fn lend(rt: &impl Abort, device: &mut EpochDevice, from: u64, to: u64, c: &Command)
+    requires taken { HasTaken device.old from }
+    requires next { IsNext from to c.now }
+    requires few { to ≤ 16 }
+    ensures { HasTaken device.new to }
+{
+    assert!(rt; device.room());
+    device.take_in(c);
+}
+
 // Whether the device hands the command back.
 fn refuses(device: &mut EpochDevice, from: u64, to: u64, c: Command) -> bool
     requires taken { HasTaken device.old from }
@@ -341,7 +352,8 @@ fn put_finds_its_entry_once_others_left(rt: HostRuntime) -> Result<(), Fail> {
 #[test]
 fn command_of_two_parts(rt: HostRuntime) -> Result<(), Fail> {
     let mut device = device(rt.alloc(), None)?;
-    give(&rt, &mut device, 0, 2, put_two(&rt, 0, 1));
+    lend(&rt, &mut device, 0, 2, &put_two(&rt, 0, 1));
+    assert_eq!(rt; counts(device.trace()), (1, 0, 0, 0));
     assert!(rt; device.transfer(0));
     assert_eq!(rt; device.can_persist(), 2);
     assert!(rt; device.persist(1));
