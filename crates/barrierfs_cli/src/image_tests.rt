@@ -1,5 +1,5 @@
 //! Images through the top call.
-use crate::tests::{run, status_of_reads};
+use crate::tests::run;
 use barrierfs_top::TopFault;
 use blk_base::{Block, NoMemory};
 use minix_layout::{Geometry, Inode, Name, Slot, Zones, write_inode, write_slot, write_super};
@@ -102,15 +102,6 @@ fn shows_a_megabyte(rt: HostRuntime) -> Result<(), Fail> {
         ended.printed.as_slice(),
         b"dir /\nfile /last size 1024 links 1\nblock 0 1024x61\n".as_slice()
     );
-    Ok(())
-}
-
-#[test]
-fn tells_of_an_image_that_can_not_be_read(rt: HostRuntime) -> Result<(), Fail> {
-    let alloc = rt.alloc();
-    let bytes = foreign(alloc)?;
-    assert_eq!(rt; status_of_reads(alloc, "show", &bytes, &[1])?, 5);
-    assert_eq!(rt; status_of_reads(alloc, "show", &bytes, &[2])?, 5);
     Ok(())
 }
 

@@ -4,7 +4,7 @@ ghost use Rattle.std.specs.Prelude.{None};
 use barrierfs_top::{Ended, TopFault, Words, run_words};
 use blk_base::{Failed, Image, MemSink, MemSource, NoMemory, PlainSink, PlainSource, Sink, Source};
 use device_epochs::{DeviceSetup, EpochDevice};
-use order_model::{Commands, Parts, lawful_blocks};
+use order_model::lawful_blocks;
 use script_grammar::ScriptKind;
 use std::alloc::Global;
 use std::test::Fail;
@@ -62,121 +62,69 @@ fn refused(alloc: Global, list: &[&str], script: &str) -> Result<u8, NoMemory> {
     Ok(ended.status)
 }
 
-#[test]
-fn replays_without_requests(rt: HostRuntime) -> Result<(), Fail> {
-    let printed = replayed(rt.alloc(), "device 2\nevents\n")?;
-    assert_eq!(rt;
-        printed.as_slice(),
-        b"steps 0\nblock 0 00 -\nblock 1 00 -\n".as_slice()
-    );
-    Ok(())
-}
+// Scripts of block requests, and what they print.
+const SCRIPTS: [(&str, &str); 11] = [
+    // No requests.
+    (
+        "device 2\nevents\n",
+        "steps 0\nblock 0 00 -\nblock 1 00 -\n",
+    ),
+    (
+        "blocks 4\nevents\n",
+        "steps 0\nblock 0 00 -\nblock 1 00 -\nblock 2 00 -\nblock 3 00 -\n",
+    ),
+    // A simple command passes another.
+    (
+        "device 2\nput 0 11 ordered\nput 1 22 ordered\nevents\nreceive x 2\ntransfer 1\npersist 0\n",
+        "steps 2\nblock 0 00 -\nblock 1 22 1\n",
+    ),
+    // Only so many commands may wait.
+    (
+        "device 2\ndepth 1\nput 0 11 ordered\nput 1 22 ordered\nevents\nreceive x 2\ntransfer 0\npersist 0\n",
+        "steps 2\nblock 0 11 0\nblock 1 00 -\n",
+    ),
+    // A flush waits for the cache.
+    (
+        "device 2\nput 0 11 ordered\nflush\nevents\nreceive x 2\ntransfer 0 x 2\npersist 0\ntransfer 0\n",
+        "steps 3\nblock 0 11 0\nblock 1 00 -\n",
+    ),
+    // The power is cut after a step, at once, and within an epoch.
+    (
+        "device 1\ncut 1\nput 0 11 ordered\nevents\nreceive\ntransfer 0\npersist 0\n",
+        "steps 1\nblock 0 00 -\n",
+    ),
+    (
+        "device 1\ncut 0\nput 0 11 ordered\nevents\nreceive\ntransfer 0\npersist 0\n",
+        "steps 0\nblock 0 00 -\n",
+    ),
+    (
+        "device 3\ncut 4\nput 0 11 ordered\nput 1 22 ordered\nput 2 33 barrier\nevents\nreceive x 3\ntransfer 0 x 3\npersist 1\npersist 0\n",
+        "steps 4\nblock 0 00 -\nblock 1 22 1\nblock 2 00 -\n",
+    ),
+    // The elevator keeps classes apart: blocks 4 and 5 are of two.
+    (
+        "blocks 6\nelevator\nput 4 50 free\nput 1 51 free\nput 5 52 ordered\nevents\nsubmit x 3\naccept x 3\ndispatch 1\ndispatch 0 x 2\nreceive x 3\ntransfer 0 x 2\npersist 0 x 2\n",
+        "steps 4\nblock 0 00 -\nblock 1 00 -\nblock 2 00 -\nblock 3 00 -\nblock 4 50 0\nblock 5 52 2\n",
+    ),
+    // Two puts of one block stay in order.
+    (
+        "blocks 1\nput 0 31 ordered\nput 0 32 ordered\nevents\nsubmit x 2\naccept x 2\ndispatch 1\ndispatch 0 x 2\nreceive x 2\ntransfer 1\ntransfer 0\npersist 0\ntransfer 0\n",
+        "steps 3\nblock 0 31 0\n",
+    ),
+    (
+        "blocks 1\nput 0 31 ordered\nput 0 32 ordered\nevents\nsubmit x 2\naccept x 2\ndispatch 1\ndispatch 0 x 2\nreceive x 2\ntransfer 0 x 2\npersist 1\npersist 0 x 2\n",
+        "steps 3\nblock 0 32 1\n",
+    ),
+];
 
 #[test]
-fn lets_a_simple_command_pass_another(rt: HostRuntime) -> Result<(), Fail> {
-    let script =
-        "device 2\nput 0 11 ordered\nput 1 22 ordered\nevents\nreceive x 2\ntransfer 1\npersist 0\n";
-    let printed = replayed(rt.alloc(), script)?;
-    assert_eq!(rt;
-        printed.as_slice(),
-        b"steps 2\nblock 0 00 -\nblock 1 22 1\n".as_slice()
-    );
-    Ok(())
-}
-
-#[test]
-fn takes_as_many_commands_as_may_wait(rt: HostRuntime) -> Result<(), Fail> {
-    let script =
-        "device 2\ndepth 1\nput 0 11 ordered\nput 1 22 ordered\nevents\nreceive x 2\ntransfer 0\npersist 0\n";
-    let printed = replayed(rt.alloc(), script)?;
-    assert_eq!(rt;
-        printed.as_slice(),
-        b"steps 2\nblock 0 11 0\nblock 1 00 -\n".as_slice()
-    );
-    Ok(())
-}
-
-#[test]
-fn lets_a_flush_wait_for_the_cache(rt: HostRuntime) -> Result<(), Fail> {
-    let script =
-        "device 2\nput 0 11 ordered\nflush\nevents\nreceive x 2\ntransfer 0 x 2\npersist 0\ntransfer 0\n";
-    let printed = replayed(rt.alloc(), script)?;
-    assert_eq!(rt;
-        printed.as_slice(),
-        b"steps 3\nblock 0 11 0\nblock 1 00 -\n".as_slice()
-    );
-    Ok(())
-}
-
-#[test]
-fn cuts_the_power_after_a_step(rt: HostRuntime) -> Result<(), Fail> {
-    let script = "device 1\ncut 1\nput 0 11 ordered\nevents\nreceive\ntransfer 0\npersist 0\n";
-    let printed = replayed(rt.alloc(), script)?;
-    assert_eq!(rt; printed.as_slice(), b"steps 1\nblock 0 00 -\n".as_slice());
-    Ok(())
-}
-
-#[test]
-fn cuts_the_power_at_once(rt: HostRuntime) -> Result<(), Fail> {
-    let script = "device 1\ncut 0\nput 0 11 ordered\nevents\nreceive\ntransfer 0\npersist 0\n";
-    let printed = replayed(rt.alloc(), script)?;
-    assert_eq!(rt; printed.as_slice(), b"steps 0\nblock 0 00 -\n".as_slice());
-    Ok(())
-}
-
-#[test]
-fn cuts_the_power_within_an_epoch(rt: HostRuntime) -> Result<(), Fail> {
-    let script =
-        "device 3\ncut 4\nput 0 11 ordered\nput 1 22 ordered\nput 2 33 barrier\nevents\nreceive x 3\ntransfer 0 x 3\npersist 1\npersist 0\n";
-    let printed = replayed(rt.alloc(), script)?;
-    assert_eq!(rt;
-        printed.as_slice(),
-        b"steps 4\nblock 0 00 -\nblock 1 22 1\nblock 2 00 -\n".as_slice()
-    );
-    Ok(())
-}
-
-#[test]
-fn replays_blocks_without_requests(rt: HostRuntime) -> Result<(), Fail> {
-    let printed = replayed(rt.alloc(), "blocks 4\nevents\n")?;
-    assert_eq!(rt;
-        printed.as_slice(),
-        b"steps 0\nblock 0 00 -\nblock 1 00 -\nblock 2 00 -\nblock 3 00 -\n".as_slice()
-    );
-    Ok(())
-}
-
-// Blocks 4 and 5 are of two classes.
-#[test]
-fn keeps_classes_apart_on_the_elevator(rt: HostRuntime) -> Result<(), Fail> {
-    let script =
-        "blocks 6\nelevator\nput 4 50 free\nput 1 51 free\nput 5 52 ordered\nevents\nsubmit x 3\naccept x 3\ndispatch 1\ndispatch 0 x 2\nreceive x 3\ntransfer 0 x 2\npersist 0 x 2\n";
-    let printed = replayed(rt.alloc(), script)?;
-    assert_eq!(rt;
-        printed.as_slice(),
-        b"steps 4\nblock 0 00 -\nblock 1 00 -\nblock 2 00 -\nblock 3 00 -\nblock 4 50 0\nblock 5 52 2\n".as_slice()
-    );
-    Ok(())
-}
-
-#[test]
-fn keeps_two_puts_of_one_block_in_order(rt: HostRuntime) -> Result<(), Fail> {
-    let head =
-        "blocks 1\nput 0 31 ordered\nput 0 32 ordered\nevents\nsubmit x 2\naccept x 2\ndispatch 1\ndispatch 0 x 2\nreceive x 2\n";
-    let ends = [
-        (
-            "transfer 1\ntransfer 0\npersist 0\ntransfer 0\n",
-            "steps 3\nblock 0 31 0\n",
-        ),
-        (
-            "transfer 0 x 2\npersist 1\npersist 0 x 2\n",
-            "steps 3\nblock 0 32 1\n",
-        ),
-    ];
-    for (end, wanted) in ends {
-        let script = format!(in rt.alloc(); "{head}{end}")?;
-        let printed = replayed(rt.alloc(), script.as_str())?;
-        assert_eq!(rt; printed.as_slice(), wanted.as_bytes());
+fn prints_what_requests_leave(rt: HostRuntime) -> Result<(), Fail> {
+    for (script, printed) in SCRIPTS {
+        assert_eq!(rt;
+            replayed(rt.alloc(), script)?.as_slice(),
+            printed.as_bytes(),
+            "{script}"
+        );
     }
     Ok(())
 }
@@ -233,16 +181,11 @@ fn refuses_a_script_that_is_too_long(rt: HostRuntime) -> Result<(), Fail> {
     Ok(())
 }
 
-// The status of this word and input where these reads fail, counted from 1; 0 where anything was written.
-pub fn status_of_reads(
-    alloc: Global,
-    word: &str,
-    input: &[u8],
-    fails: &[u64],
-) -> Result<u8, NoMemory> {
+// The status of `replay` where these reads fail, counted from 1; 0 where anything was written.
+fn status_of_reads(alloc: Global, input: &[u8], fails: &[u64]) -> Result<u8, NoMemory> {
     let mut source = MemSource::new(input.to_vec(alloc)?, fails.to_vec(alloc)?);
     let mut sink = MemSink::new(Vec::new(alloc), Vec::new(alloc));
-    let ended = end_of(alloc, &[word], &mut source, &mut sink)?;
+    let ended = end_of(alloc, &["replay"], &mut source, &mut sink)?;
     if !sink.bytes().is_empty() {
         return Ok(0);
     }
@@ -279,8 +222,8 @@ impl Sink for Stuck {
 fn tells_of_a_source_that_fails(rt: HostRuntime) -> Result<(), Fail> {
     let alloc = rt.alloc();
     let script = b"device 1\nevents\n";
-    assert_eq!(rt; status_of_reads(alloc, "replay", script, &[1])?, 5);
-    assert_eq!(rt; status_of_reads(alloc, "replay", script, &[2])?, 5);
+    assert_eq!(rt; status_of_reads(alloc, script, &[1])?, 5);
+    assert_eq!(rt; status_of_reads(alloc, script, &[2])?, 5);
     Ok(())
 }
 
@@ -327,67 +270,33 @@ fn knows_the_laws_of_the_model_device(rt: HostRuntime) -> Result<(), Fail> {
 }
 
 #[test]
-fn begins_with_nothing(rt: HostRuntime) -> Result<(), Fail> {
-    assert!(rt; Parts::none().is_empty());
-    let commands = Commands::make(rt.alloc(), 1)?;
-    assert!(rt; commands.is_empty());
-    assert_eq!(rt; commands.len(), 0);
-    Ok(())
-}
-
-#[test]
 fn prints_the_faults(rt: HostRuntime) -> Result<(), Fail> {
-    let alloc = rt.alloc();
-    assert_eq!(rt;
-        format!(in alloc; "{}", TopFault::BadWords)?.as_str(),
-        "bad words"
-    );
-    assert_eq!(rt;
-        format!(in alloc; "{}", TopFault::SourceFault)?.as_str(),
-        "source fault"
-    );
-    assert_eq!(rt;
-        format!(in alloc; "{}", TopFault::SinkFault)?.as_str(),
-        "sink fault"
-    );
-    assert_eq!(rt;
-        format!(in alloc; "{}", TopFault::TooLong)?.as_str(),
-        "input too long"
-    );
-    assert_eq!(rt;
-        format!(in alloc; "{}", TopFault::NoMemory)?.as_str(),
-        "no memory"
-    );
-    Ok(())
-}
-
-#[test]
-fn prints_the_kinds_of_script_faults(rt: HostRuntime) -> Result<(), Fail> {
-    let alloc = rt.alloc();
-    let fault = TopFault::Script(2, ScriptKind::Word);
-    assert_eq!(rt;
-        format!(in alloc; "{fault}")?.as_str(),
-        "script line 2: word"
-    );
-    let fault = TopFault::Script(1, ScriptKind::NotBuilt);
-    assert_eq!(rt;
-        format!(in alloc; "{fault}")?.as_str(),
-        "script line 1: not built"
-    );
-    let fault = TopFault::Script(3, ScriptKind::Order);
-    assert_eq!(rt;
-        format!(in alloc; "{fault}")?.as_str(),
-        "script line 3: order"
-    );
-    let fault = TopFault::Script(30, ScriptKind::Twice);
-    assert_eq!(rt;
-        format!(in alloc; "{fault}")?.as_str(),
-        "script line 30: twice"
-    );
-    let fault = TopFault::Script(4, ScriptKind::Number);
-    assert_eq!(rt;
-        format!(in alloc; "{fault}")?.as_str(),
-        "script line 4: number"
-    );
+    let rows = [
+        (TopFault::BadWords, "bad words"),
+        (TopFault::SourceFault, "source fault"),
+        (TopFault::SinkFault, "sink fault"),
+        (TopFault::TooLong, "input too long"),
+        (TopFault::NoMemory, "no memory"),
+        (TopFault::Script(2, ScriptKind::Word), "script line 2: word"),
+        (
+            TopFault::Script(1, ScriptKind::NotBuilt),
+            "script line 1: not built",
+        ),
+        (
+            TopFault::Script(3, ScriptKind::Order),
+            "script line 3: order",
+        ),
+        (
+            TopFault::Script(30, ScriptKind::Twice),
+            "script line 30: twice",
+        ),
+        (
+            TopFault::Script(4, ScriptKind::Number),
+            "script line 4: number",
+        ),
+    ];
+    for (fault, text) in rows {
+        assert_eq!(rt; format!(in rt.alloc(); "{fault}")?.as_str(), text);
+    }
     Ok(())
 }

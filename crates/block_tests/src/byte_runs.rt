@@ -1,5 +1,5 @@
 //! Runs and digits that were written by hand.
-use byte_text::{put_hex, put_runs, runs_are_maximal};
+use byte_text::{put_runs, runs_are_maximal};
 use std::alloc::{AllocError, Global};
 use std::test::Fail;
 
@@ -22,14 +22,5 @@ fn writes_runs(rt: HostRuntime) -> Result<(), Fail> {
     }
     assert_eq!(rt; runs(rt.alloc(), &[0x7E; 1024])?.as_str(), "1024x7e");
     runs_are_maximal();
-    Ok(())
-}
-
-#[test]
-fn writes_a_byte(rt: HostRuntime) -> Result<(), Fail> {
-    let mut out = String::new(rt.alloc());
-    put_hex(&mut out, 0xA7)?;
-    put_hex(&mut out, 0x09)?;
-    assert_eq!(rt; out.as_str(), "a709");
     Ok(())
 }

@@ -43,15 +43,6 @@ fn queue_keeps_order(rt: HostRuntime) -> Result<(), NoMemory> {
 }
 
 #[test]
-fn queue_of_no_room(rt: HostRuntime) -> Result<(), NoMemory> {
-    let mut queue = ListQueue::make(rt.alloc(), 0)?;
-    assert!(rt; queue.is_full());
-    assert_eq!(rt; queue.put(1), Err(1));
-    assert_eq!(rt; queue.take(), None);
-    Ok(())
-}
-
-#[test]
 fn queue_by_its_bounds(rt: HostRuntime) -> Result<(), NoMemory> {
     let mut queue = ListQueue::make(rt.alloc(), 1)?;
     assert_eq!(rt; passes(&mut queue), (Ok(()), Err(8), Some(7)));
@@ -82,27 +73,6 @@ fn parts_follow(rt: HostRuntime) {
     }
     assert_eq!(rt; parts.push(part(2, 6)), Ok(()));
     assert_eq!(rt; parts.as_slice(), [part(1, 5), part(2, 6)].as_slice());
-}
-
-#[test]
-fn requests_copy(rt: HostRuntime) {
-    let put = Request {
-        id: 3,
-        kind: Kind::Put {
-            block: 9,
-            body: Block::fill(4),
-        },
-        ordered: true,
-        barrier: true,
-    };
-    assert_eq!(rt; put.copy(), put);
-    let flush = Request {
-        id: 4,
-        kind: Kind::Flush,
-        ordered: true,
-        barrier: false,
-    };
-    assert_eq!(rt; flush.copy(), flush);
 }
 
 #[test]
@@ -165,14 +135,5 @@ fn history_grows(rt: HostRuntime) -> Result<(), NoMemory> {
         history.as_slice(),
         [Completion::Moved(4), Completion::Cut].as_slice()
     );
-    Ok(())
-}
-
-#[test]
-fn begins_with_nothing(rt: HostRuntime) -> Result<(), NoMemory> {
-    assert!(rt; Parts::none().is_empty());
-    let commands = Commands::make(rt.alloc(), 1)?;
-    assert!(rt; commands.is_empty());
-    assert_eq!(rt; commands.len(), 0);
     Ok(())
 }

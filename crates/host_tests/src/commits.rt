@@ -4,10 +4,12 @@ ghost use Rattle.blk_base.specs.Block.{filled};
 
 use blk_base::{Block, BodySource, NoMemory};
 use commit_actor::{JournalPart, commit_step};
-use flush_actor::{CallKind, Wait};
 use journal_blocks::JournalSuper;
-use journal_ring::Ring;
-use order_model::{Completion, Inlet, Kind, ListQueue, Note, Request, Turn};
+use journal_ring::{
+    Ring, bodies_wait_until_they_are_sent, last_bodies_wait_to_be_sent_home,
+    places_are_free_or_in_use,
+};
+use order_model::{Inlet, Kind, ListQueue, Note, Request, Turn};
 use page_cache::Pages;
 use std::alloc::Global;
 
@@ -69,22 +71,20 @@ impl BodySource for Fives {
     }
 }
 
-// The journal's part of a volume of 64 blocks, its pages, and its queues.
+// The journal's part of a volume of 64 blocks, its pages, and its queue.
 #[derive(Drop)]
 struct Setting {
     part: JournalPart,
     pages: Pages,
     out: ListQueue<Request>,
-    from: ListQueue<Completion>,
 }
 
-fn set_up(alloc: Global, queue: u32) -> Result<Setting, NoMemory> {
+fn set_up(alloc: Global) -> Result<Setting, NoMemory> {
     let ring = Ring::make(alloc, &SMALL, 50)?;
     Ok(Setting {
         part: JournalPart::make(alloc, ring, 50, 64, 64, 1)?,
         pages: Pages::load(alloc, 4)?,
-        out: ListQueue::make(alloc, queue)?,
-        from: ListQueue::make(alloc, 2)?,
+        out: ListQueue::make(alloc, 20)?,
     })
 }
 
@@ -137,7 +137,7 @@ impl Setting {
 
 #[test]
 fn plans_are_sent_and_bodies_go_home(rt: HostRuntime) {
-    let Ok(mut session) = set_up(rt.alloc(), 20) else {
+    let Ok(mut session) = set_up(rt.alloc()) else {
         panic!(rt; "no memory");
     };
     assert_eq!(rt; session.step(rt.alloc()), Turn::Idle);
@@ -150,65 +150,7 @@ fn plans_are_sent_and_bodies_go_home(rt: HostRuntime) {
     for put in SENT {
         assert_eq!(rt; session.first_sent(), Some(put));
     }
-}
-
-#[test]
-fn pages_of_changed_files_go_first(rt: HostRuntime) {
-    let Ok(mut session) = set_up(rt.alloc(), 1) else {
-        panic!(rt; "no memory");
-    };
-    assert!(rt; session.pages.set(3, 0, 40, Block::fill(1), 1).is_ok());
-    assert!(rt; session.pages.set(4, 2, 41, Block::fill(2), 2).is_ok());
-    assert_eq!(rt; session.change(rt.alloc(), &[2], 4), Ok(()));
-    assert_eq!(rt; session.steps(rt.alloc(), 2), Turn::Did);
-    assert!(rt; session.part.is_closing());
-    assert_eq!(rt; session.part.latest_change(4), Some(1));
-    assert_eq!(rt; session.pages.next_unsent(0, 0), Some((3, 0)));
-    assert_eq!(rt; session.steps(rt.alloc(), 2), Turn::QueueFull);
-    assert_eq!(rt; session.first_sent(), Some((41, false)));
-    assert_eq!(rt; session.part.latest_change(4), Some(1));
-    assert_eq!(rt;
-        (
-            session.part.is_submitted(1),
-            session.part.running().number()
-        ),
-        (false, 2)
-    );
-    assert_eq!(rt; session.steps(rt.alloc(), 2), Turn::QueueFull);
-    assert_eq!(rt; session.first_sent(), Some((64, false)));
-}
-
-#[test]
-fn calls_of_the_host_pass_through(rt: HostRuntime) {
-    let Ok(mut session) = set_up(rt.alloc(), 4) else {
-        panic!(rt; "no memory");
-    };
-    let kind = Kind::Put {
-        block: 9,
-        body: Block::fill(3),
-    };
-    let sent = session
-        .part
-        .submit(kind, false, false, Note::Raw, &mut session.out);
-    assert_eq!(rt; sent, Turn::Did);
-    if session.part.flush().threads() > 0 {
-        session.part.set_wait(0, Wait::none());
-    }
-    assert_eq!(rt;
-        session.part.flush().wait(0).map(|wait| wait.kind),
-        Some(CallKind::Reading)
-    );
-    if session.part.flush().blocks() > 5 {
-        session.part.want_block(5);
-    }
-    assert!(rt; session.part.flush().is_clear());
-    if session.part.flush().taken() <= session.part.flush().limit() {
-        let turn = session.part.flush_step(&mut session.out, &mut session.from);
-        assert_eq!(rt; turn, Turn::Idle);
-    }
-    assert!(rt; session.part.reserve(rt.alloc(), 2).is_ok());
-    if session.part.running().spare() > 0 {
-        session.part.revoke(5);
-    }
-    assert_eq!(rt; session.part.running().needs(), 2);
+    places_are_free_or_in_use();
+    last_bodies_wait_to_be_sent_home();
+    bodies_wait_until_they_are_sent();
 }

@@ -67,25 +67,6 @@ impl Setting {
 }
 
 #[test]
-fn holds_end_with_the_commit_block(rt: HostRuntime) {
-    let Ok(mut session) = set_up(rt.alloc()) else {
-        panic!(rt; "no memory");
-    };
-    assert_eq!(rt; session.commit(1), Turn::Did);
-    assert_eq!(rt; session.part.least_conflict(), Some((5, 2)));
-    assert_eq!(rt; session.told(Completion::Moved(0)), Turn::Did);
-    assert_eq!(rt; session.commit(2), Turn::Did);
-    assert_eq!(rt; session.told(Completion::Moved(1)), Turn::Did);
-    assert!(rt; session.part.is_clear() && session.part.blocks() == 10);
-    assert_eq!(rt; session.step(), Turn::Idle);
-    assert_eq!(rt; session.commit(3), Turn::QueueFull);
-    assert_eq!(rt; (session.part.submitted(), session.part.taken()), (2, 2));
-    assert!(rt;
-        session.part.notes() == [Note::Commit { tx: 1 }, Note::Commit { tx: 2 }].as_slice()
-    );
-}
-
-#[test]
 fn one_flush_serves_a_sync_call(rt: HostRuntime) {
     let Ok(mut session) = set_up(rt.alloc()) else {
         panic!(rt; "no memory");

@@ -11,5 +11,3 @@ mod conflicts;
 mod flushes;
 #[cfg(test)]
 mod pages;
-#[cfg(test)]
-mod ring;

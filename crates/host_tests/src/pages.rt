@@ -40,39 +40,11 @@ fn keeps_pages_in_order(rt: HostRuntime) {
         (None, Some(PageState::Dirty))
     );
     assert_eq!(rt; pages.set(7, 1, 45, Block::fill(6), 6), Ok(()));
-    assert_eq!(rt; pages.next_unsent(2, 10), Some((7, 1)));
+    assert_eq!(rt;
+        (pages.next_unsent(2, 10), pages.of_file(7, 2)),
+        (Some((7, 1)), Some(3))
+    );
     pages_are_a_map();
     pages_stand_in_order();
     next_page_is_least();
-}
-
-#[test]
-fn finds_what_is_left_to_send(rt: HostRuntime) {
-    let Ok(mut pages) = Pages::load(rt.alloc(), 2) else {
-        panic!(rt; "no memory");
-    };
-    assert_eq!(rt; pages.set(7, 3, 42, Block::fill(3), 1), Ok(()));
-    pages.mark(7, 3, PageState::Loose);
-    assert_eq!(rt; pages.set(7, 0, 40, Block::fill(1), 2), Ok(()));
-    pages.mark(7, 0, PageState::Firm);
-    assert_eq!(rt;
-        (pages.state(7, 0), pages.state(7, 3)),
-        (Some(PageState::Firm), Some(PageState::Loose))
-    );
-    assert_eq!(rt;
-        (
-            pages.of_file(7, 0),
-            pages.of_file(7, 4),
-            pages.of_file(3, 0)
-        ),
-        (Some(3), None, None)
-    );
-    assert_eq!(rt;
-        (pages.next_unsent(3, 10), pages.next_unsent(7, 4)),
-        (Some((7, 3)), None)
-    );
-    assert_eq!(rt; pages.dirty(0), None);
-    let found = pages.unsent_of(&[2, 7, 9]).map(|page| page.index);
-    assert_eq!(rt; found, Some(3));
-    assert!(rt; pages.unsent_of(&[2, 9]).is_none());
 }

@@ -1,14 +1,14 @@
-//! The text of a tree, paths, copies, and what is printed of calls.
+//! The text of a tree, paths, copies of names, and the laws of calls.
 use blk_base::{Block, NoMemory};
 use minix_layout::Name;
 use std::alloc::{AllocError, Global};
 use std::test::Fail;
 use tree_model::{
-    ByteList, Call, Directory, File, FileBlocks, NameList, Names, Node, Path, Reply, Room, Tree,
-    asking_changes_nothing, calls_keep_trees_plain, calls_map_by_writing, calls_stay_within_room,
-    examples_of_calls, histories_map_by_writing, is_dot, new_names_lead_to_nodes, nodes_have_paths,
-    paths_are_spelled, put_tree, read_path, refusals_have_causes, same_metadata_chains,
-    texts_list_paths, written_bytes_are_read_back,
+    Directory, File, FileBlocks, Names, Node, Path, Room, Tree, asking_changes_nothing,
+    calls_keep_trees_plain, calls_map_by_writing, calls_stay_within_room, examples_of_calls,
+    histories_map_by_writing, is_dot, new_names_lead_to_nodes, nodes_have_paths, paths_are_spelled,
+    put_tree, read_path, refusals_have_causes, same_metadata_chains, texts_list_paths,
+    written_bytes_are_read_back,
 };
 
 fn name(bytes: &[u8]) -> Result<Name, Fail> {
@@ -119,46 +119,6 @@ fn copies_names(rt: HostRuntime) -> Result<(), Fail> {
     assert_eq!(rt; copy.as_map().len(), 2);
     let blocks = FileBlocks::new(rt.alloc());
     assert!(rt; blocks.as_map().is_empty());
-    Ok(())
-}
-
-fn bytes(alloc: Global, text: &[u8]) -> Result<ByteList, NoMemory> {
-    Ok(ByteList::of(text.to_vec(alloc)?))
-}
-
-#[test]
-fn copies_bytes(rt: HostRuntime) -> Result<(), Fail> {
-    let path = bytes(rt.alloc(), b"/a")?;
-    let copy = path.copy(rt.alloc())?;
-    assert_eq!(rt; copy.as_slice(), b"/a".as_slice());
-    Ok(())
-}
-
-#[test]
-fn copies_name_lists(rt: HostRuntime) -> Result<(), Fail> {
-    let mut names = NameList::new(rt.alloc());
-    names.push(bytes(rt.alloc(), b"b")?)?;
-    names.push(bytes(rt.alloc(), b"c")?)?;
-    let copy = names.copy(rt.alloc())?;
-    assert_eq!(rt; copy.as_slice().len(), 2);
-    let last = copy.as_slice().last().ok_or("no name")?;
-    assert_eq!(rt; last.as_slice(), b"c".as_slice());
-    Ok(())
-}
-
-#[test]
-fn shows_calls(rt: HostRuntime) -> Result<(), Fail> {
-    let call = Call::Truncate(bytes(rt.alloc(), b"/")?, 3);
-    let shown = format!(in rt.alloc(); "{call:?}")?;
-    assert_eq!(rt; shown.as_str(), "Truncate(ByteList { bytes: [47] }, 3)");
-    Ok(())
-}
-
-#[test]
-fn shows_replies(rt: HostRuntime) -> Result<(), Fail> {
-    let reply = Reply::ReadOnly(7);
-    let shown = format!(in rt.alloc(); "{reply:?}")?;
-    assert_eq!(rt; shown.as_str(), "ReadOnly(7)");
     Ok(())
 }
 

@@ -384,32 +384,6 @@ fn attempts_lead_to_one_image(rt: HostRuntime) -> Result<(), Fail> {
     Ok(())
 }
 
-// A body whose block the next transaction revokes: the commands are the superblock and a flush.
-#[test]
-fn sends_no_body_that_is_revoked(rt: HostRuntime) -> Result<(), Fail> {
-    let alloc = rt.alloc();
-    let mut image = image_with(alloc, &FOUR)?;
-    put(&mut image, 9, Block::fill(3));
-    put_log(&mut image, 1, write_descriptor(4, &[tag(9)]));
-    put_log(&mut image, 2, Block::fill(7));
-    put_log(&mut image, 3, write_commit(4));
-    put_log(&mut image, 4, write_revoke(5, &[9]));
-    put_log(&mut image, 5, write_commit(5));
-    let (result, after) = attempt(&rt, alloc, image.copy(alloc)?, &[], false)?;
-    assert_eq!(rt; result, ended(2, 7));
-    assert_eq!(rt; body(&after, 9), Some(&Block::fill(3)));
-    let table = [
-        (1, Err(RecoverFault::DeviceFailed(0))),
-        (2, Err(RecoverFault::DeviceFailed(1))),
-        (3, ended(2, 7)),
-    ];
-    for (fail_at, want) in table {
-        let result = recover_failing(&rt, alloc, &image, Some(fail_at), None)?;
-        assert_eq!(rt; result, want);
-    }
-    Ok(())
-}
-
 // Recovers a log with these blocks: how many transactions count, and the byte that block 9, which was zero, has then.
 fn try_log(
     rt: &impl Abort,

@@ -1,11 +1,10 @@
 //! Images that are made, and mounted with what stands in their journals.
 use super::*;
-use blk_base::{Block, Image, NoMemory};
+use blk_base::{Block, Image};
 use device_epochs::{DeviceSetup, EpochDevice};
 use journal_blocks::{JournalSuper, Tag, write_commit, write_descriptor, write_super};
 use std::alloc::Global;
 use std::test::Fail;
-use tree_model::put_tree;
 
 // Where a block of the image of 32 inodes, 64 zones and a journal of 128 blocks is not all zeros, its first bytes and
 // the byte that follows them.
@@ -121,24 +120,6 @@ fn mounted(
         return Err(MountFault::NoMemory);
     };
     mount(alloc, &mut device)
-}
-
-fn shown(alloc: Global, mounted: &Mounted) -> Result<String, NoMemory> {
-    let mut text = String::new(alloc);
-    put_tree(alloc, &mut text, mounted.volume.tree(alloc)?)?;
-    Ok(text)
-}
-
-#[test]
-fn skips_the_missing_sequence(rt: HostRuntime) -> Result<(), Fail> {
-    let alloc = rt.alloc();
-    let image = skipping(alloc).map_err(|_| "not made")?;
-    let mounted = mounted(alloc, image, None, None).map_err(|_| "not mounted")?;
-    let log = mounted.log.ok_or("no journal")?;
-    assert_eq!(rt; (log.start, log.sequence, log.maxlen), (0, 6, 128));
-    assert!(rt; mounted.pages.state(0, 0).is_none());
-    assert_eq!(rt; shown(alloc, &mounted)?.as_str(), "dir /\n");
-    Ok(())
 }
 
 // What mounting is refused with on a device that fails so.

@@ -246,17 +246,10 @@ fn knows_which_zones_are_used(rt: HostRuntime) -> Result<(), Fail> {
     for zone in 0..50 {
         assert_eq!(rt; volume.uses_zone(zone), zone >= 6 && zone <= 20, "{zone}");
     }
+    assert_eq!(rt; volume.geometry(), &GEOMETRY);
     images_have_one_tree();
     image_metadata_gives_trees();
     image_faults_are_first_defects();
-    Ok(())
-}
-
-#[test]
-fn keeps_the_geometry(rt: HostRuntime) -> Result<(), Fail> {
-    let alloc = rt.alloc();
-    let volume = mounted(alloc, &bytes_of(alloc, &sample(alloc)?)?).map_err(|_| "not mounted")?;
-    assert_eq!(rt; volume.geometry(), &GEOMETRY);
     Ok(())
 }
 
@@ -350,8 +343,9 @@ const SMALL: usize = 5120;
 const LAST: usize = 5120 + 31 * 32;
 
 #[test]
-fn tells_the_fault_of_a_geometry(rt: HostRuntime) -> Result<(), Fail> {
+fn tells_the_fault_of_a_geometry_or_an_inode(rt: HostRuntime) -> Result<(), Fail> {
     let rows = [
+        // The geometry.
         (SUPER, 0, ImageFault::BadGeometry, 1),
         (SUPER + 2, 41, ImageFault::BadGeometry, 40),
         (SUPER + 2, 6, ImageFault::BadGeometry, 1),
@@ -364,37 +358,22 @@ fn tells_the_fault_of_a_geometry(rt: HostRuntime) -> Result<(), Fail> {
         (SUPER + 16, 0x138F, ImageFault::NameWidth, 1),
         (SUPER + 16, 0x2468, ImageFault::BadMagic, 1),
         (SUPER + 16, 0, ImageFault::BadMagic, 1),
+        // Inodes.
+        (ROOT, FILE, ImageFault::BadInode, 4),
+        (ROOT, DEVICE, ImageFault::BadInode, 4),
+        (ROOT + 4, 1121, ImageFault::BadInode, 4),
+        (BIG + 4, 0x1C01, ImageFault::BadInode, 4),
+        (DIR + 4, 50, ImageFault::BadInode, 4),
+        (DIR + 6, 0x1009, ImageFault::BadInode, 4),
+        (SMALL + 6, 0x1009, ImageFault::BadInode, 5),
+        (LAST, FILE, ImageFault::BadInode, 5),
+        (LAST, DIRECTORY, ImageFault::BadInode, 5),
     ];
     let alloc = rt.alloc();
     let blocks = sample(alloc)?;
     for (at, number, kind, block) in rows {
         let bytes = damaged(alloc, &blocks, &[(at, number)])?;
         assert!(rt; is_refused(alloc, &bytes, kind, block), "{at} {number}");
-    }
-    Ok(())
-}
-
-#[test]
-fn tells_the_fault_of_an_inode(rt: HostRuntime) -> Result<(), Fail> {
-    let rows = [
-        (ROOT, FILE, 4),
-        (ROOT, DEVICE, 4),
-        (ROOT + 4, 1121, 4),
-        (BIG + 4, 0x1C01, 4),
-        (DIR + 4, 50, 4),
-        (DIR + 6, 0x1009, 4),
-        (SMALL + 6, 0x1009, 5),
-        (LAST, FILE, 5),
-        (LAST, DIRECTORY, 5),
-    ];
-    let alloc = rt.alloc();
-    let blocks = sample(alloc)?;
-    for (at, number, block) in rows {
-        let bytes = damaged(alloc, &blocks, &[(at, number)])?;
-        assert!(rt;
-            is_refused(alloc, &bytes, ImageFault::BadInode, block),
-            "{at} {number}"
-        );
     }
     Ok(())
 }

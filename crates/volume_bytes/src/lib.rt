@@ -15,8 +15,6 @@ mod cutting;
 mod holes;
 mod numbers;
 mod open;
-#[cfg(test)]
-mod tests;
 mod truncating;
 mod writing;
 

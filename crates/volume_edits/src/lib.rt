@@ -16,8 +16,6 @@ mod freed;
 mod kept;
 mod laws;
 mod mapping;
-#[cfg(test)]
-mod tests;
 mod wanted;
 mod written;
 

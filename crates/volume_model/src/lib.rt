@@ -12,8 +12,6 @@ mod file_zones;
 mod laws;
 mod names;
 mod placed;
-#[cfg(test)]
-mod tests;
 
 pub use file_zones::FileZones;
 pub use laws::{

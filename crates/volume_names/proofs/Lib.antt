@@ -10,4 +10,3 @@ pub mod Creates
 pub mod Links
 pub mod Makes
 pub mod Callers
-pub mod NewMay

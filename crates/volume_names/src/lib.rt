@@ -19,8 +19,6 @@ mod making;
 mod marks;
 mod names;
 mod nodes;
-#[cfg(test)]
-mod tests;
 
 pub use creation::create;
 pub use inode_map::InodeMap;

@@ -11,8 +11,6 @@
 
 mod new;
 mod taking;
-#[cfg(test)]
-mod tests;
 mod touched;
 mod volume;
 mod ways;

@@ -11,8 +11,6 @@
 
 mod pieces;
 mod replies;
-#[cfg(test)]
-mod tests;
 mod trees;
 
 pub use replies::{list, read, stat};
