@@ -63,7 +63,7 @@ fn refused(alloc: Global, list: &[&str], script: &str) -> Result<u8, NoMemory> {
 }
 
 // Scripts of block requests, and what they print.
-const SCRIPTS: [(&str, &str); 11] = [
+const SCRIPTS: [(&str, &str); 12] = [
     // No requests.
     (
         "device 2\nevents\n",
@@ -114,6 +114,11 @@ const SCRIPTS: [(&str, &str); 11] = [
     (
         "blocks 1\nput 0 31 ordered\nput 0 32 ordered\nevents\nsubmit x 2\naccept x 2\ndispatch 1\ndispatch 0 x 2\nreceive x 2\ntransfer 0 x 2\npersist 1\npersist 0 x 2\n",
         "steps 3\nblock 0 32 1\n",
+    ),
+    // A command that finds the queue full is kept: the next dispatch sends it, and nothing else.
+    (
+        "blocks 3\nqueue 1\nput 0 11 free\nput 1 22 free\nput 2 33 free\nevents\nsubmit\naccept\nsubmit\naccept\nsubmit\naccept\ndispatch 0\ndispatch 1\nreceive\ndispatch 1\nreceive x 2\ntransfer 0 x 2\npersist 0 x 2\n",
+        "steps 4\nblock 0 11 0\nblock 1 00 -\nblock 2 33 2\n",
     ),
 ];
 

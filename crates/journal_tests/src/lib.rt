@@ -1,9 +1,13 @@
-//! Tests of a journal's blocks, and of recovery on the model device.
+//! Tests of a journal's blocks, of recovery on the model device, and of images that are mounted there.
 //!
-//! Stands on `journal_blocks`, `journal_replay` and `device_epochs`.
+//! Stands on `journal_blocks`, `journal_replay`, `mount_make` and `device_epochs`.
 #![tactic(auto)]
 
 #[cfg(test)]
+mod images;
+#[cfg(test)]
 mod log_blocks;
+#[cfg(test)]
+mod made_images;
 #[cfg(test)]
 mod recovery;

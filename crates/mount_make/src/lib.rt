@@ -10,13 +10,9 @@
 #![tactic(auto)]
 
 mod fault;
-#[cfg(test)]
-mod journal_tests;
 mod laws;
 mod make;
 mod mounting;
-#[cfg(test)]
-mod tests;
 mod volume_block;
 
 pub use fault::{ImageFault, MountFault};

@@ -1,8 +1,11 @@
 //! Images that are made, and mounted with what stands in their journals.
-use super::*;
 use blk_base::{Block, Image};
 use device_epochs::{DeviceSetup, EpochDevice};
 use journal_blocks::{JournalSuper, Tag, write_commit, write_descriptor, write_super};
+use mount_make::{
+    MakeFault, MountFault, Mounted, made_images_are_plain, made_maps_mark_the_root, make_volume,
+    mount,
+};
 use std::alloc::Global;
 use std::test::Fail;
 

@@ -1,10 +1,13 @@
 //! Images that are put together by the writers of the layout, and then damaged.
 ghost use Rattle.std.specs.Prelude.{◌<◌};
 
-use super::*;
 use blk_base::{Block, Image, NoMemory};
 use device_epochs::{DeviceSetup, EpochDevice};
 use minix_layout::{Geometry, Inode, Name, Slot, Zones, write_inode, write_slot, write_super};
+use mount_make::{
+    ImageFault, MountFault, image_faults_are_first_defects, image_metadata_gives_trees,
+    images_have_one_tree, mount,
+};
 use std::alloc::Global;
 use std::test::Fail;
 use tree_model::put_tree;
