@@ -4,7 +4,7 @@ ghost use Rattle.std.specs.Prelude.{◌≡◌};
 use blk_base::{Block, NoMemory};
 use order_model::{
     Command, Commands, Completion, History, Inlet, Kind, ListQueue, Outlet, Part, Parts, Priority,
-    Request,
+    Request, Requests,
 };
 use std::process::Abort;
 
@@ -15,6 +15,13 @@ fn part(id: u64, block: u8) -> Part {
         block: u32::from(block),
         body: Block::fill(block),
     }
+}
+
+// A part whose body has one byte that is another.
+fn mixed(id: u64, block: u8) -> Part {
+    let mut part = part(id, block);
+    part.body.set(1023, 200);
+    part
 }
 
 // Puts two numbers by the bounds alone, and takes one.
@@ -113,15 +120,52 @@ fn commands_in_order(rt: HostRuntime) -> Result<(), NoMemory> {
     assert!(rt; parts.push(part(1, 6)).is_ok());
     commands.push(&command(parts, None));
     commands.push(&command(Parts::none(), Some(2)));
-    commands.push(&command(Parts::one(part(3, 9)), None));
-    assert_eq!(rt; commands.len(), 3);
-    assert_eq!(rt;
-        commands.parts(),
-        [part(0, 5), part(1, 6), part(3, 9)].as_slice()
-    );
+    commands.push(&command(Parts::one(mixed(3, 9)), None));
+    assert_eq!(rt; (commands.len(), commands.count_parts()), (3, 3));
+    assert_eq!(rt; commands.part(0), Some(part(0, 5)));
+    assert_eq!(rt; commands.part(1), Some(part(1, 6)));
+    assert_eq!(rt; commands.part(2), Some(mixed(3, 9)));
+    assert_eq!(rt; commands.part(3), None);
+    assert_eq!(rt; (commands.part_id(2), commands.part_id(3)), (Some(3), None));
     for (k, first) in [(0, 0), (1, 2), (2, 2), (3, 3)] {
         assert_eq!(rt; commands.first_part(k), first, "command {k}");
     }
+    Ok(())
+}
+
+// A put of these bytes, ordered, without a barrier.
+fn put(part: Part) -> Request {
+    Request {
+        id: part.id,
+        kind: Kind::Put {
+            block: part.block,
+            body: part.body,
+        },
+        ordered: true,
+        barrier: false,
+    }
+}
+
+#[test]
+fn requests_in_order(rt: HostRuntime) -> Result<(), NoMemory> {
+    let flush = Request {
+        id: 2,
+        kind: Kind::Flush,
+        ordered: true,
+        barrier: true,
+    };
+    let mut requests = Requests::make(rt.alloc(), 4)?;
+    assert!(rt; requests.is_empty());
+    requests.push(&put(mixed(0, 5)));
+    requests.push(&put(part(1, 6)));
+    requests.push(&flush);
+    requests.push(&put(mixed(3, 9)));
+    assert_eq!(rt; requests.len(), 4);
+    assert_eq!(rt; requests.get(0), Some(put(mixed(0, 5))));
+    assert_eq!(rt; requests.get(1), Some(put(part(1, 6))));
+    assert_eq!(rt; requests.get(2), Some(flush));
+    assert_eq!(rt; requests.get(3), Some(put(mixed(3, 9))));
+    assert_eq!(rt; requests.get(4), None);
     Ok(())
 }
 

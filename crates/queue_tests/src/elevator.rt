@@ -248,8 +248,8 @@ fn trace_has_what_passed(rt: HostRuntime) -> Result<(), NoMemory> {
     assert_eq!(rt; count, 128);
     assert_eq!(rt; sched.trace().sent_out.len(), 1);
     let record = sched.into_trace();
-    assert_eq!(rt; record.accepted.as_slice().len(), 128);
-    assert_eq!(rt; record.sent_out.parts().len(), 16);
+    assert_eq!(rt; record.accepted.len(), 128);
+    assert_eq!(rt; record.sent_out.count_parts(), 16);
     Ok(())
 }
 

@@ -170,12 +170,12 @@ fn trace_has_what_passed(rt: HostRuntime) -> Result<(), NoMemory> {
     assert_eq!(rt; count, 2);
     assert_eq!(rt; sched.trace().sent_out.len(), 2);
     let record = sched.into_trace();
-    let Some(first) = record.accepted.as_slice().get(0) else {
+    let Some(first) = record.accepted.get(0) else {
         panic!(rt; "nothing accepted");
     };
     assert!(rt; first.barrier && first.ordered);
-    assert_eq!(rt; record.accepted.as_slice().len(), 2);
-    assert_eq!(rt; record.sent_out.parts().len(), 1);
+    assert_eq!(rt; record.accepted.len(), 2);
+    assert_eq!(rt; record.sent_out.count_parts(), 1);
     Ok(())
 }
 

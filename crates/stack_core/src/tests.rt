@@ -64,13 +64,15 @@ fn left_by(alloc: Global, text: &[u8]) -> Result<Left, Fail>
     let script = read_script(alloc, text)?;
     let report = core_run(alloc, &script)?;
     let mut sent = Vec::new(alloc);
-    for part in report.sched.sent_out.parts() {
-        sent.push(part.id)?;
+    for place in 0..report.sched.sent_out.count_parts() {
+        if let Some(id) = report.sched.sent_out.part_id(place) {
+            sent.push(id)?;
+        }
     }
     Ok(Left {
         steps: report.cut.trace.steps,
         submitted: report.submitted.len(),
-        accepted: report.sched.accepted.as_slice().len(),
+        accepted: report.sched.accepted.len(),
         sent,
         origins: report.cut.origins.as_slice().to_vec(alloc)?,
     })
