@@ -1,8 +1,8 @@
-//! Commands that wait: which may go next.
+//! Commands that wait: which may go next in a device, and the ring of those that are on their way to it.
 ghost use Rattle.std.specs.Prelude.{◌≡◌, ◌+◌, ◌<◌};
 
 use blk_base::{Block, NoMemory};
-use command_queue::CommandQueue;
+use command_queue::{CommandQueue, CommandRing};
 use order_model::{Command, Part, Parts, Priority};
 use std::process::Abort;
 
@@ -104,5 +104,52 @@ fn keeps_blocks_in_order(rt: HostRuntime) -> Result<(), NoMemory> {
         assert_eq!(rt; q.eligible(), 1);
         assert_eq!(rt; first_block(q.take(0).as_ref()), Some(first));
     }
+    Ok(())
+}
+
+// A copy of a command of so many blocks from `first` on goes into the ring, which has room.
+fn push(rt: &impl Abort, ring: &mut CommandRing, first: u32, blocks: u32)
+    requires { first + blocks < 100 }
+{
+    assert!(rt; !ring.is_full());
+    ring.push(&command(rt, Priority::Simple, first, blocks));
+}
+
+// The first command of the ring has so many blocks from `first` on, and leaves.
+fn leaves(rt: &impl Abort, ring: &mut CommandRing, first: u32, blocks: u32) {
+    assert_eq!(rt; first_block(ring.first()), Some(first));
+    assert_eq!(rt; ring.first().map_or(0, |c| c.parts.len()), blocks);
+    ring.remove_first();
+}
+
+// Three slots: the commands at blocks 40 and 50 lie where those at 10 and 20 lay.
+#[test]
+fn ring_wraps_round(rt: HostRuntime) -> Result<(), NoMemory> {
+    let mut ring = CommandRing::make(rt.alloc(), 3)?;
+    assert!(rt; ring.first().is_none());
+    push(&rt, &mut ring, 10, 2);
+    push(&rt, &mut ring, 20, 3);
+    push(&rt, &mut ring, 30, 1);
+    assert!(rt; ring.is_full());
+    leaves(&rt, &mut ring, 10, 2);
+    push(&rt, &mut ring, 40, 1);
+    assert!(rt; ring.is_full());
+    leaves(&rt, &mut ring, 20, 3);
+    push(&rt, &mut ring, 50, 4);
+    assert!(rt; ring.is_full());
+    leaves(&rt, &mut ring, 30, 1);
+    leaves(&rt, &mut ring, 40, 1);
+    leaves(&rt, &mut ring, 50, 4);
+    assert!(rt; ring.first().is_none());
+    ring.remove_first();
+    assert!(rt; ring.first().is_none());
+    Ok(())
+}
+
+#[test]
+fn ring_of_no_slots_is_full(rt: HostRuntime) -> Result<(), NoMemory> {
+    let ring = CommandRing::make(rt.alloc(), 0)?;
+    assert!(rt; ring.is_full());
+    assert!(rt; ring.first().is_none());
     Ok(())
 }
