@@ -5,6 +5,8 @@
 #![tactic(auto)]
 
 #[cfg(test)]
+mod bench;
+#[cfg(test)]
 mod elevator;
 #[cfg(test)]
 mod epoch_queue;

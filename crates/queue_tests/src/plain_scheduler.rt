@@ -1,116 +1,26 @@
 //! Tests: requests that go in, and the commands that come out.
-ghost use Rattle.std.specs.Prelude.{◌≡◌, true, length};
-ghost use Rattle.order_model.specs.Submission.{is_flush};
-ghost use Rattle.order_model.specs.Carrying.{AreAtIds};
-
+use crate::bench::Ask::{Barrier, Flush, Ordered, Orderless};
+use crate::bench::{Bench, LIMIT, Sent, fence, plain, sent_of};
 use barrier_reassign::{CAPACITY, Held, Scheduler};
-use blk_base::{Block, NoMemory};
+use blk_base::NoMemory;
 use epoch_sched::Sched;
-use order_model::{Command, Kind, Priority, Request};
+use order_model::Command;
 use std::alloc::Global;
 use std::process::Abort;
 
-const LIMIT: u64 = 200;
-
-// Requests that a host may submit: puts to a block, and a flush.
-#[derive(Clone, Copy, Debug)]
-enum Ask {
-    Orderless(u32),
-    Ordered(u32),
-    Barrier(u32),
-    Flush,
+fn scheduler(alloc: Global) -> Result<Bench<Sched>, NoMemory> {
+    Ok(Bench::over(Sched::make(alloc, LIMIT)?))
 }
 
-use Ask::{Barrier, Flush, Ordered, Orderless};
-
-fn put(id: u64, block: u32, ordered: bool, barrier: bool) -> Request
-    requires { barrier ≡ true → ordered ≡ true }
-    ensures id { result.id ≡ id }
-    ensures barrier { result.barrier ≡ true → result.ordered ≡ true }
-    ensures flush { result.kind ≡ Kind.Flush → (result.ordered ≡ true) × (result.barrier ≡ true) }
-{
-    let body = Block::fill(0);
-    let kind = Kind::Put { block, body };
-    Request {
-        id,
-        kind,
-        ordered,
-        barrier,
-    }
-}
-
-fn request(id: u64, ask: Ask) -> Request
-    ensures id { result.id ≡ id }
-    ensures barrier { result.barrier ≡ true → result.ordered ≡ true }
-    ensures flush { result.kind ≡ Kind.Flush → (result.ordered ≡ true) × (result.barrier ≡ true) }
-{
-    match ask {
-        Orderless(block) => put(id, block, false, false),
-        Ordered(block) => put(id, block, true, false),
-        Barrier(block) => put(id, block, true, true),
-        Flush => Request {
-            id,
-            kind: Kind::Flush,
-            ordered: true,
-            barrier: true,
-        },
-    }
-}
-
-// A scheduler whose requests are numbered from 0 on.
-#[derive(Drop)]
-struct Bench {
-    sched: Sched,
-    count: u64,
-    ghost limit: { sched.limit ≡ 200 },
-    ghost numbered: { count ≡ length sched.accepted },
-    ghost ids: { AreAtIds sched.accepted },
-}
-
-impl Bench {
-    fn make(alloc: Global) -> Result<Bench, NoMemory> {
-        let sched = Sched::make(alloc, LIMIT)?;
-        Ok(Bench { sched, count: 0 })
-    }
-
-    // Why the request was refused.
-    fn submit(&mut self, ask: Ask) -> Option<Held> {
-        if self.count >= LIMIT {
-            return Some(Held::Full);
-        }
-        if let Err((_, held)) = self.sched.accept(request(self.count, ask)) {
-            return Some(held);
-        }
-        self.count += 1;
-        None
-    }
-
-    // The id, the flag and the priority of the command that is sent.
-    fn send(&mut self, pick: u32) -> Option<(u64, bool, Priority)> {
-        let command = self.sched.dispatch(pick)?;
-        Some((id_of(&command), command.barrier, command.priority))
-    }
-}
-
-fn id_of(c: &Command) -> u64 {
-    match c.parts.get(0) {
-        Some(part) => part.id,
-        None => c.flush.unwrap_or(u64::MAX),
-    }
-}
-
-const fn plain(id: u64) -> Option<(u64, bool, Priority)> {
-    Some((id, false, Priority::Simple))
-}
-
-const fn fence(id: u64) -> Option<(u64, bool, Priority)> {
-    Some((id, true, Priority::Ordered))
+// The command of one put, which is no barrier.
+const fn put(id: u64) -> Option<Sent> {
+    plain(id, id, 1)
 }
 
 // The barrier leaves first and unflagged, and the ordered put that leaves last carries the flag.
 #[test]
 fn flag_is_reassigned(rt: HostRuntime) -> Result<(), NoMemory> {
-    let mut bench = Bench::make(rt.alloc())?;
+    let mut bench = scheduler(rt.alloc())?;
     for ask in [Ordered(1), Orderless(2), Ordered(3), Barrier(4)] {
         assert_eq!(rt; bench.submit(ask), None);
     }
@@ -118,11 +28,11 @@ fn flag_is_reassigned(rt: HostRuntime) -> Result<(), NoMemory> {
     assert_eq!(rt; bench.submit(Orderless(5)), Some(Held::Blocked));
     assert_eq!(rt; bench.sched.eligible(), 4);
     for (pick, sent) in [
-        (3, plain(3)),
-        (2, plain(2)),
-        (0, fence(0)),
+        (3, put(3)),
+        (2, put(2)),
+        (0, fence(0, 0, 1)),
         (1, None),
-        (0, plain(1)),
+        (0, put(1)),
     ] {
         assert_eq!(rt; bench.send(pick), sent, "{pick}");
     }
@@ -134,13 +44,13 @@ fn flag_is_reassigned(rt: HostRuntime) -> Result<(), NoMemory> {
 // A flush leaves behind all that was accepted before it; puts of one block leave in order.
 #[test]
 fn flush_leaves_alone(rt: HostRuntime) -> Result<(), NoMemory> {
-    let mut bench = Bench::make(rt.alloc())?;
+    let mut bench = scheduler(rt.alloc())?;
     for ask in [Orderless(7), Orderless(7), Orderless(8), Flush] {
         assert_eq!(rt; bench.submit(ask), None);
     }
     assert_eq!(rt; bench.submit(Orderless(9)), Some(Held::Blocked));
     assert_eq!(rt; bench.sched.eligible(), 2);
-    for sent in [plain(0), plain(1), plain(2), fence(3), None] {
+    for sent in [put(0), put(1), put(2), fence(3, 3, 0), None] {
         assert_eq!(rt; bench.send(0), sent);
     }
     assert_eq!(rt; bench.submit(Orderless(9)), None);
@@ -149,19 +59,43 @@ fn flush_leaves_alone(rt: HostRuntime) -> Result<(), NoMemory> {
 
 #[test]
 fn full_queue_refuses(rt: HostRuntime) -> Result<(), NoMemory> {
-    let mut bench = Bench::make(rt.alloc())?;
+    let mut bench = scheduler(rt.alloc())?;
     for block in 0..CAPACITY {
         assert_eq!(rt; bench.submit(Orderless(block)), None);
     }
     assert_eq!(rt; bench.submit(Orderless(0)), Some(Held::Full));
-    assert_eq!(rt; bench.send(0), plain(0));
+    assert_eq!(rt; bench.send(0), put(0));
     assert_eq!(rt; bench.submit(Orderless(0)), None);
+    Ok(())
+}
+
+// The command that is kept becomes what is sent, whatever it was, and stays where nothing is.
+#[test]
+fn writes_into_a_command(rt: HostRuntime) -> Result<(), NoMemory> {
+    let mut bench = scheduler(rt.alloc())?;
+    let mut command = Command::blank();
+    for ask in [Orderless(7), Flush] {
+        assert_eq!(rt; bench.submit(ask), None);
+    }
+    for (pick, sent, written) in [
+        (0, true, put(0)),
+        (1, false, put(0)),
+        (0, true, fence(1, 1, 0)),
+        (0, false, fence(1, 1, 0)),
+    ] {
+        assert_eq!(rt; bench.send_into(pick, &mut command), sent, "{pick}");
+        assert_eq!(rt; Some(sent_of(&command)), written, "{pick}");
+    }
+    assert_eq!(rt; bench.submit(Orderless(9)), None);
+    assert!(rt; bench.send_into(0, &mut command));
+    assert_eq!(rt; Some(sent_of(&command)), put(2));
+    assert_eq!(rt; command.flush, None);
     Ok(())
 }
 
 #[test]
 fn trace_has_what_passed(rt: HostRuntime) -> Result<(), NoMemory> {
-    let mut bench = Bench::make(rt.alloc())?;
+    let mut bench = scheduler(rt.alloc())?;
     for ask in [Barrier(1), Flush] {
         assert_eq!(rt; bench.submit(ask), None);
         assert_eq!(rt; bench.send(0).is_some(), true);
