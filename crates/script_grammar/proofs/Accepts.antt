@@ -23,48 +23,29 @@ use Rattle.script_grammar.specs.declared.words.PickWord.{PickWord}
 use Rattle.script_grammar.specs.declared.words.PickWord.TheVariants as picks
 use Rattle.script_grammar.specs.declared.words.Word.TheVariants as word
 use Rattle.script_grammar.specs.declared.words.Line.TheVariants as line
-use Rattle.script_words.specs.Spelling.{is_skipped, words_of, lines_of}
+use Rattle.script_words.specs.Spelling.{lines_of}
 use Rattle.script_grammar.specs.Words.{count_of}
-use Rattle.script_grammar.specs.Grammar.{form_blocks, is_scheduled, needs_scheduler, count_fits, with_request, with_events, plain_event, pick_event, new_reading, read_words, at_line, read_from, ended, ended_in, script_read, script_of, IsRequestOf}
+use Rattle.script_grammar.specs.Grammar.{form_blocks, is_scheduled, needs_scheduler, count_fits, with_request, with_events, plain_event, pick_event, new_reading, read_words, read_one, ended, ended_in, script_read, script_of, IsRequestOf}
 use Rattle.script_grammar.specs.WellFormed.{IsEventOf, IsEventLineOf, IsFilled, IsWellFormed, expanded_of}
 use Rattle.script_grammar.specs.laws.Speller.{form_words, cut_lines, elevator_lines, request_words, event_words, what_words, event_line_words}
-use Rattle.script_grammar.specs.laws.Accepted.{kept_lines, begins, beginning, or_default, default_depth, filled_queue, with_count, SaysScript}
+use Rattle.script_words.specs.laws.Texts.{kept_lines}
+use Rattle.script_words.proofs.KeptLines as text
+use Rattle.script_words.proofs.KeptLines.{ends_reads}
+use Rattle.script_grammar.specs.laws.Accepted.{begins, beginning, or_default, default_depth, filled_queue, with_count, SaysScript}
 use Rattle.script_words.proofs.SpelledNumbers.{numeral-decimal}
-use Rattle.script_grammar.proofs.SpelledLines.{IsRead, EndsIn, read_from-step, at_header, before_events, later_line-read, may_stand-event, count_fits-from, IsRead-form, IsRead-depth, IsRead-queue, IsRead-cut, IsRead-elevator, IsRead-request, IsRead-events}
+use Rattle.script_grammar.proofs.SpelledLines.{IsRead, at_header, before_events, later_line-read, may_stand-event, count_fits-from, IsRead-form, IsRead-depth, IsRead-queue, IsRead-cut, IsRead-elevator, IsRead-request, IsRead-events}
 use Rattle.script_grammar.proofs.Spelled.{with_line, with_lines, with_requests, IsRead-event_line}
 use Rattle.script_grammar.proofs.SaidWords.{one_text, default_text, line_with}
-use Rattle.script_grammar.proofs.Said.{read_line_of, is_header_line, depth_line, queue_line, cut_line, elevator_line, kept_behind, kept_lines-one}
+use Rattle.script_grammar.proofs.Said.{read_line_of, is_header_line, depth_line, queue_line, cut_line, elevator_line}
 
 -- ---- lines, each as its words
 
 -- they are read one after the other, and end as the script
 abbrev ReadsTo : Option Reading → List (List (List ℕ)) → Script → Type 0
-ReadsTo reading [] s = (n : ℕ) → ended n reading ≡ Ok s
-ReadsTo reading (ws ∷ ls) s = (next : Reading) × (read_words reading ws ≡ Ok next) × ReadsTo (Some next) ls s
+ReadsTo reading ls s = text.ReadsTo (λ reading ws next. read_words reading ws ≡ Ok next) ended reading ls s
 
 ReadsTo-line : (reading : Option Reading) (ws : List (List ℕ)) (next : Reading) (ls : List (List (List ℕ))) (s : Script) → IsRead reading ws next → ReadsTo (Some next) ls s → ReadsTo reading (ws ∷ ls) s
 ReadsTo-line reading ws next ls s is rest = (next, is.read, rest)
-
-ends_skipped : (reading : Option Reading) (l : List ℕ) (ls : List (List ℕ)) (s : Script) → is_skipped l ≡ true → EndsIn reading ls s → EndsIn reading (l ∷ ls) s
-ends_skipped reading l ls s skipped rest n =
-    read_from-step n reading reading l ls (ap (λ t. if t then Ok reading else at_line n (read_words reading (words_of l))) skipped) ∙ rest (n + 1)
-
-ends_kept : (reading : Option Reading) (next : Reading) (l : List ℕ) (ls : List (List ℕ)) (s : Script) → is_skipped l ≡ false → read_words reading (words_of l) ≡ Ok next → EndsIn (Some next) ls s → EndsIn reading (l ∷ ls) s
-ends_kept reading next l ls s kept read rest n =
-    read_from-step n reading (Some next) l ls
-    (ap (λ t. if t then Ok reading else at_line n (read_words reading (words_of l))) kept ∙ ap (at_line n) read) ∙ rest (n + 1)
-
-ends_behind : (skipped : Bool) (reading : Option Reading) (l : List ℕ) (ls : List (List ℕ)) (s : Script) → is_skipped l ≡ skipped
-    → ((r : Option Reading) → ReadsTo r (kept_lines ls) s → EndsIn r ls s) → ReadsTo reading (kept_behind skipped l ls) s → EndsIn reading (l ∷ ls) s
-ends_behind true reading l ls s e rest reads = ends_skipped reading l ls s e (rest reading reads)
-ends_behind false reading l ls s e rest (next, read, reads) = ends_kept reading next l ls s e read (rest (Some next) reads)
-
-ends_reads : (ls : List (List ℕ)) (reading : Option Reading) (s : Script) → ReadsTo reading (kept_lines ls) s → EndsIn reading ls s
-unfolding read_from
-ends_reads [] reading s reads = reads
-ends_reads (l ∷ ls) reading s reads =
-    ends_behind (is_skipped l) reading l ls s refl (λ r more. ends_reads ls r s more)
-    (subst (λ ks. ReadsTo reading ks s) (kept_lines-one l ls (is_skipped l) refl) reads)
 
 -- ---- event lines
 
@@ -459,4 +440,5 @@ says_read s lines well says =
 
 -- the law: lines that say a well-formed script are read as it
 pub script_of-SaysScript : (bytes : List ℕ) (s : Script) → IsWellFormed s → SaysScript s (kept_lines (lines_of bytes)) → script_of bytes ≡ Ok s
-script_of-SaysScript bytes s well says = ends_reads (lines_of bytes) None s (says_read s (kept_lines (lines_of bytes)) well says) 1
+script_of-SaysScript bytes s well says =
+    ends_reads read_one ended (λ reading ws next. read_words reading ws ≡ Ok next) (λ reading l next h. h) (lines_of bytes) None s 1 (says_read s (kept_lines (lines_of bytes)) well says)

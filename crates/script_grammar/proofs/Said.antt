@@ -29,12 +29,14 @@ use Rattle.script_grammar.specs.declared.words.Word.TheVariants as word
 use Rattle.script_grammar.specs.declared.words.Line.{Line}
 use Rattle.script_grammar.specs.declared.words.Line.TheVariants as line
 use Rattle.byte_text.specs.Hex.{hex_text}
-use Rattle.script_words.specs.Spelling.{numeral, hex_byte, is_skipped, words_of, lines_of}
+use Rattle.script_words.specs.Spelling.{numeral, hex_byte, words_of, lines_of}
 use Rattle.script_grammar.specs.Words.{class_of, count_of, header_line, put_line, pick_line, line_of, word_of}
-use Rattle.script_grammar.specs.Grammar.{form_blocks, is_scheduled, form_of, is_built, new_reading, opened, form_line, built_first, first_line, stands_in, may_stand, stood_before, fits, put_request, flush_request, with_request, with_events, plain_event, pick_event, after, taken, later_line, read_words, at_line, read_line, script_read, ended_in, ended, read_from, script_of}
+use Rattle.script_grammar.specs.Grammar.{form_blocks, is_scheduled, form_of, is_built, new_reading, opened, form_line, built_first, first_line, stands_in, may_stand, stood_before, fits, put_request, flush_request, with_request, with_events, plain_event, pick_event, after, taken, later_line, read_words, read_one, script_read, ended_in, ended, script_of}
 use Rattle.script_grammar.specs.laws.Speller.{form_words, cut_lines, elevator_lines, request_words, event_line_words}
-use Rattle.script_grammar.specs.laws.Accepted.{kept_lines, begins, beginning, or_default, default_depth, filled_queue, with_count, SaysScript}
-use Rattle.script_grammar.proofs.WellFormed.{ok_behind, ok_past, ok_beside, read_then}
+use Rattle.script_words.specs.laws.Texts.{kept_lines}
+use Rattle.script_words.proofs.KeptLines.{said}
+use Rattle.script_grammar.specs.laws.Accepted.{begins, beginning, or_default, default_depth, filled_queue, with_count, SaysScript}
+use Rattle.script_grammar.proofs.WellFormed.{ok_behind, ok_past, ok_beside}
 use Rattle.script_words.proofs.Chosen.{mapped, chained}
 use Rattle.script_grammar.proofs.SpelledLines.{before_events, body_byte-filled}
 use Rattle.script_words.proofs.SaidNumbers.{decimal-numeral, hex_text-byte}
@@ -540,42 +542,7 @@ SaysScript-ended n (Some r) s lines h is = SaysScript-ended_in n r r.section s l
 
 -- ---- all lines
 
--- the lines behind these, of which this one is skipped or not
-abbrev pub kept_behind : Bool → List ℕ → List (List ℕ) → List (List (List ℕ))
-kept_behind true l ls = kept_lines ls
-kept_behind false l ls = words_of l ∷ kept_lines ls
-
-pub kept_lines-one : (l : List ℕ) (ls : List (List ℕ)) (skipped : Bool) → is_skipped l ≡ skipped → kept_lines (l ∷ ls) ≡ kept_behind skipped l ls
-kept_lines-one l ls true e = rw e refl
-kept_lines-one l ls false e = rw e refl
-
-SaysScript-then : {E : Type 0} (read : Result (Option Reading) E) (f : Option Reading → Result Script E) (s : Script) (lines : List (List (List ℕ))) → read_then read f ≡ Ok s → ((next : Option Reading) → read ≡ Ok next → f next ≡ Ok s → SaysScript s lines) → SaysScript s lines
-SaysScript-then (Ok next) f s lines h is = is next refl h
-SaysScript-then (Err e) f s lines h is = cc
-
-at_line-ok : (n : ℕ) (read : Result Reading ScriptKind) (next : Option Reading) (P : Option Reading → Type 0) → at_line n read ≡ Ok next → ((r : Reading) → read ≡ Ok r → P (Some r)) → P next
-at_line-ok n (Ok r) next P h is = let e : Some r ≡ next = cc in subst P e (is r refl)
-at_line-ok n (Err kind) next P h is = cc
-
--- what one line leaves, and what is read behind it
-said_behind : (skipped : Bool) (n : ℕ) (reading next : Option Reading) (l : List ℕ) (ls : List (List ℕ)) (done : List (List (List ℕ))) (s : Script)
-    → (if skipped then Ok reading else at_line n (read_words reading (words_of l))) ≡ Ok next → SaysSoFar reading done
-    → ((more : List (List (List ℕ))) → SaysSoFar next more → SaysScript s (more ++ kept_lines ls)) → SaysScript s (done ++ kept_behind skipped l ls)
-said_behind true n reading next l ls done s h is rest =
-    let e : reading ≡ next = cc in
-    rest done (subst (λ o. SaysSoFar o done) e is)
-said_behind false n reading next l ls done s h is rest =
-    let said = at_line-ok n (read_words reading (words_of l)) next (λ o. SaysSoFar o (done ++ words_of l ∷ [])) h (λ r e. Says-words reading done (words_of l) r e is) in
-    subst (SaysScript s) (append_assoc done (words_of l ∷ []) (kept_lines ls)) (rest (done ++ words_of l ∷ []) said)
-
-SaysScript-read_from : (ls : List (List ℕ)) (n : ℕ) (reading : Option Reading) (done : List (List (List ℕ))) (s : Script) → read_from n reading ls ≡ Ok s → SaysSoFar reading done → SaysScript s (done ++ kept_lines ls)
-unfolding read_from
-SaysScript-read_from [] n reading done s h is = subst (SaysScript s) (sym (append-nil done)) (SaysScript-ended n reading s done h is)
-SaysScript-read_from (l ∷ ls) n reading done s h is =
-    SaysScript-then (read_line n reading l) (λ next. read_from (n + 1) next ls) s (done ++ kept_lines (l ∷ ls)) h
-    (λ next e g. subst (λ k. SaysScript s (done ++ k)) (sym (kept_lines-one l ls (is_skipped l) refl))
-    (said_behind (is_skipped l) n reading next l ls done s e is (λ more said. SaysScript-read_from ls (n + 1) next more s g said)))
-
 -- the law: a text that is accepted says its script
 pub SaysScript-script_of : (bytes : List ℕ) (s : Script) → script_of bytes ≡ Ok s → SaysScript s (kept_lines (lines_of bytes))
-SaysScript-script_of bytes s h = SaysScript-read_from (lines_of bytes) 1 None [] s h refl
+SaysScript-script_of bytes s h =
+    said read_one ended SaysSoFar SaysScript (λ reading done l r e is. Says-words reading done (words_of l) r e is) (λ n reading done s e is. SaysScript-ended n reading s done e is) (lines_of bytes) 1 None [] s h refl

@@ -14,10 +14,11 @@ use Rattle.script_grammar.specs.declared.script.Form.TheVariants.{Device, Blocks
 use Rattle.script_grammar.specs.declared.script.EventLine.{EventLine}
 use Rattle.script_grammar.specs.declared.script.EventWord.{EventWord}
 use Rattle.script_grammar.specs.declared.script.EventWord.TheVariants.{One}
-use Rattle.script_grammar.specs.Grammar.{is_scheduled, form_blocks, new_reading, with_request, read_from, ended_in, script_read, script_of, IsRequestOf}
+use Rattle.script_grammar.specs.Grammar.{is_scheduled, form_blocks, new_reading, with_request, read_one, read_from, ended, ended_in, script_read, script_of, IsRequestOf}
 use Rattle.script_grammar.specs.WellFormed.{IsWordOf, IsEventLineOf, IsFilled, IsWellFormed, expanded_of}
 use Rattle.script_grammar.specs.laws.Speller.{form_words, queue_lines, cut_lines, elevator_lines, request_words, what_words, event_line_words, script_lines, script_text}
 use Rattle.script_words.specs.laws.Texts.{lines_text}
+use Rattle.script_words.proofs.LineByLine.{read_none}
 use Rattle.script_words.proofs.SpelledWords.{AreClearLines, lines_of-text}
 use Rattle.script_grammar.proofs.SpelledLines.{IsRead, EndsIn, EndsIn-line, at_header, before_events, IsRead-form, IsRead-depth, IsRead-queue, IsRead-cut, IsRead-elevator, IsRead-request, IsRead-events, IsRead-event}
 
@@ -34,8 +35,7 @@ IsSpelling-line reading ws next ls s is rest = record {
 
 -- no line more
 EndsIn-none : (r : Reading) → r.section ≡ sections.Events → EndsIn (Some r) [] (script_read r)
-unfolding read_from
-EndsIn-none r here n = ap (ended_in n r) here
+EndsIn-none r here n = read_none read_one ended n (Some r) ∙ ap (ended_in n r) here
 
 -- ---- event lines
 

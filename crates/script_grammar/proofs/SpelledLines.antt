@@ -32,8 +32,10 @@ use Rattle.script_grammar.specs.declared.words.Line.{Line}
 use Rattle.script_grammar.specs.declared.words.Line.TheVariants as line
 use Rattle.byte_text.specs.Hex.{hex_text}
 use Rattle.script_words.specs.Spelling.{numeral, hex_byte, is_skipped, words_of}
+use Rattle.script_words.specs.LineByLine.{at_line}
+use Rattle.script_words.proofs.LineByLine.{read_step}
 use Rattle.script_grammar.specs.Words.{class_of, line_of}
-use Rattle.script_grammar.specs.Grammar.{is_scheduled, form_blocks, new_reading, opened, form_of, is_built, may_stand, stands_in, needs_scheduler, stood_before, fits, count_fits, is_ordered_class, is_barrier_class, with_request, with_events, plain_event, pick_event, after, taken, later_line, read_words, at_line, read_line, read_from, IsRequestOf}
+use Rattle.script_grammar.specs.Grammar.{is_scheduled, form_blocks, new_reading, opened, form_of, is_built, may_stand, stands_in, needs_scheduler, stood_before, fits, count_fits, is_ordered_class, is_barrier_class, with_request, with_events, plain_event, pick_event, after, taken, later_line, read_words, read_one, read_line, read_from, ended, IsRequestOf}
 use Rattle.script_grammar.specs.WellFormed.{IsEventOf, IsFilled}
 use Rattle.script_grammar.specs.laws.Speller.{form_words, class_text, body_byte, kind_words, request_words, event_words}
 use Rattle.script_words.proofs.SpelledWords.{IsClear, AreClear, words_of-joined}
@@ -58,14 +60,10 @@ read_line-words n reading (w ∷ ws) next is =
 abbrev pub EndsIn : Option Reading → List (List ℕ) → Script → Type 0
 EndsIn reading ls s = (n : ℕ) → read_from n reading ls ≡ Ok s
 
-pub read_from-step : (n : ℕ) (reading next : Option Reading) (l : List ℕ) (ls : List (List ℕ)) → read_line n reading l ≡ Ok next → read_from n reading (l ∷ ls) ≡ read_from (n + 1) next ls
-unfolding read_from
-read_from-step n reading next l ls h = rw h refl
-
 -- one line more
 pub EndsIn-line : (reading : Option Reading) (ws : List (List ℕ)) (next : Reading) (ls : List (List ℕ)) (s : Script) → IsRead reading ws next → EndsIn (Some next) ls s → EndsIn reading (join_with_byte 32 ws ∷ ls) s
 EndsIn-line reading ws next ls s is rest n =
-    read_from-step n reading (Some next) (join_with_byte 32 ws) ls (read_line-words n reading ws next is) ∙ rest (n + 1)
+    read_step read_one ended n reading (Some next) (join_with_byte 32 ws) ls (read_line-words n reading ws next is) ∙ rest (n + 1)
 
 -- ---- a later line
 

@@ -20,17 +20,15 @@ use Rattle.script_grammar.specs.declared.words.PickWord.{PickWord}
 use Rattle.script_grammar.specs.declared.words.Word.{Word}
 use Rattle.script_grammar.specs.declared.words.Word.TheVariants as word
 use Rattle.script_grammar.specs.declared.words.Line.{Line}
-use Rattle.script_words.specs.Spelling.{words_of, lines_of, is_skipped, numeral}
+use Rattle.script_words.specs.Spelling.{words_of, lines_of, numeral}
+use Rattle.script_words.specs.laws.FirstFault.{first_of}
+use Rattle.script_words.proofs.FirstUnbuilt.{unbuilt_first, unbuilt_fault}
 use Rattle.script_grammar.specs.Words.{first_word, header_word, body_word, plain_word, pick_word, is_volume_section, is_change, is_query, is_host_event, word_of, line_of}
-use Rattle.script_grammar.specs.Grammar.{is_built, opened, new_reading, form_of, form_line, built_first, first_line, may_stand, stood_before, fits, after, taken, later_line, read_words, script_of}
-use Rattle.script_grammar.specs.laws.FirstFault.{error_of, fault_of, behind_all, first_of, begins_unbuilt, IsFirstFault, IsFirstUnbuilt}
-use Rattle.script_grammar.proofs.FirstFault.{IsFirstFault-script_of, script_of-first_fault}
+use Rattle.script_grammar.specs.Grammar.{is_built, opened, new_reading, form_of, form_line, built_first, first_line, may_stand, stood_before, fits, after, taken, later_line, read_words, read_one, script_of}
+use Rattle.script_grammar.specs.laws.FirstFault.{has_events, is_unbuilt, IsFirstUnbuilt}
+use Rattle.script_grammar.proofs.FirstFault.{tells_first_fault}
 
 -- ---- words
-
--- the word is one whose form is not built
-abbrev is_unbuilt : List ℕ → Bool
-is_unbuilt w = bytes_eq w (codes "volume") || bytes_eq w (codes "fail")
 
 -- which test gave the word
 chose_volume : (d b v : Bool) → (if d then Some first.Device else if b then Some first.Blocks else if v then Some first.Volume else None) ≡ Some first.Volume → v ≡ true
@@ -150,30 +148,6 @@ is_unbuilt-read_words reading [] h = cc
 is_unbuilt-read_words None (w ∷ ws) h = is_unbuilt-first_line (word_of w) w ws refl h
 is_unbuilt-read_words (Some r) (w ∷ ws) h = is_unbuilt-later_line r (word_of w) w ws refl h
 
-told_unless_skipped : (skipped : Bool) (read : Result Reading ScriptKind) → (if skipped then None else error_of read) ≡ Some kinds.NotBuilt → read ≡ Err kinds.NotBuilt
-told_unless_skipped true read h = cc
-told_unless_skipped false (Ok r) h = cc
-told_unless_skipped false (Err kind) h = let e : kind ≡ kinds.NotBuilt = cc in ap Err e
-
-begins_unbuilt-fault_of : (reading : Option Reading) (l : List ℕ) → fault_of reading l ≡ Some kinds.NotBuilt → begins_unbuilt l ≡ true
-begins_unbuilt-fault_of reading l h =
-    is_unbuilt-read_words reading (words_of l) (told_unless_skipped (is_skipped l) (read_words reading (words_of l)) h)
-
--- a line that begins so is not skipped
-unbuilt_behind_hash : (ws : List (List ℕ)) → is_unbuilt (first_of (onto_first 35 ws)) ≡ false
-unbuilt_behind_hash [] = refl
-unbuilt_behind_hash (w ∷ ws) = refl
-
-skipped_unless_unbuilt : (skipped : Bool) (b : ℕ) (bs : List ℕ) → (b == 35) ≡ skipped → begins_unbuilt (b ∷ bs) ≡ true → skipped ≡ false
-skipped_unless_unbuilt false b bs e h = refl
-skipped_unless_unbuilt true b bs e h =
-    let other : begins_unbuilt (b ∷ bs) ≡ false = ap (λ (x : ℕ). begins_unbuilt (x ∷ bs)) (eqb-true b 35 e) ∙ unbuilt_behind_hash (words_of bs) in
-    cc
-
-is_skipped-begins_unbuilt : (l : List ℕ) → begins_unbuilt l ≡ true → is_skipped l ≡ false
-is_skipped-begins_unbuilt [] h = cc
-is_skipped-begins_unbuilt (b ∷ bs) h = skipped_unless_unbuilt (b == 35) b bs refl h
-
 -- and is refused with it, before the first line and behind it
 read_words-word : (reading : Option Reading) (w : List ℕ) (ws : List (List ℕ)) (v : Word) → word_of w ≡ Some v → is_built v ≡ false → read_words reading (w ∷ ws) ≡ Err kinds.NotBuilt
 read_words-word None w ws v e unbuilt = rw (e, unbuilt) refl
@@ -183,34 +157,21 @@ read_words-unbuilt : (reading : Option Reading) (ws : List (List ℕ)) → is_un
 read_words-unbuilt reading [] h = cc
 read_words-unbuilt reading (w ∷ ws) h = let of_word = IsUnbuiltWord-word_of w h in read_words-word reading w ws of_word.known of_word.is of_word.unbuilt
 
-fault_of-begins_unbuilt : (reading : Option Reading) (l : List ℕ) → begins_unbuilt l ≡ true → fault_of reading l ≡ Some kinds.NotBuilt
-fault_of-begins_unbuilt reading l h = rw (is_skipped-begins_unbuilt l h, read_words-unbuilt reading (words_of l) h) refl
-
 -- ---- a text
 
--- the line that is told is there
-IsFirstUnbuilt-line : (o : Option (List ℕ)) (lines : List (List ℕ)) (n : ℕ) → slice_get lines (n - 1) ≡ o → IsFirstFault lines n kinds.NotBuilt → IsFirstUnbuilt lines n
-IsFirstUnbuilt-line None lines n e is = let order = (is.none e).1 in cc
-IsFirstUnbuilt-line (Some l) lines n e is = record {
-  some = is.counted.0;
-  before = is.before;
-  line = l;
-  there = e;
-  unbuilt = begins_unbuilt-fault_of (behind_all None (take (n - 1) lines)) l (is.line l e);
-}
+not_order : kinds.NotBuilt ≡ kinds.Order → ⊥
+not_order e = cc
 
-IsFirstFault-unbuilt : (lines : List (List ℕ)) (n : ℕ) → IsFirstUnbuilt lines n → IsFirstFault lines n kinds.NotBuilt
-IsFirstFault-unbuilt lines n is =
-    record {
-      counted = (is.some, omega (arith, is.some, slice_get_within lines (n - 1) is.line is.there));
-      before = is.before;
-      line = λ l e. let same : is.line ≡ l = cc in fault_of-begins_unbuilt (behind_all None (take (n - 1) lines)) l (rw (← same) is.unbuilt);
-      none = λ e. cc;
-    }
+begins : (reading : Option Reading) (l : List ℕ) → read_one reading l ≡ Err kinds.NotBuilt → is_unbuilt (first_of (words_of l)) ≡ true
+begins reading l h = is_unbuilt-read_words reading (words_of l) h
+
+refused : (reading : Option Reading) (l : List ℕ) → is_unbuilt (first_of (words_of l)) ≡ true → read_one reading l ≡ Err kinds.NotBuilt
+refused reading l h = read_words-unbuilt reading (words_of l) h
 
 -- the law: not built is told of the first line that begins so, where all before it are read, and of no other
 pub tells_first_unbuilt : (bytes : List ℕ) (n : ℕ) → (script_of bytes ≡ Err (n, kinds.NotBuilt) → IsFirstUnbuilt (lines_of bytes) n) × (IsFirstUnbuilt (lines_of bytes) n → script_of bytes ≡ Err (n, kinds.NotBuilt))
-tells_first_unbuilt bytes n = (
-  λ h. IsFirstUnbuilt-line (slice_get (lines_of bytes) (n - 1)) (lines_of bytes) n refl (IsFirstFault-script_of bytes n kinds.NotBuilt h),
-  λ is. script_of-first_fault bytes n kinds.NotBuilt (IsFirstFault-unbuilt (lines_of bytes) n is),
-)
+tells_first_unbuilt bytes n =
+    let law = tells_first_fault bytes n kinds.NotBuilt in (
+      λ h. unbuilt_first read_one has_events kinds.Order kinds.NotBuilt not_order is_unbuilt refl (λ bs. refl) begins refused (lines_of bytes) n (law.0 h),
+      λ is. law.1 (unbuilt_fault read_one has_events kinds.Order kinds.NotBuilt not_order is_unbuilt refl (λ bs. refl) begins refused (lines_of bytes) n is),
+    )

@@ -31,11 +31,12 @@ use Rattle.script_grammar.specs.declared.words.PlainWord.{PlainWord}
 use Rattle.script_grammar.specs.declared.words.PlainWord.TheVariants as plain
 use Rattle.script_grammar.specs.declared.words.Word.{Word}
 use Rattle.script_grammar.specs.declared.words.Word.TheVariants as word
-use Rattle.script_grammar.specs.Grammar.{IsRequestOf, IsRunnable, form_blocks, is_scheduled, form_of, is_built, is_ordered_class, is_barrier_class, after, count_fits, fits, taken, later_line, may_stand, needs_scheduler, stood_before, put_request, flush_request, plain_event, pick_event, with_request, with_events, new_reading, opened, form_line, built_first, first_line, read_words, read_line, read_from, at_line, ended, ended_in, script_read, script_of}
+use Rattle.script_grammar.specs.Grammar.{IsRequestOf, IsRunnable, form_blocks, is_scheduled, form_of, is_built, is_ordered_class, is_barrier_class, after, count_fits, fits, taken, later_line, may_stand, needs_scheduler, stood_before, put_request, flush_request, plain_event, pick_event, with_request, with_events, new_reading, opened, form_line, built_first, first_line, read_words, read_one, read_from, ended, ended_in, script_read, script_of}
 use Rattle.script_grammar.specs.code.Readers.{Reads}
 use Rattle.script_words.proofs.Chosen.{mapped, chained}
+use Rattle.script_words.proofs.KeptLines.{said}
 use Rattle.script_words.proofs.SaidNumbers.{hex_byte-small}
-use Rattle.script_words.specs.Spelling.{hex_byte, numeral, is_skipped, words_of, lines_of}
+use Rattle.script_words.specs.Spelling.{hex_byte, numeral, words_of, lines_of}
 use Rattle.script_grammar.specs.WellFormed.{IsEventOf, IsEventLineOf, IsFilled, IsWellFormed, expanded_of}
 use Rattle.script_grammar.specs.Words.{class_of, count_of, header_line, put_line, body_line, pick_line, line_of, word_of}
 
@@ -408,20 +409,6 @@ IsReadable-read_words reading [] next h is = cc
 IsReadable-read_words None (w ∷ ws) next h is = IsReadable-first_line (word_of w) ws next h
 IsReadable-read_words (Some r) (w ∷ ws) next h is = IsReadable-later_line r (word_of w) ws next h is
 
--- ---- all lines
-
-IsReadableSoFar-at_line : (n : ℕ) (read : Result Reading ScriptKind) (next : Option Reading) → at_line n read ≡ Ok next → ((r : Reading) → read ≡ Ok r → IsReadable r) → IsReadableSoFar next
-IsReadableSoFar-at_line n (Ok r) next h is = let e : Some r ≡ next = cc in subst IsReadableSoFar e (is r refl)
-IsReadableSoFar-at_line n (Err kind) next h is = cc
-
-IsReadableSoFar-skip : (skipped : Bool) (reading next : Option Reading) (read : Result (Option Reading) (ℕ × ScriptKind)) → (if skipped then Ok reading else read) ≡ Ok next → IsReadableSoFar reading → (read ≡ Ok next → IsReadableSoFar next) → IsReadableSoFar next
-IsReadableSoFar-skip true reading next read h is step = let e : reading ≡ next = cc in subst IsReadableSoFar e is
-IsReadableSoFar-skip false reading next read h is step = step h
-
-IsReadableSoFar-read_line : (n : ℕ) (reading : Option Reading) (l : List ℕ) (next : Option Reading) → read_line n reading l ≡ Ok next → IsReadableSoFar reading → IsReadableSoFar next
-IsReadableSoFar-read_line n reading l next h is =
-    IsReadableSoFar-skip (is_skipped l) reading next _ h is (λ e. IsReadableSoFar-at_line n _ next e (λ r g. IsReadable-read_words reading (words_of l) r g is))
-
 -- ---- the script
 
 IsRunnable-script_read : (r : Reading) → IsReadable r → IsRunnable (script_read r)
@@ -458,19 +445,10 @@ IsWellFormed-ended : (n : ℕ) (reading : Option Reading) (s : Script) → ended
 IsWellFormed-ended n None s h is = cc
 IsWellFormed-ended n (Some r) s h is = IsWellFormed-ended_in n r r.section s h is
 
-abbrev pub read_then : {A B E : Type 0} → Result A E → (A → Result B E) → Result B E
-read_then (Ok x) f = f x
-read_then (Err e) f = Err e
-
-IsWellFormed-read_then : {E : Type 0} (read : Result (Option Reading) E) (f : Option Reading → Result Script E) (s : Script) → read_then read f ≡ Ok s → ((next : Option Reading) → read ≡ Ok next → f next ≡ Ok s → IsWellFormed s) → IsWellFormed s
-IsWellFormed-read_then (Ok next) f s h is = is next refl h
-IsWellFormed-read_then (Err e) f s h is = cc
-
 IsWellFormed-read_from : (ls : List (List ℕ)) (n : ℕ) (reading : Option Reading) (s : Script) → read_from n reading ls ≡ Ok s → IsReadableSoFar reading → IsWellFormed s
-unfolding read_from
-IsWellFormed-read_from [] n reading s h is = IsWellFormed-ended n reading s h is
-IsWellFormed-read_from (l ∷ ls) n reading s h is =
-    IsWellFormed-read_then (read_line n reading l) (λ next. read_from (n + 1) next ls) s h (λ next e g. IsWellFormed-read_from ls (n + 1) next s g (IsReadableSoFar-read_line n reading l next e is))
+IsWellFormed-read_from ls n reading s h is =
+    said read_one ended (λ reading done. IsReadableSoFar reading) (λ s done. IsWellFormed s)
+    (λ reading done l r e is. IsReadable-read_words reading (words_of l) r e is) (λ n reading done s e is. IsWellFormed-ended n reading s e is) ls n reading [] s h is
 
 -- the reader's result
 pub IsWellFormed-from_reads : (result : Result Script ScriptError) (ls : List (List ℕ)) → Reads result (read_from 1 None ls) → IfOk result IsWellFormed

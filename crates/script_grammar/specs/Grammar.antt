@@ -27,7 +27,8 @@ use Rattle.script_grammar.specs.declared.words.Class.{Class}
 use Rattle.script_grammar.specs.declared.words.Class.TheVariants as class
 use Rattle.script_grammar.specs.declared.words.Line.{Line}
 use Rattle.script_grammar.specs.declared.words.Line.TheVariants as line
-use Rattle.script_words.specs.Spelling.{lines_of, words_of, is_skipped, numeral}
+use Rattle.script_words.specs.Spelling.{lines_of, words_of, numeral}
+use Rattle.script_words.specs.LineByLine.{line_read, lines_read}
 use Rattle.script_grammar.specs.Words.{word_of, line_of}
 
 -- ---- kinds of script
@@ -194,14 +195,13 @@ read_words reading [] = Err kinds.Word
 read_words None (w ∷ ws) = first_line (word_of w) ws
 read_words (Some r) (w ∷ ws) = later_line r (word_of w) ws
 
--- a fault in the line with this number
-abbrev pub at_line : ℕ → Result Reading ScriptKind → Result (Option Reading) (ℕ × ScriptKind)
-at_line n (Ok r) = Ok (Some r)
-at_line n (Err kind) = Err (n, kind)
+-- a line that is not skipped, before which nothing or this was read
+abbrev pub read_one : Option Reading → List ℕ → Result Reading ScriptKind
+read_one reading l = read_words reading (words_of l)
 
 -- what is read after one line
 abbrev pub read_line : ℕ → Option Reading → List ℕ → Result (Option Reading) (ℕ × ScriptKind)
-read_line n reading l = if is_skipped l then Ok reading else at_line n (read_words reading (words_of l))
+read_line n reading l = line_read read_one n reading l
 
 abbrev pub script_read : Reading → Script
 script_read r = record { kind = r.form; header = record { depth = unwrap_or r.depth DEFAULT_DEPTH; queue = unwrap_or r.queue DEFAULT_QUEUE; cut = r.cut; elevator = r.elevator }; puts = r.puts; events = r.events }
@@ -215,16 +215,9 @@ abbrev pub ended : ℕ → Option Reading → Result Script (ℕ × ScriptKind)
 ended n None = Err (n, kinds.Order)
 ended n (Some r) = ended_in n r r.section
 
-infixl 10 ◌>>=◌
-abbrev ◌>>=◌ : {A B E : Type 0} → Result A E → (A → Result B E) → Result B E
-Ok x >>= f = f x
-Err e >>= f = Err e
-
-unfoldable pub read_from : ℕ → Option Reading → List (List ℕ) → Result Script (ℕ × ScriptKind)
-read_from n reading [] = ended n reading
-read_from n reading (l ∷ ls) = do
-  next ← read_line n reading l
-  read_from (n + 1) next ls
+-- what is read of lines, of which the first has this number
+abbrev pub read_from : ℕ → Option Reading → List (List ℕ) → Result Script (ℕ × ScriptKind)
+read_from n reading ls = lines_read read_one ended n reading ls
 
 -- The script that the bytes spell, or the first faulty line, counted from 1, and its kind.
 abbrev pub script_of : List ℕ → Result Script (ℕ × ScriptKind)

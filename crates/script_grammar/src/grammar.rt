@@ -3,7 +3,7 @@ ghost use Rattle.std.specs.Prelude.{◌≡◌, ℕ, ◌+◌, ◌^◌, ◌<◌, �
 ghost use Rattle.script_grammar.specs.Grammar.{form_blocks, is_scheduled, form_of, is_built, new_reading, opened, form_line, built_first, first_line, stands_in, needs_scheduler, may_stand, stood_before, count_fits, fits, is_ordered_class, is_barrier_class, put_request, flush_request, with_request, with_events, plain_event, pick_event, after, taken, later_line, read_words, read_line, script_read, ended, read_from, script_of};
 ghost use Rattle.script_grammar.specs.code.Rows.{request_of};
 ghost use Rattle.script_grammar.specs.WellFormed.{IsWellFormed};
-ghost use Rattle.script_grammar.specs.code.Readers.{IsReadAs, Reads, fault_at};
+ghost use Rattle.script_grammar.specs.code.Readers.{IsReadAs, Reads};
 
 use crate::kinds::ScriptKind;
 use crate::limits::{
@@ -15,7 +15,7 @@ use crate::reading::{Reading, Section};
 use crate::script::{
     Asked, CoreEvent, EventLine, EventWord, Events, Form, Header, RequestList, Row, Script,
 };
-use crate::script_error::{LineError, ScriptError};
+use crate::script_error::{LineError, ScriptError, fault_at};
 use crate::word_table::read_word;
 use crate::words::{Class, FirstWord, HeaderWord, Line, PickWord, PlainWord, Word};
 use blk_base::NoMemory;
@@ -365,15 +365,6 @@ fn read_words(
             Err(kind) => Err(LineError::Kind(kind)),
         },
         Some(reading) => later_line(reading, word, rest),
-    }
-}
-
-fn fault_at(number: u32, fault: LineError) -> ScriptError
-    ensures { result ≡ fault_at number fault }
-{
-    match fault {
-        LineError::Kind(kind) => ScriptError::Fault(number, kind),
-        LineError::NoMemory => ScriptError::NoMemory,
     }
 }
 

@@ -3,11 +3,12 @@ ghost use Rattle.std.specs.Prelude.{◌≡◌, ℕ, ◌↔◌, List, Ok, Err};
 ghost use Rattle.script_grammar.specs.declared.kinds.ScriptKind.{ScriptKind};
 ghost use Rattle.script_grammar.specs.declared.script.Script.{Script};
 ghost use Rattle.script_words.specs.Spelling.{lines_of};
+ghost use Rattle.script_words.specs.laws.Texts.{kept_lines};
 ghost use Rattle.script_grammar.specs.Grammar.{script_of};
 ghost use Rattle.script_grammar.specs.laws.FirstFault.{IsFirstFault, IsFirstUnbuilt};
 ghost use Rattle.script_grammar.specs.laws.Speller.{script_text};
 ghost use Rattle.script_grammar.specs.WellFormed.{IsWellFormed};
-ghost use Rattle.script_grammar.specs.laws.Accepted.{kept_lines, SaysScript};
+ghost use Rattle.script_grammar.specs.laws.Accepted.{SaysScript};
 
 use crate::kinds::ScriptKind;
 

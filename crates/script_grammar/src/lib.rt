@@ -24,4 +24,4 @@ pub use limits::{
     MOST_REQUESTS, MOST_SCRIPT_BYTES, MOST_STEPS, PLACES,
 };
 pub use script::{CoreEvent, EventLine, EventWord, Events, Form, Header, RequestList, Script};
-pub use script_error::{LineError, ScriptError};
+pub use script_error::{LineError, ScriptError, fault_at};

@@ -1,4 +1,7 @@
 //! Why a text is not read as a script.
+ghost use Rattle.std.specs.Prelude.{◌≡◌};
+ghost use Rattle.script_grammar.specs.code.Readers.{fault_at};
+
 use crate::kinds::ScriptKind;
 use blk_base::NoMemory;
 
@@ -35,5 +38,15 @@ impl From<NoMemory> for ScriptError {
 
     fn from(_: NoMemory) -> Self {
         ScriptError::NoMemory
+    }
+}
+
+/// The fault of the line with this number.
+pub fn fault_at(number: u32, fault: LineError) -> ScriptError
+    ensures { result ≡ fault_at number fault }
+{
+    match fault {
+        LineError::Kind(kind) => ScriptError::Fault(number, kind),
+        LineError::NoMemory => ScriptError::NoMemory,
     }
 }

@@ -5,3 +5,7 @@ pub mod Parts
 pub mod SaidNumbers
 pub mod SpelledNumbers
 pub mod SpelledWords
+pub mod LineByLine
+pub mod FirstFault
+pub mod FirstUnbuilt
+pub mod KeptLines

@@ -1,3 +1,4 @@
 pub mod Spelling
+pub mod LineByLine
 pub mod code
 pub mod laws

@@ -1,2 +1,3 @@
 -- The words of laws.
 pub mod Texts
+pub mod FirstFault

@@ -1,17 +1,12 @@
 -- What a text that is accepted says: the lines that the speller writes of its script, but that some may be
 -- left out, and that header lines may stand in any order.
-use Rattle.std.specs.Prelude.{◌≡◌, ℕ, ◌++◌, ◌||◌, not, Bool, true, false, List, [], ◌∷◌, codes, map}
+use Rattle.std.specs.Prelude.{◌≡◌, ℕ, ◌++◌, ◌||◌, Bool, true, false, List, [], ◌∷◌, codes, map}
 use Rattle.std.specs.List.{filter}
 use Rattle.std.specs.Str.{bytes_eq}
 use Rattle.blk_base.specs.Members.{In}
 use Rattle.script_grammar.specs.declared.script.Script.{Script}
-use Rattle.script_words.specs.Spelling.{words_of, is_skipped}
 use Rattle.script_grammar.specs.Grammar.{is_scheduled}
 use Rattle.script_grammar.specs.laws.Speller.{form_words, depth_lines, queue_lines, cut_lines, elevator_lines, request_words, event_line_words}
-
--- the lines that are not skipped, each as its words
-abbrev pub kept_lines : List (List ℕ) → List (List (List ℕ))
-kept_lines lines = map words_of (filter (λ l. not (is_skipped l)) lines)
 
 -- the line begins with this word
 abbrev pub begins : List ℕ → List (List ℕ) → Bool
