@@ -2,7 +2,6 @@ pub mod Accepts
 pub mod BodyRead
 pub mod FirstFault
 pub mod HeaderRead
-pub mod Lines
 pub mod Names
 pub mod Others
 pub mod ReadsTo

@@ -3,16 +3,16 @@ use Rattle.std.proofs.Common.{◌≡◌, ℕ, ◌+◌, Bool, true, false, not, L
 use Rattle.std.specs.List.{join_with_byte}
 use Rattle.std.proofs.lemmas.List.Splits.{join_with_byte-slice_split}
 use Rattle.script_words.specs.Spelling.{is_skipped, words_of, lines_of}
-use Rattle.script_words.specs.laws.Texts.{lines_text}
+use Rattle.script_words.specs.laws.Texts.{lines_text, kept_lines}
+use Rattle.script_words.proofs.KeptLines as text
+use Rattle.script_words.proofs.KeptLines.{kept_lines-one, ends_reads}
 use Rattle.script_words.proofs.SpelledWords.{AreClear, AreClearLines, lines_of-text, words_of-joined}
 use Rattle.script_grammar.specs.declared.kinds.ScriptKind.TheVariants as kinds
-use Rattle.script_grammar.specs.laws.Accepted.{kept_lines}
-use Rattle.script_grammar.proofs.Said.{kept_behind, kept_lines-one}
 use Rattle.session_grammar.specs.declared.reading.Reading.{Reading}
 use Rattle.session_grammar.specs.declared.session_script.SessionScript.{SessionScript}
 use Rattle.session_grammar.specs.declared.words.Word.{Word}
 use Rattle.session_grammar.specs.Words.{word_of}
-use Rattle.session_grammar.specs.Grammar.{is_built, may_stand, stood_before, line_taken, later_line, is_behind_events, read_words, at_line, read_line, read_from, ended, session_of}
+use Rattle.session_grammar.specs.Grammar.{is_built, may_stand, stood_before, line_taken, later_line, is_behind_events, read_words, read_one, ended, session_of}
 
 -- the line with these words is read
 abbrev pub IsRead : Option Reading → List (List ℕ) → Reading → Type 0
@@ -20,8 +20,7 @@ IsRead reading ws next = read_words reading (join_with_byte 32 ws) ws ≡ Ok nex
 
 -- they are read one after the other, and end as the script
 abbrev pub ReadsTo : Option Reading → List (List (List ℕ)) → SessionScript → Type 0
-ReadsTo reading [] s = (n : ℕ) → ended n reading ≡ Ok s
-ReadsTo reading (ws ∷ ls) s = (next : Reading) × IsRead reading ws next × ReadsTo (Some next) ls s
+ReadsTo reading ls s = text.ReadsTo IsRead ended reading ls s
 
 pub ReadsTo-line : (reading : Option Reading) (ws : List (List ℕ)) (next : Reading) (ls : List (List (List ℕ))) (s : SessionScript) → IsRead reading ws next → ReadsTo (Some next) ls s → ReadsTo reading (ws ∷ ls) s
 ReadsTo-line reading ws next ls s is rest = (next, is, rest)
@@ -38,39 +37,9 @@ later_line-read r line w ws next built stands new read =
 pub IsRead-known : (r : Reading) (w : List ℕ) (ws : List (List ℕ)) (v : Word) (next : Reading) → word_of (is_behind_events r.section) w ≡ Some v → later_line r (join_with_byte 32 (w ∷ ws)) (Some v) ws ≡ Ok next → IsRead (Some r) (w ∷ ws) next
 IsRead-known r w ws v next known read = ap (λ o. later_line r (join_with_byte 32 (w ∷ ws)) o ws) known ∙ read
 
--- ---- lines of bytes
-
--- the lines are read to the script, whatever the number of the first
-abbrev EndsIn : Option Reading → List (List ℕ) → SessionScript → Type 0
-EndsIn reading ls s = (n : ℕ) → read_from n reading ls ≡ Ok s
-
-read_from-step : (n : ℕ) (reading next : Option Reading) (l : List ℕ) (ls : List (List ℕ)) → read_line n reading l ≡ Ok next → read_from n reading (l ∷ ls) ≡ read_from (n + 1) next ls
-unfolding read_from
-read_from-step n reading next l ls h = rw h refl
-
-ends_skipped : (reading : Option Reading) (l : List ℕ) (ls : List (List ℕ)) (s : SessionScript) → is_skipped l ≡ true → EndsIn reading ls s → EndsIn reading (l ∷ ls) s
-ends_skipped reading l ls s skipped rest n =
-    read_from-step n reading reading l ls (ap (λ t. if t then Ok reading else at_line n (read_words reading l (words_of l))) skipped) ∙ rest (n + 1)
-
-ends_kept : (reading : Option Reading) (next : Reading) (l : List ℕ) (ls : List (List ℕ)) (s : SessionScript) → is_skipped l ≡ false → IsRead reading (words_of l) next → EndsIn (Some next) ls s → EndsIn reading (l ∷ ls) s
-ends_kept reading next l ls s kept read rest n =
-    read_from-step n reading (Some next) l ls
-    (ap (λ t. if t then Ok reading else at_line n (read_words reading l (words_of l))) kept
-    ∙ ap (λ line. at_line n (read_words reading line (words_of l))) (sym (join_with_byte-slice_split 32 l))
-    ∙ ap (at_line n) read)
-    ∙ rest (n + 1)
-
-ends_behind : (skipped : Bool) (reading : Option Reading) (l : List ℕ) (ls : List (List ℕ)) (s : SessionScript) → is_skipped l ≡ skipped
-    → ((r : Option Reading) → ReadsTo r (kept_lines ls) s → EndsIn r ls s) → ReadsTo reading (kept_behind skipped l ls) s → EndsIn reading (l ∷ ls) s
-ends_behind true reading l ls s e rest reads = ends_skipped reading l ls s e (rest reading reads)
-ends_behind false reading l ls s e rest (next, read, reads) = ends_kept reading next l ls s e read (rest (Some next) reads)
-
-pub ends_reads : (ls : List (List ℕ)) (reading : Option Reading) (s : SessionScript) → ReadsTo reading (kept_lines ls) s → EndsIn reading ls s
-unfolding read_from
-ends_reads [] reading s reads = reads
-ends_reads (l ∷ ls) reading s reads =
-    ends_behind (is_skipped l) reading l ls s refl (λ r more. ends_reads ls r s more)
-    (subst (λ ks. ReadsTo reading ks s) (kept_lines-one l ls (is_skipped l) refl) reads)
+-- a line is its words with a space between each two
+line_is_read : (reading : Option Reading) (l : List ℕ) (next : Reading) → IsRead reading (words_of l) next → read_one reading l ≡ Ok next
+line_is_read reading l next is = ap (λ line. read_words reading line (words_of l)) (sym (join_with_byte-slice_split 32 l)) ∙ is
 
 -- ---- a text of lines
 
@@ -96,4 +65,4 @@ kept_of-text l ls clear kept = ap kept_lines (lines_of-text l ls clear) ∙ kept
 
 -- the text is read, where the lines that are kept are
 pub session_of-reads : (bytes : List ℕ) (s : SessionScript) → ReadsTo None (kept_lines (lines_of bytes)) s → session_of bytes ≡ Ok s
-session_of-reads bytes s reads = ends_reads (lines_of bytes) None s reads 1
+session_of-reads bytes s reads = ends_reads read_one ended IsRead line_is_read (lines_of bytes) None s 1 reads

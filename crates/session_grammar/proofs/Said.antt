@@ -9,14 +9,15 @@ use Rattle.std.proofs.lemmas.Slice.Eq.{bytes_eq-Decides}
 use Rattle.blk_base.specs.Members.{In, each_push}
 use Rattle.tree_model.specs.declared.call.Call.{Call}
 use Rattle.script_words.specs.declared.line_error.LineFault.{LineFault}
-use Rattle.script_words.specs.Spelling.{numeral, is_skipped, words_of, lines_of}
+use Rattle.script_words.specs.Spelling.{numeral, words_of, lines_of}
+use Rattle.script_words.specs.laws.Texts.{kept_lines}
+use Rattle.script_words.proofs.KeptLines.{said}
 use Rattle.script_words.proofs.SaidNumbers.{decimal-numeral}
 use Rattle.script_grammar.specs.declared.limits.TheConstants.{DEFAULT_DEPTH, DEFAULT_QUEUE}
 use Rattle.script_grammar.specs.declared.kinds.ScriptKind.{ScriptKind}
-use Rattle.script_grammar.specs.laws.Accepted.{kept_lines, begins, beginning, or_default}
+use Rattle.script_grammar.specs.laws.Accepted.{begins, beginning, or_default}
 use Rattle.script_grammar.proofs.SaidWords.{one_text, default_text}
-use Rattle.script_grammar.proofs.Said.{kept_behind, kept_lines-one}
-use Rattle.script_grammar.proofs.WellFormed.{ok_behind, ok_past, ok_beside, read_then}
+use Rattle.script_grammar.proofs.WellFormed.{ok_behind, ok_past, ok_beside}
 use Rattle.call_grammar.specs.CallLines.{call_of}
 use Rattle.call_grammar.specs.Programs.{pushed_last, last_length}
 use Rattle.event_grammar.specs.declared.event.EventLine.{EventLine}
@@ -41,7 +42,7 @@ use Rattle.session_grammar.specs.declared.words.HeaderWord.TheVariants as header
 use Rattle.session_grammar.specs.declared.words.Word.{Word}
 use Rattle.session_grammar.specs.declared.words.Word.TheVariants as word
 use Rattle.session_grammar.specs.Words.{word_of}
-use Rattle.session_grammar.specs.Grammar.{is_built, are_sizes, have_geometry, new_reading, none_told, sizes_taken, opened, journal_line, zones_line, volume_line, built_first, first_line, stands_in, has_threads, may_stand, told_number, stood_before, number_fits, with_number, number_taken, header_line, header_taken, with_thread, thread_taken, thread_line, with_call, call_taken, events_line, event_fits, with_event, event_taken, with_recover, recover_taken, line_taken, later_line, is_behind_events, read_words, at_line, read_line, header_of, script_read, ended_in, ended, read_from, session_of}
+use Rattle.session_grammar.specs.Grammar.{is_built, are_sizes, have_geometry, new_reading, none_told, sizes_taken, opened, journal_line, zones_line, volume_line, built_first, first_line, stands_in, has_threads, may_stand, told_number, stood_before, number_fits, with_number, number_taken, header_line, header_taken, with_thread, thread_taken, thread_line, with_call, call_taken, events_line, event_fits, with_event, event_taken, with_recover, recover_taken, line_taken, later_line, is_behind_events, read_words, read_one, header_of, script_read, ended_in, ended, session_of}
 use Rattle.session_grammar.specs.WellFormed.{all_calls, AreLinesOf}
 use Rattle.session_grammar.specs.laws.Speller.{volume_words, number_words, elevator_lines, thread_words, thread_lines, recover_words}
 use Rattle.session_grammar.specs.laws.Accepted.{is_header_line, IsHeaderOf, SayEvents, SaysSession}
@@ -572,34 +573,9 @@ record Stands (reading : Option Reading) (lines : List (List (List ℕ))) : Type
   readable : IsReadableSoFar reading
   says : SaysSoFar reading lines
 
-SaysSession-then : {E : Type 0} (read : Result (Option Reading) E) (f : Option Reading → Result SessionScript E) (s : SessionScript) (lines : List (List (List ℕ))) → read_then read f ≡ Ok s → ((next : Option Reading) → read ≡ Ok next → f next ≡ Ok s → SaysSession s lines) → SaysSession s lines
-SaysSession-then (Ok next) f s lines h is = is next refl h
-SaysSession-then (Err e) f s lines h is = cc
-
-at_line-ok : (n : ℕ) (read : Result Reading ScriptKind) (next : Option Reading) (P : Option Reading → Type 0) → at_line n read ≡ Ok next → ((r : Reading) → read ≡ Ok r → P (Some r)) → P next
-at_line-ok n (Ok r) next P h is = let e : Some r ≡ next = cc in subst P e (is r refl)
-at_line-ok n (Err kind) next P h is = cc
-
--- what one line leaves, and what is read behind it
-said_behind : (skipped : Bool) (n : ℕ) (reading next : Option Reading) (l : List ℕ) (ls : List (List ℕ)) (done : List (List (List ℕ))) (s : SessionScript)
-    → (if skipped then Ok reading else at_line n (read_words reading l (words_of l))) ≡ Ok next → Stands reading done
-    → ((more : List (List (List ℕ))) → Stands next more → SaysSession s (more ++ kept_lines ls)) → SaysSession s (done ++ kept_behind skipped l ls)
-said_behind true n reading next l ls done s h is rest =
-    let e : reading ≡ next = cc in
-    rest done (subst (λ o. Stands o done) e is)
-said_behind false n reading next l ls done s h is rest =
-    let stands = at_line-ok n (read_words reading l (words_of l)) next (λ o. Stands o (done ++ words_of l ∷ [])) h
-    (λ r e. record { readable = IsReadable-read_words reading l (words_of l) r refl e is.readable; says = Says-words reading done l (words_of l) r refl e is.readable is.says }) in
-    subst (SaysSession s) (append_assoc done (words_of l ∷ []) (kept_lines ls)) (rest (done ++ words_of l ∷ []) stands)
-
-SaysSession-read_from : (ls : List (List ℕ)) (n : ℕ) (reading : Option Reading) (done : List (List (List ℕ))) (s : SessionScript) → read_from n reading ls ≡ Ok s → Stands reading done → SaysSession s (done ++ kept_lines ls)
-unfolding read_from
-SaysSession-read_from [] n reading done s h is = subst (SaysSession s) (sym (append-nil done)) (SaysSession-ended n reading s done h is.says)
-SaysSession-read_from (l ∷ ls) n reading done s h is =
-    SaysSession-then (read_line n reading l) (λ next. read_from (n + 1) next ls) s (done ++ kept_lines (l ∷ ls)) h
-    (λ next e g. subst (λ k. SaysSession s (done ++ k)) (sym (kept_lines-one l ls (is_skipped l) refl))
-    (said_behind (is_skipped l) n reading next l ls done s e is (λ more stands. SaysSession-read_from ls (n + 1) next more s g stands)))
-
 -- the law: a text that is accepted says its script
 pub SaysSession-session_of : (bytes : List ℕ) (s : SessionScript) → session_of bytes ≡ Ok s → SaysSession s (kept_lines (lines_of bytes))
-SaysSession-session_of bytes s h = SaysSession-read_from (lines_of bytes) 1 None [] s h (record { readable = tt; says = refl })
+SaysSession-session_of bytes s h =
+    said read_one ended Stands SaysSession
+    (λ reading done l r e is. record { readable = IsReadable-read_words reading l (words_of l) r refl e is.readable; says = Says-words reading done l (words_of l) r refl e is.readable is.says })
+    (λ n reading done s e is. SaysSession-ended n reading s done e is.says) (lines_of bytes) 1 None [] s h (record { readable = tt; says = refl })

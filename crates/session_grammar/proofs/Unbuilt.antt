@@ -8,7 +8,9 @@ use Rattle.std.proofs.lemmas.Option.{slice_get_within}
 use Rattle.tree_model.specs.declared.call.Call.{Call}
 use Rattle.script_words.specs.declared.line_error.LineFault.{LineFault}
 use Rattle.script_words.specs.declared.line_error.LineFault.TheVariants as faults
-use Rattle.script_words.specs.Spelling.{words_of, lines_of, is_skipped, numeral}
+use Rattle.script_words.specs.Spelling.{words_of, lines_of, numeral}
+use Rattle.script_words.specs.laws.FirstFault.{first_of}
+use Rattle.script_words.proofs.FirstUnbuilt.{unbuilt_first, unbuilt_fault}
 use Rattle.script_grammar.specs.declared.kinds.ScriptKind.{ScriptKind}
 use Rattle.script_grammar.specs.declared.kinds.ScriptKind.TheVariants as kinds
 use Rattle.call_grammar.specs.declared.words.CallWord.TheVariants as calls
@@ -30,16 +32,12 @@ use Rattle.session_grammar.specs.declared.words.HeaderWord.TheVariants as header
 use Rattle.session_grammar.specs.declared.words.Word.{Word}
 use Rattle.session_grammar.specs.declared.words.Word.TheVariants as word
 use Rattle.session_grammar.specs.Words.{word_of}
-use Rattle.session_grammar.specs.Grammar.{is_built, kind_of, are_sizes, have_geometry, new_reading, opened, journal_line, zones_line, volume_line, built_first, first_line, may_stand, stood_before, number_fits, with_number, number_taken, header_line, header_taken, with_thread, thread_taken, thread_line, with_call, call_taken, events_line, event_fits, with_event, event_taken, with_recover, recover_taken, line_taken, later_line, is_behind_events, read_words, session_of}
-use Rattle.session_grammar.specs.laws.FirstFault.{error_of, fault_of, behind_all, first_of, begins_unbuilt, IsFirstFault, IsFirstUnbuilt}
-use Rattle.session_grammar.proofs.FirstFault.{IsFirstFault-session_of, session_of-first_fault}
+use Rattle.session_grammar.specs.Grammar.{is_built, kind_of, are_sizes, have_geometry, new_reading, opened, journal_line, zones_line, volume_line, built_first, first_line, may_stand, stood_before, number_fits, with_number, number_taken, header_line, header_taken, with_thread, thread_taken, thread_line, with_call, call_taken, events_line, event_fits, with_event, event_taken, with_recover, recover_taken, line_taken, later_line, is_behind_events, read_words, read_one, session_of}
+use Rattle.session_grammar.specs.laws.FirstFault.{has_events, is_unbuilt, IsFirstUnbuilt}
+use Rattle.session_grammar.proofs.FirstFault.{tells_first_fault}
 use Rattle.session_grammar.proofs.Names.{IsNamed, named}
 
 -- ---- words
-
--- the word is one whose form is not built
-abbrev is_unbuilt : List ℕ → Bool
-is_unbuilt w = bytes_eq w (codes "fail") || bytes_eq w (codes "rename")
 
 unbuilt_named : (w : List ℕ) (v : Word) → IsNamed w v → is_built v ≡ false → is_unbuilt w ≡ true
 unbuilt_named w (word.First f) name h = cc
@@ -209,30 +207,6 @@ is_unbuilt-read_words reading line [] h = cc
 is_unbuilt-read_words None line (w ∷ ws) h = is_unbuilt-first_line (word_of false w) w ws refl h
 is_unbuilt-read_words (Some r) line (w ∷ ws) h = is_unbuilt-later_line r line (word_of (is_behind_events r.section) w) w ws refl h
 
-told_unless_skipped : (skipped : Bool) (read : Result Reading ScriptKind) → (if skipped then None else error_of read) ≡ Some kinds.NotBuilt → read ≡ Err kinds.NotBuilt
-told_unless_skipped true read h = cc
-told_unless_skipped false (Ok r) h = cc
-told_unless_skipped false (Err kind) h = let e : kind ≡ kinds.NotBuilt = cc in ap Err e
-
-begins_unbuilt-fault_of : (reading : Option Reading) (l : List ℕ) → fault_of reading l ≡ Some kinds.NotBuilt → begins_unbuilt l ≡ true
-begins_unbuilt-fault_of reading l h =
-    is_unbuilt-read_words reading l (words_of l) (told_unless_skipped (is_skipped l) (read_words reading l (words_of l)) h)
-
--- a line that begins so is not skipped
-unbuilt_behind_hash : (ws : List (List ℕ)) → is_unbuilt (first_of (onto_first 35 ws)) ≡ false
-unbuilt_behind_hash [] = refl
-unbuilt_behind_hash (w ∷ ws) = refl
-
-skipped_unless_unbuilt : (skipped : Bool) (b : ℕ) (bs : List ℕ) → (b == 35) ≡ skipped → begins_unbuilt (b ∷ bs) ≡ true → skipped ≡ false
-skipped_unless_unbuilt false b bs e h = refl
-skipped_unless_unbuilt true b bs e h =
-    let other : begins_unbuilt (b ∷ bs) ≡ false = ap (λ (x : ℕ). begins_unbuilt (x ∷ bs)) (eqb-true b 35 e) ∙ unbuilt_behind_hash (words_of bs) in
-    cc
-
-is_skipped-begins_unbuilt : (l : List ℕ) → begins_unbuilt l ≡ true → is_skipped l ≡ false
-is_skipped-begins_unbuilt [] h = cc
-is_skipped-begins_unbuilt (b ∷ bs) h = skipped_unless_unbuilt (b == 35) b bs refl h
-
 -- and is refused with it, before the first line and behind it
 read_words-first : (line w : List ℕ) (ws : List (List ℕ)) (v : Word) → word_of false w ≡ Some v → is_built v ≡ false → read_words None line (w ∷ ws) ≡ Err kinds.NotBuilt
 read_words-first line w ws v e unbuilt = rw (e, unbuilt) refl
@@ -245,34 +219,21 @@ read_words-unbuilt reading line [] h = cc
 read_words-unbuilt None line (w ∷ ws) h = let of_word = IsUnbuiltWord-word_of false w h in read_words-first line w ws of_word.known of_word.is of_word.unbuilt
 read_words-unbuilt (Some r) line (w ∷ ws) h = let of_word = IsUnbuiltWord-word_of (is_behind_events r.section) w h in read_words-later r line w ws of_word.known of_word.is of_word.unbuilt
 
-fault_of-begins_unbuilt : (reading : Option Reading) (l : List ℕ) → begins_unbuilt l ≡ true → fault_of reading l ≡ Some kinds.NotBuilt
-fault_of-begins_unbuilt reading l h = rw (is_skipped-begins_unbuilt l h, read_words-unbuilt reading l (words_of l) h) refl
-
 -- ---- a text
 
--- the line that is told is there
-IsFirstUnbuilt-line : (o : Option (List ℕ)) (lines : List (List ℕ)) (n : ℕ) → slice_get lines (n - 1) ≡ o → IsFirstFault lines n kinds.NotBuilt → IsFirstUnbuilt lines n
-IsFirstUnbuilt-line None lines n e is = let order = (is.none e).1 in cc
-IsFirstUnbuilt-line (Some l) lines n e is = record {
-  some = is.counted.0;
-  before = is.before;
-  line = l;
-  there = e;
-  unbuilt = begins_unbuilt-fault_of (behind_all None (take (n - 1) lines)) l (is.line l e);
-}
+not_order : kinds.NotBuilt ≡ kinds.Order → ⊥
+not_order e = cc
 
-IsFirstFault-unbuilt : (lines : List (List ℕ)) (n : ℕ) → IsFirstUnbuilt lines n → IsFirstFault lines n kinds.NotBuilt
-IsFirstFault-unbuilt lines n is =
-    record {
-      counted = (is.some, omega (arith, is.some, slice_get_within lines (n - 1) is.line is.there));
-      before = is.before;
-      line = λ l e. let same : is.line ≡ l = cc in fault_of-begins_unbuilt (behind_all None (take (n - 1) lines)) l (rw (← same) is.unbuilt);
-      none = λ e. cc;
-    }
+begins : (reading : Option Reading) (l : List ℕ) → read_one reading l ≡ Err kinds.NotBuilt → is_unbuilt (first_of (words_of l)) ≡ true
+begins reading l h = is_unbuilt-read_words reading l (words_of l) h
+
+refused : (reading : Option Reading) (l : List ℕ) → is_unbuilt (first_of (words_of l)) ≡ true → read_one reading l ≡ Err kinds.NotBuilt
+refused reading l h = read_words-unbuilt reading l (words_of l) h
 
 -- the law: not built is told of the first line that begins so, where all before it are read, and of no other
 pub tells_first_unbuilt : (bytes : List ℕ) (n : ℕ) → (session_of bytes ≡ Err (n, kinds.NotBuilt) → IsFirstUnbuilt (lines_of bytes) n) × (IsFirstUnbuilt (lines_of bytes) n → session_of bytes ≡ Err (n, kinds.NotBuilt))
-tells_first_unbuilt bytes n = (
-  λ h. IsFirstUnbuilt-line (slice_get (lines_of bytes) (n - 1)) (lines_of bytes) n refl (IsFirstFault-session_of bytes n kinds.NotBuilt h),
-  λ is. session_of-first_fault bytes n kinds.NotBuilt (IsFirstFault-unbuilt (lines_of bytes) n is),
-)
+tells_first_unbuilt bytes n =
+    let law = tells_first_fault bytes n kinds.NotBuilt in (
+      λ h. unbuilt_first read_one has_events kinds.Order kinds.NotBuilt not_order is_unbuilt refl (λ bs. refl) begins refused (lines_of bytes) n (law.0 h),
+      λ is. law.1 (unbuilt_fault read_one has_events kinds.Order kinds.NotBuilt not_order is_unbuilt refl (λ bs. refl) begins refused (lines_of bytes) n is),
+    )

@@ -8,12 +8,13 @@ use Rattle.blk_base.specs.Members.{In, each_push}
 use Rattle.minix_layout.specs.Words.{first_zone}
 use Rattle.tree_model.specs.declared.call.Call.{Call}
 use Rattle.script_words.specs.declared.line_error.LineFault.{LineFault}
-use Rattle.script_words.specs.Spelling.{numeral, is_skipped, words_of, lines_of}
+use Rattle.script_words.specs.Spelling.{numeral, words_of, lines_of}
+use Rattle.script_words.proofs.KeptLines.{said}
 use Rattle.script_grammar.specs.declared.limits.TheConstants.{MOST_DEPTH, MOST_QUEUE, MOST_STEPS}
 use Rattle.script_grammar.specs.declared.kinds.ScriptKind.{ScriptKind}
 use Rattle.script_grammar.specs.declared.script_error.ScriptError.{ScriptError}
 use Rattle.script_grammar.specs.code.Readers.{Reads}
-use Rattle.script_grammar.proofs.WellFormed.{ok_behind, ok_past, ok_beside, read_then}
+use Rattle.script_grammar.proofs.WellFormed.{ok_behind, ok_past, ok_beside}
 use Rattle.call_grammar.specs.declared.words.CallWord.{CallWord}
 use Rattle.call_grammar.specs.CallLines.{call_of}
 use Rattle.call_grammar.specs.Programs.{pushed_last, last_length}
@@ -44,7 +45,7 @@ use Rattle.session_grammar.specs.declared.words.HeaderWord.TheVariants as header
 use Rattle.session_grammar.specs.declared.words.Word.{Word}
 use Rattle.session_grammar.specs.declared.words.Word.TheVariants as word
 use Rattle.session_grammar.specs.Words.{word_of}
-use Rattle.session_grammar.specs.Grammar.{is_built, are_sizes, have_geometry, new_reading, none_told, sizes_taken, opened, journal_line, zones_line, volume_line, built_first, first_line, is_submit, stands_in, has_threads, may_stand, stood_before, number_fits, with_number, number_taken, header_line, header_taken, with_thread, thread_taken, thread_line, with_call, call_taken, events_line, names_thread, weight, event_fits, with_event, event_taken, with_recover, recover_taken, line_taken, later_line, is_behind_events, read_words, at_line, read_line, header_of, script_read, ended_in, ended, read_from, session_of}
+use Rattle.session_grammar.specs.Grammar.{is_built, are_sizes, have_geometry, new_reading, none_told, sizes_taken, opened, journal_line, zones_line, volume_line, built_first, first_line, is_submit, stands_in, has_threads, may_stand, stood_before, number_fits, with_number, number_taken, header_line, header_taken, with_thread, thread_taken, thread_line, with_call, call_taken, events_line, names_thread, weight, event_fits, with_event, event_taken, with_recover, recover_taken, line_taken, later_line, is_behind_events, read_words, read_one, header_of, script_read, ended_in, ended, read_from, session_of}
 use Rattle.session_grammar.specs.WellFormed.{AreSizes, IsHeader, all_calls, IsBuilt, IsLineOf, AreLinesOf, IsEventOf, expanded_of, IsWellFormed}
 use Rattle.session_grammar.proofs.Names.{IsNamed, named}
 use Rattle.session_grammar.proofs.Threads.{length-pushed_last, all_calls-pushed, all_calls-thread, each_few-pushed, AreLinesOf-push}
@@ -402,20 +403,6 @@ IsReadable-read_words reading line [] next cut h is = cc
 IsReadable-read_words None line (w ∷ ws) next cut h is = IsReadable-first_line (word_of false w) ws next h
 IsReadable-read_words (Some r) line (w ∷ ws) next cut h is = IsReadable-later_line r line w (word_of (is_behind_events r.section) w) ws next cut refl h is
 
--- ---- all lines
-
-IsReadableSoFar-at_line : (n : ℕ) (read : Result Reading ScriptKind) (next : Option Reading) → at_line n read ≡ Ok next → ((r : Reading) → read ≡ Ok r → IsReadable r) → IsReadableSoFar next
-IsReadableSoFar-at_line n (Ok r) next h is = let e : Some r ≡ next = cc in subst IsReadableSoFar e (is r refl)
-IsReadableSoFar-at_line n (Err kind) next h is = cc
-
-IsReadableSoFar-skip : (skipped : Bool) (reading next : Option Reading) (read : Result (Option Reading) (ℕ × ScriptKind)) → (if skipped then Ok reading else read) ≡ Ok next → IsReadableSoFar reading → (read ≡ Ok next → IsReadableSoFar next) → IsReadableSoFar next
-IsReadableSoFar-skip true reading next read h is step = let e : reading ≡ next = cc in subst IsReadableSoFar e is
-IsReadableSoFar-skip false reading next read h is step = step h
-
-IsReadableSoFar-read_line : (n : ℕ) (reading : Option Reading) (l : List ℕ) (next : Option Reading) → read_line n reading l ≡ Ok next → IsReadableSoFar reading → IsReadableSoFar next
-IsReadableSoFar-read_line n reading l next h is =
-    IsReadableSoFar-skip (is_skipped l) reading next _ h is (λ e. IsReadableSoFar-at_line n _ next e (λ r g. IsReadable-read_words reading l (words_of l) r refl g is))
-
 -- ---- the script
 
 IsWellFormed-script_read : (r : Reading) → IsReadable r → IsWellFormed (script_read r)
@@ -441,15 +428,10 @@ IsWellFormed-ended : (n : ℕ) (reading : Option Reading) (s : SessionScript) �
 IsWellFormed-ended n None s h is = cc
 IsWellFormed-ended n (Some r) s h is = IsWellFormed-ended_in n r r.section s h is
 
-IsWellFormed-then : {E : Type 0} (read : Result (Option Reading) E) (f : Option Reading → Result SessionScript E) (s : SessionScript) → read_then read f ≡ Ok s → ((next : Option Reading) → read ≡ Ok next → f next ≡ Ok s → IsWellFormed s) → IsWellFormed s
-IsWellFormed-then (Ok next) f s h is = is next refl h
-IsWellFormed-then (Err e) f s h is = cc
-
 IsWellFormed-read_from : (ls : List (List ℕ)) (n : ℕ) (reading : Option Reading) (s : SessionScript) → read_from n reading ls ≡ Ok s → IsReadableSoFar reading → IsWellFormed s
-unfolding read_from
-IsWellFormed-read_from [] n reading s h is = IsWellFormed-ended n reading s h is
-IsWellFormed-read_from (l ∷ ls) n reading s h is =
-    IsWellFormed-then (read_line n reading l) (λ next. read_from (n + 1) next ls) s h (λ next e g. IsWellFormed-read_from ls (n + 1) next s g (IsReadableSoFar-read_line n reading l next e is))
+IsWellFormed-read_from ls n reading s h is =
+    said read_one ended (λ reading done. IsReadableSoFar reading) (λ s done. IsWellFormed s)
+    (λ reading done l r e is. IsReadable-read_words reading l (words_of l) r refl e is) (λ n reading done s e is. IsWellFormed-ended n reading s e is) ls n reading [] s h is
 
 -- the reader's result
 pub IsWellFormed-from_reads : (result : Result SessionScript ScriptError) (ls : List (List ℕ)) → Reads result (read_from 1 None ls) → IfOk result IsWellFormed

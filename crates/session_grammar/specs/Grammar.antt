@@ -5,7 +5,8 @@ use Rattle.minix_layout.specs.Words.{first_zone}
 use Rattle.tree_model.specs.declared.call.Call.{Call}
 use Rattle.script_words.specs.declared.line_error.LineFault.{LineFault}
 use Rattle.script_words.specs.declared.line_error.LineFault.TheVariants as faults
-use Rattle.script_words.specs.Spelling.{lines_of, words_of, is_skipped, numeral}
+use Rattle.script_words.specs.Spelling.{lines_of, words_of, numeral}
+use Rattle.script_words.specs.LineByLine.{line_read, lines_read}
 use Rattle.script_grammar.specs.declared.limits.TheConstants.{DEFAULT_DEPTH, DEFAULT_QUEUE, MOST_DEPTH, MOST_QUEUE, MOST_STEPS}
 use Rattle.script_grammar.specs.declared.kinds.ScriptKind.{ScriptKind}
 use Rattle.script_grammar.specs.declared.kinds.ScriptKind.TheVariants as kinds
@@ -275,14 +276,13 @@ read_words reading line [] = Err kinds.Word
 read_words None line (w ∷ ws) = first_line (word_of false w) ws
 read_words (Some r) line (w ∷ ws) = later_line r line (word_of (is_behind_events r.section) w) ws
 
--- a fault in the line with this number
-abbrev pub at_line : ℕ → Result Reading ScriptKind → Result (Option Reading) (ℕ × ScriptKind)
-at_line n (Ok r) = Ok (Some r)
-at_line n (Err kind) = Err (n, kind)
+-- a line that is not skipped, before which nothing or this was read
+abbrev pub read_one : Option Reading → List ℕ → Result Reading ScriptKind
+read_one reading l = read_words reading l (words_of l)
 
 -- what is read after one line
 abbrev pub read_line : ℕ → Option Reading → List ℕ → Result (Option Reading) (ℕ × ScriptKind)
-read_line n reading l = if is_skipped l then Ok reading else at_line n (read_words reading l (words_of l))
+read_line n reading l = line_read read_one n reading l
 
 abbrev pub header_of : Told → SessionHeader
 header_of t = record { depth = unwrap_or t.depth DEFAULT_DEPTH; queue = unwrap_or t.queue DEFAULT_QUEUE; limit = unwrap_or t.limit DEFAULT_LIMIT; cut = t.cut; seed = unwrap_or t.seed DEFAULT_SEED; elevator = t.elevator }
@@ -299,16 +299,9 @@ abbrev pub ended : ℕ → Option Reading → Result SessionScript (ℕ × Scrip
 ended n None = Err (n, kinds.Order)
 ended n (Some r) = ended_in n r r.section
 
-infixl 10 ◌>>=◌
-abbrev ◌>>=◌ : {A B E : Type 0} → Result A E → (A → Result B E) → Result B E
-Ok x >>= f = f x
-Err e >>= f = Err e
-
-unfoldable pub read_from : ℕ → Option Reading → List (List ℕ) → Result SessionScript (ℕ × ScriptKind)
-read_from n reading [] = ended n reading
-read_from n reading (l ∷ ls) = do
-  next ← read_line n reading l
-  read_from (n + 1) next ls
+-- what is read of lines, of which the first has this number
+abbrev pub read_from : ℕ → Option Reading → List (List ℕ) → Result SessionScript (ℕ × ScriptKind)
+read_from n reading ls = lines_read read_one ended n reading ls
 
 -- The volume script that the bytes spell, or the first faulty line, counted from 1, and its kind.
 abbrev pub session_of : List ℕ → Result SessionScript (ℕ × ScriptKind)

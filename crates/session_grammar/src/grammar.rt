@@ -1,6 +1,6 @@
 //! Reads volume scripts, line by line.
 ghost use Rattle.std.specs.Prelude.{◌≡◌, ℕ, ◌+◌, ◌^◌, ◌<◌, ◌≤◌, true, None, map, length, IfOk, unwrap_or};
-ghost use Rattle.script_grammar.specs.code.Readers.{IsReadAs, Reads, fault_at};
+ghost use Rattle.script_grammar.specs.code.Readers.{IsReadAs, Reads};
 ghost use Rattle.session_grammar.specs.Grammar.{is_submit, stands_in, has_threads, may_stand, stood_before, line_taken, later_line, is_behind_events, read_words, read_line, header_of, script_read, ended, read_from, session_of};
 ghost use Rattle.session_grammar.specs.WellFormed.{IsWellFormed};
 
@@ -14,7 +14,7 @@ use crate::word_table::read_word;
 use crate::words::{HeaderWord, Word};
 use event_grammar::{EventFirst, PlainWord};
 use script_grammar::{
-    DEFAULT_DEPTH, DEFAULT_QUEUE, LineError, MOST_SCRIPT_BYTES, ScriptError, ScriptKind,
+    DEFAULT_DEPTH, DEFAULT_QUEUE, LineError, MOST_SCRIPT_BYTES, ScriptError, ScriptKind, fault_at,
 };
 use script_words::{is_skipped, lines, words};
 use std::alloc::Global;
@@ -148,15 +148,6 @@ fn read_words(
             let word = read_word(is_behind_events(reading.section), word);
             later_line(alloc, reading, line, word, rest)
         }
-    }
-}
-
-fn fault_at(number: u32, fault: LineError) -> ScriptError
-    ensures { result ≡ fault_at number fault }
-{
-    match fault {
-        LineError::Kind(kind) => ScriptError::Fault(number, kind),
-        LineError::NoMemory => ScriptError::NoMemory,
     }
 }
 

@@ -1,7 +1,7 @@
 //! Laws of the grammar. Each call does nothing.
 ghost use Rattle.std.specs.Prelude.{◌≡◌, ℕ, ◌↔◌, List, Ok, Err};
 ghost use Rattle.script_words.specs.Spelling.{lines_of};
-ghost use Rattle.script_grammar.specs.laws.Accepted.{kept_lines};
+ghost use Rattle.script_words.specs.laws.Texts.{kept_lines};
 ghost use Rattle.script_grammar.specs.declared.kinds.ScriptKind.{ScriptKind};
 ghost use Rattle.session_grammar.specs.declared.session_script.SessionScript.{SessionScript};
 ghost use Rattle.session_grammar.specs.Grammar.{session_of};
