@@ -4,3 +4,4 @@ pub mod Fitting
 pub mod Opening
 pub mod Repeats
 pub mod Scheduled
+pub mod Dispatches

@@ -1,7 +1,7 @@
 -- What holds between a request path, its scheduler and the device behind them, for both kinds of path.
-use Rattle.std.proofs.Common.{◌≡◌, ℕ, ◌+◌, ◌≤◌, List, [], ◌∷◌, ◌++◌, length, map, take, Option, Some, None, slice_get, refl, sym, ap, subst, ◌∙◌, arith}
+use Rattle.std.proofs.Common.{◌≡◌, ℕ, ◌+◌, ◌≤◌, Bool, true, false, if◌then◌else◌, List, [], ◌∷◌, ◌++◌, length, map, take, Option, Some, None, slice_get, refl, sym, ap, subst, ◌∙◌, arith}
 use Rattle.std.specs.Option.{option_map, option_to_list}
-use Rattle.std.proofs.lemmas.List.{take_all, length-take-le}
+use Rattle.std.proofs.lemmas.List.{take_all}
 use Rattle.std.proofs.lemmas.Option.{none-some, some_pair_parts}
 use Rattle.order_model.specs.declared.command.Command.{Command}
 use Rattle.order_model.specs.declared.request.Request.{Request}
@@ -9,6 +9,8 @@ use Rattle.order_model.specs.Device.{Seen, completed, origin_ids, IsReceivable}
 use Rattle.order_model.specs.declared.completion.Completion.{Completion}
 use Rattle.order_model.specs.Submission.{IsOrderClosed, KeepsFlushed}
 use Rattle.order_model.specs.Single.{command_for}
+use Rattle.order_model.specs.Machine.{Machine}
+use Rattle.order_model.specs.Steps.{Receives}
 use Rattle.order_model.specs.Carrying.{SchedSeen, Carries, AreAtIds, Fits}
 use Rattle.barrier_reassign.specs.Scheduler.{SchedSteps, IsScheduler}
 use Rattle.script_grammar.specs.declared.script.Script.{Script}
@@ -19,7 +21,9 @@ use Rattle.script_grammar.specs.declared.script.CoreEvent.TheVariants.{Submit, A
 use Rattle.stack_core.specs.declared.request_path.RequestPath.{RequestPath}
 use Rattle.stack_core.specs.declared.request_path.RequestPath.TheVariants.{Direct, Scheduled}
 use Rattle.stack_core.specs.BlockLayer.{QueuesState, BlockLayer, given_first}
-use Rattle.stack_core.specs.RequestPath.{PathState, AreRequests, PathFits, IsDirect, IsScheduled, opened_as, opened_path, scheduled_as, scheduled_count, stepped, stepped_as, layer_stepped, given, submitted_count, carried}
+use Rattle.stack_core.specs.RequestPath.{PathState, AreRequests, PathFits, IsDirect, opened_as, opened_path, scheduled_as, scheduled_count, stepped, stepped_as, layer_stepped, given, submitted_count, carried}
+use Rattle.stack_core.specs.Core.{RunState, received_given}
+use Rattle.stack_core.specs.Handing.{Handing, handed_given, handed}
 use Rattle.stack_core.specs.Headline.{KeepsOrder}
 use Rattle.stack_core.proofs.DirectPath.{receivable, path-more, prefix_requests, prefix_carries, at_ids}
 use Rattle.stack_core.proofs.Scheduled.{IsBeside, submitted-path, accepted-path, dispatched-path, first_receivable, first_received, scheduled_fits}
@@ -95,7 +99,7 @@ given_receivable rs (Scheduled s) g p c d v carries same e =
     let r = given_scheduled s s.dispatched c g e in
     first_receivable rs s p d c r.0 v carries same r.1
 
-pub given-path : (rs : List Request) (f g : RequestPath) (p : SchedSeen) (c : Command) (d : Seen) → PathFits f p rs d → given rs f ≡ Some (c, g) → PathFits g p rs (record d { took = d.took ++ c ∷ [] })
+given-path : (rs : List Request) (f g : RequestPath) (p : SchedSeen) (c : Command) (d : Seen) → PathFits f p rs d → given rs f ≡ Some (c, g) → PathFits g p rs (record d { took = d.took ++ c ∷ [] })
 given-path rs (Direct next) g p c d v e =
     let r = given_direct next (slice_get rs next) c g e in
     subst (λ h. PathFits h p rs (record d { took = d.took ++ c ∷ [] })) r.3
@@ -103,6 +107,47 @@ given-path rs (Direct next) g p c d v e =
 given-path rs (Scheduled s) g p c d v e =
     let r = given_scheduled s s.dispatched c g e in
     subst (λ h. PathFits h p rs (record d { took = d.took ++ c ∷ [] })) r.2 (first_received rs s p d c r.0 v r.1)
+
+-- ---- the next command goes to the device
+
+module _ {K S : Type 0} (m : Machine S) (sched : K) where
+  abbrev with_sched : Handing RequestPath S → RunState K S
+  with_sched h = record { path = h.before; sched = sched; dev = h.dev }
+
+  received_where : (b : Bool) (h : Handing RequestPath S) (o : Option (Command × RequestPath)) → with_sched (if b then handed_given m h o else h) ≡ (if b then received_given m (with_sched h) o else with_sched h)
+  received_where true h None = refl
+  received_where true h (Some g) = refl
+  received_where false h o = refl
+
+  -- the scheduler has no part in it
+  pub received_handed : (h : Handing RequestPath S) (o : Option (Command × RequestPath)) → with_sched (handed m h o) ≡ (if m.has_room h.dev then received_given m (with_sched h) o else with_sched h)
+  received_handed h o = received_where (m.has_room h.dev) h o
+
+module _ {S : Type 0} (m : Machine S) (valid : S → Type 0) (receives : (s : S) (c : Command) → valid s → IsReceivable (m.seen s) c → m.has_room s ≡ true → valid (m.received s c) × Receives (m.seen s) c (m.seen (m.received s c))) where
+  -- the device is valid and has its base, and path and device hold together
+  pub record IsHanded (rs : List Request) (p : SchedSeen) (old : S) (h : Handing RequestPath S) : Type 0 where
+    pub keeps : valid h.dev
+    pub base : (m.seen h.dev).base ≡ (m.seen old).base
+    pub path : PathFits h.before p rs (m.seen h.dev)
+
+  module _ (rs : List Request) (p : SchedSeen) (h : Handing RequestPath S) (keeps : valid h.dev) (path : PathFits h.before p rs (m.seen h.dev)) (carries : Carries p) (same : length (m.seen h.dev).surface ≡ length (m.seen h.dev).base) where
+    given-handed : (o : Option (Command × RequestPath)) → given rs h.before ≡ o → m.has_room h.dev ≡ true → IsHanded rs p h.dev (handed_given m h o)
+    given-handed None e room = record { keeps = keeps; base = refl; path = path }
+    given-handed (Some g) e room =
+        let d = m.seen h.dev in
+        let step = receives h.dev g.0 keeps (given_receivable rs h.before g.1 p g.0 d path carries same e) room in
+        record {
+          keeps = step.0;
+          base = ap (λ (x : Seen). x.base) step.1;
+          path = subst (PathFits g.1 p rs) (sym step.1) (given-path rs h.before g.1 p g.0 d path e);
+        }
+
+    room-handed : (b : Bool) → m.has_room h.dev ≡ b → IsHanded rs p h.dev (if b then handed_given m h (given rs h.before) else h)
+    room-handed true room = given-handed (given rs h.before) refl room
+    room-handed false room = record { keeps = keeps; base = refl; path = path }
+
+    pub path-handed : IsHanded rs p h.dev (handed m h (given rs h.before))
+    path-handed = room-handed (m.has_room h.dev) refl
 
 -- ---- the device's own steps
 

@@ -1,6 +1,5 @@
 -- Repeated events, and one event line after the other.
-use Rattle.std.proofs.Common.{◌≡◌, ℕ, ◌+◌, ◌-◌, ◌<◌, ◌≤◌, List, length, drop, get_or, refl, sym, ap, ◌∙◌, arith, add-one, suc, Result, Ok, Err, OnOk, is_ok, true}
-use Rattle.std.proofs.lemmas.Bool.{false≢true}
+use Rattle.std.proofs.Common.{◌≡◌, ℕ, ◌+◌, ◌-◌, ◌<◌, ◌≤◌, List, length, drop, get_or, refl, sym, ap, ◌∙◌, arith, add-one, suc}
 use Rattle.std.proofs.lemmas.List.{drop_all}
 use Rattle.std.proofs.Math.Seq.{drop-cons}
 use Rattle.order_model.specs.declared.request.Request.{Request}
@@ -25,8 +24,3 @@ run_lines-more k m rs r lines n d lt =
 pub run_lines-end : {K S : Type 0} (k : SchedSteps K) (m : Machine S) (rs : List Request) (r : RunState K S) (lines : List EventLine) (n : ℕ) → length lines ≤ n → run_lines k m rs r (drop n lines) ≡ r
 unfolding run_lines
 run_lines-end k m rs r lines n le = ap (run_lines k m rs r) (drop_all n lines le)
-
--- what holds of a result that is Ok
-pub on_ok : {A E : Type 0} (result : Result A E) (P : Type 0) → is_ok result ≡ true → OnOk result P → P
-on_ok (Ok x) P e h = h
-on_ok (Err x) P e h = absurd (false≢true e)

@@ -5,3 +5,4 @@ pub mod Report
 pub mod BlockLayer
 pub mod code
 pub mod Dispatching
+pub mod Handing

@@ -1,31 +1,37 @@
 //! The queue behind a scheduler.
-ghost use Rattle.std.specs.Prelude.{◌≡◌, [], ◌∷◌, Some, None, IfOk, IfSome, IfNone};
+ghost use Rattle.std.specs.Prelude.{◌≡◌, List, [], ◌∷◌, None, IfOk};
 ghost use Rattle.order_model.specs.declared.command.Command.{Command};
-ghost use Rattle.stack_core.specs.BlockLayer.{QueuesState, queued_or_kept, layer_picked, layer_dispatched};
+ghost use Rattle.order_model.specs.Device.{IsReceivable};
+ghost use Rattle.order_model.specs.Machine.{machine_of};
+ghost use Rattle.stack_core.specs.BlockLayer.{QueuesState, queued_or_kept_option, layer_dispatched, given_first};
 ghost use Rattle.stack_core.specs.Dispatching.{with_dispatch};
+ghost use Rattle.stack_core.specs.Handing.{handed};
 
 use barrier_reassign::Scheduler;
 use blk_base::NoMemory;
-use order_model::{Command, Inlet, ListQueue};
+use command_queue::CommandRing;
+use order_model::{Command, OrderedDev};
 use std::alloc::Global;
 use std::marker::Model;
 
 /// The dispatch queue behind a scheduler, with the command that found it full.
 ///
-/// All its room is reserved by `make`: no other call takes memory.
+/// All its room is reserved by `make`: no other call takes memory, and none moves a command.
 #[derive(Drop)]
 pub struct DispatchQueue {
-    // A command that found the queue full.
-    kept: Option<Command>,
-    commands: ListQueue<Command>,
+    // What the scheduler sent last. Where it found the queue full it is kept, and waits for room.
+    last: Command,
+    is_kept: bool,
+    commands: CommandRing,
 }
 
 impl Model for DispatchQueue {
+    ghost use Rattle.std.specs.Prelude.{Some, None, if◌then◌else◌};
     ghost use Rattle.stack_core.specs.Dispatching.{DispatchState};
 
     ghost Value = { DispatchState };
 
-    ghost view = { λ d. record { capacity = d.commands.capacity; kept = d.kept; dispatched = d.commands.held } };
+    ghost view = { λ d. record { capacity = d.commands.capacity; kept = (if d.is_kept then Some d.last else None); dispatched = d.commands.held } };
 }
 
 impl DispatchQueue {
@@ -34,8 +40,9 @@ impl DispatchQueue {
         ensures { IfOk result (λ d. d ≡ record { capacity = capacity; kept = None; dispatched = [] }) }
     {
         Ok(DispatchQueue {
-            kept: None,
-            commands: ListQueue::make(alloc, capacity)?,
+            last: Command::blank(),
+            is_kept: false,
+            commands: CommandRing::make(alloc, capacity)?,
         })
     }
 
@@ -45,49 +52,37 @@ impl DispatchQueue {
             layer_dispatched S.steps (record { queues = with_dispatch q self.old; sched = S.state sched.old }) pick }
         ensures capacity { self.new.capacity ≡ self.old.capacity }
     {
-        if self.kept.is_some() {
-            self.send_kept();
-        } else {
-            self.send_picked(sched, pick);
+        if !self.is_kept {
+            self.is_kept = sched.dispatch_into(pick, &mut self.last);
+        }
+        self.send_kept();
+    }
+
+    // The command that is kept goes into the queue, where there is one and the queue is not full.
+    fn send_kept(&mut self)
+        ensures step { (q : QueuesState) → with_dispatch q self.new ≡ queued_or_kept_option (with_dispatch q self.old) self.old.kept }
+        ensures capacity { self.new.capacity ≡ self.old.capacity }
+    {
+        if self.is_kept && !self.commands.is_full() {
+            self.commands.push(&self.last);
+            self.is_kept = false;
         }
     }
 
-    // The command that is kept goes into the queue, unless that is full.
-    fn send_kept(&mut self)
-        ensures step { (q : QueuesState) (c : Command) → self.old.kept ≡ Some c → with_dispatch q self.new ≡ queued_or_kept (with_dispatch q self.old) c }
+    /// The first command goes to the device, where there is one and there is room.
+    pub fn hand_to<D: OrderedDev>(&mut self, dev: &mut D)
+        requires { (c : Command) (cs : List Command) → self.old.dispatched ≡ c ∷ cs → IsReceivable (D.seen (D.state dev.old)) c }
+        ensures step { (q : QueuesState) → record { before = with_dispatch q self.new; dev = D.state dev.new } ≡
+            handed (machine_of D.OrderedDev) (record { before = with_dispatch q self.old; dev = D.state dev.old }) (given_first (with_dispatch q self.old) self.old.dispatched) }
         ensures capacity { self.new.capacity ≡ self.old.capacity }
     {
-        if self.commands.is_full() {
+        if !dev.room() {
             return;
         }
-        if let Some(command) = self.kept.take() {
-            self.commands.push(command);
-        }
-    }
-
-    // The scheduler sends its pick. A command that finds the queue full is kept.
-    fn send_picked<S: Scheduler>(&mut self, sched: &mut S, pick: u32)
-        requires { self.old.kept ≡ None }
-        ensures step { (q : QueuesState) → record { queues = with_dispatch q self.new; sched = S.state sched.new } ≡
-            layer_picked S.steps (record { queues = with_dispatch q self.old; sched = S.state sched.old }) pick }
-        ensures capacity { self.new.capacity ≡ self.old.capacity }
-    {
-        let Some(command) = sched.dispatch(pick) else {
+        let Some(command) = self.commands.first() else {
             return;
         };
-        if self.commands.is_full() {
-            self.kept = Some(command);
-        } else {
-            self.commands.push(command);
-        }
-    }
-
-    /// The first command leaves the queue.
-    pub fn give(&mut self) -> Option<Command>
-        ensures some { IfSome result (λ c. self.old.dispatched ≡ c ∷ self.new.dispatched) }
-        ensures none { IfNone result ((self.old.dispatched ≡ []) × (self.new ≡ self.old)) }
-        ensures rest { self.new ≡ record self.old { dispatched = self.new.dispatched } }
-    {
-        self.commands.take()
+        dev.take_in(command);
+        self.commands.remove_first();
     }
 }

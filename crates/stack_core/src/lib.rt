@@ -6,6 +6,7 @@
 //! (`specs/Headline.antt`).
 #![tactic(auto)]
 
+mod direct_path;
 mod dispatch_queue;
 mod report;
 mod request_path;

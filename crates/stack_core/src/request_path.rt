@@ -1,20 +1,25 @@
 //! The request path: how the requests of a script reach the device.
-ghost use Rattle.std.specs.Prelude.{◌≡◌, ℕ, ◌≤◌, Some, None, IfOk, IfSome, IfNone};
-ghost use Rattle.order_model.specs.Device.{Seen};
+ghost use Rattle.std.specs.Prelude.{◌≡◌, Some, IfOk};
+ghost use Rattle.order_model.specs.declared.command.Command.{Command};
+ghost use Rattle.order_model.specs.Device.{Seen, IsReceivable};
+ghost use Rattle.order_model.specs.Machine.{machine_of};
+ghost use Rattle.stack_core.specs.declared.request_path.RequestPath.{RequestPath};
+ghost use Rattle.stack_core.specs.Handing.{handed};
 ghost use Rattle.stack_core.specs.RequestPath.{PathState, opened_path, stepped, given, submitted_count, PathFits};
 
+use crate::direct_path::DirectPath;
 use crate::scheduler_queues::SchedulerQueues;
 use barrier_reassign::Scheduler;
 use blk_base::NoMemory;
-use order_model::Command;
+use order_model::OrderedDev;
 use script_grammar::{CoreEvent, Form, RequestList, Script};
 use std::alloc::Global;
 
 /// The request path: how the requests of a script reach the device.
 #[derive(Drop)]
 pub enum RequestPath {
-    /// Each as a command of its own. So many went.
-    Direct(usize),
+    /// Each as a command of its own.
+    Direct(DirectPath),
     /// Through the block layer.
     Scheduled(SchedulerQueues),
 }
@@ -25,7 +30,7 @@ impl RequestPath {
         ensures { IfOk result (λ f. f ≡ opened_path script.now) }
     {
         match script.kind {
-            Form::Device(_) => Ok(RequestPath::Direct(0)),
+            Form::Device(_) => Ok(RequestPath::Direct(DirectPath::new())),
             Form::Blocks(_) => {
                 let queues = SchedulerQueues::make(alloc, script.header.queue)?;
                 Ok(RequestPath::Scheduled(queues))
@@ -38,7 +43,7 @@ impl RequestPath {
         ensures { result ≡ submitted_count self.now }
     {
         match self {
-            RequestPath::Direct(next) => *next,
+            RequestPath::Direct(direct) => direct.submitted(),
             RequestPath::Scheduled(queues) => queues.submitted(),
         }
     }
@@ -59,19 +64,15 @@ impl RequestPath {
         }
     }
 
-    /// The next command for the device, where there is one.
-    pub fn give(&mut self, requests: &RequestList) -> Option<Command>
-        ensures some { IfSome result (λ c. given requests.now self.old ≡ Some (c, self.new)) }
-        ensures none { IfNone result ((given requests.now self.old ≡ None) × (self.new ≡ self.old)) }
+    /// The next command goes to the device, where there is one and there is room.
+    pub fn hand_to<D: OrderedDev>(&mut self, dev: &mut D, requests: &RequestList)
+        requires { (c : Command) (f : RequestPath) → given requests.now self.old ≡ Some (c, f) → IsReceivable (D.seen (D.state dev.old)) c }
+        ensures { record { before = self.new; dev = D.state dev.new } ≡
+            handed (machine_of D.OrderedDev) (record { before = self.old; dev = D.state dev.old }) (given requests.now self.old) }
     {
         match self {
-            RequestPath::Direct(next) => {
-                let request = requests.get(*next)?;
-                *next += 1;
-                let flagged = request.barrier;
-                Some(Command::of_request(request, flagged))
-            }
-            RequestPath::Scheduled(queues) => queues.give(),
+            RequestPath::Direct(direct) => direct.hand_to(dev, requests),
+            RequestPath::Scheduled(queues) => queues.hand_to(dev),
         }
     }
 }

@@ -67,14 +67,7 @@ fn receive_next<S: Scheduler, D: OrderedDev>(
     ensures base { (D.seen (D.state dev.new)).base ≡ (D.seen (D.state dev.old)).base }
     ensures path { PathFits path.new (S.steps.seen (S.state sched.new)) requests.now (D.seen (D.state dev.new)) }
 {
-    if !dev.room() {
-        return;
-    }
-    let Some(command) = path.give(requests) else {
-        return;
-    };
-    // There is room.
-    let _ = dev.receive(command);
+    path.hand_to(dev, requests);
 }
 
 // One event, so many times.

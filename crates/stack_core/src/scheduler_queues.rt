@@ -1,14 +1,18 @@
 //! The two queues of the block layer, before and behind its scheduler.
-ghost use Rattle.std.specs.Prelude.{◌≡◌, ◌∷◌, List, Some, None, IfOk, IfSome, IfNone};
+ghost use Rattle.std.specs.Prelude.{◌≡◌, ◌∷◌, List, IfOk};
+ghost use Rattle.order_model.specs.declared.command.Command.{Command};
 ghost use Rattle.order_model.specs.declared.request.Request.{Request};
+ghost use Rattle.order_model.specs.Device.{IsReceivable};
+ghost use Rattle.order_model.specs.Machine.{machine_of};
 ghost use Rattle.barrier_reassign.specs.Scheduler.{IsAcceptable};
 ghost use Rattle.stack_core.specs.BlockLayer.{QueuesState, opened_queues, submitted, layer_accepted, layer_dispatched, given_first};
 ghost use Rattle.stack_core.specs.Dispatching.{with_submission};
+ghost use Rattle.stack_core.specs.Handing.{handed};
 
 use crate::dispatch_queue::DispatchQueue;
 use barrier_reassign::Scheduler;
 use blk_base::NoMemory;
-use order_model::{Command, Inlet, ListQueue, Request};
+use order_model::{Inlet, ListQueue, OrderedDev, Request};
 use script_grammar::RequestList;
 use std::alloc::Global;
 use std::marker::Model;
@@ -84,12 +88,13 @@ impl SchedulerQueues {
         self.behind.dispatch(sched, pick);
     }
 
-    /// The first command of the dispatch queue leaves it.
-    pub fn give(&mut self) -> Option<Command>
-        ensures some { IfSome result (λ c. given_first self.old self.old.dispatched ≡ Some (c, self.new)) }
-        ensures none { IfNone result ((given_first self.old self.old.dispatched ≡ None) × (self.new ≡ self.old)) }
+    /// The first command behind the scheduler goes to the device, where there is one and there is room.
+    pub fn hand_to<D: OrderedDev>(&mut self, dev: &mut D)
+        requires { (c : Command) (cs : List Command) → self.old.dispatched ≡ c ∷ cs → IsReceivable (D.seen (D.state dev.old)) c }
+        ensures { record { before = self.new; dev = D.state dev.new } ≡
+            handed (machine_of D.OrderedDev) (record { before = self.old; dev = D.state dev.old }) (given_first self.old self.old.dispatched) }
     {
-        self.behind.give()
+        self.behind.hand_to(dev);
     }
 }
 

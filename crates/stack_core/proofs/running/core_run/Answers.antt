@@ -1,9 +1,7 @@
 -- The device of the script's numbers is the one that the script opens.
-use Rattle.std.proofs.Common.{◌≡◌, ℕ, ◌++◌, ◌≤◌, [], length, None, IfOk, sym, ap, subst, arith}
+use Rattle.std.proofs.Common.{◌++◌, ◌≤◌, length, IfOk, sym, ap, subst, arith}
 use Rattle.blk_base.specs.Image.{zeros}
-use Rattle.device_epochs.specs.declared.device.DeviceSetup.{DeviceSetup}
 use Rattle.device_epochs.specs.Device.{DeviceState, seen}
-use Rattle.script_grammar.specs.declared.script.Script.{Script}
 use Rattle.script_grammar.specs.Grammar.{blocks_of}
 use Rattle.stack_core.specs.Core.{end_on, epoch_machine}
 use Rattle.stack_core.specs.Headline.{KeepsOrder}

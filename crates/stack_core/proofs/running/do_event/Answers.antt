@@ -1,6 +1,6 @@
 -- An event before the device keeps what holds between request path, scheduler and device.
 use Rattle.std.proofs.Common.{sym, subst}
-use Rattle.stack_core.specs.RequestPath.{PathState, stepped}
+use Rattle.stack_core.specs.RequestPath.{PathState}
 use Rattle.stack_core.proofs.Paths.{IsBefore, stepped-path}
 use Rattle.stack_core.proofs.running.do_event.Goals as goal
 
