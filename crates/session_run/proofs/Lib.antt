@@ -4,3 +4,4 @@ pub mod Reaching
 pub mod Answered
 pub mod Lines
 pub mod Ended
+pub mod Handed

@@ -1,10 +1,14 @@
 //! The queues of a session.
-ghost use Rattle.std.specs.Prelude.{◌≡◌, ◌≢◌, ◌-◌, ◌≤◌, ◌∷◌, ℕ, List, [], Some, None, IfOk, OnOk, IfSome, IfNone, slice_get, length};
+ghost use Rattle.std.specs.Prelude.{◌≡◌, ◌≢◌, ◌-◌, ◌≤◌, ◌∷◌, ℕ, List, IfOk, OnOk, slice_get, length};
+ghost use Rattle.order_model.specs.declared.command.Command.{Command};
 ghost use Rattle.order_model.specs.declared.request.Request.{Request};
+ghost use Rattle.order_model.specs.Device.{IsReceivable};
+ghost use Rattle.order_model.specs.Machine.{machine_of};
 ghost use Rattle.order_model.specs.declared.turn.Turn.TheVariants as turns;
 ghost use Rattle.host_answers.specs.declared.step.Step.TheVariants as answers;
 ghost use Rattle.barrier_reassign.specs.Scheduler.{IsAcceptable};
-ghost use Rattle.stack_core.specs.BlockLayer.{layer_accepted, layer_dispatched};
+ghost use Rattle.stack_core.specs.BlockLayer.{layer_accepted, layer_dispatched, given_first};
+ghost use Rattle.stack_core.specs.Handing.{handed};
 ghost use Rattle.flush_actor.specs.Outcomes.{sent_between};
 ghost use Rattle.host_machine.specs.Host as machine;
 ghost use Rattle.host_core.specs.Now.{model_now, setup_now, with_host};
@@ -15,7 +19,7 @@ use barrier_reassign::Scheduler;
 use blk_base::NoMemory;
 use host_answers::Step;
 use host_core::Host;
-use order_model::{Command, Completion, ListQueue, Request, Turn};
+use order_model::{Completion, ListQueue, OrderedDev, Request, Turn};
 use stack_core::{DispatchQueue, accept_from};
 use std::alloc::Global;
 use std::marker::Model;
@@ -135,13 +139,15 @@ impl SessionQueues {
 
     // ---- the device
 
-    /// The first command for the device leaves its queue.
-    pub fn give(&mut self) -> Option<Command>
-        ensures some { IfSome result (λ c. self.old.dispatched ≡ c ∷ self.new.dispatched) }
-        ensures none { IfNone result ((self.old.dispatched ≡ []) × (self.new ≡ self.old)) }
-        ensures rest { self.new ≡ record self.old { dispatched = self.new.dispatched } }
+    /// The first command behind the scheduler goes to the device, where there is one and there is room.
+    pub fn hand_to<D: OrderedDev>(&mut self, dev: &mut D)
+        requires { (c : Command) (cs : List Command) → self.old.dispatched ≡ c ∷ cs → IsReceivable (D.seen (D.state dev.old)) c }
+        ensures step { (n : ℕ) → record { before = layer_queues n self.new; dev = D.state dev.new } ≡
+            handed (machine_of D.OrderedDev) (record { before = layer_queues n self.old; dev = D.state dev.old }) (given_first (layer_queues n self.old) self.old.dispatched) }
+        ensures completions { self.new.completions ≡ self.old.completions }
+        ensures kept { self.new.kept ≡ self.old.kept }
     {
-        self.behind.give()
+        self.behind.hand_to(dev);
     }
 
     /// The completion that is kept.

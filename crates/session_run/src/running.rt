@@ -45,14 +45,7 @@ impl<S: Scheduler, D: OrderedDev> Running<S, D> {
         ensures step { (s : Opening) → state_of S.Scheduler D.OrderedDev self.new ≡ after_event S.Scheduler D.OrderedDev s self.old events.Receive }
         ensures host { self.new.host ≡ self.old.host }
     {
-        if !self.dev.room() {
-            return;
-        }
-        let Some(command) = self.queues.give() else {
-            return;
-        };
-        // There is room.
-        let _ = self.dev.receive(command);
+        self.queues.hand_to(&mut self.dev);
     }
 
     // The completion that is kept goes to the host, or else the device's next one.
