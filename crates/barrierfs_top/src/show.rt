@@ -2,6 +2,7 @@
 ghost use Rattle.std.specs.Prelude.{◌≡◌, Ok, IfOk, IfErr};
 ghost use Rattle.std.specs.String.{string_bytes};
 ghost use Rattle.blk_base.specs.Image.{whole_blocks};
+ghost use Rattle.tree_model.specs.Text.{tree_text};
 ghost use Rattle.mount_make.specs.Images.{mounted};
 ghost use Rattle.barrierfs_top.specs.Show.{shown, shown_volume, IsMountedFault};
 ghost use Rattle.barrierfs_top.specs.Top.{IsInputFault};
@@ -13,7 +14,7 @@ use device_epochs::{DeviceSetup, EpochDevice};
 use mount_make::{MountFault, mount};
 use script_grammar::DEFAULT_DEPTH;
 use std::alloc::Global;
-use tree_model::put_tree;
+use tree_model::{Tree, put_tree};
 use volume_ops::Volume;
 
 /// The text of the tree that an image of these bytes has.
@@ -27,7 +28,7 @@ pub fn show_text(alloc: Global, bytes: Vec<u8>) -> Result<String, TopFault>
         return Err(TopFault::NoMemory);
     };
     let volume = volume_of(alloc, image)?;
-    match tree_text(alloc, &volume) {
+    match last_text(alloc, volume) {
         Ok(text) => Ok(text),
         Err(_) => Err(TopFault::NoMemory),
     }
@@ -56,12 +57,27 @@ fn volume_of(alloc: Global, image: Image) -> Result<Volume, TopFault>
     }
 }
 
+fn text_of(alloc: Global, tree: Tree) -> Result<String, NoMemory>
+    ensures { IfOk result (λ text. string_bytes text ≡ tree_text tree) }
+{
+    let mut text = String::new(alloc);
+    put_tree(alloc, &mut text, tree)?;
+    Ok(text)
+}
+
 /// The text of the tree of a volume.
 pub fn tree_text(alloc: Global, volume: &Volume) -> Result<String, NoMemory>
     ensures { IfOk result (λ text. shown_volume volume.now ≡ Ok (string_bytes text)) }
 {
     let tree = volume.tree(alloc)?;
-    let mut text = String::new(alloc);
-    put_tree(alloc, &mut text, tree)?;
-    Ok(text)
+    text_of(alloc, tree)
+}
+
+// The text of the tree of a volume, whose blocks are let go before the text is made.
+fn last_text(alloc: Global, volume: Volume) -> Result<String, NoMemory>
+    ensures { IfOk result (λ text. shown_volume volume ≡ Ok (string_bytes text)) }
+{
+    let tree = volume.tree(alloc)?;
+    drop(volume);
+    text_of(alloc, tree)
 }
