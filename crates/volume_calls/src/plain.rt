@@ -2,12 +2,14 @@
 ghost use Rattle.std.specs.Prelude.{◌≡◌, IfOk};
 ghost use Rattle.volume_ops.specs.Volume.{disk_of};
 ghost use Rattle.volume_steps.specs.Calls.{after_release};
+ghost use Rattle.volume_steps.specs.Now.{tree_of_now};
 ghost use Rattle.volume_steps.specs.Plain.{IsPlainNow};
 
 use blk_base::{Block, BodySource, NoMemory};
 use minix_layout::Geometry;
 use std::alloc::Global;
 use std::marker::Model;
+use tree_model::Tree;
 use volume_names::InodeMap;
 use volume_now::VolumeNow;
 use zone_maps::ZoneMap;
@@ -65,6 +67,15 @@ impl PlainVolume {
         } else {
             Block::fill(0)
         }
+    }
+
+    /// The tree that the volume stands for, with the bytes of its files. A node has the birth that it has in the volume,
+    /// and the bytes are copied once, from their blocks.
+    pub fn tree(&self, alloc: Global) -> Result<Tree, NoMemory>
+        ensures { IfOk result (λ t. t ≡ tree_of_now self.now) }
+    {
+        let _ = &self.parts;
+        volume_reads::tree(alloc, &self.parts)
     }
 
     /// The zones that waited for transaction `tx` are free.

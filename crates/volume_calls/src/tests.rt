@@ -1,4 +1,4 @@
-//! Tests of what a new volume answers.
+//! Tests of what a new volume answers, and of the tree that calls leave.
 ghost use Rattle.std.specs.Prelude.{◌≡◌, true, false, IfOk};
 ghost use Rattle.minix_layout.specs.Geometry.{IsSound};
 ghost use Rattle.tree_model.specs.Calls.{leaves_tree};
@@ -13,7 +13,7 @@ use minix_layout::{Geometry, Inode, Name, Slot, Zones};
 use std::alloc::{AllocError, Global};
 use std::collections::BTreeMap;
 use std::test::Fail;
-use tree_model::{ByteList, Call};
+use tree_model::{ByteList, Call, Reply, put_tree};
 use volume_edits::{put_inode, put_slot};
 use volume_model::{DirectoryPart, NameMap, Part, Placed};
 use volume_now::VolumeNow;
@@ -205,5 +205,47 @@ fn tells_of_the_root(rt: HostRuntime) -> Result<(), Fail> {
     let call = Call::Fsync(path(alloc, b"/a")?);
     assert_eq!(rt; asked(alloc, &volume, &call)?.as_str(), "NotFound");
     assert_eq!(rt; asked(alloc, &volume, &Call::Sync)?.as_str(), "Ok");
+    Ok(())
+}
+
+// Does a call, under the first number from 1 that it can have, where there is room for it.
+fn reply_done(alloc: Global, volume: &mut PlainVolume, call: &Call) -> Result<Reply, NoMemory>
+    requires { is_rename call.now ≡ false }
+{
+    volumes_are_plain(volume);
+    let Some(number) = volume.number_in(1) else {
+        return Err(NoMemory);
+    };
+    if volume.needs(call) > volume.zones().free_count() {
+        return Err(NoMemory);
+    }
+    let (reply, _) = volume.apply(alloc, number, 1, call)?;
+    Ok(reply)
+}
+
+fn tree_text(alloc: Global, volume: &PlainVolume) -> Result<String, NoMemory> {
+    let mut text = String::new(alloc);
+    put_tree(alloc, &mut text, volume.tree(alloc)?)?;
+    Ok(text)
+}
+
+#[test]
+fn hands_out_its_tree(rt: HostRuntime) -> Result<(), Fail> {
+    let alloc = rt.alloc();
+    let mut volume = new_volume(alloc, SMALL)?;
+    assert_eq!(rt; tree_text(alloc, &volume)?.as_str(), "dir /\n");
+    reply_done(alloc, &mut volume, &Call::Mkdir(path(alloc, b"/a")?))?;
+    reply_done(alloc, &mut volume, &Call::Create(path(alloc, b"/a/f")?))?;
+    let call = Call::Write {
+        path: path(alloc, b"/a/f")?,
+        off: 1022,
+        len: 3,
+        value: 0x61,
+    };
+    reply_done(alloc, &mut volume, &call)?;
+    assert_eq!(rt;
+        tree_text(alloc, &volume)?.as_str(),
+        "dir /\ndir /a\nfile /a/f size 1025 links 1\nblock 0 1022x00+2x61\nblock 1 1x61\n"
+    );
     Ok(())
 }
