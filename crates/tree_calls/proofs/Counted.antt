@@ -1,6 +1,6 @@
 -- Each call keeps the numbers of a tree within those of a volume.
-use Rattle.std.proofs.Common.{◌≡◌, ◌≢◌, ◌≤◌, ◌<◌, ◌+◌, ◌-◌, ◌==◌, ◌⊎◌, ℕ, Bool, true, false, not, ◌&&◌, ◌||◌, nat_le, nat_lt, if◌then◌else◌, List, [], ◌∷◌, length, replicate, Option, Some, None, is_some, is_none, Ok, Err, refl, sym, ap, subst, ◌∙◌, inl, inr, ⊎_elim, arith, unwrap_or, option_map}
-use Rattle.std.specs.List.{sum_by, list_any}
+use Rattle.std.proofs.Common.{◌≡◌, ◌≢◌, ◌≤◌, ◌<◌, ◌+◌, ◌-◌, ◌==◌, ◌⊎◌, ℕ, Bool, true, false, not, ◌&&◌, nat_le, nat_lt, if◌then◌else◌, List, [], ◌∷◌, length, replicate, Option, Some, None, is_some, is_none, Ok, Err, refl, sym, ap, subst, ◌∙◌, inl, inr, ⊎_elim, arith, unwrap_or, option_map}
+use Rattle.std.specs.List.{sum_by}
 use Rattle.std.specs.Map.{remove_entry, values_of}
 use Rattle.std.specs.BTreeMap.{is_at}
 use Rattle.std.proofs.lemmas.Bool.{eqb-true, eqb-false, true≢false, false≢true}
@@ -10,7 +10,6 @@ use Rattle.std.proofs.lemmas.Map.Entries.{sum_by-insert_entry, sum_by-remove_ent
 use Rattle.std.proofs.lemmas.Option.{same_Some}
 use Rattle.tree_model.specs.declared.call.Call.{Call}
 use Rattle.tree_model.specs.declared.call.Call.TheVariants as calls
-use Rattle.tree_model.specs.declared.call.Reply.TheVariants as replies
 use Rattle.tree_model.specs.declared.call.Room.{Room}
 use Rattle.tree_model.specs.declared.node.Node.{Node}
 use Rattle.tree_model.specs.declared.node.Node.TheVariants as nodes
@@ -18,14 +17,13 @@ use Rattle.tree_model.specs.declared.node.Directory.{Directory}
 use Rattle.tree_model.specs.declared.node.File.{File}
 use Rattle.tree_model.specs.Maps.{at_number, at_name, put_name, put_number, without_number, name_cmp}
 use Rattle.tree_model.specs.Plain.{IsPlain}
-use Rattle.tree_model.specs.Calls.{Tree, Done, Row, Found, Place, Move, names_in, parent_of, walk, a_file, is_root, above, is_named, is_full, needs_slot, slots_with, most_links, most_slots, with_name, without_name, with_links, give_name, take_name, put_file, lose_link, new_directory, new_file, mkdir, create, link, rename, target_at, moves_directory, meets_directory, meets_file, stays, changes_parent, place_after, moved_node, without_target, tree_moved, row, outcome, tree_from, tree_after, written_file, cut_file}
-use Rattle.tree_model.specs.Trees.{is_directory, directory_links}
+use Rattle.tree_model.specs.Calls.{Tree, Done, Row, Found, Place, Move, a_file, is_full, needs_slot, slots_with, most_links, most_slots, with_name, without_name, with_links, give_name, take_name, put_file, lose_link, new_directory, new_file, target_at, stays, changes_parent, place_after, moved_node, without_target, tree_moved, outcome, tree_from, tree_after, written_file, cut_file}
 use Rattle.tree_model.specs.laws.MapOrder.{InOrder, in_order_put, NamesInOrder, names_in_order_without, at_name_without_apart}
 use Rattle.tree_model.proofs.Blocks.{target_stands}
-use Rattle.tree_model.proofs.Changes.{Change, stayed, made_directory, made_file, removed, unlinked, linked, renamed, written, written_bytes, truncated, row_change, outcome_row}
+use Rattle.tree_model.proofs.Changes.{IsMade, IsLinked, IsRenamed, Change, stayed, made_directory, made_file, removed, unlinked, linked, renamed, written, written_bytes, truncated, outcome_change}
 use Rattle.tree_model.proofs.Edits.{each_put, each_without, same_name}
 use Rattle.tree_model.proofs.PlainMoves.{named_by}
-use Rattle.tree_model.proofs.Rows.{then_ok, refuse_ok, ok_ok, parent_ok, walk_ok, file_ok, place_names}
+use Rattle.tree_model.proofs.Rows.{place_names}
 use Rattle.tree_calls.specs.Countable.{IsCountable}
 
 abbrev pub Fits : Option Node → Type 0
@@ -149,44 +147,19 @@ module _ (tree : Tree) (plain : IsPlain tree) (all : AllFit tree) where
   made_fit : (n : ℕ) (node : Node) (p : Place) → Fits (Some node) → at_number tree p.parent ≡ Some (nodes.Directory p.directory) → is_full p.directory ≡ false → AllFit (give_name (put_number tree n node) p n)
   made_fit n node p fits stands free = give_all_fit (put_number tree n node) p n (each_put Fits tree n node fits all) stands free
 
-  tree_of : (after : Tree) (takes : Bool) (d : Done) → record { tree = after; takes_inode = takes; reply = replies.Ok } ≡ d → AllFit after → AllFit d.tree
-  tree_of after takes d is fit = subst (λ (d : Done). AllFit d.tree) is fit
+  put_made_fit : (n : ℕ) (node : Node) (d : Done) → Fits (Some node) → IsMade tree n node d → AllFit d.tree
+  put_made_fit n node d fits x = subst AllFit (sym x.tree_is) (made_fit n node x.place fits x.is_place.stands x.room)
 
-  mkdir_fit : (n : ℕ) (path : List ℕ) (d : Done) → mkdir tree n path ≡ Ok d → AllFit d.tree
-  mkdir_fit n path d h =
-      let a = then_ok (names_in path) _ d h in
-      let b = then_ok (parent_of replies.Exists tree a.0) _ d a.2 in
-      let c = refuse_ok (is_named b.0) replies.Exists _ d b.2 in
-      let e = refuse_ok (directory_links tree b.0.directory == most_links) replies.TooManyLinks _ d c.1 in
-      let f = refuse_ok (is_full b.0.directory) replies.TooBig _ d e.1 in
-      tree_of _ true d (ok_ok _ d f.1) (made_fit n (new_directory b.0.parent) b.0 (omega arith, omega arith) (parent_ok replies.Exists tree a.0 b.0 b.1).stands f.0)
-
-  create_fit : (n : ℕ) (path : List ℕ) (d : Done) → create tree n path ≡ Ok d → AllFit d.tree
-  create_fit n path d h =
-      let a = then_ok (names_in path) _ d h in
-      let b = then_ok (parent_of replies.Exists tree a.0) _ d a.2 in
-      let c = refuse_ok (is_named b.0) replies.Exists _ d b.2 in
-      let f = refuse_ok (is_full b.0.directory) replies.TooBig _ d c.1 in
-      tree_of _ true d (ok_ok _ d f.1) (made_fit n new_file b.0 (omega arith) (parent_ok replies.Exists tree a.0 b.0 b.1).stands f.0)
-
-  link_fit : (path other : List ℕ) (d : Done) → link tree path other ≡ Ok d → AllFit d.tree
-  link_fit path other d h =
-      let a = then_ok (names_in path) _ d h in
-      let b = then_ok (names_in other) _ d a.2 in
-      let c = then_ok (walk tree a.0) _ d b.2 in
-      let e = then_ok (a_file c.0.node) _ d c.2 in
-      let f = then_ok (parent_of replies.Exists tree b.0) _ d e.2 in
-      let g = refuse_ok (is_named f.0) replies.Exists _ d f.2 in
-      let i = refuse_ok (e.0.links == most_links) replies.TooManyLinks _ d g.1 in
-      let j = refuse_ok (is_full f.0.directory) replies.TooBig _ d i.1 in
-      let low = file_fits tree c.0.birth c.0.node e.0 all (walk_ok tree a.0 c.0 c.1).stands (file_ok c.0.node e.0 e.1) in
-      let apart = eqb-false e.0.links most_links i.0 in
-      tree_of _ false d (ok_ok _ d j.1)
-      (give_all_fit (put_file tree c.0.birth (with_links e.0 (e.0.links + 1))) f.0 c.0.birth (each_put Fits tree c.0.birth (nodes.File (with_links e.0 (e.0.links + 1))) (one_more e.0.links low apart) all)
-      (parent_ok replies.Exists tree b.0 f.0 f.1).stands j.0)
+  link_fit : (d : Done) → IsLinked tree d → AllFit d.tree
+  link_fit d x =
+      let one_more = with_links x.file (x.file.links + 1) in
+      let low = file_fits tree x.found.birth x.found.node x.file all x.is_found.stands x.node_is in
+      let apart = eqb-false x.file.links most_links x.more_links in
+      subst AllFit (sym x.tree_is)
+      (give_all_fit (put_file tree x.found.birth one_more) x.place x.found.birth (each_put Fits tree x.found.birth (nodes.File one_more) (not_most x.file.links low apart) all) x.is_place.stands x.room)
     where
-      one_more : (links : ℕ) → links ≤ most_links → links ≢ most_links → links + 1 ≤ most_links
-      one_more links low apart = omega arith
+      not_most : (links : ℕ) → links ≤ most_links → links ≢ most_links → links + 1 ≤ most_links
+      not_most links low apart = omega arith
 
   -- ---- a rename
 
@@ -259,25 +232,11 @@ module _ (tree : Tree) (plain : IsPlain tree) (all : AllFit tree) where
         each_put Fits (put_number left m.moved.birth (moved_node m.to.parent m.moved.node)) m.to.parent (nodes.Directory (with_name (place_after m).directory m.to.name m.moved.birth))
         (with_fits (place_after m).directory m.to.name m.moved.birth (after_sorted (changes_parent m)) (after_fits (changes_parent m)) (free e room)) moved
 
-  rename_fit : (path other : List ℕ) (d : Done) → rename tree path other ≡ Ok d → AllFit d.tree
-  rename_fit path other d h =
-      let a = then_ok (names_in path) _ d h in
-      let b = then_ok (names_in other) _ d a.2 in
-      let c = refuse_ok (is_root a.0 || is_root b.0) replies.Invalid _ d b.2 in
-      let e = then_ok (walk tree a.0) _ d c.1 in
-      let f = then_ok (parent_of replies.Invalid tree a.0) _ d e.2 in
-      let g = then_ok (parent_of replies.Invalid tree b.0) _ d f.2 in
-      let i = refuse_ok (is_directory (Some e.0.node) && list_any (λ birth. birth == e.0.birth) (above tree 0 b.0)) replies.Invalid _ d g.2 in
-      let m : Move = record { moved = e.0; from = f.0; to = g.0; target = target_at tree g.0 } in
-      let j = refuse_ok (meets_directory m) _ _ d i.1 in
-      let k = refuse_ok (meets_file m && moves_directory m) replies.NotDir _ d j.1 in
-      let l = refuse_ok (moves_directory m && (changes_parent m && (directory_links tree m.to.directory == most_links))) replies.TooManyLinks _ d k.1 in
-      let o = refuse_ok (is_none m.target && is_full (place_after m).directory) replies.TooBig _ d l.1 in
-      let found = walk_ok tree a.0 e.0 e.1 in
-      let from = parent_ok replies.Invalid tree a.0 f.0 f.1 in
-      let to = parent_ok replies.Invalid tree b.0 g.0 g.1 in
-      tree_of (if stays m then tree else tree_moved tree m) false d (ok_ok _ d o.1)
-      (moved_fit m from.stands to.stands found.stands (place_names tree a.0 f.0 e.0 from found) refl (stays m) refl o.0)
+  rename_fit : (d : Done) → IsRenamed tree d → AllFit d.tree
+  rename_fit d x =
+      let m = x.move in
+      subst AllFit (sym x.tree_is)
+      (moved_fit m x.is_from.stands x.is_to.stands x.is_found.stands (place_names tree x.names m.from m.moved x.is_from x.is_found) x.target_is (stays m) refl x.room)
 
   -- ---- all rows
 
@@ -286,26 +245,25 @@ module _ (tree : Tree) (plain : IsPlain tree) (all : AllFit tree) where
       let low : f.links ≤ most_links = subst Fits stands (all b) in
       subst AllFit (sym is) (each_put Fits tree b (nodes.File g) (omega (arith, same, low)) all)
 
-  change_fit : (n : ℕ) (c : Call) (d : Done) → row tree n c ≡ Ok d → Change tree n d c → AllFit d.tree
-  unfolding row
-  change_fit n c d h (stayed quiet same) = subst AllFit (sym same) all
-  change_fit n (calls.Mkdir path) d h (made_directory parent x e g) = mkdir_fit n path d h
-  change_fit n (calls.Create path) d h (made_file x) = create_fit n path d h
-  change_fit n (calls.Rmdir path) d h (removed x) =
+  change_fit : (n : ℕ) (c : Call) (d : Done) → Change tree n d c → AllFit d.tree
+  change_fit n c d (stayed quiet same) = subst AllFit (sym same) all
+  change_fit n (calls.Mkdir path) d (made_directory parent x e g) = put_made_fit n (new_directory parent) d (omega arith, omega arith) x
+  change_fit n (calls.Create path) d (made_file x) = put_made_fit n new_file d (omega arith) x
+  change_fit n (calls.Rmdir path) d (removed x) =
       subst AllFit (sym x.tree_is) (each_without Fits (take_name tree x.place) x.found.birth (in_order_put tree x.place.parent _ plain.rooted.in_order) tt (take_all_fit tree x.place all x.is_place.stands))
-  change_fit n (calls.Unlink path) d h (unlinked x) =
+  change_fit n (calls.Unlink path) d (unlinked x) =
       subst AllFit (sym x.tree_is)
       (lose_all_fit (take_name tree x.place) x.found.birth x.file (in_order_put tree x.place.parent _ plain.rooted.in_order) (file_fits tree x.found.birth x.found.node x.file all x.is_found.stands x.node_is)
       (take_all_fit tree x.place all x.is_place.stands))
-  change_fit n (calls.Link path other) d h (linked x) = link_fit path other d h
-  change_fit n (calls.Rename path other) d h (renamed x) = rename_fit path other d h
-  change_fit n (calls.Write path off len value) d h (written x) = put_fit d x.found.birth x.file (written_file x.file off (replicate len value)) x.tree_is (x.is_found.stands ∙ ap Some x.node_is) refl
-  change_fit n (calls.Bytes path off bytes) d h (written_bytes x) = put_fit d x.found.birth x.file (written_file x.file off bytes) x.tree_is (x.is_found.stands ∙ ap Some x.node_is) refl
-  change_fit n (calls.Truncate path size) d h (truncated x) = put_fit d x.found.birth x.file (cut_file x.file size) x.tree_is (x.is_found.stands ∙ ap Some x.node_is) refl
+  change_fit n (calls.Link path other) d (linked x) = link_fit d x
+  change_fit n (calls.Rename path other) d (renamed x) = rename_fit d x
+  change_fit n (calls.Write path off len value) d (written x) = put_fit d x.found.birth x.file (written_file x.file off (replicate len value)) x.tree_is (x.is_found.stands ∙ ap Some x.node_is) refl
+  change_fit n (calls.Bytes path off bytes) d (written_bytes x) = put_fit d x.found.birth x.file (written_file x.file off bytes) x.tree_is (x.is_found.stands ∙ ap Some x.node_is) refl
+  change_fit n (calls.Truncate path size) d (truncated x) = put_fit d x.found.birth x.file (cut_file x.file size) x.tree_is (x.is_found.stands ∙ ap Some x.node_is) refl
 
   by_outcome : (room : Room) (n : ℕ) (c : Call) (r : Row) → outcome room tree n c ≡ r → AllFit (tree_from tree r)
   by_outcome room n c (Err reply) e = all
-  by_outcome room n c (Ok d) e = (let h = outcome_row room tree n c d e in change_fit n c d h (row_change tree n c d h))
+  by_outcome room n c (Ok d) e = change_fit n c d (outcome_change room tree n c d e)
 
   pub call_fits : (room : Room) (n : ℕ) (c : Call) → AllFit (tree_after room tree n c)
   unfolding tree_after

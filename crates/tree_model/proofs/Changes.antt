@@ -30,6 +30,7 @@ pub record IsMade (tree : Tree) (n : ℕ) (node : Node) (d : Done) : Type 0 wher
   pub named : HasNames path names
   pub is_place : IsPlace tree names place
   pub free : is_named place ≡ false
+  pub room : is_full place.directory ≡ false
   pub tree_is : d.tree ≡ give_name (put_number tree n node) place n
   pub reply_is : d.reply ≡ replies.Ok
 
@@ -71,6 +72,8 @@ pub record IsLinked (tree : Tree) (d : Done) : Type 0 where
   pub node_is : found.node ≡ nodes.File file
   pub is_place : IsPlace tree more place
   pub free : is_named place ≡ false
+  pub more_links : (file.links == most_links) ≡ false
+  pub room : is_full place.directory ≡ false
   pub tree_is : d.tree ≡ give_name (put_file tree found.birth (with_links file (file.links + 1))) place found.birth
   pub reply_is : d.reply ≡ replies.Ok
 
@@ -88,6 +91,7 @@ pub record IsRenamed (tree : Tree) (d : Done) : Type 0 where
   pub not_below : (moves_directory move && list_any (λ birth. birth == move.moved.birth) (above tree 0 more)) ≡ false
   pub no_directory : meets_directory move ≡ false
   pub no_file : (meets_file move && moves_directory move) ≡ false
+  pub room : (is_none move.target && is_full (place_after move).directory) ≡ false
   pub tree_is : d.tree ≡ (if stays move then tree else tree_moved tree move)
   pub reply_is : d.reply ≡ replies.Ok
 
@@ -146,6 +150,7 @@ mkdir_made tree n path d h =
         named = some_ok (path_of path) replies.BadPath a.0 a.1;
         is_place = parent_ok replies.Exists tree a.0 b.0 b.1;
         free = c.0;
+        room = f.0;
         tree_is = tree_by _ true replies.Ok d (ok_ok _ d f.1);
         reply_is = reply_by _ true replies.Ok d (ok_ok _ d f.1);
       };
@@ -169,6 +174,7 @@ create_made tree n path d h =
         named = some_ok (path_of path) replies.BadPath a.0 a.1;
         is_place = parent_ok replies.Exists tree a.0 b.0 b.1;
         free = c.0;
+        room = f.0;
         tree_is = tree_by _ true replies.Ok d (ok_ok _ d f.1);
         reply_is = reply_by _ true replies.Ok d (ok_ok _ d f.1);
       },
@@ -242,6 +248,8 @@ link_made tree path other d h =
         node_is = file_ok c.0.node e.0 e.1;
         is_place = parent_ok replies.Exists tree b.0 f.0 f.1;
         free = g.0;
+        more_links = i.0;
+        room = j.0;
         tree_is = tree_by _ false replies.Ok d (ok_ok _ d j.1);
         reply_is = reply_by _ false replies.Ok d (ok_ok _ d j.1);
       },
@@ -279,6 +287,7 @@ rename_change tree n path other d h =
       not_below = i.0;
       no_directory = j.0;
       no_file = k.0;
+      room = o.0;
       tree_is = tree_by _ false replies.Ok d (ok_ok _ d o.1);
       reply_is = reply_by _ false replies.Ok d (ok_ok _ d o.1);
     })

@@ -1,21 +1,21 @@
 -- Which calls take zones.
 use Rattle.std.specs.Prelude.{◌≡◌, ◌≤◌, ℕ, ◌+◌, ◌-◌, Bool, true, false, cond, if◌then◌else◌, nat_le, List, [], ◌∷◌, length, map, filter, Some, Ok, Err, unwrap_or, option_map, refl}
 use Rattle.std.proofs.Common.{sym, ap, subst, ◌∙◌, ⊎_elim, arith}
-use Rattle.std.specs.List.{list_any, count_by, range_with_len}
+use Rattle.std.specs.List.{list_any}
 use Rattle.std.specs.Map.{keys_of}
 use Rattle.std.specs.BTreeMap.{is_at}
 use Rattle.std.specs.Ordering.{nat_cmp}
 use Rattle.std.proofs.lemmas.Bool.{false≢true, or_cases, or_left, or_right}
 use Rattle.std.proofs.lemmas.Cmp.{nat_cmp_total}
-use Rattle.std.proofs.lemmas.List.Sums.{sum_by-cons}
 use Rattle.std.proofs.lemmas.Map.Entries.{sum_by-insert_entry, sum_by-remove_entry}
 use Rattle.tree_model.specs.declared.call.Call.{Call}
 use Rattle.tree_model.specs.declared.node.Node.{Node}
 use Rattle.tree_model.specs.declared.node.Node.TheVariants as nodes
 use Rattle.tree_model.specs.declared.node.File.{File}
 use Rattle.tree_model.specs.Maps.{at_number, put_number, without_number}
+use Rattle.tree_model.specs.laws.FewerZones.{zones_less}
 use Rattle.tree_model.specs.laws.MapsLaws.{at_put_number_apart}
-use Rattle.tree_model.specs.Calls.{Tree, Done, Row, Place, without_name, take_name, put_file, with_links, lose_link, cut_file, takes_no_zone, row, directory_zones, is_indirect, is_double_indirect, is_in_group, one_if, mapped_groups, file_zones, node_zones, used_zones, needs}
+use Rattle.tree_model.specs.Calls.{Tree, Done, Row, Place, without_name, take_name, put_file, with_links, lose_link, cut_file, takes_no_zone, row, directory_zones, file_zones, node_zones, used_zones, needs}
 use Rattle.tree_model.specs.Plain.{IsPlain}
 use Rattle.tree_model.specs.laws.MapOrder.{InOrder, in_order_put}
 use Rattle.tree_model.proofs.Changes.{Change, stayed, made_directory, made_file, removed, unlinked, linked, renamed, written, written_bytes, truncated, row_change}
@@ -23,31 +23,6 @@ use Rattle.tree_model.proofs.Blocks.{kept, cut_entry, cut_blocks}
 use Rattle.tree_model.proofs.PlainNames.{directory_not_file}
 
 -- ---- a file with fewer blocks uses no more zones
-
-one_if_less : (a b : Bool) → (a ≡ true → b ≡ true) → one_if a ≤ one_if b
-one_if_less false b h = omega arith
-one_if_less true b h = let e : one_if b ≡ 1 = ap one_if (h refl) in omega arith
-
-count_less : (p q : ℕ → Bool) (xs : List ℕ) → ((x : ℕ) → p x ≡ true → q x ≡ true) → count_by p xs ≤ count_by q xs
-count_less p q [] h = omega arith
-count_less p q (x ∷ xs) h =
-    let a = sum_by-cons (λ x. cond (p x) 1 0) x xs in
-    let b = sum_by-cons (λ x. cond (q x) 1 0) x xs in
-    let c = count_less p q xs h in
-    let d = one_if_less (p x) (q x) (h x) in
-    omega arith
-
-groups_less : (xs ys : List ℕ) → ((p : ℕ → Bool) → list_any p xs ≡ true → list_any p ys ≡ true) → mapped_groups xs ≤ mapped_groups ys
-unfolding mapped_groups
-groups_less xs ys any = count_less (λ group. list_any (is_in_group group) xs) (λ group. list_any (is_in_group group) ys) (range_with_len 0 512) (λ group. any (is_in_group group))
-
-file_zones_less : (xs ys : List ℕ) → length xs ≤ length ys → ((p : ℕ → Bool) → list_any p xs ≡ true → list_any p ys ≡ true) → file_zones xs ≤ file_zones ys
-unfolding file_zones
-file_zones_less xs ys short any =
-    let a = one_if_less (list_any is_indirect xs) (list_any is_indirect ys) (any is_indirect) in
-    let b = one_if_less (list_any is_double_indirect xs) (list_any is_double_indirect ys) (any is_double_indirect) in
-    let c = groups_less xs ys any in
-    omega arith
 
 cut_short : (size : ℕ) (blocks : List (ℕ × List ℕ)) → length (keys_of (cut_blocks size blocks)) ≤ length (keys_of blocks)
 cut_short size [] = omega arith
@@ -127,7 +102,7 @@ change_less tree order n _ d (written_bytes h) t = absurd (false≢true t)
 change_less tree order n _ d (truncated {size = size} h) t =
     subst (λ t. used_zones t ≤ used_zones tree) (sym h.tree_is)
     (put_less tree h.found.birth (nodes.File h.file) (nodes.File (cut_file h.file size)) order (h.is_found.stands ∙ ap Some h.node_is)
-    (file_zones_less (keys_of (cut_blocks size h.file.blocks)) (keys_of h.file.blocks) (cut_short size h.file.blocks) (cut_any size h.file.blocks)))
+    (zones_less (keys_of (cut_blocks size h.file.blocks)) (keys_of h.file.blocks) (cut_short size h.file.blocks) (cut_any size h.file.blocks)))
 
 needs_by : (tree : Tree) → InOrder tree → (n : ℕ) (c : Call) → takes_no_zone c ≡ true → (r : Row) → row tree n c ≡ r →
     (elim r as (λ _. ℕ) [ Err reply ↦ 0 | Ok d ↦ used_zones d.tree - used_zones tree ]) ≡ 0
