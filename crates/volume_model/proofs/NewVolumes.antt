@@ -1,12 +1,12 @@
 -- A new volume is plain.
-use Rattle.std.specs.Prelude.{◌≡◌, ◌≢◌, ℕ, zero, suc, ◌^◌, ◌<◌, ◌≤◌, false, List, [], ◌∷◌, codes, length, replicate, slice_index, slice_index_or, Option, Some, Ok, refl, ◌⊎◌}
+use Rattle.std.specs.Prelude.{◌≡◌, ◌≢◌, ℕ, zero, suc, ◌^◌, ◌<◌, ◌≤◌, false, List, [], ◌∷◌, codes, length, replicate, slice_index, Option, Some, Ok, refl}
 use Rattle.std.specs.List.{slice_get}
 use Rattle.std.specs.List.Sorted.{IsStrictlySortedBy}
 use Rattle.std.specs.BTreeMap.{is_at}
 use Rattle.std.specs.Map.{keys_of}
 use Rattle.std.specs.Ordering.{nat_cmp}
-use Rattle.std.proofs.Common.{sym, ap, subst, ◌∙◌, inl, inr, ⊎_elim, arith}
-use Rattle.std.proofs.lemmas.Bool.{cases_Bool, cases_eq, true≢false}
+use Rattle.std.proofs.Common.{sym, ap, subst, ◌∙◌, inl, inr, arith}
+use Rattle.std.proofs.lemmas.Bool.{cases_Bool, true≢false}
 use Rattle.std.proofs.lemmas.Option.{none-some, same_Some}
 use Rattle.blk_base.specs.Block.{filled}
 use Rattle.byte_fields.specs.Fields.{record_at}
@@ -30,8 +30,8 @@ use Rattle.volume_model.specs.declared.placed.Placed.{Placed}
 use Rattle.volume_model.specs.declared.placed.Part.TheVariants as parts
 use Rattle.volume_model.specs.declared.placed.DirectoryPart.{DirectoryPart}
 use Rattle.volume_model.specs.Edits.{put_inode, put_slot, edited}
-use Rattle.volume_model.specs.Volume.{Place, block, indirect, double, inner, zone_in, IsWhole, HasSlot, IsDirectoryPart, IsStored, HasNames, IsVolumeOf}
-use Rattle.volume_model.specs.Ways.{home, slot, entry, nowhere, place_at, OnWay, IsJust}
+use Rattle.volume_model.specs.Volume.{Place, block, zone_in, IsWhole, HasSlot, IsDirectoryPart, IsStored, HasNames, IsVolumeOf}
+use Rattle.volume_model.specs.Ways.{OnWay, IsJust}
 use Rattle.volume_model.specs.Moves.{IsVolume}
 use Rattle.volume_model.specs.Trees.{directory_from, tree_now}
 use Rattle.volume_model.specs.Plain.{HasDots, HasSlotZones, IsPlainContents}
@@ -39,35 +39,12 @@ use Rattle.volume_model.specs.NewVolume.{dot_slot, dots_slot, root_inode, root_p
 use Rattle.volume_model.specs.Changes.{Changes}
 use Rattle.volume_model.specs.laws.Changes.{changes_inode, changes_slot, table_below}
 use Rattle.volume_model.specs.laws.Edits.{inode_here, slot_here, slot_elsewhere}
-use Rattle.volume_model.specs.laws.Ways.{by_home, home_back, one_home, home-direct, own_slot, own_none, own_behind}
+use Rattle.volume_model.specs.laws.FirstZone.{same_blank, no_number, first_index, own_first as first_own, first_of as first_place}
 use Rattle.volume_model.proofs.Nodes.{same_directory}
-
-same_blank : {X : Type 0} (n b : ℕ) (x : X) → slice_index_or (replicate n x) b x ≡ x
-same_blank zero b x = refl
-same_blank (suc n) zero x = refl
-same_blank (suc n) (suc b) x = same_blank n b x
 
 blank_length : {X : Type 0} (n : ℕ) (x : X) → length (replicate n x) ≡ n
 blank_length zero x = refl
 blank_length (suc n) x = let more = blank_length n x in omega (arith, more)
-
-no_number : (n k : ℕ) → slice_index (replicate n 0) k ≡ 0
-no_number n k = same_blank n k 0
-
-block_of : Place → ℕ
-block_of (block index) = index
-block_of other = 0
-
-is_first : (x : Place) → (x ≡ block 0) ⊎ (x ≢ block 0)
-unfolding block_of
-is_first (block index) = ⊎_elim (λ e. inl (ap block e)) (λ differ. inr (λ e. differ (ap block_of e))) (cases_eq index 0)
-is_first indirect = inr (λ e. cc)
-is_first double = inr (λ e. cc)
-is_first (inner k) = inr (λ e. cc)
-
-index_is : (index : ℕ) → block index ≡ block 0 → index ≡ 0
-unfolding block_of
-index_is index e = ap block_of e
 
 dots_differ : codes "." ≡ codes ".." → ⊥
 dots_differ e = let n : length (codes ".") ≡ length (codes "..") = ap length e in omega arith
@@ -161,25 +138,13 @@ module _ (g : Geometry) (sound : IsSound g) where
   own x = zone_in (new_blocks g) root x
 
   own_first : own (block 0) ≡ g.first
-  own_first = sym (own_slot (new_blocks g) root third_changes.whole (block 0) 0 (home-direct 0 (omega arith)))
+  own_first = first_own (new_blocks g) third_changes.whole root g.first refl
 
   first_some : g.first ≢ 0
   first_some e = let low = sound.tables_below in omega arith
 
-  top_none : (x : Place) (k : ℕ) → home x ≡ slot k → x ≢ block 0 → own x ≡ 0
-  top_none x zero at differ = absurd (differ (one_home x (block 0) (at ∙ sym (home-direct 0 (omega arith))) (λ e. (let no : slot 0 ≡ nowhere = sym at ∙ e in cc))))
-  top_none x (suc k) at differ = sym (own_slot (new_blocks g) root third_changes.whole x (suc k) at) ∙ no_number 8 k
-
-  none_else : (x : Place) → x ≢ block 0 → own x ≡ 0
-  none_else =
-      by_home (λ x. x ≢ block 0 → own x ≡ 0) top_none
-      (λ x at differ. own_none (new_blocks g) root third_changes.whole x at)
-      (λ x h k at up differ.
-      own_behind (new_blocks g) root third_changes.whole x h k at
-      (up (λ e. differ (sym (home_back x (λ n. (let no : entry h k ≡ nowhere = sym at ∙ n in cc))) ∙ ap place_at (at ∙ ap (λ h. entry h k) e)))))
-
   first_of : (x : Place) → own x ≢ 0 → x ≡ block 0
-  first_of x some = ⊎_elim (λ e. e) (λ differ. absurd (some (none_else x differ))) (is_first x)
+  first_of x some = first_place (new_blocks g) third_changes.whole root g.first refl x some
 
   own_some : own (block 0) ≢ 0
   own_some e = first_some (sym own_first ∙ e)
@@ -310,7 +275,7 @@ module _ (g : Geometry) (sound : IsSound g) where
   slot_zones = record {
     few = omega arith;
     no_hole = λ index low. (let zero_is : index ≡ 0 = omega arith in subst (λ k. own (block k) ≢ 0) (sym zero_is) own_some);
-    no_more = λ index some. (let same = index_is index (first_of (block index) some) in omega arith);
+    no_more = λ index some. (let same = first_index index (first_of (block index) some) in omega arith);
   }
 
   dots : HasDots two_slots 1 1

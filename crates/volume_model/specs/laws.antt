@@ -20,6 +20,7 @@ pub mod Counts
 pub mod Mapped
 pub mod Holes
 pub mod Indexed
+pub mod FirstZone
 pub mod NodeMoves
 pub mod ZoneMoves
 pub mod SlotMoves
