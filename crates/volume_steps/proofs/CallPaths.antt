@@ -1,8 +1,8 @@
 -- Where a call's row and its steps go by a path, and which names come.
-use Rattle.std.specs.Prelude.{◌≡◌, ◌≤◌, ◌<◌, ◌^◌, ◌-◌, ℕ, ◌==◌, nat_le, nat_lt, Bool, true, false, not, ◌&&◌, List, [], ◌∷◌, length, Some, Ok, Err, refl}
-use Rattle.std.specs.List.{list_any, list_all}
-use Rattle.std.proofs.Common.{sym, ap, inl, inr, ◌∙◌, arith}
-use Rattle.std.proofs.lemmas.Bool.{cases_eq, and_parts, ne_eqb, true≢false, false≢true}
+use Rattle.std.specs.Prelude.{◌≡◌, ◌<◌, ◌^◌, ◌-◌, ℕ, ◌==◌, nat_le, nat_lt, Bool, true, false, not, ◌&&◌, List, [], ◌∷◌, length, Some, Ok, Err, refl}
+use Rattle.std.specs.List.{list_all}
+use Rattle.std.proofs.Common.{sym, ap, ◌∙◌, arith}
+use Rattle.std.proofs.lemmas.Bool.{and_parts, false≢true}
 use Rattle.minix_layout.specs.Slots.{IsEntry}
 use Rattle.tree_model.specs.declared.call.Call.{Call}
 use Rattle.tree_model.specs.declared.call.Reply.{Reply}
@@ -14,6 +14,7 @@ use Rattle.tree_model.specs.Maps.{at_number}
 use Rattle.tree_model.specs.Paths.{is_name_byte, is_dot}
 use Rattle.tree_model.specs.Calls.{Tree, Done, Place, Found, names_in, parent_of, walk, and_then, refuse_if, row, outcome, if_room, HasInode, used_zones, used_zones}
 use Rattle.tree_model.proofs.Hanging.{IsGoodName}
+use Rattle.tree_model.proofs.NameTexts.{name_fits, no_byte, not_true}
 use Rattle.tree_model.proofs.Rows.{ok_ok, err_ok, then_ok, refuse_ok}
 use Rattle.volume_model.specs.declared.placed.Placed.{Placed}
 use Rattle.volume_model.specs.declared.placed.Part.{Part}
@@ -26,44 +27,22 @@ use Rattle.volume_steps.proofs.TreeSteps.{tree_back}
 
 -- ---- names
 
-no_byte : (x : ℕ) → is_name_byte x ≡ false → (name : List ℕ) → list_all is_name_byte name ≡ true → list_any (λ b. b == x) name ≡ false
-no_byte x bad [] all = refl
-no_byte x bad (b ∷ bs) all =
-    let both = and_parts (is_name_byte b) (list_all is_name_byte bs) all in
-    elim (cases_eq b x) [
-      | inl e ↦ absurd (true≢false (sym both.0 ∙ (ap is_name_byte e ∙ bad)))
-      | inr a ↦ rw (ne_eqb b x a) (no_byte x bad bs both.1)
-    ]
-
-not_true : (b : Bool) → not b ≡ true → b ≡ false
-not_true true e = absurd (true≢false (sym e))
-not_true false e = refl
+plain_parts : (name : List ℕ) → IsGoodName name → (list_all is_name_byte name ≡ true) × (not (is_dot name) ≡ true)
+plain_parts name good =
+    and_parts (list_all is_name_byte name) (not (is_dot name)) (and_parts (not (length name == 0)) (list_all is_name_byte name && not (is_dot name)) good.plain).1
 
 -- a name of a path is no dot
 pub good_no_dot : (name : List ℕ) → IsGoodName name → is_dot name ≡ false
-good_no_dot name good = not_true (is_dot name) (and_parts (list_all is_name_byte name) (not (is_dot name)) (and_parts (not (length name == 0)) (list_all is_name_byte name && not (is_dot name)) good.plain).1).1
-
-all_three : (a b c : Bool) → a ≡ true → b ≡ true → c ≡ true → (a && (b && c)) ≡ true
-all_three a b c e f h = rw (e, f, h) refl
-
-filled_lt : (n : ℕ) → (n == 0) ≡ false → nat_lt 0 n ≡ true
-filled_lt n f = grind arith
-
-at_most : (a b : ℕ) → a ≤ b → nat_le a b ≡ true
-at_most a b low = grind arith
+good_no_dot name good = not_true (is_dot name) (plain_parts name good).1
 
 -- and stands in a slot
 pub good_entry : (name : List ℕ) (number : ℕ) → IsGoodName name → 0 < number → number < 2 ^ 16 → IsEntry (record { inode = number; name = name })
-good_entry name number good some fits =
-    let parts_of = and_parts (not (length name == 0)) (list_all is_name_byte name && not (is_dot name)) good.plain in
-    let bytes = (and_parts (list_all is_name_byte name) (not (is_dot name)) parts_of.1).0 in
-    let filled = not_true (length name == 0) parts_of.0 in
-    record {
-      used = some;
-      fits = fits;
-      name = all_three (nat_lt 0 (length name)) (nat_le (length name) 14) (not (list_any (λ b. b == 0) name)) (filled_lt (length name) filled) (at_most (length name) 14 good.short) (ap not (no_byte 0 refl name bytes));
-      no_slash = no_byte 47 refl name bytes;
-    }
+good_entry name number good some fits = record {
+  used = some;
+  fits = fits;
+  name = name_fits name good.short good.plain;
+  no_slash = no_byte 47 refl name (plain_parts name good).0;
+}
 
 -- ---- rows
 

@@ -39,6 +39,7 @@ pub mod Release
 pub mod FileCases
 pub mod GoneFiles
 pub mod GoneDirectories
+pub mod NameGoes
 pub mod UnlinkCall
 pub mod RmdirCall
 pub mod AllCalls

@@ -25,6 +25,7 @@ use Rattle.volume_model.specs.declared.placed.Part.TheVariants as parts
 use Rattle.volume_model.specs.declared.placed.DirectoryPart.{DirectoryPart}
 use Rattle.volume_model.specs.Changes.{Changes}
 use Rattle.volume_model.specs.Edits.{put_inode, put_slot, put_body, edited, edited_all, touched_by_all, Edit}
+use Rattle.volume_model.specs.laws.FirstZone.{no_number, first_index, own_first, first_of, first_zone}
 use Rattle.volume_model.specs.laws.Edits.{length-edited, edited_elsewhere, untouched, inode_here, inode_kept, slot_here, slot_elsewhere, whole_edited}
 use Rattle.volume_model.specs.laws.Changes.{changes_then, changes_bit, changes_inode, changes_slot, table_below}
 use Rattle.volume_model.specs.laws.MapBlock.{changes_wider}
@@ -47,7 +48,6 @@ use Rattle.volume_steps.proofs.QuietSteps.{at_node_is}
 use Rattle.volume_steps.proofs.Taking.{AreTaken, frees, in_zones, one_taken}
 use Rattle.volume_steps.proofs.TakeZones.{zone_range, free_is_none}
 use Rattle.volume_steps.proofs.TreeSteps.{grown_pages, tree_put, tree_none, tree_in_order, used_put_new}
-use Rattle.volume_steps.proofs.NewFiles.{same_blank, first_index, own_first, first_of, first_zone}
 use Rattle.volume_steps.proofs.Listed.{put_told}
 use Rattle.volume_steps.proofs.Marked.{marks_then, marks_inode, marks_taken, number_comes, numbers_come, numbers_same}
 use Rattle.blk_base.specs.Members.{In}
@@ -164,7 +164,7 @@ module _ (tx : ℕ) (v : VolumeNow) (in_use : IsInUse v) (n : ℕ) (none : at_nu
     where
       zones_fit : (k : ℕ) → slice_index inode.zones k < 2 ^ 16
       zones_fit zero = let high = range.1 in let fit = in_use.sound.fits.zones in omega arith
-      zones_fit (suc k) = subst (λ z. z < 2 ^ 16) (sym (same_blank 8 k)) (omega arith)
+      zones_fit (suc k) = subst (λ z. z < 2 ^ 16) (sym (no_number 8 k)) (omega arith)
 
   abbrev b1 : List (List ℕ)
   b1 = edited g v.contents.blocks (inode_bit number true)

@@ -1,10 +1,8 @@
 -- A file comes, in the lowest inode that is free.
-use Rattle.std.specs.Prelude.{◌≡◌, ◌≢◌, ◌<◌, ◌+◌, ◌/◌, ◌^◌, ℕ, zero, suc, ◌⊎◌, true, List, [], ◌∷◌, length, replicate, slice_index, None, refl}
+use Rattle.std.specs.Prelude.{◌≡◌, ◌≢◌, ◌<◌, ◌+◌, ◌/◌, ◌^◌, ℕ, zero, true, List, [], ◌∷◌, length, None, refl}
 use Rattle.std.specs.List.Sorted.{IsStrictlySortedBy}
-use Rattle.std.proofs.Common.{sym, ap, subst, inl, inr, ⊎_elim, ◌∙◌, arith}
-use Rattle.std.proofs.lemmas.Bool.{cases_eq}
+use Rattle.std.proofs.Common.{sym, ap, subst, inl, inr, ◌∙◌, arith}
 use Rattle.minix_layout.specs.declared.division.Geometry.{Geometry}
-use Rattle.minix_layout.specs.declared.inode.Inode.{Inode}
 use Rattle.minix_layout.specs.Inodes.{FitInode}
 use Rattle.tree_model.specs.Maps.{at_number, put_number}
 use Rattle.tree_model.specs.Calls.{new_file, node_zones, used_zones, file_zones, mapped_groups}
@@ -16,10 +14,9 @@ use Rattle.volume_model.specs.Changes.{Changes}
 use Rattle.volume_model.specs.Edits.{put_inode, edited}
 use Rattle.volume_model.specs.laws.Edits.{untouched, inode_here, edited_elsewhere}
 use Rattle.volume_model.specs.laws.Changes.{changes_then, changes_bit, changes_inode, table_below}
+use Rattle.volume_model.specs.laws.FirstZone.{no_number, first_zone}
 use Rattle.volume_model.specs.laws.MapBlock.{changes_wider}
-use Rattle.volume_model.specs.Volume.{Place, block, indirect, double, inner, zone_in, IsWhole}
-use Rattle.volume_model.specs.Ways.{home, slot, entry, nowhere, place_at}
-use Rattle.volume_model.specs.laws.Ways.{by_home, home_back, one_home, home-direct, own_slot, own_none, own_behind}
+use Rattle.volume_model.specs.Volume.{Place, block, zone_in}
 use Rattle.volume_model.specs.Moves.{IsVolume}
 use Rattle.volume_steps.specs.Now.{VolumeNow, tree_of_now}
 use Rattle.volume_steps.specs.Zones.{inode_bit, new_number}
@@ -34,50 +31,6 @@ use Rattle.volume_steps.proofs.TreeSteps.{grown_pages, tree_put, tree_none, tree
 use Rattle.volume_steps.proofs.Listed.{put_told}
 use Rattle.volume_steps.proofs.Marked.{marks_inode, number_comes, numbers_come}
 
--- ---- an inode with a first zone at most
-
-pub same_blank : (n b : ℕ) → slice_index (replicate n 0) b ≡ 0
-same_blank zero b = refl
-same_blank (suc n) zero = refl
-same_blank (suc n) (suc b) = same_blank n b
-
-block_of : Place → ℕ
-block_of (block index) = index
-block_of other = 0
-
-is_first : (x : Place) → (x ≡ block 0) ⊎ (x ≢ block 0)
-unfolding block_of
-is_first (block index) = ⊎_elim (λ e. inl (ap block e)) (λ differ. inr (λ e. differ (ap block_of e))) (cases_eq index 0)
-is_first indirect = inr (λ e. cc)
-is_first double = inr (λ e. cc)
-is_first (inner k) = inr (λ e. cc)
-
-pub first_index : (index : ℕ) → block index ≡ block 0 → index ≡ 0
-unfolding block_of
-first_index index e = ap block_of e
-
-module _ (blocks : List (List ℕ)) (whole : IsWhole blocks) (i : Inode) (z : ℕ) (zones : i.zones ≡ z ∷ replicate 8 0) where
-  pub own_first : zone_in blocks i (block 0) ≡ z
-  own_first = sym (own_slot blocks i whole (block 0) 0 (home-direct 0 (omega arith))) ∙ ap (λ zs. slice_index zs 0) zones
-
-  top_none : (x : Place) (k : ℕ) → home x ≡ slot k → x ≢ block 0 → zone_in blocks i x ≡ 0
-  top_none x zero at differ = absurd (differ (one_home x (block 0) (at ∙ sym (home-direct 0 (omega arith))) (λ e. (let no : slot 0 ≡ nowhere = sym at ∙ e in cc))))
-  top_none x (suc k) at differ = sym (own_slot blocks i whole x (suc k) at) ∙ (ap (λ zs. slice_index zs (suc k)) zones ∙ same_blank 8 k)
-
-  pub none_else : (x : Place) → x ≢ block 0 → zone_in blocks i x ≡ 0
-  none_else =
-      by_home (λ x. x ≢ block 0 → zone_in blocks i x ≡ 0) top_none
-      (λ x at differ. own_none blocks i whole x at)
-      (λ x h k at up differ.
-      own_behind blocks i whole x h k at
-      (up (λ e. differ (sym (home_back x (λ n. (let no : entry h k ≡ nowhere = sym at ∙ n in cc))) ∙ ap place_at (at ∙ ap (λ h. entry h k) e)))))
-
-  pub first_of : (x : Place) → zone_in blocks i x ≢ 0 → x ≡ block 0
-  first_of x some = ⊎_elim (λ e. e) (λ differ. absurd (some (none_else x differ))) (is_first x)
-
-  pub first_zone : (x : Place) → zone_in blocks i x ≢ 0 → zone_in blocks i x ≡ z
-  first_zone x some = ap (zone_in blocks i) (first_of x some) ∙ own_first
-
 -- ---- a file
 
 module _ (tx : ℕ) (v : VolumeNow) (in_use : IsInUse v) (n : ℕ) (none : at_number v.contents.nodes n ≡ None) (few : length v.contents.nodes < v.geometry.inodes) where
@@ -91,7 +44,7 @@ module _ (tx : ℕ) (v : VolumeNow) (in_use : IsInUse v) (n : ℕ) (none : at_nu
   new = number_is_new g v.contents.nodes few
 
   file_fits : FitInode new_file_inode
-  file_fits = record { mode = omega arith; uid = omega arith; size = omega arith; time = omega arith; gid = omega arith; links = omega arith; nine = refl; zones = λ k. subst (λ z. z < 2 ^ 16) (sym (same_blank 9 k)) (omega arith) }
+  file_fits = record { mode = omega arith; uid = omega arith; size = omega arith; time = omega arith; gid = omega arith; links = omega arith; nine = refl; zones = λ k. subst (λ z. z < 2 ^ 16) (sym (no_number 9 k)) (omega arith) }
 
   abbrev bits : List (List ℕ)
   bits = edited g v.contents.blocks (inode_bit number true)

@@ -1,6 +1,4 @@
 -- The call that removes a directory without names.
-use Rattle.std.specs.List.Sorted.{IsStrictlySortedBy}
-use Rattle.std.specs.Map.{keys_of}
 use Rattle.std.specs.Prelude.{◌≡◌, ◌≢◌, ◌≤◌, ◌-◌, ◌+◌, ℕ, ◌==◌, not, Bool, true, false, List, [], ◌∷◌, ◌++◌, length, is_some, Option, Some, option_map, Ok, refl}
 use Rattle.std.proofs.Common.{sym, ap, subst, ◌∙◌, inl, inr, arith}
 use Rattle.std.proofs.lemmas.Bool.{cases_eq, eqb-true, false≢true}
@@ -10,8 +8,8 @@ use Rattle.tree_model.specs.declared.call.Reply.TheVariants as replies
 use Rattle.tree_model.specs.declared.node.Node.{Node}
 use Rattle.tree_model.specs.declared.node.Node.TheVariants as nodes
 use Rattle.tree_model.specs.declared.node.Directory.{Directory}
-use Rattle.tree_model.specs.Maps.{at_number, at_name, put_number, without_number, name_cmp}
-use Rattle.tree_model.specs.laws.MapOrder.{InOrder, in_order_put, at_put_cases, at_without_cases, at_without_apart, at_name_without_found}
+use Rattle.tree_model.specs.Maps.{at_number, at_name, without_number}
+use Rattle.tree_model.specs.laws.MapOrder.{InOrder, at_put_cases, at_without_cases, at_without_apart, at_name_without_found}
 use Rattle.tree_model.specs.laws.MapsLaws.{at_put_number, at_put_number_apart}
 use Rattle.tree_model.specs.Plain.{IsPlain, AreBornBefore}
 use Rattle.tree_model.specs.Trees.{is_directory, directory_links}
@@ -33,10 +31,10 @@ use Rattle.volume_steps.proofs.CallPaths.{done_row, at_place_is, at_path_is, Dir
 use Rattle.volume_steps.proofs.DirectoryLinks.{AreLinked, linked_before, links_same, links_take_name, leads_in, weigh_directory}
 use Rattle.volume_steps.proofs.Drops.{dropped_change, dropped_frees, drops}
 use Rattle.volume_steps.proofs.GoneDirectories.{lists_of_directory, count_of_directory}
-use Rattle.volume_steps.proofs.NameSteps.{taken, taken_steady, taken_tree, taken_settled, taken_slotted, take_name_is, taken_numbers}
-use Rattle.volume_steps.proofs.PlainNow.{tree_is_plain, settled_before, slotted_before}
+use Rattle.volume_steps.proofs.NameGoes.{name_goes, name_goes_is, name_goes_step, name_goes_numbers, kinds_stay, order_stays}
+use Rattle.volume_steps.proofs.PlainNow.{tree_is_plain}
 use Rattle.volume_steps.proofs.QuietSteps.{at_node_is, linked, linked_steady, linked_directory, linked_settled, linked_slotted, set_links_is, linked_numbers}
-use Rattle.volume_steps.proofs.StepsTo.{StepsTo, joined, steps_then, links_at, links_put}
+use Rattle.volume_steps.proofs.StepsTo.{StepsTo, joined, steps_then, links_at}
 use Rattle.volume_steps.proofs.TreeSteps.{tree_at}
 use Rattle.volume_steps.proofs.Marked.{SameNumbers}
 
@@ -110,9 +108,6 @@ module _ (tx : ℕ) (v : VolumeNow) (h : IsPlainNow v) (n : ℕ) (before : AreBo
   is_found : IsFound (tree_of_now v) said.names said.found
   is_found = walk_ok (tree_of_now v) said.names said.found said.walked
 
-  x : DirectoryAt v place.parent place.directory
-  x = directory_at v place.parent place.directory is_place.stands
-
   plain : IsPlain (tree_of_now v)
   plain = tree_is_plain v h
 
@@ -137,16 +132,10 @@ module _ (tx : ℕ) (v : VolumeNow) (h : IsPlainNow v) (n : ℕ) (before : AreBo
       let same : said.directory ≡ place.directory = directory_same said.directory place.directory (sym stands ∙ (ap (at_number (tree_of_now v)) e ∙ is_place.stands)) in
       none-some birth (sym (ap (λ names. at_name names place.name) empty) ∙ (ap (λ (d : Directory). at_name d.names place.name) same ∙ gives))
 
-  named : at_name x.part.names place.name ≡ Some birth
-  named = ap (λ (d : Directory). at_name d.names place.name) x.same ∙ gives
-
-  sorted : IsStrictlySortedBy name_cmp (keys_of x.part.names)
-  sorted = subst (λ (d : Directory). IsStrictlySortedBy name_cmp (keys_of d.names)) (sym x.same) (plain.rooted.names_in_order place.parent place.directory is_place.stands)
-
   -- ---- the name goes
 
   abbrev less : Change
-  less = taken tx v h.in_use place.parent x.placed x.stands x.part x.is place.name birth named sorted
+  less = name_goes tx v h place birth is_place.stands gives
 
   abbrev v1 : VolumeNow
   v1 = less.volume
@@ -155,15 +144,7 @@ module _ (tx : ℕ) (v : VolumeNow) (h : IsPlainNow v) (n : ℕ) (before : AreBo
   tree1 = take_name (tree_of_now v) place
 
   first : StepsTo tx v less tree1 (links_at v.contents.nodes)
-  first = record {
-    steady = taken_steady tx v h.in_use place.parent x.placed x.stands x.part x.is place.name birth named sorted;
-    tree_is = taken_tree tx v h.in_use place.parent x.placed x.stands x.part x.is place.name birth named sorted
-        ∙ ap (λ directory. put_number (tree_of_now v) place.parent (nodes.Directory (without_name directory place.name))) x.same;
-    settled = taken_settled tx v h.in_use place.parent x.placed x.stands x.part x.is place.name birth named sorted (settled_before v h);
-    slotted = taken_slotted tx v h.in_use place.parent x.placed x.stands x.part x.is place.name birth named sorted (slotted_before v h);
-    links_are = λ a. links_put v.contents.nodes place.parent _ a (links_at v.contents.nodes) (λ e. ap (links_at v.contents.nodes) e ∙ ap (option_map (λ (p : Placed). p.inode.links)) x.stands) (λ far. refl);
-    waiting = omega arith;
-  }
+  first = name_goes_step tx v h place birth is_place.stands gives
 
   -- ---- the parent has one link less
 
@@ -252,7 +233,7 @@ module _ (tx : ℕ) (v : VolumeNow) (h : IsPlainNow v) (n : ℕ) (before : AreBo
   tree_all = ap (λ tree. without_number tree birth) tree2 ∙ sym said.tree_is
 
   same_first : SameNumbers v.contents.nodes v1.contents.nodes
-  same_first = taken_numbers tx v h.in_use place.parent x.placed x.stands x.part x.is place.name birth named sorted
+  same_first = name_goes_numbers tx v h place birth is_place.stands gives
 
   same_second : SameNumbers v1.contents.nodes v2.contents.nodes
   same_second = linked_numbers tx v1 first.steady.in_use place.parent x1.placed x1.stands (x1.placed.inode.links - 1) few
@@ -264,7 +245,7 @@ module _ (tx : ℕ) (v : VolumeNow) (h : IsPlainNow v) (n : ℕ) (before : AreBo
   -- ---- links of directories
 
   order1 : InOrder tree1
-  order1 = in_order_put (tree_of_now v) place.parent (nodes.Directory (without_name place.directory place.name)) plain.rooted.in_order
+  order1 = order_stays tx v h place birth is_place.stands gives
 
   abbrev tree3 : Tree
   tree3 = without_number tree1 birth
@@ -272,13 +253,9 @@ module _ (tx : ℕ) (v : VolumeNow) (h : IsPlainNow v) (n : ℕ) (before : AreBo
   plain_after : IsPlain d.tree
   plain_after = done_plain v n (calls.Rmdir path) d h before done
 
-  kind1 : (b : ℕ) → is_directory (at_number tree1 b) ≡ is_directory (at_number (tree_of_now v) b)
-  kind1 b = at_put_cases (λ o. is_directory o ≡ is_directory (at_number (tree_of_now v) b)) (tree_of_now v) place.parent (nodes.Directory (without_name place.directory place.name)) b
-      (λ e. sym (ap (λ b. is_directory (at_number (tree_of_now v) b)) e ∙ ap is_directory is_place.stands)) (λ far. refl)
-
   kind3 : (b : ℕ) → is_some (at_number tree3 b) ≡ true → is_directory (at_number tree3 b) ≡ is_directory (at_number (tree_of_now v) b)
   kind3 b = at_without_cases (λ o. is_some o ≡ true → is_directory o ≡ is_directory (at_number (tree_of_now v) b)) tree1 birth b order1
-      (λ e none. absurd (false≢true none)) (λ far some. kind1 b)
+      (λ e none. absurd (false≢true none)) (λ far some. kinds_stay tx v h place birth is_place.stands gives b)
 
   links_left : (a : ℕ) (e : Directory) → at_number tree3 a ≡ Some (nodes.Directory e) → directory_links tree3 e ≡ directory_links (tree_of_now v) e
   links_left a e at = links_same (tree_of_now v) tree3 e (λ f i. kind3 f.1 (leads_in tree3 (subst IsPlain said.tree_is plain_after).rooted a e at f i))
@@ -314,7 +291,7 @@ module _ (tx : ℕ) (v : VolumeNow) (h : IsPlainNow v) (n : ℕ) (before : AreBo
   rmdir_done = subst (λ c. IsDone tx v c d.tree)
       (sym (at_place_is v path said.names place replies.Invalid (λ place. at_path v path (λ birth. followed_by (take_name_step v place.parent place.name) (λ u. followed_by (set_links u place.parent (λ links. links - 1)) (λ w. drop_node w tx birth)))) said.named said.parent
       ∙ (at_path_is v path said.names said.found (λ birth. followed_by (take_name_step v place.parent place.name) (λ u. followed_by (set_links u place.parent (λ links. links - 1)) (λ w. drop_node w tx birth))) said.named said.walked
-      ∙ (ap (λ c. followed_by c (λ u. followed_by (set_links u place.parent (λ links. links - 1)) (λ w. drop_node w tx birth))) (take_name_is tx v h.in_use place.parent x.placed x.stands x.part x.is place.name birth named sorted)
+      ∙ (ap (λ c. followed_by c (λ u. followed_by (set_links u place.parent (λ links. links - 1)) (λ w. drop_node w tx birth))) (name_goes_is tx v h place birth is_place.stands gives)
       ∙ (ap (λ c. joined less (followed_by c (λ w. drop_node w tx birth))) (set_links_is tx v1 first.steady.in_use place.parent x1.placed x1.stands (x1.placed.inode.links - 1) few (λ links. links - 1) refl)
       ∙ ap (λ c. joined less (joined unlinked c)) (at_node_is v2 birth y.placed (node_dropped v2 tx birth) at2))))))
       (call_ends tx v (joined less (joined unlinked gone)) d.tree (links_at gone.volume.contents.nodes) whole plain_after (subst (λ tree. AreLinked tree (links_at gone.volume.contents.nodes)) (sym said.tree_is) links_all)

@@ -1,6 +1,4 @@
 -- The call that takes a name from a file, which goes with its last one.
-use Rattle.std.specs.List.Sorted.{IsStrictlySortedBy}
-use Rattle.std.specs.Map.{keys_of}
 use Rattle.std.specs.Prelude.{◌≡◌, ◌≢◌, ◌≤◌, ◌-◌, ◌+◌, ℕ, nat_le, cond, Bool, true, false, if◌then◌else◌, List, ◌++◌, Option, Some, option_map, Ok, refl}
 use Rattle.std.proofs.Common.{sym, ap, subst, ◌∙◌, inl, inr, arith}
 use Rattle.std.proofs.lemmas.Bool.{cases_Bool, leb-true}
@@ -11,8 +9,8 @@ use Rattle.tree_model.specs.declared.node.Node.{Node}
 use Rattle.tree_model.specs.declared.node.Node.TheVariants as nodes
 use Rattle.tree_model.specs.declared.node.File.{File}
 use Rattle.tree_model.specs.declared.node.Directory.{Directory}
-use Rattle.tree_model.specs.Maps.{at_number, at_name, put_number, without_number, name_cmp}
-use Rattle.tree_model.specs.laws.MapOrder.{InOrder, in_order_put, at_put_cases, at_without_cases, at_without_apart}
+use Rattle.tree_model.specs.Maps.{at_number, at_name, without_number}
+use Rattle.tree_model.specs.laws.MapOrder.{InOrder, at_put_cases, at_without_cases, at_without_apart}
 use Rattle.tree_model.specs.laws.MapsLaws.{at_put_number_apart}
 use Rattle.tree_model.specs.Plain.{IsPlain, AreBornBefore}
 use Rattle.tree_model.specs.Trees.{is_directory, directory_links}
@@ -32,12 +30,12 @@ use Rattle.volume_steps.specs.Calls.{unlink, lose_link as lose_link_step, at_pat
 use Rattle.volume_steps.specs.Plain.{IsPlainNow}
 use Rattle.volume_steps.proofs.Drops.{dropped_change, dropped_frees, drops}
 use Rattle.volume_steps.proofs.GoneFiles.{lists_of_file, count_of_file}
-use Rattle.volume_steps.proofs.NameSteps.{taken, taken_steady, taken_tree, taken_settled, taken_slotted, take_name_is, taken_numbers}
+use Rattle.volume_steps.proofs.NameGoes.{name_goes, name_goes_is, name_goes_step, name_goes_numbers, kinds_stay, order_stays}
 use Rattle.volume_steps.proofs.QuietSteps.{at_node_is, linked, linked_steady, linked_file, linked_settled, linked_slotted, set_links_is}
-use Rattle.volume_steps.proofs.StepsTo.{StepsTo, joined, steps_then, links_at, links_put}
-use Rattle.volume_steps.proofs.CallPaths.{done_row, at_place_is, at_path_is, DirectoryAt, directory_at}
+use Rattle.volume_steps.proofs.StepsTo.{StepsTo, joined, steps_then, links_at}
+use Rattle.volume_steps.proofs.CallPaths.{done_row, at_place_is, at_path_is}
 use Rattle.volume_steps.proofs.DirectoryLinks.{AreLinked, linked_before, links_same, links_take_name, weigh}
-use Rattle.volume_steps.proofs.PlainNow.{tree_is_plain, settled_before, slotted_before}
+use Rattle.volume_steps.proofs.PlainNow.{tree_is_plain}
 use Rattle.volume_steps.proofs.CallEnds.{IsDone, done_plain, call_ends}
 use Rattle.volume_steps.proofs.LinkCall.{FileAt, file_found}
 use Rattle.volume_steps.proofs.TreeSteps.{tree_at}
@@ -103,9 +101,6 @@ module _ (tx : ℕ) (v : VolumeNow) (h : IsPlainNow v) (n : ℕ) (before : AreBo
   is_found : IsFound (tree_of_now v) said.names said.found
   is_found = walk_ok (tree_of_now v) said.names said.found said.walked
 
-  x : DirectoryAt v place.parent place.directory
-  x = directory_at v place.parent place.directory is_place.stands
-
   plain : IsPlain (tree_of_now v)
   plain = tree_is_plain v h
 
@@ -118,14 +113,11 @@ module _ (tx : ℕ) (v : VolumeNow) (h : IsPlainNow v) (n : ℕ) (before : AreBo
   apart : birth ≢ place.parent
   apart e = cc (sym is_place.stands ∙ (ap (at_number (tree_of_now v)) (sym e) ∙ file_stands))
 
-  named : at_name x.part.names place.name ≡ Some birth
-  named = ap (λ (d : Directory). at_name d.names place.name) x.same ∙ place_names (tree_of_now v) said.names place said.found is_place is_found
-
-  sorted : IsStrictlySortedBy name_cmp (keys_of x.part.names)
-  sorted = subst (λ (d : Directory). IsStrictlySortedBy name_cmp (keys_of d.names)) (sym x.same) (plain.rooted.names_in_order place.parent place.directory is_place.stands)
+  gives : at_name place.directory.names place.name ≡ Some birth
+  gives = place_names (tree_of_now v) said.names place said.found is_place is_found
 
   abbrev less : Change
-  less = taken tx v h.in_use place.parent x.placed x.stands x.part x.is place.name birth named sorted
+  less = name_goes tx v h place birth is_place.stands gives
 
   abbrev v1 : VolumeNow
   v1 = less.volume
@@ -134,15 +126,7 @@ module _ (tx : ℕ) (v : VolumeNow) (h : IsPlainNow v) (n : ℕ) (before : AreBo
   tree1 = take_name (tree_of_now v) place
 
   first : StepsTo tx v less tree1 (links_at v.contents.nodes)
-  first = record {
-    steady = taken_steady tx v h.in_use place.parent x.placed x.stands x.part x.is place.name birth named sorted;
-    tree_is = taken_tree tx v h.in_use place.parent x.placed x.stands x.part x.is place.name birth named sorted
-        ∙ ap (λ directory. put_number (tree_of_now v) place.parent (nodes.Directory (without_name directory place.name))) x.same;
-    settled = taken_settled tx v h.in_use place.parent x.placed x.stands x.part x.is place.name birth named sorted (settled_before v h);
-    slotted = taken_slotted tx v h.in_use place.parent x.placed x.stands x.part x.is place.name birth named sorted (slotted_before v h);
-    links_are = λ a. links_put v.contents.nodes place.parent _ a (links_at v.contents.nodes) (λ e. ap (links_at v.contents.nodes) e ∙ ap (option_map (λ (p : Placed). p.inode.links)) x.stands) (λ far. refl);
-    waiting = omega arith;
-  }
+  first = name_goes_step tx v h place birth is_place.stands gives
 
   at1 : at_number v1.contents.nodes birth ≡ Some y.placed
   at1 = at_put_number_apart v.contents.nodes place.parent _ birth apart ∙ y.stands
@@ -151,7 +135,7 @@ module _ (tx : ℕ) (v : VolumeNow) (h : IsPlainNow v) (n : ℕ) (before : AreBo
   stands1 = ap (λ tree. at_number tree birth) first.tree_is ∙ (at_put_number_apart (tree_of_now v) place.parent (nodes.Directory (without_name place.directory place.name)) birth apart ∙ file_stands)
 
   same_first : SameNumbers v.contents.nodes v1.contents.nodes
-  same_first = taken_numbers tx v h.in_use place.parent x.placed x.stands x.part x.is place.name birth named sorted
+  same_first = name_goes_numbers tx v h place birth is_place.stands gives
 
   -- ---- it keeps another name
 
@@ -177,12 +161,12 @@ module _ (tx : ℕ) (v : VolumeNow) (h : IsPlainNow v) (n : ℕ) (before : AreBo
   module _ (last : said.file.links ≤ 1) where
     -- no name is left
     unnamed : (a : ℕ) (q : Placed) (e : DirectoryPart) (name : List ℕ) → at_number v1.contents.nodes a ≡ Some q → q.part ≡ parts.Directory e → at_name e.names name ≢ Some birth
-    unnamed a q e name at part gives =
+    unnamed a q e name at part other =
         let edge : edge_of tree1 a name ≡ Some birth = ap (λ tree. edge_of tree a name) (sym first.tree_is)
-        ∙ (ap (λ o. at_name (names_of o) name) (tree_at v1.contents.blocks v1.contents.nodes a q at ∙ ap (λ part. Some (node_from v1.contents.blocks q.inode part)) part) ∙ gives) in
+        ∙ (ap (λ o. at_name (names_of o) name) (tree_at v1.contents.blocks v1.contents.nodes a q at ∙ ap (λ part. Some (node_from v1.contents.blocks q.inode part)) part) ∙ other) in
         let some = edge_counts tree1 a name birth edge in
         let counts = take_counts (tree_of_now v) place is_place.stands birth plain.rooted.in_order in
-        let one : one_for birth (at_name place.directory.names place.name) ≡ 1 = ap (one_for birth) (place_names (tree_of_now v) said.names place said.found is_place is_found) ∙ one_for_here birth in
+        let one : one_for birth (at_name place.directory.names place.name) ≡ 1 = ap (one_for birth) gives ∙ one_for_here birth in
         let links = plain.links birth said.file file_stands in
         omega arith
 
@@ -210,8 +194,7 @@ module _ (tx : ℕ) (v : VolumeNow) (h : IsPlainNow v) (n : ℕ) (before : AreBo
   -- ---- links of directories
 
   kind1 : (b : ℕ) → is_directory (at_number tree1 b) ≡ is_directory (at_number (tree_of_now v) b)
-  kind1 b = at_put_cases (λ o. is_directory o ≡ is_directory (at_number (tree_of_now v) b)) (tree_of_now v) place.parent (nodes.Directory (without_name place.directory place.name)) b
-      (λ e. sym (ap (λ b. is_directory (at_number (tree_of_now v) b)) e ∙ ap is_directory is_place.stands)) (λ far. refl)
+  kind1 = kinds_stay tx v h place birth is_place.stands gives
 
   links_all : (tree : Tree) (after : ℕ → Option ℕ) → ((b : ℕ) → is_directory (at_number tree b) ≡ is_directory (at_number tree1 b)) →
       ((a : ℕ) (e : Directory) → at_number tree a ≡ Some (nodes.Directory e) → (at_number tree1 a ≡ Some (nodes.Directory e)) × (after a ≡ links_at v.contents.nodes a)) → AreLinked tree after
@@ -220,7 +203,7 @@ module _ (tx : ℕ) (v : VolumeNow) (h : IsPlainNow v) (n : ℕ) (before : AreBo
       let same = λ (f : Directory). links_same (tree_of_now v) tree f (λ e i. kinds e.1 ∙ kind1 e.1) in
       told.1 ∙ at_put_cases (λ o. o ≡ Some (nodes.Directory e) → links_at v.contents.nodes a ≡ Some (directory_links tree e)) (tree_of_now v) place.parent (nodes.Directory (without_name place.directory place.name)) a
       (λ q is.
-      let less_one = links_take_name tree place.directory.parent place.directory.slots place.directory.names place.name birth (place_names (tree_of_now v) said.names place said.found is_place is_found) in
+      let less_one = links_take_name tree place.directory.parent place.directory.slots place.directory.names place.name birth gives in
       let none : weigh tree birth ≡ 0 = ap (λ t. cond t 1 0) (kinds birth ∙ (kind1 birth ∙ ap is_directory file_stands)) in
       ap (links_at v.contents.nodes) q ∙ (linked_before v h.plain.directory_links_are place.parent place.directory is_place.stands
       ∙ ap Some (sum_to _ _ _ _ (same place.directory) less_one none ∙ ap (directory_links tree) (directory_same _ e is))))
@@ -238,7 +221,7 @@ module _ (tx : ℕ) (v : VolumeNow) (h : IsPlainNow v) (n : ℕ) (before : AreBo
   file1 = at_put_number_apart (tree_of_now v) place.parent (nodes.Directory (without_name place.directory place.name)) birth apart ∙ file_stands
 
   order1 : InOrder tree1
-  order1 = in_order_put (tree_of_now v) place.parent (nodes.Directory (without_name place.directory place.name)) plain.rooted.in_order
+  order1 = order_stays tx v h place birth is_place.stands gives
 
   plain_after : IsPlain d.tree
   plain_after = done_plain v n (calls.Unlink path) d h before done
@@ -247,7 +230,7 @@ module _ (tx : ℕ) (v : VolumeNow) (h : IsPlainNow v) (n : ℕ) (before : AreBo
   unlink_is =
       at_place_is v path said.names place replies.Invalid (λ place. at_path v path (λ birth. followed_by (take_name_step v place.parent place.name) (λ w. lose_link_step w tx birth))) said.named said.parent
       ∙ (at_path_is v path said.names said.found (λ birth. followed_by (take_name_step v place.parent place.name) (λ w. lose_link_step w tx birth)) said.named said.walked
-      ∙ (ap (λ c. followed_by c (λ w. lose_link_step w tx birth)) (take_name_is tx v h.in_use place.parent x.placed x.stands x.part x.is place.name birth named sorted)
+      ∙ (ap (λ c. followed_by c (λ w. lose_link_step w tx birth)) (name_goes_is tx v h place birth is_place.stands gives)
       ∙ ap (λ c. joined less c) (at_node_is v1 birth y.placed (λ p. if nat_le p.inode.links 1 then drop_node v1 tx birth else set_links v1 birth (λ links. links - 1)) at1)))
 
   when_kept : nat_le said.file.links 1 ≡ false → IsDone tx v (unlink v tx path) d.tree

@@ -1,12 +1,11 @@
 -- Bytes are written to a file, block by block.
-use Rattle.std.specs.Prelude.{◌≡◌, ◌≢◌, ℕ, ◌+◌, ◌-◌, ◌*◌, ◌<◌, ◌≤◌, nat_eq, nat_lt, Bool, true, false, cond, if◌then◌else◌, List, [], ◌∷◌, ◌++◌, length, Some, None, refl, ◌⊎◌}
-use Rattle.std.specs.List.{list_any, count_by, range_with_len}
+use Rattle.std.specs.Prelude.{◌≡◌, ◌≢◌, ℕ, ◌+◌, ◌-◌, ◌*◌, ◌<◌, ◌≤◌, nat_eq, nat_lt, Bool, true, false, if◌then◌else◌, List, [], ◌∷◌, ◌++◌, length, Some, None, refl, ◌⊎◌}
+use Rattle.std.specs.List.{list_any}
 use Rattle.std.specs.Map.{keys_of}
 use Rattle.std.specs.Ordering.{nat_cmp, is_eq, match_ordering}
 use Rattle.std.specs.declared.cmp.Ordering.{Ordering}
 use Rattle.std.proofs.Common.{Less, Equal, Greater, sym, ap, subst, ◌∙◌, inl, inr, ⊎_elim, arith}
 use Rattle.std.proofs.lemmas.Bool.{cases_Bool, cases_eq, eqb-true, eqb-false, ne_eqb, false_from_ne_true, or_left, or_right, or_cases}
-use Rattle.std.proofs.lemmas.List.Sums.{sum_by-cons}
 use Rattle.blk_base.specs.Members.{In, map-In}
 use Rattle.byte_fields.specs.Fields.{zeros}
 use Rattle.byte_fields.specs.laws.ReadLaws.{length-zeros}
@@ -15,8 +14,9 @@ use Rattle.tree_model.specs.declared.node.File.{File}
 use Rattle.tree_model.specs.declared.node.Node.TheVariants as nodes
 use Rattle.tree_model.specs.Maps.{at_number, put_number}
 use Rattle.tree_model.proofs.Bytes.{patched_length}
+pub use Rattle.tree_model.specs.laws.FewerZones.{zones_less}
 use Rattle.tree_model.specs.laws.MapsLaws.{number_same}
-use Rattle.tree_model.specs.Calls.{patched, written_blocks, block_or_zeros, used_zones, node_zones, file_zones, mapped_groups, is_indirect, is_double_indirect, is_in_group, one_if}
+use Rattle.tree_model.specs.Calls.{patched, written_blocks, block_or_zeros, used_zones, node_zones, file_zones}
 use Rattle.volume_ops.specs.declared.found.Mapped.{Mapped}
 use Rattle.volume_ops.specs.Volume.{disk_of, bodies_of}
 use Rattle.volume_model.specs.declared.placed.Placed.{Placed}
@@ -114,31 +114,6 @@ written_length off bytes (i ∷ is) blocks =
 pub written_any : (off : ℕ) (bytes : List ℕ) (indices : List ℕ) (blocks : List (ℕ × List ℕ)) (p : ℕ → Bool) → list_any p (keys_of blocks) ≡ true → list_any p (keys_of (written_blocks off bytes indices blocks)) ≡ true
 written_any off bytes [] blocks p t = t
 written_any off bytes (i ∷ is) blocks p t = written_any off bytes is (put_number blocks i (patched i off bytes (block_or_zeros (at_number blocks i)))) p (any_more blocks i (patched i off bytes (block_or_zeros (at_number blocks i))) p t)
-
-one_if_less : (a b : Bool) → (a ≡ true → b ≡ true) → one_if a ≤ one_if b
-one_if_less false b h = omega arith
-one_if_less true b h = let e : one_if b ≡ 1 = ap one_if (h refl) in omega arith
-
-count_less : (p q : ℕ → Bool) (xs : List ℕ) → ((x : ℕ) → p x ≡ true → q x ≡ true) → count_by p xs ≤ count_by q xs
-count_less p q [] h = omega arith
-count_less p q (x ∷ xs) h =
-    let a = sum_by-cons (λ x. cond (p x) 1 0) x xs in
-    let b = sum_by-cons (λ x. cond (q x) 1 0) x xs in
-    let c = count_less p q xs h in
-    let d = one_if_less (p x) (q x) (h x) in
-    omega arith
-
-groups_less : (xs ys : List ℕ) → ((p : ℕ → Bool) → list_any p xs ≡ true → list_any p ys ≡ true) → mapped_groups xs ≤ mapped_groups ys
-unfolding mapped_groups
-groups_less xs ys any = count_less (λ group. list_any (is_in_group group) xs) (λ group. list_any (is_in_group group) ys) (range_with_len 0 512) (λ group. any (is_in_group group))
-
-pub zones_less : (xs ys : List ℕ) → length xs ≤ length ys → ((p : ℕ → Bool) → list_any p xs ≡ true → list_any p ys ≡ true) → file_zones xs ≤ file_zones ys
-unfolding file_zones
-zones_less xs ys short any =
-    let a = one_if_less (list_any is_indirect xs) (list_any is_indirect ys) (any is_indirect) in
-    let b = one_if_less (list_any is_double_indirect xs) (list_any is_double_indirect ys) (any is_double_indirect) in
-    let c = groups_less xs ys any in
-    omega arith
 
 -- ---- one block
 
