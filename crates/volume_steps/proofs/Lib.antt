@@ -8,6 +8,7 @@ pub mod Grows
 pub mod TreeSteps
 pub mod NodeSteps
 pub mod Files
+pub mod SameZones
 pub mod QuietSteps
 pub mod NameSteps
 pub mod Comes

@@ -1,10 +1,10 @@
 -- Steps that take and free no zone: links are set, and names come and go.
-use Rattle.std.specs.Prelude.{◌≡◌, ◌≤◌, ◌<◌, ℕ, List, [], ◌∷◌, length, Option, Some, None, refl}
+use Rattle.std.specs.Prelude.{◌≡◌, ◌≤◌, ℕ, List, [], ◌∷◌, length, Option, Some, None, refl}
 use Rattle.std.specs.List.Sorted.{IsStrictlySortedBy}
 use Rattle.std.specs.Map.{keys_of, set_value}
 use Rattle.std.specs.BTreeMap.{is_at}
 use Rattle.std.specs.Ordering.{nat_cmp}
-use Rattle.std.proofs.Common.{sym, ap, subst, inl, inr, ◌∙◌, arith}
+use Rattle.std.proofs.Common.{sym, ap, inl, inr, ◌∙◌, arith}
 use Rattle.std.proofs.lemmas.Bool.{cases_Bool}
 use Rattle.std.proofs.lemmas.Option.{same_Some}
 use Rattle.minix_layout.specs.declared.division.Geometry.{Geometry}
@@ -20,14 +20,12 @@ use Rattle.volume_model.specs.declared.placed.Part.{Part}
 use Rattle.volume_model.specs.declared.placed.Part.TheVariants as parts
 use Rattle.volume_model.specs.declared.placed.DirectoryPart.{DirectoryPart}
 use Rattle.volume_model.specs.Volume.{Place, block, indirect, double, inner, zone_in, IsPart}
-use Rattle.volume_model.specs.MapBlock.{OpenInode, own_of}
+use Rattle.volume_model.specs.MapBlock.{OpenInode}
 use Rattle.volume_model.specs.Moves.{IsVolume, closed}
 use Rattle.volume_model.specs.Touched.{Contents}
 use Rattle.volume_model.specs.Trees.{node_from, node_now}
-use Rattle.volume_model.specs.laws.Changes.{changes_none}
-use Rattle.volume_model.specs.laws.OnWay.{just_same}
 use Rattle.volume_model.specs.laws.Trees.{set_is_put}
-use Rattle.volume_model.specs.laws.ZoneMoves.{MayMove, moved_stands, moved_just, theirs_apart, fit_before}
+use Rattle.volume_model.specs.laws.ZoneMoves.{MayMove}
 use Rattle.volume_steps.specs.Now.{VolumeNow, Change, tree_of_now, with_contents, unchanged}
 use Rattle.volume_steps.specs.Steps.{at_node, at_directory, with_links, inode_put, set_links}
 use Rattle.volume_steps.specs.Plain.{IsInUse}
@@ -35,6 +33,8 @@ use Rattle.volume_steps.specs.laws.Steady.{IsSteady, TellsNodes}
 use Rattle.volume_steps.proofs.Listed.{same_told}
 use Rattle.volume_steps.proofs.Grows.{GrowsTo, takes_none, grown_steady}
 use Rattle.volume_steps.proofs.NodeSteps.{MayGrow, IsSettled, AreSlotted, closed_grows, closed_maps, closed_numbers, closed_settled, closed_slotted, zones_settled}
+use Rattle.volume_steps.proofs.SameZones.{same_move, same_grow, same_stands}
+use Rattle.minix_layout.specs.Inodes.{FitInode}
 use Rattle.volume_steps.proofs.TreeSteps.{KeepsPages, grown_pages, tree_put, tree_at, tree_in_order, used_put_same, node_same}
 use Rattle.volume_steps.proofs.Marked.{marks_same, SameNumbers}
 
@@ -113,45 +113,17 @@ module _ (tx : ℕ) (v : VolumeNow) (in_use : IsInUse v) (n : ℕ) (p : Placed) 
   abbrev u : OpenInode
   u = record { blocks = v.contents.blocks; inode = with_links p.inode links }
 
-  may : MayMove g in_use.sound v.contents.blocks v.contents.nodes n p in_use.volume.0 at u p.part (λ _. ⊥)
-  may =
-      let told = in_use.volume.0.each n p at in
-      let f = told.fits in
-      let old = fit_before g in_use.sound v.contents.blocks v.contents.nodes n p in_use.volume.0 at in
-      let same = linked_zone v.contents.blocks p.inode links in
-      record {
-        fit = record {
-          whole = in_use.volume.0.whole;
-          size = in_use.volume.0.size;
-          fits = record { mode = f.mode; uid = f.uid; size = f.size; time = f.time; gid = f.gid; links = omega arith; nine = f.nine; zones = f.zones };
-          within = λ x some. subst (λ z. (g.first ≤ z) × (z < g.zones)) (sym (same x)) (old.within x (λ none. some (same x ∙ none)));
-          apart = λ x y e some. old.apart x y (sym (same x) ∙ (e ∙ same y)) (λ none. some (same x ∙ none));
-        };
-        changes = changes_none g v.contents.blocks in_use.volume.0.whole;
-        not_theirs = λ a r x found apart some z. z;
-        none_of_theirs = λ a r x y found apart e some. theirs_apart g in_use.sound v.contents.blocks v.contents.nodes n p in_use.volume.0 at a r x y found apart (sym (same x) ∙ e) (λ none. some (same x ∙ none));
-        part_is = linked_part v.contents.blocks p.inode links p.part told.part;
-        names = λ d is. in_use.volume.0.names n p d at is;
-      }
+  fit : FitInode (with_links p.inode links)
+  fit = (let f = (in_use.volume.0.each n p at).fits in record { mode = f.mode; uid = f.uid; size = f.size; time = f.time; gid = f.gid; links = omega arith; nine = f.nine; zones = f.zones })
 
-  grow : MayGrow g in_use.sound v.contents n p in_use.volume at u p.part (λ _. ⊥) may (table_block g p.number ∷ []) []
-  grow = record {
-    kind = refl;
-    stays_as = λ x some. linked_zone v.contents.blocks p.inode links x;
-    was = λ x some. inl (linked_zone v.contents.blocks p.inode links x);
-    bytes = λ b none. refl;
-    table = inl refl;
-    meta = λ b i. elim i [ inl e ↦ inl (sym e) | inr j ↦ absurd j ];
-    told = λ zone i. absurd i;
-    mapped = λ zone i. absurd i;
-  }
+  abbrev may : MayMove g in_use.sound v.contents.blocks v.contents.nodes n p in_use.volume.0 at u p.part (λ _. ⊥)
+  may = same_move v in_use n p at (with_links p.inode links) (linked_zone v.contents.blocks p.inode links) fit (linked_part v.contents.blocks p.inode links p.part (in_use.volume.0.each n p at).part)
+
+  abbrev grow : MayGrow g in_use.sound v.contents n p in_use.volume at u p.part (λ _. ⊥) may (table_block g p.number ∷ []) []
+  grow = same_grow v in_use n p at (with_links p.inode links) (linked_zone v.contents.blocks p.inode links) fit (linked_part v.contents.blocks p.inode links p.part (in_use.volume.0.each n p at).part)
 
   stands : IsVolume g (closed g v.contents n p u p.part)
-  stands = (
-    moved_stands g in_use.sound v.contents.blocks v.contents.nodes n p in_use.volume.0 at u p.part (λ _. ⊥) may,
-    moved_just g in_use.sound v.contents.blocks v.contents.nodes n p in_use.volume.0 at u p.part (λ _. ⊥) may in_use.volume.1
-        (just_same (λ x. zone_in v.contents.blocks p.inode x) (own_of u) (linked_zone v.contents.blocks p.inode links) (in_use.volume.1 n p at)),
-  )
+  stands = same_stands v in_use n p at (with_links p.inode links) (linked_zone v.contents.blocks p.inode links) fit (linked_part v.contents.blocks p.inode links p.part (in_use.volume.0.each n p at).part)
 
   -- the node has so many links
   abbrev pub linked : Change

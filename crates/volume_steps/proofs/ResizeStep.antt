@@ -1,5 +1,5 @@
 -- A file gets another size.
-use Rattle.std.specs.Prelude.{◌≡◌, ◌≤◌, ◌<◌, ◌==◌, ℕ, if◌then◌else◌, List, [], ◌∷◌, Some, refl}
+use Rattle.std.specs.Prelude.{◌≡◌, ◌≤◌, ◌==◌, ℕ, if◌then◌else◌, List, [], ◌∷◌, Some, refl}
 use Rattle.std.proofs.Common.{sym, ap, subst, inl, inr, ◌∙◌, arith}
 use Rattle.std.proofs.lemmas.Bool.{cases_Bool, eqb-true}
 use Rattle.minix_layout.specs.declared.division.Geometry.{Geometry}
@@ -13,14 +13,12 @@ use Rattle.volume_ops.specs.Places.{table_block, largest_size}
 use Rattle.volume_ops.specs.Volume.{bodies_of}
 use Rattle.volume_model.specs.declared.placed.Placed.{Placed}
 use Rattle.volume_model.specs.declared.placed.Part.TheVariants as parts
-use Rattle.volume_model.specs.MapBlock.{OpenInode, own_of}
+use Rattle.volume_model.specs.MapBlock.{OpenInode}
 use Rattle.volume_model.specs.Moves.{IsVolume, closed, with_size}
 use Rattle.volume_model.specs.Trees.{node_from, node_now}
 use Rattle.volume_model.specs.Volume.{Place, block, indirect, double, inner, zone_in, IsPart, IsFilePart}
-use Rattle.volume_model.specs.laws.Changes.{changes_none}
 use Rattle.volume_model.specs.laws.NodeMoves.{changed, other}
-use Rattle.volume_model.specs.laws.OnWay.{just_same}
-use Rattle.volume_model.specs.laws.ZoneMoves.{MayMove, fit_before, theirs_apart, moved_stands, moved_just}
+use Rattle.volume_model.specs.laws.ZoneMoves.{MayMove}
 use Rattle.volume_steps.specs.Now.{VolumeNow, Change, tree_of_now, unchanged}
 use Rattle.volume_steps.specs.Plain.{IsInUse}
 use Rattle.volume_steps.specs.Steps.{inode_put, resize, tells_node}
@@ -30,6 +28,8 @@ use Rattle.volume_steps.proofs.NodeSteps.{MayGrow, cases, closed_settled, closed
 use Rattle.volume_steps.proofs.PageStep.{unchanged_step}
 use Rattle.volume_steps.proofs.Listed.{put_told}
 use Rattle.volume_steps.proofs.QuietSteps.{at_node_is, quiet_pages, quiet_steady, quiet_tree}
+use Rattle.volume_steps.proofs.SameZones.{same_move, same_grow, same_stands}
+use Rattle.minix_layout.specs.Inodes.{FitInode}
 use Rattle.volume_steps.proofs.TreeSteps.{node_same}
 use Rattle.volume_steps.proofs.WriteSteps.{IsWriteStep}
 
@@ -49,47 +49,23 @@ module _ (tx : ℕ) (v : VolumeNow) (in_use : IsInUse v) (n : ℕ) (p : Placed) 
   part : IsFilePart v.contents.blocks p.inode zones
   part = subst (IsPart v.contents.blocks p.inode) is (in_use.volume.0.each n p at).part
 
-  may : MayMove g in_use.sound v.contents.blocks v.contents.nodes n p in_use.volume.0 at u p.part (λ _. ⊥)
-  may =
-      let f = (in_use.volume.0.each n p at).fits in
-      let old = fit_before g in_use.sound v.contents.blocks v.contents.nodes n p in_use.volume.0 at in
-      let same = sized_zone v.contents.blocks p.inode size in
-      record {
-        fit = record {
-          whole = in_use.volume.0.whole;
-          size = in_use.volume.0.size;
-          fits = record { mode = f.mode; uid = f.uid; size = omega arith; time = f.time; gid = f.gid; links = f.links; nine = f.nine; zones = f.zones };
-          within = λ x some. subst (λ z. (g.first ≤ z) × (z < g.zones)) (sym (same x)) (old.within x (λ none. some (same x ∙ none)));
-          apart = λ x y e some. old.apart x y (sym (same x) ∙ (e ∙ same y)) (λ none. some (same x ∙ none));
-        };
-        changes = changes_none g v.contents.blocks in_use.volume.0.whole;
-        not_theirs = λ a r x found apart some z. z;
-        none_of_theirs = λ a r x y found apart e some. theirs_apart g in_use.sound v.contents.blocks v.contents.nodes n p in_use.volume.0 at a r x y found apart (sym (same x) ∙ e) (λ none. some (same x ∙ none));
-        part_is = subst (IsPart v.contents.blocks (with_size p.inode size)) (sym is) (record { kind = part.kind; listed = part.listed; full = part.full; rising = part.rising });
-        names = λ d file. in_use.volume.0.names n p d at file;
-      }
+  fit : FitInode (with_size p.inode size)
+  fit = (let f = (in_use.volume.0.each n p at).fits in record { mode = f.mode; uid = f.uid; size = omega arith; time = f.time; gid = f.gid; links = f.links; nine = f.nine; zones = f.zones })
+
+  sized_part : IsPart v.contents.blocks (with_size p.inode size) p.part
+  sized_part = subst (IsPart v.contents.blocks (with_size p.inode size)) (sym is) (record { kind = part.kind; listed = part.listed; full = part.full; rising = part.rising })
+
+  abbrev may : MayMove g in_use.sound v.contents.blocks v.contents.nodes n p in_use.volume.0 at u p.part (λ _. ⊥)
+  may = same_move v in_use n p at (with_size p.inode size) (sized_zone v.contents.blocks p.inode size) fit sized_part
 
   abbrev written : List ℕ
   written = table_block g p.number ∷ []
 
-  grow : MayGrow g in_use.sound v.contents n p in_use.volume at u p.part (λ _. ⊥) may written []
-  grow = record {
-    kind = refl;
-    stays_as = λ x some. sized_zone v.contents.blocks p.inode size x;
-    was = λ x some. inl (sized_zone v.contents.blocks p.inode size x);
-    bytes = λ b none. refl;
-    table = inl refl;
-    meta = λ b i. elim i [ inl e ↦ inl (sym e) | inr j ↦ absurd j ];
-    told = λ zone i. absurd i;
-    mapped = λ zone i. absurd i;
-  }
+  abbrev grow : MayGrow g in_use.sound v.contents n p in_use.volume at u p.part (λ _. ⊥) may written []
+  grow = same_grow v in_use n p at (with_size p.inode size) (sized_zone v.contents.blocks p.inode size) fit sized_part
 
   stands : IsVolume g (closed g v.contents n p u p.part)
-  stands = (
-    moved_stands g in_use.sound v.contents.blocks v.contents.nodes n p in_use.volume.0 at u p.part (λ _. ⊥) may,
-    moved_just g in_use.sound v.contents.blocks v.contents.nodes n p in_use.volume.0 at u p.part (λ _. ⊥) may in_use.volume.1
-        (just_same (λ x. zone_in v.contents.blocks p.inode x) (own_of u) (sized_zone v.contents.blocks p.inode size) (in_use.volume.1 n p at)),
-  )
+  stands = same_stands v in_use n p at (with_size p.inode size) (sized_zone v.contents.blocks p.inode size) fit sized_part
 
   abbrev pub sized : Change
   sized = record { volume = inode_put v n p (with_size p.inode size); touched = tells_node n written }
