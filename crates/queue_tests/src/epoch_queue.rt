@@ -4,7 +4,7 @@ ghost use Rattle.order_model.specs.Submission.{is_flush};
 
 use barrier_reassign::{EpochQueue, Held};
 use blk_base::{Block, NoMemory};
-use order_model::{History, Kind, Request};
+use order_model::{Kind, Request, Requests};
 use std::process::Abort;
 
 fn put(id: u64, block: u32, ordered: bool, barrier: bool) -> Request
@@ -130,13 +130,13 @@ fn flush_leaves_alone(rt: HostRuntime) -> Result<(), NoMemory> {
 #[test]
 fn records_what_it_accepts(rt: HostRuntime) -> Result<(), NoMemory> {
     let mut q = EpochQueue::make(rt.alloc(), 8)?;
-    let mut history = History::make(rt.alloc(), 2)?;
+    let mut history = Requests::make(rt.alloc(), 2)?;
     let accepted = q.accept_recorded(&mut history, put(7, 3, true, true));
     assert!(rt; accepted.is_ok());
     let blocked = q.accept_recorded(&mut history, put(8, 4, false, false));
     assert!(rt; blocked.is_err());
-    assert_eq!(rt; history.as_slice().len(), 1);
-    match history.as_slice().get(0) {
+    assert_eq!(rt; history.len(), 1);
+    match history.get(0) {
         Some(r) => assert_eq!(rt; (r.id, r.ordered, r.barrier), (7, true, true)),
         None => assert!(rt; false),
     }

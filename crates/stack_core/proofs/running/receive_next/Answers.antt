@@ -27,7 +27,7 @@ returns g c =
     let p = k.steps.seen sched in
     let old : Handing RequestPath t.State = record { before = c.args.path.now; dev = s } in
     let held = path-handed m t.valid g.met.D.OrderedDev.receives rs p old c.requires.valid c.requires.path
-        (g.met.S.Scheduler.keeps.carries sched c.requires.scheduler) (g.met.D.OrderedDev.surface s c.requires.valid).blocks in
+    (g.met.S.Scheduler.keeps.carries sched c.requires.scheduler) (g.met.D.OrderedDev.surface s c.requires.valid).blocks in
     let after = subst (IsHanded m t.valid g.met.D.OrderedDev.receives rs p s) (sym c.hand_to.ensures) held in
     record {
       step = ap (λ (h : Handing RequestPath t.State). record { path = h.before; sched = sched; dev = h.dev }) c.hand_to.ensures ∙ received_handed m sched old (given rs c.args.path.now);
