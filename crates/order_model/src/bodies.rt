@@ -1,5 +1,5 @@
 //! How histories keep the bodies of blocks: one that is full of one byte as that byte.
-ghost use Rattle.std.specs.Prelude.{◌≡◌, ◌≢◌, ℕ, ◌+◌, ◌≤◌, ◌<◌, ◌++◌, List, length, vec_len, IfSome, None};
+ghost use Rattle.std.specs.Prelude.{◌≡◌, ℕ, ◌+◌, ◌≤◌, ◌<◌, ◌++◌, List, length, vec_len, IfSome, true};
 ghost use Rattle.std.specs.Vec.{vec_capacity};
 ghost use Rattle.blk_base.specs.Block.{filled};
 ghost use Rattle.order_model.specs.code.Bodies.{body_of, IsThere};
@@ -13,17 +13,35 @@ pub(crate) enum KeptBody {
     Stored(usize),
 }
 
-// The byte of which the block is full, where all its bytes are equal.
+// The byte of which the block is full, where it is seen to be.
 fn fill_of(body: &Block) -> Option<u8>
-    ensures some { IfSome result (λ v. body.now ≡ filled v) }
-    ensures none { result ≡ None → (v : ℕ) → body.now ≢ filled v }
+    ensures { IfSome result (λ v. body.now ≡ filled v) }
 {
-    let v = body.as_slice()[0];
-    if *body == Block::fill(v) {
-        Some(v)
-    } else {
-        None
+    let bytes = body.as_slice();
+    let v = bytes[0];
+    if are_all(bytes, v) { Some(v) } else { None }
+}
+
+// Whether a body's bytes are all this one, eight at a time.
+fn are_all(bytes: &[u8], v: u8) -> bool
+    requires { length bytes.now ≡ 1024 }
+    ensures { result ≡ true → bytes.now ≡ filled v }
+{
+    let wanted = [v; 8];
+    let (runs, _) = bytes.as_chunks::<8>();
+    for run in runs {
+        if !are_same(*run, wanted) {
+            return false;
+        }
     }
+    true
+}
+
+// As words, which compares them in one step.
+fn are_same(run: [u8; 8], wanted: [u8; 8]) -> bool
+    ensures { result ≡ true → run ≡ wanted }
+{
+    u64::from_le_bytes(run) == u64::from_le_bytes(wanted)
 }
 
 // Keeps a body. It is stored behind the others, unless it is full of one byte.
