@@ -43,11 +43,11 @@ impl Model for EpochQueue {
 
     ghost Value = { EpochState };
 
-    ghost use Rattle.barrier_reassign.specs.code.Kept.{IsKept};
+    ghost use Rattle.barrier_reassign.specs.code.Kept.{IsInside};
 
     ghost view = { λ q. record { capacity = q.capacity; next = q.next; waiting = q.waiting.items; closing = q.closing } };
 
-    ghost invariant = { IsKept };
+    ghost invariant = { IsInside };
 }
 
 impl EpochQueue {

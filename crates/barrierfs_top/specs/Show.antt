@@ -3,20 +3,20 @@ use Rattle.std.specs.Prelude.{◌≡◌, ℕ, List, Result, Ok, Err}
 use Rattle.tree_model.specs.declared.node.Node.{Node}
 use Rattle.tree_model.specs.Text.{tree_text}
 use Rattle.volume_ops.specs.Volume.{VolumeState}
-use Rattle.mount_make.specs.Images.{Told, mounted, tree_after, image_tree}
+use Rattle.mount_make.specs.Images.{FaultPlace, mounted, tree_after, image_tree}
 use Rattle.barrierfs_top.specs.declared.fault.TopFault.{TopFault}
 use Rattle.barrierfs_top.specs.declared.fault.TopFault.TheVariants as faults
 
-abbrev pub text_after : Result (List (ℕ × Node)) Told → Result (List ℕ) Told
+abbrev pub text_after : Result (List (ℕ × Node)) FaultPlace → Result (List ℕ) FaultPlace
 text_after (Ok tree) = Ok (tree_text tree)
 text_after (Err told) = Err told
 
 -- the text of the tree of a volume that was mounted
-abbrev pub shown_volume : VolumeState → Result (List ℕ) Told
+abbrev pub shown_volume : VolumeState → Result (List ℕ) FaultPlace
 shown_volume v = text_after (tree_after (Ok v))
 
 -- the text of the tree of an image with these blocks, or its first fault
-abbrev pub shown : List (List ℕ) → Result (List ℕ) Told
+abbrev pub shown : List (List ℕ) → Result (List ℕ) FaultPlace
 shown blocks = text_after (image_tree blocks)
 
 -- the first fault of an image whose tree is asked for, or want of memory

@@ -13,8 +13,8 @@ use Rattle.barrierfs_top.specs.declared.command_line.Task.{Task}
 use Rattle.barrierfs_top.specs.declared.command_line.Task.TheVariants as tasks
 
 -- the words for commands
-abbrev pub command_of : List ℕ → Option Command
-command_of w =
+abbrev pub command_named_by : List ℕ → Option Command
+command_named_by w =
     if bytes_eq w (codes "replay") then Some commands.Replay
     else if bytes_eq w (codes "show") then Some commands.Show
     else None
@@ -38,7 +38,7 @@ make_of w sizes = if bytes_eq w (codes "make") then option_map tasks.Make sizes 
 
 -- a command, or `make` and three decimal numbers without a sign or a leading zero
 abbrev pub task_of : List (List ℕ) → Option Task
-task_of (w ∷ []) = option_map tasks.Read (command_of w)
+task_of (w ∷ []) = option_map tasks.Read (command_named_by w)
 task_of (w ∷ i ∷ z ∷ j ∷ []) = make_of w (sizes_of (numeral i) (numeral z) (numeral j))
 task_of words = None
 

@@ -1,7 +1,7 @@
 //! What the words of the command line ask for.
 ghost use Rattle.std.specs.Prelude.{◌≡◌, ◌++◌, ◌∷◌, [], Some, IfSome, OnOk, OnErr};
 ghost use Rattle.script_words.specs.Spelling.{numeral};
-ghost use Rattle.barrierfs_top.specs.Tasks.{command_of, most_of, sizes_of, task_of, CanDo};
+ghost use Rattle.barrierfs_top.specs.Tasks.{command_named_by, most_of, sizes_of, task_of, CanDo};
 
 use blk_base::NoMemory;
 use minix_layout::Geometry;
@@ -104,7 +104,7 @@ impl Words {
 }
 
 fn command_named(word: &str) -> Option<Command>
-    ensures { result ≡ command_of word.now }
+    ensures { result ≡ command_named_by word.now }
 {
     match word {
         "replay" => Some(Command::Replay),

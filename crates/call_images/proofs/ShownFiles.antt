@@ -29,7 +29,7 @@ use Rattle.host_machine.specs.State.{Host}
 use Rattle.host_machine.specs.Views.{cut_of, tree_after}
 use Rattle.host_volume.specs.Paths.{place_in}
 use Rattle.host_volume.specs.PlainTrees.{PlainTree}
-use Rattle.mount_make.specs.Images.{Told, image_fault, divided, fault_in_journal, recovered_from, volume_in, by_journal, by_walk, by_geometry, recovered_by, recovered_image, tree_after as tree_behind_mount, image_tree}
+use Rattle.mount_make.specs.Images.{FaultPlace, image_fault, divided, fault_in_journal, recovered_from, volume_in, by_journal, by_walk, by_geometry, recovered_by, recovered_image, tree_after as tree_behind_mount, image_tree}
 use Rattle.mount_make.specs.Made.{made_image}
 use Rattle.call_sessions.specs.Sessions.{KeepsCalls, call_over}
 use Rattle.call_images.specs.CallImages.{opening_on, submitted_by, kept_count, kept_tree, KeepsFiles, history_of, IsShown, ShowsFiles}
@@ -56,7 +56,7 @@ module _ (g : Geometry) (image : List (List ℕ)) (division : divided image ≡ 
   volume_bytes : (b : ℕ) → b < g.zones → disk_of (volume_in g image) b ≡ disk_of (recovered_image image) b
   volume_bytes b low = get_or-take g.zones (recovered_from g.zones image) b _ low ∙ ap (λ i. disk_of i b) (sym recovered_is)
 
-  tree_ended : (tree : Tree) (r : Result Tree Fault) → (elim r as (λ _. Result Tree Told) [ Ok tree ↦ Ok tree | Err fault ↦ Err (image_fault fault.0, fault.1) ]) ≡ Ok tree → r ≡ Ok tree
+  tree_ended : (tree : Tree) (r : Result Tree Fault) → (elim r as (λ _. Result Tree FaultPlace) [ Ok tree ↦ Ok tree | Err fault ↦ Err (image_fault fault.0, fault.1) ]) ≡ Ok tree → r ≡ Ok tree
   tree_ended tree (Ok other) e = ap Ok (same_Ok other tree e)
   tree_ended tree (Err fault) e = absurd (err-ok (image_fault fault.0, fault.1) tree e)
 

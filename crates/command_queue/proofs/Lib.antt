@@ -1,3 +1,3 @@
 pub mod Places
-pub mod Slots
+pub mod Seats
 pub mod Moves

@@ -8,9 +8,9 @@ use Rattle.order_model.specs.declared.command.Command.{Command}
 use Rattle.order_model.specs.Single.{blank_command}
 use Rattle.command_queue.specs.declared.queue.Seat.{Seat}
 use Rattle.command_queue.specs.Queue.{Waiting, eligible, without, AreNumbered}
-use Rattle.command_queue.specs.code.Slots.{waiting_at, seated, EachOnce, IsPicked}
+use Rattle.command_queue.specs.code.Seats.{waiting_at, seated, EachOnce, IsPicked}
 use Rattle.order_model.specs.laws.ArrivalLaws.{there-is, remove-without, AreNumbered-remove, AreNumbered-push}
-use Rattle.command_queue.proofs.Slots.{map-remove, seated-set, seats-within, last-within, last-not_seated, EachOnce-arrive, EachOnce-leave}
+use Rattle.command_queue.proofs.Seats.{map-remove, seated-set, seats-within, last-within, last-not_seated, EachOnce-arrive, EachOnce-leave}
 
 pub seats-in_slots : (depth : ℕ) (slots slots' : List Command) (seats seats' : List Seat) (free : List ℕ) → slots' ≡ slots → seats' ≡ seats → length slots ≡ depth → EachOnce depth seats free
     → All (λ (s : Seat). s.slot < length slots') seats'

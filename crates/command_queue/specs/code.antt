@@ -1,3 +1,3 @@
 -- What the code sees of its own fields.
 pub mod Places
-pub mod Slots
+pub mod Seats

@@ -4,7 +4,7 @@ ghost use Rattle.std.specs.Option.{option_map, option_copied};
 ghost use Rattle.std.specs.Vec.{vec_capacity};
 ghost use Rattle.order_model.specs.Device.{is_ordered};
 ghost use Rattle.command_queue.specs.Queue.{QueueState, Waiting, arrived, picked, departed, eligible, is_free, have_common_block, stands_in_way};
-ghost use Rattle.command_queue.specs.code.Slots.{waiting_at, seated, has_block, are_kept_in_order, EachOnce, IsPicked};
+ghost use Rattle.command_queue.specs.code.Seats.{waiting_at, seated, has_block, are_kept_in_order, EachOnce, IsPicked};
 
 use blk_base::NoMemory;
 use order_model::{Command, Part, Priority};
@@ -36,7 +36,7 @@ impl Model for CommandQueue {
 
     ghost Value = { QueueState };
 
-    ghost use Rattle.command_queue.specs.code.Slots.{seated, IsSeated};
+    ghost use Rattle.command_queue.specs.code.Seats.{seated, IsSeated};
 
     ghost view = { λ q. record { depth = q.depth; next = q.next; waiting = seated q.slots.items q.seats.items } };
 

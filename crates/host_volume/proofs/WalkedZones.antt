@@ -21,7 +21,7 @@ use Rattle.volume_ops.specs.declared.found.Found.{Found}
 use Rattle.volume_ops.specs.declared.found.Found.TheVariants as found
 use Rattle.volume_ops.specs.declared.found.FoundNode.{FoundNode}
 use Rattle.volume_ops.specs.declared.found.Mapped.{Mapped}
-use Rattle.volume_ops.specs.Fields.{HasName, IsDirectoryOf, IsFileOf, IsNodeOf, inode_at, zone_behind}
+use Rattle.volume_ops.specs.VolumeFields.{HasName, IsDirectoryOf, IsFileOf, IsNodeOf, inode_at, zone_behind}
 use Rattle.volume_ops.specs.Places.{birth_of, inode_of_birth, is_directory, is_file}
 use Rattle.volume_ops.specs.Volume.{disk_of, walked, put_nodes, tree_found, tree_of}
 use Rattle.volume_ops.specs.VolumeTrees.{IsVolumeTree}

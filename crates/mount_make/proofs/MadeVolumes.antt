@@ -29,7 +29,7 @@ use Rattle.tree_model.specs.Trees.{directory_links}
 use Rattle.tree_model.specs.Plain.{names_to}
 use Rattle.volume_ops.specs.Places.{inode_in_block, inode_of_birth, table_block}
 use Rattle.volume_ops.specs.Volume.{disk_of}
-use Rattle.volume_ops.specs.Fields.{inode_at, zone_behind, slot_behind, IsDirectoryOf, IsNodeOf, IsTreeOf}
+use Rattle.volume_ops.specs.VolumeFields.{inode_at, zone_behind, slot_behind, IsDirectoryOf, IsNodeOf, IsTreeOf}
 use Rattle.volume_ops.specs.Faultless.{IsFaultless}
 use Rattle.volume_ops.specs.VolumeTrees.{IsVolumeTree}
 use Rattle.volume_model.specs.declared.placed.Placed.{Placed}

@@ -24,8 +24,8 @@ use Rattle.mount_make.specs.declared.fault.MountFault.{MountFault}
 use Rattle.mount_make.specs.declared.fault.MountFault.TheVariants as mount
 
 -- a fault of an image, and the block at which it is told
-abbrev pub Told : Type 0
-Told = ImageFault × ℕ
+abbrev pub FaultPlace : Type 0
+FaultPlace = ImageFault × ℕ
 
 abbrev pub image_fault : LayoutFault → ImageFault
 image_fault layout.BadMagic = image.BadMagic
@@ -46,16 +46,16 @@ journal_kind journal.NoMemory = image.BadKind
 -- ---- the volume's own tests, before the walk
 
 -- the image has all blocks of the volume
-abbrev pub whole_volume : List (List ℕ) → Geometry → Result Geometry Told
+abbrev pub whole_volume : List (List ℕ) → Geometry → Result Geometry FaultPlace
 whole_volume blocks g = if nat_lt (length blocks) g.zones then Err (image.BadGeometry, length blocks) else Ok g
 
-abbrev pub by_super : List (List ℕ) → Result Geometry LayoutFault → Result Geometry Told
+abbrev pub by_super : List (List ℕ) → Result Geometry LayoutFault → Result Geometry FaultPlace
 by_super blocks (Ok g) = whole_volume blocks g
 by_super blocks (Err fault) = Err (image_fault fault, 1)
 
 -- How the volume of an image is divided, or the first fault of this. With fewer than two blocks, or than the volume
 -- has, the first block that is missing is told; the superblock is block 1.
-unfoldable pub divided : List (List ℕ) → Result Geometry Told
+unfoldable pub divided : List (List ℕ) → Result Geometry FaultPlace
 divided blocks =
     if nat_lt (length blocks) 2 then Err (image.BadGeometry, length blocks)
     else by_super blocks (super_of (disk_of blocks 1))
@@ -66,11 +66,11 @@ divided blocks =
 abbrev pub has_journal : ℕ → List (List ℕ) → Bool
 has_journal base blocks = nat_lt base (length blocks) && is_journal (disk_of blocks base)
 
-abbrev pub as_told : JournalFault × ℕ → Told
+abbrev pub as_told : JournalFault × ℕ → FaultPlace
 as_told fault = (journal_kind fault.0, fault.1)
 
 -- the first fault of the journal, where there is one
-abbrev pub fault_in_journal : ℕ → List (List ℕ) → Option Told
+abbrev pub fault_in_journal : ℕ → List (List ℕ) → Option FaultPlace
 fault_in_journal base blocks = if has_journal base blocks then option_map as_told (journal_fault base blocks) else None
 
 -- the image, once its journal was recovered
@@ -93,25 +93,25 @@ abbrev pub volume_in : Geometry → List (List ℕ) → List (List ℕ)
 volume_in g blocks = take g.zones (recovered_from g.zones blocks)
 
 -- the walk through the volume
-abbrev pub by_walk : Geometry → List (List ℕ) → Result Walked Fault → Result VolumeState Told
+abbrev pub by_walk : Geometry → List (List ℕ) → Result Walked Fault → Result VolumeState FaultPlace
 by_walk g volume (Ok found) = Ok (record { geometry = g; blocks = volume })
 by_walk g volume (Err fault) = Err (image_fault fault.0, fault.1)
 
 -- comes behind the tests of the journal
-abbrev pub by_journal : Geometry → List (List ℕ) → Option Told → Result VolumeState Told
+abbrev pub by_journal : Geometry → List (List ℕ) → Option FaultPlace → Result VolumeState FaultPlace
 by_journal g blocks (Some told) = Err told
 by_journal g blocks None = by_walk g (volume_in g blocks) (walked g (volume_in g blocks))
 
 -- and these behind the volume's own
-abbrev pub by_geometry : List (List ℕ) → Result Geometry Told → Result VolumeState Told
+abbrev pub by_geometry : List (List ℕ) → Result Geometry FaultPlace → Result VolumeState FaultPlace
 by_geometry blocks (Ok g) = by_journal g blocks (fault_in_journal g.zones blocks)
 by_geometry blocks (Err told) = Err told
 
 -- what an image of these blocks is mounted as, or its first fault with its block
-abbrev pub mounted : List (List ℕ) → Result VolumeState Told
+abbrev pub mounted : List (List ℕ) → Result VolumeState FaultPlace
 mounted blocks = by_geometry blocks (divided blocks)
 
-abbrev pub recovered_by : List (List ℕ) → Result Geometry Told → List (List ℕ)
+abbrev pub recovered_by : List (List ℕ) → Result Geometry FaultPlace → List (List ℕ)
 recovered_by blocks (Ok g) = recovered_from g.zones blocks
 recovered_by blocks (Err told) = blocks
 
@@ -120,25 +120,25 @@ abbrev pub recovered_image : List (List ℕ) → List (List ℕ)
 recovered_image blocks = recovered_by blocks (divided blocks)
 
 -- the tree of a volume that was mounted; it has no fault
-abbrev pub tree_after : Result VolumeState Told → Result (List (ℕ × Node)) Told
+abbrev pub tree_after : Result VolumeState FaultPlace → Result (List (ℕ × Node)) FaultPlace
 tree_after (Err told) = Err told
 tree_after (Ok v) =
-    elim (tree_of v.geometry v.blocks) as (λ _. Result (List (ℕ × Node)) Told)
+    elim (tree_of v.geometry v.blocks) as (λ _. Result (List (ℕ × Node)) FaultPlace)
     [ Ok tree ↦ Ok tree | Err fault ↦ Err (image_fault fault.0, fault.1) ]
 
 -- the tree of an image, or its first fault
-abbrev pub image_tree : List (List ℕ) → Result (List (ℕ × Node)) Told
+abbrev pub image_tree : List (List ℕ) → Result (List (ℕ × Node)) FaultPlace
 image_tree blocks = tree_after (mounted blocks)
 
 -- ---- faults of mounting
 
 -- the cause of a fault in what is told; those of the device and want of memory have none in the image
-abbrev pub IsTold : {A : Type 0} → Result A Told → MountFault → Type 0
+abbrev pub IsTold : {A : Type 0} → Result A FaultPlace → MountFault → Type 0
 IsTold r (mount.Image fault block) = r ≡ Err (fault, block)
 IsTold r other = Unit {0}
 
 -- so of a journal
-abbrev pub IsJournalTold : Option Told → MountFault → Type 0
+abbrev pub IsJournalTold : Option FaultPlace → MountFault → Type 0
 IsJournalTold o (mount.Image fault block) = o ≡ Some (fault, block)
 IsJournalTold o other = Unit {0}
 

@@ -10,11 +10,11 @@ use Rattle.order_model.specs.declared.command.Command.{Command}
 use Rattle.order_model.specs.declared.request.Kind.{Kind}
 use Rattle.order_model.specs.declared.request.Kind.TheVariants.{Put, Flush}
 use Rattle.order_model.specs.declared.request.Request.{Request}
-use Rattle.order_model.specs.Received.{all_parts, part_at, first_part, command_of, ids_of, IsBarrier, IsFlush}
+use Rattle.order_model.specs.Received.{all_parts, part_at, first_part, command_of_part, ids_of, IsBarrier, IsFlush}
 use Rattle.order_model.specs.Submission.{is_flush, kind_block, kind_body, IsPutOf, IsPutWith, IsOrderedBefore, HasOrigin, IsKept, IsOrderClosed, KeepsFlushed}
 use Rattle.order_model.specs.Device.{Seen, completed, origin_ids, IsPartKept, IsSurface, KeepsEpochOrder, KeepsFlush, Completes}
 use Rattle.order_model.specs.Carrying.{SchedSeen, IsCarriedBy, IsSentIn, IsFlushAt, Carries, AreAtIds, IsPrefixOf, Fits}
-use Rattle.order_model.proofs.Received.{place_of, part_at-place, command_of-first, command_of-lt, part_at-first, part-lt, command_of-mono, flush-is, id_once, In-part-id, In-flush-id}
+use Rattle.order_model.proofs.Received.{place_of, part_at-place, command_of_part-first, command_of_part-lt, part_at-first, part-lt, command_of_part-mono, flush-is, id_once, In-part-id, In-flush-id}
 use Rattle.order_model.proofs.OriginIds.{id_at, placed, origin_of, no_origin}
 
 -- ---- prefixes
@@ -68,10 +68,10 @@ pub record IsRun (qs : List Request) (s : SchedSeen) (d : Seen) : Type 0 where
 
 -- the put that a part of the device carries
 record IsRequestOf (qs : List Request) (s : SchedSeen) (d : Seen) (x : ℕ) (p : Part) : Type 0 where
-  pub sent : IsSentIn s p.id (command_of d.took x)
+  pub sent : IsSentIn s p.id (command_of_part d.took x)
   pub submitted : slice_get qs p.id ≡ Some sent.request
   pub put : sent.request.kind ≡ Put p.block p.body
-  pub taken : command_of d.took x < length d.took
+  pub taken : command_of_part d.took x < length d.took
 
 carried_put : (r : Request) (p : Part) (c : Command) → r.id ≡ p.id → r.kind ≡ Put p.block p.body → In p c.parts → IsCarriedBy r.id r.kind c
 carried_put r p c named same h =
@@ -80,7 +80,7 @@ carried_put r p c named same h =
 request_of : (qs : List Request) (s : SchedSeen) (d : Seen) (x : ℕ) (p : Part) → IsRun qs s d → part_at d.took x ≡ Some p → IsRequestOf qs s d x p
 request_of qs s d x p run at =
     let lt = slice_get-length (all_parts d.took) x p at in
-    let k = command_of d.took x in
+    let k = command_of_part d.took x in
     let place = place_of d.took x lt in
     let c = place.command in
     let sent = prefix-get d.took s.sent_out k c run.fits.took place.taken in
@@ -98,7 +98,7 @@ request_of qs s d x p run at =
       };
       submitted = ap (slice_get qs) (sym named) ∙ submitted;
       put = a.same;
-      taken = command_of-lt d.took x lt;
+      taken = command_of_part-lt d.took x lt;
     }
 
 -- the put of a part, as it was submitted and as it was accepted
@@ -123,7 +123,7 @@ record IsPartFor (took : List Command) (i k block : ℕ) : Type 0 where
   pub there : part_at took place ≡ Some part
   pub named : part.id ≡ i
   pub same : part.block ≡ block
-  pub command : command_of took place ≡ k
+  pub command : command_of_part took place ≡ k
   pub within : place < length (all_parts took)
 
 part_for : (qs : List Request) (s : SchedSeen) (d : Seen) (i k block : ℕ) → IsRun qs s d → IsPutOf qs i block → IsSentIn s i k → k < length d.took → IsPartFor d.took i k block
@@ -141,7 +141,7 @@ part_for qs s d i k block run put h lt =
       there = part_at-first took k c n.0 taken n.1 ∙ n.2;
       named = p.2 ∙ named;
       same = p.3;
-      command = command_of-first took k c n.0 taken n.1;
+      command = command_of_part-first took k c n.0 taken n.1;
       within = part-lt took k c n.0 taken n.1;
     }
 
@@ -179,9 +179,9 @@ no_later_before qs s d x y p q run r t same le =
     ⊎_elim
     (λ less.
     let earlier = subst (λ b. IsPutOf s.accepted q.id b) same (accepted_part qs s d y q t) in
-    let before = run.carries.blocks q.id p.id (command_of d.took x) p.block less earlier (accepted_part qs s d x p r) r.sent in
-    let once = sent_once s q.id before.0 (command_of d.took y) run.carries before.1 t.sent in
-    let mono = command_of-mono d.took x y le in
+    let before = run.carries.blocks q.id p.id (command_of_part d.took x) p.block less earlier (accepted_part qs s d x p r) r.sent in
+    let once = sent_once s q.id before.0 (command_of_part d.took y) run.carries before.1 t.sent in
+    let mono = command_of_part-mono d.took x y le in
     let lt = before.2 in
     absurd (omega arith))
     (λ le. le)
@@ -214,7 +214,7 @@ record IsTakenKept (s : SchedSeen) (d : Seen) (i : ℕ) : Type 0 where
 
 -- a put that was sent before the command of its block's origin
 kept_before : (qs : List Request) (s : SchedSeen) (d : Seen) (i k block id : ℕ) → IsRun qs s d → IsPutOf qs i block → IsSentIn s i k
-    → (w : IsWritten qs s d block id) → k < command_of d.took w.place → IsTakenKept s d i
+    → (w : IsWritten qs s d block id) → k < command_of_part d.took w.place → IsTakenKept s d i
 kept_before qs s d i k block id run put h w lt =
     let within = w.request.taken in
     let p = part_for qs s d i k block run put h (omega arith) in
@@ -230,7 +230,7 @@ kept_before qs s d i k block id run put h w lt =
         held = ap (slice_get d.origins) p.same ∙ w.held;
         later =
             ⊎_elim
-            (λ less. let mono = command_of-mono d.took w.place p.place (omega arith) in let command = p.command in absurd (omega arith))
+            (λ less. let mono = command_of_part-mono d.took w.place p.place (omega arith) in let command = p.command in absurd (omega arith))
             (λ le. le)
             (cases_lt w.place p.place);
       };
@@ -242,7 +242,7 @@ kept_part qs s d i run kept =
     let block = kept.block in
     let w = written qs s d block kept.origin run kept.held in
     let o = w.part.id in
-    let l = command_of d.took w.place in
+    let l = command_of_part d.took w.place in
     let named = w.named in
     let later = kept.later in
     let in_range = sent-accepted s o l w.request.sent in
@@ -289,7 +289,7 @@ closed : (qs : List Request) (s : SchedSeen) (d : Seen) (i j : ℕ) → IsRun qs
 closed qs s d i j run epochs before kept =
     let y = kept_part qs s d j run kept in
     let r = request_of qs s d y.place y.part run y.there in
-    let l = command_of d.took y.place in
+    let l = command_of_part d.took y.place in
     let sent : IsSentIn s j l = subst (λ n. IsSentIn s n l) y.named r.sent in
     let o = run.carries.ordered i j l (accepted_before qs s d i j run (sent-accepted s j l sent) before) sent in
     let b = o.1 in

@@ -9,7 +9,7 @@ use Rattle.std.proofs.lemmas.Option.{none-some, same_Some, get_or_from_slice_get
 use Rattle.blk_base.specs.Members.{In, In-append_left, In-append_right, In-append_cases, In-slice_get, slice_get-In, slice_get-length, slice_get-append_left, slice_get-append_right, slice_get-in_range, map-In}
 use Rattle.order_model.specs.declared.part.Part.{Part}
 use Rattle.order_model.specs.declared.command.Command.{Command}
-use Rattle.order_model.specs.Received.{all_parts, part_at, first_part, command_of, ids_of, all_ids, epoch_of, IsBarrier, IsFlush}
+use Rattle.order_model.specs.Received.{all_parts, part_at, first_part, command_of_part, ids_of, all_ids, epoch_of, IsBarrier, IsFlush}
 use Rattle.order_model.specs.Device.{NoneTwice}
 
 -- ---- two lists, and one more command
@@ -38,85 +38,85 @@ length-all_ids-push cs c = ap length (all_ids-push cs c) ∙ length-append (all_
 
 -- ---- the command of a place
 
-command_of-here : (c : Command) (cs : List Command) (x : ℕ) → x < length c.parts → command_of (c ∷ cs) x ≡ 0
-command_of-here c cs x h = cond-true (nat_lt x (length c.parts)) 0 (command_of cs (x - length c.parts) + 1) (lt-ltb x (length c.parts) h)
+command_of_part-here : (c : Command) (cs : List Command) (x : ℕ) → x < length c.parts → command_of_part (c ∷ cs) x ≡ 0
+command_of_part-here c cs x h = cond-true (nat_lt x (length c.parts)) 0 (command_of_part cs (x - length c.parts) + 1) (lt-ltb x (length c.parts) h)
 
-command_of-there : (c : Command) (cs : List Command) (x : ℕ) → length c.parts ≤ x → command_of (c ∷ cs) x ≡ command_of cs (x - length c.parts) + 1
-command_of-there c cs x h = cond-false (nat_lt x (length c.parts)) 0 (command_of cs (x - length c.parts) + 1) (le-ltb x (length c.parts) h)
+command_of_part-there : (c : Command) (cs : List Command) (x : ℕ) → length c.parts ≤ x → command_of_part (c ∷ cs) x ≡ command_of_part cs (x - length c.parts) + 1
+command_of_part-there c cs x h = cond-false (nat_lt x (length c.parts)) 0 (command_of_part cs (x - length c.parts) + 1) (le-ltb x (length c.parts) h)
 
 -- past the last part is the end
-pub command_of-past : (cs : List Command) (x : ℕ) → length (all_parts cs) ≤ x → command_of cs x ≡ length cs
-command_of-past [] x h = refl
-command_of-past (c ∷ cs) x h =
+pub command_of_part-past : (cs : List Command) (x : ℕ) → length (all_parts cs) ≤ x → command_of_part cs x ≡ length cs
+command_of_part-past [] x h = refl
+command_of_part-past (c ∷ cs) x h =
     let n = length-append c.parts (all_parts cs) in
-    let there = command_of-there c cs x (omega arith) in
-    let rest = command_of-past cs (x - length c.parts) (omega arith) in
+    let there = command_of_part-there c cs x (omega arith) in
+    let rest = command_of_part-past cs (x - length c.parts) (omega arith) in
     omega arith
 
-pub command_of-lt : (cs : List Command) (x : ℕ) → x < length (all_parts cs) → command_of cs x < length cs
-command_of-lt [] x h = absurd (omega arith)
-command_of-lt (c ∷ cs) x h =
+pub command_of_part-lt : (cs : List Command) (x : ℕ) → x < length (all_parts cs) → command_of_part cs x < length cs
+command_of_part-lt [] x h = absurd (omega arith)
+command_of_part-lt (c ∷ cs) x h =
     let n = length-append c.parts (all_parts cs) in
     ⊎_elim
-    (λ lt. let here = command_of-here c cs x lt in omega arith)
-    (λ le. let there = command_of-there c cs x le in let rest = command_of-lt cs (x - length c.parts) (omega arith) in omega arith)
+    (λ lt. let here = command_of_part-here c cs x lt in omega arith)
+    (λ le. let there = command_of_part-there c cs x le in let rest = command_of_part-lt cs (x - length c.parts) (omega arith) in omega arith)
     (cases_lt x (length c.parts))
 
-pub command_of-append_old : (xs ys : List Command) (x : ℕ) → x < length (all_parts xs) → command_of (xs ++ ys) x ≡ command_of xs x
-command_of-append_old [] ys x h = absurd (omega arith)
-command_of-append_old (a ∷ xs) ys x h =
+pub command_of_part-append_old : (xs ys : List Command) (x : ℕ) → x < length (all_parts xs) → command_of_part (xs ++ ys) x ≡ command_of_part xs x
+command_of_part-append_old [] ys x h = absurd (omega arith)
+command_of_part-append_old (a ∷ xs) ys x h =
     let n = length-append a.parts (all_parts xs) in
     ⊎_elim
-    (λ lt. command_of-here a (xs ++ ys) x lt ∙ sym (command_of-here a xs x lt))
-    (λ le. command_of-there a (xs ++ ys) x le ∙ ap (λ k. k + 1) (command_of-append_old xs ys (x - length a.parts) (omega arith)) ∙ sym (command_of-there a xs x le))
+    (λ lt. command_of_part-here a (xs ++ ys) x lt ∙ sym (command_of_part-here a xs x lt))
+    (λ le. command_of_part-there a (xs ++ ys) x le ∙ ap (λ k. k + 1) (command_of_part-append_old xs ys (x - length a.parts) (omega arith)) ∙ sym (command_of_part-there a xs x le))
     (cases_lt x (length a.parts))
 
-pub command_of-push_old : (cs : List Command) (c : Command) (x : ℕ) → x < length (all_parts cs) → command_of (cs ++ c ∷ []) x ≡ command_of cs x
-command_of-push_old cs c x h = command_of-append_old cs (c ∷ []) x h
+pub command_of_part-push_old : (cs : List Command) (c : Command) (x : ℕ) → x < length (all_parts cs) → command_of_part (cs ++ c ∷ []) x ≡ command_of_part cs x
+command_of_part-push_old cs c x h = command_of_part-append_old cs (c ∷ []) x h
 
-pub command_of-push_new : (cs : List Command) (c : Command) (x : ℕ) → length (all_parts cs) ≤ x → x < length (all_parts cs) + length c.parts → command_of (cs ++ c ∷ []) x ≡ length cs
-command_of-push_new [] c x le lt = command_of-here c [] x (omega arith)
-command_of-push_new (d ∷ cs) c x le lt =
+pub command_of_part-push_new : (cs : List Command) (c : Command) (x : ℕ) → length (all_parts cs) ≤ x → x < length (all_parts cs) + length c.parts → command_of_part (cs ++ c ∷ []) x ≡ length cs
+command_of_part-push_new [] c x le lt = command_of_part-here c [] x (omega arith)
+command_of_part-push_new (d ∷ cs) c x le lt =
     let n = length-append d.parts (all_parts cs) in
-    let there = command_of-there d (cs ++ c ∷ []) x (omega arith) in
-    let rest = command_of-push_new cs c (x - length d.parts) (omega arith) (omega arith) in
+    let there = command_of_part-there d (cs ++ c ∷ []) x (omega arith) in
+    let rest = command_of_part-push_new cs c (x - length d.parts) (omega arith) (omega arith) in
     omega arith
 
 pub part_at-push_old : (cs : List Command) (c : Command) (x : ℕ) → x < length (all_parts cs) → part_at (cs ++ c ∷ []) x ≡ part_at cs x
 part_at-push_old cs c x h =
     ap (λ l. slice_get l x) (all_parts-push cs c) ∙ slice_get-append_left (all_parts cs) c.parts x h
 
-pub command_of-mono : (cs : List Command) (x y : ℕ) → x ≤ y → command_of cs x ≤ command_of cs y
-command_of-mono [] x y h = omega arith
-command_of-mono (c ∷ cs) x y h =
+pub command_of_part-mono : (cs : List Command) (x y : ℕ) → x ≤ y → command_of_part cs x ≤ command_of_part cs y
+command_of_part-mono [] x y h = omega arith
+command_of_part-mono (c ∷ cs) x y h =
     ⊎_elim
-    (λ lt. let here = command_of-here c cs x lt in omega arith)
+    (λ lt. let here = command_of_part-here c cs x lt in omega arith)
     (λ le.
-    let a = command_of-there c cs x le in
-    let b = command_of-there c cs y (omega arith) in
-    let rest = command_of-mono cs (x - length c.parts) (y - length c.parts) (omega arith) in
+    let a = command_of_part-there c cs x le in
+    let b = command_of_part-there c cs y (omega arith) in
+    let rest = command_of_part-mono cs (x - length c.parts) (y - length c.parts) (omega arith) in
     omega arith)
     (cases_lt x (length c.parts))
 
-pub command_of-earlier : (cs : List Command) (x y : ℕ) → command_of cs x < command_of cs y → x < y
-command_of-earlier cs x y h =
-    ⊎_elim (λ lt. lt) (λ le. let m = command_of-mono cs y x le in absurd (omega arith)) (cases_lt x y)
+pub command_of_part-earlier : (cs : List Command) (x y : ℕ) → command_of_part cs x < command_of_part cs y → x < y
+command_of_part-earlier cs x y h =
+    ⊎_elim (λ lt. lt) (λ le. let m = command_of_part-mono cs y x le in absurd (omega arith)) (cases_lt x y)
 
 -- ---- the places of a command
 
 first_part-suc : (c : Command) (cs : List Command) (k : ℕ) → first_part (c ∷ cs) (suc k) ≡ length c.parts + first_part cs k
 first_part-suc c cs k = length-append c.parts (all_parts (take k cs))
 
-pub command_of-first : (cs : List Command) (k : ℕ) (c : Command) (i : ℕ) → slice_get cs k ≡ Some c → i < length c.parts → command_of cs (first_part cs k + i) ≡ k
-command_of-first [] k c i e lt = absurd (none-some c e)
-command_of-first (d ∷ cs) zero c i e lt =
+pub command_of_part-first : (cs : List Command) (k : ℕ) (c : Command) (i : ℕ) → slice_get cs k ≡ Some c → i < length c.parts → command_of_part cs (first_part cs k + i) ≡ k
+command_of_part-first [] k c i e lt = absurd (none-some c e)
+command_of_part-first (d ∷ cs) zero c i e lt =
     let same = ap (λ (x : Command). length x.parts) (same_Some d c e) in
-    command_of-here d cs (0 + i) (omega arith)
-command_of-first (d ∷ cs) (suc k) c i e lt =
+    command_of_part-here d cs (0 + i) (omega arith)
+command_of_part-first (d ∷ cs) (suc k) c i e lt =
     let n = first_part-suc d cs k in
-    let there = command_of-there d cs (first_part (d ∷ cs) (suc k) + i) (omega arith) in
+    let there = command_of_part-there d cs (first_part (d ∷ cs) (suc k) + i) (omega arith) in
     let at : (first_part (d ∷ cs) (suc k) + i) - length d.parts ≡ first_part cs k + i = omega arith in
-    let rest = ap (command_of cs) at ∙ command_of-first cs k c i e lt in
+    let rest = ap (command_of_part cs) at ∙ command_of_part-first cs k c i e lt in
     omega arith
 
 pub part_at-first : (cs : List Command) (k : ℕ) (c : Command) (i : ℕ) → slice_get cs k ≡ Some c → i < length c.parts → part_at cs (first_part cs k + i) ≡ slice_get c.parts i
@@ -138,16 +138,16 @@ part_at-first (d ∷ cs) (suc k) c i e lt =
 pub record IsPlaceOf (cs : List Command) (x : ℕ) : Type 0 where
   pub command : Command
   pub inside : ℕ
-  pub taken : slice_get cs (command_of cs x) ≡ Some command
+  pub taken : slice_get cs (command_of_part cs x) ≡ Some command
   pub within : inside < length command.parts
-  pub place : x ≡ first_part cs (command_of cs x) + inside
+  pub place : x ≡ first_part cs (command_of_part cs x) + inside
 
 pub place_of : (cs : List Command) (x : ℕ) → x < length (all_parts cs) → IsPlaceOf cs x
 place_of [] x h = absurd (omega arith)
 place_of (c ∷ cs) x h =
     ⊎_elim
     (λ lt.
-    let here = command_of-here c cs x lt in
+    let here = command_of_part-here c cs x lt in
     record {
       command = c;
       inside = x;
@@ -157,10 +157,10 @@ place_of (c ∷ cs) x h =
     })
     (λ le.
     let n = length-append c.parts (all_parts cs) in
-    let there = command_of-there c cs x le in
+    let there = command_of_part-there c cs x le in
     let p = place_of cs (x - length c.parts) (omega arith) in
-    let k = command_of cs (x - length c.parts) in
-    let next : command_of (c ∷ cs) x ≡ suc k = omega arith in
+    let k = command_of_part cs (x - length c.parts) in
+    let next : command_of_part (c ∷ cs) x ≡ suc k = omega arith in
     record {
       command = p.command;
       inside = p.inside;
@@ -173,7 +173,7 @@ place_of (c ∷ cs) x h =
 -- the part at a place is the one of its command
 pub part_at-place : (cs : List Command) (x : ℕ) (p : IsPlaceOf cs x) → part_at cs x ≡ slice_get p.command.parts p.inside
 part_at-place cs x p =
-    ap (part_at cs) p.place ∙ part_at-first cs (command_of cs x) p.command p.inside p.taken p.within
+    ap (part_at cs) p.place ∙ part_at-first cs (command_of_part cs x) p.command p.inside p.taken p.within
 
 pub first_part-push_old : (cs : List Command) (c : Command) (k : ℕ) → k ≤ length cs → first_part (cs ++ c ∷ []) k ≡ first_part cs k
 first_part-push_old cs c k h = ap (λ l. length (all_parts l)) (take-append-le k cs (c ∷ []) h)

@@ -5,7 +5,7 @@ use Rattle.order_model.specs.declared.part.Part.{Part}
 use Rattle.order_model.specs.declared.command.Command.{Command}
 use Rattle.order_model.specs.declared.request.Kind.{Kind}
 use Rattle.order_model.specs.declared.request.Kind.TheVariants.{Put, Flush}
-use Rattle.order_model.specs.Received.{all_parts, part_at, first_part, command_of}
+use Rattle.order_model.specs.Received.{all_parts, part_at, first_part, command_of_part}
 use Rattle.order_model.specs.Submission.{kind_block}
 use Rattle.order_model.specs.Single.{parts_for, flush_for}
 
@@ -32,5 +32,5 @@ pub record IsPartFor (took : List Command) (k block : ℕ) : Type 0 where
   pub part : Part
   pub place : part_at took (first_part took k) ≡ Some part
   pub same : part.block ≡ block
-  pub command : command_of took (first_part took k) ≡ k
+  pub command : command_of_part took (first_part took k) ≡ k
   pub within : first_part took k < length (all_parts took)

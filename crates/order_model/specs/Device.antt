@@ -10,7 +10,7 @@ use Rattle.order_model.specs.declared.command.Priority.TheVariants.{Simple, Orde
 use Rattle.order_model.specs.declared.completion.Completion.{Completion}
 use Rattle.order_model.specs.declared.completion.Completion.TheVariants.{Moved, Flushed, Failed, Cut}
 use Rattle.order_model.specs.declared.history.Transfer.{Transfer}
-use Rattle.order_model.specs.Received.{all_parts, part_at, command_of, ids_of, all_ids, IsBarrier, IsFlush}
+use Rattle.order_model.specs.Received.{all_parts, part_at, command_of_part, ids_of, all_ids, IsBarrier, IsFlush}
 
 -- what is seen of a device
 pub record Seen : Type 0 where
@@ -93,12 +93,12 @@ pub record IsSurface (s : Seen) : Type 0 where
 -- Epoch order law: if a part of one command is kept, and a barrier stands at or after an earlier command and
 -- before it, then every part of the earlier command is kept. Two parts of one block are kept in order.
 pub record KeepsEpochOrder (s : Seen) : Type 0 where
-  pub epochs : (x y b : ℕ) → x < length (all_parts s.took) → IsBarrier s.took b → command_of s.took x ≤ b → b < command_of s.took y → IsPartKept s y → IsPartKept s x
+  pub epochs : (x y b : ℕ) → x < length (all_parts s.took) → IsBarrier s.took b → command_of_part s.took x ≤ b → b < command_of_part s.took y → IsPartKept s y → IsPartKept s x
   pub blocks : (x y : ℕ) (p q : Part) → x ≤ y → part_at s.took x ≡ Some p → part_at s.took y ≡ Some q → p.block ≡ q.block → IsPartKept s y → IsPartKept s x
 
 -- Flush law: where a flush completed, every part of the commands before it is kept.
 abbrev pub KeepsFlush : Seen → Type 0
-KeepsFlush s = (k id x : ℕ) → In (Flushed id) (completed s) → IsFlush s.took k id → x < length (all_parts s.took) → command_of s.took x < k → IsPartKept s x
+KeepsFlush s = (k id x : ℕ) → In (Flushed id) (completed s) → IsFlush s.took k id → x < length (all_parts s.took) → command_of_part s.took x < k → IsPartKept s x
 
 -- the id of a completion, where it has one
 abbrev pub completion_id : Completion → Option ℕ
@@ -126,7 +126,7 @@ pub record IsUnmoved (s : Seen) (id : ℕ) : Type 0 where
   pub command : Command
   pub taken : slice_get s.took number ≡ Some command
   pub named : In id (ids_of command)
-  pub unmoved : (place : ℕ) → command_of s.took place ≡ number → IsMoved s place → ⊥
+  pub unmoved : (place : ℕ) → command_of_part s.took place ≡ number → IsMoved s place → ⊥
 
 -- Failure law: that a transfer failed is told, once it did and only then, by the ids of a command that was
 -- taken and of which no part was transferred.

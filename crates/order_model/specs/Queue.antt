@@ -1,7 +1,7 @@
 -- A queue of one thread, as contracts see it.
 use Rattle.std.specs.Prelude.{ℕ, List}
 
-pub record QueueState (T : Type 0) : Type 0 where
+pub record ListQueueState (T : Type 0) : Type 0 where
   -- the most items that it holds
   pub capacity : ℕ
   -- the items in it, first in first

@@ -21,9 +21,9 @@ abbrev pub first_part : List Command → ℕ → ℕ
 first_part took k = length (all_parts (take k took))
 
 -- the place of the command that the part belongs to
-abbrev pub command_of : List Command → ℕ → ℕ
-command_of [] place = 0
-command_of (c ∷ cs) place = if nat_lt place (length c.parts) then 0 else command_of cs (place - length c.parts) + 1
+abbrev pub command_of_part : List Command → ℕ → ℕ
+command_of_part [] place = 0
+command_of_part (c ∷ cs) place = if nat_lt place (length c.parts) then 0 else command_of_part cs (place - length c.parts) + 1
 
 -- the ids of a command: those of its parts, or the flush's
 abbrev pub ids_of : Command → List ℕ

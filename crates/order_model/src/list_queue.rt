@@ -19,9 +19,9 @@ pub struct ListQueue<T> {
 impl<T> Model for ListQueue<T> {
     ghost use Rattle.std.specs.Prelude.{◌≡◌, ◌≤◌, ◌++◌};
     ghost use Rattle.std.specs.VecDeque.{deque_len, deque_capacity};
-    ghost use Rattle.order_model.specs.Queue.{QueueState};
+    ghost use Rattle.order_model.specs.Queue.{ListQueueState};
 
-    ghost Value = { QueueState T };
+    ghost Value = { ListQueueState T };
 
     ghost view = { λ q. record { capacity = q.capacity; held = q.items.items; sent = q.sent.items; taken = q.taken.items } };
 

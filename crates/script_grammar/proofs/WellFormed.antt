@@ -32,7 +32,7 @@ use Rattle.script_grammar.specs.declared.words.PlainWord.TheVariants as plain
 use Rattle.script_grammar.specs.declared.words.Word.{Word}
 use Rattle.script_grammar.specs.declared.words.Word.TheVariants as word
 use Rattle.script_grammar.specs.Grammar.{IsRequestOf, IsRunnable, form_blocks, is_scheduled, form_of, is_built, is_ordered_class, is_barrier_class, after, count_fits, fits, taken, later_line, may_stand, needs_scheduler, stood_before, put_request, flush_request, plain_event, pick_event, with_request, with_events, new_reading, opened, form_line, built_first, first_line, read_words, read_one, read_from, ended, ended_in, script_read, script_of}
-use Rattle.script_grammar.specs.code.Readers.{Reads}
+use Rattle.script_grammar.specs.code.Readers.{IsTextReadAs}
 use Rattle.script_words.proofs.Chosen.{mapped, chained}
 use Rattle.script_words.proofs.KeptLines.{said}
 use Rattle.script_words.proofs.SaidNumbers.{hex_byte-small}
@@ -451,7 +451,7 @@ IsWellFormed-read_from ls n reading s h is =
     (λ reading done l r e is. IsReadable-read_words reading (words_of l) r e is) (λ n reading done s e is. IsWellFormed-ended n reading s e is) ls n reading [] s h is
 
 -- the reader's result
-pub IsWellFormed-from_reads : (result : Result Script ScriptError) (ls : List (List ℕ)) → Reads result (read_from 1 None ls) → IfOk result IsWellFormed
+pub IsWellFormed-from_reads : (result : Result Script ScriptError) (ls : List (List ℕ)) → IsTextReadAs result (read_from 1 None ls) → IfOk result IsWellFormed
 IsWellFormed-from_reads (Ok s) ls h = IsWellFormed-read_from ls 1 None s h tt
 IsWellFormed-from_reads (Err e) ls h = tt
 

@@ -3,7 +3,7 @@ ghost use Rattle.std.specs.Prelude.{◌≡◌, ℕ, ◌+◌, ◌^◌, ◌<◌, �
 ghost use Rattle.script_grammar.specs.Grammar.{form_blocks, is_scheduled, form_of, is_built, new_reading, opened, form_line, built_first, first_line, stands_in, needs_scheduler, may_stand, stood_before, count_fits, fits, is_ordered_class, is_barrier_class, put_request, flush_request, with_request, with_events, plain_event, pick_event, after, taken, later_line, read_words, read_line, script_read, ended, read_from, script_of};
 ghost use Rattle.script_grammar.specs.code.Rows.{request_of};
 ghost use Rattle.script_grammar.specs.WellFormed.{IsWellFormed};
-ghost use Rattle.script_grammar.specs.code.Readers.{IsReadAs, Reads};
+ghost use Rattle.script_grammar.specs.code.Readers.{IsReadAs, IsTextReadAs};
 
 use crate::kinds::ScriptKind;
 use crate::limits::{
@@ -374,7 +374,7 @@ fn read_line(
     reading: Option<Reading>,
     line: &[u8],
 ) -> Result<Option<Reading>, ScriptError>
-    ensures { Reads result (read_line number reading line.now) }
+    ensures { IsTextReadAs result (read_line number reading line.now) }
 {
     if is_skipped(line) {
         return Ok(reading);
@@ -413,7 +413,7 @@ fn script_read(reading: Reading) -> Script
 }
 
 fn ended(number: u32, reading: Option<Reading>) -> Result<Script, ScriptError>
-    ensures { Reads result (ended number reading) }
+    ensures { IsTextReadAs result (ended number reading) }
 {
     let Some(reading) = reading else {
         return Err(ScriptError::Fault(number, ScriptKind::Order));
@@ -426,7 +426,7 @@ fn ended(number: u32, reading: Option<Reading>) -> Result<Script, ScriptError>
 
 fn read_lines(alloc: Global, lines: &[&[u8]]) -> Result<Script, ScriptError>
     requires { length lines.now + 1 < 2 ^ 32 }
-    ensures { Reads result (read_from 1 None (map (λ x. x.now) lines.now)) }
+    ensures { IsTextReadAs result (read_from 1 None (map (λ x. x.now) lines.now)) }
 {
     let mut reading = None;
     let mut number = 1;

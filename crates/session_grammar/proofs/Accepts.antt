@@ -8,7 +8,7 @@ use Rattle.script_grammar.specs.declared.kinds.ScriptKind.TheVariants as kinds
 use Rattle.script_words.specs.laws.Texts.{kept_lines}
 use Rattle.session_grammar.specs.declared.limits.TheConstants.{JOURNALS, LEAST_JOURNAL, MOST_JOURNAL, MOST_NUMBERED}
 use Rattle.session_grammar.specs.declared.reading.Section.TheVariants as sections
-use Rattle.session_grammar.specs.declared.reading.Told.{Told}
+use Rattle.session_grammar.specs.declared.reading.HeaderSoFar.{HeaderSoFar}
 use Rattle.session_grammar.specs.declared.session_script.SessionHeader.{SessionHeader}
 use Rattle.session_grammar.specs.declared.session_script.SessionScript.{SessionScript}
 use Rattle.session_grammar.specs.Grammar.{are_sizes, have_geometry, new_reading, sizes_taken, opened, header_of, session_of}
@@ -48,7 +48,7 @@ volume_read inodes zones journal is =
 abbrev script_with : SessionScript → SessionHeader → SessionScript
 script_with s h = record s { header = h }
 
-body_said : (s : SessionScript) (t : Told) (events : List (List (List ℕ))) → IsWellFormed s → SayEvents s.events events → header_of t ≡ s.header
+body_said : (s : SessionScript) (t : HeaderSoFar) (events : List (List (List ℕ))) → IsWellFormed s → SayEvents s.events events → header_of t ≡ s.header
     → ReadsTo (Some (at_header s.inodes s.zones s.journal t)) (thread_lines 1 s.programs s.lines ++ ((codes "events" ∷ []) ∷ events ++ map recover_words s.recovers)) s
 body_said s t events well say same =
     let r = at_header s.inodes s.zones s.journal t in

@@ -12,7 +12,7 @@ use Rattle.script_grammar.specs.laws.Accepted.{begins, beginning, or_default}
 use Rattle.script_grammar.proofs.SaidWords.{one_text, default_text}
 use Rattle.session_grammar.specs.declared.limits.TheConstants.{DEFAULT_LIMIT, DEFAULT_SEED, MOST_SEED, MOST_SESSION}
 use Rattle.session_grammar.specs.declared.reading.Reading.{Reading}
-use Rattle.session_grammar.specs.declared.reading.Told.{Told}
+use Rattle.session_grammar.specs.declared.reading.HeaderSoFar.{HeaderSoFar}
 use Rattle.session_grammar.specs.declared.session_script.SessionHeader.{SessionHeader}
 use Rattle.session_grammar.specs.declared.session_script.SessionScript.{SessionScript}
 use Rattle.session_grammar.specs.declared.words.NumberWord.{NumberWord}
@@ -59,7 +59,7 @@ filled numbers.Cut ls = ls
 filled numbers.Seed ls = or_default (number_words (codes "seed") DEFAULT_SEED) ls
 
 -- what is told, or the default
-abbrev pub told_or_default : Told → NumberWord → Option ℕ
+abbrev pub told_or_default : HeaderSoFar → NumberWord → Option ℕ
 told_or_default t w = value_of (header_of t) w
 
 abbrev pub is_line_of : NumberWord → List (List ℕ) → Bool
@@ -70,7 +70,7 @@ lines_of_word w ls = beginning (number_name w) ls
 
 -- two words have two places, or are one
 pub record AreApart (v w : NumberWord) : Type 0 where
-  pub told : (t : Told) (n : ℕ) → told_number (with_number t w n) v ≡ told_number t v
+  pub told : (t : HeaderSoFar) (n : ℕ) → told_number (with_number t w n) v ≡ told_number t v
   pub line : (n : ℕ) → is_line_of v (number_words (number_name w) n) ≡ false
 
 pub apart : (v w : NumberWord) → AreApart v w ⊎ (v ≡ w)
@@ -100,21 +100,21 @@ apart numbers.Seed numbers.Limit = inl (record { told = λ t n. refl; line = λ 
 apart numbers.Seed numbers.Cut = inl (record { told = λ t n. refl; line = λ n. refl })
 apart numbers.Seed numbers.Seed = inr refl
 
-pub told_same : (w : NumberWord) (t : Told) (n : ℕ) → told_number (with_number t w n) w ≡ Some n
+pub told_same : (w : NumberWord) (t : HeaderSoFar) (n : ℕ) → told_number (with_number t w n) w ≡ Some n
 told_same numbers.Depth t n = refl
 told_same numbers.Queue t n = refl
 told_same numbers.Limit t n = refl
 told_same numbers.Cut t n = refl
 told_same numbers.Seed t n = refl
 
-pub elevator_kept : (w : NumberWord) (t : Told) (n : ℕ) → (with_number t w n).elevator ≡ t.elevator
+pub elevator_kept : (w : NumberWord) (t : HeaderSoFar) (n : ℕ) → (with_number t w n).elevator ≡ t.elevator
 elevator_kept numbers.Depth t n = refl
 elevator_kept numbers.Queue t n = refl
 elevator_kept numbers.Limit t n = refl
 elevator_kept numbers.Cut t n = refl
 elevator_kept numbers.Seed t n = refl
 
-pub told_beside : (w : NumberWord) (t : Told) → told_number (record t { elevator = true }) w ≡ told_number t w
+pub told_beside : (w : NumberWord) (t : HeaderSoFar) → told_number (record t { elevator = true }) w ≡ told_number t w
 told_beside numbers.Depth t = refl
 told_beside numbers.Queue t = refl
 told_beside numbers.Limit t = refl
@@ -176,13 +176,13 @@ small_number numbers.Seed n h = let most = leb-true n MOST_SEED h in omega (arit
 
 -- ---- what is left to be read
 
-abbrev LeftOf : SessionHeader → Told → List (List (List ℕ)) → NumberWord → Type 0
+abbrev LeftOf : SessionHeader → HeaderSoFar → List (List (List ℕ)) → NumberWord → Type 0
 LeftOf h t ls w =
     ((told_number t w ≡ value_of h w) × (lines_of_word w ls ≡ []))
     ⊎ ((told_number t w ≡ None) × (filled w (lines_of_word w ls) ≡ number_lines (number_name w) (value_of h w)))
 
 -- what was told and the lines that are left say the values
-record AreLeft (h : SessionHeader) (t : Told) (ls : List (List (List ℕ))) : Type 0 where
+record AreLeft (h : SessionHeader) (t : HeaderSoFar) (ls : List (List (List ℕ))) : Type 0 where
   numbers : (w : NumberWord) → LeftOf h t ls w
   elevator : elevator_lines t.elevator ++ beginning (codes "elevator") ls ≡ elevator_lines h.elevator
   known : (l : List (List ℕ)) → In l ls → is_header_line l ≡ true
@@ -204,11 +204,11 @@ next_number : (name : List ℕ) (o : Option ℕ) (l : List (List ℕ)) (ls : Lis
 next_number name None l ls h = cc
 next_number name (Some n) l ls h = let first : l ≡ number_words name n = cc in let rest : ls ≡ [] = cc in record { number = n; value = refl; line = first; none = rest }
 
-record IsTaken (h : SessionHeader) (t : Told) (w : NumberWord) (l : List (List ℕ)) (ls : List (List (List ℕ))) : Type 0 where
+record IsTaken (h : SessionHeader) (t : HeaderSoFar) (w : NumberWord) (l : List (List ℕ)) (ls : List (List (List ℕ))) : Type 0 where
   fresh : told_number t w ≡ None
   next : IsNext (number_name w) (value_of h w) l (lines_of_word w ls)
 
-taken_line : (h : SessionHeader) (t : Told) (w : NumberWord) (l : List (List ℕ)) (ls : List (List (List ℕ))) → is_line_of w l ≡ true → LeftOf h t (l ∷ ls) w → IsTaken h t w l ls
+taken_line : (h : SessionHeader) (t : HeaderSoFar) (w : NumberWord) (l : List (List ℕ)) (ls : List (List (List ℕ))) → is_line_of w l ≡ true → LeftOf h t (l ∷ ls) w → IsTaken h t w l ls
 taken_line h t w l ls e (inl done) = let none : l ∷ lines_of_word w ls ≡ [] = sym (beginning-with (number_name w) l ls e) ∙ done.1 in cc
 taken_line h t w l ls e (inr left) =
     let said : l ∷ lines_of_word w ls ≡ number_lines (number_name w) (value_of h w) =
@@ -216,18 +216,18 @@ taken_line h t w l ls e (inr left) =
     record { fresh = left.0; next = next_number (number_name w) (value_of h w) l (lines_of_word w ls) said }
 
 -- another word, to which the line says nothing
-left_beside : (h : SessionHeader) (t u : Told) (l : List (List ℕ)) (ls : List (List (List ℕ))) (v : NumberWord) → told_number u v ≡ told_number t v → is_line_of v l ≡ false → LeftOf h t (l ∷ ls) v → LeftOf h u ls v
+left_beside : (h : SessionHeader) (t u : HeaderSoFar) (l : List (List ℕ)) (ls : List (List (List ℕ))) (v : NumberWord) → told_number u v ≡ told_number t v → is_line_of v l ≡ false → LeftOf h t (l ∷ ls) v → LeftOf h u ls v
 left_beside h t u l ls v told other (inl done) = inl (told ∙ done.0, sym (beginning-without (number_name v) l ls other) ∙ done.1)
 left_beside h t u l ls v told other (inr left) = inr (told ∙ left.0, ap (filled v) (sym (beginning-without (number_name v) l ls other)) ∙ left.1)
 
-left_number : (h : SessionHeader) (t : Told) (w : NumberWord) (n : ℕ) (l : List (List ℕ)) (ls : List (List (List ℕ))) (v : NumberWord) → value_of h w ≡ Some n → l ≡ number_words (number_name w) n → lines_of_word w ls ≡ [] → LeftOf h t (l ∷ ls) v → LeftOf h (with_number t w n) ls v
+left_number : (h : SessionHeader) (t : HeaderSoFar) (w : NumberWord) (n : ℕ) (l : List (List ℕ)) (ls : List (List (List ℕ))) (v : NumberWord) → value_of h w ≡ Some n → l ≡ number_words (number_name w) n → lines_of_word w ls ≡ [] → LeftOf h t (l ∷ ls) v → LeftOf h (with_number t w n) ls v
 left_number h t w n l ls v value line none left =
     elim (apart v w) [
       | inl a ↦ left_beside h t (with_number t w n) l ls v (a.told t n) (ap (is_line_of v) line ∙ a.line n) left
       | inr e ↦ subst (λ x. LeftOf h (with_number t w n) ls x) (sym e) (inl (told_same w t n ∙ sym value, none))
     ]
 
-AreLeft-number : (h : SessionHeader) (t : Told) (w : NumberWord) (l : List (List ℕ)) (ls : List (List (List ℕ))) (is : IsTaken h t w l ls) → AreLeft h t (l ∷ ls) → AreLeft h (with_number t w is.next.number) ls
+AreLeft-number : (h : SessionHeader) (t : HeaderSoFar) (w : NumberWord) (l : List (List ℕ)) (ls : List (List (List ℕ))) (is : IsTaken h t w l ls) → AreLeft h t (l ∷ ls) → AreLeft h (with_number t w is.next.number) ls
 AreLeft-number h t w l ls is left = record {
   numbers = λ v. left_number h t w is.next.number l ls v is.next.value is.next.line is.next.none (left.numbers v);
   elevator =
@@ -250,12 +250,12 @@ next_elevator false false l ls h = cc
 next_elevator true true l ls h = cc
 next_elevator true false l ls h = cc
 
-taken_elevator : (h : SessionHeader) (t : Told) (l : List (List ℕ)) (ls : List (List (List ℕ))) → begins (codes "elevator") l ≡ true → AreLeft h t (l ∷ ls) → IsElevator t.elevator h.elevator l (beginning (codes "elevator") ls)
+taken_elevator : (h : SessionHeader) (t : HeaderSoFar) (l : List (List ℕ)) (ls : List (List (List ℕ))) → begins (codes "elevator") l ≡ true → AreLeft h t (l ∷ ls) → IsElevator t.elevator h.elevator l (beginning (codes "elevator") ls)
 taken_elevator h t l ls e left =
     next_elevator t.elevator h.elevator l (beginning (codes "elevator") ls)
     (ap (λ x. elevator_lines t.elevator ++ x) (sym (beginning-with (codes "elevator") l ls e)) ∙ left.elevator)
 
-AreLeft-elevator : (h : SessionHeader) (t : Told) (l : List (List ℕ)) (ls : List (List (List ℕ))) → IsElevator t.elevator h.elevator l (beginning (codes "elevator") ls) → AreLeft h t (l ∷ ls) → AreLeft h (record t { elevator = true }) ls
+AreLeft-elevator : (h : SessionHeader) (t : HeaderSoFar) (l : List (List ℕ)) (ls : List (List (List ℕ))) → IsElevator t.elevator h.elevator l (beginning (codes "elevator") ls) → AreLeft h t (l ∷ ls) → AreLeft h (record t { elevator = true }) ls
 AreLeft-elevator h t l ls is left = record {
   numbers = λ v. left_beside h t (record t { elevator = true }) l ls v (told_beside v t) (ap (is_line_of v) is.line ∙ no_number_line v) (left.numbers v);
   elevator = ap (λ x. elevator_line ∷ x) is.none ∙ ap elevator_lines (sym is.wanted);
@@ -278,7 +278,7 @@ pub cut_as_number : (o : Option ℕ) → cut_lines o ≡ number_lines (codes "cu
 cut_as_number None = refl
 cut_as_number (Some n) = refl
 
-ended_number : (h : SessionHeader) (t : Told) (w : NumberWord) → IsHeader h → LeftOf h t [] w → told_or_default t w ≡ value_of h w
+ended_number : (h : SessionHeader) (t : HeaderSoFar) (w : NumberWord) → IsHeader h → LeftOf h t [] w → told_or_default t w ≡ value_of h w
 ended_number h t numbers.Depth is (inl done) = ap (λ o. Some (unwrap_or o DEFAULT_DEPTH)) done.0
 ended_number h t numbers.Depth is (inr left) = ap (λ o. Some (unwrap_or o DEFAULT_DEPTH)) left.0 ∙ ap Some (one_number numbers.Depth DEFAULT_DEPTH h.depth (fits_value h numbers.Depth h.depth is refl) (lit< tt) left.1)
 ended_number h t numbers.Queue is (inl done) = ap (λ o. Some (unwrap_or o DEFAULT_QUEUE)) done.0
@@ -303,7 +303,7 @@ same_header : (depth depth' queue queue' limit limit' : ℕ) (cut cut' : Option 
     → header_with depth queue limit cut seed elevator ≡ header_with depth' queue' limit' cut' seed' elevator'
 same_header depth depth' queue queue' limit limit' cut cut' seed seed' elevator elevator' a b c d e f = cc
 
-header_told : (h : SessionHeader) (t : Told) → IsHeader h → AreLeft h t [] → header_of t ≡ h
+header_told : (h : SessionHeader) (t : HeaderSoFar) → IsHeader h → AreLeft h t [] → header_of t ≡ h
 header_told h t is left =
     let depth = same_Some (unwrap_or t.depth DEFAULT_DEPTH) h.depth (ended_number h t numbers.Depth is (left.numbers numbers.Depth)) in
     let queue = same_Some (unwrap_or t.queue DEFAULT_QUEUE) h.queue (ended_number h t numbers.Queue is (left.numbers numbers.Queue)) in
@@ -315,10 +315,10 @@ header_told h t is left =
 -- ---- the lines are read
 
 -- behind the first line and some header lines
-abbrev pub at_header : ℕ → ℕ → ℕ → Told → Reading
+abbrev pub at_header : ℕ → ℕ → ℕ → HeaderSoFar → Reading
 at_header inodes zones journal t = record (new_reading inodes zones journal) { told = t }
 
-number_read : (i z j : ℕ) (t : Told) (w : NumberWord) (n : ℕ) → number_fits w n ≡ true → told_number t w ≡ None → IsRead (Some (at_header i z j t)) (number_words (number_name w) n) (at_header i z j (with_number t w n))
+number_read : (i z j : ℕ) (t : HeaderSoFar) (w : NumberWord) (n : ℕ) → number_fits w n ≡ true → told_number t w ≡ None → IsRead (Some (at_header i z j t)) (number_words (number_name w) n) (at_header i z j (with_number t w n))
 number_read i z j t w n fits fresh =
     let r = at_header i z j t in
     let small = small_number w n fits in
@@ -327,7 +327,7 @@ number_read i z j t w n fits fresh =
     (ap (λ o. header_taken r (number_taken t w o)) (numeral-decimal n (omega (arith, small)))
     ∙ ap (λ b. header_taken r (if b then Ok (with_number t w n) else Err kinds.Number)) fits))
 
-elevator_read : (i z j : ℕ) (t : Told) → t.elevator ≡ false → IsRead (Some (at_header i z j t)) elevator_line (at_header i z j (record t { elevator = true }))
+elevator_read : (i z j : ℕ) (t : HeaderSoFar) → t.elevator ≡ false → IsRead (Some (at_header i z j t)) elevator_line (at_header i z j (record t { elevator = true }))
 elevator_read i z j t fresh =
     let r = at_header i z j t in
     IsRead-known r (codes "elevator") [] (word.Header header.Elevator) (at_header i z j (record t { elevator = true })) refl
@@ -335,10 +335,10 @@ elevator_read i z j t fresh =
 
 -- what the lines behind the header are read to
 abbrev Behind : ℕ → ℕ → ℕ → SessionHeader → List (List (List ℕ)) → SessionScript → Type 0
-Behind i z j h rest s = (t : Told) → header_of t ≡ h → ReadsTo (Some (at_header i z j t)) rest s
+Behind i z j h rest s = (t : HeaderSoFar) → header_of t ≡ h → ReadsTo (Some (at_header i z j t)) rest s
 
-at_number : (i z j : ℕ) (h : SessionHeader) (t : Told) (w : NumberWord) (l : List (List ℕ)) (ls rest : List (List (List ℕ))) (s : SessionScript) → IsHeader h → AreLeft h t (l ∷ ls) → is_line_of w l ≡ true
-    → ((u : Told) → AreLeft h u ls → ReadsTo (Some (at_header i z j u)) (ls ++ rest) s) → ReadsTo (Some (at_header i z j t)) (l ∷ ls ++ rest) s
+at_number : (i z j : ℕ) (h : SessionHeader) (t : HeaderSoFar) (w : NumberWord) (l : List (List ℕ)) (ls rest : List (List (List ℕ))) (s : SessionScript) → IsHeader h → AreLeft h t (l ∷ ls) → is_line_of w l ≡ true
+    → ((u : HeaderSoFar) → AreLeft h u ls → ReadsTo (Some (at_header i z j u)) (ls ++ rest) s) → ReadsTo (Some (at_header i z j t)) (l ∷ ls ++ rest) s
 at_number i z j h t w l ls rest s is left e behind =
     let taken = taken_line h t w l ls e (left.numbers w) in
     let n = taken.next.number in
@@ -346,8 +346,8 @@ at_number i z j h t w l ls rest s is left e behind =
     ReadsTo-line (Some (at_header i z j t)) l (at_header i z j (with_number t w n)) (ls ++ rest) s (subst (λ x. IsRead (Some (at_header i z j t)) x (at_header i z j (with_number t w n))) (sym taken.next.line) read)
     (behind (with_number t w n) (AreLeft-number h t w l ls taken left))
 
-at_elevator : (i z j : ℕ) (h : SessionHeader) (t : Told) (l : List (List ℕ)) (ls rest : List (List (List ℕ))) (s : SessionScript) → AreLeft h t (l ∷ ls) → begins (codes "elevator") l ≡ true
-    → ((u : Told) → AreLeft h u ls → ReadsTo (Some (at_header i z j u)) (ls ++ rest) s) → ReadsTo (Some (at_header i z j t)) (l ∷ ls ++ rest) s
+at_elevator : (i z j : ℕ) (h : SessionHeader) (t : HeaderSoFar) (l : List (List ℕ)) (ls rest : List (List (List ℕ))) (s : SessionScript) → AreLeft h t (l ∷ ls) → begins (codes "elevator") l ≡ true
+    → ((u : HeaderSoFar) → AreLeft h u ls → ReadsTo (Some (at_header i z j u)) (ls ++ rest) s) → ReadsTo (Some (at_header i z j t)) (l ∷ ls ++ rest) s
 at_elevator i z j h t l ls rest s left e behind =
     let taken = taken_elevator h t l ls e left in
     let u = record t { elevator = true } in
@@ -374,7 +374,7 @@ which_line l h =
       ]
     ]
 
-header_left : (hs : List (List (List ℕ))) (i z j : ℕ) (h : SessionHeader) (t : Told) (rest : List (List (List ℕ))) (s : SessionScript) → IsHeader h → AreLeft h t hs → Behind i z j h rest s → ReadsTo (Some (at_header i z j t)) (hs ++ rest) s
+header_left : (hs : List (List (List ℕ))) (i z j : ℕ) (h : SessionHeader) (t : HeaderSoFar) (rest : List (List (List ℕ))) (s : SessionScript) → IsHeader h → AreLeft h t hs → Behind i z j h rest s → ReadsTo (Some (at_header i z j t)) (hs ++ rest) s
 header_left [] i z j h t rest s is left behind = behind t (header_told h t is left)
 header_left (l ∷ hs) i z j h t rest s is left behind =
     elim (which_line l (left.known l (inl refl))) [

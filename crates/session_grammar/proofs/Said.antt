@@ -32,7 +32,7 @@ use Rattle.session_grammar.specs.declared.limits.TheConstants.{DEFAULT_LIMIT, DE
 use Rattle.session_grammar.specs.declared.reading.Reading.{Reading}
 use Rattle.session_grammar.specs.declared.reading.Section.{Section}
 use Rattle.session_grammar.specs.declared.reading.Section.TheVariants as sections
-use Rattle.session_grammar.specs.declared.reading.Told.{Told}
+use Rattle.session_grammar.specs.declared.reading.HeaderSoFar.{HeaderSoFar}
 use Rattle.session_grammar.specs.declared.session_script.SessionScript.{SessionScript}
 use Rattle.session_grammar.specs.declared.words.FirstWord.TheVariants as first
 use Rattle.session_grammar.specs.declared.words.NumberWord.{NumberWord}
@@ -54,7 +54,7 @@ use Rattle.session_grammar.proofs.WellFormed.{IsReadable, IsReadableSoFar, IsSpl
 
 -- ---- what the lines that were read say of the reading
 
-record SaysHeader (t : Told) (header : List (List (List ℕ))) : Type 0 where
+record SaysHeader (t : HeaderSoFar) (header : List (List (List ℕ))) : Type 0 where
   numbers : (w : NumberWord) → beginning (number_name w) header ≡ number_lines (number_name w) (told_number t w)
   elevators : beginning (codes "elevator") header ≡ elevator_lines t.elevator
   known : (l : List (List ℕ)) → In l header → is_header_line l ≡ true
@@ -110,7 +110,7 @@ is_none : (o : Option ℕ) → is_some o ≡ false → o ≡ None
 is_none None h = refl
 is_none (Some n) h = cc
 
-says_number : (t : Told) (header : List (List (List ℕ))) (w v : NumberWord) (n : ℕ) → told_number t w ≡ None → SaysHeader t header
+says_number : (t : HeaderSoFar) (header : List (List (List ℕ))) (w v : NumberWord) (n : ℕ) → told_number t w ≡ None → SaysHeader t header
     → beginning (number_name v) (header ++ number_words (number_name w) n ∷ []) ≡ number_lines (number_name v) (told_number (with_number t w n) v)
 says_number t header w v n none is =
     let l = number_words (number_name w) n in
@@ -125,7 +125,7 @@ says_number t header w v n none is =
           ∙ ap (number_lines (number_name w)) (sym (told_same w t n)))
     ]
 
-SaysHeader-number : (t : Told) (header : List (List (List ℕ))) (w : NumberWord) (n : ℕ) → told_number t w ≡ None → SaysHeader t header → SaysHeader (with_number t w n) (header ++ number_words (number_name w) n ∷ [])
+SaysHeader-number : (t : HeaderSoFar) (header : List (List (List ℕ))) (w : NumberWord) (n : ℕ) → told_number t w ≡ None → SaysHeader t header → SaysHeader (with_number t w n) (header ++ number_words (number_name w) n ∷ [])
 SaysHeader-number t header w n none is =
     let l = number_words (number_name w) n in
     record {
@@ -137,7 +137,7 @@ SaysHeader-number t header w n none is =
       known = each_push (λ x. is_header_line x ≡ true) header l is.known (header_line-number w n);
     }
 
-SaysHeader-elevator : (t : Told) (header : List (List (List ℕ))) → t.elevator ≡ false → SaysHeader t header → SaysHeader (record t { elevator = true }) (header ++ elevator_line ∷ [])
+SaysHeader-elevator : (t : HeaderSoFar) (header : List (List (List ℕ))) → t.elevator ≡ false → SaysHeader t header → SaysHeader (record t { elevator = true }) (header ++ elevator_line ∷ [])
 SaysHeader-elevator t header none is = record {
   numbers = λ v.
       beginning-push (number_name v) header elevator_line (number_lines (number_name v) (told_number t v)) [] (is.numbers v) (beginning-without (number_name v) elevator_line [] (no_number_line v))
@@ -174,7 +174,7 @@ nothing_behind : (r : Reading) (events : List (List (List ℕ))) → r.section �
 nothing_behind r events here none =
     ap₂ (λ (a b : List (List (List ℕ))). a ++ b) (no_thread_lines r.programs r.lines (no_thread_yet r.programs none)) (ap (λ s. tail_of s events r.recovers) here)
 
-Says-told : (r : Reading) (lines : List (List (List ℕ))) (l : List (List ℕ)) (t : Told) → r.section ≡ sections.Opening → has_threads r ≡ false → (is : Says r lines) → SaysHeader t (is.header ++ l ∷ []) → Says (record r { told = t }) (lines ++ l ∷ [])
+Says-told : (r : Reading) (lines : List (List (List ℕ))) (l : List (List ℕ)) (t : HeaderSoFar) → r.section ≡ sections.Opening → has_threads r ≡ false → (is : Says r lines) → SaysHeader t (is.header ++ l ∷ []) → Says (record r { told = t }) (lines ++ l ∷ [])
 Says-told r lines l t here none is headed = record {
   header = is.header ++ l ∷ [];
   events = is.events;
@@ -190,7 +190,7 @@ Says-told r lines l t here none is headed = record {
 number_line_said : (w u : List ℕ) (v : NumberWord) (n : ℕ) → w ≡ number_name v → numeral u ≡ Some n → number_fits v n ≡ true → w ∷ u ∷ [] ≡ number_words (number_name v) n
 number_line_said w u v n name value fits = ap₂ (λ (x y : List ℕ). x ∷ y ∷ []) name (decimal-numeral u n value (small_number v n fits))
 
-Says-number : (r : Reading) (lines : List (List (List ℕ))) (w u : List ℕ) (v : NumberWord) (o : Option ℕ) (t : Told) → w ≡ number_name v → numeral u ≡ o → number_taken r.told v o ≡ Ok t → told_number r.told v ≡ None → r.section ≡ sections.Opening → has_threads r ≡ false → Says r lines
+Says-number : (r : Reading) (lines : List (List (List ℕ))) (w u : List ℕ) (v : NumberWord) (o : Option ℕ) (t : HeaderSoFar) → w ≡ number_name v → numeral u ≡ o → number_taken r.told v o ≡ Ok t → told_number r.told v ≡ None → r.section ≡ sections.Opening → has_threads r ≡ false → Says r lines
     → Says (record r { told = t }) (lines ++ (w ∷ u ∷ []) ∷ [])
 Says-number r lines w u v None t name value h fresh here none is = cc
 Says-number r lines w u v (Some n) t name value h fresh here none is =
@@ -200,7 +200,7 @@ Says-number r lines w u v (Some n) t name value h fresh here none is =
     (subst (λ x. Says (record r { told = with_number r.told v n }) (lines ++ x ∷ [])) (sym said)
     (Says-told r lines (number_words (number_name v) n) (with_number r.told v n) here none is (SaysHeader-number r.told is.header v n fresh is.headed)))
 
-Says-header_line : (r : Reading) (lines : List (List (List ℕ))) (w : List ℕ) (v : HeaderWord) (ws : List (List ℕ)) (t : Told) → IsNamed w (word.Header v) → header_line r.told v ws ≡ Ok t → stood_before r.told (word.Header v) ≡ false → r.section ≡ sections.Opening → has_threads r ≡ false → Says r lines
+Says-header_line : (r : Reading) (lines : List (List (List ℕ))) (w : List ℕ) (v : HeaderWord) (ws : List (List ℕ)) (t : HeaderSoFar) → IsNamed w (word.Header v) → header_line r.told v ws ≡ Ok t → stood_before r.told (word.Header v) ≡ false → r.section ≡ sections.Opening → has_threads r ≡ false → Says r lines
     → Says (record r { told = t }) (lines ++ (w ∷ ws) ∷ [])
 Says-header_line r lines w (header.Number v) [] t name h new here none is = cc
 Says-header_line r lines w (header.Number v) (u ∷ []) t name h new here none is =
@@ -215,7 +215,7 @@ Says-header_line r lines w header.Elevator [] t name h new here none is =
 Says-header_line r lines w header.Elevator (u ∷ ws) t name h new here none is = cc
 Says-header_line r lines w header.Fail ws t name h new here none is = cc
 
-Says-header_taken : (r : Reading) (lines : List (List (List ℕ))) (l : List (List ℕ)) (read : Result Told ScriptKind) (next : Reading) → header_taken r read ≡ Ok next → ((t : Told) → read ≡ Ok t → Says (record r { told = t }) (lines ++ l ∷ [])) → Says next (lines ++ l ∷ [])
+Says-header_taken : (r : Reading) (lines : List (List (List ℕ))) (l : List (List ℕ)) (read : Result HeaderSoFar ScriptKind) (next : Reading) → header_taken r read ≡ Ok next → ((t : HeaderSoFar) → read ≡ Ok t → Says (record r { told = t }) (lines ++ l ∷ [])) → Says next (lines ++ l ∷ [])
 Says-header_taken r lines l (Err kind) next h of = cc
 Says-header_taken r lines l (Ok t) next h of = let e : record r { told = t } ≡ next = cc in subst (λ x. Says x (lines ++ l ∷ [])) e (of t refl)
 
@@ -537,7 +537,7 @@ filled_number : (name text : List ℕ) (d : ℕ) (o : Option ℕ) (lines : List 
 filled_number name text d None lines spelled said = ap (or_default (name ∷ text ∷ [])) said ∙ ap (λ w. (name ∷ w ∷ []) ∷ []) spelled
 filled_number name text d (Some n) lines spelled said = ap (or_default (name ∷ text ∷ [])) said
 
-IsHeaderOf-said : (t : Told) (header : List (List (List ℕ))) → SaysHeader t header → IsHeaderOf (header_of t) header
+IsHeaderOf-said : (t : HeaderSoFar) (header : List (List (List ℕ))) → SaysHeader t header → IsHeaderOf (header_of t) header
 IsHeaderOf-said t header is = record {
   depth = filled_number (codes "depth") (codes "32") DEFAULT_DEPTH t.depth (beginning (codes "depth") header) default_text (is.numbers numbers.Depth);
   queue = filled_number (codes "queue") (codes "32") DEFAULT_QUEUE t.queue (beginning (codes "queue") header) default_text (is.numbers numbers.Queue);

@@ -24,7 +24,7 @@ use Rattle.event_grammar.specs.EventLines.{event_of}
 use Rattle.event_grammar.specs.SteerLines.{steers_of}
 use Rattle.session_grammar.specs.declared.limits.TheConstants.{MOST_CALLS, MOST_RECOVERS, MOST_THREADS}
 use Rattle.session_grammar.specs.declared.reading.Reading.{Reading}
-use Rattle.session_grammar.specs.declared.reading.Told.{Told}
+use Rattle.session_grammar.specs.declared.reading.HeaderSoFar.{HeaderSoFar}
 use Rattle.session_grammar.specs.declared.words.FirstWord.TheVariants as first
 use Rattle.session_grammar.specs.declared.words.NumberWord.{NumberWord}
 use Rattle.session_grammar.specs.declared.words.HeaderWord.{HeaderWord}
@@ -131,11 +131,11 @@ built_first-built word.Recover ws h = cc
 built_first-built (word.Call w) ws h = cc
 built_first-built (word.Event w) ws h = cc
 
-number_taken-built : (t : Told) (w : NumberWord) (o : Option ℕ) → number_taken t w o ≡ Err kinds.NotBuilt → ⊥
+number_taken-built : (t : HeaderSoFar) (w : NumberWord) (o : Option ℕ) → number_taken t w o ≡ Err kinds.NotBuilt → ⊥
 number_taken-built t w None h = cc
 number_taken-built t w (Some n) h = one_of_two (number_fits w n) (with_number t w n) kinds.Number (λ e. cc) h
 
-header_line-built : (t : Told) (w : HeaderWord) (ws : List (List ℕ)) → header_line t w ws ≡ Err kinds.NotBuilt → ⊥
+header_line-built : (t : HeaderSoFar) (w : HeaderWord) (ws : List (List ℕ)) → header_line t w ws ≡ Err kinds.NotBuilt → ⊥
 header_line-built t (header.Number w) [] h = cc
 header_line-built t (header.Number w) (n ∷ []) h = number_taken-built t w (numeral n) h
 header_line-built t (header.Number w) (n ∷ m ∷ ws) h = cc
@@ -143,7 +143,7 @@ header_line-built t header.Elevator [] h = cc
 header_line-built t header.Elevator (w ∷ ws) h = cc
 header_line-built t header.Fail ws h = cc
 
-header_taken-built : (r : Reading) (read : Result Told ScriptKind) → (read ≡ Err kinds.NotBuilt → ⊥) → header_taken r read ≡ Err kinds.NotBuilt → ⊥
+header_taken-built : (r : Reading) (read : Result HeaderSoFar ScriptKind) → (read ≡ Err kinds.NotBuilt → ⊥) → header_taken r read ≡ Err kinds.NotBuilt → ⊥
 header_taken-built r (Ok t) other h = cc
 header_taken-built r (Err kind) other h = let e : kind ≡ kinds.NotBuilt = cc in other (ap Err e)
 

@@ -13,7 +13,7 @@ use Rattle.script_words.proofs.KeptLines.{said}
 use Rattle.script_grammar.specs.declared.limits.TheConstants.{MOST_DEPTH, MOST_QUEUE, MOST_STEPS}
 use Rattle.script_grammar.specs.declared.kinds.ScriptKind.{ScriptKind}
 use Rattle.script_grammar.specs.declared.script_error.ScriptError.{ScriptError}
-use Rattle.script_grammar.specs.code.Readers.{Reads}
+use Rattle.script_grammar.specs.code.Readers.{IsTextReadAs}
 use Rattle.script_grammar.proofs.WellFormed.{ok_behind, ok_past, ok_beside}
 use Rattle.call_grammar.specs.declared.words.CallWord.{CallWord}
 use Rattle.call_grammar.specs.CallLines.{call_of}
@@ -35,7 +35,7 @@ use Rattle.session_grammar.specs.declared.limits.TheConstants.{JOURNALS, LEAST_J
 use Rattle.session_grammar.specs.declared.reading.Reading.{Reading}
 use Rattle.session_grammar.specs.declared.reading.Section.{Section}
 use Rattle.session_grammar.specs.declared.reading.Section.TheVariants as sections
-use Rattle.session_grammar.specs.declared.reading.Told.{Told}
+use Rattle.session_grammar.specs.declared.reading.HeaderSoFar.{HeaderSoFar}
 use Rattle.session_grammar.specs.declared.session_script.SessionScript.{SessionScript}
 use Rattle.session_grammar.specs.declared.words.FirstWord.TheVariants as first
 use Rattle.session_grammar.specs.declared.words.NumberWord.{NumberWord}
@@ -100,7 +100,7 @@ event_stands sections.Recovery threads w h = cc
 
 -- ---- header lines
 
-IsHeader-number : (t : Told) (w : NumberWord) (n : ℕ) → number_fits w n ≡ true → IsHeader (header_of t) → IsHeader (header_of (with_number t w n))
+IsHeader-number : (t : HeaderSoFar) (w : NumberWord) (n : ℕ) → number_fits w n ≡ true → IsHeader (header_of t) → IsHeader (header_of (with_number t w n))
 IsHeader-number t numbers.Depth n h is =
     let p = and_parts (nat_le 1 n) (nat_le n MOST_DEPTH) h in
     record { some_depth = leb-true 1 n p.0; depth = leb-true n MOST_DEPTH p.1; some_queue = is.some_queue; queue = is.queue; some_limit = is.some_limit; limit = is.limit; cut = is.cut; seed = is.seed }
@@ -116,16 +116,16 @@ IsHeader-number t numbers.Cut n h is =
 IsHeader-number t numbers.Seed n h is =
     record { some_depth = is.some_depth; depth = is.depth; some_queue = is.some_queue; queue = is.queue; some_limit = is.some_limit; limit = is.limit; cut = is.cut; seed = leb-true n MOST_SEED h }
 
-IsHeader-taken : (t : Told) (w : NumberWord) (o : Option ℕ) (next : Told) → number_taken t w o ≡ Ok next → IsHeader (header_of t) → IsHeader (header_of next)
+IsHeader-taken : (t : HeaderSoFar) (w : NumberWord) (o : Option ℕ) (next : HeaderSoFar) → number_taken t w o ≡ Ok next → IsHeader (header_of t) → IsHeader (header_of next)
 IsHeader-taken t w None next h is = cc
 IsHeader-taken t w (Some n) next h is =
     let p = ok_behind (number_fits w n) (with_number t w n) next _ h in
     subst (λ x. IsHeader (header_of x)) p.1 (IsHeader-number t w n p.0 is)
 
-IsHeader-elevator : (t : Told) → IsHeader (header_of t) → IsHeader (header_of (record t { elevator = true }))
+IsHeader-elevator : (t : HeaderSoFar) → IsHeader (header_of t) → IsHeader (header_of (record t { elevator = true }))
 IsHeader-elevator t is = record { some_depth = is.some_depth; depth = is.depth; some_queue = is.some_queue; queue = is.queue; some_limit = is.some_limit; limit = is.limit; cut = is.cut; seed = is.seed }
 
-IsHeader-line : (t : Told) (w : HeaderWord) (ws : List (List ℕ)) (next : Told) → header_line t w ws ≡ Ok next → IsHeader (header_of t) → IsHeader (header_of next)
+IsHeader-line : (t : HeaderSoFar) (w : HeaderWord) (ws : List (List ℕ)) (next : HeaderSoFar) → header_line t w ws ≡ Ok next → IsHeader (header_of t) → IsHeader (header_of next)
 IsHeader-line t (header.Number w) [] next h is = cc
 IsHeader-line t (header.Number w) (n ∷ []) next h is = IsHeader-taken t w (numeral n) next h is
 IsHeader-line t (header.Number w) (n ∷ m ∷ ws) next h is = cc
@@ -135,7 +135,7 @@ IsHeader-line t header.Elevator [] next h is =
 IsHeader-line t header.Elevator (w ∷ ws) next h is = cc
 IsHeader-line t header.Fail ws next h is = cc
 
-IsReadable-header : (r : Reading) (read : Result Told ScriptKind) (next : Reading) → header_taken r read ≡ Ok next → ((t : Told) → read ≡ Ok t → IsHeader (header_of t)) → IsReadable r → IsReadable next
+IsReadable-header : (r : Reading) (read : Result HeaderSoFar ScriptKind) (next : Reading) → header_taken r read ≡ Ok next → ((t : HeaderSoFar) → read ≡ Ok t → IsHeader (header_of t)) → IsReadable r → IsReadable next
 IsReadable-header r (Err kind) next h of is = cc
 IsReadable-header r (Ok t) next h of is =
     let e : record r { told = t } ≡ next = cc in
@@ -434,7 +434,7 @@ IsWellFormed-read_from ls n reading s h is =
     (λ reading done l r e is. IsReadable-read_words reading l (words_of l) r refl e is) (λ n reading done s e is. IsWellFormed-ended n reading s e is) ls n reading [] s h is
 
 -- the reader's result
-pub IsWellFormed-from_reads : (result : Result SessionScript ScriptError) (ls : List (List ℕ)) → Reads result (read_from 1 None ls) → IfOk result IsWellFormed
+pub IsWellFormed-from_reads : (result : Result SessionScript ScriptError) (ls : List (List ℕ)) → IsTextReadAs result (read_from 1 None ls) → IfOk result IsWellFormed
 IsWellFormed-from_reads (Ok s) ls h = IsWellFormed-read_from ls 1 None s h tt
 IsWellFormed-from_reads (Err e) ls h = tt
 

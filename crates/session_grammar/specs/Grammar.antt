@@ -29,7 +29,7 @@ use Rattle.session_grammar.specs.declared.limits.TheConstants.{DEFAULT_LIMIT, DE
 use Rattle.session_grammar.specs.declared.reading.Reading.{Reading}
 use Rattle.session_grammar.specs.declared.reading.Section.{Section}
 use Rattle.session_grammar.specs.declared.reading.Section.TheVariants as sections
-use Rattle.session_grammar.specs.declared.reading.Told.{Told}
+use Rattle.session_grammar.specs.declared.reading.HeaderSoFar.{HeaderSoFar}
 use Rattle.session_grammar.specs.declared.session_script.SessionHeader.{SessionHeader}
 use Rattle.session_grammar.specs.declared.session_script.SessionScript.{SessionScript}
 use Rattle.session_grammar.specs.declared.words.FirstWord.TheVariants as first
@@ -64,7 +64,7 @@ abbrev pub have_geometry : ℕ → ℕ → ℕ → Bool
 have_geometry inodes zones journal =
     nat_lt (first_zone inodes zones) zones && (nat_le LEAST_JOURNAL journal && nat_le journal MOST_JOURNAL)
 
-abbrev pub none_told : Told
+abbrev pub none_told : HeaderSoFar
 none_told = record { depth = None; queue = None; limit = None; cut = None; seed = None; elevator = false }
 
 abbrev pub new_reading : ℕ → ℕ → ℕ → Reading
@@ -128,7 +128,7 @@ abbrev pub may_stand : Reading → Word → Bool
 may_stand r w = stands_in r.section (has_threads r) w
 
 -- what a header line with a number said
-abbrev pub told_number : Told → NumberWord → Option ℕ
+abbrev pub told_number : HeaderSoFar → NumberWord → Option ℕ
 told_number t numbers.Depth = t.depth
 told_number t numbers.Queue = t.queue
 told_number t numbers.Limit = t.limit
@@ -136,7 +136,7 @@ told_number t numbers.Cut = t.cut
 told_number t numbers.Seed = t.seed
 
 -- the header line stood before
-abbrev pub stood_before : Told → Word → Bool
+abbrev pub stood_before : HeaderSoFar → Word → Bool
 stood_before t (word.Header (header.Number w)) = is_some (told_number t w)
 stood_before t (word.Header header.Elevator) = t.elevator
 stood_before t w = false
@@ -150,23 +150,23 @@ number_fits numbers.Limit n = nat_le 1 n && nat_le n MOST_SESSION
 number_fits numbers.Cut n = nat_le n MOST_STEPS
 number_fits numbers.Seed n = nat_le n MOST_SEED
 
-abbrev pub with_number : Told → NumberWord → ℕ → Told
+abbrev pub with_number : HeaderSoFar → NumberWord → ℕ → HeaderSoFar
 with_number t numbers.Depth n = record t { depth = Some n }
 with_number t numbers.Queue n = record t { queue = Some n }
 with_number t numbers.Limit n = record t { limit = Some n }
 with_number t numbers.Cut n = record t { cut = Some n }
 with_number t numbers.Seed n = record t { seed = Some n }
 
-abbrev pub number_taken : Told → NumberWord → Option ℕ → Result Told ScriptKind
+abbrev pub number_taken : HeaderSoFar → NumberWord → Option ℕ → Result HeaderSoFar ScriptKind
 number_taken t w None = Err kinds.Word
 number_taken t w (Some n) = if number_fits w n then Ok (with_number t w n) else Err kinds.Number
 
-abbrev pub header_line : Told → HeaderWord → List (List ℕ) → Result Told ScriptKind
+abbrev pub header_line : HeaderSoFar → HeaderWord → List (List ℕ) → Result HeaderSoFar ScriptKind
 header_line t (header.Number w) (n ∷ []) = number_taken t w (numeral n)
 header_line t header.Elevator [] = Ok (record t { elevator = true })
 header_line t w ws = Err kinds.Word
 
-abbrev pub header_taken : Reading → Result Told ScriptKind → Result Reading ScriptKind
+abbrev pub header_taken : Reading → Result HeaderSoFar ScriptKind → Result Reading ScriptKind
 header_taken r (Ok t) = Ok (record r { told = t })
 header_taken r (Err kind) = Err kind
 
@@ -284,7 +284,7 @@ read_one reading l = read_words reading l (words_of l)
 abbrev pub read_line : ℕ → Option Reading → List ℕ → Result (Option Reading) (ℕ × ScriptKind)
 read_line n reading l = line_read read_one n reading l
 
-abbrev pub header_of : Told → SessionHeader
+abbrev pub header_of : HeaderSoFar → SessionHeader
 header_of t = record { depth = unwrap_or t.depth DEFAULT_DEPTH; queue = unwrap_or t.queue DEFAULT_QUEUE; limit = unwrap_or t.limit DEFAULT_LIMIT; cut = t.cut; seed = unwrap_or t.seed DEFAULT_SEED; elevator = t.elevator }
 
 abbrev pub script_read : Reading → SessionScript

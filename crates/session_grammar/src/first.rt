@@ -3,7 +3,7 @@ ghost use Rattle.std.specs.Prelude.{◌≡◌, ◌≢◌, map};
 ghost use Rattle.session_grammar.specs.Grammar.{is_built, are_sizes, have_geometry, none_told, new_reading, opened, sizes_taken, journal_line, zones_line, volume_line, built_first, first_line};
 
 use crate::limits::{JOURNALS, LEAST_JOURNAL, MOST_JOURNAL, MOST_NUMBERED};
-use crate::reading::{Reading, Section, Told};
+use crate::reading::{HeaderSoFar, Reading, Section};
 use crate::words::{FirstWord, HeaderWord, Word};
 use call_grammar::{CallWord, LineList, PairWord, Programs};
 use event_grammar::{Events, SteerList};
@@ -40,10 +40,10 @@ fn have_geometry(inodes: u16, zones: u16, journal: u32) -> bool
     Geometry::make(inodes, zones).is_ok() && journal >= LEAST_JOURNAL && journal <= MOST_JOURNAL
 }
 
-fn none_told() -> Told
+fn none_told() -> HeaderSoFar
     ensures { result ≡ none_told }
 {
-    Told {
+    HeaderSoFar {
         depth: None,
         queue: None,
         limit: None,

@@ -1,6 +1,6 @@
 //! Reads volume scripts, line by line.
 ghost use Rattle.std.specs.Prelude.{◌≡◌, ℕ, ◌+◌, ◌^◌, ◌<◌, ◌≤◌, true, None, map, length, IfOk, unwrap_or};
-ghost use Rattle.script_grammar.specs.code.Readers.{IsReadAs, Reads};
+ghost use Rattle.script_grammar.specs.code.Readers.{IsReadAs, IsTextReadAs};
 ghost use Rattle.session_grammar.specs.Grammar.{is_submit, stands_in, has_threads, may_stand, stood_before, line_taken, later_line, is_behind_events, read_words, read_line, header_of, script_read, ended, read_from, session_of};
 ghost use Rattle.session_grammar.specs.WellFormed.{IsWellFormed};
 
@@ -8,7 +8,7 @@ use crate::body::{call_taken, event_taken, events_line, recover_taken, thread_li
 use crate::first::{first_line, is_built};
 use crate::header::{header_taken, is_told};
 use crate::limits::{DEFAULT_LIMIT, DEFAULT_SEED};
-use crate::reading::{Reading, Section, Told};
+use crate::reading::{HeaderSoFar, Reading, Section};
 use crate::session_script::{SessionHeader, SessionScript};
 use crate::word_table::read_word;
 use crate::words::{HeaderWord, Word};
@@ -58,7 +58,7 @@ fn may_stand(reading: &Reading, word: Word) -> bool
     stands_in(reading.section, reading.programs.len() > 0, word)
 }
 
-fn stood_before(told: Told, word: Word) -> bool
+fn stood_before(told: HeaderSoFar, word: Word) -> bool
     ensures { result ≡ stood_before told word }
 {
     match word {
@@ -157,7 +157,7 @@ fn read_line(
     reading: Option<Reading>,
     line: &[u8],
 ) -> Result<Option<Reading>, ScriptError>
-    ensures { Reads result (read_line number reading line.now) }
+    ensures { IsTextReadAs result (read_line number reading line.now) }
 {
     if is_skipped(line) {
         return Ok(reading);
@@ -169,7 +169,7 @@ fn read_line(
     }
 }
 
-fn header_of(told: Told) -> SessionHeader
+fn header_of(told: HeaderSoFar) -> SessionHeader
     ensures { result ≡ header_of told }
 {
     SessionHeader {
@@ -209,7 +209,7 @@ fn script_read(reading: Reading) -> SessionScript
 }
 
 fn ended(number: u32, reading: Option<Reading>) -> Result<SessionScript, ScriptError>
-    ensures { Reads result (ended number reading) }
+    ensures { IsTextReadAs result (ended number reading) }
 {
     let Some(reading) = reading else {
         return Err(ScriptError::Fault(number, ScriptKind::Order));
@@ -222,7 +222,7 @@ fn ended(number: u32, reading: Option<Reading>) -> Result<SessionScript, ScriptE
 
 fn read_lines(alloc: Global, lines: &[&[u8]]) -> Result<SessionScript, ScriptError>
     requires { length lines.now + 1 < 2 ^ 32 }
-    ensures { Reads result (read_from 1 None (map (λ x. x.now) lines.now)) }
+    ensures { IsTextReadAs result (read_from 1 None (map (λ x. x.now) lines.now)) }
 {
     let mut reading = None;
     let mut number = 1;

@@ -3,13 +3,13 @@ ghost use Rattle.std.specs.Prelude.{◌≡◌, true, map, is_some};
 ghost use Rattle.session_grammar.specs.Grammar.{told_number, number_fits, with_number, number_taken, header_line, header_taken};
 
 use crate::limits::{MOST_SEED, MOST_SESSION};
-use crate::reading::{Reading, Told};
+use crate::reading::{HeaderSoFar, Reading};
 use crate::words::{HeaderWord, NumberWord};
 use script_grammar::{MOST_DEPTH, MOST_QUEUE, MOST_STEPS, ScriptKind};
 use script_words::numeral;
 
 /// The header line with this word stood before.
-pub fn is_told(told: Told, word: NumberWord) -> bool
+pub fn is_told(told: HeaderSoFar, word: NumberWord) -> bool
     ensures { result ≡ is_some (told_number told word) }
 {
     match word {
@@ -33,7 +33,7 @@ fn number_fits(word: NumberWord, number: u64) -> bool
     }
 }
 
-fn with_number(told: Told, word: NumberWord, number: u64) -> Told
+fn with_number(told: HeaderSoFar, word: NumberWord, number: u64) -> HeaderSoFar
     requires { number_fits word number ≡ true }
     ensures { result ≡ with_number told word number }
 {
@@ -48,7 +48,11 @@ fn with_number(told: Told, word: NumberWord, number: u64) -> Told
     told
 }
 
-fn number_taken(told: Told, word: NumberWord, number: Option<u64>) -> Result<Told, ScriptKind>
+fn number_taken(
+    told: HeaderSoFar,
+    word: NumberWord,
+    number: Option<u64>,
+) -> Result<HeaderSoFar, ScriptKind>
     ensures { result ≡ number_taken told word number }
 {
     let Some(number) = number else {
@@ -60,12 +64,16 @@ fn number_taken(told: Told, word: NumberWord, number: Option<u64>) -> Result<Tol
     Ok(with_number(told, word, number))
 }
 
-fn header_line(told: Told, word: HeaderWord, words: &[&[u8]]) -> Result<Told, ScriptKind>
+fn header_line(
+    told: HeaderSoFar,
+    word: HeaderWord,
+    words: &[&[u8]],
+) -> Result<HeaderSoFar, ScriptKind>
     ensures { result ≡ header_line told word (map (λ x. x.now) words.now) }
 {
     match (word, words) {
         (HeaderWord::Number(word), [number]) => number_taken(told, word, numeral(number)),
-        (HeaderWord::Elevator, []) => Ok(Told {
+        (HeaderWord::Elevator, []) => Ok(HeaderSoFar {
             elevator: true,
             ..told
         }),

@@ -13,7 +13,7 @@ pub enum Section {
 
 /// What the header lines said so far.
 #[derive(Clone, Copy, PartialEq, Eq, Debug)]
-pub struct Told {
+pub struct HeaderSoFar {
     pub depth: Option<u32>,
     pub queue: Option<u32>,
     pub limit: Option<u64>,
@@ -29,7 +29,7 @@ pub struct Reading {
     pub inodes: u16,
     pub zones: u16,
     pub journal: u32,
-    pub told: Told,
+    pub told: HeaderSoFar,
     pub section: Section,
     pub programs: Programs,
     pub lines: LineList,

@@ -57,7 +57,7 @@ use Rattle.host_volume.specs.Sessions.{Opening, over, Stands}
 use Rattle.host_volume.proofs.RealJournal.{no_header}
 use Rattle.host_volume.proofs.SessionsKept.{session_kept}
 use Rattle.mount_make.specs.declared.fault.ImageFault.TheVariants.{BadGeometry}
-use Rattle.mount_make.specs.Images.{Told, by_super as divided_by, divided, has_journal, fault_in_journal, recovered_from, volume_in, mounted, recovered_by, recovered_image, tree_after, image_tree}
+use Rattle.mount_make.specs.Images.{FaultPlace, by_super as divided_by, divided, has_journal, fault_in_journal, recovered_from, volume_in, mounted, recovered_by, recovered_image, tree_after, image_tree}
 use Rattle.mount_make.specs.Made.{new_journal, made_volume, made_image}
 use Rattle.mount_make.specs.laws.ImageLaws.{image_has_tree}
 use Rattle.mount_make.specs.laws.Recovering.{is_super, has_super, emptied-at, found_fine, found_recovered}
@@ -76,7 +76,7 @@ same_whole old new size (Err fault) = refl
 same_divided : (old new : List (List ℕ)) → length new ≡ length old → disk_of new 1 ≡ disk_of old 1 → divided new ≡ divided old
 unfolding divided
 same_divided old new size one =
-    rw size (ap (λ (r : Result Geometry Told). if nat_lt (length old) 2 then Err (BadGeometry, length old) else r) (ap (λ (b : List ℕ). divided_by new (volume_super b)) one ∙ same_whole old new size (volume_super (disk_of old 1))))
+    rw size (ap (λ (r : Result Geometry FaultPlace). if nat_lt (length old) 2 then Err (BadGeometry, length old) else r) (ap (λ (b : List ℕ). divided_by new (volume_super b)) one ∙ same_whole old new size (volume_super (disk_of old 1))))
 
 blank_magic : magic_of (filled 0) ≢ 0xC03B3998
 unfolding filled number_at number_of
@@ -370,7 +370,7 @@ module _ (g : Geometry) (sound : IsSound g) (journal : ℕ) (low : 128 ≤ journ
       pub tree_like : HasTreeLike o (volume_in g m.image) (tree_after_transactions o h (found sess m))
       tree_like = session_keeps.trees m (volume_in g m.image) closed volume_recovered
 
-      mounted_by : (tree : List (ℕ × Node)) (r : Result VolumeState Told) → tree_after r ≡ Ok tree → (v : VolumeState) × (r ≡ Ok v)
+      mounted_by : (tree : List (ℕ × Node)) (r : Result VolumeState FaultPlace) → tree_after r ≡ Ok tree → (v : VolumeState) × (r ≡ Ok v)
       mounted_by tree (Ok v) e = (v, refl)
       mounted_by tree (Err told) e = absurd (err-ok told tree e)
 

@@ -15,14 +15,14 @@ use Rattle.host_runs.specs.Runs.{Event}
 use Rattle.mount_make.specs.declared.fault.ImageFault.{ImageFault}
 use Rattle.mount_make.specs.declared.fault.MountFault.{MountFault}
 use Rattle.mount_make.specs.declared.fault.MountFault.TheVariants as mount
-use Rattle.mount_make.specs.Images.{Told, image_fault, divided, mounted, tree_after, image_tree, IsTold}
+use Rattle.mount_make.specs.Images.{FaultPlace, image_fault, divided, mounted, tree_after, image_tree, IsTold}
 use Rattle.mount_make.specs.Made.{made_image}
 use Rattle.session_images.specs.SessionImages.{Start, HasSizes, IsCutOf, kept_tree}
 use Rattle.session_images.proofs.SessionLaws.{mounts, shows_a_prefix}
 
 -- a fault of the walk, as one of its image
 tree_in : (r : Result (List (ℕ × Node)) Fault) (tree : List (ℕ × Node))
-    → elim r as (λ _. Result (List (ℕ × Node)) Told) [ Ok tree ↦ Ok tree | Err fault ↦ Err (image_fault fault.0, fault.1) ] ≡ Ok tree → r ≡ Ok tree
+    → elim r as (λ _. Result (List (ℕ × Node)) FaultPlace) [ Ok tree ↦ Ok tree | Err fault ↦ Err (image_fault fault.0, fault.1) ] ≡ Ok tree → r ≡ Ok tree
 tree_in (Ok t) tree e = ap Ok (same_Ok t tree e)
 tree_in (Err fault) tree e = absurd (err-ok _ tree e)
 

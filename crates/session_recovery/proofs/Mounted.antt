@@ -22,7 +22,7 @@ use Rattle.volume_ops.specs.Zones.{Fault}
 use Rattle.volume_ops.specs.Volume.{VolumeState, disk_of, walked}
 use Rattle.mount_make.specs.declared.fault.ImageFault.TheVariants as image_faults
 use Rattle.mount_make.specs.laws.Recovering.{journal_after}
-use Rattle.mount_make.specs.Images.{Told, by_super, divided, has_journal, as_told, fault_in_journal, recovered_from, volume_in, by_walk, by_journal, by_geometry, mounted, recovered_by, recovered_image, journal_at}
+use Rattle.mount_make.specs.Images.{FaultPlace, by_super, divided, has_journal, as_told, fault_in_journal, recovered_from, volume_in, by_walk, by_journal, by_geometry, mounted, recovered_by, recovered_image, journal_at}
 use Rattle.session_recovery.specs.Found.{words_from, found_by, found_in}
 use Rattle.session_recovery.specs.code.Left.{IsLeft}
 
@@ -32,7 +32,7 @@ walk_by : (g : Geometry) (volume : List (List ℕ)) (v : VolumeState) (r : Resul
 walk_by g volume v (Ok found) e = let same : ◌≡◌ {A = VolumeState} (record { geometry = g; blocks = volume }) v = cc in ap (λ (x : VolumeState). x.geometry) same
 walk_by g volume v (Err fault) e = absurd (cc)
 
-journal_by : (g : Geometry) (image : List (List ℕ)) (v : VolumeState) (o : Option Told) → by_journal g image o ≡ Ok v → (o ≡ None) × (g ≡ v.geometry)
+journal_by : (g : Geometry) (image : List (List ℕ)) (v : VolumeState) (o : Option FaultPlace) → by_journal g image o ≡ Ok v → (o ≡ None) × (g ≡ v.geometry)
 journal_by g image v None e = (refl, walk_by g (volume_in g image) v (walked g (volume_in g image)) e)
 journal_by g image v (Some told) e = absurd (cc)
 
@@ -41,7 +41,7 @@ pub record IsMountable (image : List (List ℕ)) (g : Geometry) : Type 0 where
   pub is_divided : divided image ≡ Ok g
   pub fine : fault_in_journal g.zones image ≡ None
 
-mountable_by : (image : List (List ℕ)) (v : VolumeState) (r : Result Geometry Told) → divided image ≡ r → by_geometry image r ≡ Ok v → IsMountable image v.geometry
+mountable_by : (image : List (List ℕ)) (v : VolumeState) (r : Result Geometry FaultPlace) → divided image ≡ r → by_geometry image r ≡ Ok v → IsMountable image v.geometry
 mountable_by image v (Ok g) is e =
     let parts = journal_by g image v (fault_in_journal g.zones image) e in
     subst (IsMountable image) parts.1 (record { is_divided = is; fine = parts.0 })
@@ -51,7 +51,7 @@ pub mountable : (image : List (List ℕ)) (v : VolumeState) → mounted image �
 mountable image v e = mountable_by image v (divided image) refl e
 
 pub zones_are : (image : List (List ℕ)) (g : Geometry) (base : ℕ) → divided image ≡ Ok g → IfOk (divided image) (λ (h : Geometry). h.zones ≡ base) → g.zones ≡ base
-zones_are image g base is same = subst (λ (r : Result Geometry Told). IfOk r (λ (h : Geometry). h.zones ≡ base)) is same
+zones_are image g base is same = subst (λ (r : Result Geometry FaultPlace). IfOk r (λ (h : Geometry). h.zones ≡ base)) is same
 
 -- ---- its journal
 
@@ -63,7 +63,7 @@ pub journal_fine : (base : ℕ) (image : List (List ℕ)) → has_journal base i
 journal_fine base image has fine =
     none_by (journal_fault base image) (sym (ap (λ (b : Bool). if b then option_map as_told (journal_fault base image) else None) has) ∙ fine)
 
-journal_fine_by : (has : Bool) (o : Option (JournalFault × ℕ)) → o ≡ None → ◌≡◌ {A = Option Told} (if has then option_map as_told o else None) None
+journal_fine_by : (has : Bool) (o : Option (JournalFault × ℕ)) → o ≡ None → ◌≡◌ {A = Option FaultPlace} (if has then option_map as_told o else None) None
 journal_fine_by true o e = ap (option_map as_told) e
 journal_fine_by false o e = refl
 
@@ -72,11 +72,11 @@ journal_within base image has = ltb-true base (length image) (and_parts (nat_lt 
 
 -- ---- its volume
 
-whole_by : (h g : Geometry) (few : Bool) (fault : Told) → ◌≡◌ {A = Result Geometry Told} (if few then Err fault else Ok h) (Ok g) → ◌≡◌ {A = Result Geometry LayoutFault} (Ok h) (Ok g)
+whole_by : (h g : Geometry) (few : Bool) (fault : FaultPlace) → ◌≡◌ {A = Result Geometry FaultPlace} (if few then Err fault else Ok h) (Ok g) → ◌≡◌ {A = Result Geometry LayoutFault} (Ok h) (Ok g)
 whole_by h g true fault e = absurd (cc)
 whole_by h g false fault e = let same : h ≡ g = cc in ap Ok same
 
-said_by : (image : List (List ℕ)) (g : Geometry) (few : Bool) (fault : Told) (r : Result Geometry LayoutFault) → (if few then Err fault else by_super image r) ≡ Ok g → r ≡ Ok g
+said_by : (image : List (List ℕ)) (g : Geometry) (few : Bool) (fault : FaultPlace) (r : Result Geometry LayoutFault) → (if few then Err fault else by_super image r) ≡ Ok g → r ≡ Ok g
 said_by image g true fault r e = absurd (cc)
 said_by image g false fault (Ok h) e = whole_by h g (nat_lt (length image) h.zones) _ e
 said_by image g false fault (Err f) e = absurd (cc)
@@ -178,7 +178,7 @@ counted_as base first image s n read none some =
     counted_by false is = some (λ h. true≢false (sym (subst (λ (k : ℕ). (k == 0) ≡ true) (sym h) refl) ∙ is))
 
 pub volume_is : (image : List (List ℕ)) (v w : VolumeState) → mounted image ≡ Ok v → mounted image ≡ Ok w → w.geometry.zones ≡ v.geometry.zones
-volume_is image v w first second = let same : ◌≡◌ {A = Result VolumeState Told} (Ok v) (Ok w) = sym first ∙ second in same_zones same
+volume_is image v w first second = let same : ◌≡◌ {A = Result VolumeState FaultPlace} (Ok v) (Ok w) = sym first ∙ second in same_zones same
   where
-    same_zones : ◌≡◌ {A = Result VolumeState Told} (Ok v) (Ok w) → w.geometry.zones ≡ v.geometry.zones
+    same_zones : ◌≡◌ {A = Result VolumeState FaultPlace} (Ok v) (Ok w) → w.geometry.zones ≡ v.geometry.zones
     same_zones e = let eq : w ≡ v = cc in ap (λ (x : VolumeState). x.geometry.zones) eq

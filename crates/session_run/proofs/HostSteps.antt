@@ -6,7 +6,7 @@ use Rattle.order_model.specs.declared.completion.Completion.{Completion}
 use Rattle.order_model.specs.declared.request.Request.{Request}
 use Rattle.order_model.specs.declared.turn.Turn.TheVariants as turns
 use Rattle.order_model.specs.declared.turn.Turn.{Turn}
-use Rattle.order_model.specs.Queue.{QueueState}
+use Rattle.order_model.specs.Queue.{ListQueueState}
 use Rattle.flush_actor.specs.Part.{at_limit}
 use Rattle.flush_actor.specs.Outcomes.{is_queue_full, sent_between, first_since}
 use Rattle.flush_actor.specs.Steps.{flush_due, take_completion, submit_flush}
@@ -26,13 +26,13 @@ same_behind : {X : Type 0} (taken held more : List X) → taken ++ held ≡ take
 same_behind taken held more e = sym (drop_at taken held (length taken) refl) ∙ ap (drop (length taken)) e ∙ drop_at taken more (length taken) refl
 
 -- more was sent, and nothing was taken
-pub held_more : {X : Type 0} (q new : QueueState X) (more : List X) → q.sent ≡ q.taken ++ q.held → new.sent ≡ new.taken ++ new.held → new.taken ≡ q.taken → new.sent ≡ q.sent ++ more → new.held ≡ q.held ++ more
+pub held_more : {X : Type 0} (q new : ListQueueState X) (more : List X) → q.sent ≡ q.taken ++ q.held → new.sent ≡ new.taken ++ new.held → new.taken ≡ q.taken → new.sent ≡ q.sent ++ more → new.held ≡ q.held ++ more
 held_more q new more old_is new_is taken sent =
     same_behind q.taken new.held (q.held ++ more)
     (ap (λ l. l ++ new.held) (sym taken) ∙ sym new_is ∙ sent ∙ ap (λ l. l ++ more) old_is ∙ append_assoc q.taken q.held more)
 
 -- some were taken, and nothing was sent
-held_less : {X : Type 0} (q new : QueueState X) (out : List X) → q.sent ≡ q.taken ++ q.held → new.sent ≡ new.taken ++ new.held → new.sent ≡ q.sent → new.taken ≡ q.taken ++ out → q.held ≡ out ++ new.held
+held_less : {X : Type 0} (q new : ListQueueState X) (out : List X) → q.sent ≡ q.taken ++ q.held → new.sent ≡ new.taken ++ new.held → new.sent ≡ q.sent → new.taken ≡ q.taken ++ out → q.held ≡ out ++ new.held
 held_less q new out old_is new_is sent taken =
     same_behind q.taken q.held (out ++ new.held)
     (sym old_is ∙ sym sent ∙ new_is ∙ ap (λ l. l ++ new.held) taken ∙ append_assoc q.taken out new.held)
@@ -56,7 +56,7 @@ module _ {V C R : Type 0} (step : Bool → Host V C R) (old new : Host V C R) wh
       let more = ap length sent in
       omega (arith, within, full, count, more)
 
-  pub as_queue_is : (full : Bool) (q after : QueueState Request) → (step true ≡ step false) ⊎ SubmitsOne old (step false) → new ≡ step full → (full ≡ true → length q.held ≡ q.capacity)
+  pub as_queue_is : (full : Bool) (q after : ListQueueState Request) → (step true ≡ step false) ⊎ SubmitsOne old (step false) → new ≡ step full → (full ≡ true → length q.held ≡ q.capacity)
       → after.held ≡ q.held ++ sent_between old.journal.flush new.journal.flush → after.capacity ≡ q.capacity → length after.held ≤ after.capacity → new ≡ step (is_full q.capacity q.held)
   as_queue_is full q after agree did was held same within = by full (is_full q.capacity q.held) did was refl
     where
@@ -97,11 +97,11 @@ module _ {T V C R : Type 0} (M : Model T V C R) (u : Setup) (full : Bool) (old :
   idles due = rw due refl
 
   -- what it did by the completions taken is what it does by the first one, and that one left
-  pub record TookFirst (q after : QueueState Completion) (new : Host V C R) : Type 0 where
+  pub record TookFirst (q after : ListQueueState Completion) (new : Host V C R) : Type 0 where
     pub host : new ≡ (flush_step M u full old (slice_get q.held 0)).host
     pub left : after.held ≡ left_over old.journal.flush q.held
 
-  module _ (q after : QueueState Completion) (new : Host V C R) (turn : Turn) where
+  module _ (q after : ListQueueState Completion) (new : Host V C R) (turn : Turn) where
     took_none : (out : List Completion) → flush_due old.journal.flush ≡ true → out ≡ [] → q.held ≡ out ++ after.held → (next : Option Completion) → new ≡ (flush_step M u full old next).host → TookFirst q after new
     took_none out due none held next did = record {
       host = did ∙ ap (λ (x : Turned V C R). x.host) (due_any next (slice_get q.held 0) due);
@@ -165,7 +165,7 @@ module _ {V C R X : Type 0} (host : X → Host V C R) (step : Bool → X) (old n
   either_host : (step true ≡ step false) ⊎ SubmitsOne old (host (step false)) → (host (step true) ≡ host (step false)) ⊎ SubmitsOne old (host (step false))
   either_host agree = ⊎_elim (λ e. inl (ap host e)) (λ one. inr one) agree
 
-  pub took_parts : (i : Inside) (sub : QueueState Request) (now : QueuesNow) → queues_of i ≡ now → (step true ≡ step false) ⊎ SubmitsOne old (host (step false)) → new ≡ host (step full) → (full ≡ true → length i.submission.held ≡ i.submission.capacity)
+  pub took_parts : (i : Inside) (sub : ListQueueState Request) (now : QueuesNow) → queues_of i ≡ now → (step true ≡ step false) ⊎ SubmitsOne old (host (step false)) → new ≡ host (step full) → (full ≡ true → length i.submission.held ≡ i.submission.capacity)
       → sub.sent ≡ i.submission.sent ++ sent_between old.journal.flush new.journal.flush → ◌≡◌ {A = ℕ × List Request} (sub.capacity, sub.taken) (i.submission.capacity, i.submission.taken)
       → i.submission.sent ≡ i.submission.taken ++ i.submission.held → sub.sent ≡ sub.taken ++ sub.held → length sub.held ≤ sub.capacity → Took (λ b. host (step b)) old new now (queues_of (record i { submission = sub }))
   took_parts i sub now view agree did was sent rest old_is new_is within =
@@ -191,7 +191,7 @@ pub record TookFlush {V C R : Type 0} (step : Bool → Option Completion → Hos
   pub queues : after ≡ record (with_sent q (sent_between old.journal.flush new.journal.flush)) { completions = left_over old.journal.flush q.completions }
 
 module _ {T V C R : Type 0} (M : Model T V C R) (u : Setup) (old new : Host V C R) (turn : Turn) where
-  pub took_flush : (i : Inside) (sub : QueueState Request) (done : QueueState Completion) (now : QueuesNow) → queues_of i ≡ now
+  pub took_flush : (i : Inside) (sub : ListQueueState Request) (done : ListQueueState Completion) (now : QueuesNow) → queues_of i ≡ now
       → record { host = new; turn = turn } ≡ flush_step M u (is_queue_full turn) old (first_since i.completions.taken done.taken) → (is_queue_full turn ≡ true → length i.submission.held ≡ i.submission.capacity)
       → sub.sent ≡ i.submission.sent ++ sent_between old.journal.flush new.journal.flush → ◌≡◌ {A = ℕ × List Request} (sub.capacity, sub.taken) (i.submission.capacity, i.submission.taken)
       → i.submission.sent ≡ i.submission.taken ++ i.submission.held → sub.sent ≡ sub.taken ++ sub.held → length sub.held ≤ sub.capacity

@@ -14,7 +14,7 @@ use Rattle.tree_model.specs.declared.node.Directory.{Directory}
 use Rattle.tree_model.specs.declared.node.File.{File}
 use Rattle.tree_model.specs.Maps.{at_number, without_number}
 use Rattle.tree_model.specs.Text.{Named, Showing, path_text, below, directory_line, file_lines, other_line, link_line, first_path, directory_met, file_met, shown, shown_through}
-use Rattle.tree_model.specs.code.Walk.{Walking, with_names, text_left, names_in, names_left}
+use Rattle.tree_model.specs.code.TextWalk.{Walking, with_names, text_left, names_in, names_left}
 use Rattle.tree_model.proofs.Entries.{length-without, seen_by}
 
 -- ---- the first path of a file

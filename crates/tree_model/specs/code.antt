@@ -1,2 +1,2 @@
 -- What the code sees of its own fields.
-pub mod Walk
+pub mod TextWalk

@@ -4,7 +4,7 @@ ghost use Rattle.std.specs.Option.{option_map_or};
 ghost use Rattle.std.specs.Fmt.{decimal};
 ghost use Rattle.std.specs.String.{string_bytes};
 ghost use Rattle.byte_text.specs.Runs.{runs_text};
-ghost use Rattle.tree_model.specs.code.Walk.{with_names, text_left, names_left};
+ghost use Rattle.tree_model.specs.code.TextWalk.{with_names, text_left, names_left};
 ghost use Rattle.tree_model.specs.Text.{octal_digit, mode_text, byte_text, name_text, path_text, below, block_text, blocks_text, directory_line, file_line, file_lines, other_line, link_line, first_path, file_met, tree_text};
 
 use crate::{File, FileBlocks, Names, Node, Tree};
@@ -197,7 +197,7 @@ struct Walk {
 impl Model for Walk {
     ghost use Rattle.std.specs.Prelude.{map, reverse};
     ghost use Rattle.std.specs.String.{string_bytes};
-    ghost use Rattle.tree_model.specs.code.Walk.{Walking};
+    ghost use Rattle.tree_model.specs.code.TextWalk.{Walking};
 
     ghost Value = { Walking };
 

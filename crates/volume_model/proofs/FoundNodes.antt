@@ -26,7 +26,7 @@ use Rattle.volume_ops.proofs.TreeLaws.{in_tree}
 use Rattle.volume_ops.specs.Walk.{Walked, walk, root}
 use Rattle.volume_ops.proofs.WalkLaws.{Ends, walk_volume-ends}
 use Rattle.volume_ops.specs.Volume.{disk_of, walked, bodies_of, node_of, put_nodes, tree_found}
-use Rattle.volume_ops.specs.Fields.{inode_at, zone_behind}
+use Rattle.volume_ops.specs.VolumeFields.{inode_at, zone_behind}
 use Rattle.volume_ops.proofs.TreeUnique.{tree_walked}
 use Rattle.volume_ops.proofs.VisitTests.{nine}
 use Rattle.volume_model.specs.declared.placed.Part.TheVariants as parts

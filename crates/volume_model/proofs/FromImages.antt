@@ -25,7 +25,7 @@ use Rattle.volume_ops.specs.declared.found.Mapped.{Mapped}
 use Rattle.volume_ops.specs.Places.{largest_size, birth_of, inode_of_birth, table_block}
 use Rattle.volume_ops.specs.Volume.{disk_of}
 use Rattle.volume_ops.proofs.SlotsLaws.{inode_of_birth_of}
-use Rattle.volume_ops.specs.Fields.{zone_behind, slot_behind, HasName, IsDirectoryOf, IsBelow}
+use Rattle.volume_ops.specs.VolumeFields.{zone_behind, slot_behind, HasName, IsDirectoryOf, IsBelow}
 use Rattle.volume_ops.specs.ZonePlaces.{zone_in as zone_walked}
 use Rattle.volume_ops.specs.Faultless.{HasZones, IsEntryAt, IsReached, at_root, by_name}
 use Rattle.volume_ops.proofs.VisitTests.{slot_used}

@@ -14,7 +14,7 @@ use Rattle.minix_layout.specs.declared.inode.Inode.{Inode}
 use Rattle.minix_layout.specs.declared.slot.Slot.{Slot}
 use Rattle.tree_model.specs.Maps.{at_number}
 use Rattle.tree_model.specs.laws.MapsLaws.{number_same}
-use Rattle.volume_ops.specs.Fields.{slot_behind}
+use Rattle.volume_ops.specs.VolumeFields.{slot_behind}
 use Rattle.volume_model.specs.Plain.{slot_or_free, slot_in, slots_in}
 
 -- ---- a map whose values are made of their keys too

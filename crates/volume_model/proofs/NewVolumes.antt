@@ -25,7 +25,7 @@ use Rattle.tree_model.specs.Paths.{is_dot}
 use Rattle.tree_model.specs.Trees.{directory_links}
 use Rattle.tree_model.specs.laws.Listing.{HasEntry, IsLedTo, at_root, IsRooted}
 use Rattle.volume_ops.specs.Volume.{disk_of}
-use Rattle.volume_ops.specs.Fields.{inode_at}
+use Rattle.volume_ops.specs.VolumeFields.{inode_at}
 use Rattle.volume_model.specs.declared.placed.Placed.{Placed}
 use Rattle.volume_model.specs.declared.placed.Part.TheVariants as parts
 use Rattle.volume_model.specs.declared.placed.DirectoryPart.{DirectoryPart}

@@ -18,7 +18,7 @@ use Rattle.tree_model.specs.laws.Listing.{HasEntry}
 use Rattle.volume_ops.specs.laws.ReadsLaws.{same_Ok}
 use Rattle.volume_ops.specs.declared.found.Mapped.{Mapped}
 use Rattle.volume_ops.specs.Places.{largest_size, is_directory, is_file}
-use Rattle.volume_ops.specs.Fields.{inode_at, slot_behind}
+use Rattle.volume_ops.specs.VolumeFields.{inode_at, slot_behind}
 use Rattle.volume_ops.specs.ZonePlaces.{ZonePlace, zone_in as zone_walked}
 use Rattle.volume_ops.specs.Faultless.{IsDirectory, IsFile, HasZones, zone_at_place, slots_of, IsEntryAt, NamesAt, IsReached, at_root, by_name, IsFaultless}
 use Rattle.volume_model.specs.declared.placed.Placed.{Placed}

@@ -32,7 +32,7 @@ use Rattle.volume_ops.specs.declared.found.Mapped.{Mapped}
 use Rattle.volume_ops.specs.Places.{birth_of, inode_of_birth}
 use Rattle.volume_ops.specs.Places.{is_directory as is_directory_mode}
 use Rattle.volume_ops.specs.Volume.{disk_of, bodies_of}
-use Rattle.volume_ops.specs.Fields.{inode_at, zone_behind, block_behind, HasName, IsDirectoryOf, IsFileOf, IsNodeOf, IsBelow}
+use Rattle.volume_ops.specs.VolumeFields.{inode_at, zone_behind, block_behind, HasName, IsDirectoryOf, IsFileOf, IsNodeOf, IsBelow}
 use Rattle.volume_ops.specs.Faultless.{IsReached}
 use Rattle.volume_ops.specs.VolumeTrees.{IsVolumeTree}
 use Rattle.volume_ops.proofs.BlockPlaces.{led_reached}

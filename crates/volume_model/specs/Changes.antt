@@ -2,7 +2,7 @@
 use Rattle.std.specs.Prelude.{◌≡◌, ℕ, ◌<◌, ◌≤◌, List, length}
 use Rattle.minix_layout.specs.declared.division.Geometry.{Geometry}
 use Rattle.volume_ops.specs.Volume.{disk_of}
-use Rattle.volume_ops.specs.Fields.{inode_at}
+use Rattle.volume_ops.specs.VolumeFields.{inode_at}
 use Rattle.volume_model.specs.Volume.{IsWhole}
 
 -- Inodes for which `I` does not hold and zones for which `Z` does not hold are as they were.

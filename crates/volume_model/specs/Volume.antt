@@ -17,7 +17,7 @@ use Rattle.tree_model.specs.Paths.{is_dot}
 use Rattle.volume_ops.specs.declared.found.Mapped.{Mapped}
 use Rattle.volume_ops.specs.Places.{is_directory, is_file, zone_number}
 use Rattle.volume_ops.specs.Volume.{disk_of}
-use Rattle.volume_ops.specs.Fields.{inode_at, zone_behind}
+use Rattle.volume_ops.specs.VolumeFields.{inode_at, zone_behind}
 use Rattle.volume_model.specs.declared.placed.Placed.{Placed}
 use Rattle.volume_model.specs.declared.placed.Part.{Part}
 use Rattle.volume_model.specs.declared.placed.Part.TheVariants as parts

@@ -17,7 +17,7 @@ ghost use Rattle.tree_model.specs.Maps.{at_number, at_name, put_number, name_cmp
 ghost use Rattle.tree_model.specs.Paths.{is_dot};
 ghost use Rattle.volume_ops.specs.declared.found.FoundNode.{FoundNode};
 ghost use Rattle.volume_ops.specs.declared.found.Mapped.{Mapped};
-ghost use Rattle.volume_ops.specs.Fields.{inode_at};
+ghost use Rattle.volume_ops.specs.VolumeFields.{inode_at};
 ghost use Rattle.volume_ops.specs.Places.{inode_of_birth, table_block, zone_number};
 ghost use Rattle.volume_ops.specs.Volume.{disk_of, walked, tree_of};
 ghost use Rattle.volume_ops.specs.Marks.{is_marked};

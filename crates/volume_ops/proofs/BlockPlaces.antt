@@ -20,7 +20,7 @@ use Rattle.tree_model.specs.laws.Listing.{HasEntry, IsLedTo, at_root, by_name}
 use Rattle.volume_ops.specs.Places.{zone_number, table_block, inode_in_block, is_directory, is_file, birth_of, inode_of_birth}
 use Rattle.volume_ops.specs.Reads.{AgreeOn}
 use Rattle.volume_ops.specs.Volume.{disk_of, metadata}
-use Rattle.volume_ops.specs.Fields.{inode_at, zone_behind, slot_behind}
+use Rattle.volume_ops.specs.VolumeFields.{inode_at, zone_behind, slot_behind}
 use Rattle.volume_ops.proofs.SlotsLaws.{inode_of_birth_of}
 use Rattle.volume_ops.specs.ZonePlaces.{ZonePlace, block, indirect, double, inner, entry_of}
 use Rattle.volume_ops.specs.Faultless.{IsDirectory, IsFile, HasZones, zone_at_place, NamesAt, IsReached, at_root as reached_root, by_name as reached_by, IsFaultless}

@@ -15,7 +15,7 @@ use Rattle.tree_model.specs.laws.MapsLaws.{name_here, name_same}
 use Rattle.tree_model.specs.Paths.{is_dot}
 use Rattle.volume_ops.specs.laws.ReadsLaws.{err-ok}
 use Rattle.volume_ops.specs.Places.{inode_of_birth}
-use Rattle.volume_ops.specs.Fields.{inode_at}
+use Rattle.volume_ops.specs.VolumeFields.{inode_at}
 use Rattle.volume_ops.proofs.SlotsLaws.{inode_of_birth_of}
 use Rattle.volume_ops.specs.Volume.{walked}
 use Rattle.volume_ops.specs.Walk.{Walked}

@@ -19,7 +19,7 @@ use Rattle.volume_ops.specs.laws.ReadsLaws.{blocks_read-and_then, err-ok}
 use Rattle.volume_ops.specs.Places.{zone_numbers, table_block, inode_in_block, is_directory, is_file}
 use Rattle.volume_ops.specs.Marks.{is_marked}
 use Rattle.volume_ops.specs.Volume.{disk_of, metadata}
-use Rattle.volume_ops.specs.Fields.{inode_at}
+use Rattle.volume_ops.specs.VolumeFields.{inode_at}
 use Rattle.volume_ops.specs.Zones.{Fault, ZoneScan, take_zone, take_blocks, take_numbers, take_indirect, take_indirects, take_double, scan_zones}
 use Rattle.volume_ops.proofs.ZonesLaws.{length-zone_numbers, zone_numbers_at, scan_zones-map}
 use Rattle.volume_ops.specs.Slots.{SlotScan, is_bad_entry, note_name, scan_entry, scan_used, scan_slot, scan_places, scan_block, scan_slots}

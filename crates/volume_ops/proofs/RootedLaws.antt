@@ -24,7 +24,7 @@ use Rattle.volume_ops.specs.Zones.{Fault}
 use Rattle.volume_ops.specs.Walk.{Walked}
 use Rattle.volume_ops.specs.Places.{inode_of_birth}
 use Rattle.volume_ops.specs.Volume.{disk_of, walked, node_of, put_nodes, tree_found, tree_of}
-use Rattle.volume_ops.specs.Fields.{inode_at, zone_behind, IsTreeOf}
+use Rattle.volume_ops.specs.VolumeFields.{inode_at, zone_behind, IsTreeOf}
 use Rattle.volume_ops.proofs.VisitLaws.{names_in}
 use Rattle.volume_ops.proofs.WalkLaws.{Ends, walk_volume-ends}
 use Rattle.volume_ops.proofs.TreeLaws.{was_found, named_of, tree_of-fields, tree_of-reached}

@@ -25,7 +25,7 @@ use Rattle.volume_ops.specs.Places.{table_block, inode_in_block, is_directory, b
 use Rattle.volume_ops.specs.Marks.{is_marked, marked}
 use Rattle.volume_ops.specs.laws.MarksLaws.{is_marked_same, is_marked_kept, is_marked_new, length-marked}
 use Rattle.volume_ops.specs.Volume.{disk_of}
-use Rattle.volume_ops.specs.Fields.{inode_at, zone_behind, slot_behind}
+use Rattle.volume_ops.specs.VolumeFields.{inode_at, zone_behind, slot_behind}
 use Rattle.volume_ops.specs.Zones.{Fault}
 use Rattle.volume_ops.proofs.ZonesLaws.{block_at}
 use Rattle.volume_ops.specs.Slots.{SlotScan, is_bad_entry, note_name, scan_entry, scan_used, scan_slot, scan_places, scan_block, scan_slots}

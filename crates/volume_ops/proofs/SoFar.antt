@@ -9,7 +9,7 @@ use Rattle.volume_ops.specs.declared.found.FoundNode.{FoundNode}
 use Rattle.volume_ops.specs.Places.{largest_size, is_directory}
 use Rattle.volume_ops.specs.Marks.{is_marked, marked}
 use Rattle.volume_ops.specs.laws.MarksLaws.{is_marked_same, is_marked_kept, is_marked_new, length-marked}
-use Rattle.volume_ops.specs.Fields.{inode_at, slot_behind}
+use Rattle.volume_ops.specs.VolumeFields.{inode_at, slot_behind}
 use Rattle.volume_ops.specs.Walk.{WalkState}
 use Rattle.volume_ops.specs.ZonePlaces.{ZonePlace}
 use Rattle.volume_ops.specs.Faultless.{IsDirectory, HasZones, zone_at_place, slots_of, NamesAt, IsReached, by_name, AreFaultless}

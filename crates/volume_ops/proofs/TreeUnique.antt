@@ -29,7 +29,7 @@ use Rattle.volume_ops.specs.declared.found.FoundNode.{FoundNode}
 use Rattle.volume_ops.specs.laws.ReadsLaws.{err-ok, same_Ok}
 use Rattle.volume_ops.specs.Places.{is_directory, is_file, inode_of_birth}
 use Rattle.volume_ops.specs.Volume.{walked, bodies_of, node_of, put_nodes, tree_found, tree_of}
-use Rattle.volume_ops.specs.Fields.{inode_at, IsNodeOf, IsBelow}
+use Rattle.volume_ops.specs.VolumeFields.{inode_at, IsNodeOf, IsBelow}
 use Rattle.volume_ops.specs.Zones.{Fault}
 use Rattle.volume_ops.specs.Walk.{Walked}
 use Rattle.volume_ops.specs.laws.Rising.{RiseWithin, HasRising}

@@ -31,7 +31,7 @@ use Rattle.volume_ops.specs.Slots.{SlotScan, scan_slots}
 use Rattle.volume_ops.proofs.SlotsLaws.{IsNamed, Goes, IsInBlocks, scan_slots-goes, no_names}
 use Rattle.volume_ops.specs.Walk.{WalkState, Pending, Visit, pending_in, met_node, is_bad_inode, visit_file, visit_directory, visit_other, visit_inode, visit}
 use Rattle.volume_ops.specs.Volume.{disk_of, bodies_of, node_of}
-use Rattle.volume_ops.specs.Fields.{inode_at, zone_behind, block_behind, slot_behind, HasName, IsNodeOf, IsBelow}
+use Rattle.volume_ops.specs.VolumeFields.{inode_at, zone_behind, block_behind, slot_behind, HasName, IsNodeOf, IsBelow}
 
 number_found : (k : ℕ) (m n : Mapped) → m ≡ n → n.index ≡ k → is_eq (nat_cmp k m.index) ≡ true
 number_found k m n q e = subst (λ j. is_eq (nat_cmp k j) ≡ true) (sym (ap (λ m. m.index) q ∙ e)) (number_here k)

@@ -22,7 +22,7 @@ use Rattle.volume_ops.specs.laws.ReadsLaws.{answer-and_then, err-ok, same_Ok}
 use Rattle.volume_ops.specs.Places.{largest_size, table_block, is_directory, is_file, birth_of, inode_of_birth}
 use Rattle.volume_ops.specs.Marks.{is_marked, marked}
 use Rattle.volume_ops.specs.Volume.{disk_of}
-use Rattle.volume_ops.specs.Fields.{inode_at, zone_behind, HasName}
+use Rattle.volume_ops.specs.VolumeFields.{inode_at, zone_behind, HasName}
 use Rattle.volume_ops.specs.Zones.{Fault, ZoneScan, is_bad_zone, scan_zones}
 use Rattle.volume_ops.proofs.ZonesLaws.{scan_zones-map}
 use Rattle.volume_ops.specs.Slots.{SlotScan, scan_slots}

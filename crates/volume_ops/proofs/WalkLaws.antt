@@ -20,7 +20,7 @@ use Rattle.volume_ops.specs.Zones.{Fault}
 use Rattle.volume_ops.proofs.SlotsLaws.{inode_of_birth_of, IsDirectoryAt, IsNamed}
 use Rattle.volume_ops.specs.Walk.{WalkState, Walked, found_in, Pending, Visit, pending_in, met_node, visit, walk_through, walk, at_start, root as first_pending, walk_volume}
 use Rattle.volume_ops.specs.Volume.{disk_of, node_of}
-use Rattle.volume_ops.specs.Fields.{inode_at, IsNodeOf, IsBelow}
+use Rattle.volume_ops.specs.VolumeFields.{inode_at, IsNodeOf, IsBelow}
 use Rattle.volume_ops.proofs.VisitLaws.{names_in, IsVisit, visit_is}
 
 -- a node that was found gives this name to this birth

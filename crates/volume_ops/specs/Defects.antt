@@ -5,7 +5,7 @@ use Rattle.minix_layout.specs.declared.slot.Slot.{Slot}
 use Rattle.minix_layout.specs.declared.fault.LayoutFault.{LayoutFault}
 use Rattle.minix_layout.specs.declared.fault.LayoutFault.TheVariants.{BadInode, BadZone, BadSlot}
 use Rattle.volume_ops.specs.Places.{table_block}
-use Rattle.volume_ops.specs.Fields.{inode_at, slot_behind}
+use Rattle.volume_ops.specs.VolumeFields.{inode_at, slot_behind}
 use Rattle.volume_ops.specs.ZonePlaces.{ZonePlace}
 use Rattle.volume_ops.specs.Faultless.{IsDirectory, HasZones, zone_at_place, slots_of, NamesAt, IsReached}
 use Rattle.volume_ops.specs.FirstFault.{pointer_block_of, slot_zone, IsBadInode}

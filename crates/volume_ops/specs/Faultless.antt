@@ -5,7 +5,7 @@ use Rattle.minix_layout.specs.declared.inode.Inode.{Inode}
 use Rattle.minix_layout.specs.declared.slot.Slot.{Slot}
 use Rattle.tree_model.specs.Paths.{is_dot}
 use Rattle.volume_ops.specs.Places.{largest_size, is_directory, is_file}
-use Rattle.volume_ops.specs.Fields.{inode_at, slot_behind}
+use Rattle.volume_ops.specs.VolumeFields.{inode_at, slot_behind}
 use Rattle.volume_ops.specs.ZonePlaces.{ZonePlace, zone_in}
 
 -- ---- what inodes are, have and name

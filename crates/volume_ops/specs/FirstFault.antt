@@ -9,7 +9,7 @@ use Rattle.minix_layout.specs.declared.fault.LayoutFault.{LayoutFault}
 use Rattle.minix_layout.specs.declared.fault.LayoutFault.TheVariants.{BadInode, BadZone, BadSlot}
 use Rattle.tree_model.specs.Maps.{at_name, name_cmp}
 use Rattle.volume_ops.specs.Places.{largest_size, table_block, inode_of_birth}
-use Rattle.volume_ops.specs.Fields.{inode_at, zone_behind, slot_behind, HasName}
+use Rattle.volume_ops.specs.VolumeFields.{inode_at, zone_behind, slot_behind, HasName}
 use Rattle.volume_ops.specs.ZonePlaces.{ZonePlace, pointer_block_in, rank}
 use Rattle.volume_ops.specs.Faultless.{IsDirectory, HasZones, zone_at_place, slots_of, NamesAt, AreFaultless}
 

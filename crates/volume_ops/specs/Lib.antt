@@ -3,7 +3,7 @@ pub mod Defects
 pub mod DeviceReads
 pub mod Faultless
 pub mod Faults
-pub mod Fields
+pub mod VolumeFields
 pub mod FirstFault
 pub mod Marks
 pub mod Metadata

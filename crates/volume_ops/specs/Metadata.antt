@@ -4,7 +4,7 @@ use Rattle.minix_layout.specs.declared.division.Geometry.{Geometry}
 use Rattle.minix_layout.specs.Words.{inode_blocks}
 use Rattle.volume_ops.specs.Places.{inode_of_birth}
 use Rattle.volume_ops.specs.Volume.{disk_of}
-use Rattle.volume_ops.specs.Fields.{inode_at, zone_behind}
+use Rattle.volume_ops.specs.VolumeFields.{inode_at, zone_behind}
 use Rattle.volume_ops.specs.ZonePlaces.{ZonePlace, block}
 use Rattle.volume_ops.specs.Faultless.{IsDirectory, HasZones, zone_at_place, IsReached}
 

@@ -9,7 +9,7 @@ use Rattle.tree_model.specs.declared.node.Node.TheVariants as nodes
 use Rattle.tree_model.specs.declared.node.File.{File}
 use Rattle.tree_model.specs.Maps.{at_number}
 use Rattle.tree_model.specs.laws.Listing.{IsRooted}
-use Rattle.volume_ops.specs.Fields.{IsTreeOf}
+use Rattle.volume_ops.specs.VolumeFields.{IsTreeOf}
 use Rattle.volume_ops.specs.Faultless.{IsFaultless}
 
 -- The volume has no fault; the tree says what its fields say and hangs together; the blocks of each file stand in

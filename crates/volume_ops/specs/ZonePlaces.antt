@@ -4,7 +4,7 @@ use Rattle.minix_layout.specs.declared.inode.Inode.{Inode}
 use Rattle.inode_ops.specs.Map.{entry_behind}
 use Rattle.volume_ops.specs.Places.{zone_number}
 use Rattle.volume_ops.specs.Volume.{disk_of}
-use Rattle.volume_ops.specs.Fields.{zone_behind}
+use Rattle.volume_ops.specs.VolumeFields.{zone_behind}
 
 -- where an inode has a zone: a block of its file, the indirect zone with the numbers of 512 blocks, and the
 -- doubly indirect zone with the numbers of 512 inner zones, each with the numbers of 512 blocks

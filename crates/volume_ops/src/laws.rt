@@ -12,7 +12,7 @@ ghost use Rattle.tree_model.specs.Maps.{at_number};
 ghost use Rattle.tree_model.specs.Trees.{AreAlike};
 ghost use Rattle.volume_ops.specs.Reads.{AgreeOn};
 ghost use Rattle.volume_ops.specs.Volume.{disk_of, walked, metadata, tree_of};
-ghost use Rattle.volume_ops.specs.Fields.{IsTreeOf};
+ghost use Rattle.volume_ops.specs.VolumeFields.{IsTreeOf};
 ghost use Rattle.volume_ops.specs.laws.Alike.{SameMetadataAtOrNone};
 ghost use Rattle.volume_ops.specs.Defects.{IsDefect};
 ghost use Rattle.volume_ops.specs.Faultless.{IsFaultless, IsUsed};

@@ -15,7 +15,7 @@ use Rattle.tree_model.specs.Maps.{at_number, put_number}
 use Rattle.tree_model.specs.Paths.{is_dot}
 use Rattle.tree_model.specs.Calls.{new_directory, node_zones, used_zones}
 use Rattle.volume_ops.specs.Volume.{disk_of}
-use Rattle.volume_ops.specs.Fields.{inode_at}
+use Rattle.volume_ops.specs.VolumeFields.{inode_at}
 use Rattle.byte_fields.specs.laws.ReadLaws.{length-zeros}
 use Rattle.zone_maps.specs.declared.zone_state.ZoneState.{ZoneState}
 use Rattle.zone_maps.specs.declared.zone_state.ZoneState.TheVariants as states

@@ -1,5 +1,5 @@
 -- A file comes, in the lowest inode that is free.
-use Rattle.std.specs.Prelude.{◌≡◌, ◌≢◌, ◌<◌, ◌+◌, ◌/◌, ◌^◌, ℕ, zero, true, List, [], ◌∷◌, length, None, refl}
+use Rattle.std.specs.Prelude.{◌≡◌, ◌≢◌, ◌<◌, ◌+◌, ◌/◌, ◌^◌, ℕ, true, List, [], ◌∷◌, length, None, refl}
 use Rattle.std.specs.List.Sorted.{IsStrictlySortedBy}
 use Rattle.std.proofs.Common.{sym, ap, subst, inl, inr, ◌∙◌, arith}
 use Rattle.minix_layout.specs.declared.division.Geometry.{Geometry}
@@ -7,7 +7,7 @@ use Rattle.minix_layout.specs.Inodes.{FitInode}
 use Rattle.tree_model.specs.Maps.{at_number, put_number}
 use Rattle.tree_model.specs.Calls.{new_file, node_zones, used_zones, file_zones, mapped_groups}
 use Rattle.volume_ops.specs.Places.{table_block}
-use Rattle.volume_ops.specs.Fields.{inode_at}
+use Rattle.volume_ops.specs.VolumeFields.{inode_at}
 use Rattle.volume_model.specs.declared.placed.Placed.{Placed}
 use Rattle.volume_model.specs.declared.placed.Part.TheVariants as parts
 use Rattle.volume_model.specs.Changes.{Changes}

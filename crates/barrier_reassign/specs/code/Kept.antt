@@ -10,7 +10,7 @@ pub record IsPicked (waiting : List Waiting) (pick i : ℕ) : Type 0 where
   pub there : (d : Waiting) → slice_get (eligible waiting) pick ≡ Some (slice_index_or waiting i d)
 
 -- the fields of a queue of requests
-pub record IsKept (q : Inside) : Type 0 where
+pub record IsInside (q : Inside) : Type 0 where
   pub small : q.capacity < 2 ^ 32
   pub few : deque_len q.waiting ≤ q.capacity
   pub room : q.capacity ≤ deque_capacity q.waiting

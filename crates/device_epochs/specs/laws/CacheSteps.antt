@@ -7,8 +7,8 @@ use Rattle.std.proofs.lemmas.Option.{none-some, same_Some}
 use Rattle.blk_base.specs.Members.{In, slice_get-In, slice_get-length, slice_get-push_left, slice_get-set_same, slice_get-set_other}
 use Rattle.order_model.specs.declared.part.Part.{Part}
 use Rattle.order_model.specs.declared.command.Command.{Command}
-use Rattle.order_model.specs.Received.{all_parts, part_at, command_of, first_part, epoch_of}
-use Rattle.order_model.proofs.Received.{command_of-lt, command_of-push_old, command_of-push_new, length-all_parts-push, part_at-push_old, epoch_of-push_old, command_of-earlier, command_of-first, part_at-first, place_of, part_at-place, epoch_of-mono, flush-is, is-flush}
+use Rattle.order_model.specs.Received.{all_parts, part_at, command_of_part, first_part, epoch_of}
+use Rattle.order_model.proofs.Received.{command_of_part-lt, command_of_part-push_old, command_of_part-push_new, length-all_parts-push, part_at-push_old, epoch_of-push_old, command_of_part-earlier, command_of_part-first, part_at-first, place_of, part_at-place, epoch_of-mono, flush-is, is-flush}
 use Rattle.command_queue.specs.Queue.{QueueState, Waiting, without, eligible}
 use Rattle.device_epochs.specs.declared.cache.Entry.{Entry}
 use Rattle.device_epochs.specs.Cache.{same_place, entries, put_all, oldest, without_entry}
@@ -26,24 +26,24 @@ part_at-lt took x p e = slice_get-length (all_parts took) x p e
 part_at-pushed : (took : List Command) (c : Command) (x : ℕ) (p : Part) → part_at took x ≡ Some p → part_at (took ++ c ∷ []) x ≡ Some p
 part_at-pushed took c x p e = part_at-push_old took c x (part_at-lt took x p e) ∙ e
 
-command_of-pushed : (took : List Command) (c : Command) (x : ℕ) (p : Part) → part_at took x ≡ Some p → command_of (took ++ c ∷ []) x ≡ command_of took x
-command_of-pushed took c x p e = command_of-push_old took c x (part_at-lt took x p e)
+command_of_part-pushed : (took : List Command) (c : Command) (x : ℕ) (p : Part) → part_at took x ≡ Some p → command_of_part (took ++ c ∷ []) x ≡ command_of_part took x
+command_of_part-pushed took c x p e = command_of_part-push_old took c x (part_at-lt took x p e)
 
 -- the epoch of a part that was there
-part_epoch-pushed : (took : List Command) (c : Command) (x : ℕ) (p : Part) → part_at took x ≡ Some p → epoch_of (took ++ c ∷ []) (command_of (took ++ c ∷ []) x) ≡ epoch_of took (command_of took x)
+part_epoch-pushed : (took : List Command) (c : Command) (x : ℕ) (p : Part) → part_at took x ≡ Some p → epoch_of (took ++ c ∷ []) (command_of_part (took ++ c ∷ []) x) ≡ epoch_of took (command_of_part took x)
 part_epoch-pushed took c x p e =
-    let lt = command_of-lt took x (part_at-lt took x p e) in
-    ap (epoch_of (took ++ c ∷ [])) (command_of-pushed took c x p e) ∙ epoch_of-push_old took c (command_of took x) (omega arith)
+    let lt = command_of_part-lt took x (part_at-lt took x p e) in
+    ap (epoch_of (took ++ c ∷ [])) (command_of_part-pushed took c x p e) ∙ epoch_of-push_old took c (command_of_part took x) (omega arith)
 
 -- what is done now was there before
-done_part : (took : List Command) (c : Command) (x k : ℕ) (p : Part) → k < length took → part_at (took ++ c ∷ []) x ≡ Some p → command_of (took ++ c ∷ []) x ≤ k → part_at took x ≡ Some p
+done_part : (took : List Command) (c : Command) (x k : ℕ) (p : Part) → k < length took → part_at (took ++ c ∷ []) x ≡ Some p → command_of_part (took ++ c ∷ []) x ≤ k → part_at took x ≡ Some p
 done_part took c x k p lt e le =
     elim (cases_lt x (length (all_parts took))) [
       | inl l ↦ sym (part_at-push_old took c x l) ∙ e
       | inr g ↦
           let n = length-all_parts-push took c in
           let m = part_at-lt (took ++ c ∷ []) x p e in
-          let last = command_of-push_new took c x g (omega arith) in
+          let last = command_of_part-push_new took c x g (omega arith) in
           absurd (omega arith)
     ]
 
@@ -53,8 +53,8 @@ IsEntry-arrived took waiting epoch c w e last h = record {
   taken = part_at-pushed took c e.part h.part h.taken;
   block = h.block;
   done =
-      subst (IsDone (took ++ c ∷ []) (waiting ++ w ∷ [])) (sym (command_of-pushed took c e.part h.part h.taken))
-      (received-done took waiting c w (command_of took e.part) last h.done);
+      subst (IsDone (took ++ c ∷ []) (waiting ++ w ∷ [])) (sym (command_of_part-pushed took c e.part h.part h.taken))
+      (received-done took waiting c w (command_of_part took e.part) last h.done);
   in_epoch = h.in_epoch ∙ sym (part_epoch-pushed took c e.part h.part h.taken);
   past = h.past;
 }
@@ -81,7 +81,7 @@ MediumFacts-received base took waiting cache surface origins c w last f =
             part_at-pushed took c x g.0 g.1,
             g.2,
             g.3,
-            subst (IsDone now (waiting ++ w ∷ [])) (sym (command_of-pushed took c x g.0 g.1)) (received-done took waiting c w (command_of took x) last g.4),
+            subst (IsDone now (waiting ++ w ∷ [])) (sym (command_of_part-pushed took c x g.0 g.1)) (received-done took waiting c w (command_of_part took x) last g.4),
           );
       untouched = f.untouched;
       older = λ b x e o i.
@@ -89,30 +89,30 @@ MediumFacts-received base took waiting cache surface origins c w last f =
           subst (λ n. n ≤ e.epoch) (sym (part_epoch-pushed took c x g.0 g.1)) (f.older b x e o i);
       newer = f.newer;
       covered = λ x p e d.
-          let old = done-received took waiting c w (command_of now x) last d in
-          let at = done_part took c x (command_of now x) p old.taken e (omega arith) in
-          let there = subst (IsDone took waiting) (command_of-pushed took c x p at) old in
+          let old = done-received took waiting c w (command_of_part now x) last d in
+          let at = done_part took c x (command_of_part now x) p old.taken e (omega arith) in
+          let there = subst (IsDone took waiting) (command_of_part-pushed took c x p at) old in
           subst (λ n. IsCached cache n p.block x ⊎ IsHeld origins p.block x) (sym (part_epoch-pushed took c x p at)) (f.covered x p at there);
       flushed = λ k id x p h d e lt.
           let old = done-received took waiting c w k last d in
           let at = done_part took c x k p old.taken e (omega arith) in
           let g = flush-is now k id h in
           let was : slice_get took k ≡ Some g.0 = sym (slice_get-push_left took c k old.taken) ∙ g.1 in
-          f.flushed k id x p (is-flush took k id g.0 was g.2) old at (subst (λ n. n < k) (command_of-pushed took c x p at) lt);
+          f.flushed k id x p (is-flush took k id g.0 was g.2) old at (subst (λ n. n < k) (command_of_part-pushed took c x p at) lt);
     }
 
 -- ---- a command goes into the cache
 
 -- a part of a command that waits
 pub parts_of-waiting : (took : List Command) (queue : QueueState) (w : Waiting) (i : ℕ) (p : Part) → QueueFacts took queue → In w queue.waiting → slice_get w.command.parts i ≡ Some p
-    → (part_at took (first_part took w.number + i) ≡ Some p) × (command_of took (first_part took w.number + i) ≡ w.number)
+    → (part_at took (first_part took w.number + i) ≡ Some p) × (command_of_part took (first_part took w.number + i) ≡ w.number)
 parts_of-waiting took queue w i p f h e =
     let at = f.queued w h in
     let lt = slice_get-length w.command.parts i p e in
-    (part_at-first took w.number w.command i at lt ∙ e, command_of-first took w.number w.command i at lt)
+    (part_at-first took w.number w.command i at lt ∙ e, command_of_part-first took w.number w.command i at lt)
 
 -- the part at a place of a command that waits
-pub part_of-waiting : (took : List Command) (queue : QueueState) (w : Waiting) (x : ℕ) (p : Part) → QueueFacts took queue → In w queue.waiting → part_at took x ≡ Some p → command_of took x ≡ w.number
+pub part_of-waiting : (took : List Command) (queue : QueueState) (w : Waiting) (x : ℕ) (p : Part) → QueueFacts took queue → In w queue.waiting → part_at took x ≡ Some p → command_of_part took x ≡ w.number
     → (i : ℕ) × (x ≡ first_part took w.number + i) × (slice_get w.command.parts i ≡ Some p)
 part_of-waiting took queue w x p f h e c =
     let at = place_of took x (part_at-lt took x p e) in
@@ -135,7 +135,7 @@ IsEntry-new : (took : List Command) (queue : QueueState) (epoch : ℕ) (w : Wait
 IsEntry-new took queue epoch w e f h present i =
     let r = In-entries epoch (first_part took w.number) w.command.parts e i in
     let here = parts_of-waiting took queue w r.0 r.1 f h r.2 in
-    let number : command_of took e.part ≡ w.number = ap (command_of took) r.5 ∙ here.1 in
+    let number : command_of_part took e.part ≡ w.number = ap (command_of_part took) r.5 ∙ here.1 in
     let within = slice_get-length took w.number w.command (f.queued w h) in
     record {
       part = r.1;
@@ -160,7 +160,7 @@ CacheFacts-moved took queue epoch cache w q h present f = record {
               part = g.part;
               taken = g.taken;
               block = g.block;
-              done = moved-done took queue.waiting w.number (command_of took e.part) g.done;
+              done = moved-done took queue.waiting w.number (command_of_part took e.part) g.done;
               in_epoch = g.in_epoch;
               past = omega (arith, le, more);
             }
@@ -199,15 +199,15 @@ MediumFacts-moved base blocks limit took queue epoch cache surface origins w c q
     record {
       blocks = f.blocks;
       places = f.places;
-      written = λ b x o. let g = f.written b x o in (g.0, g.1, g.2, g.3, moved-done took queue.waiting w.number (command_of took x) g.4);
+      written = λ b x o. let g = f.written b x o in (g.0, g.1, g.2, g.3, moved-done took queue.waiting w.number (command_of_part took x) g.4);
       untouched = f.untouched;
       older = λ b x e o i.
           elim (In-put_all (new_entries took epoch w) cache e i) [
             | inl new ↦
                 let r = In-entries epoch (first_part took w.number) w.command.parts e new in
                 let g = f.written b x o in
-                subst (λ n. epoch_of took (command_of took x) ≤ n) (sym r.3)
-                (done_epoch-le blocks limit took queue epoch (command_of took x) c q present g.4)
+                subst (λ n. epoch_of took (command_of_part took x) ≤ n) (sym r.3)
+                (done_epoch-le blocks limit took queue epoch (command_of_part took x) c q present g.4)
             | inr old ↦ f.older b x e o old
           ];
       newer = λ x e o i.
@@ -219,7 +219,7 @@ MediumFacts-moved base blocks limit took queue epoch cache surface origins w c q
                 (place-before took queue w x r.0 g.0 r.1 q inside (part_at-lt took x g.0 g.1) g.4 g.1 r.2 (sym (g.2 ∙ r.4)))
             | inr old ↦ f.newer x e o old
           ];
-      covered = λ x p e d. covered_after x p e (done-moved took queue.waiting w.number (command_of took x) d);
+      covered = λ x p e d. covered_after x p e (done-moved took queue.waiting w.number (command_of_part took x) d);
       flushed = λ k id x p g d e lt.
           elim (done-moved took queue.waiting w.number k d) [
             | inl old ↦ f.flushed k id x p g old e lt
@@ -227,7 +227,7 @@ MediumFacts-moved base blocks limit took queue epoch cache surface origins w c q
                 let at = flush-is took k id g in
                 let same : at.0 ≡ w.command = same_Some at.0 w.command (sym at.1 ∙ ap (slice_get took) here ∙ q.queued w inside) in
                 let flush : w.command.flush ≡ Some id = ap (λ (a : Command). a.flush) (sym same) ∙ at.2 in
-                let done = done_before_flush blocks limit took queue w id (command_of took x) c q h flush (subst (λ n. command_of took x < n) here lt) in
+                let done = done_before_flush blocks limit took queue w id (command_of_part took x) c q h flush (subst (λ n. command_of_part took x < n) here lt) in
                 elim (f.covered x p e done) [
                   | inl cached ↦ absurd (subst (In cached.entry) (may_go cache w id may flush) cached.there)
                   | inr held ↦ held
@@ -235,13 +235,13 @@ MediumFacts-moved base blocks limit took queue epoch cache surface origins w c q
           ];
     }
   where
-    covered_after : (x : ℕ) (p : Part) → part_at took x ≡ Some p → IsDone took queue.waiting (command_of took x) ⊎ (command_of took x ≡ w.number)
-        → IsCached (put_all (new_entries took epoch w) cache) (epoch_of took (command_of took x)) p.block x ⊎ IsHeld origins p.block x
+    covered_after : (x : ℕ) (p : Part) → part_at took x ≡ Some p → IsDone took queue.waiting (command_of_part took x) ⊎ (command_of_part took x ≡ w.number)
+        → IsCached (put_all (new_entries took epoch w) cache) (epoch_of took (command_of_part took x)) p.block x ⊎ IsHeld origins p.block x
     covered_after x p e (inl done) =
         elim (f.covered x p e done) [
           | inl cached ↦
               inl
-              (put_all-IsCached (new_entries took epoch w) cache (epoch_of took (command_of took x)) p.block x cached
+              (put_all-IsCached (new_entries took epoch w) cache (epoch_of took (command_of_part took x)) p.block x cached
               (λ g i a b.
               let r = In-entries epoch (first_part took w.number) w.command.parts g i in
               let lt = place-before took queue w x r.0 p r.1 q (eligible-waits queue.waiting w h) (part_at-lt took x p e) done e r.2 (sym (sym b ∙ r.4)) in
@@ -252,7 +252,7 @@ MediumFacts-moved base blocks limit took queue epoch cache surface origins w c q
     covered_after x p e (inr here) =
         let inside = eligible-waits queue.waiting w h in
         let r = part_of-waiting took queue w x p q inside e here in
-        let n : epoch_of took (command_of took x) ≡ epoch = ap (epoch_of took) here ∙ epoch_of_eligible blocks limit took queue epoch w c q present h in
+        let n : epoch_of took (command_of_part took x) ≡ epoch = ap (epoch_of took) here ∙ epoch_of_eligible blocks limit took queue epoch w c q present h in
         let new = put_all-In_new (new_entries took epoch w) cache (record { epoch = epoch; block = p.block; part = first_part took w.number + r.0 })
         (IsAscending-entries epoch (first_part took w.number) w.command.parts)
         (entries-In epoch (first_part took w.number) w.command.parts r.0 p r.2) in
@@ -310,7 +310,7 @@ MediumFacts-written base limit took waiting epoch cache surface origins e c cf f
                   ap (part_at took) (sym at) ∙ entry.taken,
                   entry.block ∙ sym q,
                   ap (slice_get (slice_set surface e.block (body_at took e.part []))) q ∙ slice_get-set_same surface e.block (body_at took e.part []) on_surface ∙ ap Some body,
-                  subst (λ y. IsDone took waiting (command_of took y)) at entry.done,
+                  subst (λ y. IsDone took waiting (command_of_part took y)) at entry.done,
                 )
             | inr ne ↦
                 let g = f.written b x (sym (slice_get-set_other origins e.block b (Some e.part) ne) ∙ o) in
@@ -328,7 +328,7 @@ MediumFacts-written base limit took waiting epoch cache surface origins e c cf f
           elim (cases_eq b e.block) [
             | inl q ↦
                 let at = same_origin e.part x (sym origin ∙ ap (slice_get (slice_set origins e.block (Some e.part))) (sym q) ∙ o) in
-                subst (λ n. n ≤ g.epoch) (entry.in_epoch ∙ ap (λ y. epoch_of took (command_of took y)) at) (first.1 g there)
+                subst (λ n. n ≤ g.epoch) (entry.in_epoch ∙ ap (λ y. epoch_of took (command_of_part took y)) at) (first.1 g there)
             | inr ne ↦ f.older b x g (sym (slice_get-set_other origins e.block b (Some e.part) ne) ∙ o) there
           ];
       newer = λ x g o i.
@@ -361,9 +361,9 @@ MediumFacts-written base limit took waiting epoch cache surface origins e c cf f
         let b = cf.entries g i in
         let le = first.1 g i in
         let ne : e.epoch ≢ g.epoch = λ q. both_ways (same_place e g) n (same_place_from e g q same) in
-        let lt : epoch_of took (command_of took e.part) < epoch_of took (command_of took g.part) =
+        let lt : epoch_of took (command_of_part took e.part) < epoch_of took (command_of_part took g.part) =
         let p = a.in_epoch in let r = b.in_epoch in omega arith in
-        elim (cases_lt (command_of took e.part) (command_of took g.part)) [
-          | inl l ↦ command_of-earlier took e.part g.part l
-          | inr m ↦ let w = epoch_of-mono took (command_of took g.part) (command_of took e.part) m in absurd (omega arith)
+        elim (cases_lt (command_of_part took e.part) (command_of_part took g.part)) [
+          | inl l ↦ command_of_part-earlier took e.part g.part l
+          | inr m ↦ let w = epoch_of-mono took (command_of_part took g.part) (command_of_part took e.part) m in absurd (omega arith)
         ]

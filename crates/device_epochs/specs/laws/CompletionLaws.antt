@@ -11,9 +11,9 @@ use Rattle.order_model.specs.declared.command.Command.{Command}
 use Rattle.order_model.specs.declared.completion.Completion.{Completion}
 use Rattle.order_model.specs.declared.completion.Completion.TheVariants.{Moved, Flushed, Failed, Cut}
 use Rattle.order_model.specs.declared.history.Transfer.{Transfer}
-use Rattle.order_model.specs.Received.{part_at, first_part, command_of, epoch_of, ids_of, all_ids, IsFlush, completions_of, failures_of}
+use Rattle.order_model.specs.Received.{part_at, first_part, command_of_part, epoch_of, ids_of, all_ids, IsFlush, completions_of, failures_of}
 use Rattle.order_model.specs.Device.{NoneTwice, completion_id}
-use Rattle.order_model.proofs.Received.{command_of-first, part_at-first, part-lt, id_once, id_once-inside, is-flush}
+use Rattle.order_model.proofs.Received.{command_of_part-first, part_at-first, part-lt, id_once, id_once-inside, is-flush}
 use Rattle.command_queue.specs.Queue.{QueueState, Waiting, without}
 use Rattle.device_epochs.specs.Device.{DeviceState, is_off, tells_cut, answered_from}
 use Rattle.device_epochs.specs.code.Helpers.{told_failed}
@@ -401,9 +401,9 @@ moved-seen took ws moved lost cs off told id m f h =
     let p = moved-of t.1 id d.1 in
     let i = In-slice_get (t.1).parts p.0 p.1 in
     let place = first_part took t.0 + i.0 in
-    let it = command_of-first took t.0 t.1 i.0 c.taken i.1 in
+    let it = command_of_part-first took t.0 t.1 i.0 c.taken i.1 in
     let done = subst (IsDone took ws) (sym it) d.0 in
-    (place, p.0, part_there took t.0 i.0 t.1 p.0 c.taken i.2, p.2, (epoch_of took (command_of took place), m.all place (part-lt took t.0 t.1 i.0 c.taken i.1) done)))
+    (place, p.0, part_there took t.0 i.0 t.1 p.0 c.taken i.2, p.2, (epoch_of took (command_of_part took place), m.all place (part-lt took t.0 t.1 i.0 c.taken i.1) done)))
     (λ l. absurd (false≢true (only_failed t.1 (Moved id) l.1)))
     c.cause)
     (f.source (Moved id) h)

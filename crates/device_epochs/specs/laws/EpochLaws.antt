@@ -8,9 +8,9 @@ use Rattle.blk_base.specs.Members.{In, In-push, In-push_left, In-push_cases, In-
 use Rattle.order_model.specs.declared.part.Part.{Part}
 use Rattle.order_model.specs.declared.command.Command.{Command}
 use Rattle.order_model.specs.declared.history.Transfer.{Transfer}
-use Rattle.order_model.specs.Received.{all_parts, first_part, command_of, epoch_of, transfers}
+use Rattle.order_model.specs.Received.{all_parts, first_part, command_of_part, epoch_of, transfers}
 use Rattle.order_model.specs.Device.{is_ordered}
-use Rattle.order_model.proofs.Received.{length-all_parts-push, command_of-lt, command_of-push_old, command_of-push_new, command_of-first, place_of, part-lt, epoch_of-push_old, epoch_of-mono, epoch_of-barrier, epoch_of-plain, epoch_of-flat}
+use Rattle.order_model.proofs.Received.{length-all_parts-push, command_of_part-lt, command_of_part-push_old, command_of_part-push_new, command_of_part-first, place_of, part-lt, epoch_of-push_old, epoch_of-mono, epoch_of-barrier, epoch_of-plain, epoch_of-flat}
 use Rattle.command_queue.specs.Queue.{QueueState, Waiting, eligible, without}
 use Rattle.device_epochs.specs.laws.Valid.{IsDone, CommandFacts, QueueFacts, IsPresent, MovedFacts}
 use Rattle.device_epochs.specs.laws.QueueLaws.{number-lt, In-without, without-In, done-received, received-done, done-moved, moved-done, moved-done-now, eligible-waits, eligible_clear, apart, waiting-done_apart}
@@ -266,21 +266,21 @@ moved-received took ws moved c w f at it =
     record {
       place = λ t h. let lt = f.place t h in omega arith;
       done = λ t h.
-          subst (IsDone cs (ws ++ w ∷ [])) (sym (command_of-push_old took c t.part (f.place t h)))
-          (received-done took ws c w (command_of took t.part) at (f.done t h));
+          subst (IsDone cs (ws ++ w ∷ [])) (sym (command_of_part-push_old took c t.part (f.place t h)))
+          (received-done took ws c w (command_of_part took t.part) at (f.done t h));
       epoch = λ t h.
-          let lt = command_of-lt took t.part (f.place t h) in
+          let lt = command_of_part-lt took t.part (f.place t h) in
           f.epoch t h
-          ∙ sym (ap (epoch_of cs) (command_of-push_old took c t.part (f.place t h)) ∙ epoch_of-push_old took c (command_of took t.part) (omega arith));
+          ∙ sym (ap (epoch_of cs) (command_of_part-push_old took c t.part (f.place t h)) ∙ epoch_of-push_old took c (command_of_part took t.part) (omega arith));
       all = λ x lt d.
           ⊎_elim
           (λ old.
-          let same = command_of-push_old took c x old in
-          let k = command_of-lt took x old in
-          let before = done-received took ws c w (command_of took x) at (subst (IsDone cs (ws ++ w ∷ [])) same d) in
-          subst (λ e. In (transfer e x) moved) (sym (ap (epoch_of cs) same ∙ epoch_of-push_old took c (command_of took x) (omega arith)))
+          let same = command_of_part-push_old took c x old in
+          let k = command_of_part-lt took x old in
+          let before = done-received took ws c w (command_of_part took x) at (subst (IsDone cs (ws ++ w ∷ [])) same d) in
+          subst (λ e. In (transfer e x) moved) (sym (ap (epoch_of cs) same ∙ epoch_of-push_old took c (command_of_part took x) (omega arith)))
           (f.all x old before))
-          (λ new. absurd (d.gone w (In-push ws w) (at ∙ sym (command_of-push_new took c x new (omega arith)))))
+          (λ new. absurd (d.gone w (In-push ws w) (at ∙ sym (command_of_part-push_new took c x new (omega arith)))))
           (cases_lt x (length (all_parts took)));
     }
 
@@ -289,10 +289,10 @@ moved-moved took q moved epoch w f m h now =
     let ws = without w.number q.waiting in
     let at = f.queued w h in
     let new = transfers epoch (first_part took w.number) w.command.parts in
-    let number : (t : Transfer) → In t new → command_of took t.part ≡ w.number =
+    let number : (t : Transfer) → In t new → command_of_part took t.part ≡ w.number =
     λ t i.
     let r = In-transfers epoch (first_part took w.number) w.command.parts t i in
-    ap (command_of took) r.2 ∙ command_of-first took w.number w.command r.0 at r.1 in
+    ap (command_of_part took) r.2 ∙ command_of_part-first took w.number w.command r.0 at r.1 in
     let now_done = moved-done-now took q.waiting w.number (slice_get-length took w.number w.command at) in
     record {
       place = λ t i.
@@ -305,7 +305,7 @@ moved-moved took q moved epoch w f m h now =
           (In-append_cases moved new t i);
       done = λ t i.
           ⊎_elim
-          (λ j. moved-done took q.waiting w.number (command_of took t.part) (m.done t j))
+          (λ j. moved-done took q.waiting w.number (command_of_part took t.part) (m.done t j))
           (λ j. subst (IsDone took ws) (sym (number t j)) now_done)
           (In-append_cases moved new t i);
       epoch = λ t i.
@@ -316,14 +316,14 @@ moved-moved took q moved epoch w f m h now =
           (In-append_cases moved new t i);
       all = λ x lt d.
           ⊎_elim
-          (λ old. In-append_left moved new (transfer (epoch_of took (command_of took x)) x) (m.all x lt old))
+          (λ old. In-append_left moved new (transfer (epoch_of took (command_of_part took x)) x) (m.all x lt old))
           (λ same.
           let p = place_of took x lt in
           let it : p.command ≡ w.command = same_Some p.command w.command (sym p.taken ∙ ap (slice_get took) same ∙ at) in
           let within : p.inside < length w.command.parts = subst (λ (d : Command). p.inside < length d.parts) it p.within in
           let here : first_part took w.number + p.inside ≡ x = ap (λ k. first_part took k + p.inside) (sym same) ∙ sym p.place in
-          let e : epoch ≡ epoch_of took (command_of took x) = sym (ap (epoch_of took) same ∙ now) in
-          In-append_right moved new (transfer (epoch_of took (command_of took x)) x)
+          let e : epoch ≡ epoch_of took (command_of_part took x) = sym (ap (epoch_of took) same ∙ now) in
+          In-append_right moved new (transfer (epoch_of took (command_of_part took x)) x)
           (subst (λ n. In (transfer n x) new) e (subst (λ n. In (transfer epoch n) new) here (transfers-In epoch (first_part took w.number) w.command.parts p.inside within))))
-          (done-moved took q.waiting w.number (command_of took x) d);
+          (done-moved took q.waiting w.number (command_of_part took x) d);
     }

@@ -7,9 +7,9 @@ use Rattle.blk_base.specs.Members.{In, In-append_left, In-append_right, In-appen
 use Rattle.order_model.specs.declared.part.Part.{Part}
 use Rattle.order_model.specs.declared.command.Command.{Command}
 use Rattle.order_model.specs.declared.completion.Completion.TheVariants.{Flushed}
-use Rattle.order_model.specs.Received.{all_parts, part_at, command_of, first_part, epoch_of, IsBarrier, IsFlush}
+use Rattle.order_model.specs.Received.{all_parts, part_at, command_of_part, first_part, epoch_of, IsBarrier, IsFlush}
 use Rattle.order_model.specs.Device.{IsMoved, IsPartKept, IsQuiet, IsSurface, KeepsEpochOrder, KeepsFlush, Grows}
-use Rattle.order_model.proofs.Received.{command_of-lt, command_of-mono, epoch_of-between, barrier-is, flush-is, is-flush, id_once, In-flush-id}
+use Rattle.order_model.proofs.Received.{command_of_part-lt, command_of_part-mono, epoch_of-between, barrier-is, flush-is, is-flush, id_once, In-flush-id}
 use Rattle.command_queue.specs.Queue.{Waiting}
 use Rattle.device_epochs.specs.declared.cache.Entry.{Entry}
 use Rattle.device_epochs.specs.laws.CacheSteps.{part_at-lt, part_of-waiting, parts_of-waiting, IsHeld-written}
@@ -26,10 +26,10 @@ pub kept : (s : DeviceState) (x : ℕ) (p : Part) → part_at s.took x ≡ Some 
 kept s x p e h = record { part = p; taken = e; origin = h.0; held = h.1; later = h.2 }
 
 -- a part that is kept was moved
-pub kept_is_done : (s : DeviceState) (v : IsValid s) → (x : ℕ) → IsPartKept (seen s) x → IsDone s.took v.pending (command_of s.took x)
+pub kept_is_done : (s : DeviceState) (v : IsValid s) → (x : ℕ) → IsPartKept (seen s) x → IsDone s.took v.pending (command_of_part s.took x)
 kept_is_done s v x k =
     let o = v.medium.written k.part.block k.origin k.held in
-    elim (waits-or-done s.took v.pending (command_of s.took x) (command_of-lt s.took x (part_at-lt s.took x k.part k.taken))) [
+    elim (waits-or-done s.took v.pending (command_of_part s.took x) (command_of_part-lt s.took x (part_at-lt s.took x k.part k.taken))) [
       | inl w ↦
           let at = part_of-waiting s.took (with_waiting s.queue v.pending) w.0 x k.part v.queue w.1 k.taken (sym w.2) in
           let lt = place-before s.took (with_waiting s.queue v.pending) w.0 k.origin at.0 o.0 k.part v.queue w.1 (part_at-lt s.took k.origin o.0 o.1) o.4 o.1 at.2 (sym o.2) in
@@ -39,8 +39,8 @@ kept_is_done s v x k =
       | inr d ↦ d
     ]
 
-pub moved_from_done : (s : DeviceState) (v : IsValid s) → (x : ℕ) → x < length (all_parts s.took) → IsDone s.took v.pending (command_of s.took x) → IsMoved (seen s) x
-moved_from_done s v x lt d = (epoch_of s.took (command_of s.took x), v.moved.all x lt d)
+pub moved_from_done : (s : DeviceState) (v : IsValid s) → (x : ℕ) → x < length (all_parts s.took) → IsDone s.took v.pending (command_of_part s.took x) → IsMoved (seen s) x
+moved_from_done s v x lt d = (epoch_of s.took (command_of_part s.took x), v.moved.all x lt d)
 
 pub kept_is_moved : (s : DeviceState) → IsValid s → (x : ℕ) → IsPartKept (seen s) x → IsMoved (seen s) x
 kept_is_moved s v x k = moved_from_done s v x (part_at-lt s.took x k.part k.taken) (kept_is_done s v x k)
@@ -92,13 +92,13 @@ pub epoch_order_law : (s : DeviceState) → IsValid s → KeepsEpochOrder (seen 
 epoch_order_law s v = record {
   epochs = λ x y b lt h before after k.
       let o = v.medium.written k.part.block k.origin k.held in
-      let mono = command_of-mono s.took y k.origin k.later in
-      let behind : b < command_of s.took k.origin = omega arith in
-      let d = done_before_barrier s v (command_of s.took x) b (command_of s.took k.origin) h before behind o.4 in
+      let mono = command_of_part-mono s.took y k.origin k.later in
+      let behind : b < command_of_part s.took k.origin = omega arith in
+      let d = done_before_barrier s v (command_of_part s.took x) b (command_of_part s.took k.origin) h before behind o.4 in
       let p = slice_get-in_range (all_parts s.took) x lt in
       elim (v.medium.covered x p.0 p.1 d) [
         | inl cached ↦
-            let above = epoch_of-between s.took (command_of s.took x) b (command_of s.took k.origin) h before behind in
+            let above = epoch_of-between s.took (command_of_part s.took x) b (command_of_part s.took k.origin) h before behind in
             let older = v.medium.older k.part.block k.origin cached.entry k.held cached.there in
             let same = cached.same_epoch in
             absurd (omega (arith, above, older, same))
@@ -237,7 +237,7 @@ empty_is_quiet s v h =
     record {
       kept = λ x lt.
           let p = slice_get-in_range (all_parts s.took) x lt in
-          elim (v.medium.covered x p.0 p.1 (all_done (command_of s.took x) (command_of-lt s.took x lt))) [
+          elim (v.medium.covered x p.0 p.1 (all_done (command_of_part s.took x) (command_of_part-lt s.took x lt))) [
             | inl cached ↦ absurd (subst (In cached.entry) h.1 cached.there)
             | inr held ↦ kept s x p.0 p.1 held
           ];

@@ -9,10 +9,10 @@ use Rattle.blk_base.specs.Members.{In, In-push, In-push_left, In-push_cases, In-
 use Rattle.order_model.specs.declared.part.Part.{Part}
 use Rattle.order_model.specs.declared.command.Command.{Command}
 use Rattle.order_model.specs.declared.command.Priority.TheVariants.{Ordered}
-use Rattle.order_model.specs.Received.{all_parts, part_at, first_part, command_of}
+use Rattle.order_model.specs.Received.{all_parts, part_at, first_part, command_of_part}
 use Rattle.order_model.specs.Device.{Seen, IsReceivable, NoneTwice, is_ordered}
 use Rattle.order_model.specs.laws.ArrivalLaws as arrivals
-use Rattle.order_model.proofs.Received.{all_parts-push, all_ids-push, command_of-first, command_of-earlier, place_of, part_at-place}
+use Rattle.order_model.proofs.Received.{all_parts-push, all_ids-push, command_of_part-first, command_of_part-earlier, place_of, part_at-place}
 use Rattle.command_queue.specs.Queue.{QueueState, Waiting, have_common_block, stands_in_way, is_free, eligible, without, arrived, departed, AreNumbered}
 use Rattle.device_epochs.specs.laws.Valid.{IsDone, CommandFacts, QueueFacts}
 
@@ -211,10 +211,10 @@ done-before took q w k c f h d e common =
     (cases_lt k w.number)
 
 -- the same of a part that is done, and of one that waits
-pub place-before : (took : List Command) (q : QueueState) (w : Waiting) (x i : ℕ) (p r : Part) → QueueFacts took q → In w q.waiting → x < length (all_parts took) → IsDone took q.waiting (command_of took x) → part_at took x ≡ Some p → slice_get w.command.parts i ≡ Some r → r.block ≡ p.block → x < first_part took w.number + i
+pub place-before : (took : List Command) (q : QueueState) (w : Waiting) (x i : ℕ) (p r : Part) → QueueFacts took q → In w q.waiting → x < length (all_parts took) → IsDone took q.waiting (command_of_part took x) → part_at took x ≡ Some p → slice_get w.command.parts i ≡ Some r → r.block ≡ p.block → x < first_part took w.number + i
 place-before took q w x i p r f h lt d e g same =
     let at = place_of took x lt in
     let inside = slice_get-In at.command.parts at.inside p (sym (part_at-place took x at) ∙ e) in
-    let before = done-before took q w (command_of took x) at.command f h d at.taken (common_block w.command.parts at.command.parts r p (slice_get-In w.command.parts i r g) inside same) in
-    let it = command_of-first took w.number w.command i (f.queued w h) (slice_get-length w.command.parts i r g) in
-    command_of-earlier took x (first_part took w.number + i) (omega arith)
+    let before = done-before took q w (command_of_part took x) at.command f h d at.taken (common_block w.command.parts at.command.parts r p (slice_get-In w.command.parts i r g) inside same) in
+    let it = command_of_part-first took w.number w.command i (f.queued w h) (slice_get-length w.command.parts i r g) in
+    command_of_part-earlier took x (first_part took w.number + i) (omega arith)

@@ -9,7 +9,7 @@ use Rattle.order_model.specs.declared.command.Priority.TheVariants.{Ordered}
 use Rattle.order_model.specs.declared.completion.Completion.{Completion}
 use Rattle.order_model.specs.declared.completion.Completion.TheVariants.{Cut}
 use Rattle.order_model.specs.declared.history.Transfer.{Transfer}
-use Rattle.order_model.specs.Received.{all_parts, part_at, command_of, ids_of, all_ids, epoch_of, IsFlush, completions_of, failures_of}
+use Rattle.order_model.specs.Received.{all_parts, part_at, command_of_part, ids_of, all_ids, epoch_of, IsFlush, completions_of, failures_of}
 use Rattle.order_model.specs.Device.{NoneTwice, completion_id}
 use Rattle.command_queue.specs.Queue.{QueueState, Waiting, AreNumbered, stands_in_way, without}
 use Rattle.device_epochs.specs.declared.cache.Entry.{Entry}
@@ -49,9 +49,9 @@ IsPresent took waiting epoch = (k : ℕ) → IsAhead took waiting k → ((w : Wa
 -- the parts that were moved are those of the commands that are done, each with its epoch
 pub record MovedFacts (took : List Command) (waiting : List Waiting) (moved : List Transfer) : Type 0 where
   pub place : (t : Transfer) → In t moved → t.part < length (all_parts took)
-  pub done : (t : Transfer) → In t moved → IsDone took waiting (command_of took t.part)
-  pub epoch : (t : Transfer) → In t moved → t.epoch ≡ epoch_of took (command_of took t.part)
-  pub all : (x : ℕ) → x < length (all_parts took) → IsDone took waiting (command_of took x) → In (record { epoch = epoch_of took (command_of took x); part = x }) moved
+  pub done : (t : Transfer) → In t moved → IsDone took waiting (command_of_part took t.part)
+  pub epoch : (t : Transfer) → In t moved → t.epoch ≡ epoch_of took (command_of_part took t.part)
+  pub all : (x : ℕ) → x < length (all_parts took) → IsDone took waiting (command_of_part took x) → In (record { epoch = epoch_of took (command_of_part took x); part = x }) moved
 
 -- ---- the cache
 
@@ -60,8 +60,8 @@ pub record IsEntry (took : List Command) (waiting : List Waiting) (epoch : ℕ) 
   pub part : Part
   pub taken : part_at took e.part ≡ Some part
   pub block : part.block ≡ e.block
-  pub done : IsDone took waiting (command_of took e.part)
-  pub in_epoch : e.epoch ≡ epoch_of took (command_of took e.part)
+  pub done : IsDone took waiting (command_of_part took e.part)
+  pub in_epoch : e.epoch ≡ epoch_of took (command_of_part took e.part)
   pub past : e.epoch ≤ epoch
 
 -- no two entries have one epoch and block
@@ -97,16 +97,16 @@ pub record MediumFacts (base : List (List ℕ)) (took : List Command) (waiting :
   pub blocks : length surface ≡ length base
   pub places : length origins ≡ length base
   pub written : (b x : ℕ) → slice_get origins b ≡ Some (Some x)
-      → (p : Part) × (part_at took x ≡ Some p) × (p.block ≡ b) × (slice_get surface b ≡ Some p.body) × IsDone took waiting (command_of took x)
+      → (p : Part) × (part_at took x ≡ Some p) × (p.block ≡ b) × (slice_get surface b ≡ Some p.body) × IsDone took waiting (command_of_part took x)
   pub untouched : (b : ℕ) → slice_get origins b ≡ Some None → slice_get surface b ≡ slice_get base b
   -- what is on the medium is of no later epoch than what is in the cache, and of an earlier place than an entry of its block
-  pub older : (b x : ℕ) (e : Entry) → slice_get origins b ≡ Some (Some x) → In e cache → epoch_of took (command_of took x) ≤ e.epoch
+  pub older : (b x : ℕ) (e : Entry) → slice_get origins b ≡ Some (Some x) → In e cache → epoch_of took (command_of_part took x) ≤ e.epoch
   pub newer : (x : ℕ) (e : Entry) → slice_get origins e.block ≡ Some (Some x) → In e cache → x < e.part
   -- what is done is in the cache or on the medium
-  pub covered : (x : ℕ) (p : Part) → part_at took x ≡ Some p → IsDone took waiting (command_of took x)
-      → IsCached cache (epoch_of took (command_of took x)) p.block x ⊎ IsHeld origins p.block x
+  pub covered : (x : ℕ) (p : Part) → part_at took x ≡ Some p → IsDone took waiting (command_of_part took x)
+      → IsCached cache (epoch_of took (command_of_part took x)) p.block x ⊎ IsHeld origins p.block x
   -- behind a flush that is done, all is on the medium
-  pub flushed : (k id x : ℕ) (p : Part) → IsFlush took k id → IsDone took waiting k → part_at took x ≡ Some p → command_of took x < k → IsHeld origins p.block x
+  pub flushed : (k id x : ℕ) (p : Part) → IsFlush took k id → IsDone took waiting k → part_at took x ≡ Some p → command_of_part took x < k → IsHeld origins p.block x
 
 -- ---- failed transfers
 

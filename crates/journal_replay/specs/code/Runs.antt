@@ -4,7 +4,7 @@ use Rattle.blk_base.specs.Streams.{Rose}
 use Rattle.blk_base.specs.Members.{In}
 use Rattle.order_model.specs.declared.part.Part.{Part}
 use Rattle.order_model.specs.declared.command.Command.{Command}
-use Rattle.order_model.specs.Received.{all_parts, part_at, command_of, all_ids, IsFlush}
+use Rattle.order_model.specs.Received.{all_parts, part_at, command_of_part, all_ids, IsFlush}
 use Rattle.order_model.specs.Device.{Seen}
 use Rattle.order_model.specs.Steps.{KeepsGiven}
 use Rattle.order_model.specs.Machine.{Machine}
@@ -41,7 +41,7 @@ pub record RunKeeps (old : Seen) (rest : List Command) (new : Seen) (left : List
 pub record FlushedLast (cs : List Command) (id : ℕ) : Type 0 where
   pub at : ℕ
   pub flush : IsFlush cs at id
-  pub last : (x : ℕ) → x < length (all_parts cs) → command_of cs x < at
+  pub last : (x : ℕ) → x < length (all_parts cs) → command_of_part cs x < at
   pub alone : (x : ℕ) (p : Part) → part_at cs x ≡ Some p → p.id ≡ id → ⊥
   pub listed : In id (all_ids cs)
 

@@ -9,8 +9,8 @@ use Rattle.blk_base.specs.Members.{In, slice_get-length, slice_get-take}
 use Rattle.order_model.specs.declared.part.Part.{Part}
 use Rattle.order_model.specs.declared.command.Command.{Command}
 use Rattle.order_model.specs.declared.command.Priority.TheVariants.{Simple, Ordered}
-use Rattle.order_model.specs.Received.{all_parts, part_at, command_of, all_ids, IsFlush}
-use Rattle.order_model.proofs.Received.{all_parts-append, command_of-append_old, command_of-lt, flush-is, is-flush}
+use Rattle.order_model.specs.Received.{all_parts, part_at, command_of_part, all_ids, IsFlush}
+use Rattle.order_model.proofs.Received.{all_parts-append, command_of_part-append_old, command_of_part-lt, flush-is, is-flush}
 use Rattle.journal_replay.specs.Commands.{write, flush, home_writes, ending, sends, home_of, homes}
 use Rattle.journal_replay.specs.laws.Sends.{length-home_writes}
 use Rattle.journal_replay.specs.code.Sending.{IsCommand, CanTake}
@@ -58,7 +58,7 @@ is_flush_at (h ∷ hs) superblock first n = is_flush_at hs superblock (first + 1
 length-sends : (hs : List Logged) (superblock : Logged) → length (sends hs superblock) ≡ length hs + 2
 length-sends hs superblock = length-append (home_writes 0 hs) (ending (length hs) superblock) ∙ ap (λ (k : ℕ). k + 2) (length-home_writes hs 0)
 
-parts_before : (hs : List Logged) (superblock : Logged) (first n x : ℕ) → x < length (all_parts (home_writes first hs ++ ending n superblock)) → command_of (home_writes first hs ++ ending n superblock) x < suc (length hs)
+parts_before : (hs : List Logged) (superblock : Logged) (first n x : ℕ) → x < length (all_parts (home_writes first hs ++ ending n superblock)) → command_of_part (home_writes first hs ++ ending n superblock) x < suc (length hs)
 parts_before hs superblock first n x lt =
     let front = home_writes first hs ++ write n superblock true ∷ [] in
     let back : List Command = flush (n + 1) ∷ [] in
@@ -68,8 +68,8 @@ parts_before hs superblock first n x lt =
     let parts = ap length (all_parts-append front back) ∙ length-append (all_parts front) (all_parts back) in
     let more = ap (λ (cs : List Command). length (all_parts cs)) split in
     let below : x < length (all_parts front) = omega (arith, lt, parts, more) in
-    let same = ap (λ (cs : List Command). command_of cs x) (sym split) ∙ command_of-append_old front back x below in
-    let fine = command_of-lt front x below in
+    let same = ap (λ (cs : List Command). command_of_part cs x) (sym split) ∙ command_of_part-append_old front back x below in
+    let fine = command_of_part-lt front x below in
     omega (arith, same, fine, size, count)
 
 pub ends_in_flush : (hs : List Logged) (superblock : Logged) → FlushedLast (sends hs superblock) (length hs + 1)

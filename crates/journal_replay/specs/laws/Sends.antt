@@ -7,8 +7,8 @@ use Rattle.std.proofs.lemmas.List.{take-append-drop}
 use Rattle.blk_base.specs.Members.{slice_get-append_left, slice_get-append_right, slice_get-length}
 use Rattle.order_model.specs.declared.part.Part.{Part}
 use Rattle.order_model.specs.declared.command.Command.{Command}
-use Rattle.order_model.specs.Received.{all_parts, part_at, command_of, IsBarrier}
-use Rattle.order_model.proofs.Received.{all_parts-append, command_of-append_old, command_of-lt}
+use Rattle.order_model.specs.Received.{all_parts, part_at, command_of_part, IsBarrier}
+use Rattle.order_model.proofs.Received.{all_parts-append, command_of_part-append_old, command_of_part-lt}
 use Rattle.log_model.specs.Marks.{Logged}
 use Rattle.journal_replay.specs.Commands.{for_block, write, home_writes, ending, sends}
 
@@ -23,16 +23,16 @@ pub parts-home_writes : (hs : List Logged) (id : ℕ) → length (all_parts (hom
 parts-home_writes [] id = refl
 parts-home_writes (h ∷ hs) id = ap suc (parts-home_writes hs (id + 1))
 
-command_of-there : (c : Command) (cs : List Command) (x : ℕ) → length c.parts ≤ x → command_of (c ∷ cs) x ≡ command_of cs (x - length c.parts) + 1
-command_of-there c cs x h = cond-false (nat_lt x (length c.parts)) 0 (command_of cs (x - length c.parts) + 1) (le-ltb x (length c.parts) h)
+command_of_part-there : (c : Command) (cs : List Command) (x : ℕ) → length c.parts ≤ x → command_of_part (c ∷ cs) x ≡ command_of_part cs (x - length c.parts) + 1
+command_of_part-there c cs x h = cond-false (nat_lt x (length c.parts)) 0 (command_of_part cs (x - length c.parts) + 1) (le-ltb x (length c.parts) h)
 
 -- a part behind the first commands belongs to a command behind them
-pub command_of-behind : (xs ys : List Command) (x : ℕ) → length (all_parts xs) ≤ x → length xs ≤ command_of (xs ++ ys) x
-command_of-behind [] ys x h = omega arith
-command_of-behind (a ∷ xs) ys x h =
+pub command_of_part-behind : (xs ys : List Command) (x : ℕ) → length (all_parts xs) ≤ x → length xs ≤ command_of_part (xs ++ ys) x
+command_of_part-behind [] ys x h = omega arith
+command_of_part-behind (a ∷ xs) ys x h =
     let n = length-append a.parts (all_parts xs) in
-    let there = command_of-there a (xs ++ ys) x (omega arith) in
-    let rest = command_of-behind xs ys (x - length a.parts) (omega arith) in
+    let there = command_of_part-there a (xs ++ ys) x (omega arith) in
+    let rest = command_of_part-behind xs ys (x - length a.parts) (omega arith) in
     omega arith
 
 -- a part of the first commands is that part of all
@@ -93,7 +93,7 @@ take-behind (h ∷ hs) id j (suc k) rest e = ap (λ cs. write id h (length hs ==
 -- where the superblock's part was taken, all home writes were taken before it, and a barrier stands between
 pub record AllBefore (took : List Command) (n : ℕ) : Type 0 where
   pub here : (x : ℕ) → x < n → x < length (all_parts took)
-  pub barrier : (x : ℕ) → x < n → (b : ℕ) × IsBarrier took b × (command_of took x ≤ b) × (b < command_of took n)
+  pub barrier : (x : ℕ) → x < n → (b : ℕ) × IsBarrier took b × (command_of_part took x ≤ b) × (b < command_of_part took n)
 
 homes_before : (hs : List Logged) (rest : List Command) → AllBefore (home_writes 0 hs ++ rest) (length hs)
 homes_before hs rest =
@@ -104,9 +104,9 @@ homes_before hs rest =
       here = λ x lt. omega arith;
       barrier = λ x lt.
           let e : length hs ≡ suc (length hs - 1) = omega arith in
-          let same = command_of-append_old (home_writes 0 hs) rest x (omega arith) in
-          let below = command_of-lt (home_writes 0 hs) x (omega arith) in
-          let above = command_of-behind (home_writes 0 hs) rest (length hs) (omega arith) in
+          let same = command_of_part-append_old (home_writes 0 hs) rest x (omega arith) in
+          let below = command_of_part-lt (home_writes 0 hs) x (omega arith) in
+          let above = command_of_part-behind (home_writes 0 hs) rest (length hs) (omega arith) in
           (length hs - 1, last_home hs 0 rest (length hs - 1) e, omega arith, omega arith);
     }
 

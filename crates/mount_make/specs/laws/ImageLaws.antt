@@ -38,7 +38,7 @@ use Rattle.journal_blocks.specs.Super.{super_of as journal_super, is_journal}
 use Rattle.journal_blocks.specs.Log.{Reading, log_of}
 use Rattle.journal_replay.specs.Recovered.{by_super as recovery_by, emptied, recovered, fault_by, journal_fault}
 use Rattle.journal_replay.specs.laws.Attempts.{same_log, body_at-some}
-use Rattle.mount_make.specs.Images.{Told, image_fault, has_journal, as_told, fault_in_journal, recovered_from, volume_in, whole_volume, by_super, divided, by_walk, by_journal, by_geometry, mounted, tree_after, image_tree}
+use Rattle.mount_make.specs.Images.{FaultPlace, image_fault, has_journal, as_told, fault_in_journal, recovered_from, volume_in, whole_volume, by_super, divided, by_walk, by_journal, by_geometry, mounted, tree_after, image_tree}
 use Rattle.mount_make.specs.ImageTrees.{IsImageTree, in_volume, behind, in_journal, AgreeOnImage}
 use Rattle.mount_make.specs.laws.Recovering.{recovered_as, by_start, emptied-at}
 
@@ -47,7 +47,7 @@ use Rattle.mount_make.specs.laws.Recovering.{recovered_as, by_start, emptied-at}
 whole_is : (blocks : List (List ℕ)) (h g : Geometry) → whole_volume blocks h ≡ Ok g → h ≡ g
 whole_is blocks h g e = by (nat_lt (length blocks) h.zones) e
   where
-    by : (short : Bool) → ◌≡◌ {A = Result Geometry Told} (if short then Err (image.BadGeometry, length blocks) else Ok h) (Ok g) → h ≡ g
+    by : (short : Bool) → ◌≡◌ {A = Result Geometry FaultPlace} (if short then Err (image.BadGeometry, length blocks) else Ok h) (Ok g) → h ≡ g
     by true e = absurd (err-ok _ g e)
     by false e = same_Ok h g e
 
@@ -59,7 +59,7 @@ divided_super : (blocks : List (List ℕ)) (g : Geometry) → divided blocks ≡
 unfolding divided
 divided_super blocks g e = by (nat_lt (length blocks) 2) refl e
   where
-    by : (short : Bool) → nat_lt (length blocks) 2 ≡ short → ◌≡◌ {A = Result Geometry Told} (if short then Err (image.BadGeometry, length blocks) else by_super blocks (super_of (disk_of blocks 1))) (Ok g) →
+    by : (short : Bool) → nat_lt (length blocks) 2 ≡ short → ◌≡◌ {A = Result Geometry FaultPlace} (if short then Err (image.BadGeometry, length blocks) else by_super blocks (super_of (disk_of blocks 1))) (Ok g) →
         (nat_lt (length blocks) 2 ≡ false) × (by_super blocks (super_of (disk_of blocks 1)) ≡ Ok g)
     by true is e = absurd (err-ok _ g e)
     by false is e = (is, e)
@@ -83,12 +83,12 @@ some_inode blocks g e = some_inode_of (disk_of blocks 1) g (super_by blocks g (s
 
 -- ---- the tree of an image is that of its volume
 
-abbrev tree_by : Geometry → List (List ℕ) → Result Walked Fault → Result (List (ℕ × Node)) Told
+abbrev tree_by : Geometry → List (List ℕ) → Result Walked Fault → Result (List (ℕ × Node)) FaultPlace
 tree_by g volume r = tree_after (by_walk g volume r)
 
 -- a tree, or a fault of the walk as one of its image
-abbrev told_tree : Result (List (ℕ × Node)) Fault → Result (List (ℕ × Node)) Told
-told_tree r = elim r as (λ _. Result (List (ℕ × Node)) Told) [ Ok tree ↦ Ok tree | Err fault ↦ Err (image_fault fault.0, fault.1) ]
+abbrev told_tree : Result (List (ℕ × Node)) Fault → Result (List (ℕ × Node)) FaultPlace
+told_tree r = elim r as (λ _. Result (List (ℕ × Node)) FaultPlace) [ Ok tree ↦ Ok tree | Err fault ↦ Err (image_fault fault.0, fault.1) ]
 
 tree_there : (g : Geometry) (volume : List (List ℕ)) (tree : List (ℕ × Node)) (r : Result Walked Fault) → walked g volume ≡ r → tree_by g volume r ≡ Ok tree → tree_of g volume ≡ Ok tree
 tree_there g volume tree (Ok all) is e =
@@ -100,12 +100,12 @@ tree_back : (g : Geometry) (volume : List (List ℕ)) (tree : List (ℕ × Node)
 tree_back g volume tree (Ok all) is e = ap told_tree e
 tree_back g volume tree (Err fault) is e = absurd (err-ok fault tree (sym (ap (tree_found volume) is) ∙ e))
 
-image_with : (blocks : List (List ℕ)) (tree : List (ℕ × Node)) (g : Geometry) (o : Option Told) → fault_in_journal g.zones blocks ≡ o → tree_after (by_journal g blocks o) ≡ Ok tree →
+image_with : (blocks : List (List ℕ)) (tree : List (ℕ × Node)) (g : Geometry) (o : Option FaultPlace) → fault_in_journal g.zones blocks ≡ o → tree_after (by_journal g blocks o) ≡ Ok tree →
     (fault_in_journal g.zones blocks ≡ None) × (tree_of g (volume_in g blocks) ≡ Ok tree)
 image_with blocks tree g None is e = (is, tree_there g (volume_in g blocks) tree (walked g (volume_in g blocks)) refl e)
 image_with blocks tree g (Some told) is e = absurd (err-ok _ tree e)
 
-image_by : (blocks : List (List ℕ)) (tree : List (ℕ × Node)) (r : Result Geometry Told) → divided blocks ≡ r → tree_after (by_geometry blocks r) ≡ Ok tree →
+image_by : (blocks : List (List ℕ)) (tree : List (ℕ × Node)) (r : Result Geometry FaultPlace) → divided blocks ≡ r → tree_after (by_geometry blocks r) ≡ Ok tree →
     (g : Geometry) × (divided blocks ≡ Ok g) × (fault_in_journal g.zones blocks ≡ None) × (tree_of g (volume_in g blocks) ≡ Ok tree)
 image_by blocks tree (Ok g) is e = let x = image_with blocks tree g (fault_in_journal g.zones blocks) refl e in (g, is, x.0, x.1)
 image_by blocks tree (Err told) is e = absurd (err-ok _ tree e)
@@ -254,8 +254,8 @@ walk_fault_by : (g : Geometry) (volume : List (List ℕ)) (fault : ImageFault) (
     (kind : LayoutFault) × (image_fault kind ≡ fault) × (walked g volume ≡ Err (kind, block))
 walk_fault_by g volume fault block (Ok all) is e = absurd (err-ok (fault, block) _ (sym e))
 walk_fault_by g volume fault block (Err told) is e =
-    let same : ◌≡◌ {A = Told} (image_fault told.0, told.1) (fault, block) = cc in
-    (told.0, ap (λ (t : Told). t.0) same, is ∙ ap (λ block. Err (told.0, block)) (ap (λ (t : Told). t.1) same))
+    let same : ◌≡◌ {A = FaultPlace} (image_fault told.0, told.1) (fault, block) = cc in
+    (told.0, ap (λ (t : FaultPlace). t.0) same, is ∙ ap (λ block. Err (told.0, block)) (ap (λ (t : FaultPlace). t.1) same))
 
 -- a fault that is told behind the superblock and the journal is the first of the volume, and a defect
 pub image_first : (blocks : List (List ℕ)) (g : Geometry) (fault : ImageFault) (block : ℕ) → divided blocks ≡ Ok g → fault_in_journal g.zones blocks ≡ None → mounted blocks ≡ Err (fault, block) →

@@ -20,7 +20,7 @@ use Rattle.journal_replay.specs.laws.Recoveries.{fine_log}
 use Rattle.volume_ops.specs.Volume.{disk_of}
 use Rattle.minix_layout.specs.Geometry.{IsSound}
 use Rattle.mount_make.specs.declared.fault.ImageFault.TheVariants.{BadGeometry}
-use Rattle.mount_make.specs.Images.{Told, journal_kind, by_super as divided_by, divided, has_journal, as_told, fault_in_journal, recovered_from, read_or_none, journal_at, recovered_by, recovered_image, recovery_fault}
+use Rattle.mount_make.specs.Images.{FaultPlace, journal_kind, by_super as divided_by, divided, has_journal, as_told, fault_in_journal, recovered_from, read_or_none, journal_at, recovered_by, recovered_image, recovery_fault}
 use Rattle.order_model.specs.Device.{Seen}
 use Rattle.order_model.specs.Steps.{OnlyReads}
 use Rattle.journal_replay.specs.declared.fault.RecoverFault.{RecoverFault}
@@ -164,7 +164,7 @@ same_whole old new size (Err fault) = refl
 same_divided : (old new : List (List ℕ)) → length new ≡ length old → disk_of new 1 ≡ disk_of old 1 → divided new ≡ divided old
 unfolding divided
 same_divided old new size one =
-    rw size (ap (λ (r : Result Geometry Told). if nat_lt (length old) 2 then Err (BadGeometry, length old) else r) (ap (λ (b : List ℕ). divided_by new (volume_super b)) one ∙ same_whole old new size (volume_super (disk_of old 1))))
+    rw size (ap (λ (r : Result Geometry FaultPlace). if nat_lt (length old) 2 then Err (BadGeometry, length old) else r) (ap (λ (b : List ℕ). divided_by new (volume_super b)) one ∙ same_whole old new size (volume_super (disk_of old 1))))
 
 -- a volume has more than two blocks
 low_enough : (g : Geometry) → IsSound g → 1 < g.zones

@@ -13,10 +13,10 @@ IsReadAs (Err (line.Kind kind)) read = read ≡ Err kind
 IsReadAs (Err line.NoMemory) read = Unit {0}
 
 -- lines were read as the grammar reads them
-abbrev pub Reads : {A : Type 0} → Result A ScriptError → Result A (ℕ × ScriptKind) → Type 0
-Reads (Ok x) read = read ≡ Ok x
-Reads (Err (script.Fault n kind)) read = read ≡ Err (n, kind)
-Reads (Err script.NoMemory) read = Unit {0}
+abbrev pub IsTextReadAs : {A : Type 0} → Result A ScriptError → Result A (ℕ × ScriptKind) → Type 0
+IsTextReadAs (Ok x) read = read ≡ Ok x
+IsTextReadAs (Err (script.Fault n kind)) read = read ≡ Err (n, kind)
+IsTextReadAs (Err script.NoMemory) read = Unit {0}
 
 -- a line's fault, with the number of the line
 abbrev pub fault_at : ℕ → LineError → ScriptError

@@ -15,7 +15,7 @@ use Rattle.minix_layout.specs.laws.InodeLaws.{inode_read_back, other_inode}
 use Rattle.minix_layout.specs.laws.SlotLaws.{slot_read_back, other_slot}
 use Rattle.volume_ops.specs.Places.{table_block}
 use Rattle.volume_ops.specs.Volume.{disk_of}
-use Rattle.volume_ops.specs.Fields.{inode_at}
+use Rattle.volume_ops.specs.VolumeFields.{inode_at}
 use Rattle.volume_model.specs.Edits.{Edit, put_inode, put_slot, touched_by, body_after, edited, edited_all, touched_by_all}
 use Rattle.volume_model.specs.Volume.{IsWhole}
 

@@ -1,6 +1,6 @@
 use Rattle.std.proofs.Common.{◌≡◌, ◌+◌, ◌≤◌, drop, filter, length}
 use Rattle.command_queue.specs.Queue.{eligible, is_free}
-use Rattle.command_queue.specs.code.Slots.{seated}
+use Rattle.command_queue.specs.code.Seats.{seated}
 use Rattle.command_queue.proofs.queue.count_free.Given as goal
 
 abbrev pub invariant-loop-v : goal.invariant-loop-v

@@ -5,7 +5,7 @@ use Rattle.std.proofs.lemmas.Iterator.Search.{all_from_yields_List}
 use Rattle.std.proofs.lemmas.List.Folds.{list_all-map}
 use Rattle.command_queue.specs.declared.queue.Seat.{Seat}
 use Rattle.command_queue.specs.Queue.{Waiting, stands_in_way}
-use Rattle.command_queue.specs.code.Slots.{waiting_at}
+use Rattle.command_queue.specs.code.Seats.{waiting_at}
 use Rattle.command_queue.proofs.queue.is_free.Goals as goal
 
 pub returns : goal.returns

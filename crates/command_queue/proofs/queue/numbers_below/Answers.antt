@@ -1,5 +1,5 @@
 use Rattle.std.proofs.Common.{rules}
-use Rattle.command_queue.proofs.Slots.{EachOnce-more}
+use Rattle.command_queue.proofs.Seats.{EachOnce-more}
 use Rattle.command_queue.proofs.queue.numbers_below.Goals as goal
 
 pub loop-slot-preserved : goal.loop-slot-preserved

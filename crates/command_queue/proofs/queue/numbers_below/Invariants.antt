@@ -1,5 +1,5 @@
 use Rattle.std.proofs.Common.{◌≡◌, [], vec_len, vec_capacity}
-use Rattle.command_queue.specs.code.Slots.{EachOnce}
+use Rattle.command_queue.specs.code.Seats.{EachOnce}
 use Rattle.command_queue.proofs.queue.numbers_below.Given as goal
 
 abbrev pub invariant-loop-slot : goal.invariant-loop-slot

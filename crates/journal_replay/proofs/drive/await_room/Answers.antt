@@ -16,7 +16,7 @@ loop-dev-smaller g c =
     let full : d.has_room now ≡ false = sym c.room.ensures ∙ c.if-not-room.true in
     let fine = not_failed (d.seen now) (laws.failure now i.valid) i.empty runs in
     let law = laws.progress now i.valid (laws.on now i.valid i.on) fine in
-    let less = c.turn-end.ensures.falls (inl full) running refl (works-full (d.seen now) (d.left now) (d.has_room now) (d.can_transfer now) (d.can_persist now) law full) in
+    let less = c.turn-end.ensures.falls (inl full) running refl (works-full (d.seen now) (d.work_left now) (d.has_room now) (d.can_transfer now) (d.can_persist now) law full) in
     omega arith
 
 pub loop-dev-preserved : goal.loop-dev-preserved

@@ -26,7 +26,7 @@ loop-completion-preserved g c =
       kept = subst (λ (s : d.State). DrainKeeps (d.seen (d.state c.args.dev.now)) (d.seen s)) (sym after) (drain_more (d.seen (d.state c.args.dev.now)) (d.seen now) (d.seen (d.answered now)) (Some c.in-Some.completion) i.kept told);
       on = λ on. subst d.stays_on (sym after) (laws.stays now 0 (i.on on)).2;
       sound = λ sound. let p = i.sound sound in subst (λ (s : d.State). d.sound s × ((d.seen s).faults ≡ (d.seen (d.state c.args.dev.now)).faults)) (sym after) ((laws.stays_sound now 0 p.0).2, ap (λ (x : Seen). x.faults) law.1.rest ∙ p.1);
-      left = ap d.left after ∙ ((laws.falls now 0 i.valid).2 ∙ i.left);
+      left = ap d.work_left after ∙ ((laws.falls now 0 i.valid).2 ∙ i.left);
     }
 
 pub returns-clause-on : goal.returns-clause-on
@@ -37,7 +37,7 @@ returns-clause-on g c on =
 pub returns-clause-left : goal.returns-clause-left
 returns-clause-left g c =
     let d = g.D.OrderedDev in
-    ap d.left c.answer.ensures.state ∙ ((g.met.D.OrderedDev.falls (d.state c.loop-completion.dev) 0 c.loop-completion.invariant.valid).2 ∙ c.loop-completion.invariant.left)
+    ap d.work_left c.answer.ensures.state ∙ ((g.met.D.OrderedDev.falls (d.state c.loop-completion.dev) 0 c.loop-completion.invariant.valid).2 ∙ c.loop-completion.invariant.left)
 
 pub returns-clause-sound : goal.returns-clause-sound
 returns-clause-sound g c sound =

@@ -17,7 +17,7 @@ invariant-loop-completion g l =
       kept : DrainKeeps (d.seen (d.state l.fn.dev)) (d.seen now);
       on : d.stays_on (d.state l.fn.dev) → d.stays_on now;
       sound : d.sound (d.state l.fn.dev) → d.sound (d.state l.dev) × ((d.seen (d.state l.dev)).faults ≡ (d.seen (d.state l.fn.dev)).faults);
-      left : d.left now ≡ d.left (d.state l.fn.dev);
+      left : d.work_left now ≡ d.work_left (d.state l.fn.dev);
     }
 
 abbrev pub decreases-loop-completion : goal.decreases-loop-completion

@@ -64,7 +64,7 @@ loop-dev-2-smaller g c =
     let law = laws.progress now i.valid (laws.on now i.valid i.on) fine in
     let all : (d.seen now).took ≡ (d.seen (d.state c.args.dev.now)).took ++ c.args.plan.now = sym (append-nil (d.seen now).took) ∙ (ap (λ (cs : List Command). (d.seen now).took ++ cs) (sym i.done) ∙ i.kept.all.all) in
     let last = subst (λ (cs : List Command). IsFlushedLast cs) (sym all) c.requires.flush in
-    let work = works-last (d.seen now) last.0 (d.left now) (d.has_room now) (d.can_transfer now) (d.can_persist now) law (laws.completion now i.valid) last.1 i.empty runs in
+    let work = works-last (d.seen now) last.0 (d.work_left now) (d.has_room now) (d.can_transfer now) (d.can_persist now) law (laws.completion now i.valid) last.1 i.empty runs in
     let less = c.turn-end.ensures.falls (inr i.done) running refl work in
     omega arith
 

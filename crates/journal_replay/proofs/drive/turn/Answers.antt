@@ -19,5 +19,5 @@ returns-clause-falls g c none running default work =
     let can = ⊎_elim (λ (h : 0 < d.can_transfer old). inl (subst (λ (s : d.State). 0 < d.can_transfer s) (sym same) h)) (λ (h : 0 < d.can_persist old). inr (subst (λ (s : d.State). 0 < d.can_persist s) (sym same) h)) work in
     let less = c.step.ensures.falls default can in
     let kept = c.drain.ensures.left in
-    let start = ap d.left same in
+    let start = ap d.work_left same in
     omega arith

@@ -6,7 +6,7 @@ use Rattle.volume_ops.specs.Volume.{disk_of}
 use Rattle.mount_make.specs.declared.fault.ImageFault.{ImageFault}
 use Rattle.mount_make.specs.declared.fault.MountFault.{MountFault}
 use Rattle.mount_make.specs.declared.fault.MountFault.TheVariants.{DeviceFailed}
-use Rattle.mount_make.specs.Images.{Told, journal_at}
+use Rattle.mount_make.specs.Images.{FaultPlace, journal_at}
 use Rattle.mount_make.specs.code.Mounting.{KeepsImage}
 use Rattle.mount_make.specs.laws.Recovering.{keeps_attempt, keeps_failed, failed_is, found_fault, journal_after}
 use Rattle.mount_make.proofs.mounting.recover_journal.Goals as goal
@@ -22,7 +22,7 @@ returns-in-Err-clause-told g c =
     let within : base < length old = omega (arith, count, more) in
     let found : is_journal (disk_of old base) ≡ true = ap is_journal c.in_ok-first.ensures.body ∙ (sym c.is_journal.ensures ∙ c.if-not-is_journal.false) in
     let is : super_of (disk_of old base) ≡ Err c.in-Err.fault = ap super_of c.in_ok-first.ensures.body ∙ (sym c.read_super.ensures.value ∙ c.in-Err.is) in
-    found_fault base old c.in-Err.fault base within found (fault-super base old c.in-Err.fault is) ∙ ap (λ (kind : ImageFault). let told : Told = (kind, base) in Some told) (sym c.journal_kind.ensures)
+    found_fault base old c.in-Err.fault base within found (fault-super base old c.in-Err.fault is) ∙ ap (λ (kind : ImageFault). let told : FaultPlace = (kind, base) in Some told) (sym c.journal_kind.ensures)
 
 pub returns-in-Ok-recover-clause-log : goal.returns-in-Ok-recover-clause-log
 returns-in-Ok-recover-clause-log g c =

@@ -1,7 +1,7 @@
 use Rattle.std.proofs.Common.{◌≡◌, ◌++◌}
 use Rattle.std.specs.String.{string_bytes}
 use Rattle.tree_model.specs.Text.{tree_text}
-use Rattle.tree_model.specs.code.Walk.{text_left, names_left}
+use Rattle.tree_model.specs.code.TextWalk.{text_left, names_left}
 use Rattle.tree_model.proofs.text.put_tree.Given as goal
 
 abbrev pub invariant-loop-place : goal.invariant-loop-place

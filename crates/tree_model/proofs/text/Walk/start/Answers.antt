@@ -1,6 +1,6 @@
 use Rattle.std.proofs.Common.{refl}
 use Rattle.tree_model.specs.Text.{tree_text}
-use Rattle.tree_model.specs.code.Walk.{text_left}
+use Rattle.tree_model.specs.code.TextWalk.{text_left}
 use Rattle.tree_model.proofs.text.Walk.start.Goals as goal
 
 pub returns : goal.returns

@@ -6,7 +6,7 @@ use Rattle.std.proofs.lemmas.List.Sums.{sum_by_push, sum_by-remove, sum_by-cons,
 use Rattle.order_model.specs.declared.command.Command.{Command}
 use Rattle.order_model.specs.Single.{blank_command}
 use Rattle.command_queue.specs.declared.queue.Seat.{Seat}
-use Rattle.command_queue.specs.code.Slots.{seated, EachOnce}
+use Rattle.command_queue.specs.code.Seats.{seated, EachOnce}
 
 -- ---- lists
 
