@@ -1,7 +1,7 @@
 -- What becomes of a begun call's facts when one request more is submitted, and when the history grows.
 use Rattle.std.proofs.Common.{sym, ap, subst, ◌∙◌, inl, inr, ⊎_elim, arith}
 use Rattle.std.proofs.lemmas.Bool.{cases_Bool, cases_lt, cond-true, cond-false, false≢true}
-use Rattle.std.specs.Prelude.{◌≡◌, ℕ, zero, suc, ◌+◌, ◌-◌, ◌≤◌, ◌⊎◌, Bool, true, false, List, Some, refl}
+use Rattle.std.specs.Prelude.{◌≡◌, ℕ, zero, suc, ◌+◌, ◌≤◌, ◌⊎◌, true, List, Some}
 use Rattle.blk_base.specs.Members.{slice_get-length}
 use Rattle.order_model.specs.declared.note.Note.TheVariants.{Page, Commit}
 use Rattle.page_cache.specs.Pages.{page_at, is_unsent}
@@ -9,9 +9,10 @@ use Rattle.page_cache.specs.declared.cached_page.CachedPage.{CachedPage}
 use Rattle.crash_laws.proofs.Growing.{note_old, note_cases, fence_old, ordered_old}
 use Rattle.crash_laws.proofs.Growth.{unmapped_old, unmapped_new}
 use Rattle.crash_laws.proofs.Histories.{stays_mapped}
+use Rattle.crash_laws.proofs.Promises.{superseded_or_calm}
 use Rattle.crash_laws.proofs.PromiseSteps.{held_pushed, held_grows, held_for, covers_old}
 use Rattle.crash_laws.specs.Extending.{Extends}
-use Rattle.crash_laws.specs.History.{History, IsUnmapped, Calm, last_write, HasTrees}
+use Rattle.crash_laws.specs.History.{History, IsUnmapped, last_write, HasTrees}
 use Rattle.crash_laws.specs.PromiseRules.{IsSuperseded, Covers, CoversEntry}
 use Rattle.crash_laws.specs.Session.{Session}
 use Rattle.crash_laws.specs.Submitting.{Submitting, after}
@@ -24,35 +25,10 @@ use Rattle.host_runs.specs.laws.CallFacts.{IsSent, IsDone, IsGoodFor, HasSentBar
 
 -- ---- the history alone
 
-unmapped_at : (a b : Bool) → ((a ≡ true) × (b ≡ false)) ⊎ ((a ≡ true) × (b ≡ false) → ⊥)
-unmapped_at true true = inr (λ e. false≢true (sym e.1))
-unmapped_at true false = inl (refl, refl)
-unmapped_at false b = inr (λ e. false≢true e.0)
-
--- some entry behind n up to b unmapped the block, or none
-pub gone_or_calm : {A : Type 0} (h : History A) (f i n b : ℕ) → IsSuperseded h f i n b ⊎ Calm h f i n b
-gone_or_calm h f i n zero = inr (λ m lo hi un. absurd (omega arith))
-gone_or_calm h f i n (suc b) =
-    ⊎_elim
-    (λ s. let hi = s.within in inl (record { entry = s.entry; later = s.later; within = omega arith; unmapped = s.unmapped }))
-    (λ calm.
-    ⊎_elim
-    (λ lt.
-    ⊎_elim
-    (λ un. inl (record { entry = suc b; later = lt; within = omega arith; unmapped = record { before = un.0; after = un.1 } }))
-    (λ none. inr (λ m lo hi un.
-    ⊎_elim (λ below. calm m lo (omega arith) un)
-    (λ top. let e : m ≡ suc b = omega arith in let here = subst (IsUnmapped h f i) e un in none (here.before, here.after))
-    (cases_lt m (suc b))))
-    (unmapped_at (h.maps (suc b - 1) f i) (h.maps (suc b) f i)))
-    (λ ge. inr (λ m lo hi un. absurd (omega arith)))
-    (cases_lt n (suc b)))
-    (gone_or_calm h f i n b)
-
 -- a written block is mapped later, or was unmapped between
 pub mapped_or_gone : {A : Type 0} (h : History A) → HasTrees h → (f i n b : ℕ) → h.writes n f i ≡ true → n ≤ b → IsSuperseded h f i n b ⊎ (h.maps b f i ≡ true)
 mapped_or_gone h trees f i n b w le =
-    ⊎_elim (λ s. inl s) (λ calm. inr (stays_mapped f i n b le calm (trees.written f i n w))) (gone_or_calm h f i n b)
+    ⊎_elim (λ s. inl s) (λ calm. inr (stays_mapped f i n b le calm (trees.written f i n w))) (superseded_or_calm h f i n b)
 
 -- the last write is no earlier than any write
 pub last_write_above : {A : Type 0} (h : History A) (f i n b : ℕ) → h.writes n f i ≡ true → n ≤ b → n ≤ last_write h f i b

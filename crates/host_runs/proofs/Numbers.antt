@@ -45,7 +45,7 @@ module _ {C R : Type 0} where
 -- ---- how many transactions there can be
 
 -- each commit block stands behind as many as are before it
-commit_far : {s : Session} → CommitOrder s → (k c : ℕ) → IsCommit s k c → k ≤ c + 1
+pub commit_far : {s : Session} → CommitOrder s → (k c : ℕ) → IsCommit s k c → k ≤ c + 1
 commit_far order zero c h = omega arith
 commit_far order (suc zero) c h = omega arith
 commit_far {s = s} order (suc (suc k)) c h =

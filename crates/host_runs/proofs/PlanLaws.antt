@@ -3,7 +3,7 @@ use Rattle.std.proofs.Common.{sym, ap, subst, ◌∙◌, inl, inr, ⊎_elim, ari
 use Rattle.std.proofs.lemmas.Grind.{div_ceil_times}
 use Rattle.std.specs.Int.{div_ceil}
 use Rattle.std.specs.Prelude.{◌≡◌, ℕ, zero, suc, ◌+◌, ◌-◌, ◌*◌, ◌≤◌, List, [], ◌∷◌, ◌++◌, map, length, Some, refl}
-use Rattle.blk_base.specs.Members.{In, In-append_left, In-append_right, In-append_cases, In-map}
+use Rattle.blk_base.specs.Members.{In, In-append_cases, In-map}
 use Rattle.order_model.specs.declared.note.Note.TheVariants.{Commit}
 use Rattle.log_model.proofs.Parts.{parts_spell}
 use Rattle.log_model.specs.Log.{Tag, Format, Spells}
@@ -15,6 +15,7 @@ use Rattle.tx_running.specs.Running.{log_blocks_for}
 use Rattle.tx_running.specs.Plan.{Writers, chunks_from, chunks, revoke_block, body_block, described, all_described, logged_blocks}
 use Rattle.tx_running.specs.declared.pieces.UnplacedBlock.{UnplacedBlock}
 use Rattle.host_runs.specs.Runs.{IsBlock}
+use Rattle.host_runs.specs.laws.Chunks.{flat, chunks_flat, chunks_sized, In-chunks}
 use Rattle.host_runs.specs.laws.Written.{IsWord, tag_of, AreWritten, IsWritable}
 
 -- ---- what is written is read back
@@ -26,34 +27,6 @@ abbrev parts_needed : ℕ → ℕ → ℕ → ℕ
 parts_needed most left zero = zero
 parts_needed most zero (suc n) = suc (parts_needed most (most - 1) n)
 parts_needed most (suc left) (suc n) = parts_needed most left n
-
-abbrev flat : {X : Type 0} → List (List X) → List X
-flat [] = []
-flat (xs ∷ xss) = xs ++ flat xss
-
-chunks_flat : {X : Type 0} (most left : ℕ) (begun xs : List X) → flat (chunks_from most left begun xs) ≡ begun ++ xs
-chunks_flat most left [] [] = refl
-chunks_flat most left (b ∷ bs) [] = refl
-chunks_flat most zero begun (x ∷ xs) = ap (λ ys. begun ++ ys) (chunks_flat most (most - 1) (x ∷ []) xs)
-chunks_flat most (suc left) begun (x ∷ xs) = chunks_flat most left (begun ++ x ∷ []) xs ∙ append_assoc begun (x ∷ []) xs
-
-chunks_sized : {X : Type 0} (most left : ℕ) (begun xs c : List X) → 1 ≤ most → length begun + left ≡ most → In c (chunks_from most left begun xs) → (1 ≤ length c) × (length c ≤ most)
-chunks_sized most left [] [] c pos e i = absurd i
-chunks_sized most left (b ∷ bs) [] c pos e (inl q) = subst (λ ys. (1 ≤ length ys) × (length ys ≤ most)) q (omega arith, omega arith)
-chunks_sized most left (b ∷ bs) [] c pos e (inr i) = absurd i
-chunks_sized most zero begun (x ∷ xs) c pos e (inl q) = subst (λ ys. (1 ≤ length ys) × (length ys ≤ most)) q (omega arith, omega arith)
-chunks_sized most zero begun (x ∷ xs) c pos e (inr i) = chunks_sized most (most - 1) (x ∷ []) xs c pos (omega arith) i
-chunks_sized most (suc left) begun (x ∷ xs) c pos e i =
-    let grown = length-append begun (x ∷ []) in
-    chunks_sized most left (begun ++ x ∷ []) xs c pos (omega arith) i
-
-In-flat : {X : Type 0} (xss : List (List X)) (c : List X) (x : X) → In c xss → In x c → In x (flat xss)
-In-flat [] c x i j = absurd i
-In-flat (xs ∷ xss) c x (inl e) j = In-append_left xs (flat xss) x (subst (λ ys. In x ys) (sym e) j)
-In-flat (xs ∷ xss) c x (inr i) j = In-append_right xs (flat xss) x (In-flat xss c x i j)
-
-In-chunks : {X : Type 0} (most : ℕ) (xs c : List X) (x : X) → In c (chunks most xs) → In x c → In x xs
-In-chunks most xs c x i j = subst (In x) (chunks_flat most most [] xs) (In-flat (chunks most xs) c x i j)
 
 -- as many as are counted
 chunks_begun : {X : Type 0} (most left : ℕ) (b : X) (bs xs : List X) → length (chunks_from most left (b ∷ bs) xs) ≡ suc (parts_needed most left (length xs))

@@ -1,8 +1,7 @@
 -- What a power cut leaves of a session on an image that was made: volume and journal are found, the log is read, and recovery
 -- and mounting find no fault.
-use Rattle.std.specs.Prelude.{◌≡◌, ◌≢◌, ℕ, zero, suc, ◌+◌, ◌-◌, ◌^◌, ◌<◌, ◌≤◌, ◌==◌, nat_lt, if◌then◌else◌, Bool, true, List, [], ◌∷◌, map, length, replicate, slice_get, Some, None, Result, Ok, Err, refl}
+use Rattle.std.specs.Prelude.{◌≡◌, ◌≢◌, ℕ, suc, ◌+◌, ◌-◌, ◌^◌, ◌<◌, ◌≤◌, ◌==◌, nat_lt, if◌then◌else◌, Bool, true, List, [], ◌∷◌, map, length, replicate, slice_get, None, Result, Ok, Err, refl}
 use Rattle.std.specs.List.{range_with_len}
-use Rattle.std.specs.Option.{option_and_then}
 use Rattle.std.proofs.Common.{sym, ap, subst, ◌∙◌, inr, ⊎_elim, arith, eq-eqb}
 use Rattle.std.proofs.lemmas.Bool.{cases_lt, ne_eqb}
 use Rattle.std.proofs.lemmas.List.{get_or-take}
@@ -42,8 +41,8 @@ use Rattle.volume_steps.specs.Now.{VolumeNow}
 use Rattle.volume_steps.proofs.GoneFiles.{in_from}
 use Rattle.crash_laws.specs.Found.{found, IsFound}
 use Rattle.crash_laws.specs.Recovery.{IsRecovered}
-use Rattle.crash_laws.specs.Rules.{CommitOrder, OrderRules}
-use Rattle.crash_laws.specs.Session.{Session, Medium, IsCommit, IsSuperOf, log_transaction, log_blocks, log_blocks_below, first_place, body_at as body_in}
+use Rattle.crash_laws.specs.Rules.{OrderRules}
+use Rattle.crash_laws.specs.Session.{Session, Medium, IsSuperOf, log_blocks, log_blocks_below, first_place, body_at as body_in}
 use Rattle.crash_laws.proofs.Commits.{kept_commits_are_prefix, log_note}
 use Rattle.crash_laws.proofs.Faults.{superblock_known}
 use Rattle.crash_laws.proofs.Ordering.{same_block, origin_or_base, body_of_origin}
@@ -63,6 +62,7 @@ use Rattle.mount_make.specs.laws.ImageLaws.{image_has_tree}
 use Rattle.mount_make.specs.laws.Recovering.{is_super, has_super, emptied-at, found_fine, found_recovered}
 use Rattle.mount_make.proofs.Filling.{length-made, length-image, get_journal}
 use Rattle.made_sessions.specs.MadeSessions.{made_opening, made_ring}
+use Rattle.host_runs.proofs.Numbers.{commit_far}
 use Rattle.session_images.proofs.JournalSupers.{IsClean, places_fit, super_as, tail_is, ring_by, range_in, not_faulty, clean_by}
 use Rattle.session_images.proofs.ReadableRuns.{IsKeptRun}
 use Rattle.session_images.proofs.ReadableSteps.{sent_body}
@@ -81,17 +81,6 @@ same_divided old new size one =
 blank_magic : magic_of (filled 0) ≢ 0xC03B3998
 unfolding filled number_at number_of
 blank_magic e = absurd (omega arith)
-
--- each commit block stands behind as many as are before it
-commit_far : {s : Session} → CommitOrder s → (k c : ℕ) → IsCommit s k c → k ≤ c + 1
-commit_far order zero c h = omega arith
-commit_far order (suc zero) c h = omega arith
-commit_far {s = s} order (suc (suc k)) c h =
-    let e : suc (suc k) ≡ suc k + 1 = omega arith in
-    let b = order.behind (suc k) c (ap (option_and_then log_transaction) h ∙ ap Some e) (omega arith) in
-    let far = commit_far {s = s} order (suc k) b.0 b.1 in
-    let lt = b.2 in
-    omega arith
 
 -- ---- the journal superblock of a medium
 

@@ -1,40 +1,27 @@
 -- Each step of the host submits requests that are readable.
 use Rattle.std.proofs.Common.{sym, subst, inl, inr, ⊎_elim, arith, length-append}
-use Rattle.std.specs.List.{find, filter, list_any}
+use Rattle.std.specs.List.{filter}
 use Rattle.std.specs.Option.{unwrap_or, option_and_then}
-use Rattle.std.specs.Prelude.{◌≡◌, ℕ, ◌≤◌, ◌+◌, ◌-◌, ◌==◌, ◌&&◌, ◌||◌, ◌⊎◌, Bool, true, false, not, List, [], ◌∷◌, ◌++◌, length, map, slice_get, slice_index_or, is_none, nat_lt, Option, Some, None, refl, if◌then◌else◌}
+use Rattle.std.specs.Prelude.{◌≡◌, ℕ, ◌≤◌, ◌+◌, ◌-◌, ◌⊎◌, Bool, true, false, not, List, [], ◌∷◌, ◌++◌, length, map, slice_get, nat_lt, Option, Some, None, refl}
 use Rattle.blk_base.specs.Members.{In, In-map, In-filter, slice_get-in_range, slice_get-push_cases, slice_get-length}
 use Rattle.number_sets.specs.Sets.{has}
 use Rattle.number_sets.specs.laws.Keyed.{In-put_by}
 use Rattle.number_sets.specs.laws.Members.{In-with_all, In-without_all}
-use Rattle.order_model.specs.declared.completion.Completion.{Completion}
 use Rattle.order_model.specs.declared.note.Note.{Note}
 use Rattle.order_model.specs.declared.request.Request.{Request}
-use Rattle.order_model.specs.declared.turn.Turn.TheVariants as turns
 use Rattle.order_model.specs.Submission.{kind_body}
 use Rattle.log_model.specs.Log.{Format}
 use Rattle.log_model.specs.Marks.{Logged}
-use Rattle.page_cache.specs.Pages.{is_unsent, is_dirty}
-use Rattle.page_cache.specs.declared.cached_page.CachedPage.{CachedPage}
-use Rattle.host_machine.proofs.Steps.{either, enough}
-use Rattle.host_machine.specs.Causes as causes
-use Rattle.host_machine.specs.Causes.{Cause}
-use Rattle.host_machine.specs.Host.{Stepped, Turned, Goal, AwaitCommit, AnswerOk, AwaitLastPut, unsent_on, goal_of, with_flush, set_wait, set_thread, send_page, end_with, hindrance, hindered, plain, begin, await_durable, await_last_put, await_commit, pursue, walk_pages, continue_begun, stop_of, step_call, step_thread, advance, submits, build_plan, checkpoint, close_step, plan_sent, in_phase, commit_step, writeback, flush_step, wanting, change}
-use Rattle.host_machine.specs.Model.{Model, Freed}
-use Rattle.host_machine.specs.Outcomes as outcomes
-use Rattle.host_machine.specs.State.{Ending, Answered, SessionFull, Begun, Thread, Host, Setup}
+use Rattle.host_machine.proofs.Steps.{enough}
+use Rattle.host_machine.specs.Host.{Stepped, hindrance, advance, build_plan, checkpoint, plan_sent, commit_step, change}
+use Rattle.host_machine.specs.Model.{Model}
+use Rattle.host_machine.specs.State.{Begun, Host, Setup}
 use Rattle.host_machine.specs.laws.Contract.{Over}
-use Rattle.conflict_pages.specs.Conflicts.{least}
-use Rattle.journal_ring.specs.LogRing.{put_home, put_homes, ring_free}
-use Rattle.tx_running.specs.Running.{log_needs}
+use Rattle.journal_ring.specs.LogRing.{put_home, put_homes}
 use Rattle.tx_running.specs.Plan.{Writers, Planned}
-use Rattle.commit_actor.specs.Journal.{Plan, Phase, Idle, Closing, Committing, is_submitted}
-use Rattle.flush_actor.specs.Kinds.{is_begun, is_data, is_durable}
-use Rattle.flush_actor.specs.Part.{at_limit, is_over, is_flushed_after, flush_above, last_put}
-use Rattle.flush_actor.specs.Steps.{take_completion, flush_due}
-use Rattle.flush_actor.specs.Waits.{no_wait}
-use Rattle.flush_actor.specs.declared.wait.Wait.{Wait}
+use Rattle.commit_actor.specs.Journal.{Plan, Phase, Idle, Closing, Committing}
 use Rattle.host_runs.specs.Runs.{Event, Call, Commit, WriteBack, FlushStep, stepped}
+use Rattle.host_runs.specs.laws.Walks.{BegunEnds, FreshEnds, caller_walk, commit_walk, writeback_walk, flush_walk}
 use Rattle.host_runs.specs.laws.Written.{IsWord, AreWritten}
 use Rattle.session_images.specs.Requests.{IsLoggable, IsReadable}
 use Rattle.session_images.proofs.Requests.{AreReadable, plan_readable}
@@ -112,153 +99,52 @@ module _ {A T V C R : Type 0} (o : Over A T V C R) (s : Host V C R) where
     abbrev Kept : Stepped V C R → Type 0
     Kept x = Good x.host
 
-    abbrev Turned_to : Turned V C R → Type 0
-    Turned_to x = Good x.host
-
     -- ---- a caller
 
-    module _ (t : ℕ) (c : C) (rest : List C) where
-      ends : (e : Ending R) → Kept (end_with M u s t c rest e)
-      ends e = stays
+    module _ (touches : TouchesLoggable) where
+      changed_readable : (c : C) → M.reply s.volume c ≡ None → hindrance M u s c ≡ None → Good (change M u s c (M.apply s.volume (length s.history + 1) s.journal.running.number c))
+      changed_readable c accepted free = record {
+        counted = stays.counted;
+        sent = stays.sent;
+        logged = λ b i.
+            let a = M.apply s.volume (length s.history + 1) s.journal.running.number c in
+            let p = In-without_all _ a.touched.revoked b i in
+            ⊎_elim
+            (λ was. stays.logged b was)
+            (λ new. ⊎_elim (λ gone. absurd (p.1 gone)) (λ good. good) (touches c accepted (enough M u s c free) b new))
+            (In-with_all s.journal.running.touched a.touched.blocks b p.0);
+        waiting = stays.waiting;
+        planned = stays.planned;
+      }
 
-      need_readable : (w : Wait) (id : ℕ) → Kept (await_durable M u s t c rest w id)
-      need_readable w id =
-          either Kept (list_any (is_flushed_after id) s.journal.flush.taken) _ _ (λ e. ends (Answered M.ok))
-          (λ e. either Kept (at_limit s.journal.flush && not (flush_above id 0 s.journal.flush.notes)) _ _ (λ e. ends SessionFull) (λ e. stays))
+      begun_ends : (full : Bool) (t : ℕ) (c : C) (rest : List C) (b : Begun) → BegunEnds M u full s t c rest b Kept
+      begun_ends full t c rest b = record {
+        done = stays;
+        full_up = λ e. stays;
+        rests = λ why. stays;
+        waits = λ w why. stays;
+        wants = λ w why. stays;
+        sends = λ next is few free. pushed stays _ _ tt;
+      }
 
-      last_put_readable : (w : Wait) → Kept (await_last_put M u s t c rest w)
-      last_put_readable w = by (last_put 0 s.journal.flush.notes None)
-        where
-          by : (x : Option ℕ) → Kept (elim x as (λ _. Stepped V C R) [ None ↦ end_with M u s t c rest (Answered M.ok) | Some id ↦ await_durable M u s t c rest w id ])
-          by None = ends (Answered M.ok)
-          by (Some id) = need_readable w id
+      fresh_ends : (t : ℕ) (c : C) (rest : List C) → FreshEnds M u s t c rest Kept
+      fresh_ends t c rest = record {
+        refused = λ why e. stays;
+        begins = λ accepted kind. stays;
+        full_up = λ why e limit. stays;
+        rests = λ why. stays;
+        wants = λ why. stays;
+        acts = λ accepted kind free. changed_readable c accepted free;
+      }
 
-      target_readable : (w : Wait) (k : ℕ) → Kept (await_commit M u s t c rest w k)
-      target_readable w k =
-          either Kept (is_submitted s.journal k) _ _
-          (λ e. either Kept (is_durable w.kind) _ _ (λ e. last_put_readable w) (λ e. ends (Answered M.ok)))
-          (λ e. either Kept (at_limit s.journal.flush) _ _ (λ e. ends SessionFull) (λ e. stays))
-
-      goal_readable : (w : Wait) (g : Goal) → Kept (pursue M u s t c rest w g)
-      goal_readable w AnswerOk = ends (Answered M.ok)
-      goal_readable w AwaitLastPut = last_put_readable w
-      goal_readable w (AwaitCommit k) = either Kept (at_limit s.journal.flush) _ _ (λ e. ends SessionFull) (λ e. by (k == s.journal.running.number))
-        where
-          by : (x : Bool) → Good (if x then wanting M u (set_wait M u s t (record w { target = Some k })) else set_wait M u s t (record w { target = Some k }))
-          by true = stays
-          by false = stays
-
-      walk_readable : (full : Bool) (w : Wait) (b : Begun) → Kept (walk_pages M u full s t c rest w b)
-      walk_readable full w b = by (unsent_on s.pages b.list)
-        where
-          by : (x : Option (CachedPage × List (ℕ × ℕ))) → Kept (elim x as (λ _. Stepped V C R) [
-            | None ↦ pursue M u s t c rest w (goal_of s.journal b)
-            | Some next ↦
-                if at_limit s.journal.flush then end_with M u s t c rest SessionFull
-                else if full then record { host = s; step = outcomes.Waiting causes.QueueFull }
-                else record {
-                  host = set_thread M u (send_page M u s next.0 true (is_data b.kind && is_none (unsent_on s.pages next.1))) t (record { calls = c ∷ rest; begun = Some (record b { list = next.1; sent_barrier = b.sent_barrier || (is_data b.kind && is_none (unsent_on s.pages next.1)) }) });
-                  step = outcomes.Sent (length s.journal.flush.requests);
-                }
-          ])
-          by None = goal_readable w (goal_of s.journal b)
-          by (Some next) =
-              either Kept (at_limit s.journal.flush) _ _ (λ e. ends SessionFull)
-              (λ d. either Kept full _ _ (λ e. stays) (λ e. pushed stays _ _ tt))
-
-      begun_readable : (full : Bool) (w : Wait) (b : Begun) → Kept (continue_begun M u full s t c rest w b)
-      begun_readable full w b = by w.need
-        where
-          second : (x : Option ℕ) → Kept (elim x as (λ _. Stepped V C R) [ Some k ↦ await_commit M u s t c rest w k | None ↦ walk_pages M u full s t c rest w b ])
-          second None = walk_readable full w b
-          second (Some k) = target_readable w k
-
-          by : (x : Option ℕ) → Kept (elim x as (λ _. Stepped V C R) [ Some id ↦ await_durable M u s t c rest w id | None ↦ elim w.target as (λ _. Stepped V C R) [ Some k ↦ await_commit M u s t c rest w k | None ↦ walk_pages M u full s t c rest w b ] ])
-          by None = second w.target
-          by (Some id) = need_readable w id
-
-      hindered_readable : (cause : Cause) → Good (hindered M u s cause)
-      hindered_readable causes.Closing = stays
-      hindered_readable (causes.TxFull n) = stays
-      hindered_readable (causes.Quarantine n) = either Good (nat_lt (length (filter (λ (z : Freed). nat_lt z.transaction s.journal.running.number) (M.zones s.volume).waiting)) n) (wanting M u s) s (λ e. stays) (λ e. stays)
-      hindered_readable (causes.Conflict b k) = stays
-      hindered_readable (causes.Commit k) = stays
-      hindered_readable (causes.Durable k) = stays
-      hindered_readable causes.QueueFull = stays
-
-      module _ (touches : TouchesLoggable) where
-        changed_readable : M.reply s.volume c ≡ None → hindrance M u s c ≡ None → Good (change M u s c (M.apply s.volume (length s.history + 1) s.journal.running.number c))
-        changed_readable accepted free = record {
-          counted = stays.counted;
-          sent = stays.sent;
-          logged = λ b i.
-              let a = M.apply s.volume (length s.history + 1) s.journal.running.number c in
-              let p = In-without_all _ a.touched.revoked b i in
-              ⊎_elim
-              (λ was. stays.logged b was)
-              (λ new. ⊎_elim (λ gone. absurd (p.1 gone)) (λ good. good) (touches c accepted (enough M u s c free) b new))
-              (In-with_all s.journal.running.touched a.touched.blocks b p.0);
-          waiting = stays.waiting;
-          planned = stays.planned;
-        }
-
-        plain_readable : M.reply s.volume c ≡ None → Kept (plain M u s t c rest)
-        plain_readable accepted = by (hindrance M u s c) refl
-          where
-            by : (x : Option Cause) → hindrance M u s c ≡ x → Kept (elim x as (λ _. Stepped V C R) [
-              | Some cause ↦ if at_limit s.journal.flush then end_with M u s t c rest SessionFull else record { host = hindered M u s cause; step = outcomes.Waiting cause }
-              | None ↦ end_with M u (change M u s c (M.apply s.volume (length s.history + 1) s.journal.running.number c)) t c rest (Answered (M.apply s.volume (length s.history + 1) s.journal.running.number c).reply)
-            ])
-            by None e = changed_readable accepted e
-            by (Some cause) e = either Kept (at_limit s.journal.flush) _ _ (λ e. ends SessionFull) (λ e. hindered_readable cause)
-
-        call_readable : (full : Bool) (b : Option Begun) → Kept (step_call M u full s t b c rest)
-        call_readable full (Some b) = begun_readable full (slice_index_or s.journal.flush.waits t no_wait) b
-        call_readable full None = by (M.reply s.volume c) refl
-          where
-            by : (x : Option R) → M.reply s.volume c ≡ x → Kept (elim x as (λ _. Stepped V C R) [
-              | Some refusal ↦ end_with M u s t c rest (Answered refusal)
-              | None ↦ if is_begun (M.kind c) then begin M u s t c rest else plain M u s t c rest
-            ])
-            by (Some why) e = ends (Answered why)
-            by None e = either Kept (is_begun (M.kind c)) _ _ (λ kind. stays) (λ d. plain_readable e)
-
-    thread_readable : TouchesLoggable → (full : Bool) (t : ℕ) (b : Option Begun) (calls : List C) → Kept (step_thread M u full s t b calls)
-    thread_readable touches full t b [] = stays
-    thread_readable touches full t b (c ∷ rest) = by (stop_of M u s.journal.flush.taken (M.kind c))
-      where
-        by : (x : Option (Ending R)) → Kept (elim x as (λ _. Stepped V C R) [ Some stop ↦ end_with M u s t c rest stop | None ↦ step_call M u full s t b c rest ])
-        by None = call_readable t c rest touches full b
-        by (Some stop) = ends t c rest stop
-
-    advance_readable : TouchesLoggable → (full : Bool) (t : ℕ) → Kept (advance M u full s t)
-    advance_readable touches full t = by (slice_get s.threads t)
-      where
-        by : (x : Option (Thread C)) → Kept (elim x as (λ _. Stepped V C R) [ None ↦ record { host = s; step = outcomes.Ended } | Some th ↦ step_thread M u full s t th.begun th.calls ])
-        by None = stays
-        by (Some th) = thread_readable touches full t th.begun th.calls
+      advance_readable : (full : Bool) (t : ℕ) → Good (advance M u full s t).host
+      advance_readable full t = caller_walk M u full s t Kept stays (λ th c rest at is. record {
+        stopped = λ e stop. stays;
+        goes_on = λ b going begun. begun_ends full t c rest b;
+        starts = λ going begun. fresh_ends t c rest;
+      })
 
     -- ---- the actors
-
-    submits_readable : (full : Bool) (out : Host V C R) → Good out → Turned_to (submits M u full s out)
-    submits_readable full out next = either Turned_to (at_limit s.journal.flush) _ _ (λ e. stays) (λ d. either Turned_to full _ _ (λ e. stays) (λ e. next))
-
-    writeback_readable : (full : Bool) (pick : ℕ) → Turned_to (writeback M u full s pick)
-    writeback_readable full pick = either Turned_to (is_over s.journal.flush) _ _ (λ e. stays) (λ e. by (slice_get (filter (λ (p : CachedPage). is_dirty p.state) s.pages) pick))
-      where
-        by : (x : Option CachedPage) → Turned_to (elim x as (λ _. Turned V C R) [
-          | None ↦ record { host = s; turn = turns.Idle }
-          | Some p ↦ submits M u full s (send_page M u s p (not (is_submitted s.journal (slice_index_or s.owners p.block 0))) false)
-        ])
-        by None = stays
-        by (Some p) = submits_readable full _ (pushed stays _ _ tt)
-
-    flush_step_readable : (full : Bool) (next : Option Completion) → Turned_to (flush_step M u full s next)
-    flush_step_readable full next = either Turned_to (flush_due s.journal.flush) _ _ (λ e. submits_readable full _ (pushed stays _ _ tt)) (λ e. by next)
-      where
-        by : (x : Option Completion) → Turned_to (elim x as (λ _. Turned V C R) [ None ↦ record { host = s; turn = turns.Idle } | Some c ↦ record { host = with_flush M u s (take_completion c s.journal.flush); turn = turns.Did } ])
-        by None = stays
-        by (Some c) = stays
 
     -- homes without the first of them
     abbrev later_homes : List Logged → List Logged
@@ -294,21 +180,6 @@ module _ {A T V C R : Type 0} (o : Over A T V C R) (s : Host V C R) where
         );
       }
 
-      close_readable : (full : Bool) → Turned_to (close_step M u full s)
-      close_readable full = by (find (λ p. is_unsent p.state && has s.journal.running.changed p.birth) s.pages)
-        where
-          by : (x : Option CachedPage) → Turned_to (elim x as (λ _. Turned V C R) [
-            | Some p ↦ submits M u full s (send_page M u s p true false)
-            | None ↦
-                if nat_lt (ring_free s.journal.ring) (log_needs s.journal.running) then submits M u full s (checkpoint M u s s.journal.ring.homes)
-                else record { host = build_plan M u s; turn = turns.Did }
-          ])
-          by (Some p) = submits_readable full _ (pushed stays _ _ tt)
-          by None =
-              either Turned_to (nat_lt (ring_free s.journal.ring) (log_needs s.journal.running)) _ _
-              (λ d. submits_readable full _ (checkpoint_readable s.journal.ring.homes stays.waiting))
-              (λ d. built_readable)
-
       -- the next request of the plan goes out, and with the last one its bodies wait to be sent home
       abbrev with_phase : Phase → List Logged → Type 0
       with_phase p homes = Readable o.format u.writers u.journal s.journal.flush.requests s.journal.flush.notes s.journal.running.touched homes p
@@ -332,24 +203,27 @@ module _ {A T V C R : Type 0} (o : Over A T V C R) (s : Host V C R) where
       sent_readable p first [] good low = pushed (plan_ends p low) _ first.note (good first (inl refl))
       sent_readable p first (q ∷ qs) good low = pushed (plan_goes_on p (q ∷ qs) (λ x i. good x (inr i)) low) _ first.note (good first (inl refl))
 
-      phase_readable : (full : Bool) (phase : Phase) → IsReadablePhase o.format u.writers u.journal phase → Turned_to (in_phase M u full s phase)
-      phase_readable full Idle good = either Turned_to (s.journal.running.wanted && is_none (least s.journal.flush.conflicts)) _ _ (λ e. closing) (λ e. stays)
-        where
-          closing : with_phase Closing s.journal.ring.homes
-          closing = record { counted = stays.counted; sent = stays.sent; logged = stays.logged; waiting = stays.waiting; planned = tt }
-      phase_readable full Closing good = close_readable full
-      phase_readable full (Committing p) good = by p.rest good.0
-        where
-          by : (x : List Planned) → AreReadable o.format u.writers u.journal x → Turned_to (elim x as (λ _. Turned V C R) [ [] ↦ record { host = s; turn = turns.Idle } | first ∷ rest ↦ submits M u full s (plan_sent M u s p first rest) ])
-          by [] g = stays
-          by (first ∷ rest) g = submits_readable full _ (sent_readable p first rest g good.1)
+      closing : with_phase Closing s.journal.ring.homes
+      closing = record { counted = stays.counted; sent = stays.sent; logged = stays.logged; waiting = stays.waiting; planned = tt }
 
-      commit_step_readable : (full : Bool) → Turned_to (commit_step M u full s)
-      commit_step_readable full = either Turned_to (is_over s.journal.flush) _ _ (λ e. stays) (λ e. phase_readable full s.journal.phase stays.planned)
+      sends_plan : (p : Plan) (first : Planned) (rest : List Planned) → s.journal.phase ≡ Committing p → p.rest ≡ first ∷ rest → Good (plan_sent M u s p first rest)
+      sends_plan p first rest is next =
+          let good = subst (IsReadablePhase o.format u.writers u.journal) is stays.planned in
+          sent_readable p first rest (subst (AreReadable o.format u.writers u.journal) next good.0) good.1
+
+      commit_readable : (full : Bool) → Good (commit_step M u full s).host
+      commit_readable full = commit_walk M u full s Good (record {
+        rests = stays;
+        closes = closing;
+        sends_page = λ p few free. pushed stays _ _ tt;
+        checkpoints = λ few free. checkpoint_readable s.journal.ring.homes stays.waiting;
+        builds = built_readable;
+        sends_plan = λ p first rest is next few free. sends_plan p first rest is next;
+      })
 
       -- so is each step of the host
       pub step_readable : TouchesLoggable → (e : Event) → IsReadableHost o (stepped o s e)
       step_readable touches (Call full t) = advance_readable touches full t
-      step_readable touches (Commit full) = commit_step_readable full
-      step_readable touches (WriteBack full pick) = writeback_readable full pick
-      step_readable touches (FlushStep full next) = flush_step_readable full next
+      step_readable touches (Commit full) = commit_readable full
+      step_readable touches (WriteBack full pick) = writeback_walk M u full s Good stays (λ p ordered few free. pushed stays _ _ tt) pick
+      step_readable touches (FlushStep full next) = flush_walk M u full s Good stays (λ few free. pushed stays _ _ tt) (λ c. stays) next

@@ -1,48 +1,19 @@
 -- The requests of a plan are such that a reader of the journal finds no fault with them.
-use Rattle.std.specs.Prelude.{◌≡◌, ℕ, zero, suc, ◌+◌, ◌-◌, ◌≤◌, Bool, true, false, List, [], ◌∷◌, ◌++◌, length, map, refl, if◌then◌else◌}
-use Rattle.std.proofs.Common.{sym, ap, subst, ◌∙◌, inl, inr, ⊎_elim, arith, append_assoc, length-append}
-use Rattle.blk_base.specs.Members.{In, In-append_left, In-append_right, In-append_cases, In-map}
+use Rattle.std.specs.Prelude.{◌≡◌, ℕ, suc, ◌+◌, ◌-◌, ◌≤◌, Bool, true, false, List, [], ◌∷◌, ◌++◌, length, map, refl, if◌then◌else◌}
+use Rattle.std.proofs.Common.{ap, subst, inl, inr, ⊎_elim, arith}
+use Rattle.blk_base.specs.Members.{In, In-append_cases, In-map}
 use Rattle.order_model.specs.declared.note.Note.TheVariants as notes
 use Rattle.log_model.specs.Log.{Tag, Format}
 use Rattle.log_model.specs.Marks.{Logged}
 use Rattle.log_model.specs.Ring.{Ring, places_on}
-use Rattle.tx_running.specs.Plan.{Writers, Planned, chunks_from, chunks, revoke_block, body_block, described, all_described, logged_blocks, commit_block, placed, with_barrier, plan_of}
+use Rattle.tx_running.specs.Plan.{Writers, Planned, chunks, revoke_block, body_block, described, all_described, logged_blocks, commit_block, placed, with_barrier, plan_of}
 use Rattle.tx_running.specs.declared.pieces.UnplacedBlock.{UnplacedBlock}
+use Rattle.host_runs.specs.laws.Chunks.{chunks_sized, In-chunks}
 use Rattle.host_runs.specs.laws.Written.{IsWord, tag_of, AreWritten}
 use Rattle.session_images.specs.Requests.{IsLoggable, IsReadable}
 
 abbrev pub AreReadable : Format → Writers → ℕ → List Planned → Type 0
 AreReadable f w zones ps = (p : Planned) → In p ps → IsReadable f w zones p.note p.body
-
--- ---- parts of a list
-
-abbrev flat : {X : Type 0} → List (List X) → List X
-flat [] = []
-flat (xs ∷ xss) = xs ++ flat xss
-
-chunks_flat : {X : Type 0} (most left : ℕ) (begun xs : List X) → flat (chunks_from most left begun xs) ≡ begun ++ xs
-chunks_flat most left [] [] = refl
-chunks_flat most left (b ∷ bs) [] = refl
-chunks_flat most zero begun (x ∷ xs) = ap (λ ys. begun ++ ys) (chunks_flat most (most - 1) (x ∷ []) xs)
-chunks_flat most (suc left) begun (x ∷ xs) = chunks_flat most left (begun ++ x ∷ []) xs ∙ append_assoc begun (x ∷ []) xs
-
-chunks_sized : {X : Type 0} (most left : ℕ) (begun xs c : List X) → 1 ≤ most → length begun + left ≡ most → In c (chunks_from most left begun xs) → (1 ≤ length c) × (length c ≤ most)
-chunks_sized most left [] [] c pos e i = absurd i
-chunks_sized most left (b ∷ bs) [] c pos e (inl q) = subst (λ ys. (1 ≤ length ys) × (length ys ≤ most)) q (omega arith, omega arith)
-chunks_sized most left (b ∷ bs) [] c pos e (inr i) = absurd i
-chunks_sized most zero begun (x ∷ xs) c pos e (inl q) = subst (λ ys. (1 ≤ length ys) × (length ys ≤ most)) q (omega arith, omega arith)
-chunks_sized most zero begun (x ∷ xs) c pos e (inr i) = chunks_sized most (most - 1) (x ∷ []) xs c pos (omega arith) i
-chunks_sized most (suc left) begun (x ∷ xs) c pos e i =
-    let grown = length-append begun (x ∷ []) in
-    chunks_sized most left (begun ++ x ∷ []) xs c pos (omega arith) i
-
-In-flat : {X : Type 0} (xss : List (List X)) (c : List X) (x : X) → In c xss → In x c → In x (flat xss)
-In-flat [] c x i j = absurd i
-In-flat (xs ∷ xss) c x (inl e) j = In-append_left xs (flat xss) x (subst (λ ys. In x ys) (sym e) j)
-In-flat (xs ∷ xss) c x (inr i) j = In-append_right xs (flat xss) x (In-flat xss c x i j)
-
-In-chunks : {X : Type 0} (most : ℕ) (xs c : List X) (x : X) → In c (chunks most xs) → In x c → In x xs
-In-chunks most xs c x i j = subst (In x) (chunks_flat most most [] xs) (In-flat (chunks most xs) c x i j)
 
 length_tags : (w : Writers) (c : List Logged) → length (map (tag_of w) c) ≡ length c
 length_tags w [] = refl
