@@ -1,1 +1,2 @@
+-- What the code sees of its own fields.
 pub mod Left
