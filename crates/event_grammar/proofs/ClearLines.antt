@@ -12,8 +12,9 @@ use Rattle.event_grammar.specs.declared.steer.Steer.{Steer}
 use Rattle.event_grammar.specs.declared.steer.Steer.TheVariants as steers
 use Rattle.event_grammar.specs.declared.limits.TheConstants.{PLACES}
 use Rattle.event_grammar.specs.WellFormed.{IsCount, IsEvent, AreTurns, IsLineOf, IsEventLine, IsSteer}
-use Rattle.event_grammar.specs.laws.Speller.{event_words, counted, turn_words, what_words, event_line_words, steer_text, steer_words}
+use Rattle.event_grammar.specs.laws.Speller.{event_words, turn_words, what_words, event_line_words, steer_text, steer_words}
 use Rattle.event_grammar.proofs.EventLaws.{turns_fit}
+use Rattle.script_words.specs.laws.Counts.{counted}
 use Rattle.script_words.specs.Spelling.{is_skipped}
 use Rattle.script_words.proofs.SpelledWords.{lacks, IsClear, AreClear}
 use Rattle.script_words.proofs.SpelledNumbers.{IsClear-decimal}

@@ -1,13 +1,10 @@
 -- The words of event lines, as they are spelled.
-use Rattle.std.proofs.Common.{◌≡◌, ℕ, zero, suc, ◌+◌, ◌-◌, ◌*◌, ◌/◌, ◌^◌, ◌<◌, ◌≤◌, ◌==◌, ◌&&◌, Bool, true, false, nat_lt, nat_le, if◌then◌else◌, List, [], ◌∷◌, codes, decimal, Option, Some, None, Ok, Err, refl, sym, ap, ap₂, ◌∙◌, subst, arith, inl, inr, lit<, lit≤, ◌⊎◌}
-use Rattle.std.specs.Str.{bytes_eq}
+use Rattle.std.proofs.Common.{◌≡◌, ℕ, zero, suc, ◌+◌, ◌-◌, ◌*◌, ◌/◌, ◌^◌, ◌<◌, ◌≤◌, ◌==◌, ◌&&◌, Bool, true, false, nat_lt, nat_le, if◌then◌else◌, List, [], ◌∷◌, codes, decimal, Option, Some, None, Ok, Err, refl, sym, ap, ap₂, ◌∙◌, subst, arith, inl, inr, lit<, lit≤}
 use Rattle.std.proofs.lemmas.Bool.{and_parts, and_from, leb-true, le-leb, lt-ltb, eqb-true, eq-eqb, cases_eq}
 use Rattle.std.proofs.Math.Nat.{mul-div_cancel}
 use Rattle.std.proofs.Common.{mul_comm, mul-zero}
 use borrow.Author.Tests.{ltb-true}
-use Rattle.std.proofs.lemmas.Fmt.{decimal_digit, decimal_injective}
-use Rattle.std.proofs.lemmas.Option.{same_Some, none-some}
-use Rattle.std.proofs.lemmas.Slice.Eq.{bytes_eq-Decides}
+use Rattle.std.proofs.lemmas.Fmt.{decimal_injective}
 use Rattle.event_grammar.specs.declared.event.CoreEvent.{CoreEvent}
 use Rattle.event_grammar.specs.declared.event.CoreEvent.TheVariants as events
 use Rattle.event_grammar.specs.declared.event.EventWord.{EventWord}
@@ -22,12 +19,14 @@ use Rattle.event_grammar.specs.declared.words.TurnWord.{TurnWord}
 use Rattle.event_grammar.specs.declared.words.TurnWord.TheVariants as turns
 use Rattle.event_grammar.specs.declared.words.EventFirst.{EventFirst}
 use Rattle.event_grammar.specs.declared.words.EventFirst.TheVariants as word
-use Rattle.event_grammar.specs.EventLines.{event_word, plain_event, pick_event, turn_event, count_of, is_count, plain_taken, pick_taken, turn_taken, pick_line, turn_line, event_of}
+use Rattle.event_grammar.specs.EventLines.{event_word, plain_event, pick_event, turn_event, is_count, plain_taken, pick_taken, turn_taken, pick_line, turn_line, event_of}
 use Rattle.event_grammar.specs.WellFormed.{IsCount, IsEvent, AreTurns, IsLineOf, IsEventLine}
-use Rattle.event_grammar.specs.laws.Speller.{event_words, with_count, counted, SayTurns, SayEvent, SaysEvent, parts_from, parts_of, turn_words, what_words, event_line_words, line_after, line_of}
+use Rattle.event_grammar.specs.laws.Speller.{event_words, SayTurns, SayEvent, SaysEvent, parts_from, parts_of, turn_words, what_words, event_line_words, line_after, line_of}
 use Rattle.event_grammar.proofs.EventNames.{plain_name, pick_name, turn_name, event_name, event_named, event_known}
 use Rattle.script_words.specs.declared.line_error.LineFault.TheVariants as faults
-use Rattle.script_words.specs.Spelling.{numeral}
+use Rattle.script_words.specs.Spelling.{numeral, count_of}
+use Rattle.script_words.specs.laws.Counts.{with_count, counted}
+use Rattle.script_words.proofs.Counts.{one_text, with_count-one, with_count-two, shape_one, shape_two}
 use Rattle.script_words.proofs.SaidNumbers.{decimal-numeral}
 use Rattle.script_words.proofs.SpelledNumbers.{numeral-decimal}
 
@@ -42,27 +41,6 @@ IsCount-is_count n h = let p = and_parts (nat_le 1 n) (nat_le n MOST_REPEATS) h 
 
 is_count-from : (n : ℕ) → IsCount n → is_count n ≡ true
 is_count-from n is = and_from (nat_le 1 n) (nat_le n MOST_REPEATS) (le-leb 1 n is.some) (le-leb n MOST_REPEATS is.most)
-
-one_text : codes "1" ≡ decimal 1
-one_text = sym (decimal_digit 1 (lit< tt))
-
--- the words behind an event, x and a number
-counted_chosen : (P : List ℕ → List ℕ → Type 0) (x w : List ℕ) (n : ℕ) (is : Bool) → bytes_eq x (codes "x") ≡ is → (if is then numeral w else None) ≡ Some n → n < 2 ^ 64 - 1 → P (codes "x") (decimal n) → P x w
-counted_chosen P x w n true e h lt holds =
-    subst (λ v. P v w) (sym ((bytes_eq-Decides x (codes "x")).0 e)) (subst (P (codes "x")) (sym (decimal-numeral w n h lt)) holds)
-counted_chosen P x w n false e h lt holds = absurd (none-some n h)
-
-with_count-plain : (e : List ℕ) (ws : List (List ℕ)) (n : ℕ) → count_of ws ≡ Some n → n < 2 ^ 64 - 1 → with_count (e ∷ ws) ≡ counted (e ∷ []) n
-with_count-plain e [] n h lt = ap (λ w. e ∷ codes "x" ∷ w ∷ []) (one_text ∙ ap decimal (same_Some 1 n h))
-with_count-plain e (x ∷ []) n h lt = absurd (none-some n h)
-with_count-plain e (x ∷ w ∷ []) n h lt = counted_chosen (λ y v. e ∷ y ∷ v ∷ [] ≡ e ∷ codes "x" ∷ decimal n ∷ []) x w n (bytes_eq x (codes "x")) refl h lt refl
-with_count-plain e (x ∷ w ∷ v ∷ ws) n h lt = absurd (none-some n h)
-
-with_count-pick : (e p : List ℕ) (ws : List (List ℕ)) (n : ℕ) → count_of ws ≡ Some n → n < 2 ^ 64 - 1 → with_count (e ∷ p ∷ ws) ≡ counted (e ∷ p ∷ []) n
-with_count-pick e p [] n h lt = ap (λ w. e ∷ p ∷ codes "x" ∷ w ∷ []) (one_text ∙ ap decimal (same_Some 1 n h))
-with_count-pick e p (x ∷ []) n h lt = absurd (none-some n h)
-with_count-pick e p (x ∷ w ∷ []) n h lt = counted_chosen (λ y v. e ∷ p ∷ y ∷ v ∷ [] ≡ e ∷ p ∷ codes "x" ∷ decimal n ∷ []) x w n (bytes_eq x (codes "x")) refl h lt refl
-with_count-pick e p (x ∷ w ∷ v ∷ ws) n h lt = absurd (none-some n h)
 
 -- ---- what is read says the line
 
@@ -107,7 +85,7 @@ plain_taken-says w ws (Some n) l e h =
     let t = passed (is_count n) (record { what = One (plain_event w); count = n }) l h in
     let is = IsCount-is_count n t.0 in
     subst (Says (plain_name w ∷ ws)) t.1
-    (alike_said (plain_name w ∷ ws) (counted (plain_name w ∷ []) n) (record { what = One (plain_event w); count = n }) (with_count-plain (plain_name w) ws n e (below_64 n is)) (plain_said w n is))
+    (alike_said (plain_name w ∷ ws) (counted (plain_name w ∷ []) n) (record { what = One (plain_event w); count = n }) (with_count-one (plain_name w) ws n e (below_64 n is)) (plain_said w n is))
 
 pick_taken-says : (w : PickWord) (p : List ℕ) (ws : List (List ℕ)) (o c : Option ℕ) (l : EventLine) → numeral p ≡ o → count_of ws ≡ c → pick_taken w o c ≡ Ok l → Says (pick_name w ∷ p ∷ ws) l
 pick_taken-says w p ws None c l d e h = cc
@@ -119,7 +97,7 @@ pick_taken-says w p ws (Some pick) (Some n) l d e h =
     let lt = ltb-true pick PLACES parts.0 in
     let is = IsCount-is_count n parts.1 in
     let same : with_count (pick_name w ∷ p ∷ ws) ≡ counted (pick_name w ∷ decimal pick ∷ []) n =
-    with_count-pick (pick_name w) p ws n e (below_64 n is) ∙ ap (λ (v : List ℕ). counted (pick_name w ∷ v ∷ []) n) (decimal-numeral p pick d (omega (arith, lt))) in
+    with_count-two (pick_name w) p ws n e (below_64 n is) ∙ ap (λ (v : List ℕ). counted (pick_name w ∷ v ∷ []) n) (decimal-numeral p pick d (omega (arith, lt))) in
     subst (Says (pick_name w ∷ p ∷ ws)) t.1 (alike_said (pick_name w ∷ p ∷ ws) (counted (pick_name w ∷ decimal pick ∷ []) n) line same (pick_said w pick n lt is))
 
 turn_taken-says : (w : TurnWord) (p : List ℕ) (ws : List (List ℕ)) (o c : Option ℕ) (l : EventLine) → numeral p ≡ o → count_of ws ≡ c → turn_taken w o c ≡ Ok l → Says (turn_name w ∷ p ∷ ws) l
@@ -134,7 +112,7 @@ turn_taken-says w p ws (Some n) (Some m) l d e h =
     let often = IsCount-is_count m more.0 in
     let few = leb-true (8 * (n * m)) MOST_EVENTS more.1 in
     let same : with_count (turn_name w ∷ p ∷ ws) ≡ counted (turn_name w ∷ decimal n ∷ []) m =
-    with_count-pick (turn_name w) p ws m e (below_64 m often) ∙ ap (λ (v : List ℕ). counted (turn_name w ∷ v ∷ []) m) (decimal-numeral p n d (below_64 n some)) in
+    with_count-two (turn_name w) p ws m e (below_64 m often) ∙ ap (λ (v : List ℕ). counted (turn_name w ∷ v ∷ []) m) (decimal-numeral p n d (below_64 n some)) in
     subst (Says (turn_name w ∷ p ∷ ws)) t.1
     (turn_said w (n * m) (turn_name w ∷ p ∷ ws)
     (record { turns = n; repeats = m; some = some; often = often; product = refl; most = few })
@@ -162,23 +140,6 @@ line_of-says [] l h = cc
 line_of-says (w ∷ ws) l h = line_after-says w ws (event_word w) l refl h
 
 -- ---- what says a line is read as it
-
--- the words of an event line, with its count or without it
-shape_one : (l : List (List ℕ)) (w n : List ℕ) → with_count l ≡ w ∷ codes "x" ∷ n ∷ [] → (l ≡ w ∷ codes "x" ∷ n ∷ []) ⊎ ((l ≡ w ∷ []) × (n ≡ codes "1"))
-shape_one [] w n h = cc
-shape_one (a ∷ []) w n h = let same : a ≡ w = cc in let one : codes "1" ≡ n = cc in inr (ap (λ (x : List ℕ). x ∷ []) same, sym one)
-shape_one (a ∷ b ∷ []) w n h = cc
-shape_one (a ∷ b ∷ c ∷ ws) w n h = inl h
-
-shape_two : (l : List (List ℕ)) (w p n : List ℕ) → with_count l ≡ w ∷ p ∷ codes "x" ∷ n ∷ [] → (l ≡ w ∷ p ∷ codes "x" ∷ n ∷ []) ⊎ ((l ≡ w ∷ p ∷ []) × (n ≡ codes "1"))
-shape_two [] w p n h = cc
-shape_two (a ∷ []) w p n h = cc
-shape_two (a ∷ b ∷ []) w p n h =
-    let first : a ≡ w = cc in
-    let second : b ≡ p = cc in
-    let one : codes "1" ≡ n = cc in
-    inr (ap₂ (λ (x y : List ℕ). x ∷ y ∷ []) first second, sym one)
-shape_two (a ∷ b ∷ c ∷ ws) w p n h = inl h
 
 one_count : (n : ℕ) → IsCount n → decimal n ≡ codes "1" → n ≡ 1
 one_count n is h = let most = is.most in decimal_injective n 1 (omega (arith, most)) (lit< tt) (h ∙ one_text)

@@ -18,7 +18,7 @@ use Rattle.event_grammar.specs.declared.words.EventFirst.{EventFirst}
 use Rattle.event_grammar.specs.declared.words.EventFirst.TheVariants as word
 use Rattle.script_words.specs.declared.line_error.LineFault.{LineFault}
 use Rattle.script_words.specs.declared.line_error.LineFault.TheVariants as faults
-use Rattle.script_words.specs.Spelling.{numeral}
+use Rattle.script_words.specs.Spelling.{numeral, count_of}
 
 -- ---- first words
 
@@ -74,12 +74,6 @@ turn_event turns.Round = Round
 turn_event turns.Back = Back
 
 -- ---- the words behind the first
-
--- none, or x and a number
-abbrev pub count_of : List (List ℕ) → Option ℕ
-count_of [] = Some 1
-count_of (x ∷ n ∷ []) = if bytes_eq x (codes "x") then numeral n else None
-count_of ws = None
 
 -- 1 to 1,000,000
 abbrev pub is_count : ℕ → Bool

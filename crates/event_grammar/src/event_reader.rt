@@ -1,30 +1,20 @@
 //! Reads event lines.
 ghost use Rattle.std.specs.Prelude.{◌≡◌, map};
-ghost use Rattle.event_grammar.specs.EventLines.{count_of, is_count, plain_event, pick_event, turn_event, plain_taken, pick_taken, turn_taken, pick_line, turn_line, event_of};
+ghost use Rattle.event_grammar.specs.EventLines.{is_count, plain_event, pick_event, turn_event, plain_taken, pick_taken, turn_taken, pick_line, turn_line, event_of};
 
 use crate::event::{CoreEvent, EventLine, EventWord};
 use crate::limits::{MOST_EVENTS, MOST_REPEATS, PLACES};
 use crate::words::{EventFirst, PickWord, PlainWord, TurnWord};
-use script_words::{LineFault, numeral};
+use script_words::{LineFault, count_of, numeral};
 
 /// Reads the words behind the first as an event line, or says what is wrong with them.
 pub fn read_event(word: EventFirst, words: &[&[u8]]) -> Result<EventLine, LineFault>
     ensures { result ≡ event_of word (map (λ x. x.now) words.now) }
 {
     match word {
-        EventFirst::Plain(word) => plain_taken(word, read_count(words)),
+        EventFirst::Plain(word) => plain_taken(word, count_of(words)),
         EventFirst::Pick(word) => pick_line(word, words),
         EventFirst::Turn(word) => turn_line(word, words),
-    }
-}
-
-fn read_count(words: &[&[u8]]) -> Option<u64>
-    ensures { result ≡ count_of (map (λ x. x.now) words.now) }
-{
-    match words {
-        [] => Some(1),
-        [x, count] if *x == b"x".as_slice() => numeral(count),
-        _ => None,
     }
 }
 
@@ -79,7 +69,7 @@ fn pick_line(word: PickWord, words: &[&[u8]]) -> Result<EventLine, LineFault>
 {
     match words {
         [] => Err(LineFault::Spelling),
-        [pick, rest @ ..] => pick_taken(word, numeral(pick), read_count(rest)),
+        [pick, rest @ ..] => pick_taken(word, numeral(pick), count_of(rest)),
     }
 }
 
@@ -112,7 +102,7 @@ fn turn_line(word: TurnWord, words: &[&[u8]]) -> Result<EventLine, LineFault>
 {
     match words {
         [] => Err(LineFault::Spelling),
-        [turns, rest @ ..] => turn_taken(word, numeral(turns), read_count(rest)),
+        [turns, rest @ ..] => turn_taken(word, numeral(turns), count_of(rest)),
     }
 }
 

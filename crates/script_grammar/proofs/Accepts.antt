@@ -23,19 +23,20 @@ use Rattle.script_grammar.specs.declared.words.PickWord.{PickWord}
 use Rattle.script_grammar.specs.declared.words.PickWord.TheVariants as picks
 use Rattle.script_grammar.specs.declared.words.Word.TheVariants as word
 use Rattle.script_grammar.specs.declared.words.Line.TheVariants as line
-use Rattle.script_words.specs.Spelling.{lines_of}
-use Rattle.script_grammar.specs.Words.{count_of}
+use Rattle.script_words.specs.Spelling.{lines_of, count_of}
 use Rattle.script_grammar.specs.Grammar.{form_blocks, is_scheduled, needs_scheduler, count_fits, with_request, with_events, plain_event, pick_event, new_reading, read_words, read_one, ended, ended_in, script_read, script_of, IsRequestOf}
 use Rattle.script_grammar.specs.WellFormed.{IsEventOf, IsEventLineOf, IsFilled, IsWellFormed, expanded_of}
 use Rattle.script_grammar.specs.laws.Speller.{form_words, cut_lines, elevator_lines, request_words, event_words, what_words, event_line_words}
 use Rattle.script_words.specs.laws.Texts.{kept_lines}
 use Rattle.script_words.proofs.KeptLines as text
 use Rattle.script_words.proofs.KeptLines.{ends_reads}
-use Rattle.script_grammar.specs.laws.Accepted.{begins, beginning, or_default, default_depth, filled_queue, with_count, SaysScript}
+use Rattle.script_grammar.specs.laws.Accepted.{begins, beginning, or_default, default_depth, filled_queue, SaysScript}
+use Rattle.script_words.specs.laws.Counts.{with_count}
+use Rattle.script_words.proofs.Counts.{one_text, shape_one, shape_two}
 use Rattle.script_words.proofs.SpelledNumbers.{numeral-decimal}
 use Rattle.script_grammar.proofs.SpelledLines.{IsRead, at_header, before_events, later_line-read, may_stand-event, count_fits-from, IsRead-form, IsRead-depth, IsRead-queue, IsRead-cut, IsRead-elevator, IsRead-request, IsRead-events}
 use Rattle.script_grammar.proofs.Spelled.{with_line, with_lines, with_requests, IsRead-event_line}
-use Rattle.script_grammar.proofs.SaidWords.{one_text, default_text, line_with}
+use Rattle.script_grammar.proofs.SaidWords.{default_text, line_with}
 use Rattle.script_grammar.proofs.Said.{read_line_of, is_header_line, depth_line, queue_line, cut_line, elevator_line}
 
 -- ---- lines, each as its words
@@ -48,23 +49,6 @@ ReadsTo-line : (reading : Option Reading) (ws : List (List ℕ)) (next : Reading
 ReadsTo-line reading ws next ls s is rest = (next, is.read, rest)
 
 -- ---- event lines
-
--- the words of an event line, with its count or without it
-shape_one : (l : List (List ℕ)) (w n : List ℕ) → with_count l ≡ w ∷ codes "x" ∷ n ∷ [] → (l ≡ w ∷ codes "x" ∷ n ∷ []) ⊎ ((l ≡ w ∷ []) × (n ≡ codes "1"))
-shape_one [] w n h = cc
-shape_one (a ∷ []) w n h = let same : a ≡ w = cc in let one : codes "1" ≡ n = cc in inr (ap (λ (x : List ℕ). x ∷ []) same, sym one)
-shape_one (a ∷ b ∷ []) w n h = cc
-shape_one (a ∷ b ∷ c ∷ ws) w n h = inl h
-
-shape_two : (l : List (List ℕ)) (w p n : List ℕ) → with_count l ≡ w ∷ p ∷ codes "x" ∷ n ∷ [] → (l ≡ w ∷ p ∷ codes "x" ∷ n ∷ []) ⊎ ((l ≡ w ∷ p ∷ []) × (n ≡ codes "1"))
-shape_two [] w p n h = cc
-shape_two (a ∷ []) w p n h = cc
-shape_two (a ∷ b ∷ []) w p n h =
-    let first : a ≡ w = cc in
-    let second : b ≡ p = cc in
-    let one : codes "1" ≡ n = cc in
-    inr (ap₂ (λ (x y : List ℕ). x ∷ y ∷ []) first second, sym one)
-shape_two (a ∷ b ∷ c ∷ ws) w p n h = inl h
 
 shape : (l : List (List ℕ)) (e : CoreEvent) (n : List ℕ) → with_count l ≡ event_words e ++ codes "x" ∷ n ∷ [] → (l ≡ event_words e ++ codes "x" ∷ n ∷ []) ⊎ ((l ≡ event_words e) × (n ≡ codes "1"))
 shape l Submit n h = shape_one l (codes "submit") n h

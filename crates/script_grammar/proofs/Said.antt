@@ -29,18 +29,20 @@ use Rattle.script_grammar.specs.declared.words.Word.TheVariants as word
 use Rattle.script_grammar.specs.declared.words.Line.{Line}
 use Rattle.script_grammar.specs.declared.words.Line.TheVariants as line
 use Rattle.byte_text.specs.Hex.{hex_text}
-use Rattle.script_words.specs.Spelling.{numeral, hex_byte, words_of, lines_of}
-use Rattle.script_grammar.specs.Words.{class_of, count_of, header_line, put_line, pick_line, line_of, word_of}
+use Rattle.script_words.specs.Spelling.{numeral, hex_byte, words_of, lines_of, count_of}
+use Rattle.script_grammar.specs.Words.{class_of, header_line, put_line, pick_line, line_of, word_of}
 use Rattle.script_grammar.specs.Grammar.{form_blocks, is_scheduled, form_of, is_built, new_reading, opened, form_line, built_first, first_line, stands_in, may_stand, stood_before, fits, put_request, flush_request, with_request, with_events, plain_event, pick_event, after, taken, later_line, read_words, read_one, script_read, ended_in, ended, script_of}
 use Rattle.script_grammar.specs.laws.Speller.{form_words, cut_lines, elevator_lines, request_words, event_line_words}
 use Rattle.script_words.specs.laws.Texts.{kept_lines}
 use Rattle.script_words.proofs.KeptLines.{said}
-use Rattle.script_grammar.specs.laws.Accepted.{begins, beginning, or_default, default_depth, filled_queue, with_count, SaysScript}
+use Rattle.script_grammar.specs.laws.Accepted.{begins, beginning, or_default, default_depth, filled_queue, SaysScript}
 use Rattle.script_grammar.proofs.WellFormed.{ok_behind, ok_past, ok_beside}
 use Rattle.script_words.proofs.Chosen.{mapped, chained}
 use Rattle.script_grammar.proofs.SpelledLines.{before_events, body_byte-filled}
 use Rattle.script_words.proofs.SaidNumbers.{decimal-numeral, hex_text-byte}
-use Rattle.script_grammar.proofs.SaidWords.{IsNamed, named, class_named, plain_text, pick_text, default_text, with_count-plain, with_count-pick, line_with, plain_said, pick_said}
+use Rattle.script_words.specs.laws.Counts.{with_count}
+use Rattle.script_words.proofs.Counts.{with_count-one, with_count-two}
+use Rattle.script_grammar.proofs.SaidWords.{IsNamed, named, class_named, plain_text, pick_text, default_text, line_with, plain_said, pick_said}
 
 -- ---- what the lines that were read say of the reading
 
@@ -369,7 +371,7 @@ adds_plain r lines w p ws l name here e is =
     mapped (Adds r lines (w ∷ ws)) (line.Plain p) (count_of ws) l e
     (λ n number fit.
     let most = leb-true n MOST_REPEATS (and_parts (nat_le n MOST_REPEATS) _ (and_parts (nat_le 1 n) _ fit).1).0 in
-    let said = with_count-plain w ws n number (omega (arith, most)) ∙ ap (λ (x : List ℕ). x ∷ codes "x" ∷ decimal n ∷ []) name ∙ plain_said p n in
+    let said = with_count-one w ws n number (omega (arith, most)) ∙ ap (λ (x : List ℕ). x ∷ codes "x" ∷ decimal n ∷ []) name ∙ plain_said p n in
     Says-event r lines (w ∷ ws) (plain_event p) n here said is)
 
 adds_pick : (r : Reading) (lines : List (List (List ℕ))) (w : List ℕ) (p : PickWord) (ws : List (List ℕ)) (l : Line) → w ≡ pick_text p → r.section ≡ sections.Events → pick_line p ws ≡ Some l → Says r lines → Adds r lines (w ∷ ws) l
@@ -382,7 +384,7 @@ adds_pick r lines w p (v ∷ ws) l name here e is =
     let small = ltb-true pick PLACES parts.0 in
     let most = leb-true n MOST_REPEATS (and_parts (nat_le n MOST_REPEATS) _ (and_parts (nat_le 1 n) _ parts.1).1).0 in
     let said =
-    with_count-pick w v ws n number (omega (arith, most))
+    with_count-two w v ws n number (omega (arith, most))
     ∙ ap₂ (λ (x y : List ℕ). x ∷ y ∷ codes "x" ∷ decimal n ∷ []) name (decimal-numeral v pick place (omega (arith, small)))
     ∙ pick_said p pick n in
     Says-event r lines (w ∷ v ∷ ws) (pick_event p pick) n here said is))

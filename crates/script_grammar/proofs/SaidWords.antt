@@ -1,5 +1,5 @@
 -- Words that are read are spelled as the speller writes them.
-use Rattle.std.proofs.Common.{◌≡◌, ℕ, ◌-◌, ◌^◌, ◌<◌, ◌||◌, Bool, true, false, List, [], ◌∷◌, ◌++◌, codes, decimal, Some, None, refl, sym, ap, ◌∙◌, subst, lit<, lit≤, if◌then◌else◌}
+use Rattle.std.proofs.Common.{◌≡◌, ℕ, ◌-◌, ◌<◌, ◌||◌, Bool, true, false, List, [], ◌∷◌, ◌++◌, codes, decimal, Some, None, refl, sym, ap, ◌∙◌, subst, lit<, lit≤, if◌then◌else◌}
 use Rattle.std.specs.Str.{bytes_eq}
 use Rattle.std.specs.Option.{option_or}
 use Rattle.std.proofs.lemmas.Fmt.{decimal_digit, decimal_step}
@@ -22,13 +22,10 @@ use Rattle.script_grammar.specs.declared.words.Word.{Word}
 use Rattle.script_grammar.specs.declared.words.Word.TheVariants as word
 use Rattle.script_grammar.specs.declared.words.Class.{Class}
 use Rattle.script_grammar.specs.declared.words.Class.TheVariants as class
-use Rattle.script_words.specs.Spelling.{numeral}
-use Rattle.script_grammar.specs.Words.{first_word, header_word, body_word, plain_word, pick_word, is_volume_section, is_change, is_query, is_host_event, volume_word, word_of, class_of, count_of}
+use Rattle.script_grammar.specs.Words.{first_word, header_word, body_word, plain_word, pick_word, is_volume_section, is_change, is_query, is_host_event, volume_word, word_of, class_of}
 use Rattle.script_grammar.specs.Grammar.{is_ordered_class, is_barrier_class, plain_event, pick_event}
 use Rattle.script_grammar.specs.laws.Speller.{class_text, event_line_words}
-use Rattle.script_grammar.specs.laws.Accepted.{with_count}
 use Rattle.script_words.proofs.Chosen.{choose, group_or}
-use Rattle.script_words.proofs.SaidNumbers.{decimal-numeral}
 
 -- ---- words, by group
 
@@ -137,31 +134,10 @@ class_named w k h =
 
 -- ---- numbers of the speller
 
-pub one_text : codes "1" ≡ decimal 1
-one_text = sym (decimal_digit 1 (lit< tt))
-
 pub default_text : codes "32" ≡ decimal 32
 default_text = sym (decimal_step 32 (lit≤ tt) (lit< tt) ∙ ap (λ l. l ++ 50 ∷ []) (decimal_digit 3 (lit< tt)))
 
 -- ---- event lines
-
--- the words behind an event, x and a number
-counted : (P : List ℕ → List ℕ → Type 0) (x w : List ℕ) (n : ℕ) (is : Bool) → bytes_eq x (codes "x") ≡ is → (if is then numeral w else None) ≡ Some n → n < 2 ^ 64 - 1 → P (codes "x") (decimal n) → P x w
-counted P x w n true e h lt holds =
-    subst (λ v. P v w) (sym ((bytes_eq-Decides x (codes "x")).0 e)) (subst (P (codes "x")) (sym (decimal-numeral w n h lt)) holds)
-counted P x w n false e h lt holds = absurd (none-some n h)
-
-pub with_count-plain : (e : List ℕ) (ws : List (List ℕ)) (n : ℕ) → count_of ws ≡ Some n → n < 2 ^ 64 - 1 → with_count (e ∷ ws) ≡ e ∷ codes "x" ∷ decimal n ∷ []
-with_count-plain e [] n h lt = ap (λ w. e ∷ codes "x" ∷ w ∷ []) (one_text ∙ ap decimal (same_Some 1 n h))
-with_count-plain e (x ∷ []) n h lt = absurd (none-some n h)
-with_count-plain e (x ∷ w ∷ []) n h lt = counted (λ y v. e ∷ y ∷ v ∷ [] ≡ e ∷ codes "x" ∷ decimal n ∷ []) x w n (bytes_eq x (codes "x")) refl h lt refl
-with_count-plain e (x ∷ w ∷ v ∷ ws) n h lt = absurd (none-some n h)
-
-pub with_count-pick : (e p : List ℕ) (ws : List (List ℕ)) (n : ℕ) → count_of ws ≡ Some n → n < 2 ^ 64 - 1 → with_count (e ∷ p ∷ ws) ≡ e ∷ p ∷ codes "x" ∷ decimal n ∷ []
-with_count-pick e p [] n h lt = ap (λ w. e ∷ p ∷ codes "x" ∷ w ∷ []) (one_text ∙ ap decimal (same_Some 1 n h))
-with_count-pick e p (x ∷ []) n h lt = absurd (none-some n h)
-with_count-pick e p (x ∷ w ∷ []) n h lt = counted (λ y v. e ∷ p ∷ y ∷ v ∷ [] ≡ e ∷ p ∷ codes "x" ∷ decimal n ∷ []) x w n (bytes_eq x (codes "x")) refl h lt refl
-with_count-pick e p (x ∷ w ∷ v ∷ ws) n h lt = absurd (none-some n h)
 
 -- an event, with its count
 abbrev pub line_with : CoreEvent → ℕ → EventLine

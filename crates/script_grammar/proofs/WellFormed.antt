@@ -36,9 +36,9 @@ use Rattle.script_grammar.specs.code.Readers.{IsTextReadAs}
 use Rattle.script_words.proofs.Chosen.{mapped, chained}
 use Rattle.script_words.proofs.KeptLines.{said}
 use Rattle.script_words.proofs.SaidNumbers.{hex_byte-small}
-use Rattle.script_words.specs.Spelling.{hex_byte, numeral, words_of, lines_of}
+use Rattle.script_words.specs.Spelling.{hex_byte, numeral, words_of, lines_of, count_of}
 use Rattle.script_grammar.specs.WellFormed.{IsEventOf, IsEventLineOf, IsFilled, IsWellFormed, expanded_of}
-use Rattle.script_grammar.specs.Words.{class_of, count_of, header_line, put_line, body_line, pick_line, line_of, word_of}
+use Rattle.script_grammar.specs.Words.{class_of, header_line, put_line, body_line, pick_line, line_of, word_of}
 
 -- ---- what holds of the reading between two lines
 

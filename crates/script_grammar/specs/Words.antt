@@ -18,7 +18,7 @@ use Rattle.script_grammar.specs.declared.words.Class.{Class}
 use Rattle.script_grammar.specs.declared.words.Class.TheVariants as class
 use Rattle.script_grammar.specs.declared.words.Line.{Line}
 use Rattle.script_grammar.specs.declared.words.Line.TheVariants as line
-use Rattle.script_words.specs.Spelling.{numeral, hex_byte}
+use Rattle.script_words.specs.Spelling.{numeral, hex_byte, count_of}
 
 -- ---- words, by group
 
@@ -123,12 +123,6 @@ abbrev pub body_line : BodyWord → List (List ℕ) → Option Line
 body_line body.Put (b ∷ v ∷ c ∷ []) = put_line b v c
 body_line body.Flush [] = Some line.Flush
 body_line w ws = None
-
--- the words behind an event: none, or x and a number
-abbrev pub count_of : List (List ℕ) → Option ℕ
-count_of [] = Some 1
-count_of (x ∷ n ∷ []) = if bytes_eq x (codes "x") then numeral n else None
-count_of ws = None
 
 abbrev pub plain_line : PlainWord → List (List ℕ) → Option Line
 plain_line w ws = option_map (line.Plain w) (count_of ws)

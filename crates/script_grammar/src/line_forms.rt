@@ -1,10 +1,10 @@
 //! The lines, by the words behind their first word.
 ghost use Rattle.std.specs.Prelude.{◌≡◌, map};
-ghost use Rattle.script_grammar.specs.Words.{header_line, put_line, body_line, count_of, plain_line, pick_line, events_line, line_of};
+ghost use Rattle.script_grammar.specs.Words.{header_line, put_line, body_line, plain_line, pick_line, events_line, line_of};
 
 use crate::word_table::read_class;
 use crate::words::{BodyWord, HeaderWord, Line, PickWord, PlainWord, Word};
-use script_words::{hex_byte, numeral};
+use script_words::{count_of, hex_byte, numeral};
 
 /// The line that these words spell, the first of which is `word`.
 pub fn read_line_of(word: Word, words: &[&[u8]]) -> Option<Line>
@@ -67,7 +67,7 @@ fn read_events_line(words: &[&[u8]]) -> Option<Line>
 fn read_plain_line(word: PlainWord, words: &[&[u8]]) -> Option<Line>
     ensures { result ≡ plain_line word (map (λ x. x.now) words.now) }
 {
-    let count = read_count(words)?;
+    let count = count_of(words)?;
     Some(Line::Plain { word, count })
 }
 
@@ -78,18 +78,8 @@ fn read_pick_line(word: PickWord, words: &[&[u8]]) -> Option<Line>
         [] => None,
         [pick, rest @ ..] => {
             let pick = numeral(pick)?;
-            let count = read_count(rest)?;
+            let count = count_of(rest)?;
             Some(Line::Pick { word, pick, count })
         }
-    }
-}
-
-fn read_count(words: &[&[u8]]) -> Option<u64>
-    ensures { result ≡ count_of (map (λ x. x.now) words.now) }
-{
-    match words {
-        [] => Some(1),
-        [x, count] if *x == b"x".as_slice() => numeral(count),
-        _ => None,
     }
 }

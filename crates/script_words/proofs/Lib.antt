@@ -1,5 +1,6 @@
 pub mod Chosen
 pub mod Clear
+pub mod Counts
 pub mod Numerals
 pub mod Parts
 pub mod SaidNumbers

@@ -1,7 +1,8 @@
 -- How scripts are cut into lines and words, and how numbers are spelled.
-use Rattle.std.specs.Prelude.{ℕ, ◌+◌, ◌-◌, ◌*◌, ◌^◌, ◌==◌, ◌&&◌, not, min, Bool, true, false, List, [], ◌∷◌, length, take, Option, Some, None, nat_le, if◌then◌else◌, slice_get}
+use Rattle.std.specs.Prelude.{ℕ, ◌+◌, ◌-◌, ◌*◌, ◌^◌, ◌==◌, ◌&&◌, not, min, Bool, true, false, List, [], ◌∷◌, codes, length, take, Option, Some, None, nat_le, if◌then◌else◌, slice_get}
 use Rattle.std.specs.List.{slice_split, list_all}
 use Rattle.std.specs.Option.{option_and_then, option_map, option_map_or}
+use Rattle.std.specs.Str.{bytes_eq}
 
 -- the last byte is a line feed
 abbrev pub ends_in_feed : List ℕ → Bool
@@ -50,3 +51,9 @@ hex_digit b = if is_digit b then Some (b - 48) else (if nat_le 97 b && nat_le b 
 abbrev pub hex_byte : List ℕ → Option ℕ
 hex_byte (h ∷ l ∷ []) = option_and_then (λ x. option_map (λ y. 16 * x + y) (hex_digit l)) (hex_digit h)
 hex_byte word = None
+
+-- how often something is done: the words are none, or x and a number
+abbrev pub count_of : List (List ℕ) → Option ℕ
+count_of [] = Some 1
+count_of (x ∷ n ∷ []) = if bytes_eq x (codes "x") then numeral n else None
+count_of ws = None

@@ -1,3 +1,4 @@
 -- The words of laws.
+pub mod Counts
 pub mod Texts
 pub mod FirstFault

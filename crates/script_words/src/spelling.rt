@@ -1,7 +1,7 @@
 //! Lines, words and numbers.
 ghost use Rattle.std.specs.Prelude.{◌≡◌, ◌+◌, ◌-◌, ◌^◌, ◌==◌, ◌<◌, ◌≤◌, min, map, length, IfOk, IfSome, vec_len};
 ghost use Rattle.std.specs.List.{slice_split, list_all};
-ghost use Rattle.script_words.specs.Spelling.{without_last_feed, lines_of, is_skipped, words_of, is_digit, is_numeral, value_after, numeral, hex_digit, hex_byte};
+ghost use Rattle.script_words.specs.Spelling.{without_last_feed, lines_of, is_skipped, words_of, is_digit, is_numeral, value_after, numeral, hex_digit, hex_byte, count_of};
 
 use blk_base::NoMemory;
 use std::alloc::{AllocError, Global};
@@ -116,6 +116,17 @@ pub fn hex_byte(word: &[u8]) -> Option<u8>
             let low = hex_digit(*low)?;
             Some(16 * high + low)
         }
+        _ => None,
+    }
+}
+
+/// How often something is done, by the words that say it: none says once, or `x` and a number.
+pub fn count_of(words: &[&[u8]]) -> Option<u64>
+    ensures { result ≡ count_of (map (λ x. x.now) words.now) }
+{
+    match words {
+        [] => Some(1),
+        [x, count] if *x == b"x".as_slice() => numeral(count),
         _ => None,
     }
 }

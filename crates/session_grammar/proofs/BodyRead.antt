@@ -7,7 +7,7 @@ use Rattle.std.proofs.lemmas.List.Splits.{join_with_byte-slice_split}
 use Rattle.std.proofs.lemmas.Option.{none-some}
 use Rattle.blk_base.specs.Members.{In, In-append_left, In-append_right}
 use Rattle.tree_model.specs.declared.call.Call.{Call}
-use Rattle.script_words.specs.Spelling.{words_of}
+use Rattle.script_words.specs.Spelling.{words_of, count_of}
 use Rattle.script_words.proofs.Chosen.{mapped, chained}
 use Rattle.script_words.proofs.SpelledNumbers.{numeral-decimal}
 use Rattle.script_grammar.specs.declared.kinds.ScriptKind.TheVariants as kinds
@@ -245,7 +245,7 @@ submit_taken (Some n) e threads h is =
     subst (λ (x : EventLine). IsTurnOf threads x.what) (sym p.1) is
 
 not_submit : (v : EventFirst) (ws : List (List ℕ)) (e : EventLine) (threads : ℕ) → event_lines.event_of v ws ≡ Ok e → IsTurnOf threads e.what → not (is_submit v) ≡ true
-not_submit (event.Plain plain.Submit) ws e threads h is = absurd (submit_taken (event_lines.count_of ws) e threads h is)
+not_submit (event.Plain plain.Submit) ws e threads h is = absurd (submit_taken (count_of ws) e threads h is)
 not_submit (event.Plain plain.Accept) ws e threads h is = refl
 not_submit (event.Plain plain.Receive) ws e threads h is = refl
 not_submit (event.Plain plain.Commit) ws e threads h is = refl

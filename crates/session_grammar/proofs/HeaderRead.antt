@@ -9,7 +9,8 @@ use Rattle.script_words.proofs.SpelledNumbers.{numeral-decimal}
 use Rattle.script_grammar.specs.declared.kinds.ScriptKind.TheVariants as kinds
 use Rattle.script_grammar.specs.declared.limits.TheConstants.{DEFAULT_DEPTH, DEFAULT_QUEUE, MOST_DEPTH, MOST_QUEUE, MOST_STEPS}
 use Rattle.script_grammar.specs.laws.Accepted.{begins, beginning, or_default}
-use Rattle.script_grammar.proofs.SaidWords.{one_text, default_text}
+use Rattle.script_grammar.proofs.SaidWords.{default_text}
+use Rattle.script_words.proofs.Counts.{one_text}
 use Rattle.session_grammar.specs.declared.limits.TheConstants.{DEFAULT_LIMIT, DEFAULT_SEED, MOST_SEED, MOST_SESSION}
 use Rattle.session_grammar.specs.declared.reading.Reading.{Reading}
 use Rattle.session_grammar.specs.declared.reading.HeaderSoFar.{HeaderSoFar}

@@ -16,7 +16,8 @@ use Rattle.script_words.proofs.SaidNumbers.{decimal-numeral}
 use Rattle.script_grammar.specs.declared.limits.TheConstants.{DEFAULT_DEPTH, DEFAULT_QUEUE}
 use Rattle.script_grammar.specs.declared.kinds.ScriptKind.{ScriptKind}
 use Rattle.script_grammar.specs.laws.Accepted.{begins, beginning, or_default}
-use Rattle.script_grammar.proofs.SaidWords.{one_text, default_text}
+use Rattle.script_grammar.proofs.SaidWords.{default_text}
+use Rattle.script_words.proofs.Counts.{one_text}
 use Rattle.script_grammar.proofs.WellFormed.{ok_behind, ok_past, ok_beside}
 use Rattle.call_grammar.specs.CallLines.{call_of}
 use Rattle.call_grammar.specs.Programs.{pushed_last, last_length}

@@ -17,7 +17,8 @@ use Rattle.event_grammar.specs.declared.words.EventFirst.{EventFirst}
 use Rattle.event_grammar.specs.declared.words.EventFirst.TheVariants as event
 use Rattle.event_grammar.specs.declared.words.PlainWord.TheVariants as plain
 use Rattle.event_grammar.specs.EventLines.{event_word}
-use Rattle.event_grammar.specs.laws.Speller.{with_count, counted, SayEvent}
+use Rattle.script_words.specs.laws.Counts.{with_count, counted}
+use Rattle.event_grammar.specs.laws.Speller.{SayEvent}
 use Rattle.session_grammar.specs.declared.words.Word.TheVariants as word
 use Rattle.session_grammar.specs.Grammar.{is_built, is_submit, names_thread}
 use Rattle.session_grammar.specs.WellFormed.{IsBuilt, IsStepOf, IsTurnOf}

@@ -1,5 +1,5 @@
 -- A small speller of event lines and `recover` lines.
-use Rattle.std.specs.Prelude.{◌≡◌, ℕ, suc, zero, ◌+◌, ◌*◌, ◌/◌, ◌==◌, ◌&&◌, nat_le, if◌then◌else◌, List, [], ◌∷◌, ◌++◌, codes, map, Option, Some, None, Result, Err}
+use Rattle.std.specs.Prelude.{◌≡◌, ℕ, suc, zero, ◌+◌, ◌*◌, ◌/◌, ◌==◌, ◌&&◌, nat_le, if◌then◌else◌, List, [], ◌∷◌, codes, map, Option, Some, None, Result, Err}
 use Rattle.std.specs.Fmt.{decimal}
 use Rattle.event_grammar.specs.declared.event.CoreEvent.{CoreEvent}
 use Rattle.event_grammar.specs.declared.event.CoreEvent.TheVariants as events
@@ -14,6 +14,7 @@ use Rattle.event_grammar.specs.EventLines.{event_word, event_of}
 use Rattle.event_grammar.specs.WellFormed.{IsCount}
 use Rattle.script_words.specs.declared.line_error.LineFault.{LineFault}
 use Rattle.script_words.specs.declared.line_error.LineFault.TheVariants as faults
+use Rattle.script_words.specs.laws.Counts.{with_count, counted}
 
 -- ---- event lines
 
@@ -29,15 +30,6 @@ event_words events.Receive = codes "receive" ∷ []
 event_words (events.Transfer pick) = codes "transfer" ∷ decimal pick ∷ []
 event_words (events.Persist pick) = codes "persist" ∷ decimal pick ∷ []
 event_words events.Answer = codes "answer" ∷ []
-
--- an event line with its count, which is 1 where it says none
-abbrev pub with_count : List (List ℕ) → List (List ℕ)
-with_count (e ∷ []) = e ∷ codes "x" ∷ codes "1" ∷ []
-with_count (e ∷ pick ∷ []) = e ∷ pick ∷ codes "x" ∷ codes "1" ∷ []
-with_count l = l
-
-abbrev pub counted : List (List ℕ) → ℕ → List (List ℕ)
-counted ws count = ws ++ codes "x" ∷ decimal count ∷ []
 
 -- the words say so many turns, so often
 pub record SayTurns (name : List ℕ) (count : ℕ) (ws : List (List ℕ)) : Type 0 where

@@ -4,6 +4,7 @@ use Rattle.std.specs.Prelude.{◌≡◌, ℕ, ◌++◌, ◌||◌, Bool, true, fa
 use Rattle.std.specs.List.{filter}
 use Rattle.std.specs.Str.{bytes_eq}
 use Rattle.blk_base.specs.Members.{In}
+use Rattle.script_words.specs.laws.Counts.{with_count}
 use Rattle.script_grammar.specs.declared.script.Script.{Script}
 use Rattle.script_grammar.specs.Grammar.{is_scheduled}
 use Rattle.script_grammar.specs.laws.Speller.{form_words, depth_lines, queue_lines, cut_lines, elevator_lines, request_words, event_line_words}
@@ -42,12 +43,6 @@ pub record IsHeaderOf (s : Script) (header : List (List (List ℕ))) : Type 0 wh
   pub cut : beginning (codes "cut") header ≡ cut_lines s.header.cut
   pub elevator : beginning (codes "elevator") header ≡ elevator_lines s.header.elevator
   pub known : (l : List (List ℕ)) → In l header → (begins (codes "depth") l || (begins (codes "queue") l || (begins (codes "cut") l || begins (codes "elevator") l))) ≡ true
-
--- an event line with its count, which is 1 where it says none
-abbrev pub with_count : List (List ℕ) → List (List ℕ)
-with_count (e ∷ []) = e ∷ codes "x" ∷ codes "1" ∷ []
-with_count (e ∷ pick ∷ []) = e ∷ pick ∷ codes "x" ∷ codes "1" ∷ []
-with_count l = l
 
 -- The lines, each as its words, say the script.
 pub record SaysScript (s : Script) (lines : List (List (List ℕ))) : Type 0 where
