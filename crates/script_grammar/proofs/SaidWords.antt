@@ -55,7 +55,7 @@ pick_text picks.Dispatch = codes "dispatch"
 pick_text picks.Transfer = codes "transfer"
 pick_text picks.Persist = codes "persist"
 
-first_named : (w : List ℕ) (f : FirstWord) → first_word w ≡ Some f → w ≡ first_text f
+pub first_named : (w : List ℕ) (f : FirstWord) → first_word w ≡ Some f → w ≡ first_text f
 first_named w f h =
     choose first_text w first.Device f _ h
     (λ h. choose first_text w first.Blocks f _ h

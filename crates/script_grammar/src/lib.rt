@@ -25,3 +25,5 @@ pub use limits::{
 };
 pub use script::{CoreEvent, EventLine, EventWord, Events, Form, Header, RequestList, Script};
 pub use script_error::{LineError, ScriptError, fault_at};
+pub use word_table::read_first_word;
+pub use words::FirstWord;

@@ -29,7 +29,8 @@ pub fn read_word(w: &[u8]) -> Option<Word>
     read_volume_word(w)
 }
 
-fn read_first_word(w: &[u8]) -> Option<FirstWord>
+/// The word that begins a script, where it is known.
+pub fn read_first_word(w: &[u8]) -> Option<FirstWord>
     ensures { result ≡ first_word w.now }
 {
     if w == b"device".as_slice() {

@@ -6,20 +6,15 @@ use Rattle.std.proofs.lemmas.Slice.Eq.{bytes_eq-Decides}
 use Rattle.call_grammar.specs.CallLines.{call_word}
 use Rattle.event_grammar.specs.EventLines.{event_word}
 use Rattle.script_words.proofs.Chosen.{choose, group_or, either_or, mapped}
-use Rattle.session_grammar.specs.declared.words.FirstWord.{FirstWord}
-use Rattle.session_grammar.specs.declared.words.FirstWord.TheVariants as first
+use Rattle.script_grammar.specs.Words.{first_word}
+use Rattle.script_grammar.proofs.SaidWords.{first_text, first_named}
 use Rattle.session_grammar.specs.declared.words.NumberWord.{NumberWord}
 use Rattle.session_grammar.specs.declared.words.NumberWord.TheVariants as numbers
 use Rattle.session_grammar.specs.declared.words.HeaderWord.{HeaderWord}
 use Rattle.session_grammar.specs.declared.words.HeaderWord.TheVariants as header
 use Rattle.session_grammar.specs.declared.words.Word.{Word}
 use Rattle.session_grammar.specs.declared.words.Word.TheVariants as word
-use Rattle.session_grammar.specs.Words.{first_word, number_word, other_header, header_word, part_word, call_step, event_step, step_word, word_of}
-
-abbrev pub first_name : FirstWord → List ℕ
-first_name first.Device = codes "device"
-first_name first.Blocks = codes "blocks"
-first_name first.Volume = codes "volume"
+use Rattle.session_grammar.specs.Words.{number_word, other_header, header_word, part_word, call_step, event_step, step_word, word_of}
 
 abbrev pub number_name : NumberWord → List ℕ
 number_name numbers.Depth = codes "depth"
@@ -35,7 +30,7 @@ header_name header.Fail = codes "fail"
 
 -- the word is spelled so; of calls and events their own crates say how
 abbrev pub IsNamed : List ℕ → Word → Type 0
-IsNamed w (word.First f) = w ≡ first_name f
+IsNamed w (word.First f) = w ≡ first_text f
 IsNamed w (word.Header h) = w ≡ header_name h
 IsNamed w word.Put = w ≡ codes "put"
 IsNamed w word.Thread = w ≡ codes "thread"
@@ -43,12 +38,6 @@ IsNamed w word.Events = w ≡ codes "events"
 IsNamed w word.Recover = w ≡ codes "recover"
 IsNamed w (word.Call c) = call_word w ≡ Some c
 IsNamed w (word.Event e) = event_word w ≡ Some e
-
-first_named : (w : List ℕ) (f : FirstWord) → first_word w ≡ Some f → w ≡ first_name f
-first_named w f h =
-    choose first_name w first.Device f _ h
-    (λ h. choose first_name w first.Blocks f _ h
-    (λ h. choose first_name w first.Volume f None h (λ h. absurd (none-some f h))))
 
 number_named : (w : List ℕ) (n : NumberWord) → number_word w ≡ Some n → w ≡ number_name n
 number_named w n h =

@@ -35,7 +35,7 @@ use Rattle.session_grammar.specs.declared.reading.Section.{Section}
 use Rattle.session_grammar.specs.declared.reading.Section.TheVariants as sections
 use Rattle.session_grammar.specs.declared.reading.HeaderSoFar.{HeaderSoFar}
 use Rattle.session_grammar.specs.declared.session_script.SessionScript.{SessionScript}
-use Rattle.session_grammar.specs.declared.words.FirstWord.TheVariants as first
+use Rattle.script_grammar.specs.declared.words.FirstWord.TheVariants as first
 use Rattle.session_grammar.specs.declared.words.NumberWord.{NumberWord}
 use Rattle.session_grammar.specs.declared.words.NumberWord.TheVariants as numbers
 use Rattle.session_grammar.specs.declared.words.HeaderWord.{HeaderWord}

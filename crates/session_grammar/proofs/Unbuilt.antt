@@ -25,7 +25,7 @@ use Rattle.event_grammar.specs.SteerLines.{steers_of}
 use Rattle.session_grammar.specs.declared.limits.TheConstants.{MOST_CALLS, MOST_RECOVERS, MOST_THREADS}
 use Rattle.session_grammar.specs.declared.reading.Reading.{Reading}
 use Rattle.session_grammar.specs.declared.reading.HeaderSoFar.{HeaderSoFar}
-use Rattle.session_grammar.specs.declared.words.FirstWord.TheVariants as first
+use Rattle.script_grammar.specs.declared.words.FirstWord.TheVariants as first
 use Rattle.session_grammar.specs.declared.words.NumberWord.{NumberWord}
 use Rattle.session_grammar.specs.declared.words.HeaderWord.{HeaderWord}
 use Rattle.session_grammar.specs.declared.words.HeaderWord.TheVariants as header

@@ -2,23 +2,15 @@
 use Rattle.std.specs.Prelude.{ℕ, Bool, List, codes, Option, Some, None, if◌then◌else◌}
 use Rattle.std.specs.Str.{bytes_eq}
 use Rattle.std.specs.Option.{option_map, option_or}
-use Rattle.session_grammar.specs.declared.words.FirstWord.{FirstWord}
-use Rattle.session_grammar.specs.declared.words.FirstWord.TheVariants as first
 use Rattle.session_grammar.specs.declared.words.NumberWord.{NumberWord}
 use Rattle.session_grammar.specs.declared.words.NumberWord.TheVariants as numbers
 use Rattle.session_grammar.specs.declared.words.HeaderWord.{HeaderWord}
 use Rattle.session_grammar.specs.declared.words.HeaderWord.TheVariants as header
 use Rattle.session_grammar.specs.declared.words.Word.{Word}
 use Rattle.session_grammar.specs.declared.words.Word.TheVariants as word
+use Rattle.script_grammar.specs.Words.{first_word}
 use Rattle.call_grammar.specs.CallLines.{call_word}
 use Rattle.event_grammar.specs.EventLines.{event_word}
-
-abbrev pub first_word : List ℕ → Option FirstWord
-first_word w =
-    if bytes_eq w (codes "device") then Some first.Device
-    else if bytes_eq w (codes "blocks") then Some first.Blocks
-    else if bytes_eq w (codes "volume") then Some first.Volume
-    else None
 
 abbrev pub number_word : List ℕ → Option NumberWord
 number_word w =

@@ -4,11 +4,11 @@ ghost use Rattle.session_grammar.specs.Grammar.{is_built, are_sizes, have_geomet
 
 use crate::limits::{JOURNALS, LEAST_JOURNAL, MOST_JOURNAL, MOST_NUMBERED};
 use crate::reading::{HeaderSoFar, Reading, Section};
-use crate::words::{FirstWord, HeaderWord, Word};
+use crate::words::{HeaderWord, Word};
 use call_grammar::{CallWord, LineList, PairWord, Programs};
 use event_grammar::{Events, SteerList};
 use minix_layout::Geometry;
-use script_grammar::ScriptKind;
+use script_grammar::{FirstWord, ScriptKind};
 use script_words::numeral;
 use std::alloc::Global;
 

@@ -5,7 +5,7 @@
 //! `sessions_tell_first_fault`, `sessions_are_read_back` and `sessions_are_what_is_spelled`, in words of lines and
 //! of a small speller.
 //!
-//! Stands on `script_grammar` for the kinds of faults and the limits that both have, on `call_grammar` and
+//! Stands on `script_grammar` for the first words, the kinds of faults and the limits that both have, on `call_grammar` and
 //! `event_grammar` for the lines of calls, events and recovery, and on `minix_layout` for the sizes of volumes.
 #![tactic(auto)]
 

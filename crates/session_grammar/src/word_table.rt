@@ -1,10 +1,11 @@
 //! The words that begin lines.
 ghost use Rattle.std.specs.Prelude.{◌≡◌};
-ghost use Rattle.session_grammar.specs.Words.{first_word, number_word, other_header, header_word, part_word, call_step, event_step, step_word, word_of};
+ghost use Rattle.session_grammar.specs.Words.{number_word, other_header, header_word, part_word, call_step, event_step, step_word, word_of};
 
-use crate::words::{FirstWord, HeaderWord, NumberWord, Word};
+use crate::words::{HeaderWord, NumberWord, Word};
 use call_grammar::read_call_word;
 use event_grammar::read_event_word;
+use script_grammar::read_first_word;
 
 /// The word that begins a line before `events` or behind it, where it is known.
 pub fn read_word(in_events: bool, w: &[u8]) -> Option<Word>
@@ -20,20 +21,6 @@ pub fn read_word(in_events: bool, w: &[u8]) -> Option<Word>
         return Some(word);
     }
     read_step_word(in_events, w)
-}
-
-fn read_first_word(w: &[u8]) -> Option<FirstWord>
-    ensures { result ≡ first_word w.now }
-{
-    if w == b"device".as_slice() {
-        Some(FirstWord::Device)
-    } else if w == b"blocks".as_slice() {
-        Some(FirstWord::Blocks)
-    } else if w == b"volume".as_slice() {
-        Some(FirstWord::Volume)
-    } else {
-        None
-    }
 }
 
 fn read_number_word(w: &[u8]) -> Option<NumberWord>

@@ -1,14 +1,7 @@
 //! The words that begin lines of volume scripts, in groups by where the lines stand.
 use call_grammar::CallWord;
 use event_grammar::EventFirst;
-
-/// The words that begin a script.
-#[derive(Clone, Copy, PartialEq, Eq, Debug)]
-pub enum FirstWord {
-    Device,
-    Blocks,
-    Volume,
-}
+use script_grammar::FirstWord;
 
 /// The words of header lines with a number behind them.
 #[derive(Clone, Copy, PartialEq, Eq, Debug)]
