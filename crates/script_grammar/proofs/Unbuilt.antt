@@ -95,7 +95,7 @@ IsUnbuiltWord-word_of w h =
 -- ---- one line
 
 -- no other test of a line tells it
-one_of_two : {A : Type 0} (b : Bool) (x : A) (kind : ScriptKind) → (kind ≡ kinds.NotBuilt → ⊥) → (if b then Ok x else Err kind) ≡ Err kinds.NotBuilt → ⊥
+pub one_of_two : {A : Type 0} (b : Bool) (x : A) (kind : ScriptKind) → (kind ≡ kinds.NotBuilt → ⊥) → (if b then Ok x else Err kind) ≡ Err kinds.NotBuilt → ⊥
 one_of_two true x kind other h = cc
 one_of_two false x kind other h = other (cc)
 
@@ -124,11 +124,11 @@ taken-built r None h = cc
 taken-built r (Some l) h = one_of_two (fits r l) (after r l) kinds.Number (λ e. cc) h
 
 -- so the word is not built
-told_of_first : {A : Type 0} (built : Bool) (read : Result A ScriptKind) → (read ≡ Err kinds.NotBuilt → ⊥) → (if not built then Err kinds.NotBuilt else read) ≡ Err kinds.NotBuilt → built ≡ false
+pub told_of_first : {A : Type 0} (built : Bool) (read : Result A ScriptKind) → (read ≡ Err kinds.NotBuilt → ⊥) → (if not built then Err kinds.NotBuilt else read) ≡ Err kinds.NotBuilt → built ≡ false
 told_of_first true read other h = absurd (other h)
 told_of_first false read other h = refl
 
-told_of_later : {A : Type 0} (built stands stood : Bool) (read : Result A ScriptKind) → (read ≡ Err kinds.NotBuilt → ⊥) → (if not built then Err kinds.NotBuilt else if not stands then Err kinds.Order else if stood then Err kinds.Twice else read) ≡ Err kinds.NotBuilt → built ≡ false
+pub told_of_later : {A : Type 0} (built stands stood : Bool) (read : Result A ScriptKind) → (read ≡ Err kinds.NotBuilt → ⊥) → (if not built then Err kinds.NotBuilt else if not stands then Err kinds.Order else if stood then Err kinds.Twice else read) ≡ Err kinds.NotBuilt → built ≡ false
 told_of_later true false stood read other h = cc
 told_of_later true true true read other h = cc
 told_of_later true true false read other h = absurd (other h)

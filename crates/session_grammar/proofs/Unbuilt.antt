@@ -1,10 +1,8 @@
 -- What is not built is told exactly of a line that begins with a word whose form is not built.
-use Rattle.std.proofs.Common.{◌≡◌, ℕ, ◌+◌, ◌-◌, ◌||◌, ◌&&◌, ◌==◌, not, List, [], ◌∷◌, codes, length, take, Bool, true, false, Option, Some, None, Result, Ok, Err, refl, ap, ◌∙◌, arith, nat_le, nat_lt, slice_get, if◌then◌else◌, inl, inr}
+use Rattle.std.proofs.Common.{◌≡◌, ℕ, ◌+◌, ◌-◌, ◌&&◌, ◌==◌, not, List, [], ◌∷◌, codes, length, Bool, true, false, Option, Some, None, Result, Ok, Err, refl, ap, ◌∙◌, nat_le, nat_lt, if◌then◌else◌, inl, inr}
 use Rattle.std.specs.Str.{bytes_eq}
-use Rattle.std.specs.List.{onto_first}
-use Rattle.std.proofs.lemmas.Bool.{or_cases, eqb-true}
+use Rattle.std.proofs.lemmas.Bool.{or_cases}
 use Rattle.std.proofs.lemmas.Slice.Eq.{bytes_eq-Decides}
-use Rattle.std.proofs.lemmas.Option.{slice_get_within}
 use Rattle.tree_model.specs.declared.call.Call.{Call}
 use Rattle.script_words.specs.declared.line_error.LineFault.{LineFault}
 use Rattle.script_words.specs.declared.line_error.LineFault.TheVariants as faults
@@ -13,6 +11,7 @@ use Rattle.script_words.specs.laws.FirstFault.{first_of}
 use Rattle.script_words.proofs.FirstUnbuilt.{unbuilt_first, unbuilt_fault}
 use Rattle.script_grammar.specs.declared.kinds.ScriptKind.{ScriptKind}
 use Rattle.script_grammar.specs.declared.kinds.ScriptKind.TheVariants as kinds
+use Rattle.script_grammar.proofs.Unbuilt.{one_of_two, told_of_first, told_of_later}
 use Rattle.call_grammar.specs.declared.words.CallWord.TheVariants as calls
 use Rattle.call_grammar.specs.declared.words.PairWord.TheVariants as pairs
 use Rattle.call_grammar.specs.CallLines.{call_of}
@@ -78,11 +77,6 @@ IsUnbuiltWord-word_of in_events w h =
     ]
 
 -- ---- one line
-
--- no other test of a line tells it
-one_of_two : {A : Type 0} (b : Bool) (x : A) (kind : ScriptKind) → (kind ≡ kinds.NotBuilt → ⊥) → (if b then Ok x else Err kind) ≡ Err kinds.NotBuilt → ⊥
-one_of_two true x kind other h = cc
-one_of_two false x kind other h = other (cc)
 
 read_or_word : {A : Type 0} (b : Bool) (read : Result A ScriptKind) → (read ≡ Err kinds.NotBuilt → ⊥) → (if b then read else Err kinds.Word) ≡ Err kinds.NotBuilt → ⊥
 read_or_word true read other h = other h
@@ -183,16 +177,6 @@ line_taken-built r line (word.Event w) ws h = event_taken-built r (event_of w ws
 line_taken-built r line word.Recover ws h = recover_taken-built r (steers_of ws) h
 
 -- so the word is not built
-told_of_first : {A : Type 0} (built : Bool) (read : Result A ScriptKind) → (read ≡ Err kinds.NotBuilt → ⊥) → (if not built then Err kinds.NotBuilt else read) ≡ Err kinds.NotBuilt → built ≡ false
-told_of_first true read other h = absurd (other h)
-told_of_first false read other h = refl
-
-told_of_later : {A : Type 0} (built stands stood : Bool) (read : Result A ScriptKind) → (read ≡ Err kinds.NotBuilt → ⊥) → (if not built then Err kinds.NotBuilt else if not stands then Err kinds.Order else if stood then Err kinds.Twice else read) ≡ Err kinds.NotBuilt → built ≡ false
-told_of_later true false stood read other h = cc
-told_of_later true true true read other h = cc
-told_of_later true true false read other h = absurd (other h)
-told_of_later false stands stood read other h = refl
-
 is_unbuilt-first_line : (o : Option Word) (w : List ℕ) (ws : List (List ℕ)) → word_of false w ≡ o → first_line o ws ≡ Err kinds.NotBuilt → is_unbuilt w ≡ true
 is_unbuilt-first_line None w ws e h = cc
 is_unbuilt-first_line (Some v) w ws e h = unbuilt_named w v (named false w v e) (told_of_first (is_built v) (built_first v ws) (built_first-built v ws) h)
