@@ -1,4 +1,3 @@
-pub mod Asked
 pub mod Moves
 pub mod Newest
 pub mod Searches

@@ -2,4 +2,3 @@ pub mod Cache
 pub mod Device
 pub mod code
 pub mod laws
-pub mod tests

@@ -8,8 +8,6 @@
 mod cache;
 mod completing;
 mod device;
-#[cfg(test)]
-mod tests;
 
 pub use cache::Entry;
 pub use device::{DeviceSetup, EpochDevice};

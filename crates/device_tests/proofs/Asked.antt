@@ -7,7 +7,7 @@ use Rattle.order_model.specs.declared.command.Command.{Command}
 use Rattle.order_model.specs.Received.{ids_of, all_ids}
 use Rattle.order_model.proofs.Received.{all_ids-push}
 use Rattle.device_epochs.specs.Device.{DeviceState, received}
-use Rattle.device_epochs.specs.tests.Asked.{HasTaken, IsNext}
+use Rattle.device_tests.specs.Asked.{HasTaken, IsNext}
 
 pub taken_next : (s next : DeviceState) (n m : ℕ) (c : Command) → HasTaken s n → IsNext n m c → next ≡ received s c → HasTaken next m
 taken_next s next n m c h i e = subst (λ (t : DeviceState). HasTaken t m) (sym e) (record { ids = ids; count = count; blocks = h.blocks; limit = h.limit })

@@ -1,9 +1,9 @@
 //! Tests of the device: worked rows, power cuts, and transfers and reads that fail.
 ghost use Rattle.std.specs.Prelude.{◌≡◌, ℕ, ◌+◌, ◌<◌, ◌≤◌, IfOk, length};
-ghost use Rattle.device_epochs.specs.tests.Asked.{HasTaken, IsNext};
+ghost use Rattle.device_tests.specs.Asked.{HasTaken, IsNext};
 
-use super::*;
 use blk_base::{Block, Image, NoMemory};
+use device_epochs::{DeviceSetup, EpochDevice};
 use order_model::{
     Command, Completion, DeviceRecord, OrderedDev, Part, Parts, Priority, ReadFault,
 };

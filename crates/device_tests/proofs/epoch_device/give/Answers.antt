@@ -1,8 +1,8 @@
 use Rattle.std.proofs.Common.{◌≡◌, rules, IsOk}
 use Rattle.device_epochs.specs.Device.{received}
 use Rattle.device_epochs.proofs.Moves.{on_ok}
-use Rattle.device_epochs.proofs.Asked.{taken_next}
-use Rattle.device_epochs.proofs.tests.give.Goals as goal
+use Rattle.device_tests.proofs.Asked.{taken_next}
+use Rattle.device_tests.proofs.epoch_device.give.Goals as goal
 
 pub returns : goal.returns
 returns g c =

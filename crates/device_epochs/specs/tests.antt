@@ -1,2 +1,0 @@
--- Words of tests.
-pub mod Asked

@@ -1,0 +1,7 @@
+//! Tests of the model device: epochs, power cuts, and transfers and reads that fail.
+//!
+//! Stands on `device_epochs`.
+#![tactic(auto)]
+
+#[cfg(test)]
+mod epoch_device;
