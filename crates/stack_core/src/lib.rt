@@ -12,8 +12,6 @@ mod report;
 mod request_path;
 mod running;
 mod scheduler_queues;
-#[cfg(test)]
-mod tests;
 
 pub use dispatch_queue::DispatchQueue;
 pub use report::Report;

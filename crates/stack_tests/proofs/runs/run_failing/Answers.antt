@@ -2,7 +2,7 @@
 use Rattle.std.proofs.Common.{◌≤◌, length, sym, ap, subst, ◌∙◌, arith}
 use Rattle.blk_base.specs.Image.{zeros}
 use Rattle.device_epochs.specs.Device.{DeviceState}
-use Rattle.stack_core.proofs.tests.run_failing.Goals as goal
+use Rattle.stack_tests.proofs.runs.run_failing.Goals as goal
 
 pub run_on-requires-clause-image : goal.run_on-requires-clause-image
 run_on-requires-clause-image c = ap (λ (d : DeviceState). d.base) c.in_ok-dev.ensures ∙ (c.in_ok-image.ensures ∙ ap zeros c.blocks-2.ensures)

@@ -2,10 +2,10 @@
 ghost use Rattle.std.specs.Prelude.{◌≤◌, length};
 ghost use Rattle.script_grammar.specs.Grammar.{IsRunnable};
 
-use super::*;
 use blk_base::{Image, NoMemory};
 use device_epochs::{DeviceSetup, EpochDevice};
 use script_grammar::{Script, read_script};
+use stack_core::{Report, core_run, run_on};
 use std::alloc::Global;
 use std::test::Fail;
 
