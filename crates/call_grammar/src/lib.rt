@@ -11,8 +11,6 @@ mod laws;
 mod limits;
 mod programs;
 mod read;
-#[cfg(test)]
-mod tests;
 mod word_table;
 mod words;
 

@@ -14,8 +14,6 @@ mod laws;
 mod limits;
 mod steer;
 mod steer_reader;
-#[cfg(test)]
-mod tests;
 mod words;
 
 pub use event::{CoreEvent, EventLine, EventWord, Events};

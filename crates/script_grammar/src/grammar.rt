@@ -436,6 +436,3 @@ fn read_lines(alloc: Global, lines: &[&[u8]]) -> Result<Script, ScriptError>
     }
     ended(number, reading)
 }
-
-#[cfg(test)]
-mod tests;

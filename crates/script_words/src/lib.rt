@@ -8,8 +8,6 @@
 mod laws;
 mod line_error;
 mod spelling;
-#[cfg(test)]
-mod tests;
 
 pub use laws::{numbers_are_spelled, texts_are_cut};
 pub use line_error::{LineFault, WordsError};

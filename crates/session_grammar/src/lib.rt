@@ -17,8 +17,6 @@ mod law;
 mod limits;
 mod reading;
 mod session_script;
-#[cfg(test)]
-mod tests;
 mod word_table;
 mod words;
 

@@ -8,8 +8,6 @@
 
 mod lines;
 mod reply;
-#[cfg(test)]
-mod tests;
 
 pub use lines::{put_answer, put_count, put_thread};
 pub use reply::put_reply;

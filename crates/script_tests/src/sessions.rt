@@ -1,8 +1,11 @@
 //! Volume scripts that were read by hand, and the faults of texts that are none.
-use super::*;
 use event_grammar::{CoreEvent, EventLine, EventWord, Steer};
 use script_grammar::ScriptKind::{Geometry, NotBuilt, Number, Order, Twice, Word};
 use script_grammar::{MOST_SCRIPT_BYTES, ScriptError, ScriptKind};
+use session_grammar::{
+    SessionHeader, SessionScript, read_session, sessions_are_read_back,
+    sessions_are_what_is_spelled, sessions_tell_first_fault,
+};
 use std::alloc::{AllocError, Global};
 use std::process::Abort;
 use std::test::Fail;

@@ -1,6 +1,6 @@
 //! The printed replies.
-use super::*;
 use host_answers::{Stand, Standing};
+use session_text::{put_answer, put_count, put_reply, put_thread};
 use std::alloc::{AllocError, Global};
 use std::test::Fail;
 use tree_model::{ByteList, NameList, Reply};

@@ -1,5 +1,8 @@
 //! Event lines that were read by hand.
-use super::*;
+use event_grammar::{
+    CoreEvent, EventLine, EventWord, Steer, events_are_spelled, read_event, read_event_word,
+    read_steers, steers_are_spelled,
+};
 use script_words::{LineFault, WordsError};
 use std::process::Abort;
 use std::test::Fail;

@@ -1,5 +1,7 @@
 //! Words and numbers that were read by hand.
-use super::*;
+use script_words::{
+    hex_byte, is_skipped, lines, numbers_are_spelled, numeral, texts_are_cut, words,
+};
 use std::test::Fail;
 
 #[test]

@@ -1,10 +1,13 @@
 //! Scripts that are read, and the faults of texts that are none.
-use super::*;
-use crate::kinds::ScriptKind::{NotBuilt, Number, Order, Twice, Word};
-use crate::law::{accepts_what_is_spelled, reads_what_is_spelled, tells_first_fault};
-use crate::script_error::ScriptError::Fault;
 use blk_base::Block;
 use order_model::{Kind, Request};
+use script_grammar::ScriptError::Fault;
+use script_grammar::ScriptKind::{NotBuilt, Number, Order, Twice, Word};
+use script_grammar::{
+    CoreEvent, EventLine, EventWord, Form, Header, MOST_SCRIPT_BYTES, RequestList, ScriptKind,
+    accepts_what_is_spelled, read_script, reads_what_is_spelled, tells_first_fault,
+};
+use std::alloc::Global;
 use std::process::Abort;
 use std::test::Fail;
 

@@ -1,0 +1,16 @@
+//! Tests of scripts: words and numbers, the lines of calls and events, and the two grammars with the first fault of texts
+//! that are no scripts.
+//!
+//! Stands on `script_words`, `call_grammar`, `event_grammar`, `script_grammar` and `session_grammar`.
+#![tactic(auto)]
+
+#[cfg(test)]
+mod calls;
+#[cfg(test)]
+mod events;
+#[cfg(test)]
+mod scripts;
+#[cfg(test)]
+mod sessions;
+#[cfg(test)]
+mod words;
