@@ -4,7 +4,6 @@ use Rattle.std.specs.Map.{keys_of}
 use Rattle.std.specs.Ordering.{nat_cmp, is_lt}
 use Rattle.std.proofs.Common.{◌≡◌, ℕ, ◌+◌, ◌*◌, ◌/◌, ◌%◌, ◌<◌, ◌≤◌, ◌==◌, nat_le, nat_lt, cond, Less, Equal, Greater, Bool, true, false, not, ◌&&◌, ◌||◌, if◌then◌else◌, List, [], ◌∷◌, map, is_some, Some, Result, Ok, Err, refl, sym, ap, ◌∙◌, inl, inr, arith, eq-eqb, ne_eqb}
 use Rattle.std.proofs.lemmas.Bool.{ltb-false, ltb-true, lt-ltb, true≢false}
-use Rattle.std.proofs.lemmas.Option.{none-some}
 use Rattle.blk_base.specs.Members.{In}
 use Rattle.tree_model.specs.declared.node.File.{File}
 use Rattle.tree_model.specs.declared.node.Node.{Node}
@@ -12,7 +11,6 @@ use Rattle.tree_model.specs.declared.node.Node.TheVariants as nodes
 use Rattle.tree_model.specs.declared.call.Reply.{Reply}
 use Rattle.tree_model.specs.Calls.{Tree, Found, max, walk_path}
 use Rattle.tree_model.specs.Maps.{at_number}
-use Rattle.tree_model.specs.Plain.{AreBornBefore}
 use Rattle.tree_model.specs.laws.MapsLaws.{number_here, number_same}
 use Rattle.std.specs.BTreeMap.{is_at}
 use Rattle.volume_ops.specs.Volume.{bodies_of, disk_of}
@@ -20,7 +18,7 @@ use Rattle.volume_ops.specs.declared.found.Mapped.{Mapped}
 use Rattle.volume_model.specs.declared.placed.Placed.{Placed}
 use Rattle.volume_model.specs.Trees.{tree_now, node_now}
 use Rattle.volume_steps.specs.Cuts.{keeps_file, keeps_size, cuts_nothing}
-use Rattle.volume_steps.specs.Numbers.{next_birth, number_in}
+use Rattle.volume_steps.specs.Numbers.{next_birth}
 use Rattle.volume_calls.specs.code.Kept.{keeps_mapped}
 
 -- ---- the number above all births
@@ -44,20 +42,6 @@ unfolding next_birth
 next_above [] e i = absurd i
 next_above (x ∷ xs) e (inl same) = let both = max_above (x.0 + 1) (next_birth xs) in let key = ap (λ (y : ℕ × Node). y.0) same in let first = both.0 in omega (arith, first, key)
 next_above (x ∷ xs) e (inr i) = let both = max_above (x.0 + 1) (next_birth xs) in let rest = next_above xs e i in let second = both.1 in omega (arith, second, rest)
-
-born_below : (es : List (ℕ × Node)) (birth : ℕ) (node : Node) → at_number es birth ≡ Some node → birth + 1 ≤ next_birth es
-unfolding next_birth
-born_below [] birth node e = absurd (none-some node e)
-born_below (x ∷ xs) birth node e = by (is_at (nat_cmp birth) x.0) refl e (born_below xs birth node)
-  where
-    by : (t : Bool) → is_at (nat_cmp birth) x.0 ≡ t → (if t then Some x.1 else at_number xs birth) ≡ Some node → (at_number xs birth ≡ Some node → birth + 1 ≤ next_birth xs)
-        → birth + 1 ≤ max (x.0 + 1) (next_birth xs)
-    by true t at rest = let same = number_same birth x.0 t in let first = (max_above (x.0 + 1) (next_birth xs)).0 in omega (arith, same, first)
-    by false t at rest = let below = rest at in let second = (max_above (x.0 + 1) (next_birth xs)).1 in omega (arith, below, second)
-
--- each node was born before the number that a call has
-pub born_before : (tree : Tree) (n : ℕ) → AreBornBefore (number_in tree n) tree
-born_before tree n birth node at = let low = born_below tree birth node at in let both = max_above n (next_birth tree) in let second = both.1 in omega (arith, low, second)
 
 next_within : (es : List (ℕ × Node)) (n : ℕ) → ((e : ℕ × Node) → In e es → e.0 + 1 ≤ n) → next_birth es ≤ n
 unfolding next_birth

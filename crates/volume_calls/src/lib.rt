@@ -19,8 +19,6 @@ mod looks;
 mod plain;
 mod rows;
 mod takes;
-#[cfg(test)]
-mod tests;
 mod walk;
 
 pub use answer::Answer;

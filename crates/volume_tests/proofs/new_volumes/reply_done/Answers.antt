@@ -4,8 +4,8 @@ use Rattle.tree_model.specs.Plain.{AreBornBefore}
 use Rattle.zone_maps.specs.Zones.{is_free}
 use Rattle.volume_steps.specs.Now.{tree_of_now}
 use Rattle.volume_steps.specs.Numbers.{number_in}
-use Rattle.volume_calls.proofs.LastBirths.{born_before}
-use Rattle.volume_calls.proofs.tests.reply_done.Goals as goal
+use Rattle.volume_tests.proofs.Births.{born_before}
+use Rattle.volume_tests.proofs.new_volumes.reply_done.Goals as goal
 
 pub apply-requires : goal.apply-requires
 apply-requires c =
