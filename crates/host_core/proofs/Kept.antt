@@ -15,7 +15,8 @@ use Rattle.flush_actor.specs.declared.wait.Wait.{Wait}
 use Rattle.host_machine.specs.State.{Begun}
 use Rattle.begun_calls.specs.Steps.{Gone, goes_on, keeps_all}
 use Rattle.plain_calls.specs.Steps.{with_part, Progress, Went, steps_plainly}
-use Rattle.host_core.specs.code.Fields.{IsHost, IsWithin}
+use Rattle.host_answers.specs.declared.entry.Entry.{Entry}
+use Rattle.host_core.specs.code.Fields.{IsHost, IsWithin, AreNoted}
 use Rattle.host_core.specs.code.Progress.{KeepsHost, parts_now}
 use Rattle.host_core.specs.code.Steps.{released}
 use Rattle.host_core.specs.declared.parts.Parts.{Parts}
@@ -23,28 +24,32 @@ use Rattle.host_core.specs.declared.thread.Thread.{Thread}
 use Rattle.host_core.proofs.Plainly.{plainly_silent}
 use Rattle.host_core.proofs.WaitsKept.{going_keeps}
 
-pub kept : (j k : CommitActor) (v w : VolumeNow) (ts : List Thread) → IsHost j v ts → k.blocks ≡ j.blocks → w.geometry ≡ v.geometry → length k.part.flush.waits ≡ length j.part.flush.waits → IsHost k w ts
-kept j k v w ts h blocks geometry waits = record {
+pub kept : (j k : CommitActor) (v w : VolumeNow) (ts : List Thread) (entries : List Entry) → IsHost j v ts entries → k.blocks ≡ j.blocks → w.geometry ≡ v.geometry → length k.part.flush.waits ≡ length j.part.flush.waits
+    → IsHost k w ts entries
+kept j k v w ts entries h blocks geometry waits = record {
   blocks = blocks ∙ h.blocks ∙ ap (λ (g : Geometry). g.zones) (sym geometry);
   waits = waits ∙ h.waits;
   few = h.few;
   within = h.within;
+  noted = h.noted;
 }
 
 -- one thread changes
-pub kept_with : (j : CommitActor) (v : VolumeNow) (ts : List Thread) (at : ℕ) (new : Thread) → IsHost j v ts → IsWithin new → IsHost j v (set ts at new)
-kept_with j v ts at new h own = record {
+pub kept_with : (j : CommitActor) (v : VolumeNow) (ts : List Thread) (entries more : List Entry) (at : ℕ) (new : Thread) → IsHost j v ts entries → IsWithin new → AreNoted (set ts at new) more → IsHost j v (set ts at new) more
+kept_with j v ts entries more at new h own noted = record {
   blocks = h.blocks;
   waits = h.waits ∙ sym (length-set ts at new);
   few = let same = length-set ts at new in let few = h.few in omega arith;
   within = each_set IsWithin ts at new h.within own;
+  noted = noted;
 }
 
 -- a caller's step, with what it found and what was noted
-pub kept_noted : (old mid : Parts) (l : CommitActor) (f : FlushPart) (ts : List Thread) (at : ℕ) (new : Thread) → IsHost old.journal old.volume ts → KeepsHost old mid
-    → l ≡ with_flush mid.journal f → length l.part.flush.waits ≡ length mid.journal.part.flush.waits → IsWithin new → IsHost l mid.volume (set ts at new)
-kept_noted old mid l f ts at new h k noted waits own =
-    kept_with l mid.volume ts at new (kept old.journal l old.volume mid.volume ts h (ap (λ (a : CommitActor). a.blocks) noted ∙ k.blocks) k.geometry (waits ∙ k.waits)) own
+pub kept_noted : (old mid : Parts) (l : CommitActor) (f : FlushPart) (ts : List Thread) (entries more : List Entry) (at : ℕ) (new : Thread) → IsHost old.journal old.volume ts entries → KeepsHost old mid
+    → l ≡ with_flush mid.journal f → length l.part.flush.waits ≡ length mid.journal.part.flush.waits → IsWithin new → AreNoted (set ts at new) more → IsHost l mid.volume (set ts at new) more
+kept_noted old mid l f ts entries more at new h k journal waits own noted =
+    let stays = kept old.journal l old.volume mid.volume ts entries h (ap (λ (a : CommitActor). a.blocks) journal ∙ k.blocks) k.geometry (waits ∙ k.waits) in
+    kept_with l mid.volume ts entries more at new stays own noted
 
 pub released_same : (before after : Option ℕ) (v : VolumeNow) → (released after_release before after v).geometry ≡ v.geometry
 released_same None after v = refl

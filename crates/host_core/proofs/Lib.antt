@@ -5,6 +5,7 @@ mod ListReplies
 mod WaitsKept
 mod Endings
 mod Noted
+mod Placed
 mod Plainly
 mod Steps
 mod Kept

@@ -43,11 +43,14 @@ rest_of n xs x rest e = let more : n + 1 ≡ suc n = omega arith in ap (λ k. dr
 
 -- ---- a thread that changes, and an entry of its next call
 
+pub same_programs : (ts : List Thread) (at : ℕ) (th new : Thread) → slice_get ts at ≡ Some th → new.program.items ≡ th.program.items → map program_of (set ts at new) ≡ map program_of ts
+same_programs ts at th new there program =
+    map-set program_of ts at new ∙ ap (λ p. set (map program_of ts) at p) program
+    ∙ set-slice_get (map program_of ts) at (program_of th) (slice_get-map_some program_of ts at th there)
+
 module _ (ts : List Thread) (at : ℕ) (th new : Thread) (c : Call) (rest : List Call) (next : IsNext ts at th c rest) (program : new.program.items ≡ th.program.items) where
   pub programs_same : map program_of (set ts at new) ≡ map program_of ts
-  programs_same =
-      map-set program_of ts at new ∙ ap (λ p. set (map program_of ts) at p) program
-      ∙ set-slice_get (map program_of ts) at (program_of th) (slice_get-map_some program_of ts at th next.there)
+  programs_same = same_programs ts at th new next.there program
 
   pub threads_set : map thread_of (set ts at new) ≡ set (map thread_of ts) at (thread_of new)
   threads_set = map-set thread_of ts at new

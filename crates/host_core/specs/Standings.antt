@@ -1,5 +1,5 @@
 -- How a caller stands.
-use Rattle.std.specs.Prelude.{ℕ, ◌-◌, ◌==◌, List, length, Option, Some, None, slice_get, slice_index_or, if◌then◌else◌}
+use Rattle.std.specs.Prelude.{◌≡◌, ◌≤◌, ◌^◌, ℕ, ◌-◌, ◌==◌, List, length, Option, Some, None, slice_get, slice_index_or, if◌then◌else◌}
 use Rattle.tree_model.specs.declared.call.Call.{Call}
 use Rattle.conflict_pages.specs.Conflicts.{least, holder}
 use Rattle.flush_actor.specs.Waits.{no_wait}
@@ -42,3 +42,9 @@ standing_of h t =
       | None ↦ None
       | Some program ↦ elim (slice_get h.host.threads (t - 1)) as (λ _. Option Standing) [ None ↦ None | Some th ↦ Some (standing_in h t program th) ]
     ]
+
+-- it is of a call that waits for a transaction whose number has more than 32 bits
+pub record IsTooGreat (w : Wait) : Type 0 where
+  pub tx : ℕ
+  pub target : w.target ≡ Some tx
+  pub great : 2 ^ 32 ≤ tx

@@ -7,7 +7,7 @@ ghost use Rattle.host_machine.specs.Host as machine;
 ghost use Rattle.volume_steps.specs.Calls.{after_release};
 ghost use Rattle.host_core.specs.code.Steps.{cuts_after, released};
 ghost use Rattle.flush_actor.specs.Part.{has_stopped};
-ghost use Rattle.host_core.specs.Entries.{entry_in};
+ghost use Rattle.host_core.specs.Entries.{entry_in, ArePlaced};
 ghost use Rattle.journal_blocks.specs.Super.{IsSound};
 ghost use Rattle.journal_ring.specs.Journal as new_ring;
 ghost use Rattle.host_core.specs.Now.{host_made, model_now, setup_now, with_host};
@@ -42,7 +42,7 @@ impl Model for Host {
 
     ghost view = { λ h. host_of h.parts.journal h.parts.volume h.parts.pages h.parts.owners.items h.history.items h.cuts.items h.threads.items };
 
-    ghost invariant = { λ h. IsHost h.parts.journal h.parts.volume h.threads.items };
+    ghost invariant = { λ h. IsHost h.parts.journal h.parts.volume h.threads.items h.history.items };
 }
 
 impl Host {
@@ -87,7 +87,8 @@ impl Host {
 
     /// What was noted of calls.
     pub fn history(&self) -> &[Entry]
-        ensures { self.now.host.history ≡ map (entry_in self.now.programs) result.now }
+        ensures noted { self.now.host.history ≡ map (entry_in self.now.programs) result.now }
+        ensures placed { ArePlaced self.now.programs result.now }
     {
         &self.history
     }

@@ -8,7 +8,7 @@ ghost use Rattle.page_cache.specs.Pages.{Cache};
 ghost use Rattle.tree_model.specs.declared.call.Call.{Call};
 ghost use Rattle.volume_steps.specs.Now.{VolumeNow};
 ghost use Rattle.host_core.specs.Answers.{IfStepped, found_queue_full};
-ghost use Rattle.host_core.specs.code.Fields.{IsNext, IsWithin, host_of};
+ghost use Rattle.host_core.specs.code.Fields.{IsNext, IsWithin, KeepsNotes, host_of};
 ghost use Rattle.host_core.specs.code.Progress.{is_queue_full, list_of, passed_on, progress_is, settled};
 ghost use Rattle.host_answers.specs.declared.entry.EntryKind.TheVariants as kinds;
 ghost use Rattle.host_core.specs.declared.thread.Thread.{Thread};
@@ -20,6 +20,18 @@ use commit_actor::JournalPart;
 use flush_actor::Wait;
 use host_answers::{Entry, EntryKind, Step};
 use tree_model::Reply;
+
+// The thread's next call begins or ends.
+fn push_entry(history: &mut Vec<Entry>, caller: &Thread, thread: u32, what: EntryKind)
+    requires { length history.old.items < vec_capacity history.old }
+    ensures { history.new.items ≡ history.old.items ++ record { thread = thread; call = caller.now.ended; what = what } ∷ [] }
+{
+    history.push_reserved(Entry {
+        thread,
+        call: caller.ended,
+        what,
+    });
+}
 
 // The thread's call ends with this reply.
 fn end_call(
@@ -39,12 +51,9 @@ fn end_call(
     ensures program { caller.new.program ≡ caller.old.program }
     ensures ended { caller.new.ended ≡ caller.old.ended + 1 }
     ensures begun { caller.new.begun ≡ None }
+    ensures notes { KeepsNotes thread caller.old caller.new history.old.items history.new.items }
 {
-    history.push_reserved(Entry {
-        thread,
-        call: caller.ended,
-        what: EntryKind::End(reply),
-    });
+    push_entry(history, caller, thread, EntryKind::End(reply));
     caller.ended += 1;
     caller.begun = None;
     journal.set_wait(thread - 1, Wait::none());
@@ -61,6 +70,7 @@ fn begin_call(
     requires thread { 1 ≤ thread }
     requires wait { thread - 1 < length journal.old.part.flush.waits }
     requires room { length history.old.items < vec_capacity history.old }
+    requires left { caller.old.ended < length caller.old.program.items }
     ensures wait { journal.new ≡ with_flush journal.old (record journal.old.part.flush {
       waits = set journal.old.part.flush.waits (thread - 1) (record { kind = begun.kind; target = None; need = None });
     }) }
@@ -68,12 +78,9 @@ fn begin_call(
     ensures program { caller.new.program ≡ caller.old.program }
     ensures ended { caller.new.ended ≡ caller.old.ended }
     ensures begun { caller.new.begun ≡ Some begun }
+    ensures notes { KeepsNotes thread caller.old caller.new history.old.items history.new.items }
 {
-    history.push_reserved(Entry {
-        thread,
-        call: caller.ended,
-        what: EntryKind::Begin,
-    });
+    push_entry(history, caller, thread, EntryKind::Begin);
     let wait = Wait {
         kind: begun.kind,
         ..Wait::none()
@@ -122,6 +129,7 @@ pub fn settle(
     ensures waits { length journal.new.part.flush.waits ≡ length journal.old.part.flush.waits }
     ensures program { caller.new.program ≡ caller.old.program }
     ensures kept { IsWithin caller.new }
+    ensures notes { KeepsNotes thread caller.old caller.new history.old.items history.new.items }
 {
     match found {
         Found::Answered(answer) => {

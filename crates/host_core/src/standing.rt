@@ -1,7 +1,8 @@
 //! How callers stand.
-ghost use Rattle.std.specs.Prelude.{◌≡◌, ◌≤◌, IfOk};
+ghost use Rattle.std.specs.Prelude.{◌≡◌, ◌≤◌, ◌^◌, ◌-◌, IfOk, OnErr, slice_index_or};
+ghost use Rattle.flush_actor.specs.Waits.{no_wait};
 ghost use Rattle.host_core.specs.Standings as standings;
-ghost use Rattle.host_core.specs.Standings.{standing_of};
+ghost use Rattle.host_core.specs.Standings.{standing_of, IsTooGreat};
 
 use crate::Host;
 use begun_calls::Begun;
@@ -15,7 +16,8 @@ impl Host {
     /// transaction whose number has more than 32 bits.
     pub fn standing(&self, thread: u32) -> Result<Option<Standing>, NoMemory>
         requires { 1 ≤ thread }
-        ensures { IfOk result (λ s. s ≡ standing_of self.now thread) }
+        ensures ok { IfOk result (λ s. s ≡ standing_of self.now thread) }
+        ensures err { OnErr result (IsTooGreat (slice_index_or self.now.host.journal.flush.waits (thread - 1) no_wait)) }
     {
         let at = (thread - 1) as usize;
         let Some(caller) = self.threads.get(at) else {
@@ -34,7 +36,8 @@ impl Host {
 
 // How a call stands that waits for this, where it has begun.
 fn stand_of(journal: &JournalPart, wait: Wait, begun: &Option<Begun>) -> Result<Stand, NoMemory>
-    ensures { IfOk result (λ s. s ≡ standings.stand_of journal.now.part wait begun.now) }
+    ensures ok { IfOk result (λ s. s ≡ standings.stand_of journal.now.part wait begun.now) }
+    ensures err { OnErr result (IsTooGreat wait) }
 {
     match begun {
         None => Ok(Stand::Fresh),
@@ -44,7 +47,8 @@ fn stand_of(journal: &JournalPart, wait: Wait, begun: &Option<Begun>) -> Result<
 
 // How a call stands that has begun and waits for this.
 fn begun_stand(journal: &JournalPart, wait: Wait) -> Result<Stand, NoMemory>
-    ensures { IfOk result (λ s. s ≡ standings.begun_stand journal.now.part wait) }
+    ensures ok { IfOk result (λ s. s ≡ standings.begun_stand journal.now.part wait) }
+    ensures err { OnErr result (IsTooGreat wait) }
 {
     if let Some(id) = wait.need {
         return Ok(Stand::Durable(id));
@@ -57,7 +61,8 @@ fn begun_stand(journal: &JournalPart, wait: Wait) -> Result<Stand, NoMemory>
 
 // How a call stands that waits for transaction `k`.
 fn for_commit(journal: &JournalPart, k: u64) -> Result<Stand, NoMemory>
-    ensures { IfOk result (λ s. s ≡ standings.for_commit journal.now.part k) }
+    ensures ok { IfOk result (λ s. s ≡ standings.for_commit journal.now.part k) }
+    ensures err { OnErr result (2 ^ 32 ≤ k) }
 {
     if k == journal.running().number()
         && let Some((block, holder)) = journal.flush().least_conflict()

@@ -1,5 +1,5 @@
 -- How the fields of a host make up the machine's.
-use Rattle.std.specs.Prelude.{◌≡◌, ◌<◌, ◌≤◌, ◌^◌, ℕ, List, ◌∷◌, Some, None, drop, length, map, slice_get}
+use Rattle.std.specs.Prelude.{◌≡◌, ◌<◌, ◌≤◌, ◌^◌, ◌+◌, ◌-◌, ℕ, List, ◌∷◌, Some, None, drop, length, map, set, slice_get}
 use Rattle.blk_base.specs.Members.{In}
 use Rattle.commit_actor.specs.Actor.{CommitActor}
 use Rattle.page_cache.specs.Pages.{Cache}
@@ -7,7 +7,7 @@ use Rattle.tree_model.specs.declared.call.Call.{Call}
 use Rattle.volume_steps.specs.Now.{VolumeNow}
 use Rattle.host_machine.specs.State as machine
 use Rattle.host_core.specs.Now.{HostNow}
-use Rattle.host_core.specs.Entries.{entry_in}
+use Rattle.host_core.specs.Entries.{entry_in, ended_by, ArePlaced}
 use Rattle.host_answers.specs.declared.entry.Entry.{Entry}
 use Rattle.host_core.specs.declared.thread.Thread.{Thread}
 
@@ -35,12 +35,22 @@ pub record IsWithin (t : Thread) : Type 0 where
 abbrev pub AreWithin : List Thread → Type 0
 AreWithin threads = (t : Thread) → In t threads → IsWithin t
 
--- The journal is over the volume's blocks, and has a wait for each thread.
-pub record IsHost (j : CommitActor) (v : VolumeNow) (threads : List Thread) : Type 0 where
+-- The entries so far are of calls of these threads, and those that they end are the threads' calls that have ended.
+pub record AreNoted (threads : List Thread) (history : List Entry) : Type 0 where
+  pub placed : ArePlaced (map program_of threads) history
+  pub ended : (at : ℕ) (t : Thread) → slice_get threads at ≡ Some t → t.ended ≡ ended_by history (at + 1)
+
+-- That stays so where this thread, counted from 1, and the history become these.
+pub record KeepsNotes (thread : ℕ) (old new : Thread) (history more : List Entry) : Type 0 where
+  pub noted : (threads : List Thread) → slice_get threads (thread - 1) ≡ Some old → AreNoted threads history → AreNoted (set threads (thread - 1) new) more
+
+-- The journal is over the volume's blocks, and has a wait for each thread, and the entries so far are noted.
+pub record IsHost (j : CommitActor) (v : VolumeNow) (threads : List Thread) (history : List Entry) : Type 0 where
   pub blocks : j.blocks ≡ v.geometry.zones
   pub waits : length j.part.flush.waits ≡ length threads
   pub few : length threads < 2 ^ 32
   pub within : AreWithin threads
+  pub noted : AreNoted threads history
 
 -- this is the thread at a place, and its next call, with the rest behind it
 pub record IsNext (threads : List Thread) (at : ℕ) (t : Thread) (c : Call) (rest : List Call) : Type 0 where

@@ -18,6 +18,7 @@ use Rattle.host_answers.specs.declared.entry.EntryKind.TheVariants as kinds
 use Rattle.host_core.specs.declared.thread.Thread.{Thread}
 use Rattle.host_core.proofs.Endings.{tree_ending}
 use Rattle.host_core.proofs.Noted.{noted_is, ended_is, passed_is, left_all}
+use Rattle.host_core.proofs.Placed.{noted_same}
 use Rattle.host_core.proofs.settling.settle.Goals as goal
 
 abbrev stepped : outcomes.Step Reply → Host VolumeNow Call Reply → Stepped VolumeNow Call Reply
@@ -88,3 +89,11 @@ returns-in-Waiting-clause-step c v ps owners cuts ts call rest next =
     ap (λ (xs : List Thread). stepped (outcomes.Waiting (cause_is c.in-Waiting.cause)) (host_of c.args.journal.now v ps owners c.args.history.now.items cuts xs).host)
     (set-slice_get ts (c.args.thread - 1) c.args.caller.now next.there)
     ∙ ap (settled_by (host_of c.args.journal.now v ps owners c.args.history.now.items cuts ts).host (c.args.thread - 1) call rest c.args.caller.now.begun) (sym c.in-Waiting.is)
+
+pub returns-in-Sent-clause-notes : goal.returns-in-Sent-clause-notes
+returns-in-Sent-clause-notes c =
+    let e = c.pass_pages in
+    noted_same c.args.thread c.args.caller.now e.new.caller c.args.history.now.items (ap (λ p. p.items) e.ensures.program) e.ensures.ended
+
+pub returns-in-Waiting-clause-notes : goal.returns-in-Waiting-clause-notes
+returns-in-Waiting-clause-notes c = noted_same c.args.thread c.args.caller.now c.args.caller.now c.args.history.now.items refl refl

@@ -1,4 +1,4 @@
-use Rattle.std.proofs.Common.{◌≡◌, ◌<◌, ◌+◌, ◌-◌, false, length, Some, slice_get, sym, ap, subst, arith, ◌∙◌, set}
+use Rattle.std.proofs.Common.{◌≡◌, ◌<◌, ◌+◌, ◌-◌, false, List, length, Some, slice_get, sym, ap, subst, arith, ◌∙◌, set}
 use Rattle.commit_actor.specs.Actor.{CommitActor}
 use Rattle.tree_model.specs.declared.call.Reply.{Reply}
 use Rattle.tree_model.specs.declared.call.Call.{Call}
@@ -8,9 +8,10 @@ use Rattle.host_machine.specs.Host.{Stepped}
 use Rattle.host_machine.specs.Outcomes as outcomes
 use Rattle.host_core.specs.Answers.{IfStepped, found_queue_full}
 use Rattle.host_core.specs.Now.{HostNow, model_now, setup_now, with_host}
-use Rattle.host_core.specs.code.Fields.{host_of}
+use Rattle.host_core.specs.code.Fields.{AreNoted, host_of}
+use Rattle.host_answers.specs.declared.entry.Entry.{Entry}
 use Rattle.host_core.specs.declared.thread.Thread.{Thread}
-use Rattle.host_core.proofs.Advanced.{found_there, read_again, next_call, within_at, ended_is, advanced_is, same_is}
+use Rattle.host_core.proofs.Advanced.{found_at, found_there, read_again, next_call, within_at, ended_is, advanced_is, same_is}
 use Rattle.host_core.proofs.Kept.{kept_noted}
 use Rattle.host_core.proofs.Noted.{programs_same}
 use Rattle.host_core.proofs.host.Host.advance.Goals as goal
@@ -35,8 +36,14 @@ settle-requires-clause-within g c =
 pub invariant_of-self-2 : goal.invariant_of-self-2
 invariant_of-self-2 g c =
     let i = c.self.inside in
+    let ts = i.threads.items in
+    let at = c.args.thread - 1 in
     let e = c.settle.ensures in
-    kept_noted i.parts c.step_call.new.parts c.settle.new.journal _ i.threads.items (c.args.thread - 1) c.settle.new.caller c.self.invariant c.in-Ok.ensures.same e.journal e.waits e.kept
+    let low : at < length ts = omega (arith, c.in-Some.ensures.lookup.3.0, ap length c.deref.ensures.value) in
+    let there : slice_get ts at ≡ Some c.index_mut-caller.result.now = found_at ts at c.index_mut-caller.result.now low c.index_mut-caller.ensures.value in
+    let noted = subst (AreNoted ts) (sym {A = List Entry} c.reserve.ensures.items) c.self.invariant.noted in
+    kept_noted i.parts c.step_call.new.parts c.settle.new.journal _ ts i.history.items c.settle.new.history.items at c.settle.new.caller c.self.invariant c.in-Ok.ensures.same e.journal e.waits e.kept
+    (e.notes.noted ts there noted)
 
 pub returns-clause-same : goal.returns-clause-same
 returns-clause-same g c =

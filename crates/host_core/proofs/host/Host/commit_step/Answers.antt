@@ -42,7 +42,7 @@ invariant_of-self-2 g c =
       | in-NoMemory w ↦ absurd (true≢false (sym w.matches-is ∙ c.if-matches.false))
       | in_default w ↦ w.in_default.not-NoMemory
     ] in
-    kept i.parts.journal c.commit_step-turn.new.part i.parts.volume c.release_closed.new.volume i.threads.items c.self.invariant (ap (λ (a : CommitActor). a.blocks) e.same)
+    kept i.parts.journal c.commit_step-turn.new.part i.parts.volume c.release_closed.new.volume i.threads.items i.history.items c.self.invariant (ap (λ (a : CommitActor). a.blocks) e.same)
     (ap (λ (v : VolumeNow). v.geometry) c.release_closed.ensures ∙ released_same c.committing-before.result c.committing.result i.parts.volume)
     (ap (λ (x : CommitTurn). length x.part.flush.waits) (e.step told)
     ∙ commit_keeps (writers i.parts.journal.made_with) i.parts.journal.journal i.parts.journal.made_with.sequence (is_queue_full t) (λ b. disk_of i.parts.volume.contents.blocks b) i.parts.journal.part i.parts.pages.pages)

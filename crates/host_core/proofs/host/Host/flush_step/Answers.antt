@@ -14,7 +14,7 @@ pub invariant_of-self : goal.invariant_of-self
 invariant_of-self g c =
     let e = c.flush_step.ensures in
     let i = c.self.inside in
-    kept i.parts.journal c.flush_step.new.self i.parts.volume i.parts.volume i.threads.items c.self.invariant (ap (λ (a : CommitActor). a.blocks) e.same) refl
+    kept i.parts.journal c.flush_step.new.self i.parts.volume i.parts.volume i.threads.items i.history.items c.self.invariant (ap (λ (a : CommitActor). a.blocks) e.same) refl
     (ap (λ (x : FlushTurn). length x.part.waits) e.step ∙ flush_keeps (is_queue_full c.flush_step.result) (first_since (g.I.Inlet.taken c.args.from.now) (g.I.Inlet.taken c.flush_step.new.from)) i.parts.journal.part.flush)
 
 pub returns-clause-step : goal.returns-clause-step

@@ -17,5 +17,5 @@ pub invariant_of-result : goal.invariant_of-result
 invariant_of-result c =
     let ts = c.into_threads-threads in
     let zones = ap (λ (g : Geometry). g.zones) c.geometry.ensures in
-    made_is_host c.in_ok-make.field-0 c.volume.inside.parts c.args.volume ts.result.items c.args.ring c.args.programs c.from-blocks.result c.len-callers.result
-    c.in_ok-make.ensures c.volume.view_is (c.from-blocks.ensures ∙ zones) (omega (arith, c.len-callers.ensures, ts.result.ok.0)) ts.ensures.programs c.requires.threads ts.ensures.fresh
+    made_is_host c.in_ok-make.field-0 c.volume.inside.parts c.args.volume ts.result.items c.new.result.items c.args.ring c.args.programs c.from-blocks.result c.len-callers.result
+    c.in_ok-make.ensures c.volume.view_is (c.from-blocks.ensures ∙ zones) (omega (arith, c.len-callers.ensures, ts.result.ok.0)) ts.ensures.programs c.requires.threads ts.ensures.fresh c.new.ensures.items

@@ -17,8 +17,8 @@ overflow_cast-result c =
     let within : IsWithin th = within_at ts at th c.self.invariant.within low (c.in-Some.ensures.lookup.3.1 th ∙ ap (λ xs. slice_index_or xs at th) c.deref.ensures.value) in
     omega (arith, within.short, c.len.ensures, th.program.ok.0)
 
-pub returns : goal.returns
-returns c =
+pub returns-clause-ok : goal.returns-clause-ok
+returns-clause-ok c =
     let i = c.self.inside in
     let ts = i.threads.items in
     let at = c.args.thread - 1 in
@@ -28,5 +28,5 @@ returns c =
     let within : IsWithin th = within_at ts at th c.self.invariant.within low (c.in-Some.ensures.lookup.3.1 th ∙ ap (λ xs. slice_index_or xs at th) c.deref.ensures.value) in
     let wait : c.unwrap_or-wait.result ≡ slice_index_or i.parts.journal.part.flush.waits at no_wait = search (rules, unwrap_or-slice_get) in
     standing_is i.parts.journal i.parts.volume i.parts.pages i.parts.owners.items i.cuts.items i.history.items ts c.args.thread th c.unwrap_or-wait.result c.in_ok-state.state c.len.result there within wait
-    c.in_ok-state.ensures (omega (arith, c.len.ensures, th.program.ok.0))
+    c.in_ok-state.ensures.ok (omega (arith, c.len.ensures, th.program.ok.0))
     ∙ ap (λ (x : HostNow). standing_of x c.args.thread) c.self.view_is
