@@ -74,21 +74,21 @@ module _ (old new : Option (List ℕ)) (report : Option RunReport) (text bytes :
         read = record { input = input; drained = drained; short = short; holds = is.spelled };
         figures = figures_of r;
         history = is.printed.history;
-        noted = noted_of s r is.printed.history is.core_is is.printed.noted;
+        noted = noted_of s r is.printed.history is.core_is.report is.printed.noted;
         standings = r.standings.items;
-        stand = stand_of s r is.core_is;
+        stand = stand_of s r is.core_is.report;
         tree = h.prefix.tree;
-        written = subst (λ l. IsWritten fault l bytes) (text_is s r text is.core_is h.prefix is.printed) written;
+        written = subst (λ l. IsWritten fault l bytes) (text_is s r text is.core_is.report h.prefix is.printed) written;
         medium = medium_of r;
-        order = order_of s r is.core_is h.order;
+        order = order_of s r is.core_is.report h.order;
         recovered = h.prefix.found;
         transactions = h.transactions;
         counted = h.counted;
         alike = h.prefix.alike;
-        files = latest_shown s r h;
+        files = latest_shown s _ r h;
         answered = h.answered;
-        barriers = λ e t c ok kind later. all_shown s r h (h.answered e t c ok).begun (h.barriers e t c ok kind later);
-        syncs = λ e t c ok kind. all_shown s r h (h.answered e t c ok).begun (h.syncs e t c ok kind);
+        barriers = λ e t c ok kind later. all_shown s _ r h (h.answered e t c ok).begun (h.barriers e t c ok kind later);
+        syncs = λ e t c ok kind. all_shown s _ r h (h.answered e t c ok).begun (h.syncs e t c ok kind);
       }
 
   told_as : (session : Bool) → IsReplayAs session input report text → TellsRun old new fault bytes

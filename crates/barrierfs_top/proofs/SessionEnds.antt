@@ -1,6 +1,5 @@
 -- The text of a session's report is that of the lines of its host and of its tree.
 use Rattle.std.proofs.Common.{◌≡◌, ℕ, zero, suc, ◌+◌, ◌<◌, ◌≤◌, ◌++◌, List, [], ◌∷◌, Option, Some, None, arith, length-append, length, map, Ok, refl, sym, ap, subst, ◌∙◌}
-use Rattle.device_epochs.specs.Device.{seen}
 use Rattle.stack_core.specs.Headline.{KeepsOrder}
 use Rattle.volume_ops.specs.laws.ReadsLaws.{same_Ok}
 use Rattle.tree_model.specs.Text.{tree_text}
@@ -17,13 +16,13 @@ use Rattle.barrierfs_top.specs.Sessions.{IsSessionText, figures_of}
 use Rattle.barrierfs_top.specs.Show.{shown_volume, text_after}
 
 -- what is shown of a volume is the text of its image's tree
-tree_shown : (s : SessionScript) (r : SessionReport) (told : List ℕ) → IsReportOf s (core s) r → (p : HasPrefix s r) → shown_volume r.volume ≡ Ok told → told ≡ tree_text p.tree
+tree_shown : (s : SessionScript) (r : SessionReport) (told : List ℕ) → IsReportOf s (core s) r → (p : HasPrefix s (core s) r) → shown_volume r.volume ≡ Ok told → told ≡ tree_text p.tree
 tree_shown s r told is p shown =
     let same : text_after (image_tree r.cut.image) ≡ shown_volume r.volume = ap (λ m. text_after (tree_after m)) is.volume in
     same_Ok told (tree_text p.tree) (sym shown ∙ (sym same ∙ ap text_after p.found))
 
 -- the text is that of the session's lines and of its tree
-pub text_is : (s : SessionScript) (r : SessionReport) (text : List ℕ) → IsReportOf s (core s) r → (p : HasPrefix s r) → (t : IsSessionText s r text)
+pub text_is : (s : SessionScript) (r : SessionReport) (text : List ℕ) → IsReportOf s (core s) r → (p : HasPrefix s (core s) r) → (t : IsSessionText s r text)
     → text ≡ session_lines s.programs s.lines (figures_of r) t.history r.standings.items ++ tree_text p.tree
 text_is s r text is p t = t.printed ∙ ap (λ (x : List ℕ). session_lines s.programs s.lines (figures_of r) t.history r.standings.items ++ x) (tree_shown s r t.tree is p t.shown)
 
@@ -45,9 +44,9 @@ pub stand_of : (s : SessionScript) (r : SessionReport) → IsReportOf s (core s)
 stand_of s r is h host programs = is.standings ∙ same_standings r.host h (is.host ∙ sym host) (is.programs ∙ sym programs) (length s.programs)
 
 -- the completions of the trace are those that the device sent
-pub order_of : (s : SessionScript) (r : SessionReport) → IsReportOf s (core s) r → ReportKeepsOrder s r
-    → KeepsOrder (opening_of s).image (core s).host.journal.flush.requests r.cut.image r.cut.origins ((seen (core s).dev).sent ++ (seen (core s).dev).waiting)
-order_of s r is order = subst (λ sent. KeepsOrder (opening_of s).image (core s).host.journal.flush.requests r.cut.image r.cut.origins (sent ++ (seen (core s).dev).waiting)) is.trace.sent order
+pub order_of : (s : SessionScript) (r : SessionReport) → IsReportOf s (core s) r → ReportKeepsOrder s (core s) r
+    → KeepsOrder (opening_of s).image (core s).host.journal.flush.requests r.cut.image r.cut.origins ((core s).dev.sent ++ (core s).dev.waiting)
+order_of s r is order = subst (λ sent. KeepsOrder (opening_of s).image (core s).host.journal.flush.requests r.cut.image r.cut.origins (sent ++ (core s).dev.waiting)) is.trace.sent order
 
 -- ---- no more threads stand than the script has
 

@@ -2,7 +2,6 @@
 use Rattle.std.specs.Prelude.{◌≡◌, ℕ, ◌+◌, ◌<◌, ◌++◌, ◌⊎◌, true, false, List, length, map, take, Option, Some, None, Ok}
 use Rattle.blk_base.specs.Image.{zeros}
 use Rattle.order_model.specs.Submission.{IsOrderClosed}
-use Rattle.device_epochs.specs.Device.{seen}
 use Rattle.stack_core.specs.Headline.{KeepsOrder}
 use Rattle.script_grammar.specs.declared.script.Script.{Script}
 use Rattle.script_grammar.specs.Grammar.{script_of, blocks_of}
@@ -66,7 +65,7 @@ pub record TellsSession (old new : Option (List ℕ)) (fault : Option TopFault) 
   -- figures say.
   pub medium : Medium
   pub order : KeepsOrder (opening_of script).image (core script).host.journal.flush.requests medium.image medium.origins
-      ((seen (core script).dev).sent ++ (seen (core script).dev).waiting)
+      ((core script).dev.sent ++ (core script).dev.waiting)
   pub recovered : image_tree medium.image ≡ Ok tree
   pub transactions : IsFound (submitted_of script) medium figures.found
   pub counted : figures.found ≡ kept_on script medium
@@ -80,9 +79,9 @@ pub record TellsSession (old new : Option (List ℕ)) (fault : Option TopFault) 
   -- is so in any case.
   pub answered : (e t : ℕ) (c : Call) → AnsweredAt (core script).host e t c → WasAnswered (opening_of script) (core script).host e t c
   pub barriers : (e t : ℕ) (c : Call) (ok : AnsweredAt (core script).host e t c) → is_durable (kind_of c) ≡ false → IsLaterSurvived script medium (e + 1)
-      → IsAllShown script figures.found tree alike.to (answered e t c ok).begun
+      → IsAllShown script (core script) figures.found tree alike.to (answered e t c ok).begun
   pub syncs : (e t : ℕ) (c : Call) (ok : AnsweredAt (core script).host e t c) → is_durable (kind_of c) ≡ true
-      → IsAllShown script figures.found tree alike.to (answered e t c ok).begun
+      → IsAllShown script (core script) figures.found tree alike.to (answered e t c ok).begun
 
 -- one or the other
 abbrev pub TellsRun : Option (List ℕ) → Option (List ℕ) → Option TopFault → List ℕ → Type 0

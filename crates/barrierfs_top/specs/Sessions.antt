@@ -6,9 +6,9 @@ use Rattle.host_answers.specs.declared.entry.Entry.{Entry}
 use Rattle.session_grammar.specs.declared.session_script.SessionScript.{SessionScript}
 use Rattle.session_grammar.specs.Grammar.{session_of}
 use Rattle.session_report.specs.ReportText.{Figures, session_lines}
-use Rattle.session_core.specs.Core.{core, entry_in}
+use Rattle.session_core.specs.Core.{entry_in}
 use Rattle.session_core.specs.Headline.{Headline}
-use Rattle.session_core.specs.Report.{IsReportOf}
+use Rattle.session_core.specs.Report.{IsCoreReport}
 use Rattle.session_core.specs.declared.report.SessionReport.{SessionReport}
 use Rattle.barrierfs_top.specs.declared.run_report.RunReport.{RunReport}
 use Rattle.barrierfs_top.specs.declared.run_report.RunReport.TheVariants as reports
@@ -47,7 +47,7 @@ pub record IsSessionReplay (input : List ℕ) (report : Option RunReport) (text 
   pub script : SessionScript
   pub spelled : session_of input ≡ Ok script
   pub result : SessionReport
-  pub core_is : IsReportOf script (core script) result
+  pub core_is : IsCoreReport script result
   pub headline : Headline script result
   pub reported : report ≡ Some (reports.Session result)
   pub printed : IsSessionText script result text

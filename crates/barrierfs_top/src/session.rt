@@ -4,8 +4,7 @@ ghost use Rattle.std.specs.String.{string_bytes};
 ghost use Rattle.script_words.specs.Spelling.{words_of};
 ghost use Rattle.script_grammar.specs.declared.limits.TheConstants.{MOST_SCRIPT_BYTES};
 ghost use Rattle.session_grammar.specs.WellFormed.{IsWellFormed};
-ghost use Rattle.session_core.specs.Core.{core};
-ghost use Rattle.session_core.specs.Report.{IsReportOf};
+ghost use Rattle.session_core.specs.Report.{IsCoreReport};
 ghost use Rattle.barrierfs_top.specs.Sessions.{begins_session, is_session, names_volume, IsSessionText, IsSessionReplay};
 ghost use Rattle.barrierfs_top.specs.Top.{IsSessionFault};
 ghost use Rattle.barrierfs_top.specs.Text.{output_bytes};
@@ -60,7 +59,7 @@ fn session_text(
     report: &SessionReport,
 ) -> Result<String, NoMemory>
     requires script { IsWellFormed script.now }
-    requires report { IsReportOf script.now (core script.now) report.now }
+    requires report { IsCoreReport script.now report.now }
     ensures { IfOk result (λ text. IsSessionText script.now report.now (string_bytes text)) }
 {
     lines_of_scripts_are_ascii();

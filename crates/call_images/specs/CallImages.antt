@@ -21,7 +21,8 @@ use Rattle.host_machine.specs.laws.Contract.{noted_history, session}
 use Rattle.host_runs.specs.Runs.{Event}
 use Rattle.host_volume.specs.Sessions.{Opening, Stands}
 use Rattle.mount_make.specs.Made.{made_image, new_journal}
-pub use Rattle.session_recovery.specs.Attempts.{attempts_of, image_after}
+pub use Rattle.session_recovery.specs.declared.attempts.Attempt.{Attempt}
+pub use Rattle.session_recovery.specs.Attempts.{AreAttempts, IsMountedBehind, attempts_of, image_after}
 pub use Rattle.session_recovery.specs.Found.{found_in}
 use Rattle.call_sessions.specs.Sessions.{WriteBytes, made_now, made_opening, made_ring, call_over, host_behind, tree_behind}
 

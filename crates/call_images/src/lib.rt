@@ -12,4 +12,4 @@ pub use laws::{
     cut_sessions_have_the_tree_of_a_prefix, cut_sessions_keep_files, cut_sessions_mount,
     cut_sessions_show_files, cut_sessions_tell_how_many,
 };
-pub use session_recovery::{Attempt, Remounted, remount};
+pub use session_recovery::{Attempt, Remounted, attempts_on_model_devices, remount};

@@ -23,7 +23,7 @@ use Rattle.volume_ops.specs.Volume.{disk_of}
 use Rattle.session_grammar.specs.declared.session_script.SessionScript.{SessionScript}
 use Rattle.session_grammar.specs.WellFormed.{IsWellFormed}
 use Rattle.session_run.specs.declared.session.SessionEnd.{SessionEnd}
-use Rattle.session_core.specs.Core.{EndState, geometry_of, opening_of, core}
+use Rattle.session_core.specs.Core.{EndState, geometry_of, opening_of}
 use Rattle.session_core.specs.Report.{HasPrefix}
 use Rattle.session_core.specs.code.Ends.{KeepsTheOrder, IsBehind}
 use Rattle.session_core.specs.declared.report.SessionReport.{SessionReport}
@@ -60,12 +60,12 @@ journal_of g image copy base e zones is = ap (λ n. has_journal n copy) zones �
 
 -- ---- the prefix
 
-pub prefix_is : (s : SessionScript) (r : SessionReport) (m : Medium) (h : Host VolumeNow Call Reply) → (core s).host ≡ h → m.image ≡ r.cut.image
-    → r.found ≡ kept_count (geometry_of s) s.journal h m → (tree : Tree) × (image_tree m.image ≡ Ok tree) × AreAlike (kept_tree (geometry_of s) s.journal h m) tree → HasPrefix s r
-prefix_is s r m h host image count is = record {
+pub prefix_is : (s : SessionScript) (end : EndState) (r : SessionReport) (m : Medium) (h : Host VolumeNow Call Reply) → end.host ≡ h → m.image ≡ r.cut.image
+    → r.found ≡ kept_count (geometry_of s) s.journal h m → (tree : Tree) × (image_tree m.image ≡ Ok tree) × AreAlike (kept_tree (geometry_of s) s.journal h m) tree → HasPrefix s end r
+prefix_is s end r m h host image count is = record {
   tree = is.0;
   found = sym (ap image_tree image) ∙ is.1;
-  alike = subst (λ n. AreAlike (tree_behind (opening_of s) (core s).host n) is.0) (sym count)
+  alike = subst (λ n. AreAlike (tree_behind (opening_of s) end.host n) is.0) (sym count)
       (subst (λ x. AreAlike (tree_behind (opening_of s) x (kept_count (geometry_of s) s.journal h m)) is.0) (sym host) is.2);
 }
 

@@ -4,7 +4,6 @@ use Rattle.blk_base.specs.Members.{In, In-take, In-append_left}
 use Rattle.order_model.specs.declared.completion.Completion.{Completion}
 use Rattle.order_model.specs.Carrying.{IsPrefixOf}
 use Rattle.log_model.specs.Marks.{Transaction}
-use Rattle.device_epochs.specs.Device.{seen}
 use Rattle.tree_model.specs.declared.call.Call.{Call}
 use Rattle.tree_model.specs.declared.call.Reply.{Reply}
 use Rattle.tree_model.specs.Calls.{Tree}
@@ -31,8 +30,8 @@ use Rattle.session_promises.specs.Legal.{events_in, program_of, FollowsTree}
 use Rattle.session_promises.specs.Trees.{HaveNoRenames}
 use Rattle.session_grammar.specs.declared.session_script.SessionScript.{SessionScript}
 use Rattle.session_grammar.specs.WellFormed.{IsWellFormed, IsBuilt}
-use Rattle.session_core.specs.Core.{geometry_of, opening_of, core}
-use Rattle.session_core.specs.Headline.{medium_of, told_of, IsAllShown, Headline}
+use Rattle.session_core.specs.Core.{EndState, geometry_of, opening_of}
+use Rattle.session_core.specs.Headline.{medium_of, told_by, IsAllShown, HeadlineOn}
 use Rattle.session_core.specs.Report.{ReportKeepsOrder, HasPrefix}
 use Rattle.session_core.specs.code.Ends.{EndFits}
 use Rattle.session_core.specs.declared.report.SessionReport.{SessionReport}
@@ -76,17 +75,17 @@ took n taken sent c front here = In-take n sent c (subst (In c) front here)
 
 -- what the recovered disk has of the files is shown by each tree of the image that is alike to the one after the calls of the
 -- transactions that were found
-abbrev pub IsShownAs : SessionScript → SessionReport → List Transaction → Type 0
-IsShownAs s r closed =
-    KeepsFiles (geometry_of s) s.journal closed (core s).host (medium_of r) (disk_of (recovered_image r.cut.image)) → (tree : Tree) → image_tree r.cut.image ≡ Ok tree →
-    (alike : AreAlike (tree_behind (opening_of s) (core s).host r.found) tree) → ShowsFiles (geometry_of s) s.journal closed (core s).host (medium_of r) tree alike.to
+abbrev pub IsShownAs : SessionScript → EndState → SessionReport → List Transaction → Type 0
+IsShownAs s end r closed =
+    KeepsFiles (geometry_of s) s.journal closed end.host (medium_of r) (disk_of (recovered_image r.cut.image)) → (tree : Tree) → image_tree r.cut.image ≡ Ok tree →
+    (alike : AreAlike (tree_behind (opening_of s) end.host r.found) tree) → ShowsFiles (geometry_of s) s.journal closed end.host (medium_of r) tree alike.to
 
-pub headline_of : (s : SessionScript) (r : SessionReport) → HostFacts s (core s).host → ReportKeepsOrder s r → EndFits (core s)
-    → r.cut.trace.sent.items ≡ (seen (core s).dev).sent → r.found ≡ kept_count (geometry_of s) s.journal (core s).host (medium_of r)
-    → IsFound (submitted_by (geometry_of s) s.journal [] (core s).host) (medium_of r) (kept_count (geometry_of s) s.journal (core s).host (medium_of r)) → HasPrefix s r
-    → ((closed : List Transaction) → IsRecovered (submitted_by (geometry_of s) s.journal closed (core s).host) (medium_of r) (disk_of (recovered_image r.cut.image)))
-    → ((closed : List Transaction) → IsShownAs s r closed) → Headline s r
-headline_of s r facts order fits sent count found prefix recovered shows =
+pub headline_of : (s : SessionScript) (end : EndState) (r : SessionReport) → HostFacts s end.host → ReportKeepsOrder s end r → EndFits end
+    → r.cut.trace.sent.items ≡ end.dev.sent → r.found ≡ kept_count (geometry_of s) s.journal end.host (medium_of r)
+    → IsFound (submitted_by (geometry_of s) s.journal [] end.host) (medium_of r) (kept_count (geometry_of s) s.journal end.host (medium_of r)) → HasPrefix s end r
+    → ((closed : List Transaction) → IsRecovered (submitted_by (geometry_of s) s.journal closed end.host) (medium_of r) (disk_of (recovered_image r.cut.image)))
+    → ((closed : List Transaction) → IsShownAs s end r closed) → HeadlineOn s end r
+headline_of s end r facts order fits sent count found prefix recovered shows =
     let p = facts.promises in
     let files = p.kept.sentences.prefix (medium_of r) (disk_of (recovered_image r.cut.image)) order.closed (recovered p.kept.closed) in
     record {
@@ -98,15 +97,15 @@ headline_of s r facts order fits sent count found prefix recovered shows =
       taken = fits.taken;
       follows = facts.follows;
       legal = facts.legal;
-      transactions = subst (λ n. IsFound (submitted_by (geometry_of s) s.journal [] (core s).host) (medium_of r) n) (sym count) found;
+      transactions = subst (λ n. IsFound (submitted_by (geometry_of s) s.journal [] end.host) (medium_of r) n) (sym count) found;
       counted = count;
       prefix = prefix;
       files = files;
       shown = shows p.kept.closed files prefix.tree prefix.found prefix.alike;
       answered = p.answered;
       barriers = λ e t c ok kind later. p.barriers (medium_of r) e t c ok kind order.closed later;
-      syncs = λ e t c ok kind. p.syncs (medium_of r) (r.cut.trace.sent.items ++ (seen (core s).dev).waiting) e t c ok kind order.closed order.flushed
-          (λ x here. In-append_left r.cut.trace.sent.items (seen (core s).dev).waiting x (subst (In x) (sym sent) (took fits.taken.0 (core s).host.journal.flush.taken (seen (core s).dev).sent x fits.taken.1 here)));
+      syncs = λ e t c ok kind. p.syncs (medium_of r) (r.cut.trace.sent.items ++ end.dev.waiting) e t c ok kind order.closed order.flushed
+          (λ x here. In-append_left r.cut.trace.sent.items end.dev.waiting x (subst (In x) (sym sent) (took fits.taken.0 end.host.journal.flush.taken end.dev.sent x fits.taken.1 here)));
       causes = facts.causes;
       ok_causes = facts.ok_causes;
       flushes = p.kept.flushes;
@@ -115,17 +114,17 @@ headline_of s r facts order fits sent count found prefix recovered shows =
 -- ---- what the tree shows of what a call covers
 
 -- what survived or was superseded is shown or was superseded, with so many transactions as were found
-pub all_shown : (s : SessionScript) (r : SessionReport) (is : Headline s r) (b : Begun)
-    → IsAllSettled (call_over (opening_of s)) (Stands (opening_of s)) (core s).host is.closed (medium_of r) b → IsAllShown s r.found is.prefix.tree is.prefix.alike.to b
-all_shown s r is b x = subst (λ n. IsAllShown s n is.prefix.tree is.prefix.alike.to b) (sym is.counted) (record {
+pub all_shown : (s : SessionScript) (end : EndState) (r : SessionReport) (is : HeadlineOn s end r) (b : Begun)
+    → IsAllSettled (call_over (opening_of s)) (Stands (opening_of s)) end.host is.closed (medium_of r) b → IsAllShown s end r.found is.prefix.tree is.prefix.alike.to b
+all_shown s end r is b x = subst (λ n. IsAllShown s end n is.prefix.tree is.prefix.alike.to b) (sym is.counted) (record {
   pages = λ f i n covers. is.shown.settled f i n (x.pages f i n covers);
   metadata = x.metadata;
 })
 
-pub latest_shown : (s : SessionScript) (r : SessionReport) (is : Headline s r) (f i k : ℕ) → (told_of s).maps ((told_of s).cut r.found) f i ≡ true
-    → IsLastChange (told_of s) f r.found k → IsShown (told_of s) is.prefix.tree is.prefix.alike.to f i (last_write (told_of s) f i ((told_of s).cut k))
-latest_shown s r is =
+pub latest_shown : (s : SessionScript) (end : EndState) (r : SessionReport) (is : HeadlineOn s end r) (f i k : ℕ) → (told_by s end).maps ((told_by s end).cut r.found) f i ≡ true
+    → IsLastChange (told_by s end) f r.found k → IsShown (told_by s end) is.prefix.tree is.prefix.alike.to f i (last_write (told_by s end) f i ((told_by s end).cut k))
+latest_shown s end r is =
     subst
-    (λ n. (f i k : ℕ) → (told_of s).maps ((told_of s).cut n) f i ≡ true → IsLastChange (told_of s) f n k →
-    IsShown (told_of s) is.prefix.tree is.prefix.alike.to f i (last_write (told_of s) f i ((told_of s).cut k)))
+    (λ n. (f i k : ℕ) → (told_by s end).maps ((told_by s end).cut n) f i ≡ true → IsLastChange (told_by s end) f n k →
+    IsShown (told_by s end) is.prefix.tree is.prefix.alike.to f i (last_write (told_by s end) f i ((told_by s end).cut k)))
     (sym is.counted) is.shown.latest

@@ -1,3 +1,4 @@
 pub mod Made
 pub mod Cut
 pub mod Headlines
+pub mod Remounts

@@ -3,11 +3,11 @@ use Rattle.std.proofs.Common.{take, ◌≡◌, ℕ, ◌<◌, ◌≤◌, ◌↔�
 use Rattle.blk_base.specs.Members.{In, In-append_left, In-append_right}
 use Rattle.order_model.specs.declared.device.OrderedDev as devices
 use Rattle.order_model.specs.Carrying.{SchedSeen, IsPrefixOf}
+use Rattle.order_model.specs.Device.{Seen}
+use Rattle.order_model.specs.Machine.{Machine}
 use Rattle.barrier_reassign.specs.declared.scheduler.Scheduler as schedulers
 use Rattle.blk_base.specs.declared.memory.NoMemory.{NoMemory}
 use Rattle.barrier_reassign.specs.Scheduler.{SchedSteps}
-use Rattle.device_epochs.specs.Device.{DeviceState, seen}
-use Rattle.stack_core.specs.Core.{epoch_machine}
 use Rattle.event_grammar.specs.declared.event.EventLine.{EventLine}
 use Rattle.minix_layout.specs.declared.division.Geometry.{Geometry}
 use Rattle.minix_layout.specs.declared.division.TooSmall.{TooSmall}
@@ -27,7 +27,7 @@ use Rattle.std.specs.Option.{option_to_list}
 use Rattle.session_run.specs.Beginning.{HostNow, WriteBytes, call_over, IsMadeFor}
 use Rattle.session_run.specs.End.{IsEndOf, EndKeepsOrder}
 use Rattle.session_run.specs.declared.session.SessionEnd.{SessionEnd}
-use Rattle.session_core.specs.Core.{geometry_of, opening_of, start_of, device_for, ended}
+use Rattle.session_core.specs.Core.{IsNewFor, geometry_of, opening_of, start_of, ended}
 use Rattle.session_core.specs.code.Ends.{IsNewScheduler, session_on, EndsIn, KeepsTheOrder, IsBehind, EndFits}
 
 -- ---- its calls
@@ -59,34 +59,30 @@ pub sound_of : (r : Result Geometry TooSmall) (inodes zones : ℕ) → IfOk r (�
 sound_of (Ok g) inodes zones sound made small some = subst IsSound made sound
 sound_of (Err e) inodes zones sound made small some = let le = small.0 refl in absurd (omega (arith, le, some))
 
-pub is_new : (s : SessionScript) (p : SchedSeen) (dev : DeviceState) → IsNewScheduler s.header.limit p → dev ≡ device_for s → IsNew (made_image (geometry_of s) s.journal) s.header.limit p (seen dev)
-is_new s p dev new e =
-    subst (λ (d : DeviceState). IsNew (made_image (geometry_of s) s.journal) s.header.limit p (seen d)) (sym e)
-    (record { image = refl; took = refl; sent = refl; ids = omega arith; accepted = new.accepted; sent_out = new.sent_out; requests = new.requests })
+pub is_new : (s : SessionScript) (p : SchedSeen) (d : Seen) → IsNewScheduler s.header.limit p → IsNewFor s d → IsNew (made_image (geometry_of s) s.journal) s.header.limit p d
+is_new s p d sched dev =
+    record { image = dev.image; took = dev.took; sent = dev.sent; ids = dev.ids; accepted = sched.accepted; sent_out = sched.sent_out; requests = sched.requests }
 
 -- ---- its end
 
-pub ends_in : {K : Type 0} (k : SchedSteps K) (s : SessionScript) (sched : K) (dev : DeviceState) (lines : List EventLine) (r : Result SessionEnd NoMemory) → dev ≡ device_for s → lines ≡ s.events
-    → IfOk r (IsEndOf k epoch_machine (core_session (opening_of s) k epoch_machine (start_of s) sched dev lines)) → IfOk r (EndsIn (ended k (session_on s k sched)))
-ends_in k s sched dev lines (Err e) device events is = tt
-ends_in k s sched dev lines (Ok x) device events is =
-    let there = subst (λ (l : List EventLine). IsEndOf k epoch_machine (core_session (opening_of s) k epoch_machine (start_of s) sched (device_for s) l) x) events
-    (subst (λ (d : DeviceState). IsEndOf k epoch_machine (core_session (opening_of s) k epoch_machine (start_of s) sched d lines) x) device is) in
+pub ends_in : {K S : Type 0} (k : SchedSteps K) (m : Machine S) (s : SessionScript) (sched : K) (dev : S) (lines : List EventLine) (r : Result SessionEnd NoMemory) → lines ≡ s.events
+    → IfOk r (IsEndOf k m (core_session (opening_of s) k m (start_of s) sched dev lines)) → IfOk r (EndsIn (ended k m (session_on s k m sched dev)))
+ends_in k m s sched dev lines (Err e) events is = tt
+ends_in k m s sched dev lines (Ok x) events is =
+    let there = subst (λ (l : List EventLine). IsEndOf k m (core_session (opening_of s) k m (start_of s) sched dev l) x) events is in
     record { host = there.host; sched = there.sched; image = there.image; origins = there.origins; trace = there.trace }
 
-pub keeps_order : {K : Type 0} (k : SchedSteps K) (s : SessionScript) (sched : K) (dev : DeviceState) (lines : List EventLine) (r : Result SessionEnd NoMemory) → dev ≡ device_for s → lines ≡ s.events
-    → IfOk r (EndKeepsOrder epoch_machine (opening_of s) (core_session (opening_of s) k epoch_machine (start_of s) sched dev lines)) → IfOk r (KeepsTheOrder s (ended k (session_on s k sched)))
-keeps_order k s sched dev lines (Err e) device events is = tt
-keeps_order k s sched dev lines (Ok x) device events is =
-    subst (λ (l : List EventLine). EndKeepsOrder epoch_machine (opening_of s) (core_session (opening_of s) k epoch_machine (start_of s) sched (device_for s) l) x) events
-    (subst (λ (d : DeviceState). EndKeepsOrder epoch_machine (opening_of s) (core_session (opening_of s) k epoch_machine (start_of s) sched d lines) x) device is)
+pub keeps_order : {K S : Type 0} (k : SchedSteps K) (m : Machine S) (s : SessionScript) (sched : K) (dev : S) (lines : List EventLine) (r : Result SessionEnd NoMemory) → lines ≡ s.events
+    → IfOk r (EndKeepsOrder m (opening_of s) (core_session (opening_of s) k m (start_of s) sched dev lines)) → IfOk r (KeepsTheOrder s (ended k m (session_on s k m sched dev)))
+keeps_order k m s sched dev lines (Err e) events is = tt
+keeps_order k m s sched dev lines (Ok x) events is = subst (λ (l : List EventLine). EndKeepsOrder m (opening_of s) (core_session (opening_of s) k m (start_of s) sched dev l) x) events is
 
 -- its host took the steps that its events say
-pub behind_of : {K X E : Type 0} (k : SchedSteps K) (s : SessionScript) (sched : K) (r : Result X E)
-    → (session_on s k sched).host ≡ steps (call_over (opening_of s)) (opened_session (opening_of s) (start_of s) sched (device_for s)).host (host_events (opening_of s) k epoch_machine (opened_session (opening_of s) (start_of s) sched (device_for s)) (events_of (length s.programs) s.events))
-    → IfOk r (λ x. IsBehind s (ended k (session_on s k sched)))
-behind_of k s sched (Ok x) e = record { events = host_events (opening_of s) k epoch_machine (opened_session (opening_of s) (start_of s) sched (device_for s)) (events_of (length s.programs) s.events); host = e }
-behind_of k s sched (Err x) e = tt
+pub behind_of : {K S X E : Type 0} (k : SchedSteps K) (m : Machine S) (s : SessionScript) (sched : K) (dev : S) (r : Result X E)
+    → (session_on s k m sched dev).host ≡ steps (call_over (opening_of s)) (opened_session (opening_of s) (start_of s) sched dev).host (host_events (opening_of s) k m (opened_session (opening_of s) (start_of s) sched dev) (events_of (length s.programs) s.events))
+    → IfOk r (λ x. IsBehind s (ended k m (session_on s k m sched dev)))
+behind_of k m s sched dev (Ok x) e = record { events = host_events (opening_of s) k m (opened_session (opening_of s) (start_of s) sched dev) (events_of (length s.programs) s.events); host = e }
+behind_of k m s sched dev (Err x) e = tt
 
 -- ---- its programs are short
 
@@ -105,16 +101,16 @@ three_fronts : {X : Type 0} (xs ys zs : List X) → xs ≡ take (length xs) (xs 
 three_fronts [] ys zs = refl
 three_fronts (x ∷ xs) ys zs = ap (λ r. x ∷ r) (three_fronts xs ys zs)
 
-pub end_fits : {K X E : Type 0} (k : SchedSteps K) (s : SessionScript) (sched : K) (dev : DeviceState) (r : Result X E) → dev ≡ device_for s
-    → SessionFits k epoch_machine (core_session (opening_of s) k epoch_machine (start_of s) sched dev s.events) → IfOk r (λ x. EndFits (ended k (session_on s k sched)))
-end_fits k s sched dev (Err x) e fits = tt
-end_fits k s sched dev (Ok x) e fits =
-    let at = core_session (opening_of s) k epoch_machine (start_of s) sched dev s.events in
+pub end_fits : {K S X E : Type 0} (k : SchedSteps K) (m : Machine S) (s : SessionScript) (sched : K) (dev : S) (r : Result X E)
+    → SessionFits k m (core_session (opening_of s) k m (start_of s) sched dev s.events) → IfOk r (λ x. EndFits (ended k m (session_on s k m sched dev)))
+end_fits k m s sched dev (Err x) fits = tt
+end_fits k m s sched dev (Ok x) fits =
+    let at = core_session (opening_of s) k m (start_of s) sched dev s.events in
     let accepted = (k.seen at.sched).accepted in
-    let took = (seen at.dev).took in
+    let took = (m.seen at.dev).took in
     let taken = at.host.journal.flush.taken in
-    subst (λ (d : DeviceState). EndFits (ended k (core_session (opening_of s) k epoch_machine (start_of s) sched d s.events))) e (record {
+    record {
       accepted = (length accepted, two_fronts accepted at.queues.submission ∙ ap (take (length accepted)) fits.requests.submitted);
       received = (length took, three_fronts took at.queues.dispatched (option_to_list at.queues.kept) ∙ ap (take (length took)) (sym fits.requests.sent));
       taken = (length taken, three_fronts taken at.completions (option_to_list at.kept) ∙ ap (take (length taken)) (sym fits.completions));
-    })
+    }

@@ -1,6 +1,8 @@
 -- The session that a volume script says: what it opens, and where its events lead.
-use Rattle.std.specs.Prelude.{ℕ, zero, suc, ◌+◌, ◌++◌, List, [], ◌∷◌, Option, Some, None, if◌then◌else◌}
+use Rattle.std.specs.Prelude.{◌≡◌, ℕ, zero, suc, ◌+◌, ◌≤◌, ◌++◌, List, [], ◌∷◌, Option, Some, None, if◌then◌else◌}
 use Rattle.order_model.specs.Carrying.{SchedSeen}
+use Rattle.order_model.specs.Device.{Seen}
+use Rattle.order_model.specs.Machine.{Machine}
 use Rattle.barrier_reassign.specs.Scheduler.{SchedSteps}
 use Rattle.barrier_reassign.specs.Sched as plain
 use Rattle.sched_elevator.specs.Elevator as elevator
@@ -16,6 +18,7 @@ use Rattle.tx_running.specs.Open.{quota}
 use Rattle.mount_make.specs.Made.{new_journal, made_image}
 use Rattle.host_answers.specs.declared.standing.Standing.{Standing}
 use Rattle.host_machine.specs.State.{Host}
+use Rattle.session_opening.specs.Opened.{opened_now}
 pub use Rattle.session_run.specs.Beginning.{HostNow}
 use Rattle.session_run.specs.Beginning.{made_opening}
 pub use Rattle.session_run.specs.End.{entry_in, standing_of}
@@ -43,21 +46,38 @@ setup_for s = record { depth = s.header.depth; limit = s.header.limit; fail_at =
 abbrev pub device_for : SessionScript → DeviceState
 device_for s = epochs.opened (made_image (geometry_of s) s.journal) (setup_for s)
 
--- where a session ends, with what is seen of its scheduler
+-- the host that it opens on that volume
+abbrev pub opened_host : SessionScript → HostNow
+opened_host s = opened_now (geometry_of s) s.journal s.header.limit s.programs
+
+-- where a session ends, with what is seen of its scheduler and of its device
 pub record EndState : Type 0 where
   pub host : Host VolumeNow Call Reply
   pub sched : SchedSeen
-  pub dev : DeviceState
+  pub dev : Seen
 
-abbrev pub ended : {K : Type 0} → SchedSteps K → SessionState K DeviceState → EndState
-ended k r = record { host = r.host; sched = k.seen r.sched; dev = r.dev }
+abbrev pub ended : {K S : Type 0} → SchedSteps K → Machine S → SessionState K S → EndState
+ended k m r = record { host = r.host; sched = k.seen r.sched; dev = m.seen r.dev }
 
--- all its events on the parts that it opens, on the scheduler that it names, in which 128 requests may wait
-abbrev pub core : SessionScript → EndState
-core s =
+-- all events of a script on this device, on the parts that it opens and the scheduler that it names, in which 128 requests may
+-- wait
+abbrev pub core_on : {S : Type 0} → Machine S → SessionScript → S → EndState
+core_on m s dev =
     if s.header.elevator then
-    ended elevator.elevator_steps (core_session (opening_of s) elevator.elevator_steps epoch_machine (start_of s) (elevator.opened s.header.limit 128) (device_for s) s.events)
-    else ended plain.sched_steps (core_session (opening_of s) plain.sched_steps epoch_machine (start_of s) (plain.opened s.header.limit 128) (device_for s) s.events)
+    ended elevator.elevator_steps m (core_session (opening_of s) elevator.elevator_steps m (start_of s) (elevator.opened s.header.limit 128) dev s.events)
+    else ended plain.sched_steps m (core_session (opening_of s) plain.sched_steps m (start_of s) (plain.opened s.header.limit 128) dev s.events)
+
+-- the same on the model device that it opens
+abbrev pub core : SessionScript → EndState
+core s = core_on epoch_machine s (device_for s)
+
+-- The device was made over the image of the script's volume, took and sent nothing, and may take so many ids as the script has
+-- requests at most.
+pub record IsNewFor (s : SessionScript) (d : Seen) : Type 0 where
+  pub image : d.base ≡ made_image (geometry_of s) s.journal
+  pub took : d.took ≡ []
+  pub sent : d.sent ≡ []
+  pub ids : s.header.limit ≤ d.limit
 
 -- one more, where there is one
 abbrev pub with_standing : List Standing → Option Standing → List Standing

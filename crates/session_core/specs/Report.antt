@@ -1,43 +1,50 @@
 -- Which report a session leaves, and what it promises.
-use Rattle.std.specs.Prelude.{◌≡◌, ◌++◌, length, Ok}
+use Rattle.std.specs.Prelude.{◌≡◌, ℕ, ◌++◌, List, length, Ok}
 use Rattle.order_model.specs.Device.{origin_ids}
+use Rattle.order_model.specs.Machine.{Machine}
 use Rattle.order_model.specs.Steps.{IsTraceOf}
 use Rattle.barrier_reassign.specs.Scheduler.{IsSchedRecord}
-use Rattle.device_epochs.specs.Device.{seen}
 use Rattle.tree_model.specs.Calls.{Tree}
 use Rattle.tree_model.specs.Trees.{AreAlike}
 use Rattle.mount_make.specs.Images.{mounted, image_tree}
 use Rattle.stack_core.specs.Headline.{KeepsOrder}
 pub use Rattle.session_run.specs.End.{tree_behind}
 use Rattle.session_grammar.specs.declared.session_script.SessionScript.{SessionScript}
-use Rattle.call_images.specs.CallImages.{attempts_of, found_in, image_after}
+use Rattle.call_images.specs.CallImages.{IsMountedBehind, attempts_of, found_in, image_after}
 use Rattle.session_core.specs.Core.{EndState, opening_of, geometry_of, core, standings_of}
 use Rattle.session_core.specs.declared.report.SessionReport.{SessionReport}
 
--- The report of a session that ended in this state: its host with the script's calls, what its scheduler did, what the power cut left of its
--- device, the attempts of recovery that the script asks for, the volume that was mounted then, and how many transactions
--- it has.
+-- The report of a session that ended in this state: its host with the script's calls, what its scheduler did, what the power
+-- cut left of its device, the volume that was mounted then, and how many transactions it has.
 pub record IsReportOf (s : SessionScript) (end : EndState) (r : SessionReport) : Type 0 where
   pub host : r.host.host ≡ end.host
   pub programs : r.host.programs ≡ s.programs
   pub sched : IsSchedRecord end.sched r.sched
-  pub image : r.cut.image ≡ (seen end.dev).surface
-  pub origins : r.cut.origins ≡ origin_ids (seen end.dev).took (seen end.dev).origins
-  pub trace : IsTraceOf (seen end.dev) r.cut.trace
-  pub attempts : r.attempts.items ≡ attempts_of s.header.depth (geometry_of s).zones r.cut.image s.recovers
-  -- the same volume is mounted with those attempts and without them
+  pub image : r.cut.image ≡ end.dev.surface
+  pub origins : r.cut.origins ≡ origin_ids end.dev.took end.dev.origins
+  pub trace : IsTraceOf end.dev r.cut.trace
   pub volume : mounted r.cut.image ≡ Ok r.volume
-  pub left : mounted (image_after s.header.depth (geometry_of s).zones r.cut.image s.recovers) ≡ Ok r.volume
   pub found : r.found ≡ found_in (geometry_of s).zones 1 r.cut.image
   pub standings : r.standings.items ≡ standings_of r.host (length s.programs)
 
+-- Its attempts of recovery are those that the script asks for, each on a fresh device, and the same volume is mounted behind
+-- them.
+abbrev pub HasAttempts : {S : Type 0} → Machine S → (List (List ℕ) → S) → SessionScript → SessionReport → Type 0
+HasAttempts m fresh s r = IsMountedBehind m fresh (geometry_of s).zones r.cut.image s.recovers r.attempts.items r.volume
+
+-- the report of a script that ran on model devices
+pub record IsCoreReport (s : SessionScript) (r : SessionReport) : Type 0 where
+  pub report : IsReportOf s (core s) r
+  pub attempts : r.attempts.items ≡ attempts_of s.header.depth (geometry_of s).zones r.cut.image s.recovers
+  pub left : mounted (image_after s.header.depth (geometry_of s).zones r.cut.image s.recovers) ≡ Ok r.volume
+
 -- What the power cut left is order-closed for what the host submitted over the new volume and its journal, and where a
 -- flush completed, whether that was taken or not, all before it is kept.
-abbrev pub ReportKeepsOrder : SessionScript → SessionReport → Type 0
-ReportKeepsOrder s r = KeepsOrder (opening_of s).image (core s).host.journal.flush.requests r.cut.image r.cut.origins (r.cut.trace.sent.items ++ (seen (core s).dev).waiting)
+abbrev pub ReportKeepsOrder : SessionScript → EndState → SessionReport → Type 0
+ReportKeepsOrder s end r = KeepsOrder (opening_of s).image end.host.journal.flush.requests r.cut.image r.cut.origins (r.cut.trace.sent.items ++ end.dev.waiting)
 
 -- The tree of what was recovered is alike to the one after the calls of the first transactions, as many as were found.
-pub record HasPrefix (s : SessionScript) (r : SessionReport) : Type 0 where
+pub record HasPrefix (s : SessionScript) (end : EndState) (r : SessionReport) : Type 0 where
   pub tree : Tree
   pub found : image_tree r.cut.image ≡ Ok tree
-  pub alike : AreAlike (tree_behind (opening_of s) (core s).host r.found) tree
+  pub alike : AreAlike (tree_behind (opening_of s) end.host r.found) tree

@@ -1,8 +1,9 @@
 //! A session from its script to its report: a new volume with its journal is made and opened, the events are done, the
 //! power is cut, and what is left is recovered and mounted.
 //!
-//! `running` runs a script, `specs/Core` has where that leads; `report` has what is left, and `specs/Report` says which report
-//! it is and what it promises.
+//! `running` runs a script, on any device and with any maker of devices for its recovery, or on model devices;
+//! `specs/Core` has where that leads; `report` has what is left, and `specs/Report` says which report it is and what it
+//! promises.
 //!
 //! Stands on `session_opening`, `session_run` and `session_recovery` for its three parts, and on `call_images` for what a
 //! power cut may leave.
@@ -12,4 +13,4 @@ mod report;
 mod running;
 
 pub use report::SessionReport;
-pub use running::core_run;
+pub use running::{core_run, run_on};

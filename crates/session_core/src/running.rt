@@ -1,20 +1,21 @@
 //! The run of a volume script.
 ghost use Rattle.std.specs.Prelude.{◌≡◌, ◌^◌, ◌<◌, length, IfOk};
-ghost use Rattle.device_epochs.specs.contracts.device.EpochDeviceOrderedDev.TheImpl.{ghosts as epoch_device};
+ghost use Rattle.order_model.specs.Machine.{machine_of};
+ghost use Rattle.mount_make.specs.Made.{made_image};
 ghost use Rattle.session_grammar.specs.WellFormed.{IsWellFormed};
-ghost use Rattle.session_opening.specs.Opened.{opened_now};
 ghost use Rattle.session_run.specs.Beginning.{IsMadeFor};
-ghost use Rattle.session_core.specs.Core.{core, device_for, ended, geometry_of, opening_of, start_of, standings_of};
-ghost use Rattle.session_core.specs.Headline.{Headline};
-ghost use Rattle.session_core.specs.Report.{IsReportOf};
+ghost use Rattle.session_core.specs.Core.{IsNewFor, core_on, device_for, ended, geometry_of, opened_host, opening_of, start_of, standings_of};
+ghost use Rattle.session_core.specs.Headline.{Headline, HeadlineOn};
+ghost use Rattle.session_core.specs.Report.{HasAttempts, IsCoreReport, IsReportOf};
 ghost use Rattle.session_core.specs.code.Ends.{IsNewScheduler, session_on, EndsIn, KeepsTheOrder, IsBehind, EndFits};
 
 use crate::report::SessionReport;
 use barrier_reassign::Scheduler;
-use blk_base::NoMemory;
+use blk_base::{Image, NoMemory};
 use call_images::{
-    Remounted, cut_sessions_have_the_tree_of_a_prefix, cut_sessions_keep_files, cut_sessions_mount,
-    cut_sessions_show_files, cut_sessions_tell_how_many, remount,
+    Remounted, attempts_on_model_devices, cut_sessions_have_the_tree_of_a_prefix,
+    cut_sessions_keep_files, cut_sessions_mount, cut_sessions_show_files,
+    cut_sessions_tell_how_many, remount,
 };
 use device_epochs::{DeviceSetup, EpochDevice};
 use epoch_sched::Sched;
@@ -32,6 +33,7 @@ use session_run::{
     Host, SessionEnd, calls_of_scripts_write_bytes, run_session, sessions_of_calls_on_made_images,
     sessions_on_made_images_can_be_run,
 };
+use stack_core::{EpochMaker, Maker};
 use std::alloc::Global;
 
 // How each of so many threads stands.
@@ -48,97 +50,104 @@ fn standings(alloc: Global, host: &Host, threads: u32) -> Result<Vec<Standing>, 
     Ok(standings)
 }
 
-// The host and the device that a script opens.
-fn open_parts(alloc: Global, script: &SessionScript) -> Result<(Host, EpochDevice), NoMemory>
+// The image of the volume that a script makes, and the host that it opens.
+fn open_script(alloc: Global, script: &SessionScript) -> Result<OpenedSession, NoMemory>
     requires { IsWellFormed script.now }
-    ensures host { IfOk result (λ p. p.0 ≡ opened_now (geometry_of script.now) script.now.journal script.now.header.limit script.now.programs) }
-    ensures device { IfOk result (λ p. p.1 ≡ device_for script.now) }
+    ensures image { IfOk result (λ o. o.image ≡ made_image (geometry_of script.now) script.now.journal) }
+    ensures host { IfOk result (λ o. o.host ≡ opened_host script.now) }
 {
-    let header = &script.header;
-    let OpenedSession { image, host } = open_session(
+    open_session(
         alloc,
         script.inodes,
         script.zones,
         script.journal,
-        header.limit,
+        script.header.limit,
         &script.programs,
-    )?;
-    let setup = DeviceSetup {
-        depth: header.depth,
-        limit: header.limit,
-        fail_at: None,
-        bad_read: None,
-        cut_at: header.cut,
-    };
-    Ok((host, EpochDevice::make(alloc, image, setup)?))
+    )
 }
 
-// The host and the device that a script opens, and what lets a session run on them and this new scheduler.
-fn open_for<S: Scheduler>(
-    alloc: Global,
-    script: &SessionScript,
-    sched: &S,
-) -> Result<(Host, EpochDevice), NoMemory>
+// What lets a session run on this host, this new scheduler and this new device. It does nothing.
+fn check_parts<S: Scheduler, D: OrderedDev>(script: &SessionScript, host: &Host, sched: &S, dev: &D)
     requires script { IsWellFormed script.now }
+    requires host { host.now ≡ opened_host script.now }
     requires scheduler { IsNewScheduler script.now.header.limit (S.steps.seen (S.state sched.now)) }
-    ensures made { IfOk result (λ p. IsMadeFor S.Scheduler epoch_device (opening_of script.now) (start_of script.now) p.0 script.now.header.queue (length script.now.programs) (S.state sched.now) p.1) }
-    ensures device { IfOk result (λ p. p.1 ≡ device_for script.now) }
+    requires device { IsNewFor script.now (D.seen (D.state dev.now)) }
+    ensures { IsMadeFor S.Scheduler D.OrderedDev (opening_of script.now) (start_of script.now) host.now script.now.header.queue (length script.now.programs) (S.state sched.now) (D.state dev.now) }
 {
     // These calls tell what holds of sizes, calls, and a new scheduler and device.
     let _ = Geometry::make(script.inodes, script.zones);
     calls_of_scripts_write_bytes();
-    sessions_on_made_images_can_be_run::<S, EpochDevice>();
+    sessions_on_made_images_can_be_run::<S, D>();
     let _ = sched.can_accept();
-    let (host, dev) = open_parts(alloc, script)?;
     let _ = dev.blocks();
-    Ok((host, dev))
 }
 
-// The session of a script on this scheduler.
-fn run_on<S: Scheduler + Drop>(
+// The session of a script on this host, this scheduler and this device.
+fn run_scheduled<S: Scheduler + Drop, D: OrderedDev + Drop>(
     alloc: Global,
     script: &SessionScript,
+    host: Host,
     sched: S,
+    dev: D,
 ) -> Result<SessionEnd, NoMemory>
     requires script { IsWellFormed script.now }
+    requires host { host ≡ opened_host script.now }
     requires scheduler { IsNewScheduler script.now.header.limit (S.steps.seen (S.state sched)) }
-    ensures end { IfOk result (EndsIn (ended S.steps (session_on script.now S.steps (S.state sched)))) }
-    ensures order { IfOk result (KeepsTheOrder script.now (ended S.steps (session_on script.now S.steps (S.state sched)))) }
-    ensures behind { IfOk result (λ _. IsBehind script.now (ended S.steps (session_on script.now S.steps (S.state sched)))) }
-    ensures fits { IfOk result (λ _. EndFits (ended S.steps (session_on script.now S.steps (S.state sched)))) }
+    requires device { IsNewFor script.now (D.seen (D.state dev)) }
+    ensures end { IfOk result (EndsIn (ended S.steps (machine_of D.OrderedDev) (session_on script.now S.steps (machine_of D.OrderedDev) (S.state sched) (D.state dev)))) }
+    ensures order { IfOk result (KeepsTheOrder script.now (ended S.steps (machine_of D.OrderedDev) (session_on script.now S.steps (machine_of D.OrderedDev) (S.state sched) (D.state dev)))) }
+    ensures behind { IfOk result (λ _. IsBehind script.now (ended S.steps (machine_of D.OrderedDev) (session_on script.now S.steps (machine_of D.OrderedDev) (S.state sched) (D.state dev)))) }
+    ensures fits { IfOk result (λ _. EndFits (ended S.steps (machine_of D.OrderedDev) (session_on script.now S.steps (machine_of D.OrderedDev) (S.state sched) (D.state dev)))) }
     ensures calls { IfOk result (λ r. r.host.programs ≡ script.now.programs) }
 {
-    let (host, dev) = open_for(alloc, script, &sched)?;
+    check_parts(script, &host, &sched, &dev);
     // These calls tell what sessions keep.
-    hosts_of_sessions_take_their_steps::<S, EpochDevice>();
-    parts_of_sessions_fit::<S, EpochDevice>();
+    hosts_of_sessions_take_their_steps::<S, D>();
+    parts_of_sessions_fit::<S, D>();
     let threads = script.programs.len() as u32;
     let lines = script.events.as_slice();
     run_session(alloc, host, script.header.queue, sched, dev, threads, lines)
 }
 
-// The session of a script, on the scheduler that it names.
-fn run(alloc: Global, script: &SessionScript) -> Result<SessionEnd, NoMemory>
-    requires { IsWellFormed script.now }
-    ensures end { IfOk result (EndsIn (core script.now)) }
-    ensures order { IfOk result (KeepsTheOrder script.now (core script.now)) }
-    ensures behind { IfOk result (λ _. IsBehind script.now (core script.now)) }
-    ensures fits { IfOk result (λ _. EndFits (core script.now)) }
+// The session of a script on this host and this device, on the scheduler that the script names.
+fn run<D: OrderedDev + Drop>(
+    alloc: Global,
+    script: &SessionScript,
+    host: Host,
+    dev: D,
+) -> Result<SessionEnd, NoMemory>
+    requires script { IsWellFormed script.now }
+    requires host { host ≡ opened_host script.now }
+    requires device { IsNewFor script.now (D.seen (D.state dev)) }
+    ensures end { IfOk result (EndsIn (core_on (machine_of D.OrderedDev) script.now (D.state dev))) }
+    ensures order { IfOk result (KeepsTheOrder script.now (core_on (machine_of D.OrderedDev) script.now (D.state dev))) }
+    ensures behind { IfOk result (λ _. IsBehind script.now (core_on (machine_of D.OrderedDev) script.now (D.state dev))) }
+    ensures fits { IfOk result (λ _. EndFits (core_on (machine_of D.OrderedDev) script.now (D.state dev))) }
     ensures calls { IfOk result (λ r. r.host.programs ≡ script.now.programs) }
 {
     let limit = script.header.limit;
     if script.header.elevator {
-        run_on(alloc, script, Elevator::make(alloc, limit)?)
+        run_scheduled(alloc, script, host, Elevator::make(alloc, limit)?, dev)
     } else {
-        run_on(alloc, script, Sched::make(alloc, limit)?)
+        run_scheduled(alloc, script, host, Sched::make(alloc, limit)?, dev)
     }
 }
 
-/// Runs a volume script, cuts the power, makes the attempts of recovery that the script asks for, and mounts what is left.
-pub fn core_run(alloc: Global, script: &SessionScript) -> Result<SessionReport, NoMemory>
-    requires { IsWellFormed script.now }
-    ensures core { IfOk result (IsReportOf script.now (core script.now)) }
-    ensures headline { IfOk result (Headline script.now) }
+// A script on this host and this device: the session, the power cut, the attempts and the mount.
+fn run_opened<M: Maker>(
+    alloc: Global,
+    script: &SessionScript,
+    host: Host,
+    dev: M::Dev,
+    maker: &mut M,
+) -> Result<SessionReport, NoMemory>
+    requires script { IsWellFormed script.now }
+    requires host { host ≡ opened_host script.now }
+    requires device { IsNewFor script.now (M.Dev.OrderedDev.seen (M.Dev.OrderedDev.state dev)) }
+    ensures setup { M.setup maker.new ≡ M.setup maker.old }
+    ensures report { IfOk result (IsReportOf script.now (core_on (machine_of M.Dev.OrderedDev) script.now (M.Dev.OrderedDev.state dev))) }
+    ensures attempts { IfOk result (HasAttempts (machine_of M.Dev.OrderedDev) (λ i. M.Dev.OrderedDev.state (M.fresh_dev (M.setup maker.old) i)) script.now) }
+    ensures headline { IfOk result (HeadlineOn script.now (core_on (machine_of M.Dev.OrderedDev) script.now (M.Dev.OrderedDev.state dev))) }
 {
     // These calls tell what sessions keep, and what a power cut leaves of them.
     let _ = Geometry::make(script.inodes, script.zones);
@@ -152,7 +161,7 @@ pub fn core_run(alloc: Global, script: &SessionScript) -> Result<SessionReport, 
     answered_calls_keep_their_promises();
     calls_end_for_a_cause();
     histories_follow_the_tree();
-    let SessionEnd { host, sched, cut } = run(alloc, script)?;
+    let SessionEnd { host, sched, cut } = run(alloc, script, host, dev)?;
     let standings = standings(alloc, &host, script.programs.len() as u32)?;
     let image = cut.image.copy(alloc)?;
     let recovers = script.recovers.as_slice();
@@ -160,14 +169,7 @@ pub fn core_run(alloc: Global, script: &SessionScript) -> Result<SessionReport, 
         attempts,
         volume,
         found,
-    } = remount(
-        alloc,
-        script.header.depth,
-        script.zones.into(),
-        1,
-        image,
-        recovers,
-    )?;
+    } = remount(alloc, maker, script.zones.into(), 1, image, recovers)?;
     Ok(SessionReport {
         host,
         sched,
@@ -177,4 +179,63 @@ pub fn core_run(alloc: Global, script: &SessionScript) -> Result<SessionReport, 
         found,
         standings,
     })
+}
+
+/// Runs a volume script on this device, cuts its power, makes the attempts of recovery that the script asks for, and mounts
+/// what is left, each on a fresh device of this maker.
+pub fn run_on<M: Maker>(
+    alloc: Global,
+    script: &SessionScript,
+    dev: M::Dev,
+    maker: &mut M,
+) -> Result<SessionReport, NoMemory>
+    requires script { IsWellFormed script.now }
+    requires device { IsNewFor script.now (M.Dev.OrderedDev.seen (M.Dev.OrderedDev.state dev)) }
+    ensures setup { M.setup maker.new ≡ M.setup maker.old }
+    ensures report { IfOk result (IsReportOf script.now (core_on (machine_of M.Dev.OrderedDev) script.now (M.Dev.OrderedDev.state dev))) }
+    ensures attempts { IfOk result (HasAttempts (machine_of M.Dev.OrderedDev) (λ i. M.Dev.OrderedDev.state (M.fresh_dev (M.setup maker.old) i)) script.now) }
+    ensures headline { IfOk result (HeadlineOn script.now (core_on (machine_of M.Dev.OrderedDev) script.now (M.Dev.OrderedDev.state dev))) }
+{
+    let OpenedSession { host, .. } = open_script(alloc, script)?;
+    run_opened(alloc, script, host, dev, maker)
+}
+
+// The model device that a script says, over the image of its volume.
+fn model_device(
+    alloc: Global,
+    script: &SessionScript,
+    image: Image,
+) -> Result<EpochDevice, NoMemory>
+    requires script { IsWellFormed script.now }
+    requires image { image ≡ made_image (geometry_of script.now) script.now.journal }
+    ensures { IfOk result (λ d. d ≡ device_for script.now) }
+{
+    let header = &script.header;
+    let setup = DeviceSetup {
+        depth: header.depth,
+        limit: header.limit,
+        fail_at: None,
+        bad_read: None,
+        cut_at: header.cut,
+    };
+    EpochDevice::make(alloc, image, setup)
+}
+
+/// Runs a volume script on the model device that it says, and recovers on model devices of the same depth.
+pub fn core_run(alloc: Global, script: &SessionScript) -> Result<SessionReport, NoMemory>
+    requires { IsWellFormed script.now }
+    ensures core { IfOk result (IsCoreReport script.now) }
+    ensures headline { IfOk result (Headline script.now) }
+{
+    let OpenedSession { image, host } = open_script(alloc, script)?;
+    let dev = model_device(alloc, script, image)?;
+    // This call tells what attempts on model devices are.
+    attempts_on_model_devices();
+    run_opened(
+        alloc,
+        script,
+        host,
+        dev,
+        &mut EpochMaker::make(script.header.depth),
+    )
 }

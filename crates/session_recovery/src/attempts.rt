@@ -1,16 +1,17 @@
 //! Attempts of recovery that are cut.
-ghost use Rattle.std.specs.Prelude.{◌≡◌, ◌<◌, ◌≤◌, length, None, Some, IfOk};
+ghost use Rattle.std.specs.Prelude.{◌≡◌, ◌<◌, length, None, IfOk};
+ghost use Rattle.order_model.specs.Machine.{machine_of};
 ghost use Rattle.journal_blocks.specs.Log.{body_at};
 ghost use Rattle.journal_replay.specs.Recovered.{recovered, journal_fault};
-ghost use Rattle.session_recovery.specs.Attempts.{device_over, told_of, choices_of, attempted, attempts_of, image_after};
+ghost use Rattle.session_recovery.specs.Attempts.{told_of, choices_of, IsAttempt, AreAttempts};
 ghost use Rattle.session_recovery.specs.code.Left.{IsLeft};
 
 use crate::steering::choices_of;
 use blk_base::{Image, NoMemory};
-use device_epochs::{DeviceSetup, EpochDevice};
 use event_grammar::SteerLine;
 use journal_replay::{RecoverFault, recover};
 use order_model::{CutDisk, OrderedDev, Origins};
+use stack_core::Maker;
 use std::alloc::Global;
 
 /// What is told of an attempt.
@@ -22,20 +23,19 @@ pub struct Attempt {
     pub origins: Origins,
 }
 
-/// Makes an attempt of recovery for each line, in order: the first over the image, each other over what the one before
-/// left. Answers what is told of each, and what the last one left.
-pub fn recover_lines(
+/// Makes an attempt of recovery for each line, in order, each on a fresh device: the first over the image, each other over
+/// what the one before left. Answers what is told of each, and what the last one left.
+pub fn recover_lines<M: Maker>(
     alloc: Global,
-    depth: u32,
+    maker: &mut M,
     base: u32,
     image: Image,
     lines: &[SteerLine],
 ) -> Result<(Vec<Attempt>, Image), NoMemory>
-    requires depth { (1 ≤ depth) × (depth ≤ 64) }
     requires within { base < length image }
     requires fine { journal_fault base image ≡ None }
-    ensures attempts { IfOk result (λ r. r.0.items ≡ attempts_of depth base image lines.now) }
-    ensures image { IfOk result (λ r. r.1 ≡ image_after depth base image lines.now) }
+    ensures setup { M.setup maker.new ≡ M.setup maker.old }
+    ensures attempts { IfOk result (λ r. AreAttempts (machine_of M.Dev.OrderedDev) (λ i. M.Dev.OrderedDev.state (M.fresh_dev (M.setup maker.old) i)) base image lines.now r.0.items r.1) }
     ensures recovered { IfOk result (λ r. recovered base r.1 ≡ recovered base image) }
     ensures fine { IfOk result (λ r. journal_fault base r.1 ≡ None) }
     ensures left { IfOk result (λ r. IsLeft base image r.1) }
@@ -43,7 +43,7 @@ pub fn recover_lines(
     let mut attempts = Vec::new(alloc);
     let mut left = image;
     for line in lines {
-        let (attempt, image) = recover_line(alloc, depth, base, left, line)?;
+        let (attempt, image) = recover_line(alloc, maker, base, left, line)?;
         left = image;
         if attempts.push(attempt).is_err() {
             return Err(NoMemory);
@@ -53,23 +53,24 @@ pub fn recover_lines(
 }
 
 // One attempt, and what it leaves.
-fn recover_line(
+fn recover_line<M: Maker>(
     alloc: Global,
-    depth: u32,
+    maker: &mut M,
     base: u32,
     image: Image,
     line: &SteerLine,
 ) -> Result<(Attempt, Image), NoMemory>
-    requires depth { (1 ≤ depth) × (depth ≤ 64) }
     requires within { base < length image }
     requires fine { journal_fault base image ≡ None }
-    ensures attempt { IfOk result (λ r. r.0 ≡ told_of (attempted depth base image (choices_of line.now))) }
-    ensures image { IfOk result (λ r. r.1 ≡ (attempted depth base image (choices_of line.now)).surface) }
+    ensures setup { M.setup maker.new ≡ M.setup maker.old }
+    ensures attempt { IfOk result (λ r. (last : M.Dev.OrderedDev.State)
+        × IsAttempt (machine_of M.Dev.OrderedDev) base image (choices_of line.now) (M.Dev.OrderedDev.state (M.fresh_dev (M.setup maker.old) image)) last
+        × (r.0 ≡ told_of (M.Dev.OrderedDev.seen last)) × (r.1 ≡ (M.Dev.OrderedDev.seen last).surface)) }
     ensures left { IfOk result (λ r. IsLeft base image r.1) }
 {
     let choices = choices_of(alloc, line)?;
     check_size(&image, base);
-    let mut device = device_over(alloc, depth, image)?;
+    let mut device = maker.fresh(alloc, image)?;
     match recover(alloc, &mut device, base, &choices, true) {
         Ok(_) => {}
         Err(RecoverFault::NoMemory) => return Err(NoMemory),
@@ -89,21 +90,6 @@ fn recover_line(
         },
         image,
     ))
-}
-
-/// A device of this depth over an image, on which nothing fails, with room for a recovery.
-pub(crate) fn device_over(alloc: Global, depth: u32, image: Image) -> Result<EpochDevice, NoMemory>
-    requires { (1 ≤ depth) × (depth ≤ 64) }
-    ensures { IfOk result (λ d. d ≡ device_over depth image) }
-{
-    let setup = DeviceSetup {
-        depth,
-        limit: u64::from(image.len()) + 2,
-        fail_at: None,
-        bad_read: None,
-        cut_at: None,
-    };
-    EpochDevice::make(alloc, image, setup)
 }
 
 // Each block has 1,024 bytes, as its type says.

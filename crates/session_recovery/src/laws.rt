@@ -1,10 +1,16 @@
-//! What was found after a power cut is what the session kept.
-ghost use Rattle.std.specs.Prelude.{◌≡◌, List};
+//! What was found after a power cut is what the session kept, and attempts on model devices are those that the function
+//! says.
+ghost use Rattle.std.specs.Prelude.{◌≡◌, ℕ, List};
+ghost use Rattle.stack_core.specs.Core.{epoch_machine};
+ghost use Rattle.stack_core.specs.Fresh.{device_over};
+ghost use Rattle.event_grammar.specs.declared.steer.Steer.{Steer};
 ghost use Rattle.crash_laws.specs.Session.{Medium};
 ghost use Rattle.host_runs.specs.Runs.{Event};
 ghost use Rattle.mount_make.specs.Made.{new_journal};
 ghost use Rattle.session_images.specs.SessionImages.{Start, HasSizes, IsCutOf, kept_transactions};
 ghost use Rattle.session_recovery.specs.Found.{found_in};
+ghost use Rattle.session_recovery.specs.declared.attempts.Attempt.{Attempt};
+ghost use Rattle.session_recovery.specs.Attempts.{AreAttempts, attempts_of, image_after};
 
 use mount_make::made_images_are_plain;
 use session_images::new_volumes_are_in_use;
@@ -19,3 +25,11 @@ pub fn found_is_what_was_kept()
     made_images_are_plain();
     new_volumes_are_in_use();
 }
+
+/// A law, which does nothing when it is called: attempts on model devices of one depth tell, and leave, what the function
+/// says.
+pub fn attempts_on_model_devices()
+    ensures { (depth base : ℕ) (image : List (List ℕ)) (lines : List (List Steer)) (attempts : List Attempt) (left : List (List ℕ)) →
+        AreAttempts epoch_machine (device_over depth) base image lines attempts left →
+        (attempts ≡ attempts_of depth base image lines) × (left ≡ image_after depth base image lines) }
+{}

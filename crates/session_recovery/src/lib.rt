@@ -1,12 +1,12 @@
 //! Recovery of what a power cut left of a session: attempts that are cut, each over what the one before left, and then a
 //! recovery to its end and the mount.
 //!
-//! `specs/Attempts` says what an attempt leaves, as a function of the image and of the words that steer it, and
+//! `specs/Attempts` says what an attempt leaves, as a relation on any device and as a function on model devices, and
 //! `specs/Found` how many transactions of the session the recovered volume has; `laws` that these are the ones that the
-//! session kept.
+//! session kept, and that relation and function are one on model devices.
 //!
-//! Stands on `journal_replay` and `device_epochs` for an attempt, on `event_grammar` for the words, on `mount_make` for the
-//! mount, and for its law on `session_images`, whose laws and names it passes on.
+//! Stands on `journal_replay` for an attempt, on `stack_core` for what makes its devices, on `event_grammar` for the words,
+//! on `mount_make` for the mount, and for its law on `session_images`, whose laws and names it passes on.
 #![tactic(auto)]
 
 mod attempts;
@@ -15,7 +15,7 @@ mod remounting;
 mod steering;
 
 pub use attempts::{Attempt, recover_lines};
-pub use laws::found_is_what_was_kept;
+pub use laws::{attempts_on_model_devices, found_is_what_was_kept};
 pub use remounting::{Remounted, remount};
 pub use session_images::{
     sessions_leave_no_fault, sessions_mount_to_a_prefix, sessions_recover_their_files,

@@ -6,14 +6,16 @@ ghost use Rattle.journal_blocks.specs.Super.{super_of, IsSound};
 ghost use Rattle.journal_replay.specs.Recovered.{journal_fault};
 ghost use Rattle.volume_ops.specs.Volume.{VolumeState};
 ghost use Rattle.mount_make.specs.Images.{mounted, divided, has_journal, journal_at, recovered_image};
-ghost use Rattle.session_recovery.specs.Attempts.{attempts_of, image_after};
+ghost use Rattle.order_model.specs.Machine.{machine_of};
+ghost use Rattle.session_recovery.specs.Attempts.{IsMountedBehind};
 ghost use Rattle.session_recovery.specs.Found.{words_from, found_in};
 
-use crate::attempts::{Attempt, device_over, recover_lines};
+use crate::attempts::{Attempt, recover_lines};
 use blk_base::{Image, NoMemory};
 use event_grammar::SteerLine;
 use journal_blocks::{JournalSuper, read_super};
 use mount_make::{MountFault, Mounted, mount};
+use stack_core::Maker;
 use std::alloc::Global;
 use volume_ops::Volume;
 
@@ -26,28 +28,27 @@ pub struct Remounted {
     pub found: u32,
 }
 
-/// Makes the attempts of these lines, and then recovers to the end and mounts, on a device of its own. The journal begins
+/// Makes the attempts of these lines, and then recovers to the end and mounts, each on a fresh device. The journal begins
 /// at block `base`, and `first_sequence` is the sequence of the first transaction of the session.
-pub fn remount(
+pub fn remount<M: Maker>(
     alloc: Global,
-    depth: u32,
+    maker: &mut M,
     base: u32,
     first_sequence: u32,
     image: Image,
     lines: &[SteerLine],
 ) -> Result<Remounted, NoMemory>
-    requires depth { (1 ≤ depth) × (depth ≤ 64) }
     requires mounts { (v : VolumeState) × (mounted image ≡ Ok v) }
     requires base { IfOk (divided image) (λ g. g.zones ≡ base) }
     requires journal { has_journal base image ≡ true }
-    ensures attempts { IfOk result (λ r. r.attempts.items ≡ attempts_of depth base image lines.now) }
+    ensures setup { M.setup maker.new ≡ M.setup maker.old }
+    ensures attempts { IfOk result (λ r. IsMountedBehind (machine_of M.Dev.OrderedDev) (λ i. M.Dev.OrderedDev.state (M.fresh_dev (M.setup maker.old) i)) base image lines.now r.attempts.items r.volume) }
     ensures volume { IfOk result (λ r. mounted image ≡ Ok r.volume) }
-    ensures left { IfOk result (λ r. mounted (image_after depth base image lines.now) ≡ Ok r.volume) }
     ensures found { IfOk result (λ r. r.found ≡ found_in base first_sequence image) }
 {
     let journal = journal_of(&image, base);
-    let (attempts, left) = recover_lines(alloc, depth, base, image, lines)?;
-    let Mounted { volume, log, .. } = mount_image(alloc, depth, left)?;
+    let (attempts, left) = recover_lines(alloc, maker, base, image, lines)?;
+    let Mounted { volume, log, .. } = mount_image(alloc, maker, left)?;
     Ok(Remounted {
         attempts,
         volume,
@@ -69,14 +70,14 @@ fn journal_of(image: &Image, base: u32) -> JournalSuper
     }
 }
 
-// Mounts an image without a fault on a device of its own.
-fn mount_image(alloc: Global, depth: u32, image: Image) -> Result<Mounted, NoMemory>
-    requires depth { (1 ≤ depth) × (depth ≤ 64) }
+// Mounts an image without a fault on a fresh device.
+fn mount_image<M: Maker>(alloc: Global, maker: &mut M, image: Image) -> Result<Mounted, NoMemory>
     requires mounts { (v : VolumeState) × (mounted image ≡ Ok v) }
+    ensures setup { M.setup maker.new ≡ M.setup maker.old }
     ensures volume { IfOk result (λ m. mounted image ≡ Ok m.volume) }
     ensures log { IfOk result (λ m. m.log ≡ journal_at m.volume.geometry.zones (recovered_image image)) }
 {
-    let mut device = device_over(alloc, depth, image)?;
+    let mut device = maker.fresh(alloc, image)?;
     match mount(alloc, &mut device) {
         Ok(mounted) => Ok(mounted),
         Err(MountFault::NoMemory) => Err(NoMemory),

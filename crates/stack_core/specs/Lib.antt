@@ -6,3 +6,4 @@ pub mod BlockLayer
 pub mod code
 pub mod Dispatching
 pub mod Handing
+pub mod Fresh

@@ -3,17 +3,19 @@
 //!
 //! Stands on `script_grammar`, `epoch_sched` and `device_epochs`. The call that matters is `core_run`: its
 //! report is that of the core run (`specs/Core.antt`), and it keeps the order that the host asked for
-//! (`specs/Headline.antt`).
+//! (`specs/Headline.antt`). `maker` has what makes the devices that a recovery runs on.
 #![tactic(auto)]
 
 mod direct_path;
 mod dispatch_queue;
+mod maker;
 mod report;
 mod request_path;
 mod running;
 mod scheduler_queues;
 
 pub use dispatch_queue::DispatchQueue;
+pub use maker::{EpochMaker, Maker};
 pub use report::Report;
 pub use running::{core_run, run_on};
 pub use scheduler_queues::accept_from;

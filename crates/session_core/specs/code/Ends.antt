@@ -1,18 +1,17 @@
--- How a session's run on one scheduler ends, for the code that runs it.
+-- How a session's run on one scheduler and one device ends, for the code that runs it.
 use Rattle.std.specs.Prelude.{◌≡◌, ℕ, ◌++◌, List, []}
 use Rattle.order_model.specs.Carrying.{SchedSeen, IsPrefixOf}
 use Rattle.order_model.specs.Device.{origin_ids}
+use Rattle.order_model.specs.Machine.{Machine}
 use Rattle.order_model.specs.Steps.{IsTraceOf}
 use Rattle.barrier_reassign.specs.Scheduler.{SchedSteps, IsSchedRecord}
-use Rattle.device_epochs.specs.Device.{DeviceState, seen}
 use Rattle.host_runs.specs.Runs.{Event}
-use Rattle.stack_core.specs.Core.{epoch_machine}
 use Rattle.stack_core.specs.Headline.{KeepsOrder}
 use Rattle.session_grammar.specs.declared.session_script.SessionScript.{SessionScript}
 use Rattle.session_machine.specs.Machine.{SessionState, core_session}
 use Rattle.call_images.specs.CallImages.{made_session}
 use Rattle.session_run.specs.declared.session.SessionEnd.{SessionEnd}
-use Rattle.session_core.specs.Core.{EndState, geometry_of, opening_of, start_of, device_for}
+use Rattle.session_core.specs.Core.{EndState, geometry_of, opening_of, start_of}
 
 -- it accepted and sent out nothing, and may accept so many requests
 pub record IsNewScheduler (limit : ℕ) (p : SchedSeen) : Type 0 where
@@ -20,26 +19,26 @@ pub record IsNewScheduler (limit : ℕ) (p : SchedSeen) : Type 0 where
   pub sent_out : p.sent_out ≡ []
   pub requests : p.limit ≡ limit
 
--- where the script's session ends on such a scheduler
-abbrev pub session_on : {K : Type 0} → SessionScript → SchedSteps K → K → SessionState K DeviceState
-session_on s k sched = core_session (opening_of s) k epoch_machine (start_of s) sched (device_for s) s.events
+-- where the script's session ends on this scheduler and this device
+abbrev pub session_on : {K S : Type 0} → SessionScript → SchedSteps K → Machine S → K → S → SessionState K S
+session_on s k m sched dev = core_session (opening_of s) k m (start_of s) sched dev s.events
 
 pub record EndsIn (end : EndState) (r : SessionEnd) : Type 0 where
   pub host : r.host.host ≡ end.host
   pub sched : IsSchedRecord end.sched r.sched
-  pub image : r.cut.image ≡ (seen end.dev).surface
-  pub origins : r.cut.origins ≡ origin_ids (seen end.dev).took (seen end.dev).origins
-  pub trace : IsTraceOf (seen end.dev) r.cut.trace
+  pub image : r.cut.image ≡ end.dev.surface
+  pub origins : r.cut.origins ≡ origin_ids end.dev.took end.dev.origins
+  pub trace : IsTraceOf end.dev r.cut.trace
 
 abbrev pub KeepsTheOrder : SessionScript → EndState → SessionEnd → Type 0
-KeepsTheOrder s end r = KeepsOrder (opening_of s).image end.host.journal.flush.requests r.cut.image r.cut.origins (r.cut.trace.sent.items ++ (seen end.dev).waiting)
+KeepsTheOrder s end r = KeepsOrder (opening_of s).image end.host.journal.flush.requests r.cut.image r.cut.origins (r.cut.trace.sent.items ++ end.dev.waiting)
 
 -- How its parts fit: what was accepted are the first requests that its host submitted, what the device took are the first commands
 -- that were sent out, and the completions that the host took are the first that the device sent.
 pub record EndFits (end : EndState) : Type 0 where
   pub accepted : IsPrefixOf end.sched.accepted end.host.journal.flush.requests
-  pub received : IsPrefixOf (seen end.dev).took end.sched.sent_out
-  pub taken : IsPrefixOf end.host.journal.flush.taken (seen end.dev).sent
+  pub received : IsPrefixOf end.dev.took end.sched.sent_out
+  pub taken : IsPrefixOf end.host.journal.flush.taken end.dev.sent
 
 -- its host took these steps
 pub record IsBehind (s : SessionScript) (end : EndState) : Type 0 where

@@ -1,83 +1,20 @@
-use Rattle.std.proofs.Common.{refl, sym, ap, subst, ◌∙◌, arith}
-use Rattle.tx_running.specs.Open.{quota}
-use Rattle.mount_make.specs.Made.{new_journal}
-use Rattle.session_run.specs.Beginning.{made_now, made_ring}
-use Rattle.session_core.specs.Core.{geometry_of, opening_of, core}
-use Rattle.call_images.specs.CallImages.{kept_count}
-use Rattle.session_core.proofs.Made.{script_writes_bytes, sound_of}
-use Rattle.session_core.proofs.Cut.{cut_medium, cut_is, mounts_copy, base_of, journal_of, prefix_is, found_count, kept_of, recovered_of, shown_of}
-use Rattle.session_core.proofs.Headlines.{HostFacts, headline_of, script_has_no_renames}
+use Rattle.std.proofs.Common.{ℕ, IfOk, subst}
+use Rattle.stack_core.specs.Core.{epoch_machine}
+use Rattle.stack_core.specs.Fresh.{device_over}
+use Rattle.session_core.specs.Core.{geometry_of}
+use Rattle.session_core.specs.Report.{HasAttempts}
+use Rattle.session_core.proofs.Remounts.{FollowFunction, model_is_new, core_reports, core_headlines}
 use Rattle.session_core.proofs.running.core_run.Goals as goal
 
-pub remount-requires-clause-mounts : goal.remount-requires-clause-mounts
-remount-requires-clause-mounts c =
-    let s = c.args.script.now in
-    let is = c.requires in
-    let sound = sound_of c.make.result s.inodes s.zones c.make.ensures.sound c.make.ensures.made c.make.ensures.too_small is.sizes.some_data in
-    let r = c.in_ok-host.field-0 in
-    let b = c.in_ok-host.ensures.behind in
-    let m = cut_medium r in
-    let bytes = script_writes_bytes s is c.calls_of_scripts_write_bytes.ensures in
-    let cut = cut_is s is sound bytes (core s) r c.in_ok-host.ensures.order b in
-    mounts_copy m.image c.in_ok-image.image c.in_ok-image.ensures (c.cut_sessions_mount.ensures.mounts (geometry_of s) s.journal s.header.limit s.programs b.events m cut)
+pub run_opened-requires-clause-device : goal.run_opened-requires-clause-device
+run_opened-requires-clause-device c = model_is_new c.args.script.now c.in_ok-dev.dev c.in_ok-dev.ensures
 
-pub remount-requires-clause-base : goal.remount-requires-clause-base
-remount-requires-clause-base c =
+pub returns-clause-core : goal.returns-clause-core
+returns-clause-core c =
     let s = c.args.script.now in
-    let is = c.requires in
-    let sound = sound_of c.make.result s.inodes s.zones c.make.ensures.sound c.make.ensures.made c.make.ensures.too_small is.sizes.some_data in
-    let r = c.in_ok-host.field-0 in
-    let b = c.in_ok-host.ensures.behind in
-    let m = cut_medium r in
-    let bytes = script_writes_bytes s is c.calls_of_scripts_write_bytes.ensures in
-    let cut = cut_is s is sound bytes (core s) r c.in_ok-host.ensures.order b in
-    base_of (geometry_of s) m.image c.in_ok-image.image c.into.result c.in_ok-image.ensures c.into.ensures (c.cut_sessions_mount.ensures.volume (geometry_of s) s.journal s.header.limit s.programs b.events m cut)
-
-pub remount-requires-clause-journal : goal.remount-requires-clause-journal
-remount-requires-clause-journal c =
-    let s = c.args.script.now in
-    let is = c.requires in
-    let sound = sound_of c.make.result s.inodes s.zones c.make.ensures.sound c.make.ensures.made c.make.ensures.too_small is.sizes.some_data in
-    let r = c.in_ok-host.field-0 in
-    let b = c.in_ok-host.ensures.behind in
-    let m = cut_medium r in
-    let bytes = script_writes_bytes s is c.calls_of_scripts_write_bytes.ensures in
-    let cut = cut_is s is sound bytes (core s) r c.in_ok-host.ensures.order b in
-    journal_of (geometry_of s) m.image c.in_ok-image.image c.into.result c.in_ok-image.ensures c.into.ensures (c.cut_sessions_mount.ensures.journal (geometry_of s) s.journal s.header.limit s.programs b.events m cut)
+    let law : FollowFunction s = λ r has. c.attempts_on_model_devices.ensures s.header.depth (geometry_of s).zones r.cut.image s.recovers r.attempts.items has.left has.made in
+    core_reports s c.run_opened.result c.in_ok-dev.dev c.in_ok-dev.ensures law c.run_opened.ensures.report
+    (subst (λ (depth : ℕ). IfOk c.run_opened.result (HasAttempts epoch_machine (device_over depth) s)) c.make.ensures c.run_opened.ensures.attempts)
 
 pub returns-clause-headline : goal.returns-clause-headline
-returns-clause-headline c =
-    let s = c.args.script.now in
-    let is = c.requires in
-    let sound = sound_of c.make.result s.inodes s.zones c.make.ensures.sound c.make.ensures.made c.make.ensures.too_small is.sizes.some_data in
-    let r = c.in_ok-host.field-0 in
-    let b = c.in_ok-host.ensures.behind in
-    let m = cut_medium r in
-    let bytes = script_writes_bytes s is c.calls_of_scripts_write_bytes.ensures in
-    let cut = cut_is s is sound bytes (core s) r c.in_ok-host.ensures.order b in
-    let g = geometry_of s in
-    let q = quota (new_journal s.journal) in
-    let least = is.sizes.least_journal in
-    let limit = is.header.limit in
-    let law = c.sessions_of_calls_on_made_images.ensures in
-    let volume = law.volume g s.journal q sound is.sizes.least_journal is.sizes.most_journal in
-    let journal = law.journal g s.journal q s.header.limit sound is.sizes.least_journal is.sizes.most_journal (omega (arith, limit)) in
-    let o = opening_of s in
-    let v = made_now g in
-    let ring = made_ring s.journal in
-    let ps = s.programs in
-    let n = s.header.limit in
-    let facts : HostFacts s (core s).host = subst (HostFacts s) (sym b.host) (record {
-      promises = c.answered_calls_keep_their_promises.ensures.promises o v ring n ps b.events journal.1 volume journal.0 bytes;
-      ok_causes = λ e t x ok kind. c.answered_calls_keep_their_promises.ensures.causes o v ring n ps b.events e t x journal.1 volume journal.0 bytes ok kind;
-      causes = c.calls_end_for_a_cause.ensures.causes o v ring n ps b.events;
-      follows = c.histories_follow_the_tree.ensures.follows o v ring n ps b.events journal.1 volume journal.0 bytes;
-      legal = c.histories_follow_the_tree.ensures.legal o v ring n ps b.events journal.1 volume journal.0 bytes (script_has_no_renames s is);
-    }) in
-    let count = found_count s c.in_ok-attempts.field-0.found m c.in_ok-image.image c.into.result b.events (core s).host b.host c.in_ok-image.ensures c.into.ensures c.in_ok-attempts.ensures.found
-    (c.cut_sessions_tell_how_many.ensures g s.journal n ps b.events m cut) in
-    headline_of s _ facts c.in_ok-host.ensures.order c.in_ok-host.ensures.fits c.in_ok-host.ensures.end.trace.sent count
-    (kept_of s m b.events (core s).host b.host (c.cut_sessions_have_the_tree_of_a_prefix.ensures.transactions g s.journal n ps b.events m cut))
-    (prefix_is s _ m _ b.host refl (count ∙ ap (λ h. kept_count g s.journal h m) b.host) (c.cut_sessions_have_the_tree_of_a_prefix.ensures.tree g s.journal n ps b.events m cut))
-    (recovered_of s m b.events (core s).host b.host (λ closed. c.cut_sessions_keep_files.ensures.recovered g s.journal n ps b.events m closed cut))
-    (shown_of s m b.events (core s).host c.in_ok-attempts.field-0.found b.host count (λ closed tree kept is alike. c.cut_sessions_show_files.ensures g s.journal n ps b.events m closed tree cut kept is alike))
+returns-clause-headline c = core_headlines c.args.script.now c.run_opened.result c.in_ok-dev.dev c.in_ok-dev.ensures c.run_opened.ensures.headline

@@ -1,12 +1,13 @@
-use Rattle.std.proofs.Common.{◌≡◌, ◌++◌, drop}
-use Rattle.session_recovery.specs.Attempts.{attempts_of, image_after}
+use Rattle.std.proofs.Common.{◌≡◌, drop}
+use Rattle.order_model.specs.Machine.{machine_of}
 use Rattle.session_recovery.specs.code.Left.{IsLeft}
+use Rattle.session_recovery.proofs.Attempted.{GoOn}
 use Rattle.session_recovery.proofs.attempts.recover_lines.Given as goal
 
--- what is still to be done from here ends where all of it does
+-- with those that are still to be made they are attempts from the first image
 abbrev pub invariant-loop-line : goal.invariant-loop-line
-invariant-loop-line l = record {
+invariant-loop-line g l = record {
+  setup : g.M.Maker.setup l.maker ≡ g.M.Maker.setup l.fn.maker;
   left : IsLeft l.base l.fn.image l.left;
-  attempts : l.attempts.items ++ attempts_of l.depth l.base l.left (drop l.line-index l.lines) ≡ attempts_of l.depth l.base l.fn.image l.lines;
-  image : image_after l.depth l.base l.left (drop l.line-index l.lines) ≡ image_after l.depth l.base l.fn.image l.lines;
+  attempts : GoOn (machine_of g.M.Dev.OrderedDev) (λ i. g.M.Dev.OrderedDev.state (g.M.Maker.fresh_dev (g.M.Maker.setup l.fn.maker) i)) l.base l.fn.image l.lines l.attempts.items l.left (drop l.line-index l.lines);
 }

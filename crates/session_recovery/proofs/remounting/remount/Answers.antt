@@ -1,26 +1,26 @@
 use Rattle.std.proofs.Common.{◌+◌, ℕ, length, sym, ap, ◌∙◌}
 use Rattle.journal_replay.specs.Recovered.{transactions_of}
-use Rattle.mount_make.specs.Images.{journal_at, mounted, recovered_image}
+use Rattle.mount_make.specs.Images.{journal_at, recovered_image}
 use Rattle.session_recovery.proofs.Mounted.{mountable, zones_are, mounted_still, log_after, reached_by, counted_as, volume_is}
 use Rattle.session_recovery.proofs.remounting.remount.Goals as goal
 
-pub mount_image-requires-clause-mounts : goal.mount_image-requires-clause-mounts
-mount_image-requires-clause-mounts c =
+pub mount_image-requires : goal.mount_image-requires
+mount_image-requires g c =
     let v = c.requires.mounts in
     let zones = zones_are c.args.image v.0.geometry c.args.base (mountable c.args.image v.0 v.1).is_divided c.requires.base in
-    (v.0, (mounted_still c.args.base c.args.image c.in_ok-attempts.left v.0 v.1 zones c.requires.journal c.in_ok-attempts.ensures.left).mounts)
+    record { mounts = (v.0, (mounted_still c.args.base c.args.image c.in_ok-attempts.left v.0 v.1 zones c.requires.journal c.in_ok-attempts.ensures.left).mounts) }
 
 pub returns-clause-volume : goal.returns-clause-volume
-returns-clause-volume c =
+returns-clause-volume g c =
     let v = c.requires.mounts in
     let zones = zones_are c.args.image v.0.geometry c.args.base (mountable c.args.image v.0 v.1).is_divided c.requires.base in
     v.1 ∙ (sym (mounted_still c.args.base c.args.image c.in_ok-attempts.left v.0 v.1 zones c.requires.journal c.in_ok-attempts.ensures.left).mounts ∙ c.in_ok-volume.ensures.volume)
 
-pub returns-clause-left : goal.returns-clause-left
-returns-clause-left c = ap mounted (sym c.in_ok-attempts.ensures.image) ∙ c.in_ok-volume.ensures.volume
+pub returns-clause-attempts : goal.returns-clause-attempts
+returns-clause-attempts g c = record { left = c.in_ok-attempts.left; made = c.in_ok-attempts.ensures.attempts; mounts = c.in_ok-volume.ensures.volume }
 
 pub returns-clause-found : goal.returns-clause-found
-returns-clause-found c =
+returns-clause-found g c =
     let base = c.args.base in
     let image = c.args.image in
     let left = c.in_ok-attempts.left in

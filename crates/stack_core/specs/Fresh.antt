@@ -1,0 +1,27 @@
+-- Fresh devices for a recovery.
+use Rattle.std.specs.Prelude.{◌≡◌, ℕ, ◌+◌, ◌≤◌, List, [], ◌∷◌, length, None}
+use Rattle.order_model.specs.Device.{Seen}
+use Rattle.device_epochs.specs.declared.device.DeviceSetup.{DeviceSetup}
+use Rattle.device_epochs.specs.Device.{DeviceState, opened}
+
+-- It was made over this image and took and sent nothing, and nothing failed on it. It may take so many ids as the image has
+-- blocks, and two more: a recovery writes each block once at most, then the journal's superblock, and flushes.
+pub record IsFresh (image : List (List ℕ)) (s : Seen) : Type 0 where
+  pub base : s.base ≡ image
+  pub surface : s.surface ≡ image
+  pub took : s.took ≡ []
+  pub sent : s.sent ≡ []
+  pub faults : s.faults ≡ 0
+  pub room : length image + 2 ≤ s.limit
+
+-- a model device of this depth over an image, with room for a recovery of it; nothing fails on it, and it stays on
+abbrev pub setup_over : ℕ → List (List ℕ) → DeviceSetup
+setup_over depth image = record { depth = depth; limit = length image + 2; fail_at = None; bad_read = None; cut_at = None }
+
+abbrev pub device_over : ℕ → List (List ℕ) → DeviceState
+device_over depth image = opened image (setup_over depth image)
+
+-- the same from a maker's setup, whose one number is the depth
+abbrev pub fresh_device : List ℕ → List (List ℕ) → DeviceState
+fresh_device [] image = device_over 1 image
+fresh_device (depth ∷ others) image = device_over depth image
