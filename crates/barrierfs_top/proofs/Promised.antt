@@ -73,8 +73,12 @@ module _ (old new : Option (List ℕ)) (report : Option RunReport) (text bytes :
         script = s;
         read = record { input = input; drained = drained; short = short; holds = is.spelled };
         figures = figures_of r;
+        steps = is.core_is.report.trace.steps;
+        requests = ap (λ x. length x.journal.flush.requests) is.core_is.report.host;
+        closed = ap (λ x. length x.cuts) is.core_is.report.host;
         history = is.printed.history;
         noted = noted_of s r is.printed.history is.core_is.report is.printed.noted;
+        placed = is.printed.placed;
         standings = r.standings.items;
         stand = stand_of s r is.core_is.report;
         tree = h.prefix.tree;

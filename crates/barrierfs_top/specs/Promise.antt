@@ -18,7 +18,7 @@ use Rattle.host_answers.specs.declared.standing.Standing.{Standing}
 use Rattle.session_grammar.specs.declared.session_script.SessionScript.{SessionScript}
 use Rattle.session_grammar.specs.Grammar.{session_of}
 use Rattle.session_report.specs.ReportText.{Figures, session_lines}
-use Rattle.session_core.specs.Core.{HostNow, core, opening_of, entry_in, standings_of}
+use Rattle.session_core.specs.Core.{HostNow, core, opening_of, entry_in, ArePlaced, standings_of}
 use Rattle.session_core.specs.Headline.{Medium, IsLastChange, last_write, is_durable, kind_of, AnsweredAt, WasAnswered, told_of, submitted_of, kept_on, IsFound, IsLaterSurvived, IsShown, IsAllShown}
 use Rattle.session_core.specs.Report.{tree_behind}
 use Rattle.barrierfs_top.specs.Top.{WasRead}
@@ -52,10 +52,15 @@ pub record TellsOrderClosed (old new : Option (List ℕ)) (fault : Option TopFau
 pub record TellsSession (old new : Option (List ℕ)) (fault : Option TopFault) (bytes : List ℕ) : Type 0 where
   pub script : SessionScript
   pub read : WasRead commands.Replay old new (λ input. session_of input ≡ Ok script)
-  -- What is printed: figures, what the host noted of the calls, how the threads stand, and a tree.
+  -- What is printed: figures, what the host noted of the calls, how the threads stand, and a tree. The figures are counts of
+  -- the session, and each entry names its thread's next call.
   pub figures : Figures
+  pub steps : figures.steps ≡ (core script).dev.steps
+  pub requests : figures.requests ≡ length (core script).host.journal.flush.requests
+  pub closed : figures.closed ≡ length (core script).host.cuts
   pub history : List Entry
   pub noted : (core script).host.history ≡ map (entry_in script.programs) history
+  pub placed : ArePlaced script.programs history
   pub standings : List Standing
   pub stand : (h : HostNow) → h.host ≡ (core script).host → h.programs ≡ script.programs → standings ≡ standings_of h (length script.programs)
   pub tree : Tree

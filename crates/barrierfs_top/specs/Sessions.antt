@@ -6,7 +6,7 @@ use Rattle.host_answers.specs.declared.entry.Entry.{Entry}
 use Rattle.session_grammar.specs.declared.session_script.SessionScript.{SessionScript}
 use Rattle.session_grammar.specs.Grammar.{session_of}
 use Rattle.session_report.specs.ReportText.{Figures, session_lines}
-use Rattle.session_core.specs.Core.{entry_in}
+use Rattle.session_core.specs.Core.{entry_in, ArePlaced}
 use Rattle.session_core.specs.Headline.{Headline}
 use Rattle.session_core.specs.Report.{IsCoreReport}
 use Rattle.session_core.specs.declared.report.SessionReport.{SessionReport}
@@ -33,10 +33,12 @@ is_session input = begins_session (lines_of input)
 abbrev pub figures_of : SessionReport → Figures
 figures_of r = record { steps = r.cut.trace.steps; requests = length r.host.host.journal.flush.requests; closed = length r.host.host.cuts; found = r.found }
 
--- The lines of the session, with what the host noted of its calls, and then those of the tree that was mounted.
+-- The lines of the session, with what the host noted of its calls, each entry of its thread's next call, and then those of
+-- the tree that was mounted.
 pub record IsSessionText (s : SessionScript) (r : SessionReport) (text : List ℕ) : Type 0 where
   pub history : List Entry
   pub noted : r.host.host.history ≡ map (entry_in r.host.programs) history
+  pub placed : ArePlaced s.programs history
   pub tree : List ℕ
   pub shown : shown_volume r.volume ≡ Ok tree
   pub printed : text ≡ session_lines s.programs s.lines (figures_of r) history r.standings.items ++ tree

@@ -4,6 +4,7 @@ ghost use Rattle.std.specs.String.{string_bytes};
 ghost use Rattle.script_words.specs.Spelling.{words_of};
 ghost use Rattle.script_grammar.specs.declared.limits.TheConstants.{MOST_SCRIPT_BYTES};
 ghost use Rattle.session_grammar.specs.WellFormed.{IsWellFormed};
+ghost use Rattle.session_core.specs.Core.{ArePlaced, entry_in};
 ghost use Rattle.session_core.specs.Report.{IsCoreReport};
 ghost use Rattle.barrierfs_top.specs.Sessions.{begins_session, is_session, names_volume, IsSessionText, IsSessionReplay};
 ghost use Rattle.barrierfs_top.specs.Top.{IsSessionFault};
@@ -15,6 +16,7 @@ use crate::run_report::RunReport;
 use crate::show::tree_text;
 use crate::top::{Printed, fault_of};
 use blk_base::NoMemory;
+use host_answers::Entry;
 use script_words::{is_skipped, lines, words};
 use session_core::{SessionReport, core_run};
 use session_grammar::{SessionScript, read_session};
@@ -52,6 +54,15 @@ pub fn is_session(alloc: Global, bytes: &[u8]) -> Result<bool, NoMemory>
     begins_session(alloc, &lines)
 }
 
+// What the host noted of the calls, whose programs are those of the script. The script is for the clauses alone.
+fn noted<'a>(report: &'a SessionReport, _script: &SessionScript) -> &'a [Entry]
+    requires { IsCoreReport _script.now report.now }
+    ensures noted { report.now.host.host.history ≡ map (entry_in report.now.host.programs) result.now }
+    ensures placed { ArePlaced _script.now.programs result.now }
+{
+    report.host.history()
+}
+
 // The text of a session's report.
 fn session_text(
     alloc: Global,
@@ -75,7 +86,7 @@ fn session_text(
         &script.programs,
         &script.lines,
         &figures,
-        report.host.history(),
+        noted(report, script),
         &report.standings,
     )?;
     let tree = tree_text(alloc, &report.volume)?;

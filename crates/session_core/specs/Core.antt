@@ -21,7 +21,7 @@ use Rattle.host_machine.specs.State.{Host}
 use Rattle.session_opening.specs.Opened.{opened_now}
 pub use Rattle.session_run.specs.Beginning.{HostNow}
 use Rattle.session_run.specs.Beginning.{made_opening}
-pub use Rattle.session_run.specs.End.{entry_in, standing_of}
+pub use Rattle.session_run.specs.End.{entry_in, ArePlaced, standing_of}
 use Rattle.host_volume.specs.Sessions.{Opening}
 use Rattle.stack_core.specs.Core.{epoch_machine}
 use Rattle.session_grammar.specs.declared.session_script.SessionScript.{SessionScript}

@@ -1,6 +1,6 @@
 -- A step of the host at the queues that it has: it is the machine's for these queues, and what it submitted and took is
 -- what came to them and left them.
-use Rattle.std.proofs.Common.{◌≡◌, ℕ, ◌<◌, ◌≤◌, ◌⊎◌, Bool, true, false, not, List, [], ◌∷◌, ◌++◌, length, drop, Option, Some, None, slice_get, nat_lt, refl, sym, ap, ◌∙◌, arith, append_assoc, if◌then◌else◌, ⊎_elim, inl, inr, subst, ap₂}
+use Rattle.std.proofs.Common.{◌≡◌, ℕ, ◌<◌, ◌≤◌, ◌⊎◌, Bool, true, false, not, List, [], ◌∷◌, ◌++◌, length, drop, Option, Some, None, slice_get, nat_lt, refl, sym, ap, ◌∙◌, arith, append_assoc, append-nil, if◌then◌else◌, ⊎_elim, inl, inr, subst, ap₂}
 use Rattle.std.proofs.lemmas.List.{length-append, drop_at, drop_all}
 use Rattle.order_model.specs.declared.completion.Completion.{Completion}
 use Rattle.order_model.specs.declared.request.Request.{Request}
@@ -184,6 +184,18 @@ module _ {V C R X : Type 0} (host : X → Host V C R) (step : Bool → X) (old n
         host = as_queue_is (λ b. host (step b)) old new full i.submission sub (either_host agree) did was held capacity within;
         queues = ap₂ with_parts capacity held;
       })
+
+-- nothing was sent where the host is as it was
+pub stayed_parts : {V C R : Type 0} (old new : Host V C R) (i : Inside) (sub : ListQueueState Request) (now : QueuesNow) → new ≡ old → queues_of i ≡ now
+    → sub.sent ≡ i.submission.sent ++ sent_between old.journal.flush new.journal.flush → ◌≡◌ {A = ℕ × List Request} (sub.capacity, sub.taken) (i.submission.capacity, i.submission.taken)
+    → i.submission.sent ≡ i.submission.taken ++ i.submission.held → sub.sent ≡ sub.taken ++ sub.held → queues_of (record i { submission = sub }) ≡ now
+stayed_parts {V = V} {C = C} {R = R} old new i sub now same view sent rest old_is new_is =
+    let requests = old.journal.flush.requests in
+    let none : sent_between old.journal.flush new.journal.flush ≡ [] =
+    ap (λ (h : Host V C R). sent_between old.journal.flush h.journal.flush) same ∙ drop_all (length requests) requests (omega arith) in
+    let held = held_more i.submission sub [] old_is new_is (ap (λ (x : ℕ × List Request). x.1) rest) (sent ∙ ap (λ l. i.submission.sent ++ l) none) ∙ append-nil i.submission.held in
+    ap (λ (n : ℕ). record (queues_of i) { capacity = n; submission = sub.held }) (ap (λ (x : ℕ × List Request). x.0) rest)
+    ∙ ap (λ l. record (queues_of i) { submission = l }) held ∙ view
 
 -- the same of the flush actor, by which a completion leaves
 pub record TookFlush {V C R : Type 0} (step : Bool → Option Completion → Host V C R) (old new : Host V C R) (q after : QueuesNow) : Type 0 where

@@ -1,5 +1,5 @@
 -- Events and lines, one after the other.
-use Rattle.std.proofs.Common.{◌≡◌, ℕ, ◌+◌, ◌-◌, ◌<◌, ◌≤◌, suc, List, [], ◌∷◌, ◌++◌, length, map, drop, get_or, Result, Ok, Err, OnOk, refl, sym, ap, ◌∙◌, arith, add-one}
+use Rattle.std.proofs.Common.{◌≡◌, ℕ, ◌+◌, ◌-◌, ◌<◌, ◌≤◌, suc, List, [], ◌∷◌, ◌++◌, length, map, drop, get_or, Result, Ok, Err, OnErr, OnOk, refl, sym, ap, ◌∙◌, arith, add-one}
 use Rattle.std.specs.List.{range_with_len}
 use Rattle.std.proofs.lemmas.List.{drop_all}
 use Rattle.std.proofs.Math.Seq.{drop-cons}
@@ -32,6 +32,11 @@ ok_map (Err x) P Q f h = tt
 pub ok_both : {A E : Type 0} (result : Result A E) (P Q R : Type 0) → (P → Q → R) → OnOk result P → OnOk result Q → OnOk result R
 ok_both (Ok x) P Q R f p q = f p q
 ok_both (Err x) P Q R f p q = tt
+
+-- what follows where it is Err
+pub err_map : {A E : Type 0} (result : Result A E) (P Q : Type 0) → (P → Q) → OnErr result P → OnErr result Q
+err_map (Ok x) P Q f h = tt
+err_map (Err x) P Q f h = f h
 
 module _ {K S : Type 0} (s : Opening) (k : SchedSteps K) (m : Machine S) where
   abbrev pub run : SessionState K S → List CoreEvent → SessionState K S

@@ -5,7 +5,7 @@ use Rattle.order_model.specs.Steps.{IsTraceOf}
 use Rattle.order_model.specs.Machine.{Machine}
 use Rattle.barrier_reassign.specs.Scheduler.{SchedSteps, IsSchedRecord}
 use Rattle.stack_core.specs.Headline.{KeepsOrder}
-pub use Rattle.host_core.specs.Entries.{entry_in}
+pub use Rattle.host_core.specs.Entries.{entry_in, ArePlaced}
 pub use Rattle.host_core.specs.Standings.{standing_of}
 use Rattle.host_volume.specs.Sessions.{Opening}
 pub use Rattle.call_sessions.specs.Sessions.{tree_behind}

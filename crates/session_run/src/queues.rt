@@ -1,5 +1,5 @@
 //! The queues of a session.
-ghost use Rattle.std.specs.Prelude.{◌≡◌, ◌≢◌, ◌-◌, ◌≤◌, ◌∷◌, ℕ, List, IfOk, OnOk, slice_get, length};
+ghost use Rattle.std.specs.Prelude.{◌≡◌, ◌≢◌, ◌-◌, ◌≤◌, ◌∷◌, ℕ, List, IfOk, OnErr, OnOk, slice_get, length};
 ghost use Rattle.order_model.specs.declared.command.Command.{Command};
 ghost use Rattle.order_model.specs.declared.request.Request.{Request};
 ghost use Rattle.order_model.specs.Device.{IsReceivable};
@@ -63,12 +63,13 @@ impl SessionQueues {
 
     // ---- the host
 
-    /// The next step of a thread of the host, which are counted from 1.
+    /// The next step of a thread of the host, which are counted from 1. Where memory is refused, all is as it was.
     pub fn call(&mut self, alloc: Global, host: &mut Host, thread: u32) -> Result<(), NoMemory>
         requires { 1 ≤ thread }
         ensures host { OnOk result (host.new ≡ with_host host.old
             (machine.advance (model_now host.old) (setup_now host.old) (is_full self.old.capacity self.old.submission) host.old.host (thread - 1)).host) }
         ensures queues { OnOk result (self.new ≡ with_sent self.old (sent_between host.old.host.journal.flush host.new.host.journal.flush)) }
+        ensures err { OnErr result ((host.new ≡ host.old) × (self.new ≡ self.old)) }
     {
         self.submission.known();
         let step = host.advance(alloc, thread, &mut self.submission);
@@ -76,11 +77,12 @@ impl SessionQueues {
         unless_refused(&step)
     }
 
-    /// The step of the host's commit actor.
+    /// The step of the host's commit actor. Where memory is refused, all is as it was.
     pub fn commit(&mut self, alloc: Global, host: &mut Host) -> Result<(), NoMemory>
         ensures host { OnOk result (host.new ≡ with_host host.old
             (machine.commit_step (model_now host.old) (setup_now host.old) (is_full self.old.capacity self.old.submission) host.old.host).host) }
         ensures queues { OnOk result (self.new ≡ with_sent self.old (sent_between host.old.host.journal.flush host.new.host.journal.flush)) }
+        ensures err { OnErr result ((host.new ≡ host.old) × (self.new ≡ self.old)) }
     {
         self.submission.known();
         let turn = host.commit_step(alloc, &mut self.submission);
@@ -172,7 +174,8 @@ impl SessionQueues {
 
 // Whether a thread's step was refused memory.
 fn unless_refused(step: &Step) -> Result<(), NoMemory>
-    ensures { OnOk result (step.now ≢ answers.NoMemory) }
+    ensures ok { OnOk result (step.now ≢ answers.NoMemory) }
+    ensures err { OnErr result (step.now ≡ answers.NoMemory) }
 {
     match step {
         Step::NoMemory => Err(NoMemory),
@@ -182,7 +185,8 @@ fn unless_refused(step: &Step) -> Result<(), NoMemory>
 
 // Whether an actor's step was refused memory.
 fn unless_out_of_memory(turn: Turn) -> Result<(), NoMemory>
-    ensures { OnOk result (turn ≢ turns.NoMemory) }
+    ensures ok { OnOk result (turn ≢ turns.NoMemory) }
+    ensures err { OnErr result (turn ≡ turns.NoMemory) }
 {
     match turn {
         Turn::NoMemory => Err(NoMemory),

@@ -1,16 +1,16 @@
 -- The step of the commit actor is the machine's for the submission queue as it was.
-use Rattle.std.proofs.Common.{◌≢◌, Bool, ap, ◌∙◌}
+use Rattle.std.proofs.Common.{◌≡◌, ◌≢◌, Bool, ap, ◌∙◌}
 use Rattle.order_model.specs.declared.turn.Turn.TheVariants as turns
 use Rattle.flush_actor.specs.Outcomes.{is_queue_full}
 use Rattle.host_machine.specs.Host.{Turned, commit_step}
-use Rattle.host_core.specs.Now.{with_host, model_now, setup_now}
+use Rattle.host_core.specs.Now.{HostNow, with_host, model_now, setup_now}
 use Rattle.tree_model.specs.declared.call.Call.{Call}
 use Rattle.tree_model.specs.declared.call.Reply.{Reply}
 use Rattle.volume_steps.specs.Now.{VolumeNow}
 use Rattle.session_machine.proofs.FullQueue.{commit_agrees, either_is}
 use Rattle.session_run.proofs.Answered.{turn_full}
-use Rattle.session_run.proofs.HostSteps.{took_parts}
-use Rattle.session_run.proofs.Lines.{ok_map}
+use Rattle.session_run.proofs.HostSteps.{took_parts, stayed_parts}
+use Rattle.session_run.proofs.Lines.{err_map, ok_map}
 use Rattle.session_run.proofs.queues.SessionQueues.commit.Goals as goal
 
 pub returns : goal.returns
@@ -24,7 +24,10 @@ returns c =
     (either_is h.host (λ (x : Turned VolumeNow Call Reply). x.host) _ _ (commit_agrees (model_now h) (setup_now h) h.host))
     (ap (λ (x : Turned VolumeNow Call Reply). x.host) (said.step some))
     (λ e. said.full (turn_full turn e)) said.sent said.rest c.known.ensures.sent c.known-2.ensures.sent c.known-2.ensures.held in
+    let stayed = λ (same : c.commit_step-turn.new.self ≡ h).
+    stayed_parts h.host c.commit_step-turn.new.self.host c.self.inside c.commit_step-turn.new.out c.args.self.now (ap (λ (x : HostNow). x.host) same) c.self.view_is said.sent said.rest c.known.ensures.sent c.known-2.ensures.sent in
     record {
-      host = ok_map c.unless_out_of_memory.result _ _ (λ some. said.same ∙ ap (with_host h) (took some).host) c.unless_out_of_memory.ensures;
-      queues = ok_map c.unless_out_of_memory.result _ _ (λ some. (took some).queues) c.unless_out_of_memory.ensures;
+      host = ok_map c.unless_out_of_memory.result _ _ (λ some. said.same ∙ ap (with_host h) (took some).host) c.unless_out_of_memory.ensures.ok;
+      queues = ok_map c.unless_out_of_memory.result _ _ (λ some. (took some).queues) c.unless_out_of_memory.ensures.ok;
+      err = err_map c.unless_out_of_memory.result _ _ (λ none. ((said.memory none).1, stayed (said.memory none).1)) c.unless_out_of_memory.ensures.err;
     }
