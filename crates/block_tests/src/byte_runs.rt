@@ -11,16 +11,16 @@ fn runs(alloc: Global, bytes: &[u8]) -> Result<String, AllocError> {
 
 #[test]
 fn writes_runs(rt: HostRuntime) -> Result<(), Fail> {
-    let rows: [(&[u8], &str); 4] = [
+    let rows: [(&[u8], &str); 5] = [
         (b"", "-"),
         (b"aaa", "3x61"),
         (&[0, 0, 1], "2x00+1x01"),
         (&[0xFF, 0, 0xFF], "1xff+1x00+1xff"),
+        (&[0x7E; 1024], "1024x7e"),
     ];
     for (bytes, text) in rows {
         assert_eq!(rt; runs(rt.alloc(), bytes)?.as_str(), text);
     }
-    assert_eq!(rt; runs(rt.alloc(), &[0x7E; 1024])?.as_str(), "1024x7e");
     runs_are_maximal();
     Ok(())
 }

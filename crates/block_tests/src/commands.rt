@@ -1,5 +1,5 @@
 //! Tests: parts, commands, lists and queues of a few items.
-ghost use Rattle.std.specs.Prelude.{◌≡◌};
+ghost use Rattle.std.specs.Prelude.{◌≡◌, ◌<◌, length};
 
 use blk_base::{Block, NoMemory};
 use order_model::{
@@ -31,21 +31,31 @@ fn passes<Q: Outlet<u32> + Inlet<u32>>(
     (queue.put(7), queue.put(8), queue.take())
 }
 
+// The number that is put, if one is, or else one is taken; and the number that comes back.
 #[test]
 fn queue_keeps_order(rt: HostRuntime) -> Result<(), NoMemory> {
     let mut queue = ListQueue::make(rt.alloc(), 3)?;
-    assert_eq!(rt; queue.take(), None);
-    for number in [10, 20, 30] {
-        assert_eq!(rt; queue.put(number), Ok(()));
+    let steps = [
+        (None, None),
+        (Some(10), None),
+        (Some(20), None),
+        (Some(30), None),
+        (Some(40), Some(40)),
+        (None, Some(10)),
+        (Some(50), None),
+        (Some(60), Some(60)),
+        (None, Some(20)),
+        (None, Some(30)),
+        (None, Some(50)),
+        (None, None),
+    ];
+    for (step, (put, back)) in steps.into_iter().enumerate() {
+        let came = match put {
+            Some(number) => queue.put(number).err(),
+            None => queue.take(),
+        };
+        assert_eq!(rt; came, back, "step {step}");
     }
-    assert_eq!(rt; queue.put(40), Err(40));
-    assert_eq!(rt; queue.take(), Some(10));
-    assert_eq!(rt; queue.put(50), Ok(()));
-    assert_eq!(rt; queue.put(60), Err(60));
-    for number in [20, 30, 50] {
-        assert_eq!(rt; queue.take(), Some(number));
-    }
-    assert_eq!(rt; queue.take(), None);
     Ok(())
 }
 
@@ -56,30 +66,36 @@ fn queue_by_its_bounds(rt: HostRuntime) -> Result<(), NoMemory> {
     Ok(())
 }
 
+// Whether the part does not fit and comes back as it was.
+fn is_back(parts: &mut Parts, id: u64, block: u8) -> bool {
+    parts.push(part(id, block)) == Err(part(id, block))
+}
+
+#[test]
+fn holds_sixteen_parts(rt: HostRuntime) {
+    let mut parts = Parts::none();
+    for block in 0..17 {
+        let back = is_back(&mut parts, u64::from(block) + 100, block + 3);
+        assert_eq!(rt; back, block == 16, "block {block}");
+    }
+    assert_eq!(rt; (parts.len(), parts.is_empty()), (16, false));
+    for (at, wanted) in [
+        (0, Some(100)),
+        (15, Some(115)),
+        (16, None),
+        (u32::MAX, None),
+    ] {
+        assert_eq!(rt; parts.get(at).map(|part| part.id), wanted, "at {at}");
+    }
+}
+
 #[test]
 fn parts_follow(rt: HostRuntime) {
-    let mut parts = Parts::none();
-    assert!(rt; parts.is_empty());
-    for block in 0..16 {
-        assert_eq!(rt; parts.push(part(u64::from(block) + 100, block + 3)), Ok(()));
-    }
-    assert_eq!(rt; parts.push(part(116, 19)), Err(part(116, 19)));
-    assert_eq!(rt; parts.len(), 16);
-    assert_eq!(rt; parts.get(0), Some(&part(100, 3)));
-    assert_eq!(rt; parts.get(15), Some(&part(115, 18)));
-    assert_eq!(rt; parts.get(16), None);
-    assert_eq!(rt; parts.get(u32::MAX), None);
-
     let mut parts = Parts::one(part(1, 5));
-    for block in [5, 7, 4] {
-        assert_eq!(rt;
-            parts.push(part(2, block)),
-            Err(part(2, block)),
-            "block {block}"
-        );
+    for (block, back) in [(5, true), (7, true), (4, true), (6, false)] {
+        assert_eq!(rt; is_back(&mut parts, 2, block), back, "block {block}");
     }
-    assert_eq!(rt; parts.push(part(2, 6)), Ok(()));
-    assert_eq!(rt; parts.as_slice(), [part(1, 5), part(2, 6)].as_slice());
+    assert!(rt; parts.as_slice() == [part(1, 5), part(2, 6)].as_slice());
 }
 
 #[test]
@@ -94,9 +110,11 @@ fn commands_of_one_request(rt: HostRuntime) {
         barrier: false,
     };
     let command = Command::of_request(put, true);
-    assert_eq!(rt; command.parts.as_slice(), [part(3, 9)].as_slice());
-    assert_eq!(rt; command.priority, Priority::Ordered);
-    assert!(rt; command.barrier && command.flush.is_none());
+    assert!(rt; command.parts.as_slice() == [part(3, 9)].as_slice());
+    assert_eq!(rt;
+        (command.priority, command.barrier, command.flush),
+        (Priority::Ordered, true, None)
+    );
 }
 
 // A command of these parts, or a flush.
@@ -111,24 +129,40 @@ fn command(parts: Parts, flush: Option<u64>) -> Command
     }
 }
 
+// Two parts, of this block and the next.
+fn pair(rt: &impl Abort, id: u64, block: u8) -> Parts
+    requires { (id < 100) × (block < 100) }
+    ensures { length result ≡ 2 }
+{
+    let mut parts = Parts::one(part(id, block));
+    assert!(rt; parts.push(part(id + 1, block + 1)).is_ok());
+    parts
+}
+
+// Whether this part stands at the place.
+fn is_part(commands: &Commands, at: usize, part: Option<&Part>) -> bool {
+    commands.part(at).as_ref() == part
+}
+
 // A put of blocks 5 and 6, a flush, and a put of block 9.
 #[test]
 fn commands_in_order(rt: HostRuntime) -> Result<(), NoMemory> {
     let mut commands = Commands::make(rt.alloc(), 3)?;
-    assert!(rt; commands.is_empty());
-    let mut parts = Parts::one(part(0, 5));
-    assert!(rt; parts.push(part(1, 6)).is_ok());
-    commands.push(&command(parts, None));
+    commands.push(&command(pair(&rt, 0, 5), None));
     commands.push(&command(Parts::none(), Some(2)));
     commands.push(&command(Parts::one(mixed(3, 9)), None));
-    assert_eq!(rt; (commands.len(), commands.count_parts()), (3, 3));
-    assert_eq!(rt; commands.part(0), Some(part(0, 5)));
-    assert_eq!(rt; commands.part(1), Some(part(1, 6)));
-    assert_eq!(rt; commands.part(2), Some(mixed(3, 9)));
-    assert_eq!(rt; commands.part(3), None);
-    assert_eq!(rt; (commands.part_id(2), commands.part_id(3)), (Some(3), None));
-    for (k, first) in [(0, 0), (1, 2), (2, 2), (3, 3)] {
-        assert_eq!(rt; commands.first_part(k), first, "command {k}");
+    let length = (commands.len(), commands.count_parts(), commands.is_empty());
+    assert_eq!(rt; length, (3, 3, false));
+    let parts = [part(0, 5), part(1, 6), mixed(3, 9)];
+    for (at, id, first) in [
+        (0, Some(0), 0),
+        (1, Some(1), 2),
+        (2, Some(3), 2),
+        (3, None, 3),
+    ] {
+        let found = (commands.part_id(at), commands.first_part(at));
+        assert_eq!(rt; found, (id, first), "at {at}");
+        assert!(rt; is_part(&commands, at, parts.get(at)), "part {at}");
     }
     Ok(())
 }
@@ -146,6 +180,11 @@ fn put(part: Part) -> Request {
     }
 }
 
+// Whether this request stands at the place.
+fn is_request(requests: &Requests, at: usize, request: Option<&Request>) -> bool {
+    requests.get(at).as_ref() == request
+}
+
 #[test]
 fn requests_in_order(rt: HostRuntime) -> Result<(), NoMemory> {
     let flush = Request {
@@ -154,25 +193,22 @@ fn requests_in_order(rt: HostRuntime) -> Result<(), NoMemory> {
         ordered: true,
         barrier: true,
     };
+    let wanted = [put(mixed(0, 5)), put(part(1, 6)), flush, put(mixed(3, 9))];
     let mut requests = Requests::make(rt.alloc(), 4)?;
-    assert!(rt; requests.is_empty());
-    requests.push(&put(mixed(0, 5)));
-    requests.push(&put(part(1, 6)));
-    requests.push(&flush);
-    requests.push(&put(mixed(3, 9)));
-    assert_eq!(rt; requests.len(), 4);
-    assert_eq!(rt; requests.get(0), Some(put(mixed(0, 5))));
-    assert_eq!(rt; requests.get(1), Some(put(part(1, 6))));
-    assert_eq!(rt; requests.get(2), Some(flush));
-    assert_eq!(rt; requests.get(3), Some(put(mixed(3, 9))));
-    assert_eq!(rt; requests.get(4), None);
+    requests.push(&wanted[0]);
+    requests.push(&wanted[1]);
+    requests.push(&wanted[2]);
+    requests.push(&wanted[3]);
+    assert_eq!(rt; (requests.len(), requests.is_empty()), (4, false));
+    for at in 0..5 {
+        assert!(rt; is_request(&requests, at, wanted.get(at)), "at {at}");
+    }
     Ok(())
 }
 
 #[test]
 fn history_grows(rt: HostRuntime) -> Result<(), NoMemory> {
     let mut history = History::make(rt.alloc(), 2)?;
-    assert!(rt; history.as_slice().is_empty());
     history.push(Completion::Moved(4));
     history.push(Completion::Cut);
     assert_eq!(rt;

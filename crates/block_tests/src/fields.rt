@@ -17,13 +17,16 @@ fn reads_and_writes_in_both_orders(rt: HostRuntime) {
             0, 0x34, 0x12, 0x12, 0x34, 0x98, 0xBA, 0xDC, 0xFE, 0, 0, 0xFF
         ]
     );
-    assert_eq!(rt; u16_at_le(&bytes, 1), 0x1234);
-    assert_eq!(rt; u16_at_be(&bytes, 1), 0x3412);
-    assert_eq!(rt; u32_at_le(&bytes, 5), 0xFEDC_BA98);
-    assert_eq!(rt; u32_at_be(&bytes, 5), 0x98BA_DCFE);
-    assert_eq!(rt; u8_at(&bytes, 11), 0xFF);
+    let short = (
+        u16_at_le(&bytes, 1),
+        u16_at_be(&bytes, 1),
+        u8_at(&bytes, 11),
+    );
+    assert_eq!(rt; short, (0x1234, 0x3412, 0xFF));
+    let long = (u32_at_le(&bytes, 5), u32_at_be(&bytes, 5));
     put_u32_be(&mut bytes, 5, 0xFEDC_BA98);
-    assert_eq!(rt; u32_at_le(&bytes, 5), 0x98BA_DCFE);
+    let swapped = u32_at_le(&bytes, 5);
+    assert_eq!(rt; (long, swapped), ((0xFEDC_BA98, 0x98BA_DCFE), 0x98BA_DCFE));
     numbers_are_read();
     fields_are_read();
     records_are_read();
