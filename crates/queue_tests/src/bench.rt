@@ -2,14 +2,15 @@
 ghost use Rattle.std.specs.Prelude.{◌≡◌, [], true};
 ghost use Rattle.queue_tests.specs.Numbered.{IsNumbered, IsAsked};
 
-use barrier_reassign::{Held, Scheduler};
+use barrier_reassign::{Held, Scheduler, lawful_eligible};
 use blk_base::Block;
 use order_model::{Command, Kind, Priority, Request};
+use std::process::Abort;
 
 pub const LIMIT: u64 = 200;
 
 /// Requests that a host may submit: puts to a block, and a flush.
-#[derive(Clone, Copy, Debug)]
+#[derive(Clone, Copy, PartialEq, Eq, Debug)]
 pub enum Ask {
     Orderless(u32),
     Ordered(u32),
@@ -31,7 +32,8 @@ fn put(id: u64, block: u32, ordered: bool, barrier: bool) -> Request
     }
 }
 
-fn request(id: u64, ask: Ask) -> Request
+/// The request that is asked for, under this id.
+pub fn request(id: u64, ask: Ask) -> Request
     ensures { IsAsked result id }
 {
     match ask {
@@ -45,6 +47,22 @@ fn request(id: u64, ask: Ask) -> Request
             barrier: true,
         },
     }
+}
+
+/// What a test does with a scheduler, each with the answer that it expects.
+#[derive(Clone, Copy, PartialEq, Eq, Debug)]
+pub enum Step {
+    /// A request is submitted, and refused for this reason if any.
+    Submit(Ask, Option<Held>),
+    /// So many orderless puts are submitted, to blocks 0, 1 and so on.
+    Fill(u32, Option<Held>),
+    /// The command at this place of the list is sent.
+    Send(u32, Option<Sent>),
+    /// The same, into a command that is kept from step to step; and whether one was sent, and which is kept then.
+    SendInto(u32, bool, Option<Sent>),
+    /// How many commands may be sent.
+    Eligible(u32),
+    CanAccept(bool),
 }
 
 /// A scheduler whose requests are numbered from 0 on.
@@ -63,8 +81,31 @@ impl<S: Scheduler> Bench<S> {
         Bench { sched, count: 0 }
     }
 
+    /// Does the steps, and ends the process at the first with another answer than it names.
+    pub fn plays(&mut self, rt: &impl Abort, steps: &[Step]) {
+        let mut kept = Command::blank();
+        for (at, step) in steps.iter().enumerate() {
+            assert_eq!(rt; self.done(*step, &mut kept), *step, "step {at}");
+        }
+    }
+
+    // The step with the answer that came.
+    fn done(&mut self, step: Step, kept: &mut Command) -> Step {
+        match step {
+            Step::Submit(ask, _) => Step::Submit(ask, self.submit(ask)),
+            Step::Fill(blocks, _) => Step::Fill(blocks, self.fill(blocks)),
+            Step::Send(pick, _) => Step::Send(pick, self.send(pick)),
+            Step::SendInto(pick, ..) => {
+                let sent = self.send_into(pick, kept);
+                Step::SendInto(pick, sent, Some(sent_of(kept)))
+            }
+            Step::Eligible(_) => Step::Eligible(lawful_eligible(&self.sched)),
+            Step::CanAccept(_) => Step::CanAccept(self.sched.can_accept()),
+        }
+    }
+
     /// Why the request was refused.
-    pub fn submit(&mut self, ask: Ask) -> Option<Held> {
+    fn submit(&mut self, ask: Ask) -> Option<Held> {
         if self.count >= LIMIT {
             return Some(Held::Full);
         }
@@ -76,26 +117,38 @@ impl<S: Scheduler> Bench<S> {
         None
     }
 
-    pub fn send(&mut self, pick: u32) -> Option<Sent> {
+    // Why the first put of these blocks that was refused was.
+    fn fill(&mut self, blocks: u32) -> Option<Held> {
+        for block in 0..blocks {
+            let held = self.submit(Ask::Orderless(block));
+            if held.is_some() {
+                return held;
+            }
+        }
+        None
+    }
+
+    fn send(&mut self, pick: u32) -> Option<Sent> {
         let _ = self.sched.can_accept();
         let command = self.sched.dispatch(pick)?;
         Some(sent_of(&command))
     }
 
-    /// Whether a command was sent, which is written into this one.
-    pub fn send_into(&mut self, pick: u32, into: &mut Command) -> bool {
+    // Whether a command was sent, which is written into this one.
+    fn send_into(&mut self, pick: u32, into: &mut Command) -> bool {
         let _ = self.sched.can_accept();
         self.sched.dispatch_into(pick, into)
     }
 }
 
 /// A command that was sent: the ids of its first and its last part, or that of the flush, how many parts it
-/// has, and how it is ordered.
+/// has, whether it is a flush, and how it is ordered.
 #[derive(Clone, Copy, PartialEq, Eq, Debug)]
 pub struct Sent {
     first: u64,
     last: u64,
     parts: u32,
+    flush: bool,
     barrier: bool,
     priority: Priority,
 }
@@ -107,12 +160,13 @@ fn id_at(c: &Command, at: usize) -> u64 {
     }
 }
 
-pub fn sent_of(c: &Command) -> Sent {
+fn sent_of(c: &Command) -> Sent {
     let parts = c.parts.len();
     Sent {
         first: id_at(c, 0),
         last: id_at(c, (parts as usize).saturating_sub(1)),
         parts,
+        flush: c.flush.is_some(),
         barrier: c.barrier,
         priority: c.priority,
     }
@@ -124,6 +178,7 @@ pub const fn plain(first: u64, last: u64, parts: u32) -> Option<Sent> {
         first,
         last,
         parts,
+        flush: false,
         barrier: false,
         priority: Priority::Simple,
     })
@@ -135,6 +190,7 @@ pub const fn fence(first: u64, last: u64, parts: u32) -> Option<Sent> {
         first,
         last,
         parts,
+        flush: parts == 0,
         barrier: true,
         priority: Priority::Ordered,
     })

@@ -1,34 +1,55 @@
 //! One queue of requests: what leaves it, and with which flag.
-ghost use Rattle.std.specs.Prelude.{◌≡◌, ◌+◌, ◌<◌, ◌≤◌, true, false};
-ghost use Rattle.order_model.specs.Submission.{is_flush};
+ghost use Rattle.std.specs.Prelude.{◌≡◌, ◌+◌, ◌<◌, ◌≤◌, true};
 
+use crate::bench::Ask::{self, Barrier, Flush, Ordered, Orderless};
+use crate::bench::request;
 use barrier_reassign::{EpochQueue, Held};
-use blk_base::{Block, NoMemory};
+use blk_base::NoMemory;
 use order_model::{Kind, Request, Requests};
+use std::alloc::Global;
 use std::process::Abort;
 
-fn put(id: u64, block: u32, ordered: bool, barrier: bool) -> Request
-    requires { barrier ≡ true → ordered ≡ true }
-    ensures barrier { result.barrier ≡ true → result.ordered ≡ true }
-    ensures kind { is_flush result.kind ≡ false }
-{
-    let body = Block::fill(0);
-    Request {
-        id,
-        kind: Kind::Put { block, body },
-        ordered,
-        barrier,
-    }
+// What a test does with a queue, each with the answer that it expects.
+#[derive(Clone, Copy, PartialEq, Eq, Debug)]
+enum Step {
+    // The request under this id is refused for this reason, if any.
+    Accept(u64, Ask, Option<Held>),
+    // The id of the request that leaves, the flag that it waited with, and whether it leaves as the barrier.
+    Leave(u32, Option<(u64, bool, bool)>),
+    // The id of the request at this place.
+    Peek(u32, Option<u64>),
+    Eligible(u32),
+    CanAccept(bool),
 }
 
-fn flush(id: u64) -> Request
-    ensures { (result.ordered ≡ true) × (result.barrier ≡ true) }
-{
-    Request {
-        id,
-        kind: Kind::Flush,
-        ordered: true,
-        barrier: true,
+use Step::{Accept, CanAccept, Eligible, Leave, Peek};
+
+// A queue that has numbered no more requests than it was asked to accept.
+#[derive(Drop)]
+struct Bench {
+    queue: EpochQueue,
+    count: u64,
+    ghost few: { queue.next ≤ count },
+}
+
+impl Bench {
+    fn done(&mut self, step: Step) -> Step {
+        match step {
+            Accept(id, ask, _) => Accept(id, ask, self.accept(id, ask)),
+            Leave(pick, _) => Leave(pick, leave(&mut self.queue, pick)),
+            Peek(pick, _) => Peek(pick, peeked(&self.queue, pick)),
+            Eligible(_) => Eligible(self.queue.eligible()),
+            CanAccept(_) => CanAccept(self.queue.can_accept()),
+        }
+    }
+
+    fn accept(&mut self, id: u64, ask: Ask) -> Option<Held> {
+        if self.count >= 1000 {
+            return Some(Held::Full);
+        }
+        let held = accept(&mut self.queue, request(id, ask));
+        self.count += 1;
+        held
     }
 }
 
@@ -42,7 +63,6 @@ fn accept(q: &mut EpochQueue, r: Request) -> Option<Held>
     Some(q.accept(r).err()?.1)
 }
 
-// The id of the request that leaves, the flag that it waited with, and whether it leaves as the barrier.
 #[tactic(auto, using(barrier_reassign::proofs::Leaving::departed_next))]
 fn leave(q: &mut EpochQueue, pick: u32) -> Option<(u64, bool, bool)>
     ensures { q.new.next ≡ q.old.next }
@@ -55,75 +75,98 @@ fn peeked(q: &EpochQueue, pick: u32) -> Option<u64> {
     Some(q.peek(pick)?.id)
 }
 
+// A new queue of so many places does the steps. The first with another answer than it names ends the process.
+fn plays(rt: &impl Abort, alloc: Global, places: u32, steps: &[Step]) -> Result<(), NoMemory> {
+    let queue = EpochQueue::make(alloc, places)?;
+    let mut bench = Bench { queue, count: 0 };
+    for (at, step) in steps.iter().enumerate() {
+        assert_eq!(rt; bench.done(*step), *step, "step {at}");
+    }
+    Ok(())
+}
+
 #[test]
 fn only_ordered_one_carries_the_flag(rt: HostRuntime) -> Result<(), NoMemory> {
-    let mut q = EpochQueue::make(rt.alloc(), 8)?;
-    assert_eq!(rt; accept(&mut q, put(0, 0, false, false)), None);
-    assert_eq!(rt; accept(&mut q, put(1, 1, false, false)), None);
-    assert_eq!(rt; accept(&mut q, put(2, 2, true, true)), None);
-    assert!(rt; !q.can_accept());
-    assert_eq!(rt;
-        accept(&mut q, put(3, 3, false, false)),
-        Some(Held::Blocked)
-    );
-    assert_eq!(rt; peeked(&q, 2), Some(2));
-    assert_eq!(rt; leave(&mut q, 2), Some((2, false, true)));
-    assert!(rt; q.can_accept());
-    assert_eq!(rt; accept(&mut q, put(3, 3, false, false)), None);
-    assert_eq!(rt; q.eligible(), 3);
-    for (pick, id) in [(0, Some(0)), (1, Some(1)), (2, Some(3)), (3, None)] {
-        assert_eq!(rt; peeked(&q, pick), id);
-    }
-    assert_eq!(rt; leave(&mut q, 3), None);
-    Ok(())
+    let steps = [
+        Accept(0, Orderless(0), None),
+        Accept(1, Orderless(1), None),
+        Accept(2, Barrier(2), None),
+        CanAccept(false),
+        Accept(3, Orderless(3), Some(Held::Blocked)),
+        Peek(2, Some(2)),
+        Leave(2, Some((2, false, true))),
+        CanAccept(true),
+        Accept(3, Orderless(3), None),
+        Eligible(3),
+        Peek(0, Some(0)),
+        Peek(1, Some(1)),
+        Peek(2, Some(3)),
+        Peek(3, None),
+        Leave(3, None),
+    ];
+    plays(&rt, rt.alloc(), 8, &steps)
 }
 
 // A later request leaves first, and an earlier one is then the last order-preserving one.
 #[test]
 fn flag_moves(rt: HostRuntime) -> Result<(), NoMemory> {
-    let mut q = EpochQueue::make(rt.alloc(), 8)?;
-    assert_eq!(rt; accept(&mut q, put(0, 0, true, false)), None);
-    assert_eq!(rt; accept(&mut q, put(1, 1, true, true)), None);
-    assert_eq!(rt; leave(&mut q, 1), Some((1, false, false)));
-    assert!(rt; !q.can_accept());
-    assert_eq!(rt; leave(&mut q, 0), Some((0, false, true)));
-    assert!(rt; q.can_accept());
-    Ok(())
+    let steps = [
+        Accept(0, Ordered(0), None),
+        Accept(1, Barrier(1), None),
+        Leave(1, Some((1, false, false))),
+        CanAccept(false),
+        Leave(0, Some((0, false, true))),
+        CanAccept(true),
+    ];
+    plays(&rt, rt.alloc(), 8, &steps)
 }
 
 // 0 and 2 are puts of block 7. The last of them is the barrier, but 1 leaves last.
 #[test]
 fn keeps_puts_of_one_block_in_order(rt: HostRuntime) -> Result<(), NoMemory> {
-    let mut q = EpochQueue::make(rt.alloc(), 8)?;
-    assert_eq!(rt; accept(&mut q, put(0, 7, false, false)), None);
-    assert_eq!(rt; accept(&mut q, put(1, 8, true, false)), None);
-    assert_eq!(rt; accept(&mut q, put(2, 7, true, true)), None);
-    assert_eq!(rt; q.eligible(), 2);
-    assert_eq!(rt; peeked(&q, 1), Some(1));
-    assert_eq!(rt; leave(&mut q, 0), Some((0, false, false)));
-    assert_eq!(rt; q.eligible(), 2);
-    assert_eq!(rt; leave(&mut q, 1), Some((2, false, false)));
-    assert_eq!(rt; leave(&mut q, 0), Some((1, false, true)));
-    assert_eq!(rt; q.eligible(), 0);
-    Ok(())
+    let steps = [
+        Accept(0, Orderless(7), None),
+        Accept(1, Ordered(8), None),
+        Accept(2, Barrier(7), None),
+        Eligible(2),
+        Peek(1, Some(1)),
+        Leave(0, Some((0, false, false))),
+        Eligible(2),
+        Leave(1, Some((2, false, false))),
+        Leave(0, Some((1, false, true))),
+        Eligible(0),
+    ];
+    plays(&rt, rt.alloc(), 8, &steps)
 }
 
 #[test]
 fn flush_leaves_alone(rt: HostRuntime) -> Result<(), NoMemory> {
-    let mut q = EpochQueue::make(rt.alloc(), 8)?;
-    assert_eq!(rt; accept(&mut q, put(0, 0, true, false)), None);
-    assert_eq!(rt; accept(&mut q, flush(1)), None);
-    assert_eq!(rt;
-        accept(&mut q, put(2, 2, false, false)),
-        Some(Held::Blocked)
-    );
-    assert_eq!(rt; q.eligible(), 1);
-    assert_eq!(rt; leave(&mut q, 1), None);
-    assert_eq!(rt; leave(&mut q, 0), Some((0, false, false)));
-    assert_eq!(rt; accept(&mut q, flush(2)), Some(Held::Blocked));
-    assert_eq!(rt; leave(&mut q, 0), Some((1, true, true)));
-    assert_eq!(rt; accept(&mut q, put(2, 2, false, false)), None);
-    Ok(())
+    let steps = [
+        Accept(0, Ordered(0), None),
+        Accept(1, Flush, None),
+        Accept(2, Orderless(2), Some(Held::Blocked)),
+        Eligible(1),
+        Leave(1, None),
+        Leave(0, Some((0, false, false))),
+        Accept(2, Flush, Some(Held::Blocked)),
+        Leave(0, Some((1, true, true))),
+        Accept(2, Orderless(2), None),
+    ];
+    plays(&rt, rt.alloc(), 8, &steps)
+}
+
+#[test]
+fn holds_capacity(rt: HostRuntime) -> Result<(), NoMemory> {
+    let steps = [
+        Accept(0, Orderless(0), None),
+        Accept(1, Orderless(1), None),
+        CanAccept(false),
+        Accept(2, Barrier(9), Some(Held::Full)),
+        Leave(0, Some((0, false, false))),
+        Accept(2, Barrier(9), None),
+        Accept(3, Orderless(3), Some(Held::Blocked)),
+    ];
+    plays(&rt, rt.alloc(), 2, &steps)
 }
 
 // The record has the flag that the queue keeps for another request, and nothing of one that came back.
@@ -131,37 +174,12 @@ fn flush_leaves_alone(rt: HostRuntime) -> Result<(), NoMemory> {
 fn records_what_it_accepts(rt: HostRuntime) -> Result<(), NoMemory> {
     let mut q = EpochQueue::make(rt.alloc(), 8)?;
     let mut history = Requests::make(rt.alloc(), 2)?;
-    let accepted = q.accept_recorded(&mut history, put(7, 3, true, true));
-    assert!(rt; accepted.is_ok());
-    let blocked = q.accept_recorded(&mut history, put(8, 4, false, false));
-    assert!(rt; blocked.is_err());
-    assert_eq!(rt; history.len(), 1);
-    match history.get(0) {
-        Some(r) => assert_eq!(rt; (r.id, r.ordered, r.barrier), (7, true, true)),
-        None => assert!(rt; false),
-    }
+    let accepted = q.accept_recorded(&mut history, request(7, Barrier(3)));
+    let blocked = q.accept_recorded(&mut history, request(8, Orderless(4)));
+    let answers = (accepted.is_ok(), blocked.is_err(), history.len());
+    assert_eq!(rt; answers, (true, true, 1));
+    let recorded = history.get(0).map(|r| (r.id, r.ordered, r.barrier));
+    assert_eq!(rt; recorded, Some((7, true, true)));
     assert_eq!(rt; leave(&mut q, 0), Some((7, false, true)));
-    Ok(())
-}
-
-#[test]
-fn holds_capacity(rt: HostRuntime) -> Result<(), NoMemory> {
-    let mut q = EpochQueue::make(rt.alloc(), 2)?;
-    assert_eq!(rt; accept(&mut q, put(0, 0, false, false)), None);
-    assert_eq!(rt; accept(&mut q, put(1, 1, false, false)), None);
-    assert!(rt; !q.can_accept());
-    match q.accept(put(2, 9, true, true)) {
-        Ok(()) => assert!(rt; false),
-        Err((r, held)) => {
-            assert_eq!(rt; (r.id, r.ordered, r.barrier), (2, true, true));
-            assert_eq!(rt; held, Held::Full);
-        }
-    }
-    assert_eq!(rt; leave(&mut q, 0), Some((0, false, false)));
-    assert_eq!(rt; accept(&mut q, put(2, 9, true, true)), None);
-    assert_eq!(rt;
-        accept(&mut q, put(3, 3, false, false)),
-        Some(Held::Blocked)
-    );
     Ok(())
 }

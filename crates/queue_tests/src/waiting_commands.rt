@@ -1,23 +1,82 @@
 //! Commands that wait: which may go next in a device, and the ring of those that are on their way to it.
-ghost use Rattle.std.specs.Prelude.{◌≡◌, ◌+◌, ◌<◌};
+ghost use Rattle.std.specs.Prelude.{◌≤◌};
 
 use blk_base::{Block, NoMemory};
 use command_queue::{CommandQueue, CommandRing};
+use order_model::Priority::{Ordered, Simple};
 use order_model::{Command, Part, Parts, Priority};
+use std::alloc::Global;
 use std::process::Abort;
 
-// A command of so many blocks from `first` on.
-fn command(rt: &impl Abort, priority: Priority, first: u32, blocks: u32) -> Command
-    requires { first + blocks < 100 }
-{
+// What a test does with a queue, each with the answer that it expects.
+#[derive(Clone, Copy, PartialEq, Eq, Debug)]
+enum Step {
+    // Whether the queue takes a command of so many blocks from this one on.
+    Receive(Priority, u8, u8, bool),
+    // The first block of the command at this place, which leaves.
+    Take(u32, Option<u32>),
+    // The first block of the command at this place, which then leaves by `leave`.
+    Leave(u32, Option<u32>),
+    // The number of the command at this place, and its first block.
+    Peek(u32, Option<u64>, Option<u32>),
+    Eligible(u32),
+    Room(bool),
+    IsEmpty(bool),
+}
+
+use Step::{Eligible, IsEmpty, Leave, Peek, Receive, Room, Take};
+
+// A queue that has numbered no more commands than were sent to it.
+#[derive(Drop)]
+struct Bench {
+    queue: CommandQueue,
+    count: u64,
+    ghost few: { queue.next ≤ count },
+}
+
+impl Bench {
+    fn done(&mut self, step: Step) -> Step {
+        match step {
+            Receive(priority, first, blocks, _) => {
+                let taken = self.receive(command(priority, first, blocks));
+                Receive(priority, first, blocks, taken)
+            }
+            Take(pick, _) => Take(pick, first_block(self.queue.take(pick).as_ref())),
+            Leave(pick, _) => {
+                let block = first_block(self.queue.peek(pick));
+                self.queue.leave(pick);
+                Leave(pick, block)
+            }
+            Peek(pick, ..) => {
+                let block = first_block(self.queue.peek(pick));
+                Peek(pick, self.queue.number(pick), block)
+            }
+            Eligible(_) => Eligible(self.queue.eligible()),
+            Room(_) => Room(self.queue.room()),
+            IsEmpty(_) => IsEmpty(self.queue.is_empty()),
+        }
+    }
+
+    fn receive(&mut self, c: Command) -> bool {
+        if self.count >= 1000 {
+            return false;
+        }
+        let taken = self.queue.receive(c).is_ok();
+        self.count += 1;
+        taken
+    }
+}
+
+// A command of so many blocks from `first` on, at most 16.
+fn command(priority: Priority, first: u8, blocks: u8) -> Command {
     let mut parts = Parts::none();
-    for block in first..first + blocks {
-        let pushed = parts.push(Part {
+    for at in 0..u32::from(blocks) {
+        let block = u32::from(first) + at;
+        let _ = parts.push(Part {
             id: u64::from(block),
             block,
             body: Block::fill(0),
         });
-        assert!(rt; pushed.is_ok());
     }
     Command {
         parts,
@@ -27,129 +86,150 @@ fn command(rt: &impl Abort, priority: Priority, first: u32, blocks: u32) -> Comm
     }
 }
 
-fn arrive(rt: &impl Abort, q: &mut CommandQueue, c: Command)
-    requires { q.old.next < 1000 }
-    ensures { q.new.next ≡ q.old.next + 1 }
-{
-    assert!(rt; q.receive(c).is_ok());
-}
-
 // The first block of a command.
 fn first_block(c: Option<&Command>) -> Option<u32> {
     Some(c?.parts.get(0)?.block)
 }
 
+// A new queue of this depth does the steps. The first with another answer than it names ends the process.
+fn plays(rt: &impl Abort, alloc: Global, depth: u32, steps: &[Step]) -> Result<(), NoMemory>
+    requires { (1 ≤ depth) × (depth ≤ 64) }
+{
+    let queue = CommandQueue::make(alloc, depth)?;
+    let mut bench = Bench { queue, count: 0 };
+    for (at, step) in steps.iter().enumerate() {
+        assert_eq!(rt; bench.done(*step), *step, "step {at}");
+    }
+    Ok(())
+}
+
 #[test]
 fn holds_depth(rt: HostRuntime) -> Result<(), NoMemory> {
-    let mut q = CommandQueue::make(rt.alloc(), 2)?;
-    arrive(&rt, &mut q, command(&rt, Priority::Simple, 1, 1));
-    assert!(rt; q.room());
-    arrive(&rt, &mut q, command(&rt, Priority::Simple, 2, 1));
-    assert!(rt; !q.room());
-    match q.receive(command(&rt, Priority::Ordered, 3, 2)) {
-        Ok(()) => assert!(rt; false),
-        Err(c) => {
-            assert_eq!(rt; first_block(Some(&c)), Some(3));
-            assert_eq!(rt; c.parts.len(), 2);
-            assert_eq!(rt; c.priority, Priority::Ordered);
-        }
-    }
-    assert_eq!(rt; q.eligible(), 2);
-    assert_eq!(rt; first_block(q.take(1).as_ref()), Some(2));
-    assert!(rt; q.room());
-    assert_eq!(rt; first_block(q.peek(0)), Some(1));
-    q.leave(0);
-    assert!(rt; q.is_empty());
-    Ok(())
+    let steps = [
+        Receive(Simple, 1, 1, true),
+        Room(true),
+        Receive(Simple, 2, 1, true),
+        Room(false),
+        Receive(Ordered, 3, 2, false),
+        Eligible(2),
+        Take(1, Some(2)),
+        Room(true),
+        IsEmpty(false),
+        Leave(0, Some(1)),
+        IsEmpty(true),
+    ];
+    plays(&rt, rt.alloc(), 2, &steps)
 }
 
 // 0: SIMPLE at block 1; 1: SIMPLE at block 1; 2: SIMPLE at block 2; 3: ORDERED; 4: SIMPLE.
 #[test]
 fn keeps_ordered_ones_in_order(rt: HostRuntime) -> Result<(), NoMemory> {
-    let mut q = CommandQueue::make(rt.alloc(), 8)?;
-    arrive(&rt, &mut q, command(&rt, Priority::Simple, 1, 1));
-    arrive(&rt, &mut q, command(&rt, Priority::Simple, 1, 1));
-    arrive(&rt, &mut q, command(&rt, Priority::Simple, 2, 1));
-    arrive(&rt, &mut q, command(&rt, Priority::Ordered, 9, 1));
-    arrive(&rt, &mut q, command(&rt, Priority::Simple, 3, 1));
-    assert_eq!(rt; q.eligible(), 2);
-    assert_eq!(rt; q.number(0), Some(0));
-    assert_eq!(rt; q.number(1), Some(2));
-    assert_eq!(rt; q.number(2), None);
-    assert_eq!(rt; first_block(q.peek(1)), Some(2));
-    assert!(rt; q.peek(2).is_none());
-    for (pick, number, block, left) in [
-        (1, 2, 2, 1),
-        (0, 0, 1, 1),
-        (0, 1, 1, 1),
-        (0, 3, 9, 1),
-        (0, 4, 3, 0),
-    ] {
-        assert_eq!(rt; q.number(pick), Some(number));
-        assert_eq!(rt; first_block(q.take(pick).as_ref()), Some(block));
-        assert_eq!(rt; q.eligible(), left, "after {number}");
-    }
-    assert!(rt; q.take(0).is_none());
-    Ok(())
+    let steps = [
+        Receive(Simple, 1, 1, true),
+        Receive(Simple, 1, 1, true),
+        Receive(Simple, 2, 1, true),
+        Receive(Ordered, 9, 1, true),
+        Receive(Simple, 3, 1, true),
+        Eligible(2),
+        Peek(0, Some(0), Some(1)),
+        Peek(2, None, None),
+        Peek(1, Some(2), Some(2)),
+        Take(1, Some(2)),
+        Eligible(1),
+        Peek(0, Some(0), Some(1)),
+        Take(0, Some(1)),
+        Eligible(1),
+        Peek(0, Some(1), Some(1)),
+        Take(0, Some(1)),
+        Eligible(1),
+        Peek(0, Some(3), Some(9)),
+        Take(0, Some(9)),
+        Eligible(1),
+        Peek(0, Some(4), Some(3)),
+        Take(0, Some(3)),
+        Eligible(0),
+        Take(0, None),
+    ];
+    plays(&rt, rt.alloc(), 8, &steps)
 }
 
 // Blocks 5 to 7, 7 and 8, and 8 and 9: the third has no block of the first, but waits for the second.
 #[test]
 fn keeps_blocks_in_order(rt: HostRuntime) -> Result<(), NoMemory> {
-    let mut q = CommandQueue::make(rt.alloc(), 3)?;
-    arrive(&rt, &mut q, command(&rt, Priority::Simple, 5, 3));
-    arrive(&rt, &mut q, command(&rt, Priority::Simple, 7, 2));
-    arrive(&rt, &mut q, command(&rt, Priority::Simple, 8, 2));
-    for first in [5, 7, 8] {
-        assert_eq!(rt; q.eligible(), 1);
-        assert_eq!(rt; first_block(q.take(0).as_ref()), Some(first));
+    let steps = [
+        Receive(Simple, 5, 3, true),
+        Receive(Simple, 7, 2, true),
+        Receive(Simple, 8, 2, true),
+        Eligible(1),
+        Take(0, Some(5)),
+        Eligible(1),
+        Take(0, Some(7)),
+        Eligible(1),
+        Take(0, Some(8)),
+    ];
+    plays(&rt, rt.alloc(), 3, &steps)
+}
+
+// What a test does with a ring, each with the answer that it expects.
+#[derive(Clone, Copy, PartialEq, Eq, Debug)]
+enum Turn {
+    // A command of so many blocks from this one on goes in where there is room; and whether the ring is full then.
+    Push(u8, u8, bool),
+    // The first block of the first command, and how many it has. The command leaves.
+    Remove(Option<(u32, u32)>),
+}
+
+use Turn::{Push, Remove};
+
+// The first command's first block, and how many it has.
+fn first_of(ring: &CommandRing) -> Option<(u32, u32)> {
+    let command = ring.first()?;
+    Some((command.parts.get(0)?.block, command.parts.len()))
+}
+
+fn turned(ring: &mut CommandRing, turn: Turn) -> Turn {
+    match turn {
+        Push(first, blocks, _) => {
+            if !ring.is_full() {
+                ring.push(&command(Simple, first, blocks));
+            }
+            Push(first, blocks, ring.is_full())
+        }
+        Remove(_) => {
+            let first = first_of(ring);
+            ring.remove_first();
+            Remove(first)
+        }
     }
-    Ok(())
-}
-
-// A copy of a command of so many blocks from `first` on goes into the ring, which has room.
-fn push(rt: &impl Abort, ring: &mut CommandRing, first: u32, blocks: u32)
-    requires { first + blocks < 100 }
-{
-    assert!(rt; !ring.is_full());
-    ring.push(&command(rt, Priority::Simple, first, blocks));
-}
-
-// The first command of the ring has so many blocks from `first` on, and leaves.
-fn leaves(rt: &impl Abort, ring: &mut CommandRing, first: u32, blocks: u32) {
-    assert_eq!(rt; first_block(ring.first()), Some(first));
-    assert_eq!(rt; ring.first().map_or(0, |c| c.parts.len()), blocks);
-    ring.remove_first();
 }
 
 // Three slots: the commands at blocks 40 and 50 lie where those at 10 and 20 lay.
 #[test]
 fn ring_wraps_round(rt: HostRuntime) -> Result<(), NoMemory> {
     let mut ring = CommandRing::make(rt.alloc(), 3)?;
-    assert!(rt; ring.first().is_none());
-    push(&rt, &mut ring, 10, 2);
-    push(&rt, &mut ring, 20, 3);
-    push(&rt, &mut ring, 30, 1);
-    assert!(rt; ring.is_full());
-    leaves(&rt, &mut ring, 10, 2);
-    push(&rt, &mut ring, 40, 1);
-    assert!(rt; ring.is_full());
-    leaves(&rt, &mut ring, 20, 3);
-    push(&rt, &mut ring, 50, 4);
-    assert!(rt; ring.is_full());
-    leaves(&rt, &mut ring, 30, 1);
-    leaves(&rt, &mut ring, 40, 1);
-    leaves(&rt, &mut ring, 50, 4);
-    assert!(rt; ring.first().is_none());
-    ring.remove_first();
-    assert!(rt; ring.first().is_none());
+    let turns = [
+        Remove(None),
+        Push(10, 2, false),
+        Push(20, 3, false),
+        Push(30, 1, true),
+        Remove(Some((10, 2))),
+        Push(40, 1, true),
+        Remove(Some((20, 3))),
+        Push(50, 4, true),
+        Remove(Some((30, 1))),
+        Remove(Some((40, 1))),
+        Remove(Some((50, 4))),
+        Remove(None),
+    ];
+    for (at, turn) in turns.into_iter().enumerate() {
+        assert_eq!(rt; turned(&mut ring, turn), turn, "turn {at}");
+    }
     Ok(())
 }
 
 #[test]
 fn ring_of_no_slots_is_full(rt: HostRuntime) -> Result<(), NoMemory> {
     let ring = CommandRing::make(rt.alloc(), 0)?;
-    assert!(rt; ring.is_full());
-    assert!(rt; ring.first().is_none());
+    assert!(rt; ring.is_full() && ring.first().is_none());
     Ok(())
 }
