@@ -1,12 +1,10 @@
 //! Tests of the device: worked rows, power cuts, and transfers and reads that fail.
-ghost use Rattle.std.specs.Prelude.{◌≡◌, ℕ, ◌+◌, ◌<◌, ◌≤◌, IfOk, length};
+ghost use Rattle.std.specs.Prelude.{◌≡◌, ◌+◌, ◌<◌, ◌≤◌, IfOk};
 ghost use Rattle.device_tests.specs.Asked.{HasTaken, IsNext};
 
 use blk_base::{Block, Image, NoMemory};
 use device_epochs::{DeviceSetup, EpochDevice};
-use order_model::{
-    Command, Completion, DeviceRecord, OrderedDev, Part, Parts, Priority, ReadFault,
-};
+use order_model::{Command, Completion, OrderedDev, Part, Parts, Priority, ReadFault};
 use std::alloc::Global;
 use std::process::Abort;
 use std::test::Fail;
@@ -76,13 +74,17 @@ fn misreading(alloc: Global, bad_read: u64) -> Result<EpochDevice, NoMemory>
     )
 }
 
-// What the device answers to a read of its first block, once it is quiet.
-fn reads(rt: &impl Abort, device: &mut EpochDevice) -> Result<Block, ReadFault>
-    requires { 1 ≤ length device.old.surface }
-    ensures { length device.new.surface ≡ length device.old.surface }
-{
+// Whether a read of the block succeeds, once the device is quiet. Then the block is filled with this byte.
+fn reads(rt: &impl Abort, device: &mut EpochDevice, block: u32, fill: u8) -> bool {
     assert!(rt; device.is_quiet());
-    device.read(0)
+    assert!(rt; block < device.blocks());
+    match device.read(block) {
+        Ok(body) => {
+            assert!(rt; body == Block::fill(fill));
+            true
+        }
+        Err(ReadFault) => false,
+    }
 }
 
 fn part_of(id: u64, block: u32, fill: u8) -> Part
@@ -133,6 +135,9 @@ fn flush(id: u64) -> Command
     }
 }
 
+// A put's block, the byte that it is filled with, and whether it is a barrier.
+type Row = (u32, u8, bool);
+
 // The device takes the command, which has the ids `from` to `to`.
 fn give(rt: &impl Abort, device: &mut EpochDevice, from: u64, to: u64, c: Command)
     requires taken { HasTaken device.old from }
@@ -141,6 +146,27 @@ fn give(rt: &impl Abort, device: &mut EpochDevice, from: u64, to: u64, c: Comman
     ensures { HasTaken device.new to }
 {
     assert!(rt; device.receive(c).is_ok());
+}
+
+// The device takes a put of this block, filled with this byte and maybe a barrier, under the next id.
+fn give_put(rt: &impl Abort, device: &mut EpochDevice, id: u64, row: Row)
+    requires taken { HasTaken device.old id }
+    requires few { id < 16 }
+    ensures { HasTaken device.new (id + 1) }
+{
+    let (block, fill, barrier) = row;
+    assert!(rt; block < 4);
+    give(rt, device, id, id + 1, put(id, block, fill, barrier));
+}
+
+fn give_three(rt: &impl Abort, device: &mut EpochDevice, rows: [Row; 3])
+    requires { HasTaken device.old 0 }
+    ensures { HasTaken device.new 3 }
+{
+    let [first, second, third] = rows;
+    give_put(rt, device, 0, first);
+    give_put(rt, device, 1, second);
+    give_put(rt, device, 2, third);
 }
 
 // The same by the call that copies the command.
@@ -183,41 +209,96 @@ fn is_filled(image: &Image, fills: [u8; 4]) -> bool {
     true
 }
 
-fn counts(trace: &DeviceRecord) -> (usize, usize, usize, u64) {
-    (
-        trace.took.len(),
-        trace.moved.as_slice().len(),
-        trace.sent.as_slice().len(),
-        trace.steps,
-    )
+// A put of block 1, and a flush.
+fn put_and_flush(rt: &impl Abort, device: &mut EpochDevice)
+    requires { HasTaken device.old 0 }
+{
+    give_put(rt, device, 0, (1, 0x11, false));
+    give(rt, device, 1, 2, flush(1));
+}
+
+// What a test does with a device, each with the answer that it expects.
+#[derive(Clone, Copy, PartialEq, Eq, Debug)]
+enum Step {
+    CanTransfer(u32),
+    Transfer(u32, bool),
+    CanPersist(u32),
+    Persist(u32, bool),
+    Answer(Option<Completion>),
+    Room(bool),
+    Quiet(bool),
+    // What was taken, what was moved, what was sent, and the steps.
+    Counts(usize, usize, usize, u64),
+}
+
+use Step::{Answer, CanPersist, CanTransfer, Counts, Persist, Quiet, Room, Transfer};
+
+// The step with the answer that came.
+fn done(device: &mut EpochDevice, step: Step) -> Step {
+    match step {
+        CanTransfer(_) => CanTransfer(device.can_transfer()),
+        Transfer(pick, _) => Transfer(pick, device.transfer(pick)),
+        CanPersist(_) => CanPersist(device.can_persist()),
+        Persist(pick, _) => Persist(pick, device.persist(pick)),
+        Answer(_) => Answer(device.answer()),
+        Room(_) => Room(device.room()),
+        Quiet(_) => Quiet(device.is_quiet()),
+        Counts(..) => {
+            let trace = device.trace();
+            Counts(
+                trace.took.len(),
+                trace.moved.as_slice().len(),
+                trace.sent.as_slice().len(),
+                trace.steps,
+            )
+        }
+    }
+}
+
+// The device does the steps. The first with another answer than it names ends the process.
+fn plays(rt: &impl Abort, device: &mut EpochDevice, steps: &[Step]) {
+    for (at, step) in steps.iter().enumerate() {
+        assert_eq!(rt; done(device, *step), *step, "step {at}");
+    }
+}
+
+// The power goes off after so many steps. The blocks are filled with these bytes, of these puts.
+fn leaves(
+    rt: &impl Abort,
+    device: EpochDevice,
+    steps: u64,
+    fills: [u8; 4],
+    origins: [Option<u64>; 4],
+) {
+    let disk = device.cut();
+    assert!(rt; is_filled(&disk.image, fills));
+    assert_eq!(rt; disk.origins.as_slice(), origins.as_slice());
+    assert_eq!(rt; disk.trace.steps, steps);
 }
 
 // The first epoch, puts 0 and 1, is on the medium before put 2.
 #[test]
 fn epochs_in_order(rt: HostRuntime) -> Result<(), Fail> {
     let mut device = device(rt.alloc(), None)?;
-    give(&rt, &mut device, 0, 1, put(0, 0, 0x11, false));
-    give(&rt, &mut device, 1, 2, put(1, 1, 0x22, true));
-    give(&rt, &mut device, 2, 3, put(2, 2, 0x33, false));
-    assert_eq!(rt; device.can_transfer(), 1);
-    assert!(rt; !device.transfer(1));
-    assert_eq!(rt; counts(device.trace()), (3, 0, 0, 0));
-    for _ in 0..3 {
-        assert!(rt; device.transfer(0));
-    }
-    assert_eq!(rt; device.can_persist(), 2);
-    assert!(rt; !device.persist(2));
-    assert_eq!(rt; counts(device.trace()), (3, 3, 0, 3));
-    assert!(rt; device.persist(0));
-    assert!(rt; device.persist(0));
-    assert_eq!(rt; device.can_persist(), 1);
-    let disk = device.cut();
-    assert!(rt; is_filled(&disk.image, [0x11, 0x22, 0, 0]));
-    assert_eq!(rt;
-        disk.origins.as_slice(),
-        [Some(0), Some(1), None, None].as_slice()
-    );
-    assert_eq!(rt; disk.trace.steps, 5);
+    let puts = [(0, 0x11, false), (1, 0x22, true), (2, 0x33, false)];
+    give_three(&rt, &mut device, puts);
+    let steps = [
+        CanTransfer(1),
+        Transfer(1, false),
+        Counts(3, 0, 0, 0),
+        Transfer(0, true),
+        Transfer(0, true),
+        Transfer(0, true),
+        CanPersist(2),
+        Persist(2, false),
+        Counts(3, 3, 0, 3),
+        Persist(0, true),
+        Persist(0, true),
+        CanPersist(1),
+    ];
+    plays(&rt, &mut device, &steps);
+    let origins = [Some(0), Some(1), None, None];
+    leaves(&rt, device, 5, [0x11, 0x22, 0, 0], origins);
     Ok(())
 }
 
@@ -226,21 +307,23 @@ fn epochs_in_order(rt: HostRuntime) -> Result<(), Fail> {
 fn flush_waits_for_the_cache(rt: HostRuntime) -> Result<(), Fail> {
     let mut device = device(rt.alloc(), None)?;
     assert!(rt; device.is_quiet());
-    give(&rt, &mut device, 0, 1, put(0, 1, 0x11, false));
-    give(&rt, &mut device, 1, 2, flush(1));
-    assert!(rt; device.transfer(0));
-    assert!(rt; !device.transfer(0));
-    assert_eq!(rt; device.can_transfer(), 0);
-    assert!(rt; device.persist(0));
-    assert!(rt; device.transfer(0));
-    assert!(rt; !device.is_quiet());
-    assert_eq!(rt; device.answer(), Some(Completion::Moved(0)));
-    assert_eq!(rt; device.answer(), Some(Completion::Flushed(1)));
-    assert_eq!(rt; device.answer(), None);
-    assert_eq!(rt; counts(device.trace()), (2, 1, 2, 3));
-    assert!(rt; device.is_quiet());
+    put_and_flush(&rt, &mut device);
+    let steps = [
+        Transfer(0, true),
+        Transfer(0, false),
+        CanTransfer(0),
+        Persist(0, true),
+        Transfer(0, true),
+        Quiet(false),
+        Answer(Some(Completion::Moved(0))),
+        Answer(Some(Completion::Flushed(1))),
+        Answer(None),
+        Counts(2, 1, 2, 3),
+        Quiet(true),
+    ];
+    plays(&rt, &mut device, &steps);
     assert_eq!(rt; device.blocks(), 4);
-    assert_eq!(rt; device.read(1), Ok(Block::fill(0x11)));
+    assert!(rt; reads(&rt, &mut device, 1, 0x11));
     Ok(())
 }
 
@@ -248,17 +331,21 @@ fn flush_waits_for_the_cache(rt: HostRuntime) -> Result<(), Fail> {
 #[test]
 fn cut_after_one_step(rt: HostRuntime) -> Result<(), Fail> {
     let mut device = device(rt.alloc(), Some(1))?;
-    give(&rt, &mut device, 0, 1, put(0, 0, 0x11, false));
+    give_put(&rt, &mut device, 0, (0, 0x11, false));
     assert!(rt; moves(&mut device, 1, 0));
-    assert!(rt; !device.room());
     assert!(rt; refuses(&mut device, 1, 2, put(1, 1, 0x22, false)));
-    assert!(rt; !device.persist(0));
-    assert_eq!(rt; (device.can_transfer(), device.can_persist()), (0, 0));
-    assert_eq!(rt; device.answer(), Some(Completion::Moved(0)));
-    assert_eq!(rt; device.answer(), Some(Completion::Cut));
-    assert_eq!(rt; device.answer(), None);
-    assert_eq!(rt; counts(device.trace()), (1, 1, 2, 1));
-    assert!(rt; is_filled(&device.cut().image, [0; 4]));
+    let steps = [
+        Room(false),
+        Persist(0, false),
+        CanTransfer(0),
+        CanPersist(0),
+        Answer(Some(Completion::Moved(0))),
+        Answer(Some(Completion::Cut)),
+        Answer(None),
+        Counts(1, 1, 2, 1),
+    ];
+    plays(&rt, &mut device, &steps);
+    leaves(&rt, device, 1, [0; 4], [None; 4]);
     Ok(())
 }
 
@@ -266,68 +353,49 @@ fn cut_after_one_step(rt: HostRuntime) -> Result<(), Fail> {
 #[test]
 fn later_put_takes_the_place(rt: HostRuntime) -> Result<(), Fail> {
     let mut device = device(rt.alloc(), None)?;
-    give(&rt, &mut device, 0, 1, put(0, 0, 0x11, false));
-    give(&rt, &mut device, 1, 2, put(1, 1, 0x22, false));
-    give(&rt, &mut device, 2, 3, put(2, 0, 0x33, false));
-    for _ in 0..3 {
-        assert!(rt; device.transfer(0));
-    }
-    assert_eq!(rt; device.can_persist(), 2);
-    assert!(rt; device.persist(0));
-    let disk = device.cut();
-    assert!(rt; is_filled(&disk.image, [0x33, 0, 0, 0]));
-    assert_eq!(rt;
-        disk.origins.as_slice(),
-        [Some(2), None, None, None].as_slice()
-    );
+    let puts = [(0, 0x11, false), (1, 0x22, false), (0, 0x33, false)];
+    give_three(&rt, &mut device, puts);
+    let steps = [
+        Transfer(0, true),
+        Transfer(0, true),
+        Transfer(0, true),
+        CanPersist(2),
+        Persist(0, true),
+    ];
+    plays(&rt, &mut device, &steps);
+    leaves(&rt, device, 4, [0x33, 0, 0, 0], [Some(2), None, None, None]);
     Ok(())
 }
 
-// Two epochs have puts of block 0, the first one two of them.
-fn move_two_epochs(rt: &impl Abort, device: &mut EpochDevice)
-    requires { HasTaken device.old 0 }
-{
-    give(rt, device, 0, 1, put(0, 0, 0x01, false));
-    give(rt, device, 1, 2, put(1, 0, 0x02, false));
-    give(rt, device, 2, 3, put(2, 1, 0x03, true));
-    give(rt, device, 3, 4, put(3, 0, 0x04, false));
+// Two epochs have puts of block 0, the first one two of them. So many blocks are written.
+fn two_epochs(rt: &impl Abort, alloc: Global, written: u32) -> Result<EpochDevice, NoMemory> {
+    let mut device = device(alloc, None)?;
+    let puts = [(0, 0x01, false), (0, 0x02, false), (1, 0x03, true)];
+    give_three(rt, &mut device, puts);
+    give_put(rt, &mut device, 3, (0, 0x04, false));
     for _ in 0..4 {
-        assert!(rt; device.transfer(0));
+        plays(rt, &mut device, &[Transfer(0, true)]);
     }
-    assert_eq!(rt; device.can_persist(), 2);
+    plays(rt, &mut device, &[CanPersist(2)]);
+    for _ in 0..written {
+        plays(rt, &mut device, &[Persist(0, true)]);
+    }
+    Ok(device)
 }
 
 #[test]
 fn first_epoch_writes_its_newest_put(rt: HostRuntime) -> Result<(), Fail> {
-    let mut device = device(rt.alloc(), None)?;
-    move_two_epochs(&rt, &mut device);
-    for _ in 0..2 {
-        assert!(rt; device.persist(0));
-    }
-    let disk = device.cut();
-    assert!(rt; is_filled(&disk.image, [0x02, 0x03, 0, 0]));
-    assert_eq!(rt;
-        disk.origins.as_slice(),
-        [Some(1), Some(2), None, None].as_slice()
-    );
-    assert_eq!(rt; disk.trace.steps, 6);
+    let device = two_epochs(&rt, rt.alloc(), 2)?;
+    let origins = [Some(1), Some(2), None, None];
+    leaves(&rt, device, 6, [0x02, 0x03, 0, 0], origins);
     Ok(())
 }
 
 #[test]
 fn second_epoch_writes_its_own_put(rt: HostRuntime) -> Result<(), Fail> {
-    let mut device = device(rt.alloc(), None)?;
-    move_two_epochs(&rt, &mut device);
-    for _ in 0..3 {
-        assert!(rt; device.persist(0));
-    }
-    let disk = device.cut();
-    assert!(rt; is_filled(&disk.image, [0x04, 0x03, 0, 0]));
-    assert_eq!(rt;
-        disk.origins.as_slice(),
-        [Some(3), Some(2), None, None].as_slice()
-    );
-    assert_eq!(rt; disk.trace.steps, 7);
+    let device = two_epochs(&rt, rt.alloc(), 3)?;
+    let origins = [Some(3), Some(2), None, None];
+    leaves(&rt, device, 7, [0x04, 0x03, 0, 0], origins);
     Ok(())
 }
 
@@ -335,16 +403,19 @@ fn second_epoch_writes_its_own_put(rt: HostRuntime) -> Result<(), Fail> {
 #[test]
 fn put_finds_its_entry_once_others_left(rt: HostRuntime) -> Result<(), Fail> {
     let mut device = device(rt.alloc(), None)?;
-    give(&rt, &mut device, 0, 1, put(0, 0, 0x11, false));
-    give(&rt, &mut device, 1, 2, put(1, 1, 0x22, false));
-    give(&rt, &mut device, 2, 3, put(2, 1, 0x33, false));
-    assert!(rt; device.transfer(0));
-    assert!(rt; device.transfer(0));
-    assert!(rt; device.persist(0));
-    assert!(rt; device.transfer(0));
-    assert_eq!(rt; device.can_persist(), 1);
-    assert!(rt; device.persist(0));
-    assert!(rt; is_filled(&device.cut().image, [0x11, 0x33, 0, 0]));
+    let puts = [(0, 0x11, false), (1, 0x22, false), (1, 0x33, false)];
+    give_three(&rt, &mut device, puts);
+    let steps = [
+        Transfer(0, true),
+        Transfer(0, true),
+        Persist(0, true),
+        Transfer(0, true),
+        CanPersist(1),
+        Persist(0, true),
+    ];
+    plays(&rt, &mut device, &steps);
+    let origins = [Some(0), Some(2), None, None];
+    leaves(&rt, device, 5, [0x11, 0x33, 0, 0], origins);
     Ok(())
 }
 
@@ -353,19 +424,16 @@ fn put_finds_its_entry_once_others_left(rt: HostRuntime) -> Result<(), Fail> {
 fn command_of_two_parts(rt: HostRuntime) -> Result<(), Fail> {
     let mut device = device(rt.alloc(), None)?;
     lend(&rt, &mut device, 0, 2, &put_two(&rt, 0, 1));
-    assert_eq!(rt; counts(device.trace()), (1, 0, 0, 0));
-    assert!(rt; device.transfer(0));
-    assert_eq!(rt; device.can_persist(), 2);
-    assert!(rt; device.persist(1));
-    assert_eq!(rt; device.answer(), Some(Completion::Moved(0)));
-    assert_eq!(rt; device.answer(), Some(Completion::Moved(1)));
-    let disk = device.cut();
-    assert!(rt; is_filled(&disk.image, [0, 0, 0x22, 0]));
-    assert_eq!(rt;
-        disk.origins.as_slice(),
-        [None, None, Some(1), None].as_slice()
-    );
-    assert_eq!(rt; disk.trace.steps, 2);
+    let steps = [
+        Counts(1, 0, 0, 0),
+        Transfer(0, true),
+        CanPersist(2),
+        Persist(1, true),
+        Answer(Some(Completion::Moved(0))),
+        Answer(Some(Completion::Moved(1))),
+    ];
+    plays(&rt, &mut device, &steps);
+    leaves(&rt, device, 2, [0, 0, 0x22, 0], [None, None, Some(1), None]);
     Ok(())
 }
 
@@ -374,18 +442,21 @@ fn command_of_two_parts(rt: HostRuntime) -> Result<(), Fail> {
 fn first_transfer_fails(rt: HostRuntime) -> Result<(), Fail> {
     let mut device = failing(rt.alloc(), 1, None)?;
     give(&rt, &mut device, 0, 2, put_two(&rt, 0, 1));
-    give(&rt, &mut device, 2, 3, put(2, 0, 0x33, false));
-    assert!(rt; device.transfer(0));
-    assert_eq!(rt; (device.can_transfer(), device.can_persist()), (0, 0));
-    assert!(rt; !device.transfer(0));
-    assert_eq!(rt; device.answer(), Some(Completion::Failed(0)));
-    assert_eq!(rt; device.answer(), Some(Completion::Failed(1)));
-    assert_eq!(rt; device.answer(), None);
-    assert!(rt; device.room());
-    assert!(rt; !device.is_quiet());
-    let disk = device.cut();
-    assert!(rt; is_filled(&disk.image, [0; 4]));
-    assert_eq!(rt; counts(&disk.trace), (2, 0, 2, 1));
+    give_put(&rt, &mut device, 2, (0, 0x33, false));
+    let steps = [
+        Transfer(0, true),
+        CanTransfer(0),
+        CanPersist(0),
+        Transfer(0, false),
+        Answer(Some(Completion::Failed(0))),
+        Answer(Some(Completion::Failed(1))),
+        Answer(None),
+        Room(true),
+        Quiet(false),
+        Counts(2, 0, 2, 1),
+    ];
+    plays(&rt, &mut device, &steps);
+    leaves(&rt, device, 1, [0; 4], [None; 4]);
     Ok(())
 }
 
@@ -393,20 +464,21 @@ fn first_transfer_fails(rt: HostRuntime) -> Result<(), Fail> {
 #[test]
 fn writes_go_on_after_a_failed_transfer(rt: HostRuntime) -> Result<(), Fail> {
     let mut device = failing(rt.alloc(), 2, None)?;
-    give(&rt, &mut device, 0, 1, put(0, 0, 0x11, false));
-    give(&rt, &mut device, 1, 2, put(1, 1, 0x22, true));
-    give(&rt, &mut device, 2, 3, put(2, 2, 0x33, false));
-    assert!(rt; device.transfer(0));
-    assert!(rt; device.transfer(0));
-    assert!(rt; !device.transfer(0));
-    assert_eq!(rt; device.can_persist(), 1);
-    assert!(rt; device.persist(0));
-    assert_eq!(rt; device.answer(), Some(Completion::Moved(0)));
-    assert_eq!(rt; device.answer(), Some(Completion::Failed(1)));
-    assert_eq!(rt; device.answer(), None);
-    let disk = device.cut();
-    assert!(rt; is_filled(&disk.image, [0x11, 0, 0, 0]));
-    assert_eq!(rt; counts(&disk.trace), (3, 1, 2, 3));
+    let puts = [(0, 0x11, false), (1, 0x22, true), (2, 0x33, false)];
+    give_three(&rt, &mut device, puts);
+    let steps = [
+        Transfer(0, true),
+        Transfer(0, true),
+        Transfer(0, false),
+        CanPersist(1),
+        Persist(0, true),
+        Answer(Some(Completion::Moved(0))),
+        Answer(Some(Completion::Failed(1))),
+        Answer(None),
+        Counts(3, 1, 2, 3),
+    ];
+    plays(&rt, &mut device, &steps);
+    leaves(&rt, device, 3, [0x11, 0, 0, 0], [Some(0), None, None, None]);
     Ok(())
 }
 
@@ -414,16 +486,18 @@ fn writes_go_on_after_a_failed_transfer(rt: HostRuntime) -> Result<(), Fail> {
 #[test]
 fn flush_fails(rt: HostRuntime) -> Result<(), Fail> {
     let mut device = failing(rt.alloc(), 2, None)?;
-    give(&rt, &mut device, 0, 1, put(0, 1, 0x11, false));
-    give(&rt, &mut device, 1, 2, flush(1));
-    assert!(rt; device.transfer(0));
-    assert!(rt; device.persist(0));
-    assert!(rt; device.transfer(0));
-    assert_eq!(rt; device.answer(), Some(Completion::Moved(0)));
-    assert_eq!(rt; device.answer(), Some(Completion::Failed(1)));
-    assert_eq!(rt; device.answer(), None);
-    assert!(rt; !device.is_quiet());
-    assert_eq!(rt; counts(device.trace()), (2, 1, 2, 3));
+    put_and_flush(&rt, &mut device);
+    let steps = [
+        Transfer(0, true),
+        Persist(0, true),
+        Transfer(0, true),
+        Answer(Some(Completion::Moved(0))),
+        Answer(Some(Completion::Failed(1))),
+        Answer(None),
+        Quiet(false),
+        Counts(2, 1, 2, 3),
+    ];
+    plays(&rt, &mut device, &steps);
     Ok(())
 }
 
@@ -431,29 +505,33 @@ fn flush_fails(rt: HostRuntime) -> Result<(), Fail> {
 #[test]
 fn fails_and_goes_off(rt: HostRuntime) -> Result<(), Fail> {
     let mut device = failing(rt.alloc(), 1, Some(1))?;
-    give(&rt, &mut device, 0, 1, put(0, 0, 0x11, false));
-    assert!(rt; moves(&mut device, 1, 0));
-    assert!(rt; !device.room());
-    assert_eq!(rt; device.answer(), Some(Completion::Failed(0)));
-    assert_eq!(rt; device.answer(), Some(Completion::Cut));
-    assert_eq!(rt; device.answer(), None);
-    assert_eq!(rt; counts(device.trace()), (1, 0, 2, 1));
+    give_put(&rt, &mut device, 0, (0, 0x11, false));
+    let steps = [
+        Transfer(0, true),
+        Room(false),
+        Answer(Some(Completion::Failed(0))),
+        Answer(Some(Completion::Cut)),
+        Answer(None),
+        Counts(1, 0, 2, 1),
+    ];
+    plays(&rt, &mut device, &steps);
     Ok(())
 }
 
 #[test]
 fn first_read_fails(rt: HostRuntime) -> Result<(), Fail> {
     let mut device = misreading(rt.alloc(), 1)?;
-    assert_eq!(rt; reads(&rt, &mut device), Err(ReadFault));
-    assert_eq!(rt; reads(&rt, &mut device), Ok(Block::fill(0)));
+    for read in [false, true] {
+        assert_eq!(rt; reads(&rt, &mut device, 0, 0), read);
+    }
     Ok(())
 }
 
 #[test]
 fn second_read_fails(rt: HostRuntime) -> Result<(), Fail> {
     let mut device = misreading(rt.alloc(), 2)?;
-    assert_eq!(rt; reads(&rt, &mut device), Ok(Block::fill(0)));
-    assert_eq!(rt; reads(&rt, &mut device), Err(ReadFault));
-    assert_eq!(rt; reads(&rt, &mut device), Ok(Block::fill(0)));
+    for (at, read) in [true, false, true].into_iter().enumerate() {
+        assert_eq!(rt; reads(&rt, &mut device, 0, 0), read, "read {at}");
+    }
     Ok(())
 }
