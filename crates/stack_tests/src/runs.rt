@@ -7,6 +7,7 @@ use device_epochs::{DeviceSetup, EpochDevice};
 use script_grammar::{Script, read_script};
 use stack_core::{Report, core_run, run_on};
 use std::alloc::Global;
+use std::process::Abort;
 use std::test::Fail;
 
 // What a run leaves, in short: the steps, how many requests were submitted, how many the scheduler
@@ -78,6 +79,45 @@ fn left_by(alloc: Global, text: &[u8]) -> Result<Left, Fail>
     })
 }
 
+// The run of this script leaves so many steps, so many requests that were submitted and accepted, these ids that were
+// sent out, and these origins.
+fn leaves(
+    rt: &impl Abort,
+    alloc: Global,
+    text: &[u8],
+    counts: (u64, usize, usize),
+    sent: &[u64],
+    origins: &[Option<u64>],
+) -> Result<(), Fail>
+    requires { length text.now ≤ 4194304 }
+{
+    let left = left_by(alloc, text)?;
+    assert_eq!(rt; (left.steps, left.submitted, left.accepted), counts);
+    assert_eq!(rt;
+        (left.sent.as_slice(), left.origins.as_slice()),
+        (sent, origins)
+    );
+    Ok(())
+}
+
+// The run of which this transfer fails leaves so many steps, so many requests that were submitted, so many parts that
+// moved, and these origins.
+fn breaks(
+    rt: &impl Abort,
+    alloc: Global,
+    text: &[u8],
+    fail_at: u64,
+    counts: (u64, usize, usize),
+    origins: &[Option<u64>],
+) -> Result<(), Fail>
+    requires { length text.now ≤ 4194304 }
+{
+    let left = broken_by(alloc, text, fail_at)?;
+    assert_eq!(rt; (left.steps, left.submitted, left.moved), counts);
+    assert_eq!(rt; left.origins.as_slice(), origins);
+    Ok(())
+}
+
 // Request 2 finds the dispatch queue full and is kept. The next dispatch sends it, whatever it picks, and
 // takes no other one.
 #[test]
@@ -102,44 +142,28 @@ receive x 2
 transfer 0 x 2
 persist 0 x 2
 ";
-    let left = left_by(rt.alloc(), text)?;
-    assert_eq!(rt; left.steps, 4);
-    assert_eq!(rt; (left.submitted, left.accepted), (3, 3));
-    assert_eq!(rt; left.sent.as_slice(), [0, 2].as_slice());
-    assert_eq!(rt;
-        left.origins.as_slice(),
-        [Some(0), None, Some(2)].as_slice()
-    );
-    Ok(())
+    let origins = [Some(0), None, Some(2)];
+    leaves(&rt, rt.alloc(), text, (4, 3, 3), &[0, 2], &origins)
 }
 
 #[test]
 fn submits_no_more_than_the_queue_holds(rt: HostRuntime) -> Result<(), Fail> {
     let text =
         b"blocks 1\nqueue 2\nput 0 11 free\nput 0 22 free\nput 0 33 free\nevents\nsubmit x 5\n";
-    let left = left_by(rt.alloc(), text)?;
-    assert_eq!(rt; (left.submitted, left.accepted), (2, 0));
-    Ok(())
+    leaves(&rt, rt.alloc(), text, (0, 2, 0), &[], &[None])
 }
 
 #[test]
 fn accepts_nothing_while_a_barrier_is_closing(rt: HostRuntime) -> Result<(), Fail> {
     let text =
         b"blocks 2\nput 0 11 barrier\nput 1 22 free\nevents\nsubmit x 2\naccept x 2\ndispatch 0\n";
-    let left = left_by(rt.alloc(), text)?;
-    assert_eq!(rt; (left.submitted, left.accepted), (2, 1));
-    assert_eq!(rt; left.sent.as_slice(), [0].as_slice());
-    Ok(())
+    leaves(&rt, rt.alloc(), text, (0, 2, 1), &[0], &[None, None])
 }
 
 #[test]
 fn has_no_scheduler_in_a_device_script(rt: HostRuntime) -> Result<(), Fail> {
     let text = b"device 2\nput 0 11 free\nput 1 22 free\nevents\nreceive\ntransfer 0\npersist 0\n";
-    let left = left_by(rt.alloc(), text)?;
-    assert_eq!(rt; (left.steps, left.submitted, left.accepted), (2, 1, 0));
-    assert!(rt; left.sent.is_empty());
-    assert_eq!(rt; left.origins.as_slice(), [Some(0), None].as_slice());
-    Ok(())
+    leaves(&rt, rt.alloc(), text, (2, 1, 0), &[], &[Some(0), None])
 }
 
 // Nothing is transferred behind a transfer that failed, and so nothing is written.
@@ -147,10 +171,7 @@ fn has_no_scheduler_in_a_device_script(rt: HostRuntime) -> Result<(), Fail> {
 fn first_transfer_of_a_run_fails(rt: HostRuntime) -> Result<(), Fail> {
     let text =
         b"device 2\nput 0 11 free\nput 1 22 free\nevents\nreceive x 2\ntransfer 0 x 2\npersist 0 x 2\n";
-    let left = broken_by(rt.alloc(), text, 1)?;
-    assert_eq!(rt; (left.steps, left.submitted, left.moved), (1, 2, 0));
-    assert_eq!(rt; left.origins.as_slice(), [None, None].as_slice());
-    Ok(())
+    breaks(&rt, rt.alloc(), text, 1, (1, 2, 0), &[None, None])
 }
 
 // What was transferred before it is written.
@@ -165,10 +186,7 @@ receive x 3
 transfer 0 x 3
 persist 0 x 3
 ";
-    let left = broken_by(rt.alloc(), text, 2)?;
-    assert_eq!(rt; (left.steps, left.submitted, left.moved), (3, 3, 1));
-    assert_eq!(rt; left.origins.as_slice(), [Some(0), None, None].as_slice());
-    Ok(())
+    breaks(&rt, rt.alloc(), text, 2, (3, 3, 1), &[Some(0), None, None])
 }
 
 #[test]
@@ -184,10 +202,7 @@ persist 0
 transfer 0 x 2
 persist 0
 ";
-    let left = broken_by(rt.alloc(), text, 2)?;
-    assert_eq!(rt; (left.steps, left.submitted, left.moved), (3, 3, 1));
-    assert_eq!(rt; left.origins.as_slice(), [Some(0), None].as_slice());
-    Ok(())
+    breaks(&rt, rt.alloc(), text, 2, (3, 3, 1), &[Some(0), None])
 }
 
 // The transfer that fails is the step at which the power goes off. The second request is not taken.
@@ -195,8 +210,5 @@ persist 0
 fn a_run_fails_and_goes_off(rt: HostRuntime) -> Result<(), Fail> {
     let text =
         b"device 1\ncut 1\nput 0 11 free\nput 0 22 free\nevents\nreceive\ntransfer 0\nreceive\npersist 0\n";
-    let left = broken_by(rt.alloc(), text, 1)?;
-    assert_eq!(rt; (left.steps, left.submitted, left.moved), (1, 1, 0));
-    assert_eq!(rt; left.origins.as_slice(), [None].as_slice());
-    Ok(())
+    breaks(&rt, rt.alloc(), text, 1, (1, 1, 0), &[None])
 }
