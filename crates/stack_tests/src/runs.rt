@@ -10,17 +10,6 @@ use std::alloc::Global;
 use std::process::Abort;
 use std::test::Fail;
 
-// What a run leaves, in short: the steps, how many requests were submitted, how many the scheduler
-// accepted, and the ids that it sent out.
-#[derive(Drop)]
-struct Left {
-    steps: u64,
-    submitted: usize,
-    accepted: usize,
-    sent: Vec<u64>,
-    origins: Vec<Option<u64>>,
-}
-
 // The run on a device of which this transfer fails.
 fn run_failing(alloc: Global, script: &Script, fail_at: u64) -> Result<Report, NoMemory>
     requires { IsRunnable script.now }
@@ -37,84 +26,67 @@ fn run_failing(alloc: Global, script: &Script, fail_at: u64) -> Result<Report, N
     run_on(alloc, script, dev)
 }
 
-// What it leaves: the steps, how many requests were submitted and how many parts moved, and the origins.
-#[derive(Drop)]
-struct Broken {
-    steps: u64,
-    submitted: usize,
-    moved: usize,
-    origins: Vec<Option<u64>>,
+// What a run left: its steps, how many requests were submitted, how many the scheduler accepted, how many parts were
+// moved; and the origins.
+fn compare(
+    rt: &impl Abort,
+    report: &Report,
+    counts: (u64, usize, usize, usize),
+    origins: &[Option<u64>],
+) {
+    let trace = &report.cut.trace;
+    let moved = trace.moved.as_slice().len();
+    let came = (
+        trace.steps,
+        report.submitted.len(),
+        report.sched.accepted.len(),
+        moved,
+    );
+    assert_eq!(rt; came, counts);
+    assert_eq!(rt; report.cut.origins.as_slice(), origins);
 }
 
-fn broken_by(alloc: Global, text: &[u8], fail_at: u64) -> Result<Broken, Fail>
-    requires { length text.now ≤ 4194304 }
-{
-    let script = read_script(alloc, text)?;
-    let report = run_failing(alloc, &script, fail_at)?;
-    Ok(Broken {
-        steps: report.cut.trace.steps,
-        submitted: report.submitted.len(),
-        moved: report.cut.trace.moved.as_slice().len(),
-        origins: report.cut.origins.as_slice().to_vec(alloc)?,
-    })
-}
-
-fn left_by(alloc: Global, text: &[u8]) -> Result<Left, Fail>
-    requires { length text.now ≤ 4194304 }
-{
-    let script = read_script(alloc, text)?;
-    let report = core_run(alloc, &script)?;
-    let mut sent = Vec::new(alloc);
-    for place in 0..report.sched.sent_out.count_parts() {
-        if let Some(id) = report.sched.sent_out.part_id(place) {
-            sent.push(id)?;
-        }
+// The parts that the scheduler sent out are of the requests with these ids.
+fn compare_sent(rt: &impl Abort, report: &Report, ids: &[u64]) {
+    let sent_out = &report.sched.sent_out;
+    assert_eq!(rt; sent_out.count_parts(), ids.len());
+    for (place, id) in ids.iter().enumerate() {
+        assert_eq!(rt; sent_out.part_id(place), Some(*id), "part {place}");
     }
-    Ok(Left {
-        steps: report.cut.trace.steps,
-        submitted: report.submitted.len(),
-        accepted: report.sched.accepted.len(),
-        sent,
-        origins: report.cut.origins.as_slice().to_vec(alloc)?,
-    })
 }
 
-// The run of this script leaves so many steps, so many requests that were submitted and accepted, these ids that were
-// sent out, and these origins.
+// The run of this script leaves so much, and sends these requests out.
 fn leaves(
     rt: &impl Abort,
     alloc: Global,
     text: &[u8],
-    counts: (u64, usize, usize),
+    counts: (u64, usize, usize, usize),
     sent: &[u64],
     origins: &[Option<u64>],
 ) -> Result<(), Fail>
     requires { length text.now ≤ 4194304 }
 {
-    let left = left_by(alloc, text)?;
-    assert_eq!(rt; (left.steps, left.submitted, left.accepted), counts);
-    assert_eq!(rt;
-        (left.sent.as_slice(), left.origins.as_slice()),
-        (sent, origins)
-    );
+    let script = read_script(alloc, text)?;
+    let report = core_run(alloc, &script)?;
+    compare(rt, &report, counts, origins);
+    compare_sent(rt, &report, sent);
     Ok(())
 }
 
-// The run of which this transfer fails leaves so many steps, so many requests that were submitted, so many parts that
-// moved, and these origins.
+// The run of which this transfer fails leaves so much.
 fn breaks(
     rt: &impl Abort,
     alloc: Global,
     text: &[u8],
     fail_at: u64,
-    counts: (u64, usize, usize),
+    counts: (u64, usize, usize, usize),
     origins: &[Option<u64>],
 ) -> Result<(), Fail>
     requires { length text.now ≤ 4194304 }
 {
-    let left = broken_by(alloc, text, fail_at)?;
-    assert_eq!(rt; (left.steps, left.submitted, left.moved), counts);
-    assert_eq!(rt; left.origins.as_slice(), origins);
+    let script = read_script(alloc, text)?;
+    let report = run_failing(alloc, &script, fail_at)?;
+    compare(rt, &report, counts, origins);
     Ok(())
 }
 
@@ -143,27 +115,27 @@ transfer 0 x 2
 persist 0 x 2
 ";
     let origins = [Some(0), None, Some(2)];
-    leaves(&rt, rt.alloc(), text, (4, 3, 3), &[0, 2], &origins)
+    leaves(&rt, rt.alloc(), text, (4, 3, 3, 2), &[0, 2], &origins)
 }
 
 #[test]
 fn submits_no_more_than_the_queue_holds(rt: HostRuntime) -> Result<(), Fail> {
     let text =
         b"blocks 1\nqueue 2\nput 0 11 free\nput 0 22 free\nput 0 33 free\nevents\nsubmit x 5\n";
-    leaves(&rt, rt.alloc(), text, (0, 2, 0), &[], &[None])
+    leaves(&rt, rt.alloc(), text, (0, 2, 0, 0), &[], &[None])
 }
 
 #[test]
 fn accepts_nothing_while_a_barrier_is_closing(rt: HostRuntime) -> Result<(), Fail> {
     let text =
         b"blocks 2\nput 0 11 barrier\nput 1 22 free\nevents\nsubmit x 2\naccept x 2\ndispatch 0\n";
-    leaves(&rt, rt.alloc(), text, (0, 2, 1), &[0], &[None, None])
+    leaves(&rt, rt.alloc(), text, (0, 2, 1, 0), &[0], &[None, None])
 }
 
 #[test]
 fn has_no_scheduler_in_a_device_script(rt: HostRuntime) -> Result<(), Fail> {
     let text = b"device 2\nput 0 11 free\nput 1 22 free\nevents\nreceive\ntransfer 0\npersist 0\n";
-    leaves(&rt, rt.alloc(), text, (2, 1, 0), &[], &[Some(0), None])
+    leaves(&rt, rt.alloc(), text, (2, 1, 0, 1), &[], &[Some(0), None])
 }
 
 // Nothing is transferred behind a transfer that failed, and so nothing is written.
@@ -171,7 +143,7 @@ fn has_no_scheduler_in_a_device_script(rt: HostRuntime) -> Result<(), Fail> {
 fn first_transfer_of_a_run_fails(rt: HostRuntime) -> Result<(), Fail> {
     let text =
         b"device 2\nput 0 11 free\nput 1 22 free\nevents\nreceive x 2\ntransfer 0 x 2\npersist 0 x 2\n";
-    breaks(&rt, rt.alloc(), text, 1, (1, 2, 0), &[None, None])
+    breaks(&rt, rt.alloc(), text, 1, (1, 2, 0, 0), &[None, None])
 }
 
 // What was transferred before it is written.
@@ -186,7 +158,14 @@ receive x 3
 transfer 0 x 3
 persist 0 x 3
 ";
-    breaks(&rt, rt.alloc(), text, 2, (3, 3, 1), &[Some(0), None, None])
+    breaks(
+        &rt,
+        rt.alloc(),
+        text,
+        2,
+        (3, 3, 0, 1),
+        &[Some(0), None, None],
+    )
 }
 
 #[test]
@@ -202,7 +181,7 @@ persist 0
 transfer 0 x 2
 persist 0
 ";
-    breaks(&rt, rt.alloc(), text, 2, (3, 3, 1), &[Some(0), None])
+    breaks(&rt, rt.alloc(), text, 2, (3, 3, 0, 1), &[Some(0), None])
 }
 
 // The transfer that fails is the step at which the power goes off. The second request is not taken.
@@ -210,5 +189,5 @@ persist 0
 fn a_run_fails_and_goes_off(rt: HostRuntime) -> Result<(), Fail> {
     let text =
         b"device 1\ncut 1\nput 0 11 free\nput 0 22 free\nevents\nreceive\ntransfer 0\nreceive\npersist 0\n";
-    breaks(&rt, rt.alloc(), text, 1, (1, 1, 0), &[None])
+    breaks(&rt, rt.alloc(), text, 1, (1, 1, 0, 0), &[None])
 }
