@@ -71,21 +71,25 @@ fn is_back(parts: &mut Parts, id: u64, block: u8) -> bool {
     parts.push(part(id, block)) == Err(part(id, block))
 }
 
+fn id_at(parts: &Parts, at: u32) -> Option<u64> {
+    Some(parts.get(at)?.id)
+}
+
 #[test]
 fn holds_sixteen_parts(rt: HostRuntime) {
     let mut parts = Parts::none();
     for block in 0..17 {
         let back = is_back(&mut parts, u64::from(block) + 100, block + 3);
-        assert_eq!(rt; back, block == 16, "block {block}");
+        assert!(rt; back == (block == 16), "block {block}");
     }
-    assert_eq!(rt; (parts.len(), parts.is_empty()), (16, false));
+    assert!(rt; parts.len() == 16 && !parts.is_empty());
     for (at, wanted) in [
         (0, Some(100)),
         (15, Some(115)),
         (16, None),
         (u32::MAX, None),
     ] {
-        assert_eq!(rt; parts.get(at).map(|part| part.id), wanted, "at {at}");
+        assert!(rt; id_at(&parts, at) == wanted, "at {at}");
     }
 }
 
@@ -151,8 +155,8 @@ fn commands_in_order(rt: HostRuntime) -> Result<(), NoMemory> {
     commands.push(&command(pair(&rt, 0, 5), None));
     commands.push(&command(Parts::none(), Some(2)));
     commands.push(&command(Parts::one(mixed(3, 9)), None));
-    let length = (commands.len(), commands.count_parts(), commands.is_empty());
-    assert_eq!(rt; length, (3, 3, false));
+    let parts = commands.count_parts();
+    assert!(rt; commands.len() == 3 && parts == 3 && !commands.is_empty());
     let parts = [part(0, 5), part(1, 6), mixed(3, 9)];
     for (at, id, first) in [
         (0, Some(0), 0),
