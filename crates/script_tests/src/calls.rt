@@ -1,84 +1,63 @@
 //! Calls that were read by hand.
 use call_grammar::{calls_are_spelled, read_call, read_call_word};
-use script_words::{LineFault, WordsError};
+use script_words::{LineFault, WordsError, words};
 use std::alloc::{AllocError, Global};
-use std::process::Abort;
 use std::test::Fail;
 use tree_model::Call;
 
-// Reads a call by its first word and those behind it.
-fn call(alloc: Global, word: &[u8], words: &[&[u8]]) -> Result<Call, WordsError> {
-    let Some(word) = read_call_word(word) else {
+// Reads the line of a call.
+fn call(alloc: Global, line: &[u8]) -> Result<Call, WordsError> {
+    let found = words(alloc, line)?;
+    let Some((first, rest)) = found.as_slice().split_first() else {
         return Err(WordsError::Fault(LineFault::Spelling));
     };
-    read_call(alloc, word, words)
-}
-
-fn expect_fault(rt: &impl Abort, found: Result<Call, WordsError>, fault: LineFault) {
-    match found {
-        Ok(call) => assert!(rt; false, "{call:?} is taken"),
-        Err(error) => assert_eq!(rt; error, WordsError::Fault(fault)),
+    match read_call_word(first) {
+        Some(word) => read_call(alloc, word, rest),
+        None => Err(WordsError::Fault(LineFault::Spelling)),
     }
 }
 
 // A call that is read, or its fault, as text.
-fn shown(alloc: Global, word: &[u8], words: &[&[u8]]) -> Result<String, AllocError> {
-    match call(alloc, word, words) {
-        Ok(call) => format!(in alloc; "{call:?}"),
-        Err(error) => format!(in alloc; "{error:?}"),
-    }
+fn shown(alloc: Global, line: &[u8]) -> Result<String, AllocError> {
+    let found = call(alloc, line);
+    format!(in alloc; "{found:?}")
 }
 
 #[test]
 fn reads_calls(rt: HostRuntime) -> Result<(), Fail> {
-    let alloc = rt.alloc();
-    assert_eq!(rt;
-        shown(alloc, b"write", &[b"/a", b"10", b"65536", b"7e"])?.as_str(),
-        "Write { path: ByteList { bytes: [47, 97] }, off: 10, len: 65536, value: 126 }"
-    );
-    assert_eq!(rt;
-        shown(alloc, b"bytes", &[b"?", b"4294967295", b"aBcD"])?.as_str(),
-        "Bytes { path: ByteList { bytes: [63] }, off: 4294967295, bytes: ByteList { bytes: [171, 205] } }"
-    );
-    assert_eq!(rt;
-        shown(alloc, b"rename", &[b"/a", b"/b"])?.as_str(),
-        "Rename(ByteList { bytes: [47, 97] }, ByteList { bytes: [47, 98] })"
-    );
-    assert_eq!(rt; shown(alloc, b"sync", &[])?.as_str(), "Sync");
-    assert_eq!(rt;
-        shown(alloc, b"fdatabarrier", &[b"/a"])?.as_str(),
-        "Fdatabarrier(ByteList { bytes: [47, 97] })"
-    );
-    calls_are_spelled();
-    Ok(())
-}
-
-#[test]
-fn tells_faults(rt: HostRuntime) -> Result<(), Fail> {
-    let alloc = rt.alloc();
-    let spelling = LineFault::Spelling;
-    let number = LineFault::Number;
+    let rows = [
+        (
+            "write /a 10 65536 7e",
+            "Ok(Write { path: ByteList { bytes: [47, 97] }, off: 10, len: 65536, value: 126 })",
+        ),
+        (
+            "bytes ? 4294967295 aBcD",
+            "Ok(Bytes { path: ByteList { bytes: [63] }, off: 4294967295, bytes: ByteList { bytes: [171, 205] } })",
+        ),
+        (
+            "rename /a /b",
+            "Ok(Rename(ByteList { bytes: [47, 97] }, ByteList { bytes: [47, 98] }))",
+        ),
+        ("sync", "Ok(Sync)"),
+        (
+            "fdatabarrier /a",
+            "Ok(Fdatabarrier(ByteList { bytes: [47, 97] }))",
+        ),
+        ("mkdir", "Err(Fault(Spelling))"),
+        ("mkdir ", "Err(Fault(Spelling))"),
+        ("mkdir /\x7F", "Err(Fault(Spelling))"),
+        ("write /a 0 1 7E", "Err(Fault(Spelling))"),
+        ("bytes /a 0 abc", "Err(Fault(Spelling))"),
+        ("truncate /a 4294967296", "Err(Fault(Number))"),
+        ("read /a 0 0", "Err(Fault(Number))"),
+        ("read /a 0 65537", "Err(Fault(Number))"),
+        ("read /a 4294967296 x", "Err(Fault(Spelling))"),
+    ];
+    for (line, text) in rows {
+        let found = shown(rt.alloc(), line.as_bytes())?;
+        assert_eq!(rt; found.as_str(), text, "{line}");
+    }
     assert_eq!(rt; read_call_word(b"fsynk"), None);
-    expect_fault(&rt, call(alloc, b"mkdir", &[]), spelling);
-    expect_fault(&rt, call(alloc, b"mkdir", &[b""]), spelling);
-    expect_fault(&rt, call(alloc, b"mkdir", &[b"/\x7F"]), spelling);
-    expect_fault(
-        &rt,
-        call(alloc, b"write", &[b"/a", b"0", b"1", b"7E"]),
-        spelling,
-    );
-    expect_fault(&rt, call(alloc, b"bytes", &[b"/a", b"0", b"abc"]), spelling);
-    expect_fault(
-        &rt,
-        call(alloc, b"truncate", &[b"/a", b"4294967296"]),
-        number,
-    );
-    expect_fault(&rt, call(alloc, b"read", &[b"/a", b"0", b"0"]), number);
-    expect_fault(&rt, call(alloc, b"read", &[b"/a", b"0", b"65537"]), number);
-    expect_fault(
-        &rt,
-        call(alloc, b"read", &[b"/a", b"4294967296", b"x"]),
-        spelling,
-    );
+    calls_are_spelled();
     Ok(())
 }

@@ -1,100 +1,78 @@
 //! Event lines that were read by hand.
 use event_grammar::{
-    CoreEvent, EventLine, EventWord, Steer, events_are_spelled, read_event, read_event_word,
-    read_steers, steers_are_spelled,
+    CoreEvent, EventLine, EventWord, events_are_spelled, read_event, read_event_word, read_steers,
+    steers_are_spelled,
 };
-use script_words::{LineFault, WordsError};
-use std::process::Abort;
+use script_words::{LineFault, words};
+use std::alloc::Global;
 use std::test::Fail;
 
-fn event(word: &[u8], words: &[&[u8]]) -> Result<EventLine, LineFault> {
-    match read_event_word(word) {
-        Some(word) => read_event(word, words),
-        None => Err(LineFault::Spelling),
+// What an event line says.
+fn event(alloc: Global, line: &[u8]) -> Result<Result<EventLine, LineFault>, Fail> {
+    let found = words(alloc, line)?;
+    let (first, rest) = found.as_slice().split_first().ok_or("no word")?;
+    match read_event_word(first) {
+        Some(word) => Ok(read_event(word, rest)),
+        None => Ok(Err(LineFault::Spelling)),
     }
 }
 
-fn expect(rt: &impl Abort, found: Result<EventLine, LineFault>, what: EventWord, count: u32) {
-    assert_eq!(rt; found, Ok(EventLine { what, count }));
+const fn of(what: EventWord, count: u32) -> Result<EventLine, LineFault> {
+    Ok(EventLine { what, count })
 }
 
 #[test]
 fn reads_events(rt: HostRuntime) -> Result<(), Fail> {
     let one = EventWord::One;
-    expect(&rt, event(b"call", &[b"16"]), one(CoreEvent::Call(16)), 1);
-    expect(
-        &rt,
-        event(b"write", &[b"0", b"x", b"3"]),
-        one(CoreEvent::Writeback(0)),
-        3,
-    );
-    expect(
-        &rt,
-        event(b"flush", &[b"x", b"1000000"]),
-        one(CoreEvent::FlushStep),
-        1_000_000,
-    );
-    expect(
-        &rt,
-        event(b"persist", &[b"4294967295"]),
-        one(CoreEvent::Persist(u32::MAX)),
-        1,
-    );
-    expect(
-        &rt,
-        event(b"round", &[b"6", b"x", b"7"]),
-        EventWord::Round,
-        42,
-    );
-    expect(
-        &rt,
-        event(b"back", &[b"2500", b"x", b"1000"]),
-        EventWord::Back,
-        2_500_000,
-    );
+    let spelling = Err(LineFault::Spelling);
+    let number = Err(LineFault::Number);
+    let rows = [
+        ("call 16", of(one(CoreEvent::Call(16)), 1)),
+        ("write 0 x 3", of(one(CoreEvent::Writeback(0)), 3)),
+        ("flush x 1000000", of(one(CoreEvent::FlushStep), 1_000_000)),
+        (
+            "persist 4294967295",
+            of(one(CoreEvent::Persist(u32::MAX)), 1),
+        ),
+        ("round 6 x 7", of(EventWord::Round, 42)),
+        ("back 2500 x 1000", of(EventWord::Back, 2_500_000)),
+        ("commit x", spelling),
+        ("transfer", spelling),
+        ("transfer 4294967296 y 1", spelling),
+        ("transfer 4294967296", number),
+        ("answer x 0", number),
+        ("round 1000001", number),
+        ("back 2501 x 1000", number),
+    ];
+    for (line, wanted) in rows {
+        assert_eq!(rt; event(rt.alloc(), line.as_bytes())?, wanted, "{line}");
+    }
     events_are_spelled();
     Ok(())
 }
 
-#[test]
-fn tells_faults(rt: HostRuntime) -> Result<(), Fail> {
-    let spelling = Err(LineFault::Spelling);
-    let number = Err(LineFault::Number);
-    assert_eq!(rt; event(b"commit", &[b"x"]), spelling);
-    assert_eq!(rt; event(b"transfer", &[]), spelling);
-    assert_eq!(rt; event(b"transfer", &[b"4294967296", b"y", b"1"]), spelling);
-    assert_eq!(rt; event(b"transfer", &[b"4294967296"]), number);
-    assert_eq!(rt; event(b"answer", &[b"x", b"0"]), number);
-    assert_eq!(rt; event(b"round", &[b"1000001"]), number);
-    assert_eq!(rt; event(b"back", &[b"2501", b"x", b"1000"]), number);
-    Ok(())
+// What the words of a recovery's steps say, or their fault.
+fn steers(alloc: Global, line: &[u8]) -> Result<String, Fail> {
+    match read_steers(alloc, words(alloc, line)?.as_slice()) {
+        Ok(steers) => Ok(format!(in alloc; "{:?}", steers.as_slice())?),
+        Err(error) => Ok(format!(in alloc; "{error:?}")?),
+    }
 }
 
 #[test]
 fn reads_steers(rt: HostRuntime) -> Result<(), Fail> {
-    let alloc = rt.alloc();
-    match read_steers(alloc, &[b"t1", b"p0", b"d1000000"]) {
-        Ok(line) => assert_eq!(rt;
-            line.as_slice(),
-            [
-                Steer::Transfer(1),
-                Steer::Persist(0),
-                Steer::Default(1_000_000)
-            ]
-            .as_slice()
+    let rows = [
+        (
+            "t1 p0 d1000000",
+            "[Transfer(1), Persist(0), Default(1000000)]",
         ),
-        Err(_) => assert!(rt; false, "no steps"),
-    }
-    let rows: [(&[&[u8]], LineFault); 3] = [
-        (&[b"d1000001", b"t"], LineFault::Spelling),
-        (&[b"x1"], LineFault::Spelling),
-        (&[b"d1000001", b"t1"], LineFault::Number),
+        ("d1000001 t", "Fault(Spelling)"),
+        ("x1", "Fault(Spelling)"),
+        ("d1000001 t1", "Fault(Number)"),
     ];
-    for (words, fault) in rows {
-        match read_steers(alloc, words) {
-            Ok(_) => assert!(rt; false, "the words are taken"),
-            Err(error) => assert_eq!(rt; error, WordsError::Fault(fault)),
-        }
+    for (line, text) in rows {
+        let found = steers(rt.alloc(), line.as_bytes())?;
+        assert_eq!(rt; found.as_str(), text, "{line}");
     }
     steers_are_spelled();
     Ok(())

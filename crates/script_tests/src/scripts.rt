@@ -2,10 +2,11 @@
 use blk_base::Block;
 use order_model::{Kind, Request};
 use script_grammar::ScriptError::Fault;
-use script_grammar::ScriptKind::{NotBuilt, Number, Order, Twice, Word};
+use script_grammar::ScriptKind::{Geometry, NotBuilt, Number, Order, Twice, Word};
 use script_grammar::{
-    CoreEvent, EventLine, EventWord, Form, Header, MOST_SCRIPT_BYTES, RequestList, ScriptKind,
-    accepts_what_is_spelled, read_script, reads_what_is_spelled, tells_first_fault,
+    CoreEvent, EventLine, EventWord, Form, Header, MOST_SCRIPT_BYTES, RequestList, Script,
+    ScriptError, ScriptKind, accepts_what_is_spelled, read_script, reads_what_is_spelled,
+    tells_first_fault,
 };
 use std::alloc::Global;
 use std::process::Abort;
@@ -16,9 +17,13 @@ type Row = (&'static str, u32, ScriptKind);
 /// A put's block and value, and whether it is ordered and a barrier.
 type Wanted = (Option<(u32, u8)>, bool, bool);
 
-fn expect_fault(rt: &impl Abort, alloc: Global, text: &[u8], line: u32, kind: ScriptKind) {
+fn read(rt: &impl Abort, alloc: Global, text: &[u8]) -> Result<Script, ScriptError> {
     assert!(rt; text.len() <= MOST_SCRIPT_BYTES);
-    match read_script(alloc, text) {
+    read_script(alloc, text)
+}
+
+fn expect_fault(rt: &impl Abort, alloc: Global, text: &[u8], line: u32, kind: ScriptKind) {
+    match read(rt, alloc, text) {
         Ok(_) => assert!(rt; false, "line {line} of {text:?} is taken"),
         Err(fault) => assert_eq!(rt; fault, Fault(line, kind), "at {text:?}"),
     }
@@ -50,12 +55,23 @@ fn expect_requests(rt: &impl Abort, requests: &RequestList, wanted: &[Wanted]) {
     }
 }
 
-fn expect_events(rt: &impl Abort, events: &[EventLine], wanted: &[(CoreEvent, u32)]) {
-    assert_eq!(rt; events.len(), wanted.len());
-    for (line, (event, count)) in events.iter().zip(wanted) {
-        assert_eq!(rt; line.what, EventWord::One(*event));
-        assert_eq!(rt; line.count, *count);
+fn event(event: CoreEvent, count: u32) -> EventLine {
+    EventLine {
+        what: EventWord::One(event),
+        count,
     }
+}
+
+// What is read beside the requests.
+fn expect_script(
+    rt: &impl Abort,
+    script: &Script,
+    kind: Form,
+    header: Header,
+    events: &[EventLine],
+) {
+    assert_eq!(rt; (script.kind, script.header), (kind, header));
+    assert_eq!(rt; script.events.as_slice(), events);
 }
 
 fn repeated(alloc: Global, head: &str, line: &str, count: u32) -> Result<Vec<u8>, Fail> {
@@ -244,7 +260,7 @@ fn tells_what_is_not_built(rt: HostRuntime) {
 }
 
 #[test]
-fn reads_the_line_of_the_elevator(rt: HostRuntime) {
+fn reads_the_line_of_the_elevator(rt: HostRuntime) -> Result<(), Fail> {
     let rows = [
         ("elevator plain\n", 1, Order),
         ("device 4\nelevator\n", 2, Order),
@@ -257,11 +273,10 @@ fn reads_the_line_of_the_elevator(rt: HostRuntime) {
         ("blocks 4\nelevator\nevents\n", true),
         ("blocks 4\nevents\n", false),
     ] {
-        match read_script(rt.alloc(), text.as_bytes()) {
-            Ok(script) => assert_eq!(rt; script.header.elevator, elevator),
-            Err(_) => assert!(rt; false),
-        }
+        let script = read(&rt, rt.alloc(), text.as_bytes())?;
+        assert_eq!(rt; script.header.elevator, elevator, "{text}");
     }
+    Ok(())
 }
 
 #[test]
@@ -299,8 +314,7 @@ fn counts_events_and_requests(rt: HostRuntime) -> Result<(), Fail> {
     let alloc = rt.alloc();
 
     let mut events = repeated(alloc, "blocks 4\nevents\n", "submit x 1000000\n", 20)?;
-    assert!(rt; events.len() <= MOST_SCRIPT_BYTES);
-    assert!(rt; read_script(alloc, &events).is_ok());
+    assert!(rt; read(&rt, alloc, &events).is_ok());
     events.extend_from_slice(b"dispatch 0\n")?;
     expect_fault(&rt, alloc, &events, 23, Number);
 
@@ -326,14 +340,9 @@ fn takes_defaults(rt: HostRuntime) -> Result<(), Fail> {
         elevator: false,
     };
     for (text, kind) in rows {
-        let text = text.as_bytes();
-        assert!(rt; text.len() <= MOST_SCRIPT_BYTES);
-        let script = read_script(rt.alloc(), text)?;
-        assert_eq!(rt; script.kind, kind);
-        assert_eq!(rt; script.header, header);
-        assert_eq!(rt; script.blocks(), 1);
-        assert!(rt; script.puts.is_empty());
-        assert!(rt; script.events.as_slice().is_empty());
+        let script = read(&rt, rt.alloc(), text.as_bytes())?;
+        expect_script(&rt, &script, kind, header, &[]);
+        assert_eq!(rt; (script.blocks(), script.puts.is_empty()), (1, true));
     }
     Ok(())
 }
@@ -356,10 +365,6 @@ receive x 1000000
 transfer 4294967295
 persist 0 x 2";
     let script = read_script(rt.alloc(), text)?;
-    assert_eq!(rt; script.kind, Form::Device(4096));
-    assert_eq!(rt; script.header.depth, 64);
-    assert_eq!(rt; script.header.queue, 32);
-    assert_eq!(rt; script.header.cut, Some(1_000_000_000));
     let requests = [
         (Some((4095, 0xf0)), true, true),
         (Some((0, 0x0a)), true, false),
@@ -367,12 +372,18 @@ persist 0 x 2";
         (None, true, true),
     ];
     expect_requests(&rt, &script.puts, &requests);
+    let header = Header {
+        depth: 64,
+        queue: 32,
+        cut: Some(1_000_000_000),
+        elevator: false,
+    };
     let events = [
-        (CoreEvent::Receive, 1_000_000),
-        (CoreEvent::Transfer(4_294_967_295), 1),
-        (CoreEvent::Persist(0), 2),
+        event(CoreEvent::Receive, 1_000_000),
+        event(CoreEvent::Transfer(4_294_967_295), 1),
+        event(CoreEvent::Persist(0), 2),
     ];
-    expect_events(&rt, script.events.as_slice(), &events);
+    expect_script(&rt, &script, Form::Device(4096), header, &events);
     Ok(())
 }
 
@@ -394,22 +405,24 @@ persist 10
 submit x 2
 ";
     let script = read_script(rt.alloc(), text)?;
-    assert_eq!(rt; script.kind, Form::Blocks(2));
-    assert_eq!(rt; script.header.depth, 1);
-    assert_eq!(rt; script.header.queue, 64);
-    assert_eq!(rt; script.header.cut, Some(0));
     let requests = [(None, true, true), (Some((1, 0xff)), false, false)];
     expect_requests(&rt, &script.puts, &requests);
+    let header = Header {
+        depth: 1,
+        queue: 64,
+        cut: Some(0),
+        elevator: false,
+    };
     let events = [
-        (CoreEvent::Submit, 1),
-        (CoreEvent::Accept, 1),
-        (CoreEvent::Dispatch(4_294_967_295), 3),
-        (CoreEvent::Receive, 1),
-        (CoreEvent::Transfer(7), 1_000_000),
-        (CoreEvent::Persist(10), 1),
-        (CoreEvent::Submit, 2),
+        event(CoreEvent::Submit, 1),
+        event(CoreEvent::Accept, 1),
+        event(CoreEvent::Dispatch(4_294_967_295), 3),
+        event(CoreEvent::Receive, 1),
+        event(CoreEvent::Transfer(7), 1_000_000),
+        event(CoreEvent::Persist(10), 1),
+        event(CoreEvent::Submit, 2),
     ];
-    expect_events(&rt, script.events.as_slice(), &events);
+    expect_script(&rt, &script, Form::Blocks(2), header, &events);
     Ok(())
 }
 
@@ -421,6 +434,7 @@ fn prints_kinds(rt: HostRuntime) -> Result<(), Fail> {
         (Order, "order"),
         (Twice, "twice"),
         (Number, "number"),
+        (Geometry, "geometry"),
     ];
     for (kind, text) in rows {
         assert_eq!(rt; format!(in rt.alloc(); "{kind}")?.as_str(), text);
@@ -428,16 +442,20 @@ fn prints_kinds(rt: HostRuntime) -> Result<(), Fail> {
     Ok(())
 }
 
+// How many requests a copy of the front has.
+fn front_len(alloc: Global, requests: &RequestList, count: usize) -> Result<usize, Fail> {
+    Ok(requests.copy_front(alloc, count)?.len())
+}
+
 #[test]
 fn copies_scripts(rt: HostRuntime) -> Result<(), Fail> {
     let alloc = rt.alloc();
     let script = read_script(alloc, b"device 1\nflush\nflush\nflush\nevents\nreceive\n")?;
     let copy = script.copy(alloc)?;
-    assert_eq!(rt; copy.puts.len(), 3);
-    assert_eq!(rt; copy.events.as_slice().len(), 1);
+    assert_eq!(rt; [copy.puts.len(), copy.events.as_slice().len()], [3, 1]);
     for (count, wanted) in [(0, 0), (2, 2), (3, 3), (4, 3)] {
-        let front = script.puts.copy_front(alloc, count)?;
-        assert_eq!(rt; front.len(), wanted, "of {count}");
+        let front = front_len(alloc, &script.puts, count)?;
+        assert_eq!(rt; front, wanted, "of {count}");
     }
     Ok(())
 }

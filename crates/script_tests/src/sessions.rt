@@ -1,5 +1,5 @@
 //! Volume scripts that were read by hand, and the faults of texts that are none.
-use event_grammar::{CoreEvent, EventLine, EventWord, Steer};
+use event_grammar::{CoreEvent, EventLine, EventWord};
 use script_grammar::ScriptKind::{Geometry, NotBuilt, Number, Order, Twice, Word};
 use script_grammar::{MOST_SCRIPT_BYTES, ScriptError, ScriptKind};
 use session_grammar::{
@@ -23,13 +23,19 @@ fn text(alloc: Global, parts: &[&str]) -> Result<Vec<u8>, AllocError> {
     Ok(text)
 }
 
-// One part, and behind it another one so often.
-fn repeated(alloc: Global, head: &str, line: &str, count: u32) -> Result<Vec<u8>, AllocError> {
-    let mut text = Vec::new(alloc);
-    text.extend_from_slice(head.as_bytes())?;
+// A line so often, in a section of a volume's script.
+fn repeated(
+    alloc: Global,
+    section: &str,
+    line: &str,
+    count: u32,
+    rest: &str,
+) -> Result<Vec<u8>, AllocError> {
+    let mut text = text(alloc, &[V, section])?;
     for _ in 0..count {
         text.extend_from_slice(line.as_bytes())?;
     }
+    text.extend_from_slice(rest.as_bytes())?;
     Ok(text)
 }
 
@@ -64,6 +70,34 @@ fn event(what: EventWord, count: u32) -> EventLine {
     EventLine { what, count }
 }
 
+// What a script has where no line of its header tells.
+const DEFAULTS: SessionHeader = SessionHeader {
+    depth: 32,
+    queue: 32,
+    limit: 20_000,
+    cut: None,
+    seed: 1,
+    elevator: false,
+};
+
+// The header of a script, and how many threads it has.
+fn header_of(
+    rt: &impl Abort,
+    alloc: Global,
+    parts: &[&str],
+) -> Result<(SessionHeader, usize), Fail> {
+    let whole = text(alloc, parts)?;
+    let script = read(rt, alloc, &whole)?;
+    Ok((script.header, script.programs.len()))
+}
+
+// The inodes, the zones and the journal, and how many lines of calls and recoveries there are.
+fn sizes(script: &SessionScript) -> (u16, u16, u32, usize, usize) {
+    let lines = script.lines.as_slice().len();
+    let recovers = script.recovers.as_slice().len();
+    (script.inodes, script.zones, script.journal, lines, recovers)
+}
+
 fn expect_events(rt: &impl Abort, script: &SessionScript, wanted: &[EventLine]) {
     assert_eq!(rt; script.events.as_slice(), wanted);
 }
@@ -77,27 +111,14 @@ fn reads_threads_and_events(rt: HostRuntime) -> Result<(), Fail> {
         &[V, calls, "events\ncall 1 x 6\ncommit x 10\ncall 1\n"],
     )?;
     let script = read(&rt, alloc, &whole)?;
-    assert_eq!(rt;
-        (script.inodes, script.zones, script.journal),
-        (32, 64, 128)
-    );
-    let defaults = SessionHeader {
-        depth: 32,
-        queue: 32,
-        limit: 20_000,
-        cut: None,
-        seed: 1,
-        elevator: false,
-    };
-    assert_eq!(rt; script.header, defaults);
+    let sizes = sizes(&script);
+    assert_eq!(rt; (sizes, script.header), ((32, 64, 128, 4, 0), DEFAULTS));
     let programs = format!(in alloc; "{:?}", script.programs)?;
     assert_eq!(rt;
         programs.as_str(),
         "Programs { threads: [Program { calls: [Mkdir(ByteList { bytes: [47, 97] }), Create(ByteList { bytes: [47, 97, 47, 102] }), Write { path: ByteList { bytes: [47, 97, 47, 102] }, off: 0, len: 3, value: 97 }, Fbarrier(ByteList { bytes: [47, 97, 47, 102] })] }] }"
     );
-    let lines = script.lines.as_slice();
-    assert_eq!(rt; lines.len(), 4);
-    let third = lines.get(2).map(|line| line.as_slice());
+    let third = script.lines.as_slice().get(2).map(|line| line.as_slice());
     assert_eq!(rt; third, Some(b"write /a/f 0 3 61".as_slice()));
     let wanted = [
         event(EventWord::One(CoreEvent::Call(1)), 6),
@@ -105,7 +126,6 @@ fn reads_threads_and_events(rt: HostRuntime) -> Result<(), Fail> {
         event(EventWord::One(CoreEvent::Call(1)), 1),
     ];
     expect_events(&rt, &script, &wanted);
-    assert_eq!(rt; script.recovers.len(), 0);
     sessions_tell_first_fault();
     sessions_are_read_back();
     sessions_are_what_is_spelled();
@@ -131,6 +151,15 @@ fn reads_conflicts(rt: HostRuntime) -> Result<(), Fail> {
     Ok(())
 }
 
+// A line for the steps of each recovery.
+fn recoveries(alloc: Global, script: &SessionScript) -> Result<String, AllocError> {
+    let mut lines = String::new(alloc);
+    for line in script.recovers.as_slice() {
+        writeln!(lines, "{:?}", line.as_slice())?;
+    }
+    Ok(lines)
+}
+
 #[test]
 fn reads_recoveries(rt: HostRuntime) -> Result<(), Fail> {
     let alloc = rt.alloc();
@@ -145,15 +174,11 @@ fn reads_recoveries(rt: HostRuntime) -> Result<(), Fail> {
     )?;
     let script = read(&rt, alloc, &whole)?;
     expect_events(&rt, &script, &[event(EventWord::Round, 100)]);
-    let recovers = script.recovers.as_slice();
-    assert_eq!(rt; recovers.len(), 3);
-    let first = recovers.get(0).map(|line| line.as_slice());
-    assert_eq!(rt; first, Some([Steer::Default(3)].as_slice()));
-    let second = recovers.get(1).map(|line| line.as_slice());
-    let wanted = [Steer::Transfer(0), Steer::Transfer(0), Steer::Persist(1)];
-    assert_eq!(rt; second, Some(wanted.as_slice()));
-    let third = recovers.get(2).map(|line| line.as_slice().len());
-    assert_eq!(rt; third, Some(0));
+    let steers = recoveries(alloc, &script)?;
+    assert_eq!(rt;
+        steers.as_str(),
+        "[Default(3)]\n[Transfer(0), Transfer(0), Persist(1)]\n[]\n"
+    );
     Ok(())
 }
 
@@ -161,14 +186,9 @@ fn reads_recoveries(rt: HostRuntime) -> Result<(), Fail> {
 fn reads_headers(rt: HostRuntime) -> Result<(), Fail> {
     let alloc = rt.alloc();
     let calls = "thread 1\ncreate /f\nwrite /f 0 2048 aa\nfbarrier /f\nevents\ncall 1 x 5";
-    let full = read(&rt, alloc, &text(alloc, &[V, "queue 1\n", calls])?)?;
-    assert_eq!(rt; (full.header.queue, full.header.limit), (1, 20_000));
-    let ended = read(&rt, alloc, &text(alloc, &[V, "limit 1\n", calls])?)?;
-    assert_eq!(rt; (ended.header.queue, ended.header.limit), (32, 1));
     let all =
         "# all of them\n\nseed 7\nelevator\ncut 0\ndepth 64\nlimit 200000\nqueue 64\nevents\n";
-    let script = read(&rt, alloc, &text(alloc, &[V, all])?)?;
-    let wanted = SessionHeader {
+    let told = SessionHeader {
         depth: 64,
         queue: 64,
         limit: 200_000,
@@ -176,8 +196,31 @@ fn reads_headers(rt: HostRuntime) -> Result<(), Fail> {
         seed: 7,
         elevator: true,
     };
-    assert_eq!(rt; script.header, wanted);
-    assert_eq!(rt; script.programs.len(), 0);
+    let rows = [
+        (
+            "queue 1\n",
+            calls,
+            SessionHeader {
+                queue: 1,
+                ..DEFAULTS
+            },
+            1,
+        ),
+        (
+            "limit 1\n",
+            calls,
+            SessionHeader {
+                limit: 1,
+                ..DEFAULTS
+            },
+            1,
+        ),
+        (all, "", told, 0),
+    ];
+    for (first, rest, header, threads) in rows {
+        let found = header_of(&rt, alloc, &[V, first, rest])?;
+        assert_eq!(rt; found, (header, threads));
+    }
     Ok(())
 }
 
@@ -212,13 +255,6 @@ fn tests_first_lines(rt: HostRuntime) {
         ("volume inodes 32 zones 6 journal 16384\n", 2, Order),
     ];
     expect_faults(&rt, rt.alloc(), &rows);
-}
-
-#[test]
-fn names_geometry(rt: HostRuntime) -> Result<(), Fail> {
-    let shown = format!(in rt.alloc(); "{}", Geometry)?;
-    assert_eq!(rt; shown.as_str(), "geometry");
-    Ok(())
 }
 
 #[test]
@@ -286,17 +322,17 @@ fn tests_numbers(rt: HostRuntime) -> Result<(), Fail> {
 #[test]
 fn counts_lines(rt: HostRuntime) -> Result<(), Fail> {
     let alloc = rt.alloc();
-    let head = text(alloc, &[V, "thread 1\n"])?;
-    let head = String::from_utf8(head)?;
-    let mut calls = repeated(alloc, &head, "sync\n", 10_000)?;
-    calls.extend_from_slice(b"thread 2\nsync\nevents\n")?;
-    let script = read(&rt, alloc, &calls)?;
+    let rest = "thread 2\nsync\nevents\n";
+    let most = repeated(alloc, "thread 1\n", "sync\n", 10_000, rest)?;
+    let script = read(&rt, alloc, &most)?;
     assert_eq!(rt; script.programs.len(), 2);
-    let more = repeated(alloc, &head, "sync\n", 10_001)?;
-    expect_fault(&rt, alloc, &more, 10_003, Number);
-    let head = text(alloc, &[V, "events\n"])?;
-    let head = String::from_utf8(head)?;
-    let recovers = repeated(alloc, &head, "recover t0\n", 101)?;
-    expect_fault(&rt, alloc, &recovers, 103, Number);
+    let rows = [
+        ("thread 1\n", "sync\n", 10_001, 10_003),
+        ("events\n", "recover t0\n", 101, 103),
+    ];
+    for (section, line, count, fault) in rows {
+        let more = repeated(alloc, section, line, count, "")?;
+        expect_fault(&rt, alloc, &more, fault, Number);
+    }
     Ok(())
 }
