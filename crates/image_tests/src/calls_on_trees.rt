@@ -46,19 +46,26 @@ fn path(alloc: Global, text: &[u8]) -> Result<ByteList, NoMemory> {
     }
 }
 
+// Four calls on one path each.
+fn calls(alloc: Global) -> Result<[Call; 4], NoMemory> {
+    let mkdir = Call::Mkdir(path(alloc, b"/a")?);
+    let create = Call::Create(path(alloc, b"a")?);
+    let rmdir = Call::Rmdir(path(alloc, b"/")?);
+    let stat = Call::Stat(path(alloc, b"/")?);
+    Ok([mkdir, create, rmdir, stat])
+}
+
 #[test]
 fn answers_on_a_new_tree(rt: HostRuntime) -> Result<(), Fail> {
-    let alloc = rt.alloc();
-    let call = Call::Mkdir(path(alloc, b"/a")?);
-    assert_eq!(rt; first(alloc, &call)?.as_str(), "Ok, 1");
-    let call = Call::Create(path(alloc, b"a")?);
-    assert_eq!(rt; first(alloc, &call)?.as_str(), "BadPath, 0");
-    let call = Call::Rmdir(path(alloc, b"/")?);
-    assert_eq!(rt; first(alloc, &call)?.as_str(), "Invalid, 0");
-    let call = Call::Stat(path(alloc, b"/")?);
-    assert_eq!(rt;
-        first(alloc, &call)?.as_str(),
-        "Stat { dir: true, size: 32, links: 2 }, 0"
-    );
+    let wanted = [
+        "Ok, 1",
+        "BadPath, 0",
+        "Invalid, 0",
+        "Stat { dir: true, size: 32, links: 2 }, 0",
+    ];
+    let calls = calls(rt.alloc())?;
+    for (call, text) in calls.iter().zip(wanted) {
+        assert_eq!(rt; first(rt.alloc(), call)?.as_str(), text);
+    }
     Ok(())
 }

@@ -4,6 +4,7 @@ use dir_ops::{
     room_is_the_least_free_place,
 };
 use minix_layout::{Name, Slot};
+use std::alloc::{AllocError, Global};
 use std::test::Fail;
 
 // Adds a slot under a name that is new.
@@ -18,6 +19,11 @@ fn add(slots: &mut Slots, inode: u16, name: &Name) -> Option<usize> {
     slots.add(slot).ok()
 }
 
+// The number of slots, where the next name goes, and where these two stand.
+fn seen(slots: &Slots, a: &Name, b: &Name) -> (usize, usize, Option<usize>, Option<usize>) {
+    (slots.len(), slots.room(), slots.find(a), slots.find(b))
+}
+
 // The number of the inode in a slot; 0 where it is free.
 fn inode_at(slots: &Slots, at: usize) -> u16 {
     match slots.get(at) {
@@ -26,30 +32,40 @@ fn inode_at(slots: &Slots, at: usize) -> u16 {
     }
 }
 
+// Three slots, of which the second is in use.
+fn three(alloc: Global, inode: u16, name: &Name) -> Result<Slots, AllocError> {
+    let used = Slot {
+        inode,
+        name: name.copy(),
+    };
+    Ok(Slots::of(vec![in alloc; None, Some(used), None]?))
+}
+
 #[test]
 fn names_come_and_go(rt: HostRuntime) -> Result<(), Fail> {
     let a = Name::of(b"a").ok_or("no name")?;
     let b = Name::of(b"b").ok_or("no name")?;
-    let used = Slot {
-        inode: 3,
-        name: a.copy(),
+    let mut slots = three(rt.alloc(), 3, &a)?;
+    let before = seen(&slots, &a, &b);
+    let none = slots.remove(&b).is_none();
+    let place = add(&mut slots, 4, &b);
+    let added = seen(&slots, &a, &b);
+    let gone = match slots.remove(&a) {
+        Some(slot) => slot.inode == 3 && slot.name == a,
+        None => false,
     };
-    let mut slots = Slots::of(vec![in rt.alloc(); None, Some(used), None]?);
-    assert_eq!(rt; (slots.len(), slots.room()), (3, 0));
-    assert_eq!(rt; (slots.find(&a), slots.find(&b)), (Some(1), None));
-    assert_eq!(rt; slots.remove(&b).is_none(), true);
-    assert_eq!(rt; add(&mut slots, 4, &b), Some(0));
-    assert_eq!(rt; (slots.find(&b), slots.room()), (Some(0), 2));
-    let gone = slots.remove(&a).ok_or("not there")?;
-    assert_eq!(rt; (gone.inode, gone.name == a), (3, true));
-    assert_eq!(rt; (slots.len(), slots.room(), slots.find(&a)), (3, 1, None));
-    let left: [u16; 4] = [
-        inode_at(&slots, 0),
-        inode_at(&slots, 1),
-        inode_at(&slots, 2),
-        inode_at(&slots, 3),
-    ];
-    assert_eq!(rt; left, [4, 0, 0, 0]);
+    assert_eq!(rt; (none, place, gone), (true, Some(0), true));
+    assert_eq!(rt;
+        [before, added, seen(&slots, &a, &b)],
+        [
+            (3, 0, Some(1), None),
+            (3, 2, Some(1), Some(0)),
+            (3, 1, None, Some(0))
+        ]
+    );
+    for (at, inode) in [4, 0, 0, 0].into_iter().enumerate() {
+        assert_eq!(rt; inode_at(&slots, at), inode, "slot {at}");
+    }
     Ok(())
 }
 
@@ -57,13 +73,20 @@ fn names_come_and_go(rt: HostRuntime) -> Result<(), Fail> {
 fn a_reserved_slot_is_used_or_undone(rt: HostRuntime) -> Result<(), Fail> {
     let a = Name::of(b"a").ok_or("no name")?;
     let mut slots = Slots::new(rt.alloc());
-    assert_eq!(rt; slots.reserve().is_ok(), true);
-    assert_eq!(rt; (slots.len(), slots.room()), (1, 0));
+    slots.reserve()?;
+    let reserved = seen(&slots, &a, &a);
     slots.truncate(0);
-    assert_eq!(rt; slots.len(), 0);
-    assert_eq!(rt; slots.reserve().is_ok(), true);
+    let undone = seen(&slots, &a, &a);
+    slots.reserve()?;
     assert_eq!(rt; add(&mut slots, 5, &a), Some(0));
-    assert_eq!(rt; (slots.len(), slots.room()), (1, 1));
+    assert_eq!(rt;
+        [reserved, undone, seen(&slots, &a, &a)],
+        [
+            (1, 0, None, None),
+            (0, 0, None, None),
+            (1, 1, Some(0), Some(0))
+        ]
+    );
     names_are_found();
     room_is_the_least_free_place();
     added_names_are_found();

@@ -37,12 +37,15 @@ fn makes_and_writes_a_superblock(rt: HostRuntime) {
     assert_eq!(rt; Geometry::make(100, 1000), Ok(made));
     assert!(rt; write_super(&made) == block(&SUPER));
     assert_eq!(rt; read_super(&block(&SUPER)), Ok(made));
-    assert_eq!(rt; Geometry::make(100, 8), Err(TooSmall));
-    assert_eq!(rt; Geometry::make(100, 9).map(|g| g.first), Ok(8));
-    assert_eq!(rt;
-        Geometry::make(u16::MAX, u16::MAX).map(|g| g.first),
-        Ok(2066)
-    );
+    let rows = [
+        (100, 8, Err(TooSmall)),
+        (100, 9, Ok(8)),
+        (u16::MAX, u16::MAX, Ok(2066)),
+    ];
+    for (inodes, zones, first) in rows {
+        let found = Geometry::make(inodes, zones).map(|g| g.first);
+        assert_eq!(rt; found, first, "{inodes} {zones}");
+    }
     super_is_read();
     inodes_are_read();
     slots_are_read();
@@ -116,9 +119,12 @@ fn writes_the_maps(rt: HostRuntime) {
         write_bit(&mut b, at, true);
     }
     write_bit(&mut b, 1, false);
-    assert_eq!(rt; &b.as_slice()[..3], [1, 2, 0].as_slice());
-    assert_eq!(rt; b.as_slice()[1023], 0x80);
-    assert!(rt; read_bit(&b, 9) && !read_bit(&b, 10));
+    let bytes = b.as_slice();
+    assert_eq!(rt;
+        [bytes[0], bytes[1], bytes[2], bytes[1023]],
+        [1, 2, 0, 0x80]
+    );
+    assert_eq!(rt; [read_bit(&b, 9), read_bit(&b, 10)], [true, false]);
 }
 
 const INODE: [u8; 32] = [
@@ -140,10 +146,11 @@ fn reads_and_writes_an_inode(rt: HostRuntime) {
     let mut b = Block::fill(0xAA);
     write_inode(&mut b, 31, &inode);
     let (before, written) = b.as_slice().split_at(992);
-    assert!(rt; before.iter().all(|byte| *byte == 0xAA));
-    assert_eq!(rt; written, INODE.as_slice());
-    assert_eq!(rt; read_inode(&b, 31), inode);
-    assert_eq!(rt; read_inode(&block(&INODE), 0), inode);
+    let others = before.iter().all(|byte| *byte == 0xAA);
+    assert_eq!(rt; (others, written), (true, INODE.as_slice()));
+    for found in [read_inode(&b, 31), read_inode(&block(&INODE), 0)] {
+        assert_eq!(rt; found, inode);
+    }
     assert_eq!(rt; read_inode(&b, 30).zones.zone(8), 0xAAAA);
 }
 
@@ -157,25 +164,38 @@ const SLOTS: [u8; 80] = [
 ];
 
 #[test]
-fn reads_and_writes_slots(rt: HostRuntime) {
-    let mut b = block(&SLOTS);
-    let rows: [(u8, u16, &[u8]); 2] = [(0, 5, b"ab"), (1, 0x1234, b"\x80\xFFcdefghijklmn")];
-    for (at, inode, name) in rows {
-        assert!(rt; at < 2);
-        let Ok(Some(slot)) = read_slot(&b, at) else {
-            panic!(rt; "no slot at {at}");
+fn reads_slots(rt: HostRuntime) {
+    let b = block(&SLOTS);
+    let rows: [Result<Option<(u16, &[u8])>, LayoutFault>; 5] = [
+        Ok(Some((5, b"ab"))),
+        Ok(Some((0x1234, b"\x80\xFFcdefghijklmn"))),
+        Ok(None),
+        Err(LayoutFault::BadSlot),
+        Err(LayoutFault::BadSlot),
+    ];
+    for (at, wanted) in (0..5).zip(rows) {
+        assert!(rt; at < 5);
+        let read = read_slot(&b, at);
+        let found = match &read {
+            Ok(Some(slot)) => Ok(Some((slot.inode, slot.name.as_slice()))),
+            Ok(None) => Ok(None),
+            Err(fault) => Err(*fault),
         };
-        assert_eq!(rt; slot.inode, inode);
-        assert_eq!(rt; slot.name.as_slice(), name);
-        write_slot(&mut b, at + 5, Some(&slot));
+        assert_eq!(rt; found, wanted, "slot {at}");
+    }
+}
+
+#[test]
+fn writes_slots(rt: HostRuntime) {
+    let mut b = block(&SLOTS);
+    if let (Ok(first), Ok(second)) = (read_slot(&b, 0), read_slot(&b, 1)) {
+        write_slot(&mut b, 5, first.as_ref());
+        write_slot(&mut b, 6, second.as_ref());
     }
     assert_eq!(rt; &b.as_slice()[80..86], [5, 0, b'a', b'b', 0, 0].as_slice());
     assert_eq!(rt; &b.as_slice()[96..112], &SLOTS[16..32]);
-    assert!(rt; matches!(read_slot(&b, 2), Ok(None)));
-    assert!(rt; matches!(read_slot(&b, 3), Err(LayoutFault::BadSlot)));
-    assert!(rt; matches!(read_slot(&b, 4), Err(LayoutFault::BadSlot)));
     write_slot(&mut b, 1, None);
-    assert!(rt; b.as_slice()[16..32].iter().all(|byte| *byte == 0));
+    assert_eq!(rt; &b.as_slice()[16..32], [0; 16].as_slice());
 }
 
 #[test]

@@ -1,10 +1,10 @@
 //! The text of a tree, paths, copies of names, and the laws of calls.
 use blk_base::{Block, NoMemory};
 use minix_layout::Name;
-use std::alloc::{AllocError, Global};
+use std::alloc::Global;
 use std::test::Fail;
 use tree_model::{
-    Directory, File, FileBlocks, Names, Node, Path, Room, Tree, asking_changes_nothing,
+    Directory, File, FileBlocks, Names, Node, Room, Tree, asking_changes_nothing,
     calls_keep_trees_plain, calls_map_by_writing, calls_stay_within_room, examples_of_calls,
     histories_map_by_writing, is_dot, new_names_lead_to_nodes, nodes_have_paths, paths_are_spelled,
     put_tree, read_path, refusals_have_causes, same_metadata_chains, texts_list_paths,
@@ -54,9 +54,8 @@ dir /d/e
 other /x\\x20\\x5c\\xff mode 020644
 ";
 
-#[test]
-fn shows_a_tree(rt: HostRuntime) -> Result<(), Fail> {
-    let alloc = rt.alloc();
+// The tree of that text.
+fn tree(alloc: Global) -> Result<Tree, Fail> {
     let mut tree = Tree::new(alloc);
     tree.put(4, Node::Other(0o020644))?;
     tree.put(3, directory(alloc, &[])?)?;
@@ -66,15 +65,32 @@ fn shows_a_tree(rt: HostRuntime) -> Result<(), Fail> {
         0,
         directory(alloc, &[(b"x \\\xFF", 4), (b"d", 1), (b"a", 2)])?,
     )?;
-    let mut out = String::new(alloc);
-    put_tree(alloc, &mut out, tree)?;
+    Ok(tree)
+}
+
+#[test]
+fn shows_a_tree(rt: HostRuntime) -> Result<(), Fail> {
+    let mut out = String::new(rt.alloc());
+    put_tree(rt.alloc(), &mut out, tree(rt.alloc())?)?;
     assert_eq!(rt; out.as_str(), TEXT);
     texts_list_paths();
     Ok(())
 }
 
-fn shown(alloc: Global, path: &Option<Path>) -> Result<String, AllocError> {
-    format!(in alloc; "{path:?}")
+fn shown(alloc: Global, text: &[u8]) -> Result<String, Fail> {
+    let path = read_path(alloc, text)?;
+    Ok(format!(in alloc; "{path:?}")?)
+}
+
+// Whether a text is a path whose last name is this one.
+fn ends_in(alloc: Global, text: &[u8], end: &[u8]) -> Result<bool, NoMemory> {
+    let Some(path) = read_path(alloc, text)? else {
+        return Ok(false);
+    };
+    match path.as_slice().last() {
+        Some(name) => Ok(name.as_slice() == end),
+        None => Ok(false),
+    }
 }
 
 #[test]
@@ -95,12 +111,10 @@ fn reads_paths(rt: HostRuntime) -> Result<(), Fail> {
         (b"/a b", "None"),
     ];
     for (text, path) in rows {
-        let read = read_path(rt.alloc(), text)?;
-        assert_eq!(rt; shown(rt.alloc(), &read)?.as_str(), path);
+        let read = shown(rt.alloc(), text)?;
+        assert_eq!(rt; read.as_str(), path, "{text:?}");
     }
-    let path = read_path(rt.alloc(), b"/a/bc")?.ok_or("no path")?;
-    let last = path.as_slice().last().ok_or("no name")?;
-    assert_eq!(rt; last.as_slice(), b"bc".as_slice());
+    assert!(rt; ends_in(rt.alloc(), b"/a/bc", b"bc")?);
     assert!(rt; is_dot(b".") && is_dot(b"..") && !is_dot(b"..."));
     paths_are_spelled();
     Ok(())
@@ -108,17 +122,20 @@ fn reads_paths(rt: HostRuntime) -> Result<(), Fail> {
 
 #[test]
 fn copies_names(rt: HostRuntime) -> Result<(), Fail> {
+    let a = name(b"a")?;
+    let b = name(b"b")?;
+    let c = name(b"c")?;
     let mut names = Names::new(rt.alloc());
-    names.put(name(b"b")?, 7)?;
-    names.put(name(b"a")?, 5)?;
-    names.put(name(b"b")?, 8)?;
+    names.put(b.copy(), 7)?;
+    names.put(a.copy(), 5)?;
+    names.put(b.copy(), 8)?;
     let copy = names.copy(rt.alloc())?;
-    assert_eq!(rt; copy.get(&name(b"a")?), Some(5));
-    assert_eq!(rt; copy.get(&name(b"b")?), Some(8));
-    assert_eq!(rt; copy.get(&name(b"c")?), None);
-    assert_eq!(rt; copy.as_map().len(), 2);
+    assert_eq!(rt;
+        [copy.get(&a), copy.get(&b), copy.get(&c)],
+        [Some(5), Some(8), None]
+    );
     let blocks = FileBlocks::new(rt.alloc());
-    assert!(rt; blocks.as_map().is_empty());
+    assert_eq!(rt; [copy.as_map().len(), blocks.as_map().len()], [2, 0]);
     Ok(())
 }
 
