@@ -1,5 +1,5 @@
 //! Every script of examples/ beside its output. Written by examples/rows, and not by hand.
-use crate::tests::replayed;
+use crate::tests::expect_replay;
 use std::test::Fail;
 
 const DATABASE_BARRIER: (&str, &str) = (
@@ -79,11 +79,7 @@ fn prints_what_the_examples_say(rt: HostRuntime) -> Result<(), Fail> {
         WRITE_AHEAD,
     ];
     for (script, printed) in examples {
-        assert_eq!(rt;
-            replayed(rt.alloc(), script)?.as_slice(),
-            printed.as_bytes(),
-            "{script}"
-        );
+        expect_replay(&rt, rt.alloc(), script, printed)?;
     }
     Ok(())
 }

@@ -1,5 +1,5 @@
 //! Images through the top call.
-use crate::tests::run;
+use crate::tests::{expect_fault, expect_tree, run};
 use barrierfs_top::TopFault;
 use blk_base::{Block, NoMemory};
 use minix_layout::{Geometry, Inode, Name, Slot, Zones, write_inode, write_slot, write_super};
@@ -96,12 +96,8 @@ fn shows_a_megabyte(rt: HostRuntime) -> Result<(), Fail> {
     let alloc = rt.alloc();
     let bytes = megabyte(alloc)?;
     assert_eq!(rt; bytes.len(), 1_048_576);
-    let ended = run(alloc, &["show"], &bytes)?;
-    assert_eq!(rt; ended.status, 0);
-    assert_eq!(rt;
-        ended.printed.as_slice(),
-        b"dir /\nfile /last size 1024 links 1\nblock 0 1024x61\n".as_slice()
-    );
+    let tree = "dir /\nfile /last size 1024 links 1\nblock 0 1024x61\n";
+    expect_tree(&rt, alloc, &bytes, tree)?;
     Ok(())
 }
 
@@ -109,13 +105,7 @@ fn shows_a_megabyte(rt: HostRuntime) -> Result<(), Fail> {
 fn shows_a_foreign_image(rt: HostRuntime) -> Result<(), Fail> {
     let alloc = rt.alloc();
     let bytes = foreign(alloc)?;
-    let ended = run(alloc, &["show"], &bytes)?;
-    assert_eq!(rt; ended.status, 0);
-    assert!(rt; !ended.reported);
-    assert_eq!(rt;
-        ended.printed.as_slice(),
-        b"dir /\nother /null mode 020666\n".as_slice()
-    );
+    expect_tree(&rt, alloc, &bytes, "dir /\nother /null mode 020666\n")?;
     Ok(())
 }
 
@@ -124,12 +114,8 @@ fn refuses_a_foreign_image_that_is_cut_off(rt: HostRuntime) -> Result<(), Fail> 
     let alloc = rt.alloc();
     let bytes = foreign(alloc)?;
     let front = bytes.get(..4596).ok_or("short")?;
-    let ended = run(alloc, &["show"], front)?;
-    assert_eq!(rt; ended.status, 4);
-    assert_eq!(rt;
-        ended.fault,
-        Some(TopFault::Image(ImageFault::BadGeometry, 4))
-    );
-    assert!(rt; !ended.reported && ended.printed.is_empty());
+    let found = run(alloc, &["show"], front)?;
+    let fault = TopFault::Image(ImageFault::BadGeometry, 4);
+    expect_fault(&rt, &found, 4, fault, "cut off");
     Ok(())
 }

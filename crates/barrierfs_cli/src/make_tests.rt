@@ -1,6 +1,6 @@
 //! Images that are made, and shown with what stands in their journals, through the top call.
-use crate::tests::run;
-use barrierfs_top::TopFault;
+use crate::tests::{expect_fault, expect_tree, refused, run};
+use barrierfs_top::{Ended, TopFault};
 use blk_base::NoMemory;
 use mount_make::ImageFault;
 use std::alloc::Global;
@@ -23,43 +23,47 @@ fn made(alloc: Global) -> Result<Vec<u8>, NoMemory> {
 #[test]
 fn makes_an_image(rt: HostRuntime) -> Result<(), Fail> {
     let alloc = rt.alloc();
-    let ended = run(alloc, &["make", "32", "64", "128"], b"not read")?;
-    assert_eq!(rt; ended.status, 0);
-    assert!(rt; !ended.reported && ended.fault.is_none());
-    assert_eq!(rt; ended.printed.len(), 196_608);
-    let front = ended.printed.get(1024..1044).ok_or("short")?;
-    assert_eq!(rt;
-        front,
-        b"\x20\x00\x40\x00\x01\x00\x01\x00\x05\x00\x00\x00\x00\x1c\x08\x10\x7f\x13\x01\x00".as_slice()
-    );
-    let front = ended.printed.get(65_536..65_544).ok_or("short")?;
-    assert_eq!(rt; front, b"\xc0\x3b\x39\x98\x00\x00\x00\x04".as_slice());
+    let made = run(alloc, &["make", "32", "64", "128"], b"not read")?;
+    let ended = Ended {
+        status: 0,
+        fault: None,
+        reported: false,
+    };
+    assert_eq!(rt; made.ended, ended);
+    let image = made.printed.as_slice();
+    assert_eq!(rt; image.len(), 196_608);
+    let rows: [(usize, usize, &[u8]); 2] = [
+        (
+            1024,
+            1044,
+            b"\x20\x00\x40\x00\x01\x00\x01\x00\x05\x00\x00\x00\x00\x1c\x08\x10\x7f\x13\x01\x00",
+        ),
+        (65_536, 65_544, b"\xc0\x3b\x39\x98\x00\x00\x00\x04"),
+    ];
+    for (from, to, front) in rows {
+        assert_eq!(rt; image.get(from..to), Some(front), "from {from}");
+    }
     Ok(())
 }
 
 #[test]
 fn refuses_sizes(rt: HostRuntime) -> Result<(), Fail> {
-    let rows = [
-        ["32", "5", "128"],
-        ["32", "64", "127"],
-        ["32", "64", "16385"],
-        ["32", "64", "4294967424"],
-        ["0", "64", "128"],
-        ["65536", "65535", "128"],
-        ["32", "65600", "128"],
-        ["032", "64", "128"],
-        ["32", "+64", "128"],
-        ["32", "64", ""],
+    let rows: [&[&str]; 11] = [
+        &["make", "32", "5", "128"],
+        &["make", "32", "64", "127"],
+        &["make", "32", "64", "16385"],
+        &["make", "32", "64", "4294967424"],
+        &["make", "0", "64", "128"],
+        &["make", "65536", "65535", "128"],
+        &["make", "32", "65600", "128"],
+        &["make", "032", "64", "128"],
+        &["make", "32", "+64", "128"],
+        &["make", "32", "64", ""],
+        &["make", "32", "64"],
     ];
-    for [inodes, zones, journal] in rows {
-        let ended = run(rt.alloc(), &["make", inodes, zones, journal], b"")?;
-        assert!(rt;
-            ended.status == 2 && ended.printed.is_empty(),
-            "{inodes} {zones} {journal}"
-        );
+    for words in rows {
+        assert_eq!(rt; refused(rt.alloc(), words, "")?, 2, "{words:?}");
     }
-    let ended = run(rt.alloc(), &["make", "32", "64"], b"")?;
-    assert_eq!(rt; ended.status, 2);
     Ok(())
 }
 
@@ -67,9 +71,7 @@ fn refuses_sizes(rt: HostRuntime) -> Result<(), Fail> {
 fn shows_an_image_that_was_made(rt: HostRuntime) -> Result<(), Fail> {
     let alloc = rt.alloc();
     let image = made(alloc)?;
-    let ended = run(alloc, &["show"], image.as_slice())?;
-    assert_eq!(rt; ended.status, 0);
-    assert_eq!(rt; ended.printed.as_slice(), b"dir /\n".as_slice());
+    expect_tree(&rt, alloc, image.as_slice(), "dir /\n")?;
     Ok(())
 }
 
@@ -78,22 +80,16 @@ fn shows_an_image_that_was_made(rt: HostRuntime) -> Result<(), Fail> {
 fn shows_an_image_whose_log_skips_a_sequence(rt: HostRuntime) -> Result<(), Fail> {
     let alloc = rt.alloc();
     let mut image = made(alloc)?;
-    let bytes = image.as_mut_slice();
-    put(bytes, 65_560, b"\x00\x00\x00\x04\x00\x00\x00\x01");
-    put(
-        bytes,
-        66_560,
-        b"\xc0\x3b\x39\x98\x00\x00\x00\x02\x00\x00\x00\x04",
-    );
-    put(
-        bytes,
-        67_584,
-        b"\xc0\x3b\x39\x98\x00\x00\x00\x01\x00\x00\x00\x05",
-    );
-    put(bytes, 67_596, b"\x00\x00\x00\x05\x00\x00\x00\x08");
-    let ended = run(alloc, &["show"], image.as_slice())?;
-    assert_eq!(rt; ended.status, 0);
-    assert_eq!(rt; ended.printed.as_slice(), b"dir /\n".as_slice());
+    let rows: [(usize, &[u8]); 4] = [
+        (65_560, b"\x00\x00\x00\x04\x00\x00\x00\x01"),
+        (66_560, b"\xc0\x3b\x39\x98\x00\x00\x00\x02\x00\x00\x00\x04"),
+        (67_584, b"\xc0\x3b\x39\x98\x00\x00\x00\x01\x00\x00\x00\x05"),
+        (67_596, b"\x00\x00\x00\x05\x00\x00\x00\x08"),
+    ];
+    for (at, front) in rows {
+        put(image.as_mut_slice(), at, front);
+    }
+    expect_tree(&rt, alloc, image.as_slice(), "dir /\n")?;
     Ok(())
 }
 
@@ -102,28 +98,20 @@ fn shows_an_image_whose_log_skips_a_sequence(rt: HostRuntime) -> Result<(), Fail
 fn shows_what_the_log_has(rt: HostRuntime) -> Result<(), Fail> {
     let alloc = rt.alloc();
     let mut image = made(alloc)?;
-    let bytes = image.as_mut_slice();
-    // The root gets a size of three slots.
-    put(bytes, 4_100, b"\x30");
-    put(bytes, 65_564, b"\x00\x00\x00\x01");
-    put(
-        bytes,
-        66_560,
-        b"\xc0\x3b\x39\x98\x00\x00\x00\x01\x00\x00\x00\x01",
-    );
-    put(bytes, 66_572, b"\x00\x00\x00\x05\x00\x00\x00\x08");
-    put(bytes, 67_616, b"\x02\x00x");
-    put(
-        bytes,
-        68_608,
-        b"\xc0\x3b\x39\x98\x00\x00\x00\x02\x00\x00\x00\x01",
-    );
-    let ended = run(alloc, &["show"], image.as_slice())?;
-    assert_eq!(rt; ended.status, 0);
-    assert_eq!(rt;
-        ended.printed.as_slice(),
-        b"dir /\nother /x mode 000000\n".as_slice()
-    );
+    let rows: [(usize, &[u8]); 6] = [
+        // The root gets a size of three slots.
+        (4_100, b"\x30"),
+        (65_564, b"\x00\x00\x00\x01"),
+        (66_560, b"\xc0\x3b\x39\x98\x00\x00\x00\x01\x00\x00\x00\x01"),
+        (66_572, b"\x00\x00\x00\x05\x00\x00\x00\x08"),
+        (67_616, b"\x02\x00x"),
+        (68_608, b"\xc0\x3b\x39\x98\x00\x00\x00\x02\x00\x00\x00\x01"),
+    ];
+    for (at, front) in rows {
+        put(image.as_mut_slice(), at, front);
+    }
+    let tree = "dir /\nother /x mode 000000\n";
+    expect_tree(&rt, alloc, image.as_slice(), tree)?;
     Ok(())
 }
 
@@ -133,10 +121,9 @@ fn tells_of_a_journal_with_features(rt: HostRuntime) -> Result<(), Fail> {
     let mut image = made(alloc)?;
     // The lowest byte of the features.
     put(image.as_mut_slice(), 65_579, b"\x13");
-    let ended = run(alloc, &["show"], image.as_slice())?;
-    assert_eq!(rt; ended.status, 4);
+    let found = run(alloc, &["show"], image.as_slice())?;
     let fault = TopFault::Image(ImageFault::Feature(18), 64);
-    assert_eq!(rt; ended.fault, Some(fault));
+    expect_fault(&rt, &found, 4, fault, "a journal with features");
     let text = format!(in alloc; "{fault}")?;
     assert_eq!(rt; text.as_str(), "image: feature 18 at block 64");
     Ok(())

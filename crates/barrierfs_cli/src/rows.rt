@@ -6,7 +6,7 @@ mod files;
 mod log_space;
 mod syncs;
 
-use crate::tests::replayed;
+use crate::tests::expect_replay;
 use std::test::Fail;
 
 #[test]
@@ -36,11 +36,7 @@ fn prints_what_was_worked_out(rt: HostRuntime) -> Result<(), Fail> {
         (log_space::REVOKED, log_space::REVOKED_PRINTS),
     ];
     for (script, printed) in rows {
-        assert_eq!(rt;
-            replayed(rt.alloc(), script)?.as_slice(),
-            printed.as_bytes(),
-            "{script}"
-        );
+        expect_replay(&rt, rt.alloc(), script, printed)?;
     }
     Ok(())
 }

@@ -7,6 +7,7 @@ use device_epochs::{DeviceSetup, EpochDevice};
 use order_model::lawful_blocks;
 use script_grammar::ScriptKind;
 use std::alloc::Global;
+use std::process::Abort;
 use std::test::Fail;
 
 // How the program ends with these words.
@@ -23,12 +24,10 @@ fn end_of<R: Source, W: Sink>(
     Ok(run_words(alloc, &words, src, out))
 }
 
-// The status and the fault, whether there is a report, and what was written.
+// How the program ended, and what was written.
 #[derive(Drop)]
 pub struct Printed {
-    pub status: u8,
-    pub fault: Option<TopFault>,
-    pub reported: bool,
+    pub ended: Ended,
     pub printed: Vec<u8>,
 }
 
@@ -37,29 +36,65 @@ pub fn run(alloc: Global, list: &[&str], input: &[u8]) -> Result<Printed, NoMemo
     let mut sink = MemSink::new(Vec::new(alloc), Vec::new(alloc));
     let ended = end_of(alloc, list, &mut source, &mut sink)?;
     Ok(Printed {
-        status: ended.status,
-        fault: ended.fault,
-        reported: ended.reported,
+        ended,
         printed: sink.bytes().to_vec(alloc)?,
     })
 }
 
-// What `replay` prints; nothing where it does not end well.
-pub fn replayed(alloc: Global, script: &str) -> Result<Vec<u8>, NoMemory> {
-    let ended = run(alloc, &["replay"], script.as_bytes())?;
-    if ended.status != 0 || !ended.reported {
-        return Ok(Vec::new(alloc));
-    }
-    Ok(ended.printed)
+// Runs a script, which ends well and prints this.
+pub fn expect_replay(
+    rt: &impl Abort,
+    alloc: Global,
+    script: &str,
+    printed: &str,
+) -> Result<(), NoMemory> {
+    let found = run(alloc, &["replay"], script.as_bytes())?;
+    let well = Ended {
+        status: 0,
+        fault: None,
+        reported: true,
+    };
+    assert_eq!(rt; found.ended, well, "{script}");
+    assert_eq!(rt; found.printed.as_slice(), printed.as_bytes(), "{script}");
+    Ok(())
+}
+
+// Shows an image, whose tree is this.
+pub fn expect_tree(
+    rt: &impl Abort,
+    alloc: Global,
+    image: &[u8],
+    tree: &str,
+) -> Result<(), NoMemory> {
+    let found = run(alloc, &["show"], image)?;
+    let well = Ended {
+        status: 0,
+        fault: None,
+        reported: false,
+    };
+    assert_eq!(rt; found.ended, well);
+    assert_eq!(rt; found.printed.as_slice(), tree.as_bytes());
+    Ok(())
+}
+
+// This fault ended a run before anything was written.
+pub fn expect_fault(rt: &impl Abort, found: &Printed, status: u8, fault: TopFault, what: &str) {
+    let ended = Ended {
+        status,
+        fault: Some(fault),
+        reported: false,
+    };
+    assert_eq!(rt; found.ended, ended, "{what}");
+    assert!(rt; found.printed.is_empty(), "{what}");
 }
 
 // The status of these words and this input, where nothing is written and reported; else 0.
-fn refused(alloc: Global, list: &[&str], script: &str) -> Result<u8, NoMemory> {
-    let ended = run(alloc, list, script.as_bytes())?;
-    if ended.reported || !ended.printed.is_empty() {
+pub fn refused(alloc: Global, list: &[&str], script: &str) -> Result<u8, NoMemory> {
+    let found = run(alloc, list, script.as_bytes())?;
+    if found.ended.reported || !found.printed.is_empty() {
         return Ok(0);
     }
-    Ok(ended.status)
+    Ok(found.ended.status)
 }
 
 // Scripts of block requests, and what they print.
@@ -125,24 +160,24 @@ const SCRIPTS: [(&str, &str); 12] = [
 #[test]
 fn prints_what_requests_leave(rt: HostRuntime) -> Result<(), Fail> {
     for (script, printed) in SCRIPTS {
-        assert_eq!(rt;
-            replayed(rt.alloc(), script)?.as_slice(),
-            printed.as_bytes(),
-            "{script}"
-        );
+        expect_replay(&rt, rt.alloc(), script, printed)?;
     }
     Ok(())
 }
 
 #[test]
 fn refuses_words_that_are_not_built(rt: HostRuntime) -> Result<(), Fail> {
-    let alloc = rt.alloc();
-    let script = "device 1\nevents\n";
-    assert_eq!(rt; refused(alloc, &[], script)?, 2);
-    assert_eq!(rt; refused(alloc, &["run"], script)?, 2);
-    assert_eq!(rt; refused(alloc, &["show", "show"], script)?, 2);
-    assert_eq!(rt; refused(alloc, &["replay", "replay"], script)?, 2);
-    assert_eq!(rt; refused(alloc, &["rep"], script)?, 2);
+    let rows: [&[&str]; 5] = [
+        &[],
+        &["run"],
+        &["show", "show"],
+        &["replay", "replay"],
+        &["rep"],
+    ];
+    for words in rows {
+        let status = refused(rt.alloc(), words, "device 1\nevents\n")?;
+        assert_eq!(rt; status, 2, "{words:?}");
+    }
     Ok(())
 }
 
@@ -160,10 +195,8 @@ fn refuses_what_is_no_script(rt: HostRuntime) -> Result<(), Fail> {
         ("# one\nblocks 2\nqueue 65\nevents\n", 3, ScriptKind::Number),
     ];
     for (script, line, kind) in rows {
-        let ended = run(alloc, &["replay"], script.as_bytes())?;
-        assert_eq!(rt; ended.status, 3);
-        assert_eq!(rt; ended.fault, Some(TopFault::Script(line, kind)), "{script}");
-        assert!(rt; !ended.reported && ended.printed.is_empty());
+        let found = run(alloc, &["replay"], script.as_bytes())?;
+        expect_fault(&rt, &found, 3, TopFault::Script(line, kind), script);
     }
     Ok(())
 }
@@ -173,16 +206,12 @@ fn refuses_a_script_that_is_too_long(rt: HostRuntime) -> Result<(), Fail> {
     let alloc = rt.alloc();
     let mut input = b"device 1\nevents\n#".to_vec(alloc)?;
     input.resize(4_194_304, b'#')?;
-    let ended = run(alloc, &["replay"], &input)?;
-    assert_eq!(rt; ended.status, 0);
-    assert_eq!(rt;
-        ended.printed.as_slice(),
-        b"steps 0\nblock 0 00 -\n".as_slice()
-    );
+    let found = run(alloc, &["replay"], &input)?;
+    let printed = (found.ended.status, found.printed.as_slice());
+    assert_eq!(rt; printed, (0, b"steps 0\nblock 0 00 -\n".as_slice()));
     input.push(b'#')?;
-    let ended = run(alloc, &["replay"], &input)?;
-    assert_eq!(rt; ended.status, 7);
-    assert_eq!(rt; ended.printed.len(), 0);
+    let found = run(alloc, &["replay"], &input)?;
+    expect_fault(&rt, &found, 7, TopFault::TooLong, "a byte more");
     Ok(())
 }
 
@@ -227,8 +256,10 @@ impl Sink for Stuck {
 fn tells_of_a_source_that_fails(rt: HostRuntime) -> Result<(), Fail> {
     let alloc = rt.alloc();
     let script = b"device 1\nevents\n";
-    assert_eq!(rt; status_of_reads(alloc, script, &[1])?, 5);
-    assert_eq!(rt; status_of_reads(alloc, script, &[2])?, 5);
+    for fails in [1, 2] {
+        let status = status_of_reads(alloc, script, &[fails])?;
+        assert_eq!(rt; status, 5, "read {fails}");
+    }
     Ok(())
 }
 
@@ -236,16 +267,16 @@ fn tells_of_a_source_that_fails(rt: HostRuntime) -> Result<(), Fail> {
 fn tells_of_a_sink_that_fails(rt: HostRuntime) -> Result<(), Fail> {
     let alloc = rt.alloc();
     let mut sink = MemSink::new(Vec::new(alloc), [1].to_vec(alloc)?);
-    assert_eq!(rt; status_over(alloc, &mut sink)?, 6);
-    assert_eq!(rt; sink.bytes().len(), 0);
+    let status = status_over(alloc, &mut sink)?;
+    assert_eq!(rt; (status, sink.bytes().len()), (6, 0));
     Ok(())
 }
 
 #[test]
 fn tells_of_a_sink_that_takes_nothing(rt: HostRuntime) -> Result<(), Fail> {
     let mut sink = Stuck { faults: 0 };
-    assert_eq!(rt; status_over(rt.alloc(), &mut sink)?, 6);
-    assert_eq!(rt; sink.faults, 1);
+    let status = status_over(rt.alloc(), &mut sink)?;
+    assert_eq!(rt; (status, sink.faults), (6, 1));
     Ok(())
 }
 

@@ -1,5 +1,5 @@
 //! Replies of calls, and scripts that are refused.
-use crate::tests::run;
+use crate::tests::{expect_fault, run};
 use barrierfs_top::TopFault;
 use script_grammar::ScriptKind;
 use std::test::Fail;
@@ -361,10 +361,8 @@ const REFUSED: [(&str, u32, ScriptKind); 8] = [
 #[test]
 fn refuses_what_is_no_volume_script(rt: HostRuntime) -> Result<(), Fail> {
     for (script, line, kind) in REFUSED {
-        let ended = run(rt.alloc(), &["replay"], script.as_bytes())?;
-        assert_eq!(rt; ended.status, 3, "{script}");
-        assert_eq!(rt; ended.fault, Some(TopFault::Script(line, kind)), "{script}");
-        assert!(rt; ended.printed.is_empty(), "{script}");
+        let found = run(rt.alloc(), &["replay"], script.as_bytes())?;
+        expect_fault(&rt, &found, 3, TopFault::Script(line, kind), script);
     }
     Ok(())
 }

@@ -1,5 +1,5 @@
 //! Commits of transactions, and what a power cut leaves of them.
-use crate::tests::replayed;
+use crate::tests::expect_replay;
 use std::test::Fail;
 
 // A barrier that waits for no device: the tree is there only once the last block of its transaction is on the medium.
@@ -208,10 +208,7 @@ fn leaves_all_of_a_transaction_or_nothing(rt: HostRuntime) -> Result<(), Fail> {
         )?;
         let tree = if cut < 18 { BEFORE } else { AFTER };
         let printed = format!(in alloc; "steps {cut}\n{REPLIES}{tree}")?;
-        assert_eq!(rt;
-            replayed(alloc, script.as_str())?.as_slice(),
-            printed.as_bytes()
-        );
+        expect_replay(&rt, alloc, script.as_str(), printed.as_str())?;
     }
     Ok(())
 }

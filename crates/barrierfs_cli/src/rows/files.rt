@@ -1,7 +1,6 @@
 //! Files over all kinds of zones, volumes that are full, and directories that are large.
-use crate::tests::replayed;
-use blk_base::NoMemory;
-use std::alloc::Global;
+use crate::tests::expect_replay;
+use std::alloc::{AllocError, Global};
 use std::test::Fail;
 
 // A volume of 4 inodes and 58 zones of data. Files take all of either, are refused the next, and go again; then one file
@@ -108,37 +107,55 @@ block 518 568x00+456x62
 block 519 44x62+500x00
 ";
 
+// A line for each number below this one, between two texts.
+fn numbered(alloc: Global, count: u32, front: &str, back: &str) -> Result<String, AllocError> {
+    let mut lines = String::new(alloc);
+    for number in 0..count {
+        writeln!(lines, "{front}{number}{back}")?;
+    }
+    Ok(lines)
+}
+
 // A directory gets so many files, which all go again: it does not shrink. Then it goes, and a new one is small.
-fn crowded(alloc: Global, files: u32) -> Result<String, NoMemory> {
-    let mut script = String::from_str(
-        alloc,
-        "volume inodes 512 zones 128 journal 1024\nthread 1\nmkdir /d\n",
-    )?;
-    for file in 0..files {
-        writeln!(script, "create /d/n{file}")?;
-    }
-    script.push_str("stat /d\n")?;
-    for file in 0..files {
-        writeln!(script, "unlink /d/n{file}")?;
-    }
-    script.push_str("stat /d\nrmdir /d\nmkdir /d\nstat /d\nevents\ncall 1 x 906\n")?;
-    Ok(script)
+fn crowded(alloc: Global, files: u32) -> Result<String, AllocError> {
+    let creates = numbered(alloc, files, "create /d/n", "")?;
+    let unlinks = numbered(alloc, files, "unlink /d/n", "")?;
+    format!(in alloc;
+        "\
+volume inodes 512 zones 128 journal 1024
+thread 1
+mkdir /d
+{creates}stat /d
+{unlinks}stat /d
+rmdir /d
+mkdir /d
+stat /d
+events
+call 1 x 906
+"
+    )
 }
 
 // What it prints, where the directory had so many bytes.
-fn crowded_prints(alloc: Global, files: u32, size: u32) -> Result<String, NoMemory> {
-    let mut text = String::from_str(alloc, "steps 0\nrequests 0\n1 mkdir /d: ok\n")?;
-    for file in 0..files {
-        writeln!(text, "1 create /d/n{file}: ok")?;
-    }
-    writeln!(text, "1 stat /d: dir size {size} links 2")?;
-    for file in 0..files {
-        writeln!(text, "1 unlink /d/n{file}: ok")?;
-    }
-    writeln!(text, "1 stat /d: dir size {size} links 2")?;
-    text.push_str("1 rmdir /d: ok\n1 mkdir /d: ok\n1 stat /d: dir size 32 links 2\n")?;
-    text.push_str("thread 1: 906 of 906\nclosed 0\nfound 0\ndir /\n")?;
-    Ok(text)
+fn crowded_prints(alloc: Global, files: u32, size: u32) -> Result<String, AllocError> {
+    let creates = numbered(alloc, files, "1 create /d/n", ": ok")?;
+    let unlinks = numbered(alloc, files, "1 unlink /d/n", ": ok")?;
+    format!(in alloc;
+        "\
+steps 0
+requests 0
+1 mkdir /d: ok
+{creates}1 stat /d: dir size {size} links 2
+{unlinks}1 stat /d: dir size {size} links 2
+1 rmdir /d: ok
+1 mkdir /d: ok
+1 stat /d: dir size 32 links 2
+thread 1: 906 of 906
+closed 0
+found 0
+dir /
+"
+    )
 }
 
 // With 450 names it has 452 slots of 16 bytes: seven blocks, and one more behind the indirect zone.
@@ -147,10 +164,7 @@ fn directories_pass_their_direct_zones(rt: HostRuntime) -> Result<(), Fail> {
     let alloc = rt.alloc();
     let script = crowded(alloc, 450)?;
     let printed = crowded_prints(alloc, 450, 7232)?;
-    assert_eq!(rt;
-        replayed(alloc, script.as_str())?.as_slice(),
-        printed.as_bytes()
-    );
+    expect_replay(&rt, alloc, script.as_str(), printed.as_str())?;
     Ok(())
 }
 
@@ -158,22 +172,14 @@ fn directories_pass_their_direct_zones(rt: HostRuntime) -> Result<(), Fail> {
 #[test]
 fn directories_have_so_many_links(rt: HostRuntime) -> Result<(), Fail> {
     let alloc = rt.alloc();
-    let mut script = String::from_str(
-        alloc,
-        "volume inodes 512 zones 1024 journal 2048\nthread 1\nmkdir /d\n",
+    let mkdirs = numbered(alloc, 248, "mkdir /d/", "")?;
+    let script = format!(in alloc;
+        "volume inodes 512 zones 1024 journal 2048\nthread 1\nmkdir /d\n{mkdirs}mkdir /d/248\nevents\ncall 1 x 250\n"
     )?;
-    let mut printed = String::from_str(alloc, "steps 0\nrequests 0\n1 mkdir /d: ok\n")?;
-    for child in 0..248_u32 {
-        writeln!(script, "mkdir /d/{child}")?;
-        writeln!(printed, "1 mkdir /d/{child}: ok")?;
-    }
-    script.push_str("mkdir /d/248\nevents\ncall 1 x 250\n")?;
-    printed.push_str(
-        "1 mkdir /d/248: too many links\nthread 1: 250 of 250\nclosed 0\nfound 0\ndir /\n",
+    let replies = numbered(alloc, 248, "1 mkdir /d/", ": ok")?;
+    let printed = format!(in alloc;
+        "steps 0\nrequests 0\n1 mkdir /d: ok\n{replies}1 mkdir /d/248: too many links\nthread 1: 250 of 250\nclosed 0\nfound 0\ndir /\n"
     )?;
-    assert_eq!(rt;
-        replayed(alloc, script.as_str())?.as_slice(),
-        printed.as_bytes()
-    );
+    expect_replay(&rt, alloc, script.as_str(), printed.as_str())?;
     Ok(())
 }

@@ -1,7 +1,6 @@
 //! Calls that wait for the medium, and recovery.
-use crate::tests::replayed;
-use blk_base::NoMemory;
-use std::alloc::Global;
+use crate::tests::expect_replay;
+use std::alloc::{AllocError, Global};
 use std::test::Fail;
 
 // A file that is synced is there; power that is off at once.
@@ -54,36 +53,50 @@ dir /
 ";
 
 // That script, cut after so many steps.
-fn cut_at(alloc: Global, steps: u32) -> Result<String, NoMemory> {
-    let mut script = String::from_str(alloc, "volume inodes 32 zones 64 journal 128\n")?;
-    writeln!(script, "cut {steps}")?;
-    script.push_str("thread 1\nmkdir /a\ncreate /a/f\nwrite /a/f 0 3 61\nfsync /a/f\n")?;
-    script.push_str("events\nround 100\nrecover d3\nrecover t0 t0 p1\n")?;
-    Ok(script)
+fn cut_at(alloc: Global, steps: u32) -> Result<String, AllocError> {
+    format!(in alloc;
+        "\
+volume inodes 32 zones 64 journal 128
+cut {steps}
+thread 1
+mkdir /a
+create /a/f
+write /a/f 0 3 61
+fsync /a/f
+events
+round 100
+recover d3
+recover t0 t0 p1
+"
+    )
 }
 
 // What it prints. A request goes out a round and takes two steps of the device in it, the flush one: the page, then the
 // superblock, the descriptor, five bodies, the commit block, and the flush. The host submits on until it hears of the cut.
-fn cut_prints(alloc: Global, steps: u32, requests: u32) -> Result<String, NoMemory> {
-    let mut text = format!(in alloc;
-        "steps {steps}\nrequests {requests}\n1 mkdir /a: ok\n1 create /a/f: ok\n"
-    )?;
+fn cut_prints(alloc: Global, steps: u32, requests: u32) -> Result<String, AllocError> {
     let (written, closed) = if steps == 0 {
         ("down", 0)
     } else {
         ("ok", 1_u32)
     };
     let synced = if steps == 19 { "ok" } else { "down" };
-    write!(
-        text,
-        "1 write /a/f 0 3 61: {written}\n1 fsync /a/f: {synced}\nthread 1: 4 of 4\nclosed {closed}\n"
-    )?;
-    if steps < 18 {
-        text.push_str("found 0\ndir /\n")?;
+    let tree = if steps < 18 {
+        "found 0\ndir /\n"
     } else {
-        text.push_str("found 1\ndir /\ndir /a\nfile /a/f size 3 links 1\nblock 0 3x61\n")?;
-    }
-    Ok(text)
+        "found 1\ndir /\ndir /a\nfile /a/f size 3 links 1\nblock 0 3x61\n"
+    };
+    format!(in alloc;
+        "\
+steps {steps}
+requests {requests}
+1 mkdir /a: ok
+1 create /a/f: ok
+1 write /a/f 0 3 61: {written}
+1 fsync /a/f: {synced}
+thread 1: 4 of 4
+closed {closed}
+{tree}"
+    )
 }
 
 // Wherever the power goes off, all of the transaction is there or nothing of it, and all once the call was answered.
@@ -97,11 +110,7 @@ fn keeps_what_was_answered(rt: HostRuntime) -> Result<(), Fail> {
     for submitted in requests {
         let script = cut_at(alloc, steps)?;
         let printed = cut_prints(alloc, steps, submitted)?;
-        assert_eq!(rt;
-            replayed(alloc, script.as_str())?.as_slice(),
-            printed.as_bytes(),
-            "{steps}"
-        );
+        expect_replay(&rt, alloc, script.as_str(), printed.as_str())?;
         steps = steps.saturating_add(1);
     }
     Ok(())
@@ -114,17 +123,10 @@ fn recovers_after_attempts_that_were_cut(rt: HostRuntime) -> Result<(), Fail> {
     for first in 0..15_u32 {
         for second in 0..15_u32 {
             let script = format!(in alloc; "{SYNC}recover d{first}\nrecover d{second}\n")?;
-            assert_eq!(rt;
-                replayed(alloc, script.as_str())?.as_slice(),
-                SYNC_PRINTS.as_bytes(),
-                "{first} {second}"
-            );
+            expect_replay(&rt, alloc, script.as_str(), SYNC_PRINTS)?;
         }
     }
     let script = format!(in alloc; "{SYNC}recover d3\nrecover t0 t0 p1\n")?;
-    assert_eq!(rt;
-        replayed(alloc, script.as_str())?.as_slice(),
-        SYNC_PRINTS.as_bytes()
-    );
+    expect_replay(&rt, alloc, script.as_str(), SYNC_PRINTS)?;
     Ok(())
 }
