@@ -46,26 +46,26 @@ fn path(alloc: Global, text: &[u8]) -> Result<ByteList, NoMemory> {
     }
 }
 
-// Four calls on one path each.
-fn calls(alloc: Global) -> Result<[Call; 4], NoMemory> {
-    let mkdir = Call::Mkdir(path(alloc, b"/a")?);
-    let create = Call::Create(path(alloc, b"a")?);
-    let rmdir = Call::Rmdir(path(alloc, b"/")?);
-    let stat = Call::Stat(path(alloc, b"/")?);
-    Ok([mkdir, create, rmdir, stat])
+fn call(word: &str, path: ByteList) -> Call {
+    match word {
+        "mkdir" => Call::Mkdir(path),
+        "create" => Call::Create(path),
+        "rmdir" => Call::Rmdir(path),
+        _ => Call::Stat(path),
+    }
 }
 
 #[test]
 fn answers_on_a_new_tree(rt: HostRuntime) -> Result<(), Fail> {
-    let wanted = [
-        "Ok, 1",
-        "BadPath, 0",
-        "Invalid, 0",
-        "Stat { dir: true, size: 32, links: 2 }, 0",
+    let rows = [
+        ("mkdir", "/a", "Ok, 1"),
+        ("create", "a", "BadPath, 0"),
+        ("rmdir", "/", "Invalid, 0"),
+        ("stat", "/", "Stat { dir: true, size: 32, links: 2 }, 0"),
     ];
-    let calls = calls(rt.alloc())?;
-    for (call, text) in calls.iter().zip(wanted) {
-        assert_eq!(rt; first(rt.alloc(), call)?.as_str(), text);
+    for (word, place, text) in rows {
+        let call = call(word, path(rt.alloc(), place.as_bytes())?);
+        assert_eq!(rt; first(rt.alloc(), &call)?.as_str(), text, "{word}");
     }
     Ok(())
 }
