@@ -2,7 +2,7 @@
 ghost use Rattle.std.specs.Prelude.{◌≡◌};
 ghost use Rattle.blk_base.specs.Block.{filled};
 
-use blk_base::{Block, BodySource, NoMemory};
+use blk_base::{Block, BodySource};
 use commit_actor::{JournalPart, commit_step};
 use journal_blocks::JournalSuper;
 use journal_ring::{
@@ -12,6 +12,7 @@ use journal_ring::{
 use order_model::{Inlet, Kind, ListQueue, Note, Request, Turn};
 use page_cache::Pages;
 use std::alloc::Global;
+use std::process::Abort;
 
 // A log of nine places.
 const SMALL: JournalSuper = JournalSuper {
@@ -79,29 +80,28 @@ struct Setting {
     out: ListQueue<Request>,
 }
 
-fn set_up(alloc: Global) -> Result<Setting, NoMemory> {
-    let ring = Ring::make(alloc, &SMALL, 50)?;
-    Ok(Setting {
-        part: JournalPart::make(alloc, ring, 50, 64, 64, 1)?,
-        pages: Pages::load(alloc, 4)?,
-        out: ListQueue::make(alloc, 20)?,
-    })
+fn set_up(rt: &impl Abort, alloc: Global) -> Setting {
+    let ring = Ring::make(alloc, &SMALL, 50).expect(rt, "no ring");
+    Setting {
+        part: JournalPart::make(alloc, ring, 50, 64, 64, 1).expect(rt, "no part"),
+        pages: Pages::load(alloc, 4).expect(rt, "no pages"),
+        out: ListQueue::make(alloc, 20).expect(rt, "no queue"),
+    }
 }
 
 impl Setting {
-    // A call changed these blocks and this node, and the transaction is to be closed.
-    fn change(&mut self, alloc: Global, blocks: &[u32], birth: u64) -> Result<(), NoMemory> {
-        self.part.reserve(alloc, 8)?;
-        for block in blocks {
-            if self.part.running().spare() > 0 && *block < self.part.flush().blocks() {
-                self.part.touch(*block);
+    // A call changed blocks 2, 5 and 4 and node 1, and the transaction is to be closed.
+    fn change(&mut self, rt: &impl Abort, alloc: Global) {
+        self.part.reserve(alloc, 8).expect(rt, "no room");
+        for block in [2, 5, 4] {
+            if self.part.running().spare() > 0 && block < self.part.flush().blocks() {
+                self.part.touch(block);
             }
         }
         if self.part.running().spare() > 0 {
-            self.part.change(birth);
+            self.part.change(1);
         }
         self.part.want_closed();
-        Ok(())
     }
 
     fn step(&mut self, alloc: Global) -> Turn {
@@ -135,21 +135,35 @@ impl Setting {
     }
 }
 
+// Two changes, each with the steps that are taken of it.
+fn change_twice(rt: &impl Abort, alloc: Global, session: &mut Setting) {
+    // What it is, whether a call changes blocks, the steps that follow, and the turn of the last one.
+    let rows = [
+        ("new", false, 1, Turn::Idle),
+        ("the first change", true, 8, Turn::Did),
+        ("the first is done", false, 1, Turn::Idle),
+        ("the second change", true, 11, Turn::Did),
+    ];
+    for (name, changes, most, turn) in rows {
+        if changes {
+            session.change(rt, alloc);
+        }
+        assert_eq!(rt; session.steps(alloc, most), turn, "{name}");
+    }
+}
+
+fn expect_sent(rt: &impl Abort, session: &mut Setting) {
+    assert!(rt; session.part.flush().notes() == NOTES.as_slice());
+    for put in &SENT {
+        assert_eq!(rt; session.first_sent(), Some(*put));
+    }
+}
+
 #[test]
 fn plans_are_sent_and_bodies_go_home(rt: HostRuntime) {
-    let Ok(mut session) = set_up(rt.alloc()) else {
-        panic!(rt; "no memory");
-    };
-    assert_eq!(rt; session.step(rt.alloc()), Turn::Idle);
-    assert_eq!(rt; session.change(rt.alloc(), &[2, 5, 4], 1), Ok(()));
-    assert_eq!(rt; session.steps(rt.alloc(), 8), Turn::Did);
-    assert_eq!(rt; session.step(rt.alloc()), Turn::Idle);
-    assert_eq!(rt; session.change(rt.alloc(), &[2, 5, 4], 1), Ok(()));
-    assert_eq!(rt; session.steps(rt.alloc(), 11), Turn::Did);
-    assert!(rt; session.part.flush().notes() == NOTES.as_slice());
-    for put in SENT {
-        assert_eq!(rt; session.first_sent(), Some(put));
-    }
+    let mut session = set_up(&rt, rt.alloc());
+    change_twice(&rt, rt.alloc(), &mut session);
+    expect_sent(&rt, &mut session);
     places_are_free_or_in_use();
     last_bodies_wait_to_be_sent_home();
     bodies_wait_until_they_are_sent();

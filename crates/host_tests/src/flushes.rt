@@ -1,10 +1,11 @@
 //! Tests of the flush actor.
 ghost use Rattle.std.specs.Prelude.{◌≡◌};
 
-use blk_base::{Block, NoMemory};
+use blk_base::Block;
 use flush_actor::{CallKind, FlushPart, Wait, flush_step};
 use order_model::{Completion, Inlet, Kind, ListQueue, Note, Outlet, Request, Turn};
 use std::alloc::Global;
+use std::process::Abort;
 
 // A part of four requests and one thread, with its two queues.
 #[derive(Drop)]
@@ -14,51 +15,41 @@ struct Setting {
     from: ListQueue<Completion>,
 }
 
-fn set_up(alloc: Global) -> Result<Setting, NoMemory> {
-    let mut part = FlushPart::make(alloc, 4, 10, 1)?;
+// A call of this kind waits for the commit block of transaction 1, which was submitted.
+fn waiting(rt: &impl Abort, alloc: Global, kind: CallKind) -> Setting {
+    let mut part = FlushPart::make(alloc, 4, 10, 1).expect(rt, "no part");
     part.hold(1, 7);
     part.hold(2, 5);
     part.want(7);
     part.want(5);
-    Ok(Setting {
-        part,
-        out: ListQueue::make(alloc, 2)?,
-        from: ListQueue::make(alloc, 3)?,
-    })
+    let wait = Wait {
+        kind,
+        target: Some(1),
+        need: None,
+    };
+    if part.threads() > 0 {
+        part.set_wait(0, wait);
+    }
+    let mut out = ListQueue::make(alloc, 2).expect(rt, "no queue");
+    let from = ListQueue::make(alloc, 3).expect(rt, "no queue");
+    let kind = Kind::Put {
+        block: 3,
+        body: Block::fill(1),
+    };
+    let turn = part.submit(kind, true, true, Note::Commit { tx: 1 }, &mut out);
+    assert_eq!(rt; turn, Turn::Did);
+    if part.submitted() > 0 {
+        part.note_commit(1, 0);
+    }
+    Setting { part, out, from }
 }
 
 impl Setting {
-    // Submits the commit block of a transaction.
-    fn commit(&mut self, tx: u32) -> Turn {
-        let kind = Kind::Put {
-            block: 3,
-            body: Block::fill(1),
-        };
-        self.part
-            .submit(kind, true, true, Note::Commit { tx }, &mut self.out)
-    }
-
-    // The one thread has a call of this kind, which waits for transaction 1.
-    fn begin(&mut self, kind: CallKind) {
-        if self.part.threads() > 0 {
-            self.part.set_wait(
-                0,
-                Wait {
-                    kind,
-                    target: Some(1),
-                    need: None,
-                },
-            );
+    // The device tells this, or nothing, and the flush actor takes a step.
+    fn step(&mut self, told: Option<Completion>) -> Turn {
+        if let Some(completion) = told {
+            let _ = self.from.put(completion);
         }
-    }
-
-    // The device tells this, and the flush actor takes a step.
-    fn told(&mut self, completion: Completion) -> Turn {
-        let _ = self.from.put(completion);
-        self.step()
-    }
-
-    fn step(&mut self) -> Turn {
         if self.part.taken() > self.part.limit() {
             return Turn::NoMemory;
         }
@@ -68,48 +59,52 @@ impl Setting {
 
 #[test]
 fn one_flush_serves_a_sync_call(rt: HostRuntime) {
-    let Ok(mut session) = set_up(rt.alloc()) else {
-        panic!(rt; "no memory");
-    };
-    session.begin(CallKind::FileSync);
-    assert_eq!(rt; session.commit(1), Turn::Did);
-    if session.part.submitted() > 0 {
-        session.part.note_commit(1, 0);
+    let mut session = waiting(&rt, rt.alloc(), CallKind::FileSync);
+    let need = session.part.wait(0).and_then(|wait| wait.need);
+    assert_eq!(rt; (need, session.part.flush_due()), (Some(0), false));
+    // What is told, the turn, and then whether a flush is due, was submitted and is done.
+    let rows = [
+        (Some(Completion::Moved(0)), Turn::Did, [true, false, false]),
+        (None, Turn::Did, [false, true, false]),
+        (Some(Completion::Flushed(1)), Turn::Did, [false, true, true]),
+        (None, Turn::Idle, [false, true, true]),
+    ];
+    for (told, turn, flush) in rows {
+        let came = session.step(told);
+        let part = &session.part;
+        let seen = [
+            part.flush_due(),
+            part.has_flush_above(0),
+            part.has_flushed_after(0),
+        ];
+        assert_eq!(rt; (came, seen), (turn, flush), "{told:?}");
     }
-    let needs = session.part.wait(0).and_then(|wait| wait.need);
-    assert_eq!(rt; needs, Some(0));
-    assert!(rt; !session.part.flush_due());
-    assert_eq!(rt; session.told(Completion::Moved(0)), Turn::Did);
-    assert!(rt; session.part.flush_due());
-    assert_eq!(rt; session.step(), Turn::Did);
-    assert!(rt; session.part.has_flush_above(0) && !session.part.has_flushed_after(0));
-    assert_eq!(rt; session.part.last_put(), Some(0));
-    assert_eq!(rt; session.part.least_conflict(), Some((5, 2)));
-    assert_eq!(rt; session.told(Completion::Flushed(1)), Turn::Did);
-    assert!(rt; session.part.has_flushed_after(0));
-    assert_eq!(rt; session.step(), Turn::Idle);
+    let told = (session.part.last_put(), session.part.least_conflict());
+    assert_eq!(rt; told, (Some(0), Some((5, 2))));
 }
 
 #[test]
 fn nothing_is_due_once_it_is_over(rt: HostRuntime) {
-    let Ok(mut session) = set_up(rt.alloc()) else {
-        panic!(rt; "no memory");
-    };
-    session.begin(CallKind::WholeSync);
-    assert_eq!(rt; session.commit(1), Turn::Did);
-    if session.part.submitted() > 0 {
-        session.part.note_commit(1, 0);
+    let mut session = waiting(&rt, rt.alloc(), CallKind::WholeSync);
+    let rows = [
+        (Some(Completion::Moved(0)), Turn::Did),
+        (Some(Completion::Failed(0)), Turn::Did),
+        (None, Turn::Did),
+        (None, Turn::Idle),
+        (Some(Completion::Cut), Turn::Did),
+    ];
+    for (told, turn) in rows {
+        assert_eq!(rt; session.step(told), turn, "{told:?}");
     }
-    assert_eq!(rt; session.told(Completion::Moved(0)), Turn::Did);
-    let _ = session.from.put(Completion::Failed(0));
-    assert_eq!(rt; session.step(), Turn::Did);
-    assert_eq!(rt; session.step(), Turn::Did);
-    assert_eq!(rt; session.step(), Turn::Idle);
-    assert_eq!(rt; session.part.first_failed(), Some(0));
-    assert_eq!(rt; session.told(Completion::Cut), Turn::Did);
-    assert!(rt; session.part.is_cut() && session.part.is_over());
-    assert!(rt; session.out.take().is_some());
-    assert!(rt; !session.part.at_limit());
-    assert!(rt; CallKind::FileSync.is_begun() && CallKind::DataSync.is_data());
-    assert!(rt; CallKind::Reading.is_reading() && CallKind::WholeSync.is_whole());
+    let part = &session.part;
+    let told = (part.first_failed(), part.is_cut(), part.is_over());
+    assert_eq!(rt; told, (Some(0), true, true));
+    assert!(rt; !part.at_limit() && session.out.take().is_some());
+    let kinds = [
+        CallKind::FileSync.is_begun(),
+        CallKind::DataSync.is_data(),
+        CallKind::Reading.is_reading(),
+        CallKind::WholeSync.is_whole(),
+    ];
+    assert_eq!(rt; kinds, [true; 4]);
 }

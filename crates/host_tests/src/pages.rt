@@ -3,13 +3,14 @@ use blk_base::Block;
 use page_cache::{
     NoRoom, PageState, Pages, next_page_is_least, pages_are_a_map, pages_stand_in_order,
 };
+use std::alloc::Global;
+use std::process::Abort;
 
-#[test]
-fn keeps_pages_in_order(rt: HostRuntime) {
-    let Ok(mut pages) = Pages::load(rt.alloc(), 3) else {
-        panic!(rt; "no memory");
-    };
-    let rows: [(u64, u32, u32, u8, Result<(), NoRoom>); 5] = [
+// Pages 9 of file 2, and 0 and 3 of file 7, in a cache that has room for no other.
+fn full(rt: &impl Abort, alloc: Global) -> Pages {
+    let mut pages = Pages::load(alloc, 3).expect(rt, "no pages");
+    // A page's file and index there, its block, the byte of its body and its version, and what setting it answers.
+    let rows = [
         (7, 0, 40, 1, Ok(())),
         (2, 9, 41, 2, Ok(())),
         (7, 3, 42, 3, Ok(())),
@@ -18,32 +19,23 @@ fn keeps_pages_in_order(rt: HostRuntime) {
     ];
     for (birth, index, block, byte, answer) in rows {
         let set = pages.set(birth, index, block, Block::fill(byte), u64::from(byte));
-        assert_eq!(rt; set, answer);
+        assert_eq!(rt; set, answer, "{birth} {index}");
     }
-    assert_eq!(rt;
-        (pages.block(2, 9), pages.version(2, 9)),
-        (Some(44), Some(5))
-    );
+    pages
+}
+
+#[test]
+fn keeps_pages_in_order(rt: HostRuntime) {
+    let mut pages = full(&rt, rt.alloc());
     assert!(rt; pages.body(2, 9) == Some(&Block::fill(5)));
-    assert!(rt; pages.body(7, 1).is_none());
-    let dirty: [Option<(u64, u32)>; 4] = [
-        pages.dirty(0),
-        pages.dirty(1),
-        pages.dirty(2),
-        pages.dirty(3),
-    ];
-    assert_eq!(rt; dirty, [Some((2, 9)), Some((7, 0)), Some((7, 3)), None]);
+    let kept = (pages.block(2, 9), pages.version(2, 9), pages.dirty(1));
+    assert_eq!(rt; kept, (Some(44), Some(5), Some((7, 0))));
     pages.drop_page(7, 0);
-    pages.drop_page(7, 0);
-    assert_eq!(rt;
-        (pages.state(7, 0), pages.state(7, 3)),
-        (None, Some(PageState::Dirty))
-    );
+    let states = (pages.state(7, 0), pages.state(7, 3));
+    assert_eq!(rt; states, (None, Some(PageState::Dirty)));
     assert_eq!(rt; pages.set(7, 1, 45, Block::fill(6), 6), Ok(()));
-    assert_eq!(rt;
-        (pages.next_unsent(2, 10), pages.of_file(7, 2)),
-        (Some((7, 1)), Some(3))
-    );
+    let next = (pages.next_unsent(2, 10), pages.of_file(7, 2));
+    assert_eq!(rt; next, (Some((7, 1)), Some(3)));
     pages_are_a_map();
     pages_stand_in_order();
     next_page_is_least();
