@@ -1,5 +1,5 @@
 //! What a new volume answers, and the tree that calls leave.
-ghost use Rattle.std.specs.Prelude.{◌≡◌, true, false, IfOk};
+ghost use Rattle.std.specs.Prelude.{◌≡◌, true, false};
 ghost use Rattle.minix_layout.specs.Geometry.{IsSound};
 ghost use Rattle.tree_model.specs.Calls.{leaves_tree};
 ghost use Rattle.volume_model.specs.NewVolume.{new_blocks, root_inode, root_placed};
@@ -14,7 +14,6 @@ use script_words::words;
 use std::alloc::Global;
 use std::collections::BTreeMap;
 use std::process::Abort;
-use std::test::Fail;
 use tree_model::{ByteList, Call, Reply, put_tree};
 use volume_calls::{PlainVolume, volumes_are_plain};
 use volume_edits::{put_inode, put_slot};
@@ -22,9 +21,6 @@ use volume_model::{DirectoryPart, NameMap, Part, Placed};
 use volume_now::VolumeNow;
 use volume_steps::new_volumes_are_in_use;
 use zone_maps::ZoneMap;
-
-/// A line, and what its call is answered.
-type Row = (&'static str, &'static str);
 
 // Five blocks are no zones of data.
 const SMALL: Geometry = Geometry {
@@ -36,13 +32,13 @@ const SMALL: Geometry = Geometry {
     width: 14,
 };
 
-fn root_slot(bytes: &[u8]) -> Result<Slot, NoMemory>
-    ensures { IfOk result (λ s. s ≡ record { inode = 1; name = bytes.now }) }
+fn root_slot(rt: &impl Abort, bytes: &[u8]) -> Slot
+    ensures { result ≡ record { inode = 1; name = bytes.now } }
 {
-    let Some(name) = Name::of(bytes) else {
-        return Err(NoMemory);
-    };
-    Ok(Slot { inode: 1, name })
+    Slot {
+        inode: 1,
+        name: Name::of(bytes).expect(rt, "no name"),
+    }
 }
 
 fn root_inode(g: &Geometry) -> Inode
@@ -59,21 +55,22 @@ fn root_inode(g: &Geometry) -> Inode
     }
 }
 
-fn root_blocks(alloc: Global, g: &Geometry) -> Result<Image, NoMemory>
-    ensures { IfOk result (λ i. i ≡ new_blocks g.now) }
+fn root_blocks(rt: &impl Abort, alloc: Global, g: &Geometry) -> Image
+    ensures { result ≡ new_blocks g.now }
 {
-    let mut blocks = Image::zeroed(alloc, g.zones.into())?;
+    let mut blocks = Image::zeroed(alloc, g.zones.into()).expect(rt, "no blocks");
     put_inode(&mut blocks, g, 1, &root_inode(g));
-    put_slot(&mut blocks, g, g.first, 0, Some(&root_slot(b".")?));
-    put_slot(&mut blocks, g, g.first, 1, Some(&root_slot(b"..")?));
-    Ok(blocks)
+    put_slot(&mut blocks, g, g.first, 0, Some(&root_slot(rt, b".")));
+    put_slot(&mut blocks, g, g.first, 1, Some(&root_slot(rt, b"..")));
+    blocks
 }
 
-fn root(alloc: Global, g: &Geometry) -> Result<Placed, NoMemory>
-    ensures { IfOk result (λ p. p ≡ root_placed g.now) }
+fn root(rt: &impl Abort, alloc: Global, g: &Geometry) -> Placed
+    ensures { result ≡ root_placed g.now }
 {
-    let slots = Vec::from_array(alloc, [Some(root_slot(b".")?), Some(root_slot(b"..")?)])?;
-    Ok(Placed {
+    let slots = [Some(root_slot(rt, b".")), Some(root_slot(rt, b".."))];
+    let slots = Vec::from_array(alloc, slots).expect(rt, "no slots");
+    Placed {
         number: 1,
         inode: root_inode(g),
         part: Part::Directory(DirectoryPart {
@@ -81,43 +78,34 @@ fn root(alloc: Global, g: &Geometry) -> Result<Placed, NoMemory>
             names: NameMap::new(alloc),
             slots: Slots::of(slots),
         }),
-    })
+    }
 }
 
 // A new volume.
-fn new_volume(alloc: Global, g: Geometry) -> Result<PlainVolume, NoMemory>
+fn new_volume(rt: &impl Abort, alloc: Global, g: Geometry) -> PlainVolume
     requires { IsSound g }
-    ensures { IfOk result (λ v. v ≡ new_now g) }
+    ensures { result ≡ new_now g }
 {
     new_volumes_are_in_use();
-    let blocks = root_blocks(alloc, &g)?;
     let mut nodes = BTreeMap::new(alloc);
-    nodes.insert(0, root(alloc, &g)?)?;
-    let zones = ZoneMap::make(alloc, &g, &[g.first])?;
-    PlainVolume::of(
-        alloc,
-        VolumeNow {
-            geometry: g,
-            blocks,
-            nodes,
-            zones,
-        },
-    )
+    let inserted: Result<_, _> = nodes.insert(0, root(rt, alloc, &g));
+    inserted.expect(rt, "no nodes");
+    let zones = ZoneMap::make(alloc, &g, &[g.first]).expect(rt, "no zones");
+    let parts = VolumeNow {
+        geometry: g,
+        blocks: root_blocks(rt, alloc, &g),
+        nodes,
+        zones,
+    };
+    PlainVolume::of(alloc, parts).expect(rt, "no volume")
 }
 
 // The call of a line.
-fn call_of(alloc: Global, line: &str) -> Result<Call, NoMemory> {
-    let found = words(alloc, line.as_bytes())?;
-    let Some((first, rest)) = found.as_slice().split_first() else {
-        return Err(NoMemory);
-    };
-    let Some(word) = read_call_word(first) else {
-        return Err(NoMemory);
-    };
-    match read_call(alloc, word, rest) {
-        Ok(call) => Ok(call),
-        Err(_) => Err(NoMemory),
-    }
+fn call_of(rt: &impl Abort, alloc: Global, line: &str) -> Call {
+    let found = words(alloc, line.as_bytes()).expect(rt, "no words");
+    let (first, rest) = found.as_slice().split_first().expect(rt, "no word");
+    let word = read_call_word(first).expect(rt, "no call's word");
+    read_call(alloc, word, rest).expect(rt, "no call")
 }
 
 fn is_rename(call: &Call) -> bool
@@ -143,53 +131,23 @@ fn leaves_tree(call: &Call) -> bool
 }
 
 // What the call of a line is answered before it is done, and the zones that it would take.
-fn shown(alloc: Global, volume: &PlainVolume, line: &str) -> Result<String, NoMemory> {
-    let call = call_of(alloc, line)?;
-    if is_rename(&call) {
-        return Err(NoMemory);
-    }
+fn shown(rt: &impl Abort, alloc: Global, volume: &PlainVolume, line: &str) -> String {
+    let call = call_of(rt, alloc, line);
+    assert!(rt; !is_rename(&call));
     let zones = volume.needs(&call);
-    Ok(format!(in alloc; "{:?}, {zones}", volume.reply(&call))?)
+    format!(in alloc; "{:?}, {zones}", volume.reply(&call)).expect(rt, "no text")
 }
 
 // What the call of a line is answered that changes nothing.
-fn asked(alloc: Global, volume: &PlainVolume, line: &str) -> Result<String, NoMemory> {
-    let call = call_of(alloc, line)?;
-    if !leaves_tree(&call) {
-        return Err(NoMemory);
-    }
-    let reply = volume.ask(alloc, &call)?;
-    Ok(format!(in alloc; "{reply:?}")?)
-}
-
-fn expect_shown(
-    rt: &impl Abort,
-    alloc: Global,
-    volume: &PlainVolume,
-    rows: &[Row],
-) -> Result<(), NoMemory> {
-    for (line, answer) in rows {
-        let text = shown(alloc, volume, line)?;
-        assert_eq!(rt; text.as_str(), *answer, "{line}");
-    }
-    Ok(())
-}
-
-fn expect_asked(
-    rt: &impl Abort,
-    alloc: Global,
-    volume: &PlainVolume,
-    rows: &[Row],
-) -> Result<(), NoMemory> {
-    for (line, answer) in rows {
-        let text = asked(alloc, volume, line)?;
-        assert_eq!(rt; text.as_str(), *answer, "{line}");
-    }
-    Ok(())
+fn asked(rt: &impl Abort, alloc: Global, volume: &PlainVolume, line: &str) -> String {
+    let call = call_of(rt, alloc, line);
+    assert!(rt; leaves_tree(&call));
+    let reply = volume.ask(alloc, &call).expect(rt, "no reply");
+    format!(in alloc; "{reply:?}").expect(rt, "no text")
 }
 
 #[test]
-fn answers_on_a_new_volume(rt: HostRuntime) -> Result<(), Fail> {
+fn answers_on_a_new_volume(rt: HostRuntime) {
     let rows = [
         ("mkdir /a", "Change, 1"),
         ("mkdir /", "Refused(Exists), 0"),
@@ -204,14 +162,15 @@ fn answers_on_a_new_volume(rt: HostRuntime) -> Result<(), Fail> {
         ("link / /a", "Refused(IsDir), 0"),
         ("sync", "Change, 0"),
     ];
-    let alloc = rt.alloc();
-    let volume = new_volume(alloc, SMALL)?;
-    expect_shown(&rt, alloc, &volume, &rows)?;
-    Ok(())
+    let volume = new_volume(&rt, rt.alloc(), SMALL);
+    for (line, answer) in rows {
+        let text = shown(&rt, rt.alloc(), &volume, line);
+        assert_eq!(rt; text.as_str(), answer, "{line}");
+    }
 }
 
 #[test]
-fn tells_of_the_root(rt: HostRuntime) -> Result<(), Fail> {
+fn tells_of_the_root(rt: HostRuntime) {
     let rows = [
         ("stat /", "Stat { dir: true, size: 32, links: 2 }"),
         ("list /", "Names(NameList { names: [] })"),
@@ -219,32 +178,37 @@ fn tells_of_the_root(rt: HostRuntime) -> Result<(), Fail> {
         ("fsync /a", "NotFound"),
         ("sync", "Ok"),
     ];
-    let alloc = rt.alloc();
-    let volume = new_volume(alloc, SMALL)?;
-    expect_asked(&rt, alloc, &volume, &rows)?;
-    Ok(())
+    let volume = new_volume(&rt, rt.alloc(), SMALL);
+    for (line, answer) in rows {
+        let text = asked(&rt, rt.alloc(), &volume, line);
+        assert_eq!(rt; text.as_str(), answer, "{line}");
+    }
 }
 
 // The birth of the node to which a path leads.
-fn birth_at(alloc: Global, volume: &PlainVolume, path: &str) -> Result<Option<u64>, NoMemory> {
-    Ok(volume.node(&ByteList::of(path.as_bytes().to_vec(alloc)?)))
+fn birth_at(rt: &impl Abort, alloc: Global, volume: &PlainVolume, path: &str) -> Option<u64> {
+    let path = path.as_bytes().to_vec(alloc).expect(rt, "no path");
+    volume.node(&ByteList::of(path))
+}
+
+// The third byte of a block, which is that of a first name where the block is a directory's.
+fn name_byte(volume: &PlainVolume, block: u32) -> Option<u8> {
+    volume.block_bytes(block).as_slice().get(2).copied()
 }
 
 #[test]
-fn has_blocks_and_zones(rt: HostRuntime) -> Result<(), Fail> {
-    let alloc = rt.alloc();
-    let mut volume = new_volume(alloc, SMALL)?;
-    assert_eq!(rt; birth_at(alloc, &volume, "/")?, Some(0));
-    assert_eq!(rt; birth_at(alloc, &volume, "/a")?, None);
+fn has_blocks_and_zones(rt: HostRuntime) {
+    let mut volume = new_volume(&rt, rt.alloc(), SMALL);
     volume.release(3);
-    assert_eq!(rt; volume.zones().free_count(), 58);
-    assert_eq!(rt; volume.geometry().first, 5);
-    assert_eq!(rt;
-        volume.block_bytes(5).as_slice().get(2).copied(),
-        Some(b'.')
+    let births = (
+        birth_at(&rt, rt.alloc(), &volume, "/"),
+        birth_at(&rt, rt.alloc(), &volume, "/a"),
     );
-    assert_eq!(rt; volume.block_bytes(64).as_slice().get(2).copied(), Some(0));
-    Ok(())
+    assert_eq!(rt; births, (Some(0), None));
+    let zones = (volume.zones().free_count(), volume.geometry().first);
+    assert_eq!(rt; zones, (58, 5));
+    let bytes = (name_byte(&volume, 5), name_byte(&volume, 64));
+    assert_eq!(rt; bytes, (Some(b'.'), Some(0)));
 }
 
 // Does a call, under the first number from 1 that it can have, where there is room for it.
@@ -263,41 +227,29 @@ fn reply_done(alloc: Global, volume: &mut PlainVolume, call: &Call) -> Result<Re
 }
 
 // Does the call of a line.
-fn do_line(alloc: Global, volume: &mut PlainVolume, line: &str) -> Result<(), NoMemory> {
-    let call = call_of(alloc, line)?;
-    if is_rename(&call) {
-        return Err(NoMemory);
-    }
-    reply_done(alloc, volume, &call)?;
-    Ok(())
+fn do_line(rt: &impl Abort, alloc: Global, volume: &mut PlainVolume, line: &str) {
+    let call = call_of(rt, alloc, line);
+    assert!(rt; !is_rename(&call));
+    let _ = reply_done(alloc, volume, &call).expect(rt, "not done");
 }
 
-fn do_lines(alloc: Global, volume: &mut PlainVolume, lines: &[&str]) -> Result<(), NoMemory> {
-    for line in lines {
-        do_line(alloc, volume, line)?;
-    }
-    Ok(())
-}
-
-fn tree_text(alloc: Global, volume: &PlainVolume) -> Result<String, NoMemory> {
+fn tree_text(rt: &impl Abort, alloc: Global, volume: &PlainVolume) -> String {
     let mut text = String::new(alloc);
-    put_tree(alloc, &mut text, volume.tree(alloc)?)?;
-    Ok(text)
+    let tree = volume.tree(alloc).expect(rt, "no tree");
+    put_tree(alloc, &mut text, tree).expect(rt, "no text");
+    text
 }
 
 #[test]
-fn hands_out_its_tree(rt: HostRuntime) -> Result<(), Fail> {
+fn hands_out_its_tree(rt: HostRuntime) {
     let alloc = rt.alloc();
-    let mut volume = new_volume(alloc, SMALL)?;
-    assert_eq!(rt; tree_text(alloc, &volume)?.as_str(), "dir /\n");
-    do_lines(
-        alloc,
-        &mut volume,
-        &["mkdir /a", "create /a/f", "write /a/f 1022 3 61"],
-    )?;
+    let mut volume = new_volume(&rt, alloc, SMALL);
+    assert_eq!(rt; tree_text(&rt, alloc, &volume).as_str(), "dir /\n");
+    for line in ["mkdir /a", "create /a/f", "write /a/f 1022 3 61"] {
+        do_line(&rt, alloc, &mut volume, line);
+    }
     assert_eq!(rt;
-        tree_text(alloc, &volume)?.as_str(),
+        tree_text(&rt, alloc, &volume).as_str(),
         "dir /\ndir /a\nfile /a/f size 1025 links 1\nblock 0 1022x00+2x61\nblock 1 1x61\n"
     );
-    Ok(())
 }
