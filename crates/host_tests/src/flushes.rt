@@ -55,6 +55,15 @@ impl Setting {
         }
         flush_step(&mut self.part, &mut self.out, &mut self.from)
     }
+
+    // Whether a flush is due, was submitted and is done.
+    fn flush(&self) -> [bool; 3] {
+        [
+            self.part.flush_due(),
+            self.part.has_flush_above(0),
+            self.part.has_flushed_after(0),
+        ]
+    }
 }
 
 #[test]
@@ -62,7 +71,7 @@ fn one_flush_serves_a_sync_call(rt: HostRuntime) {
     let mut session = waiting(&rt, rt.alloc(), CallKind::FileSync);
     let need = session.part.wait(0).and_then(|wait| wait.need);
     assert_eq!(rt; (need, session.part.flush_due()), (Some(0), false));
-    // What is told, the turn, and then whether a flush is due, was submitted and is done.
+    // What is told, the turn, and then of the flush.
     let rows = [
         (Some(Completion::Moved(0)), Turn::Did, [true, false, false]),
         (None, Turn::Did, [false, true, false]),
@@ -70,17 +79,21 @@ fn one_flush_serves_a_sync_call(rt: HostRuntime) {
         (None, Turn::Idle, [false, true, true]),
     ];
     for (told, turn, flush) in rows {
-        let came = session.step(told);
-        let part = &session.part;
-        let seen = [
-            part.flush_due(),
-            part.has_flush_above(0),
-            part.has_flushed_after(0),
-        ];
-        assert_eq!(rt; (came, seen), (turn, flush), "{told:?}");
+        assert_eq!(rt;
+            (session.step(told), session.flush()),
+            (turn, flush),
+            "{told:?}"
+        );
     }
     let told = (session.part.last_put(), session.part.least_conflict());
     assert_eq!(rt; told, (Some(0), Some((5, 2))));
+}
+
+// The turn of a step behind each that is told.
+fn expect_turns(rt: &impl Abort, session: &mut Setting, rows: &[(Option<Completion>, Turn)]) {
+    for (told, turn) in rows {
+        assert_eq!(rt; session.step(*told), *turn, "{told:?}");
+    }
 }
 
 #[test]
@@ -93,13 +106,15 @@ fn nothing_is_due_once_it_is_over(rt: HostRuntime) {
         (None, Turn::Idle),
         (Some(Completion::Cut), Turn::Did),
     ];
-    for (told, turn) in rows {
-        assert_eq!(rt; session.step(told), turn, "{told:?}");
-    }
+    expect_turns(&rt, &mut session, &rows);
     let part = &session.part;
     let told = (part.first_failed(), part.is_cut(), part.is_over());
     assert_eq!(rt; told, (Some(0), true, true));
     assert!(rt; !part.at_limit() && session.out.take().is_some());
+}
+
+#[test]
+fn calls_have_kinds(rt: HostRuntime) {
     let kinds = [
         CallKind::FileSync.is_begun(),
         CallKind::DataSync.is_data(),
