@@ -1,6 +1,4 @@
 //! Images that are put together by the writers of the layout, and then damaged.
-ghost use Rattle.std.specs.Prelude.{◌<◌};
-
 use blk_base::{Block, Image, NoMemory};
 use device_epochs::{DeviceSetup, EpochDevice};
 use minix_layout::{Geometry, Inode, Name, Slot, Zones, write_inode, write_slot, write_super};
@@ -9,7 +7,7 @@ use mount_make::{
     images_have_one_tree, mount,
 };
 use std::alloc::Global;
-use std::test::Fail;
+use std::process::Abort;
 use tree_model::put_tree;
 use volume_ops::Volume;
 
@@ -52,20 +50,19 @@ fn put_inode(blocks: &mut [Block], table: u16, number: u16, i: &Inode) {
     }
 }
 
-fn put_name(blocks: &mut [Block], zone: usize, at: u8, inode: u16, name: &[u8])
-    requires { at < 64 }
-{
-    if let Some(block) = blocks.get_mut(zone)
+fn put_name(blocks: &mut [Block], zone: usize, at: u8, inode: u16, name: &[u8]) {
+    if at < 64
+        && let Some(block) = blocks.get_mut(zone)
         && let Some(name) = Name::of(name)
     {
         write_slot(block, at, Some(&Slot { inode, name }));
     }
 }
 
-fn put_number(blocks: &mut [Block], zone: usize, at: usize, number: u8)
-    requires { at < 512 }
-{
-    if let Some(block) = blocks.get_mut(zone) {
+fn put_number(blocks: &mut [Block], zone: usize, at: usize, number: u8) {
+    if at < 512
+        && let Some(block) = blocks.get_mut(zone)
+    {
         block.set(2 * at, number);
     }
 }
@@ -96,56 +93,71 @@ const GEOMETRY: Geometry = Geometry {
     width: 14,
 };
 
-// A root with 70 slots in two zones, some of them free; a file with blocks at each level of its map, holes and
+// Inodes: a root with 70 slots in two zones, some of them free; a file with blocks at each level of its map, holes and
 // two names; a directory with a file; and a device.
-fn sample(alloc: Global) -> Result<Vec<Block>, NoMemory> {
-    let mut b = empty(alloc, 40)?;
-    put_super(&mut b, &GEOMETRY);
-    let root = inode(DIRECTORY, 1120, 3, [6, 7, 0, 0, 0, 0, 0, 0, 0]);
-    put_inode(&mut b, 4, 1, &root);
-    let big = inode(FILE, 268_966_912, 2, [8, 0, 0, 0, 0, 0, 9, 10, 14]);
-    put_inode(&mut b, 4, 2, &big);
-    let dir = inode(DIRECTORY, 48, 2, [19, 0, 0, 0, 0, 0, 0, 0, 0]);
-    put_inode(&mut b, 4, 3, &dir);
-    let small = inode(FILE, 5, 1, [20, 0, 0, 0, 0, 0, 0, 0, 0]);
-    put_inode(&mut b, 4, 33, &small);
-    let device = inode(DEVICE, u32::MAX, 1, [0x0103, 1, 1, 1, 1, 1, 1, 1, 1]);
-    put_inode(&mut b, 4, 64, &device);
-    put_names(&mut b);
-    put_bodies(&mut b);
-    Ok(b)
-}
+const INODES: [(u16, u16, u32, u8, [u16; 9]); 5] = [
+    (1, DIRECTORY, 1120, 3, [6, 7, 0, 0, 0, 0, 0, 0, 0]),
+    (2, FILE, 268_966_912, 2, [8, 0, 0, 0, 0, 0, 9, 10, 14]),
+    (3, DIRECTORY, 48, 2, [19, 0, 0, 0, 0, 0, 0, 0, 0]),
+    (33, FILE, 5, 1, [20, 0, 0, 0, 0, 0, 0, 0, 0]),
+    (64, DEVICE, u32::MAX, 1, [0x0103, 1, 1, 1, 1, 1, 1, 1, 1]),
+];
 
-fn put_names(b: &mut [Block]) {
-    put_name(b, 6, 0, 1, b".");
-    put_name(b, 6, 1, 1, b"..");
-    put_name(b, 6, 2, 2, b"bg");
-    put_name(b, 6, 3, 0, b"a/b");
-    put_name(b, 6, 4, 3, b"dr");
-    put_name(b, 6, 5, 2, b"lk");
-    put_name(b, 7, 5, 64, b"zz");
-    put_name(b, 19, 0, 3, b".");
-    put_name(b, 19, 1, 1, b"..");
-    put_name(b, 19, 2, 33, b"abcdefghijklmn");
-}
+// Slots, by zone and place.
+const NAMES: [(usize, u8, u16, &[u8]); 10] = [
+    (6, 0, 1, b"."),
+    (6, 1, 1, b".."),
+    (6, 2, 2, b"bg"),
+    (6, 3, 0, b"a/b"),
+    (6, 4, 3, b"dr"),
+    (6, 5, 2, b"lk"),
+    (7, 5, 64, b"zz"),
+    (19, 0, 3, b"."),
+    (19, 1, 1, b".."),
+    (19, 2, 33, b"abcdefghijklmn"),
+];
 
 // Blocks 0, 6, 7, 262, 518, 519 and 262,662 of the large file, and the one of the small file.
-fn put_bodies(b: &mut [Block]) {
-    put_body(b, 8, 0x61);
-    put_body(b, 9, 0x62);
-    put_number(b, 10, 0, 11);
-    put_number(b, 10, 255, 12);
-    put_number(b, 10, 511, 13);
-    put_body(b, 11, 0x63);
-    put_body(b, 12, 0x64);
-    put_body(b, 13, 0x65);
-    put_number(b, 14, 0, 15);
-    put_number(b, 14, 511, 17);
-    put_number(b, 15, 0, 16);
-    put_body(b, 16, 0x66);
-    put_number(b, 17, 511, 18);
-    put_body(b, 18, 0x67);
-    put_body(b, 20, 0x68);
+const BODIES: [(usize, u8); 8] = [
+    (8, 0x61),
+    (9, 0x62),
+    (11, 0x63),
+    (12, 0x64),
+    (13, 0x65),
+    (16, 0x66),
+    (18, 0x67),
+    (20, 0x68),
+];
+
+// Numbers of zones in zones of them, by zone and place.
+const NUMBERS: [(usize, usize, u8); 7] = [
+    (10, 0, 11),
+    (10, 255, 12),
+    (10, 511, 13),
+    (14, 0, 15),
+    (14, 511, 17),
+    (15, 0, 16),
+    (17, 511, 18),
+];
+
+// An image of 40 blocks with all these.
+fn sample(rt: &impl Abort, alloc: Global) -> Vec<Block> {
+    let mut blocks = empty(alloc, 40).expect(rt, "no blocks");
+    put_super(&mut blocks, &GEOMETRY);
+    for (number, mode, size, links, zones) in &INODES {
+        let inode = inode(*mode, *size, *links, *zones);
+        put_inode(&mut blocks, 4, *number, &inode);
+    }
+    for (zone, at, inode, name) in &NAMES {
+        put_name(&mut blocks, *zone, *at, *inode, name);
+    }
+    for (zone, value) in &BODIES {
+        put_body(&mut blocks, *zone, *value);
+    }
+    for (zone, at, number) in &NUMBERS {
+        put_number(&mut blocks, *zone, *at, *number);
+    }
+    blocks
 }
 
 const SAMPLE: &str = "\
@@ -166,8 +178,8 @@ other /zz mode 020666
 ";
 
 // The image of these blocks, with numbers of two bytes written at places in it.
-fn damaged(alloc: Global, blocks: &[Block], patches: &[(usize, u16)]) -> Result<Vec<u8>, NoMemory> {
-    let mut bytes = bytes_of(alloc, blocks)?;
+fn damaged(rt: &impl Abort, alloc: Global, blocks: &[Block], patches: &[(usize, u16)]) -> Vec<u8> {
+    let mut bytes = bytes_of(alloc, blocks).expect(rt, "no bytes");
     for (at, number) in patches {
         if let Some(low) = bytes.get_mut(*at) {
             *low = (*number % 256) as u8;
@@ -176,7 +188,7 @@ fn damaged(alloc: Global, blocks: &[Block], patches: &[(usize, u16)]) -> Result<
             *high = (*number / 256) as u8;
         }
     }
-    Ok(bytes)
+    bytes
 }
 
 // The volume of these bytes, or their fault.
@@ -197,13 +209,14 @@ fn mounted(alloc: Global, bytes: &[u8]) -> Result<Volume, MountFault> {
     mount(alloc, &mut device).map(|mounted| mounted.volume)
 }
 
-// The text of the tree of these bytes; no text where they have none.
-fn shown(alloc: Global, bytes: &[u8]) -> Result<String, NoMemory> {
+// The text of the tree of the image of these blocks with these numbers in it.
+fn shown(rt: &impl Abort, alloc: Global, blocks: &[Block], patches: &[(usize, u16)]) -> String {
+    let bytes = damaged(rt, alloc, blocks, patches);
+    let volume = mounted(alloc, bytes.as_slice()).expect(rt, "not mounted");
+    let tree = volume.tree(alloc).expect(rt, "no tree");
     let mut text = String::new(alloc);
-    if let Ok(volume) = mounted(alloc, bytes) {
-        put_tree(alloc, &mut text, volume.tree(alloc)?)?;
-    }
-    Ok(text)
+    put_tree(alloc, &mut text, tree).expect(rt, "no text");
+    text
 }
 
 fn is_refused(alloc: Global, bytes: &[u8], kind: ImageFault, block: u32) -> bool {
@@ -213,39 +226,45 @@ fn is_refused(alloc: Global, bytes: &[u8], kind: ImageFault, block: u32) -> bool
     }
 }
 
+// The image of these blocks is refused with these numbers in it.
+fn expect_refused(
+    rt: &impl Abort,
+    alloc: Global,
+    blocks: &[Block],
+    patches: &[(usize, u16)],
+    kind: ImageFault,
+    block: u32,
+) {
+    let bytes = damaged(rt, alloc, blocks, patches);
+    let refused = is_refused(alloc, bytes.as_slice(), kind, block);
+    assert!(rt; refused, "{patches:?}");
+}
+
 #[test]
-fn shows_each_kind_of_node(rt: HostRuntime) -> Result<(), Fail> {
-    let alloc = rt.alloc();
-    let blocks = sample(alloc)?;
+fn shows_each_kind_of_node(rt: HostRuntime) {
+    let blocks = sample(&rt, rt.alloc());
     // As it is; past the size stands a slot of no inode; a `.` leads nowhere.
-    let rows = [(0, 0), (7 * 1024 + 16 * 6, 65), (6 * 1024, 999)];
-    for patch in rows {
-        let text = shown(alloc, &damaged(alloc, &blocks, &[patch])?)?;
-        assert_eq!(rt; text.as_str(), SAMPLE);
+    for patch in [(0, 0), (7 * 1024 + 16 * 6, 65), (6 * 1024, 999)] {
+        let text = shown(&rt, rt.alloc(), blocks.as_slice(), &[patch]);
+        assert_eq!(rt; text.as_str(), SAMPLE, "{patch:?}");
     }
-    Ok(())
 }
 
 #[test]
-fn shows_a_file_in_the_last_zone(rt: HostRuntime) -> Result<(), Fail> {
-    let alloc = rt.alloc();
-    let mut blocks = sample(alloc)?;
+fn shows_a_file_in_the_last_zone(rt: HostRuntime) {
+    let mut blocks = sample(&rt, rt.alloc());
     // The last block of the large file lies in zone 18, the one of the small file in zone 20.
-    put_body(&mut blocks, 39, 0x67);
-    let patches = [(17 * 1024 + 1022, 39)];
-    let text = shown(alloc, &damaged(alloc, &blocks, &patches)?)?;
-    assert_eq!(rt; text.as_str(), SAMPLE);
-    put_body(&mut blocks, 39, 0x68);
-    let patches = [(SMALL + 14, 39)];
-    let text = shown(alloc, &damaged(alloc, &blocks, &patches)?)?;
-    assert_eq!(rt; text.as_str(), SAMPLE);
-    Ok(())
+    for (value, at) in [(0x67, 17 * 1024 + 1022), (0x68, SMALL + 14)] {
+        put_body(&mut blocks, 39, value);
+        let text = shown(&rt, rt.alloc(), blocks.as_slice(), &[(at, 39)]);
+        assert_eq!(rt; text.as_str(), SAMPLE, "{value}");
+    }
 }
 
 #[test]
-fn knows_which_zones_are_used(rt: HostRuntime) -> Result<(), Fail> {
-    let alloc = rt.alloc();
-    let volume = mounted(alloc, &bytes_of(alloc, &sample(alloc)?)?).map_err(|_| "not mounted")?;
+fn knows_which_zones_are_used(rt: HostRuntime) {
+    let bytes = damaged(&rt, rt.alloc(), sample(&rt, rt.alloc()).as_slice(), &[]);
+    let volume = mounted(rt.alloc(), bytes.as_slice()).expect(&rt, "not mounted");
     for zone in 0..50 {
         assert_eq!(rt; volume.uses_zone(zone), zone >= 6 && zone <= 20, "{zone}");
     }
@@ -253,17 +272,9 @@ fn knows_which_zones_are_used(rt: HostRuntime) -> Result<(), Fail> {
     images_have_one_tree();
     image_metadata_gives_trees();
     image_faults_are_first_defects();
-    Ok(())
 }
 
-#[test]
-fn shows_odd_names(rt: HostRuntime) -> Result<(), Fail> {
-    let alloc = rt.alloc();
-    let mut blocks = sample(alloc)?;
-    put_name(&mut blocks, 6, 5, 2, b" a\\\x7f\xff!~");
-    put_name(&mut blocks, 19, 2, 33, b"\x01");
-    let text = shown(alloc, &bytes_of(alloc, &blocks)?)?;
-    let wanted = "\
+const ODD_NAMES: &str = "\
 dir /
 file /\\x20a\\x5c\\x7f\\xff!~ size 268966912 links 2
 block 0 1024x61
@@ -279,39 +290,58 @@ file /dr/\\x01 size 5 links 1
 block 0 5x68
 other /zz mode 020666
 ";
-    assert_eq!(rt; text.as_str(), wanted);
-    Ok(())
-}
 
 #[test]
-fn refuses_images_that_are_cut_off(rt: HostRuntime) -> Result<(), Fail> {
-    let alloc = rt.alloc();
-    let bytes = bytes_of(alloc, &sample(alloc)?)?;
-    let rows = [
-        (0, 0),
-        (1023, 0),
-        (1024, 1),
-        (2047, 1),
-        (2048, 2),
-        (20_480, 20),
-        (40_959, 39),
-    ];
-    for (len, block) in rows {
-        let front = bytes.get(..len).ok_or("short")?;
-        assert!(rt;
-            is_refused(alloc, front, ImageFault::BadGeometry, block),
-            "{len}"
-        );
+fn shows_odd_names(rt: HostRuntime) {
+    let mut blocks = sample(&rt, rt.alloc());
+    put_name(&mut blocks, 6, 5, 2, b" a\\\x7f\xff!~");
+    put_name(&mut blocks, 19, 2, 33, b"\x01");
+    let text = shown(&rt, rt.alloc(), blocks.as_slice(), &[]);
+    assert_eq!(rt; text.as_str(), ODD_NAMES);
+}
+
+// Lengths of images that are cut off, and the blocks that are told.
+const CUT_OFF: [(usize, u32); 7] = [
+    (0, 0),
+    (1023, 0),
+    (1024, 1),
+    (2047, 1),
+    (2048, 2),
+    (20_480, 20),
+    (40_959, 39),
+];
+
+#[test]
+fn refuses_images_that_are_cut_off(rt: HostRuntime) {
+    let bytes = damaged(&rt, rt.alloc(), sample(&rt, rt.alloc()).as_slice(), &[]);
+    for (len, block) in &CUT_OFF {
+        let front = bytes.get(..*len).expect(&rt, "short");
+        let refused = is_refused(rt.alloc(), front, ImageFault::BadGeometry, *block);
+        assert!(rt; refused, "{len}");
     }
-    Ok(())
+}
+
+// The image with one block more, which begins with the magic number of a journal, and has this type and these features.
+fn journal_patches(kind: u16, features: u16) -> [(usize, u16); 4] {
+    [
+        (40 * 1024, 0x3BC0),
+        (40 * 1024 + 2, 0x9839),
+        (40 * 1024 + 6, kind.saturating_mul(256)),
+        (40 * 1024 + 0x2A, features.saturating_mul(256)),
+    ]
+}
+
+// The sample, and a block behind it.
+fn with_journal(rt: &impl Abort, alloc: Global) -> Vec<Block> {
+    let mut blocks = sample(rt, alloc);
+    let pushed: Result<_, _> = blocks.push(Block::fill(0));
+    pushed.expect(rt, "no block");
+    blocks
 }
 
 #[test]
-fn refuses_a_damaged_journal(rt: HostRuntime) -> Result<(), Fail> {
-    let alloc = rt.alloc();
-    let mut blocks = sample(alloc)?;
-    blocks.push(Block::fill(0))?;
-    let magic = [(40 * 1024, 0x3BC0), (40 * 1024 + 2, 0x9839)];
+fn refuses_a_damaged_journal(rt: HostRuntime) {
+    let blocks = with_journal(&rt, rt.alloc());
     // The type of the first block, the incompatible features, and what is told.
     let rows = [
         (3, 0, ImageFault::BadKind),
@@ -320,16 +350,12 @@ fn refuses_a_damaged_journal(rt: HostRuntime) -> Result<(), Fail> {
         (4, 31, ImageFault::Feature(30)),
     ];
     for (kind, features, fault) in rows {
-        let kind = (40 * 1024 + 6, 256 * kind);
-        let features = (40 * 1024 + 0x2A, 256 * features);
-        let bytes = damaged(alloc, &blocks, &[magic[0], magic[1], kind, features])?;
-        assert!(rt; is_refused(alloc, &bytes, fault, 40));
+        let patches = journal_patches(kind, features);
+        expect_refused(&rt, rt.alloc(), blocks.as_slice(), &patches, fault, 40);
     }
     // Another block of a journal is none's begin.
-    let patches = [magic[0], magic[1], (40 * 1024 + 6, 256 * 2)];
-    let text = shown(alloc, &damaged(alloc, &blocks, &patches)?)?;
+    let text = shown(&rt, rt.alloc(), blocks.as_slice(), &journal_patches(2, 0));
     assert_eq!(rt; text.as_str(), SAMPLE);
-    Ok(())
 }
 
 // Where parts of the sample stand.
@@ -345,138 +371,147 @@ const SMALL: usize = 5120;
 
 const LAST: usize = 5120 + 31 * 32;
 
-#[test]
-fn tells_the_fault_of_a_geometry_or_an_inode(rt: HostRuntime) -> Result<(), Fail> {
-    let rows = [
-        // The geometry.
-        (SUPER, 0, ImageFault::BadGeometry, 1),
-        (SUPER + 2, 41, ImageFault::BadGeometry, 40),
-        (SUPER + 2, 6, ImageFault::BadGeometry, 1),
-        (SUPER + 2, u16::MAX, ImageFault::BadGeometry, 1),
-        (SUPER + 4, 0, ImageFault::BadGeometry, 1),
-        (SUPER + 6, 0, ImageFault::BadGeometry, 1),
-        (SUPER + 8, 40, ImageFault::BadGeometry, 1),
-        (SUPER + 8, 5, ImageFault::BadGeometry, 1),
-        (SUPER + 10, 1, ImageFault::BadGeometry, 1),
-        (SUPER + 16, 0x138F, ImageFault::NameWidth, 1),
-        (SUPER + 16, 0x2468, ImageFault::BadMagic, 1),
-        (SUPER + 16, 0, ImageFault::BadMagic, 1),
-        // Inodes.
-        (ROOT, FILE, ImageFault::BadInode, 4),
-        (ROOT, DEVICE, ImageFault::BadInode, 4),
-        (ROOT + 4, 1121, ImageFault::BadInode, 4),
-        (BIG + 4, 0x1C01, ImageFault::BadInode, 4),
-        (DIR + 4, 50, ImageFault::BadInode, 4),
-        (DIR + 6, 0x1009, ImageFault::BadInode, 4),
-        (SMALL + 6, 0x1009, ImageFault::BadInode, 5),
-        (LAST, FILE, ImageFault::BadInode, 5),
-        (LAST, DIRECTORY, ImageFault::BadInode, 5),
-    ];
-    let alloc = rt.alloc();
-    let blocks = sample(alloc)?;
-    for (at, number, kind, block) in rows {
-        let bytes = damaged(alloc, &blocks, &[(at, number)])?;
-        assert!(rt; is_refused(alloc, &bytes, kind, block), "{at} {number}");
-    }
-    Ok(())
-}
+const INODE_ROWS: [(usize, u16, ImageFault, u32); 21] = [
+    // The geometry.
+    (SUPER, 0, ImageFault::BadGeometry, 1),
+    (SUPER + 2, 41, ImageFault::BadGeometry, 40),
+    (SUPER + 2, 6, ImageFault::BadGeometry, 1),
+    (SUPER + 2, u16::MAX, ImageFault::BadGeometry, 1),
+    (SUPER + 4, 0, ImageFault::BadGeometry, 1),
+    (SUPER + 6, 0, ImageFault::BadGeometry, 1),
+    (SUPER + 8, 40, ImageFault::BadGeometry, 1),
+    (SUPER + 8, 5, ImageFault::BadGeometry, 1),
+    (SUPER + 10, 1, ImageFault::BadGeometry, 1),
+    (SUPER + 16, 0x138F, ImageFault::NameWidth, 1),
+    (SUPER + 16, 0x2468, ImageFault::BadMagic, 1),
+    (SUPER + 16, 0, ImageFault::BadMagic, 1),
+    // Inodes.
+    (ROOT, FILE, ImageFault::BadInode, 4),
+    (ROOT, DEVICE, ImageFault::BadInode, 4),
+    (ROOT + 4, 1121, ImageFault::BadInode, 4),
+    (BIG + 4, 0x1C01, ImageFault::BadInode, 4),
+    (DIR + 4, 50, ImageFault::BadInode, 4),
+    (DIR + 6, 0x1009, ImageFault::BadInode, 4),
+    (SMALL + 6, 0x1009, ImageFault::BadInode, 5),
+    (LAST, FILE, ImageFault::BadInode, 5),
+    (LAST, DIRECTORY, ImageFault::BadInode, 5),
+];
 
 #[test]
-fn tells_the_fault_of_a_zone(rt: HostRuntime) -> Result<(), Fail> {
-    let rows = [
-        (ROOT + 14, 5, 4),
-        (ROOT + 14, 40, 4),
-        (ROOT + 16, 6, 4),
-        (ROOT + 30, 6, 4),
-        (BIG + 26, 8, 4),
-        (BIG + 28, 41, 4),
-        (BIG + 30, 10, 4),
-        (10 * 1024, 40, 10),
-        (10 * 1024 + 510, 5, 10),
-        (10 * 1024 + 1022, 11, 10),
-        (14 * 1024, 6, 14),
-        (14 * 1024 + 1022, 14, 14),
-        (15 * 1024, u16::MAX, 15),
-        (15 * 1024 + 1022, 1, 15),
-        (17 * 1024, 70, 17),
-        (17 * 1024 + 1022, 17, 17),
-        (DIR + 16, 20, 5),
-        (SMALL + 14, 19, 5),
-        (SMALL + 26, 40, 5),
-        (SMALL + 30, 40, 5),
-    ];
-    let alloc = rt.alloc();
-    let blocks = sample(alloc)?;
-    for (at, number, block) in rows {
-        let bytes = damaged(alloc, &blocks, &[(at, number)])?;
-        assert!(rt;
-            is_refused(alloc, &bytes, ImageFault::BadZone, block),
-            "{at} {number}"
+fn tells_the_fault_of_a_geometry_or_an_inode(rt: HostRuntime) {
+    let blocks = sample(&rt, rt.alloc());
+    for (at, number, kind, block) in &INODE_ROWS {
+        expect_refused(
+            &rt,
+            rt.alloc(),
+            blocks.as_slice(),
+            &[(*at, *number)],
+            *kind,
+            *block,
         );
     }
-    Ok(())
 }
 
+const ZONE_ROWS: [(usize, u16, u32); 20] = [
+    (ROOT + 14, 5, 4),
+    (ROOT + 14, 40, 4),
+    (ROOT + 16, 6, 4),
+    (ROOT + 30, 6, 4),
+    (BIG + 26, 8, 4),
+    (BIG + 28, 41, 4),
+    (BIG + 30, 10, 4),
+    (10 * 1024, 40, 10),
+    (10 * 1024 + 510, 5, 10),
+    (10 * 1024 + 1022, 11, 10),
+    (14 * 1024, 6, 14),
+    (14 * 1024 + 1022, 14, 14),
+    (15 * 1024, u16::MAX, 15),
+    (15 * 1024 + 1022, 1, 15),
+    (17 * 1024, 70, 17),
+    (17 * 1024 + 1022, 17, 17),
+    (DIR + 16, 20, 5),
+    (SMALL + 14, 19, 5),
+    (SMALL + 26, 40, 5),
+    (SMALL + 30, 40, 5),
+];
+
 #[test]
-fn tells_the_fault_of_a_slot(rt: HostRuntime) -> Result<(), Fail> {
-    let rows = [
-        (6 * 1024 + 2, 0x7878, 6),
-        (6 * 1024 + 32, 65, 6),
-        (6 * 1024 + 64 + 2, 0x722F, 6),
-        (6 * 1024 + 64 + 2, 0x2F64, 6),
-        (6 * 1024 + 80, 3, 6),
-        (6 * 1024 + 80 + 2, 0x6762, 6),
-        (7 * 1024 + 80, 65, 7),
-        (7 * 1024 + 80, 1, 7),
-        (7 * 1024 + 80, 3, 7),
-        (7 * 1024 + 80 + 2, 0, 7),
-        (7 * 1024 + 80 + 2, 0x7264, 7),
-        (19 * 1024 + 32, 1, 19),
-        (19 * 1024 + 32, 3, 19),
-        (19 * 1024 + 32, u16::MAX, 19),
-        (19 * 1024 + 32 + 2, 0x6200, 19),
-    ];
-    let alloc = rt.alloc();
-    let blocks = sample(alloc)?;
-    for (at, number, block) in rows {
-        let bytes = damaged(alloc, &blocks, &[(at, number)])?;
-        assert!(rt;
-            is_refused(alloc, &bytes, ImageFault::BadSlot, block),
-            "{at} {number}"
+fn tells_the_fault_of_a_zone(rt: HostRuntime) {
+    let kind = ImageFault::BadZone;
+    let blocks = sample(&rt, rt.alloc());
+    for (at, number, block) in &ZONE_ROWS {
+        expect_refused(
+            &rt,
+            rt.alloc(),
+            blocks.as_slice(),
+            &[(*at, *number)],
+            kind,
+            *block,
         );
     }
-    Ok(())
 }
 
+const SLOT_ROWS: [(usize, u16, u32); 15] = [
+    (6 * 1024 + 2, 0x7878, 6),
+    (6 * 1024 + 32, 65, 6),
+    (6 * 1024 + 64 + 2, 0x722F, 6),
+    (6 * 1024 + 64 + 2, 0x2F64, 6),
+    (6 * 1024 + 80, 3, 6),
+    (6 * 1024 + 80 + 2, 0x6762, 6),
+    (7 * 1024 + 80, 65, 7),
+    (7 * 1024 + 80, 1, 7),
+    (7 * 1024 + 80, 3, 7),
+    (7 * 1024 + 80 + 2, 0, 7),
+    (7 * 1024 + 80 + 2, 0x7264, 7),
+    (19 * 1024 + 32, 1, 19),
+    (19 * 1024 + 32, 3, 19),
+    (19 * 1024 + 32, u16::MAX, 19),
+    (19 * 1024 + 32 + 2, 0x6200, 19),
+];
+
 #[test]
-fn tells_the_first_fault(rt: HostRuntime) -> Result<(), Fail> {
-    let alloc = rt.alloc();
-    let blocks = sample(alloc)?;
-    // A directory's own zones, its slots, and then what they name; a file's zones in order.
-    let rows = [
-        (
-            [(ROOT + 16, 6), (6 * 1024 + 32, 65)],
-            ImageFault::BadZone,
-            4,
-        ),
-        (
-            [(7 * 1024 + 80, 65), (10 * 1024, 40)],
-            ImageFault::BadSlot,
-            7,
-        ),
-        (
-            [(14 * 1024, 6), (10 * 1024 + 1022, 5)],
-            ImageFault::BadZone,
-            10,
-        ),
-        ([(DIR + 4, 50), (17 * 1024, 70)], ImageFault::BadZone, 17),
-        ([(SMALL + 6, 0x1009), (DIR + 14, 5)], ImageFault::BadZone, 4),
-        // What an early directory names, before the inode that a later name of the root leads to.
-        ([(SMALL + 14, 5), (LAST, FILE)], ImageFault::BadZone, 5),
-    ];
-    for (patches, kind, block) in rows {
-        let bytes = damaged(alloc, &blocks, &patches)?;
-        assert!(rt; is_refused(alloc, &bytes, kind, block), "{block}");
+fn tells_the_fault_of_a_slot(rt: HostRuntime) {
+    let kind = ImageFault::BadSlot;
+    let blocks = sample(&rt, rt.alloc());
+    for (at, number, block) in &SLOT_ROWS {
+        expect_refused(
+            &rt,
+            rt.alloc(),
+            blocks.as_slice(),
+            &[(*at, *number)],
+            kind,
+            *block,
+        );
     }
-    Ok(())
+}
+
+// A directory's own zones, its slots, and then what they name; a file's zones in order; and last what an early directory
+// names, before the inode that a later name of the root leads to.
+const FIRST_ROWS: [([(usize, u16); 2], ImageFault, u32); 6] = [
+    (
+        [(ROOT + 16, 6), (6 * 1024 + 32, 65)],
+        ImageFault::BadZone,
+        4,
+    ),
+    (
+        [(7 * 1024 + 80, 65), (10 * 1024, 40)],
+        ImageFault::BadSlot,
+        7,
+    ),
+    (
+        [(14 * 1024, 6), (10 * 1024 + 1022, 5)],
+        ImageFault::BadZone,
+        10,
+    ),
+    ([(DIR + 4, 50), (17 * 1024, 70)], ImageFault::BadZone, 17),
+    ([(SMALL + 6, 0x1009), (DIR + 14, 5)], ImageFault::BadZone, 4),
+    ([(SMALL + 14, 5), (LAST, FILE)], ImageFault::BadZone, 5),
+];
+
+#[test]
+fn tells_the_first_fault(rt: HostRuntime) {
+    let blocks = sample(&rt, rt.alloc());
+    for (patches, kind, block) in &FIRST_ROWS {
+        expect_refused(&rt, rt.alloc(), blocks.as_slice(), patches, *kind, *block);
+    }
 }

@@ -1,13 +1,14 @@
 //! Blocks of a journal, byte by byte, as the format's tables have them.
-use blk_base::{Block, NoMemory};
+use crate::made_images::is_block;
+use blk_base::Block;
 use journal_blocks::{
-    JournalFault, JournalSuper, LogBlock, NumberList, Tag, TagList, bodies_are_restored, escape,
+    JournalSuper, LogBlock, NumberList, Tag, TagList, bodies_are_restored, escape,
     faults_count_in_whole_transactions, log_blocks_are_read, logs_hold_whole_transactions,
     read_block, read_super, readers_agree, restore, sequence_in, set_tail, superblocks_are_read,
     write_commit, write_descriptor, write_revoke, write_super,
 };
 use std::alloc::Global;
-use std::test::Fail;
+use std::process::Abort;
 
 // A block that begins with these bytes, and has zeros behind them.
 pub(crate) fn block_of(front: &[u8]) -> Block {
@@ -20,26 +21,22 @@ pub(crate) fn block_of(front: &[u8]) -> Block {
     block
 }
 
-fn tags_of(alloc: Global, block: &Block) -> Result<Option<(u32, TagList)>, NoMemory> {
+// A block of a log as it is read.
+fn text_of(rt: &impl Abort, alloc: Global, block: &Block) -> String {
+    format!(in alloc; "{:?}", read_block(alloc, block)).expect(rt, "no text")
+}
+
+fn tags_of(rt: &impl Abort, alloc: Global, block: &Block) -> TagList {
     match read_block(alloc, block) {
-        Ok(LogBlock::Descriptor(sequence, tags)) => Ok(Some((sequence, tags.copy(alloc)?))),
-        Err(JournalFault::NoMemory) => Err(NoMemory),
-        _ => Ok(None),
+        Ok(LogBlock::Descriptor(_, tags)) => tags.copy(alloc).expect(rt, "no copy"),
+        _ => panic!(rt; "no descriptor"),
     }
 }
 
-fn revoked_of(alloc: Global, block: &Block) -> Result<Option<(u32, NumberList)>, NoMemory> {
+fn revoked_of(rt: &impl Abort, alloc: Global, block: &Block) -> NumberList {
     match read_block(alloc, block) {
-        Ok(LogBlock::Revoke(sequence, blocks)) => Ok(Some((sequence, blocks.copy(alloc)?))),
-        Err(JournalFault::NoMemory) => Err(NoMemory),
-        _ => Ok(None),
-    }
-}
-
-fn fault_of(alloc: Global, block: &Block) -> Option<JournalFault> {
-    match read_block(alloc, block) {
-        Ok(_) => None,
-        Err(fault) => Some(fault),
+        Ok(LogBlock::Revoke(2, blocks)) => blocks.copy(alloc).expect(rt, "no copy"),
+        _ => panic!(rt; "no revoke block of sequence 2"),
     }
 }
 
@@ -60,23 +57,20 @@ fn superblock(rt: HostRuntime) {
         start: 3,
         incompat: 1,
     };
+    assert!(rt; is_block(&write_super(&s), &SUPERBLOCK, 0));
     let mut block = block_of(&SUPERBLOCK);
-    assert_eq!(rt; write_super(&s), block_of(&SUPERBLOCK));
     assert_eq!(rt; read_super(&block), Ok(s));
     block.set(1000, 9);
     set_tail(&mut block, 0x01020304, 5);
-    assert_eq!(rt;
-        block.as_slice().get(0x18..0x20),
-        Some(&[1u8, 2, 3, 4, 0, 0, 0, 5][..])
-    );
+    let tail = block.as_slice().get(0x18..0x20);
+    assert_eq!(rt; tail, Some(&[1u8, 2, 3, 4, 0, 0, 0, 5][..]));
     assert_eq!(rt; block.as_slice().get(1000), Some(&9));
     superblocks_are_read();
 }
 
 // One body for block 9 that begins with the magic number.
 #[test]
-fn descriptor_of_one(rt: HostRuntime) -> Result<(), Fail> {
-    let alloc = rt.alloc();
+fn descriptor_of_one(rt: HostRuntime) {
     let tag = Tag {
         block: 9,
         escaped: true,
@@ -85,106 +79,81 @@ fn descriptor_of_one(rt: HostRuntime) -> Result<(), Fail> {
         0xC0, 0x3B, 0x39, 0x98, 0, 0, 0, 1, 0, 0, 0, 7, 0, 0, 0, 9, 0, 0, 0, 9,
     ];
     let block = write_descriptor(7, &[tag]);
-    assert_eq!(rt; block, block_of(&front));
+    assert!(rt; is_block(&block, &front, 0));
     assert_eq!(rt; sequence_in(&block), 7);
-    let (sequence, tags) = tags_of(alloc, &block)?.expect(&rt, "descriptor");
-    assert_eq!(rt; sequence, 7);
-    assert_eq!(rt; tags.as_slice(), &[tag][..]);
-    let (stored, escaped) = escape(&block_of(&[0xC0, 0x3B, 0x39, 0x98, 8]));
-    assert_eq!(rt; stored, block_of(&[0, 0, 0, 0, 8]));
-    assert!(rt; escaped);
-    assert_eq!(rt;
-        restore(&stored, escaped),
-        block_of(&[0xC0, 0x3B, 0x39, 0x98, 8])
-    );
-    assert_eq!(rt;
-        escape(&block_of(&[0xC0, 0x3B])),
-        (block_of(&[0xC0, 0x3B]), false)
-    );
+    let text = "Ok(Descriptor(7, TagList { tags: [Tag { block: 9, escaped: true }] }))";
+    assert_eq!(rt; text_of(&rt, rt.alloc(), &block).as_str(), text);
+}
+
+#[test]
+fn bodies_are_escaped(rt: HostRuntime) {
+    let magic = [0xC0, 0x3B, 0x39, 0x98, 8];
+    let (stored, escaped) = escape(&block_of(&magic));
+    assert!(rt; escaped && is_block(&stored, &[0, 0, 0, 0, 8], 0));
+    assert!(rt; is_block(&restore(&stored, true), &magic, 0));
+    let (stored, escaped) = escape(&block_of(&[0xC0, 0x3B]));
+    assert!(rt; !escaped && is_block(&stored, &[0xC0, 0x3B], 0));
     bodies_are_restored();
-    Ok(())
 }
 
 // As other systems write it: checksums, a uuid in each tag, and the flag of deleted ones.
+const OF_OTHERS: [u8; 76] = [
+    0xC0, 0x3B, 0x39, 0x98, 0, 0, 0, 1, 0, 0, 0, 7, // header
+    0, 0, 0, 9, 0xAB, 0xCD, 0, 4, 1, 2, 3, 4, 5, 6, 7, 8, 9, 10, 11, 12, 13, 14, 15, 16, // uuid, deleted
+    0, 0, 1, 0, 0xAB, 0xCD, 0, 3, // escaped, the same uuid
+    0, 0, 0, 11, 0xAB, 0xCD, 0, 8, 1, 2, 3, 4, 5, 6, 7, 8, 9, 10, 11, 12, 13, 14, 15, 16, // uuid, last
+    0, 0, 0, 12, 0, 0, 0, 0,
+];
+
 #[test]
-fn descriptor_of_others(rt: HostRuntime) -> Result<(), Fail> {
-    let alloc = rt.alloc();
-    let front = [
-        0xC0, 0x3B, 0x39, 0x98, 0, 0, 0, 1, 0, 0, 0, 7, // header
-        0, 0, 0, 9, 0xAB, 0xCD, 0, 4, 1, 2, 3, 4, 5, 6, 7, 8, 9, 10, 11, 12, 13, 14, 15, 16, // uuid, deleted
-        0, 0, 1, 0, 0xAB, 0xCD, 0, 3, // escaped, the same uuid
-        0, 0, 0, 11, 0xAB, 0xCD, 0, 8, 1, 2, 3, 4, 5, 6, 7, 8, 9, 10, 11, 12, 13, 14, 15, 16, // uuid, last
-        0, 0, 0, 12, 0, 0, 0, 0,
-    ];
-    let (_, tags) = tags_of(alloc, &block_of(&front))?.expect(&rt, "descriptor");
-    let want = [
-        Tag {
-            block: 9,
-            escaped: false,
-        },
-        Tag {
-            block: 256,
-            escaped: true,
-        },
-        Tag {
-            block: 11,
-            escaped: false,
-        },
-    ];
-    assert_eq!(rt; tags.as_slice(), &want[..]);
+fn descriptor_of_others(rt: HostRuntime) {
+    let wanted = [(9, false), (256, true), (11, false)].map(|(block, escaped)| Tag {
+        block,
+        escaped,
+    });
+    let tags = tags_of(&rt, rt.alloc(), &block_of(&OF_OTHERS));
+    assert_eq!(rt; tags.as_slice(), &wanted[..]);
     // Without a last tag as many are read as are whole: 42 of 24 bytes, and four bytes are left.
-    let (_, tags) = tags_of(alloc, &block_of(&[0xC0, 0x3B, 0x39, 0x98, 0, 0, 0, 1]))?.expect(
-        &rt,
-        "descriptor",
-    );
-    assert_eq!(rt; tags.as_slice().len(), 42);
-    Ok(())
+    let endless = block_of(&[0xC0, 0x3B, 0x39, 0x98, 0, 0, 0, 1]);
+    assert_eq!(rt; tags_of(&rt, rt.alloc(), &endless).as_slice().len(), 42);
 }
 
 #[test]
-fn revoke_and_commit(rt: HostRuntime) -> Result<(), Fail> {
-    let alloc = rt.alloc();
+fn revoke_and_commit(rt: HostRuntime) {
     let front = [
         0xC0, 0x3B, 0x39, 0x98, 0, 0, 0, 5, 0, 0, 0, 2, 0, 0, 0, 0x14, 0, 0, 0, 6,
     ];
     let block = write_revoke(2, &[6]);
-    assert_eq!(rt; block, block_of(&front));
-    let (sequence, blocks) = revoked_of(alloc, &block)?.expect(&rt, "revoke block");
-    assert_eq!(rt; sequence, 2);
-    assert_eq!(rt; blocks.as_slice(), &[6u32][..]);
+    assert!(rt; is_block(&block, &front, 0));
+    assert_eq!(rt; revoked_of(&rt, rt.alloc(), &block).as_slice(), &[6u32][..]);
     let commit = write_commit(7);
-    assert_eq!(rt;
-        commit,
-        block_of(&[0xC0, 0x3B, 0x39, 0x98, 0, 0, 0, 2, 0, 0, 0, 7])
-    );
-    assert!(rt; fault_of(alloc, &commit).is_none());
-    assert_eq!(rt; sequence_in(&commit), 7);
+    let front = [0xC0, 0x3B, 0x39, 0x98, 0, 0, 0, 2, 0, 0, 0, 7];
+    assert!(rt; is_block(&commit, &front, 0));
+    assert_eq!(rt; text_of(&rt, rt.alloc(), &commit).as_str(), "Ok(Commit(7))");
     log_blocks_are_read();
     readers_agree();
     logs_hold_whole_transactions();
     faults_count_in_whole_transactions();
-    Ok(())
+}
+
+// A revoke block of one number whose count of bytes is this.
+fn miscounted(high: u8, low: u8) -> Block {
+    let mut block = write_revoke(2, &[6]);
+    block.set(14, high);
+    block.set(15, low);
+    block
 }
 
 #[test]
 fn faults(rt: HostRuntime) {
     let alloc = rt.alloc();
-    assert_eq!(rt;
-        fault_of(alloc, &Block::fill(0)),
-        Some(JournalFault::NotMagic)
-    );
-    assert_eq!(rt;
-        fault_of(alloc, &block_of(&SUPERBLOCK)),
-        Some(JournalFault::BadKind)
-    );
-    for count in [0, 15, 18] {
-        let mut block = write_revoke(2, &[6]);
-        block.set(15, count);
-        assert_eq!(rt; fault_of(alloc, &block), Some(JournalFault::BadCount));
+    let zeros = text_of(&rt, alloc, &Block::fill(0));
+    assert_eq!(rt; zeros.as_str(), "Err(NotMagic)");
+    let superblock = text_of(&rt, alloc, &block_of(&SUPERBLOCK));
+    assert_eq!(rt; superblock.as_str(), "Err(BadKind)");
+    for (high, low) in [(0, 0), (0, 15), (0, 18), (4, 0x14)] {
+        let text = text_of(&rt, alloc, &miscounted(high, low));
+        assert_eq!(rt; text.as_str(), "Err(BadCount)", "{high} {low}");
     }
-    let mut block = write_revoke(2, &[6]);
-    block.set(14, 4);
-    assert_eq!(rt; fault_of(alloc, &block), Some(JournalFault::BadCount));
-    block.set(15, 0);
-    assert!(rt; fault_of(alloc, &block).is_none());
+    assert!(rt; read_block(alloc, &miscounted(4, 0)).is_ok());
 }

@@ -3,11 +3,10 @@ use blk_base::{Block, Image};
 use device_epochs::{DeviceSetup, EpochDevice};
 use journal_blocks::{JournalSuper, Tag, write_commit, write_descriptor, write_super};
 use mount_make::{
-    MakeFault, MountFault, Mounted, made_images_are_plain, made_maps_mark_the_root, make_volume,
-    mount,
+    MakeFault, MountFault, made_images_are_plain, made_maps_mark_the_root, make_volume, mount,
 };
 use std::alloc::Global;
-use std::test::Fail;
+use std::process::Abort;
 
 // Where a block of the image of 32 inodes, 64 zones and a journal of 128 blocks is not all zeros, its first bytes and
 // the byte that follows them.
@@ -36,7 +35,7 @@ fn made(at: u32) -> (&'static [u8], u8) {
 }
 
 // Whether a block begins with these bytes, and goes on with this one.
-fn is_block(block: &Block, front: &[u8], rest: u8) -> bool {
+pub(crate) fn is_block(block: &Block, front: &[u8], rest: u8) -> bool {
     for (k, byte) in block.as_slice().iter().enumerate() {
         let wanted = match front.get(k) {
             Some(wanted) => *wanted,
@@ -50,8 +49,8 @@ fn is_block(block: &Block, front: &[u8], rest: u8) -> bool {
 }
 
 #[test]
-fn makes_each_block(rt: HostRuntime) -> Result<(), Fail> {
-    let image = make_volume(rt.alloc(), 32, 64, 128).map_err(|_| "not made")?;
+fn makes_each_block(rt: HostRuntime) {
+    let image = make_volume(rt.alloc(), 32, 64, 128).expect(&rt, "not made");
     assert_eq!(rt; image.len(), 192);
     for at in 0..192 {
         let (front, rest) = made(at);
@@ -61,11 +60,10 @@ fn makes_each_block(rt: HostRuntime) -> Result<(), Fail> {
     }
     made_images_are_plain();
     made_maps_mark_the_root();
-    Ok(())
 }
 
 #[test]
-fn refuses_sizes(rt: HostRuntime) -> Result<(), Fail> {
+fn refuses_sizes(rt: HostRuntime) {
     let rows = [
         (32, 5, 128, MakeFault::TooSmall),
         (32, 5, 127, MakeFault::TooSmall),
@@ -76,7 +74,6 @@ fn refuses_sizes(rt: HostRuntime) -> Result<(), Fail> {
         let made = make_volume(rt.alloc(), inodes, zones, journal);
         assert!(rt; made.is_err_and(|f| f == fault), "{zones} {journal}");
     }
-    Ok(())
 }
 
 // Writes a block that is there.
@@ -87,8 +84,8 @@ fn put(image: &mut Image, at: u32, body: Block) {
 }
 
 // A made image whose log has an empty transaction of sequence 4, and one of sequence 5 without its commit block.
-fn skipping(alloc: Global) -> Result<Image, MakeFault> {
-    let mut image = make_volume(alloc, 32, 64, 128)?;
+fn skipping(rt: &impl Abort, alloc: Global) -> Image {
+    let mut image = make_volume(alloc, 32, 64, 128).expect(rt, "not made");
     let superblock = JournalSuper {
         maxlen: 128,
         first: 1,
@@ -103,15 +100,17 @@ fn skipping(alloc: Global) -> Result<Image, MakeFault> {
     put(&mut image, 64, write_super(&superblock));
     put(&mut image, 65, write_commit(4));
     put(&mut image, 66, write_descriptor(5, &[tag]));
-    Ok(image)
+    image
 }
 
-fn mounted(
+// What mounting is refused with on a device that fails so.
+fn refused(
+    rt: &impl Abort,
     alloc: Global,
-    image: Image,
     fail_at: Option<u64>,
     bad_read: Option<u64>,
-) -> Result<Mounted, MountFault> {
+) -> Option<MountFault> {
+    let image = skipping(rt, alloc);
     let setup = DeviceSetup {
         depth: 4,
         limit: u64::from(image.len()) + 2,
@@ -119,42 +118,29 @@ fn mounted(
         bad_read,
         cut_at: None,
     };
-    let Ok(mut device) = EpochDevice::make(alloc, image, setup) else {
-        return Err(MountFault::NoMemory);
-    };
-    mount(alloc, &mut device)
-}
-
-// What mounting is refused with on a device that fails so.
-fn refused(
-    alloc: Global,
-    fail_at: Option<u64>,
-    bad_read: Option<u64>,
-) -> Result<Option<MountFault>, MakeFault> {
-    Ok(mounted(alloc, skipping(alloc)?, fail_at, bad_read).err())
+    let mut device = EpochDevice::make(alloc, image, setup).expect(rt, "no device");
+    mount(alloc, &mut device).err()
 }
 
 #[test]
-fn tells_what_the_device_failed(rt: HostRuntime) -> Result<(), Fail> {
-    let alloc = rt.alloc();
-    let told = refused(alloc, Some(1), None).map_err(|_| "not made")?;
-    assert_eq!(rt; told, Some(MountFault::DeviceFailed(0)));
-    let told = refused(alloc, Some(2), None).map_err(|_| "not made")?;
-    assert_eq!(rt; told, Some(MountFault::DeviceFailed(1)));
-    let told = refused(alloc, Some(3), None).map_err(|_| "not made")?;
-    assert_eq!(rt; told, None);
-    Ok(())
-}
-
-#[test]
-fn tells_each_read_that_fails(rt: HostRuntime) -> Result<(), Fail> {
-    let alloc = rt.alloc();
-    // The superblock, the journal's once and once more, four blocks from the start of its log on, and 64 zones.
-    for bad in 1..72 {
-        let told = refused(alloc, None, Some(bad)).map_err(|_| "not made")?;
-        assert_eq!(rt; told, Some(MountFault::ReadFault), "{bad}");
+fn tells_what_the_device_failed(rt: HostRuntime) {
+    let rows = [
+        (1, Some(MountFault::DeviceFailed(0))),
+        (2, Some(MountFault::DeviceFailed(1))),
+        (3, None),
+    ];
+    for (fail_at, fault) in rows {
+        let told = refused(&rt, rt.alloc(), Some(fail_at), None);
+        assert_eq!(rt; told, fault, "{fail_at}");
     }
-    let told = refused(alloc, None, Some(72)).map_err(|_| "not made")?;
-    assert_eq!(rt; told, None);
-    Ok(())
+}
+
+#[test]
+fn tells_each_read_that_fails(rt: HostRuntime) {
+    // The superblock, the journal's once and once more, four blocks from the start of its log on, and 64 zones.
+    for bad in 1..73 {
+        let fault = (bad < 72).then_some(MountFault::ReadFault);
+        let told = refused(&rt, rt.alloc(), None, Some(bad));
+        assert_eq!(rt; told, fault, "{bad}");
+    }
 }

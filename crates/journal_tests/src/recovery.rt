@@ -1,9 +1,10 @@
 //! Tests of recovery on the model device: a volume of 64 blocks with a journal of 128 behind it.
-ghost use Rattle.std.specs.Prelude.{◌≡◌, ◌<◌, IfOk, length};
+ghost use Rattle.std.specs.Prelude.{◌≡◌, length};
 ghost use Rattle.journal_tests.specs.Ready.{IsReady};
 
 use crate::log_blocks::block_of;
-use blk_base::{Block, Image, NoMemory};
+use crate::made_images::is_block;
+use blk_base::{Block, Image};
 use device_epochs::{DeviceSetup, EpochDevice};
 use journal_blocks::{
     JournalFault, JournalSuper, Tag, escape, read_super, write_commit, write_descriptor,
@@ -16,7 +17,6 @@ use journal_replay::{
 use order_model::OrderedDev;
 use std::alloc::Global;
 use std::process::Abort;
-use std::test::Fail;
 
 const BASE: u32 = 64;
 
@@ -29,11 +29,78 @@ const FOUR: JournalSuper = JournalSuper {
     incompat: 1,
 };
 
-// An image of zeros with this superblock.
-fn image_with(alloc: Global, s: &JournalSuper) -> Result<Image, NoMemory> {
-    let mut image = Image::zeroed(alloc, 192)?;
-    put(&mut image, BASE, write_super(s));
-    Ok(image)
+// A block of a log, with its sequence.
+#[derive(Clone, Copy)]
+enum LogPart {
+    Commit(u32),
+    // Bodies of these blocks follow.
+    Bodies(u32, &'static [u32]),
+    // Bodies of these blocks follow, of which the first has zeros in place of the magic number.
+    Escaped(u32, &'static [u32]),
+    Revoke(u32, &'static [u32]),
+    // A revoke block whose count says 15 bytes.
+    BadRevoke(u32),
+    // A body of this byte.
+    Body(u8),
+    // The body that begins with the magic number, as it is stored.
+    Magic,
+    // A block that begins with these bytes.
+    Bytes(&'static [u8]),
+}
+
+// A descriptor of these blocks, whose first body may be escaped.
+fn descriptor(
+    rt: &impl Abort,
+    alloc: Global,
+    sequence: u32,
+    blocks: &[u32],
+    escaped: bool,
+) -> Block {
+    let mut tags = Vec::new(alloc);
+    for block in blocks {
+        let tag = Tag {
+            block: *block,
+            escaped: escaped && tags.len() == 0,
+        };
+        let pushed: Result<_, _> = tags.push(tag);
+        pushed.expect(rt, "no tag");
+    }
+    assert!(rt; tags.len() > 0 && tags.len() < 10);
+    write_descriptor(sequence, tags.as_slice())
+}
+
+fn revoke(rt: &impl Abort, sequence: u32, blocks: &[u32]) -> Block {
+    assert!(rt; blocks.len() > 0 && blocks.len() < 10);
+    write_revoke(sequence, blocks)
+}
+
+// The body that begins with the magic number.
+fn magic_body() -> Block {
+    let mut body = Block::fill(5);
+    body.set(0, 0xC0);
+    body.set(1, 0x3B);
+    body.set(2, 0x39);
+    body.set(3, 0x98);
+    body
+}
+
+fn bad_revoke(sequence: u32) -> Block {
+    let mut block = write_revoke(sequence, &[9]);
+    block.set(15, 15);
+    block
+}
+
+fn log_block(rt: &impl Abort, alloc: Global, part: LogPart) -> Block {
+    match part {
+        LogPart::Commit(sequence) => write_commit(sequence),
+        LogPart::Bodies(sequence, blocks) => descriptor(rt, alloc, sequence, blocks, false),
+        LogPart::Escaped(sequence, blocks) => descriptor(rt, alloc, sequence, blocks, true),
+        LogPart::Revoke(sequence, blocks) => revoke(rt, sequence, blocks),
+        LogPart::BadRevoke(sequence) => bad_revoke(sequence),
+        LogPart::Body(byte) => Block::fill(byte),
+        LogPart::Magic => escape(&magic_body()).0,
+        LogPart::Bytes(front) => block_of(front),
+    }
 }
 
 // Writes a block that is there.
@@ -43,25 +110,26 @@ fn put(image: &mut Image, at: u32, body: Block) {
     }
 }
 
-// Writes a block of the log.
-fn put_log(image: &mut Image, place: u32, body: Block) {
-    put(image, BASE.saturating_add(place), body);
-}
-
-fn tag(block: u32) -> Tag {
-    Tag {
-        block,
-        escaped: false,
+// An image of zeros with this superblock, and these blocks from the first of its log on.
+fn image_of(rt: &impl Abort, alloc: Global, s: &JournalSuper, log: &[LogPart]) -> Image {
+    let mut image = Image::zeroed(alloc, 192).expect(rt, "no image");
+    put(&mut image, BASE, write_super(s));
+    let mut at = BASE;
+    for part in log {
+        at = at.saturating_add(1);
+        put(&mut image, at, log_block(rt, alloc, *part));
     }
+    image
 }
 
 fn device(
+    rt: &impl Abort,
     alloc: Global,
     image: Image,
     fail_at: Option<u64>,
     bad_read: Option<u64>,
-) -> Result<EpochDevice, NoMemory>
-    ensures { IfOk result (λ d. IsReady (length image) d) }
+) -> EpochDevice
+    ensures { IsReady (length image) result }
 {
     let limit = u64::from(image.len()) + 2;
     let setup = DeviceSetup {
@@ -71,7 +139,7 @@ fn device(
         bad_read,
         cut_at: None,
     };
-    EpochDevice::make(alloc, image, setup)
+    EpochDevice::make(alloc, image, setup).expect(rt, "no device")
 }
 
 // One recovery on a device of its own, with what a power cut leaves behind it.
@@ -81,25 +149,24 @@ fn attempt(
     image: Image,
     steer: &[Choice],
     cut: bool,
-) -> Result<(Result<Recovered, RecoverFault>, Image), NoMemory> {
+) -> (Result<Recovered, RecoverFault>, Image) {
     assert!(rt; image.len() > BASE);
-    let mut dev = device(alloc, image, None, None)?;
+    let mut dev = device(rt, alloc, image, None, None);
     let result = recover(alloc, &mut dev, BASE, steer, cut);
-    Ok((result, dev.cut().image))
+    (result, dev.cut().image)
 }
 
 // A recovery whose device fails a transfer or a read.
 fn recover_failing(
     rt: &impl Abort,
     alloc: Global,
-    image: &Image,
+    image: Image,
     fail_at: Option<u64>,
     bad_read: Option<u64>,
-) -> Result<Result<Recovered, RecoverFault>, NoMemory> {
-    let image = image.copy(alloc)?;
+) -> Result<Recovered, RecoverFault> {
     assert!(rt; image.len() > BASE);
-    let mut dev = device(alloc, image, fail_at, bad_read)?;
-    Ok(recover(alloc, &mut dev, BASE, &[], false))
+    let mut dev = device(rt, alloc, image, fail_at, bad_read);
+    recover(alloc, &mut dev, BASE, &[], false)
 }
 
 fn body(image: &Image, at: u32) -> Option<&Block> {
@@ -108,10 +175,6 @@ fn body(image: &Image, at: u32) -> Option<&Block> {
     } else {
         None
     }
-}
-
-fn super_in(image: &Image) -> Option<Result<JournalSuper, JournalFault>> {
-    Some(read_super(body(image, BASE)?))
 }
 
 fn are_same(a: &Image, b: &Image) -> bool {
@@ -132,174 +195,167 @@ fn ended(replayed: u32, next: u32) -> Result<Recovered, RecoverFault> {
 }
 
 // A commit block of sequence 4, a descriptor of sequence 5 with one tag, and zeros.
-fn skipping(alloc: Global) -> Result<Image, NoMemory> {
-    let mut image = image_with(alloc, &FOUR)?;
-    put_log(&mut image, 1, write_commit(4));
-    put_log(&mut image, 2, write_descriptor(5, &[tag(5)]));
-    Ok(image)
-}
-
-// The body that begins with the magic number.
-fn magic_body() -> Block {
-    let mut body = Block::fill(5);
-    body.set(0, 0xC0);
-    body.set(1, 0x3B);
-    body.set(2, 0x39);
-    body.set(3, 0x98);
-    body
-}
+const SKIPPING: [LogPart; 2] = [LogPart::Commit(4), LogPart::Bodies(5, &[5])];
 
 // A body of block 9 whose block is revoked later, and behind it bodies of blocks 3 and 4.
-fn revoked(alloc: Global) -> Result<Image, NoMemory> {
-    let mut image = image_with(alloc, &FOUR)?;
-    put(&mut image, 9, Block::fill(3));
-    put_log(&mut image, 1, write_descriptor(4, &[tag(9)]));
-    put_log(&mut image, 2, Block::fill(7));
-    put_log(&mut image, 3, write_commit(4));
-    put_log(&mut image, 4, write_revoke(5, &[9]));
-    put_log(&mut image, 5, write_commit(5));
-    put_log(&mut image, 6, write_descriptor(6, &[tag(3), tag(4)]));
-    put_log(&mut image, 7, Block::fill(1));
-    put_log(&mut image, 8, Block::fill(2));
-    put_log(&mut image, 9, write_commit(6));
-    Ok(image)
-}
+const REVOKED: [LogPart; 9] = [
+    LogPart::Bodies(4, &[9]),
+    LogPart::Body(7),
+    LogPart::Commit(4),
+    LogPart::Revoke(5, &[9]),
+    LogPart::Commit(5),
+    LogPart::Bodies(6, &[3, 4]),
+    LogPart::Body(1),
+    LogPart::Body(2),
+    LogPart::Commit(6),
+];
 
 // One transaction of sequence 7 whose one body begins with the magic number.
-fn escaped(alloc: Global) -> Result<Image, NoMemory> {
+const ESCAPED: [LogPart; 3] = [
+    LogPart::Escaped(7, &[9]),
+    LogPart::Magic,
+    LogPart::Commit(7),
+];
+
+// One transaction with bodies of blocks 2 to 6.
+const OF_FIVE: [LogPart; 7] = [
+    LogPart::Bodies(4, &[2, 3, 4, 5, 6]),
+    LogPart::Body(2),
+    LogPart::Body(3),
+    LogPart::Body(4),
+    LogPart::Body(5),
+    LogPart::Body(6),
+    LogPart::Commit(4),
+];
+
+// The log begins behind its middle, and its sequences come round.
+const WRAPPED: [LogPart; 4] = [
+    LogPart::Commit(u32::MAX),
+    LogPart::Commit(0),
+    LogPart::Bodies(u32::MAX, &[9]),
+    LogPart::Body(7),
+];
+
+// Two transactions with bodies for blocks 9 and 10, and a later one for block 10.
+const FULL: [LogPart; 7] = [
+    LogPart::Escaped(4, &[9, 10]),
+    LogPart::Magic,
+    LogPart::Body(1),
+    LogPart::Commit(4),
+    LogPart::Bodies(5, &[10]),
+    LogPart::Body(2),
+    LogPart::Commit(5),
+];
+
+fn skipping(rt: &impl Abort, alloc: Global) -> Image {
+    image_of(rt, alloc, &FOUR, &SKIPPING)
+}
+
+// Block 9 is not zero before.
+fn revoked(rt: &impl Abort, alloc: Global) -> Image {
+    let mut image = image_of(rt, alloc, &FOUR, &REVOKED);
+    put(&mut image, 9, Block::fill(3));
+    image
+}
+
+fn escaped(rt: &impl Abort, alloc: Global) -> Image {
     let seven = JournalSuper {
         sequence: 7,
         ..FOUR
     };
-    let mut image = image_with(alloc, &seven)?;
-    let (stored, escaped) = escape(&magic_body());
-    put_log(
-        &mut image,
-        1,
-        write_descriptor(7, &[Tag { block: 9, escaped }]),
-    );
-    put_log(&mut image, 2, stored);
-    put_log(&mut image, 3, write_commit(7));
-    Ok(image)
+    image_of(rt, alloc, &seven, &ESCAPED)
 }
 
-// One transaction with bodies of blocks 2 to 6.
-fn of_five(alloc: Global) -> Result<Image, NoMemory> {
-    let mut image = image_with(alloc, &FOUR)?;
-    let tags = [tag(2), tag(3), tag(4), tag(5), tag(6)];
-    put_log(&mut image, 1, write_descriptor(4, &tags));
-    for body in 2..7u8 {
-        put_log(&mut image, u32::from(body), Block::fill(body));
-    }
-    put_log(&mut image, 7, write_commit(4));
-    Ok(image)
-}
-
-// The log begins behind its middle, and its sequences come round.
-fn wrapped(alloc: Global) -> Result<Image, NoMemory> {
-    let s = JournalSuper {
+fn wrapped(rt: &impl Abort, alloc: Global) -> Image {
+    let round = JournalSuper {
         maxlen: 5,
         start: 3,
         sequence: u32::MAX,
         ..FOUR
     };
-    let mut image = image_with(alloc, &s)?;
-    put_log(&mut image, 3, write_descriptor(u32::MAX, &[tag(9)]));
-    put_log(&mut image, 4, Block::fill(7));
-    put_log(&mut image, 1, write_commit(u32::MAX));
-    put_log(&mut image, 2, write_commit(0));
-    Ok(image)
+    image_of(rt, alloc, &round, &WRAPPED)
 }
 
-// Two transactions with bodies for blocks 9 and 10, and a later one for block 10.
-fn full(alloc: Global) -> Result<Image, NoMemory> {
-    let mut image = image_with(alloc, &FOUR)?;
-    let (stored, escaped) = escape(&magic_body());
-    put_log(
-        &mut image,
-        1,
-        write_descriptor(4, &[Tag { block: 9, escaped }, tag(10)]),
-    );
-    put_log(&mut image, 2, stored);
-    put_log(&mut image, 3, Block::fill(1));
-    put_log(&mut image, 4, write_commit(4));
-    put_log(&mut image, 5, write_descriptor(5, &[tag(10)]));
-    put_log(&mut image, 6, Block::fill(2));
-    put_log(&mut image, 7, write_commit(5));
-    Ok(image)
+fn full(rt: &impl Abort, alloc: Global) -> Image {
+    image_of(rt, alloc, &FOUR, &FULL)
 }
 
 #[test]
-fn boxed_blocks_have_their_bytes(rt: HostRuntime) -> Result<(), Fail> {
-    let boxed = BoxedBlock::make(rt.alloc(), magic_body())?;
-    assert_eq!(rt; boxed.as_block(), &magic_body());
-    assert_eq!(rt; boxed.into_block(), magic_body());
-    Ok(())
+fn boxed_blocks_have_their_bytes(rt: HostRuntime) {
+    let boxed = BoxedBlock::make(rt.alloc(), magic_body()).expect(&rt, "no box");
+    assert!(rt; boxed.as_block() == &magic_body());
+    assert!(rt; boxed.into_block() == magic_body());
+}
+
+// Recovers a log: how many transactions count, the next sequence, and blocks that have these bytes in front then, and
+// one byte behind.
+fn expect_recovered(
+    rt: &impl Abort,
+    alloc: Global,
+    image: Image,
+    counts: (u32, u32),
+    bodies: &[(u32, &[u8], u8)],
+) {
+    let (came, after) = attempt(rt, alloc, image, &[], false);
+    assert_eq!(rt; came, ended(counts.0, counts.1));
+    for (at, front, rest) in bodies {
+        let found = body(&after, *at).expect(rt, "no block");
+        assert!(rt; is_block(found, front, *rest), "{at}");
+    }
 }
 
 #[test]
-fn skips_the_missing_sequence(rt: HostRuntime) -> Result<(), Fail> {
+fn skips_the_missing_sequence(rt: HostRuntime) {
     let alloc = rt.alloc();
-    let (result, image) = attempt(&rt, alloc, skipping(alloc)?, &[], false)?;
-    assert_eq!(rt; result, ended(1, 6));
-    assert_eq!(rt;
-        super_in(&image),
-        Some(Ok(JournalSuper {
-            sequence: 6,
-            start: 0,
-            ..FOUR
-        }))
-    );
-    assert_eq!(rt; body(&image, 5), Some(&Block::fill(0)));
+    expect_recovered(&rt, alloc, skipping(&rt, alloc), (1, 6), &[(5, b"", 0)]);
     attempts_keep_the_recovered_image();
     replays_by_revokes_are_exact();
-    Ok(())
 }
 
 #[test]
-fn sends_before_it_looks_at_the_list(rt: HostRuntime) -> Result<(), Fail> {
+fn empties_the_log(rt: HostRuntime) {
     let alloc = rt.alloc();
-    let (result, image) = attempt(&rt, alloc, skipping(alloc)?, &[], true)?;
-    assert_eq!(rt;
-        result,
-        Ok(Recovered {
-            replayed: 1,
-            next: 6,
-            ended: false
-        })
-    );
-    assert!(rt; are_same(&image, &skipping(alloc)?));
-    Ok(())
+    let (_, image) = attempt(&rt, alloc, skipping(&rt, alloc), &[], false);
+    let empty = JournalSuper {
+        sequence: 6,
+        start: 0,
+        ..FOUR
+    };
+    let found = body(&image, BASE).expect(&rt, "no superblock");
+    assert_eq!(rt; read_super(found), Ok(empty));
 }
 
 #[test]
-fn a_later_revoke_cancels_a_body(rt: HostRuntime) -> Result<(), Fail> {
+fn sends_before_it_looks_at_the_list(rt: HostRuntime) {
     let alloc = rt.alloc();
-    let (result, image) = attempt(&rt, alloc, revoked(alloc)?, &[], false)?;
-    assert_eq!(rt; result, ended(3, 8));
-    assert_eq!(rt; body(&image, 9), Some(&Block::fill(3)));
-    assert_eq!(rt; body(&image, 3), Some(&Block::fill(1)));
-    assert_eq!(rt; body(&image, 4), Some(&Block::fill(2)));
-    Ok(())
+    let (result, image) = attempt(&rt, alloc, skipping(&rt, alloc), &[], true);
+    let begun = Recovered {
+        replayed: 1,
+        next: 6,
+        ended: false,
+    };
+    assert_eq!(rt; result, Ok(begun));
+    assert!(rt; are_same(&image, &skipping(&rt, alloc)));
 }
 
 #[test]
-fn the_last_body_counts(rt: HostRuntime) -> Result<(), Fail> {
+fn a_later_revoke_cancels_a_body(rt: HostRuntime) {
     let alloc = rt.alloc();
-    let (result, image) = attempt(&rt, alloc, full(alloc)?, &[], false)?;
-    assert_eq!(rt; result, ended(2, 7));
-    assert_eq!(rt; body(&image, 9), Some(&magic_body()));
-    assert_eq!(rt; body(&image, 10), Some(&Block::fill(2)));
-    Ok(())
+    let bodies: [(u32, &[u8], u8); 3] = [(9, b"", 3), (3, b"", 1), (4, b"", 2)];
+    expect_recovered(&rt, alloc, revoked(&rt, alloc), (3, 8), &bodies);
 }
 
 #[test]
-fn logs_and_sequences_come_round(rt: HostRuntime) -> Result<(), Fail> {
+fn the_last_body_counts(rt: HostRuntime) {
     let alloc = rt.alloc();
-    let (result, image) = attempt(&rt, alloc, wrapped(alloc)?, &[], false)?;
-    assert_eq!(rt; result, ended(2, 2));
-    assert_eq!(rt; body(&image, 9), Some(&Block::fill(7)));
-    Ok(())
+    let bodies: [(u32, &[u8], u8); 2] = [(9, b"\xC0\x3B\x39\x98", 5), (10, b"", 2)];
+    expect_recovered(&rt, alloc, full(&rt, alloc), (2, 7), &bodies);
+}
+
+#[test]
+fn logs_and_sequences_come_round(rt: HostRuntime) {
+    let alloc = rt.alloc();
+    expect_recovered(&rt, alloc, wrapped(&rt, alloc), (2, 2), &[(9, b"", 7)]);
 }
 
 // The next number of a fixed row that looks like chance.
@@ -318,93 +374,79 @@ fn drawn(state: &mut u32) -> Choice {
     }
 }
 
-// Cuts a recovery behind each number of steps, cuts others behind it, and then recovers to the end. It takes `needed`
-// steps to have ended.
-fn try_attempts(
+// Up to eight steps by such numbers are taken of a recovery that is cut behind them.
+fn cut_by_chance(rt: &impl Abort, alloc: Global, image: Image, state: &mut u32) -> Image {
+    let mut list = [Choice::Default; 8];
+    for choice in &mut list {
+        *choice = drawn(state);
+    }
+    let length = (next(state) % 9) as usize;
+    let steer = list.get(..length).unwrap_or(&[]);
+    attempt(rt, alloc, image, steer, true).1
+}
+
+// Cuts a recovery behind so many steps, which ends by then or not, cuts three others behind it, and then recovers to the
+// end.
+fn try_cut(
     rt: &impl Abort,
     alloc: Global,
-    image: &Image,
-    needed: usize,
+    image: Image,
+    count: usize,
+    ends: bool,
     state: &mut u32,
-) -> Result<(), NoMemory> {
-    let (_, whole) = attempt(rt, alloc, image.copy(alloc)?, &[], false)?;
+) -> Image {
     let steps = [Choice::Default; 13];
-    for count in 0..14usize {
-        let steer = steps.get(..count).unwrap_or(&[]);
-        let (result, mut left) = attempt(rt, alloc, image.copy(alloc)?, steer, true)?;
-        assert!(rt;
-            result.is_ok_and(|r| r.ended == (count >= needed)),
-            "{count}"
-        );
-        for _ in 0..3 {
-            let list = [
-                drawn(state),
-                drawn(state),
-                drawn(state),
-                drawn(state),
-                drawn(state),
-                drawn(state),
-                drawn(state),
-                drawn(state),
-            ];
-            let length = (next(state) % 9) as usize;
-            let steer = list.get(..length).unwrap_or(&[]);
-            let (_, more) = attempt(rt, alloc, left, steer, true)?;
-            left = more;
-        }
-        let (result, last) = attempt(rt, alloc, left, &[], false)?;
-        assert!(rt; result.is_ok());
-        assert!(rt; are_same(&last, &whole), "{count}");
+    let steer = steps.get(..count).unwrap_or(&[]);
+    let (result, mut left) = attempt(rt, alloc, image, steer, true);
+    assert!(rt; result.is_ok_and(|r| r.ended == ends), "{count}");
+    for _ in 0..3 {
+        left = cut_by_chance(rt, alloc, left, state);
     }
-    Ok(())
+    let (result, last) = attempt(rt, alloc, left, &[], false);
+    assert!(rt; result.is_ok(), "{count}");
+    last
+}
+
+// Recoveries that are cut behind each number of steps lead to one image. It takes `needed` steps to have ended.
+fn try_attempts(rt: &impl Abort, alloc: Global, image: &Image, needed: usize, state: &mut u32) {
+    let copy = image.copy(alloc).expect(rt, "no copy");
+    let (_, whole) = attempt(rt, alloc, copy, &[], false);
+    for count in 0..14usize {
+        let copy = image.copy(alloc).expect(rt, "no copy");
+        let last = try_cut(rt, alloc, copy, count, count >= needed, state);
+        assert!(rt; are_same(&last, &whole), "{count} of {needed}");
+    }
 }
 
 // Two steps for each home write and for the superblock, and one for the flush. An empty log takes none.
 #[test]
-fn attempts_lead_to_one_image(rt: HostRuntime) -> Result<(), Fail> {
+fn attempts_lead_to_one_image(rt: HostRuntime) {
     let alloc = rt.alloc();
     let empty = JournalSuper {
         sequence: 1,
         start: 0,
         ..FOUR
     };
-    let images = [
-        (skipping(alloc)?, 3),
-        (revoked(alloc)?, 7),
-        (escaped(alloc)?, 5),
-        (of_five(alloc)?, 13),
-        (wrapped(alloc)?, 5),
-        (full(alloc)?, 7),
-        (image_with(alloc, &empty)?, 0),
-    ];
     let mut state = 1;
-    for (image, needed) in images {
-        try_attempts(&rt, alloc, &image, needed, &mut state)?;
-    }
-    Ok(())
-}
-
-// Recovers a log with these blocks: how many transactions count, and the byte that block 9, which was zero, has then.
-fn try_log(
-    rt: &impl Abort,
-    alloc: Global,
-    name: &str,
-    maxlen: u32,
-    log: &[Block],
-    replayed: u32,
-    byte: u8,
-) -> Result<(), NoMemory> {
-    let mut image = image_with(alloc, &JournalSuper { maxlen, ..FOUR })?;
-    let mut place = 1u32;
-    for block in log {
-        put_log(&mut image, place, block.copy());
-        place = place.saturating_add(1);
-    }
-    let (result, after) = attempt(rt, alloc, image, &[], false)?;
-    let next = replayed.saturating_add(5);
-    assert!(rt; result == ended(replayed, next), "{name}");
-    assert!(rt; body(&after, 9) == Some(&Block::fill(byte)), "{name}");
-    Ok(())
+    try_attempts(&rt, alloc, &skipping(&rt, alloc), 3, &mut state);
+    try_attempts(&rt, alloc, &revoked(&rt, alloc), 7, &mut state);
+    try_attempts(&rt, alloc, &escaped(&rt, alloc), 5, &mut state);
+    try_attempts(
+        &rt,
+        alloc,
+        &image_of(&rt, alloc, &FOUR, &OF_FIVE),
+        13,
+        &mut state,
+    );
+    try_attempts(&rt, alloc, &wrapped(&rt, alloc), 5, &mut state);
+    try_attempts(&rt, alloc, &full(&rt, alloc), 7, &mut state);
+    try_attempts(
+        &rt,
+        alloc,
+        &image_of(&rt, alloc, &empty, &[]),
+        0,
+        &mut state,
+    );
 }
 
 // Two tags with a uuid each, for blocks 9 and 10, in sequence 4.
@@ -414,167 +456,201 @@ const WITH_UUIDS: [u8; 60] = [
     0, 0, 0, 10, 0, 0, 0, 8, 1, 2, 3, 4, 5, 6, 7, 8, 9, 10, 11, 12, 13, 14, 15, 16, // uuid, last
 ];
 
+// A commit block of sequence 4, and then a whole transaction of sequence 3.
+const OLDER: [LogPart; 4] = [
+    LogPart::Commit(4),
+    LogPart::Bodies(3, &[9]),
+    LogPart::Body(7),
+    LogPart::Commit(3),
+];
+
+const REVOKED_BEFORE: [LogPart; 4] = [
+    LogPart::Revoke(4, &[9]),
+    LogPart::Bodies(4, &[9]),
+    LogPart::Body(7),
+    LogPart::Commit(4),
+];
+
+const REVOKED_BEHIND: [LogPart; 4] = [
+    LogPart::Bodies(4, &[9]),
+    LogPart::Body(7),
+    LogPart::Revoke(4, &[9]),
+    LogPart::Commit(4),
+];
+
+const REVOKED_EARLIER: [LogPart; 5] = [
+    LogPart::Revoke(4, &[9]),
+    LogPart::Commit(4),
+    LogPart::Bodies(5, &[9]),
+    LogPart::Body(7),
+    LogPart::Commit(5),
+];
+
+const REVOKED_ELSEWHERE: [LogPart; 4] = [
+    LogPart::Revoke(4, &[5000]),
+    LogPart::Bodies(4, &[9]),
+    LogPart::Body(7),
+    LogPart::Commit(4),
+];
+
+const PAST_THE_LOG: [LogPart; 3] = [
+    LogPart::Commit(4),
+    LogPart::Bodies(5, &[9, 10]),
+    LogPart::Body(7),
+];
+
+const OF_UUIDS: [LogPart; 4] = [
+    LogPart::Bytes(&WITH_UUIDS),
+    LogPart::Body(7),
+    LogPart::Body(8),
+    LogPart::Commit(4),
+];
+
+// The log with its length, how many transactions count, and the byte that block 9, which was zero, has then.
+const LOGS: [(&str, &[LogPart], u32, u32, u8); 7] = [
+    ("older sequence", &OLDER, 128, 1, 0),
+    ("revoke before its body", &REVOKED_BEFORE, 128, 1, 0),
+    ("revoke behind its body", &REVOKED_BEHIND, 128, 1, 0),
+    ("earlier revoke", &REVOKED_EARLIER, 128, 2, 7),
+    ("revoke past the volume", &REVOKED_ELSEWHERE, 128, 1, 7),
+    ("bodies past the log", &PAST_THE_LOG, 4, 1, 0),
+    ("tags with a uuid each", &OF_UUIDS, 128, 1, 7),
+];
+
 #[test]
-fn tells_what_counts_in_a_log(rt: HostRuntime) -> Result<(), Fail> {
-    let alloc = rt.alloc();
-    let bodies = write_descriptor(4, &[tag(9)]);
-    let log = [
-        write_commit(4),
-        write_descriptor(3, &[tag(9)]),
-        Block::fill(7),
-        write_commit(3),
-    ];
-    try_log(&rt, alloc, "older sequence", 128, &log, 1, 0)?;
-    let log = [
-        write_revoke(4, &[9]),
-        bodies.copy(),
-        Block::fill(7),
-        write_commit(4),
-    ];
-    try_log(&rt, alloc, "revoke before its body", 128, &log, 1, 0)?;
-    let log = [
-        bodies.copy(),
-        Block::fill(7),
-        write_revoke(4, &[9]),
-        write_commit(4),
-    ];
-    try_log(&rt, alloc, "revoke behind its body", 128, &log, 1, 0)?;
-    let log = [
-        write_revoke(4, &[9]),
-        write_commit(4),
-        write_descriptor(5, &[tag(9)]),
-        Block::fill(7),
-        write_commit(5),
-    ];
-    try_log(&rt, alloc, "earlier revoke", 128, &log, 2, 7)?;
-    let log = [
-        write_revoke(4, &[5000]),
-        bodies,
-        Block::fill(7),
-        write_commit(4),
-    ];
-    try_log(&rt, alloc, "revoke past the volume", 128, &log, 1, 7)?;
-    let log = [
-        write_commit(4),
-        write_descriptor(5, &[tag(9), tag(10)]),
-        Block::fill(7),
-    ];
-    try_log(&rt, alloc, "bodies past the log", 4, &log, 1, 0)?;
-    let log = [
-        block_of(&WITH_UUIDS),
-        Block::fill(7),
-        Block::fill(8),
-        write_commit(4),
-    ];
-    try_log(&rt, alloc, "tags with a uuid each", 128, &log, 1, 7)?;
-    Ok(())
+fn tells_what_counts_in_a_log(rt: HostRuntime) {
+    for (name, log, maxlen, replayed, byte) in &LOGS {
+        let superblock = JournalSuper {
+            maxlen: *maxlen,
+            ..FOUR
+        };
+        let image = image_of(&rt, rt.alloc(), &superblock, log);
+        let (result, after) = attempt(&rt, rt.alloc(), image, &[], false);
+        assert!(rt;
+            result == ended(*replayed, replayed.saturating_add(5)),
+            "{name}"
+        );
+        let found = body(&after, 9).expect(&rt, "no block");
+        assert!(rt; is_block(found, b"", *byte), "{name}");
+    }
 }
 
 // The commands are two home writes, the superblock and a flush; the log has seven blocks, and one more ends it.
 #[test]
-fn tells_what_failed(rt: HostRuntime) -> Result<(), Fail> {
-    let alloc = rt.alloc();
-    let image = full(alloc)?;
+fn tells_which_command_failed(rt: HostRuntime) {
     for id in 0..4u64 {
-        let result = recover_failing(&rt, alloc, &image, Some(id + 1), None)?;
+        let image = full(&rt, rt.alloc());
+        let result = recover_failing(&rt, rt.alloc(), image, Some(id + 1), None);
         assert_eq!(rt; result, Err(RecoverFault::DeviceFailed(id)));
     }
-    for read in 1..10u64 {
-        let result = recover_failing(&rt, alloc, &image, None, Some(read))?;
-        assert_eq!(rt; result, Err(RecoverFault::ReadFault));
-    }
-    let result = recover_failing(&rt, alloc, &image, None, Some(10))?;
-    assert_eq!(rt; result, ended(2, 7));
-    Ok(())
-}
-
-// The fault of an image, which is left as it is.
-fn fault_of(
-    rt: &impl Abort,
-    alloc: Global,
-    image: Image,
-) -> Result<Option<(JournalFault, u32)>, NoMemory> {
-    let before = image.copy(alloc)?;
-    let (result, after) = attempt(rt, alloc, image, &[], false)?;
-    match result {
-        Err(RecoverFault::BadJournal(fault, block)) => {
-            assert!(rt; are_same(&before, &after));
-            Ok(Some((fault, block)))
-        }
-        _ => Ok(None),
-    }
 }
 
 #[test]
-fn tells_what_is_wrong_with_a_superblock(rt: HostRuntime) -> Result<(), Fail> {
-    let alloc = rt.alloc();
-    let table = [
-        (3, 0, JournalFault::NotMagic),
-        (7, 3, JournalFault::BadKind),
-        (0x2B, 3, JournalFault::Feature(2)),
-        (0x0E, 8, JournalFault::BadCount),
-        (0x13, 129, JournalFault::BadCount),
-        (0x13, 1, JournalFault::BadCount),
-        (0x17, 0, JournalFault::BadCount),
-        (0x17, 2, JournalFault::BadCount),
-        (0x1F, 128, JournalFault::BadCount),
-    ];
-    for (at, value, fault) in table {
-        let mut image = Image::zeroed(alloc, 192)?;
+fn tells_each_read_that_fails(rt: HostRuntime) {
+    for read in 1..11u64 {
+        let wanted = if read < 10 {
+            Err(RecoverFault::ReadFault)
+        } else {
+            ended(2, 7)
+        };
+        let image = full(&rt, rt.alloc());
+        let result = recover_failing(&rt, rt.alloc(), image, None, Some(read));
+        assert_eq!(rt; result, wanted, "{read}");
+    }
+}
+
+// The image has this fault at this block, and is left as it is.
+fn expect_fault(rt: &impl Abort, alloc: Global, image: Image, fault: JournalFault, block: u32) {
+    let before = image.copy(alloc).expect(rt, "no copy");
+    let (result, after) = attempt(rt, alloc, image, &[], false);
+    assert_eq!(rt; result, Err(RecoverFault::BadJournal(fault, block)));
+    assert!(rt; are_same(&before, &after), "{block}");
+}
+
+// A byte of the superblock, and the fault that it makes.
+const SUPER_FAULTS: [(usize, u8, JournalFault); 9] = [
+    (3, 0, JournalFault::NotMagic),
+    (7, 3, JournalFault::BadKind),
+    (0x2B, 3, JournalFault::Feature(2)),
+    (0x0E, 8, JournalFault::BadCount),
+    (0x13, 129, JournalFault::BadCount),
+    (0x13, 1, JournalFault::BadCount),
+    (0x17, 0, JournalFault::BadCount),
+    (0x17, 2, JournalFault::BadCount),
+    (0x1F, 128, JournalFault::BadCount),
+];
+
+#[test]
+fn tells_what_is_wrong_with_a_superblock(rt: HostRuntime) {
+    for (at, value, fault) in &SUPER_FAULTS {
         let mut superblock = write_super(&FOUR);
-        superblock.set(at, value);
+        if *at < 1024 {
+            superblock.set(*at, *value);
+        }
+        let mut image = image_of(&rt, rt.alloc(), &FOUR, &[]);
         put(&mut image, BASE, superblock);
-        assert_eq!(rt; fault_of(&rt, alloc, image)?, Some((fault, 64)));
+        expect_fault(&rt, rt.alloc(), image, *fault, 64);
     }
-    Ok(())
 }
 
-// A revoke block whose count says 15 bytes.
-fn bad_revoke(sequence: u32) -> Block {
-    let mut block = write_revoke(sequence, &[9]);
-    block.set(15, 15);
-    block
-}
+const BODY_OF_BLOCK_0: [LogPart; 4] = [
+    LogPart::Commit(4),
+    LogPart::Bodies(5, &[0]),
+    LogPart::Body(0),
+    LogPart::Commit(5),
+];
+
+const BODY_OF_BLOCK_1: [LogPart; 4] = [
+    LogPart::Commit(4),
+    LogPart::Bodies(5, &[1]),
+    LogPart::Body(0),
+    LogPart::Commit(5),
+];
+
+const BODY_OF_BLOCK_64: [LogPart; 4] = [
+    LogPart::Commit(4),
+    LogPart::Bodies(5, &[64]),
+    LogPart::Body(0),
+    LogPart::Commit(5),
+];
+
+const TWO_FAULTS: [LogPart; 7] = [
+    LogPart::BadRevoke(5),
+    LogPart::Commit(5),
+    LogPart::Body(0),
+    LogPart::Body(0),
+    LogPart::Bodies(4, &[64]),
+    LogPart::Body(0),
+    LogPart::Commit(4),
+];
+
+const BAD_REVOKE: [LogPart; 2] = [LogPart::BadRevoke(4), LogPart::Commit(4)];
+
+// A log of seven places that begins at its fifth.
+const BEHIND: JournalSuper = JournalSuper {
+    maxlen: 8,
+    first: 1,
+    sequence: 4,
+    start: 5,
+    incompat: 1,
+};
+
+// Logs, and the block that is told. The first along the log counts, which is not the lowest block.
+const LOG_FAULTS: [(JournalSuper, &[LogPart], u32); 5] = [
+    (FOUR, &BAD_REVOKE, 65),
+    (FOUR, &BODY_OF_BLOCK_0, 66),
+    (FOUR, &BODY_OF_BLOCK_1, 66),
+    (FOUR, &BODY_OF_BLOCK_64, 66),
+    (BEHIND, &TWO_FAULTS, 69),
+];
 
 #[test]
-fn tells_what_is_wrong_with_a_log(rt: HostRuntime) -> Result<(), Fail> {
-    let alloc = rt.alloc();
-    let mut revoke = image_with(alloc, &FOUR)?;
-    put_log(&mut revoke, 1, bad_revoke(4));
-    // Without a commit block it counts for nothing.
-    let unfinished = revoke.copy(alloc)?;
-    assert_eq!(rt; attempt(&rt, alloc, unfinished, &[], false)?.0, ended(0, 5));
-    put_log(&mut revoke, 2, write_commit(4));
-    assert_eq!(rt;
-        fault_of(&rt, alloc, revoke)?,
-        Some((JournalFault::BadCount, 65))
-    );
-    for block in [0, 1, 64] {
-        let mut image = image_with(alloc, &FOUR)?;
-        put_log(&mut image, 1, write_commit(4));
-        put_log(&mut image, 2, write_descriptor(5, &[tag(block)]));
-        put_log(&mut image, 4, write_commit(5));
-        assert_eq!(rt;
-            fault_of(&rt, alloc, image)?,
-            Some((JournalFault::BadCount, 66))
-        );
+fn tells_what_is_wrong_with_a_log(rt: HostRuntime) {
+    for (superblock, log, block) in &LOG_FAULTS {
+        let image = image_of(&rt, rt.alloc(), superblock, log);
+        expect_fault(&rt, rt.alloc(), image, JournalFault::BadCount, *block);
     }
-    // The first along the log counts, which is not the lowest block.
-    let mut image = image_with(
-        alloc,
-        &JournalSuper {
-            maxlen: 8,
-            start: 5,
-            ..FOUR
-        },
-    )?;
-    put_log(&mut image, 5, write_descriptor(4, &[tag(64)]));
-    put_log(&mut image, 7, write_commit(4));
-    put_log(&mut image, 1, bad_revoke(5));
-    put_log(&mut image, 2, write_commit(5));
-    assert_eq!(rt;
-        fault_of(&rt, alloc, image)?,
-        Some((JournalFault::BadCount, 69))
-    );
-    Ok(())
+    // Without a commit block a bad one counts for nothing.
+    let unfinished = image_of(&rt, rt.alloc(), &FOUR, &[LogPart::BadRevoke(4)]);
+    expect_recovered(&rt, rt.alloc(), unfinished, (0, 5), &[]);
 }
