@@ -2,22 +2,26 @@
 use super::fields::slots_in;
 use blk_base::{Block, Image};
 use minix_layout::{Inode, Name, Slot, Zones, write_slot};
-use std::test::Fail;
+use std::alloc::Global;
+use std::process::Abort;
 use volume_ops::Disk;
 
-// A directory of three slots in zone 3, of which the second is in use.
-#[test]
-fn reads_slots(rt: HostRuntime) -> Result<(), Fail> {
-    let alloc = rt.alloc();
-    let mut blocks = Image::zeroed(alloc, 5)?;
-    let Some(name) = Name::of(b"ab") else {
-        panic!(rt; "no name");
+// A disk whose zone 3 has one slot in use, the second.
+fn disk(rt: &impl Abort, alloc: Global) -> Disk {
+    let slot = Slot {
+        inode: 2,
+        name: Name::of(b"ab").expect(rt, "no name"),
     };
     let mut body = Block::fill(0);
-    write_slot(&mut body, 1, Some(&Slot { inode: 2, name }));
-    if blocks.len() > 3 {
-        blocks.put(3, body);
-    }
+    write_slot(&mut body, 1, Some(&slot));
+    let mut blocks = Image::zeroed(alloc, 5).expect(rt, "no blocks");
+    blocks.put(3, body);
+    Disk::new(blocks)
+}
+
+// A directory of three slots in zone 3.
+#[test]
+fn reads_slots(rt: HostRuntime) {
     let inode = Inode {
         mode: 0x41ED,
         uid: 0,
@@ -27,10 +31,12 @@ fn reads_slots(rt: HostRuntime) -> Result<(), Fail> {
         links: 2,
         zones: Zones::of([3, 0, 0, 0, 0, 0, 0, 0, 0]),
     };
-    let slots = slots_in(alloc, &Disk::new(blocks), &inode)?;
-    assert_eq!(rt; slots.len(), 3);
-    assert_eq!(rt; slots.get(0).is_some(), false);
-    assert_eq!(rt; slots.get(1).is_some(), true);
-    assert_eq!(rt; slots.get(2).is_some(), false);
-    Ok(())
+    let disk = disk(&rt, rt.alloc());
+    let slots = slots_in(rt.alloc(), &disk, &inode).expect(&rt, "no slots");
+    let used = [
+        slots.get(0).is_some(),
+        slots.get(1).is_some(),
+        slots.get(2).is_some(),
+    ];
+    assert_eq!(rt; (slots.len(), used), (3, [false, true, false]));
 }
