@@ -21,9 +21,10 @@ pub(crate) fn block_of(front: &[u8]) -> Block {
     block
 }
 
-// A block of a log as it is read.
-fn text_of(rt: &impl Abort, alloc: Global, block: &Block) -> String {
-    format!(in alloc; "{:?}", read_block(alloc, block)).expect(rt, "no text")
+// The block, by its name here, is read as this.
+fn expect_read(rt: &impl Abort, alloc: Global, name: &str, block: &Block, wanted: &str) {
+    let text = format!(in alloc; "{:?}", read_block(alloc, block)).expect(rt, "no text");
+    assert_eq!(rt; text.as_str(), wanted, "{name}");
 }
 
 fn tags_of(rt: &impl Abort, alloc: Global, block: &Block) -> TagList {
@@ -58,14 +59,18 @@ fn superblock(rt: HostRuntime) {
         incompat: 1,
     };
     assert!(rt; is_block(&write_super(&s), &SUPERBLOCK, 0));
+    assert_eq!(rt; read_super(&block_of(&SUPERBLOCK)), Ok(s));
+    superblocks_are_read();
+}
+
+#[test]
+fn the_tail_is_set(rt: HostRuntime) {
     let mut block = block_of(&SUPERBLOCK);
-    assert_eq!(rt; read_super(&block), Ok(s));
     block.set(1000, 9);
     set_tail(&mut block, 0x01020304, 5);
     let tail = block.as_slice().get(0x18..0x20);
     assert_eq!(rt; tail, Some(&[1u8, 2, 3, 4, 0, 0, 0, 5][..]));
     assert_eq!(rt; block.as_slice().get(1000), Some(&9));
-    superblocks_are_read();
 }
 
 // One body for block 9 that begins with the magic number.
@@ -82,7 +87,7 @@ fn descriptor_of_one(rt: HostRuntime) {
     assert!(rt; is_block(&block, &front, 0));
     assert_eq!(rt; sequence_in(&block), 7);
     let text = "Ok(Descriptor(7, TagList { tags: [Tag { block: 9, escaped: true }] }))";
-    assert_eq!(rt; text_of(&rt, rt.alloc(), &block).as_str(), text);
+    expect_read(&rt, rt.alloc(), "descriptor", &block, text);
 }
 
 #[test]
@@ -119,17 +124,22 @@ fn descriptor_of_others(rt: HostRuntime) {
 }
 
 #[test]
-fn revoke_and_commit(rt: HostRuntime) {
+fn revoke_block(rt: HostRuntime) {
     let front = [
         0xC0, 0x3B, 0x39, 0x98, 0, 0, 0, 5, 0, 0, 0, 2, 0, 0, 0, 0x14, 0, 0, 0, 6,
     ];
     let block = write_revoke(2, &[6]);
     assert!(rt; is_block(&block, &front, 0));
-    assert_eq!(rt; revoked_of(&rt, rt.alloc(), &block).as_slice(), &[6u32][..]);
-    let commit = write_commit(7);
+    let revoked = revoked_of(&rt, rt.alloc(), &block);
+    assert_eq!(rt; revoked.as_slice(), &[6u32][..]);
+}
+
+#[test]
+fn commit_block(rt: HostRuntime) {
     let front = [0xC0, 0x3B, 0x39, 0x98, 0, 0, 0, 2, 0, 0, 0, 7];
+    let commit = write_commit(7);
     assert!(rt; is_block(&commit, &front, 0));
-    assert_eq!(rt; text_of(&rt, rt.alloc(), &commit).as_str(), "Ok(Commit(7))");
+    expect_read(&rt, rt.alloc(), "commit", &commit, "Ok(Commit(7))");
     log_blocks_are_read();
     readers_agree();
     logs_hold_whole_transactions();
@@ -147,13 +157,29 @@ fn miscounted(high: u8, low: u8) -> Block {
 #[test]
 fn faults(rt: HostRuntime) {
     let alloc = rt.alloc();
-    let zeros = text_of(&rt, alloc, &Block::fill(0));
-    assert_eq!(rt; zeros.as_str(), "Err(NotMagic)");
-    let superblock = text_of(&rt, alloc, &block_of(&SUPERBLOCK));
-    assert_eq!(rt; superblock.as_str(), "Err(BadKind)");
-    for (high, low) in [(0, 0), (0, 15), (0, 18), (4, 0x14)] {
-        let text = text_of(&rt, alloc, &miscounted(high, low));
-        assert_eq!(rt; text.as_str(), "Err(BadCount)", "{high} {low}");
+    expect_read(&rt, alloc, "zeros", &Block::fill(0), "Err(NotMagic)");
+    expect_read(
+        &rt,
+        alloc,
+        "superblock",
+        &block_of(&SUPERBLOCK),
+        "Err(BadKind)",
+    );
+}
+
+// Counts of a revoke block that are less than its 16 bytes of header, not of whole numbers, or past its end.
+const BAD_COUNTS: [(&str, u8, u8); 4] = [
+    ("0", 0, 0),
+    ("15", 0, 15),
+    ("18", 0, 18),
+    ("1044", 4, 0x14),
+];
+
+#[test]
+fn counts_of_revoke_blocks(rt: HostRuntime) {
+    for (name, high, low) in &BAD_COUNTS {
+        let block = miscounted(*high, *low);
+        expect_read(&rt, rt.alloc(), name, &block, "Err(BadCount)");
     }
-    assert!(rt; read_block(alloc, &miscounted(4, 0)).is_ok());
+    assert!(rt; read_block(rt.alloc(), &miscounted(4, 0)).is_ok());
 }
