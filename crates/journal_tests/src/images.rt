@@ -321,7 +321,7 @@ fn refuses_images_that_are_cut_off(rt: HostRuntime) {
     }
 }
 
-// The image with one block more, which begins with the magic number of a journal, and has this type and these features.
+// What makes the block behind the sample a journal's first, with this type and these features.
 fn journal_patches(kind: u16, features: u16) -> [(usize, u16); 4] {
     [
         (40 * 1024, 0x3BC0),
@@ -485,8 +485,8 @@ fn tells_the_fault_of_a_slot(rt: HostRuntime) {
     }
 }
 
-// A directory's own zones, its slots, and then what they name; a file's zones in order; and last what an early directory
-// names, before the inode that a later name of the root leads to.
+// A directory's own zones, its slots, and then what they name; a file's zones in order; and last what an early
+// directory names, before the inode that a later name of the root leads to.
 const FIRST_ROWS: [([(usize, u16); 2], ImageFault, u32); 6] = [
     (
         [(ROOT + 16, 6), (6 * 1024 + 32, 65)],

@@ -374,7 +374,7 @@ fn drawn(state: &mut u32) -> Choice {
     }
 }
 
-// Up to eight steps by such numbers are taken of a recovery that is cut behind them.
+// What is left of a recovery that is cut behind up to eight steps by such numbers.
 fn cut_by_chance(rt: &impl Abort, alloc: Global, image: Image, state: &mut u32) -> Image {
     let mut list = [Choice::Default; 8];
     for choice in &mut list {
@@ -385,8 +385,8 @@ fn cut_by_chance(rt: &impl Abort, alloc: Global, image: Image, state: &mut u32) 
     attempt(rt, alloc, image, steer, true).1
 }
 
-// Cuts a recovery behind so many steps, which ends by then or not, cuts three others behind it, and then recovers to the
-// end.
+// Cuts a recovery behind so many steps, which ends by then or not, cuts three others behind it, and then recovers to
+// the end.
 fn try_cut(
     rt: &impl Abort,
     alloc: Global,
