@@ -18,7 +18,7 @@ use Rattle.barrierfs_top.specs.Show.{shown_volume, text_after}
 -- what is shown of a volume is the text of its image's tree
 tree_shown : (s : SessionScript) (r : SessionReport) (told : List ℕ) → IsReportOf s (core s) r → (p : HasPrefix s (core s) r) → shown_volume r.volume ≡ Ok told → told ≡ tree_text p.tree
 tree_shown s r told is p shown =
-    let same : text_after (image_tree r.cut.image) ≡ shown_volume r.volume = ap (λ m. text_after (tree_after m)) is.volume in
+    let same : text_after (image_tree r.cut.image.items) ≡ shown_volume r.volume = ap (λ m. text_after (tree_after m)) is.volume in
     same_Ok told (tree_text p.tree) (sym shown ∙ (sym same ∙ ap text_after p.found))
 
 -- the text is that of the session's lines and of its tree
@@ -45,8 +45,8 @@ stand_of s r is h host programs = is.standings ∙ same_standings r.host h (is.h
 
 -- the completions of the trace are those that the device sent
 pub order_of : (s : SessionScript) (r : SessionReport) → IsReportOf s (core s) r → ReportKeepsOrder s (core s) r
-    → KeepsOrder (opening_of s).image (core s).host.journal.flush.requests r.cut.image r.cut.origins ((core s).dev.sent ++ (core s).dev.waiting)
-order_of s r is order = subst (λ sent. KeepsOrder (opening_of s).image (core s).host.journal.flush.requests r.cut.image r.cut.origins (sent ++ (core s).dev.waiting)) is.trace.sent order
+    → KeepsOrder (opening_of s).image (core s).host.journal.flush.requests r.cut.image.items r.cut.origins ((core s).dev.sent ++ (core s).dev.waiting)
+order_of s r is order = subst (λ sent. KeepsOrder (opening_of s).image (core s).host.journal.flush.requests r.cut.image.items r.cut.origins (sent ++ (core s).dev.waiting)) is.trace.sent order
 
 -- ---- no more threads stand than the script has
 

@@ -90,7 +90,7 @@ impl EpochDevice {
             return Err(NoMemory);
         }
         let room = setup.limit as usize;
-        let base = trail_of(&image);
+        let base = Trail::of_image(&image);
         let origins = no_origins(alloc, image.len())?;
         // By the count of steps the cache holds no more than there were commands and parts.
         let cache = Cache::make(alloc, 2 * room, image.len())?;
@@ -175,17 +175,6 @@ fn body_of(took: &Commands, place: u64) -> Block
         unreachable!();
     };
     part.body
-}
-
-// The blocks of an image, for contracts alone.
-fn trail_of(image: &Image) -> Trail<Block>
-    ensures { result.items ≡ image.now }
-{
-    let mut trail = Trail::new();
-    for b in 0..image.len() {
-        trail = trail.and(image.block(b));
-    }
-    trail
 }
 
 fn no_origins(alloc: Global, blocks: u32) -> Result<Vec<Option<u64>>, NoMemory>

@@ -2,6 +2,7 @@
 ghost use Rattle.std.specs.Prelude.{◌≡◌, List, [], ◌∷◌, ◌++◌};
 ghost use Rattle.std.specs.Borrow.{ftrue};
 
+use blk_base::{Block, Image};
 use std::marker::{Model, PhantomData};
 
 /// A history that contracts alone read, as its `items`. It takes no memory, and its calls do nothing at
@@ -31,5 +32,18 @@ impl<T> Trail<T> {
         ensures { result.items ≡ self.now.items ++ item.now ∷ [] }
     {
         Trail { of: PhantomData }
+    }
+}
+
+impl Trail<Block> {
+    /// The blocks of an image, in order.
+    pub fn of_image(image: &Image) -> Trail<Block>
+        ensures { result.items ≡ image.now }
+    {
+        let mut trail = Trail::new();
+        for b in 0..image.len() {
+            trail = trail.and(image.block(b));
+        }
+        trail
     }
 }

@@ -1,7 +1,9 @@
 -- What the power cut leaves of a script's session.
-use Rattle.std.proofs.Common.{◌≡◌, ℕ, true, List, [], IfOk, Ok, sym, ap, subst, ◌∙◌, arith}
+use Rattle.std.proofs.Common.{◌≡◌, ℕ, true, List, [], Option, IfOk, Ok, sym, ap, subst, ◌∙◌, arith}
 use Rattle.minix_layout.specs.Geometry.{IsSound}
 use Rattle.order_model.specs.Submission.{IsOrderClosed}
+use Rattle.order_model.specs.declared.completion.Completion.{Completion}
+use Rattle.order_model.specs.declared.request.Request.{Request}
 use Rattle.mount_make.specs.Images.{image_tree, mounted, divided, has_journal, recovered_image}
 use Rattle.minix_layout.specs.declared.division.Geometry.{Geometry}
 use Rattle.volume_ops.specs.Volume.{VolumeState}
@@ -15,6 +17,7 @@ use Rattle.crash_laws.specs.Session.{Medium}
 use Rattle.host_runs.specs.Runs.{Event}
 use Rattle.session_run.specs.Beginning.{WriteBytes}
 use Rattle.session_run.specs.End.{tree_behind}
+use Rattle.stack_core.specs.Headline.{KeepsOrder}
 use Rattle.call_images.specs.CallImages.{found_in, IsCut, made_session, submitted_by, kept_count, kept_tree, KeepsFiles, ShowsFiles}
 use Rattle.crash_laws.specs.Found.{IsFound}
 use Rattle.crash_laws.specs.Recovery.{IsRecovered}
@@ -28,24 +31,28 @@ use Rattle.session_core.specs.Report.{HasPrefix}
 use Rattle.session_core.specs.code.Ends.{KeepsTheOrder, IsBehind}
 use Rattle.session_core.specs.declared.report.SessionReport.{SessionReport}
 
--- the power cut left this medium
-abbrev pub cut_medium : SessionEnd → Medium
-cut_medium r = record { image = r.cut.image; origins = r.cut.origins }
+-- the power cut left this medium, whose blocks are these
+abbrev pub cut_medium : List (List ℕ) → SessionEnd → Medium
+cut_medium left r = record { image = left; origins = r.cut.origins }
 
-pub cut_is : (s : SessionScript) → IsWellFormed s → IsSound (geometry_of s) → WriteBytes s.programs → (end : EndState) (r : SessionEnd) → KeepsTheOrder s end r → (b : IsBehind s end)
-    → IsCut (geometry_of s) s.journal s.header.limit s.programs b.events (cut_medium r)
-cut_is s is sound bytes end r order b =
+pub cut_is : (s : SessionScript) → IsWellFormed s → IsSound (geometry_of s) → WriteBytes s.programs → (end : EndState) (r : SessionEnd) (left : List (List ℕ)) → left ≡ r.cut.image → KeepsTheOrder s end r → (b : IsBehind s end)
+    → IsCut (geometry_of s) s.journal s.header.limit s.programs b.events (cut_medium left r)
+cut_is s is sound bytes end r left same order b =
     let least = is.sizes.least_journal in
     let most = is.sizes.most_journal in
     let limit = is.header.limit in
-    record {
+    subst (λ (x : List (List ℕ)). IsCut (geometry_of s) s.journal s.header.limit s.programs b.events (cut_medium x r)) (sym same) (record {
       sound = sound;
       least = least;
       most = most;
       words = omega (arith, most, limit);
       bytes = bytes;
       order = subst (λ h. IsOrderClosed (opening_of s).image h.journal.flush.requests r.cut.image r.cut.origins) b.host order.closed;
-    }
+    })
+
+-- the order that is kept, said of the blocks that a report has
+pub report_keeps : (base : List (List ℕ)) (requests : List Request) (image left : List (List ℕ)) (origins : List (Option ℕ)) (sent : List Completion) → left ≡ image → KeepsOrder base requests image origins sent → KeepsOrder base requests left origins sent
+report_keeps base requests image left origins sent same order = subst (λ (x : List (List ℕ)). KeepsOrder base requests x origins sent) (sym same) order
 
 -- ---- what mounting asks for
 
@@ -60,7 +67,7 @@ journal_of g image copy base e zones is = ap (λ n. has_journal n copy) zones �
 
 -- ---- the prefix
 
-pub prefix_is : (s : SessionScript) (end : EndState) (r : SessionReport) (m : Medium) (h : Host VolumeNow Call Reply) → end.host ≡ h → m.image ≡ r.cut.image
+pub prefix_is : (s : SessionScript) (end : EndState) (r : SessionReport) (m : Medium) (h : Host VolumeNow Call Reply) → end.host ≡ h → m.image ≡ r.cut.image.items
     → r.found ≡ kept_count (geometry_of s) s.journal h m → (tree : Tree) × (image_tree m.image ≡ Ok tree) × AreAlike (kept_tree (geometry_of s) s.journal h m) tree → HasPrefix s end r
 prefix_is s end r m h host image count is = record {
   tree = is.0;

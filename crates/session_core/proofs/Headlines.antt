@@ -77,17 +77,17 @@ took n taken sent c front here = In-take n sent c (subst (In c) front here)
 -- transactions that were found
 abbrev pub IsShownAs : SessionScript → EndState → SessionReport → List Transaction → Type 0
 IsShownAs s end r closed =
-    KeepsFiles (geometry_of s) s.journal closed end.host (medium_of r) (disk_of (recovered_image r.cut.image)) → (tree : Tree) → image_tree r.cut.image ≡ Ok tree →
+    KeepsFiles (geometry_of s) s.journal closed end.host (medium_of r) (disk_of (recovered_image r.cut.image.items)) → (tree : Tree) → image_tree r.cut.image.items ≡ Ok tree →
     (alike : AreAlike (tree_behind (opening_of s) end.host r.found) tree) → ShowsFiles (geometry_of s) s.journal closed end.host (medium_of r) tree alike.to
 
 pub headline_of : (s : SessionScript) (end : EndState) (r : SessionReport) → HostFacts s end.host → ReportKeepsOrder s end r → EndFits end
     → r.cut.trace.sent.items ≡ end.dev.sent → r.found ≡ kept_count (geometry_of s) s.journal end.host (medium_of r)
     → IsFound (submitted_by (geometry_of s) s.journal [] end.host) (medium_of r) (kept_count (geometry_of s) s.journal end.host (medium_of r)) → HasPrefix s end r
-    → ((closed : List Transaction) → IsRecovered (submitted_by (geometry_of s) s.journal closed end.host) (medium_of r) (disk_of (recovered_image r.cut.image)))
+    → ((closed : List Transaction) → IsRecovered (submitted_by (geometry_of s) s.journal closed end.host) (medium_of r) (disk_of (recovered_image r.cut.image.items)))
     → ((closed : List Transaction) → IsShownAs s end r closed) → HeadlineOn s end r
 headline_of s end r facts order fits sent count found prefix recovered shows =
     let p = facts.promises in
-    let files = p.kept.sentences.prefix (medium_of r) (disk_of (recovered_image r.cut.image)) order.closed (recovered p.kept.closed) in
+    let files = p.kept.sentences.prefix (medium_of r) (disk_of (recovered_image r.cut.image.items)) order.closed (recovered p.kept.closed) in
     record {
       closed = p.kept.closed;
       notes = p.kept.rules.order.fits;

@@ -33,7 +33,7 @@ model_is_new s dev e = subst (λ (d : DeviceState). IsNewFor s (seen d)) (sym e)
 abbrev pub FollowFunction : SessionScript → Type 0
 FollowFunction s =
     (r : SessionReport) (has : HasAttempts epoch_machine (device_over s.header.depth) s r)
-    → (r.attempts.items ≡ attempts_of s.header.depth (geometry_of s).zones r.cut.image s.recovers) × (has.left ≡ image_after s.header.depth (geometry_of s).zones r.cut.image s.recovers)
+    → (r.attempts.items ≡ attempts_of s.header.depth (geometry_of s).zones r.cut.image.items s.recovers) × (has.left ≡ image_after s.header.depth (geometry_of s).zones r.cut.image.items s.recovers)
 
 core_report : (s : SessionScript) (r : SessionReport) → FollowFunction s → IsReportOf s (core s) r → HasAttempts epoch_machine (device_over s.header.depth) s r → IsCoreReport s r
 core_report s r law report has = record { report = report; attempts = (law r has).0; left = ap mounted (sym (law r has).1) ∙ has.mounts }

@@ -38,7 +38,7 @@ use Rattle.session_core.specs.declared.report.SessionReport.{SessionReport}
 
 -- what the power cut left
 abbrev pub medium_of : SessionReport → Medium
-medium_of r = record { image = r.cut.image; origins = r.cut.origins }
+medium_of r = record { image = r.cut.image.items; origins = r.cut.origins }
 
 -- what is told of the calls of a script's session that ended so, what its host submitted, and how many of its transactions a
 -- medium has
@@ -99,7 +99,7 @@ pub record HeadlineOn (s : SessionScript) (end : EndState) (r : SessionReport) :
   pub prefix : HasPrefix s end r
   -- The recovered disk has the metadata after them, and each block of a file in a version that is no older than the one
   -- which the last change of its file asks for.
-  pub files : KeepsFiles (geometry_of s) s.journal closed end.host (medium_of r) (disk_of (recovered_image r.cut.image))
+  pub files : KeepsFiles (geometry_of s) s.journal closed end.host (medium_of r) (disk_of (recovered_image r.cut.image.items))
   -- The tree that was recovered shows it: each block of a file in such a version, and all that survived.
   pub shown : ShowsFiles (geometry_of s) s.journal closed end.host (medium_of r) prefix.tree prefix.alike.to
   -- A barrier or sync call that was answered Ok: where a write made after a barrier call survived, all that the call covers

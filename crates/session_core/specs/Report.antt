@@ -20,31 +20,31 @@ pub record IsReportOf (s : SessionScript) (end : EndState) (r : SessionReport) :
   pub host : r.host.host ≡ end.host
   pub programs : r.host.programs ≡ s.programs
   pub sched : IsSchedRecord end.sched r.sched
-  pub image : r.cut.image ≡ end.dev.surface
+  pub image : r.cut.image.items ≡ end.dev.surface
   pub origins : r.cut.origins ≡ origin_ids end.dev.took end.dev.origins
   pub trace : IsTraceOf end.dev r.cut.trace
-  pub volume : mounted r.cut.image ≡ Ok r.volume
-  pub found : r.found ≡ found_in (geometry_of s).zones 1 r.cut.image
+  pub volume : mounted r.cut.image.items ≡ Ok r.volume
+  pub found : r.found ≡ found_in (geometry_of s).zones 1 r.cut.image.items
   pub standings : r.standings.items ≡ standings_of r.host (length s.programs)
 
 -- Its attempts of recovery are those that the script asks for, each on a fresh device, and the same volume is mounted behind
 -- them.
 abbrev pub HasAttempts : {S : Type 0} → Machine S → (List (List ℕ) → S) → SessionScript → SessionReport → Type 0
-HasAttempts m fresh s r = IsMountedBehind m fresh (geometry_of s).zones r.cut.image s.recovers r.attempts.items r.volume
+HasAttempts m fresh s r = IsMountedBehind m fresh (geometry_of s).zones r.cut.image.items s.recovers r.attempts.items r.volume
 
 -- the report of a script that ran on model devices
 pub record IsCoreReport (s : SessionScript) (r : SessionReport) : Type 0 where
   pub report : IsReportOf s (core s) r
-  pub attempts : r.attempts.items ≡ attempts_of s.header.depth (geometry_of s).zones r.cut.image s.recovers
-  pub left : mounted (image_after s.header.depth (geometry_of s).zones r.cut.image s.recovers) ≡ Ok r.volume
+  pub attempts : r.attempts.items ≡ attempts_of s.header.depth (geometry_of s).zones r.cut.image.items s.recovers
+  pub left : mounted (image_after s.header.depth (geometry_of s).zones r.cut.image.items s.recovers) ≡ Ok r.volume
 
 -- What the power cut left is order-closed for what the host submitted over the new volume and its journal, and where a
 -- flush completed, whether that was taken or not, all before it is kept.
 abbrev pub ReportKeepsOrder : SessionScript → EndState → SessionReport → Type 0
-ReportKeepsOrder s end r = KeepsOrder (opening_of s).image end.host.journal.flush.requests r.cut.image r.cut.origins (r.cut.trace.sent.items ++ end.dev.waiting)
+ReportKeepsOrder s end r = KeepsOrder (opening_of s).image end.host.journal.flush.requests r.cut.image.items r.cut.origins (r.cut.trace.sent.items ++ end.dev.waiting)
 
 -- The tree of what was recovered is alike to the one after the calls of the first transactions, as many as were found.
 pub record HasPrefix (s : SessionScript) (end : EndState) (r : SessionReport) : Type 0 where
   pub tree : Tree
-  pub found : image_tree r.cut.image ≡ Ok tree
+  pub found : image_tree r.cut.image.items ≡ Ok tree
   pub alike : AreAlike (tree_behind (opening_of s) end.host r.found) tree

@@ -12,5 +12,5 @@
 mod report;
 mod running;
 
-pub use report::SessionReport;
+pub use report::{CutRecord, SessionReport};
 pub use running::{core_run, run_on};

@@ -1,9 +1,19 @@
 //! What a session leaves.
+use blk_base::Block;
 use call_images::Attempt;
 use host_answers::Standing;
-use order_model::{CutDisk, SchedRecord};
+use order_model::{DeviceRecord, Origins, SchedRecord, Trail};
 use session_run::Host;
 use volume_ops::Volume;
+
+/// What the power cut left of a session's device. The image itself went into its recovery.
+#[derive(Drop)]
+pub struct CutRecord {
+    /// The blocks of the medium, for contracts alone.
+    pub image: Trail<Block>,
+    pub origins: Origins,
+    pub trace: DeviceRecord,
+}
 
 /// What a session left, and what recovery made of it.
 #[derive(Drop)]
@@ -12,7 +22,7 @@ pub struct SessionReport {
     /// What the scheduler accepted and sent out.
     pub sched: SchedRecord,
     /// What the power cut left.
-    pub cut: CutDisk,
+    pub cut: CutRecord,
     /// What is told of each attempt of recovery that was cut, in order.
     pub attempts: Vec<Attempt>,
     /// The volume that was mounted once recovery had run to its end.

@@ -9,7 +9,7 @@ ghost use Rattle.session_core.specs.Headline.{Headline, HeadlineOn};
 ghost use Rattle.session_core.specs.Report.{HasAttempts, IsCoreReport, IsReportOf};
 ghost use Rattle.session_core.specs.code.Ends.{IsNewScheduler, session_on, EndsIn, KeepsTheOrder, IsBehind, EndFits};
 
-use crate::report::SessionReport;
+use crate::report::{CutRecord, SessionReport};
 use barrier_reassign::Scheduler;
 use blk_base::{Image, NoMemory};
 use call_images::{
@@ -21,7 +21,7 @@ use device_epochs::{DeviceSetup, EpochDevice};
 use epoch_sched::Sched;
 use host_answers::Standing;
 use minix_layout::Geometry;
-use order_model::OrderedDev;
+use order_model::{CutDisk, OrderedDev, Trail};
 use sched_elevator::Elevator;
 use session_grammar::SessionScript;
 use session_machine::{hosts_of_sessions_take_their_steps, parts_of_sessions_fit};
@@ -163,7 +163,12 @@ fn run_opened<M: Maker>(
     histories_follow_the_tree();
     let SessionEnd { host, sched, cut } = run(alloc, script, host, dev)?;
     let standings = standings(alloc, &host, script.programs.len() as u32)?;
-    let image = cut.image.copy(alloc)?;
+    let CutDisk {
+        image,
+        origins,
+        trace,
+    } = cut;
+    let left = Trail::of_image(&image);
     let recovers = script.recovers.as_slice();
     let Remounted {
         attempts,
@@ -173,7 +178,11 @@ fn run_opened<M: Maker>(
     Ok(SessionReport {
         host,
         sched,
-        cut,
+        cut: CutRecord {
+            image: left,
+            origins,
+            trace,
+        },
         attempts,
         volume,
         found,

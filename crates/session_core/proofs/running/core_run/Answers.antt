@@ -12,7 +12,7 @@ run_opened-requires-clause-device c = model_is_new c.args.script.now c.in_ok-dev
 pub returns-clause-core : goal.returns-clause-core
 returns-clause-core c =
     let s = c.args.script.now in
-    let law : FollowFunction s = λ r has. c.attempts_on_model_devices.ensures s.header.depth (geometry_of s).zones r.cut.image s.recovers r.attempts.items has.left has.made in
+    let law : FollowFunction s = λ r has. c.attempts_on_model_devices.ensures s.header.depth (geometry_of s).zones r.cut.image.items s.recovers r.attempts.items has.left has.made in
     core_reports s c.run_opened.result c.in_ok-dev.dev c.in_ok-dev.ensures law c.run_opened.ensures.report
     (subst (λ (depth : ℕ). IfOk c.run_opened.result (HasAttempts epoch_machine (device_over depth) s)) c.make.ensures c.run_opened.ensures.attempts)
 

@@ -5,7 +5,7 @@ use Rattle.session_run.specs.Beginning.{made_now, made_ring}
 use Rattle.session_core.specs.Core.{geometry_of, opening_of}
 use Rattle.call_images.specs.CallImages.{kept_count}
 use Rattle.session_core.proofs.Made.{script_writes_bytes, sound_of}
-use Rattle.session_core.proofs.Cut.{cut_medium, cut_is, mounts_copy, base_of, journal_of, prefix_is, found_count, kept_of, recovered_of, shown_of}
+use Rattle.session_core.proofs.Cut.{cut_medium, cut_is, report_keeps, mounts_copy, base_of, journal_of, prefix_is, found_count, kept_of, recovered_of, shown_of}
 use Rattle.session_core.proofs.Headlines.{HostFacts, headline_of, script_has_no_renames}
 use Rattle.session_core.proofs.Remounts.{attempts_are}
 use Rattle.session_core.proofs.running.run_opened.Goals as goal
@@ -17,10 +17,12 @@ remount-requires-clause-mounts g c =
     let sound = sound_of c.make.result s.inodes s.zones c.make.ensures.sound c.make.ensures.made c.make.ensures.too_small is.sizes.some_data in
     let r = c.in_ok-host.field-0 in
     let b = c.in_ok-host.ensures.behind in
-    let m = cut_medium r in
+    let left = c.of_image-left.result.items in
+    let same = c.of_image-left.ensures in
+    let m = cut_medium left r in
     let bytes = script_writes_bytes s is c.calls_of_scripts_write_bytes.ensures in
-    let cut = cut_is s is sound bytes _ r c.in_ok-host.ensures.order b in
-    mounts_copy m.image c.in_ok-image.image c.in_ok-image.ensures (c.cut_sessions_mount.ensures.mounts (geometry_of s) s.journal s.header.limit s.programs b.events m cut)
+    let cut = cut_is s is sound bytes _ r left same c.in_ok-host.ensures.order b in
+    mounts_copy m.image r.cut.image (sym same) (c.cut_sessions_mount.ensures.mounts (geometry_of s) s.journal s.header.limit s.programs b.events m cut)
 
 pub remount-requires-clause-base : goal.remount-requires-clause-base
 remount-requires-clause-base g c =
@@ -29,10 +31,12 @@ remount-requires-clause-base g c =
     let sound = sound_of c.make.result s.inodes s.zones c.make.ensures.sound c.make.ensures.made c.make.ensures.too_small is.sizes.some_data in
     let r = c.in_ok-host.field-0 in
     let b = c.in_ok-host.ensures.behind in
-    let m = cut_medium r in
+    let left = c.of_image-left.result.items in
+    let same = c.of_image-left.ensures in
+    let m = cut_medium left r in
     let bytes = script_writes_bytes s is c.calls_of_scripts_write_bytes.ensures in
-    let cut = cut_is s is sound bytes _ r c.in_ok-host.ensures.order b in
-    base_of (geometry_of s) m.image c.in_ok-image.image c.into.result c.in_ok-image.ensures c.into.ensures (c.cut_sessions_mount.ensures.volume (geometry_of s) s.journal s.header.limit s.programs b.events m cut)
+    let cut = cut_is s is sound bytes _ r left same c.in_ok-host.ensures.order b in
+    base_of (geometry_of s) m.image r.cut.image c.into.result (sym same) c.into.ensures (c.cut_sessions_mount.ensures.volume (geometry_of s) s.journal s.header.limit s.programs b.events m cut)
 
 pub remount-requires-clause-journal : goal.remount-requires-clause-journal
 remount-requires-clause-journal g c =
@@ -41,10 +45,12 @@ remount-requires-clause-journal g c =
     let sound = sound_of c.make.result s.inodes s.zones c.make.ensures.sound c.make.ensures.made c.make.ensures.too_small is.sizes.some_data in
     let r = c.in_ok-host.field-0 in
     let b = c.in_ok-host.ensures.behind in
-    let m = cut_medium r in
+    let left = c.of_image-left.result.items in
+    let same = c.of_image-left.ensures in
+    let m = cut_medium left r in
     let bytes = script_writes_bytes s is c.calls_of_scripts_write_bytes.ensures in
-    let cut = cut_is s is sound bytes _ r c.in_ok-host.ensures.order b in
-    journal_of (geometry_of s) m.image c.in_ok-image.image c.into.result c.in_ok-image.ensures c.into.ensures (c.cut_sessions_mount.ensures.journal (geometry_of s) s.journal s.header.limit s.programs b.events m cut)
+    let cut = cut_is s is sound bytes _ r left same c.in_ok-host.ensures.order b in
+    journal_of (geometry_of s) m.image r.cut.image c.into.result (sym same) c.into.ensures (c.cut_sessions_mount.ensures.journal (geometry_of s) s.journal s.header.limit s.programs b.events m cut)
 
 pub returns-clause-headline : goal.returns-clause-headline
 returns-clause-headline g c =
@@ -53,9 +59,11 @@ returns-clause-headline g c =
     let sound = sound_of c.make.result s.inodes s.zones c.make.ensures.sound c.make.ensures.made c.make.ensures.too_small is.sizes.some_data in
     let r = c.in_ok-host.field-0 in
     let b = c.in_ok-host.ensures.behind in
-    let m = cut_medium r in
+    let left = c.of_image-left.result.items in
+    let same = c.of_image-left.ensures in
+    let m = cut_medium left r in
     let bytes = script_writes_bytes s is c.calls_of_scripts_write_bytes.ensures in
-    let cut = cut_is s is sound bytes _ r c.in_ok-host.ensures.order b in
+    let cut = cut_is s is sound bytes _ r left same c.in_ok-host.ensures.order b in
     let sizes = geometry_of s in
     let q = quota (new_journal s.journal) in
     let least = is.sizes.least_journal in
@@ -75,9 +83,9 @@ returns-clause-headline g c =
       follows = c.histories_follow_the_tree.ensures.follows o v ring n ps b.events journal.1 volume journal.0 bytes;
       legal = c.histories_follow_the_tree.ensures.legal o v ring n ps b.events journal.1 volume journal.0 bytes (script_has_no_renames s is);
     }) in
-    let count = found_count s c.in_ok-attempts.field-0.found m c.in_ok-image.image c.into.result b.events _ b.host c.in_ok-image.ensures c.into.ensures c.in_ok-attempts.ensures.found
+    let count = found_count s c.in_ok-attempts.field-0.found m r.cut.image c.into.result b.events _ b.host (sym same) c.into.ensures c.in_ok-attempts.ensures.found
     (c.cut_sessions_tell_how_many.ensures sizes s.journal n ps b.events m cut) in
-    headline_of s _ _ facts c.in_ok-host.ensures.order c.in_ok-host.ensures.fits c.in_ok-host.ensures.end.trace.sent count
+    headline_of s _ _ facts (report_keeps _ _ _ left _ _ same c.in_ok-host.ensures.order) c.in_ok-host.ensures.fits c.in_ok-host.ensures.end.trace.sent count
     (kept_of s m b.events _ b.host (c.cut_sessions_have_the_tree_of_a_prefix.ensures.transactions sizes s.journal n ps b.events m cut))
     (prefix_is s _ _ m _ b.host refl (count ∙ ap (λ h. kept_count sizes s.journal h m) b.host) (c.cut_sessions_have_the_tree_of_a_prefix.ensures.tree sizes s.journal n ps b.events m cut))
     (recovered_of s m b.events _ b.host (λ closed. c.cut_sessions_keep_files.ensures.recovered sizes s.journal n ps b.events m closed cut))
@@ -85,4 +93,4 @@ returns-clause-headline g c =
 
 pub returns-clause-attempts : goal.returns-clause-attempts
 returns-clause-attempts g c =
-    attempts_are _ _ c.args.script.now _ _ _ c.into.result c.in_ok-image.image _ c.into.ensures c.in_ok-image.ensures c.as_slice-recovers.ensures c.in_ok-attempts.ensures.attempts
+    attempts_are _ _ c.args.script.now _ _ _ c.into.result c.in_ok-host.field-0.cut.image _ c.into.ensures (sym c.of_image-left.ensures) c.as_slice-recovers.ensures c.in_ok-attempts.ensures.attempts
