@@ -8,7 +8,7 @@ ghost use Rattle.barrierfs_top.specs.declared.command_line.Task.{Task};
 
 use crate::command_line::Words;
 use crate::fault::TopFault;
-use crate::top::alone;
+use crate::top::{Outcome, alone};
 use blk_base::{NoMemory, Sink, Source, StdSink, StdSource};
 use std::alloc::Global;
 use std::process::ExitCode;
@@ -49,11 +49,18 @@ pub fn run_words<R: Source, W: Sink>(
     ensures status { result.status ≡ status_of result.fault }
     ensures did { DidSome words.now (stream_of R.left R.faults src.old src.new) (stream_of W.taken W.faults out.old out.new) result.reported result.fault }
 {
-    let outcome = alone(alloc, words, src, out);
+    let Outcome {
+        status,
+        fault,
+        report,
+    } = alone(alloc, words, src, out);
+    let reported = report.is_some();
+    // By a call: a drop that is written out in place is dear to prove.
+    drop(report);
     Ended {
-        status: outcome.status,
-        fault: outcome.fault,
-        reported: outcome.report.is_some(),
+        status,
+        fault,
+        reported,
     }
 }
 

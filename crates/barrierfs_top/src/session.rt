@@ -112,6 +112,9 @@ pub fn run_session_text(alloc: Global, bytes: &[u8]) -> Result<Printed, TopFault
             report: Some(RunReport::Session(report)),
             output: Output::Text(text),
         }),
-        Err(_) => Err(TopFault::NoMemory),
+        Err(_) => {
+            drop(report);
+            Err(TopFault::NoMemory)
+        }
     }
 }

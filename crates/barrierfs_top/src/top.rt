@@ -85,7 +85,10 @@ fn run_blocks_text(alloc: Global, bytes: &[u8]) -> Result<Printed, TopFault>
             report: Some(RunReport::Blocks(report)),
             output: Output::Text(text),
         }),
-        Err(_) => Err(TopFault::NoMemory),
+        Err(_) => {
+            drop(report);
+            Err(TopFault::NoMemory)
+        }
     }
 }
 

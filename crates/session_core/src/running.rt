@@ -13,9 +13,8 @@ use crate::report::{CutRecord, SessionReport};
 use barrier_reassign::Scheduler;
 use blk_base::{Image, NoMemory};
 use call_images::{
-    Remounted, attempts_on_model_devices, cut_sessions_have_the_tree_of_a_prefix,
-    cut_sessions_keep_files, cut_sessions_mount, cut_sessions_show_files,
-    cut_sessions_tell_how_many, remount,
+    attempts_on_model_devices, cut_sessions_have_the_tree_of_a_prefix, cut_sessions_keep_files,
+    cut_sessions_mount, cut_sessions_show_files, cut_sessions_tell_how_many, remount,
 };
 use device_epochs::{DeviceSetup, EpochDevice};
 use epoch_sched::Sched;
@@ -126,10 +125,19 @@ fn run<D: OrderedDev + Drop>(
     ensures calls { IfOk result (λ r. r.host.programs ≡ script.now.programs) }
 {
     let limit = script.header.limit;
+    // A host is let go by a call: a drop that is written out in place is dear to prove.
     if script.header.elevator {
-        run_scheduled(alloc, script, host, Elevator::make(alloc, limit)?, dev)
+        let Ok(sched) = Elevator::make(alloc, limit) else {
+            drop(host);
+            return Err(NoMemory);
+        };
+        run_scheduled(alloc, script, host, sched, dev)
     } else {
-        run_scheduled(alloc, script, host, Sched::make(alloc, limit)?, dev)
+        let Ok(sched) = Sched::make(alloc, limit) else {
+            drop(host);
+            return Err(NoMemory);
+        };
+        run_scheduled(alloc, script, host, sched, dev)
     }
 }
 
@@ -162,7 +170,11 @@ fn run_opened<M: Maker>(
     calls_end_for_a_cause();
     histories_follow_the_tree();
     let SessionEnd { host, sched, cut } = run(alloc, script, host, dev)?;
-    let standings = standings(alloc, &host, script.programs.len() as u32)?;
+    // By a call, as in `run`.
+    let Ok(standings) = standings(alloc, &host, script.programs.len() as u32) else {
+        drop(host);
+        return Err(NoMemory);
+    };
     let CutDisk {
         image,
         origins,
@@ -170,11 +182,10 @@ fn run_opened<M: Maker>(
     } = cut;
     let left = Trail::of_image(&image);
     let recovers = script.recovers.as_slice();
-    let Remounted {
-        attempts,
-        volume,
-        found,
-    } = remount(alloc, maker, script.zones.into(), 1, image, recovers)?;
+    let Ok(last) = remount(alloc, maker, script.zones.into(), 1, image, recovers) else {
+        drop(host);
+        return Err(NoMemory);
+    };
     Ok(SessionReport {
         host,
         sched,
@@ -183,9 +194,9 @@ fn run_opened<M: Maker>(
             origins,
             trace,
         },
-        attempts,
-        volume,
-        found,
+        attempts: last.attempts,
+        volume: last.volume,
+        found: last.found,
         standings,
     })
 }

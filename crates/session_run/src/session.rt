@@ -42,14 +42,21 @@ pub fn run_session<S: Scheduler + Drop, D: OrderedDev + Drop>(
     ensures order { (s : Opening) (b : Start) → IsMadeFor S.Scheduler D.OrderedDev s b host capacity threads (S.state sched) (D.state dev) →
         IfOk result (EndKeepsOrder (machine_of D.OrderedDev) s (core_session s S.steps (machine_of D.OrderedDev) b (S.state sched) (D.state dev) lines.now)) }
 {
-    let queues = SessionQueues::make(alloc, capacity)?;
+    // A host is let go by a call: a drop that is written out in place is dear to prove.
+    let Ok(queues) = SessionQueues::make(alloc, capacity) else {
+        drop(host);
+        return Err(NoMemory);
+    };
     let mut running = Running {
         host,
         queues,
         sched,
         dev,
     };
-    running.do_lines(alloc, threads, lines)?;
+    let Ok(()) = running.do_lines(alloc, threads, lines) else {
+        drop(running);
+        return Err(NoMemory);
+    };
     let Running {
         host,
         queues: _,

@@ -83,14 +83,14 @@ returns-clause-headline g c =
       follows = c.histories_follow_the_tree.ensures.follows o v ring n ps b.events journal.1 volume journal.0 bytes;
       legal = c.histories_follow_the_tree.ensures.legal o v ring n ps b.events journal.1 volume journal.0 bytes (script_has_no_renames s is);
     }) in
-    let count = found_count s c.in_ok-attempts.field-0.found m r.cut.image c.into.result b.events _ b.host (sym same) c.into.ensures c.in_ok-attempts.ensures.found
+    let count = found_count s c.in-Ok-remount.last.found m r.cut.image c.into.result b.events _ b.host (sym same) c.into.ensures c.in-Ok-remount.ensures.found
     (c.cut_sessions_tell_how_many.ensures sizes s.journal n ps b.events m cut) in
     headline_of s _ _ facts (report_keeps _ _ _ left _ _ same c.in_ok-host.ensures.order) c.in_ok-host.ensures.fits c.in_ok-host.ensures.end.trace.sent count
     (kept_of s m b.events _ b.host (c.cut_sessions_have_the_tree_of_a_prefix.ensures.transactions sizes s.journal n ps b.events m cut))
     (prefix_is s _ _ m _ b.host refl (count ∙ ap (λ h. kept_count sizes s.journal h m) b.host) (c.cut_sessions_have_the_tree_of_a_prefix.ensures.tree sizes s.journal n ps b.events m cut))
     (recovered_of s m b.events _ b.host (λ closed. c.cut_sessions_keep_files.ensures.recovered sizes s.journal n ps b.events m closed cut))
-    (shown_of s m b.events _ c.in_ok-attempts.field-0.found b.host count (λ closed tree kept is alike. c.cut_sessions_show_files.ensures sizes s.journal n ps b.events m closed tree cut kept is alike))
+    (shown_of s m b.events _ c.in-Ok-remount.last.found b.host count (λ closed tree kept is alike. c.cut_sessions_show_files.ensures sizes s.journal n ps b.events m closed tree cut kept is alike))
 
 pub returns-clause-attempts : goal.returns-clause-attempts
 returns-clause-attempts g c =
-    attempts_are _ _ c.args.script.now _ _ _ c.into.result c.in_ok-host.field-0.cut.image _ c.into.ensures (sym c.of_image-left.ensures) c.as_slice-recovers.ensures c.in_ok-attempts.ensures.attempts
+    attempts_are _ _ c.args.script.now _ _ _ c.into.result c.in_ok-host.field-0.cut.image _ c.into.ensures (sym c.of_image-left.ensures) c.as_slice-recovers.ensures c.in-Ok-remount.ensures.attempts
