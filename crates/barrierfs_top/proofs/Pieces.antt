@@ -19,12 +19,6 @@ concat_next xs k x e =
     let one : k + 1 ≡ suc k = omega arith in
     ap (λ (n : ℕ). concat (take n xs)) one ∙ next_at xs k x e
 
-pub concat_all : (xs : List (List ℕ)) (k : ℕ) → length xs ≤ k → concat (take k xs) ≡ concat xs
-concat_all [] zero few = refl
-concat_all [] (suc k) few = refl
-concat_all (x ∷ xs) zero few = absurd (omega (arith, few))
-concat_all (x ∷ xs) (suc k) few = ap (λ (zs : List ℕ). x ++ zs) (concat_all xs k (omega (arith, few)))
-
 split_at : (xs : List (List ℕ)) (k : ℕ) (x : List ℕ) → slice_get xs k ≡ Some x → (rest : List ℕ) × (concat xs ≡ concat (take k xs) ++ (x ++ rest))
 split_at [] k x e = absurd (none-some x e)
 split_at (y ∷ ys) zero x e = (concat ys, ap (λ (z : List ℕ). z ++ concat ys) (same_Some y x e))

@@ -27,14 +27,6 @@ wait_is (w ∷ ws) (suc t) d = wait_is ws t d
 -- ---- the cases of a step
 
 module _ (q : Bool) (j j2 : JournalPart) (ps : List CachedPage) (t : ℕ) (w : Wait) (b : Begun) (p : Progress) where
-  pub needs_durable : (id : ℕ) → w.need ≡ Some id → went_by b.list j2 p ≡ waits_durable j t w id → gone_by b.list j2 ps p ≡ goes_on q j ps t w b
-  needs_durable id need e =
-      ap (with_pages ps) e
-      ∙ sym (ap (λ (o : Option ℕ). elim o as (λ _. Gone) [
-        | Some id ↦ with_pages ps (waits_durable j t w id)
-        | None ↦ elim w.target as (λ _. Gone) [ Some k ↦ with_pages ps (waits_for_commit j t w k) | None ↦ walks q j ps t w b ]
-      ]) need)
-
   needs_none : w.need ≡ None → goes_on q j ps t w b ≡ elim w.target as (λ _. Gone) [ Some k ↦ with_pages ps (waits_for_commit j t w k) | None ↦ walks q j ps t w b ]
   needs_none need = ap (λ (o : Option ℕ). elim o as (λ _. Gone) [
     | Some id ↦ with_pages ps (waits_durable j t w id)

@@ -1,8 +1,8 @@
 -- Membership by cases on the list, what filters, maps and edits do to it, and the element at a place.
-use Rattle.std.specs.Prelude.{◌≡◌, ◌≢◌, ℕ, zero, suc, ◌+◌, ◌-◌, ◌<◌, ◌≤◌, Bool, true, false, cond, not, ◌==◌, List, [], ◌∷◌, ◌++◌, ◌⊎◌, ⊤, Some, None, length, map, slice_get, take, drop, replicate, refl}
+use Rattle.std.specs.Prelude.{◌≡◌, ◌≢◌, ℕ, zero, suc, ◌-◌, ◌<◌, ◌≤◌, Bool, true, false, not, ◌==◌, List, [], ◌∷◌, ◌++◌, ◌⊎◌, ⊤, Some, None, length, map, slice_get, take, replicate, refl}
 use Rattle.std.specs.List.{All, filter, list_any, list_all, remove}
 use Rattle.std.proofs.Common.{set, sym, ap, subst, ◌∙◌, inl, inr, ⊎_elim, arith}
-use Rattle.std.proofs.lemmas.Bool.{cases_Bool, false≢true, or_left, or_right, or_cases, and_from, and_parts, and_cases, or_parts, ne_eqb, eq-eqb}
+use Rattle.std.proofs.lemmas.Bool.{cases_Bool, false≢true, or_left, or_right, or_cases, and_from, and_parts, or_parts, ne_eqb, eq-eqb}
 use Rattle.std.proofs.lemmas.List.Elements.{All-head, All-tail, All-cons, All-nil}
 use Rattle.std.proofs.lemmas.Option.{none-some, same_Some}
 pub use Rattle.std.proofs.lemmas.Option.{slice_get-map}
@@ -112,14 +112,6 @@ list_all-In p [] h = refl
 list_all-In p (y ∷ ys) h =
     and_from (p y) (list_all p ys) (h y (inl refl)) (list_all-In p ys (λ x i. h x (inr i)))
 
-pub not_all : {X : Type 0} (p : X → Bool) (xs : List X) → list_all p xs ≡ false → (x : X) × In x xs × (p x ≡ false)
-not_all p [] f = absurd (false≢true (sym f))
-not_all p (y ∷ ys) f =
-    ⊎_elim
-    (λ n. (y, inl refl, n))
-    (λ r. let i = not_all p ys r in (i.0, inr i.1, i.2))
-    (and_cases (p y) (list_all p ys) f)
-
 -- std's `All`, by membership
 pub All-In : {X : Type 0} (P : X → Type 0) (xs : List X) (x : X) → All P xs → In x xs → P x
 All-In P [] x a h = absurd h
@@ -224,12 +216,6 @@ slice_get-take_out (suc n) [] i h = refl
 slice_get-take_out (suc n) (x ∷ xs) zero h = absurd (omega arith)
 slice_get-take_out (suc n) (x ∷ xs) (suc i) h = slice_get-take_out n xs i (omega arith)
 
-pub slice_get-drop : {X : Type 0} (n : ℕ) (xs : List X) (i : ℕ) → slice_get (drop n xs) i ≡ slice_get xs (n + i)
-slice_get-drop zero xs i = let e : 0 + i ≡ i = omega arith in rw e refl
-slice_get-drop (suc n) [] i = refl
-slice_get-drop (suc n) (x ∷ xs) i =
-    let e : suc n + i ≡ suc (n + i) = omega arith in rw e (slice_get-drop n xs i)
-
 pub slice_get-map_some : {X Y : Type 0} (f : X → Y) (xs : List X) (i : ℕ) (x : X) → slice_get xs i ≡ Some x → slice_get (map f xs) i ≡ Some (f x)
 slice_get-map_some f [] i x e = absurd (none-some x e)
 slice_get-map_some f (y ∷ ys) zero x e = ap Some (ap f (same_Some y x e))
@@ -259,13 +245,6 @@ In-remove (y ∷ ys) zero x h = inr h
 In-remove (y ∷ ys) (suc i) x (inl e) = inl e
 In-remove (y ∷ ys) (suc i) x (inr h) = inr (In-remove ys i x h)
 
-pub remove-In : {X : Type 0} (xs : List X) (i : ℕ) (x y : X) → In x xs → slice_get xs i ≡ Some y → (y ≡ x) ⊎ In x (remove xs i)
-remove-In [] i x y h e = absurd h
-remove-In (z ∷ zs) zero x y (inl q) e = inl (sym (same_Some z y e) ∙ q)
-remove-In (z ∷ zs) zero x y (inr h) e = inr h
-remove-In (z ∷ zs) (suc i) x y (inl q) e = inr (inl q)
-remove-In (z ∷ zs) (suc i) x y (inr h) e = ⊎_elim inl (λ r. inr (inr r)) (remove-In zs i x y h e)
-
 pub slice_get-remove_below : {X : Type 0} (xs : List X) (i j : ℕ) → j < i → slice_get (remove xs i) j ≡ slice_get xs j
 slice_get-remove_below [] zero j h = refl
 slice_get-remove_below [] (suc i) j h = refl
@@ -286,27 +265,11 @@ In-set_cases (z ∷ zs) zero y x (inr h) = inl (inr h)
 In-set_cases (z ∷ zs) (suc i) y x (inl e) = inl (inl e)
 In-set_cases (z ∷ zs) (suc i) y x (inr h) = ⊎_elim (λ l. inl (inr l)) inr (In-set_cases zs i y x h)
 
-pub In-set : {X : Type 0} (xs : List X) (i : ℕ) (y : X) → i < length xs → In y (set xs i y)
-In-set xs i y h = slice_get-In (set xs i y) i y (slice_get-set_same xs i y h)
-
--- what was there stays, but for what stood at the place
-pub set-In : {X : Type 0} (xs : List X) (i : ℕ) (y x z : X) → In x xs → slice_get xs i ≡ Some z → (z ≡ x) ⊎ In x (set xs i y)
-set-In [] i y x z h e = absurd h
-set-In (w ∷ ws) zero y x z (inl q) e = inl (sym (same_Some w z e) ∙ q)
-set-In (w ∷ ws) zero y x z (inr h) e = inr (inr h)
-set-In (w ∷ ws) (suc i) y x z (inl q) e = inr (inl q)
-set-In (w ∷ ws) (suc i) y x z (inr h) e = ⊎_elim inl (λ r. inr (inr r)) (set-In ws i y x z h e)
-
 pub In-take : {X : Type 0} (n : ℕ) (xs : List X) (x : X) → In x (take n xs) → In x xs
 In-take zero xs x h = absurd h
 In-take (suc n) [] x h = absurd h
 In-take (suc n) (y ∷ ys) x (inl e) = inl e
 In-take (suc n) (y ∷ ys) x (inr h) = inr (In-take n ys x h)
-
-pub In-drop : {X : Type 0} (n : ℕ) (xs : List X) (x : X) → In x (drop n xs) → In x xs
-In-drop zero xs x h = h
-In-drop (suc n) [] x h = absurd h
-In-drop (suc n) (y ∷ ys) x h = inr (In-drop n ys x h)
 
 -- what holds of each element holds after a push, a write, a removal, and at either of two lists
 pub each_push : {X : Type 0} (P : X → Type 0) (xs : List X) (y : X) → ((x : X) → In x xs → P x) → P y → (x : X) → In x (xs ++ y ∷ []) → P x
@@ -314,13 +277,6 @@ each_push P xs y h p x i = ⊎_elim (h x) (λ e. subst P e p) (In-push_cases xs 
 
 pub each_set : {X : Type 0} (P : X → Type 0) (xs : List X) (i : ℕ) (y : X) → ((x : X) → In x xs → P x) → P y → (x : X) → In x (set xs i y) → P x
 each_set P xs i y h p x k = ⊎_elim (h x) (λ e. subst P e p) (In-set_cases xs i y x k)
-
-pub each_remove : {X : Type 0} (P : X → Type 0) (xs : List X) (i : ℕ) → ((x : X) → In x xs → P x) → (x : X) → In x (remove xs i) → P x
-each_remove P xs i h x k = h x (In-remove xs i x k)
-
-pub each_cond : {X : Type 0} (P : X → Type 0) (b : Bool) (xs ys zs : List X) → zs ≡ cond b xs ys → ((x : X) → In x xs → P x) → ((x : X) → In x ys → P x) → (x : X) → In x zs → P x
-each_cond P true xs ys zs e h k x i = h x (subst (λ ws. In x ws) e i)
-each_cond P false xs ys zs e h k x i = k x (subst (λ ws. In x ws) e i)
 
 -- what a push adds and keeps, for `using`
 pub ruleset pushes = (In-push, In-push_left, In-push_cases)
@@ -355,19 +311,6 @@ IsAscending-remove key [] (suc i) a = tt
 IsAscending-remove key (x ∷ xs) zero a = a.1
 IsAscending-remove key (x ∷ xs) (suc i) a =
     (λ y h. a.0 y (In-remove xs i y h), IsAscending-remove key xs i a.1)
-
--- a write of an element with the same key
-pub IsAscending-set : {X : Type 0} (key : X → ℕ) (xs : List X) (i : ℕ) (x y : X) → IsAscending key xs → slice_get xs i ≡ Some x → key y ≡ key x → IsAscending key (set xs i y)
-IsAscending-set key [] i x y a e k = tt
-IsAscending-set key (z ∷ zs) zero x y a e k =
-    (λ w h. let lt = a.0 w h in let q = ap key (same_Some z x e) in omega (arith, lt, q, k), a.1)
-IsAscending-set key (z ∷ zs) (suc i) x y a e k = (
-  λ w h.
-      ⊎_elim (λ l. a.0 w l)
-      (λ q. let lt = a.0 x (slice_get-In zs i x e) in let r = ap key q in omega (arith, lt, r, k))
-      (In-set_cases zs i y w h),
-  IsAscending-set key zs i x y a.1 e k,
-)
 
 -- a lower place has a lower key
 pub IsAscending-places : {X : Type 0} (key : X → ℕ) (xs : List X) (i j : ℕ) (x y : X) → IsAscending key xs → i < j → slice_get xs i ≡ Some x → slice_get xs j ≡ Some y → key x < key y

@@ -1,12 +1,11 @@
 -- What a volume says of a call is what the host asks.
 use Rattle.std.specs.List.{count_by}
-use Rattle.std.proofs.Common.{◌≡◌, ℕ, ◌+◌, ◌==◌, Bool, true, false, cond, if◌then◌else◌, List, [], ◌∷◌, length, Option, Some, None, Result, Ok, Err, refl, sym, ap, ◌∙◌, arith}
-use Rattle.std.specs.Prelude.{unwrap_or}
+use Rattle.std.proofs.Common.{◌≡◌, ℕ, ◌+◌, ◌==◌, Bool, true, false, cond, if◌then◌else◌, List, [], ◌∷◌, length, Option, Some, None, Ok, Err, refl, sym, ap, ◌∙◌, arith}
 use Rattle.std.proofs.lemmas.List.Sums.{sum_by-cons}
 use Rattle.tree_model.specs.declared.call.Call.{Call}
 use Rattle.tree_model.specs.declared.call.Reply.{Reply}
 use Rattle.tree_model.specs.declared.call.Reply.TheVariants as replies
-use Rattle.tree_model.specs.Calls.{Tree, Row, Found, walk_path, outcome, needs}
+use Rattle.tree_model.specs.Calls.{Row, outcome, needs}
 use Rattle.tree_model.specs.Histories.{is_found_at}
 use Rattle.tree_model.specs.Plain.{AreBornBefore}
 use Rattle.zone_maps.specs.declared.zone_state.ZoneState.{ZoneState}
@@ -15,10 +14,9 @@ use Rattle.zone_maps.specs.Zones.{is_free}
 use Rattle.volume_steps.specs.Now.{VolumeNow, tree_of_now, room_of}
 use Rattle.volume_steps.specs.Plain.{is_rename}
 use Rattle.volume_calls.specs.Asked.{Answers}
-use Rattle.volume_calls.specs.Births.{birth_in}
 use Rattle.volume_calls.specs.declared.answer.Answer.{Answer}
 use Rattle.volume_calls.specs.declared.answer.Answer.TheVariants.{Refused, Change}
-use Rattle.host_volume.specs.Calls.{refused_by, refusal, needed, birth_on, names_one}
+use Rattle.host_volume.specs.Calls.{refused_by, refusal, needed, names_one}
 use Rattle.host_volume.specs.Numbers.{next_birth, decided}
 use Rattle.host_volume.specs.Volumes.{free_from, zones_of}
 use Rattle.host_volume.specs.laws.Numbers.{born_before_next}
@@ -50,15 +48,6 @@ renamed_as v c is =
 pub needed_as : (v : VolumeNow) (c : Call) (n : ℕ) → ((m : ℕ) → AreBornBefore m (tree_of_now v) → n ≡ needs (tree_of_now v) m c) → n ≡ needed v c
 unfolding needed
 needed_as v c n h = h (next_birth (tree_of_now v)) (born_before_next (tree_of_now v))
-
--- ---- paths
-
-pub birth_is : (tree : Tree) (path : List ℕ) → unwrap_or (birth_in tree path) 0 ≡ birth_on tree path
-birth_is tree path = by (walk_path tree path)
-  where
-    by : (r : Result Found Reply) → unwrap_or (elim r as (λ _. Option ℕ) [ Err reply ↦ None | Ok found ↦ Some found.birth ]) 0 ≡ elim r as (λ _. ℕ) [ Err reply ↦ 0 | Ok found ↦ found.birth ]
-    by (Err reply) = refl
-    by (Ok found) = refl
 
 -- ---- free zones
 

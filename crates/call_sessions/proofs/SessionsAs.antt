@@ -55,9 +55,6 @@ module _ (s : Opening) (h : Host VolumeNow ByteCall Reply) where
   trees_as : (n : ℕ) → tree_after (call_over s).model (plain_host h).history n ≡ tree_after (over s).model h.history n
   trees_as n = tree_as plain_call (call_over s).model h.history n
 
-  counted : (plain_host h).history ≡ map (entry_as plain_call) h.history
-  counted = refl
-
   entries : length (plain_host h).history ≡ length h.history
   entries = length-map h.history (entry_as plain_call)
 

@@ -1,9 +1,7 @@
 -- What calls of the host leave.
-use Rattle.std.proofs.Common.{◌≡◌, ℕ, ◌+◌, ◌<◌, ◌≤◌, Bool, true, false, List, [], ◌∷◌, length, length-append, Option, Some, None, if◌then◌else◌, refl, sym, ap, subst, ◌∙◌, ⊎_elim, arith}
+use Rattle.std.proofs.Common.{◌≡◌, ℕ, ◌+◌, ◌<◌, ◌≤◌, Bool, true, false, List, length, length-append, Option, Some, None, if◌then◌else◌, refl, sym, ap, subst, ◌∙◌, ⊎_elim, arith}
 use Rattle.std.proofs.lemmas.Bool.{leb-false}
 use Rattle.order_model.specs.declared.completion.Completion.{Completion}
-use Rattle.order_model.specs.declared.note.Note.{Note}
-use Rattle.order_model.specs.declared.request.Request.{Request}
 use Rattle.order_model.specs.declared.turn.Turn.{Turn}
 use Rattle.order_model.specs.declared.turn.Turn.TheVariants as turns
 use Rattle.blk_base.specs.Members.{In}
@@ -14,9 +12,8 @@ use Rattle.journal_ring.specs.Journal.{JournalRing}
 use Rattle.journal_ring.specs.LogRing.{LogRing}
 use Rattle.tx_running.specs.Open.{OpenTransaction}
 use Rattle.flush_actor.specs.Actor.{FlushActor, with_part}
-use Rattle.flush_actor.specs.Outcomes.{is_did}
-use Rattle.flush_actor.specs.Part.{FlushPart, at_limit, submit}
-use Rattle.flush_actor.specs.Steps.{FlushTurn, after_submit, submits, submit_flush, take_completion, flush_due, flush_turn}
+use Rattle.flush_actor.specs.Part.{FlushPart, at_limit}
+use Rattle.flush_actor.specs.Steps.{FlushTurn, submits, submit_flush, take_completion, flush_due, flush_turn}
 use Rattle.commit_actor.specs.Actor.{LogState}
 use Rattle.commit_actor.specs.code.Fields.{IsLog, IsAtRest, IsInPhase}
 use Rattle.commit_actor.specs.declared.phase.Phase.{Phase}
@@ -63,13 +60,6 @@ step_keeps f new t full next e blocks few =
 
 pub step_more : (f new : FlushPart) (t : Turn) (full : Bool) (next : Option Completion) → record { part = new; turn = t } ≡ flush_turn full next f → length f.requests ≤ length new.requests
 step_more f new t full next e = (subst (Grows f) (sym (ap (λ (x : FlushTurn). x.part) e)) (step_grows full next f)).1
-
-pub submit_more : (f : FlushPart) (t : Turn) (r : Request) (n : Note) → length f.requests ≤ length (after_submit t r n f).requests
-submit_more f t r n = by (is_did t)
-  where
-    by : (b : Bool) → length f.requests ≤ length (if b then submit r n f else f).requests
-    by true = (let size = length-append f.requests (r ∷ []) in omega (arith, size))
-    by false = omega arith
 
 -- ---- the running transaction
 

@@ -1,7 +1,6 @@
 -- What holds of the log while requests are submitted.
 use Rattle.std.proofs.Common.{◌≡◌, ℕ, ◌+◌, ◌<◌, ◌≤◌, ◌==◌, ◌^◌, ◌&&◌, ◌||◌, Bool, true, false, List, [], ◌∷◌, ◌++◌, length, length-append, map, drop, get_or, nat_lt, nat_le, if◌then◌else◌, refl, sym, ap, subst, ◌∙◌, arith}
 use Rattle.std.proofs.lemmas.Bool.{false≢true, leb-false, ltb-false, ltb-true, and_parts}
-use Rattle.std.proofs.lemmas.List.{drop_more}
 use Rattle.std.proofs.lemmas.Option.{slice_get-get_or}
 use Rattle.order_model.specs.declared.note.Note.{Note}
 use Rattle.order_model.specs.declared.request.Request.{Request}
@@ -16,7 +15,7 @@ use Rattle.conflict_pages.specs.Conflicts.{Conflicts, hold}
 use Rattle.journal_blocks.specs.Super.{IsSound}
 use Rattle.journal_ring.specs.Journal as ring
 use Rattle.journal_ring.specs.Journal.{JournalRing, with_ring}
-use Rattle.journal_ring.specs.LogRing.{LogRing, ring_free, place_blocks}
+use Rattle.journal_ring.specs.LogRing.{ring_free, place_blocks}
 use Rattle.tx_running.specs.Closing.{logged_of}
 use Rattle.tx_running.specs.Open as transaction
 use Rattle.tx_running.specs.Open.{OpenTransaction, with_running}
@@ -86,14 +85,6 @@ log_kept f new r now t j l k s =
 pub same_ring : (r : JournalRing) → IsSameRing r r
 same_ring r = record { made_with = refl; limit = refl; places = refl; head = refl }
 
-pub same_but_ring : (r now : JournalRing) (x : LogRing) → now ≡ record { made_with = r.made_with; limit = r.limit; committed = now.committed; ring = x } → x.places ≡ r.ring.places → x.head ≡ r.ring.head → IsSameRing r now
-same_but_ring r now x e p h = record {
-  made_with = ap (λ (y : JournalRing). y.made_with) e;
-  limit = ap (λ (y : JournalRing). y.limit) e;
-  places = ap (λ (y : JournalRing). y.ring.places) e ∙ p;
-  head = ap (λ (y : JournalRing). y.ring.head) e ∙ h;
-}
-
 -- ---- blocks that are held
 
 abbrev block_of : Logged → ℕ
@@ -101,12 +92,6 @@ block_of l = l.block
 
 abbrev pub HoldsLeft : ℕ → FlushActor → FlushActor → List Logged → ℕ → Type 0
 HoldsLeft tx old now bodies at = with_conflicts now (hold tx (map block_of (drop at bodies)) now.part.conflicts) ≡ with_conflicts old (hold tx (map block_of bodies) old.part.conflicts)
-
-pub holds_more : (tx : ℕ) (old now new : FlushActor) (bodies : List Logged) (at : ℕ) (d : Logged) → HoldsLeft tx old now bodies at → at < length bodies
-    → new ≡ with_conflicts now (hold tx (block_of (get_or bodies at d) ∷ []) now.part.conflicts) → HoldsLeft tx old new bodies (at + 1)
-holds_more tx old now new bodies at d h inside e =
-    subst (λ x. HoldsLeft tx old x bodies (at + 1)) (sym e)
-    (ap (λ (l : List Logged). with_conflicts now (hold tx (map block_of l) now.part.conflicts)) (sym (drop_more bodies at d inside)) ∙ h)
 
 pub held_inside : (old now : FlushActor) (bodies : List Logged) (tx at : ℕ) (d : Logged) → ((l : Logged) → In l bodies → l.block < old.blocks) → HoldsLeft tx old now bodies at → at < length bodies → block_of (get_or bodies at d) < now.blocks
 held_inside old now bodies tx at d h left inside =

@@ -1,5 +1,5 @@
 -- What the steps answer, and what they leave.
-use Rattle.std.proofs.Common.{◌≡◌, ℕ, zero, suc, ◌+◌, ◌-◌, ◌≤◌, Bool, true, false, not, List, [], ◌∷◌, ◌++◌, length, length-append, drop, map, Some, None, if◌then◌else◌, refl, sym, ap, subst, ◌∙◌, arith}
+use Rattle.std.proofs.Common.{◌≡◌, ℕ, zero, suc, ◌+◌, ◌-◌, ◌≤◌, Bool, true, false, not, List, [], ◌∷◌, ◌++◌, length, length-append, drop, map, Some, if◌then◌else◌, refl, sym, ap, subst, ◌∙◌, arith}
 use Rattle.std.specs.List.{filter}
 use Rattle.std.proofs.lemmas.Bool.{false≢true}
 use Rattle.std.proofs.lemmas.List.{length-map}
@@ -18,7 +18,7 @@ use Rattle.tx_running.specs.Closing.{unplaced_blocks}
 use Rattle.tx_running.specs.Plan.{Writers, Planned, placed, chunks_from, chunks, described, all_described, body_block, revoke_block, commit_block, logged_blocks}
 use Rattle.tx_running.specs.declared.pieces.UnplacedBlock.{UnplacedBlock}
 use Rattle.flush_actor.specs.Outcomes.{is_did, is_queue_full}
-use Rattle.flush_actor.specs.Part.{FlushPart, at_limit}
+use Rattle.flush_actor.specs.Part.{at_limit}
 use Rattle.flush_actor.specs.Steps.{submit_turn}
 use Rattle.commit_actor.specs.Actor.{LogState, part_of, with_parts}
 use Rattle.commit_actor.specs.Journal.{Plan, Closing, Committing, JournalPart}
@@ -33,15 +33,6 @@ turned j ps t = record { part = j; pages = ps; turn = t }
 
 -- ---- a step that submits
 
-pub submits_refused : (t : Turn) (j out : JournalPart) (ps outs : List CachedPage) → t ≡ submit_turn (is_queue_full t) j.flush → is_did t ≡ false → turned j ps t ≡ submits (is_queue_full t) j ps out outs
-submits_refused t j out ps outs e d = by (at_limit j.flush) (is_queue_full t) refl e
-  where
-    by : (b q : Bool) → is_queue_full t ≡ q → t ≡ (if b then turns.SessionFull else if q then turns.QueueFull else turns.Did)
-        → turned j ps t ≡ (if b then turned j ps turns.SessionFull else if q then turned j ps turns.QueueFull else did out outs)
-    by true q f s = ap (turned j ps) s
-    by false true f s = ap (turned j ps) s
-    by false false f s = absurd (false≢true (sym d ∙ ap is_did s))
-
 pub submits_did : (t : Turn) (j out : JournalPart) (ps outs : List CachedPage) → t ≡ submit_turn (is_queue_full t) j.flush → is_did t ≡ true → turned out outs t ≡ submits (is_queue_full t) j ps out outs
 submits_did t j out ps outs e d = by (at_limit j.flush) (is_queue_full t) refl e
   where
@@ -52,13 +43,6 @@ submits_did t j out ps outs e d = by (at_limit j.flush) (is_queue_full t) refl e
     by false false f s = ap (turned out outs) s
 
 -- ---- a request of a plan
-
-pub plan_idle : (full : Bool) (j : JournalPart) (ps : List CachedPage) (p : Plan) → first_planned p.rest ≡ None → turned j ps turns.Idle ≡ plan_turn full j ps p
-plan_idle full j ps p e = by p.rest e
-  where
-    by : (rest : List Planned) → first_planned rest ≡ None → turned j ps turns.Idle ≡ (elim rest as (λ _. CommitTurn) [ [] ↦ idle j ps | first ∷ rest ↦ submits full j ps (plan_sent j p first rest) ps ])
-    by [] d = refl
-    by (x ∷ xs) d = absurd (none-some x (sym d))
 
 pub plan_next : (full : Bool) (j : JournalPart) (ps : List CachedPage) (p : Plan) (x : Planned) → first_planned p.rest ≡ Some x → submits full j ps (plan_sent j p x (drop 1 p.rest)) ps ≡ plan_turn full j ps p
 plan_next full j ps p x e = by p.rest e
@@ -119,16 +103,6 @@ last_sent r s new e some none = by s.super_left s.pieces refl some (sym (ap (λ 
     by true ps is h n = absurd (omega (arith, h, n))
     by false [] is h n = absurd (omega (arith, h))
     by false (x ∷ ps) is h n = (is, omega (arith, n))
-
-pub none_left : (journal : ℕ) (made_with : JournalSuper) (r : Ring) (s : Sending) (j : JournalPart) → s.super_left ≡ false → length s.pieces ≡ 1
-    → committed j (j.running.number - 1) (length j.flush.requests - 1) (plan_left journal made_with r s) ≡ planned_done j (plan_left journal made_with r s) (rest_of journal made_with r s)
-none_left journal made_with r s j e one = rw e (by s.pieces one)
-  where
-    by : (ps : List UnplacedBlock) → length ps ≡ 1
-        → committed j (j.running.number - 1) (length j.flush.requests - 1) (plan_left journal made_with r s) ≡ planned_done j (plan_left journal made_with r s) (with_barriers (placed journal r s.place ps))
-    by [] h = absurd (omega (arith, h))
-    by (x ∷ []) h = refl
-    by (x ∷ y ∷ ps) h = absurd (omega (arith, h))
 
 -- ---- bodies that wait
 
@@ -199,13 +173,3 @@ pieces_enough w k sequence bodies pairs revokes pieces same e =
     let front = length-append (map (revoke_block w k sequence) (chunks 252 revokes)) blocks in
     let whole = length-append (logged_blocks w k sequence bodies revokes) (commit_block w k sequence ∷ []) in
     omega (arith, size, pieces_size, most, front, whole)
-
--- ---- want of memory
-
-pub submits_no_memory : (t : Turn) (q : Bool) (f : FlushPart) → t ≡ submit_turn q f → t ≡ turns.NoMemory → ⊥
-submits_no_memory t q f e n = by (at_limit f) q (sym e ∙ n)
-  where
-    by : (b q : Bool) → (if b then turns.SessionFull else if q then turns.QueueFull else turns.Did) ≡ turns.NoMemory → ⊥
-    by true q d = cc
-    by false true d = cc
-    by false false d = cc

@@ -6,7 +6,7 @@ use Rattle.blk_base.specs.Members.{In, slice_get-length}
 use Rattle.order_model.specs.declared.completion.Completion.{Completion}
 use Rattle.order_model.specs.declared.completion.Completion.TheVariants.{Flushed}
 use Rattle.order_model.specs.declared.note.Note.TheVariants.{Page, Commit}
-use Rattle.crash_laws.specs.CallFacts.{IsSent, IsDone, IsUnchangedSince, IsGoodFor}
+use Rattle.crash_laws.specs.CallFacts.{IsDone, IsUnchangedSince, IsGoodFor}
 use Rattle.crash_laws.specs.History.{History, Calm, HasTrees}
 use Rattle.crash_laws.specs.PromiseRules.{AreHeld, KeepsSync}
 use Rattle.crash_laws.specs.Session.{Session, HasNote, IsCommit}
@@ -75,16 +75,6 @@ module _ {A : Type 0} {h : History A} (p : Submitting) where
         mapped = c.mapped;
         calm = c.calm;
       })
-
-  pub sent_pushed : (f i n : ℕ) → IsSent h p.session (λ o. Unit {0}) f i n → IsSent h (after p) (λ o. Unit {0}) f i n
-  sent_pushed f i n c = record {
-    place = c.place;
-    version = c.version;
-    note = note_old p c.place (Page f i c.version) c.note;
-    ordered = ordered_old p.session.requests p.request c.place c.ordered;
-    good = tt;
-    later = c.later;
-  }
 
 -- a good request of one kind is one of another
 pub good_for : {A : Type 0} (h : History A) (s : Session) (Good Other : ℕ → Type 0) (K f i n : ℕ) → ((o : ℕ) → Good o → Other o) → IsGoodFor h s Good K f i n → IsGoodFor h s Other K f i n

@@ -15,8 +15,6 @@ use Rattle.crash_laws.specs.Rules.{FitsNotes, CommitOrder, is_page_or_flush}
 use Rattle.crash_laws.specs.Session.{Session, Medium, HasNote, log_transaction, IsLog, IsCommit, CommitBefore}
 use Rattle.crash_laws.proofs.Ordering.{barrier_before_kept}
 
--- ---- counting
-
 -- ---- the test says what is kept
 
 kept_block : (requests : List Request) (origins : List (Option ℕ)) (i : ℕ) (b : Option ℕ) → option_and_then (λ (r : Request). kind_block r.kind) (slice_get requests i) ≡ b
@@ -108,10 +106,6 @@ module _ {s : Session} (order : CommitOrder s) where
       let same = order.once j c b.0 hj b.1 in
       let at = b.2 in
       omega arith
-
-  pub commits_apart : (j k c i : ℕ) → IsCommit s j c → IsCommit s k i → c < i → j < k
-  commits_apart j k c i hj hk lt =
-      ⊎_elim (λ less. less) (λ le. let back = commits_rise k j i c hk hj le in absurd (omega arith)) (cases_lt j k)
 
 -- ---- which of them are kept
 
@@ -235,9 +229,3 @@ module _ {s : Session} {m : Medium} (closed : IsOrderClosed s.base s.requests m.
   pub reached_by_kept : (k j : ℕ) → CommitBefore s k j → IsKept s.requests m.origins j → k ≤ F
   reached_by_kept k j c kept =
       is_found.reached k c.0 c.1 (commit_before_kept closed fits order k c.0 j c.1 c.2 kept)
-
-  -- of the transactions up to F each commit block is kept
-  pub kept_up_to : (k i : ℕ) → IsCommit s k i → k ≤ F → IsKept s.requests m.origins i
-  kept_up_to k i h le =
-      let t = is_found.there k (commit_positive order k i h) le in
-      subst (IsKept s.requests m.origins) (order.once k t.0 i t.1 h) t.2

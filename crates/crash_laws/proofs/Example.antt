@@ -11,7 +11,6 @@ use Rattle.log_model.specs.Log.{Commits}
 use Rattle.log_model.specs.Marks.{Keep, Set, followed, mark_in, transactions_from}
 use Rattle.log_model.proofs.Marks.{keep≢set, mark_in-append}
 use Rattle.crash_laws.specs.Clauses.{OrderClause}
-use Rattle.crash_laws.specs.Ordering.{IsClosedOff}
 use Rattle.crash_laws.specs.Rules.{OrderRules, BaseImage}
 use Rattle.crash_laws.specs.Session.{Session, IsLog, LogBlock, IsSuperOf}
 use Rattle.crash_laws.specs.Submitting.{IsCommitted}
@@ -57,10 +56,6 @@ commit_listed (Commit l ∷ ns) k zero e = inl (same_commit l k (same_Some (Comm
 commit_listed (Commit l ∷ ns) k (suc i) e = inr (commit_listed ns k i e)
 commit_listed (n ∷ ns) k zero e = absurd (let f : ⊥ = cc in f)
 commit_listed (n ∷ ns) k (suc i) e = commit_listed ns k i e
-
--- among few requests, the last of which is a barrier, each is closed off
-closed_by : (n i : ℕ) → i < suc n → IsClosedOff (with_first (suc n)).requests n → IsClosedOff (with_first (suc n)).requests i
-closed_by n i lt c = let lo = c.1 in (c.0, omega arith, c.2)
 
 -- block 1 alone is logged
 one_block : (here : Bool) (b : ℕ) (x y : List ℕ) → (1 == b) ≡ here → (if here then Set y else Keep) ≡ Set x → (b ≡ 1) × (y ≡ x)

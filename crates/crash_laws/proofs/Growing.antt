@@ -70,9 +70,6 @@ module _ (p : Submitting) where
   pub log_within : (k i : ℕ) → IsLog p.session k i → i < new_place p
   log_within k i h = some_within p.session.notes i log_transaction k h
 
-  pub log_old : (k i : ℕ) → IsLog p.session k i → IsLog (after p) k i
-  log_old k i h = fact_old p.session.notes p.note i (λ o. option_and_then log_transaction o ≡ Some k) (log_within k i h) h
-
   pub log_cases : (k i : ℕ) → IsLog (after p) k i → IsLog p.session k i ⊎ ((i ≡ new_place p) × (log_transaction p.note ≡ Some k))
   log_cases k i h =
       let lt = some_within (p.session.notes ++ p.note ∷ []) i log_transaction k h in

@@ -24,14 +24,8 @@ use Rattle.crash_laws.proofs.LogSteps.{committed_transactions}
 other_notes : (f i v k : ℕ) → Page f i v ≡ Commit k → ⊥
 other_notes f i v k e = cc
 
-home_page : (f i v b : ℕ) → Page f i v ≡ Home b → ⊥
-home_page f i v b e = cc
-
 home_commit : (k b : ℕ) → Home b ≡ Commit k → ⊥
 home_commit k b e = cc
-
-same_page_fields : (f i v g j w : ℕ) → Page f i v ≡ Page g j w → (f ≡ g) × (i ≡ j) × (v ≡ w)
-same_page_fields f i v g j w e = (cc, cc, cc)
 
 -- ---- requests fit their notes
 

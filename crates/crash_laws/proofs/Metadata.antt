@@ -19,9 +19,6 @@ use Rattle.crash_laws.proofs.Ordering.{same_block, same_body, before_kept_is_kep
 use Rattle.crash_laws.proofs.Origins.{put_of_volume}
 
 module _ {A : Type 0} {program : Reads A} {s : Session} {m : Medium} {F : ℕ} (rules : OrderRules program s) (closed : IsOrderClosed s.base s.requests m.image m.origins) (is_found : IsFound s m F) where
-  mark_to : ℕ → ℕ → Mark
-  mark_to k b = mark_in (transactions_from s.transactions 1 k) b
-
   reached : (k j : ℕ) → CommitBefore s k j → IsKept s.requests m.origins j → k ≤ F
   reached k j c kept = reached_by_kept closed rules.fits rules.commits is_found k j c kept
 

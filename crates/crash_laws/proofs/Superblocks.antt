@@ -20,9 +20,6 @@ use Rattle.crash_laws.proofs.Commits.{log_note, log_is_firm, commit_below, reach
 use Rattle.crash_laws.proofs.Ordering.{same_block, same_origin, before_kept_is_kept, barrier_before_kept, origin_is_kept, origin_of_kept, body_of_origin, origin_or_base}
 use Rattle.crash_laws.proofs.Origins.{put_of_journal, put_of_log}
 
-same_tail : (a b c d : ℕ) → ◌≡◌ {A = Tail} (record { sequence = a; start = c }) (record { sequence = b; start = d }) → a ≡ b
-same_tail a b c d e = ap (λ (t : Tail). t.sequence) e
-
 -- a superblock has one tail
 pub one_tail : (s : Session) (i freed other : ℕ) → IsSuperOf s i freed → IsSuperOf s i other → freed ≡ other
 one_tail s i freed other h g =

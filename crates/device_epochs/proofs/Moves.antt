@@ -31,7 +31,7 @@ use Rattle.device_epochs.specs.laws.EpochLaws.{flush-ordered, waiting-taken, ord
 use Rattle.device_epochs.specs.laws.StepLaws.{transferable-waits, tried-fails, tried-moves, persistable-In}
 use Rattle.device_epochs.specs.laws.PendingLaws.{numbered, pending-is, none-pending, queue-facts, faults-lt}
 use Rattle.device_epochs.specs.laws.PendingLaws as pending
-use Rattle.device_epochs.specs.laws.BoundLaws.{all_parts-le, moved-fits, cache-fits, completions-fit, failures-fit, steps-lt_transferable, steps-lt_persistable, epoch-le, sent-le_untold}
+use Rattle.device_epochs.specs.laws.BoundLaws.{all_parts-le, moved-fits, cache-fits, completions-fit, failures-fit, steps-lt_transferable, steps-lt_persistable, epoch-le}
 use Rattle.device_epochs.specs.laws.ReachableLaws.{transferred-valid, written-valid}
 use Rattle.device_epochs.proofs.Searches.{filter_none}
 
@@ -134,10 +134,6 @@ pub picked_none : (o : Option Waiting) → None ≡ option_map (λ (w : Waiting)
 picked_none None e = refl
 picked_none (Some w) e = absurd (none-some w.number e)
 
-pub picked_some : (o : Option Waiting) (n : ℕ) → Some n ≡ option_map (λ (w : Waiting). w.number) o → None ≡ option_map (λ (w : Waiting). w.command) o → ⊥
-picked_some None n e f = none-some n (sym e)
-picked_some (Some w) n e f = none-some w.command f
-
 -- the command at place pick may go, and there is room for all of it
 pub record CanMove (s : DeviceState) (pick : ℕ) (w : Waiting) : Type 0 where
   pub picked : picked s.queue pick ≡ Some w
@@ -219,9 +215,6 @@ pub record CanWrite (s : DeviceState) (pick : ℕ) (e : Entry) : Type 0 where
 
 pub persistable_on : (s : DeviceState) → is_off s ≡ false → persistable s ≡ oldest s.cache
 persistable_on s on = rw on refl
-
-pub persistable_off : (s : DeviceState) → is_off s ≡ true → persistable s ≡ []
-persistable_off s off = rw off refl
 
 pub can_write : (s : DeviceState) (pick : ℕ) (e : Entry) → IsValid s → is_off s ≡ false → slice_get (oldest s.cache) pick ≡ Some e → CanWrite s pick e
 can_write s pick e v on at =
@@ -327,15 +320,6 @@ no_command-le d s pick i e free none =
     let v = subst IsValid e i.valid in
     past (transferable s) pick (ap (λ (l : List Waiting). slice_get l pick) (transferable_free s v (sym free)) ∙ q)
 
-pub off-le : (s : DeviceState) (pick : ℕ) → true ≡ is_off s → length (persistable s) ≤ pick
-off-le s pick t = let n : length (persistable s) ≡ 0 = ap length (persistable_off s (sym t)) in omega arith
-
-pub no_entry-le : (d : Inside) (s : DeviceState) (pick : ℕ) → state_of d ≡ s → false ≡ is_off s
-    → None ≡ slice_get (oldest d.cache.items) pick → length (persistable s) ≤ pick
-no_entry-le d s pick e on none =
-    let q : slice_get (oldest s.cache) pick ≡ None = subst (λ (t : DeviceState). slice_get (oldest t.cache) pick ≡ None) e (sym none) in
-    past (persistable s) pick (ap (λ (l : List Entry). slice_get l pick) (persistable_on s (sym on)) ∙ q)
-
 -- ---- receiving, answering, and where all is done
 
 pub on_ok : {T E : Type 0} (P : Type 0) (r : Result T E) → IsOk r → OnOk r P → P
@@ -361,9 +345,6 @@ told_to s waiting sent none w off untold e =
     let tells : tells_cut s ≡ true = rw (off, untold) refl in
     let to : answered_from s [] ≡ record s { sent = s.sent ++ Cut ∷ []; told = true } = rw tells refl in
     rw (rest, e) (sym to) ∙ ap (answered_from s) (sym empty)
-
-pub untold-fits : (s : DeviceState) → IsValid s → s.told ≡ false → length s.sent ≤ s.limit
-untold-fits s v n = let k = sent-le_untold s v n in omega arith
 
 flushed-In : (xs : List Completion) → false ≡ list_any is_flushed xs → (id : ℕ) → In (Flushed id) xs → ⊥
 flushed-In xs e id i = false≢true (sym (none-list_any is_flushed xs (Flushed id) (sym e) i))

@@ -14,7 +14,7 @@ use Rattle.device_epochs.specs.Cache.{same_place}
 use Rattle.device_epochs.specs.laws.CacheLaws.{same_place_parts, same_place_from}
 use Rattle.device_epochs.specs.laws.Valid.{AreUnique}
 use Rattle.device_epochs.specs.code.Helpers.{IsPlain, EndsAt, IsPlaceOf}
-use Rattle.device_epochs.specs.code.Newest.{last_place, newest_place, HasBlockAt, IsRising, AreKeys}
+use Rattle.device_epochs.specs.code.Newest.{last_place, newest_place, IsRising, AreKeys}
 use Rattle.device_epochs.proofs.Searches.{epochs_rise}
 
 -- ---- the newest entry of a block
@@ -202,19 +202,7 @@ earlier_place e f c i plain last n at ne =
           ne (omega arith)
     ]))
 
-pub block_at_place : (e : Entry) (c : List Entry) (i : ℕ) → IsPlaceOf e c i → HasBlockAt e.block c i
-block_at_place e c i p = record { found = p.found; there = p.there; same = sym (same_place_parts e p.found p.same).1 }
-
 -- ---- what the steps keep
-
-pub keys_made : (newest_keys : List ℕ) → AreKeys 0 [] [] newest_keys
-keys_made newest_keys =
-    record {
-      same = refl;
-      rising = λ i j k l lt a b. absurd (none-some k a);
-      below = λ i k a. absurd (none-some k a);
-      named = λ block place e. absurd (none-some place e);
-    }
 
 pub keys_replaced : (e f : Entry) (appended i : ℕ) (c : List Entry) (keys newest_keys : List ℕ) → AreKeys appended c keys newest_keys
     → slice_get c i ≡ Some f → f.block ≡ e.block → AreKeys appended (set c i e) keys newest_keys

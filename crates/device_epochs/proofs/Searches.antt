@@ -1,16 +1,14 @@
 -- What the searches in the cache's list find.
-use Rattle.std.specs.Prelude.{◌≡◌, ◌≢◌, ℕ, zero, suc, ◌+◌, ◌<◌, ◌≤◌, ◌==◌, Bool, true, false, nat_le, List, [], ◌∷◌, ◌++◌, length, filter, map, drop, Some, None, slice_get, refl}
-use Rattle.std.specs.List.{list_any}
+use Rattle.std.specs.Prelude.{◌≡◌, ◌≢◌, ℕ, zero, suc, ◌+◌, ◌<◌, ◌≤◌, ◌==◌, Bool, true, false, nat_le, List, [], ◌∷◌, length, filter, map, drop, Some, None, slice_get, refl}
 use Rattle.std.specs.List.Sorted.{IsNonDecreasingBy, IsPartitionPoint}
 use Rattle.std.proofs.Common.{sym, ap, subst, ◌∙◌, inl, inr, arith, get_or, set, leb-true, leb-false}
 use Rattle.std.proofs.lemmas.Bool.{cases_eq, eq-eqb, ne_eqb, both_ways, false_from_ne_true}
 use Rattle.std.proofs.lemmas.Option.{none-some, same_Some, slice_get-get_or, get_or_from_slice_get}
 use Rattle.blk_base.specs.Members.{In, list_any-In, slice_get-In, slice_get-out, slice_get-length}
 use Rattle.order_model.specs.declared.part.Part.{Part}
-use Rattle.order_model.specs.Received.{transfers}
 use Rattle.device_epochs.specs.declared.cache.Entry.{Entry}
 use Rattle.device_epochs.specs.Cache.{same_place, put_entry, entries, oldest}
-use Rattle.device_epochs.specs.laws.CacheLaws.{same_place_parts, same_place_from, renewed, put_entry_found, put_entry_new, In-put_entry, AreUnique-put_entry, AreSorted-put_entry}
+use Rattle.device_epochs.specs.laws.CacheLaws.{same_place_parts, same_place_from, renewed, put_entry_found, In-put_entry, AreUnique-put_entry, AreSorted-put_entry}
 use Rattle.device_epochs.specs.laws.QueueLaws.{length-filter-le}
 use Rattle.device_epochs.specs.laws.Valid.{AreUnique, AreSorted}
 use Rattle.device_epochs.specs.code.Helpers.{IsPlain, EndsAt, IsPlaceOf}
@@ -145,10 +143,6 @@ pub entries_next : (epoch place i : ℕ) (ps : List Part) (p : Part) → slice_g
     → entries epoch place (drop i ps) ≡ record { epoch = epoch; block = p.block; part = place } ∷ entries epoch (place + 1) (drop (i + 1) ps)
 entries_next epoch place i ps p e = ap (entries epoch place) (drop_at ps i p e)
 
-pub transfers_next : (epoch place i : ℕ) (ps : List Part) (p : Part) → slice_get ps i ≡ Some p
-    → transfers epoch place (drop i ps) ≡ record { epoch = epoch; part = place } ∷ transfers epoch (place + 1) (drop (i + 1) ps)
-transfers_next epoch place i ps p e = ap (transfers epoch place) (drop_at ps i p e)
-
 -- ---- an entry goes in
 
 renewed_others : (e x : Entry) (xs : List Entry) → same_place e x ≡ true → ((f : Entry) → In f xs → same_place x f ≡ false) → map (renewed e) xs ≡ xs
@@ -185,9 +179,6 @@ pub put_at_place : (e : Entry) (c : List Entry) (i : ℕ) → IsPlain c → IsPl
 put_at_place e c i p h =
     renewed_at e c i h.found p.unique h.there h.same
     ∙ sym (put_entry_found e c (list_any-In (same_place e) c h.found (slice_get-In c i h.found h.there) h.same))
-
-pub put_at_end : (e : Entry) (c : List Entry) → list_any (same_place e) c ≡ false → c ++ e ∷ [] ≡ put_entry e c
-put_at_end e c n = sym (put_entry_new e c n)
 
 pub IsPlain-put_entry : (e : Entry) (c : List Entry) → IsPlain c → EndsAt e.epoch c → IsPlain (put_entry e c)
 IsPlain-put_entry e c p l = record { unique = AreUnique-put_entry e c p.unique; sorted = AreSorted-put_entry e c p.sorted l.within }

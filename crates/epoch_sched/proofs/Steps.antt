@@ -1,9 +1,8 @@
 -- The fields of a scheduler after an acceptance and after a dispatch.
-use Rattle.std.proofs.Common.{◌≡◌, ℕ, ◌+◌, ◌<◌, ◌≤◌, Bool, true, List, [], ◌∷◌, ◌++◌, length, Option, Some, None, refl, ap, sym, subst, ◌∙◌, arith, inl, ⊎_elim, inr}
-use Rattle.std.proofs.lemmas.Bool.{cases_lt}
+use Rattle.std.proofs.Common.{◌≡◌, ℕ, ◌+◌, ◌<◌, ◌≤◌, Bool, true, List, [], ◌∷◌, ◌++◌, length, Option, Some, None, refl, ap, sym, subst, ◌∙◌, arith, inl, inr}
 use Rattle.std.proofs.lemmas.List.{length-append}
 use Rattle.std.proofs.lemmas.Option.{none-some, same_Some, some_pair_parts}
-use Rattle.blk_base.specs.Members.{In, In-slice_get, slice_get-in_range, slice_get-length}
+use Rattle.blk_base.specs.Members.{In, In-slice_get}
 use Rattle.order_model.specs.declared.command.Command.{Command}
 use Rattle.order_model.specs.declared.request.Kind.{Kind}
 use Rattle.order_model.specs.declared.request.Kind.TheVariants.{Put, Flush}
@@ -11,7 +10,7 @@ use Rattle.order_model.specs.declared.request.Request.{Request}
 use Rattle.order_model.specs.History.{HistoryState}
 use Rattle.order_model.specs.Received.{all_parts}
 use Rattle.barrier_reassign.specs.Epoch as epoch
-use Rattle.barrier_reassign.specs.Epoch.{EpochState, Waiting, can_accept, eligible, picked, departed, leaving, leaves_flagged}
+use Rattle.barrier_reassign.specs.Epoch.{EpochState, Waiting, can_accept, picked, departed, leaving, leaves_flagged}
 use Rattle.epoch_sched.specs.declared.sched.Sched.TheInside.{Inside}
 use Rattle.order_model.specs.Single.{parts_for, command_of_request}
 use Rattle.barrier_reassign.specs.Sched.{SchedState, seen_of}
@@ -92,14 +91,3 @@ dispatched_fields s pick w command queue history v e c q h =
     let kept : sent_history s now ≡ history = sym (h ∙ ap (sent_history s) c) in
     subst (λ g. IsSched (fields_with s queue s.trace.accepted g)) kept
     (subst (λ z. IsSched (fields_with s z s.trace.accepted (sent_history s now))) rest fields)
-
--- nothing leaves exactly where the pick is not below the eligible list's length
-pub picked-none : (q : EpochState) (pick : ℕ) → picked q pick ≡ None → length (eligible q.waiting) ≤ pick
-picked-none q pick e =
-    ⊎_elim
-    (λ lt. let x = slice_get-in_range (eligible q.waiting) pick lt in absurd (none-some x.0 (sym e ∙ x.1)))
-    (λ past. past)
-    (cases_lt pick (length (eligible q.waiting)))
-
-pub picked-some : (q : EpochState) (pick : ℕ) (w : Waiting) → picked q pick ≡ Some w → pick < length (eligible q.waiting)
-picked-some q pick w e = slice_get-length (eligible q.waiting) pick w e

@@ -12,10 +12,6 @@ finish steers true (Ok ss) = Ok (steers ++ ss)
 finish steers false (Ok ss) = Err faults.Number
 finish steers within (Err fault) = Err fault
 
-finish-none : (r : Result (List Steer) LineFault) → finish [] true r ≡ r
-finish-none (Ok ss) = refl
-finish-none (Err fault) = refl
-
 finish-one : (steers : List Steer) (within : Bool) (s : Steer) (r : Result (List Steer) LineFault) → finish (steers ++ s ∷ []) within r ≡ finish steers within (before_all (Ok s) r)
 finish-one steers true s (Ok ss) = ap Ok (append_assoc steers (s ∷ []) ss)
 finish-one steers false s (Ok ss) = refl
@@ -62,7 +58,3 @@ step_spelling f xs i d steers within lt h =
 pub finished : {X : Type 0} (f : X → List ℕ) (xs : List X) (i : ℕ) (steers : List Steer) (within : Bool) → length xs ≤ i → finish steers within (all_of (map f (drop i xs))) ≡ finish steers within (Ok [])
 unfolding all_of
 finished f xs i steers within le = rw (drop_all i xs le) refl
-
--- no word was read
-pub begun : (ws : List (List ℕ)) → finish [] true (all_of ws) ≡ all_of ws
-begun ws = finish-none (all_of ws)

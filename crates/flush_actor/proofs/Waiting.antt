@@ -1,7 +1,6 @@
 -- What the threads' calls wait for, one after the other.
 use Rattle.std.proofs.Common.{◌≡◌, ℕ, zero, suc, ◌+◌, ◌<◌, ◌≤◌, ◌||◌, ◌&&◌, ◌==◌, if◌then◌else◌, replicate, Bool, true, false, List, [], ◌∷◌, ◌++◌, length, length-append, map, set, drop, get_or, Some, None, refl, sym, ap, subst, ◌∙◌, ⊎_elim, arith}
 use Rattle.std.specs.List.{list_any}
-use Rattle.std.proofs.lemmas.List.{drop_more, drop_all}
 use Rattle.blk_base.specs.Members.{In, In-set_cases, In-map, In-replicate}
 use Rattle.std.proofs.lemmas.Option.{same_Some, none-some}
 use Rattle.order_model.specs.declared.note.Note.{Note}
@@ -19,17 +18,6 @@ module _ {X : Type 0} (p : X → Bool) where
   -- what is left from place `at` on decides
   abbrev pub LeftDecides : List X → ℕ → Type 0
   LeftDecides xs at = list_any p (drop at xs) ≡ list_any p xs
-
-  pub passed_by : (xs : List X) (at : ℕ) (d : X) → LeftDecides xs at → at < length xs → p (get_or xs at d) ≡ false → LeftDecides xs (at + 1)
-  passed_by xs at d h inside fails =
-      sym (ap (λ t. t || list_any p (drop (at + 1) xs)) fails) ∙ sym (ap (list_any p) (drop_more xs at d inside)) ∙ h
-
-  pub found_one : (xs : List X) (at : ℕ) (d : X) → LeftDecides xs at → at < length xs → p (get_or xs at d) ≡ true → true ≡ list_any p xs
-  found_one xs at d h inside passes =
-      sym (ap (λ t. t || list_any p (drop (at + 1) xs)) passes) ∙ sym (ap (list_any p) (drop_more xs at d inside)) ∙ h
-
-  pub found_none : (xs : List X) (at : ℕ) → LeftDecides xs at → length xs ≤ at → false ≡ list_any p xs
-  found_none xs at h past = sym (ap (list_any p) (drop_all at xs past)) ∙ h
 
 -- ---- changes of all
 

@@ -1,24 +1,20 @@
 -- The steps of the actors on their parts are those of the machine.
-use Rattle.std.proofs.Common.{◌≡◌, ℕ, ◌-◌, Bool, true, false, not, ◌&&◌, List, [], ◌∷◌, length, Option, Some, None, is_none, nat_lt, slice_index_or, if◌then◌else◌, refl, sym, ap, ◌∙◌}
+use Rattle.std.proofs.Common.{◌≡◌, ℕ, ◌-◌, Bool, true, false, not, ◌&&◌, List, [], ◌∷◌, length, Option, Some, None, is_none, nat_lt, if◌then◌else◌, refl, ap, ◌∙◌}
 use Rattle.order_model.specs.declared.completion.Completion.{Completion}
-use Rattle.order_model.specs.declared.note.Note.TheVariants as notes
-use Rattle.order_model.specs.declared.request.Kind.TheVariants as puts
-use Rattle.order_model.specs.declared.request.Request.{Request}
 use Rattle.order_model.specs.declared.turn.Turn.TheVariants as turns
 use Rattle.order_model.specs.declared.turn.Turn.{Turn}
 use Rattle.log_model.specs.Marks.{Logged}
-use Rattle.page_cache.specs.Pages.{unsent_of, dirty_page, page_at, put_page, mark_page, marked}
+use Rattle.page_cache.specs.Pages.{unsent_of, put_page, marked}
 use Rattle.page_cache.specs.declared.cached_page.CachedPage.{CachedPage}
-use Rattle.page_cache.specs.declared.cached_page.PageState.TheVariants.{Loose, Firm}
+use Rattle.page_cache.specs.declared.cached_page.PageState.TheVariants.{Firm}
 use Rattle.conflict_pages.specs.Conflicts.{least}
 use Rattle.journal_ring.specs.LogRing.{LogRing, ring_free}
 use Rattle.tx_running.specs.Running.{Running, log_needs}
 use Rattle.tx_running.specs.Plan.{Planned}
-use Rattle.flush_actor.specs.Outcomes.{is_did}
 use Rattle.flush_actor.specs.Part.{FlushPart, at_limit, is_over}
-use Rattle.flush_actor.specs.Steps.{FlushTurn, submit_turn, after_submit, flush_due, flush_turn, submit_flush, take_completion}
+use Rattle.flush_actor.specs.Steps.{FlushTurn, flush_due, flush_turn, submit_flush, take_completion}
 use Rattle.commit_actor.specs.Actor.{builds_plan}
-use Rattle.commit_actor.specs.Journal.{Plan, Phase, Idle, Closing, Committing, JournalPart, is_closing, is_submitted, committing}
+use Rattle.commit_actor.specs.Journal.{Plan, Phase, Idle, Closing, Committing, JournalPart, is_closing, committing}
 use Rattle.commit_actor.specs.Steps as actor
 use Rattle.commit_actor.specs.Steps.{CommitTurn}
 use Rattle.host_machine.specs.Host as machine
@@ -148,62 +144,3 @@ module _ {T V C R : Type 0} (M : Model T V C R) (u : Setup) where
       by true false false o = refl
       by false limit full None = refl
       by false limit full (Some c) = refl
-
-  -- ---- the write-back
-
-  -- it sends this page
-  pub writeback_is : (s : Host V C R) (q : Bool) (pick : ℕ) (p : CachedPage) (ordered : Bool) → is_over s.journal.flush ≡ false → dirty_page s.pages pick ≡ Some p
-      → ordered ≡ not (is_submitted s.journal (slice_index_or s.owners p.block 0))
-      → machine.submits M u q s (machine.send_page M u s p ordered false) ≡ machine.writeback M u q s pick
-  writeback_is s q pick p ordered over there e =
-      ap (λ o. machine.submits M u q s (machine.send_page M u s p o false)) e
-      ∙ sym (ap picked there)
-      ∙ sym (ap (λ b. if b then idle else picked (dirty_page s.pages pick)) over)
-    where
-      idle : Turned V C R
-      idle = record { host = s; turn = turns.Idle }
-
-      picked : Option CachedPage → Turned V C R
-      picked o = elim o as (λ _. Turned V C R) [
-        | None ↦ idle
-        | Some x ↦ machine.submits M u q s (machine.send_page M u s x (not (is_submitted s.journal (slice_index_or s.owners x.block 0))) false)
-      ]
-
-  abbrev pub page_request : Host V C R → CachedPage → Bool → Request
-  page_request s p ordered = record { id = length s.journal.flush.requests; kind = puts.Put p.block p.body; ordered = ordered; barrier = false }
-
-  pub page_is : (s : Host V C R) (q : Bool) (p : CachedPage) (t : Turn) (ordered : Bool) → t ≡ submit_turn q s.journal.flush → page_at s.pages p.birth p.index ≡ Some p
-      → (let x : Turned V C R = record {
-        host = record s {
-          journal = record s.journal { flush = after_submit t (page_request s p ordered) (notes.Page p.birth p.index p.version) s.journal.flush };
-          pages = if is_did t then mark_page s.pages p.birth p.index (if ordered then Firm else Loose) else s.pages;
-        };
-        turn = t;
-      } in x)
-      ≡ machine.submits M u q s (machine.send_page M u s p ordered false)
-  page_is s q p t ordered e there =
-      ap (λ (t : Turn). let x : Turned V C R = record {
-        host = record s {
-          journal = record s.journal { flush = after_submit t (page_request s p ordered) (notes.Page p.birth p.index p.version) s.journal.flush };
-          pages = if is_did t then mark_page s.pages p.birth p.index (if ordered then Firm else Loose) else s.pages;
-        };
-        turn = t;
-      } in x) e
-      ∙ by (at_limit s.journal.flush) q
-    where
-      marks : mark_page s.pages p.birth p.index (if ordered then Firm else Loose) ≡ put_page s.pages (marked p (if ordered then Firm else Loose))
-      marks = ap (λ (o : Option CachedPage). elim o as (λ _. List CachedPage) [ None ↦ s.pages | Some x ↦ put_page s.pages (marked x (if ordered then Firm else Loose)) ]) there
-
-      by : (limit q : Bool) →
-          (let t = (if limit then turns.SessionFull else if q then turns.QueueFull else turns.Did) in
-          let x : Turned V C R = record {
-            host = record s {
-              journal = record s.journal { flush = after_submit t (page_request s p ordered) (notes.Page p.birth p.index p.version) s.journal.flush };
-              pages = if is_did t then mark_page s.pages p.birth p.index (if ordered then Firm else Loose) else s.pages;
-            };
-            turn = t;
-          } in x)
-          ≡ (if limit then record { host = s; turn = turns.SessionFull } else if q then record { host = s; turn = turns.QueueFull } else record { host = machine.send_page M u s p ordered false; turn = turns.Did })
-      by true q = refl
-      by false true = refl
-      by false false = ap (λ (ps : List CachedPage). let x : Turned V C R = record { host = record (machine.send_page M u s p ordered false) { pages = ps }; turn = turns.Did } in x) marks

@@ -90,19 +90,6 @@ module _ {A T V C R : Type 0} {o : Over A T V C R} {Stands : V → T → Type 0}
 
     -- ---- the write-back
 
-    pub writeback_keeps : (full : Bool) (pick : ℕ) → HasImages (writeback o.model o.setup full s pick).host
-    writeback_keeps full pick =
-        either (λ (x : Turned V C R). HasImages x.host) (is_over s.journal.flush) _ _ (λ e. (txs, N, facts)) (λ e. by (slice_get (filter (λ (p : CachedPage). is_dirty p.state) s.pages) pick) refl)
-      where
-        by : (x : Option CachedPage) → slice_get (filter (λ (p : CachedPage). is_dirty p.state) s.pages) pick ≡ x → HasImages (elim x as (λ _. Turned V C R) [
-          | None ↦ record { host = s; turn = turns.Idle }
-          | Some p ↦ submits o.model o.setup full s (send_page o.model o.setup s p (not (is_submitted s.journal (slice_index_or s.owners p.block 0))) false)
-        ]).host
-        by None e = (txs, N, facts)
-        by (Some p) e =
-            let here = keyed s.pages facts.0.rising p (In-filter (λ (p : CachedPage). is_dirty p.state) s.pages p (slice_get-In (filter (λ (p : CachedPage). is_dirty p.state) s.pages) pick p e)).0 in
-            submits_keeps full _ (txs, N, send_keeps contract s txs N facts p (not (is_submitted s.journal (slice_index_or s.owners p.block 0))) false here)
-
     -- with the rules
     pub writeback_keeps_rules : Keeps o Stands s txs N → (full : Bool) (pick : ℕ) → Keeps o Stands (writeback o.model o.setup full s pick).host txs N
     writeback_keeps_rules both full pick =

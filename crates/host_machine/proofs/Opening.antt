@@ -4,7 +4,6 @@ use Rattle.std.proofs.lemmas.Bool.{false≢true}
 use Rattle.std.proofs.lemmas.Option.{none-some}
 use Rattle.std.specs.Prelude.{◌≡◌, ℕ, zero, suc, ◌+◌, ◌≤◌, true, List, [], Some, refl}
 use Rattle.blk_base.specs.Members.{In}
-use Rattle.order_model.specs.declared.note.Note.{Note}
 use Rattle.log_model.proofs.Marks.{keep≢set}
 use Rattle.log_model.specs.Ring.{IsPlace}
 use Rattle.volume_ops.specs.Reads.{answer, blocks_read}
@@ -13,7 +12,7 @@ use Rattle.volume_ops.specs.Volume.{disk_of}
 use Rattle.crash_laws.proofs.Start.{rules_at_start, pages_at_start}
 use Rattle.crash_laws.specs.History.{HasTrees}
 use Rattle.crash_laws.specs.Rules.{BaseImage}
-use Rattle.crash_laws.specs.Session.{image_of, Session, HasNote}
+use Rattle.crash_laws.specs.Session.{image_of, Session}
 use Rattle.host_machine.proofs.Entries.{index_past, trees_noted}
 use Rattle.host_machine.specs.Host.{opened}
 use Rattle.journal_ring.specs.LogRing.{LogRing}
@@ -32,9 +31,6 @@ module _ {A T V C R : Type 0} {o : Over A T V C R} {Stands : V → T → Type 0}
   no_cut : (k : ℕ) → cut_of [] 0 k ≡ 0
   no_cut zero = refl
   no_cut (suc k) = index_past [] k 0 (omega arith)
-
-  no_note : (i : ℕ) (n : Note) → HasNote s i n → ⊥
-  no_note i n h = none-some n h
 
   -- The volume is plain and stands for the tree that is opened, its metadata is the base image's, and the log of
   -- that is empty.

@@ -254,21 +254,6 @@ module _ {A : Type 0} {program : Reads A} {h : History A} {s : Session} {now r N
 -- ---- where nothing is told anew but transactions
 
 module _ {s : Session} (transactions : ℕ → Transaction) where
-  pub plain_told : {A : Type 0} {program : Reads A} {h : History A} {now : ℕ} {v : View} → IsPlain program h s now v → IsPlain program h (record s { transactions = transactions }) now v
-  plain_told was = record {
-    mapped = was.mapped;
-    content = was.content;
-    there = was.there;
-    metadata_free = was.metadata_free;
-    page_free = was.page_free;
-    one_page = was.one_page;
-    metadata_low = was.metadata_low;
-    page_low = was.page_low;
-    reserved = was.reserved;
-    walk = was.walk;
-    places = was.places;
-  }
-
   page_told : (o f i w z : ℕ) → IsPageTo s o f i w z → IsPageTo (record s { transactions = transactions }) o f i w z
   page_told o f i w z t = record { note = t.note; put = t.put }
 

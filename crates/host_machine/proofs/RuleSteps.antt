@@ -1,10 +1,10 @@
 -- The order rules of images and pages are kept: wholly by entries and by pages that are sent; by other requests
 -- with the clauses that the ring owes.
-use Rattle.std.proofs.Common.{sym, ap, subst, ◌∙◌, ⊎_elim, arith}
+use Rattle.std.proofs.Common.{sym, ap, subst, ◌∙◌}
 use Rattle.std.proofs.lemmas.Option.{none-some}
 use Rattle.std.specs.Option.{unwrap_or}
-use Rattle.std.specs.Prelude.{◌≡◌, ℕ, ◌+◌, ◌-◌, ◌≤◌, Bool, true, false, List, [], ◌∷◌, ◌++◌, length, Some, None, nat_lt, refl}
-use Rattle.order_model.specs.Submission.{IsFence, kind_body}
+use Rattle.std.specs.Prelude.{◌≡◌, ℕ, ◌+◌, Bool, true, false, List, [], ◌∷◌, ◌++◌, length, Some, None, nat_lt, refl}
+use Rattle.order_model.specs.Submission.{kind_body}
 use Rattle.order_model.specs.declared.note.Note.TheVariants as notes
 use Rattle.order_model.specs.declared.note.Note.{Note}
 use Rattle.order_model.specs.declared.request.Kind.TheVariants as puts
@@ -12,31 +12,23 @@ use Rattle.order_model.specs.declared.request.Request.{Request}
 use Rattle.log_model.specs.Marks.{Transaction}
 use Rattle.page_cache.specs.Pages.{page_at}
 use Rattle.page_cache.specs.declared.cached_page.CachedPage.{CachedPage}
-use Rattle.crash_laws.proofs.Commits.{commit_positive}
 use Rattle.crash_laws.proofs.Growth.{page_order_grows, data_before_commit_grows}
 use Rattle.crash_laws.proofs.ImageSteps.{page_order_step, data_before_commit_step}
 use Rattle.crash_laws.proofs.OrderSteps.{order_rules_step}
-use Rattle.crash_laws.specs.Clauses.{CommitClause, FitsClause, LogClause, CheckpointClause, ImageClause}
-use Rattle.crash_laws.specs.PageClauses.{PageClause}
+use Rattle.crash_laws.specs.Clauses.{CommitClause, LogClause, CheckpointClause}
 use Rattle.crash_laws.specs.Rules.{HasHeader}
-use Rattle.crash_laws.specs.Session.{Session, IsCommit, log_transaction}
-use Rattle.crash_laws.specs.Submitting.{Submitting, after}
+use Rattle.crash_laws.specs.Session.{Session, log_transaction}
+use Rattle.crash_laws.specs.Submitting.{Submitting}
 use Rattle.host_machine.proofs.CallSteps.{IsQuiet, change_keeps, end_keeps}
 use Rattle.host_machine.proofs.ChangeSteps.{extends}
-use Rattle.host_machine.proofs.Commits.{commit_owes, commit_owes_images, other_owes, other_owes_images}
-use Rattle.host_machine.proofs.Entries.{entry_noted, index_push_left}
-use Rattle.host_machine.proofs.PlanSteps.{closing_transaction}
+use Rattle.host_machine.proofs.Entries.{entry_noted}
 use Rattle.host_machine.proofs.RequestSteps.{page_fits, page_owes_image, page_owes_pages, send_keeps}
-use Rattle.host_machine.proofs.Retold.{rules_retold, pages_retold, data_retold}
 use Rattle.host_machine.proofs.Sends.{plainly, page≢commit}
-use Rattle.host_machine.specs.Host.{change, end_call, send_page, build_plan}
-use Rattle.tx_running.specs.Plan.{Planned}
+use Rattle.host_machine.specs.Host.{change, end_call, send_page}
 use Rattle.host_machine.specs.State.{Ending, Answered, Ends, Entry, Host}
-use Rattle.commit_actor.specs.Journal.{Plan, Phase}
+use Rattle.commit_actor.specs.Journal.{Phase}
 use Rattle.flush_actor.specs.Kinds.{is_begun}
-use Rattle.host_machine.specs.Views.{transaction_of}
-use Rattle.host_machine.specs.laws.Contract.{Over, Contract, noted_history, InPlan, ImagesFacts, session, KeepsImages}
-use Rattle.host_machine.specs.laws.PlanNotes.{BarrierAhead}
+use Rattle.host_machine.specs.laws.Contract.{Over, Contract, noted_history, ImagesFacts, session}
 use Rattle.host_machine.specs.laws.Rules.{AllRules, Keeps}
 
 -- a page owes nothing to the log
@@ -117,70 +109,3 @@ module _ {A T V C R : Type 0} {o : Over A T V C R} {Stands : V → T → Type 0}
 
       note : Note
       note = notes.Page p.birth p.index p.version
-
-  -- ---- the commit block, and every other request
-
-  module _ (s : Host V C R) (txs : List Transaction) (N : ℕ) (facts : Keeps o Stands s txs N) (q : Request) where
-    -- what the ring owes for a request
-    pub record RingOwes (n : Note) : Type 0 where
-      pub fits : FitsClause (session o Stands txs s) q n
-      pub commits : CommitClause (session o Stands txs s) q n
-      pub log : LogClause (plainly (session o Stands txs s) facts.0.0.counted q n)
-      pub checkpoints : CheckpointClause (session o Stands txs s) q n
-
-    rules_pushed : (n : Note) → RingOwes n → ImageClause o.program (plainly (session o Stands txs s) facts.0.0.counted q n) → PageClause o.program (noted_history o Stands s.history s.cuts) (plainly (session o Stands txs s) facts.0.0.counted q n)
-        → AllRules o.program (noted_history o Stands s.history s.cuts) (after (plainly (session o Stands txs s) facts.0.0.counted q n))
-    rules_pushed n ring images pages =
-        let was = facts.1 in
-        record {
-          order = order_rules_step o.program (plainly (session o Stands txs s) facts.0.0.counted q n) was.order
-              (record { fits = ring.fits; commits = ring.commits; log = ring.log; checkpoints = ring.checkpoints; images = images });
-          pages = page_order_step o.program (noted_history o Stands s.history s.cuts) (plainly (session o Stands txs s) facts.0.0.counted q n) was.order.commits ring.commits was.pages pages;
-          committed = data_before_commit_step o.program (noted_history o Stands s.history s.cuts) (plainly (session o Stands txs s) facts.0.0.counted q n) was.order.commits ring.commits was.committed pages;
-        }
-
-    -- a log block, a superblock, a flush
-    pub other_rules : (n : Note) → ((f i v : ℕ) → n ≡ notes.Page f i v → ⊥) → ((k : ℕ) → n ≡ notes.Commit k → ⊥) → ((b : ℕ) → n ≡ notes.Home b → ⊥) → RingOwes n
-        → AllRules o.program (noted_history o Stands s.history s.cuts) (after (plainly (session o Stands txs s) facts.0.0.counted q n))
-    other_rules n no_page no_commit no_home ring =
-        rules_pushed n ring (other_owes_images facts.0.0.counted q n no_page no_commit no_home) (other_owes facts.0.0.counted q n no_page no_commit)
-
-    -- a home, whose body the ring knows
-    pub home_rules : (b : ℕ) → RingOwes (notes.Home b) → ImageClause o.program (plainly (session o Stands txs s) facts.0.0.counted q (notes.Home b))
-        → AllRules o.program (noted_history o Stands s.history s.cuts) (after (plainly (session o Stands txs s) facts.0.0.counted q (notes.Home b)))
-    home_rules b ring images = rules_pushed (notes.Home b) ring images (other_owes facts.0.0.counted q (notes.Home b) (λ f i v e. let z : ⊥ = cc in z) (λ k e. let z : ⊥ = cc in z))
-
-    -- the commit block, once it is all that is left of the plan
-    pub commit_rules : (p : Plan) (last : Planned) → p.rest ≡ last ∷ [] → InPlan o Stands s.history s.cuts (session o Stands txs s) s.journal.running.number N p → RingOwes (notes.Commit (s.journal.running.number - 1))
-        → AllRules o.program (noted_history o Stands s.history s.cuts) (after (plainly (session o Stands txs s) facts.0.0.counted q (notes.Commit (s.journal.running.number - 1))))
-    commit_rules p last e plan ring =
-        rules_pushed (notes.Commit (s.journal.running.number - 1)) ring
-        (commit_owes_images facts.0.0.counted q (s.journal.running.number - 1) plan.from plan.owed fence)
-        (commit_owes facts.0.0.counted q (s.journal.running.number - 1) plan.from plan.owed fence)
-      where
-        fence : (f i : ℕ) → (noted_history o Stands s.history s.cuts).changes (s.journal.running.number - 1) f ≡ true → (noted_history o Stands s.history s.cuts).maps ((noted_history o Stands s.history s.cuts).cut (s.journal.running.number - 1)) f i ≡ true → (b : ℕ) × (plan.from ≤ b) × IsFence s.journal.flush.requests b
-        fence f i ch maps = ⊎_elim (λ ahead. absurd (subst BarrierAhead e ahead)) (λ b. b) (plan.barred f i (plan.listed f ch) maps)
-
-  -- ---- the plan tells a transaction
-
-  pub plan_rules : (s : Host V C R) (txs : List Transaction) (N : ℕ) (facts : KeepsImages o Stands s txs N) → N + 1 ≡ s.journal.running.number
-      → (history : noted_history o Stands s.history s.cuts ≡ noted_history o Stands s.history (s.cuts ++ length s.history ∷ []))
-      → AllRules o.program (noted_history o Stands s.history s.cuts) (session o Stands txs s)
-      → AllRules o.program (noted_history o Stands s.history (s.cuts ++ length s.history ∷ [])) (session o Stands (txs ++ closing_transaction contract s txs N facts ∷ []) (build_plan o.model o.setup s))
-  plan_rules s txs N facts all_closed history was =
-      subst (λ h. AllRules o.program h (record (session o Stands txs s) { transactions = transactions })) history
-      (record {
-        order = rules_retold was.order.commits transactions same was.order;
-        pages = pages_retold was.order.commits transactions same o.program (noted_history o Stands s.history s.cuts) was.pages;
-        committed = data_retold was.order.commits transactions same o.program (noted_history o Stands s.history s.cuts) was.committed;
-      })
-    where
-      transactions : ℕ → Transaction
-      transactions = transaction_of (txs ++ closing_transaction contract s txs N facts ∷ [])
-
-      same : (k i : ℕ) → IsCommit (session o Stands txs s) k i → transactions k ≡ transaction_of txs k
-      same k i c =
-          let le = facts.0.numbers.no_more k i c in
-          let pos = commit_positive was.order.commits k i c in
-          let e = facts.1 in
-          index_push_left txs (closing_transaction contract s txs N facts) (k - 1) (record { bodies = []; revokes = [] }) (omega arith)

@@ -67,12 +67,6 @@ pub count-map : {X Y : Type 0} (p : Y → Bool) (f : X → Y) (xs : List X) → 
 count-map p f [] = refl
 count-map p f (x ∷ xs) = ap (λ n. one_if (p (f x)) + n) (count-map p f xs)
 
--- ---- what is counted
-
--- There are at most as many flushes as sync calls began.
-pub flushes_charged : {C R : Type 0} (kind : C → CallKind) (ns : List Note) (waits : List Wait) (history : List (Entry C R)) → FlushFacts kind ns waits history → count is_flush_note ns ≤ count (is_begin kind) history
-flushes_charged kind ns waits history facts = let all = facts.charged in omega arith
-
 -- ---- flushes behind a request
 
 above-push : (id i : ℕ) (ns : List Note) (n : Note) → flush_above id i (ns ++ n ∷ []) ≡ (flush_above id i ns || (is_flush_note n && nat_lt id (i + length ns)))

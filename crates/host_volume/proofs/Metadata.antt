@@ -106,9 +106,6 @@ module _ (v : VolumeNow) (h : IsPlainNow v) where
     | inr f ↦ f
   ]
 
-  pub tested_no_meta : (b : ℕ) → is_metadata v b ≡ false → IsMeta v.geometry v.contents b → ⊥
-  tested_no_meta b f is = true≢false (sym (meta_tested b is) ∙ f)
-
   -- ---- what the walk reads
 
   place_meta : {inode : ℕ} (x : HasNode v.contents.nodes inode) (b : ℕ) (y : ZonePlace) → HoldsNumbers y → b ≢ 0 → zone_at_place v.geometry v.contents.blocks inode y ≡ b → IsMeta v.geometry v.contents b

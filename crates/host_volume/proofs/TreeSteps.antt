@@ -45,10 +45,6 @@ quiet_no_rename : (c : Call) → leaves_tree c ≡ true → is_rename c ≡ fals
 quiet_no_rename (calls.Rename path other) e = absurd (true≢false (sym e))
 quiet_no_rename other e = refl
 
-rename_moves : (c : Call) → is_rename c ≡ true → leaves_tree c ≡ false
-rename_moves (calls.Rename path other) e = refl
-rename_moves other e = absurd (true≢false (sym e))
-
 rename_touches : (tree : Tree) (c : Call) (birth index : ℕ) → is_rename c ≡ true → touches tree c birth index ≡ false
 rename_touches tree (calls.Rename path other) birth index e = refl
 rename_touches tree other birth index e = absurd (true≢false (sym e))

@@ -84,13 +84,5 @@ tags_room front sequence tags i d lt few told =
 pub tags_done : (front all : List ℕ) (first : Bool) (tags : List Tag) (i : ℕ) → length tags ≤ i → front ++ tags_bytes first (drop i tags) ≡ all → front ≡ all
 tags_done front all first tags i le told = sym (append-nil front) ∙ (ap (λ (ts : List Tag). front ++ tags_bytes first ts) (sym (drop_all i tags le)) ∙ told)
 
--- the next number is written
-pub numbers_step : (front all new : List ℕ) (numbers : List ℕ) (i d : ℕ) → i < length numbers → front ++ numbers_bytes (drop i numbers) ≡ all
-    → new ≡ front ++ bytes_of big 4 (get_or numbers i d) → new ++ numbers_bytes (drop (i + 1) numbers) ≡ all
-numbers_step front all new numbers i d lt told is =
-    ap (λ (xs : List ℕ). xs ++ numbers_bytes (drop (i + 1) numbers)) is
-    ∙ (append_assoc front (bytes_of big 4 (get_or numbers i d)) (numbers_bytes (drop (i + 1) numbers))
-    ∙ (ap (λ (ns : List ℕ). front ++ numbers_bytes ns) (sym (drop_more numbers i d lt)) ∙ told))
-
 pub numbers_done : (front all : List ℕ) (numbers : List ℕ) (i : ℕ) → length numbers ≤ i → front ++ numbers_bytes (drop i numbers) ≡ all → front ≡ all
 numbers_done front all numbers i le told = sym (append-nil front) ∙ (ap (λ (ns : List ℕ). front ++ numbers_bytes ns) (sym (drop_all i numbers le)) ∙ told)

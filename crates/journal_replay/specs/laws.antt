@@ -1,5 +1,4 @@
 -- Laws of recovery.
-pub mod Marks
 pub mod Revokes
 pub mod Tables
 pub mod Homes

@@ -41,10 +41,6 @@ putting_more first all homes rest l tail new room left less now after p e one pu
       grows = omega (arith, grows, more);
     })
 
-pub put_all : (first all homes rest : List Logged) (room left now : ℕ) → Putting first all room homes rest left now → left ≡ 0 → homes ≡ put_homes first all
-put_all first all homes [] room left now p none = p.ends
-put_all first all homes (l ∷ ls) room left now p none = let size = p.size in absurd (omega (arith, size, none))
-
 -- ---- revoked blocks go
 
 abbrev pub unrevoked : List ℕ → List Logged → List Logged

@@ -1,8 +1,8 @@
 -- Images that are filled block by block.
-use Rattle.std.specs.Prelude.{◌≡◌, ℕ, suc, ◌+◌, ◌-◌, ◌<◌, List, ◌∷◌, map, replicate, length, slice_get, slice_set, Some, refl}
+use Rattle.std.specs.Prelude.{◌≡◌, ℕ, suc, ◌+◌, ◌-◌, ◌<◌, List, ◌∷◌, map, replicate, length, slice_get, slice_set, Some}
 use Rattle.std.specs.List.{range_with_len}
 use Rattle.std.proofs.Common.{sym, ap, subst, ◌∙◌, ⊎_elim, arith, length-set, length-append}
-use Rattle.std.proofs.lemmas.Bool.{cases_lt, cases_order}
+use Rattle.std.proofs.lemmas.Bool.{cases_order}
 use Rattle.std.proofs.lemmas.List.FromFn.{get_or-map-range_with_len, length-map-range_with_len}
 use Rattle.blk_base.specs.Block.{filled}
 use Rattle.blk_base.specs.Image.{zeros}
@@ -13,22 +13,6 @@ use Rattle.journal_replay.specs.laws.Attempts.{body_at-some}
 use Rattle.mount_make.specs.Made.{new_journal, made_block, made_volume, made_image}
 use Rattle.mount_make.specs.code.Making.{IsFilled}
 use Rattle.mount_make.proofs.NewBlocks.{blank_length}
-
-pub filled_none : (body : ℕ → List ℕ) (image : List (List ℕ)) → IsFilled body 0 image image
-filled_none body image = record { size = refl; filled = λ b low. absurd (omega (arith, low)); others = λ b high. refl }
-
-pub filled_next : (body : ℕ → List ℕ) (n : ℕ) (old new : List (List ℕ)) → n < length new → IsFilled body n old new → IsFilled body (n + 1) old (slice_set new n (body n))
-filled_next body n old new within is = record {
-  size = length-set new n (body n) ∙ is.size;
-  filled = λ b low.
-      ⊎_elim
-      (λ less. slice_get-set_other new n b (body n) (λ e. omega (arith, less, e)) ∙ is.filled b less)
-      (λ more.
-      let here : n ≡ b = omega (arith, low, more) in
-      subst (λ (k : ℕ). slice_get (slice_set new n (body n)) k ≡ Some (body k)) here (slice_get-set_same new n (body n) within))
-      (cases_lt b n);
-  others = λ b high. slice_get-set_other new n b (body n) (λ e. omega (arith, high, e)) ∙ is.others b (omega (arith, high));
-}
 
 get_mapped : (f : ℕ → List ℕ) (n i : ℕ) → i < n → slice_get (map f (range_with_len 0 n)) i ≡ Some (f i)
 get_mapped f n i low =

@@ -3,10 +3,10 @@ use Rattle.std.specs.Prelude.{◌≡◌, ℕ, zero, suc, ◌+◌, ◌-◌, ◌<�
 use Rattle.std.specs.Option.{option_to_list}
 use Rattle.std.proofs.Common.{sym, ap, subst, ◌∙◌, inl, ⊎_elim, arith, length-append, append_assoc}
 use Rattle.std.proofs.lemmas.Bool.{cases_lt, lt-ltb, le-ltb, cond-true, cond-false}
-use Rattle.std.proofs.lemmas.List.{take-append-le, take-take, take_all, append-nil}
+use Rattle.std.proofs.lemmas.List.{take-append-le, take-take, append-nil}
 use Rattle.std.proofs.lemmas.List.Sums.{sum_by_more, sum_by-take-le}
 use Rattle.std.proofs.lemmas.Option.{none-some, same_Some, get_or_from_slice_get}
-use Rattle.blk_base.specs.Members.{In, In-append_left, In-append_right, In-append_cases, In-slice_get, slice_get-In, slice_get-length, slice_get-append_left, slice_get-append_right, slice_get-in_range, map-In}
+use Rattle.blk_base.specs.Members.{In, In-append_left, In-append_right, In-append_cases, In-slice_get, slice_get-length, slice_get-append_left, slice_get-append_right, slice_get-in_range, map-In}
 use Rattle.order_model.specs.declared.part.Part.{Part}
 use Rattle.order_model.specs.declared.command.Command.{Command}
 use Rattle.order_model.specs.Received.{all_parts, part_at, first_part, command_of_part, ids_of, all_ids, epoch_of, IsBarrier, IsFlush}
@@ -43,15 +43,6 @@ command_of_part-here c cs x h = cond-true (nat_lt x (length c.parts)) 0 (command
 
 command_of_part-there : (c : Command) (cs : List Command) (x : ℕ) → length c.parts ≤ x → command_of_part (c ∷ cs) x ≡ command_of_part cs (x - length c.parts) + 1
 command_of_part-there c cs x h = cond-false (nat_lt x (length c.parts)) 0 (command_of_part cs (x - length c.parts) + 1) (le-ltb x (length c.parts) h)
-
--- past the last part is the end
-pub command_of_part-past : (cs : List Command) (x : ℕ) → length (all_parts cs) ≤ x → command_of_part cs x ≡ length cs
-command_of_part-past [] x h = refl
-command_of_part-past (c ∷ cs) x h =
-    let n = length-append c.parts (all_parts cs) in
-    let there = command_of_part-there c cs x (omega arith) in
-    let rest = command_of_part-past cs (x - length c.parts) (omega arith) in
-    omega arith
 
 pub command_of_part-lt : (cs : List Command) (x : ℕ) → x < length (all_parts cs) → command_of_part cs x < length cs
 command_of_part-lt [] x h = absurd (omega arith)
@@ -174,13 +165,6 @@ place_of (c ∷ cs) x h =
 pub part_at-place : (cs : List Command) (x : ℕ) (p : IsPlaceOf cs x) → part_at cs x ≡ slice_get p.command.parts p.inside
 part_at-place cs x p =
     ap (part_at cs) p.place ∙ part_at-first cs (command_of_part cs x) p.command p.inside p.taken p.within
-
-pub first_part-push_old : (cs : List Command) (c : Command) (k : ℕ) → k ≤ length cs → first_part (cs ++ c ∷ []) k ≡ first_part cs k
-first_part-push_old cs c k h = ap (λ l. length (all_parts l)) (take-append-le k cs (c ∷ []) h)
-
--- the end of all parts
-pub first_part-all : (cs : List Command) (k : ℕ) → length cs ≤ k → first_part cs k ≡ length (all_parts cs)
-first_part-all cs k h = ap (λ l. length (all_parts l)) (take_all k cs h)
 
 pub first_part-next : (cs : List Command) (k : ℕ) (c : Command) → slice_get cs k ≡ Some c → first_part cs (suc k) ≡ first_part cs k + length c.parts
 first_part-next [] k c e = absurd (none-some c e)
@@ -348,8 +332,3 @@ all_ids-In (d ∷ cs) id h =
     (λ l. (0, d, refl, l))
     (λ r. let q = all_ids-In cs id r in (suc q.0, q.1, q.2, q.3))
     (In-append_cases (ids_of d) (all_ids cs) id h)
-
-pub In-all_ids : (cs : List Command) (k : ℕ) (c : Command) (id : ℕ) → slice_get cs k ≡ Some c → In id (ids_of c) → In id (all_ids cs)
-In-all_ids cs k c id e h =
-    let p = In-slice_get (ids_of c) id h in
-    slice_get-In (all_ids cs) (first_id cs k + p.0) id (id_at-first cs k c p.0 id e p.2)

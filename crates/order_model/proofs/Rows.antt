@@ -63,10 +63,6 @@ request-still stored more r there = ap (λ (k : Kind). let q : Request = record 
 request_there-still : (n m : ℕ) (r : RequestRow) → n ≤ m → IsRequestThere n r → IsRequestThere m r
 request_there-still n m r le there = asked_there-still n m r.asked le there
 
-pub request_rows_pushed : (stored more new : List (List ℕ)) (rs : List RequestRow) (r : RequestRow) → new ≡ stored ++ more → All (IsRequestThere (length stored)) rs
-    → IsRequestThere (length new) r → All (IsRequestThere (length new)) (rs ++ r ∷ [])
-request_rows_pushed = kept_rows.there_pushed request_of IsRequestThere request-still request_there-still
-
 pub requests_pushed : (stored more new : List (List ℕ)) (rs : List RequestRow) (r : RequestRow) → new ≡ stored ++ more → All (IsRequestThere (length stored)) rs
     → (q : Request) → request_of new r ≡ q → map (request_of new) (rs ++ r ∷ []) ≡ map (request_of stored) rs ++ q ∷ []
 requests_pushed = kept_rows.says_pushed request_of IsRequestThere request-still request_there-still

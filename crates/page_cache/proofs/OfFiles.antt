@@ -32,9 +32,6 @@ not_of p f other =
     and_false (is_unsent p.state) (p.birth == f && nat_le 0 p.index)
     (⊎_elim (λ t. absurd (other (eqb-true p.birth f t))) (λ e. ap (λ t. t && nat_le 0 p.index) e) (cases_Bool (p.birth == f)))
 
-not_sent : (p : CachedPage) (f : ℕ) → is_unsent p.state ≡ false → of_file f p ≡ false
-not_sent p f e = ap (λ t. t && (p.birth == f && nat_le 0 p.index)) e
-
 hit : (p : CachedPage) (f : ℕ) → is_unsent p.state ≡ true → p.birth ≡ f → of_file f p ≡ true
 hit p f u b =
     ap (λ t. t && (p.birth == f && nat_le 0 p.index)) u ∙ ap (λ t. t && nat_le 0 p.index) (eq-eqb p.birth f b) ∙ le-leb 0 p.index (omega arith)
@@ -52,19 +49,6 @@ file_begins (p ∷ ps) f = by (is_before p f 0) refl (file_begins ps f)
         → next_in_file (drop (if t then suc (place_of ps f 0) else 0) (p ∷ ps)) f 0 ≡ next_in_file (p ∷ ps) f 0
     by true e rest = rest ∙ sym (passed p ps f (not_of p f (lower (before_by p f 0 e))))
     by false e rest = refl
-
--- a page of the file that was sent is passed
-pub file_passes : (ps : List CachedPage) (f at : ℕ) (d : CachedPage) → at < length ps → is_unsent (get_or ps at d).state ≡ false
-    → next_in_file (drop (at + 1) ps) f 0 ≡ next_in_file (drop at ps) f 0
-file_passes ps f at d inside sent =
-    sym (ap (λ xs. next_in_file xs f 0) (drop_more ps at d inside) ∙ passed (get_or ps at d) (drop (at + 1) ps) f (not_sent (get_or ps at d) f sent))
-
--- the first that was not is the file's
-pub file_hits : (ps : List CachedPage) (f at : ℕ) (d : CachedPage) → at < length ps → is_unsent (get_or ps at d).state ≡ true → (get_or ps at d).birth ≡ f
-    → Some (get_or ps at d) ≡ next_in_file (drop at ps) f 0
-file_hits ps f at d inside unsent birth =
-    sym (ap (λ xs. next_in_file xs f 0) (drop_more ps at d inside)
-    ∙ ap (λ t. cond t (Some (get_or ps at d)) (next_in_file (drop (at + 1) ps) f 0)) (hit (get_or ps at d) f unsent birth))
 
 rising_drop : (ps : List CachedPage) (at : ℕ) → IsRising ps → IsRising (drop at ps)
 rising_drop ps zero r = r
@@ -92,9 +76,6 @@ file_ends ps f at d r low inside other =
     let behind = after_place ps f 0 at d r low inside in
     let later : f < x.birth = ⊎_elim (λ lt. lt) (λ ge. ⊎_elim (λ lt. absurd (false≢true (sym behind ∙ by_before x f 0 (inl lt)))) (λ le. absurd (other (omega arith))) (cases_lt x.birth f)) (cases_lt f x.birth) in
     sym (ap (λ xs. next_in_file xs f 0) more ∙ none_later x (drop (at + 1) ps) f (subst IsRising more (rising_drop ps at r)) later)
-
-pub file_has_none : (ps : List CachedPage) (f at : ℕ) → length ps ≤ at → None ≡ next_in_file (drop at ps) f 0
-file_has_none ps f at past = sym (ap (λ xs. next_in_file xs f 0) (drop_all at ps past))
 
 -- ---- files one after the other
 

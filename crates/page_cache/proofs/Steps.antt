@@ -3,7 +3,7 @@ use Rattle.std.proofs.Common.{◌≡◌, ℕ, zero, suc, ◌+◌, ◌-◌, ◌<�
 use Rattle.std.specs.List.{slice_get, filter}
 use Rattle.std.specs.Option.{option_map}
 use Rattle.std.proofs.lemmas.Option.{slice_get-get_or}
-use Rattle.std.proofs.lemmas.List.{drop_more, drop_all}
+use Rattle.std.proofs.lemmas.List.{drop_more}
 use Rattle.std.proofs.lemmas.List.Sums.{length-filter, count_by-le-length}
 use Rattle.page_cache.specs.declared.cached_page.CachedPage.{CachedPage}
 use Rattle.page_cache.specs.declared.cached_page.PageState.{PageState}
@@ -81,11 +81,3 @@ passed_dirty ps at zero d inside e some = absurd (some refl)
 passed_dirty ps at (suc left) d inside e some =
     ap (slice_get (dirty_of (drop (at + 1) ps))) (let less : suc left - 1 ≡ left = omega arith in less)
     ∙ sym (ap (λ xs. slice_get xs (suc left)) (dirty_more ps at d true inside e))
-
--- and it finds the one that is asked for
-pub found_dirty : (ps : List CachedPage) (at left : ℕ) (d : CachedPage) → at < length ps → is_dirty (get_or ps at d).state ≡ true → left ≡ 0 → Some (get_or ps at d) ≡ slice_get (dirty_of (drop at ps)) left
-found_dirty ps at left d inside e none =
-    sym (ap (slice_get (dirty_of (drop at ps))) none ∙ ap (λ xs. slice_get xs 0) (dirty_more ps at d true inside e))
-
-pub none_dirty_left : (ps : List CachedPage) (at left : ℕ) → length ps ≤ at → None ≡ slice_get (dirty_of (drop at ps)) left
-none_dirty_left ps at left past = sym (ap (λ xs. slice_get (dirty_of xs) left) (drop_all at ps past))

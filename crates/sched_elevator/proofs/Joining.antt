@@ -138,13 +138,6 @@ joined_parts c r flagged block put =
       ap (λ l. block_follows l (block + 1)) parts ∙ ap (λ b. block_follows (c.parts ++ p.0 ∷ []) (b + 1)) (sym p.2) ∙ follows-push c.parts p.0,
     )
 
-pub follows_alone : (id block : ℕ) (k : Kind) → kind_block k ≡ Some block → (length (parts_for id k) ≡ 1) × (block_follows (parts_for id k) (block + 1) ≡ true)
-follows_alone id block k put =
-    let p = put_parts id block k put in (
-      ap length p.1,
-      ap (λ l. block_follows l (block + 1)) p.1 ∙ ap (λ b. block_follows (p.0 ∷ []) (b + 1)) (sym p.2) ∙ follows-push [] p.0,
-    )
-
 -- one round of gathering
 pub gathered-some : (n block : ℕ) (ordered : Bool) (g : Gathering) (w : Waiting) → next_part g.queue block ordered ≡ Some w → gathered (suc n) ordered block g ≡ gathered n ordered (block + 1) (taken g w)
 unfolding gathered

@@ -12,7 +12,7 @@ use Rattle.journal_blocks.specs.laws.Logs.{mark-inside}
 use Rattle.journal_replay.specs.Recovered.{log_mark, recovered, journal_fault, fault_of, AreBetween}
 use Rattle.journal_replay.specs.laws.Attempts.{same_body, same_log, recovered-full}
 use Rattle.journal_replay.specs.laws.Recoveries.{fault-super, fault-long, fault-log, fault-full, fault-empty, fine_log}
-use Rattle.mount_make.specs.laws.Recovering.{length-recovered, emptied_after, emptied-at, keeps_same, keeps_attempt}
+use Rattle.mount_make.specs.laws.Recovering.{length-recovered, emptied_after, emptied-at, keeps_attempt}
 use Rattle.session_recovery.specs.code.Left.{IsLeft}
 
 none_told : {A : Type 0} (a : A) → ◌≡◌ {A = Option A} (Some a) None → ⊥
@@ -99,10 +99,6 @@ left_by base old new within whole fine same between =
       recovered = same;
       keeps = keeps_attempt base old new s.0 within whole s.1 fine same between;
     }
-
--- nothing was done
-pub left_same : (base : ℕ) (image : List (List ℕ)) → base < length image → journal_fault base image ≡ None → IsLeft base image image
-left_same base image within fine = record { within = within; fine = fine; recovered = refl; keeps = keeps_same base image image refl }
 
 -- one attempt after others
 pub left_after : (base : ℕ) (image left new : List (List ℕ)) → IsLeft base image left → IsLeft base left new → IsLeft base image new

@@ -55,14 +55,6 @@ zones_are image g base is same = subst (λ (r : Result Geometry FaultPlace). IfO
 
 -- ---- its journal
 
-none_by : (o : Option (JournalFault × ℕ)) → option_map as_told o ≡ None → o ≡ None
-none_by None e = refl
-none_by (Some fault) e = absurd (cc)
-
-pub journal_fine : (base : ℕ) (image : List (List ℕ)) → has_journal base image ≡ true → fault_in_journal base image ≡ None → journal_fault base image ≡ None
-journal_fine base image has fine =
-    none_by (journal_fault base image) (sym (ap (λ (b : Bool). if b then option_map as_told (journal_fault base image) else None) has) ∙ fine)
-
 journal_fine_by : (has : Bool) (o : Option (JournalFault × ℕ)) → o ≡ None → ◌≡◌ {A = Option FaultPlace} (if has then option_map as_told o else None) None
 journal_fine_by true o e = ap (option_map as_told) e
 journal_fine_by false o e = refl

@@ -46,10 +46,6 @@ module _ {K S : Type 0} (s : Opening) (k : SchedSteps K) (m : Machine S) where
   unfolding run_events
   one_event r e = refl
 
-  pub no_event : (r : SessionState K S) → run r [] ≡ r
-  unfolding run_events
-  no_event r = refl
-
   -- ---- a list of events
 
   pub all_more : (r : SessionState K S) (es : List CoreEvent) (n : ℕ) (d : CoreEvent) → n < length es → run r (drop n es) ≡ run (happens s k m r (get_or es n d)) (drop (n + 1) es)

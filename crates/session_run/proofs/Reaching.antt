@@ -1,5 +1,5 @@
 -- What holds of each state that a session reaches, and how one event leads to the next one.
-use Rattle.std.proofs.Common.{◌≡◌, ℕ, ◌+◌, ◌-◌, ◌==◌, ◌<◌, ◌≤◌, true, false, List, [], ◌∷◌, ◌++◌, length, Option, slice_get, nat_le, refl, sym, ap, ap₂, subst, ◌∙◌, arith}
+use Rattle.std.proofs.Common.{◌≡◌, ℕ, ◌+◌, ◌-◌, ◌==◌, ◌≤◌, true, false, List, [], ◌∷◌, ◌++◌, length, Option, slice_get, nat_le, refl, sym, ap, ap₂, subst, ◌∙◌, arith}
 use Rattle.order_model.specs.declared.command.Command.{Command}
 use Rattle.order_model.specs.declared.completion.Completion.{Completion}
 use Rattle.order_model.specs.declared.request.Request.{Request}
@@ -36,18 +36,12 @@ use Rattle.session_run.specs.code.Reached.{IsHostOf, IsReached, state_after}
 pub within_limit : (taken limit : ℕ) → taken ≤ limit → nat_le taken limit ≡ true
 within_limit taken limit le = grind (arith, le)
 
-pub past_limit : (taken limit : ℕ) → limit < taken → nat_le taken limit ≡ false
-past_limit taken limit lt = grind (arith, lt)
-
 some_thread : (n : ℕ) → 1 ≤ n → n == 0 ≡ false
 some_thread n le = grind (arith, le)
 
 -- without those of thread 0
 pub called_is : {K S : Type 0} (b : Beginning K S) (k : SchedSteps K) (m : Machine S) (r : SessionState K S) (thread : ℕ) → thread == 0 ≡ false → happens b.opening k m r (events.Call thread) ≡ by_host b.opening r (call_step r thread)
 called_is b k m r thread e = rw e refl
-
-pub none_called : {K S : Type 0} (b : Beginning K S) (k : SchedSteps K) (m : Machine S) (r : SessionState K S) (thread : ℕ) → thread ≡ 0 → r ≡ happens b.opening k m r (events.Call thread)
-none_called b k m r thread e = rw e refl
 
 module _ {K S : Type 0} (k : SchedSteps K) (m : Machine S) (sched_valid : K → Type 0) (dev_valid : S → Type 0) (scheduler : IsScheduler k sched_valid) (device : IsDevice m dev_valid) (b : Beginning K S) where
   abbrev AllHold : SessionState K S → Type 0
@@ -192,9 +186,6 @@ module _ {K S : Type 0} (k : SchedSteps K) (m : Machine S) (sched_valid : K → 
           (ap (λ y. session_of new y sched dev) sent
           ∙ ap (λ (y : SessionState K S). record y { completions = left_over h.host.journal.flush q.completions }) (hosted new x host v.fits.requests.counted) ∙ sym is)
           (flush_goes_on b.opening b.start.volume b.start.ring b.start.limit b.start.programs c.written c.opened c.journal c.bytes at.steps h at.host (is_full q.capacity q.submission) (slice_get q.completions 0) new did)
-
-    pub leads_no_flush : may_flush now ≡ false → Leads now events.FlushStep h now
-    leads_no_flush may = led_below h now now events.FlushStep at (rw may refl)
 
     -- ---- each event below it
 

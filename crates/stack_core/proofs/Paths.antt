@@ -1,6 +1,6 @@
 -- What holds between a request path, its scheduler and the device behind them, for both kinds of path.
 use Rattle.std.proofs.Common.{◌≡◌, ℕ, ◌+◌, ◌≤◌, Bool, true, false, if◌then◌else◌, List, [], ◌∷◌, ◌++◌, length, map, take, Option, Some, None, slice_get, refl, sym, ap, subst, ◌∙◌, arith}
-use Rattle.std.specs.Option.{option_map, option_to_list}
+use Rattle.std.specs.Option.{option_map}
 use Rattle.std.proofs.lemmas.List.{take_all}
 use Rattle.std.proofs.lemmas.Option.{none-some, some_pair_parts}
 use Rattle.order_model.specs.declared.command.Command.{Command}
@@ -148,24 +148,6 @@ module _ {S : Type 0} (m : Machine S) (valid : S → Type 0) (receives : (s : S)
 
     pub path-handed : IsHanded rs p h.dev (handed m h (given rs h.before))
     path-handed = room-handed (m.has_room h.dev) refl
-
--- ---- the device's own steps
-
-pub seen-path : (f : RequestPath) (p : SchedSeen) (rs : List Request) (old new : Seen) → PathFits f p rs old → new.base ≡ old.base → new.limit ≡ old.limit → new.took ≡ old.took → PathFits f p rs new
-seen-path (Direct next) p rs old new v base limit took = record {
-  within = v.within;
-  took = took ∙ v.took;
-  fitting = subst (λ (b : List (List ℕ)). AreRequests (length b) rs) (sym base) v.fitting;
-  limit = subst (λ n. length rs ≤ n) (sym limit) v.limit;
-}
-seen-path (Scheduled s) p rs old new v base limit took = record {
-  within = v.within;
-  submitted = v.submitted;
-  sent = subst (λ (l : List Command). p.sent_out ≡ l ++ s.dispatched ++ option_to_list s.kept) (sym took) v.sent;
-  may_accept = v.may_accept;
-  fitting = subst (λ (b : List (List ℕ)). AreRequests (length b) rs) (sym base) v.fitting;
-  limit = subst (λ n. length rs ≤ n) (sym limit) v.limit;
-}
 
 -- ---- the order
 

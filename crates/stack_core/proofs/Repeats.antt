@@ -11,9 +11,6 @@ use Rattle.stack_core.specs.Core.{RunState, times, happens_line, run_lines}
 pub times-more : {S : Type 0} (n i : ℕ) (f : S → S) (s : S) → i < n → times (n - i) f s ≡ times (n - (i + 1)) f (f s)
 times-more n i f s lt = let e : n - i ≡ suc (n - (i + 1)) = omega arith in rw e refl
 
-pub times-end : {S : Type 0} (n i : ℕ) (f : S → S) (s : S) → n ≤ i → times (n - i) f s ≡ s
-times-end n i f s le = let e : n - i ≡ 0 = omega arith in rw e refl
-
 pub run_lines-more : {K S : Type 0} (k : SchedSteps K) (m : Machine S) (rs : List Request) (r : RunState K S) (lines : List EventLine) (n : ℕ) (d : EventLine) → n < length lines
     → run_lines k m rs r (drop n lines) ≡ run_lines k m rs (happens_line k m rs r (get_or lines n d)) (drop (n + 1) lines)
 unfolding run_lines

@@ -16,9 +16,6 @@ use Rattle.tree_model.proofs.Blocks.{written_untouched, left_of, cut_out, cut_in
 -- ---- one block
 
 module _ (index off : ℕ) (bytes old : List ℕ) (whole : length old ≡ 1024) (reaches : off < 1024 * index + 1024) (begins : 1024 * index < off + length bytes) where
-  abbrev From : ℕ
-  From = off - 1024 * index
-
   abbrev Part : List ℕ
   Part = take (1024 - (off - 1024 * index)) (drop (1024 * index - off) bytes)
 
@@ -158,9 +155,6 @@ touched_out off len index j = by (len == 0) refl
         (out_of_range index (off / 1024) ((off + len - 1) / 1024 - off / 1024 + 1) f)
 
 module _ (f : File) (off : ℕ) (bytes : List ℕ) (whole : HasWholeBlocks f) where
-  old_block : ℕ → List ℕ
-  old_block index = block_or_zeros (at_number f.blocks index)
-
   old_whole : (index : ℕ) → length (block_or_zeros (at_number f.blocks index)) ≡ 1024
   old_whole index = zeros_or_whole (at_number f.blocks index) (whole index)
 

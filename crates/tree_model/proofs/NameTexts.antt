@@ -99,16 +99,6 @@ name_fits name short plain =
     let filled = not_true (length name == 0) parts_of.0 in
     all_three (nat_lt 0 (length name)) (nat_le (length name) 14) (not (list_any (λ b. b == 0) name)) (filled_lt (length name) filled) (at_most (length name) 14 short) (ap not (no_byte 0 refl name bytes))
 
--- a name that a slot takes
-pub name_is : (name n : List ℕ) → Some n ≡ name_from name → (n ≡ name) × (nat_lt 14 (length name) ≡ false)
-name_is name n from = by (nat_lt 0 (length name)) (nat_le (length name) 14) (not (list_any (λ b. b == 0) name)) refl from
-  where
-    by : (a b c : Bool) → nat_le (length name) 14 ≡ b → Some n ≡ (if a && (b && c) then Some name else None) → (n ≡ name) × (nat_lt 14 (length name) ≡ false)
-    by true true true low e = (cc, grind arith)
-    by true true false low e = absurd (cc)
-    by true false c low e = absurd (cc)
-    by false b c low e = absurd (cc)
-
 -- a path's name that none takes is too long
 pub no_name : (name : List ℕ) → IsTrue (is_path_name name) → None ≡ name_from name → nat_lt 14 (length name) ≡ true
 no_name name plain none = elim (cases_Bool (nat_lt 14 (length name))) [

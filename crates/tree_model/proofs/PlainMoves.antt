@@ -126,9 +126,6 @@ leaf_at (Some node) h = leaf_from node h
 leaf_at None h = refl
 
 module _ (tree : Tree) (w : IsWhole tree) (d : Done) (r : IsRenamed tree d) where
-  abbrev M : Move
-  M = r.move
-
   abbrev B : ℕ
   B = r.move.moved.birth
 
@@ -416,9 +413,6 @@ module _ (tree : Tree) (w : IsWhole tree) (d : Done) (r : IsRenamed tree d) wher
     moved_reached c t = ⊎_elim (λ yes. directory_reached yes c t) (λ file. file_reached file c t) (cases_Bool (is_directory (Some r.move.moved.node)))
 
     -- ---- links
-
-    met : Option ℕ
-    met = at_name T.directory.names T.name
 
     moved_counts : (c : ℕ) → names_to After c + one_for c (at_name T.directory.names T.name) ≡ names_to tree c
     moved_counts c =

@@ -22,10 +22,6 @@ use Rattle.tree_model.proofs.Plain.{whole_plain, edge_of, seen_of, links_of, is_
 use Rattle.tree_model.proofs.Edits.{give_here, IsLike, like_chain, like_file, like_stays, like_put, like_without, each_put, each_without, at_or_apart, edge_put_same, edge_without, give_split, give_kept, give_like, take_split, take_kept, take_like, give_counts, take_counts, put_counts, without_counts}
 use Rattle.tree_model.proofs.PlainCalls.{good_name, links_through, no_name, none_named, place_sorted}
 
-root_some : (o : Option Node) → is_directory o ≡ true → is_some o ≡ true
-root_some (Some node) h = refl
-root_some None h = absurd (false≢true h)
-
 pub directory_not_file : (tree : Tree) (a b : ℕ) (d : Directory) (f : File) → at_number tree a ≡ Some (nodes.Directory d) → at_number tree b ≡ Some (nodes.File f) → a ≢ b
 directory_not_file tree a b d f h j e = true≢false (sym (ap is_directory h) ∙ (ap (λ x. is_directory (at_number tree x)) e ∙ ap is_directory j))
 

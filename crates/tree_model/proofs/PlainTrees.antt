@@ -175,9 +175,6 @@ module _ (room : Room) (opened : Tree) (first : ℕ) (entries : List Entry) (pla
   pub history_plain : (k : ℕ) → IsPlain (At k)
   history_plain k = (history_both k).0
 
-  pub history_born : (k : ℕ) → AreBornBefore (first + suc k) (At k)
-  history_born k = (history_both k).1
-
   pub history_rooted : (k : ℕ) → IsRooted (At k)
   history_rooted k = (history_plain k).rooted
 

@@ -11,11 +11,10 @@ use Rattle.tree_model.specs.declared.node.Directory.{Directory}
 use Rattle.tree_model.specs.declared.node.File.{File}
 use Rattle.tree_model.specs.Maps.{at_number, at_name}
 use Rattle.tree_model.specs.Paths.{path_of}
-use Rattle.tree_model.specs.laws.Listing.{HasEntry, IsLedTo}
-use Rattle.tree_model.specs.laws.Listing.IsLedTo.{at_root}
+use Rattle.tree_model.specs.laws.Listing.{HasEntry}
 use Rattle.tree_model.specs.Trees.{Refusal, step_at, led_to, node_of_path}
 use Rattle.tree_model.specs.Calls.{Tree, Found, Place, refuse_if, and_then, if_some, names_in, refused_walk, birth_at, found_at, walk, walk_path, a_directory, a_file, all_but_last, last_name, parent_of}
-use Rattle.tree_model.specs.laws.Alike.{same_ok, step_gives, led_parts, led_is_led}
+use Rattle.tree_model.specs.laws.Alike.{same_ok, step_gives, led_parts}
 
 -- ---- one refusal after the other
 
@@ -105,12 +104,6 @@ parent_ok root_reply tree (name ∷ names) p h =
       stands = w.stands ∙ ap Some (directory_ok x.0.node y.0 y.1);
       short = ltb-false 14 (length (last_name name names)) z.0;
     })
-
-pub found_is_led : (tree : Tree) (names : List (List ℕ)) (found : Found) → IsFound tree names found → IsLedTo tree found.birth
-found_is_led tree names found f = led_is_led tree names 0 found.birth at_root f.path
-
-pub place_is_led : (tree : Tree) (names : List (List ℕ)) (p : Place) → IsPlace tree names p → IsLedTo tree p.parent
-place_is_led tree names p h = led_is_led tree (all_but_last h.first h.rest) 0 p.parent at_root h.path
 
 -- the last name of a path leads from its parent to its node
 led_last : (tree : Tree) (start parent birth : ℕ) (name : List ℕ) (names : List (List ℕ)) → led_to tree start (all_but_last name names) ≡ Ok parent → led_to tree start (name ∷ names) ≡ Ok birth →

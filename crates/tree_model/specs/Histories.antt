@@ -2,7 +2,7 @@
 --
 -- A history is a list of entries over the tree that was opened. The entry at place p, counted from 0, has the number
 -- `first + p + 1`, where `first` is the greatest birth of that tree; so births and numbers of entries never meet.
-use Rattle.std.specs.Prelude.{◌≡◌, ℕ, zero, suc, ◌+◌, ◌-◌, ◌/◌, ◌%◌, ◌==◌, Bool, true, false, not, ◌&&◌, ◌||◌, if◌then◌else◌, List, [], length, is_some, Option, Some, None, Ok, Err, unwrap_or, Result, Ok, Err}
+use Rattle.std.specs.Prelude.{ℕ, zero, suc, ◌+◌, ◌-◌, ◌/◌, ◌%◌, ◌==◌, Bool, true, false, not, ◌&&◌, ◌||◌, if◌then◌else◌, List, [], length, is_some, Option, Some, None, Ok, Err, unwrap_or, Result, Ok, Err}
 use Rattle.std.specs.List.{list_any, slice_get}
 use Rattle.std.specs.Map.{keys_of}
 use Rattle.std.specs.Str.{bytes_eq}
@@ -110,11 +110,6 @@ module _ (room : Room) (opened : Tree) (first : ℕ) (entries : List Entry) wher
   abbrev pub last : ℕ → ℕ → ℕ → ℕ
   last zero birth index = 0
   last (suc n) birth index = if wrote (suc n) birth index then suc n else last n birth index
-
-  -- entry n removed the file or unmapped the block
-  pub record IsUnmapped (birth index n : ℕ) : Type 0 where
-    pub before : maps (n - 1) birth index ≡ true
-    pub after : maps n birth index ≡ false
 
   -- entry n changed the file's size or its mapped blocks, or made or removed it
   abbrev pub changed : ℕ → ℕ → Bool

@@ -57,11 +57,6 @@ part_added f m n old now new all rest h put some most within whole =
     ∙ ap (λ l. now ++ map f l) (sym (cut_first m n rest some most within whole))
     ∙ h
 
-pub parts_added : {X : Type 0} (f : List X → UnplacedBlock) (m : ℕ) (old now : List UnplacedBlock) (all rest : List X)
-    → now ++ map f (chunks (suc m) rest) ≡ old ++ map f (chunks (suc m) all) → length rest ≡ 0 → now ≡ old ++ map f (chunks (suc m) all)
-parts_added f m old now all [] h none = sym (append-nil now) ∙ h
-parts_added f m old now all (x ∷ xs) h none = absurd (omega (arith, none))
-
 -- one descriptor more was added, with its bodies
 pub described_added : (w : Writers) (k sequence m n : ℕ) (old now new : List UnplacedBlock) (all rest : List Logged)
     → now ++ all_described w k sequence (chunks (suc m) rest) ≡ old ++ all_described w k sequence (chunks (suc m) all) → new ≡ now ++ described w k sequence (take n rest)
@@ -72,8 +67,3 @@ described_added w k sequence m n old now new all rest h put some most within who
     ∙ append_assoc now (described w k sequence (take n rest)) (all_described w k sequence (chunks (suc m) (drop n rest)))
     ∙ ap (λ l. now ++ all_described w k sequence l) (sym (cut_first m n rest some most within whole))
     ∙ h
-
-pub all_added : (w : Writers) (k sequence m : ℕ) (old now : List UnplacedBlock) (all rest : List Logged)
-    → now ++ all_described w k sequence (chunks (suc m) rest) ≡ old ++ all_described w k sequence (chunks (suc m) all) → length rest ≡ 0 → now ≡ old ++ all_described w k sequence (chunks (suc m) all)
-all_added w k sequence m old now all [] h none = sym (append-nil now) ∙ h
-all_added w k sequence m old now all (x ∷ xs) h none = absurd (omega (arith, none))

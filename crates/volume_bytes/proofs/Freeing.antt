@@ -49,14 +49,6 @@ next_turn tx zone_of run left rest whole x all c next spare after start e h step
       work = sym step ∙ (sym (ap (λ xs. run xs c) e) ∙ h.work);
     }
 
-pub this_used : {X : Type 0} (tx : ℕ) (zone_of : X → ℕ) (run : List X → Change → Change) (left rest whole : List X) (x : X) (all c : Change) (spare start : ℕ) →
-    left ≡ x ∷ rest → AreTurns tx zone_of run left all c spare whole start → (state_of c.volume.zones (zone_of x) ≡ Some states.Used) × (3 ≤ spare)
-this_used tx zone_of run left rest whole x all c spare start e h =
-    let used = subst (λ xs. MayGive tx c.volume.zones (map zone_of xs)) e h.used in
-    let long : length left ≡ suc (length rest) = ap length e in
-    let room = h.room in
-    (used.0, omega arith)
-
 -- ---- zones that are in use and differ may go one by one
 
 pub may_give : (tx : ℕ) (zones : List ℕ) (m : Zones) → AreApart zones → ((z : ℕ) → In z zones → state_of m z ≡ Some states.Used) → MayGive tx m zones

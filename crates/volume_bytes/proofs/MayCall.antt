@@ -1,11 +1,10 @@
 -- A call on bytes of a file that need not wait, and that nothing refuses, may be done where its path leads; and how many
 -- zones it takes there.
-use Rattle.std.specs.Prelude.{◌≡◌, ℕ, ◌+◌, ◌<◌, ◌≤◌, ◌==◌, nat_lt, List, [], ◌∷◌, length, replicate, Some, Ok, Result, refl}
+use Rattle.std.specs.Prelude.{◌≡◌, ℕ, ◌+◌, ◌≤◌, ◌==◌, nat_lt, List, [], ◌∷◌, length, Some, Ok, Result, refl}
 use Rattle.std.specs.Map.{keys_of}
 use Rattle.std.proofs.Common.{sym, ap, subst, ◌∙◌, inl, inr, arith}
 use Rattle.std.proofs.lemmas.Bool.{cases_Bool, eqb-true, eqb-false, eq-eqb, ne_eqb, le-ltb}
-use Rattle.blk_base.specs.Members.{IsAscending, In-map}
-use Rattle.number_sets.specs.Sets.{IsRising, with, with_all}
+use Rattle.number_sets.specs.Sets.{with, with_all}
 use Rattle.tree_model.specs.declared.call.Call.{Call}
 use Rattle.tree_model.specs.declared.call.Call.TheVariants as calls
 use Rattle.tree_model.specs.declared.call.Reply.{Reply}
@@ -15,14 +14,8 @@ use Rattle.tree_model.specs.Maps.{put_number}
 use Rattle.tree_model.proofs.Changes.{outcome_row}
 use Rattle.tree_model.specs.Calls.{Done, Found, block_or_zeros, file_zones, largest_size, needs, node_zones, outcome, patched, row, touched_blocks, used_zones, walk_path, write as write_row, written_blocks, written_file, cut_file}
 use Rattle.tree_model.specs.Maps.{at_number}
-use Rattle.volume_ops.specs.declared.found.Mapped.{Mapped}
 use Rattle.volume_model.specs.Counts.{indices_of}
-use Rattle.volume_model.specs.declared.placed.Placed.{Placed}
-use Rattle.volume_model.specs.declared.placed.Part.TheVariants as parts
-use Rattle.volume_model.specs.Volume.{zone_in, IsPart}
-use Rattle.volume_model.specs.laws.Counts.{IsIndexed}
-use Rattle.volume_model.specs.laws.Holes.{index_of, rising_ascending}
-use Rattle.volume_model.specs.laws.Indexed.{file_indexed, keys_bodies}
+use Rattle.volume_model.specs.laws.Indexed.{keys_bodies}
 use Rattle.volume_steps.specs.Now.{VolumeNow, tree_of_now, room_of}
 use Rattle.volume_steps.specs.Plain.{IsInUse}
 use Rattle.volume_steps.specs.laws.Called.{FindsRoom}
@@ -93,21 +86,6 @@ module _ (v : VolumeNow) (h : IsInUse v) (n : ℕ) (c : Call) (path : List ℕ) 
   pub may_be_written : needs (tree_of_now v) n c ≤ frees v.zones → MayWrite v found.birth off (length bytes)
   may_be_written enough = record { in_use = h; file = file_is; fits = write_fits; enough = subst (λ k. k ≤ frees v.zones) needs_wanted enough }
 
-module _ (v : VolumeNow) (n : ℕ) (path : List ℕ) (off : ℕ) (d : Done) (found : Found) where
-  pub may_write : (len value : ℕ) → FindsRoom v n (calls.Write path off len value) → outcome (room_of v.geometry) (tree_of_now v) n (calls.Write path off len value) ≡ Ok d → walk_path (tree_of_now v) path ≡ Ok found →
-      MayWrite v found.birth off (length (replicate len value))
-  unfolding row
-  may_write len value h done walked =
-      let c = calls.Write path off len value in
-      may_be_written v h.plain.in_use n c path off (replicate len value) d (outcome_row (room_of v.geometry) (tree_of_now v) n c d done) refl found walked h.enough
-
-  pub may_write_bytes : (bytes : List ℕ) → FindsRoom v n (calls.Bytes path off bytes) → outcome (room_of v.geometry) (tree_of_now v) n (calls.Bytes path off bytes) ≡ Ok d → walk_path (tree_of_now v) path ≡ Ok found →
-      MayWrite v found.birth off (length bytes)
-  unfolding row
-  may_write_bytes bytes h done walked =
-      let c = calls.Bytes path off bytes in
-      may_be_written v h.plain.in_use n c path off bytes d (outcome_row (room_of v.geometry) (tree_of_now v) n c d done) refl found walked h.enough
-
 -- ---- cuts
 
 pub may_truncate : (v : VolumeNow) (n : ℕ) (path : List ℕ) (size : ℕ) (d : Done) (found : Found) → FindsRoom v n (calls.Truncate path size) → outcome (room_of v.geometry) (tree_of_now v) n (calls.Truncate path size) ≡ Ok d →
@@ -124,16 +102,3 @@ may_truncate v n path size d found h done walked =
       file = record { placed = x.placed; zones = x.zones; stands = subst (λ b. at_number v.contents.nodes b ≡ Some x.placed) birth_is x.stands; is_file = x.is_file };
       fits = put.1;
     }
-
--- ---- what `wanted` asks of a file's inode
-
-indices_rising : (zones : List Mapped) → IsAscending index_of zones → IsAscending (λ (k : ℕ). k) (indices_of zones)
-indices_rising [] h = tt
-indices_rising (m ∷ zones) h = (λ k i. (let w = In-map (λ (m : Mapped). m.index) zones k i in subst (λ k. m.index < k) w.2 (h.0 w.0 w.1)), indices_rising zones h.1)
-
-pub file_wants : (v : VolumeNow) → IsInUse v → (n : ℕ) (p : Placed) (zones : List Mapped) → at_number v.contents.nodes n ≡ Some p → p.part ≡ parts.File zones →
-    IsRising (indices_of zones) × IsIndexed (λ x. zone_in v.contents.blocks p.inode x) (indices_of zones)
-file_wants v h n p zones at is = (
-  indices_rising zones (rising_ascending zones (subst (IsPart v.contents.blocks p.inode) is (h.volume.0.each n p at).part).rising),
-  file_indexed v.geometry v.contents.blocks v.contents.nodes n p zones h.volume.0 at is (h.volume.1 n p at),
-)

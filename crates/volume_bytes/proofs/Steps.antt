@@ -25,11 +25,6 @@ use Rattle.volume_bytes.specs.code.Work.{Work, held, single_told, outer_told, se
 -- ---- zones of numbers
 
 module _ (own : Place → ℕ) (t : TakenZones) (index : ℕ) (old : Touched) where
-  pub none_noted : index < 7 → old ≡ and_then old (tells_blocks (numbers_told own t index))
-  none_noted low =
-      let none : numbers_told own t index ≡ [] = rw (lt-ltb index 7 low) refl in
-      sym (ap (λ (bs : List ℕ). and_then old (tells_blocks bs)) none ∙ simp append-nil)
-
   pub single_noted : (zone : ℕ) (new : Touched) → 7 ≤ index → index < 519 → zone ≡ own indirect → new ≡ and_then old (tells_blocks (if nat_eq zone 0 then t.outer ∷ t.outer ∷ [] else zone ∷ [])) →
       new ≡ and_then old (tells_blocks (numbers_told own t index))
   unfolding single_told

@@ -91,9 +91,6 @@ module _ (g : Geometry) (sound : IsSound g) (t : TakenZones) (content : List ℕ
   abbrev rest : List ℕ → List ℕ
   rest bs = filter (λ b. not (b == t.data_zone)) bs
 
-  abbrev Apart : List Place → Place → Type 0
-  Apart xs x = own x ≡ 0 → taken_at t x ≢ t.data_zone
-
   -- no other place has the zone of the block
   taken_apart : (xs : List Place) → IsFresh g own t xs → In (block index) xs → (x : Place) → In x xs → x ≢ block index → own x ≡ 0 → taken_at t x ≢ t.data_zone
   taken_apart xs f mine x i other none same = other (f.differ x (block index) i mine none gap same)

@@ -262,8 +262,3 @@ pub wanted_is : (own : Place → ℕ) (indices : List ℕ) (off len count blocks
 wanted_is own indices off len zero blocks named groups rising is some e d n g = absurd (some refl)
 wanted_is own indices off len (suc count) blocks named groups rising is some e d n g =
     (λ k. d k + n k + g k) ∙ (sym (zones_more own indices rising is (off / 1024) count) ∙ ap (λ (xs : List ℕ). file_zones (with_all indices xs) - file_zones indices) e)
-
-pub none_wanted : (indices : List ℕ) (off len count : ℕ) → count ≡ 0 → range_with_len (off / 1024) count ≡ touched_blocks off len → 0 ≡ wanted_zones indices off len
-none_wanted indices off len count none e =
-    let nothing : [] ≡ touched_blocks off len = sym (ap (range_with_len (off / 1024)) none) ∙ e in
-    (let same : 0 ≡ file_zones indices - file_zones indices = omega arith in same) ∙ ap (λ (xs : List ℕ). file_zones (with_all indices xs) - file_zones indices) nothing

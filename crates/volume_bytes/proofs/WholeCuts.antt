@@ -83,9 +83,6 @@ module _ (v : VolumeNow) (tx birth size : ℕ) (m : MayTruncate v birth size) (g
       subst (λ (ms : List Mapped). MayGive tx v.zones (zones_of ms ++ gone.numbers.items)) (sym blocks_are)
       (subst (λ (ns : List ℕ). MayGive tx v.zones (zones_of (blocks_gone file.zones from) ++ ns)) (sym numbers_are) (may_go tx v m.in_use nodes birth p file.zones at refl from untouched))
 
-  pub some_number : 0 < file.number
-  some_number = (m.in_use.volume.0.each birth p at).some
-
   -- ---- step by step
 
   abbrev c : Change

@@ -46,10 +46,6 @@ takes_none tree plain n c none agrees = by (row tree n c) (sym (needs_as tree n 
     by (Err reply) e agrees = agrees
     by (Ok d) e agrees = (sym agrees, sym e)
 
-pub refused_none : (tree : Tree) (r : Row) (reply : Reply) → Agrees (Err reply) r → IsAsked tree (Err reply) r
-refused_none tree (Err why) reply agrees = agrees
-refused_none tree (Ok d) reply agrees = agrees
-
 pub needs_wanted : (tree : Tree) (n : ℕ) (c : Call) (wants : Wants) → IsAsked tree (Ok wants) (row tree n c) → wants.zones ≡ needs tree n c
 needs_wanted tree n c wants asked = by (row tree n c) asked ∙ sym (needs_as tree n c)
   where

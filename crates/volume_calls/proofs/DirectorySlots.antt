@@ -1,12 +1,10 @@
 -- What the slots of a directory say of its names.
-use Rattle.std.proofs.Common.{◌≡◌, ◌≤◌, ◌<◌, ℕ, zero, suc, ◌+◌, ◌%◌, nat_eq, nat_lt, ◌==◌, Bool, true, false, not, if◌then◌else◌, List, [], ◌∷◌, length, take, Option, Some, None, is_some, refl, inl, inr, arith, add-one}
+use Rattle.std.proofs.Common.{◌≡◌, ◌≤◌, ◌<◌, ℕ, zero, suc, ◌+◌, nat_eq, nat_lt, Bool, true, false, not, List, [], ◌∷◌, length, take, Option, Some, None, is_some, refl, inl, inr, arith, add-one}
 use Rattle.std.proofs.lemmas.Bool.{cases_eq}
 use Rattle.minix_layout.specs.declared.slot.Slot.{Slot}
 use Rattle.dir_ops.specs.Slots.{room, used_count, slot_at}
 use Rattle.dir_ops.specs.laws.Slots.{room-within, room-count, full-count}
-use Rattle.tree_model.specs.Calls.{needs_slot, directory_zones, one_if, slots_with}
-use Rattle.tree_model.specs.Maps.{at_name}
-use Rattle.tree_model.proofs.Outcomes.{slot_needs}
+use Rattle.tree_model.specs.Calls.{needs_slot, one_if}
 use Rattle.volume_model.specs.declared.placed.DirectoryPart.{DirectoryPart}
 use Rattle.volume_model.specs.Trees.{directory_from}
 
@@ -41,13 +39,3 @@ used_next slots k less = rw add-one (by slots k less)
     by (Some s ∷ slots) zero less = refl
     by (None ∷ slots) (suc k) less = by slots k (omega arith)
     by (Some s ∷ slots) (suc k) less = let rest = by slots k (omega arith) in omega arith
-
--- ---- the zones of one name more
-
-pub no_zone_more : (d : DirectoryPart) (name : List ℕ) → needs_slot (directory_from d) ≡ false → at_name d.names name ≡ None →
-    directory_zones (length d.slots) + 0 ≡ directory_zones (slots_with (directory_from d) name)
-no_zone_more d name free none = rw (none, free) (omega arith)
-
-pub zones_more : (d : DirectoryPart) (name : List ℕ) (fill : ℕ) → needs_slot (directory_from d) ≡ true → at_name d.names name ≡ None →
-    fill ≡ (if length d.slots % 64 == 0 then 1 else 0) + (if length d.slots == 448 then 1 else 0) → directory_zones (length d.slots) + fill ≡ directory_zones (slots_with (directory_from d) name)
-zones_more d name fill full none is = rw (none, full) (let more = slot_needs (length d.slots) in omega arith)

@@ -19,20 +19,6 @@ module _ (g : Geometry) (own : Place → ℕ) (zones : List Mapped) (from : ℕ)
   below : told (keeps_listed zones from) ≡ told (keeps_below (indices_of zones) from)
   below = ap told (keeps_same zones from)
 
-  -- whether it stays, and its zone
-  one : (keep : Bool) (z : ℕ) → Option ℕ
-  one keep z = if keep then Some z else None
-
-  pub none_near : from < 7 → [] ≡ told (keeps_below (indices_of zones) from)
-  none_near low =
-      let none : cuts (keeps_listed zones from) from ≡ [] = rw (lt-ltb from 7 low) refl in
-      sym (ap (λ cs. touched_by_all g (cut_edits own (keeps_listed zones from) cs)) none) ∙ below
-
-  pub none_far : 262663 ≤ from → [] ≡ told (keeps_below (indices_of zones) from)
-  none_far low =
-      let none : cuts (keeps_listed zones from) from ≡ [] = rw (le-ltb from 7 (omega arith), le-ltb from 519 (omega arith), le-ltb from 262663 low) refl in
-      sym (ap (λ cs. touched_by_all g (cut_edits own (keeps_listed zones from) cs)) none) ∙ below
-
   pub single_written : (keep : Bool) (z : ℕ) (outer : Option ℕ) → 7 ≤ from → from < 519 → keep ≡ keeps_listed zones from indirect → z ≡ own indirect → outer ≡ (if keep then Some z else None) →
       as_list outer ≡ told (keeps_below (indices_of zones) from)
   single_written keep z outer low high k e o =

@@ -3,7 +3,6 @@ pub mod Edits
 pub mod Changes
 pub mod Zones
 pub mod Written
-pub mod Apart
 pub mod Trees
 pub mod Touched
 pub mod Added

@@ -82,9 +82,6 @@ module _ (v : VolumeNow) (n parent : ℕ) (name : List ℕ) (h : MayCreate v n p
   pub apart : parent ≢ n
   apart e = none-some h.place.placed (sym none ∙ (ap (at_number v.contents.nodes) (sym e) ∙ h.place.stands))
 
-  pub no_name : (p : Placed) (d : DirectoryPart) → at_number v.contents.nodes parent ≡ Some p → p.part ≡ parts.Directory d → at_name d.names name ≡ None
-  no_name = free_name v parent name h.place
-
   pub no_place : (p : Placed) (d : DirectoryPart) → at_number v.contents.nodes parent ≡ Some p → p.part ≡ parts.Directory d → place_of d.slots name ≡ None
   no_place = free_slot v parent name h.place (λ p d at is. h.plain.in_use.volume.0.names parent p d at is)
 

@@ -5,7 +5,7 @@ use Rattle.std.proofs.lemmas.Bool.{cases_eq}
 use Rattle.std.proofs.lemmas.Option.{same_Some}
 use Rattle.minix_layout.specs.declared.slot.Slot.{Slot}
 use Rattle.dir_ops.specs.Slots.{place_of}
-use Rattle.tree_model.specs.Maps.{at_number, at_name, put_number}
+use Rattle.tree_model.specs.Maps.{at_number, put_number}
 use Rattle.tree_model.specs.laws.MapsLaws.{at_put_number, at_put_number_apart}
 use Rattle.tree_model.specs.laws.MapOrder.{InOrder, in_order_put}
 use Rattle.volume_ops.specs.Places.{table_block}
@@ -27,7 +27,7 @@ use Rattle.volume_names.specs.May.{MayLink}
 use Rattle.volume_names.specs.code.NewSlot.{new_slot}
 use Rattle.volume_names.specs.code.Steps.{MayWrite, entered, entered_in, more_links, name_written}
 use Rattle.volume_names.proofs.Changed.{volume_of}
-use Rattle.volume_names.proofs.Creates.{good, free_name, free_slot}
+use Rattle.volume_names.proofs.Creates.{good, free_slot}
 use Rattle.volume_names.proofs.NameRooms.{NameRoom, may_write}
 use Rattle.volume_names.proofs.Named.{named}
 
@@ -49,9 +49,6 @@ put_either es j k x y order apart =
 module _ (v : VolumeNow) (birth parent : ℕ) (name : List ℕ) (h : MayLink v birth parent name) where
   pub apart : parent ≢ birth
   apart e = absurd (cc (sym h.place.is ∙ (ap (λ (p : Placed). p.part) (same_Some h.place.placed h.placed (sym h.place.stands ∙ (ap (at_number v.contents.nodes) e ∙ h.stands))) ∙ h.is)))
-
-  pub no_name : (p : Placed) (d : DirectoryPart) → at_number v.contents.nodes parent ≡ Some p → p.part ≡ parts.Directory d → at_name d.names name ≡ None
-  no_name = free_name v parent name h.place
 
   pub no_place : (p : Placed) (d : DirectoryPart) → at_number v.contents.nodes parent ≡ Some p → p.part ≡ parts.Directory d → place_of d.slots name ≡ None
   no_place = free_slot v parent name h.place (λ p d at is. h.plain.in_use.volume.0.names parent p d at is)

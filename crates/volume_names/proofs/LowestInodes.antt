@@ -16,9 +16,8 @@ use Rattle.volume_ops.specs.Marks.{is_marked, marked}
 use Rattle.volume_ops.specs.laws.MarksLaws.{is_marked_same, is_marked_kept, length-marked}
 use Rattle.volume_steps.specs.Zones.{is_unused, new_number}
 use Rattle.volume_steps.specs.laws.Steady.{HasNumber}
-use Rattle.volume_names.specs.UsedInodes.{MarksNodes, lowest_unmarked, unmarked}
+use Rattle.volume_names.specs.UsedInodes.{MarksNodes, lowest_unmarked}
 use Rattle.volume_names.specs.code.InodeMap.{AreUsedBelow, IsInodeMap}
-use Rattle.std.proofs.lemmas.List.{length-set, get_or-set_other}
 
 -- ---- what is found in a range
 
@@ -75,9 +74,6 @@ lowest_here marks number some high used here =
 pub lowest_none : (marks : List Bool) (low : ℕ) → length marks ≤ low → AreUsedBelow marks low → 0 ≡ lowest_unmarked marks
 lowest_none marks low all used = sym (ap number_of (find_no (free_in marks) (length marks - 1) 1 (λ k more less. ap not (used k more (omega arith)))))
 
-pub used_more : (marks : List Bool) (low : ℕ) → AreUsedBelow marks low → is_marked marks low ≡ true → AreUsedBelow marks (low + 1)
-used_more marks low used here number some less = elim (cases_eq number low) [ inl e ↦ subst (λ k. is_marked marks k ≡ true) (sym e) here | inr far ↦ used number some (omega arith) ]
-
 -- what is not passed over is marked
 not_false : (b : Bool) → not b ≡ false → b ≡ true
 not_false true q = refl
@@ -100,13 +96,6 @@ used_to marks number is = by (find (free_in marks) (range_with_len 1 (length mar
 
 pub taken_map : (marks : List Bool) (low number : ℕ) → IsInodeMap marks low → number ≡ lowest_unmarked marks → IsInodeMap (marked marks number) (number + 1)
 taken_map marks low number h is = record { some = omega arith; used_below = used_to marks number is; few = rw (length-marked marks number) h.few }
-
-pub given_map : (marks : List Bool) (low number most : ℕ) → IsInodeMap marks low → 0 < most → most ≤ low → most ≤ number → IsInodeMap (unmarked marks number) most
-given_map marks low number most h some below own = record {
-  some = some;
-  used_below = λ k more less. get_or-set_other marks number k false false (let far : k < number = omega arith in (λ e. absurd (omega arith))) ∙ h.used_below k more (omega arith);
-  few = rw (length-set marks number false) h.few;
-}
 
 -- ---- marks of nodes
 

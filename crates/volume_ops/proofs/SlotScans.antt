@@ -12,7 +12,7 @@ use Rattle.volume_ops.specs.Zones.{Fault}
 use Rattle.tree_model.specs.Maps.{put_name, name_cmp}
 use Rattle.std.specs.Ordering.{match_ordering}
 use Rattle.std.specs.declared.cmp.Ordering.TheVariants.{Less, Equal, Greater}
-use Rattle.std.proofs.lemmas.List.Elements.{All-nil, All-cons, All-head, All-tail, All-weaker}
+use Rattle.std.proofs.lemmas.List.Elements.{All-nil, All-cons, All-head, All-tail}
 use Rattle.volume_ops.proofs.GoesOn.{answer-if_ok-ok, answer-if_ok-err}
 
 range_from : (n at : ℕ) → at < n → range_with_len at (n - at) ≡ at ∷ range_with_len (at + 1) (n - (at + 1))
@@ -44,12 +44,6 @@ module _ (disk : ℕ → List ℕ) (g : Geometry) (slots : ℕ) (blocks : List M
       ∙ answer-if_ok-err disk (scan_block g slots (get_or blocks k d) s) (scan_slots g slots (drop (k + 1) blocks)) f one
 
 -- ---- births
-
-pub no_births : (g : Geometry) → AreBirths g []
-no_births g = record { each = All-nil (λ e. IsBirth g e.1) }
-
-pub births_fit : (g : Geometry) (names : List (List ℕ × ℕ)) → AreBirths g names → All (λ e. e.1 < 2 ^ 16) names
-births_fit g names h = All-weaker (λ e. IsBirth g e.1) (λ e. e.1 < 2 ^ 16) (λ e b. b.fits) names h.each
 
 put_all : (P : List ℕ × ℕ → Type 0) (name : List ℕ) (v : ℕ) → ((n : List ℕ) → P (n, v)) → (es : List (List ℕ × ℕ)) → All P es → All P (put_name es name v)
 put_all P name v p [] h = All-cons P (name, v) [] (p name) (All-nil P)

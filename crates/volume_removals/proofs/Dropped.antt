@@ -1,11 +1,11 @@
 -- A node that goes: what the code did is the step.
-use Rattle.std.specs.Prelude.{◌≡◌, ◌≢◌, ◌<◌, ℕ, Bool, false, List, [], ◌∷◌, ◌++◌, map, Some, None, refl}
+use Rattle.std.specs.Prelude.{◌≡◌, ℕ, Bool, false, List, [], ◌∷◌, ◌++◌, map, Some, refl}
 use Rattle.std.specs.BTreeMap.{is_at}
 use Rattle.std.specs.Map.{remove_entry}
 use Rattle.std.specs.Ordering.{nat_cmp}
 use Rattle.std.proofs.Common.{sym, ap, subst, ◌∙◌, append_assoc}
 use Rattle.std.proofs.lemmas.List.{append-nil}
-use Rattle.std.proofs.lemmas.Option.{same_Some, none-some}
+use Rattle.std.proofs.lemmas.Option.{same_Some}
 use Rattle.minix_layout.specs.declared.division.Geometry.{Geometry}
 use Rattle.minix_layout.specs.declared.inode.Inode.{Inode}
 use Rattle.tree_model.specs.Maps.{at_number}
@@ -74,15 +74,9 @@ told_as t bit table n bits freed revoked dropped = simp (append_assoc, append-ni
 -- ---- the step
 
 module _ (v : VolumeNow) (tx n : ℕ) (metadata : List ℕ) (h : MayDrop v tx n metadata) where
-  pub no_other : at_number v.contents.nodes n ≢ None
-  no_other none = none-some h.placed (sym none ∙ h.stands)
-
   module _ (node : Placed) (at : at_number v.contents.nodes n ≡ Some node) where
     node_is : h.placed ≡ node
     node_is = same_Some h.placed node (sym h.stands ∙ at)
-
-    pub some_number : 0 < node.number
-    some_number = subst (λ (p : Placed). 0 < p.number) node_is h.number
 
     pub all_used : MayGive tx v.zones (zones_of (blocks_in node.part) ++ metadata)
     all_used = subst (λ (p : Placed). MayGive tx v.zones (zones_of (blocks_in p.part) ++ metadata)) node_is h.used

@@ -3,7 +3,7 @@ use Rattle.std.specs.Prelude.{◌≡◌, ℕ, suc, ◌+◌, ◌-◌, ◌<◌, na
 use Rattle.std.specs.Int.{div_ceil}
 use Rattle.std.specs.List.{range_with_len}
 use Rattle.std.proofs.Common.{sym, ap, ◌∙◌, length, arith}
-use Rattle.std.proofs.lemmas.List.{append_assoc, append-nil}
+use Rattle.std.proofs.lemmas.List.{append_assoc}
 use Rattle.std.proofs.lemmas.Option.{same_Some}
 use Rattle.tree_model.specs.Maps.{at_number}
 use Rattle.volume_ops.specs.declared.found.Mapped.{Mapped}
@@ -81,14 +81,8 @@ module _ (own : ℕ → ℕ) (all : List ℕ) (count : ℕ) where
   from_next : (index : ℕ) → index < count → from index ≡ own index ∷ from (index + 1)
   from_next index low = ap (λ n. map own (range_with_len index n)) (let e : count - index ≡ suc (count - (index + 1)) = omega arith in e)
 
-  from_none : (index : ℕ) → count < index + 1 → from index ≡ []
-  from_none index far = ap (λ n. map own (range_with_len index n)) (let e : count - index ≡ 0 = omega arith in e)
-
   pub next_zone : (zones more : List ℕ) (index zone : ℕ) → index < count → zone ≡ own index → more ≡ zones ++ zone ∷ [] → zones ++ from index ≡ all → more ++ from (index + 1) ≡ all
   next_zone zones more index zone low z e before =
       ap (λ xs. xs ++ from (index + 1)) e
       ∙ (append_assoc zones (zone ∷ []) (from (index + 1))
       ∙ (ap (λ z. zones ++ z ∷ from (index + 1)) z ∙ (sym (ap (λ xs. zones ++ xs) (from_next index low)) ∙ before)))
-
-  pub zones_end : (zones : List ℕ) (index : ℕ) → count < index + 1 → zones ++ from index ≡ all → zones ≡ all
-  zones_end zones index far before = sym (append-nil zones) ∙ (sym (ap (λ xs. zones ++ xs) (from_none index far)) ∙ before)

@@ -18,7 +18,6 @@ use Rattle.volume_model.specs.Volume.{Place, block, zone_in, IsWhole, IsPart}
 use Rattle.volume_model.specs.Touched.{Contents, Page, IsMeta, HasPage, Tells}
 use Rattle.volume_model.specs.Touched.IsMeta.{of_tables, of_numbers, of_directory}
 use Rattle.volume_model.specs.Moves.{IsVolume}
-use Rattle.volume_model.specs.Plain.{HasZone}
 use Rattle.volume_model.specs.Trees.{in_order, node_from, node_now, tree_now}
 use Rattle.volume_model.specs.laws.Changes.{changes_then, changes_none, changes_bit}
 use Rattle.volume_model.specs.laws.Edits.{untouched}
@@ -102,12 +101,6 @@ module _ (g : Geometry) (c : Contents) (h : IsVolume g c) (after : List (List �
     },
     λ b r at. just_same (λ x. zone_in c.blocks r.inode x) (λ x. zone_in after r.inode x) (kept_zone b r at) (h.1 b r at),
   )
-
-  pub kept_has : (zone : ℕ) → HasZone c zone → HasZone kept zone
-  kept_has zone z = record { birth = z.birth; placed = z.placed; place = z.place; stands = z.stands; zone_is = kept_zone z.birth z.placed z.stands z.place ∙ z.zone_is; some = z.some }
-
-  pub has_kept : (zone : ℕ) → HasZone kept zone → HasZone c zone
-  has_kept zone z = record { birth = z.birth; placed = z.placed; place = z.place; stands = z.stands; zone_is = sym (kept_zone z.birth z.placed z.stands z.place) ∙ z.zone_is; some = z.some }
 
   -- a page's zone is a zone of data, so it keeps its bytes
   pub kept_node : (b : ℕ) (r : Placed) → at_number c.nodes b ≡ Some r → node_now after r ≡ node_now c.blocks r

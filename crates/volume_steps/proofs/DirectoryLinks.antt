@@ -1,5 +1,5 @@
 -- The links of directories, over what calls make of a tree.
-use Rattle.std.specs.Prelude.{◌≡◌, ◌≢◌, ◌+◌, ℕ, Bool, true, false, cond, List, [], ◌∷◌, is_some, Option, Some, None, option_map, unwrap_or, refl, count_by}
+use Rattle.std.specs.Prelude.{◌≡◌, ◌≢◌, ◌+◌, ℕ, Bool, true, cond, List, [], ◌∷◌, is_some, Option, Some, None, option_map, unwrap_or, refl, count_by}
 use Rattle.std.specs.List.{sum_by}
 use Rattle.std.specs.Map.{keys_of, values_of}
 use Rattle.std.specs.BTreeMap.{is_at}
@@ -92,9 +92,6 @@ links_take_name u parent slots names name birth found =
     let one = over_values u (without_name_in names name) in
     let two = over_values u names in
     omega arith
-
-pub weigh_file : (u : Tree) (b : ℕ) → is_directory (at_number u b) ≡ false → weigh u b ≡ 0
-weigh_file u b e = ap (λ t. cond t 1 0) e
 
 pub weigh_directory : (u : Tree) (b : ℕ) → is_directory (at_number u b) ≡ true → weigh u b ≡ 1
 weigh_directory u b e = ap (λ t. cond t 1 0) e

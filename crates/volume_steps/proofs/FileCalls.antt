@@ -1,5 +1,5 @@
 -- The calls that write and cut files, as calls on a volume.
-use Rattle.std.specs.Prelude.{◌≡◌, ◌≢◌, ℕ, ◌+◌, ◌-◌, ◌/◌, ◌%◌, ◌≤◌, ◌==◌, not, ◌&&◌, Bool, true, false, List, length, Option, Some, None, Ok, Err, is_some, refl}
+use Rattle.std.specs.Prelude.{◌≡◌, ◌≢◌, ℕ, ◌+◌, ◌-◌, ◌/◌, ◌%◌, ◌≤◌, ◌==◌, not, ◌&&◌, Bool, true, false, List, length, Some, Ok, Err, is_some, refl}
 use Rattle.std.proofs.Common.{sym, ap, subst, ◌∙◌, arith}
 use Rattle.std.proofs.lemmas.Bool.{eqb-true, eqb-false, eq-eqb, ne_eqb, and_from, and_parts, true≢false}
 use Rattle.std.proofs.lemmas.Slice.Eq.{bytes_eq-Decides}
@@ -10,7 +10,6 @@ use Rattle.tree_model.specs.declared.call.Reply.TheVariants as replies
 use Rattle.tree_model.specs.declared.call.Room.{Room}
 use Rattle.tree_model.specs.declared.node.File.{File}
 use Rattle.std.specs.Map.{keys_of}
-use Rattle.tree_model.specs.declared.node.Node.{Node}
 use Rattle.tree_model.specs.declared.node.Node.TheVariants as nodes
 use Rattle.tree_model.specs.Maps.{at_number, put_number}
 use Rattle.tree_model.proofs.Changes.{outcome_row}
@@ -58,12 +57,6 @@ module _ (tx : ℕ) (v : VolumeNow) (num : ℕ) (c : Call) where
   needs_is d e = ap (λ (r : Row). elim r as (λ _. ℕ) [ Err reply ↦ 0 | Ok d ↦ used_zones d.tree - used_zones tree ]) e
 
 -- ---- nodes that change
-
-pub same_itself : (o : Option Node) → same_file o o ≡ true
-same_itself None = refl
-same_itself (Some (nodes.Directory d)) = refl
-same_itself (Some (nodes.Other mode)) = refl
-same_itself (Some (nodes.File f)) = and_from _ _ (eq-eqb f.size f.size refl) ((bytes_eq-Decides (keys_of f.blocks) (keys_of f.blocks)).1 refl)
 
 pub same_shape : (f e : File) → e.size ≡ f.size → keys_of e.blocks ≡ keys_of f.blocks → same_file (Some (nodes.File f)) (Some (nodes.File e)) ≡ true
 same_shape f e size keys = and_from _ _ (eq-eqb f.size e.size (sym size)) ((bytes_eq-Decides (keys_of f.blocks) (keys_of e.blocks)).1 (sym keys))

@@ -1,19 +1,19 @@
 -- The command of a request, the element at a place, and what waits.
 use Rattle.std.specs.Prelude.{◌≡◌, ℕ, ◌<◌, ◌||◌, ◌⊎◌, Bool, true, List, [], ◌∷◌, ◌++◌, length, map, Option, Some, None, IsSomeAnd, slice_get, refl}
 use Rattle.std.proofs.Common.{ap, sym, subst, ◌∙◌, inl, inr, ⊎_elim, get_or, false}
-use Rattle.std.proofs.lemmas.Bool.{false≢true, or_right}
+use Rattle.std.proofs.lemmas.Bool.{false≢true}
 use Rattle.std.proofs.lemmas.Option.{same_Some}
 use Rattle.blk_base.specs.Members.{In, In-map, map-In, slice_get-push_left, slice_get-push_cases, slice_get-length}
 use Rattle.order_model.specs.declared.request.Kind.{Kind}
 use Rattle.order_model.specs.declared.request.Kind.TheVariants.{Put, Flush}
 use Rattle.order_model.specs.declared.request.Request.{Request}
-use Rattle.order_model.specs.Submission.{is_flush, IsFence}
+use Rattle.order_model.specs.Submission.{is_flush}
 use Rattle.order_model.specs.Received.{ids_of}
 use Rattle.barrier_reassign.specs.declared.closing.Closing.{Closing}
 use Rattle.barrier_reassign.specs.declared.closing.Closing.TheVariants as closings
 use Rattle.barrier_reassign.specs.Epoch.{Waiting, unflagged}
 use Rattle.order_model.specs.Single.{command_of_request}
-use Rattle.order_model.specs.Carrying.{IsSentIn, IsWaitingAt, IsFlushAt}
+use Rattle.order_model.specs.Carrying.{IsSentIn, IsWaitingAt}
 use Rattle.order_model.proofs.Direct.{ids_of-command, carried_alone}
 use Rattle.order_model.proofs.Medium.{carried-id}
 use Rattle.barrier_reassign.specs.Sched.{SchedState, seen_of}
@@ -68,13 +68,6 @@ holds-push_cases P xs y i h =
     (λ old. inl (holds_at P (slice_get xs i) e.0 old e.2))
     (λ new. inr (new.0, subst P (sym new.1) e.2))
     (slice_get-push_cases xs y i e.0 e.1)
-
--- a flush is a fence
-pub fence-flush : (s : SchedState) (f : ℕ) → IsFlushAt s.accepted f → IsFence s.accepted f
-fence-flush s f h =
-    let e = some_holds (λ (r : Request). r.kind ≡ Flush) (slice_get s.accepted f) h in
-    holds_at (λ (r : Request). (r.barrier || is_flush r.kind) ≡ true) (slice_get s.accepted f) e.0 e.1
-    (or_right e.0.barrier (is_flush e.0.kind) (true-is_flush e.0.kind e.2))
 
 -- ---- what waits
 

@@ -2,7 +2,7 @@
 use Rattle.std.specs.Prelude.{◌≡◌, ℕ, ◌+◌, ◌<◌, ◌≤◌, ◌==◌, true, false, List, [], ◌∷◌, length, map, Option, Some, None, is_some, refl}
 use Rattle.std.specs.Option.{option_to_list}
 use Rattle.std.proofs.Common.{◌∙◌, inl, inr, ⊎_elim, arith, length-append}
-use Rattle.std.proofs.lemmas.Bool.{cases_lt, eq-eqb, both_ways, cases_Bool}
+use Rattle.std.proofs.lemmas.Bool.{cases_lt, eq-eqb, both_ways}
 use Rattle.std.proofs.lemmas.List.{length-map}
 use Rattle.blk_base.specs.Members.{In}
 use Rattle.order_model.specs.declared.part.Part.{Part}
@@ -120,19 +120,3 @@ completions-fit s w v h = let n = ids-fit s w v h in let k = length-completions 
 
 pub failures-fit : (s : DeviceState) (w : Waiting) → IsValid s → In w (transferable s) → length s.sent + length s.waiting + length (failures_of w.command) ≤ s.limit
 failures-fit s w v h = let n = ids-fit s w v h in let k = length-failures w.command in omega arith
-
--- what was handed out, and what can be, is at most one for each id and one for the cut
-pub sent-le : (s : DeviceState) → IsValid s → length s.sent + length s.waiting ≤ s.limit + 1
-sent-le s v =
-    let few = v.commands.few in
-    let all = v.counts.completions in
-    elim (cases_Bool s.told) [
-      | inl t ↦ let k = rw t at all in omega arith
-      | inr n ↦ let k = rw n at all in omega arith
-    ]
-
-pub sent-le_untold : (s : DeviceState) → IsValid s → s.told ≡ false → length s.sent + length s.waiting ≤ s.limit
-sent-le_untold s v n =
-    let few = v.commands.few in
-    let all = rw n at v.counts.completions in
-    omega arith

@@ -1,10 +1,10 @@
 -- What stands in the cache after an entry went in, or left.
-use Rattle.std.specs.Prelude.{◌≡◌, ℕ, ◌+◌, ◌<◌, ◌≤◌, ◌==◌, ◌⊎◌, Bool, true, false, not, List, [], ◌∷◌, ◌++◌, length, filter, map, take, Some, slice_get, if◌then◌else◌, refl, zero, suc}
+use Rattle.std.specs.Prelude.{◌≡◌, ℕ, ◌+◌, ◌<◌, ◌≤◌, ◌==◌, ◌⊎◌, Bool, true, false, not, List, [], ◌∷◌, ◌++◌, length, filter, map, Some, slice_get, if◌then◌else◌, refl, zero, suc}
 use Rattle.std.specs.List.{list_any, remove}
 use Rattle.std.proofs.Common.{sym, ap, subst, ◌∙◌, inl, inr, arith}
-use Rattle.std.proofs.lemmas.Bool.{cases_Bool, and_parts, and_from, eqb-true, eq-eqb, eqb-false, ne_eqb, not-true, both_ways}
+use Rattle.std.proofs.lemmas.Bool.{cases_Bool, and_parts, and_from, eqb-true, eq-eqb, not-true, both_ways}
 use Rattle.std.proofs.lemmas.List.{length_push, length-map}
-use Rattle.blk_base.specs.Members.{In, In-push, In-push_left, In-push_cases, In-filter, filter-In, filter_all, In-map, map-In, In-list_any, none-list_any, slice_get-In, slice_get-take, IsAscending}
+use Rattle.blk_base.specs.Members.{In, In-push, In-push_left, In-push_cases, In-filter, filter-In, filter_all, In-map, map-In, In-list_any, none-list_any, slice_get-In, IsAscending}
 use Rattle.std.proofs.lemmas.Option.{none-some, same_Some}
 use Rattle.order_model.specs.declared.part.Part.{Part}
 use Rattle.device_epochs.specs.declared.cache.Entry.{Entry}
@@ -285,34 +285,6 @@ pub oldest_some : (c : List Entry) → 0 < length c → 0 < length (oldest c)
 oldest_some [] h = absurd (omega arith)
 oldest_some (x ∷ xs) h = rw (eq-eqb x.epoch x.epoch refl) (omega arith)
 
-filter_later : (n : ℕ) (c : List Entry) → ((f : Entry) → In f c → n < f.epoch) → filter (λ (f : Entry). f.epoch == n) c ≡ []
-filter_later n [] h = refl
-filter_later n (x ∷ xs) h =
-    rw (ne_eqb x.epoch n (λ q. let lt = h x (inl refl) in omega (arith, lt, q))) (filter_later n xs (λ f i. h f (inr i)))
-
-filter_front : (n : ℕ) (c : List Entry) → AreSorted c → ((f : Entry) → In f c → n ≤ f.epoch) → filter (λ (f : Entry). f.epoch == n) c ≡ take (length (filter (λ (f : Entry). f.epoch == n) c)) c
-filter_front n [] s h = refl
-filter_front n (x ∷ xs) s h =
-    elim (cases_Bool (x.epoch == n)) [
-      | inl t ↦ rw t (ap (λ l. x ∷ l) (filter_front n xs s.1 (λ f i. h f (inr i))))
-      | inr d ↦
-          let le = h x (inl refl) in
-          let ne = eqb-false x.epoch n d in
-          let lt : n < x.epoch = omega arith in
-          rw (d, filter_later n xs (λ f i. let k = s.0 f i in omega (arith, k, lt))) refl
-    ]
-
--- the oldest entries are a front of the cache
-pub oldest_is_front : (c : List Entry) → AreSorted c → oldest c ≡ take (length (oldest c)) c
-oldest_is_front [] s = refl
-oldest_is_front (x ∷ xs) s =
-    filter_front x.epoch (x ∷ xs) s
-    (λ f j. elim j [ inl q ↦ let k : x.epoch ≡ f.epoch = ap (λ (g : Entry). g.epoch) q in omega (arith, k) | inr k ↦ s.0 f k ])
-
-pub slice_get-oldest : (c : List Entry) (i : ℕ) → AreSorted c → i < length (oldest c) → slice_get (oldest c) i ≡ slice_get c i
-slice_get-oldest c i s h =
-    ap (λ (l : List Entry). slice_get l i) (oldest_is_front c s) ∙ slice_get-take (length (oldest c)) c i h
-
 -- ---- an entry leaves
 
 pub In-without_entry : (e : Entry) (c : List Entry) (f : Entry) → In f (without_entry e c) → In f c × (same_place e f ≡ false)
@@ -379,15 +351,3 @@ length-put_all (e ∷ es) c =
     let one = length-put_entry e c in
     let rest = length-put_all es (put_entry e c) in
     omega arith
-
-pub length-without_entry : (e : Entry) (c : List Entry) → AreUnique c → In e c → length (without_entry e c) + 1 ≡ length c
-length-without_entry e [] u i = absurd i
-length-without_entry e (x ∷ xs) u (inl q) =
-    let gone : same_place e x ≡ true = same_place_from e x (ap (λ (g : Entry). g.epoch) (sym q)) (ap (λ (g : Entry). g.block) (sym q)) in
-    let kept : filter (λ (g : Entry). not (same_place e g)) xs ≡ xs =
-    filter_all (λ (g : Entry). not (same_place e g)) xs (λ f j. ap not (subst (λ g. same_place g f ≡ false) q (u.0 f j))) in
-    rw (gone, kept) (omega arith)
-length-without_entry e (x ∷ xs) u (inr i) =
-    let other : same_place e x ≡ false = same_place_sym x e (u.0 e i) in
-    let rest = length-without_entry e xs u.1 i in
-    rw other (omega (arith, rest))

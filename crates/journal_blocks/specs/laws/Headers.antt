@@ -1,10 +1,10 @@
 -- Laws of headers: what is read of one that was written.
-use Rattle.std.specs.Prelude.{◌≡◌, ℕ, ◌-◌, ◌^◌, ◌<◌, ◌≤◌, List, ◌++◌, length, drop}
+use Rattle.std.specs.Prelude.{◌≡◌, ℕ, ◌-◌, ◌^◌, ◌<◌, List, ◌++◌, length, drop}
 use Rattle.std.proofs.Common.{sym, ap, ◌∙◌, lit<, arith, append_assoc, length-append}
 use Rattle.std.proofs.lemmas.List.{drop_at}
 use Rattle.byte_fields.specs.Fields.{zeros, bytes_of, number_at}
 use Rattle.byte_fields.specs.Fields.Order.{big}
-use Rattle.byte_fields.specs.laws.ReadLaws.{length-zeros, length-bytes_of}
+use Rattle.byte_fields.specs.laws.ReadLaws.{length-bytes_of}
 use Rattle.journal_blocks.specs.Header.{magic_of, kind_of, sequence_of}
 use Rattle.journal_blocks.specs.Written.{header_bytes, block_with}
 use Rattle.journal_blocks.specs.laws.Numbers.{read_there, read_first}
@@ -39,12 +39,3 @@ header_there kind sequence rest kind_fits fits =
 -- what a block holds stands behind its header
 pub held_there : (kind sequence : ℕ) (held : List ℕ) → drop 12 (block_with kind sequence held) ≡ held ++ zeros (1012 - length held)
 held_there kind sequence held = drop_at (header_bytes kind sequence) (held ++ zeros (1012 - length held)) 12 (length-header kind sequence)
-
--- a block that was written so has 1,024 bytes
-pub length-block_with : (kind sequence : ℕ) (held : List ℕ) → length held ≤ 1012 → length (block_with kind sequence held) ≡ 1024
-length-block_with kind sequence held few =
-    let a = length-append (header_bytes kind sequence) (held ++ zeros (1012 - length held)) in
-    let b = length-append held (zeros (1012 - length held)) in
-    let c = length-header kind sequence in
-    let z = length-zeros (1012 - length held) in
-    omega (arith, few, a, b, c, z)

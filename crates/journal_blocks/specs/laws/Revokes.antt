@@ -15,14 +15,6 @@ use Rattle.journal_blocks.specs.laws.Numbers.{read_there}
 use Rattle.journal_blocks.specs.laws.Headers.{header_there, length-header}
 use Rattle.journal_blocks.specs.laws.Kinds.{is_commit, is_revoke}
 
-pub length-numbers : (ns : List ℕ) → length (numbers_bytes ns) ≡ 4 * length ns
-length-numbers [] = refl
-length-numbers (n ∷ ns) =
-    let a = length-append (bytes_of big 4 n) (numbers_bytes ns) in
-    let b = length-bytes_of big 4 n in
-    let c = length-numbers ns in
-    omega (arith, a, b, c)
-
 -- numbers that stand one behind the other from place 16 + 4 * k on
 numbers_there : (k : ℕ) (ns front rest b : List ℕ) → b ≡ front ++ (numbers_bytes ns ++ rest) → length front ≡ 16 + 4 * k → All (λ n. n < 256 ^ 4) ns
     → map (revoked_at b) (range_with_len k (length ns)) ≡ ns

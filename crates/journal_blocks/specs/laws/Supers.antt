@@ -4,7 +4,7 @@ use Rattle.std.proofs.Common.{sym, ap, ◌∙◌, subst, inl, inr, lit<, arith}
 use Rattle.std.proofs.lemmas.Bool.{and_parts, and_from, eqb-true}
 use Rattle.byte_fields.specs.Fields.{Apart, zeros, bytes_of, number_at, put, Field, field, are_laid_out, HaveFields}
 use Rattle.byte_fields.specs.Fields.Order.{big}
-use Rattle.byte_fields.specs.laws.ReadLaws.{fields_read, get_or-put_other, length-put, length-bytes_of, length-zeros, length-written, number_at-written}
+use Rattle.byte_fields.specs.laws.ReadLaws.{fields_read, get_or-put_other, length-put, length-bytes_of, length-zeros, number_at-written}
 use Rattle.journal_blocks.specs.declared.super_block.JournalSuper.{JournalSuper}
 use Rattle.journal_blocks.specs.declared.fault.JournalFault.{JournalFault}
 use Rattle.journal_blocks.specs.declared.fault.JournalFault.TheVariants.{NotMagic, BadKind, BadCount, Feature}
@@ -33,10 +33,6 @@ read_from b s magic kind size same known places =
 super_has : (s : JournalSuper) → HaveFields big (super_block s) (super_fields s)
 unfolding super_block
 super_has s = fields_read big 1024 (super_fields s) (zeros 1024) refl (length-zeros 1024)
-
-pub length-super_block : (s : JournalSuper) → length (super_block s) ≡ 1024
-unfolding super_block
-length-super_block s = length-written big 1024 (super_fields s) (zeros 1024) refl (length-zeros 1024)
 
 same_numbers : (s : JournalSuper) → FitSuper s → numbers_of (super_block s) ≡ s
 same_numbers s fits =
@@ -83,10 +79,6 @@ beside_tail at sequence start b size apart = number_at-written big 1024 (field 4
 tail_has : (sequence start : ℕ) (b : List ℕ) → length b ≡ 1024 → HaveFields big (with_tail sequence start b) (tail_fields sequence start)
 unfolding with_tail
 tail_has sequence start b size = fields_read big 1024 (tail_fields sequence start) b refl size
-
-pub length-with_tail : (sequence start : ℕ) (b : List ℕ) → length b ≡ 1024 → length (with_tail sequence start b) ≡ 1024
-unfolding with_tail
-length-with_tail sequence start b size = length-written big 1024 (tail_fields sequence start) b refl size
 
 -- the log is empty, and its places are as before
 empty_places : (s : JournalSuper) (sequence : ℕ) → has_places s ≡ true → has_places (record s { sequence = sequence; start = 0 }) ≡ true

@@ -7,7 +7,7 @@ use Rattle.order_model.specs.declared.command.Command.{Command}
 use Rattle.order_model.specs.declared.command.Priority.TheVariants.{Ordered}
 use Rattle.order_model.specs.Received.{all_ids, ids_of}
 use Rattle.order_model.specs.Device.{Seen, IsReceivable, IsSurface, NoneTwice}
-use Rattle.order_model.specs.Steps.{Receives, KeepsGiven}
+use Rattle.order_model.specs.Steps.{Receives}
 use Rattle.order_model.proofs.Received.{all_ids-append, none_twice-front}
 
 -- a command for a device of so many blocks
@@ -38,9 +38,6 @@ can_send-kept old new rest left k can = rw (k.all, k.base, k.limit) can
 pub keeps-more : (a b c : Seen) (xs ys zs : List Command) → KeepsAll a xs b ys → KeepsAll b ys c zs → KeepsAll a xs c zs
 keeps-more a b c xs ys zs k l = record { all = l.all ∙ k.all; base = l.base ∙ k.base; limit = l.limit ∙ k.limit }
 
-pub keeps-same : (s : Seen) (xs : List Command) → KeepsAll s xs s xs
-keeps-same s xs = record { all = refl; base = refl; limit = refl }
-
 -- the next one can be received
 pub next_receivable : (s : Seen) (c : Command) (rest : List Command) → IsSurface s → CanSend s (c ∷ rest) → IsReceivable s c
 next_receivable s c rest law can =
@@ -61,6 +58,3 @@ keeps-received old new c rest r = record {
   base = ap (λ (x : Seen). x.base) r;
   limit = ap (λ (x : Seen). x.limit) r;
 }
-
-pub keeps-given : (old new : Seen) (rest : List Command) → KeepsGiven old new → KeepsAll old rest new rest
-keeps-given old new rest k = record { all = ap (λ (cs : List Command). cs ++ rest) k.took; base = k.base; limit = k.limit }

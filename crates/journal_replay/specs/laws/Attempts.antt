@@ -259,10 +259,6 @@ is_healed m base y old new size within after =
 
 -- ---- the recovered image
 
-recovered-err : (base : ℕ) (image : List (List ℕ)) (f : JournalFault) → super_of (body_at image base) ≡ Err f → recovered base image ≡ image
-unfolding recovered
-recovered-err base image f e = rw e refl
-
 pub recovered-empty : (base : ℕ) (image : List (List ℕ)) (j : JournalSuper) → super_of (body_at image base) ≡ Ok j → (j.start == 0) ≡ true → recovered base image ≡ image
 unfolding recovered
 recovered-empty base image j e zero_start = rw e (rw zero_start refl)

@@ -1,33 +1,20 @@
 -- Laws of the parts of a recovery's run.
-use Rattle.std.specs.Prelude.{◌≡◌, ℕ, ◌+◌, ◌^◌, ◌≤◌, Bool, true, false, List, [], ◌∷◌, ◌++◌, length, Option, Some, None, refl}
+use Rattle.std.specs.Prelude.{◌≡◌, ℕ, ◌+◌, ◌^◌, ◌≤◌, Bool, true, false, List, [], ◌∷◌, ◌++◌, length, Option, Some, refl}
 use Rattle.std.specs.Option.{option_to_list}
 use Rattle.std.proofs.Common.{sym, ap, ◌∙◌, inl, inr, ⊎_elim, arith, append_assoc}
 use Rattle.std.proofs.lemmas.Bool.{cases_lt}
-use Rattle.journal_replay.specs.code.Sending.{KeepsAll, keeps-same, keeps-more, keeps-given}
-use Rattle.std.proofs.lemmas.List.{append-nil}
+use Rattle.journal_replay.specs.code.Sending.{KeepsAll, keeps-more}
 use Rattle.blk_base.specs.Streams.{Rose}
 use Rattle.order_model.specs.declared.command.Command.{Command}
 use Rattle.order_model.specs.declared.completion.Completion.{Completion}
-use Rattle.order_model.specs.Device.{Seen, Grows}
+use Rattle.order_model.specs.Device.{Seen}
 use Rattle.order_model.specs.Machine.{Machine}
-use Rattle.order_model.specs.Steps.{Performs, Fails, Transfers, Persists, Answers}
-use Rattle.journal_replay.specs.code.Runs.{StepKeeps, DrainKeeps, RunKeeps}
+use Rattle.order_model.specs.Steps.{Answers}
+use Rattle.journal_replay.specs.code.Runs.{DrainKeeps, RunKeeps}
 use Rattle.journal_replay.specs.declared.choice.Choice.{Choice}
 use Rattle.journal_replay.specs.declared.end.End.{End}
 use Rattle.journal_replay.specs.declared.end.End.TheVariants as ends
 use Rattle.journal_replay.specs.Driving.{Driven, by_completion, end_after, end_of, is_running, sent, drained, turned_from, turned, driven}
-
-pub step_same : (old new : Seen) → new ≡ old → StepKeeps old new
-step_same old new e = rw e (record { given = record { base = refl; limit = refl; took = refl; sent = refl }; faults = omega arith; failed = inl refl })
-
-pub step_transfer : (old new : Seen) → Transfers old new → Grows old new → StepKeeps old new
-step_transfer old new t g = record { given = t.given; faults = g.faults; failed = ⊎_elim (λ (p : Performs old t.number t.command new). inl p.failed) (λ (f : Fails old t.command new). inr f.faults) t.outcome }
-
-pub step_persist : (old new : Seen) → Persists old new → StepKeeps old new
-step_persist old new p = record { given = p.given; faults = let e = p.faults in omega arith; failed = inl p.failed }
-
-pub drain_same : (s : Seen) → DrainKeeps s s
-drain_same s = record { rest = refl; told = refl }
 
 pub drain_more : (a b c : Seen) (o : Option Completion) → DrainKeeps a b → Answers b o c → DrainKeeps a c
 drain_more a b c o k w = record {
@@ -41,9 +28,6 @@ end_after-append e (c ∷ cs) ys = end_after-append (by_completion e c) cs ys
 
 pub end-answered : (old new : Seen) (c : Completion) → Answers old (Some c) new → end_of new ≡ by_completion (end_of old) c
 end-answered old new c w = ap (end_after ends.Running) w.sent ∙ end_after-append ends.Running old.sent (c ∷ [])
-
-pub end-none : (old new : Seen) → Answers old None new → end_of new ≡ end_of old
-end-none old new w = ap (end_after ends.Running) (w.sent ∙ append-nil old.sent)
 
 module _ {S : Type 0} where
   -- nothing is sent where there is no room, or nothing is left
@@ -68,13 +52,7 @@ module _ {S : Type 0} where
   pub drained-next : (m : Machine S) (s : S) (c : Completion) → m.next_answer s ≡ Some c → Answers (m.seen s) (Some c) (m.seen (m.answered s)) → drained m s ≡ drained m (m.answered s)
   drained-next m s c next w = rw (next, ap length w.waiting) refl
 
-  pub drained-none : (m : Machine S) (s : S) → m.next_answer s ≡ None → drained m s ≡ s
-  drained-none m s next = rw next refl
-
 -- ---- a whole run
-
-pub run-same : (s : Seen) (xs : List Command) → RunKeeps s xs s xs
-run-same s xs = record { all = keeps-same s xs; faults = omega arith; failed = inl refl }
 
 rose-more : (x y z : ℕ) → Rose x y → y ≤ z → Rose x z
 rose-more x y z r le h = let lt = r h in omega arith
@@ -97,20 +75,7 @@ run-sent old new xs ys k e = record {
   failed = inl (ap (λ (s : Seen). s.failed) e);
 }
 
-pub run-step : (old new : Seen) (xs : List Command) → StepKeeps old new → RunKeeps old xs new xs
-run-step old new xs k = record { all = keeps-given old new xs k.given; faults = k.faults; failed = k.failed }
-
-pub run-drained : (old new : Seen) (xs : List Command) → DrainKeeps old new → RunKeeps old xs new xs
-run-drained old new xs k = record {
-  all = record { all = ap (λ (s : Seen). s.took ++ xs) k.rest; base = ap (λ (s : Seen). s.base) k.rest; limit = ap (λ (s : Seen). s.limit) k.rest };
-  faults = let same = ap (λ (s : Seen). s.faults) k.rest in omega arith;
-  failed = inl (ap (λ (s : Seen). s.failed) k.rest);
-}
-
 module _ {S : Type 0} where
-  pub turned-over : (m : Machine S) (c : Choice) (d : Driven S) → is_running (end_of (m.seen d.dev)) ≡ false → turned m c d ≡ d
-  turned-over m c d over = rw over refl
-
   pub turned-on : (m : Machine S) (c : Choice) (d : Driven S) → is_running (end_of (m.seen d.dev)) ≡ true → turned m c d ≡ turned_from m c (sent m d.dev d.rest)
   turned-on m c d running = rw running refl
 

@@ -84,9 +84,6 @@ one_more : (k : ℕ) (cs : List Choice) → replicate k choice.Default ++ choice
 one_more k cs = let e : k + 1 ≡ suc k = omega arith in more_of k cs ∙ ap (λ n. replicate n choice.Default ++ cs) (sym e)
 
 module _ {S : Type 0} where
-  pub ahead-same : (m : Machine S) (d : Driven S) → IsAhead m d d
-  ahead-same m d = record { turns = 0; same = λ cs. refl }
-
   pub ahead_more : (m : Machine S) (d e f : Driven S) → IsAhead m d e → IsAhead m e f → IsAhead m d f
   ahead_more m d e f a b = record {
     turns = a.turns + b.turns;

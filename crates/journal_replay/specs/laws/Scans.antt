@@ -1,5 +1,5 @@
 -- Laws of a scan.
-use Rattle.std.specs.Prelude.{◌≡◌, ◌≢◌, ℕ, suc, ◌+◌, ◌-◌, ◌<◌, ◌≤◌, Bool, true, false, List, [], ◌∷◌, map, length, nat_lt, if◌then◌else◌, Result, Ok, Err, IfOk, refl}
+use Rattle.std.specs.Prelude.{◌≡◌, ◌≢◌, ℕ, suc, ◌+◌, ◌-◌, ◌<◌, Bool, true, false, List, [], ◌∷◌, map, length, nat_lt, if◌then◌else◌, Result, Ok, Err, IfOk, refl}
 use Rattle.std.specs.List.{range_with_len}
 use Rattle.std.proofs.Common.{sym, ap, ◌∙◌, subst, arith}
 use Rattle.std.proofs.lemmas.Bool.{lt-ltb, eq-eqb, ne_eqb, true≢false}
@@ -36,10 +36,6 @@ scan_step base place to image r q goes body lt is step =
 -- where it ended, nothing more is read
 pub scan_ended : (base : ℕ) (es : List Entry) (q : Reading) → read_log base (after false q) es ≡ after false q
 scan_ended base es q = stopped-stays base q es
-
--- no place is left
-pub scan_out : (base from to : ℕ) (image : List (List ℕ)) (l : Log) → to ≤ from → read_log base l (entries base image from to) ≡ l
-scan_out base from to image l le = let e : to - from ≡ 0 = omega arith in rw e refl
 
 -- both parts of the ring
 pub scan_both : (base : ℕ) (s : JournalSuper) (image : List (List ℕ)) (l : Log) → read_log base l (map (entry_at base image) (places s)) ≡ read_log base (read_log base l (entries base image s.start s.maxlen)) (entries base image s.first s.start)
@@ -104,9 +100,6 @@ counted_quiet s n q = record {
 
 pub has_read : (old new : Seen) → OnlyReads old new → IsQuiet old → HasRead old new
 has_read old new r quiet = record { reads = r; quiet = subst IsQuiet (sym r.0) (counted_quiet old new.faults quiet) }
-
-pub read_none : (s : Seen) → IsQuiet s → HasRead s s
-read_none s quiet = record { reads = (refl, omega arith); quiet = quiet }
 
 pub read_more : (a b c : Seen) → HasRead a b → HasRead b c → HasRead a c
 read_more a b c r s = record { reads = (s.reads.0 ∙ ap (λ (x : Seen). record x { faults = c.faults }) r.reads.0, let h = r.reads.1 in let k = s.reads.1 in omega (arith, h, k)); quiet = s.quiet }

@@ -12,9 +12,6 @@ use Rattle.order_model.proofs.Received.{all_parts-append, command_of_part-append
 use Rattle.log_model.specs.Marks.{Logged}
 use Rattle.journal_replay.specs.Commands.{for_block, write, home_writes, ending, sends}
 
-abbrev part_of : ℕ → Logged → Part
-part_of id h = record { id = id; block = h.block; body = h.body }
-
 pub length-home_writes : (hs : List Logged) (id : ℕ) → length (home_writes id hs) ≡ length hs
 length-home_writes [] id = refl
 length-home_writes (h ∷ hs) id = ap suc (length-home_writes hs (id + 1))
@@ -48,11 +45,6 @@ pub part_at-home : (hs : List Logged) (id x : ℕ) (p : Part) → part_at (home_
 part_at-home [] id x p e = absurd (none-some p e)
 part_at-home (h ∷ hs) id zero p e = ap (λ (q : Part). Some (for_block q.block q.body)) (same_Some _ p e)
 part_at-home (h ∷ hs) id (suc x) p e = part_at-home hs (id + 1) x p e
-
-pub home-part_at : (hs : List Logged) (id x : ℕ) (h : Logged) → slice_get hs x ≡ Some h → (p : Part) × (part_at (home_writes id hs) x ≡ Some p) × (p.block ≡ h.block) × (p.body ≡ h.body)
-home-part_at [] id x h e = absurd (none-some h e)
-home-part_at (g ∷ gs) id zero h e = let q = same_Some g h e in (part_of id g, refl, ap (λ (r : Logged). r.block) q, ap (λ (r : Logged). r.body) q)
-home-part_at (g ∷ gs) id (suc x) h e = home-part_at gs (id + 1) x h e
 
 behind_part : (y x n : ℕ) → x ≡ n + y → (superblock : Logged) (p : Part) → part_at (ending n superblock) y ≡ Some p → (x ≡ n) × (p.block ≡ superblock.block) × (p.body ≡ superblock.body)
 behind_part zero x n at superblock p e = let q = same_Some _ p e in (omega arith, sym (ap (λ (r : Part). r.block) q), sym (ap (λ (r : Part). r.body) q))

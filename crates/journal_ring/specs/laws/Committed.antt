@@ -103,9 +103,6 @@ put_home-In l (h ∷ hs) y i ne =
 
 -- ---- bodies of a transaction
 
-one_mark : Logged → ℕ → Mark
-one_mark l b = if l.block == b then Set l.body else Keep
-
 mark_same : (l : Logged) (b : ℕ) → l.block ≡ b → (if l.block == b then Set l.body else Keep) ≡ Set l.body
 mark_same l b e = cond-true (l.block == b) (Set l.body) Keep (eq-eqb l.block b e)
 

@@ -4,7 +4,7 @@ use Rattle.std.specs.Int.{bit_at}
 use Rattle.std.proofs.Common.{sym, ap, ◌∙◌, inl, inr, arith, w8}
 use Rattle.std.proofs.Math.Path.{ap₂}
 use Rattle.std.proofs.lemmas.Bool.{cases_eq}
-use Rattle.std.proofs.lemmas.List.{get_or-set_same, get_or-set_other, length-set}
+use Rattle.std.proofs.lemmas.List.{get_or-set_same, get_or-set_other}
 use Rattle.std.proofs.lemmas.Nat.Bits.{bit_at_set_same, bit_at_set_other, bit_at_clear_same, bit_at_clear_other}
 use Rattle.blk_base.specs.Block.{filled}
 use Rattle.minix_layout.specs.declared.division.Geometry.{Geometry}
@@ -53,10 +53,6 @@ other_bit b at other value size within apart =
 -- another byte is as it was
 pub byte_beside_bit : (b : List ℕ) (at k : ℕ) (value : Bool) → k ≢ at / 8 → slice_index (put_bit b at value) k ≡ slice_index b k
 byte_beside_bit b at k value apart = get_or-set_other b (at / 8) k _ 0 apart
-
--- a block stays as long as it was
-pub length-put_bit : (b : List ℕ) (at : ℕ) (value : Bool) → length (put_bit b at value) ≡ length b
-length-put_bit b at value = length-set b (at / 8) _
 
 -- a bit of a map that was written is read there
 pub place_read_back : (blocks : List (List ℕ)) (p : BitPlace) (value : Bool) → p.block < length blocks →

@@ -1,5 +1,5 @@
 -- The image that mounting leaves: how long it is, which blocks stay, and that it is recovered to itself.
-use Rattle.std.specs.Prelude.{◌≡◌, ◌≢◌, ℕ, ◌+◌, ◌<◌, ◌==◌, Bool, true, false, nat_lt, if◌then◌else◌, List, length, slice_get, Option, Some, None, Result, Ok, Err, refl}
+use Rattle.std.specs.Prelude.{◌≡◌, ◌≢◌, ℕ, ◌+◌, ◌<◌, ◌==◌, Bool, true, false, nat_lt, if◌then◌else◌, List, length, slice_get, Some, None, Result, Ok, Err, refl}
 use Rattle.std.specs.Option.{option_map}
 use Rattle.std.proofs.Common.{sym, ap, ◌∙◌, subst, ⊎_elim, arith, length-set}
 use Rattle.std.proofs.lemmas.Bool.{lt-ltb, eqb-true, true≢false}
@@ -28,12 +28,6 @@ use Rattle.journal_replay.specs.declared.fault.RecoverFault.TheVariants as recov
 use Rattle.volume_ops.specs.DeviceReads.{same_surface}
 use Rattle.mount_make.specs.declared.fault.MountFault.TheVariants as mount
 use Rattle.mount_make.specs.code.Mounting.{KeepsImage}
-
-no_err : {A E : Type 0} (a : A) (e : E) → ◌≡◌ {A = Result A E} (Err e) (Ok a) → ⊥
-no_err a e h = cc
-
-no_some : {A : Type 0} (a : A) → ◌≡◌ {A = Option A} (Some a) None → ⊥
-no_some a h = cc
 
 -- ---- the recovered image, by what its superblock says
 

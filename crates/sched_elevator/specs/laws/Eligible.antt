@@ -39,11 +39,6 @@ kind_put Flush e = absurd (false≢true (sym e))
 pub not_flush-put : (w : Waiting) → is_flush w.request.kind ≡ false → IsPutAt w (block_at w)
 not_flush-put w e = kind_put w.request.kind e
 
-one_block : (k l : Kind) → have_one_block k l ≡ true → block_of k ≡ block_of l
-one_block (Put a body) (Put b other) e = eqb-true a b e
-one_block (Put a body) Flush e = absurd (both_ways false refl e)
-one_block Flush l e = absurd (both_ways false refl e)
-
 same_block : (k l : Kind) (block : ℕ) → kind_block k ≡ Some block → kind_block l ≡ Some block → have_one_block k l ≡ true
 same_block (Put a body) (Put b other) block e f = eq-eqb a b (same_Some a block e ∙ sym (same_Some b block f))
 same_block (Put a body) Flush block e f = absurd (none-some block f)

@@ -122,9 +122,6 @@ at_name_without names k j h =
     lookup-remove_entry (eq_by_cmp_equiv nat_list_cmp_total) (is_at (name_cmp k))
     (λ x y t. ap (λ z. is_eq (name_cmp z y)) (name_same k x t)) j names (IsDistinct-from_sorted name_cmp (keys_of names) h)
 
-pub at_name_without_here : {X : Type 0} (names : List (List ℕ × X)) (k : List ℕ) → NamesInOrder names → at_name (without_name_in names k) k ≡ None
-at_name_without_here names k h = at_name_without names k k h ∙ rw (name_here k)
-
 pub at_name_without_apart : {X : Type 0} (names : List (List ℕ × X)) (k j : List ℕ) → NamesInOrder names → k ≢ j → at_name (without_name_in names k) j ≡ at_name names j
 at_name_without_apart names k j h apart =
     let f : is_eq (name_cmp k j) ≡ false = false_from_ne_true (is_eq (name_cmp k j)) (λ t. apart (name_same k j t)) in

@@ -6,13 +6,12 @@ use Rattle.std.specs.List.{AllByRecursion}
 use Rattle.std.specs.declared.cmp.Ordering.{Ordering}
 use Rattle.std.specs.declared.cmp.Ordering.TheVariants.{Less, Equal, Greater}
 use Rattle.std.specs.Ordering.{nat_cmp, match_ordering, is_eq}
-use Rattle.std.specs.Map.{keys_of, set_value, remove_entry}
+use Rattle.std.specs.Map.{keys_of, set_value}
 use Rattle.std.specs.BTreeMap.{is_at}
 use Rattle.std.proofs.lemmas.Bool.{cases_Bool, true≢false}
 use Rattle.std.proofs.lemmas.Map.Keys.{sorted_head, sorted_tail}
 use Rattle.std.proofs.lemmas.Option.{same_Some, none-some}
 use Rattle.blk_base.specs.Members.{In}
-use Rattle.tree_model.specs.laws.MapsLaws.{name_here}
 use Rattle.tree_model.specs.Maps.{at_number, put_number, at_name, put_name, name_cmp}
 
 -- ---- maps whose values are seen by f
@@ -108,27 +107,3 @@ length_put_new (e ∷ es) k x none = by (name_cmp k e.0) refl (cases_Bool (is_at
     by Less q (inr f) more = omega arith
     by Equal q (inr f) more = absurd (true≢false (sym (ap is_eq q) ∙ f))
     by Greater q (inr f) more = (let ih = more (rw f at none) in omega arith)
-
--- a name that was put is taken away again
-pub remove_put : {X : Type 0} (names : List (List ℕ × X)) (k : List ℕ) (x : X) → at_name names k ≡ None → remove_entry (is_at (name_cmp k)) (put_name names k x) ≡ names
-remove_put [] k x none = rw (name_here k) refl
-remove_put (e ∷ es) k x none = by (name_cmp k e.0) refl (cases_Bool (is_at (name_cmp k) e.0)) (remove_put es k x)
-  where
-    by : (o : Ordering) → name_cmp k e.0 ≡ o → (is_at (name_cmp k) e.0 ≡ true) ⊎ (is_at (name_cmp k) e.0 ≡ false) → (at_name es k ≡ None → remove_entry (is_at (name_cmp k)) (put_name es k x) ≡ es) →
-        remove_entry (is_at (name_cmp k)) (match_ordering o ((k, x) ∷ e ∷ es) ((e.0, x) ∷ es) (e ∷ put_name es k x)) ≡ e ∷ es
-    by o q (inl t) more = absurd (none-some e.1 (sym (rw t at none)))
-    by Less q (inr f) more = rw (name_here k) refl
-    by Equal q (inr f) more = absurd (true≢false (sym (ap is_eq q) ∙ f))
-    by Greater q (inr f) more = rw f (ap (λ fs. e ∷ fs) (more (rw f at none)))
-
--- so a number
-pub remove_put_number : {X : Type 0} (es : List (ℕ × X)) (k : ℕ) (x : X) → at_number es k ≡ None → remove_entry (is_at (nat_cmp k)) (put_number es k x) ≡ es
-remove_put_number [] k x none = rw (found_here k) refl
-remove_put_number (e ∷ es) k x none = by (nat_cmp k e.0) refl (cases_Bool (is_at (nat_cmp k) e.0)) (remove_put_number es k x)
-  where
-    by : (o : Ordering) → nat_cmp k e.0 ≡ o → (is_at (nat_cmp k) e.0 ≡ true) ⊎ (is_at (nat_cmp k) e.0 ≡ false) → (at_number es k ≡ None → remove_entry (is_at (nat_cmp k)) (put_number es k x) ≡ es) →
-        remove_entry (is_at (nat_cmp k)) (match_ordering o ((k, x) ∷ e ∷ es) ((e.0, x) ∷ es) (e ∷ put_number es k x)) ≡ e ∷ es
-    by o q (inl t) more = absurd (none-some e.1 (sym (rw t at none)))
-    by Less q (inr f) more = rw (found_here k) refl
-    by Equal q (inr f) more = absurd (true≢false (sym (ap is_eq q) ∙ f))
-    by Greater q (inr f) more = rw f (ap (λ fs. e ∷ fs) (more (rw f at none)))
