@@ -17,6 +17,24 @@ use Rattle.crash_laws.specs.Session.{Session, IsSubmitted, Before, Submitted}
 use Rattle.crash_laws.specs.Submitting.{IsCommitted}
 use Rattle.crash_laws.proofs.Histories.{mapped_was_written}
 
+-- A block has no body in the image of the last closed transaction, and that transaction does not revoke it: then it
+-- has none in the image before.
+pub no_earlier_body : (s : Session) (N r z : ℕ) → N + 2 ≡ r → ((y : List ℕ) → mark_in (transactions_from s.transactions 1 (r - 1)) z ≡ Set y → ⊥) → (In z (s.transactions (N + 1)).revokes → ⊥)
+    → (x : List ℕ) → mark_in (transactions_from s.transactions 1 N) z ≡ Set x → ⊥
+no_earlier_body s N r z on_way none kept x set = by (transaction_mark (s.transactions (1 + N)) z) refl
+  where
+    last : mark_in (transactions_from s.transactions 1 (r - 1)) z ≡ followed (mark_in (transactions_from s.transactions 1 N) z) (transaction_mark (s.transactions (1 + N)) z)
+    last =
+        let e : r - 1 ≡ N + 1 = omega arith in
+        ap (λ k. mark_in (transactions_from s.transactions 1 k) z) e ∙ mark-split s.transactions N 1 z ∙ ap (λ k. followed (mark_in (transactions_from s.transactions 1 N) z) (mark_in (s.transactions k ∷ []) z)) (let q : 1 + N + 0 ≡ 1 + N = omega arith in q)
+
+    by : (t : Mark) → transaction_mark (s.transactions (1 + N)) z ≡ t → ⊥
+    by Keep e = none x (last ∙ ap (followed (mark_in (transactions_from s.transactions 1 N) z)) e ∙ set)
+    by (Set y) e = none y (last ∙ ap (followed (mark_in (transactions_from s.transactions 1 N) z)) e)
+    by Clear e =
+        let q : 1 + N ≡ N + 1 = omega arith in
+        kept (subst (λ k. In z (s.transactions k).revokes) q (transaction_mark-clear (s.transactions (1 + N)) z e))
+
 module _ {A : Type 0} {program : Reads A} {h : History A} {s : Session} {host : Host} {N : ℕ} (trees : HasTrees h) (facts : HostFacts program h s host N) where
   no_quarantine : (f i z k : ℕ) → host.zone f i ≡ Some z → host.quarantine z ≡ Some k → ⊥
   no_quarantine f i z k there waits = none-some k (sym (facts.page_free f i z there).1 ∙ waits)
@@ -31,19 +49,8 @@ module _ {A : Type 0} {program : Reads A} {h : History A} {s : Session} {host : 
 
   -- nor, while that transaction is on its way, in the one before
   no_body_before : (f i z : ℕ) (x : List ℕ) → host.zone f i ≡ Some z → N + 2 ≡ host.running → mark_in (transactions_from s.transactions 1 N) z ≡ Set x → ⊥
-  no_body_before f i z x there on_way set = by (transaction_mark (s.transactions (1 + N)) z) refl
-    where
-      last : mark_in (transactions_from s.transactions 1 (host.running - 1)) z ≡ followed (mark_in (transactions_from s.transactions 1 N) z) (transaction_mark (s.transactions (1 + N)) z)
-      last =
-          let e : host.running - 1 ≡ N + 1 = omega arith in
-          ap (λ k. mark_in (transactions_from s.transactions 1 k) z) e ∙ mark-split s.transactions N 1 z ∙ ap (λ k. followed (mark_in (transactions_from s.transactions 1 N) z) (mark_in (s.transactions k ∷ []) z)) (let q : 1 + N + 0 ≡ 1 + N = omega arith in q)
-
-      by : (t : Mark) → transaction_mark (s.transactions (1 + N)) z ≡ t → ⊥
-      by Keep e = no_body_now f i z x there (last ∙ ap (followed (mark_in (transactions_from s.transactions 1 N) z)) e ∙ set)
-      by (Set y) e = no_body_now f i z y there (last ∙ ap (followed (mark_in (transactions_from s.transactions 1 N) z)) e)
-      by Clear e =
-          let q : 1 + N ≡ N + 1 = omega arith in
-          no_quarantine f i z (N + 1) there (facts.plan_revokes_wait z on_way (subst (λ k. In z (s.transactions k).revokes) q (transaction_mark-clear (s.transactions (1 + N)) z e)))
+  no_body_before f i z x there on_way set =
+      no_earlier_body s N host.running z on_way (λ y. no_body_now f i z y there) (λ revoked. no_quarantine f i z (N + 1) there (facts.plan_revokes_wait z on_way revoked)) x set
 
   submitted_closed : (k : ℕ) → IsSubmitted s k → k ≤ N
   submitted_closed k (Before e) = omega arith

@@ -2,40 +2,20 @@
 use Rattle.std.proofs.Common.{◌≡◌, ℕ, true, Ok, Err, refl, sym, ap, ◌∙◌}
 use Rattle.std.proofs.lemmas.Bool.{false≢true}
 use Rattle.tree_model.specs.declared.call.Call.{Call}
-use Rattle.tree_model.specs.declared.call.Call.TheVariants as calls
 use Rattle.tree_model.specs.declared.call.Reply.{Reply}
 use Rattle.tree_model.specs.declared.call.Reply.TheVariants as replies
-use Rattle.tree_model.specs.Calls.{Row, Done, leaves_tree, outcome}
+use Rattle.tree_model.specs.Calls.{Row, Done, outcome}
 use Rattle.tree_model.proofs.Changes.{Change as TreeChange, stayed, made_directory, made_file, removed, unlinked, linked, renamed, written, written_bytes, truncated, outcome_change}
 use Rattle.volume_steps.specs.Now.{VolumeNow, tree_of_now, room_of, unchanged}
 use Rattle.volume_steps.specs.Calls.{called, called_by, changed}
+use Rattle.volume_steps.proofs.Called.{quiet_changed}
 use Rattle.host_core.specs.code.Replies.{has_list}
-
-quiet : (v : VolumeNow) (n tx : ℕ) (c : Call) → leaves_tree c ≡ true → changed v n tx c ≡ unchanged v
-unfolding changed
-quiet v n tx (calls.Read path off len) e = refl
-quiet v n tx (calls.List path) e = refl
-quiet v n tx (calls.Stat path) e = refl
-quiet v n tx (calls.Fsync path) e = refl
-quiet v n tx (calls.Fdatasync path) e = refl
-quiet v n tx (calls.Fbarrier path) e = refl
-quiet v n tx (calls.Fdatabarrier path) e = refl
-quiet v n tx calls.Sync e = refl
-quiet v n tx (calls.Rename path other) e = refl
-quiet v n tx (calls.Mkdir path) e = absurd (false≢true e)
-quiet v n tx (calls.Rmdir path) e = absurd (false≢true e)
-quiet v n tx (calls.Create path) e = absurd (false≢true e)
-quiet v n tx (calls.Unlink path) e = absurd (false≢true e)
-quiet v n tx (calls.Link path other) e = absurd (false≢true e)
-quiet v n tx (calls.Truncate path size) e = absurd (false≢true e)
-quiet v n tx (calls.Write path off len value) e = absurd (false≢true e)
-quiet v n tx (calls.Bytes path off bytes) e = absurd (false≢true e)
 
 no_list : (reply : Reply) → reply ≡ replies.Ok → has_list reply ≡ true → ⊥
 no_list reply e h = false≢true (sym (ap has_list e) ∙ h)
 
 of_change : (v : VolumeNow) (n tx : ℕ) (c : Call) (d : Done) → TreeChange (tree_of_now v) n d c → has_list d.reply ≡ true → changed v n tx c ≡ unchanged v
-of_change v n tx c d (stayed e same) h = quiet v n tx c e
+of_change v n tx c d (stayed e same) h = quiet_changed v n tx c e
 of_change v n tx _ d (made_directory parent m e g) h = absurd (no_list d.reply m.reply_is h)
 of_change v n tx _ d (made_file m) h = absurd (no_list d.reply m.reply_is h)
 of_change v n tx _ d (removed m) h = absurd (no_list d.reply m.reply_is h)

@@ -39,6 +39,7 @@ use Rattle.commit_actor.specs.Journal.{Plan, Phase, Idle, Closing, Committing, i
 use Rattle.flush_actor.specs.Part.{is_over, at_limit}
 use Rattle.flush_actor.specs.Steps.{flush_due, take_completion}
 use Rattle.host_machine.specs.laws.Contract.{Over, Contract, ImagesFacts, InPhase, session, KeepsImages}
+use Rattle.host_machine.specs.laws.Facts.{PagesSent}
 use Rattle.host_machine.specs.laws.PlanNotes.{is_plan_note, IsRestOf, BarrierAhead}
 use Rattle.host_machine.specs.laws.Rules.{Keeps}
 
@@ -54,6 +55,19 @@ firm_or_clean Clean e n = absurd (n refl)
 firm_or_clean Dirty e n = absurd (false≢true (sym e))
 firm_or_clean Loose e n = absurd (false≢true (sym e))
 firm_or_clean Firm e n = refl
+
+-- where no page of the changed files waits to be sent, each of them is firm
+pub all_firm : {s : Session} {pages : List CachedPage} (changed : List ℕ) → PagesSent s pages → find (λ p. is_unsent p.state && has changed p.birth) pages ≡ None
+    → (f i : ℕ) (p : CachedPage) → In f changed → page_at pages f i ≡ Some p → p.state ≡ Firm
+all_firm {pages = pages} changed sent none f i p listed here =
+    firm_or_clean p.state
+    (⊎_elim
+    (λ t.
+    absurd (false≢true (sym (none_first (λ p. is_unsent p.state && has changed p.birth) pages none f i p here)
+    ∙ and_from (is_unsent p.state) (has changed p.birth) t (In-has changed p.birth (subst (λ g. In g changed) (sym (page_at-key pages f i p here).0) listed)))))
+    (λ f. f)
+    (cases_Bool (is_unsent p.state)))
+    (sent.not_clean f i p here)
 
 module _ {A T V C R : Type 0} {o : Over A T V C R} {Stands : V → T → Type 0} (contract : Contract o Stands) where
   -- another phase with the same facts
@@ -144,17 +158,6 @@ module _ {A T V C R : Type 0} {o : Over A T V C R} {Stands : V → T → Type 0}
         ),
       )
 
-      all_sent : find (λ p. is_unsent p.state && has s.journal.running.changed p.birth) s.pages ≡ None → (f i : ℕ) (p : CachedPage) → In f s.journal.running.changed → page_at s.pages f i ≡ Some p → p.state ≡ Firm
-      all_sent none f i p changed here =
-          firm_or_clean p.state
-          (⊎_elim
-          (λ t.
-          absurd (false≢true (sym (none_first (λ p. is_unsent p.state && has s.journal.running.changed p.birth) s.pages none f i p here)
-          ∙ and_from (is_unsent p.state) (has s.journal.running.changed p.birth) t (In-has s.journal.running.changed p.birth (subst (λ g. In g s.journal.running.changed) (sym (page_at-key s.pages f i p here).0) changed)))))
-          (λ f. f)
-          (cases_Bool (is_unsent p.state)))
-          (facts.0.sent.not_clean f i p here)
-
       close_keeps : (full : Bool) → N + 1 ≡ s.journal.running.number → HasImages (close_step o.model o.setup full s).host
       close_keeps full all_closed = by (find (λ p. is_unsent p.state && has s.journal.running.changed p.birth) s.pages) refl
         where
@@ -168,7 +171,7 @@ module _ {A T V C R : Type 0} {o : Over A T V C R} {Stands : V → T → Type 0}
           by None e =
               either (λ (x : Turned V C R). HasImages x.host) (nat_lt (ring_free s.journal.ring) (log_needs s.journal.running)) _ _
               (λ d. submits_keeps full _ (checkpoint_keeps s.journal.ring.homes))
-              (λ d. (txs ++ closing_transaction contract s txs N facts ∷ [], N, plan_keeps contract s txs N facts order all_closed (all_sent e)))
+              (λ d. (txs ++ closing_transaction contract s txs N facts ∷ [], N, plan_keeps contract s txs N facts order all_closed (all_firm s.journal.running.changed facts.0.sent e)))
 
       plan_sent_keeps : (p : Plan) (first : Planned) (rest : List Planned) → p.rest ≡ first ∷ rest → InPhase o Stands s.history s.cuts (session o Stands txs s) s.journal.running.number N (Committing p)
           → HasImages (plan_sent o.model o.setup s p first rest)

@@ -1,9 +1,10 @@
 -- Laws of the history that a host has noted: one entry more, and what it has of trees.
+use mathlib.Core.Path.{fun_ext}
 use Rattle.std.proofs.Common.{sym, ap, subst, ◌∙◌, inl, inr, ⊎_elim, arith, length-append}
 use Rattle.std.proofs.lemmas.Bool.{cases_lt, false≢true, or_cases, or_parts, and_parts, and_from}
 use Rattle.std.specs.Prelude.{◌≡◌, ℕ, zero, suc, ◌+◌, ◌-◌, ◌<◌, ◌≤◌, ◌⊎◌, Bool, true, false, ◌&&◌, ◌||◌, List, [], ◌∷◌, ◌++◌, length, Option, Some, None, slice_get, slice_index_or, refl, if◌then◌else◌}
 use Rattle.blk_base.specs.Members.{slice_get-push, slice_get-push_left}
-use Rattle.crash_laws.specs.History.{HasTrees}
+use Rattle.crash_laws.specs.History.{History, HasTrees}
 use Rattle.host_machine.proofs.ChangeSteps.{IsEntry}
 use Rattle.host_machine.specs.Model.{Model}
 use Rattle.host_machine.specs.State.{Entry}
@@ -70,6 +71,21 @@ cut_noted cuts now (suc k) =
     (λ le. let e : length cuts ≡ k = omega arith in ap (λ j. slice_index_or (cuts ++ now ∷ []) j now) (sym e) ∙ index_push cuts now now ∙ sym (index_past cuts k now ge))
     (cases_lt (length cuts) k))
     (cases_lt k (length cuts))
+
+module _ {A T V C R : Type 0} (M : Model T V C R) (place : A → T → ℕ → ℕ → ℕ) (es : List (Entry C R)) (cuts : List ℕ) where
+  abbrev history_by : (ℕ → ℕ) → History A
+  history_by cut = record {
+    cut = cut;
+    maps = λ n f i. M.maps (tree_after M es n) f i;
+    writes = λ n f i. writes_at M es n f i;
+    content = λ f i v. M.content (tree_after M es v) f i;
+    changes = λ k f. some_in (λ n. alters_at M es n f) (cut (k - 1)) (cut k - cut (k - 1));
+    place = λ a n f i. place a (tree_after M es n) f i;
+  }
+
+  -- and the history has it already
+  pub history_noted : history_of M place es cuts ≡ history_of M place es (cuts ++ length es ∷ [])
+  history_noted = ap history_by (fun_ext (λ k. sym (cut_noted cuts (length es) k)))
 
 -- ---- one entry more
 

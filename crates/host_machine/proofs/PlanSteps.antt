@@ -2,7 +2,6 @@
 use Rattle.std.proofs.Common.{sym, ap, subst, ◌∙◌, inl, inr, arith, length-append}
 use Rattle.std.proofs.lemmas.Bool.{cases_lt, false≢true}
 use Rattle.std.specs.Prelude.{◌≡◌, ℕ, ◌+◌, ◌-◌, ◌<◌, ◌≤◌, ◌⊎◌, true, false, List, [], ◌∷◌, ◌++◌, length, Some, slice_index_or, refl}
-use mathlib.Core.Path.{fun_ext}
 use Rattle.blk_base.specs.Members.{In}
 use Rattle.order_model.specs.declared.note.Note.TheVariants as notes
 use Rattle.order_model.specs.declared.request.Kind.TheVariants as puts
@@ -16,7 +15,7 @@ use Rattle.crash_laws.specs.History.{History}
 use Rattle.crash_laws.specs.Rules.{CommitOrder}
 use Rattle.crash_laws.specs.Session.{image_of}
 use Rattle.crash_laws.specs.Submitting.{Submitting, after}
-use Rattle.host_machine.proofs.Entries.{trees_noted, cut_noted, index_push, index_push_left}
+use Rattle.host_machine.proofs.Entries.{trees_noted, cut_noted, history_noted, index_push, index_push_left}
 use Rattle.host_machine.proofs.Machine.{plain_at}
 use Rattle.host_machine.proofs.PlanNotes.{plan-rest, plan-barrier}
 use Rattle.host_machine.proofs.Plans.{walk_before, walk_of_image, bodies_in, on_its_way, numbers_closed, present_closed, bodies_closed, plan_revokes_closed, places_closed, sent_told, history_told}
@@ -52,18 +51,8 @@ module _ {A T V C R : Type 0} {o : Over A T V C R} {Stands : V → T → Type 0}
     abbrev after_plan : History A
     after_plan = noted_history o Stands s.history (s.cuts ++ now ∷ [])
 
-    abbrev history_by : (ℕ → ℕ) → History A
-    history_by cut = record {
-      cut = cut;
-      maps = before.maps;
-      writes = before.writes;
-      content = before.content;
-      changes = λ k f. some_in (λ n. alters_at o.model s.history n f) (cut (k - 1)) (cut k - cut (k - 1));
-      place = before.place;
-    }
-
     same_history : before ≡ after_plan
-    same_history = ap history_by (fun_ext (λ k. sym (cut_noted s.cuts now k)))
+    same_history = history_noted o.model o.place s.history s.cuts
 
     same_transactions_told : (k : ℕ) → 1 ≤ k → k < r → transaction_of (txs ++ closing_transaction ∷ []) k ≡ transaction_of txs k
     same_transactions_told k lo hi = let e = facts.1 in index_push_left txs closing_transaction (k - 1) (record { bodies = []; revokes = [] }) (omega arith)

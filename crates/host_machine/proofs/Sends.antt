@@ -3,13 +3,12 @@ use Rattle.std.proofs.Common.{sym, ap, subst, ◌∙◌, inl, inr, ⊎_elim, ari
 use Rattle.std.proofs.lemmas.Bool.{cases_lt, false≢true}
 use Rattle.std.proofs.lemmas.Option.{none-some, same_Some}
 use Rattle.std.specs.Prelude.{◌≡◌, ℕ, ◌+◌, ◌-◌, ◌<◌, ◌≤◌, ◌⊎◌, Bool, true, false, List, [], ◌∷◌, ◌++◌, length, Some, refl, if◌then◌else◌, IsTrue}
-use Rattle.blk_base.specs.Members.{In, slice_get-length}
+use Rattle.blk_base.specs.Members.{slice_get-length}
 use Rattle.order_model.specs.Submission.{IsPutOf, IsOrdered, kind_block, kind_body}
 use Rattle.order_model.specs.declared.note.Note.TheVariants.{Page, Commit}
 use Rattle.order_model.specs.declared.note.Note.{Note}
 use Rattle.order_model.specs.declared.request.Request.{Request}
-use Rattle.log_model.proofs.Marks.{mark-split, transaction_mark-clear}
-use Rattle.log_model.specs.Marks.{Mark, Keep, Clear, Set, followed, mark_in, transaction_mark, transactions_from}
+use Rattle.log_model.specs.Marks.{Set, mark_in, transactions_from}
 use Rattle.volume_ops.specs.Reads.{Reads}
 use Rattle.page_cache.specs.Pages.{is_page, page_at, put_page, marked}
 use Rattle.page_cache.specs.declared.cached_page.CachedPage.{CachedPage}
@@ -18,6 +17,7 @@ use Rattle.page_cache.specs.declared.cached_page.PageState.{PageState}
 use Rattle.page_cache.specs.laws.Maps.{is_page-same, page_at-put}
 use Rattle.crash_laws.proofs.Growing.{note_old, note_new, note_cases, put_old, put_new, new_put, put_back, ordered_old, ordered_new}
 use Rattle.crash_laws.proofs.Histories.{mapped_was_written}
+use Rattle.crash_laws.proofs.SendSteps.{no_earlier_body}
 use Rattle.crash_laws.specs.History.{History, last_write, HasTrees}
 use Rattle.crash_laws.specs.PageClauses.{NewPageClause, IsGivenUpNow}
 use Rattle.crash_laws.specs.PageRules.{IsPageTo}
@@ -41,19 +41,8 @@ module _ {A : Type 0} {program : Reads A} {h : History A} {s : Session} {now r N
 
   -- nor, while that transaction is on its way, in the one before
   no_body_before : (f i z : ℕ) (x : List ℕ) → v.zone f i ≡ Some z → N + 2 ≡ r → mark_in (transactions_from s.transactions 1 N) z ≡ Set x → ⊥
-  no_body_before f i z x there on_way set = by (transaction_mark (s.transactions (1 + N)) z) refl
-    where
-      last : mark_in (transactions_from s.transactions 1 (r - 1)) z ≡ followed (mark_in (transactions_from s.transactions 1 N) z) (transaction_mark (s.transactions (1 + N)) z)
-      last =
-          let e : r - 1 ≡ N + 1 = omega arith in
-          ap (λ k. mark_in (transactions_from s.transactions 1 k) z) e ∙ mark-split s.transactions N 1 z ∙ ap (λ k. followed (mark_in (transactions_from s.transactions 1 N) z) (mark_in (s.transactions k ∷ []) z)) (let q : 1 + N + 0 ≡ 1 + N = omega arith in q)
-
-      by : (t : Mark) → transaction_mark (s.transactions (1 + N)) z ≡ t → ⊥
-      by Keep e = no_body_now f i z x there (last ∙ ap (followed (mark_in (transactions_from s.transactions 1 N) z)) e ∙ set)
-      by (Set y) e = no_body_now f i z y there (last ∙ ap (followed (mark_in (transactions_from s.transactions 1 N) z)) e)
-      by Clear e =
-          let q : 1 + N ≡ N + 1 = omega arith in
-          no_quarantine f i z (N + 1) there (plan.waits z on_way (subst (λ k. In z (s.transactions k).revokes) q (transaction_mark-clear (s.transactions (1 + N)) z e)))
+  no_body_before f i z x there on_way set =
+      no_earlier_body s N r z on_way (λ y. no_body_now f i z y there) (λ revoked. no_quarantine f i z (N + 1) there (plan.waits z on_way revoked)) x set
 
   submitted_closed : (k : ℕ) → IsSubmitted s k → k < r
   submitted_closed k (Before none) = ⊎_elim (λ e. omega arith) (λ e. omega arith) numbers.closed

@@ -1,7 +1,7 @@
 -- The whole steps of the commit actor, the write-back and the flush actor keep the order rules, the facts of images
 -- and of the ring, and those of all begun calls.
-use Rattle.std.proofs.Common.{sym, ap, subst, ◌∙◌, ⊎_elim, arith, length-append}
-use Rattle.std.proofs.lemmas.Bool.{cases_Bool, false≢true, and_from}
+use Rattle.std.proofs.Common.{sym, ap, subst, ◌∙◌, arith, length-append}
+use Rattle.std.proofs.lemmas.Bool.{false≢true}
 use Rattle.std.proofs.lemmas.Option.{same_Some}
 use Rattle.std.specs.List.{find, filter}
 use Rattle.std.specs.Prelude.{◌≡◌, ℕ, ◌+◌, ◌-◌, ◌<◌, ◌&&◌, Bool, true, false, not, List, [], ◌∷◌, ◌++◌, length, Option, Some, None, is_none, slice_get, slice_index_or, nat_lt, IsTrue, refl, if◌then◌else◌}
@@ -15,19 +15,16 @@ use Rattle.order_model.specs.declared.turn.Turn.TheVariants as turns
 use Rattle.log_model.specs.Marks.{Logged, Transaction}
 use Rattle.page_cache.specs.Pages.{is_unsent, is_dirty, page_at}
 use Rattle.page_cache.specs.declared.cached_page.CachedPage.{CachedPage}
-use Rattle.page_cache.specs.declared.cached_page.PageState.TheVariants.{Clean, Dirty, Loose, Firm}
-use Rattle.page_cache.specs.declared.cached_page.PageState.{PageState}
-use Rattle.page_cache.specs.laws.Maps.{page_at-key}
+use Rattle.page_cache.specs.declared.cached_page.PageState.TheVariants.{Loose, Firm}
 use Rattle.page_cache.specs.laws.Order.{keyed}
 use Rattle.crash_laws.proofs.Growing.{note_new}
 use Rattle.crash_laws.specs.Session.{HasNote, IsCommit}
 use Rattle.crash_laws.specs.Submitting.{after}
-use Rattle.host_machine.proofs.ActorSteps.{rephased}
+use Rattle.host_machine.proofs.ActorSteps.{all_firm, rephased}
 use Rattle.host_machine.proofs.Entries.{trees_noted}
-use Rattle.number_sets.specs.laws.Members.{In-has}
 use Rattle.host_machine.proofs.PlanSteps.{commit_keeps}
 use Rattle.host_machine.proofs.Sends.{plainly}
-use Rattle.host_machine.proofs.Steps.{first_page-In, none_first, either}
+use Rattle.host_machine.proofs.Steps.{first_page-In, either}
 use Rattle.host_machine.specs.Host.{Turned, submits, build_plan, checkpoint, close_step, plan_sent, in_phase, commit_step, writeback, flush_step, send_page, send_planned, committed, with_flush}
 use Rattle.number_sets.specs.Sets.{has}
 use Rattle.conflict_pages.specs.Conflicts.{least}
@@ -55,12 +52,6 @@ use Rattle.host_runs.specs.laws.CallFacts.{AllCalls, wait_of, CallFacts}
 use Rattle.host_runs.specs.laws.Kept.{HasRules, KeepsRules, Calls, Flushes}
 use Rattle.host_runs.specs.laws.RingFacts.{RingInPhase, request_of}
 use Rattle.host_runs.specs.laws.Written.{IsWord, AreWritten, IsWritable}
-
-sent_state : (st : PageState) → is_unsent st ≡ false → (st ≡ Clean → ⊥) → st ≡ Firm
-sent_state Clean e n = absurd (n refl)
-sent_state Dirty e n = absurd (false≢true (sym e))
-sent_state Loose e n = absurd (false≢true (sym e))
-sent_state Firm e n = refl
 
 module _ {A T V C R : Type 0} {o : Over A T V C R} {Stands : V → T → Type 0} (contract : Contract o Stands) where
   -- another phase with the same facts
@@ -136,17 +127,6 @@ module _ {A T V C R : Type 0} {o : Over A T V C R} {Stands : V → T → Type 0}
       pub head : IsWord s.journal.ring.head
 
     module _ (formats : Formats) where
-      all_firm : find (λ p. is_unsent p.state && has s.journal.running.changed p.birth) s.pages ≡ None → (f i : ℕ) (p : CachedPage) → In f s.journal.running.changed → page_at s.pages f i ≡ Some p → p.state ≡ Firm
-      all_firm none f i p changed here =
-          sent_state p.state
-          (⊎_elim
-          (λ t.
-          absurd (false≢true (sym (none_first (λ p. is_unsent p.state && has s.journal.running.changed p.birth) s.pages none f i p here)
-          ∙ and_from (is_unsent p.state) (has s.journal.running.changed p.birth) t (In-has s.journal.running.changed p.birth (subst (λ g. In g s.journal.running.changed) (sym (page_at-key s.pages f i p here).0) changed)))))
-          (λ f. f)
-          (cases_Bool (is_unsent p.state)))
-          (kept.images.0.sent.not_clean f i p here)
-
       -- the plan is built: the cuts are noted, and transactions told anew
       built : (at : s.journal.phase ≡ Closing) (sent : (f i : ℕ) (p : CachedPage) → In f s.journal.running.changed → page_at s.pages f i ≡ Some p → p.state ≡ Firm) (room : nat_lt (ring_free s.journal.ring) (log_needs s.journal.running) ≡ false)
           → Calls contract (txs ++ transaction_now contract s txs N kept ∷ []) N (build_plan o.model o.setup s)
@@ -239,7 +219,7 @@ module _ {A T V C R : Type 0} {o : Over A T V C R} {Stands : V → T → Type 0}
           by None e =
               either (λ (x : Turned V C R). HasRules contract x.host) (nat_lt (ring_free s.journal.ring) (log_needs s.journal.running)) _ _
               (λ d. submits_rules full _ (checkpoint_rules at s.journal.ring.homes refl))
-              (λ d. (txs ++ transaction_now contract s txs N kept ∷ [], N, build_keeps contract s txs N kept at (all_firm e) d formats.written formats.writable formats.next formats.first, built at (all_firm e) d, flushes))
+              (λ d. (txs ++ transaction_now contract s txs N kept ∷ [], N, build_keeps contract s txs N kept at (all_firm s.journal.running.changed kept.images.0.sent e) d formats.written formats.writable formats.next formats.first, built at (all_firm s.journal.running.changed kept.images.0.sent e) d, flushes))
 
       plan_sent_rules : (p : Plan) (first : Planned) (rest : List Planned) → s.journal.phase ≡ Committing p → p.rest ≡ first ∷ rest → HasRules contract (plan_sent o.model o.setup s p first rest)
       plan_sent_rules p first [] at e = (txs, N + 1, committed_keeps contract s txs N kept p first at e, committed_calls p first at e, committed_flushes p first at e)

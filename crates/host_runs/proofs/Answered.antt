@@ -1,8 +1,7 @@
 -- What an Ok gives stays, whatever the host does after it.
 use Rattle.std.proofs.Common.{sym, ap, subst, ◌∙◌, inl, inr, ⊎_elim, arith, length-append}
 use Rattle.std.proofs.lemmas.Bool.{false≢true}
-use Rattle.std.specs.Prelude.{◌≡◌, ℕ, ◌+◌, ◌-◌, Bool, true, ◌≤◌, List, [], ◌∷◌, length, Option, Some, None, slice_get, refl}
-use mathlib.Core.Path.{fun_ext}
+use Rattle.std.specs.Prelude.{◌≡◌, ℕ, ◌+◌, Bool, true, ◌≤◌, List, [], ◌∷◌, length, Option, Some, None, slice_get, refl}
 use Rattle.blk_base.specs.Members.{slice_get-length}
 use Rattle.order_model.specs.declared.completion.Completion.{Completion}
 use Rattle.log_model.specs.Log.{Format}
@@ -12,13 +11,13 @@ use Rattle.crash_laws.specs.History.{History}
 use Rattle.crash_laws.specs.PromiseRules.{AreHeld}
 use Rattle.crash_laws.specs.Session.{Session}
 use Rattle.host_machine.proofs.ChangeSteps.{extends}
-use Rattle.host_machine.proofs.Entries.{cut_noted, entry_noted}
+use Rattle.host_machine.proofs.Entries.{history_noted, entry_noted}
 use Rattle.host_machine.proofs.Sends.{plainly}
 use Rattle.host_machine.proofs.Steps.{stop-unanswered}
 use Rattle.host_machine.specs.Host.{Stepped, stop_of, end_with, step_call, step_thread, continue_begun, advance}
 use Rattle.host_machine.specs.Outcomes as outcomes
 use Rattle.host_machine.specs.State.{Ending, Answered, Down, ReadOnly, SessionFull, Begun, Thread, Host}
-use Rattle.host_machine.specs.Views.{some_in, alters_at, tree_after, writes_at, transaction_of}
+use Rattle.host_machine.specs.Views.{transaction_of}
 use Rattle.host_machine.specs.laws.Contract.{Over, Contract, noted_history, session}
 use Rattle.host_runs.proofs.CallerHost.{begun_ok}
 use Rattle.host_runs.proofs.OkSteps.{ok_pushed, ok_taken, ok_grows}
@@ -91,17 +90,7 @@ module _ {A T V C R : Type 0} {o : Over A T V C R} {Stands : V → T → Type 0}
           omega arith,
         )
     moves s has t (Cuts q) ok =
-        subst OkAt q (subst (λ h. KeepsOk h (seen ring (trace_of s)) s.journal.flush.taken e b) (ap history_by (fun_ext (λ k. sym (cut_noted s.cuts (length s.history) k)))) ok.0, ok.1)
-      where
-        history_by : (ℕ → ℕ) → History A
-        history_by cut = record {
-          cut = cut;
-          maps = λ n f i. o.model.maps (tree_after o.model s.history n) f i;
-          writes = λ n f i. writes_at o.model s.history n f i;
-          content = λ f i v. o.model.content (tree_after o.model s.history v) f i;
-          changes = λ k f. some_in (λ n. alters_at o.model s.history n f) (cut (k - 1)) (cut k - cut (k - 1));
-          place = λ a n f i. o.place a (tree_after o.model s.history n) f i;
-        }
+        subst OkAt q (subst (λ h. KeepsOk h (seen ring (trace_of s)) s.journal.flush.taken e b) (history_noted o.model o.place s.history s.cuts) ok.0, ok.1)
 
   -- ---- an answer
 

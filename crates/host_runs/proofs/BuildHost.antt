@@ -3,7 +3,6 @@ use Rattle.std.proofs.Common.{sym, ap, subst, ◌∙◌, ⊎_elim, arith, lt-ltb
 use Rattle.std.proofs.lemmas.Bool.{cases_lt, false≢true}
 use Rattle.std.proofs.lemmas.Option.{none-some}
 use Rattle.std.specs.Prelude.{◌≡◌, ℕ, suc, ◌+◌, ◌-◌, ◌≤◌, true, false, List, [], ◌∷◌, ◌++◌, map, length, Some, slice_index_or, nat_lt, refl}
-use mathlib.Core.Path.{fun_ext}
 use Rattle.blk_base.specs.Members.{In, In-map}
 use Rattle.log_model.specs.Marks.{Logged, Transaction}
 use Rattle.page_cache.specs.Pages.{page_at}
@@ -15,7 +14,7 @@ use Rattle.crash_laws.specs.History.{History}
 use Rattle.crash_laws.specs.PageRules.{PageOrder, DataBeforeCommit}
 use Rattle.crash_laws.specs.Session.{Session, IsCommit}
 use Rattle.host_machine.proofs.ChangeSteps.{extends}
-use Rattle.host_machine.proofs.Entries.{cut_noted, index_push, index_push_left, entry_noted}
+use Rattle.host_machine.proofs.Entries.{history_noted, index_push, index_push_left, entry_noted}
 use Rattle.host_machine.proofs.Machine.{plain_at}
 use Rattle.host_machine.proofs.PlanSteps.{closing_transaction, plan_keeps}
 use Rattle.host_machine.proofs.Retold.{rules_retold, pages_retold, data_retold}
@@ -25,7 +24,7 @@ use Rattle.tx_running.specs.Running.{log_blocks_for, log_needs}
 use Rattle.tx_running.specs.Plan.{plan_of}
 use Rattle.host_machine.specs.State.{Entry, Host}
 use Rattle.commit_actor.specs.Journal.{Plan, Closing, Committing}
-use Rattle.host_machine.specs.Views.{some_in, alters_at, transaction_of}
+use Rattle.host_machine.specs.Views.{transaction_of}
 use Rattle.host_machine.specs.laws.Contract.{Over, Contract, noted_history, InPhase, session}
 use Rattle.host_machine.specs.laws.Rules.{AllRules}
 use Rattle.host_runs.proofs.RingHost.{plan_is_built}
@@ -84,18 +83,8 @@ module _ {A T V C R : Type 0} {o : Over A T V C R} {Stands : V → T → Type 0}
     abbrev before : History A
     before = noted_history o Stands s.history s.cuts
 
-    abbrev history_by : (ℕ → ℕ) → History A
-    history_by cut = record {
-      cut = cut;
-      maps = before.maps;
-      writes = before.writes;
-      content = before.content;
-      changes = λ k f. some_in (λ n. alters_at o.model s.history n f) (cut (k - 1)) (cut k - cut (k - 1));
-      place = before.place;
-    }
-
     pub same_history : before ≡ noted_history o Stands s.history (s.cuts ++ length s.history ∷ [])
-    same_history = ap history_by (fun_ext (λ k. sym (cut_noted s.cuts (length s.history) k)))
+    same_history = history_noted o.model o.place s.history s.cuts
 
     abbrev the_plan : Plan
     the_plan = record {

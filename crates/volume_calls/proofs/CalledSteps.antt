@@ -1,38 +1,18 @@
 -- From what was done to what the call is.
 use Rattle.std.proofs.Common.{◌≡◌, ℕ, true, false, Ok, Err, IsOk, refl, sym, ap, ◌∙◌}
-use Rattle.std.proofs.lemmas.Bool.{true≢false, false≢true}
+use Rattle.std.proofs.lemmas.Bool.{true≢false}
 use Rattle.tree_model.specs.declared.call.Call.{Call}
-use Rattle.tree_model.specs.declared.call.Call.TheVariants as calls
 use Rattle.tree_model.specs.declared.call.Reply.{Reply}
 use Rattle.tree_model.specs.declared.call.Reply.TheVariants as replies
 use Rattle.tree_model.specs.Calls.{Tree, Row, Done, leaves_tree, outcome, reply_of, reply_from}
 use Rattle.tree_model.proofs.Changes.{Change as TreeChange, stayed, made_directory, made_file, removed, unlinked, linked, renamed, written, written_bytes, truncated, outcome_change}
 use Rattle.volume_steps.specs.Now.{VolumeNow, Change, tree_of_now, room_of, unchanged}
 use Rattle.volume_steps.specs.Calls.{Called, called, called_by, changed}
+use Rattle.volume_steps.proofs.Called.{quiet_changed}
 use Rattle.volume_calls.specs.declared.answer.Answer.TheVariants.{Refused, Change as Changes}
 use Rattle.volume_calls.specs.Asked.{Answers}
 
 -- ---- nothing changes
-
-quiet_changed : (v : VolumeNow) (n tx : ℕ) (c : Call) → leaves_tree c ≡ true → changed v n tx c ≡ unchanged v
-unfolding changed
-quiet_changed v n tx (calls.Read path off len) quiet = refl
-quiet_changed v n tx (calls.List path) quiet = refl
-quiet_changed v n tx (calls.Stat path) quiet = refl
-quiet_changed v n tx (calls.Fsync path) quiet = refl
-quiet_changed v n tx (calls.Fdatasync path) quiet = refl
-quiet_changed v n tx (calls.Fbarrier path) quiet = refl
-quiet_changed v n tx (calls.Fdatabarrier path) quiet = refl
-quiet_changed v n tx calls.Sync quiet = refl
-quiet_changed v n tx (calls.Rename path other) quiet = refl
-quiet_changed v n tx (calls.Mkdir path) quiet = absurd (false≢true quiet)
-quiet_changed v n tx (calls.Rmdir path) quiet = absurd (false≢true quiet)
-quiet_changed v n tx (calls.Create path) quiet = absurd (false≢true quiet)
-quiet_changed v n tx (calls.Unlink path) quiet = absurd (false≢true quiet)
-quiet_changed v n tx (calls.Link path other) quiet = absurd (false≢true quiet)
-quiet_changed v n tx (calls.Truncate path size) quiet = absurd (false≢true quiet)
-quiet_changed v n tx (calls.Write path off len value) quiet = absurd (false≢true quiet)
-quiet_changed v n tx (calls.Bytes path off bytes) quiet = absurd (false≢true quiet)
 
 abbrev told : Change → Reply → Called
 told change reply = record { change = change; reply = reply }

@@ -1,8 +1,10 @@
 -- From what a call does where nothing refuses it to the call.
-use Rattle.std.specs.Prelude.{◌≡◌, ◌≤◌, ◌-◌, ℕ, [], Ok, Err, refl}
+use Rattle.std.specs.Prelude.{◌≡◌, ◌≤◌, ◌-◌, ℕ, true, [], Ok, Err, refl}
 use Rattle.std.proofs.Common.{ap, subst, inl, arith}
+use Rattle.std.proofs.lemmas.Bool.{false≢true}
 use Rattle.tree_model.specs.declared.call.Call.{Call}
-use Rattle.tree_model.specs.Calls.{Done, Row, outcome, needs, tree_after, tree_from, used_zones}
+use Rattle.tree_model.specs.declared.call.Call.TheVariants as calls
+use Rattle.tree_model.specs.Calls.{Done, Row, leaves_tree, outcome, needs, tree_after, tree_from, used_zones}
 use Rattle.volume_steps.specs.Now.{VolumeNow, tree_of_now, room_of, unchanged}
 use Rattle.volume_steps.specs.Calls.{called, called_by, changed}
 use Rattle.volume_steps.specs.Plain.{IsInUse, IsPlainNow}
@@ -13,6 +15,27 @@ use Rattle.volume_steps.proofs.Grows.{takes_none, grown_steady}
 use Rattle.volume_steps.proofs.CallPaths.{done_row}
 use Rattle.volume_steps.proofs.CallEnds.{IsDone}
 use Rattle.volume_steps.proofs.Marked.{marks_same, numbers_same}
+
+-- a call that leaves the tree as it is
+pub quiet_changed : (v : VolumeNow) (n tx : ℕ) (c : Call) → leaves_tree c ≡ true → changed v n tx c ≡ unchanged v
+unfolding changed
+quiet_changed v n tx (calls.Read path off len) quiet = refl
+quiet_changed v n tx (calls.List path) quiet = refl
+quiet_changed v n tx (calls.Stat path) quiet = refl
+quiet_changed v n tx (calls.Fsync path) quiet = refl
+quiet_changed v n tx (calls.Fdatasync path) quiet = refl
+quiet_changed v n tx (calls.Fbarrier path) quiet = refl
+quiet_changed v n tx (calls.Fdatabarrier path) quiet = refl
+quiet_changed v n tx calls.Sync quiet = refl
+quiet_changed v n tx (calls.Rename path other) quiet = refl
+quiet_changed v n tx (calls.Mkdir path) quiet = absurd (false≢true quiet)
+quiet_changed v n tx (calls.Rmdir path) quiet = absurd (false≢true quiet)
+quiet_changed v n tx (calls.Create path) quiet = absurd (false≢true quiet)
+quiet_changed v n tx (calls.Unlink path) quiet = absurd (false≢true quiet)
+quiet_changed v n tx (calls.Link path other) quiet = absurd (false≢true quiet)
+quiet_changed v n tx (calls.Truncate path size) quiet = absurd (false≢true quiet)
+quiet_changed v n tx (calls.Write path off len value) quiet = absurd (false≢true quiet)
+quiet_changed v n tx (calls.Bytes path off bytes) quiet = absurd (false≢true quiet)
 
 -- nothing changes
 pub unchanged_steady : (tx : ℕ) (v : VolumeNow) → IsInUse v → IsSteady tx v (unchanged v) (λ birth index. ⊥)
