@@ -20,5 +20,5 @@ pub use laws::{
     image_faults_are_first_defects, image_metadata_gives_trees, images_have_one_tree,
     made_images_are_plain, made_maps_mark_the_root,
 };
-pub use make::{MakeFault, make_volume};
+pub use make::{MakeFault, make_volume, new_journal};
 pub use mounting::{Mounted, mount};

@@ -73,8 +73,8 @@ fn put_volume(image: &mut Image, g: &Geometry)
     }
 }
 
-// A journal of so many blocks whose log is empty, and whose first transaction has the sequence 1.
-fn new_journal(blocks: u32) -> JournalSuper
+/// A journal of so many blocks whose log is empty, and whose first transaction has the sequence 1.
+pub fn new_journal(blocks: u32) -> JournalSuper
     ensures { result ≡ new_journal blocks }
 {
     JournalSuper {

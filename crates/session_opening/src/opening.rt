@@ -9,10 +9,9 @@ use crate::programs::host_programs;
 use crate::volume::made_volume;
 use blk_base::{Image, NoMemory};
 use host_core::Host;
-use journal_blocks::JournalSuper;
 use journal_ring::Ring;
 use minix_layout::Geometry;
-use mount_make::make_volume;
+use mount_make::{make_volume, new_journal};
 use page_cache::Pages;
 use std::alloc::Global;
 
@@ -21,19 +20,6 @@ use std::alloc::Global;
 pub struct OpenedSession {
     pub image: Image,
     pub host: Host,
-}
-
-// A journal of so many blocks whose log is empty.
-fn new_journal(blocks: u32) -> JournalSuper
-    ensures { result ≡ Rattle.mount_make.specs.Made.new_journal blocks }
-{
-    JournalSuper {
-        maxlen: blocks,
-        first: 1,
-        sequence: 1,
-        start: 0,
-        incompat: 1,
-    }
 }
 
 /// Opens a session on a new image of these sizes, of at most `limit` requests, with the calls of each thread.
