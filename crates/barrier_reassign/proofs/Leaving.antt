@@ -1,10 +1,10 @@
 -- The request that leaves is the one that was picked.
 use Rattle.std.proofs.Common.{◌≡◌, ℕ, ◌<◌, length, true, List, Bool, get_or, slice_get, Option, Some, None, refl, not, ◌||◌, ◌&&◌, if◌then◌else◌, sym, ap, ◌∙◌, false}
 use Rattle.std.specs.List.{remove, list_all}
-use Rattle.blk_base.specs.Members.{In-filter, slice_get-In, slice_get-in_range}
+use Rattle.blk_base.specs.laws.Members.{In-filter, slice_get-In, slice_get-in_range}
 use Rattle.std.proofs.lemmas.Option.{get_or_from_slice_get}
 use Rattle.order_model.specs.declared.request.Kind.{Kind}
-use Rattle.order_model.specs.Submission.{is_flush}
+use Rattle.order_model.specs.OrderClosed.{is_flush}
 use Rattle.barrier_reassign.specs.declared.closing.Closing.{Closing}
 use Rattle.barrier_reassign.specs.declared.closing.Closing.TheVariants as closings
 use Rattle.barrier_reassign.specs.Epoch.{EpochState, Waiting, eligible, without, waits_ordered, is_barrier_closing, departed, leaving, stands_before, may_leave, AreNumbered}

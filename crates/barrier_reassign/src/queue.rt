@@ -1,7 +1,7 @@
 //! The queue in which barriers are reassigned.
 ghost use Rattle.std.specs.Prelude.{◌≡◌, ℕ, ◌+◌, ◌^◌, ◌<◌, ◌≤◌, ◌↔◌, ◌==◌, ◌∷◌, ◌++◌, not, length, true, false, IsOk, IsTrue, IfOk, OnOk, IfErr, MatchOption, slice_get, if◌then◌else◌, [], ◌||◌, ◌&&◌};
 ghost use Rattle.std.specs.Option.{option_map, option_copied};
-ghost use Rattle.order_model.specs.Submission.{is_flush};
+ghost use Rattle.order_model.specs.OrderClosed.{is_flush};
 ghost use Rattle.barrier_reassign.specs.Epoch.{Waiting, is_blocked, can_accept, closing_of, unflagged, accepted, have_one_block, stands_before, may_leave, eligible, waits_ordered, picked, departed, leaving, is_barrier_closing, is_open, is_full};
 ghost use Rattle.barrier_reassign.specs.code.Kept.{IsPicked};
 

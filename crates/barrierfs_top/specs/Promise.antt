@@ -1,7 +1,7 @@
 -- What `replay` promises of the bytes that it writes.
 use Rattle.std.specs.Prelude.{◌≡◌, ℕ, ◌+◌, ◌<◌, ◌++◌, ◌⊎◌, true, false, List, length, map, take, Option, Some, None, Ok}
 use Rattle.blk_base.specs.Image.{zeros}
-use Rattle.order_model.specs.Submission.{IsOrderClosed}
+use Rattle.order_model.specs.OrderClosed.{IsOrderClosed}
 use Rattle.stack_core.specs.Headline.{KeepsOrder}
 use Rattle.script_grammar.specs.declared.script.Script.{Script}
 use Rattle.script_grammar.specs.Grammar.{script_of, blocks_of}

@@ -3,3 +3,4 @@ pub mod Image
 pub mod Members
 pub mod Streams
 pub mod Memory
+pub mod laws

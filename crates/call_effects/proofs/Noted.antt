@@ -1,7 +1,8 @@
 -- What a call touched is noted, one after the other.
 use Rattle.std.proofs.Common.{◌≡◌, ℕ, ◌+◌, ◌<◌, ◌≤◌, Bool, true, false, if◌then◌else◌, List, [], ◌∷◌, length, filter, drop, get_or, slice_index_or, refl, sym, ap, subst, ◌∙◌, arith}
 use Rattle.std.proofs.lemmas.Option.{slice_get-get_or}
-use Rattle.blk_base.specs.Members.{In, slice_get-In}
+use Rattle.blk_base.specs.Members.{In}
+use Rattle.blk_base.specs.laws.Members.{slice_get-In}
 use Rattle.number_sets.specs.Sets.{with_all, without_all}
 use Rattle.conflict_pages.specs.Conflicts.{Conflicts, is_held, want}
 use Rattle.tx_running.specs.Open.{noted}

@@ -1,7 +1,7 @@
 -- Sessions on a volume over calls as code has them: the same machine as over calls with bytes, and what holds of its runs.
 use Rattle.std.specs.Prelude.{ℕ, ◌≤◌, not, ◌&&◌, if◌then◌else◌, List, length, map, Option, Some, None}
 use Rattle.blk_base.specs.Members.{In}
-use Rattle.order_model.specs.Submission.{IsOrderClosed}
+use Rattle.order_model.specs.OrderClosed.{IsOrderClosed}
 use Rattle.log_model.specs.Marks.{Transaction}
 use Rattle.tree_model.specs.declared.call.Call.{Call}
 use Rattle.tree_model.specs.declared.call.Reply.{Reply}

@@ -3,7 +3,7 @@ use Rattle.std.proofs.Common.{◌≡◌, ℕ, ◌+◌, ◌<◌, List, [], ◌∷
 use Rattle.std.specs.List.{remove}
 use Rattle.std.specs.Option.{option_map}
 use Rattle.std.proofs.lemmas.List.{map_push, get_or_read}
-use Rattle.blk_base.specs.Members.{slice_get-map}
+use Rattle.blk_base.specs.laws.Members.{slice_get-map}
 use Rattle.order_model.specs.declared.command.Command.{Command}
 use Rattle.order_model.specs.Single.{blank_command}
 use Rattle.command_queue.specs.declared.queue.Seat.{Seat}

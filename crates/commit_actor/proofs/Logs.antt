@@ -7,7 +7,8 @@ use Rattle.order_model.specs.declared.request.Request.{Request}
 use Rattle.order_model.specs.declared.turn.Turn.TheVariants.{SessionFull, QueueFull, Did}
 use Rattle.order_model.specs.declared.turn.Turn.{Turn}
 use Rattle.journal_blocks.specs.declared.super_block.JournalSuper.{JournalSuper}
-use Rattle.blk_base.specs.Members.{In, In-map, slice_get-In}
+use Rattle.blk_base.specs.Members.{In}
+use Rattle.blk_base.specs.laws.Members.{In-map, slice_get-In}
 use Rattle.log_model.specs.Marks.{Logged}
 use Rattle.log_model.specs.Ring.{Ring, IsPlace}
 use Rattle.log_model.proofs.Ring.{places_on-place}

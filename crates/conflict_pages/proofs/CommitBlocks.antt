@@ -5,7 +5,8 @@ use Rattle.std.specs.Prelude.{◌≢◌, is_ok}
 use Rattle.std.proofs.Math.Bool.{or-false}
 use Rattle.std.proofs.lemmas.Bool.{ne_eqb}
 use Rattle.std.proofs.lemmas.Option.{same_Some}
-use Rattle.blk_base.specs.Members.{In, IsAscending, slice_get-In, list_any-In, list_any-none}
+use Rattle.blk_base.specs.Members.{In, IsAscending}
+use Rattle.blk_base.specs.laws.Members.{slice_get-In, list_any-In, list_any-none}
 use Rattle.conflict_pages.specs.Commits.{has_commit, is_committed, with_commit}
 use Rattle.conflict_pages.specs.code.Table.{IsCommitTable}
 use Rattle.conflict_pages.specs.laws.CommitBlocks.{key_of, with_commit-longer}

@@ -4,7 +4,8 @@ use Rattle.std.specs.List.{slice_get, filter, list_any}
 use Rattle.std.specs.Prelude.{◌≢◌, is_ok}
 use Rattle.std.proofs.lemmas.Bool.{ne_eqb}
 use Rattle.std.proofs.lemmas.Option.{same_Some}
-use Rattle.blk_base.specs.Members.{In, IsAscending, IsAscending-filter, In-filter, slice_get-In, list_any-In, list_any-none}
+use Rattle.blk_base.specs.Members.{In, IsAscending}
+use Rattle.blk_base.specs.laws.Members.{IsAscending-filter, In-filter, slice_get-In, list_any-In, list_any-none}
 use Rattle.conflict_pages.specs.Conflicts.{ConflictTable, with_conflicts, unhold_by, holder, put_held}
 use Rattle.conflict_pages.specs.code.Table.{IsTable}
 use Rattle.conflict_pages.specs.declared.held.Held.{Held}

@@ -1,12 +1,12 @@
 -- What two broken sessions leave after a power cut.
-use Rattle.blk_base.specs.Members.{slice_get-length}
+use Rattle.blk_base.specs.laws.Members.{slice_get-length}
 use Rattle.order_model.specs.declared.note.Note.TheVariants.{Page, Super, Descriptor, Body, Commit}
 use Rattle.order_model.specs.declared.note.Note.{Note}
 use Rattle.std.specs.Prelude.{◌≡◌, ◌≢◌, ℕ, zero, suc, ◌≤◌, ◌<◌, List, Option, Some, None, slice_get, refl, length, true, false, [], ◌∷◌}
 use Rattle.std.proofs.Common.{sym, subst, arith, inl, ⊎_elim}
 use Rattle.std.proofs.lemmas.Option.{none-some}
 use Rattle.order_model.specs.declared.request.Request.{Request}
-use Rattle.order_model.specs.Submission.{IsPutOf, IsPutWith, IsPut, IsFence, HasOrigin, IsKept, IsOrderClosed}
+use Rattle.order_model.specs.OrderClosed.{IsPutOf, IsPutWith, IsPut, IsFence, HasOrigin, IsKept, IsOrderClosed}
 use Rattle.log_model.proofs.Marks.{keep≢set}
 use Rattle.crash_laws.specs.BrokenExamples.{unfenced, without_body, late_with, page_late, without_page}
 use Rattle.crash_laws.specs.Clauses.{OrderClause}

@@ -1,9 +1,9 @@
 -- The clauses that a new request owes, each over the list before it, and that the rules are kept by them.
 use Rattle.std.specs.Prelude.{◌≡◌, ℕ, ◌+◌, ◌⊎◌, [], ◌∷◌, ◌++◌, Some}
 use Rattle.std.proofs.Common.{sym, ap, subst, ◌∙◌, inl, inr, ⊎_elim, arith}
-use Rattle.blk_base.specs.Members.{slice_get-length}
+use Rattle.blk_base.specs.laws.Members.{slice_get-length}
 use Rattle.order_model.specs.declared.note.Note.TheVariants.{Commit}
-use Rattle.order_model.specs.Submission.{IsFence}
+use Rattle.order_model.specs.OrderClosed.{IsFence}
 use Rattle.crash_laws.specs.Clauses.{CommitClause}
 use Rattle.crash_laws.specs.Ordering.{Fenced}
 use Rattle.crash_laws.specs.Rules.{CommitOrder}

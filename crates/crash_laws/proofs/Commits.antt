@@ -4,11 +4,11 @@ use Rattle.std.specs.Option.{option_and_then, option_map_or}
 use Rattle.std.proofs.Common.{sym, ap, subst, ◌∙◌, inl, inr, ⊎_elim, arith, leb-true, le-leb}
 use Rattle.std.proofs.lemmas.Bool.{cases_lt, false≢true}
 use Rattle.std.proofs.lemmas.Option.{none-some, same_Some}
-use Rattle.blk_base.specs.Members.{slice_get-length}
+use Rattle.blk_base.specs.laws.Members.{slice_get-length}
 use Rattle.order_model.specs.declared.request.Request.{Request}
 use Rattle.order_model.specs.declared.note.Note.{Note}
 use Rattle.order_model.specs.declared.note.Note.TheVariants.{Page, Super, Revoke, Descriptor, Body, Commit, Home, Flush, Raw}
-use Rattle.order_model.specs.Submission.{kind_block, IsKept, IsOrderClosed}
+use Rattle.order_model.specs.OrderClosed.{kind_block, IsKept, IsOrderClosed}
 use Rattle.crash_laws.specs.Found.{count_below, is_commit, is_kept, is_kept_commit, found, IsFound}
 use Rattle.crash_laws.specs.Ordering.{IsOrderedPut}
 use Rattle.crash_laws.specs.Rules.{FitsNotes, CommitOrder, is_page_or_flush}

@@ -3,7 +3,7 @@ use Rattle.std.specs.Prelude.{◌≡◌, ℕ, ◌+◌, ◌-◌, ◌<◌, true, S
 use Rattle.std.proofs.Common.{sym, ap, subst, ◌∙◌, ⊎_elim, arith}
 use Rattle.std.proofs.lemmas.Bool.{cases_lt}
 use Rattle.order_model.specs.declared.note.Note.TheVariants.{Page, Commit}
-use Rattle.order_model.specs.Submission.{IsOrdered, kind_block}
+use Rattle.order_model.specs.OrderClosed.{IsOrdered, kind_block}
 use Rattle.volume_ops.specs.Reads.{Reads}
 use Rattle.log_model.specs.Marks.{mark_in, transactions_from}
 use Rattle.crash_laws.specs.History.{History, Calm, last_write, HasTrees}

@@ -4,7 +4,7 @@ use Rattle.std.specs.Option.{option_map_or}
 use Rattle.std.proofs.Common.{ap, inl, inr, arith}
 use Rattle.std.proofs.lemmas.Bool.{cases_Bool, cond-true, cond-false, false≢true}
 use Rattle.order_model.specs.declared.request.Request.{Request}
-use Rattle.order_model.specs.Submission.{is_flush}
+use Rattle.order_model.specs.OrderClosed.{is_flush}
 use Rattle.crash_laws.specs.Epochs.{is_fence, epoch}
 use Rattle.crash_laws.specs.Found.{count_below}
 use Rattle.crash_laws.specs.Ordering.{Fenced}

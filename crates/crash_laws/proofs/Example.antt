@@ -2,10 +2,11 @@
 use Rattle.std.specs.Prelude.{◌≡◌, ◌≢◌, ℕ, zero, suc, ◌+◌, ◌<◌, ◌≤◌, ◌==◌, Bool, true, false, List, [], ◌∷◌, Some, slice_get, if◌then◌else◌, refl}
 use Rattle.std.proofs.Common.{sym, ap, subst, ◌∙◌, inl, inr, ⊎_elim, arith, eqb-true}
 use Rattle.std.proofs.lemmas.Option.{none-some, same_Some}
-use Rattle.blk_base.specs.Members.{In, slice_get-length}
+use Rattle.blk_base.specs.Members.{In}
+use Rattle.blk_base.specs.laws.Members.{slice_get-length}
 use Rattle.order_model.specs.declared.note.Note.{Note}
 use Rattle.order_model.specs.declared.note.Note.TheVariants.{Super, Commit, Home}
-use Rattle.order_model.specs.Submission.{IsPutOf, IsPutWith}
+use Rattle.order_model.specs.OrderClosed.{IsPutOf, IsPutWith}
 use Rattle.volume_ops.specs.Volume.{disk_of}
 use Rattle.log_model.specs.Log.{Commits}
 use Rattle.log_model.specs.Marks.{Keep, Set, followed, mark_in, transactions_from}

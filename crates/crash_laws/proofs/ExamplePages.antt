@@ -6,7 +6,7 @@ use Rattle.std.proofs.lemmas.Option.{none-some, same_Some}
 use Rattle.blk_base.specs.Members.{In}
 use Rattle.order_model.specs.declared.note.Note.{Note}
 use Rattle.order_model.specs.declared.note.Note.TheVariants.{Page, Commit}
-use Rattle.order_model.specs.Submission.{IsPutOf}
+use Rattle.order_model.specs.OrderClosed.{IsPutOf}
 use Rattle.log_model.specs.Marks.{Set, mark_in, transactions_from}
 use Rattle.crash_laws.specs.History.{HasTrees, last_write}
 use Rattle.crash_laws.specs.PageClauses.{PageClause}

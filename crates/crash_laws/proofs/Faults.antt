@@ -2,7 +2,7 @@
 use Rattle.std.specs.Prelude.{◌≡◌, ℕ, ◌+◌, ◌-◌, ◌⊎◌, List}
 use Rattle.std.proofs.Common.{sym, subst, inl, inr, ⊎_elim, arith}
 use Rattle.blk_base.specs.Members.{In}
-use Rattle.order_model.specs.Submission.{IsOrderClosed}
+use Rattle.order_model.specs.OrderClosed.{IsOrderClosed}
 use Rattle.volume_ops.specs.Volume.{disk_of}
 use Rattle.volume_ops.specs.Reads.{Reads}
 use Rattle.log_model.specs.Log.{log_of}

@@ -5,11 +5,11 @@ use Rattle.std.specs.Option.{option_and_then}
 use Rattle.std.proofs.Common.{sym, ap, subst, ◌∙◌, inl, inr, ⊎_elim, arith, length-append}
 use Rattle.std.proofs.lemmas.Bool.{cases_lt}
 use Rattle.std.proofs.lemmas.Option.{none-some}
-use Rattle.blk_base.specs.Members.{slice_get-length, slice_get-push, slice_get-push_left, slice_get-push_cases}
+use Rattle.blk_base.specs.laws.Members.{slice_get-length, slice_get-push, slice_get-push_left, slice_get-push_cases}
 use Rattle.order_model.specs.declared.request.Request.{Request}
 use Rattle.order_model.specs.declared.note.Note.{Note}
 use Rattle.order_model.specs.declared.note.Note.TheVariants.{Commit}
-use Rattle.order_model.specs.Submission.{IsPutOf, IsPutWith, IsOrdered, IsFence, is_flush, kind_block, kind_body}
+use Rattle.order_model.specs.OrderClosed.{IsPutOf, IsPutWith, IsOrdered, IsFence, is_flush, kind_block, kind_body}
 use Rattle.crash_laws.specs.Ordering.{Fenced, IsClosedOff}
 use Rattle.crash_laws.specs.Session.{HasNote, log_transaction, IsLog, CommitBefore}
 use Rattle.crash_laws.specs.Submitting.{Submitting, after, new_place}

@@ -2,7 +2,7 @@
 use Rattle.std.specs.Prelude.{◌≡◌, ℕ, zero, suc, ◌-◌, ◌≤◌, true, if◌then◌else◌, refl}
 use Rattle.std.proofs.Common.{sym, ap, subst, ◌∙◌, inl, inr, ⊎_elim, arith}
 use Rattle.order_model.specs.declared.note.Note.TheVariants.{Page}
-use Rattle.order_model.specs.Submission.{IsPutWith}
+use Rattle.order_model.specs.OrderClosed.{IsPutWith}
 use Rattle.volume_ops.specs.Reads.{Reads, answer}
 use Rattle.log_model.specs.Marks.{mark_in, transactions_from}
 use Rattle.crash_laws.specs.Extending.{Extends}

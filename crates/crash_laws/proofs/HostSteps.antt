@@ -2,9 +2,10 @@
 use Rattle.std.specs.Prelude.{◌≡◌, ◌≢◌, ℕ, ◌+◌, ◌-◌, ◌<◌, ◌≤◌, ◌⊎◌, [], ◌∷◌, ◌++◌, Option, Some, None}
 use Rattle.std.proofs.Common.{sym, ap, subst, ◌∙◌, inl, inr, ⊎_elim, arith}
 use Rattle.std.proofs.lemmas.Bool.{cases_lt}
-use Rattle.blk_base.specs.Members.{In, slice_get-length}
+use Rattle.blk_base.specs.Members.{In}
+use Rattle.blk_base.specs.laws.Members.{slice_get-length}
 use Rattle.order_model.specs.declared.note.Note.TheVariants.{Page, Commit}
-use Rattle.order_model.specs.Submission.{IsPutOf, kind_block}
+use Rattle.order_model.specs.OrderClosed.{IsPutOf, kind_block}
 use Rattle.volume_ops.specs.Volume.{disk_of}
 use Rattle.volume_ops.specs.Reads.{Reads, answer}
 use Rattle.log_model.specs.Marks.{Transaction, mark_in, body_after, transactions_from}

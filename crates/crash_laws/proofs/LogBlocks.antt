@@ -5,7 +5,8 @@ use Rattle.std.specs.List.{filter}
 use Rattle.std.proofs.Common.{sym, ap, subst, ◌∙◌, inl, inr, ⊎_elim, arith, append_assoc, append-nil, lt-ltb, le-ltb, eq-eqb, ne_eqb, eqb-true}
 use Rattle.std.proofs.lemmas.Bool.{cases_Bool, cases_lt}
 use Rattle.std.proofs.lemmas.Option.{none-some, same_Some}
-use Rattle.blk_base.specs.Members.{In, In-append_cases, In-filter, slice_get-append_left, slice_get-append_right, slice_get-length, IsAscending}
+use Rattle.blk_base.specs.Members.{In, IsAscending}
+use Rattle.blk_base.specs.laws.Members.{In-append_cases, In-filter, slice_get-append_left, slice_get-append_right, slice_get-length}
 use Rattle.order_model.specs.declared.note.Note.{Note}
 use Rattle.crash_laws.specs.Session.{LogBlock, with_log_block, log_blocks_from, log_blocks_below, log_blocks_of, log_transaction}
 

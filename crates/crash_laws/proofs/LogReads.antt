@@ -4,8 +4,9 @@ use Rattle.std.proofs.Common.{sym, ap, subst, ◌∙◌, inl, inr, ⊎_elim, ari
 use Rattle.std.proofs.lemmas.Bool.{cases_lt, cond-true, cond-false}
 use Rattle.std.proofs.lemmas.Option.{none-some, same_Some}
 use Rattle.std.proofs.lemmas.List.{map-append, length-map}
-use Rattle.blk_base.specs.Members.{In, In-map, slice_get-In, slice_get-in_range, map_some-slice_get, IsAscending-places}
-use Rattle.order_model.specs.Submission.{IsPutOf, HasOrigin, IsOrderClosed}
+use Rattle.blk_base.specs.Members.{In}
+use Rattle.blk_base.specs.laws.Members.{In-map, slice_get-In, slice_get-in_range, map_some-slice_get, IsAscending-places}
+use Rattle.order_model.specs.OrderClosed.{IsPutOf, HasOrigin, IsOrderClosed}
 use Rattle.volume_ops.specs.Volume.{disk_of}
 use Rattle.volume_ops.specs.Reads.{Reads}
 use Rattle.log_model.specs.Log.{Tail, Reading, done, take_blocks, log_of}

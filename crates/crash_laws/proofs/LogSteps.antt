@@ -5,11 +5,12 @@ use Rattle.std.specs.List.{filter}
 use Rattle.std.proofs.Common.{sym, ap, subst, ◌∙◌, inl, inr, ⊎_elim, arith, append-nil, le-ltb, ne_eqb}
 use Rattle.std.proofs.lemmas.Bool.{cases_lt}
 use Rattle.std.proofs.lemmas.List.Elements.{filter-append}
-use Rattle.blk_base.specs.Members.{In, In-filter, slice_get-length, slice_get-push_cases}
+use Rattle.blk_base.specs.Members.{In}
+use Rattle.blk_base.specs.laws.Members.{In-filter, slice_get-length, slice_get-push_cases}
 use Rattle.order_model.specs.declared.request.Request.{Request}
 use Rattle.order_model.specs.declared.note.Note.{Note}
 use Rattle.order_model.specs.declared.note.Note.TheVariants.{Super, Commit, Home}
-use Rattle.order_model.specs.Submission.{IsPutOf, IsFence, kind_block, kind_body}
+use Rattle.order_model.specs.OrderClosed.{IsPutOf, IsFence, kind_block, kind_body}
 use Rattle.log_model.specs.Log.{Tail, Spells}
 use Rattle.log_model.specs.Marks.{Transaction, Set, mark_in, transactions_from}
 use Rattle.log_model.specs.Ring.{places_on}

@@ -2,7 +2,7 @@
 use Rattle.std.specs.Prelude.{◌≡◌, ℕ, zero, suc, ◌+◌, ◌-◌, ◌≤◌, ◌||◌, List, [], ◌∷◌, ◌++◌, length, not, unwrap_or, refl}
 use Rattle.std.specs.List.{slice_get}
 use Rattle.std.proofs.Common.{sym, ap, subst, ◌∙◌, arith, append_assoc, append-nil}
-use Rattle.blk_base.specs.Members.{slice_get-append_left}
+use Rattle.blk_base.specs.laws.Members.{slice_get-append_left}
 use Rattle.order_model.specs.declared.note.Note.TheVariants.{Page}
 use Rattle.tree_model.specs.declared.call.Room.{Room}
 use Rattle.tree_model.specs.Calls.{Tree}

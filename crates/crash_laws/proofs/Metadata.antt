@@ -4,7 +4,7 @@ use Rattle.std.proofs.Common.{sym, ap, subst, ◌∙◌, ⊎_elim, arith}
 use Rattle.std.proofs.lemmas.Bool.{cases_lt}
 use Rattle.blk_base.specs.Members.{In}
 use Rattle.order_model.specs.declared.note.Note.TheVariants.{Page, Home}
-use Rattle.order_model.specs.Submission.{IsPutOf, IsKept, IsOrderClosed}
+use Rattle.order_model.specs.OrderClosed.{IsPutOf, IsKept, IsOrderClosed}
 use Rattle.volume_ops.specs.Volume.{disk_of}
 use Rattle.volume_ops.specs.Reads.{Reads, blocks_read}
 use Rattle.log_model.specs.Marks.{Mark, Keep, Clear, Set, followed, mark_in, body_after, transactions_from, replayed}

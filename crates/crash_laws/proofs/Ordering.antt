@@ -4,10 +4,10 @@ use Rattle.std.specs.Option.{unwrap_or}
 use Rattle.std.proofs.Common.{sym, ap, subst, ◌∙◌, inl, inr, ⊎_elim, arith}
 use Rattle.std.proofs.lemmas.Option.{none-some, same_Some, get_or_from_slice_get, unwrap_or-slice_get}
 use Rattle.std.proofs.lemmas.Bool.{cases_lt}
-use Rattle.blk_base.specs.Members.{slice_get-in_range, slice_get-out, slice_get-length}
+use Rattle.blk_base.specs.laws.Members.{slice_get-in_range, slice_get-out, slice_get-length}
 use Rattle.blk_base.specs.Block.{filled}
 use Rattle.order_model.specs.declared.request.Request.{Request}
-use Rattle.order_model.specs.Submission.{IsPutOf, IsPutWith, IsFence, HasOrigin, IsKept, IsOrderClosed}
+use Rattle.order_model.specs.OrderClosed.{IsPutOf, IsPutWith, IsFence, HasOrigin, IsKept, IsOrderClosed}
 use Rattle.volume_ops.specs.Volume.{disk_of}
 use Rattle.crash_laws.specs.Ordering.{Fenced, IsOrderedPut}
 

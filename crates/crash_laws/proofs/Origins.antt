@@ -1,11 +1,11 @@
 -- Who wrote a block of a medium last.
 use Rattle.std.specs.Prelude.{◌≡◌, ℕ, ◌+◌, ◌<◌, ◌≤◌, ◌⊎◌, Option, Some, None, slice_get, refl}
 use Rattle.std.proofs.Common.{subst, inl, inr, arith}
-use Rattle.blk_base.specs.Members.{slice_get-in_range, slice_get-length}
+use Rattle.blk_base.specs.laws.Members.{slice_get-in_range, slice_get-length}
 use Rattle.order_model.specs.declared.request.Request.{Request}
 use Rattle.order_model.specs.declared.note.Note.{Note}
 use Rattle.order_model.specs.declared.note.Note.TheVariants.{Page, Super, Revoke, Descriptor, Body, Commit, Home, Flush, Raw}
-use Rattle.order_model.specs.Submission.{kind_block, IsPutOf}
+use Rattle.order_model.specs.OrderClosed.{kind_block, IsPutOf}
 use Rattle.std.specs.Option.{option_and_then}
 use Rattle.std.proofs.lemmas.Option.{none-some}
 use Rattle.volume_ops.specs.Reads.{Reads}

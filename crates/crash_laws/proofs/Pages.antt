@@ -3,7 +3,7 @@ use Rattle.std.specs.Prelude.{◌≡◌, ◌≢◌, ℕ, ◌+◌, ◌-◌, ◌<�
 use Rattle.std.proofs.Common.{sym, ap, subst, ◌∙◌, inl, inr, ⊎_elim, arith, eqb-true, false-eqb}
 use Rattle.std.proofs.lemmas.Bool.{cases_Bool, cases_lt}
 use Rattle.order_model.specs.declared.note.Note.TheVariants.{Page, Home}
-use Rattle.order_model.specs.Submission.{IsPutOf, HasOrigin, IsKept, IsOrderClosed}
+use Rattle.order_model.specs.OrderClosed.{IsPutOf, HasOrigin, IsKept, IsOrderClosed}
 use Rattle.volume_ops.specs.Volume.{disk_of}
 use Rattle.volume_ops.specs.Reads.{Reads}
 use Rattle.log_model.specs.Marks.{mark_in, transactions_from}

@@ -3,7 +3,7 @@ use Rattle.std.specs.Prelude.{◌≡◌, ℕ, zero, suc, ◌-◌, ◌<◌, ◌�
 use Rattle.std.proofs.Common.{sym, subst, inl, inr, ⊎_elim, arith}
 use Rattle.std.proofs.lemmas.Bool.{cases_lt}
 use Rattle.order_model.specs.declared.note.Note.TheVariants.{Page}
-use Rattle.order_model.specs.Submission.{IsOrdered}
+use Rattle.order_model.specs.OrderClosed.{IsOrdered}
 use Rattle.crash_laws.specs.History.{History, IsUnmapped, HasTrees, IsEntryOf}
 use Rattle.crash_laws.specs.PromiseRules.{AreHeld}
 use Rattle.crash_laws.specs.Rules.{CommitOrder}

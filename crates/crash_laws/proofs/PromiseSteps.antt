@@ -4,7 +4,7 @@ use Rattle.std.specs.Prelude.{ℕ, ◌<◌, ◌≤◌, List}
 use Rattle.std.proofs.Common.{sym, ap, ◌∙◌, inl, inr, ⊎_elim, arith}
 use Rattle.order_model.specs.declared.completion.Completion.{Completion}
 use Rattle.order_model.specs.declared.note.Note.TheVariants.{Page, Commit}
-use Rattle.order_model.specs.Submission.{IsFence}
+use Rattle.order_model.specs.OrderClosed.{IsFence}
 use Rattle.crash_laws.specs.Extending.{Extends}
 use Rattle.crash_laws.specs.History.{History}
 use Rattle.crash_laws.specs.PromiseRules.{AreHeld, KeepsBarrier, KeepsSync, BegunCall, Covers, CoversEntry}

@@ -4,7 +4,7 @@ use Rattle.std.proofs.Common.{sym, ap, subst, inl, inr, ⊎_elim, arith}
 use Rattle.std.proofs.lemmas.Bool.{cases_lt, false≢true}
 use Rattle.blk_base.specs.Members.{In}
 use Rattle.order_model.specs.declared.completion.Completion.{Completion}
-use Rattle.order_model.specs.Submission.{IsKept, IsOrderClosed, KeepsFlushed}
+use Rattle.order_model.specs.OrderClosed.{IsKept, IsOrderClosed, KeepsFlushed}
 use Rattle.volume_ops.specs.Reads.{Reads}
 use Rattle.crash_laws.specs.Found.{IsFound}
 use Rattle.crash_laws.specs.History.{History, IsUnmapped, Calm, HasTrees}

@@ -7,7 +7,7 @@ use Rattle.std.proofs.lemmas.Bool.{false≢true}
 use Rattle.order_model.specs.declared.note.Note.{Note}
 use Rattle.order_model.specs.declared.note.Note.TheVariants.{Page, Super, Commit, Home}
 use Rattle.blk_base.specs.Members.{In}
-use Rattle.order_model.specs.Submission.{kind_block, kind_body}
+use Rattle.order_model.specs.OrderClosed.{kind_block, kind_body}
 use Rattle.volume_ops.specs.Reads.{Reads, blocks_read}
 use Rattle.log_model.specs.Marks.{Set, mark_in, transactions_from}
 use Rattle.log_model.specs.Ring.{places_on}

@@ -5,10 +5,11 @@ use Rattle.std.specs.Option.{unwrap_or}
 use Rattle.std.proofs.Common.{sym, ap, subst, ◌∙◌, inl, inr, ⊎_elim, arith, lt-ltb, le-ltb, ltb-true, append-nil, length-append}
 use Rattle.std.proofs.lemmas.Bool.{cases_lt}
 use Rattle.std.proofs.lemmas.Option.{none-some, same_Some}
-use Rattle.blk_base.specs.Members.{In, In-filter, In-slice_get, slice_get-append_left, filter_all, slice_get-length, slice_get-In}
+use Rattle.blk_base.specs.Members.{In}
+use Rattle.blk_base.specs.laws.Members.{In-filter, In-slice_get, slice_get-append_left, filter_all, slice_get-length, slice_get-In}
 use Rattle.order_model.specs.declared.request.Request.{Request}
 use Rattle.order_model.specs.declared.note.Note.TheVariants.{Super, Commit, Home}
-use Rattle.order_model.specs.Submission.{IsPutOf, IsPutWith, is_flush, kind_body}
+use Rattle.order_model.specs.OrderClosed.{IsPutOf, IsPutWith, is_flush, kind_body}
 use Rattle.log_model.specs.Marks.{Mark, Keep, Clear, Set, followed, mark_in, transaction_mark, transactions_from}
 use Rattle.log_model.specs.Ring.{places_in, place_after, places_on}
 use Rattle.log_model.proofs.Marks.{keep≢set, clear≢set, same_Set, mark-split}

@@ -1,7 +1,7 @@
 -- The sentences on a power cut, from a medium that is order-closed and the order rules.
 use Rattle.std.specs.Prelude.{ℕ, List}
 use Rattle.order_model.specs.declared.completion.Completion.{Completion}
-use Rattle.order_model.specs.Submission.{IsOrderClosed, KeepsFlushed}
+use Rattle.order_model.specs.OrderClosed.{IsOrderClosed, KeepsFlushed}
 use Rattle.volume_ops.specs.Reads.{Reads}
 use Rattle.crash_laws.specs.Found.{found}
 use Rattle.crash_laws.specs.Headline.{HoldsPrefix, KeepsPromises}

@@ -3,7 +3,7 @@ use Rattle.std.specs.Prelude.{◌≡◌, ℕ, ◌≤◌, true, List, Ok}
 use Rattle.std.proofs.Common.{sym, ap, subst, ◌∙◌, inl, inr, ⊎_elim}
 use Rattle.blk_base.specs.Members.{In}
 use Rattle.order_model.specs.declared.completion.Completion.{Completion}
-use Rattle.order_model.specs.Submission.{HasOrigin, IsOrderClosed, KeepsFlushed}
+use Rattle.order_model.specs.OrderClosed.{HasOrigin, IsOrderClosed, KeepsFlushed}
 use Rattle.tree_model.specs.declared.node.Node.{Node}
 use Rattle.tree_model.specs.Trees.{node_of_path, AreAlike}
 use Rattle.volume_ops.specs.Volume.{disk_of, tree_of, walked}

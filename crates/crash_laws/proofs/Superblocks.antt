@@ -6,7 +6,7 @@ use Rattle.std.proofs.lemmas.Bool.{cases_lt}
 use Rattle.std.proofs.lemmas.Option.{none-some, same_Some}
 use Rattle.order_model.specs.declared.note.Note.{Note}
 use Rattle.order_model.specs.declared.note.Note.TheVariants.{Page, Super, Revoke, Descriptor, Body, Commit, Home, Flush, Raw}
-use Rattle.order_model.specs.Submission.{IsPutOf, IsPutWith, HasOrigin, IsKept, IsOrderClosed}
+use Rattle.order_model.specs.OrderClosed.{IsPutOf, IsPutWith, HasOrigin, IsKept, IsOrderClosed}
 use Rattle.volume_ops.specs.Volume.{disk_of}
 use Rattle.volume_ops.specs.Reads.{Reads}
 use Rattle.log_model.specs.Log.{Tag, Header, Plain, Describes, Revokes, Commits, Tail}

@@ -3,7 +3,7 @@ use Rattle.std.specs.Prelude.{◌≡◌, ℕ, List, [], Ok}
 use Rattle.std.proofs.Common.{sym, ap, subst, ◌∙◌, ⊎_elim}
 use Rattle.blk_base.specs.Members.{In}
 use Rattle.order_model.specs.declared.note.Note.TheVariants.{Commit}
-use Rattle.order_model.specs.Submission.{IsOrderClosed}
+use Rattle.order_model.specs.OrderClosed.{IsOrderClosed}
 use Rattle.minix_layout.specs.declared.division.Geometry.{Geometry}
 use Rattle.tree_model.specs.declared.node.Node.{Node}
 use Rattle.tree_model.specs.Trees.{AreAlike}

@@ -1,7 +1,7 @@
 -- A begun barrier or sync call: what is done of the pairs that it covers.
 use Rattle.std.specs.Prelude.{◌≡◌, ℕ, ◌-◌, ◌<◌, ◌≤◌, ◌⊎◌}
 use Rattle.order_model.specs.declared.note.Note.TheVariants.{Page}
-use Rattle.order_model.specs.Submission.{IsOrdered}
+use Rattle.order_model.specs.OrderClosed.{IsOrdered}
 use Rattle.crash_laws.specs.History.{History}
 use Rattle.crash_laws.specs.PromiseRules.{IsSuperseded, IsCarried}
 use Rattle.crash_laws.specs.Session.{Session, HasNote}

@@ -4,7 +4,7 @@ use Rattle.blk_base.specs.Members.{In}
 use Rattle.order_model.specs.declared.request.Request.{Request}
 use Rattle.order_model.specs.declared.note.Note.{Note}
 use Rattle.order_model.specs.declared.note.Note.TheVariants.{Commit, Page, Super, Home, Flush, Raw}
-use Rattle.order_model.specs.Submission.{is_flush, IsPutOf, IsPutWith, kind_block, kind_body}
+use Rattle.order_model.specs.OrderClosed.{is_flush, IsPutOf, IsPutWith, kind_block, kind_body}
 use Rattle.std.specs.Option.{unwrap_or}
 use Rattle.volume_ops.specs.Reads.{Reads, blocks_read}
 use Rattle.log_model.specs.Log.{Spells}

@@ -2,7 +2,7 @@
 use Rattle.std.specs.Prelude.{ℕ, ◌||◌, Bool, false, List, slice_get}
 use Rattle.std.specs.Option.{option_map_or}
 use Rattle.order_model.specs.declared.request.Request.{Request}
-use Rattle.order_model.specs.Submission.{is_flush}
+use Rattle.order_model.specs.OrderClosed.{is_flush}
 use Rattle.crash_laws.specs.Found.{count_below}
 
 abbrev pub is_fence : List Request → ℕ → Bool

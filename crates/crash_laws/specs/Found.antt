@@ -4,7 +4,7 @@ use Rattle.std.specs.Option.{option_and_then, option_map_or}
 use Rattle.order_model.specs.declared.request.Request.{Request}
 use Rattle.order_model.specs.declared.note.Note.{Note}
 use Rattle.order_model.specs.declared.note.Note.TheVariants.{Commit}
-use Rattle.order_model.specs.Submission.{kind_block, IsKept}
+use Rattle.order_model.specs.OrderClosed.{kind_block, IsKept}
 use Rattle.crash_laws.specs.Session.{Session, Medium, IsCommit}
 
 -- how many numbers below n pass a test

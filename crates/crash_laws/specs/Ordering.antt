@@ -1,7 +1,7 @@
 -- Order alone: a barrier between two places of a submitted list.
 use Rattle.std.specs.Prelude.{ℕ, ◌<◌, ◌≤◌, List}
 use Rattle.order_model.specs.declared.request.Request.{Request}
-use Rattle.order_model.specs.Submission.{IsPut, IsOrdered, IsFence}
+use Rattle.order_model.specs.OrderClosed.{IsPut, IsOrdered, IsFence}
 
 -- a barrier or a flush stands at or after i and before j
 abbrev pub Fenced : List Request → ℕ → ℕ → Type 0

@@ -2,7 +2,7 @@
 use Rattle.std.specs.Prelude.{◌≡◌, ℕ, ◌+◌, ◌-◌, ◌<◌, ◌≤◌, true, List, Some}
 use Rattle.order_model.specs.declared.request.Request.{Request}
 use Rattle.order_model.specs.declared.note.Note.TheVariants.{Page, Commit}
-use Rattle.order_model.specs.Submission.{IsOrdered, kind_block, kind_body}
+use Rattle.order_model.specs.OrderClosed.{IsOrdered, kind_block, kind_body}
 use Rattle.volume_ops.specs.Reads.{Reads}
 use Rattle.log_model.specs.Marks.{Set, mark_in, transactions_from}
 use Rattle.crash_laws.specs.History.{History, IsUnmapped, Calm, last_write}

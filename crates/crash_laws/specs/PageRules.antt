@@ -1,7 +1,7 @@
 -- The order rules of pages: what a Page request carries, where it goes, and what stands behind it.
 use Rattle.std.specs.Prelude.{◌≡◌, ℕ, ◌+◌, ◌-◌, ◌<◌, ◌≤◌, ◌⊎◌, true, List}
 use Rattle.order_model.specs.declared.note.Note.TheVariants.{Page}
-use Rattle.order_model.specs.Submission.{IsPutOf, IsPutWith, IsOrdered}
+use Rattle.order_model.specs.OrderClosed.{IsPutOf, IsPutWith, IsOrdered}
 use Rattle.volume_ops.specs.Reads.{Reads, answer}
 use Rattle.log_model.specs.Marks.{Set, mark_in, transactions_from}
 use Rattle.crash_laws.specs.History.{History, IsUnmapped, Calm, last_write}

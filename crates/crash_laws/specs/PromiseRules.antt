@@ -4,7 +4,7 @@ use Rattle.blk_base.specs.Members.{In}
 use Rattle.order_model.specs.declared.completion.Completion.{Completion}
 use Rattle.order_model.specs.declared.completion.Completion.TheVariants.{Flushed}
 use Rattle.order_model.specs.declared.note.Note.TheVariants.{Page}
-use Rattle.order_model.specs.Submission.{IsOrdered, IsFence, IsKept}
+use Rattle.order_model.specs.OrderClosed.{IsOrdered, IsFence, IsKept}
 use Rattle.volume_ops.specs.Reads.{Reads}
 use Rattle.crash_laws.specs.History.{History, IsUnmapped, Calm}
 use Rattle.crash_laws.specs.Recovery.{HasVersion}

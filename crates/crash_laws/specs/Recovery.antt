@@ -1,7 +1,7 @@
 -- What recovery makes of a medium: the log that it reads, the blocks that it leaves, and the page that is there.
 use Rattle.std.specs.Prelude.{◌≡◌, ℕ, ◌+◌, ◌<◌, ◌≤◌, List, ◌-◌}
 use Rattle.order_model.specs.declared.note.Note.TheVariants.{Page}
-use Rattle.order_model.specs.Submission.{HasOrigin, IsKept}
+use Rattle.order_model.specs.OrderClosed.{HasOrigin, IsKept}
 use Rattle.volume_ops.specs.Volume.{disk_of}
 use Rattle.volume_ops.specs.Reads.{Reads}
 use Rattle.log_model.specs.Log.{log_of}

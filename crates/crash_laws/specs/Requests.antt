@@ -4,7 +4,7 @@ use Rattle.std.specs.Prelude.{◌≡◌, ℕ, ◌+◌, ◌-◌, ◌<◌, ◌≤�
 use Rattle.std.specs.Option.{unwrap_or}
 use Rattle.blk_base.specs.Members.{In}
 use Rattle.order_model.specs.declared.note.Note.TheVariants.{Page, Super, Commit, Home, Flush}
-use Rattle.order_model.specs.Submission.{IsPutOf, is_flush, kind_block, kind_body}
+use Rattle.order_model.specs.OrderClosed.{IsPutOf, is_flush, kind_block, kind_body}
 use Rattle.volume_ops.specs.Reads.{Reads, blocks_read}
 use Rattle.log_model.specs.Log.{Spells}
 use Rattle.log_model.specs.Marks.{Set, mark_in, transactions_from}

@@ -1,7 +1,7 @@
 -- The ring of the log and the bodies that wait for a checkpoint, as a host has them.
 use Rattle.std.specs.Prelude.{◌≡◌, ℕ, ◌+◌, ◌≤◌, List, length, Option, Some, None}
 use Rattle.order_model.specs.declared.note.Note.TheVariants.{Home}
-use Rattle.order_model.specs.Submission.{IsPutWith}
+use Rattle.order_model.specs.OrderClosed.{IsPutWith}
 use Rattle.log_model.specs.Marks.{Set, mark_in, transactions_from}
 use Rattle.log_model.specs.Ring.{places_on}
 use Rattle.crash_laws.specs.Ordering.{IsClosedOff}

@@ -3,7 +3,7 @@ use Rattle.std.specs.Prelude.{◌≡◌, ◌≢◌, ℕ, ◌+◌, ◌-◌, ◌<�
 use Rattle.blk_base.specs.Members.{In}
 use Rattle.order_model.specs.declared.note.Note.{Note}
 use Rattle.order_model.specs.declared.note.Note.TheVariants.{Page, Super, Revoke, Descriptor, Body, Commit, Home, Flush, Raw}
-use Rattle.order_model.specs.Submission.{IsPutOf, IsPutWith, IsPut, IsOrdered, IsFence}
+use Rattle.order_model.specs.OrderClosed.{IsPutOf, IsPutWith, IsPut, IsOrdered, IsFence}
 use Rattle.volume_ops.specs.Volume.{disk_of}
 use Rattle.volume_ops.specs.Reads.{Reads, blocks_read}
 use Rattle.log_model.specs.Log.{Tag, Header, Plain, Describes, Revokes, Commits, Spells}

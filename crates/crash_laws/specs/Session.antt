@@ -6,7 +6,7 @@ use Rattle.std.specs.List.{filter}
 use Rattle.order_model.specs.declared.request.Request.{Request}
 use Rattle.order_model.specs.declared.note.Note.{Note}
 use Rattle.order_model.specs.declared.note.Note.TheVariants.{Super, Revoke, Descriptor, Body, Commit}
-use Rattle.order_model.specs.Submission.{kind_body}
+use Rattle.order_model.specs.OrderClosed.{kind_body}
 use Rattle.volume_ops.specs.Volume.{disk_of}
 use Rattle.log_model.specs.Log.{Format}
 use Rattle.log_model.specs.Marks.{Transaction, transactions_from, replayed}

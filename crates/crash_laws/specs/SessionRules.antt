@@ -3,7 +3,7 @@
 use Rattle.std.specs.Prelude.{◌≡◌, ℕ, ◌≤◌, ◌⊎◌, true, false, List, Ok}
 use Rattle.order_model.specs.declared.completion.Completion.{Completion}
 use Rattle.order_model.specs.declared.note.Note.TheVariants.{Page}
-use Rattle.order_model.specs.Submission.{HasOrigin}
+use Rattle.order_model.specs.OrderClosed.{HasOrigin}
 use Rattle.minix_layout.specs.declared.division.Geometry.{Geometry}
 use Rattle.tree_model.specs.declared.call.Call.{Call}
 use Rattle.tree_model.specs.declared.call.Room.{Room}

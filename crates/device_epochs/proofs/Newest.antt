@@ -8,7 +8,8 @@ use Rattle.std.proofs.lemmas.Bool.{cases_eq, cases_lt, eq-eqb, eqb-true, ne_eqb,
 use Rattle.std.proofs.lemmas.Option.{none-some, same_Some, slice_get-get_or, get_or_from_slice_get}
 use Rattle.std.proofs.lemmas.List.{length-set, length_push}
 use Rattle.std.proofs.lemmas.List.Edits.{length-remove}
-use Rattle.blk_base.specs.Members.{In, In-slice_get, list_any-none, slice_get-In, slice_get-length, slice_get-in_range, slice_get-append_left, slice_get-push, slice_get-push_cases, slice_get-set_same, slice_get-set_other, slice_get-remove_below, slice_get-remove_above}
+use Rattle.blk_base.specs.Members.{In}
+use Rattle.blk_base.specs.laws.Members.{In-slice_get, list_any-none, slice_get-In, slice_get-length, slice_get-in_range, slice_get-append_left, slice_get-push, slice_get-push_cases, slice_get-set_same, slice_get-set_other, slice_get-remove_below, slice_get-remove_above}
 use Rattle.device_epochs.specs.declared.cache.Entry.{Entry}
 use Rattle.device_epochs.specs.Cache.{same_place}
 use Rattle.device_epochs.specs.laws.CacheLaws.{same_place_parts, same_place_from}

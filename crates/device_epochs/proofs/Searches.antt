@@ -4,7 +4,8 @@ use Rattle.std.specs.List.Sorted.{IsNonDecreasingBy, IsPartitionPoint}
 use Rattle.std.proofs.Common.{sym, ap, subst, ◌∙◌, inl, inr, arith, get_or, set, leb-true, leb-false}
 use Rattle.std.proofs.lemmas.Bool.{cases_eq, eq-eqb, ne_eqb, both_ways, false_from_ne_true}
 use Rattle.std.proofs.lemmas.Option.{none-some, same_Some, slice_get-get_or, get_or_from_slice_get}
-use Rattle.blk_base.specs.Members.{In, list_any-In, slice_get-In, slice_get-out, slice_get-length}
+use Rattle.blk_base.specs.Members.{In}
+use Rattle.blk_base.specs.laws.Members.{list_any-In, slice_get-In, slice_get-out, slice_get-length}
 use Rattle.order_model.specs.declared.part.Part.{Part}
 use Rattle.device_epochs.specs.declared.cache.Entry.{Entry}
 use Rattle.device_epochs.specs.Cache.{same_place, put_entry, entries, oldest}

@@ -2,7 +2,7 @@
 use Rattle.std.specs.Prelude.{◌≡◌, ℕ, ◌-◌, ◌∷◌, [], ◌++◌, length, Some, slice_get}
 use Rattle.std.proofs.Common.{sym, ap, subst, ◌∙◌, inl, inr, arith, length-append}
 use Rattle.std.proofs.lemmas.Bool.{cases_lt}
-use Rattle.blk_base.specs.Members.{slice_get-append_left, slice_get-append_right}
+use Rattle.blk_base.specs.laws.Members.{slice_get-append_left, slice_get-append_right}
 use Rattle.order_model.specs.declared.command.Command.{Command}
 use Rattle.order_model.specs.Received.{ids_of, all_ids}
 use Rattle.order_model.proofs.Received.{all_ids-push}

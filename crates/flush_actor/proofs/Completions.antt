@@ -7,7 +7,7 @@ use Rattle.std.proofs.lemmas.List.Folds.{list_any-append}
 use Rattle.std.proofs.lemmas.List.{length-set}
 use Rattle.order_model.specs.declared.completion.Completion.TheVariants as completions
 use Rattle.order_model.specs.declared.completion.Completion.{Completion}
-use Rattle.blk_base.specs.Members.{slice_get-set_same, slice_get-set_other}
+use Rattle.blk_base.specs.laws.Members.{slice_get-set_same, slice_get-set_other}
 use Rattle.flush_actor.specs.Part.{is_cut, first_failed, is_moved, is_flushed_after}
 use Rattle.flush_actor.specs.code.Fields.{IsCompleted}
 use Rattle.flush_actor.specs.code.Summary.{is_above, greater, flushed_with, failed_with, moved_with}

@@ -1,7 +1,8 @@
 -- What the threads' calls wait for, one after the other.
 use Rattle.std.proofs.Common.{◌≡◌, ℕ, zero, suc, ◌+◌, ◌<◌, ◌≤◌, ◌||◌, ◌&&◌, ◌==◌, if◌then◌else◌, replicate, Bool, true, false, List, [], ◌∷◌, ◌++◌, length, length-append, map, set, drop, get_or, Some, None, refl, sym, ap, subst, ◌∙◌, ⊎_elim, arith}
 use Rattle.std.specs.List.{list_any}
-use Rattle.blk_base.specs.Members.{In, In-set_cases, In-map, In-replicate}
+use Rattle.blk_base.specs.Members.{In}
+use Rattle.blk_base.specs.laws.Members.{In-set_cases, In-map, In-replicate}
 use Rattle.std.proofs.lemmas.Option.{same_Some, none-some}
 use Rattle.order_model.specs.declared.note.Note.{Note}
 use Rattle.order_model.specs.declared.request.Request.{Request}

@@ -1,7 +1,7 @@
 -- A caller's step is the machine's: the thread is found, its call takes a step, and that is noted.
 use Rattle.std.proofs.Common.{◌≡◌, ◌<◌, ◌≤◌, ◌+◌, ℕ, suc, zero, Bool, List, [], ◌∷◌, length, map, set, drop, get_or, Option, Some, None, slice_get, refl, sym, ap, subst, arith, ◌∙◌}
 use Rattle.std.proofs.lemmas.List.{length-map}
-use Rattle.blk_base.specs.Members.{slice_get-map_some, slice_get-In}
+use Rattle.blk_base.specs.laws.Members.{slice_get-map_some, slice_get-In}
 use Rattle.page_cache.specs.Pages.{Cache}
 use Rattle.tree_model.specs.declared.call.Call.{Call}
 use Rattle.tree_model.specs.declared.call.Reply.{Reply}

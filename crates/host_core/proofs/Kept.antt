@@ -1,7 +1,7 @@
 -- What steps keep of a host.
 use Rattle.std.proofs.Common.{◌≡◌, ℕ, Bool, List, length, set, Option, Some, None, Result, Ok, Err, OnErr, refl, sym, ap, arith, ◌∙◌}
 use Rattle.std.proofs.Math.ListN.{length-set}
-use Rattle.blk_base.specs.Members.{each_set}
+use Rattle.blk_base.specs.laws.Members.{each_set}
 use Rattle.minix_layout.specs.declared.division.Geometry.{Geometry}
 use Rattle.page_cache.specs.declared.cached_page.CachedPage.{CachedPage}
 use Rattle.tree_model.specs.declared.call.Call.{Call}

@@ -1,7 +1,7 @@
 -- What is noted of a thread's call: the host is the machine's with that entry, and that thread.
 use Rattle.std.proofs.Common.{◌≡◌, ◌+◌, ◌-◌, ℕ, suc, zero, List, [], ◌∷◌, ◌++◌, map, set, drop, Option, Some, None, unwrap_or, slice_get, ap, arith, ◌∙◌}
 use Rattle.std.proofs.lemmas.List.{map-set, map-append}
-use Rattle.blk_base.specs.Members.{slice_get-map_some, set-slice_get}
+use Rattle.blk_base.specs.laws.Members.{slice_get-map_some, set-slice_get}
 use Rattle.page_cache.specs.Pages.{Cache}
 use Rattle.tree_model.specs.declared.call.Call.{Call}
 use Rattle.tree_model.specs.declared.call.Call.TheVariants.{Sync}

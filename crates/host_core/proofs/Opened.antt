@@ -1,7 +1,8 @@
 -- A host that is made is the machine's, opened.
 use Rattle.std.proofs.Common.{◌≡◌, ◌<◌, ◌^◌, ℕ, Bool, true, false, if◌then◌else◌, ◌⊎◌, List, [], ◌∷◌, ◌++◌, length, map, replicate, drop, None, refl, sym, ap, subst, arith, ◌∙◌, inl, inr}
 use Rattle.std.proofs.lemmas.List.{length-map, length-replicate}
-use Rattle.blk_base.specs.Members.{In, In-push_cases}
+use Rattle.blk_base.specs.Members.{In}
+use Rattle.blk_base.specs.laws.Members.{In-push_cases}
 use Rattle.page_cache.specs.Pages.{Cache}
 use Rattle.page_cache.specs.declared.cached_page.CachedPage.{CachedPage}
 use Rattle.journal_ring.specs.Journal.{JournalRing}

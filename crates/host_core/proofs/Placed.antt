@@ -4,7 +4,8 @@ use Rattle.std.proofs.lemmas.Bool.{eq-eqb, ne_eqb, eqb-true, eqb-false}
 use Rattle.std.proofs.lemmas.List.{take-append-le, take_at}
 use Rattle.std.proofs.lemmas.List.Sums.{sum_by_push}
 use Rattle.std.proofs.lemmas.Option.{same_Some}
-use Rattle.blk_base.specs.Members.{In, slice_get-In, slice_get-length, slice_get-map_some, slice_get-push_cases, slice_get-set_other, slice_get-set_same}
+use Rattle.blk_base.specs.Members.{In}
+use Rattle.blk_base.specs.laws.Members.{slice_get-In, slice_get-length, slice_get-map_some, slice_get-push_cases, slice_get-set_other, slice_get-set_same}
 use Rattle.tree_model.specs.declared.call.Call.{Call}
 use Rattle.host_answers.specs.declared.entry.Entry.{Entry}
 use Rattle.host_answers.specs.declared.entry.EntryKind.{EntryKind}

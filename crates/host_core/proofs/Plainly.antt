@@ -1,7 +1,7 @@
 -- What a step of a plain call leaves as it was.
 use Rattle.std.proofs.Common.{◌≡◌, ℕ, Bool, true, false, not, List, [], length, nat_lt, Option, Some, None, if◌then◌else◌, refl, sym, ap, ◌∙◌}
 use Rattle.std.specs.List.{filter}
-use Rattle.blk_base.specs.Members.{filter_all}
+use Rattle.blk_base.specs.laws.Members.{filter_all}
 use Rattle.number_sets.specs.Sets.{has}
 use Rattle.tree_model.specs.declared.call.Call.{Call}
 use Rattle.tree_model.specs.declared.call.Reply.{Reply}

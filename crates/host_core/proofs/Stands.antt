@@ -1,7 +1,7 @@
 -- How a thread stands is what the host's fields say of it.
 use Rattle.std.proofs.Common.{◌≡◌, ◌-◌, ℕ, List, length, drop, Option, Some, None, slice_get, slice_index_or, sym, ap, arith, ◌∙◌}
 use Rattle.std.proofs.lemmas.List.{length-drop}
-use Rattle.blk_base.specs.Members.{slice_get-map_some}
+use Rattle.blk_base.specs.laws.Members.{slice_get-map_some}
 use Rattle.page_cache.specs.Pages.{Cache}
 use Rattle.tree_model.specs.declared.call.Call.{Call}
 use Rattle.volume_steps.specs.Now.{VolumeNow}

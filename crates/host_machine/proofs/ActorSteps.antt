@@ -3,8 +3,9 @@ use Rattle.std.proofs.Common.{sym, ap, subst, ◌∙◌, inl, inr, ⊎_elim, ari
 use Rattle.std.proofs.lemmas.Bool.{cases_Bool, false≢true, and_from}
 use Rattle.std.specs.List.{find, filter}
 use Rattle.std.specs.Prelude.{◌≡◌, ℕ, ◌+◌, ◌-◌, ◌≤◌, ◌⊎◌, Bool, true, false, ◌&&◌, ◌||◌, not, List, [], ◌∷◌, ◌++◌, length, Option, Some, None, is_none, nat_lt, slice_get, slice_index_or, refl, if◌then◌else◌}
-use Rattle.blk_base.specs.Members.{In, In-filter, slice_get-In}
-use Rattle.order_model.specs.Submission.{IsFence}
+use Rattle.blk_base.specs.Members.{In}
+use Rattle.blk_base.specs.laws.Members.{In-filter, slice_get-In}
+use Rattle.order_model.specs.OrderClosed.{IsFence}
 use Rattle.order_model.specs.declared.completion.Completion.{Completion}
 use Rattle.order_model.specs.declared.note.Note.TheVariants as notes
 use Rattle.order_model.specs.declared.note.Note.{Note}

@@ -3,7 +3,7 @@ use Rattle.std.proofs.Common.{sym, ap, subst, ◌∙◌, ⊎_elim, arith}
 use Rattle.std.proofs.lemmas.Option.{same_Some}
 use Rattle.std.specs.Prelude.{◌≡◌, ℕ, ◌-◌, ◌≤◌, ◌⊎◌, true, List, length, Some}
 use Rattle.blk_base.specs.Members.{In}
-use Rattle.order_model.specs.Submission.{IsFence, kind_block}
+use Rattle.order_model.specs.OrderClosed.{IsFence, kind_block}
 use Rattle.order_model.specs.declared.note.Note.TheVariants.{Page, Commit, Home}
 use Rattle.order_model.specs.declared.note.Note.{Note}
 use Rattle.order_model.specs.declared.request.Request.{Request}

@@ -3,7 +3,7 @@ use mathlib.Core.Path.{fun_ext}
 use Rattle.std.proofs.Common.{sym, ap, subst, ◌∙◌, inl, inr, ⊎_elim, arith, length-append}
 use Rattle.std.proofs.lemmas.Bool.{cases_lt, false≢true, or_cases, or_parts, and_parts, and_from}
 use Rattle.std.specs.Prelude.{◌≡◌, ℕ, zero, suc, ◌+◌, ◌-◌, ◌<◌, ◌≤◌, ◌⊎◌, Bool, true, false, ◌&&◌, ◌||◌, List, [], ◌∷◌, ◌++◌, length, Option, Some, None, slice_get, slice_index_or, refl, if◌then◌else◌}
-use Rattle.blk_base.specs.Members.{slice_get-push, slice_get-push_left}
+use Rattle.blk_base.specs.laws.Members.{slice_get-push, slice_get-push_left}
 use Rattle.crash_laws.specs.History.{History, HasTrees}
 use Rattle.host_machine.proofs.ChangeSteps.{IsEntry}
 use Rattle.host_machine.specs.Model.{Model}

@@ -4,8 +4,8 @@ use Rattle.std.proofs.Common.{sym, ap, subst, ◌∙◌, inl, inr, ⊎_elim, ari
 use Rattle.std.proofs.lemmas.Bool.{cases_lt, false≢true}
 use Rattle.std.proofs.lemmas.Option.{none-some}
 use Rattle.std.specs.Prelude.{◌≡◌, ℕ, zero, suc, ◌+◌, ◌-◌, ◌<◌, ◌≤◌, ◌⊎◌, Bool, true, false, List, [], ◌∷◌, ◌++◌, Some, slice_index_or, refl, if◌then◌else◌, IsTrue}
-use Rattle.blk_base.specs.Members.{slice_get-length}
-use Rattle.order_model.specs.Submission.{IsOrdered, kind_block}
+use Rattle.blk_base.specs.laws.Members.{slice_get-length}
+use Rattle.order_model.specs.OrderClosed.{IsOrdered, kind_block}
 use Rattle.order_model.specs.declared.note.Note.TheVariants.{Page, Commit}
 use Rattle.volume_ops.specs.Reads.{Reads}
 use Rattle.crash_laws.proofs.Growing.{note_old, commit_before_old, ordered_old, ordered_new}

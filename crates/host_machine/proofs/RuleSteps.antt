@@ -4,7 +4,7 @@ use Rattle.std.proofs.Common.{sym, ap, subst, ◌∙◌}
 use Rattle.std.proofs.lemmas.Option.{none-some}
 use Rattle.std.specs.Option.{unwrap_or}
 use Rattle.std.specs.Prelude.{◌≡◌, ℕ, ◌+◌, Bool, true, false, List, [], ◌∷◌, ◌++◌, length, Some, None, nat_lt, refl}
-use Rattle.order_model.specs.Submission.{kind_body}
+use Rattle.order_model.specs.OrderClosed.{kind_body}
 use Rattle.order_model.specs.declared.note.Note.TheVariants as notes
 use Rattle.order_model.specs.declared.note.Note.{Note}
 use Rattle.order_model.specs.declared.request.Kind.TheVariants as puts

@@ -3,8 +3,8 @@ use Rattle.std.proofs.Common.{sym, ap, subst, ◌∙◌, inl, inr, ⊎_elim, ari
 use Rattle.std.proofs.lemmas.Bool.{cases_lt, false≢true}
 use Rattle.std.proofs.lemmas.Option.{none-some, same_Some}
 use Rattle.std.specs.Prelude.{◌≡◌, ℕ, ◌+◌, ◌-◌, ◌<◌, ◌≤◌, ◌⊎◌, Bool, true, false, List, [], ◌∷◌, ◌++◌, length, Some, refl, if◌then◌else◌, IsTrue}
-use Rattle.blk_base.specs.Members.{slice_get-length}
-use Rattle.order_model.specs.Submission.{IsPutOf, IsOrdered, kind_block, kind_body}
+use Rattle.blk_base.specs.laws.Members.{slice_get-length}
+use Rattle.order_model.specs.OrderClosed.{IsPutOf, IsOrdered, kind_block, kind_body}
 use Rattle.order_model.specs.declared.note.Note.TheVariants.{Page, Commit}
 use Rattle.order_model.specs.declared.note.Note.{Note}
 use Rattle.order_model.specs.declared.request.Request.{Request}

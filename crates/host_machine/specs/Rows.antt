@@ -1,7 +1,7 @@
 -- Small sessions of the host, over a model whose calls say themselves what they touch.
 use Rattle.std.specs.List.{filter}
 use Rattle.std.specs.Prelude.{ℕ, zero, suc, ◌==◌, Bool, true, false, List, [], ◌∷◌, ◌++◌, length, map, Option, Some, None, not}
-use Rattle.order_model.specs.Submission.{kind_block}
+use Rattle.order_model.specs.OrderClosed.{kind_block}
 use Rattle.order_model.specs.declared.completion.Completion.TheVariants as completions
 use Rattle.order_model.specs.declared.completion.Completion.{Completion}
 use Rattle.order_model.specs.declared.note.Note.{Note}

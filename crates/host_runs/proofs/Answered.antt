@@ -2,7 +2,7 @@
 use Rattle.std.proofs.Common.{sym, ap, subst, ◌∙◌, inl, inr, ⊎_elim, arith, length-append}
 use Rattle.std.proofs.lemmas.Bool.{false≢true}
 use Rattle.std.specs.Prelude.{◌≡◌, ℕ, ◌+◌, Bool, true, ◌≤◌, List, [], ◌∷◌, length, Option, Some, None, slice_get, refl}
-use Rattle.blk_base.specs.Members.{slice_get-length}
+use Rattle.blk_base.specs.laws.Members.{slice_get-length}
 use Rattle.order_model.specs.declared.completion.Completion.{Completion}
 use Rattle.log_model.specs.Log.{Format}
 use Rattle.log_model.specs.Marks.{Transaction}

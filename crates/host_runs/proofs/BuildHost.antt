@@ -3,7 +3,8 @@ use Rattle.std.proofs.Common.{sym, ap, subst, ◌∙◌, ⊎_elim, arith, lt-ltb
 use Rattle.std.proofs.lemmas.Bool.{cases_lt, false≢true}
 use Rattle.std.proofs.lemmas.Option.{none-some}
 use Rattle.std.specs.Prelude.{◌≡◌, ℕ, suc, ◌+◌, ◌-◌, ◌≤◌, true, false, List, [], ◌∷◌, ◌++◌, map, length, Some, slice_index_or, nat_lt, refl}
-use Rattle.blk_base.specs.Members.{In, In-map}
+use Rattle.blk_base.specs.Members.{In}
+use Rattle.blk_base.specs.laws.Members.{In-map}
 use Rattle.log_model.specs.Marks.{Logged, Transaction}
 use Rattle.page_cache.specs.Pages.{page_at}
 use Rattle.page_cache.specs.declared.cached_page.CachedPage.{CachedPage}

@@ -3,7 +3,8 @@ use Rattle.std.proofs.Common.{sym, ap, subst, ◌∙◌, inl, inr, ⊎_elim, ari
 use Rattle.std.proofs.lemmas.Bool.{cases_Bool}
 use Rattle.std.proofs.lemmas.Option.{none-some, same_Some}
 use Rattle.std.specs.Prelude.{◌≡◌, ◌≢◌, ℕ, zero, suc, ◌+◌, ◌-◌, ◌<◌, ◌==◌, ◌&&◌, ◌⊎◌, Bool, true, false, List, [], ◌∷◌, length, map, set, Option, Some, None, slice_get, IsTrue, if◌then◌else◌, refl}
-use Rattle.blk_base.specs.Members.{In, slice_get-length, slice_get-set_same, slice_get-set_other}
+use Rattle.blk_base.specs.Members.{In}
+use Rattle.blk_base.specs.laws.Members.{slice_get-length, slice_get-set_same, slice_get-set_other}
 use Rattle.order_model.specs.declared.note.Note.TheVariants.{Page}
 use Rattle.log_model.specs.Marks.{Transaction}
 use Rattle.volume_ops.specs.Reads.{Reads}

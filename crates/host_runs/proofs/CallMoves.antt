@@ -4,8 +4,9 @@ use Rattle.std.proofs.lemmas.Bool.{cases_Bool, cond-true, cond-false, false≢tr
 use Rattle.std.proofs.lemmas.Option.{none-some, same_Some}
 use Rattle.std.specs.List.{filter}
 use Rattle.std.specs.Prelude.{◌≡◌, ℕ, ◌≤◌, ◌==◌, ◌&&◌, ◌||◌, ◌⊎◌, Bool, true, false, List, [], ◌∷◌, map, Option, Some, None, IsTrue, if◌then◌else◌, refl}
-use Rattle.blk_base.specs.Members.{In, filter-In, map-In, slice_get-length}
-use Rattle.order_model.specs.Submission.{is_flush}
+use Rattle.blk_base.specs.Members.{In}
+use Rattle.blk_base.specs.laws.Members.{filter-In, map-In, slice_get-length}
+use Rattle.order_model.specs.OrderClosed.{is_flush}
 use Rattle.order_model.specs.declared.note.Note.TheVariants.{Page}
 use Rattle.volume_ops.specs.Reads.{Reads}
 use Rattle.page_cache.specs.Pages.{is_page, page_at, put_page, marked, is_unsent}

@@ -4,7 +4,7 @@ use Rattle.std.proofs.lemmas.Bool.{cases_Bool, cases_lt, false≢true}
 use Rattle.std.proofs.lemmas.Option.{none-some, same_Some}
 use Rattle.std.specs.Prelude.{◌≡◌, ℕ, zero, suc, ◌+◌, ◌-◌, ◌<◌, ◌≤◌, ◌⊎◌, true, false, not, List, Some, None, if◌then◌else◌}
 use Rattle.blk_base.specs.Members.{In}
-use Rattle.order_model.specs.Submission.{IsFence}
+use Rattle.order_model.specs.OrderClosed.{IsFence}
 use Rattle.order_model.specs.declared.completion.Completion.TheVariants.{Flushed}
 use Rattle.order_model.specs.declared.completion.Completion.{Completion}
 use Rattle.order_model.specs.declared.note.Note.TheVariants.{Page}

@@ -4,8 +4,9 @@ use Rattle.std.proofs.lemmas.Bool.{cases_lt}
 use Rattle.std.proofs.lemmas.Option.{none-some, same_Some}
 use Rattle.std.specs.Option.{option_and_then, unwrap_or}
 use Rattle.std.specs.Prelude.{◌≡◌, ℕ, ◌+◌, ◌≤◌, ◌⊎◌, Bool, true, List, [], ◌∷◌, ◌++◌, length, Option, Some, slice_get, nat_lt, IsTrue, ◌||◌, refl}
-use Rattle.blk_base.specs.Members.{In, slice_get-length, slice_get-In, filter_all}
-use Rattle.order_model.specs.Submission.{is_flush, kind_body}
+use Rattle.blk_base.specs.Members.{In}
+use Rattle.blk_base.specs.laws.Members.{slice_get-length, slice_get-In, filter_all}
+use Rattle.order_model.specs.OrderClosed.{is_flush, kind_body}
 use Rattle.order_model.specs.declared.note.Note.TheVariants.{Page, Super, Commit, Home, Flush, Raw}
 use Rattle.order_model.specs.declared.note.Note.{Note}
 use Rattle.order_model.specs.declared.request.Kind.TheVariants.{Put}

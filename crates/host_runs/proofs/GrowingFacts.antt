@@ -5,8 +5,9 @@ use Rattle.std.proofs.lemmas.List.Elements.{filter-append}
 use Rattle.std.proofs.lemmas.Option.{none-some, same_Some}
 use Rattle.std.specs.Option.{option_and_then, unwrap_or}
 use Rattle.std.specs.Prelude.{◌≡◌, ◌≢◌, ℕ, ◌+◌, ◌<◌, ◌≤◌, ◌==◌, ◌⊎◌, List, [], ◌∷◌, ◌++◌, length, Option, Some, None, slice_get, refl}
-use Rattle.blk_base.specs.Members.{In, In-filter, slice_get-push_cases}
-use Rattle.order_model.specs.Submission.{kind_body}
+use Rattle.blk_base.specs.Members.{In}
+use Rattle.blk_base.specs.laws.Members.{In-filter, slice_get-push_cases}
+use Rattle.order_model.specs.OrderClosed.{kind_body}
 use Rattle.order_model.specs.declared.note.Note.TheVariants.{Super, Commit, Home}
 use Rattle.order_model.specs.declared.request.Request.{Request}
 use Rattle.log_model.specs.Log.{Spells}

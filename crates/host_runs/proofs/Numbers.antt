@@ -2,7 +2,7 @@
 use Rattle.std.proofs.Common.{sym, ap, subst, ◌∙◌, ⊎_elim, arith, length-append}
 use Rattle.std.specs.Option.{option_and_then}
 use Rattle.std.specs.Prelude.{◌≡◌, ℕ, zero, suc, ◌+◌, ◌-◌, ◌≤◌, List, [], ◌∷◌, length, Some, refl}
-use Rattle.blk_base.specs.Members.{In-map, slice_get-length}
+use Rattle.blk_base.specs.laws.Members.{In-map, slice_get-length}
 use Rattle.order_model.specs.declared.note.Note.TheVariants.{Commit}
 use Rattle.log_model.proofs.Ring.{places_on-place}
 use Rattle.log_model.specs.Marks.{Logged, Transaction}

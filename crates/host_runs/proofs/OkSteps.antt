@@ -1,7 +1,7 @@
 -- What an answered call keeps it keeps for good: with one request more, one completion more, and a longer history.
 use Rattle.std.proofs.Common.{inl, inr, ⊎_elim, arith}
 use Rattle.std.specs.Prelude.{ℕ, ◌<◌, ◌≤◌, ◌++◌, ◌∷◌, [], List}
-use Rattle.blk_base.specs.Members.{In-push_left}
+use Rattle.blk_base.specs.laws.Members.{In-push_left}
 use Rattle.order_model.specs.declared.completion.Completion.TheVariants.{Flushed}
 use Rattle.order_model.specs.declared.completion.Completion.{Completion}
 use Rattle.order_model.specs.declared.note.Note.TheVariants.{Commit}

@@ -4,8 +4,9 @@ use Rattle.std.proofs.lemmas.Bool.{cases_lt}
 use Rattle.std.proofs.lemmas.Option.{none-some, same_Some}
 use Rattle.std.specs.Option.{option_and_then}
 use Rattle.std.specs.Prelude.{◌≡◌, ◌≢◌, ℕ, zero, suc, ◌+◌, ◌-◌, ◌<◌, ◌≤◌, List, [], ◌∷◌, length, Option, Some, None, slice_get}
-use Rattle.blk_base.specs.Members.{In, In-slice_get}
-use Rattle.order_model.specs.Submission.{IsPutOf}
+use Rattle.blk_base.specs.Members.{In}
+use Rattle.blk_base.specs.laws.Members.{In-slice_get}
+use Rattle.order_model.specs.OrderClosed.{IsPutOf}
 use Rattle.order_model.specs.declared.note.Note.{Note}
 use Rattle.log_model.proofs.Ring.{places_on-add, places_on-place, place_after-last, places_on-up}
 use Rattle.log_model.specs.Ring.{Ring, places_on, IsPlace}

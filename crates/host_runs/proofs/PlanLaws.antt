@@ -3,7 +3,8 @@ use Rattle.std.proofs.Common.{sym, ap, subst, ◌∙◌, inl, inr, ⊎_elim, ari
 use Rattle.std.proofs.lemmas.Grind.{div_ceil_times}
 use Rattle.std.specs.Int.{div_ceil}
 use Rattle.std.specs.Prelude.{◌≡◌, ℕ, zero, suc, ◌+◌, ◌-◌, ◌*◌, ◌≤◌, List, [], ◌∷◌, ◌++◌, map, length, Some, refl}
-use Rattle.blk_base.specs.Members.{In, In-append_cases, In-map}
+use Rattle.blk_base.specs.Members.{In}
+use Rattle.blk_base.specs.laws.Members.{In-append_cases, In-map}
 use Rattle.order_model.specs.declared.note.Note.TheVariants.{Commit}
 use Rattle.log_model.proofs.Parts.{parts_spell}
 use Rattle.log_model.specs.Log.{Tag, Format, Spells}

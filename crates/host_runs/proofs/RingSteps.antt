@@ -4,8 +4,8 @@ use Rattle.std.proofs.Common.{sym, ap, subst, ◌∙◌, inl, inr, ⊎_elim, ari
 use Rattle.std.proofs.lemmas.Option.{none-some, same_Some}
 use Rattle.std.specs.Option.{option_and_then, unwrap_or}
 use Rattle.std.specs.Prelude.{◌≡◌, ℕ, ◌+◌, ◌≤◌, ◌⊎◌, true, List, [], ◌∷◌, ◌++◌, length, Option, Some, None, nat_lt, IsTrue, ◌||◌, refl}
-use Rattle.blk_base.specs.Members.{slice_get-length}
-use Rattle.order_model.specs.Submission.{is_flush, kind_body}
+use Rattle.blk_base.specs.laws.Members.{slice_get-length}
+use Rattle.order_model.specs.OrderClosed.{is_flush, kind_body}
 use Rattle.order_model.specs.declared.note.Note.TheVariants.{Page, Super, Commit, Home, Flush, Raw}
 use Rattle.order_model.specs.declared.note.Note.{Note}
 use Rattle.order_model.specs.declared.request.Kind.TheVariants.{Put}

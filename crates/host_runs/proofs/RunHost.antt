@@ -1,7 +1,8 @@
 -- Runs of the host: what holds where it is opened holds after every step.
 use Rattle.std.proofs.Common.{sym, subst, ⊎_elim, arith}
 use Rattle.std.specs.Prelude.{ℕ, ◌+◌, ◌-◌, ◌<◌, ◌≤◌, List, [], ◌∷◌, refl}
-use Rattle.blk_base.specs.Members.{In, slice_get-In}
+use Rattle.blk_base.specs.Members.{In}
+use Rattle.blk_base.specs.laws.Members.{slice_get-In}
 use Rattle.log_model.specs.Ring.{Ring}
 use Rattle.volume_ops.specs.Reads.{blocks_read, AgreeOn}
 use Rattle.volume_ops.specs.laws.ReadsLaws.{blocks_read-agree}

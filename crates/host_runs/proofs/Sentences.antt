@@ -1,7 +1,7 @@
 -- A power cut in a host's session: what its facts give of a medium that keeps the order of barriers.
 use Rattle.std.proofs.Common.{sym, subst, ⊎_elim, arith}
 use Rattle.std.specs.Prelude.{◌≡◌, ℕ, zero, suc, ◌+◌, ◌<◌, ◌⊎◌, List, [], length}
-use Rattle.order_model.specs.Submission.{IsOrderClosed}
+use Rattle.order_model.specs.OrderClosed.{IsOrderClosed}
 use Rattle.log_model.specs.Marks.{Transaction}
 use Rattle.volume_ops.specs.Volume.{disk_of}
 use Rattle.crash_laws.proofs.Commits.{kept_commits_are_prefix}

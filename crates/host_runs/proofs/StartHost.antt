@@ -4,7 +4,8 @@ use Rattle.std.proofs.lemmas.Bool.{false≢true}
 use Rattle.std.proofs.lemmas.Option.{none-some}
 use Rattle.std.specs.Option.{option_and_then}
 use Rattle.std.specs.Prelude.{◌≡◌, ℕ, zero, suc, ◌+◌, false, List, [], ◌∷◌, map, length, Some, None, slice_get, refl}
-use Rattle.blk_base.specs.Members.{In, In-map, map_some-slice_get}
+use Rattle.blk_base.specs.Members.{In}
+use Rattle.blk_base.specs.laws.Members.{In-map, map_some-slice_get}
 use Rattle.order_model.specs.declared.note.Note.TheVariants.{Commit, Home}
 use Rattle.order_model.specs.declared.note.Note.{Note}
 use Rattle.log_model.proofs.Marks.{keep≢set}

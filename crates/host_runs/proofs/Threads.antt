@@ -3,7 +3,7 @@ use Rattle.std.proofs.Common.{sym, ap, subst, ◌∙◌, ⊎_elim}
 use Rattle.std.proofs.lemmas.Bool.{cases_lt, false≢true, le-leb}
 use Rattle.std.proofs.lemmas.Option.{none-some}
 use Rattle.std.specs.Prelude.{◌≡◌, ℕ, ◌<◌, ◌+◌, Bool, true, false, List, [], ◌∷◌, length, set, Some, None, refl}
-use Rattle.blk_base.specs.Members.{In-set_cases, slice_get-In}
+use Rattle.blk_base.specs.laws.Members.{In-set_cases, slice_get-In}
 use Rattle.log_model.specs.Marks.{Logged}
 use Rattle.host_machine.specs.Host.{Stepped, end_with, advance, checkpoint, plan_sent, commit_step}
 use Rattle.host_machine.specs.Model.{Model}

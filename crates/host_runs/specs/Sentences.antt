@@ -1,7 +1,7 @@
 -- What a power cut leaves of a host's session, on a medium that keeps the order of barriers.
 use Rattle.std.specs.Prelude.{◌≡◌, ℕ, ◌≤◌, true, false, List, length}
 use Rattle.blk_base.specs.Members.{In}
-use Rattle.order_model.specs.Submission.{IsOrderClosed, KeepsFlushed}
+use Rattle.order_model.specs.OrderClosed.{IsOrderClosed, KeepsFlushed}
 use Rattle.order_model.specs.declared.completion.Completion.{Completion}
 use Rattle.log_model.specs.Marks.{Transaction}
 use Rattle.volume_ops.specs.Reads.{answer}

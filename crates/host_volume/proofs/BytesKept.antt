@@ -3,7 +3,8 @@ use Rattle.std.specs.Prelude.{◌≡◌, ◌<◌, ◌≤◌, ◌+◌, ◌-◌, �
 use Rattle.std.specs.Int.{div_ceil, byte_at, bytes_low_first}
 use Rattle.std.specs.List.{list_any, list_all}
 use Rattle.std.proofs.Common.{subst, inl, inr, arith}
-use Rattle.blk_base.specs.Members.{In, In-map}
+use Rattle.blk_base.specs.Members.{In}
+use Rattle.blk_base.specs.laws.Members.{In-map}
 use Rattle.std.proofs.lemmas.Bool.{cases_Bool, and_parts, ltb-true, ltb-false}
 use Rattle.std.proofs.lemmas.Nat.{or_of_8, and_le_l}
 use Rattle.blk_base.specs.Block.{filled}

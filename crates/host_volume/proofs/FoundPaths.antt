@@ -5,7 +5,8 @@ use Rattle.std.specs.Ordering.{nat_cmp}
 use Rattle.std.proofs.Common.{sym, ap, subst, ◌∙◌, inl, inr, ⊎_elim, arith, eqb-true}
 use Rattle.std.proofs.lemmas.Bool.{cases_Bool, eq-eqb, true≢false}
 use Rattle.std.proofs.lemmas.Option.{none-some, same_Some}
-use Rattle.blk_base.specs.Members.{In, In-append_left, In-append_right, In-append_cases, In-list_any, none-list_any}
+use Rattle.blk_base.specs.Members.{In}
+use Rattle.blk_base.specs.laws.Members.{In-append_left, In-append_right, In-append_cases, In-list_any, none-list_any}
 use Rattle.minix_layout.specs.declared.division.Geometry.{Geometry}
 use Rattle.tree_model.specs.declared.node.Node.{Node}
 use Rattle.tree_model.specs.declared.node.Node.TheVariants as nodes

@@ -3,7 +3,8 @@ use Rattle.std.specs.Prelude.{◌≡◌, ◌≢◌, ◌<◌, ◌==◌, ℕ, nat_
 use Rattle.std.specs.Ordering.{nat_cmp}
 use Rattle.std.proofs.Common.{sym, ap, subst, ◌∙◌, inl, inr, ⊎_elim, arith, ltb-true, eqb-true}
 use Rattle.std.proofs.lemmas.Bool.{or_cases, eq-eqb, true≢false, cases_Bool}
-use Rattle.blk_base.specs.Members.{In, In-list_any, list_any-In}
+use Rattle.blk_base.specs.Members.{In}
+use Rattle.blk_base.specs.laws.Members.{In-list_any, list_any-In}
 use Rattle.tree_model.specs.Maps.{at_number}
 use Rattle.tree_model.specs.laws.MapsLaws.{found-In, number_here, number_same}
 use Rattle.volume_model.specs.declared.placed.Placed.{Placed}

@@ -2,7 +2,8 @@
 use Rattle.std.specs.Prelude.{◌≡◌, ◌≢◌, ◌<◌, ◌≤◌, ◌^◌, ℕ, List, [], ◌∷◌, map, length, Result, Ok, refl}
 use Rattle.std.proofs.Common.{ap, ◌∙◌, lit<, arith}
 use Rattle.std.proofs.lemmas.Bool.{ne_eqb}
-use Rattle.blk_base.specs.Members.{In, In-All, In-map}
+use Rattle.blk_base.specs.Members.{In}
+use Rattle.blk_base.specs.laws.Members.{In-All, In-map}
 use Rattle.byte_fields.specs.Fields.{zeros, number_at, HaveFields}
 use Rattle.byte_fields.specs.Fields.Order.{big}
 use Rattle.byte_fields.specs.laws.ReadLaws.{fields_read, length-zeros}

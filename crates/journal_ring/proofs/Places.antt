@@ -1,6 +1,6 @@
 -- The fields of the ring at each step of the code.
 use Rattle.std.proofs.Common.{◌≡◌, ℕ, ◌+◌, ◌-◌, ◌<◌, ◌≤◌, List, length, sym, ap, subst, ◌∙◌, arith}
-use Rattle.blk_base.specs.Members.{IsAscending-filter}
+use Rattle.blk_base.specs.laws.Members.{IsAscending-filter}
 use Rattle.log_model.proofs.Ring.{places_on-up, places_on-add, place_after-last}
 use Rattle.log_model.specs.Marks.{Logged}
 use Rattle.log_model.specs.Ring.{Ring, places_on}

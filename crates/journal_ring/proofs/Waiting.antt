@@ -4,7 +4,8 @@ use Rattle.std.specs.List.{filter}
 use Rattle.std.proofs.lemmas.Bool.{false≢true}
 use Rattle.std.proofs.lemmas.List.{drop_more, drop_all}
 use Rattle.std.proofs.lemmas.List.Sums.{length-filter, count_by-le-length}
-use Rattle.blk_base.specs.Members.{IsAscending, IsAscending-filter}
+use Rattle.blk_base.specs.Members.{IsAscending}
+use Rattle.blk_base.specs.laws.Members.{IsAscending-filter}
 use Rattle.log_model.specs.Marks.{Logged}
 use Rattle.number_sets.specs.Keyed.{drop_by}
 use Rattle.number_sets.specs.Sets.{has}

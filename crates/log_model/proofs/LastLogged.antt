@@ -4,7 +4,8 @@ use Rattle.std.specs.List.{list_any}
 use Rattle.std.proofs.Common.{sym, ap, subst, ◌∙◌, inl, inr, eqb-true, eq-eqb, ne_eqb}
 use Rattle.std.proofs.lemmas.Bool.{cases_Bool, or_right, false≢true}
 use Rattle.std.proofs.lemmas.List.{append-nil}
-use Rattle.blk_base.specs.Members.{In, list_any-In, list_any-none}
+use Rattle.blk_base.specs.Members.{In}
+use Rattle.blk_base.specs.laws.Members.{list_any-In, list_any-none}
 use Rattle.log_model.specs.Marks.{Mark, Keep, Clear, Set, followed, Logged, Transaction, bodies_mark, transaction_mark, mark_in, marked_body}
 use Rattle.log_model.specs.LastLogged.{is_cancelled, bodies_of, uncancelled, last_of, SaysNothing, IsLastBody, IsLastLogged, IsRevokedLast}
 use Rattle.log_model.proofs.Marks.{same_Set, keep≢set, clear≢set, keep≢clear, keep-followed, followed-keep, mark_in-append, transaction_mark-clear, bodies≢clear}

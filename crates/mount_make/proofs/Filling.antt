@@ -6,7 +6,7 @@ use Rattle.std.proofs.lemmas.Bool.{cases_order}
 use Rattle.std.proofs.lemmas.List.FromFn.{get_or-map-range_with_len, length-map-range_with_len}
 use Rattle.blk_base.specs.Block.{filled}
 use Rattle.blk_base.specs.Image.{zeros}
-use Rattle.blk_base.specs.Members.{slice_get-in_range, slice_get-set_same, slice_get-set_other, slice_get-append_left, slice_get-append_right, slice_get-replicate, same_by_slice_get}
+use Rattle.blk_base.specs.laws.Members.{slice_get-in_range, slice_get-set_same, slice_get-set_other, slice_get-append_left, slice_get-append_right, slice_get-replicate, same_by_slice_get}
 use Rattle.minix_layout.specs.declared.division.Geometry.{Geometry}
 use Rattle.journal_blocks.specs.Super.{super_block as journal_super}
 use Rattle.journal_replay.specs.laws.Attempts.{body_at-some}

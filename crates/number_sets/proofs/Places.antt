@@ -7,7 +7,8 @@ use Rattle.std.specs.Prelude.{MatchResult}
 use Rattle.std.proofs.lemmas.Bool.{cases_Bool, false≢true, ne_eqb, lt-ltb, le-ltb}
 use Rattle.std.proofs.lemmas.Option.{slice_get-get_or}
 use Rattle.std.proofs.lemmas.List.Sorted.{searched}
-use Rattle.blk_base.specs.Members.{In, filter_all, remove-ascending, slice_get-In}
+use Rattle.blk_base.specs.Members.{In}
+use Rattle.blk_base.specs.laws.Members.{filter_all, remove-ascending, slice_get-In}
 use Rattle.number_sets.specs.Sets.{IsRising, has, with, without_all}
 use Rattle.number_sets.specs.code.Places.{StandsAt, BelongsAt, IsPlaceOf}
 use Rattle.number_sets.specs.laws.Members.{In-has, has-In}

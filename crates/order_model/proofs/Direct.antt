@@ -5,7 +5,8 @@ use Rattle.std.proofs.lemmas.Bool.{false≢true}
 use Rattle.std.proofs.lemmas.List.{length-map}
 use Rattle.std.proofs.lemmas.List.Sums.{sum_by-cons}
 use Rattle.std.proofs.lemmas.Option.{none-some}
-use Rattle.blk_base.specs.Members.{In, In-slice_get, slice_get-in_range, slice_get-length, slice_get-map_some, map_some-slice_get}
+use Rattle.blk_base.specs.Members.{In}
+use Rattle.blk_base.specs.laws.Members.{In-slice_get, slice_get-in_range, slice_get-length, slice_get-map_some, map_some-slice_get}
 use Rattle.order_model.specs.declared.part.Part.{Part}
 use Rattle.order_model.specs.declared.command.Command.{Command}
 use Rattle.order_model.specs.declared.command.Priority.TheVariants.{Simple, Ordered}
@@ -13,13 +14,13 @@ use Rattle.order_model.specs.declared.request.Kind.{Kind}
 use Rattle.order_model.specs.declared.request.Kind.TheVariants.{Put, Flush}
 use Rattle.order_model.specs.declared.request.Request.{Request}
 use Rattle.order_model.specs.Received.{ids_of, all_ids, IsBarrier}
-use Rattle.order_model.specs.Submission.{is_flush, kind_block, IsFence, IsOrderedBefore}
+use Rattle.order_model.specs.OrderClosed.{is_flush, kind_block, IsFence, IsOrderedBefore}
 use Rattle.order_model.specs.Device.{NoneTwice}
 use Rattle.order_model.specs.Single.{parts_for, flush_for, command_of_request, command_for}
 use Rattle.order_model.specs.Carrying.{IsCarriedBy, IsSentIn, WasAccepted, Carries, AreAtIds, FlushesAreBarriers, sent_alone}
 use Rattle.order_model.proofs.Received.{is-barrier}
 use Rattle.order_model.proofs.Single.{part_is, flush_is}
-use Rattle.order_model.proofs.Medium.{carried-id}
+use Rattle.order_model.proofs.OrderToTheMedium.{carried-id}
 
 -- ---- the command of one request
 

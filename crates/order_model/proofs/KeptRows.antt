@@ -5,7 +5,7 @@ use Rattle.std.proofs.lemmas.List.{map-append}
 use Rattle.std.proofs.lemmas.Bool.{ltb-true, ltb-false}
 use Rattle.std.proofs.lemmas.List.Elements.{All-append, All-cons, All-nil}
 use Rattle.std.proofs.lemmas.Option.{slice_get_read}
-use Rattle.blk_base.specs.Members.{slice_get-out}
+use Rattle.blk_base.specs.laws.Members.{slice_get-out}
 use Rattle.order_model.specs.declared.bodies.KeptBody.{KeptBody}
 use Rattle.order_model.specs.declared.bodies.KeptBody.TheVariants.{Full, Stored}
 use Rattle.order_model.specs.code.Bodies.{body_of, IsThere}

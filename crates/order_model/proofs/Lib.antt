@@ -1,6 +1,6 @@
 pub mod Direct
 pub mod Histories
-pub mod Medium
+pub mod OrderToTheMedium
 pub mod Merging
 pub mod Next
 pub mod Received

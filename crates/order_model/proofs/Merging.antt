@@ -6,7 +6,8 @@ use Rattle.std.proofs.lemmas.Bool.{cases_Bool, cases_lt, false≢true, ne_eqb, e
 use Rattle.std.proofs.lemmas.List.{length-append, append-nil, map-append}
 use Rattle.std.proofs.lemmas.List.Sums.{sum_by-cons, sum_by-append}
 use Rattle.std.proofs.lemmas.Option.{none-some, same_Some}
-use Rattle.blk_base.specs.Members.{In, In-append_cases, In-append_left, In-append_right, In-slice_get, slice_get-In, slice_get-length, slice_get-append_left, slice_get-append_right, slice_get-map_some, map_some-slice_get, list_any-In}
+use Rattle.blk_base.specs.Members.{In}
+use Rattle.blk_base.specs.laws.Members.{In-append_cases, In-append_left, In-append_right, In-slice_get, slice_get-In, slice_get-length, slice_get-append_left, slice_get-append_right, slice_get-map_some, map_some-slice_get, list_any-In}
 use Rattle.order_model.specs.declared.part.Part.{Part}
 use Rattle.order_model.specs.declared.command.Command.{Command}
 use Rattle.order_model.specs.declared.command.Priority.TheVariants.{Simple, Ordered}
@@ -14,7 +15,7 @@ use Rattle.order_model.specs.declared.request.Kind.{Kind}
 use Rattle.order_model.specs.declared.request.Kind.TheVariants.{Put, Flush}
 use Rattle.order_model.specs.declared.request.Request.{Request}
 use Rattle.order_model.specs.Received.{all_parts, ids_of, all_ids, IsBarrier}
-use Rattle.order_model.specs.Submission.{kind_block, IsPutOf, IsOrderedBefore}
+use Rattle.order_model.specs.OrderClosed.{kind_block, IsPutOf, IsOrderedBefore}
 use Rattle.order_model.specs.Device.{NoneTwice}
 use Rattle.order_model.specs.Carrying.{SchedSeen, IsCarriedBy, IsSentIn, IsFlushAt, Carries}
 use Rattle.order_model.specs.Merging.{ungrouped, first_flush, merged, IsGroup}

@@ -3,14 +3,15 @@ use Rattle.std.proofs.Common.{◌≡◌, ℕ, ◌+◌, ◌<◌, ◌≤◌, ◌||
 use Rattle.std.specs.Option.{option_and_then, option_to_list}
 use Rattle.std.proofs.lemmas.Bool.{false≢true, eqb-false}
 use Rattle.std.proofs.lemmas.List.{length-append, length-map}
-use Rattle.blk_base.specs.Members.{In, In-All, In-append_right}
+use Rattle.blk_base.specs.Members.{In}
+use Rattle.blk_base.specs.laws.Members.{In-All, In-append_right}
 use Rattle.order_model.specs.declared.part.Part.{Part}
 use Rattle.order_model.specs.declared.command.Command.{Command}
 use Rattle.order_model.specs.declared.command.Priority.{Priority}
 use Rattle.order_model.specs.declared.command.Priority.TheVariants.{Simple, Ordered}
 use Rattle.order_model.specs.declared.request.Request.{Request}
 use Rattle.order_model.specs.Received.{all_parts, ids_of, all_ids}
-use Rattle.order_model.specs.Submission.{kind_block, IsPutOf}
+use Rattle.order_model.specs.OrderClosed.{kind_block, IsPutOf}
 use Rattle.order_model.specs.Device.{Seen, IsReceivable, NoneTwice}
 use Rattle.order_model.specs.Carrying.{SchedSeen, Carries}
 use Rattle.order_model.proofs.Received.{all_ids-append, none_twice-front}

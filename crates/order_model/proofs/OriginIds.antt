@@ -2,11 +2,11 @@
 use Rattle.std.proofs.Common.{◌≡◌, ℕ, List, Option, Some, None, slice_get, refl, sym, ap, ◌∙◌}
 use Rattle.std.specs.Option.{option_map, option_and_then}
 use Rattle.std.proofs.lemmas.Option.{none-some, same_Some}
-use Rattle.blk_base.specs.Members.{map_some-slice_get, slice_get-map_some}
+use Rattle.blk_base.specs.laws.Members.{map_some-slice_get, slice_get-map_some}
 use Rattle.order_model.specs.declared.part.Part.{Part}
 use Rattle.order_model.specs.declared.command.Command.{Command}
 use Rattle.order_model.specs.Received.{part_at}
-use Rattle.order_model.specs.Submission.{HasOrigin}
+use Rattle.order_model.specs.OrderClosed.{HasOrigin}
 use Rattle.order_model.specs.Device.{origin_ids}
 
 -- the id at the place of an origin

@@ -8,7 +8,7 @@ use Rattle.order_model.specs.declared.command.Priority.TheVariants.{Simple, Orde
 use Rattle.order_model.specs.declared.request.Kind.{Kind}
 use Rattle.order_model.specs.declared.request.Kind.TheVariants.{Put, Flush}
 use Rattle.order_model.specs.declared.request.Request.{Request}
-use Rattle.order_model.specs.Submission.{is_flush, IsPutOf, IsOrderedBefore}
+use Rattle.order_model.specs.OrderClosed.{is_flush, IsPutOf, IsOrderedBefore}
 use Rattle.order_model.specs.Single.{command_for}
 use Rattle.order_model.specs.Received.{all_ids, IsBarrier}
 use Rattle.order_model.specs.Device.{Seen, NoneTwice}

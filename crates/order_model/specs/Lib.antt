@@ -9,6 +9,6 @@ pub mod Queue
 pub mod Received
 pub mod Single
 pub mod Steps
-pub mod Submission
+pub mod OrderClosed
 pub mod code
 pub mod laws

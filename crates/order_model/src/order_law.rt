@@ -1,7 +1,7 @@
 //! The law from the commands that carry requests to the medium.
 ghost use Rattle.std.specs.Prelude.{◌≡◌, List, map};
 ghost use Rattle.order_model.specs.declared.request.Request.{Request};
-ghost use Rattle.order_model.specs.Submission.{IsOrderClosed, KeepsFlushed};
+ghost use Rattle.order_model.specs.OrderClosed.{IsOrderClosed, KeepsFlushed};
 ghost use Rattle.order_model.specs.Device.{completed, origin_ids};
 ghost use Rattle.order_model.specs.Merging.{ungrouped, merged, IsGroup};
 ghost use Rattle.blk_base.specs.Members.{In};

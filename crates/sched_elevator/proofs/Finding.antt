@@ -3,8 +3,9 @@ use Rattle.std.proofs.Common.{◌≡◌, ℕ, ◌+◌, ◌<◌, ◌≤◌, Bool,
 use Rattle.std.specs.Option.{option_and_then}
 use Rattle.std.proofs.lemmas.Bool.{cases_Bool, cases_lt, both_ways, false≢true}
 use Rattle.std.proofs.lemmas.Option.{none-some, same_Some}
-use Rattle.blk_base.specs.Members.{In, In-filter, filter-In, In-slice_get, slice_get-In, slice_get-out, slice_get-length}
-use Rattle.order_model.specs.Submission.{kind_block}
+use Rattle.blk_base.specs.Members.{In}
+use Rattle.blk_base.specs.laws.Members.{In-filter, filter-In, In-slice_get, slice_get-In, slice_get-out, slice_get-length}
+use Rattle.order_model.specs.OrderClosed.{kind_block}
 use Rattle.barrier_reassign.specs.Epoch.{Waiting, may_leave, eligible}
 use Rattle.barrier_reassign.specs.laws.SchedulerLaws.{none_past}
 use Rattle.sched_elevator.specs.declared.searches.Found.{Found}

@@ -5,7 +5,8 @@ use Rattle.std.specs.Option.{option_map_or}
 use Rattle.std.proofs.lemmas.Bool.{cases_Bool, both_ways, false≢true, and_parts, and_from, eqb-true, eq-eqb}
 use Rattle.std.proofs.lemmas.List.{length_push}
 use Rattle.std.proofs.lemmas.Option.{none-some, same_Some}
-use Rattle.blk_base.specs.Members.{In, In-filter, In-slice_get, IsAscending-filter, slice_get-push}
+use Rattle.blk_base.specs.Members.{In}
+use Rattle.blk_base.specs.laws.Members.{In-filter, In-slice_get, IsAscending-filter, slice_get-push}
 use Rattle.order_model.specs.declared.part.Part.{Part}
 use Rattle.order_model.specs.declared.command.Command.{Command}
 use Rattle.order_model.specs.declared.request.Kind.{Kind}
@@ -13,7 +14,7 @@ use Rattle.order_model.specs.declared.request.Kind.TheVariants.{Put, Flush}
 use Rattle.order_model.specs.declared.request.Request.{Request}
 use Rattle.order_model.specs.Parts.{block_follows}
 use Rattle.order_model.specs.Single.{parts_for}
-use Rattle.order_model.specs.Submission.{kind_block}
+use Rattle.order_model.specs.OrderClosed.{kind_block}
 use Rattle.barrier_reassign.specs.Epoch.{EpochState, Waiting, may_leave, eligible, departed, leaving, leaves_flagged}
 use Rattle.sched_elevator.specs.Elevator.{Gathering, is_put_of, has_class, joins, next_part, joined, taken, gathered}
 use Rattle.sched_elevator.specs.laws.Eligible.{IsRising, IsPutAt, eligible-same}

@@ -9,7 +9,7 @@ use Rattle.order_model.specs.declared.request.Kind.{Kind}
 use Rattle.order_model.specs.declared.request.Kind.TheVariants.{Put, Flush}
 use Rattle.order_model.specs.declared.request.Request.{Request}
 use Rattle.order_model.specs.History.{HistoryState}
-use Rattle.order_model.specs.Submission.{kind_block}
+use Rattle.order_model.specs.OrderClosed.{kind_block}
 use Rattle.order_model.specs.Received.{all_parts}
 use Rattle.order_model.specs.Single.{command_of_request}
 use Rattle.order_model.proofs.Next.{sent_few}

@@ -2,7 +2,7 @@
 ghost use Rattle.std.specs.Prelude.{◌≡◌, ℕ, ◌+◌, ◌<◌, ◌≤◌, ◌^◌, true, false, length, Some, None, slice_get, if◌then◌else◌};
 ghost use Rattle.std.specs.Option.{option_map, option_map_or};
 ghost use Rattle.order_model.specs.Parts.{block_follows};
-ghost use Rattle.order_model.specs.Submission.{kind_block};
+ghost use Rattle.order_model.specs.OrderClosed.{kind_block};
 ghost use Rattle.barrier_reassign.specs.Epoch.{Waiting, may_leave};
 ghost use Rattle.sched_elevator.specs.Elevator.{joined, gathered, leaving_with, head_after};
 ghost use Rattle.sched_elevator.specs.laws.Eligible.{IsRising};

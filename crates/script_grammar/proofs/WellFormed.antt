@@ -4,7 +4,8 @@ use borrow.Author.Tests.{ltb-true, leb-true}
 use Rattle.std.proofs.lemmas.Bool.{and_parts, false≢true}
 use Rattle.std.proofs.lemmas.Option.{same_Some, none-some}
 use Rattle.blk_base.specs.Block.{filled}
-use Rattle.blk_base.specs.Members.{In, each_push}
+use Rattle.blk_base.specs.Members.{In}
+use Rattle.blk_base.specs.laws.Members.{each_push}
 use Rattle.order_model.specs.declared.request.Request.{Request}
 use Rattle.script_grammar.specs.declared.limits.TheConstants.{DEFAULT_DEPTH, DEFAULT_QUEUE, MOST_BLOCKS, MOST_DEPTH, MOST_EVENTS, MOST_QUEUE, MOST_REPEATS, MOST_REQUESTS, MOST_STEPS, PLACES}
 use Rattle.script_grammar.specs.declared.kinds.ScriptKind.{ScriptKind}

@@ -1,7 +1,7 @@
 -- What the power cut leaves of a script's session.
 use Rattle.std.proofs.Common.{◌≡◌, ℕ, true, List, [], Option, IfOk, Ok, sym, ap, subst, ◌∙◌, arith}
 use Rattle.minix_layout.specs.Geometry.{IsSound}
-use Rattle.order_model.specs.Submission.{IsOrderClosed}
+use Rattle.order_model.specs.OrderClosed.{IsOrderClosed}
 use Rattle.order_model.specs.declared.completion.Completion.{Completion}
 use Rattle.order_model.specs.declared.request.Request.{Request}
 use Rattle.mount_make.specs.Images.{image_tree, mounted, divided, has_journal, recovered_image}

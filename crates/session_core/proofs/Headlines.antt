@@ -1,6 +1,7 @@
 -- The sentences of a session, from the laws of its host and of its power cut.
 use Rattle.std.proofs.Common.{take, ◌≡◌, ℕ, ◌++◌, true, false, List, [], Ok, refl, sym, subst}
-use Rattle.blk_base.specs.Members.{In, In-take, In-append_left}
+use Rattle.blk_base.specs.Members.{In}
+use Rattle.blk_base.specs.laws.Members.{In-take, In-append_left}
 use Rattle.order_model.specs.declared.completion.Completion.{Completion}
 use Rattle.order_model.specs.Carrying.{IsPrefixOf}
 use Rattle.log_model.specs.Marks.{Transaction}

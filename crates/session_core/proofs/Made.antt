@@ -1,6 +1,7 @@
 -- A session that a script opens can run, and where its host ends.
 use Rattle.std.proofs.Common.{take, ◌≡◌, ℕ, ◌<◌, ◌≤◌, ◌↔◌, ◌++◌, List, [], ◌∷◌, length, Result, Ok, Err, IfOk, IsErr, slice_index_or, zero, suc, refl, sym, ap, subst, ◌∙◌, arith, inl, inr}
-use Rattle.blk_base.specs.Members.{In, In-append_left, In-append_right}
+use Rattle.blk_base.specs.Members.{In}
+use Rattle.blk_base.specs.laws.Members.{In-append_left, In-append_right}
 use Rattle.order_model.specs.declared.device.OrderedDev as devices
 use Rattle.order_model.specs.Carrying.{SchedSeen, IsPrefixOf}
 use Rattle.order_model.specs.Device.{Seen}

@@ -5,7 +5,8 @@ use Rattle.std.proofs.lemmas.Bool.{and_from, le-leb, lt-ltb, eq-eqb}
 use Rattle.std.proofs.lemmas.List.{take-append-drop}
 use Rattle.std.proofs.lemmas.List.Splits.{join_with_byte-slice_split}
 use Rattle.std.proofs.lemmas.Option.{none-some}
-use Rattle.blk_base.specs.Members.{In, In-append_left, In-append_right}
+use Rattle.blk_base.specs.Members.{In}
+use Rattle.blk_base.specs.laws.Members.{In-append_left, In-append_right}
 use Rattle.tree_model.specs.declared.call.Call.{Call}
 use Rattle.script_words.specs.Spelling.{words_of, count_of}
 use Rattle.script_words.proofs.Chosen.{mapped, chained}

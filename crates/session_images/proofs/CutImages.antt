@@ -6,14 +6,15 @@ use Rattle.std.proofs.Common.{sym, ap, subst, ◌∙◌, inr, ⊎_elim, arith, e
 use Rattle.std.proofs.lemmas.Bool.{cases_lt, ne_eqb}
 use Rattle.std.proofs.lemmas.List.{get_or-take}
 use Rattle.blk_base.specs.Block.{filled}
-use Rattle.blk_base.specs.Members.{In, In-append_cases, slice_get-append_right, slice_get-in_range, slice_get-length, slice_get-replicate}
+use Rattle.blk_base.specs.Members.{In}
+use Rattle.blk_base.specs.laws.Members.{In-append_cases, slice_get-append_right, slice_get-in_range, slice_get-length, slice_get-replicate}
 use Rattle.byte_fields.specs.Fields.{number_at, number_of}
 use Rattle.minix_layout.specs.declared.division.Geometry.{Geometry}
 use Rattle.minix_layout.specs.declared.fault.LayoutFault.{LayoutFault}
 use Rattle.minix_layout.specs.Geometry.{IsSound}
 use Rattle.minix_layout.specs.Super.{super_of as volume_super}
 use Rattle.order_model.specs.declared.note.Note.TheVariants.{Super, Home}
-use Rattle.order_model.specs.Submission.{IsOrderClosed}
+use Rattle.order_model.specs.OrderClosed.{IsOrderClosed}
 use Rattle.log_model.specs.Log as model
 use Rattle.log_model.specs.Log.{Plain, done, take_blocks, from_sequence}
 use Rattle.log_model.specs.Marks.{Transaction, body_after, replayed}

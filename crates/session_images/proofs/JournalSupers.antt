@@ -4,7 +4,8 @@ use Rattle.std.specs.List.{range_with_len}
 use Rattle.std.proofs.Common.{sym, ap, subst, ◌∙◌, inl, inr, lit<, arith, leb-true, le-leb, lt-ltb, eq-eqb}
 use Rattle.std.proofs.lemmas.Bool.{and_from, false≢true, true≢false, ltb-true}
 use Rattle.std.proofs.lemmas.Option.{none-some}
-use Rattle.blk_base.specs.Members.{In, In-list_any, map-In}
+use Rattle.blk_base.specs.Members.{In}
+use Rattle.blk_base.specs.laws.Members.{In-list_any, map-In}
 use Rattle.byte_fields.specs.Fields.{number_at}
 use Rattle.byte_fields.specs.Fields.Order.{big}
 use Rattle.order_model.specs.declared.note.Note.{Note}

@@ -3,13 +3,14 @@ use Rattle.std.proofs.Common.{sym, subst, inl, inr, ⊎_elim, arith, length-appe
 use Rattle.std.specs.List.{filter}
 use Rattle.std.specs.Option.{unwrap_or, option_and_then}
 use Rattle.std.specs.Prelude.{◌≡◌, ℕ, ◌≤◌, ◌+◌, ◌-◌, ◌⊎◌, Bool, true, false, not, List, [], ◌∷◌, ◌++◌, length, map, slice_get, nat_lt, Option, Some, None, refl}
-use Rattle.blk_base.specs.Members.{In, In-map, In-filter, slice_get-in_range, slice_get-push_cases, slice_get-length}
+use Rattle.blk_base.specs.Members.{In}
+use Rattle.blk_base.specs.laws.Members.{In-map, In-filter, slice_get-in_range, slice_get-push_cases, slice_get-length}
 use Rattle.number_sets.specs.Sets.{has}
 use Rattle.number_sets.specs.laws.Keyed.{In-put_by}
 use Rattle.number_sets.specs.laws.Members.{In-with_all, In-without_all}
 use Rattle.order_model.specs.declared.note.Note.{Note}
 use Rattle.order_model.specs.declared.request.Request.{Request}
-use Rattle.order_model.specs.Submission.{kind_body}
+use Rattle.order_model.specs.OrderClosed.{kind_body}
 use Rattle.log_model.specs.Log.{Format}
 use Rattle.log_model.specs.Marks.{Logged}
 use Rattle.host_machine.proofs.Steps.{enough}

@@ -1,7 +1,8 @@
 -- The requests of a plan are such that a reader of the journal finds no fault with them.
 use Rattle.std.specs.Prelude.{◌≡◌, ℕ, suc, ◌+◌, ◌-◌, ◌≤◌, Bool, true, false, List, [], ◌∷◌, ◌++◌, length, map, refl, if◌then◌else◌}
 use Rattle.std.proofs.Common.{ap, subst, inl, inr, ⊎_elim, arith}
-use Rattle.blk_base.specs.Members.{In, In-append_cases, In-map}
+use Rattle.blk_base.specs.Members.{In}
+use Rattle.blk_base.specs.laws.Members.{In-append_cases, In-map}
 use Rattle.order_model.specs.declared.note.Note.TheVariants as notes
 use Rattle.log_model.specs.Log.{Tag, Format}
 use Rattle.log_model.specs.Marks.{Logged}

@@ -3,7 +3,7 @@ ghost use Rattle.std.specs.Prelude.{◌≡◌, ℕ, List, [], length, slice_get,
 ghost use Rattle.std.specs.Option.{unwrap_or};
 ghost use Rattle.order_model.specs.declared.note.Note.{Note};
 ghost use Rattle.order_model.specs.declared.request.Request.{Request};
-ghost use Rattle.order_model.specs.Submission.{kind_body};
+ghost use Rattle.order_model.specs.OrderClosed.{kind_body};
 ghost use Rattle.log_model.specs.Marks.{Transaction};
 ghost use Rattle.journal_blocks.specs.declared.super_block.JournalSuper.{JournalSuper};
 ghost use Rattle.journal_blocks.specs.Readers.{format, ring_of};

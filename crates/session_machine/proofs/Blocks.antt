@@ -2,12 +2,12 @@
 use Rattle.std.proofs.Common.{◌≡◌, ℕ, ◌+◌, ◌<◌, ◌≤◌, List, [], ◌∷◌, Some, slice_get, refl, sym, ap, ◌∙◌, arith}
 use Rattle.std.specs.Option.{option_and_then}
 use Rattle.std.proofs.lemmas.Option.{same_Some}
-use Rattle.blk_base.specs.Members.{slice_get-in_range, slice_get-length}
+use Rattle.blk_base.specs.laws.Members.{slice_get-in_range, slice_get-length}
 use Rattle.order_model.specs.declared.note.Note.{Note}
 use Rattle.order_model.specs.declared.note.Note.TheVariants.{Page, Super, Revoke, Descriptor, Body, Commit, Home, Flush, Raw}
 use Rattle.order_model.specs.declared.request.Kind.TheVariants.{Put}
 use Rattle.order_model.specs.declared.request.Request.{Request}
-use Rattle.order_model.specs.Submission.{kind_block, IsPutOf}
+use Rattle.order_model.specs.OrderClosed.{kind_block, IsPutOf}
 use Rattle.volume_ops.specs.Reads.{Reads}
 use Rattle.crash_laws.specs.Rules.{OrderRules}
 use Rattle.crash_laws.specs.Session.{Session, HasNote, IsLog, log_transaction, Submitted}

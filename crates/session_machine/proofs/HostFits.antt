@@ -2,7 +2,7 @@
 use Rattle.std.proofs.Common.{◌≡◌, ℕ, ◌<◌, ◌≤◌, Bool, true, false, not, List, [], ◌∷◌, ◌++◌, length, drop, Some, slice_get, nat_lt, refl, sym, ap, subst, ◌∙◌, arith, append_assoc, ⊎_elim}
 use Rattle.std.proofs.lemmas.List.{append-nil, length-append, drop_at}
 use Rattle.std.proofs.lemmas.Bool.{true≢false}
-use Rattle.blk_base.specs.Members.{slice_get-push_cases}
+use Rattle.blk_base.specs.laws.Members.{slice_get-push_cases}
 use Rattle.order_model.specs.declared.request.Kind.TheVariants.{Put}
 use Rattle.order_model.specs.declared.request.Request.{Request}
 use Rattle.order_model.specs.Device.{Seen}

@@ -2,7 +2,7 @@
 use Rattle.std.proofs.Common.{◌≡◌, ℕ, ◌<◌, ◌≤◌, Bool, true, false, List, [], ◌∷◌, ◌++◌, length, Option, Some, None, slice_get, nat_lt, refl, sym, ap, subst, ◌∙◌, arith, if◌then◌else◌, append_assoc}
 use Rattle.std.specs.Option.{option_to_list}
 use Rattle.std.proofs.lemmas.List.{append-nil, length-append}
-use Rattle.blk_base.specs.Members.{slice_get-length, slice_get-append_left}
+use Rattle.blk_base.specs.laws.Members.{slice_get-length, slice_get-append_left}
 use Rattle.order_model.specs.declared.command.Command.{Command}
 use Rattle.order_model.specs.declared.request.Request.{Request}
 use Rattle.order_model.specs.Device.{Seen, IsReceivable}

@@ -1,6 +1,6 @@
 -- Images that are copied block by block.
 use Rattle.std.proofs.Common.{◌≡◌, ℕ, ◌<◌, List, slice_get, sym, ap, subst, ◌∙◌, arith}
-use Rattle.blk_base.specs.Members.{same_by_slice_get}
+use Rattle.blk_base.specs.laws.Members.{same_by_slice_get}
 use Rattle.minix_layout.specs.declared.division.Geometry.{Geometry}
 use Rattle.mount_make.specs.Made.{made_image, made_volume}
 use Rattle.mount_make.proofs.Filling.{get_volume, get_made, length-made}

@@ -3,7 +3,7 @@ use Rattle.std.proofs.Common.{◌≡◌, ◌≢◌, ◌⊎◌, inl, inr, ℕ, ma
 use Rattle.std.proofs.lemmas.Bool.{cases_eq}
 use Rattle.std.proofs.lemmas.List.{append-nil, length-append, length-set}
 use Rattle.std.proofs.lemmas.Option.{none-some, same_Some}
-use Rattle.blk_base.specs.Members.{slice_get-push_cases, slice_get-length, slice_get-push, slice_get-push_left, slice_get-set_same, slice_get-set_other, In-map, slice_get-In}
+use Rattle.blk_base.specs.laws.Members.{slice_get-push_cases, slice_get-length, slice_get-push, slice_get-push_left, slice_get-set_same, slice_get-set_other, In-map, slice_get-In}
 use Rattle.host_machine.specs.Host.{Stepped, advance}
 use Rattle.host_machine.specs.State.{What, Begins, Ends, Begun, Thread, Entry, Host}
 use Rattle.host_machine.specs.laws.Contract.{Over}

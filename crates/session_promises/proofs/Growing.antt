@@ -1,7 +1,7 @@
 -- What a run leaves of what was there: entries, notes and completions come behind the old ones, and the limit stays.
 use Rattle.std.proofs.Common.{◌≡◌, ℕ, ◌<◌, ◌≤◌, List, [], ◌∷◌, ◌++◌, length, slice_get, refl, sym, ap, subst, ◌∙◌, append_assoc, arith}
 use Rattle.std.proofs.lemmas.List.{append-nil, length-append}
-use Rattle.blk_base.specs.Members.{slice_get-append_left}
+use Rattle.blk_base.specs.laws.Members.{slice_get-append_left}
 use Rattle.host_machine.specs.State.{Host}
 use Rattle.host_machine.specs.laws.Contract.{Over}
 use Rattle.host_runs.specs.Runs.{Event, AreBegun, stepped, steps}

@@ -3,7 +3,7 @@ use Rattle.std.proofs.Common.{zero, suc, ◌<◌, arith, ◌≡◌, ◌≢◌, �
 use Rattle.std.proofs.lemmas.Bool.{cases_eq, eq-eqb, ne_eqb}
 use Rattle.std.proofs.lemmas.List.{append-nil, map-append}
 use Rattle.std.proofs.lemmas.Option.{same_Some, none-some, slice_get-map}
-use Rattle.blk_base.specs.Members.{slice_get-map_some, map_some-slice_get, slice_get-set_same, slice_get-set_other, slice_get-length}
+use Rattle.blk_base.specs.laws.Members.{slice_get-map_some, map_some-slice_get, slice_get-set_same, slice_get-set_other, slice_get-length}
 use Rattle.tree_model.specs.declared.call.Call.{Call}
 use Rattle.tree_model.specs.declared.call.Reply.{Reply}
 use Rattle.crash_laws.specs.LegalHistory.{Event, Begin, End, thread_of, has_begun, Follows, of_thread}

@@ -3,7 +3,7 @@ use Rattle.std.proofs.Common.{◌≡◌, ℕ, ◌+◌, ◌≤◌, Bool, true, Li
 use Rattle.std.proofs.lemmas.Bool.{cases_lt}
 use Rattle.std.proofs.lemmas.Option.{same_Some}
 use Rattle.std.proofs.lemmas.List.{length-append}
-use Rattle.blk_base.specs.Members.{slice_get-length, slice_get-push}
+use Rattle.blk_base.specs.laws.Members.{slice_get-length, slice_get-push}
 use Rattle.flush_actor.specs.Kinds.{is_begun}
 use Rattle.host_machine.specs.Host.{advance, ended_by}
 use Rattle.host_machine.specs.State.{Ending, Begins, Ends, Thread, Entry, Host}

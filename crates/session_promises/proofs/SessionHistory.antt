@@ -1,7 +1,8 @@
 -- The history of a session: its causes, and that it is legal.
 use Rattle.std.proofs.Common.{◌≡◌, ◌≢◌, ℕ, zero, suc, ◌+◌, ◌≤◌, map, take, Bool, true, false, not, ◌&&◌, is_some, List, [], ◌∷◌, ◌++◌, length, Option, Some, None, slice_get, refl, sym, ap, subst, ◌∙◌, inl, inr, arith, if◌then◌else◌}
 use Rattle.std.proofs.lemmas.Bool.{false≢true}
-use Rattle.blk_base.specs.Members.{In, slice_get-in_range, slice_get-map_some, slice_get-In, In-map}
+use Rattle.blk_base.specs.Members.{In}
+use Rattle.blk_base.specs.laws.Members.{slice_get-in_range, slice_get-map_some, slice_get-In, In-map}
 use Rattle.order_model.specs.declared.completion.Completion.{Completion}
 use Rattle.tree_model.specs.declared.call.Call.{Call}
 use Rattle.tree_model.specs.declared.call.Reply.{Reply}

@@ -4,7 +4,7 @@ use Rattle.blk_base.specs.Members.{In}
 use Rattle.order_model.specs.declared.completion.Completion.{Completion}
 use Rattle.order_model.specs.declared.completion.Completion.TheVariants as completions
 use Rattle.order_model.specs.declared.note.Note.TheVariants as notes
-use Rattle.order_model.specs.Submission.{IsOrderClosed, KeepsFlushed}
+use Rattle.order_model.specs.OrderClosed.{IsOrderClosed, KeepsFlushed}
 use Rattle.tree_model.specs.declared.call.Call.{Call}
 use Rattle.tree_model.specs.declared.call.Reply.{Reply}
 use Rattle.tree_model.specs.declared.call.Reply.TheVariants as replies

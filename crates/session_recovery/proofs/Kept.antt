@@ -2,7 +2,7 @@
 use Rattle.std.specs.Prelude.{◌≡◌, ◌≢◌, ℕ, ◌-◌, ◌<◌, ◌≤◌, ◌==◌, Bool, true, false, List, length, slice_get, Option, Some, None, Result, Ok, Err, refl}
 use Rattle.std.proofs.Common.{sym, ap, ◌∙◌, subst, ⊎_elim, arith}
 use Rattle.std.proofs.lemmas.Bool.{cases_lt, eqb-true, true≢false}
-use Rattle.blk_base.specs.Members.{slice_get-in_range, slice_get-out}
+use Rattle.blk_base.specs.laws.Members.{slice_get-in_range, slice_get-out}
 use Rattle.log_model.specs.Marks.{Mark, Keep, Clear, Set, body_after}
 use Rattle.journal_blocks.specs.declared.super_block.JournalSuper.{JournalSuper}
 use Rattle.journal_blocks.specs.declared.fault.JournalFault.{JournalFault}

@@ -2,8 +2,9 @@
 use Rattle.std.specs.Prelude.{◌≡◌, ◌≢◌, ℕ, zero, suc, ◌+◌, ◌-◌, ◌≤◌, ◌==◌, if◌then◌else◌, Bool, true, false, List, [], ◌∷◌, map, length, refl}
 use Rattle.std.proofs.Common.{sym, ap, subst, ◌∙◌, inl, inr, ⊎_elim, arith, length-append}
 use Rattle.std.proofs.lemmas.Bool.{cases_lt, eqb-true, cond-true, cond-false, eq-eqb, ne_eqb}
-use Rattle.blk_base.specs.Members.{In, In-map}
-use Rattle.order_model.specs.Submission.{HasOrigin, IsOrderClosed}
+use Rattle.blk_base.specs.Members.{In}
+use Rattle.blk_base.specs.laws.Members.{In-map}
+use Rattle.order_model.specs.OrderClosed.{HasOrigin, IsOrderClosed}
 use Rattle.log_model.specs.Log.{Header, Plain, Describes, Revokes, Commits, Format, Tail, Reader, Reading, Stopped, done, take_header, take_block, take_blocks, from_sequence, log_of}
 use Rattle.log_model.specs.Marks.{Logged, Transaction, transactions_from}
 use Rattle.log_model.specs.Ring.{IsPlace, places_in, places_from}

@@ -4,11 +4,11 @@ use Rattle.std.specs.Option.{option_and_then}
 use Rattle.std.proofs.lemmas.Bool.{cases_lt}
 use Rattle.std.proofs.lemmas.Option.{none-some, same_Some}
 use Rattle.std.proofs.lemmas.List.{map-append, length-take, length-take-le}
-use Rattle.blk_base.specs.Members.{slice_get-length, slice_get-take, slice_get-take_out}
+use Rattle.blk_base.specs.laws.Members.{slice_get-length, slice_get-take, slice_get-take_out}
 use Rattle.order_model.specs.declared.request.Kind.{Kind}
 use Rattle.order_model.specs.declared.request.Kind.TheVariants.{Put, Flush}
 use Rattle.order_model.specs.declared.request.Request.{Request}
-use Rattle.order_model.specs.Submission.{kind_block, IsPutOf}
+use Rattle.order_model.specs.OrderClosed.{kind_block, IsPutOf}
 use Rattle.order_model.specs.Device.{Seen, IsReceivable}
 use Rattle.order_model.specs.Single.{command_for}
 use Rattle.order_model.specs.Carrying.{Carries, AreAtIds, FlushesAreBarriers, sent_alone}

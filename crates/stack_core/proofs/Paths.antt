@@ -7,7 +7,7 @@ use Rattle.order_model.specs.declared.command.Command.{Command}
 use Rattle.order_model.specs.declared.request.Request.{Request}
 use Rattle.order_model.specs.Device.{Seen, completed, origin_ids, IsReceivable}
 use Rattle.order_model.specs.declared.completion.Completion.{Completion}
-use Rattle.order_model.specs.Submission.{IsOrderClosed, KeepsFlushed}
+use Rattle.order_model.specs.OrderClosed.{IsOrderClosed, KeepsFlushed}
 use Rattle.order_model.specs.Single.{command_for}
 use Rattle.order_model.specs.Machine.{Machine}
 use Rattle.order_model.specs.Steps.{Receives}

@@ -2,7 +2,7 @@
 use Rattle.std.specs.Prelude.{ℕ, List, Option}
 use Rattle.order_model.specs.declared.request.Request.{Request}
 use Rattle.order_model.specs.declared.completion.Completion.{Completion}
-use Rattle.order_model.specs.Submission.{IsOrderClosed, KeepsFlushed}
+use Rattle.order_model.specs.OrderClosed.{IsOrderClosed, KeepsFlushed}
 
 -- The first sentence of the headline: what the power cut left is order-closed for what the host asked for,
 -- and where a flush completed, whether that was handed out or not, all before it was kept.

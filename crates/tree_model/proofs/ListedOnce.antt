@@ -7,7 +7,8 @@ use Rattle.std.specs.Map.{keys_of}
 use Rattle.std.proofs.lemmas.Bool.{true≢false}
 use Rattle.std.proofs.lemmas.List.{append_assoc}
 use Rattle.std.proofs.lemmas.Map.Keys.{IsDistinct-head, IsDistinct-tail, IsDistinct-from_sorted}
-use Rattle.blk_base.specs.Members.{In, In-append_left, In-append_right, In-append_cases, In-push, In-push_left, In-map, map-In}
+use Rattle.blk_base.specs.Members.{In}
+use Rattle.blk_base.specs.laws.Members.{In-append_left, In-append_right, In-append_cases, In-push, In-push_left, In-map, map-In}
 use Rattle.tree_model.specs.declared.node.Node.{Node}
 use Rattle.tree_model.specs.declared.node.Node.TheVariants as nodes
 use Rattle.tree_model.specs.declared.node.Directory.{Directory}

@@ -11,7 +11,8 @@ use Rattle.std.proofs.lemmas.Cmp.{eq_by_cmp_equiv, nat_cmp_total, nat_list_cmp_t
 use Rattle.std.proofs.lemmas.Map.{lookup-remove_entry}
 use Rattle.std.proofs.lemmas.Map.Keys.{IsDistinct-from_sorted}
 use Rattle.std.proofs.lemmas.Map.Entries.{lookup_from_place}
-use Rattle.blk_base.specs.Members.{In, In-slice_get}
+use Rattle.blk_base.specs.Members.{In}
+use Rattle.blk_base.specs.laws.Members.{In-slice_get}
 use Rattle.tree_model.specs.Maps.{at_number, at_name, without_number, name_cmp}
 use Rattle.tree_model.specs.laws.MapsLaws.{number_here, number_same}
 

@@ -8,7 +8,8 @@ use Rattle.std.proofs.lemmas.Bool.{true≢false, le-ltb}
 use Rattle.std.proofs.lemmas.Option.{none-some, same_Some}
 use Rattle.std.proofs.lemmas.List.{append_assoc, append-nil, append_cancel_left}
 use Rattle.std.proofs.lemmas.Map.Keys.{IsDistinct-head, IsDistinct-tail}
-use Rattle.blk_base.specs.Members.{In, In-append_left, In-append_right, In-append_cases, In-map, map-In, slice_get-In}
+use Rattle.blk_base.specs.Members.{In}
+use Rattle.blk_base.specs.laws.Members.{In-append_left, In-append_right, In-append_cases, In-map, map-In, slice_get-In}
 use Rattle.tree_model.specs.declared.node.Node.{Node}
 use Rattle.tree_model.specs.declared.node.Node.TheVariants as nodes
 use Rattle.tree_model.specs.Maps.{at_number, at_name, name_cmp}

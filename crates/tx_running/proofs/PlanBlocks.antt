@@ -3,7 +3,7 @@ use Rattle.std.proofs.Common.{◌≡◌, ℕ, zero, suc, ◌+◌, ◌-◌, ◌<�
 use Rattle.std.specs.List.{slice_get}
 use Rattle.std.proofs.lemmas.List.{map-append, length-append}
 use Rattle.order_model.specs.declared.note.Note.TheVariants.{Super, Commit}
-use Rattle.blk_base.specs.Members.{slice_get-append_left, slice_get-append_right}
+use Rattle.blk_base.specs.laws.Members.{slice_get-append_left, slice_get-append_right}
 use Rattle.log_model.specs.Marks.{Logged}
 use Rattle.log_model.specs.Ring.{Ring, places_on, places_from}
 use Rattle.log_model.proofs.Ring.{places_from-add}

@@ -4,7 +4,8 @@ use Rattle.std.specs.List.{count_by, list_any, range_with_len}
 use Rattle.std.proofs.Common.{sym, ap, ◌∙◌, inl, inr, arith}
 use Rattle.std.proofs.lemmas.Bool.{cases_Bool, cases_eq, cases_lt, eqb-true, eqb-false, eq-eqb, ne_eqb, lt-ltb, le-ltb, ltb-true, le-leb, leb-true, and_from, and_parts, false_from_ne_true}
 use Rattle.std.proofs.lemmas.List.Sums.{sum_by-cons}
-use Rattle.blk_base.specs.Members.{In, list_any-In, list_any-none}
+use Rattle.blk_base.specs.Members.{In}
+use Rattle.blk_base.specs.laws.Members.{list_any-In, list_any-none}
 use Rattle.number_sets.specs.Sets.{IsRising, has, with, with_all}
 use Rattle.number_sets.specs.laws.Rising.{rising-with}
 use Rattle.tree_model.specs.Calls.{file_zones, is_double_indirect, is_in_group, is_indirect, mapped_groups, one_if, touched_blocks}

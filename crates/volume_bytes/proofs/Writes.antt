@@ -3,7 +3,8 @@ use Rattle.std.specs.Prelude.{◌≡◌, ◌≢◌, ℕ, ◌+◌, ◌-◌, ◌<�
 use Rattle.std.specs.List.{list_any}
 use Rattle.std.proofs.Common.{sym, ap, subst, ◌∙◌, inl, inr, ⊎_elim, arith}
 use Rattle.std.proofs.lemmas.Bool.{cases_Bool, eqb-true, eqb-false, eq-eqb, ne_eqb, le-ltb, or_left, or_right, or_cases}
-use Rattle.blk_base.specs.Members.{In, IsAscending, list_any-In}
+use Rattle.blk_base.specs.Members.{In, IsAscending}
+use Rattle.blk_base.specs.laws.Members.{list_any-In}
 use Rattle.byte_fields.specs.Fields.{zeros}
 use Rattle.byte_fields.specs.laws.ReadLaws.{length-zeros}
 use Rattle.number_sets.specs.Sets.{with, with_all}

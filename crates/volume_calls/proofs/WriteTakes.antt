@@ -1,6 +1,7 @@
 -- What the row of a write says where nothing refuses it, and which zones the write takes.
 use Rattle.std.proofs.Common.{◌≡◌, ◌<◌, ℕ, ◌+◌, ◌-◌, nat_lt, false, List, [], ◌∷◌, length, Option, Some, Ok, refl, sym, ap, subst, ◌∙◌}
-use Rattle.blk_base.specs.Members.{IsAscending, In-map}
+use Rattle.blk_base.specs.Members.{IsAscending}
+use Rattle.blk_base.specs.laws.Members.{In-map}
 use Rattle.tree_model.specs.declared.call.Call.TheVariants as calls
 use Rattle.tree_model.specs.declared.call.Reply.TheVariants as replies
 use Rattle.tree_model.specs.declared.node.Node.TheVariants as nodes

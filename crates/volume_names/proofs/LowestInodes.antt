@@ -6,7 +6,7 @@ use Rattle.std.proofs.lemmas.Option.{same_Some, none-some}
 use Rattle.std.specs.List.{list_any, find, range_with_len}
 use Rattle.std.specs.Map.{values_of}
 use Rattle.std.specs.Ordering.{nat_cmp}
-use Rattle.blk_base.specs.Members.{In-list_any, list_any-In}
+use Rattle.blk_base.specs.laws.Members.{In-list_any, list_any-In}
 use Rattle.minix_layout.specs.declared.division.Geometry.{Geometry}
 use Rattle.tree_model.specs.laws.MapsLaws.{found-In, number_here, number_same}
 use Rattle.tree_model.specs.laws.MapOrder.{InOrder}

@@ -7,7 +7,8 @@ use Rattle.std.specs.Cmp.{ranks}
 use Rattle.std.specs.Ordering.{nat_cmp, MatchOrdering}
 use Rattle.std.proofs.lemmas.List.Sums.{sum_by-cons}
 use Rattle.std.proofs.lemmas.Map.Keys.{sorted_head, sorted_tail}
-use Rattle.blk_base.specs.Members.{In, In-append_left, In-append_right, In-append_cases}
+use Rattle.blk_base.specs.Members.{In}
+use Rattle.blk_base.specs.laws.Members.{In-append_left, In-append_right, In-append_cases}
 use Rattle.tree_model.specs.Calls.{node_zones, used_zones}
 use Rattle.tree_model.specs.Maps.{at_number}
 use Rattle.tree_model.specs.laws.MapsLaws.{found-In, number_here, number_same}

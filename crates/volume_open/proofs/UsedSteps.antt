@@ -1,7 +1,8 @@
 -- The zones that are used, up to one more.
 use Rattle.std.proofs.Common.{ℕ, ◌<◌, ◌+◌, ◌↔◌, List, [], ◌∷◌, ◌++◌, sym, subst, arith, ⊎_elim}
 use Rattle.std.proofs.lemmas.Bool.{cases_eq}
-use Rattle.blk_base.specs.Members.{In, In-push, In-push_left, In-push_cases}
+use Rattle.blk_base.specs.Members.{In}
+use Rattle.blk_base.specs.laws.Members.{In-push, In-push_left, In-push_cases}
 
 -- those below `n` among the zones are the used ones
 abbrev pub AreUsedTo : (ℕ → Type 0) → List ℕ → ℕ → Type 0

@@ -36,7 +36,7 @@ use Rattle.volume_ops.specs.laws.Rising.{RiseWithin, HasRising}
 use Rattle.volume_ops.proofs.RisingLaws.{walked_rises}
 use Rattle.volume_ops.proofs.TreeLaws.{was_found, tree_of-fields}
 use Rattle.volume_ops.proofs.RootedLaws.{tree_of-rooted}
-use Rattle.blk_base.specs.Members.{All-In}
+use Rattle.blk_base.specs.laws.Members.{All-In}
 use Rattle.volume_ops.specs.VolumeTrees.{IsVolumeTree}
 use Rattle.volume_ops.proofs.WalkTests.{walked_faultless, faultless_walked}
 

@@ -7,7 +7,8 @@ use Rattle.std.specs.Cmp.{ranks}
 use Rattle.std.proofs.lemmas.List.{get_or_past}
 use Rattle.std.proofs.lemmas.Map.Keys.{sorted_head, sorted_tail}
 use Rattle.blk_base.specs.Block.{filled}
-use Rattle.blk_base.specs.Members.{In, IsAscending, slice_get-In}
+use Rattle.blk_base.specs.Members.{In, IsAscending}
+use Rattle.blk_base.specs.laws.Members.{slice_get-In}
 use Rattle.number_sets.specs.laws.Keyed.{KeyStandsAt, KeyBelongsAt}
 use Rattle.tree_model.specs.Maps.{at_number}
 use Rattle.tree_model.specs.laws.MapOrder.{at_put_cases}

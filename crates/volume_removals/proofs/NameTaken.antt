@@ -6,7 +6,7 @@ use Rattle.std.specs.Ordering.{nat_cmp}
 use Rattle.std.proofs.Common.{sym, ap, subst, ◌∙◌, arith}
 use Rattle.std.proofs.lemmas.List.{length-set}
 use Rattle.std.proofs.lemmas.Option.{same_Some}
-use Rattle.blk_base.specs.Members.{slice_get-length}
+use Rattle.blk_base.specs.laws.Members.{slice_get-length}
 use Rattle.dir_ops.specs.Slots.{place_of}
 use Rattle.dir_ops.specs.laws.Found.{found, no_slot}
 use Rattle.minix_layout.specs.declared.inode.Inode.{Inode}

@@ -6,7 +6,8 @@ use Rattle.std.specs.Ordering.{nat_cmp}
 use Rattle.std.proofs.Common.{Less, sym, ap, subst, ◌∙◌, inl, inr, ⊎_elim, arith}
 use Rattle.std.proofs.lemmas.Bool.{cases_Bool, cases_eq, eqb-false, ltb-false, lt-ltb, leb-false, true≢false}
 use Rattle.std.proofs.lemmas.Option.{same_Some}
-use Rattle.blk_base.specs.Members.{In, In-map, In-filter, map-In, filter-In, filter_all, In-append_left, In-append_right, In-append_cases, none-list_any}
+use Rattle.blk_base.specs.Members.{In}
+use Rattle.blk_base.specs.laws.Members.{In-map, In-filter, map-In, filter-In, filter_all, In-append_left, In-append_right, In-append_cases, none-list_any}
 use Rattle.minix_layout.specs.declared.division.Geometry.{Geometry}
 use Rattle.tree_model.specs.declared.node.File.{File}
 use Rattle.tree_model.specs.declared.node.Node.TheVariants as nodes

@@ -5,7 +5,8 @@ use Rattle.std.specs.Int.{div_ceil}
 use Rattle.std.proofs.Common.{sym, ap, subst, ◌∙◌, inl, inr, ⊎_elim, arith}
 use Rattle.std.proofs.lemmas.Bool.{cases_Bool, true≢false, ltb-true, ltb-false}
 use Rattle.std.proofs.lemmas.Grind.{div_ceil_times}
-use Rattle.blk_base.specs.Members.{In, In-map, map-In, In-append_left, In-append_right, In-append_cases}
+use Rattle.blk_base.specs.Members.{In}
+use Rattle.blk_base.specs.laws.Members.{In-map, map-In, In-append_left, In-append_right, In-append_cases}
 use Rattle.tree_model.specs.Maps.{at_number}
 use Rattle.tree_model.specs.Calls.{directory_zones, node_zones}
 use Rattle.volume_model.specs.declared.placed.Placed.{Placed}

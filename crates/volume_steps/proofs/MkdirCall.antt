@@ -16,7 +16,8 @@ use Rattle.tree_model.specs.Trees.{directory_links}
 use Rattle.tree_model.specs.Calls.{Tree, Done, Place, row, outcome, names_in, parent_of, and_then, refuse_if, is_named, is_full, makes, give_name, new_directory, directory_zones, used_zones, slots_with, with_name, most_links, needs_slot}
 use Rattle.tree_model.proofs.Rows.{ok_ok, then_ok, refuse_ok}
 use Rattle.volume_model.specs.declared.placed.Placed.{Placed}
-use Rattle.blk_base.specs.Members.{In, In-append_cases}
+use Rattle.blk_base.specs.Members.{In}
+use Rattle.blk_base.specs.laws.Members.{In-append_cases}
 use Rattle.volume_model.specs.Touched.{Page}
 use Rattle.volume_model.specs.Trees.{directory_from, node_from}
 use Rattle.volume_steps.specs.Now.{VolumeNow, Change, tree_of_now, room_of, followed_by}

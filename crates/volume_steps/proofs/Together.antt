@@ -1,7 +1,8 @@
 -- Two steps of a call, one after the other, as one step.
 use Rattle.std.specs.Prelude.{◌≡◌, ◌≢◌, ◌≤◌, ◌<◌, ◌-◌, ◌↔◌, ℕ, zero, suc, ◌⊎◌, List, [], ◌∷◌, length, Option, Some, None, refl}
 use Rattle.std.proofs.Common.{sym, subst, inl, inr, ⊎_elim, ◌∙◌, arith}
-use Rattle.blk_base.specs.Members.{In, In-append_left, In-append_right, In-append_cases}
+use Rattle.blk_base.specs.Members.{In}
+use Rattle.blk_base.specs.laws.Members.{In-append_left, In-append_right, In-append_cases}
 use Rattle.minix_layout.specs.declared.division.Geometry.{Geometry}
 use Rattle.zone_maps.specs.declared.zone_state.ZoneState.{ZoneState}
 use Rattle.zone_maps.specs.declared.zone_state.ZoneState.TheVariants as states

@@ -6,7 +6,8 @@ use Rattle.std.specs.Ordering.{nat_cmp, is_eq, match_ordering}
 use Rattle.std.specs.declared.cmp.Ordering.{Ordering}
 use Rattle.std.proofs.Common.{Less, Equal, Greater, sym, ap, subst, ◌∙◌, inl, inr, ⊎_elim, arith}
 use Rattle.std.proofs.lemmas.Bool.{cases_Bool, cases_eq, eqb-true, eqb-false, ne_eqb, false_from_ne_true, or_left, or_right, or_cases}
-use Rattle.blk_base.specs.Members.{In, map-In}
+use Rattle.blk_base.specs.Members.{In}
+use Rattle.blk_base.specs.laws.Members.{map-In}
 use Rattle.byte_fields.specs.Fields.{zeros}
 use Rattle.byte_fields.specs.laws.ReadLaws.{length-zeros}
 use Rattle.minix_layout.specs.declared.division.Geometry.{Geometry}

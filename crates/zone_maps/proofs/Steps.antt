@@ -9,7 +9,7 @@ use Rattle.std.proofs.lemmas.List.{take-append-le, take_all, length-set, length-
 use Rattle.std.proofs.lemmas.List.Sums.{sum_by-le-sum_by, sum_by-cons, fails_before_first, count_by_more_yes, count_by_more_no}
 use Rattle.std.proofs.lemmas.List.Folds.{list_any_more}
 use Rattle.std.proofs.lemmas.List.FromFn.{get_or-map-range_with_len, length-map-range_with_len}
-use Rattle.blk_base.specs.Members.{slice_get-set_same, slice_get-set_other}
+use Rattle.blk_base.specs.laws.Members.{slice_get-set_same, slice_get-set_other}
 use Rattle.zone_maps.specs.declared.zone_state.ZoneState.{ZoneState}
 use Rattle.zone_maps.specs.declared.zone_state.ZoneState.TheVariants as states
 use Rattle.zone_maps.specs.Zones.{NoneFreeBelow, is_free, is_quarantined, is_quarantined_for, is_quarantined_to, let_go, mark}

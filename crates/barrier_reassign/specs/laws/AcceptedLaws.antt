@@ -5,11 +5,12 @@ use Rattle.std.proofs.lemmas.Bool.{cases_Bool, false≢true, both_ways, and_part
 use Rattle.std.proofs.lemmas.Option.{same_Some}
 use Rattle.std.proofs.lemmas.List.{length_push}
 use Rattle.std.proofs.lemmas.List.Sums.{sum_by_push}
-use Rattle.blk_base.specs.Members.{In, IsAscending-push, In-push, In-push_left, In-push_cases, slice_get-push, slice_get-push_left, slice_get-push_cases, slice_get-length, slice_get-In}
+use Rattle.blk_base.specs.Members.{In}
+use Rattle.blk_base.specs.laws.Members.{IsAscending-push, In-push, In-push_left, In-push_cases, slice_get-push, slice_get-push_left, slice_get-push_cases, slice_get-length, slice_get-In}
 use Rattle.order_model.specs.declared.command.Command.{Command}
 use Rattle.order_model.specs.declared.request.Kind.TheVariants.{Flush}
 use Rattle.order_model.specs.declared.request.Request.{Request}
-use Rattle.order_model.specs.Submission.{is_flush, IsPutOf, IsFence}
+use Rattle.order_model.specs.OrderClosed.{is_flush, IsPutOf, IsFence}
 use Rattle.barrier_reassign.specs.declared.closing.Closing.TheVariants as closings
 use Rattle.barrier_reassign.specs.Epoch.{Waiting, is_open, is_barrier_closing, is_full, can_accept, unflagged, closing_of}
 use Rattle.order_model.specs.Single.{command_of_request}

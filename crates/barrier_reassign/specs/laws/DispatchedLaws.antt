@@ -7,12 +7,13 @@ use Rattle.std.proofs.lemmas.Option.{none-some, same_Some}
 use Rattle.std.proofs.lemmas.List.{length_push}
 use Rattle.std.proofs.lemmas.List.Edits.{length-remove}
 use Rattle.std.proofs.lemmas.List.Sums.{sum_by_push}
-use Rattle.blk_base.specs.Members.{In, IsAscending, IsAscending-filter, remove-ascending, In-slice_get, In-filter, In-list_any, none-list_any, all-list_all, slice_get-push, slice_get-push_left, slice_get-push_cases, slice_get-In}
+use Rattle.blk_base.specs.Members.{In, IsAscending}
+use Rattle.blk_base.specs.laws.Members.{IsAscending-filter, remove-ascending, In-slice_get, In-filter, In-list_any, none-list_any, all-list_all, slice_get-push, slice_get-push_left, slice_get-push_cases, slice_get-In}
 use Rattle.order_model.specs.declared.command.Command.{Command}
 use Rattle.order_model.specs.declared.request.Kind.{Kind}
 use Rattle.order_model.specs.declared.request.Kind.TheVariants.{Put, Flush}
 use Rattle.order_model.specs.declared.request.Request.{Request}
-use Rattle.order_model.specs.Submission.{is_flush, kind_block, IsPutOf, IsFence}
+use Rattle.order_model.specs.OrderClosed.{is_flush, kind_block, IsPutOf, IsFence}
 use Rattle.order_model.specs.laws.ArrivalLaws.{In-without, without-In}
 use Rattle.barrier_reassign.specs.declared.closing.Closing.{Closing}
 use Rattle.barrier_reassign.specs.declared.closing.Closing.TheVariants as closings

@@ -1,7 +1,8 @@
 -- Requests whose ids are their places, as a host numbers them: the next one's id is new.
 use Rattle.std.specs.Prelude.{◌≡◌, ℕ, List, [], ◌∷◌, ◌++◌, length}
 use Rattle.std.proofs.Common.{ap, sym, ◌∙◌, ⊎_elim, arith}
-use Rattle.blk_base.specs.Members.{In, In-slice_get, slice_get-push_cases}
+use Rattle.blk_base.specs.Members.{In}
+use Rattle.blk_base.specs.laws.Members.{In-slice_get, slice_get-push_cases}
 use Rattle.order_model.specs.declared.request.Request.{Request}
 use Rattle.order_model.specs.Carrying.{AreAtIds}
 

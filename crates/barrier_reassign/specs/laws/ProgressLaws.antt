@@ -2,10 +2,11 @@
 use Rattle.std.specs.Prelude.{◌≡◌, ◌<◌, not, refl, true, false, List, [], ◌∷◌, length, nat_lt, slice_get}
 use Rattle.std.proofs.Common.{ap, sym, subst, ◌∙◌, inl, inr, ⊎_elim, arith}
 use Rattle.std.proofs.lemmas.Bool.{cases_Bool, false≢true, and_left, le-ltb, eq-eqb, not-true}
-use Rattle.blk_base.specs.Members.{In, IsAscending, In-slice_get, filter-In, list_all-In, slice_get-length}
+use Rattle.blk_base.specs.Members.{In, IsAscending}
+use Rattle.blk_base.specs.laws.Members.{In-slice_get, filter-In, list_all-In, slice_get-length}
 use Rattle.order_model.specs.declared.request.Kind.TheVariants.{Flush}
 use Rattle.order_model.specs.declared.request.Request.{Request}
-use Rattle.order_model.specs.Submission.{is_flush}
+use Rattle.order_model.specs.OrderClosed.{is_flush}
 use Rattle.barrier_reassign.specs.declared.closing.Closing.{Closing}
 use Rattle.barrier_reassign.specs.declared.closing.Closing.TheVariants as closings
 use Rattle.barrier_reassign.specs.Epoch.{Waiting, is_open, is_blocked, have_one_block, stands_before, may_leave, eligible}

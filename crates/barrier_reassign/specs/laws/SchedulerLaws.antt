@@ -5,7 +5,7 @@ use Rattle.std.proofs.Common.{ap, sym, ◌∙◌, ⊎_elim, arith}
 use Rattle.std.proofs.lemmas.Bool.{cases_lt, not-true}
 use Rattle.std.proofs.lemmas.List.{append-nil, map-append, length-map}
 use Rattle.std.proofs.lemmas.Option.{none-some}
-use Rattle.blk_base.specs.Members.{slice_get-in_range, slice_get-out}
+use Rattle.blk_base.specs.laws.Members.{slice_get-in_range, slice_get-out}
 use Rattle.order_model.specs.declared.request.Request.{Request}
 use Rattle.barrier_reassign.specs.Epoch.{Waiting, can_accept, is_open, is_blocked, eligible, picked, unflagged}
 use Rattle.barrier_reassign.specs.Sched.{SchedState, accepted, sent, command_of, seen_of, sched_steps}

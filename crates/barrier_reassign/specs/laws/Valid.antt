@@ -3,7 +3,7 @@ use Rattle.std.specs.Prelude.{◌≡◌, ℕ, ◌+◌, ◌<◌, ◌≤◌, ◌||
 use Rattle.blk_base.specs.Members.{In, IsAscending}
 use Rattle.order_model.specs.declared.command.Command.{Command}
 use Rattle.order_model.specs.declared.request.Request.{Request}
-use Rattle.order_model.specs.Submission.{is_flush, IsPutOf, IsOrdered, IsFence}
+use Rattle.order_model.specs.OrderClosed.{is_flush, IsPutOf, IsOrdered, IsFence}
 use Rattle.barrier_reassign.specs.declared.closing.Closing.TheVariants as closings
 use Rattle.barrier_reassign.specs.Epoch.{Waiting, is_open, is_blocked, unflagged}
 use Rattle.order_model.specs.Single.{command_of_request}

@@ -3,11 +3,12 @@ use Rattle.std.specs.Prelude.{◌≡◌, ℕ, ◌<◌, ◌||◌, ◌⊎◌, Bool
 use Rattle.std.proofs.Common.{ap, sym, subst, ◌∙◌, inl, inr, ⊎_elim, get_or, false}
 use Rattle.std.proofs.lemmas.Bool.{false≢true}
 use Rattle.std.proofs.lemmas.Option.{same_Some}
-use Rattle.blk_base.specs.Members.{In, In-map, map-In, slice_get-push_left, slice_get-push_cases, slice_get-length}
+use Rattle.blk_base.specs.Members.{In}
+use Rattle.blk_base.specs.laws.Members.{In-map, map-In, slice_get-push_left, slice_get-push_cases, slice_get-length}
 use Rattle.order_model.specs.declared.request.Kind.{Kind}
 use Rattle.order_model.specs.declared.request.Kind.TheVariants.{Put, Flush}
 use Rattle.order_model.specs.declared.request.Request.{Request}
-use Rattle.order_model.specs.Submission.{is_flush}
+use Rattle.order_model.specs.OrderClosed.{is_flush}
 use Rattle.order_model.specs.Received.{ids_of}
 use Rattle.barrier_reassign.specs.declared.closing.Closing.{Closing}
 use Rattle.barrier_reassign.specs.declared.closing.Closing.TheVariants as closings
@@ -15,7 +16,7 @@ use Rattle.barrier_reassign.specs.Epoch.{Waiting, unflagged}
 use Rattle.order_model.specs.Single.{command_of_request}
 use Rattle.order_model.specs.Carrying.{IsSentIn, IsWaitingAt}
 use Rattle.order_model.proofs.Direct.{ids_of-command, carried_alone}
-use Rattle.order_model.proofs.Medium.{carried-id}
+use Rattle.order_model.proofs.OrderToTheMedium.{carried-id}
 use Rattle.barrier_reassign.specs.Sched.{SchedState, seen_of}
 use Rattle.barrier_reassign.specs.laws.Valid.{Went, IsValid}
 

@@ -3,7 +3,8 @@ use Rattle.std.proofs.Common.{◌≡◌, ℕ, ◌+◌, ◌≤◌, ◌==◌, ◌&
 use Rattle.std.specs.Prelude.{◌≢◌}
 use Rattle.std.proofs.Math.Bool.{or-false}
 use Rattle.std.proofs.lemmas.Bool.{false≢true, ne_eqb, ltb-true, lt-ltb}
-use Rattle.blk_base.specs.Members.{In, In-list_any, list_any-In, none-list_any}
+use Rattle.blk_base.specs.Members.{In}
+use Rattle.blk_base.specs.laws.Members.{In-list_any, list_any-In, none-list_any}
 use Rattle.conflict_pages.specs.Commits.{has_commit, is_committed, with_commit}
 use Rattle.conflict_pages.specs.declared.commits.CommitBlock.{CommitBlock}
 use Rattle.number_sets.specs.Keyed.{put_by}

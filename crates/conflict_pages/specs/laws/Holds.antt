@@ -3,7 +3,8 @@ use Rattle.std.proofs.Common.{◌≡◌, ℕ, ◌==◌, ◌⊎◌, Bool, true, n
 use Rattle.std.specs.List.{list_any}
 use Rattle.std.specs.Prelude.{◌≢◌}
 use Rattle.std.proofs.lemmas.Bool.{cases_eq, false≢true, ne_eqb, not_from_true, not_from_false}
-use Rattle.blk_base.specs.Members.{In, IsAscending, IsAscending-same, In-filter, filter-In, In-list_any, list_any-In}
+use Rattle.blk_base.specs.Members.{In, IsAscending}
+use Rattle.blk_base.specs.laws.Members.{IsAscending-same, In-filter, filter-In, In-list_any, list_any-In}
 use Rattle.conflict_pages.specs.Conflicts.{Conflicts, holder, put_held, unhold}
 use Rattle.conflict_pages.specs.declared.held.Held.{Held}
 use Rattle.number_sets.specs.laws.Keyed.{In-put_by, put_by-self, put_by-In, ascending-put_by}

@@ -4,7 +4,8 @@ use Rattle.std.specs.List.{filter, list_any}
 use Rattle.std.specs.Prelude.{◌≢◌}
 use Rattle.std.proofs.lemmas.Bool.{cases_eq}
 use Rattle.std.proofs.lemmas.Option.{none-some, same_Some}
-use Rattle.blk_base.specs.Members.{In, IsAscending, IsAscending-filter, In-filter, filter-In}
+use Rattle.blk_base.specs.Members.{In, IsAscending}
+use Rattle.blk_base.specs.laws.Members.{IsAscending-filter, In-filter, filter-In}
 use Rattle.number_sets.specs.laws.Keyed.{ascending-put_by, put_by-self, put_by-In}
 use Rattle.number_sets.specs.laws.Members.{In-with_all, with_all-In}
 use Rattle.number_sets.specs.laws.Rising.{rising-with_all}

@@ -1,7 +1,7 @@
 //! Laws of commit blocks and of the log that recovery reads.
 ghost use Rattle.std.specs.Prelude.{◌≡◌, ◌≢◌, ℕ, ◌+◌, ◌<◌, ◌≤◌, List};
 ghost use Rattle.minix_layout.specs.declared.division.Geometry.{Geometry};
-ghost use Rattle.order_model.specs.Submission.{IsPutOf, IsOrderClosed, HasOrigin};
+ghost use Rattle.order_model.specs.OrderClosed.{IsPutOf, IsOrderClosed, HasOrigin};
 ghost use Rattle.volume_ops.specs.Volume.{disk_of};
 ghost use Rattle.log_model.specs.Log.{Commits};
 ghost use Rattle.log_model.specs.Ring.{IsPlace};

@@ -2,7 +2,7 @@
 ghost use Rattle.std.specs.Prelude.{◌≡◌, ℕ, ◌<◌, ◌⊎◌, List, Ok, true};
 ghost use Rattle.blk_base.specs.Members.{In};
 ghost use Rattle.order_model.specs.declared.completion.Completion.{Completion};
-ghost use Rattle.order_model.specs.Submission.{KeepsFlushed};
+ghost use Rattle.order_model.specs.OrderClosed.{KeepsFlushed};
 ghost use Rattle.minix_layout.specs.declared.division.Geometry.{Geometry};
 ghost use Rattle.tree_model.specs.declared.node.Node.{Node};
 ghost use Rattle.tree_model.specs.Trees.{AreAlike};

@@ -3,7 +3,7 @@ ghost use Rattle.std.specs.Prelude.{◌≡◌, ◌≢◌, ℕ, ◌+◌, ◌-◌,
 ghost use Rattle.blk_base.specs.Members.{In};
 ghost use Rattle.order_model.specs.declared.request.Request.{Request};
 ghost use Rattle.order_model.specs.declared.note.Note.TheVariants.{Page, Commit};
-ghost use Rattle.order_model.specs.Submission.{IsOrdered, kind_block, kind_body};
+ghost use Rattle.order_model.specs.OrderClosed.{IsOrdered, kind_block, kind_body};
 ghost use Rattle.minix_layout.specs.declared.division.Geometry.{Geometry};
 ghost use Rattle.volume_ops.specs.Reads.{blocks_read};
 ghost use Rattle.volume_ops.specs.Walk.{walk_volume};

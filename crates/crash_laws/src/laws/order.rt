@@ -2,7 +2,7 @@
 ghost use Rattle.std.specs.Prelude.{◌≡◌, ℕ, ◌<◌, ◌≤◌, ◌⊎◌, List, Option};
 ghost use Rattle.order_model.specs.declared.note.Note.TheVariants.{Page};
 ghost use Rattle.order_model.specs.declared.request.Request.{Request};
-ghost use Rattle.order_model.specs.Submission.{IsPutOf, IsPutWith, IsOrdered, IsFence, HasOrigin, IsKept, IsOrderClosed};
+ghost use Rattle.order_model.specs.OrderClosed.{IsPutOf, IsPutWith, IsOrdered, IsFence, HasOrigin, IsKept, IsOrderClosed};
 ghost use Rattle.volume_ops.specs.Volume.{disk_of};
 ghost use Rattle.crash_laws.specs.Ordering.{Fenced, IsOrderedPut};
 ghost use Rattle.crash_laws.specs.Epochs.{epoch};

@@ -3,7 +3,7 @@ ghost use Rattle.std.specs.Prelude.{◌≡◌, ◌≢◌, ℕ, ◌+◌, ◌<◌,
 ghost use Rattle.std.specs.Option.{unwrap_or};
 ghost use Rattle.order_model.specs.declared.request.Request.{Request};
 ghost use Rattle.order_model.specs.declared.note.Note.TheVariants.{Super, Commit, Home};
-ghost use Rattle.order_model.specs.Submission.{IsPutOf, is_flush, kind_body};
+ghost use Rattle.order_model.specs.OrderClosed.{IsPutOf, is_flush, kind_body};
 ghost use Rattle.log_model.specs.Marks.{Keep, Clear, Set, mark_in, transaction_mark, transactions_from};
 ghost use Rattle.log_model.specs.Ring.{place_after, places_in};
 ghost use Rattle.crash_laws.specs.Clauses.{SuperClause};

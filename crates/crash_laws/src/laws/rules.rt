@@ -3,7 +3,7 @@ ghost use Rattle.std.specs.Prelude.{◌≡◌, ◌≢◌, ℕ, ◌≤◌, [], Li
 ghost use Rattle.blk_base.specs.Members.{In};
 ghost use Rattle.order_model.specs.declared.completion.Completion.{Completion};
 ghost use Rattle.order_model.specs.declared.note.Note.TheVariants.{Page, Commit};
-ghost use Rattle.order_model.specs.Submission.{IsFence, IsOrderClosed};
+ghost use Rattle.order_model.specs.OrderClosed.{IsFence, IsOrderClosed};
 ghost use Rattle.minix_layout.specs.declared.division.Geometry.{Geometry};
 ghost use Rattle.tree_model.specs.declared.node.Node.{Node};
 ghost use Rattle.volume_ops.specs.Reads.{blocks_read};

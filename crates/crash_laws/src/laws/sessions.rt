@@ -3,7 +3,7 @@ ghost use Rattle.std.specs.Prelude.{◌≡◌, ℕ, ◌+◌, ◌≤◌, List, []
 ghost use Rattle.std.specs.List.{slice_get};
 ghost use Rattle.blk_base.specs.Members.{In};
 ghost use Rattle.order_model.specs.declared.completion.Completion.{Completion};
-ghost use Rattle.order_model.specs.Submission.{IsOrderClosed, KeepsFlushed};
+ghost use Rattle.order_model.specs.OrderClosed.{IsOrderClosed, KeepsFlushed};
 ghost use Rattle.minix_layout.specs.declared.division.Geometry.{Geometry};
 ghost use Rattle.order_model.specs.declared.note.Note.TheVariants.{Page};
 ghost use Rattle.tree_model.specs.declared.call.Call.{Call};

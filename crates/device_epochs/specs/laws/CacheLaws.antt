@@ -4,7 +4,8 @@ use Rattle.std.specs.List.{list_any, remove}
 use Rattle.std.proofs.Common.{sym, ap, subst, ◌∙◌, inl, inr, arith}
 use Rattle.std.proofs.lemmas.Bool.{cases_Bool, and_parts, and_from, eqb-true, eq-eqb, not-true, both_ways}
 use Rattle.std.proofs.lemmas.List.{length_push, length-map}
-use Rattle.blk_base.specs.Members.{In, In-push, In-push_left, In-push_cases, In-filter, filter-In, filter_all, In-map, map-In, In-list_any, none-list_any, slice_get-In, IsAscending}
+use Rattle.blk_base.specs.Members.{In, IsAscending}
+use Rattle.blk_base.specs.laws.Members.{In-push, In-push_left, In-push_cases, In-filter, filter-In, filter_all, In-map, map-In, In-list_any, none-list_any, slice_get-In}
 use Rattle.std.proofs.lemmas.Option.{none-some, same_Some}
 use Rattle.order_model.specs.declared.part.Part.{Part}
 use Rattle.device_epochs.specs.declared.cache.Entry.{Entry}

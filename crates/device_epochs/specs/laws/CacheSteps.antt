@@ -4,7 +4,8 @@ use Rattle.std.proofs.Common.{sym, ap, subst, ◌∙◌, inl, inr, arith, length
 use Rattle.std.proofs.lemmas.Bool.{cases_Bool, cases_eq, cases_lt, eqb-true, both_ways}
 use Rattle.std.proofs.lemmas.List.{nil_from_length}
 use Rattle.std.proofs.lemmas.Option.{none-some, same_Some}
-use Rattle.blk_base.specs.Members.{In, slice_get-In, slice_get-length, slice_get-push_left, slice_get-set_same, slice_get-set_other}
+use Rattle.blk_base.specs.Members.{In}
+use Rattle.blk_base.specs.laws.Members.{slice_get-In, slice_get-length, slice_get-push_left, slice_get-set_same, slice_get-set_other}
 use Rattle.order_model.specs.declared.part.Part.{Part}
 use Rattle.order_model.specs.declared.command.Command.{Command}
 use Rattle.order_model.specs.Received.{all_parts, part_at, command_of_part, first_part, epoch_of}

@@ -5,7 +5,8 @@ use Rattle.std.proofs.Common.{sym, ap, subst, ◌∙◌, inl, inr, ⊎_elim, ari
 use Rattle.std.proofs.lemmas.Bool.{cases_Bool, cases_lt, and_parts, not-true, both_ways, false≢true}
 use Rattle.std.proofs.lemmas.List.{append-nil, length-map}
 use Rattle.std.proofs.lemmas.Option.{none-some, same_Some}
-use Rattle.blk_base.specs.Members.{In, In-push_left, In-push_cases, In-append_left, In-append_right, In-append_cases, In-map, In-slice_get, slice_get-In, slice_get-length, slice_get-in_range, slice_get-append_left, slice_get-append_right, slice_get-push_left, slice_get-push_cases}
+use Rattle.blk_base.specs.Members.{In}
+use Rattle.blk_base.specs.laws.Members.{In-push_left, In-push_cases, In-append_left, In-append_right, In-append_cases, In-map, In-slice_get, slice_get-In, slice_get-length, slice_get-in_range, slice_get-append_left, slice_get-append_right, slice_get-push_left, slice_get-push_cases}
 use Rattle.order_model.specs.declared.part.Part.{Part}
 use Rattle.order_model.specs.declared.command.Command.{Command}
 use Rattle.order_model.specs.declared.completion.Completion.{Completion}

@@ -4,7 +4,8 @@ use Rattle.std.proofs.Common.{sym, ap, subst, ◌∙◌, inl, inr, ⊎_elim, ari
 use Rattle.std.proofs.lemmas.Bool.{cases_Bool, cases_lt, cases_eq, or_left, or_right, both_ways, false_from_ne_true}
 use Rattle.std.proofs.lemmas.List.{length_push}
 use Rattle.std.proofs.lemmas.Option.{same_Some}
-use Rattle.blk_base.specs.Members.{In, In-push, In-push_left, In-push_cases, In-append_left, In-append_right, In-append_cases, slice_get-In, slice_get-length, slice_get-in_range, slice_get-push}
+use Rattle.blk_base.specs.Members.{In}
+use Rattle.blk_base.specs.laws.Members.{In-push, In-push_left, In-push_cases, In-append_left, In-append_right, In-append_cases, slice_get-In, slice_get-length, slice_get-in_range, slice_get-push}
 use Rattle.order_model.specs.declared.part.Part.{Part}
 use Rattle.order_model.specs.declared.command.Command.{Command}
 use Rattle.order_model.specs.declared.history.Transfer.{Transfer}

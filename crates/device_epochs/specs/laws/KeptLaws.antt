@@ -3,7 +3,8 @@ use Rattle.std.specs.Prelude.{◌≡◌, ℕ, ◌+◌, ◌-◌, ◌<◌, ◌≤�
 use Rattle.std.proofs.Common.{sym, ap, subst, ◌∙◌, inl, inr, arith}
 use Rattle.std.proofs.lemmas.Bool.{eqb-false}
 use Rattle.std.proofs.lemmas.Option.{same_Some}
-use Rattle.blk_base.specs.Members.{In, In-append_left, In-append_right, In-append_cases, In-slice_get, slice_get-In, slice_get-length, slice_get-in_range, slice_get-append_left, slice_get-append_right}
+use Rattle.blk_base.specs.Members.{In}
+use Rattle.blk_base.specs.laws.Members.{In-append_left, In-append_right, In-append_cases, In-slice_get, slice_get-In, slice_get-length, slice_get-in_range, slice_get-append_left, slice_get-append_right}
 use Rattle.order_model.specs.declared.part.Part.{Part}
 use Rattle.order_model.specs.declared.command.Command.{Command}
 use Rattle.order_model.specs.declared.completion.Completion.TheVariants.{Flushed}

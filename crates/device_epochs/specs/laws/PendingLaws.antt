@@ -3,7 +3,8 @@ use Rattle.std.specs.Prelude.{◌≡◌, ℕ, ◌+◌, ◌-◌, ◌<◌, ◌≤�
 use Rattle.std.proofs.Common.{sym, ap, subst, ◌∙◌, inl, inr, arith}
 use Rattle.std.proofs.lemmas.Bool.{cases_Bool, both_ways, ne_eqb, false≢true}
 use Rattle.std.proofs.lemmas.Option.{none-some, same_Some}
-use Rattle.blk_base.specs.Members.{In, In-push_left}
+use Rattle.blk_base.specs.Members.{In}
+use Rattle.blk_base.specs.laws.Members.{In-push_left}
 use Rattle.command_queue.specs.Queue.{Waiting, AreNumbered, without}
 use Rattle.device_epochs.specs.Device.{DeviceState, is_next, counted}
 use Rattle.device_epochs.specs.laws.QueueLaws.{AreNumbered-filter, number-lt, In-without}

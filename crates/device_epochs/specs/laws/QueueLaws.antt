@@ -5,7 +5,8 @@ use Rattle.std.proofs.Common.{sym, ap, subst, ◌∙◌, inl, inr, ⊎_elim, ari
 use Rattle.std.proofs.lemmas.Bool.{cases_Bool, cases_lt, cases_eq, lt-ltb, le-ltb, eq-eqb, and_left, or_parts, not-true, both_ways}
 use Rattle.std.proofs.lemmas.List.{length_push}
 use Rattle.std.proofs.lemmas.Option.{same_Some}
-use Rattle.blk_base.specs.Members.{In, In-push, In-push_left, In-push_cases, In-append_cases, In-filter, All-In, list_any-In, all-list_all, slice_get-In, slice_get-length, slice_get-push, slice_get-push_left}
+use Rattle.blk_base.specs.Members.{In}
+use Rattle.blk_base.specs.laws.Members.{In-push, In-push_left, In-push_cases, In-append_cases, In-filter, All-In, list_any-In, all-list_all, slice_get-In, slice_get-length, slice_get-push, slice_get-push_left}
 use Rattle.order_model.specs.declared.part.Part.{Part}
 use Rattle.order_model.specs.declared.command.Command.{Command}
 use Rattle.order_model.specs.declared.command.Priority.TheVariants.{Ordered}

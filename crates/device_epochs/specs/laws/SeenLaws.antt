@@ -4,7 +4,8 @@ use Rattle.std.proofs.Common.{sym, ap, subst, ◌∙◌, inl, inr, ⊎_elim, ari
 use Rattle.std.proofs.lemmas.Bool.{cases_Bool, cases_lt, and_from, and_left, lt-ltb, le-ltb, not_from_true, not_from_false, or_right}
 use Rattle.std.proofs.lemmas.List.{nil_from_length}
 use Rattle.std.proofs.lemmas.List.Sums.{sum_by-cons}
-use Rattle.blk_base.specs.Members.{In, map-In, filter-In, list_all-In, In-slice_get, slice_get-In, slice_get-in_range, slice_get-length}
+use Rattle.blk_base.specs.Members.{In}
+use Rattle.blk_base.specs.laws.Members.{map-In, filter-In, list_all-In, In-slice_get, slice_get-In, slice_get-in_range, slice_get-length}
 use Rattle.order_model.specs.declared.completion.Completion.{Completion}
 use Rattle.order_model.specs.declared.completion.Completion.TheVariants.{Failed}
 use Rattle.order_model.specs.Received.{ids_of, all_ids}

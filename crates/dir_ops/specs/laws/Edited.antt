@@ -6,7 +6,7 @@ use Rattle.std.proofs.lemmas.Bool.{cases_Bool, cases_eq, lt-ltb, ltb-true, ltb-f
 use Rattle.std.proofs.lemmas.Option.{none-some, same_Some, get_or_from_slice_get}
 use Rattle.std.proofs.lemmas.List.{get_or_past, get_or-set_other, get_or-set_same, length-set, length_push, take_all}
 use Rattle.std.proofs.lemmas.Grind.{common_steps}
-use Rattle.blk_base.specs.Members.{slice_get-set_same, slice_get-set_other, slice_get-length}
+use Rattle.blk_base.specs.laws.Members.{slice_get-set_same, slice_get-set_other, slice_get-length}
 use Rattle.minix_layout.specs.declared.slot.Slot.{Slot}
 use Rattle.dir_ops.specs.Slots.{room, with_slot, reserved, used_count, slot_at, has_name, place_of, freed, slots_without, NamesStandOnce}
 use Rattle.dir_ops.specs.laws.Slots.{room-within, with_slot-here, with_slot-other, free-count}

@@ -5,7 +5,7 @@ use Rattle.std.proofs.Common.{sym, ap, subst, ◌∙◌, inl, inr, ⊎_elim, ari
 use Rattle.std.proofs.lemmas.Bool.{cases_Bool, ltb-true, ltb-false}
 use Rattle.std.proofs.lemmas.List.{length-set, length_push}
 use Rattle.std.proofs.lemmas.Option.{none-some, same_Some}
-use Rattle.blk_base.specs.Members.{slice_get-set_same, slice_get-set_other, slice_get-push, slice_get-push_left, slice_get-push_cases, slice_get-length}
+use Rattle.blk_base.specs.laws.Members.{slice_get-set_same, slice_get-set_other, slice_get-push, slice_get-push_left, slice_get-push_cases, slice_get-length}
 use Rattle.minix_layout.specs.declared.slot.Slot.{Slot}
 use Rattle.dir_ops.specs.Slots.{room, with_slot, used_count}
 

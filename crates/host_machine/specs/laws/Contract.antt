@@ -1,7 +1,7 @@
 -- What the host is promised of trees and volumes, and what it keeps of images: over its own components.
 use Rattle.std.specs.Prelude.{◌≡◌, ℕ, ◌+◌, ◌-◌, ◌<◌, ◌≤◌, ◌⊎◌, true, false, List, length, Option, Some, None, nat_lt}
 use Rattle.blk_base.specs.Members.{In}
-use Rattle.order_model.specs.Submission.{IsFence}
+use Rattle.order_model.specs.OrderClosed.{IsFence}
 use Rattle.log_model.specs.Log.{Format}
 use Rattle.log_model.specs.Marks.{Transaction}
 use Rattle.volume_ops.specs.Reads.{Reads, answer, blocks_read}

@@ -2,7 +2,7 @@
 -- of. `now` is the number of the last entry, r the running transaction, and N transactions are submitted.
 use Rattle.std.specs.Prelude.{◌≡◌, ℕ, ◌+◌, ◌-◌, ◌<◌, ◌≤◌, ◌⊎◌, Bool, true, false, List, Option, Some, None}
 use Rattle.blk_base.specs.Members.{In}
-use Rattle.order_model.specs.Submission.{IsOrdered}
+use Rattle.order_model.specs.OrderClosed.{IsOrdered}
 use Rattle.order_model.specs.declared.note.Note.TheVariants.{Page}
 use Rattle.log_model.specs.Marks.{Set, mark_in, transactions_from}
 use Rattle.volume_ops.specs.Reads.{Reads, answer, blocks_read}

@@ -1,7 +1,7 @@
 -- Zones that are used again: a page goes to a freed zone only behind the commit block of the transaction that freed it,
 -- and orderless only behind that of the transaction that took the zone; and what the host keeps for it.
 use Rattle.std.specs.Prelude.{◌≡◌, ℕ, ◌-◌, ◌<◌, ◌≤◌, ◌⊎◌, Bool, true, false, List, Some, slice_index_or}
-use Rattle.order_model.specs.Submission.{IsOrdered}
+use Rattle.order_model.specs.OrderClosed.{IsOrdered}
 use Rattle.crash_laws.specs.History.{History, Calm, IsEntryOf}
 use Rattle.crash_laws.specs.PageRules.{IsPageTo}
 use Rattle.crash_laws.specs.Session.{Session, CommitBefore}

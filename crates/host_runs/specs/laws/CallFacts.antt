@@ -1,7 +1,7 @@
 -- What the host keeps of barrier and sync calls that have begun and not ended.
 use Rattle.std.specs.Prelude.{◌≡◌, ℕ, ◌<◌, ◌≤◌, ◌⊎◌, true, false, List, Some, None, length, slice_get, slice_index_or}
 use Rattle.blk_base.specs.Members.{In}
-use Rattle.order_model.specs.Submission.{IsOrdered, IsFence}
+use Rattle.order_model.specs.OrderClosed.{IsOrdered, IsFence}
 use Rattle.order_model.specs.declared.note.Note.TheVariants.{Page}
 use Rattle.page_cache.specs.Pages.{page_at, is_unsent}
 use Rattle.page_cache.specs.declared.cached_page.CachedPage.{CachedPage}

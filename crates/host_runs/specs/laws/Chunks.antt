@@ -1,7 +1,8 @@
 -- What is written in chunks: together they are the whole, and each has its size.
 use Rattle.std.specs.Prelude.{◌≡◌, ℕ, zero, suc, ◌+◌, ◌-◌, ◌≤◌, List, [], ◌∷◌, ◌++◌, length, refl}
 use Rattle.std.proofs.Common.{sym, ap, subst, ◌∙◌, inl, inr, arith, append_assoc, length-append}
-use Rattle.blk_base.specs.Members.{In, In-append_left, In-append_right}
+use Rattle.blk_base.specs.Members.{In}
+use Rattle.blk_base.specs.laws.Members.{In-append_left, In-append_right}
 use Rattle.tx_running.specs.Plan.{chunks_from, chunks}
 
 abbrev pub flat : {X : Type 0} → List (List X) → List X

@@ -1,7 +1,7 @@
 -- What the host keeps of its ring, of its checkpoint and of the plan on its way, over the submitted list.
 use Rattle.std.specs.Prelude.{◌≡◌, ℕ, ◌+◌, ◌-◌, ◌<◌, ◌≤◌, ◌⊎◌, ⊤, true, List, [], ◌∷◌, ◌++◌, length, Option, Some, None, slice_get, false}
 use Rattle.blk_base.specs.Members.{In}
-use Rattle.order_model.specs.Submission.{IsPutWith, IsFence}
+use Rattle.order_model.specs.OrderClosed.{IsPutWith, IsFence}
 use Rattle.order_model.specs.declared.note.Note.TheVariants.{Super, Commit, Home}
 use Rattle.order_model.specs.declared.note.Note.{Note}
 use Rattle.order_model.specs.declared.request.Kind.TheVariants.{Put}

@@ -5,7 +5,8 @@ use Rattle.std.proofs.Common.{sym, ap, ◌∙◌, subst, inl, inr, ⊎_elim, ari
 use Rattle.std.proofs.lemmas.Bool.{eq-eqb, or_parts, ltb-false, leb-false}
 use Rattle.std.proofs.lemmas.List.{length-map}
 use Rattle.std.proofs.lemmas.List.FromFn.{length-range_with_len}
-use Rattle.blk_base.specs.Members.{In, In-map, In-append_right, In-push_cases, none-list_any}
+use Rattle.blk_base.specs.Members.{In}
+use Rattle.blk_base.specs.laws.Members.{In-map, In-append_right, In-push_cases, none-list_any}
 use Rattle.log_model.specs.Marks.{Logged, Transaction, Set, mark_in}
 use Rattle.log_model.proofs.LastLogged.{mark-last_logged}
 use Rattle.journal_blocks.specs.declared.super_block.JournalSuper.{JournalSuper}

@@ -4,7 +4,8 @@ use Rattle.std.proofs.Common.{sym, ap, ◌∙◌, subst, inl, inr, ⊎_elim, ari
 use Rattle.std.proofs.lemmas.Bool.{cases_lt, cases_order}
 use Rattle.std.proofs.lemmas.Option.{none-some, same_Some}
 use Rattle.blk_base.specs.Block.{filled}
-use Rattle.blk_base.specs.Members.{In, In-append_left, In-append_right, In-append_cases, In-slice_get, slice_get-In, slice_get-in_range, slice_get-out, slice_get-length, same_by_slice_get, slice_get-set_same, slice_get-set_other}
+use Rattle.blk_base.specs.Members.{In}
+use Rattle.blk_base.specs.laws.Members.{In-append_left, In-append_right, In-append_cases, In-slice_get, slice_get-In, slice_get-in_range, slice_get-out, slice_get-length, same_by_slice_get, slice_get-set_same, slice_get-set_other}
 use Rattle.order_model.specs.declared.part.Part.{Part}
 use Rattle.order_model.specs.declared.command.Command.{Command}
 use Rattle.order_model.specs.Received.{part_at}

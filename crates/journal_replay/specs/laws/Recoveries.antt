@@ -7,7 +7,7 @@ use Rattle.journal_blocks.specs.declared.fault.JournalFault.{JournalFault}
 use Rattle.journal_blocks.specs.Super.{super_of, has_places}
 use Rattle.journal_blocks.specs.Log.{log_of, body_at}
 use Rattle.std.specs.Option.{option_map}
-use Rattle.blk_base.specs.Members.{slice_get-set_same}
+use Rattle.blk_base.specs.laws.Members.{slice_get-set_same}
 use Rattle.journal_blocks.specs.declared.fault.JournalFault.TheVariants.{BadCount}
 use Rattle.journal_blocks.specs.Super.{IsSound}
 use Rattle.journal_blocks.specs.laws.Supers.{tail_read}

@@ -4,7 +4,7 @@ use Rattle.std.proofs.Common.{sym, ap, ◌∙◌, subst, inl, inr, ⊎_elim, ari
 use Rattle.std.proofs.lemmas.Bool.{cases_lt, cond-false, le-ltb}
 use Rattle.std.proofs.lemmas.Option.{none-some, same_Some}
 use Rattle.std.proofs.lemmas.List.{take-append-drop}
-use Rattle.blk_base.specs.Members.{slice_get-append_left, slice_get-append_right, slice_get-length}
+use Rattle.blk_base.specs.laws.Members.{slice_get-append_left, slice_get-append_right, slice_get-length}
 use Rattle.order_model.specs.declared.part.Part.{Part}
 use Rattle.order_model.specs.declared.command.Command.{Command}
 use Rattle.order_model.specs.Received.{all_parts, part_at, command_of_part, IsBarrier}

@@ -2,7 +2,8 @@
 use Rattle.std.proofs.Common.{sym, ap, subst, ◌∙◌, inl, inr, ⊎_elim, arith, eq-eqb, eqb-true, ne_eqb, lt-ltb, le-ltb}
 use Rattle.std.proofs.lemmas.Bool.{cases_Bool, cases_lt, cond-true, cond-false}
 use Rattle.std.specs.Prelude.{◌≡◌, ◌≢◌, ℕ, ◌<◌, ◌==◌, ◌⊎◌, Bool, true, false, not, List, [], ◌∷◌, nat_lt, if◌then◌else◌, refl}
-use Rattle.blk_base.specs.Members.{In, In-filter, filter-In, In-list_any, IsAscending-filter}
+use Rattle.blk_base.specs.Members.{In}
+use Rattle.blk_base.specs.laws.Members.{In-filter, filter-In, In-list_any, IsAscending-filter}
 use Rattle.log_model.proofs.Marks.{same_Set, keep≢set, clear≢set}
 use Rattle.log_model.specs.Marks.{Mark, Keep, Clear, Set, followed, Logged, Transaction, bodies_mark, transaction_mark}
 use Rattle.number_sets.specs.Sets.{has}

@@ -30,7 +30,7 @@ use Rattle.volume_ops.proofs.SameWalks.{same_trees}
 use Rattle.mount_make.specs.declared.fault.ImageFault.{ImageFault}
 use Rattle.mount_make.specs.declared.fault.ImageFault.TheVariants as image
 use Rattle.std.specs.Option.{option_map}
-use Rattle.blk_base.specs.Members.{slice_get-in_range, slice_get-out}
+use Rattle.blk_base.specs.laws.Members.{slice_get-in_range, slice_get-out}
 use Rattle.log_model.specs.Marks.{mark_in, body_after}
 use Rattle.journal_blocks.specs.declared.super_block.JournalSuper.{JournalSuper}
 use Rattle.journal_blocks.specs.declared.fault.JournalFault.{JournalFault}

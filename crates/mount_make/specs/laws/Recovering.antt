@@ -3,7 +3,7 @@ use Rattle.std.specs.Prelude.{◌≡◌, ◌≢◌, ℕ, ◌+◌, ◌<◌, ◌==
 use Rattle.std.specs.Option.{option_map}
 use Rattle.std.proofs.Common.{sym, ap, ◌∙◌, subst, ⊎_elim, arith, length-set}
 use Rattle.std.proofs.lemmas.Bool.{lt-ltb, eqb-true, true≢false}
-use Rattle.blk_base.specs.Members.{slice_get-in_range, slice_get-set_same, slice_get-set_other}
+use Rattle.blk_base.specs.laws.Members.{slice_get-in_range, slice_get-set_same, slice_get-set_other}
 use Rattle.minix_layout.specs.declared.division.Geometry.{Geometry}
 use Rattle.minix_layout.specs.declared.fault.LayoutFault.{LayoutFault}
 use Rattle.minix_layout.specs.Super.{super_of as volume_super}

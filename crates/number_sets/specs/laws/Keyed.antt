@@ -7,7 +7,8 @@ use Rattle.std.specs.Prelude.{◌≢◌}
 use Rattle.std.proofs.lemmas.Bool.{cases_eq, false≢true, ne_eqb, ltb-true, ltb-false, lt-ltb, le-ltb}
 use Rattle.std.proofs.lemmas.Option.{slice_get-get_or, same_Some, none-some}
 use Rattle.std.specs.Cmp.{ranks}
-use Rattle.blk_base.specs.Members.{In, IsAscending, filter_all, remove-ascending, slice_get-In, slice_get-in_range, slice_get-length, IsAscending-places}
+use Rattle.blk_base.specs.Members.{In, IsAscending}
+use Rattle.blk_base.specs.laws.Members.{filter_all, remove-ascending, slice_get-In, slice_get-in_range, slice_get-length, IsAscending-places}
 use Rattle.number_sets.specs.Keyed.{put_by, drop_by}
 
 module _ {X : Type 0} (key : X → ℕ) where

@@ -2,7 +2,8 @@
 use Rattle.std.proofs.Common.{sym, subst, ◌∙◌, inl, inr, ⊎_elim, eqb-true, eq-eqb}
 use Rattle.std.proofs.lemmas.Bool.{cases_Bool, false≢true, not_from_true, not_from_false, false_from_ne_true}
 use Rattle.std.specs.Prelude.{◌≡◌, ℕ, ◌==◌, Bool, true, false, not, nat_lt, ◌⊎◌, List, [], ◌∷◌, refl, if◌then◌else◌}
-use Rattle.blk_base.specs.Members.{In, In-list_any, list_any-In, In-filter, filter-In}
+use Rattle.blk_base.specs.Members.{In}
+use Rattle.blk_base.specs.laws.Members.{In-list_any, list_any-In, In-filter, filter-In}
 use Rattle.number_sets.specs.Sets.{has, with, with_all, without_all}
 
 pub has-In : (xs : List ℕ) (x : ℕ) → has xs x ≡ true → In x xs

@@ -1,7 +1,8 @@
 -- The order of sets of numbers.
 use Rattle.std.proofs.Common.{◌≡◌, ℕ, ◌+◌, ◌<◌, ◌≤◌, ◌==◌, Bool, true, false, not, nat_lt, if◌then◌else◌, List, [], ◌∷◌, length, refl, sym, subst, ◌∙◌, ⊎_elim, arith, eq-eqb}
 use Rattle.std.proofs.lemmas.Bool.{false≢true, ltb-true, ltb-false}
-use Rattle.blk_base.specs.Members.{In, IsAscending-filter}
+use Rattle.blk_base.specs.Members.{In}
+use Rattle.blk_base.specs.laws.Members.{IsAscending-filter}
 use Rattle.number_sets.specs.Sets.{IsRising, has, with, with_all, without_all}
 use Rattle.number_sets.specs.laws.Keyed.{ascending-few}
 use Rattle.number_sets.specs.laws.Members.{In-with}

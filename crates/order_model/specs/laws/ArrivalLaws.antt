@@ -5,7 +5,8 @@ use Rattle.std.proofs.Common.{get_or, ap, sym, ◌∙◌, inl, inr, ⊎_elim, ar
 use Rattle.std.proofs.lemmas.Bool.{ne_eqb, eq-eqb, eqb-false, not-true, not_from_false}
 use Rattle.std.proofs.lemmas.List.Sums.{sum_by-cons}
 use Rattle.std.proofs.lemmas.Option.{get_or_from_slice_get}
-use Rattle.blk_base.specs.Members.{In, In-push_cases, In-filter, In-remove, filter-In, filter_all, IsAscending, IsAscending-push, IsAscending-filter, IsAscending-remove, remove-ascending, slice_get-in_range}
+use Rattle.blk_base.specs.Members.{In, IsAscending}
+use Rattle.blk_base.specs.laws.Members.{In-push_cases, In-filter, In-remove, filter-In, filter_all, IsAscending-push, IsAscending-filter, IsAscending-remove, remove-ascending, slice_get-in_range}
 use Rattle.order_model.specs.Arrivals.{AreNumbered, without}
 
 pub AreNumbered-push : {T : Type 0} (number : T → ℕ) (next : ℕ) (ws : List T) (w : T) → AreNumbered number next ws → number w ≡ next → AreNumbered number (next + 1) (ws ++ w ∷ [])

@@ -1,7 +1,7 @@
 -- What the searches over the requests that wait find.
 use Rattle.std.specs.Prelude.{◌≡◌, ℕ, ◌<◌, Bool, true, false, List, Option, Some, None, MatchOption, slice_get, if◌then◌else◌}
 use Rattle.std.specs.Option.{option_and_then, option_map_or}
-use Rattle.order_model.specs.Submission.{kind_block}
+use Rattle.order_model.specs.OrderClosed.{kind_block}
 use Rattle.barrier_reassign.specs.Epoch.{EpochState, Waiting}
 use Rattle.sched_elevator.specs.declared.searches.Found.{Found}
 use Rattle.sched_elevator.specs.Elevator.{meets_before, listed, next_part}

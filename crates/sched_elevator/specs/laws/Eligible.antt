@@ -3,10 +3,11 @@ use Rattle.std.specs.Prelude.{◌≡◌, ℕ, ◌<◌, ◌≤◌, ◌&&◌, not,
 use Rattle.std.proofs.Common.{ap, sym, subst, ◌∙◌, inl, inr, ⊎_elim, arith}
 use Rattle.std.proofs.lemmas.Bool.{cases_Bool, cases_lt, both_ways, false≢true, and_from, and_left, not-true, lt-ltb, le-ltb, eq-eqb, eqb-true}
 use Rattle.std.proofs.lemmas.Option.{none-some, same_Some}
-use Rattle.blk_base.specs.Members.{In, IsAscending, IsAscending-places, IsAscending-same, IsAscending-filter, In-filter, In-slice_get, list_all-In, all-list_all}
+use Rattle.blk_base.specs.Members.{In, IsAscending}
+use Rattle.blk_base.specs.laws.Members.{IsAscending-places, IsAscending-same, IsAscending-filter, In-filter, In-slice_get, list_all-In, all-list_all}
 use Rattle.order_model.specs.declared.request.Kind.{Kind}
 use Rattle.order_model.specs.declared.request.Kind.TheVariants.{Put, Flush}
-use Rattle.order_model.specs.Submission.{is_flush, kind_block}
+use Rattle.order_model.specs.OrderClosed.{is_flush, kind_block}
 use Rattle.barrier_reassign.specs.Epoch.{Waiting, have_one_block, stands_before, may_leave, eligible}
 use Rattle.sched_elevator.specs.Elevator.{block_of}
 use Rattle.sched_elevator.specs.laws.List.{block_at, AreApart}

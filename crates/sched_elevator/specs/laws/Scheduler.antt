@@ -3,7 +3,7 @@ use Rattle.std.specs.Prelude.{◌≡◌, ℕ, ◌<◌, true, [], ◌∷◌, leng
 use Rattle.std.specs.Option.{option_map, option_map_or}
 use Rattle.std.proofs.Common.{sym, arith}
 use Rattle.std.proofs.lemmas.List.{append-nil, map-append}
-use Rattle.blk_base.specs.Members.{In-filter, slice_get-In}
+use Rattle.blk_base.specs.laws.Members.{In-filter, slice_get-In}
 use Rattle.order_model.specs.declared.request.Request.{Request}
 use Rattle.barrier_reassign.specs.Epoch.{Waiting, can_accept, eligible, may_leave, unflagged}
 use Rattle.barrier_reassign.specs.Scheduler.{IsAcceptable, Accepts, Sends, IsScheduler}

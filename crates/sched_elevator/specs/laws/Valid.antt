@@ -6,14 +6,15 @@ use Rattle.std.proofs.Common.{ap, ap₂, sym, subst, ◌∙◌, inl, inr, ⊎_el
 use Rattle.std.proofs.lemmas.Bool.{cases_Bool, both_ways, false≢true, and_parts, not-true, or_cases, eqb-true}
 use Rattle.std.proofs.lemmas.List.{append-nil, map-append, length_push}
 use Rattle.std.proofs.lemmas.Option.{none-some, same_Some}
-use Rattle.blk_base.specs.Members.{In, In-filter, list_any-In, In-push_cases, slice_get-In, slice_get-length, slice_get-push_cases}
+use Rattle.blk_base.specs.Members.{In}
+use Rattle.blk_base.specs.laws.Members.{In-filter, list_any-In, In-push_cases, slice_get-In, slice_get-length, slice_get-push_cases}
 use Rattle.order_model.specs.declared.part.Part.{Part}
 use Rattle.order_model.specs.declared.command.Command.{Command}
 use Rattle.order_model.specs.declared.command.Priority.TheVariants.{Simple, Ordered}
 use Rattle.order_model.specs.declared.request.Kind.{Kind}
 use Rattle.order_model.specs.declared.request.Kind.TheVariants.{Put, Flush}
 use Rattle.order_model.specs.declared.request.Request.{Request}
-use Rattle.order_model.specs.Submission.{is_flush, kind_block}
+use Rattle.order_model.specs.OrderClosed.{is_flush, kind_block}
 use Rattle.order_model.specs.Received.{all_parts}
 use Rattle.order_model.specs.Single.{parts_for, flush_for, command_of_request}
 use Rattle.order_model.specs.Carrying.{Carries}

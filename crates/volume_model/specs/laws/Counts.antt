@@ -5,7 +5,8 @@ use Rattle.std.proofs.Common.{sym, ap, subst, ◌∙◌, inl, inr, arith}
 use Rattle.std.proofs.lemmas.Bool.{cases_Bool, cases_eq, eqb-true, eqb-false, eq-eqb, ne_eqb, lt-ltb, le-ltb, ltb-true, le-leb, lt-leb, leb-true, and_from, and_parts, true≢false}
 use Rattle.std.proofs.lemmas.List.Sums.{sum_by-cons}
 use Rattle.std.proofs.lemmas.List.Filters.{length-filter_both}
-use Rattle.blk_base.specs.Members.{In, In-filter, filter-In, In-list_any, list_any-In}
+use Rattle.blk_base.specs.Members.{In}
+use Rattle.blk_base.specs.laws.Members.{In-filter, filter-In, In-list_any, list_any-In}
 use Rattle.volume_model.specs.Volume.{Place, block, indirect, double, inner, IsOfNumbers, at_indirect, at_double, at_inner}
 use Rattle.volume_model.specs.laws.Ways.{direct, single, twice, past, range}
 use Rattle.volume_model.specs.Ways.{way, OnWay, IsJust}

@@ -6,7 +6,8 @@ use Rattle.std.specs.Ordering.{nat_cmp}
 use Rattle.std.proofs.Common.{Less, get_or, set, sym, ap, subst, ◌∙◌, inl, inr, ⊎_elim, arith}
 use Rattle.std.proofs.lemmas.Bool.{cases_Bool, cases_eq, eqb-true, eqb-false, eq-eqb, ne_eqb, lt-ltb, le-ltb, ltb-true, ltb-false, true≢false, false≢true}
 use Rattle.std.proofs.lemmas.Option.{same_Some, none-some, slice_get-get_or}
-use Rattle.blk_base.specs.Members.{In, IsAscending, IsAscending-places, slice_get-In, slice_get-length, list_any-In, list_any-none, In-list_any}
+use Rattle.blk_base.specs.Members.{In, IsAscending}
+use Rattle.blk_base.specs.laws.Members.{IsAscending-places, slice_get-In, slice_get-length, list_any-In, list_any-none, In-list_any}
 use Rattle.number_sets.specs.Keyed.{put_by}
 use Rattle.number_sets.specs.laws.Keyed.{IsKeyPlace, KeyStandsAt, KeyBelongsAt}
 use Rattle.volume_ops.specs.declared.found.Mapped.{Mapped}

@@ -1,7 +1,7 @@
 -- Two calls told as one.
 use Rattle.std.specs.Prelude.{ℕ, ◌⊎◌}
 use Rattle.std.proofs.Common.{inl, inr, ⊎_elim, ◌∙◌}
-use Rattle.blk_base.specs.Members.{In-append_left, In-append_right, In-append_cases}
+use Rattle.blk_base.specs.laws.Members.{In-append_left, In-append_right, In-append_cases}
 use Rattle.minix_layout.specs.declared.division.Geometry.{Geometry}
 use Rattle.volume_model.specs.Touched.{Contents, Follows, Tells, Touched, and_then}
 

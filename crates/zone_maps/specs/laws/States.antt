@@ -5,7 +5,7 @@ use Rattle.std.specs.Option.{option_map}
 use Rattle.std.proofs.Common.{sym, ap, ◌∙◌, inl, inr, arith}
 use Rattle.std.proofs.lemmas.Bool.{cases_lt, lt-ltb, le-ltb}
 use Rattle.std.proofs.lemmas.Option.{none-some, slice_get-map}
-use Rattle.blk_base.specs.Members.{slice_get-set_same, slice_get-set_other, slice_get-length}
+use Rattle.blk_base.specs.laws.Members.{slice_get-set_same, slice_get-set_other, slice_get-length}
 use Rattle.zone_maps.specs.declared.zone_state.ZoneState.{ZoneState}
 use Rattle.zone_maps.specs.Zones.{Zones, state_of, with_state, released, let_go}
 

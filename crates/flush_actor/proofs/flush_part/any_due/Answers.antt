@@ -1,6 +1,6 @@
 use Rattle.std.proofs.Common.{get_or, rules}
 use Rattle.std.proofs.lemmas.Option.{slice_get-get_or}
-use Rattle.blk_base.specs.Members.{slice_get-In}
+use Rattle.blk_base.specs.laws.Members.{slice_get-In}
 use Rattle.flush_actor.specs.Waits.{no_wait}
 use Rattle.flush_actor.proofs.flush_part.any_due.Goals as goal
 

@@ -1,5 +1,5 @@
 use Rattle.std.proofs.Common.{◌-◌, List, ◌∷◌, drop, None, Some, ℕ, Option, refl, sym, ap, ◌∙◌}
-use Rattle.blk_base.specs.Members.{set-slice_get}
+use Rattle.blk_base.specs.laws.Members.{set-slice_get}
 use Rattle.tree_model.specs.declared.call.Call.{Call}
 use Rattle.tree_model.specs.declared.call.Reply.{Reply}
 use Rattle.tree_model.specs.declared.call.Reply.TheVariants as replies

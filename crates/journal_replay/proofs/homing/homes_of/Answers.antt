@@ -1,7 +1,7 @@
 use Rattle.std.proofs.Common.{◌≡◌, ◌∙◌, ℕ, List, Option, None, Some, length, ap}
 use Rattle.std.specs.Prelude.{slice_get}
 use Rattle.std.proofs.lemmas.List.{length-replicate}
-use Rattle.blk_base.specs.Members.{slice_get-replicate}
+use Rattle.blk_base.specs.laws.Members.{slice_get-replicate}
 use Rattle.log_model.specs.Marks.{Transaction}
 use Rattle.journal_replay.specs.Revokes.{place_of, replayed_by}
 use Rattle.journal_replay.specs.laws.Homes.{told_homes}

@@ -1,5 +1,5 @@
 -- The law from the host's requests to the medium, by the laws of the device.
-use Rattle.order_model.proofs.Medium.{order_closed, keeps_flushed}
+use Rattle.order_model.proofs.OrderToTheMedium.{order_closed, keeps_flushed}
 use Rattle.order_model.proofs.order_law.keeps_order_to_the_medium.Goals as goal
 
 pub returns-clause-closed : goal.returns-clause-closed

@@ -1,7 +1,8 @@
 use Rattle.std.proofs.Common.{vec_capacity, ap, subst, sym, ◌∙◌, List}
 use Rattle.std.specs.List.{filter, list_any}
 use Rattle.std.specs.Prelude.{◌==◌, not}
-use Rattle.blk_base.specs.Members.{IsAscending, IsAscending-filter}
+use Rattle.blk_base.specs.Members.{IsAscending}
+use Rattle.blk_base.specs.laws.Members.{IsAscending-filter}
 use Rattle.conflict_pages.proofs.Steps.{released_table, table_filtered}
 use Rattle.conflict_pages.specs.Commits.{is_committed}
 use Rattle.conflict_pages.specs.laws.Holds.{block_of}

@@ -2,7 +2,7 @@ use Rattle.std.proofs.Common.{◌≡◌, ◌<◌, ◌≤◌, length, Some, refl,
 use Rattle.std.specs.Prelude.{nat_lt, slice_get}
 use Rattle.std.proofs.lemmas.Option.{slice_get_read}
 use Rattle.std.proofs.lemmas.List.Sorted.{IsPartitionPoint-from_clause}
-use Rattle.blk_base.specs.Members.{slice_get-length}
+use Rattle.blk_base.specs.laws.Members.{slice_get-length}
 use Rattle.device_epochs.specs.code.Newest.{CacheState}
 use Rattle.device_epochs.proofs.Newest.{keys_split, splits_at, found_newest, none_newest, other_block}
 use Rattle.device_epochs.proofs.cache.Cache.newest.Goals as goal

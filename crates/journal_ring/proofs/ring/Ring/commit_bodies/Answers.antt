@@ -1,7 +1,8 @@
 use Rattle.std.proofs.Common.{length, sym, ap, subst, arith}
 use Rattle.std.specs.Prelude.{not}
 use Rattle.std.specs.VecDeque.{deque_capacity}
-use Rattle.blk_base.specs.Members.{IsAscending, IsAscending-filter}
+use Rattle.blk_base.specs.Members.{IsAscending}
+use Rattle.blk_base.specs.laws.Members.{IsAscending-filter}
 use Rattle.number_sets.specs.Sets.{has}
 use Rattle.journal_ring.proofs.Places.{view_room, ring_commits}
 use Rattle.journal_ring.proofs.Waiting.{block_of, unrevoked-fewer}

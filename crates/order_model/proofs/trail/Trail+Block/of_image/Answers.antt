@@ -1,7 +1,7 @@
 use Rattle.std.proofs.Common.{◌++◌, ◌∷◌, [], take, sym, ap, ◌∙◌}
 use Rattle.std.proofs.lemmas.Option.{get_or_from_slice_get}
 use Rattle.std.proofs.lemmas.List.{take_more}
-use Rattle.blk_base.specs.Members.{slice_get-length}
+use Rattle.blk_base.specs.laws.Members.{slice_get-length}
 use Rattle.order_model.proofs.trail.Trail+Block.of_image.Goals as goal
 
 pub loop-b-preserved : goal.loop-b-preserved

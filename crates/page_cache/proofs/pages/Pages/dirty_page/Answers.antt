@@ -1,6 +1,6 @@
 use Rattle.std.proofs.Common.{ap, sym, ◌∙◌}
 use Rattle.std.specs.List.{filter}
-use Rattle.blk_base.specs.Members.{In-filter, slice_get-In}
+use Rattle.blk_base.specs.laws.Members.{In-filter, slice_get-In}
 use Rattle.page_cache.specs.Pages.{Cache, is_dirty, dirty_page, page_at}
 use Rattle.page_cache.specs.laws.Order.{keyed}
 use Rattle.page_cache.proofs.pages.Pages.dirty_page.Goals as goal

@@ -1,7 +1,8 @@
 use Rattle.std.specs.Map.{keys_of}
 use Rattle.std.specs.Ordering.{nat_cmp, is_lt}
 use Rattle.std.proofs.Common.{rules, ◌≡◌, ℕ, ◌+◌, ◌≤◌, false, sym, ap, ◌∙◌, arith}
-use Rattle.blk_base.specs.Members.{In, All-In, slice_get-In}
+use Rattle.blk_base.specs.Members.{In}
+use Rattle.blk_base.specs.laws.Members.{All-In, slice_get-In}
 use Rattle.volume_model.specs.Trees.{tree_now}
 use Rattle.volume_steps.specs.Now.{VolumeNow, tree_of_now}
 use Rattle.volume_steps.specs.Numbers.{next_birth, number_in}

@@ -4,14 +4,15 @@ use Rattle.std.specs.Option.{option_and_then}
 use Rattle.std.proofs.lemmas.Bool.{cases_lt}
 use Rattle.std.proofs.lemmas.List.{length-map}
 use Rattle.std.proofs.lemmas.Option.{none-some, same_Some}
-use Rattle.blk_base.specs.Members.{In, In-slice_get, slice_get-In, slice_get-in_range, slice_get-length, slice_get-take, slice_get-take_out}
+use Rattle.blk_base.specs.Members.{In}
+use Rattle.blk_base.specs.laws.Members.{In-slice_get, slice_get-In, slice_get-in_range, slice_get-length, slice_get-take, slice_get-take_out}
 use Rattle.order_model.specs.declared.part.Part.{Part}
 use Rattle.order_model.specs.declared.command.Command.{Command}
 use Rattle.order_model.specs.declared.request.Kind.{Kind}
 use Rattle.order_model.specs.declared.request.Kind.TheVariants.{Put, Flush}
 use Rattle.order_model.specs.declared.request.Request.{Request}
 use Rattle.order_model.specs.Received.{all_parts, part_at, first_part, command_of_part, ids_of, IsBarrier, IsFlush}
-use Rattle.order_model.specs.Submission.{is_flush, kind_block, kind_body, IsPutOf, IsPutWith, IsOrderedBefore, HasOrigin, IsKept, IsOrderClosed, KeepsFlushed}
+use Rattle.order_model.specs.OrderClosed.{is_flush, kind_block, kind_body, IsPutOf, IsPutWith, IsOrderedBefore, HasOrigin, IsKept, IsOrderClosed, KeepsFlushed}
 use Rattle.order_model.specs.Device.{Seen, completed, origin_ids, IsPartKept, IsSurface, KeepsEpochOrder, KeepsFlush, Completes}
 use Rattle.order_model.specs.Carrying.{SchedSeen, IsCarriedBy, IsSentIn, IsFlushAt, Carries, AreAtIds, IsPrefixOf, Fits}
 use Rattle.order_model.proofs.Received.{place_of, part_at-place, command_of_part-first, command_of_part-lt, part_at-first, part-lt, command_of_part-mono, flush-is, id_once, In-part-id, In-flush-id}

@@ -1,0 +1,2 @@
+-- Laws, their lemmas and the words of lemmas.
+pub mod Members
