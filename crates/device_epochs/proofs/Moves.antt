@@ -14,7 +14,7 @@ use Rattle.order_model.specs.declared.history.Transfer.{Transfer}
 use Rattle.order_model.specs.declared.history.DeviceRecord.{DeviceRecord}
 use Rattle.order_model.specs.declared.completion.Completion.TheVariants.{Moved, Flushed, Failed, Cut}
 use Rattle.order_model.specs.Device.{is_ordered, IsQuiet}
-use Rattle.device_epochs.specs.laws.KeptLaws.{quiet_is_empty, empty_is_quiet}
+use Rattle.device_epochs.specs.laws.FlushLaws.{quiet_is_empty, empty_is_quiet}
 use Rattle.order_model.specs.Received.{all_parts, part_at, first_part, completions_of, failures_of, transfers}
 use Rattle.order_model.proofs.Received.{first_part-next, first_part-le}
 use Rattle.command_queue.specs.Queue.{QueueState, Waiting, eligible, picked, departed, arrived}

@@ -5,7 +5,8 @@ pub mod CacheSteps
 pub mod CompletionLaws
 pub mod CountLaws
 pub mod EpochLaws
-pub mod KeptLaws
+pub mod EpochOrder
+pub mod FlushLaws
 pub mod MemberLaws
 pub mod PendingLaws
 pub mod QueueLaws

@@ -360,7 +360,8 @@ impl OrderedDev for EpochDevice {
         }
     }
 
-    ghost use Rattle.device_epochs.specs.laws.KeptLaws as kept;
+    ghost use Rattle.device_epochs.specs.laws.EpochOrder as order;
+    ghost use Rattle.device_epochs.specs.laws.FlushLaws as flushes;
     ghost use Rattle.device_epochs.specs.laws.SeenLaws as told;
     ghost use Rattle.device_epochs.specs.laws.StepLaws as steps;
     ghost use Rattle.device_epochs.specs.laws.MemberLaws as laws;
@@ -381,11 +382,11 @@ impl OrderedDev for EpochDevice {
 
     ghost reads = { laws.reads };
 
-    ghost surface = { kept.surface_law };
+    ghost surface = { order.surface_law };
 
-    ghost epoch_order = { kept.epoch_order_law };
+    ghost epoch_order = { order.epoch_order_law };
 
-    ghost flush = { kept.flush_law };
+    ghost flush = { flushes.flush_law };
 
     ghost completion = { told.completion_law };
 

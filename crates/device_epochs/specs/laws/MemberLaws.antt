@@ -12,7 +12,7 @@ use Rattle.order_model.specs.Steps.{Receives, Transfers, Persists, Answers, Only
 use Rattle.device_epochs.specs.Device.{DeviceState, is_next, counted, has_room, received, transferable, tried, transferred, persistable, persisted, next_answer, answered, answered_from, after_read, written, tells_cut, IsSound, seen}
 use Rattle.device_epochs.specs.laws.Valid.{work_left, IsValid}
 use Rattle.device_epochs.specs.laws.StepLaws.{tried-all, Receives-received, Transfers-transferred, Persists-persisted, Answers-answered}
-use Rattle.device_epochs.specs.laws.KeptLaws.{Grows-transferred, Grows-persisted}
+use Rattle.device_epochs.specs.laws.FlushLaws.{Grows-transferred, Grows-persisted}
 use Rattle.device_epochs.specs.laws.CountLaws.{never_off}
 use Rattle.device_epochs.specs.laws.SeenLaws.{power_cut_law, off-nothing, progress_law}
 use Rattle.device_epochs.specs.laws.ReachableLaws.{received-valid, transferred-valid, persisted-valid, answered-valid, after_read-valid}

@@ -19,7 +19,7 @@ use Rattle.device_epochs.specs.laws.BoundLaws.{some_ids}
 use Rattle.device_epochs.specs.laws.PendingLaws.{lost-some, pending-is, numbered}
 use Rattle.device_epochs.specs.laws.CacheLaws.{oldest_some}
 use Rattle.device_epochs.specs.laws.StepLaws.{transferable-waits, is-transferable, tried-fails, tried-moves, persistable-In}
-use Rattle.device_epochs.specs.laws.KeptLaws.{kept_is_moved}
+use Rattle.device_epochs.specs.laws.EpochOrder.{kept_is_moved}
 use Rattle.device_epochs.specs.laws.CompletionLaws.{id-In_completions, cut-told, completions-seen, moved-seen, flushed-seen, failed-seen}
 use Rattle.device_epochs.specs.laws.CountLaws.{work, work_left-moved, work_left-failed, work_left-written, work_left-answered}
 
