@@ -1,6 +1,7 @@
--- Blocks, as the lists of their 1,024 bytes.
+-- Blocks, as the lists of their bytes.
 use Rattle.std.specs.Prelude.{ℕ, List, replicate}
+use Rattle.blk_base.specs.declared.block.TheConstants.{BLOCK_BYTES}
 
 -- the block whose bytes are all v
 unfoldable pub filled : ℕ → List ℕ
-filled v = replicate 1024 v
+filled v = replicate BLOCK_BYTES v

@@ -1,23 +1,28 @@
-//! Blocks of 1,024 bytes.
+//! Blocks of `BLOCK_BYTES` bytes.
 ghost use Rattle.std.specs.Prelude.{◌≡◌, ℕ, ◌<◌, List, length, slice_set, MatchOption, IsSome, ◌↔◌, IfSome};
 ghost use Rattle.blk_base.specs.Block.{filled};
+ghost use Rattle.blk_base.specs.declared.block.TheConstants.{BLOCK_BYTES};
 
 use std::marker::Model;
 
-/// The bytes of one block, 1,024 of them.
+/// How many bytes a block has.
+pub const BLOCK_BYTES: usize = 1_024;
+
+/// The bytes of one block.
 #[derive(Drop, PartialEq, Eq, Debug)]
 pub struct Block {
-    bytes: [u8; 1024],
+    bytes: [u8; BLOCK_BYTES],
 }
 
 impl Model for Block {
     ghost use Rattle.std.specs.Prelude.{◌≡◌, List, ℕ, length};
+    ghost use Rattle.blk_base.specs.declared.block.TheConstants.{BLOCK_BYTES};
 
     ghost Value = { List ℕ };
 
     ghost view = { λ b. b.bytes };
 
-    ghost invariant = { λ b. length b.bytes ≡ 1024 };
+    ghost invariant = { λ b. length b.bytes ≡ BLOCK_BYTES };
 
     ghost inverse = { λ bytes. record { bytes = bytes } };
 }
@@ -28,40 +33,42 @@ impl Block {
     pub fn fill(v: u8) -> Block
         ensures { result ≡ filled v }
     {
-        Block { bytes: [v; 1024] }
+        Block {
+            bytes: [v; BLOCK_BYTES],
+        }
     }
 
     /// The block of these bytes.
     pub fn from_slice(s: &[u8]) -> Option<Block>
-        ensures whole { IsSome result ↔ (length s.now ≡ 1024) }
+        ensures whole { IsSome result ↔ (length s.now ≡ BLOCK_BYTES) }
         ensures bytes { IfSome result (λ b. b ≡ s.now) }
     {
-        if s.len() != 1024 {
+        if s.len() != BLOCK_BYTES {
             return None;
         }
         Some(Block::of(s))
     }
 
-    /// The block of these 1,024 bytes.
+    /// The block of these bytes, a block's worth.
     pub fn of(s: &[u8]) -> Block
-        requires { length s.now ≡ 1024 }
+        requires { length s.now ≡ BLOCK_BYTES }
         ensures { result ≡ s.now }
     {
-        let mut bytes = [0u8; 1024];
+        let mut bytes = [0u8; BLOCK_BYTES];
         bytes.copy_from_slice(s);
         Block { bytes }
     }
 
     pub fn as_slice(&self) -> &[u8]
         ensures value { result.now ≡ self.now }
-        ensures len { length result.now ≡ 1024 }
+        ensures len { length result.now ≡ BLOCK_BYTES }
     {
         &self.bytes
     }
 
     /// Writes the byte at place `at`.
     pub fn set(&mut self, at: usize, v: u8)
-        requires { at < 1024 }
+        requires { at < BLOCK_BYTES }
         ensures { self.new ≡ slice_set self.old at v }
     {
         self.bytes[at] = v;

@@ -34,11 +34,12 @@ impl Image {
         Ok(Image { blocks: list })
     }
 
-    /// The blocks of these bytes. A last part that is no whole block is left out.
+    /// The blocks of these bytes. A last part that is no whole block is left out. 2^32 blocks and more are refused as
+    /// for want of memory.
     pub fn from_bytes(alloc: Global, bytes: &[u8]) -> Result<Image, NoMemory>
         ensures { IfOk result (λ i. i ≡ whole_blocks bytes.now) }
     {
-        let blocks = bytes.len() / 1024;
+        let blocks = bytes.len() / BLOCK_BYTES;
         if blocks > u32::MAX as usize {
             return Err(NoMemory);
         }
@@ -95,11 +96,11 @@ impl Image {
 
 // The bytes of block `b`.
 fn block_at(bytes: &[u8], b: usize) -> Block
-    requires { b < length bytes.now / 1024 }
+    requires { b < length bytes.now / BLOCK_BYTES }
     ensures { result ≡ bytes_at bytes.now b }
 {
-    let start = 1024 * b;
-    Block::of(&bytes[start..start + 1024])
+    let start = BLOCK_BYTES * b;
+    Block::of(&bytes[start..start + BLOCK_BYTES])
 }
 
 fn copy_of(alloc: Global, blocks: &[Block]) -> Result<Vec<Block>, NoMemory>

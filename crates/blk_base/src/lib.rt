@@ -1,4 +1,4 @@
-//! Blocks of 1,024 bytes, images, and the streams that a program reads and writes.
+//! Blocks, images, and the streams that a program reads and writes.
 //!
 //! Stands on nothing but std. The public calls that matter: `Block`, `Image`, the traits `Source` and
 //! `Sink` with their forms in memory and over std, and `read_all` and `write_all`.
@@ -13,7 +13,7 @@ mod sink;
 mod source;
 mod writing;
 
-pub use block::Block;
+pub use block::{BLOCK_BYTES, Block};
 pub use bodies::BodySource;
 pub use image::Image;
 pub use memory::NoMemory;

@@ -1,7 +1,8 @@
 //! Want of memory.
 use std::alloc::{AllocError, AllocFailed};
 
-/// Memory was refused. Every call that allocates may answer it, and no clause says when.
+/// Memory was refused, or so much would be needed that none is asked for. Every call that allocates may answer it,
+/// and no clause says when.
 #[derive(Clone, Copy, Debug, PartialEq, Eq)]
 pub struct NoMemory;
 

@@ -1,5 +1,5 @@
 //! Completions: what a device tells of its commands.
-/// What a device tells of a command that it has done, by the request's id.
+/// What a device tells of a command, by the request's id, or of its power.
 #[derive(Clone, Copy, PartialEq, Eq, Debug)]
 pub enum Completion {
     /// The part was transferred. It may not be on the medium.

@@ -1,9 +1,11 @@
 //! What passes between host, scheduler and device: requests, commands, completions, and the contract
 //! of a device that keeps the order of epochs.
 //!
-//! Stands on `blk_base`. The words of the promise are in `specs/`: `Submission` says what "ordered
-//! before", "kept" and "order-closed" mean over the host's list of requests alone, and `Device` has what
-//! a device shows and its laws. The public item that matters most is the trait `OrderedDev`.
+//! Stands on `blk_base`. The words of the promise are in `specs/`: `OrderClosed` says what "ordered
+//! before", "kept" and "order-closed" mean over the host's list of requests alone, `Device` has what a
+//! device shows and its laws, and `Carrying` what it means that commands carry requests. The public item
+//! that matters most is the trait `OrderedDev`. Why order reaches the medium, on any device of the trait, is
+//! proved in `proofs/OrderToTheMedium.antt`.
 #![tactic(auto)]
 
 mod bodies;

@@ -5,8 +5,8 @@ ghost use Rattle.std.specs.Borrow.{ftrue};
 use blk_base::{Block, Image};
 use std::marker::{Model, PhantomData};
 
-/// A history that contracts alone read, as its `items`. It takes no memory, and its calls do nothing at
-/// run time.
+/// A history that contracts alone read, as its `items`. It takes no memory, and nothing of it is there at run
+/// time.
 #[derive(Drop)]
 pub struct Trail<T> {
     of: PhantomData<T>,
