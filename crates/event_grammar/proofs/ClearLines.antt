@@ -10,7 +10,7 @@ use Rattle.event_grammar.specs.declared.event.EventWord.TheVariants.{One, Round,
 use Rattle.event_grammar.specs.declared.event.EventLine.{EventLine}
 use Rattle.event_grammar.specs.declared.steer.Steer.{Steer}
 use Rattle.event_grammar.specs.declared.steer.Steer.TheVariants as steers
-use Rattle.event_grammar.specs.declared.limits.TheConstants.{PLACES}
+use Rattle.script_words.specs.declared.limits.TheConstants.{PLACES}
 use Rattle.event_grammar.specs.WellFormed.{IsCount, IsEvent, AreTurns, IsLineOf, IsEventLine, IsSteer}
 use Rattle.event_grammar.specs.laws.Speller.{event_words, turn_words, what_words, event_line_words, steer_text, steer_words}
 use Rattle.event_grammar.proofs.EventLaws.{turns_fit}

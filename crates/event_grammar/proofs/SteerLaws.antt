@@ -6,7 +6,8 @@ use Rattle.std.proofs.lemmas.List.{length-map}
 use Rattle.blk_base.specs.Members.{In}
 use Rattle.event_grammar.specs.declared.steer.Steer.{Steer}
 use Rattle.event_grammar.specs.declared.steer.Steer.TheVariants as steers
-use Rattle.event_grammar.specs.declared.limits.TheConstants.{MOST_DEFAULTS, MOST_STEERS, PLACES}
+use Rattle.script_words.specs.declared.limits.TheConstants.{PLACES}
+use Rattle.event_grammar.specs.declared.limits.TheConstants.{MOST_DEFAULTS, MOST_STEERS}
 use Rattle.event_grammar.specs.SteerLines.{if_within, steer_taken, steer_of, before_all, all_of, steers_of}
 use Rattle.event_grammar.specs.WellFormed.{IsSteer, IsSteerLine}
 use Rattle.event_grammar.specs.laws.Speller.{steer_text, steer_words}

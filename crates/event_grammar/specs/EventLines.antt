@@ -7,7 +7,7 @@ use Rattle.event_grammar.specs.declared.event.CoreEvent.TheVariants as events
 use Rattle.event_grammar.specs.declared.event.EventWord.{EventWord}
 use Rattle.event_grammar.specs.declared.event.EventWord.TheVariants.{One, Round, Back}
 use Rattle.event_grammar.specs.declared.event.EventLine.{EventLine}
-use Rattle.event_grammar.specs.declared.limits.TheConstants.{MOST_EVENTS, MOST_REPEATS, PLACES}
+use Rattle.script_words.specs.declared.limits.TheConstants.{MOST_EVENTS, MOST_REPEATS, PLACES}
 use Rattle.event_grammar.specs.declared.words.PlainWord.{PlainWord}
 use Rattle.event_grammar.specs.declared.words.PlainWord.TheVariants as plain
 use Rattle.event_grammar.specs.declared.words.PickWord.{PickWord}

@@ -2,7 +2,8 @@
 use Rattle.std.specs.Prelude.{ℕ, ◌==◌, Bool, nat_lt, nat_le, if◌then◌else◌, List, [], ◌∷◌, length, Option, Some, None, Result, Ok, Err}
 use Rattle.event_grammar.specs.declared.steer.Steer.{Steer}
 use Rattle.event_grammar.specs.declared.steer.Steer.TheVariants as steers
-use Rattle.event_grammar.specs.declared.limits.TheConstants.{MOST_DEFAULTS, MOST_STEERS, PLACES}
+use Rattle.script_words.specs.declared.limits.TheConstants.{PLACES}
+use Rattle.event_grammar.specs.declared.limits.TheConstants.{MOST_DEFAULTS, MOST_STEERS}
 use Rattle.script_words.specs.declared.line_error.LineFault.{LineFault}
 use Rattle.script_words.specs.declared.line_error.LineFault.TheVariants as faults
 use Rattle.script_words.specs.Spelling.{numeral}

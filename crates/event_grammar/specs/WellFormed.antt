@@ -8,7 +8,8 @@ use Rattle.event_grammar.specs.declared.event.EventWord.TheVariants.{One, Round,
 use Rattle.event_grammar.specs.declared.event.EventLine.{EventLine}
 use Rattle.event_grammar.specs.declared.steer.Steer.{Steer}
 use Rattle.event_grammar.specs.declared.steer.Steer.TheVariants as steers
-use Rattle.event_grammar.specs.declared.limits.TheConstants.{MOST_DEFAULTS, MOST_EVENTS, MOST_REPEATS, MOST_STEERS, PLACES}
+use Rattle.script_words.specs.declared.limits.TheConstants.{MOST_EVENTS, MOST_REPEATS, PLACES}
+use Rattle.event_grammar.specs.declared.limits.TheConstants.{MOST_DEFAULTS, MOST_STEERS}
 
 -- 1 to 1,000,000
 pub record IsCount (count : ℕ) : Type 0 where

@@ -10,9 +10,9 @@ use std::marker::Model;
 pub enum CoreEvent {
     /// The thread with this number, counted from 1, goes on with its calls.
     Call(u32),
-    /// The transaction that is being committed goes on.
+    /// The commit actor takes a step: it begins to close the running transaction, or goes on with the one that it commits.
     Commit,
-    /// The host sends a flush, or goes on with one.
+    /// The flush actor takes a step: it submits a flush where one is due, or else takes a completion.
     FlushStep,
     /// The host writes back the page at this place of its list.
     Writeback(u32),
@@ -38,7 +38,8 @@ pub enum CoreEvent {
 #[derive(Clone, Copy, PartialEq, Eq, Debug)]
 pub enum EventWord {
     One(CoreEvent),
-    /// Each thread goes on once, in the order of their numbers, and then each other part of the stack once.
+    /// Each thread goes on once, in the order of their numbers, and then each other part of the stack but the write-back
+    /// once.
     Round,
     /// The same without the threads.
     Back,

@@ -3,9 +3,8 @@ ghost use Rattle.std.specs.Prelude.{◌≡◌, map};
 ghost use Rattle.event_grammar.specs.EventLines.{is_count, plain_event, pick_event, turn_event, plain_taken, pick_taken, turn_taken, pick_line, turn_line, event_of};
 
 use crate::event::{CoreEvent, EventLine, EventWord};
-use crate::limits::{MOST_EVENTS, MOST_REPEATS, PLACES};
 use crate::words::{EventFirst, PickWord, PlainWord, TurnWord};
-use script_words::{LineFault, count_of, numeral};
+use script_words::{LineFault, MOST_EVENTS, MOST_REPEATS, PLACES, count_of, numeral};
 
 /// Reads the words behind the first as an event line, or says what is wrong with them.
 pub fn read_event(word: EventFirst, words: &[&[u8]]) -> Result<EventLine, LineFault>

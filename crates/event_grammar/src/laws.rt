@@ -7,7 +7,8 @@ ghost use Rattle.event_grammar.specs.WellFormed.{IsEventLine, IsSteerLine};
 ghost use Rattle.event_grammar.specs.laws.Speller.{SaysEvent, event_line_words, line_of, steer_words};
 
 /// A law, which does nothing when it is called: words are read as an event line exactly where that is well-formed and
-/// they say it, where a count of 1 may be left out; and what the speller writes of it is read back.
+/// they say it, where a count of 1 may be left out and turns may be parted in any way (`round 2 x 3` is `round 6`); and
+/// what the speller writes of it is read back.
 pub fn events_are_spelled()
     ensures read { (ws : List (List ℕ)) (l : EventLine) → (line_of ws ≡ Ok l) ↔ (IsEventLine l × SaysEvent l ws) }
     ensures spelled { (l : EventLine) → IsEventLine l → line_of (event_line_words l) ≡ Ok l }

@@ -19,7 +19,7 @@ mod words;
 pub use event::{CoreEvent, EventLine, EventWord, Events};
 pub use event_reader::read_event;
 pub use laws::{events_are_spelled, steers_are_spelled};
-pub use limits::{MOST_DEFAULTS, MOST_EVENTS, MOST_REPEATS, MOST_STEERS, PLACES};
+pub use limits::{MOST_DEFAULTS, MOST_STEERS};
 pub use steer::{Steer, SteerLine, SteerList};
 pub use steer_reader::read_steers;
 pub use words::{EventFirst, PickWord, PlainWord, TurnWord, read_event_word};

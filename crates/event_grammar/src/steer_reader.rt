@@ -3,9 +3,9 @@ ghost use Rattle.std.specs.Prelude.{◌≡◌, map};
 ghost use Rattle.script_words.specs.code.Readers.{IsReadAs};
 ghost use Rattle.event_grammar.specs.SteerLines.{steer_of, steer_taken, all_of, steers_of};
 
-use crate::limits::{MOST_DEFAULTS, MOST_STEERS, PLACES};
+use crate::limits::{MOST_DEFAULTS, MOST_STEERS};
 use crate::steer::{Steer, SteerLine};
-use script_words::{LineFault, WordsError, numeral};
+use script_words::{LineFault, PLACES, WordsError, numeral};
 use std::alloc::Global;
 
 /// Reads the words behind `recover`, or says what is wrong with them.

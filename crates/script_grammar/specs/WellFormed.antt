@@ -4,7 +4,8 @@ use Rattle.blk_base.specs.Block.{filled}
 use Rattle.blk_base.specs.Members.{In}
 use Rattle.order_model.specs.declared.request.Request.{Request}
 use Rattle.order_model.specs.declared.request.Kind.TheVariants.{Put}
-use Rattle.script_grammar.specs.declared.limits.TheConstants.{DEFAULT_QUEUE, MOST_EVENTS, MOST_REPEATS, MOST_STEPS, PLACES}
+use Rattle.script_words.specs.declared.limits.TheConstants.{MOST_EVENTS, MOST_REPEATS, PLACES}
+use Rattle.script_grammar.specs.declared.limits.TheConstants.{DEFAULT_QUEUE, MOST_STEPS}
 use Rattle.script_grammar.specs.declared.script.Script.{Script}
 use Rattle.script_grammar.specs.declared.script.EventLine.{EventLine}
 use Rattle.script_grammar.specs.declared.script.EventWord.{EventWord}

@@ -7,8 +7,8 @@ ghost use Rattle.script_grammar.specs.code.Readers.{IsReadAs, IsTextReadAs};
 
 use crate::kinds::ScriptKind;
 use crate::limits::{
-    DEFAULT_DEPTH, DEFAULT_QUEUE, MOST_BLOCKS, MOST_DEPTH, MOST_EVENTS, MOST_QUEUE, MOST_REPEATS,
-    MOST_REQUESTS, MOST_SCRIPT_BYTES, MOST_STEPS, PLACES,
+    DEFAULT_DEPTH, DEFAULT_QUEUE, MOST_BLOCKS, MOST_DEPTH, MOST_QUEUE, MOST_REQUESTS,
+    MOST_SCRIPT_BYTES, MOST_STEPS,
 };
 use crate::line_forms::read_line_of;
 use crate::reading::{Reading, Section};
@@ -19,7 +19,7 @@ use crate::script_error::{LineError, ScriptError, fault_at};
 use crate::word_table::read_word;
 use crate::words::{Class, FirstWord, HeaderWord, Line, PickWord, PlainWord, Word};
 use blk_base::NoMemory;
-use script_words::{is_skipped, lines, numeral, words};
+use script_words::{MOST_EVENTS, MOST_REPEATS, PLACES, is_skipped, lines, numeral, words};
 use std::alloc::Global;
 
 /// Reads a script, or says its first faulty line and what is wrong with it.

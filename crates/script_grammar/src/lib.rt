@@ -1,6 +1,6 @@
 //! The grammar of scripts: texts as plain values, and the first faulty line of those that are no scripts.
 //!
-//! Stands on `blk_base` and `order_model`. The call that matters is `read_script`. What it reads is
+//! Stands on `order_model` and `script_words`. The call that matters is `read_script`. What it reads is
 //! `script_of` in `specs/Grammar.antt`; above that definition stand three laws, `tells_first_fault`,
 //! `reads_what_is_spelled` and `accepts_what_is_spelled`, in words of lines and of a small speller.
 #![tactic(auto)]
@@ -20,8 +20,8 @@ pub use grammar::read_script;
 pub use kinds::ScriptKind;
 pub use law::{accepts_what_is_spelled, reads_what_is_spelled, tells_first_fault};
 pub use limits::{
-    DEFAULT_DEPTH, DEFAULT_QUEUE, MOST_BLOCKS, MOST_DEPTH, MOST_EVENTS, MOST_QUEUE, MOST_REPEATS,
-    MOST_REQUESTS, MOST_SCRIPT_BYTES, MOST_STEPS, PLACES,
+    DEFAULT_DEPTH, DEFAULT_QUEUE, MOST_BLOCKS, MOST_DEPTH, MOST_QUEUE, MOST_REQUESTS,
+    MOST_SCRIPT_BYTES, MOST_STEPS,
 };
 pub use script::{CoreEvent, EventLine, EventWord, Events, Form, Header, RequestList, Script};
 pub use script_error::{LineError, ScriptError, fault_at};

@@ -1,4 +1,5 @@
-//! The limits of a script, and what a header line that is missing stands for.
+//! The limits of a script, and what a header line that is missing stands for. Those of its event lines are
+//! `script_words`'.
 
 /// The most bytes of a script.
 pub const MOST_SCRIPT_BYTES: usize = 4_194_304;
@@ -17,15 +18,6 @@ pub const MOST_STEPS: u64 = 1_000_000_000;
 
 /// The most requests.
 pub const MOST_REQUESTS: usize = 10_000;
-
-/// How often an event line may be done.
-pub const MOST_REPEATS: u64 = 1_000_000;
-
-/// The most events, with their repeats.
-pub const MOST_EVENTS: u64 = 20_000_000;
-
-/// The place that an event picks is below this.
-pub const PLACES: u64 = 4_294_967_296;
 
 /// The depth where no line says one.
 pub const DEFAULT_DEPTH: u32 = 32;

@@ -28,7 +28,7 @@ use Rattle.event_grammar.specs.declared.event.CoreEvent.{CoreEvent}
 use Rattle.event_grammar.specs.declared.event.CoreEvent.TheVariants as core
 use Rattle.event_grammar.specs.declared.event.EventWord.{EventWord}
 use Rattle.event_grammar.specs.declared.event.EventWord.TheVariants.{One, Round, Back}
-use Rattle.event_grammar.specs.declared.limits.TheConstants.{MOST_EVENTS}
+use Rattle.script_words.specs.declared.limits.TheConstants.{MOST_EVENTS}
 use Rattle.event_grammar.specs.declared.steer.Steer.{Steer}
 use Rattle.event_grammar.specs.declared.words.EventFirst.{EventFirst}
 use Rattle.event_grammar.specs.declared.words.EventFirst.TheVariants as event

@@ -23,7 +23,7 @@ use Rattle.call_grammar.specs.WellFormed as call
 use Rattle.call_grammar.specs.laws.Speller as call_speller
 use Rattle.call_grammar.proofs.SaidCalls as call_said
 use Rattle.event_grammar.specs.declared.event.EventLine.{EventLine}
-use Rattle.event_grammar.specs.declared.limits.TheConstants.{MOST_EVENTS}
+use Rattle.script_words.specs.declared.limits.TheConstants.{MOST_EVENTS}
 use Rattle.event_grammar.specs.declared.steer.Steer.{Steer}
 use Rattle.event_grammar.specs.declared.words.EventFirst.{EventFirst}
 use Rattle.event_grammar.specs.EventLines.{event_word, event_of}

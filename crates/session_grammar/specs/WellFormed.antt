@@ -13,7 +13,7 @@ use Rattle.event_grammar.specs.declared.event.CoreEvent.TheVariants as core
 use Rattle.event_grammar.specs.declared.event.EventLine.{EventLine}
 use Rattle.event_grammar.specs.declared.event.EventWord.{EventWord}
 use Rattle.event_grammar.specs.declared.event.EventWord.TheVariants.{One, Round, Back}
-use Rattle.event_grammar.specs.declared.limits.TheConstants.{MOST_EVENTS}
+use Rattle.script_words.specs.declared.limits.TheConstants.{MOST_EVENTS}
 use Rattle.event_grammar.specs.declared.steer.Steer.{Steer}
 use Rattle.event_grammar.specs.WellFormed.{IsEventLine, IsSteerLine}
 use Rattle.session_grammar.specs.declared.limits.TheConstants.{LEAST_JOURNAL, MOST_CALLS, MOST_JOURNAL, MOST_NUMBERED, MOST_RECOVERS, MOST_SEED, MOST_SESSION, MOST_THREADS}

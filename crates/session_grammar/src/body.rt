@@ -12,10 +12,10 @@ use crate::reading::{Reading, Section};
 use blk_base::NoMemory;
 use call_grammar::{CallWord, Program, read_call};
 use event_grammar::{
-    CoreEvent, EventFirst, EventLine, EventWord, MOST_EVENTS, SteerLine, read_event, read_steers,
+    CoreEvent, EventFirst, EventLine, EventWord, SteerLine, read_event, read_steers,
 };
 use script_grammar::{LineError, ScriptKind};
-use script_words::{LineFault, WordsError, numeral};
+use script_words::{LineFault, MOST_EVENTS, WordsError, numeral};
 use std::alloc::Global;
 use tree_model::{ByteList, Call};
 

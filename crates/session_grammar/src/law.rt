@@ -27,7 +27,8 @@ pub fn sessions_are_read_back()
 {}
 
 /// A text is accepted as a volume script exactly where that is well-formed and the text is what the speller writes
-/// of it, but for skipped lines, the order of header lines, and what may be left out because it is the default.
+/// of it, but for skipped lines, the order of header lines, how turns are parted (`round 2 x 3` is `round 6`), and what
+/// may be left out because it is the default.
 pub fn sessions_are_what_is_spelled()
     ensures { (bytes : List ℕ) (s : SessionScript) → (session_of bytes ≡ Ok s) ↔ (IsWellFormed s × SaysSession s (kept_lines (lines_of bytes))) }
 {}

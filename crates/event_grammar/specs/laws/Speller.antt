@@ -9,7 +9,7 @@ use Rattle.event_grammar.specs.declared.event.EventLine.{EventLine}
 use Rattle.event_grammar.specs.declared.words.EventFirst.{EventFirst}
 use Rattle.event_grammar.specs.declared.steer.Steer.{Steer}
 use Rattle.event_grammar.specs.declared.steer.Steer.TheVariants as steers
-use Rattle.event_grammar.specs.declared.limits.TheConstants.{MOST_REPEATS}
+use Rattle.script_words.specs.declared.limits.TheConstants.{MOST_REPEATS}
 use Rattle.event_grammar.specs.EventLines.{event_word, event_of}
 use Rattle.event_grammar.specs.WellFormed.{IsCount}
 use Rattle.script_words.specs.declared.line_error.LineFault.{LineFault}
