@@ -1,5 +1,5 @@
 //! What a caller may know of any scheduler.
-ghost use Rattle.std.specs.Prelude.{◌≡◌, ◌<◌, ℕ, true, false, length};
+ghost use Rattle.std.specs.Prelude.{◌≡◌, ◌<◌, ◌≤◌, ◌↔◌, ℕ, true, false, None, length};
 ghost use Rattle.order_model.specs.Carrying.{Carries};
 
 use crate::Scheduler;
@@ -8,6 +8,7 @@ use crate::Scheduler;
 pub fn lawful_eligible<S: Scheduler>(sched: &S) -> u32
     ensures count { result ≡ S.steps.eligible (S.state sched.now) }
     ensures carries { Carries (S.steps.seen (S.state sched.now)) }
+    ensures none { (pick : ℕ) → (S.steps.command (S.state sched.now) pick ≡ None) ↔ (result ≤ pick) }
     ensures some { 0 < length (S.steps.seen (S.state sched.now)).waiting → 0 < result }
     ensures blocked { (S.steps.seen (S.state sched.now)).blocked ≡ true → S.steps.can_accept (S.state sched.now) ≡ false }
     ensures waits { (S.steps.seen (S.state sched.now)).blocked ≡ true → 0 < result }

@@ -8,7 +8,7 @@ use order_model::{Command, Request, SchedRecord};
 /// How many requests may wait in a scheduler.
 pub const CAPACITY: u32 = 128;
 
-/// More requests than this are not recorded.
+/// The greatest number of requests that a scheduler is made for.
 pub const LONGEST: u64 = 1 << 40;
 
 /// A scheduler: requests in, commands out. Whatever it accepts and whatever is picked, the commands that it

@@ -2,7 +2,7 @@
 //!
 //! Stands on `order_model` and `barrier_reassign`. The type `Sched` is the whole surface. It is a `Scheduler`
 //! that sends each request as a command of its own: its steps and laws are those of `specs/Sched.antt` and
-//! `specs/SchedulerLaws.antt` in `barrier_reassign`.
+//! `specs/laws/SchedulerLaws.antt` in `barrier_reassign`.
 #![tactic(auto)]
 
 mod sched;

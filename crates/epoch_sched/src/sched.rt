@@ -33,10 +33,10 @@ impl Model for Sched {
 }
 
 impl Sched {
-    /// A scheduler that may accept so many requests in all, of which 128 may wait. A limit above
-    /// 2^40 has no memory.
+    /// A scheduler that may accept so many requests in all, of which `CAPACITY` may wait. It is refused as for want
+    /// of memory above `LONGEST`.
     pub fn make(alloc: Global, limit: u64) -> Result<Sched, NoMemory>
-        ensures { IfOk result (λ s. s ≡ opened limit 128) }
+        ensures { IfOk result (λ s. s ≡ opened limit CAPACITY) }
     {
         if limit > LONGEST {
             return Err(NoMemory);

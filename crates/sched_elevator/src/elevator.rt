@@ -40,8 +40,8 @@ impl Model for Elevator {
 }
 
 impl Elevator {
-    /// An elevator at block 0 that may accept so many requests in all, of which `CAPACITY` may wait. A limit
-    /// above 2^40 has no memory.
+    /// An elevator at block 0 that may accept so many requests in all, of which `CAPACITY` may wait. It is
+    /// refused as for want of memory above `LONGEST`.
     pub fn make(alloc: Global, limit: u64) -> Result<Elevator, NoMemory>
         ensures { IfOk result (λ s. s ≡ opened limit CAPACITY) }
     {

@@ -3,6 +3,7 @@ use Rattle.std.specs.Prelude.{◌≡◌, ℕ, zero, suc, ◌+◌, ◌≤◌, ◌
 use Rattle.order_model.specs.Carrying.{SchedSeen}
 use Rattle.order_model.specs.Device.{Seen}
 use Rattle.order_model.specs.Machine.{Machine}
+use Rattle.barrier_reassign.specs.declared.scheduler.TheConstants.{CAPACITY}
 use Rattle.barrier_reassign.specs.Scheduler.{SchedSteps}
 use Rattle.barrier_reassign.specs.Sched as plain
 use Rattle.sched_elevator.specs.Elevator as elevator
@@ -59,13 +60,13 @@ pub record EndState : Type 0 where
 abbrev pub ended : {K S : Type 0} → SchedSteps K → Machine S → SessionState K S → EndState
 ended k m r = record { host = r.host; sched = k.seen r.sched; dev = m.seen r.dev }
 
--- all events of a script on this device, on the parts that it opens and the scheduler that it names, in which 128 requests may
--- wait
+-- all events of a script on this device, on the parts that it opens and the scheduler that it names, in which `CAPACITY` requests
+-- may wait
 abbrev pub core_on : {S : Type 0} → Machine S → SessionScript → S → EndState
 core_on m s dev =
     if s.header.elevator then
-    ended elevator.elevator_steps m (core_session (opening_of s) elevator.elevator_steps m (start_of s) (elevator.opened s.header.limit 128) dev s.events)
-    else ended plain.sched_steps m (core_session (opening_of s) plain.sched_steps m (start_of s) (plain.opened s.header.limit 128) dev s.events)
+    ended elevator.elevator_steps m (core_session (opening_of s) elevator.elevator_steps m (start_of s) (elevator.opened s.header.limit CAPACITY) dev s.events)
+    else ended plain.sched_steps m (core_session (opening_of s) plain.sched_steps m (start_of s) (plain.opened s.header.limit CAPACITY) dev s.events)
 
 -- the same on the model device that it opens
 abbrev pub core : SessionScript → EndState

@@ -4,6 +4,7 @@ use Rattle.blk_base.specs.Image.{zeros}
 use Rattle.order_model.specs.declared.command.Command.{Command}
 use Rattle.order_model.specs.declared.request.Request.{Request}
 use Rattle.order_model.specs.Machine.{Machine}
+use Rattle.barrier_reassign.specs.declared.scheduler.TheConstants.{CAPACITY}
 use Rattle.barrier_reassign.specs.Scheduler.{SchedSteps}
 use Rattle.barrier_reassign.specs.Sched as plain
 use Rattle.sched_elevator.specs.Elevator as elevator
@@ -75,11 +76,11 @@ pub record EndState (S : Type 0) : Type 0 where
 abbrev pub ended : {K S : Type 0} → SchedSteps K → RunState K S → EndState S
 ended k r = record { path = r.path; sched = k.seen r.sched; dev = r.dev }
 
--- where a script ends on this device: on the scheduler that it names, in which 128 requests may wait
+-- where a script ends on this device: on the scheduler that it names, in which `CAPACITY` requests may wait
 abbrev pub end_on : {S : Type 0} → Machine S → Script → S → EndState S
 end_on m s dev =
-    if s.header.elevator then ended elevator.elevator_steps (run_of elevator.elevator_steps m s (elevator.opened (scheduled_count s) 128) dev)
-    else ended plain.sched_steps (run_of plain.sched_steps m s (plain.opened (scheduled_count s) 128) dev)
+    if s.header.elevator then ended elevator.elevator_steps (run_of elevator.elevator_steps m s (elevator.opened (scheduled_count s) CAPACITY) dev)
+    else ended plain.sched_steps (run_of plain.sched_steps m s (plain.opened (scheduled_count s) CAPACITY) dev)
 
 -- the steps of the device of epochs
 abbrev pub epoch_machine : Machine DeviceState
