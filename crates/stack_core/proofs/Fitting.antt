@@ -1,9 +1,7 @@
 -- A run has a scheduler exactly where its script has one; and its parts fit.
-use Rattle.std.proofs.Common.{◌≡◌, ℕ, ◌++◌, Bool, true, false, List, [], ◌∷◌, length, map, take, Option, Some, None, zero, suc, slice_get, refl, sym, ap, subst, ◌∙◌, inl, inr}
+use Rattle.std.proofs.Common.{◌≡◌, ℕ, ◌++◌, Bool, true, false, List, [], ◌∷◌, map, take, Option, Some, None, zero, suc, slice_get, refl, sym, ap, subst, ◌∙◌, inl, inr}
 use Rattle.std.proofs.lemmas.Bool.{cases_Bool, false≢true}
-use Rattle.std.proofs.Common.{take_at}
 use Rattle.order_model.specs.declared.command.Command.{Command}
-use Rattle.order_model.specs.declared.completion.Completion.{Completion}
 use Rattle.order_model.specs.declared.request.Request.{Request}
 use Rattle.order_model.specs.Single.{command_for}
 use Rattle.order_model.specs.Device.{Seen}
@@ -116,10 +114,9 @@ took_fits (Blocks blocks) (Direct next) p rs d r same path submitted record_of t
 took_fits (Blocks blocks) (Scheduled s) p rs d r same path submitted record_of trace =
     prefix-same r.cut.trace.took.items r.sched.sent_out.items d.took p.sent_out trace.took record_of.sent_out (scheduled_fits rs s p d path).took
 
-pub parts_fit : (s : Script) (f : RequestPath) (p : SchedSeen) (d : Seen) (r : Report) (completed : List Completion) → is_direct f ≡ is_device s.kind → (is_direct f ≡ true → p.accepted ≡ []) → PathFits f p s.puts d
-    → r.script ≡ s → r.submitted ≡ take (submitted_count f) s.puts → IsSchedRecord p r.sched → IsTraceOf d r.cut.trace → completed ≡ r.cut.trace.sent.items ++ d.waiting → PartsFit r completed
-parts_fit s f p d r completed same unused path script submitted record_of trace told = record {
+pub parts_fit : (s : Script) (f : RequestPath) (p : SchedSeen) (d : Seen) (r : Report) → is_direct f ≡ is_device s.kind → (is_direct f ≡ true → p.accepted ≡ []) → PathFits f p s.puts d
+    → r.script ≡ s → r.submitted ≡ take (submitted_count f) s.puts → IsSchedRecord p r.sched → IsTraceOf d r.cut.trace → PartsFit r
+parts_fit s f p d r same unused path script submitted record_of trace = record {
   accepted = prefix-same r.sched.accepted.items r.submitted p.accepted (take (submitted_count f) s.puts) record_of.accepted submitted (accepted_fits f p s.puts d unused path);
   took = subst (λ (t : Script). TookInOrder t.kind r) (sym script) (took_fits s.kind f p s.puts d r same path submitted record_of trace);
-  sent = (length r.cut.trace.sent.items, sym (take_at r.cut.trace.sent.items d.waiting (length r.cut.trace.sent.items) refl) ∙ ap (take (length r.cut.trace.sent.items)) (sym told));
 }

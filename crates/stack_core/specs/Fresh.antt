@@ -4,13 +4,14 @@ use Rattle.order_model.specs.Device.{Seen}
 use Rattle.device_epochs.specs.declared.device.DeviceSetup.{DeviceSetup}
 use Rattle.device_epochs.specs.Device.{DeviceState, opened}
 
--- It was made over this image and took and sent nothing, and nothing failed on it. It may take so many ids as the image has
+-- It was made over this image, took and sent nothing and made no step, and nothing failed on it. It may take so many ids as the image has
 -- blocks, and two more: a recovery writes each block once at most, then the journal's superblock, and flushes.
 pub record IsFresh (image : List (List ℕ)) (s : Seen) : Type 0 where
   pub base : s.base ≡ image
   pub surface : s.surface ≡ image
   pub took : s.took ≡ []
   pub sent : s.sent ≡ []
+  pub steps : s.steps ≡ 0
   pub faults : s.faults ≡ 0
   pub room : length image + 2 ≤ s.limit
 

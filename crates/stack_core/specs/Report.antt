@@ -3,7 +3,6 @@ use Rattle.std.specs.Prelude.{◌≡◌, ◌++◌, List, map, take}
 use Rattle.blk_base.specs.Image.{zeros}
 use Rattle.order_model.specs.Device.{Seen, origin_ids}
 use Rattle.order_model.specs.Steps.{IsTraceOf}
-use Rattle.order_model.specs.declared.completion.Completion.{Completion}
 use Rattle.order_model.specs.Single.{command_for}
 use Rattle.order_model.specs.Carrying.{SchedSeen, IsPrefixOf}
 use Rattle.barrier_reassign.specs.Scheduler.{IsSchedRecord}
@@ -38,10 +37,9 @@ TookInOrder (Device blocks) r = r.cut.trace.took.items ≡ map command_for r.sub
 TookInOrder (Blocks blocks) r = IsPrefixOf r.cut.trace.took.items r.sched.sent_out.items
 
 -- How the parts of a run fit: what each one took is a prefix of what the one before it gave.
-pub record PartsFit (r : Report) (completed : List Completion) : Type 0 where
+pub record PartsFit (r : Report) : Type 0 where
   pub accepted : IsPrefixOf r.sched.accepted.items r.submitted
   pub took : TookInOrder r.script.kind r
-  pub sent : IsPrefixOf r.cut.trace.sent.items completed
 
 -- The headline, as far as a script of block requests goes: its first sentence, over a medium of zeros. What
 -- completed is what was handed out, and what the device still had to hand out when the power was cut.

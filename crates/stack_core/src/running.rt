@@ -158,8 +158,7 @@ fn run_with<S: Scheduler + Drop, D: OrderedDev + Drop>(
     requires scheduler { S.valid (S.state sched) }
     requires unused { (S.steps.seen (S.state sched)).accepted ≡ [] }
     requires path { PathFits (opened_path script.now) (S.steps.seen (S.state sched)) script.now.puts (D.seen (D.state dev)) }
-    ensures fits { let end = ended S.steps (run_of S.steps (machine_of D.OrderedDev) script.now (S.state sched) (D.state dev)) in
-        IfOk result (λ r. PartsFit r (r.cut.trace.sent.items ++ (D.seen end.dev).waiting)) }
+    ensures fits { IfOk result PartsFit }
     ensures core { let end = ended S.steps (run_of S.steps (machine_of D.OrderedDev) script.now (S.state sched) (D.state dev)) in
         IfOk result (IsReportOf script.now end.path end.sched (D.seen end.dev)) }
     ensures order { let end = ended S.steps (run_of S.steps (machine_of D.OrderedDev) script.now (S.state sched) (D.state dev)) in
@@ -197,8 +196,7 @@ pub fn run_on<D: OrderedDev + Drop>(
     requires image { (D.seen (D.state dev)).base ≡ zeros (blocks_of script.now) }
     requires unused { (D.seen (D.state dev)).took ≡ [] }
     requires ids { length script.now.puts ≤ (D.seen (D.state dev)).limit }
-    ensures fits { let end = end_on (machine_of D.OrderedDev) script.now (D.state dev) in
-        IfOk result (λ r. PartsFit r (r.cut.trace.sent.items ++ (D.seen end.dev).waiting)) }
+    ensures fits { IfOk result PartsFit }
     ensures core { let end = end_on (machine_of D.OrderedDev) script.now (D.state dev) in
         IfOk result (IsReportOf script.now end.path end.sched (D.seen end.dev)) }
     ensures order { let end = end_on (machine_of D.OrderedDev) script.now (D.state dev) in
@@ -219,7 +217,7 @@ pub fn run_on<D: OrderedDev + Drop>(
 /// Runs a script on a new device of epochs over zeros, and cuts the power.
 pub fn core_run(alloc: Global, script: &Script) -> Result<Report, NoMemory>
     requires { IsRunnable script.now }
-    ensures fits { IfOk result (λ r. PartsFit r (r.cut.trace.sent.items ++ (seen (core script.now).dev).waiting)) }
+    ensures fits { IfOk result PartsFit }
     ensures core { IfOk result (IsCoreReport script.now) }
     ensures order { IfOk result Headline }
 {

@@ -5,7 +5,7 @@ use Rattle.device_epochs.specs.Device.{DeviceState, seen}
 use Rattle.script_grammar.specs.Grammar.{blocks_of}
 use Rattle.stack_core.specs.Core.{end_on, epoch_machine}
 use Rattle.stack_core.specs.Headline.{KeepsOrder}
-use Rattle.stack_core.specs.Report.{IsReportOf, PartsFit}
+use Rattle.stack_core.specs.Report.{IsReportOf}
 use Rattle.stack_core.proofs.Opening.{headline_of, opened_is, setup_of}
 use Rattle.stack_core.proofs.running.core_run.Goals as goal
 
@@ -26,12 +26,6 @@ run_on-requires-clause-ids c =
     let s = c.args.script.now in
     let same = opened_is s c.in_ok-dev.dev c.in_ok-image.image (setup_of s c.len.result) c.blocks-2.result c.in_ok-dev.ensures c.in_ok-image.ensures c.blocks-2.ensures (ap (setup_of s) c.len.ensures) in
     subst (λ (d : DeviceState). length s.puts ≤ d.limit) (sym same) (omega arith)
-
-pub returns-clause-fits : goal.returns-clause-fits
-returns-clause-fits c =
-    let s = c.args.script.now in
-    let same = opened_is s c.in_ok-dev.dev c.in_ok-image.image (setup_of s c.len.result) c.blocks-2.result c.in_ok-dev.ensures c.in_ok-image.ensures c.blocks-2.ensures (ap (setup_of s) c.len.ensures) in
-    subst (λ d. IfOk c.run_on.result (λ r. PartsFit r (r.cut.trace.sent.items ++ (seen (end_on epoch_machine s d).dev).waiting))) same c.run_on.ensures.fits
 
 pub returns-clause-core : goal.returns-clause-core
 returns-clause-core c =

@@ -45,7 +45,7 @@ returns-clause-fits g c =
     let end = c.do_lines.ensures.run ∙ ap₂ (λ f lines. run_lines k.steps m rs (record { path = f; sched = old; dev = dev }) lines) c.in_ok-path.ensures c.as_slice.ensures in
     let now : RunState k.State t.State = record { path = path; sched = sched; dev = s } in
     let after = subst (IsAfter (record { path = opened_path script; sched = old; dev = dev })) (sym end) (run-after k.steps m rs (record { path = opened_path script; sched = old; dev = dev }) script.events) in
-    parts_fit script path (k.steps.seen sched) (t.seen s) _ _
+    parts_fit script path (k.steps.seen sched) (t.seen s) _
     (kind_after script now old dev after)
     (λ e. ap (λ x. (k.steps.seen x).accepted) (unused_after script now old dev after e) ∙ c.requires.unused)
     c.do_lines.ensures.path
@@ -53,4 +53,3 @@ returns-clause-fits g c =
     (c.in_ok-submitted.ensures ∙ ap (λ n. take n rs) c.submitted.ensures)
     c.into_trace.ensures
     c.cut.ensures.trace
-    (ap (λ (r : RunState k.State t.State). c.cut.result.trace.sent.items ++ (t.seen r.dev).waiting) (sym end))
