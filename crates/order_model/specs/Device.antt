@@ -31,7 +31,7 @@ pub record Seen : Type 0 where
   -- the power is off; one of its transfers failed
   pub off : Bool
   pub failed : Bool
-  -- parts written to the medium and commands transferred; failed transfers and reads
+  -- writes to the medium and transfers, those that failed too; failed transfers and reads
   pub steps : ℕ
   pub faults : ℕ
 

@@ -59,8 +59,8 @@ pub record Transfers (old new : Seen) : Type 0 where
   pub taken : slice_get old.took number ≡ Some command
   pub outcome : Performs old number command new ⊎ Fails old command new
 
--- a block was written, and what was transferred and completed stayed; where the power went off by it, that
--- is told behind what waits
+-- What was transferred and completed stayed; of the medium only the device's laws speak. Where the power went off by it,
+-- that is told behind what waits.
 pub record Persists (old new : Seen) : Type 0 where
   pub given : KeepsGiven old new
   pub moved : new.moved ≡ old.moved
