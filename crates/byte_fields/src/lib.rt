@@ -2,8 +2,8 @@
 //!
 //! Stands on `byteorder`. `specs/Fields.antt` has the words of the contracts: `number_at` and `put` for
 //! one field, `written` for a table of fields, `record_at` and `put_record` for records of one size that
-//! lie one after the other. `specs/Laws.antt` has what is read after a write: a number that fits its width,
-//! as a clause `fits` says of each that is written here, is read as it was written.
+//! lie one after the other. `specs/laws/ReadLaws.antt` has what is read after a write: a number that fits its
+//! width, as a clause `fits` says of each that is written here, is read as it was written.
 #![tactic(auto)]
 
 ghost use Rattle.std.specs.Prelude.{◌≡◌, ◌+◌, ◌^◌, ◌<◌, ◌≤◌, length};
