@@ -43,11 +43,11 @@ use Rattle.volume_steps.specs.Plain.{IsInUse}
 use Rattle.volume_steps.specs.Steps.{map_file_block}
 use Rattle.volume_steps.specs.Zones.{TakenFor, take_zones, zone_bit}
 use Rattle.volume_steps.specs.laws.Steady.{IsSteady}
-use Rattle.volume_steps.proofs.Bits.{ChangesNone, kept_volume, kept_zone, kept_tree, bits_none, bits_tell, node_kept}
+use Rattle.volume_steps.proofs.Bits.{ChangesNone, kept_zone, kept_tree, bits_tell, node_kept}
 use Rattle.volume_steps.proofs.FileSteps.{IsFileStep, IsFileChange, change_settled, change_slotted, change_directories}
 use Rattle.volume_steps.proofs.Files.{bodies_kept, bodies_mapped, node_is_file, node_zones_are, tree_changed}
 use Rattle.volume_steps.proofs.Taking.{AreTaken, frees, uses, in_zones}
-use Rattle.volume_steps.proofs.TakeZones.{are_taken, are_free, numbers_are_zones, number_place, holes_counted, turn, turn_in}
+use Rattle.volume_steps.proofs.TakeZones.{are_taken, numbers_are_zones, number_place, holes_counted, turn, turn_in, marks_change_none, volume_marked, own_marked, free_marked}
 use Rattle.volume_steps.proofs.Together.{tells_as}
 use Rattle.volume_steps.proofs.TreeSteps.{tree_at, tree_in_order, used_put_more}
 use Rattle.volume_steps.proofs.Listed.{put_told}
@@ -83,25 +83,16 @@ module _ (tx : ℕ) (v : VolumeNow) (h : IsInUse v) (n : ℕ) (p : Placed) (zone
   taken = are_taken v h p.inode index enough
 
   none : ChangesNone g v.contents.blocks c.blocks
-  none = bits_none g h.sound v.contents h.volume true t.numbers (numbers_are_zones v h p.inode index enough)
+  none = marks_change_none v h n p at index enough
 
   volume : IsVolume g c
-  volume = kept_volume g v.contents h.volume c.blocks none
+  volume = volume_marked v h n p at index enough
 
   own_kept : (x : Place) → zone_in c.blocks p.inode x ≡ own x
-  own_kept = kept_zone g v.contents h.volume c.blocks none n p at
+  own_kept = own_marked v h n p at index enough
 
   free : AreFree g c.blocks c.nodes p.inode t.taken (way index)
-  free =
-      let f = are_free v h p.inode index enough in
-      record {
-        some = λ x i gap. f.some x i (sym (own_kept x) ∙ gap);
-        low = λ x i gap. f.low x i (sym (own_kept x) ∙ gap);
-        high = λ x i gap. f.high x i (sym (own_kept x) ∙ gap);
-        fits = λ x i gap. f.fits x i (sym (own_kept x) ∙ gap);
-        free = λ a r x y found i gap same. f.free a r x y found i (sym (own_kept x) ∙ gap) (sym (kept_zone g v.contents h.volume c.blocks none a r found y) ∙ same);
-        differ = λ x y i j gap also same. f.differ x y i j (sym (own_kept x) ∙ gap) (sym (own_kept y) ∙ also) same;
-      }
+  free = free_marked v h n p at index enough
 
   gap : zone_in c.blocks p.inode (block index) ≡ 0
   gap = own_kept (block index) ∙ hole

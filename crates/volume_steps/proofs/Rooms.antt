@@ -32,9 +32,9 @@ use Rattle.volume_model.specs.Trees.{tree_now, directory_from, node_from}
 use Rattle.volume_steps.specs.Now.{VolumeNow, written}
 use Rattle.volume_steps.specs.Zones.{TakenFor, zone_bit, take_zones}
 use Rattle.volume_steps.specs.Plain.{IsInUse}
-use Rattle.volume_steps.proofs.Bits.{ChangesNone, bits_none, bits_before, kept_zone, kept_volume}
+use Rattle.volume_steps.proofs.Bits.{ChangesNone, bits_before, kept_zone}
 use Rattle.volume_steps.proofs.Taking.{AreTaken, frees}
-use Rattle.volume_steps.proofs.TakeZones.{are_taken, are_free, numbers_are_zones, number_place, turn, turn_in}
+use Rattle.volume_steps.proofs.TakeZones.{are_taken, numbers_are_zones, number_place, turn, turn_in, marks_change_none, volume_marked, own_marked, free_marked}
 use Rattle.volume_steps.proofs.Grows.{is_directory_part, GrowsTo}
 use Rattle.volume_steps.proofs.NodeSteps.{MayGrow, IsSettled, AreSlotted, zones_settled, grows_then, closed_grows, closed_maps, closed_numbers, closed_settled, closed_slotted_but}
 use Rattle.volume_steps.proofs.TreeSteps.{grown_pages, tree_put, tree_at, tree_in_order}
@@ -86,25 +86,16 @@ module _ (v : VolumeNow) (in_use : IsInUse v) (n : ℕ) (p : Placed) (at : at_nu
   room_taken = are_taken v in_use p.inode index enough
 
   none : ChangesNone g v.contents.blocks c.blocks
-  none = bits_none g in_use.sound v.contents in_use.volume true t.numbers (numbers_are_zones v in_use p.inode index enough)
+  none = marks_change_none v in_use n p at index enough
 
   pub volume : IsVolume g c
-  volume = kept_volume g v.contents in_use.volume c.blocks none
+  volume = volume_marked v in_use n p at index enough
 
   own_kept : (x : Place) → zone_in c.blocks p.inode x ≡ own x
-  own_kept = kept_zone g v.contents in_use.volume c.blocks none n p at
+  own_kept = own_marked v in_use n p at index enough
 
   pub free : AreFree g c.blocks c.nodes p.inode t.taken (way index)
-  free =
-      let f = are_free v in_use p.inode index enough in
-      record {
-        some = λ x i gap. f.some x i (sym (own_kept x) ∙ gap);
-        low = λ x i gap. f.low x i (sym (own_kept x) ∙ gap);
-        high = λ x i gap. f.high x i (sym (own_kept x) ∙ gap);
-        fits = λ x i gap. f.fits x i (sym (own_kept x) ∙ gap);
-        free = λ a r x y found i gap same. f.free a r x y found i (sym (own_kept x) ∙ gap) (sym (kept_zone g v.contents in_use.volume c.blocks none a r found y) ∙ same);
-        differ = λ x y i j gap also same. f.differ x y i j (sym (own_kept x) ∙ gap) (sym (own_kept y) ∙ also) same;
-      }
+  free = free_marked v in_use n p at index enough
 
   abbrev u : OpenInode
   u = grown g in_use.sound c.blocks c.nodes n p volume.0 at t.taken (zeros 1024) (length-zeros 1024) index high free

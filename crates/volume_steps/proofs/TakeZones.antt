@@ -1,24 +1,28 @@
 -- The zones that a block without one takes: free zones of data, each for one hole on the way to the block.
-use Rattle.std.specs.Prelude.{◌≡◌, ℕ, ◌+◌, ◌-◌, ◌/◌, ◌<◌, ◌≤◌, nat_eq, nat_lt, Bool, true, false, if◌then◌else◌, List, [], ◌∷◌, ◌++◌, length, filter, Option, Some, refl}
+use Rattle.std.specs.Prelude.{◌≡◌, ℕ, ◌+◌, ◌-◌, ◌/◌, ◌<◌, ◌≤◌, nat_eq, nat_lt, Bool, true, false, if◌then◌else◌, List, [], ◌∷◌, ◌++◌, length, map, filter, Option, Some, refl}
 use Rattle.std.proofs.Common.{sym, ap, subst, ◌∙◌, inl, inr, ⊎_elim, arith}
 use Rattle.std.proofs.lemmas.Bool.{cases_Bool, eq-eqb, eqb-true, lt-ltb, le-ltb, ltb-false, true≢false}
 use Rattle.blk_base.specs.Members.{In}
 use Rattle.blk_base.specs.laws.Members.{In-append_left, In-append_right, In-append_cases, slice_get-length}
 use Rattle.minix_layout.specs.declared.inode.Inode.{Inode}
+use Rattle.tree_model.specs.Maps.{at_number}
 use Rattle.zone_maps.specs.declared.zone_state.ZoneState.{ZoneState}
 use Rattle.zone_maps.specs.declared.zone_state.ZoneState.TheVariants as states
 use Rattle.zone_maps.specs.Zones.{Zones, state_of, taken}
 use Rattle.zone_maps.specs.laws.States.{above_first, inside}
+use Rattle.volume_model.specs.declared.placed.Placed.{Placed}
 use Rattle.volume_model.specs.Volume.{Place, block, indirect, double, inner, zone_in}
 use Rattle.volume_model.specs.Ways.{way}
 use Rattle.volume_model.specs.MapBlock.{taken_at}
-use Rattle.volume_model.specs.Moves.{AreFree}
+use Rattle.volume_model.specs.Moves.{IsVolume, AreFree}
+use Rattle.volume_model.specs.Touched.{Contents}
 use Rattle.volume_model.specs.Plain.{HasZone}
 use Rattle.volume_model.specs.laws.OnWay.{way-direct, way-single, way-twice, way-past, on_way}
 use Rattle.volume_model.specs.laws.Ways.{direct, single, twice, past, range}
-use Rattle.volume_steps.specs.Now.{VolumeNow}
+use Rattle.volume_steps.specs.Now.{VolumeNow, written}
 use Rattle.volume_steps.specs.Plain.{IsInUse}
-use Rattle.volume_steps.specs.Zones.{TakenFor, next_zone, take_zones, lacks_outer, lacks_second, take_if, zone_if, numbers_if}
+use Rattle.volume_steps.specs.Zones.{TakenFor, next_zone, take_zones, zone_bit, lacks_outer, lacks_second, take_if, zone_if, numbers_if}
+use Rattle.volume_steps.proofs.Bits.{ChangesNone, bits_none, kept_zone, kept_volume}
 use Rattle.volume_steps.proofs.Taking.{frees, AreTaken, none_taken, one_taken, taken_then, AreApart, apart_parts}
 
 -- ---- zones that are taken where they are wanted
@@ -280,3 +284,30 @@ module _ (v : VolumeNow) (h : IsInUse v) (i : Inode) (index : ℕ) (enough : len
 
       range_of : (x : Place) → In x (way index) → own x ≡ 0 → (v.geometry.first ≤ taken_at taken_for.taken x) × (taken_at taken_for.taken x < v.geometry.zones)
       range_of x j none = numbers_are_zones (taken_at taken_for.taken x) (number_of x j none)
+
+-- The bits of the zones that are taken are written: the volume stays as it is, and the zones are free in it.
+module _ (v : VolumeNow) (h : IsInUse v) (n : ℕ) (p : Placed) (at : at_number v.contents.nodes n ≡ Some p) (index : ℕ)
+    (enough : length (take_zones (λ x. zone_in v.contents.blocks p.inode x) index v.zones).numbers ≤ frees v.zones) where
+  abbrev marked : Contents
+  marked = written v.geometry v.contents (map (zone_bit v.geometry true) (taken_for v h p.inode index enough).numbers)
+
+  pub marks_change_none : ChangesNone v.geometry v.contents.blocks marked.blocks
+  marks_change_none = bits_none v.geometry h.sound v.contents h.volume true (taken_for v h p.inode index enough).numbers (numbers_are_zones v h p.inode index enough)
+
+  pub volume_marked : IsVolume v.geometry marked
+  volume_marked = kept_volume v.geometry v.contents h.volume marked.blocks marks_change_none
+
+  pub own_marked : (x : Place) → zone_in marked.blocks p.inode x ≡ zone_in v.contents.blocks p.inode x
+  own_marked = kept_zone v.geometry v.contents h.volume marked.blocks marks_change_none n p at
+
+  pub free_marked : AreFree v.geometry marked.blocks marked.nodes p.inode (taken_for v h p.inode index enough).taken (way index)
+  free_marked =
+      let f = are_free v h p.inode index enough in
+      record {
+        some = λ x i gap. f.some x i (sym (own_marked x) ∙ gap);
+        low = λ x i gap. f.low x i (sym (own_marked x) ∙ gap);
+        high = λ x i gap. f.high x i (sym (own_marked x) ∙ gap);
+        fits = λ x i gap. f.fits x i (sym (own_marked x) ∙ gap);
+        free = λ a r x y found i gap same. f.free a r x y found i (sym (own_marked x) ∙ gap) (sym (kept_zone v.geometry v.contents h.volume marked.blocks marks_change_none a r found y) ∙ same);
+        differ = λ x y i j gap also same. f.differ x y i j (sym (own_marked x) ∙ gap) (sym (own_marked y) ∙ also) same;
+      }
