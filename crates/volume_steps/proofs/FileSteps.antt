@@ -1,7 +1,8 @@
 -- Steps on one file: what they keep of a volume, and how they hang together.
-use Rattle.std.specs.Prelude.{◌≡◌, ◌≢◌, ℕ, ◌+◌, ◌-◌, ◌≤◌, List, length, Some, refl}
+use Rattle.std.specs.Prelude.{◌≡◌, ◌≢◌, ℕ, ◌+◌, ◌-◌, ◌≤◌, List, length, Some, refl, ◌⊎◌}
 use Rattle.std.proofs.Common.{sym, ap, subst, ◌∙◌, inl, inr, arith}
 use Rattle.std.proofs.lemmas.Bool.{cases_eq}
+use Rattle.std.proofs.lemmas.List.{length-append}
 use Rattle.std.proofs.lemmas.Option.{same_Some}
 use Rattle.minix_layout.specs.declared.division.Geometry.{Geometry}
 use Rattle.tree_model.specs.declared.node.File.{File}
@@ -20,16 +21,17 @@ use Rattle.volume_model.specs.Touched.{Contents}
 use Rattle.volume_model.specs.Trees.{node_from, node_now}
 use Rattle.volume_model.specs.Volume.{Place, zone_in, IsPart, IsFilePart}
 use Rattle.zone_maps.specs.laws.Counts.{all_counted}
-use Rattle.volume_steps.specs.Now.{VolumeNow, Change, tree_of_now, unchanged}
+use Rattle.volume_steps.specs.Now.{VolumeNow, Change, tree_of_now, followed_by, unchanged}
 use Rattle.volume_steps.specs.Plain.{IsInUse}
 use Rattle.volume_steps.specs.Steps.{at_file}
 use Rattle.volume_steps.specs.laws.Steady.{IsSteady}
 use Rattle.volume_steps.proofs.NodeSteps.{IsSettled, AreSlotted, zones_settled}
 use Rattle.volume_steps.proofs.QuietSteps.{at_node_is}
 use Rattle.volume_steps.proofs.Taking.{frees, uses, waits}
-use Rattle.volume_steps.proofs.TreeSteps.{tree_back}
-use Rattle.volume_steps.proofs.Files.{file_now, node_is_file}
-use Rattle.volume_steps.proofs.Marked.{SameNumbers}
+use Rattle.volume_steps.proofs.TreeSteps.{tree_back, tree_in_order}
+use Rattle.volume_steps.proofs.Together.{ComesAfter, steady_then}
+use Rattle.volume_steps.proofs.Files.{file_now, node_is_file, put_twice}
+use Rattle.volume_steps.proofs.Marked.{SameNumbers, numbers_both}
 
 -- each directory is there as before
 abbrev pub KeepsDirectories : Contents → Contents → Type 0
@@ -76,6 +78,24 @@ at_file_is v n p zones change at is =
 -- a file that the tree has after a step stands at its birth
 pub file_stands : (tx : ℕ) (v : VolumeNow) (n : ℕ) (c : Change) (f : File) (Writes : ℕ → ℕ → Type 0) → IsFileStep tx v n c f Writes → at_number (tree_of_now c.volume) n ≡ Some (nodes.File f)
 file_stands tx v n c f Writes s = ap (λ tree. at_number tree n) s.tree ∙ at_put_number (tree_of_now v) n (nodes.File f)
+
+-- ---- one after the other
+
+module _ (tx : ℕ) (v : VolumeNow) (h : IsInUse v) (n : ℕ) (c d : Change) (f e : File) (Writes More : ℕ → ℕ → Type 0) (one : IsFileStep tx v n c f Writes) (two : IsFileStep tx c.volume n d e More) (after : ComesAfter v c.volume c.touched d.touched) where
+  pub file_step_then : IsFileStep tx v n (followed_by c (λ w. d)) e (λ birth index. Writes birth index ⊎ More birth index)
+  file_step_then = record {
+    steady = steady_then tx v c d Writes More one.steady two.steady after (inl one.numbers);
+    settled = λ old. two.settled (one.settled old);
+    slotted = λ old. two.slotted (one.slotted old);
+    tree = two.tree ∙ (ap (λ tree. put_number tree n (nodes.File e)) one.tree ∙ put_twice (tree_of_now v) n (nodes.File f) (nodes.File e) (tree_in_order v.contents.blocks v.contents.nodes h.volume.0.in_order));
+    waiting =
+        let a = one.waiting in
+        let b = two.waiting in
+        let all = length-append c.touched.freed d.touched.freed in
+        omega arith;
+    directories = λ a r e found file. one.directories a r e (two.directories a r e found file) file;
+    numbers = numbers_both v.contents.nodes c.volume.contents.nodes d.volume.contents.nodes one.numbers two.numbers;
+  }
 
 -- ---- free zones
 

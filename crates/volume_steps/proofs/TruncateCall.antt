@@ -28,15 +28,12 @@ use Rattle.volume_steps.specs.Plain.{IsInUse}
 use Rattle.volume_steps.specs.Steps.{clear_tail, cut_blocks, inode_put, put_page, resize, tells_node}
 use Rattle.volume_steps.proofs.Taking.{frees}
 use Rattle.volume_steps.proofs.CutStep.{IsCutStep, with_blocks_below, cut_blocks_step}
-use Rattle.volume_steps.proofs.FileSteps.{IsFileStep, IsFileAt, file_at, at_file_is, file_stands}
-use Rattle.volume_steps.proofs.Files.{bodies_in_order, maps_same, put_twice}
+use Rattle.volume_steps.proofs.FileSteps.{IsFileStep, IsFileAt, file_at, at_file_is, file_stands, file_step_then}
+use Rattle.volume_steps.proofs.Files.{bodies_in_order, maps_same}
 use Rattle.volume_steps.proofs.PageStep.{page_step, unchanged_step}
 use Rattle.volume_steps.proofs.ResizeStep.{with_file_size, resize_step}
-use Rattle.volume_steps.proofs.Together.{steady_then}
-use Rattle.volume_steps.proofs.TreeSteps.{tree_in_order}
 use Rattle.volume_steps.proofs.WriteCall.{at_path_is, IsFilePut, file_put}
 use Rattle.volume_steps.proofs.WriteSteps.{IsWriteStep, with_block, none_at, body_at, writes_then, write_as, same_in}
-use Rattle.volume_steps.proofs.Marked.{numbers_both}
 
 -- ---- entries below an index
 
@@ -239,24 +236,11 @@ module _ (tx : ℕ) (v : VolumeNow) (h : IsInUse v) (n : ℕ) (f : File) (found 
 
 module _ (tx : ℕ) (v : VolumeNow) (h : IsInUse v) (n from : ℕ) (c d : Change) (f e : File) (Writes : ℕ → ℕ → Type 0) (one : IsCutStep tx v n from c f) (two : IsWriteStep tx c.volume n d e Writes) (under : (birth index : ℕ) → Writes birth index → index < from) where
   pub cut_then : IsFileStep tx v n (followed_by c (λ w. d)) e (λ birth index. ⊥ ⊎ Writes birth index)
-  cut_then = record {
-    steady = steady_then tx v c d (λ birth index. ⊥) Writes one.step.steady two.step.steady (record {
-      not_dropped = λ x i j. same_in c.touched.pages one.no_pages x i;
-      not_written = λ x y i j same also. (let gone = one.dropped x i in let low = under y.birth y.index (two.step.steady.told.pages_are_written y j).1 in let high = gone.1 in omega arith);
-      not_new = λ zone i used. absurd (same_in d.touched.freed two.none_freed zone i);
-    }) (inl one.step.numbers);
-    settled = λ old. two.step.settled (one.step.settled old);
-    slotted = λ old. two.step.slotted (one.step.slotted old);
-    tree = two.step.tree ∙ (ap (λ tree. put_number tree n (nodes.File e)) one.step.tree ∙ put_twice (tree_of_now v) n (nodes.File f) (nodes.File e) (tree_in_order v.contents.blocks v.contents.nodes h.volume.0.in_order));
-    waiting =
-        let a = one.step.waiting in
-        let b = two.step.waiting in
-        let none : length d.touched.freed ≡ 0 = ap length two.none_freed in
-        let all = length-append c.touched.freed d.touched.freed in
-        omega arith;
-    directories = λ a r e found file. one.step.directories a r e (two.step.directories a r e found file) file;
-    numbers = numbers_both v.contents.nodes c.volume.contents.nodes d.volume.contents.nodes one.step.numbers two.step.numbers;
-  }
+  cut_then = file_step_then tx v h n c d f e (λ birth index. ⊥) Writes one.step two.step (record {
+    not_dropped = λ x i j. same_in c.touched.pages one.no_pages x i;
+    not_written = λ x y i j same also. (let gone = one.dropped x i in let low = under y.birth y.index (two.step.steady.told.pages_are_written y j).1 in let high = gone.1 in omega arith);
+    not_new = λ zone i used. absurd (same_in d.touched.freed two.none_freed zone i);
+  })
 
 -- ---- zones that stay
 

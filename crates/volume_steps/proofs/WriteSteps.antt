@@ -33,15 +33,14 @@ use Rattle.volume_steps.specs.Now.{VolumeNow, Change, tree_of_now, followed_by, 
 use Rattle.volume_steps.specs.Plain.{IsInUse}
 use Rattle.volume_steps.specs.Steps.{write_block, write_blocks, map_file_block, put_page}
 use Rattle.volume_steps.specs.Zones.{take_zones}
-use Rattle.volume_steps.proofs.FileSteps.{IsFileStep, IsFileAt, file_at, at_file_is, file_stands, all_zones}
+use Rattle.volume_steps.proofs.FileSteps.{IsFileStep, IsFileAt, file_at, at_file_is, file_stands, file_step_then, all_zones}
 use Rattle.volume_steps.proofs.Files.{bodies_in_order, file_zones_are, put_twice}
 use Rattle.volume_steps.proofs.MapStep.{mapped_step}
 use Rattle.volume_steps.proofs.PageStep.{page_step, unchanged_step}
 use Rattle.volume_steps.proofs.Taking.{frees, uses}
 use Rattle.volume_steps.proofs.TakeZones.{holes_counted}
-use Rattle.volume_steps.proofs.Together.{steady_as, steady_then}
+use Rattle.volume_steps.proofs.Together.{steady_as}
 use Rattle.volume_steps.proofs.TreeSteps.{tree_in_order, used_put_more}
-use Rattle.volume_steps.proofs.Marked.{numbers_both}
 
 -- ---- a block of the tree's file
 
@@ -228,31 +227,14 @@ module _ (tx : ℕ) (v : VolumeNow) (h : IsInUse v) (n : ℕ) (c d : Change) (f 
 
   pub writes_then : IsWriteStep tx v n both e (λ birth index. Writes birth index ⊎ More birth index)
   writes_then = record {
-    step = record {
-      steady = steady_then tx v c d Writes More one.step.steady two.step.steady (record {
-        not_dropped = λ x i j. same_in d.touched.dropped two.none_dropped x j;
-        not_written = λ x y i j same also. same_in c.touched.dropped one.none_dropped x i;
-        not_new = λ zone i used. absurd (same_in d.touched.freed two.none_freed zone i);
-      }) (inl one.step.numbers);
-      settled = λ old. two.step.settled (one.step.settled old);
-      slotted = λ old. two.step.slotted (one.step.slotted old);
-      tree = two.step.tree ∙ (ap (λ tree. put_number tree n (nodes.File e)) one.step.tree ∙ put_twice (tree_of_now v) n (nodes.File f) (nodes.File e) (tree_in_order v.contents.blocks v.contents.nodes h.volume.0.in_order));
-      waiting =
-          let a = one.step.waiting in
-          let b = two.step.waiting in
-          let none : length c.touched.freed ≡ 0 = ap length one.none_freed in
-          let none_too : length d.touched.freed ≡ 0 = ap length two.none_freed in
-          let all : length (c.touched.freed ++ d.touched.freed) ≡ 0 = ap length both_none in
-          omega arith;
-      directories = λ a r e found file. one.step.directories a r e (two.step.directories a r e found file) file;
-      numbers = numbers_both v.contents.nodes c.volume.contents.nodes d.volume.contents.nodes one.step.numbers two.step.numbers;
-    };
-    none_freed = both_none;
+    step = file_step_then tx v h n c d f e Writes More one.step two.step (record {
+      not_dropped = λ x i j. same_in d.touched.dropped two.none_dropped x j;
+      not_written = λ x y i j same also. same_in c.touched.dropped one.none_dropped x i;
+      not_new = λ zone i used. absurd (same_in d.touched.freed two.none_freed zone i);
+    });
+    none_freed = ap (λ (xs : List ℕ). xs ++ d.touched.freed) one.none_freed ∙ two.none_freed;
     none_dropped = ap (λ (xs : List Page). xs ++ d.touched.dropped) one.none_dropped ∙ two.none_dropped;
   }
-    where
-      both_none : c.touched.freed ++ d.touched.freed ≡ []
-      both_none = ap (λ (xs : List ℕ). xs ++ d.touched.freed) one.none_freed ∙ two.none_freed
 
 pub write_as : (tx : ℕ) (v : VolumeNow) (n : ℕ) (c : Change) (f : File) (Writes More : ℕ → ℕ → Type 0) → IsWriteStep tx v n c f Writes → ((birth index : ℕ) → Writes birth index → More birth index) → ((birth index : ℕ) → More birth index → Writes birth index) →
     IsWriteStep tx v n c f More
