@@ -10,7 +10,6 @@
 
 mod file_zones;
 mod laws;
-mod names;
 mod placed;
 
 pub use file_zones::FileZones;
@@ -19,5 +18,5 @@ pub use laws::{
     names_come_and_go, new_volumes_are_plain, nodes_come_and_go, nodes_stay,
     plain_images_can_change, plain_volumes_are_read_back, writes_are_read,
 };
-pub use names::NameMap;
 pub use placed::{DirectoryPart, Part, Placed};
+pub use tree_model::Names;

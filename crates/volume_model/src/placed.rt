@@ -1,14 +1,15 @@
 //! A node of a changeable volume, with its place in it.
-use crate::{FileZones, NameMap};
+use crate::FileZones;
 use dir_ops::Slots;
 use minix_layout::Inode;
+use tree_model::Names;
 
 /// A directory as it stands in a volume.
 #[derive(Drop)]
 pub struct DirectoryPart {
     pub parent: u64,
     /// Its names with the births of their nodes, but for `.` and `..`.
-    pub names: NameMap,
+    pub names: Names,
     /// Its slots as they stand in its blocks.
     pub slots: Slots,
 }

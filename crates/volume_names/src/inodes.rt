@@ -7,7 +7,8 @@ use blk_base::NoMemory;
 use dir_ops::Slots;
 use minix_layout::{Inode, Zones};
 use std::alloc::Global;
-use volume_model::{DirectoryPart, NameMap, Part, Placed};
+use tree_model::Names;
+use volume_model::{DirectoryPart, Part, Placed};
 use volume_now::{dot, dots};
 
 /// A regular file with the rights 644, of no bytes, with one link.
@@ -59,7 +60,7 @@ pub fn new_directory(
         inode: new_directory_inode(0),
         part: Part::Directory(DirectoryPart {
             parent,
-            names: NameMap::new(alloc),
+            names: Names::new(alloc),
             slots: Slots::of(slots),
         }),
     })

@@ -10,7 +10,7 @@ use minix_layout::{Geometry, Inode, Name, Slot, Zones};
 use std::alloc::Global;
 use std::collections::BTreeMap;
 use volume_edits::{put_inode, put_slot};
-use volume_model::{DirectoryPart, NameMap, Part, Placed};
+use volume_model::{DirectoryPart, Names, Part, Placed};
 use zone_maps::ZoneMap;
 
 /// A volume whose root is all that it has, in the first zone of data.
@@ -82,7 +82,7 @@ fn root(alloc: Global, g: &Geometry) -> Result<Placed, NoMemory>
         inode: root_inode(g),
         part: Part::Directory(DirectoryPart {
             parent: 0,
-            names: NameMap::new(alloc),
+            names: Names::new(alloc),
             slots: Slots::of(slots),
         }),
     })

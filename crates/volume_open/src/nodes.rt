@@ -11,20 +11,8 @@ use blk_base::NoMemory;
 use minix_layout::{Geometry, Inode};
 use std::alloc::Global;
 use std::collections::BTreeMap;
-use tree_model::Names;
-use volume_model::{DirectoryPart, FileZones, NameMap, Part, Placed};
+use volume_model::{DirectoryPart, FileZones, Part, Placed};
 use volume_ops::{Disk, Found, FoundNode, inode_at, inode_of_birth};
-
-// The names of a directory that may change.
-fn name_map(alloc: Global, names: &Names) -> Result<NameMap, NoMemory>
-    ensures { IfOk result (λ map. map ≡ names.now) }
-{
-    let mut map = NameMap::new(alloc);
-    for (name, birth) in names.as_map() {
-        map.put(name.copy(), *birth)?;
-    }
-    Ok(map)
-}
 
 fn part_found(alloc: Global, disk: &Disk, inode: &Inode, found: Found) -> Result<Part, NoMemory>
     requires { HasOrder found }
@@ -33,7 +21,7 @@ fn part_found(alloc: Global, disk: &Disk, inode: &Inode, found: Found) -> Result
     match found {
         Found::Directory(directory) => Ok(Part::Directory(DirectoryPart {
             parent: directory.parent,
-            names: name_map(alloc, &directory.names)?,
+            names: directory.names,
             slots: slots_in(alloc, disk, inode)?,
         })),
         Found::File(file) => Ok(Part::File(FileZones::of(file.zones.into_vec()))),

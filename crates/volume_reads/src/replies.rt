@@ -12,8 +12,8 @@ use crate::pieces::bytes_between;
 use blk_base::{Image, NoMemory};
 use minix_layout::Inode;
 use std::alloc::Global;
-use tree_model::{ByteList, NameList, Reply};
-use volume_model::{FileZones, NameMap, Part, Placed};
+use tree_model::{ByteList, NameList, Names, Reply};
+use volume_model::{FileZones, Part, Placed};
 use volume_now::VolumeNow;
 
 // The bytes of a file, up to its size.
@@ -34,7 +34,7 @@ fn file_bytes(
 }
 
 // The names in order.
-fn names_in_order(alloc: Global, names: &NameMap) -> Result<NameList, NoMemory>
+fn names_in_order(alloc: Global, names: &Names) -> Result<NameList, NoMemory>
     ensures { IfOk result (λ list. list ≡ keys_of names.now) }
 {
     let mut list = NameList::new(alloc);

@@ -9,8 +9,8 @@ ghost use Rattle.volume_steps.specs.Plain.{IsPlainNow};
 
 use blk_base::{Block, Image, NoMemory};
 use std::alloc::Global;
-use tree_model::{Directory, File, FileBlocks, Names, Node, Tree};
-use volume_model::{FileZones, NameMap, Part, Placed};
+use tree_model::{Directory, File, FileBlocks, Node, Tree};
+use volume_model::{FileZones, Part, Placed};
 use volume_now::VolumeNow;
 
 // The bytes of a zone; zeros behind the last block.
@@ -36,17 +36,6 @@ fn bodies(alloc: Global, blocks: &Image, zones: &FileZones) -> Result<FileBlocks
     Ok(bodies)
 }
 
-// The names of a directory again.
-fn names_copied(alloc: Global, names: &NameMap) -> Result<Names, NoMemory>
-    ensures { IfOk result (λ copy. copy ≡ names.now) }
-{
-    let mut copy = Names::new(alloc);
-    for (name, birth) in names.as_map() {
-        copy.put(name.copy(), *birth)?;
-    }
-    Ok(copy)
-}
-
 fn node(alloc: Global, blocks: &Image, placed: &Placed) -> Result<Node, NoMemory>
     requires { IsPart blocks.now placed.now.inode placed.now.part }
     ensures { IfOk result (λ node. node ≡ node_now blocks.now placed.now) }
@@ -55,7 +44,7 @@ fn node(alloc: Global, blocks: &Image, placed: &Placed) -> Result<Node, NoMemory
         Part::Directory(directory) => Ok(Node::Directory(Directory {
             parent: directory.parent,
             slots: placed.inode.size / 16,
-            names: names_copied(alloc, &directory.names)?,
+            names: directory.names.copy(alloc)?,
         })),
         Part::File(zones) => Ok(Node::File(File {
             size: placed.inode.size,

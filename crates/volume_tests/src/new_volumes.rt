@@ -14,10 +14,10 @@ use script_words::words;
 use std::alloc::Global;
 use std::collections::BTreeMap;
 use std::process::Abort;
-use tree_model::{ByteList, Call, Reply, put_tree};
+use tree_model::{ByteList, Call, Names, Reply, put_tree};
 use volume_calls::{PlainVolume, volumes_are_plain};
 use volume_edits::{put_inode, put_slot};
-use volume_model::{DirectoryPart, NameMap, Part, Placed};
+use volume_model::{DirectoryPart, Part, Placed};
 use volume_now::VolumeNow;
 use volume_steps::new_volumes_are_in_use;
 use zone_maps::ZoneMap;
@@ -75,7 +75,7 @@ fn root(rt: &impl Abort, alloc: Global, g: &Geometry) -> Placed
         inode: root_inode(g),
         part: Part::Directory(DirectoryPart {
             parent: 0,
-            names: NameMap::new(alloc),
+            names: Names::new(alloc),
             slots: Slots::of(slots),
         }),
     }
