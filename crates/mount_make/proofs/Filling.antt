@@ -3,6 +3,7 @@ use Rattle.std.specs.Prelude.{◌≡◌, ℕ, suc, ◌+◌, ◌-◌, ◌<◌, Li
 use Rattle.std.specs.List.{range_with_len}
 use Rattle.std.proofs.Common.{sym, ap, subst, ◌∙◌, ⊎_elim, arith, length-set, length-append}
 use Rattle.std.proofs.lemmas.Bool.{cases_order}
+use Rattle.std.proofs.lemmas.List.{length-replicate}
 use Rattle.std.proofs.lemmas.List.FromFn.{get_or-map-range_with_len, length-map-range_with_len}
 use Rattle.blk_base.specs.Block.{filled}
 use Rattle.blk_base.specs.Image.{zeros}
@@ -12,7 +13,6 @@ use Rattle.journal_blocks.specs.Super.{super_block as journal_super}
 use Rattle.journal_replay.specs.laws.Attempts.{body_at-some}
 use Rattle.mount_make.specs.Made.{new_journal, made_block, made_volume, made_image}
 use Rattle.mount_make.specs.code.Making.{IsFilled}
-use Rattle.mount_make.proofs.NewBlocks.{blank_length}
 
 get_mapped : (f : ℕ → List ℕ) (n i : ℕ) → i < n → slice_get (map f (range_with_len 0 n)) i ≡ Some (f i)
 get_mapped f n i low =
@@ -31,7 +31,7 @@ get_made g b low = get_mapped (made_block g) g.zones b low
 pub length-image : (g : Geometry) (journal : ℕ) → 0 < journal → length (made_image g journal) ≡ g.zones + journal
 length-image g journal some =
     let size = length-made g in
-    let rest = blank_length (journal - 1) (filled 0) in
+    let rest = length-replicate (journal - 1) (filled 0) in
     let all = length-append (made_volume g) (journal_super (new_journal journal) ∷ replicate (journal - 1) (filled 0)) in
     omega (arith, size, rest, all, some)
 
@@ -59,7 +59,7 @@ get_blank g journal b low high =
 pub made_is : (g : Geometry) (journal : ℕ) (image : List (List ℕ)) → 0 < journal → IsFilled (made_block g) g.zones (zeros (g.zones + journal)) image → slice_set image g.zones (journal_super (new_journal journal)) ≡ made_image g journal
 made_is g journal image some is =
     let first = journal_super (new_journal journal) in
-    let long : length image ≡ g.zones + journal = is.size ∙ blank_length (g.zones + journal) (filled 0) in
+    let long : length image ≡ g.zones + journal = is.size ∙ length-replicate (g.zones + journal) (filled 0) in
     let size = length-set image g.zones first in
     same_by_slice_get (slice_set image g.zones first) (made_image g journal) (size ∙ (long ∙ sym (length-image g journal some)))
     (λ b low.

@@ -1,13 +1,11 @@
 -- A volume that was made is a new one: plain, with its root alone.
 use Rattle.std.specs.Prelude.{◌≡◌, ◌≢◌, ℕ, zero, suc, ◌+◌, ◌-◌, ◌*◌, ◌/◌, ◌<◌, ◌≤◌, ◌==◌, ◌&&◌, Bool, true, false, nat_lt, nat_le, if◌then◌else◌, List, [], ◌∷◌, length, Option, Some, Result, Ok, refl}
 use Rattle.std.specs.List.{slice_get}
-use Rattle.std.specs.BTreeMap.{is_at}
-use Rattle.std.specs.Ordering.{nat_cmp}
-use Rattle.std.proofs.Common.{sym, ap, subst, ◌∙◌, inl, inr, ⊎_elim, arith}
-use Rattle.std.proofs.lemmas.Bool.{cases_Bool, cases_lt, ne_eqb, true≢false}
-use Rattle.std.proofs.lemmas.List.{get_or_past}
+use Rattle.std.proofs.Common.{sym, ap, subst, ◌∙◌, ⊎_elim, arith}
+use Rattle.std.proofs.lemmas.Bool.{cases_lt, ne_eqb, true≢false}
+use Rattle.std.proofs.lemmas.List.{get_or_past, length-replicate}
 use Rattle.std.proofs.lemmas.List.FromFn.{length-map-range_with_len}
-use Rattle.std.proofs.lemmas.Option.{none-some, same_Some}
+use Rattle.std.proofs.lemmas.Option.{none-some}
 use Rattle.blk_base.specs.Block.{filled}
 use Rattle.byte_fields.specs.Fields.{zeros}
 use Rattle.byte_fields.specs.Fields.Order.{little}
@@ -21,9 +19,8 @@ use Rattle.journal_replay.specs.laws.Attempts.{body_at-some}
 use Rattle.tree_model.specs.declared.node.Node.{Node}
 use Rattle.tree_model.specs.declared.node.Node.TheVariants as nodes
 use Rattle.tree_model.specs.declared.node.Directory.{Directory}
-use Rattle.tree_model.specs.Maps.{at_number, at_name}
+use Rattle.tree_model.specs.Maps.{at_number}
 use Rattle.tree_model.specs.Paths.{is_dot}
-use Rattle.tree_model.specs.laws.MapsLaws.{number_same}
 use Rattle.tree_model.specs.laws.Listing.{HasEntry, IsRooted}
 use Rattle.tree_model.specs.Trees.{directory_links}
 use Rattle.tree_model.specs.Plain.{names_to}
@@ -38,16 +35,17 @@ use Rattle.volume_model.specs.Ways.{IsJust}
 use Rattle.volume_model.specs.Trees.{directory_from, tree_now}
 use Rattle.volume_model.specs.Touched.{Contents}
 use Rattle.volume_model.specs.Plain.{IsPlainContents}
-use Rattle.volume_model.specs.NewVolume.{dot_slot, dots_slot, root_inode, root_placed, new_blocks, new_volume}
+use Rattle.volume_model.specs.NewVolume.{dot_slot, dots_slot, root_inode, root_placed, new_blocks, new_volume, root_directory, root_alone}
 use Rattle.volume_model.specs.laws.Zones.{zones_kept}
 use Rattle.volume_model.specs.laws.Written.{stored_kept}
-use Rattle.mount_make.specs.Made.{map_byte, map_block, made_block, made_volume, root_alone}
-use Rattle.mount_make.proofs.NewBlocks.{blank_length, new_other, made_behind}
+use Rattle.volume_model.proofs.NewVolumes.{only_placed, only_node, no_name}
+use Rattle.mount_make.specs.Made.{map_byte, map_block, made_block, made_volume}
+use Rattle.mount_make.proofs.NewBlocks.{new_other, made_behind}
 use Rattle.mount_make.proofs.Filling.{length-made, get_made}
 
 length_blank : length (filled 0) ≡ 1024
 unfolding filled
-length_blank = blank_length {X = ℕ} 1024 0
+length_blank = length-replicate {A = ℕ} 1024 0
 
 length_map : (last n : ℕ) → length (map_block last n) ≡ 1024
 unfolding map_block
@@ -64,41 +62,12 @@ length_one false true third a b c d e f g h = f
 length_one false false true a b c d e f g h = g
 length_one false false false a b c d e f g h = h
 
--- the parent of a directory
-abbrev the_root : Directory
-the_root = record { parent = 0; slots = 2; names = [] }
-
 abbrev placed : Geometry → List (ℕ × Placed)
 placed g = (0, root_placed g) ∷ []
 
 -- the volume, as one that can change
 abbrev pub made_contents : Geometry → Contents
 made_contents g = record { blocks = made_volume g; nodes = placed g }
-
-only : (g : Geometry) (b : ℕ) (p : Placed) → at_number (placed g) b ≡ Some p → (b ≡ 0) × (root_placed g ≡ p)
-only g b p at =
-    elim (cases_Bool (is_at (nat_cmp b) 0)) [
-      | inl t ↦ (number_same b 0 t, same_Some (root_placed g) p (rw t at at))
-      | inr u ↦ absurd (none-some p (rw u at at))
-    ]
-
-only_node : (b : ℕ) (n : Node) → at_number root_alone b ≡ Some n → (b ≡ 0) × (nodes.Directory the_root ≡ n)
-only_node b n at =
-    elim (cases_Bool (is_at (nat_cmp b) 0)) [
-      | inl t ↦ (number_same b 0 t, same_Some (nodes.Directory the_root) n (rw t at at))
-      | inr u ↦ absurd (none-some n (rw u at at))
-    ]
-
-names_in : Node → List (List ℕ × ℕ)
-names_in (nodes.Directory d) = d.names
-names_in (nodes.File f) = []
-names_in (nodes.Other mode) = []
-
-no_name : (parent : ℕ) (name : List ℕ) (b : ℕ) → HasEntry root_alone parent name b → ⊥
-unfolding names_in
-no_name parent name b gives =
-    let e : [] ≡ gives.directory.names = ap names_in (only_node parent (nodes.Directory gives.directory) gives.stands).1 in
-    none-some b (ap (λ (names : List (List ℕ × ℕ)). at_name names name) e ∙ gives.named)
 
 tree_of_root : (blocks : List (List ℕ)) (g : Geometry) → tree_now blocks (placed g) ≡ root_alone
 unfolding tree_now
@@ -154,14 +123,14 @@ module _ (g : Geometry) (sound : IsSound g) (new : IsPlainContents g (new_volume
   stored = stored_kept g (new_blocks g) (made_volume g) (root_placed g) stored_before inode_is zone_same
 
   zones_of : (b : ℕ) (p : Placed) → at_number (placed g) b ≡ Some p → (x : Place) → zone_in (made_volume g) p.inode x ≡ zone_in (new_blocks g) p.inode x
-  zones_of b p at = subst (λ (p : Placed). (x : Place) → zone_in (made_volume g) p.inode x ≡ zone_in (new_blocks g) p.inode x) (only g b p at).1 zones_are
+  zones_of b p at = subst (λ (p : Placed). (x : Place) → zone_in (made_volume g) p.inode x ≡ zone_in (new_blocks g) p.inode x) (only_placed g b p at).1 zones_are
 
   volume_of : IsVolumeOf g (made_volume g) (placed g)
   volume_of = record {
     whole = whole;
     size = length-made g;
     in_order = new.volume.0.in_order;
-    each = λ b p at. subst (IsStored g (made_volume g)) (only g b p at).1 stored;
+    each = λ b p at. subst (IsStored g (made_volume g)) (only_placed g b p at).1 stored;
     names = new.volume.0.names;
     numbers = new.volume.0.numbers;
     zones = λ a b p q x y at to e some.
@@ -213,7 +182,7 @@ module _ (g : Geometry) (sound : IsSound g) (new : IsPlainContents g (new_volume
   slot_names (suc zero) s low is = ap (λ (s : Slot). is_dot s.name) (sym (same_slot dots_slot s (sym (slot_at 1 (Some dots_slot) refl) ∙ is)))
   slot_names (suc (suc k)) s low is = absurd (omega (arith, low))
 
-  root_is : IsDirectoryOf (made_volume g) (root_inode g) the_root
+  root_is : IsDirectoryOf (made_volume g) (root_inode g) root_directory
   root_is = record {
     kind = refl;
     slots = refl;
@@ -226,12 +195,12 @@ module _ (g : Geometry) (sound : IsSound g) (new : IsPlainContents g (new_volume
   node_is : (b : ℕ) (n : Node) → at_number root_alone b ≡ Some n → IsNodeOf (made_volume g) (inode_at g (made_volume g) 1) n
   node_is b n at =
       subst (λ (n : Node). IsNodeOf (made_volume g) (inode_at g (made_volume g) 1) n) (only_node b n at).1
-      (subst (λ i. IsDirectoryOf (made_volume g) i the_root) (sym stored.inode) root_is)
+      (subst (λ i. IsDirectoryOf (made_volume g) i root_directory) (sym stored.inode) root_is)
 
   fields : IsTreeOf g (made_volume g) root_alone
   fields = record {
     each = λ b n at. subst (λ (k : ℕ). IsNodeOf (made_volume g) (inode_at g (made_volume g) (inode_of_birth k)) n) (sym (only_node b n at).0) (node_is b n at);
-    root = (the_root, refl, refl);
+    root = (root_directory, refl, refl);
     leads = λ parent name b gives. absurd (no_name parent name b gives);
     has_name = λ b n at some. absurd (some (only_node b n at).0);
     one_name = λ parent other name more b d gives given at. absurd (no_name parent name b gives);
@@ -242,5 +211,5 @@ module _ (g : Geometry) (sound : IsSound g) (new : IsPlainContents g (new_volume
     faultless = faultless;
     fields = fields;
     rooted = subst IsRooted (tree_of_root (made_volume g) g) made_plain.rooted;
-    blocks_in_order = λ b f at. absurd (let e : nodes.Directory the_root ≡ nodes.File f = (only_node b (nodes.File f) at).1 in cc);
+    blocks_in_order = λ b f at. absurd (let e : nodes.Directory root_directory ≡ nodes.File f = (only_node b (nodes.File f) at).1 in cc);
   }

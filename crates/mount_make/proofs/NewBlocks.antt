@@ -1,7 +1,8 @@
 -- The blocks of a new volume, one by one.
-use Rattle.std.specs.Prelude.{◌≡◌, ◌≢◌, ℕ, zero, suc, ◌+◌, ◌-◌, ◌*◌, ◌<◌, ◌≤◌, List, length, replicate, Some, refl}
+use Rattle.std.specs.Prelude.{◌≡◌, ◌≢◌, ℕ, zero, suc, ◌+◌, ◌-◌, ◌*◌, ◌<◌, ◌≤◌, List, replicate, Some, refl}
 use Rattle.std.proofs.Common.{sym, ap, ◌∙◌, arith}
 use Rattle.std.proofs.lemmas.Bool.{ne_eqb, lt-ltb, le-ltb, lt-leb, le-leb}
+use Rattle.std.proofs.lemmas.List.{length-replicate}
 use Rattle.blk_base.specs.Block.{filled}
 use Rattle.byte_fields.specs.Fields.{put_record}
 use Rattle.minix_layout.specs.declared.division.Geometry.{Geometry}
@@ -22,10 +23,6 @@ blank_at zero b = refl
 blank_at (suc n) zero = refl
 blank_at (suc n) (suc b) = blank_at n b
 
-pub blank_length : {X : Type 0} (n : ℕ) (x : X) → length (replicate n x) ≡ n
-blank_length zero x = refl
-blank_length (suc n) x = let more = blank_length n x in omega (arith, more)
-
 module _ (g : Geometry) (sound : IsSound g) where
   abbrev blank : List (List ℕ)
   blank = replicate g.zones (filled 0)
@@ -44,7 +41,7 @@ module _ (g : Geometry) (sound : IsSound g) where
   new_table =
       let low = sound.tables_below in
       let high = sound.some_zone in
-      let size = blank_length g.zones (filled 0) in
+      let size = length-replicate g.zones (filled 0) in
       edited_elsewhere g with_dot (put_slot g.first 1 (Some dots_slot)) (table_block g 1) table_differs
       ∙ (edited_elsewhere g with_inode (put_slot g.first 0 (Some dot_slot)) (table_block g 1) table_differs
       ∙ (edited_here g blank (put_inode 1 (root_inode g)) (omega (arith, low, high, size))
@@ -54,7 +51,7 @@ module _ (g : Geometry) (sound : IsSound g) where
   unfolding root_zone
   new_first =
       let high = sound.some_zone in
-      let size = blank_length g.zones (filled 0) in
+      let size = length-replicate g.zones (filled 0) in
       let more = length-edited g blank (put_inode 1 (root_inode g)) in
       let all = length-edited g with_inode (put_slot g.first 0 (Some dot_slot)) in
       edited_here g with_dot (put_slot g.first 1 (Some dots_slot)) (omega (arith, high, size, more, all))

@@ -1,13 +1,11 @@
 -- The image of a new volume and an empty journal.
-use Rattle.std.specs.Prelude.{ℕ, ◌+◌, ◌-◌, ◌*◌, ◌^◌, ◌==◌, ◌&&◌, nat_lt, nat_le, min, if◌then◌else◌, List, [], ◌∷◌, ◌++◌, map, replicate}
+use Rattle.std.specs.Prelude.{ℕ, ◌+◌, ◌-◌, ◌*◌, ◌^◌, ◌==◌, ◌&&◌, nat_lt, nat_le, min, if◌then◌else◌, List, ◌∷◌, ◌++◌, map, replicate}
 use Rattle.std.specs.List.{range_with_len}
 use Rattle.blk_base.specs.Block.{filled}
 use Rattle.minix_layout.specs.declared.division.Geometry.{Geometry}
 use Rattle.minix_layout.specs.Super.{super_block as volume_super}
 use Rattle.journal_blocks.specs.declared.super_block.JournalSuper.{JournalSuper}
 use Rattle.journal_blocks.specs.Super.{super_block as journal_super}
-use Rattle.tree_model.specs.declared.node.Node.{Node}
-use Rattle.tree_model.specs.declared.node.Node.TheVariants as nodes
 use Rattle.volume_ops.specs.Volume.{disk_of}
 use Rattle.volume_model.specs.NewVolume.{new_blocks}
 
@@ -39,7 +37,3 @@ new_journal blocks = record { maxlen = blocks; first = 1; sequence = 1; start = 
 -- the volume, and behind it the journal, of zeros but for its superblock
 abbrev pub made_image : Geometry → ℕ → List (List ℕ)
 made_image g journal = made_volume g ++ journal_super (new_journal journal) ∷ replicate (journal - 1) (filled 0)
-
--- the root alone, with two slots
-abbrev pub root_alone : List (ℕ × Node)
-root_alone = (0, nodes.Directory (record { parent = 0; slots = 2; names = [] })) ∷ []

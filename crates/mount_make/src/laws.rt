@@ -11,13 +11,13 @@ ghost use Rattle.volume_ops.specs.FirstFault.{IsFirstFault};
 ghost use Rattle.mount_make.specs.declared.fault.ImageFault.{ImageFault};
 ghost use Rattle.mount_make.specs.Images.{divided, image_fault, fault_in_journal, volume_in, journal_at, recovered_image, mounted, image_tree};
 ghost use Rattle.mount_make.specs.ImageTrees.{IsImageTree, AgreeOnImage};
-ghost use Rattle.mount_make.specs.Made.{new_journal, made_image, root_alone};
+ghost use Rattle.mount_make.specs.Made.{new_journal, made_image};
 ghost use Rattle.minix_layout.specs.declared.bits.BitPlace.{BitPlace};
 ghost use Rattle.minix_layout.specs.Geometry.{IsSound};
 ghost use Rattle.minix_layout.specs.Bits.{inode_bit, zone_bit, has_bit};
 ghost use Rattle.volume_ops.specs.Volume.{disk_of};
 ghost use Rattle.volume_model.specs.Plain.{IsPlainVolume};
-ghost use Rattle.volume_model.specs.NewVolume.{new_blocks};
+ghost use Rattle.volume_model.specs.NewVolume.{new_blocks, root_alone};
 
 use volume_model::{new_volumes_are_plain, plain_volumes_are_read_back};
 

@@ -1,6 +1,6 @@
 -- What a power cut leaves of a session on an image that was made: volume and journal are found, the log is read, and recovery
 -- and mounting find no fault.
-use Rattle.std.specs.Prelude.{◌≡◌, ◌≢◌, ℕ, suc, ◌+◌, ◌-◌, ◌^◌, ◌<◌, ◌≤◌, ◌==◌, nat_lt, if◌then◌else◌, Bool, true, List, [], ◌∷◌, map, length, replicate, slice_get, None, Result, Ok, Err, refl}
+use Rattle.std.specs.Prelude.{◌≡◌, ◌≢◌, ℕ, suc, ◌+◌, ◌-◌, ◌^◌, ◌<◌, ◌≤◌, ◌==◌, if◌then◌else◌, Bool, true, List, [], ◌∷◌, map, length, replicate, slice_get, None, Result, Ok, Err, refl}
 use Rattle.std.specs.List.{range_with_len}
 use Rattle.std.proofs.Common.{sym, ap, subst, ◌∙◌, inr, ⊎_elim, arith, eq-eqb}
 use Rattle.std.proofs.lemmas.Bool.{cases_lt, ne_eqb}
@@ -10,9 +10,7 @@ use Rattle.blk_base.specs.Members.{In}
 use Rattle.blk_base.specs.laws.Members.{In-append_cases, slice_get-append_right, slice_get-in_range, slice_get-length, slice_get-replicate}
 use Rattle.byte_fields.specs.Fields.{number_at, number_of}
 use Rattle.minix_layout.specs.declared.division.Geometry.{Geometry}
-use Rattle.minix_layout.specs.declared.fault.LayoutFault.{LayoutFault}
 use Rattle.minix_layout.specs.Geometry.{IsSound}
-use Rattle.minix_layout.specs.Super.{super_of as volume_super}
 use Rattle.order_model.specs.declared.note.Note.TheVariants.{Super, Home}
 use Rattle.order_model.specs.OrderClosed.{IsOrderClosed}
 use Rattle.log_model.specs.Log as model
@@ -56,28 +54,16 @@ use Rattle.host_volume.specs.Runs.{HasTreeLike, KeepsSession, tree_after_transac
 use Rattle.host_volume.specs.Sessions.{Opening, over, Stands}
 use Rattle.host_volume.proofs.RealJournal.{no_header}
 use Rattle.host_volume.proofs.SessionsKept.{session_kept}
-use Rattle.mount_make.specs.declared.fault.ImageFault.TheVariants.{BadGeometry}
-use Rattle.mount_make.specs.Images.{FaultPlace, by_super as divided_by, divided, has_journal, fault_in_journal, recovered_from, volume_in, mounted, recovered_by, recovered_image, tree_after, image_tree}
+use Rattle.mount_make.specs.Images.{FaultPlace, divided, has_journal, fault_in_journal, recovered_from, volume_in, mounted, recovered_by, recovered_image, tree_after, image_tree}
 use Rattle.mount_make.specs.Made.{new_journal, made_volume, made_image}
 use Rattle.mount_make.specs.laws.ImageLaws.{image_has_tree}
-use Rattle.mount_make.specs.laws.Recovering.{is_super, has_super, emptied-at, found_fine, found_recovered}
+use Rattle.mount_make.specs.laws.Recovering.{is_super, has_super, emptied-at, found_fine, found_recovered, same_divided}
 use Rattle.mount_make.proofs.Filling.{length-made, length-image, get_journal}
 use Rattle.made_sessions.specs.MadeSessions.{made_opening, made_ring}
 use Rattle.host_runs.proofs.Numbers.{commit_far}
 use Rattle.session_images.proofs.JournalSupers.{IsClean, places_fit, super_as, tail_is, ring_by, range_in, not_faulty, clean_by}
 use Rattle.session_images.proofs.ReadableRuns.{IsKeptRun}
 use Rattle.session_images.proofs.ReadableSteps.{sent_body}
-
--- ---- images of one size with the same superblock
-
-same_whole : (old new : List (List ℕ)) → length new ≡ length old → (r : Result Geometry LayoutFault) → divided_by new r ≡ divided_by old r
-same_whole old new size (Ok g) = rw size refl
-same_whole old new size (Err fault) = refl
-
-same_divided : (old new : List (List ℕ)) → length new ≡ length old → disk_of new 1 ≡ disk_of old 1 → divided new ≡ divided old
-unfolding divided
-same_divided old new size one =
-    rw size (ap (λ (r : Result Geometry FaultPlace). if nat_lt (length old) 2 then Err (BadGeometry, length old) else r) (ap (λ (b : List ℕ). divided_by new (volume_super b)) one ∙ same_whole old new size (volume_super (disk_of old 1))))
 
 blank_magic : magic_of (filled 0) ≢ 0xC03B3998
 unfolding filled number_at number_of

@@ -8,5 +8,5 @@ mod Bytes
 pub mod ImageSlots
 mod FromImages
 mod MovedSums
-mod NewVolumes
+pub mod NewVolumes
 pub mod FoundNodes

@@ -7,6 +7,7 @@ use Rattle.std.specs.Map.{keys_of}
 use Rattle.std.specs.Ordering.{nat_cmp}
 use Rattle.std.proofs.Common.{sym, ap, subst, ◌∙◌, inl, inr, arith}
 use Rattle.std.proofs.lemmas.Bool.{cases_Bool, true≢false}
+use Rattle.std.proofs.lemmas.List.{length-replicate}
 use Rattle.std.proofs.lemmas.Option.{none-some, same_Some}
 use Rattle.blk_base.specs.Block.{filled}
 use Rattle.byte_fields.specs.Fields.{record_at}
@@ -18,7 +19,6 @@ use Rattle.minix_layout.specs.Inodes.{FitInode}
 use Rattle.minix_layout.specs.Slots.{slot_of, IsEntry}
 use Rattle.tree_model.specs.declared.node.Node.{Node}
 use Rattle.tree_model.specs.declared.node.Node.TheVariants as nodes
-use Rattle.tree_model.specs.declared.node.Directory.{Directory}
 use Rattle.tree_model.specs.Maps.{at_number, at_name, name_cmp}
 use Rattle.tree_model.specs.laws.MapsLaws.{number_same}
 use Rattle.tree_model.specs.Paths.{is_dot}
@@ -35,16 +35,12 @@ use Rattle.volume_model.specs.Ways.{OnWay, IsJust}
 use Rattle.volume_model.specs.Moves.{IsVolume}
 use Rattle.volume_model.specs.Trees.{directory_from, tree_now}
 use Rattle.volume_model.specs.Plain.{HasDots, HasSlotZones, IsPlainContents}
-use Rattle.volume_model.specs.NewVolume.{dot_slot, dots_slot, root_inode, root_placed, new_blocks, new_volume}
+use Rattle.volume_model.specs.NewVolume.{dot_slot, dots_slot, root_inode, root_placed, new_blocks, new_volume, root_directory, root_alone}
 use Rattle.volume_model.specs.Changes.{Changes}
 use Rattle.volume_model.specs.laws.Changes.{changes_inode, changes_slot, table_below}
 use Rattle.volume_model.specs.laws.Edits.{inode_here, slot_here, slot_elsewhere}
 use Rattle.volume_model.specs.laws.FirstZone.{same_blank, no_number, first_index, own_first as first_own, first_of as first_place}
 use Rattle.volume_model.proofs.Nodes.{same_directory}
-
-blank_length : {X : Type 0} (n : ℕ) (x : X) → length (replicate n x) ≡ n
-blank_length zero x = refl
-blank_length (suc n) x = let more = blank_length n x in omega (arith, more)
 
 dots_differ : codes "." ≡ codes ".." → ⊥
 dots_differ e = let n : length (codes ".") ≡ length (codes "..") = ap length e in omega arith
@@ -66,6 +62,33 @@ two_by : (P : ℕ → Option Slot → Type 0) → P 0 (Some dot_slot) → P 1 (S
 two_by P first second zero s at = subst (P 0) (same_Some (Some dot_slot) s at) first
 two_by P first second (suc zero) s at = subst (P 1) (same_Some (Some dots_slot) s at) second
 two_by P first second (suc (suc k)) s at = absurd (none-some s at)
+
+-- ---- its one node
+
+pub only_placed : (g : Geometry) (b : ℕ) (p : Placed) → at_number ((0, root_placed g) ∷ []) b ≡ Some p → (b ≡ 0) × (root_placed g ≡ p)
+only_placed g b p at =
+    elim (cases_Bool (is_at (nat_cmp b) 0)) [
+      | inl t ↦ (number_same b 0 t, same_Some (root_placed g) p (rw t at at))
+      | inr u ↦ absurd (none-some p (rw u at at))
+    ]
+
+pub only_node : (b : ℕ) (n : Node) → at_number root_alone b ≡ Some n → (b ≡ 0) × (nodes.Directory root_directory ≡ n)
+only_node b n at =
+    elim (cases_Bool (is_at (nat_cmp b) 0)) [
+      | inl t ↦ (number_same b 0 t, same_Some (nodes.Directory root_directory) n (rw t at at))
+      | inr u ↦ absurd (none-some n (rw u at at))
+    ]
+
+names_in : Node → List (List ℕ × ℕ)
+names_in (nodes.Directory d) = d.names
+names_in (nodes.File f) = []
+names_in (nodes.Other mode) = []
+
+pub no_name : (parent : ℕ) (name : List ℕ) (b : ℕ) → HasEntry root_alone parent name b → ⊥
+unfolding names_in
+no_name parent name b gives =
+    let e : [] ≡ gives.directory.names = ap names_in (only_node parent (nodes.Directory gives.directory) gives.stands).1 in
+    none-some b (ap (λ (names : List (List ℕ × ℕ)). at_name names name) e ∙ gives.named)
 
 module _ (g : Geometry) (sound : IsSound g) where
   abbrev root : Inode
@@ -89,10 +112,10 @@ module _ (g : Geometry) (sound : IsSound g) where
 
   blank_whole : IsWhole blank
   unfolding filled
-  blank_whole b = ap length (same_blank g.zones b (filled 0)) ∙ blank_length {X = ℕ} 1024 0
+  blank_whole b = ap length (same_blank g.zones b (filled 0)) ∙ length-replicate {A = ℕ} 1024 0
 
   blank_size : length blank ≡ g.zones
-  blank_size = blank_length g.zones (filled 0)
+  blank_size = length-replicate g.zones (filled 0)
 
   first_changes : Changes g (λ j. j ≡ 1) (λ _. ⊥) blank with_inode
   first_changes = changes_inode g blank 1 root sound blank_whole blank_size (omega arith) sound.some_inode fits
@@ -149,17 +172,10 @@ module _ (g : Geometry) (sound : IsSound g) where
   own_some : own (block 0) ≢ 0
   own_some e = first_some (sym own_first ∙ e)
 
-  -- ---- its one node
+  -- ---- its one node, as it stands
 
   abbrev placed : List (ℕ × Placed)
   placed = (0, root_placed g) ∷ []
-
-  only : (b : ℕ) (p : Placed) → at_number placed b ≡ Some p → (b ≡ 0) × (root_placed g ≡ p)
-  only b p at =
-      elim (cases_Bool (is_at (nat_cmp b) 0)) [
-        | inl t ↦ (number_same b 0 t, same_Some (root_placed g) p (rw t at at))
-        | inr u ↦ absurd (none-some p (rw u at at))
-      ]
 
   part_is : IsDirectoryPart (new_blocks g) root root_part
   part_is = record {
@@ -200,7 +216,7 @@ module _ (g : Geometry) (sound : IsSound g) where
   }
 
   part_of : (b : ℕ) (p : Placed) (d : DirectoryPart) → at_number placed b ≡ Some p → p.part ≡ parts.Directory d → root_part ≡ d
-  part_of b p d at is = same_directory root_part d (ap (λ (p : Placed). p.part) (only b p at).1 ∙ is)
+  part_of b p d at is = same_directory root_part d (ap (λ (p : Placed). p.part) (only_placed g b p at).1 ∙ is)
 
   volume_of : IsVolumeOf g (new_blocks g) placed
   unfolding IsStrictlySortedBy
@@ -208,57 +224,33 @@ module _ (g : Geometry) (sound : IsSound g) where
     whole = third_changes.whole;
     size = size_is;
     in_order = (tt, tt);
-    each = λ b p at. subst (IsStored g (new_blocks g)) (only b p at).1 stored;
+    each = λ b p at. subst (IsStored g (new_blocks g)) (only_placed g b p at).1 stored;
     names = λ b p d at is. subst (HasNames placed) (part_of b p d at is) names_are;
-    numbers = λ a b p q at to e. (only a p at).0 ∙ sym (only b q to).0;
+    numbers = λ a b p q at to e. (only_placed g a p at).0 ∙ sym (only_placed g b q to).0;
     zones = λ a b p q x y at to e some.
-        let here : own x ≢ 0 = subst (λ (p : Placed). zone_in (new_blocks g) p.inode x ≢ 0) (sym (only a p at).1) some in
-        let there : own y ≢ 0 = λ none. some (e ∙ (ap (λ (p : Placed). zone_in (new_blocks g) p.inode y) (sym (only b q to).1) ∙ none)) in
-        ((only a p at).0 ∙ sym (only b q to).0, first_of x here ∙ sym (first_of y there));
+        let here : own x ≢ 0 = subst (λ (p : Placed). zone_in (new_blocks g) p.inode x ≢ 0) (sym (only_placed g a p at).1) some in
+        let there : own y ≢ 0 = λ none. some (e ∙ (ap (λ (p : Placed). zone_in (new_blocks g) p.inode y) (sym (only_placed g b q to).1) ∙ none)) in
+        ((only_placed g a p at).0 ∙ sym (only_placed g b q to).0, first_of x here ∙ sym (first_of y there));
   }
 
   just : IsJust own
   just x some = (0, own_some, subst (λ x. OnWay x 0) (sym (first_of x some)) (refl, omega arith))
 
   volume : IsVolume g (new_volume g)
-  volume = (volume_of, λ b p at. subst (λ (p : Placed). IsJust (λ x. zone_in (new_blocks g) p.inode x)) (only b p at).1 just)
+  volume = (volume_of, λ b p at. subst (λ (p : Placed). IsJust (λ x. zone_in (new_blocks g) p.inode x)) (only_placed g b p at).1 just)
 
   -- ---- its tree
 
-  abbrev root_directory : Directory
-  root_directory = record { parent = 0; slots = 2; names = [] }
-
-  abbrev tree : List (ℕ × Node)
-  tree = (0, nodes.Directory root_directory) ∷ []
-
-  tree_is : tree_now (new_blocks g) placed ≡ tree
+  tree_is : tree_now (new_blocks g) placed ≡ root_alone
   unfolding tree_now
   tree_is = refl
-
-  only_node : (b : ℕ) (n : Node) → at_number tree b ≡ Some n → (b ≡ 0) × (nodes.Directory root_directory ≡ n)
-  only_node b n at =
-      elim (cases_Bool (is_at (nat_cmp b) 0)) [
-        | inl t ↦ (number_same b 0 t, same_Some (nodes.Directory root_directory) n (rw t at at))
-        | inr u ↦ absurd (none-some n (rw u at at))
-      ]
-
-  names_in : Node → List (List ℕ × ℕ)
-  names_in (nodes.Directory d) = d.names
-  names_in (nodes.File f) = []
-  names_in (nodes.Other mode) = []
 
   parent_in : Node → ℕ
   parent_in (nodes.Directory d) = d.parent
   parent_in (nodes.File f) = 0
   parent_in (nodes.Other mode) = 0
 
-  no_name : (parent : ℕ) (name : List ℕ) (b : ℕ) → HasEntry tree parent name b → ⊥
-  unfolding names_in
-  no_name parent name b gives =
-      let e : [] ≡ gives.directory.names = ap names_in (only_node parent (nodes.Directory gives.directory) gives.stands).1 in
-      none-some b (ap (λ (names : List (List ℕ × ℕ)). at_name names name) e ∙ gives.named)
-
-  rooted : IsRooted tree
+  rooted : IsRooted root_alone
   unfolding IsStrictlySortedBy names_in
   rooted = record {
     in_order = (tt, tt);
@@ -268,7 +260,7 @@ module _ (g : Geometry) (sound : IsSound g) where
     leads = λ parent name b gives. absurd (no_name parent name b gives);
     no_root = λ parent name b gives. absurd (no_name parent name b gives);
     one_name = λ parent other name more b d gives given at. absurd (no_name parent name b gives);
-    led_to = λ b n at. subst (IsLedTo tree) (sym (only_node b n at).0) at_root;
+    led_to = λ b n at. subst (IsLedTo root_alone) (sym (only_node b n at).0) at_root;
   }
 
   slot_zones : HasSlotZones (new_blocks g) root 2
@@ -290,18 +282,18 @@ module _ (g : Geometry) (sound : IsSound g) where
   new_plain = record {
     volume = volume;
     rooted = subst IsRooted (sym tree_is) rooted;
-    root_number = λ p at. sym (ap (λ (p : Placed). p.number) (only 0 p at).1);
+    root_number = λ p at. sym (ap (λ (p : Placed). p.number) (only_placed g 0 p at).1);
     root_parent = λ d at. sym (ap parent_in (only_node 0 (nodes.Directory d) (subst (λ t. at_number t 0 ≡ Some (nodes.Directory d)) tree_is at)).1);
     parents = λ parent name b d gives at. absurd (no_name parent name b (subst (λ t. HasEntry t parent name b) tree_is gives));
-    sizes = λ b p zones at is. absurd (let e : parts.Directory root_part ≡ parts.File zones = ap (λ (p : Placed). p.part) (only b p at).1 ∙ is in cc);
+    sizes = λ b p zones at is. absurd (let e : parts.Directory root_part ≡ parts.File zones = ap (λ (p : Placed). p.part) (only_placed g b p at).1 ∙ is in cc);
     dots = λ b p d at is.
         subst (λ (d : DirectoryPart). (q : Placed) × (at_number placed d.parent ≡ Some q) × HasDots d.slots p.number q.number) (part_of b p d at is)
-        (root_placed g, refl, subst (λ (p : Placed). HasDots two_slots p.number 1) (only b p at).1 dots);
+        (root_placed g, refl, subst (λ (p : Placed). HasDots two_slots p.number 1) (only_placed g b p at).1 dots);
     slot_zones = λ b p d at is.
         subst (λ (d : DirectoryPart). HasSlotZones (new_blocks g) p.inode (length d.slots)) (part_of b p d at is)
-        (subst (λ (p : Placed). HasSlotZones (new_blocks g) p.inode 2) (only b p at).1 slot_zones);
+        (subst (λ (p : Placed). HasSlotZones (new_blocks g) p.inode 2) (only_placed g b p at).1 slot_zones);
     directory_links_are = λ b p d at is.
-        ap (λ (p : Placed). p.inode.links) (sym (only b p at).1) ∙ ap (λ (d : DirectoryPart). directory_links (tree_now (new_blocks g) placed) (directory_from d)) (part_of b p d at is);
-    file_links_are = λ b p zones at is. absurd (let e : parts.Directory root_part ≡ parts.File zones = ap (λ (p : Placed). p.part) (only b p at).1 ∙ is in cc);
-    few_links = λ b p at. subst (λ (p : Placed). p.inode.links ≤ 250) (only b p at).1 (omega arith);
+        ap (λ (p : Placed). p.inode.links) (sym (only_placed g b p at).1) ∙ ap (λ (d : DirectoryPart). directory_links (tree_now (new_blocks g) placed) (directory_from d)) (part_of b p d at is);
+    file_links_are = λ b p zones at is. absurd (let e : parts.Directory root_part ≡ parts.File zones = ap (λ (p : Placed). p.part) (only_placed g b p at).1 ∙ is in cc);
+    few_links = λ b p at. subst (λ (p : Placed). p.inode.links ≤ 250) (only_placed g b p at).1 (omega arith);
   }

@@ -4,6 +4,9 @@ use Rattle.blk_base.specs.Block.{filled}
 use Rattle.minix_layout.specs.declared.division.Geometry.{Geometry}
 use Rattle.minix_layout.specs.declared.inode.Inode.{Inode}
 use Rattle.minix_layout.specs.declared.slot.Slot.{Slot}
+use Rattle.tree_model.specs.declared.node.Node.{Node}
+use Rattle.tree_model.specs.declared.node.Node.TheVariants as nodes
+use Rattle.tree_model.specs.declared.node.Directory.{Directory}
 use Rattle.volume_model.specs.declared.placed.Placed.{Placed}
 use Rattle.volume_model.specs.declared.placed.Part.TheVariants as parts
 use Rattle.volume_model.specs.Edits.{put_inode, put_slot, edited_all}
@@ -32,3 +35,12 @@ new_blocks g = edited_all g (replicate g.zones (filled 0)) (put_inode 1 (root_in
 
 abbrev pub new_volume : Geometry → Contents
 new_volume g = record { blocks = new_blocks g; nodes = (0, root_placed g) ∷ [] }
+
+-- ---- its tree
+
+abbrev pub root_directory : Directory
+root_directory = record { parent = 0; slots = 2; names = [] }
+
+-- the root alone, with two slots
+abbrev pub root_alone : List (ℕ × Node)
+root_alone = (0, nodes.Directory root_directory) ∷ []

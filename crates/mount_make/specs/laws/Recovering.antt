@@ -155,7 +155,7 @@ same_whole : (old new : List (List ℕ)) → length new ≡ length old → (r : 
 same_whole old new size (Ok g) = rw size refl
 same_whole old new size (Err fault) = refl
 
-same_divided : (old new : List (List ℕ)) → length new ≡ length old → disk_of new 1 ≡ disk_of old 1 → divided new ≡ divided old
+pub same_divided : (old new : List (List ℕ)) → length new ≡ length old → disk_of new 1 ≡ disk_of old 1 → divided new ≡ divided old
 unfolding divided
 same_divided old new size one =
     rw size (ap (λ (r : Result Geometry FaultPlace). if nat_lt (length old) 2 then Err (BadGeometry, length old) else r) (ap (λ (b : List ℕ). divided_by new (volume_super b)) one ∙ same_whole old new size (volume_super (disk_of old 1))))

@@ -4,8 +4,9 @@ use Rattle.minix_layout.specs.Geometry.{IsSound}
 use Rattle.volume_ops.specs.Volume.{disk_of}
 use Rattle.volume_ops.specs.VolumeTrees.{IsVolumeTree}
 use Rattle.volume_ops.proofs.TreeUnique.{tree_walked}
+use Rattle.volume_model.specs.NewVolume.{root_alone}
 use Rattle.volume_model.specs.Plain.{IsPlainVolume}
-use Rattle.mount_make.specs.Made.{made_volume, made_image, root_alone}
+use Rattle.mount_make.specs.Made.{made_volume, made_image}
 use Rattle.mount_make.specs.laws.ImageLaws.{image_has_tree}
 use Rattle.mount_make.proofs.MadeVolumes.{made_contents, made_plain, made_tree, same}
 use Rattle.mount_make.proofs.MadeImages.{image_fine, image_journal, image_divided, image_stays, image_volume}
