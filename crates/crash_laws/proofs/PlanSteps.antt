@@ -20,6 +20,16 @@ use Rattle.crash_laws.specs.Session.{Session, IsCommit, image_of}
 use Rattle.crash_laws.proofs.Commits.{commit_positive, commits_rise}
 use Rattle.crash_laws.proofs.Histories.{cuts_rise}
 
+-- What stands before the commit block of k, and within its cut, does so for each later transaction too.
+pub behind_later : {A : Type 0} {h : History A} {s : Session} → HasTrees h → CommitOrder s → (k l c o v : ℕ) → k ≤ l → IsCommit s k c → o < c → v ≤ h.cut k
+    → (1 ≤ l → (d : ℕ) × IsCommit s l d) → (d : ℕ) × IsCommit s l d × (o < d) × (v ≤ h.cut l)
+behind_later trees order k l c o v le is before within committed =
+    let pos = commit_positive order k c is in
+    let last = committed (omega arith) in
+    let rise = commits_rise order k l c last.0 is last.1 le in
+    let cuts = cuts_rise trees k l le in
+    (last.0, last.1, omega arith, omega arith)
+
 module _ {A : Type 0} {program : Reads A} {h : History A} {s : Session} {host : Host} {N : ℕ} (trees : HasTrees h) (order : CommitOrder s) (facts : HostFacts program h s host N) (plan : PlanFacts program h s host) (all_closed : N + 1 ≡ host.running) where
   -- the mark after the plan
   mark_after : (b : ℕ) → mark_in (transactions_from s.transactions 1 host.running) b ≡ followed (mark_in (transactions_from s.transactions 1 (host.running - 1)) b) (transaction_mark (record { bodies = host.bodies; revokes = host.revokes }) b)
@@ -99,14 +109,9 @@ module _ {A : Type 0} {program : Reads A} {h : History A} {s : Session} {host : 
       ⊎_elim
       (λ c.
       let le = facts.no_more dead.k c.0 c.1 in
-      let pos = commit_positive order dead.k c.0 c.1 in
-      let last = facts.committed (host.running - 1) (omega arith) (omega arith) in
-      let rise = commits_rise order dead.k (host.running - 1) c.0 last.0 c.1 last.1 (omega arith) in
-      let cuts = cuts_rise trees dead.k (host.running - 1) (omega arith) in
-      let lt = c.2 in
-      let hi = c.3 in
       let later = dead.later in
-      (last.0, last.1, omega arith, omega arith))
+      let hi = c.3 in
+      behind_later trees order dead.k (host.running - 1) c.0 o v (omega arith) c.1 c.2 (omega arith) (λ pos. facts.committed (host.running - 1) pos (omega arith)))
       (λ waits. absurd (none-some dead.k (sym (facts.metadata_free z meta) ∙ waits.1)))
       dead.given_up)
       (facts.live_or_dead o f i v z page)

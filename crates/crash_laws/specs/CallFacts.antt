@@ -7,7 +7,7 @@ use Rattle.crash_laws.specs.PromiseRules.{IsSuperseded, IsCarried}
 use Rattle.crash_laws.specs.Session.{Session, HasNote}
 
 -- a good ordered Page request of at least version n stands in the list
-pub record IsSent {A : Type 0} (h : History A) (s : Session) (Good : ℕ → Type 0) (f i n : ℕ) : Type 0 where
+pub record IsSent (s : Session) (Good : ℕ → Type 0) (f i n : ℕ) : Type 0 where
   pub place : ℕ
   pub version : ℕ
   pub note : HasNote s place (Page f i version)
@@ -17,7 +17,7 @@ pub record IsSent {A : Type 0} (h : History A) (s : Session) (Good : ℕ → Typ
 
 -- The pair is done: its page was sent, or an entry up to now has unmapped it.
 abbrev pub IsDone : {A : Type 0} → History A → Session → (ℕ → Type 0) → ℕ → ℕ → ℕ → ℕ → Type 0
-IsDone h s Good now f i n = IsSent h s Good f i n ⊎ IsSuperseded h f i n now
+IsDone h s Good now f i n = IsSent s Good f i n ⊎ IsSuperseded h f i n now
 
 -- no entry behind c up to now mapped or unmapped a block of the file
 abbrev pub IsUnchangedSince : {A : Type 0} → History A → ℕ → ℕ → ℕ → Type 0

@@ -14,9 +14,8 @@ use Rattle.volume_ops.specs.Volume.{disk_of}
 use Rattle.page_cache.specs.Pages.{page_at}
 use Rattle.page_cache.specs.declared.cached_page.CachedPage.{CachedPage}
 use Rattle.page_cache.specs.declared.cached_page.PageState.TheVariants.{Firm}
-use Rattle.crash_laws.proofs.Commits.{commit_positive, commits_rise}
-use Rattle.crash_laws.proofs.Histories.{cuts_rise}
 use Rattle.crash_laws.proofs.LogSteps.{same_transactions}
+use Rattle.crash_laws.proofs.PlanSteps.{behind_later}
 use Rattle.crash_laws.specs.History.{History, last_write, HasTrees}
 use Rattle.crash_laws.specs.PageRules.{IsPageTo, place_at}
 use Rattle.crash_laws.specs.Rules.{CommitOrder}
@@ -193,14 +192,9 @@ module _ {A : Type 0} {program : Reads A} {h : History A} {s : Session} {now r N
           ⊎_elim
           (λ c.
           let le = numbers.no_more dead.k c.0 c.1 in
-          let pos = commit_positive order dead.k c.0 c.1 in
-          let last = numbers.committed (r - 1) (omega arith) (omega arith) in
-          let rise = commits_rise order dead.k (r - 1) c.0 last.0 c.1 last.1 (omega arith) in
-          let cuts = cuts_rise trees dead.k (r - 1) (omega arith) in
-          let lt = c.2 in
-          let hi = dead.of_k in
           let later = dead.later in
-          (last.0, last.1, omega arith, omega arith))
+          let hi = dead.of_k in
+          behind_later trees order dead.k (r - 1) c.0 o w (omega arith) c.1 c.2 (omega arith) (λ pos. numbers.committed (r - 1) pos (omega arith)))
           (λ waits. absurd (none-some dead.k (sym (plain.metadata_free z meta) ∙ waits.1)))
           dead.given_up)
           (history.live_or_dead o f i w z page)

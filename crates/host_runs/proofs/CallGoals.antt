@@ -9,6 +9,7 @@ use Rattle.blk_base.specs.Members.{In}
 use Rattle.blk_base.specs.laws.Members.{list_any-In}
 use Rattle.order_model.specs.declared.note.Note.TheVariants.{Commit}
 use Rattle.order_model.specs.declared.note.Note.{Note}
+use Rattle.crash_laws.specs.CallFacts.{IsDone}
 use Rattle.crash_laws.specs.History.{History, HasTrees}
 use Rattle.crash_laws.specs.PromiseRules.{Covers}
 use Rattle.crash_laws.specs.Session.{Session}
@@ -18,7 +19,7 @@ use Rattle.flush_actor.specs.Part.{is_flush_note, last_put}
 use Rattle.host_machine.specs.laws.Facts.{Numbers}
 use Rattle.host_runs.proofs.CallTargets.{IsQuiet, done_at_cut, quiet_running, quiet_both}
 use Rattle.host_runs.specs.Promises.{call_of}
-use Rattle.host_runs.specs.laws.CallFacts.{IsDone, Anywhere}
+use Rattle.host_runs.specs.laws.CallFacts.{Anywhere}
 
 -- ---- the last put
 
@@ -151,7 +152,7 @@ module _ {A : Type 0} {h : History A} {s : Session} {now N : ℕ} (j : JournalPa
 -- ---- a data sync with no put at all covers nothing
 
 module _ {A : Type 0} {h : History A} {s : Session} {now r N : ℕ} (b : Begun) (trees : HasTrees h) (numbers : Numbers h s now r N) where
-  pub nothing_covered : last_put 0 s.notes None ≡ None → b.begin ≤ now → ((f i n : ℕ) → Covers h (call_of b) f i n → IsQuiet h f (h.cut N) now) → ((f i n : ℕ) → Covers h (call_of b) f i n → IsDone h s now Anywhere f i n)
+  pub nothing_covered : last_put 0 s.notes None ≡ None → b.begin ≤ now → ((f i n : ℕ) → Covers h (call_of b) f i n → IsQuiet h f (h.cut N) now) → ((f i n : ℕ) → Covers h (call_of b) f i n → IsDone h s Anywhere now f i n)
       → (f i n : ℕ) → Covers h (call_of b) f i n → ⊥
   nothing_covered none begun quiet done f i n c =
       let lt = c.1 in

@@ -11,6 +11,7 @@ use Rattle.volume_ops.specs.Reads.{Reads}
 use Rattle.page_cache.specs.Pages.{page_at, put_page, marked, is_unsent}
 use Rattle.page_cache.specs.declared.cached_page.CachedPage.{CachedPage}
 use Rattle.page_cache.specs.declared.cached_page.PageState.{PageState}
+use Rattle.crash_laws.specs.CallFacts.{IsDone}
 use Rattle.crash_laws.specs.History.{History, IsUnmapped, HasTrees}
 use Rattle.crash_laws.specs.PromiseRules.{AreHeld}
 use Rattle.crash_laws.specs.Session.{Session, IsCommit}
@@ -27,7 +28,7 @@ use Rattle.host_machine.specs.laws.Facts.{View, IsPlain, Numbers, PagesMapped}
 use Rattle.host_runs.proofs.CallMoves.{call_sent}
 use Rattle.host_runs.proofs.CallSteps.{KeepsUnsent, call_pushed, call_grows}
 use Rattle.host_runs.proofs.CallTargets.{call_closes, call_needs}
-use Rattle.host_runs.specs.laws.CallFacts.{wait_of, AllCalls, IsDone, CallFacts}
+use Rattle.host_runs.specs.laws.CallFacts.{wait_of, AllCalls, CallFacts}
 
 -- ---- what a changing call makes of pages that are to do
 
@@ -221,7 +222,7 @@ module _ {A C : Type 0} {threads : List (Thread C)} {waits : List Wait} where
 -- ---- transactions told anew: calls speak of requests and notes alone
 
 module _ {A : Type 0} {h : History A} {s : Session} (transactions : ℕ → Transaction) where
-  done_told : {Good : ℕ → Type 0} {now f i n : ℕ} → IsDone h s now Good f i n → IsDone h (record s { transactions = transactions }) now Good f i n
+  done_told : {Good : ℕ → Type 0} {now f i n : ℕ} → IsDone h s Good now f i n → IsDone h (record s { transactions = transactions }) Good now f i n
   done_told d = ⊎_elim (λ x. inl (record { place = x.place; version = x.version; note = x.note; ordered = x.ordered; good = x.good; later = x.later })) (λ g. inr g) d
 
   pub held_told : {Good : ℕ → Type 0} {Pair : ℕ → ℕ → ℕ → Type 0} {Metadata : ℕ → Type 0} → AreHeld h s Good Pair Metadata → AreHeld h (record s { transactions = transactions }) Good Pair Metadata

@@ -15,6 +15,7 @@ use Rattle.page_cache.specs.declared.cached_page.PageState.TheVariants.{Clean, D
 use Rattle.page_cache.specs.declared.cached_page.PageState.{PageState}
 use Rattle.page_cache.specs.laws.Maps.{is_page-same, page_at-key, page_at-put}
 use Rattle.crash_laws.proofs.Growing.{note_new, fence_new, ordered_new}
+use Rattle.crash_laws.specs.CallFacts.{IsSent, IsDone}
 use Rattle.crash_laws.specs.History.{History, last_write, HasTrees}
 use Rattle.crash_laws.specs.PromiseRules.{IsOn, Covers}
 use Rattle.crash_laws.specs.Session.{Session}
@@ -27,7 +28,7 @@ use Rattle.flush_actor.specs.declared.wait.Wait.{Wait}
 use Rattle.host_machine.specs.laws.Facts.{View, IsPlain, PagesMapped, PagesSent}
 use Rattle.host_runs.proofs.CallSteps.{mapped_or_gone, last_write_above, sent_old, done_old, call_pushed}
 use Rattle.host_runs.specs.Promises.{call_of}
-use Rattle.host_runs.specs.laws.CallFacts.{IsSent, IsDone, Anywhere, IsToDo, HasSentBarrier, CallFacts}
+use Rattle.host_runs.specs.laws.CallFacts.{Anywhere, IsToDo, HasSentBarrier, CallFacts}
 
 -- ---- pages
 
@@ -153,7 +154,7 @@ module _ {A : Type 0} {program : Reads A} {h : History A} {s : Session} {now : �
             unsent = unsent;
           }
 
-      of_page : (f i n : ℕ) → Covers h (call_of b) f i n → (p : CachedPage) → page_at pages f i ≡ Some p → p.version ≡ last_write h f i now → (st : PageState) → p.state ≡ st → IsDone h s now Anywhere f i n ⊎ IsToDo pages b.list f i
+      of_page : (f i n : ℕ) → Covers h (call_of b) f i n → (p : CachedPage) → page_at pages f i ≡ Some p → p.version ≡ last_write h f i now → (st : PageState) → p.state ≡ st → IsDone h s Anywhere now f i n ⊎ IsToDo pages b.list f i
       of_page f i n c p there version Clean st = absurd (sent.not_clean f i p there st)
       of_page f i n c p there version Dirty st = inr (to_do f i c.0 p there (ap is_unsent st))
       of_page f i n c p there version Loose st = inr (to_do f i c.0 p there (ap is_unsent st))
@@ -258,7 +259,7 @@ module _ {A : Type 0} {h : History A} {now : ℕ} {v : View} (p : Submitting) (p
       }
     where
       -- behind all that was sent
-      behind : (is_last : unsent_on pages rest ≡ None) (f i n : ℕ) → Covers h (call_of b) f i n → IsDone h (after p) now (λ o. o ≤ new_place p) f i n
+      behind : (is_last : unsent_on pages rest ≡ None) (f i n : ℕ) → Covers h (call_of b) f i n → IsDone h (after p) (λ o. o ≤ new_place p) now f i n
       behind is_last f i n c =
           let lt = c.1 in
           let begun = old.begun in

@@ -9,6 +9,7 @@ use Rattle.order_model.specs.declared.completion.Completion.TheVariants as compl
 use Rattle.order_model.specs.declared.completion.Completion.{Completion}
 use Rattle.order_model.specs.declared.note.Note.TheVariants.{Page, Commit}
 use Rattle.page_cache.specs.declared.cached_page.CachedPage.{CachedPage}
+use Rattle.crash_laws.specs.CallFacts.{IsDone}
 use Rattle.crash_laws.specs.History.{History, HasTrees}
 use Rattle.crash_laws.specs.PromiseRules.{CoversNothing, KeepsBarrier, KeepsSync, Covers, CoversEntry}
 use Rattle.crash_laws.specs.Rules.{CommitOrder}
@@ -29,7 +30,7 @@ use Rattle.host_runs.proofs.CallGoals.{ChangedListed, latest_none, latest_some, 
 use Rattle.host_runs.proofs.CallMoves.{unsent_on-none}
 use Rattle.host_runs.proofs.CallTargets.{IsQuiet, held_without_target, ok_at_target, ok_by_own_barrier, ok_by_flush, call_has_need, call_has_target, call_needs, its_file, for_running, for_closed, cause_of_barrier, cause_of_sync}
 use Rattle.host_runs.specs.Promises.{IsCause, KeepsOk, call_of}
-use Rattle.host_runs.specs.laws.CallFacts.{IsDone, Anywhere, CallFacts}
+use Rattle.host_runs.specs.laws.CallFacts.{Anywhere, CallFacts}
 
 flushed_later : (id : ℕ) (c : Completion) → is_flushed_after id c ≡ true → (f : ℕ) × (c ≡ completions.Flushed f) × (id < f)
 flushed_later id (completions.Flushed f) e = (f, refl, ltb-true id f e)
@@ -125,7 +126,7 @@ module _ {T V C R : Type 0} (M : Model T V C R) (u : Setup) {A : Type 0} {h : Hi
   -- ---- no page is left
 
   module _ (t : ℕ) (c : C) (rest : List C) (no_target : w.target ≡ None) (no_need : w.need ≡ None) (passed : unsent_on host.pages b.list ≡ None) where
-    done : (f i n : ℕ) → Covers h (call_of b) f i n → IsDone h s now Anywhere f i n
+    done : (f i n : ℕ) → Covers h (call_of b) f i n → IsDone h s Anywhere now f i n
     done f i n cov = ⊎_elim (λ d. d) (λ d. absurd (unsent_on-none host.pages b.list passed f i d)) (facts.pairs no_target no_need f i n cov)
 
     quiet : is_data b.kind ≡ true → latest_change j b.file ≡ None → (f i n : ℕ) → Covers h (call_of b) f i n → IsQuiet h f (h.cut N) now
@@ -141,7 +142,7 @@ module _ {T V C R : Type 0} (M : Model T V C R) (u : Setup) {A : Type 0} {h : Hi
         (quiet of_data none) (λ f i n cov. placed f i n (done f i n cov)))
         (λ whole. absurd (false≢true (sym whole ∙ of_data)))
       where
-        placed : (f i n : ℕ) → IsDone h s now Anywhere f i n → IsDone h s now (λ o. o ≤ id) f i n
+        placed : (f i n : ℕ) → IsDone h s Anywhere now f i n → IsDone h s (λ o. o ≤ id) now f i n
         placed f i n (inl x) = inl (record { place = x.place; version = x.version; note = x.note; ordered = x.ordered; good = put_before_last s.notes x.place id (Page f i x.version) x.note refl last; later = x.later })
         placed f i n (inr g) = inr g
 

@@ -11,6 +11,7 @@ use Rattle.crash_laws.proofs.Growth.{unmapped_old, unmapped_new}
 use Rattle.crash_laws.proofs.Histories.{stays_mapped}
 use Rattle.crash_laws.proofs.Promises.{superseded_or_calm}
 use Rattle.crash_laws.proofs.PromiseSteps.{held_pushed, held_grows, held_for, covers_old}
+use Rattle.crash_laws.specs.CallFacts.{IsSent, IsDone}
 use Rattle.crash_laws.specs.Extending.{Extends}
 use Rattle.crash_laws.specs.History.{History, IsUnmapped, last_write, HasTrees}
 use Rattle.crash_laws.specs.PromiseRules.{IsSuperseded, Covers, CoversEntry}
@@ -21,7 +22,7 @@ use Rattle.host_machine.specs.State.{Begun}
 use Rattle.flush_actor.specs.declared.wait.Wait.{Wait}
 use Rattle.host_machine.specs.laws.Facts.{Numbers}
 use Rattle.host_runs.specs.Promises.{call_of}
-use Rattle.host_runs.specs.laws.CallFacts.{IsSent, IsDone, IsGoodFor, HasSentBarrier, CallFacts}
+use Rattle.host_runs.specs.laws.CallFacts.{IsGoodFor, HasSentBarrier, CallFacts}
 
 -- ---- the history alone
 
@@ -61,7 +62,7 @@ module _ (p : Submitting) where
   }
 
 module _ {A : Type 0} {h : History A} (p : Submitting) where
-  pub done_old : {Good : ℕ → Type 0} {now f i n : ℕ} → IsDone h p.session now Good f i n → IsDone h (after p) now Good f i n
+  pub done_old : {Good : ℕ → Type 0} {now f i n : ℕ} → IsDone h p.session Good now f i n → IsDone h (after p) Good now f i n
   done_old d = ⊎_elim (λ x. inl (sent_old p x)) (λ s. inr s) d
 
   good_old : {now r T : ℕ} {b : Begun} → IsGoodFor h p.session now r T b → IsGoodFor h (after p) now r T b
@@ -110,7 +111,7 @@ module _ {A : Type 0} {h more : History A} {s : Session} {now r N : ℕ} (entry 
   pub gone_grows : {f i n a b : ℕ} → a ≤ now → a ≤ b → IsSuperseded h f i n a → IsSuperseded more f i n b
   gone_grows {f = f} {i = i} le up s = let hi = s.within in record { entry = s.entry; later = s.later; within = omega arith; unmapped = unmapped_new ext f i s.entry (omega arith) s.unmapped }
 
-  pub done_grows : {Good : ℕ → Type 0} {f i n : ℕ} → IsDone h s now Good f i n → IsDone more s (now + 1) Good f i n
+  pub done_grows : {Good : ℕ → Type 0} {f i n : ℕ} → IsDone h s Good now f i n → IsDone more s Good (now + 1) f i n
   done_grows d = ⊎_elim (λ x. inl x) (λ g. inr (gone_grows (omega arith) (omega arith) g)) d
 
   cut_grows : (T : ℕ) → T ≤ r → h.cut T ≤ more.cut T

@@ -10,6 +10,7 @@ use Rattle.order_model.specs.declared.completion.Completion.{Completion}
 use Rattle.order_model.specs.declared.note.Note.TheVariants.{Page}
 use Rattle.page_cache.specs.declared.cached_page.CachedPage.{CachedPage}
 use Rattle.crash_laws.proofs.PromiseSteps.{barrier_at_end}
+use Rattle.crash_laws.specs.CallFacts.{IsSent, IsDone}
 use Rattle.crash_laws.specs.History.{History, Calm, HasTrees}
 use Rattle.crash_laws.specs.PromiseRules.{IsSuperseded, KeepsBarrier, KeepsSync, IsOn, Covers, CoversEntry}
 use Rattle.crash_laws.specs.Rules.{CommitOrder}
@@ -22,7 +23,7 @@ use Rattle.flush_actor.specs.declared.wait.Wait.{Wait}
 use Rattle.host_machine.specs.laws.Facts.{Numbers}
 use Rattle.host_runs.proofs.CallSteps.{mapped_or_gone, later_bound}
 use Rattle.host_runs.specs.Promises.{call_of}
-use Rattle.host_runs.specs.laws.CallFacts.{IsSent, IsDone, Anywhere, IsGoodFor, IsHeldAt, IsBehindTarget, CallFacts}
+use Rattle.host_runs.specs.laws.CallFacts.{Anywhere, IsGoodFor, IsHeldAt, IsBehindTarget, CallFacts}
 
 -- ---- a stretch of the history in which the file was not changed
 
@@ -55,7 +56,7 @@ quiet_gone h f i n a now quiet s =
 
 -- A pair that is done is carried by what a transaction with cut a maps, where nothing changed the file since.
 module _ {A : Type 0} (h : History A) (s : Session) (trees : HasTrees h) (now : ℕ) (versions : (o f i v : ℕ) → HasNote s o (Page f i v) → v ≤ now) where
-  pub done_at_cut : {Good : ℕ → Type 0} (f i n a : ℕ) → a ≤ now → h.writes n f i ≡ true → n ≤ now → IsQuiet h f a now → IsDone h s now Good f i n
+  pub done_at_cut : {Good : ℕ → Type 0} (f i n a : ℕ) → a ≤ now → h.writes n f i ≡ true → n ≤ now → IsQuiet h f a now → IsDone h s Good now f i n
       → IsSuperseded h f i n a ⊎ ((x : IsSent s Good f i n) × (h.maps a f i ≡ true) × Calm h f i a x.version)
   done_at_cut f i n a le w in_time quiet done =
       ⊎_elim
@@ -73,7 +74,7 @@ module _ {A : Type 0} (h : History A) (s : Session) (trees : HasTrees h) (now : 
 
 module _ {A : Type 0} {h : History A} {s : Session} {pages : List CachedPage} {now r N : ℕ} {b : Begun} {w : Wait} (trees : HasTrees h) (numbers : Numbers h s now r N) (facts : CallFacts h s pages now r b w) where
   -- the running transaction: its cut is the last entry
-  pub for_running : ((f i n : ℕ) → Covers h (call_of b) f i n → IsDone h s now Anywhere f i n) → IsGoodFor h s now r r b
+  pub for_running : ((f i n : ℕ) → Covers h (call_of b) f i n → IsDone h s Anywhere now f i n) → IsGoodFor h s now r r b
   for_running done =
       let at = numbers.running r (omega arith) in
       let begun = facts.begun in
@@ -98,7 +99,7 @@ module _ {A : Type 0} {h : History A} {s : Session} {pages : List CachedPage} {n
       }
 
   -- The transaction on its way, for a data call, where the running one did not change the file.
-  pub for_closed : is_data b.kind ≡ true → (T : ℕ) → T < r → N < T → ((f i n : ℕ) → Covers h (call_of b) f i n → IsQuiet h f (h.cut T) now) → ((f i n : ℕ) → Covers h (call_of b) f i n → IsDone h s now Anywhere f i n) → IsGoodFor h s now r T b
+  pub for_closed : is_data b.kind ≡ true → (T : ℕ) → T < r → N < T → ((f i n : ℕ) → Covers h (call_of b) f i n → IsQuiet h f (h.cut T) now) → ((f i n : ℕ) → Covers h (call_of b) f i n → IsDone h s Anywhere now f i n) → IsGoodFor h s now r T b
   for_closed of_data T below not_yet quiet done =
       let cut = numbers.cuts T in
       let begun = facts.begun in
@@ -201,7 +202,7 @@ module _ {A : Type 0} {h : History A} {s : Session} {pages : List CachedPage} {n
   -- A data call without a target: no transaction since N changed its file. `id` is at or behind all that it sent
   -- and the last commit block.
   pub held_without_target : {Good : ℕ → Type 0} (id : ℕ) → is_data b.kind ≡ true → ((o : ℕ) → Good o → o ≤ id) → (1 ≤ N → (c : ℕ) × IsCommit s N c × (c ≤ id))
-      → ((f i n : ℕ) → Covers h (call_of b) f i n → IsQuiet h f (h.cut N) now) → ((f i n : ℕ) → Covers h (call_of b) f i n → IsDone h s now Good f i n) → IsHeldAt h s b id
+      → ((f i n : ℕ) → Covers h (call_of b) f i n → IsQuiet h f (h.cut N) now) → ((f i n : ℕ) → Covers h (call_of b) f i n → IsDone h s Good now f i n) → IsHeldAt h s b id
   held_without_target id of_data within last quiet done = record {
     K = N;
     commit = ⊎_elim (λ pos. inr (last pos)) (λ z. inl (omega arith)) (cases_lt 0 N);

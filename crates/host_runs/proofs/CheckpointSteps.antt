@@ -21,17 +21,18 @@ use Rattle.crash_laws.proofs.LogBlocks.{In-log_blocks}
 use Rattle.crash_laws.proofs.LogSteps.{mark_old, below_submitted}
 use Rattle.crash_laws.specs.Clauses.{CommitClause, IsHomeSent}
 use Rattle.crash_laws.specs.Ordering.{IsClosedOff}
+use Rattle.crash_laws.specs.RingFacts.{IsAtHome}
 use Rattle.crash_laws.specs.Rules.{CommitOrder, LogLayout, CheckpointOrder, HasHeader}
 use Rattle.crash_laws.specs.Session.{Session, HasNote, log_transaction, IsLog, IsCommit, LogBlock, with_log_block, log_blocks, log_blocks_of, log_blocks_below, bodies_of, sequence_of, first_place, IsSuperOf}
 use Rattle.crash_laws.specs.Submitting.{Submitting, after, new_place, IsCommitted}
 use Rattle.journal_ring.specs.LogRing.{LogRing, all_home}
 use Rattle.tx_running.specs.Plan.{Planned}
-use Rattle.host_runs.proofs.GrowingFacts.{number_submitted, entries_grown, bodies_grown, places_step, homes_step, home_done_old, numbers_step}
+use Rattle.host_runs.proofs.GrowingFacts.{number_submitted, entries_grown, bodies_grown, places_step, homes_step, at_home_old, numbers_step}
 use Rattle.host_runs.proofs.PlaceLaws.{next_place_is_freed}
 use Rattle.journal_ring.specs.laws.Committed.{In-commit_homes, commit_homes-ascends, commit_homes-body, commit_homes-kept}
 use Rattle.host_runs.proofs.RingSteps.{sending, RingClause}
 use Rattle.journal_ring.specs.laws.Homes.{IsApart, commit_homes}
-use Rattle.host_runs.specs.laws.RingFacts.{AreCommitted, PlaceFacts, IsHomeDone, HomeFacts, places_of, count, if_log, log_bytes, StartsWithSuper, PlanFacts}
+use Rattle.host_runs.specs.laws.RingFacts.{AreCommitted, PlaceFacts, HomeFacts, places_of, count, if_log, log_bytes, StartsWithSuper, PlanFacts}
 
 -- ---- the commit block
 
@@ -175,14 +176,14 @@ module _ (s : Session) (counted : length s.notes ≡ length s.requests) (q : Pla
   }
     where
       pending : (b : ℕ) (x : List ℕ) → mark_in (transactions_from transactions 1 (N + 1)) b ≡ Set x → (m : Mark) → transaction_mark t b ≡ m → followed (mark_in (transactions_from s.transactions 1 N) b) (transaction_mark t b) ≡ Set x
-          → (mark_in (transactions_from s.transactions 1 N) b ≡ Set x → In (record { block = b; body = x }) homes ⊎ IsHomeDone s b x N) → In (record { block = b; body = x }) (commit_homes t homes) ⊎ IsHomeDone (after p) b x (N + 1)
+          → (mark_in (transactions_from s.transactions 1 N) b ≡ Set x → In (record { block = b; body = x }) homes ⊎ IsAtHome s b x N) → In (record { block = b; body = x }) (commit_homes t homes) ⊎ IsAtHome (after p) b x (N + 1)
       pending b x set (Set y) e h before = inl (commit_homes-body t homes b x (e ∙ sym (ap (followed (mark_in (transactions_from s.transactions 1 N) b)) e) ∙ h))
       pending b x set Clear e h before = absurd (clear≢set x (sym (ap (followed (mark_in (transactions_from s.transactions 1 N) b)) e) ∙ h))
       pending b x set Keep e h before =
           ⊎_elim
           (λ i. inl (commit_homes-kept t homes (record { block = b; body = x }) i e))
           (λ d.
-          let old_done = home_done_old p order commit_clause checkpoints N (N + 1) b x numbers d in
+          let old_done = at_home_old p order commit_clause checkpoints N (N + 1) b x numbers d in
           let hi = d.within in
           inr (record {
             home = old_done.home;
@@ -265,7 +266,7 @@ module _ (s : Session) (counted : length s.notes ≡ length s.requests) (l : Log
   mark_same : (j b : ℕ) → j ≤ N → mark_in (transactions_from transactions 1 j) b ≡ mark_in (transactions_from s.transactions 1 j) b
   mark_same j b le = mark_old ph order home_commit_clause checkpoints j b (below_submitted ph order home_commit_clause checkpoints j N (number_submitted s N N numbers) le)
 
-  sent_home : IsHomeDone (after ph) l.block l.body N
+  sent_home : IsAtHome (after ph) l.block l.body N
   sent_home = record {
     home = new_place ph;
     note = note_new ph;
@@ -284,7 +285,7 @@ module _ (s : Session) (counted : length s.notes ≡ length s.requests) (l : Log
     pending = λ b x set.
         ⊎_elim
         (λ i. here b x i)
-        (λ d. inr (home_done_old ph order home_commit_clause checkpoints N N b x numbers d))
+        (λ d. inr (at_home_old ph order home_commit_clause checkpoints N N b x numbers d))
         (facts.pending b x (sym (mark_same N b (omega arith)) ∙ set));
     closed = λ none i b h.
         let fence = fence_new ph (subst (λ t. IsTrue (t || is_flush (Put l.block l.body))) (sym (last none)) refl) in
@@ -294,8 +295,8 @@ module _ (s : Session) (counted : length s.notes ≡ length s.requests) (l : Log
         (note_cases ph i (Home b) h);
   }
     where
-      here : (b : ℕ) (x : List ℕ) → In (record { block = b; body = x }) (l ∷ ls) → In (record { block = b; body = x }) ls ⊎ IsHomeDone (after ph) b x N
-      here b x (inl e) = inr (subst (λ (m : Logged). IsHomeDone (after ph) m.block m.body N) e sent_home)
+      here : (b : ℕ) (x : List ℕ) → In (record { block = b; body = x }) (l ∷ ls) → In (record { block = b; body = x }) ls ⊎ IsAtHome (after ph) b x N
+      here b x (inl e) = inr (subst (λ (m : Logged). IsAtHome (after ph) m.block m.body N) e sent_home)
       here b x (inr i) = inl i
 
 -- ---- the superblock of a new tail

@@ -17,12 +17,13 @@ use Rattle.crash_laws.proofs.Growing.{note_old, note_cases, log_within, log_case
 use Rattle.crash_laws.proofs.LogBlocks.{In-log_blocks}
 use Rattle.crash_laws.proofs.LogSteps.{log_blocks-push, super_old, mark_old, below_submitted}
 use Rattle.crash_laws.specs.Clauses.{CommitClause}
+use Rattle.crash_laws.specs.RingFacts.{IsAtHome}
 use Rattle.crash_laws.specs.Rules.{CommitOrder, CheckpointOrder}
 use Rattle.crash_laws.specs.Session.{Session, log_transaction, IsSubmitted, Before, Submitted, body_at, LogBlock, with_log_block, log_blocks, log_blocks_of, bodies_of, sequence_of}
 use Rattle.crash_laws.specs.Submitting.{Submitting, after, new_place}
 use Rattle.journal_ring.specs.LogRing.{LogRing}
 use Rattle.tx_running.specs.Plan.{Planned}
-use Rattle.host_runs.specs.laws.RingFacts.{AreCommitted, PlaceFacts, IsHomeDone, HomeFacts, places_of, if_log, count, log_bytes, ArePlanned, IsClosed, PlanFacts}
+use Rattle.host_runs.specs.laws.RingFacts.{AreCommitted, PlaceFacts, HomeFacts, places_of, if_log, count, log_bytes, ArePlanned, IsClosed, PlanFacts}
 
 -- ---- numbers
 
@@ -126,8 +127,8 @@ module _ (p : Submitting) where
     mark_stays : (N M j b : ℕ) → AreCommitted p.session N M → j ≤ N → mark_in (transactions_from p.transactions 1 j) b ≡ mark_in (transactions_from p.session.transactions 1 j) b
     mark_stays N M j b numbers le = mark_old p order clause checkpoints j b (below_submitted p order clause checkpoints j N (number_submitted p.session N M numbers) le)
 
-    pub home_done_old : (N M b : ℕ) (x : List ℕ) → AreCommitted p.session N M → IsHomeDone p.session b x N → IsHomeDone (after p) b x N
-    home_done_old N M b x numbers d = record {
+    pub at_home_old : (N M b : ℕ) (x : List ℕ) → AreCommitted p.session N M → IsAtHome p.session b x N → IsAtHome (after p) b x N
+    at_home_old N M b x numbers d = record {
       home = d.home;
       note = note_old p d.home (Home b) d.note;
       body = body_old p.session.requests p.request d.home x d.body;
@@ -142,7 +143,7 @@ module _ (p : Submitting) where
     homes_step N M homes numbers no_home old = record {
       rising = old.rising;
       newest = λ l i. mark_stays N M N l.block numbers (omega arith) ∙ old.newest l i;
-      pending = λ b x set. ⊎_elim (λ i. inl i) (λ d. inr (home_done_old N M b x numbers d)) (old.pending b x (sym (mark_stays N M N b numbers (omega arith)) ∙ set));
+      pending = λ b x set. ⊎_elim (λ i. inl i) (λ d. inr (at_home_old N M b x numbers d)) (old.pending b x (sym (mark_stays N M N b numbers (omega arith)) ∙ set));
       closed = λ none i b h.
           ⊎_elim
           (λ o. let c = old.closed none i b o in (c.0, c.1, fence_old p.session.requests p.request c.0 c.2))

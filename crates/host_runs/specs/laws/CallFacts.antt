@@ -5,6 +5,7 @@ use Rattle.order_model.specs.OrderClosed.{IsOrdered, IsFence}
 use Rattle.order_model.specs.declared.note.Note.TheVariants.{Page}
 use Rattle.page_cache.specs.Pages.{page_at, is_unsent}
 use Rattle.page_cache.specs.declared.cached_page.CachedPage.{CachedPage}
+use Rattle.crash_laws.specs.CallFacts.{IsDone}
 use Rattle.crash_laws.specs.History.{History, Calm}
 use Rattle.crash_laws.specs.PromiseRules.{IsSuperseded, AreHeld, Covers, CoversEntry}
 use Rattle.crash_laws.specs.Session.{Session, HasNote, IsCommit}
@@ -13,19 +14,6 @@ use Rattle.flush_actor.specs.Kinds.{is_data}
 use Rattle.flush_actor.specs.Waits.{no_wait}
 use Rattle.flush_actor.specs.declared.wait.Wait.{Wait}
 use Rattle.host_runs.specs.Promises.{call_of}
-
--- An ordered request of the page (f, i) with a version of at least n is submitted, at a good place.
-pub record IsSent (s : Session) (Good : ℕ → Type 0) (f i n : ℕ) : Type 0 where
-  pub place : ℕ
-  pub version : ℕ
-  pub note : HasNote s place (Page f i version)
-  pub ordered : IsOrdered s.requests place
-  pub good : Good place
-  pub later : n ≤ version
-
--- A covered pair is done: its page was sent, or an entry behind n unmapped it.
-abbrev pub IsDone : {A : Type 0} → History A → Session → ℕ → (ℕ → Type 0) → ℕ → ℕ → ℕ → Type 0
-IsDone h s now Good f i n = IsSent s Good f i n ⊎ IsSuperseded h f i n now
 
 abbrev pub Anywhere : ℕ → Type 0
 Anywhere i = Unit {0}
@@ -60,7 +48,7 @@ pub record IsGoodFor {A : Type 0} (h : History A) (s : Session) (now r T : ℕ) 
 pub record HasSentBarrier {A : Type 0} (h : History A) (s : Session) (now : ℕ) (b : Begun) : Type 0 where
   pub barrier : ℕ
   pub fence : IsFence s.requests barrier
-  pub pairs : (f i n : ℕ) → Covers h (call_of b) f i n → IsDone h s now (λ o. o ≤ barrier) f i n
+  pub pairs : (f i n : ℕ) → Covers h (call_of b) f i n → IsDone h s (λ o. o ≤ barrier) now f i n
 
 -- all that it covers is at or before request `id`
 abbrev pub IsHeldAt : {A : Type 0} → History A → Session → Begun → ℕ → Type 0
@@ -76,7 +64,7 @@ pub record IsBehindTarget (s : Session) (w : Wait) (id : ℕ) : Type 0 where
 pub record CallFacts {A : Type 0} (h : History A) (s : Session) (pages : List CachedPage) (now r : ℕ) (b : Begun) (w : Wait) : Type 0 where
   pub begun : b.begin ≤ now
   pub kind : w.kind ≡ b.kind
-  pub pairs : w.target ≡ None → w.need ≡ None → (f i n : ℕ) → Covers h (call_of b) f i n → IsDone h s now Anywhere f i n ⊎ IsToDo pages b.list f i
+  pub pairs : w.target ≡ None → w.need ≡ None → (f i n : ℕ) → Covers h (call_of b) f i n → IsDone h s Anywhere now f i n ⊎ IsToDo pages b.list f i
   pub barrier : b.sent_barrier ≡ true → HasSentBarrier h s now b
   pub target : (T : ℕ) → w.target ≡ Some T → IsGoodFor h s now r T b
   pub need : (id : ℕ) → w.need ≡ Some id → IsHeldAt h s b id

@@ -1,7 +1,7 @@
 -- What the host keeps of its ring, of its checkpoint and of the plan on its way, over the submitted list.
 use Rattle.std.specs.Prelude.{◌≡◌, ℕ, ◌+◌, ◌-◌, ◌<◌, ◌≤◌, ◌⊎◌, ⊤, true, List, [], ◌∷◌, ◌++◌, length, Option, Some, None, slice_get, false}
 use Rattle.blk_base.specs.Members.{In}
-use Rattle.order_model.specs.OrderClosed.{IsPutWith, IsFence}
+use Rattle.order_model.specs.OrderClosed.{IsFence}
 use Rattle.order_model.specs.declared.note.Note.TheVariants.{Super, Commit, Home}
 use Rattle.order_model.specs.declared.note.Note.{Note}
 use Rattle.order_model.specs.declared.request.Kind.TheVariants.{Put}
@@ -10,8 +10,9 @@ use Rattle.log_model.specs.Log.{Spells}
 use Rattle.log_model.specs.Marks.{Logged, Transaction, Set, mark_in, transactions_from}
 use Rattle.log_model.specs.Ring.{places_on}
 use Rattle.crash_laws.specs.Ordering.{IsClosedOff}
+use Rattle.crash_laws.specs.RingFacts.{IsAtHome}
 use Rattle.crash_laws.specs.Rules.{HasHeader}
-use Rattle.crash_laws.specs.Session.{Session, HasNote, log_transaction, IsLog, IsCommit, CommitBefore, LogBlock, with_log_block, log_blocks, log_blocks_of, bodies_of, sequence_of, IsSuperOf}
+use Rattle.crash_laws.specs.Session.{Session, HasNote, log_transaction, IsLog, IsCommit, LogBlock, with_log_block, log_blocks, log_blocks_of, bodies_of, sequence_of, IsSuperOf}
 use Rattle.crash_laws.specs.Submitting.{IsCommitted}
 use Rattle.journal_ring.specs.LogRing.{LogRing}
 use Rattle.tx_running.specs.Plan.{Planned}
@@ -39,23 +40,12 @@ pub record PlaceFacts (s : Session) (ring : LogRing) (more : ℕ) : Type 0 where
   pub within : more ≤ ring.used
   pub freed : (n : ℕ) (e : LogBlock) → slice_get (log_blocks s) n ≡ Some e → (length (log_blocks s) + more ≤ n + ring.used) ⊎ IsFreed s e
 
--- A Home request brought block b the body x that it has after each transaction from `since` to N. It stands
--- behind the commit block of `since`.
-pub record IsHomeDone (s : Session) (b : ℕ) (x : List ℕ) (N : ℕ) : Type 0 where
-  pub home : ℕ
-  pub note : HasNote s home (Home b)
-  pub body : IsPutWith s.requests home x
-  pub since : ℕ
-  pub committed : CommitBefore s since home
-  pub within : since ≤ N
-  pub stays : (j : ℕ) → since ≤ j → j ≤ N → mark_in (transactions_from s.transactions 1 j) b ≡ Set x
-
 -- What is to be sent home are last bodies. Each last body is to be sent home, or was. Where nothing is left to
 -- send, each Home has a barrier at or behind it.
 pub record HomeFacts (s : Session) (N : ℕ) (homes : List Logged) : Type 0 where
   pub rising : IsRisingHomes homes
   pub newest : (l : Logged) → In l homes → mark_in (transactions_from s.transactions 1 N) l.block ≡ Set l.body
-  pub pending : (b : ℕ) (x : List ℕ) → mark_in (transactions_from s.transactions 1 N) b ≡ Set x → In (record { block = b; body = x }) homes ⊎ IsHomeDone s b x N
+  pub pending : (b : ℕ) (x : List ℕ) → mark_in (transactions_from s.transactions 1 N) b ≡ Set x → In (record { block = b; body = x }) homes ⊎ IsAtHome s b x N
   pub closed : homes ≡ [] → (i b : ℕ) → HasNote s i (Home b) → IsClosedOff s.requests i
 
 abbrev pub request_of : Planned → ℕ → Request
