@@ -6,6 +6,7 @@ use Rattle.minix_layout.specs.declared.division.Geometry.{Geometry}
 use Rattle.minix_layout.specs.declared.fault.LayoutFault.{LayoutFault}
 use Rattle.minix_layout.specs.declared.fault.LayoutFault.TheVariants.{BadMagic, NameWidth, BadGeometry}
 use Rattle.minix_layout.specs.Geometry.{is_consistent}
+use Rattle.minix_layout.specs.declared.limits.TheConstants.{LARGEST_SIZE}
 
 -- the fields of a superblock: width, place, value
 abbrev pub super_fields : Geometry → List Field
@@ -16,7 +17,7 @@ super_fields g =
     ∷ field 2 6 g.zmap
     ∷ field 2 8 g.first
     ∷ field 2 10 0
-    ∷ field 4 12 268966912
+    ∷ field 4 12 LARGEST_SIZE
     ∷ field 2 16 0x137F
     ∷ field 2 18 1
     ∷ []

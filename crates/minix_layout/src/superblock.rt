@@ -19,6 +19,7 @@ ghost use Rattle.minix_layout.specs.Geometry.{FitGeometry, IsSound};
 ghost use Rattle.minix_layout.specs.Super.{super_block, super_of, magic_of, geometry_of, is_divided};
 
 use crate::geometry::is_consistent;
+use crate::limits::LARGEST_SIZE;
 use crate::{Geometry, LayoutFault};
 use blk_base::Block;
 use byte_fields::{put_u16_le, put_u32_le, u16_at_le, zeroed};
@@ -28,9 +29,6 @@ const MAGIC: u16 = 0x137F;
 
 // The magic number of Minix V1 with names of 30 bytes.
 const MAGIC_WIDE: u16 = 0x138F;
-
-// The largest size of a file in bytes: 7 zones, the 512 of an indirect and the 512 * 512 of a doubly indirect zone.
-const MAX_SIZE: u32 = 268_966_912;
 
 /// What a superblock says of its volume.
 ///
@@ -93,7 +91,7 @@ pub fn write_super(g: &Geometry) -> Block
     let mut bytes = zeroed::<1024>();
     put_u16_le(&mut bytes, 18, 1);
     put_u16_le(&mut bytes, 16, MAGIC);
-    put_u32_le(&mut bytes, 12, MAX_SIZE);
+    put_u32_le(&mut bytes, 12, LARGEST_SIZE);
     put_u16_le(&mut bytes, 10, 0);
     put_u16_le(&mut bytes, 8, g.first);
     put_u16_le(&mut bytes, 6, g.zmap);

@@ -3,7 +3,7 @@ use Rattle.std.proofs.Common.{◌≡◌, ◌-◌, ◌==◌, suc, Bool, true, fal
 use Rattle.std.specs.Map.{lookup, remove_entry}
 use Rattle.std.proofs.lemmas.Bool.{cases_Bool, cond-false, false≢true}
 use Rattle.tree_model.specs.Calls.{is_root}
-use Rattle.tree_model.specs.PathTexts.{names_below}
+use Rattle.tree_model.specs.code.PathTexts.{names_below}
 use Rattle.tree_model.proofs.Entries.{length-without}
 use Rattle.tree_model.proofs.NameTexts.{first_piece}
 

@@ -6,13 +6,8 @@ ghost use Rattle.std.specs.Option.{option_copied};
 ghost use Rattle.tree_calls.specs.code.Steps.{place_from};
 
 use crate::walk::Place;
+use minix_layout::MOST_SLOTS;
 use tree_model::{Directory, Node, Tree};
-
-// As many links as a node can have.
-pub const MOST_LINKS: u8 = 250;
-
-// As many slots as a directory can have.
-pub const MOST_SLOTS: u32 = 33216;
 
 pub fn is_directory(node: Option<&Node>) -> bool
     ensures { result ≡ is_directory (option_copied node.entry) }

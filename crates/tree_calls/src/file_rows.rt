@@ -7,10 +7,8 @@ ghost use Rattle.tree_calls.specs.code.Steps.{Decides, HasNodes};
 use crate::directories::directory_links;
 use crate::step::{Opened, Step};
 use crate::walk::walked;
+use minix_layout::LARGEST_SIZE;
 use tree_model::{ByteList, Node, Reply, Tree, names_of};
-
-// The most bytes that a file can have.
-pub const LARGEST_SIZE: u32 = 268966912;
 
 fn is_too_big(off: u32, len: usize) -> bool
     ensures { result ≡ nat_lt largest_size (off + len) }

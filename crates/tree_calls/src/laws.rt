@@ -3,7 +3,7 @@ ghost use Rattle.std.specs.Prelude.{ℕ};
 ghost use Rattle.tree_model.specs.declared.call.Call.{Call};
 ghost use Rattle.tree_model.specs.declared.call.Room.{Room};
 ghost use Rattle.tree_model.specs.Calls.{Tree, tree_after};
-ghost use Rattle.tree_model.specs.Examples.{new_tree};
+ghost use Rattle.tree_model.specs.laws.Examples.{new_tree};
 ghost use Rattle.tree_model.specs.Plain.{IsPlain};
 ghost use Rattle.tree_calls.specs.Countable.{IsCountable};
 

@@ -5,14 +5,14 @@ ghost use Rattle.std.specs.Option.{option_map};
 ghost use Rattle.tree_model.specs.Calls.{above, changes_parent, is_full, is_root, meets_directory, meets_file, most_links, moves_directory, needs_slot, place_after, rename, rename_to, stays, target_at, without_name};
 ghost use Rattle.tree_model.specs.Maps.{at_number};
 ghost use Rattle.tree_model.specs.Paths.{is_path_name};
-ghost use Rattle.tree_model.specs.PathTexts.{names_below};
+ghost use Rattle.tree_model.specs.code.PathTexts.{names_below};
 ghost use Rattle.tree_model.specs.Trees.{directory_links, is_directory};
 ghost use Rattle.tree_calls.specs.code.Steps.{Decides, HasNodes, HasPlace, HasTarget, found_from, move_from, place_from};
 
-use crate::directories::{MOST_LINKS, MOST_SLOTS, directory_links, is_directory};
+use crate::directories::{directory_links, is_directory};
 use crate::step::{Moved, Step};
 use crate::walk::{Found, Place, comes_by, place_of, walked};
-use minix_layout::Name;
+use minix_layout::{MOST_LINKS, MOST_SLOTS, Name};
 use tree_model::{ByteList, Directory, Node, Reply, Tree, names_of};
 
 // The node that stands at a place.

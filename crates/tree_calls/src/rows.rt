@@ -3,9 +3,10 @@ ghost use Rattle.std.specs.Prelude.{◌≡◌, ℕ, IfOk};
 ghost use Rattle.tree_model.specs.Calls.{mkdir, create, rmdir, unlink, link};
 ghost use Rattle.tree_calls.specs.code.Steps.{Decides, HasNodes};
 
-use crate::directories::{MOST_LINKS, directory_links, is_full, is_named};
+use crate::directories::{directory_links, is_full, is_named};
 use crate::step::{Opened, Step};
 use crate::walk::{place_of, walked};
+use minix_layout::MOST_LINKS;
 use tree_model::{ByteList, Node, Reply, Tree, names_of};
 
 pub fn mkdir<'a>(tree: &'a Tree, path: &ByteList) -> Result<Step<'a>, Reply>

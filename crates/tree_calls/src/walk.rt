@@ -6,7 +6,7 @@ ghost use Rattle.tree_model.specs.declared.call.Reply.{Reply};
 ghost use Rattle.tree_model.specs.declared.node.Node.TheVariants as nodes;
 ghost use Rattle.tree_model.specs.Maps.{at_number};
 ghost use Rattle.tree_model.specs.Paths.{is_path_name};
-ghost use Rattle.tree_model.specs.PathTexts.{names_below, replied, next_at, led_from, above_last, last_in};
+ghost use Rattle.tree_model.specs.code.PathTexts.{names_below, replied, next_at, led_from, above_last, last_in};
 ghost use Rattle.tree_model.specs.Trees.{step_at};
 ghost use Rattle.tree_calls.specs.code.Steps.{found_from, place_from};
 

@@ -20,6 +20,7 @@ use Rattle.tree_model.specs.declared.node.File.{File}
 use Rattle.tree_model.specs.Maps.{at_number, at_name, put_number, put_name, without_number, name_cmp}
 use Rattle.tree_model.specs.Paths.{path_of}
 use Rattle.tree_model.specs.Trees.{Refusal, not_directory, name_too_long, not_found, step_at, node_of_path, is_directory, directory_links}
+use Rattle.minix_layout.specs.declared.limits.TheConstants.{LARGEST_SIZE, MOST_LINKS, MOST_SLOTS}
 
 -- the nodes by their births
 abbrev pub Tree : Type 0
@@ -144,14 +145,14 @@ abbrev pub is_named : Place → Bool
 is_named p = is_some (at_name p.directory.names p.name)
 
 abbrev pub most_links : ℕ
-most_links = 250
+most_links = MOST_LINKS
 
 -- `.` and `..` have two slots, and a free slot is used before one more is taken
 abbrev pub needs_slot : Directory → Bool
 needs_slot d = not (nat_lt (length d.names + 2) d.slots)
 
 abbrev pub most_slots : ℕ
-most_slots = 33216
+most_slots = MOST_SLOTS
 
 -- one name more would make it too big
 abbrev pub is_full : Directory → Bool
@@ -328,7 +329,7 @@ rename tree path other =
 -- ---- the rows of bytes
 
 abbrev pub largest_size : ℕ
-largest_size = 268966912
+largest_size = LARGEST_SIZE
 
 -- a block, zeros where it is a hole
 abbrev pub block_or_zeros : Option (List ℕ) → List ℕ

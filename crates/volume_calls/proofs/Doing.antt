@@ -11,7 +11,7 @@ use Rattle.volume_model.specs.Touched.{Touched}
 use Rattle.volume_steps.specs.Now.{VolumeNow, Change, tree_of_now, room_of}
 use Rattle.volume_steps.specs.Calls.{changed, create_in, link_in, mkdir_in, rmdir_in, truncate_at, unlink_in, write_at}
 use Rattle.volume_steps.specs.Plain.{IsPlainNow}
-use Rattle.volume_steps.specs.laws.Called.{FindsRoom}
+use Rattle.volume_steps.specs.Called.{FindsRoom}
 use Rattle.volume_steps.proofs.AllCalls.{any_call}
 use Rattle.tree_model.specs.Maps.{at_number}
 use Rattle.volume_model.specs.declared.placed.Placed.{Placed}

@@ -12,7 +12,7 @@ use Rattle.volume_model.specs.Trees.{directory_from, node_from, node_now, tree_n
 use Rattle.volume_steps.proofs.TreeSteps.{tree_at, tree_none}
 use Rattle.tree_model.proofs.NameTexts.{first_piece}
 use Rattle.volume_ops.specs.declared.found.Mapped.{Mapped}
-use Rattle.tree_model.specs.PathTexts.{names_below, replied, next_at, led_from, above_last, last_in}
+use Rattle.tree_model.specs.code.PathTexts.{names_below, replied, next_at, led_from, above_last, last_in}
 
 -- ---- one step
 

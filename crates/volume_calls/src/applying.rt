@@ -7,7 +7,7 @@ ghost use Rattle.volume_model.specs.declared.placed.Placed.{Placed};
 ghost use Rattle.volume_steps.specs.Now.{room_of, tree_of_now};
 ghost use Rattle.volume_steps.specs.Calls.{called, changed};
 ghost use Rattle.volume_steps.specs.Plain.{is_rename};
-ghost use Rattle.volume_steps.specs.laws.Called.{FindsRoom};
+ghost use Rattle.volume_steps.specs.Called.{FindsRoom};
 ghost use Rattle.volume_names.specs.UsedInodes.{unmarked};
 ghost use Rattle.volume_calls.specs.code.Sites.{IsSite, place_in};
 ghost use Rattle.volume_calls.specs.code.Writes.{write_call};

@@ -6,6 +6,7 @@ ghost use Rattle.tree_model.specs.Maps.{at_name};
 ghost use Rattle.volume_model.specs.Trees.{directory_from};
 
 use dir_ops::Slots;
+use minix_layout::MOST_SLOTS;
 use volume_model::DirectoryPart;
 
 // No slot is free for one name more.
@@ -21,7 +22,7 @@ pub fn is_full(directory: &DirectoryPart) -> bool
     requires { used_count directory.now.slots ≡ 2 + length directory.now.names }
     ensures { result ≡ is_full (directory_from directory.now) }
 {
-    needs_slot(directory) && directory.slots.len() >= 33216
+    needs_slot(directory) && directory.slots.len() >= MOST_SLOTS as usize
 }
 
 // It has no names but for `.` and `..`.

@@ -6,11 +6,9 @@ ghost use Rattle.volume_calls.specs.code.Rows.{Agrees};
 
 use crate::PlainVolume;
 use crate::directories::has_no_names;
+use minix_layout::LARGEST_SIZE;
 use tree_model::{ByteList, Reply, names_of};
 use volume_model::Part;
-
-// The most bytes that a file can have.
-pub const LARGEST_SIZE: u32 = 268966912;
 
 impl PlainVolume {
     pub(crate) fn rmdir(&self, path: &ByteList) -> Result<(), Reply>

@@ -8,8 +8,8 @@ ghost use Rattle.volume_calls.specs.code.Asked.{IsAsked};
 
 use crate::PlainVolume;
 use crate::directories::{is_full, slot_zones};
-use crate::rows::LARGEST_SIZE;
 use crate::walk::Place;
+use minix_layout::{LARGEST_SIZE, MOST_LINKS};
 use tree_model::{ByteList, Reply, names_of};
 use volume_model::Part;
 
@@ -19,9 +19,6 @@ pub struct Wants {
     pub inode: bool,
     pub zones: u32,
 }
-
-// As many links as a node can have.
-const MOST_LINKS: u8 = 250;
 
 fn is_named(place: &Place<'_>) -> bool
     ensures { result ≡ is_some (at_name place.now.directory.now.names place.now.name) }

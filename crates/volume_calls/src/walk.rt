@@ -13,7 +13,7 @@ ghost use Rattle.volume_model.specs.Trees.{directory_from, node_from, node_now};
 ghost use Rattle.volume_model.specs.declared.placed.Part.TheVariants as parts;
 ghost use Rattle.volume_steps.specs.Now.{tree_of_now};
 ghost use Rattle.volume_calls.specs.Births.{birth_in};
-ghost use Rattle.tree_model.specs.PathTexts.{names_below, replied, next_at, led_from, above_last, last_in};
+ghost use Rattle.tree_model.specs.code.PathTexts.{names_below, replied, next_at, led_from, above_last, last_in};
 
 use crate::PlainVolume;
 use minix_layout::Name;

@@ -12,7 +12,7 @@ use Rattle.tree_model.specs.declared.node.File.{File}
 use Rattle.tree_model.specs.Maps.{at_number}
 use Rattle.tree_model.specs.Paths.{is_dot}
 use Rattle.tree_model.specs.Trees.{directory_links}
-use Rattle.tree_model.specs.laws.Listing.{HasEntry, IsRooted}
+use Rattle.tree_model.specs.Rooted.{HasEntry, IsRooted}
 use Rattle.tree_model.specs.Plain.{names_to}
 use Rattle.volume_ops.specs.declared.found.Mapped.{Mapped}
 use Rattle.volume_ops.specs.Places.{largest_size, inode_of_birth}
@@ -26,6 +26,7 @@ use Rattle.volume_model.specs.Ways.{IsJust}
 use Rattle.volume_model.specs.Touched.{Contents}
 use Rattle.volume_model.specs.Moves.{IsVolume}
 use Rattle.volume_model.specs.Trees.{directory_from, tree_now}
+use Rattle.minix_layout.specs.declared.limits.TheConstants.{MOST_LINKS}
 
 -- ---- directories
 
@@ -61,7 +62,7 @@ slots_in blocks i = map (slot_in blocks i) (range_with_len 0 (i.size / 16))
 
 -- A plain image, with its tree by inode numbers: it has no fault and no node but directories and files; directories
 -- have their dots and the zones that their slots need; zones of numbers are there only where they lead to a mapped
--- block; links are 2 and the directories in a directory, and for a file its names; no node has more than 250.
+-- block; links are 2 and the directories in a directory, and for a file its names; no node has more than `MOST_LINKS`.
 pub record IsPlainVolume (g : Geometry) (blocks : List (List ℕ)) (tree : List (ℕ × Node)) : Type 0 where
   pub stands : IsVolumeTree g blocks tree
   pub no_other : (birth mode : ℕ) → at_number tree birth ≡ Some (nodes.Other mode) → ⊥
@@ -71,7 +72,7 @@ pub record IsPlainVolume (g : Geometry) (blocks : List (List ℕ)) (tree : List 
   pub just : (birth : ℕ) (node : Node) → at_number tree birth ≡ Some node → IsJust (λ x. zone_in blocks (inode_born g blocks birth) x)
   pub directory_links_are : (birth : ℕ) (d : Directory) → at_number tree birth ≡ Some (nodes.Directory d) → (inode_born g blocks birth).links ≡ directory_links tree d
   pub file_links_are : (birth : ℕ) (f : File) → at_number tree birth ≡ Some (nodes.File f) → f.links ≡ names_to tree birth
-  pub few_links : (birth : ℕ) (node : Node) → at_number tree birth ≡ Some node → (inode_born g blocks birth).links ≤ 250
+  pub few_links : (birth : ℕ) (node : Node) → at_number tree birth ≡ Some node → (inode_born g blocks birth).links ≤ MOST_LINKS
 
 -- ---- volumes that change
 
@@ -92,7 +93,7 @@ pub record IsPlainContents (g : Geometry) (v : Contents) : Type 0 where
       p.inode.links ≡ directory_links (tree_now v.blocks v.nodes) (directory_from d)
   pub file_links_are : (birth : ℕ) (p : Placed) (zones : List Mapped) → at_number v.nodes birth ≡ Some p → p.part ≡ parts.File zones →
       p.inode.links ≡ names_to (tree_now v.blocks v.nodes) birth
-  pub few_links : (birth : ℕ) (p : Placed) → at_number v.nodes birth ≡ Some p → p.inode.links ≤ 250
+  pub few_links : (birth : ℕ) (p : Placed) → at_number v.nodes birth ≡ Some p → p.inode.links ≤ MOST_LINKS
 
 -- a node has this zone, for a block of it or for numbers of zones
 pub record HasZone (v : Contents) (zone : ℕ) : Type 0 where

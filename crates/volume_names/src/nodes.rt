@@ -1,5 +1,6 @@
 //! Steps that change one node in place, with its blocks. None takes memory, and where there is no such node, none does
 //! anything.
+ghost use Rattle.minix_layout.specs.declared.limits.TheConstants.{MOST_SLOTS};
 ghost use Rattle.std.specs.Prelude.{◌≡◌, ◌≤◌, ◌<◌, ◌+◌, ◌*◌, ◌^◌, ℕ, Some};
 ghost use Rattle.std.specs.Option.{option_copied};
 ghost use Rattle.tree_model.specs.Maps.{at_number};
@@ -22,8 +23,8 @@ pub fn write_slot(
     touched: &mut Touched,
 )
     requires numbers { (p : Placed) → at_number v.old.contents.nodes n ≡ Some p → 0 < p.number }
-    requires place { at < 33216 }
-    requires few { slots ≤ 33216 }
+    requires place { at < MOST_SLOTS }
+    requires few { slots ≤ MOST_SLOTS }
     requires room { 3 ≤ touched.old.spare }
     ensures done { After touched.old.touched (slot_written v.old n at (option_copied slot.entry) slots) v.new touched.new.touched }
     ensures spare { touched.old.spare ≤ touched.new.spare + 3 }

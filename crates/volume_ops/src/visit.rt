@@ -15,13 +15,10 @@ use crate::walk_fault::WalkFault;
 use crate::zones::scan_zones;
 use crate::{Found, FoundFile, FoundNode};
 use blk_base::NoMemory;
-use minix_layout::{Geometry, Inode, LayoutFault};
+use minix_layout::{Geometry, Inode, LARGEST_SIZE, LayoutFault};
 use std::alloc::Global;
 use std::marker::Model;
 use tree_model::{Directory, Names};
-
-// The largest size of a file: 7 zones, the 512 of an indirect and the 512 * 512 of a doubly indirect zone.
-const LARGEST_SIZE: u32 = 1024 * (7 + 512 + 512 * 512);
 
 /// An inode that is to be met, and the birth of the directory that names it.
 #[derive(Drop)]

@@ -20,6 +20,7 @@ use Rattle.volume_steps.specs.Zones.{inode_bit, zone_bit, next_zone, take_zones}
 use Rattle.zone_maps.specs.Zones.{taken}
 use Rattle.volume_steps.specs.Steps.{at_node, tells_node, set_links, new_file_inode, new_directory_inode, new_directory_edits}
 use Rattle.volume_names.specs.declared.directories.NewSlot.{NewSlot}
+use Rattle.minix_layout.specs.declared.limits.TheConstants.{MOST_SLOTS}
 
 -- a change was done after others that touched this
 pub record After (before : Touched) (change : Change) (volume : VolumeNow) (touched : Touched) : Type 0 where
@@ -80,8 +81,8 @@ pub record MayWrite (v : VolumeNow) (n : ℕ) (new : NewSlot) : Type 0 where
   pub placed : Placed
   pub stands : at_number v.contents.nodes n ≡ Some placed
   pub number : 0 < placed.number
-  pub place : new.at < 33216
-  pub few : new.slots ≤ 33216
+  pub place : new.at < MOST_SLOTS
+  pub few : new.slots ≤ MOST_SLOTS
   pub hole : new.begins ≡ true → HasHole v placed (new.at / 64)
 
 -- a name is in its directory, and the blocks are as they were

@@ -12,6 +12,7 @@ use Rattle.volume_model.specs.Volume.{Place}
 use Rattle.volume_steps.specs.Now.{VolumeNow}
 use Rattle.volume_steps.specs.Steps.{metadata_gone}
 use Rattle.volume_bytes.specs.code.Cutting.{MayGive}
+use Rattle.minix_layout.specs.declared.limits.TheConstants.{MOST_SLOTS}
 
 -- of a file of which nothing is left no place stays
 abbrev pub no_place : Place → Bool
@@ -24,7 +25,7 @@ blocks_in (parts.Directory d) = []
 
 -- a directory has at most 519 zones of slots
 pub record HasFewSlots (v : VolumeNow) (birth : ℕ) : Type 0 where
-  pub few : (p : Placed) (d : DirectoryPart) → at_number v.contents.nodes birth ≡ Some p → p.part ≡ parts.Directory d → length d.slots ≤ 33216
+  pub few : (p : Placed) (d : DirectoryPart) → at_number v.contents.nodes birth ≡ Some p → p.part ≡ parts.Directory d → length d.slots ≤ MOST_SLOTS
 
 -- a node stands, these of its zones are metadata, and all its zones are in use when their turn comes
 pub record MayDrop (v : VolumeNow) (tx n : ℕ) (metadata : List ℕ) : Type 0 where

@@ -2,7 +2,7 @@ use Rattle.std.proofs.Common.{◌≡◌, length, IsTrue}
 use Rattle.std.specs.List.{list_all}
 use Rattle.tree_model.specs.Paths.{is_path_name}
 use Rattle.tree_model.specs.Calls.{all_but_last, last_name}
-use Rattle.tree_model.specs.PathTexts.{names_below, led_from, above_last, last_in}
+use Rattle.tree_model.specs.code.PathTexts.{names_below, led_from, above_last, last_in}
 use Rattle.tree_calls.proofs.walk.above.Given as goal
 
 abbrev pub invariant-loop-left : goal.invariant-loop-left

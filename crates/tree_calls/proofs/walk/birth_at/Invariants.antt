@@ -1,7 +1,7 @@
 use Rattle.std.proofs.Common.{◌≡◌, length, IsTrue}
 use Rattle.std.specs.List.{list_all}
 use Rattle.tree_model.specs.Paths.{is_path_name}
-use Rattle.tree_model.specs.PathTexts.{names_below, led_from}
+use Rattle.tree_model.specs.code.PathTexts.{names_below, led_from}
 use Rattle.tree_calls.proofs.walk.birth_at.Given as goal
 
 abbrev pub invariant-loop-left : goal.invariant-loop-left

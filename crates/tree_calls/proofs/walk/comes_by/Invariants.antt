@@ -2,7 +2,7 @@ use Rattle.std.proofs.Common.{◌≡◌, ◌==◌, length, IsTrue}
 use Rattle.std.specs.List.{list_all, list_any}
 use Rattle.tree_model.specs.Paths.{is_path_name}
 use Rattle.tree_model.specs.Calls.{above}
-use Rattle.tree_model.specs.PathTexts.{names_below}
+use Rattle.tree_model.specs.code.PathTexts.{names_below}
 use Rattle.tree_calls.proofs.walk.comes_by.Given as goal
 
 abbrev pub invariant-loop-left : goal.invariant-loop-left

@@ -3,7 +3,7 @@ use Rattle.std.specs.List.{list_all}
 use Rattle.tree_model.specs.Paths.{is_path_name}
 use Rattle.tree_model.specs.Calls.{all_but_last, last_name}
 use Rattle.volume_steps.specs.Now.{tree_of_now}
-use Rattle.tree_model.specs.PathTexts.{names_below, led_from, above_last, last_in}
+use Rattle.tree_model.specs.code.PathTexts.{names_below, led_from, above_last, last_in}
 use Rattle.volume_calls.proofs.plain.PlainVolume.above.Given as goal
 
 abbrev pub invariant-loop-left : goal.invariant-loop-left

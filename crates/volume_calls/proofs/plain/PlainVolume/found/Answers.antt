@@ -1,7 +1,7 @@
 use Rattle.std.proofs.Common.{sym, refl}
 use Rattle.volume_steps.specs.Now.{VolumeNow}
 use Rattle.volume_calls.proofs.WalkSteps.{walk_some, walk_none}
-use Rattle.tree_model.specs.PathTexts.{names_below}
+use Rattle.tree_model.specs.code.PathTexts.{names_below}
 use Rattle.volume_calls.proofs.plain.PlainVolume.found.Goals as goal
 
 pub returns-in-Some-clause-found : goal.returns-in-Some-clause-found

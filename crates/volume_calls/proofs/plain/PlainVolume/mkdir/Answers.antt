@@ -8,7 +8,7 @@ use Rattle.volume_steps.specs.Plain.{IsPlainNow}
 use Rattle.volume_steps.specs.Now.{VolumeNow, tree_of_now}
 use Rattle.volume_steps.proofs.CreateCall.{none_of}
 use Rattle.volume_calls.specs.code.Asked.{IsAsked}
-use Rattle.tree_model.specs.PathTexts.{names_below}
+use Rattle.tree_model.specs.code.PathTexts.{names_below}
 use Rattle.volume_steps.proofs.TakeSteps.{directory_stands, mkdir_row, mkdir_takes, none_born}
 use Rattle.volume_calls.proofs.plain.PlainVolume.mkdir.Goals as goal
 

@@ -1,6 +1,6 @@
 use Rattle.std.proofs.Common.{◌≡◌, ◌∙◌, refl, subst, nat_lt, length, true, false, ℕ, List}
 use Rattle.volume_steps.specs.Now.{VolumeNow}
-use Rattle.tree_model.specs.PathTexts.{names_below, last_in}
+use Rattle.tree_model.specs.code.PathTexts.{names_below, last_in}
 use Rattle.volume_calls.proofs.WalkSteps.{parent_none, parent_file, parent_long, parent_place}
 use Rattle.volume_calls.proofs.plain.PlainVolume.place_of.Goals as goal
 
