@@ -1,7 +1,6 @@
 //! Blocks of `BLOCK_BYTES` bytes.
 ghost use Rattle.std.specs.Prelude.{◌≡◌, ℕ, ◌<◌, List, length, slice_set, MatchOption, IsSome, ◌↔◌, IfSome};
 ghost use Rattle.blk_base.specs.Block.{filled};
-ghost use Rattle.blk_base.specs.declared.block.TheConstants.{BLOCK_BYTES};
 
 use std::marker::Model;
 

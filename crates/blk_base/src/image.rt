@@ -2,7 +2,7 @@
 ghost use Rattle.std.specs.Prelude.{◌≡◌, ℕ, ◌+◌, ◌<◌, ◌≤◌, List, length, IfOk, slice_get, slice_set, Some, vec_len, ◌/◌, ◌==◌, ◌^◌};
 ghost use Rattle.blk_base.specs.Image.{zeros, whole_blocks, bytes_at};
 
-use crate::{Block, NoMemory};
+use crate::{BLOCK_BYTES, Block, NoMemory};
 use std::alloc::Global;
 use std::marker::Model;
 

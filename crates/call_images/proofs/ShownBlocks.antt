@@ -14,7 +14,7 @@ use Rattle.tree_model.specs.Calls.{Tree}
 use Rattle.tree_model.specs.Histories.{block_in, block_at, maps_block}
 use Rattle.tree_model.specs.Maps.{at_number}
 use Rattle.tree_model.specs.Trees.{Refusal, node_of_path, SameMetadataAt, AreAlike}
-use Rattle.tree_model.specs.laws.Listing.{IsRooted}
+use Rattle.tree_model.specs.Rooted.{IsRooted}
 use Rattle.tree_model.specs.laws.MapsLaws.{number_here, number_same}
 use Rattle.volume_ops.specs.declared.found.Found.{Found}
 use Rattle.volume_ops.specs.declared.found.Found.TheVariants as found

@@ -12,7 +12,7 @@ use Rattle.tree_model.specs.declared.call.Call.{Call}
 use Rattle.tree_model.specs.declared.call.Reply.{Reply}
 use Rattle.tree_model.specs.Calls.{Tree}
 use Rattle.tree_model.specs.Histories.{block_at, maps_block}
-use Rattle.tree_model.specs.laws.Listing.{IsRooted}
+use Rattle.tree_model.specs.Rooted.{IsRooted}
 use Rattle.tree_model.specs.Trees.{AreAlike}
 use Rattle.volume_ops.specs.Reads.{Reads, answer}
 use Rattle.volume_ops.specs.Volume.{disk_of, walked, tree_of}

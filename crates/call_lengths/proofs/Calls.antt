@@ -18,7 +18,7 @@ use Rattle.volume_model.specs.declared.placed.Placed.{Placed}
 use Rattle.volume_steps.specs.Now.{VolumeNow, Change, tree_of_now, room_of, unchanged, followed_by}
 use Rattle.volume_steps.specs.Steps.{at_node, set_links, resize, make_file, make_directory, add_name, take_name, drop_node, write_blocks, cut_blocks, clear_tail}
 use Rattle.volume_steps.specs.Calls.{at_place, at_path, mkdir_in, mkdir, create_in, create, rmdir_in, rmdir, lose_link, unlink_in, unlink, link_in, link, write_at, write, truncate_at, truncate, changed, called, called_by}
-use Rattle.volume_steps.specs.laws.Called.{FindsRoom}
+use Rattle.volume_steps.specs.Called.{FindsRoom}
 use Rattle.volume_steps.proofs.AllCalls.{any_call}
 use Rattle.call_lengths.specs.Lengths.{notes_in, bytes_in, blocks_in}
 use Rattle.call_lengths.proofs.Few.{Few, few_more, none_few, followed_few, if_few, node_few, row_few}

@@ -4,7 +4,7 @@ ghost use Rattle.blk_base.specs.Members.{In};
 ghost use Rattle.tree_model.specs.declared.call.Call.{Call};
 ghost use Rattle.volume_steps.specs.Now.{VolumeNow};
 ghost use Rattle.volume_steps.specs.Calls.{called};
-ghost use Rattle.volume_steps.specs.laws.Called.{FindsRoom};
+ghost use Rattle.volume_steps.specs.Called.{FindsRoom};
 ghost use Rattle.call_lengths.specs.Lengths.{notes_in, blocks_in};
 
 /// A law, which does nothing when it is called: a call tells at most twice as many notes as there are zones of data, and

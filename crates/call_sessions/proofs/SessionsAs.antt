@@ -20,7 +20,7 @@ use Rattle.host_machine.specs.laws.Contract.{noted_history, session, IsAlike}
 use Rattle.host_machine.specs.laws.Rules.{AllRules}
 use Rattle.host_runs.specs.Promises.{call_of, KeepsOk, IsAnswered}
 use Rattle.host_runs.specs.Sentences.{kept_number, IsAllSettled, KeepsSentences}
-use Rattle.host_runs.specs.laws.FlushFacts.{one_if, count, is_begin}
+use Rattle.host_runs.specs.Flushes.{one_if, count, is_sync_begin}
 use Rattle.host_volume.specs.ByteCalls.{ByteCall}
 use Rattle.host_volume.specs.Calls.{kind_of}
 use Rattle.host_volume.specs.Runs.{call_of_entry, calls_of, HasTreeLike, tree_after_transactions, KeepsSession}
@@ -93,11 +93,11 @@ module _ (s : Opening) (h : Host VolumeNow ByteCall Reply) where
       ap (λ cs. tree_after_entries (room_of s.geometry) root_alone 0 cs (cut_of h.cuts (length (plain_host h).history) k)) (acting_as h.history)
       ∙ ap (λ n. tree_after_entries (room_of s.geometry) root_alone 0 (calls_of h.history) (cut_of h.cuts n k)) entries
 
-  pub begins_as : (es : List (Entry ByteCall Reply)) → count (is_begin kind_of) (map (entry_as plain_call) es) ≡ count (is_begin (over s).model.kind) es
+  pub begins_as : (es : List (Entry ByteCall Reply)) → count (is_sync_begin kind_of) (map (entry_as plain_call) es) ≡ count (is_sync_begin (over s).model.kind) es
   begins_as [] = refl
-  begins_as (e ∷ es) = ap (λ n. one_if (is_begin (over s).model.kind e) + n) (begins_as es)
+  begins_as (e ∷ es) = ap (λ n. one_if (is_sync_begin (over s).model.kind e) + n) (begins_as es)
 
-  pub session_as : KeepsSession s h → count is_flush_note h.journal.flush.notes ≤ count (is_begin (over s).model.kind) h.history → KeepsCalls s (plain_host h)
+  pub session_as : KeepsSession s h → count is_flush_note h.journal.flush.notes ≤ count (is_sync_begin (over s).model.kind) h.history → KeepsCalls s (plain_host h)
   session_as k flushes = record {
     closed = k.closed;
     rules = rules_as k.closed k.rules;

@@ -23,7 +23,7 @@ use Rattle.host_machine.specs.laws.Contract.{Over, noted_history, session}
 use Rattle.host_machine.specs.laws.Rules.{AllRules}
 use Rattle.host_runs.specs.Runs.{Event, steps}
 use Rattle.host_runs.specs.Sentences.{kept_number, KeepsSentences}
-use Rattle.host_runs.specs.laws.FlushFacts.{count, is_begin}
+use Rattle.host_runs.specs.Flushes.{count, is_sync_begin}
 use Rattle.host_volume.specs.ByteCalls.{ByteCall, HasBytes}
 use Rattle.host_volume.specs.Calls.{kind_of}
 use Rattle.host_volume.specs.PlainTrees.{PlainTree}
@@ -82,4 +82,4 @@ pub record KeepsCalls (s : Opening) (h : Host VolumeNow Call Reply) : Type 0 whe
       IsRecovered (session (call_over s) (Stands s) closed h) m (disk_of recovered) →
       HasTreeLike s recovered (tree_behind s h (kept_number (call_over s) (Stands s) h closed m))
   -- at most as many flushes were submitted as sync calls have begun
-  pub flushes : count is_flush_note h.journal.flush.notes ≤ count (is_begin kind_of) h.history
+  pub flushes : count is_flush_note h.journal.flush.notes ≤ count (is_sync_begin kind_of) h.history

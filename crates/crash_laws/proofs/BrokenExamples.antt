@@ -8,11 +8,11 @@ use Rattle.std.proofs.lemmas.Option.{none-some}
 use Rattle.order_model.specs.declared.request.Request.{Request}
 use Rattle.order_model.specs.OrderClosed.{IsPutOf, IsPutWith, IsPut, IsFence, HasOrigin, IsKept, IsOrderClosed}
 use Rattle.log_model.proofs.Marks.{keep≢set}
-use Rattle.crash_laws.specs.BrokenExamples.{unfenced, without_body, late_with, page_late, without_page}
-use Rattle.crash_laws.specs.Clauses.{OrderClause}
+use Rattle.crash_laws.specs.laws.BrokenExamples.{unfenced, without_body, late_with, page_late, without_page}
+use Rattle.crash_laws.specs.laws.Clauses.{OrderClause}
 use Rattle.crash_laws.specs.Rules.{OrderRules}
-use Rattle.crash_laws.specs.Submitting.{Submitting}
-use Rattle.crash_laws.specs.Example.{program, history, logged, put}
+use Rattle.crash_laws.specs.laws.Submitting.{Submitting}
+use Rattle.crash_laws.specs.laws.Example.{program, history, logged, put}
 use Rattle.crash_laws.specs.Found.{found}
 use Rattle.crash_laws.specs.Recovery.{recovered_disk, HasVersion}
 use Rattle.crash_laws.specs.Session.{image_of}

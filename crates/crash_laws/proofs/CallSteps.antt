@@ -7,11 +7,11 @@ use Rattle.blk_base.specs.laws.Members.{slice_get-length}
 use Rattle.order_model.specs.declared.completion.Completion.{Completion}
 use Rattle.order_model.specs.declared.completion.Completion.TheVariants.{Flushed}
 use Rattle.order_model.specs.declared.note.Note.TheVariants.{Page, Commit}
-use Rattle.crash_laws.specs.CallFacts.{IsDone, IsUnchangedSince, IsGoodFor}
+use Rattle.crash_laws.specs.laws.CallFacts.{IsDone, IsUnchangedSince, IsGoodFor}
 use Rattle.crash_laws.specs.History.{History, Calm, HasTrees}
 use Rattle.crash_laws.specs.PromiseRules.{AreHeld, KeepsSync}
 use Rattle.crash_laws.specs.Session.{Session, HasNote, IsCommit}
-use Rattle.crash_laws.specs.Submitting.{Submitting, after}
+use Rattle.crash_laws.specs.laws.Submitting.{Submitting, after}
 use Rattle.crash_laws.proofs.Growing.{note_old, note_cases, ordered_old}
 use Rattle.crash_laws.proofs.Histories.{stays_mapped}
 use Rattle.crash_laws.proofs.Promises.{superseded_or_calm}

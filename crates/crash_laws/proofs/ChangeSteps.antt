@@ -6,9 +6,9 @@ use Rattle.std.proofs.lemmas.Option.{none-some, same_Some}
 use Rattle.blk_base.specs.Members.{In}
 use Rattle.volume_ops.specs.Reads.{Reads}
 use Rattle.log_model.specs.Marks.{Set, mark_in, transactions_from}
-use Rattle.crash_laws.specs.Changes.{Told, IsChange, HasZones, IsPresent}
+use Rattle.crash_laws.specs.laws.Changes.{Told, IsChange, HasZones, IsPresent}
 use Rattle.crash_laws.specs.History.{History, Calm, last_write, HasTrees}
-use Rattle.crash_laws.specs.HostFacts.{Host, IsLive, IsDead, HostFacts}
+use Rattle.crash_laws.specs.laws.HostFacts.{Host, IsLive, IsDead, HostFacts}
 use Rattle.crash_laws.specs.PageRules.{IsPageTo}
 use Rattle.crash_laws.specs.Session.{Session, image_of}
 use Rattle.crash_laws.proofs.Histories.{stays_mapped}

@@ -4,11 +4,11 @@ use Rattle.std.proofs.Common.{sym, ap, subst, ◌∙◌, inl, inr, ⊎_elim, ari
 use Rattle.blk_base.specs.laws.Members.{slice_get-length}
 use Rattle.order_model.specs.declared.note.Note.TheVariants.{Commit}
 use Rattle.order_model.specs.OrderClosed.{IsFence}
-use Rattle.crash_laws.specs.Clauses.{CommitClause}
+use Rattle.crash_laws.specs.laws.Clauses.{CommitClause}
 use Rattle.crash_laws.specs.Ordering.{Fenced}
 use Rattle.crash_laws.specs.Rules.{CommitOrder}
 use Rattle.crash_laws.specs.Session.{log_transaction, IsLog, IsCommit}
-use Rattle.crash_laws.specs.Submitting.{Submitting, after, new_place}
+use Rattle.crash_laws.specs.laws.Submitting.{Submitting, after, new_place}
 use Rattle.crash_laws.proofs.Growing.{closed_off, note_old, note_cases, log_cases, commit_before_old, fence_old, fence_new, fenced_old}
 
 -- ---- commit order

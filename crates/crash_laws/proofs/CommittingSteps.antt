@@ -7,14 +7,14 @@ use Rattle.order_model.specs.OrderClosed.{IsOrdered, kind_block}
 use Rattle.volume_ops.specs.Reads.{Reads}
 use Rattle.log_model.specs.Marks.{mark_in, transactions_from}
 use Rattle.crash_laws.specs.History.{History, Calm, last_write, HasTrees}
-use Rattle.crash_laws.specs.HostFacts.{Host, HostFacts}
+use Rattle.crash_laws.specs.laws.HostFacts.{Host, HostFacts}
 use Rattle.crash_laws.specs.Ordering.{IsClosedOff}
-use Rattle.crash_laws.specs.PageClauses.{CommitPagesClause}
+use Rattle.crash_laws.specs.laws.PageClauses.{CommitPagesClause}
 use Rattle.crash_laws.specs.PageRules.{place_at}
-use Rattle.crash_laws.specs.Plans.{PlanFacts, IsCommitting}
+use Rattle.crash_laws.specs.laws.Plans.{PlanFacts, IsCommitting}
 use Rattle.crash_laws.specs.Rules.{CommitOrder}
 use Rattle.crash_laws.specs.Session.{Session, HasNote}
-use Rattle.crash_laws.specs.Submitting.{Submitting, after}
+use Rattle.crash_laws.specs.laws.Submitting.{Submitting, after}
 use Rattle.crash_laws.proofs.Growing.{note_old}
 use Rattle.crash_laws.proofs.Histories.{mapped_was_written}
 use Rattle.crash_laws.proofs.HostSteps.{page_cases, transactions_agree, place_agrees}

@@ -11,11 +11,11 @@ use Rattle.volume_ops.specs.Volume.{disk_of}
 use Rattle.log_model.specs.Log.{Commits}
 use Rattle.log_model.specs.Marks.{Keep, Set, followed, mark_in, transactions_from}
 use Rattle.log_model.proofs.Marks.{keep≢set, mark_in-append}
-use Rattle.crash_laws.specs.Clauses.{OrderClause}
+use Rattle.crash_laws.specs.laws.Clauses.{OrderClause}
 use Rattle.crash_laws.specs.Rules.{OrderRules, BaseImage}
 use Rattle.crash_laws.specs.Session.{Session, IsLog, LogBlock, IsSuperOf}
-use Rattle.crash_laws.specs.Submitting.{IsCommitted}
-use Rattle.crash_laws.specs.Example.{header, program, logged, with_first, page_written, first_super, first_descriptor, first_body, first_commit, home_written, second_super, page_overwritten, second_descriptor, second_body, second_commit, flushed}
+use Rattle.crash_laws.specs.laws.Submitting.{IsCommitted}
+use Rattle.crash_laws.specs.laws.Example.{header, program, logged, with_first, page_written, first_super, first_descriptor, first_body, first_commit, home_written, second_super, page_overwritten, second_descriptor, second_body, second_commit, flushed}
 use Rattle.crash_laws.proofs.Ordering.{same_block}
 use Rattle.crash_laws.proofs.RequestClauses.{page_request_clause, flush_request_clause, home_request_clause, super_request_clause, part_request_clause, commit_request_clause}
 use Rattle.crash_laws.proofs.RingSteps.{log_listed}

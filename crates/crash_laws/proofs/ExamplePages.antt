@@ -9,14 +9,14 @@ use Rattle.order_model.specs.declared.note.Note.TheVariants.{Page, Commit}
 use Rattle.order_model.specs.OrderClosed.{IsPutOf}
 use Rattle.log_model.specs.Marks.{Set, mark_in, transactions_from}
 use Rattle.crash_laws.specs.History.{HasTrees, last_write}
-use Rattle.crash_laws.specs.PageClauses.{PageClause}
+use Rattle.crash_laws.specs.laws.PageClauses.{PageClause}
 use Rattle.crash_laws.specs.PageRules.{IsPageTo, PageOrder, DataBeforeCommit}
 use Rattle.crash_laws.specs.PromiseRules.{Covers, CoversEntry, KeepsSync}
 use Rattle.crash_laws.specs.Session.{Session, HasNote}
-use Rattle.crash_laws.specs.Submitting.{Submitting, after}
-use Rattle.crash_laws.specs.Clauses.{OrderClause}
+use Rattle.crash_laws.specs.laws.Submitting.{Submitting, after}
+use Rattle.crash_laws.specs.laws.Clauses.{OrderClause}
 use Rattle.crash_laws.specs.Rules.{OrderRules}
-use Rattle.crash_laws.specs.Example.{program, logged, cut, history, is_page, with_first, page_written, first_super, first_descriptor, first_body, first_commit, home_written, second_super, page_overwritten, second_descriptor, second_body, second_commit, flushed, synced, completions}
+use Rattle.crash_laws.specs.laws.Example.{program, logged, cut, history, is_page, with_first, page_written, first_super, first_descriptor, first_body, first_commit, home_written, second_super, page_overwritten, second_descriptor, second_body, second_commit, flushed, synced, completions}
 use Rattle.crash_laws.proofs.Example.{page_unlogged, at_start, one, two, three, four, five, six, seven, eight, nine, ten, eleven, twelve}
 use Rattle.crash_laws.proofs.ImageSteps.{page_order_step, data_before_commit_step}
 use Rattle.crash_laws.proofs.OrderSteps.{order_rules_step}

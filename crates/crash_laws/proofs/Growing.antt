@@ -12,7 +12,7 @@ use Rattle.order_model.specs.declared.note.Note.TheVariants.{Commit}
 use Rattle.order_model.specs.OrderClosed.{IsPutOf, IsPutWith, IsOrdered, IsFence, is_flush, kind_block, kind_body}
 use Rattle.crash_laws.specs.Ordering.{Fenced, IsClosedOff}
 use Rattle.crash_laws.specs.Session.{HasNote, log_transaction, IsLog, CommitBefore}
-use Rattle.crash_laws.specs.Submitting.{Submitting, after, new_place}
+use Rattle.crash_laws.specs.laws.Submitting.{Submitting, after, new_place}
 
 -- ---- requests
 

@@ -5,7 +5,7 @@ use Rattle.order_model.specs.declared.note.Note.TheVariants.{Page}
 use Rattle.order_model.specs.OrderClosed.{IsPutWith}
 use Rattle.volume_ops.specs.Reads.{Reads, answer}
 use Rattle.log_model.specs.Marks.{mark_in, transactions_from}
-use Rattle.crash_laws.specs.Extending.{Extends}
+use Rattle.crash_laws.specs.laws.Extending.{Extends}
 use Rattle.crash_laws.specs.History.{History, IsUnmapped, Calm, last_write}
 use Rattle.crash_laws.specs.PageRules.{place_at, PageOrder, DataBeforeCommit}
 use Rattle.crash_laws.specs.Session.{Session, HasNote, IsSubmitted, Submitted, image_of}

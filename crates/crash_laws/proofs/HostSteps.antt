@@ -10,12 +10,12 @@ use Rattle.volume_ops.specs.Volume.{disk_of}
 use Rattle.volume_ops.specs.Reads.{Reads, answer}
 use Rattle.log_model.specs.Marks.{Transaction, mark_in, body_after, transactions_from}
 use Rattle.crash_laws.specs.History.{History, Calm, last_write, HasTrees}
-use Rattle.crash_laws.specs.HostFacts.{Host, IsDead, HostFacts}
+use Rattle.crash_laws.specs.laws.HostFacts.{Host, IsDead, HostFacts}
 use Rattle.crash_laws.specs.PageRules.{IsPageTo, place_at}
-use Rattle.crash_laws.specs.Plans.{PlanFacts}
+use Rattle.crash_laws.specs.laws.Plans.{PlanFacts}
 use Rattle.crash_laws.specs.Rules.{CommitOrder}
 use Rattle.crash_laws.specs.Session.{Session, HasNote, IsCommit}
-use Rattle.crash_laws.specs.Submitting.{Submitting, after, new_place}
+use Rattle.crash_laws.specs.laws.Submitting.{Submitting, after, new_place}
 use Rattle.crash_laws.proofs.Growing.{note_old, note_new, note_cases, put_back, new_put}
 use Rattle.crash_laws.proofs.Histories.{mapped_was_written}
 use Rattle.crash_laws.proofs.LogSteps.{same_transactions}

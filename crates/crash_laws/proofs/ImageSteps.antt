@@ -11,14 +11,14 @@ use Rattle.order_model.specs.OrderClosed.{IsPutOf, IsPutWith, IsOrdered, kind_bl
 use Rattle.volume_ops.specs.Volume.{disk_of}
 use Rattle.volume_ops.specs.Reads.{Reads, answer, blocks_read}
 use Rattle.log_model.specs.Marks.{Transaction, Set, mark_in, body_after, transactions_from}
-use Rattle.crash_laws.specs.Clauses.{CommitClause, FitsClause, ImageClause}
+use Rattle.crash_laws.specs.laws.Clauses.{CommitClause, FitsClause, ImageClause}
 use Rattle.crash_laws.specs.History.{History, Calm, last_write}
 use Rattle.crash_laws.specs.Ordering.{Fenced}
-use Rattle.crash_laws.specs.PageClauses.{PageClause}
+use Rattle.crash_laws.specs.laws.PageClauses.{PageClause}
 use Rattle.crash_laws.specs.PageRules.{IsPageTo, IsGivenUp, place_at, PageOrder, DataBeforeCommit}
 use Rattle.crash_laws.specs.Rules.{FitsNotes, CommitOrder, Images, IsHomeOf, is_page_or_flush}
 use Rattle.crash_laws.specs.Session.{HasNote, IsCommit, CommitBefore, IsSubmitted, Before, Submitted, image_of}
-use Rattle.crash_laws.specs.Submitting.{Submitting, after, new_place, IsCommitted}
+use Rattle.crash_laws.specs.laws.Submitting.{Submitting, after, new_place, IsCommitted}
 use Rattle.crash_laws.proofs.Growing.{closed_off, note_old, note_cases, log_cases, commit_before_old, put_old, put_new, new_put, put_back, request_new, fenced_old, ordered_old, ordered_new, body_old}
 use Rattle.crash_laws.proofs.LogSteps.{committed_transactions}
 

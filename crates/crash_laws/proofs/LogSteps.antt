@@ -14,11 +14,11 @@ use Rattle.order_model.specs.OrderClosed.{IsPutOf, IsFence, kind_block, kind_bod
 use Rattle.log_model.specs.Log.{Tail, Spells}
 use Rattle.log_model.specs.Marks.{Transaction, Set, mark_in, transactions_from}
 use Rattle.log_model.specs.Ring.{places_on}
-use Rattle.crash_laws.specs.Clauses.{CommitClause, LogClause, SuperClause, CheckpointClause}
+use Rattle.crash_laws.specs.laws.Clauses.{CommitClause, LogClause, SuperClause, CheckpointClause}
 use Rattle.crash_laws.specs.Ordering.{Fenced}
 use Rattle.crash_laws.specs.Rules.{CommitOrder, LogLayout, CheckpointOrder, HasHeader, IsSentHome}
 use Rattle.crash_laws.specs.Session.{HasNote, log_transaction, IsLog, IsCommit, CommitBefore, IsSubmitted, Before, Submitted, body_at, LogBlock, with_log_block, log_blocks_from, log_blocks, log_blocks_of, bodies_of, sequence_of, first_place, IsSuperOf}
-use Rattle.crash_laws.specs.Submitting.{Submitting, after, new_place}
+use Rattle.crash_laws.specs.laws.Submitting.{Submitting, after, new_place}
 use Rattle.crash_laws.proofs.Commits.{commit_below}
 use Rattle.crash_laws.proofs.Growing.{closed_off, note_old, note_new, note_cases, log_within, log_cases, commit_before_old, put_old, put_new, new_put, put_back, request_new, request_old, fence_old, fence_new, fenced_old, body_old}
 use Rattle.crash_laws.proofs.LogBlocks.{filter_none, In-log_blocks}

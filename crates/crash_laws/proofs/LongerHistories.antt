@@ -8,7 +8,7 @@ use Rattle.tree_model.specs.declared.call.Room.{Room}
 use Rattle.tree_model.specs.Calls.{Tree}
 use Rattle.tree_model.specs.Maps.{at_number}
 use Rattle.tree_model.specs.Histories.{Entry, tree_after_entry, entry_writes, tree_after_entries, writes_among, maps_block, block_at, same_file, changed, changed_after}
-use Rattle.crash_laws.specs.Extending.{Extends}
+use Rattle.crash_laws.specs.laws.Extending.{Extends}
 use Rattle.crash_laws.specs.LegalHistory.{Event, done_at, done_from, done_by, root_alone}
 use Rattle.crash_laws.specs.Session.{Session, HasNote, IsSubmitted, Submitted}
 use Rattle.crash_laws.specs.TreeHistory.{AreCuts, history_of}

@@ -1,8 +1,8 @@
 -- One request more keeps all rules, by the clauses that it owes.
 use Rattle.volume_ops.specs.Reads.{Reads}
-use Rattle.crash_laws.specs.Clauses.{OrderClause}
+use Rattle.crash_laws.specs.laws.Clauses.{OrderClause}
 use Rattle.crash_laws.specs.Rules.{OrderRules, BaseImage}
-use Rattle.crash_laws.specs.Submitting.{Submitting, after}
+use Rattle.crash_laws.specs.laws.Submitting.{Submitting, after}
 use Rattle.crash_laws.proofs.CommitSteps.{commit_order_step}
 use Rattle.crash_laws.proofs.ImageSteps.{fits_notes_step, images_step}
 use Rattle.crash_laws.proofs.LogSteps.{log_layout_step, checkpoint_order_step}

@@ -13,7 +13,7 @@ use Rattle.crash_laws.specs.PageRules.{IsPageTo, PageOrder}
 use Rattle.crash_laws.specs.Recovery.{HasVersion}
 use Rattle.crash_laws.specs.Rules.{OrderRules}
 use Rattle.crash_laws.specs.Session.{Session, Medium, HasNote, IsCommit, CommitBefore, IsSubmitted, Submitted}
-use Rattle.crash_laws.specs.Submitting.{after}
+use Rattle.crash_laws.specs.laws.Submitting.{after}
 use Rattle.crash_laws.proofs.Commits.{commit_positive, reached_by_kept}
 use Rattle.crash_laws.proofs.Histories.{calm_within, calm_nothing, stays_mapped, cuts_rise}
 use Rattle.crash_laws.proofs.Metadata.{found_submitted}

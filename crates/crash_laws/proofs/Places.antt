@@ -5,7 +5,7 @@ use Rattle.std.proofs.lemmas.Option.{none-some}
 use Rattle.minix_layout.specs.declared.division.Geometry.{Geometry}
 use Rattle.tree_model.specs.declared.node.Node.{Node}
 use Rattle.tree_model.specs.Calls.{Tree}
-use Rattle.tree_model.specs.laws.Listing.{IsRooted}
+use Rattle.tree_model.specs.Rooted.{IsRooted}
 use Rattle.tree_model.specs.Maps.{at_number}
 use Rattle.tree_model.specs.Trees.{Refusal, node_of_path, AreAlike}
 use Rattle.tree_model.specs.laws.Alike.{path_stands, node_has_path}

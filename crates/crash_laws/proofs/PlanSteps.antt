@@ -12,9 +12,9 @@ use Rattle.volume_ops.specs.laws.ReadsLaws.{answer-agrees, blocks_read-agree}
 use Rattle.log_model.specs.Marks.{Transaction, Mark, Keep, Clear, Set, followed, bodies_mark, mark_in, transaction_mark, body_after, transactions_from}
 use Rattle.log_model.proofs.Marks.{clear≢set, mark-split}
 use Rattle.crash_laws.specs.History.{History, Calm, HasTrees}
-use Rattle.crash_laws.specs.HostFacts.{Host, HostFacts}
+use Rattle.crash_laws.specs.laws.HostFacts.{Host, HostFacts}
 use Rattle.crash_laws.specs.PageRules.{IsPageTo, place_at}
-use Rattle.crash_laws.specs.Plans.{PlanFacts}
+use Rattle.crash_laws.specs.laws.Plans.{PlanFacts}
 use Rattle.crash_laws.specs.Rules.{CommitOrder}
 use Rattle.crash_laws.specs.Session.{Session, IsCommit, image_of}
 use Rattle.crash_laws.proofs.Commits.{commit_positive, commits_rise}

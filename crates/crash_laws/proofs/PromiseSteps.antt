@@ -5,11 +5,11 @@ use Rattle.std.proofs.Common.{sym, ap, ◌∙◌, inl, inr, ⊎_elim, arith}
 use Rattle.order_model.specs.declared.completion.Completion.{Completion}
 use Rattle.order_model.specs.declared.note.Note.TheVariants.{Page, Commit}
 use Rattle.order_model.specs.OrderClosed.{IsFence}
-use Rattle.crash_laws.specs.Extending.{Extends}
+use Rattle.crash_laws.specs.laws.Extending.{Extends}
 use Rattle.crash_laws.specs.History.{History}
 use Rattle.crash_laws.specs.PromiseRules.{AreHeld, KeepsBarrier, KeepsSync, BegunCall, Covers, CoversEntry}
 use Rattle.crash_laws.specs.Session.{Session, HasNote, IsCommit, IsSubmitted, Before, Submitted}
-use Rattle.crash_laws.specs.Submitting.{Submitting, after}
+use Rattle.crash_laws.specs.laws.Submitting.{Submitting, after}
 use Rattle.crash_laws.proofs.Growing.{note_old, note_cases, fence_old, fence_within, ordered_old}
 use Rattle.crash_laws.proofs.Growth.{unmapped_old, unmapped_new}
 

@@ -13,13 +13,13 @@ use Rattle.log_model.specs.Marks.{Set, mark_in, transactions_from}
 use Rattle.log_model.specs.Ring.{places_on}
 use Rattle.log_model.specs.Log.{Spells}
 use Rattle.log_model.proofs.Ring.{places_on-place}
-use Rattle.crash_laws.specs.Clauses.{FitsClause, CommitClause, LogClause, CheckpointClause, ImageClause, OrderClause}
+use Rattle.crash_laws.specs.laws.Clauses.{FitsClause, CommitClause, LogClause, CheckpointClause, ImageClause, OrderClause}
 use Rattle.crash_laws.specs.History.{History}
-use Rattle.crash_laws.specs.PageClauses.{NewPageClause, CommitPagesClause, PageClause}
-use Rattle.crash_laws.specs.Requests.{IsPageRequest, IsFlushRequest, IsHomeRequest, IsSuperRequest, IsLogRequest, IsCommitRequest, IsPartRequest}
+use Rattle.crash_laws.specs.laws.PageClauses.{NewPageClause, CommitPagesClause, PageClause}
+use Rattle.crash_laws.specs.laws.Requests.{IsPageRequest, IsFlushRequest, IsHomeRequest, IsSuperRequest, IsLogRequest, IsCommitRequest, IsPartRequest}
 use Rattle.crash_laws.specs.Rules.{HasHeader, is_page_or_flush}
 use Rattle.crash_laws.specs.Session.{log_transaction, IsLog, log_blocks, log_blocks_of, bodies_of, sequence_of, image_of}
-use Rattle.crash_laws.specs.Submitting.{Submitting, after, IsCommitted}
+use Rattle.crash_laws.specs.laws.Submitting.{Submitting, after, IsCommitted}
 
 -- ---- requests of no transaction
 

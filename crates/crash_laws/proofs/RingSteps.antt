@@ -14,12 +14,12 @@ use Rattle.log_model.specs.Marks.{Mark, Keep, Clear, Set, followed, mark_in, tra
 use Rattle.log_model.specs.Ring.{places_in, place_after, places_on}
 use Rattle.log_model.proofs.Marks.{keep≢set, clear≢set, same_Set, mark-split}
 use Rattle.log_model.proofs.Ring.{places_on-add, places_on-place, no_return}
-use Rattle.crash_laws.specs.Clauses.{SuperClause}
+use Rattle.crash_laws.specs.laws.Clauses.{SuperClause}
 use Rattle.crash_laws.specs.Ordering.{IsClosedOff}
-use Rattle.crash_laws.specs.RingFacts.{RingHost, IsAtHome, RingFacts}
+use Rattle.crash_laws.specs.laws.RingFacts.{RingHost, IsAtHome, RingFacts}
 use Rattle.crash_laws.specs.Rules.{CommitOrder, LogLayout, CheckpointOrder}
 use Rattle.crash_laws.specs.Session.{Session, HasNote, log_transaction, IsLog, LogBlock, with_log_block, log_blocks, log_blocks_below, first_place, IsSuperOf}
-use Rattle.crash_laws.specs.Submitting.{Submitting, after, new_place, IsCommitted}
+use Rattle.crash_laws.specs.laws.Submitting.{Submitting, after, new_place, IsCommitted}
 use Rattle.crash_laws.proofs.Commits.{commit_below}
 use Rattle.crash_laws.proofs.Growing.{note_old, note_new, note_cases, body_old, body_new, commit_before_old, fence_old, fence_new}
 use Rattle.crash_laws.proofs.LogBlocks.{log_is_log_block, below-split}

@@ -10,11 +10,11 @@ use Rattle.volume_ops.specs.Reads.{Reads}
 use Rattle.log_model.specs.Marks.{Mark, Keep, Clear, Set, followed, mark_in, transaction_mark, transactions_from}
 use Rattle.log_model.proofs.Marks.{mark-split, transaction_mark-clear}
 use Rattle.crash_laws.specs.History.{History, last_write, HasTrees}
-use Rattle.crash_laws.specs.HostFacts.{Host, IsLive, IsDead, HostFacts}
-use Rattle.crash_laws.specs.PageClauses.{NewPageClause, IsGivenUpNow}
+use Rattle.crash_laws.specs.laws.HostFacts.{Host, IsLive, IsDead, HostFacts}
+use Rattle.crash_laws.specs.laws.PageClauses.{NewPageClause, IsGivenUpNow}
 use Rattle.crash_laws.specs.PageRules.{IsPageTo}
 use Rattle.crash_laws.specs.Session.{Session, IsSubmitted, Before, Submitted}
-use Rattle.crash_laws.specs.Submitting.{IsCommitted}
+use Rattle.crash_laws.specs.laws.Submitting.{IsCommitted}
 use Rattle.crash_laws.proofs.Histories.{mapped_was_written}
 
 -- A block has no body in the image of the last closed transaction, and that transaction does not revoke it: then it

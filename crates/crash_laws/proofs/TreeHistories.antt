@@ -4,7 +4,7 @@ use Rattle.std.proofs.Common.{subst, arith}
 use Rattle.tree_model.specs.declared.call.Room.{Room}
 use Rattle.tree_model.specs.declared.node.Node.TheVariants as nodes
 use Rattle.tree_model.specs.Histories.{block_in, maps_block, maps, tree_after_entries, changed_after}
-use Rattle.tree_model.specs.laws.Listing.{IsRooted}
+use Rattle.tree_model.specs.Rooted.{IsRooted}
 use Rattle.tree_model.proofs.PlainTrees.{history_rooted, new_plain, new_born}
 use Rattle.tree_model.proofs.Histories.{history_mapped, history_written, unchanged_between}
 use Rattle.crash_laws.specs.History.{HasTrees}

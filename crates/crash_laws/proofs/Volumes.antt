@@ -13,12 +13,12 @@ use Rattle.volume_ops.specs.laws.ReadsLaws.{blocks_read-agree}
 use Rattle.volume_ops.specs.Walk.{walk_volume}
 use Rattle.volume_ops.specs.Volume.{disk_of, metadata, tree_of}
 use Rattle.volume_ops.proofs.AlikeLaws.{changed_alike}
-use Rattle.crash_laws.specs.Clauses.{CommitClause}
+use Rattle.crash_laws.specs.laws.Clauses.{CommitClause}
 use Rattle.crash_laws.specs.Found.{IsFound}
 use Rattle.crash_laws.specs.Recovery.{IsRecovered}
 use Rattle.crash_laws.specs.Rules.{CommitOrder, OrderRules}
 use Rattle.crash_laws.specs.Session.{Session, Medium, image_of}
-use Rattle.crash_laws.specs.Submitting.{Submitting, after}
+use Rattle.crash_laws.specs.laws.Submitting.{Submitting, after}
 use Rattle.crash_laws.specs.Volumes.{HasTreeOf, HasTreesOf}
 use Rattle.crash_laws.proofs.ImageSteps.{image_old, submitted_cases}
 use Rattle.crash_laws.proofs.Metadata.{found_submitted}

@@ -12,7 +12,7 @@ use Rattle.page_cache.specs.declared.cached_page.CachedPage.{CachedPage}
 use Rattle.page_cache.specs.declared.cached_page.PageState.TheVariants.{Clean, Dirty, Firm}
 use Rattle.crash_laws.proofs.Growth.{unmapped_old, unmapped_new}
 use Rattle.crash_laws.proofs.Histories.{stays_mapped}
-use Rattle.crash_laws.specs.Extending.{Extends}
+use Rattle.crash_laws.specs.laws.Extending.{Extends}
 use Rattle.crash_laws.specs.History.{History, Calm, last_write, HasTrees}
 use Rattle.crash_laws.specs.PageRules.{IsPageTo, place_at}
 use Rattle.crash_laws.specs.Session.{Session, IsSubmitted, Before, Submitted, image_of}

@@ -10,12 +10,12 @@ use Rattle.order_model.specs.declared.request.Request.{Request}
 use Rattle.log_model.specs.Marks.{Set, mark_in, transactions_from}
 use Rattle.volume_ops.specs.Reads.{Reads, blocks_read}
 use Rattle.crash_laws.proofs.Growing.{note_old, ordered_old}
-use Rattle.crash_laws.specs.Clauses.{ImageClause}
+use Rattle.crash_laws.specs.laws.Clauses.{ImageClause}
 use Rattle.crash_laws.specs.History.{History, Calm, last_write}
-use Rattle.crash_laws.specs.PageClauses.{NewPageClause, CommitPagesClause, PageClause}
+use Rattle.crash_laws.specs.laws.PageClauses.{NewPageClause, CommitPagesClause, PageClause}
 use Rattle.crash_laws.specs.PageRules.{place_at}
 use Rattle.crash_laws.specs.Session.{Session, image_of}
-use Rattle.crash_laws.specs.Submitting.{after}
+use Rattle.crash_laws.specs.laws.Submitting.{after}
 use Rattle.host_machine.proofs.Sends.{plainly, page_cases, page≢commit}
 use Rattle.host_machine.specs.laws.Facts.{OnItsWay}
 

@@ -14,7 +14,7 @@ use Rattle.page_cache.specs.declared.cached_page.PageState.TheVariants.{Firm}
 use Rattle.crash_laws.specs.History.{History}
 use Rattle.crash_laws.specs.Rules.{CommitOrder}
 use Rattle.crash_laws.specs.Session.{image_of}
-use Rattle.crash_laws.specs.Submitting.{Submitting, after}
+use Rattle.crash_laws.specs.laws.Submitting.{Submitting, after}
 use Rattle.host_machine.proofs.Entries.{trees_noted, cut_noted, history_noted, index_push, index_push_left}
 use Rattle.host_machine.proofs.Machine.{plain_at}
 use Rattle.host_machine.proofs.PlanNotes.{plan-rest, plan-barrier}

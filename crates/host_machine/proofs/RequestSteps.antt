@@ -16,11 +16,11 @@ use Rattle.page_cache.specs.declared.cached_page.PageState.TheVariants.{Clean, L
 use Rattle.page_cache.specs.laws.Order.{put-rising}
 use Rattle.crash_laws.proofs.Growing.{fence_old}
 use Rattle.crash_laws.proofs.Histories.{mapped_was_written}
-use Rattle.crash_laws.specs.Clauses.{FitsClause, ImageClause}
+use Rattle.crash_laws.specs.laws.Clauses.{FitsClause, ImageClause}
 use Rattle.crash_laws.specs.History.{last_write, HasTrees}
-use Rattle.crash_laws.specs.PageClauses.{NewPageClause, PageClause}
+use Rattle.crash_laws.specs.laws.PageClauses.{NewPageClause, PageClause}
 use Rattle.crash_laws.specs.Session.{Session}
-use Rattle.crash_laws.specs.Submitting.{after}
+use Rattle.crash_laws.specs.laws.Submitting.{after}
 use Rattle.host_machine.proofs.ChangeSteps.{last_write_within}
 use Rattle.host_machine.proofs.Commits.{page_owes, page_owes_images, way_pushed}
 use Rattle.host_machine.proofs.Entries.{trees_noted}

@@ -12,7 +12,7 @@ use Rattle.crash_laws.proofs.Growing.{note_old, commit_before_old, ordered_old, 
 use Rattle.crash_laws.specs.History.{History, last_write, HasTrees, IsEntryOf}
 use Rattle.crash_laws.specs.PageRules.{IsPageTo}
 use Rattle.crash_laws.specs.Session.{CommitBefore}
-use Rattle.crash_laws.specs.Submitting.{Submitting, after, new_place, IsCommitted}
+use Rattle.crash_laws.specs.laws.Submitting.{Submitting, after, new_place, IsCommitted}
 use Rattle.host_machine.proofs.ChangeSteps.{last_write_within}
 use Rattle.host_machine.proofs.Sends.{page_cases}
 use Rattle.host_machine.specs.laws.Facts.{View, IsPlain}

@@ -10,7 +10,7 @@ use Rattle.log_model.specs.Marks.{Transaction}
 use Rattle.page_cache.specs.Pages.{page_at}
 use Rattle.page_cache.specs.declared.cached_page.CachedPage.{CachedPage}
 use Rattle.crash_laws.specs.History.{last_write}
-use Rattle.crash_laws.specs.Submitting.{IsCommitted}
+use Rattle.crash_laws.specs.laws.Submitting.{IsCommitted}
 use Rattle.host_machine.proofs.ChangeSteps.{last_write_within}
 use Rattle.host_machine.proofs.Entries.{trees_noted}
 use Rattle.host_machine.proofs.Machine.{plain_at}

@@ -15,10 +15,10 @@ use Rattle.page_cache.specs.declared.cached_page.CachedPage.{CachedPage}
 use Rattle.crash_laws.proofs.Growth.{page_order_grows, data_before_commit_grows}
 use Rattle.crash_laws.proofs.ImageSteps.{page_order_step, data_before_commit_step}
 use Rattle.crash_laws.proofs.OrderSteps.{order_rules_step}
-use Rattle.crash_laws.specs.Clauses.{CommitClause, LogClause, CheckpointClause}
+use Rattle.crash_laws.specs.laws.Clauses.{CommitClause, LogClause, CheckpointClause}
 use Rattle.crash_laws.specs.Rules.{HasHeader}
 use Rattle.crash_laws.specs.Session.{Session, log_transaction}
-use Rattle.crash_laws.specs.Submitting.{Submitting}
+use Rattle.crash_laws.specs.laws.Submitting.{Submitting}
 use Rattle.host_machine.proofs.CallSteps.{IsQuiet, change_keeps, end_keeps}
 use Rattle.host_machine.proofs.ChangeSteps.{extends}
 use Rattle.host_machine.proofs.Entries.{entry_noted}

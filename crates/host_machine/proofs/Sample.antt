@@ -9,7 +9,7 @@ use Rattle.host_machine.proofs.Opening.{opened_keeps}
 use Rattle.host_machine.proofs.Steps.{advance_keeps}
 use Rattle.host_machine.specs.Host.{advance}
 use Rattle.host_machine.specs.Model.{FileBlock, Applied}
-use Rattle.host_machine.specs.Sample.{Call, Tree, Volume, is_it, has_block, body, the_page, waiting_of, free_of, acts, kind_of, alters, writes, needs, nothing, removed, applied, released, bytes_of, zone_of, model, over, Stands, ring, empty, begun_host, WriteIt, RemoveIt, Look, Barrier, told, both_done}
+use Rattle.host_machine.specs.laws.Sample.{Call, Tree, Volume, is_it, has_block, body, the_page, waiting_of, free_of, acts, kind_of, alters, writes, needs, nothing, removed, applied, released, bytes_of, zone_of, model, over, Stands, ring, empty, begun_host, WriteIt, RemoveIt, Look, Barrier, told, both_done}
 use Rattle.host_machine.specs.State.{Thread}
 use Rattle.flush_actor.specs.Kinds.{is_begun}
 use Rattle.host_machine.specs.Views.{waits_for}

@@ -19,10 +19,10 @@ use Rattle.crash_laws.proofs.Growing.{note_old, note_new, note_cases, put_old, p
 use Rattle.crash_laws.proofs.Histories.{mapped_was_written}
 use Rattle.crash_laws.proofs.SendSteps.{no_earlier_body}
 use Rattle.crash_laws.specs.History.{History, last_write, HasTrees}
-use Rattle.crash_laws.specs.PageClauses.{NewPageClause, IsGivenUpNow}
+use Rattle.crash_laws.specs.laws.PageClauses.{NewPageClause, IsGivenUpNow}
 use Rattle.crash_laws.specs.PageRules.{IsPageTo}
 use Rattle.crash_laws.specs.Session.{Session, HasNote, IsSubmitted, Before, Submitted}
-use Rattle.crash_laws.specs.Submitting.{Submitting, after, new_place, IsCommitted}
+use Rattle.crash_laws.specs.laws.Submitting.{Submitting, after, new_place, IsCommitted}
 use Rattle.host_machine.specs.laws.Facts.{View, IsPlain, Numbers, Bodies, PlanRevokes, KeepsPlaces, IsCached, PagesMapped, PagesSent, IsLive, IsDead, ZoneHistory}
 
 -- ---- what a page owes

@@ -5,6 +5,4 @@ pub mod Outcomes
 pub mod Host
 pub mod Parts
 pub mod Views
-pub mod Rows
-pub mod Sample
 pub mod laws

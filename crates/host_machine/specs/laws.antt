@@ -1,6 +1,8 @@
 -- What the host keeps, and what it is promised.
+pub mod Contract
 pub mod Facts
 pub mod PlanNotes
-pub mod Contract
-pub mod Rules
 pub mod Reuse
+pub mod Rows
+pub mod Rules
+pub mod Sample

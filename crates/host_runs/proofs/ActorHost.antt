@@ -20,7 +20,7 @@ use Rattle.page_cache.specs.declared.cached_page.PageState.TheVariants.{Loose, F
 use Rattle.page_cache.specs.laws.Order.{keyed}
 use Rattle.crash_laws.proofs.Growing.{note_new}
 use Rattle.crash_laws.specs.Session.{HasNote, IsCommit}
-use Rattle.crash_laws.specs.Submitting.{after}
+use Rattle.crash_laws.specs.laws.Submitting.{after}
 use Rattle.host_machine.proofs.ActorSteps.{all_firm, rephased}
 use Rattle.host_machine.proofs.Entries.{trees_noted}
 use Rattle.host_machine.proofs.PlanSteps.{commit_keeps}

@@ -9,7 +9,7 @@ use Rattle.blk_base.specs.Members.{In}
 use Rattle.blk_base.specs.laws.Members.{list_any-In}
 use Rattle.order_model.specs.declared.note.Note.TheVariants.{Commit}
 use Rattle.order_model.specs.declared.note.Note.{Note}
-use Rattle.crash_laws.specs.CallFacts.{IsDone}
+use Rattle.crash_laws.specs.laws.CallFacts.{IsDone}
 use Rattle.crash_laws.specs.History.{History, HasTrees}
 use Rattle.crash_laws.specs.PromiseRules.{Covers}
 use Rattle.crash_laws.specs.Session.{Session}

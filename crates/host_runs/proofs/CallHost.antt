@@ -11,11 +11,11 @@ use Rattle.volume_ops.specs.Reads.{Reads}
 use Rattle.page_cache.specs.Pages.{page_at, put_page, marked, is_unsent}
 use Rattle.page_cache.specs.declared.cached_page.CachedPage.{CachedPage}
 use Rattle.page_cache.specs.declared.cached_page.PageState.{PageState}
-use Rattle.crash_laws.specs.CallFacts.{IsDone}
+use Rattle.crash_laws.specs.laws.CallFacts.{IsDone}
 use Rattle.crash_laws.specs.History.{History, IsUnmapped, HasTrees}
 use Rattle.crash_laws.specs.PromiseRules.{AreHeld}
 use Rattle.crash_laws.specs.Session.{Session, IsCommit}
-use Rattle.crash_laws.specs.Submitting.{Submitting, after}
+use Rattle.crash_laws.specs.laws.Submitting.{Submitting, after}
 use Rattle.host_machine.proofs.ChangeSteps.{IsEntry}
 use Rattle.host_machine.proofs.PageMaps.{dropped-left, written-cases}
 use Rattle.host_machine.specs.Host.{dropped_pages, written_pages}

@@ -15,11 +15,11 @@ use Rattle.page_cache.specs.declared.cached_page.PageState.TheVariants.{Clean, D
 use Rattle.page_cache.specs.declared.cached_page.PageState.{PageState}
 use Rattle.page_cache.specs.laws.Maps.{is_page-same, page_at-key, page_at-put}
 use Rattle.crash_laws.proofs.Growing.{note_new, fence_new, ordered_new}
-use Rattle.crash_laws.specs.CallFacts.{IsSent, IsDone}
+use Rattle.crash_laws.specs.laws.CallFacts.{IsSent, IsDone}
 use Rattle.crash_laws.specs.History.{History, last_write, HasTrees}
 use Rattle.crash_laws.specs.PromiseRules.{IsOn, Covers}
 use Rattle.crash_laws.specs.Session.{Session}
-use Rattle.crash_laws.specs.Submitting.{Submitting, after, new_place}
+use Rattle.crash_laws.specs.laws.Submitting.{Submitting, after, new_place}
 use Rattle.host_machine.specs.Host.{unsent_on}
 use Rattle.host_machine.specs.State.{Begun}
 use Rattle.flush_actor.specs.Kinds.{is_whole}

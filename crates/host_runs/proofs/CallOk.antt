@@ -9,7 +9,7 @@ use Rattle.order_model.specs.declared.completion.Completion.TheVariants as compl
 use Rattle.order_model.specs.declared.completion.Completion.{Completion}
 use Rattle.order_model.specs.declared.note.Note.TheVariants.{Page, Commit}
 use Rattle.page_cache.specs.declared.cached_page.CachedPage.{CachedPage}
-use Rattle.crash_laws.specs.CallFacts.{IsDone}
+use Rattle.crash_laws.specs.laws.CallFacts.{IsDone}
 use Rattle.crash_laws.specs.History.{History, HasTrees}
 use Rattle.crash_laws.specs.PromiseRules.{CoversNothing, KeepsBarrier, KeepsSync, Covers, CoversEntry}
 use Rattle.crash_laws.specs.Rules.{CommitOrder}

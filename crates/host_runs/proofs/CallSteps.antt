@@ -11,12 +11,12 @@ use Rattle.crash_laws.proofs.Growth.{unmapped_old, unmapped_new}
 use Rattle.crash_laws.proofs.Histories.{stays_mapped}
 use Rattle.crash_laws.proofs.Promises.{superseded_or_calm}
 use Rattle.crash_laws.proofs.PromiseSteps.{held_pushed, held_grows, held_for, covers_old}
-use Rattle.crash_laws.specs.CallFacts.{IsSent, IsDone}
-use Rattle.crash_laws.specs.Extending.{Extends}
+use Rattle.crash_laws.specs.laws.CallFacts.{IsSent, IsDone}
+use Rattle.crash_laws.specs.laws.Extending.{Extends}
 use Rattle.crash_laws.specs.History.{History, IsUnmapped, last_write, HasTrees}
 use Rattle.crash_laws.specs.PromiseRules.{IsSuperseded, Covers, CoversEntry}
 use Rattle.crash_laws.specs.Session.{Session}
-use Rattle.crash_laws.specs.Submitting.{Submitting, after}
+use Rattle.crash_laws.specs.laws.Submitting.{Submitting, after}
 use Rattle.host_machine.proofs.ChangeSteps.{IsEntry, extends}
 use Rattle.host_machine.specs.State.{Begun}
 use Rattle.flush_actor.specs.declared.wait.Wait.{Wait}

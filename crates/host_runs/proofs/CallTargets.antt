@@ -10,7 +10,7 @@ use Rattle.order_model.specs.declared.completion.Completion.{Completion}
 use Rattle.order_model.specs.declared.note.Note.TheVariants.{Page}
 use Rattle.page_cache.specs.declared.cached_page.CachedPage.{CachedPage}
 use Rattle.crash_laws.proofs.PromiseSteps.{barrier_at_end}
-use Rattle.crash_laws.specs.CallFacts.{IsSent, IsDone}
+use Rattle.crash_laws.specs.laws.CallFacts.{IsSent, IsDone}
 use Rattle.crash_laws.specs.History.{History, Calm, HasTrees}
 use Rattle.crash_laws.specs.PromiseRules.{IsSuperseded, KeepsBarrier, KeepsSync, IsOn, Covers, CoversEntry}
 use Rattle.crash_laws.specs.Rules.{CommitOrder}

@@ -15,7 +15,7 @@ use Rattle.page_cache.specs.declared.cached_page.CachedPage.{CachedPage}
 use Rattle.page_cache.specs.declared.cached_page.PageState.TheVariants.{Firm}
 use Rattle.crash_laws.specs.History.{History, HasTrees}
 use Rattle.crash_laws.specs.Session.{Session}
-use Rattle.crash_laws.specs.Submitting.{after}
+use Rattle.crash_laws.specs.laws.Submitting.{after}
 use Rattle.host_machine.proofs.CallSteps.{change_keeps, quiet_keeps, unanswered_quiet}
 use Rattle.host_machine.proofs.Entries.{length_new, entry_noted, trees_noted}
 use Rattle.host_machine.proofs.Machine.{plain_at}

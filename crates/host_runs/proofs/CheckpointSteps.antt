@@ -19,12 +19,12 @@ use Rattle.log_model.specs.Ring.{places_on}
 use Rattle.crash_laws.proofs.Growing.{note_old, note_new, note_cases, log_within, log_cases, fence_new, request_new}
 use Rattle.crash_laws.proofs.LogBlocks.{In-log_blocks}
 use Rattle.crash_laws.proofs.LogSteps.{mark_old, below_submitted}
-use Rattle.crash_laws.specs.Clauses.{CommitClause, IsHomeSent}
+use Rattle.crash_laws.specs.laws.Clauses.{CommitClause, IsHomeSent}
 use Rattle.crash_laws.specs.Ordering.{IsClosedOff}
-use Rattle.crash_laws.specs.RingFacts.{IsAtHome}
+use Rattle.crash_laws.specs.laws.RingFacts.{IsAtHome}
 use Rattle.crash_laws.specs.Rules.{CommitOrder, LogLayout, CheckpointOrder, HasHeader}
 use Rattle.crash_laws.specs.Session.{Session, HasNote, log_transaction, IsLog, IsCommit, LogBlock, with_log_block, log_blocks, log_blocks_of, log_blocks_below, bodies_of, sequence_of, first_place, IsSuperOf}
-use Rattle.crash_laws.specs.Submitting.{Submitting, after, new_place, IsCommitted}
+use Rattle.crash_laws.specs.laws.Submitting.{Submitting, after, new_place, IsCommitted}
 use Rattle.journal_ring.specs.LogRing.{LogRing, all_home}
 use Rattle.tx_running.specs.Plan.{Planned}
 use Rattle.host_runs.proofs.GrowingFacts.{number_submitted, entries_grown, bodies_grown, places_step, homes_step, at_home_old, numbers_step}

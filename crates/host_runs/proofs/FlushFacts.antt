@@ -16,7 +16,8 @@ use Rattle.flush_actor.specs.Waits.{need_commit}
 use Rattle.flush_actor.specs.declared.call_kind.CallKind.{CallKind}
 use Rattle.flush_actor.specs.declared.call_kind.CallKind.TheVariants.{Reading, Changing, FileBarrier, DataBarrier, FileSync, DataSync, WholeSync}
 use Rattle.flush_actor.specs.declared.wait.Wait.{Wait}
-use Rattle.host_runs.specs.laws.FlushFacts.{one_if, count, is_open, is_begin, FlushFacts}
+use Rattle.host_runs.specs.laws.FlushFacts.{is_open, FlushFacts}
+use Rattle.host_runs.specs.Flushes.{one_if, count, is_sync_begin}
 
 -- ---- counting
 
@@ -192,15 +193,15 @@ module _ {C R : Type 0} {kind : C → CallKind} {ns : List Note} {waits : List W
   pub entry_counted : (e : Entry C R) → FlushFacts kind ns waits (history ++ e ∷ [])
   entry_counted e =
       let all = old.charged in
-      let more = count-push (is_begin kind) history e in
+      let more = count-push (is_sync_begin kind) history e in
       record { charged = omega arith; needed = old.needed }
 
   -- a sync call begins
-  pub sync_begins : (e : Entry C R) (t : ℕ) (w : Wait) → is_begin kind e ≡ true → w.need ≡ None → FlushFacts kind ns (set waits t w) (history ++ e ∷ [])
+  pub sync_begins : (e : Entry C R) (t : ℕ) (w : Wait) → is_sync_begin kind e ≡ true → w.need ≡ None → FlushFacts kind ns (set waits t w) (history ++ e ∷ [])
   sync_begins e t w begin no_need =
       let all = old.charged in
-      let more = count-push (is_begin kind) history e in
-      let here : one_if (is_begin kind e) ≡ 1 = ap one_if begin in
+      let more = count-push (is_sync_begin kind) history e in
+      let here : one_if (is_sync_begin kind e) ≡ 1 = ap one_if begin in
       let most = count-set (is_open ns) waits t w in
       record {
         charged = omega arith;

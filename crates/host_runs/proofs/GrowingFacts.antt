@@ -16,11 +16,11 @@ use Rattle.log_model.specs.Ring.{places_on}
 use Rattle.crash_laws.proofs.Growing.{note_old, note_cases, log_within, log_cases, commit_before_old, request_new, request_old, fence_old, body_old}
 use Rattle.crash_laws.proofs.LogBlocks.{In-log_blocks}
 use Rattle.crash_laws.proofs.LogSteps.{log_blocks-push, super_old, mark_old, below_submitted}
-use Rattle.crash_laws.specs.Clauses.{CommitClause}
-use Rattle.crash_laws.specs.RingFacts.{IsAtHome}
+use Rattle.crash_laws.specs.laws.Clauses.{CommitClause}
+use Rattle.crash_laws.specs.laws.RingFacts.{IsAtHome}
 use Rattle.crash_laws.specs.Rules.{CommitOrder, CheckpointOrder}
 use Rattle.crash_laws.specs.Session.{Session, log_transaction, IsSubmitted, Before, Submitted, body_at, LogBlock, with_log_block, log_blocks, log_blocks_of, bodies_of, sequence_of}
-use Rattle.crash_laws.specs.Submitting.{Submitting, after, new_place}
+use Rattle.crash_laws.specs.laws.Submitting.{Submitting, after, new_place}
 use Rattle.journal_ring.specs.LogRing.{LogRing}
 use Rattle.tx_running.specs.Plan.{Planned}
 use Rattle.host_runs.specs.laws.RingFacts.{AreCommitted, PlaceFacts, HomeFacts, places_of, if_log, count, log_bytes, ArePlanned, IsClosed, PlanFacts}

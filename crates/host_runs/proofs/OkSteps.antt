@@ -7,11 +7,11 @@ use Rattle.order_model.specs.declared.completion.Completion.{Completion}
 use Rattle.order_model.specs.declared.note.Note.TheVariants.{Commit}
 use Rattle.crash_laws.proofs.Growing.{note_old}
 use Rattle.crash_laws.proofs.PromiseSteps.{held_for, held_grows, barrier_pushed, sync_pushed, barrier_grows, covers_old}
-use Rattle.crash_laws.specs.Extending.{Extends}
+use Rattle.crash_laws.specs.laws.Extending.{Extends}
 use Rattle.crash_laws.specs.History.{History}
 use Rattle.crash_laws.specs.PromiseRules.{Covers, CoversEntry}
 use Rattle.crash_laws.specs.Session.{Session, Submitted}
-use Rattle.crash_laws.specs.Submitting.{Submitting, after}
+use Rattle.crash_laws.specs.laws.Submitting.{Submitting, after}
 use Rattle.host_machine.specs.State.{Begun}
 use Rattle.host_runs.specs.Promises.{call_of, KeepsOk}
 

@@ -7,10 +7,10 @@ use Rattle.std.specs.Prelude.{◌≡◌, ◌≢◌, ℕ, ◌+◌, ◌-◌, ◌�
 use Rattle.order_model.specs.declared.note.Note.TheVariants.{Super, Commit, Home}
 use Rattle.log_model.specs.Marks.{Logged, Transaction, mark_in, transactions_from}
 use Rattle.crash_laws.proofs.LogSteps.{same_transactions}
-use Rattle.crash_laws.specs.Clauses.{CommitClause}
+use Rattle.crash_laws.specs.laws.Clauses.{CommitClause}
 use Rattle.crash_laws.specs.Rules.{CommitOrder, LogLayout, CheckpointOrder}
 use Rattle.crash_laws.specs.Session.{Session, log_transaction, with_log_block, IsSuperOf}
-use Rattle.crash_laws.specs.Submitting.{Submitting, after}
+use Rattle.crash_laws.specs.laws.Submitting.{Submitting, after}
 use Rattle.journal_ring.specs.LogRing.{LogRing, ring_free, place_blocks, commit_bodies, home_sent, all_home}
 use Rattle.tx_running.specs.Running.{log_blocks_for}
 use Rattle.tx_running.specs.Plan.{Writers, Planned, plan_of}

@@ -19,10 +19,10 @@ use Rattle.crash_laws.proofs.CommitSteps.{commit_order_step}
 use Rattle.crash_laws.proofs.Growing.{note_new, note_cases, log_within, log_cases, fence_new, request_new}
 use Rattle.crash_laws.proofs.LogBlocks.{filter_none, In-log_blocks}
 use Rattle.crash_laws.proofs.LogSteps.{super_old}
-use Rattle.crash_laws.specs.Clauses.{CommitClause, FitsClause, LogClause, SuperClause, CheckpointClause}
+use Rattle.crash_laws.specs.laws.Clauses.{CommitClause, FitsClause, LogClause, SuperClause, CheckpointClause}
 use Rattle.crash_laws.specs.Rules.{CommitOrder, LogLayout, CheckpointOrder, HasHeader}
 use Rattle.crash_laws.specs.Session.{Session, HasNote, log_transaction, IsCommit, LogBlock, with_log_block, log_blocks, log_blocks_of, log_blocks_below, bodies_of, sequence_of, IsSuperOf}
-use Rattle.crash_laws.specs.Submitting.{Submitting, after, new_place, IsCommitted}
+use Rattle.crash_laws.specs.laws.Submitting.{Submitting, after, new_place, IsCommitted}
 use Rattle.journal_ring.specs.LogRing.{LogRing}
 use Rattle.tx_running.specs.Plan.{Planned}
 use Rattle.host_runs.proofs.GrowingFacts.{count_grown, bodies_grown, places_step, homes_step, numbers_step}

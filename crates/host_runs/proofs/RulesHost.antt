@@ -16,12 +16,12 @@ use Rattle.page_cache.specs.declared.cached_page.CachedPage.{CachedPage}
 use Rattle.crash_laws.proofs.Growing.{fence_old, fence_new}
 use Rattle.crash_laws.proofs.ImageSteps.{page_order_step, data_before_commit_step}
 use Rattle.crash_laws.proofs.OrderSteps.{order_rules_step}
-use Rattle.crash_laws.specs.Clauses.{FitsClause, ImageClause, OrderClause}
+use Rattle.crash_laws.specs.laws.Clauses.{FitsClause, ImageClause, OrderClause}
 use Rattle.crash_laws.specs.History.{History}
-use Rattle.crash_laws.specs.PageClauses.{PageClause}
+use Rattle.crash_laws.specs.laws.PageClauses.{PageClause}
 use Rattle.crash_laws.specs.Rules.{HasHeader}
 use Rattle.crash_laws.specs.Session.{Session, log_transaction}
-use Rattle.crash_laws.specs.Submitting.{Submitting, after}
+use Rattle.crash_laws.specs.laws.Submitting.{Submitting, after}
 use Rattle.host_machine.proofs.ActorSteps.{rephased}
 use Rattle.host_machine.proofs.Commits.{commit_owes, commit_owes_images, other_owes, other_owes_images, way_pushed}
 use Rattle.host_machine.proofs.PlanSteps.{commit_keeps}

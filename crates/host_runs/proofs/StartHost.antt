@@ -21,7 +21,8 @@ use Rattle.flush_actor.specs.declared.call_kind.CallKind.{CallKind}
 use Rattle.flush_actor.specs.declared.wait.Wait.{Wait}
 use Rattle.host_runs.specs.Runs.{AreBegun}
 use Rattle.host_runs.specs.laws.CallFacts.{wait_of, AllCalls}
-use Rattle.host_runs.specs.laws.FlushFacts.{FlushFacts, count, is_open}
+use Rattle.host_runs.specs.laws.FlushFacts.{FlushFacts, is_open}
+use Rattle.host_runs.specs.Flushes.{count}
 use Rattle.journal_ring.specs.laws.Homes.{IsRisingHomes}
 use Rattle.host_runs.specs.laws.RingFacts.{RingKept}
 

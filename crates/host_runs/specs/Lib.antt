@@ -1,3 +1,4 @@
+pub mod Flushes
 pub mod Runs
 pub mod Opened
 pub mod Promises

@@ -14,7 +14,8 @@ use Rattle.tree_model.specs.Calls.{Tree}
 use Rattle.tree_model.specs.Maps.{at_number, without_number}
 use Rattle.tree_model.specs.Trees.{Refusal, node_of_path}
 use Rattle.tree_model.specs.laws.Alike.{led_push, step_given, path_stands}
-use Rattle.tree_model.specs.laws.Listing.{IsRooted, IsLedTo, at_root, by_name, HasEntry, names_of}
+use Rattle.tree_model.specs.laws.Listing.{names_of}
+use Rattle.tree_model.specs.Rooted.{IsRooted, IsLedTo, at_root, by_name, HasEntry}
 use Rattle.tree_model.specs.laws.MapOrder.{InOrder, at_without_apart, in_order_without}
 use Rattle.tree_model.specs.laws.MapsLaws.{found-In, number_here, number_same, at_name-In}
 use Rattle.tree_model.proofs.Lookups.{In-at_name}

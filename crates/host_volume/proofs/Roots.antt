@@ -17,7 +17,7 @@ use Rattle.tree_model.specs.declared.call.Reply.TheVariants as replies
 use Rattle.tree_model.specs.Calls.{Tree, Place, Found, Row, names_in, parent_of, walk, walk_path, and_then, touched_blocks, max, outcome}
 use Rattle.tree_model.specs.Maps.{at_number, put_number, without_number}
 use Rattle.tree_model.specs.laws.MapsLaws.{number_same, at_put_number, at_put_number_apart}
-use Rattle.tree_model.specs.laws.Listing.{IsRooted}
+use Rattle.tree_model.specs.Rooted.{IsRooted}
 use Rattle.tree_model.proofs.Rows.{ok_ok, then_ok, parent_ok, walk_ok, place_gives}
 use Rattle.volume_ops.specs.declared.found.Mapped.{Mapped}
 use Rattle.volume_model.specs.declared.placed.Placed.{Placed}

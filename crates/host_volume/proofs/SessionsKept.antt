@@ -26,7 +26,7 @@ use Rattle.host_machine.specs.Views.{tree_after, cut_of}
 use Rattle.host_machine.specs.laws.Contract.{IsAlike}
 use Rattle.host_runs.specs.Promises.{IsAnswered}
 use Rattle.host_runs.specs.Runs.{Event, stepped, steps, FitsWords}
-use Rattle.host_runs.specs.laws.FlushFacts.{count, is_begin}
+use Rattle.host_runs.specs.Flushes.{count, is_sync_begin}
 use Rattle.host_runs.specs.Sentences.{kept_number}
 use Rattle.host_runs.specs.laws.Kept.{IsSound as IsSoundHost}
 use Rattle.host_runs.specs.laws.Written.{AreWritten}
@@ -128,7 +128,7 @@ module _ (s : Opening) (v : VolumeNow) (ring : LogRing) (limit : ℕ) (programs 
       (answered_now (promises s) h sound full t th b at begun replies.Ok refl done)
 
   -- flushes are submitted for sync calls alone
-  pub flushes_in_run : (events : List Event) → count is_flush_note (host_after s v ring limit programs events).journal.flush.notes ≤ count (is_begin (over s).model.kind) (host_after s v ring limit programs events).history
+  pub flushes_in_run : (events : List Event) → count is_flush_note (host_after s v ring limit programs events).journal.flush.notes ≤ count (is_sync_begin (over s).model.kind) (host_after s v ring limit programs events).history
   flushes_in_run events = (let charged = (sound_after events).rules.4.charged in omega arith)
 
 -- ---- new volumes

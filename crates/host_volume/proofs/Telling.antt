@@ -22,7 +22,7 @@ use Rattle.volume_model.specs.laws.Changes.{table_below as table_below_first}
 use Rattle.volume_steps.specs.Calls.{called}
 use Rattle.volume_steps.specs.Now.{VolumeNow, tree_of_now, room_of}
 use Rattle.volume_steps.specs.Plain.{IsPlainNow, is_rename}
-use Rattle.volume_steps.specs.laws.Called.{FindsRoom}
+use Rattle.volume_steps.specs.Called.{FindsRoom}
 use Rattle.volume_steps.proofs.AllCalls.{IsAnyCall, any_call, file_listed}
 use Rattle.volume_steps.proofs.GoneFiles.{in_from}
 use Rattle.volume_steps.proofs.PlainNow.{tree_is_plain}

@@ -16,7 +16,7 @@ use Rattle.tree_model.specs.declared.node.Node.TheVariants as nodes
 use Rattle.tree_model.specs.Maps.{at_number, at_name}
 use Rattle.tree_model.specs.Trees.{Refusal, node_of_path, led_to, step_at}
 use Rattle.tree_model.specs.laws.Alike.{led_on, led_parts, same_ok, step_gives, step_given}
-use Rattle.tree_model.specs.laws.Listing.{HasEntry}
+use Rattle.tree_model.specs.Rooted.{HasEntry}
 use Rattle.tree_model.specs.laws.MapsLaws.{number_here, number_same}
 use Rattle.volume_ops.specs.declared.found.Found.{Found}
 use Rattle.volume_ops.specs.declared.found.Found.TheVariants as found

@@ -1,6 +1,6 @@
 //! Tests of calls on the tree of a new volume.
 ghost use Rattle.std.specs.Prelude.{◌≡◌, IfOk};
-ghost use Rattle.tree_model.specs.Examples.{new_tree};
+ghost use Rattle.tree_model.specs.laws.Examples.{new_tree};
 
 use blk_base::NoMemory;
 use std::alloc::Global;

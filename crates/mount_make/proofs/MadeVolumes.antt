@@ -21,7 +21,7 @@ use Rattle.tree_model.specs.declared.node.Node.TheVariants as nodes
 use Rattle.tree_model.specs.declared.node.Directory.{Directory}
 use Rattle.tree_model.specs.Maps.{at_number}
 use Rattle.tree_model.specs.Paths.{is_dot}
-use Rattle.tree_model.specs.laws.Listing.{HasEntry, IsRooted}
+use Rattle.tree_model.specs.Rooted.{HasEntry, IsRooted}
 use Rattle.tree_model.specs.Trees.{directory_links}
 use Rattle.tree_model.specs.Plain.{names_to}
 use Rattle.volume_ops.specs.Places.{inode_in_block, inode_of_birth, table_block}

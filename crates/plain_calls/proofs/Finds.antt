@@ -14,7 +14,7 @@ use Rattle.volume_model.specs.Touched.{Touched}
 use Rattle.volume_steps.specs.Now.{VolumeNow, tree_of_now, room_of, untouched}
 use Rattle.volume_steps.specs.Plain.{IsPlainNow}
 use Rattle.volume_steps.specs.Calls.{called, called_by, changed}
-use Rattle.volume_steps.specs.laws.Called.{FindsRoom}
+use Rattle.volume_steps.specs.Called.{FindsRoom}
 use Rattle.volume_steps.specs.Numbers.{number_in}
 use Rattle.host_machine.specs.Causes as causes
 use Rattle.host_machine.specs.Causes.{Cause}

@@ -1,7 +1,7 @@
 //! Room for what a call will tell.
 ghost use Rattle.std.specs.Prelude.{◌≡◌, ◌+◌, ◌*◌, ◌/◌, ◌≤◌, ℕ, IfOk, OnErr, length};
 ghost use Rattle.volume_steps.specs.Calls.{called};
-ghost use Rattle.volume_steps.specs.laws.Called.{FindsRoom};
+ghost use Rattle.volume_steps.specs.Called.{FindsRoom};
 ghost use Rattle.call_effects.specs.Effects.{with_part};
 ghost use Rattle.call_lengths.specs.Lengths.{notes_in, bytes_in};
 

@@ -21,7 +21,7 @@ use Rattle.flush_actor.specs.Part.{is_flush_note}
 use Rattle.host_machine.specs.State.{Begun}
 use Rattle.host_runs.specs.Promises.{call_of}
 use Rattle.host_runs.specs.Sentences.{IsAllSettled}
-use Rattle.host_runs.specs.laws.FlushFacts.{count, is_begin}
+use Rattle.host_runs.specs.Flushes.{count, is_sync_begin}
 pub use Rattle.host_volume.specs.Calls.{kind_of}
 use Rattle.host_volume.specs.Sessions.{Stands}
 use Rattle.session_run.specs.Beginning.{call_over}
@@ -114,7 +114,7 @@ pub record HeadlineOn (s : SessionScript) (end : EndState) (r : SessionReport) :
   pub causes : HaveCauses kind_of s.header.limit end.host
   pub ok_causes : (e t : ℕ) (c : Call) → AnsweredAt end.host e t c → is_data (kind_of c) ≡ false → HasOkCause end.host e t c
   -- At most as many flushes were submitted as sync calls have begun.
-  pub flushes : count is_flush_note end.host.journal.flush.notes ≤ count (is_begin kind_of) end.host.history
+  pub flushes : count is_flush_note end.host.journal.flush.notes ≤ count (is_sync_begin kind_of) end.host.history
 
 -- those of a script's session on the model device that it opens
 abbrev pub Headline : SessionScript → SessionReport → Type 0

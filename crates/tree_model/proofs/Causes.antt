@@ -17,7 +17,7 @@ use Rattle.tree_model.specs.declared.node.Directory.{Directory}
 use Rattle.tree_model.specs.declared.node.File.{File}
 use Rattle.tree_model.specs.Maps.{at_number, at_name}
 use Rattle.tree_model.specs.Paths.{path_of}
-use Rattle.tree_model.specs.laws.Listing.{IsRooted}
+use Rattle.tree_model.specs.Rooted.{IsRooted}
 use Rattle.tree_model.specs.Trees.{Refusal, not_directory, name_too_long, not_found, step_at, led_to, node_of_path, is_directory, directory_links}
 use Rattle.tree_model.specs.Calls.{Tree, Row, Found, Place, Move, refuse_if, and_then, if_some, names_in, is_root, refused_walk, birth_at, found_at, walk, walk_path, a_directory, a_file, all_but_last, last_name, parent_of, above, is_named, is_file, most_links, most_slots, needs_slot, is_full, mkdir, create, rmdir, unlink, link, target_at, moves_directory, meets_directory, meets_file, changes_parent, without_name, place_after, rename_to, rename, largest_size, write, truncate, read, list, stat_of, stat, barrier, row, used_zones, if_room, outcome}
 use Rattle.tree_model.specs.Causes.{paths_of, NamesOf, IsFront, LeadsTo, IsInDirectory, IsMoved, IsMet, end_of, root_reply, IsCause}

@@ -2,7 +2,7 @@
 use Rattle.std.specs.Prelude.{◌≡◌, ℕ, List, [], ◌∷◌, ◌++◌, Some, Result, Ok}
 use Rattle.std.proofs.Common.{sym, ap, ◌∙◌}
 use Rattle.tree_model.specs.Maps.{at_number}
-use Rattle.tree_model.specs.laws.Listing.{IsRooted}
+use Rattle.tree_model.specs.Rooted.{IsRooted}
 use Rattle.tree_model.specs.Trees.{Refusal, step_at, led_to, node_of_path}
 use Rattle.tree_model.specs.Calls.{Tree, Place, all_but_last}
 use Rattle.tree_model.specs.laws.Alike.{step_gives, step_given, led_on, led_parts, led_push}

@@ -3,7 +3,7 @@ use Rattle.std.specs.Prelude.{◌≡◌, [], ◌∷◌, codes, refl}
 use Rattle.tree_model.specs.declared.call.Call.TheVariants as calls
 use Rattle.tree_model.specs.Paths.{path_of}
 use Rattle.tree_model.specs.Calls.{row, outcome, tree_after, reply_of, needs, used_zones, file_zones, mapped_groups}
-use Rattle.tree_model.specs.Examples.{new_tree, small_room, replies_to, needs_after, write_block, names_session, names_replies, moves_session, moves_replies, last_block_session, last_block_replies}
+use Rattle.tree_model.specs.laws.Examples.{new_tree, small_room, replies_to, needs_after, write_block, names_session, names_replies, moves_session, moves_replies, last_block_session, last_block_replies}
 
 pub replies_to_names : replies_to small_room new_tree 1 names_session ≡ names_replies
 unfolding reply_of tree_after outcome row path_of used_zones file_zones mapped_groups

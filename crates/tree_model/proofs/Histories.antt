@@ -13,7 +13,7 @@ use Rattle.tree_model.specs.declared.call.Room.{Room}
 use Rattle.tree_model.specs.declared.node.Node.{Node}
 use Rattle.tree_model.specs.declared.node.Node.TheVariants as nodes
 use Rattle.tree_model.specs.Maps.{at_number}
-use Rattle.tree_model.specs.laws.Listing.{IsRooted}
+use Rattle.tree_model.specs.Rooted.{IsRooted}
 use Rattle.tree_model.specs.Calls.{Tree, Done, Row, leaves_tree, outcome, tree_from, reply_from, tree_after, reply_of}
 use Rattle.tree_model.specs.Histories.{Entry, block_in, block_at, maps_block, touches, is_ok, writes, tree_after_entry, entry_writes, tree_after_entries, writes_among, wrote, maps, content, last, same_file, changed, changed_after}
 use Rattle.tree_model.proofs.Changes.{Change, stayed, made_directory, made_file, removed, unlinked, linked, renamed, written, written_bytes, truncated, outcome_change}

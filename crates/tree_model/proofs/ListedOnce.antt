@@ -13,7 +13,8 @@ use Rattle.tree_model.specs.declared.node.Node.{Node}
 use Rattle.tree_model.specs.declared.node.Node.TheVariants as nodes
 use Rattle.tree_model.specs.declared.node.Directory.{Directory}
 use Rattle.tree_model.specs.Maps.{at_number, name_cmp}
-use Rattle.tree_model.specs.laws.Listing.{Listed, names_of, listed_below, HasEntry, IsRooted}
+use Rattle.tree_model.specs.laws.Listing.{Listed, names_of, listed_below}
+use Rattle.tree_model.specs.Rooted.{HasEntry, IsRooted}
 use Rattle.tree_model.proofs.Lookups.{In-at_name}
 use Rattle.tree_model.specs.laws.MapsLaws.{name_here}
 

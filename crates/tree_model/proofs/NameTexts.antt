@@ -8,7 +8,7 @@ use Rattle.tree_model.specs.declared.call.Reply.TheVariants as replies
 use Rattle.tree_model.specs.Calls.{names_in, if_some}
 use Rattle.tree_model.specs.Paths.{is_dot, is_name_byte, is_path_name, path_of}
 use Rattle.tree_model.proofs.PathForms.{some_of_root, some_of_more, none_of_more}
-use Rattle.tree_model.specs.PathTexts.{names_below}
+use Rattle.tree_model.specs.code.PathTexts.{names_below}
 
 abbrev pub is_slash : ℕ → Bool
 is_slash b = b == 47

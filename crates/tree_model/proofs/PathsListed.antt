@@ -14,7 +14,8 @@ use Rattle.tree_model.specs.declared.node.Node.{Node}
 use Rattle.tree_model.specs.declared.node.Node.TheVariants as nodes
 use Rattle.tree_model.specs.Maps.{at_number, at_name, name_cmp}
 use Rattle.tree_model.specs.Trees.{Refusal, step_at, led_to, node_of_path, name_too_long, not_found, not_directory}
-use Rattle.tree_model.specs.laws.Listing.{Listed, listed_root, names_of, listed_below, Lists, HasEntry, IsRooted}
+use Rattle.tree_model.specs.laws.Listing.{Listed, listed_root, names_of, listed_below, Lists}
+use Rattle.tree_model.specs.Rooted.{HasEntry, IsRooted}
 use Rattle.tree_model.specs.laws.MapsLaws.{name_here, at_name-In}
 use Rattle.tree_model.proofs.ListedOnce.{children, each_key, gives_by, distinct_by}
 

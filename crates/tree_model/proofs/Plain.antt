@@ -19,8 +19,9 @@ use Rattle.tree_model.specs.declared.node.Node.TheVariants as nodes
 use Rattle.tree_model.specs.declared.node.Directory.{Directory}
 use Rattle.tree_model.specs.declared.node.File.{File}
 use Rattle.tree_model.specs.Maps.{at_number, at_name, put_number, put_name, without_number, name_cmp}
-use Rattle.tree_model.specs.laws.Listing.{names_of, HasEntry, IsLedTo, IsRooted}
-use Rattle.tree_model.specs.laws.Listing.IsLedTo.{at_root, by_name}
+use Rattle.tree_model.specs.laws.Listing.{names_of}
+use Rattle.tree_model.specs.Rooted.{HasEntry, IsLedTo, IsRooted}
+use Rattle.tree_model.specs.Rooted.IsLedTo.{at_root, by_name}
 use Rattle.tree_model.specs.Trees.{is_directory}
 use Rattle.tree_model.specs.Calls.{Tree}
 use Rattle.tree_model.specs.Plain.{names_in_node, names_to, IsPlain}

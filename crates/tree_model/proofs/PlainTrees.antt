@@ -17,10 +17,11 @@ use Rattle.tree_model.specs.declared.node.Node.{Node}
 use Rattle.tree_model.specs.declared.node.Node.TheVariants as nodes
 use Rattle.tree_model.specs.declared.node.File.{File}
 use Rattle.tree_model.specs.Maps.{at_number, at_name, name_cmp, put_number, without_number}
-use Rattle.tree_model.specs.laws.Listing.{names_of, IsRooted}
+use Rattle.tree_model.specs.laws.Listing.{names_of}
+use Rattle.tree_model.specs.Rooted.{IsRooted}
 use Rattle.tree_model.specs.Calls.{Tree, Done, Row, Found, new_directory, a_file, take_name, put_file, with_links, lose_link, without_target, stays, place_after, moved_node, tree_moved, row, outcome, tree_from, tree_after}
 use Rattle.tree_model.specs.Plain.{IsPlain, AreBornBefore, names_to}
-use Rattle.tree_model.specs.Examples.{new_tree}
+use Rattle.tree_model.specs.laws.Examples.{new_tree}
 use Rattle.tree_model.specs.Histories.{Entry, tree_after_entry, tree_after_entries}
 use Rattle.tree_model.specs.laws.MapOrder.{InOrder, at_put_cases, at_without_cases, in_order_put}
 use Rattle.tree_model.proofs.Changes.{mkdir_made, create_made, link_made, outcome_row, Change, stayed, made_directory, made_file, removed, unlinked, linked, renamed, written, written_bytes, truncated, outcome_change}

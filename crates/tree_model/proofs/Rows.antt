@@ -11,7 +11,7 @@ use Rattle.tree_model.specs.declared.node.Directory.{Directory}
 use Rattle.tree_model.specs.declared.node.File.{File}
 use Rattle.tree_model.specs.Maps.{at_number, at_name}
 use Rattle.tree_model.specs.Paths.{path_of}
-use Rattle.tree_model.specs.laws.Listing.{HasEntry}
+use Rattle.tree_model.specs.Rooted.{HasEntry}
 use Rattle.tree_model.specs.Trees.{Refusal, step_at, led_to, node_of_path}
 use Rattle.tree_model.specs.Calls.{Tree, Found, Place, refuse_if, and_then, if_some, names_in, refused_walk, birth_at, found_at, walk, walk_path, a_directory, a_file, all_but_last, last_name, parent_of}
 use Rattle.tree_model.specs.laws.Alike.{same_ok, step_gives, led_parts}

@@ -15,7 +15,8 @@ use Rattle.tree_model.specs.declared.node.Directory.{Directory}
 use Rattle.tree_model.specs.declared.node.File.{File}
 use Rattle.tree_model.specs.Maps.{at_number, put_number, without_number}
 use Rattle.tree_model.specs.Text.{Named, Showing, name_text, path_text, below, directory_line, file_lines, other_line, link_line, first_path, directory_met, file_met, shown, tree_text}
-use Rattle.tree_model.specs.laws.Listing.{Listed, listed_root, names_of, listed_below, Lists, listed_path, first_listed, lines_of, listing_text, IsRooted}
+use Rattle.tree_model.specs.laws.Listing.{Listed, listed_root, names_of, listed_below, Lists, listed_path, first_listed, lines_of, listing_text}
+use Rattle.tree_model.specs.Rooted.{IsRooted}
 use Rattle.tree_model.proofs.Lookups.{AreApart, apart_without, at_without_here, at_without_apart}
 use Rattle.tree_model.specs.laws.MapsLaws.{at_put_number, at_put_number_apart}
 use Rattle.tree_model.proofs.Walks.{shown_link, shown_other, shown_file, shown_directory, one_less, nothing}

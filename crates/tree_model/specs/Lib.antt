@@ -1,12 +1,11 @@
 -- What trees, their text and calls on them are.
 pub mod Calls
 pub mod Causes
-pub mod Examples
 pub mod Histories
 pub mod Maps
 pub mod Paths
-pub mod PathTexts
 pub mod Plain
+pub mod Rooted
 pub mod Text
 pub mod Trees
 pub mod code

@@ -8,7 +8,7 @@ use Rattle.tree_model.specs.declared.node.Directory.{Directory}
 use Rattle.tree_model.specs.declared.node.File.{File}
 use Rattle.tree_model.specs.Maps.{at_number}
 use Rattle.tree_model.specs.Paths.{is_path_name}
-use Rattle.tree_model.specs.laws.Listing.{HasEntry, IsRooted}
+use Rattle.tree_model.specs.Rooted.{HasEntry, IsRooted}
 use Rattle.tree_model.specs.Calls.{Tree}
 
 -- how many names a directory has for a node

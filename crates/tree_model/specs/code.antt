@@ -1,2 +1,3 @@
 -- What the code sees of its own fields.
+pub mod PathTexts
 pub mod TextWalk

@@ -1,5 +1,6 @@
 -- Laws of trees and calls.
 pub mod Alike
+pub mod Examples
 pub mod FewerZones
 pub mod Listing
 pub mod MapOrder

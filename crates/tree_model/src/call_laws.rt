@@ -11,7 +11,7 @@ ghost use Rattle.tree_model.specs.Maps.{at_number};
 ghost use Rattle.tree_model.specs.Paths.{path_of};
 ghost use Rattle.tree_model.specs.Calls.{Tree, Done, leaves_tree, row, outcome, tree_after, reply_of, needs, used_zones, directory_zones};
 ghost use Rattle.tree_model.specs.Causes.{paths_of, IsCause};
-ghost use Rattle.tree_model.specs.Examples.{new_tree};
+ghost use Rattle.tree_model.specs.laws.Examples.{new_tree};
 ghost use Rattle.tree_model.specs.Histories.{Entry, block_at, maps_block, writes, tree_after_entries, wrote, maps, content, last, changed_after};
 ghost use Rattle.tree_model.specs.Plain.{IsPlain, AreBornBefore, HasWholeBlocks};
 ghost use Rattle.tree_model.specs.declared.node.File.{File};

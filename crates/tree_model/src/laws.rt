@@ -3,12 +3,13 @@ ghost use Rattle.std.specs.Prelude.{◌≡◌, ℕ, List, [], ◌∷◌, ◌↔�
 ghost use Rattle.std.specs.List.{slice_get};
 ghost use Rattle.blk_base.specs.Members.{In};
 ghost use Rattle.tree_model.specs.declared.node.Node.{Node};
-ghost use Rattle.tree_model.specs.laws.Listing.{IsRooted, Listed, Lists, listed_root, listing_text};
+ghost use Rattle.tree_model.specs.laws.Listing.{Listed, Lists, listed_root, listing_text};
+ghost use Rattle.tree_model.specs.Rooted.{IsRooted};
 ghost use Rattle.tree_model.specs.Text.{tree_text};
 ghost use Rattle.tree_model.specs.Trees.{node_of_path, AreAlike, IsSameButBirths};
 ghost use Rattle.tree_model.specs.Maps.{at_number};
 ghost use Rattle.tree_model.specs.declared.call.Call.TheVariants as calls;
-ghost use Rattle.tree_model.specs.Examples.{new_tree, small_room, replies_to, needs_after, write_block, names_session, names_replies, moves_session, moves_replies, last_block_session, last_block_replies};
+ghost use Rattle.tree_model.specs.laws.Examples.{new_tree, small_room, replies_to, needs_after, write_block, names_session, names_replies, moves_session, moves_replies, last_block_session, last_block_replies};
 
 /// A law, which does nothing when it is called: the text of a tree that hangs together has the lines of each of its
 /// paths, once, each path before those that its directory leads to.

@@ -9,7 +9,7 @@
 //! text as it is made, `specs/laws/Listing.antt` the names of a tree in its order. `specs/Calls.antt` has the row of each
 //! call: what refuses it, in order, and what it does else; `specs/Causes.antt` why a call is refused,
 //! `specs/Plain.antt` the trees that calls keep, `specs/Histories.antt` what a list of calls writes, and
-//! `specs/Examples.antt` sessions with their replies. `laws` and `call_laws` name the laws, whose proofs stand in
+//! `specs/laws/Examples.antt` sessions with their replies. `laws` and `call_laws` name the laws, whose proofs stand in
 //! `proofs/`.
 //!
 //! Stands on `minix_layout` for the names of 1 to 14 bytes, `blk_base` for the bodies of files, and

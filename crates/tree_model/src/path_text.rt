@@ -4,7 +4,7 @@ ghost use Rattle.std.specs.List.{list_all, position};
 ghost use Rattle.tree_model.specs.declared.call.Reply.TheVariants as replies;
 ghost use Rattle.tree_model.specs.Calls.{names_in};
 ghost use Rattle.tree_model.specs.Paths.{is_path_name};
-ghost use Rattle.tree_model.specs.PathTexts.{names_below};
+ghost use Rattle.tree_model.specs.code.PathTexts.{names_below};
 
 use crate::path::is_path_name;
 use crate::{ByteList, Reply};

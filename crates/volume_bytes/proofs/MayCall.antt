@@ -18,7 +18,7 @@ use Rattle.volume_model.specs.Counts.{indices_of}
 use Rattle.volume_model.specs.laws.Indexed.{keys_bodies}
 use Rattle.volume_steps.specs.Now.{VolumeNow, tree_of_now, room_of}
 use Rattle.volume_steps.specs.Plain.{IsInUse}
-use Rattle.volume_steps.specs.laws.Called.{FindsRoom}
+use Rattle.volume_steps.specs.Called.{FindsRoom}
 use Rattle.volume_steps.proofs.FileCalls.{needs_is}
 use Rattle.volume_steps.proofs.FileSteps.{IsFileAt, file_at}
 use Rattle.volume_steps.proofs.Taking.{frees}

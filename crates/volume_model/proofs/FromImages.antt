@@ -20,7 +20,7 @@ use Rattle.tree_model.specs.Maps.{at_number, at_name, name_cmp}
 use Rattle.tree_model.specs.laws.MapsLaws.{number_here, number_same, name_here, name_same}
 use Rattle.tree_model.specs.Paths.{is_dot}
 use Rattle.tree_model.specs.Trees.{directory_links}
-use Rattle.tree_model.specs.laws.Listing.{HasEntry, IsRooted}
+use Rattle.tree_model.specs.Rooted.{HasEntry, IsRooted}
 use Rattle.tree_model.specs.Plain.{names_to}
 use Rattle.volume_ops.specs.declared.found.Mapped.{Mapped}
 use Rattle.volume_ops.specs.Places.{largest_size, birth_of, inode_of_birth, table_block}

@@ -23,7 +23,7 @@ use Rattle.tree_model.specs.Maps.{at_number, at_name, name_cmp}
 use Rattle.tree_model.specs.laws.MapsLaws.{number_same}
 use Rattle.tree_model.specs.Paths.{is_dot}
 use Rattle.tree_model.specs.Trees.{directory_links}
-use Rattle.tree_model.specs.laws.Listing.{HasEntry, IsLedTo, at_root, IsRooted}
+use Rattle.tree_model.specs.Rooted.{HasEntry, IsLedTo, at_root, IsRooted}
 use Rattle.volume_ops.specs.Volume.{disk_of}
 use Rattle.volume_ops.specs.VolumeFields.{inode_at}
 use Rattle.volume_model.specs.declared.placed.Placed.{Placed}

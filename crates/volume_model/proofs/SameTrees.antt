@@ -21,7 +21,7 @@ use Rattle.tree_model.specs.declared.node.File.{File}
 use Rattle.tree_model.specs.Maps.{at_number, at_name, name_cmp}
 use Rattle.tree_model.specs.laws.MapsLaws.{number_here, number_same, name_here, name_same}
 use Rattle.tree_model.specs.Paths.{is_dot}
-use Rattle.tree_model.specs.laws.Listing.{HasEntry, IsLedTo, at_root, by_name}
+use Rattle.tree_model.specs.Rooted.{HasEntry, IsLedTo, at_root, by_name}
 use Rattle.tree_model.specs.Plain.{names_in_node, names_to}
 use Rattle.tree_model.specs.Trees.{Refusal, step_at, led_to, node_of_path, is_directory, SameMetadata, SameMetadataAt, SameLinks, SameBytes, AreAlike, IsSameButBirths, directory_links}
 use Rattle.tree_model.specs.laws.Alike.{step_gives, step_given, led_on, led_parts, led_is_led}

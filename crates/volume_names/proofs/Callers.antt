@@ -10,7 +10,7 @@ use Rattle.tree_model.specs.Calls.{Done, Found, Place, most_links, outcome, name
 use Rattle.tree_model.specs.Trees.{directory_links}
 use Rattle.volume_model.specs.Trees.{directory_from}
 use Rattle.volume_steps.specs.Now.{VolumeNow, tree_of_now, room_of}
-use Rattle.volume_steps.specs.laws.Called.{FindsRoom}
+use Rattle.volume_steps.specs.Called.{FindsRoom}
 use Rattle.volume_steps.proofs.Called.{needs_are}
 use Rattle.volume_steps.proofs.Taking.{frees, one_taken}
 use Rattle.volume_steps.proofs.CallPaths.{parent_any}

@@ -11,7 +11,7 @@ use Rattle.tree_model.specs.laws.MapOrder.{InOrder, in_order_put}
 use Rattle.volume_model.specs.declared.placed.Placed.{Placed}
 use Rattle.volume_ops.specs.Marks.{is_marked, marked}
 use Rattle.volume_ops.specs.laws.MarksLaws.{is_marked_same, is_marked_other, length-marked}
-use Rattle.volume_steps.specs.laws.Steady.{HasNumber}
+use Rattle.volume_steps.specs.UsedInodes.{IsInodeUsed}
 use Rattle.volume_names.specs.UsedInodes.{MarksNodes, unmarked}
 
 -- the inode of the node with this birth, if it is there
@@ -20,14 +20,14 @@ number_at nodes birth = option_map (λ (p : Placed). p.number) (at_number nodes 
 
 -- ---- nodes by their numbers
 
-pub has_there : (nodes : List (ℕ × Placed)) (birth number : ℕ) → number_at nodes birth ≡ Some number → HasNumber nodes number
+pub has_there : (nodes : List (ℕ × Placed)) (birth number : ℕ) → number_at nodes birth ≡ Some number → IsInodeUsed nodes number
 has_there nodes birth number = by (at_number nodes birth) refl
   where
-    by : (o : Option Placed) → at_number nodes birth ≡ o → option_map (λ (p : Placed). p.number) o ≡ Some number → HasNumber nodes number
+    by : (o : Option Placed) → at_number nodes birth ≡ o → option_map (λ (p : Placed). p.number) o ≡ Some number → IsInodeUsed nodes number
     by None e h = absurd (none-some number h)
     by (Some p) e h = record { birth = birth; placed = p; stands = e; is = same_Some p.number number h }
 
-number_there : (nodes : List (ℕ × Placed)) (number : ℕ) (has : HasNumber nodes number) → number_at nodes has.birth ≡ Some number
+number_there : (nodes : List (ℕ × Placed)) (number : ℕ) (has : IsInodeUsed nodes number) → number_at nodes has.birth ≡ Some number
 number_there nodes number has = ap (option_map (λ (p : Placed). p.number)) has.stands ∙ ap Some has.is
 
 -- no inode has two nodes

@@ -15,7 +15,7 @@ use Rattle.volume_model.specs.laws.Trees.{In-at}
 use Rattle.volume_ops.specs.Marks.{is_marked, marked}
 use Rattle.volume_ops.specs.laws.MarksLaws.{is_marked_same, is_marked_kept, length-marked}
 use Rattle.volume_steps.specs.Zones.{is_unused, new_number}
-use Rattle.volume_steps.specs.laws.Steady.{HasNumber}
+use Rattle.volume_steps.specs.UsedInodes.{IsInodeUsed}
 use Rattle.volume_names.specs.UsedInodes.{MarksNodes, lowest_unmarked}
 use Rattle.volume_names.specs.code.InodeMap.{AreUsedBelow, IsInodeMap}
 
@@ -104,12 +104,12 @@ same_test true b there back = sym (there refl)
 same_test false true there back = back refl
 same_test false false there back = refl
 
-any_has : (nodes : List (ℕ × Placed)) (number : ℕ) → InOrder nodes → list_any (λ (e : ℕ × Placed). e.1.number == number) nodes ≡ true → HasNumber nodes number
+any_has : (nodes : List (ℕ × Placed)) (number : ℕ) → InOrder nodes → list_any (λ (e : ℕ × Placed). e.1.number == number) nodes ≡ true → IsInodeUsed nodes number
 any_has nodes number sorted any =
     let w = In-list_any (λ (e : ℕ × Placed). e.1.number == number) nodes any in
     record { birth = w.0.0; placed = w.0.1; stands = In-at nodes w.0.0 w.0.1 sorted w.1; is = eqb-true w.0.1.number number w.2 }
 
-has_any : (nodes : List (ℕ × Placed)) (number : ℕ) → HasNumber nodes number → list_any (λ (e : ℕ × Placed). e.1.number == number) nodes ≡ true
+has_any : (nodes : List (ℕ × Placed)) (number : ℕ) → IsInodeUsed nodes number → list_any (λ (e : ℕ × Placed). e.1.number == number) nodes ≡ true
 has_any nodes number has =
     list_any-In (λ (e : ℕ × Placed). e.1.number == number) nodes (has.birth, has.placed)
     (found-In nat_cmp number_here number_same nodes has.birth has.placed has.stands)

@@ -5,7 +5,7 @@ use Rattle.blk_base.specs.Members.{In}
 use Rattle.minix_layout.specs.declared.division.Geometry.{Geometry}
 use Rattle.tree_model.specs.Calls.{Tree, used_zones}
 use Rattle.tree_model.specs.Paths.{is_path_name}
-use Rattle.tree_model.specs.laws.Listing.{HasEntry}
+use Rattle.tree_model.specs.Rooted.{HasEntry}
 use Rattle.zone_maps.specs.Zones.{mark, made, is_used}
 use Rattle.volume_ops.specs.Faultless.{IsUsed}
 use Rattle.volume_model.specs.declared.placed.Placed.{Placed}

@@ -1,7 +1,7 @@
 -- Which volumes can be opened.
 use Rattle.std.specs.Prelude.{ℕ, List, IsTrue}
 use Rattle.tree_model.specs.Paths.{is_path_name}
-use Rattle.tree_model.specs.laws.Listing.{HasEntry}
+use Rattle.tree_model.specs.Rooted.{HasEntry}
 use Rattle.tree_model.specs.Calls.{Tree}
 use Rattle.volume_ops.specs.Volume.{VolumeState}
 use Rattle.volume_model.specs.Plain.{IsPlainVolume}

@@ -21,7 +21,7 @@ use Rattle.tree_model.specs.laws.MapsLaws.{at_put_number, at_put_number_apart}
 use Rattle.volume_ops.specs.Zones.{Fault}
 use Rattle.volume_ops.specs.Walk.{Walked, walk_volume}
 use Rattle.volume_ops.specs.Volume.{disk_of, walked, metadata, bodies_of, node_of, put_nodes, tree_found, tree_of}
-use Rattle.tree_model.specs.laws.Listing.{HasEntry}
+use Rattle.tree_model.specs.Rooted.{HasEntry}
 use Rattle.tree_model.specs.laws.Sums.{count_by_same}
 use Rattle.volume_ops.specs.VolumeFields.{IsTreeOf}
 use Rattle.volume_ops.proofs.TreeLaws.{tree_of-fields}

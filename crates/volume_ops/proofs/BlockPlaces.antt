@@ -16,7 +16,7 @@ use Rattle.tree_model.specs.declared.node.Node.TheVariants as nodes
 use Rattle.tree_model.specs.declared.node.File.{File}
 use Rattle.tree_model.specs.Maps.{at_number}
 use Rattle.tree_model.specs.Paths.{is_dot}
-use Rattle.tree_model.specs.laws.Listing.{HasEntry, IsLedTo, at_root, by_name}
+use Rattle.tree_model.specs.Rooted.{HasEntry, IsLedTo, at_root, by_name}
 use Rattle.volume_ops.specs.Places.{zone_number, table_block, inode_in_block, is_directory, is_file, birth_of, inode_of_birth}
 use Rattle.volume_ops.specs.Reads.{AgreeOn}
 use Rattle.volume_ops.specs.Volume.{disk_of, metadata}

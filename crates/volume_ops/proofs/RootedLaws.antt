@@ -16,7 +16,7 @@ use Rattle.tree_model.specs.declared.node.Node.{Node}
 use Rattle.tree_model.specs.declared.node.Node.TheVariants as nodes
 use Rattle.tree_model.specs.declared.node.Directory.{Directory}
 use Rattle.tree_model.specs.Maps.{at_number, name_cmp}
-use Rattle.tree_model.specs.laws.Listing.{HasEntry, IsRooted}
+use Rattle.tree_model.specs.Rooted.{HasEntry, IsRooted}
 use Rattle.volume_ops.specs.declared.found.Found.{Found}
 use Rattle.volume_ops.specs.declared.found.Found.TheVariants as found
 use Rattle.volume_ops.specs.laws.ReadsLaws.{err-ok, same_Ok}

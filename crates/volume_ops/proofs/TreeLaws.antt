@@ -20,7 +20,7 @@ use Rattle.volume_ops.specs.Zones.{Fault}
 use Rattle.volume_ops.specs.Walk.{Walked}
 use Rattle.volume_ops.specs.Volume.{walked, node_of, put_nodes, tree_found, tree_of}
 use Rattle.volume_ops.specs.VolumeFields.{inode_at, IsNodeOf, IsBelow, IsTreeOf}
-use Rattle.tree_model.specs.laws.Listing.{HasEntry, IsLedTo, at_root, by_name}
+use Rattle.tree_model.specs.Rooted.{HasEntry, IsLedTo, at_root, by_name}
 use Rattle.volume_ops.proofs.VisitLaws.{names_in}
 use Rattle.volume_ops.proofs.WalkLaws.{NamedIn, IsReachedIn, from_root, from_parent, IsWalked, Ends, walk_volume-ends}
 

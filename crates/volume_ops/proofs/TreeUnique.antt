@@ -21,7 +21,7 @@ use Rattle.tree_model.specs.declared.node.Node.TheVariants as nodes
 use Rattle.tree_model.specs.declared.node.File.{File}
 use Rattle.tree_model.specs.Maps.{at_number, at_name, name_cmp}
 use Rattle.tree_model.specs.laws.MapsLaws.{same_pair, number_here, number_same, name_here, name_same}
-use Rattle.tree_model.specs.laws.Listing.{HasEntry, IsLedTo, at_root, by_name}
+use Rattle.tree_model.specs.Rooted.{HasEntry, IsLedTo, at_root, by_name}
 use Rattle.volume_ops.specs.declared.found.Mapped.{Mapped}
 use Rattle.volume_ops.specs.declared.found.Found.{Found}
 use Rattle.volume_ops.specs.declared.found.Found.TheVariants as found

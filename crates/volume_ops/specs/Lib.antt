@@ -1,6 +1,5 @@
 -- What the walk through a volume is, and what it finds.
 pub mod Defects
-pub mod DeviceReads
 pub mod Faultless
 pub mod Faults
 pub mod VolumeFields

@@ -13,7 +13,7 @@ use Rattle.tree_model.specs.declared.node.Directory.{Directory}
 use Rattle.tree_model.specs.declared.node.File.{File}
 use Rattle.tree_model.specs.Maps.{at_number, at_name}
 use Rattle.tree_model.specs.Paths.{is_dot}
-use Rattle.tree_model.specs.laws.Listing.{HasEntry}
+use Rattle.tree_model.specs.Rooted.{HasEntry}
 use Rattle.volume_ops.specs.Places.{table_block, inode_in_block, is_directory, is_file, zone_number, birth_of, inode_of_birth}
 use Rattle.volume_ops.specs.Volume.{disk_of}
 

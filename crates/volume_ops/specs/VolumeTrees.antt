@@ -8,7 +8,7 @@ use Rattle.tree_model.specs.declared.node.Node.{Node}
 use Rattle.tree_model.specs.declared.node.Node.TheVariants as nodes
 use Rattle.tree_model.specs.declared.node.File.{File}
 use Rattle.tree_model.specs.Maps.{at_number}
-use Rattle.tree_model.specs.laws.Listing.{IsRooted}
+use Rattle.tree_model.specs.Rooted.{IsRooted}
 use Rattle.volume_ops.specs.VolumeFields.{IsTreeOf}
 use Rattle.volume_ops.specs.Faultless.{IsFaultless}
 

@@ -7,7 +7,7 @@ ghost use Rattle.minix_layout.specs.declared.fault.LayoutFault.{LayoutFault};
 ghost use Rattle.tree_model.specs.declared.node.File.{File};
 ghost use Rattle.tree_model.specs.declared.node.Node.{Node};
 ghost use Rattle.tree_model.specs.declared.node.Node.TheVariants as nodes;
-ghost use Rattle.tree_model.specs.laws.Listing.{IsRooted};
+ghost use Rattle.tree_model.specs.Rooted.{IsRooted};
 ghost use Rattle.tree_model.specs.Maps.{at_number};
 ghost use Rattle.tree_model.specs.Trees.{AreAlike};
 ghost use Rattle.volume_ops.specs.Reads.{AgreeOn};

@@ -23,8 +23,9 @@ use Rattle.volume_model.specs.laws.Indexed.{keys_bodies}
 use Rattle.volume_steps.specs.Now.{VolumeNow, Change, tree_of_now, room_of, unchanged}
 use Rattle.volume_steps.specs.Calls.{called, called_by, changed}
 use Rattle.volume_steps.specs.Plain.{IsInUse, IsPlainNow, is_of_bytes}
-use Rattle.volume_steps.specs.laws.Called.{FindsRoom}
-use Rattle.volume_steps.specs.laws.Steady.{IsSteady, shape_of, shape_at, HasNumber, Marks, KeepsMarks}
+use Rattle.volume_steps.specs.Called.{FindsRoom}
+use Rattle.volume_steps.specs.laws.Steady.{IsSteady, shape_of, shape_at, Marks, KeepsMarks}
+use Rattle.volume_steps.specs.UsedInodes.{IsInodeUsed}
 use Rattle.volume_steps.proofs.CallEnds.{IsDone, done_takes}
 use Rattle.volume_steps.proofs.Called.{called_done, needs_are, unchanged_steady}
 use Rattle.volume_steps.proofs.CreateCall.{create_done}
@@ -249,16 +250,16 @@ module _ (tx : ℕ) (v : VolumeNow) (n : ℕ) (c : Call) (h : FindsRoom v n c) w
       has_bit w.contents.blocks (zone_bit v.geometry zone) ≡ has_bit v.contents.blocks (zone_bit v.geometry zone)
   other_zone zone low high same = stayed _ _ _ _ (marks.zones zone low high) same
 
-  pub taken_inode : (number : ℕ) → (HasNumber v.contents.nodes number → ⊥) → HasNumber w.contents.nodes number → has_bit w.contents.blocks (inode_bit v.geometry number) ≡ true
+  pub taken_inode : (number : ℕ) → (IsInodeUsed v.contents.nodes number → ⊥) → IsInodeUsed w.contents.nodes number → has_bit w.contents.blocks (inode_bit v.geometry number) ≡ true
   taken_inode number was now =
       let stored = subst (λ (g : Geometry). IsStored g w.contents.blocks now.placed) geometry (after_in_use.volume.0.each now.birth now.placed now.stands) in
       came _ _ _ _ (marks.inodes number (subst (λ k. 0 < k) now.is stored.some) (subst (λ k. k ≤ v.geometry.inodes) now.is stored.within)) was now
 
-  pub freed_inode : (number : ℕ) → HasNumber v.contents.nodes number → (HasNumber w.contents.nodes number → ⊥) → has_bit w.contents.blocks (inode_bit v.geometry number) ≡ false
+  pub freed_inode : (number : ℕ) → IsInodeUsed v.contents.nodes number → (IsInodeUsed w.contents.nodes number → ⊥) → has_bit w.contents.blocks (inode_bit v.geometry number) ≡ false
   freed_inode number was gone =
       let stored = h.plain.in_use.volume.0.each was.birth was.placed was.stands in
       went _ _ _ _ (marks.inodes number (subst (λ k. 0 < k) was.is stored.some) (subst (λ k. k ≤ v.geometry.inodes) was.is stored.within)) was gone
 
-  pub other_inode : (number : ℕ) → 0 < number → number ≤ v.geometry.inodes → HasNumber w.contents.nodes number ↔ HasNumber v.contents.nodes number →
+  pub other_inode : (number : ℕ) → 0 < number → number ≤ v.geometry.inodes → IsInodeUsed w.contents.nodes number ↔ IsInodeUsed v.contents.nodes number →
       has_bit w.contents.blocks (inode_bit v.geometry number) ≡ has_bit v.contents.blocks (inode_bit v.geometry number)
   other_inode number some high same = stayed _ _ _ _ (marks.inodes number some high) same

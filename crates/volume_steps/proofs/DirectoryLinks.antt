@@ -15,7 +15,7 @@ use Rattle.tree_model.specs.declared.node.Node.TheVariants as nodes
 use Rattle.tree_model.specs.declared.node.Directory.{Directory}
 use Rattle.tree_model.specs.Maps.{at_number, at_name, put_number, put_name, name_cmp}
 use Rattle.tree_model.specs.Trees.{is_directory, directory_links}
-use Rattle.tree_model.specs.laws.Listing.{IsRooted}
+use Rattle.tree_model.specs.Rooted.{IsRooted}
 use Rattle.tree_model.specs.laws.MapsLaws.{at_put_number, at_put_number_apart, name_here, name_same}
 use Rattle.volume_ops.proofs.TreeUnique.{found_first, found_later}
 use Rattle.std.proofs.lemmas.Map.Keys.{sorted_tail}

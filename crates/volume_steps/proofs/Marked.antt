@@ -27,7 +27,8 @@ use Rattle.volume_model.specs.laws.Edits.{edited_here, edited_elsewhere}
 use Rattle.volume_model.specs.Touched.{Contents}
 use Rattle.volume_model.specs.Volume.{IsWhole}
 use Rattle.volume_steps.specs.Zones.{inode_bit, zone_bit}
-use Rattle.volume_steps.specs.laws.Steady.{HasNumber, Marks, KeepsMarks}
+use Rattle.volume_steps.specs.laws.Steady.{Marks, KeepsMarks}
+use Rattle.volume_steps.specs.UsedInodes.{IsInodeUsed}
 use Rattle.volume_steps.proofs.Bits.{AreZones}
 use Rattle.volume_steps.proofs.Taking.{AreTaken, AreGiven, free_used, in_zones}
 
@@ -106,15 +107,15 @@ module _ (g : Geometry) (sound : IsSound g) (value : Bool) where
 -- ---- nodes and their numbers
 
 abbrev pub SameNumbers : List (ℕ × Placed) → List (ℕ × Placed) → Type 0
-SameNumbers nodes after = (number : ℕ) → HasNumber after number ↔ HasNumber nodes number
+SameNumbers nodes after = (number : ℕ) → IsInodeUsed after number ↔ IsInodeUsed nodes number
 
 pub numbers_same : (nodes after : List (ℕ × Placed)) → after ≡ nodes → SameNumbers nodes after
-numbers_same nodes after same number = ((λ has. subst (λ nodes. HasNumber nodes number) same has), (λ has. subst (λ nodes. HasNumber nodes number) (sym same) has))
+numbers_same nodes after same number = ((λ has. subst (λ nodes. IsInodeUsed nodes number) same has), (λ has. subst (λ nodes. IsInodeUsed nodes number) (sym same) has))
 
 pub numbers_put : (nodes after : List (ℕ × Placed)) (n : ℕ) (p q : Placed) → after ≡ put_number nodes n q → at_number nodes n ≡ Some p → q.number ≡ p.number → SameNumbers nodes after
-numbers_put nodes after n p q is at same number = ((λ has. back (subst (λ nodes. HasNumber nodes number) is has)), (λ has. subst (λ nodes. HasNumber nodes number) (sym is) (there has)))
+numbers_put nodes after n p q is at same number = ((λ has. back (subst (λ nodes. IsInodeUsed nodes number) is has)), (λ has. subst (λ nodes. IsInodeUsed nodes number) (sym is) (there has)))
   where
-    back : HasNumber (put_number nodes n q) number → HasNumber nodes number
+    back : IsInodeUsed (put_number nodes n q) number → IsInodeUsed nodes number
     back has = elim (cases_eq has.birth n) [
       | inr far ↦ record { birth = has.birth; placed = has.placed; stands = sym (at_put_number_apart nodes n q has.birth far) ∙ has.stands; is = has.is }
       | inl e ↦
@@ -122,7 +123,7 @@ numbers_put nodes after n p q is at same number = ((λ has. back (subst (λ node
           record { birth = n; placed = p; stands = at; is = sym same ∙ (ap (λ (q : Placed). q.number) one ∙ has.is) }
     ]
 
-    there : HasNumber nodes number → HasNumber (put_number nodes n q) number
+    there : IsInodeUsed nodes number → IsInodeUsed (put_number nodes n q) number
     there has = elim (cases_eq has.birth n) [
       | inr far ↦ record { birth = has.birth; placed = has.placed; stands = at_put_number_apart nodes n q has.birth far ∙ has.stands; is = has.is }
       | inl e ↦
@@ -183,7 +184,7 @@ marks_same g sound v w m whole size same numbers = marks_zones g sound v w m m t
 
 -- An inode comes into use, or goes.
 pub marks_inode : (g : Geometry) → IsSound g → (v w : Contents) (m : Zones) (number : ℕ) (value : Bool) → IsWhole v.blocks → length v.blocks ≡ g.zones → 0 < number → number ≤ g.inodes →
-    SameMaps g (edited g v.blocks (inode_bit number value)) w.blocks → ((value ≡ true) ↔ HasNumber w.nodes number) → ((HasNumber w.nodes number ↔ HasNumber v.nodes number) → ⊥) → ((other : ℕ) → other ≢ number → HasNumber w.nodes other ↔ HasNumber v.nodes other) → KeepsMarks g v w m m
+    SameMaps g (edited g v.blocks (inode_bit number value)) w.blocks → ((value ≡ true) ↔ IsInodeUsed w.nodes number) → ((IsInodeUsed w.nodes number ↔ IsInodeUsed v.nodes number) → ⊥) → ((other : ℕ) → other ≢ number → IsInodeUsed w.nodes other ↔ IsInodeUsed v.nodes other) → KeepsMarks g v w m m
 marks_inode g sound v w m number value whole size some high same now differ numbers = record {
   inodes = λ other low most.
       let inside = inode_inside g sound other most in
@@ -191,7 +192,7 @@ marks_inode g sound v w m number value whole size some high same now differ numb
       elim (cases_eq other number) [
         | inl e ↦
             let here : has_bit w.blocks (inode_place g other) ≡ value = read ∙ bit_here g v.blocks whole 2 number value in_blocks (inode_place g other) (ap (λ k. 2 + k / 8192) e) (ap (λ k. k % 8192) e) in
-            inr (((λ t. subst (HasNumber w.nodes) (sym e) (now.0 (sym here ∙ t))), (λ has. here ∙ now.1 (subst (HasNumber w.nodes) e has))), (λ alike. differ (subst (λ number. HasNumber w.nodes number ↔ HasNumber v.nodes number) e alike)))
+            inr (((λ t. subst (IsInodeUsed w.nodes) (sym e) (now.0 (sym here ∙ t))), (λ has. here ∙ now.1 (subst (IsInodeUsed w.nodes) e has))), (λ alike. differ (subst (λ number. IsInodeUsed w.nodes number ↔ IsInodeUsed v.nodes number) e alike)))
         | inr far ↦ inl (read ∙ bit_away g v.blocks whole 2 number value in_blocks (inode_place g other) (λ block at. far (same_place other number (omega arith) at)), numbers other far)
       ];
   zones = λ zone low most.
@@ -232,7 +233,7 @@ marks_then g v w z m n o h k numbers once = record {
 
 -- ---- nodes that come and go
 
-pub numbers_come : (nodes : List (ℕ × Placed)) (n : ℕ) (q : Placed) → at_number nodes n ≡ None → (number : ℕ) → number ≢ q.number → HasNumber (put_number nodes n q) number ↔ HasNumber nodes number
+pub numbers_come : (nodes : List (ℕ × Placed)) (n : ℕ) (q : Placed) → at_number nodes n ≡ None → (number : ℕ) → number ≢ q.number → IsInodeUsed (put_number nodes n q) number ↔ IsInodeUsed nodes number
 numbers_come nodes n q none number other = (
   (λ has. elim (cases_eq has.birth n) [
     | inr far ↦ record { birth = has.birth; placed = has.placed; stands = sym (at_put_number_apart nodes n q has.birth far) ∙ has.stands; is = has.is }
@@ -245,7 +246,7 @@ numbers_come nodes n q none number other = (
       record { birth = has.birth; placed = has.placed; stands = at_put_number_apart nodes n q has.birth far ∙ has.stands; is = has.is }),
 )
 
-pub number_comes : (nodes : List (ℕ × Placed)) (n : ℕ) (q : Placed) → HasNumber (put_number nodes n q) q.number
+pub number_comes : (nodes : List (ℕ × Placed)) (n : ℕ) (q : Placed) → IsInodeUsed (put_number nodes n q) q.number
 number_comes nodes n q = record { birth = n; placed = q; stands = at_put_number nodes n q; is = refl }
 
 module _ (nodes : List (ℕ × Placed)) (n : ℕ) (p : Placed) (sorted : IsStrictlySortedBy nat_cmp (keys_of nodes)) (at : at_number nodes n ≡ Some p)
@@ -253,16 +254,16 @@ module _ (nodes : List (ℕ × Placed)) (n : ℕ) (p : Placed) (sorted : IsStric
   abbrev rest : List (ℕ × Placed)
   rest = remove_entry (is_at (nat_cmp n)) nodes
 
-  was : (number : ℕ) (has : HasNumber rest number) → (has.birth ≢ n) × (at_number nodes has.birth ≡ Some has.placed)
+  was : (number : ℕ) (has : IsInodeUsed rest number) → (has.birth ≢ n) × (at_number nodes has.birth ≡ Some has.placed)
   was number has = elim (cases_eq has.birth n) [
     | inl e ↦ absurd (none-some has.placed (sym (at_without_here nodes n sorted) ∙ (ap (at_number rest) (sym e) ∙ has.stands)))
     | inr far ↦ (far, sym (at_without_apart nodes n has.birth sorted far) ∙ has.stands)
   ]
 
-  pub number_goes : HasNumber rest p.number → ⊥
+  pub number_goes : IsInodeUsed rest p.number → ⊥
   number_goes has = let old = was p.number has in old.0 (once has.birth n has.placed p old.1 at has.is)
 
-  pub numbers_stay : (number : ℕ) → number ≢ p.number → HasNumber rest number ↔ HasNumber nodes number
+  pub numbers_stay : (number : ℕ) → number ≢ p.number → IsInodeUsed rest number ↔ IsInodeUsed nodes number
   numbers_stay number other = (
     (λ has. let old = was number has in record { birth = has.birth; placed = has.placed; stands = old.1; is = has.is }),
     (λ has.

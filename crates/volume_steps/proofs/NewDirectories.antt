@@ -38,7 +38,8 @@ use Rattle.volume_steps.specs.Now.{VolumeNow, Change, tree_of_now}
 use Rattle.volume_steps.specs.Zones.{inode_bit, zone_bit, new_number, next_zone}
 use Rattle.volume_steps.specs.Steps.{new_directory_inode, new_directory_edits, dot_slots, make_directory}
 use Rattle.volume_steps.specs.Plain.{IsInUse}
-use Rattle.volume_steps.specs.laws.Steady.{IsSteady, KeepsMarks, HasNumber}
+use Rattle.volume_steps.specs.laws.Steady.{IsSteady, KeepsMarks}
+use Rattle.volume_steps.specs.UsedInodes.{IsInodeUsed}
 use Rattle.volume_steps.proofs.Together.{used_waits}
 use Rattle.volume_steps.proofs.Grows.{GrowsTo, TakesTo, grown_steady}
 use Rattle.volume_steps.proofs.NodeSteps.{IsSettled, AreSlotted}
@@ -404,7 +405,7 @@ module _ (tx : ℕ) (v : VolumeNow) (in_use : IsInUse v) (n : ℕ) (none : at_nu
         ]
       ]
 
-  not_before : HasNumber v.contents.nodes number → ⊥
+  not_before : IsInodeUsed v.contents.nodes number → ⊥
   not_before has = new.unused has.birth has.placed has.stands has.is
 
   made_marks : KeepsMarks g v.contents w v.zones (taken v.zones)

@@ -22,7 +22,8 @@ use Rattle.volume_steps.specs.Now.{VolumeNow, tree_of_now}
 use Rattle.volume_steps.specs.Zones.{inode_bit, new_number}
 use Rattle.volume_steps.specs.Steps.{new_file_inode, make_file}
 use Rattle.volume_steps.specs.Plain.{IsInUse}
-use Rattle.volume_steps.specs.laws.Steady.{IsSteady, HasNumber}
+use Rattle.volume_steps.specs.laws.Steady.{IsSteady}
+use Rattle.volume_steps.specs.UsedInodes.{IsInodeUsed}
 use Rattle.volume_steps.proofs.Grows.{GrowsTo, takes_none, grown_steady}
 use Rattle.volume_steps.proofs.NodeSteps.{IsSettled, AreSlotted}
 use Rattle.volume_steps.proofs.NewNumbers.{IsNewNumber, number_is_new}
@@ -131,7 +132,7 @@ module _ (tx : ℕ) (v : VolumeNow) (in_use : IsInUse v) (n : ℕ) (none : at_nu
   unfolding file_zones mapped_groups
   no_zones = refl
 
-  not_before : HasNumber v.contents.nodes number → ⊥
+  not_before : IsInodeUsed v.contents.nodes number → ⊥
   not_before has = new.unused has.birth has.placed has.stands has.is
 
   pub file_made_steady : IsSteady tx v (make_file v n) (λ birth index. ⊥)

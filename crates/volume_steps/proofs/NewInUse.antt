@@ -12,7 +12,7 @@ use Rattle.inode_ops.specs.Map.{zone_at}
 use Rattle.tree_model.specs.declared.node.Node.{Node}
 use Rattle.tree_model.specs.declared.node.Node.TheVariants as nodes
 use Rattle.tree_model.specs.Maps.{at_number, at_name}
-use Rattle.tree_model.specs.laws.Listing.{HasEntry}
+use Rattle.tree_model.specs.Rooted.{HasEntry}
 use Rattle.tree_model.specs.laws.MapsLaws.{number_same}
 use Rattle.tree_model.specs.Calls.{used_zones}
 use Rattle.zone_maps.specs.declared.zone_state.ZoneState.TheVariants as states

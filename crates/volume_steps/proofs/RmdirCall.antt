@@ -13,8 +13,8 @@ use Rattle.tree_model.specs.laws.MapOrder.{InOrder, at_put_cases, at_without_cas
 use Rattle.tree_model.specs.laws.MapsLaws.{at_put_number, at_put_number_apart}
 use Rattle.tree_model.specs.Plain.{IsPlain, AreBornBefore}
 use Rattle.tree_model.specs.Trees.{is_directory, directory_links}
-use Rattle.tree_model.specs.laws.Listing.{HasEntry, IsLedTo}
-use Rattle.tree_model.specs.laws.Listing.IsLedTo.{at_root, by_name}
+use Rattle.tree_model.specs.Rooted.{HasEntry, IsLedTo}
+use Rattle.tree_model.specs.Rooted.IsLedTo.{at_root, by_name}
 use Rattle.tree_model.specs.Calls.{Tree, Done, Place, Found, row, outcome, names_in, parent_of, walk, a_directory, and_then, refuse_if, leaves, take_name, without_name}
 use Rattle.tree_model.proofs.Rows.{ok_ok, then_ok, refuse_ok, directory_ok, IsFound, walk_ok, IsPlace, parent_ok, place_names}
 use Rattle.volume_model.specs.declared.placed.Placed.{Placed}

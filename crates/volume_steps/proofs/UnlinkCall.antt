@@ -14,8 +14,9 @@ use Rattle.tree_model.specs.laws.MapOrder.{InOrder, at_put_cases, at_without_cas
 use Rattle.tree_model.specs.laws.MapsLaws.{at_put_number_apart}
 use Rattle.tree_model.specs.Plain.{IsPlain, AreBornBefore}
 use Rattle.tree_model.specs.Trees.{is_directory, directory_links}
-use Rattle.tree_model.specs.laws.Listing.{names_of, IsLedTo}
-use Rattle.tree_model.specs.laws.Listing.IsLedTo.{at_root, by_name}
+use Rattle.tree_model.specs.laws.Listing.{names_of}
+use Rattle.tree_model.specs.Rooted.{IsLedTo}
+use Rattle.tree_model.specs.Rooted.IsLedTo.{at_root, by_name}
 use Rattle.tree_model.specs.Calls.{Tree, Done, Place, Found, row, outcome, names_in, parent_of, walk, a_file, and_then, leaves, take_name, lose_link, put_file, with_links, without_name}
 use Rattle.tree_model.proofs.Rows.{ok_ok, then_ok, file_ok, IsFound, walk_ok, IsPlace, parent_ok, place_names}
 use Rattle.tree_model.proofs.Plain.{edge_of, edge_counts, one_for, one_for_here}

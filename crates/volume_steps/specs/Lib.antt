@@ -2,9 +2,10 @@ pub mod Now
 pub mod Zones
 pub mod Steps
 pub mod Calls
+pub mod Called
 pub mod Plain
 pub mod NewNow
 pub mod Numbers
+pub mod UsedInodes
 pub mod Cuts
-pub mod Sample
 pub mod laws

@@ -4,7 +4,7 @@ use Rattle.minix_layout.specs.Geometry.{IsSound}
 use Rattle.tree_model.specs.declared.call.Call.{Call}
 use Rattle.tree_model.specs.declared.call.Call.TheVariants as calls
 use Rattle.tree_model.specs.Paths.{is_path_name}
-use Rattle.tree_model.specs.laws.Listing.{HasEntry}
+use Rattle.tree_model.specs.Rooted.{HasEntry}
 use Rattle.tree_model.specs.Calls.{used_zones}
 use Rattle.zone_maps.specs.declared.zone_state.ZoneState.TheVariants as states
 use Rattle.zone_maps.specs.Zones.{is_used, state_of}

@@ -1,3 +1,3 @@
 -- What proofs of calls on a volume need.
+pub mod Sample
 pub mod Steady
-pub mod Called

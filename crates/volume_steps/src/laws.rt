@@ -18,9 +18,10 @@ ghost use Rattle.volume_steps.specs.Calls.{called, after_release};
 ghost use Rattle.volume_steps.specs.NewNow.{new_now};
 ghost use Rattle.minix_layout.specs.Geometry.{IsSound};
 ghost use Rattle.minix_layout.specs.declared.division.Geometry.{Geometry};
-ghost use Rattle.volume_steps.specs.laws.Called.{FindsRoom};
-ghost use Rattle.volume_steps.specs.laws.Steady.{HasNumber, IsSteady, TakesLowest, shape_at};
-ghost use Rattle.volume_steps.specs.Sample.{small_volume, after_calls, touched_in, count_once, numbers_of, first_zones, first_session, removing_session, ten_directories};
+ghost use Rattle.volume_steps.specs.Called.{FindsRoom};
+ghost use Rattle.volume_steps.specs.laws.Steady.{IsSteady, TakesLowest, shape_at};
+ghost use Rattle.volume_steps.specs.UsedInodes.{IsInodeUsed};
+ghost use Rattle.volume_steps.specs.laws.Sample.{small_volume, after_calls, touched_in, count_once, numbers_of, first_zones, first_session, removing_session, ten_directories};
 
 use volume_model::new_volumes_are_plain;
 
@@ -120,14 +121,14 @@ pub fn calls_mark_what_is_in_use()
         has_bit (called v n tx c).change.volume.contents.blocks (zone_bit v.geometry zone) ≡
         has_bit v.contents.blocks (zone_bit v.geometry zone) }
     ensures taken_inodes { (v : VolumeNow) (n tx : ℕ) (c : Call) → FindsRoom v n c → (number : ℕ) →
-        (HasNumber v.contents.nodes number → ⊥) → HasNumber (called v n tx c).change.volume.contents.nodes number →
+        (IsInodeUsed v.contents.nodes number → ⊥) → IsInodeUsed (called v n tx c).change.volume.contents.nodes number →
         has_bit (called v n tx c).change.volume.contents.blocks (inode_bit v.geometry number) ≡ true }
     ensures freed_inodes { (v : VolumeNow) (n tx : ℕ) (c : Call) → FindsRoom v n c → (number : ℕ) →
-        HasNumber v.contents.nodes number → (HasNumber (called v n tx c).change.volume.contents.nodes number → ⊥) →
+        IsInodeUsed v.contents.nodes number → (IsInodeUsed (called v n tx c).change.volume.contents.nodes number → ⊥) →
         has_bit (called v n tx c).change.volume.contents.blocks (inode_bit v.geometry number) ≡ false }
     ensures other_inodes { (v : VolumeNow) (n tx : ℕ) (c : Call) → FindsRoom v n c → (number : ℕ) →
         0 < number → number ≤ v.geometry.inodes →
-        HasNumber (called v n tx c).change.volume.contents.nodes number ↔ HasNumber v.contents.nodes number →
+        IsInodeUsed (called v n tx c).change.volume.contents.nodes number ↔ IsInodeUsed v.contents.nodes number →
         has_bit (called v n tx c).change.volume.contents.blocks (inode_bit v.geometry number) ≡
         has_bit v.contents.blocks (inode_bit v.geometry number) }
     ensures other_bits { (v : VolumeNow) (n tx : ℕ) (c : Call) → FindsRoom v n c → (p : BitPlace) →

@@ -4,11 +4,11 @@ ghost use Rattle.blk_base.specs.Members.{In};
 ghost use Rattle.order_model.specs.declared.completion.Completion.{Completion};
 ghost use Rattle.order_model.specs.declared.completion.Completion.TheVariants.{Flushed};
 ghost use Rattle.order_model.specs.declared.note.Note.TheVariants.{Page};
-ghost use Rattle.crash_laws.specs.CallFacts.{IsDone, IsGoodFor, IsUnchangedSince};
+ghost use Rattle.crash_laws.specs.laws.CallFacts.{IsDone, IsGoodFor, IsUnchangedSince};
 ghost use Rattle.crash_laws.specs.History.{History, HasTrees};
 ghost use Rattle.crash_laws.specs.PromiseRules.{BegunCall, Covers, CoversEntry, AreHeld, KeepsSync};
 ghost use Rattle.crash_laws.specs.Session.{Session, HasNote, IsCommit};
-ghost use Rattle.crash_laws.specs.Submitting.{Submitting, after};
+ghost use Rattle.crash_laws.specs.laws.Submitting.{Submitting, after};
 ghost use Rattle.crash_laws.specs.Volumes.{WalkEnd};
 
 /// A law, which does nothing when it is called: a covered pair that is done, sent or unmapped, is good for each

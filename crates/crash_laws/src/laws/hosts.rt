@@ -8,16 +8,16 @@ ghost use Rattle.minix_layout.specs.declared.division.Geometry.{Geometry};
 ghost use Rattle.volume_ops.specs.Reads.{blocks_read};
 ghost use Rattle.volume_ops.specs.Walk.{walk_volume};
 ghost use Rattle.log_model.specs.Marks.{Set, mark_in, transactions_from};
-ghost use Rattle.crash_laws.specs.Changes.{Told, IsChange, HasZones, IsPresent};
+ghost use Rattle.crash_laws.specs.laws.Changes.{Told, IsChange, HasZones, IsPresent};
 ghost use Rattle.crash_laws.specs.History.{History, HasTrees, last_write};
-ghost use Rattle.crash_laws.specs.HostFacts.{Host, HostFacts};
+ghost use Rattle.crash_laws.specs.laws.HostFacts.{Host, HostFacts};
 ghost use Rattle.crash_laws.specs.Ordering.{IsClosedOff};
-ghost use Rattle.crash_laws.specs.PageClauses.{NewPageClause, CommitPagesClause};
+ghost use Rattle.crash_laws.specs.laws.PageClauses.{NewPageClause, CommitPagesClause};
 ghost use Rattle.crash_laws.specs.PageRules.{place_at};
-ghost use Rattle.crash_laws.specs.Plans.{PlanFacts, IsCommitting};
+ghost use Rattle.crash_laws.specs.laws.Plans.{PlanFacts, IsCommitting};
 ghost use Rattle.crash_laws.specs.Rules.{CommitOrder};
 ghost use Rattle.crash_laws.specs.Session.{Session, HasNote, IsCommit, image_of};
-ghost use Rattle.crash_laws.specs.Submitting.{Submitting, after};
+ghost use Rattle.crash_laws.specs.laws.Submitting.{Submitting, after};
 ghost use Rattle.crash_laws.specs.Volumes.{WalkEnd};
 
 /// A law, which does nothing when it is called: a call that changes the volume keeps the facts of a host, and each

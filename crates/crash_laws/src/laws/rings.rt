@@ -6,11 +6,11 @@ ghost use Rattle.order_model.specs.declared.note.Note.TheVariants.{Super, Commit
 ghost use Rattle.order_model.specs.OrderClosed.{IsPutOf, is_flush, kind_body};
 ghost use Rattle.log_model.specs.Marks.{Keep, Clear, Set, mark_in, transaction_mark, transactions_from};
 ghost use Rattle.log_model.specs.Ring.{place_after, places_in};
-ghost use Rattle.crash_laws.specs.Clauses.{SuperClause};
-ghost use Rattle.crash_laws.specs.RingFacts.{RingHost, RingFacts};
+ghost use Rattle.crash_laws.specs.laws.Clauses.{SuperClause};
+ghost use Rattle.crash_laws.specs.laws.RingFacts.{RingHost, RingFacts};
 ghost use Rattle.crash_laws.specs.Rules.{CommitOrder, LogLayout, CheckpointOrder};
 ghost use Rattle.crash_laws.specs.Session.{Session, log_transaction, IsLog, IsSuperOf};
-ghost use Rattle.crash_laws.specs.Submitting.{Submitting, after, new_place, IsCommitted};
+ghost use Rattle.crash_laws.specs.laws.Submitting.{Submitting, after, new_place, IsCommitted};
 
 /// A law, which does nothing when it is called: what a home request, a superblock and a log block owe, from the facts
 /// of a host's ring: a body that waits is the last one of its block, no body waits at a superblock, and the head is

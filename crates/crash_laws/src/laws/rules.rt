@@ -10,20 +10,20 @@ ghost use Rattle.volume_ops.specs.Reads.{blocks_read};
 ghost use Rattle.volume_ops.specs.Volume.{disk_of};
 ghost use Rattle.volume_ops.specs.Walk.{walk_volume};
 ghost use Rattle.log_model.specs.Ring.{IsPlace};
-ghost use Rattle.crash_laws.specs.BrokenExamples.{unfenced, without_body, page_late, without_page};
-ghost use Rattle.crash_laws.specs.Clauses.{CommitClause, OrderClause};
-ghost use Rattle.crash_laws.specs.Example.{program, history, with_first, synced, completions};
-ghost use Rattle.crash_laws.specs.Extending.{Extends};
+ghost use Rattle.crash_laws.specs.laws.BrokenExamples.{unfenced, without_body, page_late, without_page};
+ghost use Rattle.crash_laws.specs.laws.Clauses.{CommitClause, OrderClause};
+ghost use Rattle.crash_laws.specs.laws.Example.{program, history, with_first, synced, completions};
+ghost use Rattle.crash_laws.specs.laws.Extending.{Extends};
 ghost use Rattle.crash_laws.specs.Found.{found};
 ghost use Rattle.crash_laws.specs.History.{History, HasTrees};
-ghost use Rattle.crash_laws.specs.PageClauses.{PageClause};
+ghost use Rattle.crash_laws.specs.laws.PageClauses.{PageClause};
 ghost use Rattle.crash_laws.specs.PageRules.{PageOrder, DataBeforeCommit};
 ghost use Rattle.crash_laws.specs.PromiseRules.{BegunCall, Covers, CoversEntry, AreHeld, KeepsBarrier, KeepsSync};
 ghost use Rattle.crash_laws.specs.Recovery.{recovered_disk, HasVersion};
-ghost use Rattle.crash_laws.specs.Requests.{IsPageRequest, IsFlushRequest, IsHomeRequest, IsSuperRequest, IsPartRequest, IsCommitRequest};
+ghost use Rattle.crash_laws.specs.laws.Requests.{IsPageRequest, IsFlushRequest, IsHomeRequest, IsSuperRequest, IsPartRequest, IsCommitRequest};
 ghost use Rattle.crash_laws.specs.Rules.{BaseImage, CommitOrder, OrderRules};
 ghost use Rattle.crash_laws.specs.Session.{Session, HasNote, IsCommit, image_of};
-ghost use Rattle.crash_laws.specs.Submitting.{Submitting, after};
+ghost use Rattle.crash_laws.specs.laws.Submitting.{Submitting, after};
 ghost use Rattle.crash_laws.specs.Volumes.{WalkEnd, HasTreeOf, HasTreesOf};
 
 /// A law, which does nothing when it is called: over a base image with an empty log, a session that has submitted

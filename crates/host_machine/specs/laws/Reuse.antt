@@ -5,7 +5,7 @@ use Rattle.order_model.specs.OrderClosed.{IsOrdered}
 use Rattle.crash_laws.specs.History.{History, Calm, IsEntryOf}
 use Rattle.crash_laws.specs.PageRules.{IsPageTo}
 use Rattle.crash_laws.specs.Session.{Session, CommitBefore}
-use Rattle.crash_laws.specs.Submitting.{IsCommitted}
+use Rattle.crash_laws.specs.laws.Submitting.{IsCommitted}
 use Rattle.host_machine.specs.laws.Facts.{View}
 
 -- ---- the rules

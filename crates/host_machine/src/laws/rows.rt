@@ -5,7 +5,7 @@ ghost use Rattle.host_machine.specs.Causes as causes;
 ghost use Rattle.host_machine.specs.Host.{advance};
 ghost use Rattle.host_machine.specs.Outcomes as outcomes;
 ghost use Rattle.host_machine.specs.State.{Begins};
-ghost use Rattle.host_machine.specs.Rows.{model, setup, notes_of, places_of, ordered_of, barriers_of, answers, ok, file_barrier_end, orderless_page_end, quarantine_synced, quarantine_end, full, conflict_held, conflict_end, wrapped, on_its_way, nothing_to_send, begun_in_closing, sync_sent, sync_moved, sync_flushing, sync_flushed, revoked};
+ghost use Rattle.host_machine.specs.laws.Rows.{model, setup, notes_of, places_of, ordered_of, barriers_of, answers, ok, file_barrier_end, orderless_page_end, quarantine_synced, quarantine_end, full, conflict_held, conflict_end, wrapped, on_its_way, nothing_to_send, begun_in_closing, sync_sent, sync_moved, sync_flushing, sync_flushed, revoked};
 
 /// A law, which does nothing when it is called: `mkdir`, `create`, a write and an `fbarrier`, with no step of the device.
 /// The page goes first, then superblock, descriptor, bodies and commit block; the last body and the commit block are

@@ -1,6 +1,6 @@
 //! A volume that keeps what the host is promised.
 ghost use Rattle.std.specs.Prelude.{[]};
-ghost use Rattle.host_machine.specs.Sample.{over, told, begun_host, both_done, Stands};
+ghost use Rattle.host_machine.specs.laws.Sample.{over, told, begun_host, both_done, Stands};
 ghost use Rattle.host_machine.specs.laws.Contract.{Contract, StandsAs};
 ghost use Rattle.host_machine.specs.laws.Rules.{Keeps};
 

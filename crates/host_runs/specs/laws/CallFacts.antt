@@ -5,7 +5,7 @@ use Rattle.order_model.specs.OrderClosed.{IsOrdered, IsFence}
 use Rattle.order_model.specs.declared.note.Note.TheVariants.{Page}
 use Rattle.page_cache.specs.Pages.{page_at, is_unsent}
 use Rattle.page_cache.specs.declared.cached_page.CachedPage.{CachedPage}
-use Rattle.crash_laws.specs.CallFacts.{IsDone}
+use Rattle.crash_laws.specs.laws.CallFacts.{IsDone}
 use Rattle.crash_laws.specs.History.{History, Calm}
 use Rattle.crash_laws.specs.PromiseRules.{IsSuperseded, AreHeld, Covers, CoversEntry}
 use Rattle.crash_laws.specs.Session.{Session, HasNote, IsCommit}

@@ -10,10 +10,10 @@ use Rattle.log_model.specs.Log.{Spells}
 use Rattle.log_model.specs.Marks.{Logged, Transaction, Set, mark_in, transactions_from}
 use Rattle.log_model.specs.Ring.{places_on}
 use Rattle.crash_laws.specs.Ordering.{IsClosedOff}
-use Rattle.crash_laws.specs.RingFacts.{IsAtHome}
+use Rattle.crash_laws.specs.laws.RingFacts.{IsAtHome}
 use Rattle.crash_laws.specs.Rules.{HasHeader}
 use Rattle.crash_laws.specs.Session.{Session, HasNote, log_transaction, IsLog, IsCommit, LogBlock, with_log_block, log_blocks, log_blocks_of, bodies_of, sequence_of, IsSuperOf}
-use Rattle.crash_laws.specs.Submitting.{IsCommitted}
+use Rattle.crash_laws.specs.laws.Submitting.{IsCommitted}
 use Rattle.journal_ring.specs.LogRing.{LogRing}
 use Rattle.tx_running.specs.Plan.{Planned}
 use Rattle.commit_actor.specs.Journal.{Plan, Phase, Idle, Closing, Committing}

@@ -7,7 +7,7 @@ ghost use Rattle.flush_actor.specs.Part.{is_flush_note};
 ghost use Rattle.host_machine.specs.laws.Contract.{Over, Contract, StandsAs};
 ghost use Rattle.host_runs.specs.Promises.{IsAnswered};
 ghost use Rattle.host_runs.specs.Runs.{Event, steps, FitsWords, HasBlocks};
-ghost use Rattle.host_runs.specs.laws.FlushFacts.{count, is_begin};
+ghost use Rattle.host_runs.specs.Flushes.{count, is_sync_begin};
 ghost use Rattle.host_runs.specs.laws.Kept.{IsSound};
 ghost use Rattle.host_runs.specs.laws.Written.{AreWritten};
 
@@ -27,5 +27,5 @@ pub fn answers_keep_their_promises<A, T, V, C, R>()
 /// barrier rests on a flush.
 pub fn flushes_are_charged_to_sync_calls<A, T, V, C, R>()
     ensures charged { (o : Over A T V C R) (tree : V → Option T) (contract : Contract o (StandsAs tree)) (s : Host V C R) →
-        IsSound contract s → count is_flush_note s.journal.flush.notes ≤ count (is_begin o.model.kind) s.history }
+        IsSound contract s → count is_flush_note s.journal.flush.notes ≤ count (is_sync_begin o.model.kind) s.history }
 {}

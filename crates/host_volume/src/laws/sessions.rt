@@ -17,7 +17,7 @@ ghost use Rattle.host_machine.specs.State.{Begun, Thread};
 ghost use Rattle.flush_actor.specs.Part.{is_flush_note};
 ghost use Rattle.host_runs.specs.Promises.{IsAnswered};
 ghost use Rattle.host_runs.specs.Runs.{Event, steps};
-ghost use Rattle.host_runs.specs.laws.FlushFacts.{count, is_begin};
+ghost use Rattle.host_runs.specs.Flushes.{count, is_sync_begin};
 ghost use Rattle.host_runs.specs.laws.Written.{AreWritten};
 ghost use Rattle.host_volume.specs.Runs.{IsOpenedVolume, HasEmptyJournal, host_after, KeepsSession};
 ghost use Rattle.host_volume.specs.ByteCalls.{ByteCall};
@@ -50,7 +50,7 @@ pub fn answers_of_sessions_hold()
     ensures flushes { (s : Opening) (v : VolumeNow) (ring : LogRing) (limit : ℕ) (programs : List (List ByteCall)) (events : List Event) →
         AreWritten s.format s.writers → IsOpenedVolume s v → HasEmptyJournal s ring limit →
         count is_flush_note (host_after s v ring limit programs events).journal.flush.notes ≤
-        count (is_begin (over s).model.kind) (host_after s v ring limit programs events).history }
+        count (is_sync_begin (over s).model.kind) (host_after s v ring limit programs events).history }
 {}
 
 /// A law, which does nothing when it is called: the blocks of a JBD2 journal, with whatever superblock, are read as they

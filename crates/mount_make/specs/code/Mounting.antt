@@ -3,7 +3,7 @@ use Rattle.std.specs.Prelude.{◌≡◌, ℕ, ◌<◌, List, length}
 use Rattle.order_model.specs.Device.{Seen, IsQuiet}
 use Rattle.order_model.specs.Steps.{OnlyReads}
 use Rattle.volume_ops.specs.Volume.{disk_of}
-use Rattle.volume_ops.specs.DeviceReads.{quiet_after, same_surface}
+use Rattle.volume_ops.specs.laws.DeviceReads.{quiet_after, same_surface}
 use Rattle.mount_make.specs.Images.{recovered_from}
 
 -- a quiet device was read, and is quiet still

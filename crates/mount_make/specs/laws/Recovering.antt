@@ -25,7 +25,7 @@ use Rattle.order_model.specs.Device.{Seen}
 use Rattle.order_model.specs.Steps.{OnlyReads}
 use Rattle.journal_replay.specs.declared.fault.RecoverFault.{RecoverFault}
 use Rattle.journal_replay.specs.declared.fault.RecoverFault.TheVariants as recovery
-use Rattle.volume_ops.specs.DeviceReads.{same_surface}
+use Rattle.volume_ops.specs.laws.DeviceReads.{same_surface}
 use Rattle.mount_make.specs.declared.fault.MountFault.TheVariants as mount
 use Rattle.mount_make.specs.code.Mounting.{KeepsImage}
 

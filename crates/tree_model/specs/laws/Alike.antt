@@ -5,8 +5,8 @@ use Rattle.std.proofs.lemmas.Bool.{le-ltb}
 use Rattle.tree_model.specs.declared.node.Node.{Node}
 use Rattle.tree_model.specs.declared.node.Node.TheVariants as nodes
 use Rattle.tree_model.specs.Maps.{at_number, at_name}
-use Rattle.tree_model.specs.laws.Listing.{HasEntry, IsRooted, IsLedTo}
-use Rattle.tree_model.specs.laws.Listing.IsLedTo.{at_root, by_name}
+use Rattle.tree_model.specs.Rooted.{HasEntry, IsRooted, IsLedTo}
+use Rattle.tree_model.specs.Rooted.IsLedTo.{at_root, by_name}
 use Rattle.tree_model.specs.Trees.{Refusal, step_at, led_to, node_of_path, name_too_long, not_found, not_directory, SameMetadata, SameMetadataAt, SameLinks, SameBytes, AreAlike, IsSameButBirths}
 
 -- ---- names lead to nodes

@@ -13,6 +13,7 @@ use Rattle.volume_model.specs.declared.placed.Part.{Part}
 use Rattle.volume_model.specs.Touched.{Contents, Touched, Tells}
 use Rattle.volume_steps.specs.Now.{VolumeNow, Change}
 use Rattle.volume_steps.specs.Plain.{IsInUse}
+use Rattle.volume_steps.specs.UsedInodes.{IsInodeUsed}
 
 -- Zones are taken from the lowest on: none becomes free, and one that is free no more lies below all that still are.
 pub record TakesLowest (m n : Zones) : Type 0 where
@@ -36,13 +37,6 @@ pub record TellsNodes (g : Geometry) (v w : Contents) (t : Touched) : Type 0 whe
   pub others : (birth : ℕ) → (In birth t.nodes → ⊥) → shape_at w.nodes birth ≡ shape_at v.nodes birth
   pub tables : (birth : ℕ) (p : Placed) → In birth t.nodes → at_number w.nodes birth ≡ Some p → In (table_block g p.number) t.blocks
 
--- a node has this inode
-pub record HasNumber (nodes : List (ℕ × Placed)) (number : ℕ) : Type 0 where
-  pub birth : ℕ
-  pub placed : Placed
-  pub stands : at_number nodes birth ≡ Some placed
-  pub is : placed.number ≡ number
-
 -- A bit and what it stands for: neither changes; or that changes, and the bit says it afterwards.
 abbrev pub Marks : Bool → Type 0 → Bool → Type 0 → Type 0
 Marks bit Used after Now = ((after ≡ bit) × (Now ↔ Used)) ⊎ (((after ≡ true) ↔ Now) × ((Now ↔ Used) → ⊥))
@@ -50,7 +44,7 @@ Marks bit Used after Now = ((after ≡ bit) × (Now ↔ Used)) ⊎ (((after ≡ 
 -- The bits of inodes and of zones mark which are in use, and no other bit of the maps changes.
 pub record KeepsMarks (g : Geometry) (v w : Contents) (m n : Zones) : Type 0 where
   pub inodes : (number : ℕ) → 0 < number → number ≤ g.inodes →
-      Marks (has_bit v.blocks (inode_bit g number)) (HasNumber v.nodes number) (has_bit w.blocks (inode_bit g number)) (HasNumber w.nodes number)
+      Marks (has_bit v.blocks (inode_bit g number)) (IsInodeUsed v.nodes number) (has_bit w.blocks (inode_bit g number)) (IsInodeUsed w.nodes number)
   pub zones : (zone : ℕ) → g.first ≤ zone → zone < g.zones →
       Marks (has_bit v.blocks (zone_bit g zone)) (state_of m zone ≡ Some states.Used) (has_bit w.blocks (zone_bit g zone)) (state_of n zone ≡ Some states.Used)
   pub others : (p : BitPlace) → 2 ≤ p.block → p.block < 2 + g.imap + g.zmap → p.at < 8192 →

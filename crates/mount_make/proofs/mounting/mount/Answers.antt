@@ -1,5 +1,5 @@
 use Rattle.std.proofs.Common.{ℕ, List, ap, ◌∙◌, subst}
-use Rattle.volume_ops.specs.DeviceReads.{quiet_after, same_surface}
+use Rattle.volume_ops.specs.laws.DeviceReads.{quiet_after, same_surface}
 use Rattle.mount_make.specs.Images.{recovered_image}
 use Rattle.mount_make.specs.code.Mounting.{KeepsImage}
 use Rattle.mount_make.specs.laws.Recovering.{recovers_same}

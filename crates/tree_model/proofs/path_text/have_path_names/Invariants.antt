@@ -1,7 +1,7 @@
 use Rattle.std.proofs.Common.{◌≡◌, length}
 use Rattle.std.specs.List.{list_all}
 use Rattle.tree_model.specs.Paths.{is_path_name}
-use Rattle.tree_model.specs.PathTexts.{names_below}
+use Rattle.tree_model.specs.code.PathTexts.{names_below}
 use Rattle.tree_model.proofs.path_text.have_path_names.Given as goal
 
 abbrev pub invariant-loop-left : goal.invariant-loop-left

@@ -1,6 +1,6 @@
 use Rattle.std.proofs.Common.{◌<◌, sym, ap, ◌∙◌, subst, arith}
 use Rattle.order_model.specs.Steps.{OnlyReads}
-use Rattle.volume_ops.specs.DeviceReads.{more_reads, quiet_after, same_surface}
+use Rattle.volume_ops.specs.laws.DeviceReads.{more_reads, quiet_after, same_surface}
 use Rattle.volume_ops.proofs.DeviceReads.{one_more}
 use Rattle.volume_ops.proofs.volume.read_blocks.Goals as goal
 

@@ -13,7 +13,7 @@ use Rattle.log_model.specs.Marks.{Transaction}
 use Rattle.crash_laws.specs.History.{History}
 use Rattle.crash_laws.specs.PromiseRules.{BegunCall}
 use Rattle.crash_laws.specs.Session.{Session}
-use Rattle.crash_laws.specs.Submitting.{Submitting}
+use Rattle.crash_laws.specs.laws.Submitting.{Submitting}
 
 -- ---- a format of a few numbers: 2, the sequence and a block; 1 and the sequence; or a body
 

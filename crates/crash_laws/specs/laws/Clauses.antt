@@ -13,7 +13,7 @@ use Rattle.log_model.specs.Ring.{places_on, IsPlace}
 use Rattle.crash_laws.specs.Ordering.{IsClosedOff}
 use Rattle.crash_laws.specs.Rules.{HasHeader, is_page_or_flush}
 use Rattle.crash_laws.specs.Session.{Session, log_transaction, IsLog, HasNote, CommitBefore, log_blocks, log_blocks_of, bodies_of, sequence_of, first_place, IsSuperOf, image_of}
-use Rattle.crash_laws.specs.Submitting.{Submitting, after, IsCommitted}
+use Rattle.crash_laws.specs.laws.Submitting.{Submitting, after, IsCommitted}
 
 pub record FitsClause (s : Session) (q : Request) (n : Note) : Type 0 where
   pub home : (b : ℕ) → n ≡ Home b → kind_block q.kind ≡ Some b

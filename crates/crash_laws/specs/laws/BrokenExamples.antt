@@ -4,7 +4,7 @@ use Rattle.std.specs.Prelude.{true, false, [], ◌∷◌, Some, None, ℕ, List,
 use Rattle.order_model.specs.declared.request.Request.{Request}
 use Rattle.order_model.specs.declared.note.Note.{Note}
 use Rattle.order_model.specs.declared.note.Note.TheVariants.{Page, Super, Descriptor, Body, Commit}
-use Rattle.crash_laws.specs.Example.{put, with_first}
+use Rattle.crash_laws.specs.laws.Example.{put, with_first}
 use Rattle.crash_laws.specs.Session.{Session, Medium}
 
 -- The commit block is in the epoch of its body: no barrier stands between requests 2 and 3.

@@ -4,7 +4,7 @@ use Rattle.blk_base.specs.Members.{In}
 use Rattle.volume_ops.specs.Reads.{Reads, answer, blocks_read}
 use Rattle.log_model.specs.Marks.{Keep, Set, bodies_mark, mark_in, transactions_from}
 use Rattle.crash_laws.specs.History.{History, Calm}
-use Rattle.crash_laws.specs.HostFacts.{Host}
+use Rattle.crash_laws.specs.laws.HostFacts.{Host}
 use Rattle.crash_laws.specs.PageRules.{IsPageTo, place_at}
 use Rattle.crash_laws.specs.Session.{Session, IsCommit, image_of}
 

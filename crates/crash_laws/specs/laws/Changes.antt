@@ -3,7 +3,7 @@ use Rattle.std.specs.Prelude.{◌≡◌, ℕ, ◌+◌, ◌-◌, ◌⊎◌, Bool,
 use Rattle.blk_base.specs.Members.{In}
 use Rattle.log_model.specs.Marks.{Keep, Set, bodies_mark, mark_in, transactions_from}
 use Rattle.crash_laws.specs.History.{History}
-use Rattle.crash_laws.specs.HostFacts.{Host}
+use Rattle.crash_laws.specs.laws.HostFacts.{Host}
 use Rattle.crash_laws.specs.Session.{Session, image_of}
 
 -- What a call tells: the blocks that it touched, the zones that it freed, and those of metadata among them. It

@@ -9,11 +9,11 @@ use Rattle.volume_ops.specs.Reads.{Reads, blocks_read}
 use Rattle.log_model.specs.Log.{Spells}
 use Rattle.log_model.specs.Marks.{Set, mark_in, transactions_from}
 use Rattle.log_model.specs.Ring.{IsPlace, places_on}
-use Rattle.crash_laws.specs.Clauses.{SuperClause}
+use Rattle.crash_laws.specs.laws.Clauses.{SuperClause}
 use Rattle.crash_laws.specs.Ordering.{IsClosedOff}
 use Rattle.crash_laws.specs.Rules.{HasHeader}
 use Rattle.crash_laws.specs.Session.{log_transaction, IsLog, log_blocks, log_blocks_of, bodies_of, sequence_of, IsSuperOf, image_of}
-use Rattle.crash_laws.specs.Submitting.{Submitting, after, IsCommitted}
+use Rattle.crash_laws.specs.laws.Submitting.{Submitting, after, IsCommitted}
 
 -- a page of a file goes to a block of the volume that is not the base image's metadata, and that has no logged body
 -- which a recovery could still put there

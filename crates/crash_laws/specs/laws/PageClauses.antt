@@ -9,7 +9,7 @@ use Rattle.crash_laws.specs.History.{History, IsUnmapped, Calm, last_write}
 use Rattle.crash_laws.specs.Ordering.{IsClosedOff}
 use Rattle.crash_laws.specs.PageRules.{IsPageTo, place_at}
 use Rattle.crash_laws.specs.Session.{Session, HasNote, IsCommit, IsSubmitted}
-use Rattle.crash_laws.specs.Submitting.{Submitting, after, IsCommitted}
+use Rattle.crash_laws.specs.laws.Submitting.{Submitting, after, IsCommitted}
 
 -- the given-up block, from the end of the list
 pub record IsGivenUpNow {A : Type 0} (h : History A) (s : Session) (f i v o : ℕ) : Type 0 where
