@@ -23,8 +23,8 @@ use Rattle.volume_model.specs.laws.ZoneMoves.{fit_before}
 use Rattle.volume_steps.specs.Now.{VolumeNow, written}
 use Rattle.volume_steps.specs.Plain.{IsInUse}
 use Rattle.volume_steps.specs.Zones.{TakenFor, take_zones, zone_bit}
-use Rattle.volume_steps.proofs.Bits.{ChangesNone, kept_volume, kept_zone, bits_none}
-use Rattle.volume_steps.proofs.TakeZones.{are_free, numbers_are_zones}
+use Rattle.volume_steps.proofs.Bits.{ChangesNone}
+use Rattle.volume_steps.proofs.TakeZones.{marks_change_none, volume_marked, own_marked, free_marked}
 use Rattle.volume_steps.proofs.Taking.{frees}
 use Rattle.volume_bytes.specs.code.Work.{held, single_told, outer_told, second_told, numbers_told}
 
@@ -209,25 +209,16 @@ module _ (v : VolumeNow) (h : IsInUse v) (n : ℕ) (p : Placed) (zones : List Ma
   c = written g v.contents (map (zone_bit g true) taken.numbers)
 
   none : ChangesNone g v.contents.blocks c.blocks
-  none = bits_none g h.sound v.contents h.volume true taken.numbers (numbers_are_zones v h p.inode index enough)
+  none = marks_change_none v h n p at index enough
 
   volume : IsVolume g c
-  volume = kept_volume g v.contents h.volume c.blocks none
+  volume = volume_marked v h n p at index enough
 
   kept : (x : Place) → zone_in c.blocks p.inode x ≡ before x
-  kept = kept_zone g v.contents h.volume c.blocks none n p at
+  kept = own_marked v h n p at index enough
 
   free : AreFree g c.blocks c.nodes p.inode taken.taken (way index)
-  free =
-      let f = are_free v h p.inode index enough in
-      record {
-        some = λ x i gap. f.some x i (sym (kept x) ∙ gap);
-        low = λ x i gap. f.low x i (sym (kept x) ∙ gap);
-        high = λ x i gap. f.high x i (sym (kept x) ∙ gap);
-        fits = λ x i gap. f.fits x i (sym (kept x) ∙ gap);
-        free = λ a r x y found i gap same. f.free a r x y found i (sym (kept x) ∙ gap) (sym (kept_zone g v.contents h.volume c.blocks none a r found y) ∙ same);
-        differ = λ x y i j gap also same. f.differ x y i j (sym (kept x) ∙ gap) (sym (kept y) ∙ also) same;
-      }
+  free = free_marked v h n p at index enough
 
   abbrev s : OpenInode
   s = record { blocks = c.blocks; inode = p.inode }
