@@ -1,4 +1,5 @@
 pub mod Made
 pub mod Cut
 pub mod Headlines
+pub mod CallNames
 pub mod Remounts

@@ -1,4 +1,5 @@
 pub mod Core
 pub mod Report
 pub mod Headline
+pub mod CallNames
 pub mod code
