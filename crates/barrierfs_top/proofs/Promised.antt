@@ -84,6 +84,8 @@ module _ (old new : Option (List ℕ)) (report : Option RunReport) (text bytes :
         tree = h.prefix.tree;
         written = subst (λ l. IsWritten fault l bytes) (text_is s r text is.core_is.report h.prefix is.printed) written;
         medium = medium_of r;
+        surface = is.core_is.report.image;
+        origins = is.core_is.report.origins;
         order = order_of s r is.core_is.report h.order;
         recovered = h.prefix.found;
         transactions = h.transactions;

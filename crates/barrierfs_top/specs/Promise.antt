@@ -2,6 +2,7 @@
 use Rattle.std.specs.Prelude.{◌≡◌, ℕ, ◌+◌, ◌<◌, ◌++◌, ◌⊎◌, true, false, List, length, map, take, Option, Some, None, Ok}
 use Rattle.blk_base.specs.Image.{zeros}
 use Rattle.order_model.specs.OrderClosed.{IsOrderClosed}
+use Rattle.order_model.specs.Device.{origin_ids}
 use Rattle.stack_core.specs.Headline.{KeepsOrder}
 use Rattle.script_grammar.specs.declared.script.Script.{Script}
 use Rattle.script_grammar.specs.Grammar.{script_of, blocks_of}
@@ -30,7 +31,7 @@ pub record WentOut (old new : Option (List ℕ)) (bytes : List ℕ) : Type 0 whe
   pub after : new ≡ Some (before ++ bytes)
   pub some : 0 < length bytes
 
--- all of the text where the call ended well, else a front of it
+-- all of the text where the call ended well, else a prefix of it
 abbrev pub IsWritten : Option TopFault → List ℕ → List ℕ → Type 0
 IsWritten None text bytes = bytes ≡ text
 IsWritten (Some fault) text bytes = (n : ℕ) × (bytes ≡ take n text)
@@ -65,10 +66,12 @@ pub record TellsSession (old new : Option (List ℕ)) (fault : Option TopFault) 
   pub stand : (h : HostNow) → h.host ≡ (core script).host → h.programs ≡ script.programs → standings ≡ standings_of h (length script.programs)
   pub tree : Tree
   pub written : IsWritten fault (session_lines script.programs script.lines figures history standings ++ tree_text tree) bytes
-  -- The tree is that of a medium, once it was recovered. The medium is order-closed for what the host submitted, and where a
-  -- flush completed, all before it is kept. The commit blocks that it has are those of the first transactions, as many as the
-  -- figures say.
+  -- The tree is that of the medium as the session's device left it, once it was recovered. The medium is order-closed for what
+  -- the host submitted, and where a flush completed, all before it is kept. The commit blocks that it has are those of the first
+  -- transactions, as many as the figures say.
   pub medium : Medium
+  pub surface : medium.image ≡ (core script).dev.surface
+  pub origins : medium.origins ≡ origin_ids (core script).dev.took (core script).dev.origins
   pub order : KeepsOrder (opening_of script).image (core script).host.journal.flush.requests medium.image medium.origins
       ((core script).dev.sent ++ (core script).dev.waiting)
   pub recovered : image_tree medium.image ≡ Ok tree
