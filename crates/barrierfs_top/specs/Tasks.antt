@@ -11,6 +11,7 @@ use Rattle.barrierfs_top.specs.declared.command_line.Command.TheVariants as comm
 use Rattle.barrierfs_top.specs.declared.command_line.Sizes.{Sizes}
 use Rattle.barrierfs_top.specs.declared.command_line.Task.{Task}
 use Rattle.barrierfs_top.specs.declared.command_line.Task.TheVariants as tasks
+use Rattle.minix_layout.specs.declared.limits.TheConstants.{LEAST_JOURNAL, MOST_JOURNAL, MOST_NUMBERED}
 
 -- the words for commands
 abbrev pub command_named_by : List ℕ → Option Command
@@ -24,10 +25,11 @@ abbrev pub most_of : Command → ℕ
 most_of commands.Replay = MOST_SCRIPT_BYTES
 most_of commands.Show = MOST_IMAGE_BYTES
 
--- an image can be made: of 1 to 65,535 inodes, as many blocks, which leave a zone of data, and 128 to 16,384 blocks of journal
+-- an image can be made: of 1 to `MOST_NUMBERED` inodes, as many blocks, which leave a zone of data, and `LEAST_JOURNAL` to
+-- `MOST_JOURNAL` blocks of journal
 abbrev pub can_make : ℕ → ℕ → ℕ → Bool
 can_make inodes zones journal =
-    nat_lt 0 inodes && (nat_le inodes 65535 && (nat_le zones 65535 && (nat_le 128 journal && (nat_le journal 16384 && nat_lt (first_zone inodes zones) zones))))
+    nat_lt 0 inodes && (nat_le inodes MOST_NUMBERED && (nat_le zones MOST_NUMBERED && (nat_le LEAST_JOURNAL journal && (nat_le journal MOST_JOURNAL && nat_lt (first_zone inodes zones) zones))))
 
 abbrev pub sizes_of : Option ℕ → Option ℕ → Option ℕ → Option Sizes
 sizes_of (Some inodes) (Some zones) (Some journal) = if can_make inodes zones journal then Some (record { inodes = inodes; zones = zones; journal = journal }) else None
@@ -45,4 +47,4 @@ task_of words = None
 -- what holds of a task that words ask for
 abbrev pub CanDo : Task → Type 0
 CanDo (tasks.Read c) = Unit {0}
-CanDo (tasks.Make s) = (0 < s.inodes) × (first_zone s.inodes s.zones < s.zones) × (128 ≤ s.journal) × (s.journal ≤ 16384)
+CanDo (tasks.Make s) = (0 < s.inodes) × (first_zone s.inodes s.zones < s.zones) × (LEAST_JOURNAL ≤ s.journal) × (s.journal ≤ MOST_JOURNAL)

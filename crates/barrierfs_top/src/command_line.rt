@@ -4,7 +4,7 @@ ghost use Rattle.script_words.specs.Spelling.{numeral};
 ghost use Rattle.barrierfs_top.specs.Tasks.{command_named_by, most_of, sizes_of, task_of, CanDo};
 
 use blk_base::NoMemory;
-use minix_layout::Geometry;
+use minix_layout::{Geometry, LEAST_JOURNAL, MOST_JOURNAL, MOST_NUMBERED};
 use script_grammar::MOST_SCRIPT_BYTES;
 use script_words::numeral;
 use std::alloc::Global;
@@ -128,10 +128,10 @@ fn checked(inodes: u64, zones: u64, journal: u64) -> Option<Sizes>
     ensures value { result ≡ sizes_of (Some inodes) (Some zones) (Some journal) }
     ensures can { IfSome result (λ s. CanDo (Task.Make s)) }
 {
-    if inodes == 0 || inodes > 65_535 || zones > 65_535 {
+    if inodes == 0 || inodes > MOST_NUMBERED || zones > MOST_NUMBERED {
         return None;
     }
-    if journal < 128 || journal > 16_384 {
+    if journal < u64::from(LEAST_JOURNAL) || journal > u64::from(MOST_JOURNAL) {
         return None;
     }
     let (inodes, zones) = (inodes as u16, zones as u16);

@@ -25,6 +25,7 @@ pub use Rattle.session_recovery.specs.declared.attempts.Attempt.{Attempt}
 pub use Rattle.session_recovery.specs.Attempts.{AreAttempts, IsMountedBehind, attempts_of, image_after}
 pub use Rattle.session_recovery.specs.Found.{found_in}
 use Rattle.call_sessions.specs.Sessions.{WriteBytes, made_now, made_opening, made_ring, call_over, host_behind, tree_behind}
+use Rattle.minix_layout.specs.declared.limits.TheConstants.{LEAST_JOURNAL, MOST_JOURNAL}
 
 -- ---- sessions
 
@@ -42,8 +43,8 @@ made_session g journal limit programs events = host_behind (opening_on g journal
 -- one that is made, the sequences of the log, one round of it ahead, are words, and all calls write bytes.
 pub record IsCut (g : Geometry) (journal limit : ℕ) (programs : List (List Call)) (events : List Event) (m : Medium) : Type 0 where
   pub sound : IsSound g
-  pub least : 128 ≤ journal
-  pub most : journal ≤ 16384
+  pub least : LEAST_JOURNAL ≤ journal
+  pub most : journal ≤ MOST_JOURNAL
   pub words : limit + journal < 4294967296
   pub bytes : WriteBytes programs
   pub order : IsOrderClosed (made_image g journal) (made_session g journal limit programs events).journal.flush.requests m.image m.origins

@@ -1,4 +1,5 @@
 //! The laws, each a public function that does nothing when it is called.
+ghost use Rattle.minix_layout.specs.declared.limits.TheConstants.{LEAST_JOURNAL, MOST_JOURNAL};
 ghost use Rattle.std.specs.Prelude.{◌≡◌, ◌<◌, ◌≤◌, ◌+◌, ℕ, Bool, List, length, slice_get, Option, Some};
 ghost use Rattle.minix_layout.specs.declared.division.Geometry.{Geometry};
 ghost use Rattle.minix_layout.specs.Geometry.{IsSound};
@@ -65,11 +66,11 @@ pub fn sessions_of_calls_keep_rules_and_trees()
 /// A law, which does nothing when it is called: a session on an image that was made asks for nothing but sizes and for
 /// programs that write bytes.
 pub fn sessions_of_calls_on_made_images()
-    ensures volume { (g : Geometry) (journal quota : ℕ) → IsSound g → 128 ≤ journal → journal ≤ 16384 → IsOpenedVolume (made_opening g journal quota) (made_now g) }
-    ensures journal { (g : Geometry) (journal quota limit : ℕ) → IsSound g → 128 ≤ journal → journal ≤ 16384 → limit + 2 < 4294967296 →
+    ensures volume { (g : Geometry) (journal quota : ℕ) → IsSound g → LEAST_JOURNAL ≤ journal → journal ≤ MOST_JOURNAL → IsOpenedVolume (made_opening g journal quota) (made_now g) }
+    ensures journal { (g : Geometry) (journal quota limit : ℕ) → IsSound g → LEAST_JOURNAL ≤ journal → journal ≤ MOST_JOURNAL → limit + 2 < 4294967296 →
         HasEmptyJournal (made_opening g journal quota) (made_ring journal) limit × AreWritten (made_opening g journal quota).format (made_opening g journal quota).writers }
     ensures kept { (g : Geometry) (journal quota limit : ℕ) (programs : List (List Call)) (events : List Event) →
-        IsSound g → 128 ≤ journal → journal ≤ 16384 → limit + 2 < 4294967296 → WriteBytes programs →
+        IsSound g → LEAST_JOURNAL ≤ journal → journal ≤ MOST_JOURNAL → limit + 2 < 4294967296 → WriteBytes programs →
         KeepsCalls (made_opening g journal quota) (host_behind (made_opening g journal quota) (made_now g) (made_ring journal) limit programs events) }
 {
     new_volumes_are_in_use();

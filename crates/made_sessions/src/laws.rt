@@ -1,4 +1,5 @@
 //! The law of sessions on images that were made.
+ghost use Rattle.minix_layout.specs.declared.limits.TheConstants.{LEAST_JOURNAL, MOST_JOURNAL};
 ghost use Rattle.std.specs.Prelude.{◌≤◌, ◌<◌, ◌+◌, ℕ, List};
 ghost use Rattle.minix_layout.specs.declared.division.Geometry.{Geometry};
 ghost use Rattle.minix_layout.specs.Geometry.{IsSound};
@@ -15,7 +16,7 @@ use host_volume::new_volumes_are_in_use;
 pub fn sessions_on_made_images_keep_rules_and_trees()
     ensures plain { (g : Geometry) → IsSound g → IsPlainNow (made_now g) }
     ensures kept { (g : Geometry) (journal quota limit : ℕ) (programs : List (List ByteCall)) (events : List Event) →
-        IsSound g → 128 ≤ journal → journal ≤ 16384 → limit + 2 < 4294967296 →
+        IsSound g → LEAST_JOURNAL ≤ journal → journal ≤ MOST_JOURNAL → limit + 2 < 4294967296 →
         KeepsSession (made_opening g journal quota) (host_after (made_opening g journal quota) (made_now g) (made_ring journal) limit programs events) }
 {
     new_volumes_are_in_use();

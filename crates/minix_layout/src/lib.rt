@@ -29,7 +29,9 @@ pub use division::{Geometry, TooSmall};
 pub use fault::LayoutFault;
 pub use inode::Inode;
 pub use laws::{bits_are_read, inodes_are_read, maps_are_read, slots_are_read, super_is_read};
-pub use limits::{LARGEST_SIZE, MOST_LINKS, MOST_SLOTS};
+pub use limits::{
+    LARGEST_SIZE, LEAST_JOURNAL, MOST_JOURNAL, MOST_LINKS, MOST_NUMBERED, MOST_SLOTS,
+};
 pub use name::Name;
 pub use slot::Slot;
 pub use slots::{read_slot, write_slot};

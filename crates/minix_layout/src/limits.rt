@@ -1,4 +1,4 @@
-//! The limits of files and directories.
+//! The limits of volumes, of their journals, and of files and directories.
 
 /// The most bytes of a file: 7 blocks, the 512 of an indirect zone and the 512 * 512 of a doubly indirect one.
 pub const LARGEST_SIZE: u32 = 268_966_912;
@@ -8,3 +8,12 @@ pub const MOST_SLOTS: u32 = 33_216;
 
 /// The most links of a file or directory. An inode's field would hold five more.
 pub const MOST_LINKS: u8 = 250;
+
+/// The most inodes of a volume, and the most of its blocks.
+pub const MOST_NUMBERED: u64 = 65_535;
+
+/// The least blocks of the journal behind a volume.
+pub const LEAST_JOURNAL: u32 = 128;
+
+/// The most blocks of the journal behind a volume.
+pub const MOST_JOURNAL: u32 = 16_384;

@@ -1,4 +1,5 @@
 //! Laws of the trees of images.
+ghost use Rattle.minix_layout.specs.declared.limits.TheConstants.{LEAST_JOURNAL, MOST_JOURNAL};
 ghost use Rattle.std.specs.Prelude.{◌≡◌, ◌≢◌, ℕ, ◌+◌, ◌<◌, ◌≤◌, ◌==◌, ◌↔◌, List, length, true, Some, None, Ok, Err};
 ghost use Rattle.minix_layout.specs.declared.division.Geometry.{Geometry};
 ghost use Rattle.minix_layout.specs.declared.fault.LayoutFault.{LayoutFault};
@@ -54,12 +55,12 @@ pub fn image_faults_are_first_defects()
 /// A law, which only calls laws: an image that was made has no fault, its tree is the root alone, its journal is empty
 /// and stays so by recovery, and its volume is plain, with the blocks of a new volume behind the superblock and the maps.
 pub fn made_images_are_plain()
-    ensures tree { (g : Geometry) (journal : ℕ) → IsSound g → 128 ≤ journal → journal ≤ 16384 → image_tree (made_image g journal) ≡ Ok root_alone }
-    ensures journal { (g : Geometry) (journal : ℕ) → IsSound g → 128 ≤ journal → journal ≤ 16384 →
+    ensures tree { (g : Geometry) (journal : ℕ) → IsSound g → LEAST_JOURNAL ≤ journal → journal ≤ MOST_JOURNAL → image_tree (made_image g journal) ≡ Ok root_alone }
+    ensures journal { (g : Geometry) (journal : ℕ) → IsSound g → LEAST_JOURNAL ≤ journal → journal ≤ MOST_JOURNAL →
         (journal_at g.zones (made_image g journal) ≡ Some (new_journal journal)) × (recovered_image (made_image g journal) ≡ made_image g journal) }
-    ensures plain { (g : Geometry) (journal : ℕ) → IsSound g → 128 ≤ journal → journal ≤ 16384 →
+    ensures plain { (g : Geometry) (journal : ℕ) → IsSound g → LEAST_JOURNAL ≤ journal → journal ≤ MOST_JOURNAL →
         (divided (made_image g journal) ≡ Ok g) × IsPlainVolume g (volume_in g (made_image g journal)) root_alone }
-    ensures new { (g : Geometry) (journal b : ℕ) → IsSound g → 128 ≤ journal → journal ≤ 16384 → 2 + g.imap + g.zmap ≤ b →
+    ensures new { (g : Geometry) (journal b : ℕ) → IsSound g → LEAST_JOURNAL ≤ journal → journal ≤ MOST_JOURNAL → 2 + g.imap + g.zmap ≤ b →
         disk_of (volume_in g (made_image g journal)) b ≡ disk_of (new_blocks g) b }
 {
     new_volumes_are_plain();

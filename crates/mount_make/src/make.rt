@@ -8,7 +8,7 @@ ghost use Rattle.mount_make.specs.code.Making.{IsFilled};
 use crate::volume_block::volume_block;
 use blk_base::Image;
 use journal_blocks::{JournalSuper, write_super};
-use minix_layout::Geometry;
+use minix_layout::{Geometry, LEAST_JOURNAL, MOST_JOURNAL};
 use std::alloc::Global;
 
 /// Why an image was not made.
@@ -16,14 +16,10 @@ use std::alloc::Global;
 pub enum MakeFault {
     /// The boot block, the superblock, both maps and the inodes leave no zone of data.
     TooSmall,
-    /// The journal has fewer than 128 blocks, or more than 16,384.
+    /// The journal has fewer than `LEAST_JOURNAL` blocks, or more than `MOST_JOURNAL`.
     JournalSize,
     NoMemory,
 }
-
-const FEWEST_BLOCKS: u32 = 128;
-
-const MOST_BLOCKS: u32 = 16_384;
 
 /// An image with a new volume of so many inodes and blocks, and behind it an empty journal of so many blocks.
 ///
@@ -32,12 +28,12 @@ pub fn make_volume(alloc: Global, inodes: u16, zones: u16, journal: u32) -> Resu
     requires { inodes ≢ 0 }
     ensures image { IfOk result (λ i. i ≡ made_image (geometry_made inodes zones) journal) }
     ensures too_small { (result ≡ Err MakeFault.TooSmall) ↔ (zones ≤ first_zone inodes zones) }
-    ensures journal_size { (result ≡ Err MakeFault.JournalSize) ↔ ((first_zone inodes zones < zones) × ((journal < 128) ⊎ (16384 < journal))) }
+    ensures journal_size { (result ≡ Err MakeFault.JournalSize) ↔ ((first_zone inodes zones < zones) × ((journal < LEAST_JOURNAL) ⊎ (MOST_JOURNAL < journal))) }
 {
     let Ok(g) = Geometry::make(inodes, zones) else {
         return Err(MakeFault::TooSmall);
     };
-    if journal < FEWEST_BLOCKS || journal > MOST_BLOCKS {
+    if journal < LEAST_JOURNAL || journal > MOST_JOURNAL {
         return Err(MakeFault::JournalSize);
     }
     match image_of(alloc, &g, journal) {
@@ -50,7 +46,7 @@ pub fn make_volume(alloc: Global, inodes: u16, zones: u16, journal: u32) -> Resu
 fn image_of(alloc: Global, g: &Geometry, journal: u32) -> Option<Image>
     requires sound { IsSound g.now }
     requires some { 0 < journal }
-    requires few { journal ≤ 16384 }
+    requires few { journal ≤ MOST_JOURNAL }
     ensures { IfSome result (λ i. i ≡ made_image g.now journal) }
 {
     let zones = u32::from(g.zones);

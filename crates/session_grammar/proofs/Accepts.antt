@@ -6,7 +6,8 @@ use Rattle.script_words.specs.Spelling.{numeral, lines_of}
 use Rattle.script_words.proofs.SpelledNumbers.{numeral-decimal}
 use Rattle.script_grammar.specs.declared.kinds.ScriptKind.TheVariants as kinds
 use Rattle.script_words.specs.laws.Texts.{kept_lines}
-use Rattle.session_grammar.specs.declared.limits.TheConstants.{JOURNALS, LEAST_JOURNAL, MOST_JOURNAL, MOST_NUMBERED}
+use Rattle.minix_layout.specs.declared.limits.TheConstants.{LEAST_JOURNAL, MOST_JOURNAL, MOST_NUMBERED}
+use Rattle.session_grammar.specs.declared.limits.TheConstants.{JOURNALS}
 use Rattle.session_grammar.specs.declared.reading.Section.TheVariants as sections
 use Rattle.session_grammar.specs.declared.reading.HeaderSoFar.{HeaderSoFar}
 use Rattle.session_grammar.specs.declared.session_script.SessionHeader.{SessionHeader}

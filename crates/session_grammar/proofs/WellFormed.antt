@@ -32,7 +32,8 @@ use Rattle.event_grammar.specs.WellFormed.{IsSteerLine}
 use Rattle.event_grammar.specs.laws.Speller as event_speller
 use Rattle.event_grammar.proofs.EventLaws as event_laws
 use Rattle.event_grammar.proofs.SteerLaws.{steers_said}
-use Rattle.session_grammar.specs.declared.limits.TheConstants.{JOURNALS, LEAST_JOURNAL, MOST_CALLS, MOST_JOURNAL, MOST_NUMBERED, MOST_RECOVERS, MOST_SEED, MOST_SESSION, MOST_THREADS}
+use Rattle.minix_layout.specs.declared.limits.TheConstants.{LEAST_JOURNAL, MOST_JOURNAL, MOST_NUMBERED}
+use Rattle.session_grammar.specs.declared.limits.TheConstants.{JOURNALS, MOST_CALLS, MOST_RECOVERS, MOST_SEED, MOST_SESSION, MOST_THREADS}
 use Rattle.session_grammar.specs.declared.reading.Reading.{Reading}
 use Rattle.session_grammar.specs.declared.reading.Section.{Section}
 use Rattle.session_grammar.specs.declared.reading.Section.TheVariants as sections

@@ -25,7 +25,8 @@ use Rattle.event_grammar.specs.declared.words.EventFirst.TheVariants as event
 use Rattle.event_grammar.specs.declared.words.PlainWord.TheVariants as plain
 use Rattle.event_grammar.specs.EventLines.{event_of}
 use Rattle.event_grammar.specs.SteerLines.{steers_of}
-use Rattle.session_grammar.specs.declared.limits.TheConstants.{DEFAULT_LIMIT, DEFAULT_SEED, JOURNALS, LEAST_JOURNAL, MOST_CALLS, MOST_JOURNAL, MOST_NUMBERED, MOST_RECOVERS, MOST_SEED, MOST_SESSION, MOST_THREADS}
+use Rattle.minix_layout.specs.declared.limits.TheConstants.{LEAST_JOURNAL, MOST_JOURNAL, MOST_NUMBERED}
+use Rattle.session_grammar.specs.declared.limits.TheConstants.{DEFAULT_LIMIT, DEFAULT_SEED, JOURNALS, MOST_CALLS, MOST_RECOVERS, MOST_SEED, MOST_SESSION, MOST_THREADS}
 use Rattle.session_grammar.specs.declared.reading.Reading.{Reading}
 use Rattle.session_grammar.specs.declared.reading.Section.{Section}
 use Rattle.session_grammar.specs.declared.reading.Section.TheVariants as sections

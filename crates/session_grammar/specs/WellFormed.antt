@@ -16,7 +16,8 @@ use Rattle.event_grammar.specs.declared.event.EventWord.TheVariants.{One, Round,
 use Rattle.script_words.specs.declared.limits.TheConstants.{MOST_EVENTS}
 use Rattle.event_grammar.specs.declared.steer.Steer.{Steer}
 use Rattle.event_grammar.specs.WellFormed.{IsEventLine, IsSteerLine}
-use Rattle.session_grammar.specs.declared.limits.TheConstants.{LEAST_JOURNAL, MOST_CALLS, MOST_JOURNAL, MOST_NUMBERED, MOST_RECOVERS, MOST_SEED, MOST_SESSION, MOST_THREADS}
+use Rattle.minix_layout.specs.declared.limits.TheConstants.{LEAST_JOURNAL, MOST_JOURNAL, MOST_NUMBERED}
+use Rattle.session_grammar.specs.declared.limits.TheConstants.{MOST_CALLS, MOST_RECOVERS, MOST_SEED, MOST_SESSION, MOST_THREADS}
 use Rattle.session_grammar.specs.declared.session_script.SessionHeader.{SessionHeader}
 use Rattle.session_grammar.specs.declared.session_script.SessionScript.{SessionScript}
 use Rattle.session_grammar.specs.Grammar.{weight}

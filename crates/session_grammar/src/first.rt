@@ -2,12 +2,12 @@
 ghost use Rattle.std.specs.Prelude.{◌≡◌, ◌≢◌, map};
 ghost use Rattle.session_grammar.specs.Grammar.{is_built, are_sizes, have_geometry, none_told, new_reading, opened, sizes_taken, journal_line, zones_line, volume_line, built_first, first_line};
 
-use crate::limits::{JOURNALS, LEAST_JOURNAL, MOST_JOURNAL, MOST_NUMBERED};
+use crate::limits::JOURNALS;
 use crate::reading::{HeaderSoFar, Reading, Section};
 use crate::words::{HeaderWord, Word};
 use call_grammar::{CallWord, LineList, PairWord, Programs};
 use event_grammar::{Events, SteerList};
-use minix_layout::Geometry;
+use minix_layout::{Geometry, LEAST_JOURNAL, MOST_JOURNAL, MOST_NUMBERED};
 use script_grammar::{FirstWord, ScriptKind};
 use script_words::numeral;
 use std::alloc::Global;

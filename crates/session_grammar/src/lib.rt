@@ -23,7 +23,7 @@ mod words;
 pub use grammar::read_session;
 pub use law::{sessions_are_read_back, sessions_are_what_is_spelled, sessions_tell_first_fault};
 pub use limits::{
-    DEFAULT_LIMIT, DEFAULT_SEED, JOURNALS, LEAST_JOURNAL, MOST_CALLS, MOST_JOURNAL, MOST_NUMBERED,
-    MOST_RECOVERS, MOST_SEED, MOST_SESSION, MOST_THREADS,
+    DEFAULT_LIMIT, DEFAULT_SEED, JOURNALS, MOST_CALLS, MOST_RECOVERS, MOST_SEED, MOST_SESSION,
+    MOST_THREADS,
 };
 pub use session_script::{SessionHeader, SessionScript};

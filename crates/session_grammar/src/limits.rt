@@ -1,17 +1,8 @@
 //! The limits of a volume script, and what a header line that is missing stands for. Those that other crates have
 //! too are theirs.
 
-/// The most inodes, and the most blocks of the volume.
-pub const MOST_NUMBERED: u64 = 65_535;
-
 /// The journal's number of blocks is below this where it is spelled.
 pub const JOURNALS: u64 = 4_294_967_296;
-
-/// The least blocks of a journal.
-pub const LEAST_JOURNAL: u32 = 128;
-
-/// The most blocks of a journal.
-pub const MOST_JOURNAL: u32 = 16_384;
 
 /// The most threads.
 pub const MOST_THREADS: usize = 16;

@@ -21,6 +21,7 @@ use Rattle.host_volume.specs.Runs.{host_after, tree_after_transactions}
 pub use Rattle.host_volume.specs.Sessions.{Opening, over, Stands}
 use Rattle.mount_make.specs.Made.{made_image, new_journal}
 pub use Rattle.made_sessions.specs.MadeSessions.{made_now, made_opening, made_ring}
+use Rattle.minix_layout.specs.declared.limits.TheConstants.{LEAST_JOURNAL, MOST_JOURNAL}
 
 -- what a session is opened with: the division of the volume, the blocks of the journal, how many log blocks a transaction
 -- may have and how many requests the session, and the programs of its threads
@@ -34,8 +35,8 @@ pub record Start : Type 0 where
 -- Sizes of an image that is made; and the sequences of the log, one round of it ahead, are words.
 pub record HasSizes (s : Start) : Type 0 where
   pub sound : IsSound s.geometry
-  pub least : 128 ≤ s.journal
-  pub most : s.journal ≤ 16384
+  pub least : LEAST_JOURNAL ≤ s.journal
+  pub most : s.journal ≤ MOST_JOURNAL
   pub words : s.limit + s.journal < 4294967296
 
 -- the host after these events

@@ -1,4 +1,5 @@
 //! The session.
+ghost use Rattle.minix_layout.specs.declared.limits.TheConstants.{LEAST_JOURNAL, MOST_JOURNAL};
 ghost use Rattle.std.specs.Prelude.{◌≡◌, ◌+◌, ◌<◌, ◌≤◌, ◌^◌, ℕ, [], IfOk, length, slice_index_or};
 ghost use Rattle.minix_layout.specs.Geometry.{geometry_made};
 ghost use Rattle.minix_layout.specs.Words.{first_zone};
@@ -33,8 +34,8 @@ pub fn open_session(
 ) -> Result<OpenedSession, NoMemory>
     requires some_inode { 1 ≤ inodes }
     requires some_data { first_zone inodes zones < zones }
-    requires least { 128 ≤ journal }
-    requires most { journal ≤ 16384 }
+    requires least { LEAST_JOURNAL ≤ journal }
+    requires most { journal ≤ MOST_JOURNAL }
     requires limit { limit + 2 < 2 ^ 32 }
     requires threads { length programs.now < 2 ^ 32 }
     requires short { (i : ℕ) → length (slice_index_or programs.now i []) < 2 ^ 32 }

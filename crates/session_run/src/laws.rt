@@ -1,5 +1,6 @@
 //! Which sessions can be run, and that the code's host stays in its session. The public functions do nothing when they are
 //! called: each is a law, and its clauses say it.
+ghost use Rattle.minix_layout.specs.declared.limits.TheConstants.{LEAST_JOURNAL, MOST_JOURNAL};
 ghost use Rattle.std.specs.Prelude.{◌≡◌, ℕ, ◌+◌, ◌<◌, ◌≤◌, Bool, List, [], ◌∷◌, ◌++◌, length, Option};
 ghost use Rattle.order_model.specs.declared.completion.Completion.{Completion};
 ghost use Rattle.minix_layout.specs.declared.division.Geometry.{Geometry};
@@ -59,7 +60,7 @@ pub fn hosts_of_code_stay_in_session()
 /// run: with the host that code makes on it, and with a scheduler and a device that are new.
 pub fn sessions_on_made_images_can_be_run<S: Scheduler, D: OrderedDev>()
     ensures { (g : Geometry) (journal limit capacity : ℕ) (ps : Cache) (programs : List (List Call)) (sched : S.State) (dev : D.State) →
-        IsSound g → 128 ≤ journal → journal ≤ 16384 → limit + 2 < 4294967296 → WriteBytes programs →
+        IsSound g → LEAST_JOURNAL ≤ journal → journal ≤ MOST_JOURNAL → limit + 2 < 4294967296 → WriteBytes programs →
         S.valid sched → D.valid dev → IsNew (made_image g journal) limit (S.steps.seen sched) (D.seen dev) →
         IsMadeFor S.Scheduler D.OrderedDev (made_opening g journal (quota (new_journal journal))) (made_start g journal limit capacity programs)
         (host_made (made_now g) ps (new_ring.made (new_journal journal) limit) programs) capacity (length programs) sched dev }
