@@ -1,5 +1,5 @@
 -- Inodes, 32 bytes each.
-use Rattle.std.specs.Prelude.{◌≡◌, ℕ, ◌+◌, ◌*◌, ◌^◌, ◌<◌, List, ◌∷◌, map, length, slice_index}
+use Rattle.std.specs.Prelude.{◌≡◌, ℕ, ◌+◌, ◌*◌, ◌^◌, ◌<◌, List, ◌∷◌, map, length, replicate, slice_index}
 use Rattle.std.specs.List.{range_with_len}
 use Rattle.byte_fields.specs.Fields.{zeros, number_at, Field, field, written}
 use Rattle.byte_fields.specs.Fields.Order.{little}
@@ -47,6 +47,14 @@ inode_of bytes = record {
   links = number_at little 1 13 bytes;
   zones = zones_of bytes;
 }
+
+-- the inode of 32 zero bytes
+abbrev pub zero_inode : Inode
+zero_inode = record { mode = 0; uid = 0; size = 0; time = 0; gid = 0; links = 0; zones = replicate 9 0 }
+
+-- the inode of a new directory: the rights 755, two slots in this zone, two links
+abbrev pub new_directory_inode : ℕ → Inode
+new_directory_inode zone = record { mode = 0x41ED; uid = 0; size = 32; time = 0; gid = 0; links = 2; zones = zone ∷ replicate 8 0 }
 
 -- each number fits its bits, and there are nine zones
 pub record FitInode (i : Inode) : Type 0 where

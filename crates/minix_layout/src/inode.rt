@@ -1,4 +1,7 @@
 //! Inodes as values.
+ghost use Rattle.std.specs.Prelude.{◌≡◌};
+ghost use Rattle.minix_layout.specs.Inodes.{new_directory_inode, zero_inode};
+
 use crate::Zones;
 
 /// An inode: a file, a directory or another thing that slots name.
@@ -18,4 +21,36 @@ pub struct Inode {
     pub links: u8,
     /// Seven zones of data, an indirect and a doubly indirect zone; 0 is no zone.
     pub zones: Zones,
+}
+
+impl Inode {
+    /// The inode that 32 zero bytes spell, as a node that is gone leaves it.
+    pub fn zeros() -> Inode
+        ensures { result ≡ zero_inode }
+    {
+        Inode {
+            mode: 0,
+            uid: 0,
+            size: 0,
+            time: 0,
+            gid: 0,
+            links: 0,
+            zones: Zones::of([0; 9]),
+        }
+    }
+
+    /// A directory with the rights 755, of two slots in this zone, with two links.
+    pub fn new_directory(zone: u16) -> Inode
+        ensures { result ≡ new_directory_inode zone }
+    {
+        Inode {
+            mode: 0o040_755,
+            uid: 0,
+            size: 32,
+            time: 0,
+            gid: 0,
+            links: 2,
+            zones: Zones::of([zone, 0, 0, 0, 0, 0, 0, 0, 0]),
+        }
+    }
 }

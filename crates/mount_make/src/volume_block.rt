@@ -6,7 +6,7 @@ ghost use Rattle.mount_make.specs.Made.{map_byte, map_block, made_block};
 ghost use Rattle.mount_make.specs.code.Making.{root_table, root_zone};
 
 use blk_base::Block;
-use minix_layout::{Geometry, Inode, Name, Slot, Zones, write_inode, write_slot, write_super};
+use minix_layout::{Geometry, Inode, Name, Slot, write_inode, write_slot, write_super};
 
 // A block of a new volume: its superblock, a block of a map, the root's inode or its slots, or zeros.
 pub(crate) fn volume_block(g: &Geometry, block: u32) -> Block
@@ -66,17 +66,8 @@ fn map_byte(last: u32, from: u32) -> u8
 fn root_table(g: &Geometry) -> Block
     ensures { result ≡ root_table g.now }
 {
-    let root = Inode {
-        mode: 0o040755,
-        uid: 0,
-        size: 32,
-        time: 0,
-        gid: 0,
-        links: 2,
-        zones: Zones::of([g.first, 0, 0, 0, 0, 0, 0, 0, 0]),
-    };
     let mut table = Block::fill(0);
-    write_inode(&mut table, 0, &root);
+    write_inode(&mut table, 0, &Inode::new_directory(g.first));
     table
 }
 

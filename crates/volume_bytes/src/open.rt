@@ -5,7 +5,7 @@ ghost use Rattle.volume_model.specs.declared.placed.Placed.{Placed};
 ghost use Rattle.volume_bytes.specs.MayWrite.{IsFileOf};
 ghost use Rattle.volume_bytes.specs.code.Work.{blank, node_of, with_nodes};
 
-use minix_layout::{Inode, Zones};
+use minix_layout::Inode;
 use std::alloc::Global;
 use volume_model::{FileZones, Part, Placed};
 use volume_now::VolumeNow;
@@ -25,15 +25,7 @@ fn blank(alloc: Global) -> Placed
 {
     Placed {
         number: 0,
-        inode: Inode {
-            mode: 0,
-            uid: 0,
-            size: 0,
-            time: 0,
-            gid: 0,
-            links: 0,
-            zones: Zones::of([0; 9]),
-        },
+        inode: Inode::zeros(),
         part: Part::File(FileZones::new(alloc)),
     }
 }

@@ -1,9 +1,10 @@
 -- Moves: what a volume is after one of its nodes came or changed. A call is a list of them.
-use Rattle.std.specs.Prelude.{◌≡◌, ◌≢◌, ℕ, ◌*◌, ◌/◌, ◌%◌, ◌^◌, ◌<◌, ◌≤◌, nat_lt, nat_eq, Bool, not, ◌==◌, ◌&&◌, if◌then◌else◌, List, [], ◌∷◌, ◌++◌, map, filter, length, replicate, slice_set, Option, Some, None}
+use Rattle.std.specs.Prelude.{◌≡◌, ◌≢◌, ℕ, ◌*◌, ◌/◌, ◌%◌, ◌^◌, ◌<◌, ◌≤◌, nat_lt, nat_eq, Bool, not, ◌==◌, ◌&&◌, if◌then◌else◌, List, [], ◌∷◌, ◌++◌, map, filter, length, slice_set, Option, Some, None}
 use Rattle.blk_base.specs.Members.{In}
 use Rattle.minix_layout.specs.declared.division.Geometry.{Geometry}
 use Rattle.minix_layout.specs.declared.inode.Inode.{Inode}
 use Rattle.minix_layout.specs.Geometry.{IsSound}
+use Rattle.minix_layout.specs.Inodes.{zero_inode}
 use Rattle.std.specs.Map.{remove_entry}
 use Rattle.std.specs.BTreeMap.{is_at}
 use Rattle.std.specs.Ordering.{nat_cmp}
@@ -49,10 +50,6 @@ abbrev pub added : Geometry → Contents → ℕ → Placed → Contents
 added g v n q = record { blocks = edited g v.blocks (put_inode q.number q.inode); nodes = put_number v.nodes n q }
 
 -- ---- a node goes
-
--- an inode of 32 bytes of zero
-abbrev pub zero_inode : Inode
-zero_inode = record { mode = 0; uid = 0; size = 0; time = 0; gid = 0; links = 0; zones = replicate 9 0 }
 
 abbrev pub node_removed : Geometry → Contents → ℕ → Placed → Contents
 node_removed g v n p = record { blocks = edited g v.blocks (put_inode p.number zero_inode); nodes = remove_entry (is_at (nat_cmp n)) v.nodes }

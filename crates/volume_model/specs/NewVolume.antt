@@ -7,6 +7,7 @@ use Rattle.minix_layout.specs.declared.slot.Slot.{Slot}
 use Rattle.tree_model.specs.declared.node.Node.{Node}
 use Rattle.tree_model.specs.declared.node.Node.TheVariants as nodes
 use Rattle.tree_model.specs.declared.node.Directory.{Directory}
+use Rattle.minix_layout.specs.Inodes.{new_directory_inode}
 use Rattle.volume_model.specs.declared.placed.Placed.{Placed}
 use Rattle.volume_model.specs.declared.placed.Part.TheVariants as parts
 use Rattle.volume_model.specs.Edits.{put_inode, put_slot, edited_all}
@@ -18,9 +19,9 @@ dot_slot = record { inode = 1; name = codes "." }
 abbrev pub dots_slot : Slot
 dots_slot = record { inode = 1; name = codes ".." }
 
--- a directory with the rights 755, of two slots
+-- a new directory in the first zone of data
 abbrev pub root_inode : Geometry → Inode
-root_inode g = record { mode = 0x41ED; uid = 0; size = 32; time = 0; gid = 0; links = 2; zones = g.first ∷ replicate 8 0 }
+root_inode g = new_directory_inode g.first
 
 abbrev pub root_placed : Geometry → Placed
 root_placed g = record {

@@ -11,6 +11,7 @@ use Rattle.byte_fields.specs.Fields.{zeros}
 use Rattle.minix_layout.specs.declared.division.Geometry.{Geometry}
 use Rattle.minix_layout.specs.declared.inode.Inode.{Inode}
 use Rattle.minix_layout.specs.declared.slot.Slot.{Slot}
+use Rattle.minix_layout.specs.Inodes.{new_directory_inode}
 use Rattle.dir_ops.specs.Slots.{place_of}
 use Rattle.tree_model.specs.Maps.{at_number, put_number}
 use Rattle.tree_model.specs.laws.MapsLaws.{at_put_number, at_put_number_apart}
@@ -25,7 +26,7 @@ use Rattle.volume_model.specs.Touched.{Touched, and_then}
 use Rattle.volume_model.specs.Moves.{with_name}
 use Rattle.volume_steps.specs.Now.{VolumeNow, Change, followed_by, tells_blocks, tells_writes}
 use Rattle.volume_steps.specs.Zones.{inode_bit, zone_bit, new_number, next_zone}
-use Rattle.volume_steps.specs.Steps.{tells_node, dot_slots, new_directory_inode, new_directory_edits, add_name, set_links}
+use Rattle.volume_steps.specs.Steps.{tells_node, dot_slots, new_directory_edits, add_name, set_links}
 use Rattle.volume_steps.specs.Calls.{mkdir_in}
 use Rattle.volume_steps.proofs.Taking.{one_taken}
 use Rattle.volume_steps.proofs.Files.{put_twice}

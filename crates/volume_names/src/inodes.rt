@@ -1,7 +1,8 @@
 //! Inodes and slots of new nodes.
 ghost use Rattle.std.specs.Prelude.{◌≡◌, [], IfOk};
+ghost use Rattle.minix_layout.specs.Inodes.{new_directory_inode};
 ghost use Rattle.volume_model.specs.declared.placed.Part.TheVariants as parts;
-ghost use Rattle.volume_steps.specs.Steps.{dot_slots, new_file_inode, new_directory_inode};
+ghost use Rattle.volume_steps.specs.Steps.{dot_slots, new_file_inode};
 
 use blk_base::NoMemory;
 use dir_ops::Slots;
@@ -26,21 +27,6 @@ pub fn new_file_inode() -> Inode
     }
 }
 
-/// A directory with the rights 755, of two slots in this zone, with two links.
-pub fn new_directory_inode(zone: u16) -> Inode
-    ensures { result ≡ new_directory_inode zone }
-{
-    Inode {
-        mode: 0o040_755,
-        uid: 0,
-        size: 32,
-        time: 0,
-        gid: 0,
-        links: 2,
-        zones: Zones::of([zone, 0, 0, 0, 0, 0, 0, 0, 0]),
-    }
-}
-
 /// A directory without names, before it has a zone.
 pub fn new_directory(
     alloc: Global,
@@ -57,7 +43,7 @@ pub fn new_directory(
     let slots = Vec::from_array(alloc, [Some(dot(number)), Some(dots(above))])?;
     Ok(Placed {
         number,
-        inode: new_directory_inode(0),
+        inode: Inode::new_directory(0),
         part: Part::Directory(DirectoryPart {
             parent,
             names: Names::new(alloc),

@@ -16,12 +16,12 @@ ghost use Rattle.volume_names.specs.code.Steps.{After, directory_written, dot_ed
 
 use crate::directories::slot_of;
 use crate::entries::enter_new;
-use crate::inodes::{new_directory, new_directory_inode};
+use crate::inodes::new_directory;
 use crate::marks::mark_inode;
 use crate::names::write_name;
 use crate::nodes::{add_link, number_of};
 use blk_base::{Block, Image, NoMemory};
-use minix_layout::{Geometry, Name};
+use minix_layout::{Geometry, Inode, Name};
 use std::alloc::Global;
 use volume_edits::{put_body, put_inode, put_slot, table_block};
 use volume_now::{Touched, VolumeNow, dot, dots, mark_zone};
@@ -64,7 +64,7 @@ fn write_directory(v: &mut VolumeNow, n: u64, above: u16, touched: &mut Touched)
         return;
     };
     let zone = take_zone(&mut v.zones);
-    placed.inode = new_directory_inode(zone);
+    placed.inode = Inode::new_directory(zone);
     mark_inode(&mut v.blocks, &v.geometry, true, placed.number, touched);
     mark_zone(&mut v.blocks, &v.geometry, true, zone, touched);
     write_dots(

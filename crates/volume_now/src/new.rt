@@ -1,12 +1,12 @@
 //! A new volume.
 ghost use Rattle.std.specs.Prelude.{◌≡◌, codes, IfOk};
-ghost use Rattle.volume_model.specs.NewVolume.{new_blocks, root_inode, root_placed};
+ghost use Rattle.volume_model.specs.NewVolume.{new_blocks, root_placed};
 ghost use Rattle.volume_steps.specs.NewNow.{new_now};
 
 use crate::VolumeNow;
 use blk_base::{Image, NoMemory};
 use dir_ops::Slots;
-use minix_layout::{Geometry, Inode, Name, Slot, Zones};
+use minix_layout::{Geometry, Inode, Name, Slot};
 use std::alloc::Global;
 use std::collections::BTreeMap;
 use volume_edits::{put_inode, put_slot};
@@ -49,25 +49,11 @@ pub fn dots(above: u16) -> Slot
     }
 }
 
-fn root_inode(g: &Geometry) -> Inode
-    ensures { result ≡ root_inode g.now }
-{
-    Inode {
-        mode: 0o040_755,
-        uid: 0,
-        size: 32,
-        time: 0,
-        gid: 0,
-        links: 2,
-        zones: Zones::of([g.first, 0, 0, 0, 0, 0, 0, 0, 0]),
-    }
-}
-
 fn new_blocks(alloc: Global, g: &Geometry) -> Result<Image, NoMemory>
     ensures { IfOk result (λ i. i ≡ new_blocks g.now) }
 {
     let mut blocks = Image::zeroed(alloc, g.zones.into())?;
-    put_inode(&mut blocks, g, 1, &root_inode(g));
+    put_inode(&mut blocks, g, 1, &Inode::new_directory(g.first));
     put_slot(&mut blocks, g, g.first, 0, Some(&dot(1)));
     put_slot(&mut blocks, g, g.first, 1, Some(&dots(1)));
     Ok(blocks)
@@ -79,7 +65,7 @@ fn root(alloc: Global, g: &Geometry) -> Result<Placed, NoMemory>
     let slots = Vec::from_array(alloc, [Some(dot(1)), Some(dots(1))])?;
     Ok(Placed {
         number: 1,
-        inode: root_inode(g),
+        inode: Inode::new_directory(g.first),
         part: Part::Directory(DirectoryPart {
             parent: 0,
             names: Names::new(alloc),

@@ -8,6 +8,7 @@ use Rattle.std.proofs.lemmas.List.{append-nil}
 use Rattle.std.proofs.lemmas.Option.{same_Some}
 use Rattle.minix_layout.specs.declared.division.Geometry.{Geometry}
 use Rattle.minix_layout.specs.declared.inode.Inode.{Inode}
+use Rattle.minix_layout.specs.Inodes.{zero_inode}
 use Rattle.tree_model.specs.Maps.{at_number}
 use Rattle.volume_ops.specs.declared.found.Mapped.{Mapped}
 use Rattle.volume_ops.specs.Places.{table_block}
@@ -17,7 +18,7 @@ use Rattle.volume_model.specs.declared.placed.Part.{Part}
 use Rattle.volume_model.specs.declared.placed.Part.TheVariants as parts
 use Rattle.volume_model.specs.Edits.{put_inode, edited, edited_all, touched_by}
 use Rattle.volume_model.specs.Volume.{zone_in}
-use Rattle.volume_model.specs.Moves.{page_of, zero_inode}
+use Rattle.volume_model.specs.Moves.{page_of}
 use Rattle.volume_model.specs.Touched.{Page, Touched, and_then}
 use Rattle.volume_now.specs.Noted.{Noted, with_block, with_node}
 use Rattle.volume_steps.specs.Now.{VolumeNow, Change, tells_writes}

@@ -2,13 +2,12 @@
 ghost use Rattle.std.specs.Prelude.{◌≡◌, ◌≤◌, ◌<◌, ◌+◌, ◌-◌, ◌*◌, ℕ, length, Some};
 ghost use Rattle.tree_model.specs.Maps.{at_number};
 ghost use Rattle.volume_model.specs.declared.placed.Placed.{Placed};
-ghost use Rattle.volume_model.specs.Moves.{zero_inode};
 ghost use Rattle.volume_steps.specs.Steps.{set_links, drop_node};
 ghost use Rattle.volume_names.specs.code.Steps.{After};
 ghost use Rattle.volume_removals.specs.code.Dropping.{MayDrop, blocks_in};
 
 use crate::gone::blocks_in;
-use minix_layout::{Geometry, Inode, Zones};
+use minix_layout::{Geometry, Inode};
 use std::collections::BTreeMap;
 use volume_bytes::{free_blocks, free_numbers};
 use volume_edits::{put_inode, table_block};
@@ -55,22 +54,7 @@ pub fn drop_node(v: &mut VolumeNow, tx: u32, n: u64, metadata: &[u16], touched: 
     mark_inode(&mut v.blocks, &v.geometry, false, node.number, touched);
     free_blocks(v, tx, n, blocks_in(&node.part), touched);
     free_numbers(v, tx, metadata, touched);
-    put_inode(&mut v.blocks, &v.geometry, node.number, &zero_inode());
+    put_inode(&mut v.blocks, &v.geometry, node.number, &Inode::zeros());
     touched.note_block(table_block(&v.geometry, node.number));
     touched.note_node(n);
-}
-
-// An inode of which each field is zero.
-fn zero_inode() -> Inode
-    ensures { result ≡ zero_inode }
-{
-    Inode {
-        mode: 0,
-        uid: 0,
-        size: 0,
-        time: 0,
-        gid: 0,
-        links: 0,
-        zones: Zones::of([0; 9]),
-    }
 }

@@ -6,6 +6,7 @@ use Rattle.std.proofs.lemmas.Option.{same_Some, none-some}
 use Rattle.blk_base.specs.Members.{In}
 use Rattle.blk_base.specs.laws.Members.{In-append_left, In-append_right, In-append_cases}
 use Rattle.minix_layout.specs.declared.division.Geometry.{Geometry}
+use Rattle.minix_layout.specs.Inodes.{zero_inode}
 use Rattle.tree_model.specs.Maps.{at_number, at_name, without_number}
 use Rattle.tree_model.specs.laws.MapOrder.{at_without_here, at_without_apart}
 use Rattle.tree_model.specs.Calls.{node_zones, used_zones}
@@ -23,7 +24,7 @@ use Rattle.volume_model.specs.laws.MapBlock.{changes_wider}
 use Rattle.volume_model.specs.laws.Written.{zone_kept}
 use Rattle.volume_model.specs.laws.Removed.{removed_stands}
 use Rattle.volume_model.specs.Volume.{Place, block, zone_in, IsOfNumbers, IsPart}
-use Rattle.volume_model.specs.Moves.{IsVolume, zero_inode, node_removed}
+use Rattle.volume_model.specs.Moves.{IsVolume, node_removed}
 use Rattle.volume_model.specs.Touched.{Contents, Touched, Page, Tells, IsMeta, of_tables, of_numbers, of_directory, HasPage}
 use Rattle.volume_model.specs.Trees.{node_now}
 use Rattle.volume_steps.specs.Now.{VolumeNow, Change, tree_of_now, written}

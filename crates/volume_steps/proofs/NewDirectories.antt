@@ -9,7 +9,7 @@ use Rattle.minix_layout.specs.declared.division.Geometry.{Geometry}
 use Rattle.minix_layout.specs.declared.inode.Inode.{Inode}
 use Rattle.minix_layout.specs.declared.slot.Slot.{Slot}
 use Rattle.minix_layout.specs.Geometry.{IsSound}
-use Rattle.minix_layout.specs.Inodes.{FitInode}
+use Rattle.minix_layout.specs.Inodes.{FitInode, new_directory_inode}
 use Rattle.minix_layout.specs.Slots.{slot_of, IsEntry}
 use Rattle.tree_model.specs.Maps.{at_number, put_number}
 use Rattle.tree_model.specs.Paths.{is_dot}
@@ -36,7 +36,7 @@ use Rattle.volume_model.specs.Touched.{Contents}
 use Rattle.volume_model.specs.Plain.{HasDots, HasSlotZones}
 use Rattle.volume_steps.specs.Now.{VolumeNow, Change, tree_of_now}
 use Rattle.volume_steps.specs.Zones.{inode_bit, zone_bit, new_number, next_zone}
-use Rattle.volume_steps.specs.Steps.{new_directory_inode, new_directory_edits, dot_slots, make_directory}
+use Rattle.volume_steps.specs.Steps.{new_directory_edits, dot_slots, make_directory}
 use Rattle.volume_steps.specs.Plain.{IsInUse}
 use Rattle.volume_steps.specs.laws.Steady.{IsSteady, KeepsMarks}
 use Rattle.volume_steps.specs.UsedInodes.{IsInodeUsed}

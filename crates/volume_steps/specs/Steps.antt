@@ -7,6 +7,7 @@ use Rattle.byte_fields.specs.Fields.{zeros}
 use Rattle.minix_layout.specs.declared.division.Geometry.{Geometry}
 use Rattle.minix_layout.specs.declared.inode.Inode.{Inode}
 use Rattle.minix_layout.specs.declared.slot.Slot.{Slot}
+use Rattle.minix_layout.specs.Inodes.{new_directory_inode}
 use Rattle.tree_model.specs.Maps.{at_number, put_number}
 use Rattle.tree_model.specs.Calls.{patched, cut_body}
 use Rattle.volume_ops.specs.declared.found.Mapped.{Mapped}
@@ -74,10 +75,6 @@ resize v n change = at_node v n (λ p.
 -- a regular file with the rights 644, of no bytes, with one link
 abbrev pub new_file_inode : Inode
 new_file_inode = record { mode = 0x81A4; uid = 0; size = 0; time = 0; gid = 0; links = 1; zones = replicate 9 0 }
-
--- a directory with the rights 755, of two slots in this zone, with two links
-abbrev pub new_directory_inode : ℕ → Inode
-new_directory_inode zone = record { mode = 0x41ED; uid = 0; size = 32; time = 0; gid = 0; links = 2; zones = zone ∷ replicate 8 0 }
 
 -- a file in the lowest inode that is free
 abbrev pub make_file : VolumeNow → ℕ → Change

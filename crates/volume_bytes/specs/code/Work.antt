@@ -1,6 +1,7 @@
 -- A file that is open: its node is taken out, and what is done to it is done to this, to the blocks and to the zones.
 use Rattle.std.specs.Prelude.{ℕ, ◌-◌, ◌/◌, nat_eq, nat_lt, if◌then◌else◌, List, [], ◌∷◌, ◌++◌, map, true}
 use Rattle.byte_fields.specs.Fields.{zeros}
+use Rattle.minix_layout.specs.Inodes.{zero_inode}
 use Rattle.tree_model.specs.Calls.{patched}
 use Rattle.volume_ops.specs.Places.{table_block}
 use Rattle.volume_ops.specs.Volume.{disk_of}
@@ -10,7 +11,7 @@ use Rattle.volume_model.specs.Edits.{edited, edited_all, put_inode, put_body}
 use Rattle.volume_model.specs.Holes.{with_zone}
 use Rattle.volume_model.specs.Volume.{Place, block, indirect, double, inner, zone_in}
 use Rattle.volume_model.specs.MapBlock.{OpenInode, TakenZones, own_of, taken_at, map_block}
-use Rattle.volume_model.specs.Moves.{zero_inode, with_size}
+use Rattle.volume_model.specs.Moves.{with_size}
 use Rattle.volume_model.specs.Touched.{Touched, and_then}
 use Rattle.volume_steps.specs.Now.{VolumeNow, tells_writes}
 use Rattle.volume_steps.specs.Steps.{tells_node}

@@ -15,7 +15,7 @@ use Rattle.std.proofs.lemmas.Cmp.{eq_by_cmp_equiv, nat_cmp_total}
 use Rattle.std.proofs.lemmas.List.{get_or-replicate, get_or_past}
 use Rattle.minix_layout.specs.declared.division.Geometry.{Geometry}
 use Rattle.minix_layout.specs.Geometry.{IsSound}
-use Rattle.minix_layout.specs.Inodes.{FitInode}
+use Rattle.minix_layout.specs.Inodes.{FitInode, zero_inode}
 use Rattle.tree_model.specs.Maps.{at_number, at_name}
 use Rattle.tree_model.specs.laws.MapsLaws.{number_here, number_same}
 use Rattle.volume_ops.specs.Volume.{disk_of}
@@ -26,7 +26,7 @@ use Rattle.volume_model.specs.Edits.{put_inode, edited}
 use Rattle.volume_model.specs.Changes.{Changes}
 use Rattle.volume_model.specs.Volume.{Place, zone_in, HasNumber, HasNames}
 use Rattle.volume_model.specs.Touched.{Contents}
-use Rattle.volume_model.specs.Moves.{IsVolume, zero_inode, node_removed}
+use Rattle.volume_model.specs.Moves.{IsVolume, node_removed}
 use Rattle.volume_model.specs.laws.Changes.{changes_inode}
 use Rattle.volume_model.specs.laws.Zones.{zones_kept}
 use Rattle.volume_model.specs.laws.Written.{stored_kept}

@@ -3,6 +3,7 @@ use Rattle.std.specs.Prelude.{◌≡◌, ℕ, ◌+◌, ◌*◌, ◌/◌, ◌%◌
 use Rattle.byte_fields.specs.Fields.{zeros}
 use Rattle.minix_layout.specs.declared.inode.Inode.{Inode}
 use Rattle.minix_layout.specs.Geometry.{IsSound}
+use Rattle.minix_layout.specs.Inodes.{new_directory_inode}
 use Rattle.tree_model.specs.Maps.{at_number, put_number}
 use Rattle.minix_layout.specs.declared.slot.Slot.{Slot}
 use Rattle.volume_ops.specs.Places.{table_block}
@@ -18,7 +19,7 @@ use Rattle.volume_model.specs.Moves.{opened, closed, with_size, with_name}
 use Rattle.volume_steps.specs.Now.{VolumeNow, Change, with_contents, written, unchanged, followed_by, tells_writes}
 use Rattle.volume_steps.specs.Zones.{inode_bit, zone_bit, next_zone, take_zones}
 use Rattle.zone_maps.specs.Zones.{taken}
-use Rattle.volume_steps.specs.Steps.{at_node, tells_node, set_links, new_file_inode, new_directory_inode, new_directory_edits}
+use Rattle.volume_steps.specs.Steps.{at_node, tells_node, set_links, new_file_inode, new_directory_edits}
 use Rattle.volume_names.specs.declared.directories.NewSlot.{NewSlot}
 use Rattle.minix_layout.specs.declared.limits.TheConstants.{MOST_SLOTS}
 

@@ -54,6 +54,6 @@ returns c =
           (node_gone now c.args.tx c.args.n c.args.metadata.now h c.in-Some.node (sym c.remove.ensures.value ∙ c.in-Some.is) c.blocks_in.result.now c.blocks_in.ensures c.mark_inode.new.blocks c.remove.new.self.entries
           one two three refl c.free_blocks.ensures.change c.args.touched.now.touched c.mark_inode.ensures.touched c.mark_inode.ensures.blocks c.remove.ensures.entries
           (ap (λ (v : VolumeNow). record { volume = v; touched = c.free_numbers.new.touched.touched }) c.v-2.view_is ∙ c.free_numbers.ensures.change)
-          c.zero_inode.result c.zero_inode.ensures c.put_inode.new.blocks c.put_inode.ensures c.note_node.new.self.touched
+          c.zeros.result c.zeros.ensures c.put_inode.new.blocks c.put_inode.ensures c.note_node.new.self.touched
           (noted_node c.free_numbers.new.touched c.note_block.new.self c.note_node.new.self c.table_block.result _ c.args.n c.note_block.ensures c.table_block.ensures c.note_node.ensures));
     }
