@@ -1,37 +1,10 @@
--- Which zones a mapped block takes, and which a cut frees.
-use Rattle.std.specs.Prelude.{ℕ, nat_lt, nat_eq, Bool, true, false, not, ◌&&◌, if◌then◌else◌, List, [], ◌∷◌, ◌++◌, map, filter, Option, Some, None}
+-- Which zones a cut frees, and which it writes.
+use Rattle.std.specs.Prelude.{ℕ, nat_lt, nat_eq, Bool, not, ◌&&◌, List, [], ◌∷◌, ◌++◌, map, filter, Option, Some, None}
 use Rattle.minix_layout.specs.declared.inode.Inode.{Inode}
 use Rattle.volume_ops.specs.declared.found.Mapped.{Mapped}
-use Rattle.volume_model.specs.Volume.{Place, block, indirect, double, inner, zone_in}
-use Rattle.volume_model.specs.Ways.{way}
+use Rattle.volume_model.specs.Volume.{Place, zone_in}
 use Rattle.volume_model.specs.Counts.{number_places}
 use Rattle.volume_edits.specs.declared.written.WrittenZones.{WrittenZones}
-
--- the places on the way to a block that have no zone
-abbrev pub holes : List (List ℕ) → Inode → ℕ → List Place
-holes blocks i index = filter (λ x. nat_eq (zone_in blocks i x) 0) (way index)
-
--- what a place is on the way to a block: the block itself, the zone of numbers that the inode names, or the next one
-abbrev pub is_block : Place → Bool
-is_block (block i) = true
-is_block indirect = false
-is_block double = false
-is_block (inner k) = false
-
-abbrev pub is_outer : Place → Bool
-is_outer (block i) = false
-is_outer indirect = true
-is_outer double = true
-is_outer (inner k) = false
-
-abbrev pub is_inner : Place → Bool
-is_inner (block i) = false
-is_inner indirect = false
-is_inner double = false
-is_inner (inner k) = true
-
-abbrev pub bit : Bool → ℕ
-bit b = if b then 1 else 0
 
 -- the blocks of a file that go in a cut
 abbrev pub blocks_cut : List Mapped → ℕ → List Mapped

@@ -1,9 +1,9 @@
 //! Writes to the blocks of a volume that changes.
 //!
 //! `edits` has single writes: an inode, a slot of a directory, a bit of a map, an entry of a zone of numbers, a body.
-//! `map_block` maps a block of a file, `cut_to` lets all blocks of a file go from an index on, and `holes` and
-//! `zones_cut` tell before the first write which zones that takes or frees. What each call makes of the blocks is a
-//! definition of `volume_model`. None of the calls that write takes memory, and a write behind the last block is left
+//! `map_block` maps a block of a file, `cut_to` lets all blocks of a file go from an index on, and
+//! `zones_cut` and `zones_written` tell before the first write which zones that frees and which it writes. What each
+//! call makes of the blocks is a definition of `volume_model`. None of the calls that write takes memory, and a write behind the last block is left
 //! out, so no call has a condition on zones.
 //!
 //! Stands on `volume_model`, whose definitions and laws the calls meet, and on `minix_layout` for the format.
@@ -16,7 +16,6 @@ mod freed;
 mod kept;
 mod laws;
 mod mapping;
-mod wanted;
 mod written;
 
 pub use bodies::zone_entry;
@@ -25,5 +24,4 @@ pub use edits::{clear_from, put_body, put_entry, put_inode, put_slot, set_bit, t
 pub use freed::{CutZones, zones_cut};
 pub use laws::cut_zones_are_told;
 pub use mapping::{TakenZones, map_block};
-pub use wanted::{WantedZones, holes};
 pub use written::{WrittenZones, zones_written};
