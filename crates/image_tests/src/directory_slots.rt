@@ -1,11 +1,15 @@
 //! Tests of the slots of a directory.
+use blk_base::{Block, Image};
 use dir_ops::{
     Slots, added_names_are_found, names_are_found, removed_names_are_gone,
     room_is_the_least_free_place,
 };
-use minix_layout::{Name, Slot};
+use minix_layout::{Inode, Name, Slot, Zones, write_slot};
 use std::alloc::{AllocError, Global};
+use std::process::Abort;
 use std::test::Fail;
+use volume_model::slots_in;
+use volume_ops::Disk;
 
 // Adds a slot under a name that is new.
 fn add(slots: &mut Slots, inode: u16, name: &Name) -> Option<usize> {
@@ -92,4 +96,39 @@ fn a_reserved_slot_is_used_or_undone(rt: HostRuntime) -> Result<(), Fail> {
     added_names_are_found();
     removed_names_are_gone();
     Ok(())
+}
+
+// A disk whose zone 3 has one slot in use, the second.
+fn disk(rt: &impl Abort, alloc: Global) -> Disk {
+    let slot = Slot {
+        inode: 2,
+        name: Name::of(b"ab").expect(rt, "no name"),
+    };
+    let mut body = Block::fill(0);
+    write_slot(&mut body, 1, Some(&slot));
+    let mut blocks = Image::zeroed(alloc, 5).expect(rt, "no blocks");
+    blocks.put(3, body);
+    Disk::new(blocks)
+}
+
+// A directory of three slots in zone 3.
+#[test]
+fn slots_are_read_from_an_image(rt: HostRuntime) {
+    let inode = Inode {
+        mode: 0x41ED,
+        uid: 0,
+        size: 48,
+        time: 0,
+        gid: 0,
+        links: 2,
+        zones: Zones::of([3, 0, 0, 0, 0, 0, 0, 0, 0]),
+    };
+    let disk = disk(&rt, rt.alloc());
+    let slots = slots_in(rt.alloc(), &disk, &inode).expect(&rt, "no slots");
+    let used = [
+        slots.get(0).is_some(),
+        slots.get(1).is_some(),
+        slots.get(2).is_some(),
+    ];
+    assert_eq!(rt; (slots.len(), used), (3, [false, true, false]));
 }

@@ -1,7 +1,7 @@
 //! Tests of what a Minix V1 volume has, part by part, and of trees and calls on them.
 //!
-//! Stands on `minix_layout`, `zone_maps`, `inode_ops`, `dir_ops`, `tree_model`, `tree_calls` and `volume_ops`, and for their
-//! laws on `volume_model` and `volume_edits`.
+//! Stands on `minix_layout`, `zone_maps`, `inode_ops`, `dir_ops`, `tree_model`, `tree_calls`, `volume_ops` and
+//! `volume_model`, and for laws on `volume_edits`.
 #![tactic(auto)]
 
 #[cfg(test)]

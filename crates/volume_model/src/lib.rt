@@ -11,6 +11,7 @@
 mod file_zones;
 mod laws;
 mod placed;
+mod slots;
 
 pub use file_zones::FileZones;
 pub use laws::{
@@ -19,4 +20,5 @@ pub use laws::{
     plain_images_can_change, plain_volumes_are_read_back, writes_are_read,
 };
 pub use placed::{DirectoryPart, Part, Placed};
+pub use slots::slots_in;
 pub use tree_model::Names;

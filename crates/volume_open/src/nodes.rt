@@ -6,12 +6,11 @@ ghost use Rattle.volume_ops.specs.declared.found.FoundNode.{FoundNode};
 ghost use Rattle.volume_model.specs.ImageNodes.{part_found};
 ghost use Rattle.volume_open.specs.code.Placing.{HasOrder, IsNodeFound, placed_found, put_all};
 
-use crate::fields::slots_in;
 use blk_base::NoMemory;
 use minix_layout::{Geometry, Inode};
 use std::alloc::Global;
 use std::collections::BTreeMap;
-use volume_model::{DirectoryPart, FileZones, Part, Placed};
+use volume_model::{DirectoryPart, FileZones, Part, Placed, slots_in};
 use volume_ops::{Disk, Found, FoundNode, inode_at, inode_of_birth};
 
 fn part_found(alloc: Global, disk: &Disk, inode: &Inode, found: Found) -> Result<Part, NoMemory>

@@ -2,7 +2,7 @@ use Rattle.std.proofs.Common.{map, ◌∷◌, ◌++◌, [], ap, sym, ◌∙◌, 
 use Rattle.std.specs.List.{range_with_len}
 use Rattle.std.proofs.lemmas.List.FromFn.{map-range_with_len_more}
 use Rattle.volume_model.specs.Plain.{slot_in}
-use Rattle.volume_open.proofs.fields.slots_in.Goals as goal
+use Rattle.volume_model.proofs.slots.slots_in.Goals as goal
 
 pub loop-k-preserved : goal.loop-k-preserved
 loop-k-preserved c =
