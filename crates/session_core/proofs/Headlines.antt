@@ -1,39 +1,28 @@
 -- The sentences of a session, from the laws of its host and of its power cut.
-use Rattle.std.proofs.Common.{take, ◌≡◌, ℕ, ◌++◌, true, false, List, [], Ok, refl, sym, subst}
+use Rattle.std.proofs.Common.{take, ◌≡◌, ℕ, ◌++◌, true, false, List, [], refl, sym, subst, ◌∙◌}
 use Rattle.blk_base.specs.Members.{In}
 use Rattle.blk_base.specs.laws.Members.{In-take, In-append_left}
 use Rattle.order_model.specs.declared.completion.Completion.{Completion}
-use Rattle.order_model.specs.Carrying.{IsPrefixOf}
-use Rattle.log_model.specs.Marks.{Transaction}
 use Rattle.tree_model.specs.declared.call.Call.{Call}
-use Rattle.tree_model.specs.declared.call.Reply.{Reply}
-use Rattle.tree_model.specs.Calls.{Tree}
 use Rattle.tree_model.specs.Trees.{AreAlike}
 use Rattle.volume_ops.specs.Volume.{disk_of}
-use Rattle.volume_steps.specs.Now.{VolumeNow, room_of}
 use Rattle.volume_steps.specs.Plain.{is_rename}
-use Rattle.mount_make.specs.Images.{recovered_image, image_tree}
+use Rattle.mount_make.specs.Images.{recovered_image}
 use Rattle.crash_laws.specs.Found.{IsFound}
 use Rattle.crash_laws.specs.History.{last_write, IsLastChange}
-use Rattle.crash_laws.specs.LegalHistory.{IsLegal}
-use Rattle.crash_laws.specs.Recovery.{IsRecovered}
-use Rattle.flush_actor.specs.Kinds.{is_data}
-use Rattle.host_machine.specs.State.{Begun, Host}
+use Rattle.host_machine.specs.State.{Begun}
 use Rattle.host_runs.specs.Sentences.{IsAllSettled}
-use Rattle.host_volume.specs.Calls.{kind_of}
 use Rattle.host_volume.specs.Sessions.{Stands}
 use Rattle.session_run.specs.Beginning.{call_over}
 use Rattle.session_run.specs.End.{tree_behind}
-use Rattle.call_images.specs.CallImages.{submitted_by, kept_count, KeepsFiles, ShowsFiles, IsShown}
-use Rattle.session_promises.specs.Answers.{AnsweredAt, HasOkCause, KeepsPromises}
-use Rattle.session_promises.specs.Causes.{HaveCauses}
-use Rattle.session_promises.specs.Legal.{events_in, program_of, FollowsTree}
+use Rattle.call_images.specs.CallImages.{found_in, submitted_by, ShowsFiles, IsShown}
 use Rattle.session_promises.specs.Trees.{HaveNoRenames}
 use Rattle.session_grammar.specs.declared.session_script.SessionScript.{SessionScript}
 use Rattle.session_grammar.specs.WellFormed.{IsWellFormed, IsBuilt}
 use Rattle.session_core.specs.Core.{EndState, geometry_of, opening_of}
 use Rattle.session_core.specs.Headline.{medium_of, told_by, IsAllShown, HeadlineOn}
-use Rattle.session_core.specs.Report.{ReportKeepsOrder, HasPrefix}
+use Rattle.session_core.specs.Report.{ReportKeepsOrder}
+use Rattle.session_core.specs.code.Cuts.{CutFacts}
 use Rattle.session_core.specs.code.Ends.{EndFits}
 use Rattle.session_core.specs.declared.report.SessionReport.{SessionReport}
 use Rattle.session_core.proofs.Made.{of_program}
@@ -62,33 +51,24 @@ no_rename calls.Sync built = refl
 pub script_has_no_renames : (s : SessionScript) → IsWellFormed s → HaveNoRenames s.programs
 script_has_no_renames s is = λ p c there here. no_rename c (is.calls c (of_program s.programs p c there here)).1
 
--- what holds of the host of a script's session
-pub record HostFacts (s : SessionScript) (h : Host VolumeNow Call Reply) : Type 0 where
-  pub promises : KeepsPromises (opening_of s) h
-  pub ok_causes : (e t : ℕ) (c : Call) → AnsweredAt h e t c → is_data (kind_of c) ≡ false → HasOkCause h e t c
-  pub causes : HaveCauses kind_of s.header.limit h
-  pub follows : FollowsTree (opening_of s) s.programs h
-  pub legal : IsLegal (room_of (geometry_of s)) (program_of s.programs) (events_in h.history)
-
 -- what was taken was sent
 took : (n : ℕ) (taken sent : List Completion) (c : Completion) → taken ≡ take n sent → In c taken → In c sent
 took n taken sent c front here = In-take n sent c (subst (In c) front here)
 
--- what the recovered disk has of the files is shown by each tree of the image that is alike to the one after the calls of the
--- transactions that were found
-abbrev pub IsShownAs : SessionScript → EndState → SessionReport → List Transaction → Type 0
-IsShownAs s end r closed =
-    KeepsFiles (geometry_of s) s.journal closed end.host (medium_of r) (disk_of (recovered_image r.cut.image.items)) → (tree : Tree) → image_tree r.cut.image.items ≡ Ok tree →
-    (alike : AreAlike (tree_behind (opening_of s) end.host r.found) tree) → ShowsFiles (geometry_of s) s.journal closed end.host (medium_of r) tree alike.to
-
-pub headline_of : (s : SessionScript) (end : EndState) (r : SessionReport) → HostFacts s end.host → ReportKeepsOrder s end r → EndFits end
-    → r.cut.trace.sent.items ≡ end.dev.sent → r.found ≡ kept_count (geometry_of s) s.journal end.host (medium_of r)
-    → IsFound (submitted_by (geometry_of s) s.journal [] end.host) (medium_of r) (kept_count (geometry_of s) s.journal end.host (medium_of r)) → HasPrefix s end r
-    → ((closed : List Transaction) → IsRecovered (submitted_by (geometry_of s) s.journal closed end.host) (medium_of r) (disk_of (recovered_image r.cut.image.items)))
-    → ((closed : List Transaction) → IsShownAs s end r closed) → HeadlineOn s end r
-headline_of s end r facts order fits sent count found prefix recovered shows =
-    let p = facts.promises in
-    let files = p.kept.sentences.prefix (medium_of r) (disk_of (recovered_image r.cut.image.items)) order.closed (recovered p.kept.closed) in
+pub headline_of : (s : SessionScript) (end : EndState) (r : SessionReport) → CutFacts s end.host (medium_of r) → ReportKeepsOrder s end r → EndFits end
+    → r.cut.trace.sent.items ≡ end.dev.sent → r.found ≡ found_in (geometry_of s).zones 1 r.cut.image.items → HeadlineOn s end r
+headline_of s end r facts order fits sent found =
+    let g = geometry_of s in
+    let m = medium_of r in
+    let host = facts.host in
+    let p = host.promises in
+    let tree = facts.tree in
+    let count = found ∙ facts.counted in
+    let files = p.kept.sentences.prefix m (disk_of (recovered_image r.cut.image.items)) order.closed (facts.recovered p.kept.closed) in
+    let alike = subst (λ n. AreAlike (tree_behind (opening_of s) end.host n) tree.0) (sym count) tree.2 in
+    let shows : (alike : AreAlike (tree_behind (opening_of s) end.host r.found) tree.0) → ShowsFiles g s.journal p.kept.closed end.host m tree.0 alike.to =
+    subst (λ n. (alike : AreAlike (tree_behind (opening_of s) end.host n) tree.0) → ShowsFiles g s.journal p.kept.closed end.host m tree.0 alike.to) (sym count)
+    (facts.shown p.kept.closed tree.0 files tree.1) in
     record {
       closed = p.kept.closed;
       notes = p.kept.rules.order.fits;
@@ -96,19 +76,19 @@ headline_of s end r facts order fits sent count found prefix recovered shows =
       accepted = fits.accepted;
       received = fits.received;
       taken = fits.taken;
-      follows = facts.follows;
-      legal = facts.legal;
-      transactions = subst (λ n. IsFound (submitted_by (geometry_of s) s.journal [] end.host) (medium_of r) n) (sym count) found;
+      follows = host.follows;
+      legal = host.legal;
+      transactions = subst (λ n. IsFound (submitted_by g s.journal [] end.host) m n) (sym count) facts.transactions;
       counted = count;
-      prefix = prefix;
+      prefix = record { tree = tree.0; found = tree.1; alike = alike };
       files = files;
-      shown = shows p.kept.closed files prefix.tree prefix.found prefix.alike;
+      shown = shows alike;
       answered = p.answered;
-      barriers = λ e t c ok kind later. p.barriers (medium_of r) e t c ok kind order.closed later;
-      syncs = λ e t c ok kind. p.syncs (medium_of r) (r.cut.trace.sent.items ++ end.dev.waiting) e t c ok kind order.closed order.flushed
+      barriers = λ e t c ok kind later. p.barriers m e t c ok kind order.closed later;
+      syncs = λ e t c ok kind. p.syncs m (r.cut.trace.sent.items ++ end.dev.waiting) e t c ok kind order.closed order.flushed
           (λ x here. In-append_left r.cut.trace.sent.items end.dev.waiting x (subst (In x) (sym sent) (took fits.taken.0 end.host.journal.flush.taken end.dev.sent x fits.taken.1 here)));
-      causes = facts.causes;
-      ok_causes = facts.ok_causes;
+      causes = host.causes;
+      ok_causes = host.ok_causes;
       flushes = p.kept.flushes;
     }
 

@@ -4,9 +4,11 @@ ghost use Rattle.order_model.specs.Machine.{machine_of};
 ghost use Rattle.mount_make.specs.Made.{made_image};
 ghost use Rattle.session_grammar.specs.WellFormed.{IsWellFormed};
 ghost use Rattle.session_run.specs.Beginning.{IsMadeFor};
-ghost use Rattle.session_core.specs.Core.{IsNewFor, core_on, device_for, ended, geometry_of, opened_host, opening_of, start_of, standings_of};
+ghost use Rattle.session_run.specs.declared.session.SessionEnd.{SessionEnd};
+ghost use Rattle.session_core.specs.Core.{EndState, IsNewFor, core_on, device_for, ended, geometry_of, opened_host, opening_of, start_of, standings_of};
 ghost use Rattle.session_core.specs.Headline.{Headline, HeadlineOn};
 ghost use Rattle.session_core.specs.Report.{HasAttempts, IsCoreReport, IsReportOf};
+ghost use Rattle.session_core.specs.code.Cuts.{CutFacts, medium_left};
 ghost use Rattle.session_core.specs.code.Ends.{IsNewScheduler, session_on, EndsIn, KeepsTheOrder, IsBehind, EndFits};
 
 use crate::report::{CutRecord, SessionReport};
@@ -141,6 +143,24 @@ fn run<D: OrderedDev + Drop>(
     }
 }
 
+// What the laws say of a script's session and of what a power cut leaves of it. It does nothing.
+fn cut_scripts_keep_their_promises(script: &SessionScript)
+    requires { IsWellFormed script.now }
+    ensures { (end : EndState) (r : SessionEnd) → KeepsTheOrder script.now end r → IsBehind script.now end → CutFacts script.now end.host (medium_left r) }
+{
+    let _ = Geometry::make(script.inodes, script.zones);
+    calls_of_scripts_write_bytes();
+    cut_sessions_mount();
+    cut_sessions_have_the_tree_of_a_prefix();
+    cut_sessions_tell_how_many();
+    cut_sessions_keep_files();
+    cut_sessions_show_files();
+    sessions_of_calls_on_made_images();
+    answered_calls_keep_their_promises();
+    calls_end_for_a_cause();
+    histories_follow_the_tree();
+}
+
 // A script on this host and this device: the session, the power cut, the attempts and the mount.
 fn run_opened<M: Maker>(
     alloc: Global,
@@ -157,18 +177,8 @@ fn run_opened<M: Maker>(
     ensures attempts { IfOk result (HasAttempts (machine_of M.Dev.OrderedDev) (λ i. M.Dev.OrderedDev.state (M.fresh_dev (M.setup maker.old) i)) script.now) }
     ensures headline { IfOk result (HeadlineOn script.now (core_on (machine_of M.Dev.OrderedDev) script.now (M.Dev.OrderedDev.state dev))) }
 {
-    // These calls tell what sessions keep, and what a power cut leaves of them.
-    let _ = Geometry::make(script.inodes, script.zones);
-    calls_of_scripts_write_bytes();
-    cut_sessions_mount();
-    cut_sessions_have_the_tree_of_a_prefix();
-    cut_sessions_tell_how_many();
-    cut_sessions_keep_files();
-    cut_sessions_show_files();
-    sessions_of_calls_on_made_images();
-    answered_calls_keep_their_promises();
-    calls_end_for_a_cause();
-    histories_follow_the_tree();
+    // This call tells what a power cut leaves of the session.
+    cut_scripts_keep_their_promises(script);
     let SessionEnd { host, sched, cut } = run(alloc, script, host, dev)?;
     // By a call, as in `run`.
     let Ok(standings) = standings(alloc, &host, script.programs.len() as u32) else {

@@ -1,0 +1,50 @@
+-- What the laws say of a script's session and of what a power cut left of it, for the code that reports it.
+use Rattle.std.specs.Prelude.{◌≡◌, ℕ, false, true, List, [], Ok}
+use Rattle.log_model.specs.Marks.{Transaction}
+use Rattle.tree_model.specs.declared.call.Call.{Call}
+use Rattle.tree_model.specs.declared.call.Reply.{Reply}
+use Rattle.tree_model.specs.Calls.{Tree}
+use Rattle.tree_model.specs.Trees.{AreAlike}
+use Rattle.volume_ops.specs.Volume.{VolumeState, disk_of}
+use Rattle.volume_steps.specs.Now.{VolumeNow, room_of}
+use Rattle.mount_make.specs.Images.{divided, has_journal, mounted, recovered_image, image_tree}
+use Rattle.crash_laws.specs.Found.{IsFound}
+use Rattle.crash_laws.specs.LegalHistory.{IsLegal}
+use Rattle.crash_laws.specs.Recovery.{IsRecovered}
+use Rattle.crash_laws.specs.Session.{Medium}
+use Rattle.flush_actor.specs.Kinds.{is_data}
+use Rattle.host_machine.specs.State.{Host}
+use Rattle.host_volume.specs.Calls.{kind_of}
+use Rattle.call_images.specs.CallImages.{found_in, submitted_by, kept_count, kept_tree, KeepsFiles, ShowsFiles}
+use Rattle.session_promises.specs.Answers.{AnsweredAt, HasOkCause, KeepsPromises}
+use Rattle.session_promises.specs.Causes.{HaveCauses}
+use Rattle.session_promises.specs.Legal.{events_in, program_of, FollowsTree}
+use Rattle.session_grammar.specs.declared.session_script.SessionScript.{SessionScript}
+use Rattle.session_run.specs.declared.session.SessionEnd.{SessionEnd}
+use Rattle.session_core.specs.Core.{geometry_of, opening_of}
+
+-- what the power cut left of a session
+abbrev pub medium_left : SessionEnd → Medium
+medium_left r = record { image = r.cut.image; origins = r.cut.origins }
+
+-- what holds of the host of a script's session
+pub record HostFacts (s : SessionScript) (h : Host VolumeNow Call Reply) : Type 0 where
+  pub promises : KeepsPromises (opening_of s) h
+  pub ok_causes : (e t : ℕ) (c : Call) → AnsweredAt h e t c → is_data (kind_of c) ≡ false → HasOkCause h e t c
+  pub causes : HaveCauses kind_of s.header.limit h
+  pub follows : FollowsTree (opening_of s) s.programs h
+  pub legal : IsLegal (room_of (geometry_of s)) (program_of s.programs) (events_in h.history)
+
+-- What holds of such a host and of a medium that a power cut left: it mounts as the script's volume was divided, its journal
+-- tells how many transactions it has, and it has the tree and the files of these.
+pub record CutFacts (s : SessionScript) (h : Host VolumeNow Call Reply) (m : Medium) : Type 0 where
+  pub host : HostFacts s h
+  pub volume : divided m.image ≡ Ok (geometry_of s)
+  pub journal : has_journal (geometry_of s).zones m.image ≡ true
+  pub mounts : (v : VolumeState) × (mounted m.image ≡ Ok v)
+  pub counted : found_in (geometry_of s).zones 1 m.image ≡ kept_count (geometry_of s) s.journal h m
+  pub transactions : IsFound (submitted_by (geometry_of s) s.journal [] h) m (kept_count (geometry_of s) s.journal h m)
+  pub tree : (tree : Tree) × (image_tree m.image ≡ Ok tree) × AreAlike (kept_tree (geometry_of s) s.journal h m) tree
+  pub recovered : (closed : List Transaction) → IsRecovered (submitted_by (geometry_of s) s.journal closed h) m (disk_of (recovered_image m.image))
+  pub shown : (closed : List Transaction) (tree : Tree) → KeepsFiles (geometry_of s) s.journal closed h m (disk_of (recovered_image m.image)) → image_tree m.image ≡ Ok tree
+      → (alike : AreAlike (kept_tree (geometry_of s) s.journal h m) tree) → ShowsFiles (geometry_of s) s.journal closed h m tree alike.to
