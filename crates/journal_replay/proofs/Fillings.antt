@@ -1,5 +1,5 @@
 -- The table of homes while the log is moved into it, and the homes while the table is moved into them.
-use Rattle.std.specs.Prelude.{◌≡◌, ℕ, ◌+◌, ◌==◌, Bool, true, false, if◌then◌else◌, List, ◌∷◌, ◌++◌, length, map, Option, Some, None, slice_get, refl}
+use Rattle.std.specs.Prelude.{◌≡◌, ℕ, ◌+◌, ◌==◌, Bool, true, false, if◌then◌else◌, List, [], ◌∷◌, ◌++◌, length, map, Option, Some, None, slice_get, refl}
 use Rattle.std.proofs.Common.{sym, ap, ◌∙◌, inl, inr, arith, append_assoc}
 use Rattle.std.proofs.lemmas.Bool.{cases_Bool}
 use Rattle.log_model.specs.LastLogged.{bodies_of, last_of}
@@ -52,6 +52,13 @@ putting_more rev at first table all rest h tail new p e put = record {
         left_more (rev b) at h tail b now (cancels (rev b) at) refl ∙ (ap (λ hs. left_by (rev b) at hs b now) (sym e) ∙ was.2),
       );
 }
+
+-- what all of them leave
+pub all_put : (rev : ℕ → Option ℕ) (at : ℕ) (first table : List (Option (List ℕ))) (all rest : List Home) → Putting rev at first table all rest → rest ≡ []
+    → (b : ℕ) (o : Option (List ℕ)) → slice_get first b ≡ Some o → slice_get table b ≡ Some (left_by (rev b) at all b o)
+all_put rev at first table all rest p none b o is =
+    let was = p.each b o is in
+    was.1 ∙ ap Some (sym (if_same (cancels (rev b) at) was.0) ∙ (ap (λ hs. left_by (rev b) at hs b was.0) (sym none) ∙ was.2))
 
 -- ---- the transactions of a log
 

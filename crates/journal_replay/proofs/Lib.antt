@@ -1,3 +1,4 @@
 mod Results
 mod Faults
 mod Fillings
+mod Steps

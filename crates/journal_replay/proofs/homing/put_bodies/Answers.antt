@@ -1,6 +1,8 @@
 use Rattle.std.specs.Vec.Iter.{into_iter_items}
+use Rattle.std.proofs.Common.{sym, ◌∙◌}
+use Rattle.std.proofs.lemmas.List.{nil_from_length}
 use Rattle.journal_replay.specs.Revokes.{place_of}
-use Rattle.journal_replay.proofs.Fillings.{one_fewer, putting_more}
+use Rattle.journal_replay.proofs.Fillings.{one_fewer, putting_more, all_put}
 use Rattle.journal_replay.proofs.homing.put_bodies.Goals as goal
 
 pub loop-home-preserved : goal.loop-home-preserved
@@ -12,3 +14,12 @@ loop-home-preserved c =
       putting = putting_more (place_of c.args.revokes.now) c.args.at c.args.table.now.items at.table.items c.args.bodies.items (into_iter_items at.home-iterator) c.in-Some.home (into_iter_items c.next.new.self) c.put_body.new.table.items
           at.invariant.putting front c.put_body.ensures;
     }
+
+pub returns-clause-len : goal.returns-clause-len
+returns-clause-len c = c.loop-home.invariant.putting.long
+
+pub returns-clause-bodies : goal.returns-clause-bodies
+returns-clause-bodies c =
+    let at = c.loop-home in
+    let left = into_iter_items at.home-iterator in
+    all_put (place_of c.args.revokes.now) c.args.at c.args.table.now.items at.table.items c.args.bodies.items left at.invariant.putting (nil_from_length left (sym at.invariant.size ∙ c.in-None.ensures.steps.0))
