@@ -1,5 +1,5 @@
 #!/usr/bin/env python3
-"""Writes the largest scripts that the limits allow, and volume scripts of several sizes, to the folder that is given."""
+"""Writes scripts of the most blocks and requests that the limits allow, and volume scripts of several sizes, to the folder that is given."""
 import os
 import sys
 

@@ -4,6 +4,7 @@ ghost use Rattle.std.specs.Prelude.{None};
 use barrierfs_top::{Ended, TopFault, Words, run_words};
 use blk_base::{Failed, Image, MemSink, MemSource, NoMemory, PlainSink, PlainSource, Sink, Source};
 use device_epochs::{DeviceSetup, EpochDevice};
+use mount_make::ImageFault;
 use order_model::lawful_blocks;
 use script_grammar::ScriptKind;
 use std::alloc::Global;
@@ -305,33 +306,75 @@ fn knows_the_laws_of_the_model_device(rt: HostRuntime) -> Result<(), Fail> {
     Ok(())
 }
 
+// Faults, and their texts.
+const FAULT_TEXTS: [(TopFault, &str); 20] = [
+    (TopFault::BadWords, "bad words"),
+    (TopFault::SourceFault, "source fault"),
+    (TopFault::SinkFault, "sink fault"),
+    (TopFault::TooLong, "input too long"),
+    (TopFault::NoMemory, "no memory"),
+    (TopFault::Script(2, ScriptKind::Word), "script line 2: word"),
+    (
+        TopFault::Script(1, ScriptKind::NotBuilt),
+        "script line 1: not built",
+    ),
+    (
+        TopFault::Script(3, ScriptKind::Order),
+        "script line 3: order",
+    ),
+    (
+        TopFault::Script(30, ScriptKind::Twice),
+        "script line 30: twice",
+    ),
+    (
+        TopFault::Script(4, ScriptKind::Number),
+        "script line 4: number",
+    ),
+    (
+        TopFault::Script(1, ScriptKind::Geometry),
+        "script line 1: geometry",
+    ),
+    (
+        TopFault::Image(ImageFault::BadMagic, 1),
+        "image: bad magic at block 1",
+    ),
+    (
+        TopFault::Image(ImageFault::NameWidth, 1),
+        "image: name width at block 1",
+    ),
+    (
+        TopFault::Image(ImageFault::BadGeometry, 0),
+        "image: bad geometry at block 0",
+    ),
+    (
+        TopFault::Image(ImageFault::BadKind, 64),
+        "image: bad kind at block 64",
+    ),
+    (
+        TopFault::Image(ImageFault::BadCount, 66),
+        "image: bad count at block 66",
+    ),
+    (
+        TopFault::Image(ImageFault::Feature(6), 64),
+        "image: feature 6 at block 64",
+    ),
+    (
+        TopFault::Image(ImageFault::BadZone, 5),
+        "image: bad zone at block 5",
+    ),
+    (
+        TopFault::Image(ImageFault::BadInode, 4),
+        "image: bad inode at block 4",
+    ),
+    (
+        TopFault::Image(ImageFault::BadSlot, 7),
+        "image: bad slot at block 7",
+    ),
+];
+
 #[test]
 fn prints_the_faults(rt: HostRuntime) -> Result<(), Fail> {
-    let rows = [
-        (TopFault::BadWords, "bad words"),
-        (TopFault::SourceFault, "source fault"),
-        (TopFault::SinkFault, "sink fault"),
-        (TopFault::TooLong, "input too long"),
-        (TopFault::NoMemory, "no memory"),
-        (TopFault::Script(2, ScriptKind::Word), "script line 2: word"),
-        (
-            TopFault::Script(1, ScriptKind::NotBuilt),
-            "script line 1: not built",
-        ),
-        (
-            TopFault::Script(3, ScriptKind::Order),
-            "script line 3: order",
-        ),
-        (
-            TopFault::Script(30, ScriptKind::Twice),
-            "script line 30: twice",
-        ),
-        (
-            TopFault::Script(4, ScriptKind::Number),
-            "script line 4: number",
-        ),
-    ];
-    for (fault, text) in rows {
+    for (fault, text) in FAULT_TEXTS {
         assert_eq!(rt; format!(in rt.alloc(); "{fault}")?.as_str(), text);
     }
     Ok(())

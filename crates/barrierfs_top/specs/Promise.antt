@@ -37,7 +37,7 @@ IsWritten None text bytes = bytes ≡ text
 IsWritten (Some fault) text bytes = (n : ℕ) × (bytes ≡ take n text)
 
 -- The source spells a script of block requests, and the bytes are the text of a medium that is order-closed,
--- over zeros, for the first of these requests: those that were submitted, or none.
+-- over zeros, for some first ones of these requests, or none. That these are those that the run submitted is said by `did`.
 pub record TellsOrderClosed (old new : Option (List ℕ)) (fault : Option TopFault) (bytes : List ℕ) : Type 0 where
   pub script : Script
   pub read : WasRead commands.Replay old new (λ input. script_of input ≡ Ok script)

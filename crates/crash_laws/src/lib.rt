@@ -3,9 +3,9 @@
 //!
 //! A session is the list of its requests, what each carries, and the history of its calls. `specs/Rules`,
 //! `specs/PageRules` and `specs/PromiseRules` have the order rules that the list has to keep, `specs/Headline` the
-//! sentences that follow from them and from a medium that keeps the order of barriers. `specs/Clauses` and
-//! `specs/PageClauses` have what a single request owes so that the rules stay kept; `specs/HostFacts`,
-//! `specs/RingFacts` and `specs/CallFacts` what a host has to know of itself to meet these clauses. The public
+//! sentences that follow from them and from a medium that keeps the order of barriers. In `specs/laws/` `Clauses` and
+//! `PageClauses` have what a single request owes so that the rules stay kept; `HostFacts`, `RingFacts` and `CallFacts`
+//! what a host has to know of itself to meet these clauses. The public
 //! functions do nothing when they are called: each is a law, and its clauses say it. `docs/CRASH_LAWS.md` tells the
 //! argument from end to end.
 //!

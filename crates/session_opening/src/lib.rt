@@ -3,8 +3,7 @@
 //! `volume` has the volume in use of an image that was made, `programs` the calls that a host is given, and `opening` the
 //! session.
 //!
-//! Stands on `mount_make`, which makes the image, on `volume_now` and `volume_calls`, which have the volume, and on
-//! `host_core`; `made_sessions` says what a session on such an image begins with.
+//! Stands on `mount_make`, which makes the image, on `volume_now`, which has the volume, and on `host_core`; `made_sessions` says what a session on such an image begins with.
 #![tactic(auto)]
 
 mod opening;

@@ -18,6 +18,6 @@ pub record HaveCauses {V C R : Type 0} (kind : C → CallKind) (limit : ℕ) (h 
   -- all requests that there may be were submitted; nor does it end by that
   pub session_full : (e t : ℕ) (c : C) → EndsAt h.history e t c SessionFull → length h.journal.flush.requests ≡ limit
   pub session_full_writes : (e t : ℕ) (c : C) → EndsAt h.history e t c SessionFull → is_reading (kind c) ≡ false
-  -- what ended a call ends all calls behind it, but for those that go on
+  -- Down ends all calls behind it, and so does a request that failed, but for those that only read and those that Down ends
   pub down_stays : (i j t u : ℕ) (c d : C) (e : Ending R) → i < j → EndsAt h.history i t c Down → EndsAt h.history j u d e → e ≡ Down
   pub read_only_stays : (i j t u id : ℕ) (c d : C) (e : Ending R) → i < j → EndsAt h.history i t c (ReadOnly id) → EndsAt h.history j u d e → is_reading (kind d) ≡ false → (e ≡ ReadOnly id) ⊎ (e ≡ Down)

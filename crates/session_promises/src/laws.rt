@@ -21,8 +21,8 @@ ghost use Rattle.session_promises.specs.Trees.{HaveNoRenames};
 
 /// A law, which does nothing when it is called: in every session a call ends with Down only where the power's completion
 /// was taken before; with ReadOnly only by the first failed request of all that were taken; and with SessionFull only where
-/// all requests that there may be were submitted. No call that only reads ends by the last two, and what ended one call ends
-/// those behind it. No answer of a call reads as one of these.
+/// all requests that there may be were submitted. No call that only reads ends by the last two. Behind a Down every call ends so,
+/// and behind a ReadOnly every one but those that only read ends so or by Down. No answer of a call reads as one of these.
 pub fn calls_end_for_a_cause()
     ensures causes { (s : Opening) (v : VolumeNow) (ring : LogRing) (limit : ℕ) (programs : List (List Call)) (events : List Event) →
         HaveCauses kind_of limit (host_behind s v ring limit programs events) }
