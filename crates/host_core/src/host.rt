@@ -1,7 +1,7 @@
 //! The host.
-ghost use Rattle.std.specs.Prelude.{◌≡◌, ◌≢◌, ◌+◌, ◌^◌, ◌≤◌, ◌++◌, ◌<◌, [], true, length, drop, map, IfOk, OnErr, vec_capacity};
+ghost use Rattle.std.specs.Prelude.{◌≡◌, ◌≢◌, ◌+◌, ◌^◌, ◌≤◌, ◌++◌, ◌<◌, [], true, length, drop, map, replicate, IfOk, OnErr, vec_capacity};
 ghost use Rattle.order_model.specs.declared.turn.Turn.TheVariants as turns;
-ghost use Rattle.commit_actor.specs.Actor.{builds_plan};
+ghost use Rattle.commit_actor.specs.Actor.{made, builds_plan};
 ghost use Rattle.flush_actor.specs.Outcomes.{is_queue_full, first_since, sent_between};
 ghost use Rattle.host_machine.specs.Host as machine;
 ghost use Rattle.volume_steps.specs.Calls.{after_release};
@@ -45,6 +45,29 @@ impl Model for Host {
     ghost invariant = { λ h. IsHost h.parts.journal h.parts.volume h.threads.items h.history.items };
 }
 
+// The journal's part of a session, and for each zone the transaction that took it: none.
+fn journal_and_owners(
+    alloc: Global,
+    ring: Ring,
+    limit: u64,
+    zones: u16,
+    callers: u32,
+) -> Result<(JournalPart, Vec<u64>), NoMemory>
+    requires ring { ring ≡ new_ring.made ring.made_with limit }
+    requires sound { IsSound ring.made_with }
+    requires empty { ring.made_with.start ≡ 0 }
+    requires first { ring.made_with.first ≡ 1 }
+    requires places { zones + ring.made_with.maxlen ≤ 2 ^ 32 }
+    requires sequences { ring.made_with.sequence + limit + 1 < 2 ^ 32 }
+    ensures journal { IfOk result (λ r. r.0 ≡ made ring zones zones callers) }
+    ensures owners { IfOk result (λ r. r.1.items ≡ replicate zones 0) }
+{
+    let blocks = u32::from(zones);
+    let owners = vec![in alloc; 0; usize::from(zones)]?;
+    let journal = JournalPart::make(alloc, ring, limit, blocks, blocks, callers)?;
+    Ok((journal, owners))
+}
+
 impl Host {
     /// The host of a session that is opened: nothing was submitted, and no call has begun. The journal's superblock stands
     /// behind the volume's zones, `ring` is one of an empty log, and `pages` has no page. `limit` is how many requests may
@@ -68,21 +91,27 @@ impl Host {
         ensures { IfOk result (λ h. h ≡ host_made volume pages ring programs) }
     {
         let zones = volume.geometry().zones;
-        let blocks = u32::from(zones);
         let threads = programs.into_threads();
-        let callers = threads.len() as u32;
-        let parts = Parts {
-            journal: JournalPart::make(alloc, ring, limit, blocks, blocks, callers)?,
-            volume,
-            pages,
-            owners: vec![in alloc; 0; usize::from(zones)]?,
-        };
-        Ok(Host {
-            parts,
-            history: Vec::new(alloc),
-            cuts: Vec::new(alloc),
-            threads,
-        })
+        match journal_and_owners(alloc, ring, limit, zones, threads.len() as u32) {
+            Ok((journal, owners)) => Ok(Host {
+                parts: Parts {
+                    journal,
+                    volume,
+                    pages,
+                    owners,
+                },
+                history: Vec::new(alloc),
+                cuts: Vec::new(alloc),
+                threads,
+            }),
+            // By calls: drops that are written out in place are dear to prove.
+            Err(NoMemory) => {
+                drop(volume);
+                drop(pages);
+                drop(threads);
+                Err(NoMemory)
+            }
+        }
     }
 
     /// What was noted of calls.

@@ -1,5 +1,5 @@
 -- What is not built is told exactly of a line that begins with a word whose form is not built.
-use Rattle.std.proofs.Common.{◌≡◌, ℕ, ◌+◌, ◌-◌, ◌&&◌, ◌==◌, not, List, [], ◌∷◌, codes, length, Bool, true, false, Option, Some, None, Result, Ok, Err, refl, ap, ◌∙◌, nat_le, nat_lt, if◌then◌else◌, inl, inr}
+use Rattle.std.proofs.Common.{◌≡◌, ℕ, ◌+◌, ◌&&◌, ◌==◌, not, List, [], ◌∷◌, codes, length, Bool, true, false, Option, Some, None, Result, Ok, Err, refl, ap, ◌∙◌, nat_le, nat_lt, if◌then◌else◌, inl, inr}
 use Rattle.std.specs.Str.{bytes_eq}
 use Rattle.std.proofs.lemmas.Bool.{or_cases}
 use Rattle.std.proofs.lemmas.Slice.Eq.{bytes_eq-Decides}

@@ -1,5 +1,5 @@
 -- Every volume script that is read is well-formed: what holds of the reading is kept by each line.
-use Rattle.std.proofs.Common.{◌≡◌, ℕ, ◌+◌, ◌<◌, ◌≤◌, List, [], ◌∷◌, ◌++◌, length, Bool, true, false, Option, Some, None, Result, Ok, Err, refl, sym, subst, ap, ◌∙◌, arith, length-append, nat_le, nat_lt, not, ◌&&◌, ◌==◌, if◌then◌else◌, lit≤, IfOk, codes}
+use Rattle.std.proofs.Common.{◌≡◌, ℕ, ◌+◌, ◌<◌, ◌≤◌, List, [], ◌∷◌, ◌++◌, length, Bool, true, false, Option, Some, None, Result, Ok, Err, refl, sym, subst, ap, ◌∙◌, arith, length-append, nat_le, nat_lt, not, ◌&&◌, ◌==◌, lit≤, IfOk, codes}
 use borrow.Author.Tests.{ltb-true, leb-true}
 use Rattle.std.specs.Str.{bytes_eq}
 use Rattle.std.proofs.lemmas.Bool.{and_parts, eqb-true}

@@ -1,7 +1,8 @@
 //! Threads with their calls, event lines and `recover` lines.
-ghost use Rattle.std.specs.Prelude.{◌≡◌, ◌+◌, ◌<◌, ◌≤◌, ◌^◌, nat_le, true, map, length, IfOk};
+ghost use Rattle.std.specs.Prelude.{◌≡◌, ◌+◌, ◌++◌, ◌∷◌, ◌<◌, ◌≤◌, ◌^◌, [], nat_le, true, map, length, IfOk, OnOk};
 ghost use Rattle.script_grammar.specs.code.Readers.{IsReadAs};
 ghost use Rattle.call_grammar.specs.CallLines.{call_of};
+ghost use Rattle.call_grammar.specs.Programs.{pushed_last};
 ghost use Rattle.event_grammar.specs.EventLines.{event_of};
 ghost use Rattle.event_grammar.specs.SteerLines.{steers_of};
 ghost use Rattle.session_grammar.specs.code.Readers.{line_error};
@@ -10,7 +11,7 @@ ghost use Rattle.session_grammar.specs.Grammar.{kind_of, with_thread, thread_tak
 use crate::limits::{MOST_CALLS, MOST_RECOVERS, MOST_THREADS};
 use crate::reading::{Reading, Section};
 use blk_base::NoMemory;
-use call_grammar::{CallWord, Program, read_call};
+use call_grammar::{CallWord, LineList, Program, Programs, read_call};
 use event_grammar::{
     CoreEvent, EventFirst, EventLine, EventWord, SteerLine, read_event, read_steers,
 };
@@ -37,21 +38,29 @@ fn line_error(error: WordsError) -> LineError
     }
 }
 
+// Here and below a reading goes by a call: a drop that is written out in place is dear to prove.
 fn with_thread(alloc: Global, mut reading: Reading) -> Result<Reading, NoMemory>
     ensures { IfOk result (λ r. r ≡ with_thread reading) }
 {
-    reading.programs.push(Program::new(alloc))?;
-    Ok(reading)
+    match reading.programs.push(Program::new(alloc)) {
+        Ok(()) => Ok(reading),
+        Err(NoMemory) => {
+            drop(reading);
+            Err(NoMemory)
+        }
+    }
 }
 
 fn thread_taken(alloc: Global, reading: Reading, number: Option<u64>) -> Result<Reading, LineError>
     ensures { IsReadAs result (thread_taken reading number) }
 {
     let Some(number) = number else {
+        drop(reading);
         return Err(LineError::Kind(ScriptKind::Word));
     };
     let threads = reading.programs.len();
     if threads >= MOST_THREADS || number != threads as u64 + 1 {
+        drop(reading);
         return Err(LineError::Kind(ScriptKind::Number));
     }
     Ok(with_thread(alloc, reading)?)
@@ -67,6 +76,27 @@ pub fn thread_line(alloc: Global, reading: Reading, words: &[&[u8]]) -> Result<R
     thread_taken(alloc, reading, numeral(number))
 }
 
+fn push_line(alloc: Global, lines: &mut LineList, line: &[u8]) -> Result<(), NoMemory>
+    ensures { OnOk result (lines.new ≡ lines.old ++ line.now ∷ []) }
+{
+    lines.push(ByteList::of(line.to_vec(alloc)?))
+}
+
+fn put_call(
+    alloc: Global,
+    programs: &mut Programs,
+    lines: &mut LineList,
+    line: &[u8],
+    call: Call,
+) -> Result<(), NoMemory>
+    requires { 0 < length programs.old }
+    ensures programs { OnOk result (programs.new ≡ pushed_last programs.old call) }
+    ensures lines { OnOk result (lines.new ≡ lines.old ++ line.now ∷ []) }
+{
+    programs.push_call(call)?;
+    push_line(alloc, lines, line)
+}
+
 fn with_call(
     alloc: Global,
     mut reading: Reading,
@@ -76,9 +106,13 @@ fn with_call(
     requires { 0 < length reading.programs }
     ensures { IfOk result (λ r. r ≡ with_call reading line.now call) }
 {
-    reading.lines.push(ByteList::of(line.to_vec(alloc)?))?;
-    reading.programs.push_call(call)?;
-    Ok(reading)
+    match put_call(alloc, &mut reading.programs, &mut reading.lines, line, call) {
+        Ok(()) => Ok(reading),
+        Err(NoMemory) => {
+            drop(reading);
+            Err(NoMemory)
+        }
+    }
 }
 
 fn call_added(
@@ -91,6 +125,8 @@ fn call_added(
     ensures { IsReadAs result (call_added reading line.now call) }
 {
     if reading.programs.last_len() >= MOST_CALLS {
+        drop(reading);
+        drop(call);
         return Err(LineError::Kind(ScriptKind::Number));
     }
     Ok(with_call(alloc, reading, line, call)?)
@@ -161,15 +197,23 @@ fn with_event(mut reading: Reading, line: EventLine) -> Result<Reading, NoMemory
     ensures { IfOk result (λ r. r ≡ with_event reading line) }
 {
     let more = weight(reading.programs.len(), line) as u64;
-    reading.events.push(line)?;
-    reading.expanded += more;
-    Ok(reading)
+    match reading.events.push(line) {
+        Ok(()) => {
+            reading.expanded += more;
+            Ok(reading)
+        }
+        Err(NoMemory) => {
+            drop(reading);
+            Err(NoMemory)
+        }
+    }
 }
 
 fn event_added(reading: Reading, line: EventLine) -> Result<Reading, LineError>
     ensures { IsReadAs result (event_added reading line) }
 {
     if !event_fits(&reading, line) {
+        drop(reading);
         return Err(LineError::Kind(ScriptKind::Number));
     }
     Ok(with_event(reading, line)?)
@@ -193,14 +237,21 @@ fn with_recover(mut reading: Reading, line: SteerLine) -> Result<Reading, NoMemo
     ensures { IfOk result (λ r. r ≡ with_recover reading line) }
 {
     reading.section = Section::Recovery;
-    reading.recovers.push(line)?;
-    Ok(reading)
+    match reading.recovers.push(line) {
+        Ok(()) => Ok(reading),
+        Err(NoMemory) => {
+            drop(reading);
+            Err(NoMemory)
+        }
+    }
 }
 
 fn recover_added(reading: Reading, line: SteerLine) -> Result<Reading, LineError>
     ensures { IsReadAs result (recover_added reading line) }
 {
     if reading.recovers.len() >= MOST_RECOVERS {
+        drop(reading);
+        drop(line);
         return Err(LineError::Kind(ScriptKind::Number));
     }
     Ok(with_recover(reading, line)?)

@@ -98,6 +98,7 @@ fn of_kind(read: Result<Reading, ScriptKind>) -> Result<Reading, LineError>
     }
 }
 
+// A reading goes by a call: see `body`.
 fn later_line(
     alloc: Global,
     reading: Reading,
@@ -108,15 +109,19 @@ fn later_line(
     ensures { IsReadAs result (later_line reading line.now word (map (λ x. x.now) words.now)) }
 {
     let Some(word) = word else {
+        drop(reading);
         return Err(LineError::Kind(ScriptKind::Word));
     };
     if !is_built(word) {
+        drop(reading);
         return Err(LineError::Kind(ScriptKind::NotBuilt));
     }
     if !may_stand(&reading, word) {
+        drop(reading);
         return Err(LineError::Kind(ScriptKind::Order));
     }
     if stood_before(reading.told, word) {
+        drop(reading);
         return Err(LineError::Kind(ScriptKind::Twice));
     }
     line_taken(alloc, reading, line, word, words)
