@@ -49,7 +49,10 @@ fn volume_of(alloc: Global, image: Image) -> Result<Volume, TopFault>
     let Ok(mut device) = EpochDevice::make(alloc, image, setup) else {
         return Err(TopFault::NoMemory);
     };
-    match mount(alloc, &mut device) {
+    let mounted = mount(alloc, &mut device);
+    // By a call: a drop that is written out at each way out is dear to prove.
+    drop(device);
+    match mounted {
         Ok(mounted) => Ok(mounted.volume),
         Err(MountFault::Image(fault, block)) => Err(TopFault::Image(fault, block)),
         Err(MountFault::NoMemory) => Err(TopFault::NoMemory),
