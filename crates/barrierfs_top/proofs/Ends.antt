@@ -130,10 +130,19 @@ pub ends_early : (words : List (List ℕ)) (source : Stream) (fault : TopFault) 
 ends_early words source faults.BadWords cause c asked text told calm = absurd (no_command words c cause asked)
 ends_early words source (faults.Script line kind) cause c asked text told calm = ends_refused words source (faults.Script line kind) cause c asked text told
 ends_early words source (faults.Image kind block) cause c asked text told calm = ends_refused words source (faults.Image kind block) cause c asked text told
-ends_early words source faults.SourceFault cause c asked text told calm = absurd (calm cause)
+ends_early words source faults.SourceFault (d, this, rose) c asked text told calm = absurd (calm rose)
 ends_early words source faults.SinkFault cause c asked text told calm = absurd cause
 ends_early words source faults.TooLong (d, this, long) c asked text told calm =
     let most = front_read source.bytes source.bytes_after long.input text told long.read in
     let past : most_of d < length text = let l = long.long in omega arith in
     inl (sym (subst (λ (e : Command). expected e text ≡ Some faults.TooLong) (one_command words d c this asked) (long_input d text past)))
 ends_early words source faults.NoMemory cause c asked text told calm = inr refl
+
+-- an end that the input asks for, where that is a fault
+pub ends_with : (c : Command) (text : List ℕ) (fault : TopFault) (end : Option TopFault) → expected c text ≡ Some fault → EndsAs (expected c text) end → EndsAs (Some fault) end
+ends_with c text fault end is ends = subst (λ (wanted : Option TopFault). EndsAs wanted end) is ends
+
+-- no command ends well where its input has a fault
+pub not_well : (c : Command) (text : List ℕ) (fault : TopFault) → expected c text ≡ Some fault → EndsAs (expected c text) None → ⊥
+not_well c text fault is (inl well) = none-some fault (well ∙ is)
+not_well c text fault is (inr memory) = none-some faults.NoMemory memory

@@ -161,7 +161,7 @@ abbrev pub Cause : List (List ℕ) → Stream → TopFault → Type 0
 Cause words source faults.BadWords = task_of words ≡ None
 Cause words source (faults.Script line kind) = IsRefused words source (faults.Script line kind)
 Cause words source (faults.Image kind block) = IsRefused words source (faults.Image kind block)
-Cause words source faults.SourceFault = Rose source.faults source.faults_after
+Cause words source faults.SourceFault = (c : Command) × (task_of words ≡ Some (tasks.Read c)) × Rose source.faults source.faults_after
 Cause words source faults.SinkFault = ⊥
 Cause words source faults.TooLong = (c : Command) × (task_of words ≡ Some (tasks.Read c)) × IsTooLong c source.bytes source.bytes_after
 Cause words source faults.NoMemory = Unit {0}

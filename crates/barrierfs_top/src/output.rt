@@ -21,6 +21,7 @@ impl Output {
         ensures ok { OnOk result (Appends (W.taken out.old) (W.taken out.new) (output_bytes self.now)) }
         ensures front { OnErr result (AppendsFront (W.taken out.old) (W.taken out.new) (output_bytes self.now)) }
         ensures fault { OnErr result (Rose (W.faults out.old) (W.faults out.new)) }
+        ensures steady { OnOk result (W.faults out.new ≡ W.faults out.old) }
     {
         match self {
             Output::Text(text) => write_all(out, text.as_bytes()),
@@ -33,6 +34,7 @@ fn write_image<W: Sink>(out: &mut W, image: &Image) -> Result<(), SinkFault>
     ensures ok { OnOk result (Appends (W.taken out.old) (W.taken out.new) (concat image.now)) }
     ensures front { OnErr result (AppendsFront (W.taken out.old) (W.taken out.new) (concat image.now)) }
     ensures fault { OnErr result (Rose (W.faults out.old) (W.faults out.new)) }
+    ensures steady { OnOk result (W.faults out.new ≡ W.faults out.old) }
 {
     for b in 0..image.len() {
         write_all(out, image.block(b).as_slice())?;

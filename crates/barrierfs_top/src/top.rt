@@ -3,7 +3,7 @@ ghost use Rattle.std.specs.Prelude.{◌≡◌, ℕ, ◌≤◌, List, Some, None,
 ghost use Rattle.blk_base.specs.Streams.{Rose};
 ghost use Rattle.barrierfs_top.specs.Tasks.{most_of, task_of, CanDo};
 ghost use Rattle.barrierfs_top.specs.Text.{output_bytes};
-ghost use Rattle.barrierfs_top.specs.Top.{status_of, stream_of, IsReplay, IsBlocksReplay, IsBlocksFault, IsMade, Makes, IsInputFault, Does, Cause, Did, expected, EndsAs, top_fault, end_fault};
+ghost use Rattle.barrierfs_top.specs.Top.{status_of, stream_of, IsReplay, IsBlocksReplay, IsBlocksFault, IsMade, Makes, IsInputFault, IsUnread, Does, Cause, Did, expected, EndsAs, top_fault, end_fault};
 ghost use Rattle.barrierfs_top.specs.Promise.{WentOut, TellsRun};
 ghost use Rattle.std.specs.String.{string_bytes};
 ghost use Rattle.blk_base.specs.Image.{whole_blocks};
@@ -153,6 +153,7 @@ fn read<R: Source>(alloc: Global, command: Command, src: &mut R) -> Result<Print
     ensures ok { (words : List (List ℕ)) → task_of words ≡ Some (Task.Read command) →
         IfOk result (λ p. Does words (stream_of R.left R.faults src.old src.new) p.report (output_bytes p.output)) }
     ensures err { (words : List (List ℕ)) → task_of words ≡ Some (Task.Read command) → IfErr result (Cause words (stream_of R.left R.faults src.old src.new)) }
+    ensures steady { (IsErrOf result TopFault.SourceFault → ⊥) → R.faults src.new ≡ R.faults src.old }
 {
     match read_all(alloc, src, command.most()) {
         Ok(bytes) => print(alloc, command, bytes),
@@ -166,6 +167,8 @@ fn prepare<R: Source>(alloc: Global, words: &Words, src: &mut R) -> Result<Print
     ensures err { IfErr result (Cause words.now (stream_of R.left R.faults src.old src.new)) }
     ensures words { task_of words.now ≡ None → IsErrOf result TopFault.BadWords }
     ensures made { (s : Sizes) → task_of words.now ≡ Some (Task.Make s) → IfErr result (λ fault. fault ≡ TopFault.NoMemory) }
+    ensures unread { ((c : Command) → task_of words.now ≡ Some (Task.Read c) → ⊥) → IsUnread (stream_of R.left R.faults src.old src.new) }
+    ensures steady { (IsErrOf result TopFault.SourceFault → ⊥) → R.faults src.new ≡ R.faults src.old }
 {
     let Some(task) = words.task() else {
         return Err(TopFault::BadWords);
@@ -188,8 +191,12 @@ pub fn alone<R: Source, W: Sink>(alloc: Global, words: &Words, src: &mut R, out:
     ensures status { result.status ≡ status_of result.fault }
     ensures did { Did words.now (stream_of R.left R.faults src.old src.new) (stream_of W.taken W.faults out.old out.new) result.report result.fault }
     ensures words { task_of words.now ≡ None → result.fault ≡ Some TopFault.BadWords }
+    ensures unread { ((c : Command) → task_of words.now ≡ Some (Task.Read c) → ⊥) → IsUnread (stream_of R.left R.faults src.old src.new) }
     ensures complete { (c : Command) → task_of words.now ≡ Some (Task.Read c) → (text : List ℕ) → R.left src.old ≡ Some text → ¬ Rose (R.faults src.old) (R.faults src.new) → ¬ Rose (W.faults out.old) (W.faults out.new) → EndsAs (expected c text) result.fault }
+    ensures refused { (c : Command) → task_of words.now ≡ Some (Task.Read c) → (text : List ℕ) → R.left src.old ≡ Some text → ¬ Rose (R.faults src.old) (R.faults src.new) → (fault : TopFault) → expected c text ≡ Some fault → EndsAs (Some fault) result.fault }
     ensures made { (s : Sizes) → task_of words.now ≡ Some (Task.Make s) → ¬ Rose (W.faults out.old) (W.faults out.new) → EndsAs None result.fault }
+    ensures source_steady { (result.fault ≡ Some TopFault.SourceFault → ⊥) → R.faults src.new ≡ R.faults src.old }
+    ensures sink_steady { (result.fault ≡ Some TopFault.SinkFault → ⊥) → W.faults out.new ≡ W.faults out.old }
 {
     let printed = match prepare(alloc, words, src) {
         Ok(printed) => printed,

@@ -2,7 +2,7 @@ use Rattle.std.proofs.Common.{Some, ap, inr}
 use Rattle.barrierfs_top.specs.Text.{output_bytes}
 use Rattle.barrierfs_top.specs.declared.fault.TopFault.TheVariants as faults
 use Rattle.barrierfs_top.specs.Top.{stream_of}
-use Rattle.barrierfs_top.proofs.Ends.{ends_well, ends_early}
+use Rattle.barrierfs_top.proofs.Ends.{ends_well, ends_early, ends_with, not_well}
 use Rattle.barrierfs_top.proofs.Promised.{none_out, went_out, front_out, promised}
 use Rattle.barrierfs_top.proofs.top.alone.Goals as goal
 
@@ -55,3 +55,18 @@ returns-clause-did g c = (
 
 pub returns-in-Err-clause-made : goal.returns-in-Err-clause-made
 returns-in-Err-clause-made g c = λ sizes asked quiet. rw c.failed.ensures.fault (inr (ap Some (c.in-Err.ensures.made sizes asked)))
+
+pub returns-in-Err-clause-refused : goal.returns-in-Err-clause-refused
+returns-in-Err-clause-refused g c = λ command asked text told calm fault is.
+    let source = stream_of g.R.Source.left g.R.Source.faults c.args.src.now c.prepare.new.src in
+    rw c.failed.ensures.fault (ends_with command text fault (Some c.in-Err.fault) is (ends_early c.args.words.now source c.in-Err.fault c.in-Err.ensures.err command asked text told calm))
+
+pub returns-in-Ok-write-clause-refused : goal.returns-in-Ok-write-clause-refused
+returns-in-Ok-write-clause-refused g c = λ command asked text told calm fault is.
+    let source = stream_of g.R.Source.left g.R.Source.faults c.args.src.now c.prepare.new.src in
+    absurd (not_well command text fault is (ends_well c.args.words.now source c.in-Ok.printed.report (output_bytes c.in-Ok.printed.output) c.in-Ok.ensures.ok command asked text told))
+
+pub returns-clause-refused : goal.returns-clause-refused
+returns-clause-refused g c = λ command asked text told calm fault is.
+    let source = stream_of g.R.Source.left g.R.Source.faults c.args.src.now c.prepare.new.src in
+    absurd (not_well command text fault is (ends_well c.args.words.now source c.in-Ok.printed.report (output_bytes c.in-Ok.printed.output) c.in-Ok.ensures.ok command asked text told))
