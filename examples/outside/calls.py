@@ -1,0 +1,290 @@
+"""Calls on a volume, and the text of its tree, by docs/FORMATS.md: a second program, written from that page alone."""
+import math
+import re
+
+BLOCK = 1024
+LARGEST = 268_966_912
+MOST_SLOTS = 33_216
+MOST_LINKS = 250
+NAME_BYTES = 14
+FREE = None  # a slot of a directory that has no name
+
+
+class Node:
+    def __init__(self, number, is_directory):
+        self.number = number
+        self.is_directory = is_directory
+        self.links = 2 if is_directory else 1
+        self.size = 0  # of a file
+        self.blocks = {}  # of a file: its mapped blocks
+        self.names = {}  # of a directory: its entries
+        self.slots = [".", ".."]  # of a directory
+
+
+def directory_zones(slots):
+    blocks = math.ceil(slots / 64)
+    return blocks + (1 if blocks > 7 else 0)
+
+
+def file_zones(blocks):
+    indirect = any(7 <= at < 519 for at in blocks)
+    double = {(at - 519) // 512 for at in blocks if at >= 519}
+    return len(blocks) + indirect + (1 + len(double) if double else 0)
+
+
+class Refused(Exception):
+    """A call is refused, with this reply."""
+
+
+def names_of(path):
+    names = [] if path == "/" else path.split("/")[1:]
+    is_spelled = path.startswith("/") and all(re.fullmatch(r"[A-Za-z0-9._-]+", name) for name in names)
+    if not is_spelled or "." in names or ".." in names:
+        raise Refused("bad path")
+    return names
+
+
+class Volume:
+    def __init__(self, inodes, zones):
+        tables = 2 + math.ceil((inodes + 1) / 8192) + math.ceil((zones + 1) / 8192) + math.ceil(inodes / 32)
+        self.inodes, self.capacity = inodes, zones - tables
+        self.made = 1
+        self.root = Node(0, True)
+        self.nodes = {0: self.root}
+
+    def free_zones(self):
+        used = sum(directory_zones(len(n.slots)) if n.is_directory else file_zones(n.blocks) for n in self.nodes.values())
+        return self.capacity - used
+
+    def walk(self, names):
+        node = self.root
+        for name in names:
+            if not node.is_directory:
+                raise Refused("not a directory")
+            if len(name) > NAME_BYTES:
+                raise Refused("name too long")
+            if name not in node.names:
+                raise Refused("not found")
+            node = node.names[name]
+        return node
+
+    def parent(self, names):
+        node = self.walk(names[:-1])
+        if not node.is_directory:
+            raise Refused("not a directory")
+        if len(names[-1]) > NAME_BYTES:
+            raise Refused("name too long")
+        return node
+
+    def file(self, path):
+        node = self.walk(names_of(path))
+        if node.is_directory:
+            raise Refused("is a directory")
+        return node
+
+    def room_for_name(self, names, links=False, inode=False, zones=0):
+        """The directory of a new name, once nothing refuses it."""
+        if not names:
+            raise Refused("exists")
+        directory = self.parent(names)
+        if names[-1] in directory.names:
+            raise Refused("exists")
+        if links and directory.links >= MOST_LINKS:
+            raise Refused("too many links")
+        self.may_grow(directory, inode, zones)
+        return directory
+
+    def may_grow(self, directory, inode, zones):
+        slots = len(directory.slots)
+        has_slot = FREE in directory.slots
+        if slots >= MOST_SLOTS and not has_slot:
+            raise Refused("too big")
+        if inode and len(self.nodes) >= self.inodes:
+            raise Refused("no inode")
+        more = 0 if has_slot else directory_zones(slots + 1) - directory_zones(slots)
+        if more + zones > self.free_zones():
+            raise Refused("no space")
+
+    @staticmethod
+    def put_name(directory, name, node):
+        if FREE in directory.slots:
+            directory.slots[directory.slots.index(FREE)] = name
+        else:
+            directory.slots.append(name)
+        directory.names[name] = node
+
+    @staticmethod
+    def take_name(directory, name):
+        directory.slots[directory.slots.index(name)] = FREE
+        return directory.names.pop(name)
+
+    def new_node(self, is_directory):
+        node = Node(self.made, is_directory)
+        self.made += 1
+        self.nodes[node.number] = node
+        return node
+
+    def mkdir(self, path):
+        names = names_of(path)
+        directory = self.room_for_name(names, links=True, inode=True, zones=1)
+        self.put_name(directory, names[-1], self.new_node(True))
+        directory.links += 1
+
+    def create(self, path):
+        names = names_of(path)
+        directory = self.room_for_name(names, inode=True)
+        self.put_name(directory, names[-1], self.new_node(False))
+
+    def rmdir(self, path):
+        names = names_of(path)
+        if not names:
+            raise Refused("invalid")
+        node = self.walk(names)
+        if not node.is_directory:
+            raise Refused("not a directory")
+        if node.names:
+            raise Refused("not empty")
+        directory = self.walk(names[:-1])
+        self.take_name(directory, names[-1])
+        directory.links -= 1
+        del self.nodes[node.number]
+
+    def unlink(self, path):
+        names = names_of(path)
+        if not names:
+            raise Refused("invalid")
+        node = self.file(path)
+        self.take_name(self.walk(names[:-1]), names[-1])
+        node.links -= 1
+        if node.links == 0:
+            del self.nodes[node.number]
+
+    def link(self, path, other):
+        names_of(path)
+        names = names_of(other)
+        node = self.file(path)
+        if not names:
+            raise Refused("exists")
+        directory = self.parent(names)
+        if names[-1] in directory.names:
+            raise Refused("exists")
+        if node.links >= MOST_LINKS:
+            raise Refused("too many links")
+        self.may_grow(directory, inode=False, zones=0)
+        self.put_name(directory, names[-1], node)
+        node.links += 1
+
+    def put_bytes(self, path, offset, data):
+        node = self.file(path)
+        end = offset + len(data)
+        if end > LARGEST:
+            raise Refused("too big")
+        touched = range(offset // BLOCK, (end - 1) // BLOCK + 1)
+        if file_zones({*node.blocks, *touched}) - file_zones(node.blocks) > self.free_zones():
+            raise Refused("no space")
+        for at in touched:
+            body = bytearray(node.blocks.get(at, bytes(BLOCK)))
+            low, high = max(offset, at * BLOCK), min(end, (at + 1) * BLOCK)
+            body[low - at * BLOCK : high - at * BLOCK] = data[low - offset : high - offset]
+            node.blocks[at] = bytes(body)
+        node.size = max(node.size, end)
+
+    def write(self, path, offset, length, value):
+        self.put_bytes(path, int(offset), bytes([int(value, 16)]) * int(length))
+
+    def bytes(self, path, offset, digits):
+        self.put_bytes(path, int(offset), bytes.fromhex(digits))
+
+    def truncate(self, path, size):
+        node, size = self.file(path), int(size)
+        if size > LARGEST:
+            raise Refused("too big")
+        node.blocks = {at: body for at, body in node.blocks.items() if at * BLOCK < size}
+        last, within = size // BLOCK, size % BLOCK
+        if within and last in node.blocks:
+            node.blocks[last] = node.blocks[last][:within] + bytes(BLOCK - within)
+        node.size = size
+
+    def read(self, path, offset, length):
+        node, at = self.file(path), int(offset)
+        end = min(at + int(length), node.size)
+        found = b""
+        while at < end:
+            to = min(end, (at // BLOCK + 1) * BLOCK)
+            body = node.blocks.get(at // BLOCK, bytes(BLOCK))
+            found += body[at % BLOCK : at % BLOCK + to - at]
+            at = to
+        return "bytes " + (runs(found) or "-")
+
+    def list(self, path):
+        node = self.walk(names_of(path))
+        if not node.is_directory:
+            raise Refused("not a directory")
+        return "names " + (" ".join(sorted(node.names)) or "-")
+
+    def stat(self, path):
+        node = self.walk(names_of(path))
+        kind, size = ("dir", 16 * len(node.slots)) if node.is_directory else ("file", node.size)
+        return f"{kind} size {size} links {node.links}"
+
+    def of_node(self, path):
+        self.walk(names_of(path))
+
+    fsync = fdatasync = fbarrier = fdatabarrier = of_node
+
+    def sync(self):
+        pass
+
+    def reply(self, line):
+        """Does the call of this line, and gives its reply."""
+        word, *rest = line.split(" ")
+        try:
+            return getattr(self, word)(*rest) or "ok"
+        except Refused as refused:
+            return str(refused)
+
+    def rows(self):
+        """The nodes of the tree in the order of its text: kind, path, node, and the first path of a file."""
+        found, first = [], {}
+
+        def enter(node, path):
+            found.append(("dir", path, node, path))
+            for name, child in sorted(node.names.items()):
+                below = f"{path.rstrip('/')}/{name}"
+                if child.is_directory:
+                    enter(child, below)
+                else:
+                    kind = "link" if child.number in first else "file"
+                    first.setdefault(child.number, below)
+                    found.append((kind, below, child, first[child.number]))
+
+        enter(self.root, "/")
+        return found
+
+    def text(self):
+        lines = []
+        for kind, path, node, first in self.rows():
+            if kind == "dir":
+                lines.append(f"dir {path}")
+            elif kind == "link":
+                lines.append(f"link {path} {first}")
+            else:
+                lines.append(f"file {path} size {node.size} links {node.links}")
+                lines += [f"block {at} {runs(body)}" for at, body in shown(node)]
+        return lines
+
+
+def shown(node):
+    """The mapped blocks of a file below its size, and their bytes up to it."""
+    return [(at, body[: node.size - at * BLOCK]) for at, body in sorted(node.blocks.items()) if at * BLOCK < node.size]
+
+
+def runs(data):
+    found, at = [], 0
+    while at < len(data):
+        end = at
+        while end < len(data) and data[end] == data[at]:
+            end += 1
+        found.append(f"{end - at}x{data[at]:02x}")
+        at = end
+    return "+".join(found)
