@@ -3,4 +3,5 @@ pub mod Image
 pub mod Members
 pub mod Streams
 pub mod Memory
+pub mod code
 pub mod laws

@@ -1,2 +1,3 @@
 -- Laws, their lemmas and the words of lemmas.
 pub mod Members
+pub mod Filling

@@ -1,5 +1,5 @@
 //! Blocks of `BLOCK_BYTES` bytes.
-ghost use Rattle.std.specs.Prelude.{◌≡◌, ℕ, ◌<◌, List, length, slice_set, MatchOption, IsSome, ◌↔◌, IfSome};
+ghost use Rattle.std.specs.Prelude.{◌≡◌, ℕ, ◌<◌, List, length, slice_set, MatchOption, IsSome, ◌↔◌, IfSome, true};
 ghost use Rattle.blk_base.specs.Block.{filled};
 
 use std::marker::Model;
@@ -73,10 +73,29 @@ impl Block {
         self.bytes[at] = v;
     }
 
+    /// Whether all bytes are 0.
+    pub fn is_zeros(&self) -> bool
+        ensures { (result ≡ true) ↔ (self.now ≡ filled 0) }
+    {
+        are_zeros(&self.bytes)
+    }
+
     /// The same bytes again. It takes no memory.
     pub fn copy(&self) -> Block
         ensures { result ≡ self.now }
     {
         Block { bytes: self.bytes }
     }
+}
+
+// Whether a block's bytes are all 0. It goes to the end, which is compiled to sixteen bytes at a time.
+pub(crate) fn are_zeros(bytes: &[u8]) -> bool
+    requires { length bytes.now ≡ BLOCK_BYTES }
+    ensures { (result ≡ true) ↔ (bytes.now ≡ filled 0) }
+{
+    let mut most = 0;
+    for byte in bytes {
+        most = most.max(*byte);
+    }
+    most == 0
 }

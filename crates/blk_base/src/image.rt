@@ -1,25 +1,33 @@
 //! Images: blocks numbered from 0.
-ghost use Rattle.std.specs.Prelude.{◌≡◌, ℕ, ◌+◌, ◌<◌, ◌≤◌, List, length, IfOk, slice_get, slice_set, Some, vec_len, ◌/◌, ◌==◌, ◌^◌};
+ghost use Rattle.std.specs.Prelude.{◌≡◌, ℕ, ◌+◌, ◌<◌, ◌≤◌, List, length, take, IfOk, slice_get, slice_set, Some, true, vec_len, ◌/◌, ◌==◌, ◌^◌};
+ghost use Rattle.blk_base.specs.Block.{filled};
 ghost use Rattle.blk_base.specs.Image.{zeros, whole_blocks, bytes_at};
 
+use crate::block::are_zeros;
 use crate::{BLOCK_BYTES, Block, NoMemory};
 use std::alloc::Global;
 use std::marker::Model;
 
-/// A list of blocks, numbered from 0.
+/// A list of blocks, numbered from 0. One that is not seen to be zeros has a body of its own, for which there is room from
+/// the first; only what is written takes memory of the machine.
 #[derive(Drop, Debug)]
 pub struct Image {
-    blocks: Vec<Block>,
+    // For each block the place of its body.
+    places: Vec<u32>,
+    // Zeros, and the bodies of blocks.
+    bodies: Vec<Block>,
 }
 
 impl Model for Image {
     ghost use Rattle.std.specs.Prelude.{ℕ, List, ◌^◌, ◌<◌, vec_len};
+    ghost use Rattle.std.specs.Vec.{vec_capacity};
+    ghost use Rattle.blk_base.specs.code.Bodies.{blocks_of, IsKept};
 
     ghost Value = { List (List ℕ) };
 
-    ghost view = { λ i. i.blocks.items };
+    ghost view = { λ i. blocks_of i.bodies.items i.places.items };
 
-    ghost invariant = { λ i. vec_len i.blocks < 2 ^ 32 };
+    ghost invariant = { λ i. IsKept i.bodies.items i.places.items × (vec_len i.places < 2 ^ 32) × (vec_len i.places < vec_capacity i.bodies) };
 }
 
 impl Image {
@@ -27,11 +35,10 @@ impl Image {
     pub fn zeroed(alloc: Global, blocks: u32) -> Result<Image, NoMemory>
         ensures { IfOk result (λ i. i ≡ zeros blocks) }
     {
-        let mut list = Vec::with_capacity(alloc, blocks as usize)?;
-        for _ in 0..blocks {
-            list.push_reserved(Block::fill(0));
-        }
-        Ok(Image { blocks: list })
+        let places = Vec::from_elem(alloc, 0, blocks as usize)?;
+        let mut bodies = Vec::with_capacity(alloc, blocks as usize + 1)?;
+        bodies.push_reserved(Block::fill(0));
+        Ok(Image { places, bodies })
     }
 
     /// The blocks of these bytes. A last part that is no whole block is left out. 2^32 blocks and more are refused as
@@ -43,73 +50,84 @@ impl Image {
         if blocks > u32::MAX as usize {
             return Err(NoMemory);
         }
-        let mut list = Vec::with_capacity(alloc, blocks)?;
-        for b in 0..blocks {
-            list.push_reserved(block_at(bytes, b));
+        let mut image = Image::zeroed(alloc, blocks as u32)?;
+        for b in 0..blocks as u32 {
+            let body = block_at(bytes, b as usize);
+            if !are_zeros(body) {
+                image.put(b, Block::of(body));
+            }
         }
-        Ok(Image { blocks: list })
-    }
-
-    /// The image of these blocks, which are not copied.
-    pub fn of_blocks(blocks: Vec<Block>) -> Image
-        requires { vec_len blocks < 2 ^ 32 }
-        ensures { result ≡ blocks.items }
-    {
-        Image { blocks }
+        Ok(image)
     }
 
     pub fn len(&self) -> u32
         ensures { result ≡ length self.now }
     {
-        self.blocks.len() as u32
+        self.places.len() as u32
     }
 
     pub fn is_empty(&self) -> bool
         ensures { result ≡ (length self.now == 0) }
     {
-        self.blocks.is_empty()
+        self.places.is_empty()
     }
 
     pub fn block(&self, b: u32) -> &Block
         requires { b < length self.now }
         ensures { slice_get self.now b ≡ Some result.now }
     {
-        &self.blocks[b as usize]
+        &self.bodies[self.places[b as usize] as usize]
     }
 
-    /// Writes the body of block `b`.
+    /// Whether block `b` has no body of its own, and so is zeros.
+    fn is_zeros(&self, b: u32) -> bool
+        requires { b < length self.now }
+        ensures { result ≡ true → slice_get self.now b ≡ Some (filled 0) }
+    {
+        self.places[b as usize] == 0
+    }
+
+    /// Writes the body of block `b`. It takes no memory.
     pub fn put(&mut self, b: u32, body: Block)
         requires { b < length self.old }
         ensures { self.new ≡ slice_set self.old b body }
     {
-        self.blocks[b as usize] = body;
+        let place = self.places[b as usize];
+        if place != 0 {
+            self.bodies[place as usize] = body;
+        } else if !body.is_zeros() {
+            self.places[b as usize] = self.bodies.len() as u32;
+            self.bodies.push_reserved(body);
+        }
+    }
+
+    /// The first so many blocks. Those without a body of their own take no time.
+    pub fn front(&self, alloc: Global, blocks: u32) -> Result<Image, NoMemory>
+        requires { blocks ≤ length self.now }
+        ensures { IfOk result (λ i. i ≡ take blocks self.now) }
+    {
+        let mut image = Image::zeroed(alloc, blocks)?;
+        for b in 0..blocks {
+            if !self.is_zeros(b) {
+                image.put(b, self.block(b).copy());
+            }
+        }
+        Ok(image)
     }
 
     pub fn copy(&self, alloc: Global) -> Result<Image, NoMemory>
         ensures { IfOk result (λ i. i ≡ self.now) }
     {
-        Ok(Image {
-            blocks: copy_of(alloc, &self.blocks)?,
-        })
+        self.front(alloc, self.len())
     }
 }
 
 // The bytes of block `b`.
-fn block_at(bytes: &[u8], b: usize) -> Block
+fn block_at(bytes: &[u8], b: usize) -> &[u8]
     requires { b < length bytes.now / BLOCK_BYTES }
-    ensures { result ≡ bytes_at bytes.now b }
+    ensures value { result.now ≡ bytes_at bytes.now b }
+    ensures len { length result.now ≡ BLOCK_BYTES }
 {
     let start = BLOCK_BYTES * b;
-    Block::of(&bytes[start..start + BLOCK_BYTES])
-}
-
-fn copy_of(alloc: Global, blocks: &[Block]) -> Result<Vec<Block>, NoMemory>
-    ensures items { IfOk result (λ v. v.items ≡ blocks.now) }
-    ensures len { IfOk result (λ v. vec_len v ≡ length blocks.now) }
-{
-    let mut list = Vec::with_capacity(alloc, blocks.len())?;
-    for block in blocks {
-        list.push_reserved(block.copy());
-    }
-    Ok(list)
+    &bytes[start..start + BLOCK_BYTES]
 }

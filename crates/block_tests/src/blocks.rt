@@ -146,13 +146,43 @@ fn makes_images(rt: HostRuntime) -> Result<(), NoMemory> {
     Ok(())
 }
 
+// Blocks are written over, also with zeros, and the last of them while there are as many bodies as blocks.
+#[test]
+fn writes_over_blocks(rt: HostRuntime) -> Result<(), NoMemory> {
+    let mut image = Image::zeroed(rt.alloc(), 3)?;
+    image.put(2, Block::fill(7));
+    image.put(0, Block::fill(5));
+    image.put(2, Block::fill(0));
+    image.put(1, Block::fill(0));
+    image.put(2, Block::fill(9));
+    image.put(1, Block::fill(6));
+    image.put(0, Block::fill(0));
+    assert!(rt; is_filled(&image, &[0, 6, 9]));
+    assert!(rt; is_filled(&image.front(rt.alloc(), 2)?, &[0, 6]));
+    assert!(rt; is_filled(&image.front(rt.alloc(), 0)?, &[]));
+    assert!(rt; is_filled(&image.copy(rt.alloc())?, &[0, 6, 9]));
+    Ok(())
+}
+
+// One byte of 1,024 that is not 0, at each end.
+#[test]
+fn sees_zeros(rt: HostRuntime) {
+    assert!(rt; Block::fill(0).is_zeros());
+    for at in [0, 511, 1023] {
+        let mut block = Block::fill(0);
+        block.set(at, 1);
+        assert!(rt; !block.is_zeros());
+    }
+}
+
 // What is left behind the last whole block is no block.
 #[test]
 fn cuts_bytes_into_blocks(rt: HostRuntime) -> Result<(), Fail> {
     let mut bytes = vec![in rt.alloc(); 1; 1024]?;
     bytes.extend_from_slice(&[2; 1024])?;
+    bytes.extend_from_slice(&[0; 1024])?;
     bytes.extend_from_slice(&[3; 1023])?;
-    assert!(rt; is_filled(&Image::from_bytes(rt.alloc(), &bytes)?, &[1, 2]));
+    assert!(rt; is_filled(&Image::from_bytes(rt.alloc(), &bytes)?, &[1, 2, 0]));
     Ok(())
 }
 

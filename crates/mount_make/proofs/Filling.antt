@@ -1,5 +1,5 @@
 -- Images that are filled block by block.
-use Rattle.std.specs.Prelude.{◌≡◌, ℕ, suc, ◌+◌, ◌-◌, ◌<◌, List, ◌∷◌, map, replicate, length, slice_get, slice_set, Some}
+use Rattle.std.specs.Prelude.{◌≡◌, ℕ, suc, ◌+◌, ◌-◌, ◌<◌, ◌≤◌, List, ◌∷◌, map, replicate, length, slice_get, slice_set, Some}
 use Rattle.std.specs.List.{range_with_len}
 use Rattle.std.proofs.Common.{sym, ap, subst, ◌∙◌, ⊎_elim, arith, length-set, length-append}
 use Rattle.std.proofs.lemmas.Bool.{cases_order}
@@ -9,10 +9,12 @@ use Rattle.blk_base.specs.Block.{filled}
 use Rattle.blk_base.specs.Image.{zeros}
 use Rattle.blk_base.specs.laws.Members.{slice_get-in_range, slice_get-set_same, slice_get-set_other, slice_get-append_left, slice_get-append_right, slice_get-replicate, same_by_slice_get}
 use Rattle.minix_layout.specs.declared.division.Geometry.{Geometry}
+use Rattle.minix_layout.specs.Geometry.{IsSound}
 use Rattle.journal_blocks.specs.Super.{super_block as journal_super}
 use Rattle.journal_replay.specs.laws.Attempts.{body_at-some}
 use Rattle.mount_make.specs.Made.{new_journal, made_block, made_volume, made_image}
 use Rattle.mount_make.specs.code.Making.{IsFilled}
+use Rattle.mount_make.proofs.NewBlocks.{made_other}
 
 get_mapped : (f : ℕ → List ℕ) (n i : ℕ) → i < n → slice_get (map f (range_with_len 0 n)) i ≡ Some (f i)
 get_mapped f n i low =
@@ -55,6 +57,27 @@ get_blank g journal b low high =
     let k = b - (g.zones + 1) in
     let here : b - length (made_volume g) ≡ suc k = omega (arith, size, low) in
     slice_get-append_right (made_volume g) rest b (omega (arith, size, low)) ∙ (ap (λ (k : ℕ). slice_get rest k) here ∙ slice_get-replicate (journal - 1) k (filled 0) (omega (arith, low, high)))
+
+-- behind the root's zone all are zeros
+pub filled_on : (g : Geometry) → IsSound g → (n : ℕ) (image : List (List ℕ)) → g.zones ≤ n → IsFilled (made_block g) (g.first + 1) (zeros n) image → IsFilled (made_block g) g.zones (zeros n) image
+filled_on g sound n image room is =
+    let some = sound.some_zone in
+    let tables = sound.tables_below in
+    record {
+      size = is.size;
+      filled = λ b low.
+          ⊎_elim
+          (λ here. is.filled b (omega (arith, here)))
+          (λ apart.
+          ⊎_elim
+          (λ less. is.filled b (omega (arith, less)))
+          (λ more.
+          is.others b (omega (arith, more)) ∙ (slice_get-replicate n b (filled 0) (omega (arith, low, room))
+          ∙ ap Some (sym (made_other g sound b (omega (arith, more, tables)) (λ e. omega (arith, more, tables, e)) (λ e. omega (arith, more, e))))))
+          apart)
+          (cases_order b g.first);
+      others = λ b high. is.others b (omega (arith, high, some));
+    }
 
 pub made_is : (g : Geometry) (journal : ℕ) (image : List (List ℕ)) → 0 < journal → IsFilled (made_block g) g.zones (zeros (g.zones + journal)) image → slice_set image g.zones (journal_super (new_journal journal)) ≡ made_image g journal
 made_is g journal image some is =

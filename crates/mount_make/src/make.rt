@@ -1,5 +1,5 @@
 //! Making: an image with a new volume and an empty journal.
-ghost use Rattle.std.specs.Prelude.{◌≡◌, ◌≢◌, ◌<◌, ◌≤◌, ◌⊎◌, ◌↔◌, length, Err, IfOk, IfSome};
+ghost use Rattle.std.specs.Prelude.{◌≡◌, ◌≢◌, ◌+◌, ◌<◌, ◌≤◌, ◌⊎◌, ◌↔◌, length, Err, IfOk, IfSome};
 ghost use Rattle.minix_layout.specs.Geometry.{IsSound, geometry_made};
 ghost use Rattle.minix_layout.specs.Words.{first_zone};
 ghost use Rattle.mount_make.specs.Made.{new_journal, made_block, made_image};
@@ -58,13 +58,13 @@ fn image_of(alloc: Global, g: &Geometry, journal: u32) -> Option<Image>
     Some(image)
 }
 
-// Writes the blocks of a new volume.
+// Writes the blocks of a new volume, up to the root's zone. Those behind it are zeros.
 fn put_volume(image: &mut Image, g: &Geometry)
     requires sound { IsSound g.now }
     requires room { g.now.zones ≤ length image.old }
-    ensures { IsFilled (made_block g.now) g.now.zones image.old image.new }
+    ensures { IsFilled (made_block g.now) (g.now.first + 1) image.old image.new }
 {
-    for block in 0..u32::from(g.zones) {
+    for block in 0..u32::from(g.first) + 1 {
         image.put(block, volume_block(g, block));
     }
 }

@@ -1,6 +1,5 @@
 //! The volume in use of an image that was made.
-ghost use Rattle.std.specs.Prelude.{◌≡◌, ◌≤◌, ◌<◌, IfOk, length};
-ghost use Rattle.session_opening.specs.code.Copying.{AreCopied};
+ghost use Rattle.std.specs.Prelude.{◌≡◌, ◌<◌, IfOk};
 ghost use Rattle.minix_layout.specs.Geometry.{IsSound};
 ghost use Rattle.mount_make.specs.Made.{made_image};
 ghost use Rattle.made_sessions.specs.MadeSessions.{made_now};
@@ -11,18 +10,6 @@ use made_sessions::sessions_on_made_images_keep_rules_and_trees;
 use minix_layout::Geometry;
 use std::alloc::Global;
 use volume_now::new_volume;
-
-// The first `count` blocks.
-fn front(alloc: Global, image: &Image, count: u32) -> Result<Image, NoMemory>
-    requires { count ≤ length image.now }
-    ensures { IfOk result (λ copy. AreCopied count count image.now copy) }
-{
-    let mut copy = Image::zeroed(alloc, count)?;
-    for b in 0..count {
-        copy.put(b, image.block(b).copy());
-    }
-    Ok(copy)
-}
 
 /// The volume of an image that was made, in use.
 pub fn made_volume(
@@ -38,7 +25,7 @@ pub fn made_volume(
 {
     sessions_on_made_images_keep_rules_and_trees();
     let mut parts = new_volume(alloc, *g)?;
-    parts.blocks = front(alloc, image, g.zones.into())?;
+    parts.blocks = image.front(alloc, g.zones.into())?;
     let volume = PlainVolume::of(alloc, parts)?;
     Ok(volume)
 }

@@ -5,7 +5,6 @@ pub mod Visited
 pub mod UnmetMarks
 pub mod WalkSteps
 pub mod Bodies
-pub mod DeviceReads
 pub mod ZoneNumbers
 pub mod ZoneScans
 pub mod AlikeLaws

@@ -132,14 +132,14 @@ fn read_blocks<D: OrderedDev>(alloc: Global, dev: &mut D, blocks: u16) -> Result
     ensures reads { OnlyReads (D.seen (D.state dev.old)) (D.seen (D.state dev.new)) }
     ensures no_fault { D.sound (D.state dev.old) → (D.seen (D.state dev.new)).faults ≡ (D.seen (D.state dev.old)).faults }
 {
-    let mut bodies = Vec::with_capacity(alloc, blocks.into())?;
+    let mut image = Image::zeroed(alloc, blocks.into())?;
     for block in 0..u32::from(blocks) {
         let Ok(body) = dev.read(block) else {
             return Err(VolumeFault::ReadFault);
         };
-        bodies.push_reserved(body);
+        image.put(block, body);
     }
-    Ok(Image::of_blocks(bodies))
+    Ok(image)
 }
 
 // A node with the bodies of its file.

@@ -1,4 +1,6 @@
-use Rattle.std.proofs.Common.{◌≡◌, ◌≤◌, take, vec_len, vec_capacity}
+use Rattle.std.proofs.Common.{◌≡◌}
+use Rattle.blk_base.specs.Block.{filled}
+use Rattle.blk_base.specs.laws.Filling.{filled_to}
 use Rattle.order_model.specs.Steps.{OnlyReads}
 use Rattle.volume_ops.proofs.volume.read_blocks.Given as goal
 
@@ -8,9 +10,7 @@ invariant-loop-block g l =
     record {
       valid : d.valid (d.state l.dev);
       reads : OnlyReads (d.seen (d.state l.fn.dev)) (d.seen (d.state l.dev));
-      read : l.bodies.items ≡ take l.block (d.seen (d.state l.fn.dev)).surface;
-      len : vec_len l.bodies ≡ l.block;
-      room : l.blocks ≤ vec_capacity l.bodies;
+      read : l.image ≡ filled_to (filled 0) l.blocks (d.seen (d.state l.fn.dev)).surface l.block;
       sound : d.sound (d.state l.fn.dev) → d.sound (d.state l.dev);
       no_fault : d.sound (d.state l.fn.dev) → (d.seen (d.state l.dev)).faults ≡ (d.seen (d.state l.fn.dev)).faults;
     }

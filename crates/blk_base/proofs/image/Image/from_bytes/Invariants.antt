@@ -1,11 +1,8 @@
-use Rattle.std.proofs.Common.{◌≡◌, ◌≤◌, vec_len, vec_capacity, map}
-use Rattle.std.specs.List.{range_with_len}
-use Rattle.blk_base.specs.Image.{bytes_at}
+use Rattle.std.proofs.Common.{◌≡◌}
+use Rattle.blk_base.specs.Block.{filled}
+use Rattle.blk_base.specs.Image.{whole_blocks}
+use Rattle.blk_base.specs.laws.Filling.{filled_to}
 use Rattle.blk_base.proofs.image.Image.from_bytes.Given as goal
 
 abbrev pub invariant-loop-b : goal.invariant-loop-b
-invariant-loop-b l = record {
-  items : l.list.items ≡ map (bytes_at l.bytes) (range_with_len 0 l.b);
-  len : vec_len l.list ≡ l.b;
-  room : l.blocks ≤ vec_capacity l.list;
-}
+invariant-loop-b l = record { image : l.image ≡ filled_to (filled 0) l.blocks (whole_blocks l.bytes) l.b }

@@ -1,5 +1,6 @@
 use Rattle.std.proofs.Common.{length, sym, ap, subst, ◌∙◌, arith, rules}
 use Rattle.circular_buffer.specs.Buffer.{Buffer}
+use Rattle.blk_base.specs.code.Bodies.{blocks_of}
 use Rattle.order_model.specs.declared.completion.Completion.{Completion}
 use Rattle.order_model.specs.declared.history.DeviceRecord.{DeviceRecord}
 use Rattle.device_epochs.specs.code.Newest.{CacheState}
@@ -19,7 +20,7 @@ invariant_of-result-2 c =
     let cache = c.in_ok-cache.ensures in
     let room = ap (λ (b : Buffer Completion). b.capacity) waiting in
     let items = ap (λ (b : Buffer Completion). b.items) waiting in
-    let to = opened_to c.args.image c.of_image-base.result.items c.image.inside.blocks.items c.args.setup c.len.result
+    let to = opened_to c.args.image c.of_image-base.result.items (blocks_of c.image.inside.bodies.items c.image.inside.places.items) c.args.setup c.len.result
     c.in_ok-origins.origins.items c.in_ok-empty_record.field-0 c.in_ok-with_capacity.field-0.items c.in_ok-make.field-0 c.in_ok-cache.cache.items
     c.of_image-base.ensures c.image.view_is (c.len.ensures ∙ ap length (sym c.image.view_is)) c.in_ok-origins.ensures trace items c.in_ok-make.ensures (ap (λ (s : CacheState). s.items) cache) in
     record {

@@ -1,0 +1,2 @@
+-- Words of the code.
+pub mod Bodies

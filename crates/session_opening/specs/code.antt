@@ -1,2 +1,0 @@
--- How an image is copied block by block.
-pub mod Copying
