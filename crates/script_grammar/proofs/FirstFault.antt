@@ -1,5 +1,5 @@
 -- A text is refused at its first faulty line, and at no other.
-use Rattle.std.proofs.Common.{◌≡◌, ℕ, List, Bool, false, Option, Some, None, Err, refl}
+use Rattle.std.proofs.Common.{◌≡◌, ℕ, List, false, Option, Some, None, Err, refl}
 use Rattle.script_words.specs.Spelling.{lines_of}
 use Rattle.script_words.proofs.FirstFault.{is_first_fault, first_fault_told}
 use Rattle.script_grammar.specs.declared.kinds.ScriptKind.{ScriptKind}

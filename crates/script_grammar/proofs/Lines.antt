@@ -1,5 +1,5 @@
 -- A line that the reader stops at.
-use Rattle.std.proofs.Common.{◌≡◌, ℕ, ◌<◌, List, length, get_or, drop, map, Option, Result, Err}
+use Rattle.std.proofs.Common.{ℕ, ◌<◌, List, length, get_or, drop, map, Option, Result, Err}
 use Rattle.script_words.specs.LineByLine.{line_read, lines_read}
 use Rattle.script_words.proofs.LineByLine.{stops}
 use Rattle.script_grammar.specs.declared.kinds.ScriptKind.{ScriptKind}

@@ -1,5 +1,5 @@
 -- The lines of a text that is accepted say its script.
-use Rattle.std.proofs.Common.{◌≡◌, ℕ, ◌+◌, ◌-◌, ◌^◌, ◌<◌, ◌≤◌, Bool, true, false, ◌&&◌, ◌||◌, List, [], ◌∷◌, ◌++◌, length, codes, decimal, map, Option, Some, None, Result, Ok, Err, is_some, nat_le, nat_lt, unwrap_or, refl, sym, ap, ap₂, ◌∙◌, subst, arith, append_assoc, append-nil, if◌then◌else◌}
+use Rattle.std.proofs.Common.{◌≡◌, ℕ, ◌-◌, ◌^◌, ◌<◌, ◌≤◌, Bool, true, false, ◌&&◌, ◌||◌, List, [], ◌∷◌, ◌++◌, length, codes, decimal, map, Option, Some, None, Result, Ok, Err, is_some, nat_le, nat_lt, unwrap_or, refl, sym, ap, ap₂, ◌∙◌, subst, arith, append_assoc, append-nil, if◌then◌else◌}
 use Rattle.std.specs.List.{filter}
 use Rattle.std.specs.Option.{option_map}
 use Rattle.std.proofs.lemmas.Bool.{and_parts, leb-true}
@@ -12,7 +12,6 @@ use Rattle.blk_base.specs.laws.Members.{each_push}
 use Rattle.order_model.specs.declared.request.Request.{Request}
 use Rattle.script_words.specs.declared.limits.TheConstants.{MOST_REPEATS, PLACES}
 use Rattle.script_grammar.specs.declared.limits.TheConstants.{DEFAULT_DEPTH, DEFAULT_QUEUE, MOST_BLOCKS, MOST_DEPTH, MOST_QUEUE, MOST_STEPS}
-use Rattle.script_grammar.specs.declared.kinds.ScriptKind.{ScriptKind}
 use Rattle.script_grammar.specs.declared.reading.Reading.{Reading}
 use Rattle.script_grammar.specs.declared.reading.Section.{Section}
 use Rattle.script_grammar.specs.declared.reading.Section.TheVariants as sections

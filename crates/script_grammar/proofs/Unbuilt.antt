@@ -1,11 +1,8 @@
 -- What is not built is told exactly of a line that begins with a word whose form is not built.
-use Rattle.std.proofs.Common.{◌≡◌, ℕ, ◌-◌, ◌||◌, ◌==◌, not, List, [], ◌∷◌, codes, take, Bool, true, false, Option, Some, None, Result, Ok, Err, refl, ap, ◌∙◌, arith, nat_le, slice_get, if◌then◌else◌, inl, inr, ◌&&◌}
+use Rattle.std.proofs.Common.{◌≡◌, ℕ, ◌||◌, not, List, [], ◌∷◌, codes, Bool, true, false, Option, Some, None, Result, Ok, Err, refl, ap, nat_le, if◌then◌else◌, ◌&&◌}
 use Rattle.std.specs.Str.{bytes_eq}
 use Rattle.std.specs.Option.{option_map, option_or}
-use Rattle.std.specs.List.{onto_first}
-use Rattle.std.proofs.lemmas.Bool.{or_cases, or_left, or_right, eqb-true}
 use Rattle.std.proofs.lemmas.Slice.Eq.{bytes_eq-Decides}
-use Rattle.std.proofs.lemmas.Option.{slice_get_within}
 use Rattle.script_grammar.specs.declared.limits.TheConstants.{MOST_BLOCKS}
 use Rattle.script_grammar.specs.declared.kinds.ScriptKind.{ScriptKind}
 use Rattle.script_grammar.specs.declared.kinds.ScriptKind.TheVariants as kinds
@@ -31,12 +28,6 @@ use Rattle.script_grammar.proofs.FirstFault.{tells_first_fault}
 -- ---- words
 
 -- which test gave the word
-chose_volume : (d b v : Bool) → (if d then Some first.Device else if b then Some first.Blocks else if v then Some first.Volume else None) ≡ Some first.Volume → v ≡ true
-chose_volume true b v h = cc
-chose_volume false true v h = cc
-chose_volume false false true h = refl
-chose_volume false false false h = cc
-
 chose_fail : (d q c f e : Bool) → (if d then Some header.Depth else if q then Some header.Queue else if c then Some header.Cut else if f then Some header.Fail else if e then Some header.Elevator else None) ≡ Some header.Fail → f ≡ true
 chose_fail true q c f e h = cc
 chose_fail false true c f e h = cc
@@ -58,28 +49,27 @@ unbuilt_at_end false false v h unbuilt = cc
 -- the groups that have one
 unbuilt_among : {T : Type 0} (f : Option FirstWord) (h : Option HeaderWord) (b : Option BodyWord) (p : Option PlainWord) (k : Option PickWord) (e o : Bool) (v : Word)
     → option_or (option_map word.First f) (option_or (option_map word.Header h) (option_or (option_map word.Body b) (option_or (option_map word.Plain p) (option_or (option_map word.Pick k) (option_or (if e then Some word.Events else None) (if o then Some word.OfVolume else None)))))) ≡ Some v
-    → is_built v ≡ false → (f ≡ Some first.Volume → T) → (h ≡ Some header.Fail → T) → T
-unbuilt_among (Some first.Device) h b p k e o v is unbuilt volume fail = no_unbuilt (word.First first.Device) v is refl unbuilt
-unbuilt_among (Some first.Blocks) h b p k e o v is unbuilt volume fail = no_unbuilt (word.First first.Blocks) v is refl unbuilt
-unbuilt_among (Some first.Volume) h b p k e o v is unbuilt volume fail = volume refl
-unbuilt_among None (Some header.Depth) b p k e o v is unbuilt volume fail = no_unbuilt (word.Header header.Depth) v is refl unbuilt
-unbuilt_among None (Some header.Queue) b p k e o v is unbuilt volume fail = no_unbuilt (word.Header header.Queue) v is refl unbuilt
-unbuilt_among None (Some header.Cut) b p k e o v is unbuilt volume fail = no_unbuilt (word.Header header.Cut) v is refl unbuilt
-unbuilt_among None (Some header.Fail) b p k e o v is unbuilt volume fail = fail refl
-unbuilt_among None (Some header.Elevator) b p k e o v is unbuilt volume fail = no_unbuilt (word.Header header.Elevator) v is refl unbuilt
-unbuilt_among None None (Some x) p k e o v is unbuilt volume fail = no_unbuilt (word.Body x) v is refl unbuilt
-unbuilt_among None None None (Some x) k e o v is unbuilt volume fail = no_unbuilt (word.Plain x) v is refl unbuilt
-unbuilt_among None None None None (Some x) e o v is unbuilt volume fail = no_unbuilt (word.Pick x) v is refl unbuilt
-unbuilt_among None None None None None e o v is unbuilt volume fail = unbuilt_at_end e o v is unbuilt
+    → is_built v ≡ false → (h ≡ Some header.Fail → T) → T
+unbuilt_among (Some first.Device) h b p k e o v is unbuilt fail = no_unbuilt (word.First first.Device) v is refl unbuilt
+unbuilt_among (Some first.Blocks) h b p k e o v is unbuilt fail = no_unbuilt (word.First first.Blocks) v is refl unbuilt
+unbuilt_among (Some first.Volume) h b p k e o v is unbuilt fail = no_unbuilt (word.First first.Volume) v is refl unbuilt
+unbuilt_among None (Some header.Depth) b p k e o v is unbuilt fail = no_unbuilt (word.Header header.Depth) v is refl unbuilt
+unbuilt_among None (Some header.Queue) b p k e o v is unbuilt fail = no_unbuilt (word.Header header.Queue) v is refl unbuilt
+unbuilt_among None (Some header.Cut) b p k e o v is unbuilt fail = no_unbuilt (word.Header header.Cut) v is refl unbuilt
+unbuilt_among None (Some header.Fail) b p k e o v is unbuilt fail = fail refl
+unbuilt_among None (Some header.Elevator) b p k e o v is unbuilt fail = no_unbuilt (word.Header header.Elevator) v is refl unbuilt
+unbuilt_among None None (Some x) p k e o v is unbuilt fail = no_unbuilt (word.Body x) v is refl unbuilt
+unbuilt_among None None None (Some x) k e o v is unbuilt fail = no_unbuilt (word.Plain x) v is refl unbuilt
+unbuilt_among None None None None (Some x) e o v is unbuilt fail = no_unbuilt (word.Pick x) v is refl unbuilt
+unbuilt_among None None None None None e o v is unbuilt fail = unbuilt_at_end e o v is unbuilt
 
--- a word that is not built is one of the two
+-- a word that is not built is that of failures
 is_unbuilt-word_of : (w : List ℕ) (v : Word) → word_of w ≡ Some v → is_built v ≡ false → is_unbuilt w ≡ true
 is_unbuilt-word_of w v h unbuilt =
     unbuilt_among (first_word w) (header_word w) (body_word w) (plain_word w) (pick_word w) (bytes_eq w (codes "events")) (is_volume_section w || (is_change w || (is_query w || is_host_event w))) v h unbuilt
-    (λ e. or_left (bytes_eq w (codes "volume")) (bytes_eq w (codes "fail")) (chose_volume _ _ _ e))
-    (λ e. or_right (bytes_eq w (codes "volume")) (bytes_eq w (codes "fail")) (chose_fail _ _ _ _ _ e))
+    (λ e. chose_fail _ _ _ _ _ e)
 
--- and each of the two is a word that is not built
+-- and that is a word that is not built
 record IsUnbuiltWord (o : Option Word) : Type 0 where
   known : Word
   is : o ≡ Some known
@@ -87,10 +77,7 @@ record IsUnbuiltWord (o : Option Word) : Type 0 where
 
 IsUnbuiltWord-word_of : (w : List ℕ) → is_unbuilt w ≡ true → IsUnbuiltWord (word_of w)
 IsUnbuiltWord-word_of w h =
-    elim (or_cases (bytes_eq w (codes "volume")) (bytes_eq w (codes "fail")) h) [
-      | inl v ↦ record { known = word.First first.Volume; is = ap word_of ((bytes_eq-Decides w (codes "volume")).0 v); unbuilt = refl }
-      | inr f ↦ record { known = word.Header header.Fail; is = ap word_of ((bytes_eq-Decides w (codes "fail")).0 f); unbuilt = refl }
-    ]
+    record { known = word.Header header.Fail; is = ap word_of ((bytes_eq-Decides w (codes "fail")).0 h); unbuilt = refl }
 
 -- ---- one line
 

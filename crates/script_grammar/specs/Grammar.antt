@@ -50,7 +50,6 @@ form_of false blocks = Device blocks
 
 -- forms of lines that are not built yet
 abbrev pub is_built : Word → Bool
-is_built (word.First first.Volume) = false
 is_built (word.Header header.Fail) = false
 is_built w = true
 

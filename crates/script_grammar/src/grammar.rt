@@ -63,11 +63,7 @@ fn form_of(scheduled: bool, blocks: u32) -> Form
 fn is_built(word: Word) -> bool
     ensures { result ≡ is_built word }
 {
-    match word {
-        Word::First(FirstWord::Volume) => false,
-        Word::Header(HeaderWord::Fail) => false,
-        _ => true,
-    }
+    !matches!(word, Word::Header(HeaderWord::Fail))
 }
 
 fn new_reading(alloc: Global, form: Form) -> Reading

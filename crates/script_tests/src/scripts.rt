@@ -179,6 +179,8 @@ fn keeps_the_order(rt: HostRuntime) {
         ("device 4\ndevice 4\n", 2, Order),
         ("device 4\nblocks 4\n", 2, Order),
         ("blocks 4\nevents\nblocks 4\n", 3, Order),
+        ("device 4\nvolume inodes 32 zones 64 journal 128\n", 2, Order),
+        ("blocks 4\nevents\nvolume\n", 3, Order),
         ("device 4\nflush\ndepth 4\n", 3, Order),
         ("blocks 4\ndepth 4\nflush\ndepth 4\n", 4, Order),
         ("blocks 4\nflush\nqueue 4\n", 3, Order),
@@ -247,10 +249,6 @@ fn tells_header_lines_twice(rt: HostRuntime) {
 #[test]
 fn tells_what_is_not_built(rt: HostRuntime) {
     let rows = [
-        ("volume small 1 2\n", 1, NotBuilt),
-        ("volume\n", 1, NotBuilt),
-        ("device 4\nvolume 4\n", 2, NotBuilt),
-        ("blocks 4\nevents\nvolume 4\n", 3, NotBuilt),
         ("fail 1\n", 1, NotBuilt),
         ("device 4\nfail 1\n", 2, NotBuilt),
         ("blocks 4\nfail 1\nfail 1\n", 2, NotBuilt),
