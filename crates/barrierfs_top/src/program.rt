@@ -10,22 +10,26 @@ ghost use Rattle.barrierfs_top.specs.declared.command_line.Task.{Task};
 
 use crate::command_line::Words;
 use crate::fault::TopFault;
-use crate::top::{Outcome, alone};
-use blk_base::{NoMemory, Sink, Source, StdSink, StdSource};
+use crate::top::{Outcome, alone, status};
+use blk_base::{Sink, Source, StdSink, StdSource};
 use std::alloc::Global;
 use std::process::ExitCode;
 use std::rt::Env;
 use std::{env, io};
 
-// The words of the command line, without the program's name.
-fn words_of(rt: &(impl Env + AllocGlobal)) -> Result<Words, NoMemory> {
+// The words of the command line, without the program's name. One that is not UTF-8 makes them bad words.
+fn words_of(rt: &(impl Env + AllocGlobal)) -> Result<Words, TopFault> {
     let alloc = rt.alloc();
     let mut words = Words::make(alloc);
-    let Ok(args) = env::args(rt) else {
-        return Err(NoMemory);
+    let args = match env::args(rt) {
+        Ok(args) => args,
+        Err(error) if error.kind() == io::ErrorKind::InvalidData => return Err(TopFault::BadWords),
+        Err(_) => return Err(TopFault::NoMemory),
     };
     for word in args.skip(1) {
-        words.push(alloc, word.as_str())?;
+        if words.push(alloc, word.as_str()).is_err() {
+            return Err(TopFault::NoMemory);
+        }
     }
     Ok(words)
 }
@@ -76,9 +80,12 @@ pub fn run_words<R: Source, W: Sink>(
 /// All that `main` does: hands the words and the standard streams to `run_words`, prints the fault on standard error where
 /// there is one, and answers the status.
 pub fn run_program(rt: &(impl Env + Input + Print + Eprint + AllocGlobal)) -> ExitCode {
-    let Ok(words) = words_of(rt) else {
-        let _ = eprintln!(rt; "barrierfs: {}", TopFault::NoMemory);
-        return ExitCode::from(8);
+    let words = match words_of(rt) {
+        Ok(words) => words,
+        Err(fault) => {
+            let _ = eprintln!(rt; "barrierfs: {fault}");
+            return ExitCode::from(status(fault));
+        }
     };
     let mut source = StdSource::new(rt.reader());
     let mut sink = StdSink::new(io::writer(rt));

@@ -229,7 +229,7 @@ fn failed(fault: TopFault) -> Outcome
     }
 }
 
-fn status(fault: TopFault) -> u8
+pub(crate) fn status(fault: TopFault) -> u8
     ensures { result ≡ status_of (Some fault) }
 {
     match fault {
