@@ -286,6 +286,9 @@ fn count_eligible(waiting: &VecDeque<Entry>) -> usize
 fn find_eligible(waiting: &VecDeque<Entry>, pick: u32) -> Option<usize>
     ensures { MatchOption result (slice_get (eligible waiting.now.items) pick ≡ None) (IsPicked waiting.now.items pick) }
 {
+    if pick as usize >= waiting.len() {
+        return None;
+    }
     let mut left = pick;
     for i in 0..waiting.len() {
         if may_leave(waiting, &waiting[i]) {

@@ -238,6 +238,9 @@ fn find_free(slots: &[Command], seats: &[Seat], pick: u32) -> Option<usize>
     requires { All (λ s. s.slot < length slots.now) seats.now }
     ensures { MatchOption result (slice_get (eligible (seated slots.now seats.now)) pick ≡ None) (IsPicked slots.now seats.now pick) }
 {
+    if pick as usize >= seats.len() {
+        return None;
+    }
     let mut left = pick;
     for i in 0..seats.len() {
         if is_free(slots, seats, seats[i]) {

@@ -93,6 +93,9 @@ pub fn find_listed(queue: &EpochQueue, head: u64, pick: u32) -> Option<usize>
     if queue.waiting() == 1 {
         return if pick == 0 { Some(0) } else { None };
     }
+    if pick as usize >= queue.waiting() {
+        return None;
+    }
     let mut found = find_next(queue, head, None)?;
     for i in 0..pick {
         found = find_next(queue, head, Some(found.block))?;

@@ -1,6 +1,10 @@
 -- The request at a place of the list, by going from each to the next.
 use Rattle.std.proofs.Common.{◌≡◌, ◌+◌, None, MatchOption, length, slice_get, sym, subst, ◌∙◌, arith}
+use Rattle.std.proofs.lemmas.Option.{slice_get_past}
+use Rattle.std.proofs.lemmas.List.Sums.{length-filter, count_by-le-length}
+use Rattle.barrier_reassign.specs.Epoch.{eligible, may_leave}
 use Rattle.sched_elevator.specs.Elevator.{listed}
+use Rattle.sched_elevator.specs.laws.List.{length-in_order}
 use Rattle.sched_elevator.specs.code.Found.{IsListedAt}
 use Rattle.sched_elevator.proofs.Finding.{lone_first, lone_none, first_found, none_first, next_found, none_next, none_from}
 use Rattle.sched_elevator.proofs.searches.find_listed.Goals as goal
@@ -15,6 +19,11 @@ pub returns-else-pick-eq0 : goal.returns-else-pick-eq0
 returns-else-pick-eq0 c =
     let one = sym c.waiting.ensures ∙ c.if-waiting-eq1.true in
     lone_none c.args.queue.now.waiting c.args.head c.args.pick one c.if-pick-eq0.false
+
+pub returns-then-pick-waiting : goal.returns-then-pick-waiting
+returns-then-pick-waiting c =
+    let ws = c.args.queue.now.waiting in
+    slice_get_past (listed c.args.head ws) c.args.pick (omega (arith, length-in_order c.args.head (eligible ws), length-filter (may_leave ws) ws, count_by-le-length (may_leave ws) ws))
 
 pub returns-in_err-found : goal.returns-in_err-found
 returns-in_err-found c =
