@@ -6,7 +6,6 @@ pub mod Next
 pub mod Received
 pub mod KeptRows
 pub mod Rows
-pub mod Runs
 mod Walks
 pub mod OriginIds
 pub mod Single

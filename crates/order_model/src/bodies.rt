@@ -22,26 +22,17 @@ fn fill_of(body: &Block) -> Option<u8>
     if are_all(bytes, v) { Some(v) } else { None }
 }
 
-// Whether a body's bytes are all this one, eight at a time.
+// Whether a body's bytes are all this one. It goes to the end, which is compiled to sixteen bytes at a time.
 fn are_all(bytes: &[u8], v: u8) -> bool
     requires { length bytes.now ≡ 1024 }
     ensures { result ≡ true → bytes.now ≡ filled v }
 {
-    let wanted = [v; 8];
-    let (runs, _) = bytes.as_chunks::<8>();
-    for run in runs {
-        if !are_same(*run, wanted) {
-            return false;
-        }
+    let (mut least, mut most) = (v, v);
+    for byte in bytes {
+        least = least.min(*byte);
+        most = most.max(*byte);
     }
-    true
-}
-
-// As words, which compares them in one step.
-fn are_same(run: [u8; 8], wanted: [u8; 8]) -> bool
-    ensures { result ≡ true → run ≡ wanted }
-{
-    u64::from_le_bytes(run) == u64::from_le_bytes(wanted)
+    least == most
 }
 
 // Keeps a body. It is stored behind the others, unless it is full of one byte.

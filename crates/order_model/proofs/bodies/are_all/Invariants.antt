@@ -1,5 +1,9 @@
-use Rattle.std.proofs.Common.{◌≡◌, take, replicate}
+use Rattle.std.proofs.Common.{◌≡◌, ◌≤◌, take, replicate}
 use Rattle.order_model.proofs.bodies.are_all.Given as goal
 
-abbrev pub invariant-loop-run : goal.invariant-loop-run
-invariant-loop-run l = record { full : take l.run-index l.runs ≡ replicate l.run-index (replicate 8 l.v) }
+abbrev pub invariant-loop-byte : goal.invariant-loop-byte
+invariant-loop-byte l = record {
+  least : l.least ≤ l.v;
+  most : l.v ≤ l.most;
+  full : l.least ≡ l.most → take l.byte-index l.bytes ≡ replicate l.byte-index l.v;
+}
