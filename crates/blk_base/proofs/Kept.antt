@@ -2,9 +2,9 @@
 use Rattle.std.proofs.Common.{◌≡◌, ◌≢◌, ℕ, zero, suc, ◌+◌, ◌<◌, ◌≤◌, Bool, true, false, cond, eqb, List, [], ◌∷◌, ◌++◌, length, get_or, set, replicate, refl, sym, subst, inl, inr, ap, ap₂, ◌∙◌, arith, get_or-set_other}
 use Rattle.std.specs.List.{All}
 use Rattle.std.proofs.lemmas.Bool.{cases_eq, eq-eqb, ne_eqb}
-use Rattle.std.proofs.lemmas.List.{length-set, length-append, length-replicate, get_or_append_left, get_or-set_same, get_or_default, get_or_push, map-set, get_or-map, set-get_or}
-use Rattle.std.proofs.lemmas.List.Elements.{All-head, All-tail, All-set, All-weaker, All-replicate}
-use Rattle.std.proofs.lemmas.List.Sums.{sum_by-set, sum_by-cons}
+use Rattle.std.proofs.lemmas.List.{length-set, length-append, length-replicate, get_or_append_left, get_or-set_same, get_or_default, get_or_push, map-set, map_push, get_or-map, set-get_or}
+use Rattle.std.proofs.lemmas.List.Elements.{All-head, All-tail, All-set, All-push, All-weaker, All-replicate}
+use Rattle.std.proofs.lemmas.List.Sums.{sum_by-set, sum_by-cons, sum_by_push}
 use Rattle.blk_base.specs.Block.{filled}
 use Rattle.blk_base.specs.code.Bodies.{body_at, blocks_of, at_place, IsKept}
 
@@ -156,3 +156,84 @@ kept_zeros n = record {
     zeros : (n : ℕ) → at_place 0 (replicate n 0) ≡ n
     zeros zero = refl
     zeros (suc n) = at_place-here 0 0 (replicate n 0) refl ∙ ap suc (zeros n)
+
+-- ---- one block more
+
+place-push : (q : ℕ) (places : List ℕ) (p : ℕ) → at_place q (places ++ p ∷ []) ≡ at_place q places + one_if (eqb p q)
+place-push q places p = sum_by_push (λ x. one_if (eqb x q)) places p
+
+pub push_nothing : (bodies : List (List ℕ)) (places : List ℕ) (body : List ℕ) → IsKept bodies places → body ≡ filled 0
+    → blocks_of bodies (places ++ 0 ∷ []) ≡ blocks_of bodies places ++ body ∷ []
+push_nothing bodies places body kept zeros =
+    map_push (body_at bodies) places 0 ∙ ap (λ x. blocks_of bodies places ++ x ∷ []) (kept.zeros ∙ sym zeros)
+
+pub push_behind : (bodies : List (List ℕ)) (places : List ℕ) (body : List ℕ) → IsKept bodies places
+    → blocks_of (bodies ++ body ∷ []) (places ++ length bodies ∷ []) ≡ blocks_of bodies places ++ body ∷ []
+push_behind bodies places body kept =
+    map_push (body_at (bodies ++ body ∷ [])) places (length bodies)
+    ∙ ap₂ (λ xs x. xs ++ x ∷ []) (behind bodies (body ∷ []) places kept.within) (get_or_push bodies body (filled 0) (length bodies) refl)
+
+some_body : (bodies : List (List ℕ)) (places : List ℕ) → IsKept bodies places → 0 < length bodies
+some_body bodies places kept =
+    let room = kept.room in
+    let few = at_most_all 0 places in
+    omega (arith, room, few)
+  where
+    at_most_all : (q : ℕ) (places : List ℕ) → at_place q places ≤ length places
+    at_most_all q [] = omega arith
+    at_most_all q (p ∷ ps) =
+        let rest = at_most_all q ps in
+        elim (cases_eq p q) [
+          | inl e ↦ (let here = at_place-here q p ps e in omega (arith, rest, here))
+          | inr ne ↦ (let other = at_place-other q p ps ne in omega (arith, rest, other))
+        ]
+
+pub kept_nothing : (bodies : List (List ℕ)) (places : List ℕ) → IsKept bodies places → IsKept bodies (places ++ 0 ∷ [])
+kept_nothing bodies places kept =
+    let long = length-append places (0 ∷ []) in
+    record {
+      zeros = kept.zeros;
+      within = All-push (λ p. p < length bodies) places 0 kept.within (some_body bodies places kept);
+      apart = λ q own.
+          let before = kept.apart q own in
+          let count : at_place q (places ++ 0 ∷ []) ≡ at_place q places + 0 = place-push q places 0 ∙ ap (λ t. at_place q places + one_if t) (ne_eqb 0 q (λ e. omega (arith, e, own))) in
+          omega (arith, before, count);
+      room =
+          let before = kept.room in
+          let count : at_place 0 (places ++ 0 ∷ []) ≡ at_place 0 places + 1 = place-push 0 places 0 in
+          omega (arith, before, count, long);
+    }
+
+pub kept_push : (bodies : List (List ℕ)) (places : List ℕ) (body : List ℕ) → IsKept bodies places → IsKept (bodies ++ body ∷ []) (places ++ length bodies ∷ [])
+kept_push bodies places body kept =
+    let some = some_body bodies places kept in
+    let one : length (bodies ++ body ∷ []) ≡ length bodies + 1 = length-append bodies (body ∷ []) in
+    let long = length-append places (length bodies ∷ []) in
+    record {
+      zeros = get_or_append_left bodies (body ∷ []) (filled 0) 0 some ∙ kept.zeros;
+      within =
+          All-push (λ p. p < length (bodies ++ body ∷ [])) places (length bodies)
+          (All-weaker (λ p. p < length bodies) (λ p. p < length (bodies ++ body ∷ [])) (λ p lt. omega (arith, one, lt)) places kept.within)
+          (omega (arith, one));
+      apart = λ q own. at_most_one q own;
+      room =
+          let before = kept.room in
+          let count : at_place 0 (places ++ length bodies ∷ []) ≡ at_place 0 places + 0 = counted 0 false (ne_eqb (length bodies) 0 (λ e. omega (arith, e, some))) in
+          omega (arith, before, count, one, long);
+    }
+  where
+    counted : (q : ℕ) (t : Bool) → eqb (length bodies) q ≡ t → at_place q (places ++ length bodies ∷ []) ≡ at_place q places + one_if t
+    counted q t is = place-push q places (length bodies) ∙ ap (λ u. at_place q places + one_if u) is
+
+    at_most_one : (q : ℕ) → 0 < q → at_place q (places ++ length bodies ∷ []) ≤ 1
+    at_most_one q own =
+        let before = kept.apart q own in
+        elim (cases_eq (length bodies) q) [
+          | inl e ↦
+              (let none : at_place q places ≡ 0 = subst (λ n. at_place n places ≡ 0) e (not_named (length bodies) places kept.within) in
+              let here : at_place q (places ++ length bodies ∷ []) ≡ at_place q places + 1 = counted q true (eq-eqb (length bodies) q e) in
+              omega (arith, none, here))
+          | inr ne ↦
+              (let here : at_place q (places ++ length bodies ∷ []) ≡ at_place q places + 0 = counted q false (ne_eqb (length bodies) q ne) in
+              omega (arith, before, here))
+        ]

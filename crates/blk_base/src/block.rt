@@ -89,7 +89,7 @@ impl Block {
 }
 
 // Whether a block's bytes are all 0. It goes to the end, which is compiled to sixteen bytes at a time.
-pub(crate) fn are_zeros(bytes: &[u8]) -> bool
+fn are_zeros(bytes: &[u8]) -> bool
     requires { length bytes.now ≡ BLOCK_BYTES }
     ensures { (result ≡ true) ↔ (bytes.now ≡ filled 0) }
 {

@@ -1,9 +1,8 @@
 //! Images: blocks numbered from 0.
-ghost use Rattle.std.specs.Prelude.{◌≡◌, ℕ, ◌+◌, ◌<◌, ◌≤◌, List, length, take, IfOk, slice_get, slice_set, Some, true, vec_len, ◌/◌, ◌==◌, ◌^◌};
+ghost use Rattle.std.specs.Prelude.{◌≡◌, ℕ, ◌+◌, ◌<◌, ◌≤◌, ◌++◌, ◌∷◌, [], List, length, take, IfOk, OnOk, OnErr, slice_get, slice_set, Some, true, vec_len, ◌/◌, ◌==◌, ◌^◌};
 ghost use Rattle.blk_base.specs.Block.{filled};
 ghost use Rattle.blk_base.specs.Image.{zeros, whole_blocks, bytes_at};
 
-use crate::block::are_zeros;
 use crate::{BLOCK_BYTES, Block, NoMemory};
 use std::alloc::Global;
 use std::marker::Model;
@@ -41,22 +40,12 @@ impl Image {
         Ok(Image { places, bodies })
     }
 
-    /// The blocks of these bytes. A last part that is no whole block is left out. 2^32 blocks and more are refused as
-    /// for want of memory.
+    /// The blocks of these bytes. A last part that is no whole block is left out.
     pub fn from_bytes(alloc: Global, bytes: &[u8]) -> Result<Image, NoMemory>
         ensures { IfOk result (λ i. i ≡ whole_blocks bytes.now) }
     {
-        let blocks = bytes.len() / BLOCK_BYTES;
-        if blocks > u32::MAX as usize {
-            return Err(NoMemory);
-        }
-        let mut image = Image::zeroed(alloc, blocks as u32)?;
-        for b in 0..blocks as u32 {
-            let body = block_at(bytes, b as usize);
-            if !are_zeros(body) {
-                image.put(b, Block::of(body));
-            }
-        }
+        let mut image = Image::zeroed(alloc, 0)?;
+        image.push_blocks(bytes)?;
         Ok(image)
     }
 
@@ -99,6 +88,38 @@ impl Image {
             self.places[b as usize] = self.bodies.len() as u32;
             self.bodies.push_reserved(body);
         }
+    }
+
+    /// Appends a block. Room grows by doubling, so blocks are seldom moved. More than 2^32 - 1 blocks are refused as for
+    /// want of memory.
+    pub fn push(&mut self, body: Block) -> Result<(), NoMemory>
+        ensures pushed { OnOk result (self.new ≡ self.old ++ body ∷ []) }
+        ensures kept { OnErr result (self.new ≡ self.old) }
+    {
+        let len = self.places.len();
+        if len >= u32::MAX as usize {
+            return Err(NoMemory);
+        }
+        self.places.reserve(1)?;
+        let room = len + 2 - self.bodies.len();
+        self.bodies.reserve(room)?;
+        if body.is_zeros() {
+            self.places.push_reserved(0);
+        } else {
+            self.places.push_reserved(self.bodies.len() as u32);
+            self.bodies.push_reserved(body);
+        }
+        Ok(())
+    }
+
+    /// Appends the whole blocks of these bytes.
+    pub(crate) fn push_blocks(&mut self, bytes: &[u8]) -> Result<(), NoMemory>
+        ensures { OnOk result (self.new ≡ self.old ++ whole_blocks bytes.now) }
+    {
+        for b in 0..bytes.len() / BLOCK_BYTES {
+            self.push(Block::of(block_at(bytes, b)))?;
+        }
+        Ok(())
     }
 
     /// The first so many blocks. Those without a body of their own take no time.

@@ -3,7 +3,7 @@ ghost use Rattle.std.specs.Prelude.{Some};
 
 use blk_base::{
     Block, Failed, Image, MemSink, MemSource, NoMemory, ReadEnd, Sink, SinkFault, Source, StdSink,
-    StdSource, read_all, write_all,
+    StdSource, read_all, read_image, write_all,
 };
 use std::alloc::Global;
 use std::test::Fail;
@@ -31,6 +31,36 @@ impl Sink for ByteSink {
             self.faults = self.faults.saturating_add(1);
             return Err(Failed);
         }
+        Ok(1)
+    }
+}
+
+// A source that gives one byte a call, and whose call `fails` fails.
+#[derive(Drop)]
+struct ByteSource<'a> {
+    bytes: &'a [u8],
+    calls: u64,
+    fails: u64,
+    faults: u64,
+}
+
+impl Source for ByteSource<'_> {
+    ghost left = { λ s. Some s.bytes.now };
+
+    ghost faults = { λ s. s.faults };
+
+    fn read(&mut self, buf: &mut [u8]) -> Result<usize, Failed> {
+        self.calls = self.calls.saturating_add(1);
+        if self.calls == self.fails {
+            self.faults = self.faults.saturating_add(1);
+            return Err(Failed);
+        }
+        if buf.is_empty() || self.bytes.is_empty() {
+            return Ok(0);
+        }
+        let (first, rest) = self.bytes.split_at(1);
+        buf[0] = first[0];
+        self.bytes = rest;
         Ok(1)
     }
 }
@@ -143,6 +173,115 @@ fn makes_images(rt: HostRuntime) -> Result<(), NoMemory> {
     let mut image = Image::zeroed(rt.alloc(), 3)?;
     image.put(1, Block::fill(8));
     assert!(rt; is_filled(&image.copy(rt.alloc())?, &[0, 8, 0]));
+    Ok(())
+}
+
+// A block for each of these bytes, filled with it, and as many bytes more.
+fn bytes_of(alloc: Global, fills: &[u8], more: usize) -> Result<Vec<u8>, NoMemory> {
+    let mut bytes = Vec::new(alloc);
+    for fill in fills {
+        bytes.extend_from_slice(&[*fill; 1024])?;
+    }
+    for _ in 0..more {
+        bytes.push(3)?;
+    }
+    Ok(bytes)
+}
+
+// Whether an image of these blocks is read, or reading it ends so.
+fn gives<S: Source>(
+    alloc: Global,
+    source: &mut S,
+    most: u64,
+    wanted: Result<&[u8], ReadEnd>,
+) -> bool {
+    match read_image(alloc, source, most) {
+        Ok(image) => match wanted {
+            Ok(fills) => is_filled(&image, fills),
+            Err(_) => false,
+        },
+        Err(end) => wanted.err() == Some(end),
+    }
+}
+
+// The same of a source that gives a byte at a time, and of one that gives what there is room for.
+fn is_image(
+    alloc: Global,
+    bytes: &[u8],
+    fails: u64,
+    most: u64,
+    wanted: Result<&[u8], ReadEnd>,
+) -> bool {
+    let mut slow = ByteSource {
+        bytes,
+        calls: 0,
+        fails,
+        faults: 0,
+    };
+    gives(alloc, &mut slow, most, wanted)
+}
+
+fn is_image_at_once(
+    alloc: Global,
+    bytes: Vec<u8>,
+    most: u64,
+    wanted: Result<&[u8], ReadEnd>,
+) -> bool {
+    gives(
+        alloc,
+        &mut MemSource::new(bytes, Vec::new(alloc)),
+        most,
+        wanted,
+    )
+}
+
+// What is left behind the last whole block is no block, and counts among the bytes.
+#[test]
+fn reads_images(rt: HostRuntime) -> Result<(), NoMemory> {
+    let rows: [(&[u8], usize, u64, Result<&[u8], ReadEnd>); 5] = [
+        (&[], 0, 0, Ok(&[])),
+        (&[], 1023, 1023, Ok(&[])),
+        (&[0, 7, 0, 0, 8, 9], 5, 6149, Ok(&[0, 7, 0, 0, 8, 9])),
+        (&[0, 7, 0, 0, 8, 9], 5, 6148, Err(ReadEnd::TooLong)),
+        (&[0, 0], 0, 2047, Err(ReadEnd::TooLong)),
+    ];
+    for (row, (fills, more, most, wanted)) in rows.into_iter().enumerate() {
+        let bytes = bytes_of(rt.alloc(), fills, more)?;
+        assert!(rt; is_image(rt.alloc(), &bytes, 0, most, wanted), "row {row}");
+        assert!(rt;
+            is_image_at_once(rt.alloc(), bytes, most, wanted),
+            "row {row}"
+        );
+    }
+    Ok(())
+}
+
+// A fault in a block, behind one, and where the end would be told.
+#[test]
+fn fails_to_read_images(rt: HostRuntime) -> Result<(), NoMemory> {
+    let bytes = bytes_of(rt.alloc(), &[4, 0], 1)?;
+    for fails in [1, 1000, 1025, 2050] {
+        assert!(rt;
+            is_image(rt.alloc(), &bytes, fails, 2049, Err(ReadEnd::Fault)),
+            "{fails}"
+        );
+    }
+    assert!(rt; is_image(rt.alloc(), &bytes, 2051, 2049, Ok(&[4, 0])));
+    Ok(())
+}
+
+// An image that grows, and is then written as one that was made.
+#[test]
+fn grows_images(rt: HostRuntime) -> Result<(), NoMemory> {
+    let mut image = Image::zeroed(rt.alloc(), 1)?;
+    image.push(Block::fill(6))?;
+    image.push(Block::fill(0))?;
+    image.push(Block::fill(8))?;
+    image.put(0, Block::fill(5));
+    image.put(1, Block::fill(0));
+    image.put(2, Block::fill(7));
+    image.push(Block::fill(9))?;
+    assert!(rt; is_filled(&image, &[5, 0, 7, 8, 9]));
     Ok(())
 }
 

@@ -1,8 +1,0 @@
-use Rattle.std.proofs.Common.{◌≡◌}
-use Rattle.blk_base.specs.Block.{filled}
-use Rattle.blk_base.specs.Image.{whole_blocks}
-use Rattle.blk_base.specs.laws.Filling.{filled_to}
-use Rattle.blk_base.proofs.image.Image.from_bytes.Given as goal
-
-abbrev pub invariant-loop-b : goal.invariant-loop-b
-invariant-loop-b l = record { image : l.image ≡ filled_to (filled 0) l.blocks (whole_blocks l.bytes) l.b }
