@@ -22,17 +22,17 @@ use Rattle.device_epochs.specs.declared.cache.Entry.{Entry}
 use Rattle.device_epochs.specs.declared.device.DeviceSetup.{DeviceSetup}
 use Rattle.device_epochs.specs.Cache.{oldest, entries, put_all, without_entry}
 use Rattle.device_epochs.specs.laws.CacheSteps.{part_at-lt, parts_of-waiting}
-use Rattle.device_epochs.specs.Device.{DeviceState, is_off, is_next, has_room, counted, may_transfer, has_stopped, transferable, tried, transferred, performed, failed_on, persistable, persisted, written, body_at, received, answered, answered_from, tells_cut, seen, opened}
+use Rattle.device_epochs.specs.Device.{DeviceState, is_off, fails_next, has_room, may_transfer, has_stopped, transferable, tried, transferred, performed, failed_on, persistable, persisted, written, body_at, received, answered, answered_from, tells_cut, seen, opened}
 use Rattle.device_epochs.specs.laws.Valid.{IsValid, QueueFacts, with_waiting}
 use Rattle.device_epochs.specs.declared.device.EpochDevice.TheInside.{Inside}
 use Rattle.device_epochs.specs.code.Fields.{state_of, IsDevice}
 use Rattle.device_epochs.specs.code.Helpers.{IsPlain, EndsAt, starts_with_flush, flush_waits, is_held, is_flushed}
-use Rattle.device_epochs.specs.laws.QueueLaws.{eligible-waits, eligible_clear, apart, number-lt}
+use Rattle.device_epochs.specs.laws.QueueLaws.{length-without, eligible-waits, eligible_clear, apart, number-lt}
 use Rattle.device_epochs.specs.laws.EpochLaws.{flush-ordered, waiting-taken, ordered-first}
 use Rattle.device_epochs.specs.laws.StepLaws.{transferable-waits, tried-fails, tried-moves, persistable-In}
 use Rattle.device_epochs.specs.laws.PendingLaws.{numbered, pending-is, none-pending, queue-facts, faults-lt}
 use Rattle.device_epochs.specs.laws.PendingLaws as pending
-use Rattle.device_epochs.specs.laws.BoundLaws.{all_parts-le, moved-fits, cache-fits, completions-fit, failures-fit, steps-lt_transferable, steps-lt_persistable, epoch-le}
+use Rattle.device_epochs.specs.laws.BoundLaws.{took-le, all_parts-le, moved-fits, cache-fits, completions-fit, failures-fit, steps-lt_transferable, steps-lt_persistable, epoch-le}
 use Rattle.device_epochs.specs.laws.ReachableLaws.{transferred-valid, written-valid}
 use Rattle.device_epochs.proofs.Searches.{filter_none}
 
@@ -149,11 +149,12 @@ pub record CanMove (s : DeviceState) (pick : ℕ) (w : Waiting) : Type 0 where
   pub last : EndsAt s.epoch s.cache
   pub completions : length s.waiting + length (completions_of w.command) ≤ s.limit
   pub steps : s.steps < s.limit + s.limit
+  pub made : s.transfers_made < s.limit
   pub epoch : s.epoch ≤ s.limit + s.limit
   pub failures : length s.waiting + length (failures_of w.command) ≤ s.limit
   pub faults : s.faults ≤ 2
-  pub moves : is_next s.fail_at ≡ false → transferred s pick ≡ performed s w
-  pub fails : is_next s.fail_at ≡ true → transferred s pick ≡ failed_on s w
+  pub moves : fails_next s ≡ false → transferred s pick ≡ performed s w
+  pub fails : fails_next s ≡ true → transferred s pick ≡ failed_on s w
   pub valid : IsValid (transferred s pick)
 
 pub is_plain : (s : DeviceState) → IsValid s → IsPlain s.cache
@@ -192,6 +193,11 @@ can_move s pick w v goes n at =
       last = record { within = λ e i. (v.cache.entries e i).past };
       completions = omega arith;
       steps = steps-lt_transferable s w v h;
+      made =
+          let one = length-without s.queue.next s.queue.waiting w (numbered s v) waits in
+          let queued = v.counts.queued in
+          let took = took-le s v in
+          omega (arith, one, queued, took);
       epoch = epoch-le s v;
       failures = let failures = failures-fit s w v h in omega arith;
       faults = faults-lt s v;
@@ -266,17 +272,16 @@ pub moved_to : (s : DeviceState) (w : Waiting) (first : ℕ) (moved : List Trans
     → waiting ≡ s.waiting ++ completions_of w.command → queue ≡ departed s.queue (Some w)
     → cache ≡ put_all (entries s.epoch first w.command.parts) s.cache
     → epoch ≡ (if w.command.barrier then s.epoch + 1 else s.epoch)
-    → (fail_at : Option ℕ) → fail_at ≡ counted s.fail_at
-    → record s { moved = moved; waiting = waiting; queue = queue; cache = cache; epoch = epoch; steps = s.steps + 1; fail_at = fail_at } ≡ performed s w
-moved_to s w first moved waiting queue cache epoch e m wa q c ep fail_at f =
-    rw (m, wa, q, c, ep, f, e) refl
+    → record s { moved = moved; waiting = waiting; queue = queue; cache = cache; epoch = epoch; steps = s.steps + 1; transfers_made = s.transfers_made + 1 } ≡ performed s w
+moved_to s w first moved waiting queue cache epoch e m wa q c ep =
+    rw (m, wa, q, c, ep, e) refl
 
 -- the state once the command failed
-pub failed_to : (s : DeviceState) (w : Waiting) (waiting : List Completion) (queue : QueueState) (fail_at : Option ℕ)
-    → waiting ≡ s.waiting ++ failures_of w.command → queue ≡ departed s.queue (Some w) → fail_at ≡ counted s.fail_at
-    → record s { waiting = waiting; queue = queue; steps = s.steps + 1; fail_at = fail_at; failed = true; faults = s.faults + 1 } ≡ failed_on s w
-failed_to s w waiting queue fail_at wa q f =
-    rw (wa, q, f) refl
+pub failed_to : (s : DeviceState) (w : Waiting) (waiting : List Completion) (queue : QueueState)
+    → waiting ≡ s.waiting ++ failures_of w.command → queue ≡ departed s.queue (Some w)
+    → record s { waiting = waiting; queue = queue; steps = s.steps + 1; transfers_made = s.transfers_made + 1; failed = true; faults = s.faults + 1 } ≡ failed_on s w
+failed_to s w waiting queue wa q =
+    rw (wa, q) refl
 
 pub can_write_from : (d : Inside) (s : DeviceState) (pick : ℕ) (e : Entry) → IsDevice d → state_of d ≡ s → false ≡ is_off s
     → Some e ≡ slice_get (oldest d.cache.items) pick → CanWrite (state_of d) pick e
@@ -404,6 +409,7 @@ pub opened_to : (image base surface : List (List ℕ)) (setup : DeviceSetup) (n 
       cut_at = setup.cut_at;
       told = false;
       fail_at = setup.fail_at;
+      transfers_made = 0;
       bad_read = setup.bad_read;
       failed = false;
       faults = 0;

@@ -32,8 +32,10 @@ pub record DeviceState : Type 0 where
   pub limit : ℕ
   pub cut_at : Option ℕ
   pub told : Bool
-  -- how many transfers from now the one that fails is, and how many reads; 1 is the next one
+  -- the number of the transfer that fails, counted from 1, and how many transfers were made
   pub fail_at : Option ℕ
+  pub transfers_made : ℕ
+  -- how many reads from now the one that fails is; 1 is the next one
   pub bad_read : Option ℕ
   -- a transfer failed; how many transfers and reads failed
   pub failed : Bool
@@ -57,14 +59,19 @@ opened image setup = record {
   cut_at = setup.cut_at;
   told = false;
   fail_at = setup.fail_at;
+  transfers_made = 0;
   bad_read = setup.bad_read;
   failed = false;
   faults = 0;
 }
 
+-- a number is given, and it is this one
+abbrev pub is_number : Option ℕ → ℕ → Bool
+is_number at n = option_map_or (λ k. n == k) at false
+
 -- the power is off from the moment at which the steps equal this number
 abbrev pub is_off : DeviceState → Bool
-is_off s = option_map_or (λ n. s.steps == n) s.cut_at false
+is_off s = is_number s.cut_at s.steps
 
 -- ---- counting down to a fault
 
@@ -106,7 +113,7 @@ performed s w = record s {
   cache = put_all (entries s.epoch (first_part s.took w.number) w.command.parts) s.cache;
   epoch = (if w.command.barrier then s.epoch + 1 else s.epoch);
   steps = s.steps + 1;
-  fail_at = counted s.fail_at;
+  transfers_made = s.transfers_made + 1;
 }
 
 -- the command leaves the queue, and is not performed
@@ -115,15 +122,19 @@ failed_on s w = record s {
   waiting = s.waiting ++ failures_of w.command;
   queue = departed s.queue (Some w);
   steps = s.steps + 1;
-  fail_at = counted s.fail_at;
+  transfers_made = s.transfers_made + 1;
   failed = true;
   faults = s.faults + 1;
 }
 
+-- the next transfer is the one that fails
+abbrev pub fails_next : DeviceState → Bool
+fails_next s = is_number s.fail_at (s.transfers_made + 1)
+
 -- a command was picked
 abbrev pub tried : DeviceState → Option Waiting → DeviceState
 tried s None = s
-tried s (Some w) = if is_next s.fail_at then failed_on s w else performed s w
+tried s (Some w) = if fails_next s then failed_on s w else performed s w
 
 abbrev pub transferred : DeviceState → ℕ → DeviceState
 transferred s pick = tried s (slice_get (transferable s) pick)
@@ -191,6 +202,9 @@ abbrev pub seen : DeviceState → Seen
 seen s = record {
   base = s.base;
   limit = s.limit;
+  depth = s.queue.depth;
+  cut_at = s.cut_at;
+  fail_at = s.fail_at;
   took = s.took;
   moved = s.moved;
   surface = s.surface;
@@ -200,5 +214,6 @@ seen s = record {
   off = is_off s;
   failed = s.failed;
   steps = s.steps;
+  transfers_made = s.transfers_made;
   faults = s.faults;
 }

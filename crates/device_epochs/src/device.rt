@@ -1,9 +1,9 @@
 //! The device behind the trait: its fields, how it is made, and its calls.
 ghost use Rattle.std.specs.Prelude.{◌≡◌, ℕ, ◌+◌, ◌≤◌, ◌<◌, ◌==◌, Bool, [], ◌^◌, true, false, length, replicate, IfOk, Some, None, slice_get, if◌then◌else◌};
-ghost use Rattle.std.specs.Option.{option_map, option_map_or};
+ghost use Rattle.std.specs.Option.{option_map};
 ghost use Rattle.order_model.specs.declared.part.Part.{Part};
 ghost use Rattle.order_model.specs.Received.{all_parts, part_at};
-ghost use Rattle.device_epochs.specs.Device.{DeviceState, opened, is_off, is_next, has_room, received, transferable, transferred, persistable, persisted, next_answer, answered, after_read, IsSound, seen};
+ghost use Rattle.device_epochs.specs.Device.{DeviceState, opened, is_number, is_off, is_next, has_room, received, transferable, transferred, persistable, persisted, next_answer, answered, after_read, IsSound, seen};
 ghost use Rattle.device_epochs.specs.laws.Valid.{work_left, IsValid};
 ghost use Rattle.device_epochs.specs.code.Helpers.{starts_with_flush, flush_waits, is_held};
 ghost use Rattle.command_queue.specs.Queue.{QueueState};
@@ -56,8 +56,10 @@ pub struct EpochDevice {
     cut_at: Option<u64>,
     // The power cut was told.
     told: bool,
-    // How many transfers from now the one that fails is, and how many reads.
+    // The number of the transfer that fails, and how many were made.
     fail_at: Option<u64>,
+    transfers_made: u64,
+    // How many reads from now the one that fails is.
     bad_read: Option<u64>,
     // A transfer failed.
     failed: bool,
@@ -107,6 +109,7 @@ impl EpochDevice {
             cut_at: setup.cut_at,
             told: false,
             fail_at: setup.fail_at,
+            transfers_made: 0,
             bad_read: setup.bad_read,
             failed: false,
             faults: 0,
@@ -117,7 +120,7 @@ impl EpochDevice {
         ensures value { result ≡ is_off self.now }
         ensures valid { IsValid self.now }
     {
-        is_over(self.cut_at, self.trace.steps)
+        is_number(self.cut_at, self.trace.steps)
     }
 
     // No command may go.
@@ -137,12 +140,12 @@ impl EpochDevice {
     }
 }
 
-// The power is off after so many steps.
-fn is_over(cut_at: Option<u64>, steps: u64) -> bool
-    ensures { result ≡ option_map_or (λ n. steps == n) cut_at false }
+// A number is given, and it is this one.
+fn is_number(at: Option<u64>, n: u64) -> bool
+    ensures { result ≡ is_number at n }
 {
-    match cut_at {
-        Some(n) => steps == n,
+    match at {
+        Some(given) => n == given,
         None => false,
     }
 }
@@ -287,7 +290,8 @@ impl OrderedDev for EpochDevice {
         let Some(command) = self.queue.peek(pick) else {
             return false;
         };
-        if count_down(&mut self.fail_at) {
+        self.transfers_made += 1;
+        if is_number(self.fail_at, self.transfers_made) {
             complete_failed(&mut self.waiting, command);
             self.trace.steps += 1;
             self.failed = true;
@@ -326,7 +330,7 @@ impl OrderedDev for EpochDevice {
             self.trace.sent.push(completion);
             return Some(completion);
         }
-        if is_over(self.cut_at, self.trace.steps) && !self.told {
+        if is_number(self.cut_at, self.trace.steps) && !self.told {
             self.told = true;
             self.trace.sent.push(Completion::Cut);
             return Some(Completion::Cut);
@@ -390,6 +394,8 @@ impl OrderedDev for EpochDevice {
 
     ghost completion = { told.completion_law };
 
+    ghost free_slot = { laws.free_slot };
+
     ghost power_cut = { laws.power_cut };
 
     ghost failure = { told.failure_law };
@@ -397,6 +403,8 @@ impl OrderedDev for EpochDevice {
     ghost stops = { λ s v. told.failed-stops s };
 
     ghost monotone = { laws.monotone };
+
+    ghost settles = { told.settled_law };
 
     ghost progress = { laws.progress };
 

@@ -46,6 +46,14 @@ whole_kind id Flush = refl
 pub whole_alone : (r : Request) (flagged : Bool) → is_some (command_of_request r flagged).flush ≡ (length (command_of_request r flagged).parts == 0)
 whole_alone r flagged = whole_kind r.id r.kind
 
+-- and a put is the one part of its command
+few_kind : (id : ℕ) (k : Kind) → length (parts_for id k) ≤ 1
+few_kind id (Put block body) = omega arith
+few_kind id Flush = omega arith
+
+pub few_alone : (r : Request) (flagged : Bool) → length (command_of_request r flagged).parts ≤ 1
+few_alone r flagged = few_kind r.id r.kind
+
 -- a fence has the barrier flag, as a flush does
 fence_barrier : (b : Bool) (k : Kind) → (k ≡ Flush → b ≡ true) → (b || is_flush k) ≡ b
 fence_barrier true k flush = refl
@@ -173,4 +181,8 @@ carries_alone qs all flags = record {
       let flush = flush_is q.1.id q.1.kind id (ap (λ (d : Command). d.flush) q.3 ∙ e) in
       sym (ap (λ (d : Command). d.barrier) q.3) ∙ flags q.0 q.1 q.2 flush.1;
   count = let n = count qs (flags_in qs flags) in omega arith;
+  small = λ c h.
+      let q = request_in qs c h in
+      let one = few_alone q.1 q.1.barrier in
+      subst (λ (d : Command). length d.parts ≤ 16) q.3 (omega (arith, one));
 }

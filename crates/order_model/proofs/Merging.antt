@@ -420,4 +420,5 @@ carries_merged s gs groups all carries =
           let flag = carries.flush_flag q.0 id (group_command s gs g.0 q.0 v g.1 q.1) q.2 in
           sym (ap (λ (d : Command). d.barrier) g.2) ∙ list_any-In (λ (d : Command). d.barrier) g.0 q.0 q.1 flag;
       count = let n = count_merged gs groups ∙ ap (count_by (λ (c : Command). c.barrier)) (sym all) in let m = carries.count in omega (arith, n, m);
+      small = λ c h. let g = merged_In gs c h in subst (λ (d : Command). length d.parts ≤ 16) g.2 (groups g.0 g.1).small;
     }

@@ -32,6 +32,7 @@ next_receivable s d c rest v sent blocks few =
     let there : In c s.sent_out = subst (In c) (sym sent) (In-append_right d.took (c ∷ rest) c (inl refl)) in
     let ids : all_ids s.sent_out ≡ (all_ids d.took ++ ids_of c) ++ all_ids rest = ap all_ids sent ∙ ids_next d.took c rest in
     record {
+      small = v.small c there;
       whole = v.whole c there;
       ordered = flagged_ordered c.barrier c.priority c.flush (v.priority c there) (λ id e. v.flush_flag c id there e);
       within = In-All (λ (p : Part). p.block < length d.surface) c.parts

@@ -83,6 +83,8 @@ pub record Carries (s : SchedSeen) : Type 0 where
   pub flush_flag : (c : Command) (id : ℕ) → In c s.sent_out → c.flush ≡ Some id → c.barrier ≡ true
   -- there are as many barrier commands as barriers and flushes accepted, less one while it is blocked
   pub count : count_by (λ (c : Command). c.barrier) s.sent_out + (if s.blocked then 1 else 0) ≡ count_by (λ (r : Request). r.barrier || is_flush r.kind) s.accepted
+  -- a command has at most 16 parts
+  pub small : (c : Command) → In c s.sent_out → length c.parts ≤ 16
 
 -- ---- between host and device
 

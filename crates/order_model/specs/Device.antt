@@ -1,6 +1,6 @@
 -- What a device shows that completes commands before they are on the medium and keeps the order of barrier
 -- epochs, and the laws that it keeps. Parts and origins are named by places in the list of what was taken.
-use Rattle.std.specs.Prelude.{◌≡◌, ℕ, ◌<◌, ◌≤◌, ◌++◌, ◌||◌, ◌==◌, Bool, true, false, List, length, map, All, Option, Some, None, is_some, slice_get}
+use Rattle.std.specs.Prelude.{◌≡◌, ◌↔◌, ℕ, suc, ◌+◌, ◌<◌, ◌≤◌, ◌++◌, ◌||◌, ◌&&◌, ◌==◌, not, nat_lt, Bool, true, false, List, [], length, map, All, Option, Some, None, is_some, slice_get}
 use Rattle.std.specs.Option.{option_map, option_and_then}
 use Rattle.blk_base.specs.Members.{In}
 use Rattle.order_model.specs.declared.part.Part.{Part}
@@ -16,8 +16,12 @@ use Rattle.order_model.specs.Received.{all_parts, part_at, command_of_part, ids_
 pub record Seen : Type 0 where
   -- the image that it was made over
   pub base : List (List ℕ)
-  -- the ids that it may take in all
+  -- the ids that it may take in all, and how many commands may wait at once
   pub limit : ℕ
+  pub depth : ℕ
+  -- the steps at which its power goes off, and the number of the transfer that fails, counted from 1
+  pub cut_at : Option ℕ
+  pub fail_at : Option ℕ
   -- the commands that it received
   pub took : List Command
   -- the parts that were transferred, by place, with their epoch
@@ -31,8 +35,9 @@ pub record Seen : Type 0 where
   -- the power is off; one of its transfers failed
   pub off : Bool
   pub failed : Bool
-  -- writes to the medium and transfers, those that failed too; failed transfers and reads
+  -- writes to the medium and transfers, those that failed too; transfers alone, those that failed too; failed transfers and reads
   pub steps : ℕ
+  pub transfers_made : ℕ
   pub faults : ℕ
 
 -- the origins by id
@@ -49,6 +54,7 @@ NoneTwice ids = (i j id : ℕ) → slice_get ids i ≡ Some id → slice_get ids
 
 -- a command that the device may be given
 pub record IsReceivable (s : Seen) (c : Command) : Type 0 where
+  pub small : length c.parts ≤ 16
   -- it is a flush, or has parts
   pub whole : is_some c.flush ≡ (length c.parts == 0)
   -- a barrier or a flush is ORDERED
@@ -78,6 +84,23 @@ pub record IsQuiet (s : Seen) : Type 0 where
 -- the completions, handed out or not
 abbrev pub completed : Seen → List Completion
 completed s = s.sent ++ s.waiting
+
+-- The power is on, and fewer commands wait than the command queue holds. A device of which a transfer failed still has room.
+abbrev pub has_free_slot : Seen → Bool
+has_free_slot s = not s.off && nat_lt (length s.took) (s.depth + s.transfers_made)
+
+-- every part that was transferred is kept
+abbrev pub IsSettled : Seen → Type 0
+IsSettled s = (place : ℕ) → IsMoved s place → IsPartKept s place
+
+-- A device of which nothing was asked yet. By the laws below no transfer of it has failed, and its medium is what it was made over.
+pub record IsUntouched (s : Seen) : Type 0 where
+  pub took : s.took ≡ []
+  pub moved : s.moved ≡ []
+  pub sent : s.sent ≡ []
+  pub steps : s.steps ≡ 0
+  pub transfers_made : s.transfers_made ≡ 0
+  pub faults : s.faults ≡ 0
 
 -- ---- the laws
 
@@ -115,10 +138,13 @@ pub record Completes (s : Seen) : Type 0 where
   pub flushed : (id : ℕ) → In (Flushed id) (completed s) → (k : ℕ) × IsFlush s.took k id
   pub kept : (place : ℕ) → IsPartKept s place → IsMoved s place
 
--- Power-cut law: the cut is told only where the power is off, and once.
+-- Power-cut law: the cut is told exactly where the power is off, and once; the power is off exactly where as many steps were made
+-- as the device was made with, and no further step is made.
 pub record TellsCut (s : Seen) : Type 0 where
-  pub off : In Cut (completed s) → s.off ≡ true
+  pub told : In Cut (completed s) ↔ (s.off ≡ true)
   pub once : (i j : ℕ) → slice_get (completed s) i ≡ Some Cut → slice_get (completed s) j ≡ Some Cut → i ≡ j
+  pub cause : (s.off ≡ true) ↔ (s.cut_at ≡ Some s.steps)
+  pub steps : (n : ℕ) → s.cut_at ≡ Some n → s.steps ≤ n
 
 -- A command with this id was taken, and no part of it was transferred.
 pub record IsUnmoved (s : Seen) (id : ℕ) : Type 0 where
@@ -129,10 +155,13 @@ pub record IsUnmoved (s : Seen) (id : ℕ) : Type 0 where
   pub unmoved : (place : ℕ) → command_of_part s.took place ≡ number → IsMoved s place → ⊥
 
 -- Failure law: that a transfer failed is told, once it did and only then, by the ids of a command that was
--- taken and of which no part was transferred.
+-- taken and of which no part was transferred. The transfer that failed is the last one, and that with the number which the device
+-- was made with; once that one was made, it failed.
 pub record TellsFailure (s : Seen) : Type 0 where
   pub told : s.failed ≡ true → (id : ℕ) × In (Failed id) (completed s)
   pub known : (id : ℕ) → In (Failed id) (completed s) → (s.failed ≡ true) × IsUnmoved s id
+  pub number : s.failed ≡ true → s.fail_at ≡ Some s.transfers_made
+  pub made : (n : ℕ) → s.fail_at ≡ Some (suc n) → n < s.transfers_made → s.failed ≡ true
 
 -- Monotone law: what is kept stays kept, and no count falls.
 pub record Grows (old new : Seen) : Type 0 where

@@ -1,5 +1,5 @@
 -- Several commands merged into one, which has their parts in order.
-use Rattle.std.specs.Prelude.{◌≡◌, ℕ, ◌+◌, ◌<◌, true, List, [], ◌∷◌, ◌++◌, length, Option, Some, None, is_some, slice_get, if◌then◌else◌}
+use Rattle.std.specs.Prelude.{◌≡◌, ℕ, ◌+◌, ◌<◌, ◌≤◌, true, List, [], ◌∷◌, ◌++◌, length, Option, Some, None, is_some, slice_get, if◌then◌else◌}
 use Rattle.std.specs.List.{list_any}
 use Rattle.blk_base.specs.Members.{In}
 use Rattle.order_model.specs.declared.part.Part.{Part}
@@ -34,3 +34,5 @@ pub record IsGroup (g : List Command) : Type 0 where
   pub last : (n : ℕ) (c : Command) → slice_get g n ≡ Some c → c.barrier ≡ true → n + 1 ≡ length g
   -- no block stands in two of them
   pub apart : (m n : ℕ) (c d : Command) (p q : Part) → m < n → slice_get g m ≡ Some c → slice_get g n ≡ Some d → In p c.parts → In q d.parts → p.block ≡ q.block → ⊥
+  -- together they have at most 16 parts
+  pub small : length (all_parts g) ≤ 16

@@ -7,7 +7,7 @@ use Rattle.order_model.specs.declared.command.Command.{Command}
 use Rattle.order_model.specs.declared.completion.Completion.{Completion}
 use Rattle.order_model.specs.declared.completion.Completion.TheVariants.{Cut}
 use Rattle.order_model.specs.declared.history.DeviceRecord.{DeviceRecord}
-use Rattle.order_model.specs.Received.{all_ids, first_part, completions_of, failures_of, transfers}
+use Rattle.order_model.specs.Received.{all_ids, first_part, epoch_of, completions_of, failures_of, transfers}
 use Rattle.order_model.specs.Device.{Seen, completed, completion_id}
 
 -- the record has what is seen
@@ -25,6 +25,9 @@ Receives old c new = new ≡ record old { took = old.took ++ c ∷ [] }
 pub record KeepsGiven (old new : Seen) : Type 0 where
   pub base : new.base ≡ old.base
   pub limit : new.limit ≡ old.limit
+  pub depth : new.depth ≡ old.depth
+  pub cut_at : new.cut_at ≡ old.cut_at
+  pub fail_at : new.fail_at ≡ old.fail_at
   pub took : new.took ≡ old.took
   pub sent : new.sent ≡ old.sent
 
@@ -32,17 +35,23 @@ pub record KeepsGiven (old new : Seen) : Type 0 where
 abbrev pub Tells : Seen → List Completion → Seen → Type 0
 Tells old done new = (new.waiting ≡ old.waiting ++ done) ⊎ ((old.off ≡ false) × (new.off ≡ true) × (new.waiting ≡ (old.waiting ++ done) ++ Cut ∷ []))
 
--- The command with this number was performed: its parts were transferred, in one epoch, and it completed.
+-- the next transfer has the number of the one that fails
+abbrev pub FailsNext : Seen → Type 0
+FailsNext s = s.fail_at ≡ Some (s.transfers_made + 1)
+
+-- The command with this number was performed: its parts were transferred, in the epoch that the barriers taken before it say, and
+-- it completed. This was not the transfer that fails.
 pub record Performs (old : Seen) (number : ℕ) (c : Command) (new : Seen) : Type 0 where
-  pub epoch : ℕ
-  pub moved : new.moved ≡ old.moved ++ transfers epoch (first_part old.took number) c.parts
+  pub cause : FailsNext old → ⊥
+  pub moved : new.moved ≡ old.moved ++ transfers (epoch_of old.took number) (first_part old.took number) c.parts
   pub told : Tells old (completions_of c) new
   pub failed : new.failed ≡ old.failed
   pub faults : new.faults ≡ old.faults
 
--- The command was not performed: none of its parts was transferred, each of its ids completed as failed, and
--- a fault was counted.
+-- The command was not performed, since this was the transfer that fails: none of its parts was transferred, each of its ids
+-- completed as failed, and a fault was counted.
 pub record Fails (old : Seen) (c : Command) (new : Seen) : Type 0 where
+  pub cause : FailsNext old
   pub moved : new.moved ≡ old.moved
   pub told : Tells old (failures_of c) new
   pub failed : new.failed ≡ true
@@ -54,6 +63,7 @@ pub record Transfers (old new : Seen) : Type 0 where
   pub surface : new.surface ≡ old.surface
   pub origins : new.origins ≡ old.origins
   pub steps : new.steps ≡ old.steps + 1
+  pub transfers_made : new.transfers_made ≡ old.transfers_made + 1
   pub number : ℕ
   pub command : Command
   pub taken : slice_get old.took number ≡ Some command
@@ -68,6 +78,7 @@ pub record Persists (old new : Seen) : Type 0 where
   pub failed : new.failed ≡ old.failed
   pub faults : new.faults ≡ old.faults
   pub steps : new.steps ≡ old.steps + 1
+  pub transfers_made : new.transfers_made ≡ old.transfers_made
 
 -- a completion was handed out, the first that waits, and nothing else changed
 pub record Answers (old : Seen) (answer : Option Completion) (new : Seen) : Type 0 where

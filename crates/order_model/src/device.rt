@@ -3,7 +3,7 @@ ghost use Rattle.std.specs.Prelude.{◌≡◌, ℕ, ◌<◌, ◌≤◌, ◌++◌
 ghost use Rattle.blk_base.specs.Streams.{Rose};
 ghost use Rattle.order_model.specs.declared.command.Command.{Command};
 ghost use Rattle.order_model.specs.declared.completion.Completion.{Completion};
-ghost use Rattle.order_model.specs.Device.{Seen, IsReceivable, IsQuiet, IsSurface, KeepsEpochOrder, KeepsFlush, Completes, TellsCut, TellsFailure, Grows, origin_ids};
+ghost use Rattle.order_model.specs.Device.{Seen, IsReceivable, IsQuiet, IsSettled, IsSurface, KeepsEpochOrder, KeepsFlush, Completes, TellsCut, TellsFailure, Grows, has_free_slot, origin_ids};
 ghost use Rattle.order_model.specs.Steps.{IsTraceOf, Receives, Transfers, Persists, Answers, OnlyReads, Progresses};
 
 use crate::{Command, Completion, CutDisk, DeviceRecord};
@@ -178,10 +178,15 @@ pub trait OrderedDev {
     /// Completion law: each id completes at most once, and only as what was done.
     ghost completion: { (s : Self.State) → valid s → Completes (seen s) };
 
-    /// Power-cut law: a device without power does nothing, and tells the cut once.
+    /// Room law: there is room exactly while the power is on and fewer commands wait than the command queue holds, also once a
+    /// transfer failed.
+    ghost free_slot: { (s : Self.State) → valid s → has_room s ≡ has_free_slot (seen s) };
+
+    /// Power-cut law: the power goes off at the steps that the device was made with; it then does nothing, and tells the cut once.
     ghost power_cut: { (s : Self.State) → valid s → TellsCut (seen s) × ((seen s).off ≡ true → (has_room s ≡ false) × (can_transfer s ≡ 0) × (can_persist s ≡ 0)) };
 
-    /// Failure law: a failed transfer is told by the command's ids, and nothing else is told as failed.
+    /// Failure law: the transfer with the number that the device was made with fails, and is told by the command's ids; nothing
+    /// else fails or is told as failed.
     ghost failure: { (s : Self.State) → valid s → TellsFailure (seen s) };
 
     /// Once a transfer failed, no other command is transferred.
@@ -189,6 +194,10 @@ pub trait OrderedDev {
 
     /// Monotone law: what is on the medium stays or is overwritten by later parts, and no count falls.
     ghost monotone: { (s : Self.State) (pick : ℕ) → valid s → Grows (seen s) (seen (transferred s pick)) × Grows (seen s) (seen (persisted s pick)) };
+
+    /// Settling law: while the power is on and nothing can be written, all that was transferred is on the medium, also once a
+    /// transfer failed.
+    ghost settles: { (s : Self.State) → valid s → (seen s).off ≡ false → can_persist s ≡ 0 → IsSettled (seen s) };
 
     /// Progress law: there is a step while work is left, and once none is left all is answered.
     ghost progress: { (s : Self.State) → valid s → (seen s).off ≡ false → (seen s).failed ≡ false → Progresses (seen s) (work_left s) (has_room s) (can_transfer s) (can_persist s) };

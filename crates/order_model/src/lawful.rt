@@ -1,7 +1,7 @@
 //! What a caller may know of any ordered device.
 ghost use Rattle.std.specs.Prelude.{◌≡◌, ℕ, ◌<◌, true, false, None, length};
 ghost use Rattle.order_model.specs.declared.command.Command.{Command};
-ghost use Rattle.order_model.specs.Device.{IsSurface, KeepsEpochOrder, KeepsFlush, Completes, TellsCut, TellsFailure, Grows};
+ghost use Rattle.order_model.specs.Device.{IsSettled, IsSurface, KeepsEpochOrder, KeepsFlush, Completes, TellsCut, TellsFailure, Grows, has_free_slot};
 ghost use Rattle.order_model.specs.Steps.{Progresses};
 
 use crate::OrderedDev;
@@ -16,6 +16,8 @@ pub fn lawful_blocks<D: OrderedDev>(dev: &D) -> u32
     ensures power_cut { TellsCut (D.seen (D.state dev.now)) }
     ensures failure { TellsFailure (D.seen (D.state dev.now)) }
     ensures stops { (D.seen (D.state dev.now)).failed ≡ true → D.can_transfer (D.state dev.now) ≡ 0 }
+    ensures free_slot { D.has_room (D.state dev.now) ≡ has_free_slot (D.seen (D.state dev.now)) }
+    ensures settles { (D.seen (D.state dev.now)).off ≡ false → D.can_persist (D.state dev.now) ≡ 0 → IsSettled (D.seen (D.state dev.now)) }
     ensures progress { (D.seen (D.state dev.now)).off ≡ false → (D.seen (D.state dev.now)).failed ≡ false → Progresses (D.seen (D.state dev.now)) (D.work_left (D.state dev.now)) (D.has_room (D.state dev.now)) (D.can_transfer (D.state dev.now)) (D.can_persist (D.state dev.now)) }
     ensures on { D.stays_on (D.state dev.now) → (D.seen (D.state dev.now)).off ≡ false }
     ensures stays_received { (c : Command) → D.stays_on (D.state dev.now) → D.stays_on (D.received (D.state dev.now) c) }

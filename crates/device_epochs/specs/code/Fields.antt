@@ -21,6 +21,7 @@ state_of d = record {
   cut_at = d.cut_at;
   told = d.told;
   fail_at = d.fail_at;
+  transfers_made = d.transfers_made;
   bad_read = d.bad_read;
   failed = d.failed;
   faults = d.faults;

@@ -6,7 +6,7 @@ use Rattle.std.proofs.lemmas.Bool.{cases_Bool, cases_lt, and_parts, not-true, bo
 use Rattle.std.proofs.lemmas.List.{append-nil, length-map}
 use Rattle.std.proofs.lemmas.Option.{none-some, same_Some}
 use Rattle.blk_base.specs.Members.{In}
-use Rattle.blk_base.specs.laws.Members.{In-push_left, In-push_cases, In-append_left, In-append_right, In-append_cases, In-map, In-slice_get, slice_get-In, slice_get-length, slice_get-in_range, slice_get-append_left, slice_get-append_right, slice_get-push_left, slice_get-push_cases}
+use Rattle.blk_base.specs.laws.Members.{In-push, In-push_left, In-push_cases, In-append_left, In-append_right, In-append_cases, In-map, In-slice_get, slice_get-In, slice_get-length, slice_get-in_range, slice_get-append_left, slice_get-append_right, slice_get-push_left, slice_get-push_cases}
 use Rattle.order_model.specs.declared.part.Part.{Part}
 use Rattle.order_model.specs.declared.command.Command.{Command}
 use Rattle.order_model.specs.declared.completion.Completion.{Completion}
@@ -180,6 +180,7 @@ completions-received took ws lost cs off told c w f below at =
           i.cause;
       cut_once = f.cut_once;
       told_off = f.told_off;
+      told_there = f.told_there;
     }
 
 -- the cut among completions is told
@@ -286,6 +287,7 @@ completions-moved took q cs off now told w fresh f g h untold =
           i.cause;
       cut_once = added_cut took q.waiting cs new off told g untold (no_cut w.command);
       told_off = λ t. absurd (both_ways told untold t);
+      told_there = λ t. absurd (both_ways told untold t);
     }
 
 -- the command was not done, and stays among those that were not
@@ -314,6 +316,7 @@ completions-failed took q cs off now told w fresh f g h untold =
           i.cause;
       cut_once = added_cut took q.waiting cs new off told g untold (no_cut_failed w.command);
       told_off = λ t. absurd (both_ways told untold t);
+      told_there = λ t. absurd (both_ways told untold t);
     }
 
 -- ---- the other calls
@@ -321,7 +324,14 @@ completions-failed took q cs off now told w fresh f g h untold =
 -- the power may go off where that was not told
 pub completions-persisted : (took : List Command) (ws : List Waiting) (lost : Option ℕ) (cs : List Completion) (off now told : Bool) → CompletionFacts took ws lost cs off told → told ≡ false → CompletionFacts took ws lost cs now told
 completions-persisted took ws lost cs off now told f untold =
-    record { once = f.once; source = f.source; all = f.all; cut_once = f.cut_once; told_off = λ t. absurd (both_ways told untold t) }
+    record {
+      once = f.once;
+      source = f.source;
+      all = f.all;
+      cut_once = f.cut_once;
+      told_off = λ t. absurd (both_ways told untold t);
+      told_there = f.told_there;
+    }
 
 cut_no_id : (id : ℕ) → option_and_then completion_id (Some Cut) ≡ Some id → ⊥
 cut_no_id id e = none-some id e
@@ -351,6 +361,7 @@ completions-told took ws lost cs off told f untold is_off =
       all = λ k c x i. In-push_left cs Cut x (f.all k c x i);
       cut_once = λ i j a b. last i a ∙ sym (last j b);
       told_off = λ t. is_off;
+      told_there = λ t. In-push cs Cut;
     }
 
 -- the completions' facts of a state
@@ -385,6 +396,16 @@ completions-seen took ws lost sent waiting off told f =
           rw t ((true, subst (λ cs. CompletionFacts took ws lost cs off true) (append_assoc sent waiting (Cut ∷ [])) g))
       | inr n ↦
           rw n ((told, subst (λ cs. CompletionFacts took ws lost (sent ++ cs) off told) (sym (append-nil waiting)) f))
+    ]
+
+-- once the power is off, the cut stands among them
+pub cut-seen : (took : List Command) (ws : List Waiting) (lost : Option ℕ) (sent waiting : List Completion) (off told : Bool) → CompletionFacts took ws lost (sent ++ waiting) off told → off ≡ true
+    → In Cut (sent ++ (waiting ++ (if off && not told then Cut ∷ [] else [])))
+cut-seen took ws lost sent waiting off told f is_off =
+    let tail = if off && not told then Cut ∷ [] else [] in
+    elim (cases_Bool told) [
+      | inl t ↦ subst (In Cut) (append_assoc sent waiting tail) (In-append_left (sent ++ waiting) tail Cut (f.told_there t))
+      | inr n ↦ rw (is_off, n) (In-append_right sent (waiting ++ Cut ∷ []) Cut (In-push waiting Cut))
     ]
 
 part_there : (took : List Command) (k i : ℕ) (c : Command) (p : Part) → slice_get took k ≡ Some c → slice_get c.parts i ≡ Some p → part_at took (first_part took k + i) ≡ Some p

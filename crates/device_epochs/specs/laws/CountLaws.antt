@@ -16,7 +16,7 @@ use Rattle.device_epochs.specs.Cache.{same_place, entries, without_entry}
 use Rattle.device_epochs.specs.Device.{DeviceState, is_off, tells_cut, received, performed, failed_on, written, answered, answered_from}
 use Rattle.device_epochs.specs.laws.Valid.{work_left, CountFacts}
 use Rattle.device_epochs.specs.laws.CacheLaws.{length-put_all, length-entries}
-use Rattle.device_epochs.specs.laws.QueueLaws.{sum_by-without, length-filter-le, length-filter-lt}
+use Rattle.device_epochs.specs.laws.QueueLaws.{sum_by-without, length-without, length-filter-le, length-filter-lt}
 use Rattle.device_epochs.specs.laws.EpochLaws.{length-transfers}
 use Rattle.device_epochs.specs.laws.CompletionLaws.{length-completions, length-failures}
 
@@ -85,6 +85,7 @@ counts-received s pending c f fits =
     let ids = length-all_ids-push s.took c in
     record {
       fits = let n = length_push s.queue.waiting w in omega arith;
+      queued = let n = length_push s.queue.waiting w in let old = f.queued in omega arith;
       steps = let n = work_left-received s c in let old = f.steps in omega arith;
       epochs = f.epochs;
       moved = let n = sum_by_push (λ (x : Waiting). length x.command.parts) pending w in let old = f.moved in omega arith;
@@ -103,6 +104,7 @@ pub counts-moved : (s : DeviceState) (pending : List Waiting) (w : Waiting) → 
 counts-moved s pending w a b h i on f =
     record {
       fits = fits-without w.number s.queue.depth s.queue.waiting f.fits;
+      queued = let n = length-without s.queue.next s.queue.waiting w a h in let old = f.queued in omega arith;
       steps = let n = work_left-moved s w a h in let old = f.steps in omega arith;
       epochs = let n = epoch-after w.command.barrier s.epoch in let old = f.epochs in omega arith;
       moved =
@@ -124,6 +126,7 @@ pub counts-failed : (s : DeviceState) (pending : List Waiting) (w : Waiting) →
 counts-failed s pending w a h on f =
     record {
       fits = fits-without w.number s.queue.depth s.queue.waiting f.fits;
+      queued = let n = length-without s.queue.next s.queue.waiting w a h in let old = f.queued in omega arith;
       steps = let n = work_left-failed s w a h in let old = f.steps in omega arith;
       epochs = let old = f.epochs in omega arith;
       moved = f.moved;
@@ -140,6 +143,7 @@ pub counts-written : (s : DeviceState) (pending : List Waiting) (e : Entry) → 
 counts-written s pending e h on f =
     record {
       fits = f.fits;
+      queued = f.queued;
       steps = let n = work_left-written s e h in let old = f.steps in omega arith;
       epochs = let old = f.epochs in omega arith;
       moved = f.moved;
@@ -151,6 +155,7 @@ pub counts-answered_from : (s : DeviceState) (pending : List Waiting) (cs : List
 counts-answered_from s pending (c ∷ cs) e f =
     record {
       fits = f.fits;
+      queued = f.queued;
       steps = f.steps;
       epochs = f.epochs;
       moved = f.moved;
@@ -164,6 +169,7 @@ counts-answered_from s pending [] e f =
           let old = rw untold at f.completions in
           rw t (record {
             fits = f.fits;
+            queued = f.queued;
             steps = f.steps;
             epochs = f.epochs;
             moved = f.moved;

@@ -1,6 +1,6 @@
 -- Why the model device keeps the order of epochs: what is on the medium was moved there from a command that was done, and all of
 -- an earlier epoch is kept before it. From the facts that each step keeps.
-use Rattle.std.specs.Prelude.{◌≡◌, ℕ, ◌-◌, ◌<◌, ◌≤◌, true, length, Some, slice_get}
+use Rattle.std.specs.Prelude.{◌≡◌, ℕ, ◌<◌, ◌≤◌, true, length, Some, slice_get}
 use Rattle.std.proofs.Common.{sym, ap, ◌∙◌, inl, inr, arith}
 use Rattle.std.proofs.lemmas.Option.{same_Some}
 use Rattle.blk_base.specs.laws.Members.{slice_get-In, slice_get-length, slice_get-in_range}
@@ -10,7 +10,7 @@ use Rattle.order_model.specs.Received.{all_parts, part_at, command_of_part, epoc
 use Rattle.order_model.specs.Device.{IsMoved, IsPartKept, IsSurface, KeepsEpochOrder}
 use Rattle.order_model.proofs.Received.{command_of_part-lt, command_of_part-mono, epoch_of-between, barrier-is}
 use Rattle.device_epochs.specs.laws.CacheSteps.{part_at-lt, part_of-waiting}
-use Rattle.device_epochs.specs.Device.{DeviceState, written, seen}
+use Rattle.device_epochs.specs.Device.{DeviceState, seen}
 use Rattle.device_epochs.specs.laws.EpochLaws.{barrier-ordered, waiting-taken, done-before_ordered, ordered-done_before, waits-or-done}
 use Rattle.device_epochs.specs.laws.QueueLaws.{place-before}
 use Rattle.device_epochs.specs.laws.Valid.{IsDone, IsHeld, with_waiting, IsValid}

@@ -1,19 +1,21 @@
 -- The laws of `OrderedDev` as the model device has them, each in the shape of the trait's member.
-use Rattle.std.specs.Prelude.{◌≡◌, ℕ, ◌+◌, ◌<◌, ◌≤◌, ◌++◌, is_some, Bool, true, false, List, [], ◌∷◌, length, Option, None, Some, refl, slice_get, if◌then◌else◌}
-use Rattle.std.proofs.Common.{ap, arith, ◌∙◌}
+use Rattle.std.specs.Prelude.{◌≡◌, ℕ, ◌+◌, ◌<◌, ◌≤◌, ◌++◌, Bool, true, false, List, [], ◌∷◌, length, Option, None, Some, refl, slice_get, if◌then◌else◌}
+use Rattle.std.proofs.Common.{sym, ap, arith, ◌∙◌}
 use Rattle.std.proofs.lemmas.Bool.{both_ways, false_from_ne_true}
+use Rattle.std.proofs.lemmas.Option.{none-some}
 use Rattle.order_model.specs.declared.completion.Completion.{Completion}
 use Rattle.order_model.specs.declared.completion.Completion.TheVariants.{Cut}
 use Rattle.command_queue.specs.Queue.{Waiting}
 use Rattle.device_epochs.specs.declared.cache.Entry.{Entry}
 use Rattle.order_model.specs.declared.command.Command.{Command}
-use Rattle.order_model.specs.Device.{IsReceivable, TellsCut, Grows}
+use Rattle.order_model.specs.Device.{IsReceivable, TellsCut, Grows, has_free_slot}
 use Rattle.order_model.specs.Steps.{Receives, Transfers, Persists, Answers, OnlyReads, Progresses}
-use Rattle.device_epochs.specs.Device.{DeviceState, is_next, counted, has_room, received, transferable, tried, transferred, persistable, persisted, next_answer, answered, answered_from, after_read, written, tells_cut, IsSound, seen}
+use Rattle.device_epochs.specs.Device.{DeviceState, is_off, is_next, is_number, fails_next, counted, has_room, received, transferable, tried, transferred, persistable, persisted, next_answer, answered, answered_from, after_read, written, tells_cut, IsSound, seen}
 use Rattle.device_epochs.specs.laws.Valid.{work_left, IsValid}
 use Rattle.device_epochs.specs.laws.StepLaws.{tried-all, Receives-received, Transfers-transferred, Persists-persisted, Answers-answered}
 use Rattle.device_epochs.specs.laws.FlushLaws.{Grows-transferred, Grows-persisted}
 use Rattle.device_epochs.specs.laws.CountLaws.{never_off}
+use Rattle.device_epochs.specs.laws.QueueLaws.{room-counted}
 use Rattle.device_epochs.specs.laws.SeenLaws.{power_cut_law, off-nothing, progress_law}
 use Rattle.device_epochs.specs.laws.ReachableLaws.{received-valid, transferred-valid, persisted-valid, answered-valid, after_read-valid}
 
@@ -38,6 +40,9 @@ reads s block v = (after_read-valid s v, (refl, faults_read-le s.faults (is_next
 
 pub power_cut : (s : DeviceState) → IsValid s → TellsCut (seen s) × ((seen s).off ≡ true → (has_room s ≡ false) × (length (transferable s) ≡ 0) × (length (persistable s) ≡ 0))
 power_cut s v = (power_cut_law s v, off-nothing s)
+
+pub free_slot : (s : DeviceState) → IsValid s → has_room s ≡ has_free_slot (seen s)
+free_slot s v = room-counted (is_off s) (length s.queue.waiting) s.queue.depth s.transfers_made (length s.took) v.counts.queued
 
 pub monotone : (s : DeviceState) (pick : ℕ) → IsValid s → Grows (seen s) (seen (transferred s pick)) × Grows (seen s) (seen (persisted s pick))
 monotone s pick v = (Grows-transferred s pick, Grows-persisted s v pick)
@@ -77,7 +82,7 @@ stays s n never =
 
 pub works : (s : DeviceState) → IsValid s → IsSound s → (s.failed ≡ false) × (is_next s.bad_read ≡ false)
 works s v sound = (
-  false_from_ne_true s.failed (λ t. let some = v.faults.once t in both_ways (is_some s.fail_at) (ap is_some sound.fails) some),
+  false_from_ne_true s.failed (λ t. none-some s.transfers_made (sym sound.fails ∙ v.faults.number t)),
   ap is_next sound.misreads,
 )
 
@@ -87,8 +92,8 @@ sound_received s c sound = record { fails = sound.fails; misreads = sound.misrea
 sound_transferred : (s : DeviceState) (n : ℕ) → IsSound s → IsSound (transferred s n)
 sound_transferred s n sound =
     tried-all IsSound s (slice_get (transferable s) n) sound
-    (λ w e t. record { fails = ap counted sound.fails; misreads = sound.misreads })
-    (λ w e f. record { fails = ap counted sound.fails; misreads = sound.misreads })
+    (λ w e t. record { fails = sound.fails; misreads = sound.misreads })
+    (λ w e f. record { fails = sound.fails; misreads = sound.misreads })
 
 sound_written : (s : DeviceState) (o : Option Entry) → IsSound s → IsSound (written s o)
 sound_written s None sound = sound
@@ -109,7 +114,7 @@ stays_sound s n sound =
 no_fault-tried : (s : DeviceState) (o : Option Waiting) → IsSound s → (seen (tried s o)).faults ≡ s.faults
 no_fault-tried s o sound =
     tried-all (λ n. (seen n).faults ≡ s.faults) s o refl
-    (λ w e t. absurd (both_ways (is_next s.fail_at) (ap is_next sound.fails) t))
+    (λ w e t. absurd (both_ways (fails_next s) (ap (λ at. is_number at (s.transfers_made + 1)) sound.fails) t))
     (λ w e n. refl)
 
 pub no_fault : (s : DeviceState) (n : ℕ) → IsValid s → IsSound s → ((seen (transferred s n)).faults ≡ (seen s).faults) × ((seen (after_read s)).faults ≡ (seen s).faults)

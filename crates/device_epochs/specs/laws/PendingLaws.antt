@@ -1,12 +1,12 @@
 -- What waits in the queue, what was not done, and the faults that are still to come.
-use Rattle.std.specs.Prelude.{◌≡◌, ℕ, ◌+◌, ◌-◌, ◌<◌, ◌≤◌, ◌++◌, ◌==◌, not, Bool, true, false, List, [], ◌∷◌, Option, Some, None, is_some, zero, suc, refl, if◌then◌else◌}
+use Rattle.std.specs.Prelude.{◌≡◌, ℕ, ◌+◌, ◌-◌, ◌<◌, ◌≤◌, ◌++◌, ◌==◌, not, Bool, true, false, List, [], ◌∷◌, Option, Some, None, zero, suc, refl, if◌then◌else◌}
 use Rattle.std.proofs.Common.{sym, ap, subst, ◌∙◌, inl, inr, arith}
-use Rattle.std.proofs.lemmas.Bool.{cases_Bool, both_ways, ne_eqb, false≢true}
+use Rattle.std.proofs.lemmas.Bool.{cases_Bool, cases_lt, both_ways, eq-eqb, eqb-true, ne_eqb, false≢true}
 use Rattle.std.proofs.lemmas.Option.{none-some, same_Some}
 use Rattle.blk_base.specs.Members.{In}
 use Rattle.blk_base.specs.laws.Members.{In-push_left}
 use Rattle.command_queue.specs.Queue.{Waiting, AreNumbered, without}
-use Rattle.device_epochs.specs.Device.{DeviceState, is_next, counted}
+use Rattle.device_epochs.specs.Device.{DeviceState, is_next, is_number, counted}
 use Rattle.device_epochs.specs.laws.QueueLaws.{AreNumbered-filter, number-lt, In-without}
 use Rattle.device_epochs.specs.laws.Valid.{in_queue, PendingFacts, to_come, FaultFacts, QueueFacts, with_waiting, IsValid}
 
@@ -116,14 +116,6 @@ counted-le None = omega arith
 counted-le (Some zero) = omega arith
 counted-le (Some (suc n)) = to_come-le (Some (suc n - 1))
 
-counted-some : (at : Option ℕ) → is_some at ≡ true → is_some (counted at) ≡ true
-counted-some None e = e
-counted-some (Some n) e = refl
-
-next-some : (at : Option ℕ) → is_next at ≡ true → is_some at ≡ true
-next-some None e = e
-next-some (Some n) e = refl
-
 -- the one that fails is the last that was to come
 next-last : (at : Option ℕ) → is_next at ≡ true → (to_come at ≡ 1) × (to_come (counted at) ≡ 0)
 next-last None e = absurd (false≢true e)
@@ -131,28 +123,48 @@ next-last (Some zero) e = absurd (false≢true e)
 next-last (Some (suc zero)) e = (refl, refl)
 next-last (Some (suc (suc n))) e = absurd (both_ways (suc (suc n) == 1) (ne_eqb (suc (suc n)) 1 (λ same. omega arith)) e)
 
-pub faults-counted : (fail_at bad_read : Option ℕ) (failed : Bool) (faults : ℕ) → FaultFacts fail_at bad_read failed faults → FaultFacts (counted fail_at) bad_read failed faults
-faults-counted fail_at bad_read failed faults f =
-    let le = counted-le fail_at in
-    let few = f.few in
-    record { once = λ t. counted-some fail_at (f.once t); few = omega arith }
+-- a number that is given, and one that is not
+pub number-is : (at : Option ℕ) (n : ℕ) → is_number at n ≡ true → at ≡ Some n
+number-is None n e = absurd (false≢true e)
+number-is (Some k) n e = ap Some (sym (eqb-true n k e))
 
-pub faults-failed : (fail_at bad_read : Option ℕ) (failed : Bool) (faults : ℕ) → FaultFacts fail_at bad_read failed faults → is_next fail_at ≡ true → FaultFacts (counted fail_at) bad_read true (faults + 1)
-faults-failed fail_at bad_read failed faults f e =
-    let last = next-last fail_at e in
-    let one = last.0 in
-    let none = last.1 in
-    let few = f.few in
-    record { once = λ t. counted-some fail_at (next-some fail_at e); few = omega arith }
+pub is-number : (at : Option ℕ) (n : ℕ) → at ≡ Some n → is_number at n ≡ true
+is-number at n e = let same = eq-eqb n n refl in rw (e, same) refl
 
-pub faults-read : (fail_at bad_read : Option ℕ) (failed : Bool) (faults : ℕ) → FaultFacts fail_at bad_read failed faults → FaultFacts fail_at (counted bad_read) failed (if is_next bad_read then faults + 1 else faults)
-faults-read fail_at bad_read failed faults f =
+pub not-number : (at : Option ℕ) (n : ℕ) → is_number at n ≡ false → at ≡ Some n → ⊥
+not-number at n other e = both_ways (is_number at n) other (is-number at n e)
+
+-- a transfer was made that did not fail
+pub faults-moved : (fail_at : Option ℕ) (count : ℕ) (bad_read : Option ℕ) (failed : Bool) (faults : ℕ) → FaultFacts fail_at count bad_read failed faults → failed ≡ false → is_number fail_at (count + 1) ≡ false → FaultFacts fail_at (count + 1) bad_read failed faults
+faults-moved fail_at count bad_read failed faults f fine other =
+    record {
+      number = λ t. absurd (both_ways failed fine t);
+      made = λ n e lt.
+          elim (cases_lt n count) [
+            | inl before ↦ f.made n e before
+            | inr le ↦ let next : suc n ≡ count + 1 = omega (arith, lt, le) in absurd (not-number fail_at (count + 1) other (e ∙ ap Some next))
+          ];
+      few = f.few;
+    }
+
+-- one was made that failed
+pub faults-failed : (fail_at : Option ℕ) (count : ℕ) (bad_read : Option ℕ) (failed : Bool) (faults : ℕ) → FaultFacts fail_at count bad_read failed faults → failed ≡ false → is_number fail_at (count + 1) ≡ true → FaultFacts fail_at (count + 1) bad_read true (faults + 1)
+faults-failed fail_at count bad_read failed faults f fine this =
+    let few : faults + to_come bad_read ≤ 1 = subst (λ (b : Bool). faults + to_come bad_read ≤ (if b then 2 else 1)) fine f.few in
+    record { number = λ t. number-is fail_at (count + 1) this; made = λ n e lt. refl; few = omega (arith, few) }
+
+pub faults-read : (fail_at : Option ℕ) (count : ℕ) (bad_read : Option ℕ) (failed : Bool) (faults : ℕ) → FaultFacts fail_at count bad_read failed faults → FaultFacts fail_at count (counted bad_read) failed (if is_next bad_read then faults + 1 else faults)
+faults-read fail_at count bad_read failed faults f =
     let few = f.few in
     elim (cases_Bool (is_next bad_read)) [
-      | inl t ↦ let last = next-last bad_read t in let one = last.0 in let none = last.1 in rw t (record { once = f.once; few = omega arith })
-      | inr n ↦ let le = counted-le bad_read in rw n (record { once = f.once; few = omega arith })
+      | inl t ↦ let last = next-last bad_read t in let one = last.0 in let none = last.1 in rw t (record { number = f.number; made = f.made; few = omega arith })
+      | inr n ↦ let le = counted-le bad_read in rw n (record { number = f.number; made = f.made; few = omega arith })
     ]
+
+two-or-one : (b : Bool) → (if b then 2 else 1) ≤ 2
+two-or-one true = omega arith
+two-or-one false = omega arith
 
 -- there is room in the count for one more
 pub faults-lt : (s : DeviceState) → IsValid s → s.faults ≤ 2
-faults-lt s v = let few = v.faults.few in omega arith
+faults-lt s v = let few = v.faults.few in let most = two-or-one s.failed in omega arith

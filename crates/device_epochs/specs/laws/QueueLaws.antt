@@ -1,9 +1,10 @@
 -- What waits and what is done, and how receiving and transferring a command change both.
-use Rattle.std.specs.Prelude.{◌≡◌, ℕ, ◌+◌, ◌<◌, ◌≤◌, ◌++◌, ◌||◌, ◌==◌, ◌⊎◌, not, Bool, true, false, List, [], ◌∷◌, length, filter, nat_lt, sum_by, Some, is_some, slice_get, refl}
+use Rattle.std.specs.Prelude.{◌≡◌, ℕ, ◌+◌, ◌<◌, ◌≤◌, ◌++◌, ◌||◌, ◌&&◌, ◌==◌, ◌⊎◌, not, Bool, true, false, List, [], ◌∷◌, length, filter, nat_lt, sum_by, Some, is_some, slice_get, refl}
 use Rattle.std.specs.List.{list_any}
 use Rattle.std.proofs.Common.{sym, ap, subst, ◌∙◌, inl, inr, ⊎_elim, arith}
 use Rattle.std.proofs.lemmas.Bool.{cases_Bool, cases_lt, cases_eq, lt-ltb, le-ltb, eq-eqb, and_left, or_parts, not-true, both_ways}
 use Rattle.std.proofs.lemmas.List.{length_push}
+use Rattle.std.proofs.lemmas.List.Sums.{sum_by-cons}
 use Rattle.std.proofs.lemmas.Option.{same_Some}
 use Rattle.blk_base.specs.Members.{In}
 use Rattle.blk_base.specs.laws.Members.{In-push, In-push_left, In-push_cases, In-append_cases, In-filter, All-In, list_any-In, all-list_all, slice_get-In, slice_get-length, slice_get-push, slice_get-push_left}
@@ -55,6 +56,26 @@ without-In n ws w h ne = arrivals.without-In number_of n ws w h ne
 -- what is summed over those that wait falls by the summand of the one that leaves
 pub sum_by-without : (f : Waiting → ℕ) (n : ℕ) (ws : List Waiting) (w : Waiting) → AreNumbered n ws → In w ws → sum_by f (without w.number ws) + f w ≡ sum_by f ws
 sum_by-without f n ws w a h = arrivals.sum_by-without number_of f ws w a.rising h
+
+-- one fewer is left
+pub length-without : (n : ℕ) (ws : List Waiting) (w : Waiting) → AreNumbered n ws → In w ws → length (without w.number ws) + 1 ≡ length ws
+length-without n ws w a h =
+    let before = each-one ws in
+    let after = each-one (without w.number ws) in
+    let sums = sum_by-without (λ v. 1) n ws w a h in
+    omega (arith, before, after, sums)
+  where
+    each-one : (vs : List Waiting) → sum_by (λ (v : Waiting). 1) vs ≡ length vs
+    each-one [] = refl
+    each-one (v ∷ vs) = let first = sum_by-cons (λ (x : Waiting). 1) v vs in let rest = each-one vs in omega (arith, first, rest)
+
+-- Where what was taken waits or was made, there is room in the queue exactly where fewer were taken than it holds and were made.
+pub room-counted : (off : Bool) (waiting depth made took : ℕ) → waiting + made ≡ took → (not off && nat_lt waiting depth) ≡ (not off && nat_lt took (depth + made))
+room-counted off waiting depth made took e =
+    elim (cases_lt waiting depth) [
+      | inl lt ↦ ap (λ b. not off && b) (lt-ltb waiting depth lt ∙ sym (lt-ltb took (depth + made) (omega (arith, lt, e))))
+      | inr le ↦ ap (λ b. not off && b) (le-ltb waiting depth le ∙ sym (le-ltb took (depth + made) (omega (arith, le, e))))
+    ]
 
 pub length-filter-le : {X : Type 0} (p : X → Bool) (xs : List X) → length (filter p xs) ≤ length xs
 length-filter-le p [] = omega arith

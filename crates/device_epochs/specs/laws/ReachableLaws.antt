@@ -17,9 +17,9 @@ use Rattle.device_epochs.specs.declared.device.DeviceSetup.{DeviceSetup}
 use Rattle.device_epochs.specs.laws.CacheSteps.{CacheFacts-received, MediumFacts-received, CacheFacts-moved, MediumFacts-moved, CacheFacts-written, MediumFacts-written}
 use Rattle.device_epochs.specs.laws.CompletionLaws.{completions-received, completions-moved, completions-failed, completions-persisted, completions-answered_from}
 use Rattle.device_epochs.specs.laws.CountLaws.{counts-received, counts-moved, counts-failed, counts-written, counts-answered_from}
-use Rattle.device_epochs.specs.Device.{DeviceState, opened, is_off, is_next, has_room, received, transferable, performed, failed_on, transferred, after_read, persistable, written, persisted, tells_cut, answered_from, answered, seen}
+use Rattle.device_epochs.specs.Device.{DeviceState, opened, is_off, fails_next, has_room, received, transferable, performed, failed_on, transferred, after_read, persistable, written, persisted, tells_cut, answered_from, answered, seen}
 use Rattle.device_epochs.specs.laws.EpochLaws.{present-received, present-moved, moved-received, moved-moved, epoch_of_eligible}
-use Rattle.device_epochs.specs.laws.PendingLaws.{pending-received, pending-moved, pending-failed, lost-lt, lost-none, pending-is, waits, numbered, faults-counted, faults-failed, faults-read, to_come-le}
+use Rattle.device_epochs.specs.laws.PendingLaws.{pending-received, pending-moved, pending-failed, lost-lt, lost-none, pending-is, waits, numbered, faults-moved, faults-failed, faults-read, to_come-le}
 use Rattle.device_epochs.specs.laws.QueueLaws.{commands-received, queue-received, queue-moved, eligible-waits}
 use Rattle.device_epochs.specs.laws.StepLaws.{untold, transferable-In, tried-all, persistable-In}
 use Rattle.device_epochs.specs.laws.Valid.{CompletionFacts, with_waiting, IsValid}
@@ -36,8 +36,9 @@ opened-valid image setup some = record {
   lost = None;
   losses = record { queue = refl; known = refl; there = λ n e. absurd (none-some n e) };
   faults = record {
-    once = λ t. absurd (false≢true t);
-    few = let a = to_come-le setup.fail_at in let b = to_come-le setup.bad_read in omega arith;
+    number = λ t. absurd (false≢true t);
+    made = λ n e lt. absurd (omega arith);
+    few = let b = to_come-le setup.bad_read in omega (arith, b);
   };
   commands = record {
     whole = λ c i. absurd i;
@@ -77,9 +78,11 @@ opened-valid image setup some = record {
     all = λ k c x i. absurd (none-some c i.taken);
     cut_once = λ i j e. absurd (none-some Cut e);
     told_off = λ t. absurd (false≢true t);
+    told_there = λ t. absurd (false≢true t);
   };
   counts = record {
     fits = omega arith;
+    queued = refl;
     steps = omega arith;
     epochs = omega arith;
     moved = refl;
@@ -116,8 +119,8 @@ received-valid s c v r room =
 
 -- ---- a command is transferred
 
-pub performed-valid : (s : DeviceState) (w : Waiting) → IsValid s → In w (transferable s) → IsValid (performed s w)
-performed-valid s w v h =
+pub performed-valid : (s : DeviceState) (w : Waiting) → IsValid s → In w (transferable s) → fails_next s ≡ false → IsValid (performed s w)
+performed-valid s w v h n =
     let may = transferable-In s w h in
     let q = with_waiting s.queue v.pending in
     let free : In w (eligible v.pending) = subst (λ ws. In w (eligible ws)) (sym (pending-is s v may.3)) may.1 in
@@ -127,7 +130,7 @@ performed-valid s w v h =
       pending = without w.number v.pending;
       lost = None;
       losses = pending-moved s.queue.waiting v.pending v.lost s.failed w.number v.losses may.3;
-      faults = faults-counted s.fail_at s.bad_read s.failed s.faults v.faults;
+      faults = faults-moved s.fail_at s.transfers_made s.bad_read s.failed s.faults v.faults may.3 n;
       commands = v.commands;
       queue = queue-moved s.took q w v.queue free;
       present = present-moved (length s.base) s.limit s.took q s.epoch w v.commands v.queue v.present free;
@@ -142,7 +145,7 @@ performed-valid s w v h =
     }
 
 -- a command whose transfer fails counts as one that still waits
-pub failed_on-valid : (s : DeviceState) (w : Waiting) → IsValid s → In w (transferable s) → is_next s.fail_at ≡ true → IsValid (failed_on s w)
+pub failed_on-valid : (s : DeviceState) (w : Waiting) → IsValid s → In w (transferable s) → fails_next s ≡ true → IsValid (failed_on s w)
 failed_on-valid s w v h t =
     let may = transferable-In s w h in
     let q = with_waiting s.queue v.pending in
@@ -152,7 +155,7 @@ failed_on-valid s w v h t =
       pending = v.pending;
       lost = Some w.number;
       losses = pending-failed s.queue.waiting v.pending v.lost s.failed w v.losses may.3 inside;
-      faults = faults-failed s.fail_at s.bad_read s.failed s.faults v.faults t;
+      faults = faults-failed s.fail_at s.transfers_made s.bad_read s.failed s.faults v.faults may.3 t;
       commands = v.commands;
       queue = v.queue;
       present = v.present;
@@ -170,7 +173,7 @@ pub transferred-valid : (s : DeviceState) (pick : ℕ) → IsValid s → IsValid
 transferred-valid s pick v =
     tried-all IsValid s (slice_get (transferable s) pick) v
     (λ w e t. failed_on-valid s w v (slice_get-In (transferable s) pick w e) t)
-    (λ w e n. performed-valid s w v (slice_get-In (transferable s) pick w e))
+    (λ w e n. performed-valid s w v (slice_get-In (transferable s) pick w e) n)
 
 -- ---- an entry goes to the medium
 
@@ -251,7 +254,7 @@ after_read-valid s v =
       pending = v.pending;
       lost = v.lost;
       losses = v.losses;
-      faults = faults-read s.fail_at s.bad_read s.failed s.faults v.faults;
+      faults = faults-read s.fail_at s.transfers_made s.bad_read s.failed s.faults v.faults;
       commands = v.commands;
       queue = v.queue;
       present = v.present;
@@ -259,5 +262,5 @@ after_read-valid s v =
       cache = v.cache;
       medium = v.medium;
       completions = v.completions;
-      counts = record { fits = f.fits; steps = f.steps; epochs = f.epochs; moved = f.moved; completions = f.completions; cut = f.cut };
+      counts = record { fits = f.fits; queued = f.queued; steps = f.steps; epochs = f.epochs; moved = f.moved; completions = f.completions; cut = f.cut };
     }

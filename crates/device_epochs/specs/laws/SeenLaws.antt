@@ -8,19 +8,21 @@ use Rattle.blk_base.specs.Members.{In}
 use Rattle.blk_base.specs.laws.Members.{map-In, filter-In, list_all-In, In-slice_get, slice_get-In, slice_get-in_range, slice_get-length}
 use Rattle.order_model.specs.declared.completion.Completion.{Completion}
 use Rattle.order_model.specs.declared.completion.Completion.TheVariants.{Failed}
-use Rattle.order_model.specs.Received.{ids_of, all_ids}
-use Rattle.order_model.specs.Device.{is_ordered, Completes, TellsCut, IsUnmoved, TellsFailure, completion_id}
+use Rattle.order_model.specs.Received.{all_parts, ids_of, all_ids}
+use Rattle.order_model.specs.declared.history.Transfer.{Transfer}
+use Rattle.order_model.specs.Device.{IsSettled, is_ordered, Completes, TellsCut, IsUnmoved, TellsFailure, completion_id}
 use Rattle.order_model.specs.Steps.{Progresses}
 use Rattle.order_model.proofs.Received.{all_ids-In}
 use Rattle.command_queue.specs.Queue.{Waiting, have_common_block, stands_in_way, is_free, eligible, AreNumbered}
-use Rattle.device_epochs.specs.Device.{DeviceState, is_off, is_next, has_room, may_transfer, has_stopped, transferable, tried, transferred, persistable, written, persisted, answers_left, answered, after_read, seen}
+use Rattle.device_epochs.specs.Cache.{oldest}
+use Rattle.device_epochs.specs.Device.{DeviceState, is_off, fails_next, has_room, may_transfer, has_stopped, transferable, tried, transferred, persistable, written, persisted, answers_left, answered, after_read, seen}
 use Rattle.device_epochs.specs.laws.Valid.{IsDone, CompletionFacts, work_left, IsValid}
 use Rattle.device_epochs.specs.laws.BoundLaws.{some_ids}
-use Rattle.device_epochs.specs.laws.PendingLaws.{lost-some, pending-is, numbered}
+use Rattle.device_epochs.specs.laws.PendingLaws.{lost-some, pending-is, numbered, number-is, is-number}
 use Rattle.device_epochs.specs.laws.CacheLaws.{oldest_some}
 use Rattle.device_epochs.specs.laws.StepLaws.{transferable-waits, is-transferable, tried-fails, tried-moves, persistable-In}
-use Rattle.device_epochs.specs.laws.EpochOrder.{kept_is_moved}
-use Rattle.device_epochs.specs.laws.CompletionLaws.{id-In_completions, cut-told, completions-seen, moved-seen, flushed-seen, failed-seen}
+use Rattle.device_epochs.specs.laws.EpochOrder.{kept, kept_is_moved}
+use Rattle.device_epochs.specs.laws.CompletionLaws.{id-In_completions, cut-told, cut-seen, completions-seen, moved-seen, flushed-seen, failed-seen}
 use Rattle.device_epochs.specs.laws.CountLaws.{work, work_left-moved, work_left-failed, work_left-written, work_left-answered}
 
 -- ---- completions, the power and failed transfers
@@ -42,8 +44,13 @@ pub power_cut_law : (s : DeviceState) → IsValid s → TellsCut (seen s)
 power_cut_law s v =
     let f = completions-all s v in
     record {
-      off = λ h. f.1.told_off (cut-told s.took v.pending v.lost (s.sent ++ answers_left s) (is_off s) f.0 f.1 h);
+      told = (
+        λ h. f.1.told_off (cut-told s.took v.pending v.lost (s.sent ++ answers_left s) (is_off s) f.0 f.1 h),
+        λ off. cut-seen s.took v.pending v.lost s.sent s.waiting (is_off s) s.told v.completions off,
+      );
       once = f.1.cut_once;
+      cause = (number-is s.cut_at s.steps, is-number s.cut_at s.steps);
+      steps = v.counts.cut;
     }
 
 -- the lost command completed as failed
@@ -75,7 +82,22 @@ lost-unmoved s v id h =
     )
 
 pub failure_law : (s : DeviceState) → IsValid s → TellsFailure (seen s)
-failure_law s v = record { told = lost-told s v; known = lost-unmoved s v }
+failure_law s v = record { told = lost-told s v; known = lost-unmoved s v; number = v.faults.number; made = v.faults.made }
+
+-- while the power is on and nothing can be written, nothing is in the cache, so all that was moved is on the medium
+pub settled_law : (s : DeviceState) → IsValid s → is_off s ≡ false → length (persistable s) ≡ 0 → IsSettled (seen s)
+settled_law s v on none place moved =
+    let front : length (oldest s.cache) ≡ 0 = rw on at none in
+    let empty : s.cache ≡ [] = elim (cases_lt 0 (length s.cache)) [
+      | inl some ↦ let first = oldest_some s.cache some in absurd (omega (arith, front, first))
+      | inr few ↦ nil_from_length s.cache (omega (arith, few))
+    ] in
+    let t : Transfer = record { epoch = moved.0; part = place } in
+    let p = slice_get-in_range (all_parts s.took) place (v.moved.place t moved.1) in
+    elim (v.medium.covered place p.0 p.1 (v.moved.done t moved.1)) [
+      | inl cached ↦ absurd (subst (In cached.entry) empty cached.there)
+      | inr held ↦ kept s place p.0 p.1 held
+    ]
 
 pub off-nothing : (s : DeviceState) → is_off s ≡ true → (has_room s ≡ false) × (length (transferable s) ≡ 0) × (length (persistable s) ≡ 0)
 off-nothing s off = (and_left (not (is_off s)) (nat_lt (length s.queue.waiting) s.queue.depth) (not_from_true (is_off s) off), rw off refl, rw off refl)
@@ -156,7 +178,7 @@ pub falls-transferred : (s : DeviceState) (pick : ℕ) → IsValid s → pick < 
 falls-transferred s pick v lt =
     let w = slice_get-in_range (transferable s) pick lt in
     let there = transferable-waits s w.0 (slice_get-In (transferable s) pick w.0 w.1) in
-    elim (cases_Bool (is_next s.fail_at)) [
+    elim (cases_Bool (fails_next s)) [
       | inl t ↦ subst (λ (n : DeviceState). work_left n < work_left s) (sym (ap (tried s) w.1 ∙ tried-fails s w.0 t)) (work_left-failed s w.0 (numbered s v) there)
       | inr n ↦ subst (λ (n : DeviceState). work_left n < work_left s) (sym (ap (tried s) w.1 ∙ tried-moves s w.0 n)) (work_left-moved s w.0 (numbered s v) there)
     ]

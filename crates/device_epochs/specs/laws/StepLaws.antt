@@ -1,5 +1,5 @@
 -- What may be transferred and written, and what each step does to what is seen.
-use Rattle.std.specs.Prelude.{◌≡◌, ℕ, ◌<◌, ◌≤◌, ◌++◌, ◌==◌, not, true, false, List, [], ◌∷◌, length, Bool, Option, Some, None, slice_get, refl, if◌then◌else◌}
+use Rattle.std.specs.Prelude.{◌≡◌, ℕ, ◌+◌, ◌<◌, ◌≤◌, ◌++◌, ◌==◌, not, true, false, List, [], ◌∷◌, length, Bool, Option, Some, None, slice_get, refl, if◌then◌else◌}
 use Rattle.std.proofs.Common.{sym, ap, subst, ◌∙◌, inl, inr, arith}
 use Rattle.std.proofs.lemmas.Bool.{cases_Bool, and_parts, or_parts, both_ways, not-true, false_from_ne_true}
 use Rattle.std.proofs.lemmas.List.{append-nil}
@@ -9,15 +9,16 @@ use Rattle.blk_base.specs.laws.Members.{In-filter, filter-In, slice_get-In, slic
 use Rattle.order_model.specs.declared.command.Command.{Command}
 use Rattle.order_model.specs.declared.completion.Completion.{Completion}
 use Rattle.order_model.specs.declared.completion.Completion.TheVariants.{Cut}
-use Rattle.order_model.specs.Received.{completions_of, failures_of}
+use Rattle.order_model.specs.Received.{epoch_of, first_part, completions_of, failures_of, transfers as moved_parts}
 use Rattle.order_model.specs.Steps.{Receives, Tells, Transfers, Persists, Answers}
 use Rattle.command_queue.specs.Queue.{Waiting, eligible}
 use Rattle.device_epochs.specs.declared.cache.Entry.{Entry}
 use Rattle.device_epochs.specs.Cache.{oldest}
-use Rattle.device_epochs.specs.Device.{DeviceState, is_off, is_next, received, may_transfer, has_stopped, transferable, performed, failed_on, tried, transferred, persistable, written, persisted, tells_cut, answers_left, next_answer, answered, answered_from, seen}
-use Rattle.device_epochs.specs.laws.PendingLaws.{waits}
+use Rattle.device_epochs.specs.Device.{DeviceState, is_off, fails_next, received, may_transfer, has_stopped, transferable, performed, failed_on, tried, transferred, persistable, written, persisted, tells_cut, answers_left, next_answer, answered, answered_from, seen}
+use Rattle.device_epochs.specs.laws.EpochLaws.{epoch_of_eligible}
+use Rattle.device_epochs.specs.laws.PendingLaws.{waits, pending-is, number-is, not-number}
 use Rattle.device_epochs.specs.laws.QueueLaws.{eligible-waits}
-use Rattle.device_epochs.specs.laws.Valid.{IsValid}
+use Rattle.device_epochs.specs.laws.Valid.{with_waiting, IsValid}
 
 -- ---- which steps can be taken
 
@@ -45,19 +46,19 @@ is-transferable s w n f h m =
 
 -- ---- a transfer that is performed, and one that fails
 
-pub tried-fails : (s : DeviceState) (w : Waiting) → is_next s.fail_at ≡ true → tried s (Some w) ≡ failed_on s w
+pub tried-fails : (s : DeviceState) (w : Waiting) → fails_next s ≡ true → tried s (Some w) ≡ failed_on s w
 tried-fails s w t = rw t refl
 
-pub tried-moves : (s : DeviceState) (w : Waiting) → is_next s.fail_at ≡ false → tried s (Some w) ≡ performed s w
+pub tried-moves : (s : DeviceState) (w : Waiting) → fails_next s ≡ false → tried s (Some w) ≡ performed s w
 tried-moves s w n = rw n refl
 
 -- what holds of the old state, of one in which the command failed and of one in which it was moved holds after the transfer
 pub tried-all : (P : DeviceState → Type 0) (s : DeviceState) (o : Option Waiting) → P s
-    → ((w : Waiting) → o ≡ Some w → is_next s.fail_at ≡ true → P (failed_on s w))
-    → ((w : Waiting) → o ≡ Some w → is_next s.fail_at ≡ false → P (performed s w)) → P (tried s o)
+    → ((w : Waiting) → o ≡ Some w → fails_next s ≡ true → P (failed_on s w))
+    → ((w : Waiting) → o ≡ Some w → fails_next s ≡ false → P (performed s w)) → P (tried s o)
 tried-all P s None same fails moves = same
 tried-all P s (Some w) same fails moves =
-    elim (cases_Bool (is_next s.fail_at)) [
+    elim (cases_Bool (fails_next s)) [
       | inl t ↦ subst P (sym (tried-fails s w t)) (fails w refl t)
       | inr n ↦ subst P (sym (tried-moves s w n)) (moves w refl n)
     ]
@@ -93,28 +94,49 @@ Tells-new s new done v on same added =
           inl (after ∙ append-nil new.waiting ∙ added ∙ ap (λ (l : List Completion). l ++ done) before)
     ]
 
-Transfers-performed : (s : DeviceState) (w : Waiting) → IsValid s → is_off s ≡ false → slice_get s.took w.number ≡ Some w.command → Transfers (seen s) (seen (performed s w))
-Transfers-performed s w v on taken = record {
-  given = record { base = refl; limit = refl; took = refl; sent = refl };
+-- the present epoch is that of a command that is transferred
+transfer-epoch : (s : DeviceState) (w : Waiting) (v : IsValid s) → In w (transferable s) → epoch_of s.took w.number ≡ s.epoch
+transfer-epoch s w v h =
+    let may = transferable-In s w h in
+    let free : In w (eligible v.pending) = subst (λ ws. In w (eligible ws)) (sym (pending-is s v may.3)) may.1 in
+    epoch_of_eligible (length s.base) s.limit s.took (with_waiting s.queue v.pending) s.epoch w v.commands v.queue v.present free
+
+Transfers-performed : (s : DeviceState) (w : Waiting) → IsValid s → is_off s ≡ false → slice_get s.took w.number ≡ Some w.command → epoch_of s.took w.number ≡ s.epoch → fails_next s ≡ false → Transfers (seen s) (seen (performed s w))
+Transfers-performed s w v on taken now other = record {
+  given = record { base = refl; limit = refl; depth = refl; cut_at = refl; fail_at = refl; took = refl; sent = refl };
   surface = refl;
   origins = refl;
   steps = refl;
+  transfers_made = refl;
   number = w.number;
   command = w.command;
   taken = taken;
-  outcome = inl (record { epoch = s.epoch; moved = refl; told = Tells-new s (performed s w) (completions_of w.command) v on refl refl; failed = refl; faults = refl });
+  outcome = inl (record {
+    cause = not-number s.fail_at (s.transfers_made + 1) other;
+    moved = ap (λ epoch. s.moved ++ moved_parts epoch (first_part s.took w.number) w.command.parts) (sym now);
+    told = Tells-new s (performed s w) (completions_of w.command) v on refl refl;
+    failed = refl;
+    faults = refl;
+  });
 }
 
-Transfers-failed_on : (s : DeviceState) (w : Waiting) → IsValid s → is_off s ≡ false → slice_get s.took w.number ≡ Some w.command → Transfers (seen s) (seen (failed_on s w))
-Transfers-failed_on s w v on taken = record {
-  given = record { base = refl; limit = refl; took = refl; sent = refl };
+Transfers-failed_on : (s : DeviceState) (w : Waiting) → IsValid s → is_off s ≡ false → slice_get s.took w.number ≡ Some w.command → fails_next s ≡ true → Transfers (seen s) (seen (failed_on s w))
+Transfers-failed_on s w v on taken this = record {
+  given = record { base = refl; limit = refl; depth = refl; cut_at = refl; fail_at = refl; took = refl; sent = refl };
   surface = refl;
   origins = refl;
   steps = refl;
+  transfers_made = refl;
   number = w.number;
   command = w.command;
   taken = taken;
-  outcome = inr (record { moved = refl; told = Tells-new s (failed_on s w) (failures_of w.command) v on refl refl; failed = refl; faults = λ lt. omega arith });
+  outcome = inr (record {
+    cause = number-is s.fail_at (s.transfers_made + 1) this;
+    moved = refl;
+    told = Tells-new s (failed_on s w) (failures_of w.command) v on refl refl;
+    failed = refl;
+    faults = λ lt. omega arith;
+  });
 }
 
 pub Transfers-transferred : (s : DeviceState) (pick : ℕ) → IsValid s → pick < length (transferable s) → Transfers (seen s) (seen (transferred s pick))
@@ -123,9 +145,9 @@ Transfers-transferred s pick v lt =
     let h = slice_get-In (transferable s) pick w.0 w.1 in
     let on = (transferable-In s w.0 h).0 in
     let taken = v.queue.queued w.0 (waits s v w.0 (transferable-waits s w.0 h)) in
-    elim (cases_Bool (is_next s.fail_at)) [
-      | inl t ↦ subst (λ (n : DeviceState). Transfers (seen s) (seen n)) (sym (ap (tried s) w.1 ∙ tried-fails s w.0 t)) (Transfers-failed_on s w.0 v on taken)
-      | inr n ↦ subst (λ (n : DeviceState). Transfers (seen s) (seen n)) (sym (ap (tried s) w.1 ∙ tried-moves s w.0 n)) (Transfers-performed s w.0 v on taken)
+    elim (cases_Bool (fails_next s)) [
+      | inl t ↦ subst (λ (n : DeviceState). Transfers (seen s) (seen n)) (sym (ap (tried s) w.1 ∙ tried-fails s w.0 t)) (Transfers-failed_on s w.0 v on taken t)
+      | inr n ↦ subst (λ (n : DeviceState). Transfers (seen s) (seen n)) (sym (ap (tried s) w.1 ∙ tried-moves s w.0 n)) (Transfers-performed s w.0 v on taken (transfer-epoch s w.0 v h) n)
     ]
 
 pub no_transfer : (s : DeviceState) (pick : ℕ) → length (transferable s) ≤ pick → transferred s pick ≡ s
@@ -140,7 +162,7 @@ Persists-written s v e on =
     let not_told = untold s v on in
     let before : answers_left s ≡ s.waiting ++ [] = rw on refl in
     record {
-      given = record { base = refl; limit = refl; took = refl; sent = refl };
+      given = record { base = refl; limit = refl; depth = refl; cut_at = refl; fail_at = refl; took = refl; sent = refl };
       moved = refl;
       waiting =
           elim (cases_Bool (is_off (written s (Some e)))) [
@@ -154,6 +176,7 @@ Persists-written s v e on =
       failed = refl;
       faults = refl;
       steps = refl;
+      transfers_made = refl;
     }
 
 on_from_persistable : (s : DeviceState) (pick : ℕ) → pick < length (persistable s) → is_off s ≡ false

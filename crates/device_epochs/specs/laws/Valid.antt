@@ -127,10 +127,12 @@ to_come None = 0
 to_come (Some zero) = 0
 to_come (Some (suc n)) = 1
 
--- a fault comes only where one was to come
-pub record FaultFacts (fail_at bad_read : Option ℕ) (failed : Bool) (faults : ℕ) : Type 0 where
-  pub once : failed ≡ true → is_some fail_at ≡ true
-  pub few : faults + to_come fail_at + to_come bad_read ≤ 2
+-- The transfer that failed is the last of those that were made, and has the number that was given; once the one with this number was
+-- made, it has failed. A fault comes only where one was to come.
+pub record FaultFacts (fail_at : Option ℕ) (count : ℕ) (bad_read : Option ℕ) (failed : Bool) (faults : ℕ) : Type 0 where
+  pub number : failed ≡ true → fail_at ≡ Some count
+  pub made : (n : ℕ) → fail_at ≡ Some (suc n) → n < count → failed ≡ true
+  pub few : faults + to_come bad_read ≤ (if failed then 2 else 1)
 
 -- ---- completions
 
@@ -145,6 +147,7 @@ pub record CompletionFacts (took : List Command) (waiting : List Waiting) (lost 
   pub all : (k : ℕ) (c : Command) (x : Completion) → IsCompletionOf took waiting lost x k c → In x completions
   pub cut_once : (i j : ℕ) → slice_get completions i ≡ Some Cut → slice_get completions j ≡ Some Cut → i ≡ j
   pub told_off : told ≡ true → off ≡ true
+  pub told_there : told ≡ true → In Cut completions
 
 -- ---- counts
 
@@ -154,6 +157,8 @@ work_left s = sum_by (λ (w : Waiting). length w.command.parts + 1) s.queue.wait
 
 pub record CountFacts (s : DeviceState) (pending : List Waiting) : Type 0 where
   pub fits : length s.queue.waiting ≤ s.queue.depth
+  -- what was taken waits, or its transfer was made
+  pub queued : length s.queue.waiting + s.transfers_made ≡ length s.took
   pub steps : work_left s + s.steps ≤ length s.took + length (all_parts s.took)
   pub epochs : s.epoch ≤ s.steps
   pub moved : length s.moved + sum_by (λ (w : Waiting). length w.command.parts) pending ≡ length (all_parts s.took)
@@ -171,7 +176,7 @@ pub record IsValid (s : DeviceState) : Type 0 where
   pub pending : List Waiting
   pub lost : Option ℕ
   pub losses : PendingFacts s.queue.waiting pending lost s.failed
-  pub faults : FaultFacts s.fail_at s.bad_read s.failed s.faults
+  pub faults : FaultFacts s.fail_at s.transfers_made s.bad_read s.failed s.faults
   pub commands : CommandFacts (length s.base) s.limit s.took
   pub queue : QueueFacts s.took (with_waiting s.queue pending)
   pub present : IsPresent s.took pending s.epoch

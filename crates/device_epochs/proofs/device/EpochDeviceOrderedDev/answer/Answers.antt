@@ -14,7 +14,7 @@ invariant_of-self-then-not-self c =
     let s = state_of d in
     let h = c.self.invariant in
     let to = told_to s c.pop_front.new.self.items c.push-then-not-self.new.self.items c.in_default.ensures.value
-    (ap (λ (b : Buffer Completion). b.items) c.pop_front.ensures.items) (sym c.if-is_over.ensures) c.if-not-self.true
+    (ap (λ (b : Buffer Completion). b.items) c.pop_front.ensures.items) (sym c.if-is_number.ensures) c.if-not-self.true
     (ap (λ (t : HistoryState Completion). t.items) c.push-then-not-self.ensures) in
     let sent = ap (λ (t : HistoryState Completion). t.room) c.push-then-not-self.ensures in
     let waiting = ap (λ (b : Buffer Completion). b.capacity) c.pop_front.ensures.items in

@@ -1,8 +1,5 @@
-use Rattle.std.proofs.Common.{◌<◌, List, length, sym, ap, subst, ◌∙◌, arith}
+use Rattle.std.proofs.Common.{◌<◌, length, sym, ap, subst, arith}
 use Rattle.std.proofs.lemmas.List.{length-set}
-use Rattle.std.specs.Prelude.{slice_get}
-use Rattle.std.specs.Option.{option_map}
-use Rattle.order_model.specs.declared.part.Part.{Part}
 use Rattle.device_epochs.specs.Device.{DeviceState, persistable}
 use Rattle.device_epochs.specs.laws.Valid.{IsValid}
 use Rattle.device_epochs.specs.code.Fields.{state_of}

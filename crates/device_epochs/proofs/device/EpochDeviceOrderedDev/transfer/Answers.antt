@@ -47,6 +47,11 @@ complete_failed-requires c =
 pub overflow_add-self : goal.overflow_add-self
 overflow_add-self c =
     let can = can_move_from c.self.inside c.args.self.now c.args.pick c.in-Some.number c.in-Some-peek.command.now c.self.invariant c.self.view_is c.if-is_held.ensures.value c.in-Some.ensures c.in-Some-peek.ensures in
+    omega (arith, can.made, c.self.invariant.few)
+
+pub overflow_add-self-then-is_number : goal.overflow_add-self-then-is_number
+overflow_add-self-then-is_number c =
+    let can = can_move_from c.self.inside c.args.self.now c.args.pick c.in-Some.number c.in-Some-peek.command.now c.self.invariant c.self.view_is c.if-is_held.ensures.value c.in-Some.ensures c.in-Some-peek.ensures in
     omega (arith, can.steps, c.self.invariant.few)
 
 pub invariant_of-self : goal.invariant_of-self
@@ -58,10 +63,10 @@ invariant_of-self c =
     let w : Waiting = record { number = c.in-Some.number; command = c.in-Some-peek.command.now } in
     let waiting = ap (λ (b : Buffer Completion). b.items) c.complete_failed.ensures ∙ ap (λ (l : List Completion). s.waiting ++ l) (sym (failures-split w.command)) in
     let queue = c.leave.ensures ∙ ap (departed d.queue) can.picked in
-    let to = failed_to s w c.complete_failed.new.waiting.items c.leave.new.self c.count_down.new.number waiting queue c.if-count_down.ensures.rest in
+    let to = failed_to s w c.complete_failed.new.waiting.items c.leave.new.self waiting queue in
     let waiting_room = ap (λ (b : Buffer Completion). b.capacity) c.complete_failed.ensures in
     record {
-      valid = subst IsValid (can.fails (sym c.if-count_down.ensures.next) ∙ sym to) can.valid;
+      valid = subst IsValid (can.fails (sym c.if-is_number.ensures) ∙ sym to) can.valid;
       few = h.few;
       took = h.took;
       moved = h.moved;
@@ -72,21 +77,21 @@ invariant_of-self c =
       appended = h.appended;
     }
 
-pub returns-then-count_down-clause-when : goal.returns-then-count_down-clause-when
-returns-then-count_down-clause-when c =
+pub returns-then-is_number-clause-when : goal.returns-then-is_number-clause-when
+returns-then-is_number-clause-when c =
     let can = can_move_from c.self.inside c.args.self.now c.args.pick c.in-Some.number c.in-Some-peek.command.now c.self.invariant c.self.view_is c.if-is_held.ensures.value c.in-Some.ensures c.in-Some-peek.ensures in
     a_step (length (transferable c.args.self.now)) c.args.pick (subst (λ (t : DeviceState). c.args.pick < length (transferable t)) c.self.view_is can.within)
 
-pub returns-then-count_down-clause-state : goal.returns-then-count_down-clause-state
-returns-then-count_down-clause-state c =
+pub returns-then-is_number-clause-state : goal.returns-then-is_number-clause-state
+returns-then-is_number-clause-state c =
     let can = can_move_from c.self.inside c.args.self.now c.args.pick c.in-Some.number c.in-Some-peek.command.now c.self.invariant c.self.view_is c.if-is_held.ensures.value c.in-Some.ensures c.in-Some-peek.ensures in
     let d = c.self.inside in
     let s = state_of d in
     let w : Waiting = record { number = c.in-Some.number; command = c.in-Some-peek.command.now } in
     let waiting = ap (λ (b : Buffer Completion). b.items) c.complete_failed.ensures ∙ ap (λ (l : List Completion). s.waiting ++ l) (sym (failures-split w.command)) in
     let queue = c.leave.ensures ∙ ap (departed d.queue) can.picked in
-    let to = failed_to s w c.complete_failed.new.waiting.items c.leave.new.self c.count_down.new.number waiting queue c.if-count_down.ensures.rest in
-    to ∙ sym (can.fails (sym c.if-count_down.ensures.next)) ∙ ap (λ (t : DeviceState). transferred t c.args.pick) c.self.view_is
+    let to = failed_to s w c.complete_failed.new.waiting.items c.leave.new.self waiting queue in
+    to ∙ sym (can.fails (sym c.if-is_number.ensures)) ∙ ap (λ (t : DeviceState). transferred t c.args.pick) c.self.view_is
 
 -- ---- the command is performed
 
@@ -169,11 +174,11 @@ invariant_of-self-2 c =
     let queue = c.leave-2.ensures ∙ ap (departed d.queue) can.picked in
     let cache = c.put_parts.ensures.items ∙ ap (λ (ps : List Part). put_all (entries s.epoch first ps) s.cache) slice in
     let to = moved_to s w first c.note_transfers.new.moved.items c.complete.new.waiting.items c.leave-2.new.self c.put_parts.new.self.items c.next_epoch-self-inside.result
-    c.first_part-first.ensures moved waiting queue cache c.next_epoch-self-inside.ensures c.count_down.new.number c.if-count_down.ensures.rest in
+    c.first_part-first.ensures moved waiting queue cache c.next_epoch-self-inside.ensures in
     let moved_room = ap (λ (t : HistoryState Transfer). t.room) c.note_transfers.ensures in
     let waiting_room = ap (λ (b : Buffer Completion). b.capacity) c.complete.ensures in
     record {
-      valid = subst IsValid (can.moves (sym c.if-count_down.ensures.next) ∙ sym to) can.valid;
+      valid = subst IsValid (can.moves (sym c.if-is_number.ensures) ∙ sym to) can.valid;
       few = h.few;
       took = h.took;
       moved = omega (arith, moved_room, h.moved);
@@ -207,5 +212,5 @@ returns-clause-state c =
     let queue = c.leave-2.ensures ∙ ap (departed d.queue) can.picked in
     let cache = c.put_parts.ensures.items ∙ ap (λ (ps : List Part). put_all (entries s.epoch first ps) s.cache) slice in
     let to = moved_to s w first c.note_transfers.new.moved.items c.complete.new.waiting.items c.leave-2.new.self c.put_parts.new.self.items c.next_epoch-self-inside.result
-    c.first_part-first.ensures moved waiting queue cache c.next_epoch-self-inside.ensures c.count_down.new.number c.if-count_down.ensures.rest in
-    to ∙ sym (can.moves (sym c.if-count_down.ensures.next)) ∙ ap (λ (t : DeviceState). transferred t c.args.pick) c.self.view_is
+    c.first_part-first.ensures moved waiting queue cache c.next_epoch-self-inside.ensures in
+    to ∙ sym (can.moves (sym c.if-is_number.ensures)) ∙ ap (λ (t : DeviceState). transferred t c.args.pick) c.self.view_is
