@@ -7,7 +7,7 @@ use Rattle.order_model.specs.Steps.{Transfers, Persists}
 use Rattle.journal_replay.specs.code.Runs.{StepKeeps}
 
 stays : (s : Seen) → StepKeeps s s
-stays s = record { given = record { base = refl; limit = refl; took = refl; sent = refl }; faults = omega arith; failed = inl refl }
+stays s = record { given = record { base = refl; limit = refl; depth = refl; cut_at = refl; fail_at = refl; took = refl; sent = refl }; faults = omega arith; failed = inl refl }
 
 transfers : (old new : Seen) → Transfers old new → Grows old new → StepKeeps old new
 transfers old new t grows = record { given = t.given; faults = grows.faults; failed = ⊎_elim (λ done. inl done.failed) (λ fault. inr fault.faults) t.outcome }

@@ -4,5 +4,6 @@ pub mod HostFits
 pub mod Blocks
 pub mod Events
 pub mod SessionRuns
+pub mod SameDevice
 pub mod FullQueue
 pub mod MadeStart

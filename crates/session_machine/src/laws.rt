@@ -20,7 +20,7 @@ ghost use Rattle.host_volume.specs.Runs.{IsOpenedVolume, HasEmptyJournal};
 ghost use Rattle.host_volume.specs.Sessions.{Opening};
 ghost use Rattle.call_sessions.specs.Sessions.{WriteBytes, made_opening, call_over, host_behind, KeepsCalls};
 ghost use Rattle.session_machine.specs.Machine.{SessionState, Start, opened_session, run_events, host_events, repeated};
-ghost use Rattle.session_machine.specs.Fits.{SessionFits, CanStart, IsDevice, SubmitsOne};
+ghost use Rattle.session_machine.specs.Fits.{SessionFits, CanStart, IsDevice, IsMadeAs, SubmitsOne};
 ghost use Rattle.session_machine.specs.MadeStart.{made_start, IsNew};
 
 use barrier_reassign::Scheduler;
@@ -29,7 +29,7 @@ use order_model::{OrderedDev, keeps_order_to_the_medium};
 /// A law, which does nothing when it is called: in a session on a volume and journal that can be opened, whatever events
 /// happen, the parts fit on any scheduler and any device: the host's requests have their places as ids and go to blocks
 /// that are there; what was accepted is a prefix of what was submitted, what the device took one of what was sent out, and
-/// what the host took one of what the device sent; and no queue holds more than it can.
+/// what the host took one of what the device sent; no queue holds more than it can; and what the device was made with stays.
 pub fn parts_of_sessions_fit<S: Scheduler, D: OrderedDev>()
     ensures device { IsDevice (machine_of D.OrderedDev) D.valid }
     ensures fit { (s : Opening) (b : Start) (sched : S.State) (dev : D.State) (es : List CoreEvent) →
@@ -40,6 +40,10 @@ pub fn parts_of_sessions_fit<S: Scheduler, D: OrderedDev>()
         AreWritten s.format s.writers → IsOpenedVolume s b.volume → HasEmptyJournal s b.ring b.limit → WriteBytes b.programs →
         S.valid sched → D.valid dev → CanStart s b (S.steps.seen sched) (D.seen dev) →
         let r = run_events s S.steps (machine_of D.OrderedDev) (opened_session s b sched dev) es in S.valid r.sched × D.valid r.dev × ((D.seen r.dev).base ≡ s.image) }
+    ensures made { (s : Opening) (b : Start) (sched : S.State) (dev : D.State) (es : List CoreEvent) →
+        AreWritten s.format s.writers → IsOpenedVolume s b.volume → HasEmptyJournal s b.ring b.limit → WriteBytes b.programs →
+        S.valid sched → D.valid dev → CanStart s b (S.steps.seen sched) (D.seen dev) →
+        IsMadeAs (D.seen dev) (D.seen (run_events s S.steps (machine_of D.OrderedDev) (opened_session s b sched dev) es).dev) }
 {}
 
 /// A law, which does nothing when it is called: the host of a session takes just the steps that its events say, each with

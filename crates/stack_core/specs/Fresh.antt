@@ -1,18 +1,17 @@
 -- Fresh devices for a recovery.
 use Rattle.std.specs.Prelude.{◌≡◌, ℕ, ◌+◌, ◌≤◌, List, [], ◌∷◌, length, None}
-use Rattle.order_model.specs.Device.{Seen}
+use Rattle.order_model.specs.Device.{Seen, IsUntouched}
 use Rattle.device_epochs.specs.declared.device.DeviceSetup.{DeviceSetup}
 use Rattle.device_epochs.specs.Device.{DeviceState, opened}
 
--- It was made over this image, took and sent nothing and made no step, and nothing failed on it. It may take so many ids as the image has
--- blocks, and two more: a recovery writes each block once at most, then the journal's superblock, and flushes.
+-- It was made over this image with no power cut and no transfer that fails, and nothing was asked of it yet. It may take so many ids as
+-- the image has blocks, and two more: a recovery writes each block once at most, then the journal's superblock, and flushes.
 pub record IsFresh (image : List (List ℕ)) (s : Seen) : Type 0 where
   pub base : s.base ≡ image
   pub surface : s.surface ≡ image
-  pub took : s.took ≡ []
-  pub sent : s.sent ≡ []
-  pub steps : s.steps ≡ 0
-  pub faults : s.faults ≡ 0
+  pub untouched : IsUntouched s
+  pub cut_at : s.cut_at ≡ None
+  pub fail_at : s.fail_at ≡ None
   pub room : length image + 2 ≤ s.limit
 
 -- a model device of this depth over an image, with room for a recovery of it; nothing fails on it, and it stays on

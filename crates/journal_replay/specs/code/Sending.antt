@@ -13,6 +13,7 @@ use Rattle.order_model.proofs.Received.{all_ids-append, none_twice-front}
 
 -- a command for a device of so many blocks
 pub record IsCommand (blocks : ℕ) (c : Command) : Type 0 where
+  pub small : length c.parts ≤ 16
   pub whole : is_some c.flush ≡ (length c.parts == 0)
   pub ordered : (c.barrier || is_some c.flush) ≡ true → c.priority ≡ Ordered
   pub within : All (λ (p : Part). p.block < blocks) c.parts
@@ -46,6 +47,7 @@ next_receivable s c rest law can =
     let front : all_ids (s.took ++ c ∷ rest) ≡ (all_ids s.took ++ ids_of c) ++ all_ids rest = all_ids-append s.took (c ∷ rest) ∙ sym (append_assoc (all_ids s.took) (ids_of c) (all_ids rest)) in
     let size = length-append (all_ids s.took ++ ids_of c) (all_ids rest) in
     record {
+      small = own.small;
       whole = own.whole;
       ordered = own.ordered;
       within = rw law.blocks own.within;

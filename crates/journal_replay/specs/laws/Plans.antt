@@ -102,10 +102,10 @@ ordered_if true e = refl
 ordered_if false e = absurd (false≢true e)
 
 write_command : (id : ℕ) (h : Logged) (last : Bool) (blocks : ℕ) → h.block < blocks → IsCommand blocks (write id h last)
-write_command id h last blocks lt = record { whole = refl; ordered = λ e. ordered_if last e; within = All-cons (λ (p : Part). p.block < blocks) _ [] lt (All-nil (λ (p : Part). p.block < blocks)) }
+write_command id h last blocks lt = record { small = omega arith; whole = refl; ordered = λ e. ordered_if last e; within = All-cons (λ (p : Part). p.block < blocks) _ [] lt (All-nil (λ (p : Part). p.block < blocks)) }
 
 flush_command : (id blocks : ℕ) → IsCommand blocks (flush id)
-flush_command id blocks = record { whole = refl; ordered = λ e. refl; within = All-nil (λ (p : Part). p.block < blocks) }
+flush_command id blocks = record { small = omega arith; whole = refl; ordered = λ e. refl; within = All-nil (λ (p : Part). p.block < blocks) }
 
 each_command : (hs : List Logged) (superblock : Logged) (first n blocks : ℕ) → ((h : Logged) → In h hs → h.block < blocks) → superblock.block < blocks → (c : Command) → In c (home_writes first hs ++ ending n superblock) → IsCommand blocks c
 each_command [] superblock first n blocks homes_in super_in c (inl e) = subst (IsCommand blocks) e (write_command n superblock true blocks super_in)

@@ -37,7 +37,7 @@ silent_by s none on c f t (completion.Failed id ∷ cs) e =
     let m = f.known id (subst (In (completion.Failed id)) (sym e) (inl refl)) in
     absurd (none-some m.1.command (ap (λ (cs : List Command). slice_get cs m.1.number) (sym none) ∙ m.1.taken))
 silent_by s none on c f t (completion.Cut ∷ cs) e =
-    absurd (false≢true (sym on ∙ t.off (subst (In completion.Cut) (sym e) (inl refl))))
+    absurd (false≢true (sym on ∙ t.told.0 (subst (In completion.Cut) (sym e) (inl refl))))
 
 -- a device that took nothing has told nothing
 pub fresh_silent : (s : Seen) → s.took ≡ [] → s.off ≡ false → Completes s → TellsFailure s → TellsCut s → s.sent ++ s.waiting ≡ []

@@ -3,6 +3,7 @@ use Rattle.order_model.specs.Machine.{machine_of}
 use Rattle.session_machine.specs.Machine.{opened_session}
 use Rattle.session_machine.specs.Fits.{IsDevice}
 use Rattle.session_machine.proofs.SessionRuns.{opened_holds, run_holds}
+use Rattle.session_machine.proofs.SameDevice.{IsSame, made_as_itself, same_device}
 use Rattle.session_machine.proofs.laws.parts_of_sessions_fit.Goals as goal
 
 pub returns : goal.returns
@@ -21,4 +22,9 @@ returns g c =
           let v = run_holds s k.steps (machine_of t) k.valid t.valid keeps device b written opened journal bytes start.blocks [] (opened_session s b sched dev) refl
           (opened_holds s k.steps (machine_of t) k.valid t.valid keeps device b sched dev ok can start) es in
           (v.sched, v.dev, v.image);
+      made = λ s b sched dev es written opened journal bytes ok can start.
+          let first = t.seen dev in
+          let same = same_device (machine_of t) t.valid first device in
+          (run_holds s k.steps (machine_of t) k.valid (IsSame (machine_of t) t.valid first) keeps same b written opened journal bytes start.blocks [] (opened_session s b sched dev) refl
+          (opened_holds s k.steps (machine_of t) k.valid (IsSame (machine_of t) t.valid first) keeps same b sched dev ok (can, made_as_itself first) start) es).dev.1;
     }

@@ -8,10 +8,10 @@ use Rattle.session_recovery.proofs.Kept.{left_by}
 use Rattle.session_recovery.proofs.attempts.recover_line.Goals as goal
 
 pub recover-requires-clause-quiet : goal.recover-requires-clause-quiet
-recover-requires-clause-quiet g c = let d = g.M.Dev.OrderedDev in quiet_new (d.seen (d.state c.in_ok-device.device)) c.in_ok-device.ensures.is_fresh.took
+recover-requires-clause-quiet g c = let d = g.M.Dev.OrderedDev in quiet_new (d.seen (d.state c.in_ok-device.device)) c.in_ok-device.ensures.is_fresh.untouched.took
 
 pub recover-requires-clause-fresh : goal.recover-requires-clause-fresh
-recover-requires-clause-fresh g c = c.in_ok-device.ensures.is_fresh.took
+recover-requires-clause-fresh g c = c.in_ok-device.ensures.is_fresh.untouched.took
 
 pub recover-requires-clause-on : goal.recover-requires-clause-on
 recover-requires-clause-on g c = c.in_ok-device.ensures.on

@@ -3,7 +3,7 @@ use Rattle.session_recovery.proofs.Attempted.{quiet_new}
 use Rattle.session_recovery.proofs.remounting.mount_image.Goals as goal
 
 pub mount-requires-clause-quiet : goal.mount-requires-clause-quiet
-mount-requires-clause-quiet g c = let d = g.M.Dev.OrderedDev in quiet_new (d.seen (d.state c.in_ok-device.device)) c.in_ok-device.ensures.is_fresh.took
+mount-requires-clause-quiet g c = let d = g.M.Dev.OrderedDev in quiet_new (d.seen (d.state c.in_ok-device.device)) c.in_ok-device.ensures.is_fresh.untouched.took
 
 pub mount-requires-clause-room : goal.mount-requires-clause-room
 mount-requires-clause-room g c =
