@@ -57,7 +57,7 @@ behind_is : (s : Opening) (h : Host VolumeNow ByteCall Reply) (k : ℕ)
 behind_is s h k =
     let n = cut_of h.cuts (length (plain_host h).history) k in
     ap (λ (t : PlainTree). t.tree) (same_trees plain_call (call_over s).model h.history n)
-    ∙ (trees_are s.geometry h.history n
+    ∙ (trees_are (λ (c : ByteCall). c.call) s.geometry h.history n
     ∙ ap (λ cs. tree_after_entries (room_of s.geometry) root_alone 0 cs n) (sym (acting_as h.history)))
 
 -- ---- recovery

@@ -1,10 +1,10 @@
 -- The entries of a history number its calls, and its trees are those of the tree model.
-use Rattle.std.specs.Prelude.{◌≡◌, ℕ, zero, suc, ◌+◌, Bool, true, false, not, ◌&&◌, if◌then◌else◌, List, Option, Some, None, slice_get, option_map, refl}
+use Rattle.std.specs.Prelude.{◌≡◌, ℕ, zero, suc, ◌+◌, Bool, true, false, not, ◌&&◌, if◌then◌else◌, List, map, Option, Some, None, slice_get, option_map, refl}
 use Rattle.std.proofs.Common.{sym, ap, subst, ◌∙◌, inl, inr, arith}
 use Rattle.std.proofs.lemmas.Bool.{cases_Bool}
 use Rattle.std.proofs.lemmas.Option.{slice_get-map}
 use Rattle.minix_layout.specs.declared.division.Geometry.{Geometry}
-use Rattle.host_volume.specs.ByteCalls.{ByteCall}
+use Rattle.tree_model.specs.declared.call.Call.{Call}
 use Rattle.tree_model.specs.declared.call.Reply.{Reply}
 use Rattle.tree_model.specs.declared.call.Room.{Room}
 use Rattle.tree_model.specs.Calls.{Tree, tree_after as tree_after_one}
@@ -19,8 +19,8 @@ use Rattle.host_machine.specs.State.{Entry}
 use Rattle.host_machine.specs.Views.{is_answered, acted, tree_after}
 use Rattle.host_volume.specs.Numbers.{next_birth, number_in}
 use Rattle.host_volume.specs.PlainTrees.{PlainTree, tree_after_call}
-use Rattle.host_volume.specs.Runs.{call_of_entry, calls_of}
-use Rattle.host_volume.specs.Sessions.{model}
+use Rattle.host_volume.specs.Runs.{acting}
+use Rattle.host_volume.specs.Sessions.{model_of}
 use Rattle.host_volume.specs.laws.Numbers.{max_of_less, next_least}
 use Rattle.host_volume.proofs.TreeSteps.{after_is, rename_stays}
 
@@ -31,45 +31,45 @@ number_kept t n born = max_of_less n (next_birth t.tree) (next_least t.tree n (�
 later : (tree : Tree) (n : ℕ) → AreBornBefore n tree → AreBornBefore (n + 1) tree
 later tree n born birth node at = (let low = born birth node at in omega arith)
 
-module _ (g : Geometry) where
+module _ {C : Type 0} (call_of : C → Call) (g : Geometry) where
   abbrev room : Room
   room = room_of g
 
   -- ---- one entry
 
-  entry_born : (t : PlainTree) (n : ℕ) (e : Entry ByteCall Reply) → AreBornBefore n t.tree → AreBornBefore (n + 1) (acted (model g) t n e).tree
+  entry_born : (t : PlainTree) (n : ℕ) (e : Entry C Reply) → AreBornBefore n t.tree → AreBornBefore (n + 1) (acted (model_of call_of g) t n e).tree
   entry_born t n e born = by (is_answered e.what)
     where
-      moved : is_rename e.call.call ≡ false → AreBornBefore (n + 1) (tree_after_call room t n e.call.call).tree
+      moved : is_rename (call_of e.call) ≡ false → AreBornBefore (n + 1) (tree_after_call room t n (call_of e.call)).tree
       moved other =
-          subst (AreBornBefore (n + 1)) (sym (after_is room t n e.call.call other ∙ ap (λ k. tree_after_one room t.tree k e.call.call) (number_kept t n born)))
-          (call_born room t.tree n e.call.call t.plain born)
+          subst (AreBornBefore (n + 1)) (sym (after_is room t n (call_of e.call) other ∙ ap (λ k. tree_after_one room t.tree k (call_of e.call)) (number_kept t n born)))
+          (call_born room t.tree n (call_of e.call) t.plain born)
 
-      called : AreBornBefore (n + 1) (tree_after_call room t n e.call.call).tree
-      called = elim (cases_Bool (is_rename e.call.call)) [
-        | inl is ↦ subst (λ (u : PlainTree). AreBornBefore (n + 1) u.tree) (sym (rename_stays room t n e.call.call is)) (later t.tree n born)
+      called : AreBornBefore (n + 1) (tree_after_call room t n (call_of e.call)).tree
+      called = elim (cases_Bool (is_rename (call_of e.call))) [
+        | inl is ↦ subst (λ (u : PlainTree). AreBornBefore (n + 1) u.tree) (sym (rename_stays room t n (call_of e.call) is)) (later t.tree n born)
         | inr other ↦ moved other
       ]
 
-      by : (b : Bool) → AreBornBefore (n + 1) (if b then tree_after_call room t n e.call.call else t).tree
+      by : (b : Bool) → AreBornBefore (n + 1) (if b then tree_after_call room t n (call_of e.call) else t).tree
       by true = called
       by false = later t.tree n born
 
-  entry_tree : (t : PlainTree) (n : ℕ) (e : Entry ByteCall Reply) → AreBornBefore n t.tree → (acted (model g) t n e).tree ≡ tree_after_entry room t.tree n (Some (call_of_entry e))
-  entry_tree t n e born = by (is_answered e.what) (is_rename e.call.call) refl
+  entry_tree : (t : PlainTree) (n : ℕ) (e : Entry C Reply) → AreBornBefore n t.tree → (acted (model_of call_of g) t n e).tree ≡ tree_after_entry room t.tree n (Some (acting call_of e))
+  entry_tree t n e born = by (is_answered e.what) (is_rename (call_of e.call)) refl
     where
-      by : (a b : Bool) → is_rename e.call.call ≡ b → (if a then tree_after_call room t n e.call.call else t).tree ≡ tree_after_entry room t.tree n (Some (if a && not b then Some e.call.call else None))
+      by : (a b : Bool) → is_rename (call_of e.call) ≡ b → (if a then tree_after_call room t n (call_of e.call) else t).tree ≡ tree_after_entry room t.tree n (Some (if a && not b then Some (call_of e.call) else None))
       by false b is = refl
-      by true true is = ap (λ (u : PlainTree). u.tree) (rename_stays room t n e.call.call is)
-      by true false other = after_is room t n e.call.call other ∙ ap (λ k. tree_after_one room t.tree k e.call.call) (number_kept t n born)
+      by true true is = ap (λ (u : PlainTree). u.tree) (rename_stays room t n (call_of e.call) is)
+      by true false other = after_is room t n (call_of e.call) other ∙ ap (λ k. tree_after_one room t.tree k (call_of e.call)) (number_kept t n born)
 
   -- ---- all entries
 
-  module _ (es : List (Entry ByteCall Reply)) where
+  module _ (es : List (Entry C Reply)) where
     abbrev At : ℕ → PlainTree
-    At n = tree_after (model g) es n
+    At n = tree_after (model_of call_of g) es n
 
-    born_by : (o : Option (Entry ByteCall Reply)) (n : ℕ) → AreBornBefore (n + 1) (At n).tree → AreBornBefore (suc n + 1) (elim o as (λ _. PlainTree) [ None ↦ At n | Some e ↦ acted (model g) (At n) (suc n) e ]).tree
+    born_by : (o : Option (Entry C Reply)) (n : ℕ) → AreBornBefore (n + 1) (At n).tree → AreBornBefore (suc n + 1) (elim o as (λ _. PlainTree) [ None ↦ At n | Some e ↦ acted (model_of call_of g) (At n) (suc n) e ]).tree
     born_by None n born = (λ birth node at. let low = born birth node at in omega arith)
     born_by (Some e) n born = (let next : n + 1 ≡ suc n = omega arith in entry_born (At n) (suc n) e (subst (λ k. AreBornBefore k (At n).tree) next born))
 
@@ -82,18 +82,18 @@ module _ (g : Geometry) where
     pub numbers_kept : (n : ℕ) → number_in (At n).tree (n + 1) ≡ n + 1
     numbers_kept n = number_kept (At n) (n + 1) (all_born n)
 
-    step_tree : (o : Option (Entry ByteCall Reply)) (n : ℕ) → AreBornBefore (n + 1) (At n).tree →
-        (elim o as (λ _. PlainTree) [ None ↦ At n | Some e ↦ acted (model g) (At n) (suc n) e ]).tree ≡ tree_after_entry room (At n).tree (suc n) (option_map call_of_entry o)
+    step_tree : (o : Option (Entry C Reply)) (n : ℕ) → AreBornBefore (n + 1) (At n).tree →
+        (elim o as (λ _. PlainTree) [ None ↦ At n | Some e ↦ acted (model_of call_of g) (At n) (suc n) e ]).tree ≡ tree_after_entry room (At n).tree (suc n) (option_map (acting call_of) o)
     step_tree None n born = refl
     step_tree (Some e) n born = (let next : n + 1 ≡ suc n = omega arith in entry_tree (At n) (suc n) e (subst (λ k. AreBornBefore k (At n).tree) next born))
 
     -- and the trees are those of the tree model
-    pub trees_are : (n : ℕ) → (At n).tree ≡ tree_after_entries room root_alone 0 (calls_of es) n
+    pub trees_are : (n : ℕ) → (At n).tree ≡ tree_after_entries room root_alone 0 (map (acting call_of) es) n
     unfolding tree_after_entries
     trees_are zero = refl
     trees_are (suc n) =
         let next : suc n ≡ 0 + suc n = omega arith in
         step_tree (slice_get es n) n (all_born n)
-        ∙ (ap (tree_after_entry room (At n).tree (suc n)) (sym (slice_get-map call_of_entry es n))
-        ∙ (ap (λ tree. tree_after_entry room tree (suc n) (slice_get (calls_of es) n)) (trees_are n)
-        ∙ ap (λ k. tree_after_entry room (tree_after_entries room root_alone 0 (calls_of es) n) k (slice_get (calls_of es) n)) next))
+        ∙ (ap (tree_after_entry room (At n).tree (suc n)) (sym (slice_get-map (acting call_of) es n))
+        ∙ (ap (λ tree. tree_after_entry room tree (suc n) (slice_get (map (acting call_of) es) n)) (trees_are n)
+        ∙ ap (λ k. tree_after_entry room (tree_after_entries room root_alone 0 (map (acting call_of) es) n) k (slice_get (map (acting call_of) es) n)) next))

@@ -91,7 +91,7 @@ module _ (s : Opening) (h : Host VolumeNow ByteCall Reply) (kept : IsSoundHost (
         sentences = said;
         trees = λ m recovered order recovers.
             let last = cut_of h.cuts (length h.history) (kept_number (over s) (Stands s) h closed m) in
-            subst (HasTreeLike s recovered) (trees_are s.geometry h.history last)
+            subst (HasTreeLike s recovered) (trees_are (λ (c : ByteCall). c.call) s.geometry h.history last)
             (tree_like s (tree_after (model s.geometry) h.history last) recovered (said.tree m (disk_of recovered) order recovers));
       }
 

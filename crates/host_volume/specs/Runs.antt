@@ -30,9 +30,13 @@ use Rattle.host_volume.specs.ByteCalls.{ByteCall}
 use Rattle.host_volume.specs.Volumes.{HaveBytes}
 use Rattle.host_volume.specs.Sessions.{Opening, over, HasRoot, Stands}
 
--- the call of an entry that acts on the tree, as the tree model has it; renames are refused
+-- The call of an entry that acts on the tree, as the tree model has it, where `call_of` says which call an entry has.
+-- Renames are refused.
+abbrev pub acting : {C : Type 0} → (C → Call) → Entry C Reply → Option Call
+acting call_of e = if is_answered e.what && not (is_rename (call_of e.call)) then Some (call_of e.call) else None
+
 abbrev pub call_of_entry : Entry ByteCall Reply → Option Call
-call_of_entry e = if is_answered e.what && not (is_rename e.call.call) then Some e.call.call else None
+call_of_entry e = acting (λ c. c.call) e
 
 abbrev pub calls_of : List (Entry ByteCall Reply) → List (Option Call)
 calls_of es = map call_of_entry es

@@ -38,6 +38,10 @@ acting_as : (es : List (Entry ByteCall Reply)) → map acting_call (map (entry_a
 acting_as [] = refl
 acting_as (e ∷ es) = ap (λ (cs : List (Option Call)). call_of_entry e ∷ cs) (acting_as es)
 
+-- the tree that a history is read over is that of the tree model
+pub tree_told : (s : Opening) (h : Host VolumeNow Call Reply) (n : ℕ) → (views.tree_after (call_over s).model h.history n).tree ≡ tree_at s h n
+tree_told s h n = trees_are (λ (c : Call). c) s.geometry h.history n
+
 module _ (s : Opening) (v : VolumeNow) (ring : LogRing) (limit : ℕ) (programs : List (List Call)) (written : AreWritten s.format s.writers) (o : IsOpenedVolume s v) (j : HasEmptyJournal s ring limit) (bytes : WriteBytes programs) where
   abbrev byte_host : List runs.Event → Host VolumeNow ByteCall Reply
   byte_host events = host_after s v ring limit (all_with_bytes programs bytes) events
@@ -68,7 +72,7 @@ module _ (s : Opening) (v : VolumeNow) (ring : LogRing) (limit : ℕ) (programs 
   pub tree_is : (events : List runs.Event) → tree_of_now (at events).volume ≡ tree_at s (at events) (length (at events).history)
   tree_is events =
       let es = (byte_host events).history in
-      (stands events).tree ∙ trees_are s.geometry es (length es)
+      (stands events).tree ∙ trees_are (λ (c : ByteCall). c.call) s.geometry es (length es)
       ∙ ap (λ cs. tree_after_entries (room_of s.geometry) root_alone 0 cs (length es)) (sym (acting_as es))
       ∙ ap (λ n. tree_after_entries (room_of s.geometry) root_alone 0 (map acting_call (map (entry_as plain_call) es)) n) (sym (same_length events))
       ∙ ap (λ (h : Host VolumeNow Call Reply). tree_at s h (length (at events).history)) (sym (same_host events))
@@ -83,14 +87,14 @@ module _ (s : Opening) (v : VolumeNow) (ring : LogRing) (limit : ℕ) (programs 
   pub born : (events : List runs.Event) → AreBornBefore (length (at events).history + 1) (tree_of_now (at events).volume)
   born events =
       subst (λ n. AreBornBefore (n + 1) (tree_of_now (at events).volume)) (sym (same_length events))
-      (subst (AreBornBefore (length (byte_host events).history + 1)) (sym (stands events).tree) (all_born s.geometry (byte_host events).history (length (byte_host events).history)))
+      (subst (AreBornBefore (length (byte_host events).history + 1)) (sym (stands events).tree) (all_born (λ (c : ByteCall). c.call) s.geometry (byte_host events).history (length (byte_host events).history)))
 
   number_stays : (events : List runs.Event) → number_in (tree_of_now (at events).volume) (length (at events).history + 1) ≡ length (at events).history + 1
   number_stays events =
       let n = length (byte_host events).history in
       ap (λ k. number_in (tree_of_now (at events).volume) (k + 1)) (same_length events)
       ∙ ap (λ tree. number_in tree (n + 1)) (stands events).tree
-      ∙ numbers_kept s.geometry (byte_host events).history n
+      ∙ numbers_kept (λ (c : ByteCall). c.call) s.geometry (byte_host events).history n
       ∙ ap (λ k. k + 1) (sym (same_length events))
 
   -- ---- answers

@@ -1,23 +1,24 @@
 //! The laws, each a public function that does nothing when it is called.
-ghost use Rattle.std.specs.Prelude.{◌≡◌, ℕ, false, List};
+ghost use Rattle.std.specs.Prelude.{◌≡◌, ℕ, ◌≤◌, false, List, length};
 ghost use Rattle.tree_model.specs.declared.call.Call.{Call};
 ghost use Rattle.tree_model.specs.declared.call.Reply.{Reply};
 ghost use Rattle.volume_steps.specs.Now.{VolumeNow, room_of};
-ghost use Rattle.crash_laws.specs.LegalHistory.{is_turned_away, IsLegal};
+ghost use Rattle.crash_laws.specs.LegalHistory.{is_turned_away, tree_up_to, IsLegal};
 ghost use Rattle.journal_ring.specs.LogRing.{LogRing};
 ghost use Rattle.flush_actor.specs.Kinds.{is_data};
-ghost use Rattle.host_machine.specs.State.{Answered};
+ghost use Rattle.host_machine.specs.State.{Answered, Host};
+ghost use Rattle.host_machine.specs.Views.{tree_after};
 ghost use Rattle.host_runs.specs.Runs.{Event};
 ghost use Rattle.host_runs.specs.laws.Written.{AreWritten};
 ghost use Rattle.host_volume.specs.Calls.{kind_of};
 ghost use Rattle.host_volume.specs.Runs.{IsOpenedVolume, HasEmptyJournal};
 ghost use Rattle.host_volume.specs.Sessions.{Opening};
-ghost use Rattle.call_sessions.specs.Sessions.{WriteBytes, host_behind};
+ghost use Rattle.call_sessions.specs.Sessions.{WriteBytes, call_over, host_behind};
 ghost use Rattle.session_promises.specs.Answers.{AnsweredAt, HasOkCause, KeepsPromises};
 ghost use Rattle.session_promises.specs.Causes.{HaveCauses};
 ghost use Rattle.session_promises.specs.Entries.{EndsAt};
 ghost use Rattle.session_promises.specs.Legal.{events_in, program_of, FollowsTree};
-ghost use Rattle.session_promises.specs.Trees.{HaveNoRenames};
+ghost use Rattle.session_promises.specs.Trees.{tree_at, HaveNoRenames};
 
 /// A law, which does nothing when it is called: in every session a call ends with Down only where the power's completion
 /// was taken before; with ReadOnly only by the first failed request of all that were taken; and with SessionFull only where
@@ -56,4 +57,14 @@ pub fn histories_follow_the_tree()
     ensures legal { (s : Opening) (v : VolumeNow) (ring : LogRing) (limit : ℕ) (programs : List (List Call)) (events : List Event) →
         AreWritten s.format s.writers → IsOpenedVolume s v → HasEmptyJournal s ring limit → WriteBytes programs → HaveNoRenames programs →
         IsLegal (room_of s.geometry) (program_of programs) (events_in (host_behind s v ring limit programs events).history) }
+{}
+
+/// A law, which does nothing when it is called: three spellings of the trees of a session are one. The tree that its
+/// history is read over, for which blocks are mapped and what they have, is that which the tree model has after the calls
+/// that were answered; and so is the tree of the events, over which `crash_laws` says what is legal.
+pub fn trees_of_sessions_are_one()
+    ensures told { (s : Opening) (h : Host VolumeNow Call Reply) (n : ℕ) → (tree_after (call_over s).model h.history n).tree ≡ tree_at s h n }
+    ensures legal { (s : Opening) (v : VolumeNow) (ring : LogRing) (limit : ℕ) (programs : List (List Call)) (events : List Event) (n : ℕ) → HaveNoRenames programs →
+        let h = host_behind s v ring limit programs events in
+        n ≤ length h.history → tree_up_to (room_of s.geometry) (events_in h.history) n ≡ tree_at s h n }
 {}

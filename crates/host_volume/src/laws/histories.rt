@@ -1,6 +1,7 @@
 //! Laws of histories and of their trees.
-ghost use Rattle.std.specs.Prelude.{◌≡◌, ℕ, ◌+◌, List};
+ghost use Rattle.std.specs.Prelude.{◌≡◌, ℕ, ◌+◌, List, map};
 ghost use Rattle.minix_layout.specs.declared.division.Geometry.{Geometry};
+ghost use Rattle.tree_model.specs.declared.call.Call.{Call};
 ghost use Rattle.tree_model.specs.declared.call.Reply.{Reply};
 ghost use Rattle.tree_model.specs.Histories.{tree_after_entries};
 ghost use Rattle.volume_steps.specs.Now.{room_of};
@@ -8,19 +9,19 @@ ghost use Rattle.crash_laws.specs.LegalHistory.{root_alone};
 ghost use Rattle.crash_laws.specs.TreeHistory.{IsPlaceIn};
 ghost use Rattle.host_machine.specs.State.{Entry};
 ghost use Rattle.host_machine.specs.Views.{tree_after};
-ghost use Rattle.host_volume.specs.ByteCalls.{ByteCall};
 ghost use Rattle.host_volume.specs.Numbers.{number_in};
 ghost use Rattle.host_volume.specs.Paths.{place_in};
 ghost use Rattle.host_volume.specs.PlainTrees.{PlainTree};
-ghost use Rattle.host_volume.specs.Runs.{calls_of};
-ghost use Rattle.host_volume.specs.Sessions.{model};
+ghost use Rattle.host_volume.specs.Runs.{acting};
+ghost use Rattle.host_volume.specs.Sessions.{model_of};
 
 /// A law, which does nothing when it is called: in a history each call has the number of its entry, which is above all
-/// births; so the trees of the host's history are those that the tree model has after the same calls.
-pub fn histories_number_their_calls()
-    ensures numbers { (g : Geometry) (es : List (Entry ByteCall Reply)) (n : ℕ) → number_in (tree_after (model g) es n).tree (n + 1) ≡ n + 1 }
-    ensures trees { (g : Geometry) (es : List (Entry ByteCall Reply)) (n : ℕ) →
-        (tree_after (model g) es n).tree ≡ tree_after_entries (room_of g) root_alone 0 (calls_of es) n }
+/// births; so the trees of the host's history are those that the tree model has after the same calls. It holds of any
+/// entries that have calls of the tree model.
+pub fn histories_number_their_calls<C>()
+    ensures numbers { (call_of : C → Call) (g : Geometry) (es : List (Entry C Reply)) (n : ℕ) → number_in (tree_after (model_of call_of g) es n).tree (n + 1) ≡ n + 1 }
+    ensures trees { (call_of : C → Call) (g : Geometry) (es : List (Entry C Reply)) (n : ℕ) →
+        (tree_after (model_of call_of g) es n).tree ≡ tree_after_entries (room_of g) root_alone 0 (map (acting call_of) es) n }
 {}
 
 /// A law, which does nothing when it is called: a block of a file has its place on any path which leads to the file.
