@@ -20,7 +20,7 @@ use Rattle.session_grammar.specs.declared.session_script.SessionScript.{SessionS
 use Rattle.session_grammar.specs.Grammar.{session_of}
 use Rattle.session_report.specs.ReportText.{Figures, session_lines}
 use Rattle.session_core.specs.Core.{HostNow, core, opening_of, entry_in, ArePlaced, standings_of}
-use Rattle.session_core.specs.Headline.{Medium, IsLastChange, last_write, is_durable, kind_of, AnsweredAt, WasAnswered, told_of, submitted_of, kept_on, IsFound, IsLaterSurvived, IsShown, IsAllShown}
+use Rattle.session_core.specs.Headline.{Medium, IsLastChange, last_write, is_durable, kind_of, AnsweredAt, WasAnswered, told_of, submitted_of, kept_on, IsFound, IsLaterSurvived, IsShownBy, IsAllShown}
 use Rattle.session_core.specs.Report.{tree_behind}
 use Rattle.barrierfs_top.specs.Top.{WasRead}
 
@@ -79,17 +79,18 @@ pub record TellsSession (old new : Option (List ℕ)) (fault : Option TopFault) 
   pub counted : figures.found ≡ kept_on script medium
   -- The tree is alike to the one after the calls of these transactions.
   pub alike : AreAlike (tree_behind (opening_of script) (core script).host figures.found) tree
-  -- It has each block of a file in a version that is no older than the one which the last change of its file asks for.
+  -- It has each block of a file in a version that is no older than the one which the last change of its file asks for, and whose
+  -- request the medium has at the block's place.
   pub files : (f i k : ℕ) → (told_of script).maps ((told_of script).cut figures.found) f i ≡ true → IsLastChange (told_of script) f figures.found k
-      → IsShown (told_of script) tree alike.to f i (last_write (told_of script) f i ((told_of script).cut k))
+      → IsShownBy script (core script) medium tree alike.to f i (last_write (told_of script) f i ((told_of script).cut k))
   -- A barrier or sync call that was answered Ok began before, on the node to which its path led there. Where a write made after
   -- the answer of a barrier call survived, all that the call covers is shown or was superseded; all that a sync call covers
   -- is so in any case.
   pub answered : (e t : ℕ) (c : Call) → AnsweredAt (core script).host e t c → WasAnswered (opening_of script) (core script).host e t c
   pub barriers : (e t : ℕ) (c : Call) (ok : AnsweredAt (core script).host e t c) → is_durable (kind_of c) ≡ false → IsLaterSurvived script medium (e + 1)
-      → IsAllShown script (core script) figures.found tree alike.to (answered e t c ok).begun
+      → IsAllShown script (core script) medium figures.found tree alike.to (answered e t c ok).begun
   pub syncs : (e t : ℕ) (c : Call) (ok : AnsweredAt (core script).host e t c) → is_durable (kind_of c) ≡ true
-      → IsAllShown script (core script) figures.found tree alike.to (answered e t c ok).begun
+      → IsAllShown script (core script) medium figures.found tree alike.to (answered e t c ok).begun
 
 -- one or the other
 abbrev pub TellsRun : Option (List ℕ) → Option (List ℕ) → Option TopFault → List ℕ → Type 0

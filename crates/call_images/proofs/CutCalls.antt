@@ -21,14 +21,12 @@ use Rattle.crash_laws.specs.Headline.{HoldsPrefix}
 use Rattle.crash_laws.specs.LegalHistory.{root_alone}
 use Rattle.crash_laws.specs.Session.{Session, Medium}
 use Rattle.host_machine.specs.State.{Entry, Host}
-use Rattle.host_machine.specs.Views.{cut_of, tree_after}
+use Rattle.host_machine.specs.Views.{cut_of}
 use Rattle.host_runs.specs.Runs.{Event}
 use Rattle.host_runs.specs.laws.Written.{AreWritten}
 use Rattle.host_volume.specs.ByteCalls.{ByteCall}
-use Rattle.host_volume.specs.PlainTrees.{PlainTree}
 use Rattle.host_volume.specs.Runs.{IsOpenedVolume, HasEmptyJournal, call_of_entry, calls_of, tree_after_transactions}
 use Rattle.host_volume.specs.Sessions.{Opening, over}
-use Rattle.host_volume.proofs.Numbered.{trees_are}
 use Rattle.mount_make.specs.Images.{image_tree}
 use Rattle.mount_make.specs.Made.{made_image, new_journal}
 use Rattle.session_recovery.specs.Images as bytes
@@ -36,7 +34,7 @@ use Rattle.session_recovery.specs.Images.{Start, HasSizes, IsCutOf, HoldsKept, h
 use Rattle.call_sessions.specs.CallsAs.{entry_as}
 use Rattle.call_sessions.specs.Sessions.{made_now, made_opening, made_ring, plain_call, plain_host, call_over, acting_call, tree_behind}
 use Rattle.call_sessions.proofs.CallsKept.{all_with_bytes, is_plain}
-use Rattle.call_sessions.proofs.RunsAs.{tree_as as same_trees, history_as}
+use Rattle.call_sessions.proofs.RunsAs.{history_as}
 use Rattle.call_images.specs.CallImages.{opening_on, made_session, IsCut, submitted_by, kept_count, kept_tree, KeepsFiles}
 
 -- ---- trees
@@ -50,15 +48,6 @@ tree_as : (s : Opening) (h : Host VolumeNow ByteCall Reply) (k : ℕ) → tree_b
 tree_as s h k =
     ap (λ cs. tree_after_entries (room_of s.geometry) root_alone 0 cs (cut_of h.cuts (length (plain_host h).history) k)) (acting_as h.history)
     ∙ ap (λ n. tree_after_entries (room_of s.geometry) root_alone 0 (calls_of h.history) (cut_of h.cuts n k)) (length-map h.history (entry_as plain_call))
-
--- the trees of the history are those after its calls
-behind_is : (s : Opening) (h : Host VolumeNow ByteCall Reply) (k : ℕ)
-    → (tree_after (call_over s).model (plain_host h).history (cut_of h.cuts (length (plain_host h).history) k)).tree ≡ tree_behind s (plain_host h) k
-behind_is s h k =
-    let n = cut_of h.cuts (length (plain_host h).history) k in
-    ap (λ (t : PlainTree). t.tree) (same_trees plain_call (call_over s).model h.history n)
-    ∙ (trees_are (λ (c : ByteCall). c.call) s.geometry h.history n
-    ∙ ap (λ cs. tree_after_entries (room_of s.geometry) root_alone 0 cs n) (sym (acting_as h.history)))
 
 -- ---- recovery
 
@@ -139,9 +128,3 @@ module _ (volumes : VolumesAreOpened) (journals : JournalsAreEmpty) (g : Geometr
             (subst (λ told. HoldsPrefix (over s).program told (submitted_by g journal kept.0 (plain_host h)) m disk (kept_transactions start events m))
             (sym (history_as plain_call (call_over s).model h.history (over s).place h.cuts)) kept.1),
       )
-
-  -- the tree of its history behind the kept transactions
-  pub kept_behind : (let h = made_session g journal limit programs events in
-      (tree_after (call_over (opening_on g journal)).model h.history (cut_of h.cuts (length h.history) (kept_count g journal h m))).tree ≡ kept_tree g journal h m)
-  kept_behind = subst (λ h. (tree_after (call_over (opening_on g journal)).model h.history (cut_of h.cuts (length h.history) (kept_count g journal h m))).tree ≡ kept_tree g journal h m) (sym same_host)
-      (behind_is (opening_on g journal) (host_of start events) (kept_count g journal (plain_host (host_of start events)) m))

@@ -1,12 +1,13 @@
 -- The tree of what was recovered shows what is on the recovered disk.
-use Rattle.std.specs.Prelude.{◌≡◌, ℕ, ◌<◌, true, List, Some, None, Result, Ok, Err, length, slice_get}
-use Rattle.std.proofs.Common.{sym, ap, subst, ◌∙◌, inl, inr, ⊎_elim}
+use Rattle.std.specs.Prelude.{◌≡◌, ℕ, ◌<◌, true, List, [], Some, None, Result, Ok, Err, slice_get}
+use Rattle.std.proofs.Common.{sym, ap, subst, ◌∙◌, inl, inr, ⊎_elim, arith}
+use Rattle.std.proofs.lemmas.Bool.{cases_lt}
 use Rattle.std.proofs.lemmas.List.{get_or-take}
 use Rattle.std.proofs.lemmas.Option.{same_Some}
 use Rattle.minix_layout.specs.declared.division.Geometry.{Geometry}
 use Rattle.order_model.specs.declared.note.Note.{Note}
 use Rattle.order_model.specs.declared.note.Note.TheVariants.{Page}
-use Rattle.order_model.specs.OrderClosed.{IsOrderClosed}
+use Rattle.order_model.specs.OrderClosed.{HasOrigin, IsOrderClosed}
 use Rattle.log_model.specs.Marks.{Transaction}
 use Rattle.tree_model.specs.declared.call.Call.{Call}
 use Rattle.tree_model.specs.declared.call.Reply.{Reply}
@@ -21,18 +22,20 @@ use Rattle.volume_ops.specs.Zones.{Fault}
 use Rattle.volume_ops.specs.laws.ReadsLaws.{err-ok, same_Ok}
 use Rattle.volume_steps.specs.Now.{VolumeNow}
 use Rattle.crash_laws.specs.History.{History, last_write, IsLastChange}
+use Rattle.crash_laws.specs.PromiseRules.{IsLaterKept}
 use Rattle.crash_laws.specs.Recovery.{IsRecovered, HasVersion}
 use Rattle.crash_laws.specs.Session.{Session, Medium}
 use Rattle.crash_laws.specs.Volumes.{WalkEnd}
 use Rattle.crash_laws.proofs.Histories.{last_change}
 use Rattle.host_machine.specs.State.{Host}
-use Rattle.host_machine.specs.Views.{cut_of, tree_after}
+use Rattle.host_machine.specs.Views.{tree_after}
 use Rattle.host_volume.specs.Paths.{place_in}
 use Rattle.host_volume.specs.PlainTrees.{PlainTree}
+use Rattle.host_volume.proofs.Numbered.{trees_are}
 use Rattle.mount_make.specs.Images.{FaultPlace, image_fault, divided, fault_in_journal, recovered_from, volume_in, by_journal, by_walk, by_geometry, recovered_by, recovered_image, tree_after as tree_behind_mount, image_tree}
 use Rattle.mount_make.specs.Made.{made_image}
 use Rattle.call_sessions.specs.Sessions.{KeepsCalls, call_over}
-use Rattle.call_images.specs.CallImages.{opening_on, submitted_by, kept_count, kept_tree, KeepsFiles, history_of, IsShown, ShowsFiles}
+use Rattle.call_images.specs.CallImages.{opening_on, submitted_by, kept_count, kept_tree, KeepsFiles, history_of, place_of, IsShown, AreNewer, ShowsFiles}
 use Rattle.call_images.proofs.ShownBlocks.{page_shown}
 
 -- ---- one place has one version
@@ -85,7 +88,6 @@ module _ (g : Geometry) (journal : ℕ) (h : Host VolumeNow Call Reply) (m : Med
 
 module _ (g : Geometry) (journal : ℕ) (closed : List Transaction) (h : Host VolumeNow Call Reply) (m : Medium) (tree : Tree)
     (division : divided m.image ≡ Ok g) (fine : fault_in_journal g.zones m.image ≡ None) (shown : image_tree m.image ≡ Ok tree)
-    (behind : (tree_after (call_over (opening_on g journal)).model h.history (cut_of h.cuts (length h.history) (kept_count g journal h m))).tree ≡ kept_tree g journal h m)
     (walk : answer (disk_of (recovered_image m.image)) (walk_volume g) ≡ answer (disk_of (volume_in g m.image)) (walk_volume g))
     (alike : AreAlike (kept_tree g journal h m) tree) (files : KeepsFiles g journal closed h m (disk_of (recovered_image m.image))) where
   abbrev told : History WalkEnd
@@ -96,6 +98,10 @@ module _ (g : Geometry) (journal : ℕ) (closed : List Transaction) (h : Host Vo
 
   abbrev after : PlainTree
   after = tree_after (call_over (opening_on g journal)).model h.history (told.cut kept)
+
+  -- the history is read over the tree that is shown
+  behind : after.tree ≡ kept_tree g journal h m
+  behind = trees_are (λ (c : Call). c) g h.history (told.cut kept)
 
   abbrev program : Reads WalkEnd
   program = walk_volume g
@@ -121,20 +127,64 @@ module _ (g : Geometry) (journal : ℕ) (closed : List Transaction) (h : Host Vo
       ∙ ap Some (ap (disk_of (volume_in g m.image)) (place_is f i)
       ∙ (volume_bytes g m.image division (place f i) (subst (λ b. b < g.zones) (sym (files.places f i)) x.low) ∙ has))
 
-  latest : (f i k : ℕ) → told.maps (told.cut kept) f i ≡ true → IsLastChange told f kept k → IsShown told tree alike.to f i (last_write told f i (told.cut k))
-  latest f i k mapped last =
-      let v = files.versions f i k mapped last in
-      record { version = v.0.version; later = v.0.later; shown = block_shown f i (last_write told f i (told.cut k)) mapped v.0 v.1 }
+  -- the version whose request the medium has is the one that is shown
+  is_shown : (f i n : ℕ) → told.maps (told.cut kept) f i ≡ true → (x : Has f i n) → recovered (place f i) ≡ told.content f i x.version → IsShown g journal h m tree alike.to f i n
+  is_shown f i n mapped x has = record {
+    version = x.version;
+    later = x.later;
+    shown = block_shown f i n mapped x has;
+    request = x.origin;
+    note = x.note;
+    held = subst (λ b. HasOrigin m.origins b x.origin) (sym (files.places f i)) x.held;
+  }
 
-  survived : (f i n : ℕ) → told.maps (told.cut kept) f i ≡ true → Has f i n → IsShown told tree alike.to f i n
+  placed : (f i : ℕ) → told.maps (told.cut kept) f i ≡ true → block_at tree (alike.to f) i ≡ Some (recovered (place f i))
+  placed f i mapped =
+      let k = last_change {h = told} f kept in
+      let v = files.versions f i k.0 mapped k.1 in
+      block_shown f i (last_write told f i (told.cut k.0)) mapped v.0 v.1 ∙ ap Some (sym v.1)
+
+  latest : (f i k : ℕ) → told.maps (told.cut kept) f i ≡ true → IsLastChange told f kept k → IsShown g journal h m tree alike.to f i (last_write told f i (told.cut k))
+  latest f i k mapped last = (let v = files.versions f i k mapped last in is_shown f i (last_write told f i (told.cut k)) mapped v.0 v.1)
+
+  survived : (f i n : ℕ) → told.maps (told.cut kept) f i ≡ true → Has f i n → IsShown g journal h m tree alike.to f i n
   survived f i n mapped x =
       let k = last_change {h = told} f kept in
       let v = files.versions f i k.0 mapped k.1 in
       let same : v.0.version ≡ x.version = one_version program told (submitted_by g journal closed h) m kept f i (last_write told f i (told.cut k.0)) n v.0 x in
-      record { version = x.version; later = x.later; shown = block_shown f i n mapped x (v.1 ∙ ap (told.content f i) same) }
+      is_shown f i n mapped x (v.1 ∙ ap (told.content f i) same)
 
   pub shows_files : ShowsFiles g journal closed h m tree alike.to
   shows_files = record {
+    placed = placed;
     latest = latest;
     settled = λ f i n. ⊎_elim (λ x. inl (survived f i n x.0 x.1)) inr;
   }
+
+-- ---- what is shown survived
+
+module _ (g : Geometry) (journal : ℕ) (closed : List Transaction) (h : Host VolumeNow Call Reply) (m : Medium) (tree : Tree) (to : ℕ → ℕ) (base : List (List ℕ))
+    (order : IsOrderClosed base h.journal.flush.requests m.image m.origins) (shows : ShowsFiles g journal closed h m tree to) where
+  abbrev in_history : History WalkEnd
+  in_history = history_of g journal h
+
+  abbrev count : ℕ
+  count = kept_count g journal h m
+
+  -- where bytes are shown that are newer than entry e, the request that carried them is of a later entry
+  pub later_kept : (f i e : ℕ) (bytes : List ℕ) → in_history.maps (in_history.cut count) f i ≡ true → block_at tree (to f) i ≡ Some bytes → AreNewer in_history f i e bytes
+      → IsLaterKept in_history (submitted_by g journal [] h) m count e
+  later_kept f i e bytes mapped at newer =
+      let k = last_change {h = in_history} f count in
+      let x = shows.latest f i k.0 mapped k.1 in
+      let same : in_history.content f i x.version ≡ bytes = same_Some (in_history.content f i x.version) bytes (sym x.shown ∙ at) in
+      let late : e < x.version = ⊎_elim (λ lt. lt) (λ low. absurd (newer x.version low same)) (cases_lt e x.version) in
+      inl (
+        x.request,
+        f,
+        i,
+        x.version,
+        x.note,
+        late,
+        record { block = place_of g journal h m f i; put = order.block_of (place_of g journal h m f i) x.request x.held; origin = x.request; held = x.held; later = omega arith },
+      )

@@ -1,14 +1,17 @@
 -- Sessions over calls as code has them, on images that were made, and the media that a power cut leaves of them.
-use Rattle.std.specs.Prelude.{◌≡◌, ℕ, ◌+◌, ◌<◌, ◌≤◌, ◌⊎◌, true, List, [], Some}
+use Rattle.std.specs.Prelude.{◌≡◌, ◌≢◌, ℕ, ◌+◌, ◌<◌, ◌≤◌, ◌⊎◌, true, List, [], Some, slice_get}
 use Rattle.minix_layout.specs.declared.division.Geometry.{Geometry}
 use Rattle.minix_layout.specs.Geometry.{IsSound}
-use Rattle.order_model.specs.OrderClosed.{IsOrderClosed}
+use Rattle.order_model.specs.declared.note.Note.TheVariants.{Page}
+use Rattle.order_model.specs.OrderClosed.{HasOrigin, IsOrderClosed}
 use Rattle.log_model.specs.Marks.{Transaction}
 use Rattle.tx_running.specs.Open.{quota}
 use Rattle.tree_model.specs.declared.call.Call.{Call}
 use Rattle.tree_model.specs.declared.call.Reply.{Reply}
 use Rattle.tree_model.specs.Calls.{Tree}
 use Rattle.tree_model.specs.Histories.{block_at}
+use Rattle.volume_ops.specs.Reads.{answer}
+use Rattle.volume_ops.specs.Volume.{disk_of}
 use Rattle.volume_steps.specs.Now.{VolumeNow}
 use Rattle.crash_laws.specs.Found.{found}
 use Rattle.crash_laws.specs.Headline.{HoldsPrefix}
@@ -20,6 +23,7 @@ use Rattle.host_machine.specs.State.{Host}
 use Rattle.host_machine.specs.laws.Contract.{noted_history, session}
 use Rattle.host_runs.specs.Runs.{Event}
 use Rattle.host_volume.specs.Sessions.{Opening, Stands}
+use Rattle.mount_make.specs.Images.{recovered_image}
 use Rattle.mount_make.specs.Made.{made_image, new_journal}
 pub use Rattle.session_recovery.specs.declared.attempts.Attempt.{Attempt}
 pub use Rattle.session_recovery.specs.Attempts.{AreAttempts, IsMountedBehind, attempts_of, image_after}
@@ -73,24 +77,40 @@ KeepsFiles g journal closed h m disk =
 abbrev pub history_of : Geometry → ℕ → Host VolumeNow Call Reply → History WalkEnd
 history_of g journal h = noted_history (call_over (opening_on g journal)) (Stands (opening_on g journal)) h.history h.cuts
 
+-- the block at which the disk that is recovered has this block of a file of the tree after these transactions
+abbrev pub place_of : Geometry → ℕ → Host VolumeNow Call Reply → Medium → ℕ → ℕ → ℕ
+place_of g journal h m f i =
+    let told = history_of g journal h in
+    told.place (answer (disk_of (recovered_image m.image)) (call_over (opening_on g journal)).program) (told.cut (kept_count g journal h m)) f i
+
 -- The tree of a recovered volume, into whose births `to` leads, has this block of the file in a version that is no older
--- than entry n.
-pub record IsShown (told : History WalkEnd) (tree : Tree) (to : ℕ → ℕ) (f i n : ℕ) : Type 0 where
+-- than entry n; and the medium has at the block's place the request that carried this very version.
+pub record IsShown (g : Geometry) (journal : ℕ) (h : Host VolumeNow Call Reply) (m : Medium) (tree : Tree) (to : ℕ → ℕ) (f i n : ℕ) : Type 0 where
   pub version : ℕ
   pub later : n ≤ version
-  pub shown : block_at tree (to f) i ≡ Some (told.content f i version)
+  pub shown : block_at tree (to f) i ≡ Some ((history_of g journal h).content f i version)
+  pub request : ℕ
+  pub note : slice_get h.journal.flush.notes request ≡ Some (Page f i version)
+  pub held : HasOrigin m.origins (place_of g journal h m f i) request
 
 -- so, or an entry of the transactions that were kept removed the file or unmapped the block
-abbrev pub IsShownOrGone : History WalkEnd → ℕ → Tree → (ℕ → ℕ) → ℕ → ℕ → ℕ → Type 0
-IsShownOrGone told kept tree to f i n = IsShown told tree to f i n ⊎ IsSuperseded told f i n (told.cut kept)
+abbrev pub IsShownOrGone : Geometry → ℕ → Host VolumeNow Call Reply → Medium → ℕ → Tree → (ℕ → ℕ) → ℕ → ℕ → ℕ → Type 0
+IsShownOrGone g journal h m kept tree to f i n = (let told = history_of g journal h in IsShown g journal h m tree to f i n ⊎ IsSuperseded told f i n (told.cut kept))
+
+-- these bytes of a block of a file are newer than entry e: it has them after no entry up to e
+abbrev pub AreNewer : History WalkEnd → ℕ → ℕ → ℕ → List ℕ → Type 0
+AreNewer told f i e bytes = (v : ℕ) → v ≤ e → told.content f i v ≢ bytes
 
 -- What such a tree shows of the files, where so many transactions were kept.
 pub record ShowsFiles (g : Geometry) (journal : ℕ) (closed : List Transaction) (h : Host VolumeNow Call Reply) (m : Medium) (tree : Tree) (to : ℕ → ℕ) : Type 0 where
-  -- each block that is mapped after them, in a version that is no older than the one which its file's last change asks for
+  -- each block that is mapped after them, as it stands on the recovered disk
+  pub placed : let told = history_of g journal h in
+      (f i : ℕ) → told.maps (told.cut (kept_count g journal h m)) f i ≡ true → block_at tree (to f) i ≡ Some (disk_of (recovered_image m.image) (place_of g journal h m f i))
+  -- each of them in a version that is no older than the one which its file's last change asks for
   pub latest : let told = history_of g journal h in
       let kept = kept_count g journal h m in
-      (f i k : ℕ) → told.maps (told.cut kept) f i ≡ true → IsLastChange told f kept k → IsShown told tree to f i (last_write told f i (told.cut k))
+      (f i k : ℕ) → told.maps (told.cut kept) f i ≡ true → IsLastChange told f kept k → IsShown g journal h m tree to f i (last_write told f i (told.cut k))
   -- what survived the power cut is shown, and what is not shown was superseded
   pub settled : let told = history_of g journal h in
       let kept = kept_count g journal h m in
-      (f i n : ℕ) → IsSettled (call_over (opening_on g journal)).program told (submitted_by g journal closed h) m kept f i n → IsShownOrGone told kept tree to f i n
+      (f i n : ℕ) → IsSettled (call_over (opening_on g journal)).program told (submitted_by g journal closed h) m kept f i n → IsShownOrGone g journal h m kept tree to f i n

@@ -1,19 +1,25 @@
 //! The laws, each a public function that does nothing when it is called.
-ghost use Rattle.std.specs.Prelude.{◌≡◌, ℕ, List, [], true, None, Ok};
+ghost use Rattle.std.specs.Prelude.{◌≡◌, ℕ, List, [], true, None, Ok, Some};
 ghost use Rattle.minix_layout.specs.declared.division.Geometry.{Geometry};
+ghost use Rattle.order_model.specs.OrderClosed.{IsOrderClosed};
 ghost use Rattle.log_model.specs.Marks.{Transaction};
 ghost use Rattle.tree_model.specs.declared.call.Call.{Call};
+ghost use Rattle.tree_model.specs.declared.call.Reply.{Reply};
 ghost use Rattle.tree_model.specs.Calls.{Tree};
+ghost use Rattle.tree_model.specs.Histories.{block_at};
 ghost use Rattle.tree_model.specs.Trees.{AreAlike};
 ghost use Rattle.volume_ops.specs.Volume.{VolumeState, disk_of};
+ghost use Rattle.volume_steps.specs.Now.{VolumeNow};
 ghost use Rattle.crash_laws.specs.Found.{IsFound};
+ghost use Rattle.crash_laws.specs.PromiseRules.{IsLaterKept};
 ghost use Rattle.crash_laws.specs.Recovery.{IsRecovered};
 ghost use Rattle.crash_laws.specs.Session.{Medium};
+ghost use Rattle.host_machine.specs.State.{Host};
 ghost use Rattle.host_runs.specs.Runs.{Event};
 ghost use Rattle.mount_make.specs.Images.{divided, has_journal, fault_in_journal, mounted, recovered_image, image_tree};
 ghost use Rattle.mount_make.specs.Made.{new_journal};
 ghost use Rattle.session_recovery.specs.Found.{found_in};
-ghost use Rattle.call_images.specs.CallImages.{made_session, IsCut, submitted_by, kept_count, kept_tree, KeepsFiles, ShowsFiles};
+ghost use Rattle.call_images.specs.CallImages.{made_session, IsCut, submitted_by, kept_count, kept_tree, KeepsFiles, history_of, AreNewer, ShowsFiles};
 
 use call_sessions::sessions_of_calls_on_made_images;
 use session_recovery::{
@@ -70,7 +76,8 @@ pub fn cut_sessions_keep_files()
 }
 
 /// A law, which only calls laws: a tree of the recovered image that is alike to the one after the kept transactions has each
-/// block of a file in a version that is no older than its file's last change asks for, and all that survived the power cut.
+/// block of a file as the recovered disk has it, in a version that is no older than its file's last change asks for and
+/// whose request is the one that the medium has at the block's place; and all that survived the power cut.
 pub fn cut_sessions_show_files()
     ensures { (g : Geometry) (journal limit : ℕ) (programs : List (List Call)) (events : List Event) (m : Medium) (closed : List Transaction) (tree : Tree) →
         IsCut g journal limit programs events m → let h = made_session g journal limit programs events in
@@ -81,6 +88,16 @@ pub fn cut_sessions_show_files()
     cut_sessions_mount();
     cut_sessions_keep_files();
 }
+
+/// A law, which does nothing when it is called: where such a tree has, for a block of a file that the kept transactions map,
+/// bytes that are newer than an entry, a write made after that entry survived the power cut.
+pub fn shown_bytes_tell_what_survived()
+    ensures { (g : Geometry) (journal : ℕ) (closed : List Transaction) (h : Host VolumeNow Call Reply) (m : Medium) (tree : Tree) (to : ℕ → ℕ) (base : List (List ℕ)) (f i e : ℕ) (bytes : List ℕ) →
+        IsOrderClosed base h.journal.flush.requests m.image m.origins → ShowsFiles g journal closed h m tree to →
+        let told = history_of g journal h in
+        told.maps (told.cut (kept_count g journal h m)) f i ≡ true → block_at tree (to f) i ≡ Some bytes → AreNewer told f i e bytes →
+        IsLaterKept told (submitted_by g journal [] h) m (kept_count g journal h m) e }
+{}
 
 /// A law, which only calls laws: the number that is counted by the journal's superblock and its log on the medium is that
 /// of the transactions whose commit block is there.

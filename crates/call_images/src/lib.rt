@@ -10,6 +10,6 @@ mod laws;
 
 pub use laws::{
     cut_sessions_have_the_tree_of_a_prefix, cut_sessions_keep_files, cut_sessions_mount,
-    cut_sessions_show_files, cut_sessions_tell_how_many,
+    cut_sessions_show_files, cut_sessions_tell_how_many, shown_bytes_tell_what_survived,
 };
 pub use session_recovery::{Attempt, Remounted, attempts_on_model_devices, remount};

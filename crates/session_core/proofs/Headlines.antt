@@ -15,12 +15,12 @@ use Rattle.host_runs.specs.Sentences.{IsAllSettled}
 use Rattle.host_volume.specs.Sessions.{Stands}
 use Rattle.session_run.specs.Beginning.{call_over}
 use Rattle.session_run.specs.End.{tree_behind}
-use Rattle.call_images.specs.CallImages.{found_in, submitted_by, ShowsFiles, IsShown}
+use Rattle.call_images.specs.CallImages.{found_in, submitted_by, ShowsFiles}
 use Rattle.session_promises.specs.Trees.{HaveNoRenames}
 use Rattle.session_grammar.specs.declared.session_script.SessionScript.{SessionScript}
 use Rattle.session_grammar.specs.WellFormed.{IsWellFormed, IsBuilt}
 use Rattle.session_core.specs.Core.{EndState, geometry_of, opening_of}
-use Rattle.session_core.specs.Headline.{medium_of, told_by, IsAllShown, HeadlineOn}
+use Rattle.session_core.specs.Headline.{medium_of, told_by, IsShownBy, IsAllShown, HeadlineOn}
 use Rattle.session_core.specs.Report.{ReportKeepsOrder}
 use Rattle.session_core.specs.code.Cuts.{CutFacts}
 use Rattle.session_core.specs.code.Ends.{EndFits}
@@ -94,18 +94,18 @@ headline_of s end r facts order fits sent found =
 
 -- ---- what the tree shows of what a call covers
 
--- what survived or was superseded is shown or was superseded, with so many transactions as were found
-pub all_shown : (s : SessionScript) (end : EndState) (r : SessionReport) (is : HeadlineOn s end r) (b : Begun)
-    → IsAllSettled (call_over (opening_of s)) (Stands (opening_of s)) end.host is.closed (medium_of r) b → IsAllShown s end r.found is.prefix.tree is.prefix.alike.to b
-all_shown s end r is b x = subst (λ n. IsAllShown s end n is.prefix.tree is.prefix.alike.to b) (sym is.counted) (record {
-  pages = λ f i n covers. is.shown.settled f i n (x.pages f i n covers);
-  metadata = x.metadata;
-})
+module _ (s : SessionScript) (end : EndState) (r : SessionReport) (is : HeadlineOn s end r) where
+  -- what survived or was superseded is shown or was superseded, with so many transactions as were found
+  pub all_shown : (b : Begun) → IsAllSettled (call_over (opening_of s)) (Stands (opening_of s)) end.host is.closed (medium_of r) b → IsAllShown s end (medium_of r) r.found is.prefix.tree is.prefix.alike.to b
+  all_shown b x = subst (λ n. IsAllShown s end (medium_of r) n is.prefix.tree is.prefix.alike.to b) (sym is.counted) (record {
+    pages = λ f i n covers. is.shown.settled f i n (x.pages f i n covers);
+    metadata = x.metadata;
+  })
 
-pub latest_shown : (s : SessionScript) (end : EndState) (r : SessionReport) (is : HeadlineOn s end r) (f i k : ℕ) → (told_by s end).maps ((told_by s end).cut r.found) f i ≡ true
-    → IsLastChange (told_by s end) f r.found k → IsShown (told_by s end) is.prefix.tree is.prefix.alike.to f i (last_write (told_by s end) f i ((told_by s end).cut k))
-latest_shown s end r is =
-    subst
-    (λ n. (f i k : ℕ) → (told_by s end).maps ((told_by s end).cut n) f i ≡ true → IsLastChange (told_by s end) f n k →
-    IsShown (told_by s end) is.prefix.tree is.prefix.alike.to f i (last_write (told_by s end) f i ((told_by s end).cut k)))
-    (sym is.counted) is.shown.latest
+  pub latest_shown : (f i k : ℕ) → (told_by s end).maps ((told_by s end).cut r.found) f i ≡ true → IsLastChange (told_by s end) f r.found k
+      → IsShownBy s end (medium_of r) is.prefix.tree is.prefix.alike.to f i (last_write (told_by s end) f i ((told_by s end).cut k))
+  latest_shown =
+      subst
+      (λ n. (f i k : ℕ) → (told_by s end).maps ((told_by s end).cut n) f i ≡ true → IsLastChange (told_by s end) f n k →
+      IsShownBy s end (medium_of r) is.prefix.tree is.prefix.alike.to f i (last_write (told_by s end) f i ((told_by s end).cut k)))
+      (sym is.counted) is.shown.latest

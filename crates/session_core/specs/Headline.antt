@@ -25,8 +25,7 @@ use Rattle.host_runs.specs.Flushes.{count, is_sync_begin}
 pub use Rattle.host_volume.specs.Calls.{kind_of}
 use Rattle.host_volume.specs.Sessions.{Stands}
 use Rattle.session_run.specs.Beginning.{call_over}
-use Rattle.call_images.specs.CallImages.{KeepsFiles, ShowsFiles, IsShownOrGone, submitted_by, kept_count, history_of}
-pub use Rattle.call_images.specs.CallImages.{IsShown}
+use Rattle.call_images.specs.CallImages.{KeepsFiles, ShowsFiles, IsShown, IsShownOrGone, submitted_by, kept_count, history_of}
 pub use Rattle.session_promises.specs.Answers.{AnsweredAt, WasAnswered}
 use Rattle.session_promises.specs.Answers.{HasOkCause}
 use Rattle.session_promises.specs.Causes.{HaveCauses}
@@ -55,10 +54,14 @@ kept_in s end m = kept_count (geometry_of s) s.journal end.host m
 abbrev pub HasLaterKept : SessionScript → EndState → Medium → ℕ → Type 0
 HasLaterKept s end m e = IsLaterKept (told_by s end) (submitted_in s end) m (kept_in s end m) e
 
--- A tree, into whose births `to` leads, shows all blocks that a barrier or sync call covers, but for those that the kept
--- transactions superseded; and the metadata that the call covers is of these transactions.
-pub record IsAllShown (s : SessionScript) (end : EndState) (kept : ℕ) (tree : Tree) (to : ℕ → ℕ) (b : Begun) : Type 0 where
-  pub pages : (f i n : ℕ) → Covers (told_by s end) (call_of b) f i n → IsShownOrGone (told_by s end) kept tree to f i n
+-- a tree, into whose births `to` leads, has the block (f, i) in a version from entry n on, whose request the medium has there
+abbrev pub IsShownBy : SessionScript → EndState → Medium → Tree → (ℕ → ℕ) → ℕ → ℕ → ℕ → Type 0
+IsShownBy s end m tree to f i n = IsShown (geometry_of s) s.journal end.host m tree to f i n
+
+-- Such a tree shows all blocks that a barrier or sync call covers, but for those that the kept transactions superseded; and
+-- the metadata that the call covers is of these transactions.
+pub record IsAllShown (s : SessionScript) (end : EndState) (m : Medium) (kept : ℕ) (tree : Tree) (to : ℕ → ℕ) (b : Begun) : Type 0 where
+  pub pages : (f i n : ℕ) → Covers (told_by s end) (call_of b) f i n → IsShownOrGone (geometry_of s) s.journal end.host m kept tree to f i n
   pub metadata : (n : ℕ) → CoversEntry (call_of b) n → n ≤ (told_by s end).cut kept
 
 -- ---- the same on the model device that a script opens
@@ -100,7 +103,8 @@ pub record HeadlineOn (s : SessionScript) (end : EndState) (r : SessionReport) :
   -- The recovered disk has the metadata after them, and each block of a file in a version that is no older than the one
   -- which the last change of its file asks for.
   pub files : KeepsFiles (geometry_of s) s.journal closed end.host (medium_of r) (disk_of (recovered_image r.cut.image.items))
-  -- The tree that was recovered shows it: each block of a file in such a version, and all that survived.
+  -- The tree that was recovered shows it: each block of a file as that disk has it, in such a version and the one whose
+  -- request the medium has at its place; and all that survived.
   pub shown : ShowsFiles (geometry_of s) s.journal closed end.host (medium_of r) prefix.tree prefix.alike.to
   -- A barrier or sync call that was answered Ok: where a write made after a barrier call survived, all that the call covers
   -- survived or was superseded; all that a sync call covers did so in any case. It survives at the place where the recovered

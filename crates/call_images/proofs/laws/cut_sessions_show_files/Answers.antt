@@ -1,7 +1,7 @@
 use Rattle.tx_running.specs.Open.{quota}
 use Rattle.mount_make.specs.Made.{new_journal}
 use Rattle.call_images.specs.CallImages.{made_session}
-use Rattle.call_images.proofs.CutCalls.{few, kept_behind}
+use Rattle.call_images.proofs.CutCalls.{few}
 use Rattle.call_images.proofs.ShownFiles.{same_walk, shows_files}
 use Rattle.call_images.proofs.laws.cut_sessions_show_files.Goals as goal
 
@@ -14,4 +14,4 @@ returns c =
     let session = made.kept g journal (quota (new_journal journal)) limit programs events cut.sound cut.least cut.most (few made.volume made.journal g journal limit programs events m cut) cut.bytes in
     let division = mounts.volume g journal limit programs events m cut in
     let walk = same_walk g journal h m division session cut.order (c.cut_sessions_keep_files.ensures.recovered g journal limit programs events m session.closed cut) in
-    shows_files g journal closed h m tree division (mounts.no_fault g journal limit programs events m cut) shown (kept_behind made.volume made.journal g journal limit programs events m cut) walk alike files
+    shows_files g journal closed h m tree division (mounts.no_fault g journal limit programs events m cut) shown walk alike files
