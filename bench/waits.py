@@ -1,7 +1,7 @@
 #!/usr/bin/env python3
 """Prints what a durable and an ordered write cost in the model: flushes, device steps, and steps that a call waits.
 
-Use: waits.py [PROGRAM]              PROGRAM is ../barrierfs if left out; it takes some minutes
+Use: waits.py [PROGRAM]              PROGRAM is the launcher's if left out; each row is printed as it is there
      waits.py --count [PROGRAM]      counts the flushes one by one besides, where the host goes in step
 
 Each of 1, 4 or 16 threads writes a block of its own file WRITES times, with a call behind each write: the block behind
@@ -23,10 +23,14 @@ each thread and each part takes one step in turn.
   `requests` grows at each event `flush`, which submits nothing else.
 """
 import itertools
+import os
 import pathlib
 import re
-import subprocess
 import sys
+
+sys.dont_write_bytecode = True
+sys.path.insert(0, str(pathlib.Path(__file__).resolve().parent.parent / "tools" / "lib"))
+from scripts import Runner, program_at, run_tool  # noqa: E402
 
 THREADS = (1, 4, 16)
 WRITES = 8
@@ -37,11 +41,7 @@ SYNC_CALLS = ("fsync", "fdatasync")
 class Seen:
     """What is printed of a session."""
 
-    def __init__(self, program, script):
-        done = subprocess.run([program, "replay"], input=script.encode(), stdout=subprocess.PIPE)
-        if done.returncode != 0:
-            sys.exit("waits: the program ended with status %d" % done.returncode)
-        text = done.stdout.decode()
+    def __init__(self, text):
         self.steps, self.requests, self.closed, self.found = (
             int(re.search(r"^%s (\d+)$" % word, text, re.M)[1]) for word in ("steps", "requests", "closed", "found"))
         if re.search(r"^\d+ .*: (?!ok$)", text, re.M):
@@ -55,8 +55,8 @@ class Seen:
 
 
 class Session:
-    def __init__(self, program, threads, word, mode):
-        self.program, self.threads = program, threads
+    def __init__(self, runner, threads, word, mode):
+        self.runner, self.threads = runner, threads
         lines = ["volume inodes 64 zones 2048 journal 1024", "depth 64", "queue 64", "limit 200000"]
         for t in range(1, threads + 1):
             lines += ["thread %d" % t, "create /f%d" % t, "write /f%d 0 1024 ff" % t]
@@ -75,27 +75,29 @@ class Session:
             sys.exit("waits: the files were not made as they should be")
 
     def run(self, events):
-        return Seen(self.program, self.script + events)
+        return Seen(self.runner.one(self.script + events))
+
+    def moments(self, events_of):
+        """What is seen after each turn or round, up to the first at which all is done: many are run at once."""
+        width = 4 * self.runner.jobs
+        for first in itertools.count(1, width):
+            events = [events_of(turns) for turns in range(first, first + width)]
+            for its, printed in zip(events, self.runner.all(self.script + each for each in events)):
+                seen = Seen(printed)
+                yield its, seen
+                if seen.is_done():
+                    return
 
     def quick_moments(self):
         """What is seen after each turn, in which the host goes first."""
         calls = "".join("call %d x 4\n" % t for t in range(1, self.threads + 1))
         turn = 3 * (calls + "commit x 16\nflush x 4\naccept x 8\ndispatch 0 x 8\nreceive x 8\n")
         turn += "transfer 0\npersist 0\nanswer\n"
-        for turns in itertools.count(1):
-            seen = self.run(turns * turn)
-            yield turns * turn, seen
-            if seen.is_done():
-                return
+        return self.moments(lambda turns: turns * turn)
 
     def step_moments(self):
         """What is seen after each round."""
-        for rounds in itertools.count(1):
-            events = "round %d\n" % rounds
-            seen = self.run(events)
-            yield events, seen
-            if seen.is_done():
-                return
+        return self.moments(lambda rounds: "round %d\n" % rounds)
 
     def measure(self, moments):
         """Waiting steps of each call, then flushes, device steps, closed transactions and requests of them all."""
@@ -139,11 +141,11 @@ def check(word, calls, flushes, closed, requests, synced):
         sys.exit("waits: the flushes are not what fsync has more requests than fbarrier")
 
 
-def row(program, mode, word, synced, counting):
+def row(runner, mode, word, synced, counting):
     cells = [[], [], [], []]
     for threads in THREADS:
         calls = threads * WRITES
-        session = Session(program, threads, word, mode)
+        session = Session(runner, threads, word, mode)
         waits, flushes, steps, closed, requests = session.measure(session.quick_moments())
         check(word, calls, flushes, closed, requests, synced["quick", threads])
         cells[0].append("%.2f" % (flushes / calls))
@@ -161,15 +163,16 @@ def main():
     words = sys.argv[1:]
     counting = words[:1] == ["--count"]
     words = words[counting:]
-    program = words[0] if words else str(pathlib.Path(__file__).resolve().parent.parent / "barrierfs")
+    runner = Runner(program_at(words[0] if words else None), os.cpu_count(), "waits")
     for mode in ("append", "overwrite"):
         print("| %s, behind each write | flushes a write | device steps a write | steps that a call waits, quick host | in step |" % mode)
         print("|---|---|---|---|---|")
         synced = {(schedule, threads): [] for schedule in ("quick", "step") for threads in THREADS}
         for word in CALLS:
-            print(row(program, mode, word, synced, counting), flush=True)
+            print(row(runner, mode, word, synced, counting), flush=True)
         print()
+    runner.end()
 
 
 if __name__ == "__main__":
-    main()
+    run_tool("waits", main)
