@@ -5,7 +5,8 @@ Use: survival_picture.py TABLE > docs/survival.svg      (TABLE is examples/survi
 
 A column is one run, with the power off after so many steps; a row is a call. The row of a write is coloured where
 recovery finds its bytes, or newer ones of the same file; that of a barrier or sync call has a mark at the first column
-where the program printed its answer `ok`.
+where the program printed its answer `ok`. The last panel has three scripts that differ in one line, from the step on after
+which their files are there; a frame is round each column in which the page is there and its record is not.
 """
 import html
 import itertools
@@ -18,9 +19,14 @@ TITLES = {
                  "A call covers what the rows above write to its file, and fbarrier also the files that they make. In each",
                  "column in which anything below a mark is there, all that the call covers is there, or newer bytes in its place."),
     "syncs": ("Sync calls: what was answered is there",
-              "A mark stands only where all that the call covers is there: the call waited for that. In each column recovery",
+              "There is a mark only where all that the call covers is there: the call waited for that. In each column recovery",
               "is cut off twice before it may go to its end."),
 }
+ORDER_TITLE = ("One line keeps the order",
+               "The record is written first, and then the page. Scheduler and device take the last first wherever they may. The scripts",
+               "differ in the line between the two writes. Where it is missing, the page can be there without its record.")
+ORDERS = {"order-kept": "fdatabarrier between: no flush", "order-lost": "nothing between", "order-synced": "fdatasync between: one flush"}
+ORDER_FROM, ORDER_CALLS = 18, 5
 NOTES = {("barriers", "write /g 0 1024 b2"): "no call covers this write, so it may come last"}
 
 
@@ -95,13 +101,51 @@ def panel(top, name, calls, steps):
     yield text((LEFT + right) / 2, bottom + 36, "the power goes off after this many steps of the device", text_anchor="middle", fill="#444")
 
 
+def part(left, top, name, calls, steps):
+    """The lines of one of the three scripts of the last panel."""
+    yield text(left, top - 10, ORDERS[name], fill=INK, font_weight="bold")
+    steps, start, bottom = steps[ORDER_FROM:], left + 118, top + ROW * 3
+    right, rows = start + COLUMN * len(steps), {}
+    for place, at in enumerate(range(ORDER_CALLS, len(calls))):
+        words = calls[at].split()
+        # The row between stays empty where the line is missing.
+        y = top + ROW * (2 if at == len(calls) - 1 else place)
+        if words[0] != "write":
+            yield text(start - 8, y + 16, calls[at], text_anchor="end", fill=CALL, font_weight="bold")
+            x = start + COLUMN * next(step for step, row in enumerate(steps) if int(row["ok"]) > at) + COLUMN / 2
+            yield '<path d="M%g %gH%d" stroke="%s" stroke-width="1.5"/>' % (x, y + ROW / 2, right, CALL)
+            yield '<path d="M%g %gl7 7l-7 7l-7 -7z" fill="%s"/>' % (x, y + ROW / 2 - 7, CALL)
+            continue
+        yield text(start - 8, y + 16, "write %s %s" % (words[1], words[4]), text_anchor="end", fill=INK)
+        rows[words[1]] = [kind == "this" for kind in spans(calls, steps, at)]
+        for step, there in enumerate(rows[words[1]]):
+            yield '<rect x="%d" y="%d" width="%d" height="%d" fill="%s"/>' % (
+                start + COLUMN * step, y + 3, COLUMN - 1, ROW - 6, THIS if there else EMPTY)
+    for step, row in enumerate(steps):
+        x = start + COLUMN * step
+        yield text(x + COLUMN / 2, bottom + 14, row["steps"], text_anchor="middle", fill=INK, font_size=11)
+        if rows["/db"][step] and not rows["/log"][step]:
+            yield '<rect x="%d" y="%d" width="%d" height="%d" fill="none" stroke="%s" stroke-width="2"/>' % (x - 1, top, COLUMN + 1, ROW * 3, CALL)
+            yield text(x + COLUMN / 2, bottom + 30, "order lost", text_anchor="middle", fill=CALL, font_weight="bold")
+
+
+def orders(top, parts):
+    """The lines of the last panel."""
+    title, *reading = ORDER_TITLE
+    yield text(16, top + 18, title, font_size=16, font_weight="bold", fill=INK)
+    for at, line in enumerate(reading):
+        yield text(16, top + 40 + 17 * at, line, fill="#444")
+    for at, (name, calls, steps) in enumerate(parts):
+        yield from part(24 + 300 * at, top + 40 + 17 * len(reading) + 28, name, calls, steps)
+
+
 def height_of(calls):
     return 40 + 17 * 2 + 4 + ROW * len(calls) + 60
 
 
 def legend(top):
     x = 16
-    for colour, words, width in ((THIS, "there after recovery", 180), (NEWER, "newer bytes stand in its place", 250), (EMPTY, "not there", 110)):
+    for colour, words, width in ((THIS, "there after recovery", 180), (NEWER, "newer bytes in its place", 250), (EMPTY, "not there", 110)):
         yield '<rect x="%d" y="%d" width="14" height="14" fill="%s" stroke="#bbb" stroke-width="0.5"/>' % (x, top, colour)
         yield text(x + 20, top + 12, words, fill=INK)
         x += width
@@ -114,8 +158,11 @@ def main():
         parts = list(sessions(source.read()))
     lines, top = list(legend(16)), 46
     for name, calls, steps in parts:
-        lines += panel(top, name, calls, steps)
-        top += height_of(calls)
+        if name not in ORDERS:
+            lines += panel(top, name, calls, steps)
+            top += height_of(calls)
+    lines += orders(top, [of for of in parts if of[0] in ORDERS])
+    top += 40 + 17 * 2 + 28 + ROW * 3 + 44
     print('<svg xmlns="http://www.w3.org/2000/svg" width="%d" height="%d" viewBox="0 0 %d %d" font-family="sans-serif" font-size="13">' % (WIDTH, top, WIDTH, top))
     print('<rect width="%d" height="%d" fill="white"/>\n%s\n</svg>' % (WIDTH, top, "\n".join(lines)))
 

@@ -42,6 +42,21 @@ const ONLY_ORDERED: (&str, &str) = (
     "steps 3\nblock 0 00 -\nblock 1 00 -\nblock 2 12 2\nblock 3 00 -\n",
 );
 
+const ORDER_KEPT: (&str, &str) = (
+    "# A database overwrites the record in its log, and then the page that the record is about. Scheduler and device take the\n# last first wherever they may. Three scripts differ in one line: `fdatabarrier /log` in order-kept, no such line in\n# order-lost, `fdatasync /log` in order-synced. Each byte is the version of what was written.\nvolume inodes 32 zones 64 journal 128\n# 19 steps for the first versions: nine puts of two steps each, and a flush of one. Then three more.\ncut 22\nthread 1\ncreate /log\ncreate /db\nwrite /log 0 1024 01\nwrite /db 0 1024 01\nsync\nwrite /log 0 1024 02\nfdatabarrier /log\nwrite /db 0 1024 02\nevents\n# Four calls; sync begins, sends two pages, and asks for the transaction. Then all goes to the medium.\ncall 1 x 8\nback 12\n# The calls go on as far as they can, and the write-back sends the pages that no call has sent.\ncall 1 x 6\nwrite 0 x 2\n# The last first: place 1, and then place 0. A barrier closes the scheduler, so what comes after it is accepted later.\naccept x 2\ndispatch 1\ndispatch 0\naccept\ndispatch 0\nreceive x 2\n# The device transfers nothing that comes after a barrier before it: then `transfer 1` does nothing.\ntransfer 1\ntransfer 0\ntransfer 0\npersist 1\npersist 0\n# The flush of order-synced, and the calls after it.\nback 4\ncall 1 x 6\nwrite 0\nback 9\n",
+    "steps 22\nrequests 12\n1 create /log: ok\n1 create /db: ok\n1 write /log 0 1024 01: ok\n1 write /db 0 1024 01: ok\n1 sync: ok\n1 write /log 0 1024 02: ok\n1 fdatabarrier /log: ok\n1 write /db 0 1024 02: ok\nthread 1: 8 of 8\nclosed 1\nfound 1\ndir /\nfile /db size 1024 links 1\nblock 0 1024x01\nfile /log size 1024 links 1\nblock 0 1024x02\n",
+);
+
+const ORDER_LOST: (&str, &str) = (
+    "# A database overwrites the record in its log, and then the page that the record is about. Scheduler and device take the\n# last first wherever they may. Three scripts differ in one line: `fdatabarrier /log` in order-kept, no such line in\n# order-lost, `fdatasync /log` in order-synced. Each byte is the version of what was written.\nvolume inodes 32 zones 64 journal 128\n# 19 steps for the first versions: nine puts of two steps each, and a flush of one. Then three more.\ncut 22\nthread 1\ncreate /log\ncreate /db\nwrite /log 0 1024 01\nwrite /db 0 1024 01\nsync\nwrite /log 0 1024 02\nwrite /db 0 1024 02\nevents\n# Four calls; sync begins, sends two pages, and asks for the transaction. Then all goes to the medium.\ncall 1 x 8\nback 12\n# The calls go on as far as they can, and the write-back sends the pages that no call has sent.\ncall 1 x 6\nwrite 0 x 2\n# The last first: place 1, and then place 0. A barrier closes the scheduler, so what comes after it is accepted later.\naccept x 2\ndispatch 1\ndispatch 0\naccept\ndispatch 0\nreceive x 2\n# The device transfers nothing that comes after a barrier before it: then `transfer 1` does nothing.\ntransfer 1\ntransfer 0\ntransfer 0\npersist 1\npersist 0\n# The flush of order-synced, and the calls after it.\nback 4\ncall 1 x 6\nwrite 0\nback 9\n",
+    "steps 22\nrequests 12\n1 create /log: ok\n1 create /db: ok\n1 write /log 0 1024 01: ok\n1 write /db 0 1024 01: ok\n1 sync: ok\n1 write /log 0 1024 02: ok\n1 write /db 0 1024 02: ok\nthread 1: 7 of 7\nclosed 1\nfound 1\ndir /\nfile /db size 1024 links 1\nblock 0 1024x02\nfile /log size 1024 links 1\nblock 0 1024x01\n",
+);
+
+const ORDER_SYNCED: (&str, &str) = (
+    "# A database overwrites the record in its log, and then the page that the record is about. Scheduler and device take the\n# last first wherever they may. Three scripts differ in one line: `fdatabarrier /log` in order-kept, no such line in\n# order-lost, `fdatasync /log` in order-synced. Each byte is the version of what was written.\nvolume inodes 32 zones 64 journal 128\n# 19 steps for the first versions: nine puts of two steps each, and a flush of one. Then three more.\ncut 22\nthread 1\ncreate /log\ncreate /db\nwrite /log 0 1024 01\nwrite /db 0 1024 01\nsync\nwrite /log 0 1024 02\nfdatasync /log\nwrite /db 0 1024 02\nevents\n# Four calls; sync begins, sends two pages, and asks for the transaction. Then all goes to the medium.\ncall 1 x 8\nback 12\n# The calls go on as far as they can, and the write-back sends the pages that no call has sent.\ncall 1 x 6\nwrite 0 x 2\n# The last first: place 1, and then place 0. A barrier closes the scheduler, so what comes after it is accepted later.\naccept x 2\ndispatch 1\ndispatch 0\naccept\ndispatch 0\nreceive x 2\n# The device transfers nothing that comes after a barrier before it: then `transfer 1` does nothing.\ntransfer 1\ntransfer 0\ntransfer 0\npersist 1\npersist 0\n# The flush of order-synced, and the calls after it.\nback 4\ncall 1 x 6\nwrite 0\nback 9\n",
+    "steps 22\nrequests 13\n1 create /log: ok\n1 create /db: ok\n1 write /log 0 1024 01: ok\n1 write /db 0 1024 01: ok\n1 sync: ok\n1 write /log 0 1024 02: ok\n1 fdatasync /log: ok\n1 write /db 0 1024 02: ok\nthread 1: 8 of 8\nclosed 1\nfound 1\ndir /\nfile /db size 1024 links 1\nblock 0 1024x01\nfile /log size 1024 links 1\nblock 0 1024x02\n",
+);
+
 const ORDERLESS: (&str, &str) = (
     "# Orderless requests may overtake one another inside an epoch: block 1 alone is on the medium.\ndevice 2\nput 0 11 free\nput 1 22 free\nevents\nreceive x 2\ntransfer 1\npersist 0\n",
     "steps 2\nblock 0 00 -\nblock 1 22 1\n",
@@ -73,6 +88,9 @@ fn prints_what_the_examples_say(rt: HostRuntime) -> Result<(), Fail> {
         MAIL_FSYNC,
         ONE_BLOCK_TWICE,
         ONLY_ORDERED,
+        ORDER_KEPT,
+        ORDER_LOST,
+        ORDER_SYNCED,
         ORDERLESS,
         OUT_OF_ORDER,
         POWER_CUT,
