@@ -46,7 +46,7 @@ abbrev pub waiting_ids : EpochState → List ℕ
 waiting_ids queue = map (λ (w : Waiting). w.request.id) queue.waiting
 
 abbrev pub seen_of : SchedState → SchedSeen
-seen_of s = record { limit = s.limit; accepted = s.accepted; waiting = waiting_ids s.queue; blocked = is_blocked s.queue; sent_out = s.sent_out }
+seen_of s = record { limit = s.limit; capacity = s.queue.capacity; accepted = s.accepted; waiting = waiting_ids s.queue; blocked = is_blocked s.queue; sent_out = s.sent_out }
 
 abbrev pub sched_steps : SchedSteps SchedState
 sched_steps = record {

@@ -1,5 +1,5 @@
 -- What a scheduler is: its steps over a plain state, and what they keep.
-use Rattle.std.specs.Prelude.{◌≡◌, ℕ, ◌<◌, ◌≤◌, ◌++◌, ◌↔◌, Bool, true, false, [], ◌∷◌, length, Option, None}
+use Rattle.std.specs.Prelude.{◌≡◌, ℕ, ◌<◌, ◌≤◌, ◌++◌, ◌↔◌, ◌&&◌, not, Bool, true, false, [], ◌∷◌, length, nat_lt, Option, None}
 use Rattle.std.specs.Option.{option_to_list}
 use Rattle.blk_base.specs.Members.{In}
 use Rattle.order_model.specs.declared.command.Command.{Command}
@@ -28,9 +28,19 @@ pub record IsAcceptable (s : SchedSeen) (r : Request) : Type 0 where
   pub barrier : r.barrier ≡ true → r.ordered ≡ true
   pub flush : r.kind ≡ Flush → (r.ordered ≡ true) × (r.barrier ≡ true)
 
+-- It accepted nothing yet, and may accept so many requests in all, of which so many may wait.
+pub record IsNewScheduler (limit capacity : ℕ) (s : SchedSeen) : Type 0 where
+  pub requests : s.limit ≡ limit
+  pub room : s.capacity ≡ capacity
+  pub accepted : s.accepted ≡ []
+  pub waiting : s.waiting ≡ []
+  pub unblocked : s.blocked ≡ false
+  pub sent_out : s.sent_out ≡ []
+
 -- a request was accepted, and waits
 pub record Accepts (old : SchedSeen) (r : Request) (new : SchedSeen) : Type 0 where
   pub limit : new.limit ≡ old.limit
+  pub capacity : new.capacity ≡ old.capacity
   pub accepted : new.accepted ≡ old.accepted ++ r ∷ []
   pub waiting : new.waiting ≡ old.waiting ++ r.id ∷ []
   pub sent_out : new.sent_out ≡ old.sent_out
@@ -38,6 +48,7 @@ pub record Accepts (old : SchedSeen) (r : Request) (new : SchedSeen) : Type 0 wh
 -- a command was sent out, where there was one
 pub record Sends (old : SchedSeen) (command : Option Command) (new : SchedSeen) : Type 0 where
   pub limit : new.limit ≡ old.limit
+  pub capacity : new.capacity ≡ old.capacity
   pub accepted : new.accepted ≡ old.accepted
   pub sent_out : new.sent_out ≡ old.sent_out ++ option_to_list command
 
@@ -50,8 +61,10 @@ pub record IsScheduler {S : Type 0} (steps : SchedSteps S) (valid : S → Type 0
   -- no command comes exactly where the pick is past its list, which has a request while one waits
   pub none : (s : S) (pick : ℕ) → valid s → (steps.command s pick ≡ None) ↔ (steps.eligible s ≤ pick)
   pub some : (s : S) → valid s → 0 < length (steps.seen s).waiting → 0 < steps.eligible s
-  -- blocked, it accepts nothing, and a request waits
-  pub blocked : (s : S) → valid s → (steps.seen s).blocked ≡ true → (steps.can_accept s ≡ false) × (0 < length (steps.seen s).waiting)
+  -- it accepts a request exactly where it is not blocked and fewer wait than may
+  pub can : (s : S) → valid s → steps.can_accept s ≡ (not (steps.seen s).blocked && nat_lt (length (steps.seen s).waiting) (steps.seen s).capacity)
+  -- blocked, a request waits
+  pub blocked : (s : S) → valid s → (steps.seen s).blocked ≡ true → 0 < length (steps.seen s).waiting
 
 -- the record has what is seen
 pub record IsSchedRecord (s : SchedSeen) (trace : SchedRecord) : Type 0 where

@@ -1,6 +1,7 @@
 //! The plain scheduler.
 ghost use Rattle.std.specs.Prelude.{◌≡◌, IfOk};
-ghost use Rattle.barrier_reassign.specs.Sched.{SchedState, opened, sched_steps};
+ghost use Rattle.barrier_reassign.specs.Sched.{SchedState, opened, seen_of, sched_steps};
+ghost use Rattle.barrier_reassign.specs.Scheduler.{IsNewScheduler};
 ghost use Rattle.barrier_reassign.specs.laws.Valid.{IsValid};
 ghost use Rattle.barrier_reassign.specs.laws.SchedulerLaws as laws;
 
@@ -36,7 +37,8 @@ impl Sched {
     /// A scheduler that may accept so many requests in all, of which `CAPACITY` may wait. It is refused as for want
     /// of memory above `LONGEST`.
     pub fn make(alloc: Global, limit: u64) -> Result<Sched, NoMemory>
-        ensures { IfOk result (λ s. s ≡ opened limit CAPACITY) }
+        ensures state { IfOk result (λ s. s ≡ opened limit CAPACITY) }
+        ensures new { IfOk result (λ s. IsNewScheduler limit CAPACITY (seen_of s)) }
     {
         if limit > LONGEST {
             return Err(NoMemory);

@@ -17,6 +17,8 @@ use Rattle.order_model.specs.Device.{Seen, NoneTwice}
 pub record SchedSeen : Type 0 where
   -- how many requests it may accept in all
   pub limit : ℕ
+  -- how many requests may wait in it
+  pub capacity : ℕ
   -- the requests that it accepted, as they were submitted
   pub accepted : List Request
   -- the ids of those that wait in it
@@ -108,4 +110,4 @@ FlushesAreBarriers requests = (i : ℕ) (r : Request) → slice_get requests i �
 
 -- Each request was sent as a command of its own, in order.
 abbrev pub sent_alone : List Request → SchedSeen
-sent_alone requests = record { limit = length requests; accepted = requests; waiting = []; blocked = false; sent_out = map command_for requests }
+sent_alone requests = record { limit = length requests; capacity = length requests; accepted = requests; waiting = []; blocked = false; sent_out = map command_for requests }

@@ -128,7 +128,7 @@ abbrev pub dispatched : ElevatorState → ℕ → ElevatorState
 dispatched s pick = option_map_or (λ w. sent_as s (leaving_with s.queue w)) (picked s pick) s
 
 abbrev pub seen_of : ElevatorState → SchedSeen
-seen_of s = record { limit = s.limit; accepted = s.accepted; waiting = waiting_ids s.queue; blocked = is_blocked s.queue; sent_out = s.sent_out }
+seen_of s = record { limit = s.limit; capacity = s.queue.capacity; accepted = s.accepted; waiting = waiting_ids s.queue; blocked = is_blocked s.queue; sent_out = s.sent_out }
 
 abbrev pub elevator_steps : SchedSteps ElevatorState
 elevator_steps = record {

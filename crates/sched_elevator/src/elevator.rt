@@ -2,7 +2,8 @@
 ghost use Rattle.std.specs.Prelude.{◌≡◌, ℕ, ◌<◌, ◌↔◌, List, length, Some, slice_get, IfOk};
 ghost use Rattle.blk_base.specs.Members.{In};
 ghost use Rattle.barrier_reassign.specs.Epoch.{Waiting, eligible};
-ghost use Rattle.sched_elevator.specs.Elevator.{ElevatorState, opened, listed, meets_before, block_of, elevator_steps};
+ghost use Rattle.barrier_reassign.specs.Scheduler.{IsNewScheduler};
+ghost use Rattle.sched_elevator.specs.Elevator.{ElevatorState, opened, seen_of, listed, meets_before, block_of, elevator_steps};
 ghost use Rattle.sched_elevator.specs.laws.List.{Meets};
 ghost use Rattle.sched_elevator.specs.laws.Valid.{IsElevator};
 ghost use Rattle.sched_elevator.specs.laws.Scheduler as laws;
@@ -43,7 +44,8 @@ impl Elevator {
     /// An elevator at block 0 that may accept so many requests in all, of which `CAPACITY` may wait. It is
     /// refused as for want of memory above `LONGEST`.
     pub fn make(alloc: Global, limit: u64) -> Result<Elevator, NoMemory>
-        ensures { IfOk result (λ s. s ≡ opened limit CAPACITY) }
+        ensures state { IfOk result (λ s. s ≡ opened limit CAPACITY) }
+        ensures new { IfOk result (λ s. IsNewScheduler limit CAPACITY (seen_of s)) }
     {
         if limit > LONGEST {
             return Err(NoMemory);

@@ -8,7 +8,8 @@ use Rattle.order_model.specs.Device.{Seen}
 use Rattle.order_model.specs.Machine.{Machine}
 use Rattle.barrier_reassign.specs.declared.scheduler.Scheduler as schedulers
 use Rattle.blk_base.specs.declared.memory.NoMemory.{NoMemory}
-use Rattle.barrier_reassign.specs.Scheduler.{SchedSteps}
+use Rattle.barrier_reassign.specs.declared.scheduler.TheConstants.{CAPACITY}
+use Rattle.barrier_reassign.specs.Scheduler.{SchedSteps, IsNewScheduler}
 use Rattle.event_grammar.specs.declared.event.EventLine.{EventLine}
 use Rattle.minix_layout.specs.declared.division.Geometry.{Geometry}
 use Rattle.minix_layout.specs.declared.division.TooSmall.{TooSmall}
@@ -29,7 +30,7 @@ use Rattle.session_run.specs.Beginning.{HostNow, WriteBytes, call_over, IsMadeFo
 use Rattle.session_run.specs.End.{IsEndOf, EndKeepsOrder}
 use Rattle.session_run.specs.declared.session.SessionEnd.{SessionEnd}
 use Rattle.session_core.specs.Core.{IsNewFor, geometry_of, opening_of, start_of, ended}
-use Rattle.session_core.specs.code.Ends.{IsNewScheduler, session_on, EndsIn, KeepsTheOrder, IsBehind, EndFits}
+use Rattle.session_core.specs.code.Ends.{session_on, EndsIn, KeepsTheOrder, IsBehind, EndFits}
 
 -- ---- its calls
 
@@ -60,9 +61,13 @@ pub sound_of : (r : Result Geometry TooSmall) (inodes zones : ℕ) → IfOk r (�
 sound_of (Ok g) inodes zones sound made small some = subst IsSound made sound
 sound_of (Err e) inodes zones sound made small some = let le = small.0 refl in absurd (omega (arith, le, some))
 
-pub is_new : (s : SessionScript) (p : SchedSeen) (d : Seen) → IsNewScheduler s.header.limit p → IsNewFor s d → IsNew (made_image (geometry_of s) s.journal) s.header.limit p d
+any_capacity : (limit capacity : ℕ) (p : SchedSeen) → IsNewScheduler limit capacity p → IsNewScheduler limit p.capacity p
+any_capacity limit capacity p new =
+    record { requests = new.requests; room = refl; accepted = new.accepted; waiting = new.waiting; unblocked = new.unblocked; sent_out = new.sent_out }
+
+pub is_new : (s : SessionScript) (p : SchedSeen) (d : Seen) → IsNewScheduler s.header.limit CAPACITY p → IsNewFor s d → IsNew (made_image (geometry_of s) s.journal) s.header.limit p d
 is_new s p d sched dev =
-    record { image = dev.image; took = dev.took; sent = dev.sent; ids = dev.ids; accepted = sched.accepted; sent_out = sched.sent_out; requests = sched.requests }
+    record { image = dev.image; took = dev.took; sent = dev.sent; ids = dev.ids; scheduler = any_capacity s.header.limit CAPACITY p sched }
 
 -- ---- its end
 

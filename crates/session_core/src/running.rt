@@ -1,6 +1,7 @@
 //! The run of a volume script.
 ghost use Rattle.std.specs.Prelude.{◌≡◌, ◌^◌, ◌<◌, length, IfOk};
 ghost use Rattle.order_model.specs.Machine.{machine_of};
+ghost use Rattle.barrier_reassign.specs.Scheduler.{IsNewScheduler};
 ghost use Rattle.mount_make.specs.Made.{made_image};
 ghost use Rattle.session_grammar.specs.WellFormed.{IsWellFormed};
 ghost use Rattle.session_run.specs.Beginning.{IsMadeFor};
@@ -9,10 +10,10 @@ ghost use Rattle.session_core.specs.Core.{EndState, IsNewFor, core_on, device_fo
 ghost use Rattle.session_core.specs.Headline.{Headline, HeadlineOn};
 ghost use Rattle.session_core.specs.Report.{HasAttempts, IsCoreReport, IsReportOf};
 ghost use Rattle.session_core.specs.code.Cuts.{CutFacts, medium_left};
-ghost use Rattle.session_core.specs.code.Ends.{IsNewScheduler, session_on, EndsIn, KeepsTheOrder, IsBehind, EndFits};
+ghost use Rattle.session_core.specs.code.Ends.{session_on, EndsIn, KeepsTheOrder, IsBehind, EndFits};
 
 use crate::report::{CutRecord, SessionReport};
-use barrier_reassign::Scheduler;
+use barrier_reassign::{CAPACITY, Scheduler};
 use blk_base::{Image, NoMemory};
 use call_images::{
     attempts_on_model_devices, cut_sessions_have_the_tree_of_a_prefix, cut_sessions_keep_files,
@@ -71,7 +72,7 @@ fn open_script(alloc: Global, script: &SessionScript) -> Result<OpenedSession, N
 fn check_parts<S: Scheduler, D: OrderedDev>(script: &SessionScript, host: &Host, sched: &S, dev: &D)
     requires script { IsWellFormed script.now }
     requires host { host.now ≡ opened_host script.now }
-    requires scheduler { IsNewScheduler script.now.header.limit (S.steps.seen (S.state sched.now)) }
+    requires scheduler { IsNewScheduler script.now.header.limit CAPACITY (S.steps.seen (S.state sched.now)) }
     requires device { IsNewFor script.now (D.seen (D.state dev.now)) }
     ensures { IsMadeFor S.Scheduler D.OrderedDev (opening_of script.now) (start_of script.now) host.now script.now.header.queue (length script.now.programs) (S.state sched.now) (D.state dev.now) }
 {
@@ -93,7 +94,7 @@ fn run_scheduled<S: Scheduler + Drop, D: OrderedDev + Drop>(
 ) -> Result<SessionEnd, NoMemory>
     requires script { IsWellFormed script.now }
     requires host { host ≡ opened_host script.now }
-    requires scheduler { IsNewScheduler script.now.header.limit (S.steps.seen (S.state sched)) }
+    requires scheduler { IsNewScheduler script.now.header.limit CAPACITY (S.steps.seen (S.state sched)) }
     requires device { IsNewFor script.now (D.seen (D.state dev)) }
     ensures end { IfOk result (EndsIn (ended S.steps (machine_of D.OrderedDev) (session_on script.now S.steps (machine_of D.OrderedDev) (S.state sched) (D.state dev)))) }
     ensures order { IfOk result (KeepsTheOrder script.now (ended S.steps (machine_of D.OrderedDev) (session_on script.now S.steps (machine_of D.OrderedDev) (S.state sched) (D.state dev)))) }

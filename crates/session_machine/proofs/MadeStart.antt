@@ -26,7 +26,5 @@ made_can_start g journal quota limit capacity programs p d some new = record {
   took = new.took;
   sent = new.sent;
   ids = new.ids;
-  accepted = new.accepted;
-  sent_out = new.sent_out;
-  requests = new.requests;
+  scheduler = new.scheduler;
 }

@@ -118,11 +118,11 @@ module _ {K S : Type 0} (s : Opening) (k : SchedSteps K) (m : Machine S) where
       fits = record {
         requests = record {
           counted = refl;
-          submitted = append-nil (k.seen sched).accepted ∙ start.accepted;
-          sent = start.sent_out ∙ ap (λ (l : List Command). l ++ [] ++ []) (sym start.took);
+          submitted = append-nil (k.seen sched).accepted ∙ start.scheduler.accepted;
+          sent = start.scheduler.sent_out ∙ ap (λ (l : List Command). l ++ [] ++ []) (sym start.took);
           fitting = λ i q at. absurd (none-some q at);
           few = omega arith;
-          scheduler = start.requests;
+          scheduler = start.scheduler.requests;
           device = start.ids;
         };
         completions = start.sent;

@@ -8,7 +8,7 @@ use Rattle.order_model.specs.Carrying.{SchedSeen}
 use Rattle.order_model.specs.Device.{Seen, IsReceivable, IsSurface}
 use Rattle.order_model.specs.Machine.{Machine}
 use Rattle.order_model.specs.Steps.{Receives, Transfers, Persists, Answers}
-use Rattle.barrier_reassign.specs.Scheduler.{SchedSteps}
+use Rattle.barrier_reassign.specs.Scheduler.{SchedSteps, IsNewScheduler}
 use Rattle.stack_core.specs.BlockLayer.{QueuesState}
 use Rattle.stack_core.specs.RequestPath.{AreRequests}
 use Rattle.host_machine.specs.State.{Host}
@@ -64,16 +64,14 @@ pub record SessionFits {K S : Type 0} (k : SchedSteps K) (m : Machine S) (r : Se
   pub taken : length r.host.journal.flush.taken ≤ r.host.journal.flush.limit + 1
 
 -- A session can start: the device is one of the session's image, volume and log, it took and sent nothing yet, and it may
--- take as many ids as the session may have requests; so may the scheduler, which accepted nothing yet.
+-- take as many ids as the session may have requests; so may the scheduler, which is new, however many may wait in it.
 pub record CanStart (s : Opening) (b : Start) (p : SchedSeen) (d : Seen) : Type 0 where
   pub image : d.base ≡ s.image
   pub blocks : s.geometry.zones + b.ring.places.past ≤ length s.image
   pub took : d.took ≡ []
   pub sent : d.sent ≡ []
   pub ids : b.limit ≤ d.limit
-  pub accepted : p.accepted ≡ []
-  pub sent_out : p.sent_out ≡ []
-  pub requests : p.limit ≡ b.limit
+  pub scheduler : IsNewScheduler b.limit p.capacity p
 
 -- the host submitted one request more
 pub record SubmitsOne {V C R : Type 0} (old new : Host V C R) : Type 0 where

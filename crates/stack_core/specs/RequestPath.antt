@@ -6,6 +6,7 @@ use Rattle.order_model.specs.declared.request.Request.{Request}
 use Rattle.order_model.specs.Single.{command_for}
 use Rattle.order_model.specs.Device.{Seen}
 use Rattle.order_model.specs.Carrying.{SchedSeen, sent_alone}
+use Rattle.barrier_reassign.specs.declared.scheduler.TheConstants.{CAPACITY}
 use Rattle.barrier_reassign.specs.Scheduler.{SchedSteps}
 use Rattle.script_grammar.specs.declared.script.Script.{Script}
 use Rattle.script_grammar.specs.declared.script.Form.{Form}
@@ -40,9 +41,9 @@ scheduled_as s (Blocks blocks) = length s.puts
 abbrev pub scheduled_count : Script → ℕ
 scheduled_count s = scheduled_as s s.kind
 
--- what is seen of the scheduler when the script begins
+-- what is seen of the scheduler when the script begins: `CAPACITY` requests may wait in it
 abbrev pub opened_seen : Script → SchedSeen
-opened_seen s = record { limit = scheduled_count s; accepted = []; waiting = []; blocked = false; sent_out = [] }
+opened_seen s = record { limit = scheduled_count s; capacity = CAPACITY; accepted = []; waiting = []; blocked = false; sent_out = [] }
 
 abbrev pub layer_stepped : {K : Type 0} → SchedSteps K → List Request → BlockLayer K → CoreEvent → BlockLayer K
 layer_stepped k requests r Submit = record { queues = submitted requests r.queues; sched = r.sched }

@@ -4,6 +4,7 @@ ghost use Rattle.blk_base.specs.Image.{zeros};
 ghost use Rattle.order_model.specs.Machine.{machine_of};
 ghost use Rattle.device_epochs.specs.Device.{seen};
 ghost use Rattle.script_grammar.specs.Grammar.{IsRunnable, blocks_of};
+ghost use Rattle.barrier_reassign.specs.Scheduler.{IsNewScheduler};
 ghost use Rattle.stack_core.specs.RequestPath.{PathFits, opened_path, scheduled_count};
 ghost use Rattle.stack_core.specs.Core.{RunState, happens, times, happens_line, run_lines, run_of, ended, end_on, core};
 ghost use Rattle.stack_core.specs.Report.{IsReportOf, IsCoreReport, PartsFit, Headline};
@@ -11,7 +12,7 @@ ghost use Rattle.stack_core.specs.Headline.{KeepsOrder};
 
 use crate::report::Report;
 use crate::request_path::RequestPath;
-use barrier_reassign::Scheduler;
+use barrier_reassign::{CAPACITY, Scheduler};
 use blk_base::{Image, NoMemory};
 use device_epochs::{DeviceSetup, EpochDevice};
 use epoch_sched::Sched;
@@ -156,7 +157,7 @@ fn run_with<S: Scheduler + Drop, D: OrderedDev + Drop>(
 ) -> Result<Report, NoMemory>
     requires valid { D.valid (D.state dev) }
     requires scheduler { S.valid (S.state sched) }
-    requires unused { (S.steps.seen (S.state sched)).accepted ≡ [] }
+    requires new { IsNewScheduler (scheduled_count script.now) CAPACITY (S.steps.seen (S.state sched)) }
     requires path { PathFits (opened_path script.now) (S.steps.seen (S.state sched)) script.now.puts (D.seen (D.state dev)) }
     ensures fits { IfOk result PartsFit }
     ensures core { let end = ended S.steps (run_of S.steps (machine_of D.OrderedDev) script.now (S.state sched) (D.state dev)) in

@@ -1,7 +1,7 @@
 -- An acceptance keeps what a scheduler keeps.
-use Rattle.std.specs.Prelude.{◌≡◌, ℕ, ◌+◌, ◌<◌, ◌||◌, not, ◌⊎◌, true, false, [], ◌∷◌, ◌++◌, length, count_by, Some, IsTrue, slice_get, refl, if◌then◌else◌}
+use Rattle.std.specs.Prelude.{◌≡◌, ℕ, ◌+◌, ◌<◌, ◌≤◌, ◌||◌, not, ◌⊎◌, true, false, [], ◌∷◌, ◌++◌, length, count_by, Some, IsTrue, slice_get, refl, if◌then◌else◌}
 use Rattle.std.proofs.Common.{ap, sym, subst, ◌∙◌, inl, inr, ⊎_elim, arith}
-use Rattle.std.proofs.lemmas.Bool.{cases_Bool, false≢true, both_ways, and_parts, or_right, cases_lt, or_cases}
+use Rattle.std.proofs.lemmas.Bool.{cases_Bool, false≢true, both_ways, and_parts, or_right, cases_lt, or_cases, not-true, eqb-false}
 use Rattle.std.proofs.lemmas.Option.{same_Some}
 use Rattle.std.proofs.lemmas.List.{length_push}
 use Rattle.std.proofs.lemmas.List.Sums.{sum_by_push}
@@ -283,6 +283,14 @@ accepted-count s r v unblocked =
     let push = sum_by_push (λ (q : Request). if q.barrier || is_flush q.kind then 1 else 0) s.accepted r in
     rw (not_open-closing_of r) (omega (arith, old, push))
 
+-- fewer waited than may
+accepted-room : (s : SchedState) (r : Request) → IsValid s → can_accept s.queue ≡ true → length (s.queue.waiting ++ entrant s r ∷ []) ≤ s.queue.capacity
+accepted-room s r v can =
+    let room = (and_parts (is_open s.queue.closing) (not (is_full s.queue)) can).1 in
+    let fewer = eqb-false (length s.queue.waiting) s.queue.capacity (not-true (is_full s.queue) room) in
+    let n = length_push s.queue.waiting (entrant s r) in
+    omega (arith, v.room, fewer, n)
+
 -- ---- the whole
 
 pub accepted-valid : (s : SchedState) (r : Request) → IsValid s → IsAcceptable (seen_of s) r → can_accept s.queue ≡ true → IsValid (accepted s r)
@@ -293,6 +301,7 @@ accepted-valid s r v a can =
       ids = accepted-ids s r v a;
       next = let n = length_push s.accepted r in omega (arith, v.next, n);
       waiting = accepted-waiting s r v;
+      room = accepted-room s r v can;
       ascending = IsAscending-push (λ (w : Waiting). w.number) s.queue.waiting (entrant s r) v.ascending (waiting-next s v);
       counted = accepted-counted s r v;
       somewhere = accepted-somewhere s r v;

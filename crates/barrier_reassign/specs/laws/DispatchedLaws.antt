@@ -34,6 +34,7 @@ opened-valid limit capacity =
       ids = λ i j p q e f d. absurd (none-some p e);
       next = refl;
       waiting = λ w h. absurd h;
+      room = omega arith;
       ascending = tt;
       counted = refl;
       somewhere = λ i lt. absurd (omega (arith, lt));
@@ -500,6 +501,7 @@ sent-valid s w valid there may =
       ids = valid.ids;
       next = valid.next;
       waiting = λ u h. valid.waiting u (stayed s u w h).0;
+      room = let n = length-without s.queue.waiting w valid.ascending there in let most = valid.room in omega (arith, n, most);
       ascending = IsAscending-filter (λ (u : Waiting). u.number) (λ u. not (u.number == w.number)) s.queue.waiting valid.ascending;
       counted = sent-counted s w v;
       somewhere = sent-somewhere s w v;

@@ -15,7 +15,7 @@ use Rattle.order_model.specs.declared.part.Part.{Part}
 use Rattle.order_model.specs.Received.{ids_of, all_ids, IsBarrier}
 use Rattle.order_model.specs.Device.{NoneTwice}
 use Rattle.order_model.specs.Carrying.{IsSentIn, IsWaitingAt, WasAccepted, Carries}
-use Rattle.order_model.proofs.Direct.{ids_of-command, whole_alone}
+use Rattle.order_model.proofs.Direct.{ids_of-command, whole_alone, few_alone}
 use Rattle.order_model.proofs.Single.{part_is, flush_is}
 use Rattle.barrier_reassign.specs.Epoch.{Waiting}
 use Rattle.barrier_reassign.specs.Sched.{SchedState, seen_of}
@@ -147,6 +147,12 @@ flush_flag s v c id h e =
     let f = at.1 in
     sym (ap (λ (d : Command). d.barrier) f.same) ∙ f.went.flag (ap is_flush (sent_flush s at.0 id c f e).1)
 
+small : (s : SchedState) → IsValid s → (c : Command) → In c s.sent_out → length c.parts ≤ 16
+small s v c h =
+    let f = (sent_in s c v h).1 in
+    let one = few_alone f.went.request f.went.flagged in
+    subst (λ (d : Command). length d.parts ≤ 16) f.same (omega (arith, one))
+
 pub carries : (s : SchedState) → IsValid s → Carries (seen_of s)
 carries s v = record {
   few = v.few;
@@ -164,4 +170,5 @@ carries s v = record {
   priority = priority s v;
   flush_flag = flush_flag s v;
   count = v.count;
+  small = small s v;
 }

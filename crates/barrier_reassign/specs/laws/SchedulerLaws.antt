@@ -1,14 +1,14 @@
 -- The plain scheduler is a scheduler.
-use Rattle.std.specs.Prelude.{◌≡◌, ℕ, ◌<◌, ◌≤◌, ◌↔◌, true, false, List, [], ◌∷◌, length, Option, Some, None, slice_get, refl}
+use Rattle.std.specs.Prelude.{◌≡◌, ℕ, ◌<◌, ◌≤◌, ◌↔◌, ◌==◌, ◌&&◌, not, Bool, true, false, List, [], ◌∷◌, length, nat_lt, Option, Some, None, slice_get, refl}
 use Rattle.std.specs.Option.{option_map}
-use Rattle.std.proofs.Common.{ap, sym, ◌∙◌, ⊎_elim, arith}
-use Rattle.std.proofs.lemmas.Bool.{cases_lt, not-true}
+use Rattle.std.proofs.Common.{ap, ap₂, sym, ◌∙◌, ⊎_elim, arith}
+use Rattle.std.proofs.lemmas.Bool.{cases_lt, lt-ltb, le-ltb, eq-eqb, ne_eqb}
 use Rattle.std.proofs.lemmas.List.{append-nil, map-append, length-map}
 use Rattle.std.proofs.lemmas.Option.{none-some}
 use Rattle.blk_base.specs.laws.Members.{slice_get-in_range, slice_get-out}
 use Rattle.order_model.specs.declared.request.Request.{Request}
 use Rattle.barrier_reassign.specs.Epoch.{Waiting, can_accept, is_open, is_blocked, eligible, picked, unflagged}
-use Rattle.barrier_reassign.specs.Sched.{SchedState, accepted, sent, command_of, seen_of, sched_steps}
+use Rattle.barrier_reassign.specs.Sched.{SchedState, accepted, sent, command_of, waiting_ids, seen_of, sched_steps}
 use Rattle.barrier_reassign.specs.Scheduler.{Accepts, Sends, IsScheduler}
 use Rattle.barrier_reassign.specs.laws.Valid.{IsValid}
 use Rattle.barrier_reassign.specs.laws.AcceptedLaws.{accepted-valid}
@@ -19,14 +19,15 @@ use Rattle.barrier_reassign.specs.laws.ProgressLaws.{eligible-nonempty, blocked-
 accepts : (s : SchedState) (r : Request) → Accepts (seen_of s) r (seen_of (accepted s r))
 accepts s r = record {
   limit = refl;
+  capacity = refl;
   accepted = refl;
   waiting = map-append (λ (w : Waiting). w.request.id) s.queue.waiting (record { number = s.queue.next; request = unflagged r } ∷ []);
   sent_out = refl;
 }
 
 sends : (s : SchedState) (o : Option Waiting) → Sends (seen_of s) (option_map (command_of s.queue) o) (seen_of (sent s o))
-sends s None = record { limit = refl; accepted = refl; sent_out = sym (append-nil s.sent_out) }
-sends s (Some w) = record { limit = refl; accepted = refl; sent_out = refl }
+sends s None = record { limit = refl; capacity = refl; accepted = refl; sent_out = sym (append-nil s.sent_out) }
+sends s (Some w) = record { limit = refl; capacity = refl; accepted = refl; sent_out = refl }
 
 -- no request is picked exactly past the list
 mapped-none : {X Y : Type 0} (f : X → Y) (o : Option X) → option_map f o ≡ None → o ≡ None
@@ -55,8 +56,23 @@ waits_on s h = let n = length-map s.queue.waiting (λ (w : Waiting). w.request.i
 pub on_waits : (s : SchedState) → 0 < length s.queue.waiting → 0 < length (seen_of s).waiting
 on_waits s h = let n = length-map s.queue.waiting (λ (w : Waiting). w.request.id) in omega arith
 
-blocked_refuses : (s : SchedState) → is_blocked s.queue ≡ true → can_accept s.queue ≡ false
-blocked_refuses s h = rw (not-true (is_open s.queue.closing) h) refl
+-- where no more wait than may, not so many do exactly where fewer do
+fewer_wait : (n capacity : ℕ) → n ≤ capacity → not (n == capacity) ≡ nat_lt n capacity
+fewer_wait n capacity most =
+    ⊎_elim
+    (λ lt. ap not (ne_eqb n capacity (λ e. omega (arith, lt, e))) ∙ sym (lt-ltb n capacity lt))
+    (λ le. ap not (eq-eqb n capacity (omega (arith, le, most))) ∙ sym (le-ltb n capacity le))
+    (cases_lt n capacity)
+
+not_twice : (b : Bool) → b ≡ not (not b)
+not_twice true = refl
+not_twice false = refl
+
+can_is : (s : SchedState) → IsValid s → can_accept s.queue ≡ (not (is_blocked s.queue) && nat_lt (length (waiting_ids s.queue)) s.queue.capacity)
+can_is s v =
+    let count = sym (length-map s.queue.waiting (λ (w : Waiting). w.request.id)) in
+    ap₂ (λ (a b : Bool). a && b) (not_twice (is_open s.queue.closing))
+    (fewer_wait (length s.queue.waiting) s.queue.capacity v.room ∙ ap (λ n. nat_lt n s.queue.capacity) count)
 
 pub keeps : IsScheduler sched_steps IsValid
 keeps = record {
@@ -65,5 +81,6 @@ keeps = record {
   dispatches = λ s pick v. (dispatched-valid s pick v, sends s (picked s.queue pick));
   none = λ s pick v. mapped_past (command_of s.queue) (eligible s.queue.waiting) pick;
   some = λ s v h. eligible-nonempty s v (waits_on s h);
-  blocked = λ s v h. (blocked_refuses s h, on_waits s (blocked-nonempty s v h));
+  can = can_is;
+  blocked = λ s v h. on_waits s (blocked-nonempty s v h);
 }

@@ -61,6 +61,8 @@ pub record IsValid (s : SchedState) : Type 0 where
   pub ids : (i j : ℕ) (p q : Request) → slice_get s.accepted i ≡ Some p → slice_get s.accepted j ≡ Some q → p.id ≡ q.id → i ≡ j
   pub next : s.queue.next ≡ length s.accepted
   pub waiting : (w : Waiting) → In w s.queue.waiting → IsFrom s.accepted w
+  -- no more than may
+  pub room : length s.queue.waiting ≤ s.queue.capacity
   -- in order of acceptance
   pub ascending : IsAscending (λ (w : Waiting). w.number) s.queue.waiting
   pub counted : length s.sent_out + length s.queue.waiting ≡ length s.accepted

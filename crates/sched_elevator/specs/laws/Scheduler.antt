@@ -1,17 +1,19 @@
 -- The elevator is a scheduler.
-use Rattle.std.specs.Prelude.{◌≡◌, ℕ, ◌<◌, true, [], ◌∷◌, length, Option, Some, None, refl}
+use Rattle.std.specs.Prelude.{◌≡◌, ℕ, ◌+◌, ◌<◌, zero, suc, Bool, true, [], ◌∷◌, length, Option, Some, None, refl}
 use Rattle.std.specs.Option.{option_map, option_map_or}
 use Rattle.std.proofs.Common.{sym, arith}
 use Rattle.std.proofs.lemmas.List.{append-nil, map-append}
 use Rattle.blk_base.specs.laws.Members.{In-filter, slice_get-In}
+use Rattle.order_model.specs.declared.request.Kind.{Kind}
+use Rattle.order_model.specs.declared.request.Kind.TheVariants.{Put, Flush}
 use Rattle.order_model.specs.declared.request.Request.{Request}
-use Rattle.barrier_reassign.specs.Epoch.{Waiting, can_accept, eligible, may_leave, unflagged}
+use Rattle.barrier_reassign.specs.Epoch.{EpochState, Waiting, can_accept, eligible, may_leave, unflagged}
 use Rattle.barrier_reassign.specs.Scheduler.{IsAcceptable, Accepts, Sends, IsScheduler}
 use Rattle.barrier_reassign.specs.laws.AcceptedLaws.{accepted-valid}
 use Rattle.barrier_reassign.specs.laws.DispatchedLaws.{opened-valid}
 use Rattle.barrier_reassign.specs.laws.SchedulerLaws as laws
 use Rattle.order_model.specs.Merging.{ungrouped}
-use Rattle.sched_elevator.specs.Elevator.{ElevatorState, opened, accepted, listed, picked, leaving_with, sent_as, dispatched, seen_of, elevator_steps}
+use Rattle.sched_elevator.specs.Elevator.{ElevatorState, Gathering, opened, accepted, listed, picked, next_part, taken, gathered, alone, leaving_as, leaving_with, sent_as, dispatched, seen_of, elevator_steps}
 use Rattle.sched_elevator.specs.laws.List.{in_order-In, length-in_order}
 use Rattle.sched_elevator.specs.laws.Valid.{IsElevator, Leaves, sent_apart, carries_requests, sent_valid}
 
@@ -43,14 +45,31 @@ dispatched_valid s pick v = sent_option_valid s (picked s pick) v (picked_leaves
 accepts : (s : ElevatorState) (r : Request) → Accepts (seen_of s) r (seen_of (accepted s r))
 accepts s r = record {
   limit = refl;
+  capacity = refl;
   accepted = refl;
   waiting = map-append (λ (w : Waiting). w.request.id) s.queue.waiting (record { number = s.queue.next; request = unflagged r } ∷ []);
   sent_out = refl;
 }
 
+-- as many may wait as before
+gathered_option_capacity : (n block : ℕ) (ordered : Bool) (g : Gathering) (o : Option Waiting) → ((w : Waiting) → (gathered n ordered (block + 1) (taken g w)).queue.capacity ≡ g.queue.capacity)
+    → (option_map_or (λ w. gathered n ordered (block + 1) (taken g w)) o g).queue.capacity ≡ g.queue.capacity
+gathered_option_capacity n block ordered g None rest = refl
+gathered_option_capacity n block ordered g (Some w) rest = rest w
+
+gathered_capacity : (n block : ℕ) (ordered : Bool) (g : Gathering) → (gathered n ordered block g).queue.capacity ≡ g.queue.capacity
+unfolding gathered
+gathered_capacity zero block ordered g = refl
+gathered_capacity (suc n) block ordered g =
+    gathered_option_capacity n block ordered g (next_part g.queue block ordered) (λ w. gathered_capacity n (block + 1) ordered (taken g w))
+
+leaving_capacity : (queue : EpochState) (w : Waiting) (k : Kind) → (leaving_as queue w k).queue.capacity ≡ queue.capacity
+leaving_capacity queue w (Put block body) = gathered_capacity 15 (block + 1) w.request.ordered (alone queue w)
+leaving_capacity queue w Flush = refl
+
 sends : (s : ElevatorState) (o : Option Waiting) → Sends (seen_of s) (option_map (λ w. (leaving_with s.queue w).command) o) (seen_of (option_map_or (λ w. sent_as s (leaving_with s.queue w)) o s))
-sends s None = record { limit = refl; accepted = refl; sent_out = sym (append-nil s.sent_out) }
-sends s (Some w) = record { limit = refl; accepted = refl; sent_out = refl }
+sends s None = record { limit = refl; capacity = refl; accepted = refl; sent_out = sym (append-nil s.sent_out) }
+sends s (Some w) = record { limit = refl; capacity = leaving_capacity s.queue w w.request.kind; accepted = refl; sent_out = refl }
 
 waits_in_list : (s : ElevatorState) → IsElevator s → 0 < length (seen_of s).waiting → 0 < length (listed s.head s.queue.waiting)
 waits_in_list s v h =
@@ -65,5 +84,6 @@ keeps = record {
   dispatches = λ s pick v. (dispatched_valid s pick v, sends s (picked s pick));
   none = λ s pick v. laws.mapped_past (λ w. (leaving_with s.queue w).command) (listed s.head s.queue.waiting) pick;
   some = waits_in_list;
+  can = λ s v. laws.keeps.can (sent_apart s s.queue (ungrouped v.groups)) v.apart;
   blocked = λ s v h. laws.keeps.blocked (sent_apart s s.queue (ungrouped v.groups)) v.apart h;
 }

@@ -1,10 +1,10 @@
 -- What every elevator keeps: its commands are merged of those that the plain scheduler would have sent.
-use Rattle.std.specs.Prelude.{◌≡◌, ℕ, ◌+◌, ◌<◌, ◌||◌, ◌++◌, zero, suc, Bool, true, false, List, [], ◌∷◌, length, map, find, Option, Some, None, is_some, refl, if◌then◌else◌}
+use Rattle.std.specs.Prelude.{◌≡◌, ℕ, ◌+◌, ◌<◌, ◌≤◌, ◌||◌, ◌++◌, zero, suc, Bool, true, false, List, [], ◌∷◌, length, map, find, Option, Some, None, is_some, refl, if◌then◌else◌}
 use Rattle.std.specs.Option.{option_map_or}
 use Rattle.std.specs.List.{list_any}
 use Rattle.std.proofs.Common.{ap, ap₂, sym, subst, ◌∙◌, inl, inr, ⊎_elim, arith, append_assoc}
 use Rattle.std.proofs.lemmas.Bool.{cases_Bool, both_ways, false≢true, and_parts, not-true, or_cases, eqb-true}
-use Rattle.std.proofs.lemmas.List.{append-nil, map-append, length_push}
+use Rattle.std.proofs.lemmas.List.{append-nil, map-append, length-append, length_push}
 use Rattle.std.proofs.lemmas.Option.{none-some, same_Some}
 use Rattle.blk_base.specs.Members.{In}
 use Rattle.blk_base.specs.laws.Members.{In-filter, list_any-In, In-push_cases, slice_get-In, slice_get-length, slice_get-push_cases}
@@ -19,6 +19,7 @@ use Rattle.order_model.specs.Received.{all_parts}
 use Rattle.order_model.specs.Single.{parts_for, flush_for, command_of_request}
 use Rattle.order_model.specs.Carrying.{Carries}
 use Rattle.order_model.specs.Merging.{ungrouped, first_flush, merged, IsGroup}
+use Rattle.order_model.proofs.Direct.{few_alone}
 use Rattle.order_model.proofs.Merging.{carries_merged}
 use Rattle.barrier_reassign.specs.Epoch.{EpochState, Waiting, may_leave, eligible, departed, leaves_flagged}
 use Rattle.barrier_reassign.specs.Sched as plain
@@ -63,17 +64,21 @@ with_group s g group v whole same apart = record {
 
 -- ---- the first of a group
 
-alone_group : (c : Command) → IsGroup (c ∷ [])
-alone_group c = record {
+alone_group : (c : Command) → length c.parts ≤ 16 → IsGroup (c ∷ [])
+alone_group c few = record {
   some = omega arith;
   alone = λ d h e. refl;
   last = λ n d at b. let lt = slice_get-length (c ∷ []) n d at in omega (arith, lt);
   apart = λ m n d e p q lt at there h i same. let near = slice_get-length (c ∷ []) n e there in absurd (omega (arith, near, lt));
+  small = subst (λ (ps : List Part). length ps ≤ 16) (sym (append-nil c.parts)) few;
 }
 
 merged_alone : (r : Request) (flagged : Bool) → command_of_request r flagged ≡ merged (command_of_request r flagged ∷ [])
 merged_alone r true = ap (λ (ps : List Part). record (command_of_request r true) { parts = ps }) (sym (append-nil (parts_for r.id r.kind)))
 merged_alone r false = ap (λ (ps : List Part). record (command_of_request r false) { parts = ps }) (sym (append-nil (parts_for r.id r.kind)))
+
+few_of : (queue : EpochState) (w : Waiting) → length (command_of queue w).parts ≤ 16
+few_of queue w = let one = few_alone w.request (leaves_flagged queue w) in omega (arith, one)
 
 -- a request that waits, and may leave
 pub record Leaves (queue : EpochState) (w : Waiting) : Type 0 where
@@ -82,7 +87,7 @@ pub record Leaves (queue : EpochState) (w : Waiting) : Type 0 where
 
 pub alone_valid : (s : ElevatorState) (w : Waiting) → IsElevator s → Leaves s.queue w → IsElevator (sent_as s (alone s.queue w))
 alone_valid s w v l =
-    with_group s (alone s.queue w) (command_of s.queue w ∷ []) v (alone_group (command_of s.queue w)) (merged_alone w.request (leaves_flagged s.queue w))
+    with_group s (alone s.queue w) (command_of s.queue w ∷ []) v (alone_group (command_of s.queue w) (few_of s.queue w)) (merged_alone w.request (leaves_flagged s.queue w))
     (sent-valid (sent_apart s s.queue (ungrouped v.groups)) w v.apart l.there l.may)
 
 -- ---- gathering
@@ -91,14 +96,15 @@ has_class-same : (ordered : Bool) (a b : Request) → a.ordered ≡ true → b.o
 has_class-same true a b p q h i = both_ways b.ordered q i
 has_class-same false a b p q h i = both_ways a.ordered (not-true a.ordered h) p
 
--- a command that is being gathered: puts of one class and of blocks below the next one
-pub record IsOpen (s : ElevatorState) (before : List Command) (ordered : Bool) (block : ℕ) (g : Gathering) : Type 0 where
+-- a command that is being gathered: puts of one class and of blocks below the next one; so many may still join
+pub record IsOpen (s : ElevatorState) (before : List Command) (ordered : Bool) (block left : ℕ) (g : Gathering) : Type 0 where
   pub group : List Command
   pub whole : IsGroup group
   pub same : g.command ≡ merged group
   pub apart : IsValid (sent_apart s g.queue (before ++ group))
   pub puts : (c : Command) → In c group → is_some c.flush ≡ false
   pub below : (c : Command) (p : Part) → In c group → In p c.parts → p.block < block
+  pub few : length (all_parts group) + left ≤ 16
   -- behind the barrier nothing of its class waits
   pub flagged : list_any (λ (c : Command). c.barrier) group ≡ true → (u : Waiting) → In u g.queue.waiting → has_class ordered u.request ≡ true → ⊥
 
@@ -119,14 +125,14 @@ flagged_out s w ordered put class flag u h other =
     has_class-same ordered w.request u.request last.0 (last.1 u h) class other
 
 pub opened_by : (s : ElevatorState) (w : Waiting) (block : ℕ) (ordered : Bool) → (v : IsElevator s) → Leaves s.queue w → IsPutAt w block → has_class ordered w.request ≡ true
-    → IsOpen s (ungrouped v.groups) ordered (block + 1) (alone s.queue w)
+    → IsOpen s (ungrouped v.groups) ordered (block + 1) 15 (alone s.queue w)
 opened_by s w block ordered v l put class =
     let p = sent_apart s s.queue (ungrouped v.groups) in
     let c = command_of s.queue w in
     let kind = put-is_flush w block put in
     record {
       group = c ∷ [];
-      whole = alone_group c;
+      whole = alone_group c (few_of s.queue w);
       same = merged_alone w.request (leaves_flagged s.queue w);
       apart = sent-valid p w v.apart l.there l.may;
       puts = λ d h. ⊎_elim (λ e. subst (λ (x : Command). is_some x.flush ≡ false) e (put_flush_none w.request.id w.request.kind kind)) (λ none. absurd none) h;
@@ -137,6 +143,10 @@ opened_by s w block ordered v l put class =
           omega (arith, n))
           (λ none. absurd none)
           h;
+      few =
+          let one = few_alone w.request (leaves_flagged s.queue w) in
+          let same = ap length (append-nil c.parts) in
+          omega (arith, one, same);
       flagged = λ any u h other.
           ⊎_elim
           (λ flag. flagged_out p w ordered kind class flag u h other)
@@ -212,9 +222,18 @@ joined_merged cs r flagged some =
     flag_priority before flagged ∙ ap (λ (b : Bool). if b then Ordered else Simple) any in
     λ i. record { parts = parts i; priority = priority i; barrier = any i; flush = flush i }
 
-joined_group : (s : ElevatorState) (before : List Command) (ordered : Bool) (block : ℕ) (g : Gathering) (w : Waiting) → (o : IsOpen s before ordered block g) → Joins g.queue block ordered w
+-- one more part
+more_parts : (cs : List Command) (queue : EpochState) (w : Waiting) → length (all_parts (cs ++ command_of queue w ∷ [])) ≤ length (all_parts cs) + 1
+more_parts cs queue w =
+    let c = command_of queue w in
+    let push = ap length (all_parts-push cs c) in
+    let both = length-append (all_parts cs) c.parts in
+    let one = few_alone w.request (leaves_flagged queue w) in
+    omega (arith, push, both, one)
+
+joined_group : (s : ElevatorState) (before : List Command) (ordered : Bool) (block left : ℕ) (g : Gathering) (w : Waiting) → (o : IsOpen s before ordered block (suc left) g) → Joins g.queue block ordered w
     → IsGroup (o.group ++ command_of g.queue w ∷ [])
-joined_group s before ordered block g w o j =
+joined_group s before ordered block left g w o j =
     let c = command_of g.queue w in
     let n = length_push o.group c in
     record {
@@ -245,17 +264,18 @@ joined_group s before ordered block g w o j =
           (λ other. let y = other.0 in absurd (omega (arith, lt, z, y)))
           (slice_get-push_cases o.group c k d at))
           (slice_get-push_cases o.group c l e there);
+      small = let more = more_parts o.group g.queue w in let few = o.few in omega (arith, more, few);
     }
 
-pub taken_open : (s : ElevatorState) (before : List Command) (ordered : Bool) (block : ℕ) (g : Gathering) (w : Waiting) → IsOpen s before ordered block g → Joins g.queue block ordered w
-    → IsOpen s before ordered (block + 1) (taken g w)
-taken_open s before ordered block g w o j =
+pub taken_open : (s : ElevatorState) (before : List Command) (ordered : Bool) (block left : ℕ) (g : Gathering) (w : Waiting) → IsOpen s before ordered block (suc left) g → Joins g.queue block ordered w
+    → IsOpen s before ordered (block + 1) left (taken g w)
+taken_open s before ordered block left g w o j =
     let c = command_of g.queue w in
     let p = sent_apart s g.queue (before ++ o.group) in
     let kind = put-is_flush w block j.put in
     record {
       group = o.group ++ c ∷ [];
-      whole = joined_group s before ordered block g w o j;
+      whole = joined_group s before ordered block left g w o j;
       same = ap (λ (d : Command). joined d w.request (leaves_flagged g.queue w)) o.same ∙ joined_merged o.group w.request (leaves_flagged g.queue w) o.whole.some;
       apart = subst (λ cs. IsValid (sent_apart s (departed g.queue (Some w)) cs)) (append_assoc before o.group (c ∷ [])) (sent-valid p w o.apart j.leaves.there j.leaves.may);
       puts = λ d h.
@@ -268,6 +288,7 @@ taken_open s before ordered block g w o j =
           (λ old. let less = o.below d q old i in omega (arith, less))
           (λ new. let e = part_block w.request.id w.request.kind block q j.put (subst (λ (x : Command). In q x.parts) (sym new) i) in omega (arith, e))
           (In-push_cases o.group c d h);
+      few = let more = more_parts o.group g.queue w in let few = o.few in omega (arith, more, few);
       flagged = λ any u h other.
           ⊎_elim
           (λ old. absurd (o.flagged old w j.leaves.there j.class))
@@ -275,13 +296,18 @@ taken_open s before ordered block g w o j =
           (or_cases (list_any (λ (x : Command). x.barrier) o.group) c.barrier (sym (list_any-push o.group c) ∙ any));
     }
 
-gathered_option : (s : ElevatorState) (before : List Command) (ordered : Bool) (block n : ℕ) (g : Gathering) → IsOpen s before ordered block g → (o : Option Waiting) → next_part g.queue block ordered ≡ o
-    → ((w : Waiting) → IsOpen s before ordered (block + 1) (taken g w) → (end : ℕ) × IsOpen s before ordered end (gathered n ordered (block + 1) (taken g w)))
-    → (end : ℕ) × IsOpen s before ordered end (option_map_or (λ w. gathered n ordered (block + 1) (taken g w)) o g)
-gathered_option s before ordered block n g v None e rest = (block, v)
-gathered_option s before ordered block n g v (Some w) e rest = rest w (taken_open s before ordered block g w v (next-joins g.queue block ordered w e))
+-- none joins any more
+closed_now : (s : ElevatorState) (before : List Command) (ordered : Bool) (block left : ℕ) (g : Gathering) → IsOpen s before ordered block left g → IsOpen s before ordered block 0 g
+closed_now s before ordered block left g o =
+    record { group = o.group; whole = o.whole; same = o.same; apart = o.apart; puts = o.puts; below = o.below; few = let n = o.few in omega (arith, n); flagged = o.flagged }
 
-pub gathered_open : (s : ElevatorState) (before : List Command) (ordered : Bool) (n block : ℕ) (g : Gathering) → IsOpen s before ordered block g → (end : ℕ) × IsOpen s before ordered end (gathered n ordered block g)
+gathered_option : (s : ElevatorState) (before : List Command) (ordered : Bool) (block n : ℕ) (g : Gathering) → IsOpen s before ordered block (suc n) g → (o : Option Waiting) → next_part g.queue block ordered ≡ o
+    → ((w : Waiting) → IsOpen s before ordered (block + 1) n (taken g w) → (end : ℕ) × IsOpen s before ordered end 0 (gathered n ordered (block + 1) (taken g w)))
+    → (end : ℕ) × IsOpen s before ordered end 0 (option_map_or (λ w. gathered n ordered (block + 1) (taken g w)) o g)
+gathered_option s before ordered block n g v None e rest = (block, closed_now s before ordered block (suc n) g v)
+gathered_option s before ordered block n g v (Some w) e rest = rest w (taken_open s before ordered block n g w v (next-joins g.queue block ordered w e))
+
+pub gathered_open : (s : ElevatorState) (before : List Command) (ordered : Bool) (n block : ℕ) (g : Gathering) → IsOpen s before ordered block n g → (end : ℕ) × IsOpen s before ordered end 0 (gathered n ordered block g)
 unfolding gathered
 gathered_open s before ordered zero block g v = (block, v)
 gathered_open s before ordered (suc n) block g v =

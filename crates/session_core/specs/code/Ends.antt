@@ -13,12 +13,6 @@ use Rattle.call_images.specs.CallImages.{made_session}
 use Rattle.session_run.specs.declared.session.SessionEnd.{SessionEnd}
 use Rattle.session_core.specs.Core.{EndState, geometry_of, opening_of, start_of}
 
--- it accepted and sent out nothing, and may accept so many requests
-pub record IsNewScheduler (limit : ℕ) (p : SchedSeen) : Type 0 where
-  pub accepted : p.accepted ≡ []
-  pub sent_out : p.sent_out ≡ []
-  pub requests : p.limit ≡ limit
-
 -- where the script's session ends on this scheduler and this device
 abbrev pub session_on : {K S : Type 0} → SessionScript → SchedSteps K → Machine S → K → S → SessionState K S
 session_on s k m sched dev = core_session (opening_of s) k m (start_of s) sched dev s.events

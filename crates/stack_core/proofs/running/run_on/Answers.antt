@@ -12,7 +12,7 @@ run_with-requires-clause-path g c =
     let t = g.D.OrderedDev in
     let s = c.args.script.now in
     let d = t.seen (t.state c.args.dev) in
-    subst (λ k. PathFits (opened_path s) (elevator.seen_of k) s.puts d) (sym (c.in_ok-sched.ensures ∙ ap (λ n. elevator.opened n CAPACITY) c.scheduled_count-limit.ensures))
+    subst (λ k. PathFits (opened_path s) (elevator.seen_of k) s.puts d) (sym (c.in_ok-sched.ensures.state ∙ ap (λ n. elevator.opened n CAPACITY) c.scheduled_count-limit.ensures))
     (path-opened s d c.requires.script c.requires.image c.requires.unused c.requires.ids)
 
 pub run_with-requires-else-script-clause-path : goal.run_with-requires-else-script-clause-path
@@ -20,5 +20,5 @@ run_with-requires-else-script-clause-path g c =
     let t = g.D.OrderedDev in
     let s = c.args.script.now in
     let d = t.seen (t.state c.args.dev) in
-    subst (λ k. PathFits (opened_path s) (plain.seen_of k) s.puts d) (sym (c.in_ok-sched-2.ensures ∙ ap (λ n. plain.opened n CAPACITY) c.scheduled_count-limit.ensures))
+    subst (λ k. PathFits (opened_path s) (plain.seen_of k) s.puts d) (sym (c.in_ok-sched-2.ensures.state ∙ ap (λ n. plain.opened n CAPACITY) c.scheduled_count-limit.ensures))
     (path-opened s d c.requires.script c.requires.image c.requires.unused c.requires.ids)

@@ -47,7 +47,7 @@ returns-clause-fits g c =
     let after = subst (IsAfter (record { path = opened_path script; sched = old; dev = dev })) (sym end) (run-after k.steps m rs (record { path = opened_path script; sched = old; dev = dev }) script.events) in
     parts_fit script path (k.steps.seen sched) (t.seen s) _
     (kind_after script now old dev after)
-    (λ e. ap (λ x. (k.steps.seen x).accepted) (unused_after script now old dev after e) ∙ c.requires.unused)
+    (λ e. ap (λ x. (k.steps.seen x).accepted) (unused_after script now old dev after e) ∙ c.requires.new.accepted)
     c.do_lines.ensures.path
     c.in_ok-script.ensures
     (c.in_ok-submitted.ensures ∙ ap (λ n. take n rs) c.submitted.ensures)
