@@ -1,4 +1,5 @@
 pub mod Epoch
+pub mod MayLeave
 pub mod Sched
 pub mod Scheduler
 pub mod code

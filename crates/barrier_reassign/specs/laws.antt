@@ -1,6 +1,8 @@
 -- Laws, their lemmas and the words of lemmas.
 pub mod AcceptedLaws
 pub mod DispatchedLaws
+pub mod FlagLaws
+pub mod MayLeaveLaws
 pub mod OrderLaws
 pub mod Places
 pub mod ProgressLaws

@@ -3,7 +3,8 @@
 //!
 //! Stands on `order_model`. The type `EpochQueue` has its meaning in `specs/Epoch.antt`. The trait `Scheduler`
 //! is what the stack asks of a scheduler, by the steps and laws of `specs/Scheduler.antt`; those of a
-//! scheduler that sends each request as a command of its own are in `specs/Sched.antt`.
+//! scheduler that sends each request as a command of its own are in `specs/Sched.antt`. Which requests may leave a
+//! scheduler, and which as the barrier, is in words of requests in `specs/MayLeave.antt`.
 #![tactic(auto)]
 
 mod closing;

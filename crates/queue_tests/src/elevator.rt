@@ -2,7 +2,7 @@
 use crate::bench::Ask::{Barrier, Flush, Ordered, Orderless};
 use crate::bench::Step::{self, CanAccept, Eligible, Fill, Send, SendInto, Submit};
 use crate::bench::{Bench, LIMIT, fence, plain};
-use barrier_reassign::{CAPACITY, Held, Scheduler};
+use barrier_reassign::{Held, Scheduler};
 use blk_base::NoMemory;
 use order_model::carries_requests_merged;
 use sched_elevator::{Elevator, lists_requests_as_the_head_meets_them};
@@ -66,12 +66,17 @@ fn keeps_classes_apart(rt: HostRuntime) -> Result<(), NoMemory> {
     plays(&rt, rt.alloc(), &steps)
 }
 
+// Blocks 0 to 15 leave as one command; block 16 is left out, and the head stands there.
 #[test]
 fn merges_sixteen_and_no_more(rt: HostRuntime) -> Result<(), NoMemory> {
     let steps = [
         Fill(17, None),
+        Eligible(17),
         Send(0, plain(0, 15, 16)),
+        Submit(Orderless(0), None),
+        Eligible(2),
         Send(0, plain(16, 16, 1)),
+        Send(0, plain(17, 17, 1)),
     ];
     plays(&rt, rt.alloc(), &steps)
 }
@@ -145,7 +150,7 @@ fn trace_has_what_passed(rt: HostRuntime) -> Result<(), NoMemory> {
     carries_requests_merged();
     let mut bench = elevator(rt.alloc())?;
     let steps = [
-        Fill(CAPACITY, None),
+        Fill(128, None),
         Submit(Orderless(0), Some(Held::Full)),
         Send(0, plain(0, 15, 16)),
     ];

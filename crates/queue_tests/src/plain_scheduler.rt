@@ -2,7 +2,7 @@
 use crate::bench::Ask::{Barrier, Flush, Ordered, Orderless};
 use crate::bench::Step::{self, CanAccept, Eligible, Fill, Send, SendInto, Submit};
 use crate::bench::{Bench, LIMIT, Sent, fence, plain};
-use barrier_reassign::{CAPACITY, Held, Scheduler};
+use barrier_reassign::{Held, Scheduler};
 use blk_base::NoMemory;
 use epoch_sched::Sched;
 use std::alloc::Global;
@@ -65,13 +65,18 @@ fn flush_leaves_alone(rt: HostRuntime) -> Result<(), NoMemory> {
     plays(&rt, rt.alloc(), &steps)
 }
 
+// So many as 128 wait, and the next comes back; once one left, which overtakes all others, another goes in.
 #[test]
 fn full_queue_refuses(rt: HostRuntime) -> Result<(), NoMemory> {
     let steps = [
-        Fill(CAPACITY, None),
+        Fill(128, None),
+        CanAccept(false),
         Submit(Orderless(0), Some(Held::Full)),
-        Send(0, put(0)),
+        Eligible(128),
+        Send(127, put(127)),
+        CanAccept(true),
         Submit(Orderless(0), None),
+        Submit(Orderless(0), Some(Held::Full)),
     ];
     plays(&rt, rt.alloc(), &steps)
 }

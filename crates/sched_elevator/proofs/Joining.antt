@@ -50,7 +50,7 @@ put_of : (block : ℕ) (k : Kind) → is_put_of block k ≡ true → kind_block 
 put_of block (Put b body) e = ap Some (eqb-true b block e)
 put_of block Flush e = absurd (false≢true e)
 
-of_put : (block : ℕ) (k : Kind) → kind_block k ≡ Some block → is_put_of block k ≡ true
+pub of_put : (block : ℕ) (k : Kind) → kind_block k ≡ Some block → is_put_of block k ≡ true
 of_put block (Put b body) e = eq-eqb b block (same_Some b block e)
 of_put block Flush e = absurd (none-some block e)
 

@@ -1,3 +1,4 @@
 pub mod Elevator
+pub mod Picks
 pub mod code
 pub mod laws

@@ -59,7 +59,7 @@ barrier_closing closings.Open h = absurd (false≢true h)
 barrier_closing closings.Barrier h = (refl, refl)
 barrier_closing closings.Flush h = absurd (false≢true h)
 
-only_one : {X : Type 0} (xs : List X) (x y : X) → length xs ≡ 1 → In x xs → In y xs → x ≡ y
+pub only_one : {X : Type 0} (xs : List X) (x y : X) → length xs ≡ 1 → In x xs → In y xs → x ≡ y
 only_one [] x y n h i = absurd h
 only_one (z ∷ []) x y n (inl e) (inl f) = sym e ∙ f
 only_one (z ∷ []) x y n (inl e) (inr i) = absurd i
@@ -79,7 +79,7 @@ put_first s u w h may put =
     not-true (stands_before u w) (all-list_all (λ x. not (stands_before x w)) s.queue.waiting u all h)
 
 -- what leaves with the flag: a flush, or the last that is order-preserving while a barrier closes the queue
-flag_cases : (s : SchedState) (w : Waiting) → leaves_flagged s.queue w ≡ true → (is_flush w.request.kind ≡ true) ⊎ ((is_barrier_closing s.queue.closing ≡ true) × (waits_ordered (without w.number s.queue.waiting) ≡ false))
+pub flag_cases : (s : SchedState) (w : Waiting) → leaves_flagged s.queue w ≡ true → (is_flush w.request.kind ≡ true) ⊎ ((is_barrier_closing s.queue.closing ≡ true) × (waits_ordered (without w.number s.queue.waiting) ≡ false))
 flag_cases s w h =
     ⊎_elim
     inl
@@ -103,10 +103,10 @@ flagged_last s w h put =
     (or_cases (is_flush w.request.kind) (is_barrier_closing s.queue.closing && (w.request.ordered && not (waits_ordered rest))) h)
 
 -- what is left of those that wait
-stays : (s : SchedState) (u w : Waiting) → In u s.queue.waiting → (u.number ≡ w.number → ⊥) → In u (without w.number s.queue.waiting)
+pub stays : (s : SchedState) (u w : Waiting) → In u s.queue.waiting → (u.number ≡ w.number → ⊥) → In u (without w.number s.queue.waiting)
 stays s u w h n = without-In (λ (v : Waiting). v.number) w.number s.queue.waiting u h n
 
-stayed : (s : SchedState) (u w : Waiting) → In u (without w.number s.queue.waiting) → In u s.queue.waiting × (u.number ≡ w.number → ⊥)
+pub stayed : (s : SchedState) (u w : Waiting) → In u (without w.number s.queue.waiting) → In u s.queue.waiting × (u.number ≡ w.number → ⊥)
 stayed s u w h = In-without (λ (v : Waiting). v.number) w.number s.queue.waiting u h
 
 -- ---- what went

@@ -4,7 +4,7 @@ use Rattle.std.specs.Option.{option_map}
 use Rattle.std.proofs.Common.{ap, ap₂, sym, ◌∙◌, ⊎_elim, arith}
 use Rattle.std.proofs.lemmas.Bool.{cases_lt, lt-ltb, le-ltb, eq-eqb, ne_eqb}
 use Rattle.std.proofs.lemmas.List.{append-nil, map-append, length-map}
-use Rattle.std.proofs.lemmas.Option.{none-some}
+use Rattle.std.proofs.lemmas.Option.{none-some, same_Some}
 use Rattle.blk_base.specs.laws.Members.{slice_get-in_range, slice_get-out}
 use Rattle.order_model.specs.declared.request.Request.{Request}
 use Rattle.barrier_reassign.specs.Epoch.{Waiting, can_accept, is_open, is_blocked, eligible, picked, unflagged}
@@ -33,6 +33,11 @@ sends s (Some w) = record { limit = refl; capacity = refl; accepted = refl; sent
 mapped-none : {X Y : Type 0} (f : X → Y) (o : Option X) → option_map f o ≡ None → o ≡ None
 mapped-none f None e = refl
 mapped-none f (Some x) e = absurd (none-some (f x) (sym e))
+
+-- what came was picked
+pub mapped_some : {X Y : Type 0} (f : X → Y) (o : Option X) (y : Y) → option_map f o ≡ Some y → (x : X) × (o ≡ Some x) × (f x ≡ y)
+mapped_some f None y e = absurd (none-some y e)
+mapped_some f (Some x) y e = (x, refl, same_Some (f x) y e)
 
 pub none_past : {X : Type 0} (xs : List X) (pick : ℕ) → (slice_get xs pick ≡ None) ↔ (length xs ≤ pick)
 none_past xs pick = (

@@ -1,7 +1,7 @@
 -- Which requests may leave: of each block the put that was accepted first.
 use Rattle.std.specs.Prelude.{◌≡◌, ℕ, ◌<◌, ◌≤◌, ◌&&◌, not, Bool, true, false, List, [], ◌∷◌, length, nat_lt, Some, slice_get, refl}
 use Rattle.std.proofs.Common.{ap, sym, subst, ◌∙◌, inl, inr, ⊎_elim, arith}
-use Rattle.std.proofs.lemmas.Bool.{cases_Bool, cases_lt, both_ways, false≢true, and_from, and_left, not-true, lt-ltb, le-ltb, eq-eqb, eqb-true}
+use Rattle.std.proofs.lemmas.Bool.{cases_Bool, cases_lt, both_ways, false≢true, and_from, and_left, not-true, lt-ltb, le-ltb, eqb-true}
 use Rattle.std.proofs.lemmas.Option.{none-some, same_Some}
 use Rattle.blk_base.specs.Members.{In, IsAscending}
 use Rattle.blk_base.specs.laws.Members.{IsAscending-places, IsAscending-same, IsAscending-filter, In-filter, In-slice_get, list_all-In, all-list_all}
@@ -9,6 +9,7 @@ use Rattle.order_model.specs.declared.request.Kind.{Kind}
 use Rattle.order_model.specs.declared.request.Kind.TheVariants.{Put, Flush}
 use Rattle.order_model.specs.OrderClosed.{is_flush, kind_block}
 use Rattle.barrier_reassign.specs.Epoch.{Waiting, have_one_block, stands_before, may_leave, eligible}
+use Rattle.barrier_reassign.specs.laws.MayLeaveLaws.{one_block}
 use Rattle.sched_elevator.specs.Elevator.{block_of}
 use Rattle.sched_elevator.specs.laws.List.{block_at, AreApart}
 
@@ -39,11 +40,6 @@ kind_put Flush e = absurd (false≢true (sym e))
 
 pub not_flush-put : (w : Waiting) → is_flush w.request.kind ≡ false → IsPutAt w (block_at w)
 not_flush-put w e = kind_put w.request.kind e
-
-same_block : (k l : Kind) (block : ℕ) → kind_block k ≡ Some block → kind_block l ≡ Some block → have_one_block k l ≡ true
-same_block (Put a body) (Put b other) block e f = eq-eqb a b (same_Some a block e ∙ sym (same_Some b block f))
-same_block (Put a body) Flush block e f = absurd (none-some block f)
-same_block Flush l block e f = absurd (none-some block e)
 
 block_kind : (k l : Kind) (block : ℕ) → have_one_block k l ≡ true → kind_block l ≡ Some block → kind_block k ≡ Some block
 block_kind (Put a body) (Put b other) block e f = ap Some (eqb-true a b e) ∙ f
@@ -91,7 +87,7 @@ earlier_apart ws u w block h may p q lt =
     let all = rw (put-is_flush w block q) at may in
     let never = not-true (stands_before u w) (all-list_all (λ v. not (stands_before v w)) ws u all h) in
     let lower = lt-ltb u.number w.number lt in
-    both_ways (stands_before u w) never (and_from (nat_lt u.number w.number) (have_one_block u.request.kind w.request.kind) lower (same_block u.request.kind w.request.kind block p q))
+    both_ways (stands_before u w) never (and_from (nat_lt u.number w.number) (have_one_block u.request.kind w.request.kind) lower (one_block u.request.kind w.request.kind block p q))
 
 pub eligible-same : (ws : List Waiting) (u w : Waiting) (block : ℕ) → IsRising ws → In u (eligible ws) → In w (eligible ws) → IsPutAt u block → IsPutAt w block → u ≡ w
 eligible-same ws u w block rising h i p q =

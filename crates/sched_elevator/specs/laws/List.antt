@@ -87,7 +87,7 @@ meets-true head a b e =
 pub true-meets : (head a b : ℕ) → Meets head a b → meets_before head a b ≡ true
 true-meets = meets_value
 
-meets-asym : (head a b : ℕ) → Meets head a b → Meets head b a → ⊥
+pub meets-asym : (head a b : ℕ) → Meets head a b → Meets head b a → ⊥
 meets-asym head a b (inl h) (inl k) = absurd (omega (arith, h.0, k.1))
 meets-asym head a b (inl h) (inr (less, inl k)) = absurd (omega (arith, h.1, k))
 meets-asym head a b (inl h) (inr (less, inr k)) = absurd (omega (arith, h.0, k))

@@ -313,7 +313,7 @@ gathered_open s before ordered zero block g v = (block, v)
 gathered_open s before ordered (suc n) block g v =
     gathered_option s before ordered block n g v (next_part g.queue block ordered) refl (λ w o. gathered_open s before ordered n (block + 1) (taken g w) o)
 
-own_class : (r : Request) → has_class r.ordered r ≡ true
+pub own_class : (r : Request) → has_class r.ordered r ≡ true
 own_class r =
     elim (cases_Bool r.ordered) [
       | inl t ↦ rw t refl
