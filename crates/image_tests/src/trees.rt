@@ -4,11 +4,14 @@ use minix_layout::Name;
 use std::alloc::Global;
 use std::test::Fail;
 use tree_model::{
-    Directory, File, FileBlocks, Names, Node, Room, Tree, asking_changes_nothing,
-    calls_keep_trees_plain, calls_map_by_writing, calls_stay_within_room, examples_of_calls,
-    histories_map_by_writing, is_dot, new_names_lead_to_nodes, nodes_have_paths, paths_are_spelled,
-    put_tree, read_path, refusals_have_causes, same_metadata_chains, texts_list_paths,
-    written_bytes_are_read_back,
+    Directory, File, FileBlocks, Names, Node, Room, Tree, a_move_keeps_its_node,
+    answers_tell_what_stands, asking_changes_nothing, calls_keep_files_sound,
+    calls_keep_trees_plain, calls_map_by_writing, calls_stay_within_room,
+    changes_are_of_size_or_blocks, examples_of_calls, histories_map_by_writing, is_dot,
+    kind_and_size_are_refused, links_and_slots_count_names, nodes_have_paths, one_path_comes,
+    one_path_goes, other_nodes_stay, paths_are_spelled, paths_move_along, put_tree, read_path,
+    reads_give_what_stands, refusals_have_causes, same_metadata_chains, texts_list_paths,
+    truncates_give_the_size, writes_fill_their_range, written_bytes_are_read_back,
 };
 
 fn name(bytes: &[u8]) -> Result<Name, Fail> {
@@ -151,7 +154,19 @@ fn laws_do_nothing(rt: HostRuntime) -> Result<(), Fail> {
     calls_map_by_writing();
     histories_map_by_writing();
     written_bytes_are_read_back();
-    new_names_lead_to_nodes();
+    writes_fill_their_range();
+    truncates_give_the_size();
+    reads_give_what_stands();
+    kind_and_size_are_refused();
+    calls_keep_files_sound();
+    changes_are_of_size_or_blocks();
+    one_path_comes();
+    one_path_goes();
+    paths_move_along();
+    a_move_keeps_its_node();
+    links_and_slots_count_names();
+    other_nodes_stay();
+    answers_tell_what_stands();
     let room = Room {
         inodes: 32,
         capacity: 59,

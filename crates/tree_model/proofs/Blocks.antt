@@ -134,7 +134,7 @@ module _ (off : ℕ) (bytes : List ℕ) where
       written_kept is (put_number blocks i (patched i off bytes (block_or_zeros (at_number blocks i)))) index
       (at_put_cases (λ o. is_some o ≡ true) blocks i (patched i off bytes (block_or_zeros (at_number blocks i))) index (λ e. refl) (λ apart. h))
 
-  written_touched : (indices : List ℕ) (blocks : List (ℕ × List ℕ)) (index : ℕ) → list_any (λ i. i == index) indices ≡ true → is_some (at_number (written_blocks off bytes indices blocks) index) ≡ true
+  pub written_touched : (indices : List ℕ) (blocks : List (ℕ × List ℕ)) (index : ℕ) → list_any (λ i. i == index) indices ≡ true → is_some (at_number (written_blocks off bytes indices blocks) index) ≡ true
   written_touched [] blocks index h = absurd (false≢true h)
   written_touched (i ∷ is) blocks index h =
       let next = put_number blocks i (patched i off bytes (block_or_zeros (at_number blocks i))) in

@@ -124,7 +124,7 @@ zeros_or_whole None whole = length-replicate {A = ℕ} 1024 0
 zeros_or_whole (Some body) whole = whole body refl
 
 -- where the touched blocks lie
-touched_in : (off len index : ℕ) → is_touched off len index ≡ true → (off < 1024 * index + 1024) × (1024 * index < off + len) × (touched_blocks off len ≡ range_with_len (off / 1024) ((off + len - 1) / 1024 - off / 1024 + 1))
+pub touched_in : (off len index : ℕ) → is_touched off len index ≡ true → (off < 1024 * index + 1024) × (1024 * index < off + len) × (touched_blocks off len ≡ range_with_len (off / 1024) ((off + len - 1) / 1024 - off / 1024 + 1))
 touched_in off len index = by (len == 0) refl
   where
     by : (b : Bool) → (len == 0) ≡ b → list_any (λ i. i == index) (if b then [] else range_with_len (off / 1024) ((off + len - 1) / 1024 - off / 1024 + 1)) ≡ true →
@@ -139,7 +139,7 @@ touched_in off len index = by (len == 0) refl
         let up : index ≤ (off + len - 1) / 1024 = (let m : off / 1024 ≤ (off + len - 1) / 1024 = omega arith in omega arith) in
         (omega arith, omega arith, refl)
 
-touched_out : (off len index j : ℕ) → is_touched off len index ≡ false → j < 1024 → (1024 * index + j < off) ⊎ (off + len ≤ 1024 * index + j)
+pub touched_out : (off len index j : ℕ) → is_touched off len index ≡ false → j < 1024 → (1024 * index + j < off) ⊎ (off + len ≤ 1024 * index + j)
 touched_out off len index j = by (len == 0) refl
   where
     by : (b : Bool) → (len == 0) ≡ b → list_any (λ i. i == index) (if b then [] else range_with_len (off / 1024) ((off + len - 1) / 1024 - off / 1024 + 1)) ≡ false → j < 1024 → (1024 * index + j < off) ⊎ (off + len ≤ 1024 * index + j)
@@ -158,13 +158,13 @@ module _ (f : File) (off : ℕ) (bytes : List ℕ) (whole : HasWholeBlocks f) wh
   old_whole : (index : ℕ) → length (block_or_zeros (at_number f.blocks index)) ≡ 1024
   old_whole index = zeros_or_whole (at_number f.blocks index) (whole index)
 
-  new_block : (index : ℕ) → is_touched off (length bytes) index ≡ true → at_number (written_file f off bytes).blocks index ≡ Some (patched index off bytes (block_or_zeros (at_number f.blocks index)))
+  pub new_block : (index : ℕ) → is_touched off (length bytes) index ≡ true → at_number (written_file f off bytes).blocks index ≡ Some (patched index off bytes (block_or_zeros (at_number f.blocks index)))
   new_block index t =
       let x = touched_in off (length bytes) index t in
       ap (λ indices. at_number (written_blocks off bytes indices f.blocks) index) x.2
       ∙ written_in off bytes f.blocks index (off / 1024) ((off + length bytes - 1) / 1024 - off / 1024 + 1) (sym (ap (list_any (λ i. i == index)) x.2) ∙ t)
 
-  same_block : (index : ℕ) → is_touched off (length bytes) index ≡ false → at_number (written_file f off bytes).blocks index ≡ at_number f.blocks index
+  pub same_block : (index : ℕ) → is_touched off (length bytes) index ≡ false → at_number (written_file f off bytes).blocks index ≡ at_number f.blocks index
   same_block index t = written_untouched off bytes (touched_blocks off (length bytes)) f.blocks index t
 
   byte_touched : (at : ℕ) → is_touched off (length bytes) (at / 1024) ≡ true → byte_at (written_file f off bytes) at ≡ slice_index (patched (at / 1024) off bytes (block_or_zeros (at_number f.blocks (at / 1024)))) (at % 1024)
@@ -215,7 +215,7 @@ module _ (f : File) (off : ℕ) (bytes : List ℕ) (whole : HasWholeBlocks f) wh
 
 -- ---- cuts
 
-zero_at : (n j : ℕ) → slice_index (replicate n 0) j ≡ 0
+pub zero_at : (n j : ℕ) → slice_index (replicate n 0) j ≡ 0
 zero_at zero j = refl
 zero_at (suc n) zero = refl
 zero_at (suc n) (suc j) = zero_at n j

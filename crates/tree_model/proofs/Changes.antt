@@ -188,43 +188,53 @@ true_from_not : (b : Bool) → not b ≡ false → b ≡ true
 true_from_not true h = refl
 true_from_not false h = sym h
 
-rmdir_change : (tree : Tree) (n : ℕ) (path : List ℕ) (d : Done) → rmdir tree path ≡ Ok d → Change tree n d (calls.Rmdir path)
-rmdir_change tree n path d h =
+pub rmdir_made : (tree : Tree) (path : List ℕ) (d : Done) → rmdir tree path ≡ Ok d → (h : IsRemoved tree d) × HasNames path h.names
+rmdir_made tree path d h =
     let a = then_ok (names_in path) _ d h in
     let b = then_ok (parent_of replies.Invalid tree a.0) _ d a.2 in
     let c = then_ok (walk tree a.0) _ d b.2 in
     let e = then_ok (a_directory c.0.node) _ d c.2 in
-    let f = refuse_ok (not (length e.0.names == 0)) replies.NotEmpty _ d e.2 in
-    removed (record {
-      names = a.0;
-      place = b.0;
-      found = c.0;
-      directory = e.0;
-      is_place = parent_ok replies.Invalid tree a.0 b.0 b.1;
-      is_found = walk_ok tree a.0 c.0 c.1;
-      node_is = directory_ok c.0.node e.0 e.1;
-      empty = true_from_not (length e.0.names == 0) f.0;
-      tree_is = tree_by _ false replies.Ok d (ok_ok _ d f.1);
-      reply_is = reply_by _ false replies.Ok d (ok_ok _ d f.1);
-    })
+    let f = refuse_ok (not (length e.0.names == 0)) replies.NotEmpty _ d e.2 in (
+      record {
+        names = a.0;
+        place = b.0;
+        found = c.0;
+        directory = e.0;
+        is_place = parent_ok replies.Invalid tree a.0 b.0 b.1;
+        is_found = walk_ok tree a.0 c.0 c.1;
+        node_is = directory_ok c.0.node e.0 e.1;
+        empty = true_from_not (length e.0.names == 0) f.0;
+        tree_is = tree_by _ false replies.Ok d (ok_ok _ d f.1);
+        reply_is = reply_by _ false replies.Ok d (ok_ok _ d f.1);
+      },
+      some_ok (path_of path) replies.BadPath a.0 a.1,
+    )
 
-unlink_change : (tree : Tree) (n : ℕ) (path : List ℕ) (d : Done) → unlink tree path ≡ Ok d → Change tree n d (calls.Unlink path)
-unlink_change tree n path d h =
+rmdir_change : (tree : Tree) (n : ℕ) (path : List ℕ) (d : Done) → rmdir tree path ≡ Ok d → Change tree n d (calls.Rmdir path)
+rmdir_change tree n path d h = removed (rmdir_made tree path d h).0
+
+pub unlink_made : (tree : Tree) (path : List ℕ) (d : Done) → unlink tree path ≡ Ok d → (h : IsUnlinked tree d) × HasNames path h.names
+unlink_made tree path d h =
     let a = then_ok (names_in path) _ d h in
     let b = then_ok (parent_of replies.Invalid tree a.0) _ d a.2 in
     let c = then_ok (walk tree a.0) _ d b.2 in
-    let e = then_ok (a_file c.0.node) _ d c.2 in
-    unlinked (record {
-      names = a.0;
-      place = b.0;
-      found = c.0;
-      file = e.0;
-      is_place = parent_ok replies.Invalid tree a.0 b.0 b.1;
-      is_found = walk_ok tree a.0 c.0 c.1;
-      node_is = file_ok c.0.node e.0 e.1;
-      tree_is = tree_by _ false replies.Ok d (ok_ok _ d e.2);
-      reply_is = reply_by _ false replies.Ok d (ok_ok _ d e.2);
-    })
+    let e = then_ok (a_file c.0.node) _ d c.2 in (
+      record {
+        names = a.0;
+        place = b.0;
+        found = c.0;
+        file = e.0;
+        is_place = parent_ok replies.Invalid tree a.0 b.0 b.1;
+        is_found = walk_ok tree a.0 c.0 c.1;
+        node_is = file_ok c.0.node e.0 e.1;
+        tree_is = tree_by _ false replies.Ok d (ok_ok _ d e.2);
+        reply_is = reply_by _ false replies.Ok d (ok_ok _ d e.2);
+      },
+      some_ok (path_of path) replies.BadPath a.0 a.1,
+    )
+
+unlink_change : (tree : Tree) (n : ℕ) (path : List ℕ) (d : Done) → unlink tree path ≡ Ok d → Change tree n d (calls.Unlink path)
+unlink_change tree n path d h = unlinked (unlink_made tree path d h).0
 
 pub link_made : (tree : Tree) (path other : List ℕ) (d : Done) → link tree path other ≡ Ok d → (h : IsLinked tree d) × HasNames path h.names × HasNames other h.more
 link_made tree path other d h =
@@ -260,8 +270,8 @@ link_made tree path other d h =
 link_change : (tree : Tree) (n : ℕ) (path other : List ℕ) (d : Done) → link tree path other ≡ Ok d → Change tree n d (calls.Link path other)
 link_change tree n path other d h = linked (link_made tree path other d h).0
 
-rename_change : (tree : Tree) (n : ℕ) (path other : List ℕ) (d : Done) → rename tree path other ≡ Ok d → Change tree n d (calls.Rename path other)
-rename_change tree n path other d h =
+pub rename_made : (tree : Tree) (path other : List ℕ) (d : Done) → rename tree path other ≡ Ok d → (h : IsRenamed tree d) × HasNames path h.names × HasNames other h.more
+rename_made tree path other d h =
     let a = then_ok (names_in path) _ d h in
     let b = then_ok (names_in other) _ d a.2 in
     let c = refuse_ok (is_root a.0 || is_root b.0) replies.Invalid _ d b.2 in
@@ -273,24 +283,30 @@ rename_change tree n path other d h =
     let j = refuse_ok (meets_directory m) _ _ d i.1 in
     let k = refuse_ok (meets_file m && moves_directory m) replies.NotDir _ d j.1 in
     let l = refuse_ok (moves_directory m && (changes_parent m && (directory_links tree m.to.directory == most_links))) replies.TooManyLinks _ d k.1 in
-    let o = refuse_ok (is_none m.target && is_full (place_after m).directory) replies.TooBig _ d l.1 in
-    renamed (record {
-      path = other;
-      names = a.0;
-      more = b.0;
-      move = m;
-      named = some_ok (path_of other) replies.BadPath b.0 b.1;
-      is_found = walk_ok tree a.0 e.0 e.1;
-      is_from = parent_ok replies.Invalid tree a.0 f.0 f.1;
-      is_to = parent_ok replies.Invalid tree b.0 g.0 g.1;
-      target_is = refl;
-      not_below = i.0;
-      no_directory = j.0;
-      no_file = k.0;
-      room = o.0;
-      tree_is = tree_by _ false replies.Ok d (ok_ok _ d o.1);
-      reply_is = reply_by _ false replies.Ok d (ok_ok _ d o.1);
-    })
+    let o = refuse_ok (is_none m.target && is_full (place_after m).directory) replies.TooBig _ d l.1 in (
+      record {
+        path = other;
+        names = a.0;
+        more = b.0;
+        move = m;
+        named = some_ok (path_of other) replies.BadPath b.0 b.1;
+        is_found = walk_ok tree a.0 e.0 e.1;
+        is_from = parent_ok replies.Invalid tree a.0 f.0 f.1;
+        is_to = parent_ok replies.Invalid tree b.0 g.0 g.1;
+        target_is = refl;
+        not_below = i.0;
+        no_directory = j.0;
+        no_file = k.0;
+        room = o.0;
+        tree_is = tree_by _ false replies.Ok d (ok_ok _ d o.1);
+        reply_is = reply_by _ false replies.Ok d (ok_ok _ d o.1);
+      },
+      some_ok (path_of path) replies.BadPath a.0 a.1,
+      some_ok (path_of other) replies.BadPath b.0 b.1,
+    )
+
+rename_change : (tree : Tree) (n : ℕ) (path other : List ℕ) (d : Done) → rename tree path other ≡ Ok d → Change tree n d (calls.Rename path other)
+rename_change tree n path other d h = renamed (rename_made tree path other d h).0
 
 put_change : (tree : Tree) (path : List ℕ) (too_big : Bool) (change : File → File) (d : Done) →
     and_then (walk_path tree path) (λ found. and_then (a_file found.node) (λ f. refuse_if too_big replies.TooBig (leaves (put_file tree found.birth (change f))))) ≡ Ok d → IsPut tree path change d
@@ -310,10 +326,10 @@ put_change tree path too_big change d h =
       reply_is = reply_by _ false replies.Ok d (ok_ok _ d c.1);
     }
 
-write_change : (tree : Tree) (path : List ℕ) (off : ℕ) (bytes : List ℕ) (d : Done) → write tree path off bytes ≡ Ok d → IsPut tree path (λ f. written_file f off bytes) d
+pub write_change : (tree : Tree) (path : List ℕ) (off : ℕ) (bytes : List ℕ) (d : Done) → write tree path off bytes ≡ Ok d → IsPut tree path (λ f. written_file f off bytes) d
 write_change tree path off bytes d h = put_change tree path (nat_lt largest_size (off + length bytes)) (λ f. written_file f off bytes) d h
 
-truncate_change : (tree : Tree) (path : List ℕ) (size : ℕ) (d : Done) → truncate tree path size ≡ Ok d → IsPut tree path (λ f. cut_file f size) d
+pub truncate_change : (tree : Tree) (path : List ℕ) (size : ℕ) (d : Done) → truncate tree path size ≡ Ok d → IsPut tree path (λ f. cut_file f size) d
 truncate_change tree path size d h = put_change tree path (nat_lt largest_size size) (λ f. cut_file f size) d h
 
 read_stays : (tree : Tree) (path : List ℕ) (off len : ℕ) (d : Done) → read tree path off len ≡ Ok d → d.tree ≡ tree

@@ -1,9 +1,12 @@
 -- Lemmas on trees, their text and calls on them.
+pub mod Answered
 pub mod Entries
 pub mod PathForms
 pub mod Walks
+pub mod Ways
 pub mod Lookups
 pub mod ListedOnce
+pub mod SoundFiles
 pub mod TextListed
 pub mod PathsListed
 pub mod Blocks
@@ -13,9 +16,14 @@ pub mod Changes
 pub mod Edits
 pub mod Effects
 pub mod Examples
+pub mod FileChanges
 pub mod Hanging
 pub mod Histories
 pub mod NameTexts
+pub mod MovedNodes
+pub mod NamedNodes
+pub mod NamesCome
+pub mod NamesMove
 pub mod Outcomes
 pub mod Plain
 pub mod PlainCalls

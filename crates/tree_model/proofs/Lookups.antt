@@ -16,7 +16,7 @@ use Rattle.blk_base.specs.laws.Members.{In-slice_get}
 use Rattle.tree_model.specs.Maps.{at_number, at_name, without_number, name_cmp}
 use Rattle.tree_model.specs.laws.MapsLaws.{number_here, number_same}
 
-number_apart : (j k : ℕ) → j ≢ k → is_eq (nat_cmp j k) ≡ false
+pub number_apart : (j k : ℕ) → j ≢ k → is_eq (nat_cmp j k) ≡ false
 number_apart j k apart = false_from_ne_true (is_eq (nat_cmp j k)) (λ t. apart (number_same j k t))
 
 -- ---- an entry less

@@ -42,7 +42,7 @@ quiet_stays room tree n c t = quiet_by room tree n c t (outcome room tree n c) r
 
 -- ---- room
 
-needs_done : (tree : Tree) (n : ℕ) (c : Call) (d : Done) → row tree n c ≡ Ok d → needs tree n c ≡ used_zones d.tree - used_zones tree
+pub needs_done : (tree : Tree) (n : ℕ) (c : Call) (d : Done) → row tree n c ≡ Ok d → needs tree n c ≡ used_zones d.tree - used_zones tree
 unfolding needs
 needs_done tree n c d e = ap (λ (r : Row). elim r as (λ _. ℕ) [ Err reply ↦ 0 | Ok d ↦ used_zones d.tree - used_zones tree ]) e
 

@@ -104,13 +104,13 @@ module _ (tree : Tree) (w : IsWhole tree) (n : ℕ) (node : Node) (d : Done) (m 
   parent_apart : P.parent ≢ n
   parent_apart e = none-some (nodes.Directory P.directory) (sym born ∙ (ap (at_number tree) (sym e) ∙ m.is_place.stands))
 
-  first_stands : at_number First P.parent ≡ Some (nodes.Directory P.directory)
+  pub first_stands : at_number First P.parent ≡ Some (nodes.Directory P.directory)
   first_stands = at_put_number_apart tree n node P.parent parent_apart ∙ m.is_place.stands
 
-  first_edge : (q : ℕ) (k : List ℕ) → edge_of First q k ≡ edge_of tree q k
+  pub first_edge : (q : ℕ) (k : List ℕ) → edge_of First q k ≡ edge_of tree q k
   first_edge q k = edge_put_same tree n node (new.empty ∙ sym (ap names_of born)) q k
 
-  at_new : at_number After n ≡ Some node
+  pub at_new : at_number After n ≡ Some node
   at_new = at_put_number_apart First P.parent (nodes.Directory (with_name P.directory P.name n)) n (λ e. parent_apart (sym e)) ∙ at_put_number tree n node
 
   there_apart : (c : ℕ) → is_some (at_number tree c) ≡ true → c ≢ n
@@ -129,7 +129,7 @@ module _ (tree : Tree) (w : IsWhole tree) (n : ℕ) (node : Node) (d : Done) (m 
       root_some (Some node) h = refl
       root_some None h = absurd (false≢true h)
 
-  made_kept : (q : ℕ) (k : List ℕ) (c : ℕ) → edge_of tree q k ≡ Some c → edge_of After q k ≡ Some c
+  pub made_kept : (q : ℕ) (k : List ℕ) (c : ℕ) → edge_of tree q k ≡ Some c → edge_of After q k ≡ Some c
   made_kept q k c e =
       give_kept First P first_stands n q k c (first_edge q k ∙ e)
       (λ at. no_name P m.free c (sym (ap (λ o. at_name (names_of o) P.name) m.is_place.stands) ∙ (sym (ap (λ j. edge_of tree j P.name) at.0) ∙ (sym (ap (edge_of tree q) at.1) ∙ e))))

@@ -13,6 +13,7 @@ use Rattle.tree_model.specs.laws.MapsLaws.{at_put_number, at_put_number_apart}
 use Rattle.tree_model.specs.laws.Listing.{names_of}
 use Rattle.tree_model.specs.Trees.{is_directory, step_at, led_to}
 use Rattle.tree_model.specs.Calls.{Tree, Done, Found, Place, Move, a_file, all_but_last, above, is_file, with_name, without_name, give_name, take_name, put_file, with_links, lose_link, without_target, target_at, moves_directory, meets_directory, meets_file, stays, place_after, moved_node, tree_moved}
+use Rattle.tree_model.specs.CallWords.{HasLinkLess}
 use Rattle.tree_model.specs.Plain.{names_in_node, names_to}
 use Rattle.tree_model.specs.laws.Alike.{same_ok, step_gives, led_parts}
 use Rattle.tree_model.specs.laws.MapOrder.{InOrder, in_order_put, in_order_without, at_without_here, at_without_apart, NamesInOrder, names_in_order_put, names_in_order_without, at_name_without_apart}
@@ -43,7 +44,7 @@ other_moved parent (nodes.Directory d) = refl
 other_moved parent (nodes.File f) = refl
 other_moved parent (nodes.Other mode) = refl
 
-directory_moved : (parent : ℕ) (node : Node) → is_directory (Some (moved_node parent node)) ≡ is_directory (Some node)
+pub directory_moved : (parent : ℕ) (node : Node) → is_directory (Some (moved_node parent node)) ≡ is_directory (Some node)
 directory_moved parent (nodes.Directory d) = refl
 directory_moved parent (nodes.File f) = refl
 directory_moved parent (nodes.Other mode) = refl
@@ -120,6 +121,30 @@ pub record IsLeft (tree : Tree) (m : Move) (left : Tree) (Lost : ℕ → Type 0)
   pub lost_like : (c : ℕ) → Lost c → (q : ℕ) (k : List ℕ) → edge_of tree q k ≡ Some c → (IsAt m.to.parent m.to.name q k → ⊥) → IsLike (at_number tree c) (at_number left c)
   pub lost_named : (c : ℕ) → Lost c → is_some (at_number left c) ≡ true → (q : ℕ) × (k : List ℕ) × (edge_of tree q k ≡ Some c) × (IsAt m.to.parent m.to.name q k → ⊥)
   pub lost_links : (c l : ℕ) → Lost c → links_of (at_number left c) ≡ Some l → l + 1 ≡ names_to tree c
+  pub lost_less : (c : ℕ) (f : File) → Lost c → at_number tree c ≡ Some (nodes.File f) → HasLinkLess left c f
+
+-- what a move does: the tree is whole, and one name goes and one comes
+pub record IsWell (tree : Tree) (m : Move) (after : Tree) : Type 0 where
+  pub whole : IsWhole after
+  pub split : (q : ℕ) (k : List ℕ) (c : ℕ) → edge_of after q k ≡ Some c →
+      ((q ≡ m.to.parent) × (k ≡ m.to.name) × (c ≡ m.moved.birth)) ⊎ ((edge_of tree q k ≡ Some c) × (IsAt m.from.parent m.from.name q k → ⊥) × (IsAt m.to.parent m.to.name q k → ⊥))
+  pub kept : (q : ℕ) (k : List ℕ) (c : ℕ) → edge_of tree q k ≡ Some c → (IsAt m.from.parent m.from.name q k → ⊥) → (IsAt m.to.parent m.to.name q k → ⊥) → edge_of after q k ≡ Some c
+  pub here : edge_of after m.to.parent m.to.name ≡ Some m.moved.birth
+  pub from : edge_of tree m.from.parent m.from.name ≡ Some m.moved.birth
+  pub apart : IsAt m.from.parent m.from.name m.to.parent m.to.name → ⊥
+  pub met : (c : ℕ) → edge_of tree m.to.parent m.to.name ≡ Some c → is_directory (at_number tree c) ≡ false
+  pub node : at_number after m.moved.birth ≡ Some (moved_node m.to.parent m.moved.node)
+  pub less : (c : ℕ) (f : File) → edge_of tree m.to.parent m.to.name ≡ Some c → at_number tree c ≡ Some (nodes.File f) → HasLinkLess after c f
+  pub rest : (c : ℕ) → c ≢ m.moved.birth → c ≢ m.from.parent → c ≢ m.to.parent → (edge_of tree m.to.parent m.to.name ≡ Some c → ⊥) → at_number after c ≡ at_number tree c
+  pub left_to : at_number after m.to.parent ≡ Some (nodes.Directory (with_name (place_after m).directory m.to.name m.moved.birth))
+  pub left_from : m.from.parent ≢ m.to.parent → at_number after m.from.parent ≡ Some (nodes.Directory (without_name m.from.directory m.from.name))
+
+-- what is told of one node of a tree
+less_there : (left after : Tree) (c : ℕ) (f : File) → at_number after c ≡ at_number left c → HasLinkLess left c f → HasLinkLess after c f
+less_there left after c f e h = record {
+  gone = λ few. e ∙ h.gone few;
+  less = λ more. let x = h.less more in (x.0, e ∙ x.1, x.2, x.3, x.4);
+}
 
 leaf_at : (o : Option Node) → is_directory o ≡ false → names_of o ≡ []
 leaf_at (Some node) h = leaf_from node h
@@ -459,7 +484,7 @@ module _ (tree : Tree) (w : IsWhole tree) (d : Done) (r : IsRenamed tree d) wher
         omega arith)
         (h.lost_or c)
 
-    pub moved_whole : IsWhole After
+    moved_whole : IsWhole After
     moved_whole = record {
       in_order = in_order_put Mid T.parent _ (in_order_put left B Node' h.order);
       sorted = each_put (λ o. NamesInOrder (names_of o)) Mid T.parent _ (names_in_order_put A.directory.names T.name B after_sorted)
@@ -470,6 +495,31 @@ module _ (tree : Tree) (w : IsWhole tree) (d : Done) (r : IsRenamed tree d) wher
       links = moved_links;
       known = each_put (λ o. is_other o ≡ false) Mid T.parent _ refl
           (each_put (λ o. is_other o ≡ false) left B Node' (other_moved r.move.to.parent r.move.moved.node ∙ (sym (ap is_other stands) ∙ w.known B)) h.known);
+    }
+
+    after_apart : (c : ℕ) → c ≢ B → c ≢ T.parent → at_number After c ≡ at_number left c
+    after_apart c apart off = at_put_number_apart Mid T.parent (nodes.Directory (with_name A.directory T.name B)) c off ∙ at_put_number_apart left B Node' c apart
+
+    moved_well : IsWell tree r.move After
+    moved_well = record {
+      whole = moved_whole;
+      split = λ q k c e. ⊎_elim inl (λ x. inr (x.0, x.1.0, x.1.1)) (after_split q k c e);
+      kept = λ q k c e f t. after_kept q k c e (f, t);
+      here = after_here;
+      from = from_edge;
+      apart = λ at. not_same_name (sym at.0) (sym at.1);
+      met = λ c e. h.lost_leaf c (h.met_lost c e);
+      node = after_at;
+      less = λ c f e stands.
+          let l = h.met_lost c e in
+          less_there left After c f (after_apart c (h.lost_apart c l) (λ p. directory_kept T r.is_to.stands (subst Lost p l))) (h.lost_less c f l stands);
+      rest = λ c apart away off none.
+          after_apart c apart off
+          ∙ (h.apart c (λ l. none (h.lost_met c l)) ∙ at_put_number_apart tree F.parent (nodes.Directory (without_name F.directory F.name)) c away);
+      left_to = at_put_number Mid T.parent (nodes.Directory (with_name A.directory T.name B));
+      left_from = λ apart.
+          after_apart F.parent (λ e. from_apart (sym e)) apart
+          ∙ (h.apart F.parent (directory_kept F r.is_from.stands) ∙ at_put_number tree F.parent (nodes.Directory (without_name F.directory F.name)));
     }
 
 -- ---- what stands at the new name
@@ -525,12 +575,13 @@ module _ (tree : Tree) (w : IsWhole tree) (d : Done) (r : IsRenamed tree d) wher
       lost_like = λ c l. absurd l;
       lost_named = λ c l. absurd l;
       lost_links = λ c k l. absurd l;
+      lost_less = λ c f l. absurd l;
     }
 
-    free_whole : IsWhole (tree_moved tree r.move)
-    free_whole = subst (λ left. IsWhole (give_name (put_number left r.move.moved.birth (moved_node r.move.to.parent r.move.moved.node)) (place_after r.move) r.move.moved.birth))
+    free_well : IsWell tree r.move (tree_moved tree r.move)
+    free_well = subst (λ left. IsWell tree r.move (give_name (put_number left r.move.moved.birth (moved_node r.move.to.parent r.move.moved.node)) (place_after r.move) r.move.moved.birth))
         (sym (ap (without_target (take_name tree r.move.from)) none))
-        (moved_whole tree w d r (take_name tree r.move.from) (λ c. ⊥) free_left)
+        (moved_well tree w d r (take_name tree r.move.from) (λ c. ⊥) free_left)
 
   -- a file stands there
   module _ (t : Found) (some : r.move.target ≡ Some t) (g : File) (is : t.node ≡ nodes.File g) (apart : t.birth ≢ r.move.moved.birth) (file : is_directory (Some r.move.moved.node) ≡ false) where
@@ -604,6 +655,14 @@ module _ (tree : Tree) (w : IsWhole tree) (d : Done) (r : IsRenamed tree d) wher
         let y = take_split tree r.move.to r.is_to.stands (to_sorted tree w d r) x.0 x.1 L x.2 in
         (x.0, x.1, y.0, y.1)
 
+    its_file : (c : ℕ) (f : File) → c ≡ L → at_number tree c ≡ Some (nodes.File f) → g ≡ f
+    its_file c f l stands =
+        let node : nodes.File g ≡ nodes.File f = same_Some (nodes.File g) (nodes.File f) (sym lost_stands ∙ (ap (at_number tree) (sym l) ∙ stands)) in
+        cc
+
+    its_links : (c : ℕ) (f : File) → c ≡ L → at_number tree c ≡ Some (nodes.File f) → g.links ≡ f.links
+    its_links c f l stands = ap (λ (f : File). f.links) (its_file c f l stands)
+
     gone_left : g.links ≤ 1 → IsLeft tree r.move (without_number Out L) (λ c. c ≡ L)
     gone_left few = record {
       order = in_order_without Out L out_order;
@@ -621,6 +680,12 @@ module _ (tree : Tree) (w : IsWhole tree) (d : Done) (r : IsRenamed tree d) wher
       lost_like = λ c l q k e away. absurd (let more = other_counts q k (e ∙ ap Some l) away in omega arith);
       lost_named = λ c l there. absurd (false≢true (sym (ap (λ j. is_some (at_number (without_number Out L) j)) l ∙ ap is_some (at_without_here Out L out_order)) ∙ there));
       lost_links = λ c k l e. absurd (none-some k (sym (ap (λ j. links_of (at_number (without_number Out L) j)) l ∙ ap links_of (at_without_here Out L out_order)) ∙ e));
+      lost_less = λ c f l stands.
+          let same = its_links c f l stands in
+          record {
+            gone = λ fewer. ap (at_number (without_number Out L)) l ∙ at_without_here Out L out_order;
+            less = λ more. absurd (omega arith);
+          };
     }
 
     abbrev Fewer : File
@@ -648,16 +713,28 @@ module _ (tree : Tree) (w : IsWhole tree) (d : Done) (r : IsRenamed tree d) wher
           let is : g.links - 1 ≡ k = same_Some (g.links - 1) k (sym (ap (λ j. links_of (at_number (put_file Out L Fewer) j)) l ∙ ap links_of (at_put_number Out L (nodes.File Fewer))) ∙ e) in
           let all : g.links ≡ names_to tree c = links_are ∙ ap (names_to tree) (sym l) in
           omega arith;
+      lost_less = λ c f l stands.
+          let same = its_file c f l stands in
+          record {
+            gone = λ few. absurd (let links = its_links c f l stands in omega arith);
+            less = λ fewer. (
+              Fewer,
+              ap (at_number (put_file Out L Fewer)) l ∙ at_put_number Out L (nodes.File Fewer),
+              (let links = its_links c f l stands in let e : g.links - 1 + 1 ≡ f.links = omega arith in e),
+              ap (λ (f : File). f.size) same,
+              ap (λ (f : File). f.blocks) same,
+            );
+          };
     }
 
     met_by : (b : Bool) → nat_le g.links 1 ≡ b →
-        IsWhole (give_name (put_number (if b then without_number Out L else put_file Out L Fewer) r.move.moved.birth (moved_node r.move.to.parent r.move.moved.node)) (place_after r.move) r.move.moved.birth)
-    met_by true e = moved_whole tree w d r (without_number Out L) (λ c. c ≡ L) (gone_left (leb-true g.links 1 e))
-    met_by false e = moved_whole tree w d r (put_file Out L Fewer) (λ c. c ≡ L) (less_left (let l = leb-false g.links 1 e in omega arith))
+        IsWell tree r.move (give_name (put_number (if b then without_number Out L else put_file Out L Fewer) r.move.moved.birth (moved_node r.move.to.parent r.move.moved.node)) (place_after r.move) r.move.moved.birth)
+    met_by true e = moved_well tree w d r (without_number Out L) (λ c. c ≡ L) (gone_left (leb-true g.links 1 e))
+    met_by false e = moved_well tree w d r (put_file Out L Fewer) (λ c. c ≡ L) (less_left (let l = leb-false g.links 1 e in omega arith))
 
-    met_whole : IsWhole (tree_moved tree r.move)
-    met_whole =
-        subst (λ left. IsWhole (give_name (put_number left r.move.moved.birth (moved_node r.move.to.parent r.move.moved.node)) (place_after r.move) r.move.moved.birth))
+    met_well : IsWell tree r.move (tree_moved tree r.move)
+    met_well =
+        subst (λ left. IsWell tree r.move (give_name (put_number left r.move.moved.birth (moved_node r.move.to.parent r.move.moved.node)) (place_after r.move) r.move.moved.birth))
         (sym (ap (without_target Out) some ∙ left_is t.node is))
         (met_by (nat_le g.links 1) refl)
       where
@@ -688,16 +765,19 @@ module _ (tree : Tree) (w : IsWhole tree) (d : Done) (r : IsRenamed tree d) wher
       (λ f. f)
       (and_cases (meets_file r.move) (moves_directory r.move) r.no_file)
 
-  renamed_by : (target : Option Found) → r.move.target ≡ target → stays r.move ≡ false → IsWhole (tree_moved tree r.move)
-  renamed_by None e f = free_whole e
+  renamed_by : (target : Option Found) → r.move.target ≡ target → stays r.move ≡ false → IsWell tree r.move (tree_moved tree r.move)
+  renamed_by None e f = free_well e
   renamed_by (Some t) e f =
       let apart = no_stay t e f in
       let g = target_file t e apart t.node refl in
-      met_whole t e g.0 g.1 apart (moves_file t e g.0 g.1)
+      met_well t e g.0 g.1 apart (moves_file t e g.0 g.1)
+
+  pub renamed_well : stays r.move ≡ false → IsWell tree r.move (tree_moved tree r.move)
+  renamed_well f = renamed_by r.move.target refl f
 
   pub renamed_whole : IsWhole d.tree
   renamed_whole = subst IsWhole (sym r.tree_is) (by (stays r.move) refl)
     where
       by : (b : Bool) → stays r.move ≡ b → IsWhole (if b then tree else tree_moved tree r.move)
       by true e = w
-      by false e = renamed_by r.move.target refl e
+      by false e = (renamed_by r.move.target refl e).whole

@@ -250,7 +250,7 @@ module _ (tree : Tree) (w : IsWhole tree) (names : List (List ℕ)) (p : Place) 
 
 -- ---- rows
 
-no_entries : (names : List (List ℕ × ℕ)) → (length names == 0) ≡ true → names ≡ []
+pub no_entries : (names : List (List ℕ × ℕ)) → (length names == 0) ≡ true → names ≡ []
 no_entries [] h = refl
 no_entries (e ∷ es) h = absurd (let z : suc (length es) ≡ 0 = eqb-true (suc (length es)) 0 h in omega arith)
 
@@ -311,16 +311,16 @@ module _ (tree : Tree) (w : IsWhole tree) (d : Done) (r : IsLinked tree d) where
   abbrev Linked : Tree
   Linked = give_name Start r.place B
 
-  link_stands : at_number tree B ≡ Some (nodes.File r.file)
+  pub link_stands : at_number tree B ≡ Some (nodes.File r.file)
   link_stands = r.is_found.stands ∙ ap Some r.node_is
 
   link_apart : r.place.parent ≢ B
   link_apart = directory_not_file tree r.place.parent B r.place.directory r.file r.is_place.stands link_stands
 
-  start_stands : at_number Start r.place.parent ≡ Some (nodes.Directory r.place.directory)
+  pub start_stands : at_number Start r.place.parent ≡ Some (nodes.Directory r.place.directory)
   start_stands = at_put_number_apart tree B (nodes.File More) r.place.parent link_apart ∙ r.is_place.stands
 
-  start_edge : (q : ℕ) (k : List ℕ) → edge_of Start q k ≡ edge_of tree q k
+  pub start_edge : (q : ℕ) (k : List ℕ) → edge_of Start q k ≡ edge_of tree q k
   start_edge q k = edge_put_same tree B (nodes.File More) (sym (ap names_of link_stands)) q k
 
   linked_like : (c : ℕ) → IsLike (at_number tree c) (at_number Linked c)
@@ -329,12 +329,12 @@ module _ (tree : Tree) (w : IsWhole tree) (d : Done) (r : IsLinked tree d) where
       (like_put tree B (nodes.File More) (like_file (at_number tree B) r.file More link_stands) c)
       (give_like Start r.place start_stands B c)
 
-  linked_kept : (q : ℕ) (k : List ℕ) (c : ℕ) → edge_of tree q k ≡ Some c → edge_of Linked q k ≡ Some c
+  pub linked_kept : (q : ℕ) (k : List ℕ) (c : ℕ) → edge_of tree q k ≡ Some c → edge_of Linked q k ≡ Some c
   linked_kept q k c e =
       give_kept Start r.place start_stands B q k c (start_edge q k ∙ e)
       (λ at. no_name r.place r.free c (sym (ap (λ o. at_name (names_of o) r.place.name) r.is_place.stands) ∙ (sym (ap (λ j. edge_of tree j r.place.name) at.0) ∙ (sym (ap (edge_of tree q) at.1) ∙ e))))
 
-  linked_at : at_number Linked B ≡ Some (nodes.File More)
+  pub linked_at : at_number Linked B ≡ Some (nodes.File More)
   linked_at = at_put_number_apart Start r.place.parent (nodes.Directory (with_name r.place.directory r.place.name B)) B (λ e. link_apart (sym e)) ∙ at_put_number tree B (nodes.File More)
 
   b_not_root : B ≢ 0

@@ -6,11 +6,8 @@ use Rattle.std.specs.Map.{keys_of}
 use Rattle.tree_model.proofs.Blocks.{target_stands}
 use Rattle.std.specs.List.Sorted.{IsStrictlySortedBy}
 use Rattle.std.proofs.lemmas.Bool.{false≢true}
-use Rattle.std.proofs.lemmas.Option.{none-some, same_Some}
+use Rattle.std.proofs.lemmas.Option.{none-some}
 use Rattle.tree_model.specs.declared.call.Call.{Call}
-use Rattle.tree_model.specs.declared.call.Call.TheVariants as calls
-use Rattle.tree_model.specs.Paths.{path_of}
-use Rattle.tree_model.specs.Trees.{node_of_path}
 use Rattle.tree_model.specs.declared.call.Reply.{Reply}
 use Rattle.tree_model.specs.declared.call.Room.{Room}
 use Rattle.tree_model.specs.declared.node.Node.{Node}
@@ -19,25 +16,25 @@ use Rattle.tree_model.specs.declared.node.File.{File}
 use Rattle.tree_model.specs.Maps.{at_number, at_name, name_cmp, put_number, without_number}
 use Rattle.tree_model.specs.laws.Listing.{names_of}
 use Rattle.tree_model.specs.Rooted.{IsRooted}
-use Rattle.tree_model.specs.Calls.{Tree, Done, Row, Found, new_directory, a_file, take_name, put_file, with_links, lose_link, without_target, stays, place_after, moved_node, tree_moved, row, outcome, tree_from, tree_after}
+use Rattle.tree_model.specs.Calls.{Tree, Done, Row, Found, new_directory, a_file, take_name, put_file, with_links, lose_link, without_target, stays, place_after, moved_node, tree_moved, outcome, tree_from, tree_after}
 use Rattle.tree_model.specs.Plain.{IsPlain, AreBornBefore, names_to}
 use Rattle.tree_model.specs.laws.Examples.{new_tree}
 use Rattle.tree_model.specs.Histories.{Entry, tree_after_entry, tree_after_entries}
 use Rattle.tree_model.specs.laws.MapOrder.{InOrder, at_put_cases, at_without_cases, in_order_put}
-use Rattle.tree_model.proofs.Changes.{mkdir_made, create_made, link_made, outcome_row, Change, stayed, made_directory, made_file, removed, unlinked, linked, renamed, written, written_bytes, truncated, outcome_change}
+use Rattle.tree_model.proofs.Changes.{Change, stayed, made_directory, made_file, removed, unlinked, linked, renamed, written, written_bytes, truncated, outcome_change}
 use Rattle.tree_model.proofs.Hanging.{IsReached, top}
 use Rattle.tree_model.proofs.Plain.{edge_of, links_of, is_other, IsWhole, plain_whole, whole_plain}
-use Rattle.tree_model.proofs.PlainCalls.{IsNewNode, directory_is_new, file_is_new, made_whole, made_leads}
-use Rattle.tree_model.proofs.PlainNames.{put_whole, removed_whole, unlinked_whole, linked_whole, linked_leads, linked_stays}
+use Rattle.tree_model.proofs.PlainCalls.{IsNewNode, directory_is_new, file_is_new, made_whole}
+use Rattle.tree_model.proofs.PlainNames.{put_whole, removed_whole, unlinked_whole, linked_whole}
 use Rattle.tree_model.proofs.PlainMoves.{renamed_whole}
 
 -- ---- one call
 
-not_born : (tree : Tree) (n : ℕ) → AreBornBefore n tree → (o : Option Node) → at_number tree n ≡ o → o ≡ None
+pub not_born : (tree : Tree) (n : ℕ) → AreBornBefore n tree → (o : Option Node) → at_number tree n ≡ o → o ≡ None
 not_born tree n born None e = refl
 not_born tree n born (Some node) e = absurd (let lt = born n node e in omega arith)
 
-change_whole : (tree : Tree) (n : ℕ) (c : Call) (d : Done) → IsWhole tree → AreBornBefore n tree → Change tree n d c → IsWhole d.tree
+pub change_whole : (tree : Tree) (n : ℕ) (c : Call) (d : Done) → IsWhole tree → AreBornBefore n tree → Change tree n d c → IsWhole d.tree
 change_whole tree n c d w born (stayed quiet same) = subst IsWhole (sym same) w
 change_whole tree n _ d w born (made_directory parent h e g) =
     made_whole tree w n _ d h (not_born tree n born (at_number tree n) refl) (subst (λ p. IsNewNode p (new_directory parent)) (sym g) (directory_is_new parent))
@@ -223,36 +220,3 @@ new_plain = whole_plain new_tree (record {
 
 pub new_born : AreBornBefore 1 new_tree
 new_born b node e = ⊎_elim (λ z. omega arith) (λ n. absurd (none-some node (sym n ∙ e))) (new_at b)
-
--- ---- new names
-
-module _ (room : Room) (tree : Tree) (plain : IsPlain tree) (n : ℕ) where
-  pub mkdir_leads : AreBornBefore n tree → (path : List ℕ) (names : List (List ℕ)) (d : Done) → path_of path ≡ Some names → outcome room tree n (calls.Mkdir path) ≡ Ok d → node_of_path d.tree names ≡ Ok n
-  unfolding row
-  mkdir_leads born path names d named e =
-      let x = mkdir_made tree n path d (outcome_row room tree n (calls.Mkdir path) d e) in
-      let same : names ≡ x.made.names = same_Some names x.made.names (sym named ∙ (ap path_of (sym x.path_is) ∙ x.made.named)) in
-      ap (node_of_path d.tree) same
-      ∙ made_leads tree (plain_whole tree plain) n _ d x.made (not_born tree n born (at_number tree n) refl) (subst (λ p. IsNewNode p (new_directory x.parent)) (sym x.parent_is) (directory_is_new x.parent))
-
-  pub create_leads : AreBornBefore n tree → (path : List ℕ) (names : List (List ℕ)) (d : Done) → path_of path ≡ Some names → outcome room tree n (calls.Create path) ≡ Ok d → node_of_path d.tree names ≡ Ok n
-  unfolding row
-  create_leads born path names d named e =
-      let x = create_made tree n path d (outcome_row room tree n (calls.Create path) d e) in
-      let same : names ≡ x.0.names = same_Some names x.0.names (sym named ∙ (ap path_of (sym x.1) ∙ x.0.named)) in
-      ap (node_of_path d.tree) same
-      ∙ made_leads tree (plain_whole tree plain) n _ d x.0 (not_born tree n born (at_number tree n) refl) (file_is_new x.0.place.parent)
-
-  pub link_leads : (path other : List ℕ) (names more : List (List ℕ)) (d : Done) → path_of path ≡ Some names → path_of other ≡ Some more → outcome room tree n (calls.Link path other) ≡ Ok d →
-      (birth : ℕ) × (node_of_path tree names ≡ Ok birth) × (node_of_path d.tree names ≡ Ok birth) × (node_of_path d.tree more ≡ Ok birth)
-  unfolding row
-  link_leads path other names more d named second e =
-      let x = link_made tree path other d (outcome_row room tree n (calls.Link path other) d e) in
-      let w = plain_whole tree plain in
-      let first : names ≡ x.0.names = same_Some names x.0.names (sym named ∙ x.1) in
-      let last : more ≡ x.0.more = same_Some more x.0.more (sym second ∙ x.2) in (
-        x.0.found.birth,
-        ap (node_of_path tree) first ∙ x.0.is_found.path,
-        ap (node_of_path d.tree) first ∙ linked_stays tree w d x.0,
-        ap (node_of_path d.tree) last ∙ linked_leads tree w d x.0,
-      )

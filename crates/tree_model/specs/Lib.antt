@@ -1,4 +1,5 @@
 -- What trees, their text and calls on them are.
+pub mod CallWords
 pub mod Calls
 pub mod Causes
 pub mod Histories

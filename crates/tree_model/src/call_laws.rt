@@ -106,15 +106,3 @@ pub fn written_bytes_are_read_back()
     ensures whole { (f : File) (off : ℕ) (bytes : List ℕ) → HasWholeBlocks f → HasWholeBlocks (written_file f off bytes) }
     ensures whole_cut { (f : File) (size : ℕ) → HasWholeBlocks f → HasWholeBlocks (cut_file f size) }
 {}
-
-/// A law, which does nothing when it is called: where `mkdir` or `create` is done its path leads to the new node, and
-/// where `link` is done both paths lead to the file.
-pub fn new_names_lead_to_nodes()
-    ensures mkdir { (room : Room) (tree : Tree) → IsPlain tree → (n : ℕ) → AreBornBefore n tree → (path : List ℕ) (names : List (List ℕ)) (d : Done) →
-        path_of path ≡ Some names → outcome room tree n (calls.Mkdir path) ≡ Ok d → node_of_path d.tree names ≡ Ok n }
-    ensures create { (room : Room) (tree : Tree) → IsPlain tree → (n : ℕ) → AreBornBefore n tree → (path : List ℕ) (names : List (List ℕ)) (d : Done) →
-        path_of path ≡ Some names → outcome room tree n (calls.Create path) ≡ Ok d → node_of_path d.tree names ≡ Ok n }
-    ensures link { (room : Room) (tree : Tree) → IsPlain tree → (n : ℕ) → (path other : List ℕ) (names more : List (List ℕ)) (d : Done) →
-        path_of path ≡ Some names → path_of other ≡ Some more → outcome room tree n (calls.Link path other) ≡ Ok d →
-        (birth : ℕ) × (node_of_path tree names ≡ Ok birth) × (node_of_path d.tree names ≡ Ok birth) × (node_of_path d.tree more ≡ Ok birth) }
-{}

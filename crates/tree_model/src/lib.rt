@@ -8,8 +8,9 @@
 //! `specs/Trees.antt` says what a path leads to and when two trees have the same metadata, `specs/Text.antt` has the
 //! text as it is made, `specs/laws/Listing.antt` the names of a tree in its order. `specs/Calls.antt` has the row of each
 //! call: what refuses it, in order, and what it does else; `specs/Causes.antt` why a call is refused,
-//! `specs/Plain.antt` the trees that calls keep, `specs/Histories.antt` what a list of calls writes, and
-//! `specs/laws/Examples.antt` sessions with their replies. `laws` and `call_laws` name the laws, whose proofs stand in
+//! `specs/Plain.antt` the trees that calls keep, `specs/Histories.antt` what a list of calls writes,
+//! `specs/CallWords.antt` the words for what a call did to files, names and links, and `specs/laws/Examples.antt`
+//! sessions with their replies. `laws`, `call_laws`, `file_laws` and `name_laws` name the laws, whose proofs stand in
 //! `proofs/`.
 //!
 //! Stands on `minix_layout` for the names of 1 to 14 bytes, `blk_base` for the bodies of files, and
@@ -18,9 +19,11 @@
 
 mod call;
 mod call_laws;
+mod file_laws;
 mod laws;
 mod lists;
 mod maps;
+mod name_laws;
 mod node;
 mod path;
 mod path_text;
@@ -29,12 +32,19 @@ mod text;
 pub use call::{Call, Reply, Room};
 pub use call_laws::{
     asking_changes_nothing, calls_keep_trees_plain, calls_map_by_writing, calls_stay_within_room,
-    histories_map_by_writing, new_names_lead_to_nodes, refusals_have_causes,
-    written_bytes_are_read_back,
+    histories_map_by_writing, refusals_have_causes, written_bytes_are_read_back,
+};
+pub use file_laws::{
+    calls_keep_files_sound, changes_are_of_size_or_blocks, kind_and_size_are_refused,
+    reads_give_what_stands, truncates_give_the_size, writes_fill_their_range,
 };
 pub use laws::{examples_of_calls, nodes_have_paths, same_metadata_chains, texts_list_paths};
 pub use lists::{ByteList, NameList};
 pub use maps::{FileBlocks, Names};
+pub use name_laws::{
+    a_move_keeps_its_node, answers_tell_what_stands, links_and_slots_count_names, one_path_comes,
+    one_path_goes, other_nodes_stay, paths_move_along,
+};
 pub use node::{Directory, File, Node, Tree};
 pub use path::{Path, is_dot, paths_are_spelled, read_path};
 pub use path_text::{first_name, names_of, short_name};
