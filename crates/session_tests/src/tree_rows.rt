@@ -153,3 +153,26 @@ fn takes_names_away(rt: HostRuntime) -> Result<(), Fail> {
     expect_replies(&rt, rt.alloc(), &rows)?;
     Ok(())
 }
+
+#[test]
+fn writes_over_and_cuts(rt: HostRuntime) -> Result<(), Fail> {
+    let rows = [
+        ("create /f", "ok"),
+        ("write /f 0 2000 61", "ok"),
+        ("write /f 0 3 62", "ok"),
+        ("stat /f", "file size 2000 links 1"),
+        ("read /f 0 5", "bytes 3x62+2x61"),
+        ("read /f 1998 10", "bytes 2x61"),
+        ("bytes /f 1023 6364", "ok"),
+        ("read /f 1022 4", "bytes 1x61+1x63+1x64+1x61"),
+        ("truncate /f 1500", "ok"),
+        ("truncate /f 3000", "ok"),
+        ("read /f 1498 4", "bytes 2x61+2x00"),
+        ("read /f 2990 20", "bytes 10x00"),
+        ("write /f 5000 1 65", "ok"),
+        ("stat /f", "file size 5001 links 1"),
+        ("read /f 2999 2002", "bytes 2001x00+1x65"),
+    ];
+    expect_replies(&rt, rt.alloc(), &rows)?;
+    Ok(())
+}
