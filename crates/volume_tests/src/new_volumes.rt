@@ -253,3 +253,53 @@ fn hands_out_its_tree(rt: HostRuntime) {
         "dir /\ndir /a\nfile /a/f size 1025 links 1\nblock 0 1022x00+2x61\nblock 1 1x61\n"
     );
 }
+
+// The bytes of blocks 2 to 6 after the calls below, at these places; all others are zeros. They are the maps of inodes
+// and of zones, in which this volume did not mark the root, three inodes, the root's slots and those of `/a`.
+const WRITTEN: [(u32, usize, &[u8]); 11] = [
+    (2, 0, b"\x0c"),
+    (3, 0, b"\x1c"),
+    (4, 0, b"\xed\x41\0\0\x30\0\0\0\0\0\0\0\0\x03\x05\0"),
+    (4, 32, b"\xed\x41\0\0\x30\0\0\0\0\0\0\0\0\x02\x06\0"),
+    (4, 64, b"\xa4\x81\0\0\x01\x04\0\0\0\0\0\0\0\x01\x07\0\x08\0"),
+    (5, 0, b"\x01\0."),
+    (5, 16, b"\x01\0.."),
+    (5, 32, b"\x02\0a"),
+    (6, 0, b"\x02\0."),
+    (6, 16, b"\x01\0.."),
+    (6, 32, b"\x03\0f"),
+];
+
+fn written_byte(block: u32, at: usize) -> u8 {
+    for (place, first, bytes) in &WRITTEN {
+        if *place == block
+            && let Some(k) = at.checked_sub(*first)
+            && let Some(byte) = bytes.get(k)
+        {
+            return *byte;
+        }
+    }
+    0
+}
+
+// The first place at which a block has another byte than these.
+fn first_other(volume: &PlainVolume, block: u32) -> Option<usize> {
+    for (at, byte) in volume.block_bytes(block).as_slice().iter().enumerate() {
+        if *byte != written_byte(block, at) {
+            return Some(at);
+        }
+    }
+    None
+}
+
+#[test]
+fn writes_inodes_and_slots(rt: HostRuntime) {
+    let mut volume = new_volume(&rt, rt.alloc(), SMALL);
+    for line in ["mkdir /a", "create /a/f", "write /a/f 1022 3 61"] {
+        do_line(&rt, rt.alloc(), &mut volume, line);
+    }
+    for block in 2..7 {
+        let other = first_other(&volume, block);
+        assert_eq!(rt; other, None, "{block}");
+    }
+}
