@@ -5,6 +5,10 @@ use Rattle.std.proofs.lemmas.Bool.Decides.{nat_tests}
 use Rattle.std.specs.Io.KnownBytes.{Consumes}
 use Rattle.std.specs.Prelude.{Result, IfOk, IfErr}
 use Rattle.blk_base.specs.Streams.{Rose, Drained}
+use Rattle.blk_base.specs.Image.{whole_blocks, IsImageRead}
+use Rattle.mount_make.specs.Images.{FaultPlace, mounted, tree_after}
+use Rattle.volume_ops.specs.Volume.{VolumeState}
+use Rattle.barrierfs_top.specs.Show.{text_after, shown, IsMountedFault}
 use Rattle.barrierfs_top.specs.declared.fault.TopFault.{TopFault}
 use Rattle.barrierfs_top.specs.declared.fault.TopFault.TheVariants as faults
 use Rattle.barrierfs_top.specs.declared.top.Printed.{Printed}
@@ -55,6 +59,33 @@ pub cause_if : (words : List (List ℕ)) (source : Stream) (c : Command) (input 
     → Drained source.bytes source.bytes_after input → length input ≤ most_of c → IfErr r (IsInputFault c input) → IfErr r (Cause words source)
 cause_if words source c input (Ok p) asked drained short is = tt
 cause_if words source c input (Err fault) asked drained short is = cause_of words source c input fault asked drained short is
+
+-- the blocks of an image are the whole ones of the bytes that were read
+pub shows_if : (words : List (List ℕ)) (source : Stream) (most : ℕ) (blocks : List (List ℕ)) (r : Result Printed TopFault) → task_of words ≡ Some (tasks.Read commands.Show)
+    → IsImageRead most source.bytes source.bytes_after blocks → most ≡ most_of commands.Show → IfOk r (λ p. (shown blocks ≡ Ok (output_bytes p.output)) × (p.report ≡ None))
+    → IfOk r (λ p. Does words source p.report (output_bytes p.output))
+shows_if words source most blocks r asked read is shows =
+    does_if words source commands.Show read.bytes r asked read.drained (subst (λ (n : ℕ). length read.bytes ≤ n) is read.short)
+    (subst (λ (bs : List (List ℕ)). IfOk r (λ p. (shown bs ≡ Ok (output_bytes p.output)) × (p.report ≡ None))) read.whole shows)
+
+mounted_fault : (input : List ℕ) (fault : TopFault) → IsMountedFault (whole_blocks input) fault → IsInputFault commands.Show input fault
+mounted_fault input (faults.Image kind block) is = ap (λ (m : Result VolumeState FaultPlace). image_fault (text_after (tree_after m))) is
+mounted_fault input faults.NoMemory is = tt
+mounted_fault input (faults.Script line kind) is = absurd is
+mounted_fault input faults.BadWords is = absurd is
+mounted_fault input faults.SourceFault is = absurd is
+mounted_fault input faults.SinkFault is = absurd is
+mounted_fault input faults.TooLong is = absurd is
+
+shown_fault : (input : List ℕ) (r : Result Printed TopFault) → IfErr r (IsMountedFault (whole_blocks input)) → IfErr r (IsInputFault commands.Show input)
+shown_fault input (Ok p) is = tt
+shown_fault input (Err fault) is = mounted_fault input fault is
+
+pub show_cause : (words : List (List ℕ)) (source : Stream) (most : ℕ) (blocks : List (List ℕ)) (r : Result Printed TopFault) → task_of words ≡ Some (tasks.Read commands.Show)
+    → IsImageRead most source.bytes source.bytes_after blocks → most ≡ most_of commands.Show → IfErr r (IsMountedFault blocks) → IfErr r (Cause words source)
+show_cause words source most blocks r asked read is faulty =
+    cause_if words source commands.Show read.bytes r asked read.drained (subst (λ (n : ℕ). length read.bytes ≤ n) is read.short)
+    (shown_fault read.bytes r (subst (λ (bs : List (List ℕ)). IfErr r (IsMountedFault bs)) read.whole faulty))
 
 -- an image that was made
 pub made_if : (words : List (List ℕ)) (source : Stream) (s : Sizes) (r : Result Printed TopFault) → task_of words ≡ Some (tasks.Make s) → IsUnread source

@@ -1,12 +1,9 @@
 //! The tree of an image.
 ghost use Rattle.std.specs.Prelude.{◌≡◌, Ok, IfOk, IfErr};
 ghost use Rattle.std.specs.String.{string_bytes};
-ghost use Rattle.blk_base.specs.Image.{whole_blocks};
 ghost use Rattle.tree_model.specs.Text.{tree_text};
 ghost use Rattle.mount_make.specs.Images.{mounted};
 ghost use Rattle.barrierfs_top.specs.Show.{shown, shown_volume, IsMountedFault};
-ghost use Rattle.barrierfs_top.specs.Top.{IsInputFault};
-ghost use Rattle.barrierfs_top.specs.declared.command_line.Command.{Command};
 
 use crate::fault::TopFault;
 use blk_base::{Image, NoMemory};
@@ -17,16 +14,11 @@ use std::alloc::Global;
 use tree_model::{Tree, put_tree};
 use volume_ops::Volume;
 
-/// The text of the tree that an image of these bytes has.
-pub fn show_text(alloc: Global, bytes: Vec<u8>) -> Result<String, TopFault>
-    ensures ok { IfOk result (λ text. shown (whole_blocks bytes.items) ≡ Ok (string_bytes text)) }
-    ensures err { IfErr result (IsInputFault Command.Show bytes.items) }
+/// The text of the tree that an image has.
+pub fn show_text(alloc: Global, image: Image) -> Result<String, TopFault>
+    ensures ok { IfOk result (λ text. shown image ≡ Ok (string_bytes text)) }
+    ensures err { IfErr result (IsMountedFault image) }
 {
-    let image = Image::from_bytes(alloc, &bytes);
-    drop(bytes);
-    let Ok(image) = image else {
-        return Err(TopFault::NoMemory);
-    };
     let volume = volume_of(alloc, image)?;
     match last_text(alloc, volume) {
         Ok(text) => Ok(text),

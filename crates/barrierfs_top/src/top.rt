@@ -1,16 +1,15 @@
 //! The top call.
 ghost use Rattle.std.specs.Prelude.{◌≡◌, ℕ, ◌≤◌, List, Some, None, Ok, length, IfOk, IfErr, IsErrOf};
 ghost use Rattle.blk_base.specs.Streams.{Rose};
-ghost use Rattle.barrierfs_top.specs.Tasks.{most_of, task_of, CanDo};
+ghost use Rattle.barrierfs_top.specs.Tasks.{task_of, CanDo};
 ghost use Rattle.barrierfs_top.specs.Text.{output_bytes};
-ghost use Rattle.barrierfs_top.specs.Top.{status_of, stream_of, IsReplay, IsBlocksReplay, IsBlocksFault, IsMade, Makes, IsInputFault, IsUnread, Does, Cause, Did, expected, EndsAs, top_fault, end_fault};
+ghost use Rattle.barrierfs_top.specs.Top.{status_of, stream_of, IsReplay, IsBlocksReplay, IsBlocksFault, IsMade, IsInputFault, IsUnread, Does, Cause, Did, expected, EndsAs, top_fault, end_fault};
 ghost use Rattle.barrierfs_top.specs.Promise.{WentOut, TellsRun};
 ghost use Rattle.std.specs.String.{string_bytes};
-ghost use Rattle.blk_base.specs.Image.{whole_blocks};
 ghost use Rattle.barrierfs_top.specs.declared.command_line.Command.{Command};
 ghost use Rattle.barrierfs_top.specs.declared.command_line.Sizes.{Sizes};
 ghost use Rattle.barrierfs_top.specs.declared.command_line.Task.{Task};
-ghost use Rattle.barrierfs_top.specs.Show.{shown};
+ghost use Rattle.barrierfs_top.specs.Show.{shown, IsMountedFault};
 
 use crate::command_line::{Command, Sizes, Task, Words};
 use crate::fault::TopFault;
@@ -19,7 +18,7 @@ use crate::run_report::RunReport;
 use crate::session::{is_session, run_session_text};
 use crate::show::show_text;
 use crate::text::put_report;
-use blk_base::{ReadEnd, Sink, Source, read_all};
+use blk_base::{Image, ReadEnd, Sink, Source, read_all, read_image};
 use mount_make::{MakeFault, make_volume};
 use script_grammar::{MOST_SCRIPT_BYTES, ScriptError, read_script};
 use stack_core::core_run;
@@ -108,28 +107,16 @@ fn run_text(alloc: Global, bytes: &[u8]) -> Result<Printed, TopFault>
     }
 }
 
-// The text of the tree of an image of these bytes.
-fn show(alloc: Global, bytes: Vec<u8>) -> Result<Printed, TopFault>
-    ensures ok { IfOk result (λ p. (shown (whole_blocks bytes.items) ≡ Ok (output_bytes p.output)) × (p.report ≡ None)) }
-    ensures err { IfErr result (IsInputFault Command.Show bytes.items) }
+// The text of the tree of an image.
+fn show(alloc: Global, image: Image) -> Result<Printed, TopFault>
+    ensures ok { IfOk result (λ p. (shown image ≡ Ok (output_bytes p.output)) × (p.report ≡ None)) }
+    ensures err { IfErr result (IsMountedFault image) }
 {
-    let text = show_text(alloc, bytes)?;
+    let text = show_text(alloc, image)?;
     Ok(Printed {
         report: None,
         output: Output::Text(text),
     })
-}
-
-// What a command makes of its input.
-fn print(alloc: Global, command: Command, bytes: Vec<u8>) -> Result<Printed, TopFault>
-    requires { length bytes.items ≤ most_of command }
-    ensures ok { IfOk result (λ p. Makes command bytes.items p.report (output_bytes p.output)) }
-    ensures err { IfErr result (IsInputFault command bytes.items) }
-{
-    match command {
-        Command::Replay => run_text(alloc, &bytes),
-        Command::Show => show(alloc, bytes),
-    }
 }
 
 // An image of these sizes.
@@ -148,15 +135,28 @@ fn make(alloc: Global, sizes: Sizes) -> Result<Printed, TopFault>
     }
 }
 
-// Reads the input of a command, and makes of it what the command does.
-fn read<R: Source>(alloc: Global, command: Command, src: &mut R) -> Result<Printed, TopFault>
-    ensures ok { (words : List (List ℕ)) → task_of words ≡ Some (Task.Read command) →
+// Reads a script and runs it.
+fn read_and_run<R: Source>(alloc: Global, src: &mut R) -> Result<Printed, TopFault>
+    ensures ok { (words : List (List ℕ)) → task_of words ≡ Some (Task.Read Command.Replay) →
         IfOk result (λ p. Does words (stream_of R.left R.faults src.old src.new) p.report (output_bytes p.output)) }
-    ensures err { (words : List (List ℕ)) → task_of words ≡ Some (Task.Read command) → IfErr result (Cause words (stream_of R.left R.faults src.old src.new)) }
+    ensures err { (words : List (List ℕ)) → task_of words ≡ Some (Task.Read Command.Replay) → IfErr result (Cause words (stream_of R.left R.faults src.old src.new)) }
     ensures steady { (IsErrOf result TopFault.SourceFault → ⊥) → R.faults src.new ≡ R.faults src.old }
 {
-    match read_all(alloc, src, command.most()) {
-        Ok(bytes) => print(alloc, command, bytes),
+    match read_all(alloc, src, Command::Replay.most()) {
+        Ok(bytes) => run_text(alloc, &bytes),
+        Err(end) => Err(read_fault(end)),
+    }
+}
+
+// Reads an image block by block, and makes the text of its tree.
+fn read_and_show<R: Source>(alloc: Global, src: &mut R) -> Result<Printed, TopFault>
+    ensures ok { (words : List (List ℕ)) → task_of words ≡ Some (Task.Read Command.Show) →
+        IfOk result (λ p. Does words (stream_of R.left R.faults src.old src.new) p.report (output_bytes p.output)) }
+    ensures err { (words : List (List ℕ)) → task_of words ≡ Some (Task.Read Command.Show) → IfErr result (Cause words (stream_of R.left R.faults src.old src.new)) }
+    ensures steady { (IsErrOf result TopFault.SourceFault → ⊥) → R.faults src.new ≡ R.faults src.old }
+{
+    match read_image(alloc, src, Command::Show.most()) {
+        Ok(image) => show(alloc, image),
         Err(end) => Err(read_fault(end)),
     }
 }
@@ -174,7 +174,8 @@ fn prepare<R: Source>(alloc: Global, words: &Words, src: &mut R) -> Result<Print
         return Err(TopFault::BadWords);
     };
     match task {
-        Task::Read(command) => read(alloc, command, src),
+        Task::Read(Command::Replay) => read_and_run(alloc, src),
+        Task::Read(Command::Show) => read_and_show(alloc, src),
         Task::Make(sizes) => make(alloc, sizes),
     }
 }

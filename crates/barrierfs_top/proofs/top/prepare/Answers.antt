@@ -1,13 +1,20 @@
 use Rattle.std.proofs.Common.{Some, sym, ap, ◌∙◌, refl}
+use Rattle.barrierfs_top.specs.declared.command_line.Task.TheVariants as tasks
 use Rattle.barrierfs_top.specs.Top.{stream_of}
 use Rattle.barrierfs_top.proofs.Ends.{made_if, made_cause}
 use Rattle.barrierfs_top.proofs.top.prepare.Goals as goal
 
-pub returns-in-Read-clause-ok : goal.returns-in-Read-clause-ok
-returns-in-Read-clause-ok g c = c.read.ensures.ok c.args.words.now (sym c.task.ensures.value ∙ (c.in-Some.is ∙ ap Some c.in-Read.is))
+pub returns-in-Read-Replay-clause-ok : goal.returns-in-Read-Replay-clause-ok
+returns-in-Read-Replay-clause-ok g c = c.read_and_run.ensures.ok c.args.words.now (sym c.task.ensures.value ∙ (c.in-Some.is ∙ ap Some (c.in-Read-Replay.is ∙ ap tasks.Read (rw c.in-Read-Replay.is at c.in-Read-Replay.field-0-is))))
 
-pub returns-in-Read-clause-err : goal.returns-in-Read-clause-err
-returns-in-Read-clause-err g c = c.read.ensures.err c.args.words.now (sym c.task.ensures.value ∙ (c.in-Some.is ∙ ap Some c.in-Read.is))
+pub returns-in-Read-Replay-clause-err : goal.returns-in-Read-Replay-clause-err
+returns-in-Read-Replay-clause-err g c = c.read_and_run.ensures.err c.args.words.now (sym c.task.ensures.value ∙ (c.in-Some.is ∙ ap Some (c.in-Read-Replay.is ∙ ap tasks.Read (rw c.in-Read-Replay.is at c.in-Read-Replay.field-0-is))))
+
+pub returns-in-Read-Show-clause-ok : goal.returns-in-Read-Show-clause-ok
+returns-in-Read-Show-clause-ok g c = c.read_and_show.ensures.ok c.args.words.now (sym c.task.ensures.value ∙ (c.in-Some.is ∙ ap Some (c.in-Read-Show.is ∙ ap tasks.Read (rw c.in-Read-Show.is at c.in-Read-Show.field-0-is))))
+
+pub returns-in-Read-Show-clause-err : goal.returns-in-Read-Show-clause-err
+returns-in-Read-Show-clause-err g c = c.read_and_show.ensures.err c.args.words.now (sym c.task.ensures.value ∙ (c.in-Some.is ∙ ap Some (c.in-Read-Show.is ∙ ap tasks.Read (rw c.in-Read-Show.is at c.in-Read-Show.field-0-is))))
 
 pub returns-in-Make-clause-ok : goal.returns-in-Make-clause-ok
 returns-in-Make-clause-ok g c =
