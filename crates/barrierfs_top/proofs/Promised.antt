@@ -1,5 +1,5 @@
 -- The bytes that `replay` writes are the text of an order-closed medium, or of a session and its tree.
-use Rattle.std.proofs.Common.{◌≡◌, ℕ, ◌++◌, Bool, true, false, List, [], length, take, inl, inr, ◌≤◌, Option, Some, None, sym, ap, ◌∙◌, subst, arith, append-nil}
+use Rattle.std.proofs.Common.{◌≡◌, ℕ, ◌+◌, ◌++◌, Bool, true, false, List, [], length, take, inl, inr, ◌≤◌, Option, Some, None, sym, ap, ◌∙◌, subst, arith, append-nil}
 use Rattle.std.proofs.lemmas.Option.{none-some, same_Some}
 use Rattle.std.proofs.lemmas.List.{append_cancel_left}
 use Rattle.std.specs.Io.KnownBytes.{Appends}
@@ -12,6 +12,7 @@ use Rattle.stack_core.specs.RequestPath.{submitted_count}
 use Rattle.stack_core.specs.Core.{core}
 use Rattle.session_core.specs.Headline.{medium_of}
 use Rattle.session_core.proofs.Headlines.{latest_shown, all_shown}
+use Rattle.session_core.proofs.Seen.{later_survived}
 use Rattle.barrierfs_top.specs.declared.run_report.RunReport.{RunReport}
 use Rattle.barrierfs_top.specs.Sessions.{is_session, figures_of, IsSessionReplay}
 use Rattle.barrierfs_top.specs.declared.command_line.Command.TheVariants as commands
@@ -94,6 +95,7 @@ module _ (old new : Option (List ℕ)) (report : Option RunReport) (text bytes :
         files = latest_shown s _ r h;
         answered = h.answered;
         barriers = λ e t c ok kind later. all_shown s _ r h (h.answered e t c ok).begun (h.barriers e t c ok kind later);
+        seen = λ e t c ok kind shows. all_shown s _ r h (h.answered e t c ok).begun (h.barriers e t c ok kind (later_survived s _ r h (e + 1) shows));
         syncs = λ e t c ok kind. all_shown s _ r h (h.answered e t c ok).begun (h.syncs e t c ok kind);
       }
 

@@ -20,7 +20,7 @@ use Rattle.session_grammar.specs.declared.session_script.SessionScript.{SessionS
 use Rattle.session_grammar.specs.Grammar.{session_of}
 use Rattle.session_report.specs.ReportText.{Figures, session_lines}
 use Rattle.session_core.specs.Core.{HostNow, core, opening_of, entry_in, ArePlaced, standings_of}
-use Rattle.session_core.specs.Headline.{Medium, IsLastChange, last_write, is_durable, kind_of, AnsweredAt, WasAnswered, told_of, submitted_of, kept_on, IsFound, IsLaterSurvived, IsShownBy, IsAllShown}
+use Rattle.session_core.specs.Headline.{Medium, IsLastChange, last_write, is_durable, kind_of, AnsweredAt, WasAnswered, told_of, submitted_of, kept_on, IsFound, IsLaterSurvived, IsShownBy, IsAllShown, ShowsLater}
 use Rattle.session_core.specs.Report.{tree_behind}
 use Rattle.barrierfs_top.specs.Top.{WasRead}
 
@@ -90,6 +90,10 @@ pub record TellsSession (old new : Option (List ℕ)) (fault : Option TopFault) 
   pub barriers : (e t : ℕ) (c : Call) (ok : AnsweredAt (core script).host e t c) → is_durable (kind_of c) ≡ false → IsLaterSurvived script medium (e + 1)
       → IsAllShown script (core script) medium figures.found tree alike.to (answered e t c ok).begun
   pub syncs : (e t : ℕ) (c : Call) (ok : AnsweredAt (core script).host e t c) → is_durable (kind_of c) ≡ true
+      → IsAllShown script (core script) medium figures.found tree alike.to (answered e t c ok).begun
+  -- The same by what is printed alone: it is so of a barrier call where the tree has, at some path, bytes of a block which the
+  -- file there, by the answers, had after no entry up to that answer, or paths and metadata of no tree up to it.
+  pub seen : (e t : ℕ) (c : Call) (ok : AnsweredAt (core script).host e t c) → is_durable (kind_of c) ≡ false → ShowsLater script (core script) figures.found tree (e + 1)
       → IsAllShown script (core script) medium figures.found tree alike.to (answered e t c ok).begun
 
 -- one or the other

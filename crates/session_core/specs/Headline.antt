@@ -1,9 +1,11 @@
 -- What a session promises of what is left of it.
-use Rattle.std.specs.Prelude.{◌≡◌, ℕ, ◌+◌, ◌≤◌, false, true, List, []}
+use Rattle.std.specs.Prelude.{◌≡◌, ◌≢◌, ℕ, ◌+◌, ◌≤◌, false, true, List, [], Some, Ok}
 use Rattle.order_model.specs.Carrying.{IsPrefixOf}
 use Rattle.log_model.specs.Marks.{Transaction}
 use Rattle.tree_model.specs.declared.call.Call.{Call}
 use Rattle.tree_model.specs.Calls.{Tree}
+use Rattle.tree_model.specs.Histories.{block_at}
+use Rattle.tree_model.specs.Trees.{node_of_path, AreAlike}
 use Rattle.volume_ops.specs.Volume.{disk_of}
 use Rattle.volume_steps.specs.Now.{room_of}
 use Rattle.mount_make.specs.Images.{recovered_image}
@@ -30,9 +32,10 @@ pub use Rattle.session_promises.specs.Answers.{AnsweredAt, WasAnswered}
 use Rattle.session_promises.specs.Answers.{HasOkCause}
 use Rattle.session_promises.specs.Causes.{HaveCauses}
 use Rattle.session_promises.specs.Legal.{events_in, program_of, FollowsTree}
+use Rattle.session_promises.specs.Trees.{tree_at, content_at}
 use Rattle.session_grammar.specs.declared.session_script.SessionScript.{SessionScript}
 use Rattle.session_core.specs.Core.{EndState, geometry_of, opening_of, core}
-use Rattle.session_core.specs.Report.{ReportKeepsOrder, HasPrefix}
+use Rattle.session_core.specs.Report.{ReportKeepsOrder, HasPrefix, tree_behind}
 use Rattle.session_core.specs.declared.report.SessionReport.{SessionReport}
 
 -- what the power cut left
@@ -63,6 +66,26 @@ IsShownBy s end m tree to f i n = IsShown (geometry_of s) s.journal end.host m t
 pub record IsAllShown (s : SessionScript) (end : EndState) (m : Medium) (kept : ℕ) (tree : Tree) (to : ℕ → ℕ) (b : Begun) : Type 0 where
   pub pages : (f i n : ℕ) → Covers (told_by s end) (call_of b) f i n → IsShownOrGone (geometry_of s) s.journal end.host m kept tree to f i n
   pub metadata : (n : ℕ) → CoversEntry (call_of b) n → n ≤ (told_by s end).cut kept
+
+-- ---- what a reader sees
+
+-- At some path a tree has a block with bytes which the file there, as the answers to the calls of so many transactions leave
+-- it, had after no entry up to e: so only later ones can have written them.
+pub record HasNewerBytes (s : SessionScript) (end : EndState) (found : ℕ) (tree : Tree) (e : ℕ) : Type 0 where
+  pub path : List (List ℕ)
+  pub node : ℕ
+  pub leads : node_of_path tree path ≡ Ok node
+  pub index : ℕ
+  pub bytes : List ℕ
+  pub has : block_at tree node index ≡ Some bytes
+  pub file : ℕ
+  pub led : node_of_path (tree_behind (opening_of s) end.host found) path ≡ Ok file
+  pub newer : (v : ℕ) → v ≤ e → content_at (opening_of s) end.host v file index ≢ bytes
+
+-- A tree shows what only entries after e can have done: newer bytes, or paths and metadata of no tree up to entry e.
+pub data ShowsLater (s : SessionScript) (end : EndState) (found : ℕ) (tree : Tree) (e : ℕ) : Type 0 where
+  ByBytes : HasNewerBytes s end found tree e → ShowsLater s end found tree e
+  ByMetadata : ((v : ℕ) → v ≤ e → AreAlike (tree_at (opening_of s) end.host v) tree → ⊥) → ShowsLater s end found tree e
 
 -- ---- the same on the model device that a script opens
 
@@ -104,7 +127,8 @@ pub record HeadlineOn (s : SessionScript) (end : EndState) (r : SessionReport) :
   -- which the last change of its file asks for.
   pub files : KeepsFiles (geometry_of s) s.journal closed end.host (medium_of r) (disk_of (recovered_image r.cut.image.items))
   -- The tree that was recovered shows it: each block of a file as that disk has it, in such a version and the one whose
-  -- request the medium has at its place; and all that survived.
+  -- request the medium has at its place; and all that survived. So what it shows of later entries has survived
+  -- (`what_is_shown_later_survived`).
   pub shown : ShowsFiles (geometry_of s) s.journal closed end.host (medium_of r) prefix.tree prefix.alike.to
   -- A barrier or sync call that was answered Ok: where a write made after a barrier call survived, all that the call covers
   -- survived or was superseded; all that a sync call covers did so in any case. It survives at the place where the recovered

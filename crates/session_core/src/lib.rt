@@ -3,7 +3,8 @@
 //!
 //! `running` runs a script, on any device and with any maker of devices for its recovery, or on model devices;
 //! `specs/Core` has where that leads; `report` has what is left, and `specs/Report` says which report it is and what it
-//! promises. `laws` ties what is promised of a call by its kind to the calls' names (`specs/CallNames`).
+//! promises. `laws` ties what is promised of a call by its kind to the calls' names (`specs/CallNames`), and what survived
+//! to what a reader sees in the tree.
 //!
 //! Stands on `session_opening`, `session_run` and `session_recovery` for its three parts, and on `call_images` for what a
 //! power cut may leave.
@@ -13,6 +14,6 @@ mod laws;
 mod report;
 mod running;
 
-pub use laws::calls_promise_by_their_names;
+pub use laws::{calls_promise_by_their_names, what_is_shown_later_survived};
 pub use report::{CutRecord, SessionReport};
 pub use running::{core_run, run_on};
