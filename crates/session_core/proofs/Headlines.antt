@@ -87,6 +87,7 @@ headline_of s end r facts order fits sent found =
       barriers = λ e t c ok kind later. p.barriers m e t c ok kind order.closed later;
       syncs = λ e t c ok kind. p.syncs m (r.cut.trace.sent.items ++ end.dev.waiting) e t c ok kind order.closed order.flushed
           (λ x here. In-append_left r.cut.trace.sent.items end.dev.waiting x (subst (In x) (sym sent) (took fits.taken.0 end.host.journal.flush.taken end.dev.sent x fits.taken.1 here)));
+      run = record { events = host.events; host = host.host_is };
       causes = host.causes;
       ok_causes = host.ok_causes;
       flushes = p.kept.flushes;

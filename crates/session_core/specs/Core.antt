@@ -23,7 +23,9 @@ use Rattle.session_opening.specs.Opened.{opened_now}
 pub use Rattle.session_run.specs.Beginning.{HostNow}
 use Rattle.session_run.specs.Beginning.{made_opening}
 pub use Rattle.session_run.specs.End.{entry_in, ArePlaced, standing_of}
+use Rattle.host_runs.specs.Runs.{Event}
 use Rattle.host_volume.specs.Sessions.{Opening}
+use Rattle.call_images.specs.CallImages.{made_session}
 use Rattle.stack_core.specs.Core.{epoch_machine}
 use Rattle.session_grammar.specs.declared.session_script.SessionScript.{SessionScript}
 use Rattle.session_machine.specs.Machine.{SessionState, Start, core_session}
@@ -59,6 +61,11 @@ pub record EndState : Type 0 where
 
 abbrev pub ended : {K S : Type 0} → SchedSteps K → Machine S → SessionState K S → EndState
 ended k m r = record { host = r.host; sched = k.seen r.sched; dev = m.seen r.dev }
+
+-- its host took these steps from where the script's session begins
+pub record IsBehind (s : SessionScript) (end : EndState) : Type 0 where
+  pub events : List Event
+  pub host : end.host ≡ made_session (geometry_of s) s.journal s.header.limit s.programs events
 
 -- all events of a script on this device, on the parts that it opens and the scheduler that it names, in which `CAPACITY` requests
 -- may wait

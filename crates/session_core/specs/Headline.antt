@@ -27,14 +27,14 @@ use Rattle.host_runs.specs.Flushes.{count, is_sync_begin}
 pub use Rattle.host_volume.specs.Calls.{kind_of}
 use Rattle.host_volume.specs.Sessions.{Stands}
 use Rattle.session_run.specs.Beginning.{call_over}
-use Rattle.call_images.specs.CallImages.{KeepsFiles, ShowsFiles, IsShown, IsShownOrGone, submitted_by, kept_count, history_of}
+use Rattle.call_images.specs.CallImages.{made_session, KeepsFiles, ShowsFiles, IsShown, IsShownOrGone, submitted_by, kept_count, history_of}
 pub use Rattle.session_promises.specs.Answers.{AnsweredAt, WasAnswered}
 use Rattle.session_promises.specs.Answers.{HasOkCause}
-use Rattle.session_promises.specs.Causes.{HaveCauses}
+use Rattle.session_promises.specs.Causes.{HadCome, HaveCauses}
 use Rattle.session_promises.specs.Legal.{events_in, program_of, FollowsTree}
 use Rattle.session_promises.specs.Trees.{tree_at, content_at}
 use Rattle.session_grammar.specs.declared.session_script.SessionScript.{SessionScript}
-use Rattle.session_core.specs.Core.{EndState, geometry_of, opening_of, core}
+use Rattle.session_core.specs.Core.{EndState, IsBehind, geometry_of, opening_of, core}
 use Rattle.session_core.specs.Report.{ReportKeepsOrder, HasPrefix, tree_behind}
 use Rattle.session_core.specs.declared.report.SessionReport.{SessionReport}
 
@@ -138,8 +138,10 @@ pub record HeadlineOn (s : SessionScript) (end : EndState) (r : SessionReport) :
       → IsAllSettled (call_over (opening_of s)) (Stands (opening_of s)) end.host closed (medium_of r) (answered e t c ok).begun
   pub syncs : (e t : ℕ) (c : Call) (ok : AnsweredAt end.host e t c) → is_durable (kind_of c) ≡ true
       → IsAllSettled (call_over (opening_of s)) (Stands (opening_of s)) end.host closed (medium_of r) (answered e t c ok).begun
-  -- Calls end with no answer of the tree for a cause alone, and an Ok of a call that covers metadata has its commit block.
-  pub causes : HaveCauses kind_of s.header.limit end.host
+  -- The host took some steps from the opened volume on. Calls end with no answer of the tree for a cause alone, which was there
+  -- after those of the steps that were done when the call ended; and an Ok of a call that covers metadata has its commit block.
+  pub run : IsBehind s end
+  pub causes : HaveCauses kind_of s.header.limit (HadCome (made_session (geometry_of s) s.journal s.header.limit s.programs) run.events) end.host
   pub ok_causes : (e t : ℕ) (c : Call) → AnsweredAt end.host e t c → is_data (kind_of c) ≡ false → HasOkCause end.host e t c
   -- At most as many flushes were submitted as sync calls have begun.
   pub flushes : count is_flush_note end.host.journal.flush.notes ≤ count (is_sync_begin kind_of) end.host.history

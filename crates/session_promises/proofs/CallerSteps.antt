@@ -2,7 +2,7 @@
 use Rattle.std.specs.Prelude.{◌≡◌, ℕ, ◌+◌, ◌&&◌, ◌||◌, Bool, true, false, List, [], ◌∷◌, ◌++◌, length, set, slice_get, is_none, Option, Some, None, refl}
 use Rattle.std.proofs.Common.{sym, ◌∙◌}
 use Rattle.host_machine.specs.Causes.{Cause}
-use Rattle.host_machine.specs.Host.{Stepped, unsent_on, ended_by, hindrance, begin, stop_of, step_thread, advance}
+use Rattle.host_machine.specs.Host.{Stepped, unsent_on, ended_by, hindrance, stop_of, step_thread, advance}
 use Rattle.host_machine.specs.Model.{Model}
 use Rattle.host_machine.specs.Outcomes as outcomes
 use Rattle.host_machine.specs.State.{Ending, Answered, SessionFull, Begun, Thread, Host, Setup, Begins, Ends}

@@ -1,7 +1,8 @@
 -- The cause of each end stands when it is made, and stays.
-use Rattle.std.proofs.Common.{◌<◌, ◌⊎◌, inl, inr, ◌≡◌, ℕ, Bool, true, false, List, [], ◌∷◌, ◌++◌, length, Option, Some, None, option_map, refl, sym, ap, subst, ◌∙◌, arith, if◌then◌else◌}
+use Rattle.std.proofs.Common.{◌<◌, ◌⊎◌, inl, inr, ◌≡◌, ℕ, Bool, true, false, List, [], ◌∷◌, ◌++◌, length, take, Option, Some, None, option_map, refl, sym, ap, subst, ◌∙◌, arith, if◌then◌else◌}
 use Rattle.std.specs.List.{list_any}
 use Rattle.std.proofs.lemmas.Bool.{leb-true, true≢false, false_from_ne_true}
+use Rattle.std.proofs.lemmas.List.{take_at}
 use Rattle.std.proofs.lemmas.Option.{none-some, same_Some}
 use Rattle.blk_base.specs.Members.{In}
 use Rattle.blk_base.specs.laws.Members.{list_any-In, In-append_left, In-list_any, slice_get-In}
@@ -18,7 +19,7 @@ use Rattle.host_machine.specs.laws.Contract.{Over}
 use Rattle.host_runs.specs.Runs.{Event, Call, AreBegun, steps}
 use Rattle.host_runs.specs.laws.Traces.{trace_of}
 use Rattle.session_promises.specs.Entries.{EndsAt}
-use Rattle.session_promises.specs.Causes.{HaveCauses}
+use Rattle.session_promises.specs.Causes.{HadCome, HaveCauses}
 use Rattle.session_promises.proofs.CallerSteps.{EndReason, Stopped, Refused, Acted, Full, Acknowledged}
 use Rattle.session_promises.proofs.Ends.{StepAt, Ended, ended_at}
 use Rattle.session_promises.proofs.Growing.{extended_place, Grows, run_grows, stay_begun}
@@ -93,54 +94,81 @@ module _ {A T V C R : Type 0} (o : Over A T V C R) (first : Host V C R) (empty :
     stop_kept : (e : Ending R) (s : StepAt o first events i t) → stop_of o.model o.setup (taken_at s) (o.model.kind c) ≡ Some e → StopCause (taken_at s) (o.model.kind c) e
     stop_kept e s stop = stop_cause o.model o.setup (taken_at s) (o.model.kind c) e stop
 
-    pub cut_was_taken : EndsAt (steps o first events).history i t c Down → In completions.Cut (steps o first events).journal.flush.taken
-    cut_was_taken there = by x.reason
+    -- and requests submitted; these are the first of all
+    come : (s : StepAt o first events i t) → HadCome (steps o first) events i (length (taken_at s)) (length (steps o first s.before).journal.flush.requests)
+    come s = record { before = s.before; after = Call s.full t ∷ s.after; split = s.split; entries = s.place; took = refl; sent = refl }
+
+    first_taken : (s : StepAt o first events i t) → take (length (taken_at s)) (steps o first events).journal.flush.taken ≡ taken_at s
+    first_taken s =
+        let g = (grown_from events i t s).taken in
+        ap (take (length (taken_at s))) g.are ∙ take_at (taken_at s) g.more (length (taken_at s)) refl
+
+    cut_by_then : EndsAt (steps o first events).history i t c Down → (s : StepAt o first events i t) × In completions.Cut (taken_at s)
+    cut_by_then there = (x.step, by x.reason)
       where
         x : Ended o first events i t c Down
         x = ended_at o first empty events i t c Down there
 
-        stays : In completions.Cut (taken_at x.step) → In completions.Cut (steps o first events).journal.flush.taken
-        stays old =
-            let g = (grown_from events i t x.step).taken in
-            subst (In completions.Cut) (sym g.are) (In-append_left (taken_at x.step) g.more completions.Cut old)
-
-        stopped : StopCause {R = R} (taken_at x.step) (o.model.kind c) Down → In completions.Cut (steps o first events).journal.flush.taken
-        stopped (ByCut some same) = stays (cut_in (taken_at x.step) some)
+        stopped : StopCause {R = R} (taken_at x.step) (o.model.kind c) Down → In completions.Cut (taken_at x.step)
+        stopped (ByCut some same) = cut_in (taken_at x.step) some
         stopped (ByFailure id failed writes same) = absurd (let never : ◌≡◌ {A = Ending R} Down (ReadOnly id) = same in cc never)
 
-        by : EndReason o.model o.setup (steps o first x.step.before) c x.own.begun Down → In completions.Cut (steps o first events).journal.flush.taken
+        by : EndReason o.model o.setup (steps o first x.step.before) c x.own.begun Down → In completions.Cut (taken_at x.step)
         by (Stopped stop) = stopped (stop_kept Down x.step stop)
         by (Refused why going idle reply same) = absurd (let never : ◌≡◌ {A = Ending R} Down (Answered why) = same in cc never)
         by (Acted going idle reply kind same) = absurd (let never = same in cc never)
         by (Full going limit hinders same) = absurd (let never : ◌≡◌ {A = Ending R} Down SessionFull = same in cc never)
         by (Acknowledged b going is same) = absurd (let never : ◌≡◌ {A = Ending R} Down (Answered o.model.ok) = same in cc never)
 
-    pub request_failed : (id : ℕ) → EndsAt (steps o first events).history i t c (ReadOnly id) → (first_failed (steps o first events).journal.flush.taken ≡ Some id) × (is_reading (o.model.kind c) ≡ false)
-    request_failed id there = by x.reason
+    pub cut_was_taken : EndsAt (steps o first events).history i t c Down → In completions.Cut (steps o first events).journal.flush.taken
+    cut_was_taken there =
+        let x = cut_by_then there in
+        let g = (grown_from events i t x.0).taken in
+        subst (In completions.Cut) (sym g.are) (In-append_left (taken_at x.0) g.more completions.Cut x.1)
+
+    pub down_then : EndsAt (steps o first events).history i t c Down → (n m : ℕ) × HadCome (steps o first) events i n m × In completions.Cut (take n (steps o first events).journal.flush.taken)
+    down_then there =
+        let x = cut_by_then there in
+        (length (taken_at x.0), length (steps o first x.0.before).journal.flush.requests, come x.0, subst (In completions.Cut) (sym (first_taken x.0)) x.1)
+
+    failed_by_then : (id : ℕ) → EndsAt (steps o first events).history i t c (ReadOnly id) → (s : StepAt o first events i t) × (first_failed (taken_at s) ≡ Some id) × (is_reading (o.model.kind c) ≡ false)
+    failed_by_then id there = (let r = by x.reason in (x.step, r.0, r.1))
       where
         x : Ended o first events i t c (ReadOnly id)
         x = ended_at o first empty events i t c (ReadOnly id) there
 
-        stays : first_failed (taken_at x.step) ≡ Some id → first_failed (steps o first events).journal.flush.taken ≡ Some id
-        stays old = (let g = (grown_from events i t x.step).taken in ap first_failed g.are ∙ failed_stays (taken_at x.step) g.more id old)
-
         same_id : (other : ℕ) → ◌≡◌ {A = Ending R} (ReadOnly id) (ReadOnly other) → other ≡ id
         same_id other e = ap (λ (x : Ending R). elim x as (λ _. ℕ) [ Answered r ↦ id | Down ↦ id | ReadOnly n ↦ n | SessionFull ↦ id ]) (sym e)
 
-        stopped : StopCause {R = R} (taken_at x.step) (o.model.kind c) (ReadOnly id) → (first_failed (steps o first events).journal.flush.taken ≡ Some id) × (is_reading (o.model.kind c) ≡ false)
+        stopped : StopCause {R = R} (taken_at x.step) (o.model.kind c) (ReadOnly id) → (first_failed (taken_at x.step) ≡ Some id) × (is_reading (o.model.kind c) ≡ false)
         stopped (ByCut some same) = absurd (let never : ◌≡◌ {A = Ending R} (ReadOnly id) Down = same in cc never)
-        stopped (ByFailure other failed writes same) = (stays (failed ∙ ap Some (same_id other same)), writes)
+        stopped (ByFailure other failed writes same) = (failed ∙ ap Some (same_id other same), writes)
 
-        by : EndReason o.model o.setup (steps o first x.step.before) c x.own.begun (ReadOnly id) → (first_failed (steps o first events).journal.flush.taken ≡ Some id) × (is_reading (o.model.kind c) ≡ false)
+        by : EndReason o.model o.setup (steps o first x.step.before) c x.own.begun (ReadOnly id) → (first_failed (taken_at x.step) ≡ Some id) × (is_reading (o.model.kind c) ≡ false)
         by (Stopped stop) = stopped (stop_kept (ReadOnly id) x.step stop)
         by (Refused why going idle reply same) = absurd (let never : ◌≡◌ {A = Ending R} (ReadOnly id) (Answered why) = same in cc never)
         by (Acted going idle reply kind same) = absurd (let never = same in cc never)
         by (Full going limit hinders same) = absurd (let never : ◌≡◌ {A = Ending R} (ReadOnly id) SessionFull = same in cc never)
         by (Acknowledged b going is same) = absurd (let never : ◌≡◌ {A = Ending R} (ReadOnly id) (Answered o.model.ok) = same in cc never)
 
+    pub request_failed : (id : ℕ) → EndsAt (steps o first events).history i t c (ReadOnly id) → (first_failed (steps o first events).journal.flush.taken ≡ Some id) × (is_reading (o.model.kind c) ≡ false)
+    request_failed id there =
+        let x = failed_by_then id there in
+        let g = (grown_from events i t x.0).taken in
+        (ap first_failed g.are ∙ failed_stays (taken_at x.0) g.more id x.1, x.2)
+
+    pub failed_then : (id : ℕ) → EndsAt (steps o first events).history i t c (ReadOnly id)
+        → (n m : ℕ) × HadCome (steps o first) events i n m × (first_failed (take n (steps o first events).journal.flush.taken) ≡ Some id)
+    failed_then id there =
+        let x = failed_by_then id there in
+        (length (taken_at x.0), length (steps o first x.0.before).journal.flush.requests, come x.0, ap first_failed (first_taken x.0) ∙ x.1)
+
     -- calls that only read are never hindered, nor do they begin
     module _ (still : (v : V) (d : C) → is_reading (o.model.kind d) ≡ true → o.model.hinders v d ≡ false) where
-      all_submitted : EndsAt (steps o first events).history i t c SessionFull → (length (steps o first events).journal.flush.requests ≡ first.journal.flush.limit) × (is_reading (o.model.kind c) ≡ false)
+      abbrev AllSubmitted : Type 0
+      AllSubmitted = (n : ℕ) × HadCome (steps o first) events i n first.journal.flush.limit × (length (steps o first events).journal.flush.requests ≡ first.journal.flush.limit)
+
+      all_submitted : EndsAt (steps o first events).history i t c SessionFull → AllSubmitted × (is_reading (o.model.kind c) ≡ false)
       all_submitted there = by x.reason
         where
           x : Ended o first events i t c SessionFull
@@ -149,7 +177,7 @@ module _ {A T V C R : Type 0} (o : Over A T V C R) (first : Host V C R) (empty :
           s : Host V C R
           s = steps o first x.step.before
 
-          all : at_limit s.journal.flush ≡ true → length (steps o first events).journal.flush.requests ≡ first.journal.flush.limit
+          all : at_limit s.journal.flush ≡ true → AllSubmitted
           all limit =
               let low = leb-true s.journal.flush.limit (length s.journal.flush.requests) limit in
               let g = grown_from events i t x.step in
@@ -158,7 +186,8 @@ module _ {A T V C R : Type 0} (o : Over A T V C R) (first : Host V C R) (empty :
               let high = all_grown.room (let l = ap length none in omega (arith, l)) in
               let same = all_grown.limit in
               let old_same = (run_grows o first begun x.step.before).limit in
-              omega (arith, low, more, high, same, old_same)
+              let full_then : length s.journal.flush.requests ≡ first.journal.flush.limit = omega (arith, low, more, high, same, old_same) in
+              (length (taken_at x.step), subst (HadCome (steps o first) events i (length (taken_at x.step))) full_then (come x.step), omega (arith, low, more, high, same, old_same))
 
           idle_writes : (b : Option Begun) → x.own.begun ≡ b → (x.own.begun ≡ None → o.model.hinders s.volume c ≡ true) → is_reading (o.model.kind c) ≡ false
           idle_writes None is hinders = false_from_ne_true (is_reading (o.model.kind c)) (λ reads. true≢false (sym (hinders is) ∙ still s.volume c reads))
@@ -169,7 +198,7 @@ module _ {A T V C R : Type 0} (o : Over A T V C R) (first : Host V C R) (empty :
           stopped_otherwise (ByCut some same) = (let never : ◌≡◌ {A = Ending R} SessionFull Down = same in cc never)
           stopped_otherwise (ByFailure id failed writes same) = (let never : ◌≡◌ {A = Ending R} SessionFull (ReadOnly id) = same in cc never)
 
-          by : EndReason o.model o.setup s c x.own.begun SessionFull → (length (steps o first events).journal.flush.requests ≡ first.journal.flush.limit) × (is_reading (o.model.kind c) ≡ false)
+          by : EndReason o.model o.setup s c x.own.begun SessionFull → AllSubmitted × (is_reading (o.model.kind c) ≡ false)
           by (Full going limit hinders same) = (all limit, idle_writes x.own.begun refl hinders)
           by (Stopped stop) = absurd (stopped_otherwise (stop_kept SessionFull x.step stop))
           by (Refused why going idle reply same) = absurd (let never : ◌≡◌ {A = Ending R} SessionFull (Answered why) = same in cc never)
@@ -213,10 +242,10 @@ module _ {A T V C R : Type 0} (o : Over A T V C R) (first : Host V C R) (empty :
       failure_stops s d x.own.begun e id (request_failed x.step.before i t c id (stood es i j t u c (ReadOnly id) x.step lt one)).0 writes x.reason
 
   -- the causes of a run
-  pub have_causes : ((v : V) (d : C) → is_reading (o.model.kind d) ≡ true → o.model.hinders v d ≡ false) → (events : List Event) → HaveCauses o.model.kind first.journal.flush.limit (steps o first events)
+  pub have_causes : ((v : V) (d : C) → is_reading (o.model.kind d) ≡ true → o.model.hinders v d ≡ false) → (events : List Event) → HaveCauses o.model.kind first.journal.flush.limit (HadCome (steps o first) events) (steps o first events)
   have_causes still events = record {
-    down = λ e t c there. cut_was_taken events e t c there;
-    read_only = λ e t id c there. (request_failed events e t c id there).0;
+    down = λ e t c there. down_then events e t c there;
+    read_only = λ e t id c there. failed_then events e t c id there;
     read_only_writes = λ e t id c there. (request_failed events e t c id there).1;
     session_full = λ e t c there. (all_submitted events e t c still there).0;
     session_full_writes = λ e t c there. (all_submitted events e t c still there).1;

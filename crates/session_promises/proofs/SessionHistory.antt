@@ -26,7 +26,7 @@ use Rattle.host_volume.specs.Runs.{IsOpenedVolume, HasEmptyJournal}
 use Rattle.host_volume.specs.Sessions.{Opening}
 use Rattle.host_volume.proofs.TreeSteps.{begun_quiet}
 use Rattle.call_sessions.specs.Sessions.{WriteBytes, call_over, acting_call, opened_with, host_behind}
-use Rattle.session_promises.specs.Causes.{HaveCauses}
+use Rattle.session_promises.specs.Causes.{HadCome, HaveCauses}
 use Rattle.session_promises.specs.Entries.{EndsAt}
 use Rattle.session_promises.specs.Legal.{event_of, events_in, program_of}
 use Rattle.session_promises.specs.Trees.{tree_at, HaveNoRenames}
@@ -53,7 +53,7 @@ module _ (s : Opening) where
     pub begun_first : AreBegun kind_of first.threads
     begun_first = none_begun kind_of programs
 
-    pub causes : (events : List runs.Event) → HaveCauses kind_of limit (at events)
+    pub causes : (events : List runs.Event) → HaveCauses kind_of limit (HadCome at events) (at events)
     causes events = have_causes (call_over s) first refl refl begun_first reads_are_still events
 
     -- what stops a call is no answer

@@ -15,18 +15,18 @@ ghost use Rattle.host_volume.specs.Runs.{IsOpenedVolume, HasEmptyJournal};
 ghost use Rattle.host_volume.specs.Sessions.{Opening};
 ghost use Rattle.call_sessions.specs.Sessions.{WriteBytes, call_over, host_behind};
 ghost use Rattle.session_promises.specs.Answers.{AnsweredAt, HasOkCause, KeepsPromises};
-ghost use Rattle.session_promises.specs.Causes.{HaveCauses};
+ghost use Rattle.session_promises.specs.Causes.{HadCome, HaveCauses};
 ghost use Rattle.session_promises.specs.Entries.{EndsAt};
 ghost use Rattle.session_promises.specs.Legal.{events_in, program_of, FollowsTree};
 ghost use Rattle.session_promises.specs.Trees.{tree_at, HaveNoRenames};
 
 /// A law, which does nothing when it is called: in every session a call ends with Down only where the power's completion
-/// was taken before; with ReadOnly only by the first failed request of all that were taken; and with SessionFull only where
-/// all requests that there may be were submitted. No call that only reads ends by the last two. Behind a Down every call ends so,
+/// was taken before the entry was made; with ReadOnly only by the first failed request of all that were taken by then; and
+/// with SessionFull only where all requests that there may be were submitted by then. No call that only reads ends by the last two. Behind a Down every call ends so,
 /// and behind a ReadOnly every one but those that only read ends so or by Down. No answer of a call reads as one of these.
 pub fn calls_end_for_a_cause()
     ensures causes { (s : Opening) (v : VolumeNow) (ring : LogRing) (limit : ℕ) (programs : List (List Call)) (events : List Event) →
-        HaveCauses kind_of limit (host_behind s v ring limit programs events) }
+        HaveCauses kind_of limit (HadCome (host_behind s v ring limit programs) events) (host_behind s v ring limit programs events) }
     ensures answers { (s : Opening) (v : VolumeNow) (ring : LogRing) (limit : ℕ) (programs : List (List Call)) (events : List Event) (e t : ℕ) (c : Call) (r : Reply) →
         EndsAt (host_behind s v ring limit programs events).history e t c (Answered r) → is_turned_away r ≡ false }
 {}

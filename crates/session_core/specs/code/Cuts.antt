@@ -14,10 +14,11 @@ use Rattle.crash_laws.specs.Recovery.{IsRecovered}
 use Rattle.crash_laws.specs.Session.{Medium}
 use Rattle.flush_actor.specs.Kinds.{is_data}
 use Rattle.host_machine.specs.State.{Host}
+use Rattle.host_runs.specs.Runs.{Event}
 use Rattle.host_volume.specs.Calls.{kind_of}
-use Rattle.call_images.specs.CallImages.{found_in, submitted_by, kept_count, kept_tree, KeepsFiles, ShowsFiles}
+use Rattle.call_images.specs.CallImages.{found_in, made_session, submitted_by, kept_count, kept_tree, KeepsFiles, ShowsFiles}
 use Rattle.session_promises.specs.Answers.{AnsweredAt, HasOkCause, KeepsPromises}
-use Rattle.session_promises.specs.Causes.{HaveCauses}
+use Rattle.session_promises.specs.Causes.{HadCome, HaveCauses}
 use Rattle.session_promises.specs.Legal.{events_in, program_of, FollowsTree}
 use Rattle.session_grammar.specs.declared.session_script.SessionScript.{SessionScript}
 use Rattle.session_run.specs.declared.session.SessionEnd.{SessionEnd}
@@ -27,11 +28,13 @@ use Rattle.session_core.specs.Core.{geometry_of, opening_of}
 abbrev pub medium_left : SessionEnd → Medium
 medium_left r = record { image = r.cut.image; origins = r.cut.origins }
 
--- what holds of the host of a script's session
+-- what holds of the host of a script's session, and by which steps it came to be
 pub record HostFacts (s : SessionScript) (h : Host VolumeNow Call Reply) : Type 0 where
+  pub events : List Event
+  pub host_is : h ≡ made_session (geometry_of s) s.journal s.header.limit s.programs events
   pub promises : KeepsPromises (opening_of s) h
   pub ok_causes : (e t : ℕ) (c : Call) → AnsweredAt h e t c → is_data (kind_of c) ≡ false → HasOkCause h e t c
-  pub causes : HaveCauses kind_of s.header.limit h
+  pub causes : HaveCauses kind_of s.header.limit (HadCome (made_session (geometry_of s) s.journal s.header.limit s.programs) events) h
   pub follows : FollowsTree (opening_of s) s.programs h
   pub legal : IsLegal (room_of (geometry_of s)) (program_of s.programs) (events_in h.history)
 

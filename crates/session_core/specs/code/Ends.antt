@@ -1,17 +1,16 @@
 -- How a session's run on one scheduler and one device ends, for the code that runs it.
-use Rattle.std.specs.Prelude.{◌≡◌, ℕ, ◌++◌, List, []}
+use Rattle.std.specs.Prelude.{◌≡◌, ℕ, ◌++◌, []}
 use Rattle.order_model.specs.Carrying.{SchedSeen, IsPrefixOf}
 use Rattle.order_model.specs.Device.{origin_ids}
 use Rattle.order_model.specs.Machine.{Machine}
 use Rattle.order_model.specs.Steps.{IsTraceOf}
 use Rattle.barrier_reassign.specs.Scheduler.{SchedSteps, IsSchedRecord}
-use Rattle.host_runs.specs.Runs.{Event}
 use Rattle.stack_core.specs.Headline.{KeepsOrder}
 use Rattle.session_grammar.specs.declared.session_script.SessionScript.{SessionScript}
 use Rattle.session_machine.specs.Machine.{SessionState, core_session}
-use Rattle.call_images.specs.CallImages.{made_session}
 use Rattle.session_run.specs.declared.session.SessionEnd.{SessionEnd}
-use Rattle.session_core.specs.Core.{EndState, geometry_of, opening_of, start_of}
+use Rattle.session_core.specs.Core.{EndState, opening_of, start_of}
+pub use Rattle.session_core.specs.Core.{IsBehind}
 
 -- where the script's session ends on this scheduler and this device
 abbrev pub session_on : {K S : Type 0} → SessionScript → SchedSteps K → Machine S → K → S → SessionState K S
@@ -33,8 +32,3 @@ pub record EndFits (end : EndState) : Type 0 where
   pub accepted : IsPrefixOf end.sched.accepted end.host.journal.flush.requests
   pub received : IsPrefixOf end.dev.took end.sched.sent_out
   pub taken : IsPrefixOf end.host.journal.flush.taken end.dev.sent
-
--- its host took these steps
-pub record IsBehind (s : SessionScript) (end : EndState) : Type 0 where
-  pub events : List Event
-  pub host : end.host ≡ made_session (geometry_of s) s.journal s.header.limit s.programs events

@@ -1,4 +1,4 @@
-use Rattle.std.proofs.Common.{sym, subst, arith}
+use Rattle.std.proofs.Common.{refl, sym, subst, arith}
 use Rattle.tx_running.specs.Open.{quota}
 use Rattle.mount_make.specs.Made.{new_journal}
 use Rattle.session_run.specs.Beginning.{made_now, made_ring}
@@ -30,6 +30,8 @@ returns c = λ end r order b.
     let n = s.header.limit in
     subst (λ h. CutFacts s h m) (sym b.host) (record {
       host = record {
+        events = b.events;
+        host_is = refl;
         promises = c.answered_calls_keep_their_promises.ensures.promises o v ring n ps b.events journal.1 volume journal.0 bytes;
         ok_causes = λ e t x ok kind. c.answered_calls_keep_their_promises.ensures.causes o v ring n ps b.events e t x journal.1 volume journal.0 bytes ok kind;
         causes = c.calls_end_for_a_cause.ensures.causes o v ring n ps b.events;
