@@ -92,6 +92,21 @@ def turns(name, count, rounds):
     return name, "\n".join(text + ["events", "round %d" % rounds]) + "\n"
 
 
+def one_file(name):
+    """A volume script that makes one file on the largest volume, and syncs it."""
+    text = ["volume inodes 21845 zones 65535 journal 4096", "thread 1", "create /file", "fsync /file"]
+    return name, "\n".join(text + ["events", "round 100"]) + "\n"
+
+
+def synced(files, cut):
+    """A small volume script: so many files with an `fsync` behind each, and the power is cut after so many steps of the device."""
+    text = ["volume inodes 128 zones 512 journal 128", "cut %d" % cut, "thread 1"]
+    for file in range(files):
+        path = "/f%d" % file
+        text += ["create " + path, "write %s 0 100 %02x" % (path, file), "fsync " + path]
+    return "\n".join(text + ["events", "round 2000"]) + "\n"
+
+
 def put(i, kind):
     return "put %d %02x %s" % (i * 7 % BLOCKS, i % 256, kind)
 
@@ -117,6 +132,7 @@ def cases():
     yield wraps("volume-hundred-wraps", 32, 100, 45000)
     for name, count in (("quarter", 123), ("half", 245), ("whole", 489)):
         yield turns("volume-turns-" + name, count, 80 * count)
+    yield one_file("volume-one-file")
 
 
 def main():
