@@ -65,7 +65,7 @@ pub fn read_all<S: Source>(alloc: Global, src: &mut S, most: u64) -> Result<Vec<
 }
 
 /// Reads a source to its end, at most `most` bytes, and cuts what it reads into blocks. No byte is held beside the image but
-/// those of one piece, and blocks of zeros take no memory.
+/// those of one piece, and a block of zeros has no body.
 pub fn read_image<S: Source>(alloc: Global, src: &mut S, most: u64) -> Result<Image, ReadEnd>
     ensures all { IfOk result (IsImageRead most (S.left src.old) (S.left src.new)) }
     ensures too_long { IsErrOf result ReadEnd.TooLong → (bytes : List ℕ) × (most < length bytes) × Consumes (S.left src.old) (S.left src.new) bytes }

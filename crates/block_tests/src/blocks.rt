@@ -204,7 +204,7 @@ fn gives<S: Source>(
     }
 }
 
-// The same of a source that gives a byte at a time, and of one that gives what there is room for.
+// The same of a source that gives a byte at a time.
 fn is_image(
     alloc: Global,
     bytes: &[u8],
@@ -221,6 +221,7 @@ fn is_image(
     gives(alloc, &mut slow, most, wanted)
 }
 
+// The same of a source that gives what there is room for.
 fn is_image_at_once(
     alloc: Global,
     bytes: Vec<u8>,
