@@ -1,5 +1,6 @@
 -- How much each call tells.
-use Rattle.std.proofs.Common.{◌≡◌, ℕ, ◌+◌, ◌-◌, ◌*◌, ◌/◌, ◌<◌, ◌≤◌, ◌==◌, nat_le, nat_lt, Bool, true, false, if◌then◌else◌, List, [], ◌∷◌, length, replicate, Option, Some, None, Ok, Err, refl, sym, ap, subst, ◌∙◌, ⊎_elim, arith}
+use Rattle.std.specs.Prelude.{◌&&◌, Option, Some, None}
+use Rattle.std.proofs.Common.{◌≡◌, ℕ, ◌+◌, ◌-◌, ◌*◌, ◌/◌, ◌<◌, ◌≤◌, ◌==◌, nat_le, nat_lt, Bool, true, false, if◌then◌else◌, List, [], length, replicate, Option, Some, None, Ok, Err, refl, ap, ⊎_elim, arith}
 use Rattle.std.specs.Int.{div_ceil}
 use Rattle.std.specs.List.{range_with_len, slice_get}
 use Rattle.std.proofs.lemmas.List.{length-replicate}
@@ -11,18 +12,17 @@ use Rattle.blk_base.specs.Members.{In}
 use Rattle.tree_model.specs.declared.call.Call.{Call}
 use Rattle.tree_model.specs.declared.call.Call.TheVariants as calls
 use Rattle.tree_model.specs.declared.call.Reply.TheVariants as replies
-use Rattle.tree_model.specs.Calls.{Place, Row, names_in, parent_of, walk_path, touched_blocks, max, outcome, and_then as and_then_row}
+use Rattle.tree_model.specs.Calls.{Place, Row, names_in, parent_of, walk_path, touched_blocks, max, outcome, and_then as and_then_row, Move, Found, target_at, stays, moves_directory, changes_parent}
 use Rattle.zone_maps.specs.declared.zone_state.ZoneState.TheVariants as states
 use Rattle.zone_maps.specs.Zones.{Zones, state_of, is_quarantined}
-use Rattle.volume_model.specs.declared.placed.Placed.{Placed}
 use Rattle.volume_steps.specs.Now.{VolumeNow, Change, tree_of_now, room_of, unchanged, followed_by}
-use Rattle.volume_steps.specs.Steps.{at_node, set_links, resize, make_file, make_directory, add_name, take_name, drop_node, write_blocks, cut_blocks, clear_tail}
-use Rattle.volume_steps.specs.Calls.{at_place, at_path, mkdir_in, mkdir, create_in, create, rmdir_in, rmdir, lose_link, unlink_in, unlink, link_in, link, write_at, write, truncate_at, truncate, changed, called, called_by}
+use Rattle.volume_steps.specs.Steps.{set_links, resize, make_file, make_directory, add_name, take_name, drop_node, write_blocks, cut_blocks, clear_tail, set_parent, lead_name}
+use Rattle.volume_steps.specs.Calls.{at_place, at_path, mkdir_in, mkdir, create_in, create, rmdir_in, rmdir, lose_link, unlink_in, unlink, link_in, link, write_at, write, truncate_at, truncate, changed, called, called_by, move_in, move_below, replace_in, renamed, rename}
 use Rattle.volume_steps.specs.Called.{FindsRoom}
 use Rattle.volume_steps.proofs.AllCalls.{any_call}
-use Rattle.call_lengths.specs.Lengths.{notes_in, bytes_in, blocks_in}
+use Rattle.call_lengths.specs.Lengths.{notes_in, blocks_in}
 use Rattle.call_lengths.proofs.Few.{Few, few_more, none_few, followed_few, if_few, node_few, row_few}
-use Rattle.call_lengths.proofs.Steps.{links_few, resize_few, make_file_few, make_directory_few, add_name_few, take_name_few, drop_node_few, write_blocks_few, cut_blocks_few, clear_tail_few}
+use Rattle.call_lengths.proofs.Steps.{links_few, resize_few, make_file_few, make_directory_few, add_name_few, take_name_few, drop_node_few, write_blocks_few, cut_blocks_few, clear_tail_few, set_parent_few, lead_name_few}
 
 place_few : (n p : ℕ) (v : VolumeNow) (path : List ℕ) (change : Place → Change) → ((x : Place) → Few n p (change x).touched) → Few n p (at_place v path change).touched
 place_few n p v path change f = row_few n p v (and_then_row (names_in path) (parent_of replies.Invalid (tree_of_now v))) change f
@@ -59,6 +59,40 @@ link_few v path other = path_few 15 0 v path (λ birth. at_place v other (λ pla
     place_few 15 0 v other (λ place. link_in v birth place.parent place.name) (λ x.
     followed_few 1 14 0 0 (set_links v birth (λ links. links + 1)) (λ w. add_name w x.parent x.name birth) (links_few v birth (λ links. links + 1)) (λ w. add_name_few w x.parent x.name birth)))
 
+-- another name: with the old one gone, the new one comes; a directory may get another parent, and a file may lose a link
+move_few : (v : VolumeNow) (from : ℕ) (name : List ℕ) (to : ℕ) (other : List ℕ) (birth : ℕ) → Few 22 0 (move_in v from name to other birth).touched
+move_few v from name to other birth = few_more 17 22 0 0 (move_in v from name to other birth).touched (omega arith) (omega arith)
+    (followed_few 3 14 0 0 (take_name v from name) (λ w. add_name w to other birth) (take_name_few v from name) (λ w. add_name_few w to other birth))
+
+below_few : (v : VolumeNow) (from : ℕ) (name : List ℕ) (to : ℕ) (other : List ℕ) (birth : ℕ) → Few 22 0 (move_below v from name to other birth).touched
+below_few v from name to other birth =
+    followed_few 3 19 0 0 (take_name v from name) (λ u. followed_by (set_links u from (λ links. links - 1)) (λ w. followed_by (set_parent w birth to) (λ x. followed_by (set_links x to (λ links. links + 1)) (λ y. add_name y to other birth)))) (take_name_few v from name) (λ u.
+    followed_few 1 18 0 0 (set_links u from (λ links. links - 1)) (λ w. followed_by (set_parent w birth to) (λ x. followed_by (set_links x to (λ links. links + 1)) (λ y. add_name y to other birth))) (links_few u from (λ links. links - 1)) (λ w.
+    followed_few 3 15 0 0 (set_parent w birth to) (λ x. followed_by (set_links x to (λ links. links + 1)) (λ y. add_name y to other birth)) (set_parent_few w birth to) (λ x.
+    followed_few 1 14 0 0 (set_links x to (λ links. links + 1)) (λ y. add_name y to other birth) (links_few x to (λ links. links + 1)) (λ y. add_name_few y to other birth))))
+
+replace_few : (v : VolumeNow) (tx from : ℕ) (name : List ℕ) (to : ℕ) (other : List ℕ) (birth gone : ℕ) → Few 22 0 (replace_in v tx from name to other birth gone).touched
+replace_few v tx from name to other birth gone = few_more 9 22 0 0 (replace_in v tx from name to other birth gone).touched (omega arith) (omega arith)
+    (followed_few 3 6 0 0 (take_name v from name) (λ u. followed_by (lead_name u to other birth) (λ w. lose_link w tx gone)) (take_name_few v from name) (λ u.
+    followed_few 3 3 0 0 (lead_name u to other birth) (λ w. lose_link w tx gone) (lead_name_few u to other birth) (λ w. lose_few w tx gone)))
+
+renamed_few : (v : VolumeNow) (tx : ℕ) (m : Move) → Few 22 0 (renamed v tx m).touched
+renamed_few v tx m = if_few 22 0 (stays m) (unchanged v) _ (none_few 22 0) (by m.target)
+  where
+    by : (o : Option Found) → Few 22 0 (elim o as (λ _. Change) [
+      | Some t ↦ replace_in v tx m.from.parent m.from.name m.to.parent m.to.name m.moved.birth t.birth
+      | None ↦ if moves_directory m && changes_parent m then move_below v m.from.parent m.from.name m.to.parent m.to.name m.moved.birth else move_in v m.from.parent m.from.name m.to.parent m.to.name m.moved.birth
+    ]).touched
+    by (Some t) = replace_few v tx m.from.parent m.from.name m.to.parent m.to.name m.moved.birth t.birth
+    by None = if_few 22 0 (moves_directory m && changes_parent m) _ _ (below_few v m.from.parent m.from.name m.to.parent m.to.name m.moved.birth) (move_few v m.from.parent m.from.name m.to.parent m.to.name m.moved.birth)
+
+rename_few : (v : VolumeNow) (tx : ℕ) (path other : List ℕ) → Few 22 0 (rename v tx path other).touched
+rename_few v tx path other =
+    row_few 22 0 v (walk_path (tree_of_now v) path) (λ found. at_place v path (λ from. at_place v other (λ to. renamed v tx (record { moved = found; from = from; to = to; target = target_at (tree_of_now v) to })))) (λ found.
+    place_few 22 0 v path (λ from. at_place v other (λ to. renamed v tx (record { moved = found; from = from; to = to; target = target_at (tree_of_now v) to }))) (λ from.
+    place_few 22 0 v other (λ to. renamed v tx (record { moved = found; from = from; to = to; target = target_at (tree_of_now v) to })) (λ to.
+    renamed_few v tx (record { moved = found; from = from; to = to; target = target_at (tree_of_now v) to }))))
+
 blocks_few : (off len : ℕ) → length (touched_blocks off len) ≤ len / 1024 + 2
 blocks_few off len = by (len == 0)
   where
@@ -92,7 +126,7 @@ changed_few v n tx (calls.Write path off len value) =
 changed_few v n tx (calls.Bytes path off bytes) =
     few_more (11 * (length bytes / 1024 + 2) + 2) (11 * (length bytes / 1024 + 2) + 30) (length bytes / 1024 + 2) (length bytes / 1024 + 2) (write v path off bytes).touched (omega arith) (omega arith) (write_few v path off (length bytes) bytes refl)
 changed_few v n tx (calls.Truncate path size) = few_more 6 52 1 2 (truncate v tx path size).touched (omega arith) (omega arith) (truncate_few v tx path size)
-changed_few v n tx (calls.Rename path other) = none_few 52 2
+changed_few v n tx (calls.Rename path other) = few_more 22 52 0 2 (rename v tx path other).touched (omega arith) (omega arith) (rename_few v tx path other)
 changed_few v n tx (calls.Read path off len) = none_few 52 2
 changed_few v n tx (calls.List path) = none_few 52 2
 changed_few v n tx (calls.Stat path) = none_few 52 2

@@ -1,5 +1,5 @@
 -- How much each step tells.
-use Rattle.std.proofs.Common.{◌≡◌, ℕ, ◌+◌, ◌*◌, ◌/◌, ◌%◌, ◌-◌, suc, ◌≤◌, ◌==◌, ◌||◌, not, nat_eq, nat_lt, nat_le, Bool, true, false, if◌then◌else◌, List, [], ◌∷◌, ◌++◌, length, length-append, map, filter, Option, Some, None, refl, sym, ap, ◌∙◌, arith}
+use Rattle.std.proofs.Common.{ℕ, ◌+◌, ◌*◌, ◌/◌, ◌%◌, ◌-◌, suc, ◌≤◌, ◌==◌, ◌||◌, not, nat_eq, nat_lt, nat_le, Bool, true, false, if◌then◌else◌, List, [], ◌∷◌, ◌++◌, length, length-append, map, filter, Option, Some, None, arith}
 use Rattle.std.specs.List.{list_any, slice_get}
 use Rattle.std.proofs.lemmas.List.{length-map}
 use Rattle.byte_fields.specs.Fields.{zeros}
@@ -14,7 +14,7 @@ use Rattle.volume_model.specs.declared.placed.Placed.{Placed}
 use Rattle.volume_model.specs.declared.placed.Part.{Part}
 use Rattle.volume_model.specs.declared.placed.Part.TheVariants as parts
 use Rattle.volume_model.specs.declared.placed.DirectoryPart.{DirectoryPart}
-use Rattle.volume_model.specs.Edits.{Edit, clear_from, touched_by, touched_by_all}
+use Rattle.volume_model.specs.Edits.{clear_from, touched_by, touched_by_all}
 use Rattle.volume_model.specs.Touched.{Contents}
 use Rattle.volume_model.specs.Volume.{Place, block, indirect, double, inner, zone_in}
 use Rattle.volume_model.specs.Ways.{Home, slot, entry, nowhere, home, way}
@@ -24,7 +24,7 @@ use Rattle.volume_model.specs.Moves.{opened, name_removed, file_mapped_touches, 
 use Rattle.volume_model.specs.Counts.{keeps_below, indices_of}
 use Rattle.volume_steps.specs.Now.{VolumeNow, Change, unchanged, with_contents, written, tells_writes}
 use Rattle.volume_steps.specs.Zones.{zone_bit, numbers_if, lacks_outer, lacks_second, take_zones}
-use Rattle.volume_steps.specs.Steps.{tells_node, drop_edits, set_links, resize, make_file, make_directory, map_file_block, map_directory_block, make_room, put_name_slot, add_name, has_name, place_of, take_name, block_zones, all_numbers, metadata_gone, node_dropped, drop_node, put_page, write_block, write_blocks, blocks_cut, cut_blocks, clear_tail}
+use Rattle.volume_steps.specs.Steps.{tells_node, drop_edits, set_links, resize, make_file, make_directory, map_file_block, map_directory_block, make_room, put_name_slot, add_name, place_of, take_name, block_zones, all_numbers, metadata_gone, node_dropped, drop_node, put_page, write_block, write_blocks, blocks_cut, cut_blocks, clear_tail, set_parent, lead_name}
 use Rattle.call_lengths.proofs.Few.{Few, few_more, none_few, few_then, followed_few, if_few, node_few, directory_few, file_few, filter_less}
 
 -- ---- an inode's fields, and nodes that come
@@ -124,6 +124,12 @@ put_name_few v n name birth = directory_few 3 0 v n _ (λ p d. node_few 3 0 v bi
 
 pub add_name_few : (v : VolumeNow) (n : ℕ) (name : List ℕ) (birth : ℕ) → Few 14 0 (add_name v n name birth).touched
 add_name_few v n name birth = followed_few 11 3 0 0 (make_room v n) (λ w. put_name_slot w n name birth) (make_room_few v n) (λ w. put_name_few w n name birth)
+
+pub set_parent_few : (v : VolumeNow) (n parent : ℕ) → Few 3 0 (set_parent v n parent).touched
+set_parent_few v n parent = directory_few 3 0 v n _ (λ p d. node_few 3 0 v parent _ (λ above. record { noted = omega arith; written = omega arith }))
+
+pub lead_name_few : (v : VolumeNow) (n : ℕ) (name : List ℕ) (birth : ℕ) → Few 3 0 (lead_name v n name birth).touched
+lead_name_few v n name birth = directory_few 3 0 v n _ (λ p d. node_few 3 0 v birth _ (λ child. record { noted = omega arith; written = omega arith }))
 
 pub take_name_few : (v : VolumeNow) (n : ℕ) (name : List ℕ) → Few 3 0 (take_name v n name).touched
 take_name_few v n name = directory_few 3 0 v n _ (λ p d. by p d (slice_get d.slots (place_of name d.slots)))

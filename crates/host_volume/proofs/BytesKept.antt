@@ -20,7 +20,7 @@ use Rattle.minix_layout.specs.Slots.{slot_bytes}
 use Rattle.tree_model.specs.declared.call.Call.{Call}
 use Rattle.tree_model.specs.declared.call.Call.TheVariants as calls
 use Rattle.tree_model.specs.declared.call.Reply.TheVariants as replies
-use Rattle.tree_model.specs.Calls.{Tree, Place, Row, names_in, parent_of, and_then, touched_blocks, max, outcome, patched, cut_body}
+use Rattle.tree_model.specs.Calls.{Tree, Place, Row, target_at, names_in, parent_of, and_then, touched_blocks, max, outcome, patched, cut_body}
 use Rattle.tree_model.specs.Paths.{is_name_byte, is_dot, path_of}
 use Rattle.tree_model.proofs.PlainCalls.{good_name}
 use Rattle.tree_model.proofs.Rows.{then_ok, some_ok, parent_ok}
@@ -37,13 +37,13 @@ use Rattle.volume_model.specs.Touched.{Contents}
 use Rattle.volume_model.specs.NewVolume.{root_inode, dot_slot, dots_slot, new_blocks}
 use Rattle.volume_model.specs.Volume.{Place as FilePlace, block, indirect, double, inner, zone_in}
 use Rattle.volume_model.specs.Ways.{Home, slot, entry, nowhere, home, way}
-use Rattle.volume_steps.specs.Calls.{lose_link, write, changed, called, called_by}
+use Rattle.volume_steps.specs.Calls.{lose_link, write, changed, called, called_by, move_below}
 use Rattle.volume_steps.specs.Now.{VolumeNow, Change, tree_of_now, room_of, unchanged, written}
-use Rattle.volume_steps.specs.Steps.{set_links, resize, make_file, make_directory, map_file_block, map_directory_block, make_room, put_name_slot, add_name, take_name, place_of, drop_node, block_zones, all_numbers, put_page, write_block, write_blocks, blocks_cut, cut_blocks, clear_tail}
+use Rattle.volume_steps.specs.Steps.{set_links, resize, make_file, make_directory, map_file_block, map_directory_block, make_room, put_name_slot, add_name, set_parent, lead_name, take_name, place_of, drop_node, block_zones, all_numbers, put_page, write_block, write_blocks, blocks_cut, cut_blocks, clear_tail}
 use Rattle.volume_steps.specs.Zones.{inode_bit, zone_bit, new_number, next_zone, take_zones}
 use Rattle.host_volume.specs.ByteCalls.{HasBytes}
 use Rattle.host_volume.specs.Volumes.{AreBytes, HaveBytes}
-use Rattle.host_volume.proofs.StepLooks.{taken_out, by_node, by_directory, by_file, by_test, by_place, by_path}
+use Rattle.host_volume.proofs.StepLooks.{taken_out, by_node, by_directory, by_file, by_test, by_place, by_path, by_found, by_rename}
 
 -- ---- lists of bytes
 
@@ -336,6 +336,14 @@ room_keeps v n r = by_directory P v n _ r (λ p d at is. by_test P (nat_eq (room
 name_added : (v : VolumeNow) (n : ℕ) (name : List ℕ) (birth : ℕ) → AreBytes name → P v.contents → InChange (add_name v n name birth)
 name_added v n name birth h r = slot_put_keeps (make_room v n).volume n name birth h (room_keeps v n r)
 
+parent_set : (v : VolumeNow) (n parent : ℕ) → P v.contents → InChange (set_parent v n parent)
+parent_set v n parent r = by_directory P v n _ r (λ p d at is. by_node P v parent _ r (λ above there.
+    inode_keeps v.geometry _ _ _ (slot_keeps v.geometry v.contents.blocks _ _ (Some (record { inode = above.number; name = codes ".." })) dots_bytes r)))
+
+name_led : (v : VolumeNow) (n : ℕ) (name : List ℕ) (birth : ℕ) → AreBytes name → P v.contents → InChange (lead_name v n name birth)
+name_led v n name birth h r = by_directory P v n _ r (λ p d at is. by_node P v birth _ r (λ child there.
+    inode_keeps v.geometry _ _ _ (slot_keeps v.geometry v.contents.blocks _ _ (Some (record { inode = child.number; name = name })) h r)))
+
 node_gone : (v : VolumeNow) (tx n : ℕ) → P v.contents → InChange (drop_node v tx n)
 node_gone v tx n r = by_node P v n _ r (λ p at.
     inode_keeps v.geometry _ _ _
@@ -374,6 +382,14 @@ blocks_keep : (v : VolumeNow) (n off : ℕ) (bytes : List ℕ) (indices : List �
 blocks_keep v n off bytes [] h r = r
 blocks_keep v n off bytes (index ∷ indices) h r = blocks_keep (write_block v n off bytes index).volume n off bytes indices h (block_keeps v n off bytes index h r)
 
+below_keeps : (v : VolumeNow) (from : ℕ) (name : List ℕ) (to : ℕ) (other : List ℕ) (birth : ℕ) → AreBytes other → P v.contents → InChange (move_below v from name to other birth)
+below_keeps v from name to other birth h r =
+    let v1 = (take_name v from name).volume in
+    let v2 = (set_links v1 from (λ links. links - 1)).volume in
+    let v3 = (set_parent v2 birth to).volume in
+    let v4 = (set_links v3 to (λ links. links + 1)).volume in
+    name_added v4 to other birth h (links_keep v3 to (λ links. links + 1) (parent_set v2 birth to (links_keep v1 from (λ links. links - 1) (name_taken v from name r))))
+
 -- ---- calls
 
 module _ (v : VolumeNow) (n tx : ℕ) (r : P v.contents) where
@@ -393,6 +409,13 @@ module _ (v : VolumeNow) (n tx : ℕ) (r : P v.contents) where
       link_lost (take_name v place.parent place.name).volume tx found.birth (name_taken v place.parent place.name r)))
   changed_keeps (calls.Link path other) h = by_path P v path _ r (λ found f. by_place P v other _ r (λ place e.
       name_added (set_links v found.birth (λ links. links + 1)).volume place.parent place.name found.birth (place_bytes (tree_of_now v) other place e) (links_keep v found.birth (λ links. links + 1) r)))
+  changed_keeps (calls.Rename path other) h = by_found P v path _ r (λ found f. by_place P v path _ r (λ from e. by_place P v other _ r (λ to g.
+      by_rename P v tx (record { moved = found; from = from; to = to; target = target_at (tree_of_now v) to }) r
+      (λ t is.
+      link_lost (lead_name (take_name v from.parent from.name).volume to.parent to.name found.birth).volume tx t.birth
+      (name_led (take_name v from.parent from.name).volume to.parent to.name found.birth (place_bytes (tree_of_now v) other to g) (name_taken v from.parent from.name r)))
+      (below_keeps v from.parent from.name to.parent to.name found.birth (place_bytes (tree_of_now v) other to g) r)
+      (name_added (take_name v from.parent from.name).volume to.parent to.name found.birth (place_bytes (tree_of_now v) other to g) (name_taken v from.parent from.name r)))))
   changed_keeps (calls.Write path off len value) h = written_keeps path off (replicate len value) (same_bytes len value h)
   changed_keeps (calls.Bytes path off bytes) h = written_keeps path off bytes h
   changed_keeps (calls.Truncate path size) h = by_path P v path _ r (λ found f.

@@ -1,4 +1,5 @@
 -- The root keeps the zone of its first block, whatever a call does.
+use Rattle.tree_model.specs.declared.node.Node.{Node}
 use Rattle.std.specs.Prelude.{◌≡◌, ◌≢◌, ◌+◌, ◌-◌, ◌/◌, ◌%◌, ◌&&◌, ◌||◌, ℕ, zero, suc, nat_eq, nat_lt, nat_le, Bool, true, false, if◌then◌else◌, List, [], ◌∷◌, length, map, replicate, slice_index, slice_get, slice_set, Option, Some, None, Ok, Err, refl}
 use Rattle.std.proofs.Common.{sym, ap, subst, ◌∙◌, arith, inl, inr}
 use Rattle.std.specs.Int.{div_ceil}
@@ -14,8 +15,8 @@ use Rattle.minix_layout.specs.declared.slot.Slot.{Slot}
 use Rattle.tree_model.specs.declared.call.Call.{Call}
 use Rattle.tree_model.specs.declared.call.Call.TheVariants as calls
 use Rattle.tree_model.specs.declared.call.Reply.TheVariants as replies
-use Rattle.tree_model.specs.Calls.{Tree, Place, Found, Row, names_in, parent_of, walk, walk_path, and_then, touched_blocks, max, outcome}
-use Rattle.tree_model.specs.Maps.{at_number, put_number, without_number}
+use Rattle.tree_model.specs.Calls.{Tree, Place, Found, Row, target_at, names_in, parent_of, walk, walk_path, and_then, touched_blocks, max, outcome}
+use Rattle.tree_model.specs.Maps.{at_number, put_number, without_number, at_name}
 use Rattle.tree_model.specs.laws.MapsLaws.{number_same, at_put_number, at_put_number_apart}
 use Rattle.tree_model.specs.Rooted.{IsRooted}
 use Rattle.tree_model.proofs.Rows.{ok_ok, then_ok, parent_ok, walk_ok, place_gives}
@@ -30,11 +31,11 @@ use Rattle.dir_ops.specs.Slots.{room}
 use Rattle.volume_model.specs.Moves.{opened}
 use Rattle.volume_model.specs.Volume.{Place as FilePlace, block, indirect, double, inner, zone_in}
 use Rattle.volume_steps.specs.Now.{VolumeNow, Change, tree_of_now, room_of, unchanged, written}
-use Rattle.volume_steps.specs.Steps.{set_links, resize, make_file, make_directory, map_directory_block, make_room, put_name_slot, add_name, take_name, place_of, drop_node, write_block, write_blocks, cut_blocks, clear_tail}
+use Rattle.volume_steps.specs.Steps.{set_links, resize, make_file, make_directory, map_directory_block, make_room, put_name_slot, add_name, set_parent, lead_name, take_name, place_of, drop_node, write_block, write_blocks, cut_blocks, clear_tail}
 use Rattle.volume_steps.specs.Zones.{zone_bit, take_zones}
-use Rattle.host_volume.proofs.StepLooks.{taken_out, by_node, by_directory, by_file, by_test, by_place, by_path}
+use Rattle.host_volume.proofs.StepLooks.{taken_out, by_node, by_directory, by_file, by_test, by_place, by_path, by_found, by_rename}
 use Rattle.volume_model.specs.Touched.{Contents}
-use Rattle.volume_steps.specs.Calls.{lose_link, write, changed, called, called_by}
+use Rattle.volume_steps.specs.Calls.{lose_link, write, changed, called, called_by, move_below}
 
 abbrev is_directory_part : Part → Bool
 is_directory_part (parts.Directory d) = true
@@ -183,6 +184,14 @@ module _ (zone : ℕ) (some : zone ≢ 0) where
   name_added : (v : VolumeNow) (n : ℕ) (name : List ℕ) (birth : ℕ) → RootIs v.contents.nodes → InChange (add_name v n name birth)
   name_added v n name birth r = slot_put_keeps (make_room v n).volume n name birth (room_keeps v n r)
 
+  parent_set : (v : VolumeNow) (n parent : ℕ) → RootIs v.contents.nodes → InChange (set_parent v n parent)
+  parent_set v n parent r =
+      by_directory P v n _ r (λ p d at is. by_node P v parent _ r (λ above there. put_like v.contents.nodes n p _ at (sym (ap is_directory_part is)) (λ z. z) r))
+
+  name_led : (v : VolumeNow) (n : ℕ) (name : List ℕ) (birth : ℕ) → RootIs v.contents.nodes → InChange (lead_name v n name birth)
+  name_led v n name birth r =
+      by_directory P v n _ r (λ p d at is. by_node P v birth _ r (λ child there. put_like v.contents.nodes n p _ at (sym (ap is_directory_part is)) (λ z. z) r))
+
   -- ---- nodes and blocks go
 
   node_gone : (v : VolumeNow) (tx n : ℕ) → n ≢ 0 → RootIs v.contents.nodes → InChange (drop_node v tx n)
@@ -206,6 +215,14 @@ module _ (zone : ℕ) (some : zone ≢ 0) where
   blocks_keep v n off bytes [] r = r
   blocks_keep v n off bytes (index ∷ indices) r = blocks_keep (write_block v n off bytes index).volume n off bytes indices (block_keeps v n off bytes index r)
 
+  below_keeps : (v : VolumeNow) (from : ℕ) (name : List ℕ) (to : ℕ) (other : List ℕ) (birth : ℕ) → RootIs v.contents.nodes → InChange (move_below v from name to other birth)
+  below_keeps v from name to other birth r =
+      let v1 = (take_name v from name).volume in
+      let v2 = (set_links v1 from (λ links. links - 1)).volume in
+      let v3 = (set_parent v2 birth to).volume in
+      let v4 = (set_links v3 to (λ links. links + 1)).volume in
+      name_added v4 to other birth (links_keep v3 to (λ links. links + 1) (parent_set v2 birth to (links_keep v1 from (λ links. links - 1) (name_taken v from name r))))
+
   -- ---- calls
 
   -- a path that has a parent does not lead to the root
@@ -217,6 +234,21 @@ module _ (zone : ℕ) (some : zone ≢ 0) where
       let p = parent_ok replies.Invalid tree x.0 place x.2 in
       let f = walk_ok tree x.0 found (subst (λ names. walk tree names ≡ Ok found) same y.2) in
       rooted.no_root place.parent place.name found.birth (place_gives tree x.0 place found p f)
+
+  -- what a name leads to is not the root
+  met_no_root : (tree : Tree) → IsRooted tree → (path : List ℕ) (place : Place) (t : Found) → and_then (names_in path) (parent_of replies.Invalid tree) ≡ Ok place → target_at tree place ≡ Some t → t.birth ≢ 0
+  met_no_root tree rooted path place t parent target =
+      let x = then_ok (names_in path) (parent_of replies.Invalid tree) place parent in
+      let p = parent_ok replies.Invalid tree x.0 place x.2 in
+      rooted.no_root place.parent place.name t.birth (record { directory = place.directory; stands = p.stands; named = by (at_name place.directory.names place.name) target })
+    where
+      by_node : (birth : ℕ) (o : Option Node) → (elim o as (λ _. Option Found) [ None ↦ None | Some y ↦ Some (record { birth = birth; node = y }) ]) ≡ Some t → birth ≡ t.birth
+      by_node birth None e = absurd (none-some t e)
+      by_node birth (Some y) e = ap (λ (t : Found). t.birth) (same_Some (record { birth = birth; node = y }) t e)
+
+      by : (o : Option ℕ) → (elim o as (λ _. Option Found) [ None ↦ None | Some b ↦ elim (at_number tree b) as (λ _. Option Found) [ None ↦ None | Some y ↦ Some (record { birth = b; node = y }) ] ]) ≡ Some t → o ≡ Some t.birth
+      by None e = absurd (none-some t e)
+      by (Some b) e = ap Some (by_node b (at_number tree b) e)
 
   module _ (v : VolumeNow) (rooted : IsRooted (tree_of_now v)) (n tx : ℕ) (apart : n ≢ 0) (r : RootIs v.contents.nodes) where
     written_keeps : (path : List ℕ) (off : ℕ) (bytes : List ℕ) → InChange (write v path off bytes)
@@ -236,6 +268,13 @@ module _ (zone : ℕ) (some : zone ≢ 0) where
         link_lost (take_name v place.parent place.name).volume tx found.birth (below_root (tree_of_now v) rooted path place found e f) (name_taken v place.parent place.name r)))
     changed_keeps (calls.Link path other) = by_path P v path _ r (λ found f. by_place P v other _ r (λ place e.
         name_added (set_links v found.birth (λ links. links + 1)).volume place.parent place.name found.birth (links_keep v found.birth (λ links. links + 1) r)))
+    changed_keeps (calls.Rename path other) = by_found P v path _ r (λ found f. by_place P v path _ r (λ from e. by_place P v other _ r (λ to g.
+        by_rename P v tx (record { moved = found; from = from; to = to; target = target_at (tree_of_now v) to }) r
+        (λ t is.
+        link_lost (lead_name (take_name v from.parent from.name).volume to.parent to.name found.birth).volume tx t.birth (met_no_root (tree_of_now v) rooted other to t g is)
+        (name_led (take_name v from.parent from.name).volume to.parent to.name found.birth (name_taken v from.parent from.name r)))
+        (below_keeps v from.parent from.name to.parent to.name found.birth r)
+        (name_added (take_name v from.parent from.name).volume to.parent to.name found.birth (name_taken v from.parent from.name r)))))
     changed_keeps (calls.Write path off len value) = written_keeps path off (replicate len value)
     changed_keeps (calls.Bytes path off bytes) = written_keeps path off bytes
     changed_keeps (calls.Truncate path size) = by_path P v path _ r (λ found f.

@@ -1,8 +1,8 @@
 -- What holds after a step or a call holds where it looks: at a node, a directory, a file, or along a path.
-use Rattle.std.specs.Prelude.{◌≡◌, ℕ, ◌/◌, Bool, true, false, if◌then◌else◌, List, [], ◌∷◌, Option, Some, None, Result, Ok, Err, refl}
+use Rattle.std.specs.Prelude.{◌≡◌, ℕ, ◌/◌, Bool, true, false, if◌then◌else◌, List, [], ◌∷◌, Option, Some, None, Result, Ok, Err, refl, ◌&&◌}
 use Rattle.tree_model.specs.declared.call.Reply.{Reply}
 use Rattle.tree_model.specs.declared.call.Reply.TheVariants as replies
-use Rattle.tree_model.specs.Calls.{Place, Found, names_in, parent_of, walk_path, and_then}
+use Rattle.tree_model.specs.Calls.{Place, Found, Move, names_in, parent_of, walk_path, and_then, stays, moves_directory, changes_parent}
 use Rattle.tree_model.specs.Maps.{at_number}
 use Rattle.volume_ops.specs.declared.found.Mapped.{Mapped}
 use Rattle.volume_model.specs.declared.placed.Placed.{Placed}
@@ -16,7 +16,7 @@ use Rattle.volume_ops.specs.Places.{table_block}
 use Rattle.minix_layout.specs.declared.slot.Slot.{Slot}
 use Rattle.volume_steps.specs.Now.{VolumeNow, Change, tree_of_now, unchanged, with_contents}
 use Rattle.volume_steps.specs.Steps.{at_node, at_directory, at_file, tells_node}
-use Rattle.volume_steps.specs.Calls.{at_place, at_path}
+use Rattle.volume_steps.specs.Calls.{at_place, at_path, at_found, move_in, move_below, replace_in, renamed}
 
 -- a name that is taken out of a directory, with the slot at this place
 abbrev pub taken_out : VolumeNow → ℕ → Placed → DirectoryPart → ℕ → Slot → Change
@@ -70,3 +70,23 @@ module _ (P : Contents → Type 0) where
       by : (x : Result Found Reply) → walk_path (tree_of_now v) path ≡ x → InChange (elim x as (λ _. Change) [ Err reply ↦ unchanged v | Ok found ↦ change found.birth ])
       by (Err reply) e = r
       by (Ok found) e = h found e
+
+  pub by_found : (v : VolumeNow) (path : List ℕ) (change : Found → Change) → P v.contents → ((found : Found) → walk_path (tree_of_now v) path ≡ Ok found → InChange (change found)) → InChange (at_found v path change)
+  by_found v path change r h = by (walk_path (tree_of_now v) path) refl
+    where
+      by : (x : Result Found Reply) → walk_path (tree_of_now v) path ≡ x → InChange (elim x as (λ _. Change) [ Err reply ↦ unchanged v | Ok found ↦ change found ])
+      by (Err reply) e = r
+      by (Ok found) e = h found e
+
+  -- a rename, by what stands at the new place
+  pub by_rename : (v : VolumeNow) (tx : ℕ) (m : Move) → P v.contents →
+      ((t : Found) → m.target ≡ Some t → InChange (replace_in v tx m.from.parent m.from.name m.to.parent m.to.name m.moved.birth t.birth)) →
+      InChange (move_below v m.from.parent m.from.name m.to.parent m.to.name m.moved.birth) → InChange (move_in v m.from.parent m.from.name m.to.parent m.to.name m.moved.birth) → InChange (renamed v tx m)
+  by_rename v tx m r replaced below moved = by_test (stays m) _ _ r (by m.target refl)
+    where
+      by : (o : Option Found) → m.target ≡ o → InChange (elim o as (λ _. Change) [
+        | Some t ↦ replace_in v tx m.from.parent m.from.name m.to.parent m.to.name m.moved.birth t.birth
+        | None ↦ if moves_directory m && changes_parent m then move_below v m.from.parent m.from.name m.to.parent m.to.name m.moved.birth else move_in v m.from.parent m.from.name m.to.parent m.to.name m.moved.birth
+      ])
+      by (Some t) e = replaced t e
+      by None e = by_test (moves_directory m && changes_parent m) _ _ below moved

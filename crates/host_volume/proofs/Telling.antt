@@ -80,7 +80,6 @@ module _ (v : VolumeNow) (h : IsPlainNow v) (n : ℕ) (c : Call) (none : refusal
   finds_room = record {
     plain = h;
     born = born_before (tree_of_now v) n;
-    no_rename = no_rename v c none;
     enough = ⊎_elim
         (λ changes. let free = free_is v in let need = needs_is in let le = ltb-false (length (zones_of v).free) (needed v c) (enough changes) in omega arith)
         (λ no_zone. let zero_is = needs_none (tree_of_now v) (tree_is_plain v h) N c no_zone in omega arith)

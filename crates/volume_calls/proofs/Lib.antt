@@ -8,4 +8,5 @@ pub mod KeptNumbers
 pub mod Doing
 pub mod AskReplies
 pub mod AskSteps
+pub mod Renamed
 mod LastBirths

@@ -1,9 +1,8 @@
 //! What a volume answers to a call before it is done.
-ghost use Rattle.std.specs.Prelude.{◌≡◌, ◌-◌, ℕ, true, false, ◌&&◌, nat_le, length, Ok};
+ghost use Rattle.std.specs.Prelude.{◌≡◌, ◌-◌, ℕ, true, ◌&&◌, nat_le, length, Ok};
 ghost use Rattle.tree_model.specs.Calls.{Done, if_room, needs, outcome, row, takes_no_zone, used_zones};
 ghost use Rattle.tree_model.specs.Plain.{AreBornBefore};
 ghost use Rattle.volume_steps.specs.Now.{room_of, tree_of_now};
-ghost use Rattle.volume_steps.specs.Plain.{is_rename};
 ghost use Rattle.volume_calls.specs.Asked.{Answers};
 ghost use Rattle.volume_calls.specs.code.Asked.{IsAsked};
 ghost use Rattle.volume_calls.specs.code.Rows.{Agrees};
@@ -61,7 +60,6 @@ impl PlainVolume {
     // What refuses a call, or what it takes.
     #[tactic(auto, unfolding(tree_model::specs::Calls::row))]
     fn asks(&self, call: &Call) -> Result<Wants, Reply>
-        requires { is_rename call.now ≡ false }
         ensures { (n : ℕ) → AreBornBefore n (tree_of_now self.now) →
             IsAsked (tree_of_now self.now) result (row (tree_of_now self.now) n call.now) }
     {
@@ -69,15 +67,15 @@ impl PlainVolume {
             Call::Mkdir(path) => self.mkdir(path),
             Call::Create(path) => self.create(path),
             Call::Link(path, other) => self.link(path, other),
+            Call::Rename(path, other) => self.rename(path, other),
             Call::Write { path, off, len, .. } => self.write(path, *off, *len as usize),
             Call::Bytes { path, off, bytes } => self.write(path, *off, bytes.as_slice().len()),
             _ => self.takes_nothing(call),
         }
     }
 
-    /// How many zones the call would take, where its number is above those of all nodes. Renames are not told yet.
+    /// How many zones the call would take, where its number is above those of all nodes.
     pub fn needs(&self, call: &Call) -> u32
-        requires { is_rename call.now ≡ false }
         ensures { (n : ℕ) → AreBornBefore n (tree_of_now self.now) → result ≡ needs (tree_of_now self.now) n call.now }
     {
         let Ok(wants) = self.asks(call) else {
@@ -116,9 +114,8 @@ impl PlainVolume {
         Answer::Change
     }
 
-    /// What refuses a call, if anything does, where its number is above those of all nodes. Renames are not told yet.
+    /// What refuses a call, if anything does, where its number is above those of all nodes.
     pub fn reply(&self, call: &Call) -> Answer
-        requires { is_rename call.now ≡ false }
         ensures { (n : ℕ) → AreBornBefore n (tree_of_now self.now) →
             Answers result (outcome (room_of self.now.geometry) (tree_of_now self.now) n call.now) }
     {

@@ -271,6 +271,7 @@ impl PlainVolume {
         call: &Call,
     ) -> Result<(Reply, Touched), NoMemory>
         requires room { FindsRoom self.old n call.now }
+        requires no_rename { is_rename call.now ≡ false }
         ensures done { IfOk result (λ x. record { change = record { volume = self.new; touched = x.1.touched }; reply = x.0 } ≡ called self.old n tx call.now) }
         ensures memory { OnErr result (self.new ≡ self.old) }
     {

@@ -17,6 +17,7 @@ mod directories;
 mod laws;
 mod looks;
 mod plain;
+mod renames;
 mod rows;
 mod takes;
 mod walk;

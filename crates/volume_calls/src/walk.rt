@@ -73,7 +73,7 @@ impl PlainVolume {
     }
 
     // Where a name leads from a node.
-    fn step(&self, birth: u64, name: &[u8]) -> Result<u64, Reply>
+    pub(crate) fn step(&self, birth: u64, name: &[u8]) -> Result<u64, Reply>
         requires { IsTrue (is_path_name name.now) }
         ensures { result ≡ next_at (tree_of_now self.now) birth name.now }
     {

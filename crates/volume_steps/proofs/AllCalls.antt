@@ -33,6 +33,7 @@ use Rattle.volume_steps.proofs.FileCalls.{after_is, same_shape}
 use Rattle.volume_steps.proofs.FileCases.{file_call_is}
 use Rattle.volume_steps.proofs.Files.{file_now, node_is_file}
 use Rattle.volume_steps.proofs.LinkCall.{link_done}
+use Rattle.volume_steps.proofs.RenameCall.{rename_done}
 use Rattle.volume_steps.proofs.MkdirCall.{mkdir_done}
 use Rattle.volume_steps.proofs.PlainNow.{tree_is_plain}
 use Rattle.volume_steps.proofs.RmdirCall.{rmdir_done}
@@ -132,7 +133,7 @@ any_call tx v n (calls.Create path) h = quiet_call tx v n (calls.Create path) h.
 any_call tx v n (calls.Rmdir path) h = quiet_call tx v n (calls.Rmdir path) h.plain refl (called_done tx v n (calls.Rmdir path) h.plain h.enough (λ d done more. rmdir_done tx v h.plain n h.born path d done))
 any_call tx v n (calls.Unlink path) h = quiet_call tx v n (calls.Unlink path) h.plain refl (called_done tx v n (calls.Unlink path) h.plain h.enough (λ d done more. unlink_done tx v h.plain n h.born path d done))
 any_call tx v n (calls.Link path other) h = quiet_call tx v n (calls.Link path other) h.plain refl (called_done tx v n (calls.Link path other) h.plain h.enough (λ d done more. link_done tx v h.plain n h.born path other d done more))
-any_call tx v n (calls.Rename path other) h = absurd (true≢false h.no_rename)
+any_call tx v n (calls.Rename path other) h = quiet_call tx v n (calls.Rename path other) h.plain refl (called_done tx v n (calls.Rename path other) h.plain h.enough (λ d done more. rename_done tx v h.plain n h.born path other d done more))
 any_call tx v n (calls.Write path off len value) h = bytes_call tx v n (calls.Write path off len value) h refl
 any_call tx v n (calls.Bytes path off bytes) h = bytes_call tx v n (calls.Bytes path off bytes) h refl
 any_call tx v n (calls.Truncate path size) h = bytes_call tx v n (calls.Truncate path size) h refl

@@ -41,6 +41,11 @@ pub mod FileCases
 pub mod GoneFiles
 pub mod GoneDirectories
 pub mod NameGoes
+pub mod SlotChanges
+pub mod RenameTree
+pub mod RenameLinks
+pub mod RenameCall
+pub mod RenameZones
 pub mod UnlinkCall
 pub mod RmdirCall
 pub mod AllCalls

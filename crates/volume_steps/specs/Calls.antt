@@ -1,14 +1,14 @@
 -- Calls on a volume: which steps each one is made of. What refuses a call, and what it replies, is the tree's matter.
-use Rattle.std.specs.Prelude.{ℕ, ◌+◌, ◌-◌, nat_le, if◌then◌else◌, List, length, replicate, Ok, Err}
+use Rattle.std.specs.Prelude.{ℕ, ◌+◌, ◌-◌, nat_le, ◌&&◌, if◌then◌else◌, List, length, replicate, Some, None, Ok, Err}
 use Rattle.std.specs.Int.{div_ceil}
 use Rattle.tree_model.specs.declared.call.Call.{Call}
 use Rattle.tree_model.specs.declared.call.Call.TheVariants as calls
 use Rattle.tree_model.specs.declared.call.Reply.{Reply}
 use Rattle.tree_model.specs.declared.call.Reply.TheVariants as replies
-use Rattle.tree_model.specs.Calls.{Place, names_in, parent_of, walk_path, touched_blocks, max, Row, outcome, and_then as and_then_row}
+use Rattle.tree_model.specs.Calls.{Place, Found, Move, names_in, parent_of, walk_path, target_at, stays, moves_directory, changes_parent, touched_blocks, max, Row, outcome, and_then as and_then_row}
 use Rattle.zone_maps.specs.Zones.{released}
 use Rattle.volume_steps.specs.Now.{VolumeNow, Change, tree_of_now, room_of, unchanged, followed_by, with_zone_states}
-use Rattle.volume_steps.specs.Steps.{at_node, set_links, resize, make_file, make_directory, add_name, take_name, drop_node, write_blocks, cut_blocks, clear_tail}
+use Rattle.volume_steps.specs.Steps.{at_node, set_links, resize, make_file, make_directory, add_name, take_name, set_parent, lead_name, drop_node, write_blocks, cut_blocks, clear_tail}
 
 -- ---- where a path leads
 
@@ -18,6 +18,9 @@ at_place v path change =
 
 abbrev pub at_path : VolumeNow → List ℕ → (ℕ → Change) → Change
 at_path v path change = elim (walk_path (tree_of_now v) path) as (λ _. Change) [ Err reply ↦ unchanged v | Ok found ↦ change found.birth ]
+
+abbrev pub at_found : VolumeNow → List ℕ → (Found → Change) → Change
+at_found v path change = elim (walk_path (tree_of_now v) path) as (λ _. Change) [ Err reply ↦ unchanged v | Ok found ↦ change found ]
 
 -- ---- what each call does, where nothing refuses it
 
@@ -66,6 +69,46 @@ link_in v birth parent name = followed_by (set_links v birth (λ links. links + 
 abbrev pub link : VolumeNow → List ℕ → List ℕ → Change
 link v path other = at_path v path (λ birth. at_place v other (λ place. link_in v birth place.parent place.name))
 
+-- a node gets another name, which no node has
+abbrev pub move_in : VolumeNow → ℕ → List ℕ → ℕ → List ℕ → ℕ → Change
+move_in v from name to other birth = followed_by (take_name v from name) (λ w. add_name w to other birth)
+
+-- so does a directory, below another parent: that has one link more, and the old one has one less
+abbrev pub move_below : VolumeNow → ℕ → List ℕ → ℕ → List ℕ → ℕ → Change
+move_below v from name to other birth =
+    followed_by (take_name v from name) (λ u.
+    followed_by (set_links u from (λ links. links - 1)) (λ w.
+    followed_by (set_parent w birth to) (λ x.
+    followed_by (set_links x to (λ links. links + 1)) (λ y.
+    add_name y to other birth))))
+
+-- a file gets the name of another one, which has one link less; at no links that is gone
+abbrev pub replace_in : VolumeNow → ℕ → ℕ → List ℕ → ℕ → List ℕ → ℕ → ℕ → Change
+replace_in v tx from name to other birth gone =
+    followed_by (take_name v from name) (λ u.
+    followed_by (lead_name u to other birth) (λ w.
+    lose_link w tx gone))
+
+-- where both names are of one node, nothing changes
+abbrev pub renamed : VolumeNow → ℕ → Move → Change
+renamed v tx m =
+    if stays m then unchanged v
+    else elim m.target as (λ _. Change) [
+      | Some t ↦ replace_in v tx m.from.parent m.from.name m.to.parent m.to.name m.moved.birth t.birth
+      | None ↦
+          if moves_directory m && changes_parent m then move_below v m.from.parent m.from.name m.to.parent m.to.name m.moved.birth
+          else move_in v m.from.parent m.from.name m.to.parent m.to.name m.moved.birth
+    ]
+
+abbrev pub rename : VolumeNow → ℕ → List ℕ → List ℕ → Change
+rename v tx path other =
+    at_found v path (λ found.
+    at_place v path (λ from.
+    at_place v other (λ to.
+    renamed v tx (record { moved = found; from = from; to = to; target = target_at (tree_of_now v) to }))))
+
+-- ---- bytes
+
 abbrev pub write_at : VolumeNow → ℕ → ℕ → List ℕ → Change
 write_at v birth off bytes =
     followed_by (write_blocks v birth off bytes (touched_blocks off (length bytes))) (λ w.
@@ -83,13 +126,14 @@ truncate_at v tx birth size =
 abbrev pub truncate : VolumeNow → ℕ → List ℕ → ℕ → Change
 truncate v tx path size = at_path v path (λ birth. truncate_at v tx birth size)
 
--- The call with number n, in transaction tx. Renames are not built yet: they change nothing here.
+-- The call with number n, in transaction tx.
 unfoldable pub changed : VolumeNow → ℕ → ℕ → Call → Change
 changed v n tx (calls.Mkdir path) = mkdir v n path
 changed v n tx (calls.Create path) = create v n path
 changed v n tx (calls.Rmdir path) = rmdir v tx path
 changed v n tx (calls.Unlink path) = unlink v tx path
 changed v n tx (calls.Link path other) = link v path other
+changed v n tx (calls.Rename path other) = rename v tx path other
 changed v n tx (calls.Write path off len value) = write v path off (replicate len value)
 changed v n tx (calls.Bytes path off bytes) = write v path off bytes
 changed v n tx (calls.Truncate path size) = truncate v tx path size

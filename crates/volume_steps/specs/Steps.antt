@@ -1,5 +1,5 @@
 -- The steps of which calls are made: nodes and names come and go, and blocks of a file are mapped, written and cut.
-use Rattle.std.specs.Prelude.{ℕ, ◌+◌, ◌/◌, ◌%◌, nat_eq, nat_le, Bool, true, false, ◌==◌, ◌&&◌, ◌||◌, if◌then◌else◌, List, [], ◌∷◌, ◌++◌, map, length, replicate, codes, Option, Some, None}
+use Rattle.std.specs.Prelude.{ℕ, ◌+◌, ◌/◌, ◌%◌, nat_eq, nat_le, Bool, true, false, ◌==◌, ◌&&◌, ◌||◌, if◌then◌else◌, List, [], ◌∷◌, ◌++◌, map, length, replicate, slice_set, codes, Option, Some, None}
 use Rattle.std.specs.Int.{div_ceil}
 use Rattle.std.specs.List.{list_any, range_with_len, slice_get}
 use Rattle.std.specs.Str.{bytes_eq}
@@ -8,7 +8,7 @@ use Rattle.minix_layout.specs.declared.division.Geometry.{Geometry}
 use Rattle.minix_layout.specs.declared.inode.Inode.{Inode}
 use Rattle.minix_layout.specs.declared.slot.Slot.{Slot}
 use Rattle.minix_layout.specs.Inodes.{new_directory_inode}
-use Rattle.tree_model.specs.Maps.{at_number, put_number}
+use Rattle.tree_model.specs.Maps.{at_number, put_number, put_name}
 use Rattle.tree_model.specs.Calls.{patched, cut_body}
 use Rattle.volume_ops.specs.declared.found.Mapped.{Mapped}
 use Rattle.volume_ops.specs.Places.{table_block}
@@ -25,7 +25,7 @@ use Rattle.volume_model.specs.Ways.{way}
 use Rattle.volume_model.specs.MapBlock.{own_of, all_edits}
 use Rattle.volume_model.specs.Counts.{keeps_below, indices_of}
 use Rattle.volume_model.specs.Touched.{Page, Touched, Contents, and_then}
-use Rattle.volume_model.specs.Moves.{opened, closed, with_size, added, node_removed, name_added, name_removed, file_mapped, directory_mapped, file_mapped_touches, file_cut, file_cut_touches, numbers_gone, page_of}
+use Rattle.volume_model.specs.Moves.{opened, closed, with_size, added, node_removed, slot_put, name_added, name_removed, file_mapped, directory_mapped, file_mapped_touches, file_cut, file_cut_touches, numbers_gone, page_of}
 use Rattle.volume_steps.specs.Now.{VolumeNow, Change, unchanged, followed_by, with_contents, written, tells_blocks, tells_writes}
 use Rattle.volume_steps.specs.Zones.{inode_bit, zone_bit, new_number, next_zone, all_given, take_zones}
 
@@ -185,6 +185,35 @@ take_name v n name = at_directory v n (λ p d.
         }
       ]
     ])
+
+-- ---- a directory gets another parent
+
+-- its second slot is `..`, which has the parent's inode
+abbrev pub with_parent : DirectoryPart → ℕ → Slot → DirectoryPart
+with_parent d parent s = record { parent = parent; names = d.names; slots = slice_set d.slots 1 (Some s) }
+
+abbrev pub set_parent : VolumeNow → ℕ → ℕ → Change
+set_parent v n parent = at_directory v n (λ p d. at_node v parent (λ above.
+    let s : Slot = record { inode = above.number; name = codes ".." } in
+    record {
+      volume = with_contents v (slot_put v.geometry v.contents n p 1 (Some s) (with_parent d parent s));
+      touched = tells_node n (zone_in v.contents.blocks p.inode (block (1 / 64)) ∷ table_block v.geometry p.number ∷ []);
+    }))
+
+-- ---- a name leads to another node
+
+-- it keeps its slot
+abbrev pub with_child : DirectoryPart → ℕ → Slot → ℕ → DirectoryPart
+with_child d k s birth = record { parent = d.parent; names = put_name d.names s.name birth; slots = slice_set d.slots k (Some s) }
+
+abbrev pub lead_name : VolumeNow → ℕ → List ℕ → ℕ → Change
+lead_name v n name birth = at_directory v n (λ p d. at_node v birth (λ child.
+    let k = place_of name d.slots in
+    let s : Slot = record { inode = child.number; name = name } in
+    record {
+      volume = with_contents v (slot_put v.geometry v.contents n p k (Some s) (with_child d k s birth));
+      touched = tells_node n (zone_in v.contents.blocks p.inode (block (k / 64)) ∷ table_block v.geometry p.number ∷ []);
+    }))
 
 -- ---- a node goes
 

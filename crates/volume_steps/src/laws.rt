@@ -21,7 +21,7 @@ ghost use Rattle.minix_layout.specs.declared.division.Geometry.{Geometry};
 ghost use Rattle.volume_steps.specs.Called.{FindsRoom};
 ghost use Rattle.volume_steps.specs.laws.Steady.{IsSteady, TakesLowest, shape_at};
 ghost use Rattle.volume_steps.specs.UsedInodes.{IsInodeUsed};
-ghost use Rattle.volume_steps.specs.laws.Sample.{small_volume, after_calls, touched_in, count_once, numbers_of, first_zones, first_session, removing_session, ten_directories};
+ghost use Rattle.volume_steps.specs.laws.Sample.{small_volume, after_calls, touched_in, count_once, numbers_of, first_zones, first_session, removing_session, renaming_session, ten_directories};
 
 use volume_model::new_volumes_are_plain;
 
@@ -42,18 +42,24 @@ pub fn refused_calls_change_nothing()
 /// A law, which does nothing when it is called: examples of calls on a small volume, of 64 zones with 32 inodes. A
 /// directory, a file in it and a first byte in that touch the two maps, the table, the root and the new directory, but
 /// not the block of the file; inodes are taken from the lowest on. What is removed then waits for its transaction, the
-/// file's zone first. Ten directories touch fourteen blocks: the maps, the table, the root, and a new one each.
+/// file's zone first. A file that moves touches both directories; a directory that moves besides its own first zone, for
+/// its `..`; and a file that takes another one's name the map of inodes, where that was its last. Ten directories touch
+/// fourteen blocks: the maps, the table, the root, and a new one each.
 pub fn examples_of_changes()
     ensures blocks { (touched_in 1 1 small_volume first_session).blocks ≡
         2 ∷ 3 ∷ 6 ∷ 6 ∷ 6 ∷ 4 ∷ 5 ∷ 4 ∷ 4 ∷ 2 ∷ 4 ∷ 6 ∷ 4 ∷ 3 ∷ 4 ∷ 4 ∷ [] }
     ensures numbers { numbers_of (after_calls 1 1 small_volume first_session) ≡ 1 ∷ 2 ∷ 3 ∷ [] }
     ensures freed { (touched_in 1 1 small_volume removing_session).freed ≡ 7 ∷ 6 ∷ [] }
     ensures wait { first_zones (after_calls 1 1 small_volume removing_session) ≡ states.Used ∷ states.Quarantined 1 ∷ states.Quarantined 1 ∷ [] }
+    ensures renames { (touched_in 1 1 small_volume renaming_session).blocks ≡
+        2 ∷ 3 ∷ 6 ∷ 6 ∷ 6 ∷ 4 ∷ 5 ∷ 4 ∷ 4 ∷ 2 ∷ 4 ∷ 6 ∷ 4 ∷ 6 ∷ 4 ∷ 5 ∷ 4 ∷ 2 ∷ 3 ∷ 7 ∷ 7 ∷ 7 ∷ 4 ∷ 5 ∷ 4 ∷ 4 ∷
+        5 ∷ 4 ∷ 4 ∷ 6 ∷ 4 ∷ 4 ∷ 7 ∷ 4 ∷ 2 ∷ 4 ∷ 5 ∷ 4 ∷ 5 ∷ 4 ∷ 5 ∷ 4 ∷ 2 ∷ 4 ∷ [] }
+    ensures left { numbers_of (after_calls 1 1 small_volume renaming_session) ≡ 1 ∷ 2 ∷ 4 ∷ 5 ∷ [] }
     ensures directories { count_once (touched_in 1 1 small_volume ten_directories).blocks ≡ 14 }
 {}
 
 /// A law, which does nothing when it is called: a call leaves a plain volume plain. So it is where no node has the call's
-/// number or a higher one, and as many zones are free as it needs; else it waits. Renames are not built yet.
+/// number or a higher one, and as many zones are free as it needs; else it waits.
 pub fn calls_keep_volumes_plain()
     ensures { (v : VolumeNow) (n tx : ℕ) (c : Call) → FindsRoom v n c → IsPlainNow (called v n tx c).change.volume }
 {}

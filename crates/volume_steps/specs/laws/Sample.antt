@@ -50,6 +50,13 @@ first_session = calls.Mkdir (codes "/a") ∷ calls.Create (codes "/a/f") ∷ cal
 abbrev pub removing_session : List Call
 removing_session = first_session ++ (calls.Unlink (codes "/a/f") ∷ calls.Rmdir (codes "/a") ∷ [])
 
+-- a file and a directory that move to other directories, and a file that takes another one's name
+abbrev pub renaming_session : List Call
+renaming_session =
+    calls.Mkdir (codes "/a") ∷ calls.Create (codes "/a/f") ∷ calls.Rename (codes "/a/f") (codes "/g")
+    ∷ calls.Mkdir (codes "/b") ∷ calls.Rename (codes "/a") (codes "/b/a")
+    ∷ calls.Create (codes "/h") ∷ calls.Rename (codes "/h") (codes "/g") ∷ []
+
 -- eleven directories, and the first ten of them
 abbrev pub ten_directories : List Call
 ten_directories = map calls.Mkdir (codes "/a" ∷ codes "/b" ∷ codes "/c" ∷ codes "/d" ∷ codes "/e" ∷ codes "/f" ∷ codes "/g" ∷ codes "/h" ∷ codes "/i" ∷ codes "/j" ∷ [])

@@ -11,4 +11,4 @@ use Rattle.volume_steps.proofs.laws.examples_of_changes.Goals as goal
 
 pub returns : goal.returns
 unfolding called changed outcome row tree_now path_of used_zones file_zones mapped_groups with_slot map_block zone_at
-returns c = record { blocks = refl; numbers = refl; freed = refl; wait = refl; directories = refl }
+returns c = record { blocks = refl; numbers = refl; freed = refl; wait = refl; renames = refl; left = refl; directories = refl }
