@@ -1,5 +1,5 @@
 -- How much each step tells.
-use Rattle.std.proofs.Common.{ℕ, ◌+◌, ◌*◌, ◌/◌, ◌%◌, ◌-◌, suc, ◌≤◌, ◌==◌, ◌||◌, not, nat_eq, nat_lt, nat_le, Bool, true, false, if◌then◌else◌, List, [], ◌∷◌, ◌++◌, length, length-append, map, filter, Option, Some, None, arith}
+use Rattle.std.proofs.Common.{ℕ, ◌+◌, ◌*◌, ◌/◌, ◌%◌, ◌-◌, suc, ◌≤◌, ◌==◌, ◌||◌, not, nat_eq, nat_lt, nat_le, Bool, true, false, if◌then◌else◌, List, [], ◌∷◌, ◌++◌, length, length-append, map, filter, Option, Some, None, arith, ◌&&◌}
 use Rattle.std.specs.List.{list_any, slice_get}
 use Rattle.std.proofs.lemmas.List.{length-map}
 use Rattle.byte_fields.specs.Fields.{zeros}
@@ -18,22 +18,33 @@ use Rattle.volume_model.specs.Edits.{clear_from, touched_by, touched_by_all}
 use Rattle.volume_model.specs.Touched.{Contents}
 use Rattle.volume_model.specs.Volume.{Place, block, indirect, double, inner, zone_in}
 use Rattle.volume_model.specs.Ways.{Home, slot, entry, nowhere, home, way}
-use Rattle.volume_model.specs.MapBlock.{OpenInode, TakenZones, own_of, entry_edits, gets_edits, step_edits, all_edits, get_step, taken_at, first_body}
-use Rattle.volume_model.specs.Cut.{cuts, cut_edits}
-use Rattle.volume_model.specs.Moves.{opened, name_removed, file_mapped_touches, numbers_gone, file_cut_touches}
+use Rattle.volume_model.specs.MapBlock.{OpenInode, TakenZones, own_of, entry_edits, gets_edits, step_edits, all_edits, get_step, taken_at, first_body, map_block}
+use Rattle.volume_model.specs.Cut.{cuts, cut_edits, cut_told, has_numbers, cut_to}
+use Rattle.volume_model.specs.Moves.{opened, name_removed, file_mapped_touches, numbers_gone, file_cut_touches, back_told, inode_told, same_inode, with_size, without_name, with_name}
 use Rattle.volume_model.specs.Counts.{keeps_below, indices_of}
 use Rattle.volume_steps.specs.Now.{VolumeNow, Change, unchanged, with_contents, written, tells_writes}
 use Rattle.volume_steps.specs.Zones.{zone_bit, numbers_if, lacks_outer, lacks_second, take_zones}
-use Rattle.volume_steps.specs.Steps.{tells_node, drop_edits, set_links, resize, make_file, make_directory, map_file_block, map_directory_block, make_room, put_name_slot, add_name, place_of, take_name, block_zones, all_numbers, metadata_gone, node_dropped, drop_node, put_page, write_block, write_blocks, blocks_cut, cut_blocks, clear_tail, set_parent, lead_name}
+use Rattle.volume_steps.specs.Steps.{tells_node, drop_edits, set_links, resize, make_file, make_directory, map_file_block, map_directory_block, make_room, put_name_slot, add_name, place_of, take_name, block_zones, all_numbers, metadata_gone, node_dropped, drop_node, put_page, write_block, write_blocks, blocks_cut, cut_blocks, clear_tail, set_parent, lead_name, with_links, slot_told, with_parent, with_child}
 use Rattle.call_lengths.proofs.Few.{Few, few_more, none_few, few_then, followed_few, if_few, node_few, directory_few, file_few, filter_less}
+use Rattle.minix_layout.specs.declared.inode.Inode.{Inode}
+use Rattle.std.specs.Prelude.{codes}
 
 -- ---- an inode's fields, and nodes that come
 
+-- an inode tells one block at most
+told_few : (g : Geometry) (p : Placed) (i : Inode) → length (back_told g p i) ≤ 1
+unfolding inode_told
+told_few g p i = by (same_inode i p.inode)
+  where
+    by : (b : Bool) → length (if b then [] else table_block g p.number ∷ []) ≤ 1
+    by true = omega arith
+    by false = omega arith
+
 pub links_few : (v : VolumeNow) (n : ℕ) (change : ℕ → ℕ) → Few 1 0 (set_links v n change).touched
-links_few v n change = node_few 1 0 v n _ (λ p. record { noted = omega arith; written = omega arith })
+links_few v n change = node_few 1 0 v n _ (λ p. let told = told_few v.geometry p (with_links p.inode (change p.inode.links)) in record { noted = omega (arith, told); written = omega arith })
 
 pub resize_few : (v : VolumeNow) (n : ℕ) (change : ℕ → ℕ) → Few 2 0 (resize v n change).touched
-resize_few v n change = node_few 2 0 v n _ (λ p. if_few 2 0 (change p.inode.size == p.inode.size) (unchanged v) _ (none_few 2 0) (record { noted = omega arith; written = omega arith }))
+resize_few v n change = node_few 2 0 v n _ (λ p. if_few 2 0 (change p.inode.size == p.inode.size) (unchanged v) _ (none_few 2 0) (let told = told_few v.geometry p (with_size p.inode (change p.inode.size)) in record { noted = omega (arith, told); written = omega arith }))
 
 pub make_file_few : (v : VolumeNow) (n : ℕ) → Few 3 0 (make_file v n).touched
 make_file_few v n = record { noted = omega arith; written = omega arith }
@@ -100,7 +111,10 @@ map_directory_few v n p d index =
     let bits = bits_few v.geometry (own_of (opened v.contents p)) index v.zones in
     let edits = edits_few v.geometry t.taken (zeros 1024) (opened c p) index in
     let first : Few 3 0 (tells_writes v.geometry (map (zone_bit v.geometry true) t.numbers)) = record { noted = omega (arith, bits); written = omega arith } in
-    let last : Few 8 0 (tells_node n (table_block v.geometry p.number ∷ touched_by_all v.geometry (all_edits v.geometry t.taken (zeros 1024) (opened c p) (way index)))) = record { noted = omega (arith, edits); written = omega arith } in
+    let made = (map_block v.geometry t.taken (zeros 1024) (opened c p) index).inode in
+    let told = told_few v.geometry p made in
+    let both = length-append (touched_by_all v.geometry (all_edits v.geometry t.taken (zeros 1024) (opened c p) (way index))) (back_told v.geometry p made) in
+    let last : Few 8 0 (tells_node n (touched_by_all v.geometry (all_edits v.geometry t.taken (zeros 1024) (opened c p) (way index)) ++ back_told v.geometry p made)) = record { noted = omega (arith, edits, told, both); written = omega arith } in
     few_then 3 8 0 0 _ _ first last
 
 pub map_file_few : (v : VolumeNow) (n : ℕ) (p : Placed) (zones : List Mapped) (content : List ℕ) (index : ℕ) → Few 11 1 (map_file_block v n p zones content index).touched
@@ -111,7 +125,10 @@ map_file_few v n p zones content index =
     let edits = edits_few v.geometry t.taken content (opened c p) index in
     let kept = filter_less (λ b. not (b == t.taken.data_zone)) (touched_by_all v.geometry (all_edits v.geometry t.taken content (opened c p) (way index))) in
     let first : Few 3 0 (tells_writes v.geometry (map (zone_bit v.geometry true) t.numbers)) = record { noted = omega (arith, bits); written = omega arith } in
-    let last : Few 8 1 (file_mapped_touches v.geometry c n p t.taken content index) = record { noted = omega (arith, edits, kept); written = omega arith } in
+    let made = (map_block v.geometry t.taken content (opened c p) index).inode in
+    let told = told_few v.geometry p made in
+    let both = length-append (filter (λ b. not (b == t.taken.data_zone)) (touched_by_all v.geometry (all_edits v.geometry t.taken content (opened c p) (way index)))) (back_told v.geometry p made) in
+    let last : Few 8 1 (file_mapped_touches v.geometry c n p t.taken content index) = record { noted = omega (arith, edits, kept, told, both); written = omega arith } in
     few_then 3 8 0 1 _ _ first last
 
 -- ---- names
@@ -119,17 +136,20 @@ map_file_few v n p zones content index =
 pub make_room_few : (v : VolumeNow) (n : ℕ) → Few 11 0 (make_room v n).touched
 make_room_few v n = directory_few 11 0 v n _ (λ p d. if_few 11 0 _ _ (unchanged v) (map_directory_few v n p d (length d.slots / 64)) (none_few 11 0))
 
+slot_few : (v : VolumeNow) (n : ℕ) (p : Placed) (k : ℕ) (next : DirectoryPart) → Few 3 0 (tells_node n (slot_told v p k next))
+slot_few v n p k next = let told = told_few v.geometry p (with_size p.inode (16 * length next.slots)) in record { noted = omega (arith, told); written = omega arith }
+
 pub put_name_few : (v : VolumeNow) (n : ℕ) (name : List ℕ) (birth : ℕ) → Few 3 0 (put_name_slot v n name birth).touched
-put_name_few v n name birth = directory_few 3 0 v n _ (λ p d. node_few 3 0 v birth _ (λ child. record { noted = omega arith; written = omega arith }))
+put_name_few v n name birth = directory_few 3 0 v n _ (λ p d. node_few 3 0 v birth _ (λ child. slot_few v n p _ (with_name d (record { inode = child.number; name = name }) birth)))
 
 pub add_name_few : (v : VolumeNow) (n : ℕ) (name : List ℕ) (birth : ℕ) → Few 14 0 (add_name v n name birth).touched
 add_name_few v n name birth = followed_few 11 3 0 0 (make_room v n) (λ w. put_name_slot w n name birth) (make_room_few v n) (λ w. put_name_few w n name birth)
 
 pub set_parent_few : (v : VolumeNow) (n parent : ℕ) → Few 3 0 (set_parent v n parent).touched
-set_parent_few v n parent = directory_few 3 0 v n _ (λ p d. node_few 3 0 v parent _ (λ above. record { noted = omega arith; written = omega arith }))
+set_parent_few v n parent = directory_few 3 0 v n _ (λ p d. node_few 3 0 v parent _ (λ above. slot_few v n p 1 (with_parent d parent (record { inode = above.number; name = codes ".." }))))
 
 pub lead_name_few : (v : VolumeNow) (n : ℕ) (name : List ℕ) (birth : ℕ) → Few 3 0 (lead_name v n name birth).touched
-lead_name_few v n name birth = directory_few 3 0 v n _ (λ p d. node_few 3 0 v birth _ (λ child. record { noted = omega arith; written = omega arith }))
+lead_name_few v n name birth = directory_few 3 0 v n _ (λ p d. node_few 3 0 v birth _ (λ child. slot_few v n p (place_of name d.slots) (with_child d (place_of name d.slots) (record { inode = child.number; name = name }) birth)))
 
 pub take_name_few : (v : VolumeNow) (n : ℕ) (name : List ℕ) → Few 3 0 (take_name v n name).touched
 take_name_few v n name = directory_few 3 0 v n _ (λ p d. by p d (slice_get d.slots (place_of name d.slots)))
@@ -137,13 +157,13 @@ take_name_few v n name = directory_few 3 0 v n _ (λ p d. by p d (slice_get d.sl
     slot_taken : Placed → DirectoryPart → Slot → Change
     slot_taken p d s = record {
       volume = with_contents v (name_removed v.geometry v.contents n p d (place_of name d.slots) s);
-      touched = tells_node n (zone_in v.contents.blocks p.inode (block (place_of name d.slots / 64)) ∷ table_block v.geometry p.number ∷ []);
+      touched = tells_node n (slot_told v p (place_of name d.slots) (without_name d (place_of name d.slots) s));
     }
 
     by : (p : Placed) (d : DirectoryPart) (o : Option (Option Slot)) → Few 3 0 (elim o as (λ _. Change) [ None ↦ unchanged v | Some o ↦ elim o as (λ _. Change) [ None ↦ unchanged v | Some s ↦ slot_taken p d s ] ]).touched
     by p d None = none_few 3 0
     by p d (Some None) = none_few 3 0
-    by p d (Some (Some s)) = record { noted = omega arith; written = omega arith }
+    by p d (Some (Some s)) = slot_few v n p (place_of name d.slots) (without_name d (place_of name d.slots) s)
 
 -- ---- a node goes
 
@@ -183,11 +203,11 @@ write_blocks_few v n off bytes (index ∷ indices) =
 
 -- ---- a file is cut
 
-cut_few : (own : Place → ℕ) (keeps : Place → Bool) (cs : List (Place × ℕ)) → length (cut_edits own keeps cs) ≤ length cs
-cut_few own keeps [] = omega arith
-cut_few own keeps (c ∷ cs) = by (keeps c.0) (cut_few own keeps cs)
+cut_few : (blocks : List (List ℕ)) (own : Place → ℕ) (keeps : Place → Bool) (cs : List (Place × ℕ)) → length (cut_told blocks own keeps cs) ≤ length cs
+cut_few blocks own keeps [] = omega arith
+cut_few blocks own keeps (c ∷ cs) = by (keeps c.0 && has_numbers blocks (own c.0) c.1) (cut_few blocks own keeps cs)
   where
-    by : (b : Bool) → length (cut_edits own keeps cs) ≤ length cs → length (if b then clear_from (own c.0) c.1 ∷ cut_edits own keeps cs else cut_edits own keeps cs) ≤ length (c ∷ cs)
+    by : (b : Bool) → length (cut_told blocks own keeps cs) ≤ length cs → length (if b then own c.0 ∷ cut_told blocks own keeps cs else cut_told blocks own keeps cs) ≤ length (c ∷ cs)
     by true h = omega (arith, h)
     by false h = omega (arith, h)
 
@@ -208,11 +228,13 @@ blocks_cut_few v tx n p zones keeps from =
     let freed = length-append gone numbers in
     let bits = length-map touches.freed (zone_bit v.geometry false) in
     let marked = length-map (map (zone_bit v.geometry false) touches.freed) (touched_by v.geometry) in
-    let edits = cut_few (λ x. zone_in v.contents.blocks p.inode x) keeps (cuts keeps from) in
+    let edits = cut_few v.contents.blocks (λ x. zone_in v.contents.blocks p.inode x) keeps (cuts keeps from) in
     let few = cuts_few keeps from in
-    let cut = length-map (cut_edits (λ x. zone_in v.contents.blocks p.inode x) keeps (cuts keeps from)) (touched_by v.geometry) in
+    let left = (cut_to v.geometry keeps (opened v.contents p) from).inode in
+    let told = told_few v.geometry p left in
+    let cut = length-append (cut_told v.contents.blocks (λ x. zone_in v.contents.blocks p.inode x) keeps (cuts keeps from)) (back_told v.geometry p left) in
     let blocks = length-append (touched_by_all v.geometry (map (zone_bit v.geometry false) touches.freed)) touches.blocks in
-    record { noted = omega (arith, freed, bits, marked, edits, few, cut, blocks); written = omega arith }
+    record { noted = omega (arith, freed, bits, marked, edits, few, told, cut, blocks); written = omega arith }
 
 pub cut_blocks_few : (v : VolumeNow) (tx n from : ℕ) → Few 4 0 (cut_blocks v tx n from).touched
 cut_blocks_few v tx n from = file_few 4 0 v n _ (λ p zones.

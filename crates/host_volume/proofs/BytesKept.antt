@@ -32,7 +32,7 @@ use Rattle.volume_model.specs.Cut.{cuts, cut_edits, cut_to}
 use Rattle.volume_model.specs.Edits.{Edit, put_inode, put_slot, set_bit, put_entry, clear_from, put_body, body_after, touched_by, edited, edited_all}
 use Rattle.volume_model.specs.MapBlock.{OpenInode, own_of, TakenZones, taken_at, first_body, entry_edits, gets_edits, get_zone, get_step, get_steps, map_block}
 use Rattle.volume_model.specs.Counts.{keeps_below, indices_of}
-use Rattle.volume_model.specs.Moves.{opened, file_cut_touches}
+use Rattle.volume_model.specs.Moves.{opened, file_cut_touches, inode_written, same_inode}
 use Rattle.volume_model.specs.Touched.{Contents}
 use Rattle.volume_model.specs.NewVolume.{root_inode, dot_slot, dots_slot, new_blocks}
 use Rattle.volume_model.specs.Volume.{Place as FilePlace, block, indirect, double, inner, zone_in}
@@ -271,6 +271,15 @@ InChange c = P c.volume.contents
 inode_keeps : (g : Geometry) (blocks : List (List ℕ)) (number : ℕ) (i : Inode) → HaveBytes blocks → HaveBytes (edited g blocks (put_inode number i))
 inode_keeps g blocks number i r = edit_keeps g blocks (put_inode number i) tt r
 
+-- an inode that is written where it changed
+back_keeps : (g : Geometry) (blocks : List (List ℕ)) (number : ℕ) (before i : Inode) → HaveBytes blocks → HaveBytes (inode_written g blocks number before i)
+unfolding inode_written
+back_keeps g blocks number before i r = by (same_inode i before)
+  where
+    by : (b : Bool) → HaveBytes (if b then blocks else edited g blocks (put_inode number i))
+    by true = r
+    by false = inode_keeps g blocks number i r
+
 bit_keeps : (g : Geometry) (blocks : List (List ℕ)) (number : ℕ) (value : Bool) → HaveBytes blocks → HaveBytes (edited g blocks (inode_bit number value))
 bit_keeps g blocks number value r = edit_keeps g blocks (inode_bit number value) tt r
 
@@ -278,10 +287,10 @@ slot_keeps : (g : Geometry) (blocks : List (List ℕ)) (zone at : ℕ) (o : Opti
 slot_keeps g blocks zone at o h r = edit_keeps g blocks (put_slot zone at o) h r
 
 links_keep : (v : VolumeNow) (n : ℕ) (change : ℕ → ℕ) → P v.contents → InChange (set_links v n change)
-links_keep v n change r = by_node P v n _ r (λ p at. inode_keeps v.geometry v.contents.blocks _ _ r)
+links_keep v n change r = by_node P v n _ r (λ p at. back_keeps v.geometry v.contents.blocks _ _ _ r)
 
 resize_keeps : (v : VolumeNow) (n : ℕ) (change : ℕ → ℕ) → P v.contents → InChange (resize v n change)
-resize_keeps v n change r = by_node P v n _ r (λ p at. by_test P (nat_eq (change p.inode.size) p.inode.size) _ _ r (inode_keeps v.geometry v.contents.blocks _ _ r))
+resize_keeps v n change r = by_node P v n _ r (λ p at. by_test P (nat_eq (change p.inode.size) p.inode.size) _ _ r (back_keeps v.geometry v.contents.blocks _ _ _ r))
 
 file_made : (v : VolumeNow) (n : ℕ) → P v.contents → InChange (make_file v n)
 file_made v n r = inode_keeps v.geometry _ _ _ (bit_keeps v.geometry v.contents.blocks (new_number v.geometry v.contents.nodes) true r)
@@ -305,7 +314,7 @@ directory_made v n parent r = by_node P v parent _ r (λ p at.
 
 slot_put_keeps : (v : VolumeNow) (n : ℕ) (name : List ℕ) (birth : ℕ) → AreBytes name → P v.contents → InChange (put_name_slot v n name birth)
 slot_put_keeps v n name birth h r = by_directory P v n _ r (λ p d at is. by_node P v birth _ r (λ child there.
-    inode_keeps v.geometry _ _ _ (slot_keeps v.geometry v.contents.blocks _ _ (Some (record { inode = child.number; name = name })) h r)))
+    back_keeps v.geometry _ _ _ _ (slot_keeps v.geometry v.contents.blocks _ _ (Some (record { inode = child.number; name = name })) h r)))
 
 name_taken : (v : VolumeNow) (n : ℕ) (name : List ℕ) → P v.contents → InChange (take_name v n name)
 name_taken v n name r = by_directory P v n _ r (λ p d at is. by p d (slice_get d.slots (place_of name d.slots)))
@@ -316,19 +325,19 @@ name_taken v n name r = by_directory P v n _ r (λ p d at is. by p d (slice_get 
     ])
     by p d None = r
     by p d (Some None) = r
-    by p d (Some (Some s)) = inode_keeps v.geometry _ _ _ (slot_keeps v.geometry v.contents.blocks _ _ None tt r)
+    by p d (Some (Some s)) = back_keeps v.geometry _ _ _ _ (slot_keeps v.geometry v.contents.blocks _ _ None tt r)
 
 directory_mapped_keeps : (v : VolumeNow) (n : ℕ) (p : Placed) (d : DirectoryPart) (index : ℕ) → P v.contents → InChange (map_directory_block v n p d index)
 directory_mapped_keeps v n p d index r =
     let t = take_zones (own_of (opened v.contents p)) index v.zones in
     let c = written v.geometry v.contents (map (zone_bit v.geometry true) t.numbers) in
-    inode_keeps v.geometry _ _ _ (map_keeps v.geometry t.taken (zeros 1024) (opened c p) index (zero_bytes 1024) (bits_keep v.geometry v.contents.blocks true t.numbers r))
+    back_keeps v.geometry _ _ _ _ (map_keeps v.geometry t.taken (zeros 1024) (opened c p) index (zero_bytes 1024) (bits_keep v.geometry v.contents.blocks true t.numbers r))
 
 file_mapped_keeps : (v : VolumeNow) (n : ℕ) (p : Placed) (zones : List Mapped) (content : List ℕ) (index : ℕ) → AreBytes content → P v.contents → InChange (map_file_block v n p zones content index)
 file_mapped_keeps v n p zones content index h r =
     let t = take_zones (own_of (opened v.contents p)) index v.zones in
     let c = written v.geometry v.contents (map (zone_bit v.geometry true) t.numbers) in
-    inode_keeps v.geometry _ _ _ (map_keeps v.geometry t.taken content (opened c p) index h (bits_keep v.geometry v.contents.blocks true t.numbers r))
+    back_keeps v.geometry _ _ _ _ (map_keeps v.geometry t.taken content (opened c p) index h (bits_keep v.geometry v.contents.blocks true t.numbers r))
 
 room_keeps : (v : VolumeNow) (n : ℕ) → P v.contents → InChange (make_room v n)
 room_keeps v n r = by_directory P v n _ r (λ p d at is. by_test P (nat_eq (room d.slots) (length d.slots) && nat_eq (length d.slots % 64) 0) _ _ (directory_mapped_keeps v n p d (length d.slots / 64) r) r)
@@ -338,11 +347,11 @@ name_added v n name birth h r = slot_put_keeps (make_room v n).volume n name bir
 
 parent_set : (v : VolumeNow) (n parent : ℕ) → P v.contents → InChange (set_parent v n parent)
 parent_set v n parent r = by_directory P v n _ r (λ p d at is. by_node P v parent _ r (λ above there.
-    inode_keeps v.geometry _ _ _ (slot_keeps v.geometry v.contents.blocks _ _ (Some (record { inode = above.number; name = codes ".." })) dots_bytes r)))
+    back_keeps v.geometry _ _ _ _ (slot_keeps v.geometry v.contents.blocks _ _ (Some (record { inode = above.number; name = codes ".." })) dots_bytes r)))
 
 name_led : (v : VolumeNow) (n : ℕ) (name : List ℕ) (birth : ℕ) → AreBytes name → P v.contents → InChange (lead_name v n name birth)
 name_led v n name birth h r = by_directory P v n _ r (λ p d at is. by_node P v birth _ r (λ child there.
-    inode_keeps v.geometry _ _ _ (slot_keeps v.geometry v.contents.blocks _ _ (Some (record { inode = child.number; name = name })) h r)))
+    back_keeps v.geometry _ _ _ _ (slot_keeps v.geometry v.contents.blocks _ _ (Some (record { inode = child.number; name = name })) h r)))
 
 node_gone : (v : VolumeNow) (tx n : ℕ) → P v.contents → InChange (drop_node v tx n)
 node_gone v tx n r = by_node P v n _ r (λ p at.
@@ -360,7 +369,7 @@ blocks_gone v tx n from r = by_file P v n _ r (λ p zones at is.
     gone p zones =
         let freed = (file_cut_touches v.geometry v.contents n p zones (keeps_below (indices_of zones) from) from).freed in
         let c = written v.geometry v.contents (map (zone_bit v.geometry false) freed) in
-        inode_keeps v.geometry _ _ _ (cut_keeps v.geometry (keeps_below (indices_of zones) from) (opened c p) from (bits_keep v.geometry v.contents.blocks false freed r))
+        back_keeps v.geometry _ _ _ _ (cut_keeps v.geometry (keeps_below (indices_of zones) from) (opened c p) from (bits_keep v.geometry v.contents.blocks false freed r))
 
 page_keeps : (v : VolumeNow) (n index zone : ℕ) (content : List ℕ) → AreBytes content → P v.contents → InChange (put_page v n index zone content)
 page_keeps v n index zone content h r = edit_keeps v.geometry v.contents.blocks (put_body zone content) h r

@@ -1,5 +1,5 @@
 -- What holds after a step or a call holds where it looks: at a node, a directory, a file, or along a path.
-use Rattle.std.specs.Prelude.{◌≡◌, ℕ, ◌/◌, Bool, true, false, if◌then◌else◌, List, [], ◌∷◌, Option, Some, None, Result, Ok, Err, refl, ◌&&◌}
+use Rattle.std.specs.Prelude.{◌≡◌, ℕ, Bool, true, false, if◌then◌else◌, List, [], ◌∷◌, Option, Some, None, Result, Ok, Err, refl, ◌&&◌}
 use Rattle.tree_model.specs.declared.call.Reply.{Reply}
 use Rattle.tree_model.specs.declared.call.Reply.TheVariants as replies
 use Rattle.tree_model.specs.Calls.{Place, Found, Move, names_in, parent_of, walk_path, and_then, stays, moves_directory, changes_parent}
@@ -9,20 +9,18 @@ use Rattle.volume_model.specs.declared.placed.Placed.{Placed}
 use Rattle.volume_model.specs.declared.placed.Part.{Part}
 use Rattle.volume_model.specs.declared.placed.Part.TheVariants as parts
 use Rattle.volume_model.specs.declared.placed.DirectoryPart.{DirectoryPart}
-use Rattle.volume_model.specs.Moves.{name_removed}
+use Rattle.volume_model.specs.Moves.{name_removed, without_name}
 use Rattle.volume_model.specs.Touched.{Contents}
-use Rattle.volume_model.specs.Volume.{block, zone_in}
-use Rattle.volume_ops.specs.Places.{table_block}
 use Rattle.minix_layout.specs.declared.slot.Slot.{Slot}
 use Rattle.volume_steps.specs.Now.{VolumeNow, Change, tree_of_now, unchanged, with_contents}
-use Rattle.volume_steps.specs.Steps.{at_node, at_directory, at_file, tells_node}
+use Rattle.volume_steps.specs.Steps.{at_node, at_directory, at_file, tells_node, slot_told}
 use Rattle.volume_steps.specs.Calls.{at_place, at_path, at_found, move_in, move_below, replace_in, renamed}
 
 -- a name that is taken out of a directory, with the slot at this place
 abbrev pub taken_out : VolumeNow → ℕ → Placed → DirectoryPart → ℕ → Slot → Change
 taken_out v n p d k s = record {
   volume = with_contents v (name_removed v.geometry v.contents n p d k s);
-  touched = tells_node n (zone_in v.contents.blocks p.inode (block (k / 64)) ∷ table_block v.geometry p.number ∷ []);
+  touched = tells_node n (slot_told v p k (without_name d k s));
 }
 
 module _ (P : Contents → Type 0) where

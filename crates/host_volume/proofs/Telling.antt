@@ -15,10 +15,8 @@ use Rattle.tree_model.specs.Histories.{same_file, maps_block, writes}
 use Rattle.tree_model.specs.Maps.{at_number}
 use Rattle.tree_model.proofs.Zones.{needs_none}
 use Rattle.volume_steps.proofs.TakeSteps.{none_born}
-use Rattle.volume_ops.specs.Places.{table_block}
 use Rattle.zone_maps.specs.Zones.{state_of}
 use Rattle.volume_model.specs.Touched.{IsMeta, Page, Tells as TellsBlocks}
-use Rattle.volume_model.specs.laws.Changes.{table_below as table_below_first}
 use Rattle.volume_steps.specs.Calls.{called}
 use Rattle.volume_steps.specs.Now.{VolumeNow, tree_of_now, room_of}
 use Rattle.volume_steps.specs.Plain.{IsPlainNow, is_rename}
@@ -186,15 +184,11 @@ module _ (s : Opening) (v : VolumeNow) (t : PlainTree) (h : Stands s v t) (n r :
   table_listed : (f i zone : ℕ) → In f (called v number r c).change.touched.nodes → zone_of w f i ≡ Some zone → (b : ℕ) × In b (called v number r c).change.touched.blocks × In b (over s).reserved
   table_listed f i zone j after =
       let page = zone_page w f i zone after in
-      let b = table_block v.geometry page.placed.number in
-      let stored = all.steady.in_use.volume.0.each f page.placed page.stands in
-      (b, all.steady.nodes.tables f page.placed j page.stands, inr (low_in b (table_below page.placed.number stored.some stored.within)))
+      let b = all.steady.nodes.tables f page.placed page.zones j page.stands page.is_file in
+      (b.0, b.1, inr (low_in b.0 b.2))
     where
       low_in : (b : ℕ) → b < v.geometry.first → In b (range_with_len 0 s.geometry.first)
       low_in b low = in_from 0 s.geometry.first b (omega arith) (let same = ap (λ (g : Geometry). g.first) h.geometry in omega arith)
-
-      table_below : (number : ℕ) → 0 < number → number ≤ w.geometry.inodes → table_block v.geometry number < v.geometry.first
-      table_below number some within = (table_below_first v.geometry number h.plain.in_use.sound some (let same = ap (λ (g : Geometry). g.inodes) all.steady.geometry in omega arith)).1
 
   pub tells_host : Tells (over s) t n r call v w (done_as v n r c).touched
   unfolding done_as

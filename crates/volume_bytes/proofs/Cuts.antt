@@ -1,7 +1,7 @@
 -- What is done to an open file that is cut is what the steps of the cut do to the volume.
-use Rattle.std.specs.Prelude.{◌≡◌, ℕ, suc, ◌/◌, ◌%◌, nat_eq, nat_lt, nat_le, ◌||◌, Bool, true, false, not, if◌then◌else◌, List, [], ◌∷◌, ◌++◌, length, map, filter, Some, refl}
+use Rattle.std.specs.Prelude.{◌≡◌, ℕ, suc, ◌/◌, ◌%◌, nat_eq, nat_lt, nat_le, ◌||◌, Bool, true, false, not, if◌then◌else◌, List, [], ◌∷◌, ◌++◌, length, map, filter, Some, refl, ◌≢◌}
 use Rattle.std.specs.List.{list_any}
-use Rattle.std.proofs.Common.{sym, ap, subst, ◌∙◌, inl, inr, append_assoc, arith}
+use Rattle.std.proofs.Common.{sym, ap, subst, ◌∙◌, inl, inr, append_assoc, arith, ⊎_elim}
 use Rattle.std.proofs.lemmas.Bool.{cases_lt, lt-ltb, le-ltb, le-leb, lt-leb, ne_eqb}
 use Rattle.std.proofs.lemmas.List.{append-nil}
 use Rattle.tree_model.specs.Calls.{cut_body, file_zones}
@@ -13,12 +13,12 @@ use Rattle.volume_ops.specs.Volume.{disk_of}
 use Rattle.volume_model.specs.declared.placed.Placed.{Placed}
 use Rattle.volume_model.specs.declared.placed.Part.TheVariants as parts
 use Rattle.volume_model.specs.Counts.{keeps_below, indices_of}
-use Rattle.volume_model.specs.Cut.{cut_to, cuts, cut_edits}
+use Rattle.volume_model.specs.Cut.{cut_to, cuts, cut_edits, cut_told}
 use Rattle.volume_model.specs.Edits.{Edit, edited_all, touched_by_all}
 use Rattle.volume_model.specs.MapBlock.{OpenInode}
-use Rattle.volume_model.specs.Moves.{page_of, numbers_gone}
+use Rattle.volume_model.specs.Moves.{page_of, numbers_gone, back_told}
 use Rattle.volume_model.specs.Touched.{Page, Touched, and_then}
-use Rattle.volume_model.specs.Volume.{Place, block, zone_in}
+use Rattle.volume_model.specs.Volume.{Place, block, zone_in, IsFilePart, IsPart}
 use Rattle.volume_edits.specs.Zones.{blocks_cut as blocks_gone, numbers_cut}
 use Rattle.volume_now.proofs.Notes.{and_nothing}
 use Rattle.volume_steps.specs.Now.{VolumeNow, Change, unchanged}
@@ -33,6 +33,13 @@ use Rattle.volume_bytes.specs.code.Cutting.{MayGive, all_freed, map_cut, cut_wor
 use Rattle.volume_bytes.specs.code.Work.{Work, with_nodes, put_work}
 use Rattle.volume_bytes.proofs.Freeing.{may_give, all_come_to, bits_told, tells_gone, zones_of}
 use Rattle.volume_bytes.proofs.Writes.{IsDone, no_more, nothing_done, work_of}
+use Rattle.zone_maps.specs.declared.zone_state.ZoneState.TheVariants as states
+use Rattle.blk_base.specs.Members.{In}
+use Rattle.blk_base.specs.laws.Members.{In-map, In-filter, In-append_cases}
+use Rattle.zone_maps.specs.Zones.{state_of}
+use Rattle.volume_model.specs.laws.CutTells.{gone_is}
+use Rattle.volume_model.specs.laws.Counts.{keep_below}
+use Rattle.volume_model.specs.laws.Indexed.{file_indexed}
 
 -- whether any blocks go
 any_gone : (from : ℕ) (zones : List Mapped) → list_any (λ (m : Mapped). nat_le from m.index) zones ≡ not (nat_eq (length (blocks_gone zones from)) 0)
@@ -47,11 +54,11 @@ unfolding numbers_cut
 numbers_same v p keeps = refl
 
 -- what is told, in one piece
-told_as : (t : Touched) (bits freed revoked written : List ℕ) (dropped : List Page) (table n : ℕ) →
-    and_then (and_then t (tells_gone bits freed revoked dropped)) (tells_node n (table ∷ written)) ≡
+told_as : (t : Touched) (bits freed revoked written table : List ℕ) (dropped : List Page) (n : ℕ) →
+    and_then (and_then t (tells_gone bits freed revoked dropped)) (tells_node n (written ++ table)) ≡
     and_then t (and_then (record { blocks = bits; freed = []; revoked = []; pages = []; dropped = []; nodes = [] })
-    (record { blocks = table ∷ written; freed = freed; revoked = revoked; pages = []; dropped = dropped; nodes = n ∷ [] }))
-told_as t bits freed revoked written dropped table n = simp (append_assoc, append-nil)
+    (record { blocks = written ++ table; freed = freed; revoked = revoked; pages = []; dropped = dropped; nodes = n ∷ [] }))
+told_as t bits freed revoked written table dropped n = simp (append_assoc, append-nil)
 
 module _ (tx : ℕ) (v : VolumeNow) (h : IsInUse v) (nodes : List (ℕ × Placed)) (n : ℕ) (p : Placed) (zones : List Mapped) (at : at_number v.contents.nodes n ≡ Some p) (is : p.part ≡ parts.File zones) (from : ℕ) (t : Touched) where
   abbrev keeps : Place → Bool
@@ -67,11 +74,30 @@ module _ (tx : ℕ) (v : VolumeNow) (h : IsInUse v) (nodes : List (ℕ × Placed
   numbers = numbers_gone v.contents p keeps
 
   abbrev written : List ℕ
-  written = touched_by_all v.geometry (cut_edits (λ x. zone_in v.contents.blocks p.inode x) keeps (cuts keeps from))
+  written = cut_told v.contents.blocks (λ x. zone_in v.contents.blocks p.inode x) keeps (cuts keeps from)
+
+  -- a zone that goes is one of the file, so it is in use
+  was_used : (z : ℕ) → In z (zones_of gone ++ numbers) → state_of v.zones z ≡ Some states.Used
+  was_used z i = ⊎_elim
+      (λ j.
+      let w = In-map (λ (m : Mapped). m.zone) gone z j in
+      let told = part.listed w.0 (In-filter (λ (m : Mapped). not (nat_lt m.index from)) zones w.0 w.1).0 in
+      used (block w.0.index) z (told.0 ∙ w.2) (λ none. told.1 (w.2 ∙ none)))
+      (λ j.
+      let w = gone_is v.geometry h.sound v.contents.blocks v.contents.nodes n p h.volume.0 at from keeps (keep_below (λ x. zone_in v.contents.blocks p.inode x) (indices_of zones)
+      (file_indexed v.geometry v.contents.blocks v.contents.nodes n p zones h.volume.0 at is (h.volume.1 n p at)) from) (h.volume.1 n p at) zones is z j in
+      used w.0 z w.1 (λ none. w.2 (w.1 ∙ none)))
+      (In-append_cases (zones_of gone) numbers z i)
+    where
+      part : IsFilePart v.contents.blocks p.inode zones
+      part = subst (IsPart v.contents.blocks p.inode) is (h.volume.0.each n p at).part
+
+      used : (x : Place) (z : ℕ) → zone_in v.contents.blocks p.inode x ≡ z → z ≢ 0 → state_of v.zones z ≡ Some states.Used
+      used x z e some = (h.used z).1 (record { birth = n; placed = p; place = x; stands = at; zone_is = e; some = some })
 
   -- the zones that go may go
   pub may_go : MayGive tx v.zones (zones_of gone ++ numbers)
-  may_go = may_give tx (zones_of gone ++ numbers) v.zones (freed_apart tx v h n p zones at is from) (cut_step tx v h n p zones at is from).steady.was_used
+  may_go = may_give tx (zones_of gone ++ numbers) v.zones (freed_apart tx v h n p zones at is from) was_used
 
   abbrev c : Change
   c = blocks_cut v tx n p zones keeps from
@@ -92,10 +118,10 @@ module _ (tx : ℕ) (v : VolumeNow) (h : IsInUse v) (nodes : List (ℕ × Placed
   freed = all_freed tx n gone numbers (record { volume = with_nodes v nodes; touched = t })
 
   cut_same : map_cut from written (record { volume = freed.volume; file = start.file; touched = freed.touched }) ≡ work_of c.volume nodes n q kept [] (and_then t c.touched)
-  unfolding map_cut
+  unfolding map_cut cut_to
   cut_same =
       ap (λ (c : Change). map_cut from written (record { volume = c.volume; file = start.file; touched = c.touched })) (all_come_to tx n gone numbers (record { volume = with_nodes v nodes; touched = t }))
-      ∙ ap (λ (t : Touched). work_of c.volume nodes n q kept [] t) (told_as t (bits_told v.geometry (zones_of gone ++ numbers)) (zones_of gone ++ numbers) numbers written (map (page_of n) gone) (table_block v.geometry p.number) n)
+      ∙ ap (λ (t : Touched). work_of c.volume nodes n q kept [] t) (told_as t (bits_told v.geometry (zones_of gone ++ numbers)) (zones_of gone ++ numbers) numbers written (back_told v.geometry p u.inode) (map (page_of n) gone) n)
 
   abbrev cut_of : Placed → List Mapped → Change
   cut_of p zones = if list_any (λ (m : Mapped). nat_le from m.index) zones then blocks_cut v tx n p zones (keeps_below (indices_of zones) from) from else unchanged v
@@ -110,7 +136,7 @@ module _ (tx : ℕ) (v : VolumeNow) (h : IsInUse v) (nodes : List (ℕ × Placed
     is_file = refl;
     same = cut_same;
     puts = λ r. put_twice v.contents.nodes n q r h.volume.0.in_order;
-    in_use = (cut_step tx v h n p zones at is from).steady.in_use;
+    in_use = (cut_step tx v h n p zones at is from (any_gone from zones ∙ ap not some)).steady.in_use;
     room = no_more (file_zones (indices_of kept)) (frees c.volume.zones);
   }
 

@@ -7,12 +7,10 @@ use Rattle.std.proofs.Common.{sym, ap, ◌∙◌}
 use Rattle.minix_layout.specs.declared.inode.Inode.{Inode}
 use Rattle.tree_model.specs.Maps.{at_number, put_number}
 use Rattle.volume_ops.specs.declared.found.Mapped.{Mapped}
-use Rattle.volume_ops.specs.Places.{table_block}
 use Rattle.volume_model.specs.declared.placed.Placed.{Placed}
 use Rattle.volume_model.specs.declared.placed.Part.{Part}
 use Rattle.volume_model.specs.declared.placed.Part.TheVariants as parts
-use Rattle.volume_model.specs.Edits.{edited, put_inode}
-use Rattle.volume_model.specs.Moves.{with_size}
+use Rattle.volume_model.specs.Moves.{with_size, inode_back, back_told}
 use Rattle.volume_model.specs.Touched.{Touched, and_then}
 use Rattle.volume_now.proofs.Notes.{and_nothing}
 use Rattle.volume_steps.specs.Now.{VolumeNow, Change, unchanged}
@@ -54,7 +52,7 @@ module _ (u : VolumeNow) (nodes : List (ℕ × Placed)) (n : ℕ) (q : Placed) (
 
   -- another size
   closed_sized : (size : ℕ) → nat_eq size q.inode.size ≡ false →
-      closed_work (size_work size start) ≡ record { volume = inode_put u n q (with_size q.inode size); touched = and_then t (tells_node n (table_block u.geometry q.number ∷ [])) }
+      closed_work (size_work size start) ≡ record { volume = inode_put u n q (with_size q.inode size); touched = and_then t (tells_node n (back_told u.geometry q (with_size q.inode size))) }
   unfolding size_work
   closed_sized size other =
       let i : Inode = with_size q.inode size in
@@ -62,8 +60,8 @@ module _ (u : VolumeNow) (nodes : List (ℕ × Placed)) (n : ℕ) (q : Placed) (
       puts (record { number = q.number; inode = i; part = parts.File zones })
       ∙ ap (λ (part : Part). put_number u.contents.nodes n (record { number = q.number; inode = i; part = part })) (sym is) in
       rw other (λ k. record {
-        volume = record { geometry = u.geometry; contents = record { blocks = edited u.geometry u.contents.blocks (put_inode q.number i); nodes = whole k }; zones = u.zones };
-        touched = and_then t (tells_node n (table_block u.geometry q.number ∷ []));
+        volume = record { geometry = u.geometry; contents = record { blocks = inode_back u.geometry u.contents.blocks q i; nodes = whole k }; zones = u.zones };
+        touched = and_then t (tells_node n (back_told u.geometry q i));
       })
 
   sized_stays : (size : ℕ) → nat_eq size q.inode.size ≡ true → size_work size start ≡ start
@@ -71,10 +69,10 @@ module _ (u : VolumeNow) (nodes : List (ℕ × Placed)) (n : ℕ) (q : Placed) (
   sized_stays size same = rw same refl
 
   abbrev resized_by : (ℕ → ℕ) → Bool → Change
-  resized_by change b = if b then unchanged u else record { volume = inode_put u n q (with_size q.inode (change q.inode.size)); touched = tells_node n (table_block u.geometry q.number ∷ []) }
+  resized_by change b = if b then unchanged u else record { volume = inode_put u n q (with_size q.inode (change q.inode.size)); touched = tells_node n (back_told u.geometry q (with_size q.inode (change q.inode.size))) }
 
   resized : (change : ℕ → ℕ) → resize u n change ≡ resized_by change (nat_eq (change q.inode.size) q.inode.size)
-  resized change = at_node_is u n q (λ p. if change p.inode.size == p.inode.size then unchanged u else record { volume = inode_put u n p (with_size p.inode (change p.inode.size)); touched = tells_node n (table_block u.geometry p.number ∷ []) }) at
+  resized change = at_node_is u n q (λ p. if change p.inode.size == p.inode.size then unchanged u else record { volume = inode_put u n p (with_size p.inode (change p.inode.size)); touched = tells_node n (back_told u.geometry p (with_size p.inode (change p.inode.size))) }) at
 
   closed_by : (change : ℕ → ℕ) (b : Bool) → nat_eq (change q.inode.size) q.inode.size ≡ b →
       closed_work (size_work (change q.inode.size) start) ≡ record { volume = (resized_by change b).volume; touched = and_then t (resized_by change b).touched }

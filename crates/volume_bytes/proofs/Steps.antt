@@ -21,6 +21,7 @@ use Rattle.volume_steps.specs.Zones.{take_zones, zone_bit}
 use Rattle.zone_maps.specs.Zones.{Zones}
 use Rattle.volume_bytes.specs.declared.open.OpenFile.{OpenFile}
 use Rattle.volume_bytes.specs.code.Work.{Work, held, single_told, outer_told, second_told, numbers_told, map_work, block_work}
+use Rattle.volume_model.specs.Moves.{inode_written, inode_told}
 
 -- ---- zones of numbers
 
@@ -51,26 +52,25 @@ module _ (own : Place → ℕ) (t : TakenZones) (index : ℕ) (old : Touched) wh
 -- ---- a hole gets a zone
 
 -- what is noted of it, one after the other
-pub mapped_noted : (start bits : Touched) (one two three four five : Noted) (b birth : ℕ) (numbers : List ℕ) (page : Page) → one.touched ≡ and_then start bits → two ≡ with_block one b →
-    three.touched ≡ and_then two.touched (tells_blocks numbers) → four ≡ with_page three page → five ≡ with_node four birth →
-    five.touched ≡ and_then start (and_then bits (record { blocks = b ∷ numbers; freed = []; revoked = []; pages = page ∷ []; dropped = []; nodes = birth ∷ [] }))
-mapped_noted start bits one two three four five b birth numbers page d e f g h =
-    let x = and_then start bits in
-    let at_two : two.touched ≡ record x { blocks = x.blocks ++ b ∷ [] } = ap (λ (n : Noted). n.touched) e ∙ ap (λ (t : Touched). record t { blocks = t.blocks ++ b ∷ [] }) d in
-    let at_three : three.touched ≡ and_then (record x { blocks = x.blocks ++ b ∷ [] }) (tells_blocks numbers) = f ∙ ap (λ (t : Touched). and_then t (tells_blocks numbers)) at_two in
-    let at_four : four.touched ≡ (λ (t : Touched). record t { pages = t.pages ++ page ∷ [] }) (and_then (record x { blocks = x.blocks ++ b ∷ [] }) (tells_blocks numbers)) =
+pub mapped_noted : (start bits : Touched) (one two three four five : Noted) (birth : ℕ) (numbers told : List ℕ) (page : Page) → one.touched ≡ and_then start bits →
+    two.touched ≡ and_then one.touched (tells_blocks numbers) → three.touched ≡ and_then two.touched (tells_blocks told) → four ≡ with_page three page → five ≡ with_node four birth →
+    five.touched ≡ and_then start (and_then bits (record { blocks = numbers ++ told; freed = []; revoked = []; pages = page ∷ []; dropped = []; nodes = birth ∷ [] }))
+mapped_noted start bits one two three four five birth numbers told page d e f g h =
+    let at_three : three.touched ≡ and_then (and_then (and_then start bits) (tells_blocks numbers)) (tells_blocks told) =
+    f ∙ ap (λ (t : Touched). and_then t (tells_blocks told)) (e ∙ ap (λ (t : Touched). and_then t (tells_blocks numbers)) d) in
+    let at_four : four.touched ≡ (λ (t : Touched). record t { pages = t.pages ++ page ∷ [] }) (and_then (and_then (and_then start bits) (tells_blocks numbers)) (tells_blocks told)) =
     ap (λ (n : Noted). n.touched) g ∙ ap (λ (t : Touched). record t { pages = t.pages ++ page ∷ [] }) at_three in
     ap (λ (n : Noted). n.touched) h ∙ (ap (λ (t : Touched). record t { nodes = t.nodes ++ birth ∷ [] }) at_four ∙ simp (append_assoc, append-nil))
 
 -- the writes are those of the definition
-pub mapped_as : (content : List ℕ) (index : ℕ) (v : VolumeNow) (f : OpenFile) (start after : Touched) (t : TakenZones) (zones : Zones) (marked grown last : List (List ℕ)) (inode : Inode) (listed : List Mapped) →
+pub mapped_as : (content : List ℕ) (index : ℕ) (v : VolumeNow) (f : OpenFile) (start after : Touched) (t : TakenZones) (zones : Zones) (marked grown last : List (List ℕ)) (before inode : Inode) (listed : List Mapped) →
     zones ≡ (take_zones (own_of (record { blocks = v.contents.blocks; inode = f.inode })) index v.zones).zones →
     t ≡ (take_zones (own_of (record { blocks = v.contents.blocks; inode = f.inode })) index v.zones).taken →
     marked ≡ edited_all v.geometry v.contents.blocks (map (zone_bit v.geometry true) (take_zones (own_of (record { blocks = v.contents.blocks; inode = f.inode })) index v.zones).numbers) →
     record { blocks = grown; inode = inode } ≡ map_block v.geometry t content (record { blocks = marked; inode = f.inode }) index →
-    last ≡ edited v.geometry grown (put_inode f.number inode) → listed ≡ with_zone f.zones index t.data_zone →
+    before ≡ f.inode → last ≡ inode_written v.geometry grown f.number before inode → listed ≡ with_zone f.zones index t.data_zone →
     after ≡ and_then start (and_then (tells_writes v.geometry (map (zone_bit v.geometry true) (take_zones (own_of (record { blocks = v.contents.blocks; inode = f.inode })) index v.zones).numbers)) (record {
-      blocks = table_block v.geometry f.number ∷ numbers_told (own_of (record { blocks = marked; inode = f.inode })) t index;
+      blocks = numbers_told (own_of (record { blocks = marked; inode = f.inode })) t index ++ inode_told v.geometry f.number before inode;
       freed = [];
       revoked = [];
       pages = record { birth = f.birth; index = index; zone = t.data_zone } ∷ [];
@@ -83,23 +83,23 @@ pub mapped_as : (content : List ℕ) (index : ℕ) (v : VolumeNow) (f : OpenFile
       touched = after;
     }) (map_work content index (record { volume = v; file = f; touched = start }))
 unfolding map_work
-mapped_as content index v f start after t zones marked grown last inode listed ez et em eg el ed ea =
+mapped_as content index v f start after t zones marked grown last before inode listed ez et em eg eb el ed ea =
     let g = v.geometry in
     let for = take_zones (own_of (record { blocks = v.contents.blocks; inode = f.inode })) index v.zones in
     let es : List Edit = map (zone_bit g true) for.numbers in
     let u : OpenInode = map_block g for.taken content (record { blocks = edited_all g v.contents.blocks es; inode = f.inode }) index in
     let eu : ◌≡◌ {A = OpenInode} (record { blocks = grown; inode = inode }) u = eg ∙ (λ k. map_block g (et k) content (record { blocks = em k; inode = f.inode }) index) in
-    let written : last ≡ edited g u.blocks (put_inode f.number u.inode) = el ∙ ap (λ (u : OpenInode). edited g u.blocks (put_inode f.number u.inode)) eu in
+    let written : last ≡ inode_written g u.blocks f.number f.inode u.inode = el ∙ (λ k. inode_written g (eu k).blocks f.number (eb k) (eu k).inode) in
     let all : listed ≡ with_zone f.zones index for.taken.data_zone = ed ∙ ap (λ (t : TakenZones). with_zone f.zones index t.data_zone) et in
     let told : after ≡ and_then start (and_then (tells_writes g es) (record {
-      blocks = table_block g f.number ∷ numbers_told (own_of (record { blocks = edited_all g v.contents.blocks es; inode = f.inode })) for.taken index;
+      blocks = numbers_told (own_of (record { blocks = edited_all g v.contents.blocks es; inode = f.inode })) for.taken index ++ inode_told g f.number f.inode u.inode;
       freed = [];
       revoked = [];
       pages = record { birth = f.birth; index = index; zone = for.taken.data_zone } ∷ [];
       dropped = [];
       nodes = f.birth ∷ [];
     })) = ea ∙ (λ k. and_then start (and_then (tells_writes g es) (record {
-      blocks = table_block g f.number ∷ numbers_told (own_of (record { blocks = em k; inode = f.inode })) (et k) index;
+      blocks = numbers_told (own_of (record { blocks = em k; inode = f.inode })) (et k) index ++ inode_told g f.number (eb k) (eu k).inode;
       freed = [];
       revoked = [];
       pages = record { birth = f.birth; index = index; zone = (et k).data_zone } ∷ [];

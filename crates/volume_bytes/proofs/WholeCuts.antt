@@ -14,7 +14,7 @@ use Rattle.volume_ops.specs.declared.found.Mapped.{Mapped}
 use Rattle.volume_model.specs.declared.placed.Placed.{Placed}
 use Rattle.volume_model.specs.declared.placed.Part.TheVariants as parts
 use Rattle.volume_model.specs.Counts.{keeps_below, indices_of}
-use Rattle.volume_model.specs.Cut.{cuts, cut_edits}
+use Rattle.volume_model.specs.Cut.{cuts, cut_edits, cut_told}
 use Rattle.volume_model.specs.Edits.{touched_by_all}
 use Rattle.volume_model.specs.Moves.{numbers_gone}
 use Rattle.volume_model.specs.Touched.{Touched, and_then}
@@ -39,11 +39,11 @@ use Rattle.volume_bytes.proofs.WholeWrites.{size_keeps}
 use Rattle.volume_bytes.proofs.Writes.{IsDone, work_of}
 
 -- the same of equal blocks and zones
-pub told_moved : (g : Geometry) (blocks after : List (List ℕ)) (i : Inode) (zones next : List Mapped) (from : ℕ) (told : List ℕ) → blocks ≡ after → zones ≡ next →
-    told ≡ touched_by_all g (cut_edits (λ x. zone_in blocks i x) (keeps_below (indices_of zones) from) (cuts (keeps_below (indices_of zones) from) from)) →
-    told ≡ touched_by_all g (cut_edits (λ x. zone_in after i x) (keeps_below (indices_of next) from) (cuts (keeps_below (indices_of next) from) from))
-told_moved g blocks after i zones next from told eb ez e =
-    e ∙ (λ k. touched_by_all g (cut_edits (λ x. zone_in (eb k) i x) (keeps_below (indices_of (ez k)) from) (cuts (keeps_below (indices_of (ez k)) from) from)))
+pub told_moved : (blocks after : List (List ℕ)) (i : Inode) (zones next : List Mapped) (from : ℕ) (told : List ℕ) → blocks ≡ after → zones ≡ next →
+    told ≡ cut_told blocks (λ x. zone_in blocks i x) (keeps_below (indices_of zones) from) (cuts (keeps_below (indices_of zones) from) from) →
+    told ≡ cut_told after (λ x. zone_in after i x) (keeps_below (indices_of next) from) (cuts (keeps_below (indices_of next) from) from)
+told_moved blocks after i zones next from told eb ez e =
+    e ∙ (λ k. cut_told (eb k) (λ x. zone_in (eb k) i x) (keeps_below (indices_of (ez k)) from) (cuts (keeps_below (indices_of (ez k)) from) from))
 
 module _ (v : VolumeNow) (tx birth size : ℕ) (m : MayTruncate v birth size) (gone : CutZones) (written : WrittenZones) (l : IsListed v birth (div_ceil size 1024) gone written) (file : OpenFile) (mine : file.birth ≡ birth)
     (at : at_number v.contents.nodes birth ≡ Some (node_of file)) where
@@ -73,7 +73,7 @@ module _ (v : VolumeNow) (tx birth size : ℕ) (m : MayTruncate v birth size) (g
       ∙ ((λ k. numbers_cut v.contents.blocks (placed_same k).inode (keeps_below (indices_of (zones_same k)) from)) ∙ numbers_same v p (keeps_below (indices_of file.zones) from))
 
   abbrev told_of : Placed → List Mapped → List ℕ
-  told_of p zones = touched_by_all v.geometry (cut_edits (λ x. zone_in v.contents.blocks p.inode x) (keeps_below (indices_of zones) from) (cuts (keeps_below (indices_of zones) from) from))
+  told_of p zones = cut_told v.contents.blocks (λ x. zone_in v.contents.blocks p.inode x) (keeps_below (indices_of zones) from) (cuts (keeps_below (indices_of zones) from) from)
 
   written_are : written_list written ≡ told_of p file.zones
   written_are = l.told ∙ (λ k. told_of (placed_same k) (zones_same k))

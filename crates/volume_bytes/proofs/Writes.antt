@@ -1,5 +1,5 @@
 -- What is done to an open file, block by block, is what the steps of a write do to the volume.
-use Rattle.std.specs.Prelude.{◌≡◌, ◌≢◌, ℕ, ◌+◌, ◌-◌, ◌<◌, ◌≤◌, nat_eq, nat_lt, ◌==◌, Bool, true, false, if◌then◌else◌, List, [], ◌∷◌, length, map, Some, refl}
+use Rattle.std.specs.Prelude.{◌≡◌, ◌≢◌, ℕ, ◌+◌, ◌-◌, ◌<◌, ◌≤◌, nat_eq, nat_lt, ◌==◌, Bool, true, false, if◌then◌else◌, List, [], ◌∷◌, length, map, Some, refl, ◌++◌}
 use Rattle.std.specs.List.{list_any}
 use Rattle.std.proofs.Common.{sym, ap, subst, ◌∙◌, inl, inr, ⊎_elim, arith}
 use Rattle.std.proofs.lemmas.Bool.{cases_Bool, eqb-true, eqb-false, eq-eqb, ne_eqb, le-ltb, or_left, or_right, or_cases}
@@ -41,6 +41,7 @@ use Rattle.volume_steps.proofs.Taking.{frees}
 use Rattle.volume_steps.proofs.WriteSteps.{IsAmong, zones_less}
 use Rattle.volume_bytes.specs.code.Work.{Work, with_nodes, map_work, put_work, block_work, blocks_work, numbers_told}
 use Rattle.volume_bytes.proofs.Told.{numbers_are_told}
+use Rattle.volume_model.specs.Moves.{back_told}
 
 -- ---- indices
 
@@ -166,7 +167,7 @@ module _ (v : VolumeNow) (h : IsInUse v) (nodes : List (ℕ × Placed)) (n : ℕ
       volume = with_nodes c.volume nodes;
       file = record { birth = n; number = p.number; inode = u.inode; zones = zs };
       touched = and_then t (and_then (tells_writes v.geometry es) (record {
-        blocks = table_block v.geometry p.number ∷ bs;
+        blocks = bs ++ back_told v.geometry p u.inode;
         freed = [];
         revoked = [];
         pages = record { birth = n; index = index; zone = taken.taken.data_zone } ∷ [];

@@ -10,8 +10,8 @@ use crate::bodies::{patched, patched_zone};
 use crate::numbers::note_numbers;
 use crate::open::OpenFile;
 use blk_base::Block;
-use volume_edits::{map_block, put_body, put_inode, table_block};
-use volume_now::{Page, Touched, VolumeNow, block_zone, take_zones};
+use volume_edits::{map_block, put_body};
+use volume_now::{Page, Touched, VolumeNow, block_zone, copy_inode, take_zones, write_inode};
 
 // A hole gets a zone with these bytes.
 #[tactic(auto, unfolding(crate::specs::code::Work::map_work))]
@@ -32,10 +32,11 @@ fn map_new(
 {
     let g = &v.geometry;
     let taken = take_zones(&mut v.zones, &mut v.blocks, g, &file.inode, index, touched);
-    touched.note_block(table_block(g, file.number));
     note_numbers(&v.blocks, &file.inode, &taken, index, touched);
+    let before = copy_inode(&file.inode);
     map_block(&mut v.blocks, g, &mut file.inode, index, &taken, content);
-    put_inode(&mut v.blocks, g, file.number, &file.inode);
+    let (number, after) = (file.number, &file.inode);
+    write_inode(&mut v.blocks, g, number, &before, after, touched);
     file.zones.set_zone(index, taken.data_zone);
     touched.note_page(Page {
         birth: file.birth,
@@ -109,8 +110,9 @@ pub fn set_size(v: &mut VolumeNow, file: &mut OpenFile, size: u32, touched: &mut
     if size == file.inode.size {
         return;
     }
+    let before = copy_inode(&file.inode);
     file.inode.size = size;
-    put_inode(&mut v.blocks, &v.geometry, file.number, &file.inode);
-    touched.note_block(table_block(&v.geometry, file.number));
+    let (number, after) = (file.number, &file.inode);
+    write_inode(&mut v.blocks, &v.geometry, number, &before, after, touched);
     touched.note_node(file.birth);
 }

@@ -11,8 +11,8 @@ ghost use Rattle.volume_bytes.specs.code.Cutting.{MayGive, free_zone, free_block
 use crate::blocks::put_page;
 use crate::bodies::cut_zone;
 use crate::open::OpenFile;
-use volume_edits::{CutZones, WrittenZones, cut_to, put_inode, table_block};
-use volume_now::{Page, Touched, VolumeNow, block_zone, mark_zone};
+use volume_edits::{CutZones, WrittenZones, cut_to};
+use volume_now::{Page, Touched, VolumeNow, block_zone, copy_inode, mark_zone, write_inode};
 use volume_ops::Mapped;
 
 // A zone waits for transaction `tx`, and its bit is cleared.
@@ -88,7 +88,7 @@ pub fn free_numbers(v: &mut VolumeNow, tx: u32, gone: &[u16], touched: &mut Touc
     }
 }
 
-// Notes the zones of numbers that a cut writes.
+// Notes the zones of numbers in which a cut changes a number.
 fn note_written(written: WrittenZones, touched: &mut Touched)
     requires { 2 ≤ touched.old.spare }
     ensures told { touched.new.touched ≡ and_then touched.old.touched (tells_blocks (written_list written)) }
@@ -117,8 +117,8 @@ fn cut_map(
         map_cut from (written_list written) (record { volume = v.old; file = file.old; touched = touched.old.touched }) }
     ensures spare { touched.old.spare ≤ touched.new.spare + 4 }
 {
-    touched.note_block(table_block(&v.geometry, file.number));
     note_written(written, touched);
+    let before = copy_inode(&file.inode);
     cut_to(
         &mut v.blocks,
         &v.geometry,
@@ -126,13 +126,14 @@ fn cut_map(
         file.zones.as_slice(),
         from,
     );
-    put_inode(&mut v.blocks, &v.geometry, file.number, &file.inode);
+    let (number, after) = (file.number, &file.inode);
+    write_inode(&mut v.blocks, &v.geometry, number, &before, after, touched);
     file.zones.cut(from);
     touched.note_node(file.birth);
 }
 
-// All blocks of the file from an index on go, which are these; `written` are the zones of numbers that stay and are
-// written.
+// All blocks of the file from an index on go, which are these; `written` are the zones of numbers that stay and in which
+// a number changes.
 pub fn cut_blocks(
     v: &mut VolumeNow,
     file: &mut OpenFile,

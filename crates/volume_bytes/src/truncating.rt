@@ -38,7 +38,7 @@ pub fn truncate(
     Ok(touched)
 }
 
-// What a cut at block `from` lets go, and which zones of numbers it writes.
+// What a cut at block `from` lets go, and in which zones of numbers it changes a number.
 fn listed(
     alloc: Global,
     v: &VolumeNow,

@@ -13,11 +13,11 @@ use Rattle.volume_model.specs.declared.placed.Part.{Part}
 use Rattle.volume_model.specs.declared.placed.Part.TheVariants as parts
 use Rattle.volume_model.specs.declared.placed.DirectoryPart.{DirectoryPart}
 use Rattle.volume_model.specs.Volume.{block, zone_in}
-use Rattle.volume_model.specs.Moves.{name_removed}
+use Rattle.volume_model.specs.Moves.{name_removed, without_name}
 use Rattle.volume_ops.specs.Places.{table_block}
 use Rattle.volume_steps.specs.Now.{VolumeNow, Change, followed_by, unchanged, with_contents}
 use Rattle.volume_steps.specs.Zones.{new_number}
-use Rattle.volume_steps.specs.Steps.{at_node, at_directory, at_file, set_links, resize, make_file, make_directory, make_room, put_name_slot, add_name, place_of, take_name, node_dropped, drop_node, write_block, write_blocks, cut_blocks, clear_tail, tells_node}
+use Rattle.volume_steps.specs.Steps.{at_node, at_directory, at_file, set_links, resize, make_file, make_directory, make_room, put_name_slot, add_name, place_of, take_name, node_dropped, drop_node, write_block, write_blocks, cut_blocks, clear_tail, tells_node, slot_told}
 use Rattle.volume_steps.specs.Calls.{create_in, mkdir_in, link_in, unlink_in, rmdir_in, lose_link, write_at, truncate_at}
 use Rattle.volume_steps.proofs.NewDirectories.{make_directory_is}
 use Rattle.volume_names.specs.May.{MayCreate, MayMkdir}
@@ -87,7 +87,7 @@ no_name_keeps v n name = directory_keeps v n _ (λ p d at. by p d at (slice_get 
         | None ↦ unchanged v
         | Some s ↦ record {
           volume = with_contents v (name_removed v.geometry v.contents n p d (place_of name d.slots) s);
-          touched = tells_node n (zone_in v.contents.blocks p.inode (block (place_of name d.slots / 64)) ∷ table_block v.geometry p.number ∷ []);
+          touched = tells_node n (slot_told v p (place_of name d.slots) (without_name d (place_of name d.slots) s));
         }
       ]
     ])

@@ -1,4 +1,4 @@
--- Which zones a cut frees, and which it writes.
+-- Which zones a cut frees, and in which it changes a number.
 use Rattle.std.specs.Prelude.{ℕ, nat_lt, nat_eq, Bool, not, ◌&&◌, List, [], ◌∷◌, ◌++◌, map, filter, Option, Some, None}
 use Rattle.minix_layout.specs.declared.inode.Inode.{Inode}
 use Rattle.volume_ops.specs.declared.found.Mapped.{Mapped}
@@ -14,12 +14,12 @@ blocks_cut zones from = filter (λ m. not (nat_lt m.index from)) zones
 unfoldable pub numbers_cut : List (List ℕ) → Inode → (Place → Bool) → List ℕ
 numbers_cut blocks i keeps = map (λ x. zone_in blocks i x) (filter (λ x. not (nat_eq (zone_in blocks i x) 0) && not (keeps x)) number_places)
 
--- ---- those that a cut writes
+-- ---- those in which a cut changes a number
 
 abbrev pub as_list : Option ℕ → List ℕ
 as_list None = []
 as_list (Some zone) = zone ∷ []
 
--- the zones of numbers that a cut clears from an entry on, in the order in which it does
+-- those zones of numbers, in the order in which a cut clears them
 abbrev pub written_list : WrittenZones → List ℕ
 written_list w = as_list w.inner ++ as_list w.outer

@@ -1,7 +1,9 @@
 //! What stands in the blocks of a volume.
-ghost use Rattle.std.specs.Prelude.{◌≡◌, ◌<◌};
+ghost use Rattle.std.specs.Prelude.{◌≡◌, ◌<◌, ◌≤◌, nat_eq, not};
+ghost use Rattle.std.specs.List.{list_any};
 ghost use Rattle.inode_ops.specs.Map.{entry_behind};
 ghost use Rattle.volume_ops.specs.Volume.{disk_of};
+ghost use Rattle.volume_model.specs.Cut.{has_numbers};
 ghost use Rattle.volume_model.specs.Ways.{entry_of};
 
 use blk_base::{Block, Image};
@@ -28,6 +30,27 @@ pub fn zone_entry(blocks: &Image, zone: u16, at: u16) -> u16
     } else {
         number_in(blocks, zone.into(), at)
     }
+}
+
+/// A byte of a zone of numbers is not 0, from number `at` of it on.
+#[tactic(auto, unfolding(volume_model::specs::Cut::has_numbers))]
+pub fn has_numbers(blocks: &Image, zone: u16, at: u16) -> bool
+    requires { at ≤ 512 }
+    ensures { result ≡ has_numbers blocks.now zone at }
+{
+    if u32::from(zone) < blocks.len() {
+        let body = blocks.block(zone.into()).as_slice();
+        some_byte(&body[2 * at as usize..])
+    } else {
+        false
+    }
+}
+
+// One of these bytes is not 0.
+fn some_byte(bytes: &[u8]) -> bool
+    ensures { result ≡ list_any (λ x. not (nat_eq x 0)) bytes.now }
+{
+    bytes.iter().any(|byte| *byte != 0)
 }
 
 // A number of a block, read where it stands; 0 behind the last block.

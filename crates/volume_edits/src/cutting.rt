@@ -77,8 +77,8 @@ fn kept(zones: &Zones, k: usize, keep: bool) -> u16
     if keep { zones.zone(k) } else { 0 }
 }
 
-// The first entry of the doubly indirect zone that goes: that of group j, or the next one where the group stays.
-fn end_of(stays: bool, j: u16) -> u16
+/// The first entry of the doubly indirect zone that goes: that of group j, or the next one where the group stays.
+pub fn end_of(stays: bool, j: u16) -> u16
     requires { j < 512 }
     ensures value { result ≡ (if stays then suc j else j) }
     ensures low { result ≤ 512 }

@@ -1,7 +1,8 @@
 -- All blocks of a file from an index on go, and the zones of numbers that only led to them.
-use Rattle.std.specs.Prelude.{◌≡◌, ◌≢◌, ℕ, suc, ◌-◌, ◌/◌, ◌%◌, ◌<◌, nat_lt, Bool, true, if◌then◌else◌, List, [], ◌∷◌, map, slice_index}
-use Rattle.std.specs.List.{range_with_len}
+use Rattle.std.specs.Prelude.{◌≡◌, ◌≢◌, ℕ, suc, ◌-◌, ◌/◌, ◌%◌, ◌<◌, ◌*◌, nat_lt, nat_eq, not, ◌&&◌, Bool, true, if◌then◌else◌, List, [], ◌∷◌, map, drop, slice_index}
+use Rattle.std.specs.List.{list_any, range_with_len}
 use Rattle.minix_layout.specs.declared.division.Geometry.{Geometry}
+use Rattle.volume_ops.specs.Volume.{disk_of}
 use Rattle.volume_model.specs.Edits.{Edit, clear_from, edited_all}
 use Rattle.volume_model.specs.Volume.{Place, block, indirect, double, inner, IsOfNumbers}
 use Rattle.volume_model.specs.Ways.{slot, place_at, OnWay}
@@ -25,6 +26,15 @@ cuts keeps from =
 abbrev pub cut_edits : (Place → ℕ) → (Place → Bool) → List (Place × ℕ) → List Edit
 cut_edits own keeps [] = []
 cut_edits own keeps (c ∷ cs) = if keeps c.0 then clear_from (own c.0) c.1 ∷ cut_edits own keeps cs else cut_edits own keeps cs
+
+-- a byte of a zone of numbers is not 0, from this number of it on
+unfoldable pub has_numbers : List (List ℕ) → ℕ → ℕ → Bool
+has_numbers blocks zone at = list_any (λ x. not (nat_eq x 0)) (drop (2 * at) (disk_of blocks zone))
+
+-- and those of them in which a number changes are touched
+abbrev pub cut_told : List (List ℕ) → (Place → ℕ) → (Place → Bool) → List (Place × ℕ) → List ℕ
+cut_told blocks own keeps [] = []
+cut_told blocks own keeps (c ∷ cs) = if keeps c.0 && has_numbers blocks (own c.0) c.1 then own c.0 ∷ cut_told blocks own keeps cs else cut_told blocks own keeps cs
 
 abbrev pub cut_zones : (Place → Bool) → List ℕ → List ℕ
 cut_zones keeps zones = map (λ k. if keeps (place_at (slot k)) then slice_index zones k else 0) (range_with_len 0 9)

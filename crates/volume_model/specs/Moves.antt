@@ -5,6 +5,7 @@ use Rattle.minix_layout.specs.declared.division.Geometry.{Geometry}
 use Rattle.minix_layout.specs.declared.inode.Inode.{Inode}
 use Rattle.minix_layout.specs.Geometry.{IsSound}
 use Rattle.minix_layout.specs.Inodes.{zero_inode}
+use Rattle.std.specs.Str.{bytes_eq}
 use Rattle.std.specs.Map.{remove_entry}
 use Rattle.std.specs.BTreeMap.{is_at}
 use Rattle.std.specs.Ordering.{nat_cmp}
@@ -23,7 +24,7 @@ use Rattle.volume_model.specs.Volume.{Place, block, zone_in, IsStored, HasNames,
 use Rattle.volume_model.specs.Changes.{Changes}
 use Rattle.volume_model.specs.Ways.{way, IsJust}
 use Rattle.volume_model.specs.MapBlock.{OpenInode, TakenZones, taken_at, map_block, all_edits}
-use Rattle.volume_model.specs.Cut.{cuts, cut_edits, cut_to}
+use Rattle.volume_model.specs.Cut.{cuts, cut_told, cut_to}
 use Rattle.volume_model.specs.Counts.{number_places}
 use Rattle.volume_model.specs.Touched.{Page, Touched, Contents}
 
@@ -71,10 +72,30 @@ pub record MayChange (g : Geometry) (blocks after : List (List ℕ)) (nodes : Li
 abbrev pub opened : Contents → Placed → OpenInode
 opened v p = record { blocks = v.blocks; inode = p.inode }
 
+-- two inodes have the same fields
+abbrev pub same_inode : Inode → Inode → Bool
+same_inode i j =
+    i.mode == j.mode && (i.uid == j.uid && (i.size == j.size && (i.time == j.time && (i.gid == j.gid && (i.links == j.links && bytes_eq i.zones j.zones)))))
+
+-- an inode is written where a field of it changed
+unfoldable pub inode_written : Geometry → List (List ℕ) → ℕ → Inode → Inode → List (List ℕ)
+inode_written g blocks number before after = if same_inode after before then blocks else edited g blocks (put_inode number after)
+
+-- its block of the table is touched then, and not else
+unfoldable pub inode_told : Geometry → ℕ → Inode → Inode → List ℕ
+inode_told g number before after = if same_inode after before then [] else table_block g number ∷ []
+
+-- the same of a node's inode
+abbrev pub inode_back : Geometry → List (List ℕ) → Placed → Inode → List (List ℕ)
+inode_back g blocks p i = inode_written g blocks p.number p.inode i
+
+abbrev pub back_told : Geometry → Placed → Inode → List ℕ
+back_told g p i = inode_told g p.number p.inode i
+
 -- its inode is written back, and it is this part now
 abbrev pub closed : Geometry → Contents → ℕ → Placed → OpenInode → Part → Contents
 closed g v n p u part = record {
-  blocks = edited g u.blocks (put_inode p.number u.inode);
+  blocks = inode_back g u.blocks p u.inode;
   nodes = put_number v.nodes n (record { number = p.number; inode = u.inode; part = part });
 }
 
@@ -129,7 +150,7 @@ directory_mapped g v n p d t content index = closed g v n p (map_block g t conte
 -- the block itself is a page, all else that is written is metadata
 abbrev pub file_mapped_touches : Geometry → Contents → ℕ → Placed → TakenZones → List ℕ → ℕ → Touched
 file_mapped_touches g v n p t content index = record {
-  blocks = table_block g p.number ∷ filter (λ b. not (b == t.data_zone)) (touched_by_all g (all_edits g t content (opened v p) (way index)));
+  blocks = filter (λ b. not (b == t.data_zone)) (touched_by_all g (all_edits g t content (opened v p) (way index))) ++ back_told g p (map_block g t content (opened v p) index).inode;
   freed = [];
   revoked = [];
   pages = record { birth = n; index = index; zone = t.data_zone } ∷ [];
@@ -151,7 +172,7 @@ page_of n m = record { birth = n; index = m.index; zone = m.zone }
 
 abbrev pub file_cut_touches : Geometry → Contents → ℕ → Placed → List Mapped → (Place → Bool) → ℕ → Touched
 file_cut_touches g v n p zones keeps from = record {
-  blocks = table_block g p.number ∷ touched_by_all g (cut_edits (λ x. zone_in v.blocks p.inode x) keeps (cuts keeps from));
+  blocks = cut_told v.blocks (λ x. zone_in v.blocks p.inode x) keeps (cuts keeps from) ++ back_told g p (cut_to g keeps (opened v p) from).inode;
   freed = map (λ (m : Mapped). m.zone) (filter (λ m. not (nat_lt m.index from)) zones) ++ numbers_gone v p keeps;
   revoked = numbers_gone v p keeps;
   pages = [];

@@ -1,6 +1,7 @@
 -- Laws of a changeable volume.
 pub mod Edits
 pub mod Changes
+pub mod Back
 pub mod Zones
 pub mod Written
 pub mod Trees

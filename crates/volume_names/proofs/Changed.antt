@@ -17,8 +17,8 @@ use Rattle.volume_ops.specs.Places.{table_block}
 use Rattle.volume_model.specs.declared.placed.Placed.{Placed}
 use Rattle.volume_model.specs.Edits.{Edit, put_inode, put_slot, edited, touched_by_all}
 use Rattle.volume_model.specs.Volume.{block, zone_in}
-use Rattle.volume_model.specs.Moves.{opened, with_size}
-use Rattle.volume_model.specs.MapBlock.{OpenInode, TakenZones, own_of, map_block}
+use Rattle.volume_model.specs.Moves.{opened, with_size, inode_back, back_told, inode_told}
+use Rattle.volume_model.specs.MapBlock.{OpenInode, TakenZones, own_of, map_block, all_edits}
 use Rattle.volume_model.specs.Touched.{Touched, Contents, and_then}
 use Rattle.volume_model.specs.laws.Trees.{set_is_put}
 use Rattle.volume_steps.specs.Now.{VolumeNow, Change, written, tells_blocks, tells_writes}
@@ -28,6 +28,7 @@ use Rattle.volume_steps.proofs.QuietSteps.{at_node_is}
 use Rattle.volume_now.specs.Noted.{Noted, with_block, with_node}
 use Rattle.volume_names.specs.code.Steps.{After, HasHole, slot_step, slot_written, block_step, block_added, blocks_mapped}
 use Rattle.volume_names.proofs.Mapped.{blocks_are}
+use Rattle.volume_model.specs.Ways.{way}
 
 abbrev pub volume_of : Geometry → List (List ℕ) → List (ℕ × Placed) → Zones → VolumeNow
 volume_of g blocks nodes zones = record { geometry = g; contents = record { blocks = blocks; nodes = nodes }; zones = zones }
@@ -58,65 +59,80 @@ changed_at v n p q change before touched blocks nodes zones order at set g b m z
 
 -- ---- what was noted
 
-pub noted_table : (s u : Noted) (b x : ℕ) → u ≡ with_block s b → b ≡ x → u.touched ≡ and_then s.touched (tells_blocks (x ∷ []))
-noted_table s u b x e same = ap (λ (u : Noted). u.touched) (e ∙ ap (with_block s) same) ∙ told s.touched x
-  where
-    told : (t : Touched) (x : ℕ) → record t { blocks = t.blocks ++ x ∷ [] } ≡ and_then t (tells_blocks (x ∷ []))
-    told t x = simp append-nil
+-- the inode was compared with a copy of what it was
+pub noted_inode : (g : Geometry) (number : ℕ) (copy before after : Inode) (old new : Touched) → copy ≡ before → new ≡ and_then old (tells_blocks (inode_told g number copy after)) →
+    new ≡ and_then old (tells_blocks (inode_told g number before after))
+noted_inode g number copy before after old new same e = e ∙ ap (λ i. and_then old (tells_blocks (inode_told g number i after))) same
 
-pub noted_slot : (s u w z : Noted) (a b x y n : ℕ) → u ≡ with_block s a → w ≡ with_block u b → z ≡ with_node w n → a ≡ x → b ≡ y → z.touched ≡ and_then s.touched (tells_node n (x ∷ y ∷ []))
-noted_slot s u w z a b x y n e f h k l =
-    ap (λ (z : Noted). z.touched) (h ∙ ap (λ w. with_node w n) (f ∙ (ap (λ u. with_block u b) (e ∙ ap (with_block s) k) ∙ ap (with_block (with_block s x)) l)))
-    ∙ told s.touched x y n
+pub noted_zone : (s u z : Noted) (a x n : ℕ) → u ≡ with_block s a → z ≡ with_node u n → a ≡ x → z.touched ≡ and_then s.touched (tells_node n (x ∷ []))
+noted_zone s u z a x n e h k = ap (λ (z : Noted). z.touched) (h ∙ ap (λ u. with_node u n) (e ∙ ap (with_block s) k)) ∙ all s.touched x n
   where
-    told : (t : Touched) (x y n : ℕ) → record t { blocks = (t.blocks ++ x ∷ []) ++ y ∷ []; nodes = t.nodes ++ n ∷ [] } ≡ and_then t (tells_node n (x ∷ y ∷ []))
-    told t x y n = simp (append_assoc, append-nil)
+    all : (t : Touched) (x n : ℕ) → record t { blocks = t.blocks ++ x ∷ []; nodes = t.nodes ++ n ∷ [] } ≡ and_then t (tells_node n (x ∷ []))
+    all t x n = simp append-nil
+
+pub noted_slot : (s u w z : Noted) (a x n : ℕ) (told : List ℕ) → u ≡ with_block s a → w.touched ≡ and_then u.touched (tells_blocks told) → z ≡ with_node w n → a ≡ x →
+    z.touched ≡ and_then s.touched (tells_node n (x ∷ told))
+noted_slot s u w z a x n told e f h k =
+    ap (λ (z : Noted). z.touched) h
+    ∙ (ap (λ (t : Touched). record t { nodes = t.nodes ++ n ∷ [] }) (f ∙ ap (λ (u : Noted). and_then u.touched (tells_blocks told)) (e ∙ ap (with_block s) k))
+    ∙ all s.touched x told n)
+  where
+    all : (t : Touched) (x : ℕ) (told : List ℕ) (n : ℕ) →
+        record {
+          blocks = (t.blocks ++ x ∷ []) ++ told;
+          freed = t.freed ++ [];
+          revoked = t.revoked ++ [];
+          pages = t.pages ++ [];
+          dropped = t.dropped ++ [];
+          nodes = (t.nodes ++ []) ++ n ∷ [];
+        } ≡ and_then t (tells_node n (x ∷ told))
+    all t x told n = simp (append_assoc, append-nil)
 
 -- ---- the steps
 
 module _ (v : VolumeNow) (n : ℕ) (p : Placed) (before touched : Touched) (blocks : List (List ℕ)) (nodes : List (ℕ × Placed)) (order : InOrder v.contents.nodes) (at : at_number v.contents.nodes n ≡ Some p) where
   -- links
   pub links_changed : (change : ℕ → ℕ) → nodes ≡ set_value (is_at (nat_cmp n)) v.contents.nodes (record { number = p.number; inode = with_links p.inode (change p.inode.links); part = p.part }) →
-      blocks ≡ edited v.geometry v.contents.blocks (put_inode p.number (with_links p.inode (change p.inode.links))) → touched ≡ and_then before (tells_blocks (table_block v.geometry p.number ∷ [])) →
+      blocks ≡ inode_back v.geometry v.contents.blocks p (with_links p.inode (change p.inode.links)) → touched ≡ and_then before (tells_blocks (back_told v.geometry p (with_links p.inode (change p.inode.links)))) →
       After before (set_links v n change) (volume_of v.geometry blocks nodes v.zones) touched
   links_changed change set b t = changed_at v n p (record { number = p.number; inode = with_links p.inode (change p.inode.links); part = p.part })
-      (λ p. record { volume = inode_put v n p (with_links p.inode (change p.inode.links)); touched = tells_blocks (table_block v.geometry p.number ∷ []) })
+      (λ p. record { volume = inode_put v n p (with_links p.inode (change p.inode.links)); touched = tells_blocks (back_told v.geometry p (with_links p.inode (change p.inode.links))) })
       before touched blocks nodes v.zones order at set refl b refl refl t
 
   -- a slot
   pub slot_changed : (k : ℕ) (slot : Option Slot) (slots zone : ℕ) (first : List (List ℕ)) → zone ≡ zone_in v.contents.blocks p.inode (block (k / 64)) →
       nodes ≡ set_value (is_at (nat_cmp n)) v.contents.nodes (record { number = p.number; inode = with_size p.inode (16 * slots); part = p.part }) →
       first ≡ edited v.geometry v.contents.blocks (put_slot zone (k % 64) slot) →
-      blocks ≡ edited v.geometry first (put_inode p.number (with_size p.inode (16 * slots))) →
-      touched ≡ and_then before (tells_node n (zone ∷ table_block v.geometry p.number ∷ [])) →
+      blocks ≡ inode_back v.geometry first p (with_size p.inode (16 * slots)) →
+      touched ≡ and_then before (tells_node n (zone ∷ back_told v.geometry p (with_size p.inode (16 * slots)))) →
       After before (slot_written v n k slot slots) (volume_of v.geometry blocks nodes v.zones) touched
   slot_changed k slot slots zone first e set f b t = changed_at v n p (record { number = p.number; inode = with_size p.inode (16 * slots); part = p.part })
       (slot_step v n k slot slots)
       before touched blocks nodes v.zones order at set refl
-      (b ∙ ap (λ first. edited v.geometry first (put_inode p.number (with_size p.inode (16 * slots)))) (f ∙ ap (λ zone. edited v.geometry v.contents.blocks (put_slot zone (k % 64) slot)) e))
-      refl refl (t ∙ ap (λ zone. and_then before (tells_node n (zone ∷ table_block v.geometry p.number ∷ []))) e)
+      (b ∙ ap (λ first. inode_back v.geometry first p (with_size p.inode (16 * slots))) (f ∙ ap (λ zone. edited v.geometry v.contents.blocks (put_slot zone (k % 64) slot)) e))
+      refl refl (t ∙ ap (λ zone. and_then before (tells_node n (zone ∷ back_told v.geometry p (with_size p.inode (16 * slots))))) e)
 
 -- ---- a block
 
-pub noted_block : (s u w z x : Noted) (g : Geometry) (es : List Edit) (table number n : ℕ) (blocks : List ℕ) → u.touched ≡ and_then s.touched (tells_writes g es) → w ≡ with_block u table → table ≡ number →
-    z.touched ≡ and_then w.touched (tells_blocks blocks) → x ≡ with_node z n → x.touched ≡ and_then s.touched (and_then (tells_writes g es) (tells_node n (number ∷ blocks)))
-noted_block s u w z x g es table number n blocks e f same h k =
+pub noted_block : (s u w z x : Noted) (g : Geometry) (es : List Edit) (n : ℕ) (blocks told : List ℕ) → u.touched ≡ and_then s.touched (tells_writes g es) →
+    w.touched ≡ and_then u.touched (tells_blocks blocks) → z.touched ≡ and_then w.touched (tells_blocks told) → x ≡ with_node z n →
+    x.touched ≡ and_then s.touched (and_then (tells_writes g es) (tells_node n (blocks ++ told)))
+noted_block s u w z x g es n blocks told e f h k =
     ap (λ (x : Noted). x.touched) k
     ∙ (ap (λ (t : Touched). record t { nodes = t.nodes ++ n ∷ [] })
-    (h ∙ ap (λ t. and_then t (tells_blocks blocks))
-    (ap (λ (w : Noted). w.touched) (f ∙ ap (with_block u) same) ∙ ap (λ (t : Touched). record t { blocks = t.blocks ++ number ∷ [] }) e))
-    ∙ told s.touched (touched_by_all g es) number n blocks)
+    (h ∙ ap (λ t. and_then t (tells_blocks told)) (f ∙ ap (λ t. and_then t (tells_blocks blocks)) e))
+    ∙ all s.touched (touched_by_all g es) n blocks told)
   where
-    told : (t : Touched) (bits : List ℕ) (number n : ℕ) (blocks : List ℕ) →
+    all : (t : Touched) (bits : List ℕ) (n : ℕ) (blocks told : List ℕ) →
         record {
-          blocks = ((t.blocks ++ bits) ++ number ∷ []) ++ blocks;
-          freed = (t.freed ++ []) ++ [];
-          revoked = (t.revoked ++ []) ++ [];
-          pages = (t.pages ++ []) ++ [];
-          dropped = (t.dropped ++ []) ++ [];
-          nodes = ((t.nodes ++ []) ++ []) ++ n ∷ [];
-        } ≡ and_then t (and_then (tells_blocks bits) (tells_node n (number ∷ blocks)))
-    told t bits number n blocks = simp (append_assoc, append-nil)
+          blocks = ((t.blocks ++ bits) ++ blocks) ++ told;
+          freed = ((t.freed ++ []) ++ []) ++ [];
+          revoked = ((t.revoked ++ []) ++ []) ++ [];
+          pages = ((t.pages ++ []) ++ []) ++ [];
+          dropped = ((t.dropped ++ []) ++ []) ++ [];
+          nodes = (((t.nodes ++ []) ++ []) ++ []) ++ n ∷ [];
+        } ≡ and_then t (and_then (tells_blocks bits) (tells_node n (blocks ++ told)))
+    all t bits n blocks told = simp (append_assoc, append-nil)
 
 module _ (v : VolumeNow) (n : ℕ) (p : Placed) (before touched : Touched) (blocks : List (List ℕ)) (nodes : List (ℕ × Placed)) (order : InOrder v.contents.nodes) (at : at_number v.contents.nodes n ≡ Some p)
     (index : ℕ) (few : index < 519) (hole : HasHole v p index) (zones : Zones) (taken : TakenZones) (first second : List (List ℕ)) (content : List ℕ) (i : Inode) where
@@ -145,16 +161,18 @@ module _ (v : VolumeNow) (n : ℕ) (p : Placed) (before touched : Touched) (bloc
 
   pub block_changed : zones ≡ t.zones → taken ≡ t.taken → first ≡ c.blocks → content ≡ filled 0 →
       ◌≡◌ {A = OpenInode} (record { blocks = second; inode = i }) (map_block v.geometry taken content (record { blocks = first; inode = p.inode }) index) →
-      blocks ≡ edited v.geometry second (put_inode p.number i) → nodes ≡ set_value (is_at (nat_cmp n)) v.contents.nodes (record { number = p.number; inode = i; part = p.part }) →
-      touched ≡ and_then before (and_then (tells_writes v.geometry es) (tells_node n (table_block v.geometry p.number ∷ blocks_mapped p.inode index taken))) →
+      blocks ≡ inode_back v.geometry second p i → nodes ≡ set_value (is_at (nat_cmp n)) v.contents.nodes (record { number = p.number; inode = i; part = p.part }) →
+      touched ≡ and_then before (and_then (tells_writes v.geometry es) (tells_node n (blocks_mapped p.inode index taken ++ back_told v.geometry p i))) →
       After before (block_added v n index) (volume_of v.geometry blocks nodes zones) touched
   block_changed y k f z m b set told =
       let made_is = mapped_as k f z m in
       changed_at v n p (record { number = p.number; inode = i; part = p.part })
       (block_step v n index)
       before touched blocks nodes zones order at set refl
-      (b ∙ ap (λ (u : OpenInode). edited v.geometry u.blocks (put_inode p.number u.inode)) made_is)
+      (b ∙ ap (λ (u : OpenInode). inode_back v.geometry u.blocks p u.inode) made_is)
       (ap (λ (u : OpenInode). put_number v.contents.nodes n (record { number = p.number; inode = u.inode; part = p.part })) made_is)
       y
-      (told ∙ ap (λ blocks. and_then before (and_then (tells_writes v.geometry es) (tells_node n (table_block v.geometry p.number ∷ blocks))))
-      (ap (blocks_mapped p.inode index) k ∙ sym (blocks_are v.geometry t.taken (opened c p) index hole.hole few hole.nine)))
+      (told ∙ (ap (λ blocks. and_then before (and_then (tells_writes v.geometry es) (tells_node n (blocks ++ back_told v.geometry p i))))
+      (ap (blocks_mapped p.inode index) k ∙ sym (blocks_are v.geometry t.taken (opened c p) index hole.hole few hole.nine))
+      ∙ ap (λ (u : OpenInode). and_then before (and_then (tells_writes v.geometry es)
+      (tells_node n (touched_by_all v.geometry (all_edits v.geometry t.taken (zeros 1024) (opened c p) (way index)) ++ back_told v.geometry p u.inode)))) made_is))

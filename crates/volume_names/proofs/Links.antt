@@ -14,7 +14,7 @@ use Rattle.volume_model.specs.declared.placed.Part.TheVariants as parts
 use Rattle.volume_model.specs.declared.placed.DirectoryPart.{DirectoryPart}
 use Rattle.volume_model.specs.Edits.{put_inode, edited}
 use Rattle.volume_model.specs.Touched.{and_then}
-use Rattle.volume_model.specs.Moves.{with_name}
+use Rattle.volume_model.specs.Moves.{with_name, inode_back, back_told}
 use Rattle.volume_steps.specs.Now.{VolumeNow, Change, followed_by, tells_blocks}
 use Rattle.volume_steps.specs.Steps.{with_links, inode_put, add_name}
 use Rattle.volume_steps.specs.Calls.{link_in}
@@ -125,8 +125,8 @@ module _ (v : VolumeNow) (birth parent : ℕ) (name : List ℕ) (h : MayLink v b
     first_is : first ≡ record { volume = entered_in w parent h.place.placed h.place.part s birth; touched = made.touched }
     first_is =
         at_node_is (volume_of v.geometry v.contents.blocks nodes v.zones) birth h.placed
-        (λ p. record { volume = inode_put (volume_of v.geometry v.contents.blocks nodes v.zones) birth p (with_links p.inode (p.inode.links + 1)); touched = tells_blocks (table_block v.geometry p.number ∷ []) }) stays
-        ∙ ap (λ nodes. record { volume = volume_of v.geometry (edited v.geometry v.contents.blocks (put_inode h.placed.number (with_links h.placed.inode now))) nodes v.zones; touched = tells_blocks (table_block v.geometry h.placed.number ∷ []) })
+        (λ p. record { volume = inode_put (volume_of v.geometry v.contents.blocks nodes v.zones) birth p (with_links p.inode (p.inode.links + 1)); touched = tells_blocks (back_told v.geometry p (with_links p.inode (p.inode.links + 1))) }) stays
+        ∙ ap (λ nodes. record { volume = volume_of v.geometry (inode_back v.geometry v.contents.blocks h.placed (with_links h.placed.inode now)) nodes v.zones; touched = tells_blocks (back_told v.geometry h.placed (with_links h.placed.inode now)) })
         (ap (λ nodes. put_number nodes birth child) same_nodes ∙ put_either v.contents.nodes parent birth in_it child order apart)
 
     pub may_be_written : (u : VolumeNow) → u ≡ first.volume → MayWrite u parent at
@@ -142,4 +142,4 @@ module _ (v : VolumeNow) (birth parent : ℕ) (name : List ℕ) (h : MayLink v b
         ∙ (ap (name_written (entered_in w parent h.place.placed h.place.part s birth) parent s) same_at
         ∙ named w parent h.place.placed h.place.part name birth child (in_order_put v.contents.nodes birth child order) stands h.place.is has (λ e. apart (sym e))))
         ∙ sym (ap (λ c. followed_by c (λ w. add_name w parent name birth)) (at_node_is v birth h.placed
-        (λ p. record { volume = inode_put v birth p (with_links p.inode (p.inode.links + 1)); touched = tells_blocks (table_block v.geometry p.number ∷ []) }) h.stands)))
+        (λ p. record { volume = inode_put v birth p (with_links p.inode (p.inode.links + 1)); touched = tells_blocks (back_told v.geometry p (with_links p.inode (p.inode.links + 1))) }) h.stands)))

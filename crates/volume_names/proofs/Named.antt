@@ -16,11 +16,11 @@ use Rattle.volume_model.specs.declared.placed.Part.{Part}
 use Rattle.volume_model.specs.Edits.{put_inode, put_slot, edited}
 use Rattle.volume_model.specs.Volume.{block, zone_in}
 use Rattle.volume_model.specs.Touched.{Contents, Touched, and_then}
-use Rattle.volume_model.specs.Moves.{opened, with_name, with_size, name_added}
+use Rattle.volume_model.specs.Moves.{opened, with_name, with_size, name_added, inode_back}
 use Rattle.volume_model.specs.MapBlock.{OpenInode, own_of, map_block}
 use Rattle.volume_steps.specs.Now.{VolumeNow, Change, with_contents, written, unchanged, followed_by}
 use Rattle.volume_steps.specs.Zones.{TakenFor, zone_bit, take_zones}
-use Rattle.volume_steps.specs.Steps.{at_node, tells_node, make_room, map_directory_block, put_name_slot, add_name}
+use Rattle.volume_steps.specs.Steps.{at_node, tells_node, make_room, map_directory_block, put_name_slot, add_name, slot_told}
 use Rattle.volume_steps.proofs.Files.{put_twice}
 use Rattle.volume_steps.proofs.QuietSteps.{at_node_is, at_directory_is}
 use Rattle.volume_names.proofs.Changed.{volume_of}
@@ -58,7 +58,7 @@ module _ (v : VolumeNow) (n : ℕ) (p : Placed) (d : DirectoryPart) (name : List
   named_slot : (u : VolumeNow) (q : Placed) → at_number u.contents.nodes n ≡ Some q → q.part ≡ parts.Directory d → at_number u.contents.nodes birth ≡ Some child →
       put_name_slot u n name birth ≡ record {
         volume = with_contents u (name_added u.geometry u.contents n q d s birth);
-        touched = tells_node n (zone_in u.contents.blocks q.inode (block (k / 64)) ∷ table_block u.geometry q.number ∷ []);
+        touched = tells_node n (slot_told u q k next);
       }
   named_slot u q stands kind has =
       at_directory_is u n q d (λ p d. at_node u birth (λ child. by p d child)) stands kind
@@ -67,7 +67,7 @@ module _ (v : VolumeNow) (n : ℕ) (p : Placed) (d : DirectoryPart) (name : List
       by : Placed → DirectoryPart → Placed → Change
       by p d child = record {
         volume = with_contents u (name_added u.geometry u.contents n p d (record { inode = child.number; name = name }) birth);
-        touched = tells_node n (zone_in u.contents.blocks p.inode (block (room d.slots / 64)) ∷ table_block u.geometry p.number ∷ []);
+        touched = tells_node n (slot_told u p (room d.slots) (with_name d (record { inode = child.number; name = name }) birth));
       }
 
   room_is : make_room v n ≡ (if begins then map_directory_block v n p d (length d.slots / 64) else unchanged v)
@@ -80,9 +80,9 @@ module _ (v : VolumeNow) (n : ℕ) (p : Placed) (d : DirectoryPart) (name : List
   abbrev ended : VolumeNow → Placed → List (ℕ × Placed) → Change
   ended u q nodes = record {
     volume = volume_of u.geometry
-        (edited u.geometry (edited u.geometry u.contents.blocks (put_slot (zone_in u.contents.blocks q.inode (block (k / 64))) (k % 64) (Some s))) (put_inode q.number (with_size q.inode (16 * slots))))
+        (inode_back u.geometry (edited u.geometry u.contents.blocks (put_slot (zone_in u.contents.blocks q.inode (block (k / 64))) (k % 64) (Some s))) q (with_size q.inode (16 * slots)))
         nodes u.zones;
-    touched = tells_node n (zone_in u.contents.blocks q.inode (block (k / 64)) ∷ table_block u.geometry q.number ∷ []);
+    touched = tells_node n (slot_told u q k next);
   }
 
   slot_is : (u : VolumeNow) (q : Placed) → at_number u.contents.nodes n ≡ Some q → q.part ≡ parts.Directory next → slot_written u n k (Some s) slots ≡ ended u q (put_number u.contents.nodes n (last q))
@@ -112,7 +112,7 @@ module _ (v : VolumeNow) (n : ℕ) (p : Placed) (d : DirectoryPart) (name : List
   m = map_block v.geometry t.taken (zeros 1024) (opened c p) (k / 64)
 
   abbrev grown : List (ℕ × Placed) → VolumeNow
-  grown nodes = volume_of v.geometry (edited v.geometry m.blocks (put_inode p.number m.inode)) nodes t.zones
+  grown nodes = volume_of v.geometry (inode_back v.geometry m.blocks p m.inode) nodes t.zones
 
   abbrev told : Touched
   told = (block_step v n (k / 64) p).touched

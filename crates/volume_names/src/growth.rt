@@ -9,8 +9,8 @@ ghost use Rattle.volume_names.specs.code.Steps.{After, block_added, HasHole, blo
 
 use blk_base::Block;
 use minix_layout::Inode;
-use volume_edits::{TakenZones, map_block, put_inode, table_block};
-use volume_now::{Touched, VolumeNow, take_zones};
+use volume_edits::{TakenZones, map_block};
+use volume_now::{Touched, VolumeNow, copy_inode, take_zones, write_inode};
 
 /// Maps block `index` of a directory, which has none, and fills it with free slots.
 pub fn add_block(v: &mut VolumeNow, n: u64, index: u32, touched: &mut Touched)
@@ -33,8 +33,8 @@ pub fn add_block(v: &mut VolumeNow, n: u64, index: u32, touched: &mut Touched)
         index,
         touched,
     );
-    touched.note_block(table_block(&v.geometry, placed.number));
     note_mapped(&placed.inode, index, &taken, touched);
+    let before = copy_inode(&placed.inode);
     map_block(
         &mut v.blocks,
         &v.geometry,
@@ -43,7 +43,14 @@ pub fn add_block(v: &mut VolumeNow, n: u64, index: u32, touched: &mut Touched)
         &taken,
         &Block::fill(0),
     );
-    put_inode(&mut v.blocks, &v.geometry, placed.number, &placed.inode);
+    write_inode(
+        &mut v.blocks,
+        &v.geometry,
+        placed.number,
+        &before,
+        &placed.inode,
+        touched,
+    );
     touched.note_node(n);
 }
 

@@ -9,9 +9,9 @@ ghost use Rattle.volume_names.specs.code.Steps.{After, slot_written, more_links}
 
 use minix_layout::Slot;
 use std::collections::BTreeMap;
-use volume_edits::{put_inode, put_slot, table_block};
+use volume_edits::put_slot;
 use volume_model::Placed;
-use volume_now::{Touched, VolumeNow, block_zone};
+use volume_now::{Touched, VolumeNow, block_zone, copy_inode, write_inode};
 
 /// Writes slot `at` of a directory, which has so many slots then.
 pub fn write_slot(
@@ -32,12 +32,19 @@ pub fn write_slot(
     let Some(placed) = v.nodes.get_mut(&n) else {
         return;
     };
+    let before = copy_inode(&placed.inode);
     let zone = block_zone(&v.blocks, &placed.inode, (at / 64) as u32);
     put_slot(&mut v.blocks, &v.geometry, zone, (at % 64) as u8, slot);
-    placed.inode.size = 16 * slots as u32;
-    put_inode(&mut v.blocks, &v.geometry, placed.number, &placed.inode);
     touched.note_block(zone.into());
-    touched.note_block(table_block(&v.geometry, placed.number));
+    placed.inode.size = 16 * slots as u32;
+    write_inode(
+        &mut v.blocks,
+        &v.geometry,
+        placed.number,
+        &before,
+        &placed.inode,
+        touched,
+    );
     touched.note_node(n);
 }
 
@@ -52,9 +59,16 @@ pub fn add_link(v: &mut VolumeNow, n: u64, touched: &mut Touched)
     let Some(placed) = v.nodes.get_mut(&n) else {
         return;
     };
+    let before = copy_inode(&placed.inode);
     placed.inode.links += 1;
-    put_inode(&mut v.blocks, &v.geometry, placed.number, &placed.inode);
-    touched.note_block(table_block(&v.geometry, placed.number));
+    write_inode(
+        &mut v.blocks,
+        &v.geometry,
+        placed.number,
+        &before,
+        &placed.inode,
+        touched,
+    );
 }
 
 /// The inode of a node; 0 where there is no such node.

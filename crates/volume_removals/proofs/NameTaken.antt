@@ -1,5 +1,5 @@
 -- A name that goes out of its directory: what the code did is the step.
-use Rattle.std.specs.Prelude.{◌≡◌, ◌≢◌, ◌*◌, ◌/◌, ◌%◌, ◌<◌, ◌^◌, ℕ, List, [], ◌∷◌, length, slice_set, Some, None}
+use Rattle.std.specs.Prelude.{◌≡◌, ◌≢◌, ◌*◌, ◌/◌, ◌%◌, ◌<◌, ◌^◌, ℕ, List, [], ◌∷◌, length, slice_set, Some, None, refl}
 use Rattle.std.specs.BTreeMap.{is_at}
 use Rattle.std.specs.Map.{set_value}
 use Rattle.std.specs.Ordering.{nat_cmp}
@@ -17,15 +17,26 @@ use Rattle.volume_model.specs.declared.placed.Part.TheVariants as parts
 use Rattle.volume_model.specs.declared.placed.DirectoryPart.{DirectoryPart}
 use Rattle.volume_model.specs.Edits.{put_inode, put_slot, edited}
 use Rattle.volume_model.specs.Volume.{block, zone_in, HasNames, IsPart, IsDirectoryPart}
-use Rattle.volume_model.specs.Moves.{without, with_size}
+use Rattle.volume_model.specs.Moves.{without, with_size, inode_back, back_told, inode_written, inode_told}
 use Rattle.volume_model.specs.Touched.{Touched, and_then}
 use Rattle.volume_model.specs.laws.Trees.{set_is_put}
 use Rattle.volume_steps.specs.Now.{VolumeNow, Change}
-use Rattle.volume_steps.specs.Steps.{take_name, tells_node, place_of as place_in_slots}
+use Rattle.volume_steps.specs.Steps.{take_name, tells_node, place_of as place_in_slots, slot_told}
 use Rattle.volume_steps.proofs.NameSteps.{NameStands, take_name_is, w}
 use Rattle.volume_names.specs.code.Steps.{After}
 use Rattle.volume_names.proofs.Changed.{volume_of}
 use Rattle.volume_removals.specs.code.Naming.{CanTake, without_slot}
+use Rattle.volume_model.specs.laws.Back.{fields_same}
+use Rattle.minix_layout.specs.declared.division.Geometry.{Geometry}
+
+-- an inode that stays is not written, and nothing is told of it
+back_same : (g : Geometry) (blocks : List (List ℕ)) (p : Placed) → inode_back g blocks p p.inode ≡ blocks
+unfolding inode_written
+back_same g blocks p = rw (fields_same p.inode) refl
+
+none_told : (g : Geometry) (p : Placed) → back_told g p p.inode ≡ []
+unfolding inode_told
+none_told g p = rw (fields_same p.inode) refl
 
 module _ (v : VolumeNow) (n : ℕ) (name : List ℕ) (h : CanTake v n name) where
   abbrev p : Placed
@@ -72,10 +83,10 @@ module _ (v : VolumeNow) (n : ℕ) (name : List ℕ) (h : CanTake v n name) wher
   same_size : (at : ℕ) → with_size p.inode (16 * length (slice_set d.slots at None)) ≡ p.inode
   same_size at = ap (with_size p.inode) (ap (λ k. 16 * k) (length-set d.slots at None) ∙ sym part.size)
 
-  module _ (at zone : ℕ) (after : DirectoryPart) (first last : List (List ℕ)) (nodes : List (ℕ × Placed)) (before touched : Touched) (place : place_of d.slots name ≡ Some at) (after_is : after ≡ without_slot d at name)
-      (zone_is : zone ≡ zone_in v.contents.blocks p.inode (block (at / 64))) (first_is : first ≡ edited v.geometry v.contents.blocks (put_slot zone (at % 64) None)) (last_is : last ≡ edited v.geometry first (put_inode p.number p.inode))
+  module _ (at zone : ℕ) (after : DirectoryPart) (first : List (List ℕ)) (nodes : List (ℕ × Placed)) (before touched : Touched) (place : place_of d.slots name ≡ Some at) (after_is : after ≡ without_slot d at name)
+      (zone_is : zone ≡ zone_in v.contents.blocks p.inode (block (at / 64))) (first_is : first ≡ edited v.geometry v.contents.blocks (put_slot zone (at % 64) None))
       (set : nodes ≡ set_value (is_at (nat_cmp n)) v.contents.nodes (record { number = p.number; inode = p.inode; part = parts.Directory after }))
-      (told : touched ≡ and_then before (tells_node n (zone ∷ table_block v.geometry p.number ∷ []))) where
+      (told : touched ≡ and_then before (tells_node n (zone ∷ []))) where
     abbrev k : ℕ
     k = place_in_slots name d.slots
 
@@ -87,9 +98,9 @@ module _ (v : VolumeNow) (n : ℕ) (name : List ℕ) (h : CanTake v n name) wher
 
     abbrev step : Change
     step = record {
-      volume = volume_of v.geometry (edited v.geometry (edited v.geometry v.contents.blocks (put_slot (zone_in v.contents.blocks p.inode (block (k / 64))) (k % 64) None)) (put_inode p.number end_inode))
+      volume = volume_of v.geometry (inode_back v.geometry (edited v.geometry v.contents.blocks (put_slot (zone_in v.contents.blocks p.inode (block (k / 64))) (k % 64) None)) p end_inode)
           (put_number v.contents.nodes n (record { number = p.number; inode = end_inode; part = parts.Directory next })) v.zones;
-      touched = tells_node n (zone_in v.contents.blocks p.inode (block (k / 64)) ∷ table_block v.geometry p.number ∷ []);
+      touched = tells_node n (slot_told v p k next);
     }
 
     step_is : take_name v n name ≡ step
@@ -107,8 +118,12 @@ module _ (v : VolumeNow) (n : ℕ) (name : List ℕ) (h : CanTake v n name) wher
     first_here : first ≡ edited v.geometry v.contents.blocks (put_slot (zone_in v.contents.blocks p.inode (block (k / 64))) (k % 64) None)
     first_here = first_is ∙ (λ i. edited v.geometry v.contents.blocks (put_slot (zone_here i) (here i % 64) None))
 
-    last_here : last ≡ step.volume.contents.blocks
-    last_here = last_is ∙ (λ i. edited v.geometry (first_here i) (put_inode p.number (sym (same_size k) i)))
+    last_here : first ≡ step.volume.contents.blocks
+    last_here = first_here ∙ (sym (back_same v.geometry _ p)
+        ∙ (λ i. inode_back v.geometry (edited v.geometry v.contents.blocks (put_slot (zone_in v.contents.blocks p.inode (block (k / 64))) (k % 64) None)) p (sym (same_size k) i)))
+
+    told_here : zone ∷ [] ≡ slot_told v p k next
+    told_here = (λ i. zone_here i ∷ []) ∙ ap (λ bs. zone_in v.contents.blocks p.inode (block (k / 64)) ∷ bs) (sym (none_told v.geometry p) ∙ (λ i. back_told v.geometry p (sym (same_size k) i)))
 
     nodes_here : nodes ≡ step.volume.contents.nodes
     nodes_here =
@@ -116,10 +131,10 @@ module _ (v : VolumeNow) (n : ℕ) (name : List ℕ) (h : CanTake v n name) wher
         ∙ (λ i. put_number v.contents.nodes n (record { number = p.number; inode = sym (same_size k) i; part = parts.Directory (after_here i) })))
 
     -- The name is taken.
-    pub name_taken : After before (take_name v n name) (volume_of v.geometry last nodes v.zones) touched
-    name_taken = subst (λ c. After before c (volume_of v.geometry last nodes v.zones) touched) (sym step_is) (record {
+    pub name_taken : After before (take_name v n name) (volume_of v.geometry first nodes v.zones) touched
+    name_taken = subst (λ c. After before c (volume_of v.geometry first nodes v.zones) touched) (sym step_is) (record {
       volume_is = λ i. volume_of v.geometry (last_here i) (nodes_here i) v.zones;
-      touched_is = told ∙ (λ i. and_then before (tells_node n (zone_here i ∷ table_block v.geometry p.number ∷ [])));
+      touched_is = told ∙ (λ i. and_then before (tells_node n (told_here i)));
     })
 
   -- ---- of what was found at the birth
@@ -131,18 +146,17 @@ module _ (v : VolumeNow) (n : ℕ) (name : List ℕ) (h : CanTake v n name) wher
     pub place_in : (at : ℕ) → place_of e.slots name ≡ Some at → at / 64 < 2 ^ 32
     place_in at place = place_fits at (ap (λ (d : DirectoryPart). place_of d.slots name) (same_part q e found is) ∙ place)
 
-    pub taken_at : (at zone : ℕ) (after : DirectoryPart) (first last : List (List ℕ)) (nodes : List (ℕ × Placed)) (before touched : Touched) → place_of e.slots name ≡ Some at → after ≡ without_slot e at name →
-        zone ≡ zone_in v.contents.blocks q.inode (block (at / 64)) → first ≡ edited v.geometry v.contents.blocks (put_slot zone (at % 64) None) → last ≡ edited v.geometry first (put_inode q.number q.inode) →
+    pub taken_at : (at zone : ℕ) (after : DirectoryPart) (first : List (List ℕ)) (nodes : List (ℕ × Placed)) (before touched : Touched) → place_of e.slots name ≡ Some at → after ≡ without_slot e at name →
+        zone ≡ zone_in v.contents.blocks q.inode (block (at / 64)) → first ≡ edited v.geometry v.contents.blocks (put_slot zone (at % 64) None) →
         nodes ≡ set_value (is_at (nat_cmp n)) v.contents.nodes (record { number = q.number; inode = q.inode; part = parts.Directory after }) →
-        touched ≡ and_then before (tells_node n (zone ∷ table_block v.geometry q.number ∷ [])) → After before (take_name v n name) (volume_of v.geometry last nodes v.zones) touched
-    taken_at at zone after first last nodes before touched place after_is zone_is first_is last_is set told =
+        touched ≡ and_then before (tells_node n (zone ∷ [])) → After before (take_name v n name) (volume_of v.geometry first nodes v.zones) touched
+    taken_at at zone after first nodes before touched place after_is zone_is first_is set told =
         let same = sym (same_node q found) in
         let part = sym (same_part q e found is) in
-        name_taken at zone after first last nodes before touched
+        name_taken at zone after first nodes before touched
         (ap (λ (d : DirectoryPart). place_of d.slots name) (sym part) ∙ place)
         (after_is ∙ ap (λ d. without_slot d at name) part)
         (zone_is ∙ ap (λ (p : Placed). zone_in v.contents.blocks p.inode (block (at / 64))) same)
         first_is
-        (last_is ∙ ap (λ (p : Placed). edited v.geometry first (put_inode p.number p.inode)) same)
         (set ∙ ap (λ (p : Placed). set_value (is_at (nat_cmp n)) v.contents.nodes (record { number = p.number; inode = p.inode; part = parts.Directory after })) same)
-        (told ∙ ap (λ (p : Placed). and_then before (tells_node n (zone ∷ table_block v.geometry p.number ∷ []))) same)
+        told

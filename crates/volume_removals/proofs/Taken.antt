@@ -23,6 +23,7 @@ use Rattle.volume_steps.proofs.QuietSteps.{linked, linked_steady, linked_slotted
 use Rattle.volume_steps.proofs.TreeSteps.{tree_at}
 use Rattle.volume_removals.specs.May.{HasName}
 use Rattle.volume_removals.specs.code.Naming.{CanTake}
+use Rattle.volume_model.specs.laws.Back.{back_apart}
 
 -- a zone of a node lies behind the table
 zone_high : (v : VolumeNow) (h : IsInUse v) (a : ℕ) (r p : Placed) (n : ℕ) → at_number v.contents.nodes a ≡ Some r → at_number v.contents.nodes n ≡ Some p → (x : Place) → zone_in v.contents.blocks r.inode x ≢ 0 →
@@ -70,7 +71,7 @@ module _ (v : VolumeNow) (n : ℕ) (name : List ℕ) (h : CanTake v n name) wher
   -- with its zones
   pub less_zones : (a : ℕ) (r : Placed) → a ≢ n → at_number v.contents.nodes a ≡ Some r → (x : Place) → zone_in less.volume.contents.blocks r.inode x ≡ zone_in v.contents.blocks r.inode x
   less_zones a r apart found = zone_kept v.contents.blocks less.volume.contents.blocks r.inode (λ x some.
-      edited_elsewhere v.geometry _ (put_inode p.number _) _ (zone_high v h.in_use a r p n found h.place.stands x some)
+      back_apart v.geometry _ p _ _ (zone_high v h.in_use a r p n found h.place.stands x some)
       ∙ edited_elsewhere v.geometry v.contents.blocks (put_slot (zone_in v.contents.blocks p.inode (block _)) _ _) _
       (λ same. apart (h.in_use.volume.0.zones a n r p x (block _) found h.place.stands same some).0))
 
@@ -97,4 +98,4 @@ module _ (v : VolumeNow) (h : IsInUse v) (n : ℕ) (p : Placed) (at : at_number 
 
   pub fewer_zones : (a : ℕ) (r : Placed) → at_number v.contents.nodes a ≡ Some r → (x : Place) → zone_in fewer_links.volume.contents.blocks r.inode x ≡ zone_in v.contents.blocks r.inode x
   fewer_zones a r found = zone_kept v.contents.blocks fewer_links.volume.contents.blocks r.inode (λ x some.
-      edited_elsewhere v.geometry v.contents.blocks (put_inode p.number _) _ (zone_high v h a r p n found at x some))
+      back_apart v.geometry v.contents.blocks p _ _ (zone_high v h a r p n found at x some))

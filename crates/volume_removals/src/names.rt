@@ -6,16 +6,16 @@ ghost use Rattle.volume_names.specs.code.Steps.{After};
 ghost use Rattle.volume_removals.specs.code.Naming.{CanTake, without_slot};
 
 use minix_layout::Name;
-use volume_edits::{put_inode, put_slot, table_block};
+use volume_edits::put_slot;
 use volume_model::{DirectoryPart, Part};
 use volume_now::{Touched, VolumeNow, block_zone};
 
-/// Takes a name out of the directory with this birth.
+/// Takes a name out of the directory with this birth, which keeps its size and so its inode.
 pub fn take_name(v: &mut VolumeNow, n: u64, name: &Name, touched: &mut Touched)
     requires may { CanTake v.old n name.now }
-    requires room { 3 ≤ touched.old.spare }
+    requires room { 2 ≤ touched.old.spare }
     ensures done { After touched.old.touched (take_name v.old n name.now) v.new touched.new.touched }
-    ensures spare { touched.new.spare + 3 ≡ touched.old.spare }
+    ensures spare { touched.new.spare + 2 ≡ touched.old.spare }
 {
     let Some(placed) = v.nodes.get_mut(&n) else {
         unreachable!();
@@ -28,9 +28,7 @@ pub fn take_name(v: &mut VolumeNow, n: u64, name: &Name, touched: &mut Touched)
     };
     let zone = block_zone(&v.blocks, &placed.inode, (at / 64) as u32);
     put_slot(&mut v.blocks, &v.geometry, zone, (at % 64) as u8, None);
-    put_inode(&mut v.blocks, &v.geometry, placed.number, &placed.inode);
     touched.note_block(zone.into());
-    touched.note_block(table_block(&v.geometry, placed.number));
     touched.note_node(n);
 }
 

@@ -13,7 +13,7 @@ use volume_bytes::{free_blocks, free_numbers};
 use volume_edits::{put_inode, table_block};
 use volume_model::Placed;
 use volume_names::mark_inode;
-use volume_now::{Touched, VolumeNow};
+use volume_now::{Touched, VolumeNow, copy_inode, write_inode};
 
 /// The links of a node; 0 where there is no such node.
 pub fn links_of(nodes: &BTreeMap<u64, Placed>, n: u64) -> u8
@@ -35,9 +35,16 @@ pub fn take_link(v: &mut VolumeNow, n: u64, touched: &mut Touched)
     let Some(placed) = v.nodes.get_mut(&n) else {
         return;
     };
+    let before = copy_inode(&placed.inode);
     placed.inode.links = placed.inode.links.saturating_sub(1);
-    put_inode(&mut v.blocks, &v.geometry, placed.number, &placed.inode);
-    touched.note_block(table_block(&v.geometry, placed.number));
+    write_inode(
+        &mut v.blocks,
+        &v.geometry,
+        placed.number,
+        &before,
+        &placed.inode,
+        touched,
+    );
 }
 
 /// A node goes in transaction `tx`: its inode becomes zeros, and its zones wait for the transaction. `metadata` are those

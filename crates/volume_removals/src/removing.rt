@@ -27,7 +27,7 @@ pub fn rmdir(
     ensures memory { OnErr result (v.new ≡ v.old) }
 {
     let metadata = metadata_of(alloc, v, birth)?;
-    let mut touched = Touched::with_room(alloc, 3 * metadata.len() + 7)?;
+    let mut touched = Touched::with_room(alloc, 3 * metadata.len() + 6)?;
     take_name(v, parent, name, &mut touched);
     take_link(v, parent, &mut touched);
     drop_node(v, tx, birth, &metadata, &mut touched);

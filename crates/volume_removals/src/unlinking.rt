@@ -28,7 +28,7 @@ pub fn unlink(
     ensures memory { OnErr result (v.new ≡ v.old) }
 {
     if links_of(&v.nodes, birth) > 1 {
-        let mut touched = Touched::with_room(alloc, 4)?;
+        let mut touched = Touched::with_room(alloc, 3)?;
         take_name(v, parent, name, &mut touched);
         take_link(v, birth, &mut touched);
         return Ok(touched);
@@ -40,9 +40,9 @@ pub fn unlink(
     Ok(touched)
 }
 
-// Room for the notes of a file that goes: three for each zone, three for its inode and three for its name.
+// Room for the notes of a file that goes: three for each zone, three for its inode and two for its name.
 fn room(blocks: &[Mapped], metadata: &[u16]) -> usize
-    ensures { result ≡ 3 * (length blocks.now + length metadata.now) + 6 }
+    ensures { result ≡ 3 * (length blocks.now + length metadata.now) + 5 }
 {
-    3 * (blocks.len() + metadata.len()) + 6
+    3 * (blocks.len() + metadata.len()) + 5
 }

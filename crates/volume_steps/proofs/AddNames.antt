@@ -31,7 +31,7 @@ use Rattle.volume_model.specs.Trees.{directory_from, tree_now, node_from}
 use Rattle.volume_model.specs.laws.SlotMoves.{MayPut, may_add_name, put_stands}
 use Rattle.volume_steps.specs.Now.{VolumeNow, Change, tree_of_now, with_contents, unchanged, followed_by}
 use Rattle.volume_steps.specs.Zones.{TakenFor, next_zone, take_zones, lacks_outer, lacks_second, numbers_if}
-use Rattle.volume_steps.specs.Steps.{at_node, tells_node, make_room, map_directory_block, put_name_slot, add_name}
+use Rattle.volume_steps.specs.Steps.{at_node, tells_node, make_room, map_directory_block, put_name_slot, add_name, slot_told}
 use Rattle.volume_steps.specs.Plain.{IsInUse}
 use Rattle.volume_steps.proofs.Taking.{frees}
 use Rattle.volume_steps.proofs.Grows.{GrowsTo, takes_none, grown_steady}
@@ -161,7 +161,7 @@ module _ (tx : ℕ) (v : VolumeNow) (in_use : IsInUse v) (n : ℕ) (p : Placed) 
     abbrev put_here : Change
     put_here = record {
       volume = with_contents v w;
-      touched = record { blocks = zone_in v.contents.blocks p.inode (block (room d.slots / 64)) ∷ table_block g p.number ∷ []; freed = []; revoked = []; pages = []; dropped = []; nodes = n ∷ [] };
+      touched = record { blocks = slot_told v p (room d.slots) next; freed = []; revoked = []; pages = []; dropped = []; nodes = n ∷ [] };
     }
 
     named_here : StepsTo tx v put_here later (links_at v.contents.nodes)
@@ -170,7 +170,7 @@ module _ (tx : ℕ) (v : VolumeNow) (in_use : IsInUse v) (n : ℕ) (p : Placed) 
           (put_stands g in_use.sound v.contents n p in_use.volume at d is (room d.slots) (Some s) next put)
           (slot_grows g in_use.sound v.contents n p in_use.volume at d is (room d.slots) (Some s) next put) (takes_none v.zones)
           (let all = used_after in let was = in_use.counted in let same = ap used_zones tree_here in let no = no_more in omega arith)
-          (put_told g v.contents w put_here.touched n _ refl (inl refl) (λ b i. elim i [ inl e ↦ sym e | inr z ↦ absurd z ]) (inr (inl refl)))
+          (put_told g v.contents w put_here.touched n _ refl (inl refl) (λ b i. elim i [ inl e ↦ sym e | inr z ↦ absurd z ]) (λ zones is. absurd (cc is)))
           (marks_same g in_use.sound v.contents w v.zones in_use.volume.0.whole in_use.volume.0.size
           (slot_maps g in_use.sound v.contents n p in_use.volume at d is (room d.slots) (Some s) next put) (slot_numbers g in_use.sound v.contents n p in_use.volume at d is (room d.slots) (Some s) next put));
       tree_is = tree_here;
@@ -190,7 +190,7 @@ module _ (tx : ℕ) (v : VolumeNow) (in_use : IsInUse v) (n : ℕ) (p : Placed) 
         by : Placed → DirectoryPart → Placed → Change
         by p d child = record {
           volume = with_contents v (name_added v.geometry v.contents n p d (record { inode = child.number; name = name }) birth);
-          touched = tells_node n (zone_in v.contents.blocks p.inode (block (room d.slots / 64)) ∷ table_block v.geometry p.number ∷ []);
+          touched = tells_node n (slot_told v p (room d.slots) (with_name d (record { inode = child.number; name = name }) birth));
         }
 
     here_is : make_room v n ≡ unchanged v → add_name v n name birth ≡ put_here
@@ -349,8 +349,8 @@ module _ (tx : ℕ) (v : VolumeNow) (in_use : IsInUse v) (n : ℕ) (p : Placed) 
           omega arith)
           (nodes_then g v.contents r rw_after (tells_node n first_blocks) (tells_node n (slot_blocks g in_use.sound r n rp r_stands r_at d refl (room d.slots) (Some s) next put_there))
           (put_told g v.contents r (tells_node n first_blocks) n rp refl (inl refl) (λ b i. elim i [ inl e ↦ sym e | inr z ↦ absurd z ])
-          (In-append_right (touched_by_all g (es v in_use n p at d is index high hole plenty)) (mapped_blocks v in_use n p at d is index high hole plenty) _ (inl refl)))
-          (put_told g r rw_after (tells_node n (slot_blocks g in_use.sound r n rp r_stands r_at d refl (room d.slots) (Some s) next put_there)) n _ refl (inl refl) (λ b i. elim i [ inl e ↦ sym e | inr z ↦ absurd z ]) (inr (inl refl))))
+          (λ zones is. absurd (cc is)))
+          (put_told g r rw_after (tells_node n (slot_blocks g in_use.sound r n rp r_stands r_at d refl (room d.slots) (Some s) next put_there)) n _ refl (inl refl) (λ b i. elim i [ inl e ↦ sym e | inr z ↦ absurd z ]) (λ zones is. absurd (cc is))))
           (marks_taken g in_use.sound v.contents rw_after v.zones taken_zones.zones taken_zones.numbers in_use.volume.0.whole in_use.volume.0.size (numbers_are_zones v in_use p.inode index plenty)
           (room_taken v in_use n p at d is index high hole plenty)
           (λ b low below. slot_maps g in_use.sound r n rp r_stands r_at d refl (room d.slots) (Some s) next put_there b low below ∙ room_maps v in_use n p at d is index high hole plenty b low below)
@@ -374,7 +374,7 @@ module _ (tx : ℕ) (v : VolumeNow) (in_use : IsInUse v) (n : ℕ) (p : Placed) 
 
     slot_is_behind : put_name_slot (record { geometry = g; contents = r; zones = taken_zones.zones }) n name birth ≡ record {
       volume = record { geometry = g; contents = rw_after; zones = taken_zones.zones };
-      touched = tells_node n (zone_in r.blocks rp.inode (block (room d.slots / 64)) ∷ table_block g p.number ∷ []);
+      touched = tells_node n (slot_blocks g in_use.sound r n rp r_stands r_at d refl (room d.slots) (Some s) next put_there);
     }
     slot_is_behind =
         at_directory_is (record { geometry = g; contents = r; zones = taken_zones.zones }) n rp d (λ p d. at_node (record { geometry = g; contents = r; zones = taken_zones.zones }) birth (λ child. by p d child)) r_at refl
@@ -383,7 +383,7 @@ module _ (tx : ℕ) (v : VolumeNow) (in_use : IsInUse v) (n : ℕ) (p : Placed) 
         by : Placed → DirectoryPart → Placed → Change
         by p d child = record {
           volume = record { geometry = g; contents = name_added g r n p d (record { inode = child.number; name = name }) birth; zones = taken_zones.zones };
-          touched = tells_node n (zone_in r.blocks p.inode (block (room d.slots / 64)) ∷ table_block g p.number ∷ []);
+          touched = tells_node n (slot_told (record { geometry = g; contents = r; zones = taken_zones.zones }) p (room d.slots) (with_name d (record { inode = child.number; name = name }) birth));
         }
 
     there_is : add_name v n name birth ≡ put_behind

@@ -1,10 +1,10 @@
 -- The blocks of a file from an index on go, and their zones wait.
-use Rattle.std.specs.Prelude.{◌≡◌, ◌≢◌, ℕ, zero, suc, ◌+◌, ◌<◌, ◌≤◌, nat_eq, nat_lt, nat_le, Bool, true, false, not, ◌&&◌, if◌then◌else◌, List, [], ◌∷◌, ◌++◌, length, map, filter, Option, Some, refl, ◌⊎◌}
+use Rattle.std.specs.Prelude.{◌≡◌, ◌≢◌, ℕ, zero, suc, ◌+◌, ◌<◌, ◌≤◌, nat_eq, nat_lt, nat_le, Bool, true, false, not, ◌&&◌, if◌then◌else◌, List, [], ◌∷◌, ◌++◌, length, map, filter, Option, Some, refl, ◌⊎◌, drop, ◌*◌}
 use Rattle.std.specs.List.{AllByRecursion, list_any, range_with_len}
 use Rattle.std.specs.List.Sorted.{IsStrictlySortedBy}
 use Rattle.std.specs.Ordering.{nat_cmp}
 use Rattle.std.proofs.Common.{Less, sym, ap, subst, ◌∙◌, inl, inr, ⊎_elim, arith}
-use Rattle.std.proofs.lemmas.Bool.{cases_Bool, cases_eq, eqb-false, ltb-false, lt-ltb, leb-false, true≢false}
+use Rattle.std.proofs.lemmas.Bool.{cases_Bool, cases_eq, eqb-false, ltb-false, lt-ltb, leb-false, true≢false, le-ltb, leb-true}
 use Rattle.std.proofs.lemmas.Option.{same_Some}
 use Rattle.blk_base.specs.Members.{In}
 use Rattle.blk_base.specs.laws.Members.{In-map, In-filter, map-In, filter-In, filter_all, In-append_left, In-append_right, In-append_cases, none-list_any}
@@ -23,10 +23,10 @@ use Rattle.zone_maps.specs.Zones.{state_of}
 use Rattle.volume_model.specs.declared.placed.Placed.{Placed}
 use Rattle.volume_model.specs.declared.placed.Part.TheVariants as parts
 use Rattle.volume_model.specs.Counts.{indices_of, keeps_below, number_places, uses as uses_place, zones_of_file}
-use Rattle.volume_model.specs.Cut.{IsKeep, cuts, cut_edits, cut_to}
-use Rattle.volume_model.specs.Edits.{Edit, touched_by_all, put_inode}
-use Rattle.volume_model.specs.MapBlock.{OpenInode, own_of}
-use Rattle.volume_model.specs.Moves.{IsVolume, file_cut, file_cut_touches, numbers_gone, page_of, opened}
+use Rattle.volume_model.specs.Cut.{IsKeep, cuts, cut_edits, cut_to, has_numbers, cut_told, cut_zones}
+use Rattle.volume_model.specs.Edits.{Edit, touched_by_all, put_inode, touched_by}
+use Rattle.volume_model.specs.MapBlock.{OpenInode, own_of, with_zones}
+use Rattle.volume_model.specs.Moves.{IsVolume, file_cut, file_cut_touches, numbers_gone, page_of, opened, back_told}
 use Rattle.volume_model.specs.Plain.{HasZone}
 use Rattle.volume_model.specs.Touched.{Contents, Page, Touched, Tells}
 use Rattle.volume_model.specs.Trees.{node_now, tree_now}
@@ -41,7 +41,7 @@ use Rattle.volume_steps.specs.Plain.{IsInUse}
 use Rattle.volume_steps.specs.Steps.{blocks_cut, cut_blocks}
 use Rattle.volume_steps.specs.Zones.{all_given, zone_bit}
 use Rattle.volume_steps.specs.laws.Steady.{IsSteady}
-use Rattle.volume_steps.proofs.Bits.{ChangesNone, AreZones, kept_volume, kept_zone, kept_tree, bits_none, bits_tell, node_kept}
+use Rattle.volume_steps.proofs.Bits.{ChangesNone, AreZones, kept_volume, kept_zone, kept_tree, bits_none, bits_tell, node_kept, bits_before}
 use Rattle.volume_steps.proofs.FileSteps.{IsFileStep, IsFileAt, IsFileChange, change_settled, change_slotted, change_directories, file_at, at_file_is}
 use Rattle.volume_steps.proofs.Files.{bodies_kept, node_is_file, node_zones_are, tree_changed}
 use Rattle.volume_steps.proofs.PageStep.{unchanged_step}
@@ -53,6 +53,7 @@ use Rattle.volume_steps.proofs.Listed.{put_told}
 use Rattle.volume_steps.proofs.Marked.{SameMaps, marks_given, numbers_put}
 use Rattle.volume_model.specs.laws.Edits.{edited_elsewhere, untouched}
 use Rattle.volume_model.specs.laws.Changes.{table_below}
+use Rattle.volume_model.specs.laws.Back.{back_apart}
 
 -- ---- places of zones of numbers, each once
 
@@ -127,6 +128,24 @@ cut_touched g own keeps (c ∷ cs) b i = elim (cases_Bool (keeps c.0)) [
     by : (In b (touched_by_all g (cut_edits own keeps cs)) → (x : Place) × (own x ≡ b)) → (own c.0 ≡ b) ⊎ In b (touched_by_all g (cut_edits own keeps cs)) → (x : Place) × (own x ≡ b)
     by rest (inl e) = (c.0, e)
     by rest (inr j) = rest j
+
+-- one of a list that passes a test
+some_in : {X : Type 0} (xs : List X) (test : X → Bool) → list_any test xs ≡ true → (x : X) × In x xs × (test x ≡ true)
+some_in [] test e = absurd (true≢false (sym e))
+some_in (x ∷ xs) test e = elim (cases_Bool (test x)) [
+  | inl t ↦ (x, inl refl, t)
+  | inr f ↦ (let w = some_in xs test (rw f at e) in (w.0, inr w.1, w.2))
+]
+
+-- what is told of a cut, where the zones of numbers have the same bytes
+cut_told_same : (blocks after : List (List ℕ)) (own other : Place → ℕ) (keeps : Place → Bool) (cs : List (Place × ℕ)) → ((x : Place) → other x ≡ own x) → ((x : Place) → disk_of after (own x) ≡ disk_of blocks (own x)) →
+    cut_told after other keeps cs ≡ cut_told blocks own keeps cs
+unfolding has_numbers
+cut_told_same blocks after own other keeps [] same bytes = refl
+cut_told_same blocks after own other keeps (c ∷ cs) same bytes =
+    let rest = cut_told_same blocks after own other keeps cs same bytes in
+    let body : disk_of after (other c.0) ≡ disk_of blocks (own c.0) = ap (disk_of after) (same c.0) ∙ bytes c.0 in
+    λ k. if keeps c.0 && list_any (λ x. not (nat_eq x 0)) (drop (2 * c.1) (body k)) then same c.0 k ∷ rest k else rest k
 
 -- ---- the step
 
@@ -438,9 +457,26 @@ module _ (tx : ℕ) (v : VolumeNow) (h : IsInUse v) (n : ℕ) (p : Placed) (zone
   abbrev pub cut : Change
   cut = blocks_cut v tx n p zones keeps from
 
-  abbrev touches_by : (Place → ℕ) → Touched
-  touches_by own = record {
-    blocks = table_block g p.number ∷ touched_by_all g (cut_edits own keeps (cuts keeps from));
+  -- no bit that is cleared stands in a zone of the file
+  number_bytes : (x : Place) → disk_of c.blocks (own x) ≡ disk_of blocks (own x)
+  number_bytes x = untouched g es blocks (own x) (λ i.
+      let range = bits_before g h.sound false freed within (own x) i in
+      let low = range.0 in
+      let high = range.1 in
+      elim (cases_eq (own x) 0) [
+        | inl none ↦ omega arith
+        | inr some ↦ (let mine = ((h.volume.0.each n p at).zones x some).0 in omega arith)
+      ])
+
+  told_same : cut_told c.blocks (λ x. zone_in c.blocks p.inode x) keeps (cuts keeps from) ++ back_told g p (cut_to g keeps (opened c p) from).inode
+      ≡ cut_told blocks own keeps (cuts keeps from) ++ back_told g p (cut_to g keeps (opened v.contents p) from).inode
+  unfolding cut_to
+  told_same = ap (λ bs. bs ++ back_told g p (with_zones p.inode (cut_zones keeps p.inode.zones)))
+      (cut_told_same blocks c.blocks own (λ x. zone_in c.blocks p.inode x) keeps (cuts keeps from) own_kept number_bytes)
+
+  abbrev touches_by : (Place → ℕ) → List ℕ → Touched
+  touches_by own told_blocks = record {
+    blocks = told_blocks;
     freed = data_gone ++ map own (filter (λ x. not (nat_eq (own x) 0) && not (keeps x)) number_places);
     revoked = map own (filter (λ x. not (nat_eq (own x) 0) && not (keeps x)) number_places);
     pages = [];
@@ -452,7 +488,7 @@ module _ (tx : ℕ) (v : VolumeNow) (h : IsInUse v) (n : ℕ) (p : Placed) (zone
   told = tells_as g v.contents w cut.touched (λ birth index. ⊥ ⊎ ⊥) (λ birth index. ⊥)
       (tells_then g v.contents c w (tells_writes g es) (file_cut_touches g v.contents n p zones keeps from) (λ birth index. ⊥) (λ birth index. ⊥)
       (bits_tell g h.sound v.contents h.volume false freed within)
-      (subst (λ t. Tells g c w t (λ birth index. ⊥)) (ap touches_by (λ k. λ x. own_kept x k))
+      (subst (λ t. Tells g c w t (λ birth index. ⊥)) (λ k. touches_by (λ x. own_kept x k) (told_same k))
       (cut_tells_all g h.sound c.blocks c.nodes n p volume.0 at from keeps keep_now (volume.1 n p at) zones is))
       (record { not_taken = λ b i j. i; not_dropped = λ x i j. i; not_mapped = λ x zone i page. i }))
       (λ birth index e. ⊎_elim (λ z. z) (λ z. z) e) (λ birth index z. absurd z)
@@ -477,7 +513,7 @@ module _ (tx : ℕ) (v : VolumeNow) (h : IsInUse v) (n : ℕ) (p : Placed) (zone
   maps_stay : SameMaps g c.blocks w.blocks
   unfolding cut_to
   maps_stay b low below =
-      edited_elsewhere g (cut_to g keeps (opened c p) from).blocks (put_inode p.number (cut_to g keeps (opened c p) from).inode) b
+      back_apart g (cut_to g keeps (opened c p) from).blocks p (cut_to g keeps (opened c p) from).inode b
       (λ e. (let stored = volume.0.each n p at in let far = (table_below g p.number h.sound stored.some stored.within).0 in omega arith))
       ∙ untouched g (cut_edits (own_of (opened c p)) keeps (cuts keeps from)) c.blocks b (λ i.
       let x = cut_touched g (own_of (opened c p)) keeps (cuts keeps from) b i in
@@ -486,20 +522,6 @@ module _ (tx : ℕ) (v : VolumeNow) (h : IsInUse v) (n : ℕ) (p : Placed) (zone
         | inl none ↦ omega arith
         | inr some ↦ (let range = ((volume.0.each n p at).zones x.0 some).0 in let same : zone_in c.blocks p.inode x.0 ≡ b = e in let tables = h.sound.tables_below in omega arith)
       ])
-
-  steady : IsSteady tx v cut (λ birth index. ⊥)
-  steady = record {
-    geometry = refl;
-    in_use = in_use;
-    told = told;
-    nodes = put_told g v.contents w cut.touched n q refl (inl refl) (λ b i. elim i [ inl e ↦ sym e | inr z ↦ absurd z ]) (In-append_right (touched_by_all g es) _ _ (inl refl));
-    lowest = given_lowest tx v.zones (all_given tx freed v.zones) freed given was_used;
-    marks = marks_given tx g h.sound v.contents w v.zones (all_given tx freed v.zones) freed h.volume.0.whole h.volume.0.size within given was_used maps_stay (numbers_put v.contents.nodes w.nodes n p q refl at refl);
-    freed = λ z i. given.now z i;
-    was_used = λ z i. was_used z i;
-    waits_on = λ z freed_by waits. given.others z (λ i. used_waits freed_by (sym (was_used z i) ∙ waits)) ∙ waits;
-    waited = λ z freed_by out waits. sym (given.others z out) ∙ waits;
-  }
 
   change : IsFileChange v.contents w n p q
   change = record {
@@ -510,18 +532,6 @@ module _ (tx : ℕ) (v : VolumeNow) (h : IsInUse v) (n : ℕ) (p : Placed) (zone
     links = same_links;
     size = λ old. subst (λ size. size ≤ largest_size) (sym same_size) (old.sizes n p zones at is);
     theirs = theirs;
-  }
-
-  -- The blocks are gone.
-  pub cut_step : IsFileStep tx v n cut file_left (λ birth index. ⊥)
-  cut_step = record {
-    steady = steady;
-    settled = change_settled v.contents w n p q change;
-    slotted = change_slotted v.contents w n p q change;
-    tree = tree;
-    waiting = given.more;
-    directories = change_directories v.contents w n p q change;
-    numbers = numbers_put v.contents.nodes w.nodes n p q refl at refl;
   }
 
   pub cut_free : frees cut.volume.zones ≡ frees v.zones
@@ -536,6 +546,41 @@ module _ (tx : ℕ) (v : VolumeNow) (h : IsInUse v) (n : ℕ) (p : Placed) (zone
       turned : (b : Bool) → not b ≡ true → b ≡ false
       turned true t = sym t
       turned false t = refl
+
+  module _ (some : list_any (λ (m : Mapped). nat_le from m.index) zones ≡ true) where
+    -- the bit of a zone that goes
+    told_bit : (b : ℕ) × In b (touched_by_all g es)
+    told_bit =
+        let m = some_in zones (λ (m : Mapped). nat_le from m.index) some in
+        let told = part.listed m.0 m.1 in
+        let i = at_freed (block m.0.index) (λ none. told.1 (sym told.0 ∙ none)) (le-ltb m.0.index from (leb-true _ _ m.2)) in
+        (touched_by g (zone_bit g false (own (block m.0.index))), map-In (touched_by g) es _ (map-In (zone_bit g false) freed _ i))
+
+    steady : IsSteady tx v cut (λ birth index. ⊥)
+    steady = record {
+      geometry = refl;
+      in_use = in_use;
+      told = told;
+      nodes = put_told g v.contents w cut.touched n q refl (inl refl) (λ b i. elim i [ inl e ↦ sym e | inr z ↦ absurd z ]) (λ zs file. (told_bit.0, In-append_left (touched_by_all g es) _ told_bit.0 told_bit.1, (bits_before g h.sound false freed within told_bit.0 told_bit.1).1));
+      lowest = given_lowest tx v.zones (all_given tx freed v.zones) freed given was_used;
+      marks = marks_given tx g h.sound v.contents w v.zones (all_given tx freed v.zones) freed h.volume.0.whole h.volume.0.size within given was_used maps_stay (numbers_put v.contents.nodes w.nodes n p q refl at refl);
+      freed = λ z i. given.now z i;
+      was_used = λ z i. was_used z i;
+      waits_on = λ z freed_by waits. given.others z (λ i. used_waits freed_by (sym (was_used z i) ∙ waits)) ∙ waits;
+      waited = λ z freed_by out waits. sym (given.others z out) ∙ waits;
+    }
+
+    -- The blocks are gone.
+    pub cut_step : IsFileStep tx v n cut file_left (λ birth index. ⊥)
+    cut_step = record {
+      steady = steady;
+      settled = change_settled v.contents w n p q change;
+      slotted = change_slotted v.contents w n p q change;
+      tree = tree;
+      waiting = given.more;
+      directories = change_directories v.contents w n p q change;
+      numbers = numbers_put v.contents.nodes w.nodes n p q refl at refl;
+    }
 
 -- ---- where there are any
 
@@ -577,7 +622,7 @@ module _ (tx : ℕ) (v : VolumeNow) (h : IsInUse v) (n : ℕ) (f : File) (found 
     | inl y ↦
         subst (λ c. IsCutStep tx v n from c after) (let e : blocks_cut v tx n x.placed x.zones (keeps_below (indices_of x.zones) from) from ≡ cut_of x.placed x.zones = rw y refl in e)
         (subst (λ f. IsCutStep tx v n from (blocks_cut v tx n x.placed x.zones (keeps_below (indices_of x.zones) from) from) f) (sym (ap (λ (f : File). with_blocks_below f from) x.file)) (record {
-          step = cut_step tx v h n x.placed x.zones x.stands x.is_file from;
+          step = cut_step tx v h n x.placed x.zones x.stands x.is_file from y;
           free_same = cut_free tx v h n x.placed x.zones x.stands x.is_file from;
           no_pages = refl;
           dropped = dropped_from tx v h n x.placed x.zones x.stands x.is_file from;

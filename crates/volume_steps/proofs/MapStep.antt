@@ -4,7 +4,7 @@ use Rattle.std.proofs.Common.{sym, ap, subst, ◌∙◌, inl, inr, ⊎_elim, ari
 use Rattle.std.proofs.lemmas.Bool.{cases_Bool, cases_eq, eqb-true, eqb-false}
 use Rattle.std.proofs.lemmas.Option.{same_Some}
 use Rattle.blk_base.specs.Members.{In}
-use Rattle.blk_base.specs.laws.Members.{In-append_right}
+use Rattle.blk_base.specs.laws.Members.{In-append_right, In-append_left}
 use Rattle.minix_layout.specs.declared.division.Geometry.{Geometry}
 use Rattle.minix_layout.specs.declared.inode.Inode.{Inode}
 use Rattle.tree_model.specs.declared.node.File.{File}
@@ -43,7 +43,7 @@ use Rattle.volume_steps.specs.Plain.{IsInUse}
 use Rattle.volume_steps.specs.Steps.{map_file_block}
 use Rattle.volume_steps.specs.Zones.{TakenFor, take_zones, zone_bit}
 use Rattle.volume_steps.specs.laws.Steady.{IsSteady}
-use Rattle.volume_steps.proofs.Bits.{ChangesNone, kept_zone, kept_tree, bits_tell, node_kept}
+use Rattle.volume_steps.proofs.Bits.{ChangesNone, kept_zone, kept_tree, bits_tell, node_kept, bits_before}
 use Rattle.volume_steps.proofs.FileSteps.{IsFileStep, IsFileChange, change_settled, change_slotted, change_directories}
 use Rattle.volume_steps.proofs.Files.{bodies_kept, bodies_mapped, node_is_file, node_zones_are, tree_changed}
 use Rattle.volume_steps.proofs.Taking.{AreTaken, frees, uses, in_zones}
@@ -54,6 +54,7 @@ use Rattle.volume_steps.proofs.Listed.{put_told}
 use Rattle.volume_steps.proofs.Marked.{SameMaps, marks_taken, numbers_put}
 use Rattle.volume_model.specs.laws.Edits.{edited_elsewhere, untouched}
 use Rattle.volume_model.specs.laws.Changes.{table_below}
+use Rattle.volume_model.specs.laws.Back.{back_apart}
 
 waits_used : (freed_by : ℕ) → ◌≡◌ {A = Option ZoneState} (Some (states.Quarantined freed_by)) (Some states.Used) → ⊥
 waits_used freed_by e = cc
@@ -285,7 +286,7 @@ module _ (tx : ℕ) (v : VolumeNow) (h : IsInUse v) (n : ℕ) (p : Placed) (zone
   maps_stay : SameMaps g c.blocks w.blocks
   unfolding map_block
   maps_stay b low below =
-      edited_elsewhere g u.blocks (put_inode p.number u.inode) b
+      back_apart g u.blocks p u.inode b
       (λ e. (let stored = volume.0.each n p at in let far = (table_below g p.number h.sound stored.some stored.within).0 in omega arith))
       ∙ (ap (λ a. disk_of a b) (blocks_by g t.taken content (record { blocks = c.blocks; inode = p.inode }) (way index))
       ∙ untouched g (way_edits g h.sound c.blocks c.nodes n p volume.0 at t.taken content size index high free) c.blocks b (λ i.
@@ -300,7 +301,7 @@ module _ (tx : ℕ) (v : VolumeNow) (h : IsInUse v) (n : ℕ) (p : Placed) (zone
     geometry = refl;
     in_use = in_use;
     told = told;
-    nodes = put_told g v.contents w mapped.touched n q refl (inl refl) (λ b i. elim i [ inl e ↦ sym e | inr z ↦ absurd z ]) (In-append_right (touched_by_all g es) _ _ (inl refl));
+    nodes = put_told g v.contents w mapped.touched n q refl (inl refl) (λ b i. elim i [ inl e ↦ sym e | inr z ↦ absurd z ]) (λ zones is. (_, In-append_left (touched_by_all g es) _ _ (inl refl), (bits_before g h.sound true t.numbers (numbers_are_zones v h p.inode index enough) _ (inl refl)).1));
     lowest = taken.lowest;
     marks = marks_taken g h.sound v.contents w v.zones t.zones t.numbers h.volume.0.whole h.volume.0.size (numbers_are_zones v h p.inode index enough) taken maps_stay (numbers_put v.contents.nodes w.nodes n p q refl at refl);
     freed = λ z i. absurd i;

@@ -1,5 +1,5 @@
 -- Steps on the names of a directory: a slot is written, and its names change with it.
-use Rattle.std.specs.Prelude.{◌≡◌, ◌+◌, ◌/◌, ◌%◌, ℕ, zero, suc, Bool, true, false, List, [], ◌∷◌, length, slice_set, Option, Some, None, refl}
+use Rattle.std.specs.Prelude.{◌≡◌, ◌+◌, ◌/◌, ◌%◌, ℕ, zero, suc, Bool, true, false, List, [], ◌∷◌, length, slice_set, Option, Some, None, refl, ◌*◌}
 use Rattle.std.specs.List.{slice_get}
 use Rattle.std.specs.Str.{bytes_eq}
 use Rattle.std.specs.List.Sorted.{IsStrictlySortedBy}
@@ -25,13 +25,13 @@ use Rattle.volume_model.specs.Edits.{put_slot}
 use Rattle.volume_model.specs.laws.Edits.{edited_elsewhere}
 use Rattle.volume_model.specs.Volume.{block, zone_in, HasNames}
 use Rattle.volume_model.specs.MapBlock.{OpenInode}
-use Rattle.volume_model.specs.Moves.{IsVolume, slot_put, without, without_name, name_removed}
+use Rattle.volume_model.specs.Moves.{IsVolume, slot_put, without, without_name, name_removed, back_told, with_size}
 use Rattle.volume_model.specs.Touched.{Contents}
 use Rattle.volume_model.specs.Plain.{HasDots, HasSlotZones}
 use Rattle.volume_model.specs.Trees.{directory_from, tree_now, node_from}
 use Rattle.volume_model.specs.laws.SlotMoves.{MayPut, may_move, same_zone, put_stands, may_take_name, put_open}
 use Rattle.volume_steps.specs.Now.{VolumeNow, Change, tree_of_now, with_contents, unchanged}
-use Rattle.volume_steps.specs.Steps.{has_name, place_of, take_name, tells_node}
+use Rattle.volume_steps.specs.Steps.{has_name, place_of, take_name, tells_node, slot_told}
 use Rattle.volume_steps.specs.Plain.{IsInUse}
 use Rattle.volume_steps.specs.laws.Steady.{IsSteady}
 use Rattle.volume_steps.proofs.Grows.{is_directory_part, GrowsTo}
@@ -40,13 +40,14 @@ use Rattle.volume_steps.proofs.Listed.{put_told}
 use Rattle.volume_steps.proofs.QuietSteps.{at_directory_is, quiet_steady}
 use Rattle.volume_steps.proofs.TreeSteps.{grown_pages, tree_put}
 use Rattle.volume_steps.proofs.Marked.{SameMaps, SameNumbers}
+use Rattle.volume_model.specs.laws.Back.{told_table}
 
 -- ---- a slot is written
 
 module _ (g : Geometry) (sound : IsSound g) (v : Contents) (n : ℕ) (p : Placed) (h : IsVolume g v) (at : at_number v.nodes n ≡ Some p) (d : DirectoryPart) (is : p.part ≡ parts.Directory d)
     (k : ℕ) (o : Option Slot) (next : DirectoryPart) (put : MayPut g v p d k o next) where
   abbrev pub slot_blocks : List ℕ
-  slot_blocks = zone_in v.blocks p.inode (block (k / 64)) ∷ table_block g p.number ∷ []
+  slot_blocks = zone_in v.blocks p.inode (block (k / 64)) ∷ back_told g p (with_size p.inode (16 * length next.slots))
 
   pub slot_grow : MayGrow g sound v n p h at (put_open g sound v n p h at d is k o next put) (parts.Directory next) (λ b. b ≡ zone_in v.blocks p.inode (block (k / 64)))
       (may_move g sound v n p h at d is k o next put) slot_blocks []
@@ -57,10 +58,10 @@ module _ (g : Geometry) (sound : IsSound g) (v : Contents) (n : ℕ) (p : Placed
         stays_as = λ x some. same x;
         was = λ x some. inl (same x);
         bytes = λ b none. edited_elsewhere g v.blocks (put_slot (zone_in v.blocks p.inode (block (k / 64))) (k % 64) o) b (λ e. none (inl (sym e)));
-        table = inr (inl refl);
+        table = λ b j. inr j;
         meta = λ b i. elim i [
           | inl e ↦ inr (block (k / 64), (λ none. put.mapped (sym (same (block (k / 64))) ∙ none)), same (block (k / 64)) ∙ e, refl)
-          | inr j ↦ elim j [ inl e ↦ inl (sym e) | inr w ↦ absurd w ]
+          | inr j ↦ inl (told_table g p (with_size p.inode (16 * length next.slots)) b j)
         ];
         told = λ zone i. absurd i;
         mapped = λ zone i. absurd i;
@@ -183,7 +184,7 @@ module _ (tx : ℕ) (v : VolumeNow) (in_use : IsInUse v) (n : ℕ) (p : Placed) 
   abbrev pub taken : Change
   taken = record {
     volume = with_contents v (name_removed v.geometry v.contents n p d k w.slot);
-    touched = tells_node n (zone_in v.contents.blocks p.inode (block (k / 64)) ∷ table_block v.geometry p.number ∷ []);
+    touched = tells_node n (slot_told v p k next);
   }
 
   long : length (slice_set d.slots k None) ≡ length d.slots
@@ -197,7 +198,7 @@ module _ (tx : ℕ) (v : VolumeNow) (in_use : IsInUse v) (n : ℕ) (p : Placed) 
       (may_move v.geometry in_use.sound v.contents n p in_use.volume at d is k None next put) (slot_blocks v.geometry in_use.sound v.contents n p in_use.volume at d is k None next put) (n ∷ [])
       (slot_grow v.geometry in_use.sound v.contents n p in_use.volume at d is k None next put) (put_stands v.geometry in_use.sound v.contents n p in_use.volume at d is k None next put)
       (ap directory_zones long ∙ sym (ap (λ part. node_zones (node_from v.contents.blocks p.inode part)) is))
-      (put_told v.geometry v.contents taken.volume.contents taken.touched n _ refl (inl refl) (λ b i. elim i [ inl e ↦ sym e | inr z ↦ absurd z ]) (inr (inl refl)))
+      (put_told v.geometry v.contents taken.volume.contents taken.touched n _ refl (inl refl) (λ b i. elim i [ inl e ↦ sym e | inr z ↦ absurd z ]) (λ zones is. absurd (cc is)))
 
   pub taken_tree : tree_of_now taken.volume ≡ put_number (tree_of_now v) n (nodes.Directory (tree_without_name (directory_from d) name))
   taken_tree = slot_tree v.geometry in_use.sound v.contents n p in_use.volume at d is k None next put
@@ -228,5 +229,5 @@ module _ (tx : ℕ) (v : VolumeNow) (in_use : IsInUse v) (n : ℕ) (p : Placed) 
       by p d None = unchanged v
       by p d (Some s) = record {
         volume = with_contents v (name_removed v.geometry v.contents n p d (place_of name d.slots) s);
-        touched = tells_node n (zone_in v.contents.blocks p.inode (block (place_of name d.slots / 64)) ∷ table_block v.geometry p.number ∷ []);
+        touched = tells_node n (slot_told v p (place_of name d.slots) (without_name d (place_of name d.slots) s));
       }

@@ -425,7 +425,7 @@ module _ (tx : ℕ) (v : VolumeNow) (in_use : IsInUse v) (n : ℕ) (none : at_nu
       let more = take.more in
       let was = in_use.counted in
       omega arith)
-      (put_told g v.contents w directory_made.touched n q refl (inl refl) (λ b i. elim i [ inl e ↦ sym e | inr z ↦ absurd z ]) (inr (inr (inr (inr (inr (inl refl)))))))
+      (put_told g v.contents w directory_made.touched n q refl (inl refl) (λ b i. elim i [ inl e ↦ sym e | inr z ↦ absurd z ]) (λ zones is. absurd (cc is)))
       made_marks
 
   pub directory_made_settled : IsSettled v.contents → (n ≡ 0 → ⊥) → IsSettled directory_made.volume.contents

@@ -142,7 +142,7 @@ module _ (tx : ℕ) (v : VolumeNow) (in_use : IsInUse v) (n : ℕ) (none : at_nu
       let zero = no_zones in
       let was = in_use.counted in
       omega arith)
-      (put_told g v.contents (come g v.contents after n q (λ _. ⊥) in_use.volume may) (make_file v n).touched n q refl (inl refl) (λ b i. elim i [ inl e ↦ sym e | inr z ↦ absurd z ]) (inr (inl refl)))
+      (put_told g v.contents (come g v.contents after n q (λ _. ⊥) in_use.volume may) (make_file v n).touched n q refl (inl refl) (λ b i. elim i [ inl e ↦ sym e | inr z ↦ absurd z ]) (λ zones is. (table_block g number, inr (inl refl), (table_below g number in_use.sound new.some new.within).1)))
       (marks_inode g in_use.sound v.contents (come g v.contents after n q (λ _. ⊥) in_use.volume may) v.zones number true in_use.volume.0.whole in_use.volume.0.size new.some new.within
       (λ b low high. edited_elsewhere g bits (put_inode number new_file_inode) b (λ e. (let far = (table_below g number in_use.sound new.some new.within).0 in omega arith)))
       ((λ t. number_comes v.contents.nodes n q), (λ has. refl)) (λ alike. not_before (alike.0 (number_comes v.contents.nodes n q))) (λ other apart. numbers_come v.contents.nodes n q none other apart))

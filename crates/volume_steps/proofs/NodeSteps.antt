@@ -17,12 +17,11 @@ use Rattle.volume_model.specs.declared.placed.Placed.{Placed}
 use Rattle.volume_model.specs.declared.placed.Part.{Part}
 use Rattle.volume_model.specs.declared.placed.Part.TheVariants as parts
 use Rattle.volume_model.specs.declared.placed.DirectoryPart.{DirectoryPart}
-use Rattle.volume_model.specs.Edits.{put_inode}
-use Rattle.volume_model.specs.laws.Edits.{edited_elsewhere}
+use Rattle.volume_model.specs.laws.Back.{back_elsewhere}
 use Rattle.volume_model.specs.laws.Changes.{table_below}
 use Rattle.volume_model.specs.Volume.{Place, block, indirect, double, inner, zone_in, at_indirect, at_double, at_inner, IsVolumeOf}
 use Rattle.volume_model.specs.MapBlock.{OpenInode, own_of}
-use Rattle.volume_model.specs.Moves.{IsVolume, closed}
+use Rattle.volume_model.specs.Moves.{IsVolume, closed, back_told}
 use Rattle.volume_model.specs.Touched.{Contents, IsMeta, of_tables, of_numbers, of_directory}
 use Rattle.volume_model.specs.Plain.{HasDots, HasSlotZones}
 use Rattle.volume_model.specs.laws.NodeMoves.{Which, changed, other, which, same_zone as node_same_zone}
@@ -102,7 +101,7 @@ module _ (g : Geometry) (sound : IsSound g) (v : Contents) (n : ℕ) (p : Placed
     pub stays_as : (x : Place) → zone_in v.blocks p.inode x ≢ 0 → own_of u x ≡ zone_in v.blocks p.inode x
     pub was : (x : Place) → own_of u x ≢ 0 → (own_of u x ≡ zone_in v.blocks p.inode x) ⊎ (In (own_of u x) new × (is_directory_part part ≡ true))
     pub bytes : (b : ℕ) → (In b blocks → ⊥) → disk_of u.blocks b ≡ disk_of v.blocks b
-    pub table : In (table_block g p.number) blocks
+    pub table : (b : ℕ) → In b (back_told g p u.inode) → In b blocks
     pub meta : (b : ℕ) → In b blocks → (b ≡ table_block g p.number) ⊎ ((y : Place) × (own_of u y ≢ 0) × (own_of u y ≡ b) × (is_directory_part part ≡ true))
     pub told : (zone : ℕ) → In zone new → In zone blocks
     pub mapped : (zone : ℕ) → In zone new → (y : Place) × (own_of u y ≢ 0) × (own_of u y ≡ zone)
@@ -227,7 +226,7 @@ module _ (g : Geometry) (sound : IsSound g) (v : Contents) (n : ℕ) (p : Placed
     pub closed_maps : SameMaps g v.blocks after.blocks
     closed_maps b low high =
         let out = no_map b high in
-        edited_elsewhere g u.blocks (put_inode p.number u.inode) b (λ e. out (subst (λ b. In b blocks) (sym e) grow.table)) ∙ grow.bytes b out
+        back_elsewhere g u.blocks p u.inode b (λ j. out (grow.table b j)) ∙ grow.bytes b out
       where
         no_map : (b : ℕ) → b < 2 + g.imap + g.zmap → In b blocks → ⊥
         no_map b high i = ⊎_elim
@@ -249,7 +248,7 @@ module _ (g : Geometry) (sound : IsSound g) (v : Contents) (n : ℕ) (p : Placed
     closed_grows = record {
       kept = kept;
       had = had;
-      bytes = λ b none. edited_elsewhere g u.blocks (put_inode p.number u.inode) b (λ e. none (subst (λ b. In b blocks) (sym e) grow.table)) ∙ grow.bytes b none;
+      bytes = λ b none. back_elsewhere g u.blocks p u.inode b (λ j. none (grow.table b j)) ∙ grow.bytes b none;
       meta = meta_after;
       told = grow.told;
       mapped = λ zone i. let w = grow.mapped zone i in record { birth = n; placed = q; place = w.0; stands = here; zone_is = mine w.0 ∙ w.2; some = λ none. w.1 (w.2 ∙ none) };

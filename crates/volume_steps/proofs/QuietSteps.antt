@@ -14,14 +14,13 @@ use Rattle.tree_model.specs.declared.node.File.{File}
 use Rattle.tree_model.specs.Maps.{at_number, put_number}
 use Rattle.tree_model.specs.Calls.{node_zones, used_zones, put_file, with_links as file_with_links}
 use Rattle.volume_ops.specs.declared.found.Mapped.{Mapped}
-use Rattle.volume_ops.specs.Places.{table_block}
 use Rattle.volume_model.specs.declared.placed.Placed.{Placed}
 use Rattle.volume_model.specs.declared.placed.Part.{Part}
 use Rattle.volume_model.specs.declared.placed.Part.TheVariants as parts
 use Rattle.volume_model.specs.declared.placed.DirectoryPart.{DirectoryPart}
 use Rattle.volume_model.specs.Volume.{Place, block, indirect, double, inner, zone_in, IsPart}
 use Rattle.volume_model.specs.MapBlock.{OpenInode}
-use Rattle.volume_model.specs.Moves.{IsVolume, closed}
+use Rattle.volume_model.specs.Moves.{IsVolume, closed, back_told}
 use Rattle.volume_model.specs.Touched.{Contents}
 use Rattle.volume_model.specs.Trees.{node_from, node_now}
 use Rattle.volume_model.specs.laws.Trees.{set_is_put}
@@ -119,7 +118,7 @@ module _ (tx : ℕ) (v : VolumeNow) (in_use : IsInUse v) (n : ℕ) (p : Placed) 
   abbrev may : MayMove g in_use.sound v.contents.blocks v.contents.nodes n p in_use.volume.0 at u p.part (λ _. ⊥)
   may = same_move v in_use n p at (with_links p.inode links) (linked_zone v.contents.blocks p.inode links) fit (linked_part v.contents.blocks p.inode links p.part (in_use.volume.0.each n p at).part)
 
-  abbrev grow : MayGrow g in_use.sound v.contents n p in_use.volume at u p.part (λ _. ⊥) may (table_block g p.number ∷ []) []
+  abbrev grow : MayGrow g in_use.sound v.contents n p in_use.volume at u p.part (λ _. ⊥) may (back_told g p (with_links p.inode links)) []
   grow = same_grow v in_use n p at (with_links p.inode links) (linked_zone v.contents.blocks p.inode links) fit (linked_part v.contents.blocks p.inode links p.part (in_use.volume.0.each n p at).part)
 
   stands : IsVolume g (closed g v.contents n p u p.part)
@@ -127,22 +126,22 @@ module _ (tx : ℕ) (v : VolumeNow) (in_use : IsInUse v) (n : ℕ) (p : Placed) 
 
   -- the node has so many links
   abbrev pub linked : Change
-  linked = record { volume = inode_put v n p (with_links p.inode links); touched = record { blocks = table_block g p.number ∷ []; freed = []; revoked = []; pages = []; dropped = []; nodes = [] } }
+  linked = record { volume = inode_put v n p (with_links p.inode links); touched = record { blocks = back_told g p (with_links p.inode links); freed = []; revoked = []; pages = []; dropped = []; nodes = [] } }
 
   linked_bodies : node_from linked.volume.contents.blocks (with_links p.inode links) p.part ≡ node_from v.contents.blocks (with_links p.inode links) p.part
   linked_bodies = node_same v.contents.blocks linked.volume.contents.blocks (with_links p.inode links) p.part
-      (λ zones is m i. quiet_pages tx v in_use n p at u p.part (λ _. ⊥) may (table_block g p.number ∷ []) [] grow stands n p zones at is m i)
+      (λ zones is m i. quiet_pages tx v in_use n p at u p.part (λ _. ⊥) may (back_told g p (with_links p.inode links)) [] grow stands n p zones at is m i)
 
   needs_same : (part : Part) → node_zones (node_from v.contents.blocks (with_links p.inode links) part) ≡ node_zones (node_from v.contents.blocks p.inode part)
   needs_same (parts.Directory d) = refl
   needs_same (parts.File zones) = refl
 
   pub linked_steady : IsSteady tx v linked (λ birth index. ⊥)
-  linked_steady = quiet_steady tx v in_use n p at u p.part (λ _. ⊥) may (table_block g p.number ∷ []) [] grow stands (ap node_zones linked_bodies ∙ needs_same p.part)
+  linked_steady = quiet_steady tx v in_use n p at u p.part (λ _. ⊥) may (back_told g p (with_links p.inode links)) [] grow stands (ap node_zones linked_bodies ∙ needs_same p.part)
       (same_told g v.contents linked.volume.contents linked.touched n p (record { number = p.number; inode = with_links p.inode links; part = p.part }) refl at refl refl)
 
   pub linked_tree : tree_of_now linked.volume ≡ put_number (tree_of_now v) n (node_from v.contents.blocks (with_links p.inode links) p.part)
-  linked_tree = quiet_tree tx v in_use n p at u p.part (λ _. ⊥) may (table_block g p.number ∷ []) [] grow stands ∙ ap (λ node. put_number (tree_of_now v) n node) linked_bodies
+  linked_tree = quiet_tree tx v in_use n p at u p.part (λ _. ⊥) may (back_told g p (with_links p.inode links)) [] grow stands ∙ ap (λ node. put_number (tree_of_now v) n node) linked_bodies
 
   -- of a directory the tree does not tell them
   pub linked_directory : (d : DirectoryPart) → p.part ≡ parts.Directory d → tree_of_now linked.volume ≡ tree_of_now v
@@ -164,7 +163,7 @@ module _ (tx : ℕ) (v : VolumeNow) (in_use : IsInUse v) (n : ℕ) (p : Placed) 
       same_file e f same = cc
 
   pub linked_settled : IsSettled v.contents → IsSettled linked.volume.contents
-  linked_settled old = closed_settled g in_use.sound v.contents n p in_use.volume at u p.part (λ _. ⊥) may (table_block g p.number ∷ []) [] grow
+  linked_settled old = closed_settled g in_use.sound v.contents n p in_use.volume at u p.part (λ _. ⊥) may (back_told g p (with_links p.inode links)) [] grow
       (record {
         sizes = λ zones is. old.sizes n p zones at is;
         dots = λ d is. old.dots n p d at is;
@@ -172,20 +171,20 @@ module _ (tx : ℕ) (v : VolumeNow) (in_use : IsInUse v) (n : ℕ) (p : Placed) 
       }) old
 
   pub linked_slotted : AreSlotted (λ a. ⊥) v.contents → AreSlotted (λ a. ⊥) linked.volume.contents
-  linked_slotted old = closed_slotted g in_use.sound v.contents n p in_use.volume at u p.part (λ _. ⊥) may (table_block g p.number ∷ []) [] grow
+  linked_slotted old = closed_slotted g in_use.sound v.contents n p in_use.volume at u p.part (λ _. ⊥) may (back_told g p (with_links p.inode links)) [] grow
       (λ a r d found is apart. old a r d found is (λ z. z))
       (λ d is. zones_settled v.contents.blocks v.contents.blocks p.inode (with_links p.inode links) (length d.slots) (linked_zone v.contents.blocks p.inode links) (old n p d at is (λ z. z)))
 
   pub linked_numbers : SameNumbers v.contents.nodes linked.volume.contents.nodes
-  linked_numbers = closed_numbers g in_use.sound v.contents n p in_use.volume at u p.part (λ _. ⊥) may (table_block g p.number ∷ []) [] grow
+  linked_numbers = closed_numbers g in_use.sound v.contents n p in_use.volume at u p.part (λ _. ⊥) may (back_told g p (with_links p.inode links)) [] grow
 
   pub set_links_is : (change : ℕ → ℕ) → change p.inode.links ≡ links → set_links v n change ≡ linked
   set_links_is change e =
       at_node_is v n p (λ p. record {
         volume = inode_put v n p (with_links p.inode (change p.inode.links));
-        touched = record { blocks = table_block v.geometry p.number ∷ []; freed = []; revoked = []; pages = []; dropped = []; nodes = [] };
+        touched = record { blocks = back_told v.geometry p (with_links p.inode (change p.inode.links)); freed = []; revoked = []; pages = []; dropped = []; nodes = [] };
       }) at
       ∙ ap (λ links. record {
         volume = inode_put v n p (with_links p.inode links);
-        touched = record { blocks = table_block v.geometry p.number ∷ []; freed = []; revoked = []; pages = []; dropped = []; nodes = [] };
+        touched = record { blocks = back_told v.geometry p (with_links p.inode links); freed = []; revoked = []; pages = []; dropped = []; nodes = [] };
       }) e

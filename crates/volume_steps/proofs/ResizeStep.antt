@@ -1,7 +1,7 @@
 -- A file gets another size.
-use Rattle.std.specs.Prelude.{◌≡◌, ◌≤◌, ◌==◌, ℕ, if◌then◌else◌, List, [], ◌∷◌, Some, refl}
+use Rattle.std.specs.Prelude.{◌≡◌, ◌≢◌, ◌≤◌, ◌==◌, ℕ, if◌then◌else◌, List, [], ◌∷◌, Some, refl}
 use Rattle.std.proofs.Common.{sym, ap, subst, inl, inr, ◌∙◌, arith}
-use Rattle.std.proofs.lemmas.Bool.{cases_Bool, eqb-true}
+use Rattle.std.proofs.lemmas.Bool.{cases_Bool, eqb-true, eqb-false}
 use Rattle.minix_layout.specs.declared.division.Geometry.{Geometry}
 use Rattle.minix_layout.specs.declared.inode.Inode.{Inode}
 use Rattle.tree_model.specs.declared.node.File.{File}
@@ -14,7 +14,9 @@ use Rattle.volume_ops.specs.Volume.{bodies_of}
 use Rattle.volume_model.specs.declared.placed.Placed.{Placed}
 use Rattle.volume_model.specs.declared.placed.Part.TheVariants as parts
 use Rattle.volume_model.specs.MapBlock.{OpenInode}
-use Rattle.volume_model.specs.Moves.{IsVolume, closed, with_size}
+use Rattle.volume_model.specs.Moves.{IsVolume, closed, with_size, back_told}
+use Rattle.volume_model.specs.laws.Back.{told_here}
+use Rattle.volume_model.specs.laws.Changes.{table_below}
 use Rattle.volume_model.specs.Trees.{node_from, node_now}
 use Rattle.volume_model.specs.Volume.{Place, block, indirect, double, inner, zone_in, IsPart, IsFilePart}
 use Rattle.volume_model.specs.laws.NodeMoves.{changed, other}
@@ -39,7 +41,7 @@ sized_zone blocks i size indirect = refl
 sized_zone blocks i size double = refl
 sized_zone blocks i size (inner k) = refl
 
-module _ (tx : ℕ) (v : VolumeNow) (in_use : IsInUse v) (n : ℕ) (p : Placed) (zones : List Mapped) (at : at_number v.contents.nodes n ≡ Some p) (is : p.part ≡ parts.File zones) (size : ℕ) (fits : size ≤ largest_size) where
+module _ (tx : ℕ) (v : VolumeNow) (in_use : IsInUse v) (n : ℕ) (p : Placed) (zones : List Mapped) (at : at_number v.contents.nodes n ≡ Some p) (is : p.part ≡ parts.File zones) (size : ℕ) (fits : size ≤ largest_size) (other_size : size ≢ p.inode.size) where
   abbrev g : Geometry
   g = v.geometry
 
@@ -59,7 +61,7 @@ module _ (tx : ℕ) (v : VolumeNow) (in_use : IsInUse v) (n : ℕ) (p : Placed) 
   may = same_move v in_use n p at (with_size p.inode size) (sized_zone v.contents.blocks p.inode size) fit sized_part
 
   abbrev written : List ℕ
-  written = table_block g p.number ∷ []
+  written = back_told g p (with_size p.inode size)
 
   abbrev grow : MayGrow g in_use.sound v.contents n p in_use.volume at u p.part (λ _. ⊥) may written []
   grow = same_grow v in_use n p at (with_size p.inode size) (sized_zone v.contents.blocks p.inode size) fit sized_part
@@ -87,7 +89,7 @@ module _ (tx : ℕ) (v : VolumeNow) (in_use : IsInUse v) (n : ℕ) (p : Placed) 
   pub sized_step : IsFileStep tx v n sized sized_file (λ birth index. ⊥)
   sized_step = record {
     steady = quiet_steady tx v in_use n p at u p.part (λ _. ⊥) may written (n ∷ []) grow stands same_needs
-        (put_told g v.contents sized.volume.contents sized.touched n (record { number = p.number; inode = with_size p.inode size; part = p.part }) refl (inl refl) (λ b i. elim i [ inl e ↦ sym e | inr z ↦ absurd z ]) (inl refl));
+        (put_told g v.contents sized.volume.contents sized.touched n (record { number = p.number; inode = with_size p.inode size; part = p.part }) refl (inl refl) (λ b i. elim i [ inl e ↦ sym e | inr z ↦ absurd z ]) (λ zones is. (table_block g p.number, told_here g p (with_size p.inode size) (λ e. other_size (ap (λ (i : Inode). i.size) e)), (let told = in_use.volume.0.each n p at in (table_below g p.number in_use.sound told.some told.within).1))));
     settled = λ old. closed_settled g in_use.sound v.contents n p in_use.volume at u p.part (λ _. ⊥) may written [] grow
         (record { sizes = λ zs file. fits; dots = λ d file. old.dots n p d at file; few_links = old.few_links n p at }) old;
     slotted = λ old. closed_slotted g in_use.sound v.contents n p in_use.volume at u p.part (λ _. ⊥) may written [] grow
@@ -122,7 +124,7 @@ module _ (tx : ℕ) (v : VolumeNow) (h : IsInUse v) (n : ℕ) (f : File) (found 
   abbrev resized : Placed → Change
   resized p =
       if change p.inode.size == p.inode.size then unchanged v
-      else record { volume = inode_put v n p (with_size p.inode (change p.inode.size)); touched = tells_node n (table_block v.geometry p.number ∷ []) }
+      else record { volume = inode_put v n p (with_size p.inode (change p.inode.size)); touched = tells_node n (back_told v.geometry p (with_size p.inode (change p.inode.size))) }
 
   file_is : record { size = change x.placed.inode.size; links = x.placed.inode.links; blocks = bodies_of v.contents.blocks x.zones } ≡ after
   file_is = sym (ap (λ (f : File). with_file_size f (change f.size)) x.file)
@@ -134,7 +136,7 @@ module _ (tx : ℕ) (v : VolumeNow) (h : IsInUse v) (n : ℕ) (f : File) (found 
         subst (λ c. IsWriteStep tx v n c after (λ birth index. ⊥)) (let e : unchanged v ≡ resized x.placed = rw y refl in e)
         (subst (λ f. IsWriteStep tx v n (unchanged v) f (λ birth index. ⊥)) same (record { step = unchanged_step tx v h n f found; none_freed = refl; none_dropped = refl }))
     | inr z ↦
-        subst (λ c. IsWriteStep tx v n c after (λ birth index. ⊥)) (let e : sized tx v h n x.placed x.zones x.stands x.is_file (change x.placed.inode.size) low ≡ resized x.placed = rw z refl in e)
-        (subst (λ f. IsWriteStep tx v n (sized tx v h n x.placed x.zones x.stands x.is_file (change x.placed.inode.size) low) f (λ birth index. ⊥)) file_is
-        (record { step = sized_step tx v h n x.placed x.zones x.stands x.is_file (change x.placed.inode.size) low; none_freed = refl; none_dropped = refl }))
+        subst (λ c. IsWriteStep tx v n c after (λ birth index. ⊥)) (let e : sized tx v h n x.placed x.zones x.stands x.is_file (change x.placed.inode.size) low (eqb-false _ _ z) ≡ resized x.placed = rw z refl in e)
+        (subst (λ f. IsWriteStep tx v n (sized tx v h n x.placed x.zones x.stands x.is_file (change x.placed.inode.size) low (eqb-false _ _ z)) f (λ birth index. ⊥)) file_is
+        (record { step = sized_step tx v h n x.placed x.zones x.stands x.is_file (change x.placed.inode.size) low (eqb-false _ _ z); none_freed = refl; none_dropped = refl }))
   ])

@@ -26,7 +26,7 @@ use Rattle.volume_model.specs.laws.MapBlock.{Outcome}
 use Rattle.volume_model.specs.laws.MapTells.{blocks_by, way_edits, way_touched, way_holes}
 use Rattle.volume_model.specs.laws.OnWay.{in_list, on_way, way_on}
 use Rattle.volume_model.specs.laws.ZoneMoves.{grown, map_outcome, MapWrites, MayMove, may_map, map_directory, map_just, moved_just, mapped_directory_stands, same_zone}
-use Rattle.volume_model.specs.Moves.{IsVolume, AreFree, directory_mapped}
+use Rattle.volume_model.specs.Moves.{IsVolume, AreFree, directory_mapped, back_told}
 use Rattle.volume_model.specs.Touched.{Contents, of_tables}
 use Rattle.volume_model.specs.Trees.{tree_now, directory_from, node_from}
 use Rattle.volume_steps.specs.Now.{VolumeNow, written}
@@ -40,6 +40,8 @@ use Rattle.volume_steps.proofs.NodeSteps.{MayGrow, IsSettled, AreSlotted, zones_
 use Rattle.volume_steps.proofs.TreeSteps.{grown_pages, tree_put, tree_at, tree_in_order}
 use Rattle.volume_steps.proofs.QuietSteps.{put_again}
 use Rattle.volume_steps.proofs.Marked.{SameMaps, SameNumbers}
+use Rattle.volume_model.specs.laws.Back.{told_table}
+use Rattle.blk_base.specs.laws.Members.{In-append_left, In-append_right, In-append_cases}
 
 -- bits that are written before the first zone
 pub bits_grow : (g : Geometry) → IsSound g → (v : Contents) (h : IsVolume g v) (after : List (List ℕ)) → ChangesNone g v.blocks after → (ts : List ℕ) →
@@ -129,7 +131,7 @@ module _ (v : VolumeNow) (in_use : IsInUse v) (n : ℕ) (p : Placed) (at : at_nu
   edits = way_edits g in_use.sound c.blocks c.nodes n p volume.0 at t.taken (zeros 1024) (length-zeros 1024) index high free
 
   abbrev pub mapped_blocks : List ℕ
-  mapped_blocks = table_block g p.number ∷ touched_by_all g edits
+  mapped_blocks = touched_by_all g edits ++ back_told g p u.inode
 
   was : (x : Place) → own_of u x ≢ 0 → (own_of u x ≡ zone_in c.blocks p.inode x) ⊎ (In (own_of u x) t.numbers × (is_directory_part (parts.Directory d) ≡ true))
   was x some = elim (cases_Bool (nat_eq (zone_in c.blocks p.inode x) 0)) [
@@ -148,15 +150,15 @@ module _ (v : VolumeNow) (in_use : IsInUse v) (n : ℕ) (p : Placed) (at : at_nu
     kind = sym (ap is_directory_part is);
     stays_as = λ x some. outcome.got.kept x some;
     was = was;
-    bytes = λ b out. ap (λ a. disk_of a b) (blocks_by g t.taken (zeros 1024) (record { blocks = c.blocks; inode = p.inode }) (way index)) ∙ untouched g edits c.blocks b (λ i. out (inr i));
-    table = inl refl;
-    meta = λ b i. elim i [
-      | inl e ↦ inl (sym e)
-      | inr j ↦ (let w = way_touched g in_use.sound c.blocks c.nodes n p volume.0 at t.taken (zeros 1024) (length-zeros 1024) index high free b j in inr (w.0, w.1, w.2, refl))
+    bytes = λ b out. ap (λ a. disk_of a b) (blocks_by g t.taken (zeros 1024) (record { blocks = c.blocks; inode = p.inode }) (way index)) ∙ untouched g edits c.blocks b (λ i. out (In-append_left (touched_by_all g edits) (back_told g p u.inode) b i));
+    table = λ b j. In-append_right (touched_by_all g edits) (back_told g p u.inode) b j;
+    meta = λ b i. elim (In-append_cases (touched_by_all g edits) (back_told g p u.inode) b i) [
+      | inr e ↦ inl (told_table g p u.inode b e)
+      | inl j ↦ (let w = way_touched g in_use.sound c.blocks c.nodes n p volume.0 at t.taken (zeros 1024) (length-zeros 1024) index high free b j in inr (w.0, w.1, w.2, refl))
     ];
     told = λ zone i.
         let w = number_place own index v.zones high hole zone i in
-        inr (subst (λ z. In z (touched_by_all g edits)) w.3
+        In-append_left (touched_by_all g edits) (back_told g p u.inode) zone (subst (λ z. In z (touched_by_all g edits)) w.3
         (way_holes g in_use.sound c.blocks c.nodes n p volume.0 at t.taken (zeros 1024) (length-zeros 1024) index high free w.0 w.1 (own_kept w.0 ∙ w.2)));
     mapped = λ zone i.
         let w = number_place own index v.zones high hole zone i in

@@ -5,11 +5,11 @@ use Rattle.minix_layout.specs.declared.division.Geometry.{Geometry}
 use Rattle.minix_layout.specs.declared.inode.Inode.{Inode}
 use Rattle.minix_layout.specs.Inodes.{FitInode}
 use Rattle.tree_model.specs.Maps.{at_number}
-use Rattle.volume_ops.specs.Places.{table_block}
 use Rattle.volume_model.specs.declared.placed.Placed.{Placed}
 use Rattle.volume_model.specs.Volume.{Place, zone_in, IsPart}
 use Rattle.volume_model.specs.MapBlock.{OpenInode, own_of}
-use Rattle.volume_model.specs.Moves.{IsVolume, closed}
+use Rattle.volume_model.specs.Moves.{IsVolume, closed, back_told}
+use Rattle.volume_model.specs.laws.Back.{told_table}
 use Rattle.volume_model.specs.laws.Changes.{changes_none}
 use Rattle.volume_model.specs.laws.OnWay.{just_same}
 use Rattle.volume_model.specs.laws.ZoneMoves.{MayMove, moved_stands, moved_just, theirs_apart, fit_before}
@@ -43,14 +43,14 @@ module _ (v : VolumeNow) (in_use : IsInUse v) (n : ℕ) (p : Placed) (at : at_nu
         names = λ d is. in_use.volume.0.names n p d at is;
       }
 
-  pub same_grow : MayGrow g in_use.sound v.contents n p in_use.volume at u p.part (λ _. ⊥) same_move (table_block g p.number ∷ []) []
+  pub same_grow : MayGrow g in_use.sound v.contents n p in_use.volume at u p.part (λ _. ⊥) same_move (back_told g p i) []
   same_grow = record {
     kind = refl;
     stays_as = λ x some. same x;
     was = λ x some. inl (same x);
     bytes = λ b none. refl;
-    table = inl refl;
-    meta = λ b i. elim i [ inl e ↦ inl (sym e) | inr j ↦ absurd j ];
+    table = λ b j. j;
+    meta = λ b j. inl (told_table g p i b j);
     told = λ zone i. absurd i;
     mapped = λ zone i. absurd i;
   }

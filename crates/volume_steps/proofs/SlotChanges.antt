@@ -32,7 +32,7 @@ use Rattle.volume_model.specs.Plain.{HasDots, HasSlotZones}
 use Rattle.volume_model.specs.Trees.{directory_from, node_from}
 use Rattle.volume_model.specs.laws.SlotMoves.{MayPut, may_move, put_stands, put_open}
 use Rattle.volume_steps.specs.Now.{VolumeNow, Change, tree_of_now, with_contents}
-use Rattle.volume_steps.specs.Steps.{at_node, place_of, tells_node, with_parent, set_parent, with_child, lead_name}
+use Rattle.volume_steps.specs.Steps.{at_node, place_of, tells_node, with_parent, set_parent, with_child, lead_name, slot_told}
 use Rattle.volume_steps.specs.Plain.{IsInUse}
 use Rattle.volume_steps.specs.laws.Steady.{IsSteady}
 use Rattle.volume_steps.proofs.NodeSteps.{IsSettled, AreSlotted}
@@ -172,7 +172,7 @@ module _ (tx : ℕ) (v : VolumeNow) (in_use : IsInUse v) (old : IsSettled v.cont
   abbrev pub parent_set : Change
   parent_set = record {
     volume = with_contents v (slot_put v.geometry v.contents n p 1 (Some s) next);
-    touched = tells_node n (zone_in v.contents.blocks p.inode (block (1 / 64)) ∷ table_block v.geometry p.number ∷ []);
+    touched = tells_node n (slot_told v p 1 next);
   }
 
   abbrev open_now : OpenInode
@@ -183,7 +183,7 @@ module _ (tx : ℕ) (v : VolumeNow) (in_use : IsInUse v) (old : IsSettled v.cont
       (may_move v.geometry in_use.sound v.contents n p in_use.volume at d is 1 (Some s) next put) (slot_blocks v.geometry in_use.sound v.contents n p in_use.volume at d is 1 (Some s) next put) (n ∷ [])
       (slot_grow v.geometry in_use.sound v.contents n p in_use.volume at d is 1 (Some s) next put) (put_stands v.geometry in_use.sound v.contents n p in_use.volume at d is 1 (Some s) next put)
       (ap directory_zones long ∙ sym (ap (λ part. node_zones (node_from v.contents.blocks p.inode part)) is))
-      (put_told v.geometry v.contents parent_set.volume.contents parent_set.touched n _ refl (inl refl) (λ b i. elim i [ inl e ↦ sym e | inr z ↦ absurd z ]) (inr (inl refl)))
+      (put_told v.geometry v.contents parent_set.volume.contents parent_set.touched n _ refl (inl refl) (λ b i. elim i [ inl e ↦ sym e | inr z ↦ absurd z ]) (λ zones is. absurd (cc is)))
 
   pub parent_is_set : StepsTo tx v parent_set (put_number (tree_of_now v) n (nodes.Directory (record { parent = parent; slots = length d.slots; names = d.names }))) (links_at v.contents.nodes)
   parent_is_set = record {
@@ -208,7 +208,7 @@ module _ (tx : ℕ) (v : VolumeNow) (in_use : IsInUse v) (old : IsSettled v.cont
       by : Placed → DirectoryPart → Placed → Change
       by p d above = record {
         volume = with_contents v (slot_put v.geometry v.contents n p 1 (Some (record { inode = above.number; name = codes ".." })) (with_parent d parent (record { inode = above.number; name = codes ".." })));
-        touched = tells_node n (zone_in v.contents.blocks p.inode (block (1 / 64)) ∷ table_block v.geometry p.number ∷ []);
+        touched = tells_node n (slot_told v p 1 (with_parent d parent (record { inode = above.number; name = codes ".." })));
       }
 
 -- ---- a name leads to another node
@@ -333,7 +333,7 @@ module _ (tx : ℕ) (v : VolumeNow) (in_use : IsInUse v) (old : IsSettled v.cont
   abbrev pub name_led : Change
   name_led = record {
     volume = with_contents v (slot_put v.geometry v.contents n p k (Some t) led);
-    touched = tells_node n (zone_in v.contents.blocks p.inode (block (k / 64)) ∷ table_block v.geometry p.number ∷ []);
+    touched = tells_node n (slot_told v p k led);
   }
 
   abbrev open_led : OpenInode
@@ -344,7 +344,7 @@ module _ (tx : ℕ) (v : VolumeNow) (in_use : IsInUse v) (old : IsSettled v.cont
       (may_move v.geometry in_use.sound v.contents n p in_use.volume at d is k (Some t) led put_led) (slot_blocks v.geometry in_use.sound v.contents n p in_use.volume at d is k (Some t) led put_led) (n ∷ [])
       (slot_grow v.geometry in_use.sound v.contents n p in_use.volume at d is k (Some t) led put_led) (put_stands v.geometry in_use.sound v.contents n p in_use.volume at d is k (Some t) led put_led)
       (ap directory_zones long_led ∙ sym (ap (λ part. node_zones (node_from v.contents.blocks p.inode part)) is))
-      (put_told v.geometry v.contents name_led.volume.contents name_led.touched n _ refl (inl refl) (λ b i. elim i [ inl e ↦ sym e | inr z ↦ absurd z ]) (inr (inl refl)))
+      (put_told v.geometry v.contents name_led.volume.contents name_led.touched n _ refl (inl refl) (λ b i. elim i [ inl e ↦ sym e | inr z ↦ absurd z ]) (λ zones is. absurd (cc is)))
 
   -- it keeps its slots
   led_directory : directory_from led ≡ with_name (directory_from d) name birth
@@ -373,5 +373,5 @@ module _ (tx : ℕ) (v : VolumeNow) (in_use : IsInUse v) (old : IsSettled v.cont
       by : Placed → DirectoryPart → Placed → Change
       by p d child = record {
         volume = with_contents v (slot_put v.geometry v.contents n p (place_of name d.slots) (Some (record { inode = child.number; name = name })) (with_child d (place_of name d.slots) (record { inode = child.number; name = name }) birth));
-        touched = tells_node n (zone_in v.contents.blocks p.inode (block (place_of name d.slots / 64)) ∷ table_block v.geometry p.number ∷ []);
+        touched = tells_node n (slot_told v p (place_of name d.slots) (with_child d (place_of name d.slots) (record { inode = child.number; name = name }) birth));
       }

@@ -20,7 +20,7 @@ use Rattle.volume_ops.specs.declared.found.Mapped.{Mapped}
 use Rattle.volume_ops.specs.Volume.{disk_of, bodies_of}
 use Rattle.volume_model.specs.declared.placed.Placed.{Placed}
 use Rattle.volume_model.specs.Volume.{block, zone_in}
-use Rattle.volume_model.specs.Moves.{with_size}
+use Rattle.volume_model.specs.Moves.{with_size, back_told}
 use Rattle.volume_ops.specs.Places.{table_block}
 use Rattle.volume_steps.specs.Calls.{truncate}
 use Rattle.volume_steps.specs.Now.{VolumeNow, Change, tree_of_now, followed_by, unchanged}
@@ -247,13 +247,13 @@ module _ (tx : ℕ) (v : VolumeNow) (h : IsInUse v) (n from : ℕ) (c d : Change
 resize_zones : (v : VolumeNow) (n : ℕ) (change : ℕ → ℕ) → (resize v n change).volume.zones ≡ v.zones
 resize_zones v n change = by (at_number v.contents.nodes n)
   where
-    either : (p : Placed) (b : Bool) → (if b then unchanged v else record { volume = inode_put v n p (with_size p.inode (change p.inode.size)); touched = tells_node n (table_block v.geometry p.number ∷ []) }).volume.zones ≡ v.zones
+    either : (p : Placed) (b : Bool) → (if b then unchanged v else record { volume = inode_put v n p (with_size p.inode (change p.inode.size)); touched = tells_node n (back_told v.geometry p (with_size p.inode (change p.inode.size))) }).volume.zones ≡ v.zones
     either p true = refl
     either p false = refl
 
     by : (o : Option Placed) → (elim o as (λ _. Change) [
       | None ↦ unchanged v
-      | Some p ↦ if change p.inode.size == p.inode.size then unchanged v else record { volume = inode_put v n p (with_size p.inode (change p.inode.size)); touched = tells_node n (table_block v.geometry p.number ∷ []) }
+      | Some p ↦ if change p.inode.size == p.inode.size then unchanged v else record { volume = inode_put v n p (with_size p.inode (change p.inode.size)); touched = tells_node n (back_told v.geometry p (with_size p.inode (change p.inode.size))) }
     ]).volume.zones ≡ v.zones
     by None = refl
     by (Some p) = either p (change p.inode.size == p.inode.size)

@@ -1,5 +1,5 @@
 -- The steps of which calls are made: nodes and names come and go, and blocks of a file are mapped, written and cut.
-use Rattle.std.specs.Prelude.{ℕ, ◌+◌, ◌/◌, ◌%◌, nat_eq, nat_le, Bool, true, false, ◌==◌, ◌&&◌, ◌||◌, if◌then◌else◌, List, [], ◌∷◌, ◌++◌, map, length, replicate, slice_set, codes, Option, Some, None}
+use Rattle.std.specs.Prelude.{ℕ, ◌+◌, ◌*◌, ◌/◌, ◌%◌, nat_eq, nat_le, Bool, true, false, ◌==◌, ◌&&◌, ◌||◌, if◌then◌else◌, List, [], ◌∷◌, ◌++◌, map, length, replicate, slice_set, codes, Option, Some, None}
 use Rattle.std.specs.Int.{div_ceil}
 use Rattle.std.specs.List.{list_any, range_with_len, slice_get}
 use Rattle.std.specs.Str.{bytes_eq}
@@ -22,10 +22,10 @@ use Rattle.volume_model.specs.Edits.{Edit, put_inode, put_slot, put_body, touche
 use Rattle.dir_ops.specs.Slots.{room}
 use Rattle.volume_model.specs.Volume.{Place, block, zone_in}
 use Rattle.volume_model.specs.Ways.{way}
-use Rattle.volume_model.specs.MapBlock.{own_of, all_edits}
+use Rattle.volume_model.specs.MapBlock.{own_of, map_block, all_edits}
 use Rattle.volume_model.specs.Counts.{keeps_below, indices_of}
 use Rattle.volume_model.specs.Touched.{Page, Touched, Contents, and_then}
-use Rattle.volume_model.specs.Moves.{opened, closed, with_size, added, node_removed, slot_put, name_added, name_removed, file_mapped, directory_mapped, file_mapped_touches, file_cut, file_cut_touches, numbers_gone, page_of}
+use Rattle.volume_model.specs.Moves.{opened, closed, with_size, added, node_removed, slot_put, back_told, with_name, without_name, name_added, name_removed, file_mapped, directory_mapped, file_mapped_touches, file_cut, file_cut_touches, numbers_gone, page_of}
 use Rattle.volume_steps.specs.Now.{VolumeNow, Change, unchanged, followed_by, with_contents, written, tells_blocks, tells_writes}
 use Rattle.volume_steps.specs.Zones.{inode_bit, zone_bit, new_number, next_zone, all_given, take_zones}
 
@@ -58,7 +58,7 @@ inode_put v n p i = with_contents v (closed v.geometry v.contents n p (record { 
 abbrev pub set_links : VolumeNow → ℕ → (ℕ → ℕ) → Change
 set_links v n change = at_node v n (λ p. record {
   volume = inode_put v n p (with_links p.inode (change p.inode.links));
-  touched = tells_blocks (table_block v.geometry p.number ∷ []);
+  touched = tells_blocks (back_told v.geometry p (with_links p.inode (change p.inode.links)));
 })
 
 -- it has this size
@@ -67,7 +67,7 @@ resize v n change = at_node v n (λ p.
     if change p.inode.size == p.inode.size then unchanged v
     else record {
       volume = inode_put v n p (with_size p.inode (change p.inode.size));
-      touched = tells_node n (table_block v.geometry p.number ∷ []);
+      touched = tells_node n (back_told v.geometry p (with_size p.inode (change p.inode.size)));
     })
 
 -- ---- a node comes
@@ -140,7 +140,8 @@ map_directory_block v n p d index =
     record {
       volume = record { geometry = v.geometry; contents = directory_mapped v.geometry c n p d t.taken (zeros 1024) index; zones = t.zones };
       touched = and_then (tells_writes v.geometry es)
-          (tells_node n (table_block v.geometry p.number ∷ touched_by_all v.geometry (all_edits v.geometry t.taken (zeros 1024) (opened c p) (way index))));
+          (tells_node n (touched_by_all v.geometry (all_edits v.geometry t.taken (zeros 1024) (opened c p) (way index))
+          ++ back_told v.geometry p (map_block v.geometry t.taken (zeros 1024) (opened c p) index).inode));
     }
 
 -- ---- names
@@ -151,11 +152,15 @@ make_room v n = at_directory v n (λ p d.
     if nat_eq (room d.slots) (length d.slots) && nat_eq (length d.slots % 64) 0 then map_directory_block v n p d (length d.slots / 64)
     else unchanged v)
 
--- A name is put at the first free slot or behind the last one. The directory's inode is written, also where its size stays.
+-- What is told of slot k of a directory, which is this one afterwards: its block, and that of the inode where the size changes.
+abbrev pub slot_told : VolumeNow → Placed → ℕ → DirectoryPart → List ℕ
+slot_told v p k next = zone_in v.contents.blocks p.inode (block (k / 64)) ∷ back_told v.geometry p (with_size p.inode (16 * length next.slots))
+
+-- a name is put at the first free slot or behind the last one
 abbrev pub put_name_slot : VolumeNow → ℕ → List ℕ → ℕ → Change
 put_name_slot v n name birth = at_directory v n (λ p d. at_node v birth (λ child. record {
   volume = with_contents v (name_added v.geometry v.contents n p d (record { inode = child.number; name = name }) birth);
-  touched = tells_node n (zone_in v.contents.blocks p.inode (block (room d.slots / 64)) ∷ table_block v.geometry p.number ∷ []);
+  touched = tells_node n (slot_told v p (room d.slots) (with_name d (record { inode = child.number; name = name }) birth));
 }))
 
 -- a name comes, in a directory that has room for it then
@@ -181,7 +186,7 @@ take_name v n name = at_directory v n (λ p d.
         | None ↦ unchanged v
         | Some s ↦ record {
           volume = with_contents v (name_removed v.geometry v.contents n p d k s);
-          touched = tells_node n (zone_in v.contents.blocks p.inode (block (k / 64)) ∷ table_block v.geometry p.number ∷ []);
+          touched = tells_node n (slot_told v p k (without_name d k s));
         }
       ]
     ])
@@ -197,7 +202,7 @@ set_parent v n parent = at_directory v n (λ p d. at_node v parent (λ above.
     let s : Slot = record { inode = above.number; name = codes ".." } in
     record {
       volume = with_contents v (slot_put v.geometry v.contents n p 1 (Some s) (with_parent d parent s));
-      touched = tells_node n (zone_in v.contents.blocks p.inode (block (1 / 64)) ∷ table_block v.geometry p.number ∷ []);
+      touched = tells_node n (slot_told v p 1 (with_parent d parent s));
     }))
 
 -- ---- a name leads to another node
@@ -212,7 +217,7 @@ lead_name v n name birth = at_directory v n (λ p d. at_node v birth (λ child.
     let s : Slot = record { inode = child.number; name = name } in
     record {
       volume = with_contents v (slot_put v.geometry v.contents n p k (Some s) (with_child d k s birth));
-      touched = tells_node n (zone_in v.contents.blocks p.inode (block (k / 64)) ∷ table_block v.geometry p.number ∷ []);
+      touched = tells_node n (slot_told v p k (with_child d k s birth));
     }))
 
 -- ---- a node goes

@@ -10,8 +10,9 @@ ghost use Rattle.tree_model.specs.Histories.{same_file, writes};
 ghost use Rattle.tree_model.specs.Maps.{at_number};
 ghost use Rattle.zone_maps.specs.declared.zone_state.ZoneState.TheVariants as states;
 ghost use Rattle.zone_maps.specs.Zones.{state_of, is_free, is_quarantined};
-ghost use Rattle.volume_ops.specs.Places.{table_block};
+ghost use Rattle.volume_ops.specs.declared.found.Mapped.{Mapped};
 ghost use Rattle.volume_model.specs.declared.placed.Placed.{Placed};
+ghost use Rattle.volume_model.specs.declared.placed.Part.TheVariants as parts;
 ghost use Rattle.volume_steps.specs.Now.{VolumeNow, tree_of_now, room_of, unchanged};
 ghost use Rattle.volume_steps.specs.Plain.{IsPlainNow, is_of_bytes};
 ghost use Rattle.volume_steps.specs.Calls.{called, after_release};
@@ -52,8 +53,8 @@ pub fn examples_of_changes()
     ensures freed { (touched_in 1 1 small_volume removing_session).freed ≡ 7 ∷ 6 ∷ [] }
     ensures wait { first_zones (after_calls 1 1 small_volume removing_session) ≡ states.Used ∷ states.Quarantined 1 ∷ states.Quarantined 1 ∷ [] }
     ensures renames { (touched_in 1 1 small_volume renaming_session).blocks ≡
-        2 ∷ 3 ∷ 6 ∷ 6 ∷ 6 ∷ 4 ∷ 5 ∷ 4 ∷ 4 ∷ 2 ∷ 4 ∷ 6 ∷ 4 ∷ 6 ∷ 4 ∷ 5 ∷ 4 ∷ 2 ∷ 3 ∷ 7 ∷ 7 ∷ 7 ∷ 4 ∷ 5 ∷ 4 ∷ 4 ∷
-        5 ∷ 4 ∷ 4 ∷ 6 ∷ 4 ∷ 4 ∷ 7 ∷ 4 ∷ 2 ∷ 4 ∷ 5 ∷ 4 ∷ 5 ∷ 4 ∷ 5 ∷ 4 ∷ 2 ∷ 4 ∷ [] }
+        2 ∷ 3 ∷ 6 ∷ 6 ∷ 6 ∷ 4 ∷ 5 ∷ 4 ∷ 4 ∷ 2 ∷ 4 ∷ 6 ∷ 4 ∷ 6 ∷ 5 ∷ 4 ∷ 2 ∷ 3 ∷ 7 ∷ 7 ∷ 7 ∷ 4 ∷ 5 ∷ 4 ∷ 4 ∷
+        5 ∷ 4 ∷ 6 ∷ 4 ∷ 7 ∷ 4 ∷ 2 ∷ 4 ∷ 5 ∷ 5 ∷ 5 ∷ 2 ∷ 4 ∷ [] }
     ensures left { numbers_of (after_calls 1 1 small_volume renaming_session) ≡ 1 ∷ 2 ∷ 4 ∷ 5 ∷ [] }
     ensures directories { count_once (touched_in 1 1 small_volume ten_directories).blocks ≡ 14 }
 {}
@@ -72,8 +73,8 @@ pub fn calls_do_the_tree_step()
 
 /// A law, which does nothing when it is called: what a call touched is told. Its pages are the blocks of files that it
 /// writes; only calls that write or cut a file have any. A node that comes or goes, or whose size, mapped blocks or slots
-/// change, is among the nodes; and where one of these is there afterwards, the block of the table that has its inode is
-/// among the blocks.
+/// change, is among the nodes; and where one of these is a file that is there afterwards, a block before the zones is among
+/// the blocks: that of the table which has its inode, or one of the map of zones.
 pub fn calls_tell_what_they_touch()
     ensures told { (v : VolumeNow) (n tx : ℕ) (c : Call) → FindsRoom v n c →
         IsSteady tx v (called v n tx c).change
@@ -86,10 +87,10 @@ pub fn calls_tell_what_they_touch()
     ensures files { (v : VolumeNow) (n tx : ℕ) (c : Call) → FindsRoom v n c → (birth : ℕ) →
         same_file (at_number (tree_of_now v) birth) (at_number (tree_of_now (called v n tx c).change.volume) birth) ≡ false →
         In birth (called v n tx c).change.touched.nodes }
-    ensures tables { (v : VolumeNow) (n tx : ℕ) (c : Call) → FindsRoom v n c → (birth : ℕ) (p : Placed) →
+    ensures tables { (v : VolumeNow) (n tx : ℕ) (c : Call) → FindsRoom v n c → (birth : ℕ) (p : Placed) (zones : List Mapped) →
         In birth (called v n tx c).change.touched.nodes →
-        at_number (called v n tx c).change.volume.contents.nodes birth ≡ Some p →
-        In (table_block v.geometry p.number) (called v n tx c).change.touched.blocks }
+        at_number (called v n tx c).change.volume.contents.nodes birth ≡ Some p → p.part ≡ parts.File zones →
+        (b : ℕ) × In b (called v n tx c).change.touched.blocks × (b < v.geometry.first) }
 {}
 
 /// A law, which does nothing when it is called: a call that is done takes as many free zones as it needs, from the lowest

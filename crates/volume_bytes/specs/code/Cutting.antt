@@ -1,5 +1,5 @@
 -- What the code does where a file is cut: the zones that go, one by one, and then the map of the file.
-use Rattle.std.specs.Prelude.{◌≡◌, ℕ, ◌/◌, ◌%◌, nat_eq, nat_lt, ◌||◌, ⊤, false, if◌then◌else◌, List, [], ◌∷◌, filter, length, Some}
+use Rattle.std.specs.Prelude.{◌≡◌, ℕ, ◌/◌, ◌%◌, nat_eq, nat_lt, ◌||◌, ⊤, false, if◌then◌else◌, List, [], ◌∷◌, filter, length, Some, ◌++◌}
 use Rattle.tree_model.specs.Calls.{cut_body}
 use Rattle.volume_ops.specs.declared.found.Mapped.{Mapped}
 use Rattle.volume_ops.specs.Places.{table_block}
@@ -9,7 +9,7 @@ use Rattle.zone_maps.specs.Zones.{Zones, given, state_of}
 use Rattle.volume_model.specs.Counts.{keeps_below, indices_of}
 use Rattle.volume_model.specs.Cut.{cut_to}
 use Rattle.volume_model.specs.Edits.{edited, put_inode, touched_by}
-use Rattle.volume_model.specs.Moves.{page_of}
+use Rattle.volume_model.specs.Moves.{page_of, inode_written, inode_told}
 use Rattle.volume_model.specs.Touched.{Touched, and_then}
 use Rattle.volume_model.specs.Volume.{block, zone_in}
 use Rattle.volume_steps.specs.Now.{Change}
@@ -58,15 +58,15 @@ numbers_freed tx (zone ∷ zones) c = numbers_freed tx zones (free_number tx zon
 abbrev pub all_freed : ℕ → ℕ → List Mapped → List ℕ → Change → Change
 all_freed tx birth ms numbers c = numbers_freed tx numbers (blocks_freed tx birth ms c)
 
--- then the map of the file is cut; `written` are the zones of numbers that are written
+-- then the map of the file is cut; `written` are the zones of numbers in which a number changes
 unfoldable pub map_cut : ℕ → List ℕ → Work → Work
 map_cut from written w =
     let g = w.volume.geometry in
     let u = cut_to g (keeps_below (indices_of w.file.zones) from) (record { blocks = w.volume.contents.blocks; inode = w.file.inode }) from in
     record {
-      volume = record { geometry = g; contents = record { blocks = edited g u.blocks (put_inode w.file.number u.inode); nodes = w.volume.contents.nodes }; zones = w.volume.zones };
+      volume = record { geometry = g; contents = record { blocks = inode_written g u.blocks w.file.number w.file.inode u.inode; nodes = w.volume.contents.nodes }; zones = w.volume.zones };
       file = record { birth = w.file.birth; number = w.file.number; inode = u.inode; zones = filter (λ m. nat_lt m.index from) w.file.zones };
-      touched = and_then w.touched (tells_node w.file.birth (table_block g w.file.number ∷ written));
+      touched = and_then w.touched (tells_node w.file.birth (written ++ inode_told g w.file.number w.file.inode u.inode));
     }
 
 -- all of it, where any blocks go

@@ -5,7 +5,7 @@ use Rattle.volume_ops.specs.declared.found.Mapped.{Mapped}
 use Rattle.volume_model.specs.declared.placed.Placed.{Placed}
 use Rattle.volume_model.specs.declared.placed.Part.TheVariants as parts
 use Rattle.volume_model.specs.Counts.{keeps_below, indices_of}
-use Rattle.volume_model.specs.Cut.{cuts, cut_edits}
+use Rattle.volume_model.specs.Cut.{cuts, cut_edits, cut_told}
 use Rattle.volume_model.specs.Edits.{touched_by_all}
 use Rattle.volume_model.specs.Volume.{zone_in}
 use Rattle.volume_edits.specs.declared.freed.CutZones.{CutZones}
@@ -13,7 +13,7 @@ use Rattle.volume_edits.specs.declared.written.WrittenZones.{WrittenZones}
 use Rattle.volume_edits.specs.Zones.{blocks_cut, numbers_cut, written_list}
 use Rattle.volume_steps.specs.Now.{VolumeNow}
 
--- the blocks that go from this file and its zones of numbers, and those of them that are written
+-- the blocks that go from this file and its zones of numbers, and those in which a number changes
 pub record IsListed (v : VolumeNow) (birth from : ℕ) (gone : CutZones) (written : WrittenZones) : Type 0 where
   pub placed : Placed
   pub zones : List Mapped
@@ -22,4 +22,4 @@ pub record IsListed (v : VolumeNow) (birth from : ℕ) (gone : CutZones) (writte
   pub blocks : gone.blocks.items ≡ blocks_cut zones from
   pub numbers : gone.numbers.items ≡ numbers_cut v.contents.blocks placed.inode (keeps_below (indices_of zones) from)
   pub told : written_list written ≡
-      touched_by_all v.geometry (cut_edits (λ x. zone_in v.contents.blocks placed.inode x) (keeps_below (indices_of zones) from) (cuts (keeps_below (indices_of zones) from) from))
+      cut_told v.contents.blocks (λ x. zone_in v.contents.blocks placed.inode x) (keeps_below (indices_of zones) from) (cuts (keeps_below (indices_of zones) from) from)

@@ -1,17 +1,17 @@
 -- A file that is open: its node is taken out, and what is done to it is done to this, to the blocks and to the zones.
 use Rattle.std.specs.Prelude.{ℕ, ◌-◌, ◌/◌, nat_eq, nat_lt, if◌then◌else◌, List, [], ◌∷◌, ◌++◌, map, true}
 use Rattle.byte_fields.specs.Fields.{zeros}
+use Rattle.minix_layout.specs.declared.inode.Inode.{Inode}
 use Rattle.minix_layout.specs.Inodes.{zero_inode}
 use Rattle.tree_model.specs.Calls.{patched}
-use Rattle.volume_ops.specs.Places.{table_block}
 use Rattle.volume_ops.specs.Volume.{disk_of}
 use Rattle.volume_model.specs.declared.placed.Placed.{Placed}
 use Rattle.volume_model.specs.declared.placed.Part.TheVariants as parts
-use Rattle.volume_model.specs.Edits.{edited, edited_all, put_inode, put_body}
+use Rattle.volume_model.specs.Edits.{edited, edited_all, put_body}
 use Rattle.volume_model.specs.Holes.{with_zone}
 use Rattle.volume_model.specs.Volume.{Place, block, indirect, double, inner, zone_in}
 use Rattle.volume_model.specs.MapBlock.{OpenInode, TakenZones, own_of, taken_at, map_block}
-use Rattle.volume_model.specs.Moves.{with_size}
+use Rattle.volume_model.specs.Moves.{with_size, inode_written, inode_told}
 use Rattle.volume_model.specs.Touched.{Touched, and_then}
 use Rattle.volume_steps.specs.Now.{VolumeNow, tells_writes}
 use Rattle.volume_steps.specs.Steps.{tells_node}
@@ -61,9 +61,9 @@ numbers_told own t index =
     else (if nat_lt index 519 then single_told own t
     else outer_told own t ++ second_told own t ((index - 519) / 512))
 
-abbrev pub tells_mapped : VolumeNow → OpenFile → (Place → ℕ) → TakenZones → ℕ → Touched
-tells_mapped v f own t index = record {
-  blocks = table_block v.geometry f.number ∷ numbers_told own t index;
+abbrev pub tells_mapped : VolumeNow → OpenFile → (Place → ℕ) → TakenZones → ℕ → Inode → Touched
+tells_mapped v f own t index after = record {
+  blocks = numbers_told own t index ++ inode_told v.geometry f.number f.inode after;
   freed = [];
   revoked = [];
   pages = record { birth = f.birth; index = index; zone = t.data_zone } ∷ [];
@@ -83,11 +83,11 @@ map_work content index w =
     record {
       volume = record {
         geometry = v.geometry;
-        contents = record { blocks = edited v.geometry u.blocks (put_inode f.number u.inode); nodes = v.contents.nodes };
+        contents = record { blocks = inode_written v.geometry u.blocks f.number f.inode u.inode; nodes = v.contents.nodes };
         zones = t.zones;
       };
       file = record { birth = f.birth; number = f.number; inode = u.inode; zones = with_zone f.zones index t.taken.data_zone };
-      touched = and_then w.touched (and_then (tells_writes v.geometry es) (tells_mapped v f (own_of s) t.taken index));
+      touched = and_then w.touched (and_then (tells_writes v.geometry es) (tells_mapped v f (own_of s) t.taken index u.inode));
     }
 
 -- a block that has a zone gets these bytes
@@ -114,7 +114,7 @@ unfoldable pub size_work : ℕ → Work → Work
 size_work size w =
     if nat_eq size w.file.inode.size then w
     else record {
-      volume = with_image w.volume (edited w.volume.geometry w.volume.contents.blocks (put_inode w.file.number (with_size w.file.inode size)));
+      volume = with_image w.volume (inode_written w.volume.geometry w.volume.contents.blocks w.file.number w.file.inode (with_size w.file.inode size));
       file = record { birth = w.file.birth; number = w.file.number; inode = with_size w.file.inode size; zones = w.file.zones };
-      touched = and_then w.touched (tells_node w.file.birth (table_block w.volume.geometry w.file.number ∷ []));
+      touched = and_then w.touched (tells_node w.file.birth (inode_told w.volume.geometry w.file.number w.file.inode (with_size w.file.inode size)));
     }

@@ -1,11 +1,14 @@
 -- What is told of a cut: which blocks it touched, which zones went, and which of these were metadata.
-use Rattle.std.specs.Prelude.{◌≡◌, ◌≢◌, ℕ, zero, suc, ◌+◌, ◌<◌, ◌≤◌, nat_lt, nat_eq, Bool, true, false, not, ◌&&◌, if◌then◌else◌, List, [], ◌∷◌, ◌++◌, filter, map, Some, refl, ◌⊎◌}
-use Rattle.std.specs.List.{range_with_len}
-use Rattle.std.proofs.Common.{sym, ap, subst, ◌∙◌, inl, inr, arith}
-use Rattle.std.proofs.lemmas.Bool.{cases_Bool, cases_eq, eqb-false, ne_eqb, ltb-true, ltb-false, and_from, and_parts, true≢false}
+use Rattle.std.specs.Prelude.{◌≡◌, ◌≢◌, ℕ, zero, suc, ◌+◌, ◌-◌, ◌*◌, ◌<◌, ◌≤◌, nat_lt, length, take, drop, slice_set, nat_eq, Bool, true, false, not, ◌&&◌, if◌then◌else◌, List, [], ◌∷◌, ◌++◌, filter, map, Some, refl, ◌⊎◌}
+use Rattle.std.specs.List.{list_any, range_with_len}
+use Rattle.std.proofs.Common.{sym, ap, subst, ◌∙◌, inl, inr, ⊎_elim, arith}
+use Rattle.std.proofs.lemmas.Bool.{cases_Bool, cases_eq, eqb-false, eq-eqb, ne_eqb, ltb-true, ltb-false, and_from, and_parts, true≢false}
+use Rattle.std.proofs.lemmas.List.{set-get_or, length-drop, drop_all, take-append-drop}
 use Rattle.std.proofs.lemmas.Option.{same_Some}
+use Rattle.byte_fields.specs.Fields.{zeros, put_bytes}
+use Rattle.byte_fields.specs.laws.ReadLaws.{length-zeros}
 use Rattle.blk_base.specs.Members.{In}
-use Rattle.blk_base.specs.laws.Members.{In-filter, filter-In, In-map, map-In, In-append_left, In-append_right}
+use Rattle.blk_base.specs.laws.Members.{In-filter, filter-In, In-map, map-In, In-append_left, In-append_right, In-append_cases}
 use Rattle.minix_layout.specs.declared.division.Geometry.{Geometry}
 use Rattle.minix_layout.specs.Geometry.{IsSound}
 use Rattle.tree_model.specs.Maps.{at_number, put_number}
@@ -16,20 +19,21 @@ use Rattle.volume_ops.specs.Volume.{disk_of}
 use Rattle.volume_model.specs.declared.placed.Placed.{Placed}
 use Rattle.volume_model.specs.declared.placed.Part.TheVariants as parts
 use Rattle.volume_model.specs.declared.placed.DirectoryPart.{DirectoryPart}
-use Rattle.volume_model.specs.Edits.{put_inode, edited, touched_by_all}
-use Rattle.volume_model.specs.laws.Edits.{edited_elsewhere, untouched}
+use Rattle.volume_model.specs.Edits.{Edit, clear_from, edited, edited_all, body_after, touched_by, touched_by_all}
+use Rattle.volume_model.specs.laws.Edits.{edited_elsewhere}
+use Rattle.volume_model.specs.laws.Back.{back_elsewhere, told_table}
 use Rattle.volume_model.specs.laws.Changes.{table_below}
-use Rattle.volume_model.specs.Volume.{Place, block, indirect, double, inner, zone_in, IsFilePart, IsPart, IsVolumeOf, IsOfNumbers}
+use Rattle.volume_model.specs.Volume.{Place, block, indirect, double, inner, zone_in, IsFilePart, IsPart, IsVolumeOf, IsOfNumbers, IsWhole}
 use Rattle.volume_model.specs.Touched.{Page, Touched, Contents, IsMeta, of_tables, of_numbers, of_directory, HasPage, Tells}
 use Rattle.volume_model.specs.Ways.{nowhere, home, IsJust}
 use Rattle.volume_model.specs.laws.Ways.{own_none}
 use Rattle.volume_model.specs.MapBlock.{OpenInode, own_of}
 use Rattle.volume_model.specs.laws.MapBlock.{home-inner_past}
-use Rattle.volume_model.specs.Cut.{IsKeep, cuts, cut_edits, cut_to}
+use Rattle.volume_model.specs.Cut.{IsKeep, cuts, cut_edits, cut_told, has_numbers, cut_to}
 use Rattle.volume_model.specs.laws.Cut.{AreThere, there_cuts}
 use Rattle.volume_model.specs.Counts.{number_places}
 use Rattle.volume_model.specs.laws.NodeMoves.{Which, changed, other, which, same_zone as node_same_zone}
-use Rattle.volume_model.specs.Moves.{MayChange}
+use Rattle.volume_model.specs.Moves.{MayChange, inode_back, back_told}
 use Rattle.volume_model.specs.laws.ZoneMoves.{fit_before, theirs_apart, less, cut_kept, cut_outcome, may_cut, may_change, MayMove, no_numbers, same_zone as moved_same_zone}
 
 -- the zones that a cut writes are those of places that stay
@@ -45,6 +49,68 @@ touched_stay g own keeps (c ∷ cs) b there i =
     by : (In b (touched_by_all g (cut_edits own keeps cs)) → (h : Place) × IsOfNumbers h × (keeps h ≡ true) × (own h ≢ 0) × (own h ≡ b)) → keeps c.0 ≡ true → (own c.0 ≡ b) ⊎ In b (touched_by_all g (cut_edits own keeps cs)) → (h : Place) × IsOfNumbers h × (keeps h ≡ true) × (own h ≢ 0) × (own h ≡ b)
     by rest t (inl e) = (c.0, there.0, t, there.1 t, e)
     by rest t (inr j) = rest j
+
+-- what is told of a cut is written
+pub told_cut : (g : Geometry) (blocks : List (List ℕ)) (own : Place → ℕ) (keeps : Place → Bool) (cs : List (Place × ℕ)) (b : ℕ) → In b (cut_told blocks own keeps cs) → In b (touched_by_all g (cut_edits own keeps cs))
+told_cut g blocks own keeps [] b i = absurd i
+told_cut g blocks own keeps (c ∷ cs) b i = by (keeps c.0) (has_numbers blocks (own c.0) c.1) (λ j. told_cut g blocks own keeps cs b j) i
+  where
+    by : (k t : Bool) → (In b (cut_told blocks own keeps cs) → In b (touched_by_all g (cut_edits own keeps cs))) →
+        In b (if k && t then own c.0 ∷ cut_told blocks own keeps cs else cut_told blocks own keeps cs) →
+        In b (touched_by_all g (if k then clear_from (own c.0) c.1 ∷ cut_edits own keeps cs else cut_edits own keeps cs))
+    by true true rest (inl e) = inl e
+    by true true rest (inr j) = inr (rest j)
+    by true false rest j = inr (rest j)
+    by false t rest j = rest j
+
+append_none : (xs : List ℕ) → xs ++ [] ≡ xs
+append_none [] = refl
+append_none (x ∷ xs) = ap (λ ys. x ∷ ys) (append_none xs)
+
+-- a block that is written with the bytes that it has
+edited_same : (g : Geometry) (blocks : List (List ℕ)) (e : Edit) (b : ℕ) → body_after g e (disk_of blocks (touched_by g e)) ≡ disk_of blocks (touched_by g e) → disk_of (edited g blocks e) b ≡ disk_of blocks b
+unfolding edited
+edited_same g blocks e b same = ap (λ body. disk_of (slice_set blocks (touched_by g e) body) b) same ∙ ap (λ all. disk_of all b) (set-get_or blocks (touched_by g e) _)
+
+-- bytes that are all 0
+all_zero : (ys : List ℕ) → list_any (λ x. not (nat_eq x 0)) ys ≡ false → ys ≡ zeros (length ys)
+unfolding zeros
+all_zero [] e = refl
+all_zero (y ∷ ys) e = elim (cases_eq y 0) [
+  | inl z ↦ (let rest : list_any (λ x. not (nat_eq x 0)) ys ≡ false = rw (eq-eqb y 0 z) at e in λ k. z k ∷ all_zero ys rest k)
+  | inr some ↦ absurd (true≢false (rw (ne_eqb y 0 some) at e))
+]
+
+-- zeros over zeros
+cleared : (at : ℕ) (body : List ℕ) → length body ≡ 1024 → list_any (λ x. not (nat_eq x 0)) (drop (2 * at) body) ≡ false → put_bytes (2 * at) (zeros (1024 - 2 * at)) body ≡ body
+unfolding put_bytes
+cleared at body size none =
+    let long = length-zeros (1024 - 2 * at) in
+    let left : length (drop (2 * at) body) ≡ 1024 - 2 * at = length-drop (2 * at) body ∙ ap (λ n. n - 2 * at) size in
+    ap (λ rest. take (2 * at) body ++ (zeros (1024 - 2 * at) ++ rest)) (drop_all (2 * at + length (zeros (1024 - 2 * at))) body (omega arith))
+    ∙ (ap (λ rest. take (2 * at) body ++ rest) (append_none (zeros (1024 - 2 * at)) ∙ (ap zeros (sym left) ∙ sym (all_zero (drop (2 * at) body) none)))
+    ∙ take-append-drop (2 * at) body)
+
+-- a zone of which nothing is told keeps its bytes
+pub uncut : (g : Geometry) (blocks : List (List ℕ)) (own : Place → ℕ) (keeps : Place → Bool) → IsWhole blocks → (cs : List (Place × ℕ)) (now : List (List ℕ)) (b : ℕ) → disk_of now b ≡ disk_of blocks b →
+    (In b (cut_told blocks own keeps cs) → ⊥) → disk_of (edited_all g now (cut_edits own keeps cs)) b ≡ disk_of blocks b
+unfolding has_numbers
+uncut g blocks own keeps whole [] now b same out = same
+uncut g blocks own keeps whole (c ∷ cs) now b same out = by (keeps c.0) (has_numbers blocks (own c.0) c.1) refl out (λ next e out. uncut g blocks own keeps whole cs next b e out)
+  where
+    here : has_numbers blocks (own c.0) c.1 ≡ false → disk_of (edited g now (clear_from (own c.0) c.1)) b ≡ disk_of blocks b
+    here none = elim (cases_eq b (own c.0)) [
+      | inr apart ↦ edited_elsewhere g now (clear_from (own c.0) c.1) b apart ∙ same
+      | inl e ↦ edited_same g now (clear_from (own c.0) c.1) b
+          (let body : disk_of now (own c.0) ≡ disk_of blocks (own c.0) = subst (λ b. disk_of now b ≡ disk_of blocks b) e same in
+          ap (λ body. put_bytes (2 * c.1) (zeros (1024 - 2 * c.1)) body) body ∙ (cleared c.1 (disk_of blocks (own c.0)) (whole (own c.0)) none ∙ sym body)) ∙ same
+    ]
+
+    by : (k t : Bool) → has_numbers blocks (own c.0) c.1 ≡ t → (In b (if k && t then own c.0 ∷ cut_told blocks own keeps cs else cut_told blocks own keeps cs) → ⊥) → ((next : List (List ℕ)) → disk_of next b ≡ disk_of blocks b → (In b (cut_told blocks own keeps cs) → ⊥) → disk_of (edited_all g next (cut_edits own keeps cs)) b ≡ disk_of blocks b) →
+        disk_of (edited_all g now (if k then clear_from (own c.0) c.1 ∷ cut_edits own keeps cs else cut_edits own keeps cs)) b ≡ disk_of blocks b
+    by true true e out rest = rest (edited g now (clear_from (own c.0) c.1)) (edited_elsewhere g now (clear_from (own c.0) c.1) b (λ f. out (inl (sym f))) ∙ same) (λ i. out (inr i))
+    by true false e out rest = rest (edited g now (clear_from (own c.0) c.1)) (here e) out
+    by false t e out rest = rest now same out
 
 pub range-In : (a n k : ℕ) → a ≤ k → k < a + n → In k (range_with_len a n)
 range-In a zero k low high = absurd (omega arith)
@@ -77,18 +143,18 @@ module _ (g : Geometry) (sound : IsSound g) (blocks : List (List ℕ)) (nodes : 
   abbrev pub numbers_gone : List ℕ
   numbers_gone = map own (filter goes number_places)
 
+  abbrev pub after : OpenInode
+  after = less g sound blocks nodes n p h stands from keeps k just
+
   abbrev pub cut_touched : Touched
   cut_touched = record {
-    blocks = table_block g p.number ∷ touched_by_all g (cut_edits own keeps (cuts keeps from));
+    blocks = cut_told blocks own keeps (cuts keeps from) ++ back_told g p after.inode;
     freed = map (λ (m : Mapped). m.zone) gone ++ numbers_gone;
     revoked = numbers_gone;
     pages = [];
     dropped = map page gone;
     nodes = n ∷ [];
   }
-
-  abbrev pub after : OpenInode
-  after = less g sound blocks nodes n p h stands from keeps k just
 
   abbrev pub q : Placed
   q = record { number = p.number; inode = after.inode; part = parts.File (filter (λ m. nat_lt m.index from) zones) }
@@ -97,12 +163,12 @@ module _ (g : Geometry) (sound : IsSound g) (blocks : List (List ℕ)) (nodes : 
   v = record { blocks = blocks; nodes = nodes }
 
   abbrev pub cut_both : Contents
-  cut_both = record { blocks = edited g after.blocks (put_inode p.number after.inode); nodes = put_number nodes n q }
+  cut_both = record { blocks = inode_back g after.blocks p after.inode; nodes = put_number nodes n q }
 
   -- ---- how the two hang together
 
   abbrev pub later : List (List ℕ)
-  later = edited g after.blocks (put_inode p.number after.inode)
+  later = inode_back g after.blocks p after.inode
 
   abbrev Z : ℕ → Type 0
   Z b = (x : Place) × IsOfNumbers x × (own x ≢ 0) × (own x ≡ b)
@@ -219,28 +285,33 @@ module _ (g : Geometry) (sound : IsSound g) (blocks : List (List ℕ)) (nodes : 
   in_table = (let told = h.each n p stands in let t = table_below g p.number sound told.some told.within in let low = t.0 in ((omega arith), t.1))
 
   touched_meta : (b : ℕ) → In b cut_touched.blocks → IsMeta g cut_both b × (2 ≤ b) × (b < g.zones)
-  touched_meta b (inl e) =
-      let t = in_table in
-      let low = t.0 in
-      let high = t.1 in
-      let some = sound.some_zone in
-      (of_tables (subst (λ b. b < g.first) e high), subst (λ b. 2 ≤ b) e low, (omega arith))
-  touched_meta b (inr i) =
-      let w = touched_stay g own keeps (cuts keeps from) b (there_cuts g sound (record { blocks = blocks; inode = p.inode }) from keeps k (fit_before g sound blocks nodes n p h stands) just) i in
-      let range = (h.each n p stands).zones w.0 w.3 in
-      let low = range.0 in
-      let high = range.1 in
-      let t = in_table in
-      let t_low = t.0 in
-      let t_high = t.1 in
-      let e = w.4 in
-      (of_numbers n q w.0 here w.1 (stays_as w.0 w.2 ∙ w.4) (λ none. w.3 (w.4 ∙ none)), (omega arith), (omega arith))
+  touched_meta b j = ⊎_elim (λ i. by_numbers (told_cut g blocks own keeps (cuts keeps from) b i)) (λ i. by_table (told_table g p after.inode b i)) (In-append_cases _ (back_told g p after.inode) b j)
+    where
+      by_table : b ≡ table_block g p.number → IsMeta g cut_both b × (2 ≤ b) × (b < g.zones)
+      by_table e =
+          let t = in_table in
+          let low = t.0 in
+          let high = t.1 in
+          let some = sound.some_zone in
+          (of_tables (omega arith), (omega arith), (omega arith))
+
+      by_numbers : In b (touched_by_all g (cut_edits own keeps (cuts keeps from))) → IsMeta g cut_both b × (2 ≤ b) × (b < g.zones)
+      by_numbers i =
+          let w = touched_stay g own keeps (cuts keeps from) b (there_cuts g sound (record { blocks = blocks; inode = p.inode }) from keeps k (fit_before g sound blocks nodes n p h stands) just) i in
+          let range = (h.each n p stands).zones w.0 w.3 in
+          let low = range.0 in
+          let high = range.1 in
+          let t = in_table in
+          let t_low = t.0 in
+          let t_high = t.1 in
+          let e = w.4 in
+          (of_numbers n q w.0 here w.1 (stays_as w.0 w.2 ∙ w.4) (λ none. w.3 (w.4 ∙ none)), (omega arith), (omega arith))
 
   kept_bytes : (b : ℕ) → (In b cut_touched.blocks → ⊥) → disk_of later b ≡ disk_of blocks b
   unfolding cut_to
   kept_bytes b none =
-      edited_elsewhere g after.blocks (put_inode p.number after.inode) b (λ e. none (inl (sym e)))
-      ∙ untouched g (cut_edits own keeps (cuts keeps from)) blocks b (λ i. none (inr i))
+      back_elsewhere g after.blocks p after.inode b (λ j. none (In-append_right _ (back_told g p after.inode) b j))
+      ∙ uncut g blocks own keeps h.whole (cuts keeps from) blocks b refl (λ i. none (In-append_left _ (back_told g p after.inode) b i))
 
   -- ---- pages
 
@@ -291,10 +362,10 @@ module _ (g : Geometry) (sound : IsSound g) (blocks : List (List ℕ)) (nodes : 
       )
 
   pub page_bytes : (x : Page) → HasPage v x → disk_of later x.zone ≡ disk_of blocks x.zone
-  page_bytes x page = kept_bytes x.zone (λ i. elim i [
-    | inl e ↦ (let t = in_table in let high = t.1 in let range = (h.each x.birth page.placed page.stands).zones (block x.index) (λ none. page.some (sym page.zone ∙ none)) in let low = range.0 in let z = page.zone in omega arith)
-    | inr j ↦
-        let w = touched_stay g own keeps (cuts keeps from) x.zone (there_cuts g sound (record { blocks = blocks; inode = p.inode }) from keeps k (fit_before g sound blocks nodes n p h stands) just) j in
+  page_bytes x page = kept_bytes x.zone (λ i. elim (In-append_cases _ (back_told g p after.inode) x.zone i) [
+    | inr j ↦ (let e = told_table g p after.inode x.zone j in let t = in_table in let high = t.1 in let range = (h.each x.birth page.placed page.stands).zones (block x.index) (λ none. page.some (sym page.zone ∙ none)) in let low = range.0 in let z = page.zone in omega arith)
+    | inl j ↦
+        let w = touched_stay g own keeps (cuts keeps from) x.zone (there_cuts g sound (record { blocks = blocks; inode = p.inode }) from keeps k (fit_before g sound blocks nodes n p h stands) just) (told_cut g blocks own keeps (cuts keeps from) x.zone j) in
         no_numbers w.0 x.index (h.zones n x.birth p page.placed w.0 (block x.index) stands page.stands (w.4 ∙ sym page.zone) w.3).1 w.1
   ])
 

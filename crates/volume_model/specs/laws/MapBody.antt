@@ -7,16 +7,17 @@ use Rattle.minix_layout.specs.Geometry.{IsSound}
 use Rattle.tree_model.specs.Maps.{at_number}
 use Rattle.volume_ops.specs.Volume.{disk_of}
 use Rattle.volume_model.specs.declared.placed.Placed.{Placed}
-use Rattle.volume_model.specs.Edits.{put_body, put_entry, put_inode, edited, edited_all}
+use Rattle.volume_model.specs.Edits.{put_body, put_entry, edited, edited_all}
 use Rattle.volume_model.specs.laws.Changes.{table_below}
 use Rattle.volume_model.specs.laws.Edits.{edited_here, edited_elsewhere}
+use Rattle.volume_model.specs.laws.Back.{back_apart}
 use Rattle.volume_model.specs.Volume.{Place, block, indirect, double, inner, zone_in, IsVolumeOf}
 use Rattle.volume_model.specs.Ways.{Home, slot, entry, nowhere, home, way}
 use Rattle.volume_model.specs.laws.Ways.{direct, single, twice, past, range, home-direct, home-single, home-twice, home-inner}
 use Rattle.volume_model.specs.laws.OnWay.{way_placed, way-direct, way-single, way-twice, on_way}
 use Rattle.volume_model.specs.MapBlock.{OpenInode, TakenZones, own_of, entry_edits, get_zone, get_step, map_block}
 use Rattle.volume_model.specs.laws.MapBlock.{IsFit, IsFresh, IsReached, MayGet, may_get, one_step, fresh_rest, there_now, next_reached}
-use Rattle.volume_model.specs.Moves.{AreFree}
+use Rattle.volume_model.specs.Moves.{AreFree, inode_back}
 use Rattle.volume_model.specs.laws.ZoneMoves.{fit_before, grown, before}
 
 -- a place that gets a zone has its bytes there
@@ -79,12 +80,12 @@ module _ (g : Geometry) (sound : IsSound g) (blocks : List (List ℕ)) (nodes : 
   abbrev u : OpenInode
   u = grown g sound blocks nodes n p h stands t content size index high free
 
-  pub mapped_content : disk_of (edited g u.blocks (put_inode p.number u.inode)) t.data_zone ≡ content
+  pub mapped_content : disk_of (inode_back g u.blocks p u.inode) t.data_zone ≡ content
   mapped_content =
       let told = h.each n p stands in
       let table = table_below g p.number sound told.some told.within in
       let below = table.1 in
       let low = free.low (block index) (on_way (block index) index (refl, high)) hole in
-      edited_elsewhere g u.blocks (put_inode p.number u.inode) t.data_zone (λ e. (omega arith))
+      back_apart g u.blocks p u.inode t.data_zone (λ e. (omega arith))
       ∙ body_mapped g sound t content size index (before g sound blocks nodes n p h stands) high (fit_before g sound blocks nodes n p h stands)
       (record { some = free.some; low = free.low; high = free.high; fits = free.fits; fresh = λ x y i none. free.free n p x y stands i none; differ = free.differ }) hole

@@ -1,10 +1,10 @@
 -- What is told of a block of a file that is mapped.
 use Rattle.std.specs.Prelude.{◌≡◌, ◌≢◌, ℕ, ◌-◌, ◌/◌, ◌%◌, ◌<◌, ◌≤◌, nat_eq, ◌==◌, Bool, true, false, not, if◌then◌else◌, List, [], ◌∷◌, ◌++◌, length, filter, Some, refl, ◌⊎◌}
-use Rattle.std.proofs.Common.{sym, ap, subst, ◌∙◌, inl, inr, arith}
+use Rattle.std.proofs.Common.{sym, ap, subst, ◌∙◌, inl, inr, ⊎_elim, arith}
 use Rattle.std.proofs.lemmas.Bool.{cases_Bool, cases_eq, eqb-true, eqb-false, eq-eqb, ne_eqb, true≢false}
 use Rattle.std.proofs.lemmas.Option.{same_Some}
 use Rattle.blk_base.specs.Members.{In}
-use Rattle.blk_base.specs.laws.Members.{In-filter, filter-In}
+use Rattle.blk_base.specs.laws.Members.{In-filter, filter-In, In-append_left, In-append_right, In-append_cases}
 use Rattle.minix_layout.specs.declared.division.Geometry.{Geometry}
 use Rattle.minix_layout.specs.Geometry.{IsSound}
 use Rattle.tree_model.specs.Maps.{at_number, put_number}
@@ -14,8 +14,9 @@ use Rattle.volume_ops.specs.Places.{table_block}
 use Rattle.volume_ops.specs.Volume.{disk_of}
 use Rattle.volume_model.specs.declared.placed.Placed.{Placed}
 use Rattle.volume_model.specs.declared.placed.Part.TheVariants as parts
-use Rattle.volume_model.specs.Edits.{Edit, put_inode, edited, edited_all, touched_by_all}
+use Rattle.volume_model.specs.Edits.{Edit, edited, edited_all, touched_by_all}
 use Rattle.volume_model.specs.laws.Edits.{edited_elsewhere, untouched}
+use Rattle.volume_model.specs.laws.Back.{back_elsewhere, told_table}
 use Rattle.volume_model.specs.laws.Changes.{table_below}
 use Rattle.volume_model.specs.Volume.{Place, block, indirect, double, inner, zone_in, IsPart, IsVolumeOf, IsOfNumbers, at_indirect, at_double, at_inner}
 use Rattle.volume_model.specs.Touched.{Page, Touched, Contents, IsMeta, of_tables, of_numbers, of_directory, HasPage, Tells}
@@ -26,7 +27,7 @@ use Rattle.volume_model.specs.MapBlock.{step_edits, all_edits, OpenInode, own_of
 use Rattle.volume_model.specs.laws.MapBlock.{Got, IsFit, IsFresh, IsReached, IsChain, Outcome, one_step, fresh_rest, there_now, next_reached, all_steps, above}
 use Rattle.volume_model.specs.laws.OnWay.{way_on, on_way, in_list, way-direct, way-single, way-twice}
 use Rattle.volume_model.specs.laws.NodeMoves.{Which, changed, other, which, same_zone as node_same_zone}
-use Rattle.volume_model.specs.Moves.{MayChange}
+use Rattle.volume_model.specs.Moves.{MayChange, inode_back, back_told}
 use Rattle.volume_model.specs.laws.ZoneMoves.{fit_before, grown, MapWrites, map_outcome, may_map, map_file, may_change, MayMove, no_numbers, same_zone as moved_same_zone}
 use Rattle.volume_model.specs.Moves.{AreFree, with_mapped}
 
@@ -206,7 +207,7 @@ module _ (g : Geometry) (sound : IsSound g) (blocks : List (List ℕ)) (nodes : 
   -- the block itself is a page, all else that is written is metadata
   abbrev pub map_touched : Touched
   map_touched = record {
-    blocks = table_block g p.number ∷ filter (λ b. not (b == t.data_zone)) (touched_by_all g edits);
+    blocks = filter (λ b. not (b == t.data_zone)) (touched_by_all g edits) ++ back_told g p u.inode;
     freed = [];
     revoked = [];
     pages = record { birth = n; index = index; zone = t.data_zone } ∷ [];
@@ -221,7 +222,7 @@ module _ (g : Geometry) (sound : IsSound g) (blocks : List (List ℕ)) (nodes : 
   q = record { number = p.number; inode = u.inode; part = parts.File listed }
 
   abbrev pub later : List (List ℕ)
-  later = edited g u.blocks (put_inode p.number u.inode)
+  later = inode_back g u.blocks p u.inode
 
   abbrev v : Contents
   v = record { blocks = blocks; nodes = nodes }
@@ -298,7 +299,7 @@ module _ (g : Geometry) (sound : IsSound g) (blocks : List (List ℕ)) (nodes : 
                 | inr out ↦ absurd (some (sym z ∙ (outcome.got.others x out ∙ none)))
                 | inl j ↦
                     let taken : taken_at t x ≡ b = sym (outcome.got.taken x j none) ∙ z in
-                    inr (inr (in_filter b (λ same_zone. no_numbers x index (free.differ x (block index) j on none hole (taken ∙ same_zone)) m)
+                    inr (In-append_left _ (back_told g p u.inode) b (in_filter b (λ same_zone. no_numbers x index (free.differ x (block index) j on none hole (taken ∙ same_zone)) m)
                     (subst (λ b. In b (touched_by_all g edits)) taken (hole_is_touched x j none))))
               ]
         ]
@@ -341,28 +342,33 @@ module _ (g : Geometry) (sound : IsSound g) (blocks : List (List ℕ)) (nodes : 
           absurd (true≢false (sym no_page ∙ ap not (eq-eqb b t.data_zone page)))
 
   touched_meta : (b : ℕ) → In b map_touched.blocks → IsMeta g map_both b × (2 ≤ b) × (b < g.zones)
-  touched_meta b (inl e) =
-      let r = in_table in
-      let low = r.0 in
-      let up = r.1 in
-      let some = sound.some_zone in
-      (of_tables (subst (λ b. b < g.first) e up), subst (λ b. 2 ≤ b) e low, (omega arith))
-  touched_meta b (inr i) =
-      let w = touched_numbers b i in
-      let r = outcome.fit.within w.0 w.2 in
-      let low = r.0 in
-      let up = r.1 in
-      let t_range = in_table in
-      let t_low = t_range.0 in
-      let t_high = t_range.1 in
-      let e = w.3 in
-      (of_numbers n q w.0 here w.1 (mine w.0 ∙ w.3) (λ none. w.2 (w.3 ∙ none)), (omega arith), (omega arith))
+  touched_meta b i = ⊎_elim (λ j. by_numbers j) (λ j. by_table (told_table g p u.inode b j)) (In-append_cases _ (back_told g p u.inode) b i)
+    where
+      by_table : b ≡ table_block g p.number → IsMeta g map_both b × (2 ≤ b) × (b < g.zones)
+      by_table e =
+          let r = in_table in
+          let low = r.0 in
+          let up = r.1 in
+          let some = sound.some_zone in
+          (of_tables (omega arith), (omega arith), (omega arith))
+
+      by_numbers : In b (filter (λ b. not (b == t.data_zone)) (touched_by_all g edits)) → IsMeta g map_both b × (2 ≤ b) × (b < g.zones)
+      by_numbers i =
+          let w = touched_numbers b i in
+          let r = outcome.fit.within w.0 w.2 in
+          let low = r.0 in
+          let up = r.1 in
+          let t_range = in_table in
+          let t_low = t_range.0 in
+          let t_high = t_range.1 in
+          let e = w.3 in
+          (of_numbers n q w.0 here w.1 (mine w.0 ∙ w.3) (λ none. w.2 (w.3 ∙ none)), (omega arith), (omega arith))
 
   pub kept_bytes : (b : ℕ) → b ≢ t.data_zone → (In b map_touched.blocks → ⊥) → disk_of later b ≡ disk_of blocks b
   unfolding map_block
   kept_bytes b apart none =
-      edited_elsewhere g u.blocks (put_inode p.number u.inode) b (λ e. none (inl (sym e)))
-      ∙ (ap (λ a. disk_of a b) (blocks_by g t content s (way index)) ∙ untouched g edits blocks b (λ i. none (inr (in_filter b apart i))))
+      back_elsewhere g u.blocks p u.inode b (λ j. none (In-append_right _ (back_told g p u.inode) b j))
+      ∙ (ap (λ a. disk_of a b) (blocks_by g t content s (way index)) ∙ untouched g edits blocks b (λ i. none (In-append_left _ (back_told g p u.inode) b (in_filter b apart i))))
 
   page_back : (x : Page) → HasPage map_both x → HasPage v x ⊎ In x map_touched.pages
   page_back x page = elim (cases x.birth page.placed page.stands) [
@@ -387,9 +393,9 @@ module _ (g : Geometry) (sound : IsSound g) (blocks : List (List ℕ)) (nodes : 
   page_new = record { placed = q; zones = listed; stands = here; is_file = refl; zone = page_zone; some = page_some }
 
   pub page_bytes : (x : Page) → HasPage v x → disk_of later x.zone ≡ disk_of blocks x.zone
-  page_bytes x page = kept_bytes x.zone (λ e. free.free x.birth page.placed (block index) (block x.index) page.stands on hole (page.zone ∙ e)) (λ i. elim i [
-    | inl e ↦ (let r = in_table in let up = r.1 in let range = (h.each x.birth page.placed page.stands).zones (block x.index) (λ none. page.some (sym page.zone ∙ none)) in let low = range.0 in let z = page.zone in omega arith)
-    | inr j ↦
+  page_bytes x page = kept_bytes x.zone (λ e. free.free x.birth page.placed (block index) (block x.index) page.stands on hole (page.zone ∙ e)) (λ i. elim (In-append_cases _ (back_told g p u.inode) x.zone i) [
+    | inr j ↦ (let e = told_table g p u.inode x.zone j in let r = in_table in let up = r.1 in let range = (h.each x.birth page.placed page.stands).zones (block x.index) (λ none. page.some (sym page.zone ∙ none)) in let low = range.0 in let z = page.zone in omega arith)
+    | inl j ↦
         let w = touched_numbers x.zone j in
         elim (cases_eq x.birth n) [
           | inr apart ↦ may.none_of_theirs x.birth page.placed w.0 (block x.index) page.stands apart (w.3 ∙ sym page.zone) w.2

@@ -17,10 +17,9 @@ use Rattle.volume_model.specs.declared.placed.Placed.{Placed}
 use Rattle.volume_model.specs.declared.placed.Part.{Part}
 use Rattle.volume_model.specs.declared.placed.Part.TheVariants as parts
 use Rattle.volume_model.specs.declared.placed.DirectoryPart.{DirectoryPart}
-use Rattle.volume_model.specs.Edits.{put_inode, edited}
-use Rattle.volume_model.specs.laws.Edits.{inode_here}
 use Rattle.volume_model.specs.Changes.{Changes}
-use Rattle.volume_model.specs.laws.Changes.{changes_then, changes_inode, table_below}
+use Rattle.volume_model.specs.laws.Changes.{changes_then, table_below}
+use Rattle.volume_model.specs.laws.Back.{changes_back, back_here}
 use Rattle.volume_model.specs.Volume.{Place, block, indirect, double, inner, zone_in, IsDirectoryPart, IsFilePart, IsPart, HasNames, IsVolumeOf, IsOfNumbers, at_indirect, at_double, at_inner}
 use Rattle.volume_model.specs.laws.Written.{zone_kept, part_kept}
 use Rattle.volume_model.specs.MapBlock.{OpenInode, own_of, TakenZones, map_block}
@@ -30,7 +29,7 @@ use Rattle.volume_model.specs.laws.OnWay.{way_on, on_way, in_list, mapped_block,
 use Rattle.volume_model.specs.Cut.{IsKeep, cut_to}
 use Rattle.volume_model.specs.laws.Cut.{CutOutcome, cut_block}
 use Rattle.volume_model.specs.laws.NodeMoves.{changed_stands, changed_just}
-use Rattle.volume_model.specs.Moves.{MayChange, AreJust, AreFree, with_mapped}
+use Rattle.volume_model.specs.Moves.{MayChange, AreJust, AreFree, with_mapped, inode_back}
 use Rattle.volume_model.specs.laws.Mapped.{mapped_new, mapped_kept, mapped_cases, rising_mapped, rising_below}
 
 not_block : (x : Place) → IsOfNumbers x → is_block x ≡ false
@@ -67,13 +66,13 @@ module _ (g : Geometry) (sound : IsSound g) (blocks : List (List ℕ)) (nodes : 
 
   module _ (u : OpenInode) (part : Part) (Z : ℕ → Type 0) (may : MayMove u part Z) where
     abbrev pub written : List (List ℕ)
-    written = edited g u.blocks (put_inode p.number u.inode)
+    written = inode_back g u.blocks p u.inode
 
     abbrev pub moved : Placed
     moved = record { number = p.number; inode = u.inode; part = part }
 
     pub table : Changes g (λ j. j ≡ p.number) (λ _. ⊥) u.blocks written
-    table = (let told = h.each n p stands in changes_inode g u.blocks p.number u.inode sound may.fit.whole may.fit.size told.some told.within may.fit.fits)
+    table = (let told = h.each n p stands in changes_back g u.blocks p u.inode sound may.fit.whole may.fit.size told.some told.within may.fit.fits)
 
     pub same_disk : (x : Place) → own_of u x ≢ 0 → disk_of written (own_of u x) ≡ disk_of u.blocks (own_of u x)
     same_disk x some = table.zones _ (may.fit.within x some).0 (λ z. z)
@@ -96,7 +95,7 @@ module _ (g : Geometry) (sound : IsSound g) (blocks : List (List ℕ)) (nodes : 
             some = told.some;
             within = told.within;
             fits = may.fit.fits;
-            inode = inode_here g u.blocks p.number u.inode may.fit.whole (omega arith) may.fit.fits;
+            inode = back_here g u.blocks p u.inode may.fit.whole (omega arith) may.fit.fits (may.changes.inodes p.number told.some told.within (λ z. z) ∙ told.inode);
             zones = λ x some. subst (λ v. (g.first ≤ v) × (v < g.zones)) (sym (same_zone x)) (may.fit.within x (λ none. some (same_zone x ∙ none)));
             part = part_kept u.blocks written u.inode same_disk part may.part_is;
           };
@@ -203,14 +202,14 @@ module _ (g : Geometry) (sound : IsSound g) (blocks : List (List ℕ)) (nodes : 
     map_just = just_mapped (own_of before) (own_of grown) t index index_low map_outcome.got free.some
 
     -- A block of a directory is mapped.
-    pub mapped_directory_stands : (d : DirectoryPart) → p.part ≡ parts.Directory d → IsVolumeOf g (edited g grown.blocks (put_inode p.number grown.inode)) (put_number nodes n (record { number = p.number; inode = grown.inode; part = parts.Directory d }))
+    pub mapped_directory_stands : (d : DirectoryPart) → p.part ≡ parts.Directory d → IsVolumeOf g (inode_back g grown.blocks p grown.inode) (put_number nodes n (record { number = p.number; inode = grown.inode; part = parts.Directory d }))
     mapped_directory_stands d is =
         moved_stands grown (parts.Directory d) MapWrites (may_map (parts.Directory d) (map_directory d (subst (IsPart blocks p.inode) is (h.each n p stands).part))
         (λ e same. h.names n p e stands (is ∙ same)))
 
     -- A block of a file is mapped.
     pub mapped_file_stands : (zones : List Mapped) → p.part ≡ parts.File zones → own_of before (block index) ≡ 0 →
-        IsVolumeOf g (edited g grown.blocks (put_inode p.number grown.inode)) (put_number nodes n (record { number = p.number; inode = grown.inode; part = parts.File (with_mapped zones index t.data_zone) }))
+        IsVolumeOf g (inode_back g grown.blocks p grown.inode) (put_number nodes n (record { number = p.number; inode = grown.inode; part = parts.File (with_mapped zones index t.data_zone) }))
     mapped_file_stands zones is hole =
         moved_stands grown _ MapWrites (may_map (parts.File (with_mapped zones index t.data_zone)) (map_file zones hole (subst (IsPart blocks p.inode) is (h.each n p stands).part))
         (λ e same. absurd (cc same)))
@@ -263,9 +262,9 @@ module _ (g : Geometry) (sound : IsSound g) (blocks : List (List ℕ)) (nodes : 
 
     -- Blocks of a file from an index on go.
     pub cut_file_stands : (zones : List Mapped) → p.part ≡ parts.File zones →
-        IsVolumeOf g (edited g less.blocks (put_inode p.number less.inode)) (put_number nodes n (record { number = p.number; inode = less.inode; part = parts.File (filter (λ m. nat_lt m.index from) zones) }))
+        IsVolumeOf g (inode_back g less.blocks p less.inode) (put_number nodes n (record { number = p.number; inode = less.inode; part = parts.File (filter (λ m. nat_lt m.index from) zones) }))
     cut_file_stands zones is = moved_stands less (parts.File (filter (λ m. nat_lt m.index from) zones)) CutWrites (may_cut zones is)
 
     pub cut_file_just : (zones : List Mapped) → p.part ≡ parts.File zones → AreJust blocks nodes →
-        AreJust (edited g less.blocks (put_inode p.number less.inode)) (put_number nodes n (record { number = p.number; inode = less.inode; part = parts.File (filter (λ m. nat_lt m.index from) zones) }))
+        AreJust (inode_back g less.blocks p less.inode) (put_number nodes n (record { number = p.number; inode = less.inode; part = parts.File (filter (λ m. nat_lt m.index from) zones) }))
     cut_file_just zones is all = moved_just less (parts.File (filter (λ m. nat_lt m.index from) zones)) CutWrites (may_cut zones is) all cut_outcome.just

@@ -1,5 +1,5 @@
 -- Steps as the code takes them: a name is in its directory before the blocks are written.
-use Rattle.std.specs.Prelude.{◌≡◌, ℕ, ◌+◌, ◌*◌, ◌/◌, ◌%◌, ◌<◌, ◌≤◌, nat_lt, nat_eq, slice_index, true, if◌then◌else◌, List, [], ◌∷◌, map, length, codes, Option, Some}
+use Rattle.std.specs.Prelude.{◌≡◌, ℕ, ◌+◌, ◌*◌, ◌/◌, ◌%◌, ◌<◌, ◌≤◌, nat_lt, nat_eq, slice_index, true, if◌then◌else◌, List, [], ◌∷◌, ◌++◌, map, length, codes, Option, Some}
 use Rattle.byte_fields.specs.Fields.{zeros}
 use Rattle.minix_layout.specs.declared.inode.Inode.{Inode}
 use Rattle.minix_layout.specs.Geometry.{IsSound}
@@ -15,7 +15,7 @@ use Rattle.volume_model.specs.Volume.{block, zone_in}
 use Rattle.volume_model.specs.Ways.{way}
 use Rattle.volume_model.specs.MapBlock.{TakenZones, own_of, map_block, all_edits}
 use Rattle.volume_model.specs.Touched.{Touched, and_then}
-use Rattle.volume_model.specs.Moves.{opened, closed, with_size, with_name}
+use Rattle.volume_model.specs.Moves.{opened, closed, with_size, with_name, back_told}
 use Rattle.volume_steps.specs.Now.{VolumeNow, Change, with_contents, written, unchanged, followed_by, tells_writes}
 use Rattle.volume_steps.specs.Zones.{inode_bit, zone_bit, next_zone, take_zones}
 use Rattle.zone_maps.specs.Zones.{taken}
@@ -35,7 +35,7 @@ slot_step v n at slot slots p = record {
     blocks = edited v.geometry v.contents.blocks (put_slot (zone_in v.contents.blocks p.inode (block (at / 64))) (at % 64) slot);
     inode = with_size p.inode (16 * slots);
   }) p.part);
-  touched = tells_node n (zone_in v.contents.blocks p.inode (block (at / 64)) ∷ table_block v.geometry p.number ∷ []);
+  touched = tells_node n (zone_in v.contents.blocks p.inode (block (at / 64)) ∷ back_told v.geometry p (with_size p.inode (16 * slots)));
 }
 
 abbrev pub slot_written : VolumeNow → ℕ → ℕ → Option Slot → ℕ → Change
@@ -53,7 +53,8 @@ block_step v n index p =
     record {
       volume = record { geometry = v.geometry; contents = closed v.geometry c n p (map_block v.geometry t.taken (zeros 1024) (opened c p) index) p.part; zones = t.zones };
       touched = and_then (tells_writes v.geometry es)
-          (tells_node n (table_block v.geometry p.number ∷ touched_by_all v.geometry (all_edits v.geometry t.taken (zeros 1024) (opened c p) (way index))));
+          (tells_node n (touched_by_all v.geometry (all_edits v.geometry t.taken (zeros 1024) (opened c p) (way index))
+          ++ back_told v.geometry p (map_block v.geometry t.taken (zeros 1024) (opened c p) index).inode));
     }
 
 abbrev pub block_added : VolumeNow → ℕ → ℕ → Change

@@ -7,9 +7,10 @@ use Rattle.minix_layout.specs.Bits.{inode_bit, zone_bit, has_bit}
 use Rattle.tree_model.specs.Maps.{at_number}
 use Rattle.zone_maps.specs.declared.zone_state.ZoneState.TheVariants as states
 use Rattle.zone_maps.specs.Zones.{Zones, state_of}
-use Rattle.volume_ops.specs.Places.{table_block}
+use Rattle.volume_ops.specs.declared.found.Mapped.{Mapped}
 use Rattle.volume_model.specs.declared.placed.Placed.{Placed}
 use Rattle.volume_model.specs.declared.placed.Part.{Part}
+use Rattle.volume_model.specs.declared.placed.Part.TheVariants as parts
 use Rattle.volume_model.specs.Touched.{Contents, Touched, Tells}
 use Rattle.volume_steps.specs.Now.{VolumeNow, Change}
 use Rattle.volume_steps.specs.Plain.{IsInUse}
@@ -32,10 +33,11 @@ shape_of p = record { number = p.number; size = p.inode.size; part = p.part }
 abbrev pub shape_at : List (ℕ × Placed) → ℕ → Option Shape
 shape_at nodes birth = option_map shape_of (at_number nodes birth)
 
--- A node that is not listed is as before, but for its links. One that is listed and is there has its block of the table written.
+-- A node that is not listed is as before, but for its links. Where a file is listed and is there, a block before the zones is
+-- written: that of the table with its inode, or one of the map of zones.
 pub record TellsNodes (g : Geometry) (v w : Contents) (t : Touched) : Type 0 where
   pub others : (birth : ℕ) → (In birth t.nodes → ⊥) → shape_at w.nodes birth ≡ shape_at v.nodes birth
-  pub tables : (birth : ℕ) (p : Placed) → In birth t.nodes → at_number w.nodes birth ≡ Some p → In (table_block g p.number) t.blocks
+  pub tables : (birth : ℕ) (p : Placed) (zones : List Mapped) → In birth t.nodes → at_number w.nodes birth ≡ Some p → p.part ≡ parts.File zones → (b : ℕ) × In b t.blocks × (b < g.first)
 
 -- A bit and what it stands for: neither changes; or that changes, and the bit says it afterwards.
 abbrev pub Marks : Bool → Type 0 → Bool → Type 0 → Type 0

@@ -11,6 +11,6 @@ returns c = record {
   is_file = search rules;
   blocks = c.in_ok-gone.ensures.blocks;
   numbers = search rules;
-  told = told_moved c.args.v.now.geometry c.v.inside.blocks c.args.v.now.contents.blocks c.in-Some.node.now.inode c.as_slice-2.result.now c.as_slice.result.now c.args.from _
-      (ap (λ (v : VolumeNow). v.contents.blocks) c.v.view_is) (search rules) (c.zones_written-written.ensures c.args.v.now.geometry);
+  told = told_moved c.v.inside.blocks c.args.v.now.contents.blocks c.in-Some.node.now.inode c.as_slice-2.result.now c.as_slice.result.now c.args.from _
+      (ap (λ (v : VolumeNow). v.contents.blocks) c.v.view_is) (search rules) c.zones_written-written.ensures;
 }

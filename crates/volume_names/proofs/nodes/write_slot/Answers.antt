@@ -1,8 +1,8 @@
 use Rattle.std.proofs.Common.{ap, ◌∙◌, ◌*◌, sym, subst}
 use Rattle.std.specs.Option.{option_copied, option_copied_mut}
-use Rattle.volume_names.proofs.Changed.{volume_of, slot_changed, noted_slot}
+use Rattle.volume_names.proofs.Changed.{volume_of, slot_changed, noted_slot, noted_inode}
 use Rattle.volume_model.specs.declared.placed.Placed.{Placed}
-use Rattle.volume_model.specs.Moves.{with_size}
+use Rattle.volume_model.specs.Moves.{with_size, inode_written}
 use Rattle.volume_names.specs.code.Steps.{After, slot_written}
 use Rattle.volume_names.proofs.nodes.write_slot.Goals as goal
 
@@ -11,9 +11,10 @@ returns-clause-done c =
     let v = c.v.inside in
     let p : Placed = c.in-Some.placed.now in
     let q : Placed = record { number = p.number; inode = with_size p.inode (16 * c.args.slots); part = p.part } in
-    subst (λ s. After c.args.touched.now.touched (slot_written s c.args.n c.args.at (option_copied c.args.slot) c.args.slots) (volume_of v.geometry c.put_inode.new.blocks (c.get_mut.follows.lender q).entries v.zones) c.note_node.new.self.touched) c.v.view_is
-    (slot_changed (volume_of v.geometry v.blocks v.nodes.entries v.zones) c.args.n c.in-Some.placed.now c.args.touched.now.touched _ c.put_inode.new.blocks _ c.get_mut.ensures.ordered
+    subst (λ s. After c.args.touched.now.touched (slot_written s c.args.n c.args.at (option_copied c.args.slot) c.args.slots) (volume_of v.geometry c.write_inode.new.blocks (c.get_mut.follows.lender q).entries v.zones) c.note_node.new.self.touched) c.v.view_is
+    (slot_changed (volume_of v.geometry v.blocks v.nodes.entries v.zones) c.args.n c.in-Some.placed.now c.args.touched.now.touched _ c.write_inode.new.blocks _ c.get_mut.ensures.ordered
     (sym c.get_mut.ensures.value ∙ ap option_copied_mut c.in-Some.is) c.args.at (option_copied c.args.slot) c.args.slots c.block_zone-zone.result c.put_slot.new.blocks
-    c.block_zone-zone.ensures (c.get_mut.follows.holds q).0 c.put_slot.ensures c.put_inode.ensures
-    (noted_slot c.args.touched.now c.note_block.new.self c.note_block-2.new.self c.note_node.new.self c.into.result c.table_block.result _ _ c.args.n c.note_block.ensures c.note_block-2.ensures c.note_node.ensures
-    c.into.ensures c.table_block.ensures))
+    c.block_zone-zone.ensures (c.get_mut.follows.holds q).0 c.put_slot.ensures
+    (c.write_inode.ensures.blocks ∙ ap (λ i. inode_written v.geometry c.put_slot.new.blocks p.number i q.inode) c.copy_inode-before.ensures)
+    (noted_slot c.args.touched.now c.note_block.new.self c.write_inode.new.touched c.note_node.new.self c.into.result _ c.args.n _ c.note_block.ensures
+    (noted_inode v.geometry p.number _ p.inode q.inode _ _ c.copy_inode-before.ensures c.write_inode.ensures.touched) c.note_node.ensures c.into.ensures))

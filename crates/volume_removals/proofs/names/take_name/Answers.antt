@@ -6,9 +6,9 @@ use Rattle.volume_model.specs.declared.placed.Placed.{Placed}
 use Rattle.volume_model.specs.declared.placed.Part.TheVariants as parts
 use Rattle.volume_steps.specs.Steps.{take_name}
 use Rattle.volume_names.specs.code.Steps.{After}
-use Rattle.volume_names.proofs.Changed.{volume_of, noted_slot}
+use Rattle.volume_names.proofs.Changed.{volume_of, noted_zone}
 use Rattle.volume_removals.specs.code.Naming.{CanTake}
-use Rattle.volume_removals.proofs.NameTaken.{stands_somewhere, place_in, same_part, number_at, taken_at}
+use Rattle.volume_removals.proofs.NameTaken.{stands_somewhere, place_in, same_part, taken_at}
 use Rattle.volume_removals.proofs.names.take_name.Goals as goal
 
 pub unreachable-requires-in_default-remove_name : goal.unreachable-requires-in_default-remove_name
@@ -30,20 +30,6 @@ overflow_cast-at c =
     let small = place_in now c.args.n c.args.name.now h c.in-Some.placed.now c.in-Directory.directory at c.in-Directory.is c.in-Some-remove_name.at c.in-Some-remove_name.ensures.some.0 in
     omega (arith, small)
 
-pub put_inode-requires : goal.put_inode-requires
-put_inode-requires c =
-    let v = c.v.inside in
-    let now = volume_of v.geometry v.blocks v.nodes.entries v.zones in
-    let h : CanTake now c.args.n c.args.name.now = subst (λ s. CanTake s c.args.n c.args.name.now) (sym c.v.view_is) c.requires.may in
-    number_at now c.args.n c.args.name.now h c.in-Some.placed.now (sym c.get_mut.ensures.value ∙ ap option_copied_mut c.in-Some.is)
-
-pub table_block-requires : goal.table_block-requires
-table_block-requires c =
-    let v = c.v.inside in
-    let now = volume_of v.geometry v.blocks v.nodes.entries v.zones in
-    let h : CanTake now c.args.n c.args.name.now = subst (λ s. CanTake s c.args.n c.args.name.now) (sym c.v.view_is) c.requires.may in
-    number_at now c.args.n c.args.name.now h c.in-Some.placed.now (sym c.get_mut.ensures.value ∙ ap option_copied_mut c.in-Some.is)
-
 pub returns-clause-done : goal.returns-clause-done
 returns-clause-done c =
     let v = c.v.inside in
@@ -52,7 +38,7 @@ returns-clause-done c =
     let p : Placed = c.in-Some.placed.now in
     let q : Placed = record { number = p.number; inode = p.inode; part = parts.Directory c.remove_name.new.directory } in
     let told = c.in-Some-remove_name.ensures.some in
-    subst (λ s. After c.args.touched.now.touched (take_name s c.args.n c.args.name.now) (volume_of v.geometry c.put_inode.new.blocks (c.get_mut.follows.lender q).entries v.zones) c.note_node.new.self.touched) c.v.view_is
+    subst (λ s. After c.args.touched.now.touched (take_name s c.args.n c.args.name.now) (volume_of v.geometry c.put_slot.new.blocks (c.get_mut.follows.lender q).entries v.zones) c.note_node.new.self.touched) c.v.view_is
     (taken_at now c.args.n c.args.name.now h p c.in-Directory.directory (sym c.get_mut.ensures.value ∙ ap option_copied_mut c.in-Some.is) c.in-Directory.is c.in-Some-remove_name.at c.block_zone-zone.result c.remove_name.new.directory
-    c.put_slot.new.blocks c.put_inode.new.blocks _ c.args.touched.now.touched _ told.0 told.1 c.block_zone-zone.ensures c.put_slot.ensures c.put_inode.ensures (c.get_mut.follows.holds q).0
-    (noted_slot c.args.touched.now c.note_block.new.self c.note_block-2.new.self c.note_node.new.self c.into.result c.table_block.result _ _ c.args.n c.note_block.ensures c.note_block-2.ensures c.note_node.ensures c.into.ensures c.table_block.ensures))
+    c.put_slot.new.blocks _ c.args.touched.now.touched _ told.0 told.1 c.block_zone-zone.ensures c.put_slot.ensures (c.get_mut.follows.holds q).0
+    (noted_zone c.args.touched.now c.note_block.new.self c.note_node.new.self c.into.result _ c.args.n c.note_block.ensures c.note_node.ensures c.into.ensures))

@@ -23,7 +23,7 @@ drop_node-requires-clause-room c = λ p at.
     let blocks : length (blocks_in p.part) ≡ 0 =
     ap length (no_blocks c.args.v.now c.args.birth c.args.parent c.args.name.now c.requires c.take_name.new.v c.take_name.ensures.done.volume_is c.take_link.new.v c.take_link.ensures.done.volume_is p at) in
     let metadata = c.deref.ensures.len in
-    let room : c.in_ok-touched.touched.spare ≡ 3 * c.len.result + 7 = ap (λ (t : Noted). t.spare) c.in_ok-touched.ensures in
+    let room : c.in_ok-touched.touched.spare ≡ 3 * c.len.result + 6 = ap (λ (t : Noted). t.spare) c.in_ok-touched.ensures in
     omega (arith, blocks, metadata, room, c.len.ensures, c.take_name.ensures.spare, c.take_link.ensures.spare)
 
 pub returns-clause-done : goal.returns-clause-done

@@ -8,5 +8,5 @@ returns c = record {
   no_pages = λ v n tx call h is. no_pages tx v n call h is;
   nodes = λ v n tx call h birth differs. node_listed tx v n call h birth differs;
   files = λ v n tx call h birth differs. file_listed tx v n call h birth differs;
-  tables = λ v n tx call h birth p i at. (any_call tx v n call h).steady.nodes.tables birth p i at;
+  tables = λ v n tx call h birth p zones i at is. (any_call tx v n call h).steady.nodes.tables birth p zones i at is;
 }

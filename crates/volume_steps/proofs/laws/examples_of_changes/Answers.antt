@@ -5,10 +5,11 @@ use Rattle.tree_model.specs.Paths.{path_of}
 use Rattle.tree_model.specs.Calls.{outcome, row, used_zones, file_zones, mapped_groups}
 use Rattle.dir_ops.specs.Slots.{with_slot}
 use Rattle.volume_model.specs.MapBlock.{map_block}
+use Rattle.volume_model.specs.Moves.{inode_told, inode_written}
 use Rattle.volume_model.specs.Trees.{tree_now}
 use Rattle.volume_steps.specs.Calls.{called, changed}
 use Rattle.volume_steps.proofs.laws.examples_of_changes.Goals as goal
 
 pub returns : goal.returns
-unfolding called changed outcome row tree_now path_of used_zones file_zones mapped_groups with_slot map_block zone_at
+unfolding called changed outcome row tree_now path_of used_zones file_zones mapped_groups with_slot map_block zone_at inode_told inode_written
 returns c = record { blocks = refl; numbers = refl; freed = refl; wait = refl; renames = refl; left = refl; directories = refl }
