@@ -10,3 +10,4 @@ mod FromImages
 mod MovedSums
 pub mod NewVolumes
 pub mod FoundNodes
+mod ToldBlocks

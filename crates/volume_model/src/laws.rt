@@ -26,13 +26,14 @@ ghost use Rattle.volume_ops.specs.Faultless.{IsFaultless};
 ghost use Rattle.volume_model.specs.declared.placed.Placed.{Placed};
 ghost use Rattle.volume_model.specs.declared.placed.Part.TheVariants as parts;
 ghost use Rattle.volume_model.specs.declared.placed.DirectoryPart.{DirectoryPart};
-ghost use Rattle.volume_model.specs.Edits.{Edit, put_inode, put_slot, put_entry, edited, edited_all, touched_by_all};
+ghost use Rattle.volume_model.specs.Edits.{Edit, put_inode, put_slot, put_entry, clear_from, edited, edited_all, touched_by_all};
 ghost use Rattle.volume_model.specs.Volume.{Place, block, zone_in, IsWhole, IsOfNumbers, IsStored, HasNumber, IsVolumeOf};
 ghost use Rattle.volume_model.specs.Ways.{way, IsJust};
 ghost use Rattle.volume_model.specs.MapBlock.{TakenZones};
+ghost use Rattle.volume_model.specs.Cut.{has_numbers};
 ghost use Rattle.volume_model.specs.Counts.{keeps_below, zones_of_file, indices_of};
 ghost use Rattle.volume_model.specs.Touched.{Contents, Touched, Tells, Follows, and_then};
-ghost use Rattle.volume_model.specs.Moves.{IsVolume, AreJust, MayAdd, MayChange, AreFree, added, node_removed, with_mapped, file_mapped, directory_mapped, file_mapped_touches, file_cut, file_cut_touches, name_added, name_removed};
+ghost use Rattle.volume_model.specs.Moves.{IsVolume, inode_back, back_told, AreJust, MayAdd, MayChange, AreFree, added, node_removed, with_mapped, file_mapped, directory_mapped, file_mapped_touches, file_cut, file_cut_touches, name_added, name_removed};
 ghost use Rattle.dir_ops.specs.Slots.{room};
 ghost use Rattle.volume_model.specs.Trees.{tree_now};
 ghost use Rattle.volume_model.specs.Plain.{inode_born, HasZone, IsPlainVolume, IsPlainContents};
@@ -72,6 +73,18 @@ pub fn writes_are_read()
         ((other ≡ zone) → (place ≡ at) → ⊥) →
         slot_of (record_at 16 place (disk_of (edited g blocks (put_slot zone at s)) other)) ≡
         slot_of (record_at 16 place (disk_of blocks other)) }
+{}
+
+/// A law, which does nothing when it is called: of a node's inode that is written back, and of a zone of numbers that is
+/// cleared from one of them on. What is told has other bytes than before, and what is not told has the same.
+pub fn changed_blocks_are_told()
+    ensures inode { (g : Geometry) (v : Contents) (n : ℕ) (p : Placed) (i : Inode) (b : ℕ) →
+        IsSound g → IsVolume g v → at_number v.nodes n ≡ Some p → FitInode i →
+        In b (back_told g p i) ↔ (disk_of (inode_back g v.blocks p i) b ≢ disk_of v.blocks b) }
+    ensures numbers { (g : Geometry) (blocks : List (List ℕ)) (zone at : ℕ) →
+        IsWhole blocks → zone < length blocks → at ≤ 512 →
+        (has_numbers blocks zone at ≡ true) ↔
+        (disk_of (edited g blocks (clear_from zone at)) zone ≢ disk_of blocks zone) }
 {}
 
 /// A law, which does nothing when it is called: a volume to which a node without zones is added, under a new birth

@@ -15,8 +15,8 @@ mod slots;
 
 pub use file_zones::FileZones;
 pub use laws::{
-    calls_are_told_as_one, changed_node_stands, cut_file_stands, mapped_block_stands,
-    names_come_and_go, new_volumes_are_plain, nodes_come_and_go, nodes_stay,
+    calls_are_told_as_one, changed_blocks_are_told, changed_node_stands, cut_file_stands,
+    mapped_block_stands, names_come_and_go, new_volumes_are_plain, nodes_come_and_go, nodes_stay,
     plain_images_can_change, plain_volumes_are_read_back, writes_are_read,
 };
 pub use placed::{DirectoryPart, Part, Placed};

@@ -82,7 +82,7 @@ all_zero (y ∷ ys) e = elim (cases_eq y 0) [
 ]
 
 -- zeros over zeros
-cleared : (at : ℕ) (body : List ℕ) → length body ≡ 1024 → list_any (λ x. not (nat_eq x 0)) (drop (2 * at) body) ≡ false → put_bytes (2 * at) (zeros (1024 - 2 * at)) body ≡ body
+pub cleared : (at : ℕ) (body : List ℕ) → length body ≡ 1024 → list_any (λ x. not (nat_eq x 0)) (drop (2 * at) body) ≡ false → put_bytes (2 * at) (zeros (1024 - 2 * at)) body ≡ body
 unfolding put_bytes
 cleared at body size none =
     let long = length-zeros (1024 - 2 * at) in
