@@ -21,17 +21,19 @@ use Rattle.command_queue.specs.Queue.{QueueState, Waiting, eligible, picked, dep
 use Rattle.device_epochs.specs.declared.cache.Entry.{Entry}
 use Rattle.device_epochs.specs.declared.device.DeviceSetup.{DeviceSetup}
 use Rattle.device_epochs.specs.Cache.{oldest, entries, put_all, without_entry}
-use Rattle.device_epochs.specs.laws.CacheSteps.{part_at-lt, parts_of-waiting}
+use Rattle.command_queue.specs.laws.QueueLaws.{part_at-lt, parts_of-waiting}
 use Rattle.device_epochs.specs.Device.{DeviceState, is_off, fails_next, has_room, may_transfer, has_stopped, transferable, tried, transferred, performed, failed_on, persistable, persisted, written, body_at, received, answered, answered_from, tells_cut, seen, opened}
-use Rattle.device_epochs.specs.laws.Valid.{IsValid, QueueFacts, with_waiting}
+use Rattle.device_epochs.specs.laws.Valid.{IsValid}
+use Rattle.command_queue.specs.Facts.{QueueFacts, with_waiting}
 use Rattle.device_epochs.specs.declared.device.EpochDevice.TheInside.{Inside}
 use Rattle.device_epochs.specs.code.Fields.{state_of, IsDevice}
-use Rattle.device_epochs.specs.code.Helpers.{IsPlain, EndsAt, starts_with_flush, flush_waits, is_held, is_flushed}
-use Rattle.device_epochs.specs.laws.QueueLaws.{length-without, eligible-waits, eligible_clear, apart, number-lt}
-use Rattle.device_epochs.specs.laws.EpochLaws.{flush-ordered, waiting-taken, ordered-first}
+use Rattle.device_epochs.specs.code.Helpers.{IsPlain, EndsAt, starts_with_flush, flush_waits, is_held}
+use Rattle.command_queue.specs.Told.{is_flushed}
+use Rattle.command_queue.specs.laws.QueueLaws.{length-without, eligible-waits, eligible_clear, apart, number-lt}
+use Rattle.command_queue.specs.laws.EpochLaws.{flush-ordered, waiting-taken, ordered-first}
 use Rattle.device_epochs.specs.laws.StepLaws.{transferable-waits, tried-fails, tried-moves, persistable-In}
-use Rattle.device_epochs.specs.laws.PendingLaws.{numbered, pending-is, none-pending, queue-facts, faults-lt}
-use Rattle.device_epochs.specs.laws.PendingLaws as pending
+use Rattle.device_epochs.specs.laws.StateLaws.{numbered, pending-is, none-pending, queue-facts, faults-lt}
+use Rattle.device_epochs.specs.laws.StateLaws as pending
 use Rattle.device_epochs.specs.laws.BoundLaws.{took-le, all_parts-le, moved-fits, cache-fits, completions-fit, failures-fit, steps-lt_transferable, steps-lt_persistable, epoch-le}
 use Rattle.device_epochs.specs.laws.ReachableLaws.{transferred-valid, written-valid}
 use Rattle.device_epochs.proofs.Searches.{filter_none}

@@ -1,6 +1,6 @@
 -- The device as a plain value, and its calls as steps over it.
-use Rattle.std.specs.Prelude.{◌≡◌, ℕ, ◌+◌, ◌-◌, ◌==◌, ◌&&◌, ◌||◌, not, Bool, true, false, List, [], ◌∷◌, ◌++◌, length, filter, replicate, Option, Some, None, is_some, nat_lt, if◌then◌else◌, slice_get, slice_set}
-use Rattle.std.specs.Option.{option_map, option_map_or}
+use Rattle.std.specs.Prelude.{◌≡◌, ℕ, ◌+◌, ◌==◌, ◌&&◌, ◌||◌, not, Bool, true, false, List, [], ◌∷◌, ◌++◌, length, filter, replicate, Option, Some, None, is_some, nat_lt, if◌then◌else◌, slice_get, slice_set}
+use Rattle.std.specs.Option.{option_map_or}
 use Rattle.order_model.specs.declared.part.Part.{Part}
 use Rattle.order_model.specs.declared.command.Command.{Command}
 use Rattle.order_model.specs.declared.completion.Completion.{Completion}
@@ -8,6 +8,8 @@ use Rattle.order_model.specs.declared.completion.Completion.TheVariants.{Cut}
 use Rattle.order_model.specs.declared.history.Transfer.{Transfer}
 use Rattle.order_model.specs.Received.{part_at, first_part, completions_of, failures_of, transfers}
 use Rattle.order_model.specs.Device.{Seen}
+pub use Rattle.command_queue.specs.Faults.{is_next}
+use Rattle.command_queue.specs.Faults.{is_number, counted}
 use Rattle.command_queue.specs.Queue.{QueueState, Waiting, arrived, departed, eligible}
 use Rattle.device_epochs.specs.declared.cache.Entry.{Entry}
 use Rattle.device_epochs.specs.declared.device.DeviceSetup.{DeviceSetup}
@@ -65,23 +67,9 @@ opened image setup = record {
   faults = 0;
 }
 
--- a number is given, and it is this one
-abbrev pub is_number : Option ℕ → ℕ → Bool
-is_number at n = option_map_or (λ k. n == k) at false
-
 -- the power is off from the moment at which the steps equal this number
 abbrev pub is_off : DeviceState → Bool
 is_off s = is_number s.cut_at s.steps
-
--- ---- counting down to a fault
-
--- the next one fails
-abbrev pub is_next : Option ℕ → Bool
-is_next at = option_map_or (λ n. n == 1) at false
-
--- one was made
-abbrev pub counted : Option ℕ → Option ℕ
-counted at = option_map (λ n. n - 1) at
 
 -- ---- receiving
 

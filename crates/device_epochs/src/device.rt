@@ -3,18 +3,19 @@ ghost use Rattle.std.specs.Prelude.{◌≡◌, ℕ, ◌+◌, ◌≤◌, ◌<◌,
 ghost use Rattle.std.specs.Option.{option_map};
 ghost use Rattle.order_model.specs.declared.part.Part.{Part};
 ghost use Rattle.order_model.specs.Received.{all_parts, part_at};
-ghost use Rattle.device_epochs.specs.Device.{DeviceState, opened, is_number, is_off, is_next, has_room, received, transferable, transferred, persistable, persisted, next_answer, answered, after_read, IsSound, seen};
+ghost use Rattle.device_epochs.specs.Device.{DeviceState, opened, is_off, has_room, received, transferable, transferred, persistable, persisted, next_answer, answered, after_read, IsSound, seen};
+ghost use Rattle.command_queue.specs.Faults.{is_number, is_next};
 ghost use Rattle.device_epochs.specs.laws.Valid.{work_left, IsValid};
 ghost use Rattle.device_epochs.specs.code.Helpers.{starts_with_flush, flush_waits, is_held};
 ghost use Rattle.command_queue.specs.Queue.{QueueState};
 
 use crate::cache::Cache;
-use crate::completing::{
-    complete, complete_failed, count_down, holds_flush, note_transfers, read_ids,
-};
 use blk_base::{Block, Image, NoMemory};
 use circular_buffer::HeapCircularBuffer;
-use command_queue::CommandQueue;
+use command_queue::{
+    CommandQueue, complete, complete_failed, count_down, holds_flush, is_number, note_transfers,
+    read_ids,
+};
 use order_model::{
     Command, Commands, Completion, CutDisk, DeviceRecord, History, OrderedDev, Origins, Part,
     ReadFault, Trail,
@@ -137,16 +138,6 @@ impl EpochDevice {
         ensures { result ≡ flush_waits self.now }
     {
         !self.cache.is_empty() && starts_with_flush(&self.queue)
-    }
-}
-
-// A number is given, and it is this one.
-fn is_number(at: Option<u64>, n: u64) -> bool
-    ensures { result ≡ is_number at n }
-{
-    match at {
-        Some(given) => n == given,
-        None => false,
     }
 }
 

@@ -6,7 +6,6 @@
 #![tactic(auto)]
 
 mod cache;
-mod completing;
 mod device;
 
 pub use cache::Entry;

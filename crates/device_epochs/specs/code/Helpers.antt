@@ -1,13 +1,10 @@
 -- What the private functions of the code ask, find and answer.
-use Rattle.std.specs.Prelude.{◌≡◌, ℕ, ◌≤◌, ◌++◌, map, true, List, Some, slice_get, ◌==◌, ◌&&◌, ◌||◌, not, Bool, false, length, Option, is_some}
+use Rattle.std.specs.Prelude.{◌≡◌, ℕ, ◌≤◌, true, List, Some, slice_get, ◌==◌, ◌&&◌, ◌||◌, not, Bool, false, length, is_some}
 use Rattle.blk_base.specs.Members.{In}
 use Rattle.device_epochs.specs.declared.cache.Entry.{Entry}
 use Rattle.device_epochs.specs.Cache.{same_place}
 use Rattle.device_epochs.specs.laws.Valid.{AreUnique, AreSorted}
-use Rattle.std.specs.Option.{option_map, option_map_or, option_and_then, option_to_list}
-use Rattle.order_model.specs.declared.part.Part.{Part}
-use Rattle.order_model.specs.declared.completion.Completion.{Completion}
-use Rattle.order_model.specs.declared.completion.Completion.TheVariants.{Moved, Flushed, Failed, Cut}
+use Rattle.std.specs.Option.{option_map, option_map_or}
 use Rattle.order_model.specs.declared.command.Command.{Command}
 use Rattle.command_queue.specs.Queue.{QueueState, Waiting, picked}
 use Rattle.device_epochs.specs.Device.{DeviceState, has_stopped}
@@ -28,23 +25,6 @@ pub record IsPlaceOf (e : Entry) (cache : List Entry) (i : ℕ) : Type 0 where
   pub found : Entry
   pub there : slice_get cache i ≡ Some found
   pub same : same_place e found ≡ true
-
--- ---- completions and ids
-
--- it is that of a flush
-abbrev pub is_flushed : Completion → Bool
-is_flushed (Flushed id) = true
-is_flushed (Moved id) = false
-is_flushed (Failed id) = false
-is_flushed Cut = false
-
--- what a command that was not done completes with: part by part, and the flush
-abbrev pub told_failed : Command → List Completion
-told_failed c = map (λ (p : Part). Failed p.id) c.parts ++ map Failed (option_to_list c.flush)
-
--- the id of the part at this place
-abbrev pub id_at : List Part → Option ℕ → Option ℕ
-id_at parts place = option_and_then (λ n. option_map (λ (p : Part). p.id) (slice_get parts n)) place
 
 -- ---- what holds commands back
 

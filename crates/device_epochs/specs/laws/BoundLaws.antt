@@ -1,63 +1,19 @@
 -- How many commands, parts, completions, entries and steps there are at most, by the ids that may be taken.
-use Rattle.std.specs.Prelude.{◌≡◌, ℕ, ◌+◌, ◌<◌, ◌≤◌, ◌==◌, true, false, List, [], ◌∷◌, length, map, Option, Some, None, is_some, refl}
-use Rattle.std.specs.Option.{option_to_list}
-use Rattle.std.proofs.Common.{◌∙◌, inl, inr, ⊎_elim, arith, length-append}
-use Rattle.std.proofs.lemmas.Bool.{cases_lt, eq-eqb, both_ways}
-use Rattle.std.proofs.lemmas.List.{length-map}
+use Rattle.std.specs.Prelude.{◌+◌, ◌<◌, ◌≤◌, length}
+use Rattle.std.proofs.Common.{arith, length-append}
 use Rattle.blk_base.specs.Members.{In}
-use Rattle.order_model.specs.declared.part.Part.{Part}
 use Rattle.order_model.specs.declared.command.Command.{Command}
 use Rattle.order_model.specs.Received.{all_parts, ids_of, all_ids, completions_of, failures_of}
 use Rattle.order_model.specs.Device.{IsReceivable}
 use Rattle.command_queue.specs.Queue.{Waiting}
+use Rattle.command_queue.specs.laws.QueueLaws.{all_parts-le_ids, parts-le_ids, some_ids, took-le_ids}
 use Rattle.device_epochs.specs.Device.{DeviceState, transferable, seen}
 use Rattle.device_epochs.specs.laws.Valid.{work_left, IsValid}
-use Rattle.device_epochs.specs.laws.PendingLaws.{numbered, waits}
-use Rattle.device_epochs.specs.laws.QueueLaws.{sum_by-without}
-use Rattle.device_epochs.specs.laws.CompletionLaws.{length-completions, length-failures}
+use Rattle.device_epochs.specs.laws.StateLaws.{numbered, waits}
+use Rattle.command_queue.specs.laws.QueueLaws.{sum_by-without}
+use Rattle.command_queue.specs.laws.CompletionLaws.{length-completions, length-failures}
 use Rattle.device_epochs.specs.laws.CountLaws.{work}
 use Rattle.device_epochs.specs.laws.StepLaws.{untold, transferable-In, transferable-waits}
-
--- ---- commands and parts, by their ids
-
-pub parts-le_ids : (c : Command) → length c.parts ≤ length (ids_of c)
-parts-le_ids c =
-    let n = length-append (map (λ (p : Part). p.id) c.parts) (option_to_list c.flush) in
-    let m = length-map c.parts (λ (p : Part). p.id) in
-    omega arith
-
-flush-some_ids : (o : Option ℕ) → is_some o ≡ true → 0 < length (option_to_list o)
-flush-some_ids None e = absurd (both_ways false refl e)
-flush-some_ids (Some id) e = omega arith
-
--- a command that is a flush or has parts has some id
-pub some_ids : (c : Command) → is_some c.flush ≡ (length c.parts == 0) → 0 < length (ids_of c)
-some_ids c whole =
-    let n = length-append (map (λ (p : Part). p.id) c.parts) (option_to_list c.flush) in
-    let m = length-map c.parts (λ (p : Part). p.id) in
-    ⊎_elim
-    (λ some. omega arith)
-    (λ none.
-    let k = flush-some_ids c.flush (whole ∙ eq-eqb (length c.parts) 0 (omega arith)) in
-    omega arith)
-    (cases_lt 0 (length c.parts))
-
-pub all_parts-le_ids : (took : List Command) → length (all_parts took) ≤ length (all_ids took)
-all_parts-le_ids [] = omega arith
-all_parts-le_ids (c ∷ cs) =
-    let parts = length-append c.parts (all_parts cs) in
-    let ids = length-append (ids_of c) (all_ids cs) in
-    let one = parts-le_ids c in
-    let rest = all_parts-le_ids cs in
-    omega arith
-
-pub took-le_ids : (took : List Command) → ((c : Command) → In c took → is_some c.flush ≡ (length c.parts == 0)) → length took ≤ length (all_ids took)
-took-le_ids [] h = omega arith
-took-le_ids (c ∷ cs) h =
-    let ids = length-append (ids_of c) (all_ids cs) in
-    let one = some_ids c (h c (inl refl)) in
-    let rest = took-le_ids cs (λ d i. h d (inr i)) in
-    omega arith
 
 pub took-le : (s : DeviceState) → IsValid s → length s.took ≤ s.limit
 took-le s v = let n = took-le_ids s.took v.commands.whole in let few = v.commands.few in omega arith

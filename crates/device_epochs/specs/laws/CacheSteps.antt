@@ -9,20 +9,19 @@ use Rattle.blk_base.specs.laws.Members.{slice_get-In, slice_get-length, slice_ge
 use Rattle.order_model.specs.declared.part.Part.{Part}
 use Rattle.order_model.specs.declared.command.Command.{Command}
 use Rattle.order_model.specs.Received.{all_parts, part_at, command_of_part, first_part, epoch_of}
-use Rattle.order_model.proofs.Received.{command_of_part-lt, command_of_part-push_old, command_of_part-push_new, length-all_parts-push, part_at-push_old, epoch_of-push_old, command_of_part-earlier, command_of_part-first, part_at-first, place_of, part_at-place, epoch_of-mono, flush-is, is-flush}
+use Rattle.order_model.proofs.Received.{command_of_part-lt, command_of_part-push_old, command_of_part-push_new, length-all_parts-push, part_at-push_old, epoch_of-push_old, command_of_part-earlier, epoch_of-mono, flush-is, is-flush}
 use Rattle.command_queue.specs.Queue.{QueueState, Waiting, without, eligible}
+use Rattle.command_queue.specs.laws.QueueLaws.{part_at-lt, part_of-waiting, parts_of-waiting}
 use Rattle.device_epochs.specs.declared.cache.Entry.{Entry}
 use Rattle.device_epochs.specs.Cache.{same_place, entries, put_all, oldest, without_entry}
 use Rattle.device_epochs.specs.laws.CacheLaws.{In-put_all, AreUnique-put_all, AreSorted-put_all, put_all-IsCached, put_all-In_new, In-entries, entries-In, IsAscending-entries, In-oldest, In-without_entry, without_entry_cases, AreUnique-filter, AreSorted-filter, same_place_from}
 use Rattle.device_epochs.specs.Device.{body_at}
-use Rattle.device_epochs.specs.laws.EpochLaws.{flush-ordered, waiting-taken, ordered-first, waits-or-done, epoch_of_eligible, done_epoch-le}
-use Rattle.device_epochs.specs.laws.QueueLaws.{done-received, received-done, done-moved, moved-done, moved-done-now, eligible-waits, place-before}
-use Rattle.device_epochs.specs.laws.Valid.{IsDone, IsPresent, CommandFacts, QueueFacts, IsEntry, CacheFacts, IsHeld, IsCached, MediumFacts}
+use Rattle.command_queue.specs.laws.EpochLaws.{flush-ordered, waiting-taken, ordered-first, waits-or-done, epoch_of_eligible, done_epoch-le}
+use Rattle.command_queue.specs.laws.QueueLaws.{done-received, received-done, done-moved, moved-done, moved-done-now, eligible-waits, place-before}
+use Rattle.command_queue.specs.Facts.{IsDone, IsPresent, CommandFacts, QueueFacts}
+use Rattle.device_epochs.specs.laws.Valid.{IsEntry, CacheFacts, IsHeld, IsCached, MediumFacts}
 
 -- ---- a command arrives
-
-pub part_at-lt : (took : List Command) (x : ℕ) (p : Part) → part_at took x ≡ Some p → x < length (all_parts took)
-part_at-lt took x p e = slice_get-length (all_parts took) x p e
 
 part_at-pushed : (took : List Command) (c : Command) (x : ℕ) (p : Part) → part_at took x ≡ Some p → part_at (took ++ c ∷ []) x ≡ Some p
 part_at-pushed took c x p e = part_at-push_old took c x (part_at-lt took x p e) ∙ e
@@ -103,22 +102,6 @@ MediumFacts-received base took waiting cache surface origins c w last f =
     }
 
 -- ---- a command goes into the cache
-
--- a part of a command that waits
-pub parts_of-waiting : (took : List Command) (queue : QueueState) (w : Waiting) (i : ℕ) (p : Part) → QueueFacts took queue → In w queue.waiting → slice_get w.command.parts i ≡ Some p
-    → (part_at took (first_part took w.number + i) ≡ Some p) × (command_of_part took (first_part took w.number + i) ≡ w.number)
-parts_of-waiting took queue w i p f h e =
-    let at = f.queued w h in
-    let lt = slice_get-length w.command.parts i p e in
-    (part_at-first took w.number w.command i at lt ∙ e, command_of_part-first took w.number w.command i at lt)
-
--- the part at a place of a command that waits
-pub part_of-waiting : (took : List Command) (queue : QueueState) (w : Waiting) (x : ℕ) (p : Part) → QueueFacts took queue → In w queue.waiting → part_at took x ≡ Some p → command_of_part took x ≡ w.number
-    → (i : ℕ) × (x ≡ first_part took w.number + i) × (slice_get w.command.parts i ≡ Some p)
-part_of-waiting took queue w x p f h e c =
-    let at = place_of took x (part_at-lt took x p e) in
-    let same : at.command ≡ w.command = same_Some at.command w.command (sym at.taken ∙ ap (slice_get took) c ∙ f.queued w h) in
-    (at.inside, at.place ∙ ap (λ n. first_part took n + at.inside) c, ap (λ (d : Command). slice_get d.parts at.inside) (sym same) ∙ sym (part_at-place took x at) ∙ e)
 
 -- the epoch after a command
 abbrev pub epoch_after : ℕ → Waiting → ℕ

@@ -16,9 +16,9 @@ use Rattle.device_epochs.specs.Cache.{same_place, entries, without_entry}
 use Rattle.device_epochs.specs.Device.{DeviceState, is_off, tells_cut, received, performed, failed_on, written, answered, answered_from}
 use Rattle.device_epochs.specs.laws.Valid.{work_left, CountFacts}
 use Rattle.device_epochs.specs.laws.CacheLaws.{length-put_all, length-entries}
-use Rattle.device_epochs.specs.laws.QueueLaws.{sum_by-without, length-without, length-filter-le, length-filter-lt}
-use Rattle.device_epochs.specs.laws.EpochLaws.{length-transfers}
-use Rattle.device_epochs.specs.laws.CompletionLaws.{length-completions, length-failures}
+use Rattle.command_queue.specs.laws.QueueLaws.{sum_by-without, length-without, length-filter-le, length-filter-lt}
+use Rattle.command_queue.specs.laws.EpochLaws.{length-transfers}
+use Rattle.command_queue.specs.laws.CompletionLaws.{length-completions, length-failures}
 
 -- ---- the cache's length
 

@@ -12,11 +12,13 @@ use Rattle.order_model.specs.Device.{IsQuiet, KeepsFlush, Grows}
 use Rattle.order_model.proofs.Received.{command_of_part-lt, flush-is, is-flush, id_once, In-flush-id}
 use Rattle.command_queue.specs.Queue.{Waiting}
 use Rattle.device_epochs.specs.declared.cache.Entry.{Entry}
-use Rattle.device_epochs.specs.laws.CacheSteps.{part_at-lt, parts_of-waiting, IsHeld-written}
-use Rattle.device_epochs.specs.laws.CompletionLaws.{flush-completes, completions-seen, flushed-seen}
+use Rattle.device_epochs.specs.laws.CacheSteps.{IsHeld-written}
+use Rattle.command_queue.specs.laws.QueueLaws.{part_at-lt, parts_of-waiting}
+use Rattle.command_queue.specs.laws.CompletionLaws.{flush-completes, completions-seen, flushed-seen}
 use Rattle.device_epochs.specs.Device.{DeviceState, is_off, answers_left, transferable, performed, failed_on, transferred, persistable, written, persisted, seen}
 use Rattle.device_epochs.specs.laws.StepLaws.{tried-all, persistable-In}
-use Rattle.device_epochs.specs.laws.Valid.{IsDone, with_waiting, IsValid}
+use Rattle.command_queue.specs.Facts.{IsDone, with_waiting}
+use Rattle.device_epochs.specs.laws.Valid.{IsValid}
 use Rattle.device_epochs.specs.laws.EpochOrder.{kept, kept_is_done}
 
 -- ---- the flush law

@@ -1,8 +1,8 @@
 -- Each call of the device leads from a state that can be reached to another.
 use Rattle.std.specs.Prelude.{◌≡◌, ℕ, ◌<◌, true, false, not, List, [], ◌∷◌, ◌++◌, length, Option, Some, None, slice_get, nat_lt, replicate, refl}
-use Rattle.std.proofs.Common.{sym, ap, subst, inl, inr, ⊎_elim, arith, append_assoc}
-use Rattle.std.proofs.lemmas.Bool.{cases_Bool, and_parts, ltb-true, false≢true}
-use Rattle.std.proofs.lemmas.List.{length-replicate}
+use Rattle.std.proofs.Common.{sym, ap, subst, inl, inr, ⊎_elim, arith, append_assoc, ◌∙◌}
+use Rattle.std.proofs.lemmas.Bool.{cases_Bool, and_parts, not-true, ltb-true, false≢true}
+use Rattle.std.proofs.lemmas.List.{append-nil, length-replicate}
 use Rattle.std.proofs.lemmas.Option.{none-some}
 use Rattle.blk_base.specs.Members.{In}
 use Rattle.blk_base.specs.laws.Members.{In-replicate, slice_get-In}
@@ -15,14 +15,16 @@ use Rattle.command_queue.specs.Queue.{Waiting, eligible, without}
 use Rattle.device_epochs.specs.declared.cache.Entry.{Entry}
 use Rattle.device_epochs.specs.declared.device.DeviceSetup.{DeviceSetup}
 use Rattle.device_epochs.specs.laws.CacheSteps.{CacheFacts-received, MediumFacts-received, CacheFacts-moved, MediumFacts-moved, CacheFacts-written, MediumFacts-written}
-use Rattle.device_epochs.specs.laws.CompletionLaws.{completions-received, completions-moved, completions-failed, completions-persisted, completions-answered_from}
+use Rattle.command_queue.specs.laws.CompletionLaws.{completions-received, completions-moved, completions-failed, completions-persisted, completions-told}
 use Rattle.device_epochs.specs.laws.CountLaws.{counts-received, counts-moved, counts-failed, counts-written, counts-answered_from}
 use Rattle.device_epochs.specs.Device.{DeviceState, opened, is_off, fails_next, has_room, received, transferable, performed, failed_on, transferred, after_read, persistable, written, persisted, tells_cut, answered_from, answered, seen}
-use Rattle.device_epochs.specs.laws.EpochLaws.{present-received, present-moved, moved-received, moved-moved, epoch_of_eligible}
-use Rattle.device_epochs.specs.laws.PendingLaws.{pending-received, pending-moved, pending-failed, lost-lt, lost-none, pending-is, waits, numbered, faults-moved, faults-failed, faults-read, to_come-le}
-use Rattle.device_epochs.specs.laws.QueueLaws.{commands-received, queue-received, queue-moved, eligible-waits}
+use Rattle.command_queue.specs.laws.EpochLaws.{present-received, present-moved, moved-received, moved-moved, epoch_of_eligible}
+use Rattle.command_queue.specs.laws.PendingLaws.{pending-received, pending-moved, pending-failed, lost-lt, faults-moved, faults-failed, faults-read, to_come-le}
+use Rattle.device_epochs.specs.laws.StateLaws.{lost-none, pending-is, waits, numbered}
+use Rattle.command_queue.specs.laws.QueueLaws.{commands-received, queue-received, queue-moved, eligible-waits}
 use Rattle.device_epochs.specs.laws.StepLaws.{untold, transferable-In, tried-all, persistable-In}
-use Rattle.device_epochs.specs.laws.Valid.{CompletionFacts, with_waiting, IsValid}
+use Rattle.command_queue.specs.Facts.{CompletionFacts, with_waiting}
+use Rattle.device_epochs.specs.laws.Valid.{IsValid}
 
 -- the completions where no transfer failed
 unlost : (s : DeviceState) (v : IsValid s) → s.failed ≡ false → CompletionFacts s.took v.pending None (s.sent ++ s.waiting) (is_off s) s.told
@@ -204,6 +206,25 @@ persisted-valid s pick v =
     written_from-valid s (slice_get (persistable s) pick) v (λ e q. slice_get-In (persistable s) pick e q)
 
 -- ---- a completion is handed out
+
+-- the completions' facts of a state
+abbrev HasCompletions : DeviceState → List Waiting → Option ℕ → Type 0
+HasCompletions s ws lost = CompletionFacts s.took ws lost (s.sent ++ s.waiting) (is_off s) s.told
+
+completions-answered_from : (s : DeviceState) (ws : List Waiting) (lost : Option ℕ) (cs : List Completion) → s.waiting ≡ cs → HasCompletions s ws lost → HasCompletions (answered_from s cs) ws lost
+completions-answered_from s ws lost (c ∷ cs) e f =
+    let same : s.sent ++ s.waiting ≡ (s.sent ++ c ∷ []) ++ cs = ap (λ l. s.sent ++ l) e ∙ sym (append_assoc s.sent (c ∷ []) cs) in
+    subst (λ l. CompletionFacts s.took ws lost l (is_off s) s.told) same f
+completions-answered_from s ws lost [] e f =
+    elim (cases_Bool (tells_cut s)) [
+      | inl t ↦
+          let p = and_parts (is_off s) (not s.told) t in
+          let none : s.sent ++ s.waiting ≡ s.sent = ap (λ l. s.sent ++ l) e ∙ append-nil s.sent in
+          let g = completions-told s.took ws lost s.sent (is_off s) s.told (subst (λ l. CompletionFacts s.took ws lost l (is_off s) s.told) none f) (not-true s.told p.1) p.0 in
+          let after : s.sent ++ Cut ∷ [] ≡ (s.sent ++ Cut ∷ []) ++ s.waiting = sym (ap (λ l. (s.sent ++ Cut ∷ []) ++ l) e ∙ append-nil (s.sent ++ Cut ∷ [])) in
+          rw t (subst (λ l. CompletionFacts s.took ws lost l (is_off s) true) after g)
+      | inr n ↦ rw n f
+    ]
 
 handed-valid : (s : DeviceState) (cs : List Completion) → s.waiting ≡ cs → IsValid s → IsValid (answered_from s cs)
 handed-valid s (c ∷ cs) e v = record {

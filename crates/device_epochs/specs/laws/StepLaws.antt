@@ -15,10 +15,12 @@ use Rattle.command_queue.specs.Queue.{Waiting, eligible}
 use Rattle.device_epochs.specs.declared.cache.Entry.{Entry}
 use Rattle.device_epochs.specs.Cache.{oldest}
 use Rattle.device_epochs.specs.Device.{DeviceState, is_off, fails_next, received, may_transfer, has_stopped, transferable, performed, failed_on, tried, transferred, persistable, written, persisted, tells_cut, answers_left, next_answer, answered, answered_from, seen}
-use Rattle.device_epochs.specs.laws.EpochLaws.{epoch_of_eligible}
-use Rattle.device_epochs.specs.laws.PendingLaws.{waits, pending-is, number-is, not-number}
-use Rattle.device_epochs.specs.laws.QueueLaws.{eligible-waits}
-use Rattle.device_epochs.specs.laws.Valid.{with_waiting, IsValid}
+use Rattle.command_queue.specs.laws.EpochLaws.{epoch_of_eligible}
+use Rattle.device_epochs.specs.laws.StateLaws.{waits, pending-is}
+use Rattle.command_queue.specs.laws.PendingLaws.{number-is, not-number}
+use Rattle.command_queue.specs.laws.QueueLaws.{eligible-waits}
+use Rattle.command_queue.specs.Facts.{with_waiting}
+use Rattle.device_epochs.specs.laws.Valid.{IsValid}
 
 -- ---- which steps can be taken
 

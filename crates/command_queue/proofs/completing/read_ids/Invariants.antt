@@ -1,8 +1,8 @@
 use Rattle.std.proofs.Common.{◌≡◌, ◌++◌, drop, map, take}
 use Rattle.std.specs.Prelude.{vec_len}
 use Rattle.order_model.specs.Received.{all_parts}
-use Rattle.device_epochs.specs.code.Helpers.{id_at}
-use Rattle.device_epochs.proofs.completing.read_ids.Given as goal
+use Rattle.command_queue.specs.Told.{id_at}
+use Rattle.command_queue.proofs.completing.read_ids.Given as goal
 
 abbrev pub invariant-loop-i : goal.invariant-loop-i
 invariant-loop-i l =

@@ -13,8 +13,8 @@ use Rattle.order_model.specs.Received.{all_parts, first_part, command_of_part, e
 use Rattle.order_model.specs.Device.{is_ordered}
 use Rattle.order_model.proofs.Received.{length-all_parts-push, command_of_part-lt, command_of_part-push_old, command_of_part-push_new, command_of_part-first, place_of, part-lt, epoch_of-push_old, epoch_of-mono, epoch_of-barrier, epoch_of-plain, epoch_of-flat}
 use Rattle.command_queue.specs.Queue.{QueueState, Waiting, eligible, without}
-use Rattle.device_epochs.specs.laws.Valid.{IsDone, CommandFacts, QueueFacts, IsPresent, MovedFacts}
-use Rattle.device_epochs.specs.laws.QueueLaws.{number-lt, In-without, without-In, done-received, received-done, done-moved, moved-done, moved-done-now, eligible-waits, eligible_clear, apart, waiting-done_apart}
+use Rattle.command_queue.specs.Facts.{IsDone, CommandFacts, QueueFacts, IsPresent, MovedFacts}
+use Rattle.command_queue.specs.laws.QueueLaws.{number-lt, In-without, without-In, done-received, received-done, done-moved, moved-done, moved-done-now, eligible-waits, eligible_clear, apart, waiting-done_apart}
 
 -- ---- what is ORDERED
 

@@ -1,8 +1,8 @@
 use Rattle.std.proofs.Common.{◌<◌, length, rules}
 use Rattle.std.proofs.lemmas.List.Edits.{map_over_more}
 use Rattle.order_model.specs.Received.{all_parts}
-use Rattle.device_epochs.specs.code.Helpers.{id_at}
-use Rattle.device_epochs.proofs.completing.read_ids.Goals as goal
+use Rattle.command_queue.specs.Told.{id_at}
+use Rattle.command_queue.proofs.completing.read_ids.Goals as goal
 
 pub loop-i-preserved : goal.loop-i-preserved
 loop-i-preserved c =

@@ -1,6 +1,6 @@
 use Rattle.std.proofs.Common.{◌≡◌, ◌+◌, ◌++◌, drop, length}
 use Rattle.order_model.specs.Received.{transfers}
-use Rattle.device_epochs.proofs.completing.note_transfers.Given as goal
+use Rattle.command_queue.proofs.completing.note_transfers.Given as goal
 
 abbrev pub invariant-loop : goal.invariant-loop
 invariant-loop l =

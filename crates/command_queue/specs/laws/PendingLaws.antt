@@ -6,9 +6,10 @@ use Rattle.std.proofs.lemmas.Option.{none-some, same_Some}
 use Rattle.blk_base.specs.Members.{In}
 use Rattle.blk_base.specs.laws.Members.{In-push_left}
 use Rattle.command_queue.specs.Queue.{Waiting, AreNumbered, without}
-use Rattle.device_epochs.specs.Device.{DeviceState, is_next, is_number, counted}
-use Rattle.device_epochs.specs.laws.QueueLaws.{AreNumbered-filter, number-lt, In-without}
-use Rattle.device_epochs.specs.laws.Valid.{in_queue, PendingFacts, to_come, FaultFacts, QueueFacts, with_waiting, IsValid}
+use Rattle.command_queue.specs.Faults.{is_next, is_number, counted}
+use Rattle.command_queue.specs.laws.QueueLaws.{AreNumbered-filter, number-lt, In-without}
+use Rattle.command_queue.specs.Facts.{in_queue, PendingFacts, FaultFacts}
+use Rattle.command_queue.specs.Faults.{to_come}
 
 -- ---- what waits, and what was not done
 
@@ -24,10 +25,10 @@ pub nothing-lost : (ws pending : List Waiting) (lost : Option ℕ) (failed : Boo
 nothing-lost ws pending None failed f n = refl
 nothing-lost ws pending (Some k) failed f n = absurd (both_ways failed n f.known)
 
-all-wait : (ws pending : List Waiting) (lost : Option ℕ) (failed : Bool) → PendingFacts ws pending lost failed → failed ≡ false → ws ≡ pending
+pub all-wait : (ws pending : List Waiting) (lost : Option ℕ) (failed : Bool) → PendingFacts ws pending lost failed → failed ≡ false → ws ≡ pending
 all-wait ws pending lost failed f n = f.queue ∙ ap (λ o. in_queue o pending) (nothing-lost ws pending lost failed f n)
 
-in_queue-numbered : (n : ℕ) (lost : Option ℕ) (pending : List Waiting) → AreNumbered n pending → AreNumbered n (in_queue lost pending)
+pub in_queue-numbered : (n : ℕ) (lost : Option ℕ) (pending : List Waiting) → AreNumbered n pending → AreNumbered n (in_queue lost pending)
 in_queue-numbered n None pending a = a
 in_queue-numbered n (Some k) pending a = AreNumbered-filter (λ w. not (w.number == k)) n pending a
 
@@ -80,29 +81,6 @@ empty-waits ws (Some n) failed f = absurd ((f.there n refl).1)
 pub lost-some : (ws pending : List Waiting) (lost : Option ℕ) (failed : Bool) → PendingFacts ws pending lost failed → failed ≡ true → (n : ℕ) × (lost ≡ Some n)
 lost-some ws pending None failed f t = absurd (both_ways failed f.known t)
 lost-some ws pending (Some n) failed f t = (n, refl)
-
--- ---- of a state
-
-pub waits : (s : DeviceState) (v : IsValid s) (w : Waiting) → In w s.queue.waiting → In w v.pending
-waits s v w h = waits-pending s.queue.waiting v.pending v.lost s.failed w v.losses h
-
-pub numbered : (s : DeviceState) → IsValid s → AreNumbered s.queue.next s.queue.waiting
-numbered s v = subst (AreNumbered s.queue.next) (sym v.losses.queue) (in_queue-numbered s.queue.next v.lost v.pending v.queue.numbered)
-
-pub pending-is : (s : DeviceState) (v : IsValid s) → s.failed ≡ false → v.pending ≡ s.queue.waiting
-pending-is s v n = sym (all-wait s.queue.waiting v.pending v.lost s.failed v.losses n)
-
-pub lost-none : (s : DeviceState) (v : IsValid s) → s.failed ≡ false → v.lost ≡ None
-lost-none s v n = nothing-lost s.queue.waiting v.pending v.lost s.failed v.losses n
-
-pub none-pending : (s : DeviceState) (v : IsValid s) → v.pending ≡ [] → (s.queue.waiting ≡ []) × (s.failed ≡ false)
-none-pending s v e = empty-waits s.queue.waiting v.lost s.failed (subst (λ ws. PendingFacts s.queue.waiting ws v.lost s.failed) e v.losses)
-
--- where no transfer failed, the facts are those of the queue
-pub queue-facts : (s : DeviceState) → IsValid s → s.failed ≡ false → QueueFacts s.took s.queue
-queue-facts s v n =
-    let f = subst (λ ws. QueueFacts s.took (with_waiting s.queue ws)) (pending-is s v n) v.queue in
-    record { some_depth = f.some_depth; next = f.next; numbered = f.numbered; queued = f.queued; passed = f.passed }
 
 -- ---- faults
 
@@ -161,10 +139,6 @@ faults-read fail_at count bad_read failed faults f =
       | inr n ↦ let le = counted-le bad_read in rw n (record { number = f.number; made = f.made; few = omega arith })
     ]
 
-two-or-one : (b : Bool) → (if b then 2 else 1) ≤ 2
+pub two-or-one : (b : Bool) → (if b then 2 else 1) ≤ 2
 two-or-one true = omega arith
 two-or-one false = omega arith
-
--- there is room in the count for one more
-pub faults-lt : (s : DeviceState) → IsValid s → s.faults ≤ 2
-faults-lt s v = let few = v.faults.few in let most = two-or-one s.failed in omega arith

@@ -1,7 +1,7 @@
 use Rattle.std.proofs.Common.{◌≡◌, ◌+◌, ◌++◌, drop, length, map}
 use Rattle.order_model.specs.declared.part.Part.{Part}
 use Rattle.order_model.specs.declared.completion.Completion.TheVariants.{Moved}
-use Rattle.device_epochs.proofs.completing.complete.Given as goal
+use Rattle.command_queue.proofs.completing.complete.Given as goal
 
 abbrev pub invariant-loop-part : goal.invariant-loop-part
 invariant-loop-part l =

@@ -1,22 +1,23 @@
 -- What waits and what is done, and how receiving and transferring a command change both.
-use Rattle.std.specs.Prelude.{◌≡◌, ℕ, ◌+◌, ◌<◌, ◌≤◌, ◌++◌, ◌||◌, ◌&&◌, ◌==◌, ◌⊎◌, not, Bool, true, false, List, [], ◌∷◌, length, filter, nat_lt, sum_by, Some, is_some, slice_get, refl}
+use Rattle.std.specs.Prelude.{◌≡◌, ℕ, ◌+◌, ◌<◌, ◌≤◌, ◌++◌, ◌||◌, ◌&&◌, ◌==◌, ◌⊎◌, not, Bool, true, false, List, [], ◌∷◌, length, filter, nat_lt, sum_by, Some, is_some, slice_get, refl, Option, None, map}
 use Rattle.std.specs.List.{list_any}
-use Rattle.std.proofs.Common.{sym, ap, subst, ◌∙◌, inl, inr, ⊎_elim, arith}
+use Rattle.std.proofs.Common.{sym, ap, subst, ◌∙◌, inl, inr, ⊎_elim, arith, length-append}
 use Rattle.std.proofs.lemmas.Bool.{cases_Bool, cases_lt, cases_eq, lt-ltb, le-ltb, eq-eqb, and_left, or_parts, not-true, both_ways}
-use Rattle.std.proofs.lemmas.List.{length_push}
+use Rattle.std.proofs.lemmas.List.{length_push, length-map}
 use Rattle.std.proofs.lemmas.List.Sums.{sum_by-cons}
 use Rattle.std.proofs.lemmas.Option.{same_Some}
 use Rattle.blk_base.specs.Members.{In}
 use Rattle.blk_base.specs.laws.Members.{In-push, In-push_left, In-push_cases, In-append_cases, In-filter, All-In, list_any-In, all-list_all, slice_get-In, slice_get-length, slice_get-push, slice_get-push_left}
+use Rattle.std.specs.Option.{option_to_list}
 use Rattle.order_model.specs.declared.part.Part.{Part}
 use Rattle.order_model.specs.declared.command.Command.{Command}
 use Rattle.order_model.specs.declared.command.Priority.TheVariants.{Ordered}
-use Rattle.order_model.specs.Received.{all_parts, part_at, first_part, command_of_part}
+use Rattle.order_model.specs.Received.{all_parts, part_at, first_part, command_of_part, ids_of, all_ids}
 use Rattle.order_model.specs.Device.{Seen, IsReceivable, NoneTwice, is_ordered}
 use Rattle.order_model.specs.laws.ArrivalLaws as arrivals
-use Rattle.order_model.proofs.Received.{all_parts-push, all_ids-push, command_of_part-first, command_of_part-earlier, place_of, part_at-place}
+use Rattle.order_model.proofs.Received.{all_parts-push, all_ids-push, command_of_part-first, command_of_part-earlier, place_of, part_at-place, part_at-first}
 use Rattle.command_queue.specs.Queue.{QueueState, Waiting, have_common_block, stands_in_way, is_free, eligible, without, arrived, departed, AreNumbered}
-use Rattle.device_epochs.specs.laws.Valid.{IsDone, CommandFacts, QueueFacts}
+use Rattle.command_queue.specs.Facts.{IsDone, CommandFacts, QueueFacts}
 
 -- ---- commands
 
@@ -240,3 +241,65 @@ place-before took q w x i p r f h lt d e g same =
     let before = done-before took q w (command_of_part took x) at.command f h d at.taken (common_block w.command.parts at.command.parts r p (slice_get-In w.command.parts i r g) inside same) in
     let it = command_of_part-first took w.number w.command i (f.queued w h) (slice_get-length w.command.parts i r g) in
     command_of_part-earlier took x (first_part took w.number + i) (omega arith)
+
+-- ---- the parts of what waits
+
+pub part_at-lt : (took : List Command) (x : ℕ) (p : Part) → part_at took x ≡ Some p → x < length (all_parts took)
+part_at-lt took x p e = slice_get-length (all_parts took) x p e
+
+-- a part of a command that waits
+pub parts_of-waiting : (took : List Command) (queue : QueueState) (w : Waiting) (i : ℕ) (p : Part) → QueueFacts took queue → In w queue.waiting → slice_get w.command.parts i ≡ Some p
+    → (part_at took (first_part took w.number + i) ≡ Some p) × (command_of_part took (first_part took w.number + i) ≡ w.number)
+parts_of-waiting took queue w i p f h e =
+    let at = f.queued w h in
+    let lt = slice_get-length w.command.parts i p e in
+    (part_at-first took w.number w.command i at lt ∙ e, command_of_part-first took w.number w.command i at lt)
+
+-- the part at a place of a command that waits
+pub part_of-waiting : (took : List Command) (queue : QueueState) (w : Waiting) (x : ℕ) (p : Part) → QueueFacts took queue → In w queue.waiting → part_at took x ≡ Some p → command_of_part took x ≡ w.number
+    → (i : ℕ) × (x ≡ first_part took w.number + i) × (slice_get w.command.parts i ≡ Some p)
+part_of-waiting took queue w x p f h e c =
+    let at = place_of took x (part_at-lt took x p e) in
+    let same : at.command ≡ w.command = same_Some at.command w.command (sym at.taken ∙ ap (slice_get took) c ∙ f.queued w h) in
+    (at.inside, at.place ∙ ap (λ n. first_part took n + at.inside) c, ap (λ (d : Command). slice_get d.parts at.inside) (sym same) ∙ sym (part_at-place took x at) ∙ e)
+
+-- ---- commands and parts, by their ids
+
+pub parts-le_ids : (c : Command) → length c.parts ≤ length (ids_of c)
+parts-le_ids c =
+    let n = length-append (map (λ (p : Part). p.id) c.parts) (option_to_list c.flush) in
+    let m = length-map c.parts (λ (p : Part). p.id) in
+    omega arith
+
+flush-some_ids : (o : Option ℕ) → is_some o ≡ true → 0 < length (option_to_list o)
+flush-some_ids None e = absurd (both_ways false refl e)
+flush-some_ids (Some id) e = omega arith
+
+-- a command that is a flush or has parts has some id
+pub some_ids : (c : Command) → is_some c.flush ≡ (length c.parts == 0) → 0 < length (ids_of c)
+some_ids c whole =
+    let n = length-append (map (λ (p : Part). p.id) c.parts) (option_to_list c.flush) in
+    let m = length-map c.parts (λ (p : Part). p.id) in
+    ⊎_elim
+    (λ some. omega arith)
+    (λ none.
+    let k = flush-some_ids c.flush (whole ∙ eq-eqb (length c.parts) 0 (omega arith)) in
+    omega arith)
+    (cases_lt 0 (length c.parts))
+
+pub all_parts-le_ids : (took : List Command) → length (all_parts took) ≤ length (all_ids took)
+all_parts-le_ids [] = omega arith
+all_parts-le_ids (c ∷ cs) =
+    let parts = length-append c.parts (all_parts cs) in
+    let ids = length-append (ids_of c) (all_ids cs) in
+    let one = parts-le_ids c in
+    let rest = all_parts-le_ids cs in
+    omega arith
+
+pub took-le_ids : (took : List Command) → ((c : Command) → In c took → is_some c.flush ≡ (length c.parts == 0)) → length took ≤ length (all_ids took)
+took-le_ids [] h = omega arith
+took-le_ids (c ∷ cs) h =
+    let ids = length-append (ids_of c) (all_ids cs) in
+    let one = some_ids c (h c (inl refl)) in
+    let rest = took-le_ids cs (λ d i. h d (inr i)) in
+    omega arith

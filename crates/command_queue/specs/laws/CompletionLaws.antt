@@ -16,10 +16,9 @@ use Rattle.order_model.specs.Received.{part_at, first_part, command_of_part, epo
 use Rattle.order_model.specs.Device.{NoneTwice, completion_id}
 use Rattle.order_model.proofs.Received.{command_of_part-first, part_at-first, part-lt, id_once, id_once-inside, is-flush}
 use Rattle.command_queue.specs.Queue.{QueueState, Waiting, without}
-use Rattle.device_epochs.specs.Device.{DeviceState, is_off, tells_cut, answered_from}
-use Rattle.device_epochs.specs.code.Helpers.{told_failed}
-use Rattle.device_epochs.specs.laws.Valid.{IsDone, QueueFacts, MovedFacts, IsCompletionOf, CompletionFacts}
-use Rattle.device_epochs.specs.laws.QueueLaws.{done-received, received-done, done-moved, moved-done, moved-done-now}
+use Rattle.command_queue.specs.Told.{told_failed}
+use Rattle.command_queue.specs.Facts.{IsDone, QueueFacts, MovedFacts, IsCompletionOf, CompletionFacts}
+use Rattle.command_queue.specs.laws.QueueLaws.{done-received, received-done, done-moved, moved-done, moved-done-now}
 
 -- ---- the completions of one command
 
@@ -363,25 +362,6 @@ completions-told took ws lost cs off told f untold is_off =
       told_off = λ t. is_off;
       told_there = λ t. In-push cs Cut;
     }
-
--- the completions' facts of a state
-abbrev pub HasCompletions : DeviceState → List Waiting → Option ℕ → Type 0
-HasCompletions s ws lost = CompletionFacts s.took ws lost (s.sent ++ s.waiting) (is_off s) s.told
-
-pub completions-answered_from : (s : DeviceState) (ws : List Waiting) (lost : Option ℕ) (cs : List Completion) → s.waiting ≡ cs → HasCompletions s ws lost → HasCompletions (answered_from s cs) ws lost
-completions-answered_from s ws lost (c ∷ cs) e f =
-    let same : s.sent ++ s.waiting ≡ (s.sent ++ c ∷ []) ++ cs = ap (λ l. s.sent ++ l) e ∙ sym (append_assoc s.sent (c ∷ []) cs) in
-    subst (λ l. CompletionFacts s.took ws lost l (is_off s) s.told) same f
-completions-answered_from s ws lost [] e f =
-    elim (cases_Bool (tells_cut s)) [
-      | inl t ↦
-          let p = and_parts (is_off s) (not s.told) t in
-          let none : s.sent ++ s.waiting ≡ s.sent = ap (λ l. s.sent ++ l) e ∙ append-nil s.sent in
-          let g = completions-told s.took ws lost s.sent (is_off s) s.told (subst (λ l. CompletionFacts s.took ws lost l (is_off s) s.told) none f) (not-true s.told p.1) p.0 in
-          let after : s.sent ++ Cut ∷ [] ≡ (s.sent ++ Cut ∷ []) ++ s.waiting = sym (ap (λ l. (s.sent ++ Cut ∷ []) ++ l) e ∙ append-nil (s.sent ++ Cut ∷ [])) in
-          rw t (subst (λ l. CompletionFacts s.took ws lost l (is_off s) true) after g)
-      | inr n ↦ rw n f
-    ]
 
 -- ---- what is seen of them
 
