@@ -21,10 +21,10 @@ UNTOLD = "goes on by a step that the report does not tell"
 
 
 class Prefix:
-    """The script up to some event, and what it can be asked."""
+    """The script up to some event, and what it can be asked. Where it is brief, nobody asks why the event does nothing."""
 
-    def __init__(self, owner, events):
-        self.owner, self.events = owner, events
+    def __init__(self, owner, events, brief=False):
+        self.owner, self.events, self.brief = owner, events, brief
 
     def then(self, *events):
         return Prefix(self.owner, [*self.events, *events])
@@ -159,7 +159,7 @@ class Explained:
         singles = list(self.singles())
         pool = concurrent.futures.ThreadPoolExecutor(self.runner.jobs)
         try:
-            texts = list(pool.map(lambda single: self.say(single[3], single[4]), singles))
+            texts = list(pool.map(lambda single: self.say(*single[2:]), singles))
         finally:
             pool.shutdown(cancel_futures=True)
         ids = Ids("elevator" in self.script.head)
@@ -169,10 +169,10 @@ class Explained:
             if self.shows_all or not isinstance(time, str) or not is_nothing or event is None:
                 yield Moment(number, line, time, not is_nothing, text)
 
-    def say(self, event, before):
+    def say(self, time, event, before):
         if event is None:
             return "nothing is seen of these"
-        cut, prefix = self.script.cut, Prefix(self, before)
+        cut, prefix = self.script.cut, Prefix(self, before, isinstance(time, str) and not self.shows_all)
         word = event.split(" ")[0]
         if cut is not None and prefix.steps() >= cut:
             if word in ("receive", "transfer", "persist"):
@@ -203,6 +203,8 @@ class Explained:
 
     def cause(self, prefix, event, acts, otherwise):
         """Why an event did nothing: the first of these causes without which it acts."""
+        if prefix.brief:
+            return otherwise
         causes = [
             ("the submission queue is full", prefix.then("accept")),
             ("a completion was not taken yet", prefix.then("answer x 64", "flush x 64")),
@@ -268,6 +270,8 @@ class Explained:
         text = self.seen(prefix, event)
         if text:
             return text
+        if prefix.brief:
+            return "nothing"
         place = int(event.split(" ")[1])
         dirty = prefix.places("write", place, prefix.grows)
         if dirty:
@@ -277,6 +281,8 @@ class Explained:
     def accept(self, prefix, event):
         if prefix.then(event).depth(4) > prefix.depth(4):
             return "the scheduler takes a request"
+        if prefix.brief:
+            return "nothing"
         if prefix.depth(5) == prefix.depth(4):
             return "nothing: the submission queue is empty"
         full = "" if prefix.report().requests < 128 else ", or full"
@@ -288,6 +294,8 @@ class Explained:
         place = int(event.split(" ")[1])
         if acts(event):
             return f"the request at place {place} leaves the scheduler; {eligible(prefix.places('dispatch', place + MORE_PLACES, acts), place + MORE_PLACES)}"
+        if prefix.brief:
+            return "nothing"
         if prefix.depth(4) == below:
             return "nothing: the scheduler holds no request"
         count = prefix.places("dispatch", place, acts)
@@ -301,6 +309,8 @@ class Explained:
     def receive(self, prefix, event):
         if prefix.then(event).depth(2) > prefix.depth(2):
             return "the device takes a command"
+        if prefix.brief:
+            return "nothing"
         if prefix.depth(3) == prefix.depth(2):
             return "nothing: the dispatch queue is empty"
         room = prefix.then(f"persist 0 x {ALL}", "transfer 0")
@@ -313,6 +323,8 @@ class Explained:
         if prefix.does_a_step(event):
             count = prefix.places("transfer", place + MORE_PLACES, prefix.does_a_step)
             return f"the command at place {place} goes into the cache; {eligible(count, place + MORE_PLACES)}"
+        if prefix.brief:
+            return "nothing"
         count = prefix.places("transfer", place, prefix.does_a_step)
         if count:
             return f"nothing: place {place} is past the eligible commands, of which there are {count}"
@@ -327,6 +339,8 @@ class Explained:
         if prefix.does_a_step(event):
             count = prefix.places("persist", place + MORE_PLACES, prefix.does_a_step)
             return f"the entry at place {place} goes to the medium; {eligible(count, place + MORE_PLACES)}"
+        if prefix.brief:
+            return "nothing"
         count = prefix.places("persist", place, prefix.does_a_step)
         if count:
             return f"nothing: place {place} is past the entries of the oldest epoch, of which there are {count}"
