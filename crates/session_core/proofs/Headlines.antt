@@ -19,7 +19,7 @@ use Rattle.call_images.specs.CallImages.{found_in, submitted_by, ShowsFiles}
 use Rattle.session_promises.specs.Trees.{HaveNoRenames}
 use Rattle.session_grammar.specs.declared.session_script.SessionScript.{SessionScript}
 use Rattle.session_grammar.specs.WellFormed.{IsWellFormed, IsBuilt}
-use Rattle.session_core.specs.Core.{EndState, geometry_of, opening_of}
+use Rattle.session_core.specs.Core.{EndState, IsDeviceOf, geometry_of, opening_of}
 use Rattle.session_core.specs.Headline.{medium_of, told_by, IsShownBy, IsAllShown, HeadlineOn}
 use Rattle.session_core.specs.Report.{ReportKeepsOrder}
 use Rattle.session_core.specs.code.Cuts.{CutFacts}
@@ -55,9 +55,9 @@ script_has_no_renames s is = λ p c there here. no_rename c (is.calls c (of_prog
 took : (n : ℕ) (taken sent : List Completion) (c : Completion) → taken ≡ take n sent → In c taken → In c sent
 took n taken sent c front here = In-take n sent c (subst (In c) front here)
 
-pub headline_of : (s : SessionScript) (end : EndState) (r : SessionReport) → CutFacts s end.host (medium_of r) → ReportKeepsOrder s end r → EndFits end
+pub headline_of : (s : SessionScript) (end : EndState) (r : SessionReport) → CutFacts s end.host (medium_of r) → ReportKeepsOrder s end r → EndFits end → IsDeviceOf s end.dev
     → r.cut.trace.sent.items ≡ end.dev.sent → r.found ≡ found_in (geometry_of s).zones 1 r.cut.image.items → HeadlineOn s end r
-headline_of s end r facts order fits sent found =
+headline_of s end r facts order fits device sent found =
     let g = geometry_of s in
     let m = medium_of r in
     let host = facts.host in
@@ -76,6 +76,7 @@ headline_of s end r facts order fits sent found =
       accepted = fits.accepted;
       received = fits.received;
       taken = fits.taken;
+      device = device;
       follows = host.follows;
       legal = host.legal;
       transactions = subst (λ n. IsFound (submitted_by g s.journal [] end.host) m n) (sym count) facts.transactions;

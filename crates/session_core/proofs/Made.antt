@@ -4,7 +4,7 @@ use Rattle.blk_base.specs.Members.{In}
 use Rattle.blk_base.specs.laws.Members.{In-append_left, In-append_right}
 use Rattle.order_model.specs.declared.device.OrderedDev as devices
 use Rattle.order_model.specs.Carrying.{SchedSeen, IsPrefixOf}
-use Rattle.order_model.specs.Device.{Seen}
+use Rattle.order_model.specs.Device.{Seen, TellsCut, TellsFailure}
 use Rattle.order_model.specs.Machine.{Machine}
 use Rattle.barrier_reassign.specs.declared.scheduler.Scheduler as schedulers
 use Rattle.blk_base.specs.declared.memory.NoMemory.{NoMemory}
@@ -24,12 +24,12 @@ use Rattle.session_grammar.specs.WellFormed.{IsWellFormed, all_calls}
 use Rattle.session_machine.specs.Machine.{core_session, opened_session, events_of, host_events}
 use Rattle.host_runs.specs.Runs.{steps}
 use Rattle.session_machine.specs.MadeStart.{IsNew}
-use Rattle.session_machine.specs.Fits.{SessionFits}
+use Rattle.session_machine.specs.Fits.{SessionFits, IsMadeAs}
 use Rattle.std.specs.Option.{option_to_list}
 use Rattle.session_run.specs.Beginning.{HostNow, WriteBytes, call_over, IsMadeFor}
 use Rattle.session_run.specs.End.{IsEndOf, EndKeepsOrder}
 use Rattle.session_run.specs.declared.session.SessionEnd.{SessionEnd}
-use Rattle.session_core.specs.Core.{IsNewFor, geometry_of, opening_of, start_of, ended}
+use Rattle.session_core.specs.Core.{HasSetup, IsDeviceOf, IsNewFor, geometry_of, opening_of, start_of, ended}
 use Rattle.session_core.specs.code.Ends.{session_on, EndsIn, KeepsTheOrder, IsBehind, EndFits}
 
 -- ---- its calls
@@ -67,7 +67,7 @@ any_capacity limit capacity p new =
 
 pub is_new : (s : SessionScript) (p : SchedSeen) (d : Seen) → IsNewScheduler s.header.limit CAPACITY p → IsNewFor s d → IsNew (made_image (geometry_of s) s.journal) s.header.limit p d
 is_new s p d sched dev =
-    record { image = dev.image; took = dev.took; sent = dev.sent; ids = dev.ids; scheduler = any_capacity s.header.limit CAPACITY p sched }
+    record { image = dev.image; took = dev.untouched.took; sent = dev.untouched.sent; ids = dev.ids; scheduler = any_capacity s.header.limit CAPACITY p sched }
 
 -- ---- its end
 
@@ -96,6 +96,18 @@ pub programs_short : (ps : List (List Call)) (n : ℕ) → ((p : List Call) → 
 programs_short [] n short i = omega arith
 programs_short (p ∷ ps) n short zero = short p (inl refl)
 programs_short (p ∷ ps) n short (suc i) = programs_short ps n (λ q there. short q (inr there)) i
+
+-- ---- its device
+
+pub device_of : {K S X E : Type 0} (k : SchedSteps K) (m : Machine S) (s : SessionScript) (sched : K) (dev : S) (r : Result X E) → HasSetup s (m.seen dev)
+    → IsMadeAs (m.seen dev) (m.seen (session_on s k m sched dev).dev) → TellsCut (m.seen (session_on s k m sched dev).dev) → TellsFailure (m.seen (session_on s k m sched dev).dev)
+    → IfOk r (λ x. IsDeviceOf s (ended k m (session_on s k m sched dev)).dev)
+device_of k m s sched dev (Err x) setup made power failure = tt
+device_of k m s sched dev (Ok x) setup made power failure = record {
+  setup = record { depth = made.depth ∙ setup.depth; cut_at = made.cut_at ∙ setup.cut_at; fail_at = made.fail_at ∙ setup.fail_at };
+  power = power;
+  failure = failure;
+}
 
 -- ---- its parts fit
 

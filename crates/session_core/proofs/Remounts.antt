@@ -27,7 +27,12 @@ attempts_are m fresh s image attempts v base copy lines zones same recovers is =
 
 -- the device that a script opens is new for it
 pub model_is_new : (s : SessionScript) (dev : DeviceState) → dev ≡ device_for s → IsNewFor s (seen dev)
-model_is_new s dev e = subst (λ (d : DeviceState). IsNewFor s (seen d)) (sym e) (record { image = refl; took = refl; sent = refl; ids = omega arith })
+model_is_new s dev e = subst (λ (d : DeviceState). IsNewFor s (seen d)) (sym e) (record {
+  image = refl;
+  setup = record { depth = refl; cut_at = refl; fail_at = refl };
+  untouched = record { took = refl; moved = refl; sent = refl; steps = refl; transfers_made = refl; faults = refl };
+  ids = omega arith;
+})
 
 -- attempts on model devices are those that the function has
 abbrev pub FollowFunction : SessionScript → Type 0

@@ -1,7 +1,7 @@
 -- The session that a volume script says: what it opens, and where its events lead.
 use Rattle.std.specs.Prelude.{◌≡◌, ℕ, zero, suc, ◌+◌, ◌≤◌, ◌++◌, List, [], ◌∷◌, Option, Some, None, if◌then◌else◌}
 use Rattle.order_model.specs.Carrying.{SchedSeen}
-use Rattle.order_model.specs.Device.{Seen}
+use Rattle.order_model.specs.Device.{Seen, IsUntouched, TellsCut, TellsFailure}
 use Rattle.order_model.specs.Machine.{Machine}
 use Rattle.barrier_reassign.specs.declared.scheduler.TheConstants.{CAPACITY}
 use Rattle.barrier_reassign.specs.Scheduler.{SchedSteps}
@@ -79,13 +79,27 @@ core_on m s dev =
 abbrev pub core : SessionScript → EndState
 core s = core_on epoch_machine s (device_for s)
 
--- The device was made over the image of the script's volume, took and sent nothing, and may take so many ids as the script has
--- requests at most.
+-- The device was made as the script's header says: so many commands may wait, its power goes off at the steps of the `cut` line, where
+-- there is one, and none of its transfers fails.
+pub record HasSetup (s : SessionScript) (d : Seen) : Type 0 where
+  pub depth : d.depth ≡ s.header.depth
+  pub cut_at : d.cut_at ≡ s.header.cut
+  pub fail_at : d.fail_at ≡ None
+
+-- The device was made over the image of the script's volume, as its header says, and may take so many ids as the script has requests at
+-- most; nothing was asked of it yet.
 pub record IsNewFor (s : SessionScript) (d : Seen) : Type 0 where
   pub image : d.base ≡ made_image (geometry_of s) s.journal
-  pub took : d.took ≡ []
-  pub sent : d.sent ≡ []
+  pub setup : HasSetup s d
+  pub untouched : IsUntouched d
   pub ids : s.header.limit ≤ d.limit
+
+-- A device that was made as the script's header says, at any time of the session: its power is off exactly where as many steps were
+-- made as the `cut` line says, and tells that exactly then; and no transfer of it failed.
+pub record IsDeviceOf (s : SessionScript) (d : Seen) : Type 0 where
+  pub setup : HasSetup s d
+  pub power : TellsCut d
+  pub failure : TellsFailure d
 
 -- one more, where there is one
 abbrev pub with_standing : List Standing → Option Standing → List Standing

@@ -34,7 +34,7 @@ use Rattle.session_promises.specs.Causes.{HadCome, HaveCauses}
 use Rattle.session_promises.specs.Legal.{events_in, program_of, FollowsTree}
 use Rattle.session_promises.specs.Trees.{tree_at, content_at}
 use Rattle.session_grammar.specs.declared.session_script.SessionScript.{SessionScript}
-use Rattle.session_core.specs.Core.{EndState, IsBehind, geometry_of, opening_of, core}
+use Rattle.session_core.specs.Core.{EndState, IsBehind, IsDeviceOf, geometry_of, opening_of, core}
 use Rattle.session_core.specs.Report.{ReportKeepsOrder, HasPrefix, tree_behind}
 use Rattle.session_core.specs.declared.report.SessionReport.{SessionReport}
 
@@ -115,6 +115,8 @@ pub record HeadlineOn (s : SessionScript) (end : EndState) (r : SessionReport) :
   pub accepted : IsPrefixOf end.sched.accepted end.host.journal.flush.requests
   pub received : IsPrefixOf end.dev.took end.sched.sent_out
   pub taken : IsPrefixOf end.host.journal.flush.taken end.dev.sent
+  -- The device is one as the script's header says: when its power went off, and that no transfer failed.
+  pub device : IsDeviceOf s end.dev
   -- The history goes by the programs and by the tree of calls.
   pub follows : FollowsTree (opening_of s) s.programs end.host
   pub legal : IsLegal (room_of (geometry_of s)) (program_of s.programs) (events_in end.host.history)

@@ -6,7 +6,7 @@ ghost use Rattle.mount_make.specs.Made.{made_image};
 ghost use Rattle.session_grammar.specs.WellFormed.{IsWellFormed};
 ghost use Rattle.session_run.specs.Beginning.{IsMadeFor};
 ghost use Rattle.session_run.specs.declared.session.SessionEnd.{SessionEnd};
-ghost use Rattle.session_core.specs.Core.{EndState, IsNewFor, core_on, device_for, ended, geometry_of, opened_host, opening_of, start_of, standings_of};
+ghost use Rattle.session_core.specs.Core.{EndState, IsDeviceOf, IsNewFor, core_on, device_for, ended, geometry_of, opened_host, opening_of, start_of, standings_of};
 ghost use Rattle.session_core.specs.Headline.{Headline, HeadlineOn};
 ghost use Rattle.session_core.specs.Report.{HasAttempts, IsCoreReport, IsReportOf};
 ghost use Rattle.session_core.specs.code.Cuts.{CutFacts, medium_left};
@@ -100,6 +100,7 @@ fn run_scheduled<S: Scheduler + Drop, D: OrderedDev + Drop>(
     ensures order { IfOk result (KeepsTheOrder script.now (ended S.steps (machine_of D.OrderedDev) (session_on script.now S.steps (machine_of D.OrderedDev) (S.state sched) (D.state dev)))) }
     ensures behind { IfOk result (λ _. IsBehind script.now (ended S.steps (machine_of D.OrderedDev) (session_on script.now S.steps (machine_of D.OrderedDev) (S.state sched) (D.state dev)))) }
     ensures fits { IfOk result (λ _. EndFits (ended S.steps (machine_of D.OrderedDev) (session_on script.now S.steps (machine_of D.OrderedDev) (S.state sched) (D.state dev)))) }
+    ensures device { IfOk result (λ _. IsDeviceOf script.now (ended S.steps (machine_of D.OrderedDev) (session_on script.now S.steps (machine_of D.OrderedDev) (S.state sched) (D.state dev))).dev) }
     ensures calls { IfOk result (λ r. r.host.programs ≡ script.now.programs) }
 {
     check_parts(script, &host, &sched, &dev);
@@ -125,6 +126,7 @@ fn run<D: OrderedDev + Drop>(
     ensures order { IfOk result (KeepsTheOrder script.now (core_on (machine_of D.OrderedDev) script.now (D.state dev))) }
     ensures behind { IfOk result (λ _. IsBehind script.now (core_on (machine_of D.OrderedDev) script.now (D.state dev))) }
     ensures fits { IfOk result (λ _. EndFits (core_on (machine_of D.OrderedDev) script.now (D.state dev))) }
+    ensures device { IfOk result (λ _. IsDeviceOf script.now (core_on (machine_of D.OrderedDev) script.now (D.state dev)).dev) }
     ensures calls { IfOk result (λ r. r.host.programs ≡ script.now.programs) }
 {
     let limit = script.header.limit;

@@ -24,7 +24,7 @@ returns-clause-headline g c =
     let ran = c.in_ok-host.ensures in
     let same = c.of_image-left.ensures in
     let facts = c.cut_scripts_keep_their_promises.ensures _ c.in_ok-host.field-0 ran.order ran.behind in
-    headline_of s _ _ (report_facts s _ _ _ _ same facts) (report_keeps _ _ _ _ _ _ same ran.order) ran.fits ran.end.trace.sent
+    headline_of s _ _ (report_facts s _ _ _ _ same facts) (report_keeps _ _ _ _ _ _ same ran.order) ran.fits ran.device ran.end.trace.sent
     (report_counts _ _ _ _ _ same c.into.ensures c.in-Ok-remount.ensures.found)
 
 pub returns-clause-attempts : goal.returns-clause-attempts
