@@ -179,7 +179,11 @@ fn keeps_the_order(rt: HostRuntime) {
         ("device 4\ndevice 4\n", 2, Order),
         ("device 4\nblocks 4\n", 2, Order),
         ("blocks 4\nevents\nblocks 4\n", 3, Order),
-        ("device 4\nvolume inodes 32 zones 64 journal 128\n", 2, Order),
+        (
+            "device 4\nvolume inodes 32 zones 64 journal 128\n",
+            2,
+            Order,
+        ),
         ("blocks 4\nevents\nvolume\n", 3, Order),
         ("device 4\nflush\ndepth 4\n", 3, Order),
         ("blocks 4\ndepth 4\nflush\ndepth 4\n", 4, Order),

@@ -292,6 +292,7 @@ fn tests_numbers(rt: HostRuntime) -> Result<(), Fail> {
     let rows = [
         ("depth 0\n", 2, Number),
         ("queue 65\n", 2, Number),
+        ("limit 0\n", 2, Number),
         ("limit 200001\n", 2, Number),
         ("cut 1000000001\n", 2, Number),
         ("seed 1000000001\n", 2, Number),
@@ -333,6 +334,30 @@ fn counts_lines(rt: HostRuntime) -> Result<(), Fail> {
     for (section, line, count, fault) in rows {
         let more = repeated(alloc, section, line, count, "")?;
         expect_fault(&rt, alloc, &more, fault, Number);
+    }
+    Ok(())
+}
+
+// As many threads, words of a recovery and digits of bytes as there may be, and one more.
+#[test]
+fn keeps_the_most_of_each(rt: HostRuntime) -> Result<(), Fail> {
+    let alloc = rt.alloc();
+    let threads = "thread 1\nthread 2\nthread 3\nthread 4\nthread 5\nthread 6\nthread 7\n\
+                   thread 8\nthread 9\nthread 10\nthread 11\nthread 12\nthread 13\nthread 14\nthread 15\nthread 16\n";
+    let script = read(&rt, alloc, &text(alloc, &[V, threads, "events\n"])?)?;
+    assert_eq!(rt; script.programs.len(), 16);
+    let more = text(alloc, &[V, threads, "thread 17\n"])?;
+    expect_fault(&rt, alloc, &more, 18, Number);
+    let seed = read(&rt, alloc, &text(alloc, &[V, "seed 1000000000\nevents\n"])?)?;
+    assert_eq!(rt; seed.header.seed, 1_000_000_000);
+    let rows = [
+        ("events\nrecover", " t0", 1_000, 1_001, "\n"),
+        ("thread 1\nbytes /a 0 ", "61", 1_024, 1_025, "\nevents\n"),
+    ];
+    for (section, piece, most, more, rest) in rows {
+        let _ = read(&rt, alloc, &repeated(alloc, section, piece, most, rest)?)?;
+        let whole = repeated(alloc, section, piece, more, rest)?;
+        expect_fault(&rt, alloc, &whole, 3, Word);
     }
     Ok(())
 }
