@@ -61,6 +61,7 @@ reading_changes v n tx (calls.Link path other) e = absurd (false≢true e)
 reading_changes v n tx (calls.Write path off len value) e = absurd (false≢true e)
 reading_changes v n tx (calls.Bytes path off bytes) e = absurd (false≢true e)
 reading_changes v n tx (calls.Truncate path size) e = absurd (false≢true e)
+reading_changes v n tx (calls.Rename path other) e = absurd (false≢true e)
 reading_changes v n tx other e = refl
 
 reading_tells : (v : VolumeNow) (n tx : ℕ) (c : Call) → is_reading (kind_of c) ≡ true → (called v n tx c).change.touched ≡ untouched
