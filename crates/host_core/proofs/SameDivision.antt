@@ -1,4 +1,5 @@
 -- A call leaves the division of the volume as it is.
+use Rattle.std.specs.Prelude.{◌&&◌}
 use Rattle.std.proofs.Common.{◌≡◌, ◌+◌, ◌-◌, ℕ, Bool, true, false, List, [], ◌∷◌, length, replicate, Option, Some, None, Result, Ok, Err, slice_get, if◌then◌else◌, refl, ◌∙◌}
 use Rattle.std.specs.Int.{div_ceil}
 use Rattle.minix_layout.specs.declared.slot.Slot.{Slot}
@@ -6,7 +7,7 @@ use Rattle.tree_model.specs.declared.call.Call.{Call}
 use Rattle.tree_model.specs.declared.call.Call.TheVariants as calls
 use Rattle.tree_model.specs.declared.call.Reply.{Reply}
 use Rattle.tree_model.specs.declared.call.Reply.TheVariants as replies
-use Rattle.tree_model.specs.Calls.{Found, Place, Row, names_in, parent_of, walk_path, touched_blocks, outcome, max, and_then as and_then_row}
+use Rattle.tree_model.specs.Calls.{Found, Place, Row, names_in, parent_of, walk_path, touched_blocks, outcome, max, and_then as and_then_row, Move, target_at, stays, moves_directory, changes_parent}
 use Rattle.tree_model.specs.Maps.{at_number}
 use Rattle.volume_ops.specs.declared.found.Mapped.{Mapped}
 use Rattle.volume_model.specs.declared.placed.Placed.{Placed}
@@ -14,8 +15,8 @@ use Rattle.volume_model.specs.declared.placed.Part.{Part}
 use Rattle.volume_model.specs.declared.placed.Part.TheVariants as parts
 use Rattle.volume_model.specs.declared.placed.DirectoryPart.{DirectoryPart}
 use Rattle.volume_steps.specs.Now.{VolumeNow, Change, unchanged, followed_by, tree_of_now, room_of}
-use Rattle.volume_steps.specs.Steps.{at_node, at_directory, at_file, set_links, resize, make_file, make_directory, make_room, put_name_slot, add_name, take_name, place_of, drop_node, write_block, write_blocks, cut_blocks, clear_tail}
-use Rattle.volume_steps.specs.Calls.{at_place, at_path, mkdir, create, rmdir, lose_link, unlink, link, write, truncate, changed, called, called_by}
+use Rattle.volume_steps.specs.Steps.{at_node, at_directory, at_file, set_links, resize, make_file, make_directory, make_room, put_name_slot, add_name, take_name, place_of, drop_node, write_block, write_blocks, cut_blocks, clear_tail, set_parent, lead_name}
+use Rattle.volume_steps.specs.Calls.{at_place, at_path, mkdir, create, rmdir, lose_link, unlink, link, write, truncate, changed, called, called_by, at_found, move_in, move_below, replace_in, renamed, rename}
 
 record Same (v : VolumeNow) (c : Change) : Type 0 where
   is : c.volume.geometry ≡ v.geometry
@@ -145,6 +146,46 @@ link_same v path other =
     path_same v path _ (λ birth. place_same v other _ (λ place.
     followed_same v (set_links v birth (λ links. links + 1)) _ (links_same v birth (λ links. links + 1)) (λ w. name_comes w place.parent place.name birth)))
 
+-- another name for a node, by what stands there
+parent_same : (v : VolumeNow) (n parent : ℕ) → Same v (set_parent v n parent)
+parent_same v n parent = directory_same v n _ (λ p d. node_same v parent _ (λ above. (record { is = refl })))
+
+name_led : (v : VolumeNow) (n : ℕ) (name : List ℕ) (birth : ℕ) → Same v (lead_name v n name birth)
+name_led v n name birth = directory_same v n _ (λ p d. node_same v birth _ (λ child. (record { is = refl })))
+
+below_same : (v : VolumeNow) (from : ℕ) (name : List ℕ) (to : ℕ) (other : List ℕ) (birth : ℕ) → Same v (move_below v from name to other birth)
+below_same v from name to other birth =
+    followed_same v (take_name v from name) _ (name_goes v from name) (λ u.
+    followed_same u (set_links u from (λ links. links - 1)) _ (links_same u from (λ links. links - 1)) (λ w.
+    followed_same w (set_parent w birth to) _ (parent_same w birth to) (λ x.
+    followed_same x (set_links x to (λ links. links + 1)) _ (links_same x to (λ links. links + 1)) (λ y.
+    name_comes y to other birth))))
+
+renamed_same : (v : VolumeNow) (tx : ℕ) (m : Move) → Same v (renamed v tx m)
+renamed_same v tx m = test_same v (stays m) _ _ (record { is = refl }) (by m.target)
+  where
+    by : (o : Option Found) → Same v (elim o as (λ _. Change) [
+      | Some t ↦ replace_in v tx m.from.parent m.from.name m.to.parent m.to.name m.moved.birth t.birth
+      | None ↦ if moves_directory m && changes_parent m then move_below v m.from.parent m.from.name m.to.parent m.to.name m.moved.birth else move_in v m.from.parent m.from.name m.to.parent m.to.name m.moved.birth
+    ])
+    by (Some t) =
+        followed_same v (take_name v m.from.parent m.from.name) _ (name_goes v m.from.parent m.from.name) (λ u.
+        followed_same u (lead_name u m.to.parent m.to.name m.moved.birth) _ (name_led u m.to.parent m.to.name m.moved.birth) (λ w. link_goes w tx t.birth))
+    by None = test_same v (moves_directory m && changes_parent m) _ _ (below_same v m.from.parent m.from.name m.to.parent m.to.name m.moved.birth)
+        (followed_same v (take_name v m.from.parent m.from.name) _ (name_goes v m.from.parent m.from.name) (λ w. name_comes w m.to.parent m.to.name m.moved.birth))
+
+found_same : (v : VolumeNow) (path : List ℕ) (change : Found → Change) → ((found : Found) → Same v (change found)) → Same v (at_found v path change)
+found_same v path change h = by (walk_path (tree_of_now v) path)
+  where
+    by : (r : Result Found Reply) → Same v (elim r as (λ _. Change) [ Err reply ↦ unchanged v | Ok found ↦ change found ])
+    by (Err reply) = record { is = refl }
+    by (Ok found) = h found
+
+rename_same : (v : VolumeNow) (tx : ℕ) (path other : List ℕ) → Same v (rename v tx path other)
+rename_same v tx path other =
+    found_same v path _ (λ found. place_same v path _ (λ from. place_same v other _ (λ to.
+    renamed_same v tx (record { moved = found; from = from; to = to; target = target_at (tree_of_now v) to }))))
+
 write_same : (v : VolumeNow) (path : List ℕ) (off : ℕ) (bytes : List ℕ) → Same v (write v path off bytes)
 write_same v path off bytes =
     path_same v path _ (λ birth.
@@ -168,7 +209,7 @@ changed_same v n tx (calls.Link path other) = link_same v path other
 changed_same v n tx (calls.Write path off len value) = write_same v path off (replicate len value)
 changed_same v n tx (calls.Bytes path off bytes) = write_same v path off bytes
 changed_same v n tx (calls.Truncate path size) = truncate_same v tx path size
-changed_same v n tx (calls.Rename path other) = record { is = refl }
+changed_same v n tx (calls.Rename path other) = rename_same v tx path other
 changed_same v n tx (calls.Read path off len) = record { is = refl }
 changed_same v n tx (calls.List path) = record { is = refl }
 changed_same v n tx (calls.Stat path) = record { is = refl }
