@@ -1,0 +1,5 @@
+pub mod Device
+pub mod Log
+pub mod Rows
+pub mod code
+pub mod laws
