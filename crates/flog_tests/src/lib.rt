@@ -1,0 +1,7 @@
+//! Tests of the flash log device: gaps, folds, full logs, power cuts and transfers that fail.
+//!
+//! Stands on `flog_device`.
+#![tactic(auto)]
+
+#[cfg(test)]
+mod flog_device;
