@@ -20,6 +20,7 @@ class Command:
 
     def __init__(self, requests, is_ordered, has_flag):
         self.parts = [(r.block, r.value, r.number) for r in requests if not r.is_flush]
+        self.numbers = [r.number for r in requests]
         self.is_flush = not self.parts
         self.is_ordered = is_ordered
         self.has_flag = has_flag

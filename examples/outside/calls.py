@@ -1,4 +1,5 @@
 """Calls on a volume, and the text of its tree, by docs/FORMATS.md: a second program, written from that page alone."""
+import copy
 import math
 import re
 
@@ -51,6 +52,15 @@ class Volume:
         self.made = 1
         self.root = Node(0, True)
         self.nodes = {0: self.root}
+
+    def copied(self):
+        other = copy.copy(self)
+        other.nodes = {number: copy.copy(node) for number, node in self.nodes.items()}
+        other.root = other.nodes[0]
+        for node in other.nodes.values():
+            node.blocks, node.slots = dict(node.blocks), list(node.slots)
+            node.names = {name: other.nodes[child.number] for name, child in node.names.items()}
+        return other
 
     def free_zones(self):
         used = sum(directory_zones(len(n.slots)) if n.is_directory else file_zones(n.blocks) for n in self.nodes.values())
@@ -280,11 +290,5 @@ def shown(node):
 
 
 def runs(data):
-    found, at = [], 0
-    while at < len(data):
-        end = at
-        while end < len(data) and data[end] == data[at]:
-            end += 1
-        found.append(f"{end - at}x{data[at]:02x}")
-        at = end
-    return "+".join(found)
+    found = (run[0] for run in re.finditer(rb"(.)\1*", data, re.DOTALL))
+    return "+".join(f"{len(run)}x{run[0]:02x}" for run in found)

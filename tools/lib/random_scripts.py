@@ -1,13 +1,16 @@
-"""Random scripts of three kinds, each by its seed, and what is wrong with what a program prints of one: shared by
-examples/random and tools/campaign. What is wanted comes from examples/outside, written from docs/FORMATS.md alone."""
+"""Random scripts of four kinds, each by its seed, and what is wrong with what a program prints of one: shared by
+examples/random, examples/outside/twins and tools/campaign. What is wanted comes from the second program, examples/outside."""
+import itertools
 import pathlib
 import random
+import subprocess
 import sys
 
 sys.path.insert(0, str(pathlib.Path(__file__).resolve().parents[2] / "examples" / "outside"))
 import blocks  # noqa: E402
-import calls  # noqa: E402
 import crashes  # noqa: E402
+import faults  # noqa: E402
+import host  # noqa: E402
 
 
 def repeated(rng, line, most):
@@ -21,13 +24,18 @@ def header(rng, lines):
     return chosen
 
 
+SIZES = [1, 1, 2, 3, 4, 6, 8, 64]  # of a queue, or of the device's
+
+
 def block_script(rng):
+    if rng.random() < 0.2:
+        return full_script(rng)
     kind = rng.choice(["device", "blocks", "blocks", "blocks"])
     count = rng.choice([1, 2, 3, 5, 8, 20])
-    lines = [f"depth {rng.randint(1, 6)}", f"cut {rng.randint(0, 60)}"]
+    lines = [f"depth {rng.choice(SIZES)}", f"cut {rng.randint(0, 60)}"]
     names = ["receive", "transfer", "persist"]
     if kind == "blocks":
-        lines += [f"queue {rng.randint(1, 6)}", "elevator"]
+        lines += [f"queue {rng.choice(SIZES)}", "elevator"]
         names += ["submit", "accept", "dispatch"]
     script = [f"{kind} {count}", *header(rng, lines)]
     for _ in range(rng.choice([0, 1, 4, 10, 30, 60])):
@@ -36,10 +44,38 @@ def block_script(rng):
         script.append("flush" if rng.random() < 0.07 else put)
     script.append("events")
     for _ in range(rng.choice([0, 10, 60, 200, 400])):
-        name = rng.choice(names)
-        place = f" {rng.choice([0, 0, 0, 1, 2, 3, 7])}" if name in ("dispatch", "transfer", "persist") else ""
-        script.append(repeated(rng, name + place, 9))
+        script.append(placed(rng, repeated(rng, rng.choice(names), 9)))
     return "\n".join(script) + "\n"
+
+
+def full_script(rng):
+    """Many requests of neighbouring blocks, and long runs of one event: scheduler, queues and device get full."""
+    kind, count = rng.choice(["device", "blocks", "blocks", "blocks"]), rng.choice([20, 40, 150, 400])
+    lines, words = [f"depth {rng.choice(SIZES)}"], ["receive", "transfer", "persist"]
+    if kind == "blocks":
+        lines += [f"queue {rng.choice(SIZES)}", "elevator", "elevator"]
+        words += ["submit", "accept", "submit", "accept", "dispatch"]
+    script = [f"{kind} {count}", *dict.fromkeys(header(rng, lines))]
+    at, order = 0, "free"
+    for _ in range(rng.choice([100, 200, 300])):
+        at = (at + 1) % count if rng.random() < 0.93 else rng.randrange(count)
+        order = rng.choice(["free", "ordered"]) if rng.random() < 0.03 else order
+        ends = rng.random()
+        script.append("flush" if ends < 0.004 else f"put {at} {rng.randrange(256):02x} {'barrier' if ends < 0.01 else order}")
+    script.append("events")
+    if kind == "blocks" and rng.random() < 0.7:
+        script += ["submit x 64", "accept x 64"] * rng.randint(1, 6)
+    for _ in range(rng.choice([20, 60, 150])):
+        script.append(placed(rng, repeated(rng, rng.choice(words), 150)))
+    return "\n".join(script) + "\n"
+
+
+def placed(rng, line):
+    """An event with its place, where it has one."""
+    word, space, rest = line.partition(" ")
+    if word not in ("dispatch", "transfer", "persist") or rest[:1].isdigit():
+        return line
+    return f"{word} {rng.choice([0, 0, 0, 1, 2, 3, 7])}{space}{rest}"
 
 
 def path(rng):
@@ -69,50 +105,145 @@ NEAR = [0, 0, 5, 1000, 1024, 3000, 7168]
 FAR = [*NEAR, 7165, 20_000, 531_446, 531_456, 1_054_288, 268_966_900, 268_966_911, 4_294_967_295]
 
 
+def many_names(rng):
+    """Calls past a limit: the links of a file or of a directory, or the zones of a directory that an inode names itself."""
+    kind, count = rng.choice(["links", "directories", "slots"]), rng.randint(248, 253)
+    if kind == "directories":
+        return ["mkdir /m", *(f"mkdir /m/{at}" for at in range(count)), "stat /m", "rmdir /m/7", "mkdir /m/new", "stat /m"]
+    lines = ["mkdir /m", "create /m/0", *(f"link /m/0 /m/{at}" for at in range(1, count)), "stat /m/0"]
+    if kind == "slots":
+        lines += ["create /m/x0", *(f"link /m/x0 /m/x{at}" for at in range(1, rng.randint(190, 205)))]
+        lines += ["stat /m", "create /f", *(f"write /f {1024 * at} 1024 77" for at in range(rng.choice([0, 3, 12])))]
+    return [*lines, "unlink /m/3", "create /m/new", "stat /m"]
+
+
+def stack_lines(rng):
+    return ["elevator", f"depth {rng.choice(SIZES)}", f"queue {rng.choice(SIZES)}"]
+
+
 def session_script(rng):
     """Calls of one thread, which all become durable, and the volume's sizes."""
     inodes, zones = rng.choice([1, 3, 8, 40]), rng.choice([10, 14, 30, 80, 300, 2000])
     offsets = FAR if rng.random() < 0.3 else NEAR
     lines = [call(rng, offsets, rng.randrange(256)) for _ in range(rng.choice([3, 20, 60, 120]))]
-    head = header(rng, ["elevator", f"depth {rng.randint(1, 8)}", f"queue {rng.randint(1, 8)}"])
-    script = [f"volume inodes {inodes} zones {zones} journal {rng.choice([128, 200, 1000])}", *head, "limit 200000"]
+    if rng.random() < 0.05:
+        inodes, zones = rng.choice([4, 300]), rng.choice([30, 40, 300, 400])
+        lines = many_names(rng) + lines[:20]
+    script = [f"volume inodes {inodes} zones {zones} journal {rng.choice([128, 200, 1000])}", *header(rng, stack_lines(rng)), "limit 200000"]
     script += ["thread 1", *lines, "sync", "events", "round 60000"]
-    return "\n".join(script) + "\n", inodes, zones, [*lines, "sync"]
+    return "\n".join(script) + "\n"
 
 
-def cut_script(rng):
-    """Calls of up to three threads, events in any order, a power cut and attempts of recovery."""
-    inodes, zones, threads = rng.choice([8, 32]), rng.choice([40, 100, 400]), rng.choice([1, 1, 2, 3])
-    cut, limit = f"cut {rng.randint(0, rng.choice([20, 60, 150]))}", f"limit {rng.randint(1, 100)}"
-    head = header(rng, ["elevator", f"depth {rng.randint(1, 8)}", f"queue {rng.randint(1, 8)}", cut, limit])
-    script = [f"volume inodes {inodes} zones {zones} journal {rng.choice([128, 128, 256])}", *head]
-    value = 0
-    # Most have two files from the start, so that there is something to lose.
-    files = ["/a", "/b"] if rng.random() < 0.8 else []
-    for thread in range(1, threads + 1):
-        script += [f"thread {thread}", *(f"create {file}" for file in files if thread == 1)]
-        for _ in range(rng.choice([4, 10, 25])):
-            value = value % 250 + 1
-            place = rng.choice(files) if files and rng.random() < 0.6 else None
-            script.append(call(rng, NEAR, value, place))
-    script.append("events")
+def one_name(rng):
+    return f"/{rng.choice('abcdefghijklmnopqrstuvwxyz')}"
+
+
+def thread_calls(rng, kind, files, values):
+    """Calls of one thread. Of the kinds `wide` changes many blocks in one transaction, `tight` frees zones and takes them
+    again, and `long` closes many transactions."""
+    lines = []
+    for _ in range({"plain": rng.choice([4, 10, 25]), "wide": 40, "tight": 25, "long": rng.choice([60, 150, 250])}[kind]):
+        value = next(values) % 250 + 1
+        place = rng.choice(files) if files and rng.random() < 0.6 else None
+        if kind != "plain" and rng.random() < {"wide": 0.85, "tight": 0.6, "long": 0.9}[kind]:
+            lines.append(call_of(rng, kind, place or rng.choice(["/a", "/b"]), value))
+        else:
+            lines.append(call(rng, NEAR, value, place))
+    return lines
+
+
+def call_of(rng, kind, place, value):
+    if kind == "wide":
+        return f"{rng.choice(['mkdir', 'mkdir', 'mkdir', 'rmdir'])} {one_name(rng)}"
+    size = rng.choice([0, 1024, 2048, 7168, 9000])
+    changes = [f"write {place} {size} {rng.choice([1024, 3000])} {value:02x}", f"truncate {place} {size}"]
+    if kind == "tight":
+        return rng.choice([*changes, f"unlink {place}", f"create {place}"])
+    if rng.random() < 0.5:
+        return f"{rng.choice(['fbarrier', 'fbarrier', 'fbarrier', 'fsync', 'fdatabarrier', 'fdatasync'])} {place}"
+    return rng.choice([*changes, f"mkdir {one_name(rng)}", f"rmdir {one_name(rng)}"])
+
+
+def session_events(rng, threads):
+    names = "call call commit commit flush write accept dispatch receive transfer persist answer round back".split()
     for _ in range(rng.choice([30, 100, 250])):
-        name = rng.choice("call call commit commit flush write accept dispatch receive transfer persist answer round back".split())
+        name = rng.choice(names)
         if name == "call":
             name += f" {rng.randint(1, threads)}"
         elif name in ("dispatch", "transfer", "persist", "write"):
             name += f" {rng.choice([0, 0, 1, 2, 5])}"
         elif name in ("round", "back"):
             name += f" {rng.randint(1, 4)}"
-        script.append(repeated(rng, name, 6))
-    for _ in range(rng.choice([0, 0, 1, 3])):
-        steers = [f" {rng.choice('tpd')}{rng.choice([0, 0, 1, 2])}" for _ in range(rng.randint(0, 8))]
-        script.append("recover" + "".join(steers))
+        yield repeated(rng, name, rng.choice([6, 6, 40]))
+
+
+def recover_line(rng):
+    count = rng.randint(0, 8) if rng.random() < 0.95 else rng.choice([100, 1000])
+    return "recover" + "".join(f" {rng.choice('tpd')}{rng.choice([0, 0, 1, 2, 20])}" for _ in range(count))
+
+
+def cut_script(rng):
+    """Calls of some threads, events in any order, a power cut and attempts of recovery."""
+    kind = rng.choice(["plain", "plain", "wide", "tight", "long"])
+    threads = rng.choice([1, 1, 2, 3, 3, 16]) if kind == "plain" else rng.choice([1, 1, 2])
+    inodes, zones = rng.choice([8, 32, 32]), rng.choice({"tight": [10, 12, 14, 16]}.get(kind, [40, 100, 400]))
+    lines = stack_lines(rng)
+    if kind != "long" or rng.random() < 0.3:
+        lines += [f"cut {rng.randint(0, rng.choice([20, 60, 150, 600]))}", f"limit {rng.randint(1, rng.choice([30, 100]))}"]
+    script = [f"volume inodes {inodes} zones {zones} journal {rng.choice([128, 128, 256])}", *header(rng, lines)]
+    # Most have two files from the start, so that there is something to lose.
+    files, values = ["/a", "/b"] if rng.random() < 0.8 else [], itertools.count()
+    for thread in range(1, threads + 1):
+        script += [f"thread {thread}", *(f"create {file}" for file in files if thread == 1), *thread_calls(rng, kind, files, values)]
+    script += ["events", *session_events(rng, threads)]
+    if kind == "long":
+        script += [f"round {rng.choice([300, 1500, 5000])}", *session_events(rng, threads)]
+    script += [recover_line(rng) for _ in range(rng.choice([0, 0, 1, 3]))]
     return "\n".join(script) + "\n", inodes, zones
 
 
+VOLUME = "volume inodes 4 zones 40 journal 128"
+
+
+def limit_lines(rng, past):
+    """A script's parts at a limit, or past it by one where `past` is 1: those before the events, and those from there on."""
+    number = lambda least, most: rng.choice([least - (past and least > 0), most + past])  # noqa: E731
+    event = rng.choice(["transfer 0", "persist 1", "receive"])
+    volume = lambda *calls: [VOLUME, "cut 0", *calls]  # noqa: E731
+    return rng.choice([
+        lambda: ([f"{rng.choice(['device', 'blocks'])} {number(1, 4096)}"], []),
+        lambda: (["blocks 3", f"{rng.choice(['depth', 'queue'])} {number(1, 64)}"], []),
+        lambda: ([VOLUME, rng.choice([f"seed {number(0, 1_000_000_000)}", f"limit {number(1, 200_000)}", f"cut {number(0, 1_000_000_000)}"])], []),
+        lambda: (["device 5", f"put {4 + past} 00 free"], []),
+        lambda: (["device 5", *["put 1 00 free"] * (10_000 + past)], []),
+        lambda: (["device 5"], [f"{event} x {number(1, 1_000_000)}"]),
+        lambda: (["device 5"], [f"{event} x 1000000"] * 20 + [event] * past),
+        lambda: (["device 5"], [f"persist {4_294_967_295 + past}"]),
+        lambda: ([f"volume inodes {number(1, 65_535)} zones 65535 journal 128", "cut 0"], []),
+        lambda: ([f"volume inodes 1 zones {number(6, 65_535)} journal 128", "cut 0"], []),
+        lambda: ([f"volume inodes 1 zones 6 journal {number(128, 16_384)}", "cut 0"], []),
+        lambda: (volume(*(f"thread {at}" for at in range(1, 17 + past))), []),
+        lambda: (volume("thread 1", *["sync"] * (10_000 + past)), []),
+        lambda: (volume("thread 1", f"write /a 0 {number(1, 65_536)} 11"), []),
+        lambda: (volume("thread 1", f"read /a {4_294_967_295 + past} 1"), []),
+        lambda: (volume("thread 1", f"bytes /a 0 {'61' * (1_024 + past)}"), []),
+        lambda: (volume("thread 1"), [f"call {number(1, 1)}"]),
+        lambda: (volume("thread 1"), [f"{rng.choice(['round', 'back'])} {number(1, 1_000_000)}"]),
+        lambda: (volume("thread 1"), [f"round {(20_000_000 - 2) // 9}" if not past else "round 1000000 x 3", "flush", "flush"]),
+        lambda: (volume("thread 1"), ["round 1000000 x 2", "flush x 1000000", "flush x 1000000"] + ["flush"] * past),
+        lambda: (volume("thread 1"), ["recover" + " t0" * (1_000 + past)]),
+        lambda: (volume("thread 1"), ["recover t0"] * (100 + past)),
+        lambda: (volume("thread 1"), [f"recover d{number(0, 1_000_000)}"]),
+    ])()
+
+
+def limit_script(rng):
+    head, events = limit_lines(rng, int(rng.random() < 0.6))
+    return "\n".join([*head, "events", *events]) + "\n"
+
+
 class Case:
-    """A script, and what is wrong with what is printed of it."""
+    """A script, and what is wrong with what is printed of it, on standard error where the program ends with a fault."""
 
     def __init__(self, script, fault):
         self.script, self.fault = script, fault
@@ -123,22 +254,24 @@ def blocks_case(rng):
     return Case(script, lambda printed: difference(printed, blocks.report(script)))
 
 
+def limit_case(rng):
+    script = limit_script(rng)
+    return Case(script, lambda printed: limit_fault(printed, faults.report(script)))
+
+
+def limit_fault(printed, wanted):
+    """A script within the limits has a report."""
+    return difference(printed, wanted) if wanted else None if printed.startswith("steps ") else f"this is no report: {printed[:200]}"
+
+
 def session_case(rng):
-    script, inodes, zones, lines = session_script(rng)
-
-    def fault(printed):
-        volume = calls.Volume(inodes, zones)
-        wanted = [f"1 {line}: {volume.reply(line)}" for line in lines]
-        wanted += [f"thread 1: {len(lines)} of {len(lines)}", *volume.text()]
-        found = [line for line in printed.split("\n")[2:-1] if not line.startswith(("closed ", "found "))]
-        return difference("\n".join(found), "\n".join(wanted))
-
-    return Case(script, fault)
+    script = session_script(rng)
+    return Case(script, lambda printed: difference(printed, host.report(script)))
 
 
 def cut_case(rng):
     script, inodes, zones = cut_script(rng)
-    return Case(script, lambda printed: crash_fault(inodes, zones, printed))
+    return Case(script, lambda printed: crash_fault(inodes, zones, printed) or difference(printed, host.report(script)))
 
 
 def crash_fault(inodes, zones, printed):
@@ -152,7 +285,13 @@ def difference(printed, wanted):
     return None if printed == wanted else f"and not\n\n{wanted}"
 
 
-CASES = {"blocks": blocks_case, "session": session_case, "cut": cut_case}
+CASES = {"blocks": blocks_case, "session": session_case, "cut": cut_case, "limit": limit_case}
+
+
+def printed_of(program, script):
+    """What the program prints: its report, or its fault."""
+    done = subprocess.run([program, "replay"], input=script.encode(), capture_output=True, check=False)
+    return done.stdout.decode() if done.returncode == 0 else done.stderr.decode()
 
 
 def case(kind, seed):
