@@ -106,14 +106,22 @@ FAR = [*NEAR, 7165, 20_000, 531_446, 531_456, 1_054_288, 268_966_900, 268_966_91
 
 
 def many_names(rng):
-    """Calls past a limit: the links of a file or of a directory, or the zones of a directory that an inode names itself."""
-    kind, count = rng.choice(["links", "directories", "slots"]), rng.randint(248, 253)
+    """Calls past a limit: the links of a file or of a directory, or the zones that an inode names itself."""
+    kind, count = rng.choice(["links", "directories", "slots", "far", "numbers", "numbers"]), rng.randint(248, 253)
+    if kind == "numbers":
+        # as many bodies as a descriptor has, or as many zones of numbers that are freed as a revoke block has
+        count, more = rng.choice([(rng.randint(116, 118), []), (rng.randint(249, 251), ["write /a 7168 1 11"])])
+        return ["create /a", *more, *(f"write /a {1024 * (519 + 512 * at)} 1 22" for at in range(count)), "sync", "unlink /a"]
+    if kind == "far":
+        places = rng.sample([6, 7, 518, 519, 1030, 1031, 2000], rng.randint(1, 3))
+        lines = ["create /a", "create /b", *(f"write /a {1024 * at} 1 {at % 256:02x}" for at in places)]
+        return [*lines, *(f"write /b {1024 * at} 1024 66" for at in range(40)), f"truncate /a {1024 * places[0]}", "write /b 50000 1024 67"]
     if kind == "directories":
         return ["mkdir /m", *(f"mkdir /m/{at}" for at in range(count)), "stat /m", "rmdir /m/7", "mkdir /m/new", "stat /m"]
     lines = ["mkdir /m", "create /m/0", *(f"link /m/0 /m/{at}" for at in range(1, count)), "stat /m/0"]
     if kind == "slots":
         lines += ["create /m/x0", *(f"link /m/x0 /m/x{at}" for at in range(1, rng.randint(190, 205)))]
-        lines += ["stat /m", "create /f", *(f"write /f {1024 * at} 1024 77" for at in range(rng.choice([0, 3, 12])))]
+        lines += ["stat /m", "create /f", *(f"write /f {1024 * at} 1024 77" for at in range(rng.choice([0, 35])))]
     return [*lines, "unlink /m/3", "create /m/new", "stat /m"]
 
 
@@ -126,12 +134,23 @@ def session_script(rng):
     inodes, zones = rng.choice([1, 3, 8, 40]), rng.choice([10, 14, 30, 80, 300, 2000])
     offsets = FAR if rng.random() < 0.3 else NEAR
     lines = [call(rng, offsets, rng.randrange(256)) for _ in range(rng.choice([3, 20, 60, 120]))]
-    if rng.random() < 0.05:
-        inodes, zones = rng.choice([4, 300]), rng.choice([30, 40, 300, 400])
+    chosen = rng.random()
+    if chosen < 0.08:
+        inodes, zones = rng.choice([4, 250, 300]), rng.choice([30, 40, 400, 700])
         lines = many_names(rng) + lines[:20]
-    script = [f"volume inodes {inodes} zones {zones} journal {rng.choice([128, 200, 1000])}", *header(rng, stack_lines(rng)), "limit 200000"]
+    elif chosen < 0.2:
+        lines = ["create /a", "create /b", *(on_a_file(rng) for _ in range(rng.choice([10, 40])))]
+    script = [f"volume inodes {inodes} zones {zones} journal {rng.choice([128, 200, 1000, 2000])}", *header(rng, stack_lines(rng)), "limit 200000"]
     script += ["thread 1", *lines, "sync", "events", "round 60000"]
     return "\n".join(script) + "\n"
+
+
+def on_a_file(rng):
+    """A call that cuts, lengthens or reads a file of some blocks, inside a block or at its end."""
+    place, at = rng.choice(["/a", "/a", "/b"]), 512 * rng.randint(0, 18)
+    word = rng.choice(["truncate", "truncate", "write", "write", "read", "stat"])
+    return {"truncate": f"truncate {place} {at}", "stat": f"stat {place}"}.get(word) or (
+        f"{word} {place} {at} {rng.choice([1, 512, 1024, 3000])}" + (f" {rng.randrange(256):02x}" if word == "write" else ""))
 
 
 def one_name(rng):
@@ -155,7 +174,7 @@ def thread_calls(rng, kind, files, values):
 def call_of(rng, kind, place, value):
     if kind == "wide":
         return f"{rng.choice(['mkdir', 'mkdir', 'mkdir', 'rmdir'])} {one_name(rng)}"
-    size = rng.choice([0, 1024, 2048, 7168, 9000])
+    size = rng.choice([0, 500, 1024, 2048, 7168, 9000])
     changes = [f"write {place} {size} {rng.choice([1024, 3000])} {value:02x}", f"truncate {place} {size}"]
     if kind == "tight":
         return rng.choice([*changes, f"unlink {place}", f"create {place}"])
@@ -177,7 +196,17 @@ def session_events(rng, threads):
         yield repeated(rng, name, rng.choice([6, 6, 40]))
 
 
+def slow_rounds(rng):
+    """Rounds, with single events between that take others than the first."""
+    for _ in range(rng.choice([100, 300])):
+        yield f"round {rng.randint(1, 9)}"
+        yield f"{rng.choice(['write', 'write', 'dispatch', 'transfer', 'persist', 'persist'])} {rng.choice([0, 0, 1, 2])}"
+
+
 def recover_line(rng):
+    if rng.random() < 0.3:
+        # all into the cache, and then the last first
+        return "recover" + " t0" * rng.randint(1, 20) + "".join(f" p{rng.randint(0, 12)}" for _ in range(rng.randint(1, 12)))
     count = rng.randint(0, 8) if rng.random() < 0.95 else rng.choice([100, 1000])
     return "recover" + "".join(f" {rng.choice('tpd')}{rng.choice([0, 0, 1, 2, 20])}" for _ in range(count))
 
@@ -186,7 +215,7 @@ def cut_script(rng):
     """Calls of some threads, events in any order, a power cut and attempts of recovery."""
     kind = rng.choice(["plain", "plain", "wide", "tight", "long"])
     threads = rng.choice([1, 1, 2, 3, 3, 16]) if kind == "plain" else rng.choice([1, 1, 2])
-    inodes, zones = rng.choice([8, 32, 32]), rng.choice({"tight": [10, 12, 14, 16]}.get(kind, [40, 100, 400]))
+    inodes, zones = rng.choice([8, 32, 40]), rng.choice({"tight": [10, 12, 14, 16]}.get(kind, [40, 100, 400]))
     lines = stack_lines(rng)
     if kind != "long" or rng.random() < 0.3:
         lines += [f"cut {rng.randint(0, rng.choice([20, 60, 150, 600]))}", f"limit {rng.randint(1, rng.choice([30, 100]))}"]
@@ -197,7 +226,7 @@ def cut_script(rng):
         script += [f"thread {thread}", *(f"create {file}" for file in files if thread == 1), *thread_calls(rng, kind, files, values)]
     script += ["events", *session_events(rng, threads)]
     if kind == "long":
-        script += [f"round {rng.choice([300, 1500, 5000])}", *session_events(rng, threads)]
+        script += [f"round {rng.choice([300, 1500, 5000])}", *session_events(rng, threads)] if rng.random() < 0.5 else slow_rounds(rng)
     script += [recover_line(rng) for _ in range(rng.choice([0, 0, 1, 3]))]
     return "\n".join(script) + "\n", inodes, zones
 
