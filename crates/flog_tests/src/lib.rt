@@ -4,4 +4,4 @@
 #![tactic(auto)]
 
 #[cfg(test)]
-mod flog_device;
+mod flash_log;

@@ -2,7 +2,7 @@ use Rattle.std.proofs.Common.{◌≡◌, rules, IsOk}
 use Rattle.flog_device.specs.Device.{received}
 use Rattle.flog_device.proofs.Moves.{on_ok}
 use Rattle.flog_tests.proofs.Asked.{taken_next}
-use Rattle.flog_tests.proofs.flog_device.give.Goals as goal
+use Rattle.flog_tests.proofs.flash_log.give.Goals as goal
 
 pub returns : goal.returns
 returns g c =
