@@ -27,6 +27,11 @@ const FLUSH: (&str, &str) = (
     "steps 4\nblock 0 11 0\nblock 1 00 -\n",
 );
 
+const KEPT_COMPLETION: (&str, &str) = (
+    "# A completion that found the queue full is kept. Once there is room, one `answer` sends it, and takes no other: the device's\n# next one, which tells of the power cut, stays where it is, and the host goes on.\nvolume inodes 32 zones 64 journal 128\nqueue 2\ncut 3\nthread 1\ncreate /f\nwrite /f 0 3072 aa\ncreate /g\nevents\ncall 1 x 2\n# three pages, requests 0 to 2\nwrite 0\naccept\ndispatch 0\nreceive\nwrite 0\naccept\ndispatch 0\nreceive\nwrite 0\naccept\ndispatch 0\nreceive\n# after the third the power is off: four completions wait, of which the last tells that\ntransfer 0 x 3\n# two fill the queue, the third is kept\nanswer x 3\nflush x 2\n# one place of two is taken\nanswer\nflush x 2\ncall 1\n",
+    "steps 3\nrequests 3\n1 create /f: ok\n1 write /f 0 3072 aa: ok\n1 create /g: ok\nthread 1: 3 of 3\nclosed 0\nfound 0\ndir /\n",
+);
+
 const MAIL_FSYNC: (&str, &str) = (
     "# A mail server tells the sender that a mail was taken once fsync answers ok. The power goes off within the second mail.\nvolume inodes 32 zones 64 journal 128\n# The first mail takes 17 steps: its page, superblock, descriptor, four bodies and commit block two each, and the\n# flush one. Of the second mail page, descriptor and two of four bodies take 8.\ncut 25\nthread 1\ncreate /m1\nwrite /m1 0 700 6d\nfsync /m1\ncreate /m2\nwrite /m2 0 700 6e\nfsync /m2\nevents\n# A round lets thread, host and device do a step each. The first fsync answers once the flush behind its commit block\n# is done, the second once the host hears that the power is off: requests 13 and 14 are submitted until then, and get\n# nowhere. Sender and disk agree: of the mail that fsync answered ok every byte is there, of the other nothing.\nround 60\n",
     "steps 25\nrequests 15\n1 create /m1: ok\n1 write /m1 0 700 6d: ok\n1 fsync /m1: ok\n1 create /m2: ok\n1 write /m2 0 700 6e: ok\n1 fsync /m2: down\nthread 1: 6 of 6\nclosed 2\nfound 1\ndir /\nfile /m1 size 700 links 1\nblock 0 700x6d\n",
@@ -85,6 +90,7 @@ fn prints_what_the_examples_say(rt: HostRuntime) -> Result<(), Fail> {
         EPOCH_END,
         FLAG_MOVES,
         FLUSH,
+        KEPT_COMPLETION,
         MAIL_FSYNC,
         ONE_BLOCK_TWICE,
         ONLY_ORDERED,
