@@ -14,6 +14,7 @@ import blocks  # noqa: E402
 LEVELS = ["persist 0", "transfer 0", "receive", "dispatch 0", "accept", "submit"]
 # With more moments than this, fewer endings are tried at each.
 MANY = 300
+MOST_NAMES = 12  # in a list of what was eligible
 OFF = "the power is off"
 
 
@@ -25,14 +26,13 @@ def put_name(number, block):
     return f"request {number} (block {block})"
 
 
-def command_name(command):
-    if command.is_flush:
-        return "the flush"
-    return " and ".join(put_name(number, block) for block, _, number in command.parts)
-
-
 def listed(names):
-    return ", ".join(f"{at}: {name}" for at, name in enumerate(names)) or "none"
+    text = ", ".join(f"{at}: {name}" for at, name in enumerate(names[:MOST_NAMES])) or "none"
+    return text if len(names) <= MOST_NAMES else f"{text}, and {len(names) - MOST_NAMES} more"
+
+
+def among(names):
+    return "nothing else was eligible" if len(names) == 1 else f"eligible were {listed(names)}"
 
 
 class Words:
@@ -41,12 +41,25 @@ class Words:
     def __init__(self, run):
         self.run = run
 
+    def title(self, request):
+        """A request, as it goes into a queue."""
+        return request_name(request)
+
+    def put(self, number, block):
+        """A put, as it goes on."""
+        return put_name(number, block)
+
+    def command(self, command, name=None):
+        if command.is_flush:
+            return "the flush"
+        return " and ".join((name or self.put)(number, block) for block, _, number in command.parts)
+
     def eligible_requests(self):
         return ["the flush " + request_name(r) if r.is_flush else put_name(r.number, r.block) for r in self.run.scheduler.eligible()]
 
     def eligible_commands(self):
         device = self.run.device
-        return [command_name(device.waiting[at]) for at in range(len(device.waiting)) if device.may_transfer(at)]
+        return [self.command(device.waiting[at], put_name) for at in range(len(device.waiting)) if device.may_transfer(at)]
 
     def eligible_entries(self):
         cache = self.run.device.cache
@@ -63,19 +76,19 @@ class Words:
 
     def accept(self, _):
         request = self.run.submitted[0]
-        text = f"the scheduler takes {request_name(request)}"
+        text = f"the scheduler takes {self.title(request)}"
         if request.is_flush:
             return text + ", a flush, and is closed until that has left"
         return text + (", a barrier, and is closed until its epoch has left" if request.is_barrier else "")
 
     def dispatch(self, after):
         if self.run.kept is not None:
-            return f"the command that was kept goes into the dispatch queue: {command_name(self.run.kept)}"
+            return f"the command that was kept goes into the dispatch queue: {self.command(self.run.kept)}"
         command = after.kept if after.kept is not None else after.sent[-1]
-        text = f"{command_name(command)} leaves as {self.priority(command)}"
+        text = f"{self.command(command)} leaves as {self.priority(command)}"
         if after.kept is not None:
             text += ", finds the dispatch queue full, and is kept"
-        return f"{text}; eligible were {listed(self.eligible_requests())}"
+        return f"{text}; {among(self.eligible_requests())}"
 
     def priority(self, command):
         if command.is_flush:
@@ -90,19 +103,19 @@ class Words:
         return "SIMPLE"
 
     def receive(self, after):
-        return f"the device takes the command of {command_name(after.device.waiting[-1])}"
+        return f"the device takes the command of {self.command(after.device.waiting[-1])}"
 
     def transfer(self, after):
         names = self.eligible_commands()
-        command = next(c for c in self.run.device.waiting if all(c is not other for other in after.kept_commands))
-        text = f"{command_name(command)} goes into the cache"
+        command = next(c for c in self.run.device.waiting if all(c is not other for other in after.device.waiting))
+        text = f"{self.command(command)} goes into the cache"
         if command.is_flush:
             text = "the flush is done: the cache was empty"
         elif command.has_flag:
             text += self.replaced(command) + ", and the epoch ends"
         else:
             text += self.replaced(command)
-        return f"{text}; eligible were {listed(names)}"
+        return f"{text}; {among(names)}"
 
     def replaced(self, command):
         """Whose entries a command replaces."""
@@ -113,7 +126,7 @@ class Words:
     def persist(self, after):
         names = self.eligible_entries()
         gone = next(entry for entry in self.run.device.cache if entry not in after.device.cache)
-        return f"{put_name(gone[3], gone[1])} goes to the medium; eligible were {listed(names)}"
+        return f"{self.put(gone[3], gone[1])} goes to the medium; {among(names)}"
 
     def why(self, event, pick):
         """Why an event does nothing."""
@@ -137,7 +150,7 @@ class Words:
 
     def no_dispatch(self, pick):
         if self.run.kept is not None:
-            return "the dispatch queue is full, and the command of " + command_name(self.run.kept) + " is kept"
+            return "the dispatch queue is full, and the command of " + self.command(self.run.kept) + " is kept"
         if not self.run.scheduler.held:
             return "the scheduler holds no request"
         return f"place {pick} is past the eligible requests, {listed(self.eligible_requests())}"
@@ -222,7 +235,6 @@ class Explained:
         if not was.device.is_on():
             acted_on = "nothing" if word in ("receive", "transfer", "persist") else "nothing of it is seen"
             return f"{acted_on}: {OFF}"
-        run.kept_commands = run.device.waiting
         words = Words(was)
         if not acted:
             return "nothing: " + words.why(word, pick)

@@ -1,0 +1,450 @@
+"""What each event of a volume script did, and why it did nothing, by a model of the session.
+
+The model is that of examples/outside/host.py, which was written from docs/FORMATS.md alone. Its whole report is compared
+with the program's: of the script, of the script up to many of its events, and of endings after these, which bring to the
+medium what the queues hold, some with one thread more. Where one report differs, nothing of this is said.
+"""
+import copy
+import pathlib
+import sys
+
+sys.path.insert(0, str(pathlib.Path(__file__).resolve().parents[2] / "examples" / "outside"))
+import block_events  # noqa: E402
+import host  # noqa: E402
+from block_events import LEVELS, OFF, Moment  # noqa: E402
+from scripts import repeated  # noqa: E402
+from volume_events import state_of  # noqa: E402
+
+sys.setrecursionlimit(100_000)  # for directories deep in others
+DEVICE = ("receive", "transfer", "persist")
+LOG_BLOCKS = {"descriptor": "descriptor", "revoke": "revoke block", "commit": "commit block"}
+# At so many ends of repeats, and at so many ends of lines, model and program are compared.
+MOST_POINTS = 30
+ENDINGS = 3  # tried at each of these
+# Calls of one thread more, which meet what is held, and whose barriers meet what was sent.
+MORE_CALLS = ["create /.more", "write /.more 0 1024 ee", "fdatabarrier /.more", "sync"]
+MOST_THREADS, MOST_LINES = 16, 20_000
+
+
+def blocks_listed(blocks):
+    return ("block " if len(blocks) == 1 else "blocks ") + ", ".join(map(str, sorted(blocks))) if blocks else "no block"
+
+
+def counted(count, name):
+    return f"{count or 'no'} {name}{'' if count == 1 else 's'}"
+
+
+class Session(host.Session):
+    """The model, which notes of each request what it is."""
+
+    def __init__(self, script):
+        super().__init__(script)
+        self.names, self.rank = [], None  # of each request, and the class of the last one
+        self.listed = []  # the blocks whose journal bodies come next
+
+    def submit(self, block, value, keeps_order=True, is_barrier=False):
+        is_done = super().submit(block, value, keeps_order, is_barrier)
+        if is_done:
+            self.names.append(self.named(self.requests - 1, block, value))
+            self.rank = "barrier" if is_barrier else "order-preserving" if keeps_order else "orderless"
+        return is_done
+
+    def named(self, number, block, value):
+        return f"request {number} (a flush)" if block is None else f"request {number} (block {block}, {self.content(block, value)})"
+
+    def content(self, block, value):
+        """What a put writes."""
+        if isinstance(value, bytes):
+            return self.page_at(block)
+        if isinstance(value, dict):
+            if block < self.script.zones:
+                return f"home write of a {self.metadata(block)}"
+            home = self.listed.pop(0)
+            return f"journal body of block {home}"
+        if value[0] == "descriptor":
+            self.listed = list(value[2])
+        if value[0] == "super":
+            return "journal superblock"
+        return f"{LOG_BLOCKS[value[0]]} of transaction {value[1]}"
+
+    def page_at(self, zone):
+        number, at = next(place for place, page in self.pages.items() if page.zone == zone)
+        return f"page {at} of {self.path(number)}"
+
+    def path(self, number):
+        return next(path for _, path, node, _ in self.places.volume.rows() if node.number == number)
+
+    def metadata(self, block):
+        """What a block of metadata is for."""
+        places = self.places
+        if block < places.zone_map:
+            return "map of the inodes"
+        if block < places.table:
+            return "map of the zones"
+        if block < places.first:
+            return "table of the inodes"
+        return "zone of numbers" if any(block in node.numbers() for node in places.nodes.values()) else "directory"
+
+    def single(self, event):
+        """Does one event."""
+        word, *rest = event.split(" ")
+        getattr(self, word)(*map(int, rest))
+
+    def dirty(self):
+        """How many pages are Dirty."""
+        return sum(page.state == "dirty" for page in self.pages.values())
+
+
+class Call:
+    """Where a thread was before an event."""
+
+    def __init__(self, thread):
+        self.at, self.has_begun = thread.at, thread.begun is not None
+        self.target = thread.begun.target if self.has_begun else None
+        self.durable = thread.begun.durable if self.has_begun else None
+
+
+class Before:
+    """What an event finds; the queues that it may change are copied."""
+
+    def __init__(self, session, word):
+        self.scheduler, self.device = copy.copy(session.scheduler), copy.copy(session.device)
+        self.device.waiting, self.device.done = list(session.device.waiting), list(session.device.done)
+        if word in DEVICE:
+            self.device.cache = [list(entry) for entry in session.device.cache]
+        self.submitted, self.sent, self.kept = list(session.submitted), list(session.sent), session.kept
+        self.completions, self.kept_completion = list(session.completions), session.kept_completion
+        self.changes, self.requests, self.phase, self.closed = session.changes, session.requests, session.phase, session.closed
+        self.answers, self.running, self.wanted = len(session.answers), session.running, session.running.wanted
+        self.holders = set(session.held.values())
+        if word == "call":
+            self.calls = [Call(thread) for thread in session.threads]
+            self.blocks, self.pages = set(session.running.blocks), dict(session.pages)
+
+
+class QueueWords(block_events.Words):
+    """The words of block requests, with what each request is."""
+
+    def __init__(self, before, session):
+        super().__init__(before)
+        self.session = session
+
+    def title(self, request):
+        return super().title(request) if request.is_flush else self.session.names[request.number]
+
+    def put(self, number, _):
+        return self.session.names[number]
+
+    def command(self, command, name=None):
+        return self.session.names[command.numbers[0]] if command.is_flush else super().command(command, name)
+
+    def no_receive(self, _):
+        if not self.run.sent:
+            return "the dispatch queue is empty"
+        return f"the device has no room: {len(self.run.device.waiting)} commands wait"
+
+
+class HostWords:
+    """Says of an event of the host what it did, by the session before and after it."""
+
+    def __init__(self, before, session):
+        self.before, self.session = before, session
+
+    def submitted(self):
+        name, rank = self.session.names[-1], self.session.rank
+        return f"submits {name}" + ("" if name.endswith("(a flush)") else f", {rank}")
+
+    def call(self, number):
+        was, thread = self.before.calls[number - 1], self.session.threads[number - 1]
+        line, call = thread.lines[was.at], thread.begun
+        return f"{line}: {self.step(was, thread, call, number)}{self.asks()}"
+
+    def step(self, was, thread, call, number):
+        session = self.session
+        if len(session.answers) > self.before.answers:
+            return session.answers[-1].removeprefix(f"{number} {thread.lines[was.at]}: ") + self.changed()
+        if call is not None and not was.has_begun:
+            return f"begins, with {counted(len(call.pages), 'page')} to send"
+        if session.requests > self.before.requests:
+            return self.submitted()
+        if call is not None and call.target != was.target:
+            return f"waits for the commit block of transaction {call.target}"
+        if call is not None and call.durable != was.durable:
+            return f"waits for a flush after request {call.durable}"
+        return "waits: " + self.hindrance()
+
+    def changed(self):
+        """The blocks that a call noted in the running transaction, and the pages that it wrote."""
+        session, before = self.session, self.before
+        blocks = session.running.blocks - before.blocks
+        names = ", ".join(f"block {block} ({session.metadata(block)})" for block in sorted(blocks))
+        said = f"; transaction {session.running.number} notes {names}" if names else ""
+        for place, page in sorted(session.pages.items()):
+            if before.pages.get(place) is not page:
+                said += f"; {session.page_at(page.zone)} is Dirty, for block {page.zone}"
+        return said
+
+    def asks(self):
+        running = self.before.running
+        return f"; transaction {running.number} is to be closed" if running.wanted and not self.before.wanted else ""
+
+    def hindrance(self):
+        """Why a call that changes something is not done yet."""
+        session = self.session
+        if session.phase == "closing":
+            return f"transaction {session.closing.number} is being closed"
+        if not session.fits():
+            return f"transaction {session.running.number} is full"
+        return "the zones that it needs wait for the transactions that freed them"
+
+    def no_call(self, number):
+        thread = self.session.threads[number - 1]
+        if thread.at == len(thread.lines):
+            return f"all {len(thread.lines)} calls of thread {number} were answered"
+        return f"{thread.lines[thread.at]} waits: {self.hindrance()}" if thread.begun is None else f"{thread.lines[thread.at]} {self.waits(thread)}"
+
+    def waits(self, thread):
+        session, state = self.session, self.session.state(thread).strip()
+        if state == "sending":
+            return f"waits: {self.full()}"
+        need = session.need(thread.begun)
+        more = ""
+        if need is not None:
+            flush = next((flush for flush in session.flushes if flush > need), None)
+            more = ", and none was submitted yet" if flush is None else f", which is request {flush}"
+        return state_of(state) + more
+
+    def full(self):
+        session = self.session
+        return f"all {session.requests} requests were submitted" if session.is_full() else f"the submission queue is full, with {len(session.submitted)}"
+
+    def commit(self):
+        session, before = self.session, self.before
+        if session.requests > before.requests:
+            is_last = before.phase == "committing" and session.phase == "idle"
+            return self.submitted() + (f"; the commit of transaction {session.closing.number} was all submitted" if is_last else "")
+        if session.closed > before.closed:
+            return f"closes transaction {session.closing.number}, with {counted(len(session.plan), 'put')} to submit"
+        return f"begins to close transaction {session.closing.number}, which changed {blocks_listed(session.closing.blocks)}"
+
+    def no_commit(self):
+        session = self.session
+        if session.is_down:
+            return f"the host knows that {OFF}"
+        if session.phase != "idle":
+            return self.full()
+        running = session.running.number
+        if not session.running.wanted:
+            return f"nobody asked for transaction {running} to be closed"
+        block = min(session.conflicts)
+        return f"transaction {running} waits for block {block}, which transaction {session.held[block]} holds"
+
+    def flush(self):
+        session, before = self.session, self.before
+        if session.requests > before.requests:
+            return self.submitted()
+        kind, number = before.completions[0]
+        if kind == "cut":
+            return f"takes the completion that says that {OFF}"
+        text = f"takes the completion of request {number}, " + ("which is in the cache" if kind == "moved" else "a flush, which is done")
+        free = sorted(before.holders - set(session.held.values()))
+        return text + "".join(f"; transaction {number} holds no block any more" for number in free)
+
+    def no_flush(self):
+        session = self.session
+        if session.taken > session.script.limit:
+            return f"{session.taken} completions were taken, one more than the limit"
+        return f"a flush is due, but {self.full()}" if session.is_due() else "no flush is due, and no completion waits"
+
+    def write(self, _):
+        return self.submitted()
+
+    def no_write(self, pick):
+        dirty = self.session.dirty()
+        if self.session.is_down:
+            return f"the host knows that {OFF}"
+        if pick < dirty:
+            return self.full()
+        return f"place {pick} is past the Dirty pages, of which there are {dirty}" if dirty else "no page is Dirty"
+
+    def answer(self):
+        before, session = self.before, self.session
+        kind, number = before.kept_completion or (before.device.done[0] if before.device.done else ("cut", None))
+        about = "of the power cut" if kind == "cut" else f"of request {number}"
+        if session.kept_completion is not None:
+            return f"the completion {about} finds the queue of completions full, and is kept"
+        return f"the completion {about} goes up to the host"
+
+    def no_answer(self):
+        if self.before.kept_completion is not None:
+            return f"the queue of completions is full, with {len(self.before.completions)}"
+        return "the device has no completion"
+
+
+def said(before, session, event):
+    """What is said of an event that was done."""
+    word, *rest = event.split(" ")
+    rest = [int(number) for number in rest]
+    acted = session.changes != before.changes
+    if word in DEVICE and not before.device.is_on():
+        return f"nothing: {OFF}"
+    if word in ("accept", "dispatch", *DEVICE):
+        words = QueueWords(before, session)
+        text = words.did(word, session) if acted else "nothing: " + words.why(word, (rest or [0])[0])
+    else:
+        words = HostWords(before, session)
+        text = getattr(words, word)(*rest) if acted else "nothing: " + getattr(words, f"no_{word}")(*rest)
+    return text + ("; then the power goes off" if before.device.is_on() and not session.device.is_on() else "")
+
+
+class Explained:
+    """The events of a script with what is said of them, once the program agrees."""
+
+    def __init__(self, script, runner, shows_all):
+        self.script, self.runner, self.shows_all = script, runner, shows_all
+        self.model = script.text(cut=script.cut)
+        self.moments, self.wrong, self.compared = [], None, 0
+        self.ends = [0]  # how many repeats were done that changed something, after each line
+        self.tell()
+        self.compare()
+
+    def begun(self):
+        return Session(host.Script(self.model))
+
+    def tell(self):
+        session = self.begun()
+        for number, line in self.script.events:
+            done = self.tell_line(session, number, line)
+            self.ends.append(self.ends[-1] + done)
+
+    def tell_line(self, session, number, line):
+        """Tells one line, and gives how many of its repeats were done until one changed nothing."""
+        unit, times = self.script.unit(line)
+        for time in range(1, times + 1):
+            changes = session.changes
+            for event in unit:
+                name = f"round {time}, {event}" if len(unit) > 1 else time
+                self.tell_event(session, event, number, line, name)
+            if session.changes == changes:
+                self.nothing_more(number, line, unit, time, times)
+                return time
+        return times
+
+    def tell_event(self, session, event, number, line, name):
+        before = Before(session, event.split(" ")[0])
+        session.single(event)
+        acted = session.changes != before.changes
+        if acted or self.shows_all or not isinstance(name, str):
+            self.moments.append(Moment(number, line, name, acted, said(before, session, event)))
+
+    def nothing_more(self, number, line, unit, time, times):
+        """This repeat changed nothing, so none after it does."""
+        if len(unit) == 1:
+            self.moments[-1].last = times
+        else:
+            first = time + 1 if self.shows_all else time  # with --all this one's events are told
+            name = f"round {first} to {times}" if first < times else f"round {first}"
+            if first <= times:
+                self.moments.append(Moment(number, line, name, False, "nothing: no event of these acts"))
+
+    def points(self):
+        """After which repeats model and program are compared."""
+        return sorted({*spread(range(self.ends[-1] + 1)), *spread(self.ends)})
+
+    def compare(self):
+        """Compares the reports; the first text of which they differ is kept."""
+        self.compared = len(self.points())
+        checks = [(self.model, host.report(self.model)), *self.checks()]
+        answers = self.runner.all(text for text, _ in checks)
+        for (text, wanted), answer in zip(checks, answers):
+            if answer != wanted:
+                self.wrong = text
+                return
+
+    def checks(self):
+        """Scripts up to some events, each alone and with some endings, and the model's reports."""
+        session, lines, singles, points = self.begun(), [], [], set(self.points())
+        yield from self.checks_at(session, lines, 0)
+        done = 0
+        for at, (_, line) in enumerate(self.script.events):
+            unit, times = self.script.unit(line)[0], self.ends[at + 1] - self.ends[at]
+            for time in range(1, times + 1):
+                for event in unit:
+                    session.single(event)
+                singles += unit if len(unit) == 1 else [event for event in unit if event.startswith("call ")] + ["back 1"]
+                done += 1
+                if done in points:
+                    yield from self.checks_at(session, [*lines, *repeated(unit, time)], done)
+                    if len(session.threads) < MOST_THREADS and len(singles) < MOST_LINES:
+                        yield self.one_more(session, singles)
+            lines += repeated(unit, times)
+
+    def checks_at(self, session, lines, done):
+        yield self.script.text(lines, cut=self.script.cut, attempts=False), report_of(session)
+        if session.device.is_on():
+            kinds = endings(session)
+            for ending in (kinds * 2)[done % len(kinds) :][:ENDINGS]:
+                yield self.script.text([*lines, *ending], attempts=False), ended(copied(session), ending)
+
+    def one_more(self, session, singles):
+        """The script up to an event, with no round in it, and an ending in which one thread more makes calls."""
+        number = len(session.threads) + 1
+        end, script = copied(session), copy.copy(self.script)
+        end.threads.append(host.Thread(list(MORE_CALLS)))
+        script.head = [*script.head, f"thread {number}", *MORE_CALLS]
+        own = [f"call {number} x 9", "commit x 12"]
+        ending = [*own, "accept x 64", *backwards("dispatch"), "receive x 64", *backwards("transfer"), *own, *backwards("persist")]
+        cut = None if session.device.is_on() else script.cut
+        return script.text([*singles, *ending], cut=cut, attempts=False), ended(end, ending, cut)
+
+
+def ended(session, ending, cut=None):
+    """The report once these events are done, with the power on but for a cut."""
+    session.device.cut = cut
+    for line in ending:
+        session.event(line)
+    return report_of(session)
+
+
+def backwards(word):
+    return [f"{word} {place}" for place in range(8, -1, -1)]
+
+
+def report_of(session):
+    """The report with no attempt of recovery."""
+    attempts, session.script.attempts = session.script.attempts, []
+    text = session.report()
+    session.script.attempts = attempts
+    return text
+
+
+def spread(items):
+    """So many of these, evenly, with the first and the last."""
+    last = len(items) - 1
+    return {items[at * last // (MOST_POINTS - 1)] for at in range(MOST_POINTS)}
+
+
+def copied(session):
+    """A copy of the session; bodies never change, so that they are shared."""
+    return copy.deepcopy(session, {id(entry): entry for entry in session.device.medium})
+
+
+def endings(session):
+    """Lists of events that bring to the medium what the queues hold. Backwards ones try the greatest places first, so that
+    the steps tell how many were eligible."""
+    commands = len(session.submitted) + len(session.scheduler.held) + len(session.sent) + len(session.device.waiting) + 2
+    persist, transfer = backwards("persist"), [*backwards("transfer"), *backwards("persist")]
+    dispatch = [*backwards("dispatch"), "receive x 64", *transfer]
+    calls = [f"call {number} x 9" for number in range(1, len(session.threads) + 1)]
+    host_side = ["write 1", "write 0", *calls, "commit x 9", "answer x 9", "flush x 9"]
+    return [
+        persist,
+        transfer,
+        ["receive x 64", *transfer],
+        dispatch * 2,
+        ["accept x 64", *dispatch] * 2,
+        [*host_side, "accept x 64", *dispatch] * 2,
+        [*LEVELS[:5][::-1]] * commands + ["persist 0 x 1000"],
+        ["answer", "flush", *calls, "commit x 2"] * 9,
+        ["answer x 64", "flush x 64", *calls, "round 40"],
+    ]
