@@ -49,6 +49,14 @@ freed slots (Some at) = slice_set slots at None
 abbrev pub slots_without : List (Option Slot) → List ℕ → List (Option Slot)
 slots_without slots name = freed slots (place_of slots name)
 
+-- the slot at a place leads to another inode, and keeps its name; a free slot, and a place behind the last one, stay
+abbrev pub led_to : List (Option Slot) → ℕ → ℕ → Option Slot → List (Option Slot)
+led_to slots at inode None = slots
+led_to slots at inode (Some s) = slice_set slots at (Some (record { inode = inode; name = s.name }))
+
+abbrev pub slots_led : List (Option Slot) → ℕ → ℕ → List (Option Slot)
+slots_led slots at inode = led_to slots at inode (slot_at slots at)
+
 -- no name stands in two slots
 abbrev pub NamesStandOnce : List (Option Slot) → Type 0
 NamesStandOnce slots =

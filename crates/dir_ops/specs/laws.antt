@@ -2,3 +2,4 @@
 pub mod Slots
 pub mod Found
 pub mod Edited
+pub mod Led

@@ -2,7 +2,7 @@
 ghost use Rattle.std.specs.Prelude.{◌≡◌, ◌≢◌, ◌↔◌, ℕ, suc, ◌+◌, ◌<◌, ◌≤◌, List, length, take, Option, Some, None};
 ghost use Rattle.std.specs.List.{slice_get};
 ghost use Rattle.minix_layout.specs.declared.slot.Slot.{Slot};
-ghost use Rattle.dir_ops.specs.Slots.{room, with_slot, reserved, used_count, slot_at, place_of, slots_without, NamesStandOnce};
+ghost use Rattle.dir_ops.specs.Slots.{room, with_slot, reserved, used_count, slot_at, place_of, slots_without, slots_led, NamesStandOnce};
 
 /// A law, which does nothing when it is called: a name is found at a slot in use that has it, and is not found exactly
 /// where no slot has it.
@@ -58,4 +58,20 @@ pub fn removed_names_are_gone()
     ensures length { (slots : List (Option Slot)) (name : List ℕ) → length (slots_without slots name) ≡ length slots }
     ensures counted { (slots : List (Option Slot)) (name : List ℕ) (at : ℕ) → place_of slots name ≡ Some at →
         1 + used_count (slots_without slots name) ≡ used_count slots }
+{}
+
+/// A law, which does nothing when it is called: a slot that is led elsewhere has the other inode under its name, and each
+/// other place has what it had. Each name is found where it was, names stand once as before, and as many slots are in
+/// use. Where no slot is in use nothing changes.
+pub fn led_names_stay()
+    ensures here { (slots : List (Option Slot)) (at inode : ℕ) (s : Slot) → slot_at slots at ≡ Some s →
+        slot_at (slots_led slots at inode) at ≡ Some (record { inode = inode; name = s.name }) }
+    ensures places { (slots : List (Option Slot)) (at inode other : ℕ) → other ≢ at →
+        slot_at (slots_led slots at inode) other ≡ slot_at slots other }
+    ensures names { (slots : List (Option Slot)) (at inode : ℕ) (name : List ℕ) →
+        place_of (slots_led slots at inode) name ≡ place_of slots name }
+    ensures free { (slots : List (Option Slot)) (at inode : ℕ) → slot_at slots at ≡ None → slots_led slots at inode ≡ slots }
+    ensures once { (slots : List (Option Slot)) (at inode : ℕ) → NamesStandOnce slots → NamesStandOnce (slots_led slots at inode) }
+    ensures length { (slots : List (Option Slot)) (at inode : ℕ) → length (slots_led slots at inode) ≡ length slots }
+    ensures counted { (slots : List (Option Slot)) (at inode : ℕ) → used_count (slots_led slots at inode) ≡ used_count slots }
 {}

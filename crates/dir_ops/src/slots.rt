@@ -2,7 +2,7 @@
 ghost use Rattle.std.specs.Prelude.{◌≡◌, ◌↔◌, [], ◌∷◌, ◌++◌, ◌<◌, ◌≤◌, OnOk, OnErr, IfOk, IsOk, Some, None, length, take};
 ghost use Rattle.std.specs.Option.{option_copied};
 ghost use Rattle.minix_layout.specs.declared.slot.Slot.{Slot};
-ghost use Rattle.dir_ops.specs.Slots.{room, with_slot, reserved, slot_at, has_name, place_of, slot_found, slots_without};
+ghost use Rattle.dir_ops.specs.Slots.{room, with_slot, reserved, slot_at, has_name, place_of, slot_found, slots_without, slots_led};
 
 use blk_base::NoMemory;
 use minix_layout::{Name, Slot};
@@ -118,6 +118,18 @@ impl Slots {
     {
         let at = self.find(name)?;
         self.items[at].take()
+    }
+
+    /// Leads the slot at a place to another inode, under the name that it has. It takes no memory.
+    pub fn lead(&mut self, at: usize, inode: u16)
+        ensures { self.new ≡ slots_led self.old at inode }
+    {
+        let Some(item) = self.items.get_mut(at) else {
+            return;
+        };
+        if let Some(slot) = item {
+            slot.inode = inode;
+        }
     }
 }
 
