@@ -35,8 +35,3 @@ is_of_bytes (calls.Write path off len value) = true
 is_of_bytes (calls.Bytes path off bytes) = true
 is_of_bytes (calls.Truncate path size) = true
 is_of_bytes other = false
-
--- a call that gives a node another name in place of its own
-abbrev pub is_rename : Call → Bool
-is_rename (calls.Rename path other) = true
-is_rename other = false
