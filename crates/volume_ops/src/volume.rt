@@ -1,5 +1,5 @@
 //! Volumes that were read: their zones and their tree.
-ghost use Rattle.std.specs.Prelude.{◌≡◌, ◌≤◌, ◌↔◌, true, Ok, Err, length, take, IfOk, IfErr, IsOk, IsErrOf};
+ghost use Rattle.std.specs.Prelude.{◌≡◌, ◌≢◌, ◌≤◌, ◌↔◌, true, Ok, Err, length, take, IfOk, IfErr, IsOk, IsErrOf};
 ghost use Rattle.blk_base.specs.Streams.{Rose};
 ghost use Rattle.order_model.specs.Device.{IsQuiet};
 ghost use Rattle.order_model.specs.Steps.{OnlyReads};
@@ -78,11 +78,45 @@ impl Volume {
         })
     }
 
+    /// Takes the volume that stands in the first blocks of an image, and walks through it. No device is read.
+    pub fn of_image(alloc: Global, image: &Image, g: Geometry) -> Result<Volume, VolumeFault>
+        requires whole { g.zones ≤ length image.now }
+        requires sound { IsSound g }
+        ensures volume { IfOk result (λ v. v ≡ record { geometry = g; blocks = take g.zones image.now }) }
+        ensures readable { IfOk result (λ _. IsOk (walked g (take g.zones image.now))) }
+        ensures fault { IfErr result (IsFaultOf g (take g.zones image.now)) }
+        ensures no_read_fault { result ≢ Err VolumeFault.ReadFault }
+    {
+        let disk = Disk::new(image.front(alloc, g.zones.into())?);
+        let found = walk_volume(alloc, &disk, &g)?;
+        Ok(Volume {
+            geometry: g,
+            disk,
+            found,
+        })
+    }
+
     /// How the volume is divided.
     pub fn geometry(&self) -> &Geometry
         ensures { result.now ≡ self.now.geometry }
     {
         &self.geometry
+    }
+
+    /// The blocks, with zeros behind them.
+    pub fn disk(&self) -> &Disk
+        ensures blocks { result.now ≡ self.now.blocks }
+        ensures sound { IsSound self.now.geometry }
+    {
+        &self.disk
+    }
+
+    /// What the walk found: the nodes in the order in which it met them.
+    pub fn nodes(&self) -> &[FoundNode]
+        ensures readable { IsOk (walked self.now.geometry self.now.blocks) }
+        ensures nodes { IfOk (walked self.now.geometry self.now.blocks) (λ w. result.now ≡ w.nodes) }
+    {
+        &self.found.nodes
     }
 
     /// Hands out the parts, for a volume that is to change.
