@@ -1,2 +1,6 @@
 mod Fronts
+mod Slices
+pub mod Descriptors
+pub mod Revokes
+mod TagKinds
 mod Writes

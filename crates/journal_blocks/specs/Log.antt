@@ -10,6 +10,7 @@ use Rattle.journal_blocks.specs.declared.log_block.LogBlock.TheVariants.{Descrip
 use Rattle.journal_blocks.specs.declared.fault.JournalFault.{JournalFault}
 use Rattle.journal_blocks.specs.declared.fault.JournalFault.TheVariants.{NotMagic, BadKind, BadCount, Feature, NoMemory}
 use Rattle.journal_blocks.specs.Header.{sequence_of}
+use Rattle.journal_blocks.specs.Super.{is_wide}
 use Rattle.journal_blocks.specs.Blocks.{log_block_of, restored}
 
 -- what a block is to a reader that expects its sequence
@@ -31,8 +32,8 @@ said_by (Err (Feature bits)) = Nothing
 said_by (Err NoMemory) = Nothing
 
 -- what a block is to a reader that expects this sequence: a block of another sequence says nothing
-unfoldable pub said : ℕ → List ℕ → Said
-said sequence b = if sequence_of b == sequence then said_by (log_block_of b) else Nothing
+unfoldable pub said : Bool → ℕ → List ℕ → Said
+said wide sequence b = if sequence_of b == sequence then said_by (log_block_of wide b) else Nothing
 
 -- a block of the log, by its place in the image
 pub record Entry : Type 0 where
@@ -74,10 +75,10 @@ abbrev pub is_outside : ℕ → Tag → Bool
 is_outside zones t = nat_lt t.block 2 || nat_le zones t.block
 
 -- a block with a fault: a revoke block with a bad count, or a descriptor with a tag for a block outside
-abbrev pub IsFaulty : ℕ → List ℕ → Type 0
-IsFaulty zones b =
-    (log_block_of b ≡ Err BadCount)
-    ⊎ ((n : ℕ) × (tags : List Tag) × (log_block_of b ≡ Ok (Descriptor n tags)) × (list_any (is_outside zones) tags ≡ true))
+abbrev pub IsFaulty : Bool → ℕ → List ℕ → Type 0
+IsFaulty wide zones b =
+    (log_block_of wide b ≡ Err BadCount)
+    ⊎ ((n : ℕ) × (tags : List Tag) × (log_block_of wide b ≡ Ok (Descriptor n tags)) × (list_any (is_outside zones) tags ≡ true))
 
 -- the transaction is whole: its bodies and revokes are done, its fault counts, and the next sequence is expected
 abbrev pub committed : Reading → Reading
@@ -99,18 +100,19 @@ by_said zones r at (Revokes blocks) = GoesOn (record r { revokes = r.revokes ++ 
 by_said zones r at BadRevoke = GoesOn (record r { suspect = first_of r.suspect (Some at) })
 by_said zones r at Nothing = HasEnded r
 
--- with a tag that waits, the block is its body
-abbrev pub by_tags : ℕ → Reading → Entry → List Tag → Log
-by_tags zones r e [] = by_said zones r e.at (said r.sequence e.body)
-by_tags zones r e (t ∷ ts) = GoesOn (record r { tags = ts; bodies = r.bodies ++ record { block = t.block; body = restored t.escaped e.body } ∷ [] })
+module _ (wide : Bool) where
+  -- with a tag that waits, the block is its body
+  abbrev pub by_tags : ℕ → Reading → Entry → List Tag → Log
+  by_tags zones r e [] = by_said zones r e.at (said wide r.sequence e.body)
+  by_tags zones r e (t ∷ ts) = GoesOn (record r { tags = ts; bodies = r.bodies ++ record { block = t.block; body = restored t.escaped e.body } ∷ [] })
 
-abbrev pub read_entry : ℕ → Log → Entry → Log
-read_entry zones (HasEnded r) e = HasEnded r
-read_entry zones (GoesOn r) e = by_tags zones r e r.tags
+  abbrev pub read_entry : ℕ → Log → Entry → Log
+  read_entry zones (HasEnded r) e = HasEnded r
+  read_entry zones (GoesOn r) e = by_tags zones r e r.tags
 
-abbrev pub read_log : ℕ → Log → List Entry → Log
-read_log zones l [] = l
-read_log zones l (e ∷ es) = read_log zones (read_entry zones l e) es
+  abbrev pub read_log : ℕ → Log → List Entry → Log
+  read_log zones l [] = l
+  read_log zones l (e ∷ es) = read_log zones (read_entry zones l e) es
 
 abbrev pub beginning : ℕ → Reading
 beginning sequence = record { sequence = sequence; tags = []; bodies = []; revokes = []; suspect = None; done = []; fault = None }
@@ -128,4 +130,4 @@ entry_at base image place = record { at = base + place; body = body_at image (ba
 
 -- what is found in the log of an image whose journal begins at this block, where the volume ends
 unfoldable pub log_of : ℕ → JournalSuper → List (List ℕ) → Reading
-log_of base s image = found (read_log base (GoesOn (beginning s.sequence)) (map (entry_at base image) (places s)))
+log_of base s image = found (read_log (is_wide s) base (GoesOn (beginning s.sequence)) (map (entry_at base image) (places s)))

@@ -1,5 +1,5 @@
 -- The reader of `log_model`, with the bytes of this format.
-use Rattle.std.specs.Prelude.{ℕ, List, [], map, Result, Ok, Err}
+use Rattle.std.specs.Prelude.{ℕ, Bool, List, [], map, Result, Ok, Err}
 use Rattle.byte_fields.specs.Fields.{number_at}
 use Rattle.byte_fields.specs.Fields.Order.{big}
 use Rattle.log_model.specs.Log as model
@@ -28,15 +28,15 @@ header_by sequence (Err BadKind) = Plain
 header_by sequence (Err (Feature bits)) = Plain
 header_by sequence (Err NoMemory) = Plain
 
-unfoldable pub header_of : List ℕ → Header
-header_of b = header_by (sequence_of b) (log_block_of b)
+unfoldable pub header_of : Bool → List ℕ → Header
+header_of wide b = header_by (sequence_of b) (log_block_of wide b)
 
 abbrev pub tail_of : List ℕ → Tail
 tail_of b = record { sequence = number_at big 4 0x18 b; start = number_at big 4 0x1C b }
 
--- the format of this journal
-abbrev pub format : Format
-format = record { header = header_of; restore = λ t b. restored t.escaped b; tail = tail_of }
+-- the format of a journal with narrow or wide tags
+abbrev pub format : Bool → Format
+format wide = record { header = header_of wide; restore = λ t b. restored t.escaped b; tail = tail_of }
 
 -- the ring of its places
 abbrev pub ring_of : JournalSuper → Ring

@@ -1,5 +1,5 @@
 -- The superblock of a journal, a block of 1,024 bytes whose numbers have their highest byte first.
-use Rattle.std.specs.Prelude.{◌≡◌, ℕ, ◌*◌, ◌/◌, ◌^◌, ◌<◌, ◌==◌, Bool, true, not, ◌&&◌, ◌||◌, nat_lt, nat_le, if◌then◌else◌, List, [], ◌∷◌, Result, Ok, Err}
+use Rattle.std.specs.Prelude.{◌≡◌, ℕ, ◌*◌, ◌/◌, ◌%◌, ◌^◌, ◌<◌, ◌==◌, Bool, true, not, ◌&&◌, ◌||◌, nat_lt, nat_le, if◌then◌else◌, List, [], ◌∷◌, Result, Ok, Err}
 use Rattle.byte_fields.specs.Fields.{zeros, number_at, Field, field, written}
 use Rattle.byte_fields.specs.Fields.Order.{big}
 use Rattle.journal_blocks.specs.declared.super_block.JournalSuper.{JournalSuper}
@@ -37,9 +37,13 @@ numbers_of b = record {
   incompat = number_at big 4 0x28 b;
 }
 
--- the incompat bits that are not known: all but the lowest, which is for revoke blocks
+-- the incompat bits that are not known: all but the lowest, which is for revoke blocks, and the next, for wide tags
 abbrev pub unknown_bits : ℕ → ℕ
-unknown_bits incompat = incompat / 2 * 2
+unknown_bits incompat = incompat / 4 * 4
+
+-- the journal has wide tags
+abbrev pub is_wide : JournalSuper → Bool
+is_wide s = s.incompat / 2 % 2 == 1
 
 -- the log has a block, and its start is none of its blocks only where it is 0
 abbrev pub has_places : JournalSuper → Bool

@@ -3,10 +3,8 @@ pub mod Supers
 pub mod Tags
 pub mod Numbers
 pub mod Headers
-pub mod Descriptors
 pub mod Kinds
 pub mod Faults
-pub mod Revokes
 pub mod Escapes
 pub mod Logs
 pub mod Readers

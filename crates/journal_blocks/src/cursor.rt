@@ -3,6 +3,7 @@ ghost use Rattle.std.specs.Prelude.{◌≡◌, ◌+◌, ◌-◌, ◌<◌, ◌≤
 ghost use Rattle.byte_fields.specs.Fields.{zeros, bytes_of};
 ghost use Rattle.byte_fields.specs.Fields.Order.{big};
 
+use crate::numbers::put_u64_be;
 use blk_base::Block;
 use byte_fields::{put_u16_be, put_u32_be, zeroed};
 use std::marker::Model;
@@ -52,6 +53,15 @@ impl Cursor {
     {
         put_u32_be(&mut self.bytes, self.at, n);
         self.at += 4;
+    }
+
+    pub(crate) fn put_u64(&mut self, n: u64)
+        requires { length self.old + 8 ≤ 1024 }
+        ensures value { self.new ≡ self.old ++ bytes_of big 8 n }
+        ensures len { length self.new ≡ length self.old + 8 }
+    {
+        put_u64_be(&mut self.bytes, self.at, n);
+        self.at += 8;
     }
 
     /// Leaves so many bytes of 0.

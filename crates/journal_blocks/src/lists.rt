@@ -56,7 +56,7 @@ impl TagList {
 /// The block numbers of a revoke block, in their order.
 #[derive(Drop, Debug)]
 pub struct NumberList {
-    numbers: Vec<u32>,
+    numbers: Vec<u64>,
 }
 
 impl Model for NumberList {
@@ -68,13 +68,13 @@ impl Model for NumberList {
 }
 
 impl NumberList {
-    pub(crate) fn of(numbers: Vec<u32>) -> NumberList
+    pub(crate) fn of(numbers: Vec<u64>) -> NumberList
         ensures { result ≡ numbers.items }
     {
         NumberList { numbers }
     }
 
-    pub fn as_slice(&self) -> &[u32]
+    pub fn as_slice(&self) -> &[u64]
         ensures { result.now ≡ self.now }
     {
         &self.numbers

@@ -8,14 +8,14 @@
 //! | 0x14 | 4 | the place of the log's first block; the log runs from there to the journal's end, and round |
 //! | 0x18 | 4 | the sequence of the transaction at the log's start |
 //! | 0x1C | 4 | the place of the log's start, or 0 where the log is empty |
-//! | 0x28 | 4 | features that a reader must know: 1, there are revoke blocks |
+//! | 0x28 | 4 | features that a reader must know: 1, there are revoke blocks; 2, tags are wide |
 //! | 0x40 | 4 | how many use the journal: 1; not read |
 //!
 //! All other bytes are 0 where they are written, and are not read. Places count blocks from the superblock on.
 ghost use Rattle.std.specs.Prelude.{◌≡◌, ◌≢◌, ◌↔◌, ℕ, ◌^◌, ◌<◌, ◌==◌, ◌&&◌, Ok, Err, IfOk, IsFalse, length, slice_index};
 ghost use Rattle.byte_fields.specs.Fields.{Apart};
 ghost use Rattle.journal_blocks.specs.Header.{magic_of, kind_of};
-ghost use Rattle.journal_blocks.specs.Super.{super_of, super_block, with_tail, size_of, numbers_of, unknown_bits, has_places, is_journal, IsSound, FitSuper};
+ghost use Rattle.journal_blocks.specs.Super.{super_of, super_block, with_tail, size_of, numbers_of, unknown_bits, is_wide, has_places, is_journal, IsSound, FitSuper};
 
 use crate::JournalFault;
 use crate::header::{FIRST_SUPERBLOCK, MAGIC, SUPERBLOCK};
@@ -35,6 +35,15 @@ pub struct JournalSuper {
     pub start: u32,
     /// The bits of the features that a reader must know.
     pub incompat: u32,
+}
+
+impl JournalSuper {
+    /// Whether the journal has wide tags, with block numbers of 64 bits.
+    pub fn is_wide(&self) -> bool
+        ensures { result ≡ is_wide self.now }
+    {
+        self.incompat / 2 % 2 == 1
+    }
 }
 
 /// What a superblock says.
@@ -79,7 +88,7 @@ fn super_in(bytes: &[u8]) -> Result<JournalSuper, JournalFault>
         return Err(JournalFault::BadKind);
     }
     let s = numbers_in(bytes);
-    let unknown = s.incompat / 2 * 2;
+    let unknown = s.incompat / 4 * 4;
     if unknown != 0 {
         return Err(JournalFault::Feature(unknown));
     }

@@ -121,18 +121,19 @@ told magic one two five count sequence tags blocks =
     else if not count then Err BadCount
     else Ok (Revoke sequence blocks)
 
-pub told_of : (b : List ℕ) (magic one two five count : Bool) → (magic_of b == 0xC03B3998) ≡ magic → (kind_of b == 1) ≡ one → (kind_of b == 2) ≡ two → (kind_of b == 5) ≡ five → is_count (count_of b) ≡ count
-    → log_block_of b ≡ told magic one two five count (sequence_of b) (tags_of b) (revoked_of b)
-unfolding log_block_of
-told_of b magic one two five count e f g h k =
-    ap (λ (t : Bool). told t (kind_of b == 1) (kind_of b == 2) (kind_of b == 5) (is_count (count_of b)) (sequence_of b) (tags_of b) (revoked_of b)) e
-    ∙ (ap (λ (t : Bool). told magic t (kind_of b == 2) (kind_of b == 5) (is_count (count_of b)) (sequence_of b) (tags_of b) (revoked_of b)) f
-    ∙ (ap (λ (t : Bool). told magic one t (kind_of b == 5) (is_count (count_of b)) (sequence_of b) (tags_of b) (revoked_of b)) g
-    ∙ (ap (λ (t : Bool). told magic one two t (is_count (count_of b)) (sequence_of b) (tags_of b) (revoked_of b)) h
-    ∙ ap (λ (t : Bool). told magic one two five t (sequence_of b) (tags_of b) (revoked_of b)) k)))
+module _ (wide : Bool) where
+  pub told_of : (b : List ℕ) (magic one two five count : Bool) → (magic_of b == 0xC03B3998) ≡ magic → (kind_of b == 1) ≡ one → (kind_of b == 2) ≡ two → (kind_of b == 5) ≡ five → is_count wide (count_of b) ≡ count
+      → log_block_of wide b ≡ told magic one two five count (sequence_of b) (tags_of wide b) (revoked_of wide b)
+  unfolding log_block_of
+  told_of b magic one two five count e f g h k =
+      ap (λ (t : Bool). told t (kind_of b == 1) (kind_of b == 2) (kind_of b == 5) (is_count wide (count_of b)) (sequence_of b) (tags_of wide b) (revoked_of wide b)) e
+      ∙ (ap (λ (t : Bool). told magic t (kind_of b == 2) (kind_of b == 5) (is_count wide (count_of b)) (sequence_of b) (tags_of wide b) (revoked_of wide b)) f
+      ∙ (ap (λ (t : Bool). told magic one t (kind_of b == 5) (is_count wide (count_of b)) (sequence_of b) (tags_of wide b) (revoked_of wide b)) g
+      ∙ (ap (λ (t : Bool). told magic one two t (is_count wide (count_of b)) (sequence_of b) (tags_of wide b) (revoked_of wide b)) h
+      ∙ ap (λ (t : Bool). told magic one two five t (sequence_of b) (tags_of wide b) (revoked_of wide b)) k)))
 
-told_as : (b : List ℕ) → log_block_of b ≡ told (magic_of b == 0xC03B3998) (kind_of b == 1) (kind_of b == 2) (kind_of b == 5) (is_count (count_of b)) (sequence_of b) (tags_of b) (revoked_of b)
-told_as b = told_of b _ _ _ _ _ refl refl refl refl refl
+  told_as : (b : List ℕ) → log_block_of wide b ≡ told (magic_of b == 0xC03B3998) (kind_of b == 1) (kind_of b == 2) (kind_of b == 5) (is_count wide (count_of b)) (sequence_of b) (tags_of wide b) (revoked_of wide b)
+  told_as b = told_of b _ _ _ _ _ refl refl refl refl refl
 
 magic_told : (magic one two five count : Bool) (n : ℕ) (ts : List Tag) (ns : List ℕ) → told magic one two five count n ts ns ≡ Err NotMagic → magic ≡ false
 magic_told false one two five count n ts ns h = refl
@@ -158,49 +159,62 @@ count_told true false false false count n ts ns h = absurd (cc)
 count_told true false false true false n ts ns h = (refl, refl, refl)
 count_told true false false true true n ts ns h = absurd (cc)
 
--- a result has the block's fault, where want of memory comes on blocks without a fault alone
-back : (b : List ℕ) (r : Result LogBlock JournalFault) (f : JournalFault) → (r ≢ Err NoMemory → r ≡ log_block_of b) → (r ≡ Err NoMemory → IsOk (log_block_of b)) → log_block_of b ≡ Err f → r ≡ Err f
-back b (Ok x) f says memory e = says (λ n. cc) ∙ e
-back b (Err NotMagic) f says memory e = says (λ n. cc) ∙ e
-back b (Err BadKind) f says memory e = says (λ n. cc) ∙ e
-back b (Err BadCount) f says memory e = says (λ n. cc) ∙ e
-back b (Err (Feature bits)) f says memory e = says (λ n. cc) ∙ e
-back b (Err NoMemory) f says memory e = absurd (false≢true (subst (λ (q : Result LogBlock JournalFault). is_ok q ≡ true) e (memory refl)))
+revoke_told : (magic one two five count : Bool) (n m : ℕ) (ts : List Tag) (ns ms : List ℕ) → told magic one two five count n ts ns ≡ Ok (Revoke m ms) → ns ≡ ms
+revoke_told false one two five count n m ts ns ms h = absurd (cc)
+revoke_told true true two five count n m ts ns ms h = absurd (cc)
+revoke_told true false true five count n m ts ns ms h = absurd (cc)
+revoke_told true false false false count n m ts ns ms h = absurd (cc)
+revoke_told true false false true false n m ts ns ms h = absurd (cc)
+revoke_told true false false true true n m ts ns ms h = cc
 
-front : (b : List ℕ) (r : Result LogBlock JournalFault) (f : JournalFault) → (◌≡◌ {A = Result LogBlock JournalFault} (Err f) (Err NoMemory) → ⊥) → (r ≢ Err NoMemory → r ≡ log_block_of b) → r ≡ Err f → log_block_of b ≡ Err f
-front b r f other says e = sym (says (λ n. other (sym e ∙ n))) ∙ e
+-- what is read as a revoke block has its numbers
+pub revoked_told : (wide : Bool) (b : List ℕ) (m : ℕ) (ms : List ℕ) → log_block_of wide b ≡ Ok (Revoke m ms) → revoked_of wide b ≡ ms
+revoked_told wide b m ms h = revoke_told (magic_of b == 0xC03B3998) (kind_of b == 1) (kind_of b == 2) (kind_of b == 5) (is_count wide (count_of b)) (sequence_of b) m (tags_of wide b) (revoked_of wide b) ms (sym (told_as wide b) ∙ h)
 
-module _ (b : List ℕ) (r : Result LogBlock JournalFault) (says : r ≢ Err NoMemory → r ≡ log_block_of b) (memory : r ≡ Err NoMemory → IsOk (log_block_of b)) where
+module _ (wide : Bool) where
+  -- a result has the block's fault, where want of memory comes on blocks without a fault alone
+  back : (b : List ℕ) (r : Result LogBlock JournalFault) (f : JournalFault) → (r ≢ Err NoMemory → r ≡ log_block_of wide b) → (r ≡ Err NoMemory → IsOk (log_block_of wide b)) → log_block_of wide b ≡ Err f → r ≡ Err f
+  back b (Ok x) f says memory e = says (λ n. cc) ∙ e
+  back b (Err NotMagic) f says memory e = says (λ n. cc) ∙ e
+  back b (Err BadKind) f says memory e = says (λ n. cc) ∙ e
+  back b (Err BadCount) f says memory e = says (λ n. cc) ∙ e
+  back b (Err (Feature bits)) f says memory e = says (λ n. cc) ∙ e
+  back b (Err NoMemory) f says memory e = absurd (false≢true (subst (λ (q : Result LogBlock JournalFault). is_ok q ≡ true) e (memory refl)))
+
+  front : (b : List ℕ) (r : Result LogBlock JournalFault) (f : JournalFault) → (◌≡◌ {A = Result LogBlock JournalFault} (Err f) (Err NoMemory) → ⊥) → (r ≢ Err NoMemory → r ≡ log_block_of wide b) → r ≡ Err f → log_block_of wide b ≡ Err f
+  front b r f other says e = sym (says (λ n. other (sym e ∙ n))) ∙ e
+
+module _ (wide : Bool) (b : List ℕ) (r : Result LogBlock JournalFault) (says : r ≢ Err NoMemory → r ≡ log_block_of wide b) (memory : r ≡ Err NoMemory → IsOk (log_block_of wide b)) where
   pub block_not_magic : (r ≡ Err NotMagic) ↔ (magic_of b ≢ 0xC03B3998)
   block_not_magic = (
-    λ h. eqb-false _ _ (magic_told _ (kind_of b == 1) (kind_of b == 2) (kind_of b == 5) (is_count (count_of b)) (sequence_of b) (tags_of b) (revoked_of b) (sym (told_as b) ∙ front b r NotMagic (λ n. cc) says h)),
-    λ h. back b r NotMagic says memory (told_of b false (kind_of b == 1) (kind_of b == 2) (kind_of b == 5) (is_count (count_of b)) (ne_eqb _ _ h) refl refl refl refl),
+    λ h. eqb-false _ _ (magic_told _ (kind_of b == 1) (kind_of b == 2) (kind_of b == 5) (is_count wide (count_of b)) (sequence_of b) (tags_of wide b) (revoked_of wide b) (sym (told_as wide b) ∙ front wide b r NotMagic (λ n. cc) says h)),
+    λ h. back wide b r NotMagic says memory (told_of wide b false (kind_of b == 1) (kind_of b == 2) (kind_of b == 5) (is_count wide (count_of b)) (ne_eqb _ _ h) refl refl refl refl),
   )
 
   pub block_bad_kind : (r ≡ Err BadKind) ↔ ((magic_of b ≡ 0xC03B3998) × (kind_of b ≢ 1) × (kind_of b ≢ 2) × (kind_of b ≢ 5))
   block_bad_kind = (
     λ h.
-        let t = kind_told _ _ _ _ (is_count (count_of b)) (sequence_of b) (tags_of b) (revoked_of b) (sym (told_as b) ∙ front b r BadKind (λ n. cc) says h) in
+        let t = kind_told _ _ _ _ (is_count wide (count_of b)) (sequence_of b) (tags_of wide b) (revoked_of wide b) (sym (told_as wide b) ∙ front wide b r BadKind (λ n. cc) says h) in
         (eqb-true _ _ t.0, eqb-false _ _ t.1, eqb-false _ _ t.2, eqb-false _ _ t.3),
-    λ h. back b r BadKind says memory (told_of b true false false false (is_count (count_of b)) (eq-eqb _ _ h.0) (ne_eqb _ _ h.1) (ne_eqb _ _ h.2) (ne_eqb _ _ h.3) refl),
+    λ h. back wide b r BadKind says memory (told_of wide b true false false false (is_count wide (count_of b)) (eq-eqb _ _ h.0) (ne_eqb _ _ h.1) (ne_eqb _ _ h.2) (ne_eqb _ _ h.3) refl),
   )
 
-  pub block_bad_count : (r ≡ Err BadCount) ↔ ((magic_of b ≡ 0xC03B3998) × (kind_of b ≡ 5) × (is_count (count_of b) ≡ false))
+  pub block_bad_count : (r ≡ Err BadCount) ↔ ((magic_of b ≡ 0xC03B3998) × (kind_of b ≡ 5) × (is_count wide (count_of b) ≡ false))
   block_bad_count = (
     λ h.
-        let t = count_told _ (kind_of b == 1) (kind_of b == 2) _ _ (sequence_of b) (tags_of b) (revoked_of b) (sym (told_as b) ∙ front b r BadCount (λ n. cc) says h) in
+        let t = count_told _ (kind_of b == 1) (kind_of b == 2) _ _ (sequence_of b) (tags_of wide b) (revoked_of wide b) (sym (told_as wide b) ∙ front wide b r BadCount (λ n. cc) says h) in
         (eqb-true _ _ t.0, eqb-true _ _ t.1, t.2),
     λ h.
         let one = ap (λ (k : ℕ). k == 1) h.1 in
         let two = ap (λ (k : ℕ). k == 2) h.1 in
-        back b r BadCount says memory (told_of b true false false true false (eq-eqb _ _ h.0) one two (eq-eqb _ _ h.1) h.2),
+        back wide b r BadCount says memory (told_of wide b true false false true false (eq-eqb _ _ h.0) one two (eq-eqb _ _ h.1) h.2),
   )
 
   -- no feature is asked of a block of the log
   pub block_feature : (bits : ℕ) → r ≢ Err (Feature bits)
-  block_feature bits h = never (magic_of b == 0xC03B3998) (kind_of b == 1) (kind_of b == 2) (kind_of b == 5) (is_count (count_of b)) (sym (told_as b) ∙ front b r (Feature bits) (λ n. cc) says h)
+  block_feature bits h = never (magic_of b == 0xC03B3998) (kind_of b == 1) (kind_of b == 2) (kind_of b == 5) (is_count wide (count_of b)) (sym (told_as wide b) ∙ front wide b r (Feature bits) (λ n. cc) says h)
     where
-      never : (magic one two five count : Bool) → told magic one two five count (sequence_of b) (tags_of b) (revoked_of b) ≡ Err (Feature bits) → ⊥
+      never : (magic one two five count : Bool) → told magic one two five count (sequence_of b) (tags_of wide b) (revoked_of wide b) ≡ Err (Feature bits) → ⊥
       never false one two five count e = cc
       never true true two five count e = cc
       never true false true five count e = cc

@@ -16,18 +16,19 @@ use Rattle.journal_blocks.specs.declared.log_block.LogBlock.TheVariants.{Descrip
 use Rattle.journal_blocks.specs.declared.fault.JournalFault.{JournalFault}
 use Rattle.journal_blocks.specs.declared.fault.JournalFault.TheVariants.{NotMagic, BadKind, BadCount, Feature, NoMemory}
 use Rattle.journal_blocks.specs.Header.{sequence_of}
+use Rattle.journal_blocks.specs.Super.{is_wide}
 use Rattle.journal_blocks.specs.Blocks.{restored, log_block_of}
 use Rattle.journal_blocks.specs.Log.{Said, Tags, Ends, Revokes, BadRevoke, Nothing, said, Entry, Reading, Log, GoesOn, HasEnded, found, first_of, is_outside, committed, by_said, by_tags, read_entry, read_log, beginning, places, entry_at, log_of, said_by, body_at, IsFaulty}
 
 -- the log that ended stays
-pub stopped-stays : (zones : ℕ) (r : Reading) (es : List Entry) → read_log zones (HasEnded r) es ≡ HasEnded r
-stopped-stays zones r [] = refl
-stopped-stays zones r (e ∷ es) = stopped-stays zones r es
+pub stopped-stays : (wide : Bool) (zones : ℕ) (r : Reading) (es : List Entry) → read_log wide zones (HasEnded r) es ≡ HasEnded r
+stopped-stays wide zones r [] = refl
+stopped-stays wide zones r (e ∷ es) = stopped-stays wide zones r es
 
 -- one list of blocks, and then another
-pub read_log-append : (zones : ℕ) (l : Log) (xs ys : List Entry) → read_log zones l (xs ++ ys) ≡ read_log zones (read_log zones l xs) ys
-read_log-append zones l [] ys = refl
-read_log-append zones l (e ∷ es) ys = read_log-append zones (read_entry zones l e) es ys
+pub read_log-append : (wide : Bool) (zones : ℕ) (l : Log) (xs ys : List Entry) → read_log wide zones l (xs ++ ys) ≡ read_log wide zones (read_log wide zones l xs) ys
+read_log-append wide zones l [] ys = refl
+read_log-append wide zones l (e ∷ es) ys = read_log-append wide zones (read_entry wide zones l e) es ys
 
 -- ---- the end of the log
 
@@ -42,19 +43,19 @@ continues-said zones r at (Revokes blocks) ends = inl (record r { revokes = r.re
 continues-said zones r at BadRevoke ends = inl (record r { suspect = first_of r.suspect (Some at) }, refl, refl, refl)
 continues-said zones r at Nothing ends = inr refl
 
-continues : (zones : ℕ) (r : Reading) (e : Entry) (ts : List Tag) → (said r.sequence e.body ≡ Ends → ⊥) → Continues r (by_tags zones r e ts)
-continues zones r e [] ends = continues-said zones r e.at (said r.sequence e.body) ends
-continues zones r e (t ∷ ts) ends = inl (record r { tags = ts; bodies = r.bodies ++ record { block = t.block; body = restored t.escaped e.body } ∷ [] }, refl, refl, refl)
+continues : (wide : Bool) (zones : ℕ) (r : Reading) (e : Entry) (ts : List Tag) → (said wide r.sequence e.body ≡ Ends → ⊥) → Continues r (by_tags wide zones r e ts)
+continues wide zones r e [] ends = continues-said zones r e.at (said wide r.sequence e.body) ends
+continues wide zones r e (t ∷ ts) ends = inl (record r { tags = ts; bodies = r.bodies ++ record { block = t.block; body = restored t.escaped e.body } ∷ [] }, refl, refl, refl)
 
 -- Over blocks of which none reads as the commit block of the sequence that is expected, nothing more is done.
-pub done-stays : (zones : ℕ) (r : Reading) (es : List Entry) → ((e : Entry) → In e es → said r.sequence e.body ≡ Ends → ⊥) → (found (read_log zones (GoesOn r) es)).done ≡ r.done
-done-stays zones r [] none = refl
-done-stays zones r (e ∷ es) none =
+pub done-stays : (wide : Bool) (zones : ℕ) (r : Reading) (es : List Entry) → ((e : Entry) → In e es → said wide r.sequence e.body ≡ Ends → ⊥) → (found (read_log wide zones (GoesOn r) es)).done ≡ r.done
+done-stays wide zones r [] none = refl
+done-stays wide zones r (e ∷ es) none =
     ⊎_elim
-    (λ g. ap (λ (l : Log). (found (read_log zones l es)).done) g.1
-    ∙ (done-stays zones g.0 es (λ f h k. none f (inr h) (subst (λ n. said n f.body ≡ Ends) g.3 k)) ∙ g.2))
-    (λ stop. ap (λ (l : Log). (found (read_log zones l es)).done) stop ∙ ap (λ (l : Log). (found l).done) (stopped-stays zones r es))
-    (continues zones r e r.tags (none e (inl refl)))
+    (λ g. ap (λ (l : Log). (found (read_log wide zones l es)).done) g.1
+    ∙ (done-stays wide zones g.0 es (λ f h k. none f (inr h) (subst (λ n. said wide n f.body ≡ Ends) g.3 k)) ∙ g.2))
+    (λ stop. ap (λ (l : Log). (found (read_log wide zones l es)).done) stop ∙ ap (λ (l : Log). (found l).done) (stopped-stays wide zones r es))
+    (continues wide zones r e r.tags (none e (inl refl)))
 
 -- ---- where bodies lie
 
@@ -101,9 +102,9 @@ inside-said zones r at BadRevoke empty k = record {
 }
 inside-said zones r at Nothing empty k = k
 
-inside-entry : (zones : ℕ) (r : Reading) (e : Entry) (ts : List Tag) → r.tags ≡ ts → IsInside zones r → IsInside zones (found (by_tags zones r e ts))
-inside-entry zones r e [] same k = inside-said zones r e.at (said r.sequence e.body) same k
-inside-entry zones r e (t ∷ ts) same k = record {
+inside-entry : (wide : Bool) (zones : ℕ) (r : Reading) (e : Entry) (ts : List Tag) → r.tags ≡ ts → IsInside zones r → IsInside zones (found (by_tags wide zones r e ts))
+inside-entry wide zones r e [] same k = inside-said zones r e.at (said wide r.sequence e.body) same k
+inside-entry wide zones r e (t ∷ ts) same k = record {
   tags = λ none u h. k.tags none u (subst (In u) (sym same) (inr h));
   bodies = λ none p h. ⊎_elim (k.bodies none p)
       (λ here. subst (λ (q : Logged). (2 ≤ q.block) × (q.block < zones)) here (k.tags none t (subst (In t) (sym same) (inl refl)))) (In-push_cases r.bodies _ p h);
@@ -111,10 +112,10 @@ inside-entry zones r e (t ∷ ts) same k = record {
 }
 
 -- the bodies of a log without a fault lie inside the volume
-pub inside-log : (zones : ℕ) (l : Log) (es : List Entry) → IsInside zones (found l) → IsInside zones (found (read_log zones l es))
-inside-log zones l [] k = k
-inside-log zones (HasEnded r) (e ∷ es) k = inside-log zones (HasEnded r) es k
-inside-log zones (GoesOn r) (e ∷ es) k = inside-log zones (by_tags zones r e r.tags) es (inside-entry zones r e r.tags refl k)
+pub inside-log : (wide : Bool) (zones : ℕ) (l : Log) (es : List Entry) → IsInside zones (found l) → IsInside zones (found (read_log wide zones l es))
+inside-log wide zones l [] k = k
+inside-log wide zones (HasEnded r) (e ∷ es) k = inside-log wide zones (HasEnded r) es k
+inside-log wide zones (GoesOn r) (e ∷ es) k = inside-log wide zones (by_tags wide zones r e r.tags) es (inside-entry wide zones r e r.tags refl k)
 
 -- a body that a mark leaves is one of the log's
 pub set-body : (ts : List Transaction) (b : ℕ) (x : List ℕ) → mark_in ts b ≡ Set x → (t : Transaction) × In t ts × In (record { block = b; body = x }) t.bodies
@@ -131,7 +132,7 @@ pub mark-inside : (base : ℕ) (j : JournalSuper) (image : List (List ℕ)) (b :
 unfolding log_of
 mark-inside base j image b x none e =
     let begun : IsInside base (beginning j.sequence) = record { tags = λ n t h. absurd h; bodies = λ n p h. absurd h; done = λ n t h. absurd h } in
-    let law = inside-log base (GoesOn (beginning j.sequence)) (map (entry_at base image) (places j)) begun in
+    let law = inside-log (is_wide j) base (GoesOn (beginning j.sequence)) (map (entry_at base image) (places j)) begun in
     let i = set-body (log_of base j image).done b x e in
     law.done none i.0 i.1 (record { block = b; body = x }) i.2
 
@@ -144,20 +145,20 @@ one_done zones r at (Revokes blocks) = omega arith
 one_done zones r at BadRevoke = omega arith
 one_done zones r at Nothing = omega arith
 
-step_done : (zones : ℕ) (r : Reading) (e : Entry) (ts : List Tag) → length (found (by_tags zones r e ts)).done ≤ length r.done + 1
-step_done zones r e [] = one_done zones r e.at (said r.sequence e.body)
-step_done zones r e (t ∷ ts) = omega arith
+step_done : (wide : Bool) (zones : ℕ) (r : Reading) (e : Entry) (ts : List Tag) → length (found (by_tags wide zones r e ts)).done ≤ length r.done + 1
+step_done wide zones r e [] = one_done zones r e.at (said wide r.sequence e.body)
+step_done wide zones r e (t ∷ ts) = omega arith
 
 -- at most one for each block
-done_grows : (zones : ℕ) (l : Log) (es : List Entry) → length (found (read_log zones l es)).done ≤ length (found l).done + length es
-done_grows zones l [] = omega arith
-done_grows zones (HasEnded r) (e ∷ es) = let n = done_grows zones (HasEnded r) es in omega (arith, n)
-done_grows zones (GoesOn r) (e ∷ es) = let n = done_grows zones (by_tags zones r e r.tags) es in let one = step_done zones r e r.tags in omega (arith, n, one)
+done_grows : (wide : Bool) (zones : ℕ) (l : Log) (es : List Entry) → length (found (read_log wide zones l es)).done ≤ length (found l).done + length es
+done_grows wide zones l [] = omega arith
+done_grows wide zones (HasEnded r) (e ∷ es) = let n = done_grows wide zones (HasEnded r) es in omega (arith, n)
+done_grows wide zones (GoesOn r) (e ∷ es) = let n = done_grows wide zones (by_tags wide zones r e r.tags) es in let one = step_done wide zones r e r.tags in omega (arith, n, one)
 
 pub done_few : (base : ℕ) (s : JournalSuper) (image : List (List ℕ)) → s.first ≤ s.start → s.start < s.maxlen → length (log_of base s image).done ≤ s.maxlen
 unfolding log_of
 done_few base s image low high =
-    let n = done_grows base (GoesOn (beginning s.sequence)) (map (entry_at base image) (places s)) in
+    let n = done_grows (is_wide s) base (GoesOn (beginning s.sequence)) (map (entry_at base image) (places s)) in
     let m = length-map (places s) (entry_at base image) in
     let p = length-append (range_with_len s.start (s.maxlen - s.start)) (range_with_len s.first (s.start - s.first)) in
     let a = length-range_with_len s.start (s.maxlen - s.start) in
@@ -178,14 +179,14 @@ count_said zones first r at (Revokes blocks) e = e
 count_said zones first r at BadRevoke e = e
 count_said zones first r at Nothing e = e
 
-count_entry : (zones first : ℕ) (r : Reading) (e : Entry) (ts : List Tag) → r.sequence ≡ (first + length r.done) % 2 ^ 32 → (found (by_tags zones r e ts)).sequence ≡ (first + length (found (by_tags zones r e ts)).done) % 2 ^ 32
-count_entry zones first r e [] k = count_said zones first r e.at (said r.sequence e.body) k
-count_entry zones first r e (t ∷ ts) k = k
+count_entry : (wide : Bool) (zones first : ℕ) (r : Reading) (e : Entry) (ts : List Tag) → r.sequence ≡ (first + length r.done) % 2 ^ 32 → (found (by_tags wide zones r e ts)).sequence ≡ (first + length (found (by_tags wide zones r e ts)).done) % 2 ^ 32
+count_entry wide zones first r e [] k = count_said zones first r e.at (said wide r.sequence e.body) k
+count_entry wide zones first r e (t ∷ ts) k = k
 
-count_log : (zones first : ℕ) (l : Log) (es : List Entry) → (found l).sequence ≡ (first + length (found l).done) % 2 ^ 32 → (found (read_log zones l es)).sequence ≡ (first + length (found (read_log zones l es)).done) % 2 ^ 32
-count_log zones first l [] k = k
-count_log zones first (HasEnded r) (e ∷ es) k = count_log zones first (HasEnded r) es k
-count_log zones first (GoesOn r) (e ∷ es) k = count_log zones first (by_tags zones r e r.tags) es (count_entry zones first r e r.tags k)
+count_log : (wide : Bool) (zones first : ℕ) (l : Log) (es : List Entry) → (found l).sequence ≡ (first + length (found l).done) % 2 ^ 32 → (found (read_log wide zones l es)).sequence ≡ (first + length (found (read_log wide zones l es)).done) % 2 ^ 32
+count_log wide zones first l [] k = k
+count_log wide zones first (HasEnded r) (e ∷ es) k = count_log wide zones first (HasEnded r) es k
+count_log wide zones first (GoesOn r) (e ∷ es) k = count_log wide zones first (by_tags wide zones r e r.tags) es (count_entry wide zones first r e r.tags k)
 
 below_itself : (n : ℕ) → n < 2 ^ 32 → n ≡ (n + 0) % 2 ^ 32
 below_itself n lt = omega arith
@@ -193,7 +194,7 @@ below_itself n lt = omega arith
 -- the sequence that is expected behind the log counts its transactions, and comes round at 2^32
 pub log_counts : (base : ℕ) (s : JournalSuper) (image : List (List ℕ)) → s.sequence < 2 ^ 32 → (log_of base s image).sequence ≡ (s.sequence + length (log_of base s image).done) % 2 ^ 32
 unfolding log_of
-log_counts base s image lt = count_log base s.sequence (GoesOn (beginning s.sequence)) (map (entry_at base image) (places s)) (below_itself s.sequence lt)
+log_counts base s image lt = count_log (is_wide s) base s.sequence (GoesOn (beginning s.sequence)) (map (entry_at base image) (places s)) (below_itself s.sequence lt)
 
 -- ---- where faults lie
 
@@ -211,9 +212,9 @@ bad_by true (Err BadKind) e = absurd (none_bad e)
 bad_by true (Err (Feature bits)) e = absurd (none_bad e)
 bad_by true (Err NoMemory) e = absurd (none_bad e)
 
-said_bad : (sequence : ℕ) (b : List ℕ) → said sequence b ≡ BadRevoke → log_block_of b ≡ Err BadCount
+said_bad : (wide : Bool) (sequence : ℕ) (b : List ℕ) → said wide sequence b ≡ BadRevoke → log_block_of wide b ≡ Err BadCount
 unfolding said
-said_bad sequence b e = bad_by (sequence_of b == sequence) (log_block_of b) e
+said_bad wide sequence b e = bad_by (sequence_of b == sequence) (log_block_of wide b) e
 
 none_tags : (ts : List Tag) → ◌≡◌ {A = Said} Nothing (Tags ts) → ⊥
 none_tags ts e = cc
@@ -229,9 +230,9 @@ tags_by true (Err BadKind) ts e = absurd (none_tags ts e)
 tags_by true (Err (Feature bits)) ts e = absurd (none_tags ts e)
 tags_by true (Err NoMemory) ts e = absurd (none_tags ts e)
 
-said_tags : (sequence : ℕ) (b : List ℕ) (ts : List Tag) → said sequence b ≡ Tags ts → (n : ℕ) × (log_block_of b ≡ Ok (Descriptor n ts))
+said_tags : (wide : Bool) (sequence : ℕ) (b : List ℕ) (ts : List Tag) → said wide sequence b ≡ Tags ts → (n : ℕ) × (log_block_of wide b ≡ Ok (Descriptor n ts))
 unfolding said
-said_tags sequence b ts e = tags_by (sequence_of b == sequence) (log_block_of b) ts e
+said_tags wide sequence b ts e = tags_by (sequence_of b == sequence) (log_block_of wide b) ts e
 
 first_some : (o p : Option ℕ) (at : ℕ) → first_of o p ≡ Some at → (o ≡ Some at) ⊎ (p ≡ Some at)
 first_some None p at e = inr e
@@ -242,57 +243,57 @@ if_some true x at e = (refl, cc)
 if_some false x at e = absurd (let k : ⊥ = cc in k)
 
 -- one of these entries is at this block and has a fault
-pub record IsFaultAt (zones : ℕ) (es : List Entry) (at : ℕ) : Type 0 where
+pub record IsFaultAt (wide : Bool) (zones : ℕ) (es : List Entry) (at : ℕ) : Type 0 where
   pub entry : Entry
   pub listed : In entry es
   pub there : entry.at ≡ at
-  pub faulty : IsFaulty zones entry.body
+  pub faulty : IsFaulty wide zones entry.body
 
 -- what is suspected and what counts is a fault of one of these entries
-record AreFaults (zones : ℕ) (es : List Entry) (r : Reading) : Type 0 where
-  pub suspect : (at : ℕ) → r.suspect ≡ Some at → IsFaultAt zones es at
-  pub fault : (at : ℕ) → r.fault ≡ Some at → IsFaultAt zones es at
+record AreFaults (wide : Bool) (zones : ℕ) (es : List Entry) (r : Reading) : Type 0 where
+  pub suspect : (at : ℕ) → r.suspect ≡ Some at → IsFaultAt wide zones es at
+  pub fault : (at : ℕ) → r.fault ≡ Some at → IsFaultAt wide zones es at
 
-faults-said : (zones : ℕ) (es : List Entry) (r : Reading) (e : Entry) (w : Said) → In e es → said r.sequence e.body ≡ w → AreFaults zones es r → AreFaults zones es (found (by_said zones r e.at w))
-faults-said zones es r e (Tags ts) i is k = record {
+faults-said : (wide : Bool) (zones : ℕ) (es : List Entry) (r : Reading) (e : Entry) (w : Said) → In e es → said wide r.sequence e.body ≡ w → AreFaults wide zones es r → AreFaults wide zones es (found (by_said zones r e.at w))
+faults-said wide zones es r e (Tags ts) i is k = record {
   suspect = λ at h. ⊎_elim (k.suspect at)
-      (λ new. let b = if_some (list_any (is_outside zones) ts) e.at at new in let d = said_tags r.sequence e.body ts is in record { entry = e; listed = i; there = b.1; faulty = inr (d.0, ts, d.1, b.0) })
+      (λ new. let b = if_some (list_any (is_outside zones) ts) e.at at new in let d = said_tags wide r.sequence e.body ts is in record { entry = e; listed = i; there = b.1; faulty = inr (d.0, ts, d.1, b.0) })
       (first_some r.suspect _ at h);
   fault = k.fault;
 }
-faults-said zones es r e Ends i is k = record {
+faults-said wide zones es r e Ends i is k = record {
   suspect = λ at h. absurd (let n : ⊥ = cc in n);
   fault = λ at h. ⊎_elim (k.fault at) (k.suspect at) (first_some r.fault r.suspect at h);
 }
-faults-said zones es r e (Revokes blocks) i is k = record { suspect = k.suspect; fault = k.fault }
-faults-said zones es r e BadRevoke i is k = record {
+faults-said wide zones es r e (Revokes blocks) i is k = record { suspect = k.suspect; fault = k.fault }
+faults-said wide zones es r e BadRevoke i is k = record {
   suspect = λ at h. ⊎_elim (k.suspect at)
-      (λ new. let same : e.at ≡ at = cc in record { entry = e; listed = i; there = same; faulty = inl (said_bad r.sequence e.body is) })
+      (λ new. let same : e.at ≡ at = cc in record { entry = e; listed = i; there = same; faulty = inl (said_bad wide r.sequence e.body is) })
       (first_some r.suspect (Some e.at) at h);
   fault = k.fault;
 }
-faults-said zones es r e Nothing i is k = k
+faults-said wide zones es r e Nothing i is k = k
 
-faults-entry : (zones : ℕ) (es : List Entry) (r : Reading) (e : Entry) (ts : List Tag) → In e es → AreFaults zones es r → AreFaults zones es (found (by_tags zones r e ts))
-faults-entry zones es r e [] i k = faults-said zones es r e (said r.sequence e.body) i refl k
-faults-entry zones es r e (t ∷ ts) i k = record { suspect = k.suspect; fault = k.fault }
+faults-entry : (wide : Bool) (zones : ℕ) (es : List Entry) (r : Reading) (e : Entry) (ts : List Tag) → In e es → AreFaults wide zones es r → AreFaults wide zones es (found (by_tags wide zones r e ts))
+faults-entry wide zones es r e [] i k = faults-said wide zones es r e (said wide r.sequence e.body) i refl k
+faults-entry wide zones es r e (t ∷ ts) i k = record { suspect = k.suspect; fault = k.fault }
 
-faults-log : (zones : ℕ) (all : List Entry) (l : Log) (es : List Entry) → ((e : Entry) → In e es → In e all) → AreFaults zones all (found l) → AreFaults zones all (found (read_log zones l es))
-faults-log zones all l [] of k = k
-faults-log zones all (HasEnded r) (e ∷ es) of k = faults-log zones all (HasEnded r) es (λ f i. of f (inr i)) k
-faults-log zones all (GoesOn r) (e ∷ es) of k = faults-log zones all (by_tags zones r e r.tags) es (λ f i. of f (inr i)) (faults-entry zones all r e r.tags (of e (inl refl)) k)
+faults-log : (wide : Bool) (zones : ℕ) (all : List Entry) (l : Log) (es : List Entry) → ((e : Entry) → In e es → In e all) → AreFaults wide zones all (found l) → AreFaults wide zones all (found (read_log wide zones l es))
+faults-log wide zones all l [] of k = k
+faults-log wide zones all (HasEnded r) (e ∷ es) of k = faults-log wide zones all (HasEnded r) es (λ f i. of f (inr i)) k
+faults-log wide zones all (GoesOn r) (e ∷ es) of k = faults-log wide zones all (by_tags wide zones r e r.tags) es (λ f i. of f (inr i)) (faults-entry wide zones all r e r.tags (of e (inl refl)) k)
 
 -- the fault of a log is that of one of its blocks
-pub fault_there : (base : ℕ) (s : JournalSuper) (image : List (List ℕ)) (at : ℕ) → (log_of base s image).fault ≡ Some at → (place : ℕ) × In place (places s) × (base + place ≡ at) × IsFaulty base (body_at image at)
+pub fault_there : (base : ℕ) (s : JournalSuper) (image : List (List ℕ)) (at : ℕ) → (log_of base s image).fault ≡ Some at → (place : ℕ) × In place (places s) × (base + place ≡ at) × IsFaulty (is_wide s) base (body_at image at)
 unfolding log_of
 fault_there base s image at e =
     let all = map (entry_at base image) (places s) in
-    let begun : AreFaults base all (beginning s.sequence) = record { suspect = λ n h. absurd (let k : ⊥ = cc in k); fault = λ n h. absurd (let k : ⊥ = cc in k) } in
-    let f = (faults-log base all (GoesOn (beginning s.sequence)) all (λ f i. i) begun).fault at e in
+    let begun : AreFaults (is_wide s) base all (beginning s.sequence) = record { suspect = λ n h. absurd (let k : ⊥ = cc in k); fault = λ n h. absurd (let k : ⊥ = cc in k) } in
+    let f = (faults-log (is_wide s) base all (GoesOn (beginning s.sequence)) all (λ f i. i) begun).fault at e in
     let p = In-map (entry_at base image) (places s) f.entry f.listed in
     let there : base + p.0 ≡ at = ap (λ (x : Entry). x.at) p.2 ∙ f.there in
     let body : body_at image (base + p.0) ≡ f.entry.body = ap (λ (x : Entry). x.body) p.2 in
-    (p.0, p.1, there, subst (λ (n : ℕ). IsFaulty base (body_at image n)) there (subst (IsFaulty base) (sym body) f.faulty))
+    (p.0, p.1, there, subst (λ (n : ℕ). IsFaulty (is_wide s) base (body_at image n)) there (subst (IsFaulty (is_wide s) base) (sym body) f.faulty))
 
 -- ---- which fault counts
 
@@ -319,21 +320,21 @@ known-said zones n r at BadRevoke (inl f) = inl f
 known-said zones n r at BadRevoke (inr s) = inr (s.0, first_stays r.suspect (Some at) s.0 s.1, s.2)
 known-said zones n r at Nothing k = k
 
-known-entry : (zones n : ℕ) (r : Reading) (e : Entry) (ts : List Tag) → IsKnown n r → IsKnown n (found (by_tags zones r e ts))
-known-entry zones n r e [] k = known-said zones n r e.at (said r.sequence e.body) k
-known-entry zones n r e (t ∷ ts) (inl f) = inl f
-known-entry zones n r e (t ∷ ts) (inr s) = inr s
+known-entry : (wide : Bool) (zones n : ℕ) (r : Reading) (e : Entry) (ts : List Tag) → IsKnown n r → IsKnown n (found (by_tags wide zones r e ts))
+known-entry wide zones n r e [] k = known-said zones n r e.at (said wide r.sequence e.body) k
+known-entry wide zones n r e (t ∷ ts) (inl f) = inl f
+known-entry wide zones n r e (t ∷ ts) (inr s) = inr s
 
-known-log : (zones n : ℕ) (l : Log) (es : List Entry) → IsKnown n (found l) → IsKnown n (found (read_log zones l es))
-known-log zones n l [] k = k
-known-log zones n (HasEnded r) (e ∷ es) k = known-log zones n (HasEnded r) es k
-known-log zones n (GoesOn r) (e ∷ es) k = known-log zones n (by_tags zones r e r.tags) es (known-entry zones n r e r.tags k)
+known-log : (wide : Bool) (zones n : ℕ) (l : Log) (es : List Entry) → IsKnown n (found l) → IsKnown n (found (read_log wide zones l es))
+known-log wide zones n l [] k = k
+known-log wide zones n (HasEnded r) (e ∷ es) k = known-log wide zones n (HasEnded r) es k
+known-log wide zones n (GoesOn r) (e ∷ es) k = known-log wide zones n (by_tags wide zones r e r.tags) es (known-entry wide zones n r e r.tags k)
 
 -- what is suspected in a transaction counts once the transaction is whole
-pub suspect_counts : (zones : ℕ) (r : Reading) (es : List Entry) (at : ℕ) → r.suspect ≡ Some at → length r.done < length (found (read_log zones (GoesOn r) es)).done
-    → (first : ℕ) × ((found (read_log zones (GoesOn r) es)).fault ≡ Some first)
-suspect_counts zones r es at e more =
-    ⊎_elim (λ f. f) (λ s. let same = s.2 in absurd (omega (arith, more, same))) (known-log zones (length r.done) (GoesOn r) es (inr (at, e, refl)))
+pub suspect_counts : (wide : Bool) (zones : ℕ) (r : Reading) (es : List Entry) (at : ℕ) → r.suspect ≡ Some at → length r.done < length (found (read_log wide zones (GoesOn r) es)).done
+    → (first : ℕ) × ((found (read_log wide zones (GoesOn r) es)).fault ≡ Some first)
+suspect_counts wide zones r es at e more =
+    ⊎_elim (λ f. f) (λ s. let same = s.2 in absurd (omega (arith, more, same))) (known-log wide zones (length r.done) (GoesOn r) es (inr (at, e, refl)))
 
 stays-said : (zones : ℕ) (r : Reading) (at first : ℕ) (w : Said) → r.fault ≡ Some first → (found (by_said zones r at w)).fault ≡ Some first
 stays-said zones r at first (Tags ts) e = e
@@ -342,35 +343,35 @@ stays-said zones r at first (Revokes blocks) e = e
 stays-said zones r at first BadRevoke e = e
 stays-said zones r at first Nothing e = e
 
-stays-entry : (zones : ℕ) (r : Reading) (e : Entry) (ts : List Tag) (first : ℕ) → r.fault ≡ Some first → (found (by_tags zones r e ts)).fault ≡ Some first
-stays-entry zones r e [] first k = stays-said zones r e.at first (said r.sequence e.body) k
-stays-entry zones r e (t ∷ ts) first k = k
+stays-entry : (wide : Bool) (zones : ℕ) (r : Reading) (e : Entry) (ts : List Tag) (first : ℕ) → r.fault ≡ Some first → (found (by_tags wide zones r e ts)).fault ≡ Some first
+stays-entry wide zones r e [] first k = stays-said zones r e.at first (said wide r.sequence e.body) k
+stays-entry wide zones r e (t ∷ ts) first k = k
 
 -- the first fault along the log stays
-pub fault_stays : (zones : ℕ) (l : Log) (es : List Entry) (first : ℕ) → (found l).fault ≡ Some first → (found (read_log zones l es)).fault ≡ Some first
-fault_stays zones l [] first k = k
-fault_stays zones (HasEnded r) (e ∷ es) first k = fault_stays zones (HasEnded r) es first k
-fault_stays zones (GoesOn r) (e ∷ es) first k = fault_stays zones (by_tags zones r e r.tags) es first (stays-entry zones r e r.tags first k)
+pub fault_stays : (wide : Bool) (zones : ℕ) (l : Log) (es : List Entry) (first : ℕ) → (found l).fault ≡ Some first → (found (read_log wide zones l es)).fault ≡ Some first
+fault_stays wide zones l [] first k = k
+fault_stays wide zones (HasEnded r) (e ∷ es) first k = fault_stays wide zones (HasEnded r) es first k
+fault_stays wide zones (GoesOn r) (e ∷ es) first k = fault_stays wide zones (by_tags wide zones r e r.tags) es first (stays-entry wide zones r e r.tags first k)
 
-own : (sequence : ℕ) (b : List ℕ) → sequence_of b ≡ sequence → said sequence b ≡ said_by (log_block_of b)
+own : (wide : Bool) (sequence : ℕ) (b : List ℕ) → sequence_of b ≡ sequence → said wide sequence b ≡ said_by (log_block_of wide b)
 unfolding said
-own sequence b e = ap (λ (t : Bool). if t then said_by (log_block_of b) else Nothing) (eq-eqb (sequence_of b) sequence e)
+own wide sequence b e = ap (λ (t : Bool). if t then said_by (log_block_of wide b) else Nothing) (eq-eqb (sequence_of b) sequence e)
 
 -- where no body is due, the block is what it says
-read_header : (zones : ℕ) (r : Reading) (e : Entry) (w : Result LogBlock JournalFault) → r.tags ≡ [] → sequence_of e.body ≡ r.sequence → log_block_of e.body ≡ w
-    → read_log zones (GoesOn r) (e ∷ []) ≡ by_said zones r e.at (said_by w)
-read_header zones r e w none same is =
-    ap (λ (ts : List Tag). by_tags zones r e ts) none
-    ∙ ap (λ (v : Said). by_said zones r e.at v) (own r.sequence e.body same ∙ ap said_by is)
+read_header : (wide : Bool) (zones : ℕ) (r : Reading) (e : Entry) (w : Result LogBlock JournalFault) → r.tags ≡ [] → sequence_of e.body ≡ r.sequence → log_block_of wide e.body ≡ w
+    → read_log wide zones (GoesOn r) (e ∷ []) ≡ by_said zones r e.at (said_by w)
+read_header wide zones r e w none same is =
+    ap (λ (ts : List Tag). by_tags wide zones r e ts) none
+    ∙ ap (λ (v : Said). by_said zones r e.at v) (own wide r.sequence e.body same ∙ ap said_by is)
 
-pub revoke_suspected : (zones : ℕ) (r : Reading) (e : Entry) → r.tags ≡ [] → r.suspect ≡ None → sequence_of e.body ≡ r.sequence → log_block_of e.body ≡ Err BadCount
-    → (found (read_log zones (GoesOn r) (e ∷ []))).suspect ≡ Some e.at
-revoke_suspected zones r e none clean same is =
-    ap (λ (l : Log). (found l).suspect) (read_header zones r e (Err BadCount) none same is) ∙ ap (λ (o : Option ℕ). first_of o (Some e.at)) clean
+pub revoke_suspected : (wide : Bool) (zones : ℕ) (r : Reading) (e : Entry) → r.tags ≡ [] → r.suspect ≡ None → sequence_of e.body ≡ r.sequence → log_block_of wide e.body ≡ Err BadCount
+    → (found (read_log wide zones (GoesOn r) (e ∷ []))).suspect ≡ Some e.at
+revoke_suspected wide zones r e none clean same is =
+    ap (λ (l : Log). (found l).suspect) (read_header wide zones r e (Err BadCount) none same is) ∙ ap (λ (o : Option ℕ). first_of o (Some e.at)) clean
 
-pub descriptor_suspected : (zones n : ℕ) (tags : List Tag) (r : Reading) (e : Entry) → r.tags ≡ [] → r.suspect ≡ None → sequence_of e.body ≡ r.sequence
-    → log_block_of e.body ≡ Ok (Descriptor n tags) → list_any (is_outside zones) tags ≡ true → (found (read_log zones (GoesOn r) (e ∷ []))).suspect ≡ Some e.at
-descriptor_suspected zones n tags r e none clean same is outside =
-    ap (λ (l : Log). (found l).suspect) (read_header zones r e (Ok (Descriptor n tags)) none same is)
+pub descriptor_suspected : (wide : Bool) (zones n : ℕ) (tags : List Tag) (r : Reading) (e : Entry) → r.tags ≡ [] → r.suspect ≡ None → sequence_of e.body ≡ r.sequence
+    → log_block_of wide e.body ≡ Ok (Descriptor n tags) → list_any (is_outside zones) tags ≡ true → (found (read_log wide zones (GoesOn r) (e ∷ []))).suspect ≡ Some e.at
+descriptor_suspected wide zones n tags r e none clean same is outside =
+    ap (λ (l : Log). (found l).suspect) (read_header wide zones r e (Ok (Descriptor n tags)) none same is)
     ∙ (ap (λ (o : Option ℕ). first_of o (if list_any (is_outside zones) tags then Some e.at else None)) clean
     ∙ ap (λ (b : Bool). if b then Some e.at else None) outside)

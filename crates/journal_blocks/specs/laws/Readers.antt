@@ -16,10 +16,10 @@ use Rattle.journal_blocks.specs.declared.log_block.LogBlock.TheVariants.{Descrip
 use Rattle.journal_blocks.specs.declared.fault.JournalFault.{JournalFault}
 use Rattle.journal_blocks.specs.declared.fault.JournalFault.TheVariants.{NotMagic, BadKind, BadCount, Feature, NoMemory}
 use Rattle.journal_blocks.specs.Header.{sequence_of}
-use Rattle.journal_blocks.specs.Super.{super_of, numbers_of}
+use Rattle.journal_blocks.specs.Super.{super_of, numbers_of, is_wide}
 use Rattle.journal_blocks.specs.Blocks.{log_block_of}
 use Rattle.journal_blocks.specs.Log.{Said, Tags, Ends, Revokes, BadRevoke, Nothing, said_by, said, Entry, Reading, Log, GoesOn, HasEnded, found, by_said, by_tags, read_log, beginning, body_at, places, entry_at, log_of}
-use Rattle.journal_blocks.specs.Readers.{tag_of, header_by, header_of, format, ring_of}
+use Rattle.journal_blocks.specs.Readers.{tag_of, header_by, header_of, tail_of, format, ring_of}
 use Rattle.journal_blocks.specs.laws.Supers.{read_parts}
 
 abbrev reader_of : Log → Reader
@@ -59,13 +59,13 @@ due_by : (own : Bool) (zones at : ℕ) (r : Reading) (n : ℕ) (w : Result LogBl
 due_by true zones at r n w none fits is = own_same zones at r n w none fits is
 due_by false zones at r n w none fits is = sym (other_seq r.sequence n r.bodies r.revokes r.done w is)
 
-due : (zones at : ℕ) (r : Reading) (b : List ℕ) → r.tags ≡ [] → r.sequence + 1 < 2 ^ 32 → reader_of (by_said zones r at (said r.sequence b)) ≡ take_header r.sequence r.bodies r.revokes r.done (header_of b)
+due : (wide : Bool) (zones at : ℕ) (r : Reading) (b : List ℕ) → r.tags ≡ [] → r.sequence + 1 < 2 ^ 32 → reader_of (by_said zones r at (said wide r.sequence b)) ≡ take_header r.sequence r.bodies r.revokes r.done (header_of wide b)
 unfolding said header_of
-due zones at r b none fits = due_by (sequence_of b == r.sequence) zones at r (sequence_of b) (log_block_of b) none fits refl
+due wide zones at r b none fits = due_by (sequence_of b == r.sequence) zones at r (sequence_of b) (log_block_of wide b) none fits refl
 
-one_by : (zones : ℕ) (r : Reading) (e : Entry) (ts : List Tag) → r.tags ≡ ts → r.sequence + 1 < 2 ^ 32 → reader_of (by_tags zones r e ts) ≡ take_block format (Waiting r.sequence (map tag_of ts) r.bodies r.revokes r.done) e.body
-one_by zones r e [] same fits = due zones e.at r e.body same fits
-one_by zones r e (t ∷ ts) same fits = refl
+one_by : (wide : Bool) (zones : ℕ) (r : Reading) (e : Entry) (ts : List Tag) → r.tags ≡ ts → r.sequence + 1 < 2 ^ 32 → reader_of (by_tags wide zones r e ts) ≡ take_block (format wide) (Waiting r.sequence (map tag_of ts) r.bodies r.revokes r.done) e.body
+one_by wide zones r e [] same fits = due wide zones e.at r e.body same fits
+one_by wide zones r e (t ∷ ts) same fits = refl
 
 said_rises : (zones : ℕ) (r : Reading) (at : ℕ) (w : Said) → (found (by_said zones r at w)).sequence ≤ r.sequence + 1
 said_rises zones r at (Tags ts) = omega arith
@@ -75,22 +75,22 @@ said_rises zones r at BadRevoke = omega arith
 said_rises zones r at Nothing = omega arith
 
 -- the sequence rises by at most one a block
-rises : (zones : ℕ) (r : Reading) (e : Entry) (ts : List Tag) → (found (by_tags zones r e ts)).sequence ≤ r.sequence + 1
-rises zones r e (t ∷ ts) = omega arith
-rises zones r e [] = said_rises zones r e.at (said r.sequence e.body)
+rises : (wide : Bool) (zones : ℕ) (r : Reading) (e : Entry) (ts : List Tag) → (found (by_tags wide zones r e ts)).sequence ≤ r.sequence + 1
+rises wide zones r e (t ∷ ts) = omega arith
+rises wide zones r e [] = said_rises zones r e.at (said wide r.sequence e.body)
 
 abbrev bodies_in : List Entry → List (List ℕ)
 bodies_in es = map (λ (e : Entry). e.body) es
 
 -- the reader has read the same transactions
-same_done : (zones : ℕ) (l : Log) (es : List Entry) → (found l).sequence + length es < 2 ^ 32 → done (take_blocks format (reader_of l) (bodies_in es)) ≡ (found (read_log zones l es)).done
-same_done zones (GoesOn r) [] fits = refl
-same_done zones (HasEnded r) [] fits = refl
-same_done zones (HasEnded r) (e ∷ es) fits = same_done zones (HasEnded r) es (omega arith)
-same_done zones (GoesOn r) (e ∷ es) fits =
-    let up = rises zones r e r.tags in
-    ap (λ (q : Reader). done (take_blocks format q (bodies_in es))) (sym (one_by zones r e r.tags refl (omega arith)))
-    ∙ same_done zones (by_tags zones r e r.tags) es (omega arith)
+same_done : (wide : Bool) (zones : ℕ) (l : Log) (es : List Entry) → (found l).sequence + length es < 2 ^ 32 → done (take_blocks (format wide) (reader_of l) (bodies_in es)) ≡ (found (read_log wide zones l es)).done
+same_done wide zones (GoesOn r) [] fits = refl
+same_done wide zones (HasEnded r) [] fits = refl
+same_done wide zones (HasEnded r) (e ∷ es) fits = same_done wide zones (HasEnded r) es (omega arith)
+same_done wide zones (GoesOn r) (e ∷ es) fits =
+    let up = rises wide zones r e r.tags in
+    ap (λ (q : Reader). done (take_blocks (format wide) q (bodies_in es))) (sym (one_by wide zones r e r.tags refl (omega arith)))
+    ∙ same_done wide zones (by_tags wide zones r e r.tags) es (omega arith)
 
 -- ---- the ring: the places from the log's start round to before it
 
@@ -141,24 +141,24 @@ length-places s low high =
 
 -- both readers take the same blocks and have the same transactions
 same_read : (base : ℕ) (s : JournalSuper) (image : List (List ℕ)) → s.first ≤ s.start → s.start < s.maxlen → s.sequence + s.maxlen < 2 ^ 32
-    → done (take_blocks format (from_sequence s.sequence) (map (λ p. body_at image (base + p)) (places_from (ring_of s) (s.maxlen - s.first) s.start))) ≡ (log_of base s image).done
+    → done (take_blocks (format (is_wide s)) (from_sequence s.sequence) (map (λ p. body_at image (base + p)) (places_from (ring_of s) (s.maxlen - s.first) s.start))) ≡ (log_of base s image).done
 unfolding log_of
 same_read base s image low high fits =
     let size = length-map (places s) (entry_at base image) in
     let many = length-places s low high in
-    ap (λ ps. done (take_blocks format (from_sequence s.sequence) (map (λ p. body_at image (base + p)) ps))) (same_places (ring_of s) s.start low high)
-    ∙ (ap (λ bs. done (take_blocks format (from_sequence s.sequence) bs)) (sym (bodies_there base image (places s)))
-    ∙ same_done base (GoesOn (beginning s.sequence)) (map (entry_at base image) (places s)) (omega (arith, size, many, fits)))
+    ap (λ ps. done (take_blocks (format (is_wide s)) (from_sequence s.sequence) (map (λ p. body_at image (base + p)) ps))) (same_places (ring_of s) s.start low high)
+    ∙ (ap (λ bs. done (take_blocks (format (is_wide s)) (from_sequence s.sequence) bs)) (sym (bodies_there base image (places s)))
+    ∙ same_done (is_wide s) base (GoesOn (beginning s.sequence)) (map (entry_at base image) (places s)) (omega (arith, size, many, fits)))
 
-tail_is : (b : List ℕ) (s : JournalSuper) → numbers_of b ≡ s → format.tail b ≡ record { sequence = s.sequence; start = s.start }
+tail_is : (b : List ℕ) (s : JournalSuper) → numbers_of b ≡ s → tail_of b ≡ record { sequence = s.sequence; start = s.start }
 tail_is b s e = ap (λ (q : JournalSuper). let t : model.Tail = record { sequence = q.sequence; start = q.start } in t) e
 
 -- the log that `log_model` reads of an image is the log of the image
 pub same_log : (base : ℕ) (s : JournalSuper) (image : List (List ℕ)) → super_of (body_at image base) ≡ Ok s → s.first ≤ s.start → s.start < s.maxlen → 0 < s.start → s.sequence + s.maxlen < 2 ^ 32
-    → model.log_of format (ring_of s) base (body_at image) ≡ (log_of base s image).done
+    → model.log_of (format (is_wide s)) (ring_of s) base (body_at image) ≡ (log_of base s image).done
 same_log base s image read low high some fits =
     let parts = read_parts (body_at image base) s read in
     let full : (s.start == 0) ≡ false = ne_eqb s.start 0 (λ e. omega (arith, e, some)) in
-    ap (λ (t : model.Tail). if t.start == 0 then [] else done (take_blocks format (from_sequence t.sequence) (map (λ p. body_at image (base + p)) (places_from (ring_of s) (s.maxlen - s.first) t.start)))) (tail_is (body_at image base) s parts.3)
-    ∙ (ap (λ (b : Bool). if b then [] else done (take_blocks format (from_sequence s.sequence) (map (λ p. body_at image (base + p)) (places_from (ring_of s) (s.maxlen - s.first) s.start)))) full
+    ap (λ (t : model.Tail). if t.start == 0 then [] else done (take_blocks (format (is_wide s)) (from_sequence t.sequence) (map (λ p. body_at image (base + p)) (places_from (ring_of s) (s.maxlen - s.first) t.start)))) (tail_is (body_at image base) s parts.3)
+    ∙ (ap (λ (b : Bool). if b then [] else done (take_blocks (format (is_wide s)) (from_sequence s.sequence) (map (λ p. body_at image (base + p)) (places_from (ring_of s) (s.maxlen - s.first) s.start)))) full
     ∙ same_read base s image low high fits)

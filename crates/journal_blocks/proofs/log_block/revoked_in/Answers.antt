@@ -9,6 +9,6 @@ loop-k-preserved c =
     let b = c.args.bytes.now in
     let k = c.loop-k.k in
     c.in_ok-push.ensures.items
-    ∙ (ap (λ (xs : List ℕ). xs ++ c.u32_at_be.result ∷ []) c.loop-k.invariant
-    ∙ (ap (λ (n : ℕ). map (revoked_at b) (range_with_len 0 k) ++ n ∷ []) c.u32_at_be.ensures
-    ∙ sym (map-range_with_len_more (revoked_at b) 0 k k (omega arith))))
+    ∙ (ap (λ (xs : List ℕ). xs ++ c.revoked_at.result ∷ []) c.loop-k.invariant
+    ∙ (ap (λ (n : ℕ). map (revoked_at c.args.wide b) (range_with_len 0 k) ++ n ∷ []) c.revoked_at.ensures
+    ∙ sym (map-range_with_len_more (revoked_at c.args.wide b) 0 k k (omega arith))))
