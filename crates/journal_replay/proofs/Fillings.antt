@@ -4,9 +4,10 @@ use Rattle.std.proofs.Common.{sym, ap, ◌∙◌, inl, inr, arith, append_assoc}
 use Rattle.std.proofs.lemmas.Bool.{cases_Bool}
 use Rattle.log_model.specs.LastLogged.{bodies_of, last_of}
 use Rattle.journal_replay.specs.declared.home.Home.{Home}
+use Rattle.journal_replay.specs.declared.home.LogBody.{LogBody}
 use Rattle.journal_replay.specs.declared.home.LogTransaction.{LogTransaction}
 use Rattle.journal_replay.specs.Revokes.{cancels, or_else, replayed_by}
-use Rattle.journal_replay.specs.code.Homes.{logged_of, entry, listed}
+use Rattle.journal_replay.specs.code.Homes.{logged_of, logged_bodies, entry, listed}
 use Rattle.journal_replay.specs.code.Scans.{transaction_of}
 use Rattle.journal_replay.specs.laws.Homes.{with_body, if_same, body_more, stop_same, length-with_body}
 
@@ -17,30 +18,30 @@ one_fewer size e one = let longer = ap length e in omega (arith, size, longer, o
 -- ---- the bodies of one transaction
 
 -- what these bodies leave for a block
-abbrev pub left_by : Option ℕ → ℕ → List Home → ℕ → Option (List ℕ) → Option (List ℕ)
-left_by r at hs b o = if cancels r at then o else or_else (last_of (bodies_of (logged_of hs) b)) o
+abbrev pub left_by : Option ℕ → ℕ → List LogBody → ℕ → Option (List ℕ) → Option (List ℕ)
+left_by r at hs b o = if cancels r at then o else or_else (last_of (bodies_of (logged_bodies hs) b)) o
 
 -- the first body of a block, and then the later ones
 first_then : (x : List ℕ) (o last : Option (List ℕ)) → or_else last (Some x) ≡ or_else (elim last as (λ _. Option (List ℕ)) [ None ↦ Some x | Some y ↦ Some y ]) o
 first_then x o None = refl
 first_then x o (Some y) = refl
 
-left_more : (r : Option ℕ) (at : ℕ) (h : Home) (hs : List Home) (b : ℕ) (o : Option (List ℕ)) (stop : Bool) → cancels r at ≡ stop
+left_more : (r : Option ℕ) (at : ℕ) (h : LogBody) (hs : List LogBody) (b : ℕ) (o : Option (List ℕ)) (stop : Bool) → cancels r at ≡ stop
     → left_by r at hs b (if h.block == b then (if cancels r at then o else Some h.body) else o) ≡ left_by r at (h ∷ hs) b o
 left_more r at h hs b o true halt = rw halt (if_same (h.block == b) o)
 left_more r at h hs b o false go =
     elim (cases_Bool (h.block == b)) [
-      | inl same ↦ rw (go, same) (first_then h.body o (last_of (bodies_of (logged_of hs) b)))
+      | inl same ↦ rw (go, same) (first_then h.body o (last_of (bodies_of (logged_bodies hs) b)))
       | inr other ↦ rw (go, other) refl
     ]
 
 -- what is left of the bodies ends for each block where all of them do
-pub record Putting (rev : ℕ → Option ℕ) (at : ℕ) (first table : List (Option (List ℕ))) (all rest : List Home) : Type 0 where
+pub record Putting (rev : ℕ → Option ℕ) (at : ℕ) (first table : List (Option (List ℕ))) (all rest : List LogBody) : Type 0 where
   pub long : length table ≡ length first
   pub each : (b : ℕ) (o : Option (List ℕ)) → slice_get first b ≡ Some o →
       (now : Option (List ℕ)) × (slice_get table b ≡ Some now) × (left_by (rev b) at rest b now ≡ left_by (rev b) at all b o)
 
-pub putting_more : (rev : ℕ → Option ℕ) (at : ℕ) (first table : List (Option (List ℕ))) (all rest : List Home) (h : Home) (tail : List Home) (new : List (Option (List ℕ)))
+pub putting_more : (rev : ℕ → Option ℕ) (at : ℕ) (first table : List (Option (List ℕ))) (all rest : List LogBody) (h : LogBody) (tail : List LogBody) (new : List (Option (List ℕ)))
     → Putting rev at first table all rest → rest ≡ h ∷ tail → new ≡ with_body table (cancels (rev h.block) at) h.block h.body → Putting rev at first new all tail
 putting_more rev at first table all rest h tail new p e put = record {
   long = ap length put ∙ (length-with_body table (cancels (rev h.block) at) h.block h.body ∙ p.long);
@@ -54,7 +55,7 @@ putting_more rev at first table all rest h tail new p e put = record {
 }
 
 -- what all of them leave
-pub all_put : (rev : ℕ → Option ℕ) (at : ℕ) (first table : List (Option (List ℕ))) (all rest : List Home) → Putting rev at first table all rest → rest ≡ []
+pub all_put : (rev : ℕ → Option ℕ) (at : ℕ) (first table : List (Option (List ℕ))) (all rest : List LogBody) → Putting rev at first table all rest → rest ≡ []
     → (b : ℕ) (o : Option (List ℕ)) → slice_get first b ≡ Some o → slice_get table b ≡ Some (left_by (rev b) at all b o)
 all_put rev at first table all rest p none b o is =
     let was = p.each b o is in

@@ -48,9 +48,16 @@ pub struct Home {
     pub body: BoxedBlock,
 }
 
+/// A body that the log has for a block, which need not be one of the volume.
+#[derive(Drop)]
+pub struct LogBody {
+    pub block: u64,
+    pub body: BoxedBlock,
+}
+
 /// A whole transaction of the log: its bodies in their order, and the blocks that it revokes.
 #[derive(Drop)]
 pub struct LogTransaction {
-    pub bodies: Vec<Home>,
-    pub revokes: Vec<u32>,
+    pub bodies: Vec<LogBody>,
+    pub revokes: Vec<u64>,
 }

@@ -5,10 +5,11 @@ ghost use Rattle.log_model.specs.Marks.{mark_in};
 ghost use Rattle.log_model.specs.LastLogged.{bodies_of, last_of};
 ghost use Rattle.journal_replay.specs.Revokes.{last_revoke, place_of, cancels, or_else, replayed_by};
 ghost use Rattle.journal_replay.specs.Commands.{homes};
-ghost use Rattle.journal_replay.specs.code.Homes.{logged_of, listed, entry};
+ghost use Rattle.journal_replay.specs.code.Homes.{logged_of, logged_bodies, listed, entry};
 ghost use Rattle.journal_replay.specs.code.Scans.{transaction_of};
 
-use crate::{BoxedBlock, Home, Log, LogTransaction, RevokeMap};
+use crate::home::Home;
+use crate::{BoxedBlock, Log, LogBody, LogTransaction, RevokeMap};
 use blk_base::NoMemory;
 use std::alloc::Global;
 
@@ -55,25 +56,24 @@ fn put_log(table: &mut Vec<Option<BoxedBlock>>, revokes: &RevokeMap, log: Vec<Lo
 fn put_bodies(
     table: &mut Vec<Option<BoxedBlock>>,
     revokes: &RevokeMap,
-    bodies: Vec<Home>,
+    bodies: Vec<LogBody>,
     at: usize,
 )
     ensures len { length table.new.items ≡ length table.old.items }
     ensures bodies { (b : ℕ) (o : Option (List ℕ)) → slice_get table.old.items b ≡ Some o →
-        slice_get table.new.items b ≡ Some (if cancels (place_of revokes.now b) at then o else or_else (last_of (bodies_of (logged_of bodies.items) b)) o) }
+        slice_get table.new.items b ≡ Some (if cancels (place_of revokes.now b) at then o else or_else (last_of (bodies_of (logged_bodies bodies.items) b)) o) }
 {
-    for home in bodies {
-        put_body(table, revokes, home, at);
+    for body in bodies {
+        put_body(table, revokes, body, at);
     }
 }
 
-// One body.
-fn put_body(table: &mut Vec<Option<BoxedBlock>>, revokes: &RevokeMap, home: Home, at: usize)
-    ensures { table.new.items ≡ (if nat_lt home.block (length table.old.items) && not (cancels (place_of revokes.now home.block) at) then slice_set table.old.items home.block (Some home.body) else table.old.items) }
+// One body, if its block is in the table.
+fn put_body(table: &mut Vec<Option<BoxedBlock>>, revokes: &RevokeMap, body: LogBody, at: usize)
+    ensures { table.new.items ≡ (if nat_lt body.block (length table.old.items) && not (cancels (place_of revokes.now body.block) at) then slice_set table.old.items body.block (Some body.body) else table.old.items) }
 {
-    let block = home.block as usize;
-    if block < table.len() && !revokes.cancels(home.block, at) {
-        table[block] = Some(home.body);
+    if body.block < table.len() as u64 && !revokes.cancels(body.block, at) {
+        table[body.block as usize] = Some(body.body);
     }
 }
 

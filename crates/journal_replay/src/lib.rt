@@ -29,7 +29,7 @@ mod scanning;
 
 pub use choice::Choice;
 pub use fault::RecoverFault;
-pub use home::{BoxedBlock, Home, LogTransaction};
+pub use home::{BoxedBlock, LogBody, LogTransaction};
 pub use laws::{attempts_keep_the_recovered_image, replays_by_revokes_are_exact};
 pub use log::{Log, scan};
 pub use recovery::{Recovered, recover};

@@ -3,7 +3,7 @@ ghost use Rattle.std.specs.Prelude.{◌≡◌, ◌∷◌, ◌==◌, [], ◌<◌,
 ghost use Rattle.journal_replay.specs.Commands.{for_block, sends, write, flush};
 ghost use Rattle.journal_replay.specs.code.Homes.{logged_of};
 
-use crate::Home;
+use crate::home::Home;
 use blk_base::Block;
 use order_model::{Command, Kind, Request};
 use std::marker::Model;

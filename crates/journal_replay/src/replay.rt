@@ -10,10 +10,11 @@ ghost use Rattle.journal_replay.specs.Recovered.{recovered, IsRecoverable, AreBe
 ghost use Rattle.journal_replay.specs.code.Homes.{logged_of};
 ghost use Rattle.journal_replay.specs.code.Runs.{HasLog};
 
+use crate::Choice;
 use crate::drive::{finish, follow};
 use crate::end::End;
+use crate::home::Home;
 use crate::plan::Plan;
-use crate::{Choice, Home};
 use blk_base::Block;
 use order_model::OrderedDev;
 

@@ -12,7 +12,7 @@ use std::marker::Model;
 /// For each block that a log revokes the place of the last transaction that does, counted from 0.
 #[derive(Drop)]
 pub struct RevokeMap {
-    map: BTreeMap<u32, usize>,
+    map: BTreeMap<u64, usize>,
 }
 
 impl Model for RevokeMap {
@@ -25,7 +25,7 @@ impl Model for RevokeMap {
 
 impl RevokeMap {
     /// Whether a body of the block in the transaction at this place is cancelled.
-    pub fn cancels(&self, block: u32, at: usize) -> bool
+    pub fn cancels(&self, block: u64, at: usize) -> bool
         ensures { result ≡ cancels (place_of self.now block) at }
     {
         match self.map.get(&block) {
@@ -54,7 +54,7 @@ fn revokes_of(alloc: Global, log: &[LogTransaction]) -> Result<RevokeMap, NoMemo
 }
 
 // The transaction at this place revokes these blocks.
-fn put_all(map: &mut BTreeMap<u32, usize>, blocks: &[u32], at: usize) -> Result<(), NoMemory>
+fn put_all(map: &mut BTreeMap<u64, usize>, blocks: &[u64], at: usize) -> Result<(), NoMemory>
     ensures { IfOk result (λ _. (b : ℕ) → place_of map.new.entries b ≡ (if is_revoked blocks.now b then Some at else place_of map.old.entries b)) }
 {
     for block in blocks {
@@ -64,7 +64,7 @@ fn put_all(map: &mut BTreeMap<u32, usize>, blocks: &[u32], at: usize) -> Result<
 }
 
 // The transaction at this place revokes this block.
-fn put(map: &mut BTreeMap<u32, usize>, block: u32, at: usize) -> Result<(), NoMemory>
+fn put(map: &mut BTreeMap<u64, usize>, block: u64, at: usize) -> Result<(), NoMemory>
     ensures { OnOk result (map.new.entries ≡ with_place map.old.entries block at) }
 {
     match map.insert(block, at) {

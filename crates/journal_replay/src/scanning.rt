@@ -7,12 +7,13 @@ ghost use Rattle.order_model.specs.Machine.{machine_of};
 ghost use Rattle.journal_replay.specs.Driving.{AreReads};
 ghost use Rattle.log_model.specs.Marks.{Logged};
 ghost use Rattle.journal_blocks.specs.declared.tag.Tag.{Tag};
+ghost use Rattle.journal_blocks.specs.Super.{is_wide};
 ghost use Rattle.journal_blocks.specs.Blocks.{restored};
 ghost use Rattle.journal_blocks.specs.Log.{Reading, Entry, read_log, by_tags, by_said, said_by, entry_at, body_at, places, beginning, committed, first_of, is_outside, log_of};
 ghost use Rattle.journal_replay.specs.Commands.{for_block};
 ghost use Rattle.journal_replay.specs.code.Scans.{after, HasRead, transaction_of};
 
-use crate::{BoxedBlock, Home, LogTransaction};
+use crate::{BoxedBlock, LogBody, LogTransaction};
 use blk_base::{Block, NoMemory};
 use journal_blocks::{
     JournalFault, JournalSuper, LogBlock, Tag, TagList, read_block, restore, sequence_in,
@@ -28,8 +29,8 @@ pub(crate) struct Scan {
     sequence: u32,
     tags: TagList,
     next: usize,
-    bodies: Vec<Home>,
-    revokes: Vec<u32>,
+    bodies: Vec<LogBody>,
+    revokes: Vec<u64>,
     suspect: Option<u32>,
     done: Vec<LogTransaction>,
     fault: Option<u32>,
@@ -82,8 +83,15 @@ impl Scan {
     }
 
     // Reads one block more, and tells whether the log goes on behind it.
-    fn read(&mut self, alloc: Global, zones: u32, at: u32, body: &Block) -> Result<bool, NoMemory>
-        ensures { IfOk result (λ goes. by_tags zones self.old (record { at = at; body = body.now }) self.old.tags ≡ after goes self.new) }
+    fn read(
+        &mut self,
+        alloc: Global,
+        wide: bool,
+        zones: u32,
+        at: u32,
+        body: &Block,
+    ) -> Result<bool, NoMemory>
+        ensures { IfOk result (λ goes. by_tags wide zones self.old (record { at = at; body = body.now }) self.old.tags ≡ after goes self.new) }
     {
         if self.has_tag() {
             self.take_body(alloc, body)?;
@@ -92,7 +100,7 @@ impl Scan {
         if sequence_in(body) != self.sequence {
             return Ok(false);
         }
-        match read_block(alloc, body) {
+        match read_block(alloc, body, wide) {
             Ok(LogBlock::Descriptor(_, tags)) => self.take_tags(zones, at, tags),
             Ok(LogBlock::Commit(_)) => self.commit(alloc)?,
             Ok(LogBlock::Revoke(_, blocks)) => self.take_revokes(blocks.as_slice())?,
@@ -115,7 +123,7 @@ impl Scan {
     {
         let tag = self.tags.as_slice()[self.next];
         self.next += 1;
-        self.bodies.push(Home {
+        self.bodies.push(LogBody {
             block: tag.block,
             body: BoxedBlock::make(alloc, restore(body, tag.escaped))?,
         })?;
@@ -151,7 +159,7 @@ impl Scan {
     }
 
     // The block is a revoke block.
-    fn take_revokes(&mut self, blocks: &[u32]) -> Result<(), NoMemory>
+    fn take_revokes(&mut self, blocks: &[u64]) -> Result<(), NoMemory>
         ensures { IfOk result (λ _. self.new ≡ record self.old { revokes = self.old.revokes ++ blocks.now }) }
     {
         self.revokes.extend_from_slice(blocks)?;
@@ -183,11 +191,11 @@ impl Scan {
     }
 }
 
-// Whether a tag is for no block that a session changes.
+// Whether a tag is for no block that a session changes. Blocks of 2^32 and more are none of the volume's.
 fn are_outside(zones: u32, tags: &[Tag]) -> bool
     ensures { result ≡ list_any (is_outside zones) tags.now }
 {
-    tags.iter().any(|t| t.block < 2 || zones <= t.block)
+    tags.iter().any(|t| t.block < 2 || zones as u64 <= t.block)
 }
 
 // One block of a device.
@@ -214,6 +222,7 @@ fn scan_range<D: OrderedDev>(
     alloc: Global,
     dev: &mut D,
     scan: &mut Scan,
+    wide: bool,
     base: u32,
     from: u32,
     to: u32,
@@ -223,7 +232,7 @@ fn scan_range<D: OrderedDev>(
     requires within { base + to ≤ length (D.seen (D.state dev.old)).surface }
     requires order { from ≤ to }
     requires fits { base + to < 2 ^ 32 }
-    ensures log { IfOk result (λ goes. read_log base (after true scan.old) (map (entry_at base (D.seen (D.state dev.old)).surface) (range_with_len from (to - from))) ≡ after goes scan.new) }
+    ensures log { IfOk result (λ goes. read_log wide base (after true scan.old) (map (entry_at base (D.seen (D.state dev.old)).surface) (range_with_len from (to - from))) ≡ after goes scan.new) }
     ensures valid { D.valid (D.state dev.new) }
     ensures read { HasRead (D.seen (D.state dev.old)) (D.seen (D.state dev.new)) }
     ensures on { D.stays_on (D.state dev.old) → D.stays_on (D.state dev.new) }
@@ -233,7 +242,7 @@ fn scan_range<D: OrderedDev>(
 {
     for place in from..to {
         let body = read_place(dev, base + place)?;
-        match scan.read(alloc, base, base + place, &body) {
+        match scan.read(alloc, wide, base, base + place, &body) {
             Ok(true) => {}
             Ok(false) => return Ok(false),
             Err(NoMemory) => return Err(ScanFault::NoMemory),
@@ -255,7 +264,7 @@ fn scan_ring<D: OrderedDev>(
     requires within { base + s.now.maxlen ≤ length (D.seen (D.state dev.old)).surface }
     requires fits { base + s.now.maxlen < 2 ^ 32 }
     requires start { (s.now.first ≤ s.now.start) × (s.now.start < s.now.maxlen) }
-    ensures log { IfOk result (λ goes. read_log base (after true scan.old) (map (entry_at base (D.seen (D.state dev.old)).surface) (places s.now)) ≡ after goes scan.new) }
+    ensures log { IfOk result (λ goes. read_log (is_wide s.now) base (after true scan.old) (map (entry_at base (D.seen (D.state dev.old)).surface) (places s.now)) ≡ after goes scan.new) }
     ensures valid { D.valid (D.state dev.new) }
     ensures read { HasRead (D.seen (D.state dev.old)) (D.seen (D.state dev.new)) }
     ensures on { D.stays_on (D.state dev.old) → D.stays_on (D.state dev.new) }
@@ -263,10 +272,11 @@ fn scan_ring<D: OrderedDev>(
     ensures sound { D.sound (D.state dev.old) → D.sound (D.state dev.new) × ((D.seen (D.state dev.new)).faults ≡ (D.seen (D.state dev.old)).faults) }
     ensures fault { IsErrOf result ScanFault.ReadFault → Rose (D.seen (D.state dev.old)).faults (D.seen (D.state dev.new)).faults }
 {
-    if !scan_range(alloc, dev, scan, base, s.start, s.maxlen)? {
+    let wide = s.is_wide();
+    if !scan_range(alloc, dev, scan, wide, base, s.start, s.maxlen)? {
         return Ok(false);
     }
-    scan_range(alloc, dev, scan, base, s.first, s.start)
+    scan_range(alloc, dev, scan, wide, base, s.first, s.start)
 }
 
 // Reads the log of a device whose journal begins at block `base`.

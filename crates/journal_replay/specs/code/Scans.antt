@@ -5,19 +5,19 @@ use Rattle.order_model.specs.Steps.{OnlyReads}
 use Rattle.log_model.specs.Marks.{Transaction}
 use Rattle.journal_blocks.specs.declared.tag.Tag.{Tag}
 use Rattle.journal_blocks.specs.Log.{Reading, Log, GoesOn, HasEnded}
-use Rattle.journal_replay.specs.declared.home.Home.{Home}
+use Rattle.journal_replay.specs.declared.home.LogBody.{LogBody}
 use Rattle.journal_replay.specs.declared.home.LogTransaction.{LogTransaction}
-use Rattle.journal_replay.specs.code.Homes.{logged_of}
+use Rattle.journal_replay.specs.code.Homes.{logged_bodies}
 
 abbrev pub transaction_of : LogTransaction → Transaction
-transaction_of t = record { bodies = logged_of t.bodies.items; revokes = t.revokes.items }
+transaction_of t = record { bodies = logged_bodies t.bodies.items; revokes = t.revokes.items }
 
 -- `next` counts the tags whose bodies were read
-abbrev pub reading_of : ℕ → List Tag → ℕ → List Home → List ℕ → Option ℕ → List LogTransaction → Option ℕ → Reading
+abbrev pub reading_of : ℕ → List Tag → ℕ → List LogBody → List ℕ → Option ℕ → List LogTransaction → Option ℕ → Reading
 reading_of sequence tags next bodies revokes suspect done fault = record {
   sequence = sequence;
   tags = drop next tags;
-  bodies = logged_of bodies;
+  bodies = logged_bodies bodies;
   revokes = revokes;
   suspect = suspect;
   done = map transaction_of done;

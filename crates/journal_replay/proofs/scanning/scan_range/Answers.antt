@@ -13,8 +13,8 @@ returns-in-Ok-false-clause-log g c =
     let place = c.loop-place.place in
     let same : (d.seen (d.state c.loop-place.dev)).surface ≡ image = ap (λ (x : Seen). x.surface) i.read.reads.0 in
     let is = ap (λ (xs : List (List ℕ)). body_at xs (c.args.base + place)) (sym same) ∙ c.in_ok-body.ensures.body in
-    let step = subst (λ (b : Bool). by_tags c.args.base c.loop-place.scan (record { at = c.args.base + place; body = c.in_ok-body.body }) c.loop-place.scan.tags ≡ after b c.read.new.self) c.in-Ok-false.field-0-test c.in-Ok-false.ensures in
-    sym i.log ∙ (sym (scan_step c.args.base place c.args.to image c.loop-place.scan c.read.new.self false c.in_ok-body.body (omega arith) is step) ∙ scan_ended c.args.base (entries c.args.base image (place + 1) c.args.to) c.read.new.self)
+    let step = subst (λ (b : Bool). by_tags c.args.wide c.args.base c.loop-place.scan (record { at = c.args.base + place; body = c.in_ok-body.body }) c.loop-place.scan.tags ≡ after b c.read.new.self) c.in-Ok-false.field-0-test c.in-Ok-false.ensures in
+    sym i.log ∙ (sym (scan_step c.args.wide c.args.base place c.args.to image c.loop-place.scan c.read.new.self false c.in_ok-body.body (omega arith) is step) ∙ scan_ended c.args.wide c.args.base (entries c.args.base image (place + 1) c.args.to) c.read.new.self)
 
 pub loop-place-preserved : goal.loop-place-preserved
 loop-place-preserved g c =
@@ -24,9 +24,9 @@ loop-place-preserved g c =
     let place = c.loop-place.place in
     let same : (d.seen (d.state c.loop-place.dev)).surface ≡ image = ap (λ (x : Seen). x.surface) i.read.reads.0 in
     let is = ap (λ (xs : List (List ℕ)). body_at xs (c.args.base + place)) (sym same) ∙ c.in_ok-body.ensures.body in
-    let step = subst (λ (b : Bool). by_tags c.args.base c.loop-place.scan (record { at = c.args.base + place; body = c.in_ok-body.body }) c.loop-place.scan.tags ≡ after b c.read.new.self) c.in-Ok-true.field-0-test c.in-Ok-true.ensures in
+    let step = subst (λ (b : Bool). by_tags c.args.wide c.args.base c.loop-place.scan (record { at = c.args.base + place; body = c.in_ok-body.body }) c.loop-place.scan.tags ≡ after b c.read.new.self) c.in-Ok-true.field-0-test c.in-Ok-true.ensures in
     record {
-      log = scan_step c.args.base place c.args.to image c.loop-place.scan c.read.new.self true c.in_ok-body.body (omega arith) is step ∙ i.log;
+      log = scan_step c.args.wide c.args.base place c.args.to image c.loop-place.scan c.read.new.self true c.in_ok-body.body (omega arith) is step ∙ i.log;
       valid = c.in_ok-body.ensures.valid;
       read = read_more _ _ _ i.read c.in_ok-body.ensures.read;
       on = λ on. c.in_ok-body.ensures.on (i.on on);

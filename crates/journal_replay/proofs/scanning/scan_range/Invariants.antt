@@ -12,8 +12,8 @@ invariant-loop-place g l =
     let d = g.D.OrderedDev in
     let image = (d.seen (d.state l.fn.dev)).surface in
     record {
-      log : read_log l.base (after true l.scan) (map (entry_at l.base image) (range_with_len l.place (l.to - l.place)))
-          ≡ read_log l.base (after true l.fn.scan) (map (entry_at l.base image) (range_with_len l.from (l.to - l.from)));
+      log : read_log l.wide l.base (after true l.scan) (map (entry_at l.base image) (range_with_len l.place (l.to - l.place)))
+          ≡ read_log l.wide l.base (after true l.fn.scan) (map (entry_at l.base image) (range_with_len l.from (l.to - l.from)));
       valid : d.valid (d.state l.dev);
       read : HasRead (d.seen (d.state l.fn.dev)) (d.seen (d.state l.dev));
       on : d.stays_on (d.state l.fn.dev) → d.stays_on (d.state l.dev);
