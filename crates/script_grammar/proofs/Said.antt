@@ -11,7 +11,7 @@ use Rattle.blk_base.specs.Members.{In}
 use Rattle.blk_base.specs.laws.Members.{each_push}
 use Rattle.order_model.specs.declared.request.Request.{Request}
 use Rattle.script_words.specs.declared.limits.TheConstants.{MOST_REPEATS, PLACES}
-use Rattle.script_grammar.specs.declared.limits.TheConstants.{DEFAULT_DEPTH, DEFAULT_QUEUE, MOST_BLOCKS, MOST_DEPTH, MOST_QUEUE, MOST_STEPS}
+use Rattle.script_grammar.specs.declared.limits.TheConstants.{DEFAULT_DEPTH, DEFAULT_QUEUE, FEWEST_SEGMENTS, MOST_BLOCKS, MOST_DEPTH, MOST_QUEUE, MOST_SEGMENTS, MOST_STEPS}
 use Rattle.script_grammar.specs.declared.reading.Reading.{Reading}
 use Rattle.script_grammar.specs.declared.reading.Section.{Section}
 use Rattle.script_grammar.specs.declared.reading.Section.TheVariants as sections
@@ -33,7 +33,7 @@ use Rattle.byte_text.specs.Hex.{hex_text}
 use Rattle.script_words.specs.Spelling.{numeral, hex_byte, words_of, lines_of, count_of}
 use Rattle.script_grammar.specs.Words.{class_of, header_line, put_line, pick_line, line_of, word_of}
 use Rattle.script_grammar.specs.Grammar.{form_blocks, is_scheduled, form_of, is_built, new_reading, opened, form_line, built_first, first_line, stands_in, may_stand, stood_before, fits, put_request, flush_request, with_request, with_events, plain_event, pick_event, after, taken, later_line, read_words, read_one, script_read, ended_in, ended, script_of}
-use Rattle.script_grammar.specs.laws.Speller.{form_words, cut_lines, elevator_lines, request_words, event_line_words}
+use Rattle.script_grammar.specs.laws.Speller.{form_words, number_lines, elevator_lines, request_words, event_line_words}
 use Rattle.script_words.specs.laws.Texts.{kept_lines}
 use Rattle.script_words.proofs.KeptLines.{said}
 use Rattle.script_grammar.specs.laws.Accepted.{begins, beginning, or_default, default_depth, filled_queue, SaysScript}
@@ -47,18 +47,14 @@ use Rattle.script_grammar.proofs.SaidWords.{IsNamed, named, class_named, plain_t
 
 -- ---- what the lines that were read say of the reading
 
--- the line of a header word, where it was read
-abbrev pub read_line_of : List ℕ → Option ℕ → List (List (List ℕ))
-read_line_of w None = []
-read_line_of w (Some n) = (w ∷ decimal n ∷ []) ∷ []
-
 abbrev pub is_header_line : List (List ℕ) → Bool
-is_header_line l = begins (codes "depth") l || (begins (codes "queue") l || (begins (codes "cut") l || begins (codes "elevator") l))
+is_header_line l = begins (codes "depth") l || (begins (codes "queue") l || (begins (codes "cut") l || (begins (codes "flash") l || begins (codes "elevator") l)))
 
-record SaysHeader (form : Form) (depth queue cut : Option ℕ) (elevator : Bool) (header : List (List (List ℕ))) : Type 0 where
-  depths : beginning (codes "depth") header ≡ read_line_of (codes "depth") depth
-  queues : beginning (codes "queue") header ≡ read_line_of (codes "queue") queue
-  cuts : beginning (codes "cut") header ≡ read_line_of (codes "cut") cut
+record SaysHeader (form : Form) (depth queue cut flash : Option ℕ) (elevator : Bool) (header : List (List (List ℕ))) : Type 0 where
+  depths : beginning (codes "depth") header ≡ number_lines (codes "depth") depth
+  queues : beginning (codes "queue") header ≡ number_lines (codes "queue") queue
+  cuts : beginning (codes "cut") header ≡ number_lines (codes "cut") cut
+  flashes : beginning (codes "flash") header ≡ number_lines (codes "flash") flash
   elevators : beginning (codes "elevator") header ≡ elevator_lines elevator
   known : (l : List (List ℕ)) → In l header → is_header_line l ≡ true
   plain : is_scheduled form ≡ false → queue ≡ None
@@ -74,7 +70,7 @@ record Says (r : Reading) (lines : List (List (List ℕ))) : Type 0 where
   header : List (List (List ℕ))
   events : List (List (List ℕ))
   whole : lines ≡ form_words r.form ∷ header ++ (map request_words r.puts ++ tail_of r.section events)
-  headed : SaysHeader r.form r.depth r.queue r.cut r.elevator header
+  headed : SaysHeader r.form r.depth r.queue r.cut r.flash r.elevator header
   counted : map with_count events ≡ map event_line_words r.events
   no_puts : r.section ≡ sections.Header → r.puts ≡ []
   no_events : before_events r.section ≡ true → events ≡ []
@@ -89,15 +85,15 @@ is_none : (o : Option ℕ) → is_some o ≡ false → o ≡ None
 is_none None h = refl
 is_none (Some n) h = cc
 
-beginning-push : (w : List ℕ) (header : List (List (List ℕ))) (l : List (List ℕ)) (o : Option ℕ) (more : List (List (List ℕ))) → beginning w header ≡ read_line_of w o → filter (begins w) (l ∷ []) ≡ more → beginning w (header ++ l ∷ []) ≡ read_line_of w o ++ more
+beginning-push : (w : List ℕ) (header : List (List (List ℕ))) (l : List (List ℕ)) (o : Option ℕ) (more : List (List (List ℕ))) → beginning w header ≡ number_lines w o → filter (begins w) (l ∷ []) ≡ more → beginning w (header ++ l ∷ []) ≡ number_lines w o ++ more
 beginning-push w header l o more had has = filter-append (begins w) header (l ∷ []) ∙ ap₂ (λ (a b : List (List (List ℕ))). a ++ b) had has
 
-beginning-other : (w : List ℕ) (header : List (List (List ℕ))) (l : List (List ℕ)) (o : Option ℕ) → beginning w header ≡ read_line_of w o → filter (begins w) (l ∷ []) ≡ [] → beginning w (header ++ l ∷ []) ≡ read_line_of w o
-beginning-other w header l o had has = beginning-push w header l o [] had has ∙ append-nil (read_line_of w o)
+beginning-other : (w : List ℕ) (header : List (List (List ℕ))) (l : List (List ℕ)) (o : Option ℕ) → beginning w header ≡ number_lines w o → filter (begins w) (l ∷ []) ≡ [] → beginning w (header ++ l ∷ []) ≡ number_lines w o
+beginning-other w header l o had has = beginning-push w header l o [] had has ∙ append-nil (number_lines w o)
 
-beginning-new : (w : List ℕ) (header : List (List (List ℕ))) (n : ℕ) (o : Option ℕ) → o ≡ None → beginning w header ≡ read_line_of w o → filter (begins w) ((w ∷ decimal n ∷ []) ∷ []) ≡ (w ∷ decimal n ∷ []) ∷ [] → beginning w (header ++ (w ∷ decimal n ∷ []) ∷ []) ≡ read_line_of w (Some n)
+beginning-new : (w : List ℕ) (header : List (List (List ℕ))) (n : ℕ) (o : Option ℕ) → o ≡ None → beginning w header ≡ number_lines w o → filter (begins w) ((w ∷ decimal n ∷ []) ∷ []) ≡ (w ∷ decimal n ∷ []) ∷ [] → beginning w (header ++ (w ∷ decimal n ∷ []) ∷ []) ≡ number_lines w (Some n)
 beginning-new w header n o none had has =
-    beginning-push w header (w ∷ decimal n ∷ []) o ((w ∷ decimal n ∷ []) ∷ []) had has ∙ ap (λ x. read_line_of w x ++ (w ∷ decimal n ∷ []) ∷ []) none
+    beginning-push w header (w ∷ decimal n ∷ []) o ((w ∷ decimal n ∷ []) ∷ []) had has ∙ ap (λ x. number_lines w x ++ (w ∷ decimal n ∷ []) ∷ []) none
 
 abbrev pub elevator_line : List (List ℕ)
 elevator_line = codes "elevator" ∷ []
@@ -122,9 +118,9 @@ push_behind front header rest l none =
 nothing_behind : (r : Reading) (events : List (List (List ℕ))) → r.section ≡ sections.Header → r.puts ≡ [] → map request_words r.puts ++ tail_of r.section events ≡ []
 nothing_behind r events here none = ap₂ (λ (qs : List Request) (section : Section). map request_words qs ++ tail_of section events) none here
 
-Says-header : (r : Reading) (lines : List (List (List ℕ))) (l : List (List ℕ)) (depth queue cut : Option ℕ) (elevator : Bool) → r.section ≡ sections.Header → (is : Says r lines)
-    → SaysHeader r.form depth queue cut elevator (is.header ++ l ∷ []) → Says (record r { depth = depth; queue = queue; cut = cut; elevator = elevator }) (lines ++ l ∷ [])
-Says-header r lines l depth queue cut elevator here is headed = record {
+Says-header : (r : Reading) (lines : List (List (List ℕ))) (l : List (List ℕ)) (depth queue cut flash : Option ℕ) (elevator : Bool) → r.section ≡ sections.Header → (is : Says r lines)
+    → SaysHeader r.form depth queue cut flash elevator (is.header ++ l ∷ []) → Says (record r { depth = depth; queue = queue; cut = cut; flash = flash; elevator = elevator }) (lines ++ l ∷ [])
+Says-header r lines l depth queue cut flash elevator here is headed = record {
   few = is.few;
   header = is.header ++ l ∷ [];
   events = is.events;
@@ -146,13 +142,17 @@ queue_line n = codes "queue" ∷ decimal n ∷ []
 abbrev pub cut_line : ℕ → List (List ℕ)
 cut_line n = codes "cut" ∷ decimal n ∷ []
 
+abbrev pub flash_line : ℕ → List (List ℕ)
+flash_line n = codes "flash" ∷ decimal n ∷ []
+
 Says-depth : (r : Reading) (lines : List (List (List ℕ))) (n : ℕ) → r.section ≡ sections.Header → r.depth ≡ None → Says r lines → Says (record r { depth = Some n }) (lines ++ depth_line n ∷ [])
 Says-depth r lines n here none is =
     let h = is.headed in
-    Says-header r lines (depth_line n) (Some n) r.queue r.cut r.elevator here is (record {
+    Says-header r lines (depth_line n) (Some n) r.queue r.cut r.flash r.elevator here is (record {
       depths = beginning-new (codes "depth") is.header n r.depth none h.depths refl;
       queues = beginning-other (codes "queue") is.header (depth_line n) r.queue h.queues refl;
       cuts = beginning-other (codes "cut") is.header (depth_line n) r.cut h.cuts refl;
+      flashes = beginning-other (codes "flash") is.header (depth_line n) r.flash h.flashes refl;
       elevators = elevators-other is.header (depth_line n) r.elevator h.elevators refl;
       known = each_push (λ l. is_header_line l ≡ true) is.header (depth_line n) h.known refl;
       plain = h.plain;
@@ -161,10 +161,11 @@ Says-depth r lines n here none is =
 Says-queue : (r : Reading) (lines : List (List (List ℕ))) (n : ℕ) → r.section ≡ sections.Header → r.queue ≡ None → is_scheduled r.form ≡ true → Says r lines → Says (record r { queue = Some n }) (lines ++ queue_line n ∷ [])
 Says-queue r lines n here none scheduled is =
     let h = is.headed in
-    Says-header r lines (queue_line n) r.depth (Some n) r.cut r.elevator here is (record {
+    Says-header r lines (queue_line n) r.depth (Some n) r.cut r.flash r.elevator here is (record {
       depths = beginning-other (codes "depth") is.header (queue_line n) r.depth h.depths refl;
       queues = beginning-new (codes "queue") is.header n r.queue none h.queues refl;
       cuts = beginning-other (codes "cut") is.header (queue_line n) r.cut h.cuts refl;
+      flashes = beginning-other (codes "flash") is.header (queue_line n) r.flash h.flashes refl;
       elevators = elevators-other is.header (queue_line n) r.elevator h.elevators refl;
       known = each_push (λ l. is_header_line l ≡ true) is.header (queue_line n) h.known refl;
       plain = λ e. let c : true ≡ false = sym scheduled ∙ e in cc;
@@ -173,22 +174,37 @@ Says-queue r lines n here none scheduled is =
 Says-cut : (r : Reading) (lines : List (List (List ℕ))) (n : ℕ) → r.section ≡ sections.Header → r.cut ≡ None → Says r lines → Says (record r { cut = Some n }) (lines ++ cut_line n ∷ [])
 Says-cut r lines n here none is =
     let h = is.headed in
-    Says-header r lines (cut_line n) r.depth r.queue (Some n) r.elevator here is (record {
+    Says-header r lines (cut_line n) r.depth r.queue (Some n) r.flash r.elevator here is (record {
       depths = beginning-other (codes "depth") is.header (cut_line n) r.depth h.depths refl;
       queues = beginning-other (codes "queue") is.header (cut_line n) r.queue h.queues refl;
       cuts = beginning-new (codes "cut") is.header n r.cut none h.cuts refl;
+      flashes = beginning-other (codes "flash") is.header (cut_line n) r.flash h.flashes refl;
       elevators = elevators-other is.header (cut_line n) r.elevator h.elevators refl;
       known = each_push (λ l. is_header_line l ≡ true) is.header (cut_line n) h.known refl;
+      plain = h.plain;
+    })
+
+Says-flash : (r : Reading) (lines : List (List (List ℕ))) (n : ℕ) → r.section ≡ sections.Header → r.flash ≡ None → Says r lines → Says (record r { flash = Some n }) (lines ++ flash_line n ∷ [])
+Says-flash r lines n here none is =
+    let h = is.headed in
+    Says-header r lines (flash_line n) r.depth r.queue r.cut (Some n) r.elevator here is (record {
+      depths = beginning-other (codes "depth") is.header (flash_line n) r.depth h.depths refl;
+      queues = beginning-other (codes "queue") is.header (flash_line n) r.queue h.queues refl;
+      cuts = beginning-other (codes "cut") is.header (flash_line n) r.cut h.cuts refl;
+      flashes = beginning-new (codes "flash") is.header n r.flash none h.flashes refl;
+      elevators = elevators-other is.header (flash_line n) r.elevator h.elevators refl;
+      known = each_push (λ l. is_header_line l ≡ true) is.header (flash_line n) h.known refl;
       plain = h.plain;
     })
 
 Says-elevator : (r : Reading) (lines : List (List (List ℕ))) → r.section ≡ sections.Header → r.elevator ≡ false → Says r lines → Says (record r { elevator = true }) (lines ++ elevator_line ∷ [])
 Says-elevator r lines here none is =
     let h = is.headed in
-    Says-header r lines elevator_line r.depth r.queue r.cut true here is (record {
+    Says-header r lines elevator_line r.depth r.queue r.cut r.flash true here is (record {
       depths = beginning-other (codes "depth") is.header elevator_line r.depth h.depths refl;
       queues = beginning-other (codes "queue") is.header elevator_line r.queue h.queues refl;
       cuts = beginning-other (codes "cut") is.header elevator_line r.cut h.cuts refl;
+      flashes = beginning-other (codes "flash") is.header elevator_line r.flash h.flashes refl;
       elevators = elevators-new is.header r.elevator none h.elevators;
       known = each_push (λ l. is_header_line l ≡ true) is.header elevator_line h.known refl;
       plain = h.plain;
@@ -334,6 +350,14 @@ adds_header r lines w header.Cut (v ∷ []) l name stands new e is =
     let few = leb-true n MOST_STEPS fit in
     added (record r { cut = Some n }) lines (w ∷ v ∷ []) (cut_line n) (header_said w v (codes "cut") n name value (omega (arith, few)))
     (Says-cut r lines n (at_header r.section header.Cut (and_parts _ _ stands).0) (is_none r.cut new) is))
+adds_header r lines w header.Flash (v ∷ []) l name stands new e is =
+    mapped (Adds r lines (w ∷ v ∷ [])) line.Flash (numeral v) l e
+    (λ n value fit.
+    let few = leb-true n MOST_SEGMENTS (and_parts (nat_le FEWEST_SEGMENTS n) (nat_le n MOST_SEGMENTS) fit).1 in
+    added (record r { flash = Some n }) lines (w ∷ v ∷ []) (flash_line n) (header_said w v (codes "flash") n name value (omega (arith, few)))
+    (Says-flash r lines n (at_header r.section header.Flash (and_parts _ _ stands).0) (is_none r.flash new) is))
+adds_header r lines w header.Flash [] l name stands new e is = absurd (none-some l e)
+adds_header r lines w header.Flash (v ∷ u ∷ ws) l name stands new e is = absurd (none-some l e)
 adds_header r lines w header.Depth [] l name stands new e is = absurd (none-some l e)
 adds_header r lines w header.Depth (v ∷ u ∷ ws) l name stands new e is = absurd (none-some l e)
 adds_header r lines w header.Queue [] l name stands new e is = absurd (none-some l e)
@@ -434,11 +458,12 @@ Says-later r lines w (Some v) ws next e h is =
 
 -- ---- the first line
 
-SaysHeader-none : (form : Form) → SaysHeader form None None None false []
+SaysHeader-none : (form : Form) → SaysHeader form None None None None false []
 SaysHeader-none form = record {
   depths = refl;
   queues = refl;
   cuts = refl;
+  flashes = refl;
   elevators = refl;
   known = λ l h. absurd h;
   plain = λ _. refl;
@@ -501,19 +526,15 @@ Says-words (Some r) lines (w ∷ ws) next h is = Says-later r lines w (word_of w
 
 -- ---- the script
 
-filled_depth : (o : Option ℕ) → or_default default_depth (read_line_of (codes "depth") o) ≡ depth_line (unwrap_or o DEFAULT_DEPTH) ∷ []
+filled_depth : (o : Option ℕ) → or_default default_depth (number_lines (codes "depth") o) ≡ depth_line (unwrap_or o DEFAULT_DEPTH) ∷ []
 filled_depth None = ap (λ (w : List ℕ). (codes "depth" ∷ w ∷ []) ∷ []) default_text
 filled_depth (Some n) = refl
 
-filled_queues : (scheduled : Bool) (o : Option ℕ) → (scheduled ≡ false → o ≡ None) → filled_queue scheduled (read_line_of (codes "queue") o) ≡ (if scheduled then queue_line (unwrap_or o DEFAULT_QUEUE) ∷ [] else [])
+filled_queues : (scheduled : Bool) (o : Option ℕ) → (scheduled ≡ false → o ≡ None) → filled_queue scheduled (number_lines (codes "queue") o) ≡ (if scheduled then queue_line (unwrap_or o DEFAULT_QUEUE) ∷ [] else [])
 filled_queues true None plain = ap (λ (w : List ℕ). (codes "queue" ∷ w ∷ []) ∷ []) default_text
 filled_queues true (Some n) plain = refl
 filled_queues false None plain = refl
 filled_queues false (Some n) plain = let none = plain refl in cc
-
-filled_cut : (o : Option ℕ) → read_line_of (codes "cut") o ≡ cut_lines o
-filled_cut None = refl
-filled_cut (Some n) = refl
 
 SaysScript-read : (r : Reading) (lines : List (List (List ℕ))) → r.section ≡ sections.Events → Says r lines → SaysScript (script_read r) lines
 SaysScript-read r lines here is =
@@ -525,7 +546,8 @@ SaysScript-read r lines here is =
       headed = record {
         depth = ap (or_default default_depth) h.depths ∙ filled_depth r.depth;
         queue = ap (filled_queue (is_scheduled r.form)) h.queues ∙ filled_queues (is_scheduled r.form) r.queue h.plain;
-        cut = h.cuts ∙ filled_cut r.cut;
+        cut = h.cuts;
+        flash = h.flashes;
         elevator = h.elevators;
         known = h.known;
       };

@@ -40,6 +40,7 @@ header_text header.Queue = codes "queue"
 header_text header.Cut = codes "cut"
 header_text header.Fail = codes "fail"
 header_text header.Elevator = codes "elevator"
+header_text header.Flash = codes "flash"
 
 abbrev pub body_text : BodyWord → List ℕ
 body_text body.Put = codes "put"
@@ -67,7 +68,8 @@ header_named w d h =
     (λ h. choose header_text w header.Queue d _ h
     (λ h. choose header_text w header.Cut d _ h
     (λ h. choose header_text w header.Fail d _ h
-    (λ h. choose header_text w header.Elevator d None h (λ h. absurd (none-some d h))))))
+    (λ h. choose header_text w header.Elevator d _ h
+    (λ h. choose header_text w header.Flash d None h (λ h. absurd (none-some d h)))))))
 
 body_named : (w : List ℕ) (b : BodyWord) → body_word w ≡ Some b → w ≡ body_text b
 body_named w b h =

@@ -8,7 +8,7 @@ use Rattle.order_model.specs.declared.request.Request.{Request}
 use Rattle.order_model.specs.declared.request.Kind.{Kind}
 use Rattle.order_model.specs.declared.request.Kind.TheVariants.{Put, Flush}
 use Rattle.script_words.specs.declared.limits.TheConstants.{MOST_EVENTS, MOST_REPEATS, PLACES}
-use Rattle.script_grammar.specs.declared.limits.TheConstants.{MOST_BLOCKS, MOST_DEPTH, MOST_QUEUE, MOST_REQUESTS, MOST_STEPS}
+use Rattle.script_grammar.specs.declared.limits.TheConstants.{FEWEST_SEGMENTS, MOST_BLOCKS, MOST_DEPTH, MOST_QUEUE, MOST_REQUESTS, MOST_SEGMENTS, MOST_STEPS}
 use Rattle.script_grammar.specs.declared.kinds.ScriptKind.TheVariants as kinds
 use Rattle.script_grammar.specs.declared.reading.Reading.{Reading}
 use Rattle.script_grammar.specs.declared.reading.Section.{Section}
@@ -98,36 +98,43 @@ IsRead-form (Blocks n) some few = record {
 }
 
 -- a reading of the header
-abbrev pub at_header : Form → Option ℕ → Option ℕ → Option ℕ → Bool → Reading
-at_header form depth queue cut elevator = record { form = form; depth = depth; queue = queue; cut = cut; elevator = elevator; section = sections.Header; puts = []; events = []; expanded = 0 }
+abbrev pub at_header : Form → Option ℕ → Option ℕ → Option ℕ → Option ℕ → Bool → Reading
+at_header form depth queue cut flash elevator = record { form = form; depth = depth; queue = queue; cut = cut; elevator = elevator; flash = flash; section = sections.Header; puts = []; events = []; expanded = 0 }
 
-pub IsRead-depth : (form : Form) (queue cut : Option ℕ) (elevator : Bool) (d : ℕ) → 1 ≤ d → d ≤ MOST_DEPTH → IsRead (Some (at_header form None queue cut elevator)) (codes "depth" ∷ decimal d ∷ []) (at_header form (Some d) queue cut elevator)
-IsRead-depth form queue cut elevator d some few = record {
+pub IsRead-depth : (form : Form) (queue cut flash : Option ℕ) (elevator : Bool) (d : ℕ) → 1 ≤ d → d ≤ MOST_DEPTH → IsRead (Some (at_header form None queue cut flash elevator)) (codes "depth" ∷ decimal d ∷ []) (at_header form (Some d) queue cut flash elevator)
+IsRead-depth form queue cut flash elevator d some few = record {
   clear = (record { feed = refl; space = refl }, (IsClear-decimal d (omega arith), tt));
   there = refl;
-  read = later_line-read (at_header form None queue cut elevator) (word.Header header.Depth) (decimal d ∷ []) (line.Depth d) refl (or_right (is_scheduled form) true refl) refl (ap (option_map line.Depth) (numeral-decimal d (omega arith))) (and_from (nat_le 1 d) (nat_le d MOST_DEPTH) (le-leb 1 d some) (le-leb d MOST_DEPTH few));
+  read = later_line-read (at_header form None queue cut flash elevator) (word.Header header.Depth) (decimal d ∷ []) (line.Depth d) refl (or_right (is_scheduled form) true refl) refl (ap (option_map line.Depth) (numeral-decimal d (omega arith))) (and_from (nat_le 1 d) (nat_le d MOST_DEPTH) (le-leb 1 d some) (le-leb d MOST_DEPTH few));
 }
 
-pub IsRead-queue : (form : Form) (depth cut : Option ℕ) (elevator : Bool) (q : ℕ) → is_scheduled form ≡ true → 1 ≤ q → q ≤ MOST_QUEUE → IsRead (Some (at_header form depth None cut elevator)) (codes "queue" ∷ decimal q ∷ []) (at_header form depth (Some q) cut elevator)
-IsRead-queue form depth cut elevator q scheduled some few = record {
+pub IsRead-queue : (form : Form) (depth cut flash : Option ℕ) (elevator : Bool) (q : ℕ) → is_scheduled form ≡ true → 1 ≤ q → q ≤ MOST_QUEUE → IsRead (Some (at_header form depth None cut flash elevator)) (codes "queue" ∷ decimal q ∷ []) (at_header form depth (Some q) cut flash elevator)
+IsRead-queue form depth cut flash elevator q scheduled some few = record {
   clear = (record { feed = refl; space = refl }, (IsClear-decimal q (omega arith), tt));
   there = refl;
-  read = later_line-read (at_header form depth None cut elevator) (word.Header header.Queue) (decimal q ∷ []) (line.Queue q) refl (or_left (is_scheduled form) false scheduled) refl (ap (option_map line.Queue) (numeral-decimal q (omega arith))) (and_from (nat_le 1 q) (nat_le q MOST_QUEUE) (le-leb 1 q some) (le-leb q MOST_QUEUE few));
+  read = later_line-read (at_header form depth None cut flash elevator) (word.Header header.Queue) (decimal q ∷ []) (line.Queue q) refl (or_left (is_scheduled form) false scheduled) refl (ap (option_map line.Queue) (numeral-decimal q (omega arith))) (and_from (nat_le 1 q) (nat_le q MOST_QUEUE) (le-leb 1 q some) (le-leb q MOST_QUEUE few));
 }
 
-pub IsRead-cut : (form : Form) (depth queue : Option ℕ) (elevator : Bool) (n : ℕ) → n ≤ MOST_STEPS → IsRead (Some (at_header form depth queue None elevator)) (codes "cut" ∷ decimal n ∷ []) (at_header form depth queue (Some n) elevator)
-IsRead-cut form depth queue elevator n few = record {
+pub IsRead-cut : (form : Form) (depth queue flash : Option ℕ) (elevator : Bool) (n : ℕ) → n ≤ MOST_STEPS → IsRead (Some (at_header form depth queue None flash elevator)) (codes "cut" ∷ decimal n ∷ []) (at_header form depth queue (Some n) flash elevator)
+IsRead-cut form depth queue flash elevator n few = record {
   clear = (record { feed = refl; space = refl }, (IsClear-decimal n (omega arith), tt));
   there = refl;
-  read = later_line-read (at_header form depth queue None elevator) (word.Header header.Cut) (decimal n ∷ []) (line.Cut n) refl (or_right (is_scheduled form) true refl) refl (ap (option_map line.Cut) (numeral-decimal n (omega arith))) (le-leb n MOST_STEPS few);
+  read = later_line-read (at_header form depth queue None flash elevator) (word.Header header.Cut) (decimal n ∷ []) (line.Cut n) refl (or_right (is_scheduled form) true refl) refl (ap (option_map line.Cut) (numeral-decimal n (omega arith))) (le-leb n MOST_STEPS few);
+}
+
+pub IsRead-flash : (form : Form) (depth queue cut : Option ℕ) (elevator : Bool) (n : ℕ) → FEWEST_SEGMENTS ≤ n → n ≤ MOST_SEGMENTS → IsRead (Some (at_header form depth queue cut None elevator)) (codes "flash" ∷ decimal n ∷ []) (at_header form depth queue cut (Some n) elevator)
+IsRead-flash form depth queue cut elevator n some few = record {
+  clear = (record { feed = refl; space = refl }, (IsClear-decimal n (omega arith), tt));
+  there = refl;
+  read = later_line-read (at_header form depth queue cut None elevator) (word.Header header.Flash) (decimal n ∷ []) (line.Flash n) refl (or_right (is_scheduled form) true refl) refl (ap (option_map line.Flash) (numeral-decimal n (omega arith))) (and_from (nat_le FEWEST_SEGMENTS n) (nat_le n MOST_SEGMENTS) (le-leb FEWEST_SEGMENTS n some) (le-leb n MOST_SEGMENTS few));
 }
 
 -- the line of the elevator
-pub IsRead-elevator : (form : Form) (depth queue cut : Option ℕ) → is_scheduled form ≡ true → IsRead (Some (at_header form depth queue cut false)) (codes "elevator" ∷ []) (at_header form depth queue cut true)
-IsRead-elevator form depth queue cut scheduled = record {
+pub IsRead-elevator : (form : Form) (depth queue cut flash : Option ℕ) → is_scheduled form ≡ true → IsRead (Some (at_header form depth queue cut flash false)) (codes "elevator" ∷ []) (at_header form depth queue cut flash true)
+IsRead-elevator form depth queue cut flash scheduled = record {
   clear = (record { feed = refl; space = refl }, tt);
   there = refl;
-  read = later_line-read (at_header form depth queue cut false) (word.Header header.Elevator) [] line.Elevator refl (or_left (is_scheduled form) false scheduled) refl refl refl;
+  read = later_line-read (at_header form depth queue cut flash false) (word.Header header.Elevator) [] line.Elevator refl (or_left (is_scheduled form) false scheduled) refl refl refl;
 }
 
 -- ---- requests

@@ -28,13 +28,14 @@ use Rattle.script_grammar.proofs.FirstFault.{tells_first_fault}
 -- ---- words
 
 -- which test gave the word
-chose_fail : (d q c f e : Bool) → (if d then Some header.Depth else if q then Some header.Queue else if c then Some header.Cut else if f then Some header.Fail else if e then Some header.Elevator else None) ≡ Some header.Fail → f ≡ true
-chose_fail true q c f e h = cc
-chose_fail false true c f e h = cc
-chose_fail false false true f e h = cc
-chose_fail false false false true e h = refl
-chose_fail false false false false true h = cc
-chose_fail false false false false false h = cc
+chose_fail : (d q c f e l : Bool) → (if d then Some header.Depth else if q then Some header.Queue else if c then Some header.Cut else if f then Some header.Fail else if e then Some header.Elevator else if l then Some header.Flash else None) ≡ Some header.Fail → f ≡ true
+chose_fail true q c f e l h = cc
+chose_fail false true c f e l h = cc
+chose_fail false false true f e l h = cc
+chose_fail false false false true e l h = refl
+chose_fail false false false false true l h = cc
+chose_fail false false false false false true h = cc
+chose_fail false false false false false false h = cc
 
 -- a word that is built is no other
 no_unbuilt : {T : Type 0} (w v : Word) → Some w ≡ Some v → is_built w ≡ true → is_built v ≡ false → T
@@ -58,6 +59,7 @@ unbuilt_among None (Some header.Queue) b p k e o v is unbuilt fail = no_unbuilt 
 unbuilt_among None (Some header.Cut) b p k e o v is unbuilt fail = no_unbuilt (word.Header header.Cut) v is refl unbuilt
 unbuilt_among None (Some header.Fail) b p k e o v is unbuilt fail = fail refl
 unbuilt_among None (Some header.Elevator) b p k e o v is unbuilt fail = no_unbuilt (word.Header header.Elevator) v is refl unbuilt
+unbuilt_among None (Some header.Flash) b p k e o v is unbuilt fail = no_unbuilt (word.Header header.Flash) v is refl unbuilt
 unbuilt_among None None (Some x) p k e o v is unbuilt fail = no_unbuilt (word.Body x) v is refl unbuilt
 unbuilt_among None None None (Some x) k e o v is unbuilt fail = no_unbuilt (word.Plain x) v is refl unbuilt
 unbuilt_among None None None None (Some x) e o v is unbuilt fail = no_unbuilt (word.Pick x) v is refl unbuilt
@@ -67,7 +69,7 @@ unbuilt_among None None None None None e o v is unbuilt fail = unbuilt_at_end e 
 is_unbuilt-word_of : (w : List ℕ) (v : Word) → word_of w ≡ Some v → is_built v ≡ false → is_unbuilt w ≡ true
 is_unbuilt-word_of w v h unbuilt =
     unbuilt_among (first_word w) (header_word w) (body_word w) (plain_word w) (pick_word w) (bytes_eq w (codes "events")) (is_volume_section w || (is_change w || (is_query w || is_host_event w))) v h unbuilt
-    (λ e. chose_fail _ _ _ _ _ e)
+    (λ e. chose_fail _ _ _ _ _ _ e)
 
 -- and that is a word that is not built
 record IsUnbuiltWord (o : Option Word) : Type 0 where

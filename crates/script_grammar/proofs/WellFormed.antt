@@ -8,7 +8,7 @@ use Rattle.blk_base.specs.Members.{In}
 use Rattle.blk_base.specs.laws.Members.{each_push}
 use Rattle.order_model.specs.declared.request.Request.{Request}
 use Rattle.script_words.specs.declared.limits.TheConstants.{MOST_EVENTS, MOST_REPEATS, PLACES}
-use Rattle.script_grammar.specs.declared.limits.TheConstants.{DEFAULT_DEPTH, DEFAULT_QUEUE, MOST_BLOCKS, MOST_DEPTH, MOST_QUEUE, MOST_REQUESTS, MOST_STEPS}
+use Rattle.script_grammar.specs.declared.limits.TheConstants.{DEFAULT_DEPTH, DEFAULT_QUEUE, FEWEST_SEGMENTS, MOST_BLOCKS, MOST_DEPTH, MOST_QUEUE, MOST_REQUESTS, MOST_SEGMENTS, MOST_STEPS}
 use Rattle.script_grammar.specs.declared.reading.Reading.{Reading}
 use Rattle.script_grammar.specs.declared.reading.Section.{Section}
 use Rattle.script_grammar.specs.declared.reading.Section.TheVariants as sections
@@ -43,7 +43,7 @@ use Rattle.script_grammar.specs.Words.{class_of, header_line, put_line, body_lin
 
 -- ---- what holds of the reading between two lines
 
-record IsHeader (form : Form) (depth queue cut : Option ℕ) : Type 0 where
+record IsHeader (form : Form) (depth queue cut flash : Option ℕ) : Type 0 where
   some_blocks : 1 ≤ form_blocks form
   most_blocks : form_blocks form ≤ MOST_BLOCKS
   some_depth : 1 ≤ unwrap_or depth DEFAULT_DEPTH
@@ -52,6 +52,7 @@ record IsHeader (form : Form) (depth queue cut : Option ℕ) : Type 0 where
   most_queue : unwrap_or queue DEFAULT_QUEUE ≤ MOST_QUEUE
   plain_queue : is_scheduled form ≡ false → queue ≡ None
   most_cut : (n : ℕ) → cut ≡ Some n → n ≤ MOST_STEPS
+  segments : (n : ℕ) → flash ≡ Some n → (FEWEST_SEGMENTS ≤ n) × (n ≤ MOST_SEGMENTS)
 
 record AreRequests (blocks : ℕ) (puts : List Request) : Type 0 where
   few : length puts ≤ MOST_REQUESTS
@@ -65,7 +66,7 @@ record AreEventLines (scheduled : Bool) (events : List EventLine) (expanded : �
 
 record IsReadable (r : Reading) : Type 0 where
   no_elevator : is_scheduled r.form ≡ false → r.elevator ≡ false
-  header : IsHeader r.form r.depth r.queue r.cut
+  header : IsHeader r.form r.depth r.queue r.cut r.flash
   puts : AreRequests (form_blocks r.form) r.puts
   events : AreEventLines (is_scheduled r.form) r.events r.expanded
 
@@ -141,6 +142,7 @@ IsLineOf scheduled (line.Cut n) = Unit {0}
 IsLineOf scheduled (line.Put block value k) = value < 256
 IsLineOf scheduled line.Flush = Unit {0}
 IsLineOf scheduled line.Elevator = scheduled ≡ true
+IsLineOf scheduled (line.Flash n) = Unit {0}
 IsLineOf scheduled line.Events = Unit {0}
 IsLineOf scheduled (line.Plain w count) = IsEventOf scheduled (plain_event w)
 IsLineOf scheduled (line.Pick w pick count) = pick < PLACES → IsEventOf scheduled (pick_event w pick)
@@ -167,6 +169,9 @@ IsLineOf-header_line scheduled header.Cut (n ∷ e ∷ ws) l h s = absurd (none-
 IsLineOf-header_line scheduled header.Fail ws l h s = absurd (none-some l h)
 IsLineOf-header_line scheduled header.Elevator [] l h s = subst (IsLineOf scheduled) (same_Some line.Elevator l h) (needed scheduled s)
 IsLineOf-header_line scheduled header.Elevator (e ∷ ws) l h s = absurd (none-some l h)
+IsLineOf-header_line scheduled header.Flash [] l h s = absurd (none-some l h)
+IsLineOf-header_line scheduled header.Flash (n ∷ []) l h s = mapped (IsLineOf scheduled) line.Flash (numeral n) l h (λ n e. tt)
+IsLineOf-header_line scheduled header.Flash (n ∷ e ∷ ws) l h s = absurd (none-some l h)
 
 IsLineOf-body_line : (scheduled : Bool) (w : BodyWord) (ws : List (List ℕ)) (l : Line) → body_line w ws ≡ Some l → IsLineOf scheduled l
 IsLineOf-body_line scheduled body.Put [] l h = absurd (none-some l h)
@@ -228,8 +233,8 @@ IsReadable-events r e count here fits is =
       }) (leb-true (r.expanded + count) MOST_EVENTS most.1) is.events;
     }
 
-IsHeader-depth : (form : Form) (depth queue cut : Option ℕ) (d : ℕ) → 1 ≤ d → d ≤ MOST_DEPTH → IsHeader form depth queue cut → IsHeader form (Some d) queue cut
-IsHeader-depth form depth queue cut d some most is = record {
+IsHeader-depth : (form : Form) (depth queue cut flash : Option ℕ) (d : ℕ) → 1 ≤ d → d ≤ MOST_DEPTH → IsHeader form depth queue cut flash → IsHeader form (Some d) queue cut flash
+IsHeader-depth form depth queue cut flash d some most is = record {
   some_blocks = is.some_blocks;
   most_blocks = is.most_blocks;
   some_depth = some;
@@ -238,10 +243,11 @@ IsHeader-depth form depth queue cut d some most is = record {
   most_queue = is.most_queue;
   plain_queue = is.plain_queue;
   most_cut = is.most_cut;
+  segments = is.segments;
 }
 
-IsHeader-queue : (form : Form) (depth queue cut : Option ℕ) (q : ℕ) → is_scheduled form ≡ true → 1 ≤ q → q ≤ MOST_QUEUE → IsHeader form depth queue cut → IsHeader form depth (Some q) cut
-IsHeader-queue form depth queue cut q scheduled some most is = record {
+IsHeader-queue : (form : Form) (depth queue cut flash : Option ℕ) (q : ℕ) → is_scheduled form ≡ true → 1 ≤ q → q ≤ MOST_QUEUE → IsHeader form depth queue cut flash → IsHeader form depth (Some q) cut flash
+IsHeader-queue form depth queue cut flash q scheduled some most is = record {
   some_blocks = is.some_blocks;
   most_blocks = is.most_blocks;
   some_depth = is.some_depth;
@@ -250,10 +256,11 @@ IsHeader-queue form depth queue cut q scheduled some most is = record {
   most_queue = most;
   plain_queue = λ e. absurd (false≢true (sym e ∙ scheduled));
   most_cut = is.most_cut;
+  segments = is.segments;
 }
 
-IsHeader-cut : (form : Form) (depth queue cut : Option ℕ) (n : ℕ) → n ≤ MOST_STEPS → IsHeader form depth queue cut → IsHeader form depth queue (Some n)
-IsHeader-cut form depth queue cut n most is = record {
+IsHeader-cut : (form : Form) (depth queue cut flash : Option ℕ) (n : ℕ) → n ≤ MOST_STEPS → IsHeader form depth queue cut flash → IsHeader form depth queue (Some n) flash
+IsHeader-cut form depth queue cut flash n most is = record {
   some_blocks = is.some_blocks;
   most_blocks = is.most_blocks;
   some_depth = is.some_depth;
@@ -262,11 +269,25 @@ IsHeader-cut form depth queue cut n most is = record {
   most_queue = is.most_queue;
   plain_queue = is.plain_queue;
   most_cut = λ m e. let same = same_Some n m e in omega (arith, most, same);
+  segments = is.segments;
+}
+
+IsHeader-flash : (form : Form) (depth queue cut flash : Option ℕ) (n : ℕ) → FEWEST_SEGMENTS ≤ n → n ≤ MOST_SEGMENTS → IsHeader form depth queue cut flash → IsHeader form depth queue cut (Some n)
+IsHeader-flash form depth queue cut flash n some most is = record {
+  some_blocks = is.some_blocks;
+  most_blocks = is.most_blocks;
+  some_depth = is.some_depth;
+  most_depth = is.most_depth;
+  some_queue = is.some_queue;
+  most_queue = is.most_queue;
+  plain_queue = is.plain_queue;
+  most_cut = is.most_cut;
+  segments = λ m e. subst (λ m. (FEWEST_SEGMENTS ≤ m) × (m ≤ MOST_SEGMENTS)) (same_Some n m e) (some, most);
 }
 
 -- the header lines
-IsReadable-header : (r : Reading) (depth queue cut : Option ℕ) → IsHeader r.form depth queue cut → IsReadable r → IsReadable (record r { depth = depth; queue = queue; cut = cut })
-IsReadable-header r depth queue cut header is = record {
+IsReadable-header : (r : Reading) (depth queue cut flash : Option ℕ) → IsHeader r.form depth queue cut flash → IsReadable r → IsReadable (record r { depth = depth; queue = queue; cut = cut; flash = flash })
+IsReadable-header r depth queue cut flash header is = record {
   no_elevator = is.no_elevator;
   header = header;
   puts = is.puts;
@@ -276,12 +297,12 @@ IsReadable-header r depth queue cut header is = record {
 IsReadable-after : (r : Reading) (l : Line) → IsLineOf (is_scheduled r.form) l → fits r l ≡ true → IsReadable r → IsReadable (after r l)
 IsReadable-after r (line.Depth d) of h is =
     let t = and_parts _ _ h in
-    IsReadable-header r _ _ _ (IsHeader-depth r.form r.depth r.queue r.cut d (leb-true 1 d t.0) (leb-true d MOST_DEPTH t.1) is.header) is
+    IsReadable-header r _ _ _ _ (IsHeader-depth r.form r.depth r.queue r.cut r.flash d (leb-true 1 d t.0) (leb-true d MOST_DEPTH t.1) is.header) is
 IsReadable-after r (line.Queue q) of h is =
     let t = and_parts _ _ h in
-    IsReadable-header r _ _ _ (IsHeader-queue r.form r.depth r.queue r.cut q of (leb-true 1 q t.0) (leb-true q MOST_QUEUE t.1) is.header) is
+    IsReadable-header r _ _ _ _ (IsHeader-queue r.form r.depth r.queue r.cut r.flash q of (leb-true 1 q t.0) (leb-true q MOST_QUEUE t.1) is.header) is
 IsReadable-after r (line.Cut n) of h is =
-    IsReadable-header r _ _ _ (IsHeader-cut r.form r.depth r.queue r.cut n (leb-true n MOST_STEPS h) is.header) is
+    IsReadable-header r _ _ _ _ (IsHeader-cut r.form r.depth r.queue r.cut r.flash n (leb-true n MOST_STEPS h) is.header) is
 IsReadable-after r (line.Put block value k) of h is =
     let t = and_parts _ _ h in
     IsReadable-request r _ (ltb-true _ _ t.1) (IsRequestOf-put (form_blocks r.form) (length r.puts) block value k (ltb-true _ _ t.0)) (IsFilled-put (length r.puts) block value k of) is
@@ -293,6 +314,9 @@ IsReadable-after r line.Elevator of h is = record {
   puts = is.puts;
   events = is.events;
 }
+IsReadable-after r (line.Flash n) of h is =
+    let t = and_parts _ _ h in
+    IsReadable-header r _ _ _ _ (IsHeader-flash r.form r.depth r.queue r.cut r.flash n (leb-true FEWEST_SEGMENTS n t.0) (leb-true n MOST_SEGMENTS t.1) is.header) is
 IsReadable-after r line.Events of h is = record {
   no_elevator = is.no_elevator;
   header = is.header;
@@ -337,7 +361,7 @@ IsReadable-later_line r (Some w) ws next h is =
 
 -- ---- the first line
 
-IsHeader-new : (form : Form) → 1 ≤ form_blocks form → form_blocks form ≤ MOST_BLOCKS → IsHeader form None None None
+IsHeader-new : (form : Form) → 1 ≤ form_blocks form → form_blocks form ≤ MOST_BLOCKS → IsHeader form None None None None
 IsHeader-new form some few = record {
   some_blocks = some;
   most_blocks = few;
@@ -347,6 +371,7 @@ IsHeader-new form some few = record {
   most_queue = lit≤ tt;
   plain_queue = λ _. refl;
   most_cut = λ n e. absurd (none-some n e);
+  segments = λ n e. absurd (none-some n e);
 }
 
 AreRequests-none : (blocks : ℕ) → AreRequests blocks []
@@ -420,6 +445,7 @@ IsRunnable-script_read r is = record {
   depth = is.header.most_depth;
   some_queue = is.header.some_queue;
   queue = is.header.most_queue;
+  flash = is.header.segments;
   few = is.puts.few;
   requests = is.puts.requests;
 }

@@ -4,7 +4,7 @@ use Rattle.blk_base.specs.Block.{filled}
 use Rattle.order_model.specs.declared.request.Request.{Request}
 use Rattle.order_model.specs.declared.request.Kind.TheVariants.{Put, Flush}
 use Rattle.script_words.specs.declared.limits.TheConstants.{MOST_EVENTS, MOST_REPEATS, PLACES}
-use Rattle.script_grammar.specs.declared.limits.TheConstants.{DEFAULT_DEPTH, DEFAULT_QUEUE, MOST_BLOCKS, MOST_DEPTH, MOST_QUEUE, MOST_REQUESTS, MOST_STEPS}
+use Rattle.script_grammar.specs.declared.limits.TheConstants.{DEFAULT_DEPTH, DEFAULT_QUEUE, FEWEST_SEGMENTS, MOST_BLOCKS, MOST_DEPTH, MOST_QUEUE, MOST_REQUESTS, MOST_SEGMENTS, MOST_STEPS}
 use Rattle.script_grammar.specs.declared.kinds.ScriptKind.{ScriptKind}
 use Rattle.script_grammar.specs.declared.kinds.ScriptKind.TheVariants as kinds
 use Rattle.script_grammar.specs.declared.reading.Reading.{Reading}
@@ -56,7 +56,7 @@ is_built w = true
 -- ---- the first line
 
 abbrev pub new_reading : Form → Reading
-new_reading form = record { form = form; depth = None; queue = None; cut = None; elevator = false; section = sections.Header; puts = []; events = []; expanded = 0 }
+new_reading form = record { form = form; depth = None; queue = None; cut = None; elevator = false; flash = None; section = sections.Header; puts = []; events = []; expanded = 0 }
 
 -- a medium of so many blocks, 1 to 4,096
 abbrev pub opened : Bool → Option ℕ → Result Reading ScriptKind
@@ -110,6 +110,7 @@ stood_before r (word.Header header.Depth) = is_some r.depth
 stood_before r (word.Header header.Queue) = is_some r.queue
 stood_before r (word.Header header.Cut) = is_some r.cut
 stood_before r (word.Header header.Elevator) = r.elevator
+stood_before r (word.Header header.Flash) = is_some r.flash
 stood_before r w = false
 
 -- an event line's count keeps the limits on repeats and on all events
@@ -124,6 +125,7 @@ fits r (line.Cut n) = nat_le n MOST_STEPS
 fits r (line.Put block value k) = nat_lt block (form_blocks r.form) && nat_lt (length r.puts) MOST_REQUESTS
 fits r line.Flush = nat_lt (length r.puts) MOST_REQUESTS
 fits r line.Elevator = true
+fits r (line.Flash n) = nat_le FEWEST_SEGMENTS n && nat_le n MOST_SEGMENTS
 fits r line.Events = true
 fits r (line.Plain w count) = count_fits r count
 fits r (line.Pick w pick count) = nat_lt pick PLACES && count_fits r count
@@ -167,6 +169,7 @@ after r (line.Depth d) = record r { depth = Some d }
 after r (line.Queue q) = record r { queue = Some q }
 after r (line.Cut n) = record r { cut = Some n }
 after r line.Elevator = record r { elevator = true }
+after r (line.Flash n) = record r { flash = Some n }
 after r (line.Put block value k) = with_request r (put_request (length r.puts) block value k)
 after r line.Flush = with_request r (flush_request (length r.puts))
 after r line.Events = record r { section = sections.Events }
@@ -204,7 +207,7 @@ abbrev pub read_line : ℕ → Option Reading → List ℕ → Result (Option Re
 read_line n reading l = line_read read_one n reading l
 
 abbrev pub script_read : Reading → Script
-script_read r = record { kind = r.form; header = record { depth = unwrap_or r.depth DEFAULT_DEPTH; queue = unwrap_or r.queue DEFAULT_QUEUE; cut = r.cut; elevator = r.elevator }; puts = r.puts; events = r.events }
+script_read r = record { kind = r.form; header = record { depth = unwrap_or r.depth DEFAULT_DEPTH; queue = unwrap_or r.queue DEFAULT_QUEUE; cut = r.cut; elevator = r.elevator; flash = r.flash }; puts = r.puts; events = r.events }
 
 abbrev pub ended_in : ℕ → Reading → Section → Result Script (ℕ × ScriptKind)
 ended_in n r sections.Events = Ok (script_read r)
@@ -244,5 +247,6 @@ pub record IsRunnable (s : Script) : Type 0 where
   pub depth : s.header.depth ≤ MOST_DEPTH
   pub some_queue : 1 ≤ s.header.queue
   pub queue : s.header.queue ≤ MOST_QUEUE
+  pub flash : (n : ℕ) → s.header.flash ≡ Some n → (FEWEST_SEGMENTS ≤ n) × (n ≤ MOST_SEGMENTS)
   pub few : length s.puts ≤ MOST_REQUESTS
   pub requests : (i : ℕ) (q : Request) → slice_get s.puts i ≡ Some q → IsRequestOf (blocks_of s) i q

@@ -36,6 +36,7 @@ header_word w =
     else if bytes_eq w (codes "cut") then Some header.Cut
     else if bytes_eq w (codes "fail") then Some header.Fail
     else if bytes_eq w (codes "elevator") then Some header.Elevator
+    else if bytes_eq w (codes "flash") then Some header.Flash
     else None
 
 abbrev pub body_word : List ℕ → Option BodyWord
@@ -114,6 +115,7 @@ header_line header.Depth (d ∷ []) = option_map line.Depth (numeral d)
 header_line header.Queue (q ∷ []) = option_map line.Queue (numeral q)
 header_line header.Cut (n ∷ []) = option_map line.Cut (numeral n)
 header_line header.Elevator [] = Some line.Elevator
+header_line header.Flash (n ∷ []) = option_map line.Flash (numeral n)
 header_line w ws = None
 
 abbrev pub put_line : List ℕ → List ℕ → List ℕ → Option Line

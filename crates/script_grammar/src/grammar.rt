@@ -7,8 +7,8 @@ ghost use Rattle.script_grammar.specs.code.Readers.{IsReadAs, IsTextReadAs};
 
 use crate::kinds::ScriptKind;
 use crate::limits::{
-    DEFAULT_DEPTH, DEFAULT_QUEUE, MOST_BLOCKS, MOST_DEPTH, MOST_QUEUE, MOST_REQUESTS,
-    MOST_SCRIPT_BYTES, MOST_STEPS,
+    DEFAULT_DEPTH, DEFAULT_QUEUE, FEWEST_SEGMENTS, MOST_BLOCKS, MOST_DEPTH, MOST_QUEUE,
+    MOST_REQUESTS, MOST_SCRIPT_BYTES, MOST_SEGMENTS, MOST_STEPS,
 };
 use crate::line_forms::read_line_of;
 use crate::reading::{Reading, Section};
@@ -75,6 +75,7 @@ fn new_reading(alloc: Global, form: Form) -> Reading
         queue: None,
         cut: None,
         elevator: false,
+        flash: None,
         section: Section::Header,
         puts: RequestList::new(alloc),
         events: Events::new(alloc),
@@ -162,6 +163,7 @@ fn stood_before(reading: &Reading, word: Word) -> bool
         Word::Header(HeaderWord::Queue) => reading.queue.is_some(),
         Word::Header(HeaderWord::Cut) => reading.cut.is_some(),
         Word::Header(HeaderWord::Elevator) => reading.elevator,
+        Word::Header(HeaderWord::Flash) => reading.flash.is_some(),
         _ => false,
     }
 }
@@ -185,6 +187,7 @@ fn fits(reading: &Reading, line: Line) -> bool
         Line::Depth(depth) => depth >= 1 && depth <= MOST_DEPTH,
         Line::Queue(queue) => queue >= 1 && queue <= MOST_QUEUE,
         Line::Cut(steps) => steps <= MOST_STEPS,
+        Line::Flash(segments) => segments >= FEWEST_SEGMENTS && segments <= MOST_SEGMENTS,
         Line::Put { block, .. } => {
             block < u64::from(form_blocks(reading.form)) && has_room(reading)
         }
@@ -297,6 +300,10 @@ fn after(mut reading: Reading, line: Line) -> Result<Reading, NoMemory>
             reading.elevator = true;
             Ok(reading)
         }
+        Line::Flash(segments) => {
+            reading.flash = Some(segments as u32);
+            Ok(reading)
+        }
         Line::Put {
             block,
             value,
@@ -391,6 +398,7 @@ fn script_read(reading: Reading) -> Script
         queue,
         cut,
         elevator,
+        flash,
         puts,
         events,
         ..
@@ -402,6 +410,7 @@ fn script_read(reading: Reading) -> Script
             queue: queue.unwrap_or(DEFAULT_QUEUE),
             cut,
             elevator,
+            flash,
         },
         puts,
         events,

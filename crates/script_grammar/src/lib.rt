@@ -20,8 +20,8 @@ pub use grammar::read_script;
 pub use kinds::ScriptKind;
 pub use law::{accepts_what_is_spelled, reads_what_is_spelled, tells_first_fault};
 pub use limits::{
-    DEFAULT_DEPTH, DEFAULT_QUEUE, MOST_BLOCKS, MOST_DEPTH, MOST_QUEUE, MOST_REQUESTS,
-    MOST_SCRIPT_BYTES, MOST_STEPS,
+    DEFAULT_DEPTH, DEFAULT_QUEUE, FEWEST_SEGMENTS, MOST_BLOCKS, MOST_DEPTH, MOST_QUEUE,
+    MOST_REQUESTS, MOST_SCRIPT_BYTES, MOST_SEGMENTS, MOST_STEPS,
 };
 pub use script::{CoreEvent, EventLine, EventWord, Events, Form, Header, RequestList, Script};
 pub use script_error::{LineError, ScriptError, fault_at};

@@ -16,6 +16,12 @@ pub const MOST_QUEUE: u64 = 64;
 /// The latest step of the device at which a script can cut the power.
 pub const MOST_STEPS: u64 = 1_000_000_000;
 
+/// The fewest segments of a flash log.
+pub const FEWEST_SEGMENTS: u64 = 3;
+
+/// The most segments of a flash log.
+pub const MOST_SEGMENTS: u64 = 64;
+
 /// The most requests.
 pub const MOST_REQUESTS: usize = 10_000;
 

@@ -28,6 +28,7 @@ fn read_header_line(word: HeaderWord, words: &[&[u8]]) -> Option<Line>
         (HeaderWord::Queue, [queue]) => Some(Line::Queue(numeral(queue)?)),
         (HeaderWord::Cut, [steps]) => Some(Line::Cut(numeral(steps)?)),
         (HeaderWord::Elevator, []) => Some(Line::Elevator),
+        (HeaderWord::Flash, [segments]) => Some(Line::Flash(numeral(segments)?)),
         _ => None,
     }
 }

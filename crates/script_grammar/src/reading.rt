@@ -18,6 +18,7 @@ pub struct Reading {
     pub cut: Option<u64>,
     /// The line `elevator` stood.
     pub elevator: bool,
+    pub flash: Option<u32>,
     pub section: Section,
     pub puts: RequestList,
     pub events: Events,

@@ -26,6 +26,8 @@ pub struct Header {
     pub cut: Option<u64>,
     /// The scheduler is the elevator.
     pub elevator: bool,
+    /// The device is a flash log of so many segments.
+    pub flash: Option<u32>,
 }
 
 /// One step of one part of the stack.

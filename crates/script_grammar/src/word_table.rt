@@ -57,6 +57,8 @@ fn read_header_word(w: &[u8]) -> Option<HeaderWord>
         Some(HeaderWord::Fail)
     } else if w == b"elevator".as_slice() {
         Some(HeaderWord::Elevator)
+    } else if w == b"flash".as_slice() {
+        Some(HeaderWord::Flash)
     } else {
         None
     }

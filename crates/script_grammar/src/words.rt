@@ -16,6 +16,7 @@ pub enum HeaderWord {
     Cut,
     Fail,
     Elevator,
+    Flash,
 }
 
 /// The words of body lines.
@@ -70,6 +71,7 @@ pub enum Line {
     Queue(u64),
     Cut(u64),
     Elevator,
+    Flash(u64),
     Put {
         block: u64,
         value: u8,

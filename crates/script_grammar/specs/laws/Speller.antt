@@ -29,9 +29,16 @@ depth_lines s = (codes "depth" ∷ decimal s.header.depth ∷ []) ∷ []
 abbrev pub queue_lines : Script → List (List (List ℕ))
 queue_lines s = if is_scheduled s.kind then (codes "queue" ∷ decimal s.header.queue ∷ []) ∷ [] else []
 
+-- the line of a header word, where it has a number
+abbrev pub number_lines : List ℕ → Option ℕ → List (List (List ℕ))
+number_lines w None = []
+number_lines w (Some n) = (w ∷ decimal n ∷ []) ∷ []
+
 abbrev pub cut_lines : Option ℕ → List (List (List ℕ))
-cut_lines None = []
-cut_lines (Some n) = (codes "cut" ∷ decimal n ∷ []) ∷ []
+cut_lines cut = number_lines (codes "cut") cut
+
+abbrev pub flash_lines : Option ℕ → List (List (List ℕ))
+flash_lines flash = number_lines (codes "flash") flash
 
 abbrev pub elevator_lines : Bool → List (List (List ℕ))
 elevator_lines elevator = if elevator then (codes "elevator" ∷ []) ∷ [] else []
@@ -72,7 +79,7 @@ event_line_words l = what_words l.what ++ codes "x" ∷ decimal l.count ∷ []
 -- the lines of a script, each as its words
 abbrev pub script_lines : Script → List (List (List ℕ))
 script_lines s =
-    form_words s.kind ∷ depth_lines s ++ queue_lines s ++ cut_lines s.header.cut ++ elevator_lines s.header.elevator
+    form_words s.kind ∷ depth_lines s ++ queue_lines s ++ cut_lines s.header.cut ++ flash_lines s.header.flash ++ elevator_lines s.header.elevator
     ++ map request_words s.puts ++ (codes "events" ∷ []) ∷ map event_line_words s.events
 
 abbrev pub script_text : Script → List ℕ
