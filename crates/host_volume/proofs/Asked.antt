@@ -1,18 +1,16 @@
 -- What is asked of a call is the tree model's answer for every number above all births.
-use Rattle.std.specs.Prelude.{◌≡◌, ℕ, false, Ok, Err, refl}
-use Rattle.std.proofs.Common.{ap, ◌∙◌}
+use Rattle.std.specs.Prelude.{◌≡◌, ℕ, Ok, Err, refl}
+use Rattle.std.proofs.Common.{ap}
 use Rattle.tree_model.specs.declared.call.Call.{Call}
 use Rattle.tree_model.specs.Calls.{Row, outcome, needs}
 use Rattle.tree_model.specs.Plain.{AreBornBefore}
 use Rattle.volume_steps.proofs.TakeSteps.{none_born}
 use Rattle.volume_steps.specs.Now.{VolumeNow, tree_of_now, room_of}
-use Rattle.volume_steps.specs.Plain.{IsPlainNow, is_rename}
-use Rattle.volume_steps.proofs.PlainNow.{tree_is_plain}
+use Rattle.volume_steps.specs.Plain.{IsPlainNow}
 use Rattle.host_volume.specs.Calls.{refused_by, refusal, needed}
-use Rattle.host_volume.specs.Numbers.{next_birth, decided}
+use Rattle.host_volume.specs.Numbers.{next_birth}
 use Rattle.host_volume.specs.laws.Numbers.{born_before_next}
-use Rattle.host_volume.proofs.SameRows.{AreLike, decided_like, needs_same}
-use Rattle.host_volume.proofs.TreeSteps.{decided_is}
+use Rattle.host_volume.proofs.SameRows.{AreLike, outcome_like, needs_same}
 
 like_refused : (v : VolumeNow) (r s : Row) → AreLike (tree_of_now v) r s → refused_by r ≡ refused_by s
 like_refused v (Err why) (Err other) h = ap (λ x. refused_by (Err x)) h
@@ -24,12 +22,11 @@ module _ (v : VolumeNow) (n : ℕ) (c : Call) (h : IsPlainNow v) (born : AreBorn
   abbrev next : ℕ
   next = next_birth (tree_of_now v)
 
-  pub refusal_is : is_rename c ≡ false → refusal v c ≡ refused_by (outcome (room_of v.geometry) (tree_of_now v) n c)
+  pub refusal_is : refusal v c ≡ refused_by (outcome (room_of v.geometry) (tree_of_now v) n c)
   unfolding refusal
-  refusal_is other =
-      like_refused v (decided (room_of v.geometry) (tree_of_now v) next c) (decided (room_of v.geometry) (tree_of_now v) n c)
-      (decided_like (tree_of_now v) h.plain.rooted.in_order next n (none_born (tree_of_now v) next (born_before_next (tree_of_now v))) (none_born (tree_of_now v) n born) (room_of v.geometry) c)
-      ∙ ap refused_by (decided_is (room_of v.geometry) (record { tree = tree_of_now v; plain = tree_is_plain v h }) n c other n)
+  refusal_is =
+      like_refused v (outcome (room_of v.geometry) (tree_of_now v) next c) (outcome (room_of v.geometry) (tree_of_now v) n c)
+      (outcome_like (tree_of_now v) h.plain.rooted.in_order next n (none_born (tree_of_now v) next (born_before_next (tree_of_now v))) (none_born (tree_of_now v) n born) (room_of v.geometry) c)
 
   pub needed_is : needed v c ≡ needs (tree_of_now v) n c
   unfolding needed

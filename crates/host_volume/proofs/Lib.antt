@@ -6,6 +6,7 @@ pub mod Pages
 pub mod FoundPaths
 pub mod WalkedZones
 pub mod SameRows
+pub mod SameNames
 pub mod TreeSteps
 pub mod Standing
 pub mod Telling

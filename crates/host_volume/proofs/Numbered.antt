@@ -1,7 +1,6 @@
 -- The entries of a history number its calls, and its trees are those of the tree model.
-use Rattle.std.specs.Prelude.{◌≡◌, ℕ, zero, suc, ◌+◌, Bool, true, false, not, ◌&&◌, if◌then◌else◌, List, map, Option, Some, None, slice_get, option_map, refl}
-use Rattle.std.proofs.Common.{sym, ap, subst, ◌∙◌, inl, inr, arith}
-use Rattle.std.proofs.lemmas.Bool.{cases_Bool}
+use Rattle.std.specs.Prelude.{◌≡◌, ℕ, zero, suc, ◌+◌, Bool, true, false, if◌then◌else◌, List, map, Option, Some, None, slice_get, option_map, refl}
+use Rattle.std.proofs.Common.{sym, ap, subst, ◌∙◌, arith}
 use Rattle.std.proofs.lemmas.Option.{slice_get-map}
 use Rattle.minix_layout.specs.declared.division.Geometry.{Geometry}
 use Rattle.tree_model.specs.declared.call.Call.{Call}
@@ -13,7 +12,6 @@ use Rattle.tree_model.specs.Plain.{AreBornBefore}
 use Rattle.tree_model.proofs.PlainTrees.{call_born, new_born}
 use Rattle.volume_model.specs.laws.Trees.{In-at}
 use Rattle.volume_steps.specs.Now.{room_of}
-use Rattle.volume_steps.specs.Plain.{is_rename}
 use Rattle.crash_laws.specs.LegalHistory.{root_alone}
 use Rattle.host_machine.specs.State.{Entry}
 use Rattle.host_machine.specs.Views.{is_answered, acted, tree_after}
@@ -22,7 +20,7 @@ use Rattle.host_volume.specs.PlainTrees.{PlainTree, tree_after_call}
 use Rattle.host_volume.specs.Runs.{acting}
 use Rattle.host_volume.specs.Sessions.{model_of}
 use Rattle.host_volume.specs.laws.Numbers.{max_of_less, next_least}
-use Rattle.host_volume.proofs.TreeSteps.{after_is, rename_stays}
+use Rattle.host_volume.proofs.TreeSteps.{after_is}
 
 -- a number above all births is the call's own
 pub number_kept : (t : PlainTree) (n : ℕ) → AreBornBefore n t.tree → number_in t.tree n ≡ n
@@ -40,28 +38,21 @@ module _ {C : Type 0} (call_of : C → Call) (g : Geometry) where
   entry_born : (t : PlainTree) (n : ℕ) (e : Entry C Reply) → AreBornBefore n t.tree → AreBornBefore (n + 1) (acted (model_of call_of g) t n e).tree
   entry_born t n e born = by (is_answered e.what)
     where
-      moved : is_rename (call_of e.call) ≡ false → AreBornBefore (n + 1) (tree_after_call room t n (call_of e.call)).tree
-      moved other =
-          subst (AreBornBefore (n + 1)) (sym (after_is room t n (call_of e.call) other ∙ ap (λ k. tree_after_one room t.tree k (call_of e.call)) (number_kept t n born)))
-          (call_born room t.tree n (call_of e.call) t.plain born)
-
       called : AreBornBefore (n + 1) (tree_after_call room t n (call_of e.call)).tree
-      called = elim (cases_Bool (is_rename (call_of e.call))) [
-        | inl is ↦ subst (λ (u : PlainTree). AreBornBefore (n + 1) u.tree) (sym (rename_stays room t n (call_of e.call) is)) (later t.tree n born)
-        | inr other ↦ moved other
-      ]
+      called =
+          subst (AreBornBefore (n + 1)) (sym (after_is room t n (call_of e.call) ∙ ap (λ k. tree_after_one room t.tree k (call_of e.call)) (number_kept t n born)))
+          (call_born room t.tree n (call_of e.call) t.plain born)
 
       by : (b : Bool) → AreBornBefore (n + 1) (if b then tree_after_call room t n (call_of e.call) else t).tree
       by true = called
       by false = later t.tree n born
 
   entry_tree : (t : PlainTree) (n : ℕ) (e : Entry C Reply) → AreBornBefore n t.tree → (acted (model_of call_of g) t n e).tree ≡ tree_after_entry room t.tree n (Some (acting call_of e))
-  entry_tree t n e born = by (is_answered e.what) (is_rename (call_of e.call)) refl
+  entry_tree t n e born = by (is_answered e.what)
     where
-      by : (a b : Bool) → is_rename (call_of e.call) ≡ b → (if a then tree_after_call room t n (call_of e.call) else t).tree ≡ tree_after_entry room t.tree n (Some (if a && not b then Some (call_of e.call) else None))
-      by false b is = refl
-      by true true is = ap (λ (u : PlainTree). u.tree) (rename_stays room t n (call_of e.call) is)
-      by true false other = after_is room t n (call_of e.call) other ∙ ap (λ k. tree_after_one room t.tree k (call_of e.call)) (number_kept t n born)
+      by : (a : Bool) → (if a then tree_after_call room t n (call_of e.call) else t).tree ≡ tree_after_entry room t.tree n (Some (if a then Some (call_of e.call) else None))
+      by false = refl
+      by true = after_is room t n (call_of e.call) ∙ ap (λ k. tree_after_one room t.tree k (call_of e.call)) (number_kept t n born)
 
   -- ---- all entries
 

@@ -4,7 +4,7 @@ use Rattle.std.proofs.Common.{sym, ap, ◌∙◌, arith}
 use Rattle.std.proofs.lemmas.Option.{none-some, same_Some}
 use Rattle.tree_model.specs.declared.call.Call.{Call}
 use Rattle.tree_model.specs.declared.call.Reply.{Reply}
-use Rattle.tree_model.specs.Calls.{Row}
+use Rattle.tree_model.specs.Calls.{Row, outcome}
 use Rattle.volume_steps.proofs.TakeSteps.{none_born}
 use Rattle.zone_maps.specs.Zones.{state_of}
 use Rattle.zone_maps.specs.declared.zone_state.ZoneState.TheVariants as states
@@ -18,7 +18,7 @@ use Rattle.host_runs.specs.Runs.{HasBlocks}
 use Rattle.minix_layout.specs.declared.division.Geometry.{Geometry}
 use Rattle.host_volume.specs.ByteCalls.{ByteCall}
 use Rattle.host_volume.specs.Calls.{refused_by, refusal, needed, would_change, kind_of, done_as}
-use Rattle.host_volume.specs.Numbers.{next_birth, number_in, decided}
+use Rattle.host_volume.specs.Numbers.{next_birth, number_in}
 use Rattle.host_volume.specs.PlainTrees.{PlainTree, tree_after_call, call_writes, call_alters}
 use Rattle.host_volume.specs.Sessions.{Opening, over, Stands}
 use Rattle.host_volume.specs.Volumes.{is_metadata, zone_of, zones_of}
@@ -37,12 +37,12 @@ refused_row (Ok d) why e = absurd (none-some why e)
 
 module _ (s : Opening) (v : VolumeNow) (t : PlainTree) (h : Stands s v t) (c : Call) (why : Reply) (refused : refusal v c ≡ Some why) where
   -- the tree refuses it too, whatever its number
-  refused_next : decided (room_of s.geometry) t.tree (next_birth t.tree) c ≡ Err why
+  refused_next : outcome (room_of s.geometry) t.tree (next_birth t.tree) c ≡ Err why
   unfolding refusal
   refused_next =
-      ap (λ tree. decided (room_of s.geometry) tree (next_birth tree) c) (sym h.tree)
-      ∙ (ap (λ g. decided (room_of g) (tree_of_now v) (next_birth (tree_of_now v)) c) (sym h.geometry)
-      ∙ refused_row (decided (room_of v.geometry) (tree_of_now v) (next_birth (tree_of_now v)) c) why refused)
+      ap (λ tree. outcome (room_of s.geometry) tree (next_birth tree) c) (sym h.tree)
+      ∙ (ap (λ g. outcome (room_of g) (tree_of_now v) (next_birth (tree_of_now v)) c) (sym h.geometry)
+      ∙ refused_row (outcome (room_of v.geometry) (tree_of_now v) (next_birth (tree_of_now v)) c) why refused)
 
   stays : (n : ℕ) → tree_after_call (room_of s.geometry) t n c ≡ t
   stays n =

@@ -14,8 +14,6 @@ use Rattle.tree_model.specs.laws.MapOrder.{InOrder}
 use Rattle.tree_model.proofs.Outcomes.{slot_needs}
 use Rattle.tree_model.proofs.Rows.{parent_ok}
 use Rattle.volume_steps.proofs.TakeSteps.{mkdir_takes, create_takes}
-use Rattle.volume_steps.specs.Plain.{is_rename}
-use Rattle.host_volume.specs.Numbers.{decided}
 
 -- the same refusal; or as much is taken
 abbrev pub AreLike : Tree → Row → Row → Type 0
@@ -79,7 +77,7 @@ module _ (tree : Tree) where
     row_like (calls.Create path) = create_like path
     row_like other = like_itself (row tree n other)
 
-    -- ---- what is decided
+    -- ---- outcomes
 
     room_like : (room : Room) (d e : Done) → AreLike tree (Ok d) (Ok e) → AreLike tree (if_room room tree d) (if_room room tree e)
     room_like room d e h =
@@ -93,17 +91,9 @@ module _ (tree : Tree) where
     rows_room room (Err why) (Ok e) h = absurd h
     rows_room room (Ok d) (Err other) h = absurd h
 
-    outcome_like : (room : Room) (c : Call) → AreLike tree (outcome room tree n c) (outcome room tree m c)
+    pub outcome_like : (room : Room) (c : Call) → AreLike tree (outcome room tree n c) (outcome room tree m c)
     unfolding outcome
     outcome_like room c = rows_room room (row tree n c) (row tree m c) (row_like c)
-
-    pub decided_like : (room : Room) (c : Call) → AreLike tree (decided room tree n c) (decided room tree m c)
-    unfolding decided
-    decided_like room c = by (is_rename c)
-      where
-        by : (t : Bool) → AreLike tree (if t then Err replies.Invalid else outcome room tree n c) (if t then Err replies.Invalid else outcome room tree m c)
-        by true = refl
-        by false = outcome_like room c
 
     err_like : (r s : Row) (why : Reply) → AreLike tree r s → r ≡ Err why → s ≡ Err why
     err_like (Err one) (Err other) why h e = ap Err (sym h) ∙ e
@@ -112,8 +102,8 @@ module _ (tree : Tree) where
     err_like (Ok d) (Ok f) why h e = (let never : ◌≡◌ {A = Row} (Ok d) (Err why) = e in absurd (cc never))
 
     -- a refusal is one for each number
-    pub refused_same : (room : Room) (c : Call) (why : Reply) → decided room tree n c ≡ Err why → decided room tree m c ≡ Err why
-    refused_same room c why e = err_like (decided room tree n c) (decided room tree m c) why (decided_like room c) e
+    pub refused_same : (room : Room) (c : Call) (why : Reply) → outcome room tree n c ≡ Err why → outcome room tree m c ≡ Err why
+    refused_same room c why e = err_like (outcome room tree n c) (outcome room tree m c) why (outcome_like room c) e
 
     pub needs_same : (c : Call) → needs tree n c ≡ needs tree m c
     unfolding needs

@@ -31,10 +31,10 @@ use Rattle.tree_model.proofs.Rows.{walk_path_ok}
 use Rattle.volume_model.proofs.ImageSlots.{key_found}
 use Rattle.volume_model.specs.laws.Trees.{found_above}
 use Rattle.volume_steps.specs.Now.{VolumeNow, tree_of_now, room_of}
-use Rattle.volume_steps.specs.Plain.{IsPlainNow, is_rename}
+use Rattle.volume_steps.specs.Plain.{IsPlainNow}
 use Rattle.volume_steps.proofs.PlainNow.{tree_is_plain}
-use Rattle.host_volume.specs.Calls.{refusal, would_change, cuts_nothing, keeps_size, keeps_file}
-use Rattle.host_volume.proofs.Telling.{no_rename}
+use Rattle.host_volume.specs.Calls.{refusal, would_change, cuts_nothing, keeps_size, keeps_file, names_one}
+use Rattle.host_volume.proofs.SameNames.{same_names_keep_tree}
 use Rattle.host_volume.proofs.TreeSteps.{not_true, not_false}
 
 -- ---- a file that is cut where it ends
@@ -176,26 +176,27 @@ module _ (room : Room) (tree : Tree) (plain : IsPlain tree) (n : ℕ) (path : Li
 pub data IsStill (tree : Tree) : Call → Type 0 where
   quiet : {c : Call} → leaves_tree c ≡ true → IsStill tree c
   cut : (path : List ℕ) (size : ℕ) → cuts_nothing tree path size ≡ true → IsStill tree (calls.Truncate path size)
+  named_alike : (path other : List ℕ) → names_one tree path other ≡ true → IsStill tree (calls.Rename path other)
 
-is_still : (v : VolumeNow) (c : Call) → is_rename c ≡ false → would_change v c ≡ false → IsStill (tree_of_now v) c
+is_still : (v : VolumeNow) (c : Call) → would_change v c ≡ false → IsStill (tree_of_now v) c
 unfolding would_change
-is_still v (calls.Mkdir path) other still = absurd (true≢false still)
-is_still v (calls.Rmdir path) other still = absurd (true≢false still)
-is_still v (calls.Create path) other still = absurd (true≢false still)
-is_still v (calls.Unlink path) other still = absurd (true≢false still)
-is_still v (calls.Link path more) other still = absurd (true≢false still)
-is_still v (calls.Rename path more) other still = absurd (true≢false other)
-is_still v (calls.Truncate path size) other still = cut path size (not_false (cuts_nothing (tree_of_now v) path size) still)
-is_still v (calls.Write path off len value) other still = absurd (true≢false still)
-is_still v (calls.Bytes path off bytes) other still = absurd (true≢false still)
-is_still v (calls.Read path off len) other still = quiet refl
-is_still v (calls.List path) other still = quiet refl
-is_still v (calls.Stat path) other still = quiet refl
-is_still v (calls.Fsync path) other still = quiet refl
-is_still v (calls.Fdatasync path) other still = quiet refl
-is_still v (calls.Fbarrier path) other still = quiet refl
-is_still v (calls.Fdatabarrier path) other still = quiet refl
-is_still v calls.Sync other still = quiet refl
+is_still v (calls.Mkdir path) still = absurd (true≢false still)
+is_still v (calls.Rmdir path) still = absurd (true≢false still)
+is_still v (calls.Create path) still = absurd (true≢false still)
+is_still v (calls.Unlink path) still = absurd (true≢false still)
+is_still v (calls.Link path more) still = absurd (true≢false still)
+is_still v (calls.Rename path more) still = named_alike path more (not_false (names_one (tree_of_now v) path more) still)
+is_still v (calls.Truncate path size) still = cut path size (not_false (cuts_nothing (tree_of_now v) path size) still)
+is_still v (calls.Write path off len value) still = absurd (true≢false still)
+is_still v (calls.Bytes path off bytes) still = absurd (true≢false still)
+is_still v (calls.Read path off len) still = quiet refl
+is_still v (calls.List path) still = quiet refl
+is_still v (calls.Stat path) still = quiet refl
+is_still v (calls.Fsync path) still = quiet refl
+is_still v (calls.Fdatasync path) still = quiet refl
+is_still v (calls.Fbarrier path) still = quiet refl
+is_still v (calls.Fdatabarrier path) still = quiet refl
+is_still v calls.Sync still = quiet refl
 
 -- the tree stays, and no block of a file is written
 still_changes : (room : Room) (tree : Tree) → IsPlain tree → (n : ℕ) (c : Call) → IsStill tree c → (tree_after room tree n c ≡ tree) × ((birth index : ℕ) → writes room tree n c birth index ≡ false)
@@ -204,7 +205,9 @@ still_changes room tree plain n c (quiet leaves) =
     (quiet_stays room tree n c leaves, λ birth index. and_right (is_ok (reply_of room tree n c)) (touches tree c birth index) (quiet_touches tree c birth index leaves))
 still_changes room tree plain n c (cut path size keeps) =
     (tree_kept room tree plain n path size keeps, λ birth index. and_right (is_ok (reply_of room tree n (calls.Truncate path size))) (touches tree (calls.Truncate path size) birth index) (none_touched room tree plain n path size keeps birth index))
+still_changes room tree plain n c (named_alike path other same) =
+    (same_names_keep_tree room tree n path other same, λ birth index. and_right (is_ok (reply_of room tree n (calls.Rename path other))) false refl)
 
 pub still_calls : (v : VolumeNow) (n : ℕ) (c : Call) → IsPlainNow v → refusal v c ≡ None → would_change v c ≡ false →
     (tree_after (room_of v.geometry) (tree_of_now v) n c ≡ tree_of_now v) × ((birth index : ℕ) → writes (room_of v.geometry) (tree_of_now v) n c birth index ≡ false)
-still_calls v n c h none still = still_changes (room_of v.geometry) (tree_of_now v) (tree_is_plain v h) n c (is_still v c (no_rename v c none) still)
+still_calls v n c h none still = still_changes (room_of v.geometry) (tree_of_now v) (tree_is_plain v h) n c (is_still v c still)

@@ -1,6 +1,6 @@
 -- What a call tells the host.
 use Rattle.std.specs.List.{range_with_len}
-use Rattle.std.specs.Prelude.{◌≡◌, ◌≢◌, ◌<◌, ◌≤◌, ◌⊎◌, ℕ, true, false, List, map, length, nat_lt, Some, None, refl}
+use Rattle.std.specs.Prelude.{◌≡◌, ◌≢◌, ◌<◌, ◌⊎◌, ℕ, true, false, List, map, length, nat_lt, Some, None, refl, not}
 use Rattle.std.proofs.Common.{sym, ap, subst, ◌∙◌, inl, inr, ⊎_elim, arith, ltb-false}
 use Rattle.std.proofs.lemmas.Bool.{cases_Bool, true≢false}
 use Rattle.std.proofs.lemmas.Option.{none-some, same_Some}
@@ -9,8 +9,7 @@ use Rattle.blk_base.specs.laws.Members.{In-map, map-In}
 use Rattle.minix_layout.specs.declared.division.Geometry.{Geometry}
 use Rattle.tree_model.specs.declared.call.Call.{Call}
 use Rattle.tree_model.specs.declared.call.Call.TheVariants as calls
-use Rattle.tree_model.specs.declared.call.Reply.TheVariants as replies
-use Rattle.tree_model.specs.Calls.{takes_no_zone, tree_after, needs}
+use Rattle.tree_model.specs.Calls.{tree_after, needs}
 use Rattle.tree_model.specs.Histories.{same_file, maps_block, writes}
 use Rattle.tree_model.specs.Maps.{at_number}
 use Rattle.tree_model.proofs.Zones.{needs_none}
@@ -19,7 +18,7 @@ use Rattle.zone_maps.specs.Zones.{state_of}
 use Rattle.volume_model.specs.Touched.{IsMeta, Page, Tells as TellsBlocks}
 use Rattle.volume_steps.specs.Calls.{called}
 use Rattle.volume_steps.specs.Now.{VolumeNow, tree_of_now, room_of}
-use Rattle.volume_steps.specs.Plain.{IsPlainNow, is_rename}
+use Rattle.volume_steps.specs.Plain.{IsPlainNow}
 use Rattle.volume_steps.specs.Called.{FindsRoom}
 use Rattle.volume_steps.proofs.AllCalls.{IsAnyCall, any_call, file_listed}
 use Rattle.volume_steps.proofs.GoneFiles.{in_from}
@@ -28,12 +27,13 @@ use Rattle.host_machine.specs.Model.{FileBlock}
 use Rattle.host_machine.specs.Views.{waits_for}
 use Rattle.host_machine.specs.laws.Contract.{Tells}
 use Rattle.host_volume.specs.ByteCalls.{ByteCall}
-use Rattle.host_volume.specs.Calls.{refusal, needed, would_change, file_block, done_as}
-use Rattle.host_volume.specs.Numbers.{next_birth, number_in, decided}
+use Rattle.host_volume.specs.Calls.{refusal, needed, would_change, file_block, done_as, names_one}
+use Rattle.host_volume.specs.Numbers.{next_birth, number_in}
 use Rattle.host_volume.specs.PlainTrees.{PlainTree, tree_after_call, call_writes, call_alters}
 use Rattle.host_volume.specs.Sessions.{Opening, over, HasRoot, Stands}
 use Rattle.host_volume.specs.Volumes.{is_metadata, zone_of, zones_of}
 use Rattle.host_volume.specs.laws.Numbers.{born_before, born_before_next}
+use Rattle.host_volume.proofs.SameNames.{same_names_need_none}
 use Rattle.host_volume.proofs.Metadata.{meta_tested, tested_meta, not_meta}
 use Rattle.host_volume.proofs.Pages.{page_at, zone_page, page_zone, no_page, zone_maps, maps_zone}
 use Rattle.host_volume.proofs.BytesKept.{bytes_kept}
@@ -45,24 +45,19 @@ use Rattle.host_volume.proofs.Waiting.{waits_is, free_is, holder_of, holder_same
 
 -- ---- what a call finds
 
--- a rename is refused
-pub no_rename : (v : VolumeNow) (c : Call) → refusal v c ≡ None → is_rename c ≡ false
-unfolding refusal decided
-no_rename v c none = elim (cases_Bool (is_rename c)) [
-  | inl is ↦ absurd (none-some replies.Invalid (sym none ∙ rw is refl))
-  | inr other ↦ other
-]
-
 -- where the call would change nothing, it needs no zone
-still_needs_none : (v : VolumeNow) (c : Call) → is_rename c ≡ false → (would_change v c ≡ true) ⊎ (takes_no_zone c ≡ true)
+still_needs_none : (v : VolumeNow) → IsPlainNow v → (n : ℕ) (c : Call) → (would_change v c ≡ true) ⊎ (needs (tree_of_now v) n c ≡ 0)
 unfolding would_change
-still_needs_none v (calls.Mkdir path) e = inl refl
-still_needs_none v (calls.Create path) e = inl refl
-still_needs_none v (calls.Link path other) e = inl refl
-still_needs_none v (calls.Write path off len value) e = inl refl
-still_needs_none v (calls.Bytes path off bytes) e = inl refl
-still_needs_none v (calls.Rename path other) e = absurd (true≢false e)
-still_needs_none v other e = inr refl
+still_needs_none v h n (calls.Mkdir path) = inl refl
+still_needs_none v h n (calls.Create path) = inl refl
+still_needs_none v h n (calls.Link path other) = inl refl
+still_needs_none v h n (calls.Write path off len value) = inl refl
+still_needs_none v h n (calls.Bytes path off bytes) = inl refl
+still_needs_none v h n (calls.Rename path other) = elim (cases_Bool (names_one (tree_of_now v) path other)) [
+  | inl same ↦ inr (same_names_need_none (tree_of_now v) n path other same)
+  | inr apart ↦ inl (ap not apart)
+]
+still_needs_none v h n other = inr (needs_none (tree_of_now v) (tree_is_plain v h) n other refl)
 
 module _ (v : VolumeNow) (h : IsPlainNow v) (n : ℕ) (c : Call) (none : refusal v c ≡ None) (enough : would_change v c ≡ true → nat_lt (length (zones_of v).free) (needed v c) ≡ false) where
   abbrev N : ℕ
@@ -80,8 +75,8 @@ module _ (v : VolumeNow) (h : IsPlainNow v) (n : ℕ) (c : Call) (none : refusal
     born = born_before (tree_of_now v) n;
     enough = ⊎_elim
         (λ changes. let free = free_is v in let need = needs_is in let le = ltb-false (length (zones_of v).free) (needed v c) (enough changes) in omega arith)
-        (λ no_zone. let zero_is = needs_none (tree_of_now v) (tree_is_plain v h) N c no_zone in omega arith)
-        (still_needs_none v c (no_rename v c none));
+        (λ zero_is. omega arith)
+        (still_needs_none v h N c);
   }
 
 -- ---- after the call
@@ -103,16 +98,13 @@ module _ (s : Opening) (v : VolumeNow) (t : PlainTree) (h : Stands s v t) (n r :
   all : IsAnyCall r v number c (called v number r c).change
   all = any_call r v number c room_found
 
-  moved : is_rename c ≡ false
-  moved = no_rename v c none
-
   -- it stands for the tree that the call leaves
   tree_is : tree_of_now w ≡ (tree_after_call (room_of s.geometry) t n c).tree
   tree_is =
       all.tree_is
       ∙ (ap (λ g. tree_after (room_of g) (tree_of_now v) number c) h.geometry
       ∙ (ap (λ tree. tree_after (room_of s.geometry) tree (number_in tree n) c) h.tree
-      ∙ sym (after_is (room_of s.geometry) t n c moved)))
+      ∙ sym (after_is (room_of s.geometry) t n c)))
 
   root_kept : HasRoot w s.root
   root_kept =

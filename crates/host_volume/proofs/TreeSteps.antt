@@ -3,19 +3,18 @@ use Rattle.std.specs.Prelude.{◌≡◌, ℕ, ◌==◌, Bool, true, false, not, 
 use Rattle.std.specs.Map.{keys_of}
 use Rattle.std.specs.Ordering.{nat_cmp}
 use Rattle.std.specs.Str.{bytes_eq}
-use Rattle.std.proofs.Common.{arith, sym, ap, subst, ◌∙◌, inl, inr}
-use Rattle.std.proofs.lemmas.Bool.{cases_Bool, and_parts, true≢false, false≢true, eq-eqb}
+use Rattle.std.proofs.Common.{arith, sym, ap, subst, ◌∙◌}
+use Rattle.std.proofs.lemmas.Bool.{and_parts, true≢false, false≢true, eq-eqb}
 use Rattle.std.proofs.lemmas.Slice.Eq.{bytes_eq-Decides}
 use Rattle.blk_base.specs.Members.{In}
 use Rattle.tree_model.specs.declared.call.Call.{Call}
 use Rattle.tree_model.specs.declared.call.Call.TheVariants as calls
 use Rattle.tree_model.specs.declared.call.Reply.{Reply}
-use Rattle.tree_model.specs.declared.call.Reply.TheVariants as replies
 use Rattle.tree_model.specs.declared.call.Room.{Room}
 use Rattle.tree_model.specs.declared.node.File.{File}
 use Rattle.tree_model.specs.declared.node.Node.{Node}
 use Rattle.tree_model.specs.declared.node.Node.TheVariants as nodes
-use Rattle.tree_model.specs.Calls.{Tree, Row, outcome, tree_from, tree_after, leaves_tree, reply_of, reply_from}
+use Rattle.tree_model.specs.Calls.{Row, outcome, tree_from, tree_after, leaves_tree, reply_of, reply_from}
 use Rattle.tree_model.specs.Histories.{block_in, maps_block, same_file, writes, touches, is_ok, tree_after_entries}
 use Rattle.tree_model.specs.Maps.{at_number}
 use Rattle.tree_model.specs.Plain.{IsPlain}
@@ -25,7 +24,6 @@ use Rattle.tree_model.proofs.Causes.{refused_for, cause_not_ok}
 use Rattle.tree_model.proofs.Histories.{only_writes_map, written_is_mapped}
 use Rattle.tree_model.proofs.Outcomes.{quiet_stays}
 use Rattle.volume_model.proofs.ImageSlots.{key_found, found_key}
-use Rattle.volume_steps.specs.Plain.{is_rename}
 use Rattle.crash_laws.specs.LegalHistory.{root_alone}
 use Rattle.crash_laws.proofs.TreeHistories.{real_trees}
 use Rattle.host_machine.specs.laws.Contract.{TreeLaws}
@@ -33,21 +31,13 @@ use Rattle.flush_actor.specs.Kinds.{is_begun}
 use Rattle.minix_layout.specs.declared.division.Geometry.{Geometry}
 use Rattle.volume_steps.specs.Now.{room_of}
 use Rattle.host_volume.specs.Calls.{kind_of}
-use Rattle.host_volume.specs.Numbers.{next_birth, number_in, decided}
+use Rattle.host_volume.specs.Numbers.{next_birth, number_in}
 use Rattle.host_volume.specs.PlainTrees.{PlainTree, left_by, tree_after_call, call_writes, call_alters}
 use Rattle.host_volume.specs.Sessions.{model}
-use Rattle.host_volume.specs.laws.Numbers.{decided_plain}
+use Rattle.host_volume.specs.laws.Numbers.{outcome_plain}
 use Rattle.host_volume.proofs.SameRows.{writes_same}
 
 -- ---- kinds of calls
-
-quiet_no_rename : (c : Call) → leaves_tree c ≡ true → is_rename c ≡ false
-quiet_no_rename (calls.Rename path other) e = absurd (true≢false (sym e))
-quiet_no_rename other e = refl
-
-rename_touches : (tree : Tree) (c : Call) (birth index : ℕ) → is_rename c ≡ true → touches tree c birth index ≡ false
-rename_touches tree (calls.Rename path other) birth index e = refl
-rename_touches tree other birth index e = absurd (true≢false (sym e))
 
 pub begun_quiet : (c : Call) → is_begun (kind_of c) ≡ true → leaves_tree c ≡ true
 begun_quiet (calls.Fsync path) e = refl
@@ -75,79 +65,48 @@ module _ (room : Room) (t : PlainTree) (n : ℕ) (c : Call) where
   left_same (Err one) h why e = refl
   left_same (Ok d) h why e = (let never : ◌≡◌ {A = Row} (Ok d) (Err why) = e in absurd (cc never))
 
-  pub decided_is : is_rename c ≡ false → (n : ℕ) → decided room t.tree n c ≡ outcome room t.tree n c
-  unfolding decided
-  decided_is kept n = rw kept refl
-
-  pub rename_refused : is_rename c ≡ true → (n : ℕ) → (why : Reply) × (decided room t.tree n c ≡ Err why)
-  unfolding decided
-  rename_refused is n = (replies.Invalid, rw is refl)
-
   pub quiet_same : leaves_tree c ≡ true → tree_after_call room t n c ≡ t
   unfolding tree_after_call
   quiet_same quiet = rw quiet refl
 
-  pub refused_same_tree : (why : Reply) → decided room t.tree N c ≡ Err why → tree_after_call room t n c ≡ t
+  pub refused_same_tree : (why : Reply) → outcome room t.tree N c ≡ Err why → tree_after_call room t n c ≡ t
   unfolding tree_after_call
   refused_same_tree why e = by (leaves_tree c)
     where
-      by : (b : Bool) → (if b then t else left_by t (decided room t.tree N c) (decided_plain room t.tree n c t.plain)) ≡ t
+      by : (b : Bool) → (if b then t else left_by t (outcome room t.tree N c) (outcome_plain room t.tree n c t.plain)) ≡ t
       by true = refl
-      by false = left_same (decided room t.tree N c) (decided_plain room t.tree n c t.plain) why e
+      by false = left_same (outcome room t.tree N c) (outcome_plain room t.tree n c t.plain) why e
 
-  moved_tree : (tree_after_call room t n c).tree ≡ tree_from t.tree (decided room t.tree N c)
+  -- it is the tree model's
+  pub after_is : (tree_after_call room t n c).tree ≡ tree_after room t.tree N c
   unfolding tree_after_call tree_after
-  moved_tree = by (leaves_tree c) refl
+  after_is = by (leaves_tree c) refl
     where
-      by : (b : Bool) → leaves_tree c ≡ b → (if b then t else left_by t (decided room t.tree N c) (decided_plain room t.tree n c t.plain)).tree ≡ tree_from t.tree (decided room t.tree N c)
-      by true e = sym (ap (tree_from t.tree) (decided_is (quiet_no_rename c e) N) ∙ quiet_stays room t.tree N c e)
-      by false e = left_tree (decided room t.tree N c) (decided_plain room t.tree n c t.plain)
-
-  -- where it is no rename, it is the tree model's
-  pub after_is : is_rename c ≡ false → (tree_after_call room t n c).tree ≡ tree_after room t.tree N c
-  unfolding tree_after
-  after_is kept = moved_tree ∙ ap (tree_from t.tree) (decided_is kept N)
-
-  pub rename_stays : is_rename c ≡ true → tree_after_call room t n c ≡ t
-  rename_stays is = (let x = rename_refused is N in refused_same_tree x.0 x.1)
+      by : (b : Bool) → leaves_tree c ≡ b → (if b then t else left_by t (outcome room t.tree N c) (outcome_plain room t.tree n c t.plain)).tree ≡ tree_from t.tree (outcome room t.tree N c)
+      by true e = sym (quiet_stays room t.tree N c e)
+      by false e = left_tree (outcome room t.tree N c) (outcome_plain room t.tree n c t.plain)
 
   -- ---- what it writes
-
-  rename_writes : is_rename c ≡ true → (birth index : ℕ) → call_writes room t c birth index ≡ false
-  unfolding writes
-  rename_writes is birth index = and_none (is_ok (reply_of room t.tree (next_birth t.tree) c)) (touches t.tree c birth index) (rename_touches t.tree c birth index is)
 
   pub quiet_writes : leaves_tree c ≡ true → (birth index : ℕ) → call_writes room t c birth index ≡ false
   unfolding writes
   quiet_writes quiet birth index = and_none (is_ok (reply_of room t.tree (next_birth t.tree) c)) (touches t.tree c birth index) (quiet_touches t.tree c birth index quiet)
 
-  outcome_writes_none : (why : Reply) → outcome room t.tree (next_birth t.tree) c ≡ Err why → (birth index : ℕ) → call_writes room t c birth index ≡ false
+  pub refused_writes : (why : Reply) → outcome room t.tree (next_birth t.tree) c ≡ Err why → (birth index : ℕ) → call_writes room t c birth index ≡ false
   unfolding writes reply_of
-  outcome_writes_none why e birth index =
+  refused_writes why e birth index =
       ap (λ r. is_ok (reply_from r) && touches t.tree c birth index) e
       ∙ ap (λ b. b && touches t.tree c birth index) (cause_not_ok room t.tree (next_birth t.tree) c why (refused_for room t.tree t.plain.rooted (next_birth t.tree) c why e))
 
-  pub refused_writes : (why : Reply) → decided room t.tree (next_birth t.tree) c ≡ Err why → (birth index : ℕ) → call_writes room t c birth index ≡ false
-  refused_writes why e birth index = elim (cases_Bool (is_rename c)) [
-    | inl is ↦ rename_writes is birth index
-    | inr kept ↦ outcome_writes_none why (sym (decided_is kept (next_birth t.tree)) ∙ e) birth index
-  ]
-
   mapped_by : (birth index : ℕ) → maps_block t.tree birth index ≡ false → maps_block (tree_after_call room t n c).tree birth index ≡ true → call_writes room t c birth index ≡ true
-  mapped_by birth index none there = elim (cases_Bool (is_rename c)) [
-    | inl is ↦ absurd (true≢false (sym there ∙ (ap (λ (t : PlainTree). maps_block t.tree birth index) (rename_stays is) ∙ none)))
-    | inr kept ↦
-        writes_same room t.tree (next_birth t.tree) N c birth index
-        ∙ only_writes_map room t.tree t.plain.rooted N c birth index none (ap (λ tree. maps_block tree birth index) (sym (after_is kept)) ∙ there)
-  ]
+  mapped_by birth index none there =
+      writes_same room t.tree (next_birth t.tree) N c birth index
+      ∙ only_writes_map room t.tree t.plain.rooted N c birth index none (ap (λ tree. maps_block tree birth index) (sym after_is) ∙ there)
 
   written_by : (birth index : ℕ) → call_writes room t c birth index ≡ true → maps_block (tree_after_call room t n c).tree birth index ≡ true
-  written_by birth index wrote = elim (cases_Bool (is_rename c)) [
-    | inl is ↦ absurd (true≢false (sym wrote ∙ rename_writes is birth index))
-    | inr kept ↦
-        ap (λ tree. maps_block tree birth index) (after_is kept)
-        ∙ written_is_mapped room t.tree t.plain.rooted N c birth index (writes_same room t.tree N (next_birth t.tree) c birth index ∙ wrote)
-  ]
+  written_by birth index wrote =
+      ap (λ tree. maps_block tree birth index) after_is
+      ∙ written_is_mapped room t.tree t.plain.rooted N c birth index (writes_same room t.tree N (next_birth t.tree) c birth index ∙ wrote)
 
 -- ---- files that stay
 

@@ -1,15 +1,10 @@
 -- Calls as the host sees them: their kinds, what refuses them, what they need, and what they do.
-use Rattle.std.specs.List.{list_any}
-use Rattle.std.specs.Prelude.{ℕ, ◌*◌, ◌/◌, ◌%◌, ◌==◌, nat_le, is_some, Bool, true, false, not, ◌&&◌, ◌||◌, map, Option, Some, None, List, Ok, Err}
+use Rattle.std.specs.Prelude.{ℕ, Bool, true, false, not, map, Option, Some, None, List, Ok, Err}
 use Rattle.tree_model.specs.declared.call.Call.{Call}
 use Rattle.tree_model.specs.declared.call.Call.TheVariants as calls
 use Rattle.tree_model.specs.declared.call.Reply.{Reply}
-use Rattle.tree_model.specs.declared.node.File.{File}
-use Rattle.tree_model.specs.declared.node.Node.{Node}
-use Rattle.tree_model.specs.declared.node.Node.TheVariants as nodes
-use Rattle.tree_model.specs.Calls.{Tree, Row, walk_path, needs}
+use Rattle.tree_model.specs.Calls.{Tree, Row, walk_path, needs, outcome}
 use Rattle.tree_model.specs.Histories.{is_found_at}
-use Rattle.tree_model.specs.Maps.{at_number}
 use Rattle.volume_model.specs.Touched.{Page, Touched}
 use Rattle.volume_steps.specs.Now.{VolumeNow, tree_of_now, room_of}
 use Rattle.volume_steps.specs.Calls.{Called, called}
@@ -17,7 +12,7 @@ use Rattle.host_machine.specs.Model as host
 use Rattle.host_machine.specs.Model.{FileBlock, Applied}
 use Rattle.flush_actor.specs.declared.call_kind.CallKind.{CallKind}
 use Rattle.flush_actor.specs.declared.call_kind.CallKind.TheVariants.{Reading, Changing, FileBarrier, DataBarrier, FileSync, DataSync, WholeSync}
-use Rattle.host_volume.specs.Numbers.{next_birth, number_in, decided}
+use Rattle.host_volume.specs.Numbers.{next_birth, number_in}
 pub use Rattle.volume_steps.specs.Cuts.{keeps_file, keeps_size, cuts_nothing}
 
 abbrev pub kind_of : Call → CallKind
@@ -66,7 +61,7 @@ refused_by (Ok done) = None
 
 -- no number of the call changes what refuses it, or how many zones it needs
 unfoldable pub refusal : VolumeNow → Call → Option Reply
-refusal v c = refused_by (decided (room_of v.geometry) (tree_of_now v) (next_birth (tree_of_now v)) c)
+refusal v c = refused_by (outcome (room_of v.geometry) (tree_of_now v) (next_birth (tree_of_now v)) c)
 
 unfoldable pub needed : VolumeNow → Call → ℕ
 needed v c = needs (tree_of_now v) (next_birth (tree_of_now v)) c

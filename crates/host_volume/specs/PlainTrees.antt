@@ -2,14 +2,14 @@
 use Rattle.std.specs.Prelude.{ℕ, Bool, not, if◌then◌else◌, Ok, Err}
 use Rattle.tree_model.specs.declared.call.Call.{Call}
 use Rattle.tree_model.specs.declared.call.Room.{Room}
-use Rattle.tree_model.specs.Calls.{Tree, Row, tree_from, leaves_tree}
+use Rattle.tree_model.specs.Calls.{Tree, Row, outcome, tree_from, leaves_tree}
 use Rattle.tree_model.specs.Histories.{same_file, writes}
 use Rattle.tree_model.specs.Maps.{at_number}
 use Rattle.tree_model.specs.Plain.{IsPlain}
 use Rattle.tree_model.proofs.PlainTrees.{new_plain}
 use Rattle.crash_laws.specs.LegalHistory.{root_alone}
-use Rattle.host_volume.specs.Numbers.{next_birth, number_in, decided}
-use Rattle.host_volume.specs.laws.Numbers.{decided_plain}
+use Rattle.host_volume.specs.Numbers.{next_birth, number_in}
+use Rattle.host_volume.specs.laws.Numbers.{outcome_plain}
 
 pub record PlainTree : Type 0 where
   pub tree : Tree
@@ -27,7 +27,7 @@ left_by t (Ok done) plain = record { tree = done.tree; plain = plain }
 -- what the call with this number leaves
 unfoldable pub tree_after_call : Room → PlainTree → ℕ → Call → PlainTree
 tree_after_call room t n c =
-    if leaves_tree c then t else left_by t (decided room t.tree (number_in t.tree n) c) (decided_plain room t.tree n c t.plain)
+    if leaves_tree c then t else left_by t (outcome room t.tree (number_in t.tree n) c) (outcome_plain room t.tree n c t.plain)
 
 -- the call writes this block of this file
 abbrev pub call_writes : Room → PlainTree → Call → ℕ → ℕ → Bool

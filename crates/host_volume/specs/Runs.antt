@@ -1,5 +1,5 @@
 -- Sessions on a volume: what they are opened with, and what their histories have of the tree model.
-use Rattle.std.specs.Prelude.{◌≡◌, ◌≢◌, ℕ, ◌+◌, ◌<◌, ◌≤◌, not, ◌&&◌, if◌then◌else◌, List, length, map, Option, Some, None, Ok}
+use Rattle.std.specs.Prelude.{◌≡◌, ◌≢◌, ℕ, ◌+◌, ◌<◌, ◌≤◌, if◌then◌else◌, List, length, map, Option, Some, None, Ok}
 use Rattle.log_model.specs.Log.{Commits}
 use Rattle.log_model.specs.Marks.{Transaction}
 use Rattle.log_model.specs.Ring.{IsPlace}
@@ -11,7 +11,7 @@ use Rattle.tree_model.specs.Histories.{tree_after_entries}
 use Rattle.tree_model.specs.Trees.{AreAlike}
 use Rattle.volume_ops.specs.Volume.{disk_of, tree_of}
 use Rattle.volume_steps.specs.Now.{VolumeNow, tree_of_now, room_of}
-use Rattle.volume_steps.specs.Plain.{IsPlainNow, is_rename}
+use Rattle.volume_steps.specs.Plain.{IsPlainNow}
 pub use Rattle.volume_steps.specs.NewNow.{new_now}
 use Rattle.journal_ring.specs.LogRing.{LogRing}
 use Rattle.crash_laws.specs.LegalHistory.{root_alone}
@@ -30,10 +30,9 @@ use Rattle.host_volume.specs.ByteCalls.{ByteCall}
 use Rattle.host_volume.specs.Volumes.{HaveBytes}
 use Rattle.host_volume.specs.Sessions.{Opening, over, HasRoot, Stands}
 
--- The call of an entry that acts on the tree, as the tree model has it, where `call_of` says which call an entry has.
--- Renames are refused.
+-- the call of an entry that acts on the tree, as the tree model has it, where `call_of` says which call an entry has
 abbrev pub acting : {C : Type 0} → (C → Call) → Entry C Reply → Option Call
-acting call_of e = if is_answered e.what && not (is_rename (call_of e.call)) then Some (call_of e.call) else None
+acting call_of e = if is_answered e.what then Some (call_of e.call) else None
 
 abbrev pub call_of_entry : Entry ByteCall Reply → Option Call
 call_of_entry e = acting (λ c. c.call) e

@@ -6,8 +6,6 @@
 //! as code has them, `specs/PlainTrees` and `specs/Numbers` the trees with the numbers of calls, `specs/Paths` where a
 //! walk finds a file, and `specs/Runs` runs of a session with what a power cut leaves of them.
 //!
-//! Renames are not built yet: each is refused as `Invalid`, by `decided` of `specs/Numbers`.
-//!
 //! The public functions do nothing when they are called: each is a law, and its clauses say it.
 #![tactic(auto)]
 

@@ -1,5 +1,5 @@
 -- Each node was born before the number that a call has, so a call leaves a plain tree plain.
-use Rattle.std.specs.Prelude.{◌≡◌, ℕ, ◌+◌, ◌<◌, ◌≤◌, nat_lt, Bool, true, false, if◌then◌else◌, List, [], ◌∷◌, Some, Err, refl}
+use Rattle.std.specs.Prelude.{◌≡◌, ℕ, ◌+◌, ◌<◌, ◌≤◌, nat_lt, Bool, true, false, if◌then◌else◌, List, [], ◌∷◌, Some, refl}
 use Rattle.std.proofs.Common.{inl, inr, arith}
 use Rattle.std.proofs.lemmas.Bool.{cases_Bool}
 use Rattle.std.proofs.lemmas.Option.{none-some}
@@ -7,7 +7,6 @@ use Rattle.std.specs.BTreeMap.{is_at}
 use Rattle.std.specs.Ordering.{nat_cmp}
 use Rattle.blk_base.specs.Members.{In}
 use Rattle.tree_model.specs.declared.call.Call.{Call}
-use Rattle.tree_model.specs.declared.call.Reply.TheVariants as replies
 use Rattle.tree_model.specs.declared.call.Room.{Room}
 use Rattle.tree_model.specs.declared.node.Node.{Node}
 use Rattle.tree_model.specs.Calls.{Tree, max, outcome, tree_from, tree_after}
@@ -15,8 +14,7 @@ use Rattle.tree_model.specs.Maps.{at_number}
 use Rattle.tree_model.specs.laws.MapsLaws.{number_same}
 use Rattle.tree_model.specs.Plain.{IsPlain, AreBornBefore}
 use Rattle.tree_model.proofs.PlainTrees.{call_plain}
-use Rattle.volume_steps.specs.Plain.{is_rename}
-use Rattle.host_volume.specs.Numbers.{next_birth, number_in, decided}
+use Rattle.host_volume.specs.Numbers.{next_birth, number_in}
 
 pub max_left : (a b : ℕ) → a ≤ max a b
 max_left a b = by (nat_lt a b) refl
@@ -68,10 +66,6 @@ next_least (x ∷ xs) n h =
     by false here rest = omega arith
 
 -- A call leaves a plain tree plain.
-pub decided_plain : (room : Room) (tree : Tree) (n : ℕ) (c : Call) → IsPlain tree → IsPlain (tree_from tree (decided room tree (number_in tree n) c))
-unfolding decided tree_after
-decided_plain room tree n c plain = by (is_rename c)
-  where
-    by : (t : Bool) → IsPlain (tree_from tree (if t then Err replies.Invalid else outcome room tree (number_in tree n) c))
-    by true = plain
-    by false = call_plain room tree (number_in tree n) c plain (born_before tree n)
+pub outcome_plain : (room : Room) (tree : Tree) (n : ℕ) (c : Call) → IsPlain tree → IsPlain (tree_from tree (outcome room tree (number_in tree n) c))
+unfolding tree_after
+outcome_plain room tree n c plain = call_plain room tree (number_in tree n) c plain (born_before tree n)

@@ -9,7 +9,7 @@ ghost use Rattle.zone_maps.specs.declared.zone_state.ZoneState.TheVariants as st
 ghost use Rattle.zone_maps.specs.Zones.{state_of};
 ghost use Rattle.volume_model.specs.Touched.{IsMeta, HasPage};
 ghost use Rattle.volume_steps.specs.Now.{VolumeNow, tree_of_now, room_of};
-ghost use Rattle.volume_steps.specs.Plain.{IsPlainNow, is_rename};
+ghost use Rattle.volume_steps.specs.Plain.{IsPlainNow};
 ghost use Rattle.host_machine.specs.Views.{waits_for};
 ghost use Rattle.host_machine.specs.laws.Contract.{Contract};
 ghost use Rattle.host_runs.specs.Runs.{HasBlocks};
@@ -40,7 +40,7 @@ pub fn volumes_are_seen_as_they_are()
 /// A law, which does nothing when it is called: what the host asks of a call before it is done, what refuses it and how
 /// many zones it needs, is what the tree model says of the call with any number above all births.
 pub fn calls_are_asked_without_a_number()
-    ensures refusal { (v : VolumeNow) (n : ℕ) (c : Call) → IsPlainNow v → AreBornBefore n (tree_of_now v) → is_rename c ≡ false →
+    ensures refusal { (v : VolumeNow) (n : ℕ) (c : Call) → IsPlainNow v → AreBornBefore n (tree_of_now v) →
         refusal v c ≡ refused_by (outcome (room_of v.geometry) (tree_of_now v) n c) }
     ensures needed { (v : VolumeNow) (n : ℕ) (c : Call) → IsPlainNow v → AreBornBefore n (tree_of_now v) →
         needed v c ≡ needs (tree_of_now v) n c }
