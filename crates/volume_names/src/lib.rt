@@ -21,7 +21,11 @@ mod names;
 mod nodes;
 
 pub use creation::create;
+pub use directories::{NewSlot, slot_of};
+pub use entries::enter;
 pub use inode_map::InodeMap;
 pub use linking::link;
 pub use making::mkdir;
 pub use marks::mark_inode;
+pub use names::write_name;
+pub use nodes::{add_link, number_of};

@@ -1,7 +1,9 @@
+pub mod SlotWritten
 pub mod NameTaken
 pub mod Metadata
 pub mod Dropped
 pub mod Taken
+pub mod Losing
 pub mod Unlinked
 pub mod Removed
 pub mod Callers

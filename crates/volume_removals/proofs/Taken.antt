@@ -1,13 +1,16 @@
 -- After a name was taken out of a directory, or a link from it: other nodes are as before, with their zones.
-use Rattle.std.specs.Prelude.{◌≡◌, ◌≢◌, ◌-◌, ◌≤◌, ℕ, List, Some, refl}
+use Rattle.std.specs.Prelude.{◌≡◌, ◌≢◌, ◌-◌, ◌≤◌, ℕ, List, Option, Some, None, refl}
 use Rattle.std.specs.List.Sorted.{IsStrictlySortedBy}
 use Rattle.std.specs.Map.{keys_of}
 use Rattle.std.proofs.Common.{ap, ◌∙◌, arith}
+use Rattle.minix_layout.specs.declared.slot.Slot.{Slot}
 use Rattle.tree_model.specs.Maps.{at_number, name_cmp}
 use Rattle.tree_model.specs.laws.MapsLaws.{at_put_number_apart}
 use Rattle.volume_ops.specs.Places.{table_block}
 use Rattle.volume_model.specs.declared.placed.Placed.{Placed}
-use Rattle.volume_model.specs.Edits.{put_inode, put_slot}
+use Rattle.volume_model.specs.declared.placed.DirectoryPart.{DirectoryPart}
+use Rattle.volume_model.specs.Edits.{put_slot}
+use Rattle.volume_model.specs.Moves.{without_name}
 use Rattle.volume_model.specs.laws.Changes.{table_below}
 use Rattle.volume_model.specs.laws.Edits.{edited_elsewhere}
 use Rattle.volume_model.specs.laws.Written.{zone_kept}
@@ -15,14 +18,14 @@ use Rattle.volume_model.specs.Trees.{directory_from, node_from}
 use Rattle.volume_model.specs.Volume.{Place, block, zone_in}
 use Rattle.volume_steps.specs.Now.{VolumeNow, Change}
 use Rattle.volume_steps.specs.Plain.{IsInUse, IsPlainNow}
-use Rattle.volume_steps.specs.Steps.{set_links, take_name}
-use Rattle.volume_steps.proofs.NameSteps.{taken, taken_steady, taken_settled, taken_slotted, take_name_is}
+use Rattle.volume_steps.specs.Steps.{place_of, set_links, take_name}
+use Rattle.volume_steps.proofs.NameSteps.{taken, w, taken_steady, taken_settled, taken_slotted, take_name_is}
 use Rattle.volume_steps.proofs.NodeSteps.{IsSettled, AreSlotted}
 use Rattle.volume_steps.proofs.PlainNow.{tree_is_plain}
 use Rattle.volume_steps.proofs.QuietSteps.{linked, linked_steady, linked_slotted, set_links_is}
 use Rattle.volume_steps.proofs.TreeSteps.{tree_at}
 use Rattle.volume_removals.specs.May.{HasName}
-use Rattle.volume_removals.specs.code.Naming.{CanTake}
+use Rattle.volume_removals.specs.code.Naming.{CanTake, slot_change}
 use Rattle.volume_model.specs.laws.Back.{back_apart}
 
 -- a zone of a node lies behind the table
@@ -33,6 +36,14 @@ zone_high v h a r p n found at x some same =
     let told = h.volume.0.each n p at in
     let high = (table_below v.geometry p.number h.sound told.some told.within).1 in
     omega arith
+
+-- a slot that is written leaves the zones of other nodes as they are
+pub zones_beside : (v : VolumeNow) (h : IsInUse v) (n : ℕ) (p : Placed) → at_number v.contents.nodes n ≡ Some p → (k : ℕ) (o : Option Slot) (next : DirectoryPart) (a : ℕ) (r : Placed) → a ≢ n →
+    at_number v.contents.nodes a ≡ Some r → (x : Place) → zone_in (slot_change v n p k o next).volume.contents.blocks r.inode x ≡ zone_in v.contents.blocks r.inode x
+zones_beside v h n p at k o next a r apart found = zone_kept v.contents.blocks (slot_change v n p k o next).volume.contents.blocks r.inode (λ x some.
+    back_apart v.geometry _ p _ _ (zone_high v h a r p n found at x some)
+    ∙ edited_elsewhere v.geometry v.contents.blocks (put_slot (zone_in v.contents.blocks p.inode (block _)) _ _) _
+    (λ same. apart (h.volume.0.zones a n r p x (block _) found at same some).0))
 
 -- names of a plain directory stand in order
 pub names_sorted : (v : VolumeNow) (h : IsPlainNow v) (parent : ℕ) (name : List ℕ) (birth : ℕ) (place : HasName v parent name birth) → IsStrictlySortedBy name_cmp (keys_of place.part.names)
@@ -70,10 +81,8 @@ module _ (v : VolumeNow) (n : ℕ) (name : List ℕ) (h : CanTake v n name) wher
 
   -- with its zones
   pub less_zones : (a : ℕ) (r : Placed) → a ≢ n → at_number v.contents.nodes a ≡ Some r → (x : Place) → zone_in less.volume.contents.blocks r.inode x ≡ zone_in v.contents.blocks r.inode x
-  less_zones a r apart found = zone_kept v.contents.blocks less.volume.contents.blocks r.inode (λ x some.
-      back_apart v.geometry _ p _ _ (zone_high v h.in_use a r p n found h.place.stands x some)
-      ∙ edited_elsewhere v.geometry v.contents.blocks (put_slot (zone_in v.contents.blocks p.inode (block _)) _ _) _
-      (λ same. apart (h.in_use.volume.0.zones a n r p x (block _) found h.place.stands same some).0))
+  less_zones = zones_beside v h.in_use n p h.place.stands (place_of name h.place.part.slots) None
+      (without_name h.place.part (place_of name h.place.part.slots) (w 0 v h.in_use n p h.place.stands h.place.part h.place.is name h.birth h.place.named h.sorted).slot)
 
 -- ---- a link was taken
 

@@ -1,7 +1,6 @@
 -- A file loses a name, and goes with its last one.
-use Rattle.std.specs.Prelude.{◌≡◌, ◌≢◌, ◌<◌, ◌≤◌, ◌-◌, ℕ, nat_le, Bool, true, false, if◌then◌else◌, List, Some}
-use Rattle.std.proofs.Common.{sym, ap, subst, ◌∙◌, arith}
-use Rattle.std.proofs.lemmas.Bool.{le-leb, lt-leb}
+use Rattle.std.specs.Prelude.{◌≡◌, ◌≢◌, ◌<◌, ◌≤◌, ◌-◌, ℕ, List, Some}
+use Rattle.std.proofs.Common.{sym, ap, subst, ◌∙◌}
 use Rattle.std.proofs.lemmas.Option.{same_Some}
 use Rattle.tree_model.specs.Maps.{at_number}
 use Rattle.volume_model.specs.declared.placed.Placed.{Placed}
@@ -10,12 +9,12 @@ use Rattle.volume_steps.specs.Now.{VolumeNow, Change}
 use Rattle.volume_steps.specs.Calls.{lose_link}
 use Rattle.volume_steps.specs.Steps.{drop_node, metadata_gone, set_links, take_name}
 use Rattle.volume_steps.proofs.GoneFiles.{lists_of_file}
-use Rattle.volume_steps.proofs.QuietSteps.{at_node_is}
 use Rattle.volume_names.specs.code.Steps.{After}
 use Rattle.volume_removals.specs.May.{MayUnlink}
 use Rattle.volume_removals.specs.code.Dropping.{MayDrop, blocks_in}
 use Rattle.volume_removals.specs.code.Naming.{CanTake}
 use Rattle.volume_removals.proofs.Dropped.{may_drop}
+use Rattle.volume_removals.proofs.Losing.{link_lost, node_lost}
 use Rattle.volume_removals.proofs.Metadata.{metadata_kept}
 use Rattle.volume_removals.proofs.Taken.{can_take, less, less_is, less_in_use, less_stands, less_zones}
 
@@ -61,19 +60,12 @@ module _ (v : VolumeNow) (birth parent : ℕ) (name : List ℕ) (h : MayUnlink v
 
     -- ---- what its link is
 
-    loses : (b : Bool) → nat_le p.inode.links 1 ≡ b → (tx : ℕ) → (if b then drop_node w tx birth else set_links w birth (λ links. links - 1)) ≡ lose_link w tx birth
-    loses b e tx =
-        ap (λ (b : Bool). if b then drop_node w tx birth else set_links w birth (λ links. links - 1)) (sym e)
-        ∙ sym (at_node_is w birth p (λ p. if nat_le p.inode.links 1 then drop_node w tx birth else set_links w birth (λ links. links - 1)) there)
-
     -- it keeps another name
     pub keeps_one : (tx : ℕ) (links : ℕ) → ((q : Placed) → at_number v.contents.nodes birth ≡ Some q → links ≡ q.inode.links) → 1 < links → (before touched : Touched) (last : VolumeNow) →
         After before (set_links w birth (λ links. links - 1)) last touched → After before (lose_link w tx birth) last touched
-    keeps_one tx links told more before touched last after =
-        subst (λ c. After before c last touched) (loses false (lt-leb p.inode.links 1 (let same = told p h.stands in omega arith)) tx) after
+    keeps_one tx links told = link_lost w birth p there tx links (told p h.stands)
 
     -- or goes
     pub keeps_none : (tx : ℕ) (links : ℕ) → ((q : Placed) → at_number v.contents.nodes birth ≡ Some q → links ≡ q.inode.links) → links ≤ 1 → (before touched : Touched) (last : VolumeNow) →
         After before (drop_node w tx birth) last touched → After before (lose_link w tx birth) last touched
-    keeps_none tx links told none before touched last after =
-        subst (λ c. After before c last touched) (loses true (le-leb p.inode.links 1 (let same = told p h.stands in omega arith)) tx) after
+    keeps_none tx links told = node_lost w birth p there tx links (told p h.stands)

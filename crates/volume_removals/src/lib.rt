@@ -14,5 +14,8 @@ mod nodes;
 mod removing;
 mod unlinking;
 
+pub use gone::{blocks_of, metadata_of};
+pub use names::take_name;
+pub use nodes::{drop_node, links_of, take_link};
 pub use removing::rmdir;
-pub use unlinking::unlink;
+pub use unlinking::{room, unlink};

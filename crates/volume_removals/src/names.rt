@@ -3,7 +3,7 @@ ghost use Rattle.std.specs.Prelude.{◌≡◌, ◌≤◌, ◌+◌, IfSome, IsNon
 ghost use Rattle.dir_ops.specs.Slots.{place_of};
 ghost use Rattle.volume_steps.specs.Steps.{take_name};
 ghost use Rattle.volume_names.specs.code.Steps.{After};
-ghost use Rattle.volume_removals.specs.code.Naming.{CanTake, without_slot};
+ghost use Rattle.volume_removals.specs.code.Naming.{HasSlot, without_slot};
 
 use minix_layout::Name;
 use volume_edits::put_slot;
@@ -12,7 +12,7 @@ use volume_now::{Touched, VolumeNow, block_zone};
 
 /// Takes a name out of the directory with this birth, which keeps its size and so its inode.
 pub fn take_name(v: &mut VolumeNow, n: u64, name: &Name, touched: &mut Touched)
-    requires may { CanTake v.old n name.now }
+    requires may { HasSlot v.old n name.now }
     requires room { 2 ≤ touched.old.spare }
     ensures done { After touched.old.touched (take_name v.old n name.now) v.new touched.new.touched }
     ensures spare { touched.new.spare + 2 ≡ touched.old.spare }

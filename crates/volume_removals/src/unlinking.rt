@@ -40,8 +40,8 @@ pub fn unlink(
     Ok(touched)
 }
 
-// Room for the notes of a file that goes: three for each zone, three for its inode and two for its name.
-fn room(blocks: &[Mapped], metadata: &[u16]) -> usize
+/// Room for the notes of a file that goes: three for each zone, three for its inode and two for its name.
+pub fn room(blocks: &[Mapped], metadata: &[u16]) -> usize
     ensures { result ≡ 3 * (length blocks.now + length metadata.now) + 5 }
 {
     3 * (blocks.len() + metadata.len()) + 5

@@ -7,7 +7,7 @@ use Rattle.volume_model.specs.declared.placed.Part.TheVariants as parts
 use Rattle.volume_steps.specs.Steps.{take_name}
 use Rattle.volume_names.specs.code.Steps.{After}
 use Rattle.volume_names.proofs.Changed.{volume_of, noted_zone}
-use Rattle.volume_removals.specs.code.Naming.{CanTake}
+use Rattle.volume_removals.specs.code.Naming.{HasSlot}
 use Rattle.volume_removals.proofs.NameTaken.{stands_somewhere, place_in, same_part, taken_at}
 use Rattle.volume_removals.proofs.names.take_name.Goals as goal
 
@@ -15,7 +15,7 @@ pub unreachable-requires-in_default-remove_name : goal.unreachable-requires-in_d
 unreachable-requires-in_default-remove_name c =
     let v = c.v.inside in
     let now = volume_of v.geometry v.blocks v.nodes.entries v.zones in
-    let h : CanTake now c.args.n c.args.name.now = subst (λ s. CanTake s c.args.n c.args.name.now) (sym c.v.view_is) c.requires.may in
+    let h : HasSlot now c.args.n c.args.name.now = subst (λ s. HasSlot s c.args.n c.args.name.now) (sym c.v.view_is) c.requires.may in
     let at = sym c.get_mut.ensures.value ∙ ap option_copied_mut c.in-Some.is in
     stands_somewhere now c.args.n c.args.name.now h
     (ap (λ (d : DirectoryPart). place_of d.slots c.args.name.now) (same_part now c.args.n c.args.name.now h c.in-Some.placed.now c.in-Directory.directory at c.in-Directory.is)
@@ -25,7 +25,7 @@ pub overflow_cast-at : goal.overflow_cast-at
 overflow_cast-at c =
     let v = c.v.inside in
     let now = volume_of v.geometry v.blocks v.nodes.entries v.zones in
-    let h : CanTake now c.args.n c.args.name.now = subst (λ s. CanTake s c.args.n c.args.name.now) (sym c.v.view_is) c.requires.may in
+    let h : HasSlot now c.args.n c.args.name.now = subst (λ s. HasSlot s c.args.n c.args.name.now) (sym c.v.view_is) c.requires.may in
     let at = sym c.get_mut.ensures.value ∙ ap option_copied_mut c.in-Some.is in
     let small = place_in now c.args.n c.args.name.now h c.in-Some.placed.now c.in-Directory.directory at c.in-Directory.is c.in-Some-remove_name.at c.in-Some-remove_name.ensures.some.0 in
     omega (arith, small)
@@ -34,7 +34,7 @@ pub returns-clause-done : goal.returns-clause-done
 returns-clause-done c =
     let v = c.v.inside in
     let now = volume_of v.geometry v.blocks v.nodes.entries v.zones in
-    let h : CanTake now c.args.n c.args.name.now = subst (λ s. CanTake s c.args.n c.args.name.now) (sym c.v.view_is) c.requires.may in
+    let h : HasSlot now c.args.n c.args.name.now = subst (λ s. HasSlot s c.args.n c.args.name.now) (sym c.v.view_is) c.requires.may in
     let p : Placed = c.in-Some.placed.now in
     let q : Placed = record { number = p.number; inode = p.inode; part = parts.Directory c.remove_name.new.directory } in
     let told = c.in-Some-remove_name.ensures.some in

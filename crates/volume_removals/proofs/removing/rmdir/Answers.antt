@@ -4,11 +4,12 @@ use Rattle.volume_steps.specs.Steps.{drop_node, set_links}
 use Rattle.volume_now.specs.Noted.{Noted}
 use Rattle.volume_names.proofs.Creates.{after_then, after_nothing}
 use Rattle.volume_removals.specs.code.Dropping.{blocks_in}
+use Rattle.volume_removals.proofs.NameTaken.{has_slot}
 use Rattle.volume_removals.proofs.Removed.{takes, parent_number, may_go, no_blocks}
 use Rattle.volume_removals.proofs.removing.rmdir.Goals as goal
 
 pub take_name-requires-clause-may : goal.take_name-requires-clause-may
-take_name-requires-clause-may c = takes c.args.v.now c.args.birth c.args.parent c.args.name.now c.requires
+take_name-requires-clause-may c = has_slot c.args.v.now c.args.parent c.args.name.now (takes c.args.v.now c.args.birth c.args.parent c.args.name.now c.requires)
 
 pub take_link-requires-clause-numbers : goal.take_link-requires-clause-numbers
 take_link-requires-clause-numbers c = parent_number c.args.v.now c.args.birth c.args.parent c.args.name.now c.requires c.take_name.new.v c.take_name.ensures.done.volume_is

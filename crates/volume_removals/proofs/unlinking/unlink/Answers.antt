@@ -5,11 +5,12 @@ use Rattle.volume_steps.specs.Now.{VolumeNow}
 use Rattle.volume_now.specs.Noted.{Noted}
 use Rattle.volume_names.proofs.Creates.{after_then, after_nothing}
 use Rattle.volume_removals.specs.code.Dropping.{blocks_in}
+use Rattle.volume_removals.proofs.NameTaken.{has_slot}
 use Rattle.volume_removals.proofs.Unlinked.{takes, some_number, same_blocks, may_go, keeps_one, keeps_none}
 use Rattle.volume_removals.proofs.unlinking.unlink.Goals as goal
 
 pub take_name-requires-clause-may : goal.take_name-requires-clause-may
-take_name-requires-clause-may c = takes c.args.v.now c.args.birth c.args.parent c.args.name.now c.requires
+take_name-requires-clause-may c = has_slot c.args.v.now c.args.parent c.args.name.now (takes c.args.v.now c.args.birth c.args.parent c.args.name.now c.requires)
 
 pub take_link-requires-clause-numbers : goal.take_link-requires-clause-numbers
 take_link-requires-clause-numbers c = some_number c.args.v.now c.args.birth c.args.parent c.args.name.now c.requires c.take_name.new.v c.take_name.ensures.done.volume_is
@@ -24,7 +25,7 @@ returns-then-links_of-gt1-clause-done c =
     c.take_link.ensures.done))
 
 pub take_name-requires-2-clause-may : goal.take_name-requires-2-clause-may
-take_name-requires-2-clause-may c = takes c.args.v.now c.args.birth c.args.parent c.args.name.now c.requires
+take_name-requires-2-clause-may c = has_slot c.args.v.now c.args.parent c.args.name.now (takes c.args.v.now c.args.birth c.args.parent c.args.name.now c.requires)
 
 pub drop_node-requires-clause-may : goal.drop_node-requires-clause-may
 drop_node-requires-clause-may c =
