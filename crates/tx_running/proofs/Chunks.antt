@@ -1,5 +1,5 @@
 -- Parts of a list, one after the other.
-use Rattle.std.proofs.Common.{◌≡◌, ℕ, zero, suc, ◌+◌, ◌-◌, ◌<◌, ◌≤◌, ◌⊎◌, List, [], ◌∷◌, ◌++◌, length, map, take, drop, refl, sym, ap, subst, ◌∙◌, inl, inr, ⊎_elim, arith, append_assoc, append-nil}
+use Rattle.std.proofs.Common.{◌≡◌, ℕ, zero, suc, ◌-◌, ◌<◌, ◌≤◌, List, [], ◌∷◌, ◌++◌, length, map, take, drop, refl, sym, ap, ◌∙◌, ⊎_elim, arith, append_assoc, append-nil}
 use Rattle.std.proofs.lemmas.Bool.{cases_eq}
 use Rattle.log_model.specs.Marks.{Logged}
 use Rattle.tx_running.specs.Plan.{Writers, chunks_from, chunks, described, all_described}
@@ -33,13 +33,14 @@ cut_most m [] some = absurd (omega (arith, some))
 cut_most m (x ∷ xs) some = cut_begun m m x [] xs
 
 -- the first part has as many as fit, or all
-pub cut_first : {X : Type 0} (m n : ℕ) (xs : List X) → 0 < length xs → n ≤ suc m → n ≤ length xs → (n < suc m → n ≡ length xs) → chunks (suc m) xs ≡ take n xs ∷ chunks (suc m) (drop n xs)
-cut_first m n xs some most within all =
+cut_first : {X : Type 0} (most n : ℕ) (xs : List X) → 1 ≤ most → 0 < length xs → n ≤ most → n ≤ length xs → (n < most → n ≡ length xs) → chunks most xs ≡ take n xs ∷ chunks most (drop n xs)
+cut_first zero n xs room some fits within all = absurd (omega (arith, room))
+cut_first (suc m) n xs room some fits within all =
     ⊎_elim
     (λ e. cut_most m xs some ∙ ap (λ k. take k xs ∷ chunks (suc m) (drop k xs)) (sym e))
     (λ ne.
-    let same = all (omega (arith, most, ne)) in
-    let few : length xs ≤ suc m = omega (arith, same, most) in
+    let same = all (omega (arith, fits, ne)) in
+    let few : length xs ≤ suc m = omega (arith, same, fits) in
     cut_most m xs some
     ∙ ap (λ l. l ∷ chunks (suc m) (drop (suc m) xs)) (whole_take (suc m) xs few)
     ∙ ap (λ l. take (length xs) xs ∷ chunks (suc m) l) (whole_drop (suc m) xs few)
@@ -47,23 +48,23 @@ cut_first m n xs some most within all =
     (cases_eq n (suc m))
 
 -- one part more was added
-pub part_added : {X : Type 0} (f : List X → UnplacedBlock) (m n : ℕ) (old now new : List UnplacedBlock) (all rest : List X)
-    → now ++ map f (chunks (suc m) rest) ≡ old ++ map f (chunks (suc m) all) → new ≡ now ++ f (take n rest) ∷ []
-    → 0 < length rest → n ≤ suc m → n ≤ length rest → (n < suc m → n ≡ length rest)
-    → new ++ map f (chunks (suc m) (drop n rest)) ≡ old ++ map f (chunks (suc m) all)
-part_added f m n old now new all rest h put some most within whole =
-    ap (λ l. l ++ map f (chunks (suc m) (drop n rest))) put
-    ∙ append_assoc now (f (take n rest) ∷ []) (map f (chunks (suc m) (drop n rest)))
-    ∙ ap (λ l. now ++ map f l) (sym (cut_first m n rest some most within whole))
+pub part_added : {X : Type 0} (f : List X → UnplacedBlock) (most n : ℕ) (old now new : List UnplacedBlock) (all rest : List X)
+    → now ++ map f (chunks most rest) ≡ old ++ map f (chunks most all) → new ≡ now ++ f (take n rest) ∷ []
+    → 1 ≤ most → 0 < length rest → n ≤ most → n ≤ length rest → (n < most → n ≡ length rest)
+    → new ++ map f (chunks most (drop n rest)) ≡ old ++ map f (chunks most all)
+part_added f most n old now new all rest h put room some fits within whole =
+    ap (λ l. l ++ map f (chunks most (drop n rest))) put
+    ∙ append_assoc now (f (take n rest) ∷ []) (map f (chunks most (drop n rest)))
+    ∙ ap (λ l. now ++ map f l) (sym (cut_first most n rest room some fits within whole))
     ∙ h
 
 -- one descriptor more was added, with its bodies
-pub described_added : (w : Writers) (k sequence m n : ℕ) (old now new : List UnplacedBlock) (all rest : List Logged)
-    → now ++ all_described w k sequence (chunks (suc m) rest) ≡ old ++ all_described w k sequence (chunks (suc m) all) → new ≡ now ++ described w k sequence (take n rest)
-    → 0 < length rest → n ≤ suc m → n ≤ length rest → (n < suc m → n ≡ length rest)
-    → new ++ all_described w k sequence (chunks (suc m) (drop n rest)) ≡ old ++ all_described w k sequence (chunks (suc m) all)
-described_added w k sequence m n old now new all rest h put some most within whole =
-    ap (λ l. l ++ all_described w k sequence (chunks (suc m) (drop n rest))) put
-    ∙ append_assoc now (described w k sequence (take n rest)) (all_described w k sequence (chunks (suc m) (drop n rest)))
-    ∙ ap (λ l. now ++ all_described w k sequence l) (sym (cut_first m n rest some most within whole))
+pub described_added : (w : Writers) (k sequence most n : ℕ) (old now new : List UnplacedBlock) (all rest : List Logged)
+    → now ++ all_described w k sequence (chunks most rest) ≡ old ++ all_described w k sequence (chunks most all) → new ≡ now ++ described w k sequence (take n rest)
+    → 1 ≤ most → 0 < length rest → n ≤ most → n ≤ length rest → (n < most → n ≡ length rest)
+    → new ++ all_described w k sequence (chunks most (drop n rest)) ≡ old ++ all_described w k sequence (chunks most all)
+described_added w k sequence most n old now new all rest h put room some fits within whole =
+    ap (λ l. l ++ all_described w k sequence (chunks most (drop n rest))) put
+    ∙ append_assoc now (described w k sequence (take n rest)) (all_described w k sequence (chunks most (drop n rest)))
+    ∙ ap (λ l. now ++ all_described w k sequence l) (sym (cut_first most n rest room some fits within whole))
     ∙ h

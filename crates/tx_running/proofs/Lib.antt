@@ -1,4 +1,5 @@
 mod Adding
+mod BlockRoom
 mod Chunks
 mod Notes
 mod PlanBlocks

@@ -3,8 +3,8 @@ use Rattle.std.specs.Prelude.{ℕ, List, [], ◌∷◌, ◌++◌, map}
 use Rattle.log_model.specs.Log as model
 use Rattle.log_model.specs.Marks.{Logged}
 use Rattle.journal_blocks.specs.Blocks.{escaped}
-use Rattle.journal_blocks.specs.Super.{super_block}
-use Rattle.journal_blocks.specs.Written.{descriptor_block, revoke_block, commit_block}
+use Rattle.journal_blocks.specs.Super.{super_block, is_wide}
+use Rattle.journal_blocks.specs.Written.{descriptor_block, revoke_block, commit_block, most_tags, most_revokes}
 use Rattle.journal_blocks.specs.declared.super_block.JournalSuper.{JournalSuper}
 use Rattle.journal_blocks.specs.declared.tag.Tag.{Tag}
 use Rattle.tx_running.specs.Plan as plan
@@ -17,9 +17,11 @@ written_tag t = record { block = t.block; escaped = t.escaped }
 -- how the blocks of this journal are written
 abbrev pub writers : JournalSuper → Writers
 writers s = record {
+  most_tags = most_tags (is_wide s);
+  most_revokes = most_revokes (is_wide s);
   super = λ seq start. super_block (record s { sequence = seq; start = start });
-  revoke = revoke_block;
-  descriptor = λ seq tags. descriptor_block seq (map written_tag tags);
+  revoke = revoke_block (is_wide s);
+  descriptor = λ seq tags. descriptor_block (is_wide s) seq (map written_tag tags);
   commit = commit_block;
   stored = λ body. (escaped body).0;
   is_escaped = λ body. (escaped body).1;

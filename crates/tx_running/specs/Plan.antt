@@ -9,6 +9,9 @@ use Rattle.tx_running.specs.declared.pieces.UnplacedBlock.{UnplacedBlock}
 
 -- how the journal's blocks are written
 pub record Writers : Type 0 where
+  -- the most tags of a descriptor, and the most numbers of a revoke block
+  pub most_tags : ℕ
+  pub most_revokes : ℕ
   pub super : ℕ → ℕ → List ℕ
   pub revoke : ℕ → List ℕ → List ℕ
   pub descriptor : ℕ → List Tag → List ℕ
@@ -60,7 +63,7 @@ module _ (w : Writers) (k sequence : ℕ) where
 
   -- the log blocks before the commit block
   abbrev pub logged_blocks : List Logged → List ℕ → List UnplacedBlock
-  logged_blocks bodies revokes = map revoke_block (chunks 252 revokes) ++ all_described (chunks 122 bodies)
+  logged_blocks bodies revokes = map revoke_block (chunks w.most_revokes revokes) ++ all_described (chunks w.most_tags bodies)
 
   abbrev pub commit_block : UnplacedBlock
   commit_block = record { note = Commit k; body = w.commit sequence }

@@ -2,6 +2,7 @@
 use Rattle.std.specs.Int.{div_ceil}
 use Rattle.std.specs.Prelude.{ℕ, ◌+◌, Bool, true, false, nat_le, List, [], ◌∷◌, length}
 use Rattle.number_sets.specs.Sets.{with, without_all}
+use Rattle.tx_running.specs.Plan.{Writers}
 
 pub record Running : Type 0 where
   pub number : ℕ
@@ -16,18 +17,17 @@ pub record Running : Type 0 where
 abbrev pub fresh : ℕ → Running
 fresh k = record { number = k; touched = []; revoked = []; changed = []; wanted = false }
 
--- log blocks of b bodies and r revokes: revoke blocks of at most 252 numbers, descriptors of at most 122 tags, the bodies
--- and the commit block
-abbrev pub log_blocks_for : ℕ → ℕ → ℕ
-log_blocks_for b r = div_ceil r 252 + div_ceil b 122 + b + 1
+-- log blocks of b bodies and r revokes: revoke blocks, descriptors, the bodies and the commit block
+abbrev pub log_blocks_for : Writers → ℕ → ℕ → ℕ
+log_blocks_for w b r = div_ceil r w.most_revokes + div_ceil b w.most_tags + b + 1
 
-abbrev pub log_needs : Running → ℕ
-log_needs r = log_blocks_for (length r.touched) (length r.revoked)
+abbrev pub log_needs : Writers → Running → ℕ
+log_needs w r = log_blocks_for w (length r.touched) (length r.revoked)
 
 -- It can still grow by one call more: no call touches more than `zmap` + 12 blocks, where `zmap` is the number of blocks
 -- of the zone bitmap, nor revokes more than 520.
-abbrev pub fits_in : ℕ → ℕ → Running → Bool
-fits_in zmap quota r = nat_le (log_blocks_for (length r.touched + zmap + 12) (length r.revoked + 520)) quota
+abbrev pub fits_in : Writers → ℕ → ℕ → Running → Bool
+fits_in w zmap quota r = nat_le (log_blocks_for w (length r.touched + zmap + 12) (length r.revoked + 520)) quota
 
 -- ---- what a call changes, one by one
 

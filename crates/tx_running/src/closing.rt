@@ -1,12 +1,15 @@
 //! How the log blocks of a transaction are built.
-ghost use Rattle.std.specs.Prelude.{◌≡◌, ◌++◌, ◌<◌, ◌≤◌, IfOk, length, map};
+ghost use Rattle.std.specs.List.{All};
+ghost use Rattle.std.specs.Prelude.{◌≡◌, ◌++◌, ◌<◌, ◌≤◌, ◌^◌, IfOk, length, map};
 ghost use Rattle.log_model.specs.Marks.{Logged};
 ghost use Rattle.tx_running.specs.Closing.{writers, logged_of, written_tag};
 ghost use Rattle.tx_running.specs.Plan.{chunks, tag_of, revoke_block, body_block, described, all_described};
 
 use crate::Pieces;
 use blk_base::{BodySource, NoMemory};
-use journal_blocks::{JournalSuper, Tag, escape, write_descriptor, write_revoke};
+use journal_blocks::{
+    JournalSuper, Tag, escape, most_revokes, most_tags, write_descriptor, write_revoke,
+};
 use journal_ring::LoggedBody;
 use order_model::Note;
 use std::alloc::Global;
@@ -34,24 +37,26 @@ pub fn logged<B: BodySource>(
     Ok(logged)
 }
 
-// Appends revoke blocks, each of at most 252 numbers.
+// Appends revoke blocks, each of as many numbers as it may have.
 pub fn add_revokes(pieces: &mut Pieces, stamp: &Stamp, revoked: &[u32]) -> Result<(), NoMemory>
     ensures { IfOk result (λ u. pieces.new ≡
-        pieces.old ++ map (revoke_block (writers stamp.now.made_with) stamp.now.tx stamp.now.sequence) (chunks 252 revoked.now)) }
+        pieces.old ++ map (revoke_block (writers stamp.now.made_with) stamp.now.tx stamp.now.sequence) (chunks (writers stamp.now.made_with).most_revokes revoked.now)) }
 {
+    let wide = stamp.made_with.is_wide();
+    let most = most_revokes(wide);
     let mut rest = revoked;
     while !rest.is_empty() {
-        let (front, behind) = rest.split_at(rest.len().min(252));
+        let (front, behind) = rest.split_at(rest.len().min(most));
         pieces.push(
             Note::Revoke { tx: stamp.tx },
-            write_revoke(stamp.sequence, front),
+            write_revoke(stamp.sequence, front, wide),
         )?;
         rest = behind;
     }
     Ok(())
 }
 
-// Appends descriptors of at most 122 tags, each with its bodies behind it.
+// Appends descriptors of as many tags as each may have, with its bodies behind it.
 pub fn add_bodies(
     alloc: Global,
     pieces: &mut Pieces,
@@ -59,11 +64,12 @@ pub fn add_bodies(
     bodies: &[LoggedBody],
 ) -> Result<(), NoMemory>
     ensures { IfOk result (λ u. pieces.new ≡
-        pieces.old ++ all_described (writers stamp.now.made_with) stamp.now.tx stamp.now.sequence (chunks 122 bodies.now)) }
+        pieces.old ++ all_described (writers stamp.now.made_with) stamp.now.tx stamp.now.sequence (chunks (writers stamp.now.made_with).most_tags bodies.now)) }
 {
+    let most = most_tags(stamp.made_with.is_wide());
     let mut rest = bodies;
     while !rest.is_empty() {
-        let (front, behind) = rest.split_at(rest.len().min(122));
+        let (front, behind) = rest.split_at(rest.len().min(most));
         describe(alloc, pieces, stamp, front)?;
         rest = behind;
     }
@@ -78,28 +84,29 @@ fn describe(
     bodies: &[LoggedBody],
 ) -> Result<(), NoMemory>
     requires some { 0 < length bodies.now }
-    requires few { length bodies.now ≤ 122 }
+    requires few { length bodies.now ≤ (writers stamp.now.made_with).most_tags }
     ensures { IfOk result (λ u. pieces.new ≡
         pieces.old ++ described (writers stamp.now.made_with) stamp.now.tx stamp.now.sequence bodies.now) }
 {
     let tags = tags_of(alloc, stamp, bodies)?;
     pieces.push(
         Note::Descriptor { tx: stamp.tx },
-        write_descriptor(stamp.sequence, &tags),
+        write_descriptor(stamp.sequence, &tags, stamp.made_with.is_wide()),
     )?;
     add_stored(pieces, stamp, bodies)
 }
 
 // The tags of a descriptor for these bodies.
 fn tags_of(alloc: Global, stamp: &Stamp, bodies: &[LoggedBody]) -> Result<Vec<Tag>, NoMemory>
-    ensures { IfOk result (λ v. v.items ≡
+    ensures value { IfOk result (λ v. v.items ≡
         map written_tag (map (tag_of (writers stamp.now.made_with) stamp.now.tx stamp.now.sequence) bodies.now)) }
+    ensures low { IfOk result (λ v. All (λ t. t.block < 2 ^ 32) v.items) }
 {
     let mut tags = Vec::new(alloc);
     for body in bodies {
         let (_, escaped) = escape(body.body());
         tags.push(Tag {
-            block: body.block(),
+            block: u64::from(body.block()),
             escaped,
         })?;
     }

@@ -5,15 +5,18 @@ ghost use Rattle.blk_base.specs.Members.{In};
 ghost use Rattle.log_model.specs.Marks.{Logged};
 ghost use Rattle.log_model.specs.Ring.{Ring, places_on, places_from};
 ghost use Rattle.number_sets.specs.Sets.{with_all, without_all};
-ghost use Rattle.tx_running.specs.Closing.{unplaced_blocks};
+ghost use Rattle.journal_blocks.specs.declared.super_block.JournalSuper.{JournalSuper};
+ghost use Rattle.tx_running.specs.Closing.{writers, unplaced_blocks};
+ghost use Rattle.tx_running.specs.Open.{quota};
 ghost use Rattle.tx_running.specs.Plan.{Writers, Planned, logged_blocks, plan_of};
-ghost use Rattle.tx_running.specs.Running.{Running, log_needs, fits_in, touched_one, revoked_one, all_noted};
+ghost use Rattle.tx_running.specs.Running.{Running, fresh, log_needs, fits_in, touched_one, revoked_one, all_noted};
 ghost use Rattle.tx_running.specs.laws.Notes.{IsApart};
 ghost use Rattle.tx_running.specs.laws.Plans.{unplaced, place_of, before_commit};
 
 /// A law, which does nothing when it is called: what a call notes, block by block and node by node, is what it touched
 /// without what it revoked, what it revoked, and what it changed. No block is both touched and revoked, if none is
-/// touched again that was revoked. Where there is room for a call, the transaction keeps its share of the log.
+/// touched again that was revoked. Where there is room for a call, the transaction keeps its share of the log; a new one
+/// has room for a call in each journal of 128 blocks or more, in volumes of up to eight blocks of the zone bitmap.
 pub fn calls_are_noted()
     ensures noted { (blocks revoked nodes : List ℕ) (r : Running) → all_noted blocks revoked nodes r ≡ record {
       number = r.number;
@@ -24,8 +27,10 @@ pub fn calls_are_noted()
     } }
     ensures touched { (b : ℕ) (r : Running) → IsApart r → (In b r.revoked → ⊥) → IsApart (touched_one b r) }
     ensures revoked { (b : ℕ) (r : Running) → IsApart r → IsApart (revoked_one b r) }
-    ensures room { (zmap quota : ℕ) (blocks revoked nodes : List ℕ) (r : Running) → fits_in zmap quota r ≡ true →
-        length blocks ≤ zmap + 12 → length revoked ≤ 520 → log_needs (all_noted blocks revoked nodes r) ≤ quota }
+    ensures room { (w : Writers) (zmap quota : ℕ) (blocks revoked nodes : List ℕ) (r : Running) → fits_in w zmap quota r ≡ true →
+        length blocks ≤ zmap + 12 → length revoked ≤ 520 → log_needs w (all_noted blocks revoked nodes r) ≤ quota }
+    ensures first { (s : JournalSuper) (zmap k : ℕ) → 128 ≤ s.maxlen → zmap ≤ 8 →
+        fits_in (writers s) zmap (quota s) (fresh k) ≡ true }
 {}
 
 /// A law, which does nothing when it is called: the requests of a plan are the log blocks of the closed transaction, at

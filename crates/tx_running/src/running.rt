@@ -9,7 +9,7 @@ ghost use Rattle.tx_running.specs.Running.{fresh, log_blocks_for, log_needs, fit
 use crate::Pieces;
 use crate::closing::{Stamp, add_bodies, add_revokes, logged};
 use blk_base::{BodySource, NoMemory};
-use journal_blocks::{JournalSuper, write_commit};
+use journal_blocks::{JournalSuper, most_revokes, most_tags, write_commit};
 use journal_ring::Bodies;
 use number_sets::{add_u32, add_u64, take_u32};
 use order_model::Note;
@@ -152,18 +152,23 @@ impl Running {
 
     /// How many log blocks it has.
     pub fn needs(&self) -> u64
-        ensures { result ≡ log_needs self.now.running }
+        ensures { result ≡ log_needs (writers self.now.made_with) self.now.running }
     {
-        log_blocks_for(self.touched.len() as u64, self.revoked.len() as u64)
+        log_blocks_for(
+            &self.made_with,
+            self.touched.len() as u64,
+            self.revoked.len() as u64,
+        )
     }
 
     /// Whether it has room for one call more, in a volume whose zone bitmap has so many blocks.
     pub fn fits(&self, zmap: u16) -> bool
-        ensures { result ≡ fits_in zmap (quota self.now.made_with) self.now.running }
+        ensures { result ≡ fits_in (writers self.now.made_with) zmap (quota self.now.made_with) self.now.running }
     {
         let bodies = self.touched.len() as u64 + u64::from(zmap) + 12;
         let revokes = self.revoked.len() as u64 + 520;
-        log_blocks_for(bodies, revokes) <= u64::from((self.made_with.maxlen - 1) / 4)
+        log_blocks_for(&self.made_with, bodies, revokes)
+            <= u64::from((self.made_with.maxlen - 1) / 4)
     }
 
     /// The births of the nodes that it changed, from the lowest on.
@@ -238,11 +243,14 @@ fn pieces_of(alloc: Global, stamp: &Stamp, homes: &Bodies) -> Result<Pieces, NoM
     Ok(pieces)
 }
 
-// How many log blocks so many bodies and revokes need.
-fn log_blocks_for(bodies: u64, revokes: u64) -> u64
+// How many log blocks so many bodies and revokes need in this journal.
+fn log_blocks_for(s: &JournalSuper, bodies: u64, revokes: u64) -> u64
     requires bodies { bodies < 2 ^ 63 + 2 ^ 17 }
     requires revokes { revokes < 2 ^ 63 + 2 ^ 17 }
-    ensures { result ≡ log_blocks_for bodies revokes }
+    ensures { result ≡ log_blocks_for (writers s.now) bodies revokes }
 {
-    revokes.div_ceil(252) + bodies.div_ceil(122) + bodies + 1
+    let wide = s.is_wide();
+    let revoke_blocks = revokes.div_ceil(most_revokes(wide) as u64);
+    let descriptors = bodies.div_ceil(most_tags(wide) as u64);
+    revoke_blocks + descriptors + bodies + 1
 }

@@ -5,8 +5,8 @@ use Rattle.tx_running.proofs.closing.add_revokes.Given as goal
 
 abbrev pub invariant-loop-rest : goal.invariant-loop-rest
 invariant-loop-rest l =
-    l.pieces ++ map (revoke_block (writers l.stamp.made_with) l.stamp.tx l.stamp.sequence) (chunks 252 l.rest)
-    ≡ l.fn.pieces ++ map (revoke_block (writers l.stamp.made_with) l.stamp.tx l.stamp.sequence) (chunks 252 l.revoked)
+    l.pieces ++ map (revoke_block (writers l.stamp.made_with) l.stamp.tx l.stamp.sequence) (chunks (writers l.stamp.made_with).most_revokes l.rest)
+    ≡ l.fn.pieces ++ map (revoke_block (writers l.stamp.made_with) l.stamp.tx l.stamp.sequence) (chunks (writers l.stamp.made_with).most_revokes l.revoked)
 
 abbrev pub decreases-loop-rest : goal.decreases-loop-rest
 decreases-loop-rest l = length l.rest

@@ -1,4 +1,4 @@
-use Rattle.tx_running.specs.laws.Notes.{noted_all, apart_touched, apart_revoked, call_fits}
+use Rattle.tx_running.specs.laws.Notes.{noted_all, apart_touched, apart_revoked, call_fits, first_fits}
 use Rattle.tx_running.proofs.laws.calls_are_noted.Goals as goal
 
 pub returns-clause-noted : goal.returns-clause-noted
@@ -12,3 +12,6 @@ returns-clause-revoked c = apart_revoked
 
 pub returns-clause-room : goal.returns-clause-room
 returns-clause-room c = call_fits
+
+pub returns-clause-first : goal.returns-clause-first
+returns-clause-first c = first_fits
