@@ -1,5 +1,5 @@
 -- Sessions on a volume over calls as code has them: the same machine as over calls with bytes, and what holds of its runs.
-use Rattle.std.specs.Prelude.{ℕ, ◌≤◌, not, ◌&&◌, if◌then◌else◌, List, length, map, Option, Some, None}
+use Rattle.std.specs.Prelude.{ℕ, ◌≤◌, List, length, map, Option}
 use Rattle.blk_base.specs.Members.{In}
 use Rattle.order_model.specs.OrderClosed.{IsOrderClosed}
 use Rattle.log_model.specs.Marks.{Transaction}
@@ -9,7 +9,6 @@ use Rattle.tree_model.specs.Calls.{Tree}
 use Rattle.tree_model.specs.Histories.{tree_after_entries}
 use Rattle.volume_ops.specs.Volume.{disk_of}
 use Rattle.volume_steps.specs.Now.{VolumeNow, room_of}
-use Rattle.volume_steps.specs.Plain.{is_rename}
 use Rattle.crash_laws.specs.LegalHistory.{root_alone}
 use Rattle.crash_laws.specs.Recovery.{IsRecovered}
 use Rattle.crash_laws.specs.Session.{Medium}
@@ -18,7 +17,7 @@ use Rattle.journal_ring.specs.LogRing.{LogRing}
 use Rattle.flush_actor.specs.Part.{is_flush_note}
 use Rattle.host_machine.specs.Host.{opened}
 use Rattle.host_machine.specs.State.{Entry, Host}
-use Rattle.host_machine.specs.Views.{is_answered, cut_of}
+use Rattle.host_machine.specs.Views.{cut_of}
 use Rattle.host_machine.specs.laws.Contract.{Over, noted_history, session}
 use Rattle.host_machine.specs.laws.Rules.{AllRules}
 use Rattle.host_runs.specs.Runs.{Event, steps}
@@ -27,7 +26,7 @@ use Rattle.host_runs.specs.Flushes.{count, is_sync_begin}
 use Rattle.host_volume.specs.ByteCalls.{ByteCall, HasBytes}
 use Rattle.host_volume.specs.Calls.{kind_of}
 use Rattle.host_volume.specs.PlainTrees.{PlainTree}
-use Rattle.host_volume.specs.Runs.{HasTreeLike}
+use Rattle.host_volume.specs.Runs.{HasTreeLike, acting}
 pub use Rattle.made_sessions.specs.MadeSessions.{made_now, made_opening, made_ring}
 use Rattle.host_volume.specs.Sessions.{Opening, model_of, over, Stands}
 use Rattle.call_sessions.specs.CallsAs.{host_as}
@@ -62,9 +61,9 @@ opened_with s v ring limit programs = opened (call_over s).model (call_over s).s
 abbrev pub host_behind : Opening → VolumeNow → LogRing → ℕ → List (List Call) → List Event → Host VolumeNow Call Reply
 host_behind s v ring limit programs events = steps (call_over s) (opened_with s v ring limit programs) events
 
--- the call of an entry that acts on the tree, as the tree model has it; renames are refused
+-- the call of an entry that acts on the tree, as the tree model has it
 abbrev pub acting_call : Entry Call Reply → Option Call
-acting_call e = if is_answered e.what && not (is_rename e.call) then Some e.call else None
+acting_call e = acting (λ c. c) e
 
 -- the tree after the calls of the first k transactions
 abbrev pub tree_behind : Opening → Host VolumeNow Call Reply → ℕ → Tree
