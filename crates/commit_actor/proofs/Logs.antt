@@ -20,6 +20,7 @@ use Rattle.journal_ring.specs.LogRing.{ring_free, place_blocks}
 use Rattle.tx_running.specs.Closing.{logged_of}
 use Rattle.tx_running.specs.Open as transaction
 use Rattle.tx_running.specs.Open.{OpenTransaction, with_running}
+use Rattle.tx_running.specs.Plan.{Writers}
 use Rattle.tx_running.specs.Running.{fresh, log_needs}
 use Rattle.flush_actor.specs.Actor as flush
 use Rattle.flush_actor.specs.Actor.{FlushActor, with_part, with_conflicts}
@@ -127,9 +128,9 @@ log_built f new r placed now t next j n c l e place start close =
       touched = λ b i. absurd i;
     })))
 
-pub needs_few : (f : FlushActor) (r : JournalRing) (t : OpenTransaction) (j : ℕ) → IsLog f r t j → nat_lt (ring_free r.ring) (log_needs t.running) ≡ false → (log_needs t.running ≤ ring_free r.ring) × (log_needs t.running < 2 ^ 32)
-needs_few f r t j l e =
-    let le = ltb-false (ring_free r.ring) (log_needs t.running) e in
+pub needs_few : (f : FlushActor) (r : JournalRing) (t : OpenTransaction) (j : ℕ) (w : Writers) → IsLog f r t j → nat_lt (ring_free r.ring) (log_needs w t.running) ≡ false → (log_needs w t.running ≤ ring_free r.ring) × (log_needs w t.running < 2 ^ 32)
+needs_few f r t j w l e =
+    let le = ltb-false (ring_free r.ring) (log_needs w t.running) e in
     let free : ring_free r.ring ≤ r.ring.places.past = omega arith in
     let size = l.size in
     (le, omega (arith, le, free, size))

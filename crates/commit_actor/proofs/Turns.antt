@@ -168,8 +168,8 @@ pub pieces_enough : (w : Writers) (k sequence : ℕ) (bodies pairs : List Logged
 pieces_enough w k sequence bodies pairs revokes pieces same e =
     let size = ap length same in
     let pieces_size = ap length e in
-    let blocks = all_described w k sequence (chunks 122 bodies) in
-    let most = chunked 122 122 [] bodies w k sequence in
-    let front = length-append (map (revoke_block w k sequence) (chunks 252 revokes)) blocks in
+    let blocks = all_described w k sequence (chunks w.most_tags bodies) in
+    let most = chunked w.most_tags w.most_tags [] bodies w k sequence in
+    let front = length-append (map (revoke_block w k sequence) (chunks w.most_revokes revokes)) blocks in
     let whole = length-append (logged_blocks w k sequence bodies revokes) (commit_block w k sequence ∷ []) in
     omega (arith, size, pieces_size, most, front, whole)

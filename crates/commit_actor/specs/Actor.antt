@@ -7,6 +7,7 @@ use Rattle.journal_blocks.specs.declared.super_block.JournalSuper.{JournalSuper}
 use Rattle.journal_ring.specs.Journal.{JournalRing}
 use Rattle.journal_ring.specs.LogRing.{LogRing, ring_free}
 use Rattle.tx_running.specs.Open.{OpenTransaction}
+use Rattle.tx_running.specs.Plan.{Writers}
 use Rattle.tx_running.specs.Running.{Running, fresh, log_needs}
 use Rattle.flush_actor.specs.Actor as flush
 use Rattle.flush_actor.specs.Outcomes.{is_did}
@@ -78,6 +79,6 @@ abbrev pub made : JournalRing → ℕ → ℕ → ℕ → CommitActor
 made r journal blocks threads = actor_of (made_log r journal blocks threads) Idle
 
 -- its step builds a plan
-abbrev pub builds_plan : JournalPart → List CachedPage → Bool
-builds_plan j ps =
-    not (is_over j.flush) && (is_closing j.phase && (is_none (unsent_of ps j.running.changed) && not (nat_lt (ring_free j.ring) (log_needs j.running))))
+abbrev pub builds_plan : Writers → JournalPart → List CachedPage → Bool
+builds_plan w j ps =
+    not (is_over j.flush) && (is_closing j.phase && (is_none (unsent_of ps j.running.changed) && not (nat_lt (ring_free j.ring) (log_needs w j.running))))

@@ -93,7 +93,7 @@ module _ (w : Writers) (journal sequence : ℕ) where
       let logged = logged_of bodies r.touched in
       record {
         flush = record j.flush { conflicts = hold r.number r.touched j.flush.conflicts };
-        ring = record (place_blocks (log_needs r) j.ring) { started = true };
+        ring = record (place_blocks (log_needs w r) j.ring) { started = true };
         running = fresh (r.number + 1);
         phase = Committing (record {
           rest = plan_of w journal j.ring.places j.ring.head j.ring.started r.number (sequence + (r.number - 1)) logged r.revoked;
@@ -109,7 +109,7 @@ module _ (w : Writers) (journal sequence : ℕ) where
       elim (unsent_of ps j.running.changed) as (λ _. CommitTurn) [
         | Some p ↦ submits full j ps (page_sent j p) (put_page ps (marked p Firm))
         | None ↦
-            if nat_lt (ring_free j.ring) (log_needs j.running) then submits full j ps (checkpoint j j.ring.homes) ps
+            if nat_lt (ring_free j.ring) (log_needs w j.running) then submits full j ps (checkpoint j j.ring.homes) ps
             else did (plan_built bodies j) ps
       ]
 

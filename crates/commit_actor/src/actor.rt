@@ -28,7 +28,7 @@ pub fn commit_step<B: BodySource, O: Outlet<Request>>(
 ) -> Turn
     ensures step { result ≢ NoMemory → record { part = part.new.part; pages = pages.new.pages; turn = result } ≡
         commit_turn (writers part.old.made_with) part.old.journal part.old.made_with.sequence (is_queue_full result) (B.bodies bodies.now) part.old.part pages.old.pages }
-    ensures memory { result ≡ NoMemory → (builds_plan part.old.part pages.old.pages ≡ true) × (part.new ≡ part.old) × (pages.new ≡ pages.old) }
+    ensures memory { result ≡ NoMemory → (builds_plan (writers part.old.made_with) part.old.part pages.old.pages ≡ true) × (part.new ≡ part.old) × (pages.new ≡ pages.old) }
     ensures same { part.new ≡ with_part part.old part.new.part }
     ensures pages { pages.new ≡ with_pages pages.old pages.new.pages }
     ensures sent { O.sent out.new ≡ O.sent out.old ++ sent_between part.old.part.flush part.new.part.flush }

@@ -112,7 +112,7 @@ impl JournalPart {
 
     /// Whether a step of the commit actor would build a plan.
     pub fn builds_plan(&self, pages: &Pages) -> bool
-        ensures { result ≡ builds_plan self.now.part pages.now.pages }
+        ensures { result ≡ builds_plan (writers self.now.made_with) self.now.part pages.now.pages }
     {
         !self.log.is_over()
             && self.is_closing()
@@ -254,7 +254,7 @@ impl JournalPart {
     ) -> Turn
         ensures step { result ≢ turns.NoMemory → record { part = self.new.part; pages = pages.new.pages; turn = result } ≡
             commit_turn (writers self.old.made_with) self.old.journal self.old.made_with.sequence (is_queue_full result) (B.bodies bodies.now) self.old.part pages.old.pages }
-        ensures memory { result ≡ turns.NoMemory → (builds_plan self.old.part pages.old.pages ≡ true) × (self.new ≡ self.old) × (pages.new ≡ pages.old) }
+        ensures memory { result ≡ turns.NoMemory → (builds_plan (writers self.old.made_with) self.old.part pages.old.pages ≡ true) × (self.new ≡ self.old) × (pages.new ≡ pages.old) }
         ensures same { self.new ≡ with_part self.old self.new.part }
         ensures pages { pages.new ≡ with_pages pages.old pages.new.pages }
         ensures sent { O.sent out.new ≡ O.sent out.old ++ sent_between self.old.part.flush self.new.part.flush }
@@ -304,7 +304,7 @@ fn close<B: BodySource, O: Outlet<Request>>(
     requires { IsAtRest log.old }
     ensures step { result.1 ≢ turns.NoMemory → record { part = part_of log.new (phase_of log.new result.0); pages = pages.new.pages; turn = result.1 } ≡
         close_turn (writers log.old.made_with) log.old.journal log.old.made_with.sequence (is_queue_full result.1) (B.bodies bodies.now) (part_of log.old model.Closing) pages.old.pages }
-    ensures memory { result.1 ≡ turns.NoMemory → (unsent_of pages.old.pages log.old.running.changed ≡ None) × (nat_lt (ring_free log.old.ring) (log_needs log.old.running) ≡ false) ×
+    ensures memory { result.1 ≡ turns.NoMemory → (unsent_of pages.old.pages log.old.running.changed ≡ None) × (nat_lt (ring_free log.old.ring) (log_needs (writers log.old.made_with) log.old.running) ≡ false) ×
         (log.new ≡ log.old) × (phase_of log.new result.0 ≡ model.Closing) × (pages.new ≡ pages.old) }
     ensures same { log.new ≡ with_parts log.old (part_of log.new model.Closing) }
     ensures phase { IsInPhase log.new result.0 }

@@ -243,7 +243,7 @@ impl Log {
 
     // Whether the log has too little room for the running transaction.
     pub fn is_short(&self) -> bool
-        ensures { result ≡ nat_lt (ring_free self.now.ring) (log_needs self.now.running) }
+        ensures { result ≡ nat_lt (ring_free self.now.ring) (log_needs (writers self.now.made_with) self.now.running) }
     {
         u64::from(self.ring.free()) < self.running.needs()
     }
@@ -313,7 +313,7 @@ impl Log {
     // Builds the plan of the running transaction, and the next one runs.
     pub fn build<B: BodySource>(&mut self, alloc: Global, bodies: &B) -> Result<Sending, NoMemory>
         requires number { self.old.running.number ≤ length self.old.flush.requests + 1 }
-        requires room { nat_lt (ring_free self.old.ring) (log_needs self.old.running) ≡ false }
+        requires room { nat_lt (ring_free self.old.ring) (log_needs (writers self.old.made_with) self.old.running) ≡ false }
         ensures ok { IfOk result (λ s. part_of self.new (Committing (plan_left self.old.journal self.old.made_with self.old.ring.places s)) ≡
             plan_built (writers self.old.made_with) self.old.journal self.old.made_with.sequence (B.bodies bodies.now) (part_of self.old Closing)) }
         ensures same { IfOk result (λ s. self.new ≡ with_parts self.old (part_of self.new Closing)) }

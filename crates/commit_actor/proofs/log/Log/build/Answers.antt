@@ -22,8 +22,9 @@ use Rattle.commit_actor.proofs.log.Log.build.Goals as goal
 pub overflow_cast-needs : goal.overflow_cast-needs
 overflow_cast-needs g c =
     let l = c.self.inside in
-    let room = subst (λ (x : LogState). nat_lt (ring_free x.ring) (log_needs x.running) ≡ false) (sym c.self.view_is) c.requires.room in
-    let small : c.needs-needs.result < 2 ^ 32 = subst (λ n. n < 2 ^ 32) (sym c.needs-needs.ensures) (needs_few l.flush l.ring l.running l.journal c.self.invariant room).1 in
+    let room = subst (λ (x : LogState). nat_lt (ring_free x.ring) (log_needs (writers x.made_with) x.running) ≡ false) (sym c.self.view_is) c.requires.room in
+    let short = subst (λ (m : JournalSuper). nat_lt (ring_free l.ring.ring) (log_needs (writers m) l.running.running) ≡ false) (sym c.self.invariant.same) room in
+    let small : c.needs-needs.result < 2 ^ 32 = subst (λ n. n < 2 ^ 32) (sym c.needs-needs.ensures) (needs_few l.flush l.ring l.running l.journal (writers l.running.made_with) c.self.invariant short).1 in
     search (rules, small)
 
 pub hold_all-requires : goal.hold_all-requires
@@ -50,7 +51,7 @@ returns-clause-ok g c =
     ∙ ap (λ k. record l.flush.part { conflicts = hold k r.touched l.flush.part.conflicts }) c.number-tx.ensures in
     let ring = ap (λ (y : JournalRing). y.ring) c.start.ensures
     ∙ ap (λ (y : JournalRing). record y.ring { started = true }) c.place-place.ensures.ring
-    ∙ ap (λ n. record (place_blocks n l.ring.ring) { started = true }) c.needs-needs.ensures in
+    ∙ ap (λ n. record (place_blocks n l.ring.ring) { started = true }) (c.needs-needs.ensures ∙ ap (λ (m : JournalSuper). log_needs (writers m) r) same) in
     let sequence = c.in_ok-plan.ensures.sequence ∙ ap (λ (m : JournalSuper). sequence_of m r.number) same in
     let pieces = c.in_ok-plan.ensures.pieces ∙ ap (λ (m : JournalSuper). unplaced_blocks (writers m) r.number (sequence_of m r.number) logged r.revoked) same in
     let rest = rest_is_plan l.journal s l.ring.ring.places x l.ring.ring.head l.ring.ring.started r.number (sequence_of s r.number) logged r.revoked sequence c.place-place.ensures.place (ap not c.has_started-super_left.ensures) pieces in
