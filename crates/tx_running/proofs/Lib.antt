@@ -1,5 +1,6 @@
 mod Adding
 mod BlockRoom
+mod CallRoom
 mod Chunks
 mod Notes
 mod PlanBlocks

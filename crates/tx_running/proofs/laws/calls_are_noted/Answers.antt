@@ -1,4 +1,5 @@
-use Rattle.tx_running.specs.laws.Notes.{noted_all, apart_touched, apart_revoked, call_fits, first_fits}
+use Rattle.tx_running.proofs.CallRoom.{call_fits, first_fits}
+use Rattle.tx_running.specs.laws.Notes.{noted_all, apart_touched, apart_revoked}
 use Rattle.tx_running.proofs.laws.calls_are_noted.Goals as goal
 
 pub returns-clause-noted : goal.returns-clause-noted
