@@ -1,8 +1,7 @@
 -- The history of a session: its causes, and that it is legal.
-use Rattle.std.proofs.Common.{◌≡◌, ◌≢◌, ℕ, zero, suc, ◌+◌, ◌≤◌, map, take, Bool, true, false, not, ◌&&◌, is_some, List, [], ◌∷◌, ◌++◌, length, Option, Some, None, slice_get, refl, sym, ap, subst, ◌∙◌, inl, inr, arith, if◌then◌else◌}
+use Rattle.std.proofs.Common.{◌≡◌, ◌≢◌, ℕ, zero, suc, ◌+◌, ◌≤◌, map, take, Bool, true, false, is_some, List, ◌∷◌, length, Option, Some, None, slice_get, refl, sym, ap, ◌∙◌, arith, if◌then◌else◌}
 use Rattle.std.proofs.lemmas.Bool.{false≢true}
-use Rattle.blk_base.specs.Members.{In}
-use Rattle.blk_base.specs.laws.Members.{slice_get-in_range, slice_get-map_some, slice_get-In, In-map}
+use Rattle.blk_base.specs.laws.Members.{slice_get-in_range, slice_get-map_some, slice_get-In}
 use Rattle.order_model.specs.declared.completion.Completion.{Completion}
 use Rattle.tree_model.specs.declared.call.Call.{Call}
 use Rattle.tree_model.specs.declared.call.Reply.{Reply}
@@ -12,7 +11,6 @@ use Rattle.tree_model.specs.Calls.{Tree, reply_of, tree_after, leaves_tree}
 use Rattle.tree_model.specs.Histories.{Entry as TreeEntry, tree_after_entry, tree_after_entries}
 use Rattle.tree_model.proofs.Outcomes.{quiet_stays}
 use Rattle.volume_steps.specs.Now.{VolumeNow, room_of}
-use Rattle.volume_steps.specs.Plain.{is_rename}
 use Rattle.crash_laws.specs.LegalHistory.{has_begun, is_turned_away, done_at, root_alone, tree_up_to, IsLegal}
 use Rattle.crash_laws.proofs.EntryTrees.{tree_at_event}
 use Rattle.journal_ring.specs.LogRing.{LogRing}
@@ -29,13 +27,12 @@ use Rattle.call_sessions.specs.Sessions.{WriteBytes, call_over, acting_call, ope
 use Rattle.session_promises.specs.Causes.{HadCome, HaveCauses}
 use Rattle.session_promises.specs.Entries.{EndsAt}
 use Rattle.session_promises.specs.Legal.{event_of, events_in, program_of}
-use Rattle.session_promises.specs.Trees.{tree_at, HaveNoRenames}
+use Rattle.session_promises.specs.Trees.{tree_at}
 use Rattle.session_promises.proofs.CallerSteps.{EndReason, Stopped, Refused, Acted, Full, Acknowledged}
 use Rattle.session_promises.proofs.EndCauses.{StopCause, ByCut, ByFailure, stop_cause, have_causes}
 use Rattle.session_promises.proofs.Ends.{ended_at}
 use Rattle.session_promises.proofs.Growing.{stay_begun}
 use Rattle.session_promises.proofs.LegalEnds.{AsTree, IsOfCalls, begun_at, run_is_legal}
-use Rattle.session_promises.proofs.Orders.{all_keep}
 use Rattle.session_promises.proofs.SessionTrees.{plain_now, refusal_replies, act_replies, begun_replies}
 use Rattle.session_promises.proofs.VolumeReplies.{waits_are, reads_are, reads_are_still, refusal_own, refusal_not_ok, done_own}
 
@@ -83,123 +80,85 @@ module _ (s : Opening) where
         let x = ended_at (call_over s) first refl es i t c (Answered r) there in
         own_by (steps (call_over s) first x.step.before) c x.own.begun r x.reason
 
-    -- ---- calls of the programs
-
-    module _ (Q : Call → Type 0) (all : (program : List Call) (c : Call) → In program programs → In c program → Q c) where
-      abbrev Has : ℕ → Option (Thread Call) → List (Entry Call Reply) → Type 0
-      Has t None h = Unit {0}
-      Has t (Some th) h = (c : Call) → In c th.calls → Q c
-
-      has_first : (t : ℕ) → Has t (slice_get first.threads t) first.history
-      has_first t = by (slice_get first.threads t) refl
-        where
-          by : (x : Option (Thread Call)) → slice_get first.threads t ≡ x → Has t x first.history
-          by None e = tt
-          by (Some th) e = λ c i.
-              let p = In-map (λ (p : List Call). record { calls = p; begun = None }) programs th (slice_get-In first.threads t th e) in
-              all p.0 c p.1 (subst (In c) (sym (ap (λ (y : Thread Call). y.calls) p.2)) i)
-
-      has_others : (t u : ℕ) (x : Option (Thread Call)) (c : Call) (what : What Reply) (h : List (Entry Call Reply)) → t ≢ u → Has t x h → Has t x (h ++ record { thread = u; call = c; what = what } ∷ [])
-      has_others t u None c what h apart old = tt
-      has_others t u (Some th) c what h apart old = old
-
-      -- each call that a thread has still to end is of its program
-      pub calls_have : (es : List runs.Event) (t : ℕ) (th : Thread Call) (c : Call) (rest : List Call) → slice_get (at es).threads t ≡ Some th → th.calls ≡ c ∷ rest → Q c
-      calls_have es t th c rest there calls =
-          subst (λ x. Has t x (at es).history) there
-          (all_keep (call_over s) Has
-          (λ t th c rest b new h calls was old d i. old d (subst (In d) (sym calls) i))
-          (λ t th c rest b h calls idle old d i. old d (subst (In d) (sym calls) i))
-          (λ t th c rest e h calls old d i. old d (subst (In d) (sym calls) (inr i)))
-          has_others first has_first es t)
-          c (subst (In c) (sym calls) (inl refl))
-
     -- ---- the tree of the events
 
-    module _ (plain : HaveNoRenames programs) where
-      abbrev room : Room
-      room = room_of s.geometry
+    abbrev room : Room
+    room = room_of s.geometry
 
-      no_rename : (es : List runs.Event) (t : ℕ) (th : Thread Call) (c : Call) (rest : List Call) → slice_get (at es).threads t ≡ Some th → th.calls ≡ c ∷ rest → is_rename c ≡ false
-      no_rename = calls_have (λ c. is_rename c ≡ false) plain
+    -- what an entry does to a tree is what its event does
+    event_acts : (es : List runs.Event) (tree : Tree) (n i : ℕ) (x : Entry Call Reply) → slice_get (at es).history i ≡ Some x →
+        tree_after_entry room tree n (Some (done_at (take i (events_in (at es).history)) (event_of x))) ≡ tree_after_entry room tree n (Some (acting_call x))
+    event_acts es tree n i x there = by x.what there
+      where
+        away : (b : Bool) → tree_after_entry room tree n (Some (if b then None else None)) ≡ tree
+        away true = refl
+        away false = refl
 
-      -- what an entry does to a tree is what its event does
-      event_acts : (es : List runs.Event) (tree : Tree) (n i : ℕ) (x : Entry Call Reply) → slice_get (at es).history i ≡ Some x →
-          tree_after_entry room tree n (Some (done_at (take i (events_in (at es).history)) (event_of x))) ≡ tree_after_entry room tree n (Some (acting_call x))
-      event_acts es tree n i x there = by x.what there
-        where
-          away : (b : Bool) → tree_after_entry room tree n (Some (if b then None else None)) ≡ tree
-          away true = refl
-          away false = refl
+        begun : (c : Call) (b : Bool) (o : Option Begun) → is_some o ≡ b → ((d : Begun) → o ≡ Some d → leaves_tree c ≡ true) →
+            tree_after_entry room tree n (Some (if b then None else Some c)) ≡ tree_after room tree n c
+        begun c true None e quiet = absurd (false≢true e)
+        begun c true (Some d) e quiet = sym (quiet_stays room tree n c (quiet d refl))
+        begun c false o e quiet = refl
 
-          begun : (c : Call) (b : Bool) (o : Option Begun) → is_some o ≡ b → (o ≡ None → is_rename c ≡ false) → ((d : Begun) → o ≡ Some d → leaves_tree c ≡ true) →
-              tree_after_entry room tree n (Some (if b then None else Some c)) ≡ tree_after room tree n c
-          begun c true None e none quiet = absurd (false≢true e)
-          begun c true (Some d) e none quiet = sym (quiet_stays room tree n c (quiet d refl))
-          begun c false o e none quiet = refl
+        answered : (t : ℕ) (c : Call) (r : Reply) → EndsAt (at es).history i t c (Answered r) →
+            tree_after_entry room tree n (Some (if has_begun t false (take i (events_in (at es).history)) then None else if is_turned_away r then None else Some c)) ≡ tree_after_entry room tree n (Some (Some c))
+        answered t c r ends =
+            let e = ended_at (call_over s) first refl es i t c (Answered r) ends in
+            let own = answers_own es i t c r ends in
+            let b = has_begun t false (take i (events_in (at es).history)) in
+            let is : b ≡ is_some e.own.begun = begun_at (call_over s) of_calls first programs refl refl refl begun_first answers_own es i t e.step e.own e.at in
+            ap (λ y. tree_after_entry room tree n (Some (if b then None else if y then None else Some c))) own
+            ∙ begun c b e.own.begun (sym is)
+            (λ d was. begun_quiet c (stay_begun (call_over s) first begun_first e.step.before e.own c e.rest d (slice_get-In (at e.step.before).threads t e.own e.at) e.calls was))
 
-          answered : (t : ℕ) (c : Call) (r : Reply) → EndsAt (at es).history i t c (Answered r) →
-              tree_after_entry room tree n (Some (if has_begun t false (take i (events_in (at es).history)) then None else if is_turned_away r then None else Some c)) ≡ tree_after_entry room tree n (Some (if true && not (is_rename c) then Some c else None))
-          answered t c r ends =
-              let e = ended_at (call_over s) first refl es i t c (Answered r) ends in
-              let kept = no_rename e.step.before t e.own c e.rest e.at e.calls in
-              let own = answers_own es i t c r ends in
-              let b = has_begun t false (take i (events_in (at es).history)) in
-              let is : b ≡ is_some e.own.begun = begun_at (call_over s) of_calls first programs refl refl refl begun_first answers_own es i t e.step e.own e.at in
-              ap (λ y. tree_after_entry room tree n (Some (if b then None else if y then None else Some c))) own
-              ∙ begun c b e.own.begun (sym is) (λ none. kept)
-              (λ d was. begun_quiet c (stay_begun (call_over s) first begun_first e.step.before e.own c e.rest d (slice_get-In (at e.step.before).threads t e.own e.at) e.calls was))
-              ∙ ap (λ y. tree_after_entry room tree n (Some (if not y then Some c else None))) (sym kept)
+        by : (w : What Reply) → slice_get (at es).history i ≡ Some (record { thread = x.thread; call = x.call; what = w }) →
+            tree_after_entry room tree n (Some (done_at (take i (events_in (at es).history)) (event_of (record { thread = x.thread; call = x.call; what = w }))))
+            ≡ tree_after_entry room tree n (Some (acting_call (record { thread = x.thread; call = x.call; what = w })))
+        by Begins e = refl
+        by (Ends Down) e = away (has_begun x.thread false (take i (events_in (at es).history)))
+        by (Ends (ReadOnly id)) e = away (has_begun x.thread false (take i (events_in (at es).history)))
+        by (Ends SessionFull) e = away (has_begun x.thread false (take i (events_in (at es).history)))
+        by (Ends (Answered r)) e = answered x.thread x.call r e
 
-          by : (w : What Reply) → slice_get (at es).history i ≡ Some (record { thread = x.thread; call = x.call; what = w }) →
-              tree_after_entry room tree n (Some (done_at (take i (events_in (at es).history)) (event_of (record { thread = x.thread; call = x.call; what = w }))))
-              ≡ tree_after_entry room tree n (Some (acting_call (record { thread = x.thread; call = x.call; what = w })))
-          by Begins e = refl
-          by (Ends Down) e = away (has_begun x.thread false (take i (events_in (at es).history)))
-          by (Ends (ReadOnly id)) e = away (has_begun x.thread false (take i (events_in (at es).history)))
-          by (Ends SessionFull) e = away (has_begun x.thread false (take i (events_in (at es).history)))
-          by (Ends (Answered r)) e = answered x.thread x.call r e
+    next_tree : (entries : List TreeEntry) (i : ℕ) → tree_after_entries room root_alone 0 entries (suc i) ≡ tree_after_entry room (tree_after_entries room root_alone 0 entries i) (0 + suc i) (slice_get entries i)
+    unfolding tree_after_entries
+    next_tree entries i = refl
 
-      next_tree : (entries : List TreeEntry) (i : ℕ) → tree_after_entries room root_alone 0 entries (suc i) ≡ tree_after_entry room (tree_after_entries room root_alone 0 entries i) (0 + suc i) (slice_get entries i)
-      unfolding tree_after_entries
-      next_tree entries i = refl
+    no_tree : (entries more : List TreeEntry) → tree_after_entries room root_alone 0 entries 0 ≡ tree_after_entries room root_alone 0 more 0
+    unfolding tree_after_entries
+    no_tree entries more = refl
 
-      no_tree : (entries more : List TreeEntry) → tree_after_entries room root_alone 0 entries 0 ≡ tree_after_entries room root_alone 0 more 0
-      unfolding tree_after_entries
-      no_tree entries more = refl
+    -- so the trees are the same
+    pub trees_of_events : (es : List runs.Event) (n : ℕ) → n ≤ length (at es).history → tree_up_to room (events_in (at es).history) n ≡ tree_at s (at es) n
+    trees_of_events es zero le = no_tree _ _
+    trees_of_events es (suc i) le =
+        let h = (at es).history in
+        let x = slice_get-in_range h i (omega (arith, le)) in
+        let number : i + 1 ≡ 0 + suc i = omega arith in
+        let next : suc i ≡ i + 1 = omega arith in
+        ap (tree_up_to room (events_in h)) next
+        ∙ tree_at_event room (events_in h) i (event_of x.0) (slice_get-map_some event_of h i x.0 x.1)
+        ∙ event_acts es (tree_up_to room (events_in h) i) (i + 1) i x.0 x.1
+        ∙ ap (λ tree. tree_after_entry room tree (i + 1) (Some (acting_call x.0))) (trees_of_events es i (omega (arith, le)))
+        ∙ ap (λ k. tree_after_entry room (tree_at s (at es) i) k (Some (acting_call x.0))) number
+        ∙ ap (tree_after_entry room (tree_at s (at es) i) (0 + suc i)) (sym (slice_get-map_some acting_call h i x.0 x.1))
+        ∙ sym (next_tree (map acting_call h) i)
 
-      -- so the trees are the same
-      pub trees_of_events : (es : List runs.Event) (n : ℕ) → n ≤ length (at es).history → tree_up_to room (events_in (at es).history) n ≡ tree_at s (at es) n
-      trees_of_events es zero le = no_tree _ _
-      trees_of_events es (suc i) le =
-          let h = (at es).history in
-          let x = slice_get-in_range h i (omega (arith, le)) in
-          let number : i + 1 ≡ 0 + suc i = omega arith in
-          let next : suc i ≡ i + 1 = omega arith in
-          ap (tree_up_to room (events_in h)) next
-          ∙ tree_at_event room (events_in h) i (event_of x.0) (slice_get-map_some event_of h i x.0 x.1)
-          ∙ event_acts es (tree_up_to room (events_in h) i) (i + 1) i x.0 x.1
-          ∙ ap (λ tree. tree_after_entry room tree (i + 1) (Some (acting_call x.0))) (trees_of_events es i (omega (arith, le)))
-          ∙ ap (λ k. tree_after_entry room (tree_at s (at es) i) k (Some (acting_call x.0))) number
-          ∙ ap (tree_after_entry room (tree_at s (at es) i) (0 + suc i)) (sym (slice_get-map_some acting_call h i x.0 x.1))
-          ∙ sym (next_tree (map acting_call h) i)
+    -- ---- legal
 
-      -- ---- legal
+    module _ (written : AreWritten s.format s.writers) (o : IsOpenedVolume s v) (j : HasEmptyJournal s ring limit) (bytes : WriteBytes programs) where
+      tree_now : (es : List runs.Event) → tree_at s (at es) (length (at es).history) ≡ tree_up_to room (events_in (at es).history) (length (at es).history)
+      tree_now es = sym (trees_of_events es (length (at es).history) (omega arith))
 
-      module _ (written : AreWritten s.format s.writers) (o : IsOpenedVolume s v) (j : HasEmptyJournal s ring limit) (bytes : WriteBytes programs) where
-        tree_now : (es : List runs.Event) → tree_at s (at es) (length (at es).history) ≡ tree_up_to room (events_in (at es).history) (length (at es).history)
-        tree_now es = sym (trees_of_events es (length (at es).history) (omega arith))
+      as_tree : (es : List runs.Event) (t : ℕ) (th : Thread Call) (c : Call) (rest : List Call) → slice_get (at es).threads t ≡ Some th → th.calls ≡ c ∷ rest → AsTree (call_over s) room (at es) c
+      as_tree es t th c rest there calls =
+          let same = ap (λ tree. reply_of room tree (length (at es).history + 1) c) (tree_now es) in
+          record {
+            refused = λ why e. refusal_replies s v ring limit programs written o j bytes es c why e ∙ same;
+            refused_not_ok = λ why e. refusal_not_ok (at es).volume c why (plain_now s v ring limit programs written o j bytes es) e;
+            acted = λ e kind. act_replies s v ring limit programs written o j bytes es c ∙ same;
+            begun = λ e kind. sym same ∙ begun_replies s v ring limit programs written o j bytes es c e kind;
+          }
 
-        as_tree : (es : List runs.Event) (t : ℕ) (th : Thread Call) (c : Call) (rest : List Call) → slice_get (at es).threads t ≡ Some th → th.calls ≡ c ∷ rest → AsTree (call_over s) room (at es) c
-        as_tree es t th c rest there calls =
-            let kept = no_rename es t th c rest there calls in
-            let same = ap (λ tree. reply_of room tree (length (at es).history + 1) c) (tree_now es) in
-            record {
-              refused = λ why e. refusal_replies s v ring limit programs written o j bytes es c kept why e ∙ same;
-              refused_not_ok = λ why e. refusal_not_ok (at es).volume c why (plain_now s v ring limit programs written o j bytes es) e;
-              acted = λ e kind. act_replies s v ring limit programs written o j bytes es c kept ∙ same;
-              begun = λ e kind. sym same ∙ begun_replies s v ring limit programs written o j bytes es c kept e kind;
-            }
-
-        pub legal_in_run : (es : List runs.Event) → IsLegal room (program_of programs) (events_in (at es).history)
-        legal_in_run es = run_is_legal (call_over s) of_calls first programs refl refl refl begun_first answers_own room as_tree es
+      pub legal_in_run : (es : List runs.Event) → IsLegal room (program_of programs) (events_in (at es).history)
+      legal_in_run es = run_is_legal (call_over s) of_calls first programs refl refl refl begun_first answers_own room as_tree es

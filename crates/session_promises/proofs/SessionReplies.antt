@@ -1,7 +1,6 @@
 -- Each answer of a session is the tree's.
-use Rattle.std.proofs.Common.{is_some, false, ◌≡◌, ◌≢◌, ℕ, ◌+◌, Bool, true, false, List, length, Option, Some, None, refl, sym, ap, ◌∙◌, arith, if◌then◌else◌}
+use Rattle.std.proofs.Common.{is_some, false, ◌≡◌, ◌≢◌, ℕ, ◌+◌, true, false, List, length, Option, Some, refl, sym, ap, ◌∙◌, arith}
 use Rattle.std.proofs.lemmas.Bool.{true≢false}
-use Rattle.std.proofs.lemmas.Option.{none-some, same_Some}
 use Rattle.blk_base.specs.laws.Members.{slice_get-In}
 use Rattle.tree_model.specs.declared.call.Call.{Call}
 use Rattle.tree_model.specs.declared.call.Reply.{Reply}
@@ -9,7 +8,6 @@ use Rattle.tree_model.specs.declared.call.Reply.TheVariants as replies
 use Rattle.tree_model.specs.declared.call.Room.{Room}
 use Rattle.tree_model.specs.Calls.{reply_of}
 use Rattle.volume_steps.specs.Now.{VolumeNow, room_of}
-use Rattle.volume_steps.specs.Plain.{is_rename}
 use Rattle.journal_ring.specs.LogRing.{LogRing}
 use Rattle.crash_laws.specs.LegalHistory.{has_begun}
 use Rattle.flush_actor.specs.Kinds.{is_begun}
@@ -21,7 +19,7 @@ use Rattle.host_volume.specs.Runs.{IsOpenedVolume, HasEmptyJournal}
 use Rattle.host_volume.specs.Sessions.{Opening}
 use Rattle.call_sessions.specs.Sessions.{WriteBytes, call_over, opened_with, host_behind}
 use Rattle.session_promises.specs.Entries.{BeginsAt, EndsAt, NoneBetween, IsBeginOf}
-use Rattle.session_promises.specs.Legal.{events_in, answer_in, FollowsTree}
+use Rattle.session_promises.specs.Legal.{events_in, FollowsTree}
 use Rattle.session_promises.specs.Trees.{tree_at}
 use Rattle.session_promises.proofs.CallerSteps.{EndReason, Stopped, Refused, Acted, Full, Acknowledged}
 use Rattle.session_promises.proofs.EndCauses.{stop_cause, grown_from}
@@ -31,7 +29,6 @@ use Rattle.session_promises.proofs.Orders.{programs_followed, begun_behind, begu
 use Rattle.session_promises.proofs.SessionAnswers.{longer}
 use Rattle.session_promises.proofs.SessionHistory.{begun_first, stop_cause_not_answer, same_answer}
 use Rattle.session_promises.proofs.SessionTrees.{refusal_replies, act_replies, begun_replies}
-use Rattle.session_promises.proofs.VolumeReplies.{rename_refused, begun_no_rename}
 
 module _ (s : Opening) (v : VolumeNow) (ring : LogRing) (limit : ℕ) (programs : List (List Call)) (written : AreWritten s.format s.writers) (o : IsOpenedVolume s v) (j : HasEmptyJournal s ring limit) (bytes : WriteBytes programs) where
   abbrev first : Host VolumeNow Call Reply
@@ -46,52 +43,41 @@ module _ (s : Opening) (v : VolumeNow) (ring : LogRing) (limit : ℕ) (programs 
   -- where the host answers behind these steps
   module _ (es : List runs.Event) (c : Call) where
     abbrev Answer : Reply
-    Answer = answer_in room (tree_at s (at es) (length (at es).history)) (length (at es).history + 1) c
+    Answer = reply_of room (tree_at s (at es) (length (at es).history)) (length (at es).history + 1) c
 
     abbrev refuses : Reply → Type 0
     refuses why = (call_over s).model.reply (at es).volume c ≡ Some why
 
-    refused_answer : (b : Bool) → is_rename c ≡ b → (why : Reply) → refuses why → why ≡ (if b then replies.Invalid else reply_of room (tree_at s (at es) (length (at es).history)) (length (at es).history + 1) c)
-    refused_answer true is why e = same_Some why replies.Invalid (sym e ∙ rename_refused (at es).volume c is)
-    refused_answer false is why e = refusal_replies s v ring limit programs written o j bytes es c is why e
-
-    acted_answer : (b : Bool) → is_rename c ≡ b → (call_over s).model.reply (at es).volume c ≡ None →
-        ((call_over s).model.apply (at es).volume (length (at es).history + 1) (at es).journal.running.number c).reply ≡ (if b then replies.Invalid else reply_of room (tree_at s (at es) (length (at es).history)) (length (at es).history + 1) c)
-    acted_answer true is e = absurd (none-some replies.Invalid (sym e ∙ rename_refused (at es).volume c is))
-    acted_answer false is e = act_replies s v ring limit programs written o j bytes es c is
-
     answer_by : (b : Option Begun) (r : Reply) → ((x : Begun) → b ≡ Some x → is_begun (kind_of c) ≡ true) → (is_begun (kind_of c) ≡ true → r ≢ replies.Ok) → EndReason (call_over s).model (call_over s).setup (at es) c b (Answered r) → r ≡ Answer
     answer_by b r begun not_ok (Stopped stop) = absurd (stop_cause_not_answer s v ring limit programs c r (stop_cause (call_over s).model (call_over s).setup (at es).journal.flush.taken (kind_of c) (Answered r) stop))
-    answer_by b r begun not_ok (Refused why going idle reply is) = sym (same_answer s v ring limit programs r why is) ∙ refused_answer (is_rename c) refl why reply
-    answer_by b r begun not_ok (Acted going idle reply kind is) = sym (same_answer s v ring limit programs r _ is) ∙ acted_answer (is_rename c) refl reply
+    answer_by b r begun not_ok (Refused why going idle reply is) = sym (same_answer s v ring limit programs r why is) ∙ refusal_replies s v ring limit programs written o j bytes es c why reply
+    answer_by b r begun not_ok (Acted going idle reply kind is) = sym (same_answer s v ring limit programs r _ is) ∙ act_replies s v ring limit programs written o j bytes es c
     answer_by b r begun not_ok (Full going full hinders is) = absurd (let never : ◌≡◌ {A = Ending Reply} (Answered r) SessionFull = is in cc never)
     answer_by b r begun not_ok (Acknowledged x going was is) = absurd (not_ok (begun x was) (sym (same_answer s v ring limit programs r replies.Ok is)))
 
   module _ (events : List runs.Event) where
     -- the tree before a place, and its number, are those at its step
     same_place : (i t : ℕ) (x : StepAt (call_over s) first events i t) (c : Call) →
-        answer_in room (tree_at s (at x.before) (length (at x.before).history)) (length (at x.before).history + 1) c ≡ answer_in room (tree_at s (at events) i) (i + 1) c
+        reply_of room (tree_at s (at x.before) (length (at x.before).history)) (length (at x.before).history + 1) c ≡ reply_of room (tree_at s (at events) i) (i + 1) c
     same_place i t x c =
         let grown = (grown_from (call_over s) first refl refl (begun_first s v ring limit programs) events i t x).history in
-        ap (λ tree. answer_in room tree (length (at x.before).history + 1) c) (sym (longer s (at x.before) (at events) (length (at x.before).history) grown (omega arith)))
-        ∙ ap (λ n. answer_in room (tree_at s (at events) n) (n + 1) c) x.place
+        ap (λ tree. reply_of room tree (length (at x.before).history + 1) c) (sym (longer s (at x.before) (at events) (length (at x.before).history) grown (omega arith)))
+        ∙ ap (λ n. reply_of room (tree_at s (at events) n) (n + 1) c) x.place
 
-    answered_as : (i t : ℕ) (c : Call) (r : Reply) → EndsAt (at events).history i t c (Answered r) → (is_begun (kind_of c) ≡ true → r ≢ replies.Ok) → r ≡ answer_in room (tree_at s (at events) i) (i + 1) c
+    answered_as : (i t : ℕ) (c : Call) (r : Reply) → EndsAt (at events).history i t c (Answered r) → (is_begun (kind_of c) ≡ true → r ≢ replies.Ok) → r ≡ reply_of room (tree_at s (at events) i) (i + 1) c
     answered_as i t c r there not_ok =
         let x = ended_at (call_over s) first refl events i t c (Answered r) there in
         let begun = stay_begun (call_over s) first (begun_first s v ring limit programs) x.step.before in
         answer_by x.step.before c x.own.begun r (λ b was. begun x.own c x.rest b (slice_get-In (at x.step.before).threads t x.own x.at) x.calls was) not_ok x.reason
         ∙ same_place i t x.step c
 
-    begins_as : (i t : ℕ) (c : Call) → BeginsAt (at events).history i t c → (is_begun (kind_of c) ≡ true) × (answer_in room (tree_at s (at events) i) (i + 1) c ≡ replies.Ok)
+    begins_as : (i t : ℕ) (c : Call) → BeginsAt (at events).history i t c → (is_begun (kind_of c) ≡ true) × (reply_of room (tree_at s (at events) i) (i + 1) c ≡ replies.Ok)
     begins_as i t c there =
         let x = began_at (call_over s) first refl events i t c there in
-        let kept = begun_no_rename c x.kind in
         let es = x.step.before in (
           x.kind,
           sym (same_place i t x.step c)
-              ∙ ap (λ b. if b then replies.Invalid else reply_of room (tree_at s (at es) (length (at es).history)) (length (at es).history + 1) c) kept
-              ∙ begun_replies s v ring limit programs written o j bytes es c kept x.reply x.kind,
+              ∙ begun_replies s v ring limit programs written o j bytes es c x.reply x.kind,
         )
 
     -- a begun call is answered Ok

@@ -1,5 +1,5 @@
 -- The volume of a session stands for the tree after its entries, and answers as that tree.
-use Rattle.std.proofs.Common.{◌≡◌, ℕ, ◌+◌, map, true, false, List, [], ◌∷◌, length, Option, Some, None, refl, sym, ap, subst, ◌∙◌}
+use Rattle.std.proofs.Common.{◌≡◌, ℕ, ◌+◌, map, true, List, [], ◌∷◌, length, Option, Some, None, refl, sym, ap, subst, ◌∙◌}
 use Rattle.std.proofs.lemmas.List.{length-map}
 use Rattle.tree_model.specs.declared.call.Call.{Call}
 use Rattle.tree_model.specs.declared.call.Reply.{Reply}
@@ -8,14 +8,13 @@ use Rattle.tree_model.specs.Calls.{reply_of}
 use Rattle.tree_model.specs.Histories.{tree_after_entries}
 use Rattle.tree_model.specs.Plain.{AreBornBefore}
 use Rattle.volume_steps.specs.Now.{VolumeNow, tree_of_now, room_of}
-use Rattle.volume_steps.specs.Plain.{IsPlainNow, is_rename}
+use Rattle.volume_steps.specs.Plain.{IsPlainNow}
 use Rattle.crash_laws.specs.LegalHistory.{root_alone}
 use Rattle.journal_ring.specs.LogRing.{LogRing}
 use Rattle.flush_actor.specs.Kinds.{is_begun}
 use Rattle.host_machine.specs.State.{Entry, Host}
 use Rattle.host_machine.specs.Views as views
 use Rattle.host_runs.specs.Runs as runs
-use Rattle.host_runs.specs.Runs.{steps}
 use Rattle.host_runs.specs.laws.Kept.{IsSound as IsSoundHost}
 use Rattle.host_runs.specs.laws.Written.{AreWritten}
 use Rattle.host_runs.proofs.RunHost.{opened_has, steps_keep}
@@ -99,7 +98,7 @@ module _ (s : Opening) (v : VolumeNow) (ring : LogRing) (limit : ℕ) (programs 
 
   -- ---- answers
 
-  module _ (events : List runs.Event) (c : Call) (other : is_rename c ≡ false) where
+  module _ (events : List runs.Event) (c : Call) where
     abbrev Replied : Reply
     Replied = reply_of (room_of s.geometry) (tree_at s (at events) (length (at events).history)) (length (at events).history + 1) c
 
@@ -109,7 +108,7 @@ module _ (s : Opening) (v : VolumeNow) (ring : LogRing) (limit : ℕ) (programs 
         ∙ ap (λ tree. reply_of (room_of s.geometry) tree (length (at events).history + 1) c) (tree_is events)
 
     pub refusal_replies : (why : Reply) → (call_over s).model.reply (at events).volume c ≡ Some why → why ≡ Replied
-    refusal_replies why e = refused_reply (at events).volume (length (at events).history + 1) c (plain_now events) (born events) other why e ∙ as_volume
+    refusal_replies why e = refused_reply (at events).volume (length (at events).history + 1) c (plain_now events) (born events) why e ∙ as_volume
 
     pub act_replies : ((call_over s).model.apply (at events).volume (length (at events).history + 1) (at events).journal.running.number c).reply ≡ Replied
     act_replies =
@@ -118,5 +117,5 @@ module _ (s : Opening) (v : VolumeNow) (ring : LogRing) (limit : ℕ) (programs 
 
     pub begun_replies : (call_over s).model.reply (at events).volume c ≡ None → is_begun (kind_of c) ≡ true → Replied ≡ replies.Ok
     begun_replies e kind =
-        let d = free_row (at events).volume (length (at events).history + 1) c (plain_now events) (born events) other e in
+        let d = free_row (at events).volume (length (at events).history + 1) c (plain_now events) (born events) e in
         sym as_volume ∙ begun_reply (room_of (at events).volume.geometry) (tree_of_now (at events).volume) (length (at events).history + 1) c d.0 kind d.1

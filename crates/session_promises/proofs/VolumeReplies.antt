@@ -1,5 +1,5 @@
 -- A volume answers calls as its tree does.
-use Rattle.std.proofs.Common.{◌≡◌, ◌≢◌, ℕ, ◌-◌, Bool, true, false, nat_lt, Some, None, Result, Ok, Err, refl, sym, ap, ◌∙◌, if◌then◌else◌}
+use Rattle.std.proofs.Common.{◌≡◌, ◌≢◌, ℕ, ◌-◌, Bool, true, false, nat_lt, Some, None, Result, Ok, Err, refl, sym, ap, ◌∙◌}
 use Rattle.std.proofs.lemmas.Bool.{true≢false}
 use Rattle.std.proofs.lemmas.Option.{none-some, same_Some}
 use Rattle.tree_model.specs.declared.call.Call.{Call}
@@ -13,13 +13,13 @@ use Rattle.tree_model.specs.Plain.{AreBornBefore, IsPlain}
 use Rattle.tree_model.proofs.Causes.{refused_for, cause_not_ok}
 use Rattle.volume_steps.specs.Calls.{called_by, called}
 use Rattle.volume_steps.specs.Now.{VolumeNow, tree_of_now, room_of}
-use Rattle.volume_steps.specs.Plain.{IsPlainNow, is_rename}
+use Rattle.volume_steps.specs.Plain.{IsPlainNow}
 use Rattle.volume_steps.proofs.PlainNow.{tree_is_plain}
 use Rattle.crash_laws.specs.LegalHistory.{is_waiting, is_turned_away}
 use Rattle.crash_laws.specs.LegalHistory as legal
 use Rattle.flush_actor.specs.Kinds.{is_begun, is_reading}
 use Rattle.host_volume.specs.Calls.{kind_of, refused_by, refusal, would_change, done_as}
-use Rattle.host_volume.specs.Numbers.{next_birth, number_in, decided}
+use Rattle.host_volume.specs.Numbers.{next_birth, number_in}
 use Rattle.host_volume.proofs.Asked.{refusal_is}
 use Rattle.session_promises.proofs.TreeReplies.{never_turned_away}
 
@@ -59,33 +59,24 @@ row_goes_on : (r : Row) → refused_by r ≡ None → (d : Done) × (r ≡ Ok d)
 row_goes_on (Ok d) e = (d, refl)
 row_goes_on (Err why) e = absurd (none-some why (sym e))
 
-decided_own : (room : Room) (tree : Tree) (n : ℕ) (c : Call) (why : Reply) → decided room tree n c ≡ Err why → is_turned_away why ≡ false
-unfolding decided reply_of
-decided_own room tree n c why e = by (is_rename c) e
-  where
-    by : (b : Bool) → (if b then Err replies.Invalid else outcome room tree n c) ≡ Err why → is_turned_away why ≡ false
-    by true d = sym (ap (λ r. is_turned_away (reply_from r)) d)
-    by false d = ap (λ r. is_turned_away (reply_from r)) (sym d) ∙ never_turned_away room tree n c
+outcome_own : (room : Room) (tree : Tree) (n : ℕ) (c : Call) (why : Reply) → outcome room tree n c ≡ Err why → is_turned_away why ≡ false
+unfolding reply_of
+outcome_own room tree n c why e = ap (λ r. is_turned_away (reply_from r)) (sym e) ∙ never_turned_away room tree n c
 
 pub refusal_own : (v : VolumeNow) (c : Call) (why : Reply) → refusal v c ≡ Some why → is_turned_away why ≡ false
 unfolding refusal
 refusal_own v c why e =
-    decided_own (room_of v.geometry) (tree_of_now v) (next_birth (tree_of_now v)) c why (row_refuses (decided (room_of v.geometry) (tree_of_now v) (next_birth (tree_of_now v)) c) why e)
+    outcome_own (room_of v.geometry) (tree_of_now v) (next_birth (tree_of_now v)) c why (row_refuses (outcome (room_of v.geometry) (tree_of_now v) (next_birth (tree_of_now v)) c) why e)
 
 -- a refusal is not Ok
-decided_not_ok : (room : Room) (tree : Tree) → IsPlain tree → (n : ℕ) (c : Call) (why : Reply) → decided room tree n c ≡ Err why → is_ok why ≡ false
-unfolding decided
-decided_not_ok room tree plain n c why e = by (is_rename c) e
-  where
-    by : (b : Bool) → (if b then Err replies.Invalid else outcome room tree n c) ≡ Err why → is_ok why ≡ false
-    by true d = sym (ap (λ r. is_ok (reply_from r)) d)
-    by false d = cause_not_ok room tree n c why (refused_for room tree plain.rooted n c why d)
+outcome_not_ok : (room : Room) (tree : Tree) → IsPlain tree → (n : ℕ) (c : Call) (why : Reply) → outcome room tree n c ≡ Err why → is_ok why ≡ false
+outcome_not_ok room tree plain n c why e = cause_not_ok room tree n c why (refused_for room tree plain.rooted n c why e)
 
 pub refusal_not_ok : (v : VolumeNow) (c : Call) (why : Reply) → IsPlainNow v → refusal v c ≡ Some why → why ≢ replies.Ok
 unfolding refusal
 refusal_not_ok v c why h e ok =
-    let row = row_refuses (decided (room_of v.geometry) (tree_of_now v) (next_birth (tree_of_now v)) c) why e in
-    true≢false (ap is_ok (sym ok) ∙ decided_not_ok (room_of v.geometry) (tree_of_now v) (tree_is_plain v h) (next_birth (tree_of_now v)) c why row)
+    let row = row_refuses (outcome (room_of v.geometry) (tree_of_now v) (next_birth (tree_of_now v)) c) why e in
+    true≢false (ap is_ok (sym ok) ∙ outcome_not_ok (room_of v.geometry) (tree_of_now v) (tree_is_plain v h) (next_birth (tree_of_now v)) c why row)
 
 called_reply : (v : VolumeNow) (n k : ℕ) (c : Call) (r : Row) → (called_by v n k c r).reply ≡ reply_from r
 called_reply v n k c (Err reply) = refl
@@ -100,19 +91,19 @@ done_own v n k c = ap is_turned_away (done_reply v n k c) ∙ never_turned_away 
 
 -- ---- refusals and answers by the tree
 
-module _ (v : VolumeNow) (n : ℕ) (c : Call) (h : IsPlainNow v) (born : AreBornBefore n (tree_of_now v)) (other : is_rename c ≡ false) where
+module _ (v : VolumeNow) (n : ℕ) (c : Call) (h : IsPlainNow v) (born : AreBornBefore n (tree_of_now v)) where
   abbrev Outcome : Row
   Outcome = outcome (room_of v.geometry) (tree_of_now v) n c
 
   refused_row : (why : Reply) → refusal v c ≡ Some why → Outcome ≡ Err why
-  refused_row why e = row_refuses Outcome why (sym (refusal_is v n c h born other) ∙ e)
+  refused_row why e = row_refuses Outcome why (sym (refusal_is v n c h born) ∙ e)
 
   pub refused_reply : (why : Reply) → refusal v c ≡ Some why → why ≡ reply_of (room_of v.geometry) (tree_of_now v) n c
   unfolding reply_of
   refused_reply why e = sym (ap reply_from (refused_row why e))
 
   pub free_row : refusal v c ≡ None → (d : Done) × (Outcome ≡ Ok d)
-  free_row e = row_goes_on Outcome (sym (refusal_is v n c h born other) ∙ e)
+  free_row e = row_goes_on Outcome (sym (refusal_is v n c h born) ∙ e)
 
 -- a barrier or sync call that is not refused answers Ok
 room_ok : (room : Room) (tree : Tree) (test : Bool) (d : Done) (e : Done) → refuse_if test replies.NoSpace (Ok d) ≡ Ok e → d.reply ≡ e.reply
@@ -135,13 +126,3 @@ begun_reply room tree n c d kind is = ap reply_from is ∙ by c kind is
     by (calls.Fdatabarrier path) kind is = barrier_reply room tree (walk_path tree path) d is
     by calls.Sync kind is = barrier_reply room tree (Ok (record { birth = 0; node = new_file })) d is
     by other kind is = absurd (true≢false (sym kind))
-
--- ---- renames
-
-pub rename_refused : (v : VolumeNow) (c : Call) → is_rename c ≡ true → refusal v c ≡ Some replies.Invalid
-unfolding refusal decided
-rename_refused v c is = rw is refl
-
-pub begun_no_rename : (c : Call) → is_begun (kind_of c) ≡ true → is_rename c ≡ false
-begun_no_rename (calls.Rename path other) e = absurd (true≢false (sym e))
-begun_no_rename other e = refl

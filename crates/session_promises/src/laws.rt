@@ -18,7 +18,7 @@ ghost use Rattle.session_promises.specs.Answers.{AnsweredAt, HasOkCause, KeepsPr
 ghost use Rattle.session_promises.specs.Causes.{HadCome, HaveCauses};
 ghost use Rattle.session_promises.specs.Entries.{EndsAt};
 ghost use Rattle.session_promises.specs.Legal.{events_in, program_of, FollowsTree};
-ghost use Rattle.session_promises.specs.Trees.{tree_at, HaveNoRenames};
+ghost use Rattle.session_promises.specs.Trees.{tree_at};
 
 /// A law, which does nothing when it is called: in every session a call ends with Down only where the power's completion
 /// was taken before the entry was made; with ReadOnly only by the first failed request of all that were taken by then; and
@@ -48,14 +48,13 @@ pub fn answered_calls_keep_their_promises()
 {}
 
 /// A law, which does nothing when it is called: in such a session the entries of each thread are its program, in order, and
-/// each answer is what the tree model says of the tree after the entries before. Renames are refused; where no program has
-/// one, the history is legal.
+/// each answer is what the tree model says of the tree after the entries before; so the history is legal.
 pub fn histories_follow_the_tree()
     ensures follows { (s : Opening) (v : VolumeNow) (ring : LogRing) (limit : ℕ) (programs : List (List Call)) (events : List Event) →
         AreWritten s.format s.writers → IsOpenedVolume s v → HasEmptyJournal s ring limit → WriteBytes programs →
         FollowsTree s programs (host_behind s v ring limit programs events) }
     ensures legal { (s : Opening) (v : VolumeNow) (ring : LogRing) (limit : ℕ) (programs : List (List Call)) (events : List Event) →
-        AreWritten s.format s.writers → IsOpenedVolume s v → HasEmptyJournal s ring limit → WriteBytes programs → HaveNoRenames programs →
+        AreWritten s.format s.writers → IsOpenedVolume s v → HasEmptyJournal s ring limit → WriteBytes programs →
         IsLegal (room_of s.geometry) (program_of programs) (events_in (host_behind s v ring limit programs events).history) }
 {}
 
@@ -64,7 +63,7 @@ pub fn histories_follow_the_tree()
 /// that were answered; and so is the tree of the events, over which `crash_laws` says what is legal.
 pub fn trees_of_sessions_are_one()
     ensures told { (s : Opening) (h : Host VolumeNow Call Reply) (n : ℕ) → (tree_after (call_over s).model h.history n).tree ≡ tree_at s h n }
-    ensures legal { (s : Opening) (v : VolumeNow) (ring : LogRing) (limit : ℕ) (programs : List (List Call)) (events : List Event) (n : ℕ) → HaveNoRenames programs →
+    ensures legal { (s : Opening) (v : VolumeNow) (ring : LogRing) (limit : ℕ) (programs : List (List Call)) (events : List Event) (n : ℕ) →
         let h = host_behind s v ring limit programs events in
         n ≤ length h.history → tree_up_to (room_of s.geometry) (events_in h.history) n ≡ tree_at s h n }
 {}

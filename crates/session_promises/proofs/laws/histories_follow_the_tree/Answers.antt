@@ -5,5 +5,5 @@ use Rattle.session_promises.proofs.laws.histories_follow_the_tree.Goals as goal
 pub returns : goal.returns
 returns c = record {
   follows = λ s v ring limit programs events written opened journal bytes. follows_tree s v ring limit programs written opened journal bytes events;
-  legal = λ s v ring limit programs events written opened journal bytes plain. legal_in_run s v ring limit programs plain written opened journal bytes events;
+  legal = λ s v ring limit programs events written opened journal bytes. legal_in_run s v ring limit programs written opened journal bytes events;
 }
