@@ -165,12 +165,12 @@ module _ {A T V C R : Type 0} {o : Over A T V C R} {Stands : V → T → Type 0}
           by : (x : Option CachedPage) → find (λ p. is_unsent p.state && has s.journal.running.changed p.birth) s.pages ≡ x → HasImages (elim x as (λ _. Turned V C R) [
             | Some p ↦ submits o.model o.setup full s (send_page o.model o.setup s p true false)
             | None ↦
-                if nat_lt (ring_free s.journal.ring) (log_needs s.journal.running) then submits o.model o.setup full s (checkpoint o.model o.setup s s.journal.ring.homes)
+                if nat_lt (ring_free s.journal.ring) (log_needs o.setup.writers s.journal.running) then submits o.model o.setup full s (checkpoint o.model o.setup s s.journal.ring.homes)
                 else record { host = build_plan o.model o.setup s; turn = turns.Did }
           ]).host
           by (Some p) e = submits_keeps full _ (txs, N, send_keeps contract s txs N facts p true false (keyed s.pages facts.0.rising p (first_page-In (λ p. is_unsent p.state && has s.journal.running.changed p.birth) s.pages p e)))
           by None e =
-              either (λ (x : Turned V C R). HasImages x.host) (nat_lt (ring_free s.journal.ring) (log_needs s.journal.running)) _ _
+              either (λ (x : Turned V C R). HasImages x.host) (nat_lt (ring_free s.journal.ring) (log_needs o.setup.writers s.journal.running)) _ _
               (λ d. submits_keeps full _ (checkpoint_keeps s.journal.ring.homes))
               (λ d. (txs ++ closing_transaction contract s txs N facts ∷ [], N, plan_keeps contract s txs N facts order all_closed (all_firm s.journal.running.changed facts.0.sent e)))
 

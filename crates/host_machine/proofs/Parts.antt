@@ -128,14 +128,14 @@ module _ {T V C R : Type 0} (M : Model T V C R) (u : Setup) where
       by : (o : Option CachedPage)
           → (elim o as (λ _. Turned V C R) [
             | Some p ↦ submits M u full s (send_page M u s p true false)
-            | None ↦ if nat_lt (ring_free s.journal.ring) (log_needs s.journal.running) then submits M u full s (checkpoint M u s s.journal.ring.homes) else record { host = build_plan M u s; turn = turns.Did }
+            | None ↦ if nat_lt (ring_free s.journal.ring) (log_needs u.writers s.journal.running) then submits M u full s (checkpoint M u s s.journal.ring.homes) else record { host = build_plan M u s; turn = turns.Did }
           ])
           ≡ commit_from M u Closing s (elim o as (λ _. CommitTurn) [
             | Some p ↦ part.submits full s.journal s.pages (part.page_sent s.journal p) (put_page s.pages (marked p Firm))
-            | None ↦ if nat_lt (ring_free s.journal.ring) (log_needs s.journal.running) then part.submits full s.journal s.pages (part.checkpoint u.writers u.journal u.sequence s.journal s.journal.ring.homes) s.pages
+            | None ↦ if nat_lt (ring_free s.journal.ring) (log_needs u.writers s.journal.running) then part.submits full s.journal s.pages (part.checkpoint u.writers u.journal u.sequence s.journal s.journal.ring.homes) s.pages
                 else part.did (part.plan_built u.writers u.journal u.sequence (M.bytes s.volume) s.journal) s.pages
           ])
-      by None = room (nat_lt (ring_free s.journal.ring) (log_needs s.journal.running))
+      by None = room (nat_lt (ring_free s.journal.ring) (log_needs u.writers s.journal.running))
       by (Some p) =
           let pages = put_page s.pages (marked p Firm) in
           sent Closing full s (send_page M u s p true false) (part.page_sent s.journal p) pages e (kept Closing s (part.did (part.page_sent s.journal p) pages) e)

@@ -53,8 +53,8 @@ plan-rest w journal ring head started k sequence bodies revokes =
     (barrier-notes (super started ++ placed journal ring head (logged_blocks w k sequence bodies revokes))
     (joined (λ (x : Planned). is_plan_note x.note ≡ true) (super started) (placed journal ring head (logged_blocks w k sequence bodies revokes)) (super-notes started)
     (placed-notes journal ring head (logged_blocks w k sequence bodies revokes)
-    (joined (λ (x : UnplacedBlock). is_plan_note x.note ≡ true) (map (revoke_block w k sequence) (chunks 252 revokes)) (all_described w k sequence (chunks 122 bodies))
-    (mapped (revoke_block w k sequence) (chunks 252 revokes) (λ x. refl)) (described-notes w k sequence (chunks 122 bodies))))))
+    (joined (λ (x : UnplacedBlock). is_plan_note x.note ≡ true) (map (revoke_block w k sequence) (chunks w.most_revokes revokes)) (all_described w k sequence (chunks w.most_tags bodies))
+    (mapped (revoke_block w k sequence) (chunks w.most_revokes revokes) (λ x. refl)) (described-notes w k sequence (chunks w.most_tags bodies))))))
     refl
   where
     super : Bool → List Planned
@@ -77,11 +77,15 @@ chunks-some most left y ys [] = (y ∷ ys, [], refl)
 chunks-some most zero y ys (x ∷ xs) = (y ∷ ys, chunks_from most (most - 1) (x ∷ []) xs, refl)
 chunks-some most (suc left) y ys (x ∷ xs) = chunks-some most left y (ys ++ x ∷ []) xs
 
+chunks-first : {X : Type 0} (most : ℕ) (x : X) (xs : List X) → (c : List X) × (cs : List (List X)) × (chunks most (x ∷ xs) ≡ c ∷ cs)
+chunks-first zero x xs = ([], chunks_from zero (zero - 1) (x ∷ []) xs, refl)
+chunks-first (suc m) x xs = chunks-some (suc m) m x [] xs
+
 -- a transaction with a body has a barrier before its commit block
 pub plan-barrier : (w : Writers) (journal : ℕ) (ring : Ring) (head : ℕ) (started : Bool) (k sequence : ℕ) (l : Logged) (bodies : List Logged) (revokes : List ℕ) → BarrierAhead (plan_of w journal ring head started k sequence (l ∷ bodies) revokes)
 plan-barrier w journal ring head started k sequence l bodies revokes =
-    let some = chunks-some 122 121 l [] bodies in
-    by started (chunks 252 revokes) (chunks 122 (l ∷ bodies)) some.0 some.1 some.2
+    let some = chunks-first w.most_tags l bodies in
+    by started (chunks w.most_revokes revokes) (chunks w.most_tags (l ∷ bodies)) some.0 some.1 some.2
   where
     commit : List UnplacedBlock → Planned
     commit blocks = record { note = notes.Commit k; block = journal + places_on ring (length blocks) head; body = w.commit sequence; barrier = true }

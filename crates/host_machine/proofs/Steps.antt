@@ -103,17 +103,17 @@ module _ {T V C R : Type 0} (M : Model T V C R) (u : Setup) (s : Host V C R) whe
       fourth true n = absurd (none-some (causes.Quarantine lacks) (sym n))
       fourth false n = refl
 
-      third : (x : Bool) → (if not x then Some (causes.TxFull (log_needs s.journal.running)) else if nat_lt (length (M.zones s.volume).free) (M.needs s.volume c) then Some (causes.Quarantine lacks) else None) ≡ None
+      third : (x : Bool) → (if not x then Some (causes.TxFull (log_needs u.writers s.journal.running)) else if nat_lt (length (M.zones s.volume).free) (M.needs s.volume c) then Some (causes.Quarantine lacks) else None) ≡ None
           → nat_lt (length (M.zones s.volume).free) (M.needs s.volume c) ≡ false
       third true n = fourth (nat_lt (length (M.zones s.volume).free) (M.needs s.volume c)) n
-      third false n = absurd (none-some (causes.TxFull (log_needs s.journal.running)) (sym n))
+      third false n = absurd (none-some (causes.TxFull (log_needs u.writers s.journal.running)) (sym n))
 
-      second : (x : Bool) → (if x then Some causes.Closing else if not (fits M u s.journal.running) then Some (causes.TxFull (log_needs s.journal.running)) else if nat_lt (length (M.zones s.volume).free) (M.needs s.volume c) then Some (causes.Quarantine lacks) else None) ≡ None
+      second : (x : Bool) → (if x then Some causes.Closing else if not (fits M u s.journal.running) then Some (causes.TxFull (log_needs u.writers s.journal.running)) else if nat_lt (length (M.zones s.volume).free) (M.needs s.volume c) then Some (causes.Quarantine lacks) else None) ≡ None
           → nat_lt (length (M.zones s.volume).free) (M.needs s.volume c) ≡ false
       second true n = absurd (none-some causes.Closing (sym n))
       second false n = third (fits M u s.journal.running) n
 
-      first : (x : Bool) → x ≡ true → (if not x then None else if is_closing s.journal.phase then Some causes.Closing else if not (fits M u s.journal.running) then Some (causes.TxFull (log_needs s.journal.running)) else if nat_lt (length (M.zones s.volume).free) (M.needs s.volume c) then Some (causes.Quarantine lacks) else None) ≡ None
+      first : (x : Bool) → x ≡ true → (if not x then None else if is_closing s.journal.phase then Some causes.Closing else if not (fits M u s.journal.running) then Some (causes.TxFull (log_needs u.writers s.journal.running)) else if nat_lt (length (M.zones s.volume).free) (M.needs s.volume c) then Some (causes.Quarantine lacks) else None) ≡ None
           → nat_lt (length (M.zones s.volume).free) (M.needs s.volume c) ≡ false
       first true d n = second (is_closing s.journal.phase) n
       first false d n = absurd (false≢true d)

@@ -163,14 +163,14 @@ module _ {T V C R : Type 0} (M : Model T V C R) (u : Setup) where
       }
 
   abbrev pub fits : Running → Bool
-  fits r = nat_le (log_blocks_for (length r.touched + u.zmap + 12) (length r.revoked + 520)) u.quota
+  fits r = nat_le (log_blocks_for u.writers (length r.touched + u.zmap + 12) (length r.revoked + 520)) u.quota
 
   -- why a call that would change the tree or a page waits, in this order
   abbrev pub hindrance : Host V C R → C → Option Cause
   hindrance s c =
       if not (M.hinders s.volume c) then None
       else if is_closing s.journal.phase then Some causes.Closing
-      else if not (fits s.journal.running) then Some (causes.TxFull (log_needs s.journal.running))
+      else if not (fits s.journal.running) then Some (causes.TxFull (log_needs u.writers s.journal.running))
       else
       let free = length (M.zones s.volume).free in
       let needs = M.needs s.volume c in
@@ -318,7 +318,7 @@ module _ {T V C R : Type 0} (M : Model T V C R) (u : Setup) where
       record s {
         journal = record {
           flush = record s.journal.flush { conflicts = hold r.number r.touched s.journal.flush.conflicts };
-          ring = record (place_blocks (log_needs r) ring) { started = true };
+          ring = record (place_blocks (log_needs u.writers r) ring) { started = true };
           running = fresh (r.number + 1);
           phase = Committing (record { rest = rest; bodies = bodies; revokes = r.revoked; changed = r.changed });
         };
@@ -339,7 +339,7 @@ module _ {T V C R : Type 0} (M : Model T V C R) (u : Setup) where
       elim (find (λ p. is_unsent p.state && has s.journal.running.changed p.birth) s.pages) as (λ _. Turned V C R) [
         | Some p ↦ submits full s (send_page s p true false)
         | None ↦
-            if nat_lt (ring_free s.journal.ring) (log_needs s.journal.running) then submits full s (checkpoint s s.journal.ring.homes)
+            if nat_lt (ring_free s.journal.ring) (log_needs u.writers s.journal.running) then submits full s (checkpoint s s.journal.ring.homes)
             else record { host = build_plan s; turn = turns.Did }
       ]
 

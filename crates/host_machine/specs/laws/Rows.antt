@@ -59,7 +59,7 @@ abbrev pub setup : Setup
 setup = record {
   journal = 64;
   sequence = 1;
-  writers = record { super = λ seq start. 900 ∷ seq ∷ start ∷ []; revoke = λ seq blocks. 901 ∷ seq ∷ blocks; descriptor = λ seq tags. 902 ∷ seq ∷ []; commit = λ seq. 903 ∷ seq ∷ []; stored = λ b. b; is_escaped = λ b. false };
+  writers = record { most_tags = 122; most_revokes = 252; super = λ seq start. 900 ∷ seq ∷ start ∷ []; revoke = λ seq blocks. 901 ∷ seq ∷ blocks; descriptor = λ seq tags. 902 ∷ seq ∷ []; commit = λ seq. 903 ∷ seq ∷ []; stored = λ b. b; is_escaped = λ b. false };
   zmap = 1;
   quota = 31;
 }

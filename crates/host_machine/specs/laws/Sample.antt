@@ -130,7 +130,7 @@ over = record {
   setup = record {
     journal = 8;
     sequence = 1;
-    writers = record { super = λ seq start. []; revoke = λ seq blocks. []; descriptor = λ seq tags. []; commit = λ seq. []; stored = λ b. b; is_escaped = λ b. false };
+    writers = record { most_tags = 122; most_revokes = 252; super = λ seq start. []; revoke = λ seq blocks. []; descriptor = λ seq tags. []; commit = λ seq. []; stored = λ b. b; is_escaped = λ b. false };
     zmap = 1;
     quota = 31;
   };
