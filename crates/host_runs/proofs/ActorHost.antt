@@ -129,7 +129,7 @@ module _ {A T V C R : Type 0} {o : Over A T V C R} {Stands : V → T → Type 0}
 
     module _ (formats : Formats) where
       -- the plan is built: the cuts are noted, and transactions told anew
-      built : (at : s.journal.phase ≡ Closing) (sent : (f i : ℕ) (p : CachedPage) → In f s.journal.running.changed → page_at s.pages f i ≡ Some p → p.state ≡ Firm) (room : nat_lt (ring_free s.journal.ring) (log_needs s.journal.running) ≡ false)
+      built : (at : s.journal.phase ≡ Closing) (sent : (f i : ℕ) (p : CachedPage) → In f s.journal.running.changed → page_at s.pages f i ≡ Some p → p.state ≡ Firm) (room : nat_lt (ring_free s.journal.ring) (log_needs o.setup.writers s.journal.running) ≡ false)
           → Calls contract (txs ++ transaction_now contract s txs N kept ∷ []) N (build_plan o.model o.setup s)
       built at sent room =
           let trees = trees_noted o.model contract.trees o.place s.history s.cuts kept.images.0.rise in
@@ -213,12 +213,12 @@ module _ {A T V C R : Type 0} {o : Over A T V C R} {Stands : V → T → Type 0}
           by : (x : Option CachedPage) → find (λ p. is_unsent p.state && has s.journal.running.changed p.birth) s.pages ≡ x → HasRules contract (elim x as (λ _. Turned V C R) [
             | Some p ↦ submits o.model o.setup full s (send_page o.model o.setup s p true false)
             | None ↦
-                if nat_lt (ring_free s.journal.ring) (log_needs s.journal.running) then submits o.model o.setup full s (checkpoint o.model o.setup s s.journal.ring.homes)
+                if nat_lt (ring_free s.journal.ring) (log_needs o.setup.writers s.journal.running) then submits o.model o.setup full s (checkpoint o.model o.setup s s.journal.ring.homes)
                 else record { host = build_plan o.model o.setup s; turn = turns.Did }
           ]).host
           by (Some p) e = submits_rules full _ (page_out p true false (keyed s.pages kept.images.0.rising p (first_page-In (λ p. is_unsent p.state && has s.journal.running.changed p.birth) s.pages p e)))
           by None e =
-              either (λ (x : Turned V C R). HasRules contract x.host) (nat_lt (ring_free s.journal.ring) (log_needs s.journal.running)) _ _
+              either (λ (x : Turned V C R). HasRules contract x.host) (nat_lt (ring_free s.journal.ring) (log_needs o.setup.writers s.journal.running)) _ _
               (λ d. submits_rules full _ (checkpoint_rules at s.journal.ring.homes refl))
               (λ d. (txs ++ transaction_now contract s txs N kept ∷ [], N, build_keeps contract s txs N kept at (all_firm s.journal.running.changed kept.images.0.sent e) d formats.written formats.writable formats.next formats.first, built at (all_firm s.journal.running.changed kept.images.0.sent e) d, flushes))
 

@@ -60,7 +60,7 @@ module _ {A T V C R : Type 0} {o : Over A T V C R} {Stands : V → T → Type 0}
   -- ---- the plan is built
 
   module _ (at : s.journal.phase ≡ Closing) (all_sent : (f i : ℕ) (p : CachedPage) → In f s.journal.running.changed → page_at s.pages f i ≡ Some p → p.state ≡ Firm)
-      (room : nat_lt (ring_free s.journal.ring) (log_needs s.journal.running) ≡ false)
+      (room : nat_lt (ring_free s.journal.ring) (log_needs o.setup.writers s.journal.running) ≡ false)
       (written : AreWritten o.format o.setup.writers) (writable : IsWritable transaction_now) (fits : IsWord (o.setup.sequence + (N + 1 - 1))) (head_fits : IsWord s.journal.ring.places.first) where
     all_closed : N + 1 ≡ r
     all_closed = subst (InPhase o Stands s.history s.cuts sess r N) at kept.images.0.in_phase
@@ -98,13 +98,13 @@ module _ {A T V C R : Type 0} {o : Over A T V C R} {Stands : V → T → Type 0}
     counted : length transaction_now.bodies ≡ length s.journal.running.touched
     counted = length_map (λ b. record { block = b; body = o.model.bytes s.volume b }) s.journal.running.touched
 
-    enough : log_blocks_for (length transaction_now.bodies) (length transaction_now.revokes) ≤ ring_free s.journal.ring
+    enough : log_blocks_for o.setup.writers (length transaction_now.bodies) (length transaction_now.revokes) ≤ ring_free s.journal.ring
     enough =
-        let n = ap (λ k. log_blocks_for k (length s.journal.running.revoked)) counted in
+        let n = ap (λ k. log_blocks_for o.setup.writers k (length s.journal.running.revoked)) counted in
         ⊎_elim
-        (λ lt. absurd (false≢true (sym room ∙ lt-ltb (ring_free s.journal.ring) (log_needs s.journal.running) lt)))
+        (λ lt. absurd (false≢true (sym room ∙ lt-ltb (ring_free s.journal.ring) (log_needs o.setup.writers s.journal.running) lt)))
         (λ le. omega arith)
-        (cases_lt (ring_free s.journal.ring) (log_needs s.journal.running))
+        (cases_lt (ring_free s.journal.ring) (log_needs o.setup.writers s.journal.running))
 
     pub build_keeps : KeepsRules contract (build_plan o.model o.setup s) (txs ++ transaction_now ∷ []) N
     build_keeps = record {
@@ -115,7 +115,7 @@ module _ {A T V C R : Type 0} {o : Over A T V C R} {Stands : V → T → Type 0}
       };
       images = plan_keeps contract s txs N kept.images kept.rules.order.commits all_closed all_sent;
       ring =
-          subst (λ n. RingKept (record sess { transactions = transactions }) (record (place_blocks (log_blocks_for n (length s.journal.running.revoked)) s.journal.ring) { started = true }) N (Committing the_plan)) counted
+          subst (λ n. RingKept (record sess { transactions = transactions }) (record (place_blocks (log_blocks_for o.setup.writers n (length s.journal.running.revoked)) s.journal.ring) { started = true }) N (Committing the_plan)) counted
           (plan_is_built sess N kept.rules.order.commits transactions same_transactions_told o.setup.writers the_plan s.journal.ring written writable apart_now fits head_fits new_transaction enough
           (ap (λ k. plan_of o.setup.writers o.setup.journal s.journal.ring.places s.journal.ring.head s.journal.ring.started k (o.setup.sequence + (k - 1)) transaction_now.bodies transaction_now.revokes) (sym all_closed))
           (subst (RingKept sess s.journal.ring N) at kept.ring));

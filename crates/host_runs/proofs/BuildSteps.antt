@@ -176,7 +176,7 @@ module _ (w : Writers) (s : Session) (N : ℕ) (t : Transaction) (ring : LogRing
   nothing_else true e none =
       let pos = started e in
       let empty = placed_none s (N + 1) ring.head blocks (subst (λ r. placed s.journal r ring.head blocks ≡ []) places.places none) in
-      let n = plan_counted w (N + 1) (s.sequence + (N + 1 - 1)) t.bodies t.revokes in
+      let n = plan_counted w (N + 1) (s.sequence + (N + 1 - 1)) t.bodies t.revokes written.some_tags written.some_revokes in
       let z = ap length empty in
       (omega arith, no_log_yet, no_bodies t.bodies (omega arith))
 
@@ -212,20 +212,20 @@ module _ (w : Writers) (s : Session) (N : ℕ) (t : Transaction) (ring : LogRing
   }
 
   -- The places are handed out: one for each log block of the plan.
-  pub built_places : log_blocks_for (length t.bodies) (length t.revokes) ≤ ring_free ring
-      → PlaceFacts s (record (place_blocks (log_blocks_for (length t.bodies) (length t.revokes)) ring) { started = true }) (count (with_barrier (before ring.started)) + 1)
+  pub built_places : log_blocks_for w (length t.bodies) (length t.revokes) ≤ ring_free ring
+      → PlaceFacts s (record (place_blocks (log_blocks_for w (length t.bodies) (length t.revokes)) ring) { started = true }) (count (with_barrier (before ring.started)) + 1)
   built_places room =
-      let n = plan_counted w (N + 1) (s.sequence + (N + 1 - 1)) t.bodies t.revokes in
+      let n = plan_counted w (N + 1) (s.sequence + (N + 1 - 1)) t.bodies t.revokes written.some_tags written.some_revokes in
       let m = barrier_count (before ring.started) ∙ counted ring.started in
-      let all : log_blocks_for (length t.bodies) (length t.revokes) ≡ count (with_barrier (before ring.started)) + 1 = omega arith in
+      let all : log_blocks_for w (length t.bodies) (length t.revokes) ≡ count (with_barrier (before ring.started)) + 1 = omega arith in
       let most = places.room in
       let size : ring.places.past - ring.places.first ≡ s.ring.past - s.ring.first = ap (λ (r : Ring). r.past - r.first) places.places in
       record {
         places = places.places;
         head =
-            ap (λ r. places_on r (log_blocks_for (length t.bodies) (length t.revokes)) ring.head) places.places
-            ∙ ap (λ pl. places_on s.ring (log_blocks_for (length t.bodies) (length t.revokes)) pl) head_now
-            ∙ sym (places_on-add s.ring (length (log_blocks s)) (log_blocks_for (length t.bodies) (length t.revokes)) s.head)
+            ap (λ r. places_on r (log_blocks_for w (length t.bodies) (length t.revokes)) ring.head) places.places
+            ∙ ap (λ pl. places_on s.ring (log_blocks_for w (length t.bodies) (length t.revokes)) pl) head_now
+            ∙ sym (places_on-add s.ring (length (log_blocks s)) (log_blocks_for w (length t.bodies) (length t.revokes)) s.head)
             ∙ ap (λ k. places_on s.ring (length (log_blocks s) + k) s.head) all;
         room = omega arith;
         within = omega arith;

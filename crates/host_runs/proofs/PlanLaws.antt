@@ -1,8 +1,10 @@
 -- The log blocks of a plan spell its transaction, and there are as many as were counted.
 use Rattle.std.proofs.Common.{sym, ap, subst, ◌∙◌, inl, inr, ⊎_elim, arith, append_assoc, append-nil, length-append}
+use Rattle.std.proofs.Math.Nat.{mul-le-mul_right}
+use Rattle.std.proofs.lemmas.Bool.{cases_lt}
 use Rattle.std.proofs.lemmas.Grind.{div_ceil_times}
 use Rattle.std.specs.Int.{div_ceil}
-use Rattle.std.specs.Prelude.{◌≡◌, ℕ, zero, suc, ◌+◌, ◌-◌, ◌*◌, ◌≤◌, List, [], ◌∷◌, ◌++◌, map, length, Some, refl}
+use Rattle.std.specs.Prelude.{◌≡◌, ℕ, zero, suc, ◌+◌, ◌-◌, ◌*◌, ◌<◌, ◌≤◌, List, [], ◌∷◌, ◌++◌, map, length, Some, refl}
 use Rattle.blk_base.specs.Members.{In}
 use Rattle.blk_base.specs.laws.Members.{In-append_cases, In-map}
 use Rattle.order_model.specs.declared.note.Note.TheVariants.{Commit}
@@ -63,7 +65,7 @@ module _ (w : Writers) (k seq : ℕ) where
   revoke_parts (c ∷ cs) rest = revoke_part c ∷ revoke_parts cs rest
 
   abbrev plan_parts : List Logged → List ℕ → List Part
-  plan_parts bodies revokes = revoke_parts (chunks 252 revokes) (body_parts (chunks 122 bodies))
+  plan_parts bodies revokes = revoke_parts (chunks w.most_revokes revokes) (body_parts (chunks w.most_tags bodies))
 
   abbrev pub bytes_of : List UnplacedBlock → List (List ℕ)
   bytes_of = map (λ (b : UnplacedBlock). b.body)
@@ -88,7 +90,7 @@ module _ (w : Writers) (k seq : ℕ) where
   revoke_bytes (c ∷ cs) rest parts e = ap (λ zs. w.revoke seq c ∷ zs) (revoke_bytes cs rest parts e)
 
   plan_bytes : (bodies : List Logged) (revokes : List ℕ) → bytes_of (logged_blocks w k seq bodies revokes) ≡ blocks_of_parts (plan_parts bodies revokes)
-  plan_bytes bodies revokes = revoke_bytes (chunks 252 revokes) (all_described w k seq (chunks 122 bodies)) (body_parts (chunks 122 bodies)) (described_bytes (chunks 122 bodies))
+  plan_bytes bodies revokes = revoke_bytes (chunks w.most_revokes revokes) (all_described w k seq (chunks w.most_tags bodies)) (body_parts (chunks w.most_tags bodies)) (described_bytes (chunks w.most_tags bodies))
 
   module _ (f : Format) (written : AreWritten f w) where
     restored_back : (c : List Logged) → ((l : Logged) → In l c → IsBlock l.body) → restored f (tags c) (map (λ (l : Logged). w.stored l.body) c) ≡ c
@@ -126,18 +128,18 @@ module _ (w : Writers) (k seq : ℕ) where
     tag_in : (c : List Logged) (t : Tag) → In t (tags c) → ((l : Logged) → In l c → IsWord l.block) → IsWord t.block
     tag_in c t i h = let m = In-map (tag_of w) c t i in subst (λ (u : Tag). IsWord u.block) m.2 (h m.0 m.1)
 
-    body_is_part : (c : List Logged) → IsWord seq → (1 ≤ length c) × (length c ≤ 122) → ((l : Logged) → In l c → IsWord l.block) → IsPart f seq (body_part c)
+    body_is_part : (c : List Logged) → IsWord seq → (1 ≤ length c) × (length c ≤ w.most_tags) → ((l : Logged) → In l c → IsWord l.block) → IsPart f seq (body_part c)
     body_is_part c fits size h =
         let n = tags_counted c in
         let lo = size.0 in
         let hi = size.1 in
         (written.descriptor seq (tags c) fits (omega arith) (omega arith) (λ t i. tag_in c t i h), n ∙ sym (stored_counted c))
 
-    are_body_parts : (cs : List (List Logged)) → IsWord seq → ((c : List Logged) → In c cs → (1 ≤ length c) × (length c ≤ 122)) → ((c : List Logged) (l : Logged) → In c cs → In l c → IsWord l.block) → AreParts f seq (body_parts cs)
+    are_body_parts : (cs : List (List Logged)) → IsWord seq → ((c : List Logged) → In c cs → (1 ≤ length c) × (length c ≤ w.most_tags)) → ((c : List Logged) (l : Logged) → In c cs → In l c → IsWord l.block) → AreParts f seq (body_parts cs)
     are_body_parts [] fits size h = tt
     are_body_parts (c ∷ cs) fits size h = (body_is_part c fits (size c (inl refl)) (λ l i. h c l (inl refl) i), are_body_parts cs fits (λ d i. size d (inr i)) (λ d l i j. h d l (inr i) j))
 
-    are_revoke_parts : (cs : List (List ℕ)) (rest : List Part) → IsWord seq → ((c : List ℕ) → In c cs → (1 ≤ length c) × (length c ≤ 252)) → ((c : List ℕ) (b : ℕ) → In c cs → In b c → IsWord b) → AreParts f seq rest → AreParts f seq (revoke_parts cs rest)
+    are_revoke_parts : (cs : List (List ℕ)) (rest : List Part) → IsWord seq → ((c : List ℕ) → In c cs → (1 ≤ length c) × (length c ≤ w.most_revokes)) → ((c : List ℕ) (b : ℕ) → In c cs → In b c → IsWord b) → AreParts f seq rest → AreParts f seq (revoke_parts cs rest)
     are_revoke_parts [] rest fits size h r = r
     are_revoke_parts (c ∷ cs) rest fits size h r =
         let s = size c (inl refl) in
@@ -146,25 +148,25 @@ module _ (w : Writers) (k seq : ℕ) where
     module _ (t : Transaction) (writable : IsWritable t) (fits : IsWord seq) where
       plan_bodies : bodies_of_parts f (plan_parts t.bodies t.revokes) ≡ t.bodies
       plan_bodies =
-          revoke_bodies (chunks 252 t.revokes) (body_parts (chunks 122 t.bodies))
-          ∙ body_bodies (chunks 122 t.bodies) (λ c l i j. writable.bodies l (In-chunks 122 t.bodies c l i j))
-          ∙ chunks_flat 122 122 [] t.bodies
+          revoke_bodies (chunks w.most_revokes t.revokes) (body_parts (chunks w.most_tags t.bodies))
+          ∙ body_bodies (chunks w.most_tags t.bodies) (λ c l i j. writable.bodies l (In-chunks w.most_tags t.bodies c l i j))
+          ∙ chunks_flat w.most_tags w.most_tags [] t.bodies
 
       plan_revokes : revokes_of_parts (plan_parts t.bodies t.revokes) ≡ t.revokes
       plan_revokes =
-          revoke_revokes (chunks 252 t.revokes) (body_parts (chunks 122 t.bodies))
-          ∙ ap (λ zs. flat (chunks 252 t.revokes) ++ zs) (body_revokes (chunks 122 t.bodies))
-          ∙ append-nil (flat (chunks 252 t.revokes))
-          ∙ chunks_flat 252 252 [] t.revokes
+          revoke_revokes (chunks w.most_revokes t.revokes) (body_parts (chunks w.most_tags t.bodies))
+          ∙ ap (λ zs. flat (chunks w.most_revokes t.revokes) ++ zs) (body_revokes (chunks w.most_tags t.bodies))
+          ∙ append-nil (flat (chunks w.most_revokes t.revokes))
+          ∙ chunks_flat w.most_revokes w.most_revokes [] t.revokes
 
       are_plan_parts : AreParts f seq (plan_parts t.bodies t.revokes)
       are_plan_parts =
-          are_revoke_parts (chunks 252 t.revokes) (body_parts (chunks 122 t.bodies)) fits
-          (λ c i. chunks_sized 252 252 [] t.revokes c (omega arith) (omega arith) i)
-          (λ c b i j. writable.revokes b (In-chunks 252 t.revokes c b i j))
-          (are_body_parts (chunks 122 t.bodies) fits
-          (λ c i. chunks_sized 122 122 [] t.bodies c (omega arith) (omega arith) i)
-          (λ c l i j. writable.blocks l (In-chunks 122 t.bodies c l i j)))
+          are_revoke_parts (chunks w.most_revokes t.revokes) (body_parts (chunks w.most_tags t.bodies)) fits
+          (λ c i. chunks_sized w.most_revokes w.most_revokes [] t.revokes c written.some_revokes (omega arith) i)
+          (λ c b i j. writable.revokes b (In-chunks w.most_revokes t.revokes c b i j))
+          (are_body_parts (chunks w.most_tags t.bodies) fits
+          (λ c i. chunks_sized w.most_tags w.most_tags [] t.bodies c written.some_tags (omega arith) i)
+          (λ c l i j. writable.blocks l (In-chunks w.most_tags t.bodies c l i j)))
 
       -- The blocks of a plan, with its commit block behind them, spell the transaction.
       pub plan_spells : Spells f seq (bytes_of (logged_blocks w k seq t.bodies t.revokes) ++ w.commit seq ∷ []) t
@@ -185,10 +187,10 @@ module _ (w : Writers) (k sequence : ℕ) (f : Format) (written : AreWritten f w
   body_draft : (l : Logged) → IsBlock l.body → IsDraft f sequence k (body_block w k (sequence + (k - 1)) l)
   body_draft l n = (refl, λ j e. cc, written.plain l.body n)
 
-  revoke_draft : (c : List ℕ) → (1 ≤ length c) × (length c ≤ 252) → ((b : ℕ) → In b c → IsWord b) → IsDraft f sequence k (revoke_block w k (sequence + (k - 1)) c)
+  revoke_draft : (c : List ℕ) → (1 ≤ length c) × (length c ≤ w.most_revokes) → ((b : ℕ) → In b c → IsWord b) → IsDraft f sequence k (revoke_block w k (sequence + (k - 1)) c)
   revoke_draft c size h = (refl, λ j e. cc, (c, written.revoke (sequence + (k - 1)) c fits size.0 size.1 h))
 
-  described_drafts : (c : List Logged) → (1 ≤ length c) × (length c ≤ 122) → ((l : Logged) → In l c → IsWord l.block) → ((l : Logged) → In l c → IsBlock l.body)
+  described_drafts : (c : List Logged) → (1 ≤ length c) × (length c ≤ w.most_tags) → ((l : Logged) → In l c → IsWord l.block) → ((l : Logged) → In l c → IsBlock l.body)
       → (b : UnplacedBlock) → In b (described w k (sequence + (k - 1)) c) → IsDraft f sequence k b
   described_drafts c size words whole b (inl e) =
       subst (IsDraft f sequence k) e (refl, λ j q. cc, (map (tag_of w) c, (body_is_part w k (sequence + (k - 1)) f written c fits size words).0))
@@ -196,7 +198,7 @@ module _ (w : Writers) (k sequence : ℕ) (f : Format) (written : AreWritten f w
       let m = In-map (body_block w k (sequence + (k - 1))) c b i in
       subst (IsDraft f sequence k) m.2 (body_draft m.0 (whole m.0 m.1))
 
-  all_drafts : (cs : List (List Logged)) → ((c : List Logged) → In c cs → (1 ≤ length c) × (length c ≤ 122)) → ((c : List Logged) (l : Logged) → In c cs → In l c → IsWord l.block × (IsBlock l.body))
+  all_drafts : (cs : List (List Logged)) → ((c : List Logged) → In c cs → (1 ≤ length c) × (length c ≤ w.most_tags)) → ((c : List Logged) (l : Logged) → In c cs → In l c → IsWord l.block × (IsBlock l.body))
       → (b : UnplacedBlock) → In b (all_described w k (sequence + (k - 1)) cs) → IsDraft f sequence k b
   all_drafts [] size h b i = absurd i
   all_drafts (c ∷ cs) size h b i =
@@ -209,45 +211,47 @@ module _ (w : Writers) (k sequence : ℕ) (f : Format) (written : AreWritten f w
   are_drafts t writable b i =
       ⊎_elim
       (λ j.
-      let m = In-map (revoke_block w k (sequence + (k - 1))) (chunks 252 t.revokes) b j in
-      subst (IsDraft f sequence k) m.2 (revoke_draft m.0 (chunks_sized 252 252 [] t.revokes m.0 (omega arith) (omega arith) m.1) (λ c n. writable.revokes c (In-chunks 252 t.revokes m.0 c m.1 n))))
-      (λ j. all_drafts (chunks 122 t.bodies) (λ c m. chunks_sized 122 122 [] t.bodies c (omega arith) (omega arith) m)
-      (λ c l m n. (writable.blocks l (In-chunks 122 t.bodies c l m n), writable.bodies l (In-chunks 122 t.bodies c l m n))) b j)
-      (In-append_cases (map (revoke_block w k (sequence + (k - 1))) (chunks 252 t.revokes)) (all_described w k (sequence + (k - 1)) (chunks 122 t.bodies)) b i)
+      let m = In-map (revoke_block w k (sequence + (k - 1))) (chunks w.most_revokes t.revokes) b j in
+      subst (IsDraft f sequence k) m.2 (revoke_draft m.0 (chunks_sized w.most_revokes w.most_revokes [] t.revokes m.0 written.some_revokes (omega arith) m.1) (λ c n. writable.revokes c (In-chunks w.most_revokes t.revokes m.0 c m.1 n))))
+      (λ j. all_drafts (chunks w.most_tags t.bodies) (λ c m. chunks_sized w.most_tags w.most_tags [] t.bodies c written.some_tags (omega arith) m)
+      (λ c l m n. (writable.blocks l (In-chunks w.most_tags t.bodies c l m n), writable.bodies l (In-chunks w.most_tags t.bodies c l m n))) b j)
+      (In-append_cases (map (revoke_block w k (sequence + (k - 1))) (chunks w.most_revokes t.revokes)) (all_described w k (sequence + (k - 1)) (chunks w.most_tags t.bodies)) b i)
 
 -- ---- how many
 
 -- ---- as many as n / most, rounded up
 
-revokes_needed : (left n : ℕ) → left ≤ 251 → (n ≤ left + parts_needed 252 left n * 252) × (parts_needed 252 left n * 252 + left ≤ n + 251)
-revokes_needed left zero le = (omega arith, omega arith)
-revokes_needed zero (suc n) le = let rest = revokes_needed 251 n (omega arith) in let lo = rest.0 in let hi = rest.1 in (omega arith, omega arith)
-revokes_needed (suc left) (suc n) le = let rest = revokes_needed left n (omega arith) in let lo = rest.0 in let hi = rest.1 in (omega arith, omega arith)
+needed_within : (m left n : ℕ) → left ≤ m → (n ≤ left + parts_needed (suc m) left n * suc m) × (parts_needed (suc m) left n * suc m + left ≤ n + m)
+needed_within m left zero le = (omega arith, omega (arith, le))
+needed_within m zero (suc n) le =
+    let rest = needed_within m m n (omega arith) in
+    let lo = rest.0 in
+    let hi = rest.1 in
+    let k = parts_needed (suc m) m n in
+    let one : suc m - 1 ≡ m = omega arith in
+    let grown : parts_needed (suc m) 0 (suc n) * suc m ≡ suc k * suc m = ap (λ j. suc j * suc m) (ap (λ l. parts_needed (suc m) l n) one) in
+    let product : suc k * suc m ≡ k * suc m + suc m = omega arith in
+    (omega (arith, lo, grown, product), omega (arith, hi, grown, product))
+needed_within m (suc left) (suc n) le = let rest = needed_within m left n (omega (arith, le)) in let lo = rest.0 in let hi = rest.1 in (omega (arith, lo), omega (arith, hi))
 
-bodies_needed : (left n : ℕ) → left ≤ 121 → (n ≤ left + parts_needed 122 left n * 122) × (parts_needed 122 left n * 122 + left ≤ n + 121)
-bodies_needed left zero le = (omega arith, omega arith)
-bodies_needed zero (suc n) le = let rest = bodies_needed 121 n (omega arith) in let lo = rest.0 in let hi = rest.1 in (omega arith, omega arith)
-bodies_needed (suc left) (suc n) le = let rest = bodies_needed left n (omega arith) in let lo = rest.0 in let hi = rest.1 in (omega arith, omega arith)
+one_quotient : (m a b n : ℕ) → n ≤ a * suc m → a * suc m ≤ n + m → n ≤ b * suc m → b * suc m < n + suc m → a ≡ b
+one_quotient m a b n low_a high_a low_b high_b =
+    ⊎_elim
+    (λ lt. absurd (let more = mul-le-mul_right (suc m) lt in omega (arith, more, low_a, high_b)))
+    (λ le. ⊎_elim
+    (λ lt. absurd (let more = mul-le-mul_right (suc m) lt in omega (arith, more, low_b, high_a)))
+    (λ ge. omega (arith, le, ge))
+    (cases_lt b a))
+    (cases_lt a b)
 
-revoke_blocks : (r : ℕ) → parts_needed 252 0 r ≡ div_ceil r 252
-revoke_blocks r =
-    let x = revokes_needed 0 r (omega arith) in
+parts_divided : (most n : ℕ) → 1 ≤ most → parts_needed most 0 n ≡ div_ceil n most
+parts_divided zero n some = absurd (omega (arith, some))
+parts_divided (suc m) n some =
+    let x = needed_within m 0 n (omega arith) in
     let lo = x.0 in
     let hi = x.1 in
-    let y = div_ceil_times r 252 (omega arith) in
-    let low = y.0 in
-    let high = y.1 in
-    omega arith
-
-descriptors : (b : ℕ) → parts_needed 122 0 b ≡ div_ceil b 122
-descriptors b =
-    let x = bodies_needed 0 b (omega arith) in
-    let lo = x.0 in
-    let hi = x.1 in
-    let y = div_ceil_times b 122 (omega arith) in
-    let low = y.0 in
-    let high = y.1 in
-    omega arith
+    let y = div_ceil_times n (suc m) (omega arith) in
+    one_quotient m (parts_needed (suc m) 0 n) (div_ceil n (suc m)) n (omega (arith, lo)) (omega (arith, hi)) y.0 y.1
 
 module _ (w : Writers) (k seq : ℕ) where
   mapped_counted : {X : Type 0} (g : X → UnplacedBlock) (xs : List X) → length (map g xs) ≡ length xs
@@ -263,14 +267,14 @@ module _ (w : Writers) (k seq : ℕ) where
       let e = length-append c (flat cs) in
       omega arith
 
-  pub plan_counted : (bodies : List Logged) (revokes : List ℕ) → length (logged_blocks w k seq bodies revokes) + 1 ≡ log_blocks_for (length bodies) (length revokes)
-  plan_counted bodies revokes =
-      let a = length-append (map (revoke_block w k seq) (chunks 252 revokes)) (all_described w k seq (chunks 122 bodies)) in
-      let b = mapped_counted (revoke_block w k seq) (chunks 252 revokes) in
-      let c = described_counted (chunks 122 bodies) in
-      let d = chunks_counted 252 revokes (omega arith) in
-      let e = chunks_counted 122 bodies (omega arith) in
-      let g = ap length (chunks_flat 122 122 [] bodies) in
-      let x = revoke_blocks (length revokes) in
-      let y = descriptors (length bodies) in
+  pub plan_counted : (bodies : List Logged) (revokes : List ℕ) → 1 ≤ w.most_tags → 1 ≤ w.most_revokes → length (logged_blocks w k seq bodies revokes) + 1 ≡ log_blocks_for w (length bodies) (length revokes)
+  plan_counted bodies revokes some_tags some_revokes =
+      let a = length-append (map (revoke_block w k seq) (chunks w.most_revokes revokes)) (all_described w k seq (chunks w.most_tags bodies)) in
+      let b = mapped_counted (revoke_block w k seq) (chunks w.most_revokes revokes) in
+      let c = described_counted (chunks w.most_tags bodies) in
+      let d = chunks_counted w.most_revokes revokes some_revokes in
+      let e = chunks_counted w.most_tags bodies some_tags in
+      let g = ap length (chunks_flat w.most_tags w.most_tags [] bodies) in
+      let x = parts_divided w.most_revokes (length revokes) some_revokes in
+      let y = parts_divided w.most_tags (length bodies) some_tags in
       omega arith

@@ -247,9 +247,9 @@ module _ (s : Session) (N : ℕ) (order : CommitOrder s) (transactions : ℕ →
   }
 
   pub plan_is_built : (w : Writers) (p : Plan) (ring : LogRing) → AreWritten s.format w → IsWritable (transaction_of_plan p) → IsApart (transaction_of_plan p) → IsWord (s.sequence + (N + 1 - 1)) → IsWord s.head → transactions (N + 1) ≡ transaction_of_plan p
-      → log_blocks_for (length p.bodies) (length p.revokes) ≤ ring_free ring
+      → log_blocks_for w (length p.bodies) (length p.revokes) ≤ ring_free ring
       → p.rest ≡ plan_of w s.journal ring.places ring.head ring.started (N + 1) (s.sequence + (N + 1 - 1)) p.bodies p.revokes
-      → RingKept s ring N Closing → RingKept told_anew (record (place_blocks (log_blocks_for (length p.bodies) (length p.revokes)) ring) { started = true }) N (Committing p)
+      → RingKept s ring N Closing → RingKept told_anew (record (place_blocks (log_blocks_for w (length p.bodies) (length p.revokes)) ring) { started = true }) N (Committing p)
   plan_is_built w p ring written writable apart fits head_fits told room is_plan kept =
       let rest = kept.in_phase in
       let plan = built_plan w s N (transaction_of_plan p) ring order rest.numbers rest.places written writable fits head_fits rest.started.0 rest.started.1 in
@@ -277,7 +277,7 @@ module _ (s : Session) (N : ℕ) (order : CommitOrder s) (transactions : ℕ →
             first = told_plan.first;
             spells = told_plan.spells;
           };
-          places = places_told (record (place_blocks (log_blocks_for (length p.bodies) (length p.revokes)) ring) { started = true }) (count p.rest) (subst (PlaceFacts s (record (place_blocks (log_blocks_for (length p.bodies) (length p.revokes)) ring) { started = true })) (sym (ap count is_plan ∙ count-append _ _)) places);
+          places = places_told (record (place_blocks (log_blocks_for w (length p.bodies) (length p.revokes)) ring) { started = true }) (count p.rest) (subst (PlaceFacts s (record (place_blocks (log_blocks_for w (length p.bodies) (length p.revokes)) ring) { started = true })) (sym (ap count is_plan ∙ count-append _ _)) places);
           apart = apart;
           told = told;
           started = refl;

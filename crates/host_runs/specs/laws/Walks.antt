@@ -199,11 +199,11 @@ module _ {T V C R : Type 0} (M : Model T V C R) (u : Setup) (full : Bool) (s : H
         by : (x : Option CachedPage) → Turns (elim x as (λ _. Turned V C R) [
           | Some p ↦ submits M u full s (send_page M u s p true false)
           | None ↦
-              if nat_lt (ring_free s.journal.ring) (log_needs s.journal.running) then submits M u full s (checkpoint M u s s.journal.ring.homes)
+              if nat_lt (ring_free s.journal.ring) (log_needs u.writers s.journal.running) then submits M u full s (checkpoint M u s s.journal.ring.homes)
               else record { host = build_plan M u s; turn = turns.Did }
         ])
         by (Some p) = submits_walk ends.rests _ (ends.sends_page p)
-        by None = either Turns (nat_lt (ring_free s.journal.ring) (log_needs s.journal.running)) _ _ (λ e. submits_walk ends.rests _ ends.checkpoints) (λ e. ends.builds)
+        by None = either Turns (nat_lt (ring_free s.journal.ring) (log_needs u.writers s.journal.running)) _ _ (λ e. submits_walk ends.rests _ ends.checkpoints) (λ e. ends.builds)
 
     phase_walk : (phase : Phase) → s.journal.phase ≡ phase → Turns (in_phase M u full s phase)
     phase_walk Idle is = either Turns (s.journal.running.wanted && is_none (least s.journal.flush.conflicts)) _ _ (λ e. ends.closes) (λ e. ends.rests)

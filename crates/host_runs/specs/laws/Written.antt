@@ -12,10 +12,13 @@ IsWord n = n < 4294967296
 abbrev pub tag_of : Writers → Logged → Tag
 tag_of w l = record { block = l.block; escaped = w.is_escaped l.body }
 
--- The journal's format reads what these write: with 1 to 122 tags, with 1 to 252 revokes, and whole blocks.
+-- The journal's format reads what these write: with a tag or more, with a revoke or more, as many as there may be, and
+-- whole blocks.
 pub record AreWritten (f : Format) (w : Writers) : Type 0 where
-  pub descriptor : (seq : ℕ) (tags : List Tag) → IsWord seq → 1 ≤ length tags → length tags ≤ 122 → ((t : Tag) → In t tags → IsWord t.block) → f.header (w.descriptor seq tags) ≡ Describes seq tags
-  pub revoke : (seq : ℕ) (blocks : List ℕ) → IsWord seq → 1 ≤ length blocks → length blocks ≤ 252 → ((b : ℕ) → In b blocks → IsWord b) → f.header (w.revoke seq blocks) ≡ Revokes seq blocks
+  pub some_tags : 1 ≤ w.most_tags
+  pub some_revokes : 1 ≤ w.most_revokes
+  pub descriptor : (seq : ℕ) (tags : List Tag) → IsWord seq → 1 ≤ length tags → length tags ≤ w.most_tags → ((t : Tag) → In t tags → IsWord t.block) → f.header (w.descriptor seq tags) ≡ Describes seq tags
+  pub revoke : (seq : ℕ) (blocks : List ℕ) → IsWord seq → 1 ≤ length blocks → length blocks ≤ w.most_revokes → ((b : ℕ) → In b blocks → IsWord b) → f.header (w.revoke seq blocks) ≡ Revokes seq blocks
   pub commit : (seq : ℕ) → IsWord seq → f.header (w.commit seq) ≡ Commits seq
   -- a stored body is escaped, so it never begins as a header does
   pub plain : (body : List ℕ) → IsBlock body → f.header (w.stored body) ≡ Plain
