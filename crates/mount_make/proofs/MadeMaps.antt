@@ -122,24 +122,24 @@ map_bit last n at some whole low =
 place_is : (p q : BitPlace) → p.block ≡ q.block → p.at ≡ q.at → p ≡ q
 place_is p q block at = ap₂ (λ b a. let made : BitPlace = record { block = b; at = a } in made) block at
 
-module _ (g : Geometry) (journal : ℕ) (sound : IsSound g) where
-  made : (p : BitPlace) → p.block < 2 + g.imap + g.zmap → has_bit (made_image g journal) p ≡ bit_of (made_block g p.block) p.at
+module _ (g : Geometry) (journal : ℕ) (wide : Bool) (sound : IsSound g) where
+  made : (p : BitPlace) → p.block < 2 + g.imap + g.zmap → has_bit (made_image g journal wide) p ≡ bit_of (made_block g p.block) p.at
   made p high =
       let below = sound.tables_below in
       let more = sound.some_zone in
-      ap (λ body. bit_of body p.at) (body_at-some (made_image g journal) p.block (made_block g p.block) (get_volume g journal p.block (omega (arith, high, below, more))))
+      ap (λ body. bit_of body p.at) (body_at-some (made_image g journal wide) p.block (made_block g p.block) (get_volume g journal wide p.block (omega (arith, high, below, more))))
 
-  in_inodes : (p : BitPlace) → 2 ≤ p.block → p.block < 2 + g.imap → p.at < 8192 → has_bit (made_image g journal) p ≡ taken g.inodes (8192 * (p.block - 2) + p.at)
+  in_inodes : (p : BitPlace) → 2 ≤ p.block → p.block < 2 + g.imap → p.at < 8192 → has_bit (made_image g journal wide) p ≡ taken g.inodes (8192 * (p.block - 2) + p.at)
   in_inodes p low high within =
       let some = sound.some_inode in
       made p (omega (arith, high)) ∙ (ap (λ body. bit_of body p.at) (made_inodes g sound p.block low high) ∙ map_bit g.inodes (8192 * (p.block - 2)) p.at (omega (arith, some)) (omega arith) within)
 
-  in_zones : (p : BitPlace) → 2 + g.imap ≤ p.block → p.block < 2 + g.imap + g.zmap → p.at < 8192 → has_bit (made_image g journal) p ≡ taken (g.zones - g.first) (8192 * (p.block - (2 + g.imap)) + p.at)
+  in_zones : (p : BitPlace) → 2 + g.imap ≤ p.block → p.block < 2 + g.imap + g.zmap → p.at < 8192 → has_bit (made_image g journal wide) p ≡ taken (g.zones - g.first) (8192 * (p.block - (2 + g.imap)) + p.at)
   in_zones p low high within =
       let some = sound.some_zone in
       made p high ∙ (ap (λ body. bit_of body p.at) (made_zones g sound p.block low high) ∙ map_bit (g.zones - g.first) (8192 * (p.block - (2 + g.imap))) p.at (omega (arith, some)) (omega arith) within)
 
-  pub inode_marked : (inode : ℕ) → 1 ≤ inode → inode ≤ g.inodes → has_bit (made_image g journal) (inode_bit g inode) ≡ (inode == 1)
+  pub inode_marked : (inode : ℕ) → 1 ≤ inode → inode ≤ g.inodes → has_bit (made_image g journal wide) (inode_bit g inode) ≡ (inode == 1)
   inode_marked inode low high =
       let bits = sound.inode_bits in
       let here : 8192 * (2 + inode / 8192 - 2) + inode % 8192 ≡ inode = omega arith in
@@ -152,7 +152,7 @@ module _ (g : Geometry) (journal : ℕ) (sound : IsSound g) where
         | inr differ ↦ rw (ne_eqb zone g.first differ, ne_eqb (zone - g.first + 1) 1 (λ e. differ (omega (arith, low, e)))) refl
       ]
 
-  pub zone_marked : (zone : ℕ) → g.first ≤ zone → zone < g.zones → has_bit (made_image g journal) (zone_bit g zone) ≡ (zone == g.first)
+  pub zone_marked : (zone : ℕ) → g.first ≤ zone → zone < g.zones → has_bit (made_image g journal wide) (zone_bit g zone) ≡ (zone == g.first)
   zone_marked zone low high =
       let bits = sound.zone_bits in
       let n = zone - g.first + 1 in
@@ -162,7 +162,7 @@ module _ (g : Geometry) (journal : ℕ) (sound : IsSound g) where
 
   pub other_marked : (p : BitPlace) → 2 ≤ p.block → p.block < 2 + g.imap + g.zmap → p.at < 8192 →
       ((inode : ℕ) → 1 ≤ inode → inode ≤ g.inodes → p ≢ inode_bit g inode) → ((zone : ℕ) → g.first ≤ zone → zone < g.zones → p ≢ zone_bit g zone) →
-      has_bit (made_image g journal) p ≡ true
+      has_bit (made_image g journal wide) p ≡ true
   other_marked p low high within no_inode no_zone =
       elim (cases_lt p.block (2 + g.imap)) [
         | inl here ↦

@@ -1,5 +1,5 @@
 -- The image of a new volume and an empty journal.
-use Rattle.std.specs.Prelude.{ℕ, ◌+◌, ◌-◌, ◌*◌, ◌^◌, ◌==◌, ◌&&◌, nat_lt, nat_le, min, if◌then◌else◌, List, ◌∷◌, ◌++◌, map, replicate}
+use Rattle.std.specs.Prelude.{ℕ, Bool, ◌+◌, ◌-◌, ◌*◌, ◌^◌, ◌==◌, ◌&&◌, nat_lt, nat_le, min, if◌then◌else◌, List, ◌∷◌, ◌++◌, map, replicate}
 use Rattle.std.specs.List.{range_with_len}
 use Rattle.blk_base.specs.Block.{filled}
 use Rattle.minix_layout.specs.declared.division.Geometry.{Geometry}
@@ -30,10 +30,10 @@ made_block g b =
 unfoldable pub made_volume : Geometry → List (List ℕ)
 made_volume g = map (made_block g) (range_with_len 0 g.zones)
 
--- a journal whose log is empty
-abbrev pub new_journal : ℕ → JournalSuper
-new_journal blocks = record { maxlen = blocks; first = 1; sequence = 1; start = 0; incompat = 1 }
+-- a journal whose log is empty; it has revoke blocks, and wide tags or not
+abbrev pub new_journal : ℕ → Bool → JournalSuper
+new_journal blocks wide = record { maxlen = blocks; first = 1; sequence = 1; start = 0; incompat = if wide then 3 else 1 }
 
 -- the volume, and behind it the journal, of zeros but for its superblock
-abbrev pub made_image : Geometry → ℕ → List (List ℕ)
-made_image g journal = made_volume g ++ journal_super (new_journal journal) ∷ replicate (journal - 1) (filled 0)
+abbrev pub made_image : Geometry → ℕ → Bool → List (List ℕ)
+made_image g journal wide = made_volume g ++ journal_super (new_journal journal wide) ∷ replicate (journal - 1) (filled 0)

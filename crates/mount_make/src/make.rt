@@ -21,12 +21,19 @@ pub enum MakeFault {
     NoMemory,
 }
 
-/// An image with a new volume of so many inodes and blocks, and behind it an empty journal of so many blocks.
+/// An image with a new volume of so many inodes and blocks, and behind it an empty journal of so many blocks, with wide
+/// tags or not.
 ///
 /// The root is its one directory, with the rights 755 and the time 0.
-pub fn make_volume(alloc: Global, inodes: u16, zones: u16, journal: u32) -> Result<Image, MakeFault>
+pub fn make_volume(
+    alloc: Global,
+    inodes: u16,
+    zones: u16,
+    journal: u32,
+    wide: bool,
+) -> Result<Image, MakeFault>
     requires { inodes ≢ 0 }
-    ensures image { IfOk result (λ i. i ≡ made_image (geometry_made inodes zones) journal) }
+    ensures image { IfOk result (λ i. i ≡ made_image (geometry_made inodes zones) journal wide) }
     ensures too_small { (result ≡ Err MakeFault.TooSmall) ↔ (zones ≤ first_zone inodes zones) }
     ensures journal_size { (result ≡ Err MakeFault.JournalSize) ↔ ((first_zone inodes zones < zones) × ((journal < LEAST_JOURNAL) ⊎ (MOST_JOURNAL < journal))) }
 {
@@ -36,25 +43,25 @@ pub fn make_volume(alloc: Global, inodes: u16, zones: u16, journal: u32) -> Resu
     if journal < LEAST_JOURNAL || journal > MOST_JOURNAL {
         return Err(MakeFault::JournalSize);
     }
-    match image_of(alloc, &g, journal) {
+    match image_of(alloc, &g, journal, wide) {
         Some(image) => Ok(image),
         None => Err(MakeFault::NoMemory),
     }
 }
 
 // None is want of memory.
-fn image_of(alloc: Global, g: &Geometry, journal: u32) -> Option<Image>
+fn image_of(alloc: Global, g: &Geometry, journal: u32, wide: bool) -> Option<Image>
     requires sound { IsSound g.now }
     requires some { 0 < journal }
     requires few { journal ≤ MOST_JOURNAL }
-    ensures { IfSome result (λ i. i ≡ made_image g.now journal) }
+    ensures { IfSome result (λ i. i ≡ made_image g.now journal wide) }
 {
     let zones = u32::from(g.zones);
     let Ok(mut image) = Image::zeroed(alloc, zones + journal) else {
         return None;
     };
     put_volume(&mut image, g);
-    image.put(zones, write_super(&new_journal(journal)));
+    image.put(zones, write_super(&new_journal(journal, wide)));
     Some(image)
 }
 
@@ -69,15 +76,16 @@ fn put_volume(image: &mut Image, g: &Geometry)
     }
 }
 
-/// A journal of so many blocks whose log is empty, and whose first transaction has the sequence 1.
-pub fn new_journal(blocks: u32) -> JournalSuper
-    ensures { result ≡ new_journal blocks }
+/// A journal of so many blocks whose log is empty, and whose first transaction has the sequence 1. It has revoke blocks,
+/// and wide tags or not.
+pub fn new_journal(blocks: u32, wide: bool) -> JournalSuper
+    ensures { result ≡ new_journal blocks wide }
 {
     JournalSuper {
         maxlen: blocks,
         first: 1,
         sequence: 1,
         start: 0,
-        incompat: 1,
+        incompat: if wide { 3 } else { 1 },
     }
 }

@@ -3,7 +3,7 @@ use Rattle.mount_make.proofs.laws.made_maps_mark_the_root.Goals as goal
 
 pub returns : goal.returns
 returns c = record {
-  inodes = λ g journal inode sound. inode_marked g journal sound inode;
-  zones = λ g journal zone sound. zone_marked g journal sound zone;
-  others = λ g journal p sound. other_marked g journal sound p;
+  inodes = λ g journal wide inode sound. inode_marked g journal wide sound inode;
+  zones = λ g journal wide zone sound. zone_marked g journal wide sound zone;
+  others = λ g journal wide p sound. other_marked g journal wide sound p;
 }

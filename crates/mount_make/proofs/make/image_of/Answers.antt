@@ -16,4 +16,4 @@ returns c =
     let filled = filled_on g c.requires.sound (g.zones + journal) image (omega arith) front in
     c.put.ensures ∙ (ap (λ (n : ℕ). slice_set image n c.write_super.result) c.from-zones.ensures
     ∙ (ap (slice_set image g.zones) (c.write_super.ensures.value ∙ ap journal_super c.new_journal.ensures)
-    ∙ made_is g journal image c.requires.some filled))
+    ∙ made_is g journal c.args.wide image c.requires.some filled))
