@@ -1,23 +1,20 @@
 -- What a volume says of a call is what the host asks.
 use Rattle.std.specs.List.{count_by}
-use Rattle.std.proofs.Common.{◌≡◌, ℕ, ◌+◌, ◌==◌, Bool, true, false, cond, if◌then◌else◌, List, [], ◌∷◌, length, Option, Some, None, Ok, Err, refl, sym, ap, ◌∙◌, arith}
+use Rattle.std.proofs.Common.{◌≡◌, ℕ, ◌+◌, cond, List, [], ◌∷◌, length, Option, Some, None, Ok, Err, refl, ap, arith}
 use Rattle.std.proofs.lemmas.List.Sums.{sum_by-cons}
 use Rattle.tree_model.specs.declared.call.Call.{Call}
 use Rattle.tree_model.specs.declared.call.Reply.{Reply}
-use Rattle.tree_model.specs.declared.call.Reply.TheVariants as replies
 use Rattle.tree_model.specs.Calls.{Row, outcome, needs}
-use Rattle.tree_model.specs.Histories.{is_found_at}
 use Rattle.tree_model.specs.Plain.{AreBornBefore}
 use Rattle.zone_maps.specs.declared.zone_state.ZoneState.{ZoneState}
 use Rattle.zone_maps.specs.declared.zone_state.ZoneState.TheVariants as states
 use Rattle.zone_maps.specs.Zones.{is_free}
 use Rattle.volume_steps.specs.Now.{VolumeNow, tree_of_now, room_of}
-use Rattle.volume_steps.specs.Plain.{is_rename}
 use Rattle.volume_calls.specs.Asked.{Answers}
 use Rattle.volume_calls.specs.declared.answer.Answer.{Answer}
 use Rattle.volume_calls.specs.declared.answer.Answer.TheVariants.{Refused, Change}
-use Rattle.host_volume.specs.Calls.{refused_by, refusal, needed, names_one}
-use Rattle.host_volume.specs.Numbers.{next_birth, decided}
+use Rattle.host_volume.specs.Calls.{refused_by, refusal, needed}
+use Rattle.host_volume.specs.Numbers.{next_birth}
 use Rattle.host_volume.specs.Volumes.{free_from, zones_of}
 use Rattle.host_volume.specs.laws.Numbers.{born_before_next}
 
@@ -33,17 +30,11 @@ told_as (Refused reply) (Ok d) e = absurd e
 told_as Change (Err why) e = absurd e
 told_as Change (Ok d) e = refl
 
-pub refused_as : (v : VolumeNow) (c : Call) (a : Answer) → is_rename c ≡ false → ((n : ℕ) → AreBornBefore n (tree_of_now v) → Answers a (outcome (room_of v.geometry) (tree_of_now v) n c)) → told a ≡ refusal v c
-unfolding refusal decided
-refused_as v c a other h =
+pub refused_as : (v : VolumeNow) (c : Call) (a : Answer) → ((n : ℕ) → AreBornBefore n (tree_of_now v) → Answers a (outcome (room_of v.geometry) (tree_of_now v) n c)) → told a ≡ refusal v c
+unfolding refusal
+refused_as v c a h =
     let tree = tree_of_now v in
     told_as a (outcome (room_of v.geometry) tree (next_birth tree) c) (h (next_birth tree) (born_before_next tree))
-    ∙ sym (ap (λ (t : Bool). refused_by (if t then Err replies.Invalid else outcome (room_of v.geometry) tree (next_birth tree) c)) other)
-
-pub renamed_as : (v : VolumeNow) (c : Call) → is_rename c ≡ true → Some replies.Invalid ≡ refusal v c
-unfolding refusal decided
-renamed_as v c is =
-    sym (ap (λ (t : Bool). refused_by (if t then Err replies.Invalid else outcome (room_of v.geometry) (tree_of_now v) (next_birth (tree_of_now v)) c)) is)
 
 pub needed_as : (v : VolumeNow) (c : Call) (n : ℕ) → ((m : ℕ) → AreBornBefore m (tree_of_now v) → n ≡ needs (tree_of_now v) m c) → n ≡ needed v c
 unfolding needed

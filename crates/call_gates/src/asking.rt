@@ -1,35 +1,24 @@
 //! What a volume says of a call before it is done.
-ghost use Rattle.std.specs.Prelude.{◌≡◌, false};
+ghost use Rattle.std.specs.Prelude.{◌≡◌};
 ghost use Rattle.host_volume.specs.Calls.{refusal, needed, would_change, node_of, names_one};
 ghost use Rattle.volume_steps.specs.Now.{tree_of_now};
-ghost use Rattle.volume_steps.specs.Plain.{is_rename};
 
 use crate::kinds::call_path;
 use tree_model::{ByteList, Call, Reply};
 use volume_calls::{Answer, PlainVolume};
 
-fn is_rename(call: &Call) -> bool
-    ensures { result ≡ is_rename call.now }
-{
-    matches!(call, Call::Rename(_, _))
-}
-
-/// What refuses a call, if anything does. Renames are not built yet, and each of them is refused.
+/// What refuses a call, if anything does.
 pub fn refusal(volume: &PlainVolume, call: &Call) -> Option<Reply>
     ensures { result ≡ refusal volume.now call.now }
 {
-    if is_rename(call) {
-        return Some(Reply::Invalid);
-    }
     match volume.reply(call) {
         Answer::Refused(reply) => Some(reply),
         Answer::Change => None,
     }
 }
 
-/// How many zones a call would take that is no rename.
+/// How many zones a call would take.
 pub fn needed(volume: &PlainVolume, call: &Call) -> u32
-    requires { is_rename call.now ≡ false }
     ensures { result ≡ needed volume.now call.now }
 {
     volume.needs(call)

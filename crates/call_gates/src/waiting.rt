@@ -1,7 +1,6 @@
 //! Why a call waits that would change the tree or a page.
-ghost use Rattle.std.specs.Prelude.{◌≡◌, false, length};
+ghost use Rattle.std.specs.Prelude.{◌≡◌, length};
 ghost use Rattle.std.specs.Option.{option_map};
-ghost use Rattle.volume_steps.specs.Plain.{is_rename};
 ghost use Rattle.begun_calls.specs.Causes.{cause_is};
 ghost use Rattle.host_volume.specs.Volumes.{zones_of};
 ghost use Rattle.call_gates.specs.Hindrances.{hindrance_of};
@@ -15,7 +14,6 @@ use volume_calls::PlainVolume;
 /// Why a call that nothing refuses has to wait, if it does: the running transaction is being closed, or is full, or too
 /// few zones are free.
 pub fn hindrance(journal: &JournalPart, volume: &PlainVolume, call: &Call) -> Option<Cause>
-    requires { is_rename call.now ≡ false }
     ensures { option_map cause_is result ≡ hindrance_of journal.now volume.now call.now }
 {
     if !would_change(volume, call) {
