@@ -8,6 +8,7 @@ ghost use Rattle.volume_model.specs.NewVolume.{new_volume};
 ghost use Rattle.volume_steps.specs.Now.{VolumeNow};
 ghost use Rattle.volume_steps.specs.NewNow.{new_now};
 ghost use Rattle.journal_blocks.specs.Readers.{format};
+ghost use Rattle.journal_blocks.specs.Super.{is_wide};
 ghost use Rattle.journal_blocks.specs.declared.super_block.JournalSuper.{JournalSuper};
 ghost use Rattle.journal_ring.specs.LogRing.{LogRing};
 ghost use Rattle.tx_running.specs.Closing.{writers};
@@ -56,7 +57,7 @@ pub fn answers_of_sessions_hold()
 /// A law, which does nothing when it is called: the blocks of a JBD2 journal, with whatever superblock, are read as they
 /// are written.
 pub fn journals_are_read_as_written()
-    ensures written { (s : JournalSuper) → AreWritten format (writers s) }
+    ensures written { (s : JournalSuper) → AreWritten (format (is_wide s)) (writers s) }
 {}
 
 /// A law, which does nothing when it is called: a session can be opened on a new volume of any size, where the image
