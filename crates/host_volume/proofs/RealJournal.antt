@@ -116,3 +116,7 @@ module _ (s : JournalSuper) where
     stored = λ b body h. restored-escaped body (let size = h.0 in omega arith) h.1;
     super = super;
   }
+
+  -- and of the format of this kind
+  pub kind_written : (kind : Bool) → is_wide s ≡ kind → AreWritten (format kind) (writers s)
+  kind_written kind same = subst (λ k. AreWritten (format k) (writers s)) same journal_written

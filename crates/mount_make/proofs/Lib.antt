@@ -2,5 +2,5 @@ mod NewBlocks
 pub mod MapBytes
 pub mod Filling
 pub mod MadeVolumes
-mod MadeImages
+pub mod MadeImages
 mod MadeMaps
