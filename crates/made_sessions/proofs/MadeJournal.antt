@@ -1,5 +1,5 @@
 -- A session can be opened on an image that was made: its first blocks are the volume's, and its journal is empty.
-use Rattle.std.specs.Prelude.{◌≡◌, ◌≢◌, ◌<◌, ◌≤◌, ◌+◌, ◌-◌, ℕ, zero, suc, List, [], ◌∷◌, ◌++◌, length, replicate, slice_index_or, refl}
+use Rattle.std.specs.Prelude.{◌≡◌, ◌≢◌, ◌<◌, ◌≤◌, ◌+◌, ◌-◌, ℕ, Bool, zero, suc, List, [], ◌∷◌, ◌++◌, length, replicate, slice_index_or, refl}
 use Rattle.std.proofs.Common.{sym, ap, ◌∙◌, arith}
 use Rattle.blk_base.specs.Block.{filled}
 use Rattle.byte_fields.specs.Fields.{number_at, number_of}
@@ -15,9 +15,10 @@ use Rattle.volume_model.specs.Trees.{tree_now}
 use Rattle.volume_steps.specs.Plain.{IsPlainNow}
 use Rattle.mount_make.specs.Made.{made_volume, made_image, new_journal}
 use Rattle.mount_make.proofs.Filling.{length-made}
+use Rattle.mount_make.proofs.MadeImages.{made_kind}
 use Rattle.host_volume.specs.ByteCalls.{ByteCall}
 use Rattle.host_volume.specs.Runs.{Event, new_now, IsOpenedVolume, HasEmptyJournal, host_after, KeepsSession}
-use Rattle.host_volume.proofs.RealJournal.{super_has, no_header, journal_written}
+use Rattle.host_volume.proofs.RealJournal.{super_has, no_header, kind_written}
 use Rattle.host_volume.proofs.SessionsKept.{session_runs}
 use Rattle.made_sessions.specs.MadeSessions.{made_now, made_opening, made_ring}
 use Rattle.made_sessions.proofs.MadeBytes.{made_bytes}
@@ -46,24 +47,24 @@ blank_magic e = absurd (omega arith)
 plain_commits : (sequence : ℕ) → ◌≡◌ {A = Header} Plain (Commits sequence) → ⊥
 plain_commits sequence e = cc
 
-module _ (g : Geometry) (sound : IsSound g) (journal : ℕ) (low : 128 ≤ journal) (high : journal ≤ 16384) (quota : ℕ) (new : IsPlainNow (new_now g)) where
+module _ (g : Geometry) (sound : IsSound g) (journal : ℕ) (wide : Bool) (low : 128 ≤ journal) (high : journal ≤ 16384) (quota : ℕ) (new : IsPlainNow (new_now g)) where
   abbrev rest : List (List ℕ)
-  rest = super_block (new_journal journal) ∷ replicate (journal - 1) (filled 0)
+  rest = super_block (new_journal journal wide) ∷ replicate (journal - 1) (filled 0)
 
-  volume_block : (b : ℕ) → b < g.zones → disk_of (made_image g journal) b ≡ disk_of (made_volume g) b
+  volume_block : (b : ℕ) → b < g.zones → disk_of (made_image g journal wide) b ≡ disk_of (made_volume g) b
   volume_block b less = before (made_volume g) rest b (filled 0) (let size = length-made g in omega arith)
 
-  journal_block : (p : ℕ) → disk_of (made_image g journal) (g.zones + p) ≡ slice_index_or rest p (filled 0)
-  journal_block p = ap (λ n. disk_of (made_image g journal) (n + p)) (sym (length-made g)) ∙ behind (made_volume g) rest p (filled 0)
+  journal_block : (p : ℕ) → disk_of (made_image g journal wide) (g.zones + p) ≡ slice_index_or rest p (filled 0)
+  journal_block p = ap (λ n. disk_of (made_image g journal wide) (n + p)) (sym (length-made g)) ∙ behind (made_volume g) rest p (filled 0)
 
-  first_block : disk_of (made_image g journal) g.zones ≡ super_block (new_journal journal)
-  first_block = (let same : g.zones ≡ g.zones + 0 = omega arith in ap (disk_of (made_image g journal)) same ∙ journal_block 0)
+  first_block : disk_of (made_image g journal wide) g.zones ≡ super_block (new_journal journal wide)
+  first_block = (let same : g.zones ≡ g.zones + 0 = omega arith in ap (disk_of (made_image g journal wide)) same ∙ journal_block 0)
 
-  log_block : (p : ℕ) → 1 ≤ p → disk_of (made_image g journal) (g.zones + p) ≡ filled 0
+  log_block : (p : ℕ) → 1 ≤ p → disk_of (made_image g journal wide) (g.zones + p) ≡ filled 0
   log_block zero some = absurd (omega arith)
   log_block (suc k) some = journal_block (suc k) ∙ all_blank (journal - 1) k
 
-  pub made_opened : IsOpenedVolume (made_opening g journal quota) (made_now g)
+  pub made_opened : IsOpenedVolume (made_opening g journal wide quota) (made_now g)
   unfolding tree_now
   made_opened = record {
     plain = made_in_use g sound new;
@@ -74,16 +75,16 @@ module _ (g : Geometry) (sound : IsSound g) (journal : ℕ) (low : 128 ≤ journ
     image = volume_block;
   }
 
-  pub made_empty : (limit : ℕ) → limit + 2 < 4294967296 → HasEmptyJournal (made_opening g journal quota) (made_ring journal) limit
+  pub made_empty : (limit : ℕ) → limit + 2 < 4294967296 → HasEmptyJournal (made_opening g journal wide quota) (made_ring journal) limit
   made_empty limit few = record {
-    start = ap (λ b. (tail_of b).start) first_block ∙ (super_has (new_journal journal)).1.1.1.1.1.1.1.0 (omega arith);
-    plain = λ p sequence place e. plain_commits sequence (sym (ap header_of (log_block p place.0) ∙ no_header (filled 0) blank_magic) ∙ e);
+    start = ap (λ b. (tail_of b).start) first_block ∙ (super_has (new_journal journal wide)).1.1.1.1.1.1.1.0 (omega arith);
+    plain = λ p sequence place e. plain_commits sequence (sym (ap (header_of wide) (log_block p place.0) ∙ no_header wide (filled 0) blank_magic) ∙ e);
     log = record { first = omega arith; place = (omega arith, omega arith); head = refl; used = refl; started = refl; homes = refl };
     places = omega arith;
     sequences = omega arith;
   }
 
   pub made_runs : (limit : ℕ) → limit + 2 < 4294967296 → (programs : List (List ByteCall)) (events : List Event) →
-      KeepsSession (made_opening g journal quota) (host_after (made_opening g journal quota) (made_now g) (made_ring journal) limit programs events)
+      KeepsSession (made_opening g journal wide quota) (host_after (made_opening g journal wide quota) (made_now g) (made_ring journal) limit programs events)
   made_runs limit few programs events =
-      session_runs (made_opening g journal quota) (made_now g) (made_ring journal) limit programs (journal_written (new_journal journal)) made_opened (made_empty limit few) events
+      session_runs (made_opening g journal wide quota) (made_now g) (made_ring journal) limit programs (kind_written (new_journal journal wide) wide (made_kind journal wide)) made_opened (made_empty limit few) events

@@ -1,7 +1,7 @@
 -- A session on an image that was made: a new volume, and behind it an empty JBD2 journal.
-use Rattle.std.specs.Prelude.{ℕ, false, [], ◌∷◌}
+use Rattle.std.specs.Prelude.{ℕ, Bool, false, [], ◌∷◌}
 use Rattle.minix_layout.specs.declared.division.Geometry.{Geometry}
-use Rattle.journal_blocks.specs.Readers.{format, ring_of}
+use Rattle.journal_blocks.specs.Readers.{format}
 use Rattle.tx_running.specs.Closing.{writers}
 use Rattle.journal_ring.specs.LogRing.{LogRing}
 use Rattle.zone_maps.specs.Zones.{made}
@@ -14,18 +14,18 @@ use Rattle.host_volume.specs.Sessions.{Opening}
 abbrev pub made_now : Geometry → VolumeNow
 made_now g = record { geometry = g; contents = record { blocks = made_volume g; nodes = (0, root_placed g) ∷ [] }; zones = made g (g.first ∷ []) }
 
--- the session, whose transactions may have so many log blocks
-abbrev pub made_opening : Geometry → ℕ → ℕ → Opening
-made_opening g journal quota = record {
+-- the session, with wide tags or not, whose transactions may have so many log blocks
+abbrev pub made_opening : Geometry → ℕ → Bool → ℕ → Opening
+made_opening g journal wide quota = record {
   geometry = g;
   root = g.first;
-  image = made_image g journal;
-  writers = writers (new_journal journal);
-  format = format;
+  image = made_image g journal wide;
+  writers = writers (new_journal journal wide);
+  format = format wide;
   sequence = 1;
   quota = quota;
 }
 
 -- the log at the start, in a journal of so many blocks
 abbrev pub made_ring : ℕ → LogRing
-made_ring journal = record { places = ring_of (new_journal journal); head = 1; used = 0; started = false; homes = [] }
+made_ring journal = record { places = record { first = 1; past = journal }; head = 1; used = 0; started = false; homes = [] }
