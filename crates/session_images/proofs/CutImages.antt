@@ -22,7 +22,7 @@ use Rattle.journal_blocks.specs.declared.super_block.JournalSuper.{JournalSuper}
 use Rattle.journal_blocks.specs.Header.{magic_of}
 use Rattle.journal_blocks.specs.Log.{log_of, places, IsFaulty}
 use Rattle.journal_blocks.specs.Readers.{format, header_of, tail_of, ring_of}
-use Rattle.journal_blocks.specs.Super.{super_block, super_of, has_places, IsSound as IsSoundSuper}
+use Rattle.journal_blocks.specs.Super.{super_block, super_of, is_wide, has_places, IsSound as IsSoundSuper}
 use Rattle.journal_blocks.specs.laws.Logs.{fault_there}
 use Rattle.journal_blocks.specs.laws.Readers.{same_log}
 use Rattle.journal_blocks.specs.laws.Supers.{read_parts, super_read}
@@ -59,6 +59,7 @@ use Rattle.mount_make.specs.Made.{new_journal, made_volume, made_image}
 use Rattle.mount_make.specs.laws.ImageLaws.{image_has_tree}
 use Rattle.mount_make.specs.laws.Recovering.{is_super, has_super, emptied-at, found_fine, found_recovered, same_divided}
 use Rattle.mount_make.proofs.Filling.{length-made, length-image, get_journal}
+use Rattle.mount_make.proofs.MadeImages.{made_kind, sound_journal}
 use Rattle.made_sessions.specs.MadeSessions.{made_opening, made_ring}
 use Rattle.host_runs.proofs.Numbers.{commit_far}
 use Rattle.session_images.proofs.JournalSupers.{IsClean, places_fit, super_as, tail_is, ring_by, range_in, not_faulty, clean_by}
@@ -71,19 +72,20 @@ blank_magic e = absurd (omega arith)
 
 -- ---- the journal superblock of a medium
 
-pub record HasSuper (g : Geometry) (journal : ℕ) (image : List (List ℕ)) : Type 0 where
+pub record HasSuper (g : Geometry) (journal : ℕ) (wide : Bool) (image : List (List ℕ)) : Type 0 where
   pub fields : JournalSuper
   pub read : super_of (disk_of image g.zones) ≡ Ok fields
   pub maxlen : fields.maxlen ≡ journal
   pub first : fields.first ≡ 1
+  pub kind : is_wide fields ≡ wide
   pub room : fields.sequence + journal < 2 ^ 32
 
-module _ (g : Geometry) (sound : IsSound g) (journal : ℕ) (low : 128 ≤ journal) (high : journal ≤ 16384) (quota limit : ℕ) (few : limit + journal < 4294967296) where
+module _ (g : Geometry) (sound : IsSound g) (journal : ℕ) (wide : Bool) (low : 128 ≤ journal) (high : journal ≤ 16384) (quota limit : ℕ) (few : limit + journal < 4294967296) where
   abbrev o : Opening
-  o = made_opening g journal quota
+  o = made_opening g journal wide quota
 
   abbrev base : List (List ℕ)
-  base = made_image g journal
+  base = made_image g journal wide
 
   zones_low : 1 < g.first
   zones_low = let b = sound.tables_below in omega arith
@@ -94,15 +96,15 @@ module _ (g : Geometry) (sound : IsSound g) (journal : ℕ) (low : 128 ≤ journ
   -- ---- the image that was made
 
   base_long : length base ≡ g.zones + journal
-  base_long = length-image g journal (omega arith)
+  base_long = length-image g journal wide (omega arith)
 
-  base_super : disk_of base g.zones ≡ super_block (new_journal journal)
-  base_super = body_at-some base g.zones (super_block (new_journal journal)) (get_journal g journal)
+  base_super : disk_of base g.zones ≡ super_block (new_journal journal wide)
+  base_super = body_at-some base g.zones (super_block (new_journal journal wide)) (get_journal g journal wide)
 
   base_log : (p : ℕ) → 1 ≤ p → p < journal → disk_of base (g.zones + p) ≡ filled 0
   base_log p some less =
       let size = length-made g in
-      let rest : List (List ℕ) = super_block (new_journal journal) ∷ replicate (journal - 1) (filled 0) in
+      let rest : List (List ℕ) = super_block (new_journal journal wide) ∷ replicate (journal - 1) (filled 0) in
       let at : g.zones + p - length (made_volume g) ≡ suc (p - 1) = omega arith in
       body_at-some base (g.zones + p) (filled 0)
       (slice_get-append_right (made_volume g) rest (g.zones + p) (omega arith) ∙ (ap (slice_get rest) at ∙ slice_get-replicate (journal - 1) (p - 1) (filled 0) (omega arith)))
@@ -151,34 +153,31 @@ module _ (g : Geometry) (sound : IsSound g) (journal : ℕ) (low : 128 ≤ journ
 
     -- ---- the journal is found
 
-    pub cut_super : HasSuper g journal m.image
+    pub cut_super : HasSuper g journal wide m.image
     cut_super =
         ⊎_elim
         (λ same. record {
-          fields = new_journal journal;
-          read = ap super_of (same ∙ base_super) ∙ super_read (new_journal journal) sound_super;
+          fields = new_journal journal wide;
+          read = ap super_of (same ∙ base_super) ∙ super_read (new_journal journal wide) sound_super;
           maxlen = refl;
           first = refl;
+          kind = made_kind journal wide;
           room = omega arith;
         })
         (λ x. written_super x.0 x.1 x.2 x.3)
         (superblock_known rules closed is_found)
       where
-        sound_super : IsSoundSuper (new_journal journal)
-        sound_super = record {
-          fits = record { maxlen = omega arith; first = omega arith; sequence = omega arith; start = omega arith; incompat = omega arith };
-          known = refl;
-          places = places_fit (new_journal journal) (omega arith) (omega arith) (λ some. absurd (some refl));
-        }
+        sound_super : IsSoundSuper (new_journal journal wide)
+        sound_super = sound_journal journal wide (omega arith) (omega arith)
 
-        written_super : (i freed : ℕ) → IsSuperOf sess i freed → disk_of m.image g.zones ≡ body_in sess i → HasSuper g journal m.image
+        written_super : (i freed : ℕ) → IsSuperOf sess i freed → disk_of m.image g.zones ≡ body_in sess i → HasSuper g journal wide m.image
         written_super i freed is at =
             let w = sent_body kept.readable i Super is.note in
             let start = first_place sess (freed + 1) in
-            let place : IsPlace (ring_of (new_journal journal)) start = subst (λ r. IsPlace r start) kept.places_are (places_on-place sess.ring (length (log_blocks_below (freed + 1) (log_blocks sess))) sess.head rules.log.head) in
+            let place : IsPlace (ring_of (new_journal journal wide)) start = subst (λ r. IsPlace r start) kept.places_are (places_on-place sess.ring (length (log_blocks_below (freed + 1) (log_blocks sess))) sess.head rules.log.head) in
             let lo = place.0 in
             let hi = place.1 in
-            let tail : tail_of (super_block (record (new_journal journal) { sequence = w.0; start = w.1 })) ≡ record { sequence = 1 + freed; start = start } = ap tail_of (sym w.2) ∙ is.fields in
+            let tail : tail_of (super_block (record (new_journal journal wide) { sequence = w.0; start = w.1 })) ≡ record { sequence = 1 + freed; start = start } = ap tail_of (sym w.2) ∙ is.fields in
             let behind = slice_get-length h.journal.flush.notes i Super is.note in
             let counted = kept.readable.counted in
             let room = kept.sound.room in
@@ -192,11 +191,12 @@ module _ (g : Geometry) (sound : IsSound g) (journal : ℕ) (low : 128 ≤ journ
             (λ none. omega arith)
             (cases_lt 0 freed) in
             record {
-              fields = record (new_journal journal) { sequence = 1 + freed; start = start };
-              read = ap super_of (at ∙ w.2) ∙ super_as (record (new_journal journal) { sequence = w.0; start = w.1 }) (1 + freed) start (omega arith) (omega arith) (omega arith) tail refl
-                  (places_fit (record (new_journal journal) { sequence = 1 + freed; start = start }) (omega arith) (omega arith) (λ some. place));
+              fields = record (new_journal journal wide) { sequence = 1 + freed; start = start };
+              read = ap super_of (at ∙ w.2) ∙ super_as (record (new_journal journal wide) { sequence = w.0; start = w.1 }) (1 + freed) start (omega arith) (omega arith) sound_super.fits.incompat tail sound_super.known
+                  (places_fit (record (new_journal journal wide) { sequence = 1 + freed; start = start }) (omega arith) (omega arith) (λ some. place));
               maxlen = refl;
               first = refl;
+              kind = made_kind journal wide;
               room = omega arith;
             }
 
@@ -208,31 +208,31 @@ module _ (g : Geometry) (sound : IsSound g) (journal : ℕ) (low : 128 ≤ journ
 
     -- ---- the log
 
-    module _ (f : HasSuper g journal m.image) where
+    module _ (f : HasSuper g journal wide m.image) where
       abbrev s : JournalSuper
       s = f.fields
 
-      ring_is : ring_of s ≡ ring_of (new_journal journal)
+      ring_is : ring_of s ≡ ring_of (new_journal journal wide)
       ring_is = ring_by s.first s.maxlen 1 journal f.first f.maxlen
 
       parts_places : has_places s ≡ true
       parts_places = (read_parts (disk_of m.image g.zones) s f.read).5
 
-      tail_read : format.tail (disk_of m.image g.zones) ≡ record { sequence = s.sequence; start = s.start }
-      tail_read = tail_is (disk_of m.image g.zones) s (read_parts (disk_of m.image g.zones) s f.read).3
+      tail_read : (format wide).tail (disk_of m.image g.zones) ≡ record { sequence = s.sequence; start = s.start }
+      tail_read = tail_is wide (disk_of m.image g.zones) s (read_parts (disk_of m.image g.zones) s f.read).3
 
       -- the log that is read where it has this start
-      log_from : (r : Ring) → model.log_of format r g.zones (disk_of m.image)
-          ≡ (if s.start == 0 then [] else done (take_blocks format (from_sequence s.sequence) (map (λ p. disk_of m.image (g.zones + p)) (places_from r (places_in r) s.start))))
+      log_from : (r : Ring) → model.log_of (format wide) r g.zones (disk_of m.image)
+          ≡ (if s.start == 0 then [] else done (take_blocks (format wide) (from_sequence s.sequence) (map (λ p. disk_of m.image (g.zones + p)) (places_from r (places_in r) s.start))))
       log_from r =
-          ap (λ (t : model.Tail). if t.start == 0 then [] else done (take_blocks format (from_sequence t.sequence) (map (λ p. disk_of m.image (g.zones + p)) (places_from r (places_in r) t.start)))) tail_read
+          ap (λ (t : model.Tail). if t.start == 0 then [] else done (take_blocks (format wide) (from_sequence t.sequence) (map (λ p. disk_of m.image (g.zones + p)) (places_from r (places_in r) t.start)))) tail_read
 
-      log_empty : s.start ≡ 0 → model.log_of format (ring_of (new_journal journal)) g.zones (disk_of m.image) ≡ []
+      log_empty : s.start ≡ 0 → model.log_of (format wide) (ring_of (new_journal journal wide)) g.zones (disk_of m.image) ≡ []
       log_empty none =
-          log_from (ring_of (new_journal journal))
-          ∙ ap (λ (b : Bool). if b then [] else done (take_blocks format (from_sequence s.sequence) (map (λ p. disk_of m.image (g.zones + p)) (places_from (ring_of (new_journal journal)) (places_in (ring_of (new_journal journal))) s.start)))) (eq-eqb s.start 0 none)
+          log_from (ring_of (new_journal journal wide))
+          ∙ ap (λ (b : Bool). if b then [] else done (take_blocks (format wide) (from_sequence s.sequence) (map (λ p. disk_of m.image (g.zones + p)) (places_from (ring_of (new_journal journal wide)) (places_in (ring_of (new_journal journal wide))) s.start)))) (eq-eqb s.start 0 none)
 
-      log_full : s.start ≢ 0 → (log_of g.zones s m.image).done ≡ model.log_of format (ring_of (new_journal journal)) g.zones (disk_of m.image)
+      log_full : s.start ≢ 0 → (log_of g.zones s m.image).done ≡ model.log_of (format wide) (ring_of (new_journal journal wide)) g.zones (disk_of m.image)
       log_full some =
           let at = start_within s parts_places some in
           let lo = at.0 in
@@ -240,24 +240,26 @@ module _ (g : Geometry) (sound : IsSound g) (journal : ℕ) (low : 128 ≤ journ
           let one = f.first in
           let all = f.maxlen in
           let room = f.room in
-          sym (same_log g.zones s m.image f.read lo hi (omega arith) (omega arith)) ∙ ap (λ r. model.log_of format r g.zones (disk_of m.image)) ring_is
+          sym (same_log g.zones s m.image f.read lo hi (omega arith) (omega arith))
+          ∙ ap (λ kind. model.log_of (format kind) (ring_of s) g.zones (disk_of m.image)) f.kind
+          ∙ ap (λ r. model.log_of (format wide) r g.zones (disk_of m.image)) ring_is
 
       by_start : {P : Type 0} → (s.start ≡ 0 → P) → (s.start ≢ 0 → P) → P
       by_start p q = ⊎_elim (λ some. q (λ e. omega arith)) (λ none. p (omega arith)) (cases_lt 0 s.start)
 
-      pub cut_log : transactions_of g.zones s m.image ≡ model.log_of format (ring_of (new_journal journal)) g.zones (disk_of m.image)
+      pub cut_log : transactions_of g.zones s m.image ≡ model.log_of (format wide) (ring_of (new_journal journal wide)) g.zones (disk_of m.image)
       cut_log =
           by_start
           (λ none. transactions-empty g.zones s m.image none ∙ sym (log_empty none))
           (λ some. transactions-full g.zones s m.image some ∙ log_full some)
 
-      pub cut_log_empty : s.start ≡ 0 → (transactions_of g.zones s m.image ≡ []) × (model.log_of format (ring_of (new_journal journal)) g.zones (disk_of m.image) ≡ [])
+      pub cut_log_empty : s.start ≡ 0 → (transactions_of g.zones s m.image ≡ []) × (model.log_of (format wide) (ring_of (new_journal journal wide)) g.zones (disk_of m.image) ≡ [])
       cut_log_empty none = (transactions-empty g.zones s m.image none, log_empty none)
 
       -- ---- no fault
 
       -- each block of the log is one that was written, or blank
-      block_fine : (p : ℕ) → 1 ≤ p → p < journal → IsFaulty g.zones (disk_of m.image (g.zones + p)) → ⊥
+      block_fine : (p : ℕ) → 1 ≤ p → p < journal → IsFaulty wide g.zones (disk_of m.image (g.zones + p)) → ⊥
       block_fine p some less faulty =
           ⊎_elim
           (λ written.
@@ -265,11 +267,11 @@ module _ (g : Geometry) (sound : IsSound g) (journal : ℕ) (low : 128 ≤ journ
           let l = put_of_log rules.fits rules.images at p some (closed.block_of (g.zones + p) at written.1) in
           let n = log_note sess l.0 at l.1 in
           let body = written_body sess at (disk_of m.image (g.zones + p)) (body_of_origin closed (g.zones + p) at written.1) in
-          let clean = clean_by (over o).setup.writers g.zones 1 l.0 n.0 (body_in sess at) n.2 (rules.log.header at n.0 n.1) (sent_body kept.readable at n.0 n.1) in
-          not_faulty g.zones (disk_of m.image (g.zones + p)) (subst (λ b. IsClean g.zones (header_of b)) body clean) faulty)
+          let clean = clean_by wide (over o).setup.writers g.zones 1 l.0 n.0 (body_in sess at) n.2 (rules.log.header at n.0 n.1) (sent_body kept.readable at n.0 n.1) in
+          not_faulty wide g.zones (disk_of m.image (g.zones + p)) (subst (λ b. IsClean g.zones (header_of wide b)) body clean) faulty)
           (λ old.
-          let blank : header_of (disk_of m.image (g.zones + p)) ≡ Plain = ap header_of (old ∙ base_log p some less) ∙ no_header (filled 0) blank_magic in
-          not_faulty g.zones (disk_of m.image (g.zones + p)) (subst (IsClean g.zones) (sym blank) tt) faulty)
+          let blank : header_of wide (disk_of m.image (g.zones + p)) ≡ Plain = ap (header_of wide) (old ∙ base_log p some less) ∙ no_header wide (filled 0) blank_magic in
+          not_faulty wide g.zones (disk_of m.image (g.zones + p)) (subst (IsClean g.zones) (sym blank) tt) faulty)
           (origin_or_base closed (g.zones + p))
 
       place_in : s.start ≢ 0 → (p : ℕ) → In p (places s) → (1 ≤ p) × (p < journal)
@@ -290,7 +292,7 @@ module _ (g : Geometry) (sound : IsSound g) (journal : ℕ) (low : 128 ≤ journ
           (λ at e.
           let x = fault_there g.zones s m.image at e in
           let p = place_in some x.0 x.1 in
-          block_fine x.0 p.0 p.1 (subst (λ b. IsFaulty g.zones (disk_of m.image b)) (sym x.2) x.3))
+          block_fine x.0 p.0 p.1 (subst (λ b. IsFaulty wide g.zones (disk_of m.image b)) (sym x.2) (subst (λ kind. IsFaulty kind g.zones (disk_of m.image at)) f.kind x.3)))
 
       no_fault : fault_of g.zones s m.image ≡ None
       no_fault =
@@ -306,7 +308,7 @@ module _ (g : Geometry) (sound : IsSound g) (journal : ℕ) (low : 128 ≤ journ
 
       -- ---- what is recovered
 
-      recovered_at : (b : ℕ) → b < g.zones → disk_of (recovered g.zones m.image) b ≡ replayed (model.log_of format (ring_of (new_journal journal)) g.zones (disk_of m.image)) (disk_of m.image) b
+      recovered_at : (b : ℕ) → b < g.zones → disk_of (recovered g.zones m.image) b ≡ replayed (model.log_of (format wide) (ring_of (new_journal journal wide)) g.zones (disk_of m.image)) (disk_of m.image) b
       recovered_at b below =
           by_start
           (λ none.
@@ -323,8 +325,8 @@ module _ (g : Geometry) (sound : IsSound g) (journal : ℕ) (low : 128 ≤ journ
       is_recovered : recovered_from g.zones m.image ≡ recovered g.zones m.image
       is_recovered = found_recovered g.zones m.image within (is_super (disk_of m.image g.zones) s f.read)
 
-      same_ring : model.log_of format (ring_of (new_journal journal)) g.zones (disk_of m.image) ≡ model.log_of format h.journal.ring.places g.zones (disk_of m.image)
-      same_ring = ap (λ r. model.log_of format r g.zones (disk_of m.image)) (sym kept.places_are)
+      same_ring : model.log_of (format wide) (ring_of (new_journal journal wide)) g.zones (disk_of m.image) ≡ model.log_of (format wide) h.journal.ring.places g.zones (disk_of m.image)
+      same_ring = ap (λ r. model.log_of (format wide) r g.zones (disk_of m.image)) (sym kept.places_are)
 
       -- for whatever is told of its transactions
       pub cut_recovered : divided base ≡ Ok g → (ts : List Transaction) → IsRecovered (session (over o) (Stands o) ts h) m (disk_of (recovered_image m.image))

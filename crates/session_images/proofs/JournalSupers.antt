@@ -50,8 +50,8 @@ super_as s sequence start a b c tail known places =
     let same : numbers_of (super_block s) ≡ record s { sequence = sequence; start = start } = rw (maxlen, first, next, begins, incompat) refl in
     read_from (super_block s) (record s { sequence = sequence; start = start }) (have.0 (lit< tt)) (have.1.0 (lit< tt)) (have.1.1.1.0 (lit< tt)) same known places
 
-pub tail_is : (b : List ℕ) (s : JournalSuper) → numbers_of b ≡ s → format.tail b ≡ record { sequence = s.sequence; start = s.start }
-tail_is b s e = ap (λ (q : JournalSuper). let t : model.Tail = record { sequence = q.sequence; start = q.start } in t) e
+pub tail_is : (wide : Bool) (b : List ℕ) (s : JournalSuper) → numbers_of b ≡ s → (format wide).tail b ≡ record { sequence = s.sequence; start = s.start }
+tail_is wide b s e = ap (λ (q : JournalSuper). let t : model.Tail = record { sequence = q.sequence; start = q.start } in t) e
 
 pub ring_by : (a b c d : ℕ) → a ≡ c → b ≡ d → ◌≡◌ {A = Ring} (record { first = a; past = b }) (record { first = c; past = d })
 ring_by a b c d p q = ap (λ (x : ℕ). let r : Ring = record { first = x; past = b } in r) p ∙ ap (λ (x : ℕ). let r : Ring = record { first = c; past = x } in r) q
@@ -77,23 +77,23 @@ inside zones t e good = by (nat_lt t.block 2) (nat_le zones t.block) refl refl e
     by false true p q e = (let le = leb-true zones t.block q in let hi = good.1 in omega arith)
     by false false p q e = false≢true e
 
-pub not_faulty : (zones : ℕ) (b : List ℕ) → IsClean zones (header_of b) → IsFaulty zones b → ⊥
+pub not_faulty : (wide : Bool) (zones : ℕ) (b : List ℕ) → IsClean zones (header_of wide b) → IsFaulty wide zones b → ⊥
 unfolding header_of
-not_faulty zones b clean (inl e) =
+not_faulty wide zones b clean (inl e) =
     let some : 1 ≤ length {A = ℕ} [] = subst (λ r. IsClean zones (header_by (sequence_of b) r)) e clean in
     omega arith
-not_faulty zones b clean (inr x) =
+not_faulty wide zones b clean (inr x) =
     let all : (t : model.Tag) → In t (map tag_of x.1) → IsLoggable zones t.block = subst (λ r. IsClean zones (header_by (sequence_of b) r)) x.2 clean in
     let t = In-list_any (is_outside zones) x.1 x.3 in
     inside zones t.0 t.2 (all (tag_of t.0) (map-In tag_of x.1 t.0 t.1))
 
-pub clean_by : (w : Writers) (zones sequence k : ℕ) (n : Note) (b : List ℕ) → log_transaction n ≡ Some k → HasHeader sequence n (header_of b) → IsReadable format w zones n b → IsClean zones (header_of b)
-clean_by w zones sequence k (notes.Descriptor l) b e head good = subst (IsClean zones) (sym good.2) good.3
-clean_by w zones sequence k (notes.Revoke l) b e head good = subst (IsClean zones) (sym good.2) good.3
-clean_by w zones sequence k (notes.Body l c) b e head good = subst (IsClean zones) (sym head) tt
-clean_by w zones sequence k (notes.Commit l) b e head good = subst (IsClean zones) (sym head) tt
-clean_by w zones sequence k (notes.Page f x v) b e head good = absurd (none-some k e)
-clean_by w zones sequence k notes.Super b e head good = absurd (none-some k e)
-clean_by w zones sequence k (notes.Home c) b e head good = absurd (none-some k e)
-clean_by w zones sequence k notes.Flush b e head good = absurd (none-some k e)
-clean_by w zones sequence k notes.Raw b e head good = absurd (none-some k e)
+pub clean_by : (wide : Bool) (w : Writers) (zones sequence k : ℕ) (n : Note) (b : List ℕ) → log_transaction n ≡ Some k → HasHeader sequence n (header_of wide b) → IsReadable (format wide) w zones n b → IsClean zones (header_of wide b)
+clean_by wide w zones sequence k (notes.Descriptor l) b e head good = subst (IsClean zones) (sym good.2) good.3
+clean_by wide w zones sequence k (notes.Revoke l) b e head good = subst (IsClean zones) (sym good.2) good.3
+clean_by wide w zones sequence k (notes.Body l c) b e head good = subst (IsClean zones) (sym head) tt
+clean_by wide w zones sequence k (notes.Commit l) b e head good = subst (IsClean zones) (sym head) tt
+clean_by wide w zones sequence k (notes.Page f x v) b e head good = absurd (none-some k e)
+clean_by wide w zones sequence k notes.Super b e head good = absurd (none-some k e)
+clean_by wide w zones sequence k (notes.Home c) b e head good = absurd (none-some k e)
+clean_by wide w zones sequence k notes.Flush b e head good = absurd (none-some k e)
+clean_by wide w zones sequence k notes.Raw b e head good = absurd (none-some k e)

@@ -26,7 +26,7 @@ tree_in : (r : Result (List (ℕ × Node)) Fault) (tree : List (ℕ × Node))
 tree_in (Ok t) tree e = ap Ok (same_Ok t tree e)
 tree_in (Err fault) tree e = absurd (err-ok _ tree e)
 
-module _ (s : Start) (sizes : HasSizes s) (new : IsPlainNow (new_now s.geometry)) (events : List Event) (m : Medium) (cut : IsCutOf s events m) (made : divided (made_image s.geometry s.journal) ≡ Ok s.geometry)
+module _ (s : Start) (sizes : HasSizes s) (new : IsPlainNow (new_now s.geometry)) (events : List Event) (m : Medium) (cut : IsCutOf s events m) (made : divided (made_image s.geometry s.journal s.wide) ≡ Ok s.geometry)
     (surface : List (List ℕ)) (same : m.image ≡ surface) where
   mounted_as : (v : VolumeState) × (mounted surface ≡ Ok v)
   mounted_as = subst (λ i. (v : VolumeState) × (mounted i ≡ Ok v)) same (mounts s sizes new events m cut made)

@@ -47,13 +47,13 @@ module _ (f : Format) (w : Writers) (zones : ℕ) where
     abbrev IsGood : UnplacedBlock → Type 0
     IsGood b = IsReadable f w zones b.note b.body
 
-    revoke_readable : (c : List ℕ) → (1 ≤ length c) × (length c ≤ 252) → ((b : ℕ) → In b c → IsWord b) → IsGood (revoke_block w k sequence c)
+    revoke_readable : (c : List ℕ) → (1 ≤ length c) × (length c ≤ w.most_revokes) → ((b : ℕ) → In b c → IsWord b) → IsGood (revoke_block w k sequence c)
     revoke_readable c size words = (sequence, c, written.revoke sequence c fits size.0 size.1 words, size.0)
 
     tag_loggable : (c : List Logged) → ((l : Logged) → In l c → IsLoggable zones l.block) → (t : Tag) → In t (map (tag_of w) c) → IsLoggable zones t.block
     tag_loggable c h t i = let m = In-map (tag_of w) c t i in subst (λ (u : Tag). IsLoggable zones u.block) m.2 (h m.0 m.1)
 
-    described_readable : (c : List Logged) → (1 ≤ length c) × (length c ≤ 122) → ((l : Logged) → In l c → IsLoggable zones l.block) → (b : UnplacedBlock) → In b (described w k sequence c) → IsGood b
+    described_readable : (c : List Logged) → (1 ≤ length c) × (length c ≤ w.most_tags) → ((l : Logged) → In l c → IsLoggable zones l.block) → (b : UnplacedBlock) → In b (described w k sequence c) → IsGood b
     described_readable c size h b (inl e) =
         let n = length_tags w c in
         let lo = size.0 in
@@ -62,7 +62,7 @@ module _ (f : Format) (w : Writers) (zones : ℕ) where
         subst IsGood e (sequence, tags, written.descriptor sequence tags fits (omega arith) (omega arith) (λ t i. let x = (tag_loggable c h t i).1 in omega arith), tag_loggable c h)
     described_readable c size h b (inr i) = let m = In-map (body_block w k sequence) c b i in subst IsGood m.2 tt
 
-    all_readable : (cs : List (List Logged)) → ((c : List Logged) → In c cs → (1 ≤ length c) × (length c ≤ 122)) → ((c : List Logged) (l : Logged) → In c cs → In l c → IsLoggable zones l.block)
+    all_readable : (cs : List (List Logged)) → ((c : List Logged) → In c cs → (1 ≤ length c) × (length c ≤ w.most_tags)) → ((c : List Logged) (l : Logged) → In c cs → In l c → IsLoggable zones l.block)
         → (b : UnplacedBlock) → In b (all_described w k sequence cs) → IsGood b
     all_readable [] size h b i = absurd i
     all_readable (c ∷ cs) size h b i =
@@ -71,10 +71,10 @@ module _ (f : Format) (w : Writers) (zones : ℕ) where
         (λ j. all_readable cs (λ d m. size d (inr m)) (λ d l m n. h d l (inr m) n) b j)
         (In-append_cases (described w k sequence c) (all_described w k sequence cs) b i)
 
-    revokes_readable : (revokes : List ℕ) → ((b : ℕ) → In b revokes → IsWord b) → (b : UnplacedBlock) → In b (map (revoke_block w k sequence) (chunks 252 revokes)) → IsGood b
+    revokes_readable : (revokes : List ℕ) → ((b : ℕ) → In b revokes → IsWord b) → (b : UnplacedBlock) → In b (map (revoke_block w k sequence) (chunks w.most_revokes revokes)) → IsGood b
     revokes_readable revokes words b i =
-        let m = In-map (revoke_block w k sequence) (chunks 252 revokes) b i in
-        subst IsGood m.2 (revoke_readable m.0 (chunks_sized 252 252 [] revokes m.0 (omega arith) (omega arith) m.1) (λ c j. words c (In-chunks 252 revokes m.0 c m.1 j)))
+        let m = In-map (revoke_block w k sequence) (chunks w.most_revokes revokes) b i in
+        subst IsGood m.2 (revoke_readable m.0 (chunks_sized w.most_revokes w.most_revokes [] revokes m.0 written.some_revokes (omega arith) m.1) (λ c j. words c (In-chunks w.most_revokes revokes m.0 c m.1 j)))
 
     -- The requests of a plan whose bodies are for blocks that are logged.
     pub plan_readable : (journal : ℕ) (ring : Ring) (head : ℕ) (started : Bool) (bodies : List Logged) (revokes : List ℕ) → ((l : Logged) → In l bodies → IsLoggable zones l.block) → ((b : ℕ) → In b revokes → IsWord b)
@@ -86,9 +86,9 @@ module _ (f : Format) (w : Writers) (zones : ℕ) where
         (barrier_readable (super ++ placed journal ring head blocks)
         (joined (λ (p : Planned). IsReadable f w zones p.note p.body) super (placed journal ring head blocks) (super_readable journal head sequence started)
         (placed_readable journal ring head blocks
-        (joined IsGood (map (revoke_block w k sequence) (chunks 252 revokes)) (all_described w k sequence (chunks 122 bodies))
+        (joined IsGood (map (revoke_block w k sequence) (chunks w.most_revokes revokes)) (all_described w k sequence (chunks w.most_tags bodies))
         (revokes_readable revokes words)
-        (all_readable (chunks 122 bodies) (λ c i. chunks_sized 122 122 [] bodies c (omega arith) (omega arith) i) (λ c l i j. low l (In-chunks 122 bodies c l i j)))))))
+        (all_readable (chunks w.most_tags bodies) (λ c i. chunks_sized w.most_tags w.most_tags [] bodies c written.some_tags (omega arith) i) (λ c l i j. low l (In-chunks w.most_tags bodies c l i j)))))))
         (barrier_readable (placed journal ring (places_on ring (length blocks) head) (commit_block w k sequence ∷ []))
         (placed_readable journal ring (places_on ring (length blocks) head) (commit_block w k sequence ∷ [])
         (λ l i. ⊎_elim (λ e. subst IsGood e tt) (λ j. absurd j) i)))

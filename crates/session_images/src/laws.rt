@@ -7,7 +7,7 @@ ghost use Rattle.order_model.specs.OrderClosed.{kind_body};
 ghost use Rattle.log_model.specs.Marks.{Transaction};
 ghost use Rattle.journal_blocks.specs.declared.super_block.JournalSuper.{JournalSuper};
 ghost use Rattle.journal_blocks.specs.Readers.{format, ring_of};
-ghost use Rattle.journal_blocks.specs.Super.{super_of};
+ghost use Rattle.journal_blocks.specs.Super.{super_of, is_wide};
 ghost use Rattle.journal_replay.specs.Recovered.{transactions_of};
 ghost use Rattle.tx_running.specs.Closing.{writers};
 ghost use Rattle.tree_model.specs.Calls.{Tree};
@@ -31,19 +31,21 @@ use mount_make::made_images_are_plain;
 pub fn requests_of_sessions_are_readable()
     ensures { (s : Start) (events : List Event) (i : ℕ) (n : Note) (q : Request) → HasSizes s →
         slice_get (host_of s events).journal.flush.notes i ≡ Some n → slice_get (host_of s events).journal.flush.requests i ≡ Some q →
-        IsReadable format (writers (new_journal s.journal)) s.geometry.zones n (unwrap_or (kind_body q.kind) []) }
+        IsReadable (format s.wide) (writers (new_journal s.journal s.wide)) s.geometry.zones n (unwrap_or (kind_body q.kind) []) }
 {
     new_volumes_are_in_use();
 }
 
 /// A law, which only calls laws: wherever the power is cut, the volume is found as it was divided, and the journal behind
-/// it, with the places that it was made with; and the laws of power cuts read the log's tail from the same numbers.
+/// it, with the places and the kind of tags that it was made with; and the laws of power cuts read the log's tail from the same numbers.
 pub fn volume_and_journal_of_sessions_are_found()
     ensures volume { (s : Start) (events : List Event) (m : Medium) → HasSizes s → IsCutOf s events m → divided m.image ≡ Ok s.geometry }
     ensures journal { (s : Start) (events : List Event) (m : Medium) → HasSizes s → IsCutOf s events m → has_journal s.geometry.zones m.image ≡ true }
+    ensures kind { (s : Start) (events : List Event) (m : Medium) (j : JournalSuper) → HasSizes s → IsCutOf s events m →
+        super_of (disk_of m.image s.geometry.zones) ≡ Ok j → is_wide j ≡ s.wide }
     ensures superblock { (s : Start) (events : List Event) (m : Medium) → HasSizes s → IsCutOf s events m →
-        (j : JournalSuper) × (super_of (disk_of m.image s.geometry.zones) ≡ Ok j) × (ring_of j ≡ ring_of (new_journal s.journal)) ×
-        (format.tail (disk_of m.image s.geometry.zones) ≡ record { sequence = j.sequence; start = j.start }) }
+        (j : JournalSuper) × (super_of (disk_of m.image s.geometry.zones) ≡ Ok j) × (ring_of j ≡ ring_of (new_journal s.journal s.wide)) ×
+        ((format s.wide).tail (disk_of m.image s.geometry.zones) ≡ record { sequence = j.sequence; start = j.start }) }
 {
     made_images_are_plain();
     new_volumes_are_in_use();
