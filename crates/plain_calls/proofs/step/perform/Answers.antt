@@ -5,7 +5,6 @@ use Rattle.volume_steps.specs.Now.{tree_of_now}
 use Rattle.volume_steps.specs.Calls.{Called}
 use Rattle.volume_steps.specs.Numbers.{number_in}
 use Rattle.call_lengths.specs.Lengths.{notes_in}
-use Rattle.host_volume.proofs.Telling.{no_rename}
 use Rattle.plain_calls.proofs.Finds.{room_found}
 use Rattle.plain_calls.proofs.step.perform.Goals as goal
 
@@ -13,10 +12,7 @@ pub apply-requires : goal.apply-requires
 apply-requires c =
     let v = c.args.volume.now in
     let own : c.in-Some.own ≡ number_in (tree_of_now v) c.args.number = search rules in
-    record {
-      room = room_found c.args.journal.now v c.args.number c.in-Some.own c.args.call.now c.volumes_are_plain.ensures c.requires.refused c.requires.free own;
-      no_rename = no_rename v c.args.call.now c.requires.refused;
-    }
+    record { room = room_found c.args.journal.now v c.args.number c.in-Some.own c.args.call.now c.volumes_are_plain.ensures c.requires.refused c.requires.free own }
 
 pub change-requires-clause-notes : goal.change-requires-clause-notes
 change-requires-clause-notes c =
