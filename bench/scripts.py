@@ -98,6 +98,15 @@ def one_file(name):
     return name, "\n".join(text + ["events", "round 100"]) + "\n"
 
 
+def large(name, blocks, last):
+    """A volume script of one thread that writes a file of so many blocks, 31 a call, and then does `last` with it; no event but these calls."""
+    text = ["volume inodes 64 zones %d journal 16384" % (blocks + blocks // 500 + 100), "thread 1", "create /file"]
+    for first in range(0, blocks, 31):
+        text.append("write /file %d %d %02x" % (1024 * first, 1024 * min(31, blocks - first), first % 256))
+    text.append(last)
+    return name, "\n".join(text + ["events", "call 1 x %d" % (len(text) - 2)]) + "\n"
+
+
 def synced(files, cut):
     """A small volume script: so many files with an `fsync` behind each, and the power is cut after so many steps of the device."""
     text = ["volume inodes 128 zones 512 journal 128", "cut %d" % cut, "thread 1"]
@@ -133,6 +142,9 @@ def cases():
     for name, count in (("quarter", 123), ("half", 245), ("whole", 489)):
         yield turns("volume-turns-" + name, count, 80 * count)
     yield one_file("volume-one-file")
+    for size in (1000, 4000, 16000, 60000):
+        for word, last in (("stat", "stat /file"), ("unlink", "unlink /file"), ("truncate", "truncate /file 0")):
+            yield large("volume-file-%d-%s" % (size, word), size, last)
 
 
 def main():

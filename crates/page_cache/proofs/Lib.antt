@@ -1,3 +1,6 @@
+mod KeyPlaces
 mod Places
+mod Keyed
+mod OfFiles
+mod Framed
 mod Steps
-pub mod OfFiles

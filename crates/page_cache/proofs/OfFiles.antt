@@ -1,132 +1,94 @@
--- The first unsent page of one of some files, by going through the files.
-use Rattle.std.proofs.Common.{◌≡◌, ℕ, zero, suc, ◌+◌, ◌<◌, ◌≤◌, ◌==◌, ◌⊎◌, ◌&&◌, ◌||◌, Bool, true, false, cond, nat_le, if◌then◌else◌, List, [], ◌∷◌, drop, length, get_or, Some, None, refl, sym, ap, subst, ◌∙◌, inl, inr, ⊎_elim, arith, eqb-true, eq-eqb}
-use Rattle.std.proofs.lemmas.Bool.{cases_Bool, cases_lt, false≢true, le-leb, and_from, and_parts}
+-- The first key of one of some files, by going through the files.
+use Rattle.std.proofs.Common.{◌≡◌, ℕ, zero, suc, ◌+◌, ◌<◌, ◌≤◌, ◌==◌, ◌||◌, Bool, true, false, cond, if◌then◌else◌, List, [], ◌∷◌, drop, length, get_or, Option, Some, None, refl, sym, ap, subst, ◌∙◌, inl, inr, ⊎_elim, arith, eqb-true, eq-eqb}
+use Rattle.std.specs.List.{slice_get}
+use Rattle.std.proofs.lemmas.Bool.{cases_Bool, cases_lt, false≢true}
 use Rattle.std.proofs.lemmas.List.{drop_more, drop_all}
-use Rattle.std.proofs.lemmas.Option.{none-some}
+use Rattle.std.proofs.lemmas.Option.{none-some, same_Some}
 use Rattle.blk_base.specs.Members.{In}
 use Rattle.number_sets.specs.Sets.{has}
 use Rattle.number_sets.specs.Sets as sets
 use Rattle.number_sets.specs.laws.Members.{has-In, In-has}
-use Rattle.page_cache.specs.declared.cached_page.CachedPage.{CachedPage}
-use Rattle.page_cache.specs.Pages.{Below, IsRising, is_before, is_unsent, next_in_file, unsent_of}
-use Rattle.page_cache.specs.code.Pages.{place_of}
-use Rattle.page_cache.specs.laws.Next.{next_in_file_none}
-use Rattle.page_cache.specs.laws.Order.{before_by, by_before}
-use Rattle.page_cache.proofs.Places.{after_place}
-
-abbrev of_file : ℕ → CachedPage → Bool
-of_file f p = is_unsent p.state && (p.birth == f && nat_le 0 p.index)
+use Rattle.page_cache.specs.code.Keys.{KeyBelow, IsRisingKeys, is_before, place_of, if_in, first_of}
+use Rattle.page_cache.proofs.KeyPlaces.{before_by, by_before}
 
 -- ---- one file
 
--- a page of another file, or one that was sent, is passed
-passed : (p : CachedPage) (ps : List CachedPage) (f : ℕ) → of_file f p ≡ false → next_in_file (p ∷ ps) f 0 ≡ next_in_file ps f 0
-passed p ps f e = ap (λ t. cond t (Some p) (next_in_file ps f 0)) e
+-- what stands where the first key of file f would is of another file
+abbrev IsOther : Option (ℕ × ℕ) → ℕ → Type 0
+IsOther o f = (k : ℕ × ℕ) → o ≡ Some k → k.0 ≡ f → ⊥
 
-and_false : (t u : Bool) → u ≡ false → (t && u) ≡ false
-and_false true u e = e
-and_false false u e = refl
+lower : (k : ℕ × ℕ) (f : ℕ) → is_before k f 0 ≡ true → k.0 < f
+lower k f t = ⊎_elim (λ lt. lt) (λ b. let low = b.1 in absurd (omega arith)) (before_by k f 0 t)
 
-not_of : (p : CachedPage) (f : ℕ) → (p.birth ≡ f → ⊥) → of_file f p ≡ false
-not_of p f other =
-    and_false (is_unsent p.state) (p.birth == f && nat_le 0 p.index)
-    (⊎_elim (λ t. absurd (other (eqb-true p.birth f t))) (λ e. ap (λ t. t && nat_le 0 p.index) e) (cases_Bool (p.birth == f)))
+not_lower : (k : ℕ × ℕ) (f : ℕ) → is_before k f 0 ≡ false → f ≤ k.0
+not_lower k f e = ⊎_elim (λ lt. absurd (false≢true (sym e ∙ by_before k f 0 (inl lt)))) (λ le. le) (cases_lt k.0 f)
 
-hit : (p : CachedPage) (f : ℕ) → is_unsent p.state ≡ true → p.birth ≡ f → of_file f p ≡ true
-hit p f u b =
-    ap (λ t. t && (p.birth == f && nat_le 0 p.index)) u ∙ ap (λ t. t && nat_le 0 p.index) (eq-eqb p.birth f b) ∙ le-leb 0 p.index (omega arith)
-
--- the search begins at the file's place
-pub file_begins : (ps : List CachedPage) (f : ℕ) → next_in_file (drop (place_of ps f 0) ps) f 0 ≡ next_in_file ps f 0
-file_begins [] f = refl
-file_begins (p ∷ ps) f = by (is_before p f 0) refl (file_begins ps f)
+-- then no key is of the file
+none_in : (ks : List (ℕ × ℕ)) (f : ℕ) → IsRisingKeys ks → IsOther (slice_get ks (place_of ks f 0)) f → (l : ℕ × ℕ) → In l ks → l.0 ≡ f → ⊥
+none_in [] f r other l i e = absurd i
+none_in (k ∷ ks) f r other l i e = by (is_before k f 0) refl (none_in ks f r.1) other i
   where
-    lower : (p.birth < f) ⊎ ((p.birth ≡ f) × (p.index < 0)) → p.birth ≡ f → ⊥
-    lower (inl b) same = omega arith
-    lower (inr b) same = let low = b.1 in omega arith
+    later : f ≤ k.0 → (k.0 ≡ f → ⊥) → KeyBelow k l → ⊥
+    later le apart (inl low) = omega arith
+    later le apart (inr same) = let s = same.0 in apart (omega arith)
 
-    by : (t : Bool) → is_before p f 0 ≡ t → next_in_file (drop (place_of ps f 0) ps) f 0 ≡ next_in_file ps f 0
-        → next_in_file (drop (if t then suc (place_of ps f 0) else 0) (p ∷ ps)) f 0 ≡ next_in_file (p ∷ ps) f 0
-    by true e rest = rest ∙ sym (passed p ps f (not_of p f (lower (before_by p f 0 e))))
-    by false e rest = refl
+    by : (t : Bool) → is_before k f 0 ≡ t → (IsOther (slice_get ks (place_of ks f 0)) f → (l : ℕ × ℕ) → In l ks → l.0 ≡ f → ⊥) → IsOther (slice_get (k ∷ ks) (if t then suc (place_of ks f 0) else 0)) f → In l (k ∷ ks) → ⊥
+    by true t rest other (inl same) = let low = lower k f t in let s = ap (λ (x : ℕ × ℕ). x.0) same in omega arith
+    by true t rest other (inr j) = rest other l j e
+    by false t rest other (inl same) = other k refl (ap (λ (x : ℕ × ℕ). x.0) same ∙ e)
+    by false t rest other (inr j) = later (not_lower k f t) (other k refl) (r.0 l j)
 
-rising_drop : (ps : List CachedPage) (at : ℕ) → IsRising ps → IsRising (drop at ps)
-rising_drop ps zero r = r
-rising_drop [] (suc at) r = r
-rising_drop (p ∷ ps) (suc at) r = rising_drop ps at r.1
+pub other_file : (o : Option (ℕ × ℕ)) (f : ℕ) → if_in f o ≡ None → IsOther o f
+other_file None f e k d same = none-some k d
+other_file (Some x) f e k d same =
+    ⊎_elim
+    (λ t. none-some x (sym (sym (ap (λ b. cond b (Some x) None) t) ∙ e)))
+    (λ n. false≢true (sym n ∙ eq-eqb x.0 f (ap (λ (y : ℕ × ℕ). y.0) (same_Some x k d) ∙ same)))
+    (cases_Bool (x.0 == f))
 
--- behind a page of a later file there is none of this one
-none_later : (p : CachedPage) (ps : List CachedPage) (f : ℕ) → IsRising (p ∷ ps) → f < p.birth → next_in_file (p ∷ ps) f 0 ≡ None
-none_later p ps f r later = (next_in_file_none (p ∷ ps) f 0).1 (λ q i u b. absurd (at q b i))
+pub same_file : (o : Option (ℕ × ℕ)) (f : ℕ) (k : ℕ × ℕ) → if_in f o ≡ Some k → (o ≡ Some k) × (k.0 ≡ f)
+same_file None f k e = absurd (none-some k e)
+same_file (Some x) f k e = by (x.0 == f) refl e
   where
-    above : (q : CachedPage) → q.birth ≡ f → Below p q → ⊥
-    above q b (inl low) = omega arith
-    above q b (inr same) = let e = same.0 in omega arith
-
-    at : (q : CachedPage) → q.birth ≡ f → In q (p ∷ ps) → ⊥
-    at q b (inl same) = let e = ap (λ (x : CachedPage). x.birth) same in omega arith
-    at q b (inr j) = above q b (r.0 q j)
-
--- the first page of another file ends the search
-pub file_ends : (ps : List CachedPage) (f at : ℕ) (d : CachedPage) → IsRising ps → place_of ps f 0 ≤ at → at < length ps → ((get_or ps at d).birth ≡ f → ⊥)
-    → None ≡ next_in_file (drop at ps) f 0
-file_ends ps f at d r low inside other =
-    let x = get_or ps at d in
-    let more = drop_more ps at d inside in
-    let behind = after_place ps f 0 at d r low inside in
-    let later : f < x.birth = ⊎_elim (λ lt. lt) (λ ge. ⊎_elim (λ lt. absurd (false≢true (sym behind ∙ by_before x f 0 (inl lt)))) (λ le. absurd (other (omega arith))) (cases_lt x.birth f)) (cases_lt f x.birth) in
-    sym (ap (λ xs. next_in_file xs f 0) more ∙ none_later x (drop (at + 1) ps) f (subst IsRising more (rising_drop ps at r)) later)
+    by : (t : Bool) → (x.0 == f) ≡ t → cond t (Some x) None ≡ Some k → (Some x ≡ Some k) × (k.0 ≡ f)
+    by true t d = (d, sym (ap (λ (y : ℕ × ℕ). y.0) (same_Some x k d)) ∙ eqb-true x.0 f t)
+    by false t d = absurd (none-some k d)
 
 -- ---- files one after the other
 
-abbrev of_files : List ℕ → CachedPage → Bool
-of_files births p = is_unsent p.state && has births p.birth
-
-same_test : (p : CachedPage) (f : ℕ) (fs : List ℕ) → (is_unsent p.state ≡ true → p.birth ≡ f → ⊥) → of_files (f ∷ fs) p ≡ of_files fs p
-same_test p f fs other = by (is_unsent p.state) refl
-  where
-    apart : is_unsent p.state ≡ true → (f == p.birth) ≡ false
-    apart e = ⊎_elim (λ t. absurd (other e (sym (eqb-true f p.birth t)))) (λ n. n) (cases_Bool (f == p.birth))
-
-    by : (u : Bool) → is_unsent p.state ≡ u → (u && has (f ∷ fs) p.birth) ≡ (u && has fs p.birth)
-    by true e = ap (λ t. t || has fs p.birth) (apart e)
-    by false e = refl
-
-all_same : (ps : List CachedPage) (f : ℕ) (fs : List ℕ) → ((q : CachedPage) → In q ps → is_unsent q.state ≡ true → q.birth ≡ f → ⊥) → unsent_of ps (f ∷ fs) ≡ unsent_of ps fs
-all_same [] f fs none = refl
-all_same (p ∷ ps) f fs none =
-    ap (λ t. cond t (Some p) (unsent_of ps (f ∷ fs))) (same_test p f fs (none p (inl refl)))
-    ∙ ap (λ o. cond (of_files fs p) (Some p) o) (all_same ps f fs (λ q j. none q (inr j)))
+same_test : (f : ℕ) (fs : List ℕ) (n : ℕ) → (n ≡ f → ⊥) → has (f ∷ fs) n ≡ has fs n
+same_test f fs n other =
+    ap (λ t. t || has fs n) (⊎_elim (λ t. absurd (other (sym (eqb-true f n t)))) (λ e. e) (cases_Bool (f == n)))
 
 -- where the first file has none, the others are left
-pub first_has_none : (ps : List CachedPage) (f : ℕ) (fs : List ℕ) → next_in_file ps f 0 ≡ None → unsent_of ps (f ∷ fs) ≡ unsent_of ps fs
-first_has_none ps f fs e = all_same ps f fs (λ q j u b. let low = (next_in_file_none ps f 0).0 e q j u b in omega arith)
+first_has_none : (ks : List (ℕ × ℕ)) (f : ℕ) (fs : List ℕ) → ((l : ℕ × ℕ) → In l ks → l.0 ≡ f → ⊥) → first_of (f ∷ fs) ks ≡ first_of fs ks
+first_has_none [] f fs none = refl
+first_has_none (k ∷ ks) f fs none =
+    ap (λ t. cond t (Some k) (first_of (f ∷ fs) ks)) (same_test f fs k.0 (none k (inl refl)))
+    ∙ ap (λ o. cond (has fs k.0) (Some k) o) (first_has_none ks f fs (λ l j. none l (inr j)))
 
 -- where it has one, that is the first of all
-pub first_has_one : (ps : List CachedPage) (f : ℕ) (fs : List ℕ) (x : CachedPage) → IsRising ps → sets.IsRising (f ∷ fs) → next_in_file ps f 0 ≡ Some x → unsent_of ps (f ∷ fs) ≡ Some x
-first_has_one [] f fs x r s e = absurd (none-some x e)
-first_has_one (p ∷ ps) f fs x r s e = by (first_has_one ps f fs x r.1 s) (of_file f p) refl e (of_files (f ∷ fs) p) refl
+first_has_one : (ks : List (ℕ × ℕ)) (f : ℕ) (fs : List ℕ) (x : ℕ × ℕ) → sets.IsRising (f ∷ fs) → slice_get ks (place_of ks f 0) ≡ Some x → x.0 ≡ f → first_of (f ∷ fs) ks ≡ Some x
+first_has_one [] f fs x s e is = absurd (none-some x e)
+first_has_one (k ∷ ks) f fs x s e is = by (is_before k f 0) refl (first_has_one ks f fs x s) e
   where
-    -- a page of one of the files that is not of the first is of a later one
-    nothing : of_file f p ≡ false → of_files (f ∷ fs) p ≡ true → ⊥
-    nothing other among =
-        let parts = and_parts (is_unsent p.state) (has (f ∷ fs) p.birth) among in
+    nothing : k.0 < f → has (f ∷ fs) k.0 ≡ false
+    nothing low =
         ⊎_elim
-        (λ same. false≢true (sym other ∙ hit p f parts.0 (sym same)))
-        (λ j. none-some x (sym (none_later p ps f r (s.0 p.birth j)) ∙ e))
-        (has-In (f ∷ fs) p.birth parts.1)
+        (λ t. absurd (among (has-In (f ∷ fs) k.0 t)))
+        (λ e. e)
+        (cases_Bool (has (f ∷ fs) k.0))
+      where
+        among : In k.0 (f ∷ fs) → ⊥
+        among (inl same) = omega arith
+        among (inr j) = let high = s.0 k.0 j in omega arith
 
-    here : of_file f p ≡ true → of_files (f ∷ fs) p ≡ true
-    here t =
-        let parts = and_parts (is_unsent p.state) (p.birth == f && nat_le 0 p.index) t in
-        let birth = and_parts (p.birth == f) (nat_le 0 p.index) parts.1 in
-        and_from (is_unsent p.state) (has (f ∷ fs) p.birth) parts.0 (In-has (f ∷ fs) p.birth (inl (sym (eqb-true p.birth f birth.0))))
-
-    by : (next_in_file ps f 0 ≡ Some x → unsent_of ps (f ∷ fs) ≡ Some x) → (t : Bool) → of_file f p ≡ t → cond t (Some p) (next_in_file ps f 0) ≡ Some x → (w : Bool) → of_files (f ∷ fs) p ≡ w → cond w (Some p) (unsent_of ps (f ∷ fs)) ≡ Some x
-    by rest true t d true w = d
-    by rest true t d false w = absurd (false≢true (sym w ∙ here t))
-    by rest false t d true w = absurd (nothing t w)
-    by rest false t d false w = rest d
+    by : (t : Bool) → is_before k f 0 ≡ t → (slice_get ks (place_of ks f 0) ≡ Some x → x.0 ≡ f → first_of (f ∷ fs) ks ≡ Some x) → slice_get (k ∷ ks) (if t then suc (place_of ks f 0) else 0) ≡ Some x
+        → cond (has (f ∷ fs) k.0) (Some k) (first_of (f ∷ fs) ks) ≡ Some x
+    by true t rest d = ap (λ u. cond u (Some k) (first_of (f ∷ fs) ks)) (nothing (lower k f t)) ∙ rest d is
+    by false t rest d =
+        let same = same_Some k x d in
+        ap (λ u. cond u (Some k) (first_of (f ∷ fs) ks)) (In-has (f ∷ fs) k.0 (inl (sym (ap (λ (y : ℕ × ℕ). y.0) same ∙ is)))) ∙ ap Some same
 
 rising_files : (fs : List ℕ) (at : ℕ) → sets.IsRising fs → sets.IsRising (drop at fs)
 rising_files fs zero r = r
@@ -134,18 +96,19 @@ rising_files [] (suc at) r = r
 rising_files (f ∷ fs) (suc at) r = rising_files fs at r.1
 
 -- the same for the files from a place on
-pub files_pass : (ps : List CachedPage) (fs : List ℕ) (at : ℕ) → at < length fs → next_in_file ps (get_or fs at 0) 0 ≡ None → unsent_of ps (drop (at + 1) fs) ≡ unsent_of ps (drop at fs)
-files_pass ps fs at inside e = sym (ap (unsent_of ps) (drop_more fs at 0 inside) ∙ first_has_none ps (get_or fs at 0) (drop (at + 1) fs) e)
+pub files_pass : (ks : List (ℕ × ℕ)) (fs : List ℕ) (at : ℕ) → IsRisingKeys ks → at < length fs → IsOther (slice_get ks (place_of ks (get_or fs at 0) 0)) (get_or fs at 0) → first_of (drop (at + 1) fs) ks ≡ first_of (drop at fs) ks
+files_pass ks fs at r inside other =
+    let f = get_or fs at 0 in
+    sym (ap (λ bs. first_of bs ks) (drop_more fs at 0 inside) ∙ first_has_none ks f (drop (at + 1) fs) (none_in ks f r other))
 
-pub files_hit : (ps : List CachedPage) (fs : List ℕ) (at : ℕ) (x : CachedPage) → IsRising ps → sets.IsRising fs → at < length fs → next_in_file ps (get_or fs at 0) 0 ≡ Some x
-    → unsent_of ps (drop at fs) ≡ Some x
-files_hit ps fs at x r s inside e =
+pub files_hit : (ks : List (ℕ × ℕ)) (fs : List ℕ) (at : ℕ) (x : ℕ × ℕ) → sets.IsRising fs → at < length fs → slice_get ks (place_of ks (get_or fs at 0) 0) ≡ Some x → x.0 ≡ get_or fs at 0 → first_of (drop at fs) ks ≡ Some x
+files_hit ks fs at x s inside e is =
     let more = drop_more fs at 0 inside in
-    ap (unsent_of ps) more ∙ first_has_one ps (get_or fs at 0) (drop (at + 1) fs) x r (subst sets.IsRising more (rising_files fs at s)) e
+    ap (λ bs. first_of bs ks) more ∙ first_has_one ks (get_or fs at 0) (drop (at + 1) fs) x (subst sets.IsRising more (rising_files fs at s)) e is
 
-pub no_file_left : (ps : List CachedPage) (fs : List ℕ) (at : ℕ) → length fs ≤ at → unsent_of ps (drop at fs) ≡ None
-no_file_left ps fs at past = ap (unsent_of ps) (drop_all at fs past) ∙ none ps
+pub no_file_left : (ks : List (ℕ × ℕ)) (fs : List ℕ) (at : ℕ) → length fs ≤ at → first_of (drop at fs) ks ≡ None
+no_file_left ks fs at past = ap (λ bs. first_of bs ks) (drop_all at fs past) ∙ none ks
   where
-    none : (ps : List CachedPage) → unsent_of ps [] ≡ None
+    none : (ks : List (ℕ × ℕ)) → first_of [] ks ≡ None
     none [] = refl
-    none (p ∷ ps) = ap (λ t. cond t (Some p) (unsent_of ps [])) (and_false (is_unsent p.state) (has [] p.birth) refl) ∙ none ps
+    none (k ∷ ks) = none ks

@@ -1,2 +1,3 @@
--- What the code keeps of its own fields.
+pub mod Keys
+pub mod Frames
 pub mod Pages

@@ -1,7 +1,6 @@
 //! What is kept of a page.
 ghost use Rattle.std.specs.Prelude.{◌≡◌};
-ghost use Rattle.page_cache.specs.Pages.{is_page, is_before, is_unsent, is_dirty};
-ghost use Rattle.page_cache.specs.Unsent.{is_in};
+ghost use Rattle.page_cache.specs.Pages.{is_unsent, is_dirty};
 
 use blk_base::Block;
 
@@ -30,20 +29,6 @@ pub struct CachedPage {
     pub state: PageState,
 }
 
-// Whether this is that page.
-pub fn is_page(page: &CachedPage, birth: u64, index: u32) -> bool
-    ensures { result ≡ is_page page.now birth index }
-{
-    page.birth == birth && page.index == index
-}
-
-// Whether the page stands before that one.
-pub fn is_before(page: &CachedPage, birth: u64, index: u32) -> bool
-    ensures { result ≡ is_before page.now birth index }
-{
-    page.birth < birth || page.birth == birth && page.index < index
-}
-
 // Whether no order holds the page yet.
 pub fn is_unsent(state: PageState) -> bool
     ensures { result ≡ is_unsent state }
@@ -60,15 +45,5 @@ pub fn is_dirty(state: PageState) -> bool
     match state {
         PageState::Dirty => true,
         PageState::Clean | PageState::Loose | PageState::Firm => false,
-    }
-}
-
-// Whether the page is of that file; of any, where none is said.
-pub fn is_in(page: &CachedPage, file: Option<u64>) -> bool
-    ensures { result ≡ is_in file page.now }
-{
-    match file {
-        Some(birth) => page.birth == birth,
-        None => true,
     }
 }

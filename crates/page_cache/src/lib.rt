@@ -3,15 +3,17 @@
 //! A page is a block of a file, named by the birth of its file and its index there. A changed page is unsent, until
 //! it is sent without order or with it; a call that takes pages to the device asks for the next one that is left.
 //!
-//! `pages` has the cache, `cached_page` what it keeps of a page, and `laws` what its list of pages says as a map.
+//! `pages` has the cache: `frames` keep the pages where they are, and lists of `keys` have them in order, all of them
+//! and those that are unsent. `cached_page` is what is kept of a page, and `laws` what a list of pages says as a map.
 //!
 //! Stands on `blk_base`, whose `Block` has the bytes of a page, and on `number_sets`.
 #![tactic(auto)]
 
 mod cached_page;
+mod frames;
+mod keys;
 mod laws;
 mod pages;
-mod search;
 
 pub use cached_page::{CachedPage, PageState};
 pub use laws::{next_page_is_least, pages_are_a_map, pages_stand_in_order};

@@ -7,11 +7,13 @@ ghost use Rattle.page_cache.specs.Pages.{Cache, with_pages, page_at, put_page, d
 ghost use Rattle.page_cache.specs.Unsent.{with_room_for, unsent_keys};
 ghost use Rattle.number_sets.specs.Sets as sets;
 
-use crate::cached_page::{is_in, is_unsent};
-use crate::search::{dirty_page, find, first_unsent, unsent_of};
+use crate::cached_page::{is_dirty, is_unsent};
+use crate::frames::Frames;
+use crate::keys::{drop_key, first_of, key_from, keys_in, list_key, put_key};
 use crate::{CachedPage, PageState};
 use blk_base::{Block, NoMemory};
 use std::alloc::Global;
+use std::collections::VecDeque;
 use std::marker::Model;
 
 /// The page is new, and there is no room for one more.
@@ -21,20 +23,23 @@ pub struct NoRoom;
 /// The pages of files, in order of birth and index. Only `load`, `reserve` and `unsent_keys` take memory.
 #[derive(Drop)]
 pub struct Pages {
-    pages: Vec<CachedPage>,
-    room: u32,
+    pages: Frames,
+    // Birth and index of each page that is Dirty or Loose, in order.
+    unsent: VecDeque<(u64, u32)>,
+    // Of each that is Dirty.
+    dirty: VecDeque<(u64, u32)>,
 }
 
 impl Model for Pages {
     ghost use Rattle.page_cache.specs.Pages.{Cache};
     ghost use Rattle.page_cache.specs.code.Pages.{IsCache};
-    ghost use Rattle.std.specs.Prelude.{vec_capacity};
+    ghost use Rattle.std.specs.VecDeque.{deque_capacity};
 
     ghost Value = { Cache };
 
-    ghost view = { λ p. record { room = p.room; pages = p.pages.items } };
+    ghost view = { λ p. p.pages };
 
-    ghost invariant = { λ p. IsCache p.pages.items (vec_capacity p.pages) p.room };
+    ghost invariant = { λ p. IsCache p.pages p.unsent.items (deque_capacity p.unsent) p.dirty.items (deque_capacity p.dirty) };
 }
 
 impl Pages {
@@ -42,9 +47,11 @@ impl Pages {
     pub fn load(alloc: Global, room: u32) -> Result<Pages, NoMemory>
         ensures { IfOk result (λ p. p ≡ record { room = room; pages = [] }) }
     {
+        let room_size = room as usize;
         Ok(Pages {
-            pages: Vec::with_capacity(alloc, room as usize)?,
-            room,
+            pages: Frames::load(alloc, room)?,
+            unsent: VecDeque::with_capacity(alloc, room_size)?,
+            dirty: VecDeque::with_capacity(alloc, room_size)?,
         })
     }
 
@@ -53,28 +60,23 @@ impl Pages {
         ensures ok { IfOk result (λ u. self.new ≡ with_room_for more self.old) }
         ensures err { OnErr result (self.new ≡ self.old) }
     {
+        let room = self.pages.room();
         let Some(wanted) = (self.pages.len() as u32).checked_add(more) else {
             return Err(NoMemory);
         };
-        if wanted <= self.room {
+        if wanted <= room {
             return Ok(());
         }
-        self.pages.reserve(more as usize)?;
-        self.room = wanted;
-        Ok(())
+        self.unsent.reserve(wanted as usize)?;
+        self.dirty.reserve(wanted as usize)?;
+        self.pages.reserve(more, wanted)
     }
 
     /// Birth and index of each page, in order, that is not sent, or was sent without order; of one file, or of all.
     pub fn unsent_keys(&self, alloc: Global, file: Option<u64>) -> Result<Vec<(u64, u32)>, NoMemory>
         ensures { IfOk result (λ keys. keys.items ≡ unsent_keys file self.now.pages) }
     {
-        let mut keys = Vec::new(alloc);
-        for page in &self.pages {
-            if is_unsent(page.state) && is_in(page, file) {
-                keys.push((page.birth, page.index))?;
-            }
-        }
-        Ok(keys)
+        keys_in(alloc, &self.unsent, file)
     }
 
     /// Keeps the bytes that call `call` gave a page, as not sent; it goes to this block. `NoRoom` where the page is
@@ -100,18 +102,10 @@ impl Pages {
             version: call,
             state: PageState::Dirty,
         };
-        match find(&self.pages, birth, index) {
-            Ok(at) => {
-                self.pages[at] = page;
-                Ok(())
-            }
-            Err(at) => {
-                if self.pages.len() >= self.room as usize {
-                    return Err(NoRoom);
-                }
-                self.pages.insert(at, page).map_err(|_| NoRoom)
-            }
-        }
+        self.pages.set(page)?;
+        put_key(&mut self.unsent, birth, index);
+        put_key(&mut self.dirty, birth, index);
+        Ok(())
     }
 
     /// The bytes of a page, if it is there.
@@ -147,38 +141,33 @@ impl Pages {
         requires { page_at self.old.pages birth index ≢ None }
         ensures { self.new ≡ with_pages self.old (mark_page self.old.pages birth index s) }
     {
-        if let Ok(at) = find(&self.pages, birth, index) {
-            self.pages[at].state = s;
-        }
+        self.pages.mark(birth, index, s);
+        list_key(&mut self.unsent, birth, index, is_unsent(s));
+        list_key(&mut self.dirty, birth, index, is_dirty(s));
     }
 
     /// Lets a page go, if it is there.
     pub fn drop_page(&mut self, birth: u64, index: u32)
         ensures { self.new ≡ with_pages self.old (drop_page self.old.pages birth index) }
     {
-        if let Ok(at) = find(&self.pages, birth, index) {
-            self.pages.remove(at);
-        }
+        self.pages.drop_page(birth, index);
+        drop_key(&mut self.unsent, birth, index);
+        drop_key(&mut self.dirty, birth, index);
     }
 
     /// The least index from `from` on at which a page of the file is not sent, or was sent without order.
     pub fn of_file(&self, birth: u64, from: u32) -> Option<u32>
         ensures { result ≡ option_map (λ p. p.index) (next_in_file self.now.pages birth from) }
     {
-        let page = first_unsent(&self.pages, birth, from)?;
-        if page.birth == birth {
-            Some(page.index)
-        } else {
-            None
-        }
+        let (file, index) = key_from(&self.unsent, birth, from)?;
+        if file == birth { Some(index) } else { None }
     }
 
     /// The least birth and index, from these on, at which a page is not sent, or was sent without order.
     pub fn next_unsent(&self, birth: u64, from: u32) -> Option<(u64, u32)>
         ensures { result ≡ option_map key_of (next_unsent self.now.pages birth from) }
     {
-        let page = first_unsent(&self.pages, birth, from)?;
-        Some((page.birth, page.index))
+        key_from(&self.unsent, birth, from)
     }
 
     /// The first page, in order, of one of the files with these births that is not sent, or was sent without order.
@@ -187,15 +176,15 @@ impl Pages {
         ensures page { option_copied result ≡ unsent_of self.now.pages births.now }
         ensures found { (p : CachedPage) → unsent_of self.now.pages births.now ≡ Some p → page_at self.now.pages p.birth p.index ≡ Some p }
     {
-        unsent_of(&self.pages, births)
+        let (birth, index) = first_of(&self.unsent, births)?;
+        self.pages.page(birth, index)
     }
 
     /// The Dirty page number `pick`, in order, as its birth and index.
     pub fn dirty(&self, pick: u32) -> Option<(u64, u32)>
         ensures { result ≡ option_map key_of (dirty_page self.now.pages pick) }
     {
-        let page = dirty_page(&self.pages, pick)?;
-        Some((page.birth, page.index))
+        self.dirty.get(pick as usize).copied()
     }
 
     /// The Dirty page number `pick`, in order.
@@ -203,16 +192,14 @@ impl Pages {
         ensures page { option_copied result ≡ dirty_page self.now.pages pick }
         ensures found { (p : CachedPage) → dirty_page self.now.pages pick ≡ Some p → page_at self.now.pages p.birth p.index ≡ Some p }
     {
-        dirty_page(&self.pages, pick)
+        let (birth, index) = self.dirty(pick)?;
+        self.pages.page(birth, index)
     }
 
     /// A page, if it is there.
     pub fn page(&self, birth: u64, index: u32) -> Option<&CachedPage>
         ensures { option_copied result ≡ page_at self.now.pages birth index }
     {
-        match find(&self.pages, birth, index) {
-            Ok(at) => Some(&self.pages[at]),
-            Err(_) => None,
-        }
+        self.pages.page(birth, index)
     }
 }

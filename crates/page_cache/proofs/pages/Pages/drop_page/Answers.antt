@@ -1,11 +1,14 @@
-use Rattle.std.proofs.Common.{rules, ◌≡◌, sym, ◌∙◌}
-use Rattle.std.specs.List.{remove}
-use Rattle.page_cache.specs.Pages.{drop_page}
-use Rattle.page_cache.proofs.Steps.{dropped_cache}
+use Rattle.page_cache.specs.Pages.{is_unsent, is_dirty}
+use Rattle.page_cache.proofs.Steps.{list_rising, drop_cache}
 use Rattle.page_cache.proofs.pages.Pages.drop_page.Goals as goal
+
+pub drop_key-requires : goal.drop_key-requires
+drop_key-requires c = list_rising is_unsent c.self.inside.pages.pages c.self.inside.unsent.items c.self.invariant.rising c.self.invariant.unsent_listed
+
+pub drop_key-requires-2 : goal.drop_key-requires-2
+drop_key-requires-2 c = list_rising is_dirty c.self.inside.pages.pages c.self.inside.dirty.items c.self.invariant.rising c.self.invariant.dirty_listed
 
 pub invariant_of-self : goal.invariant_of-self
 invariant_of-self c =
-    let ps = c.self.inside.pages.items in
-    let gone : drop_page ps c.args.birth c.args.index ≡ remove ps c.in-Ok.at = search rules in
-    dropped_cache ps c.remove.new.self.items c.self.inside.pages.cap _ c.self.inside.room c.args.birth c.args.index c.self.invariant (c.remove.ensures.items ∙ sym gone) c.remove.ensures.capacity
+    drop_cache c.self.inside.pages c.drop_page.new.self c.args.birth c.args.index c.self.inside.unsent.items _ c.self.inside.dirty.items _ c.drop_key.new.keys.items _ c.drop_key-2.new.keys.items _
+    c.self.invariant c.drop_page.ensures c.drop_key.ensures.items c.drop_key-2.ensures.items c.drop_key.ensures.capacity c.drop_key-2.ensures.capacity

@@ -1,32 +1,29 @@
-use Rattle.std.proofs.Common.{rules, ◌≡◌, ◌<◌, length, slice_set, Some, sym, ap, ◌∙◌}
-use Rattle.std.specs.List.{slice_get}
-use Rattle.page_cache.specs.declared.cached_page.CachedPage.{CachedPage}
-use Rattle.page_cache.specs.Pages.{Cache, page_at, put_page, marked, mark_page, with_pages}
-use Rattle.page_cache.specs.laws.Maps.{page_at-key}
-use Rattle.page_cache.proofs.Steps.{read_there, replaced_cache, marked_there}
+use Rattle.std.proofs.Common.{sym, ap, ◌∙◌}
+use Rattle.page_cache.specs.Pages.{Cache, is_unsent, is_dirty, page_at}
+use Rattle.page_cache.specs.code.Keys.{with_key}
+use Rattle.page_cache.proofs.Steps.{list_rising, mark_most, mark_room, mark_cache}
 use Rattle.page_cache.proofs.pages.Pages.mark.Goals as goal
 
-inside : (c : goal.After-self-1) → c.in-Ok.at < length c.self.inside.pages.items
-inside c = search rules
+pub list_key-requires-clause-rising : goal.list_key-requires-clause-rising
+list_key-requires-clause-rising c = list_rising is_unsent c.self.inside.pages.pages c.self.inside.unsent.items c.self.invariant.rising c.self.invariant.unsent_listed
 
-there : (c : goal.After-self-1) → slice_get c.self.inside.pages.items c.in-Ok.at ≡ page_at c.self.inside.pages.items c.args.birth c.args.index
-there c = search rules
+pub list_key-requires-clause-room : goal.list_key-requires-clause-room
+list_key-requires-clause-room c =
+    mark_room is_unsent c.self.inside.pages c.mark.new.self c.self.inside.unsent.items c.args.birth c.args.index c.args.s _ _ c.self.invariant.rising c.self.invariant.unsent_listed (λ e. c.requires (sym (ap (λ (k : Cache). page_at k.pages c.args.birth c.args.index) c.self.view_is) ∙ e)) c.mark.ensures
+    (mark_most c.self.inside.pages c.mark.new.self c.args.birth c.args.index c.args.s c.self.inside.unsent.items _ c.self.inside.dirty.items _ c.self.invariant (λ e. c.requires (sym (ap (λ (k : Cache). page_at k.pages c.args.birth c.args.index) c.self.view_is) ∙ e)) c.mark.ensures) c.self.invariant.enough_unsent c.is_unsent.ensures
 
-put : (c : goal.After-self-1) → (q : CachedPage) → q.birth ≡ c.args.birth → q.index ≡ c.args.index → put_page c.self.inside.pages.items q ≡ slice_set c.self.inside.pages.items c.in-Ok.at q
-put c = search rules
+pub list_key-requires-2-clause-rising : goal.list_key-requires-2-clause-rising
+list_key-requires-2-clause-rising c = list_rising is_dirty c.self.inside.pages.pages c.self.inside.dirty.items c.self.invariant.rising c.self.invariant.dirty_listed
+
+pub list_key-requires-2-clause-room : goal.list_key-requires-2-clause-room
+list_key-requires-2-clause-room c =
+    mark_room is_dirty c.self.inside.pages c.mark.new.self c.self.inside.dirty.items c.args.birth c.args.index c.args.s _ _ c.self.invariant.rising c.self.invariant.dirty_listed (λ e. c.requires (sym (ap (λ (k : Cache). page_at k.pages c.args.birth c.args.index) c.self.view_is) ∙ e)) c.mark.ensures
+    (mark_most c.self.inside.pages c.mark.new.self c.args.birth c.args.index c.args.s c.self.inside.unsent.items _ c.self.inside.dirty.items _ c.self.invariant (λ e. c.requires (sym (ap (λ (k : Cache). page_at k.pages c.args.birth c.args.index) c.self.view_is) ∙ e)) c.mark.ensures) c.self.invariant.enough_dirty c.is_dirty.ensures
 
 pub invariant_of-self : goal.invariant_of-self
 invariant_of-self c =
-    let ps = c.self.inside.pages.items in
-    let x = c.index_mut.result.now in
-    let found = read_there ps c.args.birth c.args.index c.in-Ok.at x (inside c) (there c) c.index_mut.ensures.value in
-    let key = page_at-key ps c.args.birth c.args.index x found in
-    let known : page_at ps x.birth x.index ≡ Some x = ap (λ n. page_at ps n x.index) key.0 ∙ ap (page_at ps c.args.birth) key.1 ∙ found in
-    replaced_cache ps (slice_set ps c.in-Ok.at (marked x c.args.s)) c.self.inside.pages.cap c.self.inside.room x (marked x c.args.s) c.self.invariant known (sym (put c (marked x c.args.s) key.0 key.1))
-
-pub returns-in-Ok : goal.returns-in-Ok
-returns-in-Ok c =
-    let x = c.index_mut.result.now in
-    let done = marked_there c.self.inside.pages.items c.args.birth c.args.index c.in-Ok.at c.args.s x (inside c) (there c) c.index_mut.ensures.value (put c) in
-    ap (λ ps. let made : Cache = record { room = c.self.inside.room; pages = ps } in made) done
-    ∙ ap (λ (k : Cache). with_pages k (mark_page k.pages c.args.birth c.args.index c.args.s)) c.self.view_is
+    mark_cache c.self.inside.pages c.mark.new.self c.args.birth c.args.index c.args.s c.self.inside.unsent.items _ c.self.inside.dirty.items _ c.list_key.new.keys.items _ c.list_key-2.new.keys.items _
+    c.self.invariant (λ e. c.requires (sym (ap (λ (k : Cache). page_at k.pages c.args.birth c.args.index) c.self.view_is) ∙ e)) c.mark.ensures
+    (c.list_key.ensures.items ∙ ap (with_key c.self.inside.unsent.items c.args.birth c.args.index) c.is_unsent.ensures)
+    (c.list_key-2.ensures.items ∙ ap (with_key c.self.inside.dirty.items c.args.birth c.args.index) c.is_dirty.ensures)
+    c.list_key.ensures.capacity c.list_key-2.ensures.capacity

@@ -1,43 +1,30 @@
-use Rattle.std.proofs.Common.{rules, ◌≡◌, ◌<◌, length, slice_set, Some, None, sym, subst, ◌∙◌, arith, vec_capacity}
-use Rattle.std.specs.List.{slice_get, insert}
-use Rattle.std.proofs.lemmas.Bool.{false≢true}
-use Rattle.std.proofs.lemmas.Option.{none-some}
+use Rattle.std.proofs.Common.{ap, arith}
 use Rattle.page_cache.specs.declared.cached_page.CachedPage.{CachedPage}
 use Rattle.page_cache.specs.declared.cached_page.PageState.TheVariants as page_states
-use Rattle.page_cache.specs.Pages.{Cache, page_at, put_page}
-use Rattle.page_cache.proofs.Steps.{read_there, replaced_cache, inserted_cache}
+use Rattle.page_cache.specs.Pages.{Cache, is_unsent, is_dirty}
+use Rattle.page_cache.proofs.Steps.{list_rising, list_room, put_cache}
 use Rattle.page_cache.proofs.pages.Pages.set.Goals as goal
 
-pub invariant_of-self : goal.invariant_of-self
-invariant_of-self c =
-    let ps = c.self.inside.pages.items in
-    let at = c.in-Ok.at in
-    let x = c.index_mut.result.now in
-    let q : CachedPage = record { birth = c.args.birth; index = c.args.index; block = c.args.block; body = c.args.body; version = c.args.call; state = page_states.Dirty } in
-    let inside : at < length ps = search rules in
-    let there : slice_get ps at ≡ page_at ps c.args.birth c.args.index = search rules in
-    let put : put_page ps q ≡ slice_set ps at q = search rules in
-    let found = read_there ps c.args.birth c.args.index at x inside there c.index_mut.ensures.value in
-    replaced_cache ps (slice_set ps at q) c.self.inside.pages.cap c.self.inside.room x q c.self.invariant found (sym put)
+pub put_key-requires-clause-rising : goal.put_key-requires-clause-rising
+put_key-requires-clause-rising c = list_rising is_unsent c.self.inside.pages.pages c.self.inside.unsent.items c.self.invariant.rising c.self.invariant.unsent_listed
 
-pub invariant_of-self-in-Err : goal.invariant_of-self-in-Err
-invariant_of-self-in-Err c =
-    let ps = c.self.inside.pages.items in
+pub put_key-requires-clause-room : goal.put_key-requires-clause-room
+put_key-requires-clause-room c =
     let q : CachedPage = record { birth = c.args.birth; index = c.args.index; block = c.args.block; body = c.args.body; version = c.args.call; state = page_states.Dirty } in
-    let none : page_at ps c.args.birth c.args.index ≡ None = search rules in
-    let put : put_page ps q ≡ insert ps c.in-Err.at q = search rules in
-    let size : c.len.result ≡ length ps = search rules in
-    let free : length ps < c.self.inside.room = (let less = c.if-len-self.false in omega arith) in
-    let new : c.insert.new.self.items ≡ insert ps c.in-Err.at q = search rules in
-    inserted_cache ps c.insert.new.self.items c.self.inside.pages.cap (vec_capacity c.insert.new.self) c.self.inside.room q c.self.invariant none free (new ∙ sym put) c.insert.ensures.capacity
+    list_room is_unsent c.self.inside.pages.pages c.set.new.self.pages c.self.inside.unsent.items q c.set.new.self.room _ c.self.invariant.rising c.self.invariant.unsent_listed (ap (λ (k : Cache). k.pages) c.in_ok-set.ensures.ok) c.in_ok-set.ensures.within
+    (let same = ap (λ (k : Cache). k.room) c.in_ok-set.ensures.ok in let enough = c.self.invariant.enough_unsent in omega arith)
 
-pub returns-in-Ok-clause-no_room : goal.returns-in-Ok-clause-no_room
-returns-in-Ok-clause-no_room c =
-    let ps = c.self.inside.pages.items in
-    let at = c.in-Ok.at in
-    let x = c.index_mut.result.now in
-    let inside : at < length ps = search rules in
-    let there : slice_get ps at ≡ page_at ps c.args.birth c.args.index = search rules in
-    let found = read_there ps c.args.birth c.args.index at x inside there c.index_mut.ensures.value in
-    let known : page_at c.args.self.now.pages c.args.birth c.args.index ≡ Some x = subst (λ (k : Cache). page_at k.pages c.args.birth c.args.index ≡ Some x) c.self.view_is found in
-    (λ e. absurd (false≢true e), λ h. absurd (none-some x (sym h.0 ∙ known)))
+pub put_key-requires-2-clause-rising : goal.put_key-requires-2-clause-rising
+put_key-requires-2-clause-rising c = list_rising is_dirty c.self.inside.pages.pages c.self.inside.dirty.items c.self.invariant.rising c.self.invariant.dirty_listed
+
+pub put_key-requires-2-clause-room : goal.put_key-requires-2-clause-room
+put_key-requires-2-clause-room c =
+    let q : CachedPage = record { birth = c.args.birth; index = c.args.index; block = c.args.block; body = c.args.body; version = c.args.call; state = page_states.Dirty } in
+    list_room is_dirty c.self.inside.pages.pages c.set.new.self.pages c.self.inside.dirty.items q c.set.new.self.room _ c.self.invariant.rising c.self.invariant.dirty_listed (ap (λ (k : Cache). k.pages) c.in_ok-set.ensures.ok) c.in_ok-set.ensures.within
+    (let same = ap (λ (k : Cache). k.room) c.in_ok-set.ensures.ok in let enough = c.self.invariant.enough_dirty in omega arith)
+
+pub invariant_of-self-2 : goal.invariant_of-self-2
+invariant_of-self-2 c =
+    let q : CachedPage = record { birth = c.args.birth; index = c.args.index; block = c.args.block; body = c.args.body; version = c.args.call; state = page_states.Dirty } in
+    put_cache c.self.inside.pages c.set.new.self q c.self.inside.unsent.items _ c.self.inside.dirty.items _ c.put_key.new.keys.items _ c.put_key-2.new.keys.items _
+    c.self.invariant c.in_ok-set.ensures.ok c.in_ok-set.ensures.within c.put_key.ensures.items c.put_key-2.ensures.items c.put_key.ensures.capacity c.put_key-2.ensures.capacity
