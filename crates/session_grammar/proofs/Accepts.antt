@@ -60,7 +60,7 @@ body_said s t events well say same =
     let e = in_events opened s.events m in
     subst (λ h. ReadsTo (Some e) (map recover_words s.recovers) (script_with s h)) same
     (recovers_read s.recovers e sections.Events [] refl well.recovers (omega (arith, well.few_recovers))) in
-    threads_read s.programs s.lines 1 r [] [] ((codes "events" ∷ []) ∷ tail) s refl refl (omega (arith, well.threads)) well.lines well.few_calls (λ c i. (well.calls c i).1)
+    threads_read s.programs s.lines 1 r [] [] ((codes "events" ∷ []) ∷ tail) s refl refl (omega (arith, well.threads)) well.lines well.few_calls
     (ReadsTo-line (Some body) (codes "events" ∷ []) opened tail s (IsRead-events body refl)
     (events_read s.events events opened [] 0 (map recover_words s.recovers) s refl say well.events (omega (arith, well.expanded)) last))
 

@@ -4,12 +4,9 @@ use Rattle.std.specs.List.{join_with_byte}
 use Rattle.std.proofs.lemmas.Bool.{and_from, le-leb, lt-ltb, eq-eqb}
 use Rattle.std.proofs.lemmas.List.{take-append-drop}
 use Rattle.std.proofs.lemmas.List.Splits.{join_with_byte-slice_split}
-use Rattle.std.proofs.lemmas.Option.{none-some}
 use Rattle.blk_base.specs.Members.{In}
-use Rattle.blk_base.specs.laws.Members.{In-append_left, In-append_right}
 use Rattle.tree_model.specs.declared.call.Call.{Call}
 use Rattle.script_words.specs.Spelling.{words_of, count_of}
-use Rattle.script_words.proofs.Chosen.{mapped, chained}
 use Rattle.script_words.proofs.SpelledNumbers.{numeral-decimal}
 use Rattle.script_grammar.specs.declared.kinds.ScriptKind.TheVariants as kinds
 use Rattle.script_grammar.proofs.WellFormed.{ok_behind}
@@ -49,7 +46,7 @@ use Rattle.session_grammar.specs.declared.session_script.SessionScript.{SessionS
 use Rattle.session_grammar.specs.declared.words.Word.TheVariants as word
 use Rattle.session_grammar.specs.Words.{word_of}
 use Rattle.session_grammar.specs.Grammar.{is_built, is_submit, stands_in, has_threads, may_stand, with_thread, thread_taken, with_call, call_taken, names_thread, weight, with_event, event_taken, with_recover, recover_taken, is_behind_events, script_read, ended_in}
-use Rattle.session_grammar.specs.WellFormed.{all_calls, IsBuilt, IsLineOf, AreLinesOf, IsStepOf, IsTurnOf, IsEventOf, expanded_of}
+use Rattle.session_grammar.specs.WellFormed.{all_calls, IsLineOf, AreLinesOf, IsStepOf, IsTurnOf, IsEventOf, expanded_of}
 use Rattle.session_grammar.specs.laws.Speller.{thread_words, thread_lines, recover_words}
 use Rattle.session_grammar.specs.laws.Accepted.{SayEvents}
 use Rattle.session_grammar.proofs.ReadsTo.{IsRead, ReadsTo, ReadsTo-line, later_line-read, IsRead-known}
@@ -103,22 +100,12 @@ call_some : (o : Option Call) (c : Call) → call_lines.call_taken o ≡ Ok c �
 call_some None c h = cc
 call_some (Some d) c h = let p = ok_behind (call_lines.call_fits d) d c _ h in ap Some p.1
 
--- a rename is read as nothing else
-pair_is_rename : (ws : List (List ℕ)) (c : Call) → call_lines.pair_spelled pairs.Rename ws ≡ Some c → IsBuilt c → ⊥
-pair_is_rename [] c h = absurd (none-some c h)
-pair_is_rename (p ∷ []) c h = absurd (none-some c h)
-pair_is_rename (p ∷ q ∷ []) c h =
-    chained (λ d. IsBuilt d → ⊥) _ (call_lines.path_text p) c h
-    (λ path e g. mapped (λ d. IsBuilt d → ⊥) (call_lines.pair_call pairs.Rename path) (call_lines.path_text q) c g (λ other f is. is))
-pair_is_rename (p ∷ q ∷ u ∷ ws) c h = absurd (none-some c h)
-
-built_word : (v : CallWord) (ws : List (List ℕ)) (c : Call) → call_lines.call_of v ws ≡ Ok c → IsBuilt c → is_built (word.Call v) ≡ true
-built_word (calls.OfPath w) ws c h is = refl
-built_word (calls.OfPair pairs.Link) ws c h is = refl
-built_word (calls.OfPair pairs.Rename) ws c h is = absurd (pair_is_rename ws c (call_some (call_lines.pair_spelled pairs.Rename ws) c h) is)
-built_word (calls.OfPlace w) ws c h is = refl
-built_word calls.Truncate ws c h is = refl
-built_word calls.Sync ws c h is = refl
+built_word : (v : CallWord) → is_built (word.Call v) ≡ true
+built_word (calls.OfPath w) = refl
+built_word (calls.OfPair w) = refl
+built_word (calls.OfPlace w) = refl
+built_word calls.Truncate = refl
+built_word calls.Sync = refl
 
 -- the words of a call's line
 record IsCallLine (l : List (List ℕ)) (c : Call) : Type 0 where
@@ -140,22 +127,22 @@ call_line (w ∷ ws) c h = call_line-after w ws (call_lines.call_word w) c refl 
 call_stands : (r : Reading) (v : CallWord) → r.section ≡ sections.Opening → 0 < length r.programs → may_stand r (word.Call v) ≡ true
 call_stands r v here some = ap (λ s. stands_in s (has_threads r) (word.Call v)) here ∙ lt-ltb 0 (length r.programs) some
 
-IsRead-words : (r : Reading) (l : List ℕ) (c : Call) (is : IsCallLine (words_of l) c) → r.section ≡ sections.Opening → 0 < length r.programs → last_length r.programs < MOST_CALLS → IsBuilt c → IsRead (Some r) (is.first ∷ is.rest) (with_call r l c)
-IsRead-words r l c is here some few built =
+IsRead-words : (r : Reading) (l : List ℕ) (c : Call) (is : IsCallLine (words_of l) c) → r.section ≡ sections.Opening → 0 < length r.programs → last_length r.programs < MOST_CALLS → IsRead (Some r) (is.first ∷ is.rest) (with_call r l c)
+IsRead-words r l c is here some few =
     let line = join_with_byte 32 (is.first ∷ is.rest) in
     let same : line ≡ l = ap (join_with_byte 32) (sym is.cut) ∙ join_with_byte-slice_split 32 l in
     let known : word_of (is_behind_events r.section) is.first ≡ Some (word.Call is.kind) =
     ap₂ (λ (s : Section) (w : List ℕ). word_of (is_behind_events s) w) here (call_named is.first is.kind is.known) ∙ call_known is.kind in
     IsRead-known r is.first is.rest (word.Call is.kind) (with_call r l c) known
-    (later_line-read r line (word.Call is.kind) is.rest (with_call r l c) (built_word is.kind is.rest c is.read built) (call_stands r is.kind here some) refl
+    (later_line-read r line (word.Call is.kind) is.rest (with_call r l c) (built_word is.kind) (call_stands r is.kind here some) refl
     (ap (call_taken r line) is.read
     ∙ ap (λ b. if b then Ok (with_call r line c) else Err kinds.Number) (lt-ltb (last_length r.programs) MOST_CALLS few)
     ∙ ap (λ x. Ok (with_call r x c)) same))
 
-IsRead-call : (r : Reading) (l : List ℕ) (c : Call) → r.section ≡ sections.Opening → 0 < length r.programs → last_length r.programs < MOST_CALLS → IsLineOf l c → IsBuilt c → IsRead (Some r) (words_of l) (with_call r l c)
-IsRead-call r l c here some few line built =
+IsRead-call : (r : Reading) (l : List ℕ) (c : Call) → r.section ≡ sections.Opening → 0 < length r.programs → last_length r.programs < MOST_CALLS → IsLineOf l c → IsRead (Some r) (words_of l) (with_call r l c)
+IsRead-call r l c here some few line =
     let is = call_line (words_of l) c line in
-    subst (λ ws. IsRead (Some r) ws (with_call r l c)) (sym is.cut) (IsRead-words r l c is here some few built)
+    subst (λ ws. IsRead (Some r) ws (with_call r l c)) (sym is.cut) (IsRead-words r l c is here some few)
 
 -- ---- the calls of a thread
 
@@ -173,22 +160,22 @@ some_behind : {A : Type 0} (ts : List A) (t : A) → 0 < length (ts ++ t ∷ [])
 some_behind ts t = omega (arith, length-append ts (t ∷ []))
 
 calls_read : (cs : List Call) (ls : List (List ℕ)) (r : Reading) (ps : List (List Call)) (p : List Call) (done : List (List ℕ)) (rest : List (List (List ℕ))) (s : SessionScript) → r.section ≡ sections.Opening → AreLinesOf ls cs → length p + length cs ≤ MOST_CALLS
-    → ((c : Call) → In c cs → IsBuilt c) → ReadsTo (Some (in_body r (ps ++ (p ++ cs) ∷ []) (done ++ ls))) rest s → ReadsTo (Some (in_body r (ps ++ p ∷ []) done)) (map words_of ls ++ rest) s
-calls_read [] [] r ps p done rest s here are few built behind =
+    → ReadsTo (Some (in_body r (ps ++ (p ++ cs) ∷ []) (done ++ ls))) rest s → ReadsTo (Some (in_body r (ps ++ p ∷ []) done)) (map words_of ls ++ rest) s
+calls_read [] [] r ps p done rest s here are few behind =
     subst (λ x. ReadsTo (Some (in_body r (ps ++ x ∷ []) done)) rest s) (append-nil p)
     (subst (λ x. ReadsTo (Some (in_body r (ps ++ (p ++ []) ∷ []) x)) rest s) (append-nil done) behind)
-calls_read [] (l ∷ ls) r ps p done rest s here are few built behind = absurd are
-calls_read (c ∷ cs) [] r ps p done rest s here are few built behind = absurd are
-calls_read (c ∷ cs) (l ∷ ls) r ps p done rest s here are few built behind =
+calls_read [] (l ∷ ls) r ps p done rest s here are few behind = absurd are
+calls_read (c ∷ cs) [] r ps p done rest s here are few behind = absurd are
+calls_read (c ∷ cs) (l ∷ ls) r ps p done rest s here are few behind =
     let now = in_body r (ps ++ p ∷ []) done in
     let next = in_body r (ps ++ (p ++ c ∷ []) ∷ []) (done ++ l ∷ []) in
     let size : last_length (ps ++ p ∷ []) ≡ length p = last_length-behind ps p in
     let same : with_call now l c ≡ next = ap (λ x. in_body r x (done ++ l ∷ [])) (pushed_last-behind ps p c) in
-    let read : IsRead (Some now) (words_of l) next = subst (λ x. IsRead (Some now) (words_of l) x) same (IsRead-call now l c here (some_behind ps p) (omega (arith, size, few)) are.0 (built c (inl refl))) in
+    let read : IsRead (Some now) (words_of l) next = subst (λ x. IsRead (Some now) (words_of l) x) same (IsRead-call now l c here (some_behind ps p) (omega (arith, size, few)) are.0) in
     let more = subst (λ x. ReadsTo (Some (in_body r (ps ++ x ∷ []) (done ++ l ∷ ls))) rest s) (sym (append_assoc p (c ∷ []) cs)) behind in
     let all = subst (λ x. ReadsTo (Some (in_body r (ps ++ ((p ++ c ∷ []) ++ cs) ∷ []) x)) rest s) (sym (append_assoc done (l ∷ []) ls)) more in
     ReadsTo-line (Some now) (words_of l) next (map words_of ls ++ rest) s read
-    (calls_read cs ls r ps (p ++ c ∷ []) (done ++ l ∷ []) rest s here are.1 (omega (arith, few, length-append p (c ∷ []))) (λ d i. built d (inr i)) all)
+    (calls_read cs ls r ps (p ++ c ∷ []) (done ++ l ∷ []) rest s here are.1 (omega (arith, few, length-append p (c ∷ []))) all)
 
 -- ---- threads
 
@@ -207,14 +194,14 @@ AreLinesOf-front (c ∷ cs) ds [] are = absurd are
 AreLinesOf-front (c ∷ cs) ds (l ∷ ls) are = let p = AreLinesOf-front cs ds ls are.1 in ((are.0, p.0), p.1)
 
 pub threads_read : (ps : List (List Call)) (ls : List (List ℕ)) (t : ℕ) (r : Reading) (qs : List (List Call)) (done : List (List ℕ)) (rest : List (List (List ℕ))) (s : SessionScript) → r.section ≡ sections.Opening → t ≡ length qs + 1 → length qs + length ps ≤ MOST_THREADS
-    → AreLinesOf ls (all_calls ps) → ((p : List Call) → In p ps → length p ≤ MOST_CALLS) → ((c : Call) → In c (all_calls ps) → IsBuilt c)
+    → AreLinesOf ls (all_calls ps) → ((p : List Call) → In p ps → length p ≤ MOST_CALLS)
     → ReadsTo (Some (in_body r (qs ++ ps) (done ++ ls))) rest s → ReadsTo (Some (in_body r qs done)) (thread_lines t ps ls ++ rest) s
 unfolding thread_lines
-threads_read [] [] t r qs done rest s here counted few are each built behind =
+threads_read [] [] t r qs done rest s here counted few are each behind =
     subst (λ x. ReadsTo (Some (in_body r x done)) rest s) (append-nil qs)
     (subst (λ x. ReadsTo (Some (in_body r (qs ++ []) x)) rest s) (append-nil done) behind)
-threads_read [] (l ∷ ls) t r qs done rest s here counted few are each built behind = absurd are
-threads_read (p ∷ ps) ls t r qs done rest s here counted few are each built behind =
+threads_read [] (l ∷ ls) t r qs done rest s here counted few are each behind = absurd are
+threads_read (p ∷ ps) ls t r qs done rest s here counted few are each behind =
     let now = in_body r qs done in
     let front = take (length p) ls in
     let back = drop (length p) ls in
@@ -224,8 +211,8 @@ threads_read (p ∷ ps) ls t r qs done rest s here counted few are each built be
     let last : (qs ++ p ∷ []) ++ ps ≡ qs ++ p ∷ ps = append_assoc qs (p ∷ []) ps in
     let more = subst (λ x. ReadsTo (Some (in_body r x (done ++ ls))) rest s) (sym last) behind in
     let all = subst (λ x. ReadsTo (Some (in_body r ((qs ++ p ∷ []) ++ ps) x)) rest s) (sym whole) more in
-    let others = threads_read ps back (t + 1) r (qs ++ p ∷ []) (done ++ front) rest s here (omega (arith, counted, length-append qs (p ∷ []))) (omega (arith, few, length-append qs (p ∷ []))) both.1 (λ q i. each q (inr i)) (λ c i. built c (In-append_right p (all_calls ps) c i)) all in
-    let lines = calls_read p front r qs [] done (thread_lines (t + 1) ps back ++ rest) s here both.0 (let most = each p (inl refl) in omega (arith, most)) (λ c i. built c (In-append_left p (all_calls ps) c i)) others in
+    let others = threads_read ps back (t + 1) r (qs ++ p ∷ []) (done ++ front) rest s here (omega (arith, counted, length-append qs (p ∷ []))) (omega (arith, few, length-append qs (p ∷ []))) both.1 (λ q i. each q (inr i)) all in
+    let lines = calls_read p front r qs [] done (thread_lines (t + 1) ps back ++ rest) s here both.0 (let most = each p (inl refl) in omega (arith, most)) others in
     ReadsTo-line (Some now) (thread_words t) started ((map words_of front ++ thread_lines (t + 1) ps back) ++ rest) s (IsRead-thread now t here counted (omega (arith, counted, few)))
     (subst (λ x. ReadsTo (Some started) x s) (sym (append_assoc (map words_of front) (thread_lines (t + 1) ps back) rest)) lines)
 

@@ -1,14 +1,6 @@
 -- Calls and events of lines whose first words may stand in a volume script.
 use Rattle.std.proofs.Common.{◌≡◌, ℕ, Bool, true, false, not, nat_le, List, [], ◌∷◌, codes, Option, Some, Result, Ok, Err, refl, sym, ap, ◌∙◌, if◌then◌else◌}
 use Rattle.std.proofs.lemmas.Bool.{and_parts, leb-true}
-use Rattle.tree_model.specs.declared.call.Call.{Call}
-use Rattle.tree_model.specs.declared.call.Call.TheVariants as call
-use Rattle.call_grammar.specs.declared.words.CallWord.{CallWord}
-use Rattle.call_grammar.specs.declared.words.CallWord.TheVariants as calls
-use Rattle.call_grammar.specs.declared.words.PairWord.TheVariants as pairs
-use Rattle.call_grammar.specs.CallLines.{call_word}
-use Rattle.call_grammar.specs.laws.Speller.{call_words, with_lower_digits}
-use Rattle.call_grammar.proofs.SpelledCalls.{unchanged}
 use Rattle.event_grammar.specs.declared.event.CoreEvent.{CoreEvent}
 use Rattle.event_grammar.specs.declared.event.CoreEvent.TheVariants as core
 use Rattle.event_grammar.specs.declared.event.EventWord.{EventWord}
@@ -19,9 +11,8 @@ use Rattle.event_grammar.specs.declared.words.PlainWord.TheVariants as plain
 use Rattle.event_grammar.specs.EventLines.{event_word}
 use Rattle.script_words.specs.laws.Counts.{with_count, counted}
 use Rattle.event_grammar.specs.laws.Speller.{SayEvent}
-use Rattle.session_grammar.specs.declared.words.Word.TheVariants as word
-use Rattle.session_grammar.specs.Grammar.{is_built, is_submit, names_thread}
-use Rattle.session_grammar.specs.WellFormed.{IsBuilt, IsStepOf, IsTurnOf}
+use Rattle.session_grammar.specs.Grammar.{is_submit, names_thread}
+use Rattle.session_grammar.specs.WellFormed.{IsStepOf, IsTurnOf}
 
 -- a test that has to pass
 pub ok_under : {A E : Type 0} (b : Bool) (read : Result A E) (y : A) (e : E) → (if b then read else Err e) ≡ Ok y → (b ≡ true) × (read ≡ Ok y)
@@ -38,32 +29,6 @@ same_word : {A : Type 0} (know : List ℕ → Option A) (w u : List ℕ) (v othe
 same_word know w u v other same h g = let e : Some other ≡ Some v = sym g ∙ ap know (sym same) ∙ h in cc
 
 -- ---- calls
-
-not_rename : (w p q : List ℕ) (ws : List (List ℕ)) (v : CallWord) → call_word w ≡ Some v → is_built (word.Call v) ≡ true → with_lower_digits (w ∷ ws) ≡ codes "rename" ∷ p ∷ q ∷ [] → ⊥
-not_rename w p q ws v known built h =
-    let named : w ≡ codes "rename" = ap first_of (unchanged (w ∷ ws) (codes "rename" ∷ p ∷ q ∷ []) refl h) in
-    let same : calls.OfPair pairs.Rename ≡ v = same_word call_word w (codes "rename") v (calls.OfPair pairs.Rename) named known refl in
-    let unbuilt : false ≡ true = ap (λ x. is_built (word.Call x)) same ∙ built in
-    cc
-
-pub IsBuilt-said : (w : List ℕ) (ws : List (List ℕ)) (v : CallWord) (c : Call) → call_word w ≡ Some v → is_built (word.Call v) ≡ true → with_lower_digits (w ∷ ws) ≡ call_words c → IsBuilt c
-IsBuilt-said w ws v (call.Rename p q) known built h = not_rename w p q ws v known built h
-IsBuilt-said w ws v (call.Mkdir p) known built h = tt
-IsBuilt-said w ws v (call.Rmdir p) known built h = tt
-IsBuilt-said w ws v (call.Create p) known built h = tt
-IsBuilt-said w ws v (call.Unlink p) known built h = tt
-IsBuilt-said w ws v (call.Link p q) known built h = tt
-IsBuilt-said w ws v (call.Truncate p size) known built h = tt
-IsBuilt-said w ws v (call.Write p off len value) known built h = tt
-IsBuilt-said w ws v (call.Bytes p off bytes) known built h = tt
-IsBuilt-said w ws v (call.Read p off len) known built h = tt
-IsBuilt-said w ws v (call.List p) known built h = tt
-IsBuilt-said w ws v (call.Stat p) known built h = tt
-IsBuilt-said w ws v (call.Fsync p) known built h = tt
-IsBuilt-said w ws v (call.Fdatasync p) known built h = tt
-IsBuilt-said w ws v (call.Fbarrier p) known built h = tt
-IsBuilt-said w ws v (call.Fdatabarrier p) known built h = tt
-IsBuilt-said w ws v call.Sync known built h = tt
 
 -- ---- events
 

@@ -1,7 +1,6 @@
 -- What is not built is told exactly of a line that begins with a word whose form is not built.
-use Rattle.std.proofs.Common.{◌≡◌, ℕ, ◌+◌, ◌&&◌, ◌==◌, not, List, [], ◌∷◌, codes, length, Bool, true, false, Option, Some, None, Result, Ok, Err, refl, ap, ◌∙◌, nat_le, nat_lt, if◌then◌else◌, inl, inr}
+use Rattle.std.proofs.Common.{◌≡◌, ℕ, ◌+◌, ◌&&◌, ◌==◌, not, List, [], ◌∷◌, codes, length, Bool, true, false, Option, Some, None, Result, Ok, Err, refl, ap, ◌∙◌, nat_le, nat_lt, if◌then◌else◌}
 use Rattle.std.specs.Str.{bytes_eq}
-use Rattle.std.proofs.lemmas.Bool.{or_cases}
 use Rattle.std.proofs.lemmas.Slice.Eq.{bytes_eq-Decides}
 use Rattle.tree_model.specs.declared.call.Call.{Call}
 use Rattle.script_words.specs.declared.line_error.LineFault.{LineFault}
@@ -13,10 +12,8 @@ use Rattle.script_grammar.specs.declared.kinds.ScriptKind.{ScriptKind}
 use Rattle.script_grammar.specs.declared.kinds.ScriptKind.TheVariants as kinds
 use Rattle.script_grammar.proofs.Unbuilt.{one_of_two, told_of_first, told_of_later}
 use Rattle.call_grammar.specs.declared.words.CallWord.TheVariants as calls
-use Rattle.call_grammar.specs.declared.words.PairWord.TheVariants as pairs
 use Rattle.call_grammar.specs.CallLines.{call_of}
 use Rattle.call_grammar.specs.Programs.{last_length}
-use Rattle.call_grammar.proofs.Names.{call_named}
 use Rattle.event_grammar.specs.declared.event.EventLine.{EventLine}
 use Rattle.event_grammar.specs.declared.steer.Steer.{Steer}
 use Rattle.event_grammar.specs.EventLines.{event_of}
@@ -48,22 +45,17 @@ unbuilt_named w word.Thread name h = cc
 unbuilt_named w word.Events name h = cc
 unbuilt_named w word.Recover name h = cc
 unbuilt_named w (word.Call (calls.OfPath p)) name h = cc
-unbuilt_named w (word.Call (calls.OfPair pairs.Link)) name h = cc
-unbuilt_named w (word.Call (calls.OfPair pairs.Rename)) name h = ap is_unbuilt (call_named w (calls.OfPair pairs.Rename) name)
+unbuilt_named w (word.Call (calls.OfPair p)) name h = cc
 unbuilt_named w (word.Call (calls.OfPlace p)) name h = cc
 unbuilt_named w (word.Call calls.Truncate) name h = cc
 unbuilt_named w (word.Call calls.Sync) name h = cc
 unbuilt_named w (word.Event e) name h = cc
 
--- and each of the two is a word that is not built
+-- and it is a word that is not built
 record IsUnbuiltWord (o : Option Word) : Type 0 where
   known : Word
   is : o ≡ Some known
   unbuilt : is_built known ≡ false
-
-rename_known : (in_events : Bool) → word_of in_events (codes "rename") ≡ Some (word.Call (calls.OfPair pairs.Rename))
-rename_known true = refl
-rename_known false = refl
 
 fail_known : (in_events : Bool) → word_of in_events (codes "fail") ≡ Some (word.Header header.Fail)
 fail_known true = refl
@@ -71,10 +63,7 @@ fail_known false = refl
 
 IsUnbuiltWord-word_of : (in_events : Bool) (w : List ℕ) → is_unbuilt w ≡ true → IsUnbuiltWord (word_of in_events w)
 IsUnbuiltWord-word_of in_events w h =
-    elim (or_cases (bytes_eq w (codes "fail")) (bytes_eq w (codes "rename")) h) [
-      | inl v ↦ record { known = word.Header header.Fail; is = ap (word_of in_events) ((bytes_eq-Decides w (codes "fail")).0 v) ∙ fail_known in_events; unbuilt = refl }
-      | inr v ↦ record { known = word.Call (calls.OfPair pairs.Rename); is = ap (word_of in_events) ((bytes_eq-Decides w (codes "rename")).0 v) ∙ rename_known in_events; unbuilt = refl }
-    ]
+    record { known = word.Header header.Fail; is = ap (word_of in_events) ((bytes_eq-Decides w (codes "fail")).0 h) ∙ fail_known in_events; unbuilt = refl }
 
 -- ---- one line
 

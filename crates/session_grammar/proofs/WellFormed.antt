@@ -48,17 +48,17 @@ use Rattle.session_grammar.specs.declared.words.Word.{Word}
 use Rattle.session_grammar.specs.declared.words.Word.TheVariants as word
 use Rattle.session_grammar.specs.Words.{word_of}
 use Rattle.session_grammar.specs.Grammar.{is_built, are_sizes, have_geometry, new_reading, none_told, sizes_taken, opened, journal_line, zones_line, volume_line, built_first, first_line, is_submit, stands_in, has_threads, may_stand, stood_before, number_fits, with_number, number_taken, header_line, header_taken, with_thread, thread_taken, thread_line, with_call, call_taken, events_line, names_thread, weight, event_fits, with_event, event_taken, with_recover, recover_taken, line_taken, later_line, is_behind_events, read_words, read_one, header_of, script_read, ended_in, ended, read_from, session_of}
-use Rattle.session_grammar.specs.WellFormed.{AreSizes, IsHeader, all_calls, IsBuilt, IsLineOf, AreLinesOf, IsEventOf, expanded_of, IsWellFormed}
+use Rattle.session_grammar.specs.WellFormed.{AreSizes, IsHeader, all_calls, IsLineOf, AreLinesOf, IsEventOf, expanded_of, IsWellFormed}
 use Rattle.session_grammar.proofs.Names.{IsNamed, named}
 use Rattle.session_grammar.proofs.Threads.{length-pushed_last, all_calls-pushed, all_calls-thread, each_few-pushed, AreLinesOf-push}
-use Rattle.session_grammar.proofs.Steps.{ok_under, IsBuilt-said, IsTurnOf-said}
+use Rattle.session_grammar.proofs.Steps.{ok_under, IsTurnOf-said}
 
 -- ---- what holds of the reading between two lines
 
 pub record AreThreads (programs : List (List Call)) (lines : List (List ℕ)) : Type 0 where
   pub threads : length programs ≤ MOST_THREADS
   pub few_calls : (p : List Call) → In p programs → length p ≤ MOST_CALLS
-  pub calls : (c : Call) → In c (all_calls programs) → call.IsWellFormed c × IsBuilt c
+  pub calls : (c : Call) → In c (all_calls programs) → call.IsWellFormed c
   pub matched : AreLinesOf lines (all_calls programs)
 
 pub record AreEvents (threads : ℕ) (events : List EventLine) (expanded : ℕ) : Type 0 where
@@ -184,33 +184,33 @@ IsReadable-thread_line r [] next h here is = cc
 IsReadable-thread_line r (n ∷ []) next h here is = IsReadable-thread_taken r (numeral n) next h here is
 IsReadable-thread_line r (n ∷ m ∷ ws) next h here is = cc
 
-AreThreads-call : (programs : List (List Call)) (lines : List (List ℕ)) (l : List ℕ) (c : Call) → 0 < length programs → last_length programs < MOST_CALLS → IsLineOf l c → IsBuilt c → AreThreads programs lines
+AreThreads-call : (programs : List (List Call)) (lines : List (List ℕ)) (l : List ℕ) (c : Call) → 0 < length programs → last_length programs < MOST_CALLS → IsLineOf l c → AreThreads programs lines
     → AreThreads (pushed_last programs c) (lines ++ l ∷ [])
-AreThreads-call programs lines l c some few line built is =
+AreThreads-call programs lines l c some few line is =
     let pushed = all_calls-pushed programs c some in
     record {
       threads = omega (arith, is.threads, length-pushed_last programs c);
       few_calls = each_few-pushed MOST_CALLS programs c few is.few_calls;
-      calls = λ d h. each_push (λ x. call.IsWellFormed x × IsBuilt x) (all_calls programs) c is.calls ((call_said.line_of-says (words_of l) c line).0, built) d (subst (In d) pushed h);
+      calls = λ d h. each_push (λ x. call.IsWellFormed x) (all_calls programs) c is.calls (call_said.line_of-says (words_of l) c line).0 d (subst (In d) pushed h);
       matched = subst (AreLinesOf (lines ++ l ∷ [])) (sym pushed) (AreLinesOf-push lines (all_calls programs) l c is.matched line);
     }
 
-IsReadable-call : (r : Reading) (l : List ℕ) (c : Call) → 0 < length r.programs → last_length r.programs < MOST_CALLS → IsLineOf l c → IsBuilt c → IsReadable r → IsReadable (with_call r l c)
-IsReadable-call r l c some few line built is = record {
+IsReadable-call : (r : Reading) (l : List ℕ) (c : Call) → 0 < length r.programs → last_length r.programs < MOST_CALLS → IsLineOf l c → IsReadable r → IsReadable (with_call r l c)
+IsReadable-call r l c some few line is = record {
   sizes = is.sizes;
   header = is.header;
-  body = AreThreads-call r.programs r.lines l c some few line built is.body;
+  body = AreThreads-call r.programs r.lines l c some few line is.body;
   events = subst (λ n. AreEvents n r.events r.expanded) (sym (length-pushed_last r.programs c)) is.events;
   recovers = is.recovers;
   no_events = is.no_events;
 }
 
-IsReadable-call_taken : (r : Reading) (l : List ℕ) (read : Result Call LineFault) (next : Reading) → call_taken r l read ≡ Ok next → 0 < length r.programs → ((c : Call) → read ≡ Ok c → IsLineOf l c × IsBuilt c) → IsReadable r → IsReadable next
+IsReadable-call_taken : (r : Reading) (l : List ℕ) (read : Result Call LineFault) (next : Reading) → call_taken r l read ≡ Ok next → 0 < length r.programs → ((c : Call) → read ≡ Ok c → IsLineOf l c) → IsReadable r → IsReadable next
 IsReadable-call_taken r l (Err fault) next h some of is = cc
 IsReadable-call_taken r l (Ok c) next h some of is =
     let p = ok_behind (nat_lt (last_length r.programs) MOST_CALLS) (with_call r l c) next _ h in
     let t = of c refl in
-    subst IsReadable p.1 (IsReadable-call r l c some (ltb-true (last_length r.programs) MOST_CALLS p.0) t.0 t.1 is)
+    subst IsReadable p.1 (IsReadable-call r l c some (ltb-true (last_length r.programs) MOST_CALLS p.0) t is)
 
 IsReadable-events_line : (r : Reading) (ws : List (List ℕ)) (next : Reading) → events_line r ws ≡ Ok next → IsReadable r → IsReadable next
 IsReadable-events_line r (w ∷ ws) next h is = cc
@@ -275,10 +275,10 @@ pub record IsSplit (line w : List ℕ) (v : Word) (ws : List (List ℕ)) : Type 
   pub named : IsNamed w v
   pub built : is_built v ≡ true
 
-said_call : (line w : List ℕ) (v : CallWord) (ws : List (List ℕ)) (c : Call) → IsSplit line w (word.Call v) ws → call_of v ws ≡ Ok c → IsLineOf line c × IsBuilt c
+said_call : (line w : List ℕ) (v : CallWord) (ws : List (List ℕ)) (c : Call) → IsSplit line w (word.Call v) ws → call_of v ws ≡ Ok c → IsLineOf line c
 said_call line w v ws c split h =
     let says : call_speller.line_of (w ∷ ws) ≡ Ok c = ap (λ o. call_speller.line_after o ws) split.named ∙ h in
-    (ap call_speller.line_of split.words ∙ says, IsBuilt-said w ws v c split.named split.built (call_said.line_of-says (w ∷ ws) c says).1)
+    ap call_speller.line_of split.words ∙ says
 
 said_event : (threads : ℕ) (w : List ℕ) (v : EventFirst) (ws : List (List ℕ)) (l : EventLine) → event_word w ≡ Some v → not (is_submit v) ≡ true → event_of v ws ≡ Ok l → names_thread threads l.what ≡ true → IsEventOf threads l
 said_event threads w v ws l known other h names =

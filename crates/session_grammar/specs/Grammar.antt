@@ -10,8 +10,6 @@ use Rattle.script_words.specs.LineByLine.{line_read, lines_read}
 use Rattle.script_grammar.specs.declared.limits.TheConstants.{DEFAULT_DEPTH, DEFAULT_QUEUE, MOST_DEPTH, MOST_QUEUE, MOST_STEPS}
 use Rattle.script_grammar.specs.declared.kinds.ScriptKind.{ScriptKind}
 use Rattle.script_grammar.specs.declared.kinds.ScriptKind.TheVariants as kinds
-use Rattle.call_grammar.specs.declared.words.CallWord.TheVariants as calls
-use Rattle.call_grammar.specs.declared.words.PairWord.TheVariants as pairs
 use Rattle.call_grammar.specs.CallLines.{call_of}
 use Rattle.call_grammar.specs.Programs.{pushed_last, last_length}
 use Rattle.event_grammar.specs.declared.event.CoreEvent.TheVariants as core
@@ -45,7 +43,6 @@ use Rattle.session_grammar.specs.Words.{word_of}
 -- forms of lines that are not built yet
 abbrev pub is_built : Word → Bool
 is_built (word.Header header.Fail) = false
-is_built (word.Call (calls.OfPair pairs.Rename)) = false
 is_built w = true
 
 -- what is wrong with the words of a line is the fault of the line

@@ -3,7 +3,6 @@ use Rattle.std.specs.Prelude.{◌≡◌, ℕ, ◌+◌, ◌<◌, ◌≤◌, List,
 use Rattle.blk_base.specs.Members.{In}
 use Rattle.minix_layout.specs.Words.{first_zone}
 use Rattle.tree_model.specs.declared.call.Call.{Call}
-use Rattle.tree_model.specs.declared.call.Call.TheVariants as calls
 use Rattle.script_words.specs.Spelling.{words_of}
 use Rattle.script_grammar.specs.declared.limits.TheConstants.{MOST_DEPTH, MOST_QUEUE, MOST_STEPS}
 use Rattle.call_grammar.specs.WellFormed as call
@@ -48,11 +47,6 @@ abbrev pub all_calls : List (List Call) → List Call
 all_calls [] = []
 all_calls (p ∷ ps) = p ++ all_calls ps
 
--- a rename is not built yet
-abbrev pub IsBuilt : Call → Type 0
-IsBuilt (calls.Rename p q) = ⊥
-IsBuilt c = Unit {0}
-
 -- the words of the line say the call
 abbrev pub IsLineOf : List ℕ → Call → Type 0
 IsLineOf l c = call_speller.line_of (words_of l) ≡ Ok c
@@ -90,7 +84,7 @@ pub record IsWellFormed (s : SessionScript) : Type 0 where
   pub header : IsHeader s.header
   pub threads : length s.programs ≤ MOST_THREADS
   pub few_calls : (p : List Call) → In p s.programs → length p ≤ MOST_CALLS
-  pub calls : (c : Call) → In c (all_calls s.programs) → call.IsWellFormed c × IsBuilt c
+  pub calls : (c : Call) → In c (all_calls s.programs) → call.IsWellFormed c
   pub lines : AreLinesOf s.lines (all_calls s.programs)
   pub events : (l : EventLine) → In l s.events → IsEventOf (length s.programs) l
   pub expanded : expanded_of (length s.programs) s.events ≤ MOST_EVENTS

@@ -5,7 +5,7 @@ ghost use Rattle.session_grammar.specs.Grammar.{is_built, are_sizes, have_geomet
 use crate::limits::JOURNALS;
 use crate::reading::{HeaderSoFar, Reading, Section};
 use crate::words::{HeaderWord, Word};
-use call_grammar::{CallWord, LineList, PairWord, Programs};
+use call_grammar::{LineList, Programs};
 use event_grammar::{Events, SteerList};
 use minix_layout::{Geometry, LEAST_JOURNAL, MOST_JOURNAL, MOST_NUMBERED};
 use script_grammar::{FirstWord, ScriptKind};
@@ -18,7 +18,6 @@ pub fn is_built(word: Word) -> bool
 {
     match word {
         Word::Header(HeaderWord::Fail) => false,
-        Word::Call(CallWord::OfPair(PairWord::Rename)) => false,
         _ => true,
     }
 }

@@ -1,5 +1,5 @@
 -- The first faulty line of a text, in words of its lines.
-use Rattle.std.specs.Prelude.{ℕ, ◌||◌, Bool, false, List, codes, Option}
+use Rattle.std.specs.Prelude.{ℕ, Bool, false, List, codes, Option}
 use Rattle.std.specs.Option.{option_map_or}
 use Rattle.std.specs.Str.{bytes_eq}
 use Rattle.script_words.specs.laws.FirstFault as text
@@ -18,7 +18,7 @@ IsFirstFault lines n kind = text.IsFirstFault read_one has_events kinds.Order li
 
 -- the word is one whose form is not built
 abbrev pub is_unbuilt : List ℕ → Bool
-is_unbuilt w = bytes_eq w (codes "fail") || bytes_eq w (codes "rename")
+is_unbuilt w = bytes_eq w (codes "fail")
 
 -- Line n is there and begins so, and all lines before it are read.
 abbrev pub IsFirstUnbuilt : List (List ℕ) → ℕ → Type 0
