@@ -224,6 +224,48 @@ fn reads_headers(rt: HostRuntime) -> Result<(), Fail> {
     Ok(())
 }
 
+// The last words of the first line choose the tags of the journal.
+#[test]
+fn reads_kinds_of_tags(rt: HostRuntime) -> Result<(), Fail> {
+    let alloc = rt.alloc();
+    let rows = [("", false), (" tags 64", true)];
+    for (tags, wide) in rows {
+        let first = "volume inodes 32 zones 7 journal 128";
+        let script = read(&rt, alloc, &text(alloc, &[first, tags, "\nevents\n"])?)?;
+        assert_eq!(rt; (sizes(&script), script.wide), ((32, 7, 128, 0, 0), wide));
+    }
+    Ok(())
+}
+
+#[test]
+fn tests_tags(rt: HostRuntime) {
+    let rows = [
+        ("tags 64\n", 1, Word),
+        ("volume inodes 32 zones 64 journal 128\ntags 64\n", 2, Word),
+        ("volume inodes 32 zones 64 journal 128 tags\n", 1, Word),
+        ("volume inodes 32 zones 64 journal 128 tags 32\n", 1, Word),
+        ("volume inodes 32 zones 64 journal 128 tags 064\n", 1, Word),
+        ("volume inodes 32 zones 64 journal 128 64 tags\n", 1, Word),
+        (
+            "volume inodes 32 zones 64 journal 128 tags 64 tags 64\n",
+            1,
+            Word,
+        ),
+        ("volume inodes 32 zones 64 tags 64 journal 128\n", 1, Word),
+        ("volume inodes 32 zones 64 tags 64\n", 1, Word),
+        // a word that is wrong comes before a number that is
+        ("volume inodes 0 zones 64 journal 128 tags 32\n", 1, Word),
+        ("volume inodes 0 zones 64 journal 128 tags 64\n", 1, Number),
+        (
+            "volume inodes 32 zones 5 journal 128 tags 64\n",
+            1,
+            Geometry,
+        ),
+        ("volume inodes 32 zones 6 journal 128 tags 64\n", 2, Order),
+    ];
+    expect_faults(&rt, rt.alloc(), &rows);
+}
+
 #[test]
 fn tests_first_lines(rt: HostRuntime) {
     let rows = [

@@ -1,19 +1,24 @@
 -- Lines with too few words or too many.
-use Rattle.std.proofs.Common.{◌≡◌, ℕ, ◌<◌, List, [], ◌∷◌, length, map, Option, Err, refl, arith}
+use Rattle.std.proofs.Common.{◌≡◌, ℕ, ◌<◌, List, [], ◌∷◌, length, map, Option, None, Err, refl, arith}
 use Rattle.script_grammar.specs.declared.kinds.ScriptKind.TheVariants as kinds
 use Rattle.session_grammar.specs.declared.reading.Reading.{Reading}
-use Rattle.session_grammar.specs.Grammar.{journal_line, zones_line, volume_line, thread_line}
+use Rattle.session_grammar.specs.Grammar.{wide_told, journal_line, zones_line, volume_line, thread_line}
 
 pub journal_of_few : {X : Type 0} (f : X → List ℕ) (inodes zones : Option ℕ) (xs : List X) → length xs < 2 → journal_line inodes zones (map f xs) ≡ Err kinds.Word
 journal_of_few f inodes zones [] lt = refl
 journal_of_few f inodes zones (x ∷ []) lt = refl
 journal_of_few f inodes zones (x ∷ y ∷ xs) lt = absurd (omega arith)
 
-pub journal_of_many : {X : Type 0} (f : X → List ℕ) (inodes zones : Option ℕ) (xs : List X) → 2 < length xs → journal_line inodes zones (map f xs) ≡ Err kinds.Word
-journal_of_many f inodes zones [] lt = absurd (omega arith)
-journal_of_many f inodes zones (x ∷ []) lt = absurd (omega arith)
-journal_of_many f inodes zones (x ∷ y ∷ []) lt = absurd (omega arith)
-journal_of_many f inodes zones (x ∷ y ∷ z ∷ xs) lt = refl
+pub wide_of_one : {X : Type 0} (f : X → List ℕ) (xs : List X) → 0 < length xs → length xs < 2 → wide_told (map f xs) ≡ None
+wide_of_one f [] some lt = absurd (omega arith)
+wide_of_one f (x ∷ []) some lt = refl
+wide_of_one f (x ∷ y ∷ xs) some lt = absurd (omega arith)
+
+pub wide_of_many : {X : Type 0} (f : X → List ℕ) (xs : List X) → 2 < length xs → wide_told (map f xs) ≡ None
+wide_of_many f [] lt = absurd (omega arith)
+wide_of_many f (x ∷ []) lt = absurd (omega arith)
+wide_of_many f (x ∷ y ∷ []) lt = absurd (omega arith)
+wide_of_many f (x ∷ y ∷ z ∷ xs) lt = refl
 
 pub zones_of_few : {X : Type 0} (f : X → List ℕ) (inodes : Option ℕ) (xs : List X) → length xs < 2 → zones_line inodes (map f xs) ≡ Err kinds.Word
 zones_of_few f inodes [] lt = refl

@@ -17,7 +17,7 @@ use Rattle.session_grammar.specs.declared.session_script.SessionHeader.{SessionH
 use Rattle.session_grammar.specs.declared.session_script.SessionScript.{SessionScript}
 use Rattle.session_grammar.specs.Grammar.{session_of}
 use Rattle.session_grammar.specs.WellFormed.{AreSizes, IsHeader, all_calls, AreLinesOf, IsEventOf, IsWellFormed}
-use Rattle.session_grammar.specs.laws.Speller.{volume_words, number_words, cut_lines, elevator_lines, header_lines, thread_lines, recover_words, session_text}
+use Rattle.session_grammar.specs.laws.Speller.{tags_words, volume_words, number_words, cut_lines, elevator_lines, header_lines, thread_lines, recover_words, session_text}
 use Rattle.session_grammar.specs.laws.Accepted.{is_header_line, IsHeaderOf, SayEvents, SaysSession}
 use Rattle.session_grammar.proofs.ReadsTo.{AreKept, kept_of-text}
 use Rattle.session_grammar.proofs.BodyRead.{AreLinesOf-front}
@@ -94,13 +94,17 @@ recovers_written [] are = AreWritten-none
 recovers_written (ss ∷ rs) are =
     AreWritten-line (recover_words ss) (map recover_words rs) (record { feed = refl; space = refl }, AreClear-steers ss (are ss (inl refl)).each) (recover_there (steer_words ss)) (recovers_written rs (λ x i. are x (inr i)))
 
-volume_clear : (inodes zones journal : ℕ) → AreSizes inodes zones journal → AreClear (volume_words inodes zones journal)
-volume_clear inodes zones journal is =
+tags_clear : (wide : Bool) → AreClear (tags_words wide)
+tags_clear true = (record { feed = refl; space = refl }, (record { feed = refl; space = refl }, tt))
+tags_clear false = tt
+
+volume_clear : (inodes zones journal : ℕ) (wide : Bool) → AreSizes inodes zones journal → AreClear (volume_words inodes zones journal wide)
+volume_clear inodes zones journal wide is =
     let first = is.most_inodes in
     let second = is.most_zones in
     let third = is.most_journal in
     let word : IsClear (codes "volume") = record { feed = refl; space = refl } in
-    (word, (record { feed = refl; space = refl }, (IsClear-decimal inodes (omega (arith, first)), (record { feed = refl; space = refl }, (IsClear-decimal zones (omega (arith, second)), (record { feed = refl; space = refl }, (IsClear-decimal journal (omega (arith, third)), tt)))))))
+    (word, (record { feed = refl; space = refl }, (IsClear-decimal inodes (omega (arith, first)), (record { feed = refl; space = refl }, (IsClear-decimal zones (omega (arith, second)), (record { feed = refl; space = refl }, (IsClear-decimal journal (omega (arith, third)), tags_clear wide)))))))
 
 -- the lines behind the first
 abbrev lines_behind : SessionScript → List (List (List ℕ))
@@ -109,10 +113,10 @@ lines_behind s =
     ++ (thread_lines 1 s.programs s.lines
     ++ ((codes "events" ∷ []) ∷ map event_line_words s.events ++ map recover_words s.recovers))
 
-session_written : (s : SessionScript) → IsWellFormed s → AreWritten (volume_words s.inodes s.zones s.journal ∷ lines_behind s)
+session_written : (s : SessionScript) → IsWellFormed s → AreWritten (volume_words s.inodes s.zones s.journal s.wide ∷ lines_behind s)
 session_written s well =
     let threads = well.threads in
-    AreWritten-line (volume_words s.inodes s.zones s.journal) (lines_behind s) (volume_clear s.inodes s.zones s.journal well.sizes) refl
+    AreWritten-line (volume_words s.inodes s.zones s.journal s.wide) (lines_behind s) (volume_clear s.inodes s.zones s.journal s.wide well.sizes) refl
     (AreWritten-append (header_lines s.header) _ (header_written s.header well.header)
     (AreWritten-append (thread_lines 1 s.programs s.lines) _ (threads_written s.programs 1 s.lines (omega (arith, threads)) well.lines)
     (AreWritten-line (codes "events" ∷ []) _ (record { feed = refl; space = refl }, tt) refl
@@ -144,7 +148,7 @@ events_said : (es : List EventLine) (threads : ℕ) → ((e : EventLine) → In 
 events_said [] threads are = tt
 events_said (e ∷ es) threads are = (SaysEvent-words e (are e (inl refl)).line, events_said es threads (λ d i. are d (inr i)))
 
-SaysSession-written : (s : SessionScript) → IsWellFormed s → SaysSession s (volume_words s.inodes s.zones s.journal ∷ lines_behind s)
+SaysSession-written : (s : SessionScript) → IsWellFormed s → SaysSession s (volume_words s.inodes s.zones s.journal s.wide ∷ lines_behind s)
 SaysSession-written s well = record {
   header = header_lines s.header;
   events = map event_line_words s.events;
@@ -157,5 +161,5 @@ SaysSession-written s well = record {
 pub session_of-session_text : (s : SessionScript) → IsWellFormed s → session_of (session_text s) ≡ Ok s
 session_of-session_text s well =
     let written = session_written s well in
-    let kept = kept_of-text (volume_words s.inodes s.zones s.journal) (lines_behind s) written.clear written.kept in
+    let kept = kept_of-text (volume_words s.inodes s.zones s.journal s.wide) (lines_behind s) written.clear written.kept in
     session_of-SaysSession (session_text s) s well (subst (SaysSession s) (sym kept) (SaysSession-written s well))

@@ -47,7 +47,7 @@ use Rattle.session_grammar.specs.declared.words.HeaderWord.TheVariants as header
 use Rattle.session_grammar.specs.declared.words.Word.{Word}
 use Rattle.session_grammar.specs.declared.words.Word.TheVariants as word
 use Rattle.session_grammar.specs.Words.{word_of}
-use Rattle.session_grammar.specs.Grammar.{is_built, are_sizes, have_geometry, new_reading, none_told, sizes_taken, opened, journal_line, zones_line, volume_line, built_first, first_line, is_submit, stands_in, has_threads, may_stand, stood_before, number_fits, with_number, number_taken, header_line, header_taken, with_thread, thread_taken, thread_line, with_call, call_taken, events_line, names_thread, weight, event_fits, with_event, event_taken, with_recover, recover_taken, line_taken, later_line, is_behind_events, read_words, read_one, header_of, script_read, ended_in, ended, read_from, session_of}
+use Rattle.session_grammar.specs.Grammar.{is_built, are_sizes, have_geometry, new_reading, none_told, sizes_taken, opened, wide_told, journal_line, zones_line, volume_line, built_first, first_line, is_submit, stands_in, has_threads, may_stand, stood_before, number_fits, with_number, number_taken, header_line, header_taken, with_thread, thread_taken, thread_line, with_call, call_taken, events_line, names_thread, weight, event_fits, with_event, event_taken, with_recover, recover_taken, line_taken, later_line, is_behind_events, read_words, read_one, header_of, script_read, ended_in, ended, read_from, session_of}
 use Rattle.session_grammar.specs.WellFormed.{AreSizes, IsHeader, all_calls, IsLineOf, AreLinesOf, IsEventOf, expanded_of, IsWellFormed}
 use Rattle.session_grammar.proofs.Names.{IsNamed, named}
 use Rattle.session_grammar.proofs.Threads.{length-pushed_last, all_calls-pushed, all_calls-thread, each_few-pushed, AreLinesOf-push}
@@ -342,8 +342,8 @@ IsHeader-none = record {
   seed = lit≤ tt;
 }
 
-IsReadable-new : (inodes zones journal : ℕ) → AreSizes inodes zones journal → IsReadable (new_reading inodes zones journal)
-IsReadable-new inodes zones journal sizes = record {
+IsReadable-new : (inodes zones journal : ℕ) (wide : Bool) → AreSizes inodes zones journal → IsReadable (new_reading inodes zones journal wide)
+IsReadable-new inodes zones journal wide sizes = record {
   sizes = sizes;
   header = IsHeader-none;
   body = record { threads = lit≤ tt; few_calls = λ p h. absurd h; calls = λ c h. absurd h; matched = tt };
@@ -352,25 +352,25 @@ IsReadable-new inodes zones journal sizes = record {
   no_events = λ _. refl;
 }
 
-IsReadable-sizes : (inodes zones journal : ℕ) (next : Reading) → sizes_taken inodes zones journal ≡ Ok next → IsReadable next
-IsReadable-sizes inodes zones journal next h =
+IsReadable-sizes : (inodes zones journal : ℕ) (wide : Bool) (next : Reading) → sizes_taken inodes zones journal wide ≡ Ok next → IsReadable next
+IsReadable-sizes inodes zones journal wide next h =
     let sizes = ok_past (are_sizes inodes zones journal) _ next _ h in
-    let geometry = ok_past (have_geometry inodes zones journal) (Ok (new_reading inodes zones journal)) next _ sizes.1 in
-    let e : new_reading inodes zones journal ≡ next = cc in
-    subst IsReadable e (IsReadable-new inodes zones journal (AreSizes-from inodes zones journal sizes.0 geometry.0))
+    let geometry = ok_past (have_geometry inodes zones journal) (Ok (new_reading inodes zones journal wide)) next _ sizes.1 in
+    let e : new_reading inodes zones journal wide ≡ next = cc in
+    subst IsReadable e (IsReadable-new inodes zones journal wide (AreSizes-from inodes zones journal sizes.0 geometry.0))
 
-IsReadable-opened : (inodes zones journal : Option ℕ) (next : Reading) → opened inodes zones journal ≡ Ok next → IsReadable next
-IsReadable-opened (Some i) (Some z) (Some j) next h = IsReadable-sizes i z j next h
-IsReadable-opened None z j next h = cc
-IsReadable-opened (Some i) None j next h = cc
-IsReadable-opened (Some i) (Some z) None next h = cc
+IsReadable-opened : (inodes zones journal : Option ℕ) (wide : Option Bool) (next : Reading) → opened inodes zones journal wide ≡ Ok next → IsReadable next
+IsReadable-opened (Some i) (Some z) (Some j) (Some b) next h = IsReadable-sizes i z j b next h
+IsReadable-opened None z j b next h = cc
+IsReadable-opened (Some i) None j b next h = cc
+IsReadable-opened (Some i) (Some z) None b next h = cc
+IsReadable-opened (Some i) (Some z) (Some j) None next h = cc
 
 IsReadable-journal_line : (inodes zones : Option ℕ) (ws : List (List ℕ)) (next : Reading) → journal_line inodes zones ws ≡ Ok next → IsReadable next
 IsReadable-journal_line inodes zones [] next h = cc
 IsReadable-journal_line inodes zones (j ∷ []) next h = cc
-IsReadable-journal_line inodes zones (j ∷ n ∷ []) next h =
-    IsReadable-opened inodes zones (numeral n) next (ok_under (bytes_eq j (codes "journal")) (opened inodes zones (numeral n)) next _ h).1
-IsReadable-journal_line inodes zones (j ∷ n ∷ w ∷ ws) next h = cc
+IsReadable-journal_line inodes zones (j ∷ n ∷ ws) next h =
+    IsReadable-opened inodes zones (numeral n) (wide_told ws) next (ok_under (bytes_eq j (codes "journal")) (opened inodes zones (numeral n) (wide_told ws)) next _ h).1
 
 IsReadable-zones_line : (inodes : Option ℕ) (ws : List (List ℕ)) (next : Reading) → zones_line inodes ws ≡ Ok next → IsReadable next
 IsReadable-zones_line inodes [] next h = cc

@@ -65,22 +65,28 @@ have_geometry inodes zones journal =
 abbrev pub none_told : HeaderSoFar
 none_told = record { depth = None; queue = None; limit = None; cut = None; seed = None; elevator = false }
 
-abbrev pub new_reading : ℕ → ℕ → ℕ → Reading
-new_reading inodes zones journal = record { inodes = inodes; zones = zones; journal = journal; told = none_told; section = sections.Opening; programs = []; lines = []; events = []; expanded = 0; recovers = [] }
+abbrev pub new_reading : ℕ → ℕ → ℕ → Bool → Reading
+new_reading inodes zones journal wide = record { inodes = inodes; zones = zones; journal = journal; wide = wide; told = none_told; section = sections.Opening; programs = []; lines = []; events = []; expanded = 0; recovers = [] }
 
-abbrev pub sizes_taken : ℕ → ℕ → ℕ → Result Reading ScriptKind
-sizes_taken inodes zones journal =
+abbrev pub sizes_taken : ℕ → ℕ → ℕ → Bool → Result Reading ScriptKind
+sizes_taken inodes zones journal wide =
     if not (are_sizes inodes zones journal) then Err kinds.Number
     else if not (have_geometry inodes zones journal) then Err kinds.Geometry
-    else Ok (new_reading inodes zones journal)
+    else Ok (new_reading inodes zones journal wide)
 
-abbrev pub opened : Option ℕ → Option ℕ → Option ℕ → Result Reading ScriptKind
-opened (Some inodes) (Some zones) (Some journal) = sizes_taken inodes zones journal
-opened inodes zones journal = Err kinds.Word
+abbrev pub opened : Option ℕ → Option ℕ → Option ℕ → Option Bool → Result Reading ScriptKind
+opened (Some inodes) (Some zones) (Some journal) (Some wide) = sizes_taken inodes zones journal wide
+opened inodes zones journal wide = Err kinds.Word
 
--- inodes I zones Z journal J
+-- what the words behind the sizes say: tags of 64 bits, or nothing
+abbrev pub wide_told : List (List ℕ) → Option Bool
+wide_told [] = Some false
+wide_told (t ∷ n ∷ []) = if bytes_eq t (codes "tags") && bytes_eq n (codes "64") then Some true else None
+wide_told ws = None
+
+-- inodes I zones Z journal J, and `tags 64` for tags of 64 bits
 abbrev pub journal_line : Option ℕ → Option ℕ → List (List ℕ) → Result Reading ScriptKind
-journal_line inodes zones (j ∷ n ∷ []) = if bytes_eq j (codes "journal") then opened inodes zones (numeral n) else Err kinds.Word
+journal_line inodes zones (j ∷ n ∷ ws) = if bytes_eq j (codes "journal") then opened inodes zones (numeral n) (wide_told ws) else Err kinds.Word
 journal_line inodes zones ws = Err kinds.Word
 
 abbrev pub zones_line : Option ℕ → List (List ℕ) → Result Reading ScriptKind
@@ -286,7 +292,7 @@ abbrev pub header_of : HeaderSoFar → SessionHeader
 header_of t = record { depth = unwrap_or t.depth DEFAULT_DEPTH; queue = unwrap_or t.queue DEFAULT_QUEUE; limit = unwrap_or t.limit DEFAULT_LIMIT; cut = t.cut; seed = unwrap_or t.seed DEFAULT_SEED; elevator = t.elevator }
 
 abbrev pub script_read : Reading → SessionScript
-script_read r = record { inodes = r.inodes; zones = r.zones; journal = r.journal; header = header_of r.told; programs = r.programs; lines = r.lines; events = r.events; recovers = r.recovers }
+script_read r = record { inodes = r.inodes; zones = r.zones; journal = r.journal; wide = r.wide; header = header_of r.told; programs = r.programs; lines = r.lines; events = r.events; recovers = r.recovers }
 
 abbrev pub ended_in : ℕ → Reading → Section → Result SessionScript (ℕ × ScriptKind)
 ended_in n r sections.Opening = Err (n, kinds.Order)

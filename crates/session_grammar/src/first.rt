@@ -1,6 +1,6 @@
 //! The first line of a volume script.
 ghost use Rattle.std.specs.Prelude.{◌≡◌, ◌≢◌, map};
-ghost use Rattle.session_grammar.specs.Grammar.{is_built, are_sizes, have_geometry, none_told, new_reading, opened, sizes_taken, journal_line, zones_line, volume_line, built_first, first_line};
+ghost use Rattle.session_grammar.specs.Grammar.{is_built, are_sizes, have_geometry, none_told, new_reading, opened, sizes_taken, wide_told, journal_line, zones_line, volume_line, built_first, first_line};
 
 use crate::limits::JOURNALS;
 use crate::reading::{HeaderSoFar, Reading, Section};
@@ -52,13 +52,14 @@ fn none_told() -> HeaderSoFar
     }
 }
 
-fn new_reading(alloc: Global, inodes: u16, zones: u16, journal: u32) -> Reading
-    ensures { result ≡ new_reading inodes zones journal }
+fn new_reading(alloc: Global, inodes: u16, zones: u16, journal: u32, wide: bool) -> Reading
+    ensures { result ≡ new_reading inodes zones journal wide }
 {
     Reading {
         inodes,
         zones,
         journal,
+        wide,
         told: none_told(),
         section: Section::Opening,
         programs: Programs::new(alloc),
@@ -69,8 +70,14 @@ fn new_reading(alloc: Global, inodes: u16, zones: u16, journal: u32) -> Reading
     }
 }
 
-fn sizes_taken(alloc: Global, inodes: u64, zones: u64, journal: u64) -> Result<Reading, ScriptKind>
-    ensures { result ≡ sizes_taken inodes zones journal }
+fn sizes_taken(
+    alloc: Global,
+    inodes: u64,
+    zones: u64,
+    journal: u64,
+    wide: bool,
+) -> Result<Reading, ScriptKind>
+    ensures { result ≡ sizes_taken inodes zones journal wide }
 {
     if !are_sizes(inodes, zones, journal) {
         return Err(ScriptKind::Number);
@@ -79,7 +86,7 @@ fn sizes_taken(alloc: Global, inodes: u64, zones: u64, journal: u64) -> Result<R
     if !have_geometry(inodes, zones, journal) {
         return Err(ScriptKind::Geometry);
     }
-    Ok(new_reading(alloc, inodes, zones, journal))
+    Ok(new_reading(alloc, inodes, zones, journal, wide))
 }
 
 fn opened(
@@ -87,15 +94,34 @@ fn opened(
     inodes: Option<u64>,
     zones: Option<u64>,
     journal: Option<u64>,
+    wide: Option<bool>,
 ) -> Result<Reading, ScriptKind>
-    ensures { result ≡ opened inodes zones journal }
+    ensures { result ≡ opened inodes zones journal wide }
 {
-    let (Some(inodes), Some(zones), Some(journal)) = (inodes, zones, journal) else {
+    let (Some(inodes), Some(zones), Some(journal), Some(wide)) = (inodes, zones, journal, wide)
+    else {
         return Err(ScriptKind::Word);
     };
-    sizes_taken(alloc, inodes, zones, journal)
+    sizes_taken(alloc, inodes, zones, journal, wide)
 }
 
+fn wide_told(words: &[&[u8]]) -> Option<bool>
+    ensures { result ≡ wide_told (map (λ x. x.now) words.now) }
+{
+    match words {
+        [] => Some(false),
+        [tags, bits] => {
+            if *tags == b"tags".as_slice() && *bits == b"64".as_slice() {
+                Some(true)
+            } else {
+                None
+            }
+        }
+        _ => None,
+    }
+}
+
+#[tactic(auto, using(crate::proofs::Others::journal_of_few))]
 fn journal_line(
     alloc: Global,
     inodes: Option<u64>,
@@ -104,11 +130,11 @@ fn journal_line(
 ) -> Result<Reading, ScriptKind>
     ensures { result ≡ journal_line inodes zones (map (λ x. x.now) words.now) }
 {
-    let [j, journal] = words else {
+    let [j, journal, rest @ ..] = words else {
         return Err(ScriptKind::Word);
     };
     if *j == b"journal".as_slice() {
-        opened(alloc, inodes, zones, numeral(journal))
+        opened(alloc, inodes, zones, numeral(journal), wide_told(rest))
     } else {
         Err(ScriptKind::Word)
     }

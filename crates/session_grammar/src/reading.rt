@@ -29,6 +29,7 @@ pub struct Reading {
     pub inodes: u16,
     pub zones: u16,
     pub journal: u32,
+    pub wide: bool,
     pub told: HeaderSoFar,
     pub section: Section,
     pub programs: Programs,

@@ -31,6 +31,8 @@ pub struct SessionScript {
     pub zones: u16,
     /// The blocks of the journal behind it.
     pub journal: u32,
+    /// The journal has tags of 64 bits.
+    pub wide: bool,
     pub header: SessionHeader,
     /// The calls of each thread, in the order of their numbers.
     pub programs: Programs,
@@ -50,6 +52,7 @@ impl SessionScript {
             inodes: self.inodes,
             zones: self.zones,
             journal: self.journal,
+            wide: self.wide,
             header: self.header,
             programs: self.programs.copy(alloc)?,
             lines: self.lines.copy(alloc)?,

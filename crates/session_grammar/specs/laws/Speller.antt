@@ -11,8 +11,13 @@ use Rattle.session_grammar.specs.declared.session_script.SessionScript.{SessionS
 
 -- ---- the words of each line
 
-abbrev pub volume_words : ℕ → ℕ → ℕ → List (List ℕ)
-volume_words inodes zones journal = codes "volume" ∷ codes "inodes" ∷ decimal inodes ∷ codes "zones" ∷ decimal zones ∷ codes "journal" ∷ decimal journal ∷ []
+-- the words that choose tags of 64 bits
+abbrev pub tags_words : Bool → List (List ℕ)
+tags_words wide = if wide then codes "tags" ∷ codes "64" ∷ [] else []
+
+abbrev pub volume_words : ℕ → ℕ → ℕ → Bool → List (List ℕ)
+volume_words inodes zones journal wide =
+    codes "volume" ∷ codes "inodes" ∷ decimal inodes ∷ codes "zones" ∷ decimal zones ∷ codes "journal" ∷ decimal journal ∷ tags_words wide
 
 abbrev pub number_words : List ℕ → ℕ → List (List ℕ)
 number_words name n = name ∷ decimal n ∷ []
@@ -45,7 +50,7 @@ recover_words ss = codes "recover" ∷ steer_words ss
 -- the lines of a script, each as its words
 abbrev pub session_lines : SessionScript → List (List (List ℕ))
 session_lines s =
-    volume_words s.inodes s.zones s.journal ∷ header_lines s.header
+    volume_words s.inodes s.zones s.journal s.wide ∷ header_lines s.header
     ++ (thread_lines 1 s.programs s.lines
     ++ ((codes "events" ∷ []) ∷ map event_line_words s.events ++ map recover_words s.recovers))
 
