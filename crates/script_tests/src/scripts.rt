@@ -93,7 +93,6 @@ fn knows_first_words(rt: HostRuntime) {
         ("device 4\nflsh\n", 2, Word),
         ("device 4\nDepth 4\n", 2, Word),
         ("device 4\ndepth4\n", 2, Word),
-        ("blocks 4\nflash 8\n", 2, Word),
         ("blocks 4\nflush\nputs 0 1a free\n", 3, Word),
         ("blocks 4\nevents\nstore 8\n", 3, Word),
         ("blocks 4\nevents\nsubmits\n", 3, Word),
@@ -282,6 +281,31 @@ fn reads_the_line_of_the_elevator(rt: HostRuntime) -> Result<(), Fail> {
 }
 
 #[test]
+fn reads_the_line_of_the_flash_log(rt: HostRuntime) -> Result<(), Fail> {
+    let rows = [
+        ("flash 3\n", 1, Order),
+        ("device 4\nevents\nflash 3\n", 3, Order),
+        ("blocks 4\nflush\nflash 3\n", 3, Order),
+        ("blocks 4\nflash 3\nflash\n", 3, Twice),
+        ("device 4\nflash\n", 2, Word),
+        ("device 4\nflash x\n", 2, Word),
+        ("device 4\nflash 3 4\n", 2, Word),
+        ("device 4\nflash 2\n", 2, Number),
+        ("blocks 4\nflash 65\n", 2, Number),
+    ];
+    expect_faults(&rt, rt.alloc(), &rows);
+    for (text, flash) in [
+        ("device 4\nflash 3\nevents\n", Some(3)),
+        ("blocks 4\ncut 1\nflash 64\ndepth 2\nevents\n", Some(64)),
+        ("blocks 4\nevents\n", None),
+    ] {
+        let script = read(&rt, rt.alloc(), text.as_bytes())?;
+        assert_eq!(rt; script.header.flash, flash, "{text}");
+    }
+    Ok(())
+}
+
+#[test]
 fn keeps_the_limits(rt: HostRuntime) {
     let rows = [
         ("device 0\n", 1, Number),
@@ -340,6 +364,7 @@ fn takes_defaults(rt: HostRuntime) -> Result<(), Fail> {
         queue: 32,
         cut: None,
         elevator: false,
+        flash: None,
     };
     for (text, kind) in rows {
         let script = read(&rt, rt.alloc(), text.as_bytes())?;
@@ -379,6 +404,7 @@ persist 0 x 2";
         queue: 32,
         cut: Some(1_000_000_000),
         elevator: false,
+        flash: None,
     };
     let events = [
         event(CoreEvent::Receive, 1_000_000),
@@ -414,6 +440,7 @@ submit x 2
         queue: 64,
         cut: Some(0),
         elevator: false,
+        flash: None,
     };
     let events = [
         event(CoreEvent::Submit, 1),

@@ -77,6 +77,7 @@ const DEFAULTS: SessionHeader = SessionHeader {
     limit: 20_000,
     cut: None,
     seed: 1,
+    flash: None,
     elevator: false,
 };
 
@@ -187,13 +188,14 @@ fn reads_headers(rt: HostRuntime) -> Result<(), Fail> {
     let alloc = rt.alloc();
     let calls = "thread 1\ncreate /f\nwrite /f 0 2048 aa\nfbarrier /f\nevents\ncall 1 x 5";
     let all =
-        "# all of them\n\nseed 7\nelevator\ncut 0\ndepth 64\nlimit 200000\nqueue 64\nevents\n";
+        "# all of them\n\nseed 7\nelevator\nflash 64\ncut 0\ndepth 64\nlimit 200000\nqueue 64\nevents\n";
     let told = SessionHeader {
         depth: 64,
         queue: 64,
         limit: 200_000,
         cut: Some(0),
         seed: 7,
+        flash: Some(64),
         elevator: true,
     };
     let rows = [
@@ -211,6 +213,15 @@ fn reads_headers(rt: HostRuntime) -> Result<(), Fail> {
             calls,
             SessionHeader {
                 limit: 1,
+                ..DEFAULTS
+            },
+            1,
+        ),
+        (
+            "flash 3\n",
+            calls,
+            SessionHeader {
+                flash: Some(3),
                 ..DEFAULTS
             },
             1,
@@ -275,6 +286,7 @@ fn tests_first_lines(rt: HostRuntime) {
         ("mkdir /a\n", 1, Order),
         ("rename /a /b\n", 1, Order),
         ("fail 3\n", 1, NotBuilt),
+        ("flash 3\n", 1, Order),
         ("volumes\n", 1, Word),
         ("volume inodes 32 zones 64\n", 1, Word),
         ("volume zones 64 inodes 32 journal 128\n", 1, Word),
@@ -308,6 +320,8 @@ fn tests_order(rt: HostRuntime) -> Result<(), Fail> {
         ("recover\n", 2, Order),
         ("mkdir /a\n", 2, Order),
         ("thread 1\ndepth 3\n", 3, Order),
+        ("thread 1\nflash x\n", 3, Order),
+        ("events\nflash 3\n", 3, Order),
         ("thread 1\ncall 1\n", 3, Order),
         ("thread 1\nstat /a", 4, Order),
         ("events\nsubmit\n", 3, Order),
@@ -320,6 +334,10 @@ fn tests_order(rt: HostRuntime) -> Result<(), Fail> {
         ("thread 1\nfail x\n", 3, NotBuilt),
         ("depth 3\nqueue 3\ndepth\n", 4, Twice),
         ("elevator\nelevator 3\n", 3, Twice),
+        ("flash 3\ncut 1\nflash\n", 4, Twice),
+        ("flash\n", 2, Word),
+        ("flash 3 4\n", 2, Word),
+        ("flashes 3\n", 2, Word),
         ("thread 1\nmkdirs /a\n", 3, Word),
         ("thread 1\nwrite 0\n", 3, Word),
         ("thread 1\nrename /a\n", 3, Word),
@@ -340,6 +358,8 @@ fn tests_numbers(rt: HostRuntime) -> Result<(), Fail> {
         ("limit 200001\n", 2, Number),
         ("cut 1000000001\n", 2, Number),
         ("seed 1000000001\n", 2, Number),
+        ("flash 2\n", 2, Number),
+        ("flash 65\n", 2, Number),
         ("thread 2\n", 2, Number),
         ("thread 1\nthread 1\n", 3, Number),
         ("thread 1\nread /a 0 65537\n", 3, Number),

@@ -7,7 +7,7 @@ use Rattle.std.proofs.lemmas.Option.{same_Some}
 use Rattle.blk_base.specs.Members.{In}
 use Rattle.script_words.proofs.SpelledNumbers.{numeral-decimal}
 use Rattle.script_grammar.specs.declared.kinds.ScriptKind.TheVariants as kinds
-use Rattle.script_grammar.specs.declared.limits.TheConstants.{DEFAULT_DEPTH, DEFAULT_QUEUE, MOST_DEPTH, MOST_QUEUE, MOST_STEPS}
+use Rattle.script_grammar.specs.declared.limits.TheConstants.{DEFAULT_DEPTH, DEFAULT_QUEUE, FEWEST_SEGMENTS, MOST_DEPTH, MOST_QUEUE, MOST_SEGMENTS, MOST_STEPS}
 use Rattle.script_grammar.specs.laws.Accepted.{begins, beginning, or_default}
 use Rattle.script_grammar.proofs.SaidWords.{default_text}
 use Rattle.script_words.proofs.Counts.{one_text}
@@ -23,7 +23,7 @@ use Rattle.session_grammar.specs.declared.words.Word.TheVariants as word
 use Rattle.session_grammar.specs.Words.{word_of}
 use Rattle.session_grammar.specs.Grammar.{told_number, none_told, new_reading, number_fits, with_number, number_taken, header_taken, header_of}
 use Rattle.session_grammar.specs.WellFormed.{IsHeader}
-use Rattle.session_grammar.specs.laws.Speller.{number_words, cut_lines, elevator_lines}
+use Rattle.session_grammar.specs.laws.Speller.{number_words, cut_lines, flash_lines, elevator_lines}
 use Rattle.session_grammar.specs.laws.Accepted.{is_header_line, IsHeaderOf}
 use Rattle.session_grammar.proofs.Names.{number_name}
 use Rattle.session_grammar.proofs.ReadsTo.{IsRead, ReadsTo, ReadsTo-line, later_line-read, IsRead-known}
@@ -46,6 +46,7 @@ value_of h numbers.Queue = Some h.queue
 value_of h numbers.Limit = Some h.limit
 value_of h numbers.Cut = h.cut
 value_of h numbers.Seed = Some h.seed
+value_of h numbers.Flash = h.flash
 
 abbrev pub number_lines : List ℕ → Option ℕ → List (List (List ℕ))
 number_lines name None = []
@@ -58,6 +59,7 @@ filled numbers.Queue ls = or_default (number_words (codes "queue") DEFAULT_QUEUE
 filled numbers.Limit ls = or_default (number_words (codes "limit") DEFAULT_LIMIT) ls
 filled numbers.Cut ls = ls
 filled numbers.Seed ls = or_default (number_words (codes "seed") DEFAULT_SEED) ls
+filled numbers.Flash ls = ls
 
 -- what is told, or the default
 abbrev pub told_or_default : HeaderSoFar → NumberWord → Option ℕ
@@ -80,26 +82,37 @@ apart numbers.Depth numbers.Queue = inl (record { told = λ t n. refl; line = λ
 apart numbers.Depth numbers.Limit = inl (record { told = λ t n. refl; line = λ n. refl })
 apart numbers.Depth numbers.Cut = inl (record { told = λ t n. refl; line = λ n. refl })
 apart numbers.Depth numbers.Seed = inl (record { told = λ t n. refl; line = λ n. refl })
+apart numbers.Depth numbers.Flash = inl (record { told = λ t n. refl; line = λ n. refl })
 apart numbers.Queue numbers.Depth = inl (record { told = λ t n. refl; line = λ n. refl })
 apart numbers.Queue numbers.Queue = inr refl
 apart numbers.Queue numbers.Limit = inl (record { told = λ t n. refl; line = λ n. refl })
 apart numbers.Queue numbers.Cut = inl (record { told = λ t n. refl; line = λ n. refl })
 apart numbers.Queue numbers.Seed = inl (record { told = λ t n. refl; line = λ n. refl })
+apart numbers.Queue numbers.Flash = inl (record { told = λ t n. refl; line = λ n. refl })
 apart numbers.Limit numbers.Depth = inl (record { told = λ t n. refl; line = λ n. refl })
 apart numbers.Limit numbers.Queue = inl (record { told = λ t n. refl; line = λ n. refl })
 apart numbers.Limit numbers.Limit = inr refl
 apart numbers.Limit numbers.Cut = inl (record { told = λ t n. refl; line = λ n. refl })
 apart numbers.Limit numbers.Seed = inl (record { told = λ t n. refl; line = λ n. refl })
+apart numbers.Limit numbers.Flash = inl (record { told = λ t n. refl; line = λ n. refl })
 apart numbers.Cut numbers.Depth = inl (record { told = λ t n. refl; line = λ n. refl })
 apart numbers.Cut numbers.Queue = inl (record { told = λ t n. refl; line = λ n. refl })
 apart numbers.Cut numbers.Limit = inl (record { told = λ t n. refl; line = λ n. refl })
 apart numbers.Cut numbers.Cut = inr refl
 apart numbers.Cut numbers.Seed = inl (record { told = λ t n. refl; line = λ n. refl })
+apart numbers.Cut numbers.Flash = inl (record { told = λ t n. refl; line = λ n. refl })
 apart numbers.Seed numbers.Depth = inl (record { told = λ t n. refl; line = λ n. refl })
 apart numbers.Seed numbers.Queue = inl (record { told = λ t n. refl; line = λ n. refl })
 apart numbers.Seed numbers.Limit = inl (record { told = λ t n. refl; line = λ n. refl })
 apart numbers.Seed numbers.Cut = inl (record { told = λ t n. refl; line = λ n. refl })
 apart numbers.Seed numbers.Seed = inr refl
+apart numbers.Seed numbers.Flash = inl (record { told = λ t n. refl; line = λ n. refl })
+apart numbers.Flash numbers.Depth = inl (record { told = λ t n. refl; line = λ n. refl })
+apart numbers.Flash numbers.Queue = inl (record { told = λ t n. refl; line = λ n. refl })
+apart numbers.Flash numbers.Limit = inl (record { told = λ t n. refl; line = λ n. refl })
+apart numbers.Flash numbers.Cut = inl (record { told = λ t n. refl; line = λ n. refl })
+apart numbers.Flash numbers.Seed = inl (record { told = λ t n. refl; line = λ n. refl })
+apart numbers.Flash numbers.Flash = inr refl
 
 pub told_same : (w : NumberWord) (t : HeaderSoFar) (n : ℕ) → told_number (with_number t w n) w ≡ Some n
 told_same numbers.Depth t n = refl
@@ -107,6 +120,7 @@ told_same numbers.Queue t n = refl
 told_same numbers.Limit t n = refl
 told_same numbers.Cut t n = refl
 told_same numbers.Seed t n = refl
+told_same numbers.Flash t n = refl
 
 pub elevator_kept : (w : NumberWord) (t : HeaderSoFar) (n : ℕ) → (with_number t w n).elevator ≡ t.elevator
 elevator_kept numbers.Depth t n = refl
@@ -114,6 +128,7 @@ elevator_kept numbers.Queue t n = refl
 elevator_kept numbers.Limit t n = refl
 elevator_kept numbers.Cut t n = refl
 elevator_kept numbers.Seed t n = refl
+elevator_kept numbers.Flash t n = refl
 
 pub told_beside : (w : NumberWord) (t : HeaderSoFar) → told_number (record t { elevator = true }) w ≡ told_number t w
 told_beside numbers.Depth t = refl
@@ -121,6 +136,7 @@ told_beside numbers.Queue t = refl
 told_beside numbers.Limit t = refl
 told_beside numbers.Cut t = refl
 told_beside numbers.Seed t = refl
+told_beside numbers.Flash t = refl
 
 pub no_elevator_line : (w : NumberWord) (n : ℕ) → begins (codes "elevator") (number_words (number_name w) n) ≡ false
 no_elevator_line numbers.Depth n = refl
@@ -128,6 +144,7 @@ no_elevator_line numbers.Queue n = refl
 no_elevator_line numbers.Limit n = refl
 no_elevator_line numbers.Cut n = refl
 no_elevator_line numbers.Seed n = refl
+no_elevator_line numbers.Flash n = refl
 
 abbrev pub elevator_line : List (List ℕ)
 elevator_line = codes "elevator" ∷ []
@@ -138,6 +155,7 @@ no_number_line numbers.Queue = refl
 no_number_line numbers.Limit = refl
 no_number_line numbers.Cut = refl
 no_number_line numbers.Seed = refl
+no_number_line numbers.Flash = refl
 
 filled-some : (w : NumberWord) (l : List (List ℕ)) (ls : List (List (List ℕ))) → filled w (l ∷ ls) ≡ l ∷ ls
 filled-some numbers.Depth l ls = refl
@@ -145,6 +163,7 @@ filled-some numbers.Queue l ls = refl
 filled-some numbers.Limit l ls = refl
 filled-some numbers.Cut l ls = refl
 filled-some numbers.Seed l ls = refl
+filled-some numbers.Flash l ls = refl
 
 word_known : (w : NumberWord) → word_of false (number_name w) ≡ Some (word.Header (header.Number w))
 word_known numbers.Depth = refl
@@ -152,6 +171,7 @@ word_known numbers.Queue = refl
 word_known numbers.Limit = refl
 word_known numbers.Cut = refl
 word_known numbers.Seed = refl
+word_known numbers.Flash = refl
 
 pub fits_value : (h : SessionHeader) (w : NumberWord) (n : ℕ) → IsHeader h → value_of h w ≡ Some n → number_fits w n ≡ true
 fits_value h numbers.Depth n is e =
@@ -167,6 +187,8 @@ fits_value h numbers.Cut n is e = le-leb n MOST_STEPS (is.cut n e)
 fits_value h numbers.Seed n is e =
     let same = same_Some h.seed n e in
     subst (λ m. number_fits numbers.Seed m ≡ true) same (le-leb h.seed MOST_SEED is.seed)
+fits_value h numbers.Flash n is e =
+    and_from (nat_le FEWEST_SEGMENTS n) (nat_le n MOST_SEGMENTS) (le-leb FEWEST_SEGMENTS n (is.least_flash n e)) (le-leb n MOST_SEGMENTS (is.most_flash n e))
 
 pub small_number : (w : NumberWord) (n : ℕ) → number_fits w n ≡ true → n < 2 ^ 64 - 1
 small_number numbers.Depth n h = let most = leb-true n MOST_DEPTH (and_parts (nat_le 1 n) (nat_le n MOST_DEPTH) h).1 in omega (arith, most)
@@ -174,6 +196,7 @@ small_number numbers.Queue n h = let most = leb-true n MOST_QUEUE (and_parts (na
 small_number numbers.Limit n h = let most = leb-true n MOST_SESSION (and_parts (nat_le 1 n) (nat_le n MOST_SESSION) h).1 in omega (arith, most)
 small_number numbers.Cut n h = let most = leb-true n MOST_STEPS h in omega (arith, most)
 small_number numbers.Seed n h = let most = leb-true n MOST_SEED h in omega (arith, most)
+small_number numbers.Flash n h = let most = leb-true n MOST_SEGMENTS (and_parts (nat_le FEWEST_SEGMENTS n) (nat_le n MOST_SEGMENTS) h).1 in omega (arith, most)
 
 -- ---- what is left to be read
 
@@ -271,13 +294,17 @@ one_number w d n fits lt h =
     let small = small_number w n fits in
     decimal_injective d n lt (omega (arith, small)) same
 
-none_said : (o : Option ℕ) → [] ≡ number_lines (codes "cut") o → None ≡ o
-none_said None h = refl
-none_said (Some n) h = cc
+none_said : (name : List ℕ) (o : Option ℕ) → [] ≡ number_lines name o → None ≡ o
+none_said name None h = refl
+none_said name (Some n) h = cc
 
 pub cut_as_number : (o : Option ℕ) → cut_lines o ≡ number_lines (codes "cut") o
 cut_as_number None = refl
 cut_as_number (Some n) = refl
+
+pub flash_as_number : (o : Option ℕ) → flash_lines o ≡ number_lines (codes "flash") o
+flash_as_number None = refl
+flash_as_number (Some n) = refl
 
 ended_number : (h : SessionHeader) (t : HeaderSoFar) (w : NumberWord) → IsHeader h → LeftOf h t [] w → told_or_default t w ≡ value_of h w
 ended_number h t numbers.Depth is (inl done) = ap (λ o. Some (unwrap_or o DEFAULT_DEPTH)) done.0
@@ -287,9 +314,11 @@ ended_number h t numbers.Queue is (inr left) = ap (λ o. Some (unwrap_or o DEFAU
 ended_number h t numbers.Limit is (inl done) = ap (λ o. Some (unwrap_or o DEFAULT_LIMIT)) done.0
 ended_number h t numbers.Limit is (inr left) = ap (λ o. Some (unwrap_or o DEFAULT_LIMIT)) left.0 ∙ ap Some (one_number numbers.Limit DEFAULT_LIMIT h.limit (fits_value h numbers.Limit h.limit is refl) (lit< tt) left.1)
 ended_number h t numbers.Cut is (inl done) = done.0
-ended_number h t numbers.Cut is (inr left) = left.0 ∙ none_said h.cut left.1
+ended_number h t numbers.Cut is (inr left) = left.0 ∙ none_said (codes "cut") h.cut left.1
 ended_number h t numbers.Seed is (inl done) = ap (λ o. Some (unwrap_or o DEFAULT_SEED)) done.0
 ended_number h t numbers.Seed is (inr left) = ap (λ o. Some (unwrap_or o DEFAULT_SEED)) left.0 ∙ ap Some (one_number numbers.Seed DEFAULT_SEED h.seed (fits_value h numbers.Seed h.seed is refl) (lit< tt) left.1)
+ended_number h t numbers.Flash is (inl done) = done.0
+ended_number h t numbers.Flash is (inr left) = left.0 ∙ none_said (codes "flash") h.flash left.1
 
 same_elevator : (told wants : Bool) → elevator_lines told ++ [] ≡ elevator_lines wants → told ≡ wants
 same_elevator false false h = refl
@@ -297,12 +326,12 @@ same_elevator false true h = cc
 same_elevator true false h = cc
 same_elevator true true h = refl
 
-abbrev header_with : ℕ → ℕ → ℕ → Option ℕ → ℕ → Bool → SessionHeader
-header_with depth queue limit cut seed elevator = record { depth = depth; queue = queue; limit = limit; cut = cut; seed = seed; elevator = elevator }
+abbrev header_with : ℕ → ℕ → ℕ → Option ℕ → ℕ → Option ℕ → Bool → SessionHeader
+header_with depth queue limit cut seed flash elevator = record { depth = depth; queue = queue; limit = limit; cut = cut; seed = seed; flash = flash; elevator = elevator }
 
-same_header : (depth depth' queue queue' limit limit' : ℕ) (cut cut' : Option ℕ) (seed seed' : ℕ) (elevator elevator' : Bool) → depth ≡ depth' → queue ≡ queue' → limit ≡ limit' → cut ≡ cut' → seed ≡ seed' → elevator ≡ elevator'
-    → header_with depth queue limit cut seed elevator ≡ header_with depth' queue' limit' cut' seed' elevator'
-same_header depth depth' queue queue' limit limit' cut cut' seed seed' elevator elevator' a b c d e f = cc
+same_header : (depth depth' queue queue' limit limit' : ℕ) (cut cut' : Option ℕ) (seed seed' : ℕ) (flash flash' : Option ℕ) (elevator elevator' : Bool) → depth ≡ depth' → queue ≡ queue' → limit ≡ limit' → cut ≡ cut' → seed ≡ seed' → flash ≡ flash' → elevator ≡ elevator'
+    → header_with depth queue limit cut seed flash elevator ≡ header_with depth' queue' limit' cut' seed' flash' elevator'
+same_header depth depth' queue queue' limit limit' cut cut' seed seed' flash flash' elevator elevator' a b c d e f g = cc
 
 header_told : (h : SessionHeader) (t : HeaderSoFar) → IsHeader h → AreLeft h t [] → header_of t ≡ h
 header_told h t is left =
@@ -311,7 +340,8 @@ header_told h t is left =
     let limit = same_Some (unwrap_or t.limit DEFAULT_LIMIT) h.limit (ended_number h t numbers.Limit is (left.numbers numbers.Limit)) in
     let cut = ended_number h t numbers.Cut is (left.numbers numbers.Cut) in
     let seed = same_Some (unwrap_or t.seed DEFAULT_SEED) h.seed (ended_number h t numbers.Seed is (left.numbers numbers.Seed)) in
-    same_header _ _ _ _ _ _ _ _ _ _ _ _ depth queue limit cut seed (same_elevator t.elevator h.elevator left.elevator)
+    let flash = ended_number h t numbers.Flash is (left.numbers numbers.Flash) in
+    same_header _ _ _ _ _ _ _ _ _ _ _ _ _ _ depth queue limit cut seed flash (same_elevator t.elevator h.elevator left.elevator)
 
 -- ---- the lines are read
 
@@ -366,9 +396,12 @@ which_line l h =
           | inl e ↦ inl (numbers.Limit, e)
           | inr h ↦ elim (or_cases (begins (codes "cut") l) _ h) [
             | inl e ↦ inl (numbers.Cut, e)
-            | inr h ↦ elim (or_cases (begins (codes "seed") l) (begins (codes "elevator") l) h) [
+            | inr h ↦ elim (or_cases (begins (codes "seed") l) _ h) [
               | inl e ↦ inl (numbers.Seed, e)
-              | inr e ↦ inr e
+              | inr h ↦ elim (or_cases (begins (codes "flash") l) (begins (codes "elevator") l) h) [
+                | inl e ↦ inl (numbers.Flash, e)
+                | inr e ↦ inr e
+              ]
             ]
           ]
         ]
@@ -389,6 +422,7 @@ left_at_first h hs numbers.Queue is = inr (refl, ap (λ w. or_default (codes "qu
 left_at_first h hs numbers.Limit is = inr (refl, ap (λ w. or_default (codes "limit" ∷ w ∷ []) (beginning (codes "limit") hs)) (sym limit_text) ∙ is.limit)
 left_at_first h hs numbers.Cut is = inr (refl, is.cut ∙ cut_as_number h.cut)
 left_at_first h hs numbers.Seed is = inr (refl, ap (λ w. or_default (codes "seed" ∷ w ∷ []) (beginning (codes "seed") hs)) (sym one_text) ∙ is.seed)
+left_at_first h hs numbers.Flash is = inr (refl, is.flash ∙ flash_as_number h.flash)
 
 pub header_read : (hs : List (List (List ℕ))) (i z j : ℕ) (wide : Bool) (h : SessionHeader) (rest : List (List (List ℕ))) (s : SessionScript) → IsHeader h → IsHeaderOf h hs → Behind i z j wide h rest s → ReadsTo (Some (new_reading i z j wide)) (hs ++ rest) s
 header_read hs i z j wide h rest s is says behind =

@@ -22,6 +22,7 @@ number_name numbers.Queue = codes "queue"
 number_name numbers.Limit = codes "limit"
 number_name numbers.Cut = codes "cut"
 number_name numbers.Seed = codes "seed"
+number_name numbers.Flash = codes "flash"
 
 abbrev pub header_name : HeaderWord → List ℕ
 header_name (header.Number w) = number_name w
@@ -45,7 +46,8 @@ number_named w n h =
     (λ h. choose number_name w numbers.Queue n _ h
     (λ h. choose number_name w numbers.Limit n _ h
     (λ h. choose number_name w numbers.Cut n _ h
-    (λ h. choose number_name w numbers.Seed n None h (λ h. absurd (none-some n h))))))
+    (λ h. choose number_name w numbers.Seed n _ h
+    (λ h. choose number_name w numbers.Flash n None h (λ h. absurd (none-some n h)))))))
 
 other_named : (w : List ℕ) (v : HeaderWord) → other_header w ≡ Some v → w ≡ header_name v
 other_named w v h =

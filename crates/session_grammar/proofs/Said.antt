@@ -50,7 +50,7 @@ use Rattle.session_grammar.specs.laws.Speller.{tags_words, volume_words, number_
 use Rattle.session_grammar.specs.laws.Accepted.{is_header_line, IsHeaderOf, SayEvents, SaysSession}
 use Rattle.session_grammar.proofs.Names.{number_name, IsNamed, named}
 use Rattle.session_grammar.proofs.Steps.{ok_under}
-use Rattle.session_grammar.proofs.HeaderRead.{limit_text, number_lines, apart, told_same, elevator_kept, told_beside, no_elevator_line, elevator_line, no_number_line, small_number, beginning-with, beginning-without, cut_as_number}
+use Rattle.session_grammar.proofs.HeaderRead.{limit_text, number_lines, apart, told_same, elevator_kept, told_beside, no_elevator_line, elevator_line, no_number_line, small_number, beginning-with, beginning-without, cut_as_number, flash_as_number}
 use Rattle.session_grammar.proofs.ThreadLines.{thread_lines-thread, thread_lines-call}
 use Rattle.session_grammar.proofs.WellFormed.{IsReadable, IsReadableSoFar, IsSplit, thread_stands, call_stands, event_stands, IsReadable-read_words, AreSizes-from}
 
@@ -100,6 +100,7 @@ begins_itself numbers.Queue n = refl
 begins_itself numbers.Limit n = refl
 begins_itself numbers.Cut n = refl
 begins_itself numbers.Seed n = refl
+begins_itself numbers.Flash n = refl
 
 header_line-number : (w : NumberWord) (n : ℕ) → is_header_line (number_words (number_name w) n) ≡ true
 header_line-number numbers.Depth n = refl
@@ -107,6 +108,7 @@ header_line-number numbers.Queue n = refl
 header_line-number numbers.Limit n = refl
 header_line-number numbers.Cut n = refl
 header_line-number numbers.Seed n = refl
+header_line-number numbers.Flash n = refl
 
 is_none : (o : Option ℕ) → is_some o ≡ false → o ≡ None
 is_none None h = refl
@@ -452,6 +454,7 @@ none_said numbers.Queue = refl
 none_said numbers.Limit = refl
 none_said numbers.Cut = refl
 none_said numbers.Seed = refl
+none_said numbers.Flash = refl
 
 Says-new : (inodes zones journal : ℕ) (wide : Bool) → Says (new_reading inodes zones journal wide) (volume_words inodes zones journal wide ∷ [])
 unfolding thread_lines
@@ -566,6 +569,7 @@ IsHeaderOf-said t header is = record {
   limit = filled_number (codes "limit") (codes "20000") DEFAULT_LIMIT t.limit (beginning (codes "limit") header) limit_text (is.numbers numbers.Limit);
   seed = filled_number (codes "seed") (codes "1") DEFAULT_SEED t.seed (beginning (codes "seed") header) one_text (is.numbers numbers.Seed);
   cut = is.numbers numbers.Cut ∙ sym (cut_as_number t.cut);
+  flash = is.numbers numbers.Flash ∙ sym (flash_as_number t.flash);
   elevator = is.elevators;
   known = is.known;
 }

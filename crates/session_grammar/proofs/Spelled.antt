@@ -1,7 +1,8 @@
 -- What is written of a well-formed script says it, and is read back.
-use Rattle.std.proofs.Common.{◌≡◌, ℕ, ◌+◌, ◌^◌, ◌<◌, ◌≤◌, Bool, true, false, List, [], ◌∷◌, ◌++◌, length, take, drop, map, codes, Option, Some, None, Ok, refl, sym, subst, inl, inr, arith}
+use Rattle.std.proofs.Common.{◌≡◌, ℕ, ◌+◌, ◌^◌, ◌<◌, ◌≤◌, Bool, true, false, List, [], ◌∷◌, ◌++◌, length, take, drop, map, codes, Option, Some, None, Ok, refl, sym, subst, inl, inr, ◌⊎◌, arith}
 use Rattle.std.specs.List.{join_with_byte}
 use Rattle.blk_base.specs.Members.{In}
+use Rattle.blk_base.specs.laws.Members.{In-append_cases}
 use Rattle.tree_model.specs.declared.call.Call.{Call}
 use Rattle.script_words.specs.Spelling.{is_skipped, words_of}
 use Rattle.script_words.proofs.SpelledNumbers.{IsClear-decimal}
@@ -17,7 +18,7 @@ use Rattle.session_grammar.specs.declared.session_script.SessionHeader.{SessionH
 use Rattle.session_grammar.specs.declared.session_script.SessionScript.{SessionScript}
 use Rattle.session_grammar.specs.Grammar.{session_of}
 use Rattle.session_grammar.specs.WellFormed.{AreSizes, IsHeader, all_calls, AreLinesOf, IsEventOf, IsWellFormed}
-use Rattle.session_grammar.specs.laws.Speller.{tags_words, volume_words, number_words, cut_lines, elevator_lines, header_lines, thread_lines, recover_words, session_text}
+use Rattle.session_grammar.specs.laws.Speller.{tags_words, volume_words, number_words, cut_lines, flash_lines, elevator_lines, header_lines, thread_lines, recover_words, session_text}
 use Rattle.session_grammar.specs.laws.Accepted.{is_header_line, IsHeaderOf, SayEvents, SaysSession}
 use Rattle.session_grammar.proofs.ReadsTo.{AreKept, kept_of-text}
 use Rattle.session_grammar.proofs.BodyRead.{AreLinesOf-front}
@@ -48,6 +49,10 @@ cut_written : (cut : Option ℕ) → ((n : ℕ) → cut ≡ Some n → n ≤ 100
 cut_written None few = AreWritten-none
 cut_written (Some n) few = let most = few n refl in number_written (codes "cut") n [] (record { feed = refl; space = refl }) refl (omega (arith, most)) AreWritten-none
 
+flash_written : (flash : Option ℕ) → ((n : ℕ) → flash ≡ Some n → n ≤ 64) → AreWritten (flash_lines flash)
+flash_written None few = AreWritten-none
+flash_written (Some n) few = let most = few n refl in number_written (codes "flash") n [] (record { feed = refl; space = refl }) refl (omega (arith, most)) AreWritten-none
+
 elevator_written : (elevator : Bool) → AreWritten (elevator_lines elevator)
 elevator_written true = AreWritten-line (codes "elevator" ∷ []) [] (record { feed = refl; space = refl }, tt) refl AreWritten-none
 elevator_written false = AreWritten-none
@@ -62,7 +67,8 @@ header_written h is =
     (number_written (codes "queue") h.queue _ (record { feed = refl; space = refl }) refl (omega (arith, queue))
     (number_written (codes "limit") h.limit _ (record { feed = refl; space = refl }) refl (omega (arith, limit))
     (number_written (codes "seed") h.seed _ (record { feed = refl; space = refl }) refl (omega (arith, seed))
-    (AreWritten-append (cut_lines h.cut) (elevator_lines h.elevator) (cut_written h.cut is.cut) (elevator_written h.elevator)))))
+    (AreWritten-append (cut_lines h.cut) (flash_lines h.flash ++ elevator_lines h.elevator) (cut_written h.cut is.cut)
+    (AreWritten-append (flash_lines h.flash) (elevator_lines h.elevator) (flash_written h.flash is.most_flash) (elevator_written h.elevator))))))
 
 calls_written : (ls : List (List ℕ)) (cs : List Call) → AreLinesOf ls cs → AreWritten (map words_of ls)
 calls_written [] [] are = AreWritten-none
@@ -124,25 +130,47 @@ session_written s well =
 
 -- ---- they say the script
 
-header_known : (depth queue limit seed : ℕ) (cut : Option ℕ) (elevator : Bool) (l : List (List ℕ)) → In l (header_lines (record { depth = depth; queue = queue; limit = limit; cut = cut; seed = seed; elevator = elevator })) → is_header_line l ≡ true
-header_known depth queue limit seed cut elevator l (inl e) = subst (λ x. is_header_line x ≡ true) e refl
-header_known depth queue limit seed cut elevator l (inr (inl e)) = subst (λ x. is_header_line x ≡ true) e refl
-header_known depth queue limit seed cut elevator l (inr (inr (inl e))) = subst (λ x. is_header_line x ≡ true) e refl
-header_known depth queue limit seed cut elevator l (inr (inr (inr (inl e)))) = subst (λ x. is_header_line x ≡ true) e refl
-header_known depth queue limit seed None true l (inr (inr (inr (inr (inl e))))) = subst (λ x. is_header_line x ≡ true) e refl
-header_known depth queue limit seed None true l (inr (inr (inr (inr (inr h))))) = absurd h
-header_known depth queue limit seed None false l (inr (inr (inr (inr h)))) = absurd h
-header_known depth queue limit seed (Some n) true l (inr (inr (inr (inr (inl e))))) = subst (λ x. is_header_line x ≡ true) e refl
-header_known depth queue limit seed (Some n) true l (inr (inr (inr (inr (inr (inl e)))))) = subst (λ x. is_header_line x ≡ true) e refl
-header_known depth queue limit seed (Some n) true l (inr (inr (inr (inr (inr (inr h)))))) = absurd h
-header_known depth queue limit seed (Some n) false l (inr (inr (inr (inr (inl e))))) = subst (λ x. is_header_line x ≡ true) e refl
-header_known depth queue limit seed (Some n) false l (inr (inr (inr (inr (inr h))))) = absurd h
+cut_known : (cut : Option ℕ) (l : List (List ℕ)) → In l (cut_lines cut) → is_header_line l ≡ true
+cut_known None l h = absurd h
+cut_known (Some n) l (inl e) = subst (λ x. is_header_line x ≡ true) e refl
+cut_known (Some n) l (inr h) = absurd h
 
-header_said : (depth queue limit seed : ℕ) (cut : Option ℕ) (elevator : Bool) → IsHeaderOf (record { depth = depth; queue = queue; limit = limit; cut = cut; seed = seed; elevator = elevator }) (header_lines (record { depth = depth; queue = queue; limit = limit; cut = cut; seed = seed; elevator = elevator }))
-header_said depth queue limit seed None true = record { depth = refl; queue = refl; limit = refl; seed = refl; cut = refl; elevator = refl; known = header_known depth queue limit seed None true }
-header_said depth queue limit seed None false = record { depth = refl; queue = refl; limit = refl; seed = refl; cut = refl; elevator = refl; known = header_known depth queue limit seed None false }
-header_said depth queue limit seed (Some n) true = record { depth = refl; queue = refl; limit = refl; seed = refl; cut = refl; elevator = refl; known = header_known depth queue limit seed (Some n) true }
-header_said depth queue limit seed (Some n) false = record { depth = refl; queue = refl; limit = refl; seed = refl; cut = refl; elevator = refl; known = header_known depth queue limit seed (Some n) false }
+flash_known : (flash : Option ℕ) (l : List (List ℕ)) → In l (flash_lines flash) → is_header_line l ≡ true
+flash_known None l h = absurd h
+flash_known (Some n) l (inl e) = subst (λ x. is_header_line x ≡ true) e refl
+flash_known (Some n) l (inr h) = absurd h
+
+elevator_known : (elevator : Bool) (l : List (List ℕ)) → In l (elevator_lines elevator) → is_header_line l ≡ true
+elevator_known false l h = absurd h
+elevator_known true l (inl e) = subst (λ x. is_header_line x ≡ true) e refl
+elevator_known true l (inr h) = absurd h
+
+header_known : (h : SessionHeader) (l : List (List ℕ)) → In l (header_lines h) → is_header_line l ≡ true
+header_known h l (inl e) = subst (λ x. is_header_line x ≡ true) e refl
+header_known h l (inr (inl e)) = subst (λ x. is_header_line x ≡ true) e refl
+header_known h l (inr (inr (inl e))) = subst (λ x. is_header_line x ≡ true) e refl
+header_known h l (inr (inr (inr (inl e)))) = subst (λ x. is_header_line x ≡ true) e refl
+header_known h l (inr (inr (inr (inr rest)))) =
+    elim (In-append_cases (cut_lines h.cut) (flash_lines h.flash ++ elevator_lines h.elevator) l rest) [
+      | inl i ↦ cut_known h.cut l i
+      | inr more ↦ elim (In-append_cases (flash_lines h.flash) (elevator_lines h.elevator) l more) [
+        | inl i ↦ flash_known h.flash l i
+        | inr i ↦ elevator_known h.elevator l i
+      ]
+    ]
+
+abbrev header_with : ℕ → ℕ → ℕ → ℕ → Option ℕ → Option ℕ → Bool → SessionHeader
+header_with depth queue limit seed cut flash elevator = record { depth = depth; queue = queue; limit = limit; cut = cut; seed = seed; flash = flash; elevator = elevator }
+
+header_said : (depth queue limit seed : ℕ) (cut flash : Option ℕ) (elevator : Bool) → IsHeaderOf (header_with depth queue limit seed cut flash elevator) (header_lines (header_with depth queue limit seed cut flash elevator))
+header_said depth queue limit seed None None true = record { depth = refl; queue = refl; limit = refl; seed = refl; cut = refl; flash = refl; elevator = refl; known = header_known (header_with depth queue limit seed None None true) }
+header_said depth queue limit seed None None false = record { depth = refl; queue = refl; limit = refl; seed = refl; cut = refl; flash = refl; elevator = refl; known = header_known (header_with depth queue limit seed None None false) }
+header_said depth queue limit seed None (Some f) true = record { depth = refl; queue = refl; limit = refl; seed = refl; cut = refl; flash = refl; elevator = refl; known = header_known (header_with depth queue limit seed None (Some f) true) }
+header_said depth queue limit seed None (Some f) false = record { depth = refl; queue = refl; limit = refl; seed = refl; cut = refl; flash = refl; elevator = refl; known = header_known (header_with depth queue limit seed None (Some f) false) }
+header_said depth queue limit seed (Some c) None true = record { depth = refl; queue = refl; limit = refl; seed = refl; cut = refl; flash = refl; elevator = refl; known = header_known (header_with depth queue limit seed (Some c) None true) }
+header_said depth queue limit seed (Some c) None false = record { depth = refl; queue = refl; limit = refl; seed = refl; cut = refl; flash = refl; elevator = refl; known = header_known (header_with depth queue limit seed (Some c) None false) }
+header_said depth queue limit seed (Some c) (Some f) true = record { depth = refl; queue = refl; limit = refl; seed = refl; cut = refl; flash = refl; elevator = refl; known = header_known (header_with depth queue limit seed (Some c) (Some f) true) }
+header_said depth queue limit seed (Some c) (Some f) false = record { depth = refl; queue = refl; limit = refl; seed = refl; cut = refl; flash = refl; elevator = refl; known = header_known (header_with depth queue limit seed (Some c) (Some f) false) }
 
 events_said : (es : List EventLine) (threads : ℕ) → ((e : EventLine) → In e es → IsEventOf threads e) → SayEvents es (map event_line_words es)
 events_said [] threads are = tt
@@ -153,7 +181,7 @@ SaysSession-written s well = record {
   header = header_lines s.header;
   events = map event_line_words s.events;
   whole = refl;
-  headed = header_said s.header.depth s.header.queue s.header.limit s.header.seed s.header.cut s.header.elevator;
+  headed = header_said s.header.depth s.header.queue s.header.limit s.header.seed s.header.cut s.header.flash s.header.elevator;
   said = events_said s.events (length s.programs) well.events;
 }
 

@@ -11,7 +11,7 @@ use Rattle.tree_model.specs.declared.call.Call.{Call}
 use Rattle.script_words.specs.declared.line_error.LineFault.{LineFault}
 use Rattle.script_words.specs.Spelling.{numeral, words_of, lines_of}
 use Rattle.script_words.proofs.KeptLines.{said}
-use Rattle.script_grammar.specs.declared.limits.TheConstants.{MOST_DEPTH, MOST_QUEUE, MOST_STEPS}
+use Rattle.script_grammar.specs.declared.limits.TheConstants.{FEWEST_SEGMENTS, MOST_DEPTH, MOST_QUEUE, MOST_SEGMENTS, MOST_STEPS}
 use Rattle.script_grammar.specs.declared.kinds.ScriptKind.{ScriptKind}
 use Rattle.script_grammar.specs.declared.script_error.ScriptError.{ScriptError}
 use Rattle.script_grammar.specs.code.Readers.{IsTextReadAs}
@@ -105,18 +105,34 @@ event_stands sections.Recovery threads w h = cc
 IsHeader-number : (t : HeaderSoFar) (w : NumberWord) (n : ℕ) → number_fits w n ≡ true → IsHeader (header_of t) → IsHeader (header_of (with_number t w n))
 IsHeader-number t numbers.Depth n h is =
     let p = and_parts (nat_le 1 n) (nat_le n MOST_DEPTH) h in
-    record { some_depth = leb-true 1 n p.0; depth = leb-true n MOST_DEPTH p.1; some_queue = is.some_queue; queue = is.queue; some_limit = is.some_limit; limit = is.limit; cut = is.cut; seed = is.seed }
+    record { some_depth = leb-true 1 n p.0; depth = leb-true n MOST_DEPTH p.1; some_queue = is.some_queue; queue = is.queue; some_limit = is.some_limit; limit = is.limit; cut = is.cut; seed = is.seed; least_flash = is.least_flash; most_flash = is.most_flash }
 IsHeader-number t numbers.Queue n h is =
     let p = and_parts (nat_le 1 n) (nat_le n MOST_QUEUE) h in
-    record { some_depth = is.some_depth; depth = is.depth; some_queue = leb-true 1 n p.0; queue = leb-true n MOST_QUEUE p.1; some_limit = is.some_limit; limit = is.limit; cut = is.cut; seed = is.seed }
+    record { some_depth = is.some_depth; depth = is.depth; some_queue = leb-true 1 n p.0; queue = leb-true n MOST_QUEUE p.1; some_limit = is.some_limit; limit = is.limit; cut = is.cut; seed = is.seed; least_flash = is.least_flash; most_flash = is.most_flash }
 IsHeader-number t numbers.Limit n h is =
     let p = and_parts (nat_le 1 n) (nat_le n MOST_SESSION) h in
-    record { some_depth = is.some_depth; depth = is.depth; some_queue = is.some_queue; queue = is.queue; some_limit = leb-true 1 n p.0; limit = leb-true n MOST_SESSION p.1; cut = is.cut; seed = is.seed }
+    record { some_depth = is.some_depth; depth = is.depth; some_queue = is.some_queue; queue = is.queue; some_limit = leb-true 1 n p.0; limit = leb-true n MOST_SESSION p.1; cut = is.cut; seed = is.seed; least_flash = is.least_flash; most_flash = is.most_flash }
 IsHeader-number t numbers.Cut n h is =
     let most = leb-true n MOST_STEPS h in
-    record { some_depth = is.some_depth; depth = is.depth; some_queue = is.some_queue; queue = is.queue; some_limit = is.some_limit; limit = is.limit; cut = λ m e. let same = same_Some n m e in omega (arith, most, same); seed = is.seed }
+    record { some_depth = is.some_depth; depth = is.depth; some_queue = is.some_queue; queue = is.queue; some_limit = is.some_limit; limit = is.limit; cut = λ m e. let same = same_Some n m e in omega (arith, most, same); seed = is.seed; least_flash = is.least_flash; most_flash = is.most_flash }
 IsHeader-number t numbers.Seed n h is =
-    record { some_depth = is.some_depth; depth = is.depth; some_queue = is.some_queue; queue = is.queue; some_limit = is.some_limit; limit = is.limit; cut = is.cut; seed = leb-true n MOST_SEED h }
+    record { some_depth = is.some_depth; depth = is.depth; some_queue = is.some_queue; queue = is.queue; some_limit = is.some_limit; limit = is.limit; cut = is.cut; seed = leb-true n MOST_SEED h; least_flash = is.least_flash; most_flash = is.most_flash }
+IsHeader-number t numbers.Flash n h is =
+    let p = and_parts (nat_le FEWEST_SEGMENTS n) (nat_le n MOST_SEGMENTS) h in
+    let least = leb-true FEWEST_SEGMENTS n p.0 in
+    let most = leb-true n MOST_SEGMENTS p.1 in
+    record {
+      some_depth = is.some_depth;
+      depth = is.depth;
+      some_queue = is.some_queue;
+      queue = is.queue;
+      some_limit = is.some_limit;
+      limit = is.limit;
+      cut = is.cut;
+      seed = is.seed;
+      least_flash = λ m e. let same = same_Some n m e in omega (arith, least, same);
+      most_flash = λ m e. let same = same_Some n m e in omega (arith, most, same);
+    }
 
 IsHeader-taken : (t : HeaderSoFar) (w : NumberWord) (o : Option ℕ) (next : HeaderSoFar) → number_taken t w o ≡ Ok next → IsHeader (header_of t) → IsHeader (header_of next)
 IsHeader-taken t w None next h is = cc
@@ -125,7 +141,7 @@ IsHeader-taken t w (Some n) next h is =
     subst (λ x. IsHeader (header_of x)) p.1 (IsHeader-number t w n p.0 is)
 
 IsHeader-elevator : (t : HeaderSoFar) → IsHeader (header_of t) → IsHeader (header_of (record t { elevator = true }))
-IsHeader-elevator t is = record { some_depth = is.some_depth; depth = is.depth; some_queue = is.some_queue; queue = is.queue; some_limit = is.some_limit; limit = is.limit; cut = is.cut; seed = is.seed }
+IsHeader-elevator t is = record { some_depth = is.some_depth; depth = is.depth; some_queue = is.some_queue; queue = is.queue; some_limit = is.some_limit; limit = is.limit; cut = is.cut; seed = is.seed; least_flash = is.least_flash; most_flash = is.most_flash }
 
 IsHeader-line : (t : HeaderSoFar) (w : HeaderWord) (ws : List (List ℕ)) (next : HeaderSoFar) → header_line t w ws ≡ Ok next → IsHeader (header_of t) → IsHeader (header_of next)
 IsHeader-line t (header.Number w) [] next h is = cc
@@ -340,6 +356,8 @@ IsHeader-none = record {
   limit = lit≤ tt;
   cut = λ n e. absurd (none-some n e);
   seed = lit≤ tt;
+  least_flash = λ n e. absurd (none-some n e);
+  most_flash = λ n e. absurd (none-some n e);
 }
 
 IsReadable-new : (inodes zones journal : ℕ) (wide : Bool) → AreSizes inodes zones journal → IsReadable (new_reading inodes zones journal wide)

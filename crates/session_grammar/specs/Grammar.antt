@@ -7,7 +7,7 @@ use Rattle.script_words.specs.declared.line_error.LineFault.{LineFault}
 use Rattle.script_words.specs.declared.line_error.LineFault.TheVariants as faults
 use Rattle.script_words.specs.Spelling.{lines_of, words_of, numeral}
 use Rattle.script_words.specs.LineByLine.{line_read, lines_read}
-use Rattle.script_grammar.specs.declared.limits.TheConstants.{DEFAULT_DEPTH, DEFAULT_QUEUE, MOST_DEPTH, MOST_QUEUE, MOST_STEPS}
+use Rattle.script_grammar.specs.declared.limits.TheConstants.{DEFAULT_DEPTH, DEFAULT_QUEUE, FEWEST_SEGMENTS, MOST_DEPTH, MOST_QUEUE, MOST_SEGMENTS, MOST_STEPS}
 use Rattle.script_grammar.specs.declared.kinds.ScriptKind.{ScriptKind}
 use Rattle.script_grammar.specs.declared.kinds.ScriptKind.TheVariants as kinds
 use Rattle.call_grammar.specs.CallLines.{call_of}
@@ -63,7 +63,7 @@ have_geometry inodes zones journal =
     nat_lt (first_zone inodes zones) zones && (nat_le LEAST_JOURNAL journal && nat_le journal MOST_JOURNAL)
 
 abbrev pub none_told : HeaderSoFar
-none_told = record { depth = None; queue = None; limit = None; cut = None; seed = None; elevator = false }
+none_told = record { depth = None; queue = None; limit = None; cut = None; seed = None; flash = None; elevator = false }
 
 abbrev pub new_reading : ℕ → ℕ → ℕ → Bool → Reading
 new_reading inodes zones journal wide = record { inodes = inodes; zones = zones; journal = journal; wide = wide; told = none_told; section = sections.Opening; programs = []; lines = []; events = []; expanded = 0; recovers = [] }
@@ -138,6 +138,7 @@ told_number t numbers.Queue = t.queue
 told_number t numbers.Limit = t.limit
 told_number t numbers.Cut = t.cut
 told_number t numbers.Seed = t.seed
+told_number t numbers.Flash = t.flash
 
 -- the header line stood before
 abbrev pub stood_before : HeaderSoFar → Word → Bool
@@ -153,6 +154,7 @@ number_fits numbers.Queue n = nat_le 1 n && nat_le n MOST_QUEUE
 number_fits numbers.Limit n = nat_le 1 n && nat_le n MOST_SESSION
 number_fits numbers.Cut n = nat_le n MOST_STEPS
 number_fits numbers.Seed n = nat_le n MOST_SEED
+number_fits numbers.Flash n = nat_le FEWEST_SEGMENTS n && nat_le n MOST_SEGMENTS
 
 abbrev pub with_number : HeaderSoFar → NumberWord → ℕ → HeaderSoFar
 with_number t numbers.Depth n = record t { depth = Some n }
@@ -160,6 +162,7 @@ with_number t numbers.Queue n = record t { queue = Some n }
 with_number t numbers.Limit n = record t { limit = Some n }
 with_number t numbers.Cut n = record t { cut = Some n }
 with_number t numbers.Seed n = record t { seed = Some n }
+with_number t numbers.Flash n = record t { flash = Some n }
 
 abbrev pub number_taken : HeaderSoFar → NumberWord → Option ℕ → Result HeaderSoFar ScriptKind
 number_taken t w None = Err kinds.Word
@@ -289,7 +292,7 @@ abbrev pub read_line : ℕ → Option Reading → List ℕ → Result (Option Re
 read_line n reading l = line_read read_one n reading l
 
 abbrev pub header_of : HeaderSoFar → SessionHeader
-header_of t = record { depth = unwrap_or t.depth DEFAULT_DEPTH; queue = unwrap_or t.queue DEFAULT_QUEUE; limit = unwrap_or t.limit DEFAULT_LIMIT; cut = t.cut; seed = unwrap_or t.seed DEFAULT_SEED; elevator = t.elevator }
+header_of t = record { depth = unwrap_or t.depth DEFAULT_DEPTH; queue = unwrap_or t.queue DEFAULT_QUEUE; limit = unwrap_or t.limit DEFAULT_LIMIT; cut = t.cut; seed = unwrap_or t.seed DEFAULT_SEED; flash = t.flash; elevator = t.elevator }
 
 abbrev pub script_read : Reading → SessionScript
 script_read r = record { inodes = r.inodes; zones = r.zones; journal = r.journal; wide = r.wide; header = header_of r.told; programs = r.programs; lines = r.lines; events = r.events; recovers = r.recovers }

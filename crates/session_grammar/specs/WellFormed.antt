@@ -4,7 +4,7 @@ use Rattle.blk_base.specs.Members.{In}
 use Rattle.minix_layout.specs.Words.{first_zone}
 use Rattle.tree_model.specs.declared.call.Call.{Call}
 use Rattle.script_words.specs.Spelling.{words_of}
-use Rattle.script_grammar.specs.declared.limits.TheConstants.{MOST_DEPTH, MOST_QUEUE, MOST_STEPS}
+use Rattle.script_grammar.specs.declared.limits.TheConstants.{FEWEST_SEGMENTS, MOST_DEPTH, MOST_QUEUE, MOST_SEGMENTS, MOST_STEPS}
 use Rattle.call_grammar.specs.WellFormed as call
 use Rattle.call_grammar.specs.laws.Speller as call_speller
 use Rattle.event_grammar.specs.declared.event.CoreEvent.{CoreEvent}
@@ -39,6 +39,8 @@ pub record IsHeader (h : SessionHeader) : Type 0 where
   pub limit : h.limit ≤ MOST_SESSION
   pub cut : (n : ℕ) → h.cut ≡ Some n → n ≤ MOST_STEPS
   pub seed : h.seed ≤ MOST_SEED
+  pub least_flash : (n : ℕ) → h.flash ≡ Some n → FEWEST_SEGMENTS ≤ n
+  pub most_flash : (n : ℕ) → h.flash ≡ Some n → n ≤ MOST_SEGMENTS
 
 -- ---- threads
 

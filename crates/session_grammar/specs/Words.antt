@@ -19,6 +19,7 @@ number_word w =
     else if bytes_eq w (codes "limit") then Some numbers.Limit
     else if bytes_eq w (codes "cut") then Some numbers.Cut
     else if bytes_eq w (codes "seed") then Some numbers.Seed
+    else if bytes_eq w (codes "flash") then Some numbers.Flash
     else None
 
 abbrev pub other_header : List ℕ → Option HeaderWord

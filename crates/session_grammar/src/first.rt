@@ -49,6 +49,7 @@ fn none_told() -> HeaderSoFar
         cut: None,
         seed: None,
         elevator: false,
+        flash: None,
     }
 }
 

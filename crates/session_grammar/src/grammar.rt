@@ -184,6 +184,7 @@ fn header_of(told: HeaderSoFar) -> SessionHeader
         cut: told.cut,
         seed: told.seed.unwrap_or(DEFAULT_SEED),
         elevator: told.elevator,
+        flash: told.flash,
     }
 }
 

@@ -5,7 +5,9 @@ ghost use Rattle.session_grammar.specs.Grammar.{told_number, number_fits, with_n
 use crate::limits::{MOST_SEED, MOST_SESSION};
 use crate::reading::{HeaderSoFar, Reading};
 use crate::words::{HeaderWord, NumberWord};
-use script_grammar::{MOST_DEPTH, MOST_QUEUE, MOST_STEPS, ScriptKind};
+use script_grammar::{
+    FEWEST_SEGMENTS, MOST_DEPTH, MOST_QUEUE, MOST_SEGMENTS, MOST_STEPS, ScriptKind,
+};
 use script_words::numeral;
 
 /// The header line with this word stood before.
@@ -18,6 +20,7 @@ pub fn is_told(told: HeaderSoFar, word: NumberWord) -> bool
         NumberWord::Limit => told.limit.is_some(),
         NumberWord::Cut => told.cut.is_some(),
         NumberWord::Seed => told.seed.is_some(),
+        NumberWord::Flash => told.flash.is_some(),
     }
 }
 
@@ -30,6 +33,7 @@ fn number_fits(word: NumberWord, number: u64) -> bool
         NumberWord::Limit => number >= 1 && number <= MOST_SESSION,
         NumberWord::Cut => number <= MOST_STEPS,
         NumberWord::Seed => number <= MOST_SEED,
+        NumberWord::Flash => number >= FEWEST_SEGMENTS && number <= MOST_SEGMENTS,
     }
 }
 
@@ -44,6 +48,7 @@ fn with_number(told: HeaderSoFar, word: NumberWord, number: u64) -> HeaderSoFar
         NumberWord::Limit => told.limit = Some(number),
         NumberWord::Cut => told.cut = Some(number),
         NumberWord::Seed => told.seed = Some(number),
+        NumberWord::Flash => told.flash = Some(number as u32),
     }
     told
 }

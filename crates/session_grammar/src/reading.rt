@@ -21,6 +21,7 @@ pub struct HeaderSoFar {
     pub seed: Option<u64>,
     /// The line `elevator` stood.
     pub elevator: bool,
+    pub flash: Option<u32>,
 }
 
 /// The state of reading between two lines.

@@ -21,6 +21,8 @@ pub struct SessionHeader {
     pub seed: u64,
     /// The scheduler is the elevator.
     pub elevator: bool,
+    /// The device is a flash log of so many segments.
+    pub flash: Option<u32>,
 }
 
 /// A volume script, as it was read.

@@ -36,6 +36,8 @@ fn read_number_word(w: &[u8]) -> Option<NumberWord>
         Some(NumberWord::Cut)
     } else if w == b"seed".as_slice() {
         Some(NumberWord::Seed)
+    } else if w == b"flash".as_slice() {
+        Some(NumberWord::Flash)
     } else {
         None
     }

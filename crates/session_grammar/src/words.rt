@@ -11,6 +11,7 @@ pub enum NumberWord {
     Limit,
     Cut,
     Seed,
+    Flash,
 }
 
 /// The words of header lines.

@@ -26,13 +26,17 @@ abbrev pub cut_lines : Option ℕ → List (List (List ℕ))
 cut_lines None = []
 cut_lines (Some n) = number_words (codes "cut") n ∷ []
 
+abbrev pub flash_lines : Option ℕ → List (List (List ℕ))
+flash_lines None = []
+flash_lines (Some n) = number_words (codes "flash") n ∷ []
+
 abbrev pub elevator_lines : Bool → List (List (List ℕ))
 elevator_lines elevator = if elevator then (codes "elevator" ∷ []) ∷ [] else []
 
 abbrev pub header_lines : SessionHeader → List (List (List ℕ))
 header_lines h =
     number_words (codes "depth") h.depth ∷ number_words (codes "queue") h.queue ∷ number_words (codes "limit") h.limit ∷ number_words (codes "seed") h.seed
-    ∷ cut_lines h.cut ++ elevator_lines h.elevator
+    ∷ cut_lines h.cut ++ (flash_lines h.flash ++ elevator_lines h.elevator)
 
 abbrev pub thread_words : ℕ → List (List ℕ)
 thread_words t = number_words (codes "thread") t
