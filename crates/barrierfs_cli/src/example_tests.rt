@@ -77,6 +77,11 @@ const POWER_CUT: (&str, &str) = (
     "steps 2\nblock 0 11 0\nblock 1 00 -\n",
 );
 
+const REPLACE: (&str, &str) = (
+    "# A program replaces a file: it writes the new content to another file, with a barrier behind it, and renames that over the\n# old name. Wherever the power goes off, the old name leads to all of the old content or to all of the new one.\nvolume inodes 32 zones 64 journal 128\n# 19 steps for the old content: two pages, superblock, descriptor, four bodies and commit block of two steps each, and the\n# flush. 16 for the new file: two pages, descriptor, four bodies, commit block. Of the rename's 12 (descriptor, four bodies,\n# commit block) the last is missing: the commit block is in the cache, and not on the medium.\ncut 46\nthread 1\ncreate /conf\nwrite /conf 0 2048 01\nfsync /conf\ncreate /conf.new\nwrite /conf.new 0 2048 02\n# The new file's size changed, so this barrier waits until the commit block of its transaction is submitted.\nfdatabarrier /conf.new\nrename /conf.new /conf\nfbarrier /conf\nevents\n# Each round lets every part do a step. All calls are answered, none of the last two having waited for the device. With one\n# step more the old name would lead to the new content.\nround 80\n",
+    "steps 46\nrequests 24\n1 create /conf: ok\n1 write /conf 0 2048 01: ok\n1 fsync /conf: ok\n1 create /conf.new: ok\n1 write /conf.new 0 2048 02: ok\n1 fdatabarrier /conf.new: ok\n1 rename /conf.new /conf: ok\n1 fbarrier /conf: ok\nthread 1: 8 of 8\nclosed 3\nfound 2\ndir /\nfile /conf size 2048 links 1\nblock 0 1024x01\nblock 1 1024x01\nfile /conf.new size 2048 links 1\nblock 0 1024x02\nblock 1 1024x02\n",
+);
+
 const WRITE_AHEAD: (&str, &str) = (
     "# A database writes to its log what it is about to do, and then does it in place, with fdatabarrier between the two and\n# no flush. Scheduler and device are asked for the page in place first, wherever they can be asked; in a stack without\n# barriers it would be on the medium alone, and nothing would tell how to undo it.\nvolume inodes 32 zones 64 journal 128\n# 19 steps for the first transaction, and three more: both pages are in the cache, and one went onto the medium.\ncut 22\nthread 1\ncreate /log\ncreate /db\nwrite /log 0 1024 01\nwrite /db 0 1024 0a\nfsync /db\nwrite /log 0 1024 02\nfdatabarrier /log\nwrite /db 0 1024 0b\nevents\n# Four calls; fsync begins, sends the page of /db, and asks for the transaction.\ncall 1 x 7\n# The page of /log, closed, planned, and sent: journal superblock, descriptor, the blocks 2 to 5, commit block.\ncommit x 10\n# Nine puts of two steps each and a flush of one. Then fsync is answered.\nback 14\ncall 1\n# The record, and the barrier, which begins, sends the record's page as one, and is answered. The page in place.\ncall 1 x 5\nwrite 0\n# The barrier closes the scheduler: the second accept does nothing, and there is nothing at place 1.\naccept x 2\ndispatch 1\ndispatch 0\naccept\ndispatch 0\nreceive x 2\n# Behind the barrier the device transfers only the record's page, and then the other.\ntransfer 1\ntransfer 0\ntransfer 0\n# Both are in the cache. The page in place belongs to the next epoch, so it may not be persisted yet.\npersist 1\npersist 0\n# The power is off: the record is there, and the page is the old one.\npersist 0\n",
     "steps 22\nrequests 12\n1 create /log: ok\n1 create /db: ok\n1 write /log 0 1024 01: ok\n1 write /db 0 1024 0a: ok\n1 fsync /db: ok\n1 write /log 0 1024 02: ok\n1 fdatabarrier /log: ok\n1 write /db 0 1024 0b: ok\nthread 1: 8 of 8\nclosed 1\nfound 1\ndir /\nfile /db size 1024 links 1\nblock 0 1024x0a\nfile /log size 1024 links 1\nblock 0 1024x02\n",
@@ -100,6 +105,7 @@ fn prints_what_the_examples_say(rt: HostRuntime) -> Result<(), Fail> {
         ORDERLESS,
         OUT_OF_ORDER,
         POWER_CUT,
+        REPLACE,
         WRITE_AHEAD,
     ];
     for (script, printed) in examples {

@@ -14,7 +14,9 @@ fn prints_what_was_worked_out(rt: HostRuntime) -> Result<(), Fail> {
     let rows = [
         (calls::LAST_BLOCK, calls::LAST_BLOCK_PRINTS),
         (calls::NAMES, calls::NAMES_PRINTS),
+        (calls::LINKS, calls::LINKS_PRINTS),
         (calls::REFUSALS, calls::REFUSALS_PRINTS),
+        (calls::RENAMES, calls::RENAMES_PRINTS),
         (calls::FULL_QUEUE, calls::FULL_QUEUE_PRINTS),
         (calls::FULL_SESSION, calls::FULL_SESSION_PRINTS),
         (calls::FULL_TRANSACTION, calls::FULL_TRANSACTION_PRINTS),

@@ -6,7 +6,6 @@ use Rattle.order_model.specs.declared.completion.Completion.{Completion}
 use Rattle.tree_model.specs.declared.call.Call.{Call}
 use Rattle.tree_model.specs.Trees.{AreAlike}
 use Rattle.volume_ops.specs.Volume.{disk_of}
-use Rattle.volume_steps.specs.Plain.{is_rename}
 use Rattle.mount_make.specs.Images.{recovered_image}
 use Rattle.crash_laws.specs.Found.{IsFound}
 use Rattle.crash_laws.specs.History.{last_write, IsLastChange}
@@ -16,40 +15,13 @@ use Rattle.host_volume.specs.Sessions.{Stands}
 use Rattle.session_run.specs.Beginning.{call_over}
 use Rattle.session_run.specs.End.{tree_behind}
 use Rattle.call_images.specs.CallImages.{found_in, submitted_by, ShowsFiles}
-use Rattle.session_promises.specs.Trees.{HaveNoRenames}
 use Rattle.session_grammar.specs.declared.session_script.SessionScript.{SessionScript}
-use Rattle.session_grammar.specs.WellFormed.{IsWellFormed, IsBuilt}
 use Rattle.session_core.specs.Core.{EndState, IsDeviceOf, geometry_of, opening_of}
 use Rattle.session_core.specs.Headline.{medium_of, told_by, IsShownBy, IsAllShown, HeadlineOn}
 use Rattle.session_core.specs.Report.{ReportKeepsOrder}
 use Rattle.session_core.specs.code.Cuts.{CutFacts}
 use Rattle.session_core.specs.code.Ends.{EndFits}
 use Rattle.session_core.specs.declared.report.SessionReport.{SessionReport}
-use Rattle.session_core.proofs.Made.{of_program}
-use Rattle.tree_model.specs.declared.call.Call.TheVariants as calls
-
--- no call of a script that was read is a rename
-no_rename : (c : Call) → IsBuilt c → is_rename c ≡ false
-no_rename (calls.Rename p q) built = absurd built
-no_rename (calls.Mkdir p) built = refl
-no_rename (calls.Rmdir p) built = refl
-no_rename (calls.Create p) built = refl
-no_rename (calls.Unlink p) built = refl
-no_rename (calls.Link p q) built = refl
-no_rename (calls.Truncate p n) built = refl
-no_rename (calls.Write p o n v) built = refl
-no_rename (calls.Bytes p o b) built = refl
-no_rename (calls.Read p o n) built = refl
-no_rename (calls.List p) built = refl
-no_rename (calls.Stat p) built = refl
-no_rename (calls.Fsync p) built = refl
-no_rename (calls.Fdatasync p) built = refl
-no_rename (calls.Fbarrier p) built = refl
-no_rename (calls.Fdatabarrier p) built = refl
-no_rename calls.Sync built = refl
-
-pub script_has_no_renames : (s : SessionScript) → IsWellFormed s → HaveNoRenames s.programs
-script_has_no_renames s is = λ p c there here. no_rename c (is.calls c (of_program s.programs p c there here)).1
 
 -- what was taken was sent
 took : (n : ℕ) (taken sent : List Completion) (c : Completion) → taken ≡ take n sent → In c taken → In c sent

@@ -40,7 +40,7 @@ of_program (q ∷ qs) p c (inl e) here = In-append_left q (all_calls qs) c (subs
 of_program (q ∷ qs) p c (inr there) here = In-append_right q (all_calls qs) c (of_program qs p c there here)
 
 pub script_writes_bytes : (s : SessionScript) → IsWellFormed s → ((c : Call) → call.IsWellFormed c → HasBytes c) → WriteBytes s.programs
-script_writes_bytes s is bytes = λ p c there here. bytes c (is.calls c (of_program s.programs p c there here)).0
+script_writes_bytes s is bytes = λ p c there here. bytes c (is.calls c (of_program s.programs p c there here))
 
 -- ---- its parts
 

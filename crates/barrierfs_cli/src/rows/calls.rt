@@ -41,6 +41,7 @@ create /a/abcdefghijklmno
 rmdir /a
 unlink /a
 list /a
+rename /a /a/b
 read /a/abcdefghijklmn 0 5
 truncate /a/abcdefghijklmn 3
 read /a/abcdefghijklmn 0 5
@@ -50,6 +51,7 @@ create /b/z
 rmdir /
 stat /
 events
+call 1
 call 1
 call 1
 call 1
@@ -77,6 +79,7 @@ requests 0
 1 rmdir /a: not empty
 1 unlink /a: is a directory
 1 list /a: names abcdefghijklmn
+1 rename /a /a/b: invalid
 1 read /a/abcdefghijklmn 0 5: bytes -
 1 truncate /a/abcdefghijklmn 3: ok
 1 read /a/abcdefghijklmn 0 5: bytes 3x00
@@ -85,7 +88,34 @@ requests 0
 1 create /b/z: not found
 1 rmdir /: invalid
 1 stat /: dir size 48 links 3
-thread 1: 15 of 15
+thread 1: 16 of 16
+closed 0
+found 0
+dir /
+";
+
+// A second name that moves, once the first one is gone.
+pub const LINKS: &str = "\
+volume inodes 32 zones 64 journal 128
+thread 1
+create /a
+link /a /b
+rename /b /c
+unlink /a
+stat /c
+events
+call 1 x 5
+";
+
+pub const LINKS_PRINTS: &str = "\
+steps 0
+requests 0
+1 create /a: ok
+1 link /a /b: ok
+1 rename /b /c: ok
+1 unlink /a: ok
+1 stat /c: file size 0 links 1
+thread 1: 5 of 5
 closed 0
 found 0
 dir /
@@ -187,6 +217,80 @@ requests 0
 1 fdatabarrier /abcdefghijklmno: name too long
 1 stat /g: file size 0 links 2
 thread 1: 42 of 42
+closed 0
+found 0
+dir /
+";
+
+// Renames that are refused, the first cause told where two would do, and renames: of one name to itself, over a file, into a
+// directory, and of a directory.
+pub const RENAMES: &str = "\
+volume inodes 32 zones 64 journal 128
+thread 1
+mkdir /d
+mkdir /d/e
+create /f
+create /g
+write /f 0 3 61
+rename f /x
+rename /f x
+rename / /x
+rename /f /
+rename /x /y
+rename /f /x/y
+rename /f /g/y
+rename /f /abcdefghijklmno
+rename /d /d/x
+rename /d /d/e/x
+rename /f /d
+rename /d/e /d
+rename /d /f
+rename /f /f
+rename /f /g
+rename /g /d/e/h
+rename /d/e /e
+list /
+stat /
+list /d
+stat /d
+list /e
+stat /e/h
+events
+call 1 x 28
+";
+
+pub const RENAMES_PRINTS: &str = "\
+steps 0
+requests 0
+1 mkdir /d: ok
+1 mkdir /d/e: ok
+1 create /f: ok
+1 create /g: ok
+1 write /f 0 3 61: ok
+1 rename f /x: bad path
+1 rename /f x: bad path
+1 rename / /x: invalid
+1 rename /f /: invalid
+1 rename /x /y: not found
+1 rename /f /x/y: not found
+1 rename /f /g/y: not a directory
+1 rename /f /abcdefghijklmno: name too long
+1 rename /d /d/x: invalid
+1 rename /d /d/e/x: invalid
+1 rename /f /d: is a directory
+1 rename /d/e /d: exists
+1 rename /d /f: not a directory
+1 rename /f /f: ok
+1 rename /f /g: ok
+1 rename /g /d/e/h: ok
+1 rename /d/e /e: ok
+1 list /: names d e
+1 stat /: dir size 80 links 4
+1 list /d: names -
+1 stat /d: dir size 48 links 2
+1 list /e: names h
+1 stat /e/h: file size 3 links 1
+thread 1: 28 of 28
 closed 0
 found 0
 dir /

@@ -6,7 +6,6 @@ use Rattle.session_core.specs.Core.{geometry_of, opening_of}
 use Rattle.session_core.specs.code.Cuts.{CutFacts, medium_left}
 use Rattle.session_core.proofs.Made.{script_writes_bytes, sound_of}
 use Rattle.session_core.proofs.Cut.{cut_is}
-use Rattle.session_core.proofs.Headlines.{script_has_no_renames}
 use Rattle.session_core.proofs.running.cut_scripts_keep_their_promises.Goals as goal
 
 pub returns : goal.returns
@@ -36,7 +35,7 @@ returns c = λ end r order b.
         ok_causes = λ e t x ok kind. c.answered_calls_keep_their_promises.ensures.causes o v ring n ps b.events e t x journal.1 volume journal.0 bytes ok kind;
         causes = c.calls_end_for_a_cause.ensures.causes o v ring n ps b.events;
         follows = c.histories_follow_the_tree.ensures.follows o v ring n ps b.events journal.1 volume journal.0 bytes;
-        legal = c.histories_follow_the_tree.ensures.legal o v ring n ps b.events journal.1 volume journal.0 bytes (script_has_no_renames s is);
+        legal = c.histories_follow_the_tree.ensures.legal o v ring n ps b.events journal.1 volume journal.0 bytes;
       };
       volume = c.cut_sessions_mount.ensures.volume sizes s.journal n ps b.events m cut;
       journal = c.cut_sessions_mount.ensures.journal sizes s.journal n ps b.events m cut;
