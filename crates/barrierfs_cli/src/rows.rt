@@ -36,6 +36,7 @@ fn prints_what_was_worked_out(rt: HostRuntime) -> Result<(), Fail> {
         (log_space::FREED, log_space::FREED_PRINTS),
         (log_space::WAITS, log_space::WAITS_PRINTS),
         (log_space::REVOKED, log_space::REVOKED_PRINTS),
+        (log_space::REVOKED_WIDE, log_space::REVOKED_PRINTS),
     ];
     for (script, printed) in rows {
         expect_replay(&rt, rt.alloc(), script, printed)?;

@@ -88,7 +88,7 @@ IsReplay input report text = IsReplayAs (is_session input) input report text
 
 -- `make`: the bytes are those of a new image with these sizes, and there is no report
 abbrev pub IsMade : Sizes → Option RunReport → List ℕ → Type 0
-IsMade s report bytes = (bytes ≡ concat (made_image (geometry_made s.inodes s.zones) s.journal)) × (report ≡ None)
+IsMade s report bytes = (bytes ≡ concat (made_image (geometry_made s.inodes s.zones) s.journal false)) × (report ≡ None)
 
 -- `show`: the text is that of the tree that the image has once its journal was recovered
 abbrev pub Makes : Command → List ℕ → Option RunReport → List ℕ → Type 0

@@ -125,7 +125,7 @@ fn make(alloc: Global, sizes: Sizes) -> Result<Printed, TopFault>
     ensures ok { IfOk result (λ p. IsMade sizes p.report (output_bytes p.output)) }
     ensures err { IfErr result (λ fault. fault ≡ TopFault.NoMemory) }
 {
-    match make_volume(alloc, sizes.inodes, sizes.zones, sizes.journal) {
+    match make_volume(alloc, sizes.inodes, sizes.zones, sizes.journal, false) {
         Ok(image) => Ok(Printed {
             report: None,
             output: Output::Image(image),

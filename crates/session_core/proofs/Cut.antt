@@ -21,7 +21,7 @@ use Rattle.session_core.specs.code.Cuts.{CutFacts, medium_left}
 use Rattle.session_core.specs.code.Ends.{KeepsTheOrder, IsBehind}
 
 pub cut_is : (s : SessionScript) → IsWellFormed s → IsSound (geometry_of s) → WriteBytes s.programs → (end : EndState) (r : SessionEnd) → KeepsTheOrder s end r → (b : IsBehind s end)
-    → IsCut (geometry_of s) s.journal s.header.limit s.programs b.events (medium_left r)
+    → IsCut (geometry_of s) s.journal s.wide s.header.limit s.programs b.events (medium_left r)
 cut_is s is sound bytes end r order b =
     let least = is.sizes.least_journal in
     let most = is.sizes.most_journal in

@@ -38,8 +38,8 @@ headline_of s end r facts order fits device sent found =
     let count = found ∙ facts.counted in
     let files = p.kept.sentences.prefix m (disk_of (recovered_image r.cut.image.items)) order.closed (facts.recovered p.kept.closed) in
     let alike = subst (λ n. AreAlike (tree_behind (opening_of s) end.host n) tree.0) (sym count) tree.2 in
-    let shows : (alike : AreAlike (tree_behind (opening_of s) end.host r.found) tree.0) → ShowsFiles g s.journal p.kept.closed end.host m tree.0 alike.to =
-    subst (λ n. (alike : AreAlike (tree_behind (opening_of s) end.host n) tree.0) → ShowsFiles g s.journal p.kept.closed end.host m tree.0 alike.to) (sym count)
+    let shows : (alike : AreAlike (tree_behind (opening_of s) end.host r.found) tree.0) → ShowsFiles g s.journal s.wide p.kept.closed end.host m tree.0 alike.to =
+    subst (λ n. (alike : AreAlike (tree_behind (opening_of s) end.host n) tree.0) → ShowsFiles g s.journal s.wide p.kept.closed end.host m tree.0 alike.to) (sym count)
     (facts.shown p.kept.closed tree.0 files tree.1) in
     record {
       closed = p.kept.closed;
@@ -51,7 +51,7 @@ headline_of s end r facts order fits device sent found =
       device = device;
       follows = host.follows;
       legal = host.legal;
-      transactions = subst (λ n. IsFound (submitted_by g s.journal [] end.host) m n) (sym count) facts.transactions;
+      transactions = subst (λ n. IsFound (submitted_by g s.journal s.wide [] end.host) m n) (sym count) facts.transactions;
       counted = count;
       prefix = record { tree = tree.0; found = tree.1; alike = alike };
       files = files;

@@ -65,7 +65,7 @@ any_capacity : (limit capacity : ℕ) (p : SchedSeen) → IsNewScheduler limit c
 any_capacity limit capacity p new =
     record { requests = new.requests; room = refl; accepted = new.accepted; waiting = new.waiting; unblocked = new.unblocked; sent_out = new.sent_out }
 
-pub is_new : (s : SessionScript) (p : SchedSeen) (d : Seen) → IsNewScheduler s.header.limit CAPACITY p → IsNewFor s d → IsNew (made_image (geometry_of s) s.journal) s.header.limit p d
+pub is_new : (s : SessionScript) (p : SchedSeen) (d : Seen) → IsNewScheduler s.header.limit CAPACITY p → IsNewFor s d → IsNew (made_image (geometry_of s) s.journal s.wide) s.header.limit p d
 is_new s p d sched dev =
     record { image = dev.image; took = dev.untouched.took; sent = dev.untouched.sent; ids = dev.ids; scheduler = any_capacity s.header.limit CAPACITY p sched }
 

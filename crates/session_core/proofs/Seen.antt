@@ -55,7 +55,7 @@ module _ (s : SessionScript) (end : EndState) (r : SessionReport) (is : Headline
       let has : block_at is.prefix.tree (alike.to x.file) x.index ≡ Some x.bytes = ap (λ n. block_at is.prefix.tree n x.index) (sym to) ∙ x.has in
       let there : maps_block behind x.file x.index ≡ true =
       mapped_back x.index (at_number behind x.file) (at_number is.prefix.tree (alike.to x.file)) (alike.same_metadata x.path x.file x.led) (ap is_some has) in
-      later_kept (geometry_of s) s.journal is.closed end.host (medium_of r) is.prefix.tree alike.to (opening_of s).image is.order.closed is.shown x.file x.index e x.bytes (ap (λ tree. maps_block tree x.file x.index) is_behind ∙ there) has
+      later_kept (geometry_of s) s.journal s.wide is.closed end.host (medium_of r) is.prefix.tree alike.to (opening_of s).image is.order.closed is.shown x.file x.index e x.bytes (ap (λ tree. maps_block tree x.file x.index) is_behind ∙ there) has
       (λ v low same. x.newer v low (ap (λ tree. unwrap_or (block_at tree x.file x.index) []) (sym (tree_told (opening_of s) end.host v)) ∙ same))
 
   by_metadata : (e : ℕ) → ((v : ℕ) → v ≤ e → AreAlike (tree_at (opening_of s) end.host v) is.prefix.tree → ⊥) → HasLaterKept s end (medium_of r) e

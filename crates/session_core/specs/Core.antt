@@ -37,7 +37,7 @@ geometry_of s = geometry_made s.inodes s.zones
 
 -- a new volume with an empty journal behind it
 abbrev pub opening_of : SessionScript → Opening
-opening_of s = made_opening (geometry_of s) s.journal (quota (new_journal s.journal))
+opening_of s = made_opening (geometry_of s) s.journal s.wide (quota (new_journal s.journal s.wide))
 
 abbrev pub start_of : SessionScript → Start
 start_of s = made_start (geometry_of s) s.journal s.header.limit s.header.queue s.programs
@@ -47,11 +47,11 @@ abbrev pub setup_for : SessionScript → DeviceSetup
 setup_for s = record { depth = s.header.depth; limit = s.header.limit; fail_at = None; bad_read = None; cut_at = s.header.cut }
 
 abbrev pub device_for : SessionScript → DeviceState
-device_for s = epochs.opened (made_image (geometry_of s) s.journal) (setup_for s)
+device_for s = epochs.opened (made_image (geometry_of s) s.journal s.wide) (setup_for s)
 
 -- the host that it opens on that volume
 abbrev pub opened_host : SessionScript → HostNow
-opened_host s = opened_now (geometry_of s) s.journal s.header.limit s.programs
+opened_host s = opened_now (geometry_of s) s.journal s.wide s.header.limit s.programs
 
 -- where a session ends, with what is seen of its scheduler and of its device
 pub record EndState : Type 0 where
@@ -65,7 +65,7 @@ ended k m r = record { host = r.host; sched = k.seen r.sched; dev = m.seen r.dev
 -- its host took these steps from where the script's session begins
 pub record IsBehind (s : SessionScript) (end : EndState) : Type 0 where
   pub events : List Event
-  pub host : end.host ≡ made_session (geometry_of s) s.journal s.header.limit s.programs events
+  pub host : end.host ≡ made_session (geometry_of s) s.journal s.wide s.header.limit s.programs events
 
 -- all events of a script on this device, on the parts that it opens and the scheduler that it names, in which `CAPACITY` requests
 -- may wait
@@ -89,7 +89,7 @@ pub record HasSetup (s : SessionScript) (d : Seen) : Type 0 where
 -- The device was made over the image of the script's volume, as its header says, and may take so many ids as the script has requests at
 -- most; nothing was asked of it yet.
 pub record IsNewFor (s : SessionScript) (d : Seen) : Type 0 where
-  pub image : d.base ≡ made_image (geometry_of s) s.journal
+  pub image : d.base ≡ made_image (geometry_of s) s.journal s.wide
   pub setup : HasSetup s d
   pub untouched : IsUntouched d
   pub ids : s.header.limit ≤ d.limit

@@ -45,13 +45,13 @@ medium_of r = record { image = r.cut.image.items; origins = r.cut.origins }
 -- what is told of the calls of a script's session that ended so, what its host submitted, and how many of its transactions a
 -- medium has
 abbrev pub told_by : SessionScript → EndState → History WalkEnd
-told_by s end = history_of (geometry_of s) s.journal end.host
+told_by s end = history_of (geometry_of s) s.journal s.wide end.host
 
 abbrev pub submitted_in : SessionScript → EndState → Session
-submitted_in s end = submitted_by (geometry_of s) s.journal [] end.host
+submitted_in s end = submitted_by (geometry_of s) s.journal s.wide [] end.host
 
 abbrev pub kept_in : SessionScript → EndState → Medium → ℕ
-kept_in s end m = kept_count (geometry_of s) s.journal end.host m
+kept_in s end m = kept_count (geometry_of s) s.journal s.wide end.host m
 
 -- a write made after entry e survived the power cut that left this medium
 abbrev pub HasLaterKept : SessionScript → EndState → Medium → ℕ → Type 0
@@ -59,12 +59,12 @@ HasLaterKept s end m e = IsLaterKept (told_by s end) (submitted_in s end) m (kep
 
 -- a tree, into whose births `to` leads, has the block (f, i) in a version from entry n on, whose request the medium has there
 abbrev pub IsShownBy : SessionScript → EndState → Medium → Tree → (ℕ → ℕ) → ℕ → ℕ → ℕ → Type 0
-IsShownBy s end m tree to f i n = IsShown (geometry_of s) s.journal end.host m tree to f i n
+IsShownBy s end m tree to f i n = IsShown (geometry_of s) s.journal s.wide end.host m tree to f i n
 
 -- Such a tree shows all blocks that a barrier or sync call covers, but for those that the kept transactions superseded; and
 -- the metadata that the call covers is of these transactions.
 pub record IsAllShown (s : SessionScript) (end : EndState) (m : Medium) (kept : ℕ) (tree : Tree) (to : ℕ → ℕ) (b : Begun) : Type 0 where
-  pub pages : (f i n : ℕ) → Covers (told_by s end) (call_of b) f i n → IsShownOrGone (geometry_of s) s.journal end.host m kept tree to f i n
+  pub pages : (f i n : ℕ) → Covers (told_by s end) (call_of b) f i n → IsShownOrGone (geometry_of s) s.journal s.wide end.host m kept tree to f i n
   pub metadata : (n : ℕ) → CoversEntry (call_of b) n → n ≤ (told_by s end).cut kept
 
 -- ---- what a reader sees
@@ -110,7 +110,7 @@ pub record HeadlineOn (s : SessionScript) (end : EndState) (r : SessionReport) :
   -- Each request goes where its note says. The medium is order-closed for what was submitted, and where a flush completed,
   -- all before it is kept. What the scheduler accepted are the first requests that were submitted, what the device took are the
   -- first commands that were sent out, and the completions that the host took are the first that the device sent.
-  pub notes : FitsNotes (submitted_by (geometry_of s) s.journal closed end.host)
+  pub notes : FitsNotes (submitted_by (geometry_of s) s.journal s.wide closed end.host)
   pub order : ReportKeepsOrder s end r
   pub accepted : IsPrefixOf end.sched.accepted end.host.journal.flush.requests
   pub received : IsPrefixOf end.dev.took end.sched.sent_out
@@ -127,11 +127,11 @@ pub record HeadlineOn (s : SessionScript) (end : EndState) (r : SessionReport) :
   pub prefix : HasPrefix s end r
   -- The recovered disk has the metadata after them, and each block of a file in a version that is no older than the one
   -- which the last change of its file asks for.
-  pub files : KeepsFiles (geometry_of s) s.journal closed end.host (medium_of r) (disk_of (recovered_image r.cut.image.items))
+  pub files : KeepsFiles (geometry_of s) s.journal s.wide closed end.host (medium_of r) (disk_of (recovered_image r.cut.image.items))
   -- The tree that was recovered shows it: each block of a file as that disk has it, in such a version and the one whose
   -- request the medium has at its place; and all that survived. So what it shows of later entries has survived
   -- (`what_is_shown_later_survived`).
-  pub shown : ShowsFiles (geometry_of s) s.journal closed end.host (medium_of r) prefix.tree prefix.alike.to
+  pub shown : ShowsFiles (geometry_of s) s.journal s.wide closed end.host (medium_of r) prefix.tree prefix.alike.to
   -- A barrier or sync call that was answered Ok: where a write made after a barrier call survived, all that the call covers
   -- survived or was superseded; all that a sync call covers did so in any case. It survives at the place where the recovered
   -- disk has the block, by `files`, and so does the tree, by `shown`.
@@ -143,7 +143,7 @@ pub record HeadlineOn (s : SessionScript) (end : EndState) (r : SessionReport) :
   -- The host took some steps from the opened volume on. Calls end with no answer of the tree for a cause alone, which was there
   -- after those of the steps that were done when the call ended; and an Ok of a call that covers metadata has its commit block.
   pub run : IsBehind s end
-  pub causes : HaveCauses kind_of s.header.limit (HadCome (made_session (geometry_of s) s.journal s.header.limit s.programs) run.events) end.host
+  pub causes : HaveCauses kind_of s.header.limit (HadCome (made_session (geometry_of s) s.journal s.wide s.header.limit s.programs) run.events) end.host
   pub ok_causes : (e t : ℕ) (c : Call) → AnsweredAt end.host e t c → is_data (kind_of c) ≡ false → HasOkCause end.host e t c
   -- At most as many flushes were submitted as sync calls have begun.
   pub flushes : count is_flush_note end.host.journal.flush.notes ≤ count (is_sync_begin kind_of) end.host.history

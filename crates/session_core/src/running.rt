@@ -55,7 +55,7 @@ fn standings(alloc: Global, host: &Host, threads: u32) -> Result<Vec<Standing>, 
 // The image of the volume that a script makes, and the host that it opens.
 fn open_script(alloc: Global, script: &SessionScript) -> Result<OpenedSession, NoMemory>
     requires { IsWellFormed script.now }
-    ensures image { IfOk result (λ o. o.image ≡ made_image (geometry_of script.now) script.now.journal) }
+    ensures image { IfOk result (λ o. o.image ≡ made_image (geometry_of script.now) script.now.journal script.now.wide) }
     ensures host { IfOk result (λ o. o.host ≡ opened_host script.now) }
 {
     open_session(
@@ -63,6 +63,7 @@ fn open_script(alloc: Global, script: &SessionScript) -> Result<OpenedSession, N
         script.inodes,
         script.zones,
         script.journal,
+        script.wide,
         script.header.limit,
         &script.programs,
     )
@@ -240,7 +241,7 @@ fn model_device(
     image: Image,
 ) -> Result<EpochDevice, NoMemory>
     requires script { IsWellFormed script.now }
-    requires image { image ≡ made_image (geometry_of script.now) script.now.journal }
+    requires image { image ≡ made_image (geometry_of script.now) script.now.journal script.now.wide }
     ensures { IfOk result (λ d. d ≡ device_for script.now) }
 {
     let header = &script.header;

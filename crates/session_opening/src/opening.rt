@@ -23,12 +23,14 @@ pub struct OpenedSession {
     pub host: Host,
 }
 
-/// Opens a session on a new image of these sizes, of at most `limit` requests, with the calls of each thread.
+/// Opens a session on a new image of these sizes, whose journal has tags of 64 bits where `wide`, of at most `limit` requests, with
+/// the calls of each thread.
 pub fn open_session(
     alloc: Global,
     inodes: u16,
     zones: u16,
     journal: u32,
+    wide: bool,
     limit: u64,
     programs: &call_grammar::Programs,
 ) -> Result<OpenedSession, NoMemory>
@@ -39,17 +41,17 @@ pub fn open_session(
     requires limit { limit + 2 < 2 ^ 32 }
     requires threads { length programs.now < 2 ^ 32 }
     requires short { (i : ℕ) → length (slice_index_or programs.now i []) < 2 ^ 32 }
-    ensures image { IfOk result (λ o. o.image ≡ made_image (geometry_made inodes zones) journal) }
-    ensures host { IfOk result (λ o. o.host ≡ opened_now (geometry_made inodes zones) journal limit programs.now) }
+    ensures image { IfOk result (λ o. o.image ≡ made_image (geometry_made inodes zones) journal wide) }
+    ensures host { IfOk result (λ o. o.host ≡ opened_now (geometry_made inodes zones) journal wide limit programs.now) }
 {
     let (Ok(g), Ok(image)) = (
         Geometry::make(inodes, zones),
-        make_volume(alloc, inodes, zones, journal),
+        make_volume(alloc, inodes, zones, journal, wide),
     ) else {
         return Err(NoMemory);
     };
-    let volume = made_volume(alloc, &g, journal, &image)?;
-    let ring = Ring::make(alloc, &new_journal(journal), limit)?;
+    let volume = made_volume(alloc, &g, journal, wide, &image)?;
+    let ring = Ring::make(alloc, &new_journal(journal, wide), limit)?;
     let pages = Pages::load(alloc, zones.into())?;
     let programs = host_programs(alloc, programs)?;
     let host = Host::make(alloc, volume, pages, ring, programs, limit)?;

@@ -16,11 +16,12 @@ pub fn made_volume(
     alloc: Global,
     g: &Geometry,
     journal: u32,
+    wide: bool,
     image: &Image,
 ) -> Result<PlainVolume, NoMemory>
     requires sound { IsSound g.now }
     requires journal { 0 < journal }
-    requires image { image.now ≡ made_image g.now journal }
+    requires image { image.now ≡ made_image g.now journal wide }
     ensures { IfOk result (λ v. v ≡ made_now g.now) }
 {
     sessions_on_made_images_keep_rules_and_trees();

@@ -97,6 +97,20 @@ events
 round 200
 ";
 
+// The same in a journal whose block numbers have 64 bits.
+pub const REVOKED_WIDE: &str = "\
+volume inodes 32 zones 7 journal 128 tags 64
+thread 1
+mkdir /d
+fsync /d
+rmdir /d
+create /f
+write /f 0 1024 ee
+fsync /f
+events
+round 200
+";
+
 pub const REVOKED_PRINTS: &str = "\
 steps 42
 requests 22

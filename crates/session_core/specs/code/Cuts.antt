@@ -31,10 +31,10 @@ medium_left r = record { image = r.cut.image; origins = r.cut.origins }
 -- what holds of the host of a script's session, and by which steps it came to be
 pub record HostFacts (s : SessionScript) (h : Host VolumeNow Call Reply) : Type 0 where
   pub events : List Event
-  pub host_is : h ≡ made_session (geometry_of s) s.journal s.header.limit s.programs events
+  pub host_is : h ≡ made_session (geometry_of s) s.journal s.wide s.header.limit s.programs events
   pub promises : KeepsPromises (opening_of s) h
   pub ok_causes : (e t : ℕ) (c : Call) → AnsweredAt h e t c → is_data (kind_of c) ≡ false → HasOkCause h e t c
-  pub causes : HaveCauses kind_of s.header.limit (HadCome (made_session (geometry_of s) s.journal s.header.limit s.programs) events) h
+  pub causes : HaveCauses kind_of s.header.limit (HadCome (made_session (geometry_of s) s.journal s.wide s.header.limit s.programs) events) h
   pub follows : FollowsTree (opening_of s) s.programs h
   pub legal : IsLegal (room_of (geometry_of s)) (program_of s.programs) (events_in h.history)
 
@@ -45,9 +45,9 @@ pub record CutFacts (s : SessionScript) (h : Host VolumeNow Call Reply) (m : Med
   pub volume : divided m.image ≡ Ok (geometry_of s)
   pub journal : has_journal (geometry_of s).zones m.image ≡ true
   pub mounts : (v : VolumeState) × (mounted m.image ≡ Ok v)
-  pub counted : found_in (geometry_of s).zones 1 m.image ≡ kept_count (geometry_of s) s.journal h m
-  pub transactions : IsFound (submitted_by (geometry_of s) s.journal [] h) m (kept_count (geometry_of s) s.journal h m)
-  pub tree : (tree : Tree) × (image_tree m.image ≡ Ok tree) × AreAlike (kept_tree (geometry_of s) s.journal h m) tree
-  pub recovered : (closed : List Transaction) → IsRecovered (submitted_by (geometry_of s) s.journal closed h) m (disk_of (recovered_image m.image))
-  pub shown : (closed : List Transaction) (tree : Tree) → KeepsFiles (geometry_of s) s.journal closed h m (disk_of (recovered_image m.image)) → image_tree m.image ≡ Ok tree
-      → (alike : AreAlike (kept_tree (geometry_of s) s.journal h m) tree) → ShowsFiles (geometry_of s) s.journal closed h m tree alike.to
+  pub counted : found_in (geometry_of s).zones 1 m.image ≡ kept_count (geometry_of s) s.journal s.wide h m
+  pub transactions : IsFound (submitted_by (geometry_of s) s.journal s.wide [] h) m (kept_count (geometry_of s) s.journal s.wide h m)
+  pub tree : (tree : Tree) × (image_tree m.image ≡ Ok tree) × AreAlike (kept_tree (geometry_of s) s.journal s.wide h m) tree
+  pub recovered : (closed : List Transaction) → IsRecovered (submitted_by (geometry_of s) s.journal s.wide closed h) m (disk_of (recovered_image m.image))
+  pub shown : (closed : List Transaction) (tree : Tree) → KeepsFiles (geometry_of s) s.journal s.wide closed h m (disk_of (recovered_image m.image)) → image_tree m.image ≡ Ok tree
+      → (alike : AreAlike (kept_tree (geometry_of s) s.journal s.wide h m) tree) → ShowsFiles (geometry_of s) s.journal s.wide closed h m tree alike.to
