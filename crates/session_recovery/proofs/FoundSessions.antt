@@ -29,9 +29,9 @@ use Rattle.session_recovery.specs.Found.{words_from, found_in}
 use Rattle.session_recovery.proofs.Mounted.{counted_as}
 use Rattle.session_recovery.proofs.TailCounts.{none_found, all_found}
 
-module _ (s : Start) (sizes : HasSizes s) (new : IsPlainNow (new_now s.geometry)) (events : List Event) (m : Medium) (cut : IsCutOf s events m) (made : divided (made_image s.geometry s.journal) ≡ Ok s.geometry) where
+module _ (s : Start) (sizes : HasSizes s) (new : IsPlainNow (new_now s.geometry)) (events : List Event) (m : Medium) (cut : IsCutOf s events m) (made : divided (made_image s.geometry s.journal s.wide) ≡ Ok s.geometry) where
   abbrev o : Opening
-  o = made_opening s.geometry s.journal s.quota
+  o = made_opening s.geometry s.journal s.wide s.quota
 
   abbrev sess : Session
   sess = session (over o) (Stands o) (kept_run s sizes new events).sound.rules.0 (host_of s events)
@@ -42,7 +42,7 @@ module _ (s : Start) (sizes : HasSizes s) (new : IsPlainNow (new_now s.geometry)
   is_found : IsFound sess m (kept_transactions s events m)
   is_found = kept_commits_are_prefix cut rules.fits rules.commits
 
-  abbrev super : HasSuper s.geometry s.journal m.image
+  abbrev super : HasSuper s.geometry s.journal s.wide m.image
   super = found_super s sizes new events m cut made
 
   abbrev j : JournalSuper
@@ -56,7 +56,7 @@ module _ (s : Start) (sizes : HasSizes s) (new : IsPlainNow (new_now s.geometry)
   log_size = ap (λ (txs : List Transaction). length txs) (same_log s sizes new events m cut made j super.read)
 
   same_ring : length (log_on s m) ≡ length (log_of sess.format sess.ring sess.journal (disk_of m.image))
-  same_ring = ap (λ (r : Ring). length (log_of format r s.geometry.zones (disk_of m.image))) (sym (kept_run s sizes new events).places_are)
+  same_ring = ap (λ (r : Ring). length (log_of (format s.wide) r s.geometry.zones (disk_of m.image))) (sym (kept_run s sizes new events).places_are)
 
   -- the sequences stay words
   few : j.start ≢ 0 → length (transactions_of s.geometry.zones j m.image) ≤ s.journal
@@ -79,7 +79,7 @@ module _ (s : Start) (sizes : HasSizes s) (new : IsPlainNow (new_now s.geometry)
       word : (f n : ℕ) → n ≡ 1 + f → n < 2 ^ 32 → f ≡ (n + (2 ^ 32 - 1)) % 2 ^ 32
       word f n e lt = omega arith
 
-  pub found_is_kept : found_in s.geometry.zones (new_journal s.journal).sequence m.image ≡ kept_transactions s events m
+  pub found_is_kept : found_in s.geometry.zones (new_journal s.journal s.wide).sequence m.image ≡ kept_transactions s events m
   found_is_kept =
       sym (counted_as s.geometry.zones 1 m.image j (kept_transactions s events m) super.read
       (none_found rules cut is_found tail (found_tail s sizes new events m cut made)) counted)

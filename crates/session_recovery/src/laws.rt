@@ -20,7 +20,7 @@ use session_images::new_volumes_are_in_use;
 /// commit block is on the medium.
 pub fn found_is_what_was_kept()
     ensures { (s : Start) (events : List Event) (m : Medium) → HasSizes s → IsCutOf s events m →
-        found_in s.geometry.zones (new_journal s.journal).sequence m.image ≡ kept_transactions s events m }
+        found_in s.geometry.zones (new_journal s.journal s.wide).sequence m.image ≡ kept_transactions s events m }
 {
     made_images_are_plain();
     new_volumes_are_in_use();
