@@ -66,12 +66,12 @@ pub fn sessions_of_calls_keep_rules_and_trees()
 /// A law, which does nothing when it is called: a session on an image that was made asks for nothing but sizes and for
 /// programs that write bytes.
 pub fn sessions_of_calls_on_made_images()
-    ensures volume { (g : Geometry) (journal quota : ℕ) → IsSound g → LEAST_JOURNAL ≤ journal → journal ≤ MOST_JOURNAL → IsOpenedVolume (made_opening g journal quota) (made_now g) }
-    ensures journal { (g : Geometry) (journal quota limit : ℕ) → IsSound g → LEAST_JOURNAL ≤ journal → journal ≤ MOST_JOURNAL → limit + 2 < 4294967296 →
-        HasEmptyJournal (made_opening g journal quota) (made_ring journal) limit × AreWritten (made_opening g journal quota).format (made_opening g journal quota).writers }
-    ensures kept { (g : Geometry) (journal quota limit : ℕ) (programs : List (List Call)) (events : List Event) →
+    ensures volume { (g : Geometry) (journal : ℕ) (wide : Bool) (quota : ℕ) → IsSound g → LEAST_JOURNAL ≤ journal → journal ≤ MOST_JOURNAL → IsOpenedVolume (made_opening g journal wide quota) (made_now g) }
+    ensures journal { (g : Geometry) (journal : ℕ) (wide : Bool) (quota limit : ℕ) → IsSound g → LEAST_JOURNAL ≤ journal → journal ≤ MOST_JOURNAL → limit + 2 < 4294967296 →
+        HasEmptyJournal (made_opening g journal wide quota) (made_ring journal) limit × AreWritten (made_opening g journal wide quota).format (made_opening g journal wide quota).writers }
+    ensures kept { (g : Geometry) (journal : ℕ) (wide : Bool) (quota limit : ℕ) (programs : List (List Call)) (events : List Event) →
         IsSound g → LEAST_JOURNAL ≤ journal → journal ≤ MOST_JOURNAL → limit + 2 < 4294967296 → WriteBytes programs →
-        KeepsCalls (made_opening g journal quota) (host_behind (made_opening g journal quota) (made_now g) (made_ring journal) limit programs events) }
+        KeepsCalls (made_opening g journal wide quota) (host_behind (made_opening g journal wide quota) (made_now g) (made_ring journal) limit programs events) }
 {
     new_volumes_are_in_use();
 }

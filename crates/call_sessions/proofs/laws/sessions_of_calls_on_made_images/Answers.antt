@@ -1,5 +1,6 @@
 use Rattle.mount_make.specs.Made.{new_journal}
-use Rattle.host_volume.proofs.RealJournal.{journal_written}
+use Rattle.mount_make.proofs.MadeImages.{made_kind}
+use Rattle.host_volume.proofs.RealJournal.{kind_written}
 use Rattle.made_sessions.specs.MadeSessions.{made_now, made_opening, made_ring}
 use Rattle.made_sessions.proofs.MadeJournal.{made_opened, made_empty}
 use Rattle.call_sessions.proofs.CallsKept.{calls_kept}
@@ -7,10 +8,10 @@ use Rattle.call_sessions.proofs.laws.sessions_of_calls_on_made_images.Goals as g
 
 pub returns : goal.returns
 returns c = record {
-  volume = λ g journal quota sound low high. made_opened g sound journal low high quota (c.new_volumes_are_in_use.ensures g sound);
-  journal = λ g journal quota limit sound low high few. (made_empty g sound journal low high quota (c.new_volumes_are_in_use.ensures g sound) limit few, journal_written (new_journal journal));
-  kept = λ g journal quota limit programs events sound low high few bytes.
+  volume = λ g journal wide quota sound low high. made_opened g sound journal wide low high quota (c.new_volumes_are_in_use.ensures g sound);
+  journal = λ g journal wide quota limit sound low high few. (made_empty g sound journal wide low high quota (c.new_volumes_are_in_use.ensures g sound) limit few, kind_written (new_journal journal wide) wide (made_kind journal wide));
+  kept = λ g journal wide quota limit programs events sound low high few bytes.
       let new = c.new_volumes_are_in_use.ensures g sound in
-      calls_kept (made_opening g journal quota) (made_now g) (made_ring journal) limit programs (journal_written (new_journal journal)) (made_opened g sound journal low high quota new)
-      (made_empty g sound journal low high quota new limit few) bytes events;
+      calls_kept (made_opening g journal wide quota) (made_now g) (made_ring journal) limit programs (kind_written (new_journal journal wide) wide (made_kind journal wide)) (made_opened g sound journal wide low high quota new)
+      (made_empty g sound journal wide low high quota new limit few) bytes events;
 }
