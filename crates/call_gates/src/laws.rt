@@ -13,5 +13,5 @@ ghost use Rattle.call_gates.specs.Hindrances.{hindrance_by};
 /// volume, and for the same cause.
 pub fn calls_wait_by_their_parts()
     ensures { (g : Geometry) (u : Setup) (s : Host VolumeNow Call Reply) (c : Call) →
-        machine.hindrance (model_of (λ c. c) g) u s c ≡ hindrance_by u.zmap u.quota s.journal s.volume c }
+        machine.hindrance (model_of (λ c. c) g) u s c ≡ hindrance_by u.writers u.zmap u.quota s.journal s.volume c }
 {}
