@@ -152,13 +152,13 @@ module _ {T V C R : Type 0} (M : Model T V C R) (u : Setup) (s : Host V C R) whe
       goes full x = elim x as (λ _. Turned V C R) [
         | Some p ↦ submits M u full s (send_page M u s p true false)
         | None ↦
-            if nat_lt (ring_free s.journal.ring) (log_needs s.journal.running) then submits M u full s (checkpoint M u s s.journal.ring.homes)
+            if nat_lt (ring_free s.journal.ring) (log_needs u.writers s.journal.running) then submits M u full s (checkpoint M u s s.journal.ring.homes)
             else record { host = build_plan M u s; turn = turns.Did }
       ]
 
       by : (x : Option CachedPage) → Turns (goes true x) (goes false x)
       by (Some p) = submits_agrees _ (page_put p true)
-      by None = both Turns (nat_lt (ring_free s.journal.ring) (log_needs s.journal.running)) _ _ _ _ (submits_agrees _ (checkpoint_sent s.journal.ring.homes)) (Same refl)
+      by None = both Turns (nat_lt (ring_free s.journal.ring) (log_needs u.writers s.journal.running)) _ _ _ _ (submits_agrees _ (checkpoint_sent s.journal.ring.homes)) (Same refl)
 
   plan_put : (p : Plan) (first : Planned) (rest : List Planned) → SubmitsOne s (plan_sent M u s p first rest)
   plan_put p first [] = put first.block first.body true first.barrier (plan_sent M u s p first []) refl

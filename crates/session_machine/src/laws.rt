@@ -1,5 +1,5 @@
 //! The laws, each a public function that does nothing when it is called.
-ghost use Rattle.std.specs.Prelude.{◌≡◌, ◌≤◌, ◌⊎◌, ◌++◌, ℕ, true, false, List, [], Option};
+ghost use Rattle.std.specs.Prelude.{◌≡◌, ◌≤◌, ◌⊎◌, ◌++◌, ℕ, Bool, true, false, List, [], Option};
 ghost use Rattle.blk_base.specs.Members.{In};
 ghost use Rattle.order_model.specs.declared.completion.Completion.{Completion};
 ghost use Rattle.minix_layout.specs.declared.division.Geometry.{Geometry};
@@ -83,8 +83,8 @@ pub fn sessions_keep_order_to_the_medium<S: Scheduler, D: OrderedDev>(dev: &D)
 /// A law, which does nothing when it is called: a session can start on an image that was made, with a scheduler that accepted
 /// nothing and a device that took nothing, which allow as many requests as the session has.
 pub fn sessions_can_start_on_made_images()
-    ensures { (g : Geometry) (journal quota limit capacity : ℕ) (programs : List (List Call)) (p : SchedSeen) (d : Seen) → 1 ≤ journal →
-        IsNew (made_image g journal) limit p d → CanStart (made_opening g journal quota) (made_start g journal limit capacity programs) p d }
+    ensures { (g : Geometry) (journal : ℕ) (wide : Bool) (quota limit capacity : ℕ) (programs : List (List Call)) (p : SchedSeen) (d : Seen) → 1 ≤ journal →
+        IsNew (made_image g journal wide) limit p d → CanStart (made_opening g journal wide quota) (made_start g journal limit capacity programs) p d }
 {}
 
 /// A law, which does nothing when it is called: whether the submission queue is full matters to a step of the host only
