@@ -184,6 +184,47 @@ class Volume:
         self.put_name(directory, names[-1], node)
         node.links += 1
 
+    def rename(self, path, other):
+        names, others = names_of(path), names_of(other)
+        if not names or not others:
+            raise Refused("invalid")
+        node, directory = self.walk(names), self.parent(others)
+        source, target = self.walk(names[:-1]), directory.names.get(others[-1])
+        if node.is_directory and any(self.walk(others[:at]) is node for at in range(len(others))):
+            raise Refused("invalid")
+        self.may_replace(node, target)
+        leaves = directory is not source
+        if node.is_directory and leaves and directory.links >= MOST_LINKS:
+            raise Refused("too many links")
+        # in its own directory the name goes into the slot that it leaves, or one before it
+        if target is None and leaves:
+            self.may_grow(directory, inode=False, zones=0)
+        if target is not node:
+            self.move_name(source, names[-1], directory, others[-1])
+            if node.is_directory and leaves:
+                source.links -= 1
+                directory.links += 1
+
+    @staticmethod
+    def may_replace(node, target):
+        if target is None or target is node:
+            return
+        if target.is_directory:
+            raise Refused("exists" if node.is_directory else "is a directory")
+        if node.is_directory:
+            raise Refused("not a directory")
+
+    def move_name(self, source, name, directory, other):
+        """Takes a name out, and another names its node; a file that had this one keeps no link by it."""
+        node, target = self.take_name(source, name), directory.names.get(other)
+        if target is None:
+            self.put_name(directory, other, node)
+            return
+        directory.names[other] = node
+        target.links -= 1
+        if target.links == 0:
+            del self.nodes[target.number]
+
     def put_bytes(self, path, offset, data):
         node = self.file(path)
         end = offset + len(data)

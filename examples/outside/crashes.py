@@ -4,7 +4,7 @@ from collections import defaultdict, namedtuple
 from calls import BLOCK, Volume, shown
 
 Answer = namedtuple("Answer", "thread line reply")
-CHANGES = ("mkdir", "create", "rmdir", "unlink", "link", "write", "bytes", "truncate")
+CHANGES = ("mkdir", "create", "rmdir", "unlink", "link", "rename", "write", "bytes", "truncate")
 DURABLE = ("fsync", "fdatasync", "sync")
 BARRIERS = ("fbarrier", "fdatabarrier")
 OVER_METADATA = ("fsync", "sync", "fbarrier")
@@ -43,7 +43,7 @@ class History:
     def __init__(self, inodes, zones, answers):
         self.answers = answers
         self.volume = Volume(inodes, zones)
-        self.outlines, self.files = [], []
+        self.outlines, self.files, self.named = [], [], []
         self.versions = defaultdict(list)  # of a file's block: call and body
         self.unmapped = defaultdict(list)  # of a file's block: calls
         self.writes = []  # call, file and block
@@ -55,6 +55,7 @@ class History:
     def note(self):
         lines = [line for line in self.volume.text() if not line.startswith("block ")]
         self.outlines.append(lines)
+        self.named.append({path: node.number for _, path, node, _ in self.volume.rows()})
         rows = enumerate(self.volume.rows())
         self.files.append([(at, node.number, [block for block, _ in shown(node)]) for at, (kind, _, node, _) in rows if kind == "file"])
 
@@ -94,6 +95,14 @@ class History:
         """The calls that one covers for certain: those of its thread before it, or all where there is one thread."""
         thread = self.answers[call - 1].thread
         return [n for n in range(1, call) if self.answers[n - 1].thread == thread]
+
+
+    def file_of(self, call, path):
+        """The node that a call of its thread found at this path; none where another call may have moved it meanwhile."""
+        thread = self.answers[call - 1].thread
+        began = max((n for n in range(1, call) if self.answers[n - 1].thread == thread), default=0)
+        found = {self.named[n].get(path) for n in range(began, call)}
+        return found.pop() if len(found) == 1 else None
 
 
 class Recovery:
@@ -140,8 +149,9 @@ class Recovery:
                 answer = self.history.answers[n - 1]
                 if answer.reply == "ok" and answer.line.split(" ")[0] in CHANGES and n > self.calls:
                     return n
+        synced = None if words[0] == "sync" else self.history.file_of(call, words[1])
         for n, file, block in self.history.writes:
-            is_covered = n in covered and (words[0] == "sync" or self.history.answers[n - 1].line.split(" ")[1] == words[1])
+            is_covered = n in covered and (words[0] == "sync" or file == synced)
             if is_covered and not self.survived(n, (file, block)):
                 return n
         return None

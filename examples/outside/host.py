@@ -9,12 +9,8 @@ FILE_CALLS = ("fbarrier", "fdatabarrier", "fsync", "fdatasync")
 DATA_CALLS = ("fdatabarrier", "fdatasync")
 SYNC_CALLS = ("fsync", "fdatasync", "sync")
 READS = ("read", "list", "stat")
-BODIES, REVOKES = 122, 252  # in a descriptor, and in a revoke block
+LISTED = {32: (122, 252), 64: (82, 126)}  # by the bits of a tag: bodies in a descriptor, and blocks in a revoke block
 MORE_BODIES, MORE_REVOKES = 12, 520  # of the greatest call
-
-
-def log_blocks(bodies, revokes):
-    return -(-revokes // REVOKES) + -(-bodies // BODIES) + bodies + 1
 
 
 class Request:
@@ -60,6 +56,7 @@ class Script:
         lines = [line for line in text.split("\n") if line and not line.startswith("#")]
         words = lines[0].split(" ")
         self.inodes, self.zones, self.journal = int(words[2]), int(words[4]), int(words[6])
+        self.tags = int(words[8]) if words[7:8] == ["tags"] else 32
         self.blocks = self.zones + self.journal
         self.depth, self.queue, self.limit, self.cut, self.elevator = 32, 32, 20_000, None, False
         self.threads, self.events = [], []
@@ -76,6 +73,12 @@ class Script:
                 setattr(self, word, int(rest[0]))
         self.events = [line for line in lines[at + 1 :] if not line.startswith("recover")]
         self.attempts = [line.split(" ")[1:] for line in lines[at + 1 :] if line.startswith("recover")]
+
+
+    def log_blocks(self, bodies, revokes):
+        """The log blocks of a transaction."""
+        in_descriptor, in_revoke = LISTED[self.tags]
+        return -(-revokes // in_revoke) + -(-bodies // in_descriptor) + bodies + 1
 
 
 class Device(blocks.Device):
@@ -207,7 +210,7 @@ class Session:
 
     def fits(self):
         running, script = self.running, self.script
-        most = log_blocks(len(running.blocks) + self.places.maps + MORE_BODIES, len(running.revokes) + MORE_REVOKES)
+        most = script.log_blocks(len(running.blocks) + self.places.maps + MORE_BODIES, len(running.revokes) + MORE_REVOKES)
         return most <= (script.journal - 1) // 4
 
     def may_hinder(self):
@@ -341,7 +344,7 @@ class Session:
             if not self.is_full() and self.submit(unsent[0].zone, unsent[0].body):
                 unsent[0].state = "firm"
             return
-        need = log_blocks(len(self.closing.blocks), len(self.closing.revokes))
+        need = self.script.log_blocks(len(self.closing.blocks), len(self.closing.revokes))
         if self.checkpoint is None and need > self.free:
             self.checkpoint = sorted(self.homes)
         if self.checkpoint is not None:
@@ -380,9 +383,11 @@ class Session:
         present, sequence = self.places.bodies(), closing.number
         closing.bodies = {block: present[block] for block in sorted(closing.blocks)}
         revokes, homes = sorted(closing.revokes), list(closing.bodies)
-        log = [("revoke", sequence, revokes[at : at + REVOKES]) for at in range(0, len(revokes), REVOKES)]
-        for at in range(0, len(homes), BODIES):
-            log += [("descriptor", sequence, homes[at : at + BODIES]), *(present[block] for block in homes[at : at + BODIES])]
+        in_descriptor, in_revoke = LISTED[self.script.tags]
+        log = [("revoke", sequence, revokes[at : at + in_revoke]) for at in range(0, len(revokes), in_revoke)]
+        for at in range(0, len(homes), in_descriptor):
+            listed = homes[at : at + in_descriptor]
+            log += [("descriptor", sequence, listed), *(present[block] for block in listed)]
         return [*log, ("commit", sequence)]
 
     def end_commit(self):

@@ -62,6 +62,7 @@ class Places:
         self.used = {self.first}  # zones in use, and those that wait for a transaction that freed them
         self.nodes = {0: Node(1)}
         self.nodes[0].data = {0: self.first}
+        self.note_parents()
         self.items = self.all_items()
 
     def copied(self):
@@ -78,6 +79,7 @@ class Places:
         reply, change = self.volume.reply(line), Change()
         if reply != "ok":
             return reply, change
+        self.note_parents()
         self.remove_nodes(change)
         self.add_nodes(change)
         for number in self.volume.nodes:
@@ -103,8 +105,15 @@ class Places:
         if name is calls.FREE:
             return 0
         if name in (".", ".."):
-            return name
+            return self.nodes[node.number if name == "." else self.parents[node.number]].inode
         return self.nodes[node.names[name].number].inode
+
+    def note_parents(self):
+        """The directory that names each directory; the root is its own."""
+        self.parents = {0: 0}
+        for number, node in self.volume.nodes.items():
+            if node.is_directory:
+                self.parents |= {child.number: number for child in node.names.values() if child.is_directory}
 
     def take(self, change):
         zone = next(zone for zone in range(self.first, self.zones) if zone not in self.used)

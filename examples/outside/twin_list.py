@@ -42,6 +42,18 @@ twin("calls", "slots-33215", "a directory has at most 33,215 slots", "calls", "M
 twin("calls", "rmdir-keeps-link", "a removed directory leaves its parent's links as they were", "calls", "        directory.links -= 1\n", "")
 twin("calls", "refusal-order", "no inode is tested before the slots and the links", "calls",
      "        if links and directory.links >= MOST_LINKS:", "        if inode and len(self.nodes) >= self.inodes:\n            raise Refused(\"no inode\")\n        if links and directory.links >= MOST_LINKS:")
+twin("calls", "rename-into-itself", "a directory may be moved to below itself once removed", "calls",
+     "any(self.walk(others[:at]) is node for at in range(len(others)))", "directory is node")
+twin("calls", "rename-keeps-links", "a moved directory leaves the links of both parents as they were", "calls", "        if target is not node:\n            self.move_name(", "        leaves = False\n        if target is not node:\n            self.move_name(")
+twin("calls", "rename-kind-first", "a rename over a directory is refused as one of a file", "calls", 'raise Refused("exists" if node.is_directory else "is a directory")', 'raise Refused("is a directory")')
+twin("calls", "rename-takes-slot", "a name that is renamed over a file stands in the slot that it left", "calls",
+     "        directory.names[other] = node\n", "        directory.slots[directory.slots.index(other)] = FREE\n        self.put_name(directory, other, node)\n", kind="cut")
+twin("calls", "rename-keeps-target", "a file whose last name is taken by a rename stays in the volume", "calls", "        if target.links == 0:\n            del self.nodes[target.number]\n", "")
+twin("calls", "rename-needs-room", "a rename in a directory needs room for one more name", "calls", "if target is None and leaves:", "if target is None:")
+twin("calls", "rename-onto-itself", "a rename of two names of one file takes the first one away", "calls", "        if target is not node:\n            self.move_name(", "        if target is not node or names != others:\n            self.move_name(")
+twin("calls", "dots-stay", "a moved directory keeps its name for its parent", "places",
+     "self.parents |= {child.number: number for child in node.names.values() if child.is_directory}",
+     "self.parents |= {child.number: vars(self).get(\"parents\", {}).get(child.number, number) for child in node.names.values() if child.is_directory}")
 twin("calls", "zones-of-mkdir", "a new directory takes its own zone last", "places",
      "                    self.nodes[number].data[0] = self.take(change)\n",
      "                    zone = next(zone for zone in reversed(range(self.first, self.zones)) if zone not in self.used)\n"
@@ -126,7 +138,7 @@ twin("recovery", "tail-next", "the superblock of a checkpoint begins one block a
      '("super", self.closing.number, self.head)', '("super", self.closing.number, self.head % (self.script.journal - 1) + 1)')
 twin("recovery", "commit-no-barrier", "the request before the commit block is no barrier", "host", "at >= len(puts) - 2)", "at >= len(puts) - 1)")
 twin("recovery", "revokes-not-written", "a transaction has no revoke blocks", "host",
-     'log = [("revoke", sequence, revokes[at : at + REVOKES]) for at in range(0, len(revokes), REVOKES)]', "log = []")
+     'log = [("revoke", sequence, revokes[at : at + in_revoke]) for at in range(0, len(revokes), in_revoke)]', "log = []")
 twin("recovery", "revokes-not-read", "recovery does as if there were no revokes", "recovery",
      "            for block in revokes:\n                found.pop(block, None)\n", "")
 twin("recovery", "revoke-not-own", "a revoke cancels the bodies of earlier transactions, and not those of its own", "recovery",
@@ -142,8 +154,11 @@ twin("recovery", "half-transaction", "a transaction without its commit block cou
      ' or block[1] != expected:\n                return\n', ' or block[1] != expected:\n                if bodies:\n                    self.transactions.append((bodies, revokes))\n                return\n')
 twin("recovery", "no-wrap", "the log ends where the journal ends", "recovery",
      "while at < self.length:", "while self.start - 1 + at < self.length:")
-twin("recovery", "descriptor-121", "a descriptor has at most 121 bodies", "host", "BODIES, REVOKES = 122, 252", "BODIES, REVOKES = 121, 252", kind="session")
-twin("recovery", "revokes-251", "a revoke block has at most 251 numbers", "host", "BODIES, REVOKES = 122, 252", "BODIES, REVOKES = 122, 251", kind="session")
+twin("recovery", "descriptor-121", "a descriptor has at most 121 bodies", "host", "32: (122, 252)", "32: (121, 252)", kind="session")
+twin("recovery", "wide-descriptor-81", "a descriptor with wide tags has at most 81 bodies", "host", "64: (82, 126)", "64: (81, 126)", kind="session")
+twin("recovery", "wide-descriptor-122", "a descriptor with wide tags has as many bodies as one with narrow ones", "host", "64: (82, 126)", "64: (122, 126)", kind="session")
+twin("recovery", "wide-revokes-125", "a wide revoke block has at most 125 numbers", "host", "64: (82, 126)", "64: (82, 125)", kind="session")
+twin("recovery", "revokes-251", "a revoke block has at most 251 numbers", "host", "32: (122, 252)", "32: (122, 251)", kind="session")
 twin("recovery", "attempt-no-barrier", "the last body that recovery sends home is no barrier", "recovery",
      "Put(at, block, body, at == len(homes) - 1)", "Put(at, block, body, False)")
 twin("recovery", "attempt-falls", "recovery sends the bodies home in falling order", "recovery",

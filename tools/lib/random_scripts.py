@@ -86,7 +86,7 @@ def path(rng):
 
 def call(rng, offsets, value, place=None):
     word = rng.choice(
-        "mkdir mkdir create create create rmdir unlink link write write write write bytes truncate read list stat "
+        "mkdir mkdir create create create rmdir unlink link rename rename write write write write bytes truncate read list stat "
         "fbarrier fdatabarrier fsync fdatasync sync".split()
     )
     place, offset = place or path(rng), rng.choice(offsets)
@@ -98,6 +98,7 @@ def call(rng, offsets, value, place=None):
         "truncate": f"truncate {place} {rng.choice([0, 1, 1000, 1024, 2048, 7168, 7000, offset])}",
         "read": f"read {place} {offset} {length}",
         "link": f"link {place} {path(rng)}",
+        "rename": f"rename {place} {path(rng)}",
     }.get(word, f"{word} {place}")
 
 
@@ -107,15 +108,20 @@ FAR = [*NEAR, 7165, 20_000, 531_446, 531_456, 1_054_288, 268_966_900, 268_966_91
 
 def many_names(rng):
     """Calls past a limit: the links of a file or of a directory, or the zones that an inode names itself."""
-    kind, count = rng.choice(["links", "directories", "slots", "far", "numbers", "numbers"]), rng.randint(248, 253)
+    kind, count = rng.choice(["links", "directories", "slots", "moves", "far", "numbers", "numbers"]), rng.randint(248, 253)
     if kind == "numbers":
         # as many bodies as a descriptor has, or as many zones of numbers that are freed as a revoke block has
-        count, more = rng.choice([(rng.randint(116, 118), []), (rng.randint(249, 251), ["write /a 7168 1 11"])])
+        count, more = rng.choice([
+            (rng.randint(116, 118), []), (rng.randint(76, 78), []),
+            (rng.randint(249, 251), ["write /a 7168 1 11"]), (rng.randint(123, 125), ["write /a 7168 1 11"]),
+        ])
         return ["create /a", *more, *(f"write /a {1024 * (519 + 512 * at)} 1 22" for at in range(count)), "sync", "unlink /a"]
     if kind == "far":
         places = rng.sample([6, 7, 518, 519, 1030, 1031, 2000], rng.randint(1, 3))
         lines = ["create /a", "create /b", *(f"write /a {1024 * at} 1 {at % 256:02x}" for at in places)]
         return [*lines, *(f"write /b {1024 * at} 1024 66" for at in range(40)), f"truncate /a {1024 * places[0]}", "write /b 50000 1024 67"]
+    if kind == "moves":
+        return moved_names(rng)
     if kind == "directories":
         return ["mkdir /m", *(f"mkdir /m/{at}" for at in range(count)), "stat /m", "rmdir /m/7", "mkdir /m/new", "stat /m"]
     lines = ["mkdir /m", "create /m/0", *(f"link /m/0 /m/{at}" for at in range(1, count)), "stat /m/0"]
@@ -125,13 +131,29 @@ def many_names(rng):
     return [*lines, "unlink /m/3", "create /m/new", "stat /m"]
 
 
+def moved_names(rng):
+    """Renames into directories that are nearly full: of links, or of slots in their last block."""
+    if rng.random() < 0.5:
+        count = rng.randint(246, 249)
+        return ["mkdir /m", *(f"mkdir /m/{at}" for at in range(count)), "mkdir /x", "create /y", "mkdir /z",
+                "rename /x /m/x", "rename /y /m/y", "rename /z /m/z", "rename /m/3 /w", "rename /z /m/z", "stat /m", "stat /"]
+    count = rng.choice([61, 62, 63, 125, 126])
+    moves = [f"rename /m/{rng.randrange(count)} /{rng.choice(['m/', '', 'k/'])}{rng.choice('pqrs')}" for _ in range(rng.randint(5, 30))]
+    return ["create /p", "mkdir /m", "mkdir /k", "create /m/0", *(f"link /m/0 /m/{at}" for at in range(1, count)), *moves, "stat /m", "stat /k"]
+
+
+def first_line(rng, inodes, zones, journal):
+    return f"volume inodes {inodes} zones {zones} journal {journal}{rng.choice(['', '', ' tags 64'])}"
+
+
 def stack_lines(rng):
     return ["elevator", f"depth {rng.choice(SIZES)}", f"queue {rng.choice(SIZES)}"]
 
 
 def session_script(rng):
     """Calls of one thread, which all become durable, and the volume's sizes."""
-    inodes, zones = rng.choice([1, 3, 8, 40]), rng.choice([10, 14, 30, 80, 300, 2000])
+    inodes, zones = rng.choice([1, 3, 8, 32, 40, 96, 255]), rng.choice([10, 14, 30, 80, 300, 2000])
+    zones += 8 * (inodes > 40)
     offsets = FAR if rng.random() < 0.3 else NEAR
     lines = [call(rng, offsets, rng.randrange(256)) for _ in range(rng.choice([3, 20, 60, 120]))]
     chosen = rng.random()
@@ -140,7 +162,8 @@ def session_script(rng):
         lines = many_names(rng) + lines[:20]
     elif chosen < 0.2:
         lines = ["create /a", "create /b", *(on_a_file(rng) for _ in range(rng.choice([10, 40])))]
-    script = [f"volume inodes {inodes} zones {zones} journal {rng.choice([128, 200, 1000, 2000])}", *header(rng, stack_lines(rng)), "limit 200000"]
+    first = first_line(rng, inodes, zones, rng.choice([128, 200, 1000, 2000]))
+    script = [first, *header(rng, stack_lines(rng)), "limit 200000"]
     script += ["thread 1", *lines, "sync", "events", "round 60000"]
     return "\n".join(script) + "\n"
 
@@ -180,7 +203,7 @@ def call_of(rng, kind, place, value):
         return rng.choice([*changes, f"unlink {place}", f"create {place}"])
     if rng.random() < 0.5:
         return f"{rng.choice(['fbarrier', 'fbarrier', 'fbarrier', 'fsync', 'fdatabarrier', 'fdatasync'])} {place}"
-    return rng.choice([*changes, f"mkdir {one_name(rng)}", f"rmdir {one_name(rng)}"])
+    return rng.choice([*changes, f"mkdir {one_name(rng)}", f"rmdir {one_name(rng)}", f"rename {place} {rng.choice(['/a', '/b'])}"])
 
 
 def session_events(rng, threads):
@@ -219,7 +242,7 @@ def cut_script(rng):
     lines = stack_lines(rng)
     if kind != "long" or rng.random() < 0.3:
         lines += [f"cut {rng.randint(0, rng.choice([20, 60, 150, 600]))}", f"limit {rng.randint(1, rng.choice([30, 100]))}"]
-    script = [f"volume inodes {inodes} zones {zones} journal {rng.choice([128, 128, 256])}", *header(rng, lines)]
+    script = [first_line(rng, inodes, zones, rng.choice([128, 128, 256])), *header(rng, lines)]
     # Most have two files from the start, so that there is something to lose.
     files, values = ["/a", "/b"] if rng.random() < 0.8 else [], itertools.count()
     for thread in range(1, threads + 1):
