@@ -5,7 +5,9 @@ use Rattle.std.proofs.lemmas.Option.{none-some}
 use Rattle.tree_model.specs.declared.call.Call.{Call}
 use Rattle.tree_model.specs.declared.call.Call.TheVariants as calls
 use Rattle.tree_model.specs.Calls.{Row, outcome}
+use Rattle.tx_running.specs.Closing.{writers}
 use Rattle.tx_running.specs.Open.{quota}
+use Rattle.tx_running.specs.Plan.{Writers}
 use Rattle.tx_running.specs.Running.{fits_in, log_needs}
 use Rattle.flush_actor.specs.Kinds.{is_reading}
 use Rattle.commit_actor.specs.Actor.{CommitActor}
@@ -40,14 +42,14 @@ open_gate true false false lacks full waits e is = absurd (none-some full (sym e
 open_gate true false true true full waits e is = absurd (none-some waits (sym e))
 open_gate true false true false full waits e is = refl
 
-enough_free : (zmap most : ℕ) (j : JournalPart) (v : VolumeNow) (c : Call) → hindrance_by zmap most j v c ≡ None → would_change v c ≡ true → nat_lt (length (zones_of v).free) (needed v c) ≡ false
-enough_free zmap most j v c none changes =
-    open_gate (would_change v c) (is_closing j.phase) (fits_in zmap most j.running) (nat_lt (length (zones_of v).free) (needed v c))
-    (causes.TxFull (log_needs j.running)) (causes.Quarantine (needed v c - length (zones_of v).free)) none changes
+enough_free : (w : Writers) (zmap most : ℕ) (j : JournalPart) (v : VolumeNow) (c : Call) → hindrance_by w zmap most j v c ≡ None → would_change v c ≡ true → nat_lt (length (zones_of v).free) (needed v c) ≡ false
+enough_free w zmap most j v c none changes =
+    open_gate (would_change v c) (is_closing j.phase) (fits_in w zmap most j.running) (nat_lt (length (zones_of v).free) (needed v c))
+    (causes.TxFull (log_needs w j.running)) (causes.Quarantine (needed v c - length (zones_of v).free)) none changes
 
 pub room_found : (a : CommitActor) (v : VolumeNow) (n number : ℕ) (c : Call) → IsPlainNow v → refusal v c ≡ None → hindrance_of a v c ≡ None → number ≡ number_in (tree_of_now v) n → FindsRoom v number c
 room_found a v n number c plain refused none e =
-    subst (λ k. FindsRoom v k c) (sym e) (finds_room v plain n c refused (enough_free v.geometry.zmap (quota a.made_with) a.part v c none))
+    subst (λ k. FindsRoom v k c) (sym e) (finds_room v plain n c refused (enough_free (writers a.made_with) v.geometry.zmap (quota a.made_with) a.part v c none))
 
 -- ---- how much it tells
 

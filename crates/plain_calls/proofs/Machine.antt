@@ -75,8 +75,8 @@ module _ (g : Geometry) (u : Setup) (s : Host VolumeNow Call Reply) (t : ℕ) (c
 
   -- ---- the step
 
-  pub plain_is : after (steps_plainly u.zmap u.quota p n c) ≡ machine.plain m u s t c rest
-  plain_is = by (hindrance_by u.zmap u.quota s.journal s.volume c)
+  pub plain_is : after (steps_plainly u.writers u.zmap u.quota p n c) ≡ machine.plain m u s t c rest
+  plain_is = by (hindrance_by u.writers u.zmap u.quota s.journal s.volume c)
     where
       by : (o : Option Cause) → after (elim o as (λ _. Went) [ Some cause ↦ hinders p cause | None ↦ does p n c ])
           ≡ elim o as (λ _. Stepped VolumeNow Call Reply) [

@@ -4,6 +4,7 @@ use Rattle.std.specs.Prelude.{ℕ, List, length, nat_lt, Some, None, if◌then�
 use Rattle.tree_model.specs.declared.call.Call.{Call}
 use Rattle.tree_model.specs.declared.call.Reply.{Reply}
 use Rattle.page_cache.specs.declared.cached_page.CachedPage.{CachedPage}
+use Rattle.tx_running.specs.Plan.{Writers}
 use Rattle.tx_running.specs.Running.{wanted_one}
 use Rattle.flush_actor.specs.Part.{at_limit}
 use Rattle.commit_actor.specs.Journal.{JournalPart}
@@ -70,5 +71,5 @@ hinders p cause =
 
 -- The step of a call that nothing refuses, as entry n, on a volume with so many blocks of the zone bitmap whose
 -- transactions may have so many log blocks.
-abbrev pub steps_plainly : ℕ → ℕ → CallParts → ℕ → Call → Went
-steps_plainly zmap most p n c = elim (hindrance_by zmap most p.journal p.volume c) as (λ _. Went) [ Some cause ↦ hinders p cause | None ↦ does p n c ]
+abbrev pub steps_plainly : Writers → ℕ → ℕ → CallParts → ℕ → Call → Went
+steps_plainly w zmap most p n c = elim (hindrance_by w zmap most p.journal p.volume c) as (λ _. Went) [ Some cause ↦ hinders p cause | None ↦ does p n c ]

@@ -18,7 +18,7 @@ ghost use Rattle.plain_calls.specs.Steps.{steps_plainly};
 pub fn plain_calls_step_on_their_parts()
     ensures { (g : Geometry) (u : Setup) (s : Host VolumeNow Call Reply) (t : ℕ) (c : Call) (rest : List Call) →
         let m = model_of (λ (x : Call). x) g in
-        after_going m u s t c rest (steps_plainly u.zmap u.quota (parts_in s) (length s.history + 1) c) ≡ machine.plain m u s t c rest }
+        after_going m u s t c rest (steps_plainly u.writers u.zmap u.quota (parts_in s) (length s.history + 1) c) ≡ machine.plain m u s t c rest }
 {}
 
 /// A law, which does nothing when it is called: what refuses a call and what a call is answered are replies of the tree.

@@ -1,5 +1,6 @@
 //! One step of a plain call.
 ghost use Rattle.std.specs.Prelude.{◌≡◌, None, IfOk, OnErr};
+ghost use Rattle.tx_running.specs.Closing.{writers};
 ghost use Rattle.tx_running.specs.Open.{quota};
 ghost use Rattle.call_effects.specs.Effects.{with_part};
 ghost use Rattle.call_gates.specs.Hindrances.{hindrance_of};
@@ -77,7 +78,7 @@ pub fn step_plainly(
     requires blocks { journal.old.blocks ≡ volume.old.geometry.zones }
     ensures step { IfOk result (λ p.
         record { parts = record { journal = journal.new.part; volume = volume.new; pages = pages.new.pages; owners = owners.new.items }; progress = progress_is p } ≡
-        steps_plainly volume.old.geometry.zmap (quota journal.old.made_with)
+        steps_plainly (writers journal.old.made_with) volume.old.geometry.zmap (quota journal.old.made_with)
         (record { journal = journal.old.part; volume = volume.old; pages = pages.old.pages; owners = owners.old.items }) number call.now) }
     ensures err { OnErr result ((journal.new.part ≡ journal.old.part) × (volume.new ≡ volume.old) × (pages.new.pages ≡ pages.old.pages) × (owners.new.items ≡ owners.old.items)) }
     ensures same { journal.new ≡ with_part journal.old journal.new.spare journal.new.part }
