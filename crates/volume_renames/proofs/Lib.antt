@@ -1,0 +1,11 @@
+pub mod Parts
+pub mod NameMaps
+pub mod Taking
+pub mod Leading
+pub mod Across
+pub mod Below
+pub mod Within
+pub mod Replaced
+pub mod RenameCases
+pub mod Callers
+pub mod NamesPut

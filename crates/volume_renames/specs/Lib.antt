@@ -1,0 +1,4 @@
+-- What renames are and ask, where both paths have led.
+pub mod Renamed
+pub mod May
+pub mod code
