@@ -6,6 +6,7 @@ use Rattle.page_cache.specs.Pages.{Cache}
 use Rattle.tree_model.specs.declared.call.Call.{Call}
 use Rattle.tree_model.specs.declared.call.Reply.{Reply}
 use Rattle.journal_blocks.specs.declared.super_block.JournalSuper.{JournalSuper}
+use Rattle.tx_running.specs.Closing.{writers}
 use Rattle.tx_running.specs.Open.{quota}
 use Rattle.volume_steps.specs.Now.{VolumeNow}
 use Rattle.commit_actor.specs.Actor.{CommitActor}
@@ -111,7 +112,7 @@ module _ (j : CommitActor) (v : VolumeNow) (ps : Cache) (owners cuts : List ℕ)
   pub advanced_is : IsPlainLaw → IsBegunLaw → (k l : CommitActor) (w : VolumeNow) (qs : Cache) (taken : List ℕ) (entries : List Entry) (old new : Thread) (c : Call) (n : ℕ) (f : Found) (answer : Step)
       → slice_get th.program.items th.ended ≡ Some c → n ≡ length h + 1 → old ≡ th
       → (let x : Went = record { parts = record { journal = k.part; volume = w; pages = qs.pages; owners = taken }; progress = progress_is (list_of th.begun) f } in x)
-      ≡ steps_call (is_queue_full f) v.geometry.zmap (quota j.made_with) parts n at th.begun c
+      ≡ steps_call (is_queue_full f) (writers j.made_with) v.geometry.zmap (quota j.made_with) parts n at th.begun c
       → found_queue_full answer ≡ is_queue_full f → Settles k l w qs taken entries new f answer old
       → IfStepped answer (λ a. (let y : Stepped VolumeNow Call Reply = record { host = (host_of l w qs taken entries cuts (set ts at new)).host; step = a } in y)
       ≡ machine.advance (model_now now) (setup_now now) (found_queue_full answer) now.host at)
@@ -123,8 +124,8 @@ module _ (j : CommitActor) (v : VolumeNow) (ps : Cache) (owners cuts : List ℕ)
       stepped_weaker answer _ _ (λ a e.
       e
       ∙ ap after step
-      ∙ ap (λ x. after (steps_call (is_queue_full f) v.geometry.zmap (quota j.made_with) parts x at th.begun c)) count
-      ∙ ap (λ x. after (steps_call x v.geometry.zmap (quota j.made_with) parts (length now.host.history + 1) at th.begun c)) (sym full)
+      ∙ ap (λ x. after (steps_call (is_queue_full f) (writers j.made_with) v.geometry.zmap (quota j.made_with) parts x at th.begun c)) count
+      ∙ ap (λ x. after (steps_call x (writers j.made_with) v.geometry.zmap (quota j.made_with) parts (length now.host.history + 1) at th.begun c)) (sym full)
       ∙ step_is law begun_law v.geometry (setup_now now) (found_queue_full answer) now.host at c rest th.begun
       ∙ thread_is (found_queue_full answer) c rest next.calls) (subst (Settles k l w qs taken entries new f answer) same done c rest next)
 

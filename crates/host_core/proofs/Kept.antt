@@ -12,6 +12,7 @@ use Rattle.commit_actor.specs.Calls.{with_flush}
 use Rattle.commit_actor.specs.Journal.{JournalPart}
 use Rattle.flush_actor.specs.Part.{FlushPart}
 use Rattle.flush_actor.specs.declared.wait.Wait.{Wait}
+use Rattle.tx_running.specs.Plan.{Writers}
 use Rattle.host_machine.specs.State.{Begun}
 use Rattle.begun_calls.specs.Steps.{Gone, goes_on, keeps_all}
 use Rattle.plain_calls.specs.Steps.{with_part, Progress, Went, steps_plainly}
@@ -72,10 +73,10 @@ going_kept old new full t w b part pages x is e same volume = record {
 }
 
 -- and a plain call's
-pub plain_kept : (old new : Parts) (zmap most n : ℕ) (c : Call) (x : Progress) → (let w : Went = record { parts = parts_now new; progress = x } in w) ≡ steps_plainly zmap most (parts_now old) n c
+pub plain_kept : (old new : Parts) (writers : Writers) (zmap most n : ℕ) (c : Call) (x : Progress) → (let w : Went = record { parts = parts_now new; progress = x } in w) ≡ steps_plainly writers zmap most (parts_now old) n c
     → new.journal ≡ with_part old.journal new.journal.spare new.journal.part → KeepsHost old new
-plain_kept old new zmap most n c x e same =
-    let silent = plainly_silent zmap most (parts_now old) n c in
+plain_kept old new writers zmap most n c x e same =
+    let silent = plainly_silent writers zmap most (parts_now old) n c in
     record {
       made_with = ap (λ (a : CommitActor). a.made_with) same;
       journal = ap (λ (a : CommitActor). a.journal) same;

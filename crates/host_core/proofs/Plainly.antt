@@ -9,6 +9,7 @@ use Rattle.flush_actor.specs.Part.{at_limit}
 use Rattle.volume_steps.specs.Now.{Change, tree_of_now, unchanged}
 use Rattle.volume_steps.specs.Calls.{called, Called}
 use Rattle.volume_steps.specs.Numbers.{number_in}
+use Rattle.tx_running.specs.Plan.{Writers}
 use Rattle.host_machine.specs.Causes as causes
 use Rattle.host_machine.specs.Causes.{Cause}
 use Rattle.host_machine.specs.Model.{Freed}
@@ -27,7 +28,7 @@ pub record IsSilent (p q : CallParts) : Type 0 where
 abbrev same : {p : CallParts} → IsSilent p p
 same = record { requests = refl; waits = refl; geometry = refl }
 
-module _ (zmap most : ℕ) (p : CallParts) (n : ℕ) (c : Call) where
+module _ (writers : Writers) (zmap most : ℕ) (p : CallParts) (n : ℕ) (c : Call) where
   abbrev call : Called
   call = called p.volume (number_in (tree_of_now p.volume) n) p.journal.running.number c
 
@@ -54,8 +55,8 @@ module _ (zmap most : ℕ) (p : CallParts) (n : ℕ) (c : Call) where
   does_silent : IsSilent p (does p n c).parts
   does_silent = record { requests = refl; waits = refl; geometry = called_same p.volume (number_in (tree_of_now p.volume) n) p.journal.running.number c }
 
-  pub plainly_silent : IsSilent p (steps_plainly zmap most p n c).parts
-  plainly_silent = by (hindrance_by zmap most p.journal p.volume c)
+  pub plainly_silent : IsSilent p (steps_plainly writers zmap most p n c).parts
+  plainly_silent = by (hindrance_by writers zmap most p.journal p.volume c)
     where
       by : (o : Option Cause) → IsSilent p (let w : Went = elim o as (λ _. Went) [ Some cause ↦ hinders p cause | None ↦ does p n c ] in w.parts)
       by (Some cause) = hinders_silent cause
@@ -73,8 +74,8 @@ module _ (zmap most : ℕ) (p : CallParts) (n : ℕ) (c : Call) where
   nothing_done = ap (λ (xs : List ℕ). record p { journal = record p.journal { running = record p.journal.running { touched = xs } } }) (kept_all p.journal.running.touched)
 
   -- a call that was answered was done, so this holds of its reply and of what it left
-  answered_by : (q : CallParts) (reply : Reply) → (let w : Went = record { parts = q; progress = Answered reply } in w) ≡ steps_plainly zmap most p n c → (q ≡ (does p n c).parts) × (reply ≡ call.reply)
-  answered_by q reply e = by (hindrance_by zmap most p.journal p.volume c) e
+  answered_by : (q : CallParts) (reply : Reply) → (let w : Went = record { parts = q; progress = Answered reply } in w) ≡ steps_plainly writers zmap most p n c → (q ≡ (does p n c).parts) × (reply ≡ call.reply)
+  answered_by q reply e = by (hindrance_by writers zmap most p.journal p.volume c) e
     where
       told : Progress → Reply → Reply
       told (Answered r) other = r
@@ -93,7 +94,7 @@ module _ (zmap most : ℕ) (p : CallParts) (n : ℕ) (c : Call) where
       by None e = (ap (λ w. w.parts) e, ap (λ w. told w.progress reply) e)
 
   -- one with a list leaves all as it was
-  pub list_still : (q : CallParts) (reply : Reply) → (let w : Went = record { parts = q; progress = Answered reply } in w) ≡ steps_plainly zmap most p n c → has_list reply ≡ true → q ≡ p
+  pub list_still : (q : CallParts) (reply : Reply) → (let w : Went = record { parts = q; progress = Answered reply } in w) ≡ steps_plainly writers zmap most p n c → has_list reply ≡ true → q ≡ p
   list_still q reply e h =
       let d = answered_by q reply e in
       d.0 ∙ ap with_change (list_keeps p.volume (number_in (tree_of_now p.volume) n) p.journal.running.number c (sym (ap has_list d.1) ∙ h)) ∙ nothing_done

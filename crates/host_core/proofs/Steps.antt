@@ -31,7 +31,7 @@ model g = model_of (λ (x : Call). x) g
 -- a step of a plain call is the machine's
 abbrev pub IsPlainLaw : Type 0
 IsPlainLaw = (g : Geometry) (u : Setup) (s : Host VolumeNow Call Reply) (t : ℕ) (c : Call) (rest : List Call)
-    → plain.after_going (model g) u s t c rest (steps_plainly u.zmap u.quota (parts_in s) (length s.history + 1) c) ≡ machine.plain (model g) u s t c rest
+    → plain.after_going (model g) u s t c rest (steps_plainly u.writers u.zmap u.quota (parts_in s) (length s.history + 1) c) ≡ machine.plain (model g) u s t c rest
 
 -- a begun call asks nothing of the trees
 abbrev other_trees : Geometry → Model ℕ VolumeNow Call Reply
@@ -80,18 +80,18 @@ module _ (law : IsPlainLaw) (begun_law : IsBegunLaw) (g : Geometry) (u : Setup) 
   plain_same p plain_steps.Full = refl
   plain_same p (plain_steps.Waits cause) = refl
 
-  plain_is : after None (went_plainly (steps_plainly u.zmap u.quota (parts_in s) (length s.history + 1) c)) ≡ machine.plain (model g) u s t c rest
+  plain_is : after None (went_plainly (steps_plainly u.writers u.zmap u.quota (parts_in s) (length s.history + 1) c)) ≡ machine.plain (model g) u s t c rest
   plain_is =
-      let w = steps_plainly u.zmap u.quota (parts_in s) (length s.history + 1) c in
+      let w = steps_plainly u.writers u.zmap u.quota (parts_in s) (length s.history + 1) c in
       plain_same w.parts w.progress ∙ law g u s t c rest
 
-  started_is : after None (starts u.zmap u.quota (parts_in s) (length s.history + 1) c) ≡ machine.step_call (model g) u full s t None c rest
+  started_is : after None (starts u.writers u.zmap u.quota (parts_in s) (length s.history + 1) c) ≡ machine.step_call (model g) u full s t None c rest
   started_is = by (refusal s.volume c) (is_begun (kind_of c))
     where
       by : (o : Option Reply) (b : Bool) →
           after None (elim o as (λ _. Went) [
             | Some reply ↦ record { parts = parts_in s; progress = Over (Answered reply) }
-            | None ↦ if b then record { parts = parts_in s; progress = Opened (begins_at (parts_in s) (length s.history + 1) c) } else went_plainly (steps_plainly u.zmap u.quota (parts_in s) (length s.history + 1) c)
+            | None ↦ if b then record { parts = parts_in s; progress = Opened (begins_at (parts_in s) (length s.history + 1) c) } else went_plainly (steps_plainly u.writers u.zmap u.quota (parts_in s) (length s.history + 1) c)
           ])
           ≡ elim o as (λ _. Stepped VolumeNow Call Reply) [
             | Some refused ↦ machine.end_with (model g) u s t c rest (Answered refused)
@@ -101,7 +101,7 @@ module _ (law : IsPlainLaw) (begun_law : IsBegunLaw) (g : Geometry) (u : Setup) 
       by None true = refl
       by None false = plain_is
 
-  further_is : (b : Option Begun) → after b (goes_further full u.zmap u.quota (parts_in s) (length s.history + 1) t b c) ≡ machine.step_call (model g) u full s t b c rest
+  further_is : (b : Option Begun) → after b (goes_further full u.writers u.zmap u.quota (parts_in s) (length s.history + 1) t b c) ≡ machine.step_call (model g) u full s t b c rest
   further_is None = started_is
   further_is (Some b) =
       let w = slice_index_or s.journal.flush.waits t no_wait in
@@ -109,11 +109,11 @@ module _ (law : IsPlainLaw) (begun_law : IsBegunLaw) (g : Geometry) (u : Setup) 
       begun_same b gone.part gone.pages gone.progress ∙ begun_law (other_trees g) u full s t c rest w b
 
   -- a step of a thread whose call is there
-  pub step_is : (b : Option Begun) → after b (steps_call full u.zmap u.quota (parts_in s) (length s.history + 1) t b c) ≡ machine.step_thread (model g) u full s t b (c ∷ rest)
+  pub step_is : (b : Option Begun) → after b (steps_call full u.writers u.zmap u.quota (parts_in s) (length s.history + 1) t b c) ≡ machine.step_thread (model g) u full s t b (c ∷ rest)
   step_is b = by (stop_of s.journal.flush.taken (kind_of c))
     where
       by : (o : Option (Ending Reply)) →
-          after b (elim o as (λ _. Went) [ Some stop ↦ record { parts = parts_in s; progress = Over stop } | None ↦ goes_further full u.zmap u.quota (parts_in s) (length s.history + 1) t b c ])
+          after b (elim o as (λ _. Went) [ Some stop ↦ record { parts = parts_in s; progress = Over stop } | None ↦ goes_further full u.writers u.zmap u.quota (parts_in s) (length s.history + 1) t b c ])
           ≡ elim o as (λ _. Stepped VolumeNow Call Reply) [ Some stop ↦ machine.end_with (model g) u s t c rest stop | None ↦ machine.step_call (model g) u full s t b c rest ]
       by (Some (Answered r)) = refl
       by (Some Down) = refl

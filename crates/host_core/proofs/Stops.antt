@@ -3,6 +3,7 @@ use Rattle.std.proofs.Common.{◌≡◌, ℕ, Bool, List, Option, Some, None, sy
 use Rattle.std.specs.Option.{option_map}
 use Rattle.tree_model.specs.declared.call.Call.{Call}
 use Rattle.tree_model.specs.declared.call.Reply.{Reply}
+use Rattle.tx_running.specs.Plan.{Writers}
 use Rattle.host_machine.specs.State.{Ending, Begun}
 use Rattle.host_volume.specs.Calls.{kind_of}
 use Rattle.plain_calls.specs.Steps.{CallParts}
@@ -13,7 +14,7 @@ nothing : (list : List (ℕ × ℕ)) (o : Option Found) (stop : Option (Ending R
 nothing list o None none e = cc
 nothing list o (Some x) none e = let same : option_map (progress_is list) None ≡ Some (Over x) = ap (option_map (progress_is list)) (sym none) ∙ e in cc
 
-pub unstopped : (full : Bool) (zmap most : ℕ) (p : CallParts) (n t : ℕ) (b : Option Begun) (c : Call) (list : List (ℕ × ℕ)) (o : Option Found)
-    → o ≡ None → option_map (progress_is list) o ≡ option_map Over (stop_of p.journal.flush.taken (kind_of c)) → goes_further full zmap most p n t b c ≡ steps_call full zmap most p n t b c
-unstopped full zmap most p n t b c list o none e =
-    ap (λ x. elim x as (λ _. Went) [ Some stop ↦ record { parts = p; progress = Over stop } | None ↦ goes_further full zmap most p n t b c ]) (sym (nothing list o (stop_of p.journal.flush.taken (kind_of c)) none e))
+pub unstopped : (full : Bool) (w : Writers) (zmap most : ℕ) (p : CallParts) (n t : ℕ) (b : Option Begun) (c : Call) (list : List (ℕ × ℕ)) (o : Option Found)
+    → o ≡ None → option_map (progress_is list) o ≡ option_map Over (stop_of p.journal.flush.taken (kind_of c)) → goes_further full w zmap most p n t b c ≡ steps_call full w zmap most p n t b c
+unstopped full w zmap most p n t b c list o none e =
+    ap (λ x. elim x as (λ _. Went) [ Some stop ↦ record { parts = p; progress = Over stop } | None ↦ goes_further full w zmap most p n t b c ]) (sym (nothing list o (stop_of p.journal.flush.taken (kind_of c)) none e))

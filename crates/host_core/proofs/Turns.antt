@@ -94,29 +94,29 @@ module _ {T V C R : Type 0} (M : Model T V C R) (u : Setup) where
     plan_same p (x ∷ y ∷ ys) = submits_same (at_limit f) q (Committing p) (Some (t.number - 1)) _ ps refl
 
     commit_same : (over : Bool) (p : Phase) →
-        lifted (not over && (is_closing p && (is_none (unsent_of ps t.changed) && not (nat_lt (ring_free r) (log_needs t))))) (committing (part p)) (host p)
+        lifted (not over && (is_closing p && (is_none (unsent_of ps t.changed) && not (nat_lt (ring_free r) (log_needs u.writers t))))) (committing (part p)) (host p)
         (if over then actor.idle (part p) ps else actor.phase_turn u.writers u.journal u.sequence q (M.bytes v) (part p) ps p)
         ≡ (if over then record { host = host p; turn = turns.Idle } else machine.in_phase M u q (host p) p)
     commit_same true Idle = refl
     commit_same true Closing = refl
     commit_same true (Committing p) = refl
     commit_same false Idle = idle_same (t.wanted && is_none (least f.conflicts))
-    commit_same false Closing = close_same (unsent_of ps t.changed) (nat_lt (ring_free r) (log_needs t))
+    commit_same false Closing = close_same (unsent_of ps t.changed) (nat_lt (ring_free r) (log_needs u.writers t))
     commit_same false (Committing p) = plan_same p p.rest
 
-  pub commit_is : (s : Host V C R) (q : Bool) → lifted (builds_plan s.journal s.pages) (committing s.journal) s (actor.commit_turn u.writers u.journal u.sequence q (M.bytes s.volume) s.journal s.pages) ≡ machine.commit_step M u q s
+  pub commit_is : (s : Host V C R) (q : Bool) → lifted (builds_plan u.writers s.journal s.pages) (committing s.journal) s (actor.commit_turn u.writers u.journal u.sequence q (M.bytes s.volume) s.journal s.pages) ≡ machine.commit_step M u q s
   commit_is s q = commit_same s.journal.flush s.journal.ring s.journal.running s.volume s.pages s.owners s.history s.cuts s.threads q (is_over s.journal.flush) s.journal.phase
 
   -- the same, as the code has it
   pub commit_done : (s : Host V C R) (q : Bool) (j : JournalPart) (v : V) (ps : List CachedPage) (cuts : List ℕ) (t : Turn) (noted : Bool) (before after : Option ℕ) (now : ℕ)
-      → noted ≡ builds_plan s.journal s.pages → before ≡ committing s.journal → after ≡ committing j → now ≡ length s.history
+      → noted ≡ builds_plan u.writers s.journal s.pages → before ≡ committing s.journal → after ≡ committing j → now ≡ length s.history
       → v ≡ released M.release before after s.volume → cuts ≡ cuts_after noted now s.cuts
       → (let x : CommitTurn = record { part = j; pages = ps; turn = t } in x) ≡ actor.commit_turn u.writers u.journal u.sequence q (M.bytes s.volume) s.journal s.pages
       → (let x : Turned V C R = record { host = record { journal = j; volume = v; pages = ps; owners = s.owners; history = s.history; cuts = cuts; threads = s.threads }; turn = t } in x) ≡ machine.commit_step M u q s
   commit_done s q j v ps cuts t noted before after now is_noted is_before is_after is_now volume cut done =
       ap (λ w. at w cuts) (volume ∙ ap (λ b. released M.release b after s.volume) is_before ∙ ap (λ a. released M.release (committing s.journal) a s.volume) is_after)
-      ∙ ap (at (released M.release (committing s.journal) (committing j) s.volume)) (cut ∙ ap (λ b. cuts_after b now s.cuts) is_noted ∙ ap (λ n. cuts_after (builds_plan s.journal s.pages) n s.cuts) is_now)
-      ∙ ap (lifted (builds_plan s.journal s.pages) (committing s.journal) s) done
+      ∙ ap (at (released M.release (committing s.journal) (committing j) s.volume)) (cut ∙ ap (λ b. cuts_after b now s.cuts) is_noted ∙ ap (λ n. cuts_after (builds_plan u.writers s.journal s.pages) n s.cuts) is_now)
+      ∙ ap (lifted (builds_plan u.writers s.journal s.pages) (committing s.journal) s) done
       ∙ commit_is s q
     where
       at : V → List ℕ → Turned V C R

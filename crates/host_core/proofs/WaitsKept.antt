@@ -80,7 +80,7 @@ module _ (w : Writers) (journal sequence : ℕ) (q : Bool) (bodies : ℕ → Lis
 
   phase_keeps : (p : Phase) → Keeps (phase_turn w journal sequence q bodies j ps p)
   phase_keeps Idle = test_keeps (j.running.wanted && is_none (least j.flush.conflicts)) (actor.did (record j { phase = Closing }) ps) (actor.idle j ps) refl refl
-  phase_keeps Closing = close_keeps (unsent_of ps j.running.changed) (nat_lt (ring_free j.ring) (log_needs j.running))
+  phase_keeps Closing = close_keeps (unsent_of ps j.running.changed) (nat_lt (ring_free j.ring) (log_needs w j.running))
   phase_keeps (Committing p) = plan_keeps p p.rest
 
   pub commit_keeps : waits_in (commit_turn w journal sequence q bodies j ps).part ≡ waits_in j

@@ -1,6 +1,7 @@
 //! The host.
 ghost use Rattle.std.specs.Prelude.{◌≡◌, ◌≢◌, ◌+◌, ◌^◌, ◌≤◌, ◌++◌, ◌<◌, [], true, length, drop, map, replicate, IfOk, OnErr, vec_capacity};
 ghost use Rattle.order_model.specs.declared.turn.Turn.TheVariants as turns;
+ghost use Rattle.tx_running.specs.Closing.{writers};
 ghost use Rattle.commit_actor.specs.Actor.{made, builds_plan};
 ghost use Rattle.flush_actor.specs.Outcomes.{is_queue_full, first_since, sent_between};
 ghost use Rattle.host_machine.specs.Host as machine;
@@ -189,7 +190,7 @@ impl Host {
     pub fn commit_step<O: Outlet<Request>>(&mut self, alloc: Global, out: &mut O) -> Turn
         ensures step { result ≢ turns.NoMemory → record { host = self.new.host; turn = result } ≡
             machine.commit_step (model_now self.old) (setup_now self.old) (is_queue_full result) self.old.host }
-        ensures memory { result ≡ turns.NoMemory → (builds_plan self.old.host.journal self.old.host.pages ≡ true) × (self.new ≡ self.old) }
+        ensures memory { result ≡ turns.NoMemory → (builds_plan (writers self.old.made_with) self.old.host.journal self.old.host.pages ≡ true) × (self.new ≡ self.old) }
         ensures same { self.new ≡ with_host self.old self.new.host }
         ensures sent { O.sent out.new ≡ O.sent out.old ++ sent_between self.old.host.journal.flush self.new.host.journal.flush }
         ensures full { result ≡ turns.QueueFull → O.was_full out.old out.new }

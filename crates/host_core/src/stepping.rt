@@ -2,7 +2,9 @@
 ghost use Rattle.std.specs.Prelude.{◌≡◌, ◌<◌, ◌++◌, [], ℕ, true, false, List, Some, None, IfOk, IfSome, OnErr, length};
 ghost use Rattle.std.specs.Option.{option_map};
 ghost use Rattle.flush_actor.specs.Outcomes.{sent_between};
+ghost use Rattle.tx_running.specs.Closing.{writers};
 ghost use Rattle.tx_running.specs.Open.{quota};
+ghost use Rattle.tx_running.specs.Plan.{Writers};
 ghost use Rattle.host_volume.specs.Calls as volumes;
 ghost use Rattle.host_core.specs.code.Progress.{KeepsHost, Over, goes_further, is_queue_full, list_of, parts_now, progress_is, starts, steps_call, went_plainly};
 ghost use Rattle.host_core.specs.code.Progress as steps;
@@ -44,8 +46,8 @@ fn go_further<O: Outlet<Request>>(
     out: &mut O,
 ) -> Result<Found, NoMemory>
     requires { thread < length parts.old.journal.part.flush.waits }
-    ensures step { (zmap most n : ℕ) (c : Call) → IfOk result (λ f. record { parts = parts_now parts.new; progress = progress_is begun.now.list f } ≡
-        goes_further (is_queue_full f) zmap most (parts_now parts.old) n thread (Some begun.now) c) }
+    ensures step { (w : Writers) (zmap most n : ℕ) (c : Call) → IfOk result (λ f. record { parts = parts_now parts.new; progress = progress_is begun.now.list f } ≡
+        goes_further (is_queue_full f) w zmap most (parts_now parts.old) n thread (Some begun.now) c) }
     ensures err { OnErr result (parts_now parts.new ≡ parts_now parts.old) }
     ensures same { KeepsHost parts.old parts.new }
     ensures sent { O.sent out.new ≡ O.sent out.old ++ sent_between parts.old.journal.part.flush parts.new.journal.part.flush }
@@ -73,7 +75,7 @@ fn perform(alloc: Global, parts: &mut Parts, number: u64, call: &Call) -> Result
     requires refused { volumes.refusal parts.old.volume call.now ≡ None }
     requires blocks { parts.old.journal.blocks ≡ parts.old.volume.geometry.zones }
     ensures step { IfOk result (λ f. record { parts = parts_now parts.new; progress = progress_is [] f } ≡
-        went_plainly (steps_plainly parts.old.volume.geometry.zmap (quota parts.old.journal.made_with) (parts_now parts.old) number call.now)) }
+        went_plainly (steps_plainly (writers parts.old.journal.made_with) parts.old.volume.geometry.zmap (quota parts.old.journal.made_with) (parts_now parts.old) number call.now)) }
     ensures err { OnErr result (parts_now parts.new ≡ parts_now parts.old) }
     ensures same { KeepsHost parts.old parts.new }
     ensures silent { parts.new.journal.part.flush.requests ≡ parts.old.journal.part.flush.requests }
@@ -97,7 +99,7 @@ fn perform(alloc: Global, parts: &mut Parts, number: u64, call: &Call) -> Result
 fn start(alloc: Global, parts: &mut Parts, number: u64, call: &Call) -> Result<Found, NoMemory>
     requires { parts.old.journal.blocks ≡ parts.old.volume.geometry.zones }
     ensures step { IfOk result (λ f. record { parts = parts_now parts.new; progress = progress_is [] f } ≡
-        starts parts.old.volume.geometry.zmap (quota parts.old.journal.made_with) (parts_now parts.old) number call.now) }
+        starts (writers parts.old.journal.made_with) parts.old.volume.geometry.zmap (quota parts.old.journal.made_with) (parts_now parts.old) number call.now) }
     ensures err { OnErr result (parts_now parts.new ≡ parts_now parts.old) }
     ensures same { KeepsHost parts.old parts.new }
     ensures silent { parts.new.journal.part.flush.requests ≡ parts.old.journal.part.flush.requests }
@@ -130,7 +132,7 @@ pub fn step_call<O: Outlet<Request>>(
     requires thread { thread < length parts.old.journal.part.flush.waits }
     requires blocks { parts.old.journal.blocks ≡ parts.old.volume.geometry.zones }
     ensures step { IfOk result (λ f. record { parts = parts_now parts.new; progress = progress_is (list_of begun.now) f } ≡
-        steps_call (is_queue_full f) parts.old.volume.geometry.zmap (quota parts.old.journal.made_with) (parts_now parts.old) number thread begun.now call.now) }
+        steps_call (is_queue_full f) (writers parts.old.journal.made_with) parts.old.volume.geometry.zmap (quota parts.old.journal.made_with) (parts_now parts.old) number thread begun.now call.now) }
     ensures err { OnErr result (parts_now parts.new ≡ parts_now parts.old) }
     ensures same { KeepsHost parts.old parts.new }
     ensures sent { O.sent out.new ≡ O.sent out.old ++ sent_between parts.old.journal.part.flush parts.new.journal.part.flush }

@@ -12,6 +12,7 @@ use Rattle.flush_actor.specs.Part.{is_cut, first_failed}
 use Rattle.flush_actor.specs.Waits.{no_wait}
 use Rattle.flush_actor.specs.declared.call_kind.CallKind.{CallKind}
 use Rattle.flush_actor.specs.declared.wait.Wait.{Wait}
+use Rattle.tx_running.specs.Plan.{Writers}
 use Rattle.host_machine.specs.Causes.{Cause}
 use Rattle.host_machine.specs.Host.{Stepped}
 use Rattle.host_machine.specs.Outcomes as outcomes
@@ -76,27 +77,27 @@ begins_at p n c =
     record { begin = n; kind = kind; file = file; list = listed p.pages kind file; sent_barrier = false }
 
 -- the first step of a call
-abbrev pub starts : ℕ → ℕ → CallParts → ℕ → Call → Went
-starts zmap most p n c =
+abbrev pub starts : Writers → ℕ → ℕ → CallParts → ℕ → Call → Went
+starts w zmap most p n c =
     elim (refusal p.volume c) as (λ _. Went) [
       | Some reply ↦ record { parts = p; progress = Over (Answered reply) }
       | None ↦
           if is_begun (kind_of c) then record { parts = p; progress = Opened (begins_at p n c) }
-          else went_plainly (steps_plainly zmap most p n c)
+          else went_plainly (steps_plainly w zmap most p n c)
     ]
 
 -- the step of a call that nothing stops
-abbrev pub goes_further : Bool → ℕ → ℕ → CallParts → ℕ → ℕ → Option Begun → Call → Went
-goes_further full zmap most p n t (Some b) c = went_on p (goes_on full p.journal p.pages t (slice_index_or p.journal.flush.waits t no_wait) b)
-goes_further full zmap most p n t None c = starts zmap most p n c
+abbrev pub goes_further : Bool → Writers → ℕ → ℕ → CallParts → ℕ → ℕ → Option Begun → Call → Went
+goes_further full w zmap most p n t (Some b) c = went_on p (goes_on full p.journal p.pages t (slice_index_or p.journal.flush.waits t no_wait) b)
+goes_further full w zmap most p n t None c = starts w zmap most p n c
 
 -- The step of thread t's call, whose entry would be n, on a volume with so many blocks of the zone bitmap whose
--- transactions may have so many log blocks.
-abbrev pub steps_call : Bool → ℕ → ℕ → CallParts → ℕ → ℕ → Option Begun → Call → Went
-steps_call full zmap most p n t begun c =
+-- transactions may have so many log blocks, as these writers make them.
+abbrev pub steps_call : Bool → Writers → ℕ → ℕ → CallParts → ℕ → ℕ → Option Begun → Call → Went
+steps_call full w zmap most p n t begun c =
     elim (stop_of p.journal.flush.taken (kind_of c)) as (λ _. Went) [
       | Some stop ↦ record { parts = p; progress = Over stop }
-      | None ↦ goes_further full zmap most p n t begun c
+      | None ↦ goes_further full w zmap most p n t begun c
     ]
 
 -- ---- what the code found, of a begun call with this list of pages
