@@ -1,5 +1,5 @@
 -- A session over calls, and a medium that a power cut leaves of it, are those of a session over calls with bytes.
-use Rattle.std.specs.Prelude.{◌≡◌, ℕ, ◌+◌, ◌<◌, ◌≤◌, List, [], ◌∷◌, length, map, Option, Ok}
+use Rattle.std.specs.Prelude.{◌≡◌, ℕ, Bool, ◌+◌, ◌<◌, ◌≤◌, List, [], ◌∷◌, length, map, Option, Ok}
 use Rattle.std.proofs.Common.{refl, sym, ap, subst, ◌∙◌, arith}
 use Rattle.std.proofs.lemmas.List.{length-map}
 use Rattle.minix_layout.specs.declared.division.Geometry.{Geometry}
@@ -64,18 +64,18 @@ recovered_by s t m disk format ring journal is b low =
 
 -- what the laws of sessions of calls say of images that were made
 abbrev VolumesAreOpened : Type 0
-VolumesAreOpened = (g : Geometry) (journal logged : ℕ) → IsSound g → 128 ≤ journal → journal ≤ 16384 → IsOpenedVolume (made_opening g journal logged) (made_now g)
+VolumesAreOpened = (g : Geometry) (journal : ℕ) (wide : Bool) (logged : ℕ) → IsSound g → 128 ≤ journal → journal ≤ 16384 → IsOpenedVolume (made_opening g journal wide logged) (made_now g)
 
 abbrev JournalsAreEmpty : Type 0
 JournalsAreEmpty =
-    (g : Geometry) (journal logged limit : ℕ) → IsSound g → 128 ≤ journal → journal ≤ 16384 → limit + 2 < 4294967296
-    → HasEmptyJournal (made_opening g journal logged) (made_ring journal) limit × AreWritten (made_opening g journal logged).format (made_opening g journal logged).writers
+    (g : Geometry) (journal : ℕ) (wide : Bool) (logged limit : ℕ) → IsSound g → 128 ≤ journal → journal ≤ 16384 → limit + 2 < 4294967296
+    → HasEmptyJournal (made_opening g journal wide logged) (made_ring journal) limit × AreWritten (made_opening g journal wide logged).format (made_opening g journal wide logged).writers
 
-module _ (volumes : VolumesAreOpened) (journals : JournalsAreEmpty) (g : Geometry) (journal limit : ℕ) (programs : List (List Call)) (events : List Event) (m : Medium)
-    (cut : IsCut g journal limit programs events m) where
+module _ (volumes : VolumesAreOpened) (journals : JournalsAreEmpty) (g : Geometry) (journal : ℕ) (wide : Bool) (limit : ℕ) (programs : List (List Call)) (events : List Event) (m : Medium)
+    (cut : IsCut g journal wide limit programs events m) where
   -- the session over calls with bytes
   abbrev pub start : Start
-  start = record { geometry = g; journal = journal; quota = quota (new_journal journal); limit = limit; programs = all_with_bytes programs cut.bytes }
+  start = record { geometry = g; journal = journal; wide = wide; quota = quota (new_journal journal wide); limit = limit; programs = all_with_bytes programs cut.bytes }
 
   sizes : HasSizes start
   sizes = record { sound = cut.sound; least = cut.least; most = cut.most; words = cut.words }
@@ -86,19 +86,19 @@ module _ (volumes : VolumesAreOpened) (journals : JournalsAreEmpty) (g : Geometr
       let words = cut.words in
       omega arith
 
-  same_host : made_session g journal limit programs events ≡ plain_host (host_of start events)
+  same_host : made_session g journal wide limit programs events ≡ plain_host (host_of start events)
   same_host =
-      let empty = journals g journal (quota (new_journal journal)) limit cut.sound cut.least cut.most few in
-      is_plain (opening_on g journal) (made_now g) (made_ring journal) limit programs empty.1 (volumes g journal (quota (new_journal journal)) cut.sound cut.least cut.most) empty.0 cut.bytes events
+      let empty = journals g journal wide (quota (new_journal journal wide)) limit cut.sound cut.least cut.most few in
+      is_plain (opening_on g journal wide) (made_now g) (made_ring journal) limit programs empty.1 (volumes g journal wide (quota (new_journal journal wide)) cut.sound cut.least cut.most) empty.0 cut.bytes events
 
   same_cut : IsCutOf start events m
-  same_cut = subst (λ (h : Host VolumeNow Call Reply). IsOrderClosed (made_image g journal) h.journal.flush.requests m.image m.origins) same_host cut.order
+  same_cut = subst (λ (h : Host VolumeNow Call Reply). IsOrderClosed (made_image g journal wide) h.journal.flush.requests m.image m.origins) same_host cut.order
 
-  pub same_count : kept_count g journal (made_session g journal limit programs events) m ≡ kept_transactions start events m
-  same_count = ap (λ h. kept_count g journal h m) same_host
+  pub same_count : kept_count g journal wide (made_session g journal wide limit programs events) m ≡ kept_transactions start events m
+  same_count = ap (λ h. kept_count g journal wide h m) same_host
 
-  same_tree : kept_tree g journal (made_session g journal limit programs events) m ≡ bytes.kept_tree start events m
-  same_tree = ap (λ h. kept_tree g journal h m) same_host ∙ tree_as (opening_on g journal) (host_of start events) (kept_transactions start events m)
+  same_tree : kept_tree g journal wide (made_session g journal wide limit programs events) m ≡ bytes.kept_tree start events m
+  same_tree = ap (λ h. kept_tree g journal wide h m) same_host ∙ tree_as (opening_on g journal wide) (host_of start events) (kept_transactions start events m)
 
   -- what holds of all sessions over calls with bytes holds of this one
   pub of_start : {P : Start → List Event → Medium → Type 0} → ((s : Start) (es : List Event) (n : Medium) → HasSizes s → IsCutOf s es n → P s es n) → P start events m
@@ -106,25 +106,25 @@ module _ (volumes : VolumesAreOpened) (journals : JournalsAreEmpty) (g : Geometr
 
   -- and then of the session over calls
   pub found_first : IsFound (submitted start events) m (kept_transactions start events m)
-      → IsFound (submitted_by g journal [] (made_session g journal limit programs events)) m (kept_count g journal (made_session g journal limit programs events) m)
-  found_first found = subst (λ h. IsFound (submitted_by g journal [] h) m (kept_count g journal h m)) (sym same_host) found
+      → IsFound (submitted_by g journal wide [] (made_session g journal wide limit programs events)) m (kept_count g journal wide (made_session g journal wide limit programs events) m)
+  found_first found = subst (λ h. IsFound (submitted_by g journal wide [] h) m (kept_count g journal wide h m)) (sym same_host) found
 
   pub shows_tree : (tree : Tree) × (image_tree m.image ≡ Ok tree) × AreAlike (bytes.kept_tree start events m) tree
-      → (tree : Tree) × (image_tree m.image ≡ Ok tree) × AreAlike (kept_tree g journal (made_session g journal limit programs events) m) tree
+      → (tree : Tree) × (image_tree m.image ≡ Ok tree) × AreAlike (kept_tree g journal wide (made_session g journal wide limit programs events) m) tree
   shows_tree shown = (shown.0, shown.1, subst (λ t. AreAlike t shown.0) (sym same_tree) shown.2)
 
   -- what recovery leaves does not depend on what the transactions are said to hold
-  pub is_recovered : (closed : List Transaction) (disk : ℕ → List ℕ) → IsRecovered (submitted start events) m disk → IsRecovered (submitted_by g journal closed (made_session g journal limit programs events)) m disk
-  is_recovered closed disk is = recovered_by (submitted start events) (submitted_by g journal closed (made_session g journal limit programs events)) m disk refl
-      (ap (λ h. (submitted_by g journal closed h).ring) (sym same_host)) refl is
+  pub is_recovered : (closed : List Transaction) (disk : ℕ → List ℕ) → IsRecovered (submitted start events) m disk → IsRecovered (submitted_by g journal wide closed (made_session g journal wide limit programs events)) m disk
+  is_recovered closed disk is = recovered_by (submitted start events) (submitted_by g journal wide closed (made_session g journal wide limit programs events)) m disk refl
+      (ap (λ h. (submitted_by g journal wide closed h).ring) (sym same_host)) refl is
 
   pub keeps_files : (disk : ℕ → List ℕ) → (closed : List Transaction) × HoldsKept start events m disk closed
-      → (closed : List Transaction) × KeepsFiles g journal closed (made_session g journal limit programs events) m disk
+      → (closed : List Transaction) × KeepsFiles g journal wide closed (made_session g journal wide limit programs events) m disk
   keeps_files disk kept =
-      let s = opening_on g journal in
+      let s = opening_on g journal wide in
       let h = host_of start events in (
         kept.0,
-        subst (λ x. KeepsFiles g journal kept.0 x m disk) (sym same_host)
-            (subst (λ told. HoldsPrefix (over s).program told (submitted_by g journal kept.0 (plain_host h)) m disk (kept_transactions start events m))
+        subst (λ x. KeepsFiles g journal wide kept.0 x m disk) (sym same_host)
+            (subst (λ told. HoldsPrefix (over s).program told (submitted_by g journal wide kept.0 (plain_host h)) m disk (kept_transactions start events m))
             (sym (history_as plain_call (call_over s).model h.history (over s).place h.cuts)) kept.1),
       )

@@ -1,5 +1,5 @@
 -- The tree of what was recovered shows what is on the recovered disk.
-use Rattle.std.specs.Prelude.{◌≡◌, ℕ, ◌<◌, true, List, [], Some, None, Result, Ok, Err, slice_get}
+use Rattle.std.specs.Prelude.{◌≡◌, ℕ, Bool, ◌<◌, true, List, [], Some, None, Result, Ok, Err, slice_get}
 use Rattle.std.proofs.Common.{sym, ap, subst, ◌∙◌, inl, inr, ⊎_elim, arith}
 use Rattle.std.proofs.lemmas.Bool.{cases_lt}
 use Rattle.std.proofs.lemmas.List.{get_or-take}
@@ -75,9 +75,9 @@ module _ (g : Geometry) (image : List (List ℕ)) (division : divided image ≡ 
 
 -- ---- the walk through it
 
-module _ (g : Geometry) (journal : ℕ) (h : Host VolumeNow Call Reply) (m : Medium) (division : divided m.image ≡ Ok g) (session : KeepsCalls (opening_on g journal) h)
-    (order : IsOrderClosed (made_image g journal) h.journal.flush.requests m.image m.origins)
-    (recovers : IsRecovered (submitted_by g journal session.closed h) m (disk_of (recovered_image m.image))) where
+module _ (g : Geometry) (journal : ℕ) (wide : Bool) (h : Host VolumeNow Call Reply) (m : Medium) (division : divided m.image ≡ Ok g) (session : KeepsCalls (opening_on g journal wide) h)
+    (order : IsOrderClosed (made_image g journal wide) h.journal.flush.requests m.image m.origins)
+    (recovers : IsRecovered (submitted_by g journal wide session.closed h) m (disk_of (recovered_image m.image))) where
   -- it finds what the walk through the recovered disk finds: both find what there is in one image
   pub same_walk : answer (disk_of (recovered_image m.image)) (walk_volume g) ≡ answer (disk_of (volume_in g m.image)) (walk_volume g)
   same_walk =
@@ -86,28 +86,28 @@ module _ (g : Geometry) (journal : ℕ) (h : Host VolumeNow Call Reply) (m : Med
 
 -- ---- what it shows
 
-module _ (g : Geometry) (journal : ℕ) (closed : List Transaction) (h : Host VolumeNow Call Reply) (m : Medium) (tree : Tree)
+module _ (g : Geometry) (journal : ℕ) (wide : Bool) (closed : List Transaction) (h : Host VolumeNow Call Reply) (m : Medium) (tree : Tree)
     (division : divided m.image ≡ Ok g) (fine : fault_in_journal g.zones m.image ≡ None) (shown : image_tree m.image ≡ Ok tree)
     (walk : answer (disk_of (recovered_image m.image)) (walk_volume g) ≡ answer (disk_of (volume_in g m.image)) (walk_volume g))
-    (alike : AreAlike (kept_tree g journal h m) tree) (files : KeepsFiles g journal closed h m (disk_of (recovered_image m.image))) where
+    (alike : AreAlike (kept_tree g journal wide h m) tree) (files : KeepsFiles g journal wide closed h m (disk_of (recovered_image m.image))) where
   abbrev told : History WalkEnd
-  told = history_of g journal h
+  told = history_of g journal wide h
 
   abbrev kept : ℕ
-  kept = kept_count g journal h m
+  kept = kept_count g journal wide h m
 
   abbrev after : PlainTree
-  after = tree_after (call_over (opening_on g journal)).model h.history (told.cut kept)
+  after = tree_after (call_over (opening_on g journal wide)).model h.history (told.cut kept)
 
   -- the history is read over the tree that is shown
-  behind : after.tree ≡ kept_tree g journal h m
+  behind : after.tree ≡ kept_tree g journal wide h m
   behind = trees_are (λ (c : Call). c) g h.history (told.cut kept)
 
   abbrev program : Reads WalkEnd
   program = walk_volume g
 
   abbrev Has : ℕ → ℕ → ℕ → Type 0
-  Has f i n = HasVersion program told (submitted_by g journal closed h) m kept f i n
+  Has f i n = HasVersion program told (submitted_by g journal wide closed h) m kept f i n
 
   abbrev recovered : ℕ → List ℕ
   recovered = disk_of (recovered_image m.image)
@@ -116,19 +116,19 @@ module _ (g : Geometry) (journal : ℕ) (closed : List Transaction) (h : Host Vo
   abbrev place : ℕ → ℕ → ℕ
   place f i = told.place (answer recovered program) (told.cut kept) f i
 
-  place_is : (f i : ℕ) → place_in (walked g (volume_in g m.image)) (kept_tree g journal h m) f i ≡ place f i
+  place_is : (f i : ℕ) → place_in (walked g (volume_in g m.image)) (kept_tree g journal wide h m) f i ≡ place f i
   unfolding walked
   place_is f i = ap (λ t. place_in (answer (disk_of (volume_in g m.image)) (walk_volume g)) t f i) (sym behind) ∙ ap (λ w. place_in w after.tree f i) (sym walk)
 
   block_shown : (f i n : ℕ) → told.maps (told.cut kept) f i ≡ true → (x : Has f i n) → recovered (place f i) ≡ told.content f i x.version → block_at tree (alike.to f) i ≡ Some (told.content f i x.version)
   block_shown f i n mapped x has =
-      page_shown g (volume_in g m.image) (kept_tree g journal h m) tree (subst IsRooted behind after.plain.rooted) (volume_tree g m.image division fine tree shown) alike f i
+      page_shown g (volume_in g m.image) (kept_tree g journal wide h m) tree (subst IsRooted behind after.plain.rooted) (volume_tree g m.image division fine tree shown) alike f i
       (subst (λ t. maps_block t f i ≡ true) behind mapped)
       ∙ ap Some (ap (disk_of (volume_in g m.image)) (place_is f i)
       ∙ (volume_bytes g m.image division (place f i) (subst (λ b. b < g.zones) (sym (files.places f i)) x.low) ∙ has))
 
   -- the version whose request the medium has is the one that is shown
-  is_shown : (f i n : ℕ) → told.maps (told.cut kept) f i ≡ true → (x : Has f i n) → recovered (place f i) ≡ told.content f i x.version → IsShown g journal h m tree alike.to f i n
+  is_shown : (f i n : ℕ) → told.maps (told.cut kept) f i ≡ true → (x : Has f i n) → recovered (place f i) ≡ told.content f i x.version → IsShown g journal wide h m tree alike.to f i n
   is_shown f i n mapped x has = record {
     version = x.version;
     later = x.later;
@@ -144,17 +144,17 @@ module _ (g : Geometry) (journal : ℕ) (closed : List Transaction) (h : Host Vo
       let v = files.versions f i k.0 mapped k.1 in
       block_shown f i (last_write told f i (told.cut k.0)) mapped v.0 v.1 ∙ ap Some (sym v.1)
 
-  latest : (f i k : ℕ) → told.maps (told.cut kept) f i ≡ true → IsLastChange told f kept k → IsShown g journal h m tree alike.to f i (last_write told f i (told.cut k))
+  latest : (f i k : ℕ) → told.maps (told.cut kept) f i ≡ true → IsLastChange told f kept k → IsShown g journal wide h m tree alike.to f i (last_write told f i (told.cut k))
   latest f i k mapped last = (let v = files.versions f i k mapped last in is_shown f i (last_write told f i (told.cut k)) mapped v.0 v.1)
 
-  survived : (f i n : ℕ) → told.maps (told.cut kept) f i ≡ true → Has f i n → IsShown g journal h m tree alike.to f i n
+  survived : (f i n : ℕ) → told.maps (told.cut kept) f i ≡ true → Has f i n → IsShown g journal wide h m tree alike.to f i n
   survived f i n mapped x =
       let k = last_change {h = told} f kept in
       let v = files.versions f i k.0 mapped k.1 in
-      let same : v.0.version ≡ x.version = one_version program told (submitted_by g journal closed h) m kept f i (last_write told f i (told.cut k.0)) n v.0 x in
+      let same : v.0.version ≡ x.version = one_version program told (submitted_by g journal wide closed h) m kept f i (last_write told f i (told.cut k.0)) n v.0 x in
       is_shown f i n mapped x (v.1 ∙ ap (told.content f i) same)
 
-  pub shows_files : ShowsFiles g journal closed h m tree alike.to
+  pub shows_files : ShowsFiles g journal wide closed h m tree alike.to
   shows_files = record {
     placed = placed;
     latest = latest;
@@ -163,17 +163,17 @@ module _ (g : Geometry) (journal : ℕ) (closed : List Transaction) (h : Host Vo
 
 -- ---- what is shown survived
 
-module _ (g : Geometry) (journal : ℕ) (closed : List Transaction) (h : Host VolumeNow Call Reply) (m : Medium) (tree : Tree) (to : ℕ → ℕ) (base : List (List ℕ))
-    (order : IsOrderClosed base h.journal.flush.requests m.image m.origins) (shows : ShowsFiles g journal closed h m tree to) where
+module _ (g : Geometry) (journal : ℕ) (wide : Bool) (closed : List Transaction) (h : Host VolumeNow Call Reply) (m : Medium) (tree : Tree) (to : ℕ → ℕ) (base : List (List ℕ))
+    (order : IsOrderClosed base h.journal.flush.requests m.image m.origins) (shows : ShowsFiles g journal wide closed h m tree to) where
   abbrev in_history : History WalkEnd
-  in_history = history_of g journal h
+  in_history = history_of g journal wide h
 
   abbrev count : ℕ
-  count = kept_count g journal h m
+  count = kept_count g journal wide h m
 
   -- where bytes are shown that are newer than entry e, the request that carried them is of a later entry
   pub later_kept : (f i e : ℕ) (bytes : List ℕ) → in_history.maps (in_history.cut count) f i ≡ true → block_at tree (to f) i ≡ Some bytes → AreNewer in_history f i e bytes
-      → IsLaterKept in_history (submitted_by g journal [] h) m count e
+      → IsLaterKept in_history (submitted_by g journal wide [] h) m count e
   later_kept f i e bytes mapped at newer =
       let k = last_change {h = in_history} f count in
       let x = shows.latest f i k.0 mapped k.1 in
@@ -186,5 +186,5 @@ module _ (g : Geometry) (journal : ℕ) (closed : List Transaction) (h : Host Vo
         x.version,
         x.note,
         late,
-        record { block = place_of g journal h m f i; put = order.block_of (place_of g journal h m f i) x.request x.held; origin = x.request; held = x.held; later = omega arith },
+        record { block = place_of g journal wide h m f i; put = order.block_of (place_of g journal wide h m f i) x.request x.held; origin = x.request; held = x.held; later = omega arith },
       )

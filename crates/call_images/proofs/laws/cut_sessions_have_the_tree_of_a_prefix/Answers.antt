@@ -6,8 +6,8 @@ returns c =
     let made = c.sessions_of_calls_on_made_images.ensures in
     let kept = c.sessions_mount_to_a_prefix.ensures in
     record {
-      transactions = λ g journal limit programs events m cut.
-          found_first made.volume made.journal g journal limit programs events m cut (of_start made.volume made.journal g journal limit programs events m cut kept.transactions);
-      tree = λ g journal limit programs events m cut.
-          shows_tree made.volume made.journal g journal limit programs events m cut (of_start made.volume made.journal g journal limit programs events m cut kept.tree);
+      transactions = λ g journal wide limit programs events m cut.
+          found_first made.volume made.journal g journal wide limit programs events m cut (of_start made.volume made.journal g journal wide limit programs events m cut kept.transactions);
+      tree = λ g journal wide limit programs events m cut.
+          shows_tree made.volume made.journal g journal wide limit programs events m cut (of_start made.volume made.journal g journal wide limit programs events m cut kept.tree);
     }

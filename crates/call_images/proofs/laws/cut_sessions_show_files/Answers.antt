@@ -9,9 +9,9 @@ pub returns : goal.returns
 returns c =
     let made = c.sessions_of_calls_on_made_images.ensures in
     let mounts = c.cut_sessions_mount.ensures in
-    λ g journal limit programs events m closed tree cut files shown alike.
-    let h = made_session g journal limit programs events in
-    let session = made.kept g journal (quota (new_journal journal)) limit programs events cut.sound cut.least cut.most (few made.volume made.journal g journal limit programs events m cut) cut.bytes in
-    let division = mounts.volume g journal limit programs events m cut in
-    let walk = same_walk g journal h m division session cut.order (c.cut_sessions_keep_files.ensures.recovered g journal limit programs events m session.closed cut) in
-    shows_files g journal closed h m tree division (mounts.no_fault g journal limit programs events m cut) shown walk alike files
+    λ g journal wide limit programs events m closed tree cut files shown alike.
+    let h = made_session g journal wide limit programs events in
+    let session = made.kept g journal wide (quota (new_journal journal wide)) limit programs events cut.sound cut.least cut.most (few made.volume made.journal g journal wide limit programs events m cut) cut.bytes in
+    let division = mounts.volume g journal wide limit programs events m cut in
+    let walk = same_walk g journal wide h m division session cut.order (c.cut_sessions_keep_files.ensures.recovered g journal wide limit programs events m session.closed cut) in
+    shows_files g journal wide closed h m tree division (mounts.no_fault g journal wide limit programs events m cut) shown walk alike files
