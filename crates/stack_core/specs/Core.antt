@@ -1,8 +1,9 @@
 -- The run of a script: the events one after the other, each by the steps of the part that it speaks of.
-use Rattle.std.specs.Prelude.{ℕ, List, [], ◌∷◌, length, Option, Some, None, zero, suc, if◌then◌else◌}
+use Rattle.std.specs.Prelude.{ℕ, List, [], ◌∷◌, length, false, Option, Some, None, zero, suc, if◌then◌else◌}
 use Rattle.blk_base.specs.Image.{zeros}
 use Rattle.order_model.specs.declared.command.Command.{Command}
 use Rattle.order_model.specs.declared.request.Request.{Request}
+use Rattle.order_model.specs.Device.{Seen}
 use Rattle.order_model.specs.Machine.{Machine}
 use Rattle.barrier_reassign.specs.declared.scheduler.TheConstants.{CAPACITY}
 use Rattle.barrier_reassign.specs.Scheduler.{SchedSteps}
@@ -12,6 +13,9 @@ use Rattle.order_model.specs.Carrying.{SchedSeen}
 use Rattle.device_epochs.specs.declared.device.DeviceSetup.{DeviceSetup}
 use Rattle.device_epochs.specs.Device as epochs
 use Rattle.device_epochs.specs.Device.{DeviceState}
+use Rattle.flog_device.specs.Device as flash
+use Rattle.flog_device.specs.Device.{FlogState}
+use Rattle.flog_device.specs.declared.device.FlogSetup.{FlogSetup}
 use Rattle.script_grammar.specs.declared.script.Script.{Script}
 use Rattle.script_grammar.specs.declared.script.EventLine.{EventLine}
 use Rattle.script_grammar.specs.declared.script.EventWord.{EventWord}
@@ -67,20 +71,20 @@ run_lines k m requests r (l ∷ ls) = run_lines k m requests (happens_line k m r
 abbrev pub run_of : {K S : Type 0} → SchedSteps K → Machine S → Script → K → S → RunState K S
 run_of k m s sched dev = run_lines k m s.puts (record { path = opened_path s; sched = sched; dev = dev }) s.events
 
--- where a run ends, with what is seen of its scheduler
-pub record EndState (S : Type 0) : Type 0 where
+-- where a run ends, with what is seen of its scheduler and of its device
+pub record EndState : Type 0 where
   pub path : RequestPath
   pub sched : SchedSeen
-  pub dev : S
+  pub dev : Seen
 
-abbrev pub ended : {K S : Type 0} → SchedSteps K → RunState K S → EndState S
-ended k r = record { path = r.path; sched = k.seen r.sched; dev = r.dev }
+abbrev pub ended : {K S : Type 0} → SchedSteps K → Machine S → RunState K S → EndState
+ended k m r = record { path = r.path; sched = k.seen r.sched; dev = m.seen r.dev }
 
 -- where a script ends on this device: on the scheduler that it names, in which `CAPACITY` requests may wait
-abbrev pub end_on : {S : Type 0} → Machine S → Script → S → EndState S
+abbrev pub end_on : {S : Type 0} → Machine S → Script → S → EndState
 end_on m s dev =
-    if s.header.elevator then ended elevator.elevator_steps (run_of elevator.elevator_steps m s (elevator.opened (scheduled_count s) CAPACITY) dev)
-    else ended plain.sched_steps (run_of plain.sched_steps m s (plain.opened (scheduled_count s) CAPACITY) dev)
+    if s.header.elevator then ended elevator.elevator_steps m (run_of elevator.elevator_steps m s (elevator.opened (scheduled_count s) CAPACITY) dev)
+    else ended plain.sched_steps m (run_of plain.sched_steps m s (plain.opened (scheduled_count s) CAPACITY) dev)
 
 -- the steps of the device of epochs
 abbrev pub epoch_machine : Machine DeviceState
@@ -98,6 +102,22 @@ epoch_machine = record {
   after_read = λ s block. epochs.after_read s;
 }
 
+-- the steps of the flash log, which may be read at any time
+abbrev pub flash_machine : Machine FlogState
+flash_machine = record {
+  seen = flash.seen;
+  has_room = flash.has_room;
+  can_transfer = λ s. length (flash.transferable s);
+  can_persist = λ s. length (flash.persistable s);
+  received = flash.received;
+  transferred = flash.transferred;
+  persisted = flash.persisted;
+  next_answer = flash.next_answer;
+  answered = flash.answered;
+  read_fails = λ _. false;
+  after_read = λ s _. s;
+}
+
 -- how the device of a script is set up: with room for all its requests, and no fault to come
 abbrev pub setup_for : Script → DeviceSetup
 setup_for s = record { depth = s.header.depth; limit = length s.puts; fail_at = None; bad_read = None; cut_at = s.header.cut }
@@ -106,6 +126,18 @@ setup_for s = record { depth = s.header.depth; limit = length s.puts; fail_at = 
 abbrev pub opened_for : Script → DeviceState
 opened_for s = epochs.opened (zeros (blocks_of s)) (setup_for s)
 
+-- the same of a flash log of so many segments
+abbrev pub flash_setup_for : Script → ℕ → FlogSetup
+flash_setup_for s segments = record { depth = s.header.depth; limit = length s.puts; segments = segments; fail_at = None; cut_at = s.header.cut }
+
+abbrev pub flash_opened_for : Script → ℕ → FlogState
+flash_opened_for s segments = flash.opened (zeros (blocks_of s)) (flash_setup_for s segments)
+
+-- where a script ends on the device of its `flash` line: the model device where there is none
+abbrev pub core_as : Script → Option ℕ → EndState
+core_as s None = end_on epoch_machine s (opened_for s)
+core_as s (Some segments) = end_on flash_machine s (flash_opened_for s segments)
+
 -- where a script ends: all its events on the parts that it opens
-abbrev pub core : Script → EndState DeviceState
-core s = end_on epoch_machine s (opened_for s)
+abbrev pub core : Script → EndState
+core s = core_as s s.header.flash

@@ -1,9 +1,10 @@
-//! What makes the devices that a recovery runs on, and the maker of model devices.
+//! What makes the devices that a recovery runs on, and the makers of model devices and of flash logs.
 ghost use Rattle.std.specs.Prelude.{◌≡◌, ℕ, ◌≤◌, List, [], ◌∷◌, IfOk};
-ghost use Rattle.stack_core.specs.Fresh.{IsFresh, fresh_device};
+ghost use Rattle.stack_core.specs.Fresh.{IsFresh, fresh_device, fresh_flash};
 
 use blk_base::{Image, NoMemory};
 use device_epochs::{DeviceSetup, EpochDevice};
+use flog_device::{FlogDevice, FlogSetup};
 use order_model::OrderedDev;
 use std::alloc::Global;
 use std::marker::Model;
@@ -72,5 +73,53 @@ impl Maker for EpochMaker {
             cut_at: None,
         };
         EpochDevice::make(alloc, image, setup)
+    }
+}
+
+/// Makes flash logs of one depth, each of so many segments.
+#[derive(Drop)]
+pub struct FlogMaker {
+    depth: u32,
+    segments: u32,
+}
+
+impl Model for FlogMaker {
+    ghost use Rattle.std.specs.Prelude.{◌≤◌};
+    ghost use Rattle.stack_core.specs.Fresh.{FlogNumbers};
+
+    ghost Value = { FlogNumbers };
+
+    ghost view = { λ m. record { depth = m.depth; segments = m.segments } };
+
+    ghost invariant = { λ m. (1 ≤ m.depth) × (m.depth ≤ 64) × (3 ≤ m.segments) × (m.segments ≤ 64) };
+}
+
+impl FlogMaker {
+    /// A maker of flash logs on which so many commands may wait, each of so many segments.
+    pub fn make(depth: u32, segments: u32) -> FlogMaker
+        requires depth { (1 ≤ depth) × (depth ≤ 64) }
+        requires segments { (3 ≤ segments) × (segments ≤ 64) }
+        ensures { result ≡ record { depth = depth; segments = segments } }
+    {
+        FlogMaker { depth, segments }
+    }
+}
+
+impl Maker for FlogMaker {
+    type Dev = FlogDevice;
+
+    ghost setup = { λ m. m.depth ∷ m.segments ∷ [] };
+
+    ghost fresh_dev = { fresh_flash };
+
+    fn fresh(&mut self, alloc: Global, image: Image) -> Result<FlogDevice, NoMemory> {
+        let setup = FlogSetup {
+            depth: self.depth,
+            limit: u64::from(image.len()) + 2,
+            segments: self.segments,
+            fail_at: None,
+            cut_at: None,
+        };
+        FlogDevice::make(alloc, image, setup)
     }
 }

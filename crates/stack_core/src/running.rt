@@ -1,12 +1,11 @@
 //! The run of a script on a scheduler and a device.
-ghost use Rattle.std.specs.Prelude.{◌≡◌, ◌++◌, ℕ, ◌≤◌, true, [], length, IfOk};
+ghost use Rattle.std.specs.Prelude.{◌≡◌, ◌++◌, ◌≤◌, [], length, IfOk, Some, None};
 ghost use Rattle.blk_base.specs.Image.{zeros};
 ghost use Rattle.order_model.specs.Machine.{machine_of};
-ghost use Rattle.device_epochs.specs.Device.{seen};
 ghost use Rattle.script_grammar.specs.Grammar.{IsRunnable, blocks_of};
 ghost use Rattle.barrier_reassign.specs.Scheduler.{IsNewScheduler};
 ghost use Rattle.stack_core.specs.RequestPath.{PathFits, opened_path, scheduled_count};
-ghost use Rattle.stack_core.specs.Core.{RunState, happens, times, happens_line, run_lines, run_of, ended, end_on, core};
+ghost use Rattle.stack_core.specs.Core.{RunState, happens, times, happens_line, run_lines, run_of, ended, end_on, opened_for, flash_opened_for};
 ghost use Rattle.stack_core.specs.Report.{IsReportOf, IsCoreReport, PartsFit, Headline};
 ghost use Rattle.stack_core.specs.Headline.{KeepsOrder};
 
@@ -16,6 +15,7 @@ use barrier_reassign::{CAPACITY, Scheduler};
 use blk_base::{Image, NoMemory};
 use device_epochs::{DeviceSetup, EpochDevice};
 use epoch_sched::Sched;
+use flog_device::{FlogDevice, FlogSetup};
 use order_model::{OrderedDev, keeps_order_to_the_medium};
 use sched_elevator::Elevator;
 use script_grammar::{CoreEvent, EventLine, EventWord, Form, RequestList, Script};
@@ -160,10 +160,10 @@ fn run_with<S: Scheduler + Drop, D: OrderedDev + Drop>(
     requires new { IsNewScheduler (scheduled_count script.now) CAPACITY (S.steps.seen (S.state sched)) }
     requires path { PathFits (opened_path script.now) (S.steps.seen (S.state sched)) script.now.puts (D.seen (D.state dev)) }
     ensures fits { IfOk result PartsFit }
-    ensures core { let end = ended S.steps (run_of S.steps (machine_of D.OrderedDev) script.now (S.state sched) (D.state dev)) in
-        IfOk result (IsReportOf script.now end.path end.sched (D.seen end.dev)) }
-    ensures order { let end = ended S.steps (run_of S.steps (machine_of D.OrderedDev) script.now (S.state sched) (D.state dev)) in
-        IfOk result (λ r. KeepsOrder (D.seen (D.state dev)).base r.submitted r.cut.image r.cut.origins (r.cut.trace.sent.items ++ (D.seen end.dev).waiting)) }
+    ensures core { let end = ended S.steps (machine_of D.OrderedDev) (run_of S.steps (machine_of D.OrderedDev) script.now (S.state sched) (D.state dev)) in
+        IfOk result (IsReportOf script.now end) }
+    ensures order { let end = ended S.steps (machine_of D.OrderedDev) (run_of S.steps (machine_of D.OrderedDev) script.now (S.state sched) (D.state dev)) in
+        IfOk result (λ r. KeepsOrder (D.seen (D.state dev)).base r.submitted r.cut.image r.cut.origins (r.cut.trace.sent.items ++ end.dev.waiting)) }
 {
     let mut dev = dev;
     let mut sched = sched;
@@ -199,9 +199,9 @@ pub fn run_on<D: OrderedDev + Drop>(
     requires ids { length script.now.puts ≤ (D.seen (D.state dev)).limit }
     ensures fits { IfOk result PartsFit }
     ensures core { let end = end_on (machine_of D.OrderedDev) script.now (D.state dev) in
-        IfOk result (IsReportOf script.now end.path end.sched (D.seen end.dev)) }
+        IfOk result (IsReportOf script.now end) }
     ensures order { let end = end_on (machine_of D.OrderedDev) script.now (D.state dev) in
-        IfOk result (λ r. KeepsOrder (zeros (blocks_of script.now)) r.submitted r.cut.image r.cut.origins (r.cut.trace.sent.items ++ (D.seen end.dev).waiting)) }
+        IfOk result (λ r. KeepsOrder (zeros (blocks_of script.now)) r.submitted r.cut.image r.cut.origins (r.cut.trace.sent.items ++ end.dev.waiting)) }
 {
     // By this call the device tells that its laws hold of its state.
     let _ = dev.blocks();
@@ -215,12 +215,10 @@ pub fn run_on<D: OrderedDev + Drop>(
     }
 }
 
-/// Runs a script on a new device of epochs over zeros, and cuts the power.
-pub fn core_run(alloc: Global, script: &Script) -> Result<Report, NoMemory>
+// The model device that a script opens, over zeros.
+fn model_device(alloc: Global, script: &Script) -> Result<EpochDevice, NoMemory>
     requires { IsRunnable script.now }
-    ensures fits { IfOk result PartsFit }
-    ensures core { IfOk result (IsCoreReport script.now) }
-    ensures order { IfOk result Headline }
+    ensures { IfOk result (λ d. d ≡ opened_for script.now) }
 {
     let image = Image::zeroed(alloc, script.blocks())?;
     let setup = DeviceSetup {
@@ -230,6 +228,60 @@ pub fn core_run(alloc: Global, script: &Script) -> Result<Report, NoMemory>
         bad_read: None,
         cut_at: script.header.cut,
     };
-    let dev = EpochDevice::make(alloc, image, setup)?;
+    EpochDevice::make(alloc, image, setup)
+}
+
+// The flash log of so many segments that a script opens, over zeros.
+fn flash_log(alloc: Global, script: &Script, segments: u32) -> Result<FlogDevice, NoMemory>
+    requires script { IsRunnable script.now }
+    requires flash { script.now.header.flash ≡ Some segments }
+    ensures { IfOk result (λ d. d ≡ flash_opened_for script.now segments) }
+{
+    let image = Image::zeroed(alloc, script.blocks())?;
+    let setup = FlogSetup {
+        depth: script.header.depth,
+        limit: script.puts.len() as u64,
+        segments,
+        fail_at: None,
+        cut_at: script.header.cut,
+    };
+    FlogDevice::make(alloc, image, setup)
+}
+
+// Runs a script without a `flash` line on a new model device.
+fn run_on_model(alloc: Global, script: &Script) -> Result<Report, NoMemory>
+    requires script { IsRunnable script.now }
+    requires model { script.now.header.flash ≡ None }
+    ensures fits { IfOk result PartsFit }
+    ensures core { IfOk result (IsCoreReport script.now) }
+    ensures order { IfOk result Headline }
+{
+    let dev = model_device(alloc, script)?;
     run_on(alloc, script, dev)
+}
+
+// Runs a script with a `flash` line on a new flash log of so many segments.
+fn run_on_log(alloc: Global, script: &Script, segments: u32) -> Result<Report, NoMemory>
+    requires script { IsRunnable script.now }
+    requires flash { script.now.header.flash ≡ Some segments }
+    ensures fits { IfOk result PartsFit }
+    ensures core { IfOk result (IsCoreReport script.now) }
+    ensures order { IfOk result Headline }
+{
+    let dev = flash_log(alloc, script, segments)?;
+    run_on(alloc, script, dev)
+}
+
+/// Runs a script on a new device over zeros, and cuts the power: on a flash log where the script has a `flash` line, else on
+/// the model device.
+pub fn core_run(alloc: Global, script: &Script) -> Result<Report, NoMemory>
+    requires { IsRunnable script.now }
+    ensures fits { IfOk result PartsFit }
+    ensures core { IfOk result (IsCoreReport script.now) }
+    ensures order { IfOk result Headline }
+{
+    match script.header.flash {
+        None => run_on_model(alloc, script),
+        Some(segments) => run_on_log(alloc, script, segments),
+    }
 }

@@ -138,6 +138,41 @@ fn has_no_scheduler_in_a_device_script(rt: HostRuntime) -> Result<(), Fail> {
     leaves(&rt, rt.alloc(), text, (2, 1, 0, 1), &[], &[Some(0), None])
 }
 
+// On a flash log: of three pages the second and the third are programmed, and what lies behind the first one is lost.
+#[test]
+fn drops_what_lies_behind_a_gap(rt: HostRuntime) -> Result<(), Fail> {
+    let text = b"device 3
+flash 3
+put 0 11 ordered
+put 1 22 ordered
+put 2 33 ordered
+events
+receive x 3
+transfer 0 x 3
+persist 1 x 2
+";
+    let origins = [None, None, None];
+    leaves(&rt, rt.alloc(), text, (5, 3, 0, 3), &[], &origins)
+}
+
+// Once the first page is programmed too, each block has its put.
+#[test]
+fn has_all_once_the_gap_is_filled(rt: HostRuntime) -> Result<(), Fail> {
+    let text = b"device 3
+flash 3
+put 0 11 ordered
+put 1 22 ordered
+put 2 33 ordered
+events
+receive x 3
+transfer 0 x 3
+persist 1 x 2
+persist 0
+";
+    let origins = [Some(0), Some(1), Some(2)];
+    leaves(&rt, rt.alloc(), text, (6, 3, 0, 3), &[], &origins)
+}
+
 // Nothing is transferred behind a transfer that failed, and so nothing is written.
 #[test]
 fn first_transfer_of_a_run_fails(rt: HostRuntime) -> Result<(), Fail> {
