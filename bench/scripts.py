@@ -32,6 +32,17 @@ def blocks(name, line, batch, header=(), requests=REQUESTS):
     return name, "\n".join(text) + "\n"
 
 
+def batches(name, kind, size, header=(), requests=9600):
+    """A script in which so many requests at a time go the whole way to the medium: by one persist each, or by two on a flash log."""
+    words = ("submit", "accept", "dispatch 0") if kind == "blocks" else ()
+    text = ["%s %d" % (kind, BLOCKS), *header, *(put(i, "ordered") for i in range(requests)), "events"]
+    for _ in range(0, requests, size):
+        for _ in range(0, size, 32):
+            text += [event + " x 32" for event in (*words, "receive", "transfer 0")]
+        text.append("persist 0 x %d" % (2 * size))
+    return name, "\n".join(text) + "\n"
+
+
 def volume(name, groups, length, rounds):
     """A volume script of one thread: groups of five `create` and `write`, with an `fbarrier` behind the last of them."""
     text = ["volume inodes 4608 zones 16384 journal 1024", "limit 200000", "thread 1"]
@@ -133,6 +144,10 @@ def cases():
         yield blocks(scheduler + "-orderless", lambda i: put(i, "free"), 32, header)
         yield blocks(scheduler + "-every-barrier", lambda i: put(i, "barrier"), 1, header)
         yield blocks(scheduler + "-mixed", lambda i: put(i, ("free", "ordered", "barrier")[i % 3]), 3, header)
+    for kind, size in (("device", 32), ("device", 960), ("blocks", 32)):
+        name = "%s-batches-%d" % (kind, size)
+        yield batches(name, kind, size)
+        yield batches(name + "-flash", kind, size, ("flash 64",))
     for name, groups in (("100", 9), ("1000", 91), ("10000", 909)):
         yield volume("volume-%s-calls" % name, groups, 1000, 40 * groups)
     yield files("volume-thousand-files", 1000, 16000)

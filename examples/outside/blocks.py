@@ -1,6 +1,8 @@
 """Scripts of block requests by docs/FORMATS.md: a second program, written from that page alone."""
+import itertools
 
 CLASS_LIMIT = 16  # puts in one command of the elevator
+SEGMENT = 16  # places in a segment of a flash log
 HELD_LIMIT = 128  # requests that the scheduler holds
 
 
@@ -35,14 +37,14 @@ class Script:
         kind, blocks = lines[0].split(" ")
         self.has_scheduler = kind == "blocks"
         self.blocks = int(blocks)
-        self.depth, self.queue, self.cut, self.elevator = 32, 32, None, False
+        self.depth, self.queue, self.cut, self.elevator, self.flash = 32, 32, None, False, None
         self.requests = []
         at = 1
         while lines[at] != "events":
             word, *rest = lines[at].split(" ")
             if word == "elevator":
                 self.elevator = True
-            elif word in ("depth", "queue", "cut"):
+            elif word in ("depth", "queue", "cut", "flash"):
                 setattr(self, word, int(rest[0]))
             else:
                 self.requests.append(Request(len(self.requests), lines[at]))
@@ -146,11 +148,76 @@ class Device:
         self.steps += 1
         return True
 
+    def surface(self):
+        """What the medium has, for each block its bytes and where they come from."""
+        return self.medium
+
+
+class FlashLog(Device):
+    """A device that puts all parts into a log, in order of their transfers, and from there into its data area, `medium`."""
+
+    def __init__(self, script):
+        super().__init__(script)
+        self.segments = script.flash
+        self.pages = []  # all that were ever given a place: block, bytes, request, and whether it is programmed
+        self.folded = 0  # how many of them, the first ones
+
+    def free_places(self):
+        erased = self.folded // SEGMENT
+        return (self.segments + erased) * SEGMENT - len(self.pages)
+
+    def may_transfer(self, at):
+        command = self.waiting[at]
+        if len(command.parts) > self.free_places():
+            return False
+        if command.is_flush:
+            return at == 0 and all(page[3] for page in self.pages)
+        return super().may_transfer(at)
+
+    def transfer(self, pick):
+        eligible = [at for at in range(len(self.waiting)) if self.may_transfer(at)]
+        if not self.is_on() or pick >= len(eligible):
+            return False
+        self.pages += [[*part, False] for part in self.waiting.pop(eligible[pick]).parts]
+        self.steps += 1
+        return True
+
+    def kept(self):
+        """The pages that are not folded, up to the first one that is not programmed."""
+        return list(itertools.takewhile(lambda page: page[3], self.pages[self.folded :]))
+
+    def persist(self, pick):
+        eligible = [page for page in self.pages if not page[3]] + self.kept()[:1]
+        if not self.is_on() or pick >= len(eligible):
+            return False
+        page = eligible[pick]
+        if page[3]:
+            self.fold(page, self.kept()[1:])
+        page[3] = True
+        self.steps += 1
+        return True
+
+    def fold(self, page, later):
+        block, value, number, _ = page
+        if block not in [other[0] for other in later]:
+            self.medium[block] = (value, str(number))
+        self.folded += 1
+
+    def surface(self):
+        medium = list(self.medium)
+        for block, value, number, _ in self.kept():
+            medium[block] = (value, str(number))
+        return medium
+
+
+def device_of(script):
+    return Device(script) if script.flash is None else FlashLog(script)
+
 
 class Run:
     def __init__(self, script):
         self.script = script
-        self.scheduler, self.device = Scheduler(script.elevator), Device(script)
+        self.scheduler, self.device = Scheduler(script.elevator), device_of(script)
         self.left, self.submitted, self.sent, self.kept = list(script.requests), [], [], None
 
     def send(self, command):
@@ -201,5 +268,5 @@ def report(text):
             if not run.do(event, pick):
                 break
     lines = [f"steps {run.device.steps}"]
-    lines += [f"block {at} {value} {origin}" for at, (value, origin) in enumerate(run.device.medium)]
+    lines += [f"block {at} {value} {origin}" for at, (value, origin) in enumerate(run.device.surface())]
     return "".join(line + "\n" for line in lines)

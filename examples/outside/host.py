@@ -58,7 +58,7 @@ class Script:
         self.inodes, self.zones, self.journal = int(words[2]), int(words[4]), int(words[6])
         self.tags = int(words[8]) if words[7:8] == ["tags"] else 32
         self.blocks = self.zones + self.journal
-        self.depth, self.queue, self.limit, self.cut, self.elevator = 32, 32, 20_000, None, False
+        self.depth, self.queue, self.limit, self.cut, self.elevator, self.flash = 32, 32, 20_000, None, False, None
         self.threads, self.events = [], []
         at = lines.index("events")
         for line in lines[1:at]:
@@ -74,15 +74,14 @@ class Script:
         self.events = [line for line in lines[at + 1 :] if not line.startswith("recover")]
         self.attempts = [line.split(" ")[1:] for line in lines[at + 1 :] if line.startswith("recover")]
 
-
     def log_blocks(self, bodies, revokes):
         """The log blocks of a transaction."""
         in_descriptor, in_revoke = LISTED[self.tags]
         return -(-revokes // in_revoke) + -(-bodies // in_descriptor) + bodies + 1
 
 
-class Device(blocks.Device):
-    """The device of blocks.py with its completions."""
+class Completions:
+    """What a device of blocks.py tells besides."""
 
     def __init__(self, script):
         super().__init__(script)
@@ -106,6 +105,18 @@ class Device(blocks.Device):
         return None
 
 
+class Device(Completions, blocks.Device):
+    pass
+
+
+class FlashLog(Completions, blocks.FlashLog):
+    pass
+
+
+def device_of(script):
+    return Device(script) if script.flash is None else FlashLog(script)
+
+
 class Session:
     def __init__(self, script):
         self.script, self.threads = script, script.threads
@@ -123,7 +134,7 @@ class Session:
         self.moved, self.flushed, self.is_down, self.taken = set(), -1, False, 0
         self.submitted, self.sent, self.kept = [], [], None
         self.completions, self.kept_completion = [], None
-        self.scheduler, self.device = blocks.Scheduler(script.elevator), Device(script)
+        self.scheduler, self.device = blocks.Scheduler(script.elevator), device_of(script)
         self.device.medium = [(body, "-") for body in self.made()]
         self.answers, self.closed = [], 0
         self.changes = 0
@@ -531,10 +542,10 @@ class Session:
         lines = [f"steps {self.device.steps}", f"requests {self.requests}", *self.answers]
         for number, thread in enumerate(self.threads, 1):
             lines.append(f"thread {number}: {thread.at} of {len(thread.lines)}{self.state(thread)}")
-        medium, base = [body for body, _ in self.device.medium], self.script.zones
+        medium, base = [body for body, _ in self.device.surface()], self.script.zones
         lines += [f"closed {self.closed}", f"found {recovery.Log(medium, base).last()}"]
         for words in self.script.attempts:
-            medium = recovery.attempt(medium, base, self.script.depth, words)
+            medium = recovery.attempt(medium, base, self.script.depth, self.script.flash, words)
         lines += recovery.Tree(recovery.recovered(medium, base), self.places.table).lines
         return "".join(line + "\n" for line in lines)
 

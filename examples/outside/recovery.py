@@ -64,19 +64,19 @@ class Put:
 
 
 class Setup:
-    def __init__(self, depth, count):
-        self.depth, self.cut, self.blocks = depth, None, count
+    def __init__(self, depth, flash, count):
+        self.depth, self.flash, self.cut, self.blocks = depth, flash, None, count
 
 
-def attempt(medium, base, depth, words):
-    """The medium that an attempt leaves which is cut after these words."""
+def attempt(medium, base, depth, flash, words):
+    """The medium that an attempt leaves which is cut after these words, on a device like the session's."""
     log = Log(medium, base)
     if not log.start:
         return medium
     homes = sorted(log.homes().items())
     puts = [Put(at, block, body, at == len(homes) - 1) for at, (block, body) in enumerate(homes)]
     puts += [Put(len(homes), base, log.closed(), True), Put(len(homes) + 1, None, None, True)]
-    device = blocks.Device(Setup(depth, len(medium)))
+    device = blocks.device_of(Setup(depth, flash, len(medium)))
     device.medium = [(value, "-") for value in medium]
     for word in words:
         for _ in range(int(word[1:]) if word[0] == "d" else 1):
@@ -92,7 +92,7 @@ def attempt(medium, base, depth, words):
                 device.persist(int(word[1:]))
             if word[0] == "d" and device.steps == before:
                 break
-    return [value for value, _ in device.medium]
+    return [value for value, _ in device.surface()]
 
 
 def recovered(medium, base):

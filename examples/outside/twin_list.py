@@ -165,7 +165,7 @@ twin("recovery", "attempt-falls", "recovery sends the bodies home in falling ord
      "homes = sorted(log.homes().items())", "homes = sorted(log.homes().items(), reverse=True)",
      row=NO_LINE)
 twin("recovery", "attempt-depth", "an attempt of recovery has a device of depth 32", "recovery",
-     "self.depth, self.cut, self.blocks = depth, None, count", "self.depth, self.cut, self.blocks = 32, None, count",
+     "self.depth, self.flash, self.cut, self.blocks = depth, flash, None, count", "self.depth, self.flash, self.cut, self.blocks = 32, flash, None, count",
      row=NO_LINE)
 twin("recovery", "attempt-persists-first", "a step that recovery chooses itself persists before it transfers", "recovery",
      "device.transfer(0) or device.persist(0)", "device.persist(0) or device.transfer(0)",
@@ -174,9 +174,9 @@ twin("recovery", "attempt-persists-first", "a step that recovery chooses itself 
 # The block stack
 
 twin("stack", "depth-31", "the device has room for 31 commands where the script says nothing", "blocks",
-     "self.depth, self.queue, self.cut, self.elevator = 32, 32, None, False", "self.depth, self.queue, self.cut, self.elevator = 31, 32, None, False")
+     "self.cut, self.elevator, self.flash = 32, 32, None, False, None", "self.cut, self.elevator, self.flash = 31, 32, None, False, None")
 twin("stack", "queue-31", "the queues have 31 places where the script says nothing", "blocks",
-     "self.depth, self.queue, self.cut, self.elevator = 32, 32, None, False", "self.depth, self.queue, self.cut, self.elevator = 32, 31, None, False")
+     "self.cut, self.elevator, self.flash = 32, 32, None, False, None", "self.cut, self.elevator, self.flash = 32, 31, None, False, None")
 twin("stack", "merge-15", "the elevator joins at most 15 puts", "blocks", "CLASS_LIMIT = 16", "CLASS_LIMIT = 15")
 twin("stack", "held-127", "the scheduler holds at most 127 requests", "blocks", "HELD_LIMIT = 128", "HELD_LIMIT = 127")
 twin("stack", "merge-both", "the elevator joins puts of both classes", "blocks", " and r.keeps_order == taken[0].keeps_order]", "]")
@@ -213,6 +213,27 @@ twin("stack", "depth-more", "the device takes one command more than its depth", 
 twin("stack", "command-taken-twice-blocks", "a dispatch that sends the kept command takes the next one too", "blocks",
      "            self.sent.append(command)\n            self.kept = None\n", "            self.sent.append(command)\n            self.kept = self.scheduler.dispatch(0) if self.kept is command else None\n")
 twin("stack", "cut-late", "the power goes off one step later", "blocks", "self.steps < self.cut", "self.steps <= self.cut")
+
+# The flash log
+
+twin("stack", "gap-survives", "programmed pages behind one that is not are on the medium, and are folded", "blocks",
+     "list(itertools.takewhile(lambda page: page[3], self.pages[self.folded :]))", "[page for page in self.pages[self.folded :] if page[3]]")
+twin("stack", "surface-behind-gap", "the medium has the programmed pages behind one that is not", "blocks",
+     "        for block, value, number, _ in self.kept():\n", "        for block, value, number, _ in [page for page in self.pages[self.folded :] if page[3]]:\n")
+twin("stack", "log-order-lost", "the pages lie over the data area with the first one on top", "blocks",
+     "        for block, value, number, _ in self.kept():\n", "        for block, value, number, _ in reversed(self.kept()):\n")
+twin("stack", "segment-15", "a segment of the log has 15 places", "blocks", "SEGMENT = 16", "SEGMENT = 15")
+twin("stack", "erased-by-page", "a place is free as soon as its page is folded", "blocks",
+     "(self.segments + erased) * SEGMENT - len(self.pages)", "self.segments * SEGMENT + self.folded - len(self.pages)")
+twin("stack", "never-erased", "no segment is ever erased", "blocks", "erased = self.folded // SEGMENT", "erased = 0")
+twin("stack", "log-one-less", "a command with as many parts as the log has free places waits", "blocks",
+     "if len(command.parts) > self.free_places():", "if len(command.parts) >= self.free_places() and command.parts:")
+twin("stack", "fold-first", "the fold stands before the programs", "blocks",
+     "[page for page in self.pages if not page[3]] + self.kept()[:1]", "self.kept()[:1] + [page for page in self.pages if not page[3]]")
+twin("stack", "flush-passes-pages", "a flush is transferred while a page is not programmed", "blocks",
+     "return at == 0 and all(page[3] for page in self.pages)", "return at == 0")
+twin("stack", "flush-waits-for-folds", "a flush waits until each page is folded", "blocks",
+     "all(page[3] for page in self.pages)", "len(self.pages) == self.folded")
 
 # The limits of scripts
 

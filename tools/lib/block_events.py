@@ -107,7 +107,7 @@ class Words:
 
     def transfer(self, after):
         names = self.eligible_commands()
-        command = next(c for c in self.run.device.waiting if all(c is not other for other in after.device.waiting))
+        command = self.transferred(after)
         text = f"{self.command(command)} goes into the cache"
         if command.is_flush:
             text = "the flush is done: the cache was empty"
@@ -116,6 +116,10 @@ class Words:
         else:
             text += self.replaced(command)
         return f"{text}; {among(names)}"
+
+    def transferred(self, after):
+        """The command that left the queue."""
+        return next(c for c in self.run.device.waiting if all(c is not other for other in after.device.waiting))
 
     def replaced(self, command):
         """Whose entries a command replaces."""
@@ -175,12 +179,60 @@ class Words:
         return f"place {pick} is past the entries of the oldest epoch, {listed(self.eligible_entries())}"
 
 
+class FlashWords(Words):
+    """The same where the device is a flash log."""
+
+    def eligible_entries(self):
+        device = self.run.device
+        programs = [put_name(number, block) for block, _, number, programmed in device.pages if not programmed]
+        return programs + [f"the fold of {put_name(number, block)}" for block, _, number, _ in device.kept()[:1]]
+
+    def transfer(self, after):
+        names, command = self.eligible_commands(), self.transferred(after)
+        text = f"{self.command(command)} goes into the log"
+        if command.is_flush:
+            text = "the flush is done: each page is programmed"
+        return f"{text}; {among(names)}"
+
+    def persist(self, after):
+        device, names = self.run.device, self.eligible_entries()
+        if after.device.folded > device.folded:
+            page = device.pages[device.folded]
+            covered = page[0] in [later[0] for later in device.kept()[1:]]
+            text = f"{self.put(page[2], page[0])} is folded" + (": a later page has its block" if covered else " into the data area")
+        else:
+            at = next(at for at, page in enumerate(device.pages) if page[3] != after.device.pages[at][3])
+            page = device.pages[at]
+            behind = any(not other[3] for other in device.pages[:at])
+            text = f"{self.put(page[2], page[0])} is programmed, " + ("behind a page that is not" if behind else "and is on the medium")
+        return f"{text}; {among(names)}"
+
+    def no_transfer(self, pick):
+        device = self.run.device
+        if device.waiting and not self.eligible_commands():
+            if device.waiting[0].is_flush:
+                return "the flush waits until each page is programmed"
+            return f"the log has {device.free_places()} free places"
+        return super().no_transfer(pick)
+
+    def no_persist(self, pick):
+        names = self.eligible_entries()
+        return f"place {pick} is past the writes, {listed(names)}" if names else "each page is folded"
+
+
 class Moment:
     """An event: its line, which of its line's events it is, whether it acted, and what is said of it."""
 
     def __init__(self, number, line, time, acted, text):
         self.number, self.line, self.time, self.acted, self.text = number, line, time, acted, text
         self.last = time
+
+
+def copy_entries(device, fresh):
+    """Gives a copy of a device its own entries of the cache, or pages of the log."""
+    for name in ("cache", "pages"):
+        if hasattr(device, name):
+            setattr(fresh, name, [list(entry) for entry in getattr(device, name)])
 
 
 def copied(run):
@@ -190,13 +242,13 @@ def copied(run):
     fresh.left, fresh.submitted, fresh.sent = list(run.left), list(run.submitted), list(run.sent)
     fresh.scheduler.held = list(run.scheduler.held)
     fresh.device.waiting, fresh.device.medium = list(run.device.waiting), list(run.device.medium)
-    fresh.device.cache = [list(entry) for entry in run.device.cache]
+    copy_entries(run.device, fresh.device)
     return fresh
 
 
 def printed(run):
     lines = [f"steps {run.device.steps}"]
-    lines += [f"block {at} {value} {origin}" for at, (value, origin) in enumerate(run.device.medium)]
+    lines += [f"block {at} {value} {origin}" for at, (value, origin) in enumerate(run.device.surface())]
     return "".join(line + "\n" for line in lines)
 
 
@@ -235,7 +287,7 @@ class Explained:
         if not was.device.is_on():
             acted_on = "nothing" if word in ("receive", "transfer", "persist") else "nothing of it is seen"
             return f"{acted_on}: {OFF}"
-        words = Words(was)
+        words = Words(was) if self.model.flash is None else FlashWords(was)
         if not acted:
             return "nothing: " + words.why(word, pick)
         text = words.did(word, run)

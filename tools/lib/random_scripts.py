@@ -28,8 +28,13 @@ SIZES = [1, 1, 2, 3, 4, 6, 8, 64]  # of a queue, or of the device's
 
 
 def block_script(rng):
-    if rng.random() < 0.2:
-        return full_script(rng)
+    script = full_script(rng) if rng.random() < 0.2 else short_script(rng)
+    if rng.random() < 0.4:
+        script.insert(1, f"flash {rng.choice([3, 3, 3, 4, 5, 64])}")
+    return "\n".join(script) + "\n"
+
+
+def short_script(rng):
     kind = rng.choice(["device", "blocks", "blocks", "blocks"])
     count = rng.choice([1, 2, 3, 5, 8, 20])
     lines = [f"depth {rng.choice(SIZES)}", f"cut {rng.randint(0, 60)}"]
@@ -45,7 +50,7 @@ def block_script(rng):
     script.append("events")
     for _ in range(rng.choice([0, 10, 60, 200, 400])):
         script.append(placed(rng, repeated(rng, rng.choice(names), 9)))
-    return "\n".join(script) + "\n"
+    return script
 
 
 def full_script(rng):
@@ -67,7 +72,7 @@ def full_script(rng):
         script += ["submit x 64", "accept x 64"] * rng.randint(1, 6)
     for _ in range(rng.choice([20, 60, 150])):
         script.append(placed(rng, repeated(rng, rng.choice(words), 150)))
-    return "\n".join(script) + "\n"
+    return script
 
 
 def placed(rng, line):
@@ -265,6 +270,7 @@ def limit_lines(rng, past):
     return rng.choice([
         lambda: ([f"{rng.choice(['device', 'blocks'])} {number(1, 4096)}"], []),
         lambda: (["blocks 3", f"{rng.choice(['depth', 'queue'])} {number(1, 64)}"], []),
+        lambda: ([f"{rng.choice(['device', 'blocks'])} 3", f"flash {number(3, 64)}"], []),
         lambda: ([VOLUME, rng.choice([f"seed {number(0, 1_000_000_000)}", f"limit {number(1, 200_000)}", f"cut {number(0, 1_000_000_000)}"])], []),
         lambda: (["device 5", f"put {4 + past} 00 free"], []),
         lambda: (["device 5", *["put 1 00 free"] * (10_000 + past)], []),

@@ -111,7 +111,7 @@ class Before:
         self.scheduler, self.device = copy.copy(session.scheduler), copy.copy(session.device)
         self.device.waiting, self.device.done = list(session.device.waiting), list(session.device.done)
         if word in DEVICE:
-            self.device.cache = [list(entry) for entry in session.device.cache]
+            block_events.copy_entries(session.device, self.device)
         self.submitted, self.sent, self.kept = list(session.submitted), list(session.sent), session.kept
         self.completions, self.kept_completion = list(session.completions), session.kept_completion
         self.changes, self.requests, self.phase, self.closed = session.changes, session.requests, session.phase, session.closed
@@ -142,6 +142,10 @@ class QueueWords(block_events.Words):
         if not self.run.sent:
             return "the dispatch queue is empty"
         return f"the device has no room: {len(self.run.device.waiting)} commands wait"
+
+
+class FlashQueueWords(QueueWords, block_events.FlashWords):
+    """The same where the device is a flash log."""
 
 
 class HostWords:
@@ -289,7 +293,7 @@ def said(before, session, event):
     if word in DEVICE and not before.device.is_on():
         return f"nothing: {OFF}"
     if word in ("accept", "dispatch", *DEVICE):
-        words = QueueWords(before, session)
+        words = (QueueWords if session.script.flash is None else FlashQueueWords)(before, session)
         text = words.did(word, session) if acted else "nothing: " + words.why(word, (rest or [0])[0])
     else:
         words = HostWords(before, session)
