@@ -30,6 +30,7 @@ fn prints_what_was_worked_out(rt: HostRuntime) -> Result<(), Fail> {
         (barriers::LAST_VERSION, barriers::LAST_VERSION_PRINTS),
         (barriers::WAITS, barriers::WAITS_PRINTS),
         (syncs::SYNC, syncs::SYNC_PRINTS),
+        (syncs::FLASH, syncs::FLASH_PRINTS),
         (syncs::DOWN, syncs::DOWN_PRINTS),
         (files::FULL_VOLUME, files::FULL_VOLUME_PRINTS),
         (files::HOLES, files::HOLES_PRINTS),

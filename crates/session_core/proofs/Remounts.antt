@@ -1,18 +1,20 @@
--- What recovery made of a script's session, on any device and on model devices.
-use Rattle.std.proofs.Common.{◌≡◌, ℕ, ◌≤◌, List, [], IfOk, Ok, Err, Result, refl, sym, ap, subst, ◌∙◌, arith}
+-- What recovery made of a script's session, on any device, on model devices and on flash logs.
+use Rattle.std.proofs.Common.{◌≡◌, ℕ, ◌≤◌, List, [], Option, Some, None, IfOk, Ok, Err, Result, refl, sym, ap, subst, ◌∙◌, arith}
 use Rattle.blk_base.specs.declared.memory.NoMemory.{NoMemory}
 use Rattle.order_model.specs.Machine.{Machine}
 use Rattle.device_epochs.specs.Device.{DeviceState, seen}
-use Rattle.stack_core.specs.Core.{epoch_machine}
-use Rattle.stack_core.specs.Fresh.{device_over}
+use Rattle.flog_device.specs.Device as flash
+use Rattle.flog_device.specs.Device.{FlogState}
+use Rattle.stack_core.specs.Core.{epoch_machine, flash_machine}
+use Rattle.stack_core.specs.Fresh.{device_over, flash_over}
 use Rattle.event_grammar.specs.declared.steer.Steer.{Steer}
 use Rattle.volume_ops.specs.Volume.{VolumeState}
 use Rattle.mount_make.specs.Images.{mounted}
 use Rattle.call_images.specs.CallImages.{Attempt, IsMountedBehind, attempts_of, image_after}
 use Rattle.session_grammar.specs.declared.session_script.SessionScript.{SessionScript}
-use Rattle.session_core.specs.Core.{IsNewFor, core, core_on, device_for, geometry_of}
-use Rattle.session_core.specs.Headline.{Headline, HeadlineOn}
-use Rattle.session_core.specs.Report.{HasAttempts, IsCoreReport, IsReportOf}
+use Rattle.session_core.specs.Core.{IsNewFor, core_as, core_on, device_for, flash_for, geometry_of}
+use Rattle.session_core.specs.Headline.{HeadlineOn}
+use Rattle.session_core.specs.Report.{HasAttempts, IsReportAs, IsReportOf}
 use Rattle.session_core.specs.declared.report.SessionReport.{SessionReport}
 
 -- the attempts that were made over a copy of what the power cut left
@@ -40,13 +42,32 @@ FollowFunction s =
     (r : SessionReport) (has : HasAttempts epoch_machine (device_over s.header.depth) s r)
     → (r.attempts.items ≡ attempts_of s.header.depth (geometry_of s).zones r.cut.image.items s.recovers) × (has.left ≡ image_after s.header.depth (geometry_of s).zones r.cut.image.items s.recovers)
 
-core_report : (s : SessionScript) (r : SessionReport) → FollowFunction s → IsReportOf s (core s) r → HasAttempts epoch_machine (device_over s.header.depth) s r → IsCoreReport s r
-core_report s r law report has = record { report = report; attempts = (law r has).0; left = ap mounted (sym (law r has).1) ∙ has.mounts }
+core_report : (s : SessionScript) (r : SessionReport) → FollowFunction s → IsReportOf s (core_as s None) r → HasAttempts epoch_machine (device_over s.header.depth) s r → IsReportAs s None r
+core_report s r law report has = record { report = report; attempts = record { attempts = (law r has).0; left = ap mounted (sym (law r has).1) ∙ has.mounts } }
 
-pub core_reports : (s : SessionScript) (r : Result SessionReport NoMemory) (dev : DeviceState) → dev ≡ device_for s → FollowFunction s
-    → IfOk r (IsReportOf s (core_on epoch_machine s dev)) → IfOk r (HasAttempts epoch_machine (device_over s.header.depth) s) → IfOk r (IsCoreReport s)
-core_reports s (Err e) dev same law report has = tt
-core_reports s (Ok r) dev same law report has = core_report s r law (subst (λ (d : DeviceState). IsReportOf s (core_on epoch_machine s d) r) same report) has
+pub model_reports : (s : SessionScript) (r : Result SessionReport NoMemory) (dev : DeviceState) → dev ≡ device_for s → FollowFunction s
+    → IfOk r (IsReportOf s (core_on epoch_machine s dev)) → IfOk r (HasAttempts epoch_machine (device_over s.header.depth) s) → IfOk r (IsReportAs s None)
+model_reports s (Err e) dev same law report has = tt
+model_reports s (Ok r) dev same law report has = core_report s r law (subst (λ (d : DeviceState). IsReportOf s (core_on epoch_machine s d) r) same report) has
 
-pub core_headlines : (s : SessionScript) (r : Result SessionReport NoMemory) (dev : DeviceState) → dev ≡ device_for s → IfOk r (HeadlineOn s (core_on epoch_machine s dev)) → IfOk r (Headline s)
-core_headlines s r dev same is = subst (λ (d : DeviceState). IfOk r (HeadlineOn s (core_on epoch_machine s d))) same is
+pub model_headlines : (s : SessionScript) (r : Result SessionReport NoMemory) (dev : DeviceState) → dev ≡ device_for s → IfOk r (HeadlineOn s (core_on epoch_machine s dev)) → IfOk r (HeadlineOn s (core_as s None))
+model_headlines s r dev same is = subst (λ (d : DeviceState). IfOk r (HeadlineOn s (core_on epoch_machine s d))) same is
+
+-- ---- on flash logs
+
+-- the flash log that a script opens is new for it
+pub flash_is_new : (s : SessionScript) (segments : ℕ) (dev : FlogState) → dev ≡ flash_for s segments → IsNewFor s (flash.seen dev)
+flash_is_new s segments dev e = subst (λ (d : FlogState). IsNewFor s (flash.seen d)) (sym e) (record {
+  image = refl;
+  setup = record { depth = refl; cut_at = refl; fail_at = refl };
+  untouched = record { took = refl; moved = refl; sent = refl; steps = refl; transfers_made = refl; faults = refl };
+  ids = omega arith;
+})
+
+pub flash_reports : (s : SessionScript) (segments : ℕ) (r : Result SessionReport NoMemory) (dev : FlogState) → dev ≡ flash_for s segments
+    → IfOk r (IsReportOf s (core_on flash_machine s dev)) → IfOk r (HasAttempts flash_machine (flash_over s.header.depth segments) s) → IfOk r (IsReportAs s (Some segments))
+flash_reports s segments (Err e) dev same report has = tt
+flash_reports s segments (Ok r) dev same report has = record { report = subst (λ (d : FlogState). IsReportOf s (core_on flash_machine s d) r) same report; attempts = has }
+
+pub flash_headlines : (s : SessionScript) (segments : ℕ) (r : Result SessionReport NoMemory) (dev : FlogState) → dev ≡ flash_for s segments → IfOk r (HeadlineOn s (core_on flash_machine s dev)) → IfOk r (HeadlineOn s (core_as s (Some segments)))
+flash_headlines s segments r dev same is = subst (λ (d : FlogState). IfOk r (HeadlineOn s (core_on flash_machine s d))) same is

@@ -10,6 +10,9 @@ use Rattle.sched_elevator.specs.Elevator as elevator
 use Rattle.device_epochs.specs.declared.device.DeviceSetup.{DeviceSetup}
 use Rattle.device_epochs.specs.Device as epochs
 use Rattle.device_epochs.specs.Device.{DeviceState}
+use Rattle.flog_device.specs.declared.device.FlogSetup.{FlogSetup}
+use Rattle.flog_device.specs.Device as flash
+use Rattle.flog_device.specs.Device.{FlogState}
 use Rattle.minix_layout.specs.declared.division.Geometry.{Geometry}
 use Rattle.minix_layout.specs.Geometry.{geometry_made}
 use Rattle.tree_model.specs.declared.call.Call.{Call}
@@ -26,7 +29,7 @@ pub use Rattle.session_run.specs.End.{entry_in, ArePlaced, standing_of}
 use Rattle.host_runs.specs.Runs.{Event}
 use Rattle.host_volume.specs.Sessions.{Opening}
 use Rattle.call_images.specs.CallImages.{made_session}
-use Rattle.stack_core.specs.Core.{epoch_machine}
+use Rattle.stack_core.specs.Core.{epoch_machine, flash_machine}
 use Rattle.session_grammar.specs.declared.session_script.SessionScript.{SessionScript}
 use Rattle.session_machine.specs.Machine.{SessionState, Start, core_session}
 use Rattle.session_machine.specs.MadeStart.{made_start}
@@ -48,6 +51,13 @@ setup_for s = record { depth = s.header.depth; limit = s.header.limit; fail_at =
 
 abbrev pub device_for : SessionScript → DeviceState
 device_for s = epochs.opened (made_image (geometry_of s) s.journal s.wide) (setup_for s)
+
+-- a flash log of so many segments over the image, made so too
+abbrev pub flash_setup_for : SessionScript → ℕ → FlogSetup
+flash_setup_for s segments = record { depth = s.header.depth; limit = s.header.limit; segments = segments; fail_at = None; cut_at = s.header.cut }
+
+abbrev pub flash_for : SessionScript → ℕ → FlogState
+flash_for s segments = flash.opened (made_image (geometry_of s) s.journal s.wide) (flash_setup_for s segments)
 
 -- the host that it opens on that volume
 abbrev pub opened_host : SessionScript → HostNow
@@ -75,9 +85,14 @@ core_on m s dev =
     ended elevator.elevator_steps m (core_session (opening_of s) elevator.elevator_steps m (start_of s) (elevator.opened s.header.limit CAPACITY) dev s.events)
     else ended plain.sched_steps m (core_session (opening_of s) plain.sched_steps m (start_of s) (plain.opened s.header.limit CAPACITY) dev s.events)
 
--- the same on the model device that it opens
+-- the same on a flash log of so many segments, or else on the model device
+abbrev pub core_as : SessionScript → Option ℕ → EndState
+core_as s None = core_on epoch_machine s (device_for s)
+core_as s (Some segments) = core_on flash_machine s (flash_for s segments)
+
+-- the same on the device that it opens: a flash log, where the line `flash` stands
 abbrev pub core : SessionScript → EndState
-core s = core_on epoch_machine s (device_for s)
+core s = core_as s s.header.flash
 
 -- The device was made as the script's header says: so many commands may wait, its power goes off at the steps of the `cut` line, where
 -- there is one, and none of its transfers fails.

@@ -87,7 +87,7 @@ pub data ShowsLater (s : SessionScript) (end : EndState) (found : ℕ) (tree : T
   ByBytes : HasNewerBytes s end found tree e → ShowsLater s end found tree e
   ByMetadata : ((v : ℕ) → v ≤ e → AreAlike (tree_at (opening_of s) end.host v) tree → ⊥) → ShowsLater s end found tree e
 
--- ---- the same on the model device that a script opens
+-- ---- the same on the device that a script opens
 
 abbrev pub told_of : SessionScript → History WalkEnd
 told_of s = told_by s (core s)
@@ -148,6 +148,6 @@ pub record HeadlineOn (s : SessionScript) (end : EndState) (r : SessionReport) :
   -- At most as many flushes were submitted as sync calls have begun.
   pub flushes : count is_flush_note end.host.journal.flush.notes ≤ count (is_sync_begin kind_of) end.host.history
 
--- those of a script's session on the model device that it opens
+-- those of a script's session on the device that it opens
 abbrev pub Headline : SessionScript → SessionReport → Type 0
 Headline s r = HeadlineOn s (core s) r

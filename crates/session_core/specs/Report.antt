@@ -1,5 +1,5 @@
 -- Which report a session leaves, and what it promises.
-use Rattle.std.specs.Prelude.{◌≡◌, ℕ, ◌++◌, List, length, Ok}
+use Rattle.std.specs.Prelude.{◌≡◌, ℕ, ◌++◌, List, length, Option, Some, None, Ok}
 use Rattle.order_model.specs.Device.{origin_ids}
 use Rattle.order_model.specs.Machine.{Machine}
 use Rattle.order_model.specs.Steps.{IsTraceOf}
@@ -7,11 +7,13 @@ use Rattle.barrier_reassign.specs.Scheduler.{IsSchedRecord}
 use Rattle.tree_model.specs.Calls.{Tree}
 use Rattle.tree_model.specs.Trees.{AreAlike}
 use Rattle.mount_make.specs.Images.{mounted, image_tree}
+use Rattle.stack_core.specs.Core.{flash_machine}
+use Rattle.stack_core.specs.Fresh.{flash_over}
 use Rattle.stack_core.specs.Headline.{KeepsOrder}
 pub use Rattle.session_run.specs.End.{tree_behind}
 use Rattle.session_grammar.specs.declared.session_script.SessionScript.{SessionScript}
 use Rattle.call_images.specs.CallImages.{IsMountedBehind, attempts_of, found_in, image_after}
-use Rattle.session_core.specs.Core.{EndState, opening_of, geometry_of, core, standings_of}
+use Rattle.session_core.specs.Core.{EndState, opening_of, geometry_of, core_as, standings_of}
 use Rattle.session_core.specs.declared.report.SessionReport.{SessionReport}
 
 -- The report of a session that ended in this state: its host with the script's calls, what its scheduler did, what the power
@@ -32,11 +34,24 @@ pub record IsReportOf (s : SessionScript) (end : EndState) (r : SessionReport) :
 abbrev pub HasAttempts : {S : Type 0} → Machine S → (List (List ℕ) → S) → SessionScript → SessionReport → Type 0
 HasAttempts m fresh s r = IsMountedBehind m fresh (geometry_of s).zones r.cut.image.items s.recovers r.attempts.items r.volume
 
--- the report of a script that ran on model devices
-pub record IsCoreReport (s : SessionScript) (r : SessionReport) : Type 0 where
-  pub report : IsReportOf s (core s) r
+-- on model devices these are a function of what the power cut left
+pub record HasModelAttempts (s : SessionScript) (r : SessionReport) : Type 0 where
   pub attempts : r.attempts.items ≡ attempts_of s.header.depth (geometry_of s).zones r.cut.image.items s.recovers
   pub left : mounted (image_after s.header.depth (geometry_of s).zones r.cut.image.items s.recovers) ≡ Ok r.volume
+
+-- its attempts on flash logs of so many segments, or else on model devices, of the script's depth
+abbrev pub HasAttemptsAs : SessionScript → Option ℕ → SessionReport → Type 0
+HasAttemptsAs s None r = HasModelAttempts s r
+HasAttemptsAs s (Some segments) r = HasAttempts flash_machine (flash_over s.header.depth segments) s r
+
+-- the report of a script that ran on such devices
+pub record IsReportAs (s : SessionScript) (flash : Option ℕ) (r : SessionReport) : Type 0 where
+  pub report : IsReportOf s (core_as s flash) r
+  pub attempts : HasAttemptsAs s flash r
+
+-- the report of a script that ran on the devices that it says
+abbrev pub IsCoreReport : SessionScript → SessionReport → Type 0
+IsCoreReport s r = IsReportAs s s.header.flash r
 
 -- What the power cut left is order-closed for what the host submitted over the new volume and its journal, and where a
 -- flush completed, whether that was taken or not, all before it is kept.

@@ -1,14 +1,14 @@
 //! The run of a volume script.
-ghost use Rattle.std.specs.Prelude.{◌≡◌, ◌^◌, ◌<◌, length, IfOk};
+ghost use Rattle.std.specs.Prelude.{◌≡◌, ◌^◌, ◌<◌, length, Some, None, IfOk};
 ghost use Rattle.order_model.specs.Machine.{machine_of};
 ghost use Rattle.barrier_reassign.specs.Scheduler.{IsNewScheduler};
 ghost use Rattle.mount_make.specs.Made.{made_image};
 ghost use Rattle.session_grammar.specs.WellFormed.{IsWellFormed};
 ghost use Rattle.session_run.specs.Beginning.{IsMadeFor};
 ghost use Rattle.session_run.specs.declared.session.SessionEnd.{SessionEnd};
-ghost use Rattle.session_core.specs.Core.{EndState, IsDeviceOf, IsNewFor, core_on, device_for, ended, geometry_of, opened_host, opening_of, start_of, standings_of};
+ghost use Rattle.session_core.specs.Core.{EndState, IsDeviceOf, IsNewFor, core_as, core_on, device_for, ended, flash_for, geometry_of, opened_host, opening_of, start_of, standings_of};
 ghost use Rattle.session_core.specs.Headline.{Headline, HeadlineOn};
-ghost use Rattle.session_core.specs.Report.{HasAttempts, IsCoreReport, IsReportOf};
+ghost use Rattle.session_core.specs.Report.{HasAttempts, IsCoreReport, IsReportAs, IsReportOf};
 ghost use Rattle.session_core.specs.code.Cuts.{CutFacts, medium_left};
 ghost use Rattle.session_core.specs.code.Ends.{session_on, EndsIn, KeepsTheOrder, IsBehind, EndFits};
 
@@ -21,6 +21,7 @@ use call_images::{
 };
 use device_epochs::{DeviceSetup, EpochDevice};
 use epoch_sched::Sched;
+use flog_device::{FlogDevice, FlogSetup};
 use host_answers::Standing;
 use minix_layout::Geometry;
 use order_model::{CutDisk, OrderedDev, Trail};
@@ -35,7 +36,7 @@ use session_run::{
     Host, SessionEnd, calls_of_scripts_write_bytes, run_session, sessions_of_calls_on_made_images,
     sessions_on_made_images_can_be_run,
 };
-use stack_core::{EpochMaker, Maker};
+use stack_core::{EpochMaker, FlogMaker, Maker};
 use std::alloc::Global;
 
 // How each of so many threads stands.
@@ -255,11 +256,34 @@ fn model_device(
     EpochDevice::make(alloc, image, setup)
 }
 
-/// Runs a volume script on the model device that it says, and recovers on model devices of the same depth.
-pub fn core_run(alloc: Global, script: &SessionScript) -> Result<SessionReport, NoMemory>
+// The flash log of so many segments that a script says, over the image of its volume.
+fn flash_device(
+    alloc: Global,
+    script: &SessionScript,
+    segments: u32,
+    image: Image,
+) -> Result<FlogDevice, NoMemory>
+    requires script { IsWellFormed script.now }
+    requires segments { script.now.header.flash ≡ Some segments }
+    requires image { image ≡ made_image (geometry_of script.now) script.now.journal script.now.wide }
+    ensures { IfOk result (λ d. d ≡ flash_for script.now segments) }
+{
+    let header = &script.header;
+    let setup = FlogSetup {
+        depth: header.depth,
+        limit: header.limit,
+        segments,
+        fail_at: None,
+        cut_at: header.cut,
+    };
+    FlogDevice::make(alloc, image, setup)
+}
+
+// A script on the model device that it says, with model devices of the same depth for its recovery.
+fn run_on_model(alloc: Global, script: &SessionScript) -> Result<SessionReport, NoMemory>
     requires { IsWellFormed script.now }
-    ensures core { IfOk result (IsCoreReport script.now) }
-    ensures headline { IfOk result (Headline script.now) }
+    ensures report { IfOk result (IsReportAs script.now None) }
+    ensures headline { IfOk result (HeadlineOn script.now (core_as script.now None)) }
 {
     let OpenedSession { image, host } = open_script(alloc, script)?;
     let dev = model_device(alloc, script, image)?;
@@ -272,4 +296,39 @@ pub fn core_run(alloc: Global, script: &SessionScript) -> Result<SessionReport, 
         dev,
         &mut EpochMaker::make(script.header.depth),
     )
+}
+
+// A script on the flash log that it says, with flash logs of as many segments and the same depth for its recovery.
+fn run_on_flash(
+    alloc: Global,
+    script: &SessionScript,
+    segments: u32,
+) -> Result<SessionReport, NoMemory>
+    requires script { IsWellFormed script.now }
+    requires segments { script.now.header.flash ≡ Some segments }
+    ensures report { IfOk result (IsReportAs script.now (Some segments)) }
+    ensures headline { IfOk result (HeadlineOn script.now (core_as script.now (Some segments))) }
+{
+    let OpenedSession { image, host } = open_script(alloc, script)?;
+    let dev = flash_device(alloc, script, segments, image)?;
+    run_opened(
+        alloc,
+        script,
+        host,
+        dev,
+        &mut FlogMaker::make(script.header.depth, segments),
+    )
+}
+
+/// Runs a volume script on the device that it says, a flash log or the model device, and recovers on devices of the same
+/// kind and depth.
+pub fn core_run(alloc: Global, script: &SessionScript) -> Result<SessionReport, NoMemory>
+    requires { IsWellFormed script.now }
+    ensures core { IfOk result (IsCoreReport script.now) }
+    ensures headline { IfOk result (Headline script.now) }
+{
+    match script.header.flash {
+        None => run_on_model(alloc, script),
+        Some(segments) => run_on_flash(alloc, script, segments),
+    }
 }

@@ -142,8 +142,8 @@ fn wrapping(alloc: Global, header: &str) -> Result<String, NoMemory> {
 }
 
 // What it prints.
-fn wrapped(alloc: Global) -> Result<String, NoMemory> {
-    let mut text = String::from_str(alloc, "steps 1220\nrequests 610\n1 create /f: ok\n")?;
+fn wrapped(alloc: Global, steps: u32) -> Result<String, NoMemory> {
+    let mut text = format!(in alloc; "steps {steps}\nrequests 610\n1 create /f: ok\n")?;
     for block in 0..100_u32 {
         let at = block * 1024;
         write!(
@@ -161,13 +161,14 @@ fn wrapped(alloc: Global) -> Result<String, NoMemory> {
 
 // A hundred transactions in a log that has room for a quarter of them: 100 pages, the log's 6 blocks for the first, 4 for
 // each of the next six and 5 for each of the other 93, which have an indirect block, the first superblock, and three
-// checkpoints, behind 26, 51 and 76 transactions, of 5, 3 and 3 blocks that go home and a superblock each.
+// checkpoints, behind 26, 51 and 76 transactions, of 5, 3 and 3 blocks that go home and a superblock each. A flash log takes
+// three steps for each of them, the model device two.
 #[test]
 fn wraps_the_log(rt: HostRuntime) -> Result<(), Fail> {
     let alloc = rt.alloc();
-    for header in ["", "elevator\n"] {
+    for (header, steps) in [("", 1220), ("elevator\n", 1220), ("flash 3\n", 1830)] {
         let script = wrapping(alloc, header)?;
-        let printed = wrapped(alloc)?;
+        let printed = wrapped(alloc, steps)?;
         expect_replay(&rt, alloc, script.as_str(), printed.as_str())?;
     }
     Ok(())

@@ -31,6 +31,35 @@ file /a/f size 3 links 1
 block 0 3x61
 ";
 
+// The same on a flash log: nine puts that are moved, programmed and folded, and a flush.
+pub const FLASH: &str = "\
+volume inodes 32 zones 64 journal 128
+flash 3
+thread 1
+mkdir /a
+create /a/f
+write /a/f 0 3 61
+fsync /a/f
+events
+round 100
+";
+
+pub const FLASH_PRINTS: &str = "\
+steps 28
+requests 10
+1 mkdir /a: ok
+1 create /a/f: ok
+1 write /a/f 0 3 61: ok
+1 fsync /a/f: ok
+thread 1: 4 of 4
+closed 1
+found 1
+dir /
+dir /a
+file /a/f size 3 links 1
+block 0 3x61
+";
+
 pub const DOWN: &str = "\
 volume inodes 32 zones 64 journal 128
 cut 0
@@ -126,7 +155,9 @@ fn recovers_after_attempts_that_were_cut(rt: HostRuntime) -> Result<(), Fail> {
             expect_replay(&rt, alloc, script.as_str(), SYNC_PRINTS)?;
         }
     }
-    let script = format!(in alloc; "{SYNC}recover d3\nrecover t0 t0 p1\n")?;
-    expect_replay(&rt, alloc, script.as_str(), SYNC_PRINTS)?;
+    for (session, printed) in [(SYNC, SYNC_PRINTS), (FLASH, FLASH_PRINTS)] {
+        let script = format!(in alloc; "{session}recover d3\nrecover t0 t0 p1\n")?;
+        expect_replay(&rt, alloc, script.as_str(), printed)?;
+    }
     Ok(())
 }
