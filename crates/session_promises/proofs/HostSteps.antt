@@ -61,12 +61,12 @@ module _ {T V C R : Type 0} (M : Model T V C R) (u : Setup) (s : Host V C R) whe
       by : (x : Option CachedPage) → Quiet (elim x as (λ _. Turned V C R) [
         | Some p ↦ submits M u full s (send_page M u s p true false)
         | None ↦
-            if nat_lt (ring_free s.journal.ring) (log_needs s.journal.running) then submits M u full s (checkpoint M u s s.journal.ring.homes)
+            if nat_lt (ring_free s.journal.ring) (log_needs u.writers s.journal.running) then submits M u full s (checkpoint M u s s.journal.ring.homes)
             else record { host = build_plan M u s; turn = turns.Did }
       ])
       by (Some p) = submits_quiet full _ (record { history = refl; threads = refl })
       by None =
-          either Quiet (nat_lt (ring_free s.journal.ring) (log_needs s.journal.running)) _ _
+          either Quiet (nat_lt (ring_free s.journal.ring) (log_needs u.writers s.journal.running)) _ _
           (λ d. submits_quiet full _ (checkpoint_quiet s.journal.ring.homes))
           (λ d. record { history = refl; threads = refl })
 

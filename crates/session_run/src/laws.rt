@@ -59,11 +59,11 @@ pub fn hosts_of_code_stay_in_session()
 /// A law, which does nothing when it is called: on an image that was made, a session of programs that write bytes can be
 /// run: with the host that code makes on it, and with a scheduler and a device that are new.
 pub fn sessions_on_made_images_can_be_run<S: Scheduler, D: OrderedDev>()
-    ensures { (g : Geometry) (journal limit capacity : ℕ) (ps : Cache) (programs : List (List Call)) (sched : S.State) (dev : D.State) →
+    ensures { (g : Geometry) (journal : ℕ) (wide : Bool) (limit capacity : ℕ) (ps : Cache) (programs : List (List Call)) (sched : S.State) (dev : D.State) →
         IsSound g → LEAST_JOURNAL ≤ journal → journal ≤ MOST_JOURNAL → limit + 2 < 4294967296 → WriteBytes programs →
-        S.valid sched → D.valid dev → IsNew (made_image g journal) limit (S.steps.seen sched) (D.seen dev) →
-        IsMadeFor S.Scheduler D.OrderedDev (made_opening g journal (quota (new_journal journal))) (made_start g journal limit capacity programs)
-        (host_made (made_now g) ps (new_ring.made (new_journal journal) limit) programs) capacity (length programs) sched dev }
+        S.valid sched → D.valid dev → IsNew (made_image g journal wide) limit (S.steps.seen sched) (D.seen dev) →
+        IsMadeFor S.Scheduler D.OrderedDev (made_opening g journal wide (quota (new_journal journal wide))) (made_start g journal limit capacity programs)
+        (host_made (made_now g) ps (new_ring.made (new_journal journal wide) limit) programs) capacity (length programs) sched dev }
 {
     sessions_of_calls_on_made_images();
     sessions_can_start_on_made_images();

@@ -10,20 +10,20 @@ use Rattle.session_run.proofs.laws.sessions_on_made_images_can_be_run.Goals as g
 pub returns : goal.returns
 returns g c =
     let opens = c.sessions_of_calls_on_made_images.ensures in
-    λ geometry journal limit capacity ps programs sched dev sound least most few bytes sched_is dev_is new.
-    let q = quota (new_journal journal) in
-    let j = opens.journal geometry journal q limit sound least most few in
+    λ geometry journal wide limit capacity ps programs sched dev sound least most few bytes sched_is dev_is new.
+    let q = quota (new_journal journal wide) in
+    let j = opens.journal geometry journal wide q limit sound least most few in
     record {
       begins = record {
         written = j.1;
-        opened = opens.volume geometry journal q sound least most;
+        opened = opens.volume geometry journal wide q sound least most;
         journal = j.0;
         bytes = bytes;
         sched_is = sched_is;
         dev_is = dev_is;
-        starts = c.sessions_can_start_on_made_images.ensures geometry journal q limit capacity programs (g.S.Scheduler.steps.seen sched) (g.D.OrderedDev.seen dev) (omega arith) new;
+        starts = c.sessions_can_start_on_made_images.ensures geometry journal wide q limit capacity programs (g.S.Scheduler.steps.seen sched) (g.D.OrderedDev.seen dev) (omega arith) new;
       };
-      host = made_in_session (made_opening geometry journal q) (made_now geometry) ps (new_ring.made (new_journal journal) limit) programs refl (record { sequence = refl; writers_are = refl; quota_is = refl });
+      host = made_in_session (made_opening geometry journal wide q) (made_now geometry) ps (new_ring.made (new_journal journal wide) limit) programs refl (record { sequence = refl; writers_are = refl; quota_is = refl });
       capacity_is = refl;
       threads_are = refl;
     }
