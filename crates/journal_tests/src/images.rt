@@ -346,8 +346,9 @@ fn refuses_a_damaged_journal(rt: HostRuntime) {
     let rows = [
         (3, 0, ImageFault::BadKind),
         (4, 0, ImageFault::BadCount),
-        (4, 2, ImageFault::Feature(2)),
-        (4, 31, ImageFault::Feature(30)),
+        (4, 3, ImageFault::BadCount),
+        (4, 4, ImageFault::Feature(4)),
+        (4, 31, ImageFault::Feature(28)),
     ];
     for (kind, features, fault) in rows {
         let patches = journal_patches(kind, features);

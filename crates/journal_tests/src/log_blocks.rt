@@ -21,21 +21,21 @@ pub(crate) fn block_of(front: &[u8]) -> Block {
     block
 }
 
-// The block, by its name here, is read as this.
+// The block, by its name here, is read as this in a journal with narrow tags.
 fn expect_read(rt: &impl Abort, alloc: Global, name: &str, block: &Block, wanted: &str) {
-    let text = format!(in alloc; "{:?}", read_block(alloc, block)).expect(rt, "no text");
+    let text = format!(in alloc; "{:?}", read_block(alloc, block, false)).expect(rt, "no text");
     assert_eq!(rt; text.as_str(), wanted, "{name}");
 }
 
-fn tags_of(rt: &impl Abort, alloc: Global, block: &Block) -> TagList {
-    match read_block(alloc, block) {
+fn tags_of(rt: &impl Abort, alloc: Global, block: &Block, wide: bool) -> TagList {
+    match read_block(alloc, block, wide) {
         Ok(LogBlock::Descriptor(_, tags)) => tags.copy(alloc).expect(rt, "no copy"),
         _ => panic!(rt; "no descriptor"),
     }
 }
 
-fn revoked_of(rt: &impl Abort, alloc: Global, block: &Block) -> NumberList {
-    match read_block(alloc, block) {
+fn revoked_of(rt: &impl Abort, alloc: Global, block: &Block, wide: bool) -> NumberList {
+    match read_block(alloc, block, wide) {
         Ok(LogBlock::Revoke(2, blocks)) => blocks.copy(alloc).expect(rt, "no copy"),
         _ => panic!(rt; "no revoke block of sequence 2"),
     }
@@ -83,7 +83,7 @@ fn descriptor_of_one(rt: HostRuntime) {
     let front = [
         0xC0, 0x3B, 0x39, 0x98, 0, 0, 0, 1, 0, 0, 0, 7, 0, 0, 0, 9, 0, 0, 0, 9,
     ];
-    let block = write_descriptor(7, &[tag]);
+    let block = write_descriptor(7, &[tag], false);
     assert!(rt; is_block(&block, &front, 0));
     assert_eq!(rt; sequence_in(&block), 7);
     let text = "Ok(Descriptor(7, TagList { tags: [Tag { block: 9, escaped: true }] }))";
@@ -116,11 +116,67 @@ fn descriptor_of_others(rt: HostRuntime) {
         block,
         escaped,
     });
-    let tags = tags_of(&rt, rt.alloc(), &block_of(&OF_OTHERS));
+    let tags = tags_of(&rt, rt.alloc(), &block_of(&OF_OTHERS), false);
     assert_eq!(rt; tags.as_slice(), &wanted[..]);
-    // Without a last tag as many are read as are whole: 42 of 24 bytes, and four bytes are left.
-    let endless = block_of(&[0xC0, 0x3B, 0x39, 0x98, 0, 0, 0, 1]);
-    assert_eq!(rt; tags_of(&rt, rt.alloc(), &endless).as_slice().len(), 42);
+}
+
+// A descriptor without a last tag. The tags from place `first` on have the uuid of the one before, or none has.
+fn endless(first: u8, next: u8) -> Block {
+    let mut block = block_of(&[0xC0, 0x3B, 0x39, 0x98, 0, 0, 0, 1]);
+    for k in 0..124usize {
+        let at = usize::from(first) + usize::from(next) * k + 7;
+        if next > 0 && at < 1024 {
+            block.set(at, 2);
+        }
+    }
+    block
+}
+
+// As many tags are read as are whole. Narrow and wide ones with a uuid each leave four bytes. With one uuid for all,
+// debugfs of e2fsprogs 1.47 fills a descriptor with 124 narrow tags or 83 wide ones.
+#[test]
+fn as_many_tags_as_are_whole(rt: HostRuntime) {
+    let rows = [
+        (false, 0, 0, 42),
+        (true, 0, 0, 36),
+        (false, 12 + 24, 8, 124),
+        (true, 12 + 28, 12, 83),
+    ];
+    for (wide, first, next, wanted) in rows {
+        let tags = tags_of(&rt, rt.alloc(), &endless(first, next), wide);
+        assert_eq!(rt; tags.as_slice().len(), wanted, "{wide} {next}");
+    }
+}
+
+// Wide tags for blocks 9 and 10, of sequence 7, and the place of the second one's high half.
+const WIDE_TAGS: [u8; 52] = [
+    0xC0, 0x3B, 0x39, 0x98, 0, 0, 0, 1, 0, 0, 0, 7, // header
+    0, 0, 0, 9, 0, 0, 0, 0, 0, 0, 0, 0, // block, checksum, flags, high half
+    0, 0, 0, 0, 0, 0, 0, 0, 0, 0, 0, 0, 0, 0, 0, 0, // uuid
+    0, 0, 0, 10, 0, 0, 0, 10, 0, 0, 0, 0, // the same uuid, last
+];
+
+const HIGH_HALF: usize = 51;
+
+#[test]
+fn descriptor_with_wide_tags(rt: HostRuntime) {
+    let nine = Tag {
+        block: 9,
+        escaped: false,
+    };
+    let tags = [nine, Tag { block: 10, ..nine }];
+    let mut block = write_descriptor(7, &tags, true);
+    assert!(rt; is_block(&block, &WIDE_TAGS, 0));
+    assert_eq!(rt;
+        tags_of(&rt, rt.alloc(), &block, true).as_slice(),
+        &tags[..]
+    );
+    block.set(HIGH_HALF, 1);
+    let read = tags_of(&rt, rt.alloc(), &block, true);
+    assert_eq!(rt;
+        read.as_slice().get(1).map(|t| t.block),
+        Some(0x1_0000_000A)
+    );
 }
 
 #[test]
@@ -128,10 +184,24 @@ fn revoke_block(rt: HostRuntime) {
     let front = [
         0xC0, 0x3B, 0x39, 0x98, 0, 0, 0, 5, 0, 0, 0, 2, 0, 0, 0, 0x14, 0, 0, 0, 6,
     ];
-    let block = write_revoke(2, &[6]);
+    let block = write_revoke(2, &[6], false);
     assert!(rt; is_block(&block, &front, 0));
-    let revoked = revoked_of(&rt, rt.alloc(), &block);
-    assert_eq!(rt; revoked.as_slice(), &[6u32][..]);
+    let revoked = revoked_of(&rt, rt.alloc(), &block, false);
+    assert_eq!(rt; revoked.as_slice(), &[6u64][..]);
+}
+
+// A wide revoke block that is read as a narrow one has other blocks.
+#[test]
+fn wide_revoke_block(rt: HostRuntime) {
+    let front = [
+        0xC0, 0x3B, 0x39, 0x98, 0, 0, 0, 5, 0, 0, 0, 2, 0, 0, 0, 0x18, 0, 0, 0, 0, 0, 0, 0, 6,
+    ];
+    let block = write_revoke(2, &[6], true);
+    assert!(rt; is_block(&block, &front, 0));
+    for (wide, wanted) in [(true, &[6u64][..]), (false, &[0u64, 6][..])] {
+        let revoked = revoked_of(&rt, rt.alloc(), &block, wide);
+        assert_eq!(rt; revoked.as_slice(), wanted, "{wide}");
+    }
 }
 
 #[test]
@@ -148,7 +218,7 @@ fn commit_block(rt: HostRuntime) {
 
 // A revoke block of one number whose count of bytes is this.
 fn miscounted(high: u8, low: u8) -> Block {
-    let mut block = write_revoke(2, &[6]);
+    let mut block = write_revoke(2, &[6], false);
     block.set(14, high);
     block.set(15, low);
     block
@@ -181,5 +251,8 @@ fn counts_of_revoke_blocks(rt: HostRuntime) {
         let block = miscounted(*high, *low);
         expect_read(&rt, rt.alloc(), name, &block, "Err(BadCount)");
     }
-    assert!(rt; read_block(rt.alloc(), &miscounted(4, 0)).is_ok());
+    assert!(rt; read_block(rt.alloc(), &miscounted(4, 0), false).is_ok());
+    // 20 bytes are header, count and one narrow number, and no wide one.
+    assert!(rt; read_block(rt.alloc(), &miscounted(0, 20), false).is_ok());
+    assert!(rt; read_block(rt.alloc(), &miscounted(0, 20), true).is_err());
 }

@@ -100,7 +100,7 @@ fn skipping(rt: &impl Abort, alloc: Global) -> Image {
     };
     put(&mut image, 64, write_super(&superblock));
     put(&mut image, 65, write_commit(4));
-    put(&mut image, 66, write_descriptor(5, &[tag]));
+    put(&mut image, 66, write_descriptor(5, &[tag], false));
     image
 }
 

@@ -1,5 +1,5 @@
 //! Tests of recovery on the model device: a volume of 64 blocks with a journal of 128 behind it.
-ghost use Rattle.std.specs.Prelude.{◌≡◌, length};
+ghost use Rattle.std.specs.Prelude.{◌≡◌, ◌<◌, ◌^◌, All, length};
 ghost use Rattle.journal_tests.specs.Ready.{IsReady};
 
 use crate::log_blocks::block_of;
@@ -29,6 +29,12 @@ const FOUR: JournalSuper = JournalSuper {
     incompat: 1,
 };
 
+// The same with wide tags.
+const FOUR_WIDE: JournalSuper = JournalSuper {
+    incompat: 3,
+    ..FOUR
+};
+
 // A block of a log, with its sequence.
 #[derive(Clone, Copy)]
 enum LogPart {
@@ -48,6 +54,22 @@ enum LogPart {
     Bytes(&'static [u8]),
 }
 
+// Tags for these blocks, of which the first may be escaped.
+fn tags_for(rt: &impl Abort, alloc: Global, blocks: &[u32], escaped: bool) -> Vec<Tag>
+    ensures { All (λ t. t.block < 2 ^ 32) result.items }
+{
+    let mut tags = Vec::new(alloc);
+    for block in blocks {
+        let tag = Tag {
+            block: u64::from(*block),
+            escaped: escaped && tags.len() == 0,
+        };
+        let pushed: Result<_, _> = tags.push(tag);
+        pushed.expect(rt, "no tag");
+    }
+    tags
+}
+
 // A descriptor of these blocks, whose first body may be escaped.
 fn descriptor(
     rt: &impl Abort,
@@ -55,23 +77,16 @@ fn descriptor(
     sequence: u32,
     blocks: &[u32],
     escaped: bool,
+    wide: bool,
 ) -> Block {
-    let mut tags = Vec::new(alloc);
-    for block in blocks {
-        let tag = Tag {
-            block: *block,
-            escaped: escaped && tags.len() == 0,
-        };
-        let pushed: Result<_, _> = tags.push(tag);
-        pushed.expect(rt, "no tag");
-    }
+    let tags = tags_for(rt, alloc, blocks, escaped);
     assert!(rt; tags.len() > 0 && tags.len() < 10);
-    write_descriptor(sequence, tags.as_slice())
+    write_descriptor(sequence, tags.as_slice(), wide)
 }
 
-fn revoke(rt: &impl Abort, sequence: u32, blocks: &[u32]) -> Block {
+fn revoke(rt: &impl Abort, sequence: u32, blocks: &[u32], wide: bool) -> Block {
     assert!(rt; blocks.len() > 0 && blocks.len() < 10);
-    write_revoke(sequence, blocks)
+    write_revoke(sequence, blocks, wide)
 }
 
 // The body that begins with the magic number.
@@ -84,19 +99,19 @@ fn magic_body() -> Block {
     body
 }
 
-fn bad_revoke(sequence: u32) -> Block {
-    let mut block = write_revoke(sequence, &[9]);
+fn bad_revoke(sequence: u32, wide: bool) -> Block {
+    let mut block = write_revoke(sequence, &[9], wide);
     block.set(15, 15);
     block
 }
 
-fn log_block(rt: &impl Abort, alloc: Global, part: LogPart) -> Block {
+fn log_block(rt: &impl Abort, alloc: Global, part: LogPart, wide: bool) -> Block {
     match part {
         LogPart::Commit(sequence) => write_commit(sequence),
-        LogPart::Bodies(sequence, blocks) => descriptor(rt, alloc, sequence, blocks, false),
-        LogPart::Escaped(sequence, blocks) => descriptor(rt, alloc, sequence, blocks, true),
-        LogPart::Revoke(sequence, blocks) => revoke(rt, sequence, blocks),
-        LogPart::BadRevoke(sequence) => bad_revoke(sequence),
+        LogPart::Bodies(sequence, blocks) => descriptor(rt, alloc, sequence, blocks, false, wide),
+        LogPart::Escaped(sequence, blocks) => descriptor(rt, alloc, sequence, blocks, true, wide),
+        LogPart::Revoke(sequence, blocks) => revoke(rt, sequence, blocks, wide),
+        LogPart::BadRevoke(sequence) => bad_revoke(sequence, wide),
         LogPart::Body(byte) => Block::fill(byte),
         LogPart::Magic => escape(&magic_body()).0,
         LogPart::Bytes(front) => block_of(front),
@@ -117,7 +132,7 @@ fn image_of(rt: &impl Abort, alloc: Global, s: &JournalSuper, log: &[LogPart]) -
     let mut at = BASE;
     for part in log {
         at = at.saturating_add(1);
-        put(&mut image, at, log_block(rt, alloc, *part));
+        put(&mut image, at, log_block(rt, alloc, *part, s.is_wide()));
     }
     image
 }
@@ -252,8 +267,8 @@ fn skipping(rt: &impl Abort, alloc: Global) -> Image {
 }
 
 // Block 9 is not zero before.
-fn revoked(rt: &impl Abort, alloc: Global) -> Image {
-    let mut image = image_of(rt, alloc, &FOUR, &REVOKED);
+fn revoked(rt: &impl Abort, alloc: Global, s: &JournalSuper) -> Image {
+    let mut image = image_of(rt, alloc, s, &REVOKED);
     put(&mut image, 9, Block::fill(3));
     image
 }
@@ -276,8 +291,8 @@ fn wrapped(rt: &impl Abort, alloc: Global) -> Image {
     image_of(rt, alloc, &round, &WRAPPED)
 }
 
-fn full(rt: &impl Abort, alloc: Global) -> Image {
-    image_of(rt, alloc, &FOUR, &FULL)
+fn full(rt: &impl Abort, alloc: Global, s: &JournalSuper) -> Image {
+    image_of(rt, alloc, s, &FULL)
 }
 
 #[test]
@@ -342,14 +357,18 @@ fn sends_before_it_looks_at_the_list(rt: HostRuntime) {
 fn a_later_revoke_cancels_a_body(rt: HostRuntime) {
     let alloc = rt.alloc();
     let bodies: [(u32, &[u8], u8); 3] = [(9, b"", 3), (3, b"", 1), (4, b"", 2)];
-    expect_recovered(&rt, alloc, revoked(&rt, alloc), (3, 8), &bodies);
+    for s in [FOUR, FOUR_WIDE] {
+        expect_recovered(&rt, alloc, revoked(&rt, alloc, &s), (3, 8), &bodies);
+    }
 }
 
 #[test]
 fn the_last_body_counts(rt: HostRuntime) {
     let alloc = rt.alloc();
     let bodies: [(u32, &[u8], u8); 2] = [(9, b"\xC0\x3B\x39\x98", 5), (10, b"", 2)];
-    expect_recovered(&rt, alloc, full(&rt, alloc), (2, 7), &bodies);
+    for s in [FOUR, FOUR_WIDE] {
+        expect_recovered(&rt, alloc, full(&rt, alloc, &s), (2, 7), &bodies);
+    }
 }
 
 #[test]
@@ -429,7 +448,7 @@ fn attempts_lead_to_one_image(rt: HostRuntime) {
     };
     let mut state = 1;
     try_attempts(&rt, alloc, &skipping(&rt, alloc), 3, &mut state);
-    try_attempts(&rt, alloc, &revoked(&rt, alloc), 7, &mut state);
+    try_attempts(&rt, alloc, &revoked(&rt, alloc, &FOUR_WIDE), 7, &mut state);
     try_attempts(&rt, alloc, &escaped(&rt, alloc), 5, &mut state);
     try_attempts(
         &rt,
@@ -439,7 +458,7 @@ fn attempts_lead_to_one_image(rt: HostRuntime) {
         &mut state,
     );
     try_attempts(&rt, alloc, &wrapped(&rt, alloc), 5, &mut state);
-    try_attempts(&rt, alloc, &full(&rt, alloc), 7, &mut state);
+    try_attempts(&rt, alloc, &full(&rt, alloc, &FOUR), 7, &mut state);
     try_attempts(
         &rt,
         alloc,
@@ -506,25 +525,64 @@ const OF_UUIDS: [LogPart; 4] = [
     LogPart::Commit(4),
 ];
 
-// The log with its length, how many transactions count, and the byte that block 9, which was zero, has then.
-const LOGS: [(&str, &[LogPart], u32, u32, u8); 7] = [
-    ("older sequence", &OLDER, 128, 1, 0),
-    ("revoke before its body", &REVOKED_BEFORE, 128, 1, 0),
-    ("revoke behind its body", &REVOKED_BEHIND, 128, 1, 0),
-    ("earlier revoke", &REVOKED_EARLIER, 128, 2, 7),
-    ("revoke past the volume", &REVOKED_ELSEWHERE, 128, 1, 7),
-    ("bodies past the log", &PAST_THE_LOG, 4, 1, 0),
-    ("tags with a uuid each", &OF_UUIDS, 128, 1, 7),
+// Wide tags for blocks 9 and, where the last byte is set, 2^32 + 10, in sequence 4.
+const WIDE_TAGS: [u8; 52] = [
+    0xC0, 0x3B, 0x39, 0x98, 0, 0, 0, 1, 0, 0, 0, 4, // header
+    0, 0, 0, 9, 0, 0, 0, 0, 0, 0, 0, 0, // block, checksum, flags, high half
+    0, 0, 0, 0, 0, 0, 0, 0, 0, 0, 0, 0, 0, 0, 0, 0, // uuid
+    0, 0, 0, 10, 0, 0, 0, 10, 0, 0, 0, 1, // the same uuid, last
+];
+
+const PAST_32_BITS: [LogPart; 4] = [
+    LogPart::Bytes(&WIDE_TAGS),
+    LogPart::Body(7),
+    LogPart::Body(8),
+    LogPart::Commit(4),
+];
+
+// A revoke of block 2^32 + 9.
+const HIGH_REVOKE: [u8; 24] = [
+    0xC0, 0x3B, 0x39, 0x98, 0, 0, 0, 5, 0, 0, 0, 4, 0, 0, 0, 0x18, 0, 0, 0, 1, 0, 0, 0, 9,
+];
+
+const REVOKED_PAST_32_BITS: [LogPart; 4] = [
+    LogPart::Bodies(4, &[9]),
+    LogPart::Body(7),
+    LogPart::Bytes(&HIGH_REVOKE),
+    LogPart::Commit(4),
+];
+
+const OF_FOUR: JournalSuper = JournalSuper { maxlen: 4, ..FOUR };
+
+// The log with its superblock, how many transactions count, and the byte that block 9, which was zero, has then.
+const LOGS: [(&str, &[LogPart], JournalSuper, u32, u8); 9] = [
+    ("older sequence", &OLDER, FOUR, 1, 0),
+    ("revoke before its body", &REVOKED_BEFORE, FOUR, 1, 0),
+    ("revoke behind its body", &REVOKED_BEHIND, FOUR, 1, 0),
+    ("earlier revoke", &REVOKED_EARLIER, FOUR, 2, 7),
+    ("revoke past the volume", &REVOKED_ELSEWHERE, FOUR, 1, 7),
+    ("bodies past the log", &PAST_THE_LOG, OF_FOUR, 1, 0),
+    ("tags with a uuid each", &OF_UUIDS, FOUR, 1, 7),
+    (
+        "wide revoke behind its body",
+        &REVOKED_BEHIND,
+        FOUR_WIDE,
+        1,
+        0,
+    ),
+    (
+        "revoke past 32 bits",
+        &REVOKED_PAST_32_BITS,
+        FOUR_WIDE,
+        1,
+        7,
+    ),
 ];
 
 #[test]
 fn tells_what_counts_in_a_log(rt: HostRuntime) {
-    for (name, log, maxlen, replayed, byte) in &LOGS {
-        let superblock = JournalSuper {
-            maxlen: *maxlen,
-            ..FOUR
-        };
-        let image = image_of(&rt, rt.alloc(), &superblock, log);
+    for (name, log, superblock, replayed, byte) in &LOGS {
+        let image = image_of(&rt, rt.alloc(), superblock, log);
         let (result, after) = attempt(&rt, rt.alloc(), image, &[], false);
         assert!(rt;
             result == ended(*replayed, replayed.saturating_add(5)),
@@ -539,7 +597,7 @@ fn tells_what_counts_in_a_log(rt: HostRuntime) {
 #[test]
 fn tells_which_command_failed(rt: HostRuntime) {
     for id in 0..4u64 {
-        let image = full(&rt, rt.alloc());
+        let image = full(&rt, rt.alloc(), &FOUR);
         let result = recover_failing(&rt, rt.alloc(), image, Some(id + 1), None);
         assert_eq!(rt; result, Err(RecoverFault::DeviceFailed(id)));
     }
@@ -553,7 +611,7 @@ fn tells_each_read_that_fails(rt: HostRuntime) {
         } else {
             ended(2, 7)
         };
-        let image = full(&rt, rt.alloc());
+        let image = full(&rt, rt.alloc(), &FOUR);
         let result = recover_failing(&rt, rt.alloc(), image, None, Some(read));
         assert_eq!(rt; result, wanted, "{read}");
     }
@@ -567,11 +625,12 @@ fn expect_fault(rt: &impl Abort, alloc: Global, image: Image, fault: JournalFaul
     assert!(rt; are_same(&before, &after), "{block}");
 }
 
-// A byte of the superblock, and the fault that it makes.
-const SUPER_FAULTS: [(usize, u8, JournalFault); 9] = [
+// A byte of the superblock, and the fault that it makes. The features past the lowest two are of checksums and others.
+const SUPER_FAULTS: [(usize, u8, JournalFault); 10] = [
     (3, 0, JournalFault::NotMagic),
     (7, 3, JournalFault::BadKind),
-    (0x2B, 3, JournalFault::Feature(2)),
+    (0x2B, 7, JournalFault::Feature(4)),
+    (0x2B, 0x1A, JournalFault::Feature(0x18)),
     (0x0E, 8, JournalFault::BadCount),
     (0x13, 129, JournalFault::BadCount),
     (0x13, 1, JournalFault::BadCount),
@@ -636,8 +695,10 @@ const BEHIND: JournalSuper = JournalSuper {
 };
 
 // Logs, and the block that is told. The first along the log counts, which is not the lowest block.
-const LOG_FAULTS: [(JournalSuper, &[LogPart], u32); 5] = [
+const LOG_FAULTS: [(JournalSuper, &[LogPart], u32); 7] = [
     (FOUR, &BAD_REVOKE, 65),
+    (FOUR_WIDE, &BAD_REVOKE, 65),
+    (FOUR_WIDE, &PAST_32_BITS, 65),
     (FOUR, &BODY_OF_BLOCK_0, 66),
     (FOUR, &BODY_OF_BLOCK_1, 66),
     (FOUR, &BODY_OF_BLOCK_64, 66),
