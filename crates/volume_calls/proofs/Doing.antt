@@ -1,5 +1,5 @@
 -- Calls on names and bytes, done in the parts of a volume.
-use Rattle.std.proofs.Common.{◌≡◌, ℕ, Bool, List, length, Some, None, option_map, Ok, Err, IsOk, sym, ap, subst, ◌∙◌}
+use Rattle.std.proofs.Common.{◌≡◌, ℕ, Bool, List, length, Some, None, option_map, unwrap_or, Ok, Err, IsOk, sym, ap, subst, ◌∙◌}
 use Rattle.minix_layout.specs.declared.division.Geometry.{Geometry}
 use Rattle.tree_model.specs.declared.call.Call.{Call}
 use Rattle.tree_model.specs.declared.call.Call.TheVariants as calls
@@ -23,6 +23,9 @@ use Rattle.volume_names.specs.May.{MayCreate, MayLink, MayMkdir}
 use Rattle.volume_names.proofs.Callers.{create_may, link_may, mkdir_may}
 use Rattle.volume_removals.specs.May.{MayRmdir, MayUnlink}
 use Rattle.volume_removals.proofs.Callers.{rmdir_may, unlink_may}
+use Rattle.volume_renames.specs.May.{MayRename}
+use Rattle.volume_renames.specs.Renamed.{birth_named, renamed_at}
+use Rattle.volume_renames.proofs.Callers.{may_rename, met_stands, not_aside, not_astray, not_lost, rename_is}
 use Rattle.tree_model.proofs.Changes.{outcome_row}
 use Rattle.volume_bytes.specs.declared.content.Content.{Content}
 use Rattle.volume_bytes.specs.Contents.{bytes_of}
@@ -31,7 +34,7 @@ use Rattle.volume_bytes.proofs.MayCall.{may_be_written, may_truncate}
 use Rattle.volume_calls.specs.code.Sites.{IsSite, place_in}
 use Rattle.volume_calls.specs.code.Writes.{write_call}
 use Rattle.volume_calls.specs.code.MarkedVolume.{IsMarkedVolume}
-use Rattle.volume_calls.proofs.KeptNumbers.{create_comes, mkdir_comes, link_keeps, write_keeps, truncate_keeps, unlink_loses, rmdir_loses}
+use Rattle.volume_calls.proofs.KeptNumbers.{rename_loses, create_comes, mkdir_comes, link_keeps, write_keeps, truncate_keeps, unlink_loses, rmdir_loses}
 use Rattle.volume_calls.proofs.Applied.{ok_of, done_plain, done_change, parted, no_file_site, no_directory_site, no_cut_path, no_link_path, no_link_site, no_rmdir_path, no_rmdir_site, no_unlink_path, no_unlink_site, no_write_path, walked_parts, create_is, link_is, mkdir_is, rmdir_is, truncate_is, unlink_is, write_call_row, write_is}
 
 -- what was done is the call's change, and leaves the volume plain
@@ -270,3 +273,51 @@ module _ (v parts : VolumeNow) (same : parts ≡ v) (n : ℕ) (path : List ℕ) 
       rmdir_marked marks h tx w t e =
           one_unmarked v parts same marks h n tx (calls.Rmdir path) w t (rmdir_done tx w t e) (rmdir_in parts tx parent name found.birth) e found.birth
           (rmdir_loses parts tx parent name found.birth h.plain.in_use.volume.0.in_order)
+
+  -- ---- a node that gets another name
+
+  module _ (other : List ℕ) (room : FindsRoom v n (calls.Rename path other)) (may : IsOk (outcome (room_of v.geometry) (tree_of_now v) n (calls.Rename path other))) where
+    pub rename_led : (reply : Reply) → walk_path (tree_of_now v) path ≡ Err reply → ⊥
+    rename_led = (let d = ok_of (outcome (room_of v.geometry) (tree_of_now v) n (calls.Rename path other)) may in not_lost v n path other d.0 room d.1)
+
+    pub rename_placed : (reply : Reply) → place_in (tree_of_now v) path ≡ Err reply → ⊥
+    rename_placed = (let d = ok_of (outcome (room_of v.geometry) (tree_of_now v) n (calls.Rename path other)) may in not_astray v n path other d.0 room d.1)
+
+    pub rename_aimed : (reply : Reply) → place_in (tree_of_now v) other ≡ Err reply → ⊥
+    rename_aimed = (let d = ok_of (outcome (room_of v.geometry) (tree_of_now v) n (calls.Rename path other)) may in not_aside v n path other d.0 room d.1)
+
+    module _ (found : Found) (led : walk_path (tree_of_now v) path ≡ Ok found) (from : ℕ) (name : List ℕ) (site : IsSite (tree_of_now v) path from name)
+        (to : ℕ) (next : List ℕ) (aim : IsSite (tree_of_now v) other to next) where
+      abbrev leaves_at : Place
+      leaves_at = record { parent = from; directory = site.directory; name = name }
+
+      abbrev comes_at : Place
+      comes_at = record { parent = to; directory = aim.directory; name = next }
+
+      pub rename_ready : MayRename parts from name to next found.birth
+      rename_ready =
+          let d = ok_of (outcome (room_of v.geometry) (tree_of_now v) n (calls.Rename path other)) may in
+          subst (λ (u : VolumeNow). MayRename u from name to next found.birth) (sym same) (may_rename v n path other d.0 room d.1 found led leaves_at comes_at site.is aim.is)
+
+      pub rename_done : (tx : ℕ) (w : VolumeNow) (t : Touched) → ◌≡◌ {A = Change} (record { volume = w; touched = t }) (renamed_at parts tx from name to next found.birth) → IsCall v n tx (calls.Rename path other) w t
+      rename_done tx w t e =
+          let d = ok_of (outcome (room_of v.geometry) (tree_of_now v) n (calls.Rename path other)) may in
+          call_done v n tx (calls.Rename path other) room may w t
+          (e ∙ (ap (λ (u : VolumeNow). renamed_at u tx from name to next found.birth) same ∙ sym (rename_is v n path other d.0 room d.1 found led leaves_at comes_at site.is aim.is tx)))
+
+      pub rename_met : (p : Placed) × (at_number v.contents.nodes (unwrap_or (birth_named v.contents.nodes to next) found.birth) ≡ Some p)
+      rename_met = (let d = ok_of (outcome (room_of v.geometry) (tree_of_now v) n (calls.Rename path other)) may in met_stands v n path other d.0 room d.1 found led leaves_at comes_at site.is aim.is)
+
+      pub rename_met_in : (met : ℕ) → met ≡ unwrap_or (birth_named parts.contents.nodes to next) found.birth → at_number parts.contents.nodes met ≡ Some rename_met.0
+      rename_met_in met is = ap (at_number parts.contents.nodes) is
+          ∙ (ap (λ (u : VolumeNow). at_number u.contents.nodes (unwrap_or (birth_named u.contents.nodes to next) found.birth)) same ∙ rename_met.1)
+
+      pub rename_met_at : (met : ℕ) → met ≡ unwrap_or (birth_named parts.contents.nodes to next) found.birth → at_number v.contents.nodes met ≡ Some rename_met.0
+      rename_met_at met is = ap (λ (u : VolumeNow). at_number u.contents.nodes met) (sym same) ∙ rename_met_in met is
+
+      pub rename_marked : (marks : List Bool) → IsMarkedVolume parts marks → (tx : ℕ) (w : VolumeNow) (t : Touched) → ◌≡◌ {A = Change} (record { volume = w; touched = t }) (renamed_at parts tx from name to next found.birth) →
+          (met : ℕ) → met ≡ unwrap_or (birth_named parts.contents.nodes to next) found.birth → (p : Placed) → at_number v.contents.nodes met ≡ Some p → (now : List Bool) →
+          (at_number w.contents.nodes met ≡ None → now ≡ unmarked marks p.number) → ((q : Placed) → at_number w.contents.nodes met ≡ Some q → now ≡ marks) → IsMarkedVolume w now
+      rename_marked marks h tx w t e met met_is =
+          one_unmarked v parts same marks h n tx (calls.Rename path other) w t (rename_done tx w t e) (renamed_at parts tx from name to next found.birth) e met
+          (subst (Loses parts.contents.nodes (renamed_at parts tx from name to next found.birth).volume.contents.nodes) (sym met_is) (rename_loses parts tx from name to next found.birth h.plain.in_use.volume.0.in_order))

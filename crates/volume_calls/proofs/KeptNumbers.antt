@@ -1,5 +1,5 @@
 -- Which inodes the nodes have after each step of a call, and after each call.
-use Rattle.std.specs.Prelude.{◌≡◌, ℕ, ◌+◌, ◌-◌, ◌/◌, ◌==◌, nat_le, Bool, true, false, if◌then◌else◌, List, [], ◌∷◌, length, Option, Some, None, option_map, refl}
+use Rattle.std.specs.Prelude.{◌≡◌, ℕ, ◌+◌, ◌-◌, ◌/◌, ◌==◌, nat_le, Bool, true, false, not, ◌&&◌, if◌then◌else◌, List, [], ◌∷◌, length, Option, Some, None, option_map, unwrap_or, refl}
 use Rattle.std.proofs.Common.{sym, ap, subst, inl}
 use Rattle.std.specs.Int.{div_ceil}
 use Rattle.std.specs.List.{slice_get}
@@ -17,9 +17,10 @@ use Rattle.volume_model.specs.Moves.{name_removed, without_name}
 use Rattle.volume_ops.specs.Places.{table_block}
 use Rattle.volume_steps.specs.Now.{VolumeNow, Change, followed_by, unchanged, with_contents}
 use Rattle.volume_steps.specs.Zones.{new_number}
-use Rattle.volume_steps.specs.Steps.{at_node, at_directory, at_file, set_links, resize, make_file, make_directory, make_room, put_name_slot, add_name, place_of, take_name, node_dropped, drop_node, write_block, write_blocks, cut_blocks, clear_tail, tells_node, slot_told}
-use Rattle.volume_steps.specs.Calls.{create_in, mkdir_in, link_in, unlink_in, rmdir_in, lose_link, write_at, truncate_at}
+use Rattle.volume_steps.specs.Steps.{at_node, at_directory, at_file, set_links, resize, make_file, make_directory, make_room, put_name_slot, add_name, place_of, take_name, set_parent, lead_name, node_dropped, drop_node, write_block, write_blocks, cut_blocks, clear_tail, tells_node, slot_told}
+use Rattle.volume_steps.specs.Calls.{create_in, mkdir_in, link_in, unlink_in, rmdir_in, lose_link, move_in, move_below, replace_in, write_at, truncate_at}
 use Rattle.volume_steps.proofs.NewDirectories.{make_directory_is}
+use Rattle.volume_renames.specs.Renamed.{birth_named, is_directory_at, renamed_at, renamed_by}
 use Rattle.volume_names.specs.May.{MayCreate, MayMkdir}
 use Rattle.volume_names.proofs.Creates.{none as file_none}
 use Rattle.volume_names.proofs.Makes.{none as directory_none}
@@ -94,6 +95,12 @@ no_name_keeps v n name = directory_keeps v n _ (λ p d at. by p d at (slice_get 
     by p d at None = nothing v
     by p d at (Some None) = nothing v
     by p d at (Some (Some s)) = keeps_put v.contents.nodes n p _ at refl
+
+parent_keeps : (v : VolumeNow) (n parent : ℕ) → Keeps v (set_parent v n parent)
+parent_keeps v n parent = directory_keeps v n _ (λ p d at. node_keeps v parent _ (λ above also. keeps_put v.contents.nodes n p _ at refl))
+
+lead_keeps : (v : VolumeNow) (n : ℕ) (name : List ℕ) (birth : ℕ) → Keeps v (lead_name v n name birth)
+lead_keeps v n name birth = directory_keeps v n _ (λ p d at. node_keeps v birth _ (λ child also. keeps_put v.contents.nodes n p _ at refl))
 
 block_keeps : (v : VolumeNow) (n off : ℕ) (bytes : List ℕ) (index : ℕ) → Keeps v (write_block v n off bytes index)
 block_keeps v n off bytes index = file_keeps v n _ (λ p zones at. either v _ _ _ (keeps_put v.contents.nodes n p _ at refl) (keeps_all v.contents.nodes))
@@ -190,3 +197,46 @@ rmdir_loses v tx parent name birth sorted =
     let second = (set_links first parent (λ links. links - 1)).volume in
     let kept = keeps_then v.contents.nodes first.contents.nodes second.contents.nodes (no_name_keeps v parent name) (links_keep first parent (λ links. links - 1)) in
     loses_then v.contents.nodes second.contents.nodes (rmdir_in v tx parent name birth).volume.contents.nodes birth kept (drop_loses second tx birth (kept.order sorted))
+
+-- ---- renames
+
+move_keeps : (v : VolumeNow) (from : ℕ) (name : List ℕ) (to : ℕ) (other : List ℕ) (birth : ℕ) → Keeps v (move_in v from name to other birth)
+move_keeps v from name to other birth =
+    let first = take_name v from name in
+    keeps_next v first (λ w. add_name w to other birth) (no_name_keeps v from name) (name_keeps first.volume to other birth)
+
+below_keeps : (v : VolumeNow) (from : ℕ) (name : List ℕ) (to : ℕ) (other : List ℕ) (birth : ℕ) → Keeps v (move_below v from name to other birth)
+below_keeps v from name to other birth =
+    let first = take_name v from name in
+    let second = set_links first.volume from (λ links. links - 1) in
+    let third = set_parent second.volume birth to in
+    let fourth = set_links third.volume to (λ links. links + 1) in
+    keeps_next v first (λ u. followed_by (set_links u from (λ links. links - 1)) (λ w. followed_by (set_parent w birth to) (λ x. followed_by (set_links x to (λ links. links + 1)) (λ y. add_name y to other birth)))) (no_name_keeps v from name)
+    (keeps_next first.volume second (λ w. followed_by (set_parent w birth to) (λ x. followed_by (set_links x to (λ links. links + 1)) (λ y. add_name y to other birth))) (links_keep first.volume from (λ links. links - 1))
+    (keeps_next second.volume third (λ x. followed_by (set_links x to (λ links. links + 1)) (λ y. add_name y to other birth)) (parent_keeps second.volume birth to)
+    (keeps_next third.volume fourth (λ y. add_name y to other birth) (links_keep third.volume to (λ links. links + 1)) (name_keeps fourth.volume to other birth))))
+
+replace_loses : (v : VolumeNow) (tx from : ℕ) (name : List ℕ) (to : ℕ) (other : List ℕ) (birth gone : ℕ) → InOrder v.contents.nodes →
+    Loses v.contents.nodes (replace_in v tx from name to other birth gone).volume.contents.nodes gone
+replace_loses v tx from name to other birth gone sorted =
+    let first = take_name v from name in
+    let second = lead_name first.volume to other birth in
+    let kept = keeps_then v.contents.nodes first.volume.contents.nodes second.volume.contents.nodes (no_name_keeps v from name) (lead_keeps first.volume to other birth) in
+    loses_then v.contents.nodes second.volume.contents.nodes (replace_in v tx from name to other birth gone).volume.contents.nodes gone kept (link_loses second.volume tx gone (kept.order sorted))
+
+-- what has the new name may be lost
+pub rename_loses : (v : VolumeNow) (tx from : ℕ) (name : List ℕ) (to : ℕ) (other : List ℕ) (birth : ℕ) → InOrder v.contents.nodes →
+    Loses v.contents.nodes (renamed_at v tx from name to other birth).volume.contents.nodes (unwrap_or (birth_named v.contents.nodes to other) birth)
+rename_loses v tx from name to other birth sorted = by (birth_named v.contents.nodes to other)
+  where
+    moves : (b : Bool) → Keeps v (if b then move_below v from name to other birth else move_in v from name to other birth)
+    moves true = below_keeps v from name to other birth
+    moves false = move_keeps v from name to other birth
+
+    meets : (gone : ℕ) (b : Bool) → Loses v.contents.nodes (if b then unchanged v else replace_in v tx from name to other birth gone).volume.contents.nodes gone
+    meets gone true = loses_none v.contents.nodes v.contents.nodes gone (keeps_all v.contents.nodes)
+    meets gone false = replace_loses v tx from name to other birth gone sorted
+
+    by : (o : Option ℕ) → Loses v.contents.nodes (renamed_by v tx from name to other birth o).volume.contents.nodes (unwrap_or o birth)
+    by None = loses_none v.contents.nodes _ birth (moves (is_directory_at v.contents.nodes birth && not (to == from)))
+    by (Some gone) = meets gone (gone == birth)

@@ -1,33 +1,26 @@
 //! Calls that are done.
-ghost use Rattle.std.specs.Prelude.{◌≡◌, ◌<◌, ℕ, false, IfOk, IfErr, OnErr, IsOk, Err, Some, None};
+ghost use Rattle.std.specs.Prelude.{◌≡◌, ◌<◌, ℕ, false, unwrap_or, IfOk, IfErr, OnErr, IsOk, Err, Some, None};
 ghost use Rattle.tree_model.specs.declared.call.Call.TheVariants as calls;
 ghost use Rattle.tree_model.specs.Calls.{leaves_tree, outcome};
 ghost use Rattle.tree_model.specs.Maps.{at_number};
 ghost use Rattle.volume_model.specs.declared.placed.Placed.{Placed};
 ghost use Rattle.volume_steps.specs.Now.{room_of, tree_of_now};
 ghost use Rattle.volume_steps.specs.Calls.{called, changed};
-ghost use Rattle.volume_steps.specs.Plain.{is_rename};
 ghost use Rattle.volume_steps.specs.Called.{FindsRoom};
 ghost use Rattle.volume_names.specs.UsedInodes.{unmarked};
+ghost use Rattle.volume_renames.specs.Renamed.{birth_named};
 ghost use Rattle.volume_calls.specs.code.Sites.{IsSite, place_in};
 ghost use Rattle.volume_calls.specs.code.Writes.{write_call};
 
 use crate::PlainVolume;
 use crate::answer::Answer;
 use blk_base::NoMemory;
-use minix_layout::Name;
 use std::alloc::Global;
 use tree_model::{ByteList, Call, Reply, names_of};
 use volume_bytes::Content;
-use volume_names::InodeMap;
+use volume_names::{InodeMap, number_of};
 use volume_now::{Touched, VolumeNow};
-
-// The directory of a path's last name, by its birth, and the name.
-#[derive(Drop)]
-pub struct Site {
-    pub parent: u64,
-    pub name: Name,
-}
+use volume_renames::{Site, birth_named};
 
 fn leaves_tree(call: &Call) -> bool
     ensures { result ≡ leaves_tree call.now }
@@ -43,6 +36,25 @@ fn leaves_tree(call: &Call) -> bool
             | Call::Fdatabarrier(_)
             | Call::Sync
     )
+}
+
+// A node with its inode.
+#[derive(Clone, Copy)]
+pub struct Met {
+    pub birth: u64,
+    pub number: u16,
+}
+
+// The node that has a name, or else the one with this birth.
+fn met_at(v: &VolumeNow, site: &Site, birth: u64) -> Met
+    ensures met { result.birth ≡ unwrap_or (birth_named v.now.contents.nodes site.now.parent site.now.name) birth }
+    ensures number { (p : Placed) → at_number v.now.contents.nodes result.birth ≡ Some p → result.number ≡ p.number }
+{
+    let met = birth_named(&v.nodes, site).unwrap_or(birth);
+    Met {
+        birth: met,
+        number: number_of(&v.nodes, met),
+    }
 }
 
 // Gives back the inode of a node that is gone.
@@ -183,6 +195,35 @@ impl PlainVolume {
         Ok(touched)
     }
 
+    fn move_node(
+        &mut self,
+        alloc: Global,
+        n: u64,
+        tx: u32,
+        path: &ByteList,
+        other: &ByteList,
+    ) -> Result<Touched, NoMemory>
+        requires room { FindsRoom self.old n (calls.Rename path.now other.now) }
+        requires may { IsOk (outcome (room_of self.old.geometry) (tree_of_now self.old) n (calls.Rename path.now other.now)) }
+        ensures done { IfOk result (λ t. record { volume = self.new; touched = t.touched } ≡ changed self.old n tx (calls.Rename path.now other.now)) }
+        ensures memory { OnErr result (self.new ≡ self.old) }
+    {
+        let birth = match self.reached(path) {
+            Ok(found) => found.birth,
+            Err(_) => unreachable!(),
+        };
+        let Ok(from) = self.site(path) else {
+            unreachable!();
+        };
+        let Ok(to) = self.site(other) else {
+            unreachable!();
+        };
+        let met = met_at(&self.parts, &to, birth);
+        let touched = volume_renames::rename(alloc, &mut self.parts, tx, &from, &to, birth)?;
+        give_back(&mut self.inodes, &self.parts, met.birth, met.number);
+        Ok(touched)
+    }
+
     fn cut_file(
         &mut self,
         alloc: Global,
@@ -229,7 +270,6 @@ impl PlainVolume {
     fn change(&mut self, alloc: Global, n: u64, tx: u32, call: &Call) -> Result<Touched, NoMemory>
         requires room { FindsRoom self.old n call.now }
         requires may { IsOk (outcome (room_of self.old.geometry) (tree_of_now self.old) n call.now) }
-        requires no_rename { is_rename call.now ≡ false }
         requires changes { leaves_tree call.now ≡ false }
         ensures done { IfOk result (λ t. record { volume = self.new; touched = t.touched } ≡ changed self.old n tx call.now) }
         ensures memory { OnErr result (self.new ≡ self.old) }
@@ -239,6 +279,7 @@ impl PlainVolume {
             Call::Create(path) => self.make_file(alloc, n, path),
             Call::Link(path, other) => self.add_link(alloc, n, path, other),
             Call::Unlink(path) => self.take_link(alloc, n, tx, path),
+            Call::Rename(path, other) => self.move_node(alloc, n, tx, path, other),
             Call::Rmdir(path) => self.remove_directory(alloc, n, tx, path),
             Call::Truncate(path, size) => self.cut_file(alloc, n, tx, path, *size),
             Call::Write {
@@ -262,7 +303,7 @@ impl PlainVolume {
     }
 
     /// Does the call with number `n` in transaction `tx`, and gives its reply and what it touched. Memory is asked for
-    /// before the first write, and where it is refused all is as before. Renames are not built yet.
+    /// before the first write, and where it is refused all is as before.
     pub fn apply(
         &mut self,
         alloc: Global,
@@ -271,7 +312,6 @@ impl PlainVolume {
         call: &Call,
     ) -> Result<(Reply, Touched), NoMemory>
         requires room { FindsRoom self.old n call.now }
-        requires no_rename { is_rename call.now ≡ false }
         ensures done { IfOk result (λ x. record { change = record { volume = self.new; touched = x.1.touched }; reply = x.0 } ≡ called self.old n tx call.now) }
         ensures memory { OnErr result (self.new ≡ self.old) }
     {
