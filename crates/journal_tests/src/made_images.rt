@@ -51,7 +51,7 @@ pub(crate) fn is_block(block: &Block, front: &[u8], rest: u8) -> bool {
 
 #[test]
 fn makes_each_block(rt: HostRuntime) {
-    let image = make_volume(rt.alloc(), 32, 64, 128).expect(&rt, "not made");
+    let image = make_volume(rt.alloc(), 32, 64, 128, false).expect(&rt, "not made");
     assert_eq!(rt; image.len(), 192);
     for at in 0..192 {
         let (front, rest) = made(at);
@@ -63,6 +63,19 @@ fn makes_each_block(rt: HostRuntime) {
     made_maps_mark_the_root();
 }
 
+// The features stand at 0x28 of the journal's superblock: 1 for revoke blocks, and 2 for wide tags.
+#[test]
+fn a_journal_says_its_kind(rt: HostRuntime) {
+    for (wide, features) in [(false, 1u8), (true, 3u8)] {
+        let image = make_volume(rt.alloc(), 32, 64, 128, wide).expect(&rt, "not made");
+        assert_eq!(rt; image.len(), 192);
+        if image.len() > 64 {
+            let last = image.block(64).as_slice().get(0x2B).copied();
+            assert_eq!(rt; last, Some(features), "{wide}");
+        }
+    }
+}
+
 #[test]
 fn refuses_sizes(rt: HostRuntime) {
     let rows = [
@@ -72,7 +85,7 @@ fn refuses_sizes(rt: HostRuntime) {
         (32, 6, 16_385, MakeFault::JournalSize),
     ];
     for (inodes, zones, journal, fault) in rows {
-        let made = make_volume(rt.alloc(), inodes, zones, journal);
+        let made = make_volume(rt.alloc(), inodes, zones, journal, false);
         assert!(rt; made.is_err_and(|f| f == fault), "{zones} {journal}");
     }
 }
@@ -86,7 +99,7 @@ fn put(image: &mut Image, at: u32, body: Block) {
 
 // A made image whose log has an empty transaction of sequence 4, and one of sequence 5 without its commit block.
 fn skipping(rt: &impl Abort, alloc: Global) -> Image {
-    let mut image = make_volume(alloc, 32, 64, 128).expect(rt, "not made");
+    let mut image = make_volume(alloc, 32, 64, 128, false).expect(rt, "not made");
     let superblock = JournalSuper {
         maxlen: 128,
         first: 1,
