@@ -122,9 +122,9 @@ fn tells_of_a_journal_with_features(rt: HostRuntime) -> Result<(), Fail> {
     // The lowest byte of the features.
     put(image.as_mut_slice(), 65_579, b"\x13");
     let found = run(alloc, &["show"], image.as_slice())?;
-    let fault = TopFault::Image(ImageFault::Feature(18), 64);
+    let fault = TopFault::Image(ImageFault::Feature(16), 64);
     expect_fault(&rt, &found, 4, fault, "a journal with features");
     let text = format!(in alloc; "{fault}")?;
-    assert_eq!(rt; text.as_str(), "image: feature 18 at block 64");
+    assert_eq!(rt; text.as_str(), "image: feature 16 at block 64");
     Ok(())
 }
