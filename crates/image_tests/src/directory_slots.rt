@@ -1,7 +1,7 @@
 //! Tests of the slots of a directory.
 use blk_base::{Block, Image};
 use dir_ops::{
-    Slots, added_names_are_found, names_are_found, removed_names_are_gone,
+    Slots, added_names_are_found, led_names_stay, names_are_found, removed_names_are_gone,
     room_is_the_least_free_place,
 };
 use minix_layout::{Inode, Name, Slot, Zones, write_slot};
@@ -95,6 +95,27 @@ fn a_reserved_slot_is_used_or_undone(rt: HostRuntime) -> Result<(), Fail> {
     room_is_the_least_free_place();
     added_names_are_found();
     removed_names_are_gone();
+    led_names_stay();
+    Ok(())
+}
+
+// Of three slots the second is in use; a free one and one behind the last are led nowhere.
+#[test]
+fn a_slot_is_led_to_another_inode(rt: HostRuntime) -> Result<(), Fail> {
+    let a = Name::of(b"a").ok_or("no name")?;
+    let mut slots = three(rt.alloc(), 3, &a)?;
+    for at in [0, 1, 2, 3] {
+        slots.lead(at, 7);
+    }
+    let inodes = [
+        inode_at(&slots, 0),
+        inode_at(&slots, 1),
+        inode_at(&slots, 2),
+    ];
+    assert_eq!(rt;
+        (seen(&slots, &a, &a), inodes),
+        ((3, 0, Some(1), Some(1)), [0, 7, 0])
+    );
     Ok(())
 }
 

@@ -5,3 +5,5 @@
 
 #[cfg(test)]
 mod new_volumes;
+#[cfg(test)]
+mod renames;

@@ -4,7 +4,6 @@ ghost use Rattle.minix_layout.specs.Geometry.{IsSound};
 ghost use Rattle.tree_model.specs.Calls.{leaves_tree};
 ghost use Rattle.volume_model.specs.NewVolume.{new_blocks, root_inode, root_placed};
 ghost use Rattle.volume_steps.specs.NewNow.{new_now};
-ghost use Rattle.volume_steps.specs.Plain.{is_rename};
 
 use blk_base::{Image, NoMemory};
 use call_grammar::{read_call, read_call_word};
@@ -23,7 +22,7 @@ use volume_steps::new_volumes_are_in_use;
 use zone_maps::ZoneMap;
 
 // Five blocks are no zones of data.
-const SMALL: Geometry = Geometry {
+pub const SMALL: Geometry = Geometry {
     inodes: 32,
     zones: 64,
     imap: 1,
@@ -82,7 +81,7 @@ fn root(rt: &impl Abort, alloc: Global, g: &Geometry) -> Placed
 }
 
 // A new volume.
-fn new_volume(rt: &impl Abort, alloc: Global, g: Geometry) -> PlainVolume
+pub fn new_volume(rt: &impl Abort, alloc: Global, g: Geometry) -> PlainVolume
     requires { IsSound g }
     ensures { result ≡ new_now g }
 {
@@ -101,17 +100,11 @@ fn new_volume(rt: &impl Abort, alloc: Global, g: Geometry) -> PlainVolume
 }
 
 // The call of a line.
-fn call_of(rt: &impl Abort, alloc: Global, line: &str) -> Call {
+pub fn call_of(rt: &impl Abort, alloc: Global, line: &str) -> Call {
     let found = words(alloc, line.as_bytes()).expect(rt, "no words");
     let (first, rest) = found.as_slice().split_first().expect(rt, "no word");
     let word = read_call_word(first).expect(rt, "no call's word");
     read_call(alloc, word, rest).expect(rt, "no call")
-}
-
-fn is_rename(call: &Call) -> bool
-    ensures { result ≡ is_rename call.now }
-{
-    matches!(call, Call::Rename(_, _))
 }
 
 fn leaves_tree(call: &Call) -> bool
@@ -133,7 +126,6 @@ fn leaves_tree(call: &Call) -> bool
 // What the call of a line is answered before it is done, and the zones that it would take.
 fn shown(rt: &impl Abort, alloc: Global, volume: &PlainVolume, line: &str) -> String {
     let call = call_of(rt, alloc, line);
-    assert!(rt; !is_rename(&call));
     let zones = volume.needs(&call);
     format!(in alloc; "{:?}, {zones}", volume.reply(&call)).expect(rt, "no text")
 }
@@ -212,9 +204,7 @@ fn has_blocks_and_zones(rt: HostRuntime) {
 }
 
 // Does a call, under the first number from 1 that it can have, where there is room for it.
-fn reply_done(alloc: Global, volume: &mut PlainVolume, call: &Call) -> Result<Reply, NoMemory>
-    requires { is_rename call.now ≡ false }
-{
+pub fn reply_done(alloc: Global, volume: &mut PlainVolume, call: &Call) -> Result<Reply, NoMemory> {
     volumes_are_plain(volume);
     let Some(number) = volume.number_in(1) else {
         return Err(NoMemory);
@@ -227,13 +217,12 @@ fn reply_done(alloc: Global, volume: &mut PlainVolume, call: &Call) -> Result<Re
 }
 
 // Does the call of a line.
-fn do_line(rt: &impl Abort, alloc: Global, volume: &mut PlainVolume, line: &str) {
+pub fn do_line(rt: &impl Abort, alloc: Global, volume: &mut PlainVolume, line: &str) {
     let call = call_of(rt, alloc, line);
-    assert!(rt; !is_rename(&call));
     let _ = reply_done(alloc, volume, &call).expect(rt, "not done");
 }
 
-fn tree_text(rt: &impl Abort, alloc: Global, volume: &PlainVolume) -> String {
+pub fn tree_text(rt: &impl Abort, alloc: Global, volume: &PlainVolume) -> String {
     let mut text = String::new(alloc);
     let tree = volume.tree(alloc).expect(rt, "no tree");
     put_tree(alloc, &mut text, tree).expect(rt, "no text");

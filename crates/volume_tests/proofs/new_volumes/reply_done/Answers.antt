@@ -15,4 +15,4 @@ apply-requires c =
     let needed = c.needs.ensures c.in-Some.number born in
     let free : c.free_count.result ≡ count_by is_free v.zones.states = search rules in
     let enough = c.if-needs-free_count.false in
-    record { room = record { plain = c.volumes_are_plain.ensures; born = born; enough = omega (arith, needed, free, enough) }; no_rename = c.requires }
+    record { room = record { plain = c.volumes_are_plain.ensures; born = born; enough = omega (arith, needed, free, enough) } }
