@@ -5,4 +5,4 @@ use Rattle.journal_tests.proofs.recovery.tags_for.Given as goal
 
 -- the block numbers so far are of 32 bits
 abbrev pub invariant-loop-block : goal.invariant-loop-block
-invariant-loop-block l = All (λ (t : Tag). t.block < 2 ^ 32) l.tags.items
+invariant-loop-block g l = All (λ (t : Tag). t.block < 2 ^ 32) l.tags.items
