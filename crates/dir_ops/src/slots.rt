@@ -9,7 +9,7 @@ use minix_layout::{Name, Slot};
 use std::alloc::Global;
 use std::marker::Model;
 
-/// The slots of a directory, 16 bytes each in its blocks; None is a free one.
+/// The slots of a directory as its blocks have them, of any width; None is a free one.
 #[derive(Drop)]
 pub struct Slots {
     items: Vec<Option<Slot>>,

@@ -3,6 +3,7 @@ use Rattle.std.specs.Prelude.{◌≡◌, ℕ, ◌+◌, ◌*◌, ◌^◌, ◌<◌
 use Rattle.std.specs.List.{range_with_len}
 use Rattle.byte_fields.specs.Fields.{zeros, number_at, Field, field, written}
 use Rattle.byte_fields.specs.Fields.Order.{little}
+use Rattle.minix_layout.specs.Widths.{slot_size}
 use Rattle.minix_layout.specs.declared.inode.Inode.{Inode}
 
 -- the field of zone k of nine
@@ -53,8 +54,8 @@ abbrev pub zero_inode : Inode
 zero_inode = record { mode = 0; uid = 0; size = 0; time = 0; gid = 0; links = 0; zones = replicate 9 0 }
 
 -- the inode of a new directory: the rights 755, two slots in this zone, two links
-abbrev pub new_directory_inode : ℕ → Inode
-new_directory_inode zone = record { mode = 0x41ED; uid = 0; size = 32; time = 0; gid = 0; links = 2; zones = zone ∷ replicate 8 0 }
+abbrev pub new_directory_inode : ℕ → ℕ → Inode
+new_directory_inode width zone = record { mode = 0x41ED; uid = 0; size = slot_size width * 2; time = 0; gid = 0; links = 2; zones = zone ∷ replicate 8 0 }
 
 -- each number fits its bits, and there are nine zones
 pub record FitInode (i : Inode) : Type 0 where

@@ -4,5 +4,6 @@ pub mod Geometry
 pub mod Inodes
 pub mod Slots
 pub mod Super
+pub mod Widths
 pub mod Words
 pub mod laws

@@ -3,9 +3,9 @@ use Rattle.std.specs.Prelude.{ℕ, ◌+◌, ◌==◌, Bool, not, ◌&&◌, nat_l
 use Rattle.std.specs.List.{list_any}
 use Rattle.std.specs.Int.{div_ceil}
 
--- 1 to 14 bytes, none of them 0
+-- 1 to 30 bytes, none of them 0
 abbrev pub is_name : List ℕ → Bool
-is_name bytes = nat_lt 0 (length bytes) && (nat_le (length bytes) 14 && not (list_any (λ b. b == 0) bytes))
+is_name bytes = nat_lt 0 (length bytes) && (nat_le (length bytes) 30 && not (list_any (λ b. b == 0) bytes))
 
 -- the name of these bytes, if they are one
 abbrev pub name_from : List ℕ → Option (List ℕ)

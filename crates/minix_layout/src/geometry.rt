@@ -1,5 +1,6 @@
 //! Superblocks: read, written and tested.
 ghost use Rattle.std.specs.Prelude.{◌≡◌, ◌≢◌, ◌≤◌, ◌↔◌, IfOk, IsErr};
+ghost use Rattle.minix_layout.specs.Widths.{IsWidth};
 ghost use Rattle.minix_layout.specs.Words.{first_zone};
 ghost use Rattle.minix_layout.specs.Geometry.{geometry_made, is_consistent, IsSound};
 
@@ -8,9 +9,10 @@ use crate::division::{Geometry, TooSmall};
 impl Geometry {
     /// A new volume of so many inodes, and so many blocks in all. The maps have a bit for each inode and each
     /// block, and one more. `TooSmall` where the tables would leave no zone of data.
-    pub fn make(inodes: u16, zones: u16) -> Result<Geometry, TooSmall>
-        requires { inodes ≢ 0 }
-        ensures made { IfOk result (λ g. g ≡ geometry_made inodes zones) }
+    pub fn make(inodes: u16, zones: u16, width: u16) -> Result<Geometry, TooSmall>
+        requires some { inodes ≢ 0 }
+        requires width { IsWidth width }
+        ensures made { IfOk result (λ g. g ≡ geometry_made inodes zones width) }
         ensures sound { IfOk result (λ g. IsSound g) }
         ensures too_small { IsErr result ↔ (zones ≤ first_zone inodes zones) }
     {
@@ -26,7 +28,7 @@ impl Geometry {
             imap: imap as u16,
             zmap: zmap as u16,
             first: first as u16,
-            width: 14,
+            width,
         })
     }
 }

@@ -3,6 +3,7 @@ ghost use Rattle.std.specs.Prelude.{◌≡◌};
 ghost use Rattle.minix_layout.specs.Inodes.{new_directory_inode, zero_inode};
 
 use crate::Zones;
+use crate::widths::slot_size;
 
 /// An inode: a file, a directory or another thing that slots name.
 #[derive(Drop, Debug, PartialEq, Eq)]
@@ -40,13 +41,13 @@ impl Inode {
     }
 
     /// A directory with the rights 755, of two slots in this zone, with two links.
-    pub fn new_directory(zone: u16) -> Inode
-        ensures { result ≡ new_directory_inode zone }
+    pub fn new_directory(width: u16, zone: u16) -> Inode
+        ensures { result ≡ new_directory_inode width zone }
     {
         Inode {
             mode: 0o040_755,
             uid: 0,
-            size: 32,
+            size: slot_size(width) * 2,
             time: 0,
             gid: 0,
             links: 2,

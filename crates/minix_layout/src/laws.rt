@@ -1,5 +1,5 @@
 //! Laws of the layout: what is written is read back.
-ghost use Rattle.std.specs.Prelude.{◌≡◌, ◌≢◌, ℕ, ◌*◌, ◌/◌, ◌<◌, ◌≤◌, Bool, List, length, Option, Ok, IfSome, slice_index, slice_index_or};
+ghost use Rattle.std.specs.Prelude.{◌≡◌, ◌≢◌, ℕ, ◌*◌, ◌+◌, ◌/◌, ◌<◌, ◌≤◌, Bool, List, length, Option, Ok, IfSome, slice_index, slice_index_or};
 ghost use Rattle.blk_base.specs.Block.{filled};
 ghost use Rattle.byte_fields.specs.Fields.{Apart, record_at, put_record};
 ghost use Rattle.minix_layout.specs.declared.division.Geometry.{Geometry};
@@ -11,6 +11,7 @@ ghost use Rattle.minix_layout.specs.Inodes.{inode_of, inode_bytes, FitInode};
 ghost use Rattle.minix_layout.specs.declared.bits.BitPlace.{BitPlace};
 ghost use Rattle.minix_layout.specs.Bits.{bit_of, put_bit, inode_bit, zone_bit, has_bit, with_bit};
 ghost use Rattle.minix_layout.specs.Slots.{slot_of, slot_bytes, IsEntry, IsNamed};
+ghost use Rattle.minix_layout.specs.Widths.{IsWidth, slot_size, slots_a_block};
 
 /// A law, which does nothing when it is called: what `write_super` writes of a sound geometry is read
 /// back as that geometry.
@@ -35,15 +36,19 @@ pub fn inodes_are_read()
 /// A law, which does nothing when it is called: what `write_slot` writes at a place is read back
 /// there, other places are read as before, and no other byte changes.
 pub fn slots_are_read()
-    ensures read { (b : List ℕ) (at : ℕ) (s : Option Slot) →
-        length b ≡ 1024 → at < 64 → IfSome s (λ e. IsEntry e) →
-        slot_of (record_at 16 at (put_record 16 at (slot_bytes s) b)) ≡ Ok s }
-    ensures other { (b : List ℕ) (at other : ℕ) (s : Option Slot) →
-        length b ≡ 1024 → at < 64 → other < 64 → at ≢ other → IfSome s (λ e. IsNamed e) →
-        slot_of (record_at 16 other (put_record 16 at (slot_bytes s) b)) ≡ slot_of (record_at 16 other b) }
-    ensures bytes { (b : List ℕ) (at k : ℕ) (s : Option Slot) →
-        length b ≡ 1024 → at < 64 → IfSome s (λ e. IsNamed e) → Apart 1 k 16 (16 * at) →
-        slice_index (put_record 16 at (slot_bytes s) b) k ≡ slice_index b k }
+    ensures read { (width : ℕ) (b : List ℕ) (at : ℕ) (s : Option Slot) →
+        IsWidth width → length b ≡ 1024 → at < slots_a_block width → IfSome s (λ e. IsEntry width e) →
+        slot_of width (record_at (slot_size width) at (put_record (slot_size width) at (slot_bytes width s) b)) ≡ Ok s }
+    ensures other { (width : ℕ) (b : List ℕ) (at other : ℕ) (s : Option Slot) →
+        IsWidth width → length b ≡ 1024 → at < slots_a_block width → other < slots_a_block width → at ≢ other →
+        IfSome s (λ e. length e.name ≤ width) →
+        slot_of width (record_at (slot_size width) other (put_record (slot_size width) at (slot_bytes width s) b)) ≡
+        slot_of width (record_at (slot_size width) other b) }
+    ensures bytes { (width : ℕ) (b : List ℕ) (at k : ℕ) (s : Option Slot) →
+        IsWidth width → length b ≡ 1024 → at < slots_a_block width → IfSome s (λ e. length e.name ≤ width) →
+        Apart 1 k (slot_size width) (slot_size width * at) →
+        slice_index (put_record (slot_size width) at (slot_bytes width s) b) k ≡ slice_index b k }
+    ensures fit { (width : ℕ) → IsWidth width → (slot_size width ≡ width + 2) × (slots_a_block width ≡ 1024 / (width + 2)) }
 {}
 
 /// A law, which does nothing when it is called: what `write_bit` writes is read back, other bits of the block are

@@ -1,4 +1,4 @@
-//! Names of 1 to 14 bytes.
+//! Names of 1 to 30 bytes.
 ghost use Rattle.std.specs.Prelude.{◌≡◌, IsTrue, Some, nat_eq, refl};
 ghost use Rattle.std.specs.Cmp.{partial_equiv_from_equiv};
 ghost use Rattle.std.specs.Cmp.Lexicographic.{nat_list_cmp_total, nat_list_eq_equiv, pointwise, slice_cmp, texts_po, texts_ties};
@@ -8,10 +8,10 @@ ghost use Rattle.minix_layout.specs.Words.{is_name, name_from};
 use std::cmp::Ordering;
 use std::marker::Model;
 
-/// A name of 1 to 14 bytes, none of them 0. It is stored in place.
+/// A name of 1 to 30 bytes, none of them 0. It is stored in place.
 #[derive(Drop, Debug)]
 pub struct Name {
-    bytes: [u8; 14],
+    bytes: [u8; 30],
     len: u8,
 }
 
@@ -23,18 +23,18 @@ impl Model for Name {
 
     ghost view = { λ n. take n.len n.bytes };
 
-    ghost invariant = { λ n. (n.len ≤ 14) × IsTrue (is_name (take n.len n.bytes)) };
+    ghost invariant = { λ n. (n.len ≤ 30) × IsTrue (is_name (take n.len n.bytes)) };
 }
 
 impl Name {
-    /// The name of these bytes, if they are 1 to 14 and none of them is 0.
+    /// The name of these bytes, if they are 1 to 30 and none of them is 0.
     pub fn of(bytes: &[u8]) -> Option<Name>
         ensures { result ≡ name_from bytes.now }
     {
-        if bytes.is_empty() || bytes.len() > 14 || bytes.contains(&0) {
+        if bytes.is_empty() || bytes.len() > 30 || bytes.contains(&0) {
             return None;
         }
-        let mut name = [0; 14];
+        let mut name = [0; 30];
         name[..bytes.len()].copy_from_slice(bytes);
         Some(Name {
             bytes: name,

@@ -14,9 +14,9 @@
 //!
 //! All other bytes are 0 where they are written, and are not read.
 
-ghost use Rattle.std.specs.Prelude.{◌≡◌, ◌≢◌, ◌↔◌, Ok, Err, IfOk, IsFalse, length};
+ghost use Rattle.std.specs.Prelude.{◌≡◌, ◌≢◌, ◌↔◌, ◌⊎◌, Ok, Err, IfOk, IsFalse, length};
 ghost use Rattle.minix_layout.specs.Geometry.{FitGeometry, IsSound};
-ghost use Rattle.minix_layout.specs.Super.{super_block, super_of, magic_of, geometry_of, is_divided};
+ghost use Rattle.minix_layout.specs.Super.{super_block, super_of, magic_of, magic_for, is_magic, width_by, geometry_of, is_divided};
 
 use crate::geometry::is_consistent;
 use crate::limits::LARGEST_SIZE;
@@ -32,16 +32,15 @@ const MAGIC_WIDE: u16 = 0x138F;
 
 /// What a superblock says of its volume.
 ///
-/// `NameWidth` and `BadMagic` come by the magic number, and `BadGeometry` where a zone is not one block, the
+/// `BadMagic` comes by the magic number, and `BadGeometry` where a zone is not one block, the
 /// numbers do not agree or a table does not fit: `is_consistent` of `specs/Geometry.antt` has the tests.
 pub fn read_super(b: &Block) -> Result<Geometry, LayoutFault>
     ensures value { result ≡ super_of b.now }
     ensures sound { IfOk result (λ g. IsSound g) }
-    ensures name_width { (result ≡ Err LayoutFault.NameWidth) ↔ (magic_of b.now ≡ 0x138F) }
     ensures bad_magic { (result ≡ Err LayoutFault.BadMagic) ↔
         ((magic_of b.now ≢ 0x138F) × (magic_of b.now ≢ 0x137F)) }
     ensures bad_geometry { (result ≡ Err LayoutFault.BadGeometry) ↔
-        ((magic_of b.now ≡ 0x137F) × IsFalse (is_divided b.now)) }
+        (((magic_of b.now ≡ 0x137F) ⊎ (magic_of b.now ≡ 0x138F)) × IsFalse (is_divided b.now)) }
 {
     super_in(b.as_slice())
 }
@@ -54,10 +53,7 @@ fn super_in(bytes: &[u8]) -> Result<Geometry, LayoutFault>
     ensures fits { IfOk result (λ g. FitGeometry g) }
 {
     let magic = u16_at_le(bytes, 16);
-    if magic == MAGIC_WIDE {
-        return Err(LayoutFault::NameWidth);
-    }
-    if magic != MAGIC {
+    if magic != MAGIC_WIDE && magic != MAGIC {
         return Err(LayoutFault::BadMagic);
     }
     let g = geometry_in(bytes);
@@ -79,8 +75,22 @@ fn geometry_in(bytes: &[u8]) -> Geometry
         imap: u16_at_le(bytes, 4),
         zmap: u16_at_le(bytes, 6),
         first: u16_at_le(bytes, 8),
-        width: 14,
+        width: width_by(u16_at_le(bytes, 16)),
     }
+}
+
+// The bytes of a name, by the magic number.
+fn width_by(magic: u16) -> u16
+    ensures { result ≡ width_by magic }
+{
+    if magic == MAGIC_WIDE { 30 } else { 14 }
+}
+
+// The magic number, by the bytes of a name.
+fn magic_for(width: u16) -> u16
+    ensures { result ≡ magic_for width }
+{
+    if width == 30 { MAGIC_WIDE } else { MAGIC }
 }
 
 /// The superblock of a volume. It is read back as `g` where `g` is sound, as `Geometry::make` and `read_super` give it.
@@ -90,7 +100,7 @@ pub fn write_super(g: &Geometry) -> Block
 {
     let mut bytes = zeroed::<1024>();
     put_u16_le(&mut bytes, 18, 1);
-    put_u16_le(&mut bytes, 16, MAGIC);
+    put_u16_le(&mut bytes, 16, magic_for(g.width));
     put_u32_le(&mut bytes, 12, LARGEST_SIZE);
     put_u16_le(&mut bytes, 10, 0);
     put_u16_le(&mut bytes, 8, g.first);

@@ -1,5 +1,5 @@
 -- What is read of a slot that was written, and when it is refused.
-use Rattle.std.specs.Prelude.{◌≡◌, ◌≢◌, ℕ, zero, suc, ◌+◌, ◌-◌, ◌*◌, ◌<◌, ◌≤◌, ◌==◌, Bool, true, false, not, cond, nat_lt, nat_le, if◌then◌else◌, ◌↔◌, IsTrue, IfErr, IfSome, slice_index, List, [], ◌∷◌, ◌++◌, length, take, drop, Option, Some, None, Result, Ok, Err, refl}
+use Rattle.std.specs.Prelude.{◌≡◌, ◌≢◌, ℕ, zero, suc, ◌+◌, ◌-◌, ◌*◌, ◌^◌, ◌<◌, ◌≤◌, ◌==◌, Bool, true, false, not, cond, nat_lt, nat_le, if◌then◌else◌, ◌↔◌, IsTrue, IfErr, IfSome, slice_index, List, [], ◌∷◌, ◌++◌, length, take, drop, Option, Some, None, Result, Ok, Err, refl}
 use Rattle.std.specs.List.{list_any, before_first, position_or_len, prefix_len}
 use Rattle.std.proofs.Common.{sym, ap, ◌∙◌, arith, inl, inr, lit≤}
 use Rattle.std.proofs.lemmas.Bool.{and_parts, and_from, ltb-true, leb-true, lt-ltb, le-leb, eqb-true, eqb-false, eq-eqb, ne_eqb, not-true, not_from_false, or_left, or_right, or_from, or_parts, cases_lt, both_ways}
@@ -11,7 +11,8 @@ use Rattle.minix_layout.specs.declared.slot.Slot.{Slot}
 use Rattle.minix_layout.specs.declared.fault.LayoutFault.{LayoutFault}
 use Rattle.minix_layout.specs.declared.fault.LayoutFault.TheVariants.{BadSlot}
 use Rattle.minix_layout.specs.Words.{is_name, name_from}
-use Rattle.minix_layout.specs.Slots.{inode_in, name_in, is_bad_name, slot_of, slot_bytes, IsEntry, IsNamed, IsReadable}
+use Rattle.minix_layout.specs.Widths.{IsWidth, of_14, of_30, slot_size, slots_a_block}
+use Rattle.minix_layout.specs.Slots.{inode_in, name_in, is_bad_name, slot_of, slot_of_size, slot_bytes, IsEntry, IsNamed, IsReadable}
 
 -- the byte that ends a name
 abbrev pub is_zero : ℕ → Bool
@@ -73,50 +74,50 @@ said_fault false true s = refl
 said_fault false false s = tt
 
 -- a slot is free exactly where its number is 0
-pub slot_free : (bytes : List ℕ) → (slot_of bytes ≡ Ok None) ↔ (inode_in bytes ≡ 0)
+pub slot_free : (width : ℕ) (bytes : List ℕ) → (slot_of width bytes ≡ Ok None) ↔ (inode_in bytes ≡ 0)
 unfolding slot_of
-slot_free bytes = (
-  λ h. eqb-true _ _ (said_free (inode_in bytes == 0) (is_bad_name (name_in bytes)) (record { inode = inode_in bytes; name = name_in bytes }) h),
+slot_free width bytes = (
+  λ h. eqb-true _ _ (said_free (inode_in bytes == 0) (is_bad_name (name_in width bytes)) (record { inode = inode_in bytes; name = name_in width bytes }) h),
   λ h. rw h refl,
 )
 
 -- a slot has one kind of fault
-pub slot_fault : (bytes : List ℕ) → IfErr (slot_of bytes) (λ f. f ≡ BadSlot)
+pub slot_fault : (width : ℕ) (bytes : List ℕ) → IfErr (slot_of width bytes) (λ f. f ≡ BadSlot)
 unfolding slot_of
-slot_fault bytes = said_fault (inode_in bytes == 0) (is_bad_name (name_in bytes)) (record { inode = inode_in bytes; name = name_in bytes })
+slot_fault width bytes = said_fault (inode_in bytes == 0) (is_bad_name (name_in width bytes)) (record { inode = inode_in bytes; name = name_in width bytes })
 
 -- and has it exactly where it is in use under a bad name
-pub slot_bad : (bytes : List ℕ) → (slot_of bytes ≡ Err BadSlot) ↔ ((0 < inode_in bytes) × IsTrue (is_bad_name (name_in bytes)))
+pub slot_bad : (width : ℕ) (bytes : List ℕ) → (slot_of width bytes ≡ Err BadSlot) ↔ ((0 < inode_in bytes) × IsTrue (is_bad_name (name_in width bytes)))
 unfolding slot_of
-slot_bad bytes = (
+slot_bad width bytes = (
   λ h.
-      let tests = said_bad (inode_in bytes == 0) (is_bad_name (name_in bytes)) (record { inode = inode_in bytes; name = name_in bytes }) h in
+      let tests = said_bad (inode_in bytes == 0) (is_bad_name (name_in width bytes)) (record { inode = inode_in bytes; name = name_in width bytes }) h in
       let used = eqb-false (inode_in bytes) 0 tests.0 in
       (above_zero (inode_in bytes) used, tests.1),
   λ h.
       let used : (inode_in bytes == 0) ≡ false = ne_eqb (inode_in bytes) 0 (not_zero (inode_in bytes) h.0) in
-      let bad : is_bad_name (name_in bytes) ≡ true = h.1 in
-      ap (λ (free : Bool). said free (is_bad_name (name_in bytes)) (record { inode = inode_in bytes; name = name_in bytes })) used
-      ∙ ap (λ (fails : Bool). said false fails (record { inode = inode_in bytes; name = name_in bytes })) bad,
+      let bad : is_bad_name (name_in width bytes) ≡ true = h.1 in
+      ap (λ (free : Bool). said free (is_bad_name (name_in width bytes)) (record { inode = inode_in bytes; name = name_in width bytes })) used
+      ∙ ap (λ (fails : Bool). said false fails (record { inode = inode_in bytes; name = name_in width bytes })) bad,
 )
 
 -- what a slot in use under a bad name says
-pub used_bad : (bytes : List ℕ) (inode : ℕ) (name : List ℕ) → inode ≡ inode_in bytes → (inode ≡ 0 → ⊥) → name ≡ name_in bytes → is_bad_name name ≡ true → Err BadSlot ≡ slot_of bytes
-used_bad bytes inode name number used same bad =
+pub used_bad : (width : ℕ) (bytes : List ℕ) (inode : ℕ) (name : List ℕ) → inode ≡ inode_in bytes → (inode ≡ 0 → ⊥) → name ≡ name_in width bytes → is_bad_name name ≡ true → Err BadSlot ≡ slot_of width bytes
+used_bad width bytes inode name number used same bad =
     let in_use : 0 < inode_in bytes = omega arith in
-    sym ((slot_bad bytes).1 (in_use, ap is_bad_name (sym same) ∙ bad))
+    sym ((slot_bad width bytes).1 (in_use, ap is_bad_name (sym same) ∙ bad))
 
 -- what a slot in use under another name says
-pub used_good : (bytes : List ℕ) (inode : ℕ) (name : List ℕ) → inode ≡ inode_in bytes → (inode ≡ 0 → ⊥) → name ≡ name_in bytes → is_bad_name name ≡ false → Ok (Some (record { inode = inode; name = name })) ≡ slot_of bytes
+pub used_good : (width : ℕ) (bytes : List ℕ) (inode : ℕ) (name : List ℕ) → inode ≡ inode_in bytes → (inode ≡ 0 → ⊥) → name ≡ name_in width bytes → is_bad_name name ≡ false → Ok (Some (record { inode = inode; name = name })) ≡ slot_of width bytes
 unfolding slot_of
-used_good bytes inode name number used same good =
+used_good width bytes inode name number used same good =
     let in_use : (inode_in bytes == 0) ≡ false = ne_eqb (inode_in bytes) 0 (λ h. used (number ∙ h)) in
-    let fails : is_bad_name (name_in bytes) ≡ false = ap is_bad_name (sym same) ∙ good in
-    let found : Slot = record { inode = inode_in bytes; name = name_in bytes } in
+    let fails : is_bad_name (name_in width bytes) ≡ false = ap is_bad_name (sym same) ∙ good in
+    let found : Slot = record { inode = inode_in bytes; name = name_in width bytes } in
     ap (λ (n : ℕ). let made : Slot = record { inode = n; name = name } in said false false made) number
     ∙ ap (λ (n : List ℕ). let made : Slot = record { inode = inode_in bytes; name = n } in said false false made) same
     ∙ ap (λ (b : Bool). said false b found) (sym fails)
-    ∙ ap (λ (b : Bool). said b (is_bad_name (name_in bytes)) found) (sym in_use)
+    ∙ ap (λ (b : Bool). said b (is_bad_name (name_in width bytes)) found) (sym in_use)
 
 some_of : (is : Bool) (name n : List ℕ) → Some name ≡ (if is then Some n else None) → (name ≡ n) × (is ≡ true)
 some_of true name n h = (cc, refl)
@@ -141,122 +142,149 @@ good_name name is slash =
     let some = ltb-true 0 (length name) (and_parts (nat_lt 0 (length name)) _ is).0 in
     or_from _ _ (ne_eqb (length name) 0 (not_zero (length name) some)) slash
 
-short_front : (ys : List ℕ) → length ys ≤ 14 → length (before_first is_zero ys) ≤ 14
-short_front ys short = omega (arith, length-take (position_or_len is_zero ys) ys)
+short_front : (width : ℕ) (ys : List ℕ) → length ys ≤ width → length (before_first is_zero ys) ≤ width
+short_front width ys short = omega (arith, length-take (position_or_len is_zero ys) ys)
 
-short_part : (bytes : List ℕ) → length (bytes_at 14 2 bytes) ≤ 14
+short_part : (width : ℕ) (bytes : List ℕ) → length (bytes_at width 2 bytes) ≤ width
 unfolding bytes_at
-short_part bytes = omega (arith, length-take 14 (drop 2 bytes))
+short_part width bytes = omega (arith, length-take width (drop 2 bytes))
+
+-- a name that is read has at most the width
+pub short_name : (width : ℕ) (bytes : List ℕ) → length (name_in width bytes) ≤ width
+short_name width bytes = short_front width (bytes_at width 2 bytes) (short_part width bytes)
 
 -- bytes of a slot that are no name are none
-pub bad_empty : (bytes : List ℕ) → is_name (name_in bytes) ≡ false → is_bad_name (name_in bytes) ≡ true
-bad_empty bytes fails =
-    let short : length (name_in bytes) ≤ 14 = short_front (bytes_at 14 2 bytes) (short_part bytes) in
-    let none = no_zero (bytes_at 14 2 bytes) in
-    elim (cases_lt 0 (length (name_in bytes))) [
+pub bad_empty : (width : ℕ) (bytes : List ℕ) → width ≤ 30 → is_name (name_in width bytes) ≡ false → is_bad_name (name_in width bytes) ≡ true
+bad_empty width bytes narrow fails =
+    let most = short_name width bytes in
+    let short : length (name_in width bytes) ≤ 30 = omega arith in
+    let none = no_zero (bytes_at width 2 bytes) in
+    elim (cases_lt 0 (length (name_in width bytes))) [
       | inl some ↦ absurd (both_ways _ fails (and_from _ _ (lt-ltb _ _ some) (and_from _ _ (le-leb _ _ short) (not_from_false _ none))))
-      | inr empty ↦ or_left _ _ (eq-eqb (length (name_in bytes)) 0 (omega arith))
+      | inr empty ↦ or_left _ _ (eq-eqb (length (name_in width bytes)) 0 (omega arith))
     ]
 
--- what is left of 16 bytes of 0 behind the number and a name
-zeros_behind : (n : ℕ) → n ≤ 14 → drop (2 + n) (zeros 16) ≡ zeros (14 - n)
+-- what is left of bytes of 0 behind the number and a name
+zeros_behind : (width n : ℕ) → n ≤ width → drop (2 + n) (zeros (width + 2)) ≡ zeros (width - n)
 unfolding zeros
-zeros_behind n short =
-    let count : 16 - (2 + n) ≡ 14 - n = omega arith in
-    drop-replicate {X = ℕ} (2 + n) 16 0 ∙ ap zeros count
+zeros_behind width n short =
+    let count : width + 2 - (2 + n) ≡ width - n = omega arith in
+    drop-replicate {X = ℕ} (2 + n) (width + 2) 0 ∙ ap zeros count
 
 -- the name and its bytes of 0
-padded : (name : List ℕ) → length name ≤ 14 → bytes_at 14 2 (put_bytes 2 name (zeros 16)) ≡ name ++ zeros (14 - length name)
+padded : (width : ℕ) (name : List ℕ) → length name ≤ width → bytes_at width 2 (put_bytes 2 name (zeros (width + 2))) ≡ name ++ zeros (width - length name)
 unfolding bytes_at put_bytes
-padded name short =
-    let behind = zeros_behind (length name) short in
-    let front = length-take-le 2 (zeros 16) (omega (arith, length-zeros 16)) in
-    let size : length (name ++ zeros (14 - length name)) ≤ 14 = omega (arith, length-append name (zeros (14 - length name)), length-zeros (14 - length name)) in
-    ap (take 14) (drop_at (take 2 (zeros 16)) (name ++ drop (2 + length name) (zeros 16)) 2 front)
-    ∙ ap (λ (t : List ℕ). take 14 (name ++ t)) behind
-    ∙ take_all 14 (name ++ zeros (14 - length name)) size
-
-named_size : (s : Slot) → IsNamed s → length s.name ≤ 14
-named_size s named =
-    let first = and_parts (nat_lt 0 (length s.name)) _ named in
-    leb-true _ _ (and_parts (nat_le (length s.name) 14) _ first.1).0
+padded width name short =
+    let behind = zeros_behind width (length name) short in
+    let front = length-take-le 2 (zeros (width + 2)) (omega (arith, length-zeros (width + 2))) in
+    let size : length (name ++ zeros (width - length name)) ≤ width = omega (arith, length-append name (zeros (width - length name)), length-zeros (width - length name)) in
+    ap (take width) (drop_at (take 2 (zeros (width + 2))) (name ++ drop (2 + length name) (zeros (width + 2))) 2 front)
+    ∙ ap (λ (t : List ℕ). take width (name ++ t)) behind
+    ∙ take_all width (name ++ zeros (width - length name)) size
 
 named_whole : (s : Slot) → IsNamed s → list_any is_zero s.name ≡ false
 named_whole s named =
     let first = and_parts (nat_lt 0 (length s.name)) _ named in
-    not-true _ (and_parts (nat_le (length s.name) 14) _ first.1).1
+    not-true _ (and_parts (nat_le (length s.name) 30) _ first.1).1
 
-length-named : (s : Slot) → IsNamed s → length (put_bytes 2 s.name (zeros 16)) ≡ 16
-length-named s named =
-    let short = named_size s named in
-    let size = length-zeros 16 in
-    length-put_bytes 2 s.name (zeros 16) (omega arith) ∙ size
+length-named : (width : ℕ) (s : Slot) → length s.name ≤ width → length (put_bytes 2 s.name (zeros (width + 2))) ≡ width + 2
+length-named width s short =
+    let size = length-zeros (width + 2) in
+    length-put_bytes 2 s.name (zeros (width + 2)) (omega arith) ∙ size
 
-name_read : (s : Slot) → IsEntry s → name_in (slot_bytes (Some s)) ≡ s.name
-unfolding slot_bytes
-name_read s e =
-    let size = length-named s e.name in
-    ap (before_first is_zero) (bytes_at-put little 14 2 2 0 s.inode (put_bytes 2 s.name (zeros 16)) (omega arith) (omega arith) (inr (lit≤ tt)) ∙ padded s.name (named_size s e.name))
-    ∙ name_before s.name (14 - length s.name) (named_whole s e.name)
+name_read : (width : ℕ) (s : Slot) → IsEntry width s → name_in width (slot_of_size (width + 2) (Some s)) ≡ s.name
+unfolding slot_of_size
+name_read width s e =
+    let size = length-named width s e.short in
+    ap (before_first is_zero) (bytes_at-put little width 2 2 0 s.inode (put_bytes 2 s.name (zeros (width + 2))) (omega arith) (omega arith) (inr (lit≤ tt)) ∙ padded width s.name e.short)
+    ∙ name_before s.name (width - length s.name) (named_whole s e.name)
 
-inode_read : (s : Slot) → IsEntry s → inode_in (slot_bytes (Some s)) ≡ s.inode
-unfolding slot_bytes
-inode_read s e =
-    number_at-put_same little 2 0 s.inode (put_bytes 2 s.name (zeros 16)) (omega arith) e.fits
+inode_read : (width : ℕ) (s : Slot) → IsEntry width s → inode_in (slot_of_size (width + 2) (Some s)) ≡ s.inode
+unfolding slot_of_size
+inode_read width s e =
+    number_at-put_same little 2 0 s.inode (put_bytes 2 s.name (zeros (width + 2))) (omega arith) e.fits
 
 -- the bytes of a slot in use are read as that slot
-pub slot_read : (s : Slot) → IsEntry s → slot_of (slot_bytes (Some s)) ≡ Ok (Some s)
-slot_read s e =
-    sym (used_good (slot_bytes (Some s)) s.inode s.name (sym (inode_read s e)) (not_zero s.inode e.used) (sym (name_read s e)) (good_name s.name e.name e.no_slash))
+slot_read_sized : (width : ℕ) (s : Slot) → IsEntry width s → slot_of width (slot_of_size (width + 2) (Some s)) ≡ Ok (Some s)
+slot_read_sized width s e =
+    sym (used_good width (slot_of_size (width + 2) (Some s)) s.inode s.name (sym (inode_read width s e)) (not_zero s.inode e.used) (sym (name_read width s e)) (good_name s.name e.name e.no_slash))
+
+pub slot_read : (width : ℕ) (s : Slot) → IsWidth width → IsEntry width s → slot_of width (slot_bytes width (Some s)) ≡ Ok (Some s)
+slot_read width s of_14 e = slot_read_sized 14 s e
+slot_read width s of_30 e = slot_read_sized 30 s e
 
 -- the bytes of a free slot are read as none
-pub free_read : slot_of (slot_bytes None) ≡ Ok None
-unfolding slot_bytes zeros number_at number_of
-free_read =
-    let none : inode_in (slot_bytes None) ≡ 0 = refl in
-    (slot_free (slot_bytes None)).1 none
+pub free_read : (width : ℕ) → IsWidth width → slot_of width (slot_bytes width None) ≡ Ok None
+unfolding slot_of_size zeros number_at number_of
+free_read width of_14 =
+    let none : inode_in (slot_bytes 14 None) ≡ 0 = refl in
+    (slot_free 14 (slot_bytes 14 None)).1 none
+free_read width of_30 =
+    let none : inode_in (slot_bytes 30 None) ≡ 0 = refl in
+    (slot_free 30 (slot_bytes 30 None)).1 none
 
-any_read : (s : Option Slot) → IfSome s (λ e. IsEntry e) → slot_of (slot_bytes s) ≡ Ok s
-any_read None entry = free_read
-any_read (Some s) entry = slot_read s entry
+any_read : (width : ℕ) (s : Option Slot) → IsWidth width → IfSome s (λ e. IsEntry width e) → slot_of width (slot_bytes width s) ≡ Ok s
+any_read width None is entry = free_read width is
+any_read width (Some s) is entry = slot_read width s is entry
 
-length-used : (s : Slot) → IsNamed s → length (slot_bytes (Some s)) ≡ 16
-unfolding slot_bytes
-length-used s named =
-    let size = length-named s named in
-    length-put little 2 0 s.inode (put_bytes 2 s.name (zeros 16)) (omega arith) ∙ size
+length-used : (width : ℕ) (s : Slot) → length s.name ≤ width → length (slot_of_size (width + 2) (Some s)) ≡ width + 2
+unfolding slot_of_size
+length-used width s short =
+    let size = length-named width s short in
+    length-put little 2 0 s.inode (put_bytes 2 s.name (zeros (width + 2))) (omega arith) ∙ size
 
-length-free : length (slot_bytes None) ≡ 16
-unfolding slot_bytes
-length-free = length-zeros 16
+length-free : (width : ℕ) → length (slot_bytes width None) ≡ slot_size width
+unfolding slot_of_size
+length-free width = length-zeros (slot_size width)
 
--- a slot has 16 bytes
-pub length-slot_bytes : (s : Option Slot) → IfSome s (λ e. IsNamed e) → length (slot_bytes s) ≡ 16
-length-slot_bytes None named = length-free
-length-slot_bytes (Some s) named = length-used s named
+-- a slot has its width and two bytes
+pub length-slot_bytes : (width : ℕ) (s : Option Slot) → IsWidth width → IfSome s (λ e. length e.name ≤ width) → length (slot_bytes width s) ≡ slot_size width
+length-slot_bytes width None is short = length-free width
+length-slot_bytes width (Some s) of_14 short = length-used 14 s short
+length-slot_bytes width (Some s) of_30 short = length-used 30 s short
 
--- an entry has a name
-entries_named : (s : Option Slot) → IfSome s (λ e. IsEntry e) → IfSome s (λ e. IsNamed e)
-entries_named None entry = tt
-entries_named (Some s) entry = entry.name
+-- an entry has a short name
+pub entries_short : (width : ℕ) (s : Option Slot) → IfSome s (λ e. IsEntry width e) → IfSome s (λ e. length e.name ≤ width)
+entries_short width None entry = tt
+entries_short width (Some s) entry = entry.short
 
 -- each slot is an entry
-pub all_entries : (s : Option Slot) → IfSome s (λ e. IsReadable e) → IfSome s (λ e. IsReadable e → IsEntry e) → IfSome s (λ e. IsEntry e)
-all_entries None readable entry = tt
-all_entries (Some s) readable entry = entry readable
+pub all_entries : (width : ℕ) (s : Option Slot) → IfSome s (λ e. IsReadable e) → IfSome s (λ e. length e.name ≤ width) →
+    IfSome s (λ e. IsReadable e → (e.inode < 2 ^ 16) × IsNamed e) → IfSome s (λ e. IsEntry width e)
+all_entries width None readable short entry = tt
+all_entries width (Some s) readable short entry =
+    let more = entry readable in
+    record { used = readable.0; fits = more.0; name = more.1; short = short; no_slash = readable.1 }
+
+-- there are two widths
+pub other_width : (width : ℕ) → IsWidth width → width ≢ 14 → width ≡ 30
+other_width width of_14 other = absurd (other refl)
+other_width width of_30 other = refl
+
+-- a place of a block lies in it
+pub slot_within : (width at : ℕ) → IsWidth width → at < slots_a_block width → slot_size width * at + slot_size width ≤ 1024
+slot_within width at of_14 below = omega arith
+slot_within width at of_30 below = omega arith
 
 -- a slot that was written to a directory is read there
-pub slot_read_back : (b : List ℕ) (at : ℕ) (s : Option Slot) → length b ≡ 1024 → at < 64 → IfSome s (λ e. IsEntry e) → slot_of (record_at 16 at (put_record 16 at (slot_bytes s) b)) ≡ Ok s
-slot_read_back b at s size within entry =
-    ap slot_of (record_at-put_same 16 at (slot_bytes s) b (length-slot_bytes s (entries_named s entry)) (omega arith)) ∙ any_read s entry
+pub slot_read_back : (width : ℕ) (b : List ℕ) (at : ℕ) (s : Option Slot) → IsWidth width → length b ≡ 1024 → at < slots_a_block width → IfSome s (λ e. IsEntry width e) →
+    slot_of width (record_at (slot_size width) at (put_record (slot_size width) at (slot_bytes width s) b)) ≡ Ok s
+slot_read_back width b at s is size below entry =
+    let within = slot_within width at is below in
+    ap (slot_of width) (record_at-put_same (slot_size width) at (slot_bytes width s) b (length-slot_bytes width s is (entries_short width s entry)) (rw size within)) ∙ any_read width s is entry
 
 -- another slot of the directory is read as before
-pub other_slot : (b : List ℕ) (at other : ℕ) (s : Option Slot) → length b ≡ 1024 → at < 64 → other < 64 → at ≢ other → IfSome s (λ e. IsNamed e) → slot_of (record_at 16 other (put_record 16 at (slot_bytes s) b)) ≡ slot_of (record_at 16 other b)
-other_slot b at other s size within other_within differ named =
-    ap slot_of (record_at-put_other 16 at other (slot_bytes s) b (length-slot_bytes s named) (omega arith) (omega arith) differ)
+pub other_slot : (width : ℕ) (b : List ℕ) (at other : ℕ) (s : Option Slot) → IsWidth width → length b ≡ 1024 → at < slots_a_block width → other < slots_a_block width → at ≢ other → IfSome s (λ e. length e.name ≤ width) →
+    slot_of width (record_at (slot_size width) other (put_record (slot_size width) at (slot_bytes width s) b)) ≡ slot_of width (record_at (slot_size width) other b)
+other_slot width b at other s is size below other_below differ short =
+    let within = slot_within width at is below in
+    let other_within = slot_within width other is other_below in
+    ap (slot_of width) (record_at-put_other (slot_size width) at other (slot_bytes width s) b (length-slot_bytes width s is short) (rw size within) (rw size other_within) differ)
 
 -- a byte beside the slot is as it was
-pub byte_beside_slot : (b : List ℕ) (at k : ℕ) (s : Option Slot) → length b ≡ 1024 → at < 64 → IfSome s (λ e. IsNamed e) → Apart 1 k 16 (16 * at) → slice_index (put_record 16 at (slot_bytes s) b) k ≡ slice_index b k
-byte_beside_slot b at k s size within named apart =
-    let is = length-slot_bytes s named in
-    get_or-put_other (16 * at) (slot_bytes s) b k 0 (omega arith) (rw is apart)
+pub byte_beside_slot : (width : ℕ) (b : List ℕ) (at k : ℕ) (s : Option Slot) → IsWidth width → length b ≡ 1024 → at < slots_a_block width → IfSome s (λ e. length e.name ≤ width) →
+    Apart 1 k (slot_size width) (slot_size width * at) → slice_index (put_record (slot_size width) at (slot_bytes width s) b) k ≡ slice_index b k
+byte_beside_slot width b at k s is size below short apart =
+    let long = length-slot_bytes width s is short in
+    let within = slot_within width at is below in
+    get_or-put_other (slot_size width * at) (slot_bytes width s) b k 0 (omega arith) (rw long apart)

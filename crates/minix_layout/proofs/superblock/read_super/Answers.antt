@@ -1,11 +1,8 @@
-use Rattle.minix_layout.specs.laws.SuperLaws.{super_sound, name_width, bad_magic, bad_geometry}
+use Rattle.minix_layout.specs.laws.SuperLaws.{super_sound, bad_magic, bad_geometry}
 use Rattle.minix_layout.proofs.superblock.read_super.Goals as goal
 
 pub returns-clause-sound : goal.returns-clause-sound
 returns-clause-sound c = rw c.super_in.ensures.value (super_sound _ (rw c.super_in.ensures.value at c.super_in.ensures.fits))
-
-pub returns-clause-name_width : goal.returns-clause-name_width
-returns-clause-name_width c = rw (c.super_in.ensures.value, c.as_slice.ensures.value) (name_width _)
 
 pub returns-clause-bad_magic : goal.returns-clause-bad_magic
 returns-clause-bad_magic c = rw (c.super_in.ensures.value, c.as_slice.ensures.value) (bad_magic _)
