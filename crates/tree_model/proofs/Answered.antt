@@ -10,6 +10,7 @@ use Rattle.std.proofs.lemmas.List.{length-map}
 use Rattle.std.proofs.lemmas.List.Sums.{length-filter}
 use Rattle.blk_base.specs.Members.{In}
 use Rattle.blk_base.specs.laws.Members.{In-map, map-In, In-filter, filter-In}
+use Rattle.minix_layout.specs.Widths.{slot_size}
 use Rattle.tree_model.specs.declared.call.Call.TheVariants as calls
 use Rattle.tree_model.specs.declared.call.Reply.{Reply}
 use Rattle.tree_model.specs.declared.call.Reply.TheVariants as replies
@@ -84,12 +85,12 @@ module _ (room : Room) (tree : Tree) (plain : IsPlain tree) (n : ℕ) (path : Li
   Within : List (List ℕ × ℕ)
   Within = filter (λ x. is_directory (at_number tree x.1)) e.names
 
-  pub stat_directory : (links : ℕ) × (reply_of room tree n (calls.Stat path) ≡ replies.Stat true (16 * e.slots) links) × (within : List (List ℕ)) × (links ≡ 2 + length within) × IsStrictlySortedBy name_cmp within ×
+  pub stat_directory : (links : ℕ) × (reply_of room tree n (calls.Stat path) ≡ replies.Stat true (slot_size e.width * e.slots) links) × (within : List (List ℕ)) × (links ≡ 2 + length within) × IsStrictlySortedBy name_cmp within ×
       ((name : List ℕ) → In name within ↔ ((child : ℕ) × (node_of_path tree (s.names ++ name ∷ []) ≡ Ok child) × (is_directory (at_number tree child) ≡ true)))
   unfolding Within
   stat_directory = (
     directory_links tree e,
-    asked_reply room tree n (calls.Stat path) (replies.Stat true (16 * e.slots) (directory_links tree e)) (stat_row tree n path birth (nodes.Directory e) (replies.Stat true (16 * e.slots) (directory_links tree e)) s refl),
+    asked_reply room tree n (calls.Stat path) (replies.Stat true (slot_size e.width * e.slots) (directory_links tree e)) (stat_row tree n path birth (nodes.Directory e) (replies.Stat true (slot_size e.width * e.slots) (directory_links tree e)) s refl),
     keys_of Within,
     ap (λ k. 2 + k) (sym (length-map Within (λ x. x.0) ∙ length-filter (λ (x : List ℕ × ℕ). is_directory (at_number tree x.1)) e.names)),
     sorted_filtered (λ x. is_directory (at_number tree x.1)) e.names sorted,

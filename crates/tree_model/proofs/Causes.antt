@@ -145,8 +145,13 @@ module _ (room : Room) (tree : Tree) (rooted : IsRooted tree) (n : ℕ) (c : Cal
       let f = walk_ok tree (all_but_last name names) found h in
       then_refuses Cause (a_directory found.node) _
       (directory_refuses Cause found.node (λ other. IsCause.no_directory (name ∷ names) (all_but_last name names) named front found.birth found.node (leads (all_but_last name names) found f) other))
-      (λ d e. if_refuses Cause (nat_lt 14 (length (last_name name names))) replies.NameTooLong _
-      (λ t. IsCause.long_name (name ∷ names) (all_but_last name names) (last_name name names) named (front_last name names) (ltb-true 14 (length (last_name name names)) t))
+      (λ d e. if_refuses Cause (nat_lt d.width (length (last_name name names))) replies.NameTooLong _
+      (λ t. IsCause.long_name (name ∷ names) d (last_name name names) named (record {
+        front = all_but_last name names;
+        names_are = front_last name names;
+        birth = found.birth;
+        leads = record { path = f.path; stands = f.stands ∙ ap Some (directory_ok found.node d e) };
+      }) (ltb-true d.width (length (last_name name names)) t))
       (λ t. tt)))
 
   -- a place is a name in a directory
@@ -167,7 +172,7 @@ module _ (room : Room) (tree : Tree) (rooted : IsRooted tree) (n : ℕ) (c : Cal
 
   full_refuses : (names : List (List ℕ)) (p : Place) → NamesOf c names → IsPlace tree names p → is_full p.directory ≡ true → Cause replies.TooBig
   full_refuses names p named h t =
-      IsCause.full names p.directory p.name named (in_directory names p h) (leb-true most_slots p.directory.slots (and_parts (needs_slot p.directory) _ t).1)
+      IsCause.full names p.directory p.name named (in_directory names p h) (leb-true (most_slots p.directory.width) p.directory.slots (and_parts (needs_slot p.directory) _ t).1)
 
   links_refuse : (names : List (List ℕ)) (p : Place) → NamesOf c names → IsPlace tree names p → (directory_links tree p.directory == most_links) ≡ true → Cause replies.TooManyLinks
   links_refuse names p named h t = IsCause.directory_linked names p.directory p.name named (in_directory names p h) (eqb-true (directory_links tree p.directory) most_links t)
@@ -376,7 +381,7 @@ module _ (room : Room) (tree : Tree) (rooted : IsRooted tree) (n : ℕ) where
         let moved = directory_is m.moved.node k in
         IsCause.file_met path other refl m.moved.birth t.birth moved.0 there.0 (is_moved _ moved.1) (is_met t e _ there.1)
 
-    slots_after : (b : Bool) → most_slots ≤ (if b then m.to.directory else without_name m.to.directory m.from.name).slots → most_slots ≤ m.to.directory.slots
+    slots_after : (b : Bool) → most_slots (if b then m.to.directory else without_name m.to.directory m.from.name).width ≤ (if b then m.to.directory else without_name m.to.directory m.from.name).slots → most_slots m.to.directory.width ≤ m.to.directory.slots
     slots_after true le = le
     slots_after false le = le
 
@@ -393,7 +398,7 @@ module _ (room : Room) (tree : Tree) (rooted : IsRooted tree) (n : ℕ) where
         if_refuses Why (is_none m.target && is_full (place_after m).directory) replies.TooBig _
         (λ t.
         let parts = and_parts (is_none m.target) _ t in
-        let slots = leb-true most_slots (place_after m).directory.slots (and_parts (needs_slot (place_after m).directory) _ parts.1).1 in
+        let slots = leb-true (most_slots (place_after m).directory.width) (place_after m).directory.slots (and_parts (needs_slot (place_after m).directory) _ parts.1).1 in
         IsCause.full h.more m.to.directory m.to.name h.second (in_directory room tree rooted n (calls.Rename path other) h.more m.to h.to) (slots_after (changes_parent m) slots)) (λ f. tt))))
 
   rename_refuses : (path other : List ℕ) → Refuses (IsCause room tree n (calls.Rename path other)) (rename tree path other)
@@ -503,7 +508,7 @@ cause_not_ok room tree n c _ (IsCause.no_path path i e) = refl
 cause_not_ok room tree n c _ (IsCause.root named reply e) = root_not_ok c reply e
 cause_not_ok room tree n c _ (IsCause.walk names front named f refusal e) = walk_not_ok refusal
 cause_not_ok room tree n c _ (IsCause.no_directory names front named f birth node l d) = refl
-cause_not_ok room tree n c _ (IsCause.long_name names front name named f l) = refl
+cause_not_ok room tree n c _ (IsCause.long_name names d name named i l) = refl
 cause_not_ok room tree n c _ (IsCause.named names d name named i birth e) = refl
 cause_not_ok room tree n c _ (IsCause.no_file names named birth node l f) = refl
 cause_not_ok room tree n c _ (IsCause.other_kind names named birth mode l) = refl

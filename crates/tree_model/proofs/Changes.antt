@@ -109,7 +109,7 @@ pub record IsPut (tree : Tree) (path : List ℕ) (change : File → File) (d : D
 -- what a call did
 pub data Change (tree : Tree) (n : ℕ) (d : Done) : Call → Type 0 where
   stayed : {c : Call} → leaves_tree c ≡ true → d.tree ≡ tree → Change tree n d c
-  made_directory : {path : List ℕ} (parent : ℕ) → (h : IsMade tree n (new_directory parent) d) → h.path ≡ path → h.place.parent ≡ parent → Change tree n d (calls.Mkdir path)
+  made_directory : {path : List ℕ} {width : ℕ} (parent : ℕ) → (h : IsMade tree n (new_directory width parent) d) → h.path ≡ path → (h.place.parent ≡ parent) × (h.place.directory.width ≡ width) → Change tree n d (calls.Mkdir path)
   made_file : {path : List ℕ} → IsMade tree n new_file d → Change tree n d (calls.Create path)
   removed : {path : List ℕ} → IsRemoved tree d → Change tree n d (calls.Rmdir path)
   unlinked : {path : List ℕ} → IsUnlinked tree d → Change tree n d (calls.Unlink path)
@@ -130,9 +130,10 @@ tree_by tree takes reply d same = sym (ap (λ (d : Done). d.tree) same)
 -- what `mkdir` did
 pub record IsMkdir (tree : Tree) (n : ℕ) (path : List ℕ) (d : Done) : Type 0 where
   pub parent : ℕ
-  pub made : IsMade tree n (new_directory parent) d
+  pub width : ℕ
+  pub made : IsMade tree n (new_directory width parent) d
   pub path_is : made.path ≡ path
-  pub parent_is : made.place.parent ≡ parent
+  pub parent_is : (made.place.parent ≡ parent) × (made.place.directory.width ≡ width)
 
 pub mkdir_made : (tree : Tree) (n : ℕ) (path : List ℕ) (d : Done) → mkdir tree n path ≡ Ok d → IsMkdir tree n path d
 mkdir_made tree n path d h =
@@ -143,6 +144,7 @@ mkdir_made tree n path d h =
     let f = refuse_ok (is_full b.0.directory) replies.TooBig _ d e.1 in
     record {
       parent = b.0.parent;
+      width = b.0.directory.width;
       made = record {
         path = path;
         names = a.0;
@@ -155,7 +157,7 @@ mkdir_made tree n path d h =
         reply_is = reply_by _ true replies.Ok d (ok_ok _ d f.1);
       };
       path_is = refl;
-      parent_is = refl;
+      parent_is = (refl, refl);
     }
 
 mkdir_change : (tree : Tree) (n : ℕ) (path : List ℕ) (d : Done) → mkdir tree n path ≡ Ok d → Change tree n d (calls.Mkdir path)

@@ -5,15 +5,15 @@ use Rattle.tree_model.specs.Paths.{path_of}
 use Rattle.tree_model.specs.Calls.{row, outcome, tree_after, reply_of, needs, used_zones, file_zones, mapped_groups}
 use Rattle.tree_model.specs.laws.Examples.{new_tree, small_room, replies_to, needs_after, write_block, names_session, names_replies, moves_session, moves_replies, last_block_session, last_block_replies}
 
-pub replies_to_names : replies_to small_room new_tree 1 names_session ≡ names_replies
+pub replies_to_names : replies_to small_room (new_tree 14) 1 names_session ≡ names_replies
 unfolding reply_of tree_after outcome row path_of used_zones file_zones mapped_groups
 replies_to_names = refl
 
-pub replies_to_moves : replies_to small_room new_tree 1 moves_session ≡ moves_replies
+pub replies_to_moves : replies_to small_room (new_tree 14) 1 moves_session ≡ moves_replies
 unfolding reply_of tree_after outcome row path_of used_zones file_zones mapped_groups
 replies_to_moves = refl
 
-pub replies_to_last_block : replies_to small_room new_tree 1 last_block_session ≡ last_block_replies
+pub replies_to_last_block : replies_to small_room (new_tree 14) 1 last_block_session ≡ last_block_replies
 unfolding reply_of tree_after outcome row path_of used_zones file_zones mapped_groups
 replies_to_last_block = refl
 

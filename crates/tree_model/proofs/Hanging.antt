@@ -1,5 +1,5 @@
 -- Trees as the names that lead from node to node: how these stay together when names come and go.
-use Rattle.std.specs.Prelude.{◌≡◌, ◌≢◌, ◌≤◌, ℕ, ◌⊎◌, Bool, true, List, length, Option, Some, IsTrue}
+use Rattle.std.specs.Prelude.{◌≡◌, ◌≢◌, ℕ, ◌⊎◌, Bool, true, List, Option, Some, IsTrue}
 use Rattle.std.proofs.Common.{sym, ap, subst, ◌∙◌, inl, inr, ⊎_elim}
 use Rattle.tree_model.specs.Paths.{is_path_name}
 
@@ -18,9 +18,8 @@ pub record Seen : Type 0 where
   pub directory : ℕ → Bool
   pub up : ℕ → Option ℕ
 
--- a name that a directory can have and a path too
+-- a name that a path can have
 pub record IsGoodName (name : List ℕ) : Type 0 where
-  pub short : length name ≤ 14
   pub plain : IsTrue (is_path_name name)
 
 -- names that fit the nodes

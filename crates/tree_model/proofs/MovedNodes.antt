@@ -223,11 +223,11 @@ module _ (tree : Tree) (w : IsWhole tree) (names more : Names) (m : Move) (from 
       ap (at_number after) x.0 ∙ (h.node ∙ ap (λ n. Some (moved_node m.to.parent n)) (sym x.1))
 
   moved_directory : (birth : ℕ) (e : Directory) → LeadsTo tree names birth (nodes.Directory e) → (before : Directory) (name : List ℕ) (i : IsInDirectory tree more before name) →
-      at_number after birth ≡ Some (nodes.Directory (record { parent = i.birth; slots = e.slots; names = e.names }))
+      at_number after birth ≡ Some (nodes.Directory (record { parent = i.birth; width = e.width; slots = e.slots; names = e.names }))
   moved_directory birth e l before name i =
       let x = one_moved birth (nodes.Directory e) l in
       let p = in_place tree more m.to to before name i in
-      ap (at_number after) x.0 ∙ (h.node ∙ (ap (λ n. Some (moved_node m.to.parent n)) (sym x.1) ∙ ap (λ p. Some (nodes.Directory (record { parent = p; slots = e.slots; names = e.names }))) (sym p.0)))
+      ap (at_number after) x.0 ∙ (h.node ∙ (ap (λ n. Some (moved_node m.to.parent n)) (sym x.1) ∙ ap (λ p. Some (nodes.Directory (record { parent = p; width = e.width; slots = e.slots; names = e.names }))) (sym p.0)))
 
   replaced_file : (c : ℕ) (f : File) → LeadsTo tree more c (nodes.File f) → HasLinkLess after c f
   replaced_file c f l = h.less c f (to_edge c (nodes.File f) l) l.stands
@@ -247,7 +247,7 @@ module _ (room : Room) (tree : Tree) (plain : IsPlain tree) (n : ℕ) (path othe
   rename_file = let x = moved room tree plain n path other names more d named second done apart in moved_file tree W names more x.0 x.1 x.2 d.tree x.3 x.4
 
   pub rename_directory : (birth : ℕ) (e : Directory) → LeadsTo tree names birth (nodes.Directory e) → (before : Directory) (name : List ℕ) (i : IsInDirectory tree more before name) →
-      at_number d.tree birth ≡ Some (nodes.Directory (record { parent = i.birth; slots = e.slots; names = e.names }))
+      at_number d.tree birth ≡ Some (nodes.Directory (record { parent = i.birth; width = e.width; slots = e.slots; names = e.names }))
   rename_directory = let x = moved room tree plain n path other names more d named second done apart in moved_directory tree W names more x.0 x.1 x.2 d.tree x.3 x.4
 
   pub rename_replaced : (c : ℕ) (f : File) → LeadsTo tree more c (nodes.File f) → HasLinkLess d.tree c f

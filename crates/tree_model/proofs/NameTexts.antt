@@ -92,22 +92,16 @@ at_most : (a b : ℕ) → a ≤ b → nat_le a b ≡ true
 at_most a b low = grind arith
 
 -- a name of a path that is not too long can stand in a slot
-pub name_fits : (name : List ℕ) → length name ≤ 14 → IsTrue (is_path_name name) → IsTrue (is_name name)
+pub name_fits : (name : List ℕ) → length name ≤ 30 → IsTrue (is_path_name name) → IsTrue (is_name name)
 name_fits name short plain =
     let parts_of = and_parts (not (length name == 0)) (list_all is_name_byte name && not (is_dot name)) plain in
     let bytes = (and_parts (list_all is_name_byte name) (not (is_dot name)) parts_of.1).0 in
     let filled = not_true (length name == 0) parts_of.0 in
-    all_three (nat_lt 0 (length name)) (nat_le (length name) 14) (not (list_any (λ b. b == 0) name)) (filled_lt (length name) filled) (at_most (length name) 14 short) (ap not (no_byte 0 refl name bytes))
+    all_three (nat_lt 0 (length name)) (nat_le (length name) 30) (not (list_any (λ b. b == 0) name)) (filled_lt (length name) filled) (at_most (length name) 30 short) (ap not (no_byte 0 refl name bytes))
 
 -- a path's name that none takes is too long
-pub no_name : (name : List ℕ) → IsTrue (is_path_name name) → None ≡ name_from name → nat_lt 14 (length name) ≡ true
-no_name name plain none = elim (cases_Bool (nat_lt 14 (length name))) [
-  | inl t ↦ t
-  | inr f ↦
-      let fits = name_fits name (short (length name) f) plain in
-      let some : name_from name ≡ Some name = ap (λ (is : Bool). if is then Some name else None) fits in
-      absurd (cc (none, some))
-]
-  where
-    short : (n : ℕ) → nat_lt 14 n ≡ false → n ≤ 14
-    short n f = grind arith
+pub no_name : (name : List ℕ) → length name ≤ 30 → IsTrue (is_path_name name) → None ≡ name_from name → ⊥
+no_name name short plain none =
+    let fits = name_fits name short plain in
+    let some : name_from name ≡ Some name = ap (λ (is : Bool). if is then Some name else None) fits in
+    absurd (cc (none, some))

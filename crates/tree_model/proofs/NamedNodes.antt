@@ -20,7 +20,7 @@ use Rattle.tree_model.specs.declared.node.File.{File}
 use Rattle.tree_model.specs.Maps.{at_number, at_name, put_number, put_name, without_number, name_cmp}
 use Rattle.tree_model.specs.Paths.{path_of}
 use Rattle.tree_model.specs.Trees.{node_of_path, is_directory, directory_links}
-use Rattle.tree_model.specs.Calls.{Tree, Done, Found, Place, all_but_last, needs_slot, slots_with, with_name, without_name, take_name, put_file, with_links, lose_link, new_directory, row, outcome}
+use Rattle.tree_model.specs.Calls.{Tree, Done, Found, Place, all_but_last, needs_slot, slots_with, with_name, without_name, take_name, put_file, with_links, lose_link, row, outcome}
 use Rattle.tree_model.specs.Causes.{IsInDirectory}
 use Rattle.tree_model.specs.CallWords.{StandsAt, IsParentOf, HasNameMore, HasNameLess, HasLinkLess}
 use Rattle.tree_model.specs.Plain.{IsPlain, AreBornBefore}
@@ -196,7 +196,7 @@ module _ (tree : Tree) (n : ℕ) (node : Node) (d : Done) (m : IsMade tree n nod
           absurd (false≢true (sym (ap (λ j. is_some (at_number tree j)) is ∙ ap is_some born) ∙ there));
     }
 
-    made_node : IsNewNode m.place.parent node → at_number d.tree n ≡ Some node
+    made_node : IsNewNode m.place.directory.width m.place.parent node → at_number d.tree n ≡ Some node
     made_node new = ap (λ t. at_number t n) m.tree_is ∙ at_new tree w n node d m born new
 
 module _ (tree : Tree) (d : Done) (r : IsLinked tree d) where
@@ -463,20 +463,17 @@ module _ (room : Room) (tree : Tree) (n : ℕ) where
       fresh : at_number tree n ≡ None
       fresh = not_born tree n born (at_number tree n) refl
 
-      new_in : (parent : ℕ) (p : ℕ) → p ≡ parent → IsNewNode p (new_directory parent)
-      new_in parent p e = subst (λ p. IsNewNode p (new_directory parent)) (sym e) (directory_is_new parent)
-
       pub new_directory_is : (path : List ℕ) (d : Done) → outcome room tree n (calls.Mkdir path) ≡ Ok d → (e : Directory) × (at_number d.tree n ≡ Some (nodes.Directory e)) × (e.slots ≡ 2) × (e.names ≡ [])
       unfolding row
       new_directory_is path d e =
           let x = mkdir_made tree n path d (outcome_row room tree n (calls.Mkdir path) d e) in
-          (record { parent = x.parent; slots = 2; names = [] }, made_node tree n _ d x.made W fresh (new_in x.parent x.made.place.parent x.parent_is), refl, refl)
+          (record { parent = x.parent; width = x.width; slots = 2; names = [] }, made_node tree n _ d x.made W fresh (directory_is_new x.width x.parent x.made.place.directory.width x.made.place.parent x.parent_is.0 x.parent_is.1), refl, refl)
 
       pub new_file_is : (path : List ℕ) (d : Done) → outcome room tree n (calls.Create path) ≡ Ok d → (f : File) × (at_number d.tree n ≡ Some (nodes.File f)) × (f.size ≡ 0) × (f.links ≡ 1) × (f.blocks ≡ [])
       unfolding row
       new_file_is path d e =
           let x = create_made tree n path d (outcome_row room tree n (calls.Create path) d e) in
-          (record { size = 0; links = 1; blocks = [] }, made_node tree n _ d x.0 W fresh (file_is_new x.0.place.parent), refl, refl, refl)
+          (record { size = 0; links = 1; blocks = [] }, made_node tree n _ d x.0 W fresh (file_is_new x.0.place.directory.width x.0.place.parent), refl, refl, refl)
 
       pub in_mkdir : (path : List ℕ) (names : Names) (d : Done) → path_of path ≡ Some names → outcome room tree n (calls.Mkdir path) ≡ Ok d →
           (before : Directory) (name : List ℕ) (i : IsInDirectory tree names before name) → GivenIn tree d.tree i.birth 1 before
@@ -486,7 +483,7 @@ module _ (room : Room) (tree : Tree) (n : ℕ) where
           let same : x.made.names ≡ names = same_Some x.made.names names (sym (ap path_of (sym x.path_is) ∙ x.made.named) ∙ named) in
           subst (λ ns. (before : Directory) (name : List ℕ) (i : IsInDirectory tree ns before name) → GivenIn tree d.tree i.birth 1 before) same
           (given_in tree d.tree x.made.names x.made.place n (made_given tree n _ d x.made W fresh) true
-          (ap is_directory (made_node tree n _ d x.made W fresh (new_in x.parent x.made.place.parent x.parent_is))))
+          (ap is_directory (made_node tree n _ d x.made W fresh (directory_is_new x.width x.parent x.made.place.directory.width x.made.place.parent x.parent_is.0 x.parent_is.1))))
 
       pub in_create : (path : List ℕ) (names : Names) (d : Done) → path_of path ≡ Some names → outcome room tree n (calls.Create path) ≡ Ok d →
           (before : Directory) (name : List ℕ) (i : IsInDirectory tree names before name) → GivenIn tree d.tree i.birth 0 before
@@ -495,4 +492,4 @@ module _ (room : Room) (tree : Tree) (n : ℕ) where
           let x = create_made tree n path d (outcome_row room tree n (calls.Create path) d e) in
           let same : x.0.names ≡ names = same_Some x.0.names names (sym (ap path_of (sym x.1) ∙ x.0.named) ∙ named) in
           subst (λ ns. (before : Directory) (name : List ℕ) (i : IsInDirectory tree ns before name) → GivenIn tree d.tree i.birth 0 before) same
-          (given_in tree d.tree x.0.names x.0.place n (made_given tree n _ d x.0 W fresh) false (ap is_directory (made_node tree n _ d x.0 W fresh (file_is_new x.0.place.parent))))
+          (given_in tree d.tree x.0.names x.0.place n (made_given tree n _ d x.0 W fresh) false (ap is_directory (made_node tree n _ d x.0 W fresh (file_is_new x.0.place.directory.width x.0.place.parent))))

@@ -12,7 +12,7 @@ use Rattle.tree_model.specs.Maps.{at_number, at_name, put_number, without_number
 use Rattle.tree_model.specs.Paths.{path_of}
 use Rattle.tree_model.specs.Rooted.{IsRooted}
 use Rattle.tree_model.specs.Trees.{node_of_path}
-use Rattle.tree_model.specs.Calls.{Tree, Done, Place, give_name, take_name, put_file, with_links, lose_link, new_directory, row, outcome}
+use Rattle.tree_model.specs.Calls.{Tree, Done, Place, give_name, take_name, put_file, with_links, lose_link, row, outcome}
 use Rattle.tree_model.specs.Plain.{IsPlain, AreBornBefore}
 use Rattle.tree_model.specs.laws.Alike.{same_ok, path_stands}
 use Rattle.tree_model.specs.laws.Listing.{names_of}
@@ -55,7 +55,7 @@ leaf_names tree b none m x e = none-some x (sym (ap (λ ns. at_name ns m) none) 
 
 -- ---- a new node
 
-module _ (tree : Tree) (w : IsWhole tree) (n : ℕ) (node : Node) (d : Done) (m : IsMade tree n node d) (born : at_number tree n ≡ None) (new : IsNewNode m.place.parent node) (later : IsWhole d.tree) where
+module _ (tree : Tree) (w : IsWhole tree) (n : ℕ) (node : Node) (d : Done) (m : IsMade tree n node d) (born : at_number tree n ≡ None) (new : IsNewNode m.place.directory.width m.place.parent node) (later : IsWhole d.tree) where
   made_paths : MorePaths tree d.tree m.names n
   made_paths =
       more_paths tree d.tree (whole_plain tree w).rooted (whole_plain d.tree later).rooted m.names n
@@ -218,7 +218,7 @@ module _ (room : Room) (tree : Tree) (plain : IsPlain tree) (n : ℕ) where
         let x = mkdir_made tree n path d (outcome_row room tree n (calls.Mkdir path) d e) in
         let same : names ≡ x.made.names = same_Some names x.made.names (sym named ∙ (ap path_of (sym x.path_is) ∙ x.made.named)) in
         subst (λ ns. MorePaths tree d.tree ns n) (sym same)
-        (made_paths tree W n _ d x.made fresh (subst (λ p. IsNewNode p (new_directory x.parent)) (sym x.parent_is) (directory_is_new x.parent)) (later (calls.Mkdir path) d e))
+        (made_paths tree W n _ d x.made fresh (directory_is_new x.width x.parent x.made.place.directory.width x.made.place.parent x.parent_is.0 x.parent_is.1) (later (calls.Mkdir path) d e))
 
     pub create_paths : (path : List ℕ) (names : Names) (d : Done) → path_of path ≡ Some names → outcome room tree n (calls.Create path) ≡ Ok d → MorePaths tree d.tree names n
     unfolding row
@@ -226,4 +226,4 @@ module _ (room : Room) (tree : Tree) (plain : IsPlain tree) (n : ℕ) where
         let x = create_made tree n path d (outcome_row room tree n (calls.Create path) d e) in
         let same : names ≡ x.0.names = same_Some names x.0.names (sym named ∙ (ap path_of (sym x.1) ∙ x.0.named)) in
         subst (λ ns. MorePaths tree d.tree ns n) (sym same)
-        (made_paths tree W n _ d x.0 fresh (file_is_new x.0.place.parent) (later (calls.Create path) d e))
+        (made_paths tree W n _ d x.0 fresh (file_is_new x.0.place.directory.width x.0.place.parent) (later (calls.Create path) d e))

@@ -1,5 +1,5 @@
 -- What a call answers where its row does not refuse it, and the room that it keeps.
-use Rattle.std.specs.Prelude.{◌≡◌, ◌<◌, ◌≤◌, ℕ, ◌+◌, ◌-◌, ◌%◌, ◌==◌, ◌⊎◌, Bool, true, false, ◌&&◌, if◌then◌else◌, nat_le, nat_lt, List, [], ◌∷◌, length, Option, Some, None, Result, Ok, Err, refl}
+use Rattle.std.specs.Prelude.{◌*◌, ◌≡◌, ◌<◌, ◌≤◌, ℕ, ◌+◌, ◌-◌, ◌%◌, ◌==◌, ◌⊎◌, Bool, true, false, ◌&&◌, if◌then◌else◌, nat_le, nat_lt, List, [], ◌∷◌, length, Option, Some, None, Result, Ok, Err, refl}
 use Rattle.std.proofs.Common.{ap, subst, ◌∙◌, inl, inr, ⊎_elim, arith}
 use Rattle.std.proofs.lemmas.Bool.{false≢true, ltb-false, lt-ltb, le-ltb, le-leb, lt-leb, and_from}
 use Rattle.blk_base.specs.Members.{In}
@@ -9,6 +9,9 @@ use Rattle.tree_model.specs.declared.call.Reply.{Reply}
 use Rattle.tree_model.specs.declared.call.Reply.TheVariants as replies
 use Rattle.tree_model.specs.declared.call.Room.{Room}
 use Rattle.tree_model.specs.Paths.{path_of}
+use Rattle.std.specs.Int.{div_ceil}
+use Rattle.minix_layout.specs.Widths.{slot_size, slots_a_block}
+use Rattle.minix_layout.specs.laws.Places.{IsForm, narrow, wide, form_is}
 use Rattle.tree_model.specs.Calls.{Tree, Done, Row, Found, refuse_if, and_then, if_some, names_in, walk, walk_path, leaves_tree, row, directory_zones, needs, HasInode, used_zones, if_room, outcome, tree_from, reply_from, tree_after, reply_of}
 use Rattle.tree_model.specs.Causes.{paths_of}
 use Rattle.tree_model.proofs.Rows.{ok_ok, then_ok, refuse_ok}
@@ -101,8 +104,14 @@ unfolding tree_after
 room_kept room tree n c le = room_by room tree n c le (outcome room tree n c) refl
 
 -- the zones of a directory with one slot more
-pub slot_needs : (slots : ℕ) → directory_zones (slots + 1) ≡ directory_zones slots + (if slots % 64 == 0 then 1 else 0) + (if slots == 448 then 1 else 0)
-slot_needs slots = grind arith
+pub slot_needs : (width slots : ℕ) →
+    directory_zones width (slots + 1) ≡ directory_zones width slots + (if slots % slots_a_block width == 0 then 1 else 0) + (if slots == 7 * slots_a_block width then 1 else 0)
+slot_needs width slots = by (slot_size width) (slots_a_block width) (form_is width)
+  where
+    by : (size per : ℕ) → IsForm size per → div_ceil (slots + 1) per + (if nat_lt (7 * per) (slots + 1) then 1 else 0) ≡
+        div_ceil slots per + (if nat_lt (7 * per) slots then 1 else 0) + (if slots % per == 0 then 1 else 0) + (if slots == 7 * per then 1 else 0)
+    by size per narrow = grind arith
+    by size per wide = grind arith
 
 -- ---- bad paths
 

@@ -1,5 +1,5 @@
 -- A listing has each path of the tree, once.
-use Rattle.std.proofs.Common.{◌≡◌, ℕ, zero, suc, List, [], ◌∷◌, ◌++◌, length, Option, Some, None, Result, Ok, Err, Bool, true, false, refl, sym, ap, subst, ◌∙◌, inl, inr, ⊎_elim}
+use Rattle.std.proofs.Common.{arith, ◌≡◌, ℕ, zero, suc, List, [], ◌∷◌, ◌++◌, length, Option, Some, None, Result, Ok, Err, Bool, true, false, refl, sym, ap, subst, ◌∙◌, inl, inr, ⊎_elim}
 use Rattle.std.specs.Prelude.{◌≢◌, ⊤, ◌↔◌, nat_lt, if◌then◌else◌}
 use Rattle.std.specs.Ordering.{eq_by_cmp, is_eq}
 use Rattle.std.specs.List.{IsDistinct, slice_get}
@@ -29,7 +29,9 @@ found o = elim o as (λ _. Result ℕ Refusal) [ None ↦ Err not_found | Some b
 
 step_given : (tree : List (ℕ × Node)) (rooted : IsRooted tree) (parent : ℕ) (name : List ℕ) (birth : ℕ) → HasEntry tree parent name birth → step_at (at_number tree parent) name ≡ Ok birth
 step_given tree rooted parent name birth g =
-    let short : nat_lt 14 (length name) ≡ false = le-ltb 14 (length name) (rooted.short parent name birth g) in
+    let width = rooted.of_width parent g.directory g.stands in
+    let most = rooted.short parent name birth g in
+    let short : nat_lt g.directory.width (length name) ≡ false = le-ltb g.directory.width (length name) (omega arith) in
     rw (g.stands, short, g.named) refl
 
 found_name : (o : Option ℕ) (birth : ℕ) → found o ≡ Ok birth → o ≡ Some birth
@@ -42,7 +44,7 @@ short_name false r birth h = h
 
 step_In : (node : Option Node) (name : List ℕ) (birth : ℕ) → step_at node name ≡ Ok birth → In (name, birth) (names_of node)
 step_In (Some (nodes.Directory d)) name birth h =
-    at_name-In d.names name birth (found_name (at_name d.names name) birth (short_name (nat_lt 14 (length name)) (found (at_name d.names name)) birth h))
+    at_name-In d.names name birth (found_name (at_name d.names name) birth (short_name (nat_lt d.width (length name)) (found (at_name d.names name)) birth h))
 step_In (Some (nodes.File f)) name birth h = absurd (let k : ◌≡◌ {A = Result ℕ Refusal} (Err not_directory) (Ok birth) = h in cc)
 step_In (Some (nodes.Other mode)) name birth h = absurd (let k : ◌≡◌ {A = Result ℕ Refusal} (Err not_directory) (Ok birth) = h in cc)
 step_In None name birth h = absurd (let k : ◌≡◌ {A = Result ℕ Refusal} (Err not_directory) (Ok birth) = h in cc)

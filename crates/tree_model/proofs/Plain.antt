@@ -1,5 +1,5 @@
 -- Plain trees as names that lead from node to node, and the number of names that a node has.
-use Rattle.std.specs.Prelude.{◌≡◌, ◌≢◌, ◌≤◌, ℕ, ◌+◌, ◌==◌, Bool, true, false, cond, List, [], ◌∷◌, Option, Some, None, is_some, unwrap_or, option_map, refl}
+use Rattle.std.specs.Prelude.{⊤, length, ◌≡◌, ◌≢◌, ◌≤◌, ℕ, ◌+◌, ◌==◌, Bool, true, false, cond, List, [], ◌∷◌, Option, Some, None, is_some, unwrap_or, option_map, refl}
 use Rattle.std.proofs.Common.{sym, ap, subst, ◌∙◌, inl, inr, ⊎_elim, arith}
 use Rattle.std.specs.List.{sum_by, count_by}
 use Rattle.std.specs.List.Sorted.{IsStrictlySortedBy}
@@ -48,7 +48,14 @@ abbrev pub is_other : Option Node → Bool
 is_other (Some (nodes.Other mode)) = true
 is_other other = false
 
+-- a directory of this width, with no longer name
+abbrev pub IsOfWidth : ℕ → Option Node → Type 0
+IsOfWidth width (Some (nodes.Directory d)) = (d.width ≡ width) × ((m : List ℕ) (b : ℕ) → at_name d.names m ≡ Some b → length m ≤ width)
+IsOfWidth width other = ⊤
+
 pub record IsWhole (tree : Tree) : Type 0 where
+  pub width : ℕ
+  pub of_width : (p : ℕ) → IsOfWidth width (at_number tree p)
   pub in_order : InOrder tree
   pub sorted : (p : ℕ) → NamesInOrder (names_of (at_number tree p))
   pub joined : IsJoined (edge_of tree) (seen_of tree)
@@ -107,12 +114,18 @@ sorted_at tree rooted p (Some (nodes.File f)) e = tt
 sorted_at tree rooted p (Some (nodes.Other mode)) e = tt
 sorted_at tree rooted p None e = tt
 
+of_width_at : (tree : Tree) (rooted : IsRooted tree) (p : ℕ) (o : Option Node) → at_number tree p ≡ o → IsOfWidth rooted.width o
+of_width_at tree rooted p (Some (nodes.Directory d)) e = (rooted.of_width p d e, λ m b named. rooted.short p m b (record { directory = d; stands = e; named = named }))
+of_width_at tree rooted p (Some (nodes.File f)) e = tt
+of_width_at tree rooted p (Some (nodes.Other mode)) e = tt
+of_width_at tree rooted p None e = tt
+
 module _ (tree : Tree) (h : IsPlain tree) where
   plain_joined : IsJoined (edge_of tree) (seen_of tree)
   plain_joined = record {
     root = ap is_directory h.rooted.root.1;
     root_up = ap up_of h.rooted.root.1 ∙ ap Some (h.root_parent h.rooted.root.0 h.rooted.root.1);
-    good = λ p m b e. let g = edge_gives tree p m b e in record { short = h.rooted.short p m b g; plain = h.plain_names p m b g };
+    good = λ p m b e. let g = edge_gives tree p m b e in record { plain = h.plain_names p m b g };
     leads = λ p m b e. ap is_some (h.rooted.leads p m b (edge_gives tree p m b e)).1;
     no_root = λ p m b e. h.rooted.no_root p m b (edge_gives tree p m b e);
     one_name = λ p q m k b e f t.
@@ -125,6 +138,8 @@ module _ (tree : Tree) (h : IsPlain tree) where
 
   pub plain_whole : IsWhole tree
   plain_whole = record {
+    width = h.rooted.width;
+    of_width = λ p. of_width_at tree h.rooted p (at_number tree p) refl;
     in_order = h.rooted.in_order;
     sorted = λ p. sorted_at tree h.rooted p (at_number tree p) refl;
     joined = plain_joined;
@@ -139,7 +154,9 @@ module _ (tree : Tree) (h : IsWhole tree) where
     in_order = h.in_order;
     names_in_order = λ b d e. subst (λ o. NamesInOrder (names_of o)) e (h.sorted b);
     root = directory_at (at_number tree 0) h.joined.root;
-    short = λ p m b g. (h.joined.good p m b (gives_edge tree p m b g)).short;
+    width = h.width;
+    of_width = λ b d e. (subst (IsOfWidth h.width) e (h.of_width b)).0;
+    short = λ p m b g. (subst (IsOfWidth h.width) g.stands (h.of_width p)).1 m b g.named;
     leads = λ p m b g. some_at (at_number tree b) (h.joined.leads p m b (gives_edge tree p m b g));
     no_root = λ p m b g. h.joined.no_root p m b (gives_edge tree p m b g);
     one_name = λ p q m k b d g i e. h.joined.one_name p q m k b (gives_edge tree p m b g) (gives_edge tree q k b i) (ap is_directory e);

@@ -1,5 +1,5 @@
 -- A call keeps a tree plain: nodes that are made.
-use Rattle.std.specs.Prelude.{⊤, ◌≡◌, ◌≢◌, ℕ, ◌+◌, ◌==◌, Bool, true, false, if◌then◌else◌, List, [], ◌∷◌, Option, Some, None, Ok, is_some, codes, refl}
+use Rattle.std.specs.Prelude.{⊤, length, ◌⊎◌, ◌≤◌, ◌≡◌, ◌≢◌, ℕ, ◌+◌, ◌==◌, Bool, true, false, if◌then◌else◌, List, [], ◌∷◌, Option, Some, None, Ok, is_some, codes, refl}
 use Rattle.std.proofs.Common.{sym, ap, subst, ◌∙◌, inl, inr, ⊎_elim, arith}
 use Rattle.std.specs.List.{list_all, slice_split}
 use Rattle.std.specs.Str.{bytes_eq}
@@ -9,18 +9,18 @@ use Rattle.tree_model.specs.declared.node.Node.{Node}
 use Rattle.tree_model.specs.declared.node.Node.TheVariants as nodes
 use Rattle.tree_model.specs.declared.node.Directory.{Directory}
 use Rattle.tree_model.specs.Maps.{at_number, at_name, put_number}
-use Rattle.tree_model.specs.laws.MapsLaws.{at_put_number, at_put_number_apart}
+use Rattle.tree_model.specs.laws.MapsLaws.{at_put_number, at_put_number_apart, at_put_name_cases}
 use Rattle.tree_model.specs.Paths.{is_path_name, names_of_pieces, path_of}
 use Rattle.tree_model.specs.laws.Listing.{names_of}
 use Rattle.tree_model.specs.Trees.{is_directory, node_of_path}
 use Rattle.tree_model.proofs.Effects.{place_leads}
-use Rattle.tree_model.specs.Calls.{Tree, Done, Place, last_name, is_named, with_name, give_name, new_directory, new_file}
+use Rattle.tree_model.specs.Calls.{Tree, Done, Place, last_name, is_named, with_name, without_name, give_name, new_directory, new_file}
 use Rattle.tree_model.specs.Plain.{names_to}
-use Rattle.tree_model.specs.laws.MapOrder.{in_order_put, at_put_cases, NamesInOrder, names_in_order_put}
+use Rattle.tree_model.specs.laws.MapOrder.{at_name_without_found, in_order_put, at_put_cases, NamesInOrder, names_in_order_put}
 use Rattle.tree_model.proofs.Rows.{IsPlace}
 use Rattle.tree_model.proofs.Changes.{HasNames, IsMade}
 use Rattle.tree_model.proofs.Hanging.{IsReached, by_edge, IsGoodName, IsJoined, more_joined, reached_more}
-use Rattle.tree_model.proofs.Plain.{whole_plain, edge_of, up_of, seen_of, links_of, is_other, IsWhole, one_for, one_at, one_for_here, one_for_other, counted_edge}
+use Rattle.tree_model.proofs.Plain.{IsOfWidth, whole_plain, edge_of, up_of, seen_of, links_of, is_other, IsWhole, one_for, one_at, one_for_here, one_for_other, counted_edge}
 use Rattle.tree_model.proofs.Edits.{IsLike, like_chain, like_stays, like_put_apart, each_put, edge_put_same, give_here, give_split, give_kept, give_like, give_counts, put_counts}
 
 -- ---- names of paths
@@ -49,7 +49,6 @@ last_plain name (next ∷ names) h = last_plain next names (and_parts (is_path_n
 
 pub good_name : (tree : Tree) (path : List ℕ) (names : List (List ℕ)) (p : Place) → HasNames path names → IsPlace tree names p → IsGoodName p.name
 good_name tree path names p named h = record {
-  short = h.short;
   plain = ap is_path_name (sym h.name_is) ∙ last_plain h.first h.rest (ap (list_all is_path_name) (sym h.names_are) ∙ path_plain path names named);
 }
 
@@ -77,21 +76,47 @@ none_named None h c = refl
 pub place_sorted : (tree : Tree) → IsWhole tree → (names : List (List ℕ)) (p : Place) → IsPlace tree names p → NamesInOrder p.directory.names
 place_sorted tree w names p h = subst (λ o. NamesInOrder (names_of o)) h.stands (w.sorted p.parent)
 
+-- the width of a directory at a place
+pub place_of_width : (tree : Tree) (w : IsWhole tree) (names : List (List ℕ)) (p : Place) → IsPlace tree names p → IsOfWidth w.width (Some (nodes.Directory p.directory))
+place_of_width tree w names p h = subst (IsOfWidth w.width) h.stands (w.of_width p.parent)
+
+-- one name more, and one less
+pub of_width_with : (width : ℕ) (d : Directory) (name : List ℕ) (birth : ℕ) → IsOfWidth width (Some (nodes.Directory d)) → length name ≤ d.width → IsOfWidth width (Some (nodes.Directory (with_name d name birth)))
+of_width_with width d name birth h short = (h.0, λ m b named. by m b (at_put_name_cases d.names name birth m b named))
+  where
+    by : (m : List ℕ) (b : ℕ) → ((name ≡ m) × (birth ≡ b)) ⊎ (at_name d.names m ≡ Some b) → length m ≤ width
+    by m b (inl same) = (let long : length m ≡ length name = ap length (sym same.0) in let own = h.0 in omega arith)
+    by m b (inr old) = h.1 m b old
+
+pub of_width_without : (width : ℕ) (d : Directory) (name : List ℕ) → NamesInOrder d.names → IsOfWidth width (Some (nodes.Directory d)) → IsOfWidth width (Some (nodes.Directory (without_name d name)))
+of_width_without width d name sorted h = (h.0, λ m b named. h.1 m b (at_name_without_found d.names name m b sorted named).1)
+
+-- a directory without names
+pub of_width_empty : (width : ℕ) (node : Node) → ((d : Directory) → node ≡ nodes.Directory d → d.width ≡ width) → names_of (Some node) ≡ [] → IsOfWidth width (Some node)
+of_width_empty width (nodes.Directory d) wide empty = (wide d refl, λ m b named. absurd (none-some b (sym (ap (λ names. at_name names m) empty) ∙ named)))
+of_width_empty width (nodes.File f) wide empty = tt
+of_width_empty width (nodes.Other mode) wide empty = tt
+
 -- ---- a new node
 
-pub record IsNewNode (parent : ℕ) (node : Node) : Type 0 where
+pub record IsNewNode (width parent : ℕ) (node : Node) : Type 0 where
+  pub wide : (d : Directory) → node ≡ nodes.Directory d → d.width ≡ width
   pub empty : names_of (Some node) ≡ []
   pub known : is_other (Some node) ≡ false
   pub up : is_directory (Some node) ≡ true → up_of (Some node) ≡ Some parent
   pub links : (l : ℕ) → links_of (Some node) ≡ Some l → l ≡ 1
 
-pub directory_is_new : (parent : ℕ) → IsNewNode parent (new_directory parent)
-directory_is_new parent = record { empty = refl; known = refl; up = λ t. refl; links = λ l h. absurd (none-some l h) }
+pub directory_is_new : (width parent w p : ℕ) → p ≡ parent → w ≡ width → IsNewNode w p (new_directory width parent)
+directory_is_new width parent w p same same_width = record { wide = λ d e. ap width_or (sym e) ∙ sym same_width; empty = refl; known = refl; up = λ t. ap Some (sym same); links = λ l h. absurd (none-some l h) }
+  where
+    width_or : Node → ℕ
+    width_or (nodes.Directory d) = d.width
+    width_or other = 0
 
-pub file_is_new : (parent : ℕ) → IsNewNode parent new_file
-file_is_new parent = record { empty = refl; known = refl; up = λ t. absurd (false≢true t); links = λ l h. sym (same_Some 1 l h) }
+pub file_is_new : (width parent : ℕ) → IsNewNode width parent new_file
+file_is_new width parent = record { wide = λ d e. absurd (let k : new_file ≡ nodes.Directory d = e in cc); empty = refl; known = refl; up = λ t. absurd (false≢true t); links = λ l h. sym (same_Some 1 l h) }
 
-module _ (tree : Tree) (w : IsWhole tree) (n : ℕ) (node : Node) (d : Done) (m : IsMade tree n node d) (born : at_number tree n ≡ None) (new : IsNewNode m.place.parent node) where
+module _ (tree : Tree) (w : IsWhole tree) (n : ℕ) (node : Node) (d : Done) (m : IsMade tree n node d) (born : at_number tree n ≡ None) (new : IsNewNode m.place.directory.width m.place.parent node) where
   abbrev P : Place
   P = m.place
 
@@ -184,6 +209,9 @@ module _ (tree : Tree) (w : IsWhole tree) (n : ℕ) (node : Node) (d : Done) (m 
 
   pub made_whole : IsWhole d.tree
   made_whole = subst IsWhole (sym m.tree_is) (record {
+    width = w.width;
+    of_width = each_put (IsOfWidth w.width) First P.parent _ (of_width_with w.width P.directory P.name n (place_of_width tree w m.names P m.is_place) m.is_place.short)
+        (each_put (IsOfWidth w.width) tree n node (of_width_empty w.width node (λ d e. new.wide d e ∙ (place_of_width tree w m.names P m.is_place).0) new.empty) w.of_width);
     in_order = in_order_put First P.parent _ (in_order_put tree n node w.in_order);
     sorted = each_put (λ o. NamesInOrder (names_of o)) First P.parent _ (names_in_order_put P.directory.names P.name n (place_sorted tree w m.names P m.is_place))
         (each_put (λ o. NamesInOrder (names_of o)) tree n node (subst NamesInOrder (ap names_of born ∙ sym new.empty) (w.sorted n)) w.sorted);

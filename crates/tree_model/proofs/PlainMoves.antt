@@ -1,5 +1,5 @@
 -- A call keeps a tree plain: nodes that move.
-use Rattle.std.specs.Prelude.{◌≡◌, ◌≢◌, ◌≤◌, ℕ, ◌+◌, ◌-◌, ◌==◌, ◌⊎◌, Bool, true, false, not, ◌&&◌, ◌||◌, if◌then◌else◌, nat_le, List, [], ◌∷◌, Option, Some, None, Ok, Err, is_some, unwrap_or, option_map, refl}
+use Rattle.std.specs.Prelude.{length, ◌≡◌, ◌≢◌, ◌≤◌, ℕ, ◌+◌, ◌-◌, ◌==◌, ◌⊎◌, Bool, true, false, not, ◌&&◌, ◌||◌, if◌then◌else◌, nat_le, List, [], ◌∷◌, Option, Some, None, Ok, Err, is_some, unwrap_or, option_map, refl}
 use Rattle.std.proofs.Common.{sym, ap, subst, ◌∙◌, inl, inr, ⊎_elim, arith}
 use Rattle.std.specs.List.{list_any}
 use Rattle.std.proofs.lemmas.Bool.{cases_Bool, cases_eq, true≢false, false≢true, leb-true, leb-false, eq-eqb, eqb-true, eqb-false, ne_eqb, and_from, and_cases, or_left, or_right}
@@ -21,9 +21,9 @@ use Rattle.tree_model.proofs.Rows.{place_names}
 use Rattle.tree_model.proofs.Changes.{IsRenamed}
 use Rattle.tree_model.proofs.Blocks.{target_stands}
 use Rattle.tree_model.proofs.Hanging.{Edges, IsReached, top, by_edge, IsJoined, more_joined, reached_without, reached_around}
-use Rattle.tree_model.proofs.Plain.{edge_of, up_of, seen_of, links_of, is_other, IsWhole, one_for, one_at, one_for_here, one_for_other, edge_counts, counted_edge, names_at, names_to_put, gives_edge}
+use Rattle.tree_model.proofs.Plain.{IsOfWidth, edge_of, up_of, seen_of, links_of, is_other, IsWhole, one_for, one_at, one_for_here, one_for_other, edge_counts, counted_edge, names_at, names_to_put, gives_edge}
 use Rattle.tree_model.proofs.Edits.{IsLike, like_itself, like_chain, like_file, like_stays, like_put, like_put_apart, each_put, each_without, IsAt, at_or_apart, edge_put_same, edge_without, give_here, give_split, give_kept, give_like, take_split, take_kept, take_like, give_counts, take_counts, put_counts, without_counts}
-use Rattle.tree_model.proofs.PlainCalls.{good_name, links_through, place_sorted}
+use Rattle.tree_model.proofs.PlainCalls.{place_of_width, of_width_with, of_width_without, good_name, links_through, place_sorted}
 use Rattle.tree_model.proofs.PlainNames.{directory_not_file, taken_counts, taken_order, taken_names_in_order}
 
 -- ---- nodes that move
@@ -103,9 +103,15 @@ way_stays tree more b kept start parent name (next ∷ names) h clear r =
     or_right_false true y h = absurd (true≢false h)
     or_right_false false y h = h
 
+pub of_width_moved : (width parent : ℕ) (node : Node) → IsOfWidth width (Some node) → IsOfWidth width (Some (moved_node parent node))
+of_width_moved width parent (nodes.Directory d) h = h
+of_width_moved width parent (nodes.File f) h = tt
+of_width_moved width parent (nodes.Other mode) h = tt
+
 -- ---- what is left where the old name was taken out and a file at the new one lost a link
 
-pub record IsLeft (tree : Tree) (m : Move) (left : Tree) (Lost : ℕ → Type 0) : Type 0 where
+pub record IsLeft (tree : Tree) (m : Move) (left : Tree) (width : ℕ) (Lost : ℕ → Type 0) : Type 0 where
+  pub of_width : (c : ℕ) → IsOfWidth width (at_number left c)
   pub order : InOrder left
   pub lost_or : (c : ℕ) → Lost c ⊎ (Lost c → ⊥)
   pub apart : (c : ℕ) → (Lost c → ⊥) → at_number left c ≡ at_number (take_name tree m.from) c
@@ -229,7 +235,7 @@ module _ (tree : Tree) (w : IsWhole tree) (d : Done) (r : IsRenamed tree d) wher
       let k : nodes.Directory F.directory ≡ nodes.Directory T.directory = same_Some (nodes.Directory F.directory) (nodes.Directory T.directory) (sym r.is_from.stands ∙ (ap (at_number tree) e ∙ r.is_to.stands)) in
       cc
 
-  module _ (left : Tree) (Lost : ℕ → Type 0) (h : IsLeft tree r.move left Lost) where
+  module _ (left : Tree) (Lost : ℕ → Type 0) (h : IsLeft tree r.move left w.width Lost) where
     abbrev A : Place
     A = place_after r.move
 
@@ -272,6 +278,12 @@ module _ (tree : Tree) (w : IsWhole tree) (d : Done) (r : IsRenamed tree d) wher
 
     after_sorted : NamesInOrder A.directory.names
     after_sorted = subst (λ o. NamesInOrder (names_of o)) (h.apart T.parent (directory_kept T r.is_to.stands) ∙ to_taken) (h.sorted T.parent)
+
+    after_of_width : IsOfWidth w.width (Some (nodes.Directory A.directory))
+    after_of_width = subst (IsOfWidth w.width) (h.apart T.parent (directory_kept T r.is_to.stands) ∙ to_taken) (h.of_width T.parent)
+
+    after_short : length T.name ≤ A.directory.width
+    after_short = (let old = (place_of_width tree w r.more T r.is_to).0 in let new = after_of_width.0 in let short = r.is_to.short in omega arith)
 
     -- what stood at the new name still does
     after_named : at_name A.directory.names T.name ≡ at_name T.directory.names T.name
@@ -486,6 +498,9 @@ module _ (tree : Tree) (w : IsWhole tree) (d : Done) (r : IsRenamed tree d) wher
 
     moved_whole : IsWhole After
     moved_whole = record {
+      width = w.width;
+      of_width = each_put (IsOfWidth w.width) Mid T.parent _ (of_width_with w.width A.directory T.name B after_of_width after_short)
+          (each_put (IsOfWidth w.width) left B Node' (of_width_moved w.width r.move.to.parent r.move.moved.node (subst (IsOfWidth w.width) left_at (h.of_width B))) h.of_width);
       in_order = in_order_put Mid T.parent _ (in_order_put left B Node' h.order);
       sorted = each_put (λ o. NamesInOrder (names_of o)) Mid T.parent _ (names_in_order_put A.directory.names T.name B after_sorted)
           (each_put (λ o. NamesInOrder (names_of o)) left B Node'
@@ -558,8 +573,9 @@ module _ (tree : Tree) (w : IsWhole tree) (d : Done) (r : IsRenamed tree d) wher
     free_met : edge_of tree r.move.to.parent r.move.to.name ≡ None
     free_met = to_edge tree w d r ∙ free_by tree w r.move.to (to_edge tree w d r) (sym r.target_is ∙ none) (at_name r.move.to.directory.names r.move.to.name) refl
 
-    free_left : IsLeft tree r.move (take_name tree r.move.from) (λ c. ⊥)
+    free_left : IsLeft tree r.move (take_name tree r.move.from) w.width (λ c. ⊥)
     free_left = record {
+      of_width = each_put (IsOfWidth w.width) tree r.move.from.parent _ (of_width_without w.width r.move.from.directory r.move.from.name (from_sorted tree w d r) (place_of_width tree w r.names r.move.from r.is_from)) w.of_width;
       order = in_order_put tree r.move.from.parent _ w.in_order;
       lost_or = λ c. inr (λ l. l);
       apart = λ c kept. refl;
@@ -618,6 +634,9 @@ module _ (tree : Tree) (w : IsWhole tree) (d : Done) (r : IsRenamed tree d) wher
     out_sorted : (c : ℕ) → NamesInOrder (names_of (at_number Out c))
     out_sorted = each_put (λ o. NamesInOrder (names_of o)) tree r.move.from.parent _ (names_in_order_without r.move.from.directory.names r.move.from.name (from_sorted tree w d r)) w.sorted
 
+    out_of_width : (c : ℕ) → IsOfWidth w.width (at_number Out c)
+    out_of_width = each_put (IsOfWidth w.width) tree r.move.from.parent _ (of_width_without w.width r.move.from.directory r.move.from.name (from_sorted tree w d r) (place_of_width tree w r.names r.move.from r.is_from)) w.of_width
+
     out_known : (c : ℕ) → is_other (at_number Out c) ≡ false
     out_known = each_put (λ o. is_other o ≡ false) tree r.move.from.parent _ refl w.known
 
@@ -663,8 +682,9 @@ module _ (tree : Tree) (w : IsWhole tree) (d : Done) (r : IsRenamed tree d) wher
     its_links : (c : ℕ) (f : File) → c ≡ L → at_number tree c ≡ Some (nodes.File f) → g.links ≡ f.links
     its_links c f l stands = ap (λ (f : File). f.links) (its_file c f l stands)
 
-    gone_left : g.links ≤ 1 → IsLeft tree r.move (without_number Out L) (λ c. c ≡ L)
+    gone_left : g.links ≤ 1 → IsLeft tree r.move (without_number Out L) w.width (λ c. c ≡ L)
     gone_left few = record {
+      of_width = each_without (IsOfWidth w.width) Out L out_order tt out_of_width;
       order = in_order_without Out L out_order;
       lost_or = λ c. cases_eq c L;
       apart = λ c kept. at_without_apart Out L c out_order kept;
@@ -691,8 +711,9 @@ module _ (tree : Tree) (w : IsWhole tree) (d : Done) (r : IsRenamed tree d) wher
     abbrev Fewer : File
     Fewer = with_links g (g.links - 1)
 
-    less_left : 2 ≤ g.links → IsLeft tree r.move (put_file Out L Fewer) (λ c. c ≡ L)
+    less_left : 2 ≤ g.links → IsLeft tree r.move (put_file Out L Fewer) w.width (λ c. c ≡ L)
     less_left more = record {
+      of_width = each_put (IsOfWidth w.width) Out L _ tt out_of_width;
       order = in_order_put Out L _ out_order;
       lost_or = λ c. cases_eq c L;
       apart = λ c kept. at_put_number_apart Out L (nodes.File Fewer) c kept;

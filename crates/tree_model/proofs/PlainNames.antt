@@ -18,9 +18,9 @@ use Rattle.tree_model.specs.laws.MapOrder.{InOrder, in_order_put, in_order_witho
 use Rattle.tree_model.proofs.Rows.{IsPlace, place_names}
 use Rattle.tree_model.proofs.Changes.{IsRemoved, IsUnlinked, IsLinked}
 use Rattle.tree_model.proofs.Hanging.{IsReached, by_edge, IsJoined, fewer_joined, more_joined, reached_more, reached_without}
-use Rattle.tree_model.proofs.Plain.{whole_plain, edge_of, seen_of, links_of, is_other, IsWhole, one_for, one_at, one_for_here, one_for_other, edge_counts, counted_edge}
+use Rattle.tree_model.proofs.Plain.{IsOfWidth, whole_plain, edge_of, seen_of, links_of, is_other, IsWhole, one_for, one_at, one_for_here, one_for_other, edge_counts, counted_edge}
 use Rattle.tree_model.proofs.Edits.{give_here, IsLike, like_chain, like_file, like_stays, like_put, like_without, each_put, each_without, at_or_apart, edge_put_same, edge_without, give_split, give_kept, give_like, take_split, take_kept, take_like, give_counts, take_counts, put_counts, without_counts}
-use Rattle.tree_model.proofs.PlainCalls.{good_name, links_through, no_name, none_named, place_sorted}
+use Rattle.tree_model.proofs.PlainCalls.{place_of_width, of_width_with, of_width_without, good_name, links_through, no_name, none_named, place_sorted}
 
 pub directory_not_file : (tree : Tree) (a b : ℕ) (d : Directory) (f : File) → at_number tree a ≡ Some (nodes.Directory d) → at_number tree b ≡ Some (nodes.File f) → a ≢ b
 directory_not_file tree a b d f h j e = true≢false (sym (ap is_directory h) ∙ (ap (λ x. is_directory (at_number tree x)) e ∙ ap is_directory j))
@@ -52,6 +52,8 @@ module _ (tree : Tree) (w : IsWhole tree) (b : ℕ) (f g : File) (stands : at_nu
   -- whole, but for the links of the file
   pub swapped : ((c l : ℕ) → links_of (at_number Put c) ≡ Some l → l ≡ names_to Put c) → IsWhole Put
   swapped links = record {
+    width = w.width;
+    of_width = each_put (IsOfWidth w.width) tree b (nodes.File g) tt w.of_width;
     in_order = in_order_put tree b (nodes.File g) w.in_order;
     sorted = each_put (λ o. NamesInOrder (names_of o)) tree b (nodes.File g) (subst NamesInOrder (ap names_of stands) (w.sorted b)) w.sorted;
     joined = put_joined;
@@ -118,6 +120,9 @@ module _ (tree : Tree) (w : IsWhole tree) (names : List (List ℕ)) (p : Place) 
   pub taken_names_in_order : (c : ℕ) → NamesInOrder (names_of (at_number Taken c))
   taken_names_in_order = taken_each (λ o. NamesInOrder (names_of o)) (names_in_order_without p.directory.names p.name taken_sorted) w.sorted
 
+  pub taken_of_width : (c : ℕ) → IsOfWidth w.width (at_number Taken c)
+  taken_of_width = taken_each (IsOfWidth w.width) (of_width_without w.width p.directory p.name taken_sorted (place_of_width tree w names p place)) w.of_width
+
   -- the node goes with its last name
   module _ (last_one : (q : ℕ) (k : List ℕ) → edge_of Taken q k ≡ Some b → ⊥) where
     abbrev Gone : Tree
@@ -160,6 +165,8 @@ module _ (tree : Tree) (w : IsWhole tree) (names : List (List ℕ)) (p : Place) 
 
     pub gone_whole : IsWhole Gone
     gone_whole = record {
+      width = w.width;
+      of_width = each_without (IsOfWidth w.width) Taken b taken_order tt taken_of_width;
       in_order = in_order_without Taken b taken_order;
       sorted = each_without (λ o. NamesInOrder (names_of o)) Taken b taken_order (subst NamesInOrder leaf (w.sorted b)) taken_names_in_order;
       joined = gone_joined;
@@ -240,6 +247,8 @@ module _ (tree : Tree) (w : IsWhole tree) (names : List (List ℕ)) (p : Place) 
 
     pub less_whole : IsWhole Less
     less_whole = record {
+      width = w.width;
+      of_width = each_put (IsOfWidth w.width) Taken b _ tt taken_of_width;
       in_order = in_order_put Taken b _ taken_order;
       sorted = each_put (λ o. NamesInOrder (names_of o)) Taken b _ (subst NamesInOrder leaf (w.sorted b)) taken_names_in_order;
       joined = less_joined;
@@ -381,6 +390,9 @@ module _ (tree : Tree) (w : IsWhole tree) (d : Done) (r : IsLinked tree d) where
 
   pub linked_whole : IsWhole d.tree
   linked_whole = subst IsWhole (sym r.tree_is) (record {
+    width = w.width;
+    of_width = each_put (IsOfWidth w.width) Start r.place.parent _ (of_width_with w.width r.place.directory r.place.name B (place_of_width tree w r.more r.place r.is_place) r.is_place.short)
+        (each_put (IsOfWidth w.width) tree B _ tt w.of_width);
     in_order = in_order_put Start r.place.parent _ (in_order_put tree B _ w.in_order);
     sorted = each_put (λ o. NamesInOrder (names_of o)) Start r.place.parent _ (names_in_order_put r.place.directory.names r.place.name B (place_sorted tree w r.more r.place r.is_place))
         (each_put (λ o. NamesInOrder (names_of o)) tree B _ (subst NamesInOrder (ap names_of link_stands) (w.sorted B)) w.sorted);

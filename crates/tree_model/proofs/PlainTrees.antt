@@ -16,15 +16,15 @@ use Rattle.tree_model.specs.declared.node.File.{File}
 use Rattle.tree_model.specs.Maps.{at_number, at_name, name_cmp, put_number, without_number}
 use Rattle.tree_model.specs.laws.Listing.{names_of}
 use Rattle.tree_model.specs.Rooted.{IsRooted}
-use Rattle.tree_model.specs.Calls.{Tree, Done, Row, Found, new_directory, a_file, take_name, put_file, with_links, lose_link, without_target, stays, place_after, moved_node, tree_moved, outcome, tree_from, tree_after}
+use Rattle.tree_model.specs.Calls.{Tree, Done, Row, Found, a_file, take_name, put_file, with_links, lose_link, without_target, stays, place_after, moved_node, tree_moved, outcome, tree_from, tree_after}
 use Rattle.tree_model.specs.Plain.{IsPlain, AreBornBefore, names_to}
 use Rattle.tree_model.specs.laws.Examples.{new_tree}
 use Rattle.tree_model.specs.Histories.{Entry, tree_after_entry, tree_after_entries}
 use Rattle.tree_model.specs.laws.MapOrder.{InOrder, at_put_cases, at_without_cases, in_order_put}
 use Rattle.tree_model.proofs.Changes.{Change, stayed, made_directory, made_file, removed, unlinked, linked, renamed, written, written_bytes, truncated, outcome_change}
 use Rattle.tree_model.proofs.Hanging.{IsReached, top}
-use Rattle.tree_model.proofs.Plain.{edge_of, links_of, is_other, IsWhole, plain_whole, whole_plain}
-use Rattle.tree_model.proofs.PlainCalls.{IsNewNode, directory_is_new, file_is_new, made_whole}
+use Rattle.tree_model.proofs.Plain.{IsOfWidth, edge_of, links_of, is_other, IsWhole, plain_whole, whole_plain}
+use Rattle.tree_model.proofs.PlainCalls.{directory_is_new, file_is_new, made_whole}
 use Rattle.tree_model.proofs.PlainNames.{put_whole, removed_whole, unlinked_whole, linked_whole}
 use Rattle.tree_model.proofs.PlainMoves.{renamed_whole}
 
@@ -37,8 +37,8 @@ not_born tree n born (Some node) e = absurd (let lt = born n node e in omega ari
 pub change_whole : (tree : Tree) (n : ℕ) (c : Call) (d : Done) → IsWhole tree → AreBornBefore n tree → Change tree n d c → IsWhole d.tree
 change_whole tree n c d w born (stayed quiet same) = subst IsWhole (sym same) w
 change_whole tree n _ d w born (made_directory parent h e g) =
-    made_whole tree w n _ d h (not_born tree n born (at_number tree n) refl) (subst (λ p. IsNewNode p (new_directory parent)) (sym g) (directory_is_new parent))
-change_whole tree n _ d w born (made_file h) = made_whole tree w n _ d h (not_born tree n born (at_number tree n) refl) (file_is_new h.place.parent)
+    made_whole tree w n _ d h (not_born tree n born (at_number tree n) refl) (directory_is_new _ parent h.place.directory.width h.place.parent g.0 g.1)
+change_whole tree n _ d w born (made_file h) = made_whole tree w n _ d h (not_born tree n born (at_number tree n) refl) (file_is_new h.place.directory.width h.place.parent)
 change_whole tree n _ d w born (removed h) = removed_whole tree w d h
 change_whole tree n _ d w born (unlinked h) = unlinked_whole tree w d h
 change_whole tree n _ d w born (linked h) = linked_whole tree w d h
@@ -178,45 +178,48 @@ module _ (room : Room) (opened : Tree) (first : ℕ) (entries : List Entry) (pla
 
 -- ---- the tree of a new volume
 
-new_at : (o : ℕ) → (o ≡ 0) ⊎ (at_number new_tree o ≡ None)
-new_at zero = inl refl
-new_at (suc n) = inr (apart (suc n) (omega arith))
-  where
-    apart : (k : ℕ) → 0 < k → at_number new_tree k ≡ None
-    apart k h = grind arith
+module _ (width : ℕ) where
+  new_at : (o : ℕ) → (o ≡ 0) ⊎ (at_number (new_tree width) o ≡ None)
+  new_at zero = inl refl
+  new_at (suc n) = inr (apart (suc n) (omega arith))
+    where
+      apart : (k : ℕ) → 0 < k → at_number (new_tree width) k ≡ None
+      apart k h = grind arith
 
-no_edge : (p : ℕ) (m : List ℕ) (b : ℕ) → edge_of new_tree p m ≡ Some b → ⊥
-no_edge p m b e =
-    ⊎_elim
-    (λ z. none-some b (ap (λ j. edge_of new_tree j m) (sym z) ∙ e))
-    (λ n. none-some b (sym (ap (λ o. at_name (names_of o) m) n) ∙ e))
-    (new_at p)
-
-new_each : (P : Option Node → Type 0) → P (at_number new_tree 0) → P None → (c : ℕ) → P (at_number new_tree c)
-new_each P here none c = ⊎_elim (λ z. subst (λ j. P (at_number new_tree j)) (sym z) here) (λ n. subst P (sym n) none) (new_at c)
-
-pub new_plain : IsPlain new_tree
-unfolding IsStrictlySortedBy
-new_plain = whole_plain new_tree (record {
-  in_order = (tt, tt);
-  sorted = new_each (λ o. IsStrictlySortedBy name_cmp (keys_of (names_of o))) tt tt;
-  joined = record {
-    root = refl;
-    root_up = refl;
-    good = λ p m b e. absurd (no_edge p m b e);
-    leads = λ p m b e. absurd (no_edge p m b e);
-    no_root = λ p m b e. absurd (no_edge p m b e);
-    one_name = λ p q m k b e f t. absurd (no_edge p m b e);
-    parent = λ p m b e t. absurd (no_edge p m b e);
-  };
-  reached = λ b t.
+  no_edge : (p : ℕ) (m : List ℕ) (b : ℕ) → edge_of (new_tree width) p m ≡ Some b → ⊥
+  no_edge p m b e =
       ⊎_elim
-      (λ z. subst (IsReached (edge_of new_tree)) (sym z) top)
-      (λ n. absurd (false≢true (sym (ap is_some n) ∙ t)))
-      (new_at b);
-  links = λ b l. new_each (λ o. links_of o ≡ Some l → l ≡ names_to new_tree b) (λ e. absurd (none-some l e)) (λ e. absurd (none-some l e)) b;
-  known = new_each (λ o. is_other o ≡ false) refl refl;
-})
+      (λ z. none-some b (ap (λ j. edge_of (new_tree width) j m) (sym z) ∙ e))
+      (λ n. none-some b (sym (ap (λ o. at_name (names_of o) m) n) ∙ e))
+      (new_at p)
 
-pub new_born : AreBornBefore 1 new_tree
-new_born b node e = ⊎_elim (λ z. omega arith) (λ n. absurd (none-some node (sym n ∙ e))) (new_at b)
+  new_each : (P : Option Node → Type 0) → P (at_number (new_tree width) 0) → P None → (c : ℕ) → P (at_number (new_tree width) c)
+  new_each P here none c = ⊎_elim (λ z. subst (λ j. P (at_number (new_tree width) j)) (sym z) here) (λ n. subst P (sym n) none) (new_at c)
+
+  pub new_plain : IsPlain (new_tree width)
+  unfolding IsStrictlySortedBy
+  new_plain = whole_plain (new_tree width) (record {
+    width = width;
+    of_width = new_each (IsOfWidth width) (refl, λ m b named. absurd (none-some b named)) tt;
+    in_order = (tt, tt);
+    sorted = new_each (λ o. IsStrictlySortedBy name_cmp (keys_of (names_of o))) tt tt;
+    joined = record {
+      root = refl;
+      root_up = refl;
+      good = λ p m b e. absurd (no_edge p m b e);
+      leads = λ p m b e. absurd (no_edge p m b e);
+      no_root = λ p m b e. absurd (no_edge p m b e);
+      one_name = λ p q m k b e f t. absurd (no_edge p m b e);
+      parent = λ p m b e t. absurd (no_edge p m b e);
+    };
+    reached = λ b t.
+        ⊎_elim
+        (λ z. subst (IsReached (edge_of (new_tree width))) (sym z) top)
+        (λ n. absurd (false≢true (sym (ap is_some n) ∙ t)))
+        (new_at b);
+    links = λ b l. new_each (λ o. links_of o ≡ Some l → l ≡ names_to (new_tree width) b) (λ e. absurd (none-some l e)) (λ e. absurd (none-some l e)) b;
+    known = new_each (λ o. is_other o ≡ false) refl refl;
+  })
+
+  pub new_born : AreBornBefore 1 (new_tree width)
+  new_born b node e = ⊎_elim (λ z. omega arith) (λ n. absurd (none-some node (sym n ∙ e))) (new_at b)

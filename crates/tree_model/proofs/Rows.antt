@@ -85,14 +85,14 @@ pub record IsPlace (tree : Tree) (names : List (List ℕ)) (p : Place) : Type 0 
   pub name_is : last_name first rest ≡ p.name
   pub path : node_of_path tree (all_but_last first rest) ≡ Ok p.parent
   pub stands : at_number tree p.parent ≡ Some (nodes.Directory p.directory)
-  pub short : length p.name ≤ 14
+  pub short : length p.name ≤ p.directory.width
 
 pub parent_ok : (root_reply : Reply) (tree : Tree) (names : List (List ℕ)) (p : Place) → parent_of root_reply tree names ≡ Ok p → IsPlace tree names p
 parent_ok root_reply tree [] p h = err_ok root_reply p h
 parent_ok root_reply tree (name ∷ names) p h =
     let x = then_ok (walk tree (all_but_last name names)) _ p h in
     let y = then_ok (a_directory x.0.node) _ p x.2 in
-    let z = refuse_ok (nat_lt 14 (length (last_name name names))) replies.NameTooLong _ p y.2 in
+    let z = refuse_ok (nat_lt y.0.width (length (last_name name names))) replies.NameTooLong _ p y.2 in
     let w = walk_ok tree (all_but_last name names) x.0 x.1 in
     let same : record { parent = x.0.birth; directory = y.0; name = last_name name names } ≡ p = ok_ok _ p z.1 in
     subst (IsPlace tree (name ∷ names)) same (record {
@@ -102,7 +102,7 @@ parent_ok root_reply tree (name ∷ names) p h =
       name_is = refl;
       path = w.path;
       stands = w.stands ∙ ap Some (directory_ok x.0.node y.0 y.1);
-      short = ltb-false 14 (length (last_name name names)) z.0;
+      short = ltb-false y.0.width (length (last_name name names)) z.0;
     })
 
 -- the last name of a path leads from its parent to its node

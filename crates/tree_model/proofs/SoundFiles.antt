@@ -174,10 +174,10 @@ pub call_sound : (room : Room) (tree : Tree) (n : ℕ) (c : Call) → IsPlain tr
 unfolding tree_after
 call_sound room tree n c plain sound = outcome_sound room tree n c plain.rooted.in_order sound (outcome room tree n c) refl
 
-pub new_tree_sound : HasSoundFiles new_tree
-new_tree_sound birth f e = by (is_eq (nat_cmp birth 0)) e
+pub new_tree_sound : (width : ℕ) → HasSoundFiles (new_tree width)
+new_tree_sound width birth f e = by (is_eq (nat_cmp birth 0)) e
   where
-    by : (b : Bool) → ◌≡◌ {A = Option Node} (cond b (Some (nodes.Directory (record { parent = 0; slots = 2; names = [] }))) None) (Some (nodes.File f)) → IsSoundFile f
+    by : (b : Bool) → ◌≡◌ {A = Option Node} (cond b (Some (nodes.Directory (record { parent = 0; width = width; slots = 2; names = [] }))) None) (Some (nodes.File f)) → IsSoundFile f
     by true h = no_file_sound _ refl f h
     by false h = no_file_sound None refl f h
 

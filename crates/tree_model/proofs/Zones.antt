@@ -67,7 +67,7 @@ no_more : (n : ℕ) → n ≤ n
 no_more n = omega arith
 
 take_less : (tree : Tree) (p : Place) → InOrder tree → at_number tree p.parent ≡ Some (nodes.Directory p.directory) → used_zones (take_name tree p) ≤ used_zones tree
-take_less tree p order stands = put_less tree p.parent (nodes.Directory p.directory) (nodes.Directory (without_name p.directory p.name)) order stands (no_more (directory_zones p.directory.slots))
+take_less tree p order stands = put_less tree p.parent (nodes.Directory p.directory) (nodes.Directory (without_name p.directory p.name)) order stands (no_more (directory_zones p.directory.width p.directory.slots))
 
 lose_less : (tree : Tree) (b : ℕ) (f : File) → InOrder tree → at_number tree b ≡ Some (nodes.File f) → used_zones (lose_link tree b f) ≤ used_zones tree
 lose_less tree b f order stands = by (nat_le f.links 1)

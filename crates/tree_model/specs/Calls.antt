@@ -20,7 +20,9 @@ use Rattle.tree_model.specs.declared.node.File.{File}
 use Rattle.tree_model.specs.Maps.{at_number, at_name, put_number, put_name, without_number, name_cmp}
 use Rattle.tree_model.specs.Paths.{path_of}
 use Rattle.tree_model.specs.Trees.{Refusal, not_directory, name_too_long, not_found, step_at, node_of_path, is_directory, directory_links}
-use Rattle.minix_layout.specs.declared.limits.TheConstants.{LARGEST_SIZE, MOST_LINKS, MOST_SLOTS}
+pub use Rattle.minix_layout.specs.Widths.{most_slots}
+use Rattle.minix_layout.specs.Widths.{slot_size, slots_a_block}
+use Rattle.minix_layout.specs.declared.limits.TheConstants.{LARGEST_SIZE, MOST_LINKS}
 
 -- the nodes by their births
 abbrev pub Tree : Type 0
@@ -126,7 +128,7 @@ parent_of at_root tree [] = Err at_root
 parent_of at_root tree (name ∷ names) =
     and_then (walk tree (all_but_last name names)) (λ found.
     and_then (a_directory found.node) (λ d.
-    refuse_if (nat_lt 14 (length (last_name name names))) replies.NameTooLong
+    refuse_if (nat_lt d.width (length (last_name name names))) replies.NameTooLong
     (Ok (record { parent = found.birth; directory = d; name = last_name name names }))))
 
 -- the births of a path's parent and of all directories above it
@@ -151,22 +153,19 @@ most_links = MOST_LINKS
 abbrev pub needs_slot : Directory → Bool
 needs_slot d = not (nat_lt (length d.names + 2) d.slots)
 
-abbrev pub most_slots : ℕ
-most_slots = MOST_SLOTS
-
 -- one name more would make it too big
 abbrev pub is_full : Directory → Bool
-is_full d = needs_slot d && nat_le most_slots d.slots
+is_full d = needs_slot d && nat_le (most_slots d.width) d.slots
 
 -- A name that is there keeps its slot.
 abbrev pub slots_with : Directory → List ℕ → ℕ
 slots_with d name = if not (is_some (at_name d.names name)) && needs_slot d then d.slots + 1 else d.slots
 
 abbrev pub with_name : Directory → List ℕ → ℕ → Directory
-with_name d name birth = record { parent = d.parent; slots = slots_with d name; names = put_name d.names name birth }
+with_name d name birth = record { parent = d.parent; width = d.width; slots = slots_with d name; names = put_name d.names name birth }
 
 abbrev pub without_name : Directory → List ℕ → Directory
-without_name d name = record { parent = d.parent; slots = d.slots; names = remove_entry (is_at (name_cmp name)) d.names }
+without_name d name = record { parent = d.parent; width = d.width; slots = d.slots; names = remove_entry (is_at (name_cmp name)) d.names }
 
 -- a tree in which the name leads to this node
 abbrev pub give_name : Tree → Place → ℕ → Tree
@@ -188,8 +187,8 @@ lose_link tree birth f = if nat_le f.links 1 then without_number tree birth else
 
 -- ---- the rows of names
 
-abbrev pub new_directory : ℕ → Node
-new_directory parent = nodes.Directory (record { parent = parent; slots = 2; names = [] })
+abbrev pub new_directory : ℕ → ℕ → Node
+new_directory width parent = nodes.Directory (record { parent = parent; width = width; slots = 2; names = [] })
 
 abbrev pub new_file : Node
 new_file = nodes.File (record { size = 0; links = 1; blocks = [] })
@@ -202,7 +201,7 @@ mkdir tree n path =
     refuse_if (is_named place) replies.Exists
     (refuse_if (directory_links tree place.directory == most_links) replies.TooManyLinks
     (refuse_if (is_full place.directory) replies.TooBig
-    (makes (give_name (put_number tree n (new_directory place.parent)) place n))))))
+    (makes (give_name (put_number tree n (new_directory place.directory.width place.parent)) place n))))))
 
 -- no path; the root exists; what the parent refuses; it exists; the parent is full
 abbrev pub create : Tree → ℕ → List ℕ → Row
@@ -294,7 +293,7 @@ without_target tree (Some t) = elim (a_file t.node) as (λ _. Tree) [ Err reply 
 
 -- a directory that moved has another parent
 abbrev pub moved_node : ℕ → Node → Node
-moved_node parent (nodes.Directory d) = nodes.Directory (record { parent = parent; slots = d.slots; names = d.names })
+moved_node parent (nodes.Directory d) = nodes.Directory (record { parent = parent; width = d.width; slots = d.slots; names = d.names })
 moved_node parent other = other
 
 -- The old name is taken out first, a file that stands at the new one loses a link, and the new name leads to the node.
@@ -416,9 +415,9 @@ list tree path =
     and_then (a_directory found.node) (λ d.
     answers tree (replies.Names (keys_of d.names))))
 
--- a slot has 16 bytes
+-- a slot has its name and two bytes
 abbrev pub stat_of : Tree → Node → Result Reply Reply
-stat_of tree (nodes.Directory d) = Ok (replies.Stat true (16 * d.slots) (directory_links tree d))
+stat_of tree (nodes.Directory d) = Ok (replies.Stat true (slot_size d.width * d.slots) (directory_links tree d))
 stat_of tree (nodes.File f) = Ok (replies.Stat false f.size f.links)
 stat_of tree (nodes.Other mode) = Err replies.NotFound
 
@@ -478,9 +477,9 @@ row tree n calls.Sync = answers tree replies.Ok
 
 -- ---- zones
 
--- 64 slots in a zone, and a zone of numbers where there are more than 7 of these
-abbrev pub directory_zones : ℕ → ℕ
-directory_zones slots = div_ceil slots 64 + (if nat_lt 448 slots then 1 else 0)
+-- the zones of so many slots, and a zone of numbers where there are more than 7 of these
+abbrev pub directory_zones : ℕ → ℕ → ℕ
+directory_zones width slots = div_ceil slots (slots_a_block width) + (if nat_lt (7 * slots_a_block width) slots then 1 else 0)
 
 -- a block whose zone stands in the indirect one, or in the double indirect one's group of 512
 abbrev pub is_indirect : ℕ → Bool
@@ -509,7 +508,7 @@ file_zones indices =
     + mapped_groups indices
 
 abbrev pub node_zones : Node → ℕ
-node_zones (nodes.Directory d) = directory_zones d.slots
+node_zones (nodes.Directory d) = directory_zones d.width d.slots
 node_zones (nodes.File f) = file_zones (keys_of f.blocks)
 node_zones (nodes.Other mode) = 0
 

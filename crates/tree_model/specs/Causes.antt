@@ -99,8 +99,8 @@ pub data IsCause (room : Room) (tree : Tree) (n : ℕ) (c : Call) : Reply → Ty
   walk : (names front : List (List ℕ)) → NamesOf c names → IsFront front names → (refusal : Refusal) → node_of_path tree front ≡ Err refusal → IsCause room tree n c (refused_walk refusal)
   -- a path goes on below a node that is no directory, or a directory is wanted
   no_directory : (names front : List (List ℕ)) → NamesOf c names → IsFront front names → (birth : ℕ) (node : Node) → LeadsTo tree front birth node → is_directory (Some node) ≡ false → IsCause room tree n c replies.NotDir
-  -- the last name is too long
-  long_name : (names front : List (List ℕ)) (name : List ℕ) → NamesOf c names → front ++ name ∷ [] ≡ names → 14 < length name → IsCause room tree n c replies.NameTooLong
+  -- the last name is too long for its directory
+  long_name : (names : List (List ℕ)) (d : Directory) (name : List ℕ) → NamesOf c names → IsInDirectory tree names d name → d.width < length name → IsCause room tree n c replies.NameTooLong
   -- the name is there
   named : (names : List (List ℕ)) (d : Directory) (name : List ℕ) → NamesOf c names → IsInDirectory tree names d name → (birth : ℕ) → at_name d.names name ≡ Some birth → IsCause room tree n c replies.Exists
   -- a file is wanted
@@ -114,7 +114,7 @@ pub data IsCause (room : Room) (tree : Tree) (n : ℕ) (c : Call) : Reply → Ty
   -- a file has all its links
   file_linked : (names : List (List ℕ)) → NamesOf c names → (birth : ℕ) (f : File) → LeadsTo tree names birth (nodes.File f) → f.links ≡ most_links → IsCause room tree n c replies.TooManyLinks
   -- a directory has no free slot and as many as it can have
-  full : (names : List (List ℕ)) (d : Directory) (name : List ℕ) → NamesOf c names → IsInDirectory tree names d name → most_slots ≤ d.slots → IsCause room tree n c replies.TooBig
+  full : (names : List (List ℕ)) (d : Directory) (name : List ℕ) → NamesOf c names → IsInDirectory tree names d name → most_slots d.width ≤ d.slots → IsCause room tree n c replies.TooBig
   -- a file would be larger than it can be
   too_large : largest_size < end_of c → IsCause room tree n c replies.TooBig
   -- all inodes have nodes

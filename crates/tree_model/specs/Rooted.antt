@@ -20,13 +20,16 @@ pub data IsLedTo (tree : List (ℕ × Node)) : ℕ → Type 0 where
   by_name : {parent birth : ℕ} {name : List ℕ} → IsLedTo tree parent → HasEntry tree parent name birth → IsLedTo tree birth
 
 -- A tree that hangs together: its nodes stand in the order of their births, each once, and in each directory the
--- names in the order of their bytes, each once. The root is a directory. Each name has at most 14 bytes and leads
+-- names in the order of their bytes, each once. The root is a directory. All directories have one width, no name is
+-- longer than it, and each leads
 -- to a node that is not the root, no two lead to one directory, and names lead to each node from the root.
 pub record IsRooted (tree : List (ℕ × Node)) : Type 0 where
   pub in_order : IsStrictlySortedBy nat_cmp (keys_of tree)
   pub names_in_order : (birth : ℕ) (d : Directory) → at_number tree birth ≡ Some (nodes.Directory d) → IsStrictlySortedBy name_cmp (keys_of d.names)
   pub root : (d : Directory) × (at_number tree 0 ≡ Some (nodes.Directory d))
-  pub short : (parent : ℕ) (name : List ℕ) (birth : ℕ) → HasEntry tree parent name birth → length name ≤ 14
+  pub width : ℕ
+  pub of_width : (birth : ℕ) (d : Directory) → at_number tree birth ≡ Some (nodes.Directory d) → d.width ≡ width
+  pub short : (parent : ℕ) (name : List ℕ) (birth : ℕ) → HasEntry tree parent name birth → length name ≤ width
   pub leads : (parent : ℕ) (name : List ℕ) (birth : ℕ) → HasEntry tree parent name birth → (node : Node) × (at_number tree birth ≡ Some node)
   pub no_root : (parent : ℕ) (name : List ℕ) (birth : ℕ) → HasEntry tree parent name birth → birth ≢ 0
   pub one_name : (parent other : ℕ) (name more : List ℕ) (birth : ℕ) (d : Directory) → HasEntry tree parent name birth → HasEntry tree other more birth → at_number tree birth ≡ Some (nodes.Directory d) → (parent ≡ other) × (name ≡ more)

@@ -16,7 +16,7 @@ pub data Refusal : Type 0 where
 -- what a name leads to in a directory
 abbrev pub step_in : Directory → List ℕ → Result ℕ Refusal
 step_in d name =
-    if nat_lt 14 (length name) then Err name_too_long
+    if nat_lt d.width (length name) then Err name_too_long
     else elim (at_name d.names name) as (λ _. Result ℕ Refusal) [ None ↦ Err not_found | Some birth ↦ Ok birth ]
 
 abbrev pub step_at : Option Node → List ℕ → Result ℕ Refusal

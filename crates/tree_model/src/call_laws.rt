@@ -1,5 +1,5 @@
 //! Laws of calls on trees: what a call keeps, why it is refused, and what a history of calls has.
-ghost use Rattle.std.specs.Prelude.{◌≡◌, ◌⊎◌, ◌<◌, ◌≤◌, ℕ, ◌+◌, ◌-◌, ◌%◌, ◌==◌, if◌then◌else◌, true, false, List, length, slice_index, Some, None, Ok, Err, is_some};
+ghost use Rattle.std.specs.Prelude.{◌*◌, ◌≡◌, ◌⊎◌, ◌<◌, ◌≤◌, ℕ, ◌+◌, ◌-◌, ◌%◌, ◌==◌, if◌then◌else◌, true, false, List, length, slice_index, Some, None, Ok, Err, is_some};
 ghost use Rattle.blk_base.specs.Members.{In};
 ghost use Rattle.tree_model.specs.declared.call.Call.{Call};
 ghost use Rattle.tree_model.specs.declared.call.Call.TheVariants as calls;
@@ -9,6 +9,7 @@ ghost use Rattle.tree_model.specs.declared.call.Reply.TheVariants as replies;
 ghost use Rattle.tree_model.specs.declared.call.Room.{Room};
 ghost use Rattle.tree_model.specs.Maps.{at_number};
 ghost use Rattle.tree_model.specs.Paths.{path_of};
+ghost use Rattle.minix_layout.specs.Widths.{slots_a_block};
 ghost use Rattle.tree_model.specs.Calls.{Tree, Done, leaves_tree, row, outcome, tree_after, reply_of, needs, used_zones, directory_zones};
 ghost use Rattle.tree_model.specs.Causes.{paths_of, IsCause};
 ghost use Rattle.tree_model.specs.laws.Examples.{new_tree};
@@ -25,8 +26,8 @@ pub fn calls_keep_trees_plain()
     ensures births { (room : Room) (tree : Tree) (n : ℕ) (c : Call) → IsPlain tree → (birth : ℕ) →
         is_some (at_number (tree_after room tree n c) birth) ≡ true → (is_some (at_number tree birth) ≡ true) ⊎ (birth ≡ n) }
     ensures rise { (room : Room) (tree : Tree) (n : ℕ) (c : Call) → IsPlain tree → AreBornBefore n tree → AreBornBefore (n + 1) (tree_after room tree n c) }
-    ensures new_plain { IsPlain new_tree }
-    ensures new_born { AreBornBefore 1 new_tree }
+    ensures new_plain { (width : ℕ) → IsPlain (new_tree width) }
+    ensures new_born { (width : ℕ) → AreBornBefore 1 (new_tree width) }
 {}
 
 /// A law, which does nothing when it is called: a refused call has a cause for its reply and changes nothing. A text
@@ -56,7 +57,8 @@ pub fn calls_stay_within_room()
         room.capacity - used_zones tree < needs tree n c → outcome room tree n c ≡ Err replies.NoSpace }
     ensures none { (tree : Tree) → IsPlain tree → (n : ℕ) (c : Call) → takes_no_zone c ≡ true → needs tree n c ≡ 0 }
     ensures kept { (room : Room) (tree : Tree) (n : ℕ) (c : Call) → used_zones tree ≤ room.capacity → used_zones (tree_after room tree n c) ≤ room.capacity }
-    ensures slot { (slots : ℕ) → directory_zones (slots + 1) ≡ directory_zones slots + (if slots % 64 == 0 then 1 else 0) + (if slots == 448 then 1 else 0) }
+    ensures slot { (width slots : ℕ) → directory_zones width (slots + 1) ≡
+        directory_zones width slots + (if slots % slots_a_block width == 0 then 1 else 0) + (if slots == 7 * slots_a_block width then 1 else 0) }
 {}
 
 /// A law, which does nothing when it is called: only a call that writes a block of a file maps it, a block that is

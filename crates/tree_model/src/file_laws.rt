@@ -104,7 +104,7 @@ pub fn kind_and_size_are_refused()
 /// of calls. A new volume has no other.
 pub fn calls_keep_files_sound()
     ensures kept { (room : Room) (tree : Tree) (n : ℕ) (c : Call) → IsPlain tree → HasSoundFiles tree → HasSoundFiles (tree_after room tree n c) }
-    ensures new { HasSoundFiles new_tree }
+    ensures new { (width : ℕ) → HasSoundFiles (new_tree width) }
 {}
 
 /// A law, which does nothing when it is called: an entry changes a file just where the size or the mapped blocks after

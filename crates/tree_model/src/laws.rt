@@ -49,9 +49,9 @@ pub fn nodes_have_paths()
 /// an indirect block two, with a double indirect one three, and in a group of blocks that has its second-level block
 /// one again.
 pub fn examples_of_calls()
-    ensures replies { replies_to small_room new_tree 1 names_session ≡ names_replies }
-    ensures moves { replies_to small_room new_tree 1 moves_session ≡ moves_replies }
-    ensures last_block { replies_to small_room new_tree 1 last_block_session ≡ last_block_replies }
+    ensures replies { replies_to small_room (new_tree 14) 1 names_session ≡ names_replies }
+    ensures moves { replies_to small_room (new_tree 14) 1 moves_session ≡ moves_replies }
+    ensures last_block { replies_to small_room (new_tree 14) 1 last_block_session ≡ last_block_replies }
     ensures direct { needs_after (calls.Create (codes "/f") ∷ []) (write_block 0) ≡ 1 }
     ensures indirect { needs_after (calls.Create (codes "/f") ∷ []) (write_block 7) ≡ 2 }
     ensures double_indirect { needs_after (calls.Create (codes "/f") ∷ []) (write_block 519) ≡ 3 }

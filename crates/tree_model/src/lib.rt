@@ -13,7 +13,7 @@
 //! sessions with their replies. `laws`, `call_laws`, `file_laws` and `name_laws` name the laws, whose proofs stand in
 //! `proofs/`.
 //!
-//! Stands on `minix_layout` for the names of 1 to 14 bytes, `blk_base` for the bodies of files, and
+//! Stands on `minix_layout` for the names of 1 to 30 bytes, `blk_base` for the bodies of files, and
 //! `byte_text`.
 #![tactic(auto)]
 

@@ -2,6 +2,7 @@
 ghost use Rattle.std.specs.Prelude.{◌≡◌, ◌≢◌, ◌⊎◌, ◌↔◌, ◌<◌, ◌≤◌, ℕ, ◌+◌, ◌*◌, true, false, List, [], ◌∷◌, ◌++◌, length, Some, None, Ok, IsOk};
 ghost use Rattle.std.specs.List.Sorted.{IsStrictlySortedBy};
 ghost use Rattle.blk_base.specs.Members.{In};
+ghost use Rattle.minix_layout.specs.Widths.{slot_size};
 ghost use Rattle.tree_model.specs.declared.call.Call.TheVariants as calls;
 ghost use Rattle.tree_model.specs.declared.call.Reply.TheVariants as replies;
 ghost use Rattle.tree_model.specs.declared.call.Room.{Room};
@@ -71,7 +72,7 @@ pub fn a_move_keeps_its_node()
     ensures directory { (room : Room) (tree : Tree) → IsPlain tree → (n : ℕ) (path other : List ℕ) (names more : List (List ℕ)) (d : Done) → path_of path ≡ Some names → path_of other ≡ Some more →
         outcome room tree n (calls.Rename path other) ≡ Ok d → ((birth : ℕ) → node_of_path tree names ≡ Ok birth → node_of_path tree more ≡ Ok birth → ⊥) →
         (birth : ℕ) (e : Directory) → LeadsTo tree names birth (nodes.Directory e) → (before : Directory) (name : List ℕ) (i : IsInDirectory tree more before name) →
-        at_number d.tree birth ≡ Some (nodes.Directory (record { parent = i.birth; slots = e.slots; names = e.names })) }
+        at_number d.tree birth ≡ Some (nodes.Directory (record { parent = i.birth; width = e.width; slots = e.slots; names = e.names })) }
     ensures replaced { (room : Room) (tree : Tree) → IsPlain tree → (n : ℕ) (path other : List ℕ) (names more : List (List ℕ)) (d : Done) → path_of path ≡ Some names → path_of other ≡ Some more →
         outcome room tree n (calls.Rename path other) ≡ Ok d → ((birth : ℕ) → node_of_path tree names ≡ Ok birth → node_of_path tree more ≡ Ok birth → ⊥) →
         (birth : ℕ) (f : File) → LeadsTo tree more birth (nodes.File f) → HasLinkLess d.tree birth f }
@@ -147,7 +148,7 @@ pub fn answers_tell_what_stands()
     ensures file { (room : Room) (tree : Tree) (n : ℕ) (path : List ℕ) (birth : ℕ) (f : File) → StandsAt tree path birth (nodes.File f) →
         reply_of room tree n (calls.Stat path) ≡ replies.Stat false f.size f.links }
     ensures directory { (room : Room) (tree : Tree) → IsPlain tree → (n : ℕ) (path : List ℕ) (birth : ℕ) (e : Directory) (s : StandsAt tree path birth (nodes.Directory e)) →
-        (links : ℕ) × (reply_of room tree n (calls.Stat path) ≡ replies.Stat true (16 * e.slots) links) × (within : List (List ℕ)) × (links ≡ 2 + length within) × IsStrictlySortedBy name_cmp within ×
+        (links : ℕ) × (reply_of room tree n (calls.Stat path) ≡ replies.Stat true (slot_size e.width * e.slots) links) × (within : List (List ℕ)) × (links ≡ 2 + length within) × IsStrictlySortedBy name_cmp within ×
         ((name : List ℕ) → In name within ↔ ((child : ℕ) × (node_of_path tree (s.names ++ name ∷ []) ≡ Ok child) × (is_directory (at_number tree child) ≡ true))) }
     ensures names { (room : Room) (tree : Tree) → IsPlain tree → (n : ℕ) (path : List ℕ) (birth : ℕ) (e : Directory) (s : StandsAt tree path birth (nodes.Directory e)) →
         (names : List (List ℕ)) × (reply_of room tree n (calls.List path) ≡ replies.Names names) × IsStrictlySortedBy name_cmp names ×

@@ -14,7 +14,9 @@ use std::marker::Model;
 pub struct Directory {
     /// The birth of the directory that has it; the root has itself.
     pub parent: u64,
-    /// The slots of 16 bytes, those of `.` and `..` and free ones too.
+    /// The bytes that a name may have, 14 or 30: those of the whole tree.
+    pub width: u16,
+    /// The slots, those of `.` and `..` and free ones too.
     pub slots: u32,
     /// Its names, but for `.` and `..`.
     pub names: Names,
@@ -47,6 +49,7 @@ impl Directory {
     {
         Ok(Directory {
             parent: self.parent,
+            width: self.width,
             slots: self.slots,
             names: self.names.copy(alloc)?,
         })

@@ -72,13 +72,17 @@ pub fn names_of(path: &ByteList) -> Result<&[u8], Reply>
 }
 
 /// The name that a directory can have, if a path's name is not too long for it.
-pub fn short_name(name: &[u8]) -> Result<Name, Reply>
-    requires { IsTrue (is_path_name name.now) }
+pub fn short_name(name: &[u8], width: u16) -> Result<Name, Reply>
+    requires plain { IsTrue (is_path_name name.now) }
+    requires narrow { width ≤ 30 }
     ensures name { IfOk result (λ n. n ≡ name.now) }
-    ensures short { IfOk result (λ n. nat_lt 14 (length name.now) ≡ false) }
+    ensures short { IfOk result (λ n. nat_lt width (length name.now) ≡ false) }
     ensures fault { IfErr result (λ reply. reply ≡ replies.NameTooLong) }
-    ensures long { IfErr result (λ reply. nat_lt 14 (length name.now) ≡ true) }
+    ensures long { IfErr result (λ reply. nat_lt width (length name.now) ≡ true) }
 {
+    if name.len() > width as usize {
+        return Err(Reply::NameTooLong);
+    }
     match Name::of(name) {
         Some(name) => Ok(name),
         None => Err(Reply::NameTooLong),

@@ -1,6 +1,6 @@
 -- Trees that are alike, one after the other, and a tree with itself.
 use Rattle.std.specs.Prelude.{◌≡◌, ℕ, Bool, true, false, length, List, [], ◌∷◌, ◌++◌, Option, Some, None, Result, Ok, Err, refl, nat_lt, if◌then◌else◌}
-use Rattle.std.proofs.Common.{sym, ap, subst, ◌∙◌}
+use Rattle.std.proofs.Common.{arith, sym, ap, subst, ◌∙◌}
 use Rattle.std.proofs.lemmas.Bool.{le-ltb}
 use Rattle.tree_model.specs.declared.node.Node.{Node}
 use Rattle.tree_model.specs.declared.node.Node.TheVariants as nodes
@@ -29,7 +29,7 @@ named_by false (Some b) birth h = ap Some (same_ok b birth h)
 gives_from : (tree : List (ℕ × Node)) (parent : ℕ) (name : List ℕ) (birth : ℕ) (o : Option Node) → at_number tree parent ≡ o → step_at o name ≡ Ok birth → HasEntry tree parent name birth
 gives_from tree parent name birth None e h = no_ok not_directory birth h
 gives_from tree parent name birth (Some (nodes.Directory d)) e h =
-    record { directory = d; stands = e; named = named_by (nat_lt 14 (length name)) (at_name d.names name) birth h }
+    record { directory = d; stands = e; named = named_by (nat_lt d.width (length name)) (at_name d.names name) birth h }
 gives_from tree parent name birth (Some (nodes.File f)) e h = no_ok not_directory birth h
 gives_from tree parent name birth (Some (nodes.Other mode)) e h = no_ok not_directory birth h
 
@@ -194,7 +194,9 @@ led_push tree (n ∷ ns) b p q name h s =
 -- a name of a tree is a step
 pub step_given : (tree : List (ℕ × Node)) → IsRooted tree → (parent : ℕ) (name : List ℕ) (birth : ℕ) → HasEntry tree parent name birth → step_at (at_number tree parent) name ≡ Ok birth
 step_given tree rooted parent name birth g =
-    let short : nat_lt 14 (length name) ≡ false = le-ltb 14 (length name) (rooted.short parent name birth g) in
+    let width = rooted.of_width parent g.directory g.stands in
+    let most = rooted.short parent name birth g in
+    let short : nat_lt g.directory.width (length name) ≡ false = le-ltb g.directory.width (length name) (omega arith) in
     rw (g.stands, short, g.named) refl
 
 pub has_path : (tree : List (ℕ × Node)) → IsRooted tree → (birth : ℕ) → IsLedTo tree birth → (names : List (List ℕ)) × (node_of_path tree names ≡ Ok birth)

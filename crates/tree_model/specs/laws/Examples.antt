@@ -8,9 +8,9 @@ use Rattle.tree_model.specs.declared.call.Room.{Room}
 use Rattle.tree_model.specs.declared.node.Node.TheVariants as nodes
 use Rattle.tree_model.specs.Calls.{Tree, tree_after, reply_of, needs}
 
--- the tree of a new volume
-abbrev pub new_tree : Tree
-new_tree = (0, nodes.Directory (record { parent = 0; slots = 2; names = [] })) ∷ []
+-- the tree of a new volume, with names of this width
+abbrev pub new_tree : ℕ → Tree
+new_tree width = (0, nodes.Directory (record { parent = 0; width = width; slots = 2; names = [] })) ∷ []
 
 -- a volume of 64 zones with 32 inodes, of which the first five blocks are no zones of data
 abbrev pub small_room : Room
@@ -28,7 +28,7 @@ tree_after_calls room tree n (c ∷ cs) = tree_after_calls room (tree_after room
 
 -- the zones that a call needs after others on a new volume
 abbrev pub needs_after : List Call → Call → ℕ
-needs_after before c = needs (tree_after_calls small_room new_tree 1 before) 20 c
+needs_after before c = needs (tree_after_calls small_room (new_tree 14) 1 before) 20 c
 
 -- a byte written to the block of a file at this index
 abbrev pub write_block : ℕ → Call
