@@ -1,8 +1,9 @@
 //! Single writes. Each makes one body anew; a write behind the last block is left out.
-ghost use Rattle.std.specs.Prelude.{◌≡◌, ◌+◌, ◌-◌, ◌*◌, ◌/◌, ◌<◌, ◌≤◌, length};
+ghost use Rattle.std.specs.Prelude.{◌≡◌, ◌+◌, ◌-◌, ◌*◌, ◌/◌, ◌<◌, ◌≤◌, IfSome, length};
 ghost use Rattle.std.specs.Option.{option_copied};
 ghost use Rattle.byte_fields.specs.Fields.{put, put_bytes, zeros};
 ghost use Rattle.byte_fields.specs.Fields.Order.{little};
+ghost use Rattle.minix_layout.specs.Widths.{IsWidth, slots_a_block};
 ghost use Rattle.volume_ops.specs.Places.{table_block};
 ghost use Rattle.volume_model.specs.Edits.{edited, put_inode, put_slot, set_bit, put_entry, clear_from, put_body};
 
@@ -25,15 +26,17 @@ pub fn put_inode(blocks: &mut Image, g: &Geometry, number: u16, inode: &Inode)
     }
 }
 
-/// Writes slot `at`, of 64, of a zone of a directory. None frees it.
+/// Writes slot `at` of a zone of a directory. None frees it.
 #[tactic(auto, unfolding(volume_model::specs::Edits::edited))]
 pub fn put_slot(blocks: &mut Image, g: &Geometry, zone: u16, at: u8, slot: Option<&Slot>)
-    requires { at < 64 }
+    requires width { IsWidth g.now.width }
+    requires place { at < slots_a_block g.now.width }
+    requires short { IfSome (option_copied slot) (λ e. length e.name ≤ g.now.width) }
     ensures { blocks.new ≡ edited g.now blocks.old (put_slot zone at (option_copied slot.entry)) }
 {
     if u32::from(zone) < blocks.len() {
         let mut bytes = body(blocks, zone.into());
-        write_slot(&mut bytes, at, slot);
+        write_slot(&mut bytes, at, slot, g.width);
         blocks.put(zone.into(), bytes);
     }
 }

@@ -6,6 +6,7 @@ use Rattle.std.proofs.lemmas.Bool.{cases_eq}
 use Rattle.std.proofs.lemmas.Option.{same_Some}
 use Rattle.blk_base.specs.Members.{In}
 use Rattle.blk_base.specs.laws.Members.{All-In}
+use Rattle.minix_layout.specs.Widths.{slot_size}
 use Rattle.minix_layout.specs.declared.division.Geometry.{Geometry}
 use Rattle.tree_model.specs.declared.node.Node.{Node}
 use Rattle.tree_model.specs.declared.node.Node.TheVariants as nodes
@@ -57,7 +58,7 @@ module _ (g : Geometry) (blocks : List (List ℕ)) where
       let have = walked_has g blocks (λ n. HasMap n n.found) (λ number z. IsMapOf number z.mapped) (λ s. Unit {0})
       (λ w e. ok_by (λ (z : ZoneScan). IsMapOf e.inode z.mapped) (answer disk (scan_zones g (table_block g e.inode) (inode_at g blocks e.inode).zones w.zones))
       (λ z r. scan_zones-map disk g (table_block g e.inode) (inode_at g blocks e.inode).zones w.zones z (nine g blocks e.inode) r 262663))
-      (λ w e z. any_ok (answer disk (scan_slots g ((inode_at g blocks e.inode).size / 16) z.mapped (record { named = w.named; names = [] }))))
+      (λ w e z. any_ok (answer disk (scan_slots g ((inode_at g blocks e.inode).size / slot_size g.width) z.mapped (record { named = w.named; names = [] }))))
       (λ e z map. (e.inode, refl, map)) (λ e s k. tt) (λ e. tt) all e in
       All-In (λ (n : FoundNode). HasMap n n.found) all.nodes n have i
 
@@ -79,7 +80,7 @@ module _ (g : Geometry) (blocks : List (List ℕ)) where
     tree_same : put_nodes blocks all.nodes [] ≡ tree
     tree_same = same_Ok (put_nodes blocks all.nodes []) tree (sym (ap (tree_found blocks) w) ∙ tree_walked g blocks tree some h.stands)
 
-    part_same : (n : FoundNode) (f : Found) → at_number tree n.birth ≡ Some (node_of blocks f) → HasMap n f → part_in blocks (inode_born g blocks n.birth) (node_of blocks f) ≡ part_found blocks (inode_born g blocks n.birth) f
+    part_same : (n : FoundNode) (f : Found) → at_number tree n.birth ≡ Some (node_of blocks f) → HasMap n f → part_in g blocks (inode_born g blocks n.birth) (node_of blocks f) ≡ part_found g blocks (inode_born g blocks n.birth) f
     part_same n (found.Directory d) at m = refl
     part_same n (found.Other mode) at m = refl
     part_same n (found.File f) at m =
@@ -98,7 +99,7 @@ module _ (g : Geometry) (blocks : List (List ℕ)) where
             cc
 
     pub found_stands : (n : FoundNode) → In n all.nodes →
-        at_number (contents_in g blocks tree).nodes n.birth ≡ Some (record { number = inode_of_birth n.birth; inode = inode_born g blocks n.birth; part = part_found blocks (inode_born g blocks n.birth) n.found })
+        at_number (contents_in g blocks tree).nodes n.birth ≡ Some (record { number = inode_of_birth n.birth; inode = inode_born g blocks n.birth; part = part_found g blocks (inode_born g blocks n.birth) n.found })
     unfolding contents_in
     found_stands n i =
         let at : at_number tree n.birth ≡ Some (node_of blocks n.found) = ap (λ t. at_number t n.birth) (sym tree_same) ∙ walked_stands all w n i in

@@ -1,5 +1,5 @@
 -- The nodes of a plain image make a plain volume that can change.
-use Rattle.std.specs.Prelude.{◌≡◌, ◌≢◌, ℕ, suc, ◌/◌, ◌<◌, ◌≤◌, true, false, List, [], ◌∷◌, codes, length, map, Option, Some, Ok, refl, ◌⊎◌}
+use Rattle.std.specs.Prelude.{◌*◌, ◌≡◌, ◌≢◌, ℕ, suc, ◌/◌, ◌<◌, ◌≤◌, true, false, List, [], ◌∷◌, codes, length, map, Option, Some, Ok, refl, ◌⊎◌}
 use Rattle.std.specs.List.{slice_get}
 use Rattle.std.specs.List.Sorted.{IsStrictlySortedBy}
 use Rattle.std.specs.Map.{keys_of}
@@ -9,6 +9,8 @@ use Rattle.std.proofs.lemmas.Bool.{cases_Bool, cases_eq, eq-eqb, ne_eqb, true≢
 use Rattle.std.proofs.lemmas.Option.{none-some, same_Some}
 use Rattle.blk_base.specs.Members.{In}
 use Rattle.blk_base.specs.laws.Members.{In-map, map-In}
+use Rattle.minix_layout.specs.laws.Places.{form_is, bytes_whole, begins_below}
+use Rattle.minix_layout.specs.Widths.{slot_size, slots_a_block}
 use Rattle.minix_layout.specs.declared.division.Geometry.{Geometry}
 use Rattle.minix_layout.specs.declared.inode.Inode.{Inode}
 use Rattle.minix_layout.specs.declared.slot.Slot.{Slot}
@@ -84,23 +86,24 @@ module _ (g : Geometry) (blocks : List (List ℕ)) (tree : List (ℕ × Node)) (
 
   -- ---- what a node's blocks say
 
-  slot_is_read : (b : ℕ) (d : Directory) → at_number tree b ≡ Some (nodes.Directory d) → (k : ℕ) → k < (inode b).size / 16 → (s : Option Slot) × (slot_behind blocks (inode b) k ≡ Ok s)
+  slot_is_read : (b : ℕ) (d : Directory) → at_number tree b ≡ Some (nodes.Directory d) → (k : ℕ) → k < (inode b).size / slot_size g.width → (s : Option Slot) × (slot_behind g blocks (inode b) k ≡ Ok s)
   slot_is_read b d at k low = h.stands.faultless.slot_read (inode_of_birth b) k (reached b (nodes.Directory d) at) (h.stands.fields.each b (nodes.Directory d) at).kind low
 
-  directory_part : (b : ℕ) (d : Directory) (e : DirectoryPart) → e.slots ≡ slots_in blocks (inode b) → at_number tree b ≡ Some (nodes.Directory d) → IsDirectoryPart blocks (inode b) e
-  directory_part b d e is at =
+  directory_part : (b : ℕ) (d : Directory) (e : DirectoryPart) → e.width ≡ d.width → e.slots ≡ slots_in g blocks (inode b) → at_number tree b ≡ Some (nodes.Directory d) → IsDirectoryPart g blocks (inode b) e
+  directory_part b d e wide is at =
       let says = h.stands.fields.each b (nodes.Directory d) at in
       let whole = h.stands.faultless.whole_slots (inode_of_birth b) (reached b (nodes.Directory d) at) says.kind in
-      let long : length e.slots ≡ (inode b).size / 16 = ap length is ∙ slots_length blocks (inode b) in
+      let long : length e.slots ≡ (inode b).size / slot_size g.width = ap length is ∙ slots_length g blocks (inode b) in
       record {
         kind = says.kind;
-        size = omega arith;
+        width = wide ∙ says.width;
+        size = bytes_whole (slot_size g.width) (slots_a_block g.width) (form_is g.width) _ whole ∙ ap (λ n. slot_size g.width * n) (sym long);
         slots = λ k s got.
-            let x = slot_reads blocks (inode b) (slot_is_read b d at) k s (sym (ap (λ (ss : List (Option Slot)). slice_get ss k) is) ∙ got) in
+            let x = slot_reads g blocks (inode b) (slot_is_read b d at) k s (sym (ap (λ (ss : List (Option Slot)). slice_get ss k) is) ∙ got) in
             let low = x.0 in
             let slots = says.slots in
-            let mapped : zone_behind blocks (inode b) (k / 64) ≢ 0 = (h.slot_zones b d at).no_hole (k / 64) (omega arith) in
-            record { mapped = mapped; stands = (rw (ne_eqb (zone_behind blocks (inode b) (k / 64)) 0 mapped) at x.1) };
+            let mapped : zone_behind blocks (inode b) (k / slots_a_block g.width) ≢ 0 = (h.slot_zones b d at).no_hole (k / slots_a_block g.width) (begins_below (slot_size g.width) (slots_a_block g.width) (form_is g.width) k d.slots (omega arith)) in
+            record { mapped = mapped; stands = (rw (ne_eqb (zone_behind blocks (inode b) (k / slots_a_block g.width)) 0 mapped) at x.1) };
       }
 
   indices_stand : (zone : ℕ → ℕ) (ks : List ℕ) → map (λ (m : Mapped). m.index) (map (λ k. record { index = k; zone = zone k }) ks) ≡ ks
@@ -123,8 +126,8 @@ module _ (g : Geometry) (blocks : List (List ℕ)) (tree : List (ℕ × Node)) (
         rising = subst (IsStrictlySortedBy nat_cmp) (sym (indices_stand (zone_behind blocks (inode b)) (keys_of f.blocks))) (h.stands.blocks_in_order b f at);
       }
 
-  part_stands : (b : ℕ) (n : Node) → at_number tree b ≡ Some n → IsPart blocks (inode b) (part_in blocks (inode b) n)
-  part_stands b (nodes.Directory d) at = directory_part b d (record { parent = d.parent; names = d.names; slots = slots_in blocks (inode b) }) refl at
+  part_stands : (b : ℕ) (n : Node) → at_number tree b ≡ Some n → IsPart g blocks (inode b) (part_in g blocks (inode b) n)
+  part_stands b (nodes.Directory d) at = directory_part b d (record { parent = d.parent; width = d.width; names = d.names; slots = slots_in g blocks (inode b) }) refl refl at
   part_stands b (nodes.File f) at = file_part b f at
   part_stands b (nodes.Other mode) at = absurd (h.no_other b mode at)
 
@@ -154,11 +157,11 @@ module _ (g : Geometry) (blocks : List (List ℕ)) (tree : List (ℕ × Node)) (
   record IsMadeDirectory (b : ℕ) (d : DirectoryPart) : Type 0 where
     pub directory : Directory
     pub stands : at_number tree b ≡ Some (nodes.Directory directory)
-    pub same : ◌≡◌ {A = DirectoryPart} (record { parent = directory.parent; names = directory.names; slots = slots_in blocks (inode b) }) d
+    pub same : ◌≡◌ {A = DirectoryPart} (record { parent = directory.parent; width = directory.width; names = directory.names; slots = slots_in g blocks (inode b) }) d
 
-  made_part : (b : ℕ) (n : Node) (d : DirectoryPart) → at_number tree b ≡ Some n → part_in blocks (inode b) n ≡ parts.Directory d → IsMadeDirectory b d
+  made_part : (b : ℕ) (n : Node) (d : DirectoryPart) → at_number tree b ≡ Some n → part_in g blocks (inode b) n ≡ parts.Directory d → IsMadeDirectory b d
   made_part b (nodes.Directory e) d at is = record { directory = e; stands = at; same = same_directory _ d is }
-  made_part b (nodes.File f) d at is = absurd (let e : part_in blocks (inode b) (nodes.File f) ≡ parts.Directory d = is in cc)
+  made_part b (nodes.File f) d at is = absurd (let e : part_in g blocks (inode b) (nodes.File f) ≡ parts.Directory d = is in cc)
   made_part b (nodes.Other mode) d at is = absurd (h.no_other b mode at)
 
   made_directory : (b : ℕ) (p : Placed) (d : DirectoryPart) → at_number placed b ≡ Some p → p.part ≡ parts.Directory d → IsMadeDirectory b d
@@ -168,9 +171,9 @@ module _ (g : Geometry) (blocks : List (List ℕ)) (tree : List (ℕ × Node)) (
     pub file : File
     pub stands : at_number tree b ≡ Some (nodes.File file)
 
-  made_file_part : (b : ℕ) (n : Node) (zones : List Mapped) → at_number tree b ≡ Some n → part_in blocks (inode b) n ≡ parts.File zones → IsMadeFile b zones
+  made_file_part : (b : ℕ) (n : Node) (zones : List Mapped) → at_number tree b ≡ Some n → part_in g blocks (inode b) n ≡ parts.File zones → IsMadeFile b zones
   made_file_part b (nodes.File f) zones at is = record { file = f; stands = at }
-  made_file_part b (nodes.Directory d) zones at is = absurd (let e : part_in blocks (inode b) (nodes.Directory d) ≡ parts.File zones = is in cc)
+  made_file_part b (nodes.Directory d) zones at is = absurd (let e : part_in g blocks (inode b) (nodes.Directory d) ≡ parts.File zones = is in cc)
   made_file_part b (nodes.Other mode) zones at is = absurd (h.no_other b mode at)
 
   made_file : (b : ℕ) (p : Placed) (zones : List Mapped) → at_number placed b ≡ Some p → p.part ≡ parts.File zones → IsMadeFile b zones
@@ -183,13 +186,13 @@ module _ (g : Geometry) (blocks : List (List ℕ)) (tree : List (ℕ × Node)) (
 
   module _ (b : ℕ) (d : Directory) (at : at_number tree b ≡ Some (nodes.Directory d)) where
     abbrev slots : List (Option Slot)
-    slots = slots_in blocks (inode b)
+    slots = slots_in g blocks (inode b)
 
-    abbrev says : IsDirectoryOf blocks (inode b) d
+    abbrev says : IsDirectoryOf g blocks (inode b) d
     says = h.stands.fields.each b (nodes.Directory d) at
 
-    entry : (k : ℕ) (s : Slot) → slice_get slots k ≡ Some (Some s) → is_dot s.name ≡ false → IsEntryAt blocks (inode b) k s
-    entry k s got no_dot = let x = slot_reads blocks (inode b) (slot_is_read b d at) k (Some s) got in record { below = x.0; stands = x.1; no_dot = no_dot }
+    entry : (k : ℕ) (s : Slot) → slice_get slots k ≡ Some (Some s) → is_dot s.name ≡ false → IsEntryAt g blocks (inode b) k s
+    entry k s got no_dot = let x = slot_reads g blocks (inode b) (slot_is_read b d at) k (Some s) got in record { below = x.0; stands = x.1; no_dot = no_dot }
 
     number_of : (name : List ℕ) (birth : ℕ) → at_name d.names name ≡ Some birth → (s : Slot) → 0 < s.inode → birth_of s.inode ≡ birth → HasNumber placed birth s.inode
     number_of name birth named s used is =
@@ -200,7 +203,7 @@ module _ (g : Geometry) (blocks : List (List ℕ)) (tree : List (ℕ × Node)) (
     named_in : (name : List ℕ) (birth : ℕ) → at_name d.names name ≡ Some birth → IsNamedIn placed slots name birth
     named_in name birth named =
         let x = (says.names name birth).0 named in
-        let got = slot_got blocks (inode b) x.place (Some x.slot) x.below x.stands in
+        let got = slot_got g blocks (inode b) x.place (Some x.slot) x.below x.stands in
         let no_dot : is_dot x.slot.name ≡ false = subst (λ n. is_dot n ≡ false) (sym x.name_is) x.no_dot in
         record {
           place = x.place;
@@ -208,15 +211,15 @@ module _ (g : Geometry) (blocks : List (List ℕ)) (tree : List (ℕ × Node)) (
           stands = got;
           name_is = x.name_is;
           no_dot = x.no_dot;
-          number = number_of name birth named x.slot (slot_used blocks (inode b) x.place x.slot (entry x.place x.slot got no_dot)) x.birth_is;
+          number = number_of name birth named x.slot (slot_used g blocks (inode b) x.place x.slot (entry x.place x.slot got no_dot)) x.birth_is;
         }
 
     full_in : (k : ℕ) (s : Slot) → slice_get slots k ≡ Some (Some s) → is_dot s.name ≡ false → (birth : ℕ) × (at_name d.names s.name ≡ Some birth) × HasNumber placed birth s.inode
     full_in k s got no_dot =
         let e = entry k s got no_dot in
-        let has : HasName blocks (inode b) s.name (birth_of s.inode) = record { place = k; slot = s; below = e.below; stands = e.stands; name_is = refl; no_dot = no_dot; birth_is = refl } in
+        let has : HasName g blocks (inode b) s.name (birth_of s.inode) = record { place = k; slot = s; below = e.below; stands = e.stands; name_is = refl; no_dot = no_dot; birth_is = refl } in
         let named = (says.names s.name (birth_of s.inode)).1 has in
-        (birth_of s.inode, named, number_of s.name (birth_of s.inode) named s (slot_used blocks (inode b) k s e) refl)
+        (birth_of s.inode, named, number_of s.name (birth_of s.inode) named s (slot_used g blocks (inode b) k s e) refl)
 
     abbrev dots : HasDots slots (inode_of_birth b) (inode_of_birth d.parent)
     dots = h.dots b d at
@@ -280,7 +283,7 @@ module _ (g : Geometry) (blocks : List (List ℕ)) (tree : List (ℕ × Node)) (
         place_of n (inr (inl e)) = (1, record { inode = inode_of_birth d.parent; name = codes ".." }, dots.above, e)
         place_of n (inr (inr i)) = (let x = key_named n i in let y = named_in n x.0 x.1 in (y.place, y.slot, y.stands, y.name_is))
 
-    names_stand : HasNames placed (record { parent = d.parent; names = d.names; slots = slots })
+    names_stand : HasNames placed (record { parent = d.parent; width = d.width; names = d.names; slots = slots })
     names_stand = record {
       named = named_in;
       full = full_in;
@@ -325,7 +328,7 @@ module _ (g : Geometry) (blocks : List (List ℕ)) (tree : List (ℕ × Node)) (
 
   node_same : (b : ℕ) (n : Node) → at_number tree b ≡ Some n → node_now blocks (placed_in g blocks b n) ≡ n
   node_same b (nodes.Directory d) at =
-      let slots_are : length (slots_in blocks (inode b)) ≡ d.slots = slots_length blocks (inode b) ∙ sym (h.stands.fields.each b (nodes.Directory d) at).slots in
+      let slots_are : length (slots_in g blocks (inode b)) ≡ d.slots = slots_length g blocks (inode b) ∙ sym (h.stands.fields.each b (nodes.Directory d) at).slots in
       ap nodes.Directory (rw slots_are refl)
   node_same b (nodes.File f) at =
       let says = h.stands.fields.each b (nodes.File f) at in
@@ -380,16 +383,16 @@ module _ (g : Geometry) (blocks : List (List ℕ)) (tree : List (ℕ × Node)) (
       subst (λ (d : DirectoryPart). (q : Placed) × (at_number placed d.parent ≡ Some q) × HasDots d.slots p.number q.number) x.same (
         placed_in g blocks x.directory.parent y.0,
         at_made (placed_in g blocks) tree x.directory.parent y.0 y.1,
-        subst (λ n. HasDots (slots_in blocks (inode b)) n (inode_of_birth x.directory.parent)) (made_number b p at) (h.dots b x.directory x.stands),
+        subst (λ n. HasDots (slots_in g blocks (inode b)) n (inode_of_birth x.directory.parent)) (made_number b p at) (h.dots b x.directory x.stands),
       )
 
-  slot_zones_stand : (b : ℕ) (p : Placed) (d : DirectoryPart) → at_number placed b ≡ Some p → p.part ≡ parts.Directory d → HasSlotZones blocks p.inode (length d.slots)
+  slot_zones_stand : (b : ℕ) (p : Placed) (d : DirectoryPart) → at_number placed b ≡ Some p → p.part ≡ parts.Directory d → HasSlotZones g blocks p.inode (length d.slots)
   slot_zones_stand b p d at is =
       let x = made_directory b p d at is in
-      let long : length (slots_in blocks (inode b)) ≡ x.directory.slots = slots_length blocks (inode b) ∙ sym (h.stands.fields.each b (nodes.Directory x.directory) x.stands).slots in
-      subst (λ (d : DirectoryPart). HasSlotZones blocks p.inode (length d.slots)) x.same
-      (subst (λ i. HasSlotZones blocks i (length (slots_in blocks (inode b)))) (made_inode b p at)
-      (subst (HasSlotZones blocks (inode b)) (sym long) (h.slot_zones b x.directory x.stands)))
+      let long : length (slots_in g blocks (inode b)) ≡ x.directory.slots = slots_length g blocks (inode b) ∙ sym (h.stands.fields.each b (nodes.Directory x.directory) x.stands).slots in
+      subst (λ (d : DirectoryPart). HasSlotZones g blocks p.inode (length d.slots)) x.same
+      (subst (λ i. HasSlotZones g blocks i (length (slots_in g blocks (inode b)))) (made_inode b p at)
+      (subst (HasSlotZones g blocks (inode b)) (sym long) (h.slot_zones b x.directory x.stands)))
 
   directory_links_stand : (b : ℕ) (p : Placed) (d : DirectoryPart) → at_number placed b ≡ Some p → p.part ≡ parts.Directory d → p.inode.links ≡ directory_links (tree_now blocks placed) (directory_from d)
   directory_links_stand b p d at is =

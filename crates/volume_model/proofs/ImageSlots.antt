@@ -11,6 +11,8 @@ use Rattle.std.proofs.lemmas.List.FromFn.{length-map-range_with_len, get_or-map-
 use Rattle.std.proofs.lemmas.Option.{none-some, same_Some}
 use Rattle.blk_base.specs.Members.{In}
 use Rattle.blk_base.specs.laws.Members.{slice_get-in_range, slice_get-length}
+use Rattle.minix_layout.specs.declared.division.Geometry.{Geometry}
+use Rattle.minix_layout.specs.Widths.{slot_size}
 use Rattle.minix_layout.specs.declared.inode.Inode.{Inode}
 use Rattle.minix_layout.specs.declared.slot.Slot.{Slot}
 use Rattle.tree_model.specs.Maps.{at_number}
@@ -65,33 +67,33 @@ module _ {K X : Type 0} (cmp : K → K → Ordering) (here : (k : K) → is_eq (
 
 -- ---- the slots
 
-module _ (blocks : List (List ℕ)) (i : Inode) where
-  pub slots_length : length (slots_in blocks i) ≡ i.size / 16
-  slots_length = length-map-range_with_len (slot_in blocks i) 0 (i.size / 16)
+module _ (g : Geometry) (blocks : List (List ℕ)) (i : Inode) where
+  pub slots_length : length (slots_in g blocks i) ≡ i.size / slot_size g.width
+  slots_length = length-map-range_with_len (slot_in g blocks i) 0 (i.size / slot_size g.width)
 
   get_or_got : {X : Type 0} (xs : List X) (k : ℕ) (x d : X) → slice_get xs k ≡ Some x → get_or xs k d ≡ x
   get_or_got [] k x d h = absurd (none-some x h)
   get_or_got (y ∷ ys) zero x d h = same_Some y x h
   get_or_got (y ∷ ys) (suc k) x d h = get_or_got ys k x d h
 
-  slot_at : (k : ℕ) (s : Option Slot) → slice_get (slots_in blocks i) k ≡ Some s → (k < i.size / 16) × (slot_in blocks i k ≡ s)
+  slot_at : (k : ℕ) (s : Option Slot) → slice_get (slots_in g blocks i) k ≡ Some s → (k < i.size / slot_size g.width) × (slot_in g blocks i k ≡ s)
   slot_at k s at =
-      let low = slice_get-length (slots_in blocks i) k s at in
-      let below : k < i.size / 16 = (let size = slots_length in omega arith) in
-      (below, sym (get_or-map-range_with_len (slot_in blocks i) 0 (i.size / 16) k k s below (omega arith)) ∙ get_or_got (slots_in blocks i) k s s at)
+      let low = slice_get-length (slots_in g blocks i) k s at in
+      let below : k < i.size / slot_size g.width = (let size = slots_length in omega arith) in
+      (below, sym (get_or-map-range_with_len (slot_in g blocks i) 0 (i.size / slot_size g.width) k k s below (omega arith)) ∙ get_or_got (slots_in g blocks i) k s s at)
 
-  pub slot_got : (k : ℕ) (s : Option Slot) → k < i.size / 16 → slot_behind blocks i k ≡ Ok s → slice_get (slots_in blocks i) k ≡ Some s
+  pub slot_got : (k : ℕ) (s : Option Slot) → k < i.size / slot_size g.width → slot_behind g blocks i k ≡ Ok s → slice_get (slots_in g blocks i) k ≡ Some s
   slot_got k s below reads =
       let size = slots_length in
-      let x = slice_get-in_range (slots_in blocks i) k (omega arith) in
+      let x = slice_get-in_range (slots_in g blocks i) k (omega arith) in
       let y = slot_at k x.0 x.1 in
       x.1 ∙ ap Some (sym y.1 ∙ ap slot_or_free reads)
 
   -- where each slot can be read
-  pub slot_reads : ((k : ℕ) → k < i.size / 16 → (s : Option Slot) × (slot_behind blocks i k ≡ Ok s)) → (k : ℕ) (s : Option Slot) → slice_get (slots_in blocks i) k ≡ Some s →
-      (k < i.size / 16) × (slot_behind blocks i k ≡ Ok s)
+  pub slot_reads : ((k : ℕ) → k < i.size / slot_size g.width → (s : Option Slot) × (slot_behind g blocks i k ≡ Ok s)) → (k : ℕ) (s : Option Slot) → slice_get (slots_in g blocks i) k ≡ Some s →
+      (k < i.size / slot_size g.width) × (slot_behind g blocks i k ≡ Ok s)
   slot_reads each k s at =
       let x = slot_at k s at in
       let y = each k x.0 in
-      let in_is : slot_in blocks i k ≡ y.0 = ap slot_or_free y.1 in
+      let in_is : slot_in g blocks i k ≡ y.0 = ap slot_or_free y.1 in
       (x.0, y.1 ∙ ap Ok (sym in_is ∙ x.1))

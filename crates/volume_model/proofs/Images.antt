@@ -47,7 +47,7 @@ module _ (g : Geometry) (v : Contents) (h : IsPlainContents g v) (zone : ℕ) wh
         inode = z.placed.number;
         place = to_walk z.place;
         reached = node_reached g v h t.0 (walked_tree g v.blocks t.0 (some_inodes g v h) t.1) z.birth z.placed z.stands;
-        kind = subst (λ (i : Inode). (is_directory i.mode ≡ true) ⊎ (is_file i.mode ≡ true)) (sym p.inode) (kind_of v.blocks z.placed.inode z.placed.part p.part);
+        kind = subst (λ (i : Inode). (is_directory i.mode ≡ true) ⊎ (is_file i.mode ≡ true)) (sym p.inode) (kind_of g v.blocks z.placed.inode z.placed.part p.part);
         some = z.some;
         stands = ap (λ i. zone_walked v.blocks i (to_walk z.place)) p.inode ∙ (sym (zone_to_walk v.blocks z.placed.inode h.volume.0.whole z.place) ∙ z.zone_is);
       }

@@ -29,7 +29,7 @@ module _ (g : Geometry) (v : Contents) (n : ℕ) (p : Placed) where
     moved_just g sound v.blocks v.nodes n p h.0 at (grown g sound v.blocks v.nodes n p h.0 at t content size index high free) (parts.File (with_mapped zones index t.data_zone))
         (MapWrites g sound v.blocks v.nodes n p h.0 at t content size index high free)
         (may_map g sound v.blocks v.nodes n p h.0 at t content size index high free (parts.File (with_mapped zones index t.data_zone))
-        (map_file g sound v.blocks v.nodes n p h.0 at t content size index high free zones hole (subst (IsPart v.blocks p.inode) is (h.0.each n p at).part))
+        (map_file g sound v.blocks v.nodes n p h.0 at t content size index high free zones hole (subst (IsPart g v.blocks p.inode) is (h.0.each n p at).part))
         (λ e same. absurd (cc same)))
         h.1 (map_just g sound v.blocks v.nodes n p h.0 at t content size index high free (h.1 n p at)),
   )
@@ -41,7 +41,7 @@ module _ (g : Geometry) (v : Contents) (n : ℕ) (p : Placed) where
     moved_just g sound v.blocks v.nodes n p h.0 at (grown g sound v.blocks v.nodes n p h.0 at t content size index high free) (parts.Directory d)
         (MapWrites g sound v.blocks v.nodes n p h.0 at t content size index high free)
         (may_map g sound v.blocks v.nodes n p h.0 at t content size index high free (parts.Directory d)
-        (map_directory g sound v.blocks v.nodes n p h.0 at t content size index high free d (subst (IsPart v.blocks p.inode) is (h.0.each n p at).part))
+        (map_directory g sound v.blocks v.nodes n p h.0 at t content size index high free d (subst (IsPart g v.blocks p.inode) is (h.0.each n p at).part))
         (λ e same. h.0.names n p e at (is ∙ same)))
         h.1 (map_just g sound v.blocks v.nodes n p h.0 at t content size index high free (h.1 n p at)),
   )

@@ -1,5 +1,5 @@
 -- A new volume is plain.
-use Rattle.std.specs.Prelude.{◌≡◌, ◌≢◌, ℕ, zero, suc, ◌^◌, ◌<◌, ◌≤◌, false, List, [], ◌∷◌, codes, length, replicate, slice_index, Option, Some, Ok, refl}
+use Rattle.std.specs.Prelude.{◌*◌, ◌/◌, ◌%◌, ◌≡◌, ◌≢◌, ℕ, zero, suc, ◌^◌, ◌<◌, ◌≤◌, false, List, [], ◌∷◌, codes, length, replicate, slice_index, Option, Some, Ok, refl}
 use Rattle.std.specs.List.{slice_get}
 use Rattle.std.specs.List.Sorted.{IsStrictlySortedBy}
 use Rattle.std.specs.BTreeMap.{is_at}
@@ -11,6 +11,8 @@ use Rattle.std.proofs.lemmas.List.{length-replicate}
 use Rattle.std.proofs.lemmas.Option.{none-some, same_Some}
 use Rattle.blk_base.specs.Block.{filled}
 use Rattle.byte_fields.specs.Fields.{record_at}
+use Rattle.minix_layout.specs.laws.Places.{slot_zero_stands, slot_one_stands, IsForm, narrow, wide, form_is, some_slots}
+use Rattle.minix_layout.specs.Widths.{IsWidth, of_14, of_30, slot_size, slots_a_block}
 use Rattle.minix_layout.specs.declared.division.Geometry.{Geometry}
 use Rattle.minix_layout.specs.declared.inode.Inode.{Inode}
 use Rattle.minix_layout.specs.declared.slot.Slot.{Slot}
@@ -45,17 +47,25 @@ use Rattle.volume_model.proofs.Nodes.{same_directory}
 dots_differ : codes "." ≡ codes ".." → ⊥
 dots_differ e = let n : length (codes ".") ≡ length (codes "..") = ap length e in omega arith
 
-dot_entry : IsEntry dot_slot
-dot_entry = record { used = omega arith; fits = omega arith; name = refl; no_slash = refl }
+dot_entry : (width : ℕ) → IsWidth width → IsEntry width dot_slot
+dot_entry width is = record { used = omega arith; fits = omega arith; name = refl; short = short width is; no_slash = refl }
+  where
+    short : (width : ℕ) → IsWidth width → 1 ≤ width
+    short width of_14 = omega arith
+    short width of_30 = omega arith
 
-dots_entry : IsEntry dots_slot
-dots_entry = record { used = omega arith; fits = omega arith; name = refl; no_slash = refl }
+dots_entry : (width : ℕ) → IsWidth width → IsEntry width dots_slot
+dots_entry width is = record { used = omega arith; fits = omega arith; name = refl; short = short width is; no_slash = refl }
+  where
+    short : (width : ℕ) → IsWidth width → 2 ≤ width
+    short width of_14 = omega arith
+    short width of_30 = omega arith
 
 abbrev two_slots : List (Option Slot)
 two_slots = Some dot_slot ∷ Some dots_slot ∷ []
 
-abbrev root_part : DirectoryPart
-root_part = record { parent = 0; names = []; slots = two_slots }
+abbrev root_part : ℕ → DirectoryPart
+root_part width = record { parent = 0; width = width; names = []; slots = two_slots }
 
 -- one of two slots
 two_by : (P : ℕ → Option Slot → Type 0) → P 0 (Some dot_slot) → P 1 (Some dots_slot) → (k : ℕ) (s : Option Slot) → slice_get two_slots k ≡ Some s → P k s
@@ -72,10 +82,10 @@ only_placed g b p at =
       | inr u ↦ absurd (none-some p (rw u at at))
     ]
 
-pub only_node : (b : ℕ) (n : Node) → at_number root_alone b ≡ Some n → (b ≡ 0) × (nodes.Directory root_directory ≡ n)
-only_node b n at =
+pub only_node : (width b : ℕ) (n : Node) → at_number (root_alone width) b ≡ Some n → (b ≡ 0) × (nodes.Directory (root_directory width) ≡ n)
+only_node width b n at =
     elim (cases_Bool (is_at (nat_cmp b) 0)) [
-      | inl t ↦ (number_same b 0 t, same_Some (nodes.Directory root_directory) n (rw t at at))
+      | inl t ↦ (number_same b 0 t, same_Some (nodes.Directory (root_directory width)) n (rw t at at))
       | inr u ↦ absurd (none-some n (rw u at at))
     ]
 
@@ -84,10 +94,10 @@ names_in (nodes.Directory d) = d.names
 names_in (nodes.File f) = []
 names_in (nodes.Other mode) = []
 
-pub no_name : (parent : ℕ) (name : List ℕ) (b : ℕ) → HasEntry root_alone parent name b → ⊥
+pub no_name : (width parent : ℕ) (name : List ℕ) (b : ℕ) → HasEntry (root_alone width) parent name b → ⊥
 unfolding names_in
-no_name parent name b gives =
-    let e : [] ≡ gives.directory.names = ap names_in (only_node parent (nodes.Directory gives.directory) gives.stands).1 in
+no_name width parent name b gives =
+    let e : [] ≡ gives.directory.names = ap names_in (only_node width parent (nodes.Directory gives.directory) gives.stands).1 in
     none-some b (ap (λ (names : List (List ℕ × ℕ)). at_name names name) e ∙ gives.named)
 
 module _ (g : Geometry) (sound : IsSound g) where
@@ -108,7 +118,11 @@ module _ (g : Geometry) (sound : IsSound g) where
   zones_fit (suc k) = subst (λ z. z < 2 ^ 16) (sym (no_number 8 k)) (omega arith)
 
   fits : FitInode root
-  fits = record { mode = omega arith; uid = omega arith; size = omega arith; time = omega arith; gid = omega arith; links = omega arith; nine = refl; zones = zones_fit }
+  fits = record { mode = omega arith; uid = omega arith; size = small (slot_size g.width) (slots_a_block g.width) (form_is g.width); time = omega arith; gid = omega arith; links = omega arith; nine = refl; zones = zones_fit }
+    where
+      small : (size per : ℕ) → IsForm size per → size * 2 < 2 ^ 32
+      small size per narrow = omega arith
+      small size per wide = omega arith
 
   blank_whole : IsWhole blank
   unfolding filled
@@ -120,12 +134,18 @@ module _ (g : Geometry) (sound : IsSound g) where
   first_changes : Changes g (λ j. j ≡ 1) (λ _. ⊥) blank with_inode
   first_changes = changes_inode g blank 1 root sound blank_whole blank_size (omega arith) sound.some_inode fits
 
+  zero_place : 0 < slots_a_block g.width
+  zero_place = let two = (some_slots (slot_size g.width) (slots_a_block g.width) (form_is g.width)).0 in omega arith
+
+  one_place : 1 < slots_a_block g.width
+  one_place = (some_slots (slot_size g.width) (slots_a_block g.width) (form_is g.width)).0
+
   second_changes : Changes g (λ _. ⊥) (λ b. b ≡ g.first) with_inode with_dot
-  second_changes = changes_slot g with_inode g.first 0 (Some dot_slot) sound first_changes.whole (first_changes.size ∙ blank_size) (omega arith) sound.some_zone (omega arith) dot_entry
+  second_changes = changes_slot g with_inode g.first 0 (Some dot_slot) sound first_changes.whole (first_changes.size ∙ blank_size) (omega arith) sound.some_zone zero_place (dot_entry g.width sound.width)
 
   third_changes : Changes g (λ _. ⊥) (λ b. b ≡ g.first) with_dot (new_blocks g)
   third_changes =
-      changes_slot g with_dot g.first 1 (Some dots_slot) sound second_changes.whole (second_changes.size ∙ (first_changes.size ∙ blank_size)) (omega arith) sound.some_zone (omega arith) dots_entry
+      changes_slot g with_dot g.first 1 (Some dots_slot) sound second_changes.whole (second_changes.size ∙ (first_changes.size ∙ blank_size)) (omega arith) sound.some_zone one_place (dots_entry g.width sound.width)
 
   size_is : length (new_blocks g) ≡ g.zones
   size_is = third_changes.size ∙ (second_changes.size ∙ (first_changes.size ∙ blank_size))
@@ -138,22 +158,22 @@ module _ (g : Geometry) (sound : IsSound g) where
       third_changes.inodes 1 (omega arith) sound.some_inode (λ n. n) ∙ (second_changes.inodes 1 (omega arith) sound.some_inode (λ n. n)
       ∙ inode_here g blank 1 root blank_whole (omega arith) fits)
 
-  first_slot : slot_of (record_at 16 0 (disk_of (new_blocks g) g.first)) ≡ Ok (Some dot_slot)
+  first_slot : slot_of g.width (record_at (slot_size g.width) 0 (disk_of (new_blocks g) g.first)) ≡ Ok (Some dot_slot)
   first_slot =
       let high = sound.some_zone in
       let size = first_changes.size in
       let more = second_changes.size in
       let blocks = blank_size in
-      slot_elsewhere g with_dot g.first 1 g.first 0 (Some dots_slot) second_changes.whole (omega arith) (omega arith) (omega arith) dots_entry (λ e same. (omega arith))
-      ∙ slot_here g with_inode g.first 0 (Some dot_slot) first_changes.whole (omega arith) (omega arith) dot_entry
+      slot_elsewhere g sound.width with_dot g.first 1 g.first 0 (Some dots_slot) second_changes.whole (omega arith) one_place zero_place (dots_entry g.width sound.width) (λ e same. (omega arith))
+      ∙ slot_here g sound.width with_inode g.first 0 (Some dot_slot) first_changes.whole (omega arith) zero_place (dot_entry g.width sound.width)
 
-  second_slot : slot_of (record_at 16 1 (disk_of (new_blocks g) g.first)) ≡ Ok (Some dots_slot)
+  second_slot : slot_of g.width (record_at (slot_size g.width) 1 (disk_of (new_blocks g) g.first)) ≡ Ok (Some dots_slot)
   second_slot =
       let high = sound.some_zone in
       let size = first_changes.size in
       let more = second_changes.size in
       let blocks = blank_size in
-      slot_here g with_dot g.first 1 (Some dots_slot) second_changes.whole (omega arith) (omega arith) dots_entry
+      slot_here g sound.width with_dot g.first 1 (Some dots_slot) second_changes.whole (omega arith) one_place (dots_entry g.width sound.width)
 
   -- ---- its zones
 
@@ -177,13 +197,23 @@ module _ (g : Geometry) (sound : IsSound g) where
   abbrev placed : List (ℕ × Placed)
   placed = (0, root_placed g) ∷ []
 
-  part_is : IsDirectoryPart (new_blocks g) root root_part
+  slot_stands : (k : ℕ) (s : Option Slot) → k / slots_a_block g.width ≡ 0 → k % slots_a_block g.width ≡ k →
+      slot_of g.width (record_at (slot_size g.width) k (disk_of (new_blocks g) g.first)) ≡ Ok s → HasSlot g (new_blocks g) root k s
+  slot_stands k s block_is place_is here = record {
+    mapped = λ none. own_some (ap (λ b. own (block b)) (sym block_is) ∙ none);
+    stands = ap (λ b. slot_of g.width (record_at (slot_size g.width) (k % slots_a_block g.width) (disk_of (new_blocks g) (own (block b))))) block_is
+        ∙ (ap (λ a. slot_of g.width (record_at (slot_size g.width) a (disk_of (new_blocks g) (own (block 0))))) place_is
+        ∙ (ap (λ z. slot_of g.width (record_at (slot_size g.width) k (disk_of (new_blocks g) z))) own_first ∙ here));
+  }
+
+  part_is : IsDirectoryPart g (new_blocks g) root (root_part g.width)
   part_is = record {
     kind = refl;
+    width = refl;
     size = refl;
-    slots = two_by (HasSlot (new_blocks g) root)
-        (record { mapped = own_some; stands = ap (λ z. slot_of (record_at 16 0 (disk_of (new_blocks g) z))) own_first ∙ first_slot })
-        (record { mapped = own_some; stands = ap (λ z. slot_of (record_at 16 1 (disk_of (new_blocks g) z))) own_first ∙ second_slot });
+    slots = two_by (HasSlot g (new_blocks g) root)
+        (slot_stands 0 (Some dot_slot) (slot_zero_stands (slot_size g.width) (slots_a_block g.width) (form_is g.width)).0 (slot_zero_stands (slot_size g.width) (slots_a_block g.width) (form_is g.width)).1 first_slot)
+        (slot_stands 1 (Some dots_slot) (slot_one_stands (slot_size g.width) (slots_a_block g.width) (form_is g.width)).0 (slot_one_stands (slot_size g.width) (slots_a_block g.width) (form_is g.width)).1 second_slot);
   }
 
   stored : IsStored g (new_blocks g) (root_placed g)
@@ -198,7 +228,7 @@ module _ (g : Geometry) (sound : IsSound g) where
     part = part_is;
   }
 
-  names_are : HasNames placed root_part
+  names_are : HasNames placed (root_part g.width)
   names_are = record {
     named = λ name b at. absurd (none-some b at);
     full = λ k s at no_dot.
@@ -215,8 +245,8 @@ module _ (g : Geometry) (sound : IsSound g) where
         j (Some s) at s refl same;
   }
 
-  part_of : (b : ℕ) (p : Placed) (d : DirectoryPart) → at_number placed b ≡ Some p → p.part ≡ parts.Directory d → root_part ≡ d
-  part_of b p d at is = same_directory root_part d (ap (λ (p : Placed). p.part) (only_placed g b p at).1 ∙ is)
+  part_of : (b : ℕ) (p : Placed) (d : DirectoryPart) → at_number placed b ≡ Some p → p.part ≡ parts.Directory d → root_part g.width ≡ d
+  part_of b p d at is = same_directory (root_part g.width) d (ap (λ (p : Placed). p.part) (only_placed g b p at).1 ∙ is)
 
   volume_of : IsVolumeOf g (new_blocks g) placed
   unfolding IsStrictlySortedBy
@@ -241,7 +271,7 @@ module _ (g : Geometry) (sound : IsSound g) where
 
   -- ---- its tree
 
-  tree_is : tree_now (new_blocks g) placed ≡ root_alone
+  tree_is : tree_now (new_blocks g) placed ≡ root_alone g.width
   unfolding tree_now
   tree_is = refl
 
@@ -250,25 +280,43 @@ module _ (g : Geometry) (sound : IsSound g) where
   parent_in (nodes.File f) = 0
   parent_in (nodes.Other mode) = 0
 
-  rooted : IsRooted root_alone
-  unfolding IsStrictlySortedBy names_in
+  width_in : Node → ℕ
+  width_in (nodes.Directory d) = d.width
+  width_in (nodes.File f) = 0
+  width_in (nodes.Other mode) = 0
+
+  rooted : IsRooted (root_alone g.width)
+  unfolding IsStrictlySortedBy names_in width_in
   rooted = record {
     in_order = (tt, tt);
-    names_in_order = λ b d at. subst (λ (names : List (List ℕ × ℕ)). IsStrictlySortedBy name_cmp (keys_of names)) (ap names_in (only_node b (nodes.Directory d) at).1) tt;
-    root = (root_directory, refl);
-    short = λ parent name b gives. absurd (no_name parent name b gives);
-    leads = λ parent name b gives. absurd (no_name parent name b gives);
-    no_root = λ parent name b gives. absurd (no_name parent name b gives);
-    one_name = λ parent other name more b d gives given at. absurd (no_name parent name b gives);
-    led_to = λ b n at. subst (IsLedTo root_alone) (sym (only_node b n at).0) at_root;
+    names_in_order = λ b d at. subst (λ (names : List (List ℕ × ℕ)). IsStrictlySortedBy name_cmp (keys_of names)) (ap names_in (only_node g.width b (nodes.Directory d) at).1) tt;
+    root = ((root_directory g.width), refl);
+    width = g.width;
+    of_width = λ b d at. sym (ap width_in (only_node g.width b (nodes.Directory d) at).1);
+    short = λ parent name b gives. absurd (no_name g.width parent name b gives);
+    leads = λ parent name b gives. absurd (no_name g.width parent name b gives);
+    no_root = λ parent name b gives. absurd (no_name g.width parent name b gives);
+    one_name = λ parent other name more b d gives given at. absurd (no_name g.width parent name b gives);
+    led_to = λ b n at. subst (IsLedTo (root_alone g.width)) (sym (only_node g.width b n at).0) at_root;
   }
 
-  slot_zones : HasSlotZones (new_blocks g) root 2
+  slot_zones : HasSlotZones g (new_blocks g) root 2
   slot_zones = record {
-    few = omega arith;
-    no_hole = λ index low. (let zero_is : index ≡ 0 = omega arith in subst (λ k. own (block k) ≢ 0) (sym zero_is) own_some);
-    no_more = λ index some. (let same = first_index index (first_of (block index) some) in omega arith);
+    few = few_by (slot_size g.width) (slots_a_block g.width) (form_is g.width);
+    no_hole = λ index low. (let zero_is : index ≡ 0 = zero_by (slot_size g.width) (slots_a_block g.width) (form_is g.width) index low in subst (λ k. own (block k) ≢ 0) (sym zero_is) own_some);
+    no_more = λ index some. (let same = first_index index (first_of (block index) some) in less_by (slot_size g.width) (slots_a_block g.width) index same);
   }
+    where
+      few_by : (size per : ℕ) → IsForm size per → 2 ≤ 519 * per
+      few_by size per narrow = omega arith
+      few_by size per wide = omega arith
+
+      zero_by : (size per : ℕ) → IsForm size per → (index : ℕ) → per * index < 2 → index ≡ 0
+      zero_by size per narrow index low = omega arith
+      zero_by size per wide index low = omega arith
+
+      less_by : (size per index : ℕ) → index ≡ 0 → per * index < 2
+      less_by size per index zero_is = rw zero_is (omega arith)
 
   dots : HasDots two_slots 1 1
   dots = record {
@@ -283,17 +331,17 @@ module _ (g : Geometry) (sound : IsSound g) where
     volume = volume;
     rooted = subst IsRooted (sym tree_is) rooted;
     root_number = λ p at. sym (ap (λ (p : Placed). p.number) (only_placed g 0 p at).1);
-    root_parent = λ d at. sym (ap parent_in (only_node 0 (nodes.Directory d) (subst (λ t. at_number t 0 ≡ Some (nodes.Directory d)) tree_is at)).1);
-    parents = λ parent name b d gives at. absurd (no_name parent name b (subst (λ t. HasEntry t parent name b) tree_is gives));
-    sizes = λ b p zones at is. absurd (let e : parts.Directory root_part ≡ parts.File zones = ap (λ (p : Placed). p.part) (only_placed g b p at).1 ∙ is in cc);
+    root_parent = λ d at. sym (ap parent_in (only_node g.width 0 (nodes.Directory d) (subst (λ t. at_number t 0 ≡ Some (nodes.Directory d)) tree_is at)).1);
+    parents = λ parent name b d gives at. absurd (no_name g.width parent name b (subst (λ t. HasEntry t parent name b) tree_is gives));
+    sizes = λ b p zones at is. absurd (let e : parts.Directory (root_part g.width) ≡ parts.File zones = ap (λ (p : Placed). p.part) (only_placed g b p at).1 ∙ is in cc);
     dots = λ b p d at is.
         subst (λ (d : DirectoryPart). (q : Placed) × (at_number placed d.parent ≡ Some q) × HasDots d.slots p.number q.number) (part_of b p d at is)
         (root_placed g, refl, subst (λ (p : Placed). HasDots two_slots p.number 1) (only_placed g b p at).1 dots);
     slot_zones = λ b p d at is.
-        subst (λ (d : DirectoryPart). HasSlotZones (new_blocks g) p.inode (length d.slots)) (part_of b p d at is)
-        (subst (λ (p : Placed). HasSlotZones (new_blocks g) p.inode 2) (only_placed g b p at).1 slot_zones);
+        subst (λ (d : DirectoryPart). HasSlotZones g (new_blocks g) p.inode (length d.slots)) (part_of b p d at is)
+        (subst (λ (p : Placed). HasSlotZones g (new_blocks g) p.inode 2) (only_placed g b p at).1 slot_zones);
     directory_links_are = λ b p d at is.
         ap (λ (p : Placed). p.inode.links) (sym (only_placed g b p at).1) ∙ ap (λ (d : DirectoryPart). directory_links (tree_now (new_blocks g) placed) (directory_from d)) (part_of b p d at is);
-    file_links_are = λ b p zones at is. absurd (let e : parts.Directory root_part ≡ parts.File zones = ap (λ (p : Placed). p.part) (only_placed g b p at).1 ∙ is in cc);
+    file_links_are = λ b p zones at is. absurd (let e : parts.Directory (root_part g.width) ≡ parts.File zones = ap (λ (p : Placed). p.part) (only_placed g b p at).1 ∙ is in cc);
     few_links = λ b p at. subst (λ (p : Placed). p.inode.links ≤ 250) (only_placed g b p at).1 (omega arith);
   }

@@ -7,6 +7,8 @@ use Rattle.std.proofs.Common.{sym, ap, subst, ◌∙◌, inl, inr, arith}
 use Rattle.std.proofs.lemmas.Bool.{cases_Bool, eqb-true, ne_eqb}
 use Rattle.std.proofs.lemmas.Option.{none-some, same_Some}
 use Rattle.blk_base.specs.laws.Members.{slice_get-in_range}
+use Rattle.minix_layout.specs.laws.Places.{form_is, bytes_of_slots, bytes_few, whole_slots}
+use Rattle.minix_layout.specs.Widths.{slot_size, slots_a_block}
 use Rattle.minix_layout.specs.declared.division.Geometry.{Geometry}
 use Rattle.minix_layout.specs.declared.inode.Inode.{Inode}
 use Rattle.minix_layout.specs.declared.slot.Slot.{Slot}
@@ -38,18 +40,18 @@ pub no_directory_file : (mode : ℕ) → is_directory mode ≡ true → is_file 
 no_directory_file mode d f = let four = eqb-true (mode / 4096) 4 d in let eight = eqb-true (mode / 4096) 8 f in omega arith
 
 -- an inode of a directory has the part of one
-pub as_directory : (blocks : List (List ℕ)) (i : Inode) (part : Part) → IsPart blocks i part → is_directory i.mode ≡ true → (d : DirectoryPart) × (part ≡ parts.Directory d) × IsDirectoryPart blocks i d
-as_directory blocks i (parts.Directory d) h kind = (d, refl, h)
-as_directory blocks i (parts.File zones) h kind = absurd (no_directory_file i.mode kind h.kind)
+pub as_directory : (g : Geometry) (blocks : List (List ℕ)) (i : Inode) (part : Part) → IsPart g blocks i part → is_directory i.mode ≡ true → (d : DirectoryPart) × (part ≡ parts.Directory d) × IsDirectoryPart g blocks i d
+as_directory g blocks i (parts.Directory d) h kind = (d, refl, h)
+as_directory g blocks i (parts.File zones) h kind = absurd (no_directory_file i.mode kind h.kind)
 
-pub as_file : (blocks : List (List ℕ)) (i : Inode) (part : Part) → IsPart blocks i part → is_file i.mode ≡ true → (zones : List Mapped) × (part ≡ parts.File zones) × IsFilePart blocks i zones
-as_file blocks i (parts.Directory d) h kind = absurd (no_directory_file i.mode h.kind kind)
-as_file blocks i (parts.File zones) h kind = (zones, refl, h)
+pub as_file : (g : Geometry) (blocks : List (List ℕ)) (i : Inode) (part : Part) → IsPart g blocks i part → is_file i.mode ≡ true → (zones : List Mapped) × (part ≡ parts.File zones) × IsFilePart blocks i zones
+as_file g blocks i (parts.Directory d) h kind = absurd (no_directory_file i.mode h.kind kind)
+as_file g blocks i (parts.File zones) h kind = (zones, refl, h)
 
 -- a node is a directory or a file
-pub kind_of : (blocks : List (List ℕ)) (i : Inode) (part : Part) → IsPart blocks i part → (is_directory i.mode ≡ true) ⊎ (is_file i.mode ≡ true)
-kind_of blocks i (parts.Directory d) h = inl h.kind
-kind_of blocks i (parts.File zones) h = inr h.kind
+pub kind_of : (g : Geometry) (blocks : List (List ℕ)) (i : Inode) (part : Part) → IsPart g blocks i part → (is_directory i.mode ≡ true) ⊎ (is_file i.mode ≡ true)
+kind_of g blocks i (parts.Directory d) h = inl h.kind
+kind_of g blocks i (parts.File zones) h = inr h.kind
 
 abbrev part_directory : Part → DirectoryPart → DirectoryPart
 part_directory (parts.Directory d) e = d
@@ -59,14 +61,15 @@ pub same_directory : (d e : DirectoryPart) → parts.Directory d ≡ parts.Direc
 same_directory d e same = ap (λ part. part_directory part d) same
 
 -- slots are read as they stand
-pub slot_read : (blocks : List (List ℕ)) (i : Inode) (d : DirectoryPart) → IsDirectoryPart blocks i d → (k : ℕ) (s : Option Slot) → slice_get d.slots k ≡ Some s → slot_behind blocks i k ≡ Ok s
-slot_read blocks i d part k s at = let x = part.slots k s at in rw (ne_eqb _ _ x.mapped) x.stands
+pub slot_read : (g : Geometry) (blocks : List (List ℕ)) (i : Inode) (d : DirectoryPart) → IsDirectoryPart g blocks i d → (k : ℕ) (s : Option Slot) → slice_get d.slots k ≡ Some s → slot_behind g blocks i k ≡ Ok s
+slot_read g blocks i d part k s at = let x = part.slots k s at in rw (ne_eqb _ _ x.mapped) x.stands
 
-pub entry_got : (blocks : List (List ℕ)) (i : Inode) (d : DirectoryPart) → IsDirectoryPart blocks i d → (place : ℕ) (slot : Slot) → IsEntryAt blocks i place slot → slice_get d.slots place ≡ Some (Some slot)
-entry_got blocks i d part place slot e =
-    let low : place < length d.slots = (let size = part.size in let below = e.below in omega arith) in
+pub entry_got : (g : Geometry) (blocks : List (List ℕ)) (i : Inode) (d : DirectoryPart) → IsDirectoryPart g blocks i d → (place : ℕ) (slot : Slot) → IsEntryAt g blocks i place slot → slice_get d.slots place ≡ Some (Some slot)
+entry_got g blocks i d part place slot e =
+    let many : i.size / slot_size g.width ≡ length d.slots = ap (λ n. n / slot_size g.width) part.size ∙ bytes_of_slots (slot_size g.width) (slots_a_block g.width) (form_is g.width) (length d.slots) in
+    let low : place < length d.slots = (let below = e.below in omega arith) in
     let x = slice_get-in_range d.slots place low in
-    x.1 ∙ ap Some (same_Ok x.0 (Some slot) (sym (slot_read blocks i d part place x.0 x.1) ∙ e.stands))
+    x.1 ∙ ap Some (same_Ok x.0 (Some slot) (sym (slot_read g blocks i d part place x.0 x.1) ∙ e.stands))
 
 -- ---- the tree of a volume at a birth
 
@@ -138,19 +141,19 @@ module _ (g : Geometry) (v : Contents) (h : IsPlainContents g v) where
   pub inode_is : {n : ℕ} (x : HasNode v.nodes n) → inode_at g v.blocks n ≡ x.node.inode
   inode_is {n} x = ap (inode_at g v.blocks) (sym x.number_is) ∙ (stored x.birth x.node x.stands).inode
 
-  pub directory_at : {n : ℕ} (x : HasNode v.nodes n) → IsDirectory g v.blocks n → (d : DirectoryPart) × (x.node.part ≡ parts.Directory d) × IsDirectoryPart v.blocks x.node.inode d
+  pub directory_at : {n : ℕ} (x : HasNode v.nodes n) → IsDirectory g v.blocks n → (d : DirectoryPart) × (x.node.part ≡ parts.Directory d) × IsDirectoryPart g v.blocks x.node.inode d
   directory_at {n} x kind =
-      as_directory v.blocks x.node.inode x.node.part (stored x.birth x.node x.stands).part (subst (λ (i : Inode). is_directory i.mode ≡ true) (inode_is x) kind)
+      as_directory g v.blocks x.node.inode x.node.part (stored x.birth x.node x.stands).part (subst (λ (i : Inode). is_directory i.mode ≡ true) (inode_is x) kind)
 
   pub file_at : {n : ℕ} (x : HasNode v.nodes n) → IsFile g v.blocks n → (zones : List Mapped) × (x.node.part ≡ parts.File zones) × IsFilePart v.blocks x.node.inode zones
   file_at {n} x kind =
-      as_file v.blocks x.node.inode x.node.part (stored x.birth x.node x.stands).part (subst (λ (i : Inode). is_file i.mode ≡ true) (inode_is x) kind)
+      as_file g v.blocks x.node.inode x.node.part (stored x.birth x.node x.stands).part (subst (λ (i : Inode). is_file i.mode ≡ true) (inode_is x) kind)
 
   pub names_node : {n : ℕ} (x : HasNode v.nodes n) (place : ℕ) (slot : Slot) → NamesAt g v.blocks n place slot → NamesNode v.nodes x.node place slot
   names_node {n} x place slot m =
       let d = directory_at x m.directory in
-      let entry : IsEntryAt v.blocks x.node.inode place slot = subst (λ i. IsEntryAt v.blocks i place slot) (inode_is x) m.entry in
-      let got = entry_got v.blocks x.node.inode d.0 d.2 place slot entry in
+      let entry : IsEntryAt g v.blocks x.node.inode place slot = subst (λ i. IsEntryAt g v.blocks i place slot) (inode_is x) m.entry in
+      let got = entry_got g v.blocks x.node.inode d.0 d.2 place slot entry in
       let full = (h.volume.0.names x.birth x.node d.0 x.stands d.1).full place slot got entry.no_dot in
       record { part = d.0; part_is = d.1; got = got; birth = full.0; named = full.1; leads = full.2 }
 
@@ -186,7 +189,7 @@ module _ (g : Geometry) (v : Contents) (h : IsPlainContents g v) where
   size_fits : {n : ℕ} (x : HasNode v.nodes n) → HasZones g v.blocks n → (inode_at g v.blocks n).size ≤ largest_size
   size_fits x (inl kind) =
       let d = directory_at x kind in
-      let few = (h.slot_zones x.birth x.node d.0 x.stands d.1).few in
+      let few = bytes_few (slot_size g.width) (slots_a_block g.width) (form_is g.width) (length d.0.slots) (h.slot_zones x.birth x.node d.0 x.stands d.1).few in
       let size = d.2.size in
       let there : (inode_at g v.blocks _).size ≡ x.node.inode.size = ap (λ (i : Inode). i.size) (inode_is x) in
       omega arith
@@ -194,18 +197,18 @@ module _ (g : Geometry) (v : Contents) (h : IsPlainContents g v) where
       let f = file_at x kind in
       subst (λ (i : Inode). i.size ≤ largest_size) (sym (inode_is x)) (h.sizes x.birth x.node f.0 x.stands f.1)
 
-  slots_are_whole : {n : ℕ} (x : HasNode v.nodes n) → IsDirectory g v.blocks n → (inode_at g v.blocks n).size % 16 ≡ 0
+  slots_are_whole : {n : ℕ} (x : HasNode v.nodes n) → IsDirectory g v.blocks n → (inode_at g v.blocks n).size % slot_size g.width ≡ 0
   slots_are_whole x kind =
       let size = (directory_at x kind).2.size in
-      subst (λ (i : Inode). i.size % 16 ≡ 0) (sym (inode_is x)) (omega arith)
+      subst (λ (i : Inode). i.size % slot_size g.width ≡ 0) (sym (inode_is x)) (ap (λ n. n % slot_size g.width) size ∙ whole_slots (slot_size g.width) (slots_a_block g.width) (form_is g.width) _)
 
-  slot_is_read : {n : ℕ} (x : HasNode v.nodes n) → IsDirectory g v.blocks n → (place : ℕ) → place < slots_of g v.blocks n → (slot : Option Slot) × (slot_behind v.blocks (inode_at g v.blocks n) place ≡ Ok slot)
+  slot_is_read : {n : ℕ} (x : HasNode v.nodes n) → IsDirectory g v.blocks n → (place : ℕ) → place < slots_of g v.blocks n → (slot : Option Slot) × (slot_behind g v.blocks (inode_at g v.blocks n) place ≡ Ok slot)
   slot_is_read {n} x kind place low =
       let d = directory_at x kind in
-      let below : place < x.node.inode.size / 16 = subst (λ (i : Inode). place < i.size / 16) (inode_is x) low in
-      let size = d.2.size in
+      let below : place < x.node.inode.size / slot_size g.width = subst (λ (i : Inode). place < i.size / slot_size g.width) (inode_is x) low in
+      let many : x.node.inode.size / slot_size g.width ≡ length d.0.slots = ap (λ n. n / slot_size g.width) d.2.size ∙ bytes_of_slots (slot_size g.width) (slots_a_block g.width) (form_is g.width) (length d.0.slots) in
       let y = slice_get-in_range d.0.slots place (omega arith) in
-      (y.0, ap (λ i. slot_behind v.blocks i place) (inode_is x) ∙ slot_read v.blocks x.node.inode d.0 d.2 place y.0 y.1)
+      (y.0, ap (λ i. slot_behind g v.blocks i place) (inode_is x) ∙ slot_read g v.blocks x.node.inode d.0 d.2 place y.0 y.1)
 
   -- a node that two slots name by one name has them in one place
   one_slot : {m n : ℕ} (x : HasNode v.nodes m) (y : HasNode v.nodes n) (place other : ℕ) (slot more : Slot) (a : NamesNode v.nodes x.node place slot) (b : NamesNode v.nodes y.node other more) →
@@ -232,7 +235,7 @@ module _ (g : Geometry) (v : Contents) (h : IsPlainContents g v) where
   faultless = record {
     root = λ r.
         let x = root_placing in
-        subst (λ (i : Inode). is_directory i.mode ≡ true) (sym (inode_is root_node)) (subst (IsPart v.blocks x.node.inode) x.part_is (stored 0 x.node x.stands).part).kind;
+        subst (λ (i : Inode). is_directory i.mode ≡ true) (sym (inode_is root_node)) (subst (IsPart g v.blocks x.node.inode) x.part_is (stored 0 x.node x.stands).part).kind;
     size = λ n r kind. size_fits (reached_node r) kind;
     whole_slots = λ n r kind. slots_are_whole (reached_node r) kind;
     zone_within = λ n place r kind some.

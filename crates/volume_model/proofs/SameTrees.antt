@@ -1,5 +1,5 @@
 -- The tree of a plain volume that changes is that of its image but for the births, and the image is plain.
-use Rattle.std.specs.Prelude.{◌≡◌, ◌≢◌, ℕ, ◌+◌, ◌==◌, Bool, cond, true, false, ◌<◌, ◌≤◌, List, [], ◌∷◌, length, map, Option, Some, None, Result, Ok, Err, IsOk, refl}
+use Rattle.std.specs.Prelude.{◌/◌, ◌≡◌, ◌≢◌, ℕ, ◌+◌, ◌==◌, Bool, cond, true, false, ◌<◌, ◌≤◌, List, [], ◌∷◌, length, map, Option, Some, None, Result, Ok, Err, IsOk, refl}
 use Rattle.std.specs.List.{count_by}
 use Rattle.std.specs.List.Sorted.{IsStrictlySortedBy}
 use Rattle.std.specs.BTreeMap.{is_at}
@@ -12,6 +12,8 @@ use Rattle.std.proofs.lemmas.List.Sums.{sum_by-cons}
 use Rattle.std.proofs.lemmas.Option.{none-some, same_Some}
 use Rattle.blk_base.specs.Members.{In}
 use Rattle.blk_base.specs.laws.Members.{slice_get-length, slice_get-in_range, same_by_slice_get}
+use Rattle.minix_layout.specs.laws.Places.{form_is, bytes_of_slots}
+use Rattle.minix_layout.specs.Widths.{slot_size, slots_a_block}
 use Rattle.minix_layout.specs.declared.division.Geometry.{Geometry}
 use Rattle.minix_layout.specs.declared.inode.Inode.{Inode}
 use Rattle.tree_model.specs.declared.node.Node.{Node}
@@ -141,32 +143,33 @@ module _ (blocks : List (List ℕ)) (i : Inode) where
   FilesInOrder (nodes.File f) = InOrder f.blocks
   FilesInOrder other = Unit {0}
 
-  same_metadata : (part : Part) (m : Node) → IsPart blocks i part → IsNodeOf blocks i m → FilesInOrder m → SameMetadata (node_from blocks i part) m
-  same_metadata (parts.Directory d) (nodes.Directory e) part of ordered = let size = part.size in let slots = of.slots in omega arith
-  same_metadata (parts.Directory d) (nodes.File f) part of ordered = absurd (no_directory_file i.mode part.kind of.kind)
-  same_metadata (parts.Directory d) (nodes.Other mode) part of ordered = absurd (true≢false (sym part.kind ∙ of.no_directory))
-  same_metadata (parts.File zones) (nodes.File f) part of ordered = (sym of.size, sym of.links, ap keys_of (same_blocks zones f part of ordered))
-  same_metadata (parts.File zones) (nodes.Directory d) part of ordered = absurd (no_directory_file i.mode of.kind part.kind)
-  same_metadata (parts.File zones) (nodes.Other mode) part of ordered = absurd (true≢false (sym part.kind ∙ of.no_file))
+  module _ (g : Geometry) where
+    same_metadata : (part : Part) (m : Node) → IsPart g blocks i part → IsNodeOf g blocks i m → FilesInOrder m → SameMetadata (node_from blocks i part) m
+    same_metadata (parts.Directory d) (nodes.Directory e) part of ordered = sym (bytes_of_slots (slot_size g.width) (slots_a_block g.width) (form_is g.width) (length d.slots)) ∙ (ap (λ n. n / slot_size g.width) (sym part.size) ∙ sym of.slots)
+    same_metadata (parts.Directory d) (nodes.File f) part of ordered = absurd (no_directory_file i.mode part.kind of.kind)
+    same_metadata (parts.Directory d) (nodes.Other mode) part of ordered = absurd (true≢false (sym part.kind ∙ of.no_directory))
+    same_metadata (parts.File zones) (nodes.File f) part of ordered = (sym of.size, sym of.links, ap keys_of (same_blocks zones f part of ordered))
+    same_metadata (parts.File zones) (nodes.Directory d) part of ordered = absurd (no_directory_file i.mode of.kind part.kind)
+    same_metadata (parts.File zones) (nodes.Other mode) part of ordered = absurd (true≢false (sym part.kind ∙ of.no_file))
 
-  same_bytes : (part : Part) (m : Node) → IsPart blocks i part → IsNodeOf blocks i m → FilesInOrder m → SameBytes (Some (node_from blocks i part)) (Some m)
-  same_bytes (parts.File zones) (nodes.File f) part of ordered = same_blocks zones f part of ordered
-  same_bytes (parts.File zones) (nodes.Directory d) part of ordered = tt
-  same_bytes (parts.File zones) (nodes.Other mode) part of ordered = tt
-  same_bytes (parts.Directory d) m part of ordered = tt
+    same_bytes : (part : Part) (m : Node) → IsPart g blocks i part → IsNodeOf g blocks i m → FilesInOrder m → SameBytes (Some (node_from blocks i part)) (Some m)
+    same_bytes (parts.File zones) (nodes.File f) part of ordered = same_blocks zones f part of ordered
+    same_bytes (parts.File zones) (nodes.Directory d) part of ordered = tt
+    same_bytes (parts.File zones) (nodes.Other mode) part of ordered = tt
+    same_bytes (parts.Directory d) m part of ordered = tt
 
-  same_kind : (part : Part) (m : Node) → IsPart blocks i part → IsNodeOf blocks i m → is_directory (Some (node_from blocks i part)) ≡ is_directory (Some m)
-  same_kind (parts.Directory d) (nodes.Directory e) part of = refl
-  same_kind (parts.Directory d) (nodes.File f) part of = absurd (no_directory_file i.mode part.kind of.kind)
-  same_kind (parts.Directory d) (nodes.Other mode) part of = absurd (true≢false (sym part.kind ∙ of.no_directory))
-  same_kind (parts.File zones) (nodes.File f) part of = refl
-  same_kind (parts.File zones) (nodes.Directory d) part of = absurd (no_directory_file i.mode of.kind part.kind)
-  same_kind (parts.File zones) (nodes.Other mode) part of = refl
+    same_kind : (part : Part) (m : Node) → IsPart g blocks i part → IsNodeOf g blocks i m → is_directory (Some (node_from blocks i part)) ≡ is_directory (Some m)
+    same_kind (parts.Directory d) (nodes.Directory e) part of = refl
+    same_kind (parts.Directory d) (nodes.File f) part of = absurd (no_directory_file i.mode part.kind of.kind)
+    same_kind (parts.Directory d) (nodes.Other mode) part of = absurd (true≢false (sym part.kind ∙ of.no_directory))
+    same_kind (parts.File zones) (nodes.File f) part of = refl
+    same_kind (parts.File zones) (nodes.Directory d) part of = absurd (no_directory_file i.mode of.kind part.kind)
+    same_kind (parts.File zones) (nodes.Other mode) part of = refl
 
-  directory_node : (m : Node) → IsNodeOf blocks i m → is_directory_mode i.mode ≡ true → (e : Directory) × (m ≡ nodes.Directory e) × IsDirectoryOf blocks i e
-  directory_node (nodes.Directory e) of kind = (e, refl, of)
-  directory_node (nodes.File f) of kind = absurd (no_directory_file i.mode kind of.kind)
-  directory_node (nodes.Other mode) of kind = absurd (true≢false (sym kind ∙ of.no_directory))
+    directory_node : (m : Node) → IsNodeOf g blocks i m → is_directory_mode i.mode ≡ true → (e : Directory) × (m ≡ nodes.Directory e) × IsDirectoryOf g blocks i e
+    directory_node (nodes.Directory e) of kind = (e, refl, of)
+    directory_node (nodes.File f) of kind = absurd (no_directory_file i.mode kind of.kind)
+    directory_node (nodes.Other mode) of kind = absurd (true≢false (sym kind ∙ of.no_directory))
 
 -- ---- from births to births by inode numbers
 
@@ -200,8 +203,8 @@ module _ (g : Geometry) (v : Contents) (h : IsPlainContents g v) (t : List (ℕ 
       let x = root_placing g v h in
       to_is 0 x.node x.stands ∙ ap birth_of (h.root_number x.node x.stands)
 
-  says : (b : ℕ) (p : Placed) (m : Node) → at_number v.nodes b ≡ Some p → at_number t (to b) ≡ Some m → IsNodeOf v.blocks p.inode m
-  says b p m at e = subst (λ i. IsNodeOf v.blocks i m) (ap (inode_at g v.blocks) (to_number b p at) ∙ (stored g v h b p at).inode) (k.fields.each (to b) m e)
+  says : (b : ℕ) (p : Placed) (m : Node) → at_number v.nodes b ≡ Some p → at_number t (to b) ≡ Some m → IsNodeOf g v.blocks p.inode m
+  says b p m at e = subst (λ i. IsNodeOf g v.blocks i m) (ap (inode_at g v.blocks) (to_number b p at) ∙ (stored g v h b p at).inode) (k.fields.each (to b) m e)
 
   -- a node that stands in both trees
   record InBoth (b : ℕ) : Type 0 where
@@ -215,15 +218,15 @@ module _ (g : Geometry) (v : Contents) (h : IsPlainContents g v) (t : List (ℕ 
       let x = placing v.blocks v.nodes b gives.directory gives.stands in
       let named : at_name x.part.names name ≡ Some c = ap (λ (d : Directory). at_name d.names name) x.same ∙ gives.named in
       let n = (h.volume.0.names b x.node x.part x.stands x.part_is).named name c named in
-      let part : IsDirectoryPart v.blocks x.node.inode x.part = subst (IsPart v.blocks x.node.inode) x.part_is (stored g v h b x.node x.stands).part in
-      let m = directory_node v.blocks x.node.inode both.other (says b x.node both.other x.stands both.there) part.kind in
+      let part : IsDirectoryPart g v.blocks x.node.inode x.part = subst (IsPart g v.blocks x.node.inode) x.part_is (stored g v h b x.node x.stands).part in
+      let m = directory_node v.blocks x.node.inode g both.other (says b x.node both.other x.stands both.there) part.kind in
       let low = slice_get-length x.part.slots n.place (Some n.slot) n.stands in
-      let size = part.size in
-      let has : HasName v.blocks x.node.inode name (to c) = record {
+      let many : x.node.inode.size / slot_size g.width ≡ length x.part.slots = ap (λ n. n / slot_size g.width) part.size ∙ bytes_of_slots (slot_size g.width) (slots_a_block g.width) (form_is g.width) (length x.part.slots) in
+      let has : HasName g v.blocks x.node.inode name (to c) = record {
         place = n.place;
         slot = n.slot;
         below = omega arith;
-        stands = slot_read v.blocks x.node.inode x.part part n.place (Some n.slot) n.stands;
+        stands = slot_read g v.blocks x.node.inode x.part part n.place (Some n.slot) n.stands;
         name_is = n.name_is;
         no_dot = n.no_dot;
         birth_is = ap birth_of (sym n.number.2) ∙ sym (to_is c n.number.0 n.number.1);
@@ -232,11 +235,11 @@ module _ (g : Geometry) (v : Contents) (h : IsPlainContents g v) (t : List (ℕ 
 
   gives_here : (b c : ℕ) (name : List ℕ) → InBoth b → HasEntry t (to b) name c → (d : ℕ) × HasEntry now b name d × (to d ≡ c)
   gives_here b c name both gives =
-      let of : IsDirectoryOf v.blocks both.node.inode gives.directory = says b both.node (nodes.Directory gives.directory) both.stands gives.stands in
-      let d = as_directory v.blocks both.node.inode both.node.part (stored g v h b both.node both.stands).part of.kind in
+      let of : IsDirectoryOf g v.blocks both.node.inode gives.directory = says b both.node (nodes.Directory gives.directory) both.stands gives.stands in
+      let d = as_directory g v.blocks both.node.inode both.node.part (stored g v h b both.node both.stands).part of.kind in
       let n = (of.names name c).0 gives.named in
       let no_dot : is_dot n.slot.name ≡ false = subst (λ name. is_dot name ≡ false) (sym n.name_is) n.no_dot in
-      let got = entry_got v.blocks both.node.inode d.0 d.2 n.place n.slot (record { below = n.below; stands = n.stands; no_dot = no_dot }) in
+      let got = entry_got g v.blocks both.node.inode d.0 d.2 n.place n.slot (record { below = n.below; stands = n.stands; no_dot = no_dot }) in
       let full = (h.volume.0.names b both.node d.0 both.stands d.1).full n.place n.slot got no_dot in (
         full.0,
         record {
@@ -294,18 +297,18 @@ module _ (g : Geometry) (v : Contents) (h : IsPlainContents g v) (t : List (ℕ 
   metadata_at : (b : ℕ) → InBoth b → SameMetadataAt (at_number now b) (at_number t (to b))
   metadata_at b x =
       by_both SameMetadataAt b x
-      (same_metadata v.blocks x.node.inode x.node.part x.other (stored g v h b x.node x.stands).part (says b x.node x.other x.stands x.there) (ordered_at (to b) x.other x.node.inode x.there))
+      (same_metadata v.blocks x.node.inode g x.node.part x.other (stored g v h b x.node x.stands).part (says b x.node x.other x.stands x.there) (ordered_at (to b) x.other x.node.inode x.there))
 
   bytes_at : (b : ℕ) → InBoth b → SameBytes (at_number now b) (at_number t (to b))
   bytes_at b x =
       by_both SameBytes b x
-      (same_bytes v.blocks x.node.inode x.node.part x.other (stored g v h b x.node x.stands).part (says b x.node x.other x.stands x.there) (ordered_at (to b) x.other x.node.inode x.there))
+      (same_bytes v.blocks x.node.inode g x.node.part x.other (stored g v h b x.node x.stands).part (says b x.node x.other x.stands x.there) (ordered_at (to b) x.other x.node.inode x.there))
 
   none_at_one : (o : Option Node) → at_number t 1 ≡ o → at_number t 1 ≡ None
   none_at_one None e = e
   none_at_one (Some n) e =
       let x = k.fields.has_name 1 n e (omega arith) in
-      let of : IsDirectoryOf v.blocks (inode_at g v.blocks (inode_of_birth x.0)) x.2.directory = k.fields.each x.0 (nodes.Directory x.2.directory) x.2.stands in
+      let of : IsDirectoryOf g v.blocks (inode_at g v.blocks (inode_of_birth x.0)) x.2.directory = k.fields.each x.0 (nodes.Directory x.2.directory) x.2.stands in
       let name = (of.names x.1 1).0 x.2.named in
       absurd (no_birth_one name.slot.inode name.birth_is)
 
@@ -320,7 +323,7 @@ module _ (g : Geometry) (v : Contents) (h : IsPlainContents g v) (t : List (ℕ 
   kind_by (Some p) b at =
       let x = both_at b p at in
       by_both (λ n m. is_directory n ≡ is_directory m) b x
-      (same_kind v.blocks x.node.inode x.node.part x.other (stored g v h b x.node x.stands).part (says b x.node x.other x.stands x.there))
+      (same_kind v.blocks x.node.inode g x.node.part x.other (stored g v h b x.node x.stands).part (says b x.node x.other x.stands x.there))
 
   -- a directory has the same names, each for the node that it goes to
   names_there : (b : ℕ) (c e : Directory) → InBoth b → at_number now b ≡ Some (nodes.Directory c) → at_number t (to b) ≡ Some (nodes.Directory e) → seen to c.names ≡ e.names
@@ -406,7 +409,7 @@ module _ (g : Geometry) (v : Contents) (h : IsPlainContents g v) (t : List (ℕ 
       ∙ (ap (λ n. cond (q (to e.1)) 1 0 + n) (count_values q es) ∙ sym (sum_by-cons (λ b. cond (q (to b)) 1 0) e.1 (values_of es)))
 
   module _ (c : ℕ) (q : Placed) (at : at_number v.nodes c ≡ Some q) where
-    names_by : (b : ℕ) (i : Inode) (part : Part) (m : Node) → IsPart v.blocks i part → IsNodeOf v.blocks i m → InBoth b → at_number now b ≡ Some (node_from v.blocks i part) →
+    names_by : (b : ℕ) (i : Inode) (part : Part) (m : Node) → IsPart g v.blocks i part → IsNodeOf g v.blocks i m → InBoth b → at_number now b ≡ Some (node_from v.blocks i part) →
         at_number t (to b) ≡ Some m → names_in_node c (node_from v.blocks i part) ≡ names_in_node (to c) m
     names_by b i (parts.Directory d) (nodes.Directory e) part of both here there =
         count_by_same (λ b. b == c) (λ b. to b == to c) (values_of d.names) (λ b. same_test b c q at)
@@ -430,7 +433,7 @@ module _ (g : Geometry) (v : Contents) (h : IsPlainContents g v) (t : List (ℕ 
     pub goes : to birth ≡ b
     pub number_is : inode_of_birth b ≡ node.number
     pub inode_is : inode_born g v.blocks b ≡ node.inode
-    pub of : IsNodeOf v.blocks node.inode n
+    pub of : IsNodeOf g v.blocks node.inode n
 
   from_node : (b : ℕ) (n : Node) → at_number t b ≡ Some n → FromNode b n
   from_node b n at =
@@ -446,7 +449,7 @@ module _ (g : Geometry) (v : Contents) (h : IsPlainContents g v) (t : List (ℕ 
         goes = goes;
         number_is = number;
         inode_is = inode;
-        of = subst (λ i. IsNodeOf v.blocks i n) inode (k.fields.each b n at);
+        of = subst (λ i. IsNodeOf g v.blocks i n) inode (k.fields.each b n at);
       }
 
   -- names lead to each node's inode
@@ -474,19 +477,19 @@ module _ (g : Geometry) (v : Contents) (h : IsPlainContents g v) (t : List (ℕ 
 
   -- ---- the image is plain
 
-  no_other_part : (i : Inode) (part : Part) (mode : ℕ) → IsPart v.blocks i part → IsNodeOf v.blocks i (nodes.Other mode) → ⊥
+  no_other_part : (i : Inode) (part : Part) (mode : ℕ) → IsPart g v.blocks i part → IsNodeOf g v.blocks i (nodes.Other mode) → ⊥
   no_other_part i (parts.Directory d) mode part of = true≢false (sym part.kind ∙ of.no_directory)
   no_other_part i (parts.File zones) mode part of = true≢false (sym part.kind ∙ of.no_file)
 
-  slots_are : (i : Inode) (d : DirectoryPart) → IsDirectoryPart v.blocks i d → slots_in v.blocks i ≡ d.slots
+  slots_are : (i : Inode) (d : DirectoryPart) → IsDirectoryPart g v.blocks i d → slots_in g v.blocks i ≡ d.slots
   slots_are i d part =
-      let size = part.size in
-      let long : length (slots_in v.blocks i) ≡ length d.slots = (let slots = slots_length v.blocks i in omega arith) in
-      same_by_slice_get (slots_in v.blocks i) d.slots long
+      let many : i.size / slot_size g.width ≡ length d.slots = ap (λ n. n / slot_size g.width) part.size ∙ bytes_of_slots (slot_size g.width) (slots_a_block g.width) (form_is g.width) (length d.slots) in
+      let long : length (slots_in g v.blocks i) ≡ length d.slots = (let slots = slots_length g v.blocks i in omega arith) in
+      same_by_slice_get (slots_in g v.blocks i) d.slots long
       (λ k low.
       let inside : k < length d.slots = omega arith in
       let y = slice_get-in_range d.slots k inside in
-      slot_got v.blocks i k y.0 (omega arith) (slot_read v.blocks i d part k y.0 y.1) ∙ sym y.1)
+      slot_got g v.blocks i k y.0 (omega arith) (slot_read g v.blocks i d part k y.0 y.1) ∙ sym y.1)
 
   parent_of : Node → ℕ
   parent_of (nodes.Directory d) = d.parent
@@ -507,33 +510,33 @@ module _ (g : Geometry) (v : Contents) (h : IsPlainContents g v) (t : List (ℕ 
   record FromDirectory (b : ℕ) (e : Directory) (x : FromNode b (nodes.Directory e)) : Type 0 where
     pub directory : DirectoryPart
     pub part_is : x.node.part ≡ parts.Directory directory
-    pub part : IsDirectoryPart v.blocks x.node.inode directory
+    pub part : IsDirectoryPart g v.blocks x.node.inode directory
     pub here : at_number now x.birth ≡ Some (nodes.Directory (directory_from directory))
     pub there : at_number t (to x.birth) ≡ Some (nodes.Directory e)
 
   from_directory_node : (b : ℕ) (e : Directory) (at : at_number t b ≡ Some (nodes.Directory e)) (x : FromNode b (nodes.Directory e)) → FromDirectory b e x
   from_directory_node b e at x =
-      let d = as_directory v.blocks x.node.inode x.node.part (stored g v h x.birth x.node x.stands).part x.of.kind in
+      let d = as_directory g v.blocks x.node.inode x.node.part (stored g v h x.birth x.node x.stands).part x.of.kind in
       record { directory = d.0; part_is = d.1; part = d.2; here = tree_directory v.blocks v.nodes x.birth x.node d.0 x.stands d.1; there = ap (at_number t) x.goes ∙ at }
 
-  dots_there : (b : ℕ) (e : Directory) → at_number t b ≡ Some (nodes.Directory e) → HasDots (slots_in v.blocks (inode_born g v.blocks b)) (inode_of_birth b) (inode_of_birth e.parent)
+  dots_there : (b : ℕ) (e : Directory) → at_number t b ≡ Some (nodes.Directory e) → HasDots (slots_in g v.blocks (inode_born g v.blocks b)) (inode_of_birth b) (inode_of_birth e.parent)
   dots_there b e at =
       let x = from_node b (nodes.Directory e) at in
       let y = from_directory_node b e at x in
       let z = h.dots x.birth x.node y.directory x.stands y.part_is in
       let goes = parent_goes (h.rooted.led_to x.birth (nodes.Directory (directory_from y.directory)) y.here) (directory_from y.directory) e y.here y.there in
       let parent : inode_of_birth e.parent ≡ z.0.number = ap inode_of_birth goes ∙ to_number y.directory.parent z.0 z.1 in
-      subst (λ i. HasDots (slots_in v.blocks i) (inode_of_birth b) (inode_of_birth e.parent)) (sym x.inode_is)
+      subst (λ i. HasDots (slots_in g v.blocks i) (inode_of_birth b) (inode_of_birth e.parent)) (sym x.inode_is)
       (subst (λ ss. HasDots ss (inode_of_birth b) (inode_of_birth e.parent)) (sym (slots_are x.node.inode y.directory y.part))
       (subst (λ n. HasDots y.directory.slots n (inode_of_birth e.parent)) (sym x.number_is)
       (subst (HasDots y.directory.slots x.node.number) (sym parent) z.2)))
 
-  slot_zones_there : (b : ℕ) (e : Directory) → at_number t b ≡ Some (nodes.Directory e) → HasSlotZones v.blocks (inode_born g v.blocks b) e.slots
+  slot_zones_there : (b : ℕ) (e : Directory) → at_number t b ≡ Some (nodes.Directory e) → HasSlotZones g v.blocks (inode_born g v.blocks b) e.slots
   slot_zones_there b e at =
       let x = from_node b (nodes.Directory e) at in
       let y = from_directory_node b e at x in
-      let long : length y.directory.slots ≡ e.slots = (let slots = x.of.slots in let size = y.part.size in omega arith) in
-      subst (λ i. HasSlotZones v.blocks i e.slots) (sym x.inode_is) (subst (HasSlotZones v.blocks x.node.inode) long (h.slot_zones x.birth x.node y.directory x.stands y.part_is))
+      let long : length y.directory.slots ≡ e.slots = (let many : x.node.inode.size / slot_size g.width ≡ length y.directory.slots = ap (λ n. n / slot_size g.width) y.part.size ∙ bytes_of_slots (slot_size g.width) (slots_a_block g.width) (form_is g.width) (length y.directory.slots) in let slots = x.of.slots in omega arith) in
+      subst (λ i. HasSlotZones g v.blocks i e.slots) (sym x.inode_is) (subst (HasSlotZones g v.blocks x.node.inode) long (h.slot_zones x.birth x.node y.directory x.stands y.part_is))
 
   directory_links_there : (b : ℕ) (e : Directory) → at_number t b ≡ Some (nodes.Directory e) → (inode_born g v.blocks b).links ≡ directory_links t e
   directory_links_there b e at =
@@ -545,7 +548,7 @@ module _ (g : Geometry) (v : Contents) (h : IsPlainContents g v) (t : List (ℕ 
   file_links_there : (b : ℕ) (f : File) → at_number t b ≡ Some (nodes.File f) → f.links ≡ names_to t b
   file_links_there b f at =
       let x = from_node b (nodes.File f) at in
-      let y = as_file v.blocks x.node.inode x.node.part (stored g v h x.birth x.node x.stands).part x.of.kind in
+      let y = as_file g v.blocks x.node.inode x.node.part (stored g v h x.birth x.node x.stands).part x.of.kind in
       x.of.links ∙ (h.file_links_are x.birth x.node y.0 x.stands y.1 ∙ (names_moved x.birth x.node x.stands ∙ ap (names_to t) x.goes))
 
   pub plain_image : IsPlainVolume g v.blocks t

@@ -2,6 +2,7 @@
 use Rattle.std.specs.Prelude.{ℕ, ◌+◌, ◌-◌, ◌*◌, ◌/◌, ◌%◌, Bool, List, [], ◌∷◌, slice_set, map, Option}
 use Rattle.byte_fields.specs.Fields.{put_record, put, put_bytes, zeros}
 use Rattle.byte_fields.specs.Fields.Order.{little}
+use Rattle.minix_layout.specs.Widths.{slot_size}
 use Rattle.minix_layout.specs.declared.division.Geometry.{Geometry}
 use Rattle.minix_layout.specs.declared.inode.Inode.{Inode}
 use Rattle.minix_layout.specs.declared.slot.Slot.{Slot}
@@ -32,7 +33,7 @@ touched_by g (put_body zone content) = zone
 -- the bytes of that block afterwards
 abbrev pub body_after : Geometry → Edit → List ℕ → List ℕ
 body_after g (put_inode number inode) body = put_record 32 ((number - 1) % 32) (inode_bytes inode) body
-body_after g (put_slot zone at slot) body = put_record 16 at (slot_bytes slot) body
+body_after g (put_slot zone at slot) body = put_record (slot_size g.width) at (slot_bytes g.width slot) body
 body_after g (set_bit first number value) body = put_bit body (number % 8192) value
 body_after g (put_entry zone at number) body = put little 2 (2 * at) number body
 body_after g (clear_from zone at) body = put_bytes (2 * at) (zeros (1024 - 2 * at)) body

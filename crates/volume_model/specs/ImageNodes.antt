@@ -24,22 +24,22 @@ pub record IsImage (g : Geometry) (blocks : List (List ℕ)) : Type 0 where
   pub bytes : (b k : ℕ) → slice_index (disk_of blocks b) k < 256
 
 -- the slots of a directory, and the zones of the mapped blocks of a file
-abbrev pub part_in : List (List ℕ) → Inode → Node → Part
-part_in blocks i (nodes.Directory d) = parts.Directory (record { parent = d.parent; names = d.names; slots = slots_in blocks i })
-part_in blocks i (nodes.File f) = parts.File (map (λ k. record { index = k; zone = zone_behind blocks i k }) (keys_of f.blocks))
-part_in blocks i (nodes.Other mode) = parts.File []
+abbrev pub part_in : Geometry → List (List ℕ) → Inode → Node → Part
+part_in g blocks i (nodes.Directory d) = parts.Directory (record { parent = d.parent; width = d.width; names = d.names; slots = slots_in g blocks i })
+part_in g blocks i (nodes.File f) = parts.File (map (λ k. record { index = k; zone = zone_behind blocks i k }) (keys_of f.blocks))
+part_in g blocks i (nodes.Other mode) = parts.File []
 
 -- the same of what the walk found
-abbrev pub part_found : List (List ℕ) → Inode → Found → Part
-part_found blocks i (found.Directory d) = parts.Directory (record { parent = d.parent; names = d.names; slots = slots_in blocks i })
-part_found blocks i (found.File f) = parts.File f.zones
-part_found blocks i (found.Other mode) = parts.File []
+abbrev pub part_found : Geometry → List (List ℕ) → Inode → Found → Part
+part_found g blocks i (found.Directory d) = parts.Directory (record { parent = d.parent; width = d.width; names = d.names; slots = slots_in g blocks i })
+part_found g blocks i (found.File f) = parts.File f.zones
+part_found g blocks i (found.Other mode) = parts.File []
 
 abbrev pub placed_in : Geometry → List (List ℕ) → ℕ → Node → Placed
 placed_in g blocks birth node = record {
   number = inode_of_birth birth;
   inode = inode_born g blocks birth;
-  part = part_in blocks (inode_born g blocks birth) node;
+  part = part_in g blocks (inode_born g blocks birth) node;
 }
 
 -- each node of the image's tree, with its inode and what its blocks say

@@ -1,6 +1,7 @@
 -- Moves: what a volume is after one of its nodes came or changed. A call is a list of them.
 use Rattle.std.specs.Prelude.{◌≡◌, ◌≢◌, ℕ, ◌*◌, ◌/◌, ◌%◌, ◌^◌, ◌<◌, ◌≤◌, nat_lt, nat_eq, Bool, not, ◌==◌, ◌&&◌, if◌then◌else◌, List, [], ◌∷◌, ◌++◌, map, filter, length, slice_set, Option, Some, None}
 use Rattle.blk_base.specs.Members.{In}
+use Rattle.minix_layout.specs.Widths.{slot_size, slots_a_block}
 use Rattle.minix_layout.specs.declared.division.Geometry.{Geometry}
 use Rattle.minix_layout.specs.declared.inode.Inode.{Inode}
 use Rattle.minix_layout.specs.Geometry.{IsSound}
@@ -111,21 +112,21 @@ with_size i size = record { mode = i.mode; uid = i.uid; size = size; time = i.ti
 abbrev pub slot_put : Geometry → Contents → ℕ → Placed → ℕ → Option Slot → DirectoryPart → Contents
 slot_put g v n p k o next =
     let u : OpenInode = record {
-      blocks = edited g v.blocks (put_slot (zone_in v.blocks p.inode (block (k / 64))) (k % 64) o);
-      inode = with_size p.inode (16 * length next.slots);
+      blocks = edited g v.blocks (put_slot (zone_in v.blocks p.inode (block (k / slots_a_block g.width))) (k % slots_a_block g.width) o);
+      inode = with_size p.inode (slot_size g.width * length next.slots);
     } in
     closed g v n p u (parts.Directory next)
 
 -- a name comes with its slot, at the first free place or behind the last one
 abbrev pub with_name : DirectoryPart → Slot → ℕ → DirectoryPart
-with_name d s birth = record { parent = d.parent; names = put_name d.names s.name birth; slots = with_slot d.slots (room d.slots) s }
+with_name d s birth = record { parent = d.parent; width = d.width; names = put_name d.names s.name birth; slots = with_slot d.slots (room d.slots) s }
 
 abbrev pub name_added : Geometry → Contents → ℕ → Placed → DirectoryPart → Slot → ℕ → Contents
 name_added g v n p d s birth = slot_put g v n p (room d.slots) (Some s) (with_name d s birth)
 
 -- a name goes with its slot, which is free then
 abbrev pub without_name : DirectoryPart → ℕ → Slot → DirectoryPart
-without_name d k s = record { parent = d.parent; names = without d.names s.name; slots = slice_set d.slots k None }
+without_name d k s = record { parent = d.parent; width = d.width; names = without d.names s.name; slots = slice_set d.slots k None }
 
 abbrev pub name_removed : Geometry → Contents → ℕ → Placed → DirectoryPart → ℕ → Slot → Contents
 name_removed g v n p d k s = slot_put g v n p k None (without_name d k s)

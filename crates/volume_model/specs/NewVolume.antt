@@ -21,13 +21,13 @@ dots_slot = record { inode = 1; name = codes ".." }
 
 -- a new directory in the first zone of data
 abbrev pub root_inode : Geometry → Inode
-root_inode g = new_directory_inode g.first
+root_inode g = new_directory_inode g.width g.first
 
 abbrev pub root_placed : Geometry → Placed
 root_placed g = record {
   number = 1;
   inode = root_inode g;
-  part = parts.Directory (record { parent = 0; names = []; slots = Some dot_slot ∷ Some dots_slot ∷ [] });
+  part = parts.Directory (record { parent = 0; width = g.width; names = []; slots = Some dot_slot ∷ Some dots_slot ∷ [] });
 }
 
 -- blocks of zeros, with the root's inode and its two slots
@@ -39,9 +39,9 @@ new_volume g = record { blocks = new_blocks g; nodes = (0, root_placed g) ∷ []
 
 -- ---- its tree
 
-abbrev pub root_directory : Directory
-root_directory = record { parent = 0; slots = 2; names = [] }
+abbrev pub root_directory : ℕ → Directory
+root_directory width = record { parent = 0; width = width; slots = 2; names = [] }
 
 -- the root alone, with two slots
-abbrev pub root_alone : List (ℕ × Node)
-root_alone = (0, nodes.Directory root_directory) ∷ []
+abbrev pub root_alone : ℕ → List (ℕ × Node)
+root_alone width = (0, nodes.Directory (root_directory width)) ∷ []

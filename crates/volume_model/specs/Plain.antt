@@ -1,6 +1,7 @@
 -- Plain volumes: those whose calls are told of here. As the blocks of an image, and as a volume that changes.
 use Rattle.std.specs.Prelude.{◌≡◌, ◌≢◌, ℕ, ◌*◌, ◌/◌, ◌<◌, ◌≤◌, false, List, codes, length, map, Option, Some, None, Result, Ok, Err}
 use Rattle.std.specs.List.{slice_get, range_with_len}
+use Rattle.minix_layout.specs.Widths.{slot_size, slots_a_block, most_slots}
 use Rattle.minix_layout.specs.declared.division.Geometry.{Geometry}
 use Rattle.minix_layout.specs.declared.inode.Inode.{Inode}
 use Rattle.minix_layout.specs.declared.slot.Slot.{Slot}
@@ -37,10 +38,10 @@ pub record HasDots (slots : List (Option Slot)) (own parent : ℕ) : Type 0 wher
   pub no_later : (k : ℕ) (s : Slot) → 1 < k → slice_get slots k ≡ Some (Some s) → is_dot s.name ≡ false
 
 -- A directory has at most 519 zones of 64 slots each, just those that its slots need, and no hole among them.
-pub record HasSlotZones (blocks : List (List ℕ)) (i : Inode) (slots : ℕ) : Type 0 where
-  pub few : slots ≤ 519 * 64
-  pub no_hole : (index : ℕ) → 64 * index < slots → zone_in blocks i (block index) ≢ 0
-  pub no_more : (index : ℕ) → zone_in blocks i (block index) ≢ 0 → 64 * index < slots
+pub record HasSlotZones (g : Geometry) (blocks : List (List ℕ)) (i : Inode) (slots : ℕ) : Type 0 where
+  pub few : slots ≤ most_slots g.width
+  pub no_hole : (index : ℕ) → slots_a_block g.width * index < slots → zone_in blocks i (block index) ≢ 0
+  pub no_more : (index : ℕ) → zone_in blocks i (block index) ≢ 0 → slots_a_block g.width * index < slots
 
 -- ---- images
 
@@ -53,12 +54,12 @@ abbrev pub slot_or_free : Result (Option Slot) LayoutFault → Option Slot
 slot_or_free (Ok s) = s
 slot_or_free (Err fault) = None
 
-abbrev pub slot_in : List (List ℕ) → Inode → ℕ → Option Slot
-slot_in blocks i k = slot_or_free (slot_behind blocks i k)
+abbrev pub slot_in : Geometry → List (List ℕ) → Inode → ℕ → Option Slot
+slot_in g blocks i k = slot_or_free (slot_behind g blocks i k)
 
 -- the slots below the size of a directory
-abbrev pub slots_in : List (List ℕ) → Inode → List (Option Slot)
-slots_in blocks i = map (slot_in blocks i) (range_with_len 0 (i.size / 16))
+abbrev pub slots_in : Geometry → List (List ℕ) → Inode → List (Option Slot)
+slots_in g blocks i = map (slot_in g blocks i) (range_with_len 0 (i.size / slot_size g.width))
 
 -- A plain image, with its tree by inode numbers: it has no fault and no node but directories and files; directories
 -- have their dots and the zones that their slots need; zones of numbers are there only where they lead to a mapped
@@ -67,8 +68,8 @@ pub record IsPlainVolume (g : Geometry) (blocks : List (List ℕ)) (tree : List 
   pub stands : IsVolumeTree g blocks tree
   pub no_other : (birth mode : ℕ) → at_number tree birth ≡ Some (nodes.Other mode) → ⊥
   pub dots : (birth : ℕ) (d : Directory) → at_number tree birth ≡ Some (nodes.Directory d) →
-      HasDots (slots_in blocks (inode_born g blocks birth)) (inode_of_birth birth) (inode_of_birth d.parent)
-  pub slot_zones : (birth : ℕ) (d : Directory) → at_number tree birth ≡ Some (nodes.Directory d) → HasSlotZones blocks (inode_born g blocks birth) d.slots
+      HasDots (slots_in g blocks (inode_born g blocks birth)) (inode_of_birth birth) (inode_of_birth d.parent)
+  pub slot_zones : (birth : ℕ) (d : Directory) → at_number tree birth ≡ Some (nodes.Directory d) → HasSlotZones g blocks (inode_born g blocks birth) d.slots
   pub just : (birth : ℕ) (node : Node) → at_number tree birth ≡ Some node → IsJust (λ x. zone_in blocks (inode_born g blocks birth) x)
   pub directory_links_are : (birth : ℕ) (d : Directory) → at_number tree birth ≡ Some (nodes.Directory d) → (inode_born g blocks birth).links ≡ directory_links tree d
   pub file_links_are : (birth : ℕ) (f : File) → at_number tree birth ≡ Some (nodes.File f) → f.links ≡ names_to tree birth
@@ -88,7 +89,7 @@ pub record IsPlainContents (g : Geometry) (v : Contents) : Type 0 where
   pub sizes : (birth : ℕ) (p : Placed) (zones : List Mapped) → at_number v.nodes birth ≡ Some p → p.part ≡ parts.File zones → p.inode.size ≤ largest_size
   pub dots : (birth : ℕ) (p : Placed) (d : DirectoryPart) → at_number v.nodes birth ≡ Some p → p.part ≡ parts.Directory d →
       (q : Placed) × (at_number v.nodes d.parent ≡ Some q) × HasDots d.slots p.number q.number
-  pub slot_zones : (birth : ℕ) (p : Placed) (d : DirectoryPart) → at_number v.nodes birth ≡ Some p → p.part ≡ parts.Directory d → HasSlotZones v.blocks p.inode (length d.slots)
+  pub slot_zones : (birth : ℕ) (p : Placed) (d : DirectoryPart) → at_number v.nodes birth ≡ Some p → p.part ≡ parts.Directory d → HasSlotZones g v.blocks p.inode (length d.slots)
   pub directory_links_are : (birth : ℕ) (p : Placed) (d : DirectoryPart) → at_number v.nodes birth ≡ Some p → p.part ≡ parts.Directory d →
       p.inode.links ≡ directory_links (tree_now v.blocks v.nodes) (directory_from d)
   pub file_links_are : (birth : ℕ) (p : Placed) (zones : List Mapped) → at_number v.nodes birth ≡ Some p → p.part ≡ parts.File zones →

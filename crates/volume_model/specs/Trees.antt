@@ -12,7 +12,7 @@ use Rattle.volume_model.specs.declared.placed.DirectoryPart.{DirectoryPart}
 use Rattle.minix_layout.specs.declared.inode.Inode.{Inode}
 
 abbrev pub directory_from : DirectoryPart → Directory
-directory_from d = record { parent = d.parent; slots = length d.slots; names = d.names }
+directory_from d = record { parent = d.parent; width = d.width; slots = length d.slots; names = d.names }
 
 -- entries as a map in order, whatever order they had
 abbrev pub in_order : {X : Type 0} → List (ℕ × X) → List (ℕ × X)

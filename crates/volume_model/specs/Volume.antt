@@ -6,6 +6,7 @@ use Rattle.std.specs.Map.{keys_of}
 use Rattle.std.specs.Ordering.{nat_cmp}
 use Rattle.blk_base.specs.Members.{In}
 use Rattle.byte_fields.specs.Fields.{record_at}
+use Rattle.minix_layout.specs.Widths.{slot_size, slots_a_block}
 use Rattle.minix_layout.specs.declared.division.Geometry.{Geometry}
 use Rattle.minix_layout.specs.declared.inode.Inode.{Inode}
 use Rattle.minix_layout.specs.declared.slot.Slot.{Slot}
@@ -50,14 +51,15 @@ abbrev pub IsWhole : List (List ℕ) → Type 0
 IsWhole blocks = (b : ℕ) → length (disk_of blocks b) ≡ 1024
 
 -- slot k of a directory stands in its blocks
-pub record HasSlot (blocks : List (List ℕ)) (i : Inode) (k : ℕ) (s : Option Slot) : Type 0 where
-  pub mapped : zone_behind blocks i (k / 64) ≢ 0
-  pub stands : slot_of (record_at 16 (k % 64) (disk_of blocks (zone_behind blocks i (k / 64)))) ≡ Ok s
+pub record HasSlot (g : Geometry) (blocks : List (List ℕ)) (i : Inode) (k : ℕ) (s : Option Slot) : Type 0 where
+  pub mapped : zone_behind blocks i (k / slots_a_block g.width) ≢ 0
+  pub stands : slot_of g.width (record_at (slot_size g.width) (k % slots_a_block g.width) (disk_of blocks (zone_behind blocks i (k / slots_a_block g.width)))) ≡ Ok s
 
-pub record IsDirectoryPart (blocks : List (List ℕ)) (i : Inode) (d : DirectoryPart) : Type 0 where
+pub record IsDirectoryPart (g : Geometry) (blocks : List (List ℕ)) (i : Inode) (d : DirectoryPart) : Type 0 where
   pub kind : is_directory i.mode ≡ true
-  pub size : i.size ≡ 16 * length d.slots
-  pub slots : (k : ℕ) (s : Option Slot) → slice_get d.slots k ≡ Some s → HasSlot blocks i k s
+  pub width : d.width ≡ g.width
+  pub size : i.size ≡ slot_size g.width * length d.slots
+  pub slots : (k : ℕ) (s : Option Slot) → slice_get d.slots k ≡ Some s → HasSlot g blocks i k s
 
 -- a file's list has its mapped blocks, and no others, in order
 pub record IsFilePart (blocks : List (List ℕ)) (i : Inode) (zones : List Mapped) : Type 0 where
@@ -66,9 +68,9 @@ pub record IsFilePart (blocks : List (List ℕ)) (i : Inode) (zones : List Mappe
   pub full : (index : ℕ) → zone_behind blocks i index ≢ 0 → In (record { index = index; zone = zone_behind blocks i index }) zones
   pub rising : IsRising zones
 
-abbrev pub IsPart : List (List ℕ) → Inode → Part → Type 0
-IsPart blocks i (parts.Directory d) = IsDirectoryPart blocks i d
-IsPart blocks i (parts.File zones) = IsFilePart blocks i zones
+abbrev pub IsPart : Geometry → List (List ℕ) → Inode → Part → Type 0
+IsPart g blocks i (parts.Directory d) = IsDirectoryPart g blocks i d
+IsPart g blocks i (parts.File zones) = IsFilePart blocks i zones
 
 -- a node stands in its inode and its zones
 pub record IsStored (g : Geometry) (blocks : List (List ℕ)) (p : Placed) : Type 0 where
@@ -77,7 +79,7 @@ pub record IsStored (g : Geometry) (blocks : List (List ℕ)) (p : Placed) : Typ
   pub fits : FitInode p.inode
   pub inode : inode_at g blocks p.number ≡ p.inode
   pub zones : (x : Place) → zone_in blocks p.inode x ≢ 0 → (g.first ≤ zone_in blocks p.inode x) × (zone_in blocks p.inode x < g.zones)
-  pub part : IsPart blocks p.inode p.part
+  pub part : IsPart g blocks p.inode p.part
 
 -- a birth has this number of an inode
 abbrev pub HasNumber : List (ℕ × Placed) → ℕ → ℕ → Type 0

@@ -9,6 +9,7 @@ ghost use Rattle.minix_layout.specs.declared.division.Geometry.{Geometry};
 ghost use Rattle.minix_layout.specs.declared.inode.Inode.{Inode};
 ghost use Rattle.minix_layout.specs.declared.slot.Slot.{Slot};
 ghost use Rattle.minix_layout.specs.Geometry.{IsSound};
+ghost use Rattle.minix_layout.specs.Widths.{IsWidth, slot_size, slots_a_block};
 ghost use Rattle.minix_layout.specs.Inodes.{FitInode};
 ghost use Rattle.minix_layout.specs.Slots.{slot_of, IsEntry};
 ghost use Rattle.tree_model.specs.declared.node.Node.{Node};
@@ -66,13 +67,13 @@ pub fn writes_are_read()
         IsWhole blocks → table_block g n < length blocks → 0 < n → 0 < m → m ≢ n →
         inode_at g (edited g blocks (put_inode n i)) m ≡ inode_at g blocks m }
     ensures slot { (g : Geometry) (blocks : List (List ℕ)) (zone at : ℕ) (s : Option Slot) →
-        IsWhole blocks → zone < length blocks → at < 64 → IfSome s (λ e. IsEntry e) →
-        slot_of (record_at 16 at (disk_of (edited g blocks (put_slot zone at s)) zone)) ≡ Ok s }
+        IsWidth g.width → IsWhole blocks → zone < length blocks → at < slots_a_block g.width → IfSome s (λ e. IsEntry g.width e) →
+        slot_of g.width (record_at (slot_size g.width) at (disk_of (edited g blocks (put_slot zone at s)) zone)) ≡ Ok s }
     ensures other_slot { (g : Geometry) (blocks : List (List ℕ)) (zone at other place : ℕ) (s : Option Slot) →
-        IsWhole blocks → zone < length blocks → at < 64 → place < 64 → IfSome s (λ e. IsEntry e) →
+        IsWidth g.width → IsWhole blocks → zone < length blocks → at < slots_a_block g.width → place < slots_a_block g.width → IfSome s (λ e. IsEntry g.width e) →
         ((other ≡ zone) → (place ≡ at) → ⊥) →
-        slot_of (record_at 16 place (disk_of (edited g blocks (put_slot zone at s)) other)) ≡
-        slot_of (record_at 16 place (disk_of blocks other)) }
+        slot_of g.width (record_at (slot_size g.width) place (disk_of (edited g blocks (put_slot zone at s)) other)) ≡
+        slot_of g.width (record_at (slot_size g.width) place (disk_of blocks other)) }
 {}
 
 /// A law, which does nothing when it is called: of a node's inode that is written back, and of a zone of numbers that is
@@ -117,8 +118,8 @@ pub fn changed_node_stands()
 pub fn names_come_and_go()
     ensures added { (g : Geometry) (v : Contents) (n : ℕ) (p : Placed) (d : DirectoryPart) (s : Slot) (birth : ℕ) →
         IsSound g → IsVolume g v → at_number v.nodes n ≡ Some p → p.part ≡ parts.Directory d →
-        zone_in v.blocks p.inode (block (room d.slots / 64)) ≢ 0 → IsEntry s → is_dot s.name ≡ false →
-        at_name d.names s.name ≡ None → HasNumber v.nodes birth s.inode → 16 * (length d.slots + 1) < 2 ^ 32 →
+        zone_in v.blocks p.inode (block (room d.slots / slots_a_block g.width)) ≢ 0 → IsEntry g.width s → is_dot s.name ≡ false →
+        at_name d.names s.name ≡ None → HasNumber v.nodes birth s.inode → slot_size g.width * (length d.slots + 1) < 2 ^ 32 →
         IsVolume g (name_added g v n p d s birth) }
     ensures removed { (g : Geometry) (v : Contents) (n : ℕ) (p : Placed) (d : DirectoryPart) (k : ℕ) (s : Slot) →
         IsSound g → IsVolume g v → at_number v.nodes n ≡ Some p → p.part ≡ parts.Directory d →
@@ -198,7 +199,7 @@ pub fn plain_images_can_change()
         at_number (contents_in g blocks tree).nodes n.birth ≡ Some (record {
           number = inode_of_birth n.birth;
           inode = inode_born g blocks n.birth;
-          part = part_found blocks (inode_born g blocks n.birth) n.found;
+          part = part_found g blocks (inode_born g blocks n.birth) n.found;
         }) }
 {}
 

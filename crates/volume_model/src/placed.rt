@@ -8,6 +8,8 @@ use tree_model::Names;
 #[derive(Drop)]
 pub struct DirectoryPart {
     pub parent: u64,
+    /// The bytes that a name may have.
+    pub width: u16,
     /// Its names with the births of their nodes, but for `.` and `..`.
     pub names: Names,
     /// Its slots as they stand in its blocks.

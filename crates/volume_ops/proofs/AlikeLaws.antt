@@ -44,7 +44,7 @@ step_names : (tree : List (ℕ × Node)) (parent : ℕ) (name : List ℕ) (birth
     step_at o name ≡ Ok birth → HasEntry tree parent name birth
 step_names tree parent name birth None e h = absurd (err-ok _ birth h)
 step_names tree parent name birth (Some (nodes.Directory d)) e h =
-    record { directory = d; stands = e; named = named_by d name birth (nat_lt 14 (length name)) (at_name d.names name) refl h }
+    record { directory = d; stands = e; named = named_by d name birth (nat_lt d.width (length name)) (at_name d.names name) refl h }
 step_names tree parent name birth (Some (nodes.File f)) e h = absurd (err-ok _ birth h)
 step_names tree parent name birth (Some (nodes.Other mode)) e h = absurd (err-ok _ birth h)
 

@@ -4,6 +4,7 @@ use Rattle.std.proofs.Common.{sym, ap, subst, ◌∙◌, inl, inr, ⊎_elim, ari
 use Rattle.std.proofs.lemmas.Bool.{cases_eq, cases_lt, eq-eqb, eqb-true, ne_eqb, lt-ltb}
 use Rattle.std.proofs.lemmas.Option.{none-some, same_Some}
 use Rattle.byte_fields.specs.Fields.{record_at}
+use Rattle.minix_layout.specs.Widths.{slot_size, slots_a_block}
 use Rattle.minix_layout.specs.declared.division.Geometry.{Geometry}
 use Rattle.minix_layout.specs.declared.inode.Inode.{Inode}
 use Rattle.minix_layout.specs.declared.slot.Slot.{Slot}
@@ -51,7 +52,7 @@ module _ (g : Geometry) (blocks : List (List ℕ)) (tree : List (ℕ × Node)) (
   led_reached at_root = (reached_root, refl)
   led_reached (by_name {parent} {birth} {name} led gives) =
       let x = named_by parent birth name gives in
-      let used : 0 < x.1.inode = slot_used blocks (inode_at g blocks (inode_of_birth parent)) x.0 x.1 x.2.entry in
+      let used : 0 < x.1.inode = slot_used g blocks (inode_at g blocks (inode_of_birth parent)) x.0 x.1 x.2.entry in
       let same : x.1.inode ≡ inode_of_birth birth = sym (inode_of_birth_of x.1.inode used) ∙ ap inode_of_birth x.3 in (
         subst (λ k. IsReached g blocks k) same (reached_by (led_reached led).0 x.2),
         subst (λ birth. birth_of (inode_of_birth birth) ≡ birth) x.3 (birth_back x.1.inode),
@@ -227,18 +228,18 @@ module _ (g : Geometry) (blocks other : List (List ℕ)) (some_inode : 0 < g.ino
     -- ---- the same names
 
     same_slot : (k : ℕ) → IsReached g blocks k → IsDirectory g blocks k → (place : ℕ) →
-        slot_behind other (inode_at g other k) place ≡ slot_behind blocks (inode_at g blocks k) place
-    same_slot k r d place = by (zone_behind blocks (inode_at g blocks k) (place / 64)) refl (cases_eq (zone_behind blocks (inode_at g blocks k) (place / 64)) 0)
+        slot_behind g other (inode_at g other k) place ≡ slot_behind g blocks (inode_at g blocks k) place
+    same_slot k r d place = by (zone_behind blocks (inode_at g blocks k) (place / slots_a_block g.width)) refl (cases_eq (zone_behind blocks (inode_at g blocks k) (place / slots_a_block g.width)) 0)
       where
-        by : (z : ℕ) → zone_behind blocks (inode_at g blocks k) (place / 64) ≡ z →
-            (zone_behind blocks (inode_at g blocks k) (place / 64) ≡ 0) ⊎ (zone_behind blocks (inode_at g blocks k) (place / 64) ≢ 0) →
-            slot_behind other (inode_at g other k) place ≡ slot_behind blocks (inode_at g blocks k) place
-        by z is (inl none) = (let there = same_zone k r (inl d) (place / 64) ∙ none in rw (eq-eqb _ 0 there, eq-eqb _ 0 none) refl)
+        by : (z : ℕ) → zone_behind blocks (inode_at g blocks k) (place / slots_a_block g.width) ≡ z →
+            (zone_behind blocks (inode_at g blocks k) (place / slots_a_block g.width) ≡ 0) ⊎ (zone_behind blocks (inode_at g blocks k) (place / slots_a_block g.width) ≢ 0) →
+            slot_behind g other (inode_at g other k) place ≡ slot_behind g blocks (inode_at g blocks k) place
+        by z is (inl none) = (let there = same_zone k r (inl d) (place / slots_a_block g.width) ∙ none in rw (eq-eqb _ 0 there, eq-eqb _ 0 none) refl)
         by z is (inr some) = (
-            let zones = same_zone k r (inl d) (place / 64) in
-            let body = same (zone_behind blocks (inode_at g blocks k) (place / 64)) (of_directory k (place / 64) r d some refl) in
-            ap (λ z. if z == 0 then Ok None else slot_of (record_at 16 (place % 64) (disk_of other z))) zones
-            ∙ ap (λ body. if zone_behind blocks (inode_at g blocks k) (place / 64) == 0 then Ok None else slot_of (record_at 16 (place % 64) body)) body)
+            let zones = same_zone k r (inl d) (place / slots_a_block g.width) in
+            let body = same (zone_behind blocks (inode_at g blocks k) (place / slots_a_block g.width)) (of_directory k (place / slots_a_block g.width) r d some refl) in
+            ap (λ z. if z == 0 then Ok None else slot_of g.width (record_at (slot_size g.width) (place % slots_a_block g.width) (disk_of other z))) zones
+            ∙ ap (λ body. if zone_behind blocks (inode_at g blocks k) (place / slots_a_block g.width) == 0 then Ok None else slot_of g.width (record_at (slot_size g.width) (place % slots_a_block g.width) body)) body)
 
     names_there : (k place : ℕ) (slot : Slot) → IsReached g blocks k → NamesAt g blocks k place slot → NamesAt g other k place slot
     names_there k place slot r m =
@@ -246,7 +247,7 @@ module _ (g : Geometry) (blocks other : List (List ℕ)) (some_inode : 0 < g.ino
         record {
           directory = subst (λ (i : Inode). is_directory i.mode ≡ true) (sym i) m.directory;
           entry = record {
-            below = subst (λ (i : Inode). place < i.size / 16) (sym i) m.entry.below;
+            below = subst (λ (i : Inode). place < i.size / slot_size g.width) (sym i) m.entry.below;
             stands = same_slot k r m.directory place ∙ m.entry.stands;
             no_dot = m.entry.no_dot;
           };
@@ -259,7 +260,7 @@ module _ (g : Geometry) (blocks other : List (List ℕ)) (some_inode : 0 < g.ino
         record {
           directory = d;
           entry = record {
-            below = subst (λ (i : Inode). place < i.size / 16) i m.entry.below;
+            below = subst (λ (i : Inode). place < i.size / slot_size g.width) i m.entry.below;
             stands = sym (same_slot k r d place) ∙ m.entry.stands;
             no_dot = m.entry.no_dot;
           };

@@ -62,7 +62,7 @@ module _ (g : Geometry) (blocks : List (List ℕ)) where
       let y = (h x.0.0 x.0.1).0 (in_found names x.0 s x.1) in
       let m : NamesAt g blocks k y.place y.slot =
       record { directory = d; entry = record { below = y.below; stands = y.stands; no_dot = subst (λ name. is_dot name ≡ false) (sym y.name_is) y.no_dot } } in
-      let same : y.slot.inode ≡ n = sym (inode_of_birth_of y.slot.inode (slot_used blocks (inode_at g blocks k) y.place y.slot m.entry)) ∙ (ap inode_of_birth y.birth_is ∙ x.2) in
+      let same : y.slot.inode ≡ n = sym (inode_of_birth_of y.slot.inode (slot_used g blocks (inode_at g blocks k) y.place y.slot m.entry)) ∙ (ap inode_of_birth y.birth_is ∙ x.2) in
       subst (λ n. IsReached g blocks n) same (by_name r m)
 
   met_reached : (met ahead : List ℕ) → AreMet g blocks met ahead → ((k : ℕ) → In k met → IsReached g blocks k) × ((k : ℕ) → In k ahead → IsReached g blocks k)

@@ -7,6 +7,7 @@ use Rattle.std.proofs.lemmas.Grind.{div_ceil_times}
 use Rattle.byte_fields.specs.Fields.{record_at}
 use Rattle.blk_base.specs.Members.{In}
 use Rattle.blk_base.specs.laws.Members.{In-append_cases}
+use Rattle.minix_layout.specs.Widths.{slot_size, slots_a_block}
 use Rattle.minix_layout.specs.declared.division.Geometry.{Geometry}
 use Rattle.minix_layout.specs.declared.inode.Inode.{Inode}
 use Rattle.minix_layout.specs.declared.slot.Slot.{Slot}
@@ -106,14 +107,14 @@ module _ (disk : ℕ → List ℕ) (P : ℕ → Type 0) where
       places_read : (zone : ℕ) (body ats : List ℕ) (s : SlotScan) → AllAre P (blocks_read disk (scan_places g zone body ats s))
       places_read zone body [] s = λ b i. absurd i
       places_read zone body (at ∷ ats) s =
-          reads_both (scan_slot g zone (record_at 16 at body) s) (scan_places g zone body ats) (slot_reads zone s (slot_of (record_at 16 at body))) (λ t _. places_read zone body ats t)
+          reads_both (scan_slot g zone (record_at (slot_size g.width) at body) s) (scan_places g zone body ats) (slot_reads zone s (slot_of g.width (record_at (slot_size g.width) at body))) (λ t _. places_read zone body ats t)
 
       slots_read : (slots : ℕ) (ms : List Mapped) (s : SlotScan) → ((m : Mapped) → In m ms → P m.zone) → AllAre P (blocks_read disk (scan_slots g slots ms s))
       slots_read slots [] s h = λ b i. absurd i
       slots_read slots (m ∷ ms) s h =
           reads_both (scan_block g slots m s) (scan_slots g slots ms)
-          (reads_either (nat_lt (64 * m.index) slots) _ (Ret (Ok s))
-          (λ b i. ⊎_elim (λ e. subst P e (h m (inl refl))) (places_read m.zone (disk m.zone) (range_with_len 0 (min 64 (slots - 64 * m.index))) s b) i)
+          (reads_either (nat_lt (slots_a_block g.width * m.index) slots) _ (Ret (Ok s))
+          (λ b i. ⊎_elim (λ e. subst P e (h m (inl refl))) (places_read m.zone (disk m.zone) (range_with_len 0 (min (slots_a_block g.width) (slots - slots_a_block g.width * m.index))) s b) i)
           (λ b i. absurd i))
           (λ t _. slots_read slots ms t (λ n i. h n (inr i)))
 
@@ -163,7 +164,7 @@ module _ (g : Geometry) (blocks : List (List ℕ)) (some_inode : 0 < g.inodes) w
     scan = scan_zones g (table_block g e.inode) i.zones w.zones
 
     abbrev on_directory : ZoneScan → Reads (Result Visit Fault)
-    on_directory z = if_ok (scan_slots g (i.size / 16) z.mapped (record { named = w.named; names = [] })) (λ s. Ret (visit_directory w e i z s))
+    on_directory z = if_ok (scan_slots g (i.size / slot_size g.width) z.mapped (record { named = w.named; names = [] })) (λ s. Ret (visit_directory g w e i z s))
 
     abbrev on_file : ZoneScan → Reads (Result Visit Fault)
     on_file z = Ret (visit_file w e.inode i z)
@@ -176,8 +177,8 @@ module _ (g : Geometry) (blocks : List (List ℕ)) (some_inode : 0 < g.inodes) w
         reads_both disk Meta scan on_directory (scan_reads (inl d))
         (λ z is.
         let of_map = scan_zones-map disk g (table_block g e.inode) i.zones w.zones z (nine g blocks e.inode) is in
-        reads_both disk Meta (scan_slots g (i.size / 16) z.mapped (record { named = w.named; names = [] })) (λ s. Ret (visit_directory w e i z s))
-        (slots_read disk Meta g table_is (i.size / 16) z.mapped (record { named = w.named; names = [] })
+        reads_both disk Meta (scan_slots g (i.size / slot_size g.width) z.mapped (record { named = w.named; names = [] })) (λ s. Ret (visit_directory g w e i z s))
+        (slots_read disk Meta g table_is (i.size / slot_size g.width) z.mapped (record { named = w.named; names = [] })
         (λ m inside. let at = (of_map 0).right m inside in of_directory e.inode m.index (h.ahead_reached e.inode (inl refl)) d at.1 at.0))
         (λ s _ b none. absurd none))
 
@@ -193,7 +194,7 @@ module _ (g : Geometry) (blocks : List (List ℕ)) (some_inode : 0 < g.inodes) w
         ⊎_elim
         (λ first. subst Meta first (table_is e.inode (h.ahead_within e.inode (inl refl))))
         (λ rest.
-        reads_either disk Meta (is_bad_inode e.inode i) (Ret (Err (BadInode, table_block g e.inode))) _ (λ b none. absurd none)
+        reads_either disk Meta (is_bad_inode g e.inode i) (Ret (Err (BadInode, table_block g e.inode))) _ (λ b none. absurd none)
         (kind_reads (is_directory i.mode) (is_file i.mode) refl refl) b rest)
         inside
 

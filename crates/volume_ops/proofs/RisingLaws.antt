@@ -2,6 +2,7 @@
 use Rattle.std.proofs.Common.{◌≡◌, ℕ, suc, ◌+◌, ◌*◌, ◌/◌, ◌==◌, ◌≤◌, Bool, List, [], ◌∷◌, ◌++◌, length, take, slice_index, Result, Ok, Err, IfOk, subst, arith}
 use Rattle.std.specs.Prelude.{All}
 use Rattle.std.proofs.lemmas.List.{length-take}
+use Rattle.minix_layout.specs.Widths.{slot_size}
 use Rattle.minix_layout.specs.declared.division.Geometry.{Geometry}
 use Rattle.volume_ops.specs.declared.found.Mapped.{Mapped}
 use Rattle.volume_ops.specs.declared.found.FoundNode.{FoundNode}
@@ -113,5 +114,5 @@ pub walked_rises : (g : Geometry) (blocks : List (List ℕ)) (w : Walked) → wa
 walked_rises g blocks w e =
     walked_has g blocks (λ n. HasRising n.found) (λ number z. IsRising z.mapped) (λ s. Unit {0})
     (λ w e. scan_rises (disk_of blocks) g (table_block g e.inode) (inode_in_block e.inode (disk_of blocks (table_block g e.inode))).zones w.zones)
-    (λ w e z. any_ok (answer (disk_of blocks) (scan_slots g ((inode_in_block e.inode (disk_of blocks (table_block g e.inode))).size / 16) z.mapped (record { named = w.named; names = [] }))))
+    (λ w e z. any_ok (answer (disk_of blocks) (scan_slots g ((inode_in_block e.inode (disk_of blocks (table_block g e.inode))).size / slot_size g.width) z.mapped (record { named = w.named; names = [] }))))
     (λ e z rises. rises) (λ e s k. tt) (λ e. tt) w e

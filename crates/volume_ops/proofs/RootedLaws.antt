@@ -7,6 +7,8 @@ use Rattle.std.specs.Map.{keys_of}
 use Rattle.std.proofs.lemmas.Option.{none-some, same_Some}
 use Rattle.std.proofs.lemmas.List.{length-take}
 use Rattle.byte_fields.specs.Fields.{record_at, bytes_at}
+use Rattle.minix_layout.specs.laws.SlotLaws.{short_name}
+use Rattle.minix_layout.specs.Widths.{slot_size, slots_a_block}
 use Rattle.minix_layout.specs.declared.division.Geometry.{Geometry}
 use Rattle.minix_layout.specs.declared.slot.Slot.{Slot}
 use Rattle.minix_layout.specs.declared.fault.LayoutFault.{LayoutFault}
@@ -30,29 +32,23 @@ use Rattle.volume_ops.proofs.WalkLaws.{Ends, walk_volume-ends}
 use Rattle.volume_ops.proofs.TreeLaws.{was_found, named_of, tree_of-fields, tree_of-reached}
 use Rattle.volume_ops.proofs.SortedLaws.{HasSorted, walked_sorted, nodes_sorted}
 
--- ---- names have at most 14 bytes
+-- ---- names are not longer than the width
 
-short_name : (bytes : List ℕ) → length (name_in bytes) ≤ 14
-unfolding bytes_at
-short_name bytes =
-    let part : List ℕ = take 14 (drop 2 bytes) in
-    omega (arith, length-take 14 (drop 2 bytes), length-take (position_or_len (λ b. b == 0) part) part)
+short_by : (width n : ℕ) (name : List ℕ) (free bad : Bool) (slot : Slot) → length name ≤ width →
+    ◌≡◌ {A = Result (Option Slot) LayoutFault} (if free then Ok None else if bad then Err BadSlot else Ok (Some (record { inode = n; name = name }))) (Ok (Some slot)) → length slot.name ≤ width
+short_by width n name true bad slot short h = absurd (none-some slot (same_Ok None (Some slot) h))
+short_by width n name false true slot short h = absurd (err-ok BadSlot (Some slot) h)
+short_by width n name false false slot short h =
+    subst (λ (slot : Slot). length slot.name ≤ width) (same_Some _ slot (same_Ok _ (Some slot) h)) short
 
-short_by : (n : ℕ) (name : List ℕ) (free bad : Bool) (slot : Slot) → length name ≤ 14 →
-    ◌≡◌ {A = Result (Option Slot) LayoutFault} (if free then Ok None else if bad then Err BadSlot else Ok (Some (record { inode = n; name = name }))) (Ok (Some slot)) → length slot.name ≤ 14
-short_by n name true bad slot short h = absurd (none-some slot (same_Ok None (Some slot) h))
-short_by n name false true slot short h = absurd (err-ok BadSlot (Some slot) h)
-short_by n name false false slot short h =
-    subst (λ (slot : Slot). length slot.name ≤ 14) (same_Some _ slot (same_Ok _ (Some slot) h)) short
-
-slot_of-short : (bytes : List ℕ) (slot : Slot) → slot_of bytes ≡ Ok (Some slot) → length slot.name ≤ 14
+slot_of-short : (width : ℕ) (bytes : List ℕ) (slot : Slot) → slot_of width bytes ≡ Ok (Some slot) → length slot.name ≤ width
 unfolding slot_of
-slot_of-short bytes slot h = short_by (inode_in bytes) (name_in bytes) (inode_in bytes == 0) (is_bad_name (name_in bytes)) slot (short_name bytes) h
+slot_of-short width bytes slot h = short_by width (inode_in bytes) (name_in width bytes) (inode_in bytes == 0) (is_bad_name (name_in width bytes)) slot (short_name width bytes) h
 
-behind_by : (hole : Bool) (bytes : List ℕ) (slot : Slot) →
-    ◌≡◌ {A = Result (Option Slot) LayoutFault} (if hole then Ok None else slot_of bytes) (Ok (Some slot)) → length slot.name ≤ 14
-behind_by true bytes slot h = absurd (none-some slot (same_Ok None (Some slot) h))
-behind_by false bytes slot h = slot_of-short bytes slot h
+behind_by : (width : ℕ) (hole : Bool) (bytes : List ℕ) (slot : Slot) →
+    ◌≡◌ {A = Result (Option Slot) LayoutFault} (if hole then Ok None else slot_of width bytes) (Ok (Some slot)) → length slot.name ≤ width
+behind_by width true bytes slot h = absurd (none-some slot (same_Ok None (Some slot) h))
+behind_by width false bytes slot h = slot_of-short width bytes slot h
 
 -- ---- the nodes that the walk found
 
@@ -95,11 +91,13 @@ module _ (g : Geometry) (blocks : List (List ℕ)) (all : Walked) (walk : walked
         in_order = nodes_sorted blocks all.nodes;
         names_in_order = names_sorted;
         root = (t.root.0, t.root.1);
+        width = g.width;
+        of_width = λ birth d is. (t.each birth (nodes.Directory d) is).width;
         short = λ parent name birth n.
             let has = ((t.each parent (nodes.Directory n.directory) n.stands).names name birth).0 n.named in
-            subst (λ (name : List ℕ). length name ≤ 14) has.name_is
-            (behind_by (zone_behind blocks (inode_at g blocks (inode_of_birth parent)) (has.place / 64) == 0)
-            (record_at 16 (has.place % 64) (disk_of blocks (zone_behind blocks (inode_at g blocks (inode_of_birth parent)) (has.place / 64)))) has.slot has.stands);
+            subst (λ (name : List ℕ). length name ≤ g.width) has.name_is
+            (behind_by g.width (zone_behind blocks (inode_at g blocks (inode_of_birth parent)) (has.place / slots_a_block g.width) == 0)
+            (record_at (slot_size g.width) (has.place % slots_a_block g.width) (disk_of blocks (zone_behind blocks (inode_at g blocks (inode_of_birth parent)) (has.place / slots_a_block g.width)))) has.slot has.stands);
         leads = λ parent name birth n. let x = t.leads parent name birth n in (x.0, x.1);
         no_root = no_root_named;
         one_name = t.one_name;

@@ -2,6 +2,7 @@
 use Rattle.std.proofs.Common.{◌≡◌, ℕ, suc, ◌+◌, ◌-◌, ◌<◌, ◌≤◌, ◌^◌, List, [], ◌∷◌, Result, Ok, Err, refl, ap, ◌∙◌, sym, arith, length, get_or, drop, drop-cons, add-one}
 use Rattle.std.specs.List.{All, range_with_len}
 use Rattle.byte_fields.specs.Fields.{record_at}
+use Rattle.minix_layout.specs.Widths.{slot_size}
 use Rattle.minix_layout.specs.declared.division.Geometry.{Geometry}
 use Rattle.volume_ops.specs.declared.found.Mapped.{Mapped}
 use Rattle.volume_ops.specs.code.Births.{IsBirth, AreBirths}
@@ -19,15 +20,15 @@ range_from : (n at : ℕ) → at < n → range_with_len at (n - at) ≡ at ∷ r
 range_from n at h = let e : n - at ≡ suc (n - (at + 1)) = omega arith in rw e refl
 
 module _ (disk : ℕ → List ℕ) (g : Geometry) (zone : ℕ) (body : List ℕ) (n at : ℕ) (s : SlotScan) (h : at < n) where
-  pub scan_places_more : (t : SlotScan) (all : Result SlotScan Fault) → answer disk (scan_places g zone body (range_with_len at (n - at)) s) ≡ all → answer disk (scan_slot g zone (record_at 16 at body) s) ≡ Ok t → answer disk (scan_places g zone body (range_with_len (at + 1) (n - (at + 1))) t) ≡ all
+  pub scan_places_more : (t : SlotScan) (all : Result SlotScan Fault) → answer disk (scan_places g zone body (range_with_len at (n - at)) s) ≡ all → answer disk (scan_slot g zone (record_at (slot_size g.width) at body) s) ≡ Ok t → answer disk (scan_places g zone body (range_with_len (at + 1) (n - (at + 1))) t) ≡ all
   scan_places_more t all e one =
-      sym (answer-if_ok-ok disk (scan_slot g zone (record_at 16 at body) s) (scan_places g zone body (range_with_len (at + 1) (n - (at + 1)))) t one)
+      sym (answer-if_ok-ok disk (scan_slot g zone (record_at (slot_size g.width) at body) s) (scan_places g zone body (range_with_len (at + 1) (n - (at + 1)))) t one)
       ∙ sym (ap (λ ats. answer disk (scan_places g zone body ats s)) (range_from n at h)) ∙ e
 
-  pub scan_places_fault : (f : Fault) (all : Result SlotScan Fault) → answer disk (scan_places g zone body (range_with_len at (n - at)) s) ≡ all → answer disk (scan_slot g zone (record_at 16 at body) s) ≡ Err f → all ≡ Err f
+  pub scan_places_fault : (f : Fault) (all : Result SlotScan Fault) → answer disk (scan_places g zone body (range_with_len at (n - at)) s) ≡ all → answer disk (scan_slot g zone (record_at (slot_size g.width) at body) s) ≡ Err f → all ≡ Err f
   scan_places_fault f all e one =
       sym e ∙ ap (λ ats. answer disk (scan_places g zone body ats s)) (range_from n at h)
-      ∙ answer-if_ok-err disk (scan_slot g zone (record_at 16 at body) s) (scan_places g zone body (range_with_len (at + 1) (n - (at + 1)))) f one
+      ∙ answer-if_ok-err disk (scan_slot g zone (record_at (slot_size g.width) at body) s) (scan_places g zone body (range_with_len (at + 1) (n - (at + 1)))) f one
 
 module _ (disk : ℕ → List ℕ) (g : Geometry) (slots : ℕ) (blocks : List Mapped) (k : ℕ) (d : Mapped) (s : SlotScan) (h : k < length blocks) where
   from_here : drop k blocks ≡ get_or blocks k d ∷ drop (k + 1) blocks

@@ -9,6 +9,9 @@ use Rattle.std.proofs.lemmas.Option.{none-some, same_Some}
 use Rattle.std.proofs.lemmas.Cmp.{nat_list_cmp_total}
 use Rattle.byte_fields.specs.Fields.{record_at}
 use Rattle.blk_base.specs.Members.{In}
+use Rattle.std.proofs.Math.Nat.{mul-le-mul_left}
+use Rattle.minix_layout.specs.laws.Places.{block_of, at_of, block_low, block_high, form_is}
+use Rattle.minix_layout.specs.Widths.{slot_size, slots_a_block}
 use Rattle.minix_layout.specs.declared.division.Geometry.{Geometry}
 use Rattle.minix_layout.specs.declared.inode.Inode.{Inode}
 use Rattle.minix_layout.specs.declared.slot.Slot.{Slot}
@@ -40,9 +43,9 @@ fault_by n name true bad fault h = absurd (err-ok fault None (sym h))
 fault_by n name false true fault h = cc
 fault_by n name false false fault h = absurd (err-ok fault (Some (record { inode = n; name = name })) (sym h))
 
-slot_fault : (bytes : List ℕ) (fault : LayoutFault) → slot_of bytes ≡ Err fault → BadSlot ≡ fault
+slot_fault : (width : ℕ) (bytes : List ℕ) (fault : LayoutFault) → slot_of width bytes ≡ Err fault → BadSlot ≡ fault
 unfolding slot_of
-slot_fault bytes fault h = fault_by (inode_in bytes) (name_in bytes) (inode_in bytes == 0) (is_bad_name (name_in bytes)) fault h
+slot_fault width bytes fault h = fault_by (inode_in bytes) (name_in width bytes) (inode_in bytes == 0) (is_bad_name (name_in width bytes)) fault h
 
 some_of : (o : Option ℕ) → is_some o ≡ true → (k : ℕ) × (o ≡ Some k)
 some_of None h = absurd (true≢false (sym h))
@@ -53,7 +56,7 @@ module _ (g : Geometry) (blocks : List (List ℕ)) (i : Inode) (before : List Bo
   disk = disk_of blocks
 
   abbrev Entry : ℕ → Slot → Type 0
-  Entry = IsEntryAt blocks i
+  Entry = IsEntryAt g blocks i
 
   -- a place has one slot
   same_slot : (p : ℕ) (slot more : Slot) → Entry p slot → Entry p more → slot ≡ more
@@ -64,7 +67,7 @@ module _ (g : Geometry) (blocks : List (List ℕ)) (i : Inode) (before : List Bo
   pub record AreScanned (n : ℕ) (s : SlotScan) : Type 0 where
     pub size : length s.named ≡ g.inodes + 1
     pub kept : (k : ℕ) → is_marked before k ≡ true → is_marked s.named k ≡ true
-    pub read : (p : ℕ) → p < n → p < i.size / 16 → (slot : Option Slot) × (slot_behind blocks i p ≡ Ok slot)
+    pub read : (p : ℕ) → p < n → p < i.size / slot_size g.width → (slot : Option Slot) × (slot_behind g blocks i p ≡ Ok slot)
     pub within : (p : ℕ) (slot : Slot) → p < n → Entry p slot → slot.inode ≤ g.inodes
     pub has : (p : ℕ) (slot : Slot) → p < n → Entry p slot → at_name s.names slot.name ≡ Some (birth_of slot.inode)
     pub from : (name : List ℕ) (birth : ℕ) → at_name s.names name ≡ Some birth → (p : ℕ) × (slot : Slot) × (p < n) × Entry p slot × (slot.name ≡ name) × (birth_of slot.inode ≡ birth)
@@ -78,7 +81,7 @@ module _ (g : Geometry) (blocks : List (List ℕ)) (i : Inode) (before : List Bo
 
   -- what is wrong with the slot at a place, after those before it
   pub data IsBadAt (p : ℕ) : Type 0 where
-    no_name : slot_behind blocks i p ≡ Err BadSlot → IsBadAt p
+    no_name : slot_behind g blocks i p ≡ Err BadSlot → IsBadAt p
     no_inode : (slot : Slot) → Entry p slot → g.inodes < slot.inode → IsBadAt p
     name_before : (slot more : Slot) (q : ℕ) → Entry p slot → q < p → Entry q more → more.name ≡ slot.name → IsBadAt p
     named_before : (slot : Slot) → Entry p slot → IsDirectory g blocks slot.inode → is_marked before slot.inode ≡ true → IsBadAt p
@@ -88,17 +91,17 @@ module _ (g : Geometry) (blocks : List (List ℕ)) (i : Inode) (before : List Bo
   pub record StopsAt (p : ℕ) : Type 0 where
     pub scan : SlotScan
     pub scanned : AreScanned p scan
-    pub below : p < i.size / 16
+    pub below : p < i.size / slot_size g.width
     pub bad : IsBadAt p
 
   -- n slots were gone through, or there is a fault
   abbrev pub IsTested : ℕ → Result SlotScan Fault → Type 0
   IsTested n (Ok s) = AreScanned n s
-  IsTested n (Err fault) = (p : ℕ) × StopsAt p × (fault ≡ (BadSlot, zone_behind blocks i (p / 64)))
+  IsTested n (Err fault) = (p : ℕ) × StopsAt p × (fault ≡ (BadSlot, zone_behind blocks i (p / slots_a_block g.width)))
 
   -- slots that name nothing
   passed_over : (n m : ℕ) (s : SlotScan) → AreScanned n s → n ≤ m →
-      ((p : ℕ) → n ≤ p → p < m → p < i.size / 16 → (slot : Option Slot) × (slot_behind blocks i p ≡ Ok slot)) →
+      ((p : ℕ) → n ≤ p → p < m → p < i.size / slot_size g.width → (slot : Option Slot) × (slot_behind g blocks i p ≡ Ok slot)) →
       ((p : ℕ) (slot : Slot) → n ≤ p → p < m → Entry p slot → ⊥) → AreScanned m s
   passed_over n m s h more readable none =
       let early : (p : ℕ) (slot : Slot) → p < m → Entry p slot → p < n =
@@ -166,7 +169,7 @@ module _ (g : Geometry) (blocks : List (List ℕ)) (i : Inode) (before : List Bo
       read = λ q low below.
           ⊎_elim
           (λ l. h.read q l below)
-          (λ high. let same : p ≡ q = omega arith in subst (λ q. (slot : Option Slot) × (slot_behind blocks i q ≡ Ok slot)) same (Some slot, e.stands))
+          (λ high. let same : p ≡ q = omega arith in subst (λ q. (slot : Option Slot) × (slot_behind g blocks i q ≡ Ok slot)) same (Some slot, e.stands))
           (cases_lt q p);
       within = entry_cases (λ q t. t.inode ≤ g.inodes) (λ q t low f. h.within q t low f) inside;
       has = entry_cases (λ q t. at_name after.names t.name ≡ Some (birth_of t.inode)) (λ q t low f. old t.name (birth_of t.inode) (h.has q t low f)) here;
@@ -209,11 +212,11 @@ module _ (g : Geometry) (blocks : List (List ℕ)) (i : Inode) (before : List Bo
 
   -- ---- one slot
 
-  stops : (p z : ℕ) (s : SlotScan) → AreScanned p s → p < i.size / 16 → zone_behind blocks i (p / 64) ≡ z → IsBadAt p →
-      (q : ℕ) × StopsAt q × (◌≡◌ {A = Fault} (BadSlot, z) (BadSlot, zone_behind blocks i (q / 64)))
+  stops : (p z : ℕ) (s : SlotScan) → AreScanned p s → p < i.size / slot_size g.width → zone_behind blocks i (p / slots_a_block g.width) ≡ z → IsBadAt p →
+      (q : ℕ) × StopsAt q × (◌≡◌ {A = Fault} (BadSlot, z) (BadSlot, zone_behind blocks i (q / slots_a_block g.width)))
   stops p z s h below e bad = (p, record { scan = s; scanned = h; below = below; bad = bad }, ap (λ z. (BadSlot, z)) (sym e))
 
-  module _ (p z : ℕ) (slot : Slot) (s : SlotScan) (h : AreScanned p s) (e : Entry p slot) (zone_is : zone_behind blocks i (p / 64) ≡ z) where
+  module _ (p z : ℕ) (slot : Slot) (s : SlotScan) (h : AreScanned p s) (e : Entry p slot) (zone_is : zone_behind blocks i (p / slots_a_block g.width) ≡ z) where
     twice : is_marked s.named slot.inode ≡ true → IsDirectory g blocks slot.inode → IsBadAt p
     twice t d =
         ⊎_elim
@@ -265,18 +268,18 @@ module _ (g : Geometry) (blocks : List (List ℕ)) (i : Inode) (before : List Bo
         let good = or_parts (nat_lt g.inodes slot.inode) (is_some (at_name s.names slot.name)) bad in
         note_by (ltb-false g.inodes slot.inode good.0) good.1 (is_directory (inode_at g blocks slot.inode).mode) refl
 
-  module _ (p z : ℕ) (s : SlotScan) (h : AreScanned p s) (below : p < i.size / 16) (zone_is : zone_behind blocks i (p / 64) ≡ z) (some : z ≢ 0) where
-    slot_is : slot_behind blocks i p ≡ slot_of (record_at 16 (p % 64) (disk z))
+  module _ (p z : ℕ) (s : SlotScan) (h : AreScanned p s) (below : p < i.size / slot_size g.width) (zone_is : zone_behind blocks i (p / slots_a_block g.width) ≡ z) (some : z ≢ 0) where
+    slot_is : slot_behind g blocks i p ≡ slot_of g.width (record_at (slot_size g.width) (p % slots_a_block g.width) (disk z))
     slot_is = rw (zone_is, ne_eqb z 0 some) refl
 
-    one_over : ((slot : Slot) → Entry p slot → ⊥) → (o : Option Slot) → slot_of (record_at 16 (p % 64) (disk z)) ≡ Ok o → AreScanned (p + 1) s
+    one_over : ((slot : Slot) → Entry p slot → ⊥) → (o : Option Slot) → slot_of g.width (record_at (slot_size g.width) (p % slots_a_block g.width) (disk z)) ≡ Ok o → AreScanned (p + 1) s
     one_over none o read =
         let same : (q : ℕ) → p ≤ q → q < p + 1 → p ≡ q = λ q low high. omega arith in
         passed_over p (p + 1) s h (omega arith)
-        (λ q low high _. (o, subst (λ q. slot_behind blocks i q ≡ Ok o) (same q low high) (slot_is ∙ read)))
+        (λ q low high _. (o, subst (λ q. slot_behind g blocks i q ≡ Ok o) (same q low high) (slot_is ∙ read)))
         (λ q slot low high e. none slot (subst (λ q. Entry q slot) (sym (same q low high)) e))
 
-    dot_by : (slot : Slot) (dot : Bool) → is_dot slot.name ≡ dot → slot_of (record_at 16 (p % 64) (disk z)) ≡ Ok (Some slot) →
+    dot_by : (slot : Slot) (dot : Bool) → is_dot slot.name ≡ dot → slot_of g.width (record_at (slot_size g.width) (p % slots_a_block g.width) (disk z)) ≡ Ok (Some slot) →
         IsTested (p + 1) (answer disk (if dot then Ret (Ok s) else scan_entry g z slot s))
     dot_by slot true dot read =
         one_over
@@ -287,21 +290,21 @@ module _ (g : Geometry) (blocks : List (List ℕ)) (i : Inode) (before : List Bo
     dot_by slot false dot read =
         entry_by p z slot s h (record { below = below; stands = slot_is ∙ read; no_dot = dot }) zone_is (is_bad_entry g slot s) refl
 
-    used_by : (o : Option Slot) → slot_of (record_at 16 (p % 64) (disk z)) ≡ Ok o → IsTested (p + 1) (answer disk (scan_used g z s o))
+    used_by : (o : Option Slot) → slot_of g.width (record_at (slot_size g.width) (p % slots_a_block g.width) (disk z)) ≡ Ok o → IsTested (p + 1) (answer disk (scan_used g z s o))
     used_by None read =
         one_over (λ t e. none-some t (same_Ok None (Some t) (sym read ∙ (sym slot_is ∙ e.stands)))) None read
     used_by (Some slot) read = dot_by slot (is_dot slot.name) refl read
 
-    slot_by : (r : Result (Option Slot) LayoutFault) → slot_of (record_at 16 (p % 64) (disk z)) ≡ r →
+    slot_by : (r : Result (Option Slot) LayoutFault) → slot_of g.width (record_at (slot_size g.width) (p % slots_a_block g.width) (disk z)) ≡ r →
         IsTested (p + 1) (answer disk (elim r as (λ _. Reads (Result SlotScan Fault)) [ Err fault ↦ Ret (Err (fault, z)) | Ok slot ↦ scan_used g z s slot ]))
     slot_by (Ok o) read = used_by o read
     slot_by (Err fault) read =
-        let bad : BadSlot ≡ fault = slot_fault (record_at 16 (p % 64) (disk z)) fault read in
-        subst (λ fault. (q : ℕ) × StopsAt q × (◌≡◌ {A = Fault} (fault, z) (BadSlot, zone_behind blocks i (q / 64)))) bad
+        let bad : BadSlot ≡ fault = slot_fault g.width (record_at (slot_size g.width) (p % slots_a_block g.width) (disk z)) fault read in
+        subst (λ fault. (q : ℕ) × StopsAt q × (◌≡◌ {A = Fault} (fault, z) (BadSlot, zone_behind blocks i (q / slots_a_block g.width)))) bad
         (stops p z s h below zone_is (no_name (slot_is ∙ (read ∙ ap Err (sym bad)))))
 
-    slot_scan : IsTested (p + 1) (answer disk (scan_slot g z (record_at 16 (p % 64) (disk z)) s))
-    slot_scan = slot_by (slot_of (record_at 16 (p % 64) (disk z))) refl
+    slot_scan : IsTested (p + 1) (answer disk (scan_slot g z (record_at (slot_size g.width) (p % slots_a_block g.width) (disk z)) s))
+    slot_scan = slot_by (slot_of g.width (record_at (slot_size g.width) (p % slots_a_block g.width) (disk z))) refl
 
   -- ---- the slots of a block, and of all blocks
 
@@ -314,22 +317,22 @@ module _ (g : Geometry) (blocks : List (List ℕ)) (i : Inode) (before : List Bo
       ((s : SlotScan) → AreScanned n s → IsTested m (answer disk (next s))) → IsTested m (answer disk (if_ok program next))
   given_then program next n m h more = subst (λ r. IsTested m r) (sym (answer-and_then disk program (go_on next))) (going_on (answer disk program) next n m h more)
 
-  places_scan : (index z a n : ℕ) (s : SlotScan) → a + n ≤ 64 → zone_behind blocks i index ≡ z → z ≢ 0 → 64 * index + (a + n) ≤ i.size / 16 →
-      AreScanned (64 * index + a) s → IsTested (64 * index + (a + n)) (answer disk (scan_places g z (disk z) (range_with_len a n) s))
-  places_scan index z a zero s few zone_is some below h = let e : 64 * index + a ≡ 64 * index + (a + 0) = omega arith in subst (λ n. AreScanned n s) e h
+  places_scan : (index z a n : ℕ) (s : SlotScan) → a + n ≤ slots_a_block g.width → zone_behind blocks i index ≡ z → z ≢ 0 → slots_a_block g.width * index + (a + n) ≤ i.size / slot_size g.width →
+      AreScanned (slots_a_block g.width * index + a) s → IsTested (slots_a_block g.width * index + (a + n)) (answer disk (scan_places g z (disk z) (range_with_len a n) s))
+  places_scan index z a zero s few zone_is some below h = let e : slots_a_block g.width * index + a ≡ slots_a_block g.width * index + (a + 0) = omega arith in subst (λ n. AreScanned n s) e h
   places_scan index z a (suc n) s few zone_is some below h =
-      let block : (64 * index + a) / 64 ≡ index = omega arith in
-      let at : (64 * index + a) % 64 ≡ a = omega arith in
-      let next : (64 * index + a) + 1 ≡ 64 * index + (a + 1) = omega arith in
-      let end : 64 * index + ((a + 1) + n) ≡ 64 * index + (a + suc n) = omega arith in
-      given_then (scan_slot g z (record_at 16 a (disk z)) s) (scan_places g z (disk z) (range_with_len (a + 1) n)) (64 * index + (a + 1)) (64 * index + (a + suc n))
-      (subst (λ m. IsTested m (answer disk (scan_slot g z (record_at 16 a (disk z)) s))) next
-      (subst (λ k. IsTested (64 * index + a + 1) (answer disk (scan_slot g z (record_at 16 k (disk z)) s))) at
-      (slot_scan (64 * index + a) z s h (omega arith) (ap (zone_behind blocks i) block ∙ zone_is) some)))
+      let block : (slots_a_block g.width * index + a) / slots_a_block g.width ≡ index = block_of (slot_size g.width) (slots_a_block g.width) (form_is g.width) index a (omega arith) in
+      let at : (slots_a_block g.width * index + a) % slots_a_block g.width ≡ a = at_of (slot_size g.width) (slots_a_block g.width) (form_is g.width) index a (omega arith) in
+      let next : (slots_a_block g.width * index + a) + 1 ≡ slots_a_block g.width * index + (a + 1) = omega arith in
+      let end : slots_a_block g.width * index + ((a + 1) + n) ≡ slots_a_block g.width * index + (a + suc n) = omega arith in
+      given_then (scan_slot g z (record_at (slot_size g.width) a (disk z)) s) (scan_places g z (disk z) (range_with_len (a + 1) n)) (slots_a_block g.width * index + (a + 1)) (slots_a_block g.width * index + (a + suc n))
+      (subst (λ m. IsTested m (answer disk (scan_slot g z (record_at (slot_size g.width) a (disk z)) s))) next
+      (subst (λ k. IsTested (slots_a_block g.width * index + a + 1) (answer disk (scan_slot g z (record_at (slot_size g.width) k (disk z)) s))) at
+      (slot_scan (slots_a_block g.width * index + a) z s h (omega arith) (ap (zone_behind blocks i) block ∙ zone_is) some)))
       (λ t k. subst (λ m. IsTested m (answer disk (scan_places g z (disk z) (range_with_len (a + 1) n) t))) end (places_scan index z (a + 1) n t (omega arith) zone_is some (omega arith) k))
 
   -- behind the size there is nothing
-  past_size : (n m : ℕ) (s : SlotScan) → AreScanned n s → n ≤ m → ((p : ℕ) → n ≤ p → p < m → i.size / 16 ≤ p) → AreScanned m s
+  past_size : (n m : ℕ) (s : SlotScan) → AreScanned n s → n ≤ m → ((p : ℕ) → n ≤ p → p < m → i.size / slot_size g.width ≤ p) → AreScanned m s
   past_size n m s h more past =
       passed_over n m s h more
       (λ p low high below. absurd (let far = past p low high in omega arith))
@@ -340,27 +343,27 @@ module _ (g : Geometry) (blocks : List (List ℕ)) (i : Inode) (before : List Bo
   gives_more (Ok s) n m h on = on s h
   gives_more (Err fault) n m h on = h
 
-  block_by : (index z : ℕ) (s : SlotScan) (some_slots : Bool) → nat_lt (64 * index) (i.size / 16) ≡ some_slots → zone_behind blocks i index ≡ z → z ≢ 0 →
-      AreScanned (64 * index) s →
-      IsTested (64 * (index + 1)) (answer disk (if some_slots
-      then Read z (λ body. scan_places g z body (range_with_len 0 (min 64 (i.size / 16 - 64 * index))) s)
+  block_by : (index z : ℕ) (s : SlotScan) (some_slots : Bool) → nat_lt (slots_a_block g.width * index) (i.size / slot_size g.width) ≡ some_slots → zone_behind blocks i index ≡ z → z ≢ 0 →
+      AreScanned (slots_a_block g.width * index) s →
+      IsTested (slots_a_block g.width * (index + 1)) (answer disk (if some_slots
+      then Read z (λ body. scan_places g z body (range_with_len 0 (min (slots_a_block g.width) (i.size / slot_size g.width - slots_a_block g.width * index))) s)
       else Ret (Ok s)))
   block_by index z s true lower zone_is some h =
-      let low : 64 * index < i.size / 16 = ltb-true (64 * index) (i.size / 16) lower in
-      let start : 64 * index ≡ 64 * index + 0 = omega arith in
-      gives_more (answer disk (scan_places g z (disk z) (range_with_len 0 (min 64 (i.size / 16 - 64 * index))) s)) (64 * index + (0 + min 64 (i.size / 16 - 64 * index))) (64 * (index + 1))
-      (places_scan index z 0 (min 64 (i.size / 16 - 64 * index)) s (omega arith) zone_is some (omega arith) (subst (λ n. AreScanned n s) start h))
-      (λ t k. past_size (64 * index + (0 + min 64 (i.size / 16 - 64 * index))) (64 * (index + 1)) t k (omega arith) (λ p low high. omega arith))
+      let low : slots_a_block g.width * index < i.size / slot_size g.width = ltb-true (slots_a_block g.width * index) (i.size / slot_size g.width) lower in
+      let start : slots_a_block g.width * index ≡ slots_a_block g.width * index + 0 = omega arith in
+      gives_more (answer disk (scan_places g z (disk z) (range_with_len 0 (min (slots_a_block g.width) (i.size / slot_size g.width - slots_a_block g.width * index))) s)) (slots_a_block g.width * index + (0 + min (slots_a_block g.width) (i.size / slot_size g.width - slots_a_block g.width * index))) (slots_a_block g.width * (index + 1))
+      (places_scan index z 0 (min (slots_a_block g.width) (i.size / slot_size g.width - slots_a_block g.width * index)) s (omega arith) zone_is some (omega arith) (subst (λ n. AreScanned n s) start h))
+      (λ t k. past_size (slots_a_block g.width * index + (0 + min (slots_a_block g.width) (i.size / slot_size g.width - slots_a_block g.width * index))) (slots_a_block g.width * (index + 1)) t k (omega arith) (λ p low high. omega arith))
   block_by index z s false lower zone_is some h =
-      let high : i.size / 16 ≤ 64 * index = ltb-false (64 * index) (i.size / 16) lower in
-      past_size (64 * index) (64 * (index + 1)) s h (omega arith) (λ p low _. omega arith)
+      let high : i.size / slot_size g.width ≤ slots_a_block g.width * index = ltb-false (slots_a_block g.width * index) (i.size / slot_size g.width) lower in
+      past_size (slots_a_block g.width * index) (slots_a_block g.width * (index + 1)) s h (omega arith) (λ p low _. omega arith)
 
   -- a hole of the directory is free slots
-  holes_over : (low high : ℕ) (s : SlotScan) → AreScanned (64 * low) s → low ≤ high → ((k : ℕ) → low ≤ k → k < high → zone_behind blocks i k ≡ 0) → AreScanned (64 * high) s
+  holes_over : (low high : ℕ) (s : SlotScan) → AreScanned (slots_a_block g.width * low) s → low ≤ high → ((k : ℕ) → low ≤ k → k < high → zone_behind blocks i k ≡ 0) → AreScanned (slots_a_block g.width * high) s
   holes_over low high s h more holes =
-      let hole : (p : ℕ) → 64 * low ≤ p → p < 64 * high → slot_behind blocks i p ≡ Ok None =
-      λ p from to. let none : zone_behind blocks i (p / 64) ≡ 0 = holes (p / 64) (omega arith) (omega arith) in rw none refl in
-      passed_over (64 * low) (64 * high) s h (omega arith)
+      let hole : (p : ℕ) → slots_a_block g.width * low ≤ p → p < slots_a_block g.width * high → slot_behind g blocks i p ≡ Ok None =
+      λ p from to. let none : zone_behind blocks i (p / slots_a_block g.width) ≡ 0 = holes (p / slots_a_block g.width) (block_low (slot_size g.width) (slots_a_block g.width) (form_is g.width) low p from) (block_high (slot_size g.width) (slots_a_block g.width) (form_is g.width) high p to) in rw none refl in
+      passed_over (slots_a_block g.width * low) (slots_a_block g.width * high) s h (mul-le-mul_left (slots_a_block g.width) more)
       (λ p from to _. (None, hole p from to))
       (λ p slot from to e. none-some slot (same_Ok None (Some slot) (sym (hole p from to) ∙ e.stands)))
 
@@ -373,12 +376,12 @@ module _ (g : Geometry) (blocks : List (List ℕ)) (i : Inode) (before : List Bo
   pub slots_scan : (ms : List Mapped) (low high : ℕ) (s : SlotScan) → RiseWithin low ms high →
       ((m : Mapped) → In m ms → (zone_behind blocks i m.index ≡ m.zone) × (m.zone ≢ 0)) →
       ((k : ℕ) → low ≤ k → zone_behind blocks i k ≢ 0 → In (block_at k (zone_behind blocks i k)) ms) →
-      AreScanned (64 * low) s → IsTested (64 * high) (answer disk (scan_slots g (i.size / 16) ms s))
+      AreScanned (slots_a_block g.width * low) s → IsTested (slots_a_block g.width * high) (answer disk (scan_slots g (i.size / slot_size g.width) ms s))
   slots_scan [] low high s rise right full h =
       holes_over low high s h rise (λ k from to. ⊎_elim (λ none. none) (λ some. absurd (full k from some)) (cases_eq (zone_behind blocks i k) 0))
   slots_scan (m ∷ ms) low high s rise right full h =
       let at = right m (inl refl) in
-      let start : AreScanned (64 * m.index) s =
+      let start : AreScanned (slots_a_block g.width * m.index) s =
       holes_over low m.index s h rise.0
       (λ k from to.
       ⊎_elim (λ none. none)
@@ -389,8 +392,8 @@ module _ (g : Geometry) (blocks : List (List ℕ)) (i : Inode) (before : List Bo
       (λ inside. let far = in_rising (m.index + 1) ms high (block_at k (zone_behind blocks i k)) rise.1 inside in omega arith)
       (full k from some)))
       (cases_eq (zone_behind blocks i k) 0)) in
-      given_then (scan_block g (i.size / 16) m s) (scan_slots g (i.size / 16) ms) (64 * (m.index + 1)) (64 * high)
-      (block_by m.index m.zone s (nat_lt (64 * m.index) (i.size / 16)) refl at.0 at.1 start)
+      given_then (scan_block g (i.size / slot_size g.width) m s) (scan_slots g (i.size / slot_size g.width) ms) (slots_a_block g.width * (m.index + 1)) (slots_a_block g.width * high)
+      (block_by m.index m.zone s (nat_lt (slots_a_block g.width * m.index) (i.size / slot_size g.width)) refl at.0 at.1 start)
       (λ t k.
       slots_scan ms (m.index + 1) high t rise.1 (λ n inside. right n (inr inside))
       (λ j from some.

@@ -6,6 +6,8 @@ use Rattle.std.proofs.lemmas.Bool.{true≢false, false_from_ne_true, cases_eq, o
 use Rattle.std.proofs.lemmas.Option.{none-some, same_Some}
 use Rattle.byte_fields.specs.Fields.{record_at}
 use Rattle.blk_base.specs.Members.{In}
+use Rattle.minix_layout.specs.laws.Places.{block_of, at_of, place_low, place_whole, form_is}
+use Rattle.minix_layout.specs.Widths.{slot_size, slots_a_block}
 use Rattle.minix_layout.specs.declared.division.Geometry.{Geometry}
 use Rattle.minix_layout.specs.declared.slot.Slot.{Slot}
 use Rattle.minix_layout.specs.declared.fault.LayoutFault.{LayoutFault}
@@ -37,9 +39,9 @@ slot_used_by n name false false slot f h =
     let some : n ≢ 0 = eqb-false n 0 f in omega arith
 
 -- a slot that is in use has the number of an inode
-pub slot_of-used : (bytes : List ℕ) (slot : Slot) → slot_of bytes ≡ Ok (Some slot) → 0 < slot.inode
+pub slot_of-used : (width : ℕ) (bytes : List ℕ) (slot : Slot) → slot_of width bytes ≡ Ok (Some slot) → 0 < slot.inode
 unfolding slot_of
-slot_of-used bytes slot h = slot_used_by (inode_in bytes) (name_in bytes) (inode_in bytes == 0) (is_bad_name (name_in bytes)) slot refl h
+slot_of-used width bytes slot h = slot_used_by (inode_in bytes) (name_in width bytes) (inode_in bytes == 0) (is_bad_name (name_in width bytes)) slot refl h
 
 -- numbers in a range
 In-range : (a n k : ℕ) → In k (range_with_len a n) → (a ≤ k) × (k < a + n)
@@ -238,8 +240,8 @@ module _ (disk : ℕ → List ℕ) (g : Geometry) where
   slot_goes_by before zone (Err fault) s after h some r = absurd (err-ok (fault, zone) after r)
 
   pub scan_slot-goes : (before : List Bool) (zone : ℕ) (bytes : List ℕ) (s after : SlotScan) → IsNamed before s →
-      answer disk (scan_slot g zone bytes s) ≡ Ok after → Goes (λ t. slot_of bytes ≡ Ok (Some t)) before s after
-  scan_slot-goes before zone bytes s after h r = slot_goes_by before zone (slot_of bytes) s after h (slot_of-used bytes) r
+      answer disk (scan_slot g zone bytes s) ≡ Ok after → Goes (λ t. slot_of g.width bytes ≡ Ok (Some t)) before s after
+  scan_slot-goes before zone bytes s after h r = slot_goes_by before zone (slot_of g.width bytes) s after h (slot_of-used g.width bytes) r
 
   -- ---- the slots of a block
 
@@ -247,7 +249,7 @@ module _ (disk : ℕ → List ℕ) (g : Geometry) where
   pub record IsPlaced (body ats : List ℕ) (slot : Slot) : Type 0 where
     pub at : ℕ
     pub within : In at ats
-    pub stands : slot_of (record_at 16 at body) ≡ Ok (Some slot)
+    pub stands : slot_of g.width (record_at (slot_size g.width) at body) ≡ Ok (Some slot)
 
   pub scan_places-goes : (before : List Bool) (zone : ℕ) (body ats : List ℕ) (s after : SlotScan) → IsNamed before s →
       answer disk (scan_places g zone body ats s) ≡ Ok after → Goes (IsPlaced body ats) before s after
@@ -255,13 +257,13 @@ module _ (disk : ℕ → List ℕ) (g : Geometry) where
       subst (λ after. Goes (IsPlaced body []) before s after) (same_Ok s after r)
       (goes_none (IsPlaced body []) before s (λ slot q dot. q.within) h)
   scan_places-goes before zone body (at ∷ ats) s after h r =
-      let parts = if_ok-parts disk (scan_slot g zone (record_at 16 at body) s) (scan_places g zone body ats) after r in
-      let first = scan_slot-goes before zone (record_at 16 at body) s parts.0 h parts.1 in
-      goes_on (λ t. slot_of (record_at 16 at body) ≡ Ok (Some t)) (IsPlaced body ats) (IsPlaced body (at ∷ ats)) before s parts.0 after
+      let parts = if_ok-parts disk (scan_slot g zone (record_at (slot_size g.width) at body) s) (scan_places g zone body ats) after r in
+      let first = scan_slot-goes before zone (record_at (slot_size g.width) at body) s parts.0 h parts.1 in
+      goes_on (λ t. slot_of g.width (record_at (slot_size g.width) at body) ≡ Ok (Some t)) (IsPlaced body ats) (IsPlaced body (at ∷ ats)) before s parts.0 after
       first (scan_places-goes before zone body ats parts.0 after first.named parts.2)
       (λ slot q.
       ⊎_elim
-      (λ e. inl (subst (λ at. slot_of (record_at 16 at body) ≡ Ok (Some slot)) (sym e) q.stands))
+      (λ e. inl (subst (λ at. slot_of g.width (record_at (slot_size g.width) at body) ≡ Ok (Some slot)) (sym e) q.stands))
       (λ i. inr (record { at = q.at; within = i; stands = q.stands }))
       q.within)
       (λ slot p. record { at = at; within = inl refl; stands = p })
@@ -273,37 +275,39 @@ module _ (disk : ℕ → List ℕ) (g : Geometry) where
   pub record IsInBlock (slots : ℕ) (m : Mapped) (slot : Slot) : Type 0 where
     pub place : ℕ
     pub below : place < slots
-    pub block : place / 64 ≡ m.index
-    pub stands : slot_of (record_at 16 (place % 64) (disk m.zone)) ≡ Ok (Some slot)
+    pub block : place / slots_a_block g.width ≡ m.index
+    pub stands : slot_of g.width (record_at (slot_size g.width) (place % slots_a_block g.width) (disk m.zone)) ≡ Ok (Some slot)
 
   -- the places of a block below the size
   abbrev pub places_below : ℕ → ℕ → List ℕ
-  places_below slots index = range_with_len 0 (min 64 (slots - 64 * index))
+  places_below slots index = range_with_len 0 (min (slots_a_block g.width) (slots - slots_a_block g.width * index))
 
   in_block : (slots : ℕ) (m : Mapped) (slot : Slot) → IsPlaced (disk m.zone) (places_below slots m.index) slot → IsInBlock slots m slot
   in_block slots m slot q =
-      let bound = In-range 0 (min 64 (slots - 64 * m.index)) q.at q.within in
+      let bound = In-range 0 (min (slots_a_block g.width) (slots - slots_a_block g.width * m.index)) q.at q.within in
       let low = bound.1 in
-      let here : (64 * m.index + q.at) % 64 ≡ q.at = omega arith in
+      let here : (slots_a_block g.width * m.index + q.at) % slots_a_block g.width ≡ q.at = at_of (slot_size g.width) (slots_a_block g.width) (form_is g.width) m.index q.at (omega arith) in
       record {
-        place = 64 * m.index + q.at;
+        place = slots_a_block g.width * m.index + q.at;
         below = omega arith;
-        block = omega arith;
-        stands = subst (λ at. slot_of (record_at 16 at (disk m.zone)) ≡ Ok (Some slot)) (sym here) q.stands;
+        block = block_of (slot_size g.width) (slots_a_block g.width) (form_is g.width) m.index q.at (omega arith);
+        stands = subst (λ at. slot_of g.width (record_at (slot_size g.width) at (disk m.zone)) ≡ Ok (Some slot)) (sym here) q.stands;
       }
 
   placed : (slots : ℕ) (m : Mapped) (slot : Slot) → IsInBlock slots m slot → IsPlaced (disk m.zone) (places_below slots m.index) slot
   placed slots m slot q =
       let place : ℕ = q.place in
       let below : place < slots = q.below in
-      let block : place / 64 ≡ m.index = q.block in
+      let block : place / slots_a_block g.width ≡ m.index = q.block in
+      let low = place_low (slot_size g.width) (slots_a_block g.width) (form_is g.width) place in
+      let whole : slots_a_block g.width * m.index + place % slots_a_block g.width ≡ place = ap (λ b. slots_a_block g.width * b + place % slots_a_block g.width) (sym block) ∙ place_whole (slot_size g.width) (slots_a_block g.width) (form_is g.width) place in
       record {
-        at = q.place % 64;
-        within = range-In 0 (min 64 (slots - 64 * m.index)) (place % 64) (omega arith) (omega arith);
+        at = q.place % slots_a_block g.width;
+        within = range-In 0 (min (slots_a_block g.width) (slots - slots_a_block g.width * m.index)) (place % slots_a_block g.width) (omega arith) (omega arith);
         stands = q.stands;
       }
 
-  block_goes_by : (before : List Bool) (slots : ℕ) (m : Mapped) (s after : SlotScan) (some : Bool) → nat_lt (64 * m.index) slots ≡ some → IsNamed before s →
+  block_goes_by : (before : List Bool) (slots : ℕ) (m : Mapped) (s after : SlotScan) (some : Bool) → nat_lt (slots_a_block g.width * m.index) slots ≡ some → IsNamed before s →
       answer disk (if some then Read m.zone (λ body. scan_places g m.zone body (places_below slots m.index) s) else Ret (Ok s)) ≡ Ok after →
       Goes (IsInBlock slots m) before s after
   block_goes_by before slots m s after true some h r =
@@ -311,14 +315,17 @@ module _ (disk : ℕ → List ℕ) (g : Geometry) where
       (scan_places-goes before m.zone (disk m.zone) (places_below slots m.index) s after h r)
       (in_block slots m) (placed slots m)
   block_goes_by before slots m s after false some h r =
-      let high : slots ≤ 64 * m.index = ltb-false (64 * m.index) slots some in
+      let high : slots ≤ slots_a_block g.width * m.index = ltb-false (slots_a_block g.width * m.index) slots some in
       subst (λ after. Goes (IsInBlock slots m) before s after) (same_Ok s after r)
       (goes_none (IsInBlock slots m) before s
-      (λ slot q dot. let below : q.place < slots = q.below in let block : q.place / 64 ≡ m.index = q.block in omega arith) h)
+      (λ slot q dot.
+      let below : q.place < slots = q.below in
+      let whole : slots_a_block g.width * m.index + q.place % slots_a_block g.width ≡ q.place = ap (λ b. slots_a_block g.width * b + q.place % slots_a_block g.width) (sym q.block) ∙ place_whole (slot_size g.width) (slots_a_block g.width) (form_is g.width) q.place in
+      omega arith) h)
 
   pub scan_block-goes : (before : List Bool) (slots : ℕ) (m : Mapped) (s after : SlotScan) → IsNamed before s →
       answer disk (scan_block g slots m s) ≡ Ok after → Goes (IsInBlock slots m) before s after
-  scan_block-goes before slots m s after h r = block_goes_by before slots m s after (nat_lt (64 * m.index) slots) refl h r
+  scan_block-goes before slots m s after h r = block_goes_by before slots m s after (nat_lt (slots_a_block g.width * m.index) slots) refl h r
 
   -- a slot of one of these blocks
   pub record IsInBlocks (slots : ℕ) (blocks : List Mapped) (slot : Slot) : Type 0 where

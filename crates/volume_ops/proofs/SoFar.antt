@@ -4,6 +4,7 @@ use Rattle.std.proofs.Common.{sym, subst, ◌∙◌, inl, inr, ⊎_elim, arith}
 use Rattle.std.proofs.lemmas.Bool.{true≢false, cases_Bool, cases_eq, cases_lt}
 use Rattle.blk_base.specs.Members.{In}
 use Rattle.blk_base.specs.laws.Members.{In-push, In-push_left, In-push_cases, In-append_left, In-append_right, In-append_cases}
+use Rattle.minix_layout.specs.Widths.{slot_size}
 use Rattle.minix_layout.specs.declared.division.Geometry.{Geometry}
 use Rattle.minix_layout.specs.declared.slot.Slot.{Slot}
 use Rattle.volume_ops.specs.declared.found.FoundNode.{FoundNode}
@@ -52,7 +53,7 @@ pub record AddsZones (g : Geometry) (blocks : List (List ℕ)) (inode : ℕ) (ol
 pub record AddsNames (g : Geometry) (blocks : List (List ℕ)) (inode : ℕ) (old new : List Bool) (named : List ℕ) : Type 0 where
   pub size : length new ≡ g.inodes + 1
   pub kept : (k : ℕ) → is_marked old k ≡ true → is_marked new k ≡ true
-  pub read : (place : ℕ) → IsDirectory g blocks inode → place < slots_of g blocks inode → (slot : Option Slot) × (slot_behind blocks (inode_at g blocks inode) place ≡ Ok slot)
+  pub read : (place : ℕ) → IsDirectory g blocks inode → place < slots_of g blocks inode → (slot : Option Slot) × (slot_behind g blocks (inode_at g blocks inode) place ≡ Ok slot)
   pub within : (place : ℕ) (slot : Slot) → NamesAt g blocks inode place slot → slot.inode ≤ g.inodes
   pub some : (place : ℕ) (slot : Slot) → NamesAt g blocks inode place slot → 0 < slot.inode
   pub once : (place other : ℕ) (slot more : Slot) → NamesAt g blocks inode place slot → NamesAt g blocks inode other more → slot.name ≡ more.name → place ≡ other
@@ -88,8 +89,8 @@ module _ (g : Geometry) (blocks : List (List ℕ)) (met ahead : List ℕ) (w : W
   size_of : HasZones g blocks n → (inode_at g blocks n).size ≤ largest_size
   size_of z = ⊎_elim (λ great. absurd (good (size_too_large z great))) (λ low. low) (cases_lt largest_size (inode_at g blocks n).size)
 
-  whole_of : IsDirectory g blocks n → (inode_at g blocks n).size % 16 ≡ 0
-  whole_of d = ⊎_elim (λ none. none) (λ some. absurd (good (part_of_a_slot d some))) (cases_eq ((inode_at g blocks n).size % 16) 0)
+  whole_of : IsDirectory g blocks n → (inode_at g blocks n).size % slot_size g.width ≡ 0
+  whole_of d = ⊎_elim (λ none. none) (λ some. absurd (good (part_of_a_slot d some))) (cases_eq ((inode_at g blocks n).size % slot_size g.width) 0)
 
   zone_apart : (other : ℕ) (x y : ZonePlace) → In other met → HasZones g blocks other → HasZones g blocks n → zone_at_place g blocks other y ≢ 0 →
       zone_at_place g blocks other y ≡ zone_at_place g blocks n x → ⊥
@@ -107,11 +108,11 @@ module _ (g : Geometry) (blocks : List (List ℕ)) (met ahead : List ℕ) (w : W
   more_faultless = record {
     root = λ i. root_kind;
     size = each (λ k. HasZones g blocks k → (inode_at g blocks k).size ≤ largest_size) h.faultless.size size_of;
-    whole_slots = each (λ k. IsDirectory g blocks k → (inode_at g blocks k).size % 16 ≡ 0) h.faultless.whole_slots whole_of;
+    whole_slots = each (λ k. IsDirectory g blocks k → (inode_at g blocks k).size % slot_size g.width ≡ 0) h.faultless.whole_slots whole_of;
     zone_within = λ k x i. each (λ k. HasZones g blocks k → zone_at_place g blocks k x ≢ 0 → (g.first ≤ zone_at_place g blocks k x) × (zone_at_place g blocks k x < g.zones))
         (λ k i. h.faultless.zone_within k x i) (zs.within x) k i;
     zone_once = λ k other x y i j. zone_once_more x y k i other j;
-    slot_read = λ k place i. each (λ k. IsDirectory g blocks k → place < slots_of g blocks k → (slot : Option Slot) × (slot_behind blocks (inode_at g blocks k) place ≡ Ok slot))
+    slot_read = λ k place i. each (λ k. IsDirectory g blocks k → place < slots_of g blocks k → (slot : Option Slot) × (slot_behind g blocks (inode_at g blocks k) place ≡ Ok slot))
         (λ k i. h.faultless.slot_read k place i) (ns.read place) k i;
     inode_within = λ k place slot i. each (λ k. NamesAt g blocks k place slot → slot.inode ≤ g.inodes) (λ k i. h.faultless.inode_within k place slot i) (ns.within place slot) k i;
     name_once = λ k place other slot more i. each (λ k. NamesAt g blocks k place slot → NamesAt g blocks k other more → slot.name ≡ more.name → place ≡ other)

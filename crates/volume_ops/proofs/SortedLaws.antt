@@ -7,6 +7,7 @@ use Rattle.std.proofs.lemmas.Cmp.{nat_list_cmp_total}
 use Rattle.byte_fields.specs.Fields.{record_at}
 use Rattle.blk_base.specs.Members.{In}
 use Rattle.blk_base.specs.laws.Members.{All-In}
+use Rattle.minix_layout.specs.Widths.{slot_size, slots_a_block}
 use Rattle.minix_layout.specs.declared.division.Geometry.{Geometry}
 use Rattle.minix_layout.specs.declared.slot.Slot.{Slot}
 use Rattle.minix_layout.specs.declared.fault.LayoutFault.{LayoutFault}
@@ -65,15 +66,15 @@ module _ (disk : ℕ → List ℕ) (g : Geometry) where
   places_sorted : (zone : ℕ) (body ats : List ℕ) (s : SlotScan) → NamesSorted s → IfOk (answer disk (scan_places g zone body ats s)) NamesSorted
   places_sorted zone body [] s h = h
   places_sorted zone body (at ∷ ats) s h =
-      answered_then disk (scan_slot g zone (record_at 16 at body) s) (scan_places g zone body ats) NamesSorted NamesSorted
-      (slot_sorted zone s (slot_of (record_at 16 at body)) h) (λ t k. places_sorted zone body ats t k)
+      answered_then disk (scan_slot g zone (record_at (slot_size g.width) at body) s) (scan_places g zone body ats) NamesSorted NamesSorted
+      (slot_sorted zone s (slot_of g.width (record_at (slot_size g.width) at body)) h) (λ t k. places_sorted zone body ats t k)
 
   slots_sorted : (slots : ℕ) (ms : List Mapped) (s : SlotScan) → NamesSorted s → IfOk (answer disk (scan_slots g slots ms s)) NamesSorted
   slots_sorted slots [] s h = h
   slots_sorted slots (m ∷ ms) s h =
       answered_then disk (scan_block g slots m s) (scan_slots g slots ms) NamesSorted NamesSorted
-      (either_answers disk (nat_lt (64 * m.index) slots) _ (Ret (Ok s)) NamesSorted
-      (places_sorted m.zone (disk m.zone) (range_with_len 0 (min 64 (slots - 64 * m.index))) s h) h)
+      (either_answers disk (nat_lt (slots_a_block g.width * m.index) slots) _ (Ret (Ok s)) NamesSorted
+      (places_sorted m.zone (disk m.zone) (range_with_len 0 (min (slots_a_block g.width) (slots - slots_a_block g.width * m.index))) s h) h)
       (λ t k. slots_sorted slots ms t k)
 
 -- ---- the walk
@@ -87,7 +88,7 @@ pub walked_sorted : (g : Geometry) (blocks : List (List ℕ)) (w : Walked) → w
 walked_sorted g blocks w e n i =
     let all = walked_has g blocks (λ n. HasSorted n.found) (λ number z. Unit {0}) NamesSorted
     (λ w e. any_ok (answer (disk_of blocks) (scan_zones g (table_block g e.inode) (inode_in_block e.inode (disk_of blocks (table_block g e.inode))).zones w.zones)))
-    (λ w e z. slots_sorted (disk_of blocks) g ((inode_in_block e.inode (disk_of blocks (table_block g e.inode))).size / 16) z.mapped (record { named = w.named; names = [] }) none_sorted)
+    (λ w e z. slots_sorted (disk_of blocks) g ((inode_in_block e.inode (disk_of blocks (table_block g e.inode))).size / slot_size g.width) z.mapped (record { named = w.named; names = [] }) none_sorted)
     (λ e z k. tt) (λ e s sorted. sorted) (λ e. tt) w e in
     All-In (λ (n : FoundNode). HasSorted n.found) w.nodes n all i
 

@@ -86,11 +86,11 @@ directory_of (nodes.File f) name birth h = absurd (none-some birth h)
 directory_of (nodes.Other mode) name birth h = absurd (none-some birth h)
 
 -- a directory that has one parent only
-below_one : (blocks : List (List ℕ)) (i : Inode) (node : Node) (parent other : ℕ) → IsNodeOf blocks i node → IsBelow other node →
+below_one : (g : Geometry) (blocks : List (List ℕ)) (i : Inode) (node : Node) (parent other : ℕ) → IsNodeOf g blocks i node → IsBelow other node →
     (is_directory i.mode ≡ true → other ≡ parent) → IsBelow parent node
-below_one blocks i (nodes.Directory d) parent other says below one = below ∙ one says.kind
-below_one blocks i (nodes.File f) parent other says below one = tt
-below_one blocks i (nodes.Other mode) parent other says below one = tt
+below_one g blocks i (nodes.Directory d) parent other says below one = below ∙ one says.kind
+below_one g blocks i (nodes.File f) parent other says below one = tt
+below_one g blocks i (nodes.Other mode) parent other says below one = tt
 
 module _ (g : Geometry) (blocks : List (List ℕ)) (ends : (ns : List FoundNode) × Ends g blocks ns) where
   abbrev ns : List FoundNode
@@ -127,11 +127,11 @@ module _ (g : Geometry) (blocks : List (List ℕ)) (ends : (ns : List FoundNode)
         named = d.2;
       }
 
-  each_says : (birth : ℕ) (node : Node) → at_number tree birth ≡ Some node → IsNodeOf blocks (inode_at g blocks (inode_of_birth birth)) node
+  each_says : (birth : ℕ) (node : Node) → at_number tree birth ≡ Some node → IsNodeOf g blocks (inode_at g blocks (inode_of_birth birth)) node
   each_says birth node e =
       let x = of_tree birth node e in
-      subst (λ node. IsNodeOf blocks (inode_at g blocks (inode_of_birth birth)) node) x.node_is
-      (subst (λ birth. IsNodeOf blocks (inode_at g blocks (inode_of_birth birth)) (node_of blocks x.one.found)) x.birth_is (h.each x.one x.within))
+      subst (λ node. IsNodeOf g blocks (inode_at g blocks (inode_of_birth birth)) node) x.node_is
+      (subst (λ birth. IsNodeOf g blocks (inode_at g blocks (inode_of_birth birth)) (node_of blocks x.one.found)) x.birth_is (h.each x.one x.within))
 
   leads_to : (parent : ℕ) (name : List ℕ) (birth : ℕ) → HasEntry tree parent name birth → (node : Node) × (at_number tree birth ≡ Some node) × IsBelow parent node
   leads_to parent name birth names =
@@ -144,7 +144,7 @@ module _ (g : Geometry) (blocks : List (List ℕ)) (ends : (ns : List FoundNode)
       let stands : at_number tree birth ≡ Some (node_of blocks x.0.found) = subst (λ birth. at_number tree birth ≡ Some (node_of blocks x.0.found)) same (in_tree x.0 x.1) in (
         node_of blocks x.0.found,
         stands,
-        below_one blocks (inode_at g blocks (inode_of_birth birth)) (node_of blocks x.0.found) parent y.0
+        below_one g blocks (inode_at g blocks (inode_of_birth birth)) (node_of blocks x.0.found) parent y.0
             (each_says birth (node_of blocks x.0.found) stands) y.3
             (λ d. (h.once y.0 parent y.1 name birth other n d).0),
       )

@@ -112,28 +112,29 @@ NamesSorted (nodes.Other mode) = Unit {0}
 no_directory_file : (i : Inode) → is_directory i.mode ≡ true → is_file i.mode ≡ true → ⊥
 no_directory_file i d f = let four = eqb-true (i.mode / 4096) 4 d in let eight = eqb-true (i.mode / 4096) 8 f in omega arith
 
-same_node : (blocks : List (List ℕ)) (i : Inode) (parent : ℕ) (m n : Node) → IsNodeOf blocks i m → IsNodeOf blocks i n → IsBelow parent m → IsBelow parent n →
+same_node : (g : Geometry) (blocks : List (List ℕ)) (i : Inode) (parent : ℕ) (m n : Node) → IsNodeOf g blocks i m → IsNodeOf g blocks i n → IsBelow parent m → IsBelow parent n →
     NamesSorted m → NamesSorted n → m ≡ n
-same_node blocks i parent (nodes.Directory c) (nodes.Directory d) a b below other s t =
+same_node g blocks i parent (nodes.Directory c) (nodes.Directory d) a b below other s t =
     let names : c.names ≡ d.names =
     same_maps name_cmp nat_list_cmp_total name_here name_same c.names d.names s t
     (λ name. same_options (at_name c.names name) (at_name d.names name)
     (λ birth q. (b.names name birth).1 ((a.names name birth).0 q)) (λ birth q. (a.names name birth).1 ((b.names name birth).0 q))) in
     let slots : c.slots ≡ d.slots = a.slots ∙ sym b.slots in
     let up : c.parent ≡ d.parent = below ∙ sym other in
-    ap nodes.Directory (rw (up, slots, names) refl)
-same_node blocks i parent (nodes.File c) (nodes.File d) a b below other s t =
+    let width : c.width ≡ d.width = a.width ∙ sym b.width in
+    ap nodes.Directory (rw (up, width, slots, names) refl)
+same_node g blocks i parent (nodes.File c) (nodes.File d) a b below other s t =
     let bodies : c.blocks ≡ d.blocks = same_maps nat_cmp nat_cmp_total number_here number_same c.blocks d.blocks s t (λ index. a.bodies index ∙ sym (b.bodies index)) in
     let size : c.size ≡ d.size = a.size ∙ sym b.size in
     let links : c.links ≡ d.links = a.links ∙ sym b.links in
     ap nodes.File (rw (size, links, bodies) refl)
-same_node blocks i parent (nodes.Other p) (nodes.Other q) a b below other s t = ap nodes.Other (a.mode_is ∙ sym b.mode_is)
-same_node blocks i parent (nodes.Directory c) (nodes.File d) a b below other s t = absurd (no_directory_file i a.kind b.kind)
-same_node blocks i parent (nodes.Directory c) (nodes.Other q) a b below other s t = absurd (true≢false (sym a.kind ∙ b.no_directory))
-same_node blocks i parent (nodes.File c) (nodes.Directory d) a b below other s t = absurd (no_directory_file i b.kind a.kind)
-same_node blocks i parent (nodes.File c) (nodes.Other q) a b below other s t = absurd (true≢false (sym a.kind ∙ b.no_file))
-same_node blocks i parent (nodes.Other p) (nodes.Directory d) a b below other s t = absurd (true≢false (sym b.kind ∙ a.no_directory))
-same_node blocks i parent (nodes.Other p) (nodes.File d) a b below other s t = absurd (true≢false (sym b.kind ∙ a.no_file))
+same_node g blocks i parent (nodes.Other p) (nodes.Other q) a b below other s t = ap nodes.Other (a.mode_is ∙ sym b.mode_is)
+same_node g blocks i parent (nodes.Directory c) (nodes.File d) a b below other s t = absurd (no_directory_file i a.kind b.kind)
+same_node g blocks i parent (nodes.Directory c) (nodes.Other q) a b below other s t = absurd (true≢false (sym a.kind ∙ b.no_directory))
+same_node g blocks i parent (nodes.File c) (nodes.Directory d) a b below other s t = absurd (no_directory_file i b.kind a.kind)
+same_node g blocks i parent (nodes.File c) (nodes.Other q) a b below other s t = absurd (true≢false (sym a.kind ∙ b.no_file))
+same_node g blocks i parent (nodes.Other p) (nodes.Directory d) a b below other s t = absurd (true≢false (sym b.kind ∙ a.no_directory))
+same_node g blocks i parent (nodes.Other p) (nodes.File d) a b below other s t = absurd (true≢false (sym b.kind ∙ a.no_file))
 
 -- ---- a volume has one tree
 
@@ -146,7 +147,7 @@ module _ (g : Geometry) (blocks : List (List ℕ)) where
   same_at : (t u : List (ℕ × Node)) → IsVolumeTree g blocks t → IsVolumeTree g blocks u → (parent birth : ℕ) (m n : Node) →
       at_number t birth ≡ Some m → at_number u birth ≡ Some n → IsBelow parent m → IsBelow parent n → m ≡ n
   same_at t u h k parent birth m n e f below other =
-      same_node blocks (inode_at g blocks (inode_of_birth birth)) parent m n (h.fields.each birth m e) (k.fields.each birth n f) below other (sorted_at t h birth m e) (sorted_at u k birth n f)
+      same_node g blocks (inode_at g blocks (inode_of_birth birth)) parent m n (h.fields.each birth m e) (k.fields.each birth n f) below other (sorted_at t h birth m e) (sorted_at u k birth n f)
 
   led_same : (t u : List (ℕ × Node)) → IsVolumeTree g blocks t → IsVolumeTree g blocks u → {birth : ℕ} → IsLedTo t birth → (n : Node) → at_number t birth ≡ Some n → at_number u birth ≡ Some n
   led_same t u h k at_root n e =

@@ -7,6 +7,7 @@ use Rattle.std.proofs.lemmas.Option.{none-some}
 use Rattle.std.proofs.lemmas.List.FromFn.{length-map-range_with_len}
 use Rattle.byte_fields.specs.Fields.{record_at}
 use Rattle.blk_base.specs.Members.{In}
+use Rattle.minix_layout.specs.Widths.{slot_size, slots_a_block}
 use Rattle.minix_layout.specs.declared.division.Geometry.{Geometry}
 use Rattle.minix_layout.specs.declared.inode.Inode.{Inode}
 use Rattle.minix_layout.specs.declared.slot.Slot.{Slot}
@@ -39,46 +40,46 @@ number_found k m n q e = subst (λ j. is_eq (nat_cmp k j) ≡ true) (sym (ap (λ
 -- ---- the slots of a directory, by its map
 
 module _ (g : Geometry) (blocks : List (List ℕ)) (i : Inode) (mapped : List Mapped) (of_map : (end : ℕ) → IsMapTo mapped (zone_behind blocks i) end) where
-  slot_at : (place zone : ℕ) (slot : Slot) → zone_behind blocks i (place / 64) ≡ zone → zone ≢ 0 →
-      slot_of (record_at 16 (place % 64) (disk_of blocks zone)) ≡ Ok (Some slot) → slot_behind blocks i place ≡ Ok (Some slot)
+  slot_at : (place zone : ℕ) (slot : Slot) → zone_behind blocks i (place / slots_a_block g.width) ≡ zone → zone ≢ 0 →
+      slot_of g.width (record_at (slot_size g.width) (place % slots_a_block g.width) (disk_of blocks zone)) ≡ Ok (Some slot) → slot_behind g blocks i place ≡ Ok (Some slot)
   slot_at place zone slot e some h = rw (e, ne_eqb zone 0 some) h
 
-  slot_stands : (slots : ℕ) (slot : Slot) → IsInBlocks (disk_of blocks) g slots mapped slot → (place : ℕ) × (place < slots) × (slot_behind blocks i place ≡ Ok (Some slot))
+  slot_stands : (slots : ℕ) (slot : Slot) → IsInBlocks (disk_of blocks) g slots mapped slot → (place : ℕ) × (place < slots) × (slot_behind g blocks i place ≡ Ok (Some slot))
   slot_stands slots slot q =
       let right = (of_map 0).right q.block q.within in
       (q.stands.place, q.stands.below, slot_at q.stands.place q.block.zone slot (ap (zone_behind blocks i) q.stands.block ∙ right.0) right.1 q.stands.stands)
 
-  stands_by : (slots place zone : ℕ) (slot : Slot) → place < slots → zone_behind blocks i (place / 64) ≡ zone →
-      ◌≡◌ {A = Result (Option Slot) LayoutFault} (if zone == 0 then Ok None else slot_of (record_at 16 (place % 64) (disk_of blocks zone))) (Ok (Some slot)) →
+  stands_by : (slots place zone : ℕ) (slot : Slot) → place < slots → zone_behind blocks i (place / slots_a_block g.width) ≡ zone →
+      ◌≡◌ {A = Result (Option Slot) LayoutFault} (if zone == 0 then Ok None else slot_of g.width (record_at (slot_size g.width) (place % slots_a_block g.width) (disk_of blocks zone))) (Ok (Some slot)) →
       IsInBlocks (disk_of blocks) g slots mapped slot
   stands_by slots place zone slot below e h =
       ⊎_elim
       (λ none. absurd (none-some slot (same_Ok None (Some slot) (rw (eq-eqb zone 0 none) at h))))
       (λ some. record {
-        block = block_at (place / 64) zone;
-        within = subst (λ zone. In (block_at (place / 64) zone) mapped) e ((of_map (place / 64 + 1)).full (place / 64) (omega arith) (λ none. some (sym e ∙ none)));
+        block = block_at (place / slots_a_block g.width) zone;
+        within = subst (λ zone. In (block_at (place / slots_a_block g.width) zone) mapped) e ((of_map (place / slots_a_block g.width + 1)).full (place / slots_a_block g.width) (omega arith) (λ none. some (sym e ∙ none)));
         stands = record { place = place; below = below; block = refl; stands = rw (ne_eqb zone 0 some) at h };
       })
       (cases_eq zone 0)
 
-  slot_met : (slots place : ℕ) (slot : Slot) → place < slots → slot_behind blocks i place ≡ Ok (Some slot) → IsInBlocks (disk_of blocks) g slots mapped slot
-  slot_met slots place slot below h = stands_by slots place (zone_behind blocks i (place / 64)) slot below refl h
+  slot_met : (slots place : ℕ) (slot : Slot) → place < slots → slot_behind g blocks i place ≡ Ok (Some slot) → IsInBlocks (disk_of blocks) g slots mapped slot
+  slot_met slots place slot below h = stands_by slots place (zone_behind blocks i (place / slots_a_block g.width)) slot below refl h
 
   -- the names that were found are those of the slots
   pub names_found : (named : List Bool) (s : SlotScan) →
-      Goes (disk_of blocks) g (IsInBlocks (disk_of blocks) g (i.size / 16) mapped) named (record { named = named; names = [] }) s →
-      (name : List ℕ) (birth : ℕ) → (at_name s.names name ≡ Some birth) ↔ HasName blocks i name birth
+      Goes (disk_of blocks) g (IsInBlocks (disk_of blocks) g (i.size / slot_size g.width) mapped) named (record { named = named; names = [] }) s →
+      (name : List ℕ) (birth : ℕ) → (at_name s.names name ≡ Some birth) ↔ HasName g blocks i name birth
   names_found named s h name birth = (
     λ p.
         ⊎_elim
         (λ none. absurd (none-some birth none))
         (λ x.
-        let slot = slot_stands (i.size / 16) x.0 x.1 in
+        let slot = slot_stands (i.size / slot_size g.width) x.0 x.1 in
         record { place = slot.0; slot = x.0; below = slot.1; stands = slot.2; name_is = x.2; no_dot = x.3; birth_is = x.4 })
         (h.right name birth p),
     λ n.
         let free : is_dot n.slot.name ≡ false = subst (λ name. is_dot name ≡ false) (sym n.name_is) n.no_dot in
-        let here = h.full n.slot (slot_met (i.size / 16) n.place n.slot n.below n.stands) free in
+        let here = h.full n.slot (slot_met (i.size / slot_size g.width) n.place n.slot n.below n.stands) free in
         subst (λ name. at_name s.names name ≡ Some birth) n.name_is (here ∙ ap Some n.birth_is),
   )
 
@@ -131,7 +132,7 @@ pub record IsVisit (g : Geometry) (blocks : List (List ℕ)) (w : WalkState) (e 
   pub named : List Bool
   pub met : Found
   pub is : record { state = met_node w e.inode zones named met; names = pending_in (birth_of e.inode) (names_in (node_of blocks met)) } ≡ v
-  pub says : IsNodeOf blocks i (node_of blocks met)
+  pub says : IsNodeOf g blocks i (node_of blocks met)
   pub below : IsBelow e.parent (node_of blocks met)
   pub names : IsNamed (disk_of blocks) g w.named (record { named = named; names = names_in (node_of blocks met) })
   pub root : e.inode ≡ 1 → is_directory i.mode ≡ true
@@ -151,22 +152,22 @@ module _ (g : Geometry) (blocks : List (List ℕ)) (w : WalkState) (e : Pending)
     (size : length w.named ≡ g.inodes + 1) (nine : length i.zones ≡ 9) (root : e.inode ≡ 1 → is_directory i.mode ≡ true) where
   directory_visit : is_directory i.mode ≡ true →
       answer (disk_of blocks) (if_ok (scan_zones g (table_block g e.inode) i.zones w.zones)
-      (λ z. if_ok (scan_slots g (i.size / 16) z.mapped (record { named = w.named; names = [] })) (λ s. Ret (visit_directory w e i z s)))) ≡ Ok v →
+      (λ z. if_ok (scan_slots g (i.size / slot_size g.width) z.mapped (record { named = w.named; names = [] })) (λ s. Ret (visit_directory g w e i z s)))) ≡ Ok v →
       IsVisit g blocks w e i v
   directory_visit kind r =
       let first = if_ok-parts (disk_of blocks) (scan_zones g (table_block g e.inode) i.zones w.zones)
-      (λ z. if_ok (scan_slots g (i.size / 16) z.mapped (record { named = w.named; names = [] })) (λ s. Ret (visit_directory w e i z s))) v r in
+      (λ z. if_ok (scan_slots g (i.size / slot_size g.width) z.mapped (record { named = w.named; names = [] })) (λ s. Ret (visit_directory g w e i z s))) v r in
       let z : ZoneScan = first.0 in
-      let second = if_ok-parts (disk_of blocks) (scan_slots g (i.size / 16) z.mapped (record { named = w.named; names = [] })) (λ s. Ret (visit_directory w e i z s)) v first.2 in
+      let second = if_ok-parts (disk_of blocks) (scan_slots g (i.size / slot_size g.width) z.mapped (record { named = w.named; names = [] })) (λ s. Ret (visit_directory g w e i z s)) v first.2 in
       let s : SlotScan = second.0 in
       let of_map = scan_zones-map (disk_of blocks) g (table_block g e.inode) i.zones w.zones z nine first.1 in
-      let goes = scan_slots-goes (disk_of blocks) g w.named (i.size / 16) z.mapped (record { named = w.named; names = [] }) s (no_names (disk_of blocks) g w.named size) second.1 in
+      let goes = scan_slots-goes (disk_of blocks) g w.named (i.size / slot_size g.width) z.mapped (record { named = w.named; names = [] }) s (no_names (disk_of blocks) g w.named size) second.1 in
       record {
         zones = z.met;
         named = s.named;
-        met = found.Directory (record { parent = e.parent; slots = i.size / 16; names = s.names });
+        met = found.Directory (record { parent = e.parent; width = g.width; slots = i.size / slot_size g.width; names = s.names });
         is = same_Ok _ v second.2;
-        says = record { kind = kind; slots = refl; names = names_found g blocks i z.mapped of_map w.named s goes };
+        says = record { kind = kind; width = refl; slots = refl; names = names_found g blocks i z.mapped of_map w.named s goes };
         below = refl;
         names = goes.named;
         root = root;
@@ -205,8 +206,8 @@ module _ (g : Geometry) (blocks : List (List ℕ)) (w : WalkState) (e : Pending)
   visit_by : (directory file : Bool) → is_directory i.mode ≡ directory → is_file i.mode ≡ file →
       answer (disk_of blocks) (if directory then
       if_ok (scan_zones g (table_block g e.inode) i.zones w.zones)
-      (λ z. if_ok (scan_slots g (i.size / 16) z.mapped (record { named = w.named; names = [] }))
-      (λ s. Ret (visit_directory w e i z s)))
+      (λ z. if_ok (scan_slots g (i.size / slot_size g.width) z.mapped (record { named = w.named; names = [] }))
+      (λ s. Ret (visit_directory g w e i z s)))
       else if file then
       if_ok (scan_zones g (table_block g e.inode) i.zones w.zones) (λ z. Ret (visit_file w e.inode i z))
       else Ret (visit_other w e.inode i)) ≡ Ok v →
@@ -218,16 +219,16 @@ module _ (g : Geometry) (blocks : List (List ℕ)) (w : WalkState) (e : Pending)
 inode_visit : (g : Geometry) (blocks : List (List ℕ)) (w : WalkState) (e : Pending) (i : Inode) (v : Visit) →
     length w.named ≡ g.inodes + 1 → length i.zones ≡ 9 → answer (disk_of blocks) (visit_inode g w e i) ≡ Ok v → IsVisit g blocks w e i v
 inode_visit g blocks w e i v size nine r =
-    let parts = unless-parts (disk_of blocks) (is_bad_inode e.inode i) (BadInode, table_block g e.inode)
+    let parts = unless-parts (disk_of blocks) (is_bad_inode g e.inode i) (BadInode, table_block g e.inode)
     (if is_directory i.mode then
     if_ok (scan_zones g (table_block g e.inode) i.zones w.zones)
-    (λ z. if_ok (scan_slots g (i.size / 16) z.mapped (record { named = w.named; names = [] }))
-    (λ s. Ret (visit_directory w e i z s)))
+    (λ z. if_ok (scan_slots g (i.size / slot_size g.width) z.mapped (record { named = w.named; names = [] }))
+    (λ s. Ret (visit_directory g w e i z s)))
     else if is_file i.mode then
     if_ok (scan_zones g (table_block g e.inode) i.zones w.zones) (λ z. Ret (visit_file w e.inode i z))
     else Ret (visit_other w e.inode i)) v r in
     let root : e.inode ≡ 1 → is_directory i.mode ≡ true = root_by e.inode (is_directory i.mode)
-    ((nat_lt largest_size i.size && (is_directory i.mode || is_file i.mode)) || (is_directory i.mode && not (i.size % 16 == 0))) parts.0 in
+    ((nat_lt largest_size i.size && (is_directory i.mode || is_file i.mode)) || (is_directory i.mode && not (i.size % slot_size g.width == 0))) parts.0 in
     visit_by g blocks w e i v size nine root (is_directory i.mode) (is_file i.mode) refl refl parts.1
 
 pub visit_is : (g : Geometry) (blocks : List (List ℕ)) (w : WalkState) (e : Pending) (v : Visit) →

@@ -1,5 +1,5 @@
 -- What the visit of an inode tests, where the walk so far found no fault: all, or all up to the first fault.
-use Rattle.std.specs.Prelude.{◌≡◌, ◌≢◌, ℕ, ◌+◌, ◌-◌, ◌/◌, ◌%◌, ◌<◌, ◌≤◌, ◌==◌, Bool, true, false, not, ◌&&◌, ◌||◌, nat_lt, nat_le, if◌then◌else◌, List, [], ◌∷◌, ◌++◌, map, length, Option, Some, None, Result, Ok, Err, IfOk, refl}
+use Rattle.std.specs.Prelude.{◌*◌, ◌≡◌, ◌≢◌, ℕ, ◌+◌, ◌-◌, ◌/◌, ◌%◌, ◌<◌, ◌≤◌, ◌==◌, Bool, true, false, not, ◌&&◌, ◌||◌, nat_lt, nat_le, if◌then◌else◌, List, [], ◌∷◌, ◌++◌, map, length, Option, Some, None, Result, Ok, Err, IfOk, refl}
 use Rattle.std.proofs.Common.{sym, ap, subst, ◌∙◌, inl, inr, ⊎_elim, arith}
 use Rattle.std.proofs.lemmas.Bool.{true≢false, cases_lt, eq-eqb, eqb-true, eqb-false, or_parts, or_cases, and_parts, and_cases, not-true, not-false, ltb-true, ltb-false, leb-true}
 use Rattle.std.proofs.lemmas.Option.{none-some}
@@ -7,6 +7,8 @@ use Rattle.std.proofs.lemmas.List.FromFn.{length-map-range_with_len}
 use Rattle.byte_fields.specs.Fields.{record_at}
 use Rattle.blk_base.specs.Members.{In}
 use Rattle.blk_base.specs.laws.Members.{In-map, map-In}
+use Rattle.minix_layout.specs.laws.Places.{slots_few, form_is}
+use Rattle.minix_layout.specs.Widths.{slot_size, slots_a_block}
 use Rattle.minix_layout.specs.declared.division.Geometry.{Geometry}
 use Rattle.minix_layout.specs.declared.inode.Inode.{Inode}
 use Rattle.minix_layout.specs.declared.slot.Slot.{Slot}
@@ -47,7 +49,7 @@ module _ (g : Geometry) (blocks : List (List ℕ)) (n : ℕ) where
   i = inode_at g blocks n
 
   -- what the test of an inode says
-  bad_inode : is_bad_inode n i ≡ true → IsBadInode g blocks n
+  bad_inode : is_bad_inode g n i ≡ true → IsBadInode g blocks n
   bad_inode bad =
       ⊎_elim
       (λ root.
@@ -59,36 +61,36 @@ module _ (g : Geometry) (blocks : List (List ℕ)) (n : ℕ) where
       let both = and_parts (nat_lt largest_size i.size) (is_directory i.mode || is_file i.mode) great in
       size_too_large (or_cases (is_directory i.mode) (is_file i.mode) both.1) (ltb-true largest_size i.size both.0))
       (λ part.
-      let both = and_parts (is_directory i.mode) (not (i.size % 16 == 0)) part in
-      part_of_a_slot both.0 (eqb-false (i.size % 16) 0 (not-true (i.size % 16 == 0) both.1)))
-      (or_cases (nat_lt largest_size i.size && (is_directory i.mode || is_file i.mode)) (is_directory i.mode && not (i.size % 16 == 0)) more))
-      (or_cases (n == 1 && not (is_directory i.mode)) ((nat_lt largest_size i.size && (is_directory i.mode || is_file i.mode)) || (is_directory i.mode && not (i.size % 16 == 0))) bad)
+      let both = and_parts (is_directory i.mode) (not (i.size % slot_size g.width == 0)) part in
+      part_of_a_slot both.0 (eqb-false (i.size % slot_size g.width) 0 (not-true (i.size % slot_size g.width == 0) both.1)))
+      (or_cases (nat_lt largest_size i.size && (is_directory i.mode || is_file i.mode)) (is_directory i.mode && not (i.size % slot_size g.width == 0)) more))
+      (or_cases (n == 1 && not (is_directory i.mode)) ((nat_lt largest_size i.size && (is_directory i.mode || is_file i.mode)) || (is_directory i.mode && not (i.size % slot_size g.width == 0))) bad)
 
   not_zoned : (is_directory i.mode || is_file i.mode) ≡ false → HasZones g blocks n → ⊥
   not_zoned none (inl d) = true≢false (sym d ∙ (or_parts (is_directory i.mode) (is_file i.mode) none).0)
   not_zoned none (inr f) = true≢false (sym f ∙ (or_parts (is_directory i.mode) (is_file i.mode) none).1)
 
-  good_inode : is_bad_inode n i ≡ false → IsBadInode g blocks n → ⊥
+  good_inode : is_bad_inode g n i ≡ false → IsBadInode g blocks n → ⊥
   good_inode good (root_is_none one none) =
-      let first = (or_parts (n == 1 && not (is_directory i.mode)) ((nat_lt largest_size i.size && (is_directory i.mode || is_file i.mode)) || (is_directory i.mode && not (i.size % 16 == 0))) good).0 in
+      let first = (or_parts (n == 1 && not (is_directory i.mode)) ((nat_lt largest_size i.size && (is_directory i.mode || is_file i.mode)) || (is_directory i.mode && not (i.size % slot_size g.width == 0))) good).0 in
       ⊎_elim
       (λ apart. true≢false (sym (eq-eqb n 1 one) ∙ apart))
       (λ d. none (not-false (is_directory i.mode) d))
       (and_cases (n == 1) (not (is_directory i.mode)) first)
   good_inode good (size_too_large z great) =
-      let rest = (or_parts (n == 1 && not (is_directory i.mode)) ((nat_lt largest_size i.size && (is_directory i.mode || is_file i.mode)) || (is_directory i.mode && not (i.size % 16 == 0))) good).1 in
-      let second = (or_parts (nat_lt largest_size i.size && (is_directory i.mode || is_file i.mode)) (is_directory i.mode && not (i.size % 16 == 0)) rest).0 in
+      let rest = (or_parts (n == 1 && not (is_directory i.mode)) ((nat_lt largest_size i.size && (is_directory i.mode || is_file i.mode)) || (is_directory i.mode && not (i.size % slot_size g.width == 0))) good).1 in
+      let second = (or_parts (nat_lt largest_size i.size && (is_directory i.mode || is_file i.mode)) (is_directory i.mode && not (i.size % slot_size g.width == 0)) rest).0 in
       ⊎_elim
       (λ low. let few : i.size ≤ 268966912 = ltb-false largest_size i.size low in omega (arith, great))
       (λ none. not_zoned none z)
       (and_cases (nat_lt largest_size i.size) (is_directory i.mode || is_file i.mode) second)
   good_inode good (part_of_a_slot d some) =
-      let rest = (or_parts (n == 1 && not (is_directory i.mode)) ((nat_lt largest_size i.size && (is_directory i.mode || is_file i.mode)) || (is_directory i.mode && not (i.size % 16 == 0))) good).1 in
-      let third = (or_parts (nat_lt largest_size i.size && (is_directory i.mode || is_file i.mode)) (is_directory i.mode && not (i.size % 16 == 0)) rest).1 in
+      let rest = (or_parts (n == 1 && not (is_directory i.mode)) ((nat_lt largest_size i.size && (is_directory i.mode || is_file i.mode)) || (is_directory i.mode && not (i.size % slot_size g.width == 0))) good).1 in
+      let third = (or_parts (nat_lt largest_size i.size && (is_directory i.mode || is_file i.mode)) (is_directory i.mode && not (i.size % slot_size g.width == 0)) rest).1 in
       ⊎_elim
       (λ none. true≢false (sym d ∙ none))
-      (λ whole. some (eqb-true (i.size % 16) 0 (not-false (i.size % 16 == 0) whole)))
-      (and_cases (is_directory i.mode) (not (i.size % 16 == 0)) third)
+      (λ whole. some (eqb-true (i.size % slot_size g.width) 0 (not-false (i.size % slot_size g.width == 0) whole)))
+      (and_cases (is_directory i.mode) (not (i.size % slot_size g.width == 0)) third)
 
 length-nine : (bytes : List ℕ) → length (zones_of bytes) ≡ 9
 unfolding zones_of
@@ -97,14 +99,14 @@ length-nine bytes = length-map-range_with_len (zone_of bytes) 0 9
 pub nine : (g : Geometry) (blocks : List (List ℕ)) (n : ℕ) → length (inode_at g blocks n).zones ≡ 9
 nine g blocks n = length-nine (record_at 32 ((n - 1) % 32) (disk_of blocks (table_block g n)))
 
-used_by : (hole : Bool) (bytes : List ℕ) (slot : Slot) → ◌≡◌ {A = Result (Option Slot) LayoutFault} (if hole then Ok None else slot_of bytes) (Ok (Some slot)) → 0 < slot.inode
-used_by true bytes slot h = absurd (none-some slot (same_Ok None (Some slot) h))
-used_by false bytes slot h = slot_of-used bytes slot h
+used_by : (width : ℕ) (hole : Bool) (bytes : List ℕ) (slot : Slot) → ◌≡◌ {A = Result (Option Slot) LayoutFault} (if hole then Ok None else slot_of width bytes) (Ok (Some slot)) → 0 < slot.inode
+used_by width true bytes slot h = absurd (none-some slot (same_Ok None (Some slot) h))
+used_by width false bytes slot h = slot_of-used width bytes slot h
 
 -- a slot that names has the number of an inode
-pub slot_used : (blocks : List (List ℕ)) (i : Inode) (p : ℕ) (slot : Slot) → IsEntryAt blocks i p slot → 0 < slot.inode
-slot_used blocks i p slot e =
-    used_by (zone_behind blocks i (p / 64) == 0) (record_at 16 (p % 64) (disk_of blocks (zone_behind blocks i (p / 64)))) slot e.stands
+pub slot_used : (g : Geometry) (blocks : List (List ℕ)) (i : Inode) (p : ℕ) (slot : Slot) → IsEntryAt g blocks i p slot → 0 < slot.inode
+slot_used g blocks i p slot e =
+    used_by g.width (zone_behind blocks i (p / slots_a_block g.width) == 0) (record_at (slot_size g.width) (p % slots_a_block g.width) (disk_of blocks (zone_behind blocks i (p / slots_a_block g.width)))) slot e.stands
 
 -- the numbers of the inodes that are to be met
 abbrev pub numbers_of : List Pending → List ℕ
@@ -215,7 +217,7 @@ module _ (g : Geometry) (blocks : List (List ℕ)) (met ahead : List ℕ) (w : W
       no_bad_slot end s t p low below (named_here slot more at m kind before k same) =
           let one : at ≡ p = t.alone at p more slot (omega arith) low k.entry m.entry same (subst (λ k. IsDirectory g blocks k) (sym same) kind) in omega arith
 
-      names : (p : ℕ) (slot : Slot) → IsEntryAt blocks j p slot → NamesAt g blocks n p slot
+      names : (p : ℕ) (slot : Slot) → IsEntryAt g blocks j p slot → NamesAt g blocks n p slot
       names p slot entry = record { directory = d; entry = entry }
 
       bad_slot : (p : ℕ) → slot_tests.IsBadAt g blocks j w.named p → IsBadSlot g blocks Before n p
@@ -232,8 +234,8 @@ module _ (g : Geometry) (blocks : List (List ℕ)) (met ahead : List ℕ) (w : W
       small : j.size ≤ 268966912
       small = ⊎_elim (λ great. absurd (good (size_too_large (inl d) great))) (λ low. low) (cases_lt 268966912 j.size)
 
-      early : (p : ℕ) → p < j.size / 16 → p < 16810432
-      early p low = let few = small in omega arith
+      early : (p : ℕ) → p < j.size / slot_size g.width → p < slots_a_block g.width * 262663
+      early p low = slots_few (slot_size g.width) (slots_a_block g.width) (form_is g.width) j.size p 262663 small low
 
       slot_fault : (marks : List Bool) (fault : Fault) (p : ℕ) → Taken 263177 marks → slot_tests.StopsAt g blocks j w.named p → fault ≡ (BadSlot, slot_zone g blocks n p) →
           IsFirstHere g blocks Before n fault.0 fault.1
@@ -243,13 +245,13 @@ module _ (g : Geometry) (blocks : List (List ℕ)) (met ahead : List ℕ) (w : W
           (λ y some bad. no_bad_zone (inl d) 263177 marks t y (all_ranked g blocks (table_block g n) j (nine g blocks n) w.zones y some) some bad)
           (λ q low bad. let far = stop.below in no_bad_slot p stop.scan stop.scanned q low (omega arith) bad) stop.below (bad_slot p stop.bad))
 
-      names_added : (s : SlotScan) → Scanned 16810432 s → AddsNames g blocks n w.named s.named (map (λ (e : List ℕ × ℕ). inode_of_birth e.1) s.names)
+      names_added : (s : SlotScan) → Scanned (slots_a_block g.width * 262663) s → AddsNames g blocks n w.named s.named (map (λ (e : List ℕ × ℕ). inode_of_birth e.1) s.names)
       names_added s t = record {
         size = t.size;
         kept = t.kept;
         read = λ p _ below. t.read p (early p below) below;
         within = λ p slot m. t.within p slot (early p m.entry.below) m.entry;
-        some = λ p slot m. slot_used blocks j p slot m.entry;
+        some = λ p slot m. slot_used g blocks j p slot m.entry;
         once = λ p q slot more m k. t.once p q slot more (early p m.entry.below) (early q k.entry.below) m.entry k.entry;
         fresh = λ p slot m. t.fresh p slot (early p m.entry.below) m.entry;
         marks = λ p slot m. t.marks p slot (early p m.entry.below) m.entry;
@@ -257,23 +259,23 @@ module _ (g : Geometry) (blocks : List (List ℕ)) (met ahead : List ℕ) (w : W
         by_mark = λ k m. ⊎_elim inl (λ x. inr (x.0, x.1, names x.0 x.1 x.3, x.4)) (t.by_mark k m);
         order = by_directory s.names d t.sorted (λ name birth. (found_name name birth, name_found name birth));
         to = λ p slot m.
-            subst (λ k. In k (map (λ (e : List ℕ × ℕ). inode_of_birth e.1) s.names)) (inode_of_birth_of slot.inode (slot_used blocks j p slot m.entry))
+            subst (λ k. In k (map (λ (e : List ℕ × ℕ). inode_of_birth e.1) s.names)) (inode_of_birth_of slot.inode (slot_used g blocks j p slot m.entry))
             (map-In (λ (e : List ℕ × ℕ). inode_of_birth e.1) s.names (slot.name, birth_of slot.inode)
             (at_name-In s.names slot.name (birth_of slot.inode) (t.has p slot (early p m.entry.below) m.entry)));
         from = λ k inside.
             let x = In-map (λ (e : List ℕ × ℕ). inode_of_birth e.1) s.names k inside in
             let y = t.from x.0.0 x.0.1 (t.told x.0 x.1) in
-            (y.0, y.1, names y.0 y.1 y.3, sym (inode_of_birth_of y.1.inode (slot_used blocks j y.0 y.1 y.3)) ∙ (ap inode_of_birth y.5 ∙ x.2));
+            (y.0, y.1, names y.0 y.1 y.3, sym (inode_of_birth_of y.1.inode (slot_used g blocks j y.0 y.1 y.3)) ∙ (ap inode_of_birth y.5 ∙ x.2));
       }
         where
-          found_name : (name : List ℕ) (birth : ℕ) → at_name s.names name ≡ Some birth → HasName blocks j name birth
+          found_name : (name : List ℕ) (birth : ℕ) → at_name s.names name ≡ Some birth → HasName g blocks j name birth
           found_name name birth q =
               let x = t.from name birth q in
               record { place = x.0; slot = x.1; below = x.3.below; stands = x.3.stands; name_is = x.4; no_dot = subst (λ name. is_dot name ≡ false) x.4 x.3.no_dot; birth_is = x.5 }
 
-          name_found : (name : List ℕ) (birth : ℕ) → HasName blocks j name birth → at_name s.names name ≡ Some birth
+          name_found : (name : List ℕ) (birth : ℕ) → HasName g blocks j name birth → at_name s.names name ≡ Some birth
           name_found name birth x =
-              let entry : IsEntryAt blocks j x.place x.slot = record { below = x.below; stands = x.stands; no_dot = subst (λ name. is_dot name ≡ false) (sym x.name_is) x.no_dot } in
+              let entry : IsEntryAt g blocks j x.place x.slot = record { below = x.below; stands = x.stands; no_dot = subst (λ name. is_dot name ≡ false) (sym x.name_is) x.no_dot } in
               subst (λ name. at_name s.names name ≡ Some birth) x.name_is (t.has x.place x.slot (early x.place x.below) entry ∙ ap Some x.birth_is)
 
     no_names : (IsDirectory g blocks n → ⊥) → AddsNames g blocks n w.named w.named []
@@ -299,31 +301,31 @@ module _ (g : Geometry) (blocks : List (List ℕ)) (met ahead : List ℕ) (w : W
     scan = scan_zones g (table_block g n) j.zones w.zones
 
     abbrev on_slots : ZoneScan → SlotScan → Reads (Result Visit Fault)
-    on_slots z s = Ret (visit_directory w e j z s)
+    on_slots z s = Ret (visit_directory g w e j z s)
 
     abbrev slot_scan : ZoneScan → Reads (Result SlotScan Fault)
-    slot_scan z = scan_slots g (j.size / 16) z.mapped (record { named = w.named; names = [] })
+    slot_scan z = scan_slots g (j.size / slot_size g.width) z.mapped (record { named = w.named; names = [] })
 
     zones_tested : zone_tests.IsTested g (zone_at_place g blocks n) (pointer_block_of g blocks n) w.zones 263177 (answer disk scan)
     zones_tested = zones_scan g blocks (table_block g n) j (nine g blocks n) w.zones h.zones_size
 
-    directory_by : IsDirectory g blocks n → (z : ZoneScan) → Taken 263177 z.met → (r : Result SlotScan Fault) → slot_tests.IsTested g blocks j w.named 16810432 r →
+    directory_by : IsDirectory g blocks n → (z : ZoneScan) → Taken 263177 z.met → (r : Result SlotScan Fault) → slot_tests.IsTested g blocks j w.named (slots_a_block g.width * 262663) r →
         IsTested (answer disk (go_on (on_slots z) r))
     directory_by d z t (Err fault) stopped = slot_fault d z.met fault stopped.0 t stopped.1 stopped.2
     directory_by d z t (Ok s) scanned = (
       subst (λ ks. IsSoFar g blocks (met ++ n ∷ []) (ks ++ ahead)
-          (met_node w n z.met s.named (found.Directory (record { parent = e.parent; slots = j.size / 16; names = s.names })))) (numbers_in (birth_of n) s.names)
+          (met_node w n z.met s.named (found.Directory (record { parent = e.parent; width = g.width; slots = j.size / slot_size g.width; names = s.names })))) (numbers_in (birth_of n) s.names)
           (further g blocks met ahead w n h new good z.met s.named (map (λ (e : List ℕ × ℕ). inode_of_birth e.1) s.names) _ (zones_added (inl d) z.met t) (names_added d s scanned)),
       refl,
     )
 
-    slots_tested : (z : ZoneScan) → answer disk scan ≡ Ok z → slot_tests.IsTested g blocks j w.named 16810432 (answer disk (slot_scan z))
+    slots_tested : (z : ZoneScan) → answer disk scan ≡ Ok z → slot_tests.IsTested g blocks j w.named (slots_a_block g.width * 262663) (answer disk (slot_scan z))
     slots_tested z is =
         let of_map = scan_zones-map disk g (table_block g n) j.zones w.zones z (nine g blocks n) is in
         slots_scan g blocks j w.named z.mapped 0 262663 (record { named = w.named; names = [] })
         (subst (λ (r : Result ZoneScan Fault). IfOk r (λ z. IsRising z.mapped)) is (scan_rises disk g (table_block g n) j.zones w.zones))
         (of_map 0).right (λ k _ some. (of_map (k + 1)).full k (omega arith) some)
-        (none_scanned g blocks j w.named h.named_size)
+        (subst (λ n. slot_tests.AreScanned g blocks j w.named n (record { named = w.named; names = [] })) (sym (let zero : slots_a_block g.width * 0 ≡ 0 = omega arith in zero)) (none_scanned g blocks j w.named h.named_size))
 
     abbrev on_directory : ZoneScan → Reads (Result Visit Fault)
     on_directory z = if_ok (slot_scan z) (on_slots z)
@@ -359,10 +361,10 @@ module _ (g : Geometry) (blocks : List (List ℕ)) (met ahead : List ℕ) (w : W
     kind_by false true d f = file_tested (λ t. true≢false (sym t ∙ d)) f
     kind_by false false d f = other_tested (λ t. true≢false (sym t ∙ d)) (λ t. true≢false (sym t ∙ f))
 
-  inode_by : (bad : Bool) → is_bad_inode n j ≡ bad →
+  inode_by : (bad : Bool) → is_bad_inode g n j ≡ bad →
       IsTested (answer disk (if bad then Ret (Err (BadInode, table_block g n))
       else if is_directory j.mode then if_ok (scan_zones g (table_block g n) j.zones w.zones)
-      (λ z. if_ok (scan_slots g (j.size / 16) z.mapped (record { named = w.named; names = [] })) (λ s. Ret (visit_directory w e j z s)))
+      (λ z. if_ok (scan_slots g (j.size / slot_size g.width) z.mapped (record { named = w.named; names = [] })) (λ s. Ret (visit_directory g w e j z s)))
       else if is_file j.mode then if_ok (scan_zones g (table_block g n) j.zones w.zones) (λ z. Ret (visit_file w n j z)) else Ret (visit_other w n j)))
   inode_by true bad = of_inode (bad_inode g blocks n bad)
   inode_by false bad = kind_by (good_inode g blocks n bad) (is_directory j.mode) (is_file j.mode) refl refl
@@ -370,4 +372,4 @@ module _ (g : Geometry) (blocks : List (List ℕ)) (met ahead : List ℕ) (w : W
   -- the visit goes on, with the inode met, or tells its first fault
   pub visit_tested : IsTested (answer disk (visit g w e))
   unfolding visit
-  visit_tested = inode_by (is_bad_inode n j) refl
+  visit_tested = inode_by (is_bad_inode g n j) refl

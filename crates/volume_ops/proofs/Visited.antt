@@ -1,6 +1,7 @@
 -- What a visit ends with, of what its parts ended with.
 use Rattle.std.proofs.Common.{◌≡◌, ℕ, ◌++◌, ◌/◌, true, false, if◌then◌else◌, List, [], ◌∷◌, Result, Ok, Err, ap, ◌∙◌, sym, reverse, append_assoc, arith, subst}
 use Rattle.std.specs.List.{All}
+use Rattle.minix_layout.specs.Widths.{slot_size}
 use Rattle.minix_layout.specs.declared.division.Geometry.{Geometry}
 use Rattle.minix_layout.specs.declared.inode.Inode.{Inode}
 use Rattle.minix_layout.specs.declared.fault.LayoutFault.TheVariants.{BadInode}
@@ -27,19 +28,19 @@ module _ (disk : ℕ → List ℕ) (g : Geometry) (w : WalkState) (i : Inode) wh
       answer-if_ok-err disk (scan_zones g (table_block g inode) i.zones w.zones) (λ z. Ret (visit_file w inode i z)) f (rw at at zones)
 
   module _ (e : Pending) (pointer_block : ℕ) (at : pointer_block ≡ table_block g e.inode) where
-    directory_is : (z : ZoneScan) → answer disk (scan_zones g pointer_block i.zones w.zones) ≡ Ok z → answer disk (directory_visit g w e i) ≡ answer disk (if_ok (scan_slots g (i.size / 16) z.mapped (record { named = w.named; names = [] })) (λ s. Ret (visit_directory w e i z s)))
-    directory_is z zones = answer-if_ok-ok disk (scan_zones g (table_block g e.inode) i.zones w.zones) (λ z. if_ok (scan_slots g (i.size / 16) z.mapped (record { named = w.named; names = [] })) (λ s. Ret (visit_directory w e i z s))) z (rw at at zones)
+    directory_is : (z : ZoneScan) → answer disk (scan_zones g pointer_block i.zones w.zones) ≡ Ok z → answer disk (directory_visit g w e i) ≡ answer disk (if_ok (scan_slots g (i.size / slot_size g.width) z.mapped (record { named = w.named; names = [] })) (λ s. Ret (visit_directory g w e i z s)))
+    directory_is z zones = answer-if_ok-ok disk (scan_zones g (table_block g e.inode) i.zones w.zones) (λ z. if_ok (scan_slots g (i.size / slot_size g.width) z.mapped (record { named = w.named; names = [] })) (λ s. Ret (visit_directory g w e i z s))) z (rw at at zones)
 
     pub directory_zones_fault : (f : Fault) → answer disk (scan_zones g pointer_block i.zones w.zones) ≡ Err f → answer disk (directory_visit g w e i) ≡ Err f
-    directory_zones_fault f zones = answer-if_ok-err disk (scan_zones g (table_block g e.inode) i.zones w.zones) (λ z. if_ok (scan_slots g (i.size / 16) z.mapped (record { named = w.named; names = [] })) (λ s. Ret (visit_directory w e i z s))) f (rw at at zones)
+    directory_zones_fault f zones = answer-if_ok-err disk (scan_zones g (table_block g e.inode) i.zones w.zones) (λ z. if_ok (scan_slots g (i.size / slot_size g.width) z.mapped (record { named = w.named; names = [] })) (λ s. Ret (visit_directory g w e i z s))) f (rw at at zones)
 
-    pub directory_slots_fault : (z : ZoneScan) (f : Fault) → answer disk (scan_zones g pointer_block i.zones w.zones) ≡ Ok z → answer disk (scan_slots g (i.size / 16) z.mapped (record { named = w.named; names = [] })) ≡ Err f → answer disk (directory_visit g w e i) ≡ Err f
-    directory_slots_fault z f zones slots = directory_is z zones ∙ answer-if_ok-err disk (scan_slots g (i.size / 16) z.mapped (record { named = w.named; names = [] })) (λ s. Ret (visit_directory w e i z s)) f slots
+    pub directory_slots_fault : (z : ZoneScan) (f : Fault) → answer disk (scan_zones g pointer_block i.zones w.zones) ≡ Ok z → answer disk (scan_slots g (i.size / slot_size g.width) z.mapped (record { named = w.named; names = [] })) ≡ Err f → answer disk (directory_visit g w e i) ≡ Err f
+    directory_slots_fault z f zones slots = directory_is z zones ∙ answer-if_ok-err disk (scan_slots g (i.size / slot_size g.width) z.mapped (record { named = w.named; names = [] })) (λ s. Ret (visit_directory g w e i z s)) f slots
 
-    pub directory_visited : (z : ZoneScan) (s : SlotScan) (birth : ℕ) (v : WalkState) (stack pushed : List Pending) → answer disk (scan_zones g pointer_block i.zones w.zones) ≡ Ok z → answer disk (scan_slots g (i.size / 16) z.mapped (record { named = w.named; names = [] })) ≡ Ok s → birth ≡ birth_of e.inode → pushed ≡ stack ++ reverse (pending_in birth s.names) → v ≡ met_node w e.inode z.met s.named (found.Directory (record { parent = e.parent; slots = i.size / 16; names = s.names })) → met_next (answer disk (directory_visit g w e i)) (reverse stack) ≡ Ok (v, reverse pushed)
+    pub directory_visited : (z : ZoneScan) (s : SlotScan) (birth : ℕ) (v : WalkState) (stack pushed : List Pending) → answer disk (scan_zones g pointer_block i.zones w.zones) ≡ Ok z → answer disk (scan_slots g (i.size / slot_size g.width) z.mapped (record { named = w.named; names = [] })) ≡ Ok s → birth ≡ birth_of e.inode → pushed ≡ stack ++ reverse (pending_in birth s.names) → v ≡ met_node w e.inode z.met s.named (found.Directory (record { parent = e.parent; width = g.width; slots = i.size / slot_size g.width; names = s.names })) → met_next (answer disk (directory_visit g w e i)) (reverse stack) ≡ Ok (v, reverse pushed)
     directory_visited z s birth v stack pushed zones slots born put is =
-        let whole : answer disk (directory_visit g w e i) ≡ visit_directory w e i z s =
-        directory_is z zones ∙ answer-if_ok-ok disk (scan_slots g (i.size / 16) z.mapped (record { named = w.named; names = [] })) (λ s. Ret (visit_directory w e i z s)) s slots in
+        let whole : answer disk (directory_visit g w e i) ≡ visit_directory g w e i z s =
+        directory_is z zones ∙ answer-if_ok-ok disk (scan_slots g (i.size / slot_size g.width) z.mapped (record { named = w.named; names = [] })) (λ s. Ret (visit_directory g w e i z s)) s slots in
         let names : reverse pushed ≡ pending_in (birth_of e.inode) s.names ++ reverse stack =
         rw (put, born) (reverse-append stack (reverse (pending_in (birth_of e.inode) s.names)) ∙ ap (λ ps. ps ++ reverse stack) (reverse-reverse (pending_in (birth_of e.inode) s.names))) in
         rw (whole, names, is)
@@ -57,10 +58,10 @@ module _ (disk : ℕ → List ℕ) (g : Geometry) (w : WalkState) (e : Pending) 
   unfolding visit
   visit_is = ap (λ i. answer disk (visit_inode g w e i)) (sym at)
 
-  pub visit_bad : is_bad_inode e.inode i ≡ true → answer disk (visit g w e) ≡ Err (BadInode, table_block g e.inode)
+  pub visit_bad : is_bad_inode g e.inode i ≡ true → answer disk (visit g w e) ≡ Err (BadInode, table_block g e.inode)
   visit_bad bad = visit_is ∙ ap (λ b. answer disk (if b then Ret (Err (BadInode, table_block g e.inode)) else visit_by_kind g w e i)) bad
 
-  module _ (good : is_bad_inode e.inode i ≡ false) where
+  module _ (good : is_bad_inode g e.inode i ≡ false) where
     visit_good : answer disk (visit g w e) ≡ answer disk (visit_by_kind g w e i)
     visit_good = visit_is ∙ ap (λ b. answer disk (if b then Ret (Err (BadInode, table_block g e.inode)) else visit_by_kind g w e i)) good
 

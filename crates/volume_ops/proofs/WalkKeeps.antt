@@ -2,6 +2,7 @@
 use Rattle.std.specs.Prelude.{◌≡◌, ℕ, zero, suc, ◌/◌, List, [], ◌∷◌, ◌++◌, Result, Ok, Err, IfOk, All}
 use Rattle.std.proofs.Common.{subst}
 use Rattle.std.proofs.lemmas.List.Elements.{All-nil, All-push}
+use Rattle.minix_layout.specs.Widths.{slot_size}
 use Rattle.minix_layout.specs.declared.division.Geometry.{Geometry}
 use Rattle.minix_layout.specs.declared.inode.Inode.{Inode}
 use Rattle.minix_layout.specs.declared.fault.LayoutFault.TheVariants.{BadInode}
@@ -27,7 +28,7 @@ module _ (g : Geometry) (blocks : List (List ℕ)) (Has : FoundNode → Type 0) 
   a_file e z = record { birth = birth_of e.inode; found = found.File (record { size = (inode e).size; links = (inode e).links; zones = z.mapped }) }
 
   abbrev a_directory : Pending → SlotScan → FoundNode
-  a_directory e s = record { birth = birth_of e.inode; found = found.Directory (record { parent = e.parent; slots = (inode e).size / 16; names = s.names }) }
+  a_directory e s = record { birth = birth_of e.inode; found = found.Directory (record { parent = e.parent; width = g.width; slots = (inode e).size / slot_size g.width; names = s.names }) }
 
   abbrev Kept : Walked → Type 0
   Kept w = All Has w.nodes
@@ -37,19 +38,19 @@ module _ (g : Geometry) (blocks : List (List ℕ)) (Has : FoundNode → Type 0) 
 
   module _
       (zones : (w : WalkState) (e : Pending) → IfOk (answer disk (scan_zones g (table_block g e.inode) (inode e).zones w.zones)) (Zones e.inode))
-      (slots : (w : WalkState) (e : Pending) (z : ZoneScan) → IfOk (answer disk (scan_slots g ((inode e).size / 16) z.mapped (record { named = w.named; names = [] }))) Slots)
+      (slots : (w : WalkState) (e : Pending) (z : ZoneScan) → IfOk (answer disk (scan_slots g ((inode e).size / slot_size g.width) z.mapped (record { named = w.named; names = [] }))) Slots)
       (file : (e : Pending) (z : ZoneScan) → Zones e.inode z → Has (a_file e z))
       (directory : (e : Pending) (s : SlotScan) → Slots s → Has (a_directory e s))
       (other : (e : Pending) → Has (record { birth = birth_of e.inode; found = found.Other (inode e).mode }))
     where
       directory_kept : (w : WalkState) (e : Pending) → All Has w.nodes →
           IfOk (answer disk (if_ok (scan_zones g (table_block g e.inode) (inode e).zones w.zones)
-          (λ z. if_ok (scan_slots g ((inode e).size / 16) z.mapped (record { named = w.named; names = [] })) (λ s. Ret (visit_directory w e (inode e) z s))))) VisitKept
+          (λ z. if_ok (scan_slots g ((inode e).size / slot_size g.width) z.mapped (record { named = w.named; names = [] })) (λ s. Ret (visit_directory g w e (inode e) z s))))) VisitKept
       directory_kept w e h =
           answered_then disk (scan_zones g (table_block g e.inode) (inode e).zones w.zones)
-          (λ z. if_ok (scan_slots g ((inode e).size / 16) z.mapped (record { named = w.named; names = [] })) (λ s. Ret (visit_directory w e (inode e) z s)))
+          (λ z. if_ok (scan_slots g ((inode e).size / slot_size g.width) z.mapped (record { named = w.named; names = [] })) (λ s. Ret (visit_directory g w e (inode e) z s)))
           (Zones e.inode) VisitKept (zones w e)
-          (λ z _. answered_then disk (scan_slots g ((inode e).size / 16) z.mapped (record { named = w.named; names = [] })) (λ s. Ret (visit_directory w e (inode e) z s)) Slots VisitKept
+          (λ z _. answered_then disk (scan_slots g ((inode e).size / slot_size g.width) z.mapped (record { named = w.named; names = [] })) (λ s. Ret (visit_directory g w e (inode e) z s)) Slots VisitKept
           (slots w e z)
           (λ s k. All-push Has w.nodes (a_directory e s) h (directory e s k)))
 
@@ -63,7 +64,7 @@ module _ (g : Geometry) (blocks : List (List ℕ)) (Has : FoundNode → Type 0) 
       visit_kept : (w : WalkState) (e : Pending) → All Has w.nodes → IfOk (answer disk (visit g w e)) VisitKept
       unfolding visit
       visit_kept w e h =
-          either_answers disk (is_bad_inode e.inode (inode e)) (Ret (Err (BadInode, table_block g e.inode))) _ VisitKept tt
+          either_answers disk (is_bad_inode g e.inode (inode e)) (Ret (Err (BadInode, table_block g e.inode))) _ VisitKept tt
           (either_answers disk (is_directory (inode e).mode) _ _ VisitKept (directory_kept w e h)
           (either_answers disk (is_file (inode e).mode) _ _ VisitKept (file_kept w e h)
           (All-push Has w.nodes (record { birth = birth_of e.inode; found = found.Other (inode e).mode }) h (other e))))

@@ -57,7 +57,7 @@ still_reached n (from_parent h name) = from_parent (still_reached n h) (named_le
 -- nodes say what their inodes say, each has its own birth and, but for the root, a name, each name leads to an
 -- inode that was met or is ahead, and a directory has one name.
 pub record IsWalked (g : Geometry) (blocks : List (List ℕ)) (ahead told : List Pending) (w : WalkState) : Type 0 where
-  pub each : (n : FoundNode) → In n w.nodes → IsNodeOf blocks (inode_at g blocks (inode_of_birth n.birth)) (node_of blocks n.found)
+  pub each : (n : FoundNode) → In n w.nodes → IsNodeOf g blocks (inode_at g blocks (inode_of_birth n.birth)) (node_of blocks n.found)
   pub one : (m n : FoundNode) → In m w.nodes → In n w.nodes → m.birth ≡ n.birth → m ≡ n
   pub met : (n : FoundNode) → In n w.nodes → inode_of_birth n.birth ≤ g.inodes → is_marked w.inodes (inode_of_birth n.birth) ≡ true
   pub found : (inode : ℕ) → is_marked w.inodes inode ≡ true → (n : FoundNode) × In n w.nodes × (n.birth ≡ birth_of inode)
@@ -158,7 +158,7 @@ module _ (g : Geometry) (blocks : List (List ℕ)) (root_is : IsDirectoryAt (dis
   -- a node that is found more
   module _ (e : Pending) (ahead told : List Pending) (w : WalkState) (zones named : List Bool) (met : Found)
       (h : IsWalked g blocks (e ∷ ahead) told w) (next : IsNext e w)
-      (says : IsNodeOf blocks (inode_at g blocks e.inode) (node_of blocks met))
+      (says : IsNodeOf g blocks (inode_at g blocks e.inode) (node_of blocks met))
       (below : IsBelow e.parent (node_of blocks met))
       (names : IsNamed (disk_of blocks) g w.named (record { named = named; names = names_in (node_of blocks met) })) where
     abbrev new : FoundNode
@@ -188,9 +188,9 @@ module _ (g : Geometry) (blocks : List (List ℕ)) (root_is : IsDirectoryAt (dis
     name_cases P old here parent name birth n =
         ⊎_elim (old parent name birth) (λ x. subst (λ parent. P parent name birth) x.0 (here name birth x.1)) (named_cases w.nodes new n)
 
-    each_more : (n : FoundNode) → In n after.nodes → IsNodeOf blocks (inode_at g blocks (inode_of_birth n.birth)) (node_of blocks n.found)
-    each_more = node_cases (λ n. IsNodeOf blocks (inode_at g blocks (inode_of_birth n.birth)) (node_of blocks n.found)) h.each
-        (subst (λ inode. IsNodeOf blocks (inode_at g blocks inode) (node_of blocks met)) (sym number) says)
+    each_more : (n : FoundNode) → In n after.nodes → IsNodeOf g blocks (inode_at g blocks (inode_of_birth n.birth)) (node_of blocks n.found)
+    each_more = node_cases (λ n. IsNodeOf g blocks (inode_at g blocks (inode_of_birth n.birth)) (node_of blocks n.found)) h.each
+        (subst (λ inode. IsNodeOf g blocks (inode_at g blocks inode) (node_of blocks met)) (sym number) says)
 
     one_more : (m n : FoundNode) → In m after.nodes → In n after.nodes → m.birth ≡ n.birth → m ≡ n
     one_more m n i j e =
@@ -416,11 +416,11 @@ module _ (g : Geometry) (blocks : List (List ℕ)) (root_is : IsDirectoryAt (dis
 -- ---- from the root on
 
 -- the root's node is a directory, its own parent
-root_node : (blocks : List (List ℕ)) (i : Inode) (met : Found) → is_directory i.mode ≡ true → IsNodeOf blocks i (node_of blocks met) → IsBelow 0 (node_of blocks met) →
+root_node : (g : Geometry) (blocks : List (List ℕ)) (i : Inode) (met : Found) → is_directory i.mode ≡ true → IsNodeOf g blocks i (node_of blocks met) → IsBelow 0 (node_of blocks met) →
     (d : Directory) × (met ≡ found.Directory d) × (d.parent ≡ 0)
-root_node blocks i (found.Directory d) kind says below = (d, refl, below)
-root_node blocks i (found.File f) kind says below = absurd (let four = eqb-true (i.mode / 4096) 4 kind in let eight = eqb-true (i.mode / 4096) 8 says.kind in omega arith)
-root_node blocks i (found.Other mode) kind says below = absurd (true≢false (sym kind ∙ says.no_directory))
+root_node g blocks i (found.Directory d) kind says below = (d, refl, below)
+root_node g blocks i (found.File f) kind says below = absurd (let four = eqb-true (i.mode / 4096) 4 kind in let eight = eqb-true (i.mode / 4096) 8 says.kind in omega arith)
+root_node g blocks i (found.Other mode) kind says below = absurd (true≢false (sym kind ∙ says.no_directory))
 
 module _ (g : Geometry) (blocks : List (List ℕ)) (v : Visit) (x : IsVisit g blocks (at_start g) first_pending (inode_at g blocks 1) v) where
   root_kind : IsDirectoryAt (disk_of blocks) g 1
@@ -439,7 +439,7 @@ module _ (g : Geometry) (blocks : List (List ℕ)) (v : Visit) (x : IsVisit g bl
 
   root_found : HasRoot v.state.nodes
   root_found =
-      let y = root_node blocks (inode_at g blocks 1) x.met (x.root refl) x.says x.below in
+      let y = root_node g blocks (inode_at g blocks 1) x.met (x.root refl) x.says x.below in
       let here : HasRoot (record { birth = 0; found = x.met } ∷ []) =
       record { directory = y.0; stands = inl (ap (λ found. record { birth = 0; found = found }) y.1); parent = y.2 } in
       subst (λ v. HasRoot v.state.nodes) x.is here

@@ -20,7 +20,7 @@ pub data IsDefect (g : Geometry) (blocks : List (List ℕ)) : LayoutFault → �
       zone_at_place g blocks inode x ≢ 0 → zone_at_place g blocks inode x ≡ zone_at_place g blocks other y → (inode ≡ other → x ≡ y → ⊥) →
       IsDefect g blocks BadZone (pointer_block_of g blocks inode x)
   slot_without_name : {inode : ℕ} (place : ℕ) → IsReached g blocks inode → IsDirectory g blocks inode → place < slots_of g blocks inode →
-      slot_behind blocks (inode_at g blocks inode) place ≡ Err BadSlot → IsDefect g blocks BadSlot (slot_zone g blocks inode place)
+      slot_behind g blocks (inode_at g blocks inode) place ≡ Err BadSlot → IsDefect g blocks BadSlot (slot_zone g blocks inode place)
   slot_without_inode : {inode : ℕ} (place : ℕ) (slot : Slot) → IsReached g blocks inode → NamesAt g blocks inode place slot → g.inodes < slot.inode →
       IsDefect g blocks BadSlot (slot_zone g blocks inode place)
   name_twice : {inode : ℕ} (place other : ℕ) (slot more : Slot) → IsReached g blocks inode → NamesAt g blocks inode place slot → NamesAt g blocks inode other more →

@@ -1,5 +1,6 @@
 -- A volume without a fault, by its fields: what must hold of its inodes, of their zones and of the names of its directories.
 use Rattle.std.specs.Prelude.{◌≡◌, ◌≢◌, ℕ, ◌/◌, ◌%◌, ◌<◌, ◌≤◌, ◌⊎◌, true, false, List, Option, Some, Ok}
+use Rattle.minix_layout.specs.Widths.{slot_size}
 use Rattle.minix_layout.specs.declared.division.Geometry.{Geometry}
 use Rattle.minix_layout.specs.declared.inode.Inode.{Inode}
 use Rattle.minix_layout.specs.declared.slot.Slot.{Slot}
@@ -26,18 +27,18 @@ zone_at_place g blocks inode x = zone_in blocks (inode_at g blocks inode) x
 
 -- how many slots lie below the size of a directory
 abbrev pub slots_of : Geometry → List (List ℕ) → ℕ → ℕ
-slots_of g blocks inode = (inode_at g blocks inode).size / 16
+slots_of g blocks inode = (inode_at g blocks inode).size / slot_size g.width
 
 -- a slot below the size, in use, under another name than . and ..
-pub record IsEntryAt (blocks : List (List ℕ)) (i : Inode) (place : ℕ) (slot : Slot) : Type 0 where
-  pub below : place < i.size / 16
-  pub stands : slot_behind blocks i place ≡ Ok (Some slot)
+pub record IsEntryAt (g : Geometry) (blocks : List (List ℕ)) (i : Inode) (place : ℕ) (slot : Slot) : Type 0 where
+  pub below : place < i.size / slot_size g.width
+  pub stands : slot_behind g blocks i place ≡ Ok (Some slot)
   pub no_dot : is_dot slot.name ≡ false
 
 -- so in a directory, which names the slot's inode by it
 pub record NamesAt (g : Geometry) (blocks : List (List ℕ)) (inode place : ℕ) (slot : Slot) : Type 0 where
   pub directory : IsDirectory g blocks inode
-  pub entry : IsEntryAt blocks (inode_at g blocks inode) place slot
+  pub entry : IsEntryAt g blocks (inode_at g blocks inode) place slot
 
 -- the inodes that names lead to from the root
 pub data IsReached (g : Geometry) (blocks : List (List ℕ)) : ℕ → Type 0 where
@@ -62,13 +63,13 @@ pub record IsUsed (g : Geometry) (blocks : List (List ℕ)) (zone : ℕ) : Type 
 pub record AreFaultless (g : Geometry) (blocks : List (List ℕ)) (P : ℕ → Type 0) : Type 0 where
   pub root : P 1 → IsDirectory g blocks 1
   pub size : (inode : ℕ) → P inode → HasZones g blocks inode → (inode_at g blocks inode).size ≤ largest_size
-  pub whole_slots : (inode : ℕ) → P inode → IsDirectory g blocks inode → (inode_at g blocks inode).size % 16 ≡ 0
+  pub whole_slots : (inode : ℕ) → P inode → IsDirectory g blocks inode → (inode_at g blocks inode).size % slot_size g.width ≡ 0
   pub zone_within : (inode : ℕ) (x : ZonePlace) → P inode → HasZones g blocks inode → zone_at_place g blocks inode x ≢ 0 →
       (g.first ≤ zone_at_place g blocks inode x) × (zone_at_place g blocks inode x < g.zones)
   pub zone_once : (inode other : ℕ) (x y : ZonePlace) → P inode → P other → HasZones g blocks inode → HasZones g blocks other →
       zone_at_place g blocks inode x ≢ 0 → zone_at_place g blocks inode x ≡ zone_at_place g blocks other y → (inode ≡ other) × (x ≡ y)
   pub slot_read : (inode place : ℕ) → P inode → IsDirectory g blocks inode → place < slots_of g blocks inode →
-      (slot : Option Slot) × (slot_behind blocks (inode_at g blocks inode) place ≡ Ok slot)
+      (slot : Option Slot) × (slot_behind g blocks (inode_at g blocks inode) place ≡ Ok slot)
   pub inode_within : (inode place : ℕ) (slot : Slot) → P inode → NamesAt g blocks inode place slot → slot.inode ≤ g.inodes
   pub name_once : (inode place other : ℕ) (slot more : Slot) → P inode → NamesAt g blocks inode place slot → NamesAt g blocks inode other more →
       slot.name ≡ more.name → place ≡ other

@@ -3,6 +3,7 @@ use Rattle.std.specs.Prelude.{◌≡◌, ◌≢◌, ℕ, ◌/◌, ◌%◌, ◌<�
 use Rattle.std.specs.List.Sorted.{IsStrictlySortedBy}
 use Rattle.std.specs.Map.{keys_of}
 use Rattle.blk_base.specs.Members.{In}
+use Rattle.minix_layout.specs.Widths.{slot_size, slots_a_block}
 use Rattle.minix_layout.specs.declared.division.Geometry.{Geometry}
 use Rattle.minix_layout.specs.declared.slot.Slot.{Slot}
 use Rattle.minix_layout.specs.declared.fault.LayoutFault.{LayoutFault}
@@ -19,7 +20,7 @@ pointer_block_of g blocks inode x = pointer_block_in blocks (table_block g inode
 
 -- the zone that a slot stands in
 abbrev pub slot_zone : Geometry → List (List ℕ) → ℕ → ℕ → ℕ
-slot_zone g blocks inode place = zone_behind blocks (inode_at g blocks inode) (place / 64)
+slot_zone g blocks inode place = zone_behind blocks (inode_at g blocks inode) (place / slots_a_block g.width)
 
 -- ---- what can be wrong, where the inodes `met` were met before
 
@@ -27,7 +28,7 @@ slot_zone g blocks inode place = zone_behind blocks (inode_at g blocks inode) (p
 pub data IsBadInode (g : Geometry) (blocks : List (List ℕ)) (inode : ℕ) : Type 0 where
   root_is_none : inode ≡ 1 → (IsDirectory g blocks inode → ⊥) → IsBadInode g blocks inode
   size_too_large : HasZones g blocks inode → largest_size < (inode_at g blocks inode).size → IsBadInode g blocks inode
-  part_of_a_slot : IsDirectory g blocks inode → (inode_at g blocks inode).size % 16 ≢ 0 → IsBadInode g blocks inode
+  part_of_a_slot : IsDirectory g blocks inode → (inode_at g blocks inode).size % slot_size g.width ≢ 0 → IsBadInode g blocks inode
 
 -- with the zone of an inode at a place: it is none of the zones of data, or was had before
 pub data IsBadZone (g : Geometry) (blocks : List (List ℕ)) (met : ℕ → Type 0) (inode : ℕ) (x : ZonePlace) : Type 0 where
@@ -38,7 +39,7 @@ pub data IsBadZone (g : Geometry) (blocks : List (List ℕ)) (met : ℕ → Type
 
 -- with a slot of a directory
 pub data IsBadSlot (g : Geometry) (blocks : List (List ℕ)) (met : ℕ → Type 0) (inode place : ℕ) : Type 0 where
-  no_name : slot_behind blocks (inode_at g blocks inode) place ≡ Err BadSlot → IsBadSlot g blocks met inode place
+  no_name : slot_behind g blocks (inode_at g blocks inode) place ≡ Err BadSlot → IsBadSlot g blocks met inode place
   no_inode : (slot : Slot) → NamesAt g blocks inode place slot → g.inodes < slot.inode → IsBadSlot g blocks met inode place
   name_before : (slot more : Slot) (other : ℕ) → NamesAt g blocks inode place slot → other < place → NamesAt g blocks inode other more →
       more.name ≡ slot.name → IsBadSlot g blocks met inode place
@@ -53,7 +54,7 @@ pub data IsBadSlot (g : Geometry) (blocks : List (List ℕ)) (met : ℕ → Type
 -- the inodes that an inode names, in the order of the names; only directories do
 pub data AreNamed (g : Geometry) (blocks : List (List ℕ)) (inode : ℕ) : List ℕ → Type 0 where
   by_directory : (names : List (List ℕ × ℕ)) → IsDirectory g blocks inode → IsStrictlySortedBy name_cmp (keys_of names) →
-      ((name : List ℕ) (birth : ℕ) → (at_name names name ≡ Some birth) ↔ HasName blocks (inode_at g blocks inode) name birth) →
+      ((name : List ℕ) (birth : ℕ) → (at_name names name ≡ Some birth) ↔ HasName g blocks (inode_at g blocks inode) name birth) →
       AreNamed g blocks inode (map (λ e. inode_of_birth e.1) names)
   by_none : (IsDirectory g blocks inode → ⊥) → AreNamed g blocks inode []
 

@@ -2,6 +2,7 @@
 use Rattle.std.specs.Prelude.{ℕ, ◌-◌, ◌*◌, Bool, ◌||◌, nat_lt, min, if◌then◌else◌, List, [], ◌∷◌, is_some, Option, Some, None, Result, Ok, Err}
 use Rattle.std.specs.List.{range_with_len}
 use Rattle.byte_fields.specs.Fields.{record_at}
+use Rattle.minix_layout.specs.Widths.{slot_size, slots_a_block}
 use Rattle.minix_layout.specs.declared.division.Geometry.{Geometry}
 use Rattle.minix_layout.specs.declared.slot.Slot.{Slot}
 use Rattle.minix_layout.specs.declared.fault.LayoutFault.TheVariants.{BadSlot}
@@ -50,19 +51,19 @@ scan_used g zone s (Some slot) = if is_dot slot.name then Ret (Ok s) else scan_e
 -- one slot of 16 bytes
 abbrev pub scan_slot : Geometry → ℕ → List ℕ → SlotScan → Reads (Result SlotScan Fault)
 scan_slot g zone bytes s =
-    elim (slot_of bytes) as (λ _. Reads (Result SlotScan Fault))
+    elim (slot_of g.width bytes) as (λ _. Reads (Result SlotScan Fault))
     [ Err fault ↦ Ret (Err (fault, zone)) | Ok slot ↦ scan_used g zone s slot ]
 
 -- the slots at these places of a block
 abbrev pub scan_places : Geometry → ℕ → List ℕ → List ℕ → SlotScan → Reads (Result SlotScan Fault)
 scan_places g zone body [] s = Ret (Ok s)
-scan_places g zone body (at ∷ ats) s = if_ok (scan_slot g zone (record_at 16 at body) s) (scan_places g zone body ats)
+scan_places g zone body (at ∷ ats) s = if_ok (scan_slot g zone (record_at (slot_size g.width) at body) s) (scan_places g zone body ats)
 
 -- a mapped block of a directory with so many slots, 64 in each block; those at and past the size are not read
 abbrev pub scan_block : Geometry → ℕ → Mapped → SlotScan → Reads (Result SlotScan Fault)
 scan_block g slots block s =
-    if nat_lt (64 * block.index) slots
-    then Read block.zone (λ body. scan_places g block.zone body (range_with_len 0 (min 64 (slots - 64 * block.index))) s)
+    if nat_lt (slots_a_block g.width * block.index) slots
+    then Read block.zone (λ body. scan_places g block.zone body (range_with_len 0 (min (slots_a_block g.width) (slots - slots_a_block g.width * block.index))) s)
     else Ret (Ok s)
 
 -- the mapped blocks of a directory in order; a hole is free slots

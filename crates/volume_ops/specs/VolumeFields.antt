@@ -1,6 +1,7 @@
 -- The tree of a volume by its fields: what each node says, and how nodes hang together.
 use Rattle.std.specs.Prelude.{◌≡◌, ◌≢◌, ℕ, ◌<◌, ◌/◌, ◌%◌, ◌==◌, ◌↔◌, true, false, if◌then◌else◌, List, Option, Some, None, Result, Ok}
 use Rattle.byte_fields.specs.Fields.{record_at}
+use Rattle.minix_layout.specs.Widths.{slot_size, slots_a_block}
 use Rattle.minix_layout.specs.declared.division.Geometry.{Geometry}
 use Rattle.minix_layout.specs.declared.inode.Inode.{Inode}
 use Rattle.minix_layout.specs.declared.slot.Slot.{Slot}
@@ -30,25 +31,26 @@ abbrev pub block_behind : List (List ℕ) → Inode → ℕ → Option (List ℕ
 block_behind blocks i index = if zone_behind blocks i index == 0 then None else Some (disk_of blocks (zone_behind blocks i index))
 
 -- slot number `place` of a directory; a hole is free slots
-abbrev pub slot_behind : List (List ℕ) → Inode → ℕ → Result (Option Slot) LayoutFault
-slot_behind blocks i place =
-    if zone_behind blocks i (place / 64) == 0 then Ok None
-    else slot_of (record_at 16 (place % 64) (disk_of blocks (zone_behind blocks i (place / 64))))
+abbrev pub slot_behind : Geometry → List (List ℕ) → Inode → ℕ → Result (Option Slot) LayoutFault
+slot_behind g blocks i place =
+    if zone_behind blocks i (place / slots_a_block g.width) == 0 then Ok None
+    else slot_of g.width (record_at (slot_size g.width) (place % slots_a_block g.width) (disk_of blocks (zone_behind blocks i (place / slots_a_block g.width))))
 
 -- some slot below the size of a directory gives this name, which is neither . nor .., to this node
-pub record HasName (blocks : List (List ℕ)) (i : Inode) (name : List ℕ) (birth : ℕ) : Type 0 where
+pub record HasName (g : Geometry) (blocks : List (List ℕ)) (i : Inode) (name : List ℕ) (birth : ℕ) : Type 0 where
   pub place : ℕ
   pub slot : Slot
-  pub below : place < i.size / 16
-  pub stands : slot_behind blocks i place ≡ Ok (Some slot)
+  pub below : place < i.size / slot_size g.width
+  pub stands : slot_behind g blocks i place ≡ Ok (Some slot)
   pub name_is : slot.name ≡ name
   pub no_dot : is_dot name ≡ false
   pub birth_is : birth_of slot.inode ≡ birth
 
-pub record IsDirectoryOf (blocks : List (List ℕ)) (i : Inode) (d : Directory) : Type 0 where
+pub record IsDirectoryOf (g : Geometry) (blocks : List (List ℕ)) (i : Inode) (d : Directory) : Type 0 where
   pub kind : is_directory i.mode ≡ true
-  pub slots : d.slots ≡ i.size / 16
-  pub names : (name : List ℕ) (birth : ℕ) → (at_name d.names name ≡ Some birth) ↔ HasName blocks i name birth
+  pub width : d.width ≡ g.width
+  pub slots : d.slots ≡ i.size / slot_size g.width
+  pub names : (name : List ℕ) (birth : ℕ) → (at_name d.names name ≡ Some birth) ↔ HasName g blocks i name birth
 
 pub record IsFileOf (blocks : List (List ℕ)) (i : Inode) (f : File) : Type 0 where
   pub kind : is_file i.mode ≡ true
@@ -62,10 +64,10 @@ pub record IsOtherOf (i : Inode) (mode : ℕ) : Type 0 where
   pub mode_is : mode ≡ i.mode
 
 -- a node says what its inode says
-abbrev pub IsNodeOf : List (List ℕ) → Inode → Node → Type 0
-IsNodeOf blocks i (nodes.Directory d) = IsDirectoryOf blocks i d
-IsNodeOf blocks i (nodes.File f) = IsFileOf blocks i f
-IsNodeOf blocks i (nodes.Other mode) = IsOtherOf i mode
+abbrev pub IsNodeOf : Geometry → List (List ℕ) → Inode → Node → Type 0
+IsNodeOf g blocks i (nodes.Directory d) = IsDirectoryOf g blocks i d
+IsNodeOf g blocks i (nodes.File f) = IsFileOf blocks i f
+IsNodeOf g blocks i (nodes.Other mode) = IsOtherOf i mode
 
 -- a directory's parent is the directory that names it
 abbrev pub IsBelow : ℕ → Node → Type 0
@@ -75,7 +77,7 @@ IsBelow birth node = Unit {0}
 -- The tree that a volume stands for: each node says what its inode says, the root is a directory and its own
 -- parent, each name leads to a node of the tree, each other node has a name, and a directory has one only.
 pub record IsTreeOf (g : Geometry) (blocks : List (List ℕ)) (tree : List (ℕ × Node)) : Type 0 where
-  pub each : (birth : ℕ) (node : Node) → at_number tree birth ≡ Some node → IsNodeOf blocks (inode_at g blocks (inode_of_birth birth)) node
+  pub each : (birth : ℕ) (node : Node) → at_number tree birth ≡ Some node → IsNodeOf g blocks (inode_at g blocks (inode_of_birth birth)) node
   pub root : (d : Directory) × (at_number tree 0 ≡ Some (nodes.Directory d)) × (d.parent ≡ 0)
   pub leads : (parent : ℕ) (name : List ℕ) (birth : ℕ) → HasEntry tree parent name birth → (node : Node) × (at_number tree birth ≡ Some node) × IsBelow parent node
   pub has_name : (birth : ℕ) (node : Node) → at_number tree birth ≡ Some node → birth ≢ 0 → (parent : ℕ) × (name : List ℕ) × HasEntry tree parent name birth

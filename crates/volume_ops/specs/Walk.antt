@@ -1,5 +1,6 @@
 -- The walk through a volume: from its root, each inode where it is met first, and the first fault.
 use Rattle.std.specs.Prelude.{ℕ, zero, suc, ◌+◌, ◌/◌, ◌%◌, ◌==◌, Bool, not, ◌&&◌, ◌||◌, nat_lt, if◌then◌else◌, List, [], ◌∷◌, ◌++◌, map, Result, Ok, Err}
+use Rattle.minix_layout.specs.Widths.{slot_size}
 use Rattle.minix_layout.specs.declared.division.Geometry.{Geometry}
 use Rattle.minix_layout.specs.declared.inode.Inode.{Inode}
 use Rattle.minix_layout.specs.declared.fault.LayoutFault.TheVariants.{BadInode}
@@ -50,11 +51,11 @@ met_node w inode zones named found = record {
 }
 
 -- inode 1 is no directory, a size is past the largest, or a directory's size is no whole number of slots
-abbrev pub is_bad_inode : ℕ → Inode → Bool
-is_bad_inode number i =
+abbrev pub is_bad_inode : Geometry → ℕ → Inode → Bool
+is_bad_inode g number i =
     (number == 1 && not (is_directory i.mode))
     || ((nat_lt largest_size i.size && (is_directory i.mode || is_file i.mode))
-    || (is_directory i.mode && not (i.size % 16 == 0)))
+    || (is_directory i.mode && not (i.size % slot_size g.width == 0)))
 
 -- a file, once its zones were tested
 abbrev pub visit_file : WalkState → ℕ → Inode → ZoneScan → Result Visit Fault
@@ -64,9 +65,9 @@ visit_file w inode i z = Ok (record {
 })
 
 -- a directory, once its zones and its slots were tested
-abbrev pub visit_directory : WalkState → Pending → Inode → ZoneScan → SlotScan → Result Visit Fault
-visit_directory w e i z s = Ok (record {
-  state = met_node w e.inode z.met s.named (found.Directory (record { parent = e.parent; slots = i.size / 16; names = s.names }));
+abbrev pub visit_directory : Geometry → WalkState → Pending → Inode → ZoneScan → SlotScan → Result Visit Fault
+visit_directory g w e i z s = Ok (record {
+  state = met_node w e.inode z.met s.named (found.Directory (record { parent = e.parent; width = g.width; slots = i.size / slot_size g.width; names = s.names }));
   names = pending_in (birth_of e.inode) s.names;
 })
 
@@ -77,11 +78,11 @@ visit_other w inode i = Ok (record { state = met_node w inode w.zones w.named (f
 -- an inode where it is met first, of the bytes of its block of the table
 abbrev pub visit_inode : Geometry → WalkState → Pending → Inode → Reads (Result Visit Fault)
 visit_inode g w e i =
-    if is_bad_inode e.inode i then Ret (Err (BadInode, table_block g e.inode))
+    if is_bad_inode g e.inode i then Ret (Err (BadInode, table_block g e.inode))
     else if is_directory i.mode then
     if_ok (scan_zones g (table_block g e.inode) i.zones w.zones)
-    (λ z. if_ok (scan_slots g (i.size / 16) z.mapped (record { named = w.named; names = [] }))
-    (λ s. Ret (visit_directory w e i z s)))
+    (λ z. if_ok (scan_slots g (i.size / slot_size g.width) z.mapped (record { named = w.named; names = [] }))
+    (λ s. Ret (visit_directory g w e i z s)))
     else if is_file i.mode then
     if_ok (scan_zones g (table_block g e.inode) i.zones w.zones) (λ z. Ret (visit_file w e.inode i z))
     else Ret (visit_other w e.inode i)

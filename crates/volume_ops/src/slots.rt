@@ -3,6 +3,7 @@ ghost use Rattle.std.specs.Prelude.{◌≡◌, ◌^◌, ◌<◌, ◌≤◌, [], 
 ghost use Rattle.std.specs.List.{All, range_with_len};
 ghost use Rattle.byte_fields.specs.Fields.{record_at};
 ghost use Rattle.minix_layout.specs.Slots.{IsEntry};
+ghost use Rattle.minix_layout.specs.Widths.{IsWidth, slot_size, slots_a_block};
 ghost use Rattle.tree_model.specs.Maps.{put_name};
 ghost use Rattle.volume_ops.specs.code.Births.{AreBirths};
 ghost use Rattle.volume_ops.specs.Places.{birth_of};
@@ -16,12 +17,9 @@ use crate::marks::Marks;
 use crate::places::{birth_of, inode_at, is_directory};
 use crate::walk_fault::WalkFault;
 use blk_base::Block;
-use minix_layout::{Geometry, LayoutFault, Slot, read_slot};
+use minix_layout::{Geometry, LayoutFault, Slot, read_slot, slots_a_block};
 use std::alloc::Global;
 use tree_model::{Names, is_dot};
-
-// How many slots stand in a block.
-const SLOTS: u64 = 64;
 
 /// Tests the slots of a directory that has so many, and notes its names. `named` has the directories that were
 /// named so far.
@@ -33,6 +31,7 @@ pub fn scan_slots(
     blocks: &[Mapped],
     named: &mut Marks,
 ) -> Result<Names, WalkFault>
+    requires { IsWidth g.now.width }
     ensures ok { IfOk result (λ names. answer (disk_of disk.now) (scan_slots g.now slots blocks.now (record { named = named.old; names = [] })) ≡ Ok (record { named = named.new; names = names })) }
     ensures births { IfOk result (λ names. All (λ e. e.1 < 2 ^ 16) names) }
     ensures within { IfOk result (λ names. AreBirths g.now names) }
@@ -54,15 +53,17 @@ fn scan_block(
     named: &mut Marks,
     names: &mut Names,
 ) -> Result<(), WalkFault>
+    requires { IsWidth g.now.width }
     ensures ok { OnOk result (answer (disk_of disk.now) (scan_block g.now slots block (record { named = named.old; names = names.old })) ≡ Ok (record { named = named.new; names = names.new })) }
     ensures within { OnOk result (AreBirths g.now names.old → AreBirths g.now names.new) }
     ensures fault { IfErr result (IsTold (answer (disk_of disk.now) (scan_block g.now slots block (record { named = named.old; names = names.old })))) }
 {
-    let before = SLOTS * u64::from(block.index);
+    let per = u64::from(slots_a_block(g.width));
+    let before = per * u64::from(block.index);
     if before >= u64::from(slots) {
         return Ok(());
     }
-    let count = (u64::from(slots) - before).min(SLOTS) as u8;
+    let count = (u64::from(slots) - before).min(per) as u8;
     let body = disk.body(u32::from(block.zone));
     scan_places(disk, g, block.zone, body, count, named, names)
 }
@@ -77,7 +78,8 @@ fn scan_places(
     named: &mut Marks,
     names: &mut Names,
 ) -> Result<(), WalkFault>
-    requires { count ≤ 64 }
+    requires width { IsWidth g.now.width }
+    requires count { count ≤ slots_a_block g.now.width }
     ensures ok { OnOk result (answer (disk_of disk.now) (scan_places g.now zone body.now (range_with_len 0 count) (record { named = named.old; names = names.old })) ≡ Ok (record { named = named.new; names = names.new })) }
     ensures within { OnOk result (AreBirths g.now names.old → AreBirths g.now names.new) }
     ensures fault { IfErr result (IsTold (answer (disk_of disk.now) (scan_places g.now zone body.now (range_with_len 0 count) (record { named = named.old; names = names.old })))) }
@@ -99,12 +101,13 @@ fn scan_slot(
     named: &mut Marks,
     names: &mut Names,
 ) -> Result<(), WalkFault>
-    requires { at < 64 }
-    ensures ok { OnOk result (answer (disk_of disk.now) (scan_slot g.now zone (record_at 16 at body.now) (record { named = named.old; names = names.old })) ≡ Ok (record { named = named.new; names = names.new })) }
+    requires width { IsWidth g.now.width }
+    requires place { at < slots_a_block g.now.width }
+    ensures ok { OnOk result (answer (disk_of disk.now) (scan_slot g.now zone (record_at (slot_size g.now.width) at body.now) (record { named = named.old; names = names.old })) ≡ Ok (record { named = named.new; names = names.new })) }
     ensures within { OnOk result (AreBirths g.now names.old → AreBirths g.now names.new) }
-    ensures fault { IfErr result (IsTold (answer (disk_of disk.now) (scan_slot g.now zone (record_at 16 at body.now) (record { named = named.old; names = names.old })))) }
+    ensures fault { IfErr result (IsTold (answer (disk_of disk.now) (scan_slot g.now zone (record_at (slot_size g.now.width) at body.now) (record { named = named.old; names = names.old })))) }
 {
-    match read_slot(body, at) {
+    match read_slot(body, at, g.width) {
         Err(fault) => Err(WalkFault::Layout(fault, u32::from(zone))),
         Ok(None) => Ok(()),
         Ok(Some(slot)) if is_dot(slot.name.as_slice()) => Ok(()),
@@ -121,7 +124,7 @@ fn scan_entry(
     named: &mut Marks,
     names: &mut Names,
 ) -> Result<(), WalkFault>
-    requires { IsEntry slot }
+    requires { IsEntry g.now.width slot }
     ensures ok { OnOk result (answer (disk_of disk.now) (scan_entry g.now zone slot (record { named = named.old; names = names.old })) ≡ Ok (record { named = named.new; names = names.new })) }
     ensures within { OnOk result (AreBirths g.now names.old → AreBirths g.now names.new) }
     ensures fault { IfErr result (IsTold (answer (disk_of disk.now) (scan_entry g.now zone slot (record { named = named.old; names = names.old })))) }

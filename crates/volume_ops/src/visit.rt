@@ -1,6 +1,7 @@
 //! Visits of inodes, each where it is met first.
 ghost use Rattle.std.specs.Prelude.{◌≡◌, ◌^◌, ◌<◌, ◌++◌, [], Ok, OnOk, IfOk, IfErr, reverse};
 ghost use Rattle.std.specs.List.{All};
+ghost use Rattle.minix_layout.specs.Widths.{IsWidth};
 ghost use Rattle.volume_ops.specs.Marks.{is_marked, marked};
 ghost use Rattle.volume_ops.specs.Reads.{answer};
 ghost use Rattle.volume_ops.specs.code.Visits.{met_next, file_visit, directory_visit, ArePending};
@@ -15,7 +16,7 @@ use crate::walk_fault::WalkFault;
 use crate::zones::scan_zones;
 use crate::{Found, FoundFile, FoundNode};
 use blk_base::NoMemory;
-use minix_layout::{Geometry, Inode, LARGEST_SIZE, LayoutFault};
+use minix_layout::{Geometry, Inode, LARGEST_SIZE, LayoutFault, slot_size};
 use std::alloc::Global;
 use std::marker::Model;
 use tree_model::{Directory, Names};
@@ -113,14 +114,15 @@ impl Walker {
         e: Pending,
         stack: &mut Vec<Pending>,
     ) -> Result<(), WalkFault>
-        requires { 0 < e.inode }
+        requires width { IsWidth g.now.width }
+        requires some { 0 < e.inode }
         ensures ok { OnOk result (met_next (answer (disk_of disk.now) (visit g.now self.old e)) (reverse stack.old.items) ≡ Ok (self.new, reverse stack.new.items)) }
         ensures marks { OnOk result (self.new.inodes ≡ marked self.old.inodes e.inode) }
         ensures within { OnOk result (ArePending g.now stack.old.items → ArePending g.now stack.new.items) }
         ensures fault { IfErr result (IsTold (answer (disk_of disk.now) (visit g.now self.old e))) }
     {
         let i = inode_at(disk, g, e.inode);
-        if is_bad_inode(e.inode, &i) {
+        if is_bad_inode(g, e.inode, &i) {
             let block = table_block(g, e.inode);
             return Err(WalkFault::Layout(LayoutFault::BadInode, block));
         }
@@ -143,7 +145,8 @@ impl Walker {
         i: &Inode,
         stack: &mut Vec<Pending>,
     ) -> Result<(), WalkFault>
-        requires { 0 < e.inode }
+        requires width { IsWidth g.now.width }
+        requires some { 0 < e.inode }
         ensures ok { OnOk result (met_next (answer (disk_of disk.now) (directory_visit g.now self.old e i.now)) (reverse stack.old.items) ≡ Ok (self.new, reverse stack.new.items)) }
         ensures marks { OnOk result (self.new.inodes ≡ marked self.old.inodes e.inode) }
         ensures within { OnOk result (ArePending g.now stack.old.items → ArePending g.now stack.new.items) }
@@ -151,13 +154,14 @@ impl Walker {
     {
         let pointer_block = table_block(g, e.inode);
         let zones = scan_zones(alloc, disk, g, pointer_block, &i.zones, &mut self.zones)?;
-        let slots = i.size / 16;
+        let slots = i.size / slot_size(g.width);
         let names = scan_slots(alloc, disk, g, slots, zones.as_slice(), &mut self.named)?;
         push_names(stack, birth_of(e.inode), &names)?;
         self.meet(
             e.inode,
             Found::Directory(Directory {
                 parent: e.parent,
+                width: g.width,
                 slots,
                 names,
             }),
@@ -206,13 +210,13 @@ impl Walker {
 
 // Whether the root is no directory, a size is past the largest, or a directory's size is no whole number of
 // slots.
-fn is_bad_inode(number: u16, i: &Inode) -> bool
-    ensures { result ≡ is_bad_inode number i.now }
+fn is_bad_inode(g: &Geometry, number: u16, i: &Inode) -> bool
+    ensures { result ≡ is_bad_inode g.now number i.now }
 {
     let directory = is_directory(i.mode);
     (number == 1 && !directory)
         || (i.size > LARGEST_SIZE && (directory || is_file(i.mode)))
-        || (directory && i.size % 16 != 0)
+        || (directory && i.size % slot_size(g.width) != 0)
 }
 
 // Puts what a directory names on the stack, the last name first.

@@ -184,6 +184,7 @@ fn node_of(alloc: Global, disk: &Disk, found: &Found) -> Result<Node, NoMemory>
     match found {
         Found::Directory(d) => Ok(Node::Directory(Directory {
             parent: d.parent,
+            width: d.width,
             slots: d.slots,
             names: d.names.copy(alloc)?,
         })),

@@ -1,5 +1,6 @@
 //! The walk through a volume.
 ghost use Rattle.std.specs.Prelude.{◌≡◌, Ok, IfOk, IfErr};
+ghost use Rattle.minix_layout.specs.Widths.{IsWidth};
 ghost use Rattle.volume_ops.specs.Volume.{walked, IsTold};
 
 use crate::disk::Disk;
@@ -13,6 +14,7 @@ const ROOT: u16 = 1;
 
 /// Walks through a volume from its root.
 pub fn walk_volume(alloc: Global, disk: &Disk, g: &Geometry) -> Result<Walked, WalkFault>
+    requires { IsWidth g.now.width }
     ensures ok { IfOk result (λ found. walked g.now disk.now ≡ Ok found) }
     ensures fault { IfErr result (IsTold (walked g.now disk.now)) }
 {

@@ -4,6 +4,7 @@ use Rattle.std.proofs.Common.{◌∙◌, inl, inr, arith}
 use Rattle.std.proofs.lemmas.List.{length-set}
 use Rattle.std.proofs.lemmas.Grind.{div_ceil_times}
 use Rattle.byte_fields.specs.laws.ReadLaws.{length-put_bytes}
+use Rattle.minix_layout.specs.Widths.{slots_a_block}
 use Rattle.minix_layout.specs.declared.division.Geometry.{Geometry}
 use Rattle.minix_layout.specs.declared.inode.Inode.{Inode}
 use Rattle.minix_layout.specs.declared.slot.Slot.{Slot}
@@ -11,11 +12,11 @@ use Rattle.minix_layout.specs.Geometry.{IsSound}
 use Rattle.minix_layout.specs.Inodes.{FitInode}
 use Rattle.minix_layout.specs.Slots.{IsEntry}
 use Rattle.minix_layout.specs.laws.InodeLaws.{length-inode_bytes}
-use Rattle.minix_layout.specs.laws.SlotLaws.{length-slot_bytes}
+use Rattle.minix_layout.specs.laws.SlotLaws.{length-slot_bytes, entries_short, slot_within}
 use Rattle.volume_ops.specs.Places.{table_block}
 use Rattle.volume_model.specs.Edits.{put_inode, put_slot, set_bit, edited}
 use Rattle.volume_model.specs.Volume.{IsWhole}
-use Rattle.volume_model.specs.laws.Edits.{length-edited, edited_elsewhere, inode_elsewhere, inode_kept, whole_edited, named_of}
+use Rattle.volume_model.specs.laws.Edits.{length-edited, edited_elsewhere, inode_elsewhere, inode_kept, whole_edited}
 use Rattle.volume_model.specs.Changes.{Changes}
 
 module _ (g : Geometry) where
@@ -52,11 +53,12 @@ module _ (g : Geometry) where
         zones = λ b low none. edited_elsewhere g blocks (put_inode n i) b (omega arith);
       }
 
-  pub changes_slot : (blocks : List (List ℕ)) (zone at : ℕ) (s : Option Slot) → IsSound g → IsWhole blocks → length blocks ≡ g.zones → g.first ≤ zone → zone < g.zones → at < 64 → IfSome s (λ e. IsEntry e) →
+  pub changes_slot : (blocks : List (List ℕ)) (zone at : ℕ) (s : Option Slot) → IsSound g → IsWhole blocks → length blocks ≡ g.zones → g.first ≤ zone → zone < g.zones → at < slots_a_block g.width → IfSome s (λ e. IsEntry g.width e) →
       Changes g (λ _. ⊥) (λ b. b ≡ zone) blocks (edited g blocks (put_slot zone at s))
   changes_slot blocks zone at s sound whole size low high place entry =
       let inside : zone < length blocks = omega arith in
-      let bytes = length-slot_bytes s (named_of g s entry) in
+      let bytes = length-slot_bytes g.width s sound.width (entries_short g.width s entry) in
+      let fits = slot_within g.width at sound.width place in
       let body = whole zone in
       record {
         whole = whole_edited g blocks (put_slot zone at s) whole (length-put_bytes _ _ _ (omega arith) ∙ body) inside;

@@ -325,7 +325,7 @@ module _ (g : Geometry) (sound : IsSound g) (blocks : List (List ℕ)) (nodes : 
   ]
 
   file_part : IsFilePart blocks p.inode zones
-  file_part = subst (IsPart blocks p.inode) is (h.each n p stands).part
+  file_part = subst (IsPart g blocks p.inode) is (h.each n p stands).part
 
   page_kept : (x : Page) → HasPage v x → HasPage cut_both x ⊎ In x cut_touched.dropped
   page_kept x page = elim (cases_eq x.birth n) [

@@ -5,6 +5,7 @@ use Rattle.std.proofs.lemmas.List.{get_or-set_same, get_or-set_other, length-set
 use Rattle.std.proofs.lemmas.Bool.{cases_eq}
 use Rattle.blk_base.specs.Members.{In}
 use Rattle.byte_fields.specs.Fields.{record_at}
+use Rattle.minix_layout.specs.Widths.{IsWidth, slot_size, slots_a_block}
 use Rattle.minix_layout.specs.declared.division.Geometry.{Geometry}
 use Rattle.minix_layout.specs.declared.inode.Inode.{Inode}
 use Rattle.minix_layout.specs.declared.slot.Slot.{Slot}
@@ -12,7 +13,7 @@ use Rattle.minix_layout.specs.declared.fault.LayoutFault.{LayoutFault}
 use Rattle.minix_layout.specs.Inodes.{FitInode}
 use Rattle.minix_layout.specs.Slots.{slot_of, IsEntry, IsNamed}
 use Rattle.minix_layout.specs.laws.InodeLaws.{inode_read_back, other_inode}
-use Rattle.minix_layout.specs.laws.SlotLaws.{slot_read_back, other_slot}
+use Rattle.minix_layout.specs.laws.SlotLaws.{slot_read_back, other_slot, entries_short}
 use Rattle.volume_ops.specs.Places.{table_block}
 use Rattle.volume_ops.specs.Volume.{disk_of}
 use Rattle.volume_ops.specs.VolumeFields.{inode_at}
@@ -74,24 +75,20 @@ module _ (g : Geometry) where
 
   -- slot `at` of a block of slots
   abbrev pub slot_in_zone : List (List ℕ) → ℕ → ℕ → Result (Option Slot) LayoutFault
-  slot_in_zone blocks zone at = slot_of (record_at 16 at (disk_of blocks zone))
+  slot_in_zone blocks zone at = slot_of g.width (record_at (slot_size g.width) at (disk_of blocks zone))
 
-  pub slot_here : (blocks : List (List ℕ)) (zone at : ℕ) (s : Option Slot) → IsWhole blocks → zone < length blocks → at < 64 → IfSome s (λ e. IsEntry e) →
+  pub slot_here : IsWidth g.width → (blocks : List (List ℕ)) (zone at : ℕ) (s : Option Slot) → IsWhole blocks → zone < length blocks → at < slots_a_block g.width → IfSome s (λ e. IsEntry g.width e) →
       slot_in_zone (edited g blocks (put_slot zone at s)) zone at ≡ Ok s
-  slot_here blocks zone at s whole within low entry =
-      rw (edited_here blocks (put_slot zone at s) within) (slot_read_back (disk_of blocks zone) at s (whole _) low entry)
+  slot_here width blocks zone at s whole within low entry =
+      rw (edited_here blocks (put_slot zone at s) within) (slot_read_back g.width (disk_of blocks zone) at s width (whole _) low entry)
 
-  pub named_of : (s : Option Slot) → IfSome s (λ e. IsEntry e) → IfSome s (λ e. IsNamed e)
-  named_of None entry = tt
-  named_of (Some s) entry = entry.name
-
-  pub slot_elsewhere : (blocks : List (List ℕ)) (zone at other place : ℕ) (s : Option Slot) → IsWhole blocks → zone < length blocks → at < 64 → place < 64 → IfSome s (λ e. IsEntry e) →
+  pub slot_elsewhere : IsWidth g.width → (blocks : List (List ℕ)) (zone at other place : ℕ) (s : Option Slot) → IsWhole blocks → zone < length blocks → at < slots_a_block g.width → place < slots_a_block g.width → IfSome s (λ e. IsEntry g.width e) →
       ((other ≡ zone) → (place ≡ at) → ⊥) →
       slot_in_zone (edited g blocks (put_slot zone at s)) other place ≡ slot_in_zone blocks other place
-  slot_elsewhere blocks zone at other place s whole within low more entry apart =
+  slot_elsewhere width blocks zone at other place s whole within low more entry apart =
       elim (cases_eq other zone) [
         | inl same ↦ rw (same, edited_here blocks (put_slot zone at s) within)
-            (other_slot (disk_of blocks zone) at place s (whole _) low more (λ e. apart same (sym e)) (named_of s entry))
+            (other_slot g.width (disk_of blocks zone) at place s width (whole _) low more (λ e. apart same (sym e)) (entries_short g.width s entry))
         | inr differ ↦ rw (edited_elsewhere blocks (put_slot zone at s) other differ) refl
       ]
 

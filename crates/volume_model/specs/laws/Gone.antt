@@ -64,7 +64,7 @@ module _ (nodes : List (ℕ × Placed)) (d : DirectoryPart) (k : ℕ) (s : Slot)
         | inr a ↦ (a, sym (slice_get-set_other d.slots k j None a) ∙ at)
       ]
 
-  pub names_without : HasNames nodes (record { parent = d.parent; names = without d.names s.name; slots = slice_set d.slots k None })
+  pub names_without : HasNames nodes (record { parent = d.parent; width = d.width; names = without d.names s.name; slots = slice_set d.slots k None })
   names_without = record {
     named = λ name birth at.
         let old = at_other name birth at in

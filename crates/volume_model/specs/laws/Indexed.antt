@@ -21,7 +21,7 @@ use Rattle.volume_model.specs.laws.Counts.{IsIndexed}
 pub file_indexed : (g : Geometry) (blocks : List (List ℕ)) (nodes : List (ℕ × Placed)) (n : ℕ) (p : Placed) (zones : List Mapped) → IsVolumeOf g blocks nodes → at_number nodes n ≡ Some p → p.part ≡ parts.File zones →
     IsJust (λ x. zone_in blocks p.inode x) → IsIndexed (λ x. zone_in blocks p.inode x) (indices_of zones)
 file_indexed g blocks nodes n p zones h at is just =
-    let part : IsFilePart blocks p.inode zones = subst (IsPart blocks p.inode) is (h.each n p at).part in
+    let part : IsFilePart blocks p.inode zones = subst (IsPart g blocks p.inode) is (h.each n p at).part in
     record {
       mapped = λ i j. (let w = In-map (λ (m : Mapped). m.index) zones i j in let told = part.listed w.0 w.1 in
           λ none. told.1 (sym told.0 ∙ (ap (λ i. zone_in blocks p.inode (block i)) w.2 ∙ none)));

@@ -235,7 +235,7 @@ module _ (g : Geometry) (sound : IsSound g) (blocks : List (List ℕ)) (nodes : 
 
   may : MayMove g sound blocks nodes n p h stands u (parts.File listed) Z
   may = may_map g sound blocks nodes n p h stands t content size index high free (parts.File listed)
-      (map_file g sound blocks nodes n p h stands t content size index high free zones hole (subst (IsPart blocks p.inode) is (h.each n p stands).part))
+      (map_file g sound blocks nodes n p h stands t content size index high free zones hole (subst (IsPart g blocks p.inode) is (h.each n p stands).part))
       (λ e same. absurd (cc same))
 
   change : MayChange g blocks later nodes n p q (λ z. Z z ⊎ ⊥)

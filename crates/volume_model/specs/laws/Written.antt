@@ -3,6 +3,7 @@ use Rattle.std.specs.Prelude.{◌≡◌, ◌≢◌, ℕ, ◌/◌, ◌%◌, List,
 use Rattle.std.proofs.Common.{sym, ap, subst, ◌∙◌}
 use Rattle.blk_base.specs.Members.{In}
 use Rattle.byte_fields.specs.Fields.{record_at}
+use Rattle.minix_layout.specs.Widths.{slot_size, slots_a_block}
 use Rattle.minix_layout.specs.declared.division.Geometry.{Geometry}
 use Rattle.minix_layout.specs.declared.inode.Inode.{Inode}
 use Rattle.minix_layout.specs.declared.slot.Slot.{Slot}
@@ -19,24 +20,25 @@ module _ (blocks after : List (List ℕ)) (i : Inode) (same : (x : Place) → zo
   pub zone_kept : (x : Place) → zone_in after i x ≡ zone_in blocks i x
   zone_kept = zones_kept blocks after i (λ x _ some. same x some)
 
-  slot_kept : (k : ℕ) (s : Option Slot) → HasSlot blocks i k s → HasSlot after i k s
-  slot_kept k s h =
-      let zone : zone_behind after i (k / 64) ≡ zone_behind blocks i (k / 64) = zone_kept (block (k / 64)) in
-      record {
-        mapped = λ none. h.mapped (sym zone ∙ none);
-        stands = ap (λ z. slot_of (record_at 16 (k % 64) (disk_of after z))) zone ∙ ap (λ body. slot_of (record_at 16 (k % 64) body)) (same (block (k / 64)) h.mapped) ∙ h.stands;
-      }
+  module _ (g : Geometry) where
+    slot_kept : (k : ℕ) (s : Option Slot) → HasSlot g blocks i k s → HasSlot g after i k s
+    slot_kept k s h =
+        let zone : zone_behind after i (k / slots_a_block g.width) ≡ zone_behind blocks i (k / slots_a_block g.width) = zone_kept (block (k / slots_a_block g.width)) in
+        record {
+          mapped = λ none. h.mapped (sym zone ∙ none);
+          stands = ap (λ z. slot_of g.width (record_at (slot_size g.width) (k % slots_a_block g.width) (disk_of after z))) zone ∙ ap (λ body. slot_of g.width (record_at (slot_size g.width) (k % slots_a_block g.width) body)) (same (block (k / slots_a_block g.width)) h.mapped) ∙ h.stands;
+        }
 
-  pub part_kept : (p : Part) → IsPart blocks i p → IsPart after i p
-  part_kept (parts.Directory d) h = record { kind = h.kind; size = h.size; slots = λ k s at. slot_kept k s (h.slots k s at) }
-  part_kept (parts.File zones) h = record {
-    kind = h.kind;
-    listed = λ x i. (zone_kept (block x.index) ∙ (h.listed x i).0, (h.listed x i).1);
-    full = λ index some.
-        let same = zone_kept (block index) in
-        subst (λ zone. In (record { index = index; zone = zone }) zones) (sym same) (h.full index (λ none. some (same ∙ none)));
-    rising = h.rising;
-  }
+    pub part_kept : (p : Part) → IsPart g blocks i p → IsPart g after i p
+    part_kept (parts.Directory d) h = record { kind = h.kind; width = h.width; size = h.size; slots = λ k s at. slot_kept k s (h.slots k s at) }
+    part_kept (parts.File zones) h = record {
+      kind = h.kind;
+      listed = λ x i. (zone_kept (block x.index) ∙ (h.listed x i).0, (h.listed x i).1);
+      full = λ index some.
+          let same = zone_kept (block index) in
+          subst (λ zone. In (record { index = index; zone = zone }) zones) (sym same) (h.full index (λ none. some (same ∙ none)));
+      rising = h.rising;
+    }
 
 -- A node stands as before, where its inode and all its zones do.
 pub stored_kept : (g : Geometry) (blocks after : List (List ℕ)) (p : Placed) → IsStored g blocks p →
@@ -51,5 +53,5 @@ stored_kept g blocks after p h inode same =
       fits = h.fits;
       inode = inode ∙ h.inode;
       zones = λ x some. rw (zone x) (h.zones x (λ none. some (zone x ∙ none)));
-      part = part_kept blocks after p.inode same p.part h.part;
+      part = part_kept blocks after p.inode same g p.part h.part;
     }

@@ -5,6 +5,7 @@ use Rattle.std.proofs.lemmas.Bool.{cases_Bool, cases_eq, eqb-true, eqb-false, tr
 use Rattle.blk_base.specs.Members.{In}
 use Rattle.blk_base.specs.laws.Members.{In-filter, filter-In}
 use Rattle.byte_fields.specs.Fields.{record_at}
+use Rattle.minix_layout.specs.Widths.{slot_size, slots_a_block}
 use Rattle.minix_layout.specs.declared.division.Geometry.{Geometry}
 use Rattle.minix_layout.specs.declared.inode.Inode.{Inode}
 use Rattle.minix_layout.specs.Geometry.{IsSound}
@@ -61,7 +62,7 @@ module _ (g : Geometry) (sound : IsSound g) (blocks : List (List ℕ)) (nodes : 
     pub changes : Changes g (λ _. ⊥) Z blocks u.blocks
     pub not_theirs : (a : ℕ) (r : Placed) (x : Place) → at_number nodes a ≡ Some r → a ≢ n → zone_in blocks r.inode x ≢ 0 → Z (zone_in blocks r.inode x) → ⊥
     pub none_of_theirs : (a : ℕ) (r : Placed) (x y : Place) → at_number nodes a ≡ Some r → a ≢ n → own_of u x ≡ zone_in blocks r.inode y → own_of u x ≢ 0 → ⊥
-    pub part_is : IsPart u.blocks u.inode part
+    pub part_is : IsPart g u.blocks u.inode part
     pub names : (d : DirectoryPart) → part ≡ parts.Directory d → HasNames nodes d
 
   module _ (u : OpenInode) (part : Part) (Z : ℕ → Type 0) (may : MayMove u part Z) where
@@ -97,7 +98,7 @@ module _ (g : Geometry) (sound : IsSound g) (blocks : List (List ℕ)) (nodes : 
             fits = may.fit.fits;
             inode = back_here g u.blocks p u.inode may.fit.whole (omega arith) may.fit.fits (may.changes.inodes p.number told.some told.within (λ z. z) ∙ told.inode);
             zones = λ x some. subst (λ v. (g.first ≤ v) × (v < g.zones)) (sym (same_zone x)) (may.fit.within x (λ none. some (same_zone x ∙ none)));
-            part = part_kept u.blocks written u.inode same_disk part may.part_is;
+            part = part_kept u.blocks written u.inode same_disk g part may.part_is;
           };
           apart = λ x y same some. may.fit.apart x y (sym (same_zone x) ∙ (same ∙ same_zone y)) (λ none. some (same_zone x ∙ none));
           none_of_theirs = λ a r x y at apart same some. may.none_of_theirs a r x y at apart (sym (same_zone x) ∙ same) (λ none. some (same_zone x ∙ none));
@@ -129,7 +130,7 @@ module _ (g : Geometry) (sound : IsSound g) (blocks : List (List ℕ)) (nodes : 
     abbrev pub MapWrites : ℕ → Type 0
     MapWrites = Mine (own_of before) (CameFor (own_of before) t (way index))
 
-    pub may_map : (part : Part) → IsPart grown.blocks grown.inode part → ((d : DirectoryPart) → part ≡ parts.Directory d → HasNames nodes d) → MayMove grown part MapWrites
+    pub may_map : (part : Part) → IsPart g grown.blocks grown.inode part → ((d : DirectoryPart) → part ≡ parts.Directory d → HasNames nodes d) → MayMove grown part MapWrites
     may_map part is names =
         let o = map_outcome in
         record {
@@ -160,16 +161,17 @@ module _ (g : Geometry) (sound : IsSound g) (blocks : List (List ℕ)) (nodes : 
         by (had q m there e) = no_numbers q i ((h.zones n n p p q (block i) stands stands e there).1) m
 
     -- a directory's slots stay
-    pub map_directory : (d : DirectoryPart) → IsDirectoryPart blocks p.inode d → IsDirectoryPart grown.blocks grown.inode d
+    pub map_directory : (d : DirectoryPart) → IsDirectoryPart g blocks p.inode d → IsDirectoryPart g grown.blocks grown.inode d
     map_directory d is = (let o = map_outcome in record {
       kind = ap (λ (i : Inode). is_directory i.mode) o.fields ∙ is.kind;
+      width = is.width;
       size = ap (λ (i : Inode). i.size) o.fields ∙ is.size;
       slots = λ k s at.
           let old = is.slots k s at in
-          let zone : own_of grown (block (k / 64)) ≡ own_of before (block (k / 64)) = o.got.kept (block (k / 64)) old.mapped in
+          let zone : own_of grown (block (k / slots_a_block g.width)) ≡ own_of before (block (k / slots_a_block g.width)) = o.got.kept (block (k / slots_a_block g.width)) old.mapped in
           record {
             mapped = λ none. old.mapped (sym zone ∙ none);
-            stands = ap (λ z. slot_of (record_at 16 (k % 64) (disk_of grown.blocks z))) zone ∙ (ap (λ body. slot_of (record_at 16 (k % 64) body)) (data_kept (k / 64) old.mapped) ∙ old.stands);
+            stands = ap (λ z. slot_of g.width (record_at (slot_size g.width) (k % slots_a_block g.width) (disk_of grown.blocks z))) zone ∙ (ap (λ body. slot_of g.width (record_at (slot_size g.width) (k % slots_a_block g.width) body)) (data_kept (k / slots_a_block g.width) old.mapped) ∙ old.stands);
           };
     })
 
@@ -204,14 +206,14 @@ module _ (g : Geometry) (sound : IsSound g) (blocks : List (List ℕ)) (nodes : 
     -- A block of a directory is mapped.
     pub mapped_directory_stands : (d : DirectoryPart) → p.part ≡ parts.Directory d → IsVolumeOf g (inode_back g grown.blocks p grown.inode) (put_number nodes n (record { number = p.number; inode = grown.inode; part = parts.Directory d }))
     mapped_directory_stands d is =
-        moved_stands grown (parts.Directory d) MapWrites (may_map (parts.Directory d) (map_directory d (subst (IsPart blocks p.inode) is (h.each n p stands).part))
+        moved_stands grown (parts.Directory d) MapWrites (may_map (parts.Directory d) (map_directory d (subst (IsPart g blocks p.inode) is (h.each n p stands).part))
         (λ e same. h.names n p e stands (is ∙ same)))
 
     -- A block of a file is mapped.
     pub mapped_file_stands : (zones : List Mapped) → p.part ≡ parts.File zones → own_of before (block index) ≡ 0 →
         IsVolumeOf g (inode_back g grown.blocks p grown.inode) (put_number nodes n (record { number = p.number; inode = grown.inode; part = parts.File (with_mapped zones index t.data_zone) }))
     mapped_file_stands zones is hole =
-        moved_stands grown _ MapWrites (may_map (parts.File (with_mapped zones index t.data_zone)) (map_file zones hole (subst (IsPart blocks p.inode) is (h.each n p stands).part))
+        moved_stands grown _ MapWrites (may_map (parts.File (with_mapped zones index t.data_zone)) (map_file zones hole (subst (IsPart g blocks p.inode) is (h.each n p stands).part))
         (λ e same. absurd (cc same)))
 
   -- ---- blocks from an index on go
@@ -256,7 +258,7 @@ module _ (g : Geometry) (sound : IsSound g) (blocks : List (List ℕ)) (nodes : 
           changes = o.changes;
           not_theirs = λ a r x at apart some z. theirs_apart a r z.0 x at apart z.3 z.2;
           none_of_theirs = λ a r x y at apart same some. (let w = cut_kept x some in theirs_apart a r x y at apart (sym w.1 ∙ same) (λ none. some (w.1 ∙ none)));
-          part_is = cut_file zones (subst (IsPart blocks p.inode) is (h.each n p stands).part);
+          part_is = cut_file zones (subst (IsPart g blocks p.inode) is (h.each n p stands).part);
           names = λ d same. absurd (cc same);
         }
 

@@ -1,6 +1,7 @@
 -- The parts of a visit, and what it leaves to be met.
 use Rattle.std.specs.Prelude.{ℕ, ◌/◌, ◌<◌, ◌≤◌, List, [], ◌++◌, Result, Ok, Err}
 use Rattle.std.specs.List.{All}
+use Rattle.minix_layout.specs.Widths.{slot_size}
 use Rattle.minix_layout.specs.declared.division.Geometry.{Geometry}
 use Rattle.minix_layout.specs.declared.inode.Inode.{Inode}
 use Rattle.volume_ops.specs.Reads.{Reads, Ret, if_ok}
@@ -23,8 +24,8 @@ file_visit g w inode i =
 abbrev pub directory_visit : Geometry → WalkState → Pending → Inode → Reads (Result Visit Fault)
 directory_visit g w e i =
     if_ok (scan_zones g (table_block g e.inode) i.zones w.zones)
-    (λ z. if_ok (scan_slots g (i.size / 16) z.mapped (record { named = w.named; names = [] }))
-    (λ s. Ret (visit_directory w e i z s)))
+    (λ z. if_ok (scan_slots g (i.size / slot_size g.width) z.mapped (record { named = w.named; names = [] }))
+    (λ s. Ret (visit_directory g w e i z s)))
 
 -- an inode of the volume
 pub record IsPending (g : Geometry) (e : Pending) : Type 0 where

@@ -1,4 +1,4 @@
-use Rattle.std.proofs.Common.{rules, arith, vec_capacity, ◌+◌}
+use Rattle.std.proofs.Common.{rules, vec_capacity, ◌+◌}
 use Rattle.volume_model.specs.Holes.{with_holes}
 use Rattle.std.specs.List.{range_with_len}
 use Rattle.volume_model.specs.laws.Holes.{hole_turn}

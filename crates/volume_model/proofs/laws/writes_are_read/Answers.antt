@@ -2,4 +2,4 @@ use Rattle.volume_model.specs.laws.Edits.{untouched, inode_here, inode_elsewhere
 use Rattle.volume_model.proofs.laws.writes_are_read.Goals as goal
 
 pub returns : goal.returns
-returns c = record { untouched = untouched; inode = inode_here; other_inode = inode_elsewhere; slot = slot_here; other_slot = slot_elsewhere }
+returns c = record { untouched = untouched; inode = inode_here; other_inode = inode_elsewhere; slot = λ g blocks zone at s width. slot_here g width blocks zone at s; other_slot = λ g blocks zone at other place s width. slot_elsewhere g width blocks zone at other place s }

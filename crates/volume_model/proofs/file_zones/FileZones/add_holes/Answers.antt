@@ -1,4 +1,4 @@
-use Rattle.std.proofs.Common.{◌∙◌, ap, List, subst}
+use Rattle.std.proofs.Common.{◌∙◌, ap, List}
 use Rattle.std.specs.List.{range_with_len}
 use Rattle.volume_ops.specs.declared.found.Mapped.{Mapped}
 use Rattle.volume_model.specs.Holes.{with_holes}

@@ -1,5 +1,3 @@
-use Rattle.std.specs.List.Sorted.{IsStrictlySortedBy}
-use Rattle.volume_model.specs.Holes.{IsRising}
 use Rattle.volume_model.specs.laws.Holes.{rising_same, rising_none}
 use Rattle.volume_model.proofs.file_zones.FileZones.new.Goals as goal
 

@@ -14,7 +14,7 @@ pub returns-in_err-names-clause-fault : goal.returns-in_err-names-clause-fault
 returns-in_err-names-clause-fault c =
     rw (← c.self.view_is, ← c.e.view_is)
     (told_at_exit _ _ _ _ c.from_residual-in_err-names.ensures.1
-    (λ f h. directory_slots_fault (disk_of c.args.disk.now) c.args.g.now _ c.args.i.now _ _ c.table_block-pointer_block.ensures _ f c.in_ok-zones.ensures.ok (rw c.as_slice.ensures at h))
+    (λ f h. directory_slots_fault (disk_of c.args.disk.now) c.args.g.now _ c.args.i.now _ _ c.table_block-pointer_block.ensures _ f c.in_ok-zones.ensures.ok (rw (c.as_slice.ensures, c.slot_size.ensures) at h))
     c.in_err-names.ensures.fault)
 
 pub returns-clause-within : goal.returns-clause-within
@@ -23,4 +23,4 @@ returns-clause-within c = pending_pushed c.args.g.now _ _ _ _ c.in_ok-names.ensu
 pub returns-clause-ok : goal.returns-clause-ok
 returns-clause-ok c =
     rw (← c.self.view_is, ← c.e.view_is)
-    (directory_visited (disk_of c.args.disk.now) c.args.g.now _ c.args.i.now _ _ c.table_block-pointer_block.ensures _ _ _ _ _ _ c.in_ok-zones.ensures.ok (rw c.as_slice.ensures at c.in_ok-names.ensures.ok) c.birth_of.ensures c.in_ok-push_names.ensures c.in_ok-meet.ensures)
+    (directory_visited (disk_of c.args.disk.now) c.args.g.now _ c.args.i.now _ _ c.table_block-pointer_block.ensures _ _ _ _ _ _ c.in_ok-zones.ensures.ok (rw (c.as_slice.ensures, c.slot_size.ensures) at c.in_ok-names.ensures.ok) c.birth_of.ensures c.in_ok-push_names.ensures (rw c.slot_size.ensures at c.in_ok-meet.ensures))
