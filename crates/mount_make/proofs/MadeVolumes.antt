@@ -10,6 +10,8 @@ use Rattle.blk_base.specs.Block.{filled}
 use Rattle.byte_fields.specs.Fields.{zeros}
 use Rattle.byte_fields.specs.Fields.Order.{little}
 use Rattle.byte_fields.specs.laws.ReadLaws.{length-written, length-zeros}
+use Rattle.minix_layout.specs.laws.Places.{form_is, bytes_of_slots}
+use Rattle.minix_layout.specs.Widths.{slot_size, slots_a_block}
 use Rattle.minix_layout.specs.declared.division.Geometry.{Geometry}
 use Rattle.minix_layout.specs.declared.slot.Slot.{Slot}
 use Rattle.minix_layout.specs.declared.fault.LayoutFault.{LayoutFault}
@@ -18,7 +20,6 @@ use Rattle.minix_layout.specs.Super.{super_fields, super_block as volume_super}
 use Rattle.journal_replay.specs.laws.Attempts.{body_at-some}
 use Rattle.tree_model.specs.declared.node.Node.{Node}
 use Rattle.tree_model.specs.declared.node.Node.TheVariants as nodes
-use Rattle.tree_model.specs.declared.node.Directory.{Directory}
 use Rattle.tree_model.specs.Maps.{at_number}
 use Rattle.tree_model.specs.Paths.{is_dot}
 use Rattle.tree_model.specs.Rooted.{HasEntry, IsRooted}
@@ -69,7 +70,7 @@ placed g = (0, root_placed g) ∷ []
 abbrev pub made_contents : Geometry → Contents
 made_contents g = record { blocks = made_volume g; nodes = placed g }
 
-tree_of_root : (blocks : List (List ℕ)) (g : Geometry) → tree_now blocks (placed g) ≡ root_alone
+tree_of_root : (blocks : List (List ℕ)) (g : Geometry) → tree_now blocks (placed g) ≡ (root_alone g.width)
 unfolding tree_now
 tree_of_root blocks g = refl
 
@@ -168,48 +169,49 @@ module _ (g : Geometry) (sound : IsSound g) (new : IsPlainContents g (new_volume
 
   -- ---- its tree
 
-  slot_at : (k : ℕ) (s : Option Slot) → slice_get (Some dot_slot ∷ Some dots_slot ∷ []) k ≡ Some s → slot_behind (made_volume g) (root_inode g) k ≡ Ok s
+  slot_at : (k : ℕ) (s : Option Slot) → slice_get (Some dot_slot ∷ Some dots_slot ∷ []) k ≡ Some s → slot_behind g (made_volume g) (root_inode g) k ≡ Ok s
   slot_at k s at =
-      let part : IsDirectoryPart (made_volume g) (root_inode g) (record { parent = 0; names = []; slots = Some dot_slot ∷ Some dots_slot ∷ [] }) = stored.part in
+      let part : IsDirectoryPart g (made_volume g) (root_inode g) (record { parent = 0; width = g.width; names = []; slots = Some dot_slot ∷ Some dots_slot ∷ [] }) = stored.part in
       let slot = part.slots k s at in
-      rw (ne_eqb (zone_behind (made_volume g) (root_inode g) (k / 64)) 0 slot.mapped) slot.stands
+      rw (ne_eqb (zone_behind (made_volume g) (root_inode g) (k / slots_a_block g.width)) 0 slot.mapped) slot.stands
 
   same_slot : (s t : Slot) → ◌≡◌ {A = Result (Option Slot) LayoutFault} (Ok (Some s)) (Ok (Some t)) → s ≡ t
   same_slot s t e = cc
 
-  slot_names : (k : ℕ) (s : Slot) → k < 2 → slot_behind (made_volume g) (root_inode g) k ≡ Ok (Some s) → is_dot s.name ≡ true
+  slot_names : (k : ℕ) (s : Slot) → k < 2 → slot_behind g (made_volume g) (root_inode g) k ≡ Ok (Some s) → is_dot s.name ≡ true
   slot_names zero s low is = ap (λ (s : Slot). is_dot s.name) (sym (same_slot dot_slot s (sym (slot_at 0 (Some dot_slot) refl) ∙ is)))
   slot_names (suc zero) s low is = ap (λ (s : Slot). is_dot s.name) (sym (same_slot dots_slot s (sym (slot_at 1 (Some dots_slot) refl) ∙ is)))
   slot_names (suc (suc k)) s low is = absurd (omega (arith, low))
 
-  root_is : IsDirectoryOf (made_volume g) (root_inode g) root_directory
+  root_is : IsDirectoryOf g (made_volume g) (root_inode g) (root_directory g.width)
   root_is = record {
     kind = refl;
-    slots = refl;
+    width = refl;
+    slots = sym (bytes_of_slots (slot_size g.width) (slots_a_block g.width) (form_is g.width) 2);
     names = λ name birth. (
       λ e. absurd (none-some birth e),
-      λ h. absurd (true≢false (sym (slot_names h.place h.slot (let low = h.below in omega (arith, low)) h.stands) ∙ (ap is_dot h.name_is ∙ h.no_dot))),
+      λ h. absurd (true≢false (sym (slot_names h.place h.slot (let low = h.below in let two = bytes_of_slots (slot_size g.width) (slots_a_block g.width) (form_is g.width) 2 in omega (arith, low, two)) h.stands) ∙ (ap is_dot h.name_is ∙ h.no_dot))),
     );
   }
 
-  node_is : (b : ℕ) (n : Node) → at_number root_alone b ≡ Some n → IsNodeOf (made_volume g) (inode_at g (made_volume g) 1) n
+  node_is : (b : ℕ) (n : Node) → at_number (root_alone g.width) b ≡ Some n → IsNodeOf g (made_volume g) (inode_at g (made_volume g) 1) n
   node_is b n at =
-      subst (λ (n : Node). IsNodeOf (made_volume g) (inode_at g (made_volume g) 1) n) (only_node b n at).1
-      (subst (λ i. IsDirectoryOf (made_volume g) i root_directory) (sym stored.inode) root_is)
+      subst (λ (n : Node). IsNodeOf g (made_volume g) (inode_at g (made_volume g) 1) n) (only_node g.width b n at).1
+      (subst (λ i. IsDirectoryOf g (made_volume g) i (root_directory g.width)) (sym stored.inode) root_is)
 
-  fields : IsTreeOf g (made_volume g) root_alone
+  fields : IsTreeOf g (made_volume g) (root_alone g.width)
   fields = record {
-    each = λ b n at. subst (λ (k : ℕ). IsNodeOf (made_volume g) (inode_at g (made_volume g) (inode_of_birth k)) n) (sym (only_node b n at).0) (node_is b n at);
-    root = (root_directory, refl, refl);
-    leads = λ parent name b gives. absurd (no_name parent name b gives);
-    has_name = λ b n at some. absurd (some (only_node b n at).0);
-    one_name = λ parent other name more b d gives given at. absurd (no_name parent name b gives);
+    each = λ b n at. subst (λ (k : ℕ). IsNodeOf g (made_volume g) (inode_at g (made_volume g) (inode_of_birth k)) n) (sym (only_node g.width b n at).0) (node_is b n at);
+    root = ((root_directory g.width), refl, refl);
+    leads = λ parent name b gives. absurd (no_name g.width parent name b gives);
+    has_name = λ b n at some. absurd (some (only_node g.width b n at).0);
+    one_name = λ parent other name more b d gives given at. absurd (no_name g.width parent name b gives);
   }
 
-  pub made_tree : IsFaultless g (made_volume g) → IsVolumeTree g (made_volume g) root_alone
+  pub made_tree : IsFaultless g (made_volume g) → IsVolumeTree g (made_volume g) (root_alone g.width)
   made_tree faultless = record {
     faultless = faultless;
     fields = fields;
     rooted = subst IsRooted (tree_of_root (made_volume g) g) made_plain.rooted;
-    blocks_in_order = λ b f at. absurd (let e : nodes.Directory root_directory ≡ nodes.File f = (only_node b (nodes.File f) at).1 in cc);
+    blocks_in_order = λ b f at. absurd (let e : nodes.Directory (root_directory g.width) ≡ nodes.File f = (only_node g.width b (nodes.File f) at).1 in cc);
   }

@@ -8,6 +8,7 @@ use Rattle.byte_fields.specs.Fields.{put_record}
 use Rattle.minix_layout.specs.declared.division.Geometry.{Geometry}
 use Rattle.minix_layout.specs.Geometry.{IsSound}
 use Rattle.minix_layout.specs.Inodes.{inode_bytes}
+use Rattle.minix_layout.specs.Widths.{slot_size}
 use Rattle.minix_layout.specs.Slots.{slot_bytes}
 use Rattle.minix_layout.specs.Super.{super_block as volume_super}
 use Rattle.volume_ops.specs.Volume.{disk_of}
@@ -47,7 +48,7 @@ module _ (g : Geometry) (sound : IsSound g) where
       ∙ (edited_here g blank (put_inode 1 (root_inode g)) (omega (arith, low, high, size))
       ∙ ap (put_record 32 0 (inode_bytes (root_inode g))) (blank_at g.zones (table_block g 1))))
 
-  pub new_first : disk_of (new_blocks g) g.first ≡ root_zone
+  pub new_first : disk_of (new_blocks g) g.first ≡ root_zone g
   unfolding root_zone
   new_first =
       let high = sound.some_zone in
@@ -55,9 +56,9 @@ module _ (g : Geometry) (sound : IsSound g) where
       let more = length-edited g blank (put_inode 1 (root_inode g)) in
       let all = length-edited g with_inode (put_slot g.first 0 (Some dot_slot)) in
       edited_here g with_dot (put_slot g.first 1 (Some dots_slot)) (omega (arith, high, size, more, all))
-      ∙ ap (put_record 16 1 (slot_bytes (Some dots_slot)))
+      ∙ ap (put_record (slot_size g.width) 1 (slot_bytes g.width (Some dots_slot)))
       (edited_here g with_inode (put_slot g.first 0 (Some dot_slot)) (omega (arith, high, size, more))
-      ∙ ap (put_record 16 0 (slot_bytes (Some dot_slot)))
+      ∙ ap (put_record (slot_size g.width) 0 (slot_bytes g.width (Some dot_slot)))
       (edited_elsewhere g blank (put_inode 1 (root_inode g)) g.first (λ e. table_differs (sym e)) ∙ blank_at g.zones g.first))
 
   pub new_other : (b : ℕ) → b ≢ table_block g 1 → b ≢ g.first → disk_of (new_blocks g) b ≡ filled 0
@@ -98,7 +99,7 @@ module _ (g : Geometry) (sound : IsSound g) where
       let here : b ≡ table_block g 1 = omega (arith, e) in
       made_behind b (omega (arith, e)) ∙ (ap (λ (n : ℕ). disk_of (new_blocks g) n) here ∙ new_table)
 
-  pub made_first : (b : ℕ) → b ≡ g.first → made_block g b ≡ root_zone
+  pub made_first : (b : ℕ) → b ≡ g.first → made_block g b ≡ root_zone g
   made_first b e =
       let low = sound.tables_below in
       made_behind b (omega (arith, e, low)) ∙ (ap (λ (n : ℕ). disk_of (new_blocks g) n) e ∙ new_first)

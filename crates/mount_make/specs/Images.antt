@@ -29,7 +29,6 @@ FaultPlace = ImageFault × ℕ
 
 abbrev pub image_fault : LayoutFault → ImageFault
 image_fault layout.BadMagic = image.BadMagic
-image_fault layout.NameWidth = image.NameWidth
 image_fault layout.BadGeometry = image.BadGeometry
 image_fault layout.BadZone = image.BadZone
 image_fault layout.BadInode = image.BadInode

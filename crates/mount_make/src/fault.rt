@@ -14,9 +14,6 @@ pub enum ImageFault {
     /// The superblock is of no Minix V1 file system.
     #[error("bad magic")]
     BadMagic,
-    /// The names have 30 bytes, and not 14.
-    #[error("name width")]
-    NameWidth,
     /// The numbers of the superblock do not agree, or blocks of the volume are missing.
     #[error("bad geometry")]
     BadGeometry,
@@ -59,7 +56,6 @@ pub(crate) fn image_fault(fault: LayoutFault) -> ImageFault
 {
     match fault {
         LayoutFault::BadMagic => ImageFault::BadMagic,
-        LayoutFault::NameWidth => ImageFault::NameWidth,
         LayoutFault::BadGeometry => ImageFault::BadGeometry,
         LayoutFault::BadZone => ImageFault::BadZone,
         LayoutFault::BadInode => ImageFault::BadInode,

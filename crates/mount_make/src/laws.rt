@@ -58,13 +58,13 @@ pub fn image_faults_are_first_defects()
 /// A law, which only calls laws: an image that was made has no fault, its tree is the root alone, its journal is empty,
 /// stays so by recovery and has wide tags just where they were asked for, and its volume is plain, with the blocks of a new volume behind the superblock and the maps.
 pub fn made_images_are_plain()
-    ensures tree { (g : Geometry) (journal : ℕ) (wide : Bool) → IsSound g → LEAST_JOURNAL ≤ journal → journal ≤ MOST_JOURNAL → image_tree (made_image g journal wide) ≡ Ok root_alone }
+    ensures tree { (g : Geometry) (journal : ℕ) (wide : Bool) → IsSound g → LEAST_JOURNAL ≤ journal → journal ≤ MOST_JOURNAL → image_tree (made_image g journal wide) ≡ Ok (root_alone g.width) }
     ensures journal { (g : Geometry) (journal : ℕ) (wide : Bool) → IsSound g → LEAST_JOURNAL ≤ journal → journal ≤ MOST_JOURNAL →
         (journal_at g.zones (made_image g journal wide) ≡ Some (new_journal journal wide)) × (recovered_image (made_image g journal wide) ≡ made_image g journal wide) }
     ensures features { (g : Geometry) (journal : ℕ) (wide : Bool) → IsSound g → LEAST_JOURNAL ≤ journal → journal ≤ MOST_JOURNAL →
         (number_at big 4 0x28 (disk_of (made_image g journal wide) g.zones) ≡ (if wide then 3 else 1)) × (is_wide (new_journal journal wide) ≡ wide) }
     ensures plain { (g : Geometry) (journal : ℕ) (wide : Bool) → IsSound g → LEAST_JOURNAL ≤ journal → journal ≤ MOST_JOURNAL →
-        (divided (made_image g journal wide) ≡ Ok g) × IsPlainVolume g (volume_in g (made_image g journal wide)) root_alone }
+        (divided (made_image g journal wide) ≡ Ok g) × IsPlainVolume g (volume_in g (made_image g journal wide)) (root_alone g.width) }
     ensures new { (g : Geometry) (journal : ℕ) (wide : Bool) (b : ℕ) → IsSound g → LEAST_JOURNAL ≤ journal → journal ≤ MOST_JOURNAL → 2 + g.imap + g.zmap ≤ b →
         disk_of (volume_in g (made_image g journal wide)) b ≡ disk_of (new_blocks g) b }
 {

@@ -1,5 +1,6 @@
 //! Making: an image with a new volume and an empty journal.
 ghost use Rattle.std.specs.Prelude.{◌≡◌, ◌≢◌, ◌+◌, ◌<◌, ◌≤◌, ◌⊎◌, ◌↔◌, length, Err, IfOk, IfSome};
+ghost use Rattle.minix_layout.specs.Widths.{IsWidth};
 ghost use Rattle.minix_layout.specs.Geometry.{IsSound, geometry_made};
 ghost use Rattle.minix_layout.specs.Words.{first_zone};
 ghost use Rattle.mount_make.specs.Made.{new_journal, made_block, made_image};
@@ -30,14 +31,16 @@ pub fn make_volume(
     inodes: u16,
     zones: u16,
     journal: u32,
+    width: u16,
     wide: bool,
 ) -> Result<Image, MakeFault>
-    requires { inodes ≢ 0 }
-    ensures image { IfOk result (λ i. i ≡ made_image (geometry_made inodes zones) journal wide) }
+    requires some { inodes ≢ 0 }
+    requires width { IsWidth width }
+    ensures image { IfOk result (λ i. i ≡ made_image (geometry_made inodes zones width) journal wide) }
     ensures too_small { (result ≡ Err MakeFault.TooSmall) ↔ (zones ≤ first_zone inodes zones) }
     ensures journal_size { (result ≡ Err MakeFault.JournalSize) ↔ ((first_zone inodes zones < zones) × ((journal < LEAST_JOURNAL) ⊎ (MOST_JOURNAL < journal))) }
 {
-    let Ok(g) = Geometry::make(inodes, zones) else {
+    let Ok(g) = Geometry::make(inodes, zones, width) else {
         return Err(MakeFault::TooSmall);
     };
     if journal < LEAST_JOURNAL || journal > MOST_JOURNAL {

@@ -2,6 +2,7 @@
 ghost use Rattle.std.specs.Prelude.{◌≡◌, ◌+◌, ◌<◌, ◌≤◌, IsTrue};
 ghost use Rattle.minix_layout.specs.Geometry.{IsSound};
 ghost use Rattle.minix_layout.specs.Words.{is_name};
+ghost use Rattle.minix_layout.specs.Widths.{IsWidth};
 ghost use Rattle.mount_make.specs.Made.{map_byte, map_block, made_block};
 ghost use Rattle.mount_make.specs.code.Making.{root_table, root_zone};
 
@@ -31,7 +32,7 @@ pub(crate) fn volume_block(g: &Geometry, block: u32) -> Block
         return root_table(g);
     }
     if block == u32::from(g.first) {
-        return root_zone();
+        return root_zone(g);
     }
     Block::fill(0)
 }
@@ -67,18 +68,19 @@ fn root_table(g: &Geometry) -> Block
     ensures { result ≡ root_table g.now }
 {
     let mut table = Block::fill(0);
-    write_inode(&mut table, 0, &Inode::new_directory(g.first));
+    write_inode(&mut table, 0, &Inode::new_directory(g.width, g.first));
     table
 }
 
 // The root's zone, with . and .. alone.
 #[tactic(auto, unfolding(crate::specs::code::Making::root_zone))]
-fn root_zone() -> Block
-    ensures { result ≡ root_zone }
+fn root_zone(g: &Geometry) -> Block
+    requires { IsWidth g.now.width }
+    ensures { result ≡ root_zone g.now }
 {
     let mut zone = Block::fill(0);
-    write_slot(&mut zone, 0, Some(&root_slot(b".")));
-    write_slot(&mut zone, 1, Some(&root_slot(b"..")));
+    write_slot(&mut zone, 0, Some(&root_slot(b".")), g.width);
+    write_slot(&mut zone, 1, Some(&root_slot(b"..")), g.width);
     zone
 }
 

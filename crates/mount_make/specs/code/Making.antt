@@ -4,6 +4,7 @@ use Rattle.blk_base.specs.Block.{filled}
 use Rattle.byte_fields.specs.Fields.{put_record}
 use Rattle.minix_layout.specs.declared.division.Geometry.{Geometry}
 use Rattle.minix_layout.specs.Inodes.{inode_bytes}
+use Rattle.minix_layout.specs.Widths.{slot_size}
 use Rattle.minix_layout.specs.Slots.{slot_bytes}
 use Rattle.volume_model.specs.NewVolume.{dot_slot, dots_slot, root_inode}
 
@@ -17,5 +18,5 @@ pub record IsFilled (body : ℕ → List ℕ) (n : ℕ) (old new : List (List �
 unfoldable pub root_table : Geometry → List ℕ
 root_table g = put_record 32 0 (inode_bytes (root_inode g)) (filled 0)
 
-unfoldable pub root_zone : List ℕ
-root_zone = put_record 16 1 (slot_bytes (Some dots_slot)) (put_record 16 0 (slot_bytes (Some dot_slot)) (filled 0))
+unfoldable pub root_zone : Geometry → List ℕ
+root_zone g = put_record (slot_size g.width) 1 (slot_bytes g.width (Some dots_slot)) (put_record (slot_size g.width) 0 (slot_bytes g.width (Some dot_slot)) (filled 0))

@@ -6,9 +6,9 @@ use Rattle.std.proofs.lemmas.List.{get_or-take, get_or_past, length-take}
 use Rattle.blk_base.specs.Block.{filled}
 use Rattle.minix_layout.specs.declared.division.Geometry.{Geometry}
 use Rattle.minix_layout.specs.declared.fault.LayoutFault.{LayoutFault}
-use Rattle.minix_layout.specs.declared.fault.LayoutFault.TheVariants.{BadMagic, NameWidth, BadGeometry}
+use Rattle.minix_layout.specs.declared.fault.LayoutFault.TheVariants.{BadMagic, BadGeometry}
 use Rattle.minix_layout.specs.Geometry.{is_consistent}
-use Rattle.minix_layout.specs.Super.{super_of, magic_of, is_divided, geometry_of}
+use Rattle.minix_layout.specs.Super.{is_magic, super_of, magic_of, is_divided, geometry_of}
 use Rattle.byte_fields.specs.Fields.{number_at}
 use Rattle.byte_fields.specs.Fields.Order.{little}
 use Rattle.tree_model.specs.declared.node.Node.{Node}
@@ -64,19 +64,18 @@ divided_super blocks g e = by (nat_lt (length blocks) 2) refl e
     by true is e = absurd (err-ok _ g e)
     by false is e = (is, e)
 
-some_inode_by : (b : List ℕ) (g : Geometry) (wide magic fine : Bool) → is_divided b ≡ fine →
-    ◌≡◌ {A = Result Geometry LayoutFault} (if wide then Err NameWidth else if not magic then Err BadMagic else if not fine then Err BadGeometry else Ok (geometry_of b)) (Ok g) → 0 < g.inodes
-some_inode_by b g true magic fine is e = absurd (err-ok _ g e)
-some_inode_by b g false false fine is e = absurd (err-ok _ g e)
-some_inode_by b g false true false is e = absurd (err-ok _ g e)
-some_inode_by b g false true true is e =
+some_inode_by : (b : List ℕ) (g : Geometry) (magic fine : Bool) → is_divided b ≡ fine →
+    ◌≡◌ {A = Result Geometry LayoutFault} (if not magic then Err BadMagic else if not fine then Err BadGeometry else Ok (geometry_of b)) (Ok g) → 0 < g.inodes
+some_inode_by b g false fine is e = absurd (err-ok _ g e)
+some_inode_by b g true false is e = absurd (err-ok _ g e)
+some_inode_by b g true true is e =
     let good = (and_parts (number_at little 2 10 b == 0) (is_consistent (geometry_of b)) is).1 in
     let some = (and_parts (nat_lt 0 (geometry_of b).inodes) _ good).0 in
     subst (λ (g : Geometry). 0 < g.inodes) (same_Ok (geometry_of b) g e) (ltb-true 0 (geometry_of b).inodes some)
 
 some_inode_of : (b : List ℕ) (g : Geometry) → super_of b ≡ Ok g → 0 < g.inodes
 unfolding super_of
-some_inode_of b g e = some_inode_by b g (magic_of b == 0x138F) (magic_of b == 0x137F) (is_divided b) refl e
+some_inode_of b g e = some_inode_by b g (is_magic (magic_of b)) (is_divided b) refl e
 
 pub some_inode : (blocks : List (List ℕ)) (g : Geometry) → divided blocks ≡ Ok g → 0 < g.inodes
 some_inode blocks g e = some_inode_of (disk_of blocks 1) g (super_by blocks g (super_of (disk_of blocks 1)) (divided_super blocks g e).1)

@@ -20,18 +20,18 @@ returns c =
     let tree = λ (g : Geometry) (sound : IsSound g). made_tree g sound (new g sound) (back.no_fault g (made_contents g) (plain g sound)) in
     record {
       tree = λ g journal wide sound low high.
-          (image_has_tree (made_image g journal wide) root_alone).1 (record {
+          (image_has_tree (made_image g journal wide) (root_alone g.width)).1 (record {
             geometry = g;
             is_divided = image_divided g journal wide sound (omega (arith, low)) (omega (arith, high));
             journal = image_fine g journal wide sound (omega (arith, low)) (omega (arith, high));
-            tree_is = subst (λ (v : List (List ℕ)). IsVolumeTree g v root_alone) (sym (image_volume g journal wide sound (omega (arith, low)) (omega (arith, high)))) (tree g sound);
+            tree_is = subst (λ (v : List (List ℕ)). IsVolumeTree g v (root_alone g.width)) (sym (image_volume g journal wide sound (omega (arith, low)) (omega (arith, high)))) (tree g sound);
           });
       journal = λ g journal wide sound low high. (image_journal g journal wide sound (omega (arith, low)) (omega (arith, high)), image_stays g journal wide sound (omega (arith, low)) (omega (arith, high)));
       features = λ g journal wide sound low high. (image_features g journal wide sound (omega (arith, low)) (omega (arith, high)), made_kind journal wide);
       plain = λ g journal wide sound low high. (
         image_divided g journal wide sound (omega (arith, low)) (omega (arith, high)),
-        subst (λ (v : List (List ℕ)). IsPlainVolume g v root_alone) (sym (image_volume g journal wide sound (omega (arith, low)) (omega (arith, high))))
-            (back.plain g (made_contents g) root_alone (plain g sound) (tree_walked g (made_volume g) root_alone sound.some_inode (tree g sound))),
+        subst (λ (v : List (List ℕ)). IsPlainVolume g v (root_alone g.width)) (sym (image_volume g journal wide sound (omega (arith, low)) (omega (arith, high))))
+            (back.plain g (made_contents g) (root_alone g.width) (plain g sound) (tree_walked g (made_volume g) (root_alone g.width) sound.some_inode (tree g sound))),
       );
       new = λ g journal wide b sound low high behind. ap (λ (v : List (List ℕ)). disk_of v b) (image_volume g journal wide sound (omega (arith, low)) (omega (arith, high))) ∙ same g sound (new g sound) b behind;
     }
