@@ -175,8 +175,8 @@ module _ (v w : VolumeNow) (h : IsInUse v) (k : IsInUse w) (b : ℕ) where
       ap (λ part. same_file (Some (node_from v.contents.blocks p.inode part)) (Some (node_now w.contents.blocks q))) is
       ∙ ap (λ part. same_file (Some (node_from v.contents.blocks p.inode (parts.Directory d))) (Some (node_from w.contents.blocks q.inode part))) too
   by_part p q (parts.File zones) at to is too size =
-      let one = subst (IsPart v.contents.blocks p.inode) is (h.volume.0.each b p at).part in
-      let two = subst (IsPart w.contents.blocks q.inode) too (k.volume.0.each b q to).part in
+      let one = subst (IsPart v.geometry v.contents.blocks p.inode) is (h.volume.0.each b p at).part in
+      let two = subst (IsPart w.geometry w.contents.blocks q.inode) too (k.volume.0.each b q to).part in
       ap (λ node. same_file (Some node) (Some (node_now w.contents.blocks q))) (node_is_file v.contents.blocks p zones is one.rising)
       ∙ (ap (λ node. same_file (Some (nodes.File (file_now v.contents.blocks p zones))) (Some node)) (node_is_file w.contents.blocks q zones too two.rising)
       ∙ same_shape (file_now v.contents.blocks p zones) (file_now w.contents.blocks q zones) size (keys_bodies w.contents.blocks zones ∙ sym (keys_bodies v.contents.blocks zones)))

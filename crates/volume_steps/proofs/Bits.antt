@@ -105,7 +105,7 @@ module _ (g : Geometry) (c : Contents) (h : IsVolume g c) (after : List (List �
   -- a page's zone is a zone of data, so it keeps its bytes
   pub kept_node : (b : ℕ) (r : Placed) → at_number c.nodes b ≡ Some r → node_now after r ≡ node_now c.blocks r
   kept_node b r at = node_kept c.blocks after r (λ zones m is i.
-      let part = subst (IsPart c.blocks r.inode) is (h.0.each b r at).part in
+      let part = subst (IsPart g c.blocks r.inode) is (h.0.each b r at).part in
       let told = part.listed m i in
       subst (λ z. disk_of after z ≡ disk_of c.blocks z) told.0 (zone_bytes b r at (block m.index) (λ none. told.1 (sym told.0 ∙ none))))
 

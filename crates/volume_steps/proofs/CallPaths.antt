@@ -1,7 +1,7 @@
 -- Where a call's row and its steps go by a path, and which names come.
-use Rattle.std.specs.Prelude.{◌≡◌, ◌<◌, ◌^◌, ◌-◌, ℕ, ◌==◌, nat_le, nat_lt, Bool, true, false, not, ◌&&◌, List, [], ◌∷◌, length, Some, Ok, Err, refl}
+use Rattle.std.specs.Prelude.{◌≡◌, ◌<◌, ◌≤◌, ◌^◌, ◌-◌, ℕ, ◌==◌, nat_le, nat_lt, Bool, true, false, not, ◌&&◌, List, [], ◌∷◌, length, Some, Ok, Err, refl}
 use Rattle.std.specs.List.{list_all}
-use Rattle.std.proofs.Common.{sym, ap, ◌∙◌, arith}
+use Rattle.std.proofs.Common.{subst, sym, ap, ◌∙◌, arith}
 use Rattle.std.proofs.lemmas.Bool.{and_parts, false≢true}
 use Rattle.minix_layout.specs.Slots.{IsEntry}
 use Rattle.tree_model.specs.declared.call.Call.{Call}
@@ -16,6 +16,9 @@ use Rattle.tree_model.specs.Calls.{Tree, Done, Place, Found, names_in, parent_of
 use Rattle.tree_model.proofs.Hanging.{IsGoodName}
 use Rattle.tree_model.proofs.NameTexts.{name_fits, no_byte, not_true}
 use Rattle.tree_model.proofs.Rows.{ok_ok, err_ok, then_ok, refuse_ok}
+use Rattle.minix_layout.specs.Widths.{IsWidth, of_14, of_30}
+use Rattle.volume_model.specs.Volume.{IsPart, IsDirectoryPart}
+use Rattle.volume_steps.specs.Plain.{IsInUse}
 use Rattle.volume_model.specs.declared.placed.Placed.{Placed}
 use Rattle.volume_model.specs.declared.placed.Part.{Part}
 use Rattle.volume_model.specs.declared.placed.Part.TheVariants as parts
@@ -35,12 +38,17 @@ plain_parts name good =
 pub good_no_dot : (name : List ℕ) → IsGoodName name → is_dot name ≡ false
 good_no_dot name good = not_true (is_dot name) (plain_parts name good).1
 
--- and stands in a slot
-pub good_entry : (name : List ℕ) (number : ℕ) → IsGoodName name → 0 < number → number < 2 ^ 16 → IsEntry (record { inode = number; name = name })
-good_entry name number good some fits = record {
+narrow_name : (width long : ℕ) → IsWidth width → long ≤ width → long ≤ 30
+narrow_name width long of_14 short = omega arith
+narrow_name width long of_30 short = omega arith
+
+-- and stands in a slot of a directory for which it is not too long
+pub good_entry : (width : ℕ) (name : List ℕ) (number : ℕ) → IsWidth width → IsGoodName name → length name ≤ width → 0 < number → number < 2 ^ 16 → IsEntry width (record { inode = number; name = name })
+good_entry width name number is good short some fits = record {
   used = some;
   fits = fits;
-  name = name_fits name good.short good.plain;
+  name = name_fits name (narrow_name width (length name) is short) good.plain;
+  short = short;
   no_slash = no_byte 47 refl name (plain_parts name good).0;
 }
 
@@ -98,3 +106,16 @@ directory_at v birth directory found =
     by : (p : Placed) (part : Part) → p.part ≡ part → at_number v.contents.nodes birth ≡ Some p → node_now v.contents.blocks p ≡ nodes.Directory directory → DirectoryAt v birth directory
     by p (parts.Directory d) is at e = record { placed = p; part = d; stands = at; is = is; same = (let f = sym (ap (node_from v.contents.blocks p.inode) is) ∙ e in cc) }
     by p (parts.File zones) is at e = absurd (cc (sym (ap (node_from v.contents.blocks p.inode) is) ∙ e))
+
+-- its names have the width of the volume
+pub at_width : (v : VolumeNow) (birth : ℕ) (directory : Directory) → IsInUse v → DirectoryAt v birth directory → directory.width ≡ v.geometry.width
+at_width v birth directory in_use x =
+    let part : IsDirectoryPart v.geometry v.contents.blocks x.placed.inode x.part = subst (IsPart v.geometry v.contents.blocks x.placed.inode) x.is (in_use.volume.0.each birth x.placed x.stands).part in
+    ap (λ (d : Directory). d.width) (sym x.same) ∙ part.width
+
+-- and a name that is not too long for it stands in a slot of it
+pub entry_at : (v : VolumeNow) (birth : ℕ) (directory : Directory) → IsInUse v → DirectoryAt v birth directory → (name : List ℕ) (number : ℕ) → IsGoodName name → length name ≤ directory.width → 0 < number → number < 2 ^ 16 →
+    IsEntry v.geometry.width (record { inode = number; name = name })
+entry_at v birth directory in_use x name number good short some fits =
+    let same = at_width v birth directory in_use x in
+    good_entry v.geometry.width name number in_use.sound.width good (omega arith) some fits

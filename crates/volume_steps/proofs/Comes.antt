@@ -173,8 +173,8 @@ module _ (g : Geometry) (v : Contents) (after : List (List ℕ)) (n : ℕ) (q : 
     ];
   }
 
-  pub come_slotted : AreSlotted (λ a. ⊥) v → ((d : DirectoryPart) → q.part ≡ parts.Directory d → HasSlotZones after q.inode (length d.slots)) → AreSlotted (λ a. ⊥) come
+  pub come_slotted : AreSlotted g (λ a. ⊥) v → ((d : DirectoryPart) → q.part ≡ parts.Directory d → HasSlotZones g after q.inode (length d.slots)) → AreSlotted g (λ a. ⊥) come
   come_slotted was mine_too a r d at is none = elim (which a r at) [
-    | new e same ↦ subst (λ (r : Placed). HasSlotZones after r.inode (length d.slots)) same (mine_too d (ap (λ (r : Placed). r.part) same ∙ is))
-    | old u found ↦ zones_settled v.blocks after r.inode r.inode (length d.slots) (theirs a r found) (was a r d found is none)
+    | new e same ↦ subst (λ (r : Placed). HasSlotZones g after r.inode (length d.slots)) same (mine_too d (ap (λ (r : Placed). r.part) same ∙ is))
+    | old u found ↦ zones_settled g v.blocks after r.inode r.inode (length d.slots) (theirs a r found) (was a r d found is none)
   ]

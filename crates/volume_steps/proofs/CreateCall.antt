@@ -29,7 +29,7 @@ use Rattle.volume_steps.proofs.NewNumbers.{number_is_new}
 use Rattle.volume_steps.proofs.NewFiles.{file_made_steady, file_made_tree, file_made_settled, file_made_slotted, no_zones}
 use Rattle.volume_steps.proofs.AddNames.{name_comes, name_frees, name_numbers}
 use Rattle.volume_steps.proofs.StepsTo.{StepsTo, joined, steps_then, links_at}
-use Rattle.volume_steps.proofs.CallPaths.{good_no_dot, good_entry, done_row, at_place_is, DirectoryAt, directory_at}
+use Rattle.volume_steps.proofs.CallPaths.{good_no_dot, entry_at, done_row, at_place_is, DirectoryAt, directory_at}
 use Rattle.volume_steps.proofs.DirectoryLinks.{AreLinked, linked_before, made_linked}
 use Rattle.volume_steps.proofs.PlainNow.{tree_is_plain, settled_before, slotted_before}
 use Rattle.volume_steps.proofs.CallEnds.{IsDone, none_freed, birth_is_new, birth_not_root, done_plain, call_ends}
@@ -46,6 +46,7 @@ none_of (Some x) e = absurd (true≢false e)
 pub record NewPlace (v : VolumeNow) (path : List ℕ) (place : Place) : Type 0 where
   pub at : DirectoryAt v place.parent place.directory
   pub good : IsGoodName place.name
+  pub short : length place.name ≤ place.directory.width
   pub free : at_name at.part.names place.name ≡ None
   pub left : is_full (directory_from at.part) ≡ false
 
@@ -57,6 +58,7 @@ new_place v path names place named parent free left =
     record {
       at = x;
       good = good_name (tree_of_now v) path names place (some_ok (path_of path) replies.BadPath names named) p;
+      short = p.short;
       free = none_of (at_name x.part.names place.name) (ap (λ (d : Directory). is_some (at_name d.names place.name)) x.same ∙ free);
       left = ap is_full x.same ∙ left;
     }
@@ -144,13 +146,13 @@ module _ (tx : ℕ) (v : VolumeNow) (h : IsPlainNow v) (n : ℕ) (before : AreBo
       ap (λ tree. put_number tree place.parent (nodes.Directory (with_name (directory_from x.at.part) place.name n))) first.tree_is
       ∙ (ap (λ directory. put_number (put_number (tree_of_now v) n new_file) place.parent (nodes.Directory (with_name directory place.name n))) x.at.same ∙ sym said.tree_is)
 
-  pub more : directory_zones (slots_with (directory_from x.at.part) place.name) ≤ directory_zones (length x.at.part.slots) + frees v.zones
+  pub more : directory_zones x.at.part.width (slots_with (directory_from x.at.part) place.name) ≤ directory_zones x.at.part.width (length x.at.part.slots) + frees v.zones
   more =
       let order = tree_in_order v.contents.blocks v.contents.nodes h.in_use.volume.0.in_order in
-      all_in_all (used_zones (tree_of_now v)) (node_zones new_file) (used_zones (tree_of_now v1)) (used_zones d.tree) (directory_zones (slots_with (directory_from x.at.part) place.name)) (directory_zones (length x.at.part.slots)) (frees v.zones)
+      all_in_all (used_zones (tree_of_now v)) (node_zones new_file) (used_zones (tree_of_now v1)) (used_zones d.tree) (directory_zones x.at.part.width (slots_with (directory_from x.at.part) place.name)) (directory_zones x.at.part.width (length x.at.part.slots)) (frees v.zones)
       (ap used_zones first.tree_is ∙ used_put_new (tree_of_now v) n new_file order (tree_none v.contents.blocks v.contents.nodes n none))
       (no_zones tx v h.in_use n none few)
-      (subst (λ tree. used_zones tree + directory_zones (length x.at.part.slots) ≡ used_zones (tree_of_now v1) + directory_zones (slots_with (directory_from x.at.part) place.name)) tree_same
+      (subst (λ tree. used_zones tree + directory_zones x.at.part.width (length x.at.part.slots) ≡ used_zones (tree_of_now v1) + directory_zones x.at.part.width (slots_with (directory_from x.at.part) place.name)) tree_same
       (used_put_more (tree_of_now v1) place.parent (nodes.Directory (directory_from x.at.part)) (nodes.Directory (with_name (directory_from x.at.part) place.name n))
       (tree_in_order v1.contents.blocks v1.contents.nodes first.steady.in_use.volume.0.in_order)
       (tree_at v1.contents.blocks v1.contents.nodes place.parent x.at.placed at1 ∙ ap (λ part. Some (node_from v1.contents.blocks x.at.placed.inode part)) x.at.is)))
@@ -163,21 +165,21 @@ module _ (tx : ℕ) (v : VolumeNow) (h : IsPlainNow v) (n : ℕ) (before : AreBo
   second =
       let new = number_is_new v.geometry v.contents.nodes few in
       name_comes tx v1 first.steady.in_use place.parent x.at.placed at1 x.at.part x.at.is place.name n q child1 (λ e. apart (sym e)) x.free (good_no_dot place.name x.good)
-      (good_entry place.name q.number x.good new.some (let within = new.within in let fit = h.in_use.sound.fits.inodes in omega arith))
+      (entry_at v place.parent place.directory h.in_use x.at place.name q.number x.good x.short new.some (let within = new.within in let fit = h.in_use.sound.fits.inodes in omega arith))
       first.settled first.slotted x.left more
 
   names_free : (zone : ℕ) → In zone (add_name v1 place.parent place.name n).touched.freed → ⊥
   names_free =
       let new = number_is_new v.geometry v.contents.nodes few in
       name_frees tx v1 first.steady.in_use place.parent x.at.placed at1 x.at.part x.at.is place.name n q child1 (λ e. apart (sym e)) x.free (good_no_dot place.name x.good)
-      (good_entry place.name q.number x.good new.some (let within = new.within in let fit = h.in_use.sound.fits.inodes in omega arith))
+      (entry_at v place.parent place.directory h.in_use x.at place.name q.number x.good x.short new.some (let within = new.within in let fit = h.in_use.sound.fits.inodes in omega arith))
       first.settled first.slotted x.left more
 
   name_same : SameNumbers v1.contents.nodes (add_name v1 place.parent place.name n).volume.contents.nodes
   name_same =
       let new = number_is_new v.geometry v.contents.nodes few in
       name_numbers tx v1 first.steady.in_use place.parent x.at.placed at1 x.at.part x.at.is place.name n q child1 (λ e. apart (sym e)) x.free (good_no_dot place.name x.good)
-      (good_entry place.name q.number x.good new.some (let within = new.within in let fit = h.in_use.sound.fits.inodes in omega arith))
+      (entry_at v place.parent place.directory h.in_use x.at place.name q.number x.good x.short new.some (let within = new.within in let fit = h.in_use.sound.fits.inodes in omega arith))
       first.settled first.slotted x.left more
 
   whole : StepsTo tx v (joined (make_file v n) (add_name v1 place.parent place.name n)) d.tree (links_at v1.contents.nodes)

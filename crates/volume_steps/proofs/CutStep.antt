@@ -15,7 +15,7 @@ use Rattle.tree_model.specs.Maps.{at_number, put_number}
 use Rattle.tree_model.specs.laws.MapsLaws.{at_put_number, at_put_number_apart}
 use Rattle.tree_model.specs.Calls.{node_zones, used_zones}
 use Rattle.volume_ops.specs.declared.found.Mapped.{Mapped}
-use Rattle.volume_ops.specs.Places.{largest_size, table_block}
+use Rattle.volume_ops.specs.Places.{largest_size}
 use Rattle.volume_ops.specs.Volume.{disk_of, bodies_of}
 use Rattle.zone_maps.specs.declared.zone_state.ZoneState.{ZoneState}
 use Rattle.zone_maps.specs.declared.zone_state.ZoneState.TheVariants as states
@@ -24,7 +24,7 @@ use Rattle.volume_model.specs.declared.placed.Placed.{Placed}
 use Rattle.volume_model.specs.declared.placed.Part.TheVariants as parts
 use Rattle.volume_model.specs.Counts.{indices_of, keeps_below, number_places, uses as uses_place, zones_of_file}
 use Rattle.volume_model.specs.Cut.{IsKeep, cuts, cut_edits, cut_to, has_numbers, cut_told, cut_zones}
-use Rattle.volume_model.specs.Edits.{Edit, touched_by_all, put_inode, touched_by}
+use Rattle.volume_model.specs.Edits.{Edit, touched_by_all, touched_by}
 use Rattle.volume_model.specs.MapBlock.{OpenInode, own_of, with_zones}
 use Rattle.volume_model.specs.Moves.{IsVolume, file_cut, file_cut_touches, numbers_gone, page_of, opened, back_told}
 use Rattle.volume_model.specs.Plain.{HasZone}
@@ -51,7 +51,7 @@ use Rattle.volume_steps.proofs.Together.{tells_as, used_waits}
 use Rattle.volume_steps.proofs.TreeSteps.{tree_at, tree_in_order, used_put_more}
 use Rattle.volume_steps.proofs.Listed.{put_told}
 use Rattle.volume_steps.proofs.Marked.{SameMaps, marks_given, numbers_put}
-use Rattle.volume_model.specs.laws.Edits.{edited_elsewhere, untouched}
+use Rattle.volume_model.specs.laws.Edits.{untouched}
 use Rattle.volume_model.specs.laws.Changes.{table_below}
 use Rattle.volume_model.specs.laws.Back.{back_apart}
 
@@ -184,7 +184,7 @@ module _ (tx : ℕ) (v : VolumeNow) (h : IsInUse v) (n : ℕ) (p : Placed) (zone
   keep = keep_below own (indices_of zones) indexed from
 
   part : IsFilePart blocks p.inode zones
-  part = subst (IsPart blocks p.inode) is (h.volume.0.each n p at).part
+  part = subst (IsPart v.geometry blocks p.inode) is (h.volume.0.each n p at).part
 
   number_gone : (z : ℕ) → In z numbers → (x : Place) × (own x ≡ z) × (own x ≢ 0) × (keeps x ≡ false)
   number_gone z i = gone_is g h.sound blocks v.contents.nodes n p h.volume.0 at from keeps keep (h.volume.1 n p at) zones is z i
@@ -362,7 +362,7 @@ module _ (tx : ℕ) (v : VolumeNow) (h : IsInUse v) (n : ℕ) (p : Placed) (zone
 
   bytes : (a : ℕ) (r : Placed) (zs : List Mapped) (m : Mapped) → at_number v.contents.nodes a ≡ Some r → r.part ≡ parts.File zs → In m zs → disk_of w.blocks m.zone ≡ disk_of c.blocks m.zone
   bytes a r zs m found file i =
-      let told = (subst (IsPart c.blocks r.inode) file (volume.0.each a r found).part).listed m i in
+      let told = (subst (IsPart v.geometry c.blocks r.inode) file (volume.0.each a r found).part).listed m i in
       page_bytes_cut g h.sound c.blocks c.nodes n p volume.0 at from keeps keep_now (volume.1 n p at) zones is
       (record { birth = a; index = m.index; zone = m.zone }) (record { placed = r; zones = zs; stands = found; is_file = file; zone = told.0; some = told.1 })
 
@@ -575,7 +575,7 @@ module _ (tx : ℕ) (v : VolumeNow) (h : IsInUse v) (n : ℕ) (p : Placed) (zone
     cut_step = record {
       steady = steady;
       settled = change_settled v.contents w n p q change;
-      slotted = change_slotted v.contents w n p q change;
+      slotted = change_slotted v.contents w n p q change v.geometry;
       tree = tree;
       waiting = given.more;
       directories = change_directories v.contents w n p q change;

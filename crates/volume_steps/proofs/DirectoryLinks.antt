@@ -74,9 +74,9 @@ pub links_same : (tree u : Tree) (d : Directory) → ((e : List ℕ × ℕ) → 
 links_same tree u d same = ap (λ k. 2 + k) (count_same tree u d.names same)
 
 -- one name more
-pub links_put_name : (u : Tree) (parent slots more : ℕ) (names : List (List ℕ × ℕ)) (name : List ℕ) (birth : ℕ) → NamesInOrder names → at_name names name ≡ None →
-    directory_links u (record { parent = parent; slots = more; names = put_name names name birth }) ≡ directory_links u (record { parent = parent; slots = slots; names = names }) + weigh u birth
-links_put_name u parent slots more names name birth sorted free =
+pub links_put_name : (u : Tree) (parent width slots more : ℕ) (names : List (List ℕ × ℕ)) (name : List ℕ) (birth : ℕ) → NamesInOrder names → at_name names name ≡ None →
+    directory_links u (record { parent = parent; width = width; slots = more; names = put_name names name birth }) ≡ directory_links u (record { parent = parent; width = width; slots = slots; names = names }) + weigh u birth
+links_put_name u parent width slots more names name birth sorted free =
     let sums = subst (λ o. sum_by (weigh u) (values_of (put_name names name birth)) + unwrap_or (option_map (weigh u) o) 0 ≡ sum_by (weigh u) (values_of names) + weigh u birth) free
     (sum_by-insert_entry (weigh u) nat_list_cmp_total names name birth sorted) in
     let one = over_values u (put_name names name birth) in
@@ -84,9 +84,9 @@ links_put_name u parent slots more names name birth sorted free =
     omega arith
 
 -- one name less
-pub links_take_name : (u : Tree) (parent slots : ℕ) (names : List (List ℕ × ℕ)) (name : List ℕ) (birth : ℕ) → at_name names name ≡ Some birth →
-    directory_links u (record { parent = parent; slots = slots; names = without_name_in names name }) + weigh u birth ≡ directory_links u (record { parent = parent; slots = slots; names = names })
-links_take_name u parent slots names name birth found =
+pub links_take_name : (u : Tree) (parent width slots : ℕ) (names : List (List ℕ × ℕ)) (name : List ℕ) (birth : ℕ) → at_name names name ≡ Some birth →
+    directory_links u (record { parent = parent; width = width; slots = slots; names = without_name_in names name }) + weigh u birth ≡ directory_links u (record { parent = parent; width = width; slots = slots; names = names })
+links_take_name u parent width slots names name birth found =
     let sums = subst (λ o. sum_by (weigh u) (values_of (without_name_in names name)) + unwrap_or (option_map (weigh u) o) 0 ≡ sum_by (weigh u) (values_of names)) found
     (sum_by-remove_entry (weigh u) (is_at (name_cmp name)) names) in
     let one = over_values u (without_name_in names name) in
@@ -115,7 +115,7 @@ leads_in tree rooted a d at e i =
 module _ (tree : Tree) (rooted : IsRooted tree) (n : ℕ) (born : at_number tree n ≡ None) (node : Node) (parent : ℕ) (D : Directory) (at : at_number tree parent ≡ Some (nodes.Directory D))
     (name : List ℕ) (free : at_name D.names name ≡ None) (more : ℕ) where
   abbrev pub made_tree : Tree
-  made_tree = put_number (put_number tree n node) parent (nodes.Directory (record { parent = D.parent; slots = more; names = put_name D.names name n }))
+  made_tree = put_number (put_number tree n node) parent (nodes.Directory (record { parent = D.parent; width = D.width; slots = more; names = put_name D.names name n }))
 
   apart : parent ≢ n
   apart e = none-some (nodes.Directory D) (sym born ∙ (ap (at_number tree) (sym e) ∙ at))
@@ -139,9 +139,9 @@ module _ (tree : Tree) (rooted : IsRooted tree) (n : ℕ) (born : at_number tree
       ((a : ℕ) → a ≢ parent → a ≢ n → after a ≡ before a) → AreLinked made_tree after
   made_linked before after h here new others a d found = elim (cases_eq a parent) [
     | inl e ↦
-        let same = directory_same (record { parent = D.parent; slots = more; names = put_name D.names name n }) d
+        let same = directory_same (record { parent = D.parent; width = D.width; slots = more; names = put_name D.names name n }) d
         (sym (at_put_number (put_number tree n node) parent _) ∙ subst (λ a. at_number made_tree a ≡ Some (nodes.Directory d)) e found) in
-        let one = links_put_name made_tree D.parent D.slots more D.names name n (rooted.names_in_order parent D at) free in
+        let one = links_put_name made_tree D.parent D.width D.slots more D.names name n (rooted.names_in_order parent D at) free in
         let two = names_same parent D at in
         let three : weigh made_tree n ≡ cond (is_directory (Some node)) 1 0 = ap (λ t. cond t 1 0) kind_new in
         ap after e ∙ (here ∙ ap Some (sum_to (directory_links tree D) _ _ _ _ two one three ∙ ap (directory_links made_tree) same))

@@ -220,7 +220,7 @@ module _ (tx : ℕ) (v : VolumeNow) (in_use : IsInUse v) (n : ℕ) (p : Placed) 
 
   pages_kept : KeepsPages v.contents.blocks w.blocks v.contents.nodes
   pages_kept a r zones found is m i =
-      let part = subst (IsPart v.contents.blocks r.inode) is (in_use.volume.0.each a r found).part in
+      let part = subst (IsPart v.geometry v.contents.blocks r.inode) is (in_use.volume.0.each a r found).part in
       let x = part.listed m i in
       high_bytes m.zone (subst (λ z. g.first ≤ z) x.0 ((in_use.volume.0.each a r found).zones (block m.index) (λ no_zone. x.1 (sym x.0 ∙ no_zone))).0)
 
@@ -298,7 +298,7 @@ module _ (tx : ℕ) (v : VolumeNow) (in_use : IsInUse v) (n : ℕ) (p : Placed) 
   }
 
   -- It goes, where no other directory has it as its parent.
-  pub drops : IsSettled v.contents → AreSlotted (λ a. ⊥) v.contents →
+  pub drops : IsSettled v.contents → AreSlotted v.geometry (λ a. ⊥) v.contents →
       ((a : ℕ) (r : Placed) (d : DirectoryPart) → a ≢ n → at_number v.contents.nodes a ≡ Some r → r.part ≡ parts.Directory d → d.parent ≢ n) →
       StepsTo tx v dropped_change (without_number (tree_of_now v) n) (links_at w.nodes)
   drops settled slotted no_child = record {
@@ -313,7 +313,7 @@ module _ (tx : ℕ) (v : VolumeNow) (in_use : IsInUse v) (n : ℕ) (p : Placed) 
           (x.0, there d.parent x.0 (no_child a r d was.0 was.1 is) x.1, x.2);
       few_links = λ a r found. settled.few_links a r (left a r found).1;
     };
-    slotted = λ a r d found is out. (let was = left a r found in zones_settled v.contents.blocks w.blocks r.inode r.inode (length d.slots) (zones_same a r was.1) (slotted a r d was.1 is (λ z. z)));
+    slotted = λ a r d found is out. (let was = left a r found in zones_settled v.geometry v.contents.blocks w.blocks r.inode r.inode (length d.slots) (zones_same a r was.1) (slotted a r d was.1 is (λ z. z)));
     links_are = λ a. refl;
     waiting = given.more;
   }

@@ -42,7 +42,7 @@ KeepsDirectories v w = (a : ℕ) (r : Placed) (d : DirectoryPart) → at_number 
 pub record IsFileStep (tx : ℕ) (v : VolumeNow) (n : ℕ) (c : Change) (f : File) (Writes : ℕ → ℕ → Type 0) : Type 0 where
   pub steady : IsSteady tx v c Writes
   pub settled : IsSettled v.contents → IsSettled c.volume.contents
-  pub slotted : AreSlotted (λ a. ⊥) v.contents → AreSlotted (λ a. ⊥) c.volume.contents
+  pub slotted : AreSlotted v.geometry (λ a. ⊥) v.contents → AreSlotted c.volume.geometry (λ a. ⊥) c.volume.contents
   pub tree : tree_of_now c.volume ≡ put_number (tree_of_now v) n (nodes.File f)
   pub waiting : waits c.volume.zones ≡ waits v.zones + length c.touched.freed
   pub directories : KeepsDirectories v.contents c.volume.contents
@@ -66,7 +66,7 @@ file_at v h n f found =
     by : (p : Placed) → at_number v.contents.nodes n ≡ Some p → node_now v.contents.blocks p ≡ nodes.File f → (part : Part) → p.part ≡ part → IsFileAt v n f
     by p at node (parts.Directory d) is = absurd (cc (sym (ap (node_from v.contents.blocks p.inode) is) ∙ node))
     by p at node (parts.File zones) is =
-        let part = subst (IsPart v.contents.blocks p.inode) is (h.volume.0.each n p at).part in
+        let part = subst (IsPart v.geometry v.contents.blocks p.inode) is (h.volume.0.each n p at).part in
         let same : nodes.File f ≡ nodes.File (file_now v.contents.blocks p zones) = sym node ∙ node_is_file v.contents.blocks p zones is part.rising in
         record { placed = p; zones = zones; stands = at; is_file = is; part = part; file = cc same }
 
@@ -180,8 +180,8 @@ module _ (v w : Contents) (n : ℕ) (p q : Placed) (h : IsFileChange v w n p q) 
     | other apart was ↦ was
   ]
 
-  pub change_slotted : AreSlotted (λ a. ⊥) v → AreSlotted (λ a. ⊥) w
-  change_slotted old a r d found is none = elim (which a r found) [
+  pub change_slotted : (g : Geometry) → AreSlotted g (λ a. ⊥) v → AreSlotted g (λ a. ⊥) w
+  change_slotted g old a r d found is none = elim (which a r found) [
     | changed e same ↦ absurd (h.no_directory d (ap (λ (r : Placed). r.part) same ∙ is))
-    | other apart was ↦ zones_settled v.blocks w.blocks r.inode r.inode (length d.slots) (h.theirs a r was apart) (old a r d was is none)
+    | other apart was ↦ zones_settled g v.blocks w.blocks r.inode r.inode (length d.slots) (h.theirs a r was apart) (old a r d was is none)
   ]

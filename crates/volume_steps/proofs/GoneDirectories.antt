@@ -7,6 +7,8 @@ use Rattle.std.proofs.lemmas.Bool.{cases_Bool, true≢false, ltb-true, ltb-false
 use Rattle.std.proofs.lemmas.Grind.{div_ceil_times}
 use Rattle.blk_base.specs.Members.{In}
 use Rattle.blk_base.specs.laws.Members.{In-map, map-In, In-append_left, In-append_right, In-append_cases}
+use Rattle.minix_layout.specs.Widths.{slot_size, slots_a_block}
+use Rattle.minix_layout.specs.laws.Places.{IsForm, narrow, wide, form_is}
 use Rattle.tree_model.specs.Maps.{at_number}
 use Rattle.tree_model.specs.Calls.{directory_zones, node_zones}
 use Rattle.volume_model.specs.declared.placed.Placed.{Placed}
@@ -15,7 +17,7 @@ use Rattle.volume_model.specs.declared.placed.DirectoryPart.{DirectoryPart}
 use Rattle.volume_model.specs.Counts.{number_places}
 use Rattle.volume_model.specs.Plain.{HasSlotZones}
 use Rattle.volume_model.specs.Trees.{node_from, node_now}
-use Rattle.volume_model.specs.Volume.{Place, block, indirect, double, inner, zone_in, at_indirect, at_double, at_inner}
+use Rattle.volume_model.specs.Volume.{IsPart, IsDirectoryPart, Place, block, indirect, double, inner, zone_in, at_indirect, at_double, at_inner}
 use Rattle.volume_model.specs.Ways.{OnWay}
 use Rattle.volume_model.specs.laws.OnWay.{way_mapped}
 use Rattle.volume_model.specs.laws.ZoneMoves.{no_numbers}
@@ -36,8 +38,25 @@ length_range : (a n : ℕ) → length (range_with_len a n) ≡ n
 length_range a zero = refl
 length_range a (suc n) = ap suc (length_range (a + 1) n)
 
+-- the blocks of so many slots are those that begin below their end
+block_begins : (size per : ℕ) → IsForm size per → (slots index : ℕ) → index < div_ceil slots per → per * index < slots
+block_begins size per narrow slots index low = let ceil = div_ceil_times slots 64 (omega arith) in omega arith
+block_begins size per wide slots index low = let ceil = div_ceil_times slots 32 (omega arith) in omega arith
+
+begins_in_count : (size per : ℕ) → IsForm size per → (slots index : ℕ) → per * index < slots → index < div_ceil slots per
+begins_in_count size per narrow slots index low = let ceil = div_ceil_times slots 64 (omega arith) in omega arith
+begins_in_count size per wide slots index low = let ceil = div_ceil_times slots 32 (omega arith) in omega arith
+
+few_begin : (size per : ℕ) → IsForm size per → (slots index : ℕ) → per * index < slots → slots ≤ 519 * per → index < 519
+few_begin size per narrow slots index low few = omega arith
+few_begin size per wide slots index low few = omega arith
+
+no_eighth : (size per : ℕ) → IsForm size per → (slots index : ℕ) → per * index < slots → 7 ≤ index → slots ≤ 7 * per → ⊥
+no_eighth size per narrow slots index low high few = omega arith
+no_eighth size per wide slots index low high few = omega arith
+
 module _ (v : VolumeNow) (h : IsVolume v.geometry v.contents) (n : ℕ) (p : Placed) (at : at_number v.contents.nodes n ≡ Some p) (d : DirectoryPart) (is : p.part ≡ parts.Directory d)
-    (slotted : HasSlotZones v.contents.blocks p.inode (length d.slots)) where
+    (slotted : HasSlotZones v.geometry v.contents.blocks p.inode (length d.slots)) where
   abbrev own : Place → ℕ
   own x = zone_in v.contents.blocks p.inode x
 
@@ -51,16 +70,25 @@ module _ (v : VolumeNow) (h : IsVolume v.geometry v.contents) (n : ℕ) (p : Pla
   data_zone index = own (block index)
 
   abbrev count : ℕ
-  count = div_ceil (length d.slots) 64
+  count = div_ceil (length d.slots) (slots_a_block d.width)
+
+  of_volume : d.width ≡ v.geometry.width
+  of_volume =
+      let part : IsDirectoryPart v.geometry v.contents.blocks p.inode d = subst (IsPart v.geometry v.contents.blocks p.inode) is (h.0.each n p at).part in
+      part.width
+
+  form : IsForm (slot_size d.width) (slots_a_block d.width)
+  form = form_is d.width
 
   abbrev data_zones : List ℕ
   data_zones = map data_zone (range_with_len 0 count)
 
-  below : (index : ℕ) → index < count → 64 * index < length d.slots
-  below index low = let ceil = div_ceil_times (length d.slots) 64 (omega arith) in omega arith
+  below : (index : ℕ) → index < count → slots_a_block v.geometry.width * index < length d.slots
+  below index low = subst (λ width. slots_a_block width * index < length d.slots) of_volume (block_begins (slot_size d.width) (slots_a_block d.width) form (length d.slots) index low)
 
-  within : (index : ℕ) → 64 * index < length d.slots → index < count
-  within index low = let ceil = div_ceil_times (length d.slots) 64 (omega arith) in omega arith
+  within : (index : ℕ) → slots_a_block v.geometry.width * index < length d.slots → index < count
+  within index low =
+      begins_in_count (slot_size d.width) (slots_a_block d.width) form (length d.slots) index (subst (λ width. slots_a_block width * index < length d.slots) (sym of_volume) low)
 
   data_at : (z : ℕ) → In z data_zones → (index : ℕ) × (own (block index) ≢ 0) × (own (block index) ≡ z)
   data_at z i =
@@ -114,7 +142,7 @@ module _ (v : VolumeNow) (h : IsVolume v.geometry v.contents) (n : ℕ) (p : Pla
 
   -- its blocks lie before those that need two zones of numbers
   near : (index : ℕ) → own (block index) ≢ 0 → index < 519
-  near index some = let low = slotted.no_more index some in let few = slotted.few in omega arith
+  near index some = few_begin (slot_size v.geometry.width) (slots_a_block v.geometry.width) (form_is v.geometry.width) (length d.slots) index (slotted.no_more index some) slotted.few
 
   no_second : (x : Place) → In x (double ∷ map inner (range_with_len 0 512)) → goes x ≡ false
   no_second x i = elim (cases_Bool (goes x)) [
@@ -133,8 +161,8 @@ module _ (v : VolumeNow) (h : IsVolume v.geometry v.contents) (n : ℕ) (p : Pla
           let high = way.0 in
           omega arith
 
-  first_goes : goes indirect ≡ nat_lt 448 (length d.slots)
-  first_goes = elim (cases_Bool (nat_lt 448 (length d.slots))) [
+  first_goes : goes indirect ≡ nat_lt (7 * slots_a_block v.geometry.width) (length d.slots)
+  first_goes = elim (cases_Bool (nat_lt (7 * slots_a_block v.geometry.width) (length d.slots))) [
     | inl t ↦
         let more = ltb-true _ _ t in
         some_goes v h n p at indirect (way_mapped v.contents.blocks p.inode h.0.whole indirect 7 ((omega arith), (omega arith)) (slotted.no_hole 7 (omega arith))) ∙ sym t
@@ -145,11 +173,11 @@ module _ (v : VolumeNow) (h : IsVolume v.geometry v.contents) (n : ℕ) (p : Pla
           let low = slotted.no_more w.0 w.1 in
           let high = w.2.0 in
           let few = ltb-false _ _ f in
-          absurd (omega arith)
+          absurd (no_eighth (slot_size v.geometry.width) (slots_a_block v.geometry.width) (form_is v.geometry.width) (length d.slots) w.0 low high few)
     ]
   ]
 
-  numbers_counted : length numbers ≡ (if nat_lt 448 (length d.slots) then 1 else 0)
+  numbers_counted : length numbers ≡ (if nat_lt (7 * slots_a_block v.geometry.width) (length d.slots) then 1 else 0)
   numbers_counted =
       length_map own (filter goes number_places)
       ∙ (by (goes indirect) refl ∙ ap (λ (b : Bool). if b then 1 else 0) first_goes)
@@ -159,8 +187,9 @@ module _ (v : VolumeNow) (h : IsVolume v.geometry v.contents) (n : ℕ) (p : Pla
       by false e = rw e (ap (λ (xs : List Place). length xs) (filter_none goes (double ∷ map inner (range_with_len 0 512)) no_second))
 
   -- they are as many as the tree counts
-  directory_counted : length gone ≡ directory_zones (length d.slots)
-  directory_counted = sums (length gone) (length data_zones) (length numbers) count _ (length_both data_zones numbers) (length_map data_zone (range_with_len 0 count) ∙ length_range 0 count) numbers_counted
+  directory_counted : length gone ≡ directory_zones d.width (length d.slots)
+  directory_counted = sums (length gone) (length data_zones) (length numbers) count _ (length_both data_zones numbers) (length_map data_zone (range_with_len 0 count) ∙ length_range 0 count)
+      (subst (λ width. length numbers ≡ (if nat_lt (7 * slots_a_block width) (length d.slots) then 1 else 0)) (sym of_volume) numbers_counted)
     where
       sums : (t a b c e : ℕ) → t ≡ a + b → a ≡ c → b ≡ e → t ≡ c + e
       sums t a b c e p q r = omega arith

@@ -94,7 +94,7 @@ module _ (v : VolumeNow) (h : IsVolume v.geometry v.contents) (n : ℕ) (p : Pla
 
   module _ (zones : List Mapped) (is : p.part ≡ parts.File zones) where
     part : IsFilePart v.contents.blocks p.inode zones
-    part = subst (IsPart v.contents.blocks p.inode) is (h.0.each n p at).part
+    part = subst (IsPart v.geometry v.contents.blocks p.inode) is (h.0.each n p at).part
 
     abbrev data_zones : List ℕ
     data_zones = map (λ (m : Mapped). m.zone) zones

@@ -29,7 +29,7 @@ use Rattle.volume_steps.proofs.Taking.{frees}
 use Rattle.volume_steps.proofs.AddNames.{name_comes, name_frees}
 use Rattle.volume_steps.proofs.QuietSteps.{linked, linked_steady, linked_file, linked_settled, linked_slotted, set_links_is, linked_numbers}
 use Rattle.volume_steps.proofs.StepsTo.{StepsTo, joined, steps_then, links_at}
-use Rattle.volume_steps.proofs.CallPaths.{good_no_dot, good_entry, done_row, at_place_is, at_path_is}
+use Rattle.volume_steps.proofs.CallPaths.{good_no_dot, entry_at, done_row, at_place_is, at_path_is}
 use Rattle.volume_steps.proofs.DirectoryLinks.{AreLinked, linked_before, links_same, links_put_name, weigh}
 use Rattle.volume_steps.proofs.PlainNow.{tree_is_plain, settled_before, slotted_before}
 use Rattle.volume_steps.proofs.CallEnds.{IsDone, none_freed, done_plain, call_ends}
@@ -192,10 +192,10 @@ module _ (tx : ℕ) (v : VolumeNow) (h : IsPlainNow v) (n : ℕ) (before : AreBo
   tree_same : put_number tree1 place.parent (nodes.Directory (with_name (directory_from x.at.part) place.name birth)) ≡ d.tree
   tree_same = ap (λ directory. put_number tree1 place.parent (nodes.Directory (with_name directory place.name birth))) x.at.same ∙ sym said.tree_is
 
-  pub more : directory_zones (slots_with (directory_from x.at.part) place.name) ≤ directory_zones (length x.at.part.slots) + frees v.zones
-  more = by (used_zones (tree_of_now v)) (used_zones tree1) (used_zones d.tree) (directory_zones (length x.at.part.slots)) (directory_zones (slots_with (directory_from x.at.part) place.name)) (frees v.zones)
+  pub more : directory_zones x.at.part.width (slots_with (directory_from x.at.part) place.name) ≤ directory_zones x.at.part.width (length x.at.part.slots) + frees v.zones
+  more = by (used_zones (tree_of_now v)) (used_zones tree1) (used_zones d.tree) (directory_zones x.at.part.width (length x.at.part.slots)) (directory_zones x.at.part.width (slots_with (directory_from x.at.part) place.name)) (frees v.zones)
       (used_put_same (tree_of_now v) birth (nodes.File said.file) (nodes.File (with_links said.file (said.file.links + 1))) order file_stands refl)
-      (subst (λ tree. used_zones tree + directory_zones (length x.at.part.slots) ≡ used_zones tree1 + directory_zones (slots_with (directory_from x.at.part) place.name)) tree_same
+      (subst (λ tree. used_zones tree + directory_zones x.at.part.width (length x.at.part.slots) ≡ used_zones tree1 + directory_zones x.at.part.width (slots_with (directory_from x.at.part) place.name)) tree_same
       (used_put_more tree1 place.parent (nodes.Directory (directory_from x.at.part)) (nodes.Directory (with_name (directory_from x.at.part) place.name birth))
       (in_order_put (tree_of_now v) birth (nodes.File (with_links said.file (said.file.links + 1))) order) stands1))
       enough
@@ -210,14 +210,14 @@ module _ (tx : ℕ) (v : VolumeNow) (h : IsPlainNow v) (n : ℕ) (before : AreBo
   second =
       let told = h.in_use.volume.0.each birth y.placed y.stands in
       name_comes tx v1 first.steady.in_use place.parent x.at.placed at1 x.at.part x.at.is place.name birth child child1 (λ e. apart (sym e)) x.free (good_no_dot place.name x.good)
-      (good_entry place.name child.number x.good told.some (let within = told.within in let fit = h.in_use.sound.fits.inodes in omega arith))
+      (entry_at v place.parent place.directory h.in_use x.at place.name child.number x.good x.short told.some (let within = told.within in let fit = h.in_use.sound.fits.inodes in omega arith))
       first.settled first.slotted x.left more
 
   names_free : (zone : ℕ) → In zone named.touched.freed → ⊥
   names_free =
       let told = h.in_use.volume.0.each birth y.placed y.stands in
       name_frees tx v1 first.steady.in_use place.parent x.at.placed at1 x.at.part x.at.is place.name birth child child1 (λ e. apart (sym e)) x.free (good_no_dot place.name x.good)
-      (good_entry place.name child.number x.good told.some (let within = told.within in let fit = h.in_use.sound.fits.inodes in omega arith))
+      (entry_at v place.parent place.directory h.in_use x.at place.name child.number x.good x.short told.some (let within = told.within in let fit = h.in_use.sound.fits.inodes in omega arith))
       first.settled first.slotted x.left more
 
   whole : StepsTo tx v (joined made named) d.tree (links_at v1.contents.nodes)
@@ -240,7 +240,7 @@ module _ (tx : ℕ) (v : VolumeNow) (h : IsPlainNow v) (n : ℕ) (before : AreBo
   links_all a e found = elim (cases_eq a place.parent) [
     | inl q ↦
         let same = directory_same _ e (sym (at_put_number tree1 place.parent (nodes.Directory (with_name (directory_from x.at.part) place.name birth))) ∙ subst (λ a. at_number (put_number tree1 place.parent (nodes.Directory (with_name (directory_from x.at.part) place.name birth))) a ≡ Some (nodes.Directory e)) q (ap (λ tree. at_number tree a) tree_same ∙ found)) in
-        let one = links_put_name d.tree x.at.part.parent (length x.at.part.slots) (slots_with (directory_from x.at.part) place.name) x.at.part.names place.name birth (plain.rooted.names_in_order place.parent (directory_from x.at.part) stands_in) x.free in
+        let one = links_put_name d.tree x.at.part.parent x.at.part.width (length x.at.part.slots) (slots_with (directory_from x.at.part) place.name) x.at.part.names place.name birth (plain.rooted.names_in_order place.parent (directory_from x.at.part) stands_in) x.free in
         let two = links_same (tree_of_now v) d.tree (directory_from x.at.part) (λ e i. kind_same e.1) in
         let three : weigh d.tree birth ≡ 0 = ap (λ t. cond t 1 0) (kind_same birth ∙ ap is_directory file_stands) in
         ap (links_at v1.contents.nodes) q ∙ (links_kept place.parent (directory_from x.at.part) stands_in

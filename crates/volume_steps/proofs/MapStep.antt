@@ -4,7 +4,7 @@ use Rattle.std.proofs.Common.{sym, ap, subst, ◌∙◌, inl, inr, ⊎_elim, ari
 use Rattle.std.proofs.lemmas.Bool.{cases_Bool, cases_eq, eqb-true, eqb-false}
 use Rattle.std.proofs.lemmas.Option.{same_Some}
 use Rattle.blk_base.specs.Members.{In}
-use Rattle.blk_base.specs.laws.Members.{In-append_right, In-append_left}
+use Rattle.blk_base.specs.laws.Members.{In-append_left}
 use Rattle.minix_layout.specs.declared.division.Geometry.{Geometry}
 use Rattle.minix_layout.specs.declared.inode.Inode.{Inode}
 use Rattle.tree_model.specs.declared.node.File.{File}
@@ -21,7 +21,7 @@ use Rattle.zone_maps.specs.Zones.{state_of}
 use Rattle.volume_model.specs.declared.placed.Placed.{Placed}
 use Rattle.volume_model.specs.declared.placed.Part.TheVariants as parts
 use Rattle.volume_model.specs.Counts.{indices_of, zones_of_file}
-use Rattle.volume_model.specs.Edits.{Edit, touched_by_all, put_inode}
+use Rattle.volume_model.specs.Edits.{Edit, touched_by_all}
 use Rattle.volume_model.specs.MapBlock.{OpenInode, own_of, map_block}
 use Rattle.volume_model.specs.Moves.{IsVolume, AreFree, with_mapped, file_mapped, file_mapped_touches}
 use Rattle.volume_model.specs.Plain.{HasZone}
@@ -52,7 +52,7 @@ use Rattle.volume_steps.proofs.Together.{tells_as}
 use Rattle.volume_steps.proofs.TreeSteps.{tree_at, tree_in_order, used_put_more}
 use Rattle.volume_steps.proofs.Listed.{put_told}
 use Rattle.volume_steps.proofs.Marked.{SameMaps, marks_taken, numbers_put}
-use Rattle.volume_model.specs.laws.Edits.{edited_elsewhere, untouched}
+use Rattle.volume_model.specs.laws.Edits.{untouched}
 use Rattle.volume_model.specs.laws.Changes.{table_below}
 use Rattle.volume_model.specs.laws.Back.{back_apart}
 
@@ -111,7 +111,7 @@ module _ (tx : ℕ) (v : VolumeNow) (h : IsInUse v) (n : ℕ) (p : Placed) (zone
   w = file_mapped g c n p zones t.taken content index
 
   part : IsFilePart c.blocks p.inode zones
-  part = subst (IsPart c.blocks p.inode) is (volume.0.each n p at).part
+  part = subst (IsPart v.geometry c.blocks p.inode) is (volume.0.each n p at).part
 
   may : MayMove g h.sound c.blocks c.nodes n p volume.0 at u (parts.File listed) (MapWrites g h.sound c.blocks c.nodes n p volume.0 at t.taken content size index high free)
   may = may_map g h.sound c.blocks c.nodes n p volume.0 at t.taken content size index high free (parts.File listed)
@@ -193,7 +193,7 @@ module _ (tx : ℕ) (v : VolumeNow) (h : IsInUse v) (n : ℕ) (p : Placed) (zone
 
   bytes : (a : ℕ) (r : Placed) (zs : List Mapped) (m : Mapped) → at_number v.contents.nodes a ≡ Some r → r.part ≡ parts.File zs → In m zs → disk_of w.blocks m.zone ≡ disk_of c.blocks m.zone
   bytes a r zs m found file i =
-      let told = (subst (IsPart c.blocks r.inode) file (volume.0.each a r found).part).listed m i in
+      let told = (subst (IsPart v.geometry c.blocks r.inode) file (volume.0.each a r found).part).listed m i in
       page_bytes g h.sound c.blocks c.nodes n p volume.0 at t.taken content size index high free zones is gap
       (record { birth = a; index = m.index; zone = m.zone }) (record { placed = r; zones = zs; stands = found; is_file = file; zone = told.0; some = told.1 })
 
@@ -202,7 +202,7 @@ module _ (tx : ℕ) (v : VolumeNow) (h : IsInUse v) (n : ℕ) (p : Placed) (zone
 
   early : (m : Mapped) → In m zones → disk_of c.blocks m.zone ≡ disk_of v.contents.blocks m.zone
   early m i =
-      let told = (subst (IsPart v.contents.blocks p.inode) is (h.volume.0.each n p at).part).listed m i in
+      let told = (subst (IsPart v.geometry v.contents.blocks p.inode) is (h.volume.0.each n p at).part).listed m i in
       subst (λ z. disk_of c.blocks z ≡ disk_of v.contents.blocks z) told.0
       (none.zones _ ((h.volume.0.each n p at).zones (block m.index) (λ e. told.1 (sym told.0 ∙ e))).0 (λ z. z))
 
@@ -247,7 +247,7 @@ module _ (tx : ℕ) (v : VolumeNow) (h : IsInUse v) (n : ℕ) (p : Placed) (zone
       let takes = taken.more in
       let order = tree_in_order v.contents.blocks v.contents.nodes h.volume.0.in_order in
       let sum = used_put_more (tree_of_now v) n (node_now v.contents.blocks p) (nodes.File mapped_file) order (tree_at v.contents.blocks v.contents.nodes n p at) in
-      let was = node_zones_are v.contents.blocks p zones is (subst (IsPart v.contents.blocks p.inode) is (h.volume.0.each n p at).part).rising in
+      let was = node_zones_are v.contents.blocks p zones is (subst (IsPart v.geometry v.contents.blocks p.inode) is (h.volume.0.each n p at).part).rising in
       let now : node_zones (nodes.File mapped_file) ≡ zones_of_file (indices_of listed) = ap node_zones (sym node) ∙ node_zones_are w.blocks q listed refl rising.rising in
       let grows = more in
       let same : used_zones (tree_now w.blocks w.nodes) ≡ used_zones (put_number (tree_of_now v) n (nodes.File mapped_file)) = ap used_zones tree in
@@ -326,7 +326,7 @@ module _ (tx : ℕ) (v : VolumeNow) (h : IsInUse v) (n : ℕ) (p : Placed) (zone
   mapped_step = record {
     steady = steady;
     settled = change_settled v.contents w n p q change;
-    slotted = change_slotted v.contents w n p q change;
+    slotted = change_slotted v.contents w n p q change v.geometry;
     tree = tree;
     waiting = (let same = taken.same in omega arith);
     directories = change_directories v.contents w n p q change;

@@ -30,12 +30,12 @@ use Rattle.volume_steps.proofs.NewDirectories.{q, directory_made, make_directory
 use Rattle.volume_steps.proofs.AddNames.{name_comes, name_frees, name_numbers}
 use Rattle.volume_steps.proofs.QuietSteps.{linked, linked_steady, linked_directory, linked_settled, linked_slotted, set_links_is, linked_numbers}
 use Rattle.volume_steps.proofs.StepsTo.{StepsTo, joined, steps_then, links_at}
-use Rattle.volume_steps.proofs.CallPaths.{good_no_dot, good_entry, done_row, at_place_is, DirectoryAt, directory_at}
+use Rattle.volume_steps.proofs.CallPaths.{at_width, good_no_dot, entry_at, done_row, at_place_is, DirectoryAt, directory_at}
 use Rattle.volume_steps.proofs.DirectoryLinks.{AreLinked, linked_before, made_linked}
 use Rattle.volume_steps.proofs.PlainNow.{tree_is_plain, settled_before, slotted_before}
 use Rattle.volume_steps.proofs.CallEnds.{IsDone, none_freed, birth_is_new, birth_not_root, done_plain, call_ends}
 use Rattle.volume_steps.proofs.CreateCall.{NewPlace, new_place}
-use Rattle.volume_steps.proofs.TreeSteps.{tree_length, tree_in_order, tree_none, tree_at, used_put_more, used_put_new}
+use Rattle.volume_steps.proofs.TreeSteps.{new_zones, tree_length, tree_in_order, tree_none, tree_at, used_put_more, used_put_new}
 use Rattle.volume_steps.proofs.Marked.{SameNumbers, numbers_both}
 
 -- what the row says
@@ -48,12 +48,12 @@ pub record Mkdirs (v : VolumeNow) (n : ℕ) (path : List ℕ) (d : Done) : Type 
   pub few : (directory_links (tree_of_now v) place.directory == most_links) ≡ false
   pub left : is_full place.directory ≡ false
   pub takes : d.takes_inode ≡ true
-  pub tree_is : d.tree ≡ give_name (put_number (tree_of_now v) n (new_directory place.parent)) place n
+  pub tree_is : d.tree ≡ give_name (put_number (tree_of_now v) n (new_directory place.directory.width place.parent)) place n
 
 pub mkdirs : (v : VolumeNow) (n : ℕ) (path : List ℕ) (d : Done) → row (tree_of_now v) n (calls.Mkdir path) ≡ Ok d → Mkdirs v n path d
 unfolding row
 mkdirs v n path d h =
-    let last = λ (place : Place). makes (give_name (put_number (tree_of_now v) n (new_directory place.parent)) place n) in
+    let last = λ (place : Place). makes (give_name (put_number (tree_of_now v) n (new_directory place.directory.width place.parent)) place n) in
     let full = λ (place : Place). refuse_if (is_full place.directory) replies.TooBig (last place) in
     let linked = λ (place : Place). refuse_if (directory_links (tree_of_now v) place.directory == most_links) replies.TooManyLinks (full place) in
     let named = λ (place : Place). refuse_if (is_named place) replies.Exists (linked place) in
@@ -76,7 +76,7 @@ mkdirs v n path d h =
     }
 
 -- a name never makes a directory smaller
-pub slots_grow : (D : Directory) (name : List ℕ) → directory_zones D.slots ≤ directory_zones (slots_with D name)
+pub slots_grow : (D : Directory) (name : List ℕ) → directory_zones D.width D.slots ≤ directory_zones D.width (slots_with D name)
 slots_grow D name = by (not (is_some (at_name D.names name)) && needs_slot D)
   where
     more : (x y a b : ℕ) → y ≡ x + a + b → x ≤ y
@@ -85,9 +85,9 @@ slots_grow D name = by (not (is_some (at_name D.names name)) && needs_slot D)
     same : (x : ℕ) → x ≤ x
     same x = omega arith
 
-    by : (b : Bool) → directory_zones D.slots ≤ directory_zones (if b then D.slots + 1 else D.slots)
-    by true = more (directory_zones D.slots) _ _ _ (slot_needs D.slots)
-    by false = same (directory_zones D.slots)
+    by : (b : Bool) → directory_zones D.width D.slots ≤ directory_zones D.width (if b then D.slots + 1 else D.slots)
+    by true = more (directory_zones D.width D.slots) _ _ _ (slot_needs D.width D.slots)
+    by false = same (directory_zones D.width D.slots)
 
 module _ (tx : ℕ) (v : VolumeNow) (h : IsPlainNow v) (n : ℕ) (before : AreBornBefore n (tree_of_now v)) (path : List ℕ) (d : Done)
     (done : outcome (room_of v.geometry) (tree_of_now v) n (calls.Mkdir path) ≡ Ok d) (enough : used_zones d.tree - used_zones (tree_of_now v) ≤ frees v.zones) where
@@ -122,23 +122,27 @@ module _ (tx : ℕ) (v : VolumeNow) (h : IsPlainNow v) (n : ℕ) (before : AreBo
   order = tree_in_order v.contents.blocks v.contents.nodes h.in_use.volume.0.in_order
 
   abbrev tree1 : Tree
-  tree1 = put_number (tree_of_now v) n (new_directory place.parent)
+  tree1 = put_number (tree_of_now v) n (new_directory v.geometry.width place.parent)
 
   used1 : used_zones tree1 ≡ used_zones (tree_of_now v) + 1
-  used1 = used_put_new (tree_of_now v) n (new_directory place.parent) order (tree_none v.contents.blocks v.contents.nodes n none)
+  used1 =
+      let all = used_put_new (tree_of_now v) n (new_directory v.geometry.width place.parent) order (tree_none v.contents.blocks v.contents.nodes n none) in
+      let one = new_zones v.geometry.width place.parent in
+      omega arith
 
   stands1 : at_number tree1 place.parent ≡ Some (nodes.Directory (directory_from x.at.part))
-  stands1 = at_put_number_apart (tree_of_now v) n (new_directory place.parent) place.parent apart ∙ stands_in
+  stands1 = at_put_number_apart (tree_of_now v) n (new_directory v.geometry.width place.parent) place.parent apart ∙ stands_in
 
   tree_same : put_number tree1 place.parent (nodes.Directory (with_name (directory_from x.at.part) place.name n)) ≡ d.tree
-  tree_same = ap (λ directory. put_number tree1 place.parent (nodes.Directory (with_name directory place.name n))) x.at.same ∙ sym said.tree_is
+  tree_same = ap (λ directory. put_number tree1 place.parent (nodes.Directory (with_name directory place.name n))) x.at.same
+      ∙ (ap (λ width. give_name (put_number (tree_of_now v) n (new_directory width place.parent)) place n) (sym (at_width v place.parent place.directory h.in_use x.at)) ∙ sym said.tree_is)
 
-  used2 : used_zones d.tree + directory_zones (length x.at.part.slots) ≡ used_zones tree1 + directory_zones (slots_with (directory_from x.at.part) place.name)
-  used2 = subst (λ tree. used_zones tree + directory_zones (length x.at.part.slots) ≡ used_zones tree1 + directory_zones (slots_with (directory_from x.at.part) place.name)) tree_same
-      (used_put_more tree1 place.parent (nodes.Directory (directory_from x.at.part)) (nodes.Directory (with_name (directory_from x.at.part) place.name n)) (in_order_put (tree_of_now v) n (new_directory place.parent) order) stands1)
+  used2 : used_zones d.tree + directory_zones x.at.part.width (length x.at.part.slots) ≡ used_zones tree1 + directory_zones x.at.part.width (slots_with (directory_from x.at.part) place.name)
+  used2 = subst (λ tree. used_zones tree + directory_zones x.at.part.width (length x.at.part.slots) ≡ used_zones tree1 + directory_zones x.at.part.width (slots_with (directory_from x.at.part) place.name)) tree_same
+      (used_put_more tree1 place.parent (nodes.Directory (directory_from x.at.part)) (nodes.Directory (with_name (directory_from x.at.part) place.name n)) (in_order_put (tree_of_now v) n (new_directory v.geometry.width place.parent) order) stands1)
 
   pub one_free : 1 ≤ frees v.zones
-  one_free = by (used_zones (tree_of_now v)) (used_zones tree1) (used_zones d.tree) (directory_zones (length x.at.part.slots)) (directory_zones (slots_with (directory_from x.at.part) place.name)) (frees v.zones)
+  one_free = by (used_zones (tree_of_now v)) (used_zones tree1) (used_zones d.tree) (directory_zones x.at.part.width (length x.at.part.slots)) (directory_zones x.at.part.width (slots_with (directory_from x.at.part) place.name)) (frees v.zones)
       used1 used2 (slots_grow (directory_from x.at.part) place.name) enough
     where
       by : (t u d old more free : ℕ) → u ≡ t + 1 → d + old ≡ u + more → old ≤ more → d - t ≤ free → 1 ≤ free
@@ -169,8 +173,8 @@ module _ (tx : ℕ) (v : VolumeNow) (h : IsPlainNow v) (n : ℕ) (before : AreBo
   child1 : at_number v1.contents.nodes n ≡ Some child
   child1 = at_put_number v.contents.nodes n child
 
-  pub more : directory_zones (slots_with (directory_from x.at.part) place.name) ≤ directory_zones (length x.at.part.slots) + frees v1.zones
-  more = by (used_zones (tree_of_now v)) (used_zones tree1) (used_zones d.tree) (directory_zones (length x.at.part.slots)) (directory_zones (slots_with (directory_from x.at.part) place.name)) (frees v.zones) (frees v1.zones)
+  pub more : directory_zones x.at.part.width (slots_with (directory_from x.at.part) place.name) ≤ directory_zones x.at.part.width (length x.at.part.slots) + frees v1.zones
+  more = by (used_zones (tree_of_now v)) (used_zones tree1) (used_zones d.tree) (directory_zones x.at.part.width (length x.at.part.slots)) (directory_zones x.at.part.width (slots_with (directory_from x.at.part) place.name)) (frees v.zones) (frees v1.zones)
       used1 used2 enough (one_taken v.zones one_free).fewer
     where
       by : (t u d old after free less : ℕ) → u ≡ t + 1 → d + old ≡ u + after → d - t ≤ free → less + 1 ≡ free → after ≤ old + less
@@ -186,21 +190,21 @@ module _ (tx : ℕ) (v : VolumeNow) (h : IsPlainNow v) (n : ℕ) (before : AreBo
   second =
       let new = number_is_new v.geometry v.contents.nodes few in
       name_comes tx v1 first.steady.in_use place.parent x.at.placed at1 x.at.part x.at.is place.name n child child1 (λ e. apart (sym e)) x.free (good_no_dot place.name x.good)
-      (good_entry place.name child.number x.good new.some (let within = new.within in let fit = h.in_use.sound.fits.inodes in omega arith))
+      (entry_at v place.parent place.directory h.in_use x.at place.name child.number x.good x.short new.some (let within = new.within in let fit = h.in_use.sound.fits.inodes in omega arith))
       first.settled first.slotted x.left more
 
   names_free : (zone : ℕ) → In zone named.touched.freed → ⊥
   names_free =
       let new = number_is_new v.geometry v.contents.nodes few in
       name_frees tx v1 first.steady.in_use place.parent x.at.placed at1 x.at.part x.at.is place.name n child child1 (λ e. apart (sym e)) x.free (good_no_dot place.name x.good)
-      (good_entry place.name child.number x.good new.some (let within = new.within in let fit = h.in_use.sound.fits.inodes in omega arith))
+      (entry_at v place.parent place.directory h.in_use x.at place.name child.number x.good x.short new.some (let within = new.within in let fit = h.in_use.sound.fits.inodes in omega arith))
       first.settled first.slotted x.left more
 
   name_same : SameNumbers v1.contents.nodes v2.contents.nodes
   name_same =
       let new = number_is_new v.geometry v.contents.nodes few in
       name_numbers tx v1 first.steady.in_use place.parent x.at.placed at1 x.at.part x.at.is place.name n child child1 (λ e. apart (sym e)) x.free (good_no_dot place.name x.good)
-      (good_entry place.name child.number x.good new.some (let within = new.within in let fit = h.in_use.sound.fits.inodes in omega arith))
+      (entry_at v place.parent place.directory h.in_use x.at place.name child.number x.good x.short new.some (let within = new.within in let fit = h.in_use.sound.fits.inodes in omega arith))
       first.settled first.slotted x.left more
 
   -- the directory has one link more
@@ -258,7 +262,7 @@ module _ (tx : ℕ) (v : VolumeNow) (h : IsPlainNow v) (n : ℕ) (before : AreBo
 
   links_all : AreLinked d.tree (links_at last.volume.contents.nodes)
   links_all = subst (λ tree. AreLinked tree (links_at last.volume.contents.nodes)) tree_same
-      (made_linked (tree_of_now v) plain.rooted n (tree_none v.contents.blocks v.contents.nodes n none) (new_directory place.parent) place.parent (directory_from x.at.part) stands_in
+      (made_linked (tree_of_now v) plain.rooted n (tree_none v.contents.blocks v.contents.nodes n none) (new_directory v.geometry.width place.parent) place.parent (directory_from x.at.part) stands_in
       place.name x.free (slots_with (directory_from x.at.part) place.name)
       (links_at v.contents.nodes) (links_at last.volume.contents.nodes) before_linked
       (ap (option_map (λ (p : Placed). p.inode.links)) (at_put_number v2.contents.nodes place.parent final) ∙ ap (λ k. Some (k + 1)) (links2 ∙ links_before))

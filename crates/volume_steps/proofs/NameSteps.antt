@@ -10,6 +10,7 @@ use Rattle.std.proofs.lemmas.List.{length-set}
 use Rattle.std.proofs.lemmas.Option.{same_Some, none-some}
 use Rattle.std.proofs.lemmas.Slice.Eq.{bytes_eq-Decides}
 use Rattle.blk_base.specs.laws.Members.{slice_get-set_same, slice_get-set_other, slice_get-length}
+use Rattle.minix_layout.specs.Widths.{slot_size, slots_a_block}
 use Rattle.minix_layout.specs.declared.division.Geometry.{Geometry}
 use Rattle.minix_layout.specs.declared.slot.Slot.{Slot}
 use Rattle.minix_layout.specs.Geometry.{IsSound}
@@ -17,7 +18,6 @@ use Rattle.tree_model.specs.declared.node.Node.TheVariants as nodes
 use Rattle.tree_model.specs.Maps.{at_number, at_name, put_number, name_cmp}
 use Rattle.tree_model.specs.Paths.{is_dot}
 use Rattle.tree_model.specs.Calls.{node_zones, directory_zones, without_name as tree_without_name}
-use Rattle.volume_ops.specs.Places.{table_block}
 use Rattle.volume_model.specs.declared.placed.Placed.{Placed}
 use Rattle.volume_model.specs.declared.placed.Part.TheVariants as parts
 use Rattle.volume_model.specs.declared.placed.DirectoryPart.{DirectoryPart}
@@ -47,9 +47,9 @@ use Rattle.volume_model.specs.laws.Back.{told_table}
 module _ (g : Geometry) (sound : IsSound g) (v : Contents) (n : ℕ) (p : Placed) (h : IsVolume g v) (at : at_number v.nodes n ≡ Some p) (d : DirectoryPart) (is : p.part ≡ parts.Directory d)
     (k : ℕ) (o : Option Slot) (next : DirectoryPart) (put : MayPut g v p d k o next) where
   abbrev pub slot_blocks : List ℕ
-  slot_blocks = zone_in v.blocks p.inode (block (k / 64)) ∷ back_told g p (with_size p.inode (16 * length next.slots))
+  slot_blocks = zone_in v.blocks p.inode (block (k / slots_a_block g.width)) ∷ back_told g p (with_size p.inode (slot_size g.width * length next.slots))
 
-  pub slot_grow : MayGrow g sound v n p h at (put_open g sound v n p h at d is k o next put) (parts.Directory next) (λ b. b ≡ zone_in v.blocks p.inode (block (k / 64)))
+  pub slot_grow : MayGrow g sound v n p h at (put_open g sound v n p h at d is k o next put) (parts.Directory next) (λ b. b ≡ zone_in v.blocks p.inode (block (k / slots_a_block g.width)))
       (may_move g sound v n p h at d is k o next put) slot_blocks []
   slot_grow =
       let same = same_zone g sound v n p h at d is k o next put in
@@ -57,30 +57,30 @@ module _ (g : Geometry) (sound : IsSound g) (v : Contents) (n : ℕ) (p : Placed
         kind = sym (ap is_directory_part is);
         stays_as = λ x some. same x;
         was = λ x some. inl (same x);
-        bytes = λ b none. edited_elsewhere g v.blocks (put_slot (zone_in v.blocks p.inode (block (k / 64))) (k % 64) o) b (λ e. none (inl (sym e)));
+        bytes = λ b none. edited_elsewhere g v.blocks (put_slot (zone_in v.blocks p.inode (block (k / slots_a_block g.width))) (k % slots_a_block g.width) o) b (λ e. none (inl (sym e)));
         table = λ b j. inr j;
         meta = λ b i. elim i [
-          | inl e ↦ inr (block (k / 64), (λ none. put.mapped (sym (same (block (k / 64))) ∙ none)), same (block (k / 64)) ∙ e, refl)
-          | inr j ↦ inl (told_table g p (with_size p.inode (16 * length next.slots)) b j)
+          | inl e ↦ inr (block (k / slots_a_block g.width), (λ none. put.mapped (sym (same (block (k / slots_a_block g.width))) ∙ none)), same (block (k / slots_a_block g.width)) ∙ e, refl)
+          | inr j ↦ inl (told_table g p (with_size p.inode (slot_size g.width * length next.slots)) b j)
         ];
         told = λ zone i. absurd i;
         mapped = λ zone i. absurd i;
       }
 
   pub slot_grows : GrowsTo g v (slot_put g v n p k o next) slot_blocks []
-  slot_grows = closed_grows g sound v n p h at (put_open g sound v n p h at d is k o next put) (parts.Directory next) (λ b. b ≡ zone_in v.blocks p.inode (block (k / 64)))
+  slot_grows = closed_grows g sound v n p h at (put_open g sound v n p h at d is k o next put) (parts.Directory next) (λ b. b ≡ zone_in v.blocks p.inode (block (k / slots_a_block g.width)))
       (may_move g sound v n p h at d is k o next put) slot_blocks [] slot_grow
 
   pub slot_maps : SameMaps g v.blocks (slot_put g v n p k o next).blocks
-  slot_maps = closed_maps g sound v n p h at (put_open g sound v n p h at d is k o next put) (parts.Directory next) (λ b. b ≡ zone_in v.blocks p.inode (block (k / 64)))
+  slot_maps = closed_maps g sound v n p h at (put_open g sound v n p h at d is k o next put) (parts.Directory next) (λ b. b ≡ zone_in v.blocks p.inode (block (k / slots_a_block g.width)))
       (may_move g sound v n p h at d is k o next put) slot_blocks [] slot_grow
 
   pub slot_numbers : SameNumbers v.nodes (slot_put g v n p k o next).nodes
-  slot_numbers = closed_numbers g sound v n p h at (put_open g sound v n p h at d is k o next put) (parts.Directory next) (λ b. b ≡ zone_in v.blocks p.inode (block (k / 64)))
+  slot_numbers = closed_numbers g sound v n p h at (put_open g sound v n p h at d is k o next put) (parts.Directory next) (λ b. b ≡ zone_in v.blocks p.inode (block (k / slots_a_block g.width)))
       (may_move g sound v n p h at d is k o next put) slot_blocks [] slot_grow
 
   pub slot_settled : IsSettled v → ((r : Placed) × (at_number v.nodes next.parent ≡ Some r) × HasDots next.slots p.number r.number) → IsSettled (slot_put g v n p k o next)
-  slot_settled old dots = closed_settled g sound v n p h at (put_open g sound v n p h at d is k o next put) (parts.Directory next) (λ b. b ≡ zone_in v.blocks p.inode (block (k / 64)))
+  slot_settled old dots = closed_settled g sound v n p h at (put_open g sound v n p h at d is k o next put) (parts.Directory next) (λ b. b ≡ zone_in v.blocks p.inode (block (k / slots_a_block g.width)))
       (may_move g sound v n p h at d is k o next put) slot_blocks [] slot_grow
       (record {
         sizes = λ zones same. absurd (cc same);
@@ -91,11 +91,11 @@ module _ (g : Geometry) (sound : IsSound g) (v : Contents) (n : ℕ) (p : Placed
       same_directory : (e f : DirectoryPart) → parts.Directory e ≡ parts.Directory f → e ≡ f
       same_directory e f same = cc
 
-  pub slot_slotted : AreSlotted (λ a. a ≡ n) v → HasSlotZones v.blocks p.inode (length next.slots) → AreSlotted (λ a. ⊥) (slot_put g v n p k o next)
-  slot_slotted old zones = closed_slotted g sound v n p h at (put_open g sound v n p h at d is k o next put) (parts.Directory next) (λ b. b ≡ zone_in v.blocks p.inode (block (k / 64)))
+  pub slot_slotted : AreSlotted g (λ a. a ≡ n) v → HasSlotZones g v.blocks p.inode (length next.slots) → AreSlotted g (λ a. ⊥) (slot_put g v n p k o next)
+  slot_slotted old zones = closed_slotted g sound v n p h at (put_open g sound v n p h at d is k o next put) (parts.Directory next) (λ b. b ≡ zone_in v.blocks p.inode (block (k / slots_a_block g.width)))
       (may_move g sound v n p h at d is k o next put) slot_blocks [] slot_grow old
-      (λ e same. subst (λ (e : DirectoryPart). HasSlotZones (put_open g sound v n p h at d is k o next put).blocks (put_open g sound v n p h at d is k o next put).inode (length e.slots)) (same_directory next e same)
-      (zones_settled v.blocks (put_open g sound v n p h at d is k o next put).blocks p.inode (put_open g sound v n p h at d is k o next put).inode (length next.slots) (same_zone g sound v n p h at d is k o next put) zones))
+      (λ e same. subst (λ (e : DirectoryPart). HasSlotZones g (put_open g sound v n p h at d is k o next put).blocks (put_open g sound v n p h at d is k o next put).inode (length e.slots)) (same_directory next e same)
+      (zones_settled g v.blocks (put_open g sound v n p h at d is k o next put).blocks p.inode (put_open g sound v n p h at d is k o next put).inode (length next.slots) (same_zone g sound v n p h at d is k o next put) zones))
     where
       same_directory : (e f : DirectoryPart) → parts.Directory e ≡ parts.Directory f → e ≡ f
       same_directory e f same = cc
@@ -194,10 +194,10 @@ module _ (tx : ℕ) (v : VolumeNow) (in_use : IsInUse v) (n : ℕ) (p : Placed) 
   open_now = put_open v.geometry in_use.sound v.contents n p in_use.volume at d is k None next put
 
   pub taken_steady : IsSteady tx v taken (λ birth index. ⊥)
-  taken_steady = quiet_steady tx v in_use n p at open_now (parts.Directory next) (λ b. b ≡ zone_in v.contents.blocks p.inode (block (k / 64)))
+  taken_steady = quiet_steady tx v in_use n p at open_now (parts.Directory next) (λ b. b ≡ zone_in v.contents.blocks p.inode (block (k / slots_a_block v.geometry.width)))
       (may_move v.geometry in_use.sound v.contents n p in_use.volume at d is k None next put) (slot_blocks v.geometry in_use.sound v.contents n p in_use.volume at d is k None next put) (n ∷ [])
       (slot_grow v.geometry in_use.sound v.contents n p in_use.volume at d is k None next put) (put_stands v.geometry in_use.sound v.contents n p in_use.volume at d is k None next put)
-      (ap directory_zones long ∙ sym (ap (λ part. node_zones (node_from v.contents.blocks p.inode part)) is))
+      (ap (directory_zones d.width) long ∙ sym (ap (λ part. node_zones (node_from v.contents.blocks p.inode part)) is))
       (put_told v.geometry v.contents taken.volume.contents taken.touched n _ refl (inl refl) (λ b i. elim i [ inl e ↦ sym e | inr z ↦ absurd z ]) (λ zones is. absurd (cc is)))
 
   pub taken_tree : tree_of_now taken.volume ≡ put_number (tree_of_now v) n (nodes.Directory (tree_without_name (directory_from d) name))
@@ -205,7 +205,7 @@ module _ (tx : ℕ) (v : VolumeNow) (in_use : IsInUse v) (n : ℕ) (p : Placed) 
       ∙ ap (λ directory. put_number (tree_of_now v) n (nodes.Directory directory)) (same_directory long w.name_is)
     where
       same_directory : length (slice_set d.slots k None) ≡ length d.slots → w.slot.name ≡ name → directory_from next ≡ tree_without_name (directory_from d) name
-      same_directory a b = λ i. record { parent = d.parent; slots = a i; names = without d.names (b i) }
+      same_directory a b = λ i. record { parent = d.parent; width = d.width; slots = a i; names = without d.names (b i) }
 
   pub taken_settled : IsSettled v.contents → IsSettled taken.volume.contents
   taken_settled old =
@@ -213,9 +213,9 @@ module _ (tx : ℕ) (v : VolumeNow) (in_use : IsInUse v) (n : ℕ) (p : Placed) 
       slot_settled v.geometry in_use.sound v.contents n p in_use.volume at d is k None next put old
       (dots.0, dots.1, dots_without d.slots p.number dots.0.number k w.slot dots.2 w.stands no_dot)
 
-  pub taken_slotted : AreSlotted (λ a. ⊥) v.contents → AreSlotted (λ a. ⊥) taken.volume.contents
+  pub taken_slotted : AreSlotted v.geometry (λ a. ⊥) v.contents → AreSlotted taken.volume.geometry (λ a. ⊥) taken.volume.contents
   taken_slotted old = slot_slotted v.geometry in_use.sound v.contents n p in_use.volume at d is k None next put (λ a r e found is apart. old a r e found is (λ z. z))
-      (subst (HasSlotZones v.contents.blocks p.inode) (sym long) (old n p d at is (λ z. z)))
+      (subst (HasSlotZones v.geometry v.contents.blocks p.inode) (sym long) (old n p d at is (λ z. z)))
 
   pub taken_numbers : SameNumbers v.contents.nodes taken.volume.contents.nodes
   taken_numbers = slot_numbers v.geometry in_use.sound v.contents n p in_use.volume at d is k None next put

@@ -1,10 +1,12 @@
 -- A directory comes, in the lowest inode and the lowest zone that are free.
-use Rattle.std.specs.Prelude.{◌≡◌, ◌≢◌, ◌≤◌, ◌<◌, ◌+◌, ◌-◌, ◌^◌, ℕ, zero, suc, ◌⊎◌, true, false, List, [], ◌∷◌, codes, length, slice_index, Option, Some, None, Ok, refl}
+use Rattle.std.specs.Prelude.{◌≡◌, ◌≢◌, ◌≤◌, ◌<◌, ◌+◌, ◌*◌, ◌-◌, ◌/◌, ◌%◌, ◌^◌, ℕ, zero, suc, ◌⊎◌, true, false, List, [], ◌∷◌, codes, length, slice_index, Option, Some, None, Ok, refl}
 use Rattle.std.specs.List.{slice_get}
 use Rattle.std.proofs.Common.{sym, ap, subst, inl, inr, ⊎_elim, ◌∙◌, arith}
 use Rattle.std.proofs.lemmas.Bool.{true≢false}
 use Rattle.std.proofs.lemmas.Option.{same_Some, none-some}
 use Rattle.byte_fields.specs.Fields.{record_at, zeros}
+use Rattle.minix_layout.specs.Widths.{IsWidth, of_14, of_30, slot_size, slots_a_block}
+use Rattle.minix_layout.specs.laws.Places.{IsForm, narrow, wide, form_is, some_slots, slot_zero_stands, slot_one_stands}
 use Rattle.minix_layout.specs.declared.division.Geometry.{Geometry}
 use Rattle.minix_layout.specs.declared.inode.Inode.{Inode}
 use Rattle.minix_layout.specs.declared.slot.Slot.{Slot}
@@ -48,7 +50,7 @@ use Rattle.volume_steps.proofs.Comes.{MayCome, ComesTold, come, come_stands, com
 use Rattle.volume_steps.proofs.QuietSteps.{at_node_is}
 use Rattle.volume_steps.proofs.Taking.{AreTaken, frees, in_zones, one_taken}
 use Rattle.volume_steps.proofs.TakeZones.{zone_range, free_is_none}
-use Rattle.volume_steps.proofs.TreeSteps.{grown_pages, tree_put, tree_none, tree_in_order, used_put_new}
+use Rattle.volume_steps.proofs.TreeSteps.{new_zones, grown_pages, tree_put, tree_none, tree_in_order, used_put_new}
 use Rattle.volume_steps.proofs.Listed.{put_told}
 use Rattle.volume_steps.proofs.Marked.{marks_then, marks_inode, marks_taken, number_comes, numbers_come, numbers_same}
 use Rattle.blk_base.specs.Members.{In}
@@ -58,11 +60,13 @@ use Rattle.blk_base.specs.Members.{In}
 dots_differ : codes "." ≡ codes ".." → ⊥
 dots_differ e = let n : length (codes ".") ≡ length (codes "..") = ap length e in omega arith
 
-dot_entry : (number : ℕ) → 0 < number → number < 2 ^ 16 → IsEntry (record { inode = number; name = codes "." })
-dot_entry number some fits = record { used = some; fits = fits; name = refl; no_slash = refl }
+dot_entry : (width number : ℕ) → IsWidth width → 0 < number → number < 2 ^ 16 → IsEntry width (record { inode = number; name = codes "." })
+dot_entry width number of_14 some fits = record { used = some; fits = fits; name = refl; short = omega arith; no_slash = refl }
+dot_entry width number of_30 some fits = record { used = some; fits = fits; name = refl; short = omega arith; no_slash = refl }
 
-dots_entry : (number : ℕ) → 0 < number → number < 2 ^ 16 → IsEntry (record { inode = number; name = codes ".." })
-dots_entry number some fits = record { used = some; fits = fits; name = refl; no_slash = refl }
+dots_entry : (width number : ℕ) → IsWidth width → 0 < number → number < 2 ^ 16 → IsEntry width (record { inode = number; name = codes ".." })
+dots_entry width number of_14 some fits = record { used = some; fits = fits; name = refl; short = omega arith; no_slash = refl }
+dots_entry width number of_30 some fits = record { used = some; fits = fits; name = refl; short = omega arith; no_slash = refl }
 
 -- one of two slots
 two_by : (own parent : ℕ) (P : ℕ → Option Slot → Type 0) → P 0 (Some (record { inode = own; name = codes "." })) → P 1 (Some (record { inode = parent; name = codes ".." })) →
@@ -71,9 +75,26 @@ two_by own parent P first second zero s at = subst (P 0) (same_Some (Some (recor
 two_by own parent P first second (suc zero) s at = subst (P 1) (same_Some (Some (record { inode = parent; name = codes ".." })) s at) second
 two_by own parent P first second (suc (suc k)) s at = absurd (none-some s at)
 
+two_slots : (size per : ℕ) → IsForm size per → size * 2 < 2 ^ 32
+two_slots size per narrow = omega arith
+two_slots size per wide = omega arith
+
+two_few : (size per : ℕ) → IsForm size per → 2 ≤ 519 * per
+two_few size per narrow = omega arith
+two_few size per wide = omega arith
+
+-- two slots stand in the first block
+pub first_block : (size per : ℕ) → IsForm size per → (index : ℕ) → per * index < 2 → index ≡ 0
+first_block size per narrow index low = omega arith
+first_block size per wide index low = omega arith
+
+first_begins : (size per : ℕ) → IsForm size per → (index : ℕ) → index ≡ 0 → per * index < 2
+first_begins size per narrow index first = omega arith
+first_begins size per wide index first = omega arith
+
 -- a directory of its dots alone has no names
-pub dots_names : (placed : List (ℕ × Placed)) (own above parent : ℕ) → HasNames placed (record { parent = parent; names = []; slots = dot_slots own above })
-dots_names placed own above parent = record {
+pub dots_names : (width : ℕ) (placed : List (ℕ × Placed)) (own above parent : ℕ) → HasNames placed (record { parent = parent; width = width; names = []; slots = dot_slots own above })
+dots_names width placed own above parent = record {
   named = λ name b at. absurd (none-some b at);
   full = λ k s at no_dot.
       absurd (two_by own above (λ k o. (s : Slot) → o ≡ Some s → is_dot s.name ≡ false → ⊥)
@@ -131,7 +152,7 @@ module _ (tx : ℕ) (v : VolumeNow) (in_use : IsInUse v) (n : ℕ) (none : at_nu
   zone = next_zone v.zones
 
   abbrev inode : Inode
-  inode = new_directory_inode zone
+  inode = new_directory_inode v.geometry.width zone
 
   abbrev dot : Option Slot
   dot = Some (record { inode = number; name = codes "." })
@@ -155,7 +176,7 @@ module _ (tx : ℕ) (v : VolumeNow) (in_use : IsInUse v) (n : ℕ) (none : at_nu
   fits = record {
     mode = omega arith;
     uid = omega arith;
-    size = omega arith;
+    size = two_slots (slot_size v.geometry.width) (slots_a_block v.geometry.width) (form_is v.geometry.width);
     time = omega arith;
     gid = omega arith;
     links = omega arith;
@@ -202,17 +223,23 @@ module _ (tx : ℕ) (v : VolumeNow) (in_use : IsInUse v) (n : ℕ) (none : at_nu
   c3 : Changes g (λ _. ⊥) (λ b. b ≡ zone) b2 b3
   c3 = changes_body g b2 zone in_use.sound c2.whole (c2.size ∙ (c1.size ∙ in_use.volume.0.size)) range.0 range.1
 
-  own_entry : IsEntry (record { inode = number; name = codes "." })
-  own_entry = dot_entry number new.some (let within = new.within in let fit = in_use.sound.fits.inodes in omega arith)
+  own_entry : IsEntry v.geometry.width (record { inode = number; name = codes "." })
+  own_entry = dot_entry v.geometry.width number in_use.sound.width new.some (let within = new.within in let fit = in_use.sound.fits.inodes in omega arith)
 
-  above_entry : IsEntry (record { inode = p.number; name = codes ".." })
-  above_entry = let told = in_use.volume.0.each parent p at in dots_entry p.number told.some (let within = told.within in let fit = in_use.sound.fits.inodes in omega arith)
+  above_entry : IsEntry v.geometry.width (record { inode = p.number; name = codes ".." })
+  above_entry = let told = in_use.volume.0.each parent p at in dots_entry v.geometry.width p.number in_use.sound.width told.some (let within = told.within in let fit = in_use.sound.fits.inodes in omega arith)
+
+  zero_place : 0 < slots_a_block v.geometry.width
+  zero_place = let two = (some_slots (slot_size v.geometry.width) (slots_a_block v.geometry.width) (form_is v.geometry.width)).0 in omega arith
+
+  one_place : 1 < slots_a_block v.geometry.width
+  one_place = let two = (some_slots (slot_size v.geometry.width) (slots_a_block v.geometry.width) (form_is v.geometry.width)).0 in omega arith
 
   c4 : Changes g (λ _. ⊥) (λ b. b ≡ zone) b3 b4
-  c4 = changes_slot g b3 zone 0 dot in_use.sound c3.whole (c3.size ∙ (c2.size ∙ (c1.size ∙ in_use.volume.0.size))) range.0 range.1 (omega arith) own_entry
+  c4 = changes_slot g b3 zone 0 dot in_use.sound c3.whole (c3.size ∙ (c2.size ∙ (c1.size ∙ in_use.volume.0.size))) range.0 range.1 zero_place own_entry
 
   c5 : Changes g (λ _. ⊥) (λ b. b ≡ zone) b4 b5
-  c5 = changes_slot g b4 zone 1 dots in_use.sound c4.whole (c4.size ∙ (c3.size ∙ (c2.size ∙ (c1.size ∙ in_use.volume.0.size)))) range.0 range.1 (omega arith) above_entry
+  c5 = changes_slot g b4 zone 1 dots in_use.sound c4.whole (c4.size ∙ (c3.size ∙ (c2.size ∙ (c1.size ∙ in_use.volume.0.size)))) range.0 range.1 one_place above_entry
 
   size5 : length b5 ≡ g.zones
   size5 = c5.size ∙ (c4.size ∙ (c3.size ∙ (c2.size ∙ (c1.size ∙ in_use.volume.0.size))))
@@ -232,7 +259,7 @@ module _ (tx : ℕ) (v : VolumeNow) (in_use : IsInUse v) (n : ℕ) (none : at_nu
       zones_of b i = grind arith
 
   abbrev pub q : Placed
-  q = record { number = number; inode = inode; part = parts.Directory (record { parent = parent; names = []; slots = dot_slots number p.number }) }
+  q = record { number = number; inode = inode; part = parts.Directory (record { parent = parent; width = v.geometry.width; names = []; slots = dot_slots number p.number }) }
 
   table_here : inode_at g after number ≡ inode
   table_here =
@@ -254,20 +281,29 @@ module _ (tx : ℕ) (v : VolumeNow) (in_use : IsInUse v) (n : ℕ) (none : at_nu
   inside_first : zone < length b3
   inside_first = let high = range.1 in let size = size5 in let more = c5.size in let less = c4.size in omega arith
 
-  first_slot : slot_of (record_at 16 0 (disk_of after zone)) ≡ Ok dot
+  first_slot : slot_of v.geometry.width (record_at (slot_size v.geometry.width) 0 (disk_of after zone)) ≡ Ok dot
   first_slot =
-      ap (λ body. slot_of (record_at 16 0 body)) zone_bytes
-      ∙ (slot_elsewhere g b4 zone 1 zone 0 dots c4.whole inside_too (omega arith) (omega arith) above_entry (λ e same. (omega arith))
-      ∙ slot_here g b3 zone 0 dot c3.whole inside_first (omega arith) own_entry)
+      ap (λ body. slot_of v.geometry.width (record_at (slot_size v.geometry.width) 0 body)) zone_bytes
+      ∙ (slot_elsewhere g in_use.sound.width b4 zone 1 zone 0 dots c4.whole inside_too one_place zero_place above_entry (λ e same. (omega arith))
+      ∙ slot_here g in_use.sound.width b3 zone 0 dot c3.whole inside_first zero_place own_entry)
 
-  second_slot : slot_of (record_at 16 1 (disk_of after zone)) ≡ Ok dots
-  second_slot = ap (λ body. slot_of (record_at 16 1 body)) zone_bytes ∙ slot_here g b4 zone 1 dots c4.whole inside_too (omega arith) above_entry
+  second_slot : slot_of v.geometry.width (record_at (slot_size v.geometry.width) 1 (disk_of after zone)) ≡ Ok dots
+  second_slot = ap (λ body. slot_of v.geometry.width (record_at (slot_size v.geometry.width) 1 body)) zone_bytes ∙ slot_here g in_use.sound.width b4 zone 1 dots c4.whole inside_too one_place above_entry
 
   here : zone_in after inode (block 0) ≡ zone
   here = own_first after changes.whole inode zone refl
 
   here_some : zone_in after inode (block 0) ≢ 0
   here_some e = zone_some (sym here ∙ e)
+
+  slot_stands : (k : ℕ) (s : Option Slot) → k / slots_a_block v.geometry.width ≡ 0 → k % slots_a_block v.geometry.width ≡ k →
+      slot_of v.geometry.width (record_at (slot_size v.geometry.width) k (disk_of after zone)) ≡ Ok s → HasSlot v.geometry after inode k s
+  slot_stands k s block_is place_is stands = record {
+    mapped = λ none. here_some (ap (λ b. zone_in after inode (block b)) (sym block_is) ∙ none);
+    stands = ap (λ b. slot_of v.geometry.width (record_at (slot_size v.geometry.width) (k % slots_a_block v.geometry.width) (disk_of after (zone_in after inode (block b))))) block_is
+        ∙ (ap (λ a. slot_of v.geometry.width (record_at (slot_size v.geometry.width) a (disk_of after (zone_in after inode (block 0))))) place_is
+        ∙ (ap (λ z. slot_of v.geometry.width (record_at (slot_size v.geometry.width) k (disk_of after z))) here ∙ stands));
+  }
 
   zone_of : (x : Place) → zone_in after inode x ≢ 0 → zone_in after inode x ≡ zone
   zone_of x some = first_zone after changes.whole inode zone refl x some
@@ -293,15 +329,16 @@ module _ (tx : ℕ) (v : VolumeNow) (in_use : IsInUse v) (n : ℕ) (none : at_nu
       zones = λ x some. subst (λ z. (g.first ≤ z) × (z < g.zones)) (sym (zone_of x some)) range;
       part = record {
         kind = refl;
+        width = refl;
         size = refl;
-        slots = two_by number p.number (HasSlot after inode)
-            (record { mapped = here_some; stands = ap (λ z. slot_of (record_at 16 0 (disk_of after z))) here ∙ first_slot })
-            (record { mapped = here_some; stands = ap (λ z. slot_of (record_at 16 1 (disk_of after z))) here ∙ second_slot });
+        slots = two_by number p.number (HasSlot v.geometry after inode)
+            (slot_stands 0 dot (slot_zero_stands (slot_size v.geometry.width) (slots_a_block v.geometry.width) (form_is v.geometry.width)).0 (slot_zero_stands (slot_size v.geometry.width) (slots_a_block v.geometry.width) (form_is v.geometry.width)).1 first_slot)
+            (slot_stands 1 dots (slot_one_stands (slot_size v.geometry.width) (slots_a_block v.geometry.width) (form_is v.geometry.width)).0 (slot_one_stands (slot_size v.geometry.width) (slots_a_block v.geometry.width) (form_is v.geometry.width)).1 second_slot);
       };
     };
     apart = λ x y same some. place_of x some ∙ sym (place_of y (λ zero_zone. some (same ∙ zero_zone)));
     none_of_theirs = λ a r x y found same some. not_theirs a r y found (sym same ∙ zone_of x some);
-    names = λ d is. subst (HasNames (put_number v.contents.nodes n q)) (same_directory _ d is) (dots_names (put_number v.contents.nodes n q) number p.number parent);
+    names = λ d is. subst (HasNames (put_number v.contents.nodes n q)) (same_directory _ d is) (dots_names v.geometry.width (put_number v.contents.nodes n q) number p.number parent);
     just = λ x some. (0, here_some, subst (λ x. OnWay x 0) (sym (place_of x some)) (refl, (omega arith)));
   }
     where
@@ -369,8 +406,8 @@ module _ (tx : ℕ) (v : VolumeNow) (in_use : IsInUse v) (n : ℕ) (none : at_nu
         blocks = edited_all g v.contents.blocks (new_directory_edits v.geometry number zone p.number);
         nodes = put_number v.contents.nodes n (record {
           number = number;
-          inode = new_directory_inode zone;
-          part = parts.Directory (record { parent = parent; names = []; slots = dot_slots number p.number });
+          inode = new_directory_inode v.geometry.width zone;
+          part = parts.Directory (record { parent = parent; width = v.geometry.width; names = []; slots = dot_slots number p.number });
         });
       };
       zones = taken v.zones;
@@ -378,7 +415,7 @@ module _ (tx : ℕ) (v : VolumeNow) (in_use : IsInUse v) (n : ℕ) (none : at_nu
     touched = record { blocks = touched_by_all g (new_directory_edits g number zone p.number); freed = []; revoked = []; pages = []; dropped = []; nodes = n ∷ [] };
   }) at
 
-  pub directory_made_tree : tree_of_now directory_made.volume ≡ put_number (tree_of_now v) n (new_directory parent)
+  pub directory_made_tree : tree_of_now directory_made.volume ≡ put_number (tree_of_now v) n (new_directory v.geometry.width parent)
   directory_made_tree = tree_put v.contents.blocks after v.contents.nodes in_use.volume.0.in_order
       (grown_pages g v.contents w blocks (zone ∷ []) [] grows in_use.volume.0 stands.0) n q
 
@@ -387,7 +424,7 @@ module _ (tx : ℕ) (v : VolumeNow) (in_use : IsInUse v) (n : ℕ) (none : at_nu
   with_inode = record { blocks = edited g v.contents.blocks (inode_bit number true); nodes = w.nodes }
 
   abbrev writes_after : List Edit
-  writes_after = put_body zone (zeros 1024) ∷ put_slot zone 0 (Some (record { inode = number; name = codes "." })) ∷ put_slot zone 1 (Some (record { inode = p.number; name = codes ".." })) ∷ put_inode number (new_directory_inode zone) ∷ []
+  writes_after = put_body zone (zeros 1024) ∷ put_slot zone 0 (Some (record { inode = number; name = codes "." })) ∷ put_slot zone 1 (Some (record { inode = p.number; name = codes ".." })) ∷ put_inode number (new_directory_inode v.geometry.width zone) ∷ []
 
   behind_maps : (b : ℕ) → b < 2 + g.imap + g.zmap → In b (touched_by_all g writes_after) → ⊥
   behind_maps b high i =
@@ -419,9 +456,9 @@ module _ (tx : ℕ) (v : VolumeNow) (in_use : IsInUse v) (n : ℕ) (none : at_nu
 
   pub directory_made_steady : IsSteady tx v directory_made (λ birth index. ⊥)
   directory_made_steady = grown_steady tx v w (taken v.zones) blocks (zone ∷ []) (n ∷ []) in_use stands grows (takes_of_taken v.zones (taken v.zones) (zone ∷ []) take)
-      (let all = used_put_new (tree_of_now v) n (new_directory parent) (tree_in_order v.contents.blocks v.contents.nodes in_use.volume.0.in_order) (tree_none v.contents.blocks v.contents.nodes n none) in
+      (let all = used_put_new (tree_of_now v) n (new_directory v.geometry.width parent) (tree_in_order v.contents.blocks v.contents.nodes in_use.volume.0.in_order) (tree_none v.contents.blocks v.contents.nodes n none) in
       let same = ap used_zones directory_made_tree in
-      let one : node_zones (new_directory parent) ≡ 1 = refl in
+      let one : node_zones (new_directory v.geometry.width parent) ≡ 1 = new_zones v.geometry.width parent in
       let more = take.more in
       let was = in_use.counted in
       omega arith)
@@ -441,12 +478,12 @@ module _ (tx : ℕ) (v : VolumeNow) (in_use : IsInUse v) (n : ℕ) (none : at_nu
       no_later (suc zero) s late found = absurd (omega arith)
       no_later (suc (suc k)) s late found = absurd (none-some (Some s) found)
 
-  pub directory_made_slotted : AreSlotted (λ a. ⊥) v.contents → AreSlotted (λ a. ⊥) directory_made.volume.contents
+  pub directory_made_slotted : AreSlotted v.geometry (λ a. ⊥) v.contents → AreSlotted directory_made.volume.geometry (λ a. ⊥) directory_made.volume.contents
   directory_made_slotted old = come_slotted g v.contents after n q (λ b. b ≡ zone) in_use.volume may old
-      (λ d is. subst (λ (d : DirectoryPart). HasSlotZones after inode (length d.slots)) (same_directory _ d is) (record {
-        few = omega arith;
-        no_hole = λ index low none. (let e : index ≡ 0 = omega arith in here_some (ap (λ index. zone_in after inode (block index)) (sym e) ∙ none));
-        no_more = λ index some. (let e = first_index index (place_of (block index) some) in omega arith);
+      (λ d is. subst (λ (d : DirectoryPart). HasSlotZones v.geometry after inode (length d.slots)) (same_directory _ d is) (record {
+        few = two_few (slot_size v.geometry.width) (slots_a_block v.geometry.width) (form_is v.geometry.width);
+        no_hole = λ index low none. (let e = first_block (slot_size v.geometry.width) (slots_a_block v.geometry.width) (form_is v.geometry.width) index low in here_some (ap (λ index. zone_in after inode (block index)) (sym e) ∙ none));
+        no_more = λ index some. first_begins (slot_size v.geometry.width) (slots_a_block v.geometry.width) (form_is v.geometry.width) index (first_index index (place_of (block index) some));
       }))
     where
       same_directory : (e f : DirectoryPart) → parts.Directory e ≡ parts.Directory f → e ≡ f

@@ -150,5 +150,5 @@ module _ (tx : ℕ) (v : VolumeNow) (in_use : IsInUse v) (n : ℕ) (none : at_nu
   pub file_made_settled : IsSettled v.contents → (n ≡ 0 → ⊥) → IsSettled (make_file v n).volume.contents
   file_made_settled old apart = come_settled g v.contents after n q (λ _. ⊥) in_use.volume may old apart (λ zones is. omega arith) (omega arith) (λ d is. absurd (cc is))
 
-  pub file_made_slotted : AreSlotted (λ a. ⊥) v.contents → AreSlotted (λ a. ⊥) (make_file v n).volume.contents
+  pub file_made_slotted : AreSlotted v.geometry (λ a. ⊥) v.contents → AreSlotted v.geometry (λ a. ⊥) (make_file v n).volume.contents
   file_made_slotted old = come_slotted g v.contents after n q (λ _. ⊥) in_use.volume may old (λ d is. absurd (cc is))

@@ -9,6 +9,8 @@ use Rattle.std.proofs.lemmas.List.Sums.{sum_by-cons}
 use Rattle.minix_layout.specs.declared.division.Geometry.{Geometry}
 use Rattle.minix_layout.specs.Geometry.{IsSound}
 use Rattle.inode_ops.specs.Map.{zone_at}
+use Rattle.minix_layout.specs.Widths.{slot_size, slots_a_block}
+use Rattle.minix_layout.specs.laws.Places.{form_is}
 use Rattle.tree_model.specs.declared.node.Node.{Node}
 use Rattle.tree_model.specs.declared.node.Node.TheVariants as nodes
 use Rattle.tree_model.specs.Maps.{at_number, at_name}
@@ -25,7 +27,8 @@ use Rattle.volume_model.specs.Volume.{Place, block, indirect, double, inner, zon
 use Rattle.volume_model.specs.Ways.{OnWay}
 use Rattle.volume_steps.specs.Now.{VolumeNow, tree_of_now}
 use Rattle.volume_steps.specs.Plain.{IsPlainNow, IsInUse}
-use Rattle.volume_steps.proofs.TreeSteps.{tree_back}
+use Rattle.volume_steps.proofs.NewDirectories.{first_block}
+use Rattle.volume_steps.proofs.TreeSteps.{new_zones, tree_back}
 use Rattle.volume_steps.specs.NewNow.{new_now}
 
 -- ---- the states of zones
@@ -92,7 +95,7 @@ module _ (g : Geometry) (sound : IsSound g) (plain : IsPlainContents g (new_volu
   first_is = refl
 
   mapped : (index : ℕ) → own (block index) ≢ 0 → index ≡ 0
-  mapped index some = (let less = (plain.slot_zones 0 (root_placed g) _ refl refl).no_more index some in omega arith)
+  mapped index some = first_block (slot_size g.width) (slots_a_block g.width) (form_is g.width) index ((plain.slot_zones 0 (root_placed g) _ refl refl).no_more index some)
 
   zone_is : (x : Place) → own x ≢ 0 → own x ≡ g.first
   zone_is x some = (let j = plain.volume.1 0 (root_placed g) refl x some in by x (mapped j.0 j.1) j.2)
@@ -151,7 +154,7 @@ module _ (g : Geometry) (sound : IsSound g) (plain : IsPlainContents g (new_volu
 
   one_tree : used_zones (tree_of_now v) ≡ 1
   unfolding used_zones tree_now
-  one_tree = refl
+  one_tree = ap (λ n. 0 + n) (new_zones g.width 0)
 
   no_name : (parent : ℕ) (name : List ℕ) (birth : ℕ) → HasEntry (tree_of_now v) parent name birth → ⊥
   no_name parent name birth gives =

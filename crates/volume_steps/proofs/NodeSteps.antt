@@ -40,11 +40,11 @@ pub record IsSettled (v : Contents) : Type 0 where
   pub few_links : (birth : ℕ) (p : Placed) → at_number v.nodes birth ≡ Some p → p.inode.links ≤ 250
 
 -- directories have the zones that their slots need, but for some that are just changing
-abbrev pub AreSlotted : (ℕ → Type 0) → Contents → Type 0
-AreSlotted But v = (birth : ℕ) (p : Placed) (d : DirectoryPart) → at_number v.nodes birth ≡ Some p → p.part ≡ parts.Directory d → (But birth → ⊥) → HasSlotZones v.blocks p.inode (length d.slots)
+abbrev pub AreSlotted : Geometry → (ℕ → Type 0) → Contents → Type 0
+AreSlotted g But v = (birth : ℕ) (p : Placed) (d : DirectoryPart) → at_number v.nodes birth ≡ Some p → p.part ≡ parts.Directory d → (But birth → ⊥) → HasSlotZones g v.blocks p.inode (length d.slots)
 
-pub zones_settled : (blocks after : List (List ℕ)) (i j : Inode) (slots : ℕ) → ((x : Place) → zone_in after j x ≡ zone_in blocks i x) → HasSlotZones blocks i slots → HasSlotZones after j slots
-zones_settled blocks after i j slots same h = record {
+pub zones_settled : (g : Geometry) (blocks after : List (List ℕ)) (i j : Inode) (slots : ℕ) → ((x : Place) → zone_in after j x ≡ zone_in blocks i x) → HasSlotZones g blocks i slots → HasSlotZones g after j slots
+zones_settled g blocks after i j slots same h = record {
   few = h.few;
   no_hole = λ index low none. h.no_hole index low (sym (same (block index)) ∙ none);
   no_more = λ index some. h.no_more index (λ none. some (same (block index) ∙ none));
@@ -209,16 +209,16 @@ module _ (g : Geometry) (sound : IsSound g) (v : Contents) (n : ℕ) (p : Placed
       ];
     }
 
-    pub closed_slotted : AreSlotted (λ a. a ≡ n) v → ((d : DirectoryPart) → part ≡ parts.Directory d → HasSlotZones u.blocks u.inode (length d.slots)) → AreSlotted (λ a. ⊥) after
+    pub closed_slotted : AreSlotted g (λ a. a ≡ n) v → ((d : DirectoryPart) → part ≡ parts.Directory d → HasSlotZones g u.blocks u.inode (length d.slots)) → AreSlotted g (λ a. ⊥) after
     closed_slotted old new_zones a r d found is none = elim (cases a r found) [
-      | other apart was ↦ zones_settled v.blocks after.blocks r.inode r.inode (length d.slots) (theirs a r was apart) (old a r d was is apart)
-      | changed e same ↦ subst (λ (r : Placed). HasSlotZones after.blocks r.inode (length d.slots)) same
-          (zones_settled u.blocks after.blocks u.inode u.inode (length d.slots) mine (new_zones d (ap (λ (r : Placed). r.part) same ∙ is)))
+      | other apart was ↦ zones_settled g v.blocks after.blocks r.inode r.inode (length d.slots) (theirs a r was apart) (old a r d was is apart)
+      | changed e same ↦ subst (λ (r : Placed). HasSlotZones g after.blocks r.inode (length d.slots)) same
+          (zones_settled g u.blocks after.blocks u.inode u.inode (length d.slots) mine (new_zones d (ap (λ (r : Placed). r.part) same ∙ is)))
     ]
 
-    pub closed_slotted_but : AreSlotted (λ a. a ≡ n) v → AreSlotted (λ a. a ≡ n) after
+    pub closed_slotted_but : AreSlotted g (λ a. a ≡ n) v → AreSlotted g (λ a. a ≡ n) after
     closed_slotted_but old a r d found is apart = elim (cases a r found) [
-      | other _ was ↦ zones_settled v.blocks after.blocks r.inode r.inode (length d.slots) (theirs a r was apart) (old a r d was is apart)
+      | other _ was ↦ zones_settled g v.blocks after.blocks r.inode r.inode (length d.slots) (theirs a r was apart) (old a r d was is apart)
       | changed e same ↦ absurd (apart e)
     ]
 

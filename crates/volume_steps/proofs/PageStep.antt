@@ -90,7 +90,7 @@ module _ (tx : ℕ) (v : VolumeNow) (h : IsInUse v) (n : ℕ) (p : Placed) (zone
   change = changes_zone g blocks (put_body zone content) h.sound h.volume.0.whole h.volume.0.size range.0 range.1 size
 
   part : IsFilePart blocks p.inode zones
-  part = subst (IsPart blocks p.inode) is (h.volume.0.each n p at).part
+  part = subst (IsPart v.geometry blocks p.inode) is (h.volume.0.each n p at).part
 
   -- a zone of another place keeps its bytes
   elsewhere : (a : ℕ) (r : Placed) (x : Place) → at_number v.contents.nodes a ≡ Some r → zone_in blocks r.inode x ≢ 0 → ((a ≡ n) → (x ≡ block index) → ⊥) → disk_of after (zone_in blocks r.inode x) ≡ disk_of blocks (zone_in blocks r.inode x)
@@ -118,7 +118,7 @@ module _ (tx : ℕ) (v : VolumeNow) (h : IsInUse v) (n : ℕ) (p : Placed) (zone
         fits = told.fits;
         inode = change.inodes p.number told.some told.within (λ z. z) ∙ told.inode;
         zones = λ x there. subst (λ z. (g.first ≤ z) × (z < g.zones)) (sym (same_zone n p at x)) (told.zones x (λ none. there (same_zone n p at x ∙ none)));
-        part = subst (IsPart after p.inode) (sym is) written_part;
+        part = subst (IsPart v.geometry after p.inode) (sym is) written_part;
       }
 
   each : (a : ℕ) (r : Placed) → at_number v.contents.nodes a ≡ Some r → IsStored g after r
@@ -223,7 +223,7 @@ module _ (tx : ℕ) (v : VolumeNow) (h : IsInUse v) (n : ℕ) (p : Placed) (zone
 
   others_same : (a : ℕ) (r : Placed) → at_number v.contents.nodes a ≡ Some r → a ≢ n → node_now after r ≡ node_now blocks r
   others_same a r found apart = node_kept blocks after r (λ zs m file i.
-      let told = (subst (IsPart blocks r.inode) file (h.volume.0.each a r found).part).listed m i in
+      let told = (subst (IsPart v.geometry blocks r.inode) file (h.volume.0.each a r found).part).listed m i in
       subst (λ z. disk_of after z ≡ disk_of blocks z) told.0 (elsewhere a r (block m.index) found (λ none. told.1 (sym told.0 ∙ none)) (λ e f. apart e)))
 
   bodies : bodies_of after zones ≡ put_number (bodies_of blocks zones) index content
@@ -272,7 +272,7 @@ module _ (tx : ℕ) (v : VolumeNow) (h : IsInUse v) (n : ℕ) (p : Placed) (zone
       waited = λ z freed_by none waits. waits;
     };
     settled = λ old. record { root_number = old.root_number; sizes = old.sizes; dots = old.dots; few_links = old.few_links };
-    slotted = λ old a r d found file none. zones_settled blocks after r.inode r.inode (length d.slots) (same_zone a r found) (old a r d found file none);
+    slotted = λ old a r d found file none. zones_settled v.geometry blocks after r.inode r.inode (length d.slots) (same_zone a r found) (old a r d found file none);
     tree = tree;
     waiting = (omega arith);
     directories = λ a r d found file. found;

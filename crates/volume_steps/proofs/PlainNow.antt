@@ -49,11 +49,11 @@ HasDirectoryLinks v = (birth : ℕ) (p : Placed) (d : DirectoryPart) → at_numb
 pub settled_before : (v : VolumeNow) → IsPlainNow v → IsSettled v.contents
 settled_before v h = record { root_number = h.plain.root_number; sizes = h.plain.sizes; dots = h.plain.dots; few_links = h.plain.few_links }
 
-pub slotted_before : (v : VolumeNow) → IsPlainNow v → AreSlotted (λ a. ⊥) v.contents
+pub slotted_before : (v : VolumeNow) → IsPlainNow v → AreSlotted v.geometry (λ a. ⊥) v.contents
 slotted_before v h birth p d at is none = h.plain.slot_zones birth p d at is
 
 -- A volume in use is plain where its tree is, and what the tree does not say holds.
-pub plain_now : (v : VolumeNow) → IsInUse v → IsPlain (tree_of_now v) → IsSettled v.contents → AreSlotted (λ a. ⊥) v.contents → HasDirectoryLinks v → IsPlainNow v
+pub plain_now : (v : VolumeNow) → IsInUse v → IsPlain (tree_of_now v) → IsSettled v.contents → AreSlotted v.geometry (λ a. ⊥) v.contents → HasDirectoryLinks v → IsPlainNow v
 plain_now v h tree settled slotted links = record {
   in_use = h;
   plain = record {
@@ -67,7 +67,7 @@ plain_now v h tree settled slotted links = record {
     slot_zones = λ birth p d at is. slotted birth p d at is (λ z. z);
     directory_links_are = links;
     file_links_are = λ birth p zones at is.
-        let part = subst (IsPart v.contents.blocks p.inode) is (h.volume.0.each birth p at).part in
+        let part = subst (IsPart v.geometry v.contents.blocks p.inode) is (h.volume.0.each birth p at).part in
         tree.links birth (record { size = p.inode.size; links = p.inode.links; blocks = bodies_of v.contents.blocks zones })
         (tree_at v.contents.blocks v.contents.nodes birth p at ∙ ap Some (node_is_file v.contents.blocks p zones is part.rising));
     few_links = settled.few_links;

@@ -97,13 +97,14 @@ linked_zone blocks i links indirect = refl
 linked_zone blocks i links double = refl
 linked_zone blocks i links (inner k) = refl
 
-linked_part : (blocks : List (List ℕ)) (i : Inode) (links : ℕ) (part : Part) → IsPart blocks i part → IsPart blocks (with_links i links) part
-linked_part blocks i links (parts.Directory d) h = record {
+linked_part : (g : Geometry) (blocks : List (List ℕ)) (i : Inode) (links : ℕ) (part : Part) → IsPart g blocks i part → IsPart g blocks (with_links i links) part
+linked_part g blocks i links (parts.Directory d) h = record {
   kind = h.kind;
+  width = h.width;
   size = h.size;
   slots = λ k s at. (let old = h.slots k s at in record { mapped = old.mapped; stands = old.stands });
 }
-linked_part blocks i links (parts.File zones) h = record { kind = h.kind; listed = h.listed; full = h.full; rising = h.rising }
+linked_part g blocks i links (parts.File zones) h = record { kind = h.kind; listed = h.listed; full = h.full; rising = h.rising }
 
 module _ (tx : ℕ) (v : VolumeNow) (in_use : IsInUse v) (n : ℕ) (p : Placed) (at : at_number v.contents.nodes n ≡ Some p) (links : ℕ) (few : links ≤ 250) where
   abbrev g : Geometry
@@ -116,13 +117,13 @@ module _ (tx : ℕ) (v : VolumeNow) (in_use : IsInUse v) (n : ℕ) (p : Placed) 
   fit = (let f = (in_use.volume.0.each n p at).fits in record { mode = f.mode; uid = f.uid; size = f.size; time = f.time; gid = f.gid; links = omega arith; nine = f.nine; zones = f.zones })
 
   abbrev may : MayMove g in_use.sound v.contents.blocks v.contents.nodes n p in_use.volume.0 at u p.part (λ _. ⊥)
-  may = same_move v in_use n p at (with_links p.inode links) (linked_zone v.contents.blocks p.inode links) fit (linked_part v.contents.blocks p.inode links p.part (in_use.volume.0.each n p at).part)
+  may = same_move v in_use n p at (with_links p.inode links) (linked_zone v.contents.blocks p.inode links) fit (linked_part g v.contents.blocks p.inode links p.part (in_use.volume.0.each n p at).part)
 
   abbrev grow : MayGrow g in_use.sound v.contents n p in_use.volume at u p.part (λ _. ⊥) may (back_told g p (with_links p.inode links)) []
-  grow = same_grow v in_use n p at (with_links p.inode links) (linked_zone v.contents.blocks p.inode links) fit (linked_part v.contents.blocks p.inode links p.part (in_use.volume.0.each n p at).part)
+  grow = same_grow v in_use n p at (with_links p.inode links) (linked_zone v.contents.blocks p.inode links) fit (linked_part g v.contents.blocks p.inode links p.part (in_use.volume.0.each n p at).part)
 
   stands : IsVolume g (closed g v.contents n p u p.part)
-  stands = same_stands v in_use n p at (with_links p.inode links) (linked_zone v.contents.blocks p.inode links) fit (linked_part v.contents.blocks p.inode links p.part (in_use.volume.0.each n p at).part)
+  stands = same_stands v in_use n p at (with_links p.inode links) (linked_zone v.contents.blocks p.inode links) fit (linked_part g v.contents.blocks p.inode links p.part (in_use.volume.0.each n p at).part)
 
   -- the node has so many links
   abbrev pub linked : Change
@@ -170,10 +171,10 @@ module _ (tx : ℕ) (v : VolumeNow) (in_use : IsInUse v) (n : ℕ) (p : Placed) 
         few_links = few;
       }) old
 
-  pub linked_slotted : AreSlotted (λ a. ⊥) v.contents → AreSlotted (λ a. ⊥) linked.volume.contents
+  pub linked_slotted : AreSlotted v.geometry (λ a. ⊥) v.contents → AreSlotted linked.volume.geometry (λ a. ⊥) linked.volume.contents
   linked_slotted old = closed_slotted g in_use.sound v.contents n p in_use.volume at u p.part (λ _. ⊥) may (back_told g p (with_links p.inode links)) [] grow
       (λ a r d found is apart. old a r d found is (λ z. z))
-      (λ d is. zones_settled v.contents.blocks v.contents.blocks p.inode (with_links p.inode links) (length d.slots) (linked_zone v.contents.blocks p.inode links) (old n p d at is (λ z. z)))
+      (λ d is. zones_settled v.geometry v.contents.blocks v.contents.blocks p.inode (with_links p.inode links) (length d.slots) (linked_zone v.contents.blocks p.inode links) (old n p d at is (λ z. z)))
 
   pub linked_numbers : SameNumbers v.contents.nodes linked.volume.contents.nodes
   linked_numbers = closed_numbers g in_use.sound v.contents n p in_use.volume at u p.part (λ _. ⊥) may (back_told g p (with_links p.inode links)) [] grow

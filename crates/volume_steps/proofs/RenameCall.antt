@@ -40,7 +40,7 @@ use Rattle.volume_steps.proofs.Called.{unchanged_steady}
 use Rattle.volume_steps.proofs.NameGoes.{name_goes, name_goes_is, name_goes_step, name_goes_numbers, kinds_stay}
 use Rattle.volume_steps.proofs.QuietSteps.{at_node_is, linked, linked_steady, linked_directory, linked_file, linked_settled, linked_slotted, linked_numbers, set_links_is}
 use Rattle.volume_steps.proofs.StepsTo.{StepsTo, joined, steps_then, links_at}
-use Rattle.volume_steps.proofs.CallPaths.{DirectoryAt, directory_at, done_row, at_place_is, good_no_dot, good_entry}
+use Rattle.volume_steps.proofs.CallPaths.{at_width, DirectoryAt, directory_at, done_row, at_place_is, good_no_dot, good_entry}
 use Rattle.volume_steps.proofs.DirectoryLinks.{AreLinked, linked_before, weigh}
 use Rattle.volume_steps.proofs.PlainNow.{tree_is_plain}
 use Rattle.volume_steps.proofs.CallEnds.{IsDone, done_plain, call_ends, none_freed}
@@ -115,10 +115,16 @@ module _ (tx : ℕ) (v : VolumeNow) (h : IsPlainNow v) (n : ℕ) (before : AreBo
   good : IsGoodName to.name
   good = good_name (tree_of_now v) other r.more to (some_ok (path_of other) replies.BadPath r.more r.also) (is_to (tree_of_now v) plain path other d r)
 
-  entry : (u : VolumeNow) → IsInUse u → (p : Placed) → at_number u.contents.nodes birth ≡ Some p → IsEntry (record { inode = p.number; name = to.name })
-  entry u live p at =
+  to_short : length to.name ≤ v.geometry.width
+  to_short =
+      let same = at_width v to.parent to.directory h.in_use (directory_at v to.parent to.directory to_stands) in
+      let short = (is_to (tree_of_now v) plain path other d r).short in
+      omega arith
+
+  entry : (u : VolumeNow) → IsInUse u → length to.name ≤ u.geometry.width → (p : Placed) → at_number u.contents.nodes birth ≡ Some p → IsEntry u.geometry.width (record { inode = p.number; name = to.name })
+  entry u live short p at =
       let told = live.volume.0.each birth p at in
-      good_entry to.name p.number good told.some (let within = told.within in let fit = live.sound.fits.inodes in omega arith)
+      good_entry u.geometry.width to.name p.number live.sound.width good short told.some (let within = told.within in let fit = live.sound.fits.inodes in omega arith)
 
   -- ---- the old name goes
 
@@ -151,12 +157,12 @@ module _ (tx : ℕ) (v : VolumeNow) (h : IsPlainNow v) (n : ℕ) (before : AreBo
   module _ (u : VolumeNow) (t : Tree) (tree_is : tree_of_now u ≡ t) (live : IsInUse u) (order : InOrder t) (used : used_zones t ≡ used_zones (tree_of_now v)) (zones : frees u.zones ≡ frees v.zones)
       (there : at_number t to.parent ≡ Some (nodes.Directory after.directory)) (final : put_number t to.parent (nodes.Directory (with_name after.directory to.name birth)) ≡ d.tree)
       (x : DirectoryAt u to.parent after.directory) where
-    fits : directory_zones (slots_with (directory_from x.part) to.name) ≤ directory_zones (length x.part.slots) + frees u.zones
-    fits = by (used_zones (tree_of_now v)) (used_zones t) (used_zones d.tree) (directory_zones after.directory.slots) (directory_zones (slots_with after.directory to.name)) (frees v.zones)
-        (directory_zones (length x.part.slots)) (directory_zones (slots_with (directory_from x.part) to.name)) (frees u.zones) used
-        (subst (λ tree. used_zones tree + directory_zones after.directory.slots ≡ used_zones t + directory_zones (slots_with after.directory to.name)) final
+    fits : directory_zones x.part.width (slots_with (directory_from x.part) to.name) ≤ directory_zones x.part.width (length x.part.slots) + frees u.zones
+    fits = by (used_zones (tree_of_now v)) (used_zones t) (used_zones d.tree) (directory_zones after.directory.width after.directory.slots) (directory_zones after.directory.width (slots_with after.directory to.name)) (frees v.zones)
+        (directory_zones x.part.width (length x.part.slots)) (directory_zones x.part.width (slots_with (directory_from x.part) to.name)) (frees u.zones) used
+        (subst (λ tree. used_zones tree + directory_zones after.directory.width after.directory.slots ≡ used_zones t + directory_zones after.directory.width (slots_with after.directory to.name)) final
         (used_put_more t to.parent (nodes.Directory after.directory) (nodes.Directory (with_name after.directory to.name birth)) order there))
-        enough (ap (λ (d : Directory). directory_zones d.slots) x.same) (ap (λ (d : Directory). directory_zones (slots_with d to.name)) x.same) zones
+        enough (ap (λ (d : Directory). directory_zones d.width d.slots) x.same) (ap (λ (d : Directory). directory_zones d.width (slots_with d to.name)) x.same) zones
       where
         by : (a b c k l z i j y : ℕ) → b ≡ a → c + k ≡ b + l → c - a ≤ z → i ≡ k → j ≡ l → y ≡ z → j ≤ i + y
         by a b c k l z i j y e f g o p q = omega arith
@@ -197,7 +203,7 @@ module _ (tx : ℕ) (v : VolumeNow) (h : IsPlainNow v) (n : ℕ) (before : AreBo
     left1 : is_full (directory_from x1.part) ≡ false
     left1 = ap is_full x1.same ∙ left_now none
 
-    more1 : directory_zones (slots_with (directory_from x1.part) to.name) ≤ directory_zones (length x1.part.slots) + frees v1.zones
+    more1 : directory_zones x1.part.width (slots_with (directory_from x1.part) to.name) ≤ directory_zones x1.part.width (length x1.part.slots) + frees v1.zones
     more1 = fits v1 taken_tree first.tree_is first.steady.in_use (order_taken (tree_of_now v) plain path other d r) used_taken refl there1 final x1
 
     abbrev named : Change
@@ -205,11 +211,11 @@ module _ (tx : ℕ) (v : VolumeNow) (h : IsPlainNow v) (n : ℕ) (before : AreBo
 
     second : StepsTo tx v1 named (put_number (tree_of_now v1) to.parent (nodes.Directory (with_name (directory_from x1.part) to.name birth))) (links_at v1.contents.nodes)
     second = name_comes tx v1 first.steady.in_use to.parent x1.placed x1.stands x1.part x1.is to.name birth c1.0 c1.1 far_to free1 (good_no_dot to.name good)
-        (entry v1 first.steady.in_use c1.0 c1.1) first.settled first.slotted left1 more1
+        (entry v1 first.steady.in_use to_short c1.0 c1.1) first.settled first.slotted left1 more1
 
     names_free : (zone : ℕ) → In zone named.touched.freed → ⊥
     names_free = name_frees tx v1 first.steady.in_use to.parent x1.placed x1.stands x1.part x1.is to.name birth c1.0 c1.1 far_to free1 (good_no_dot to.name good)
-        (entry v1 first.steady.in_use c1.0 c1.1) first.settled first.slotted left1 more1
+        (entry v1 first.steady.in_use to_short c1.0 c1.1) first.settled first.slotted left1 more1
 
     whole : StepsTo tx v (joined less named) d.tree (links_at v1.contents.nodes)
     whole = subst (λ tree. StepsTo tx v (joined less named) tree (links_at v1.contents.nodes))
@@ -262,7 +268,7 @@ module _ (tx : ℕ) (v : VolumeNow) (h : IsPlainNow v) (n : ℕ) (before : AreBo
 
   module _ (not_same : stays m ≡ false) (none : m.target ≡ None) (unnamed : at_name to.directory.names to.name ≡ None) (e : Directory) (is : r.found.node ≡ nodes.Directory e) (away : to.parent ≢ from.parent) where
     abbrev mid : Tree
-    mid = put_number taken_tree birth (nodes.Directory (record { parent = to.parent; slots = e.slots; names = e.names }))
+    mid = put_number taken_tree birth (nodes.Directory (record { parent = to.parent; width = e.width; slots = e.slots; names = e.names }))
 
     final_below : named_tree (tree_of_now v) plain path other d r mid ≡ d.tree
     final_below = moves_below (tree_of_now v) plain path other d r not_same none e is
@@ -312,16 +318,16 @@ module _ (tx : ℕ) (v : VolumeNow) (h : IsPlainNow v) (n : ℕ) (before : AreBo
     abbrev v3 : VolumeNow
     v3 = turned.volume
 
-    below3 : StepsTo tx v2 turned (put_number (tree_of_now v2) birth (nodes.Directory (record { parent = to.parent; slots = length z2.part.slots; names = z2.part.names }))) (links_at v2.contents.nodes)
+    below3 : StepsTo tx v2 turned (put_number (tree_of_now v2) birth (nodes.Directory (record { parent = to.parent; width = z2.part.width; slots = length z2.part.slots; names = z2.part.names }))) (links_at v2.contents.nodes)
     below3 = parent_is_set tx v2 below2.steady.in_use below2.settled below2.slotted birth z2.placed z2.stands z2.part z2.is to.parent q2.placed q2.stands
 
     tree3 : tree_of_now v3 ≡ mid
     tree3 = below3.tree_is
-        ∙ (ap (λ tree. put_number tree birth (nodes.Directory (record { parent = to.parent; slots = length z2.part.slots; names = z2.part.names }))) tree2
-        ∙ ap (λ (d : Directory). put_number taken_tree birth (nodes.Directory (record { parent = to.parent; slots = d.slots; names = d.names }))) z2.same)
+        ∙ (ap (λ tree. put_number tree birth (nodes.Directory (record { parent = to.parent; width = z2.part.width; slots = length z2.part.slots; names = z2.part.names }))) tree2
+        ∙ ap (λ (d : Directory). put_number taken_tree birth (nodes.Directory (record { parent = to.parent; width = d.width; slots = d.slots; names = d.names }))) z2.same)
 
     mid_to : at_number mid to.parent ≡ Some (nodes.Directory after.directory)
-    mid_to = at_put_number_apart taken_tree birth (nodes.Directory (record { parent = to.parent; slots = e.slots; names = e.names })) to.parent (λ f. far_to (sym f)) ∙ to_taken (tree_of_now v) plain path other d r
+    mid_to = at_put_number_apart taken_tree birth (nodes.Directory (record { parent = to.parent; width = e.width; slots = e.slots; names = e.names })) to.parent (λ f. far_to (sym f)) ∙ to_taken (tree_of_now v) plain path other d r
 
     -- the new parent has one link more
     x3 : DirectoryAt v3 to.parent after.directory
@@ -364,8 +370,8 @@ module _ (tx : ℕ) (v : VolumeNow) (h : IsPlainNow v) (n : ℕ) (before : AreBo
     x4 = directory_at v4 to.parent after.directory (ap (λ tree. at_number tree to.parent) tree4 ∙ mid_to)
 
     c4 : (p : Placed) × (at_number v4.contents.nodes birth ≡ Some p)
-    c4 = node_at v4 birth (nodes.Directory (record { parent = to.parent; slots = e.slots; names = e.names }))
-        (ap (λ tree. at_number tree birth) tree4 ∙ at_put_number taken_tree birth (nodes.Directory (record { parent = to.parent; slots = e.slots; names = e.names })))
+    c4 = node_at v4 birth (nodes.Directory (record { parent = to.parent; width = e.width; slots = e.slots; names = e.names }))
+        (ap (λ tree. at_number tree birth) tree4 ∙ at_put_number taken_tree birth (nodes.Directory (record { parent = to.parent; width = e.width; slots = e.slots; names = e.names })))
 
     free4 : at_name x4.part.names to.name ≡ None
     free4 = ap (λ (d : Directory). at_name d.names to.name) x4.same ∙ still_free (tree_of_now v) plain path other d r unnamed
@@ -374,12 +380,12 @@ module _ (tx : ℕ) (v : VolumeNow) (h : IsPlainNow v) (n : ℕ) (before : AreBo
     left4 = ap is_full x4.same ∙ left_now none
 
     used_mid : used_zones mid ≡ used_zones (tree_of_now v)
-    used_mid = used_put_same taken_tree birth (nodes.Directory e) (nodes.Directory (record { parent = to.parent; slots = e.slots; names = e.names })) (order_taken (tree_of_now v) plain path other d r) dir_taken refl ∙ used_taken
+    used_mid = used_put_same taken_tree birth (nodes.Directory e) (nodes.Directory (record { parent = to.parent; width = e.width; slots = e.slots; names = e.names })) (order_taken (tree_of_now v) plain path other d r) dir_taken refl ∙ used_taken
 
     order_mid : InOrder mid
-    order_mid = in_order_put taken_tree birth (nodes.Directory (record { parent = to.parent; slots = e.slots; names = e.names })) (order_taken (tree_of_now v) plain path other d r)
+    order_mid = in_order_put taken_tree birth (nodes.Directory (record { parent = to.parent; width = e.width; slots = e.slots; names = e.names })) (order_taken (tree_of_now v) plain path other d r)
 
-    more4 : directory_zones (slots_with (directory_from x4.part) to.name) ≤ directory_zones (length x4.part.slots) + frees v4.zones
+    more4 : directory_zones x4.part.width (slots_with (directory_from x4.part) to.name) ≤ directory_zones x4.part.width (length x4.part.slots) + frees v4.zones
     more4 = fits v4 mid tree4 below4.steady.in_use order_mid used_mid refl mid_to final_below x4
 
     abbrev named_below : Change
@@ -387,11 +393,11 @@ module _ (tx : ℕ) (v : VolumeNow) (h : IsPlainNow v) (n : ℕ) (before : AreBo
 
     below5 : StepsTo tx v4 named_below (put_number (tree_of_now v4) to.parent (nodes.Directory (with_name (directory_from x4.part) to.name birth))) (links_at v4.contents.nodes)
     below5 = name_comes tx v4 below4.steady.in_use to.parent x4.placed x4.stands x4.part x4.is to.name birth c4.0 c4.1 far_to free4 (good_no_dot to.name good)
-        (entry v4 below4.steady.in_use c4.0 c4.1) below4.settled below4.slotted left4 more4
+        (entry v4 below4.steady.in_use to_short c4.0 c4.1) below4.settled below4.slotted left4 more4
 
     below_free : (zone : ℕ) → In zone named_below.touched.freed → ⊥
     below_free = name_frees tx v4 below4.steady.in_use to.parent x4.placed x4.stands x4.part x4.is to.name birth c4.0 c4.1 far_to free4 (good_no_dot to.name good)
-        (entry v4 below4.steady.in_use c4.0 c4.1) below4.settled below4.slotted left4 more4
+        (entry v4 below4.steady.in_use to_short c4.0 c4.1) below4.settled below4.slotted left4 more4
 
     whole_below : StepsTo tx v (joined less (joined fewer (joined turned (joined grown named_below)))) d.tree (links_at v4.contents.nodes)
     whole_below = subst (λ tree. StepsTo tx v (joined less (joined fewer (joined turned (joined grown named_below)))) tree (links_at v4.contents.nodes))
@@ -414,7 +420,7 @@ module _ (tx : ℕ) (v : VolumeNow) (h : IsPlainNow v) (n : ℕ) (before : AreBo
     kinds_below : (c : ℕ) → is_directory (at_number below_tree c) ≡ is_directory (at_number (tree_of_now v) c)
     kinds_below c = at_put_cases (λ o. is_directory o ≡ is_directory (at_number (tree_of_now v) c)) mid to.parent (nodes.Directory (with_name after.directory to.name birth)) c
         (λ f. sym (ap (λ c. is_directory (at_number (tree_of_now v) c)) f ∙ ap is_directory to_stands))
-        (λ far. at_put_cases (λ o. is_directory o ≡ is_directory (at_number (tree_of_now v) c)) taken_tree birth (nodes.Directory (record { parent = to.parent; slots = e.slots; names = e.names })) c
+        (λ far. at_put_cases (λ o. is_directory o ≡ is_directory (at_number (tree_of_now v) c)) taken_tree birth (nodes.Directory (record { parent = to.parent; width = e.width; slots = e.slots; names = e.names })) c
         (λ f. sym (ap (λ c. is_directory (at_number (tree_of_now v) c)) f ∙ ap is_directory dir_stands)) (λ off. kind1 c))
 
     heavy : weigh (tree_of_now v) birth ≡ 1
@@ -445,7 +451,7 @@ module _ (tx : ℕ) (v : VolumeNow) (h : IsPlainNow v) (n : ℕ) (before : AreBo
         (rename_linked (tree_of_now v) plain path other d r below_tree kinds_below
         (λ a f found. at_put_cases (λ o. o ≡ Some (nodes.Directory f) → Stood (tree_of_now v) plain path other d r below_tree a f) mid to.parent (nodes.Directory (with_name after.directory to.name birth)) a
         (λ at is. new at (directory_same _ f is))
-        (λ far. at_put_cases (λ o. o ≡ Some (nodes.Directory f) → Stood (tree_of_now v) plain path other d r below_tree a f) taken_tree birth (nodes.Directory (record { parent = to.parent; slots = e.slots; names = e.names })) a
+        (λ far. at_put_cases (λ o. o ≡ Some (nodes.Directory f) → Stood (tree_of_now v) plain path other d r below_tree a f) taken_tree birth (nodes.Directory (record { parent = to.parent; width = e.width; slots = e.slots; names = e.names })) a
         (λ at is. same far (λ f. far_from (sym at ∙ f)) e (ap (at_number (tree_of_now v)) at ∙ dir_stands) (ap (λ (d : Directory). d.names) (directory_same _ f is)))
         (λ off is. stood_taken (tree_of_now v) plain path other d r a f far is below_tree)) found)
         (ap (λ o. unwrap_or (option_map (weigh below_tree) o) 0) (still_free (tree_of_now v) plain path other d r unnamed))
@@ -519,16 +525,16 @@ module _ (tx : ℕ) (v : VolumeNow) (h : IsPlainNow v) (n : ℕ) (before : AreBo
 
     -- the name leads to the file
     abbrev led : Change
-    led = name_led tx v1 first.steady.in_use first.settled first.slotted to.parent m1.placed m1.stands m1.part m1.is to.name t.birth found1 sorted1 birth moved1.0 moved1.1 (entry v1 first.steady.in_use moved1.0 moved1.1)
+    led = name_led tx v1 first.steady.in_use first.settled first.slotted to.parent m1.placed m1.stands m1.part m1.is to.name t.birth found1 sorted1 birth moved1.0 moved1.1 (entry v1 first.steady.in_use to_short moved1.0 moved1.1)
 
     abbrev w2 : VolumeNow
     w2 = led.volume
 
     met2 : StepsTo tx v1 led (put_number (tree_of_now v1) to.parent (nodes.Directory (with_name (directory_from m1.part) to.name birth))) (links_at v1.contents.nodes)
-    met2 = name_is_led tx v1 first.steady.in_use first.settled first.slotted to.parent m1.placed m1.stands m1.part m1.is to.name t.birth found1 sorted1 birth moved1.0 moved1.1 (entry v1 first.steady.in_use moved1.0 moved1.1)
+    met2 = name_is_led tx v1 first.steady.in_use first.settled first.slotted to.parent m1.placed m1.stands m1.part m1.is to.name t.birth found1 sorted1 birth moved1.0 moved1.1 (entry v1 first.steady.in_use to_short moved1.0 moved1.1)
 
     same_led : SameNumbers v1.contents.nodes w2.contents.nodes
-    same_led = led_numbers tx v1 first.steady.in_use first.settled first.slotted to.parent m1.placed m1.stands m1.part m1.is to.name t.birth found1 sorted1 birth moved1.0 moved1.1 (entry v1 first.steady.in_use moved1.0 moved1.1)
+    same_led = led_numbers tx v1 first.steady.in_use first.settled first.slotted to.parent m1.placed m1.stands m1.part m1.is to.name t.birth found1 sorted1 birth moved1.0 moved1.1 (entry v1 first.steady.in_use to_short moved1.0 moved1.1)
 
     tree_met : tree_of_now w2 ≡ met_tree
     tree_met = met2.tree_is
@@ -653,7 +659,7 @@ module _ (tx : ℕ) (v : VolumeNow) (h : IsPlainNow v) (n : ℕ) (before : AreBo
         ]) target
         ∙ (ap (λ c. followed_by c (λ u. followed_by (lead_name u to.parent to.name birth) (λ w. lose_link_step w tx t.birth))) (name_goes_is tx v h from birth from_stands gives)
         ∙ (ap (λ c. joined less (followed_by c (λ w. lose_link_step w tx t.birth)))
-        (lead_name_is tx v1 first.steady.in_use first.settled first.slotted to.parent m1.placed m1.stands m1.part m1.is to.name t.birth found1 sorted1 birth moved1.0 moved1.1 (entry v1 first.steady.in_use moved1.0 moved1.1))
+        (lead_name_is tx v1 first.steady.in_use first.settled first.slotted to.parent m1.placed m1.stands m1.part m1.is to.name t.birth found1 sorted1 birth moved1.0 moved1.1 (entry v1 first.steady.in_use to_short moved1.0 moved1.1))
         ∙ ap (λ c. joined less (joined led c)) (at_node_is w2 t.birth y2.placed (λ p. if nat_le p.inode.links 1 then drop_node w2 tx t.birth else set_links w2 t.birth (λ links. links - 1)) y2.stands)))))
 
     when_kept : nat_le f.links 1 ≡ false → IsDone tx v (rename v tx path other) d.tree

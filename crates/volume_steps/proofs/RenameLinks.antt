@@ -27,9 +27,9 @@ over_names tree (e ∷ es) =
     omega arith
 
 -- a name that is put, whatever it led to
-links_put_any : (u : Tree) (parent slots more : ℕ) (names : List (List ℕ × ℕ)) (name : List ℕ) (birth : ℕ) → NamesInOrder names → unwrap_or (option_map (weigh u) (at_name names name)) 0 ≡ 0 →
-    directory_links u (record { parent = parent; slots = more; names = put_name names name birth }) ≡ directory_links u (record { parent = parent; slots = slots; names = names }) + weigh u birth
-links_put_any u parent slots more names name birth sorted light =
+links_put_any : (u : Tree) (parent width slots more : ℕ) (names : List (List ℕ × ℕ)) (name : List ℕ) (birth : ℕ) → NamesInOrder names → unwrap_or (option_map (weigh u) (at_name names name)) 0 ≡ 0 →
+    directory_links u (record { parent = parent; width = width; slots = more; names = put_name names name birth }) ≡ directory_links u (record { parent = parent; width = width; slots = slots; names = names }) + weigh u birth
+links_put_any u parent width slots more names name birth sorted light =
     let sums = sum_by-insert_entry (weigh u) nat_list_cmp_total names name birth sorted in
     let one = over_names u (put_name names name birth) in
     let two = over_names u names in
@@ -89,10 +89,10 @@ module _ (tree : Tree) (plain : IsPlain tree) (path other : List ℕ) (d : Done)
     links_kept e = links_same tree final e (λ e i. kinds e.1)
 
     given : directory_links final (with_name after_directory new_name b) ≡ directory_links final after_directory + weigh final b
-    given = links_put_any final after_directory.parent after_directory.slots (slots_with after_directory new_name) after_directory.names new_name b (after_sorted tree plain path other d r) light
+    given = links_put_any final after_directory.parent after_directory.width after_directory.slots (slots_with after_directory new_name) after_directory.names new_name b (after_sorted tree plain path other d r) light
 
     less : directory_links final (without_name old_directory old_name) + weigh final b ≡ directory_links final old_directory
-    less = links_take_name final old_directory.parent old_directory.slots old_directory.names old_name b (from_named tree plain path other d r)
+    less = links_take_name final old_directory.parent old_directory.width old_directory.slots old_directory.names old_name b (from_named tree plain path other d r)
 
     -- the new parent
     here : (x : Bool) → (t == f) ≡ x → directory_links final (if not x then new_directory else without_name new_directory old_name) + weigh final b ≡ directory_links final (with_name after_directory new_name b) →

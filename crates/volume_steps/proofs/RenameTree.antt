@@ -282,7 +282,7 @@ module _ (tree : Tree) (plain : IsPlain tree) (path other : List ℕ) (d : Done)
     where
       by : What → node ≡ moved_node T.parent node
       by (a_fil f is) = is ∙ ap (moved_node T.parent) (sym is)
-      by (a_dir e is up) = is ∙ ((let same : e.parent ≡ T.parent = up ∙ sym parents in λ i. nodes.Directory (record { parent = same i; slots = e.slots; names = e.names })) ∙ ap (moved_node T.parent) (sym is))
+      by (a_dir e is up) = is ∙ ((let same : e.parent ≡ T.parent = up ∙ sym parents in λ i. nodes.Directory (record { parent = same i; width = e.width; slots = e.slots; names = e.names })) ∙ ap (moved_node T.parent) (sym is))
         where
           parents : T.parent ≡ F.parent
           parents = elim (cases_eq T.parent F.parent) [
@@ -292,7 +292,7 @@ module _ (tree : Tree) (plain : IsPlain tree) (path other : List ℕ) (d : Done)
 
   -- a directory moves to another parent
   pub moves_below : stays m ≡ false → m.target ≡ None → (e : Directory) → node ≡ nodes.Directory e →
-      named_tree (put_number Taken B (nodes.Directory (record { parent = T.parent; slots = e.slots; names = e.names }))) ≡ d.tree
+      named_tree (put_number Taken B (nodes.Directory (record { parent = T.parent; width = e.width; slots = e.slots; names = e.names }))) ≡ d.tree
   moves_below not_same none e is =
       sym (r.tree_is ∙ (ap (λ (b : Bool). if b then tree else tree_moved tree m) not_same
       ∙ (ap (λ o. give_name (put_number (without_target Taken o) B (moved_node T.parent node)) A B) none

@@ -36,7 +36,7 @@ module _ (tree : Tree) (plain : IsPlain tree) (path other : List ℕ) (d : Done)
 
   -- with the new name, as many more as the slots need
   used_named : (t : Tree) → InOrder t → at_number t to.parent ≡ Some (nodes.Directory after) →
-      used_zones (named_tree tree plain path other d r t) + directory_zones after.slots ≡ used_zones t + directory_zones (slots_with after to.name)
+      used_zones (named_tree tree plain path other d r t) + directory_zones after.width after.slots ≡ used_zones t + directory_zones after.width (slots_with after to.name)
   used_named t order there = used_put_more t to.parent (nodes.Directory after) (nodes.Directory (with_name after to.name (B tree plain path other d r))) order there
 
   lost_less : (t : Tree) (birth : ℕ) (f : File) → InOrder t → at_number t birth ≡ Some (nodes.File f) → used_zones (lose_link t birth f) ≤ used_zones t
@@ -48,7 +48,7 @@ module _ (tree : Tree) (plain : IsPlain tree) (path other : List ℕ) (d : Done)
 
   -- So many are taken: none where a node stands there, or in one directory, and else what the new name needs.
   pub rename_takes : (zones : ℕ) → (stays move ≡ true → zones ≡ 0) → ((t : Found) → move.target ≡ Some t → zones ≡ 0) →
-      (move.target ≡ None → directory_zones after.slots + zones ≡ directory_zones (slots_with after to.name)) → zones ≡ used_zones d.tree - used_zones tree
+      (move.target ≡ None → directory_zones after.width after.slots + zones ≡ directory_zones after.width (slots_with after to.name)) → zones ≡ used_zones d.tree - used_zones tree
   rename_takes zones quiet onto free = elim (cases_Bool (stays move)) [
     | inl e ↦ quiet e ∙ none_more (r.tree_is ∙ ap (λ (b : Bool). if b then tree else tree_moved tree move) e)
     | inr f ↦ by f (met tree plain path other d r)
@@ -62,8 +62,8 @@ module _ (tree : Tree) (plain : IsPlain tree) (path other : List ℕ) (d : Done)
 
       counted : (t : Tree) → used_zones t ≡ used_zones tree → InOrder t → at_number t to.parent ≡ Some (nodes.Directory after) → named_tree tree plain path other d r t ≡ d.tree → move.target ≡ None → zones ≡ used_zones d.tree - used_zones tree
       counted t used order there final none =
-          count zones (directory_zones after.slots) (used_zones tree) (used_zones t) (used_zones d.tree) used
-          (subst (λ u. used_zones u + directory_zones after.slots ≡ used_zones t + directory_zones (slots_with after to.name)) final (used_named t order there)
+          count zones (directory_zones after.width after.slots) (used_zones tree) (used_zones t) (used_zones d.tree) used
+          (subst (λ u. used_zones u + directory_zones after.width after.slots ≡ used_zones t + directory_zones after.width (slots_with after to.name)) final (used_named t order there)
           ∙ ap (λ k. used_zones t + k) (sym (free none)))
 
       moving : stays move ≡ false → move.target ≡ None → What tree plain path other d r → zones ≡ used_zones d.tree - used_zones tree
@@ -73,7 +73,7 @@ module _ (tree : Tree) (plain : IsPlain tree) (path other : List ℕ) (d : Done)
         | inl inside ↦ counted taken used_taken (order_taken tree plain path other d r) (to_taken tree plain path other d r)
             (moves_only tree plain path other d r f none (ap (λ x. is_directory (Some x) && not (to.parent == from.parent)) is ∙ ap not (eq-eqb to.parent from.parent inside))) none
         | inr away ↦
-            let x : Directory = record { parent = to.parent; slots = e.slots; names = e.names } in
+            let x : Directory = record { parent = to.parent; width = e.width; slots = e.slots; names = e.names } in
             let there = moved_taken tree plain path other d r ∙ ap Some is in
             counted (put_number taken (B tree plain path other d r) (nodes.Directory x))
             (used_put_same taken (B tree plain path other d r) (nodes.Directory e) (nodes.Directory x) (order_taken tree plain path other d r) there refl ∙ used_taken)
@@ -105,6 +105,6 @@ module _ (tree : Tree) (plain : IsPlain tree) (path other : List ℕ) (d : Done)
               let final = ap used_zones (replaces tree plain path other d r f t g h target is apart moved) in
               let less = lost_less (named_tree tree plain path other d r taken) t.birth g (in_order_put taken to.parent _ (order_taken tree plain path other d r)) met_stands in
               let grown = used_named taken (order_taken tree plain path other d r) (to_taken tree plain path other d r) in
-              let same = ap directory_zones keeps_slots in
+              let same = ap (directory_zones after.width) keeps_slots in
               let used = used_taken in
               omega arith

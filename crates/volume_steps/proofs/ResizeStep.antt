@@ -49,13 +49,13 @@ module _ (tx : ℕ) (v : VolumeNow) (in_use : IsInUse v) (n : ℕ) (p : Placed) 
   u = record { blocks = v.contents.blocks; inode = with_size p.inode size }
 
   part : IsFilePart v.contents.blocks p.inode zones
-  part = subst (IsPart v.contents.blocks p.inode) is (in_use.volume.0.each n p at).part
+  part = subst (IsPart v.geometry v.contents.blocks p.inode) is (in_use.volume.0.each n p at).part
 
   fit : FitInode (with_size p.inode size)
   fit = (let f = (in_use.volume.0.each n p at).fits in record { mode = f.mode; uid = f.uid; size = omega arith; time = f.time; gid = f.gid; links = f.links; nine = f.nine; zones = f.zones })
 
-  sized_part : IsPart v.contents.blocks (with_size p.inode size) p.part
-  sized_part = subst (IsPart v.contents.blocks (with_size p.inode size)) (sym is) (record { kind = part.kind; listed = part.listed; full = part.full; rising = part.rising })
+  sized_part : IsPart v.geometry v.contents.blocks (with_size p.inode size) p.part
+  sized_part = subst (IsPart v.geometry v.contents.blocks (with_size p.inode size)) (sym is) (record { kind = part.kind; listed = part.listed; full = part.full; rising = part.rising })
 
   abbrev may : MayMove g in_use.sound v.contents.blocks v.contents.nodes n p in_use.volume.0 at u p.part (λ _. ⊥)
   may = same_move v in_use n p at (with_size p.inode size) (sized_zone v.contents.blocks p.inode size) fit sized_part

@@ -218,7 +218,7 @@ module _ (tx : ℕ) (v : VolumeNow) (h : IsPlainNow v) (n : ℕ) (before : AreBo
           (λ q same. subst (λ (e : Directory). e.parent ≢ birth) (directory_same (without_name place.directory place.name) e same) (not_parent place.parent place.directory is_place.stands))
           (λ away found. not_parent a e found)
 
-  slot_zones : HasSlotZones v2.contents.blocks y.placed.inode (length y.part.slots)
+  slot_zones : HasSlotZones v2.geometry v2.contents.blocks y.placed.inode (length y.part.slots)
   slot_zones = second.slotted birth y.placed y.part at2 y.is (λ z. z)
 
   abbrev gone : Change
@@ -273,7 +273,7 @@ module _ (tx : ℕ) (v : VolumeNow) (h : IsPlainNow v) (n : ℕ) (before : AreBo
       by at1 = elim (cases_eq a place.parent) [
         | inl q ↦
             let same : without_name place.directory place.name ≡ e = directory_same (without_name place.directory place.name) e (sym (at_put_number (tree_of_now v) place.parent _) ∙ subst (λ a. at_number tree1 a ≡ Some (nodes.Directory e)) q at1) in
-            let one = links_take_name (tree_of_now v) place.directory.parent place.directory.slots place.directory.names place.name birth gives in
+            let one = links_take_name (tree_of_now v) place.directory.parent place.directory.width place.directory.slots place.directory.names place.name birth gives in
             let two = weigh_directory (tree_of_now v) birth (ap is_directory stands) in
             ap (links_at v2.contents.nodes) q
             ∙ (ap (option_map (λ (p : Placed). p.inode.links)) (at_put_number v1.contents.nodes place.parent (record { number = x1.placed.number; inode = with_links x1.placed.inode (x1.placed.inode.links - 1); part = x1.placed.part }))

@@ -1,5 +1,5 @@
 -- A block of a directory is mapped: zones are taken for it, their bits are set, and the volume has grown.
-use Rattle.std.specs.Prelude.{◌≡◌, ◌≢◌, ◌≤◌, ◌<◌, ℕ, ◌⊎◌, nat_eq, true, List, [], ◌∷◌, ◌++◌, map, length, Some, refl}
+use Rattle.std.specs.Prelude.{◌≡◌, ◌≢◌, ◌≤◌, ◌<◌, ℕ, ◌⊎◌, nat_eq, true, List, [], ◌++◌, map, length, Some, refl}
 use Rattle.std.proofs.Common.{sym, ap, subst, inl, inr, ◌∙◌, arith}
 use Rattle.std.proofs.lemmas.Bool.{cases_Bool, eqb-true, eqb-false}
 use Rattle.blk_base.specs.Members.{In}
@@ -11,7 +11,6 @@ use Rattle.minix_layout.specs.Geometry.{IsSound}
 use Rattle.tree_model.specs.declared.node.Node.{Node}
 use Rattle.tree_model.specs.declared.node.Node.TheVariants as nodes
 use Rattle.tree_model.specs.Maps.{at_number}
-use Rattle.volume_ops.specs.Places.{table_block}
 use Rattle.volume_ops.specs.Volume.{disk_of}
 use Rattle.volume_model.specs.declared.placed.Placed.{Placed}
 use Rattle.volume_model.specs.declared.placed.Part.{Part}
@@ -108,8 +107,8 @@ module _ (v : VolumeNow) (in_use : IsInUse v) (n : ℕ) (p : Placed) (at : at_nu
   abbrev Z : ℕ → Type 0
   Z = MapWrites g in_use.sound c.blocks c.nodes n p volume.0 at t.taken (zeros 1024) (length-zeros 1024) index high free
 
-  part : IsDirectoryPart c.blocks p.inode d
-  part = subst (IsPart c.blocks p.inode) is (volume.0.each n p at).part
+  part : IsDirectoryPart v.geometry c.blocks p.inode d
+  part = subst (IsPart v.geometry c.blocks p.inode) is (volume.0.each n p at).part
 
   may : MayMove g in_use.sound c.blocks c.nodes n p volume.0 at u (parts.Directory d) Z
   may = may_map g in_use.sound c.blocks c.nodes n p volume.0 at t.taken (zeros 1024) (length-zeros 1024) index high free (parts.Directory d)
@@ -185,9 +184,9 @@ module _ (v : VolumeNow) (in_use : IsInUse v) (n : ℕ) (p : Placed) (at : at_nu
       })
       (nodes_settled v.contents c refl old)
 
-  pub room_slotted : AreSlotted (λ a. ⊥) v.contents → AreSlotted (λ a. a ≡ n) with_room
+  pub room_slotted : AreSlotted v.geometry (λ a. ⊥) v.contents → AreSlotted g (λ a. a ≡ n) with_room
   room_slotted old = closed_slotted_but g in_use.sound c n p volume at u (parts.Directory d) Z may mapped_blocks t.numbers grow
-      (λ a r e found same apart. zones_settled v.contents.blocks c.blocks r.inode r.inode (length e.slots) (kept_zone g v.contents in_use.volume c.blocks none a r found) (old a r e found same (λ z. z)))
+      (λ a r e found same apart. zones_settled v.geometry v.contents.blocks c.blocks r.inode r.inode (length e.slots) (kept_zone g v.contents in_use.volume c.blocks none a r found) (old a r e found same (λ z. z)))
 
   -- the tree does not tell the block
   pub room_tree : tree_now with_room.blocks with_room.nodes ≡ tree_now v.contents.blocks v.contents.nodes

@@ -1,6 +1,6 @@
 -- An inode that is written with the zones that it had.
-use Rattle.std.specs.Prelude.{◌≡◌, ◌≤◌, ◌<◌, ℕ, [], ◌∷◌, Some, refl}
-use Rattle.std.proofs.Common.{sym, subst, inl, inr, ◌∙◌}
+use Rattle.std.specs.Prelude.{◌≡◌, ◌≤◌, ◌<◌, ℕ, [], Some, refl}
+use Rattle.std.proofs.Common.{sym, subst, inl, ◌∙◌}
 use Rattle.minix_layout.specs.declared.division.Geometry.{Geometry}
 use Rattle.minix_layout.specs.declared.inode.Inode.{Inode}
 use Rattle.minix_layout.specs.Inodes.{FitInode}
@@ -18,7 +18,7 @@ use Rattle.volume_steps.specs.Plain.{IsInUse}
 use Rattle.volume_steps.proofs.NodeSteps.{MayGrow}
 
 module _ (v : VolumeNow) (in_use : IsInUse v) (n : ℕ) (p : Placed) (at : at_number v.contents.nodes n ≡ Some p) (i : Inode) (same : (x : Place) → zone_in v.contents.blocks i x ≡ zone_in v.contents.blocks p.inode x)
-    (fits : FitInode i) (part : IsPart v.contents.blocks i p.part) where
+    (fits : FitInode i) (part : IsPart v.geometry v.contents.blocks i p.part) where
   abbrev g : Geometry
   g = v.geometry
 

@@ -1,5 +1,5 @@
 -- Steps by which a slot that is in use is written again: `..` of a directory that moves, and a name that leads to another node.
-use Rattle.std.specs.Prelude.{◌≡◌, ◌≢◌, ◌<◌, ◌+◌, ◌/◌, ◌^◌, ℕ, suc, zero, false, List, [], ◌∷◌, codes, length, slice_set, Option, Some, None, option_map, unwrap_or, ◌⊎◌, refl}
+use Rattle.std.specs.Prelude.{◌≡◌, ◌≢◌, ◌<◌, ◌+◌, ◌*◌, ◌/◌, ◌^◌, ℕ, suc, zero, false, List, [], ◌∷◌, codes, length, slice_set, Option, Some, None, option_map, unwrap_or, ◌⊎◌, refl}
 use Rattle.std.specs.List.{slice_get, sum_by}
 use Rattle.std.specs.List.Sorted.{IsStrictlySortedBy}
 use Rattle.std.specs.Map.{keys_of, values_of}
@@ -12,6 +12,7 @@ use Rattle.std.proofs.lemmas.Bool.{cases_eq, true≢false, false_from_ne_true}
 use Rattle.std.proofs.lemmas.List.{length-set}
 use Rattle.std.proofs.lemmas.Option.{same_Some}
 use Rattle.blk_base.specs.laws.Members.{slice_get-set_same, slice_get-set_other, slice_get-length}
+use Rattle.minix_layout.specs.Widths.{IsWidth, of_14, of_30, slot_size, slots_a_block}
 use Rattle.minix_layout.specs.declared.slot.Slot.{Slot}
 use Rattle.minix_layout.specs.Slots.{IsEntry}
 use Rattle.tree_model.specs.declared.node.Node.TheVariants as nodes
@@ -20,7 +21,6 @@ use Rattle.tree_model.specs.Paths.{is_dot}
 use Rattle.tree_model.specs.Calls.{node_zones, directory_zones, slots_with, with_name}
 use Rattle.tree_model.specs.laws.MapsLaws.{at_put_name, at_put_name_cases, put_apart, name_here, name_same}
 use Rattle.tree_model.proofs.Edits.{same_name}
-use Rattle.volume_ops.specs.Places.{table_block}
 use Rattle.dir_ops.specs.Slots.{used_count}
 use Rattle.volume_model.specs.declared.placed.Placed.{Placed}
 use Rattle.volume_model.specs.declared.placed.Part.TheVariants as parts
@@ -92,10 +92,11 @@ put_name_other names name birth other apart = put_apart name_cmp name_here name_
 
 -- ---- a directory gets another parent
 
-dots_fit : (number : ℕ) → 0 < number → number < 2 ^ 16 → IsEntry (record { inode = number; name = codes ".." })
-dots_fit number some fits = record { used = some; fits = fits; name = refl; no_slash = refl }
+dots_fit : (width number : ℕ) → IsWidth width → 0 < number → number < 2 ^ 16 → IsEntry width (record { inode = number; name = codes ".." })
+dots_fit width number of_14 some fits = record { used = some; fits = fits; name = refl; short = omega arith; no_slash = refl }
+dots_fit width number of_30 some fits = record { used = some; fits = fits; name = refl; short = omega arith; no_slash = refl }
 
-module _ (tx : ℕ) (v : VolumeNow) (in_use : IsInUse v) (old : IsSettled v.contents) (full : AreSlotted (λ a. ⊥) v.contents)
+module _ (tx : ℕ) (v : VolumeNow) (in_use : IsInUse v) (old : IsSettled v.contents) (full : AreSlotted v.geometry (λ a. ⊥) v.contents)
     (n : ℕ) (p : Placed) (at : at_number v.contents.nodes n ≡ Some p) (d : DirectoryPart) (is : p.part ≡ parts.Directory d)
     (parent : ℕ) (q : Placed) (above : at_number v.contents.nodes parent ≡ Some q) where
   abbrev s : Slot
@@ -152,13 +153,14 @@ module _ (tx : ℕ) (v : VolumeNow) (in_use : IsInUse v) (old : IsSettled v.cont
   put =
       let told = in_use.volume.0.each n p at in
       let higher = in_use.volume.0.each parent q above in
-      let part : IsDirectoryPart v.contents.blocks p.inode d = subst (IsPart v.contents.blocks p.inode) is told.part in
+      let part : IsDirectoryPart v.geometry v.contents.blocks p.inode d = subst (IsPart v.geometry v.contents.blocks p.inode) is told.part in
       record {
         mapped = (part.slots 1 (Some was) there).mapped;
-        entry = dots_fit q.number higher.some (let within = higher.within in let fit = in_use.sound.fits.inodes in omega arith);
+        entry = dots_fit v.geometry.width q.number in_use.sound.width higher.some (let within = higher.within in let fit = in_use.sound.fits.inodes in omega arith);
         here = slice_get-set_same d.slots 1 (Some s) (slice_get-length d.slots 1 (Some was) there);
         others = λ j x apart found. sym (slice_get-set_other d.slots 1 j (Some s) apart) ∙ found;
-        size = (let e = long in let size = part.size in let fits = told.fits.size in omega arith);
+        width = part.width;
+        size = subst (λ k. slot_size v.geometry.width * k < 2 ^ 32) (sym long) (subst (λ size. size < 2 ^ 32) part.size told.fits.size);
         names = names_after;
       }
 
@@ -179,20 +181,20 @@ module _ (tx : ℕ) (v : VolumeNow) (in_use : IsInUse v) (old : IsSettled v.cont
   open_now = put_open v.geometry in_use.sound v.contents n p in_use.volume at d is 1 (Some s) next put
 
   steady : IsSteady tx v parent_set (λ birth index. ⊥)
-  steady = quiet_steady tx v in_use n p at open_now (parts.Directory next) (λ b. b ≡ zone_in v.contents.blocks p.inode (block (1 / 64)))
+  steady = quiet_steady tx v in_use n p at open_now (parts.Directory next) (λ b. b ≡ zone_in v.contents.blocks p.inode (block (1 / slots_a_block v.geometry.width)))
       (may_move v.geometry in_use.sound v.contents n p in_use.volume at d is 1 (Some s) next put) (slot_blocks v.geometry in_use.sound v.contents n p in_use.volume at d is 1 (Some s) next put) (n ∷ [])
       (slot_grow v.geometry in_use.sound v.contents n p in_use.volume at d is 1 (Some s) next put) (put_stands v.geometry in_use.sound v.contents n p in_use.volume at d is 1 (Some s) next put)
-      (ap directory_zones long ∙ sym (ap (λ part. node_zones (node_from v.contents.blocks p.inode part)) is))
+      (ap (directory_zones d.width) long ∙ sym (ap (λ part. node_zones (node_from v.contents.blocks p.inode part)) is))
       (put_told v.geometry v.contents parent_set.volume.contents parent_set.touched n _ refl (inl refl) (λ b i. elim i [ inl e ↦ sym e | inr z ↦ absurd z ]) (λ zones is. absurd (cc is)))
 
-  pub parent_is_set : StepsTo tx v parent_set (put_number (tree_of_now v) n (nodes.Directory (record { parent = parent; slots = length d.slots; names = d.names }))) (links_at v.contents.nodes)
+  pub parent_is_set : StepsTo tx v parent_set (put_number (tree_of_now v) n (nodes.Directory (record { parent = parent; width = d.width; slots = length d.slots; names = d.names }))) (links_at v.contents.nodes)
   parent_is_set = record {
     steady = steady;
     tree_is = slot_tree v.geometry in_use.sound v.contents n p in_use.volume at d is 1 (Some s) next put
-        ∙ ap (λ k. put_number (tree_of_now v) n (nodes.Directory (record { parent = parent; slots = k; names = d.names }))) long;
+        ∙ ap (λ k. put_number (tree_of_now v) n (nodes.Directory (record { parent = parent; width = d.width; slots = k; names = d.names }))) long;
     settled = slot_settled v.geometry in_use.sound v.contents n p in_use.volume at d is 1 (Some s) next put old (q, above, dots_after);
     slotted = slot_slotted v.geometry in_use.sound v.contents n p in_use.volume at d is 1 (Some s) next put (λ a r e found is apart. full a r e found is (λ z. z))
-        (subst (HasSlotZones v.contents.blocks p.inode) (sym long) (full n p d at is (λ z. z)));
+        (subst (HasSlotZones v.geometry v.contents.blocks p.inode) (sym long) (full n p d at is (λ z. z)));
     links_are = λ a. links_put v.contents.nodes n _ a (links_at v.contents.nodes) (λ e. ap (links_at v.contents.nodes) e ∙ ap (option_map (λ (p : Placed). p.inode.links)) at) (λ far. refl);
     waiting = omega arith;
   }
@@ -213,10 +215,10 @@ module _ (tx : ℕ) (v : VolumeNow) (in_use : IsInUse v) (old : IsSettled v.cont
 
 -- ---- a name leads to another node
 
-module _ (tx : ℕ) (v : VolumeNow) (in_use : IsInUse v) (old : IsSettled v.contents) (full : AreSlotted (λ a. ⊥) v.contents)
+module _ (tx : ℕ) (v : VolumeNow) (in_use : IsInUse v) (old : IsSettled v.contents) (full : AreSlotted v.geometry (λ a. ⊥) v.contents)
     (n : ℕ) (p : Placed) (at : at_number v.contents.nodes n ≡ Some p) (d : DirectoryPart) (is : p.part ≡ parts.Directory d)
     (name : List ℕ) (met : ℕ) (found : at_name d.names name ≡ Some met) (sorted : IsStrictlySortedBy name_cmp (keys_of d.names)) (birth : ℕ) (child : Placed) (at_child : at_number v.contents.nodes birth ≡ Some child)
-    (entry : IsEntry (record { inode = child.number; name = name })) where
+    (entry : IsEntry v.geometry.width (record { inode = child.number; name = name })) where
   abbrev t : Slot
   t = record { inode = child.number; name = name }
 
@@ -303,13 +305,14 @@ module _ (tx : ℕ) (v : VolumeNow) (in_use : IsInUse v) (old : IsSettled v.cont
   put_led : MayPut v.geometry v.contents p d k (Some t) led
   put_led =
       let told = in_use.volume.0.each n p at in
-      let part : IsDirectoryPart v.contents.blocks p.inode d = subst (IsPart v.contents.blocks p.inode) is told.part in
+      let part : IsDirectoryPart v.geometry v.contents.blocks p.inode d = subst (IsPart v.geometry v.contents.blocks p.inode) is told.part in
       record {
         mapped = (part.slots k (Some w.slot) w.stands).mapped;
         entry = entry;
         here = here_now;
         others = λ j x apart found. sym (slice_get-set_other d.slots k j (Some t) apart) ∙ found;
-        size = (let e = long_led in let size = part.size in let fits = told.fits.size in omega arith);
+        width = part.width;
+        size = subst (λ k. slot_size v.geometry.width * k < 2 ^ 32) (sym long_led) (subst (λ size. size < 2 ^ 32) part.size told.fits.size);
         names = names_led;
       }
 
@@ -340,15 +343,15 @@ module _ (tx : ℕ) (v : VolumeNow) (in_use : IsInUse v) (old : IsSettled v.cont
   open_led = put_open v.geometry in_use.sound v.contents n p in_use.volume at d is k (Some t) led put_led
 
   steady_led : IsSteady tx v name_led (λ birth index. ⊥)
-  steady_led = quiet_steady tx v in_use n p at open_led (parts.Directory led) (λ b. b ≡ zone_in v.contents.blocks p.inode (block (k / 64)))
+  steady_led = quiet_steady tx v in_use n p at open_led (parts.Directory led) (λ b. b ≡ zone_in v.contents.blocks p.inode (block (k / slots_a_block v.geometry.width)))
       (may_move v.geometry in_use.sound v.contents n p in_use.volume at d is k (Some t) led put_led) (slot_blocks v.geometry in_use.sound v.contents n p in_use.volume at d is k (Some t) led put_led) (n ∷ [])
       (slot_grow v.geometry in_use.sound v.contents n p in_use.volume at d is k (Some t) led put_led) (put_stands v.geometry in_use.sound v.contents n p in_use.volume at d is k (Some t) led put_led)
-      (ap directory_zones long_led ∙ sym (ap (λ part. node_zones (node_from v.contents.blocks p.inode part)) is))
+      (ap (directory_zones d.width) long_led ∙ sym (ap (λ part. node_zones (node_from v.contents.blocks p.inode part)) is))
       (put_told v.geometry v.contents name_led.volume.contents name_led.touched n _ refl (inl refl) (λ b i. elim i [ inl e ↦ sym e | inr z ↦ absurd z ]) (λ zones is. absurd (cc is)))
 
   -- it keeps its slots
   led_directory : directory_from led ≡ with_name (directory_from d) name birth
-  led_directory = (let kept : length led.slots ≡ slots_with (directory_from d) name = long_led ∙ (rw found refl) in λ i. record { parent = d.parent; slots = kept i; names = put_name d.names name birth })
+  led_directory = (let kept : length led.slots ≡ slots_with (directory_from d) name = long_led ∙ (rw found refl) in λ i. record { parent = d.parent; width = d.width; slots = kept i; names = put_name d.names name birth })
 
   pub name_is_led : StepsTo tx v name_led (put_number (tree_of_now v) n (nodes.Directory (with_name (directory_from d) name birth))) (links_at v.contents.nodes)
   name_is_led = record {
@@ -357,7 +360,7 @@ module _ (tx : ℕ) (v : VolumeNow) (in_use : IsInUse v) (old : IsSettled v.cont
         ∙ ap (λ directory. put_number (tree_of_now v) n (nodes.Directory directory)) led_directory;
     settled = (let dots = old.dots n p d at is in slot_settled v.geometry in_use.sound v.contents n p in_use.volume at d is k (Some t) led put_led old (dots.0, dots.1, dots_led p.number dots.0.number dots.2));
     slotted = slot_slotted v.geometry in_use.sound v.contents n p in_use.volume at d is k (Some t) led put_led (λ a r e found is apart. full a r e found is (λ z. z))
-        (subst (HasSlotZones v.contents.blocks p.inode) (sym long_led) (full n p d at is (λ z. z)));
+        (subst (HasSlotZones v.geometry v.contents.blocks p.inode) (sym long_led) (full n p d at is (λ z. z)));
     links_are = λ a. links_put v.contents.nodes n _ a (links_at v.contents.nodes) (λ e. ap (links_at v.contents.nodes) e ∙ ap (option_map (λ (p : Placed). p.inode.links)) at) (λ far. refl);
     waiting = omega arith;
   }

@@ -29,7 +29,7 @@ pub record StepsTo (tx : ℕ) (v : VolumeNow) (c : Change) (tree : Tree) (links 
   pub steady : IsSteady tx v c (λ birth index. ⊥)
   pub tree_is : tree_of_now c.volume ≡ tree
   pub settled : IsSettled c.volume.contents
-  pub slotted : AreSlotted (λ a. ⊥) c.volume.contents
+  pub slotted : AreSlotted c.volume.geometry (λ a. ⊥) c.volume.contents
   pub links_are : (a : ℕ) → links_at c.volume.contents.nodes a ≡ links a
   pub waiting : waits c.volume.zones ≡ waits v.zones + length c.touched.freed
 

@@ -18,7 +18,7 @@ use Rattle.volume_model.specs.declared.placed.DirectoryPart.{DirectoryPart}
 use Rattle.volume_model.specs.Trees.{directory_from, node_from, in_order}
 use Rattle.volume_ops.specs.Volume.{bodies_of}
 use Rattle.volume_steps.specs.Now.{VolumeNow, tree_of_now}
-use Rattle.volume_steps.proofs.TreeSteps.{tree_at, used_put_more, used_put_new, used_put_same}
+use Rattle.volume_steps.proofs.TreeSteps.{new_zones, tree_at, used_put_more, used_put_new, used_put_same}
 
 -- ---- nodes of the tree
 
@@ -41,14 +41,14 @@ unfolding file_zones mapped_groups
 new_file_zones = refl
 
 module _ (tree : Tree) (order : InOrder tree) (place : Place) (stands : at_number tree place.parent ≡ Some (nodes.Directory place.directory)) (more : ℕ)
-    (grows : directory_zones place.directory.slots + more ≡ directory_zones (slots_with place.directory place.name)) where
+    (grows : directory_zones place.directory.width place.directory.slots + more ≡ directory_zones place.directory.width (slots_with place.directory place.name)) where
   name_takes : (birth : ℕ) → used_zones (give_name tree place birth) ≡ used_zones tree + more
   name_takes birth =
       let all = used_put_more tree place.parent (nodes.Directory place.directory) (nodes.Directory (with_name place.directory place.name birth)) order stands in
       omega arith
 
 module _ (tree : Tree) (order : InOrder tree) (n : ℕ) (none : at_number tree n ≡ None) (place : Place) (stands : at_number tree place.parent ≡ Some (nodes.Directory place.directory)) (more : ℕ)
-    (grows : directory_zones place.directory.slots + more ≡ directory_zones (slots_with place.directory place.name)) where
+    (grows : directory_zones place.directory.width place.directory.slots + more ≡ directory_zones place.directory.width (slots_with place.directory place.name)) where
   no_node : (o : Option Node) → at_number tree n ≡ o → o ≡ None → place.parent ≢ n
   no_node o at is e = (let there : at_number tree n ≡ Some (nodes.Directory place.directory) = ap (at_number tree) (sym e) ∙ stands in cc)
 
@@ -59,8 +59,8 @@ module _ (tree : Tree) (order : InOrder tree) (n : ℕ) (none : at_number tree n
       let new = used_put_new tree n node order none in
       omega arith
 
-  pub mkdir_takes : (zones : ℕ) → zones ≡ 1 + more → zones ≡ used_zones (give_name (put_number tree n (new_directory place.parent)) place n) - used_zones tree
-  mkdir_takes zones is = (let all = made_takes (new_directory place.parent) in let one : node_zones (new_directory place.parent) ≡ 1 = refl in omega arith)
+  pub mkdir_takes : (zones : ℕ) → zones ≡ 1 + more → zones ≡ used_zones (give_name (put_number tree n (new_directory place.directory.width place.parent)) place n) - used_zones tree
+  mkdir_takes zones is = (let all = made_takes (new_directory place.directory.width place.parent) in let one : node_zones (new_directory place.directory.width place.parent) ≡ 1 = new_zones place.directory.width place.parent in omega arith)
 
   pub create_takes : more ≡ used_zones (give_name (put_number tree n new_file) place n) - used_zones tree
   create_takes = (let all = made_takes new_file in let none : node_zones new_file ≡ 0 = new_file_zones in omega arith)
@@ -77,7 +77,7 @@ none_born tree n before = by (at_number tree n) refl
 
 pub mkdir_row : (tree : Tree) (n : ℕ) (path : List ℕ) (list : List (List ℕ)) (place : Place) → names_in path ≡ Ok list → parent_of replies.Exists tree list ≡ Ok place → is_named place ≡ false →
     (directory_links tree place.directory == most_links) ≡ false → is_full place.directory ≡ false →
-    mkdir tree n path ≡ makes (give_name (put_number tree n (new_directory place.parent)) place n)
+    mkdir tree n path ≡ makes (give_name (put_number tree n (new_directory place.directory.width place.parent)) place n)
 mkdir_row tree n path list place named parent free few left =
     ap (λ x. and_then x (λ names. and_then (parent_of replies.Exists tree names) next)) named
     ∙ ap (λ x. and_then x next) parent
@@ -86,7 +86,7 @@ mkdir_row tree n path list place named parent free few left =
     ∙ ap (λ test. refuse_if test replies.TooBig (done place)) left
   where
     done : Place → Row
-    done place = makes (give_name (put_number tree n (new_directory place.parent)) place n)
+    done place = makes (give_name (put_number tree n (new_directory place.directory.width place.parent)) place n)
 
     next : Place → Row
     next place = refuse_if (is_named place) replies.Exists (refuse_if (directory_links tree place.directory == most_links) replies.TooManyLinks (refuse_if (is_full place.directory) replies.TooBig (done place)))
@@ -135,7 +135,7 @@ link_row tree path other list more found f place named also walked is parent fre
 
 -- a file with one link more uses the same zones
 pub link_takes : (tree : Tree) → InOrder tree → (birth : ℕ) (f : File) (place : Place) (more : ℕ) → at_number tree birth ≡ Some (nodes.File f) → at_number tree place.parent ≡ Some (nodes.Directory place.directory) →
-    directory_zones place.directory.slots + more ≡ directory_zones (slots_with place.directory place.name) →
+    directory_zones place.directory.width place.directory.slots + more ≡ directory_zones place.directory.width (slots_with place.directory place.name) →
     more ≡ used_zones (give_name (put_file tree birth (with_links f (f.links + 1))) place birth) - used_zones tree
 link_takes tree order birth f place more file stands grows =
     let other : place.parent ≢ birth = λ e. (let there : at_number tree birth ≡ Some (nodes.Directory place.directory) = ap (at_number tree) (sym e) ∙ stands in cc) in

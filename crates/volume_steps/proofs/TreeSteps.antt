@@ -1,5 +1,6 @@
 -- What steps make of the tree that a volume stands for, and of the zones that this uses.
-use Rattle.std.specs.Prelude.{◌≡◌, ◌+◌, ℕ, Bool, List, [], ◌∷◌, length, map, Some, None, refl, unwrap_or, option_map}
+use Rattle.std.specs.Prelude.{◌≡◌, ◌+◌, ◌*◌, nat_lt, if◌then◌else◌, ℕ, Bool, List, [], ◌∷◌, length, map, Some, None, refl, unwrap_or, option_map}
+use Rattle.std.specs.Int.{div_ceil}
 use Rattle.std.specs.List.{sum_by}
 use Rattle.std.specs.List.Sorted.{IsStrictlySortedBy}
 use Rattle.std.specs.Map.{keys_of, remove_entry}
@@ -13,11 +14,13 @@ use Rattle.std.proofs.lemmas.Option.{same_Some, none-some}
 use Rattle.blk_base.specs.Members.{In}
 use Rattle.minix_layout.specs.declared.division.Geometry.{Geometry}
 use Rattle.minix_layout.specs.declared.inode.Inode.{Inode}
+use Rattle.minix_layout.specs.Widths.{slot_size, slots_a_block}
+use Rattle.minix_layout.specs.laws.Places.{IsForm, narrow, wide, form_is}
 use Rattle.tree_model.specs.declared.node.Node.{Node}
 use Rattle.tree_model.specs.declared.node.Node.TheVariants as nodes
 use Rattle.tree_model.specs.Maps.{at_number, put_number, without_number}
 use Rattle.tree_model.specs.laws.MapOrder.{InOrder}
-use Rattle.tree_model.specs.Calls.{Tree, node_zones, used_zones}
+use Rattle.tree_model.specs.Calls.{Tree, new_directory, node_zones, used_zones}
 use Rattle.volume_ops.specs.declared.found.Mapped.{Mapped}
 use Rattle.volume_ops.specs.Volume.{disk_of, bodies_of}
 use Rattle.volume_model.specs.declared.placed.Placed.{Placed}
@@ -28,6 +31,14 @@ use Rattle.volume_model.specs.Touched.{Contents, Page, HasPage}
 use Rattle.volume_model.specs.Trees.{node_from, node_now, tree_now, in_order}
 use Rattle.volume_model.specs.laws.Trees.{seen_by, seen_put, seen_at, seen_same, In-at}
 use Rattle.volume_steps.proofs.Grows.{GrowsTo, page_kept, meta_no_page}
+
+-- a new directory has one zone
+pub new_zones : (width parent : ℕ) → node_zones (new_directory width parent) ≡ 1
+new_zones width parent = by (slot_size width) (slots_a_block width) (form_is width)
+  where
+    by : (size per : ℕ) → IsForm size per → div_ceil 2 per + (if nat_lt (7 * per) 2 then 1 else 0) ≡ 1
+    by size per narrow = refl
+    by size per wide = refl
 
 -- ---- maps whose values are seen by f
 
@@ -125,7 +136,7 @@ module _ (blocks after : List (List ℕ)) (placed : List (ℕ × Placed)) (sorte
 -- where a step touches metadata alone, they do
 pub grown_pages : (g : Geometry) (v w : Contents) (blocks new nodes : List ℕ) → GrowsTo g v w blocks new → IsVolumeOf g v.blocks v.nodes → IsVolumeOf g w.blocks w.nodes → KeepsPages v.blocks w.blocks v.nodes
 grown_pages g v w blocks new nodes h was stands a r zones at is m i =
-    let part : IsFilePart v.blocks r.inode zones = subst (IsPart v.blocks r.inode) is (was.each a r at).part in
+    let part : IsFilePart v.blocks r.inode zones = subst (IsPart g v.blocks r.inode) is (was.each a r at).part in
     let told = part.listed m i in
     let x : Page = record { birth = a; index = m.index; zone = m.zone } in
     let page : HasPage v x = record { placed = r; zones = zones; stands = at; is_file = is; zone = told.0; some = told.1 } in

@@ -21,7 +21,6 @@ use Rattle.volume_ops.specs.Volume.{disk_of, bodies_of}
 use Rattle.volume_model.specs.declared.placed.Placed.{Placed}
 use Rattle.volume_model.specs.Volume.{block, zone_in}
 use Rattle.volume_model.specs.Moves.{with_size, back_told}
-use Rattle.volume_ops.specs.Places.{table_block}
 use Rattle.volume_steps.specs.Calls.{truncate}
 use Rattle.volume_steps.specs.Now.{VolumeNow, Change, tree_of_now, followed_by, unchanged}
 use Rattle.volume_steps.specs.Plain.{IsInUse}

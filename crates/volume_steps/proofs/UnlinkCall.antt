@@ -204,7 +204,7 @@ module _ (tx : ℕ) (v : VolumeNow) (h : IsPlainNow v) (n : ℕ) (before : AreBo
       let same = λ (f : Directory). links_same (tree_of_now v) tree f (λ e i. kinds e.1 ∙ kind1 e.1) in
       told.1 ∙ at_put_cases (λ o. o ≡ Some (nodes.Directory e) → links_at v.contents.nodes a ≡ Some (directory_links tree e)) (tree_of_now v) place.parent (nodes.Directory (without_name place.directory place.name)) a
       (λ q is.
-      let less_one = links_take_name tree place.directory.parent place.directory.slots place.directory.names place.name birth gives in
+      let less_one = links_take_name tree place.directory.parent place.directory.width place.directory.slots place.directory.names place.name birth gives in
       let none : weigh tree birth ≡ 0 = ap (λ t. cond t 1 0) (kinds birth ∙ (kind1 birth ∙ ap is_directory file_stands)) in
       ap (links_at v.contents.nodes) q ∙ (linked_before v h.plain.directory_links_are place.parent place.directory is_place.stands
       ∙ ap Some (sum_to _ _ _ _ (same place.directory) less_one none ∙ ap (directory_links tree) (directory_same _ e is))))

@@ -4,6 +4,7 @@ use Rattle.std.specs.Int.{div_ceil}
 use Rattle.std.specs.List.{list_any, range_with_len, slice_get}
 use Rattle.std.specs.Str.{bytes_eq}
 use Rattle.byte_fields.specs.Fields.{zeros}
+use Rattle.minix_layout.specs.Widths.{slot_size, slots_a_block}
 use Rattle.minix_layout.specs.declared.division.Geometry.{Geometry}
 use Rattle.minix_layout.specs.declared.inode.Inode.{Inode}
 use Rattle.minix_layout.specs.declared.slot.Slot.{Slot}
@@ -94,7 +95,7 @@ abbrev pub new_directory_edits : Geometry → ℕ → ℕ → ℕ → List Edit
 new_directory_edits g number zone parent =
     inode_bit number true ∷ zone_bit g true zone ∷ put_body zone (zeros 1024)
     ∷ put_slot zone 0 (Some (record { inode = number; name = codes "." })) ∷ put_slot zone 1 (Some (record { inode = parent; name = codes ".." }))
-    ∷ put_inode number (new_directory_inode zone) ∷ []
+    ∷ put_inode number (new_directory_inode g.width zone) ∷ []
 
 -- a directory in the lowest inode and the lowest zone that are free, below the parent with this birth
 abbrev pub make_directory : VolumeNow → ℕ → ℕ → Change
@@ -109,8 +110,8 @@ make_directory v n parent = at_node v parent (λ p.
           blocks = (written v.geometry v.contents es).blocks;
           nodes = put_number v.contents.nodes n (record {
             number = number;
-            inode = new_directory_inode zone;
-            part = parts.Directory (record { parent = parent; names = []; slots = dot_slots number p.number });
+            inode = new_directory_inode v.geometry.width zone;
+            part = parts.Directory (record { parent = parent; width = v.geometry.width; names = []; slots = dot_slots number p.number });
           });
         };
         zones = taken v.zones;
@@ -149,12 +150,12 @@ map_directory_block v n p d index =
 -- a directory whose slots are all in use, and fill its zones, gets one more
 abbrev pub make_room : VolumeNow → ℕ → Change
 make_room v n = at_directory v n (λ p d.
-    if nat_eq (room d.slots) (length d.slots) && nat_eq (length d.slots % 64) 0 then map_directory_block v n p d (length d.slots / 64)
+    if nat_eq (room d.slots) (length d.slots) && nat_eq (length d.slots % slots_a_block v.geometry.width) 0 then map_directory_block v n p d (length d.slots / slots_a_block v.geometry.width)
     else unchanged v)
 
 -- What is told of slot k of a directory, which is this one afterwards: its block, and that of the inode where the size changes.
 abbrev pub slot_told : VolumeNow → Placed → ℕ → DirectoryPart → List ℕ
-slot_told v p k next = zone_in v.contents.blocks p.inode (block (k / 64)) ∷ back_told v.geometry p (with_size p.inode (16 * length next.slots))
+slot_told v p k next = zone_in v.contents.blocks p.inode (block (k / slots_a_block v.geometry.width)) ∷ back_told v.geometry p (with_size p.inode (slot_size v.geometry.width * length next.slots))
 
 -- a name is put at the first free slot or behind the last one
 abbrev pub put_name_slot : VolumeNow → ℕ → List ℕ → ℕ → Change
@@ -195,7 +196,7 @@ take_name v n name = at_directory v n (λ p d.
 
 -- its second slot is `..`, which has the parent's inode
 abbrev pub with_parent : DirectoryPart → ℕ → Slot → DirectoryPart
-with_parent d parent s = record { parent = parent; names = d.names; slots = slice_set d.slots 1 (Some s) }
+with_parent d parent s = record { parent = parent; width = d.width; names = d.names; slots = slice_set d.slots 1 (Some s) }
 
 abbrev pub set_parent : VolumeNow → ℕ → ℕ → Change
 set_parent v n parent = at_directory v n (λ p d. at_node v parent (λ above.
@@ -209,7 +210,7 @@ set_parent v n parent = at_directory v n (λ p d. at_node v parent (λ above.
 
 -- it keeps its slot
 abbrev pub with_child : DirectoryPart → ℕ → Slot → ℕ → DirectoryPart
-with_child d k s birth = record { parent = d.parent; names = put_name d.names s.name birth; slots = slice_set d.slots k (Some s) }
+with_child d k s birth = record { parent = d.parent; width = d.width; names = put_name d.names s.name birth; slots = slice_set d.slots k (Some s) }
 
 abbrev pub lead_name : VolumeNow → ℕ → List ℕ → ℕ → Change
 lead_name v n name birth = at_directory v n (λ p d. at_node v birth (λ child.
@@ -225,7 +226,7 @@ lead_name v n name birth = at_directory v n (λ p d. at_node v birth (λ child.
 -- the zones of its blocks
 abbrev pub block_zones : Contents → Placed → Part → List ℕ
 block_zones c p (parts.File zones) = map (λ (m : Mapped). m.zone) zones
-block_zones c p (parts.Directory d) = map (λ index. zone_in c.blocks p.inode (block index)) (range_with_len 0 (div_ceil (length d.slots) 64))
+block_zones c p (parts.Directory d) = map (λ index. zone_in c.blocks p.inode (block index)) (range_with_len 0 (div_ceil (length d.slots) (slots_a_block d.width)))
 
 -- all its zones of numbers
 abbrev pub all_numbers : Contents → Placed → List ℕ

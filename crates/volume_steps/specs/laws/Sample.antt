@@ -15,7 +15,7 @@ use Rattle.volume_steps.specs.Now.{VolumeNow, untouched}
 use Rattle.volume_steps.specs.Calls.{called}
 
 abbrev pub small_geometry : Geometry
-small_geometry = geometry_made 32 64
+small_geometry = geometry_made 32 64 14
 
 abbrev pub small_volume : VolumeNow
 small_volume = record { geometry = small_geometry; contents = new_volume small_geometry; zones = made small_geometry (5 ∷ []) }
