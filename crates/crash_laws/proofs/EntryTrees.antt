@@ -18,44 +18,44 @@ done_listed before (x ∷ events) zero e there =
 done_listed before (x ∷ events) (suc i) e there =
     done_listed (before ++ x ∷ []) events i e there ∙ ap (λ b. Some (done_at b e)) (append_assoc before (x ∷ []) (take i events))
 
-next_tree : (room : Room) (entries : List Entry) (i : ℕ) → tree_after_entries room root_alone 0 entries (suc i) ≡ tree_after_entry room (tree_after_entries room root_alone 0 entries i) (0 + suc i) (slice_get entries i)
+next_tree : (room : Room) (width : ℕ) (entries : List Entry) (i : ℕ) → tree_after_entries room (root_alone width) 0 entries (suc i) ≡ tree_after_entry room (tree_after_entries room (root_alone width) 0 entries i) (0 + suc i) (slice_get entries i)
 unfolding tree_after_entries
-next_tree room entries i = refl
+next_tree room width entries i = refl
 
 -- the tree after an event, by the call that is done there
-pub tree_at_event : (room : Room) (events : List Event) (i : ℕ) (e : Event) → slice_get events i ≡ Some e
-    → tree_up_to room events (i + 1) ≡ tree_after_entry room (tree_up_to room events i) (i + 1) (Some (done_at (take i events) e))
-tree_at_event room events i e there =
+pub tree_at_event : (room : Room) (width : ℕ) (events : List Event) (i : ℕ) (e : Event) → slice_get events i ≡ Some e
+    → tree_up_to room width events (i + 1) ≡ tree_after_entry room (tree_up_to room width events i) (i + 1) (Some (done_at (take i events) e))
+tree_at_event room width events i e there =
     let next : i + 1 - 0 ≡ suc i = omega arith in
     let now : i - 0 ≡ i = omega arith in
     let number : 0 + suc i ≡ i + 1 = omega arith in
-    ap (λ k. tree_after_entries room root_alone 0 (done_by events) k) next
-    ∙ next_tree room (done_by events) i
-    ∙ ap (λ o. tree_after_entry room (tree_after_entries room root_alone 0 (done_by events) i) (0 + suc i) o) (done_listed [] events i e there)
-    ∙ ap (λ n. tree_after_entry room (tree_after_entries room root_alone 0 (done_by events) i) n (Some (done_at (take i events) e))) number
-    ∙ ap (λ k. tree_after_entry room (tree_after_entries room root_alone 0 (done_by events) k) (i + 1) (Some (done_at (take i events) e))) (sym now)
+    ap (λ k. tree_after_entries room (root_alone width) 0 (done_by events) k) next
+    ∙ next_tree room width (done_by events) i
+    ∙ ap (λ o. tree_after_entry room (tree_after_entries room (root_alone width) 0 (done_by events) i) (0 + suc i) o) (done_listed [] events i e there)
+    ∙ ap (λ n. tree_after_entry room (tree_after_entries room (root_alone width) 0 (done_by events) i) n (Some (done_at (take i events) e))) number
+    ∙ ap (λ k. tree_after_entry room (tree_after_entries room (root_alone width) 0 (done_by events) k) (i + 1) (Some (done_at (take i events) e))) (sym now)
 
 -- A call that ends at once and is not turned away changes the tree by what the call does.
-pub done_changes : (room : Room) (events : List Event) (i t : ℕ) (c : Call) (r : Reply) → slice_get events i ≡ Some (End t c r) → has_begun t false (take i events) ≡ false → is_turned_away r ≡ false
-    → tree_up_to room events (i + 1) ≡ tree_after room (tree_up_to room events i) (i + 1) c
-done_changes room events i t c r there free given =
-    tree_at_event room events i (End t c r) there
-    ∙ ap (λ o. tree_after_entry room (tree_up_to room events i) (i + 1) (Some o))
+pub done_changes : (room : Room) (width : ℕ) (events : List Event) (i t : ℕ) (c : Call) (r : Reply) → slice_get events i ≡ Some (End t c r) → has_begun t false (take i events) ≡ false → is_turned_away r ≡ false
+    → tree_up_to room width events (i + 1) ≡ tree_after room (tree_up_to room width events i) (i + 1) c
+done_changes room width events i t c r there free given =
+    tree_at_event room width events i (End t c r) there
+    ∙ ap (λ o. tree_after_entry room (tree_up_to room width events i) (i + 1) (Some o))
     (ap (λ b. if b then None else if is_turned_away r then None else Some c) free ∙ ap (λ b. if b then None else Some c) given)
 
-pub turned_away_stays : (room : Room) (events : List Event) (i t : ℕ) (c : Call) (r : Reply) → slice_get events i ≡ Some (End t c r) → is_turned_away r ≡ true → tree_up_to room events (i + 1) ≡ tree_up_to room events i
-turned_away_stays room events i t c r there away =
-    tree_at_event room events i (End t c r) there
-    ∙ ap (λ o. tree_after_entry room (tree_up_to room events i) (i + 1) (Some o)) (by (has_begun t false (take i events)))
+pub turned_away_stays : (room : Room) (width : ℕ) (events : List Event) (i t : ℕ) (c : Call) (r : Reply) → slice_get events i ≡ Some (End t c r) → is_turned_away r ≡ true → tree_up_to room width events (i + 1) ≡ tree_up_to room width events i
+turned_away_stays room width events i t c r there away =
+    tree_at_event room width events i (End t c r) there
+    ∙ ap (λ o. tree_after_entry room (tree_up_to room width events i) (i + 1) (Some o)) (by (has_begun t false (take i events)))
   where
     by : (b : Bool) → (if b then None else if is_turned_away r then None else Some c) ≡ None
     by true = refl
     by false = ap (λ x. if x then None else Some c) away
 
-pub begun_stays : (room : Room) (events : List Event) (i t : ℕ) (c : Call) (r : Reply) → slice_get events i ≡ Some (End t c r) → has_begun t false (take i events) ≡ true → tree_up_to room events (i + 1) ≡ tree_up_to room events i
-begun_stays room events i t c r there begun =
-    tree_at_event room events i (End t c r) there
-    ∙ ap (λ o. tree_after_entry room (tree_up_to room events i) (i + 1) (Some o)) (ap (λ b. if b then None else if is_turned_away r then None else Some c) begun)
+pub begun_stays : (room : Room) (width : ℕ) (events : List Event) (i t : ℕ) (c : Call) (r : Reply) → slice_get events i ≡ Some (End t c r) → has_begun t false (take i events) ≡ true → tree_up_to room width events (i + 1) ≡ tree_up_to room width events i
+begun_stays room width events i t c r there begun =
+    tree_at_event room width events i (End t c r) there
+    ∙ ap (λ o. tree_after_entry room (tree_up_to room width events i) (i + 1) (Some o)) (ap (λ b. if b then None else if is_turned_away r then None else Some c) begun)
 
-pub begin_stays : (room : Room) (events : List Event) (i t : ℕ) (c : Call) → slice_get events i ≡ Some (Begin t c) → tree_up_to room events (i + 1) ≡ tree_up_to room events i
-begin_stays room events i t c there = tree_at_event room events i (Begin t c) there
+pub begin_stays : (room : Room) (width : ℕ) (events : List Event) (i t : ℕ) (c : Call) → slice_get events i ≡ Some (Begin t c) → tree_up_to room width events (i + 1) ≡ tree_up_to room width events i
+begin_stays room width events i t c there = tree_at_event room width events i (Begin t c) there

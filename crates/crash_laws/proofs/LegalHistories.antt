@@ -26,8 +26,8 @@ filter_push : {X : Type 0} (p : X → Bool) (xs : List X) (y : X) → p y ≡ fa
 filter_push p [] y e = ap (λ b. if b then y ∷ [] else []) e
 filter_push p (x ∷ xs) y e = ap (λ zs. if p x then x ∷ zs else zs) (filter_push p xs y e)
 
-pub legal_at_start : (room : Room) (programs : ℕ → List Call) → IsLegal room programs []
-legal_at_start room programs = record {
+pub legal_at_start : (room : Room) (width : ℕ) (programs : ℕ → List Call) → IsLegal room width programs []
+legal_at_start room width programs = record {
   programs_followed = λ t. tt;
   at_once = λ i t c r e not_begun. absurd (none-some (End t c r) e);
   begins = λ i t c e. absurd (none-some (Begin t c) e);
@@ -36,15 +36,15 @@ legal_at_start room programs = record {
   read_only = λ i j t u id c d r lt e f other. absurd (none-some (End u d r) f);
 }
 
-module _ (room : Room) (programs : ℕ → List Call) (events : List Event) (e : Event) where
+module _ (room : Room) (width : ℕ) (programs : ℕ → List Call) (events : List Event) (e : Event) where
   -- an old event and the new one see what stood before them
-  same_before : (i : ℕ) → i ≤ length events → tree_up_to room (events ++ e ∷ []) i ≡ tree_up_to room events i
+  same_before : (i : ℕ) → i ≤ length events → tree_up_to room width (events ++ e ∷ []) i ≡ tree_up_to room width events i
   same_before i le =
       let long = length-done_from [] events in
-      ap (λ es. tree_after_entries room root_alone 0 es (i - 0)) (done_from-append [] events (e ∷ []))
-      ∙ same_tree room root_alone (done_by events) (done_from events (e ∷ [])) (i - 0) (omega arith)
+      ap (λ es. tree_after_entries room (root_alone width) 0 es (i - 0)) (done_from-append [] events (e ∷ []))
+      ∙ same_tree room (root_alone width) (done_by events) (done_from events (e ∷ [])) (i - 0) (omega arith)
 
-  module _ (old : IsLegal room programs events) (new : EventClause room programs events e) where
+  module _ (old : IsLegal room width programs events) (new : EventClause room width programs events e) where
     begun_old : (i t : ℕ) → i ≤ length events → has_begun t false (take i (events ++ e ∷ [])) ≡ has_begun t false (take i events)
     begun_old i t le = ap (has_begun t false) (take_left events (e ∷ []) i le)
 
@@ -61,7 +61,7 @@ module _ (room : Room) (programs : ℕ → List Call) (events : List Event) (e :
           | inr other ↦ subst (λ es. Follows es (programs t)) (sym (filter_push (λ x. thread_of x == t) events e other)) (old.programs_followed t)
         ]
 
-    pub legal_grows : IsLegal room programs (events ++ e ∷ [])
+    pub legal_grows : IsLegal room width programs (events ++ e ∷ [])
     legal_grows = record {
       programs_followed = followed;
       at_once = λ i t c r there not_begun.
@@ -71,7 +71,7 @@ module _ (room : Room) (programs : ℕ → List Call) (events : List Event) (e :
           subst (λ tree. IsReply room tree (i + 1) c r) (sym (same_before i (omega arith)))
           (old.at_once i t c r o (λ b. not_begun (begun_old i t (omega arith) ∙ b))))
           (λ n.
-          subst (λ j. IsReply room (tree_up_to room (events ++ e ∷ []) j) (j + 1) c r) (sym n.0)
+          subst (λ j. IsReply room (tree_up_to room width (events ++ e ∷ []) j) (j + 1) c r) (sym n.0)
           (subst (λ tree. IsReply room tree (length events + 1) c r) (sym (same_before (length events) (omega arith)))
           (new.at_once t c r n.1 (λ b. not_begun (begun_new i t n.0 ∙ b)))))
           (slice_get-push_cases events e i (End t c r) there);
@@ -84,7 +84,7 @@ module _ (room : Room) (programs : ℕ → List Call) (events : List Event) (e :
           (λ n.
           let x = new.begins t c n.1 in (
             x.0,
-            subst (λ j. reply_of room (tree_up_to room (events ++ e ∷ []) j) (j + 1) c ≡ replies.Ok) (sym n.0)
+            subst (λ j. reply_of room (tree_up_to room width (events ++ e ∷ []) j) (j + 1) c ≡ replies.Ok) (sym n.0)
                 (subst (λ tree. reply_of room tree (length events + 1) c ≡ replies.Ok) (sym (same_before (length events) (omega arith))) x.1),
           ))
           (slice_get-push_cases events e i (Begin t c) there);

@@ -56,16 +56,16 @@ module _ (room : Room) (opened : Tree) (entries more : List Entry) where
 -- ---- the history
 
 -- With more events, and cuts that are told anew but for submitted transactions, the old entries stay as they are.
-pub events_extend : (room : Room) (events more : List Event) (cut new_cut : ℕ → ℕ) (place : ℕ → WalkEnd → ℕ → ℕ → ℕ) (s : Session) → AreCuts cut
+pub events_extend : (room : Room) (width : ℕ) (events more : List Event) (cut new_cut : ℕ → ℕ) (place : ℕ → WalkEnd → ℕ → ℕ → ℕ) (s : Session) → AreCuts cut
     → ((j k : ℕ) → IsSubmitted s k → j ≤ k → new_cut j ≡ cut j) → ((k : ℕ) → IsSubmitted s k → cut k ≤ length events)
     → ((o f i v : ℕ) → HasNote s o (Page f i v) → v ≤ length events)
-    → Extends (history_of room events cut place) (history_of room (events ++ more) new_cut place) s (length events)
-events_extend room events more cut new_cut place s cuts same within versions = record {
+    → Extends (history_of room width events cut place) (history_of room width (events ++ more) new_cut place) s (length events)
+events_extend room width events more cut new_cut place s cuts same within versions = record {
   cuts = λ k sub. same k k sub (omega arith);
   within = within;
   versions = versions;
   maps = λ n f i le. ap (λ t. maps_block t f i) (tree n le);
-  writes = λ n f i le. ap (λ es. writes_among room root_alone 0 es (n - 0) f i) done ∙ same_writes room root_alone (done_by events) (done_from events more) (n - 0) f i (size n le);
+  writes = λ n f i le. ap (λ es. writes_among room (root_alone width) 0 es (n - 0) f i) done ∙ same_writes room (root_alone width) (done_by events) (done_from events more) (n - 0) f i (size n le);
   content = λ f i v le. ap (λ t. unwrap_or (block_at t f i) []) (tree v le);
   changes = λ k c f commit.
       let sub : IsSubmitted s k = Submitted c commit in
@@ -74,10 +74,10 @@ events_extend room events more cut new_cut place s cuts same within versions = r
       let up = within k sub in
       let long = length-done_from [] events in
       let rise = cuts_up k in
-      ap (λ a. changed_after room root_alone 0 (done_by (events ++ more)) a (new_cut k - a) f) d
-      ∙ ap (λ b. changed_after room root_alone 0 (done_by (events ++ more)) (cut (k - 1)) (b - cut (k - 1)) f) e
-      ∙ ap (λ es. changed_after room root_alone 0 es (cut (k - 1)) (cut k - cut (k - 1)) f) done
-      ∙ same_changed_after room root_alone (done_by events) (done_from events more) (cut (k - 1)) (cut k - cut (k - 1)) f (omega arith);
+      ap (λ a. changed_after room (root_alone width) 0 (done_by (events ++ more)) a (new_cut k - a) f) d
+      ∙ ap (λ b. changed_after room (root_alone width) 0 (done_by (events ++ more)) (cut (k - 1)) (b - cut (k - 1)) f) e
+      ∙ ap (λ es. changed_after room (root_alone width) 0 es (cut (k - 1)) (cut k - cut (k - 1)) f) done
+      ∙ same_changed_after room (root_alone width) (done_by events) (done_from events more) (cut (k - 1)) (cut k - cut (k - 1)) f (omega arith);
   place = λ a n f i le. refl;
 }
   where
@@ -87,8 +87,8 @@ events_extend room events more cut new_cut place s cuts same within versions = r
     size : (n : ℕ) → n ≤ length events → n - 0 ≤ length (done_by events)
     size n le = let long = length-done_from [] events in omega arith
 
-    tree : (n : ℕ) → n ≤ length events → tree_after_entries room root_alone 0 (done_by (events ++ more)) (n - 0) ≡ tree_after_entries room root_alone 0 (done_by events) (n - 0)
-    tree n le = ap (λ es. tree_after_entries room root_alone 0 es (n - 0)) done ∙ same_tree room root_alone (done_by events) (done_from events more) (n - 0) (size n le)
+    tree : (n : ℕ) → n ≤ length events → tree_after_entries room (root_alone width) 0 (done_by (events ++ more)) (n - 0) ≡ tree_after_entries room (root_alone width) 0 (done_by events) (n - 0)
+    tree n le = ap (λ es. tree_after_entries room (root_alone width) 0 es (n - 0)) done ∙ same_tree room (root_alone width) (done_by events) (done_from events more) (n - 0) (size n le)
 
     cuts_up : (k : ℕ) → cut (k - 1) ≤ cut k
     cuts_up zero = omega arith

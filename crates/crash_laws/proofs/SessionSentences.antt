@@ -27,7 +27,7 @@ module _ (run : Run) (rules : KeepsRules run)
     (m : Medium) (closed : IsOrderClosed run.session.base run.session.requests m.image m.origins)
     (recovered : List (List ℕ)) (recovers : IsRecovered run.session m (disk_of recovered)) where
   trees : HasTrees (history run)
-  trees = real_trees run.room run.events run.cut run.place rules.cuts
+  trees = real_trees run.room run.geometry.width run.events run.cut run.place rules.cuts
 
   held : HoldsPrefix (walk_volume run.geometry) (history run) run.session m (disk_of recovered) (found run.session m)
   held = prefix_and_versions (walk_volume run.geometry) (history run) run.session m (disk_of recovered) rules.order closed trees rules.pages rules.versions recovers

@@ -69,13 +69,13 @@ done_from before (e ∷ events) = done_at before e ∷ done_from (before ++ e �
 abbrev pub done_by : List Event → List Entry
 done_by events = done_from [] events
 
--- the root alone, as in a new volume
-abbrev pub root_alone : Tree
-root_alone = (0, nodes.Directory (record { parent = 0; slots = 2; names = [] })) ∷ []
+-- the root alone, as in a new volume with names of this width
+abbrev pub root_alone : ℕ → Tree
+root_alone width = (0, nodes.Directory (record { parent = 0; width = width; slots = 2; names = [] })) ∷ []
 
 -- the tree after the entries numbered up to n
-abbrev pub tree_up_to : Room → List Event → ℕ → Tree
-tree_up_to room events n = tree_at room root_alone 0 (done_by events) n
+abbrev pub tree_up_to : Room → ℕ → List Event → ℕ → Tree
+tree_up_to room width events n = tree_at room (root_alone width) 0 (done_by events) n
 
 -- ---- legal histories
 
@@ -101,12 +101,12 @@ pub record IsReply (room : Room) (tree : Tree) (n : ℕ) (c : Call) (r : Reply) 
 abbrev pub IsBegun : List Event → ℕ → ℕ → Type 0
 IsBegun events i t = has_begun t false (take i events) ≡ true
 
-pub record IsLegal (room : Room) (programs : ℕ → List Call) (events : List Event) : Type 0 where
+pub record IsLegal (room : Room) (width : ℕ) (programs : ℕ → List Call) (events : List Event) : Type 0 where
   pub programs_followed : (t : ℕ) → Follows (of_thread t events) (programs t)
   -- a call that ends at once
-  pub at_once : (i t : ℕ) (c : Call) (r : Reply) → slice_get events i ≡ Some (End t c r) → (IsBegun events i t → ⊥) → IsReply room (tree_up_to room events i) (i + 1) c r
+  pub at_once : (i t : ℕ) (c : Call) (r : Reply) → slice_get events i ≡ Some (End t c r) → (IsBegun events i t → ⊥) → IsReply room (tree_up_to room width events i) (i + 1) c r
   -- a call begins where the tree does not refuse it, and then is done or turned away
-  pub begins : (i t : ℕ) (c : Call) → slice_get events i ≡ Some (Begin t c) → (is_waiting c ≡ true) × (reply_of room (tree_up_to room events i) (i + 1) c ≡ replies.Ok)
+  pub begins : (i t : ℕ) (c : Call) → slice_get events i ≡ Some (Begin t c) → (is_waiting c ≡ true) × (reply_of room (tree_up_to room width events i) (i + 1) c ≡ replies.Ok)
   pub ends : (i t : ℕ) (c : Call) (r : Reply) → slice_get events i ≡ Some (End t c r) → IsBegun events i t → (r ≡ replies.Ok) ⊎ (is_turned_away r ≡ true)
   -- behind a reply that the device is off or failed, no other is given
   pub down : (i j t u : ℕ) (c d : Call) (r : Reply) → i < j → slice_get events i ≡ Some (End t c replies.Down) → slice_get events j ≡ Some (End u d r) → r ≡ replies.Down
@@ -114,10 +114,10 @@ pub record IsLegal (room : Room) (programs : ℕ → List Call) (events : List E
       → (r ≡ replies.ReadOnly id) ⊎ (r ≡ replies.Down)
 
 -- what one event more owes
-pub record EventClause (room : Room) (programs : ℕ → List Call) (events : List Event) (e : Event) : Type 0 where
+pub record EventClause (room : Room) (width : ℕ) (programs : ℕ → List Call) (events : List Event) (e : Event) : Type 0 where
   pub followed : Follows (of_thread (thread_of e) (events ++ e ∷ [])) (programs (thread_of e))
-  pub at_once : (t : ℕ) (c : Call) (r : Reply) → e ≡ End t c r → (has_begun t false events ≡ true → ⊥) → IsReply room (tree_up_to room events (length events)) (length events + 1) c r
-  pub begins : (t : ℕ) (c : Call) → e ≡ Begin t c → (is_waiting c ≡ true) × (reply_of room (tree_up_to room events (length events)) (length events + 1) c ≡ replies.Ok)
+  pub at_once : (t : ℕ) (c : Call) (r : Reply) → e ≡ End t c r → (has_begun t false events ≡ true → ⊥) → IsReply room (tree_up_to room width events (length events)) (length events + 1) c r
+  pub begins : (t : ℕ) (c : Call) → e ≡ Begin t c → (is_waiting c ≡ true) × (reply_of room (tree_up_to room width events (length events)) (length events + 1) c ≡ replies.Ok)
   pub ends : (t : ℕ) (c : Call) (r : Reply) → e ≡ End t c r → has_begun t false events ≡ true → (r ≡ replies.Ok) ⊎ (is_turned_away r ≡ true)
   pub down : (i t u : ℕ) (c d : Call) (r : Reply) → slice_get events i ≡ Some (End t c replies.Down) → e ≡ End u d r → r ≡ replies.Down
   pub read_only : (i t u id : ℕ) (c d : Call) (r : Reply) → slice_get events i ≡ Some (End t c (replies.ReadOnly id)) → e ≡ End u d r → is_reading d ≡ false

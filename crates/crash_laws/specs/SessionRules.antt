@@ -34,11 +34,11 @@ pub record Run : Type 0 where
   pub place : ℕ → WalkEnd → ℕ → ℕ → ℕ
 
 abbrev pub history : Run → History WalkEnd
-history run = history_of run.room run.events run.cut run.place
+history run = history_of run.room run.geometry.width run.events run.cut run.place
 
 -- the tree after the entries numbered up to n
 abbrev pub tree_at : Run → ℕ → Tree
-tree_at run n = tree_up_to run.room run.events n
+tree_at run n = tree_up_to run.room run.geometry.width run.events n
 
 -- all order rules
 pub record KeepsRules (run : Run) : Type 0 where
@@ -48,9 +48,9 @@ pub record KeepsRules (run : Run) : Type 0 where
   pub trees : HasTreesOf run.geometry run.session (λ k. tree_at run (run.cut k))
   pub pages : PageOrder (walk_volume run.geometry) (history run) run.session
   pub versions : DataBeforeCommit (walk_volume run.geometry) (history run) run.session
-  pub barriers : (c : Call) (begun : BegunCall) (e : ℕ) → IsAnswered run.room run.events c begun e → is_barrier c ≡ true
+  pub barriers : (c : Call) (begun : BegunCall) (e : ℕ) → IsAnswered run.room run.geometry.width run.events c begun e → is_barrier c ≡ true
       → KeepsBarrier (history run) run.session e (Covers (history run) begun) (CoversEntry begun)
-  pub syncs : (c : Call) (begun : BegunCall) (e : ℕ) → IsAnswered run.room run.events c begun e → is_barrier c ≡ false
+  pub syncs : (c : Call) (begun : BegunCall) (e : ℕ) → IsAnswered run.room run.geometry.width run.events c begun e → is_barrier c ≡ false
       → KeepsSync (history run) run.session run.taken (Covers (history run) begun) (CoversEntry begun) ⊎ CoversNothing (history run) begun
 
 -- ---- the sentences, of a medium with F kept commit blocks and the blocks that recovery made of it
@@ -89,6 +89,6 @@ pub record Sentences (run : Run) (m : Medium) (recovered : List (List ℕ)) (F :
   pub prefix : HasPrefix run m recovered F
   pub versions : HasVersions run m recovered F
   -- where a write made after a barrier call survived
-  pub barriers : (c : Call) (begun : BegunCall) (e : ℕ) → IsAnswered run.room run.events c begun e → is_barrier c ≡ true
+  pub barriers : (c : Call) (begun : BegunCall) (e : ℕ) → IsAnswered run.room run.geometry.width run.events c begun e → is_barrier c ≡ true
       → IsLaterKept (history run) run.session m F e → IsSafe run m recovered F begun
-  pub syncs : (c : Call) (begun : BegunCall) (e : ℕ) → IsAnswered run.room run.events c begun e → is_barrier c ≡ false → IsSafe run m recovered F begun
+  pub syncs : (c : Call) (begun : BegunCall) (e : ℕ) → IsAnswered run.room run.geometry.width run.events c begun e → is_barrier c ≡ false → IsSafe run m recovered F begun

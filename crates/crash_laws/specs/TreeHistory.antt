@@ -56,13 +56,13 @@ pub record AreCuts (cut : ℕ → ℕ) : Type 0 where
   pub rise : (k : ℕ) → cut k ≤ cut (k + 1)
 
 -- the calls of a session on the root alone, with these cuts, and a place for each file of its trees
-abbrev pub history_of : Room → List Event → (ℕ → ℕ) → (ℕ → WalkEnd → ℕ → ℕ → ℕ) → History WalkEnd
-history_of room events cut place = record {
+abbrev pub history_of : Room → ℕ → List Event → (ℕ → ℕ) → (ℕ → WalkEnd → ℕ → ℕ → ℕ) → History WalkEnd
+history_of room width events cut place = record {
   cut = cut;
-  maps = maps room root_alone 0 (done_by events);
-  writes = wrote room root_alone 0 (done_by events);
-  content = λ birth index n. content room root_alone 0 (done_by events) n birth index;
-  changes = λ k birth. changed_after room root_alone 0 (done_by events) (cut (k - 1)) (cut k - cut (k - 1)) birth;
+  maps = maps room (root_alone width) 0 (done_by events);
+  writes = wrote room (root_alone width) 0 (done_by events);
+  content = λ birth index n. content room (root_alone width) 0 (done_by events) n birth index;
+  changes = λ k birth. changed_after room (root_alone width) 0 (done_by events) (cut (k - 1)) (cut k - cut (k - 1)) birth;
   place = λ found n birth index. place n found birth index;
 }
 
@@ -87,11 +87,11 @@ is_barrier (calls.Fdatabarrier path) = true
 is_barrier other = false
 
 -- Entry e answers Ok to this call, which its thread began before, and did nothing between.
-pub record IsAnswered (room : Room) (events : List Event) (c : Call) (begun : BegunCall) (e : ℕ) : Type 0 where
+pub record IsAnswered (room : Room) (width : ℕ) (events : List Event) (c : Call) (begun : BegunCall) (e : ℕ) : Type 0 where
   pub thread : ℕ
   pub place : ℕ
   pub began : slice_get events place ≡ Some (Begin thread c)
-  pub covers : begun_call (tree_up_to room events place) (place + 1) c ≡ Some begun
+  pub covers : begun_call (tree_up_to room width events place) (place + 1) c ≡ Some begun
   pub end : ℕ
   pub numbered : e ≡ end + 1
   pub ended : slice_get events end ≡ Some (End thread c replies.Ok)

@@ -25,9 +25,9 @@ ghost use Rattle.crash_laws.specs.Volumes.{WalkEnd};
 /// A law, which does nothing when it is called: what the laws ask of a history holds of the calls of every session on
 /// real trees, and each file of a tree has a place in each volume whose tree is alike, by whichever of its paths.
 pub fn calls_on_trees_make_a_history()
-    ensures trees { (room : Room) (events : List Event) (cut : ℕ → ℕ) (place : ℕ → WalkEnd → ℕ → ℕ → ℕ) →
-        AreCuts cut → HasTrees (history_of room events cut place) }
-    ensures rooted { (room : Room) (events : List Event) (n : ℕ) → IsRooted (tree_up_to room events n) }
+    ensures trees { (room : Room) (width : ℕ) (events : List Event) (cut : ℕ → ℕ) (place : ℕ → WalkEnd → ℕ → ℕ → ℕ) →
+        AreCuts cut → HasTrees (history_of room width events cut place) }
+    ensures rooted { (room : Room) (width : ℕ) (events : List Event) (n : ℕ) → IsRooted (tree_up_to room width events n) }
     ensures places { (g : Geometry) (tree : Tree) → IsRooted tree →
         (place : WalkEnd → ℕ → ℕ → ℕ) × IsPlaceIn g tree place }
 {}
@@ -47,29 +47,29 @@ pub fn sentences_follow_from_the_rules()
 /// A law, which does nothing when it is called: the empty history is legal, one event more keeps it legal where it owes
 /// what it has to, and tells the laws the same of all entries before.
 pub fn histories_of_calls_may_grow()
-    ensures start { (room : Room) (programs : ℕ → List Call) → IsLegal room programs [] }
-    ensures legal { (room : Room) (programs : ℕ → List Call) (events : List Event) (e : Event) →
-        IsLegal room programs events → EventClause room programs events e →
-        IsLegal room programs (events ++ e ∷ []) }
-    ensures extends { (room : Room) (events more : List Event) (cut new_cut : ℕ → ℕ) (place : ℕ → WalkEnd → ℕ → ℕ → ℕ) (s : Session) →
+    ensures start { (room : Room) (width : ℕ) (programs : ℕ → List Call) → IsLegal room width programs [] }
+    ensures legal { (room : Room) (width : ℕ) (programs : ℕ → List Call) (events : List Event) (e : Event) →
+        IsLegal room width programs events → EventClause room width programs events e →
+        IsLegal room width programs (events ++ e ∷ []) }
+    ensures extends { (room : Room) (width : ℕ) (events more : List Event) (cut new_cut : ℕ → ℕ) (place : ℕ → WalkEnd → ℕ → ℕ → ℕ) (s : Session) →
         AreCuts cut → ((j k : ℕ) → IsSubmitted s k → j ≤ k → new_cut j ≡ cut j) →
         ((k : ℕ) → IsSubmitted s k → cut k ≤ length events) →
         ((o f i v : ℕ) → HasNote s o (Page f i v) → v ≤ length events) →
-        Extends (history_of room events cut place) (history_of room (events ++ more) new_cut place) s (length events) }
+        Extends (history_of room width events cut place) (history_of room width (events ++ more) new_cut place) s (length events) }
 {}
 
 /// A law, which does nothing when it is called: the tree changes by what a call does, where the call ends at once with the
 /// tree's reply; and nowhere else: not where a call begins, where one that had begun ends, or where one is turned away.
 pub fn trees_change_by_calls_that_are_done()
-    ensures done { (room : Room) (events : List Event) (i t : ℕ) (c : Call) (r : Reply) →
+    ensures done { (room : Room) (width : ℕ) (events : List Event) (i t : ℕ) (c : Call) (r : Reply) →
         slice_get events i ≡ Some (End t c r) → has_begun t false (take i events) ≡ false → is_turned_away r ≡ false →
-        tree_up_to room events (i + 1) ≡ tree_after room (tree_up_to room events i) (i + 1) c }
-    ensures turned_away { (room : Room) (events : List Event) (i t : ℕ) (c : Call) (r : Reply) →
+        tree_up_to room width events (i + 1) ≡ tree_after room (tree_up_to room width events i) (i + 1) c }
+    ensures turned_away { (room : Room) (width : ℕ) (events : List Event) (i t : ℕ) (c : Call) (r : Reply) →
         slice_get events i ≡ Some (End t c r) → is_turned_away r ≡ true →
-        tree_up_to room events (i + 1) ≡ tree_up_to room events i }
-    ensures waited { (room : Room) (events : List Event) (i t : ℕ) (c : Call) (r : Reply) →
+        tree_up_to room width events (i + 1) ≡ tree_up_to room width events i }
+    ensures waited { (room : Room) (width : ℕ) (events : List Event) (i t : ℕ) (c : Call) (r : Reply) →
         slice_get events i ≡ Some (End t c r) → has_begun t false (take i events) ≡ true →
-        tree_up_to room events (i + 1) ≡ tree_up_to room events i }
-    ensures begins { (room : Room) (events : List Event) (i t : ℕ) (c : Call) →
-        slice_get events i ≡ Some (Begin t c) → tree_up_to room events (i + 1) ≡ tree_up_to room events i }
+        tree_up_to room width events (i + 1) ≡ tree_up_to room width events i }
+    ensures begins { (room : Room) (width : ℕ) (events : List Event) (i t : ℕ) (c : Call) →
+        slice_get events i ≡ Some (Begin t c) → tree_up_to room width events (i + 1) ≡ tree_up_to room width events i }
 {}
