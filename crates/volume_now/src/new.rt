@@ -1,5 +1,6 @@
 //! A new volume.
 ghost use Rattle.std.specs.Prelude.{◌≡◌, codes, IfOk};
+ghost use Rattle.minix_layout.specs.Widths.{IsWidth};
 ghost use Rattle.volume_model.specs.NewVolume.{new_blocks, root_placed};
 ghost use Rattle.volume_steps.specs.NewNow.{new_now};
 
@@ -15,6 +16,7 @@ use zone_maps::ZoneMap;
 
 /// A volume whose root is all that it has, in the first zone of data.
 pub fn new_volume(alloc: Global, geometry: Geometry) -> Result<VolumeNow, NoMemory>
+    requires { IsWidth geometry.width }
     ensures { IfOk result (λ v. v ≡ new_now geometry) }
 {
     let blocks = new_blocks(alloc, &geometry)?;
@@ -50,10 +52,11 @@ pub fn dots(above: u16) -> Slot
 }
 
 fn new_blocks(alloc: Global, g: &Geometry) -> Result<Image, NoMemory>
+    requires { IsWidth g.now.width }
     ensures { IfOk result (λ i. i ≡ new_blocks g.now) }
 {
     let mut blocks = Image::zeroed(alloc, g.zones.into())?;
-    put_inode(&mut blocks, g, 1, &Inode::new_directory(g.first));
+    put_inode(&mut blocks, g, 1, &Inode::new_directory(g.width, g.first));
     put_slot(&mut blocks, g, g.first, 0, Some(&dot(1)));
     put_slot(&mut blocks, g, g.first, 1, Some(&dots(1)));
     Ok(blocks)
@@ -65,9 +68,10 @@ fn root(alloc: Global, g: &Geometry) -> Result<Placed, NoMemory>
     let slots = Vec::from_array(alloc, [Some(dot(1)), Some(dots(1))])?;
     Ok(Placed {
         number: 1,
-        inode: Inode::new_directory(g.first),
+        inode: Inode::new_directory(g.width, g.first),
         part: Part::Directory(DirectoryPart {
             parent: 0,
+            width: g.width,
             names: Names::new(alloc),
             slots: Slots::of(slots),
         }),
