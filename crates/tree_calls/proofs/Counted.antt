@@ -8,6 +8,7 @@ use Rattle.std.proofs.lemmas.Cmp.{nat_list_cmp_total}
 use Rattle.std.proofs.lemmas.List.Sums.{sum_by-cons}
 use Rattle.std.proofs.lemmas.Map.Entries.{sum_by-insert_entry, sum_by-remove_entry, length-values_of}
 use Rattle.std.proofs.lemmas.Option.{same_Some}
+use Rattle.minix_layout.specs.Widths.{IsWidth, of_14, of_30}
 use Rattle.tree_model.specs.declared.call.Call.{Call}
 use Rattle.tree_model.specs.declared.call.Call.TheVariants as calls
 use Rattle.tree_model.specs.declared.call.Room.{Room}
@@ -18,6 +19,7 @@ use Rattle.tree_model.specs.declared.node.File.{File}
 use Rattle.tree_model.specs.Maps.{at_number, at_name, put_name, put_number, without_number, name_cmp}
 use Rattle.tree_model.specs.Plain.{IsPlain}
 use Rattle.tree_model.specs.Calls.{Tree, Done, Row, Found, Place, Move, a_file, is_full, needs_slot, slots_with, most_links, most_slots, with_name, without_name, with_links, give_name, take_name, put_file, lose_link, new_directory, new_file, target_at, stays, changes_parent, place_after, moved_node, without_target, tree_moved, outcome, tree_from, tree_after, written_file, cut_file}
+use Rattle.tree_model.specs.laws.Examples.{new_tree}
 use Rattle.tree_model.specs.laws.MapOrder.{InOrder, in_order_put, NamesInOrder, names_in_order_without, at_name_without_apart}
 use Rattle.tree_model.proofs.Blocks.{target_stands}
 use Rattle.tree_model.proofs.Changes.{IsMade, IsLinked, IsRenamed, Change, stayed, made_directory, made_file, removed, unlinked, linked, renamed, written, written_bytes, truncated, outcome_change}
@@ -28,7 +30,7 @@ use Rattle.tree_calls.specs.Countable.{IsCountable}
 
 abbrev pub Fits : Option Node → Type 0
 Fits (Some (nodes.File f)) = f.links ≤ most_links
-Fits (Some (nodes.Directory d)) = (length d.names + 2 ≤ d.slots) × (d.slots ≤ most_slots)
+Fits (Some (nodes.Directory d)) = (length d.names + 2 ≤ d.slots) × (d.slots ≤ most_slots d.width) × IsWidth d.width
 Fits other = Unit {0}
 
 abbrev pub AllFit : Tree → Type 0
@@ -39,7 +41,7 @@ all_fit tree h birth = by (at_number tree birth) refl
   where
     by : (o : Option Node) → at_number tree birth ≡ o → Fits o
     by (Some (nodes.File f)) e = h.links birth f e
-    by (Some (nodes.Directory d)) e = (h.names birth d e, h.slots birth d e)
+    by (Some (nodes.Directory d)) e = (h.names birth d e, h.slots birth d e, h.widths birth d e)
     by (Some (nodes.Other mode)) e = tt
     by None e = tt
 
@@ -48,7 +50,13 @@ countable tree all = record {
   links = λ birth f e. subst Fits e (all birth);
   names = λ birth d e. (subst Fits e (all birth)).0;
   slots = λ birth d e. (subst Fits e (all birth)).1;
+  widths = λ birth d e. (subst Fits e (all birth)).2;
 }
+
+-- a new directory
+pub new_fits : (width parent : ℕ) → IsWidth width → Fits (Some (new_directory width parent))
+new_fits width parent of_14 = (omega arith, omega arith, of_14)
+new_fits width parent of_30 = (omega arith, omega arith, of_30)
 
 -- ---- how many names there are
 
@@ -74,7 +82,7 @@ without_length names k =
     omega arith
 
 without_fits : (d : Directory) (k : List ℕ) → Fits (Some (nodes.Directory d)) → Fits (Some (nodes.Directory (without_name d k)))
-without_fits d k h = let less = without_length d.names k in let low = h.0 in (omega arith, h.1)
+without_fits d k h = let less = without_length d.names k in let low = h.0 in (omega arith, h.1, h.2)
 
 module _ (d : Directory) (k : List ℕ) (b : ℕ) (sorted : NamesInOrder d.names) (h : Fits (Some (nodes.Directory d))) where
   slots_are : (o : Option ℕ) (n : Bool) → at_name d.names k ≡ o → needs_slot d ≡ n → slots_with d k ≡ (if not (is_some o) && n then d.slots + 1 else d.slots)
@@ -83,8 +91,8 @@ module _ (d : Directory) (k : List ℕ) (b : ℕ) (sorted : NamesInOrder d.names
   room_left : (names slots : ℕ) → not (nat_lt (names + 2) slots) ≡ false → names + 2 < slots
   room_left names slots f = grind arith
 
-  by : (o : Option ℕ) (n f : Bool) → at_name d.names k ≡ o → needs_slot d ≡ n → nat_le most_slots d.slots ≡ f → (is_some o ≡ true) ⊎ ((n && f) ≡ false) →
-      (length (put_name d.names k b) + 2 ≤ slots_with d k) × (slots_with d k ≤ most_slots)
+  by : (o : Option ℕ) (n f : Bool) → at_name d.names k ≡ o → needs_slot d ≡ n → nat_le (most_slots d.width) d.slots ≡ f → (is_some o ≡ true) ⊎ ((n && f) ≡ false) →
+      (length (put_name d.names k b) + 2 ≤ slots_with d k) × (slots_with d k ≤ most_slots d.width)
   by (Some x) n f e needs most free =
       let all = put_length d.names k b sorted in
       let one : one_found (at_name d.names k) ≡ 1 = ap one_found e in
@@ -98,12 +106,12 @@ module _ (d : Directory) (k : List ℕ) (b : ℕ) (sorted : NamesInOrder d.names
       let all = put_length d.names k b sorted in
       let none : one_found (at_name d.names k) ≡ 0 = ap one_found e in
       let slots : slots_with d k ≡ d.slots + 1 = slots_are None true e needs in
-      let less : d.slots < most_slots = not_most d.slots most in
+      let less : d.slots < most_slots d.width = not_most (most_slots d.width) d.slots most in
       let low = h.0 in
       (omega arith, omega arith)
     where
-      not_most : (slots : ℕ) → nat_le most_slots slots ≡ false → slots < most_slots
-      not_most slots f = grind arith
+      not_most : (high slots : ℕ) → nat_le high slots ≡ false → slots < high
+      not_most high slots f = grind arith
   by None false f e needs most free =
       let all = put_length d.names k b sorted in
       let none : one_found (at_name d.names k) ≡ 0 = ap one_found e in
@@ -113,7 +121,9 @@ module _ (d : Directory) (k : List ℕ) (b : ℕ) (sorted : NamesInOrder d.names
       (omega arith, omega arith)
 
   pub with_fits : (is_some (at_name d.names k) ≡ true) ⊎ (is_full d ≡ false) → Fits (Some (nodes.Directory (with_name d k b)))
-  with_fits free = by (at_name d.names k) (needs_slot d) (nat_le most_slots d.slots) refl refl refl free
+  with_fits free =
+      let counted = by (at_name d.names k) (needs_slot d) (nat_le (most_slots d.width) d.slots) refl refl refl free in
+      (counted.0, counted.1, h.2)
 
 -- ---- trees
 
@@ -247,7 +257,9 @@ module _ (tree : Tree) (plain : IsPlain tree) (all : AllFit tree) where
 
   change_fit : (n : ℕ) (c : Call) (d : Done) → Change tree n d c → AllFit d.tree
   change_fit n c d (stayed quiet same) = subst AllFit (sym same) all
-  change_fit n (calls.Mkdir path) d (made_directory parent x e g) = put_made_fit n (new_directory parent) d (omega arith, omega arith) x
+  change_fit n (calls.Mkdir path) d (made_directory {width} parent x e g) =
+      let above = (place_fits tree x.place all x.is_place.stands).2 in
+      put_made_fit n (new_directory width parent) d (new_fits width parent (subst IsWidth g.1 above)) x
   change_fit n (calls.Create path) d (made_file x) = put_made_fit n new_file d (omega arith) x
   change_fit n (calls.Rmdir path) d (removed x) =
       subst AllFit (sym x.tree_is) (each_without Fits (take_name tree x.place) x.found.birth (in_order_put tree x.place.parent _ plain.rooted.in_order) tt (take_all_fit tree x.place all x.is_place.stands))
@@ -268,6 +280,9 @@ module _ (tree : Tree) (plain : IsPlain tree) (all : AllFit tree) where
   pub call_fits : (room : Room) (n : ℕ) (c : Call) → AllFit (tree_after room tree n c)
   unfolding tree_after
   call_fits room n c = by_outcome room n c (outcome room tree n c) refl
+
+pub new_countable : (width : ℕ) → IsWidth width → IsCountable (new_tree width)
+new_countable width is = countable (new_tree width) (each_put Fits [] 0 (new_directory width 0) (new_fits width 0 is) (λ birth. tt))
 
 pub call_countable : (room : Room) (tree : Tree) (n : ℕ) (c : Call) → IsPlain tree → IsCountable tree → IsCountable (tree_after room tree n c)
 call_countable room tree n c plain h = countable (tree_after room tree n c) (call_fits tree plain (all_fit tree h) room n c)

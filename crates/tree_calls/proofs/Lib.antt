@@ -5,3 +5,4 @@ pub mod Turns
 pub mod Sums
 pub mod Rooms
 pub mod Counted
+pub mod Widths

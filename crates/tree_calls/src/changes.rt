@@ -15,7 +15,7 @@ use std::alloc::Global;
 use tree_model::{Directory, File, FileBlocks, Names, Node, Tree};
 
 fn slots_with(directory: &Directory, name: &Name) -> u32
-    requires { directory.now.slots ≤ most_slots }
+    requires { directory.now.slots ≤ most_slots directory.now.width }
     ensures { result ≡ slots_with directory.now name.now }
 {
     if directory.names.get(name).is_none() && needs_slot(directory) {
@@ -26,7 +26,7 @@ fn slots_with(directory: &Directory, name: &Name) -> u32
 }
 
 fn with_name(directory: Directory, name: &Name, birth: u64) -> Result<Directory, NoMemory>
-    requires { directory.slots ≤ most_slots }
+    requires { directory.slots ≤ most_slots directory.width }
     ensures { IfOk result (λ d. d ≡ with_name directory name.now birth) }
 {
     let mut named = directory;
@@ -60,7 +60,7 @@ pub fn give_name(
     place: &Place<'_>,
     birth: u64,
 ) -> Result<(), NoMemory>
-    requires { place.now.directory.now.slots ≤ most_slots }
+    requires { place.now.directory.now.slots ≤ most_slots place.now.directory.now.width }
     ensures { OnOk result (tree.new ≡ give_name tree.old (place_from place.now) birth) }
 {
     let directory = with_name(place.directory.copy(alloc)?, &place.name, birth)?;
@@ -75,16 +75,18 @@ pub fn take_name(alloc: Global, tree: &mut Tree, place: &Place<'_>) -> Result<()
     tree.put(place.parent, Node::Directory(directory))
 }
 
+// A directory with no names in the one of a place.
 pub fn put_new_directory(
     alloc: Global,
     tree: &mut Tree,
     birth: u64,
-    parent: u64,
+    place: &Place<'_>,
 ) -> Result<(), NoMemory>
-    ensures { OnOk result (tree.new ≡ put_number tree.old birth (new_directory parent)) }
+    ensures { OnOk result (tree.new ≡ put_number tree.old birth (new_directory place.now.directory.now.width place.now.parent)) }
 {
     let directory = Directory {
-        parent,
+        parent: place.parent,
+        width: place.directory.width,
         slots: 2,
         names: Names::new(alloc),
     };
@@ -173,6 +175,7 @@ fn moved_node(alloc: Global, parent: u64, node: &Node) -> Result<Node, NoMemory>
     match node {
         Node::Directory(directory) => Ok(Node::Directory(Directory {
             parent,
+            width: directory.width,
             slots: directory.slots,
             names: directory.names.copy(alloc)?,
         })),
@@ -183,6 +186,7 @@ fn moved_node(alloc: Global, parent: u64, node: &Node) -> Result<Node, NoMemory>
 // The new directory once the old name is gone.
 fn directory_after(alloc: Global, moved: &Moved<'_>) -> Result<Directory, NoMemory>
     ensures value { IfOk result (λ d. d ≡ (place_after (move_from moved.now)).directory) }
+    ensures width { IfOk result (λ d. d.width ≡ moved.now.to.directory.now.width) }
     ensures slots { IfOk result (λ d. d.slots ≡ moved.now.to.directory.now.slots) }
 {
     if moved.changes_parent() {
@@ -193,7 +197,7 @@ fn directory_after(alloc: Global, moved: &Moved<'_>) -> Result<Directory, NoMemo
 
 // The old name is taken out, a file that stands at the new one loses a link, and the new name leads to the node.
 pub fn move_node(alloc: Global, tree: &mut Tree, moved: &Moved<'_>) -> Result<(), NoMemory>
-    requires { moved.now.to.directory.now.slots ≤ most_slots }
+    requires { moved.now.to.directory.now.slots ≤ most_slots moved.now.to.directory.now.width }
     ensures { OnOk result (tree.new ≡ (if stays (move_from moved.now) then tree.old else tree_moved tree.old (move_from moved.now))) }
 {
     if moved.stays() {

@@ -6,7 +6,7 @@ ghost use Rattle.std.specs.Option.{option_copied};
 ghost use Rattle.tree_calls.specs.code.Steps.{place_from};
 
 use crate::walk::Place;
-use minix_layout::MOST_SLOTS;
+use minix_layout::most_slots;
 use tree_model::{Directory, Node, Tree};
 
 pub fn is_directory(node: Option<&Node>) -> bool
@@ -46,5 +46,5 @@ pub fn needs_slot(directory: &Directory) -> bool
 pub fn is_full(directory: &Directory) -> bool
     ensures { result ≡ is_full directory.now }
 {
-    needs_slot(directory) && directory.slots >= MOST_SLOTS
+    needs_slot(directory) && directory.slots >= most_slots(directory.width)
 }

@@ -7,7 +7,7 @@ ghost use Rattle.tree_calls.specs.code.Steps.{Decides, HasNodes};
 use crate::directories::directory_links;
 use crate::step::{Opened, Step};
 use crate::walk::walked;
-use minix_layout::LARGEST_SIZE;
+use minix_layout::{LARGEST_SIZE, slot_size};
 use tree_model::{ByteList, Node, Reply, Tree, names_of};
 
 fn is_too_big(off: u32, len: usize) -> bool
@@ -23,6 +23,7 @@ pub fn fill<'a>(
     len: u32,
     value: u8,
 ) -> Result<Step<'a>, Reply>
+    requires { IsCountable tree.now }
     ensures row { (n : ℕ) → Decides tree.now n result (write tree.now path.now off (replicate len value)) }
     ensures nodes { IfOk result (HasNodes tree.now) }
 {
@@ -47,6 +48,7 @@ pub fn write<'a>(
     off: u32,
     bytes: &'a ByteList,
 ) -> Result<Step<'a>, Reply>
+    requires { IsCountable tree.now }
     ensures row { (n : ℕ) → Decides tree.now n result (write tree.now path.now off bytes.now) }
     ensures nodes { IfOk result (HasNodes tree.now) }
 {
@@ -67,6 +69,7 @@ pub fn write<'a>(
 }
 
 pub fn truncate<'a>(tree: &'a Tree, path: &ByteList, size: u32) -> Result<Step<'a>, Reply>
+    requires { IsCountable tree.now }
     ensures row { (n : ℕ) → Decides tree.now n result (truncate tree.now path.now size) }
     ensures nodes { IfOk result (HasNodes tree.now) }
 {
@@ -86,6 +89,7 @@ pub fn truncate<'a>(tree: &'a Tree, path: &ByteList, size: u32) -> Result<Step<'
 }
 
 pub fn read<'a>(tree: &'a Tree, path: &ByteList, off: u32, len: u32) -> Result<Step<'a>, Reply>
+    requires { IsCountable tree.now }
     ensures row { (n : ℕ) → Decides tree.now n result (read tree.now path.now off len) }
     ensures nodes { IfOk result (HasNodes tree.now) }
 {
@@ -98,6 +102,7 @@ pub fn read<'a>(tree: &'a Tree, path: &ByteList, off: u32, len: u32) -> Result<S
 }
 
 pub fn list<'a>(tree: &'a Tree, path: &ByteList) -> Result<Step<'a>, Reply>
+    requires { IsCountable tree.now }
     ensures row { (n : ℕ) → Decides tree.now n result (list tree.now path.now) }
     ensures nodes { IfOk result (HasNodes tree.now) }
 {
@@ -119,7 +124,11 @@ pub fn stat<'a>(tree: &'a Tree, path: &ByteList) -> Result<Step<'a>, Reply>
     match found.node {
         Node::Directory(directory) => {
             let links = directory_links(tree, directory);
-            Ok(Step::Stat(true, 16 * directory.slots, links as u32))
+            Ok(Step::Stat(
+                true,
+                slot_size(directory.width) * directory.slots,
+                links as u32,
+            ))
         }
         Node::File(file) => Ok(Step::Stat(false, file.size, file.links.into())),
         Node::Other(_) => Err(Reply::NotFound),
@@ -127,6 +136,7 @@ pub fn stat<'a>(tree: &'a Tree, path: &ByteList) -> Result<Step<'a>, Reply>
 }
 
 pub fn barrier<'a>(tree: &'a Tree, path: &ByteList) -> Result<Step<'a>, Reply>
+    requires { IsCountable tree.now }
     ensures row { (n : ℕ) → Decides tree.now n result (barrier tree.now path.now) }
     ensures nodes { IfOk result (HasNodes tree.now) }
 {

@@ -56,7 +56,7 @@ fn change(alloc: Global, tree: &mut Tree, n: u64, step: &Step<'_>) -> Result<(),
 {
     match step {
         Step::MakeDirectory(place) => {
-            put_new_directory(alloc, tree, n, place.parent)?;
+            put_new_directory(alloc, tree, n, place)?;
             give_name(alloc, tree, place, n)
         }
         Step::MakeFile(place) => {

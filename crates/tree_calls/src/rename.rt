@@ -7,12 +7,13 @@ ghost use Rattle.tree_model.specs.Maps.{at_number};
 ghost use Rattle.tree_model.specs.Paths.{is_path_name};
 ghost use Rattle.tree_model.specs.code.PathTexts.{names_below};
 ghost use Rattle.tree_model.specs.Trees.{directory_links, is_directory};
+ghost use Rattle.tree_calls.specs.Countable.{IsCountable};
 ghost use Rattle.tree_calls.specs.code.Steps.{Decides, HasNodes, HasPlace, HasTarget, found_from, move_from, place_from};
 
 use crate::directories::{directory_links, is_directory};
 use crate::step::{Moved, Step};
 use crate::walk::{Found, Place, comes_by, place_of, walked};
-use minix_layout::{MOST_LINKS, MOST_SLOTS, Name};
+use minix_layout::{MOST_LINKS, Name, most_slots};
 use tree_model::{ByteList, Directory, Node, Reply, Tree, names_of};
 
 // The node that stands at a place.
@@ -48,7 +49,8 @@ fn is_root(names: &[u8]) -> bool
 
 // A directory that moves would stand below itself.
 fn goes_below(tree: &Tree, found: &Found<'_>, names: &[u8]) -> bool
-    requires { IsTrue (list_all is_path_name (names_below names.now)) }
+    requires countable { IsCountable tree.now }
+    requires words { IsTrue (list_all is_path_name (names_below names.now)) }
     ensures { result ≡ (is_directory (Some found.now.node.now)
         && list_any (λ b. b == found.now.birth) (above tree.now 0 (names_below names.now))) }
 {
@@ -119,7 +121,7 @@ impl Moved<'_> {
     fn is_full(&self) -> bool
         ensures { result ≡ is_full (place_after (move_from self.now)).directory }
     {
-        self.needs_slot() && self.to.directory.slots >= MOST_SLOTS
+        self.needs_slot() && self.to.directory.slots >= most_slots(self.to.directory.width)
     }
 
     // The new parent of a directory has as many links as it can have.
@@ -162,6 +164,7 @@ fn rename_to<'a>(tree: &'a Tree, moved: Moved<'a>) -> Result<Step<'a>, Reply>
 }
 
 pub fn rename<'a>(tree: &'a Tree, path: &ByteList, other: &ByteList) -> Result<Step<'a>, Reply>
+    requires { IsCountable tree.now }
     ensures row { (n : ℕ) → Decides tree.now n result (rename tree.now path.now other.now) }
     ensures nodes { IfOk result (HasNodes tree.now) }
 {

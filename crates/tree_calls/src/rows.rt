@@ -1,6 +1,7 @@
 //! What each call on names does, or what refuses it.
 ghost use Rattle.std.specs.Prelude.{◌≡◌, ℕ, IfOk};
 ghost use Rattle.tree_model.specs.Calls.{mkdir, create, rmdir, unlink, link};
+ghost use Rattle.tree_calls.specs.Countable.{IsCountable};
 ghost use Rattle.tree_calls.specs.code.Steps.{Decides, HasNodes};
 
 use crate::directories::{directory_links, is_full, is_named};
@@ -10,6 +11,7 @@ use minix_layout::MOST_LINKS;
 use tree_model::{ByteList, Node, Reply, Tree, names_of};
 
 pub fn mkdir<'a>(tree: &'a Tree, path: &ByteList) -> Result<Step<'a>, Reply>
+    requires { IsCountable tree.now }
     ensures row { (n : ℕ) → Decides tree.now n result (mkdir tree.now n path.now) }
     ensures nodes { IfOk result (HasNodes tree.now) }
 {
@@ -31,6 +33,7 @@ pub fn mkdir<'a>(tree: &'a Tree, path: &ByteList) -> Result<Step<'a>, Reply>
 }
 
 pub fn create<'a>(tree: &'a Tree, path: &ByteList) -> Result<Step<'a>, Reply>
+    requires { IsCountable tree.now }
     ensures row { (n : ℕ) → Decides tree.now n result (create tree.now n path.now) }
     ensures nodes { IfOk result (HasNodes tree.now) }
 {
@@ -49,6 +52,7 @@ pub fn create<'a>(tree: &'a Tree, path: &ByteList) -> Result<Step<'a>, Reply>
 }
 
 pub fn rmdir<'a>(tree: &'a Tree, path: &ByteList) -> Result<Step<'a>, Reply>
+    requires { IsCountable tree.now }
     ensures row { (n : ℕ) → Decides tree.now n result (rmdir tree.now path.now) }
     ensures nodes { IfOk result (HasNodes tree.now) }
 {
@@ -68,6 +72,7 @@ pub fn rmdir<'a>(tree: &'a Tree, path: &ByteList) -> Result<Step<'a>, Reply>
 }
 
 pub fn unlink<'a>(tree: &'a Tree, path: &ByteList) -> Result<Step<'a>, Reply>
+    requires { IsCountable tree.now }
     ensures row { (n : ℕ) → Decides tree.now n result (unlink tree.now path.now) }
     ensures nodes { IfOk result (HasNodes tree.now) }
 {
@@ -90,6 +95,7 @@ pub fn unlink<'a>(tree: &'a Tree, path: &ByteList) -> Result<Step<'a>, Reply>
 }
 
 pub fn link<'a>(tree: &'a Tree, path: &ByteList, other: &ByteList) -> Result<Step<'a>, Reply>
+    requires { IsCountable tree.now }
     ensures row { (n : ℕ) → Decides tree.now n result (link tree.now path.now other.now) }
     ensures nodes { IfOk result (HasNodes tree.now) }
 {

@@ -4,7 +4,8 @@ ghost use Rattle.std.specs.List.{list_any};
 ghost use Rattle.std.specs.Map.{keys_of};
 ghost use Rattle.tree_model.specs.Calls.{directory_zones, file_zones, is_double_indirect, is_in_group, is_indirect, mapped_groups, node_zones, one_if, used_zones};
 
-use tree_model::{FileBlocks, Node, Tree};
+use minix_layout::slots_a_block;
+use tree_model::{Directory, FileBlocks, Node, Tree};
 
 fn one_if(test: bool) -> u64
     ensures { result ≡ one_if test }
@@ -12,11 +13,12 @@ fn one_if(test: bool) -> u64
     u64::from(test)
 }
 
-fn directory_zones(slots: u32) -> u64
-    ensures value { result ≡ directory_zones slots }
+fn directory_zones(directory: &Directory) -> u64
+    ensures value { result ≡ directory_zones directory.now.width directory.now.slots }
     ensures small { result < 2 ^ 33 }
 {
-    u64::from(slots.div_ceil(64)) + u64::from(slots > 448)
+    let per = slots_a_block(directory.width);
+    u64::from(directory.slots.div_ceil(per)) + one_if(directory.slots > 7 * per)
 }
 
 fn has_indirect(blocks: &FileBlocks) -> bool
@@ -86,7 +88,7 @@ fn node_zones(node: &Node) -> u64
     ensures small { result < 2 ^ 63 + 1024 }
 {
     match node {
-        Node::Directory(directory) => directory_zones(directory.slots),
+        Node::Directory(directory) => directory_zones(directory),
         Node::File(file) => file_zones(&file.blocks),
         Node::Other(_) => 0,
     }

@@ -24,7 +24,7 @@ move_from m = record { moved = found_from m.moved; from = place_from m.from; to 
 
 -- what a call with number n does by this step
 abbrev pub done_by : Tree → ℕ → Step → Row
-done_by tree n (steps.MakeDirectory p) = makes (give_name (put_number tree n (new_directory p.parent)) (place_from p) n)
+done_by tree n (steps.MakeDirectory p) = makes (give_name (put_number tree n (new_directory p.directory.now.width p.parent)) (place_from p) n)
 done_by tree n (steps.MakeFile p) = makes (give_name (put_number tree n new_file) (place_from p) n)
 done_by tree n (steps.RemoveDirectory p birth) = leaves (without_number (take_name tree (place_from p)) birth)
 done_by tree n (steps.Unlink p o) = leaves (lose_link (take_name tree (place_from p)) o.birth o.file.now)
