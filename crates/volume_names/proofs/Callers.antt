@@ -1,5 +1,5 @@
 -- What is asked before a call is done holds where the tree does not refuse it, and as many zones are free as it needs.
-use Rattle.std.specs.Prelude.{◌≡◌, ◌≤◌, ◌<◌, ◌-◌, ◌==◌, ℕ, false, List, Ok, Result}
+use Rattle.std.specs.Prelude.{◌≡◌, ◌≤◌, ◌<◌, ◌-◌, ◌==◌, ℕ, false, List, length, Ok, Result}
 use Rattle.std.proofs.Common.{sym, ap, subst, ◌∙◌, arith}
 use Rattle.tree_model.specs.declared.call.Call.TheVariants as calls
 use Rattle.tree_model.specs.declared.call.Call.{Call}
@@ -36,7 +36,7 @@ free_place v path p x = record {
   stands = x.at.stands;
   is = x.at.is;
   word = x.good.plain;
-  short = x.good.short;
+  short = subst (λ (d : Directory). length p.name ≤ d.width) (sym x.at.same) x.short;
   free = x.free;
   left = x.left;
 }

@@ -5,6 +5,7 @@ use Rattle.std.proofs.lemmas.List.{append-nil}
 use Rattle.std.specs.Ordering.{nat_cmp}
 use Rattle.std.specs.BTreeMap.{is_at}
 use Rattle.std.specs.Map.{set_value}
+use Rattle.minix_layout.specs.Widths.{slot_size, slots_a_block}
 use Rattle.minix_layout.specs.declared.division.Geometry.{Geometry}
 use Rattle.minix_layout.specs.declared.inode.Inode.{Inode}
 use Rattle.minix_layout.specs.declared.slot.Slot.{Slot}
@@ -13,9 +14,8 @@ use Rattle.byte_fields.specs.Fields.{zeros}
 use Rattle.tree_model.specs.Maps.{at_number, put_number}
 use Rattle.tree_model.specs.laws.MapOrder.{InOrder}
 use Rattle.zone_maps.specs.Zones.{Zones}
-use Rattle.volume_ops.specs.Places.{table_block}
 use Rattle.volume_model.specs.declared.placed.Placed.{Placed}
-use Rattle.volume_model.specs.Edits.{Edit, put_inode, put_slot, edited, touched_by_all}
+use Rattle.volume_model.specs.Edits.{Edit, put_slot, edited, touched_by_all}
 use Rattle.volume_model.specs.Volume.{block, zone_in}
 use Rattle.volume_model.specs.Moves.{opened, with_size, inode_back, back_told, inode_told}
 use Rattle.volume_model.specs.MapBlock.{OpenInode, TakenZones, own_of, map_block, all_edits}
@@ -100,17 +100,24 @@ module _ (v : VolumeNow) (n : ℕ) (p : Placed) (before touched : Touched) (bloc
       before touched blocks nodes v.zones order at set refl b refl refl t
 
   -- a slot
-  pub slot_changed : (k : ℕ) (slot : Option Slot) (slots zone : ℕ) (first : List (List ℕ)) → zone ≡ zone_in v.contents.blocks p.inode (block (k / 64)) →
-      nodes ≡ set_value (is_at (nat_cmp n)) v.contents.nodes (record { number = p.number; inode = with_size p.inode (16 * slots); part = p.part }) →
-      first ≡ edited v.geometry v.contents.blocks (put_slot zone (k % 64) slot) →
-      blocks ≡ inode_back v.geometry first p (with_size p.inode (16 * slots)) →
-      touched ≡ and_then before (tells_node n (zone ∷ back_told v.geometry p (with_size p.inode (16 * slots)))) →
+  pub slot_changed : (k : ℕ) (slot : Option Slot) (slots bytes zone : ℕ) (first : List (List ℕ)) → bytes ≡ slot_size v.geometry.width * slots →
+      zone ≡ zone_in v.contents.blocks p.inode (block (k / slots_a_block v.geometry.width)) →
+      nodes ≡ set_value (is_at (nat_cmp n)) v.contents.nodes (record { number = p.number; inode = with_size p.inode bytes; part = p.part }) →
+      first ≡ edited v.geometry v.contents.blocks (put_slot zone (k % slots_a_block v.geometry.width) slot) →
+      blocks ≡ inode_back v.geometry first p (with_size p.inode bytes) →
+      touched ≡ and_then before (tells_node n (zone ∷ back_told v.geometry p (with_size p.inode bytes))) →
       After before (slot_written v n k slot slots) (volume_of v.geometry blocks nodes v.zones) touched
-  slot_changed k slot slots zone first e set f b t = changed_at v n p (record { number = p.number; inode = with_size p.inode (16 * slots); part = p.part })
+  slot_changed k slot slots bytes zone first same e set f b t =
+      let here = zone_in v.contents.blocks p.inode (block (k / slots_a_block v.geometry.width)) in
+      changed_at v n p (record { number = p.number; inode = with_size p.inode bytes; part = p.part })
       (slot_step v n k slot slots)
       before touched blocks nodes v.zones order at set refl
-      (b ∙ ap (λ first. inode_back v.geometry first p (with_size p.inode (16 * slots))) (f ∙ ap (λ zone. edited v.geometry v.contents.blocks (put_slot zone (k % 64) slot)) e))
-      refl refl (t ∙ ap (λ zone. and_then before (tells_node n (zone ∷ back_told v.geometry p (with_size p.inode (16 * slots))))) e)
+      (b ∙ (ap (λ first. inode_back v.geometry first p (with_size p.inode bytes)) (f ∙ ap (λ zone. edited v.geometry v.contents.blocks (put_slot zone (k % slots_a_block v.geometry.width) slot)) e)
+      ∙ ap (λ bytes. inode_back v.geometry (edited v.geometry v.contents.blocks (put_slot here (k % slots_a_block v.geometry.width) slot)) p (with_size p.inode bytes)) same))
+      (ap (λ bytes. put_number v.contents.nodes n (record { number = p.number; inode = with_size p.inode bytes; part = p.part })) same)
+      refl
+      (t ∙ (ap (λ zone. and_then before (tells_node n (zone ∷ back_told v.geometry p (with_size p.inode bytes)))) e
+      ∙ ap (λ bytes. and_then before (tells_node n (here ∷ back_told v.geometry p (with_size p.inode bytes)))) same))
 
 -- ---- a block
 

@@ -1,5 +1,5 @@
 -- A file that is created.
-use Rattle.std.specs.Prelude.{◌≡◌, ◌≢◌, ◌<◌, ℕ, false, List, [], Option, Some, None}
+use Rattle.std.specs.Prelude.{◌≡◌, ◌≢◌, ◌<◌, ◌≤◌, ℕ, false, List, [], length, Option, Some, None}
 use Rattle.std.proofs.Common.{sym, ap, subst, ◌∙◌, arith}
 use Rattle.std.proofs.lemmas.Option.{none-some}
 use Rattle.minix_layout.specs.declared.slot.Slot.{Slot}
@@ -13,12 +13,13 @@ use Rattle.tree_model.proofs.Hanging.{IsGoodName}
 use Rattle.volume_model.specs.declared.placed.Placed.{Placed}
 use Rattle.volume_model.specs.declared.placed.Part.TheVariants as parts
 use Rattle.volume_model.specs.declared.placed.DirectoryPart.{DirectoryPart}
-use Rattle.volume_model.specs.Volume.{HasNames}
+use Rattle.volume_model.specs.Volume.{IsPart, IsDirectoryPart, HasNames}
 use Rattle.volume_model.specs.Touched.{Touched, and_then}
 use Rattle.volume_steps.specs.Now.{VolumeNow, Change, untouched, followed_by}
 use Rattle.volume_steps.specs.Zones.{new_number}
 use Rattle.volume_steps.specs.Steps.{make_file, new_file_inode}
 use Rattle.volume_steps.specs.Calls.{create_in}
+use Rattle.volume_steps.specs.Plain.{IsInUse}
 use Rattle.volume_steps.proofs.NewNumbers.{IsNewNumber, number_is_new}
 use Rattle.volume_steps.proofs.NewFiles.{file_made_steady, file_made_settled, file_made_slotted}
 use Rattle.volume_steps.proofs.CallPaths.{good_no_dot, good_entry}
@@ -31,7 +32,7 @@ use Rattle.volume_names.specs.code.NewSlot.{new_slot}
 use Rattle.volume_names.specs.code.Steps.{After, MayWrite, entered, entered_in, file_written, name_written}
 use Rattle.volume_names.proofs.Changed.{volume_of}
 use Rattle.volume_names.proofs.Entered.{same_directory}
-use Rattle.volume_names.proofs.NameRooms.{NameRoom, may_write}
+use Rattle.volume_names.proofs.NameRooms.{NameRoom, wide, may_write}
 use Rattle.volume_names.proofs.Named.{named}
 
 -- one change after another
@@ -59,7 +60,13 @@ no_slot nodes d name h no_dot free = not_found d.slots name (λ at s stands is.
 
 module _ (v : VolumeNow) (parent : ℕ) (name : List ℕ) (h : FreePlace v parent name) where
   pub good : IsGoodName name
-  good = record { short = h.short; plain = h.word }
+  good = record { plain = h.word }
+
+  -- the name is not too long for the volume
+  pub fits_volume : IsInUse v → length name ≤ v.geometry.width
+  fits_volume in_use =
+      let part : IsDirectoryPart v.geometry v.contents.blocks h.placed.inode h.part = subst (IsPart v.geometry v.contents.blocks h.placed.inode) h.is (in_use.volume.0.each parent h.placed h.stands).part in
+      subst (λ width. length name ≤ width) part.width h.short
 
   -- the directory that stands there is this one
   pub same_part : (p : Placed) (d : DirectoryPart) → at_number v.contents.nodes parent ≡ Some p → p.part ≡ parts.Directory d → d ≡ h.part
@@ -115,7 +122,7 @@ module _ (v : VolumeNow) (n parent : ℕ) (name : List ℕ) (h : MayCreate v n p
     apart = λ e. apart (sym e);
     free = h.place.free;
     no_dot = good_no_dot name (good v parent name h.place);
-    entry = good_entry name q.number (good v parent name h.place) new.some (let within = new.within in let fit = h.plain.in_use.sound.fits.inodes in omega arith);
+    entry = good_entry v.geometry.width name q.number h.plain.in_use.sound.width (good v parent name h.place) (fits_volume v parent name h.place h.plain.in_use) new.some (let within = new.within in let fit = h.plain.in_use.sound.fits.inodes in omega arith);
     settled = file_made_settled 0 v h.plain.in_use n none h.inode (settled_before v h.plain) (birth_not_root v n (tree_is_plain v h.plain) h.born);
     slotted = file_made_slotted 0 v h.plain.in_use n none h.inode (slotted_before v h.plain);
     left = h.place.left;
@@ -157,8 +164,11 @@ module _ (v : VolumeNow) (n parent : ℕ) (name : List ℕ) (h : MayCreate v n p
     first_touched : first.touched ≡ (make_file v n).touched
     first_touched = ap (λ number. (file_written (volume_of v.geometry v.contents.blocks nodes v.zones) n number).touched) number_is
 
-    pub may_be_written : (u : VolumeNow) → u ≡ first.volume → MayWrite u parent at
-    may_be_written u e = subst (λ u. MayWrite u parent at) (sym (e ∙ first_volume)) (subst (MayWrite (entered_in w parent h.place.placed h.place.part s n) parent) (sym same_at) (may_write w parent name n room))
+    pub may_be_written : (u : VolumeNow) → u ≡ first.volume → MayWrite u parent slot at
+    may_be_written u e =
+        subst (λ u. MayWrite u parent slot at) (sym (e ∙ first_volume))
+        (subst (λ slot. MayWrite (entered_in w parent h.place.placed h.place.part s n) parent slot at) (sym same_slot)
+        (subst (MayWrite (entered_in w parent h.place.placed h.place.part s n) parent s) (sym same_at) (may_write w parent name n room)))
 
     -- the call as the code does it
     pub created : followed_by first (λ u. name_written u parent slot at) ≡ create_in v n parent name
@@ -171,4 +181,4 @@ module _ (v : VolumeNow) (n parent : ℕ) (name : List ℕ) (h : MayCreate v n p
         ∙ ap (λ (c : Change). record { volume = c.volume; touched = and_then (make_file v n).touched c.touched })
         (ap (λ slot. name_written (entered_in w parent h.place.placed h.place.part s n) parent slot at) same_slot
         ∙ (ap (name_written (entered_in w parent h.place.placed h.place.part s n) parent s) same_at
-        ∙ named w parent h.place.placed h.place.part name n q order stands h.place.is has (λ e. apart (sym e)))))
+        ∙ named w parent h.place.placed h.place.part name n q order stands h.place.is has (λ e. apart (sym e)) (wide w parent name n room))))

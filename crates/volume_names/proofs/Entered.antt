@@ -1,5 +1,5 @@
 -- A name that came into its directory in memory.
-use Rattle.std.specs.Prelude.{◌≡◌, ◌<◌, ℕ, true, map, List, Option, Some, None, Result, Ok, Err, IfOk, OnErr}
+use Rattle.std.specs.Prelude.{◌≡◌, ◌<◌, ℕ, true, map, List, Option, Some, None, Result, Ok, Err, IfOk, OnErr, refl}
 use Rattle.std.proofs.Common.{sym, ap, ◌∙◌, arith}
 use Rattle.std.proofs.lemmas.Option.{same_Some}
 use Rattle.std.proofs.lemmas.Map.Steps.{set_value_same}
@@ -62,14 +62,14 @@ block_placed v n index p =
     }
 
 -- a directory keeps its inode where it gets a block
-pub number_stays : (v w : VolumeNow) (n index : ℕ) (p : Placed) → at_number v.contents.nodes n ≡ Some p → 0 < p.number → w ≡ (block_added v n index).volume →
+pub number_stays : (v w : VolumeNow) (n index : ℕ) → ((p : Placed) → at_number v.contents.nodes n ≡ Some p → 0 < p.number) → w ≡ (block_added v n index).volume →
     (q : Placed) → at_number w.contents.nodes n ≡ Some q → 0 < q.number
-number_stays v w n index p at some same q there =
-    by (at_number v.contents.nodes n) at (ap (λ (w : VolumeNow). at_number w.contents.nodes n) (sym same) ∙ there)
+number_stays v w n index some same q there =
+    by (at_number v.contents.nodes n) refl (ap (λ (w : VolumeNow). at_number w.contents.nodes n) (sym same) ∙ there)
   where
-    by : (o : Option Placed) → o ≡ Some p → at_number (elim o as (λ _. Change) [ None ↦ unchanged v | Some p ↦ block_step v n index p ]).volume.contents.nodes n ≡ Some q → 0 < q.number
-    by None e h = absurd (cc e)
+    by : (o : Option Placed) → at_number v.contents.nodes n ≡ o → at_number (elim o as (λ _. Change) [ None ↦ unchanged v | Some p ↦ block_step v n index p ]).volume.contents.nodes n ≡ Some q → 0 < q.number
+    by None e h = some q h
     by (Some r) e h =
         let one : (block_placed v n index r).number ≡ q.number = ap (λ (q : Placed). q.number) (same_Some (block_placed v n index r) q (sym (at_put_number v.contents.nodes n (block_placed v n index r)) ∙ h)) in
-        let two : r.number ≡ p.number = ap (λ (q : Placed). q.number) (same_Some r p e) in
+        let two = some r e in
         omega arith

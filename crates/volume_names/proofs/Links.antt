@@ -1,5 +1,5 @@
 -- A file that gets a name more.
-use Rattle.std.specs.Prelude.{◌≡◌, ◌≢◌, ◌<◌, ◌≤◌, ◌+◌, ℕ, List, [], ◌∷◌, Some, None}
+use Rattle.std.specs.Prelude.{◌≡◌, ◌≢◌, ◌<◌, ◌≤◌, ◌+◌, ℕ, List, Some, None}
 use Rattle.std.proofs.Common.{sym, ap, subst, ◌∙◌, inl, inr, arith}
 use Rattle.std.proofs.lemmas.Bool.{cases_eq}
 use Rattle.std.proofs.lemmas.Option.{same_Some}
@@ -8,11 +8,9 @@ use Rattle.dir_ops.specs.Slots.{place_of}
 use Rattle.tree_model.specs.Maps.{at_number, put_number}
 use Rattle.tree_model.specs.laws.MapsLaws.{at_put_number, at_put_number_apart}
 use Rattle.tree_model.specs.laws.MapOrder.{InOrder, in_order_put}
-use Rattle.volume_ops.specs.Places.{table_block}
 use Rattle.volume_model.specs.declared.placed.Placed.{Placed}
 use Rattle.volume_model.specs.declared.placed.Part.TheVariants as parts
 use Rattle.volume_model.specs.declared.placed.DirectoryPart.{DirectoryPart}
-use Rattle.volume_model.specs.Edits.{put_inode, edited}
 use Rattle.volume_model.specs.Touched.{and_then}
 use Rattle.volume_model.specs.Moves.{with_name, inode_back, back_told}
 use Rattle.volume_steps.specs.Now.{VolumeNow, Change, followed_by, tells_blocks}
@@ -27,8 +25,8 @@ use Rattle.volume_names.specs.May.{MayLink}
 use Rattle.volume_names.specs.code.NewSlot.{new_slot}
 use Rattle.volume_names.specs.code.Steps.{MayWrite, entered, entered_in, more_links, name_written}
 use Rattle.volume_names.proofs.Changed.{volume_of}
-use Rattle.volume_names.proofs.Creates.{good, free_slot}
-use Rattle.volume_names.proofs.NameRooms.{NameRoom, may_write}
+use Rattle.volume_names.proofs.Creates.{good, fits_volume, free_slot}
+use Rattle.volume_names.proofs.NameRooms.{NameRoom, wide, may_write}
 use Rattle.volume_names.proofs.Named.{named}
 
 -- nodes at different births may be put in either order
@@ -89,7 +87,7 @@ module _ (v : VolumeNow) (birth parent : ℕ) (name : List ℕ) (h : MayLink v b
     apart = λ e. apart (sym e);
     free = h.place.free;
     no_dot = good_no_dot name (good v parent name h.place);
-    entry = good_entry name child.number (good v parent name h.place) some
+    entry = good_entry v.geometry.width name child.number h.plain.in_use.sound.width (good v parent name h.place) (fits_volume v parent name h.place h.plain.in_use) some
         (let within = (h.plain.in_use.volume.0.each birth h.placed h.stands).within in let fit = h.plain.in_use.sound.fits.inodes in omega arith);
     settled = linked_settled 0 v h.plain.in_use birth h.placed h.stands now few (settled_before v h.plain);
     slotted = linked_slotted 0 v h.plain.in_use birth h.placed h.stands now few (slotted_before v h.plain);
@@ -129,9 +127,11 @@ module _ (v : VolumeNow) (birth parent : ℕ) (name : List ℕ) (h : MayLink v b
         ∙ ap (λ nodes. record { volume = volume_of v.geometry (inode_back v.geometry v.contents.blocks h.placed (with_links h.placed.inode now)) nodes v.zones; touched = tells_blocks (back_told v.geometry h.placed (with_links h.placed.inode now)) })
         (ap (λ nodes. put_number nodes birth child) same_nodes ∙ put_either v.contents.nodes parent birth in_it child order apart)
 
-    pub may_be_written : (u : VolumeNow) → u ≡ first.volume → MayWrite u parent at
+    pub may_be_written : (u : VolumeNow) → u ≡ first.volume → MayWrite u parent slot at
     may_be_written u e =
-        subst (λ u. MayWrite u parent at) (sym (e ∙ ap (λ (c : Change). c.volume) first_is)) (subst (MayWrite (entered_in w parent h.place.placed h.place.part s birth) parent) (sym same_at) (may_write w parent name birth room))
+        subst (λ u. MayWrite u parent slot at) (sym (e ∙ ap (λ (c : Change). c.volume) first_is))
+        (subst (λ slot. MayWrite (entered_in w parent h.place.placed h.place.part s birth) parent slot at) (sym slot_is)
+        (subst (MayWrite (entered_in w parent h.place.placed h.place.part s birth) parent s) (sym same_at) (may_write w parent name birth room)))
 
     -- the call as the code does it
     pub linked_as : followed_by first (λ u. name_written u parent slot at) ≡ link_in v birth parent name
@@ -140,6 +140,6 @@ module _ (v : VolumeNow) (birth parent : ℕ) (name : List ℕ) (h : MayLink v b
         ∙ (ap (λ (c : Change). record { volume = c.volume; touched = and_then made.touched c.touched })
         (ap (λ slot. name_written (entered_in w parent h.place.placed h.place.part s birth) parent slot at) slot_is
         ∙ (ap (name_written (entered_in w parent h.place.placed h.place.part s birth) parent s) same_at
-        ∙ named w parent h.place.placed h.place.part name birth child (in_order_put v.contents.nodes birth child order) stands h.place.is has (λ e. apart (sym e))))
+        ∙ named w parent h.place.placed h.place.part name birth child (in_order_put v.contents.nodes birth child order) stands h.place.is has (λ e. apart (sym e)) (wide w parent name birth room)))
         ∙ sym (ap (λ c. followed_by c (λ w. add_name w parent name birth)) (at_node_is v birth h.placed
         (λ p. record { volume = inode_put v birth p (with_links p.inode (p.inode.links + 1)); touched = tells_blocks (back_told v.geometry p (with_links p.inode (p.inode.links + 1))) }) h.stands)))

@@ -43,9 +43,9 @@ use Rattle.volume_names.specs.May.{MayMkdir}
 use Rattle.volume_names.specs.code.NewSlot.{new_slot}
 use Rattle.volume_names.specs.code.Steps.{After, MayWrite, entered, entered_in, dot_edits, directory_step, directory_written, more_links, name_written}
 use Rattle.volume_names.proofs.Changed.{volume_of, changed_at}
-use Rattle.volume_names.proofs.Creates.{good, free_slot}
+use Rattle.volume_names.proofs.Creates.{good, fits_volume, free_slot}
 use Rattle.volume_names.proofs.Links.{put_either}
-use Rattle.volume_names.proofs.NameRooms.{NameRoom, may_write}
+use Rattle.volume_names.proofs.NameRooms.{NameRoom, wide, may_write}
 use Rattle.volume_names.proofs.Named.{named}
 
 -- ---- what the code wrote
@@ -65,7 +65,7 @@ dots_done g blocks a b c zone own above body s t z e f h k l =
 
 pub noted_directory : (s u w x y z : Noted) (g : Geometry) (number zone above table n : ℕ) → u.touched ≡ and_then s.touched (tells_writes g (inode_bit number true ∷ [])) →
     w.touched ≡ and_then u.touched (tells_writes g (zone_bit g true zone ∷ [])) → x.touched ≡ and_then w.touched (tells_writes g (dot_edits zone number above)) → y ≡ with_block x table →
-    table ≡ table_block g number → z ≡ with_node y n → (inode : Inode) → inode ≡ new_directory_inode zone →
+    table ≡ table_block g number → z ≡ with_node y n → (inode : Inode) → inode ≡ new_directory_inode g.width zone →
     z.touched ≡ and_then s.touched (and_then (tells_writes g (new_directory_edits g number zone above)) (tells_node n []))
 noted_directory s u w x y z g number zone above table n a b c d e f inode i =
     ap (λ (z : Noted). z.touched) (f ∙ ap (λ y. with_node y n) (d ∙ ap (with_block x) e))
@@ -84,7 +84,7 @@ noted_directory s u w x y z g number zone above table n a b c d e f inode i =
     told t one two zone table n = simp (append_assoc, append-nil)
 
 module _ (v : VolumeNow) (n : ℕ) (p : Placed) (before touched : Touched) (blocks : List (List ℕ)) (nodes : List (ℕ × Placed)) (order : InOrder v.contents.nodes) (at : at_number v.contents.nodes n ≡ Some p)
-    (above zone : ℕ) (zone_is : zone ≡ next_zone v.zones) (inode : Inode) (inode_is : inode ≡ new_directory_inode zone) where
+    (above zone : ℕ) (zone_is : zone ≡ next_zone v.zones) (inode : Inode) (inode_is : inode ≡ new_directory_inode v.geometry.width zone) where
   pub directory_changed : (zones : Zones) (a b c : List (List ℕ)) → zones ≡ taken v.zones → a ≡ edited_all v.geometry v.contents.blocks (inode_bit p.number true ∷ []) →
       b ≡ edited_all v.geometry a (zone_bit v.geometry true zone ∷ []) → c ≡ edited_all v.geometry b (dot_edits zone p.number above) → blocks ≡ edited v.geometry c (put_inode p.number inode) →
       nodes ≡ set_value (is_at (nat_cmp n)) v.contents.nodes (record { number = p.number; inode = inode; part = p.part }) →
@@ -96,7 +96,7 @@ module _ (v : VolumeNow) (n : ℕ) (p : Placed) (before touched : Touched) (bloc
       ∙ (ap (λ c. edited v.geometry c (put_inode p.number inode)) (h ∙ ap (λ b. edited_all v.geometry b (dot_edits zone p.number above)) (f ∙ ap (λ a. edited_all v.geometry a (zone_bit v.geometry true zone ∷ [])) e))
       ∙ (ap (λ inode. edited v.geometry (edited_all v.geometry v.contents.blocks (inode_bit p.number true ∷ zone_bit v.geometry true zone ∷ dot_edits zone p.number above)) (put_inode p.number inode)) inode_is
       ∙ ap (λ zone. edited_all v.geometry v.contents.blocks (new_directory_edits v.geometry p.number zone above)) zone_is)))
-      (ap (λ inode. put_number v.contents.nodes n (record { number = p.number; inode = inode; part = p.part })) (inode_is ∙ ap new_directory_inode zone_is))
+      (ap (λ inode. put_number v.contents.nodes n (record { number = p.number; inode = inode; part = p.part })) (inode_is ∙ ap (new_directory_inode v.geometry.width) zone_is))
       z
       (told ∙ ap (λ zone. and_then before (and_then (tells_writes v.geometry (new_directory_edits v.geometry p.number zone above)) (tells_node n []))) zone_is)
 
@@ -123,7 +123,7 @@ module _ (v : VolumeNow) (n parent : ℕ) (name : List ℕ) (h : MayMkdir v n pa
 
   -- the directory, before it has its zone and then
   abbrev with_zone : ℕ → ℕ → ℕ → Placed
-  with_zone number above zone = record { number = number; inode = new_directory_inode zone; part = parts.Directory (record { parent = parent; names = []; slots = dot_slots number above }) }
+  with_zone number above zone = record { number = number; inode = new_directory_inode v.geometry.width zone; part = parts.Directory (record { parent = parent; width = v.geometry.width; names = []; slots = dot_slots number above }) }
 
   abbrev child : Placed
   child = with_zone (new_number v.geometry v.contents.nodes) h.place.placed.number (next_zone v.zones)
@@ -146,7 +146,7 @@ module _ (v : VolumeNow) (n parent : ℕ) (name : List ℕ) (h : MayMkdir v n pa
     apart = λ e. apart (sym e);
     free = h.place.free;
     no_dot = good_no_dot name (good v parent name h.place);
-    entry = good_entry name child.number (good v parent name h.place) new.some (let within = new.within in let fit = h.plain.in_use.sound.fits.inodes in omega arith);
+    entry = good_entry v.geometry.width name child.number h.plain.in_use.sound.width (good v parent name h.place) (fits_volume v parent name h.place h.plain.in_use) new.some (let within = new.within in let fit = h.plain.in_use.sound.fits.inodes in omega arith);
     settled = directory_made_settled 0 v h.plain.in_use n none h.inode parent h.place.placed h.place.stands h.some_zone (settled_before v h.plain) (birth_not_root v n (tree_is_plain v h.plain) h.born);
     slotted = directory_made_slotted 0 v h.plain.in_use n none h.inode parent h.place.placed h.place.stands h.some_zone (slotted_before v h.plain);
     left = h.place.left;
@@ -204,9 +204,11 @@ module _ (v : VolumeNow) (n parent : ℕ) (name : List ℕ) (h : MayMkdir v n pa
         (put_either (put_number v.contents.nodes n blank) parent n in_it child (in_order_put v.contents.nodes n blank order) apart
         ∙ ap (λ nodes. put_number nodes parent in_it) (put_twice v.contents.nodes n blank child order))))
 
-    pub may_be_written : (u : VolumeNow) → u ≡ first.volume → MayWrite u parent at
+    pub may_be_written : (u : VolumeNow) → u ≡ first.volume → MayWrite u parent slot at
     may_be_written u e =
-        subst (λ u. MayWrite u parent at) (sym (e ∙ ap (λ (c : Change). c.volume) first_is)) (subst (MayWrite (entered_in w parent h.place.placed h.place.part s n) parent) (sym same_at) (may_write w parent name n room))
+        subst (λ u. MayWrite u parent slot at) (sym (e ∙ ap (λ (c : Change). c.volume) first_is))
+        (subst (λ slot. MayWrite (entered_in w parent h.place.placed h.place.part s n) parent slot at) (sym same_slot)
+        (subst (MayWrite (entered_in w parent h.place.placed h.place.part s n) parent s) (sym same_at) (may_write w parent name n room)))
 
     -- the name stands
     name_is : (u : VolumeNow) → u ≡ first.volume → name_written u parent slot at ≡ add_name w parent name n
@@ -214,7 +216,7 @@ module _ (v : VolumeNow) (n parent : ℕ) (name : List ℕ) (h : MayMkdir v n pa
         ap (λ u. name_written u parent slot at) (e ∙ ap (λ (c : Change). c.volume) first_is)
         ∙ (ap (λ slot. name_written (entered_in w parent h.place.placed h.place.part s n) parent slot at) same_slot
         ∙ (ap (name_written (entered_in w parent h.place.placed h.place.part s n) parent s) same_at
-        ∙ named w parent h.place.placed h.place.part name n child (in_order_put v.contents.nodes n child order) stands h.place.is has (λ e. apart (sym e))))
+        ∙ named w parent h.place.placed h.place.part name n child (in_order_put v.contents.nodes n child order) stands h.place.is has (λ e. apart (sym e)) (wide w parent name n room)))
 
     -- the directory has as many links as before then
     pub parent_stays : (u x : VolumeNow) → u ≡ first.volume → x ≡ (name_written u parent slot at).volume → (p : Placed) → at_number x.contents.nodes parent ≡ Some p → (0 < p.number) × (p.inode.links < 255)

@@ -34,7 +34,7 @@ name_undone = put_undone name_cmp name_here
 
 -- a directory whose name was taken out again
 pub directory_back : (d : DirectoryPart) (slots : List (Option Slot)) (name one other : List ℕ) (birth : ℕ) (put back : List (List ℕ × ℕ)) → slots ≡ d.slots → one ≡ name → other ≡ name →
-    put ≡ put_name d.names one birth → back ≡ remove_entry (is_at (name_cmp other)) put → at_name d.names name ≡ None → record { parent = d.parent; names = back; slots = slots } ≡ d
+    put ≡ put_name d.names one birth → back ≡ remove_entry (is_at (name_cmp other)) put → at_name d.names name ≡ None → record { parent = d.parent; width = d.width; names = back; slots = slots } ≡ d
 directory_back d slots name one other birth put back s e f p b free =
     let names : back ≡ d.names = b ∙ (ap (λ k. remove_entry (is_at (name_cmp k)) put) f ∙ (ap (remove_entry (is_at (name_cmp name))) (p ∙ ap (λ k. put_name d.names k birth) e) ∙ name_undone d.names name birth free)) in
-    ap (λ (slots : List (Option Slot)). record { parent = d.parent; names = back; slots = slots }) s ∙ ap (λ (names : List (List ℕ × ℕ)). record d { names = names }) names
+    ap (λ (slots : List (Option Slot)). record { parent = d.parent; width = d.width; names = back; slots = slots }) s ∙ ap (λ (names : List (List ℕ × ℕ)). record d { names = names }) names

@@ -1,19 +1,19 @@
 -- What the code writes for a name is what a name's coming is.
-use Rattle.std.specs.Prelude.{◌≡◌, ◌≢◌, ◌*◌, ◌/◌, ◌%◌, ◌&&◌, ℕ, nat_eq, true, false, Bool, if◌then◌else◌, List, [], ◌∷◌, map, length, Some, refl}
+use Rattle.std.specs.Prelude.{◌≡◌, ◌≢◌, ◌*◌, ◌/◌, ◌%◌, ◌&&◌, ℕ, nat_eq, true, false, Bool, if◌then◌else◌, List, map, length, Some, refl}
 use Rattle.std.proofs.Common.{sym, ap, ◌∙◌, inl, inr, eqb-true}
 use Rattle.std.proofs.lemmas.Bool.{cases_Bool}
 use Rattle.byte_fields.specs.Fields.{zeros}
+use Rattle.minix_layout.specs.Widths.{slot_size, slots_a_block}
 use Rattle.minix_layout.specs.declared.slot.Slot.{Slot}
 use Rattle.tree_model.specs.Maps.{at_number, put_number}
 use Rattle.tree_model.specs.laws.MapsLaws.{at_put_number, at_put_number_apart}
 use Rattle.tree_model.specs.laws.MapOrder.{InOrder, in_order_put}
 use Rattle.dir_ops.specs.Slots.{room}
-use Rattle.volume_ops.specs.Places.{table_block}
 use Rattle.volume_model.specs.declared.placed.Placed.{Placed}
 use Rattle.volume_model.specs.declared.placed.Part.TheVariants as parts
 use Rattle.volume_model.specs.declared.placed.DirectoryPart.{DirectoryPart}
 use Rattle.volume_model.specs.declared.placed.Part.{Part}
-use Rattle.volume_model.specs.Edits.{put_inode, put_slot, edited}
+use Rattle.volume_model.specs.Edits.{put_slot, edited}
 use Rattle.volume_model.specs.Volume.{block, zone_in}
 use Rattle.volume_model.specs.Touched.{Contents, Touched, and_then}
 use Rattle.volume_model.specs.Moves.{opened, with_name, with_size, name_added, inode_back}
@@ -29,7 +29,7 @@ use Rattle.volume_names.specs.code.NewSlot.{new_slot}
 use Rattle.volume_names.specs.code.Steps.{entered_in, slot_step, slot_written, block_step, block_added, name_written}
 
 module _ (v : VolumeNow) (n : ℕ) (p : Placed) (d : DirectoryPart) (name : List ℕ) (birth : ℕ) (child : Placed) (order : InOrder v.contents.nodes)
-    (at : at_number v.contents.nodes n ≡ Some p) (is : p.part ≡ parts.Directory d) (at_child : at_number v.contents.nodes birth ≡ Some child) (apart : birth ≢ n) where
+    (at : at_number v.contents.nodes n ≡ Some p) (is : p.part ≡ parts.Directory d) (at_child : at_number v.contents.nodes birth ≡ Some child) (apart : birth ≢ n) (wide : d.width ≡ v.geometry.width) where
   abbrev s : Slot
   s = record { inode = child.number; name = name }
 
@@ -43,7 +43,7 @@ module _ (v : VolumeNow) (n : ℕ) (p : Placed) (d : DirectoryPart) (name : List
   slots = length next.slots
 
   abbrev begins : Bool
-  begins = nat_eq (room d.slots) (length d.slots) && nat_eq (length d.slots % 64) 0
+  begins = nat_eq (room d.slots) (length d.slots) && nat_eq (length d.slots % slots_a_block d.width) 0
 
   abbrev e : VolumeNow
   e = entered_in v n p d s birth
@@ -70,52 +70,55 @@ module _ (v : VolumeNow) (n : ℕ) (p : Placed) (d : DirectoryPart) (name : List
         touched = tells_node n (slot_told u p (room d.slots) (with_name d (record { inode = child.number; name = name }) birth));
       }
 
-  room_is : make_room v n ≡ (if begins then map_directory_block v n p d (length d.slots / 64) else unchanged v)
-  room_is = at_directory_is v n p d (λ p d. if nat_eq (room d.slots) (length d.slots) && nat_eq (length d.slots % 64) 0 then map_directory_block v n p d (length d.slots / 64) else unchanged v) at is
+  room_is : make_room v n ≡ (if begins then map_directory_block v n p d (length d.slots / slots_a_block v.geometry.width) else unchanged v)
+  room_is =
+      at_directory_is v n p d
+      (λ p d. if nat_eq (room d.slots) (length d.slots) && nat_eq (length d.slots % slots_a_block v.geometry.width) 0 then map_directory_block v n p d (length d.slots / slots_a_block v.geometry.width) else unchanged v) at is
+      ∙ sym (ap (λ width. if nat_eq (room d.slots) (length d.slots) && nat_eq (length d.slots % slots_a_block width) 0 then map_directory_block v n p d (length d.slots / slots_a_block v.geometry.width) else unchanged v) wide)
 
-  abbrev last : Placed → Placed
-  last q = record { number = q.number; inode = with_size q.inode (16 * slots); part = parts.Directory next }
+  abbrev last : VolumeNow → Placed → Placed
+  last u q = record { number = q.number; inode = with_size q.inode (slot_size u.geometry.width * slots); part = parts.Directory next }
 
   -- a volume once the slot is written for this node
   abbrev ended : VolumeNow → Placed → List (ℕ × Placed) → Change
   ended u q nodes = record {
     volume = volume_of u.geometry
-        (inode_back u.geometry (edited u.geometry u.contents.blocks (put_slot (zone_in u.contents.blocks q.inode (block (k / 64))) (k % 64) (Some s))) q (with_size q.inode (16 * slots)))
+        (inode_back u.geometry (edited u.geometry u.contents.blocks (put_slot (zone_in u.contents.blocks q.inode (block (k / slots_a_block u.geometry.width))) (k % slots_a_block u.geometry.width) (Some s))) q (with_size q.inode (slot_size u.geometry.width * slots)))
         nodes u.zones;
     touched = tells_node n (slot_told u q k next);
   }
 
-  slot_is : (u : VolumeNow) (q : Placed) → at_number u.contents.nodes n ≡ Some q → q.part ≡ parts.Directory next → slot_written u n k (Some s) slots ≡ ended u q (put_number u.contents.nodes n (last q))
+  slot_is : (u : VolumeNow) (q : Placed) → at_number u.contents.nodes n ≡ Some q → q.part ≡ parts.Directory next → slot_written u n k (Some s) slots ≡ ended u q (put_number u.contents.nodes n (last u q))
   slot_is u q stands kind =
       at_node_is u n q (slot_step u n k (Some s) slots) stands
-      ∙ ap (λ part. ended u q (put_number u.contents.nodes n (record { number = q.number; inode = with_size q.inode (16 * slots); part = part }))) kind
+      ∙ ap (λ part. ended u q (put_number u.contents.nodes n (record { number = q.number; inode = with_size q.inode (slot_size u.geometry.width * slots); part = part }))) kind
 
   -- ---- it has room
 
   here : begins ≡ false → name_written e n s (new_slot d s) ≡ add_name v n name birth
   here none =
-      ap (λ (b : Bool). followed_by (if b then block_added e n (k / 64) else unchanged e) (λ w. slot_written w n k (Some s) slots)) none
+      ap (λ (b : Bool). followed_by (if b then block_added e n (k / slots_a_block v.geometry.width) else unchanged e) (λ w. slot_written w n k (Some s) slots)) none
       ∙ (slot_is e now there refl
-      ∙ (ap (ended v p) (put_twice v.contents.nodes n now (last p) order)
+      ∙ (ap (ended v p) (put_twice v.contents.nodes n now (last v p) order)
       ∙ (sym (named_slot v p at is at_child)
-      ∙ sym (ap (λ c. followed_by c (λ w. put_name_slot w n name birth)) (room_is ∙ ap (λ (b : Bool). if b then map_directory_block v n p d (length d.slots / 64) else unchanged v) none)))))
+      ∙ sym (ap (λ c. followed_by c (λ w. put_name_slot w n name birth)) (room_is ∙ ap (λ (b : Bool). if b then map_directory_block v n p d (length d.slots / slots_a_block v.geometry.width) else unchanged v) none)))))
 
   -- ---- it gets a block
 
   abbrev t : TakenFor
-  t = take_zones (own_of (opened v.contents p)) (k / 64) v.zones
+  t = take_zones (own_of (opened v.contents p)) (k / slots_a_block v.geometry.width) v.zones
 
   abbrev c : Contents
   c = written v.geometry v.contents (map (zone_bit v.geometry true) t.numbers)
 
   abbrev m : OpenInode
-  m = map_block v.geometry t.taken (zeros 1024) (opened c p) (k / 64)
+  m = map_block v.geometry t.taken (zeros 1024) (opened c p) (k / slots_a_block v.geometry.width)
 
   abbrev grown : List (ℕ × Placed) → VolumeNow
   grown nodes = volume_of v.geometry (inode_back v.geometry m.blocks p m.inode) nodes t.zones
 
   abbrev told : Touched
-  told = (block_step v n (k / 64) p).touched
+  told = (block_step v n (k / slots_a_block v.geometry.width) p).touched
 
   abbrev larger : Part → Placed
   larger part = record { number = p.number; inode = m.inode; part = part }
@@ -125,18 +128,18 @@ module _ (v : VolumeNow) (n : ℕ) (p : Placed) (d : DirectoryPart) (name : List
       let end = ended (grown nodes) (larger (parts.Directory d)) nodes in
       record { volume = end.volume; touched = and_then told end.touched }
 
-  code_side : begins ≡ true → name_written e n s (new_slot d s) ≡ both (put_number (put_number (put_number v.contents.nodes n now) n (larger (parts.Directory next))) n (last (larger (parts.Directory d))))
+  code_side : begins ≡ true → name_written e n s (new_slot d s) ≡ both (put_number (put_number (put_number v.contents.nodes n now) n (larger (parts.Directory next))) n (last v (larger (parts.Directory d))))
   code_side some =
-      ap (λ (b : Bool). followed_by (if b then block_added e n (k / 64) else unchanged e) (λ w. slot_written w n k (Some s) slots)) some
-      ∙ (ap (λ c. followed_by c (λ w. slot_written w n k (Some s) slots)) (at_node_is e n now (block_step e n (k / 64)) there)
+      ap (λ (b : Bool). followed_by (if b then block_added e n (k / slots_a_block v.geometry.width) else unchanged e) (λ w. slot_written w n k (Some s) slots)) some
+      ∙ (ap (λ c. followed_by c (λ w. slot_written w n k (Some s) slots)) (at_node_is e n now (block_step e n (k / slots_a_block v.geometry.width)) there)
       ∙ ap (λ (c : Change). record { volume = c.volume; touched = and_then told c.touched })
       (slot_is (grown (put_number (put_number v.contents.nodes n now) n (larger (parts.Directory next)))) (larger (parts.Directory next))
       (at_put_number (put_number v.contents.nodes n now) n (larger (parts.Directory next))) refl))
 
-  step_side : begins ≡ true → add_name v n name birth ≡ both (put_number (put_number v.contents.nodes n (larger (parts.Directory d))) n (last (larger (parts.Directory d))))
+  step_side : begins ≡ true → add_name v n name birth ≡ both (put_number (put_number v.contents.nodes n (larger (parts.Directory d))) n (last v (larger (parts.Directory d))))
   step_side some =
       ap (λ c. followed_by c (λ w. put_name_slot w n name birth))
-      (room_is ∙ (ap (λ (b : Bool). if b then map_directory_block v n p d (length d.slots / 64) else unchanged v) some ∙ ap (λ k. map_directory_block v n p d (k / 64)) (sym all_used)))
+      (room_is ∙ (ap (λ (b : Bool). if b then map_directory_block v n p d (length d.slots / slots_a_block v.geometry.width) else unchanged v) some ∙ ap (λ k. map_directory_block v n p d (k / slots_a_block v.geometry.width)) (sym all_used)))
       ∙ ap (λ (c : Change). record { volume = c.volume; touched = and_then told c.touched })
       (named_slot (grown (put_number v.contents.nodes n (larger (parts.Directory d)))) (larger (parts.Directory d)) (at_put_number v.contents.nodes n (larger (parts.Directory d))) refl
       (at_put_number_apart v.contents.nodes n (larger (parts.Directory d)) birth apart ∙ at_child))
@@ -147,9 +150,9 @@ module _ (v : VolumeNow) (n : ℕ) (p : Placed) (d : DirectoryPart) (name : List
   grows : begins ≡ true → name_written e n s (new_slot d s) ≡ add_name v n name birth
   grows some =
       code_side some
-      ∙ (ap both (put_twice (put_number v.contents.nodes n now) n (larger (parts.Directory next)) (last (larger (parts.Directory d))) (in_order_put v.contents.nodes n now order)
-      ∙ (put_twice v.contents.nodes n now (last (larger (parts.Directory d))) order
-      ∙ sym (put_twice v.contents.nodes n (larger (parts.Directory d)) (last (larger (parts.Directory d))) order)))
+      ∙ (ap both (put_twice (put_number v.contents.nodes n now) n (larger (parts.Directory next)) (last v (larger (parts.Directory d))) (in_order_put v.contents.nodes n now order)
+      ∙ (put_twice v.contents.nodes n now (last v (larger (parts.Directory d))) order
+      ∙ sym (put_twice v.contents.nodes n (larger (parts.Directory d)) (last v (larger (parts.Directory d))) order)))
       ∙ sym (step_side some))
 
   -- what is written is the step

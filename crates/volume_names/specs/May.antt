@@ -20,14 +20,14 @@ pub record FreePlace (v : VolumeNow) (parent : ℕ) (name : List ℕ) : Type 0 w
   pub stands : at_number v.contents.nodes parent ≡ Some placed
   pub is : placed.part ≡ parts.Directory part
   pub word : IsTrue (is_path_name name)
-  pub short : length name ≤ 14
+  pub short : length name ≤ part.width
   pub free : at_name part.names name ≡ None
   pub left : is_full (directory_from part) ≡ false
 
 -- so many zones are free besides those that the directory takes for the name
 abbrev pub LeavesZones : (v : VolumeNow) (parent : ℕ) (name : List ℕ) → FreePlace v parent name → ℕ → Type 0
 LeavesZones v parent name place more =
-    directory_zones (slots_with (directory_from place.part) name) + more ≤ directory_zones (length place.part.slots) + count_by is_free v.zones.states
+    directory_zones place.part.width (slots_with (directory_from place.part) name) + more ≤ directory_zones place.part.width (length place.part.slots) + count_by is_free v.zones.states
 
 -- a file with birth n may come under this name
 pub record MayCreate (v : VolumeNow) (n parent : ℕ) (name : List ℕ) : Type 0 where

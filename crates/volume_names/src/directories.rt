@@ -6,7 +6,7 @@ ghost use Rattle.volume_model.specs.Moves.{with_name};
 ghost use Rattle.volume_names.specs.code.NewSlot.{new_slot};
 
 use blk_base::NoMemory;
-use minix_layout::{Name, Slot};
+use minix_layout::{Name, Slot, slots_a_block};
 use volume_model::DirectoryPart;
 
 /// Where a slot came: its place, whether a block of the directory begins with it, and how many slots there are then.
@@ -30,7 +30,7 @@ pub fn add_name(directory: &mut DirectoryPart, slot: Slot, birth: u64) -> Result
     match directory.slots.add(slot) {
         Ok(at) => Ok(NewSlot {
             at,
-            begins: at == before && before % 64 == 0,
+            begins: at == before && before % slots_a_block(directory.width) as usize == 0,
             slots: directory.slots.len(),
         }),
         Err(_) => {

@@ -31,21 +31,23 @@ pub fn new_file_inode() -> Inode
 pub fn new_directory(
     alloc: Global,
     number: u16,
+    width: u16,
     parent: u64,
     above: u16,
 ) -> Result<Placed, NoMemory>
     ensures { IfOk result (λ p. p ≡ record {
       number = number;
-      inode = new_directory_inode 0;
-      part = parts.Directory (record { parent = parent; names = []; slots = dot_slots number above });
+      inode = new_directory_inode width 0;
+      part = parts.Directory (record { parent = parent; width = width; names = []; slots = dot_slots number above });
     }) }
 {
     let slots = Vec::from_array(alloc, [Some(dot(number)), Some(dots(above))])?;
     Ok(Placed {
         number,
-        inode: Inode::new_directory(0),
+        inode: Inode::new_directory(width, 0),
         part: Part::Directory(DirectoryPart {
             parent,
+            width,
             names: Names::new(alloc),
             slots: Slots::of(slots),
         }),

@@ -1,6 +1,7 @@
 //! A directory comes into a directory.
 ghost use Rattle.std.specs.Prelude.{◌≡◌, ◌≤◌, ◌<◌, ◌+◌, ℕ, [], ◌∷◌, true, IfOk, OnErr, Some};
 ghost use Rattle.minix_layout.specs.Geometry.{IsSound};
+ghost use Rattle.minix_layout.specs.Widths.{IsWidth};
 ghost use Rattle.minix_layout.specs.declared.slot.Slot.{Slot};
 ghost use Rattle.byte_fields.specs.Fields.{zeros};
 ghost use Rattle.tree_model.specs.Maps.{at_number};
@@ -43,7 +44,7 @@ pub fn mkdir(
 {
     let mut touched = Touched::with_room(alloc, 19)?;
     let above = number_of(&v.nodes, parent);
-    let directory = new_directory(alloc, number, parent, above)?;
+    let directory = new_directory(alloc, number, v.geometry.width, parent, above)?;
     let slot = slot_of(number, name);
     let new = enter_new(&mut v.nodes, n, directory, parent, slot_of(number, name))?;
     write_directory(v, n, above, &mut touched);
@@ -64,7 +65,7 @@ fn write_directory(v: &mut VolumeNow, n: u64, above: u16, touched: &mut Touched)
         return;
     };
     let zone = take_zone(&mut v.zones);
-    placed.inode = Inode::new_directory(zone);
+    placed.inode = Inode::new_directory(v.geometry.width, zone);
     mark_inode(&mut v.blocks, &v.geometry, true, placed.number, touched);
     mark_zone(&mut v.blocks, &v.geometry, true, zone, touched);
     write_dots(
@@ -97,7 +98,8 @@ fn write_dots(
     above: u16,
     touched: &mut Touched,
 )
-    requires { 3 ≤ touched.old.spare }
+    requires width { IsWidth g.now.width }
+    requires room { 3 ≤ touched.old.spare }
     ensures blocks { blocks.new ≡ edited_all g.now blocks.old (dot_edits zone own above) }
     ensures touched { touched.new.touched ≡ and_then touched.old.touched (tells_writes g.now (dot_edits zone own above)) }
     ensures spare { touched.old.spare ≤ touched.new.spare + 3 }

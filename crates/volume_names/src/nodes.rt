@@ -1,13 +1,13 @@
 //! Steps that change one node in place, with its blocks. None takes memory, and where there is no such node, none does
 //! anything.
-ghost use Rattle.minix_layout.specs.declared.limits.TheConstants.{MOST_SLOTS};
-ghost use Rattle.std.specs.Prelude.{◌≡◌, ◌≤◌, ◌<◌, ◌+◌, ◌*◌, ◌^◌, ℕ, Some};
+ghost use Rattle.minix_layout.specs.Widths.{IsWidth, most_slots};
+ghost use Rattle.std.specs.Prelude.{◌≡◌, ◌≤◌, ◌<◌, ◌+◌, ◌*◌, ◌^◌, ℕ, length, Some, IfSome};
 ghost use Rattle.std.specs.Option.{option_copied};
 ghost use Rattle.tree_model.specs.Maps.{at_number};
 ghost use Rattle.volume_model.specs.declared.placed.Placed.{Placed};
 ghost use Rattle.volume_names.specs.code.Steps.{After, slot_written, more_links};
 
-use minix_layout::Slot;
+use minix_layout::{Slot, slot_size, slots_a_block};
 use std::collections::BTreeMap;
 use volume_edits::put_slot;
 use volume_model::Placed;
@@ -23,8 +23,10 @@ pub fn write_slot(
     touched: &mut Touched,
 )
     requires numbers { (p : Placed) → at_number v.old.contents.nodes n ≡ Some p → 0 < p.number }
-    requires place { at < MOST_SLOTS }
-    requires few { slots ≤ MOST_SLOTS }
+    requires width { IsWidth v.old.geometry.width }
+    requires short { IfSome (option_copied slot) (λ e. length e.name ≤ v.old.geometry.width) }
+    requires place { at < most_slots v.old.geometry.width }
+    requires few { slots ≤ most_slots v.old.geometry.width }
     requires room { 3 ≤ touched.old.spare }
     ensures done { After touched.old.touched (slot_written v.old n at (option_copied slot.entry) slots) v.new touched.new.touched }
     ensures spare { touched.old.spare ≤ touched.new.spare + 3 }
@@ -33,10 +35,11 @@ pub fn write_slot(
         return;
     };
     let before = copy_inode(&placed.inode);
-    let zone = block_zone(&v.blocks, &placed.inode, (at / 64) as u32);
-    put_slot(&mut v.blocks, &v.geometry, zone, (at % 64) as u8, slot);
+    let per = slots_a_block(v.geometry.width) as usize;
+    let zone = block_zone(&v.blocks, &placed.inode, (at / per) as u32);
+    put_slot(&mut v.blocks, &v.geometry, zone, (at % per) as u8, slot);
     touched.note_block(zone.into());
-    placed.inode.size = 16 * slots as u32;
+    placed.inode.size = slot_size(v.geometry.width) * slots as u32;
     write_inode(
         &mut v.blocks,
         &v.geometry,

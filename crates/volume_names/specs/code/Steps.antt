@@ -1,6 +1,7 @@
 -- Steps as the code takes them: a name is in its directory before the blocks are written.
 use Rattle.std.specs.Prelude.{◌≡◌, ℕ, ◌+◌, ◌*◌, ◌/◌, ◌%◌, ◌<◌, ◌≤◌, nat_lt, nat_eq, slice_index, true, if◌then◌else◌, List, [], ◌∷◌, ◌++◌, map, length, codes, Option, Some}
 use Rattle.byte_fields.specs.Fields.{zeros}
+use Rattle.minix_layout.specs.Widths.{slot_size, slots_a_block, most_slots}
 use Rattle.minix_layout.specs.declared.inode.Inode.{Inode}
 use Rattle.minix_layout.specs.Geometry.{IsSound}
 use Rattle.minix_layout.specs.Inodes.{new_directory_inode}
@@ -21,7 +22,6 @@ use Rattle.volume_steps.specs.Zones.{inode_bit, zone_bit, next_zone, take_zones}
 use Rattle.zone_maps.specs.Zones.{taken}
 use Rattle.volume_steps.specs.Steps.{at_node, tells_node, set_links, new_file_inode, new_directory_edits}
 use Rattle.volume_names.specs.declared.directories.NewSlot.{NewSlot}
-use Rattle.minix_layout.specs.declared.limits.TheConstants.{MOST_SLOTS}
 
 -- a change was done after others that touched this
 pub record After (before : Touched) (change : Change) (volume : VolumeNow) (touched : Touched) : Type 0 where
@@ -32,10 +32,10 @@ pub record After (before : Touched) (change : Change) (volume : VolumeNow) (touc
 abbrev pub slot_step : VolumeNow → ℕ → ℕ → Option Slot → ℕ → Placed → Change
 slot_step v n at slot slots p = record {
   volume = with_contents v (closed v.geometry v.contents n p (record {
-    blocks = edited v.geometry v.contents.blocks (put_slot (zone_in v.contents.blocks p.inode (block (at / 64))) (at % 64) slot);
-    inode = with_size p.inode (16 * slots);
+    blocks = edited v.geometry v.contents.blocks (put_slot (zone_in v.contents.blocks p.inode (block (at / slots_a_block v.geometry.width))) (at % slots_a_block v.geometry.width) slot);
+    inode = with_size p.inode (slot_size v.geometry.width * slots);
   }) p.part);
-  touched = tells_node n (zone_in v.contents.blocks p.inode (block (at / 64)) ∷ back_told v.geometry p (with_size p.inode (16 * slots)));
+  touched = tells_node n (zone_in v.contents.blocks p.inode (block (at / slots_a_block v.geometry.width)) ∷ back_told v.geometry p (with_size p.inode (slot_size v.geometry.width * slots)));
 }
 
 abbrev pub slot_written : VolumeNow → ℕ → ℕ → Option Slot → ℕ → Change
@@ -75,17 +75,18 @@ blocks_mapped i index t =
 -- the blocks of a directory are written for a slot that came
 abbrev pub name_written : VolumeNow → ℕ → Slot → NewSlot → Change
 name_written v n slot new =
-    followed_by (if new.begins then block_added v n (new.at / 64) else unchanged v) (λ w. slot_written w n new.at (Some slot) new.slots)
+    followed_by (if new.begins then block_added v n (new.at / slots_a_block v.geometry.width) else unchanged v) (λ w. slot_written w n new.at (Some slot) new.slots)
 
 -- what that asks
-pub record MayWrite (v : VolumeNow) (n : ℕ) (new : NewSlot) : Type 0 where
+pub record MayWrite (v : VolumeNow) (n : ℕ) (slot : Slot) (new : NewSlot) : Type 0 where
   pub sound : IsSound v.geometry
   pub placed : Placed
   pub stands : at_number v.contents.nodes n ≡ Some placed
   pub number : 0 < placed.number
-  pub place : new.at < MOST_SLOTS
-  pub few : new.slots ≤ MOST_SLOTS
-  pub hole : new.begins ≡ true → HasHole v placed (new.at / 64)
+  pub short : length slot.name ≤ v.geometry.width
+  pub place : new.at < most_slots v.geometry.width
+  pub few : new.slots ≤ most_slots v.geometry.width
+  pub hole : new.begins ≡ true → HasHole v placed (new.at / slots_a_block v.geometry.width)
 
 -- a name is in its directory, and the blocks are as they were
 abbrev pub entered : List (ℕ × Placed) → ℕ → Placed → DirectoryPart → Slot → ℕ → List (ℕ × Placed)
@@ -113,7 +114,7 @@ directory_step v n above q =
         geometry = v.geometry;
         contents = record {
           blocks = (written v.geometry v.contents es).blocks;
-          nodes = put_number v.contents.nodes n (record { number = q.number; inode = new_directory_inode zone; part = q.part });
+          nodes = put_number v.contents.nodes n (record { number = q.number; inode = new_directory_inode v.geometry.width zone; part = q.part });
         };
         zones = taken v.zones;
       };

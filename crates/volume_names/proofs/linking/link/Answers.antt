@@ -47,9 +47,12 @@ write_name-requires-clause-may c =
     let v = c.v.inside in
     let now = volume_of v.geometry v.blocks v.nodes.entries v.zones in
     let h : MayLink now c.args.birth c.args.parent c.args.name.now = subst (λ s. MayLink s c.args.birth c.args.parent c.args.name.now) (sym c.v.view_is) c.requires in
-    let slot = c.slot_of.ensures ∙ ap (λ (number : ℕ). record { inode = number; name = c.args.name.now }) (c.number_of-number.ensures h.placed h.stands) in
-    may_be_written now c.args.birth c.args.parent c.args.name.now h c.slot_of.result slot c.enter.new.nodes.entries
-    (c.in_ok-new.ensures.nodes h.place.placed h.place.part h.place.stands h.place.is) c.in_ok-new.new (c.in_ok-new.ensures.place h.place.placed h.place.part h.place.stands h.place.is)
+    let slots = c.slot_of.ensures ∙ sym c.slot_of-slot.ensures in
+    let slot = c.slot_of-slot.ensures ∙ ap (λ (number : ℕ). record { inode = number; name = c.args.name.now }) (c.number_of-number.ensures h.placed h.stands) in
+    may_be_written now c.args.birth c.args.parent c.args.name.now h c.slot_of-slot.result slot c.enter.new.nodes.entries
+    (c.in_ok-new.ensures.nodes h.place.placed h.place.part h.place.stands h.place.is
+    ∙ ap (λ slot. entered v.nodes.entries c.args.parent h.place.placed h.place.part slot c.args.birth) slots)
+    c.in_ok-new.new (c.in_ok-new.ensures.place h.place.placed h.place.part h.place.stands h.place.is ∙ ap (new_slot h.place.part) slots)
     c.add_link.new.v c.add_link.ensures.done.volume_is
 
 pub returns-clause-done : goal.returns-clause-done

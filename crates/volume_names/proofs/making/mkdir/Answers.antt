@@ -41,9 +41,13 @@ write_name-requires-clause-may c =
     let v = c.v.inside in
     let now = volume_of v.geometry v.blocks v.nodes.entries v.zones in
     let h : MayMkdir now c.args.n c.args.parent c.args.name.now = subst (λ s. MayMkdir s c.args.n c.args.parent c.args.name.now) (sym c.v.view_is) c.requires.may in
+    let slots = c.slot_of.ensures ∙ sym c.slot_of-slot.ensures in
     may_be_written now c.args.n c.args.parent c.args.name.now h c.args.number (lowest_in v.geometry v.blocks v.nodes.entries v.zones c.args.v.now c.v.view_is c.args.number c.requires.number) c.number_of-above.result (c.number_of-above.ensures h.place.placed h.place.stands)
-    c.slot_of.result c.slot_of.ensures c.in_ok-directory.directory c.in_ok-directory.ensures c.enter_new.new.nodes.entries (c.in_ok-new.ensures.nodes h.place.placed h.place.part h.place.stands h.place.is)
-    c.in_ok-new.new (c.in_ok-new.ensures.place h.place.placed h.place.part h.place.stands h.place.is) c.write_directory.new.v c.write_directory.ensures.done.volume_is
+    c.slot_of-slot.result c.slot_of-slot.ensures c.in_ok-directory.directory c.in_ok-directory.ensures c.enter_new.new.nodes.entries
+    (c.in_ok-new.ensures.nodes h.place.placed h.place.part h.place.stands h.place.is
+    ∙ ap (λ slot. entered (put_number v.nodes.entries c.args.n c.in_ok-directory.directory) c.args.parent h.place.placed h.place.part slot c.args.n) slots)
+    c.in_ok-new.new (c.in_ok-new.ensures.place h.place.placed h.place.part h.place.stands h.place.is ∙ ap (new_slot h.place.part) slots)
+    c.write_directory.new.v c.write_directory.ensures.done.volume_is
 
 pub add_link-requires-clause-numbers : goal.add_link-requires-clause-numbers
 add_link-requires-clause-numbers c = λ p found.
