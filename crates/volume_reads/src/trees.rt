@@ -8,6 +8,7 @@ ghost use Rattle.volume_steps.specs.Now.{tree_of_now};
 ghost use Rattle.volume_steps.specs.Plain.{IsPlainNow};
 
 use blk_base::{Block, Image, NoMemory};
+use minix_layout::{Geometry, slot_size};
 use std::alloc::Global;
 use tree_model::{Directory, File, FileBlocks, Node, Tree};
 use volume_model::{FileZones, Part, Placed};
@@ -36,14 +37,15 @@ fn bodies(alloc: Global, blocks: &Image, zones: &FileZones) -> Result<FileBlocks
     Ok(bodies)
 }
 
-fn node(alloc: Global, blocks: &Image, placed: &Placed) -> Result<Node, NoMemory>
-    requires { IsPart blocks.now placed.now.inode placed.now.part }
+fn node(alloc: Global, g: &Geometry, blocks: &Image, placed: &Placed) -> Result<Node, NoMemory>
+    requires { IsPart g.now blocks.now placed.now.inode placed.now.part }
     ensures { IfOk result (λ node. node ≡ node_now blocks.now placed.now) }
 {
     match &placed.part {
         Part::Directory(directory) => Ok(Node::Directory(Directory {
             parent: directory.parent,
-            slots: placed.inode.size / 16,
+            width: g.width,
+            slots: placed.inode.size / slot_size(g.width),
             names: directory.names.copy(alloc)?,
         })),
         Part::File(zones) => Ok(Node::File(File {
@@ -62,7 +64,7 @@ pub fn tree(alloc: Global, v: &VolumeNow) -> Result<Tree, NoMemory>
     let blocks = &v.blocks;
     let mut tree = Tree::new(alloc);
     for (birth, placed) in &v.nodes {
-        tree.put(*birth, node(alloc, blocks, placed)?)?;
+        tree.put(*birth, node(alloc, &v.geometry, blocks, placed)?)?;
     }
     Ok(tree)
 }

@@ -5,9 +5,9 @@ use Rattle.volume_steps.proofs.Files.{node_is_file}
 use Rattle.volume_reads.proofs.trees.node.Goals as goal
 
 pub bodies-requires : goal.bodies-requires
-bodies-requires c = (subst (IsPart c.args.blocks.now c.args.placed.now.inode) c.in-File.is c.requires).rising
+bodies-requires c = (subst (IsPart c.args.g.now c.args.blocks.now c.args.placed.now.inode) c.in-File.is c.requires).rising
 
 pub returns-in_ok-bodies-in-File : goal.returns-in_ok-bodies-in-File
 returns-in_ok-bodies-in-File c =
     ap (λ bodies. nodes.File (record { size = c.args.placed.now.inode.size; links = c.args.placed.now.inode.links; blocks = bodies })) c.in_ok-bodies-in-File.ensures
-    ∙ sym (node_is_file c.args.blocks.now c.args.placed.now c.in-File.zones c.in-File.is (subst (IsPart c.args.blocks.now c.args.placed.now.inode) c.in-File.is c.requires).rising)
+    ∙ sym (node_is_file c.args.blocks.now c.args.placed.now c.in-File.zones c.in-File.is (subst (IsPart c.args.g.now c.args.blocks.now c.args.placed.now.inode) c.in-File.is c.requires).rising)

@@ -1,5 +1,6 @@
 use Rattle.std.proofs.Common.{◌≡◌, ◌∷◌, ◌++◌, [], ℕ, List, refl, sym, ap, subst, ◌∙◌, inl, inr, append-nil}
 use Rattle.blk_base.specs.Members.{In}
+use Rattle.minix_layout.specs.declared.division.Geometry.{Geometry}
 use Rattle.volume_model.specs.declared.placed.Placed.{Placed}
 use Rattle.volume_model.specs.Trees.{node_now, tree_now}
 use Rattle.volume_model.specs.Volume.{IsPart}
@@ -20,8 +21,10 @@ loop-birth-init c =
 pub node-requires : goal.node-requires
 node-requires c =
     let blocks = ap (λ (v : VolumeNow). v.contents.blocks) c.v.view_is in
+    let geometry = ap (λ (v : VolumeNow). v.geometry) c.v.view_is in
     let steps : c.loop-birth.birth-iterator ≡ (c.in-Some.birth.now, c.in-Some.placed.now) ∷ c.next.new.self = c.in-Some.ensures.steps in
-    subst (λ b. IsPart b c.in-Some.placed.now.inode c.in-Some.placed.now.part) (sym blocks) (c.loop-birth.invariant.1 (c.in-Some.birth.now, c.in-Some.placed.now) (rw steps (inl refl)))
+    let part = λ (g : Geometry) (b : List (List ℕ)). IsPart g b c.in-Some.placed.now.inode c.in-Some.placed.now.part in
+    subst (λ b. part c.v.inside.geometry b) (sym blocks) (subst (λ g. part g c.args.v.now.contents.blocks) (sym geometry) (c.loop-birth.invariant.1 (c.in-Some.birth.now, c.in-Some.placed.now) (rw steps (inl refl))))
 
 pub loop-birth-preserved : goal.loop-birth-preserved
 loop-birth-preserved c =

@@ -8,4 +8,4 @@ use Rattle.volume_reads.proofs.trees.tree.Given as goal
 abbrev pub invariant-loop-birth : goal.invariant-loop-birth
 invariant-loop-birth l =
     (l.tree ++ tree_now l.v.contents.blocks l.birth-iterator ≡ tree_now l.v.contents.blocks l.v.contents.nodes)
-    × ((e : ℕ × Placed) → In e l.birth-iterator → IsPart l.v.contents.blocks e.1.inode e.1.part)
+    × ((e : ℕ × Placed) → In e l.birth-iterator → IsPart l.v.geometry l.v.contents.blocks e.1.inode e.1.part)
