@@ -16,7 +16,8 @@ use Rattle.minix_layout.specs.declared.inode.Inode.{Inode}
 use Rattle.minix_layout.specs.declared.slot.Slot.{Slot}
 use Rattle.minix_layout.specs.Bits.{byte_with, put_bit}
 use Rattle.minix_layout.specs.Inodes.{inode_fields, inode_bytes}
-use Rattle.minix_layout.specs.Slots.{slot_bytes}
+use Rattle.minix_layout.specs.Slots.{slot_of_size, slot_bytes}
+use Rattle.minix_layout.specs.Widths.{slot_size, slots_a_block}
 use Rattle.tree_model.specs.declared.call.Call.{Call}
 use Rattle.tree_model.specs.declared.call.Call.TheVariants as calls
 use Rattle.tree_model.specs.declared.call.Reply.TheVariants as replies
@@ -118,10 +119,10 @@ abbrev NameBytes : Option Slot → Type 0
 NameBytes None = Unit {0}
 NameBytes (Some s) = AreBytes s.name
 
-entry_bytes : (o : Option Slot) → NameBytes o → AreBytes (slot_bytes o)
-unfolding slot_bytes
-entry_bytes None h = zero_bytes 16
-entry_bytes (Some s) h = fields_bytes (record { width = 2; at = 0; value = s.inode } ∷ []) (put_bytes 2 s.name (zeros 16)) (over_bytes 2 s.name (zeros 16) h (zero_bytes 16))
+entry_bytes : (size : ℕ) (o : Option Slot) → NameBytes o → AreBytes (slot_of_size size o)
+unfolding slot_of_size
+entry_bytes size None h = zero_bytes size
+entry_bytes size (Some s) h = fields_bytes (record { width = 2; at = 0; value = s.inode } ∷ []) (put_bytes 2 s.name (zeros size)) (over_bytes 2 s.name (zeros size) h (zero_bytes size))
 
 power_low : (k : ℕ) → k < 8 → 2 ^ k < 256
 power_low zero h = omega arith
@@ -151,7 +152,7 @@ WritesBytes other = Unit {0}
 
 body_bytes : (g : Geometry) (e : Edit) (body : List ℕ) → WritesBytes e → AreBytes body → AreBytes (body_after g e body)
 body_bytes g (put_inode number inode) body h k = over_bytes (32 * ((number - 1) % 32)) (inode_bytes inode) body (record_bytes inode) k
-body_bytes g (put_slot zone at o) body h k = over_bytes (16 * at) (slot_bytes o) body (entry_bytes o h) k
+body_bytes g (put_slot zone at o) body h k = over_bytes (slot_size g.width * at) (slot_bytes g.width o) body (entry_bytes (slot_size g.width) o h) k
 body_bytes g (set_bit first number value) body h k = put_bit_bytes body (number % 8192) value k
 body_bytes g (put_entry zone at number) body h k = field_bytes 2 (2 * at) number body k
 body_bytes g (clear_from zone at) body h k = over_bytes (2 * at) (zeros (1024 - 2 * at)) body (zero_bytes (1024 - 2 * at)) k
@@ -340,7 +341,7 @@ file_mapped_keeps v n p zones content index h r =
     back_keeps v.geometry _ _ _ _ (map_keeps v.geometry t.taken content (opened c p) index h (bits_keep v.geometry v.contents.blocks true t.numbers r))
 
 room_keeps : (v : VolumeNow) (n : ℕ) → P v.contents → InChange (make_room v n)
-room_keeps v n r = by_directory P v n _ r (λ p d at is. by_test P (nat_eq (room d.slots) (length d.slots) && nat_eq (length d.slots % 64) 0) _ _ (directory_mapped_keeps v n p d (length d.slots / 64) r) r)
+room_keeps v n r = by_directory P v n _ r (λ p d at is. by_test P (nat_eq (room d.slots) (length d.slots) && nat_eq (length d.slots % slots_a_block v.geometry.width) 0) _ _ (directory_mapped_keeps v n p d (length d.slots / slots_a_block v.geometry.width) r) r)
 
 name_added : (v : VolumeNow) (n : ℕ) (name : List ℕ) (birth : ℕ) → AreBytes name → P v.contents → InChange (add_name v n name birth)
 name_added v n name birth h r = slot_put_keeps (make_room v n).volume n name birth h (room_keeps v n r)

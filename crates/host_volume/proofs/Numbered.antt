@@ -66,7 +66,7 @@ module _ {C : Type 0} (call_of : C → Call) (g : Geometry) where
 
     -- each node was born by an entry up to the last one
     pub all_born : (n : ℕ) → AreBornBefore (n + 1) (At n).tree
-    all_born zero = new_born
+    all_born zero = new_born g.width
     all_born (suc n) = born_by (slice_get es n) n (all_born n)
 
     -- so the next entry's number is that of its call
@@ -79,7 +79,7 @@ module _ {C : Type 0} (call_of : C → Call) (g : Geometry) where
     step_tree (Some e) n born = (let next : n + 1 ≡ suc n = omega arith in entry_tree (At n) (suc n) e (subst (λ k. AreBornBefore k (At n).tree) next born))
 
     -- and the trees are those of the tree model
-    pub trees_are : (n : ℕ) → (At n).tree ≡ tree_after_entries room root_alone 0 (map (acting call_of) es) n
+    pub trees_are : (n : ℕ) → (At n).tree ≡ tree_after_entries room (root_alone g.width) 0 (map (acting call_of) es) n
     unfolding tree_after_entries
     trees_are zero = refl
     trees_are (suc n) =
@@ -87,4 +87,4 @@ module _ {C : Type 0} (call_of : C → Call) (g : Geometry) where
         step_tree (slice_get es n) n (all_born n)
         ∙ (ap (tree_after_entry room (At n).tree (suc n)) (sym (slice_get-map (acting call_of) es n))
         ∙ (ap (λ tree. tree_after_entry room tree (suc n) (slice_get (map (acting call_of) es) n)) (trees_are n)
-        ∙ ap (λ k. tree_after_entry room (tree_after_entries room root_alone 0 (map (acting call_of) es) n) k (slice_get (map (acting call_of) es) n)) next))
+        ∙ ap (λ k. tree_after_entry room (tree_after_entries room (root_alone g.width) 0 (map (acting call_of) es) n) k (slice_get (map (acting call_of) es) n)) next))

@@ -1,11 +1,13 @@
 -- A host that is opened over a plain volume of the root alone has what it keeps.
-use Rattle.std.specs.Prelude.{◌≡◌, ◌≢◌, ◌<◌, ℕ, List, [], length, Some}
+use Rattle.std.specs.Prelude.{◌≡◌, ◌≢◌, ◌*◌, ◌<◌, ℕ, List, [], length, Some}
 use Rattle.std.specs.Ordering.{nat_cmp, is_eq}
 use Rattle.std.proofs.Common.{sym, ap, subst, ◌∙◌, inl, inr, arith}
 use Rattle.std.proofs.lemmas.Bool.{cases_Bool}
 use Rattle.std.proofs.lemmas.Option.{none-some, same_Some}
 use Rattle.blk_base.specs.Members.{In}
 use Rattle.minix_layout.specs.declared.division.Geometry.{Geometry}
+use Rattle.minix_layout.specs.laws.Places.{IsForm, narrow, wide, form_is}
+use Rattle.minix_layout.specs.Widths.{slot_size, slots_a_block}
 use Rattle.host_volume.specs.ByteCalls.{ByteCall}
 use Rattle.tree_model.specs.declared.node.Node.{Node}
 use Rattle.tree_model.specs.declared.node.Node.TheVariants as nodes
@@ -35,11 +37,16 @@ use Rattle.host_volume.proofs.Metadata.{tested_meta}
 use Rattle.host_volume.proofs.Roots.{first_zone}
 use Rattle.host_volume.proofs.Standing.{root_part, meta_low, reserved_meta}
 
-only_root : (birth : ℕ) (node : Node) → at_number root_alone birth ≡ Some node → birth ≡ 0
-only_root birth node e = elim (cases_Bool (is_eq (nat_cmp birth 0))) [
+only_root : (width birth : ℕ) (node : Node) → at_number (root_alone width) birth ≡ Some node → birth ≡ 0
+only_root width birth node e = elim (cases_Bool (is_eq (nat_cmp birth 0))) [
   | inl same ↦ number_same birth 0 same
   | inr apart ↦ absurd (none-some node (rw apart at e))
 ]
+
+-- two slots stand in the first block
+first_block : (size per : ℕ) → IsForm size per → (index slots : ℕ) → per * index < slots → slots ≡ 2 → index ≡ 0
+first_block size per narrow index slots low two = omega arith
+first_block size per wide index slots low two = omega arith
 
 no_way : (x : Place) → IsOfNumbers x → OnWay x 0 → ⊥
 no_way indirect n w = (let low = w.0 in omega arith)
@@ -48,17 +55,17 @@ no_way (inner k) n w = (let low = w.0 in omega arith)
 no_way (block i) n w = elim n [ ]
 
 module _ (s : Opening) (v : VolumeNow) (o : IsOpenedVolume s v) where
-  pub opened_stands : Stands s v root_tree
+  pub opened_stands : Stands s v (root_tree s.geometry.width)
   opened_stands = record { plain = o.plain; geometry = o.geometry; tree = o.tree; root = o.root; bytes = o.bytes }
 
   birth_is : (n : ℕ) (p : Placed) → at_number v.contents.nodes n ≡ Some p → n ≡ 0
-  birth_is n p at = only_root n (node_now v.contents.blocks p) (ap (λ tree. at_number tree n) (sym o.tree) ∙ tree_at v.contents.blocks v.contents.nodes n p at)
+  birth_is n p at = only_root s.geometry.width n (node_now v.contents.blocks p) (ap (λ tree. at_number tree n) (sym o.tree) ∙ tree_at v.contents.blocks v.contents.nodes n p at)
 
   -- the root has two slots, so one block
   slots_are : (p : Placed) (d : DirectoryPart) → at_number v.contents.nodes 0 ≡ Some p → p.part ≡ parts.Directory d → length d.slots ≡ 2
   slots_are p d at is =
       let there : at_number (tree_of_now v) 0 ≡ Some (nodes.Directory (directory_from d)) = tree_directory v.contents.blocks v.contents.nodes 0 p d at is in
-      let same = same_Some (nodes.Directory (directory_from d)) (nodes.Directory (record { parent = 0; slots = 2; names = [] })) (sym there ∙ ap (λ tree. at_number tree 0) o.tree) in
+      let same = same_Some (nodes.Directory (directory_from d)) (nodes.Directory (record { parent = 0; width = s.geometry.width; slots = 2; names = [] })) (sym there ∙ ap (λ tree. at_number tree 0) o.tree) in
       ap slots_in same
     where
       slots_in : Node → ℕ
@@ -69,8 +76,7 @@ module _ (s : Opening) (v : VolumeNow) (o : IsOpenedVolume s v) where
   index_is p at index some =
       let d = root_part v o.plain p at in
       let low = (o.plain.plain.slot_zones 0 p d.0 at d.1).no_more index some in
-      let two = slots_are p d.0 at d.1 in
-      omega arith
+      first_block (slot_size v.geometry.width) (slots_a_block v.geometry.width) (form_is v.geometry.width) index (length d.0.slots) low (slots_are p d.0 at d.1)
 
   first_is : (p : Placed) (at : at_number v.contents.nodes 0 ≡ Some p) (index : ℕ) (b : ℕ) → index ≡ 0 → zone_in v.contents.blocks p.inode (block index) ≡ b → s.root ≡ b
   first_is p at index b zero_is is =
@@ -92,7 +98,7 @@ module _ (s : Opening) (v : VolumeNow) (o : IsOpenedVolume s v) where
       inl (first_is p root i b (index_is p root i (λ none. some (sym is ∙ none))) is)
 
   reserved_low : (b : ℕ) → In b (over s).reserved → b < s.geometry.zones
-  reserved_low b i = meta_low s v root_tree opened_stands b (reserved_meta s v root_tree opened_stands b i)
+  reserved_low b i = meta_low s v (root_tree s.geometry.width) opened_stands b (reserved_meta s v (root_tree s.geometry.width) opened_stands b i)
 
   module _ (ring : LogRing) (limit : ℕ) (programs : List (List ByteCall)) (j : HasEmptyJournal s ring limit) where
     base_image : BaseImage (session (over s) (Stands s) [] (opened_host s v ring limit programs))
@@ -101,7 +107,7 @@ module _ (s : Opening) (v : VolumeNow) (o : IsOpenedVolume s v) where
     pub is_opened : IsOpened (over s) (Stands s) v ring s.geometry.zones limit programs
     is_opened = record {
       stands = opened_stands;
-      metadata = λ b m. (listed b (tested_meta v o.plain b m), sym (o.image b (meta_low s v root_tree opened_stands b m)));
+      metadata = λ b m. (listed b (tested_meta v o.plain b m), sym (o.image b (meta_low s v (root_tree s.geometry.width) opened_stands b m)));
       base = base_image;
       log = j.log;
     }

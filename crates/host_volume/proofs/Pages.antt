@@ -67,7 +67,7 @@ module _ (v : VolumeNow) where
     in_file birth p zones at is index =
         ap (λ o. block_in o index) (tree_at v.contents.blocks v.contents.nodes birth p at)
         ∙ (ap (λ part. block_in (Some (node_from v.contents.blocks p.inode part)) index) is
-        ∙ body_at v.contents.blocks p.inode zones (subst (IsPart v.contents.blocks p.inode) is (h.volume.0.each birth p at).part) index)
+        ∙ body_at v.contents.blocks p.inode zones (subst (IsPart v.geometry v.contents.blocks p.inode) is (h.volume.0.each birth p at).part) index)
 
     behind : (p : Placed) (index zone : ℕ) → zone_in v.contents.blocks p.inode (block index) ≡ zone → zone ≢ 0 → block_behind v.contents.blocks p.inode index ≡ Some (disk_of v.contents.blocks zone)
     behind p index zone is some =

@@ -12,6 +12,7 @@ use Rattle.inode_ops.specs.Map.{zone_at}
 use Rattle.minix_layout.specs.declared.division.Geometry.{Geometry}
 use Rattle.minix_layout.specs.declared.inode.Inode.{Inode}
 use Rattle.minix_layout.specs.declared.slot.Slot.{Slot}
+use Rattle.minix_layout.specs.Widths.{slots_a_block}
 use Rattle.tree_model.specs.declared.call.Call.{Call}
 use Rattle.tree_model.specs.declared.call.Call.TheVariants as calls
 use Rattle.tree_model.specs.declared.call.Reply.TheVariants as replies
@@ -179,7 +180,7 @@ module _ (zone : ℕ) (some : zone ≢ 0) where
       put_like v.contents.nodes n p _ at (sym (ap is_directory_part is)) (λ z. map_keeps v.geometry t.taken (zeros 1024) (opened c p) index z) r
 
   room_keeps : (v : VolumeNow) (n : ℕ) → RootIs v.contents.nodes → InChange (make_room v n)
-  room_keeps v n r = by_directory P v n _ r (λ p d at is. by_test P (nat_eq (room d.slots) (length d.slots) && nat_eq (length d.slots % 64) 0) _ _ (directory_mapped_keeps v n p d (length d.slots / 64) at is r) r)
+  room_keeps v n r = by_directory P v n _ r (λ p d at is. by_test P (nat_eq (room d.slots) (length d.slots) && nat_eq (length d.slots % slots_a_block v.geometry.width) 0) _ _ (directory_mapped_keeps v n p d (length d.slots / slots_a_block v.geometry.width) at is r) r)
 
   name_added : (v : VolumeNow) (n : ℕ) (name : List ℕ) (birth : ℕ) → RootIs v.contents.nodes → InChange (add_name v n name birth)
   name_added v n name birth r = slot_put_keeps (make_room v n).volume n name birth (room_keeps v n r)

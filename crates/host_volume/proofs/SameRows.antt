@@ -21,6 +21,9 @@ AreLike tree (Err why) (Err other) = why ≡ other
 AreLike tree (Ok d) (Ok e) = (d.takes_inode ≡ e.takes_inode) × (used_zones d.tree - used_zones tree ≡ used_zones e.tree - used_zones tree)
 AreLike tree one other = ⊥
 
+no_less : (before after one other : ℕ) → after ≡ before + one + other → before + (after - before) ≡ after
+no_less before after one other grows = omega arith
+
 module _ (tree : Tree) where
   like_itself : (r : Row) → AreLike tree r r
   like_itself (Err why) = refl
@@ -41,14 +44,14 @@ module _ (tree : Tree) where
 
   module _ (order : InOrder tree) (n m : ℕ) (none : at_number tree n ≡ None) (other : at_number tree m ≡ None) where
     abbrev more : Place → ℕ
-    more place = directory_zones (slots_with place.directory place.name) - directory_zones place.directory.slots
+    more place = directory_zones place.directory.width (slots_with place.directory place.name) - directory_zones place.directory.width place.directory.slots
 
-    grows : (place : Place) → directory_zones place.directory.slots + more place ≡ directory_zones (slots_with place.directory place.name)
+    grows : (place : Place) → directory_zones place.directory.width place.directory.slots + more place ≡ directory_zones place.directory.width (slots_with place.directory place.name)
     grows place = by (not (is_some (at_name place.directory.names place.name)) && needs_slot place.directory)
       where
-        by : (t : Bool) → directory_zones place.directory.slots + (directory_zones (if t then place.directory.slots + 1 else place.directory.slots) - directory_zones place.directory.slots)
-            ≡ directory_zones (if t then place.directory.slots + 1 else place.directory.slots)
-        by true = (let next = slot_needs place.directory.slots in omega arith)
+        by : (t : Bool) → directory_zones place.directory.width place.directory.slots + (directory_zones place.directory.width (if t then place.directory.slots + 1 else place.directory.slots) - directory_zones place.directory.width place.directory.slots)
+            ≡ directory_zones place.directory.width (if t then place.directory.slots + 1 else place.directory.slots)
+        by true = no_less _ _ _ _ (slot_needs place.directory.width place.directory.slots)
         by false = omega arith
 
     mkdir_like : (path : List ℕ) → AreLike tree (mkdir tree n path) (mkdir tree m path)

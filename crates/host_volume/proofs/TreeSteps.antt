@@ -154,13 +154,13 @@ stays_unaltered room t n c same birth =
 
 -- ---- the laws of trees
 
-root_maps : (birth index : ℕ) → maps_block root_alone birth index ≡ false
+root_maps : (width birth index : ℕ) → maps_block (root_alone width) birth index ≡ false
 unfolding tree_after_entries
-root_maps birth index = (real_trees (record { inodes = 0; capacity = 0 }) [] (λ k. 0) (λ n found f i. 0) (record { first = refl; rise = λ k. omega arith })).empty birth index
+root_maps width birth index = (real_trees (record { inodes = 0; capacity = 0 }) width [] (λ k. 0) (λ n found f i. 0) (record { first = refl; rise = λ k. omega arith })).empty birth index
 
 pub tree_laws : (g : Geometry) → TreeLaws (model g)
 tree_laws g = record {
-  empty = root_maps;
+  empty = root_maps g.width;
   mapped = λ t n c f i none there. mapped_by (room_of g) t n c.call f i none there;
   written = λ t n c f i wrote. written_by (room_of g) t n c.call f i wrote;
   same = λ t n c f i unaltered.

@@ -1,5 +1,5 @@
 -- The walk through a plain volume reads its metadata alone, and finds each block of a file at its zone.
-use Rattle.std.specs.Prelude.{◌≡◌, ◌⊎◌, ℕ, Bool, true, if◌then◌else◌, List, [], ◌∷◌, map, Some, None, Result, Ok, Err, refl}
+use Rattle.std.specs.Prelude.{◌≡◌, ◌⊎◌, ◌/◌, ℕ, Bool, true, if◌then◌else◌, List, [], ◌∷◌, length, map, Some, None, Result, Ok, Err, refl}
 use Rattle.std.specs.Map.{keys_of}
 use Rattle.std.specs.Ordering.{nat_cmp}
 use Rattle.std.proofs.Common.{sym, ap, subst, ◌∙◌, inl, inr, ⊎_elim, arith}
@@ -9,6 +9,8 @@ use Rattle.blk_base.specs.Members.{In}
 use Rattle.blk_base.specs.laws.Members.{slice_get-length}
 use Rattle.minix_layout.specs.declared.division.Geometry.{Geometry}
 use Rattle.minix_layout.specs.declared.inode.Inode.{Inode}
+use Rattle.minix_layout.specs.laws.Places.{form_is, bytes_of_slots}
+use Rattle.minix_layout.specs.Widths.{slot_size, slots_a_block}
 use Rattle.tree_model.specs.declared.node.Directory.{Directory}
 use Rattle.tree_model.specs.declared.node.File.{File}
 use Rattle.tree_model.specs.declared.node.Node.{Node}
@@ -110,15 +112,15 @@ module _ (g : Geometry) (v : Contents) (h : IsPlainContents g v) where
   inode_is : (b : ℕ) (p : Placed) → at_number v.nodes b ≡ Some p → inode_born g v.blocks (birth_of p.number) ≡ p.inode
   inode_is b p at = ap (inode_at g v.blocks) (inode_of_birth_of p.number (stored g v h b p at).some) ∙ (stored g v h b p at).inode
 
-  says : (b : ℕ) (p : Placed) (x : IsMet b p) → IsNodeOf v.blocks p.inode x.node
-  says b p x = subst (λ i. IsNodeOf v.blocks i x.node) (inode_is b p x.stands) (k.fields.each (birth_of p.number) x.node x.there)
+  says : (b : ℕ) (p : Placed) (x : IsMet b p) → IsNodeOf g v.blocks p.inode x.node
+  says b p x = subst (λ i. IsNodeOf g v.blocks i x.node) (inode_is b p x.stands) (k.fields.each (birth_of p.number) x.node x.there)
 
-  as_directory : (i : Inode) (m : Node) → IsNodeOf v.blocks i m → is_directory i.mode ≡ true → (e : Directory) × (m ≡ nodes.Directory e) × IsDirectoryOf v.blocks i e
+  as_directory : (i : Inode) (m : Node) → IsNodeOf g v.blocks i m → is_directory i.mode ≡ true → (e : Directory) × (m ≡ nodes.Directory e) × IsDirectoryOf g v.blocks i e
   as_directory i (nodes.Directory e) of kind = (e, refl, of)
   as_directory i (nodes.File f) of kind = absurd (no_directory_file i.mode kind of.kind)
   as_directory i (nodes.Other mode) of kind = absurd (true≢false (sym kind ∙ of.no_directory))
 
-  as_file : (i : Inode) (m : Node) → IsNodeOf v.blocks i m → is_file i.mode ≡ true → (f : File) × (m ≡ nodes.File f) × IsFileOf v.blocks i f
+  as_file : (i : Inode) (m : Node) → IsNodeOf g v.blocks i m → is_file i.mode ≡ true → (f : File) × (m ≡ nodes.File f) × IsFileOf v.blocks i f
   as_file i (nodes.Directory e) of kind = absurd (no_directory_file i.mode of.kind kind)
   as_file i (nodes.File f) of kind = (f, refl, of)
   as_file i (nodes.Other mode) of kind = absurd (true≢false (sym kind ∙ of.no_file))
@@ -136,15 +138,15 @@ module _ (g : Geometry) (v : Contents) (h : IsPlainContents g v) where
       let same : x.node ≡ p = same_Some x.node p (sym x.stands ∙ met.stands) in
       let is = ap (λ (p : Placed). p.part) (sym same) ∙ x.part_is in
       let n = (h.volume.0.names b p x.part met.stands is).named name c (ap (λ (d : Directory). at_name d.names name) x.same ∙ gives.named) in
-      let part : IsDirectoryPart v.blocks p.inode x.part = subst (IsPart v.blocks p.inode) is (stored g v h b p met.stands).part in
+      let part : IsDirectoryPart g v.blocks p.inode x.part = subst (IsPart g v.blocks p.inode) is (stored g v h b p met.stands).part in
       let m = as_directory p.inode met.node (says b p met) part.kind in
       let low = slice_get-length x.part.slots n.place (Some n.slot) n.stands in
-      let size = part.size in
-      let has : HasName v.blocks p.inode name (birth_of n.number.0.number) = record {
+      let many : p.inode.size / slot_size g.width ≡ length x.part.slots = ap (λ n. n / slot_size g.width) part.size ∙ bytes_of_slots (slot_size g.width) (slots_a_block g.width) (form_is g.width) (length x.part.slots) in
+      let has : HasName g v.blocks p.inode name (birth_of n.number.0.number) = record {
         place = n.place;
         slot = n.slot;
         below = omega arith;
-        stands = slot_read v.blocks p.inode x.part part n.place (Some n.slot) n.stands;
+        stands = slot_read g v.blocks p.inode x.part part n.place (Some n.slot) n.stands;
         name_is = n.name_is;
         no_dot = n.no_dot;
         birth_is = ap birth_of (sym n.number.2);
@@ -188,7 +190,7 @@ module _ (g : Geometry) (v : Contents) (h : IsPlainContents g v) where
     birth = birth_of p.number
 
     file_part : IsFilePart v.blocks p.inode page.zones
-    file_part = subst (IsPart v.blocks p.inode) page.is_file (stored g v h x.birth p page.stands).part
+    file_part = subst (IsPart g v.blocks p.inode) page.is_file (stored g v h x.birth p page.stands).part
 
     file_there : (met : IsMet x.birth p) → (f : File) × (at_number t birth ≡ Some (nodes.File f)) × IsFileOf v.blocks p.inode f
     file_there met = (let f = as_file p.inode met.node (says x.birth p met) file_part.kind in (f.0, met.there ∙ ap Some f.1, f.2))
@@ -198,7 +200,7 @@ module _ (g : Geometry) (v : Contents) (h : IsPlainContents g v) where
         found_key nat_cmp number_here number_same f.blocks x.index (disk_of v.blocks (zone_behind v.blocks p.inode x.index))
         (of.bodies x.index ∙ ap (λ (b : Bool). if b then None else Some (disk_of v.blocks (zone_behind v.blocks p.inode x.index))) (ne_eqb (zone_behind v.blocks p.inode x.index) 0 (λ none. page.some (sym page.zone ∙ none))))
 
-    zone_by : (f : File) → IsFileOf v.blocks p.inode f → (i : Inode) → i ≡ p.inode → (o : Found) → part_in v.blocks i (nodes.File f) ≡ part_found v.blocks i o → HasZoneAt birth x.index x.zone o
+    zone_by : (f : File) → IsFileOf v.blocks p.inode f → (i : Inode) → i ≡ p.inode → (o : Found) → part_in g v.blocks i (nodes.File f) ≡ part_found g v.blocks i o → HasZoneAt birth x.index x.zone o
     zone_by f of i is (found.Directory d) e = cc e
     zone_by f of i is (found.Other mode) e = absurd (none_listed (zone_behind v.blocks i) (keys_of f.blocks) x.index (index_listed f of) (files_same _ _ e))
     zone_by f of i is (found.File o) e =
@@ -212,7 +214,7 @@ module _ (g : Geometry) (v : Contents) (h : IsPlainContents g v) where
         let there : at_number t n.birth ≡ Some (nodes.File f) = ap (at_number t) same ∙ at in
         let one = at_made (placed_in g v.blocks) t n.birth (nodes.File f) there in
         let two = found_stands g v.blocks t (some_inodes g v h) (image_plain g v t h tree_is) ends.0 ends.1 n i in
-        let parts_same = ap (λ (p : Placed). p.part) (same_Some (placed_in g v.blocks n.birth (nodes.File f)) (record { number = inode_of_birth n.birth; inode = inode_born g v.blocks n.birth; part = part_found v.blocks (inode_born g v.blocks n.birth) n.found }) (sym one ∙ two)) in
+        let parts_same = ap (λ (p : Placed). p.part) (same_Some (placed_in g v.blocks n.birth (nodes.File f)) (record { number = inode_of_birth n.birth; inode = inode_born g v.blocks n.birth; part = part_found g v.blocks (inode_born g v.blocks n.birth) n.found }) (sym one ∙ two)) in
         zone_by f of (inode_born g v.blocks n.birth) (ap (inode_born g v.blocks) same ∙ inode_is x.birth p page.stands) n.found parts_same
 
     zone_met : IsMet x.birth p → zone_among ends.0.nodes birth x.index ≡ x.zone

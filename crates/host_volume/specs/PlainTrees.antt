@@ -15,9 +15,9 @@ pub record PlainTree : Type 0 where
   pub tree : Tree
   pub plain : IsPlain tree
 
--- as in a new volume
-abbrev pub root_tree : PlainTree
-root_tree = record { tree = root_alone; plain = new_plain }
+-- as in a new volume with names of this width
+abbrev pub root_tree : ℕ → PlainTree
+root_tree width = record { tree = root_alone width; plain = new_plain width }
 
 -- what a row leaves: the tree itself, where it refuses
 abbrev pub left_by : (t : PlainTree) (r : Row) → IsPlain (tree_from t.tree r) → PlainTree

@@ -44,7 +44,7 @@ calls_of es = map call_of_entry es
 pub record IsOpenedVolume (s : Opening) (v : VolumeNow) : Type 0 where
   pub plain : IsPlainNow v
   pub geometry : v.geometry ≡ s.geometry
-  pub tree : tree_of_now v ≡ root_alone
+  pub tree : tree_of_now v ≡ root_alone s.geometry.width
   pub root : HasRoot v s.root
   pub bytes : HaveBytes v.contents.blocks
   pub image : (b : ℕ) → b < s.geometry.zones → disk_of s.image b ≡ disk_of v.contents.blocks b
@@ -73,7 +73,7 @@ pub record HasTreeLike (s : Opening) (blocks : List (List ℕ)) (after : Tree) :
 
 -- the tree after the calls of the first k transactions
 abbrev pub tree_after_transactions : Opening → Host VolumeNow ByteCall Reply → ℕ → Tree
-tree_after_transactions s h k = tree_after_entries (room_of s.geometry) root_alone 0 (calls_of h.history) (cut_of h.cuts (length h.history) k)
+tree_after_transactions s h k = tree_after_entries (room_of s.geometry) (root_alone s.geometry.width) 0 (calls_of h.history) (cut_of h.cuts (length h.history) k)
 
 -- What holds of a session: `closed` are the bodies and revokes of its closed transactions.
 pub record KeepsSession (s : Opening) (h : Host VolumeNow ByteCall Reply) : Type 0 where

@@ -29,7 +29,7 @@ abbrev pub model_of : {C : Type 0} → (C → Call) → Geometry → Model Plain
 model_of call_of g = record {
   kind = λ c. kind_of (call_of c);
   ok = replies.Ok;
-  root = root_tree;
+  root = root_tree g.width;
   call = λ t n c. tree_after_call (room_of g) t n (call_of c);
   maps = λ t f i. maps_block t.tree f i;
   content = λ t f i. unwrap_or (block_at t.tree f i) [];

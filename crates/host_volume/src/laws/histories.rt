@@ -21,7 +21,7 @@ ghost use Rattle.host_volume.specs.Sessions.{model_of};
 pub fn histories_number_their_calls<C>()
     ensures numbers { (call_of : C → Call) (g : Geometry) (es : List (Entry C Reply)) (n : ℕ) → number_in (tree_after (model_of call_of g) es n).tree (n + 1) ≡ n + 1 }
     ensures trees { (call_of : C → Call) (g : Geometry) (es : List (Entry C Reply)) (n : ℕ) →
-        (tree_after (model_of call_of g) es n).tree ≡ tree_after_entries (room_of g) root_alone 0 (map (acting call_of) es) n }
+        (tree_after (model_of call_of g) es n).tree ≡ tree_after_entries (room_of g) (root_alone g.width) 0 (map (acting call_of) es) n }
 {}
 
 /// A law, which does nothing when it is called: a block of a file has its place on any path which leads to the file.
