@@ -67,7 +67,7 @@ acting_call e = acting (λ c. c) e
 
 -- the tree after the calls of the first k transactions
 abbrev pub tree_behind : Opening → Host VolumeNow Call Reply → ℕ → Tree
-tree_behind s h k = tree_after_entries (room_of s.geometry) root_alone 0 (map acting_call h.history) (cut_of h.cuts (length h.history) k)
+tree_behind s h k = tree_after_entries (room_of s.geometry) (root_alone s.geometry.width) 0 (map acting_call h.history) (cut_of h.cuts (length h.history) k)
 
 -- What holds of a session: `closed` are the bodies and revokes of its closed transactions.
 pub record KeepsCalls (s : Opening) (h : Host VolumeNow Call Reply) : Type 0 where
