@@ -85,6 +85,9 @@ module _ (s : Opening) where
     abbrev room : Room
     room = room_of s.geometry
 
+    abbrev width : ℕ
+    width = s.geometry.width
+
     -- what an entry does to a tree is what its event does
     event_acts : (es : List runs.Event) (tree : Tree) (n i : ℕ) (x : Entry Call Reply) → slice_get (at es).history i ≡ Some x →
         tree_after_entry room tree n (Some (done_at (take i (events_in (at es).history)) (event_of x))) ≡ tree_after_entry room tree n (Some (acting_call x))
@@ -120,25 +123,25 @@ module _ (s : Opening) where
         by (Ends SessionFull) e = away (has_begun x.thread false (take i (events_in (at es).history)))
         by (Ends (Answered r)) e = answered x.thread x.call r e
 
-    next_tree : (entries : List TreeEntry) (i : ℕ) → tree_after_entries room root_alone 0 entries (suc i) ≡ tree_after_entry room (tree_after_entries room root_alone 0 entries i) (0 + suc i) (slice_get entries i)
+    next_tree : (entries : List TreeEntry) (i : ℕ) → tree_after_entries room (root_alone s.geometry.width) 0 entries (suc i) ≡ tree_after_entry room (tree_after_entries room (root_alone s.geometry.width) 0 entries i) (0 + suc i) (slice_get entries i)
     unfolding tree_after_entries
     next_tree entries i = refl
 
-    no_tree : (entries more : List TreeEntry) → tree_after_entries room root_alone 0 entries 0 ≡ tree_after_entries room root_alone 0 more 0
+    no_tree : (entries more : List TreeEntry) → tree_after_entries room (root_alone s.geometry.width) 0 entries 0 ≡ tree_after_entries room (root_alone s.geometry.width) 0 more 0
     unfolding tree_after_entries
     no_tree entries more = refl
 
     -- so the trees are the same
-    pub trees_of_events : (es : List runs.Event) (n : ℕ) → n ≤ length (at es).history → tree_up_to room (events_in (at es).history) n ≡ tree_at s (at es) n
+    pub trees_of_events : (es : List runs.Event) (n : ℕ) → n ≤ length (at es).history → tree_up_to room width (events_in (at es).history) n ≡ tree_at s (at es) n
     trees_of_events es zero le = no_tree _ _
     trees_of_events es (suc i) le =
         let h = (at es).history in
         let x = slice_get-in_range h i (omega (arith, le)) in
         let number : i + 1 ≡ 0 + suc i = omega arith in
         let next : suc i ≡ i + 1 = omega arith in
-        ap (tree_up_to room (events_in h)) next
-        ∙ tree_at_event room (events_in h) i (event_of x.0) (slice_get-map_some event_of h i x.0 x.1)
-        ∙ event_acts es (tree_up_to room (events_in h) i) (i + 1) i x.0 x.1
+        ap (tree_up_to room width (events_in h)) next
+        ∙ tree_at_event room width (events_in h) i (event_of x.0) (slice_get-map_some event_of h i x.0 x.1)
+        ∙ event_acts es (tree_up_to room width (events_in h) i) (i + 1) i x.0 x.1
         ∙ ap (λ tree. tree_after_entry room tree (i + 1) (Some (acting_call x.0))) (trees_of_events es i (omega (arith, le)))
         ∙ ap (λ k. tree_after_entry room (tree_at s (at es) i) k (Some (acting_call x.0))) number
         ∙ ap (tree_after_entry room (tree_at s (at es) i) (0 + suc i)) (sym (slice_get-map_some acting_call h i x.0 x.1))
@@ -147,10 +150,10 @@ module _ (s : Opening) where
     -- ---- legal
 
     module _ (written : AreWritten s.format s.writers) (o : IsOpenedVolume s v) (j : HasEmptyJournal s ring limit) (bytes : WriteBytes programs) where
-      tree_now : (es : List runs.Event) → tree_at s (at es) (length (at es).history) ≡ tree_up_to room (events_in (at es).history) (length (at es).history)
+      tree_now : (es : List runs.Event) → tree_at s (at es) (length (at es).history) ≡ tree_up_to room width (events_in (at es).history) (length (at es).history)
       tree_now es = sym (trees_of_events es (length (at es).history) (omega arith))
 
-      as_tree : (es : List runs.Event) (t : ℕ) (th : Thread Call) (c : Call) (rest : List Call) → slice_get (at es).threads t ≡ Some th → th.calls ≡ c ∷ rest → AsTree (call_over s) room (at es) c
+      as_tree : (es : List runs.Event) (t : ℕ) (th : Thread Call) (c : Call) (rest : List Call) → slice_get (at es).threads t ≡ Some th → th.calls ≡ c ∷ rest → AsTree (call_over s) room width (at es) c
       as_tree es t th c rest there calls =
           let same = ap (λ tree. reply_of room tree (length (at es).history + 1) c) (tree_now es) in
           record {
@@ -160,5 +163,5 @@ module _ (s : Opening) where
             begun = λ e kind. sym same ∙ begun_replies s v ring limit programs written o j bytes es c e kind;
           }
 
-      pub legal_in_run : (es : List runs.Event) → IsLegal room (program_of programs) (events_in (at es).history)
-      legal_in_run es = run_is_legal (call_over s) of_calls first programs refl refl refl begun_first answers_own room as_tree es
+      pub legal_in_run : (es : List runs.Event) → IsLegal room width (program_of programs) (events_in (at es).history)
+      legal_in_run es = run_is_legal (call_over s) of_calls first programs refl refl refl begun_first answers_own room width as_tree es

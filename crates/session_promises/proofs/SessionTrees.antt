@@ -72,8 +72,8 @@ module _ (s : Opening) (v : VolumeNow) (ring : LogRing) (limit : ℕ) (programs 
   tree_is events =
       let es = (byte_host events).history in
       (stands events).tree ∙ trees_are (λ (c : ByteCall). c.call) s.geometry es (length es)
-      ∙ ap (λ cs. tree_after_entries (room_of s.geometry) root_alone 0 cs (length es)) (sym (acting_as es))
-      ∙ ap (λ n. tree_after_entries (room_of s.geometry) root_alone 0 (map acting_call (map (entry_as plain_call) es)) n) (sym (same_length events))
+      ∙ ap (λ cs. tree_after_entries (room_of s.geometry) (root_alone s.geometry.width) 0 cs (length es)) (sym (acting_as es))
+      ∙ ap (λ n. tree_after_entries (room_of s.geometry) (root_alone s.geometry.width) 0 (map acting_call (map (entry_as plain_call) es)) n) (sym (same_length events))
       ∙ ap (λ (h : Host VolumeNow Call Reply). tree_at s h (length (at events).history)) (sym (same_host events))
 
   pub plain_now : (events : List runs.Event) → IsPlainNow (at events).volume

@@ -81,7 +81,7 @@ parent_fine reply tree [] h = h
 parent_fine reply tree (name ∷ names) h =
     then_part (walk tree (all_but_last name names)) _ (walk_fine tree (all_but_last name names)) (λ found.
     then_part (a_directory found.node) _ (directory_fine found.node) (λ d.
-    if_part (nat_lt 14 (length (last_name name names))) replies.NameTooLong _ refl tt))
+    if_part (nat_lt d.width (length (last_name name names))) replies.NameTooLong _ refl tt))
 
 stat_row : (tree : Tree) (node : Node) → FineRow (and_then (stat_of tree node) (answers tree))
 stat_row tree (nodes.Directory d) = refl

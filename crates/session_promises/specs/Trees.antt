@@ -12,7 +12,7 @@ use Rattle.call_sessions.specs.Sessions.{acting_call}
 
 -- as `tree_behind` of call_sessions has it behind a transaction
 abbrev pub tree_at : Opening → Host VolumeNow Call Reply → ℕ → Tree
-tree_at s h n = tree_after_entries (room_of s.geometry) root_alone 0 (map acting_call h.history) n
+tree_at s h n = tree_after_entries (room_of s.geometry) (root_alone s.geometry.width) 0 (map acting_call h.history) n
 
 -- the bytes of a block of a file in that tree, none where the tree does not map it
 abbrev pub content_at : Opening → Host VolumeNow Call Reply → ℕ → ℕ → ℕ → List ℕ

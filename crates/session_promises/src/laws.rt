@@ -55,7 +55,7 @@ pub fn histories_follow_the_tree()
         FollowsTree s programs (host_behind s v ring limit programs events) }
     ensures legal { (s : Opening) (v : VolumeNow) (ring : LogRing) (limit : ℕ) (programs : List (List Call)) (events : List Event) →
         AreWritten s.format s.writers → IsOpenedVolume s v → HasEmptyJournal s ring limit → WriteBytes programs →
-        IsLegal (room_of s.geometry) (program_of programs) (events_in (host_behind s v ring limit programs events).history) }
+        IsLegal (room_of s.geometry) s.geometry.width (program_of programs) (events_in (host_behind s v ring limit programs events).history) }
 {}
 
 /// A law, which does nothing when it is called: three spellings of the trees of a session are one. The tree that its
@@ -65,5 +65,5 @@ pub fn trees_of_sessions_are_one()
     ensures told { (s : Opening) (h : Host VolumeNow Call Reply) (n : ℕ) → (tree_after (call_over s).model h.history n).tree ≡ tree_at s h n }
     ensures legal { (s : Opening) (v : VolumeNow) (ring : LogRing) (limit : ℕ) (programs : List (List Call)) (events : List Event) (n : ℕ) →
         let h = host_behind s v ring limit programs events in
-        n ≤ length h.history → tree_up_to (room_of s.geometry) (events_in h.history) n ≡ tree_at s h n }
+        n ≤ length h.history → tree_up_to (room_of s.geometry) s.geometry.width (events_in h.history) n ≡ tree_at s h n }
 {}
