@@ -88,7 +88,7 @@ parent_errs at_root tree [] h = record { holds = h }
 parent_errs at_root tree (name ∷ names) h =
     then_errs _ _ (walk_errs tree _) (λ found.
     then_errs _ _ (directory_errs found.node) (λ d.
-    if_errs (nat_lt 14 (length (last_name name names))) replies.NameTooLong (Ok (record { parent = found.birth; directory = d; name = last_name name names })) refl (record { holds = refl })))
+    if_errs (nat_lt d.width (length (last_name name names))) replies.NameTooLong (Ok (record { parent = found.birth; directory = d; name = last_name name names })) refl (record { holds = refl })))
 
 -- ---- rows
 
@@ -104,7 +104,7 @@ mkdir_tells tree n path =
     then_tells _ _ (parent_errs replies.Exists tree names refl) (λ place.
     if_tells (is_named place) replies.Exists _ refl
     (if_tells (directory_links tree place.directory == most_links) replies.TooManyLinks _ refl
-    (if_tells (is_full place.directory) replies.TooBig _ refl (makes_tells (give_name (put_number tree n (new_directory place.parent)) place n))))))
+    (if_tells (is_full place.directory) replies.TooBig _ refl (makes_tells (give_name (put_number tree n (new_directory place.directory.width place.parent)) place n))))))
 
 create_tells : (tree : Tree) (n : ℕ) (path : List ℕ) → Tells (create tree n path)
 create_tells tree n path =
