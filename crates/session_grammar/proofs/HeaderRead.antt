@@ -14,6 +14,7 @@ use Rattle.script_words.proofs.Counts.{one_text}
 use Rattle.session_grammar.specs.declared.limits.TheConstants.{DEFAULT_LIMIT, DEFAULT_SEED, MOST_SEED, MOST_SESSION}
 use Rattle.session_grammar.specs.declared.reading.Reading.{Reading}
 use Rattle.session_grammar.specs.declared.reading.HeaderSoFar.{HeaderSoFar}
+use Rattle.session_grammar.specs.declared.reading.VolumeForm.{VolumeForm}
 use Rattle.session_grammar.specs.declared.session_script.SessionHeader.{SessionHeader}
 use Rattle.session_grammar.specs.declared.session_script.SessionScript.{SessionScript}
 use Rattle.session_grammar.specs.declared.words.NumberWord.{NumberWord}
@@ -346,43 +347,43 @@ header_told h t is left =
 -- ---- the lines are read
 
 -- behind the first line and some header lines
-abbrev pub at_header : ℕ → ℕ → ℕ → Bool → HeaderSoFar → Reading
-at_header inodes zones journal wide t = record (new_reading inodes zones journal wide) { told = t }
+abbrev pub at_header : ℕ → ℕ → ℕ → VolumeForm → HeaderSoFar → Reading
+at_header inodes zones journal form t = record (new_reading inodes zones journal form) { told = t }
 
-number_read : (i z j : ℕ) (wide : Bool) (t : HeaderSoFar) (w : NumberWord) (n : ℕ) → number_fits w n ≡ true → told_number t w ≡ None → IsRead (Some (at_header i z j wide t)) (number_words (number_name w) n) (at_header i z j wide (with_number t w n))
-number_read i z j wide t w n fits fresh =
-    let r = at_header i z j wide t in
+number_read : (i z j : ℕ) (form : VolumeForm) (t : HeaderSoFar) (w : NumberWord) (n : ℕ) → number_fits w n ≡ true → told_number t w ≡ None → IsRead (Some (at_header i z j form t)) (number_words (number_name w) n) (at_header i z j form (with_number t w n))
+number_read i z j form t w n fits fresh =
+    let r = at_header i z j form t in
     let small = small_number w n fits in
-    IsRead-known r (number_name w) (decimal n ∷ []) (word.Header (header.Number w)) (at_header i z j wide (with_number t w n)) (word_known w)
-    (later_line-read r (join_with_byte 32 (number_words (number_name w) n)) (word.Header (header.Number w)) (decimal n ∷ []) (at_header i z j wide (with_number t w n)) refl refl (ap is_some fresh)
+    IsRead-known r (number_name w) (decimal n ∷ []) (word.Header (header.Number w)) (at_header i z j form (with_number t w n)) (word_known w)
+    (later_line-read r (join_with_byte 32 (number_words (number_name w) n)) (word.Header (header.Number w)) (decimal n ∷ []) (at_header i z j form (with_number t w n)) refl refl (ap is_some fresh)
     (ap (λ o. header_taken r (number_taken t w o)) (numeral-decimal n (omega (arith, small)))
     ∙ ap (λ b. header_taken r (if b then Ok (with_number t w n) else Err kinds.Number)) fits))
 
-elevator_read : (i z j : ℕ) (wide : Bool) (t : HeaderSoFar) → t.elevator ≡ false → IsRead (Some (at_header i z j wide t)) elevator_line (at_header i z j wide (record t { elevator = true }))
-elevator_read i z j wide t fresh =
-    let r = at_header i z j wide t in
-    IsRead-known r (codes "elevator") [] (word.Header header.Elevator) (at_header i z j wide (record t { elevator = true })) refl
-    (later_line-read r (join_with_byte 32 elevator_line) (word.Header header.Elevator) [] (at_header i z j wide (record t { elevator = true })) refl refl fresh refl)
+elevator_read : (i z j : ℕ) (form : VolumeForm) (t : HeaderSoFar) → t.elevator ≡ false → IsRead (Some (at_header i z j form t)) elevator_line (at_header i z j form (record t { elevator = true }))
+elevator_read i z j form t fresh =
+    let r = at_header i z j form t in
+    IsRead-known r (codes "elevator") [] (word.Header header.Elevator) (at_header i z j form (record t { elevator = true })) refl
+    (later_line-read r (join_with_byte 32 elevator_line) (word.Header header.Elevator) [] (at_header i z j form (record t { elevator = true })) refl refl fresh refl)
 
 -- what the lines behind the header are read to
-abbrev Behind : ℕ → ℕ → ℕ → Bool → SessionHeader → List (List (List ℕ)) → SessionScript → Type 0
-Behind i z j wide h rest s = (t : HeaderSoFar) → header_of t ≡ h → ReadsTo (Some (at_header i z j wide t)) rest s
+abbrev Behind : ℕ → ℕ → ℕ → VolumeForm → SessionHeader → List (List (List ℕ)) → SessionScript → Type 0
+Behind i z j form h rest s = (t : HeaderSoFar) → header_of t ≡ h → ReadsTo (Some (at_header i z j form t)) rest s
 
-at_number : (i z j : ℕ) (wide : Bool) (h : SessionHeader) (t : HeaderSoFar) (w : NumberWord) (l : List (List ℕ)) (ls rest : List (List (List ℕ))) (s : SessionScript) → IsHeader h → AreLeft h t (l ∷ ls) → is_line_of w l ≡ true
-    → ((u : HeaderSoFar) → AreLeft h u ls → ReadsTo (Some (at_header i z j wide u)) (ls ++ rest) s) → ReadsTo (Some (at_header i z j wide t)) (l ∷ ls ++ rest) s
-at_number i z j wide h t w l ls rest s is left e behind =
+at_number : (i z j : ℕ) (form : VolumeForm) (h : SessionHeader) (t : HeaderSoFar) (w : NumberWord) (l : List (List ℕ)) (ls rest : List (List (List ℕ))) (s : SessionScript) → IsHeader h → AreLeft h t (l ∷ ls) → is_line_of w l ≡ true
+    → ((u : HeaderSoFar) → AreLeft h u ls → ReadsTo (Some (at_header i z j form u)) (ls ++ rest) s) → ReadsTo (Some (at_header i z j form t)) (l ∷ ls ++ rest) s
+at_number i z j form h t w l ls rest s is left e behind =
     let taken = taken_line h t w l ls e (left.numbers w) in
     let n = taken.next.number in
-    let read = number_read i z j wide t w n (fits_value h w n is taken.next.value) taken.fresh in
-    ReadsTo-line (Some (at_header i z j wide t)) l (at_header i z j wide (with_number t w n)) (ls ++ rest) s (subst (λ x. IsRead (Some (at_header i z j wide t)) x (at_header i z j wide (with_number t w n))) (sym taken.next.line) read)
+    let read = number_read i z j form t w n (fits_value h w n is taken.next.value) taken.fresh in
+    ReadsTo-line (Some (at_header i z j form t)) l (at_header i z j form (with_number t w n)) (ls ++ rest) s (subst (λ x. IsRead (Some (at_header i z j form t)) x (at_header i z j form (with_number t w n))) (sym taken.next.line) read)
     (behind (with_number t w n) (AreLeft-number h t w l ls taken left))
 
-at_elevator : (i z j : ℕ) (wide : Bool) (h : SessionHeader) (t : HeaderSoFar) (l : List (List ℕ)) (ls rest : List (List (List ℕ))) (s : SessionScript) → AreLeft h t (l ∷ ls) → begins (codes "elevator") l ≡ true
-    → ((u : HeaderSoFar) → AreLeft h u ls → ReadsTo (Some (at_header i z j wide u)) (ls ++ rest) s) → ReadsTo (Some (at_header i z j wide t)) (l ∷ ls ++ rest) s
-at_elevator i z j wide h t l ls rest s left e behind =
+at_elevator : (i z j : ℕ) (form : VolumeForm) (h : SessionHeader) (t : HeaderSoFar) (l : List (List ℕ)) (ls rest : List (List (List ℕ))) (s : SessionScript) → AreLeft h t (l ∷ ls) → begins (codes "elevator") l ≡ true
+    → ((u : HeaderSoFar) → AreLeft h u ls → ReadsTo (Some (at_header i z j form u)) (ls ++ rest) s) → ReadsTo (Some (at_header i z j form t)) (l ∷ ls ++ rest) s
+at_elevator i z j form h t l ls rest s left e behind =
     let taken = taken_elevator h t l ls e left in
     let u = record t { elevator = true } in
-    ReadsTo-line (Some (at_header i z j wide t)) l (at_header i z j wide u) (ls ++ rest) s (subst (λ x. IsRead (Some (at_header i z j wide t)) x (at_header i z j wide u)) (sym taken.line) (elevator_read i z j wide t taken.fresh))
+    ReadsTo-line (Some (at_header i z j form t)) l (at_header i z j form u) (ls ++ rest) s (subst (λ x. IsRead (Some (at_header i z j form t)) x (at_header i z j form u)) (sym taken.line) (elevator_read i z j form t taken.fresh))
     (behind u (AreLeft-elevator h t l ls taken left))
 
 -- which of the header lines it is
@@ -408,12 +409,12 @@ which_line l h =
       ]
     ]
 
-header_left : (hs : List (List (List ℕ))) (i z j : ℕ) (wide : Bool) (h : SessionHeader) (t : HeaderSoFar) (rest : List (List (List ℕ))) (s : SessionScript) → IsHeader h → AreLeft h t hs → Behind i z j wide h rest s → ReadsTo (Some (at_header i z j wide t)) (hs ++ rest) s
-header_left [] i z j wide h t rest s is left behind = behind t (header_told h t is left)
-header_left (l ∷ hs) i z j wide h t rest s is left behind =
+header_left : (hs : List (List (List ℕ))) (i z j : ℕ) (form : VolumeForm) (h : SessionHeader) (t : HeaderSoFar) (rest : List (List (List ℕ))) (s : SessionScript) → IsHeader h → AreLeft h t hs → Behind i z j form h rest s → ReadsTo (Some (at_header i z j form t)) (hs ++ rest) s
+header_left [] i z j form h t rest s is left behind = behind t (header_told h t is left)
+header_left (l ∷ hs) i z j form h t rest s is left behind =
     elim (which_line l (left.known l (inl refl))) [
-      | inl p ↦ at_number i z j wide h t p.0 l hs rest s is left p.1 (λ u more. header_left hs i z j wide h u rest s is more behind)
-      | inr e ↦ at_elevator i z j wide h t l hs rest s left e (λ u more. header_left hs i z j wide h u rest s is more behind)
+      | inl p ↦ at_number i z j form h t p.0 l hs rest s is left p.1 (λ u more. header_left hs i z j form h u rest s is more behind)
+      | inr e ↦ at_elevator i z j form h t l hs rest s left e (λ u more. header_left hs i z j form h u rest s is more behind)
     ]
 
 left_at_first : (h : SessionHeader) (hs : List (List (List ℕ))) (w : NumberWord) → IsHeaderOf h hs → LeftOf h none_told hs w
@@ -424,6 +425,6 @@ left_at_first h hs numbers.Cut is = inr (refl, is.cut ∙ cut_as_number h.cut)
 left_at_first h hs numbers.Seed is = inr (refl, ap (λ w. or_default (codes "seed" ∷ w ∷ []) (beginning (codes "seed") hs)) (sym one_text) ∙ is.seed)
 left_at_first h hs numbers.Flash is = inr (refl, is.flash ∙ flash_as_number h.flash)
 
-pub header_read : (hs : List (List (List ℕ))) (i z j : ℕ) (wide : Bool) (h : SessionHeader) (rest : List (List (List ℕ))) (s : SessionScript) → IsHeader h → IsHeaderOf h hs → Behind i z j wide h rest s → ReadsTo (Some (new_reading i z j wide)) (hs ++ rest) s
-header_read hs i z j wide h rest s is says behind =
-    header_left hs i z j wide h none_told rest s is (record { numbers = λ w. left_at_first h hs w says; elevator = says.elevator; known = says.known }) behind
+pub header_read : (hs : List (List (List ℕ))) (i z j : ℕ) (form : VolumeForm) (h : SessionHeader) (rest : List (List (List ℕ))) (s : SessionScript) → IsHeader h → IsHeaderOf h hs → Behind i z j form h rest s → ReadsTo (Some (new_reading i z j form)) (hs ++ rest) s
+header_read hs i z j form h rest s is says behind =
+    header_left hs i z j form h none_told rest s is (record { numbers = λ w. left_at_first h hs w says; elevator = says.elevator; known = says.known }) behind

@@ -1,6 +1,7 @@
 pub mod Accepts
 pub mod BodyRead
 pub mod FirstFault
+pub mod Forms
 pub mod HeaderRead
 pub mod Names
 pub mod Others

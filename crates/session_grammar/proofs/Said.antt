@@ -35,6 +35,7 @@ use Rattle.session_grammar.specs.declared.reading.Reading.{Reading}
 use Rattle.session_grammar.specs.declared.reading.Section.{Section}
 use Rattle.session_grammar.specs.declared.reading.Section.TheVariants as sections
 use Rattle.session_grammar.specs.declared.reading.HeaderSoFar.{HeaderSoFar}
+use Rattle.session_grammar.specs.declared.reading.VolumeForm.{VolumeForm}
 use Rattle.session_grammar.specs.declared.session_script.SessionScript.{SessionScript}
 use Rattle.script_grammar.specs.declared.words.FirstWord.TheVariants as first
 use Rattle.session_grammar.specs.declared.words.NumberWord.{NumberWord}
@@ -44,10 +45,11 @@ use Rattle.session_grammar.specs.declared.words.HeaderWord.TheVariants as header
 use Rattle.session_grammar.specs.declared.words.Word.{Word}
 use Rattle.session_grammar.specs.declared.words.Word.TheVariants as word
 use Rattle.session_grammar.specs.Words.{word_of}
-use Rattle.session_grammar.specs.Grammar.{is_built, are_sizes, have_geometry, new_reading, none_told, sizes_taken, opened, wide_told, journal_line, zones_line, volume_line, built_first, first_line, stands_in, has_threads, may_stand, told_number, stood_before, number_fits, with_number, number_taken, header_line, header_taken, with_thread, thread_taken, thread_line, with_call, call_taken, events_line, event_fits, with_event, event_taken, with_recover, recover_taken, line_taken, later_line, is_behind_events, read_words, read_one, header_of, script_read, ended_in, ended, session_of}
+use Rattle.session_grammar.specs.Grammar.{is_built, are_sizes, have_geometry, new_reading, none_told, sizes_taken, opened, form_told, journal_line, zones_line, volume_line, built_first, first_line, stands_in, has_threads, may_stand, told_number, stood_before, number_fits, with_number, number_taken, header_line, header_taken, with_thread, thread_taken, thread_line, with_call, call_taken, events_line, event_fits, with_event, event_taken, with_recover, recover_taken, line_taken, later_line, is_behind_events, read_words, read_one, header_of, script_read, ended_in, ended, session_of}
 use Rattle.session_grammar.specs.WellFormed.{all_calls, AreLinesOf}
-use Rattle.session_grammar.specs.laws.Speller.{tags_words, volume_words, number_words, elevator_lines, thread_words, thread_lines, recover_words}
+use Rattle.session_grammar.specs.laws.Speller.{volume_words, number_words, elevator_lines, thread_words, thread_lines, recover_words}
 use Rattle.session_grammar.specs.laws.Accepted.{is_header_line, IsHeaderOf, SayEvents, SaysSession}
+use Rattle.session_grammar.proofs.Forms.{said_form}
 use Rattle.session_grammar.proofs.Names.{number_name, IsNamed, named}
 use Rattle.session_grammar.proofs.Steps.{ok_under}
 use Rattle.session_grammar.proofs.HeaderRead.{limit_text, number_lines, apart, told_same, elevator_kept, told_beside, no_elevator_line, elevator_line, no_number_line, small_number, beginning-with, beginning-without, cut_as_number, flash_as_number}
@@ -79,7 +81,7 @@ rest_of r events = thread_lines 1 r.programs r.lines ++ tail_of r.section events
 record Says (r : Reading) (lines : List (List (List ℕ))) : Type 0 where
   header : List (List (List ℕ))
   events : List (List (List ℕ))
-  whole : lines ≡ volume_words r.inodes r.zones r.journal r.wide ∷ header ++ rest_of r events
+  whole : lines ≡ volume_words r.inodes r.zones r.journal r.width r.wide ∷ header ++ rest_of r events
   headed : SaysHeader r.told header
   said : SayEvents r.events events
   no_events : is_behind_events r.section ≡ false → events ≡ []
@@ -184,7 +186,7 @@ Says-told r lines l t here none is headed = record {
   events = is.events;
   whole =
       ap (λ ls. ls ++ l ∷ []) is.whole
-      ∙ push_header (volume_words r.inodes r.zones r.journal r.wide) is.header (rest_of r is.events) l (nothing_behind r is.events here none);
+      ∙ push_header (volume_words r.inodes r.zones r.journal r.width r.wide) is.header (rest_of r is.events) l (nothing_behind r is.events here none);
   headed = headed;
   said = is.said;
   no_events = is.no_events;
@@ -251,7 +253,7 @@ Says-thread r lines here is =
       events = is.events;
       whole =
           ap (λ ls. ls ++ l ∷ []) is.whole
-          ∙ push_rest (volume_words r.inodes r.zones r.journal r.wide) is.header (rest_of r is.events) l (rest_of (with_thread r) is.events)
+          ∙ push_rest (volume_words r.inodes r.zones r.journal r.width r.wide) is.header (rest_of r is.events) l (rest_of (with_thread r) is.events)
           (push_thread (thread_lines 1 r.programs r.lines) (tail_of r.section is.events r.recovers) l (thread_lines 1 (r.programs ++ [] ∷ []) r.lines) (opening_tail r.section is.events r.recovers here) more);
       headed = is.headed;
       said = is.said;
@@ -267,7 +269,7 @@ Says-call r lines line c here some matched is =
       events = is.events;
       whole =
           ap (λ ls. ls ++ l ∷ []) is.whole
-          ∙ push_rest (volume_words r.inodes r.zones r.journal r.wide) is.header (rest_of r is.events) l (rest_of (with_call r line c) is.events)
+          ∙ push_rest (volume_words r.inodes r.zones r.journal r.width r.wide) is.header (rest_of r is.events) l (rest_of (with_call r line c) is.events)
           (push_thread (thread_lines 1 r.programs r.lines) (tail_of r.section is.events r.recovers) l (thread_lines 1 (pushed_last r.programs c) (r.lines ++ line ∷ [])) (opening_tail r.section is.events r.recovers here)
           (sym (thread_lines-call r.programs 1 r.lines line c some matched)));
       headed = is.headed;
@@ -292,7 +294,7 @@ Says-events r lines here is =
       events = is.events;
       whole =
           ap (λ ls. ls ++ l ∷ []) is.whole
-          ∙ push_rest (volume_words r.inodes r.zones r.journal r.wide) is.header (rest_of r is.events) l (rest_of (record r { section = sections.Events }) is.events)
+          ∙ push_rest (volume_words r.inodes r.zones r.journal r.width r.wide) is.header (rest_of r is.events) l (rest_of (record r { section = sections.Events }) is.events)
           (push_tail (thread_lines 1 r.programs r.lines) (tail_of r.section is.events r.recovers) l (l ∷ is.events ++ map recover_words r.recovers) tail);
       headed = is.headed;
       said = is.said;
@@ -320,7 +322,7 @@ Says-event r lines e l here says is =
       events = is.events ++ l ∷ [];
       whole =
           ap (λ ls. ls ++ l ∷ []) is.whole
-          ∙ push_rest (volume_words r.inodes r.zones r.journal r.wide) is.header (rest_of r is.events) l (rest_of (with_event r e) (is.events ++ l ∷ []))
+          ∙ push_rest (volume_words r.inodes r.zones r.journal r.width r.wide) is.header (rest_of r is.events) l (rest_of (with_event r e) (is.events ++ l ∷ []))
           (push_tail (thread_lines 1 r.programs r.lines) (tail_of r.section is.events r.recovers) l (tail_of r.section (is.events ++ l ∷ []) r.recovers) tail);
       headed = is.headed;
       said = SayEvents-push r.events is.events e l is.said says;
@@ -351,7 +353,7 @@ Says-recover r lines ss here is =
       events = is.events;
       whole =
           ap (λ ls. ls ++ l ∷ []) is.whole
-          ∙ push_rest (volume_words r.inodes r.zones r.journal r.wide) is.header (rest_of r is.events) l (rest_of (with_recover r ss) is.events)
+          ∙ push_rest (volume_words r.inodes r.zones r.journal r.width r.wide) is.header (rest_of r is.events) l (rest_of (with_recover r ss) is.events)
           (push_tail (thread_lines 1 r.programs r.lines) (tail_of r.section is.events r.recovers) l (start ∷ is.events ++ map recover_words (r.recovers ++ ss ∷ [])) tail);
       headed = is.headed;
       said = is.said;
@@ -456,9 +458,9 @@ none_said numbers.Cut = refl
 none_said numbers.Seed = refl
 none_said numbers.Flash = refl
 
-Says-new : (inodes zones journal : ℕ) (wide : Bool) → Says (new_reading inodes zones journal wide) (volume_words inodes zones journal wide ∷ [])
+Says-new : (inodes zones journal : ℕ) (form : VolumeForm) → Says (new_reading inodes zones journal form) (volume_words inodes zones journal form.width form.wide ∷ [])
 unfolding thread_lines
-Says-new inodes zones journal wide = record {
+Says-new inodes zones journal form = record {
   header = [];
   events = [];
   whole = refl;
@@ -468,30 +470,16 @@ Says-new inodes zones journal wide = record {
   no_recovers = λ _. refl;
 }
 
--- the words behind the sizes
-two_tags : (t n : List ℕ) (wide a b : Bool) → bytes_eq t (codes "tags") ≡ a → bytes_eq n (codes "64") ≡ b → (if a && b then Some true else None) ≡ Some wide → t ∷ n ∷ [] ≡ tags_words wide
-two_tags t n true true true tags bits h = ap₂ (λ (x y : List ℕ). x ∷ y ∷ []) ((bytes_eq-Decides t (codes "tags")).0 tags) ((bytes_eq-Decides n (codes "64")).0 bits)
-two_tags t n false true true tags bits h = cc
-two_tags t n wide true false tags bits h = cc
-two_tags t n wide false b tags bits h = cc
-
-said_tags : (ws : List (List ℕ)) (wide : Bool) → wide_told ws ≡ Some wide → ws ≡ tags_words wide
-said_tags [] true h = cc
-said_tags [] false h = refl
-said_tags (t ∷ []) wide h = cc
-said_tags (t ∷ n ∷ []) wide h = two_tags t n wide (bytes_eq t (codes "tags")) (bytes_eq n (codes "64")) refl refl h
-said_tags (t ∷ n ∷ w ∷ ws) wide h = cc
-
 -- the first line as it was read
 abbrev first_words : List ℕ → List ℕ → List ℕ → List (List ℕ) → List (List ℕ)
 first_words i z j ws = codes "volume" ∷ codes "inodes" ∷ i ∷ codes "zones" ∷ z ∷ codes "journal" ∷ j ∷ ws
 
-Says-sizes : (i z j : List ℕ) (ws : List (List ℕ)) (inodes zones journal : ℕ) (wide : Bool) (next : Reading) → numeral i ≡ Some inodes → numeral z ≡ Some zones → numeral j ≡ Some journal → wide_told ws ≡ Some wide → sizes_taken inodes zones journal wide ≡ Ok next
+Says-sizes : (i z j : List ℕ) (ws : List (List ℕ)) (inodes zones journal : ℕ) (form : VolumeForm) (next : Reading) → numeral i ≡ Some inodes → numeral z ≡ Some zones → numeral j ≡ Some journal → form_told ws ≡ Some form → sizes_taken inodes zones journal form ≡ Ok next
     → Says next (first_words i z j ws ∷ [])
-Says-sizes i z j ws inodes zones journal wide next ei ez ej ew h =
+Says-sizes i z j ws inodes zones journal form next ei ez ej ew h =
     let sizes = ok_past (are_sizes inodes zones journal) _ next _ h in
-    let geometry = ok_past (have_geometry inodes zones journal) (Ok (new_reading inodes zones journal wide)) next _ sizes.1 in
-    let e : new_reading inodes zones journal wide ≡ next = cc in
+    let geometry = ok_past (have_geometry inodes zones journal) (Ok (new_reading inodes zones journal form)) next _ sizes.1 in
+    let e : new_reading inodes zones journal form ≡ next = cc in
     let is = AreSizes-from inodes zones journal sizes.0 geometry.0 in
     let most = is.most_inodes in
     let all = is.most_zones in
@@ -499,14 +487,14 @@ Says-sizes i z j ws inodes zones journal wide next ei ez ej ew h =
     let first = decimal-numeral i inodes ei (omega (arith, most)) in
     let second = decimal-numeral z zones ez (omega (arith, all)) in
     let third = decimal-numeral j journal ej (omega (arith, long)) in
-    let said : first_words i z j ws ≡ volume_words inodes zones journal wide =
+    let said : first_words i z j ws ≡ volume_words inodes zones journal form.width form.wide =
     ap (λ x. first_words x z j ws) first
     ∙ ap₂ (λ (x y : List ℕ). first_words (decimal inodes) x y ws) second third
-    ∙ ap (first_words (decimal inodes) (decimal zones) (decimal journal)) (said_tags ws wide ew) in
+    ∙ ap (first_words (decimal inodes) (decimal zones) (decimal journal)) (said_form ws form ew) in
     subst (λ x. Says x (first_words i z j ws ∷ [])) e
-    (subst (λ l. Says (new_reading inodes zones journal wide) (l ∷ [])) (sym said) (Says-new inodes zones journal wide))
+    (subst (λ l. Says (new_reading inodes zones journal form) (l ∷ [])) (sym said) (Says-new inodes zones journal form))
 
-Says-opened : (i z j : List ℕ) (ws : List (List ℕ)) (a b c : Option ℕ) (d : Option Bool) (next : Reading) → numeral i ≡ a → numeral z ≡ b → numeral j ≡ c → wide_told ws ≡ d → opened a b c d ≡ Ok next → Says next (first_words i z j ws ∷ [])
+Says-opened : (i z j : List ℕ) (ws : List (List ℕ)) (a b c : Option ℕ) (d : Option VolumeForm) (next : Reading) → numeral i ≡ a → numeral z ≡ b → numeral j ≡ c → form_told ws ≡ d → opened a b c d ≡ Ok next → Says next (first_words i z j ws ∷ [])
 Says-opened i z j ws (Some a) (Some b) (Some c) (Some d) next ei ez ej ew h = Says-sizes i z j ws a b c d next ei ez ej ew h
 Says-opened i z j ws None b c d next ei ez ej ew h = cc
 Says-opened i z j ws (Some a) None c d next ei ez ej ew h = cc
@@ -517,9 +505,9 @@ Says-journal : (i z : List ℕ) (ws : List (List ℕ)) (next : Reading) → jour
 Says-journal i z [] next h = cc
 Says-journal i z (j ∷ []) next h = cc
 Says-journal i z (j ∷ n ∷ ws) next h =
-    let p = ok_under (bytes_eq j (codes "journal")) (opened (numeral i) (numeral z) (numeral n) (wide_told ws)) next _ h in
+    let p = ok_under (bytes_eq j (codes "journal")) (opened (numeral i) (numeral z) (numeral n) (form_told ws)) next _ h in
     subst (λ x. Says next ((codes "volume" ∷ codes "inodes" ∷ i ∷ codes "zones" ∷ z ∷ x ∷ n ∷ ws) ∷ [])) (sym ((bytes_eq-Decides j (codes "journal")).0 p.0))
-    (Says-opened i z n ws (numeral i) (numeral z) (numeral n) (wide_told ws) next refl refl refl refl p.1)
+    (Says-opened i z n ws (numeral i) (numeral z) (numeral n) (form_told ws) next refl refl refl refl p.1)
 
 Says-zones : (i : List ℕ) (ws : List (List ℕ)) (next : Reading) → zones_line (numeral i) ws ≡ Ok next → Says next ((codes "volume" ∷ codes "inodes" ∷ i ∷ ws) ∷ [])
 Says-zones i [] next h = cc
@@ -578,7 +566,7 @@ SaysSession-read : (r : Reading) (lines : List (List (List ℕ))) → is_behind_
 SaysSession-read r lines here is = record {
   header = is.header;
   events = is.events;
-  whole = is.whole ∙ ap (λ x. volume_words r.inodes r.zones r.journal r.wide ∷ is.header ++ (thread_lines 1 r.programs r.lines ++ x)) (tail_behind r.section is.events r.recovers here);
+  whole = is.whole ∙ ap (λ x. volume_words r.inodes r.zones r.journal r.width r.wide ∷ is.header ++ (thread_lines 1 r.programs r.lines ++ x)) (tail_behind r.section is.events r.recovers here);
   headed = IsHeaderOf-said r.told is.header is.headed;
   said = is.said;
 }

@@ -1,8 +1,9 @@
 -- What is written of a well-formed script says it, and is read back.
-use Rattle.std.proofs.Common.{◌≡◌, ℕ, ◌+◌, ◌^◌, ◌<◌, ◌≤◌, Bool, true, false, List, [], ◌∷◌, ◌++◌, length, take, drop, map, codes, Option, Some, None, Ok, refl, sym, subst, inl, inr, ◌⊎◌, arith}
+use Rattle.std.proofs.Common.{◌≡◌, ℕ, ◌+◌, ◌^◌, ◌<◌, ◌≤◌, Bool, true, false, List, [], ◌∷◌, ◌++◌, length, take, drop, map, codes, Option, Some, None, Ok, refl, sym, subst, inl, inr, arith}
 use Rattle.std.specs.List.{join_with_byte}
 use Rattle.blk_base.specs.Members.{In}
 use Rattle.blk_base.specs.laws.Members.{In-append_cases}
+use Rattle.minix_layout.specs.Widths.{IsWidth, of_14, of_30}
 use Rattle.tree_model.specs.declared.call.Call.{Call}
 use Rattle.script_words.specs.Spelling.{is_skipped, words_of}
 use Rattle.script_words.proofs.SpelledNumbers.{IsClear-decimal}
@@ -18,7 +19,7 @@ use Rattle.session_grammar.specs.declared.session_script.SessionHeader.{SessionH
 use Rattle.session_grammar.specs.declared.session_script.SessionScript.{SessionScript}
 use Rattle.session_grammar.specs.Grammar.{session_of}
 use Rattle.session_grammar.specs.WellFormed.{AreSizes, IsHeader, all_calls, AreLinesOf, IsEventOf, IsWellFormed}
-use Rattle.session_grammar.specs.laws.Speller.{tags_words, volume_words, number_words, cut_lines, flash_lines, elevator_lines, header_lines, thread_lines, recover_words, session_text}
+use Rattle.session_grammar.specs.laws.Speller.{names_words, tags_words, volume_words, number_words, cut_lines, flash_lines, elevator_lines, header_lines, thread_lines, recover_words, session_text}
 use Rattle.session_grammar.specs.laws.Accepted.{is_header_line, IsHeaderOf, SayEvents, SaysSession}
 use Rattle.session_grammar.proofs.ReadsTo.{AreKept, kept_of-text}
 use Rattle.session_grammar.proofs.BodyRead.{AreLinesOf-front}
@@ -104,13 +105,17 @@ tags_clear : (wide : Bool) → AreClear (tags_words wide)
 tags_clear true = (record { feed = refl; space = refl }, (record { feed = refl; space = refl }, tt))
 tags_clear false = tt
 
-volume_clear : (inodes zones journal : ℕ) (wide : Bool) → AreSizes inodes zones journal → AreClear (volume_words inodes zones journal wide)
-volume_clear inodes zones journal wide is =
+form_clear : (width : ℕ) (wide : Bool) → IsWidth width → AreClear (names_words width ++ tags_words wide)
+form_clear width wide of_14 = tags_clear wide
+form_clear width wide of_30 = (record { feed = refl; space = refl }, (record { feed = refl; space = refl }, tags_clear wide))
+
+volume_clear : (inodes zones journal width : ℕ) (wide : Bool) → AreSizes inodes zones journal → IsWidth width → AreClear (volume_words inodes zones journal width wide)
+volume_clear inodes zones journal width wide is kind =
     let first = is.most_inodes in
     let second = is.most_zones in
     let third = is.most_journal in
     let word : IsClear (codes "volume") = record { feed = refl; space = refl } in
-    (word, (record { feed = refl; space = refl }, (IsClear-decimal inodes (omega (arith, first)), (record { feed = refl; space = refl }, (IsClear-decimal zones (omega (arith, second)), (record { feed = refl; space = refl }, (IsClear-decimal journal (omega (arith, third)), tags_clear wide)))))))
+    (word, (record { feed = refl; space = refl }, (IsClear-decimal inodes (omega (arith, first)), (record { feed = refl; space = refl }, (IsClear-decimal zones (omega (arith, second)), (record { feed = refl; space = refl }, (IsClear-decimal journal (omega (arith, third)), form_clear width wide kind)))))))
 
 -- the lines behind the first
 abbrev lines_behind : SessionScript → List (List (List ℕ))
@@ -119,10 +124,10 @@ lines_behind s =
     ++ (thread_lines 1 s.programs s.lines
     ++ ((codes "events" ∷ []) ∷ map event_line_words s.events ++ map recover_words s.recovers))
 
-session_written : (s : SessionScript) → IsWellFormed s → AreWritten (volume_words s.inodes s.zones s.journal s.wide ∷ lines_behind s)
+session_written : (s : SessionScript) → IsWellFormed s → AreWritten (volume_words s.inodes s.zones s.journal s.width s.wide ∷ lines_behind s)
 session_written s well =
     let threads = well.threads in
-    AreWritten-line (volume_words s.inodes s.zones s.journal s.wide) (lines_behind s) (volume_clear s.inodes s.zones s.journal s.wide well.sizes) refl
+    AreWritten-line (volume_words s.inodes s.zones s.journal s.width s.wide) (lines_behind s) (volume_clear s.inodes s.zones s.journal s.width s.wide well.sizes well.width) refl
     (AreWritten-append (header_lines s.header) _ (header_written s.header well.header)
     (AreWritten-append (thread_lines 1 s.programs s.lines) _ (threads_written s.programs 1 s.lines (omega (arith, threads)) well.lines)
     (AreWritten-line (codes "events" ∷ []) _ (record { feed = refl; space = refl }, tt) refl
@@ -176,7 +181,7 @@ events_said : (es : List EventLine) (threads : ℕ) → ((e : EventLine) → In 
 events_said [] threads are = tt
 events_said (e ∷ es) threads are = (SaysEvent-words e (are e (inl refl)).line, events_said es threads (λ d i. are d (inr i)))
 
-SaysSession-written : (s : SessionScript) → IsWellFormed s → SaysSession s (volume_words s.inodes s.zones s.journal s.wide ∷ lines_behind s)
+SaysSession-written : (s : SessionScript) → IsWellFormed s → SaysSession s (volume_words s.inodes s.zones s.journal s.width s.wide ∷ lines_behind s)
 SaysSession-written s well = record {
   header = header_lines s.header;
   events = map event_line_words s.events;
@@ -189,5 +194,5 @@ SaysSession-written s well = record {
 pub session_of-session_text : (s : SessionScript) → IsWellFormed s → session_of (session_text s) ≡ Ok s
 session_of-session_text s well =
     let written = session_written s well in
-    let kept = kept_of-text (volume_words s.inodes s.zones s.journal s.wide) (lines_behind s) written.clear written.kept in
+    let kept = kept_of-text (volume_words s.inodes s.zones s.journal s.width s.wide) (lines_behind s) written.clear written.kept in
     session_of-SaysSession (session_text s) s well (subst (SaysSession s) (sym kept) (SaysSession-written s well))

@@ -21,6 +21,7 @@ use Rattle.event_grammar.specs.SteerLines.{steers_of}
 use Rattle.session_grammar.specs.declared.limits.TheConstants.{MOST_CALLS, MOST_RECOVERS, MOST_THREADS}
 use Rattle.session_grammar.specs.declared.reading.Reading.{Reading}
 use Rattle.session_grammar.specs.declared.reading.HeaderSoFar.{HeaderSoFar}
+use Rattle.session_grammar.specs.declared.reading.VolumeForm.{VolumeForm}
 use Rattle.script_grammar.specs.declared.words.FirstWord.TheVariants as first
 use Rattle.session_grammar.specs.declared.words.NumberWord.{NumberWord}
 use Rattle.session_grammar.specs.declared.words.HeaderWord.{HeaderWord}
@@ -28,7 +29,7 @@ use Rattle.session_grammar.specs.declared.words.HeaderWord.TheVariants as header
 use Rattle.session_grammar.specs.declared.words.Word.{Word}
 use Rattle.session_grammar.specs.declared.words.Word.TheVariants as word
 use Rattle.session_grammar.specs.Words.{word_of}
-use Rattle.session_grammar.specs.Grammar.{is_built, kind_of, are_sizes, have_geometry, new_reading, opened, wide_told, journal_line, zones_line, volume_line, built_first, first_line, may_stand, stood_before, number_fits, with_number, number_taken, header_line, header_taken, with_thread, thread_taken, thread_line, with_call, call_taken, events_line, event_fits, with_event, event_taken, with_recover, recover_taken, line_taken, later_line, is_behind_events, read_words, read_one, session_of}
+use Rattle.session_grammar.specs.Grammar.{is_built, kind_of, are_sizes, have_geometry, new_reading, opened, form_told, journal_line, zones_line, volume_line, built_first, first_line, may_stand, stood_before, number_fits, with_number, number_taken, header_line, header_taken, with_thread, thread_taken, thread_line, with_call, call_taken, events_line, event_fits, with_event, event_taken, with_recover, recover_taken, line_taken, later_line, is_behind_events, read_words, read_one, session_of}
 use Rattle.session_grammar.specs.laws.FirstFault.{has_events, is_unbuilt, IsFirstUnbuilt}
 use Rattle.session_grammar.proofs.FirstFault.{tells_first_fault}
 use Rattle.session_grammar.proofs.Names.{IsNamed, named}
@@ -80,17 +81,17 @@ sizes_of_two true true r h = cc
 sizes_of_two true false r h = cc
 sizes_of_two false geometry r h = cc
 
-opened-built : (i z j : Option ℕ) (wide : Option Bool) → opened i z j wide ≡ Err kinds.NotBuilt → ⊥
-opened-built (Some i) (Some z) (Some j) (Some wide) h = sizes_of_two (are_sizes i z j) (have_geometry i z j) (new_reading i z j wide) h
-opened-built None z j wide h = cc
-opened-built (Some i) None j wide h = cc
-opened-built (Some i) (Some z) None wide h = cc
+opened-built : (i z j : Option ℕ) (form : Option VolumeForm) → opened i z j form ≡ Err kinds.NotBuilt → ⊥
+opened-built (Some i) (Some z) (Some j) (Some form) h = sizes_of_two (are_sizes i z j) (have_geometry i z j) (new_reading i z j form) h
+opened-built None z j form h = cc
+opened-built (Some i) None j form h = cc
+opened-built (Some i) (Some z) None form h = cc
 opened-built (Some i) (Some z) (Some j) None h = cc
 
 journal_line-built : (i z : Option ℕ) (ws : List (List ℕ)) → journal_line i z ws ≡ Err kinds.NotBuilt → ⊥
 journal_line-built i z [] h = cc
 journal_line-built i z (j ∷ []) h = cc
-journal_line-built i z (j ∷ n ∷ ws) h = read_or_word (bytes_eq j (codes "journal")) (opened i z (numeral n) (wide_told ws)) (opened-built i z (numeral n) (wide_told ws)) h
+journal_line-built i z (j ∷ n ∷ ws) h = read_or_word (bytes_eq j (codes "journal")) (opened i z (numeral n) (form_told ws)) (opened-built i z (numeral n) (form_told ws)) h
 
 zones_line-built : (i : Option ℕ) (ws : List (List ℕ)) → zones_line i ws ≡ Err kinds.NotBuilt → ⊥
 zones_line-built i [] h = cc

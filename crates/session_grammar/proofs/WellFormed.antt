@@ -6,6 +6,7 @@ use Rattle.std.proofs.lemmas.Bool.{and_parts, eqb-true}
 use Rattle.std.proofs.lemmas.Option.{same_Some, none-some}
 use Rattle.blk_base.specs.Members.{In}
 use Rattle.blk_base.specs.laws.Members.{each_push}
+use Rattle.minix_layout.specs.Widths.{IsWidth}
 use Rattle.minix_layout.specs.Words.{first_zone}
 use Rattle.tree_model.specs.declared.call.Call.{Call}
 use Rattle.script_words.specs.declared.line_error.LineFault.{LineFault}
@@ -38,6 +39,7 @@ use Rattle.session_grammar.specs.declared.reading.Reading.{Reading}
 use Rattle.session_grammar.specs.declared.reading.Section.{Section}
 use Rattle.session_grammar.specs.declared.reading.Section.TheVariants as sections
 use Rattle.session_grammar.specs.declared.reading.HeaderSoFar.{HeaderSoFar}
+use Rattle.session_grammar.specs.declared.reading.VolumeForm.{VolumeForm}
 use Rattle.session_grammar.specs.declared.session_script.SessionScript.{SessionScript}
 use Rattle.script_grammar.specs.declared.words.FirstWord.TheVariants as first
 use Rattle.session_grammar.specs.declared.words.NumberWord.{NumberWord}
@@ -47,8 +49,9 @@ use Rattle.session_grammar.specs.declared.words.HeaderWord.TheVariants as header
 use Rattle.session_grammar.specs.declared.words.Word.{Word}
 use Rattle.session_grammar.specs.declared.words.Word.TheVariants as word
 use Rattle.session_grammar.specs.Words.{word_of}
-use Rattle.session_grammar.specs.Grammar.{is_built, are_sizes, have_geometry, new_reading, none_told, sizes_taken, opened, wide_told, journal_line, zones_line, volume_line, built_first, first_line, is_submit, stands_in, has_threads, may_stand, stood_before, number_fits, with_number, number_taken, header_line, header_taken, with_thread, thread_taken, thread_line, with_call, call_taken, events_line, names_thread, weight, event_fits, with_event, event_taken, with_recover, recover_taken, line_taken, later_line, is_behind_events, read_words, read_one, header_of, script_read, ended_in, ended, read_from, session_of}
+use Rattle.session_grammar.specs.Grammar.{is_built, are_sizes, have_geometry, new_reading, none_told, sizes_taken, opened, form_told, journal_line, zones_line, volume_line, built_first, first_line, is_submit, stands_in, has_threads, may_stand, stood_before, number_fits, with_number, number_taken, header_line, header_taken, with_thread, thread_taken, thread_line, with_call, call_taken, events_line, names_thread, weight, event_fits, with_event, event_taken, with_recover, recover_taken, line_taken, later_line, is_behind_events, read_words, read_one, header_of, script_read, ended_in, ended, read_from, session_of}
 use Rattle.session_grammar.specs.WellFormed.{AreSizes, IsHeader, all_calls, IsLineOf, AreLinesOf, IsEventOf, expanded_of, IsWellFormed}
+use Rattle.session_grammar.proofs.Forms.{IsWidth-told}
 use Rattle.session_grammar.proofs.Names.{IsNamed, named}
 use Rattle.session_grammar.proofs.Threads.{length-pushed_last, all_calls-pushed, all_calls-thread, each_few-pushed, AreLinesOf-push}
 use Rattle.session_grammar.proofs.Steps.{ok_under, IsTurnOf-said}
@@ -72,6 +75,7 @@ pub record AreRecovers (recovers : List (List Steer)) : Type 0 where
 
 pub record IsReadable (r : Reading) : Type 0 where
   pub sizes : AreSizes r.inodes r.zones r.journal
+  pub width : IsWidth r.width
   pub header : IsHeader (header_of r.told)
   pub body : AreThreads r.programs r.lines
   pub events : AreEvents (length r.programs) r.events r.expanded
@@ -157,7 +161,7 @@ IsReadable-header : (r : Reading) (read : Result HeaderSoFar ScriptKind) (next :
 IsReadable-header r (Err kind) next h of is = cc
 IsReadable-header r (Ok t) next h of is =
     let e : record r { told = t } ≡ next = cc in
-    subst IsReadable e (record { sizes = is.sizes; header = of t refl; body = is.body; events = is.events; recovers = is.recovers; no_events = is.no_events })
+    subst IsReadable e (record { sizes = is.sizes; width = is.width; header = of t refl; body = is.body; events = is.events; recovers = is.recovers; no_events = is.no_events })
 
 -- ---- threads and their calls
 
@@ -179,6 +183,7 @@ AreThreads-thread programs lines few is = record {
 IsReadable-thread : (r : Reading) → r.section ≡ sections.Opening → length r.programs + 1 ≤ MOST_THREADS → IsReadable r → IsReadable (with_thread r)
 IsReadable-thread r here few is = record {
   sizes = is.sizes;
+  width = is.width;
   header = is.header;
   body = AreThreads-thread r.programs r.lines few is.body;
   events = AreEvents-none (length r.programs) (length (r.programs ++ [] ∷ [])) r.events r.expanded (is.no_events here) is.events;
@@ -214,6 +219,7 @@ AreThreads-call programs lines l c some few line is =
 IsReadable-call : (r : Reading) (l : List ℕ) (c : Call) → 0 < length r.programs → last_length r.programs < MOST_CALLS → IsLineOf l c → IsReadable r → IsReadable (with_call r l c)
 IsReadable-call r l c some few line is = record {
   sizes = is.sizes;
+  width = is.width;
   header = is.header;
   body = AreThreads-call r.programs r.lines l c some few line is.body;
   events = subst (λ n. AreEvents n r.events r.expanded) (sym (length-pushed_last r.programs c)) is.events;
@@ -232,7 +238,7 @@ IsReadable-events_line : (r : Reading) (ws : List (List ℕ)) (next : Reading) �
 IsReadable-events_line r (w ∷ ws) next h is = cc
 IsReadable-events_line r [] next h is =
     let e : record r { section = sections.Events } ≡ next = cc in
-    subst IsReadable e (record { sizes = is.sizes; header = is.header; body = is.body; events = is.events; recovers = is.recovers; no_events = λ x. cc })
+    subst IsReadable e (record { sizes = is.sizes; width = is.width; header = is.header; body = is.body; events = is.events; recovers = is.recovers; no_events = λ x. cc })
 
 -- ---- event lines
 
@@ -250,6 +256,7 @@ AreEvents-push threads events expanded l here most is = record {
 IsReadable-event : (r : Reading) (l : EventLine) → r.section ≡ sections.Events → IsEventOf (length r.programs) l → r.expanded + weight (length r.programs) l ≤ MOST_EVENTS → IsReadable r → IsReadable (with_event r l)
 IsReadable-event r l here of most is = record {
   sizes = is.sizes;
+  width = is.width;
   header = is.header;
   body = is.body;
   events = AreEvents-push (length r.programs) r.events r.expanded l of most is.events;
@@ -270,6 +277,7 @@ IsReadable-event_taken r (Ok l) next h here of is =
 IsReadable-recover : (r : Reading) (ss : List Steer) → length r.recovers < MOST_RECOVERS → IsSteerLine ss → IsReadable r → IsReadable (with_recover r ss)
 IsReadable-recover r ss few line is = record {
   sizes = is.sizes;
+  width = is.width;
   header = is.header;
   body = is.body;
   events = is.events;
@@ -360,9 +368,10 @@ IsHeader-none = record {
   most_flash = λ n e. absurd (none-some n e);
 }
 
-IsReadable-new : (inodes zones journal : ℕ) (wide : Bool) → AreSizes inodes zones journal → IsReadable (new_reading inodes zones journal wide)
-IsReadable-new inodes zones journal wide sizes = record {
+IsReadable-new : (inodes zones journal : ℕ) (form : VolumeForm) → AreSizes inodes zones journal → IsWidth form.width → IsReadable (new_reading inodes zones journal form)
+IsReadable-new inodes zones journal form sizes width = record {
   sizes = sizes;
+  width = width;
   header = IsHeader-none;
   body = record { threads = lit≤ tt; few_calls = λ p h. absurd h; calls = λ c h. absurd h; matched = tt };
   events = record { each = λ l h. absurd h; counted = refl; most = lit≤ tt };
@@ -370,25 +379,25 @@ IsReadable-new inodes zones journal wide sizes = record {
   no_events = λ _. refl;
 }
 
-IsReadable-sizes : (inodes zones journal : ℕ) (wide : Bool) (next : Reading) → sizes_taken inodes zones journal wide ≡ Ok next → IsReadable next
-IsReadable-sizes inodes zones journal wide next h =
+IsReadable-sizes : (inodes zones journal : ℕ) (form : VolumeForm) (next : Reading) → IsWidth form.width → sizes_taken inodes zones journal form ≡ Ok next → IsReadable next
+IsReadable-sizes inodes zones journal form next width h =
     let sizes = ok_past (are_sizes inodes zones journal) _ next _ h in
-    let geometry = ok_past (have_geometry inodes zones journal) (Ok (new_reading inodes zones journal wide)) next _ sizes.1 in
-    let e : new_reading inodes zones journal wide ≡ next = cc in
-    subst IsReadable e (IsReadable-new inodes zones journal wide (AreSizes-from inodes zones journal sizes.0 geometry.0))
+    let geometry = ok_past (have_geometry inodes zones journal) (Ok (new_reading inodes zones journal form)) next _ sizes.1 in
+    let e : new_reading inodes zones journal form ≡ next = cc in
+    subst IsReadable e (IsReadable-new inodes zones journal form (AreSizes-from inodes zones journal sizes.0 geometry.0) width)
 
-IsReadable-opened : (inodes zones journal : Option ℕ) (wide : Option Bool) (next : Reading) → opened inodes zones journal wide ≡ Ok next → IsReadable next
-IsReadable-opened (Some i) (Some z) (Some j) (Some b) next h = IsReadable-sizes i z j b next h
-IsReadable-opened None z j b next h = cc
-IsReadable-opened (Some i) None j b next h = cc
-IsReadable-opened (Some i) (Some z) None b next h = cc
-IsReadable-opened (Some i) (Some z) (Some j) None next h = cc
+IsReadable-opened : (inodes zones journal : Option ℕ) (form : Option VolumeForm) (next : Reading) → ((f : VolumeForm) → form ≡ Some f → IsWidth f.width) → opened inodes zones journal form ≡ Ok next → IsReadable next
+IsReadable-opened (Some i) (Some z) (Some j) (Some f) next width h = IsReadable-sizes i z j f next (width f refl) h
+IsReadable-opened None z j f next width h = cc
+IsReadable-opened (Some i) None j f next width h = cc
+IsReadable-opened (Some i) (Some z) None f next width h = cc
+IsReadable-opened (Some i) (Some z) (Some j) None next width h = cc
 
 IsReadable-journal_line : (inodes zones : Option ℕ) (ws : List (List ℕ)) (next : Reading) → journal_line inodes zones ws ≡ Ok next → IsReadable next
 IsReadable-journal_line inodes zones [] next h = cc
 IsReadable-journal_line inodes zones (j ∷ []) next h = cc
 IsReadable-journal_line inodes zones (j ∷ n ∷ ws) next h =
-    IsReadable-opened inodes zones (numeral n) (wide_told ws) next (ok_under (bytes_eq j (codes "journal")) (opened inodes zones (numeral n) (wide_told ws)) next _ h).1
+    IsReadable-opened inodes zones (numeral n) (form_told ws) next (IsWidth-told ws) (ok_under (bytes_eq j (codes "journal")) (opened inodes zones (numeral n) (form_told ws)) next _ h).1
 
 IsReadable-zones_line : (inodes : Option ℕ) (ws : List (List ℕ)) (next : Reading) → zones_line inodes ws ≡ Ok next → IsReadable next
 IsReadable-zones_line inodes [] next h = cc
@@ -428,6 +437,7 @@ IsReadable-read_words (Some r) line (w ∷ ws) next cut h is = IsReadable-later_
 IsWellFormed-script_read : (r : Reading) → IsReadable r → IsWellFormed (script_read r)
 IsWellFormed-script_read r is = record {
   sizes = is.sizes;
+  width = is.width;
   header = is.header;
   threads = is.body.threads;
   few_calls = is.body.few_calls;

@@ -23,12 +23,13 @@ use Rattle.event_grammar.specs.declared.words.EventFirst.TheVariants as event
 use Rattle.event_grammar.specs.declared.words.PlainWord.TheVariants as plain
 use Rattle.event_grammar.specs.EventLines.{event_of}
 use Rattle.event_grammar.specs.SteerLines.{steers_of}
-use Rattle.minix_layout.specs.declared.limits.TheConstants.{LEAST_JOURNAL, MOST_JOURNAL, MOST_NUMBERED}
+use Rattle.minix_layout.specs.declared.limits.TheConstants.{DEFAULT_WIDTH, LEAST_JOURNAL, MOST_JOURNAL, MOST_NUMBERED}
 use Rattle.session_grammar.specs.declared.limits.TheConstants.{DEFAULT_LIMIT, DEFAULT_SEED, JOURNALS, MOST_CALLS, MOST_RECOVERS, MOST_SEED, MOST_SESSION, MOST_THREADS}
 use Rattle.session_grammar.specs.declared.reading.Reading.{Reading}
 use Rattle.session_grammar.specs.declared.reading.Section.{Section}
 use Rattle.session_grammar.specs.declared.reading.Section.TheVariants as sections
 use Rattle.session_grammar.specs.declared.reading.HeaderSoFar.{HeaderSoFar}
+use Rattle.session_grammar.specs.declared.reading.VolumeForm.{VolumeForm}
 use Rattle.session_grammar.specs.declared.session_script.SessionHeader.{SessionHeader}
 use Rattle.session_grammar.specs.declared.session_script.SessionScript.{SessionScript}
 use Rattle.script_grammar.specs.declared.words.FirstWord.TheVariants as first
@@ -65,28 +66,39 @@ have_geometry inodes zones journal =
 abbrev pub none_told : HeaderSoFar
 none_told = record { depth = None; queue = None; limit = None; cut = None; seed = None; flash = None; elevator = false }
 
-abbrev pub new_reading : ℕ → ℕ → ℕ → Bool → Reading
-new_reading inodes zones journal wide = record { inodes = inodes; zones = zones; journal = journal; wide = wide; told = none_told; section = sections.Opening; programs = []; lines = []; events = []; expanded = 0; recovers = [] }
+abbrev pub new_reading : ℕ → ℕ → ℕ → VolumeForm → Reading
+new_reading inodes zones journal form = record { inodes = inodes; zones = zones; journal = journal; width = form.width; wide = form.wide; told = none_told; section = sections.Opening; programs = []; lines = []; events = []; expanded = 0; recovers = [] }
 
-abbrev pub sizes_taken : ℕ → ℕ → ℕ → Bool → Result Reading ScriptKind
-sizes_taken inodes zones journal wide =
+abbrev pub sizes_taken : ℕ → ℕ → ℕ → VolumeForm → Result Reading ScriptKind
+sizes_taken inodes zones journal form =
     if not (are_sizes inodes zones journal) then Err kinds.Number
     else if not (have_geometry inodes zones journal) then Err kinds.Geometry
-    else Ok (new_reading inodes zones journal wide)
+    else Ok (new_reading inodes zones journal form)
 
-abbrev pub opened : Option ℕ → Option ℕ → Option ℕ → Option Bool → Result Reading ScriptKind
-opened (Some inodes) (Some zones) (Some journal) (Some wide) = sizes_taken inodes zones journal wide
-opened inodes zones journal wide = Err kinds.Word
+abbrev pub opened : Option ℕ → Option ℕ → Option ℕ → Option VolumeForm → Result Reading ScriptKind
+opened (Some inodes) (Some zones) (Some journal) (Some form) = sizes_taken inodes zones journal form
+opened inodes zones journal form = Err kinds.Word
 
--- what the words behind the sizes say: tags of 64 bits, or nothing
+-- what the last words say: tags of 64 bits, or nothing
 abbrev pub wide_told : List (List ℕ) → Option Bool
 wide_told [] = Some false
 wide_told (t ∷ n ∷ []) = if bytes_eq t (codes "tags") && bytes_eq n (codes "64") then Some true else None
 wide_told ws = None
 
--- inodes I zones Z journal J, and `tags 64` for tags of 64 bits
+abbrev pub form_with : ℕ → Option Bool → Option VolumeForm
+form_with width None = None
+form_with width (Some wide) = Some (record { width = width; wide = wide })
+
+-- what the words behind the sizes say: names of 30 bytes, or nothing of names; and behind that, tags
+abbrev pub form_told : List (List ℕ) → Option VolumeForm
+form_told (n ∷ w ∷ ws) =
+    if bytes_eq n (codes "names") && bytes_eq w (codes "30") then form_with 30 (wide_told ws)
+    else form_with DEFAULT_WIDTH (wide_told (n ∷ w ∷ ws))
+form_told ws = form_with DEFAULT_WIDTH (wide_told ws)
+
+-- inodes I zones Z journal J, `names 30` for names of 30 bytes, and `tags 64` for tags of 64 bits
 abbrev pub journal_line : Option ℕ → Option ℕ → List (List ℕ) → Result Reading ScriptKind
-journal_line inodes zones (j ∷ n ∷ ws) = if bytes_eq j (codes "journal") then opened inodes zones (numeral n) (wide_told ws) else Err kinds.Word
+journal_line inodes zones (j ∷ n ∷ ws) = if bytes_eq j (codes "journal") then opened inodes zones (numeral n) (form_told ws) else Err kinds.Word
 journal_line inodes zones ws = Err kinds.Word
 
 abbrev pub zones_line : Option ℕ → List (List ℕ) → Result Reading ScriptKind
@@ -295,7 +307,7 @@ abbrev pub header_of : HeaderSoFar → SessionHeader
 header_of t = record { depth = unwrap_or t.depth DEFAULT_DEPTH; queue = unwrap_or t.queue DEFAULT_QUEUE; limit = unwrap_or t.limit DEFAULT_LIMIT; cut = t.cut; seed = unwrap_or t.seed DEFAULT_SEED; flash = t.flash; elevator = t.elevator }
 
 abbrev pub script_read : Reading → SessionScript
-script_read r = record { inodes = r.inodes; zones = r.zones; journal = r.journal; wide = r.wide; header = header_of r.told; programs = r.programs; lines = r.lines; events = r.events; recovers = r.recovers }
+script_read r = record { inodes = r.inodes; zones = r.zones; journal = r.journal; width = r.width; wide = r.wide; header = header_of r.told; programs = r.programs; lines = r.lines; events = r.events; recovers = r.recovers }
 
 abbrev pub ended_in : ℕ → Reading → Section → Result SessionScript (ℕ × ScriptKind)
 ended_in n r sections.Opening = Err (n, kinds.Order)

@@ -1,6 +1,7 @@
 -- What holds of every volume script that is read, and of no other.
 use Rattle.std.specs.Prelude.{◌≡◌, ℕ, ◌+◌, ◌<◌, ◌≤◌, List, [], ◌∷◌, ◌++◌, length, Some, Ok}
 use Rattle.blk_base.specs.Members.{In}
+use Rattle.minix_layout.specs.Widths.{IsWidth}
 use Rattle.minix_layout.specs.Words.{first_zone}
 use Rattle.tree_model.specs.declared.call.Call.{Call}
 use Rattle.script_words.specs.Spelling.{words_of}
@@ -83,6 +84,7 @@ expanded_of threads (l ∷ ls) = weight threads l + expanded_of threads ls
 
 pub record IsWellFormed (s : SessionScript) : Type 0 where
   pub sizes : AreSizes s.inodes s.zones s.journal
+  pub width : IsWidth s.width
   pub header : IsHeader s.header
   pub threads : length s.programs ≤ MOST_THREADS
   pub few_calls : (p : List Call) → In p s.programs → length p ≤ MOST_CALLS

@@ -1,13 +1,13 @@
 //! The first line of a volume script.
 ghost use Rattle.std.specs.Prelude.{◌≡◌, ◌≢◌, map};
-ghost use Rattle.session_grammar.specs.Grammar.{is_built, are_sizes, have_geometry, none_told, new_reading, opened, sizes_taken, wide_told, journal_line, zones_line, volume_line, built_first, first_line};
+ghost use Rattle.session_grammar.specs.Grammar.{is_built, are_sizes, have_geometry, none_told, new_reading, opened, sizes_taken, form_with, form_told, wide_told, journal_line, zones_line, volume_line, built_first, first_line};
 
 use crate::limits::JOURNALS;
-use crate::reading::{HeaderSoFar, Reading, Section};
+use crate::reading::{HeaderSoFar, Reading, Section, VolumeForm};
 use crate::words::{HeaderWord, Word};
 use call_grammar::{LineList, Programs};
 use event_grammar::{Events, SteerList};
-use minix_layout::{Geometry, LEAST_JOURNAL, MOST_JOURNAL, MOST_NUMBERED};
+use minix_layout::{DEFAULT_WIDTH, Geometry, LEAST_JOURNAL, MOST_JOURNAL, MOST_NUMBERED};
 use script_grammar::{FirstWord, ScriptKind};
 use script_words::numeral;
 use std::alloc::Global;
@@ -32,11 +32,14 @@ fn are_sizes(inodes: u64, zones: u64, journal: u64) -> bool
         && journal < JOURNALS
 }
 
+// The tables of a volume are as large with any width of names.
 fn have_geometry(inodes: u16, zones: u16, journal: u32) -> bool
     requires { inodes ≢ 0 }
     ensures { result ≡ have_geometry inodes zones journal }
 {
-    Geometry::make(inodes, zones).is_ok() && journal >= LEAST_JOURNAL && journal <= MOST_JOURNAL
+    Geometry::make(inodes, zones, DEFAULT_WIDTH).is_ok()
+        && journal >= LEAST_JOURNAL
+        && journal <= MOST_JOURNAL
 }
 
 fn none_told() -> HeaderSoFar
@@ -53,14 +56,15 @@ fn none_told() -> HeaderSoFar
     }
 }
 
-fn new_reading(alloc: Global, inodes: u16, zones: u16, journal: u32, wide: bool) -> Reading
-    ensures { result ≡ new_reading inodes zones journal wide }
+fn new_reading(alloc: Global, inodes: u16, zones: u16, journal: u32, form: VolumeForm) -> Reading
+    ensures { result ≡ new_reading inodes zones journal form }
 {
     Reading {
         inodes,
         zones,
         journal,
-        wide,
+        width: form.width,
+        wide: form.wide,
         told: none_told(),
         section: Section::Opening,
         programs: Programs::new(alloc),
@@ -76,9 +80,9 @@ fn sizes_taken(
     inodes: u64,
     zones: u64,
     journal: u64,
-    wide: bool,
+    form: VolumeForm,
 ) -> Result<Reading, ScriptKind>
-    ensures { result ≡ sizes_taken inodes zones journal wide }
+    ensures { result ≡ sizes_taken inodes zones journal form }
 {
     if !are_sizes(inodes, zones, journal) {
         return Err(ScriptKind::Number);
@@ -87,7 +91,7 @@ fn sizes_taken(
     if !have_geometry(inodes, zones, journal) {
         return Err(ScriptKind::Geometry);
     }
-    Ok(new_reading(alloc, inodes, zones, journal, wide))
+    Ok(new_reading(alloc, inodes, zones, journal, form))
 }
 
 fn opened(
@@ -95,15 +99,15 @@ fn opened(
     inodes: Option<u64>,
     zones: Option<u64>,
     journal: Option<u64>,
-    wide: Option<bool>,
+    form: Option<VolumeForm>,
 ) -> Result<Reading, ScriptKind>
-    ensures { result ≡ opened inodes zones journal wide }
+    ensures { result ≡ opened inodes zones journal form }
 {
-    let (Some(inodes), Some(zones), Some(journal), Some(wide)) = (inodes, zones, journal, wide)
+    let (Some(inodes), Some(zones), Some(journal), Some(form)) = (inodes, zones, journal, form)
     else {
         return Err(ScriptKind::Word);
     };
-    sizes_taken(alloc, inodes, zones, journal, wide)
+    sizes_taken(alloc, inodes, zones, journal, form)
 }
 
 fn wide_told(words: &[&[u8]]) -> Option<bool>
@@ -122,6 +126,27 @@ fn wide_told(words: &[&[u8]]) -> Option<bool>
     }
 }
 
+fn form_with(width: u16, wide: Option<bool>) -> Option<VolumeForm>
+    ensures { result ≡ form_with width wide }
+{
+    let wide = wide?;
+    Some(VolumeForm { width, wide })
+}
+
+#[tactic(auto, using(crate::proofs::Others::form_of_few))]
+fn form_told(words: &[&[u8]]) -> Option<VolumeForm>
+    ensures { result ≡ form_told (map (λ x. x.now) words.now) }
+{
+    let [names, bytes, rest @ ..] = words else {
+        return form_with(DEFAULT_WIDTH, wide_told(words));
+    };
+    if *names == b"names".as_slice() && *bytes == b"30".as_slice() {
+        form_with(30, wide_told(rest))
+    } else {
+        form_with(DEFAULT_WIDTH, wide_told(words))
+    }
+}
+
 #[tactic(auto, using(crate::proofs::Others::journal_of_few))]
 fn journal_line(
     alloc: Global,
@@ -135,7 +160,7 @@ fn journal_line(
         return Err(ScriptKind::Word);
     };
     if *j == b"journal".as_slice() {
-        opened(alloc, inodes, zones, numeral(journal), wide_told(rest))
+        opened(alloc, inodes, zones, numeral(journal), form_told(rest))
     } else {
         Err(ScriptKind::Word)
     }

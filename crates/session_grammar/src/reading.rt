@@ -24,12 +24,22 @@ pub struct HeaderSoFar {
     pub flash: Option<u32>,
 }
 
+/// The form of a volume, as the words behind its sizes choose it.
+#[derive(Clone, Copy, PartialEq, Eq, Debug)]
+pub struct VolumeForm {
+    /// The bytes that a name may have: 14, or 30.
+    pub width: u16,
+    /// The journal has tags of 64 bits.
+    pub wide: bool,
+}
+
 /// The state of reading between two lines.
 #[derive(Drop)]
 pub struct Reading {
     pub inodes: u16,
     pub zones: u16,
     pub journal: u32,
+    pub width: u16,
     pub wide: bool,
     pub told: HeaderSoFar,
     pub section: Section,

@@ -33,6 +33,8 @@ pub struct SessionScript {
     pub zones: u16,
     /// The blocks of the journal behind it.
     pub journal: u32,
+    /// The bytes that a name may have: 14, or 30.
+    pub width: u16,
     /// The journal has tags of 64 bits.
     pub wide: bool,
     pub header: SessionHeader,
@@ -54,6 +56,7 @@ impl SessionScript {
             inodes: self.inodes,
             zones: self.zones,
             journal: self.journal,
+            width: self.width,
             wide: self.wide,
             header: self.header,
             programs: self.programs.copy(alloc)?,

@@ -38,7 +38,7 @@ pub record SaysSession (s : SessionScript) (lines : List (List (List ℕ))) : Ty
   pub header : List (List (List ℕ))
   pub events : List (List (List ℕ))
   pub whole :
-      lines ≡ volume_words s.inodes s.zones s.journal s.wide ∷ header
+      lines ≡ volume_words s.inodes s.zones s.journal s.width s.wide ∷ header
       ++ (thread_lines 1 s.programs s.lines ++ ((codes "events" ∷ []) ∷ events ++ map recover_words s.recovers))
   pub headed : IsHeaderOf s.header header
   pub said : SayEvents s.events events

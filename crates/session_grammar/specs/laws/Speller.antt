@@ -1,5 +1,5 @@
 -- A small speller of volume scripts.
-use Rattle.std.specs.Prelude.{ℕ, ◌+◌, ◌++◌, Bool, List, [], ◌∷◌, codes, length, map, take, drop, Option, Some, None, if◌then◌else◌}
+use Rattle.std.specs.Prelude.{ℕ, ◌+◌, ◌++◌, ◌==◌, Bool, List, [], ◌∷◌, codes, length, map, take, drop, Option, Some, None, if◌then◌else◌}
 use Rattle.std.specs.Fmt.{decimal}
 use Rattle.tree_model.specs.declared.call.Call.{Call}
 use Rattle.event_grammar.specs.declared.steer.Steer.{Steer}
@@ -11,13 +11,18 @@ use Rattle.session_grammar.specs.declared.session_script.SessionScript.{SessionS
 
 -- ---- the words of each line
 
+-- the words that choose names of 30 bytes
+abbrev pub names_words : ℕ → List (List ℕ)
+names_words width = if width == 30 then codes "names" ∷ codes "30" ∷ [] else []
+
 -- the words that choose tags of 64 bits
 abbrev pub tags_words : Bool → List (List ℕ)
 tags_words wide = if wide then codes "tags" ∷ codes "64" ∷ [] else []
 
-abbrev pub volume_words : ℕ → ℕ → ℕ → Bool → List (List ℕ)
-volume_words inodes zones journal wide =
-    codes "volume" ∷ codes "inodes" ∷ decimal inodes ∷ codes "zones" ∷ decimal zones ∷ codes "journal" ∷ decimal journal ∷ tags_words wide
+abbrev pub volume_words : ℕ → ℕ → ℕ → ℕ → Bool → List (List ℕ)
+volume_words inodes zones journal width wide =
+    codes "volume" ∷ codes "inodes" ∷ decimal inodes ∷ codes "zones" ∷ decimal zones ∷ codes "journal" ∷ decimal journal
+    ∷ names_words width ++ tags_words wide
 
 abbrev pub number_words : List ℕ → ℕ → List (List ℕ)
 number_words name n = name ∷ decimal n ∷ []
@@ -54,7 +59,7 @@ recover_words ss = codes "recover" ∷ steer_words ss
 -- the lines of a script, each as its words
 abbrev pub session_lines : SessionScript → List (List (List ℕ))
 session_lines s =
-    volume_words s.inodes s.zones s.journal s.wide ∷ header_lines s.header
+    volume_words s.inodes s.zones s.journal s.width s.wide ∷ header_lines s.header
     ++ (thread_lines 1 s.programs s.lines
     ++ ((codes "events" ∷ []) ∷ map event_line_words s.events ++ map recover_words s.recovers))
 
