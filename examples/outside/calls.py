@@ -5,9 +5,9 @@ import re
 
 BLOCK = 1024
 LARGEST = 268_966_912
-MOST_SLOTS = 33_216
 MOST_LINKS = 250
-NAME_BYTES = 14
+DIRECTORY_BLOCKS = 519  # of the largest directory
+NAMES = 14  # bytes of the longest name, where a script does not say
 FREE = None  # a slot of a directory that has no name
 
 
@@ -22,8 +22,23 @@ class Node:
         self.slots = [".", ".."]  # of a directory
 
 
-def directory_zones(slots):
-    blocks = math.ceil(slots / 64)
+def names_by(line):
+    """The bytes of the longest name in the volume of a script with this first line."""
+    words = line.split(" ")
+    return int(words[8]) if words[7:8] == ["names"] else NAMES
+
+
+def slot_bytes(names):
+    """Of a slot: the number of an inode, and a name."""
+    return 2 + names
+
+
+def block_slots(names):
+    return BLOCK // slot_bytes(names)
+
+
+def directory_zones(slots, names):
+    blocks = math.ceil(slots / block_slots(names))
     return blocks + (1 if blocks > 7 else 0)
 
 
@@ -46,9 +61,9 @@ def names_of(path):
 
 
 class Volume:
-    def __init__(self, inodes, zones):
+    def __init__(self, inodes, zones, names=NAMES):
         tables = 2 + math.ceil((inodes + 1) / 8192) + math.ceil((zones + 1) / 8192) + math.ceil(inodes / 32)
-        self.inodes, self.capacity = inodes, zones - tables
+        self.inodes, self.capacity, self.names = inodes, zones - tables, names
         self.made = 1
         self.root = Node(0, True)
         self.nodes = {0: self.root}
@@ -63,16 +78,24 @@ class Volume:
         return other
 
     def free_zones(self):
-        used = sum(directory_zones(len(n.slots)) if n.is_directory else file_zones(n.blocks) for n in self.nodes.values())
-        return self.capacity - used
+        return self.capacity - sum(self.zones_of(node) for node in self.nodes.values())
+
+    def zones_of(self, node):
+        return directory_zones(len(node.slots), self.names) if node.is_directory else file_zones(node.blocks)
+
+    def size_of(self, node):
+        return slot_bytes(self.names) * len(node.slots) if node.is_directory else node.size
+
+    def may_have(self, name):
+        if len(name) > self.names:
+            raise Refused("name too long")
 
     def walk(self, names):
         node = self.root
         for name in names:
             if not node.is_directory:
                 raise Refused("not a directory")
-            if len(name) > NAME_BYTES:
-                raise Refused("name too long")
+            self.may_have(name)
             if name not in node.names:
                 raise Refused("not found")
             node = node.names[name]
@@ -82,8 +105,7 @@ class Volume:
         node = self.walk(names[:-1])
         if not node.is_directory:
             raise Refused("not a directory")
-        if len(names[-1]) > NAME_BYTES:
-            raise Refused("name too long")
+        self.may_have(names[-1])
         return node
 
     def file(self, path):
@@ -107,11 +129,11 @@ class Volume:
     def may_grow(self, directory, inode, zones):
         slots = len(directory.slots)
         has_slot = FREE in directory.slots
-        if slots >= MOST_SLOTS and not has_slot:
+        if slots >= DIRECTORY_BLOCKS * block_slots(self.names) and not has_slot:
             raise Refused("too big")
         if inode and len(self.nodes) >= self.inodes:
             raise Refused("no inode")
-        more = 0 if has_slot else directory_zones(slots + 1) - directory_zones(slots)
+        more = 0 if has_slot else directory_zones(slots + 1, self.names) - directory_zones(slots, self.names)
         if more + zones > self.free_zones():
             raise Refused("no space")
 
@@ -275,8 +297,7 @@ class Volume:
 
     def stat(self, path):
         node = self.walk(names_of(path))
-        kind, size = ("dir", 16 * len(node.slots)) if node.is_directory else ("file", node.size)
-        return f"{kind} size {size} links {node.links}"
+        return f"{'dir' if node.is_directory else 'file'} size {self.size_of(node)} links {node.links}"
 
     def of_node(self, path):
         self.walk(names_of(path))

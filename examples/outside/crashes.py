@@ -1,7 +1,7 @@
 """The report of a volume script whose power was cut, checked by what docs/FORMATS.md and README.md say of such a report."""
 from collections import defaultdict, namedtuple
 
-from calls import BLOCK, Volume, shown
+from calls import BLOCK, Volume, names_by, shown
 
 Answer = namedtuple("Answer", "thread line reply")
 CHANGES = ("mkdir", "create", "rmdir", "unlink", "link", "rename", "write", "bytes", "truncate")
@@ -40,9 +40,10 @@ def outline_of(lines):
 class History:
     """The answered calls, numbered from 1, with the volume as it was behind each."""
 
-    def __init__(self, inodes, zones, answers):
+    def __init__(self, first, answers):
+        words = first.split(" ")
         self.answers = answers
-        self.volume = Volume(inodes, zones)
+        self.volume = Volume(int(words[2]), int(words[4]), names_by(first))
         self.outlines, self.files, self.named = [], [], []
         self.versions = defaultdict(list)  # of a file's block: call and body
         self.unmapped = defaultdict(list)  # of a file's block: calls
@@ -157,10 +158,10 @@ class Recovery:
         return None
 
 
-def fault(inodes, zones, report):
-    """What is wrong with a report, or none."""
+def fault(first, report):
+    """What is wrong with the report of a script with this first line, or none."""
     answers, tree = answers_in(report.split("\n")[:-1])
-    history = History(inodes, zones, answers)
+    history = History(first, answers)
     if history.wrong:
         return history.wrong
     outline, bodies = outline_of(tree)

@@ -57,7 +57,7 @@ class Reader:
             within(words[1], BLOCKS)
             self.blocks = int(words[1])
             return
-        inodes, zones, journal = map(int, words[2::2])
+        inodes, zones, journal = map(int, words[2:7:2])
         within(inodes, INODES)
         within(zones, ZONES)
         within(journal, (0, PLACE))

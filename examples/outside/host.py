@@ -56,7 +56,8 @@ class Script:
         lines = [line for line in text.split("\n") if line and not line.startswith("#")]
         words = lines[0].split(" ")
         self.inodes, self.zones, self.journal = int(words[2]), int(words[4]), int(words[6])
-        self.tags = int(words[8]) if words[7:8] == ["tags"] else 32
+        self.names = calls.names_by(lines[0])
+        self.tags = int(words[-1]) if words[-2] == "tags" else 32
         self.blocks = self.zones + self.journal
         self.depth, self.queue, self.limit, self.cut, self.elevator, self.flash = 32, 32, 20_000, None, False, None
         self.threads, self.events = [], []
@@ -120,7 +121,7 @@ def device_of(script):
 class Session:
     def __init__(self, script):
         self.script, self.threads = script, script.threads
-        self.places = Places(script.inodes, script.zones)
+        self.places = Places(script.inodes, script.zones, script.names)
         self.running, self.phase = Running(1), "idle"
         self.closing, self.plan = None, []
         self.pages = {}

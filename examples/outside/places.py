@@ -6,7 +6,6 @@ import calls
 
 TABLE_INODES = 32  # inodes in a block of the table
 MAP_BITS = 8192  # bits in a block of a map
-SLOTS = 64  # slots in a block of a directory
 DIRECT, NUMBERS = 7, 512  # zones in an inode, and in a zone of numbers
 
 
@@ -51,8 +50,9 @@ class Node:
 
 
 class Places:
-    def __init__(self, inodes, zones):
-        self.volume = calls.Volume(inodes, zones)
+    def __init__(self, inodes, zones, names):
+        self.volume = calls.Volume(inodes, zones, names)
+        self.block_slots = calls.block_slots(names)
         self.inodes, self.zones = inodes, zones
         self.maps = -(-(zones + 1) // MAP_BITS)
         self.inode_map = 2
@@ -93,7 +93,7 @@ class Places:
     def wanted(self, number):
         """The indices that a node maps."""
         node = self.volume.nodes[number]
-        return set(range(-(-len(node.slots) // SLOTS))) if node.is_directory else set(node.blocks)
+        return set(range(-(-len(node.slots) // self.block_slots))) if node.is_directory else set(node.blocks)
 
     def sign(self, number):
         """A node's size, zones and slots."""
@@ -191,7 +191,7 @@ class Places:
                     inode.append((entry, zone))
                 else:
                     found[where, entry] = zone
-            size = 16 * len(node.slots) if node.is_directory else node.size
+            size = self.volume.size_of(node)
             found[self.table + at // TABLE_INODES, at] = (node.is_directory, node.links, size, tuple(sorted(inode)))
             found[self.inode_map + place.inode // MAP_BITS, place.inode] = 1
             for zone in [*place.data.values(), *place.numbers()]:
@@ -200,7 +200,7 @@ class Places:
             if node.is_directory:
                 for slot, name in enumerate(node.slots):
                     if name is not calls.FREE:
-                        found[place.data[slot // SLOTS], slot] = (name, self.slot_inode(node, name))
+                        found[place.data[slot // self.block_slots], slot] = (name, self.slot_inode(node, name))
         return found
 
     def note_blocks(self, change):

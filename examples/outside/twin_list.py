@@ -19,7 +19,12 @@ twin("calls", "write-shrinks", "a write sets the size to its end, also where the
      "calls", "node.size = max(node.size, end)", "node.size = end")
 twin("calls", "links-249", "a file or directory has at most 249 links", "calls", "MOST_LINKS = 250", "MOST_LINKS = 249")
 twin("calls", "links-251", "a file or directory has up to 251 links", "calls", "MOST_LINKS = 250", "MOST_LINKS = 251")
-twin("calls", "name-of-13", "a name has at most 13 bytes", "calls", "NAME_BYTES = 14", "NAME_BYTES = 13")
+twin("calls", "name-of-13", "a name has at most a byte less than it may", "calls", "if len(name) > self.names:", "if len(name) >= self.names:")
+twin("calls", "name-of-15", "a name of 15 bytes is too long, also where they have up to 30", "calls", "if len(name) > self.names:", "if len(name) > NAMES:")
+twin("calls", "name-of-31", "a name may have a byte more", "calls", "if len(name) > self.names:", "if len(name) > self.names + 1:")
+twin("calls", "block-of-62-names", "a block of a directory has 64 slots, also of long names", "calls", "return BLOCK // slot_bytes(names)", "return BLOCK // slot_bytes(NAMES)")
+twin("calls", "slot-of-16", "the size of a directory counts 16 bytes a slot, also of long names", "calls",
+     "return slot_bytes(self.names) * len(node.slots)", "return slot_bytes(NAMES) * len(node.slots)")
 twin("calls", "largest-size", "the greatest size is one byte less", "calls", "LARGEST = 268_966_912", "LARGEST = 268_966_911")
 twin("calls", "cut-keeps-bytes", "a truncate leaves the bytes of the last block past the size",
      "calls", "node.blocks[last][:within] + bytes(BLOCK - within)", "node.blocks[last]")
@@ -37,7 +42,8 @@ twin("calls", "zone-less", "a new name that needs the last zone finds no space",
      "calls", "more + zones > self.free_zones()", "more + zones >= self.free_zones() and more + zones")
 twin("calls", "slot-not-reused", "a new name goes to the end, also where a slot is free",
      "calls", "        if FREE in directory.slots:\n            directory.slots[", "        if False:\n            directory.slots[")
-twin("calls", "slots-33215", "a directory has at most 33,215 slots", "calls", "MOST_SLOTS = 33_216", "MOST_SLOTS = 33_215",
+twin("calls", "slots-33215", "a directory has at most a slot less than it may", "calls",
+     "slots >= DIRECTORY_BLOCKS * block_slots(self.names) and", "slots >= DIRECTORY_BLOCKS * block_slots(self.names) - 1 and",
      row="examples/outside/full_directory, by hand")
 twin("calls", "rmdir-keeps-link", "a removed directory leaves its parent's links as they were", "calls", "        directory.links -= 1\n", "")
 twin("calls", "refusal-order", "no inode is tested before the slots and the links", "calls",

@@ -83,8 +83,11 @@ def placed(rng, line):
     return f"{word} {rng.choice([0, 0, 0, 1, 2, 3, 7])}{space}{rest}"
 
 
+LONG = [f"name-of-{count}-bytes-{'b' * 30}"[:count] for count in (14, 15, 30, 31)]
+
+
 def path(rng):
-    names = ["a", "b", "c", "dd"] * 6 + ["e.f", "name-of-14-byt", "name-of-15-byte", "..", "x_y"]
+    names = ["a", "b", "c", "dd"] * 7 + ["e.f", "..", "x_y", *LONG]
     parts = [rng.choice(names) for _ in range(rng.choice([1, 1, 1, 2, 2, 3]))]
     return "/" + "/".join(parts) if rng.random() < 0.93 else rng.choice(["/", "a", "//", "/a/"])
 
@@ -130,6 +133,9 @@ def many_names(rng):
     if kind == "directories":
         return ["mkdir /m", *(f"mkdir /m/{at}" for at in range(count)), "stat /m", "rmdir /m/7", "mkdir /m/new", "stat /m"]
     lines = ["mkdir /m", "create /m/0", *(f"link /m/0 /m/{at}" for at in range(1, count)), "stat /m/0"]
+    if kind == "slots" and rng.random() < 0.3:
+        # seven blocks of slots of long names
+        return ["mkdir /m", "create /m/0", *(f"link /m/0 /m/{at}" for at in range(1, rng.randint(218, 226))), "stat /m", "sync", "stat /m"]
     if kind == "slots":
         lines += ["create /m/x0", *(f"link /m/x0 /m/x{at}" for at in range(1, rng.randint(190, 205)))]
         lines += ["stat /m", "create /f", *(f"write /f {1024 * at} 1024 77" for at in range(rng.choice([0, 35])))]
@@ -142,13 +148,17 @@ def moved_names(rng):
         count = rng.randint(246, 249)
         return ["mkdir /m", *(f"mkdir /m/{at}" for at in range(count)), "mkdir /x", "create /y", "mkdir /z",
                 "rename /x /m/x", "rename /y /m/y", "rename /z /m/z", "rename /m/3 /w", "rename /z /m/z", "stat /m", "stat /"]
-    count = rng.choice([61, 62, 63, 125, 126])
+    count = rng.choice([29, 30, 31, 61, 62, 63, 125, 126])
     moves = [f"rename /m/{rng.randrange(count)} /{rng.choice(['m/', '', 'k/'])}{rng.choice('pqrs')}" for _ in range(rng.randint(5, 30))]
     return ["create /p", "mkdir /m", "mkdir /k", "create /m/0", *(f"link /m/0 /m/{at}" for at in range(1, count)), *moves, "stat /m", "stat /k"]
 
 
 def first_line(rng, inodes, zones, journal):
-    return f"volume inodes {inodes} zones {zones} journal {journal}{rng.choice(['', '', ' tags 64'])}"
+    return f"volume inodes {inodes} zones {zones} journal {journal}{width(rng)}{rng.choice(['', '', ' tags 64'])}"
+
+
+def width(rng):
+    return rng.choice(["", " names 30"])
 
 
 def stack_lines(rng):
@@ -256,7 +266,7 @@ def cut_script(rng):
     if kind == "long":
         script += [f"round {rng.choice([300, 1500, 5000])}", *session_events(rng, threads)] if rng.random() < 0.5 else slow_rounds(rng)
     script += [recover_line(rng) for _ in range(rng.choice([0, 0, 1, 3]))]
-    return "\n".join(script) + "\n", inodes, zones
+    return "\n".join(script) + "\n"
 
 
 VOLUME = "volume inodes 4 zones 40 journal 128"
@@ -266,20 +276,20 @@ def limit_lines(rng, past):
     """A script's parts at a limit, or past it by one where `past` is 1: those before the events, and those from there on."""
     number = lambda least, most: rng.choice([least - (past and least > 0), most + past])  # noqa: E731
     event = rng.choice(["transfer 0", "persist 1", "receive"])
-    volume = lambda *calls: [VOLUME, "cut 0", *calls]  # noqa: E731
+    volume = lambda *calls: [VOLUME + width(rng), "cut 0", *calls]  # noqa: E731
     return rng.choice([
         lambda: ([f"{rng.choice(['device', 'blocks'])} {number(1, 4096)}"], []),
         lambda: (["blocks 3", f"{rng.choice(['depth', 'queue'])} {number(1, 64)}"], []),
         lambda: ([f"{rng.choice(['device', 'blocks'])} 3", f"flash {number(3, 64)}"], []),
-        lambda: ([VOLUME, rng.choice([f"seed {number(0, 1_000_000_000)}", f"limit {number(1, 200_000)}", f"cut {number(0, 1_000_000_000)}"])], []),
+        lambda: ([VOLUME + width(rng), rng.choice([f"seed {number(0, 1_000_000_000)}", f"limit {number(1, 200_000)}", f"cut {number(0, 1_000_000_000)}"])], []),
         lambda: (["device 5", f"put {4 + past} 00 free"], []),
         lambda: (["device 5", *["put 1 00 free"] * (10_000 + past)], []),
         lambda: (["device 5"], [f"{event} x {number(1, 1_000_000)}"]),
         lambda: (["device 5"], [f"{event} x 1000000"] * 20 + [event] * past),
         lambda: (["device 5"], [f"persist {4_294_967_295 + past}"]),
-        lambda: ([f"volume inodes {number(1, 65_535)} zones 65535 journal 128", "cut 0"], []),
-        lambda: ([f"volume inodes 1 zones {number(6, 65_535)} journal 128", "cut 0"], []),
-        lambda: ([f"volume inodes 1 zones 6 journal {number(128, 16_384)}", "cut 0"], []),
+        lambda: ([f"volume inodes {number(1, 65_535)} zones 65535 journal 128{width(rng)}", "cut 0"], []),
+        lambda: ([f"volume inodes 1 zones {number(6, 65_535)} journal 128{width(rng)}", "cut 0"], []),
+        lambda: ([f"volume inodes 1 zones 6 journal {number(128, 16_384)}{width(rng)}", "cut 0"], []),
         lambda: (volume(*(f"thread {at}" for at in range(1, 17 + past))), []),
         lambda: (volume("thread 1", *["sync"] * (10_000 + past)), []),
         lambda: (volume("thread 1", f"write /a 0 {number(1, 65_536)} 11"), []),
@@ -328,15 +338,16 @@ def session_case(rng):
 
 
 def cut_case(rng):
-    script, inodes, zones = cut_script(rng)
-    return Case(script, lambda printed: crash_fault(inodes, zones, printed) or difference(printed, host.report(script)))
+    script = cut_script(rng)
+    return Case(script, lambda printed: crash_fault(script.partition("\n")[0], printed) or difference(printed, host.report(script)))
 
 
-def crash_fault(inodes, zones, printed):
-    """What a report of a cut session breaks, or none; a report that is none is wrong too."""
+def crash_fault(first, printed):
+    """What the report of a cut session, by the first line of its script, breaks, or none; a report that is none is wrong
+    too."""
     if not printed.startswith("steps "):
         return f"this is no report: {printed[:200]}"
-    return crashes.fault(inodes, zones, printed)
+    return crashes.fault(first, printed)
 
 
 def difference(printed, wanted):
