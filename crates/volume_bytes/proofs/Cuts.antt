@@ -90,7 +90,7 @@ module _ (tx : ℕ) (v : VolumeNow) (h : IsInUse v) (nodes : List (ℕ × Placed
       (In-append_cases (zones_of gone) numbers z i)
     where
       part : IsFilePart v.contents.blocks p.inode zones
-      part = subst (IsPart v.contents.blocks p.inode) is (h.volume.0.each n p at).part
+      part = subst (IsPart v.geometry v.contents.blocks p.inode) is (h.volume.0.each n p at).part
 
       used : (x : Place) (z : ℕ) → zone_in v.contents.blocks p.inode x ≡ z → z ≢ 0 → state_of v.zones z ≡ Some states.Used
       used x z e some = (h.used z).1 (record { birth = n; placed = p; place = x; stands = at; zone_is = e; some = some })

@@ -114,7 +114,7 @@ module _ (v : VolumeNow) (h : IsInUse v) (nodes : List (ℕ × Placed)) (n : ℕ
   own x = zone_in blocks p.inode x
 
   part : IsFilePart blocks p.inode zones
-  part = subst (IsPart blocks p.inode) is (h.volume.0.each n p at).part
+  part = subst (IsPart v.geometry blocks p.inode) is (h.volume.0.each n p at).part
 
   abbrev start : Work
   start = work_of v nodes n p zones (index ∷ later) t
