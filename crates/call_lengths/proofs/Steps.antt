@@ -3,6 +3,7 @@ use Rattle.std.proofs.Common.{ℕ, ◌+◌, ◌*◌, ◌/◌, ◌%◌, ◌-◌, 
 use Rattle.std.specs.List.{list_any, slice_get}
 use Rattle.std.proofs.lemmas.List.{length-map}
 use Rattle.byte_fields.specs.Fields.{zeros}
+use Rattle.minix_layout.specs.Widths.{slot_size, slots_a_block}
 use Rattle.minix_layout.specs.declared.division.Geometry.{Geometry}
 use Rattle.minix_layout.specs.declared.slot.Slot.{Slot}
 use Rattle.volume_ops.specs.declared.found.Mapped.{Mapped}
@@ -134,10 +135,10 @@ map_file_few v n p zones content index =
 -- ---- names
 
 pub make_room_few : (v : VolumeNow) (n : ℕ) → Few 11 0 (make_room v n).touched
-make_room_few v n = directory_few 11 0 v n _ (λ p d. if_few 11 0 _ _ (unchanged v) (map_directory_few v n p d (length d.slots / 64)) (none_few 11 0))
+make_room_few v n = directory_few 11 0 v n _ (λ p d. if_few 11 0 _ _ (unchanged v) (map_directory_few v n p d (length d.slots / slots_a_block v.geometry.width)) (none_few 11 0))
 
 slot_few : (v : VolumeNow) (n : ℕ) (p : Placed) (k : ℕ) (next : DirectoryPart) → Few 3 0 (tells_node n (slot_told v p k next))
-slot_few v n p k next = let told = told_few v.geometry p (with_size p.inode (16 * length next.slots)) in record { noted = omega (arith, told); written = omega arith }
+slot_few v n p k next = let told = told_few v.geometry p (with_size p.inode (slot_size v.geometry.width * length next.slots)) in record { noted = omega (arith, told); written = omega arith }
 
 pub put_name_few : (v : VolumeNow) (n : ℕ) (name : List ℕ) (birth : ℕ) → Few 3 0 (put_name_slot v n name birth).touched
 put_name_few v n name birth = directory_few 3 0 v n _ (λ p d. node_few 3 0 v birth _ (λ child. slot_few v n p _ (with_name d (record { inode = child.number; name = name }) birth)))
