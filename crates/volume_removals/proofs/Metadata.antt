@@ -5,6 +5,7 @@ use Rattle.std.specs.List.{range_with_len}
 use Rattle.std.proofs.Common.{sym, ap, ◌∙◌, length, arith}
 use Rattle.std.proofs.lemmas.List.{append_assoc}
 use Rattle.std.proofs.lemmas.Option.{same_Some}
+use Rattle.minix_layout.specs.Widths.{slots_a_block}
 use Rattle.tree_model.specs.Maps.{at_number}
 use Rattle.volume_ops.specs.declared.found.Mapped.{Mapped}
 use Rattle.volume_model.specs.declared.placed.Placed.{Placed}
@@ -40,7 +41,7 @@ numbers_all c p =
 
 abbrev metadata_by : (Place → ℕ) → Part → List ℕ
 metadata_by own (parts.File zones) = numbers_by own
-metadata_by own (parts.Directory d) = map (λ index. own (block index)) (range_with_len 0 (div_ceil (length d.slots) 64)) ++ numbers_by own
+metadata_by own (parts.Directory d) = map (λ index. own (block index)) (range_with_len 0 (div_ceil (length d.slots) (slots_a_block d.width))) ++ numbers_by own
 
 metadata_as : (c : Contents) (p : Placed) (part : Part) → metadata_gone c p part ≡ metadata_by (λ x. zone_in c.blocks p.inode x) part
 metadata_as c p (parts.File zones) = refl
@@ -62,14 +63,14 @@ module _ (v w : VolumeNow) (birth : ℕ) (q p : Placed) where
       ∙ (numbers_all v.contents p ∙ sym (ap (metadata_gone v.contents p) (ap (λ (p : Placed). p.part) (sym same) ∙ is))))
 
   pub directory_metadata : (d : DirectoryPart) (numbers zones all : List ℕ) (count slots : ℕ) → w ≡ v → at_number w.contents.nodes birth ≡ Some q → at_number v.contents.nodes birth ≡ Some p → q.part ≡ parts.Directory d →
-      numbers ≡ numbers_cut w.contents.blocks q.inode no_place → zones ≡ map (λ index. zone_in w.contents.blocks q.inode (block index)) (range_with_len 0 count) → count ≡ div_ceil slots 64 → slots ≡ length d.slots →
+      numbers ≡ numbers_cut w.contents.blocks q.inode no_place → zones ≡ map (λ index. zone_in w.contents.blocks q.inode (block index)) (range_with_len 0 count) → count ≡ div_ceil slots (slots_a_block d.width) → slots ≡ length d.slots →
       all ≡ zones ++ numbers → all ≡ metadata_gone v.contents p p.part
   directory_metadata d numbers zones all count slots e found at is listed zones_are count_is slots_are all_is =
       let same = same_Some q p (sym found ∙ (ap (λ (v : VolumeNow). at_number v.contents.nodes birth) e ∙ at)) in
       all_is
       ∙ ((λ i. zones_are i ++ listed i)
-      ∙ ((λ i. map (λ index. zone_in (e i).contents.blocks (same i).inode (block index)) (range_with_len 0 ((count_is ∙ ap (λ n. div_ceil n 64) slots_are) i)) ++ numbers_cut (e i).contents.blocks (same i).inode no_place)
-      ∙ (ap (λ (numbers : List ℕ). map (λ index. zone_in v.contents.blocks p.inode (block index)) (range_with_len 0 (div_ceil (length d.slots) 64)) ++ numbers) (numbers_all v.contents p)
+      ∙ ((λ i. map (λ index. zone_in (e i).contents.blocks (same i).inode (block index)) (range_with_len 0 ((count_is ∙ ap (λ n. div_ceil n (slots_a_block d.width)) slots_are) i)) ++ numbers_cut (e i).contents.blocks (same i).inode no_place)
+      ∙ (ap (λ (numbers : List ℕ). map (λ index. zone_in v.contents.blocks p.inode (block index)) (range_with_len 0 (div_ceil (length d.slots) (slots_a_block d.width))) ++ numbers) (numbers_all v.contents p)
       ∙ sym (ap (metadata_gone v.contents p) (ap (λ (p : Placed). p.part) (sym same) ∙ is)))))
 
 -- ---- zones that are listed by index

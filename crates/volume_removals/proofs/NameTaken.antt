@@ -1,5 +1,5 @@
 -- A name that goes out of its directory: what the code did is the step.
-use Rattle.std.specs.Prelude.{◌≡◌, ◌≢◌, ◌/◌, ◌%◌, ◌<◌, ◌^◌, ℕ, List, [], ◌∷◌, Option, Some, None, refl}
+use Rattle.std.specs.Prelude.{◌≡◌, ◌≢◌, ◌*◌, ◌/◌, ◌%◌, ◌<◌, ◌^◌, ℕ, length, List, [], ◌∷◌, Option, Some, None, refl}
 use Rattle.std.specs.BTreeMap.{is_at}
 use Rattle.std.specs.List.{slice_get}
 use Rattle.std.specs.Map.{set_value}
@@ -8,6 +8,8 @@ use Rattle.std.proofs.Common.{sym, ap, subst, ◌∙◌, arith}
 use Rattle.std.proofs.lemmas.List.{length-set}
 use Rattle.std.proofs.lemmas.Option.{same_Some, none-some}
 use Rattle.blk_base.specs.laws.Members.{slice_get-length}
+use Rattle.minix_layout.specs.Widths.{slot_size, slots_a_block}
+use Rattle.minix_layout.specs.laws.Places.{IsForm, narrow, wide, form_is}
 use Rattle.dir_ops.specs.Slots.{place_of}
 use Rattle.dir_ops.specs.laws.Found.{found, no_slot}
 use Rattle.minix_layout.specs.declared.slot.Slot.{Slot}
@@ -28,13 +30,18 @@ use Rattle.volume_names.proofs.Changed.{volume_of}
 use Rattle.volume_removals.specs.code.Naming.{CanTake, HasSlot, slot_change, without_slot}
 use Rattle.volume_removals.proofs.SlotWritten.{slot_is_written}
 
+-- a place of a directory lies in a block that a number of 32 bits tells
+place_small : (size per : ℕ) → IsForm size per → (at slots bytes : ℕ) → at < slots → bytes ≡ size * slots → bytes < 2 ^ 32 → at / per < 2 ^ 32
+place_small size per narrow at slots bytes low is fits = omega arith
+place_small size per wide at slots bytes low is fits = omega arith
+
 -- a directory of a volume in use has a slot for each of its names
 module _ (v : VolumeNow) (n : ℕ) (name : List ℕ) (h : CanTake v n name) where
   pub taken_names : HasNames v.contents.nodes h.place.part
   taken_names = h.in_use.volume.0.names n h.place.placed h.place.part h.place.stands h.place.is
 
-  pub taken_part : IsDirectoryPart v.contents.blocks h.place.placed.inode h.place.part
-  taken_part = subst (IsPart v.contents.blocks h.place.placed.inode) h.place.is (h.in_use.volume.0.each n h.place.placed h.place.stands).part
+  pub taken_part : IsDirectoryPart v.geometry v.contents.blocks h.place.placed.inode h.place.part
+  taken_part = subst (IsPart v.geometry v.contents.blocks h.place.placed.inode) h.place.is (h.in_use.volume.0.each n h.place.placed h.place.stands).part
 
   pub somewhere : (at : ℕ) × (place_of h.place.part.slots name ≡ Some at)
   somewhere = by (place_of h.place.part.slots name) refl
@@ -46,6 +53,7 @@ module _ (v : VolumeNow) (n : ℕ) (name : List ℕ) (h : CanTake v n name) wher
   abbrev pub has_slot : HasSlot v n name
   has_slot = record {
     order = h.in_use.volume.0.in_order;
+    width = h.in_use.sound.width;
     placed = h.place.placed;
     part = h.place.part;
     stands = h.place.stands;
@@ -82,12 +90,10 @@ module _ (v : VolumeNow) (n : ℕ) (name : List ℕ) (h : HasSlot v n name) wher
   same_place at e = (let f = found d.slots name at e in h.once at (place_in_slots name d.slots) f.0 slot.slot f.1 slot.stands (f.2 ∙ sym slot.name_is))
 
   -- it lies in a block that a number of 32 bits tells
-  pub place_fits : (at : ℕ) → place_of d.slots name ≡ Some at → at / 64 < 2 ^ 32
+  pub place_fits : (at : ℕ) → place_of d.slots name ≡ Some at → at / slots_a_block v.geometry.width < 2 ^ 32
   place_fits at e =
       let low = slice_get-length d.slots at (Some (found d.slots name at e).0) (found d.slots name at e).1 in
-      let size = h.size in
-      let fits = h.fits in
-      omega arith
+      place_small (slot_size v.geometry.width) (slots_a_block v.geometry.width) (form_is v.geometry.width) at (length d.slots) p.inode.size low h.size h.fits
 
   abbrev k : ℕ
   k = place_in_slots name d.slots
@@ -112,11 +118,11 @@ module _ (v : VolumeNow) (n : ℕ) (name : List ℕ) (h : HasSlot v n name) wher
   -- ---- of what was found at the birth
 
   module _ (q : Placed) (e : DirectoryPart) (found : at_number v.contents.nodes n ≡ Some q) (is : q.part ≡ parts.Directory e) where
-    pub place_in : (at : ℕ) → place_of e.slots name ≡ Some at → at / 64 < 2 ^ 32
+    pub place_in : (at : ℕ) → place_of e.slots name ≡ Some at → at / slots_a_block v.geometry.width < 2 ^ 32
     place_in at place = place_fits at (ap (λ (d : DirectoryPart). place_of d.slots name) (same_part q e found is) ∙ place)
 
     pub taken_at : (at zone : ℕ) (after : DirectoryPart) (first : List (List ℕ)) (nodes : List (ℕ × Placed)) (before touched : Touched) → place_of e.slots name ≡ Some at → after ≡ without_slot e at name →
-        zone ≡ zone_in v.contents.blocks q.inode (block (at / 64)) → first ≡ edited v.geometry v.contents.blocks (put_slot zone (at % 64) None) →
+        zone ≡ zone_in v.contents.blocks q.inode (block (at / slots_a_block v.geometry.width)) → first ≡ edited v.geometry v.contents.blocks (put_slot zone (at % slots_a_block v.geometry.width) None) →
         nodes ≡ set_value (is_at (nat_cmp n)) v.contents.nodes (record { number = q.number; inode = q.inode; part = parts.Directory after }) →
         touched ≡ and_then before (tells_node n (zone ∷ [])) → After before (take_name v n name) (volume_of v.geometry first nodes v.zones) touched
     taken_at at zone after first nodes before touched place after_is zone_is first_is set told =
@@ -126,7 +132,7 @@ module _ (v : VolumeNow) (n : ℕ) (name : List ℕ) (h : HasSlot v n name) wher
         subst (λ c. After before c (volume_of v.geometry first nodes v.zones) touched) (sym takes_slot)
         (slot_is_written v n p d h.order h.stands h.size k None (without_slot d k name) (length-set d.slots k None) zone after first nodes before touched
         (after_is ∙ (λ i. without_slot (part i) (here i) name))
-        (zone_is ∙ (λ i. zone_in v.contents.blocks (same i).inode (block (here i / 64))))
-        (first_is ∙ ap (λ at. edited v.geometry v.contents.blocks (put_slot zone (at % 64) None)) here)
+        (zone_is ∙ (λ i. zone_in v.contents.blocks (same i).inode (block (here i / slots_a_block v.geometry.width))))
+        (first_is ∙ ap (λ at. edited v.geometry v.contents.blocks (put_slot zone (at % slots_a_block v.geometry.width) None)) here)
         (set ∙ ap (λ (p : Placed). set_value (is_at (nat_cmp n)) v.contents.nodes (record { number = p.number; inode = p.inode; part = parts.Directory after })) same)
         told)

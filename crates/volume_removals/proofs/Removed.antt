@@ -73,7 +73,7 @@ module _ (v : VolumeNow) (birth parent : ℕ) (name : List ℕ) (h : MayRmdir v 
     in_use : IsInUse last
     in_use = fewer_in_use u (less_in_use v parent name takes) parent parent_at.placed parent_at.stands parent_at.few
 
-    slot_zones : HasSlotZones last.contents.blocks p.inode (length h.part.slots)
+    slot_zones : HasSlotZones v.geometry last.contents.blocks p.inode (length h.part.slots)
     slot_zones = fewer_slotted u (less_in_use v parent name takes) parent parent_at.placed parent_at.stands parent_at.few (less_slotted v parent name takes (slotted_before v h.plain)) birth p h.part stands h.is (λ z. z)
 
     module _ (z : VolumeNow) (unlinked : z ≡ (set_links w parent (λ links. links - 1)).volume) where

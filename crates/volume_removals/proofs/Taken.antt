@@ -72,7 +72,7 @@ module _ (v : VolumeNow) (n : ℕ) (name : List ℕ) (h : CanTake v n name) wher
   pub less_settled : IsSettled v.contents → IsSettled less.volume.contents
   less_settled = taken_settled 0 v h.in_use n p h.place.stands h.place.part h.place.is name h.birth h.place.named h.sorted
 
-  pub less_slotted : AreSlotted (λ a. ⊥) v.contents → AreSlotted (λ a. ⊥) less.volume.contents
+  pub less_slotted : AreSlotted v.geometry (λ a. ⊥) v.contents → AreSlotted v.geometry (λ a. ⊥) less.volume.contents
   less_slotted = taken_slotted 0 v h.in_use n p h.place.stands h.place.part h.place.is name h.birth h.place.named h.sorted
 
   -- another node stands there
@@ -99,7 +99,7 @@ module _ (v : VolumeNow) (h : IsInUse v) (n : ℕ) (p : Placed) (at : at_number 
   pub fewer_in_use : IsInUse fewer_links.volume
   fewer_in_use = (linked_steady 0 v h n p at (p.inode.links - 1) fewer).in_use
 
-  pub fewer_slotted : AreSlotted (λ a. ⊥) v.contents → AreSlotted (λ a. ⊥) fewer_links.volume.contents
+  pub fewer_slotted : AreSlotted v.geometry (λ a. ⊥) v.contents → AreSlotted v.geometry (λ a. ⊥) fewer_links.volume.contents
   fewer_slotted = linked_slotted 0 v h n p at (p.inode.links - 1) fewer
 
   pub fewer_stands : (a : ℕ) (r : Placed) → a ≢ n → at_number v.contents.nodes a ≡ Some r → at_number fewer_links.volume.contents.nodes a ≡ Some r

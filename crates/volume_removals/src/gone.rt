@@ -9,7 +9,7 @@ ghost use Rattle.volume_steps.specs.Steps.{metadata_gone};
 ghost use Rattle.volume_removals.specs.code.Dropping.{no_place, blocks_in, HasFewSlots};
 
 use blk_base::{Image, NoMemory};
-use minix_layout::Inode;
+use minix_layout::{Inode, slots_a_block};
 use std::alloc::Global;
 use volume_edits::{CutZones, zones_cut};
 use volume_model::Part;
@@ -29,7 +29,8 @@ pub fn metadata_of(alloc: Global, v: &VolumeNow, birth: u64) -> Result<Vec<u16>,
     match &node.part {
         Part::File(_) => Ok(numbers),
         Part::Directory(directory) => {
-            let count = directory.slots.len().div_ceil(64) as u32;
+            let per = slots_a_block(directory.width) as usize;
+            let count = directory.slots.len().div_ceil(per) as u32;
             let mut zones = slot_zones(alloc, &v.blocks, &node.inode, count)?;
             zones.extend_from_slice(&numbers)?;
             Ok(zones)

@@ -5,7 +5,7 @@ ghost use Rattle.volume_steps.specs.Steps.{take_name};
 ghost use Rattle.volume_names.specs.code.Steps.{After};
 ghost use Rattle.volume_removals.specs.code.Naming.{HasSlot, without_slot};
 
-use minix_layout::Name;
+use minix_layout::{Name, slots_a_block};
 use volume_edits::put_slot;
 use volume_model::{DirectoryPart, Part};
 use volume_now::{Touched, VolumeNow, block_zone};
@@ -26,8 +26,9 @@ pub fn take_name(v: &mut VolumeNow, n: u64, name: &Name, touched: &mut Touched)
     let Some(at) = remove_name(directory, name) else {
         unreachable!();
     };
-    let zone = block_zone(&v.blocks, &placed.inode, (at / 64) as u32);
-    put_slot(&mut v.blocks, &v.geometry, zone, (at % 64) as u8, None);
+    let per = slots_a_block(v.geometry.width) as usize;
+    let zone = block_zone(&v.blocks, &placed.inode, (at / per) as u32);
+    put_slot(&mut v.blocks, &v.geometry, zone, (at % per) as u8, None);
     touched.note_block(zone.into());
     touched.note_node(n);
 }

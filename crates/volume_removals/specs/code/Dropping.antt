@@ -3,6 +3,7 @@ use Rattle.std.specs.Prelude.{◌≡◌, ℕ, ◌<◌, ◌≤◌, Bool, List, []
 use Rattle.tree_model.specs.Maps.{at_number}
 use Rattle.volume_ops.specs.declared.found.Mapped.{Mapped}
 use Rattle.minix_layout.specs.Geometry.{IsSound}
+use Rattle.minix_layout.specs.Widths.{most_slots}
 use Rattle.volume_model.specs.declared.placed.Placed.{Placed}
 use Rattle.volume_model.specs.declared.placed.Part.{Part}
 use Rattle.volume_model.specs.declared.placed.Part.TheVariants as parts
@@ -12,7 +13,6 @@ use Rattle.volume_model.specs.Volume.{Place}
 use Rattle.volume_steps.specs.Now.{VolumeNow}
 use Rattle.volume_steps.specs.Steps.{metadata_gone}
 use Rattle.volume_bytes.specs.code.Cutting.{MayGive}
-use Rattle.minix_layout.specs.declared.limits.TheConstants.{MOST_SLOTS}
 
 -- of a file of which nothing is left no place stays
 abbrev pub no_place : Place → Bool
@@ -25,7 +25,7 @@ blocks_in (parts.Directory d) = []
 
 -- a directory has at most 519 zones of slots
 pub record HasFewSlots (v : VolumeNow) (birth : ℕ) : Type 0 where
-  pub few : (p : Placed) (d : DirectoryPart) → at_number v.contents.nodes birth ≡ Some p → p.part ≡ parts.Directory d → length d.slots ≤ MOST_SLOTS
+  pub few : (p : Placed) (d : DirectoryPart) → at_number v.contents.nodes birth ≡ Some p → p.part ≡ parts.Directory d → length d.slots ≤ most_slots v.geometry.width
 
 -- a node stands, these of its zones are metadata, and all its zones are in use when their turn comes
 pub record MayDrop (v : VolumeNow) (tx n : ℕ) (metadata : List ℕ) : Type 0 where

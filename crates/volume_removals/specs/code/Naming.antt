@@ -2,6 +2,7 @@
 use Rattle.std.specs.Prelude.{◌≡◌, ◌<◌, ◌*◌, ◌^◌, ℕ, List, length, slice_set, Option, Some, None}
 use Rattle.std.specs.List.Sorted.{IsStrictlySortedBy}
 use Rattle.std.specs.Map.{keys_of}
+use Rattle.minix_layout.specs.Widths.{IsWidth, slot_size}
 use Rattle.minix_layout.specs.declared.slot.Slot.{Slot}
 use Rattle.dir_ops.specs.Slots.{place_of, NamesStandOnce}
 use Rattle.tree_model.specs.Maps.{at_number, name_cmp}
@@ -17,7 +18,7 @@ use Rattle.volume_removals.specs.May.{HasName}
 
 -- the directory without a name, and slot `at` is free
 abbrev pub without_slot : DirectoryPart → ℕ → List ℕ → DirectoryPart
-without_slot d at name = record { parent = d.parent; names = without d.names name; slots = slice_set d.slots at None }
+without_slot d at name = record { parent = d.parent; width = d.width; names = without d.names name; slots = slice_set d.slots at None }
 
 -- slot k of a directory is written, and this is the directory then
 abbrev pub slot_change : VolumeNow → ℕ → Placed → ℕ → Option Slot → DirectoryPart → Change
@@ -26,11 +27,12 @@ slot_change v n p k o next = record { volume = with_contents v (slot_put v.geome
 -- A directory of this size has a slot of the name, in memory. What its blocks say is another matter.
 pub record HasSlot (v : VolumeNow) (n : ℕ) (name : List ℕ) : Type 0 where
   pub order : InOrder v.contents.nodes
+  pub width : IsWidth v.geometry.width
   pub placed : Placed
   pub part : DirectoryPart
   pub stands : at_number v.contents.nodes n ≡ Some placed
   pub is : placed.part ≡ parts.Directory part
-  pub size : placed.inode.size ≡ 16 * length part.slots
+  pub size : placed.inode.size ≡ slot_size v.geometry.width * length part.slots
   pub fits : placed.inode.size < 2 ^ 32
   pub once : NamesStandOnce part.slots
   pub place : ℕ
