@@ -1,5 +1,5 @@
 -- A node that gets a name in another directory.
-use Rattle.std.specs.Prelude.{◌≡◌, ◌≢◌, ◌<◌, ◌^◌, ℕ, List, Some, None}
+use Rattle.std.specs.Prelude.{◌≡◌, ◌<◌, ◌^◌, ℕ, List, Some, None}
 use Rattle.std.proofs.Common.{sym, ap, subst, ◌∙◌, arith}
 use Rattle.minix_layout.specs.declared.slot.Slot.{Slot}
 use Rattle.dir_ops.specs.Slots.{place_of}
@@ -20,8 +20,8 @@ use Rattle.volume_names.specs.declared.directories.NewSlot.{NewSlot}
 use Rattle.volume_names.specs.code.NewSlot.{new_slot}
 use Rattle.volume_names.specs.code.Steps.{MayWrite, entered, name_written}
 use Rattle.volume_names.proofs.Changed.{volume_of}
-use Rattle.volume_names.proofs.Creates.{good, free_slot, free_name}
-use Rattle.volume_names.proofs.NameRooms.{NameRoom, may_write}
+use Rattle.volume_names.proofs.Creates.{good, fits_volume, free_slot, free_name}
+use Rattle.volume_names.proofs.NameRooms.{NameRoom, wide, may_write}
 use Rattle.volume_names.proofs.Named.{named}
 use Rattle.volume_removals.specs.code.Naming.{CanTake, HasSlot}
 use Rattle.volume_removals.proofs.NameTaken.{has_slot}
@@ -94,7 +94,7 @@ module _ (v : VolumeNow) (from : ℕ) (name : List ℕ) (to : ℕ) (other : List
     apart = h.apart;
     free = h.place.free;
     no_dot = good_no_dot other good_name;
-    entry = good_entry other child.number good_name some fits;
+    entry = good_entry v.geometry.width other child.number h.leaves.plain.in_use.sound.width good_name (fits_volume v to other h.place h.leaves.plain.in_use) some fits;
     settled = less_settled v from name takes (settled_before v h.leaves.plain);
     slotted = less_slotted v from name takes (slotted_before v h.leaves.plain);
     left = h.place.left;
@@ -122,9 +122,10 @@ module _ (v : VolumeNow) (from : ℕ) (name : List ℕ) (to : ℕ) (other : List
         ∙ (takes_beside v from name (has_slot v from name takes) to q X h.away
         ∙ ap (λ (c : Change). record { volume = part_put c.volume to q X; touched = c.touched }) (less_is v from name takes))
 
-    pub may_be_written : (w : VolumeNow) → w ≡ (take_name entered_volume from name).volume → MayWrite w to at
+    pub may_be_written : (w : VolumeNow) → w ≡ (take_name entered_volume from name).volume → MayWrite w to slot at
     may_be_written w e =
-        subst (λ w. MayWrite w to at) (sym (e ∙ ap (λ (c : Change). c.volume) taken_is)) (subst (MayWrite (part_put v1 to q X) to) (sym place_is) (may_write v1 to other birth room))
+        subst (λ w. MayWrite w to slot at) (sym (e ∙ ap (λ (c : Change). c.volume) taken_is))
+        (subst (λ slot. MayWrite (part_put v1 to q X) to slot at) (sym slot_is) (subst (MayWrite (part_put v1 to q X) to s) (sym place_is) (may_write v1 to other birth room)))
 
     -- the call as the code does it
     pub moved : followed_by (take_name entered_volume from name) (λ w. name_written w to slot at) ≡ move_in v from name to other birth
@@ -133,5 +134,5 @@ module _ (v : VolumeNow) (from : ℕ) (name : List ℕ) (to : ℕ) (other : List
         ∙ (ap (told_after (less v from name takes).touched)
         (ap (λ slot. name_written (part_put v1 to q X) to slot at) slot_is
         ∙ (ap (name_written (part_put v1 to q X) to s) place_is
-        ∙ named v1 to q d other birth child (less_in_use v from name takes).volume.0.in_order to_stands h.place.is child_stands h.apart))
+        ∙ named v1 to q d other birth child (less_in_use v from name takes).volume.0.in_order to_stands h.place.is child_stands h.apart (wide v1 to other birth room)))
         ∙ sym (ap (λ c. followed_by c (λ w. add_name w to other birth)) (less_is v from name takes)))

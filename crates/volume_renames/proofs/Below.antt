@@ -1,8 +1,9 @@
 -- A directory that gets another parent.
-use Rattle.std.specs.Prelude.{◌≡◌, ◌≢◌, ◌<◌, ◌≤◌, ◌-◌, ◌+◌, ◌*◌, ◌^◌, ℕ, suc, true, false, List, codes, length, Option, Some, None, refl}
+use Rattle.std.specs.Prelude.{◌≡◌, ◌<◌, ◌≤◌, ◌-◌, ◌+◌, ◌*◌, ℕ, false, List, codes, length, Option, Some, None, refl}
 use Rattle.std.proofs.Common.{sym, ap, subst, ◌∙◌, arith}
 use Rattle.std.proofs.lemmas.Option.{get_or_from_slice_get, same_Some}
 use Rattle.blk_base.specs.laws.Members.{slice_get-length}
+use Rattle.minix_layout.specs.Widths.{slot_size}
 use Rattle.minix_layout.specs.declared.slot.Slot.{Slot}
 use Rattle.dir_ops.specs.Slots.{has_name, place_of, slot_at}
 use Rattle.dir_ops.specs.laws.Found.{placed}
@@ -13,9 +14,8 @@ use Rattle.volume_model.specs.declared.placed.Part.{Part}
 use Rattle.volume_model.specs.declared.placed.Part.TheVariants as parts
 use Rattle.volume_model.specs.declared.placed.DirectoryPart.{DirectoryPart}
 use Rattle.volume_model.specs.Plain.{HasDots}
-use Rattle.volume_model.specs.Volume.{HasNames, IsPart, IsDirectoryPart}
+use Rattle.volume_model.specs.Volume.{IsPart}
 use Rattle.volume_model.specs.Moves.{back_told, slot_put, with_size}
-use Rattle.volume_model.specs.Touched.{and_then}
 use Rattle.volume_steps.specs.Now.{VolumeNow, Change, followed_by, tells_blocks, with_contents}
 use Rattle.volume_steps.specs.Steps.{at_node, take_name, add_name, set_links, set_parent, with_links, with_parent, inode_put, slot_told, tells_node}
 use Rattle.volume_steps.specs.Calls.{move_below}
@@ -28,14 +28,15 @@ use Rattle.volume_steps.proofs.SlotChanges.{parent_set, parent_is_set, set_paren
 use Rattle.volume_names.specs.declared.directories.NewSlot.{NewSlot}
 use Rattle.volume_names.specs.code.NewSlot.{new_slot}
 use Rattle.volume_names.specs.code.Steps.{MayWrite, entered, more_links, name_written}
-use Rattle.volume_names.proofs.NameRooms.{NameRoom, may_write}
+use Rattle.volume_names.proofs.Creates.{fits_volume}
+use Rattle.volume_names.proofs.NameRooms.{NameRoom, wide, may_write}
 use Rattle.volume_names.proofs.Named.{named}
-use Rattle.volume_removals.specs.code.Naming.{HasSlot, slot_change}
+use Rattle.volume_removals.specs.code.Naming.{HasSlot}
 use Rattle.volume_removals.proofs.Taken.{less, less_is, less_in_use, less_settled, less_slotted, fewer, fewer_links, fewer_is, fewer_in_use, fewer_slotted, fewer_stands}
 use Rattle.volume_renames.specs.May.{MayMoveAcross, MayMoveBelow}
 use Rattle.volume_renames.specs.code.Parts.{MayTurn, part_put}
-use Rattle.volume_renames.proofs.Across.{q, d, child, takes, s, X, v1, told_after, good_name, to_stands, child_stands, some, fits, entered_volume, taken_is, place_is}
-use Rattle.volume_renames.proofs.Parts.{inode_change, inode_beside, inode_over, slot_beside}
+use Rattle.volume_renames.proofs.Across.{q, d, child, takes, s, X, told_after, good_name, to_stands, child_stands, some, fits, entered_volume, taken_is, place_is}
+use Rattle.volume_renames.proofs.Parts.{inode_beside, inode_over, slot_beside}
 use Rattle.volume_renames.proofs.Taking.{slot_stays}
 
 -- ---- the slot of a parent
@@ -55,11 +56,12 @@ dots_second slots own parent h = placed slots (codes "..") 1 (slice_get-length s
 abbrev dots_slot : (v : VolumeNow) (h : IsInUse v) → IsSettled v.contents → (n : ℕ) (p : Placed) (e : DirectoryPart) → at_number v.contents.nodes n ≡ Some p → p.part ≡ parts.Directory e → HasSlot v n (codes "..")
 dots_slot v h old n p e at is = record {
   order = h.volume.0.in_order;
+  width = h.sound.width;
   placed = p;
   part = e;
   stands = at;
   is = is;
-  size = (subst (IsPart v.contents.blocks p.inode) is (h.volume.0.each n p at).part).size;
+  size = (subst (IsPart v.geometry v.contents.blocks p.inode) is (h.volume.0.each n p at).part).size;
   fits = (h.volume.0.each n p at).fits.size;
   once = (h.volume.0.names n p e at is).once;
   place = 1;
@@ -91,7 +93,7 @@ module _ (v : VolumeNow) (from : ℕ) (name : List ℕ) (to : ℕ) (other : List
   pub settled1 : IsSettled first.volume.contents
   settled1 = less_settled v from name (takes v from name to other birth h) (settled_before v h.leaves.plain)
 
-  pub slotted1 : AreSlotted (λ a. ⊥) first.volume.contents
+  pub slotted1 : AreSlotted v.geometry (λ a. ⊥) first.volume.contents
   slotted1 = less_slotted v from name (takes v from name to other birth h) (slotted_before v h.leaves.plain)
 
   -- ---- the old parent loses a link
@@ -117,7 +119,7 @@ module _ (v : VolumeNow) (from : ℕ) (name : List ℕ) (to : ℕ) (other : List
   pub settled2 : IsSettled second.volume.contents
   settled2 = linked_settled 0 first.volume in_use1 from old.node old.stands (old.node.inode.links - 1) (fewer first.volume in_use1 from old.node old.stands old.few) settled1
 
-  pub slotted2 : AreSlotted (λ a. ⊥) second.volume.contents
+  pub slotted2 : AreSlotted v.geometry (λ a. ⊥) second.volume.contents
   slotted2 = fewer_slotted first.volume in_use1 from old.node old.stands old.few slotted1
 
   pub child2 : at_number second.volume.contents.nodes birth ≡ Some C
@@ -137,7 +139,7 @@ module _ (v : VolumeNow) (from : ℕ) (name : List ℕ) (to : ℕ) (other : List
   pub settled3 : IsSettled third.volume.contents
   settled3 = (parent_is_set 0 second.volume in_use2 settled2 slotted2 birth C child2 m.part m.is to Q to2).settled
 
-  pub slotted3 : AreSlotted (λ a. ⊥) third.volume.contents
+  pub slotted3 : AreSlotted v.geometry (λ a. ⊥) third.volume.contents
   slotted3 = (parent_is_set 0 second.volume in_use2 settled2 slotted2 birth C child2 m.part m.is to Q to2).slotted
 
   pub to3 : at_number third.volume.contents.nodes to ≡ Some Q
@@ -161,7 +163,7 @@ module _ (v : VolumeNow) (from : ℕ) (name : List ℕ) (to : ℕ) (other : List
   up = record { inode = Q.number; name = codes ".." }
 
   abbrev C3 : Placed
-  C3 = record { number = C.number; inode = with_size C.inode (16 * length (with_parent m.part to up).slots); part = parts.Directory (with_parent m.part to up) }
+  C3 = record { number = C.number; inode = with_size C.inode (slot_size v.geometry.width * length (with_parent m.part to up).slots); part = parts.Directory (with_parent m.part to up) }
 
   pub child4 : at_number fourth.volume.contents.nodes birth ≡ Some C3
   child4 = at_put_number_apart third.volume.contents.nodes to Q4 birth h.apart ∙ at_put_number second.volume.contents.nodes birth C3
@@ -178,7 +180,7 @@ module _ (v : VolumeNow) (from : ℕ) (name : List ℕ) (to : ℕ) (other : List
     apart = h.apart;
     free = h.place.free;
     no_dot = good_no_dot other (good_name v from name to other birth h);
-    entry = good_entry other C3.number (good_name v from name to other birth h) (some v from name to other birth h) (fits v from name to other birth h);
+    entry = good_entry v.geometry.width other C3.number h.leaves.plain.in_use.sound.width (good_name v from name to other birth h) (fits_volume v to other h.place h.leaves.plain.in_use) (some v from name to other birth h) (fits v from name to other birth h);
     settled = linked_settled 0 third.volume in_use3 to Q to3 (Q.inode.links + 1) few3 settled3;
     slotted = linked_slotted 0 third.volume in_use3 to Q to3 (Q.inode.links + 1) few3 slotted3;
     left = h.place.left;
@@ -266,9 +268,10 @@ module _ (v : VolumeNow) (from : ℕ) (name : List ℕ) (to : ℕ) (other : List
     pub after_third : (w x : VolumeNow) → w ≡ W second.volume → x ≡ (set_parent w birth to).volume → x ≡ W third.volume
     after_third w x f e = e ∙ (ap (λ w. (set_parent w birth to).volume) f ∙ ap (λ (c : Change). c.volume) third_in)
 
-    pub may_be_written : (w x : VolumeNow) → w ≡ W third.volume → x ≡ (more_links w to).volume → MayWrite x to at
-    may_be_written w x f e = subst (λ x. MayWrite x to at) (sym (e ∙ (ap (λ w. (more_links w to).volume) f ∙ ap (λ (c : Change). c.volume) fourth_in)))
-        (subst (MayWrite (part_put fourth.volume to Q4 Y) to) (sym (place_is v from name to other birth h slot slot_is nodes nodes_are at at_is)) (may_write fourth.volume to other birth room))
+    pub may_be_written : (w x : VolumeNow) → w ≡ W third.volume → x ≡ (more_links w to).volume → MayWrite x to slot at
+    may_be_written w x f e = subst (λ x. MayWrite x to slot at) (sym (e ∙ (ap (λ w. (more_links w to).volume) f ∙ ap (λ (c : Change). c.volume) fourth_in)))
+        (subst (λ slot. MayWrite (part_put fourth.volume to Q4 Y) to slot at) (sym slot_is)
+        (subst (MayWrite (part_put fourth.volume to Q4 Y) to S) (sym (place_is v from name to other birth h slot slot_is nodes nodes_are at at_is)) (may_write fourth.volume to other birth room)))
 
     abbrev last_as : VolumeNow → Change
     last_as w = name_written w to slot at
@@ -277,7 +280,7 @@ module _ (v : VolumeNow) (from : ℕ) (name : List ℕ) (to : ℕ) (other : List
     written_in =
         ap (λ slot. name_written (part_put fourth.volume to Q4 Y) to slot at) slot_is
         ∙ (ap (name_written (part_put fourth.volume to Q4 Y) to S) (place_is v from name to other birth h slot slot_is nodes nodes_are at at_is)
-        ∙ named fourth.volume to Q4 D other birth C3 (linked_steady 0 third.volume in_use3 to Q to3 (Q.inode.links + 1) few3).in_use.volume.0.in_order to4 h.place.is child4 h.apart)
+        ∙ named fourth.volume to Q4 D other birth C3 (linked_steady 0 third.volume in_use3 to Q to3 (Q.inode.links + 1) few3).in_use.volume.0.in_order to4 h.place.is child4 h.apart (wide fourth.volume to other birth room))
 
     -- the call as the code does it
     pub moved_below :

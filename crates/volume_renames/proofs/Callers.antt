@@ -1,15 +1,14 @@
 -- What is asked before a rename holds where the tree does not refuse it, and as many zones are free as it needs.
 use Rattle.std.specs.Prelude.{◌≡◌, ◌≢◌, ◌<◌, ◌≤◌, ◌-◌, ◌+◌, ℕ, ◌==◌, Bool, true, false, not, ◌&&◌, is_none, if◌then◌else◌, List, length, Option, Some, None, unwrap_or, Result, Ok, Err, refl}
-use Rattle.std.proofs.Common.{sym, ap, subst, ◌∙◌, arith, eq-eqb, eqb-true}
+use Rattle.std.proofs.Common.{sym, ap, subst, ◌∙◌, arith}
 use Rattle.std.proofs.lemmas.Bool.{ne_eqb, true≢false}
 use Rattle.std.proofs.lemmas.Option.{none-some, same_Some}
 use Rattle.tree_model.specs.declared.call.Call.TheVariants as calls
 use Rattle.tree_model.specs.declared.call.Reply.{Reply}
 use Rattle.tree_model.specs.declared.call.Reply.TheVariants as replies
 use Rattle.tree_model.specs.declared.node.Node.{Node}
-use Rattle.tree_model.specs.declared.node.Node.TheVariants as nodes
 use Rattle.tree_model.specs.declared.node.Directory.{Directory}
-use Rattle.tree_model.specs.Calls.{Tree, Done, Found, Place, Move, changes_parent, directory_zones, is_full, is_file, most_links, moves_directory, names_in, outcome, parent_of, place_after, without_name, slots_with, stays, target_at, used_zones, walk, walk_path, and_then}
+use Rattle.tree_model.specs.Calls.{Tree, Done, Found, Place, Move, changes_parent, directory_zones, is_full, most_links, moves_directory, names_in, outcome, parent_of, place_after, without_name, slots_with, stays, target_at, used_zones, walk, walk_path, and_then}
 use Rattle.tree_model.specs.Maps.{at_number, at_name}
 use Rattle.tree_model.specs.Paths.{path_of}
 use Rattle.tree_model.specs.Plain.{IsPlain}
@@ -22,12 +21,12 @@ use Rattle.volume_model.specs.declared.placed.Placed.{Placed}
 use Rattle.volume_model.specs.declared.placed.Part.{Part}
 use Rattle.volume_model.specs.declared.placed.Part.TheVariants as parts
 use Rattle.volume_model.specs.declared.placed.DirectoryPart.{DirectoryPart}
-use Rattle.volume_model.specs.Trees.{directory_from, node_from, node_now}
+use Rattle.volume_model.specs.Trees.{directory_from, node_from}
 use Rattle.volume_steps.specs.Called.{FindsRoom}
 use Rattle.volume_steps.specs.Now.{VolumeNow, Change, tree_of_now, room_of, unchanged}
-use Rattle.volume_steps.specs.Calls.{at_found, at_place, changed, move_below, move_in, renamed, replace_in}
+use Rattle.volume_steps.specs.Calls.{at_place, changed, move_below, move_in, renamed, replace_in}
 use Rattle.volume_steps.proofs.Called.{needs_are}
-use Rattle.volume_steps.proofs.CallPaths.{DirectoryAt, directory_at, done_row, at_place_is}
+use Rattle.volume_steps.proofs.CallPaths.{DirectoryAt, directory_at, at_width, done_row}
 use Rattle.volume_steps.proofs.LinkCall.{FileAt, file_found}
 use Rattle.volume_steps.proofs.MkdirCall.{slots_grow}
 use Rattle.volume_steps.proofs.PlainNow.{tree_is_plain}
@@ -35,7 +34,6 @@ use Rattle.volume_steps.proofs.RenameTree.{Renames, renames, Met, none_met, file
 use Rattle.volume_steps.proofs.RenameZones.{rename_takes}
 use Rattle.volume_steps.proofs.Taking.{frees}
 use Rattle.volume_steps.proofs.TreeSteps.{tree_at, tree_back}
-use Rattle.volume_names.specs.May.{FreePlace}
 use Rattle.volume_renames.specs.May.{Leaves, MayMoveAcross, MayMoveBelow, MayMoveWithin, MayRename, MayReplace}
 use Rattle.volume_renames.specs.Renamed.{birth_named, is_directory as is_directory_part, is_directory_at, named_in, renamed_at, renamed_by}
 
@@ -109,6 +107,12 @@ module _ (v : VolumeNow) (n : ℕ) (path other : List ℕ) (d : Done) (room : Fi
   good : IsGoodName to.name
   good = good_name (tree_of_now v) other r.more to (some_ok (path_of other) replies.BadPath r.more r.also) (is_to (tree_of_now v) plain path other d r)
 
+  short : length to.name ≤ v.geometry.width
+  short =
+      let same = at_width v to.parent to.directory room.plain.in_use y in
+      let least = (is_to (tree_of_now v) plain path other d r).short in
+      omega arith
+
   -- the birth that has the new name
   pub named_is : birth_named v.contents.nodes to.parent to.name ≡ at_name to.directory.names to.name
   named_is =
@@ -138,7 +142,7 @@ module _ (v : VolumeNow) (n : ℕ) (path other : List ℕ) (d : Done) (room : Fi
     within same = record {
       leaves = leaves;
       word = good.plain;
-      short = good.short;
+      short = short;
       free = ap (λ (d : Directory). at_name d.names to.name) (x.same ∙ same_directory (tree_of_now v) plain path other d r (sym same)) ∙ none;
     }
 
@@ -151,16 +155,16 @@ module _ (v : VolumeNow) (n : ℕ) (path other : List ℕ) (d : Done) (room : Fi
           ∙ (sym (ap (λ (o : Option Found). is_none o && is_full (place_after m).directory) (no_target none)) ∙ r.left)
 
       abbrev needed : ℕ
-      needed = directory_zones (slots_with to.directory to.name) - directory_zones to.directory.slots
+      needed = directory_zones to.directory.width (slots_with to.directory to.name) - directory_zones to.directory.width to.directory.slots
 
-      grown : directory_zones to.directory.slots + needed ≡ directory_zones (slots_with to.directory to.name)
-      grown = so_many (directory_zones to.directory.slots) (directory_zones (slots_with to.directory to.name)) (slots_grow to.directory to.name)
+      grown : directory_zones to.directory.width to.directory.slots + needed ≡ directory_zones to.directory.width (slots_with to.directory to.name)
+      grown = so_many (directory_zones to.directory.width to.directory.slots) (directory_zones to.directory.width (slots_with to.directory to.name)) (slots_grow to.directory to.name)
 
       taken : needed ≡ used_zones d.tree - used_zones (tree_of_now v)
       taken = rename_takes (tree_of_now v) plain path other d r needed
           (λ e. absurd (true≢false (sym e ∙ ap (stays_by birth) (no_target none))))
           (λ t e. absurd (none-some t (sym (no_target none) ∙ e)))
-          (λ e. subst (λ (b : Bool). directory_zones (if b then to.directory else without_name to.directory from.name).slots + needed ≡ directory_zones (slots_with (if b then to.directory else without_name to.directory from.name) to.name)) (sym changes) grown)
+          (λ e. subst (λ (b : Bool). directory_zones (if b then to.directory else without_name to.directory from.name).width (if b then to.directory else without_name to.directory from.name).slots + needed ≡ directory_zones (if b then to.directory else without_name to.directory from.name).width (slots_with (if b then to.directory else without_name to.directory from.name) to.name)) (sym changes) grown)
 
       enough : needed ≤ frees v.zones
       enough = subst (λ k. k ≤ frees v.zones) (needs_are v n (calls.Rename path other) d done ∙ sym taken) room.enough
@@ -176,14 +180,14 @@ module _ (v : VolumeNow) (n : ℕ) (path other : List ℕ) (d : Done) (room : Fi
           stands = y.stands;
           is = y.is;
           word = good.plain;
-          short = good.short;
+          short = subst (λ (d : Directory). length to.name ≤ d.width) (sym y.same) (is_to (tree_of_now v) plain path other d r).short;
           free = free_here;
           left = ap is_full y.same ∙ left;
         };
-        zones = fits (directory_zones (slots_with (directory_from y.part) to.name)) (directory_zones (length y.part.slots)) (ap (λ (d : Directory). directory_zones (slots_with d to.name)) y.same) (ap (λ (d : Directory). directory_zones d.slots) y.same);
+        zones = fits (directory_zones y.part.width (slots_with (directory_from y.part) to.name)) (directory_zones y.part.width (length y.part.slots)) (ap (λ (d : Directory). directory_zones d.width (slots_with d to.name)) y.same) (ap (λ (d : Directory). directory_zones d.width d.slots) y.same);
       }
         where
-          fits : (a b : ℕ) → a ≡ directory_zones (slots_with to.directory to.name) → b ≡ directory_zones to.directory.slots → a + 0 ≤ b + frees v.zones
+          fits : (a b : ℕ) → a ≡ directory_zones to.directory.width (slots_with to.directory to.name) → b ≡ directory_zones to.directory.width to.directory.slots → a + 0 ≤ b + frees v.zones
           fits a b e f = (let all = grown in let few = enough in omega arith)
 
       below : is_directory_at v.contents.nodes birth ≡ true → MayMoveBelow v from.parent from.name to.parent to.name birth
@@ -235,7 +239,7 @@ module _ (v : VolumeNow) (n : ℕ) (path other : List ℕ) (d : Done) (room : Fi
                 named = ap (λ (d : Directory). at_name d.names to.name) y.same ∙ some;
               };
               word = good.plain;
-              short = good.short;
+              short = short;
               placed = file.placed;
               blocks = file.zones;
               stands = file.stands;

@@ -1,11 +1,12 @@
 -- A slot that leads to another inode: what the code did is the step.
-use Rattle.std.specs.Prelude.{◌≡◌, ◌/◌, ◌%◌, ℕ, List, [], ◌∷◌, codes, slice_set, Some, None}
+use Rattle.std.specs.Prelude.{◌≡◌, ◌≤◌, ◌/◌, ◌%◌, ℕ, List, [], ◌∷◌, length, codes, slice_set, Some, None}
 use Rattle.std.specs.BTreeMap.{is_at}
 use Rattle.std.specs.Map.{set_value}
 use Rattle.std.specs.Ordering.{nat_cmp}
-use Rattle.std.proofs.Common.{sym, ap, subst, ◌∙◌}
+use Rattle.std.proofs.Common.{sym, ap, subst, ◌∙◌, arith}
 use Rattle.std.proofs.lemmas.List.{length-set}
 use Rattle.std.proofs.lemmas.Option.{get_or_from_slice_get}
+use Rattle.minix_layout.specs.Widths.{IsWidth, of_14, of_30, slots_a_block}
 use Rattle.dir_ops.specs.Slots.{place_of, led_to, slots_led}
 use Rattle.dir_ops.specs.laws.Found.{found}
 use Rattle.minix_layout.specs.declared.slot.Slot.{Slot}
@@ -42,7 +43,7 @@ module _ (v : VolumeNow) (n : ℕ) (s : Slot) (h : HasSlot v n s.name) where
 
     pub led_at : (at zone : ℕ) (after : DirectoryPart) (first : List (List ℕ)) (nodes : List (ℕ × Placed)) (before touched : Touched) → place_of e.slots s.name ≡ Some at →
         after ≡ parts_led e at s.inode →
-        zone ≡ zone_in v.contents.blocks q.inode (block (at / 64)) → first ≡ edited v.geometry v.contents.blocks (put_slot zone (at % 64) (Some s)) →
+        zone ≡ zone_in v.contents.blocks q.inode (block (at / slots_a_block v.geometry.width)) → first ≡ edited v.geometry v.contents.blocks (put_slot zone (at % slots_a_block v.geometry.width) (Some s)) →
         nodes ≡ set_value (is_at (nat_cmp n)) v.contents.nodes (record { number = q.number; inode = q.inode; part = parts.Directory after }) →
         touched ≡ and_then before (tells_node n (zone ∷ [])) → After before (slot_led v n s) (volume_of v.geometry first nodes v.zones) touched
     led_at at zone after first nodes before touched place after_is zone_is first_is set told =
@@ -53,14 +54,19 @@ module _ (v : VolumeNow) (n : ℕ) (s : Slot) (h : HasSlot v n s.name) where
         (slot_is_written v n h.placed h.part h.order h.stands h.size (place_in_slots s.name h.part.slots) (Some s) (slot_set h.part s) (length-set h.part.slots (place_in_slots s.name h.part.slots) (Some s))
         zone after first nodes before touched
         (after_is
-        ∙ (ap (λ slots. record { parent = e.parent; names = e.names; slots = slots }) (led_here at place)
-        ∙ (λ i. record { parent = (part i).parent; names = (part i).names; slots = slice_set (part i).slots (here i) (Some s) })))
-        (zone_is ∙ (λ i. zone_in v.contents.blocks (same i).inode (block (here i / 64))))
-        (first_is ∙ ap (λ at. edited v.geometry v.contents.blocks (put_slot zone (at % 64) (Some s))) here)
+        ∙ (ap (λ slots. record { parent = e.parent; width = e.width; names = e.names; slots = slots }) (led_here at place)
+        ∙ (λ i. record { parent = (part i).parent; width = (part i).width; names = (part i).names; slots = slice_set (part i).slots (here i) (Some s) })))
+        (zone_is ∙ (λ i. zone_in v.contents.blocks (same i).inode (block (here i / slots_a_block v.geometry.width))))
+        (first_is ∙ ap (λ at. edited v.geometry v.contents.blocks (put_slot zone (at % slots_a_block v.geometry.width) (Some s))) here)
         (set ∙ ap (λ (p : Placed). set_value (is_at (nat_cmp n)) v.contents.nodes (record { number = p.number; inode = p.inode; part = parts.Directory after })) same)
         told)
 
 -- ---- a directory gets another parent
+
+-- its parent's slot is no longer than any width
+pub dots_short : (width : ℕ) → IsWidth width → length (codes "..") ≤ width
+dots_short width of_14 = omega arith
+dots_short width of_30 = omega arith
 
 module _ (v : VolumeNow) (n parent above : ℕ) (h : MayTurn v n parent above) where
   abbrev p : Placed
@@ -91,7 +97,7 @@ module _ (v : VolumeNow) (n parent above : ℕ) (h : MayTurn v n parent above) w
   sets_parent =
       leads turned_volume n s turned_slot
       ∙ (slot_over v h.slot.order n p (place_in_slots (codes "..") d.slots) (Some s) (slot_set (turned d parent) s) (parts.Directory (turned d parent))
-      ∙ (ap (λ k. slot_change v n p k (Some s) (record { parent = parent; names = d.names; slots = slice_set d.slots k (Some s) })) second
+      ∙ (ap (λ k. slot_change v n p k (Some s) (record { parent = parent; width = d.width; names = d.names; slots = slice_set d.slots k (Some s) })) second
       ∙ (ap (λ number. slot_change v n p 1 (Some (record { inode = number; name = codes ".." })) (with_parent d parent (record { inode = number; name = codes ".." }))) (sym h.number)
       ∙ sym (at_directory_is v n p d (λ p d. at_node v parent (λ above. by p d above)) h.slot.stands h.slot.is ∙ at_node_is v parent h.placed (λ above. by p d above) h.stands))))
 

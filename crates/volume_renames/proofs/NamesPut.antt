@@ -1,19 +1,19 @@
 -- Names and slots that came in memory.
-use Rattle.std.specs.Prelude.{◌≡◌, ◌<◌, ◌&&◌, ◌%◌, ℕ, nat_eq, nat_lt, true, false, List, length, Option, Some, Result, Ok, Err, OnOk, OnErr}
+use Rattle.std.specs.Prelude.{◌≡◌, ◌<◌, ◌&&◌, ◌%◌, ℕ, nat_eq, false, List, length, Some, Result, Ok, Err, OnOk, OnErr}
 use Rattle.std.specs.BTreeMap.{is_at}
 use Rattle.std.specs.Map.{set_value}
 use Rattle.std.specs.Ordering.{nat_cmp}
 use Rattle.std.proofs.Common.{sym, ap, ◌∙◌, arith}
-use Rattle.std.proofs.lemmas.Bool.{ne_eqb, lt-ltb}
+use Rattle.std.proofs.lemmas.Bool.{ne_eqb}
 use Rattle.std.proofs.lemmas.Map.Steps.{set_value_same}
 use Rattle.std.proofs.lemmas.Option.{same_Some}
 use Rattle.blk_base.specs.declared.memory.NoMemory.{NoMemory}
+use Rattle.minix_layout.specs.Widths.{slots_a_block}
 use Rattle.minix_layout.specs.declared.slot.Slot.{Slot}
 use Rattle.dir_ops.specs.Slots.{room, with_slot}
 use Rattle.tree_model.specs.Maps.{at_number, put_name}
 use Rattle.tree_model.specs.laws.MapOrder.{InOrder}
 use Rattle.volume_model.specs.declared.placed.Placed.{Placed}
-use Rattle.volume_model.specs.declared.placed.Part.{Part}
 use Rattle.volume_model.specs.declared.placed.Part.TheVariants as parts
 use Rattle.volume_model.specs.declared.placed.DirectoryPart.{DirectoryPart}
 use Rattle.volume_model.specs.laws.Trees.{set_is_put}
@@ -34,7 +34,7 @@ module _ (nodes later : List (ℕ × Placed)) (n : ℕ) (p : Placed) (d : Direct
       ∙ (ap (λ e. node_put nodes n p (parts.Directory e)) made ∙ (λ i. node_put nodes n (one i) (parts.Directory (change (two i))))))
 
   abbrev with_names : List (List ℕ × ℕ) → DirectoryPart
-  with_names names = record { parent = d.parent; names = names; slots = d.slots }
+  with_names names = record { parent = d.parent; width = d.width; names = names; slots = d.slots }
 
   module _ (names : List (List ℕ × ℕ)) (set : later ≡ set_value (is_at (nat_cmp n)) nodes (record { number = p.number; inode = p.inode; part = parts.Directory (with_names names) })) where
     pub name_ok : {A : Type 0} (order : InOrder nodes) (r : Result A NoMemory) (name : List ℕ) (birth : ℕ) → OnOk r (names ≡ put_name d.names name birth) →
@@ -54,6 +54,6 @@ pub slot_inside : (d : DirectoryPart) (s : Slot) (at slots : ℕ) → room d.slo
     ◌≡◌ {A = NewSlot} (record { at = at; begins = false; slots = slots }) (new_slot d s)
 slot_inside d s at slots free e f = λ i. record {
   at = e i;
-  begins = sym (ap (λ b. b && nat_eq (length d.slots % 64) 0) (ne_eqb (room d.slots) (length d.slots) (λ same. (omega arith)))) i;
+  begins = sym (ap (λ b. b && nat_eq (length d.slots % slots_a_block d.width) 0) (ne_eqb (room d.slots) (length d.slots) (λ same. (omega arith)))) i;
   slots = (f ∙ ap (λ at. length (with_slot d.slots at s)) e) i;
 }

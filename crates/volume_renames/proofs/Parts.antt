@@ -1,9 +1,10 @@
 -- Steps that write a slot or an inode, where another part of a directory has changed in memory: they come to the same.
-use Rattle.std.specs.Prelude.{◌≡◌, ◌≢◌, ◌*◌, ◌/◌, ◌%◌, ℕ, List, [], ◌∷◌, length, Option, Some}
+use Rattle.std.specs.Prelude.{◌≡◌, ◌≢◌, ◌*◌, ◌/◌, ◌%◌, ℕ, List, ◌∷◌, length, Option}
 use Rattle.std.proofs.Common.{sym, ap, ◌∙◌}
+use Rattle.minix_layout.specs.Widths.{slot_size, slots_a_block}
 use Rattle.minix_layout.specs.declared.inode.Inode.{Inode}
 use Rattle.minix_layout.specs.declared.slot.Slot.{Slot}
-use Rattle.tree_model.specs.Maps.{at_number, put_number}
+use Rattle.tree_model.specs.Maps.{put_number}
 use Rattle.tree_model.specs.laws.MapOrder.{InOrder}
 use Rattle.volume_model.specs.declared.placed.Placed.{Placed}
 use Rattle.volume_model.specs.declared.placed.Part.{Part}
@@ -12,14 +13,13 @@ use Rattle.volume_model.specs.declared.placed.DirectoryPart.{DirectoryPart}
 use Rattle.volume_model.specs.Edits.{put_slot, edited}
 use Rattle.volume_model.specs.Volume.{block, zone_in}
 use Rattle.volume_model.specs.Moves.{with_size, inode_back, back_told}
-use Rattle.volume_model.specs.Touched.{Touched}
 use Rattle.volume_steps.specs.Now.{VolumeNow, Change, tells_blocks}
 use Rattle.volume_steps.specs.Steps.{inode_put, slot_told, tells_node}
 use Rattle.volume_steps.proofs.Files.{put_twice}
 use Rattle.volume_names.proofs.Changed.{volume_of}
 use Rattle.volume_names.proofs.Links.{put_either}
 use Rattle.volume_removals.specs.code.Naming.{slot_change}
-use Rattle.volume_renames.specs.code.Parts.{node_put, part_put}
+use Rattle.volume_renames.specs.code.Parts.{part_put}
 
 -- an inode is written
 abbrev pub inode_change : VolumeNow → ℕ → Placed → Inode → Change
@@ -32,10 +32,10 @@ module _ (v : VolumeNow) (order : InOrder v.contents.nodes) (n : ℕ) (p : Place
   -- ---- a slot
 
   abbrev slot_blocks : ℕ → Option Slot → ℕ → List (List ℕ)
-  slot_blocks k o slots = inode_back v.geometry (edited v.geometry v.contents.blocks (put_slot (zone_in v.contents.blocks p.inode (block (k / 64))) (k % 64) o)) p (with_size p.inode (16 * slots))
+  slot_blocks k o slots = inode_back v.geometry (edited v.geometry v.contents.blocks (put_slot (zone_in v.contents.blocks p.inode (block (k / slots_a_block v.geometry.width))) (k % slots_a_block v.geometry.width) o)) p (with_size p.inode (slot_size v.geometry.width * slots))
 
   abbrev slot_end : ℕ → Part → Placed
-  slot_end slots part = record { number = p.number; inode = with_size p.inode (16 * slots); part = part }
+  slot_end slots part = record { number = p.number; inode = with_size p.inode (slot_size v.geometry.width * slots); part = part }
 
   module _ (k : ℕ) (o : Option Slot) (next : DirectoryPart) where
     abbrev slots : ℕ
@@ -61,7 +61,7 @@ module _ (v : VolumeNow) (order : InOrder v.contents.nodes) (n : ℕ) (p : Place
         ap ended (put_twice v.contents.nodes n (slot_end slots (parts.Directory next)) (slot_end slots (parts.Directory after)) order)
         ∙ ap (λ slots. record {
           volume = volume_of v.geometry (slot_blocks k o slots) (put_number v.contents.nodes n (slot_end slots (parts.Directory after))) v.zones;
-          touched = tells_node n (zone_in v.contents.blocks p.inode (block (k / 64)) ∷ back_told v.geometry p (with_size p.inode (16 * slots)));
+          touched = tells_node n (zone_in v.contents.blocks p.inode (block (k / slots_a_block v.geometry.width)) ∷ back_told v.geometry p (with_size p.inode (slot_size v.geometry.width * slots)));
         }) (sym long)
 
   -- ---- an inode

@@ -1,5 +1,5 @@
 -- A file that gets the name of another one.
-use Rattle.std.specs.Prelude.{◌≡◌, ◌≢◌, ◌<◌, ◌≤◌, ◌-◌, ◌^◌, ℕ, List, length, Some, None, refl}
+use Rattle.std.specs.Prelude.{◌≡◌, ◌≢◌, ◌<◌, ◌≤◌, ◌-◌, ℕ, List, length, Some, None, refl}
 use Rattle.std.specs.List.Sorted.{IsStrictlySortedBy}
 use Rattle.std.specs.Map.{keys_of}
 use Rattle.std.proofs.Common.{sym, ap, subst, ◌∙◌, inl, inr, arith}
@@ -14,7 +14,7 @@ use Rattle.volume_model.specs.declared.placed.Placed.{Placed}
 use Rattle.volume_model.specs.declared.placed.Part.TheVariants as parts
 use Rattle.volume_model.specs.declared.placed.DirectoryPart.{DirectoryPart}
 use Rattle.volume_model.specs.Volume.{Place, zone_in}
-use Rattle.volume_model.specs.Touched.{Touched, and_then}
+use Rattle.volume_model.specs.Touched.{Touched}
 use Rattle.volume_steps.specs.Now.{VolumeNow, Change, followed_by}
 use Rattle.volume_steps.specs.Plain.{IsInUse}
 use Rattle.volume_steps.specs.Steps.{drop_node, lead_name, metadata_gone, place_of as place_in_slots, set_links, take_name, with_child}
@@ -29,7 +29,7 @@ use Rattle.volume_names.specs.code.Steps.{After}
 use Rattle.volume_names.proofs.Changed.{volume_of}
 use Rattle.volume_removals.specs.May.{HasName}
 use Rattle.volume_removals.specs.code.Dropping.{MayDrop, blocks_in}
-use Rattle.volume_removals.specs.code.Naming.{CanTake, HasSlot, slot_change}
+use Rattle.volume_removals.specs.code.Naming.{CanTake, HasSlot}
 use Rattle.volume_removals.proofs.Dropped.{may_drop}
 use Rattle.volume_removals.proofs.Losing.{link_lost, node_lost}
 use Rattle.volume_removals.proofs.Metadata.{metadata_kept}
@@ -74,8 +74,8 @@ module _ (v : VolumeNow) (from : ℕ) (name : List ℕ) (to : ℕ) (other : List
   settled : IsSettled first.volume.contents
   settled = subst (λ (c : Change). IsSettled c.volume.contents) same (less_settled v from name takes (settled_before v h.leaves.plain))
 
-  slotted : AreSlotted (λ a. ⊥) first.volume.contents
-  slotted = subst (λ (c : Change). AreSlotted (λ a. ⊥) c.volume.contents) same (less_slotted v from name takes (slotted_before v h.leaves.plain))
+  slotted : AreSlotted v.geometry (λ a. ⊥) first.volume.contents
+  slotted = subst (λ (c : Change). AreSlotted v.geometry (λ a. ⊥) c.volume.contents) same (less_slotted v from name takes (slotted_before v h.leaves.plain))
 
   child_stands : at_number first.volume.contents.nodes birth ≡ Some child
   child_stands = at_put_number_apart v.contents.nodes from _ birth h.leaves.apart ∙ h.leaves.stands
@@ -164,8 +164,8 @@ module _ (v : VolumeNow) (from : ℕ) (name : List ℕ) (to : ℕ) (other : List
   abbrev met : HasSlot first.volume to other
   met = has_slot first.volume to other can
 
-  entry : IsEntry s
-  entry = good_entry other child.number (record { short = h.short; plain = h.word }) (h.leaves.plain.in_use.volume.0.each birth child h.leaves.stands).some
+  entry : IsEntry v.geometry.width s
+  entry = good_entry v.geometry.width other child.number h.leaves.plain.in_use.sound.width (record { plain = h.word }) h.short (h.leaves.plain.in_use.volume.0.each birth child h.leaves.stands).some
       (let within = (h.leaves.plain.in_use.volume.0.each birth child h.leaves.stands).within in let fit = h.leaves.plain.in_use.sound.fits.inodes in omega arith)
 
   abbrev second : Change
@@ -202,6 +202,9 @@ module _ (v : VolumeNow) (from : ℕ) (name : List ℕ) (to : ℕ) (other : List
 
     pub may_lead : (w : VolumeNow) → w ≡ (take_name named_volume from name).volume → (slot : Slot) → slot ≡ s → HasSlot w to slot.name
     may_lead w w_is slot slot_is = subst (λ w. HasSlot w to slot.name) (sym (w_is ∙ ap (λ (c : Change). c.volume) taken_is)) (subst (λ (slot : Slot). HasSlot mid to slot.name) (sym slot_is) met_in)
+
+    pub is_short : (w : VolumeNow) → w ≡ (take_name named_volume from name).volume → (slot : Slot) → slot ≡ s → length slot.name ≤ w.geometry.width
+    is_short w w_is slot slot_is = subst (λ (w : VolumeNow). length slot.name ≤ w.geometry.width) (sym (w_is ∙ ap (λ (c : Change). c.volume) taken_is)) (subst (λ (slot : Slot). length slot.name ≤ v.geometry.width) (sym slot_is) h.short)
 
     -- both steps, as the code does them
     pub taken_over : (slot : Slot) → slot ≡ s → followed_by (take_name named_volume from name) (λ w. slot_led w to slot) ≡ followed_by (take_name v from name) (λ w. lead_name w to other birth)

@@ -1,7 +1,7 @@
 -- A name that goes, where another one has come in memory.
-use Rattle.std.specs.Prelude.{◌≡◌, ◌≢◌, ◌*◌, ℕ, List, length, slice_set, Some, None, refl}
+use Rattle.std.specs.Prelude.{◌≡◌, ◌≢◌, ◌*◌, ℕ, List, length, slice_set, None, refl}
 use Rattle.std.proofs.Common.{sym, ap, ◌∙◌}
-use Rattle.tree_model.specs.Maps.{at_number}
+use Rattle.minix_layout.specs.Widths.{slot_size}
 use Rattle.tree_model.specs.laws.MapsLaws.{at_put_number, at_put_number_apart}
 use Rattle.tree_model.specs.laws.MapOrder.{NamesInOrder, in_order_put}
 use Rattle.volume_model.specs.declared.placed.Placed.{Placed}
@@ -32,6 +32,7 @@ module _ (v : VolumeNow) (n : ℕ) (name : List ℕ) (h : HasSlot v n name) wher
   abbrev pub slot_stays : (m : ℕ) (q : Placed) (part : Part) → n ≢ m → HasSlot (part_put v m q part) n name
   slot_stays m q part apart = record {
     order = in_order_put v.contents.nodes m _ h.order;
+    width = h.width;
     placed = p;
     part = d;
     stands = at_put_number_apart v.contents.nodes m _ n apart ∙ h.stands;
@@ -52,11 +53,12 @@ module _ (v : VolumeNow) (n : ℕ) (name : List ℕ) (h : HasSlot v n name) wher
 
   -- ---- the directory itself has, and not in its slots
 
-  abbrev pub slot_over_names : (parent : ℕ) (names : List (List ℕ × ℕ)) → HasSlot (part_put v n p (parts.Directory (record { parent = parent; names = names; slots = d.slots }))) n name
+  abbrev pub slot_over_names : (parent : ℕ) (names : List (List ℕ × ℕ)) → HasSlot (part_put v n p (parts.Directory (record { parent = parent; width = d.width; names = names; slots = d.slots }))) n name
   slot_over_names parent names = record {
     order = in_order_put v.contents.nodes n _ h.order;
-    placed = record { number = p.number; inode = p.inode; part = parts.Directory (record { parent = parent; names = names; slots = d.slots }) };
-    part = record { parent = parent; names = names; slots = d.slots };
+    width = h.width;
+    placed = record { number = p.number; inode = p.inode; part = parts.Directory (record { parent = parent; width = d.width; names = names; slots = d.slots }) };
+    part = record { parent = parent; width = d.width; names = names; slots = d.slots };
     stands = at_put_number v.contents.nodes n _;
     is = refl;
     size = h.size;
@@ -70,7 +72,7 @@ module _ (v : VolumeNow) (n : ℕ) (name : List ℕ) (h : HasSlot v n name) wher
   left = without_slot d k name
 
   abbrev pub left_node : Placed
-  left_node = record { number = p.number; inode = with_size p.inode (16 * length left.slots); part = parts.Directory left }
+  left_node = record { number = p.number; inode = with_size p.inode (slot_size v.geometry.width * length left.slots); part = parts.Directory left }
 
   -- it has another name
   module _ (other : List ℕ) (birth : ℕ) where
@@ -80,5 +82,5 @@ module _ (v : VolumeNow) (n : ℕ) (name : List ℕ) (h : HasSlot v n name) wher
     takes_named order apart =
         takes_slot (part_put v n p (parts.Directory (name_put d other birth))) n name (slot_over_names d.parent (name_put d other birth).names)
         ∙ (slot_over v h.order n p k None (without_slot (name_put d other birth) k name) (parts.Directory (name_put d other birth))
-        ∙ (ap (λ names. slot_change v n p k None (record { parent = d.parent; names = names; slots = slice_set d.slots k None })) (gone_then_put d.names name other birth order apart)
+        ∙ (ap (λ names. slot_change v n p k None (record { parent = d.parent; width = d.width; names = names; slots = slice_set d.slots k None })) (gone_then_put d.names name other birth order apart)
         ∙ sym (slot_then v h.order n p k None left (name_put left other birth) refl)))

@@ -1,5 +1,5 @@
 -- A node that gets another name in its directory.
-use Rattle.std.specs.Prelude.{◌≡◌, ◌≢◌, ◌<◌, ◌≤◌, ◌+◌, ◌^◌, ℕ, nat_le, nat_lt, is_some, Bool, true, false, not, ◌&&◌, if◌then◌else◌, List, length, Option, Some, None, refl}
+use Rattle.std.specs.Prelude.{◌≡◌, ◌≢◌, ◌<◌, ◌+◌, ℕ, nat_le, nat_lt, is_some, Bool, true, false, not, ◌&&◌, if◌then◌else◌, List, length, Option, Some, None, refl}
 use Rattle.std.specs.List.{slice_get}
 use Rattle.std.specs.List.Sorted.{IsStrictlySortedBy}
 use Rattle.std.specs.Map.{keys_of}
@@ -7,14 +7,14 @@ use Rattle.std.proofs.Common.{sym, ap, subst, ◌∙◌, inl, inr, arith}
 use Rattle.std.proofs.lemmas.Bool.{cases_Bool, lt-ltb, ltb-true, ltb-false}
 use Rattle.std.proofs.lemmas.Option.{get_or_from_slice_get, same_Some, none-some}
 use Rattle.blk_base.specs.laws.Members.{slice_get-set_same, slice_get-length}
+use Rattle.minix_layout.specs.Widths.{most_slots}
 use Rattle.minix_layout.specs.declared.slot.Slot.{Slot}
-use Rattle.dir_ops.specs.Slots.{place_of, room, used_count, slot_at}
+use Rattle.dir_ops.specs.Slots.{place_of, room, used_count}
 use Rattle.dir_ops.specs.laws.Edited.{least_room}
 use Rattle.dir_ops.specs.laws.Slots.{room-count}
-use Rattle.tree_model.specs.Calls.{directory_zones, is_full, needs_slot, slots_with}
+use Rattle.tree_model.specs.Calls.{directory_zones, needs_slot, slots_with}
 use Rattle.tree_model.specs.Maps.{at_number, at_name, name_cmp}
 use Rattle.tree_model.specs.laws.MapsLaws.{at_put_number, at_put_number_apart}
-use Rattle.tree_model.specs.laws.MapOrder.{in_order_put}
 use Rattle.tree_model.proofs.Hanging.{IsGoodName}
 use Rattle.volume_model.specs.declared.placed.Placed.{Placed}
 use Rattle.volume_model.specs.declared.placed.Part.TheVariants as parts
@@ -35,7 +35,7 @@ use Rattle.volume_names.specs.code.NewSlot.{new_slot}
 use Rattle.volume_names.specs.code.Steps.{MayWrite, entered_in, name_written}
 use Rattle.volume_names.proofs.Changed.{volume_of}
 use Rattle.volume_names.proofs.Creates.{no_slot}
-use Rattle.volume_names.proofs.NameRooms.{NameRoom, may_write}
+use Rattle.volume_names.proofs.NameRooms.{NameRoom, wide, may_write}
 use Rattle.volume_names.proofs.Named.{named}
 use Rattle.volume_removals.specs.code.Naming.{CanTake, HasSlot}
 use Rattle.volume_removals.proofs.NameTaken.{has_slot, slot, taken_slot, takes_slot}
@@ -103,8 +103,8 @@ module _ (v : VolumeNow) (n : ℕ) (name other : List ℕ) (birth : ℕ) (h : Ma
   settled : IsSettled first.volume.contents
   settled = subst (λ (c : Change). IsSettled c.volume.contents) same (less_settled v n name takes (settled_before v h.leaves.plain))
 
-  slotted : AreSlotted (λ a. ⊥) first.volume.contents
-  slotted = subst (λ (c : Change). AreSlotted (λ a. ⊥) c.volume.contents) same (less_slotted v n name takes (slotted_before v h.leaves.plain))
+  slotted : AreSlotted v.geometry (λ a. ⊥) first.volume.contents
+  slotted = subst (λ (c : Change). AreSlotted v.geometry (λ a. ⊥) c.volume.contents) same (less_slotted v n name takes (slotted_before v h.leaves.plain))
 
   stands : at_number first.volume.contents.nodes n ≡ Some Q
   stands = at_put_number v.contents.nodes n Q
@@ -134,7 +134,7 @@ module _ (v : VolumeNow) (n : ℕ) (name other : List ℕ) (birth : ℕ) (h : Ma
   free = still_none d.names name other sorted h.free
 
   good : IsGoodName other
-  good = record { short = h.short; plain = h.word }
+  good = record { plain = h.word }
 
   kept_slots : slots_with (directory_from D) other ≡ length D.slots
   kept_slots = same_slots (not (is_some (at_name D.names other))) (needs_slot (directory_from D)) (length D.slots) no_slot_needed
@@ -151,12 +151,12 @@ module _ (v : VolumeNow) (n : ℕ) (name other : List ℕ) (birth : ℕ) (h : Ma
     apart = h.leaves.apart;
     free = free;
     no_dot = good_no_dot other good;
-    entry = good_entry other child.number good (h.leaves.plain.in_use.volume.0.each birth child h.leaves.stands).some
+    entry = good_entry v.geometry.width other child.number h.leaves.plain.in_use.sound.width good h.short (h.leaves.plain.in_use.volume.0.each birth child h.leaves.stands).some
         (let within = (h.leaves.plain.in_use.volume.0.each birth child h.leaves.stands).within in let fit = h.leaves.plain.in_use.sound.fits.inodes in omega arith);
     settled = settled;
     slotted = slotted;
-    left = ap (λ needs. needs && nat_le 33216 (length D.slots)) no_slot_needed;
-    enough = (let same = ap directory_zones kept_slots in omega arith);
+    left = ap (λ needs. needs && nat_le (most_slots D.width) (length D.slots)) no_slot_needed;
+    enough = (let same = ap (directory_zones D.width) kept_slots in omega arith);
   }
 
   -- ---- in memory
@@ -227,8 +227,8 @@ module _ (v : VolumeNow) (n : ℕ) (name other : List ℕ) (birth : ℕ) (h : Ma
         at_is : at ≡ new_slot D s
         at_is = at_are R (name_put D other birth) here refl ∙ ap (new_slot (name_put D other birth)) slot_is
 
-        pub may_be_written : MayWrite last n at
-        may_be_written = subst (λ u. MayWrite u n at) (sym last_is) (subst (MayWrite whole n) (sym at_is) (may_write first.volume n other birth place))
+        pub may_be_written : MayWrite last n made at
+        may_be_written = subst (λ u. MayWrite u n made at) (sym last_is) (subst (λ made. MayWrite whole n made at) (sym slot_is) (subst (MayWrite whole n s) (sym at_is) (may_write first.volume n other birth place)))
 
         -- the call as the code does it
         pub moved : followed_by (take_name named_volume n name) (λ w. name_written last n made at) ≡ move_in v n name n other birth
@@ -237,5 +237,5 @@ module _ (v : VolumeNow) (n : ℕ) (name other : List ℕ) (birth : ℕ) (h : Ma
             ∙ (ap (told_after first.touched)
             (ap (λ last. name_written last n made at) last_is
             ∙ (ap (λ made. name_written whole n made at) slot_is
-            ∙ (ap (name_written whole n s) at_is ∙ named first.volume n Q D other birth child in_use.volume.0.in_order stands refl child_stands h.leaves.apart)))
+            ∙ (ap (name_written whole n s) at_is ∙ named first.volume n Q D other birth child in_use.volume.0.in_order stands refl child_stands h.leaves.apart (wide first.volume n other birth place))))
             ∙ sym (ap (λ c. followed_by c (λ w. add_name w n other birth)) (takes_slot v n name before)))

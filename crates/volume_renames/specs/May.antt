@@ -25,7 +25,7 @@ pub record Leaves (v : VolumeNow) (from : ℕ) (name : List ℕ) (birth : ℕ) :
 pub record MayMoveWithin (v : VolumeNow) (n : ℕ) (name other : List ℕ) (birth : ℕ) : Type 0 where
   pub leaves : Leaves v n name birth
   pub word : IsTrue (is_path_name other)
-  pub short : length other ≤ 14
+  pub short : length other ≤ v.geometry.width
   pub free : at_name leaves.place.part.names other ≡ None
 
 -- it may have a name in another directory
@@ -49,7 +49,7 @@ pub record MayReplace (v : VolumeNow) (from : ℕ) (name : List ℕ) (to : ℕ) 
   pub apart : birth ≢ gone
   pub place : HasName v to other gone
   pub word : IsTrue (is_path_name other)
-  pub short : length other ≤ 14
+  pub short : length other ≤ v.geometry.width
   pub placed : Placed
   pub blocks : List Mapped
   pub stands : at_number v.contents.nodes gone ≡ Some placed

@@ -1,5 +1,5 @@
 //! A slot that is in use leads to another inode. No call takes memory.
-ghost use Rattle.std.specs.Prelude.{◌≡◌, ◌≤◌, ◌+◌, ℕ, codes, IfSome, IsNone, None, Some};
+ghost use Rattle.std.specs.Prelude.{◌≡◌, ◌≤◌, ◌+◌, ℕ, codes, length, IfSome, IsNone, None, Some};
 ghost use Rattle.dir_ops.specs.Slots.{place_of};
 ghost use Rattle.tree_model.specs.Maps.{at_number};
 ghost use Rattle.volume_model.specs.declared.placed.Placed.{Placed};
@@ -10,7 +10,7 @@ ghost use Rattle.volume_renames.specs.code.Parts.{MayTurn, led_at, node_put, slo
 ghost use Rattle.volume_model.specs.declared.placed.Part.TheVariants as parts;
 ghost use Rattle.volume_model.specs.declared.placed.DirectoryPart.{DirectoryPart};
 
-use minix_layout::Slot;
+use minix_layout::{Slot, slots_a_block};
 use std::collections::BTreeMap;
 use volume_edits::put_slot;
 use volume_model::{DirectoryPart, Part, Placed};
@@ -19,6 +19,7 @@ use volume_now::{Touched, VolumeNow, block_zone, dots};
 /// The slot of this name, in the directory with this birth, leads to this inode. The directory keeps its size.
 pub fn lead_slot(v: &mut VolumeNow, n: u64, slot: &Slot, touched: &mut Touched)
     requires may { HasSlot v.old n slot.now.name }
+    requires short { length slot.now.name ≤ v.old.geometry.width }
     requires room { 2 ≤ touched.old.spare }
     ensures done { After touched.old.touched (slot_led v.old n slot.now) v.new touched.new.touched }
     ensures spare { touched.new.spare + 2 ≡ touched.old.spare }
@@ -32,12 +33,13 @@ pub fn lead_slot(v: &mut VolumeNow, n: u64, slot: &Slot, touched: &mut Touched)
     let Some(at) = lead_in(directory, slot) else {
         unreachable!();
     };
-    let zone = block_zone(&v.blocks, &placed.inode, (at / 64) as u32);
+    let per = slots_a_block(v.geometry.width) as usize;
+    let zone = block_zone(&v.blocks, &placed.inode, (at / per) as u32);
     put_slot(
         &mut v.blocks,
         &v.geometry,
         zone,
-        (at % 64) as u8,
+        (at % per) as u8,
         Some(slot),
     );
     touched.note_block(zone.into());

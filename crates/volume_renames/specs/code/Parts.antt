@@ -20,23 +20,23 @@ part_put v n p part = with_contents v (record { blocks = v.contents.blocks; node
 
 -- a name leads to a node
 abbrev pub name_put : DirectoryPart → List ℕ → ℕ → DirectoryPart
-name_put d name birth = record { parent = d.parent; names = put_name d.names name birth; slots = d.slots }
+name_put d name birth = record { parent = d.parent; width = d.width; names = put_name d.names name birth; slots = d.slots }
 
 -- a slot comes, at the first free place or behind the last one
 abbrev pub slot_put_in : DirectoryPart → Slot → DirectoryPart
-slot_put_in d s = record { parent = d.parent; names = d.names; slots = with_slot d.slots (room d.slots) s }
+slot_put_in d s = record { parent = d.parent; width = d.width; names = d.names; slots = with_slot d.slots (room d.slots) s }
 
 -- a directory has another parent
 abbrev pub turned : DirectoryPart → ℕ → DirectoryPart
-turned d parent = record { parent = parent; names = d.names; slots = d.slots }
+turned d parent = record { parent = parent; width = d.width; names = d.names; slots = d.slots }
 
 -- the slot at a place leads to another inode
 abbrev pub led_at : DirectoryPart → ℕ → ℕ → DirectoryPart
-led_at d at inode = record { parent = d.parent; names = d.names; slots = slots_led d.slots at inode }
+led_at d at inode = record { parent = d.parent; width = d.width; names = d.names; slots = slots_led d.slots at inode }
 
 -- the slot of a name is this one
 abbrev pub slot_set : DirectoryPart → Slot → DirectoryPart
-slot_set d s = record { parent = d.parent; names = d.names; slots = slice_set d.slots (place_of s.name d.slots) (Some s) }
+slot_set d s = record { parent = d.parent; width = d.width; names = d.names; slots = slice_set d.slots (place_of s.name d.slots) (Some s) }
 
 -- and its block says so
 abbrev pub slot_led : VolumeNow → ℕ → Slot → Change

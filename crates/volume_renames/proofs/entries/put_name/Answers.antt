@@ -11,7 +11,7 @@ returns-in-Directory-clause-nodes c =
     let p : Placed = c.in-Some.placed.now in
     let d : DirectoryPart = c.in-Directory.directory in
     name_ok c.args.nodes.now.entries _ c.args.n p d (sym c.get_mut.ensures.value ∙ ap option_copied_mut c.in-Some.is) c.in-Directory.is c.put.new.self
-    (c.get_mut.follows.holds (record { number = p.number; inode = p.inode; part = parts.Directory (record { parent = d.parent; names = c.put.new.self; slots = d.slots }) })).0 c.get_mut.ensures.ordered c.put.result c.args.name
+    (c.get_mut.follows.holds (record { number = p.number; inode = p.inode; part = parts.Directory (record { parent = d.parent; width = d.width; names = c.put.new.self; slots = d.slots }) })).0 c.get_mut.ensures.ordered c.put.result c.args.name
     c.args.birth c.put.ensures.put
 
 pub returns-in-Directory-clause-err : goal.returns-in-Directory-clause-err
@@ -19,4 +19,4 @@ returns-in-Directory-clause-err c =
     let p : Placed = c.in-Some.placed.now in
     let d : DirectoryPart = c.in-Directory.directory in
     name_err c.args.nodes.now.entries _ c.args.n p d (sym c.get_mut.ensures.value ∙ ap option_copied_mut c.in-Some.is) c.in-Directory.is c.put.new.self
-    (c.get_mut.follows.holds (record { number = p.number; inode = p.inode; part = parts.Directory (record { parent = d.parent; names = c.put.new.self; slots = d.slots }) })).0 c.put.result c.put.ensures.kept
+    (c.get_mut.follows.holds (record { number = p.number; inode = p.inode; part = parts.Directory (record { parent = d.parent; width = d.width; names = c.put.new.self; slots = d.slots }) })).0 c.put.result c.put.ensures.kept

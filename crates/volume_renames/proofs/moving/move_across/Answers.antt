@@ -1,10 +1,10 @@
-use Rattle.std.proofs.Common.{ap, ◌∙◌, ◌≡◌, ℕ, refl, sym, subst}
+use Rattle.std.proofs.Common.{ap, ◌∙◌, refl, sym, subst}
 use Rattle.minix_layout.specs.declared.slot.Slot.{Slot}
 use Rattle.dir_ops.specs.Slots.{place_of}
 use Rattle.volume_steps.specs.Calls.{move_in}
 use Rattle.volume_now.specs.Noted.{Noted}
 use Rattle.volume_names.specs.code.NewSlot.{new_slot}
-use Rattle.volume_names.specs.code.Steps.{entered, name_written}
+use Rattle.volume_names.specs.code.Steps.{MayWrite, entered, name_written}
 use Rattle.volume_names.proofs.Changed.{volume_of}
 use Rattle.volume_names.proofs.Creates.{after_then, after_nothing}
 use Rattle.volume_renames.specs.May.{MayMoveAcross}
@@ -39,9 +39,10 @@ write_name-requires-clause-may c =
     let now = volume_of v.geometry v.blocks v.nodes.entries v.zones in
     let h : MayMoveAcross now from.parent from.name to.parent to.name c.args.birth = subst (λ s. MayMoveAcross s from.parent from.name to.parent to.name c.args.birth) (sym c.v.view_is) c.requires in
     let slot = same_slot c.slot_of.result c.number_of-number.result h.leaves.child.number h.leaves.child.number to.name c.slot_of.ensures (c.number_of-number.ensures h.leaves.child h.leaves.stands) refl in
-    may_be_written now from.parent from.name to.parent to.name c.args.birth h c.slot_of.result slot c.enter.new.nodes.entries
+    subst (λ slot. MayWrite c.take_name.new.v to.parent slot c.in_ok-new.new) (c.slot_of.ensures ∙ sym c.slot_of-slot.ensures)
+    (may_be_written now from.parent from.name to.parent to.name c.args.birth h c.slot_of.result slot c.enter.new.nodes.entries
     (c.in_ok-new.ensures.nodes h.place.placed h.place.part h.place.stands h.place.is) c.in_ok-new.new (c.in_ok-new.ensures.place h.place.placed h.place.part h.place.stands h.place.is)
-    c.take_name.new.v c.take_name.ensures.done.volume_is
+    c.take_name.new.v c.take_name.ensures.done.volume_is)
 
 pub returns-clause-done : goal.returns-clause-done
 returns-clause-done c =

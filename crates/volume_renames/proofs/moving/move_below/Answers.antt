@@ -1,4 +1,4 @@
-use Rattle.std.proofs.Common.{ap, ◌∙◌, ◌≡◌, ◌-◌, ℕ, refl, sym, subst}
+use Rattle.std.proofs.Common.{ap, ◌∙◌, ◌-◌, refl, sym, subst}
 use Rattle.minix_layout.specs.declared.slot.Slot.{Slot}
 use Rattle.dir_ops.specs.Slots.{place_of}
 use Rattle.volume_steps.specs.Calls.{move_below}
@@ -7,7 +7,7 @@ use Rattle.volume_steps.specs.Now.{VolumeNow, followed_by}
 use Rattle.volume_steps.specs.Steps.{set_links, set_parent}
 use Rattle.volume_now.specs.Noted.{Noted}
 use Rattle.volume_names.specs.code.NewSlot.{new_slot}
-use Rattle.volume_names.specs.code.Steps.{entered, more_links, name_written}
+use Rattle.volume_names.specs.code.Steps.{MayWrite, entered, more_links, name_written}
 use Rattle.volume_names.proofs.Changed.{volume_of}
 use Rattle.volume_names.proofs.Creates.{after_then, after_nothing}
 use Rattle.volume_renames.specs.May.{MayMoveBelow}
@@ -127,9 +127,10 @@ write_name-requires-clause-may c =
     let third = after_third now from.parent from.name to.parent to.name c.args.birth m c.slot_of.result slot c.enter.new.nodes.entries
     (c.in_ok-new.ensures.nodes h.place.placed h.place.part h.place.stands h.place.is) c.in_ok-new.new (c.in_ok-new.ensures.place h.place.placed h.place.part h.place.stands h.place.is)
     c.take_link.new.v c.set_parent.new.v second c.set_parent.ensures.done.volume_is in
-    may_be_written now from.parent from.name to.parent to.name c.args.birth m c.slot_of.result slot c.enter.new.nodes.entries
+    subst (λ slot. MayWrite c.add_link.new.v to.parent slot c.in_ok-new.new) (c.slot_of.ensures ∙ sym c.slot_of-slot.ensures)
+    (may_be_written now from.parent from.name to.parent to.name c.args.birth m c.slot_of.result slot c.enter.new.nodes.entries
     (c.in_ok-new.ensures.nodes h.place.placed h.place.part h.place.stands h.place.is) c.in_ok-new.new (c.in_ok-new.ensures.place h.place.placed h.place.part h.place.stands h.place.is)
-    c.set_parent.new.v c.add_link.new.v third c.add_link.ensures.done.volume_is
+    c.set_parent.new.v c.add_link.new.v third c.add_link.ensures.done.volume_is)
 
 pub returns-clause-done : goal.returns-clause-done
 returns-clause-done c =

@@ -1,4 +1,4 @@
-use Rattle.std.proofs.Common.{ap, ◌∙◌, ◌≡◌, ℕ, Some, refl, sym, subst}
+use Rattle.std.proofs.Common.{ap, ◌∙◌, ◌≡◌, Some, refl, sym, subst}
 use Rattle.minix_layout.specs.declared.slot.Slot.{Slot}
 use Rattle.tree_model.specs.Maps.{at_number}
 use Rattle.volume_model.specs.declared.placed.Placed.{Placed}

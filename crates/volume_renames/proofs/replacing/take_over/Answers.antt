@@ -1,4 +1,4 @@
-use Rattle.std.proofs.Common.{ap, ◌∙◌, ◌≡◌, ℕ, Some, refl, sym, subst}
+use Rattle.std.proofs.Common.{ap, ◌∙◌, ◌≡◌, Some, refl, sym, subst}
 use Rattle.tree_model.specs.Maps.{at_number}
 use Rattle.volume_model.specs.declared.placed.Placed.{Placed}
 use Rattle.volume_model.specs.declared.placed.Part.TheVariants as parts
@@ -11,7 +11,7 @@ use Rattle.volume_names.proofs.Creates.{after_then}
 use Rattle.volume_renames.specs.May.{MayReplace}
 use Rattle.volume_renames.specs.code.Parts.{node_put, name_put, slot_led}
 use Rattle.volume_renames.proofs.Across.{same_slot}
-use Rattle.volume_renames.proofs.Replaced.{may_take, may_lead, taken_over}
+use Rattle.volume_renames.proofs.Replaced.{may_take, may_lead, is_short, taken_over}
 use Rattle.volume_renames.proofs.replacing.take_over.Goals as goal
 
 pub take_name-requires-clause-may : goal.take_name-requires-clause-may
@@ -38,6 +38,19 @@ lead_slot-requires-clause-may c =
     c.in_ok-put_name.ensures.nodes p d at is ∙ ap (λ other. node_put v.nodes.entries to.parent p (parts.Directory (name_put d other c.args.birth))) c.copy.ensures in
     let slot = same_slot c.slot_of-slot.result c.number_of.result h.leaves.child.number h.leaves.child.number to.name c.slot_of-slot.ensures (c.number_of.ensures h.leaves.child h.leaves.stands) refl in
     may_lead now from.parent from.name to.parent to.name c.args.birth gone h c.put_name.new.nodes.entries named c.take_name.new.v c.take_name.ensures.done.volume_is c.slot_of-slot.result slot
+
+pub lead_slot-requires-clause-short : goal.lead_slot-requires-clause-short
+lead_slot-requires-clause-short c =
+    let v = c.v.inside in
+    let from = c.args.from.now in
+    let to = c.args.to.now in
+    let now = volume_of v.geometry v.blocks v.nodes.entries v.zones in
+    let gone = c.requires.may.0 in
+    let h : MayReplace now from.parent from.name to.parent to.name c.args.birth gone = subst (λ s. MayReplace s from.parent from.name to.parent to.name c.args.birth gone) (sym c.v.view_is) c.requires.may.1 in
+    let named = λ (p : Placed) (d : DirectoryPart) (at : at_number v.nodes.entries to.parent ≡ Some p) (is : p.part ≡ parts.Directory d).
+    c.in_ok-put_name.ensures.nodes p d at is ∙ ap (λ other. node_put v.nodes.entries to.parent p (parts.Directory (name_put d other c.args.birth))) c.copy.ensures in
+    let slot = same_slot c.slot_of-slot.result c.number_of.result h.leaves.child.number h.leaves.child.number to.name c.slot_of-slot.ensures (c.number_of.ensures h.leaves.child h.leaves.stands) refl in
+    is_short now from.parent from.name to.parent to.name c.args.birth gone h c.put_name.new.nodes.entries named c.take_name.new.v c.take_name.ensures.done.volume_is c.slot_of-slot.result slot
 
 pub returns-clause-done : goal.returns-clause-done
 returns-clause-done c =

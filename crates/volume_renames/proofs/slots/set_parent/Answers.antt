@@ -1,4 +1,4 @@
-use Rattle.std.proofs.Common.{ap, ◌∙◌, codes, refl, sym, subst}
+use Rattle.std.proofs.Common.{ap, ◌∙◌, ◌≤◌, codes, length, refl, sym, subst}
 use Rattle.minix_layout.specs.declared.slot.Slot.{Slot}
 use Rattle.volume_steps.specs.Now.{Change}
 use Rattle.volume_steps.specs.Steps.{set_parent}
@@ -6,7 +6,7 @@ use Rattle.volume_names.specs.code.Steps.{After}
 use Rattle.volume_names.proofs.Changed.{volume_of}
 use Rattle.volume_removals.specs.code.Naming.{HasSlot}
 use Rattle.volume_renames.specs.code.Parts.{MayTurn, slot_led}
-use Rattle.volume_renames.proofs.Leading.{turned_slot, turned_volume, sets_parent, sets_parent_in}
+use Rattle.volume_renames.proofs.Leading.{dots_short, turned_slot, turned_volume, sets_parent, sets_parent_in}
 use Rattle.volume_renames.proofs.slots.set_parent.Goals as goal
 
 pub lead_slot-requires-clause-may : goal.lead_slot-requires-clause-may
@@ -17,6 +17,13 @@ lead_slot-requires-clause-may c =
     let w = volume_of v.geometry v.blocks c.turn.new.nodes.entries v.zones in
     subst (λ (s : Slot). HasSlot w c.args.n s.name) (sym c.dots.ensures)
     (subst (λ w. HasSlot w c.args.n (codes "..")) (sym (sets_parent_in now c.args.n c.args.parent c.args.above h c.turn.new.nodes.entries w refl c.turn.ensures)) (turned_slot now c.args.n c.args.parent c.args.above h))
+
+pub lead_slot-requires-clause-short : goal.lead_slot-requires-clause-short
+lead_slot-requires-clause-short c =
+    let v = c.v.inside in
+    let now = volume_of v.geometry v.blocks v.nodes.entries v.zones in
+    let h : MayTurn now c.args.n c.args.parent c.args.above = subst (λ s. MayTurn s c.args.n c.args.parent c.args.above) (sym c.v.view_is) c.requires.may in
+    subst (λ (s : Slot). length s.name ≤ v.geometry.width) (sym c.dots.ensures) (dots_short v.geometry.width h.slot.width)
 
 pub returns-clause-done : goal.returns-clause-done
 returns-clause-done c =
