@@ -5,10 +5,10 @@ use Rattle.std.proofs.Common.{sym, ap, ◌∙◌, subst, arith}
 use Rattle.std.proofs.lemmas.Bool.{and_parts, ltb-true, leb-true, eqb-true, true≢false}
 use Rattle.minix_layout.specs.declared.division.Geometry.{Geometry}
 use Rattle.minix_layout.specs.declared.fault.LayoutFault.{LayoutFault}
-use Rattle.minix_layout.specs.declared.fault.LayoutFault.TheVariants.{BadMagic, NameWidth, BadGeometry}
+use Rattle.minix_layout.specs.declared.fault.LayoutFault.TheVariants.{BadMagic, BadGeometry}
 use Rattle.minix_layout.specs.Geometry.{is_consistent}
 use Rattle.minix_layout.specs.Words.{inode_blocks}
-use Rattle.minix_layout.specs.Super.{magic_of, geometry_of, is_divided, super_of as volume_super}
+use Rattle.minix_layout.specs.Super.{is_magic, magic_of, geometry_of, is_divided, super_of as volume_super}
 use Rattle.log_model.specs.Marks.{Transaction}
 use Rattle.journal_blocks.specs.declared.super_block.JournalSuper.{JournalSuper}
 use Rattle.journal_blocks.specs.declared.fault.JournalFault.{JournalFault}
@@ -78,17 +78,16 @@ super_is : (image : List (List ℕ)) (g : Geometry) → divided image ≡ Ok g �
 unfolding divided
 super_is image g e = said_by image g (nat_lt (length image) 2) _ (volume_super (disk_of image 1)) e
 
-consistent_by : (wide right divided : Bool) (h g : Geometry) → (divided ≡ true → is_consistent h ≡ true)
-    → ◌≡◌ {A = Result Geometry LayoutFault} (if wide then Err NameWidth else if not right then Err BadMagic else if not divided then Err BadGeometry else Ok h) (Ok g) → is_consistent g ≡ true
-consistent_by true right divided h g whole e = absurd (cc)
-consistent_by false false divided h g whole e = absurd (cc)
-consistent_by false true false h g whole e = absurd (cc)
-consistent_by false true true h g whole e = let same : h ≡ g = cc in ap is_consistent (sym same) ∙ whole refl
+consistent_by : (right divided : Bool) (h g : Geometry) → (divided ≡ true → is_consistent h ≡ true)
+    → ◌≡◌ {A = Result Geometry LayoutFault} (if not right then Err BadMagic else if not divided then Err BadGeometry else Ok h) (Ok g) → is_consistent g ≡ true
+consistent_by false divided h g whole e = absurd (cc)
+consistent_by true false h g whole e = absurd (cc)
+consistent_by true true h g whole e = let same : h ≡ g = cc in ap is_consistent (sym same) ∙ whole refl
 
 consistent : (b : List ℕ) (g : Geometry) → volume_super b ≡ Ok g → is_consistent g ≡ true
 unfolding volume_super
 consistent b g e =
-    consistent_by (magic_of b == 0x138F) (magic_of b == 0x137F) (is_divided b) (geometry_of b) g
+    consistent_by (is_magic (magic_of b)) (is_divided b) (geometry_of b) g
     (λ whole. (and_parts _ (is_consistent (geometry_of b)) whole).1) e
 
 -- a volume has more than two blocks
