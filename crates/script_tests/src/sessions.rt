@@ -235,17 +235,81 @@ fn reads_headers(rt: HostRuntime) -> Result<(), Fail> {
     Ok(())
 }
 
-// The last words of the first line choose the tags of the journal.
+// The last words of the first line choose the width of names and the tags of the journal.
 #[test]
-fn reads_kinds_of_tags(rt: HostRuntime) -> Result<(), Fail> {
+fn reads_kinds_of_volumes(rt: HostRuntime) -> Result<(), Fail> {
     let alloc = rt.alloc();
-    let rows = [("", false), (" tags 64", true)];
-    for (tags, wide) in rows {
+    let rows = [
+        ("", 14, false),
+        (" tags 64", 14, true),
+        (" names 30", 30, false),
+        (" names 30 tags 64", 30, true),
+    ];
+    for (kind, width, wide) in rows {
         let first = "volume inodes 32 zones 7 journal 128";
-        let script = read(&rt, alloc, &text(alloc, &[first, tags, "\nevents\n"])?)?;
-        assert_eq!(rt; (sizes(&script), script.wide), ((32, 7, 128, 0, 0), wide));
+        let script = read(&rt, alloc, &text(alloc, &[first, kind, "\nevents\n"])?)?;
+        assert_eq!(rt; sizes(&script), (32, 7, 128, 0, 0));
+        assert_eq!(rt; (script.width, script.wide), (width, wide), "at {kind}");
     }
     Ok(())
+}
+
+#[test]
+fn tests_names(rt: HostRuntime) {
+    let rows = [
+        ("names 30\n", 1, Word),
+        ("volume inodes 32 zones 64 journal 128\nnames 30\n", 2, Word),
+        ("volume inodes 32 zones 64 journal 128 names\n", 1, Word),
+        ("volume inodes 32 zones 64 journal 128 names 14\n", 1, Word),
+        ("volume inodes 32 zones 64 journal 128 names 030\n", 1, Word),
+        ("volume inodes 32 zones 64 journal 128 30 names\n", 1, Word),
+        (
+            "volume inodes 32 zones 64 journal 128 names 30 names 30\n",
+            1,
+            Word,
+        ),
+        (
+            "volume inodes 32 zones 64 journal 128 names 30 30\n",
+            1,
+            Word,
+        ),
+        (
+            "volume inodes 32 zones 64 journal 128 tags 64 names 30\n",
+            1,
+            Word,
+        ),
+        (
+            "volume inodes 32 zones 64 journal 128 names 30 tags\n",
+            1,
+            Word,
+        ),
+        (
+            "volume inodes 32 zones 64 journal 128 names 30 tags 32\n",
+            1,
+            Word,
+        ),
+        (
+            "volume inodes 32 zones 64 journal 128 names 30 tags 64 tags 64\n",
+            1,
+            Word,
+        ),
+        ("volume inodes 32 zones 64 names 30 journal 128\n", 1, Word),
+        // a word that is wrong comes before a number that is
+        ("volume inodes 0 zones 64 journal 128 names 14\n", 1, Word),
+        ("volume inodes 0 zones 64 journal 128 names 30\n", 1, Number),
+        (
+            "volume inodes 32 zones 5 journal 128 names 30\n",
+            1,
+            Geometry,
+        ),
+        ("volume inodes 32 zones 6 journal 128 names 30\n", 2, Order),
+        (
+            "volume inodes 32 zones 6 journal 128 names 30 tags 64\n",
+            2,
+            Order,
+        ),
+    ];
+    expect_faults(&rt, rt.alloc(), &rows);
 }
 
 #[test]
@@ -291,7 +355,6 @@ fn tests_first_lines(rt: HostRuntime) {
         ("volume inodes 32 zones 64\n", 1, Word),
         ("volume zones 64 inodes 32 journal 128\n", 1, Word),
         ("volume inodes 32 zones 64 journal x\n", 1, Word),
-        ("volume inodes 32 zones 64 journal 128 names 30\n", 1, Word),
         ("volume inodes 0 zones 64 journal 128\n", 1, Number),
         ("volume inodes 65536 zones 64 journal 128\n", 1, Number),
         ("volume inodes 32 zones 0 journal 128\n", 1, Number),
