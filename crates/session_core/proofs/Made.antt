@@ -56,10 +56,10 @@ with_threads k d s h sched dev n count is = subst (λ m. IsMadeFor k d (opening_
 
 -- ---- its sizes, and what it begins with
 
-pub sound_of : (r : Result Geometry TooSmall) (inodes zones : ℕ) → IfOk r (λ g. IsSound g) → IfOk r (λ g. g ≡ geometry_made inodes zones) → (IsErr r ↔ (zones ≤ first_zone inodes zones)) → first_zone inodes zones < zones
-    → IsSound (geometry_made inodes zones)
-sound_of (Ok g) inodes zones sound made small some = subst IsSound made sound
-sound_of (Err e) inodes zones sound made small some = let le = small.0 refl in absurd (omega (arith, le, some))
+pub sound_of : (r : Result Geometry TooSmall) (inodes zones width : ℕ) → IfOk r (λ g. IsSound g) → IfOk r (λ g. g ≡ geometry_made inodes zones width) → (IsErr r ↔ (zones ≤ first_zone inodes zones)) → first_zone inodes zones < zones
+    → IsSound (geometry_made inodes zones width)
+sound_of (Ok g) inodes zones width sound made small some = subst IsSound made sound
+sound_of (Err e) inodes zones width sound made small some = let le = small.0 refl in absurd (omega (arith, le, some))
 
 any_capacity : (limit capacity : ℕ) (p : SchedSeen) → IsNewScheduler limit capacity p → IsNewScheduler limit p.capacity p
 any_capacity limit capacity p new =

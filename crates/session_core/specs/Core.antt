@@ -36,7 +36,7 @@ use Rattle.session_machine.specs.MadeStart.{made_start}
 
 -- how its volume is divided
 abbrev pub geometry_of : SessionScript → Geometry
-geometry_of s = geometry_made s.inodes s.zones
+geometry_of s = geometry_made s.inodes s.zones s.width
 
 -- a new volume with an empty journal behind it
 abbrev pub opening_of : SessionScript → Opening

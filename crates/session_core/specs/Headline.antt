@@ -119,7 +119,7 @@ pub record HeadlineOn (s : SessionScript) (end : EndState) (r : SessionReport) :
   pub device : IsDeviceOf s end.dev
   -- The history goes by the programs and by the tree of calls.
   pub follows : FollowsTree (opening_of s) s.programs end.host
-  pub legal : IsLegal (room_of (geometry_of s)) (program_of s.programs) (events_in end.host.history)
+  pub legal : IsLegal (room_of (geometry_of s)) s.width (program_of s.programs) (events_in end.host.history)
   -- The transactions whose commit block was kept are the first ones, as many as were found; and the metadata recovered is
   -- that after them.
   pub transactions : IsFound (submitted_in s end) (medium_of r) r.found

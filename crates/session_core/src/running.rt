@@ -64,6 +64,7 @@ fn open_script(alloc: Global, script: &SessionScript) -> Result<OpenedSession, N
         script.inodes,
         script.zones,
         script.journal,
+        script.width,
         script.wide,
         script.header.limit,
         &script.programs,
@@ -79,7 +80,7 @@ fn check_parts<S: Scheduler, D: OrderedDev>(script: &SessionScript, host: &Host,
     ensures { IsMadeFor S.Scheduler D.OrderedDev (opening_of script.now) (start_of script.now) host.now script.now.header.queue (length script.now.programs) (S.state sched.now) (D.state dev.now) }
 {
     // These calls tell what holds of sizes, calls, and a new scheduler and device.
-    let _ = Geometry::make(script.inodes, script.zones);
+    let _ = Geometry::make(script.inodes, script.zones, script.width);
     calls_of_scripts_write_bytes();
     sessions_on_made_images_can_be_run::<S, D>();
     let _ = sched.can_accept();
@@ -153,7 +154,7 @@ fn cut_scripts_keep_their_promises(script: &SessionScript)
     requires { IsWellFormed script.now }
     ensures { (end : EndState) (r : SessionEnd) → KeepsTheOrder script.now end r → IsBehind script.now end → CutFacts script.now end.host (medium_left r) }
 {
-    let _ = Geometry::make(script.inodes, script.zones);
+    let _ = Geometry::make(script.inodes, script.zones, script.width);
     calls_of_scripts_write_bytes();
     cut_sessions_mount();
     cut_sessions_have_the_tree_of_a_prefix();

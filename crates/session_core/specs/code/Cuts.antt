@@ -36,7 +36,7 @@ pub record HostFacts (s : SessionScript) (h : Host VolumeNow Call Reply) : Type 
   pub ok_causes : (e t : ℕ) (c : Call) → AnsweredAt h e t c → is_data (kind_of c) ≡ false → HasOkCause h e t c
   pub causes : HaveCauses kind_of s.header.limit (HadCome (made_session (geometry_of s) s.journal s.wide s.header.limit s.programs) events) h
   pub follows : FollowsTree (opening_of s) s.programs h
-  pub legal : IsLegal (room_of (geometry_of s)) (program_of s.programs) (events_in h.history)
+  pub legal : IsLegal (room_of (geometry_of s)) s.width (program_of s.programs) (events_in h.history)
 
 -- What holds of such a host and of a medium that a power cut left: it mounts as the script's volume was divided, its journal
 -- tells how many transactions it has, and it has the tree and the files of these.
