@@ -6,6 +6,7 @@ use Rattle.blk_base.specs.Streams.{Rose, Drained, AppendsFront}
 use Rattle.script_grammar.specs.declared.kinds.ScriptKind.{ScriptKind}
 use Rattle.blk_base.specs.Image.{whole_blocks}
 use Rattle.mount_make.specs.declared.fault.ImageFault.{ImageFault}
+use Rattle.minix_layout.specs.declared.limits.TheConstants.{DEFAULT_WIDTH}
 use Rattle.minix_layout.specs.Geometry.{geometry_made}
 use Rattle.mount_make.specs.Made.{made_image}
 use Rattle.barrierfs_top.specs.declared.command_line.Command.{Command}
@@ -86,9 +87,9 @@ IsReplayAs false input report text = IsBlocksReplay input report text
 abbrev pub IsReplay : List ℕ → Option RunReport → List ℕ → Type 0
 IsReplay input report text = IsReplayAs (is_session input) input report text
 
--- `make`: the bytes are those of a new image with these sizes, and there is no report
+-- `make`: the bytes are those of a new image with these sizes and names of the default width, and there is no report
 abbrev pub IsMade : Sizes → Option RunReport → List ℕ → Type 0
-IsMade s report bytes = (bytes ≡ concat (made_image (geometry_made s.inodes s.zones) s.journal false)) × (report ≡ None)
+IsMade s report bytes = (bytes ≡ concat (made_image (geometry_made s.inodes s.zones DEFAULT_WIDTH) s.journal false)) × (report ≡ None)
 
 -- `show`: the text is that of the tree that the image has once its journal was recovered
 abbrev pub Makes : Command → List ℕ → Option RunReport → List ℕ → Type 0

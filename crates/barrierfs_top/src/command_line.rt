@@ -4,7 +4,7 @@ ghost use Rattle.script_words.specs.Spelling.{numeral};
 ghost use Rattle.barrierfs_top.specs.Tasks.{command_named_by, most_of, sizes_of, task_of, CanDo};
 
 use blk_base::NoMemory;
-use minix_layout::{Geometry, LEAST_JOURNAL, MOST_JOURNAL, MOST_NUMBERED};
+use minix_layout::{DEFAULT_WIDTH, Geometry, LEAST_JOURNAL, MOST_JOURNAL, MOST_NUMBERED};
 use script_grammar::MOST_SCRIPT_BYTES;
 use script_words::numeral;
 use std::alloc::Global;
@@ -135,7 +135,7 @@ fn checked(inodes: u64, zones: u64, journal: u64) -> Option<Sizes>
         return None;
     }
     let (inodes, zones) = (inodes as u16, zones as u16);
-    if Geometry::make(inodes, zones).is_err() {
+    if Geometry::make(inodes, zones, DEFAULT_WIDTH).is_err() {
         return None;
     }
     Some(Sizes {

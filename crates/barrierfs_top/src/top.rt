@@ -19,6 +19,7 @@ use crate::session::{is_session, run_session_text};
 use crate::show::show_text;
 use crate::text::put_report;
 use blk_base::{Image, ReadEnd, Sink, Source, read_all, read_image};
+use minix_layout::DEFAULT_WIDTH;
 use mount_make::{MakeFault, make_volume};
 use script_grammar::{MOST_SCRIPT_BYTES, ScriptError, read_script};
 use stack_core::core_run;
@@ -119,13 +120,20 @@ fn show(alloc: Global, image: Image) -> Result<Printed, TopFault>
     })
 }
 
-// An image of these sizes.
+// An image of these sizes, with names of the default width.
 fn make(alloc: Global, sizes: Sizes) -> Result<Printed, TopFault>
     requires { CanDo (Task.Make sizes) }
     ensures ok { IfOk result (λ p. IsMade sizes p.report (output_bytes p.output)) }
     ensures err { IfErr result (λ fault. fault ≡ TopFault.NoMemory) }
 {
-    match make_volume(alloc, sizes.inodes, sizes.zones, sizes.journal, false) {
+    match make_volume(
+        alloc,
+        sizes.inodes,
+        sizes.zones,
+        sizes.journal,
+        DEFAULT_WIDTH,
+        false,
+    ) {
         Ok(image) => Ok(Printed {
             report: None,
             output: Output::Image(image),
