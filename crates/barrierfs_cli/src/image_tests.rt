@@ -1,8 +1,12 @@
 //! Images through the top call.
+use crate::make_tests::put;
 use crate::tests::{expect_fault, expect_tree, run};
 use barrierfs_top::TopFault;
 use blk_base::{Block, NoMemory};
-use minix_layout::{Geometry, Inode, Name, Slot, Zones, write_inode, write_slot, write_super};
+use minix_layout::{
+    DEFAULT_WIDTH, Geometry, Inode, Name, Slot, Zones, slots_a_block, write_inode, write_slot,
+    write_super,
+};
 use mount_make::ImageFault;
 use std::alloc::Global;
 use std::test::Fail;
@@ -21,9 +25,10 @@ fn inode(mode: u16, size: u32, links: u8, zone: u16) -> Inode {
 
 fn put_name(zone: &mut Block, at: u8, inode: u16, name: &[u8]) {
     if let Some(name) = Name::of(name)
-        && at < 64
+        && name.as_slice().len() <= usize::from(DEFAULT_WIDTH)
+        && u32::from(at) < slots_a_block(DEFAULT_WIDTH)
     {
-        write_slot(zone, at, Some(&Slot { inode, name }));
+        write_slot(zone, at, Some(&Slot { inode, name }), DEFAULT_WIDTH);
     }
 }
 
@@ -35,7 +40,7 @@ fn foreign(alloc: Global) -> Result<Vec<u8>, NoMemory> {
         imap: 1,
         zmap: 1,
         first: 5,
-        width: 14,
+        width: DEFAULT_WIDTH,
     };
     let mut table = Block::fill(0);
     write_inode(&mut table, 0, &inode(0o040755, 48, 2, 5));
@@ -70,7 +75,7 @@ fn megabyte(alloc: Global) -> Result<Vec<u8>, NoMemory> {
         imap: 1,
         zmap: 1,
         first: 5,
-        width: 14,
+        width: DEFAULT_WIDTH,
     };
     let mut table = Block::fill(0);
     write_inode(&mut table, 0, &inode(0o040755, 48, 2, 5));
@@ -106,6 +111,22 @@ fn shows_a_foreign_image(rt: HostRuntime) -> Result<(), Fail> {
     let alloc = rt.alloc();
     let bytes = foreign(alloc)?;
     expect_tree(&rt, alloc, &bytes, "dir /\nother /null mode 020666\n")?;
+    Ok(())
+}
+
+// Under the magic number of names of 30 bytes the root's 48 bytes are no whole number of slots. Of 64 bytes the slots are
+// `.`, and `null` in place of `..`.
+#[test]
+fn shows_a_foreign_image_with_long_names(rt: HostRuntime) -> Result<(), Fail> {
+    let alloc = rt.alloc();
+    let mut bytes = foreign(alloc)?;
+    put(bytes.as_mut_slice(), 1040, b"\x8f\x13");
+    let found = run(alloc, &["show"], bytes.as_slice())?;
+    let fault = TopFault::Image(ImageFault::BadInode, 4);
+    expect_fault(&rt, &found, 4, fault, "half a slot");
+    put(bytes.as_mut_slice(), 4100, b"\x40");
+    let tree = "dir /\nother /null mode 020666\n";
+    expect_tree(&rt, alloc, bytes.as_slice(), tree)?;
     Ok(())
 }
 

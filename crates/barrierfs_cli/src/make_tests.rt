@@ -7,7 +7,7 @@ use std::alloc::Global;
 use std::test::Fail;
 
 // Writes bytes from a place on.
-fn put(bytes: &mut [u8], at: usize, front: &[u8]) {
+pub fn put(bytes: &mut [u8], at: usize, front: &[u8]) {
     for (k, byte) in front.iter().enumerate() {
         if let Some(place) = bytes.get_mut(at.saturating_add(k)) {
             *place = *byte;

@@ -14,6 +14,7 @@ fn prints_what_was_worked_out(rt: HostRuntime) -> Result<(), Fail> {
     let rows = [
         (calls::LAST_BLOCK, calls::LAST_BLOCK_PRINTS),
         (calls::NAMES, calls::NAMES_PRINTS),
+        (calls::LONG_NAME, calls::LONG_NAME_PRINTS),
         (calls::LINKS, calls::LINKS_PRINTS),
         (calls::REFUSALS, calls::REFUSALS_PRINTS),
         (calls::RENAMES, calls::RENAMES_PRINTS),

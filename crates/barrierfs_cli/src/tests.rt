@@ -307,7 +307,7 @@ fn knows_the_laws_of_the_model_device(rt: HostRuntime) -> Result<(), Fail> {
 }
 
 // Faults, and their texts.
-const FAULT_TEXTS: [(TopFault, &str); 20] = [
+const FAULT_TEXTS: [(TopFault, &str); 19] = [
     (TopFault::BadWords, "bad words"),
     (TopFault::SourceFault, "source fault"),
     (TopFault::SinkFault, "sink fault"),
@@ -337,10 +337,6 @@ const FAULT_TEXTS: [(TopFault, &str); 20] = [
     (
         TopFault::Image(ImageFault::BadMagic, 1),
         "image: bad magic at block 1",
-    ),
-    (
-        TopFault::Image(ImageFault::NameWidth, 1),
-        "image: name width at block 1",
     ),
     (
         TopFault::Image(ImageFault::BadGeometry, 0),

@@ -94,6 +94,28 @@ found 0
 dir /
 ";
 
+// A name that is too long by one byte for a volume of the default width.
+pub const LONG_NAME: &str = "\
+volume inodes 32 zones 64 journal 128 names 30
+thread 1
+create /abcdefghijklmno
+fsync /abcdefghijklmno
+events
+round 100
+";
+
+pub const LONG_NAME_PRINTS: &str = "\
+steps 13
+requests 7
+1 create /abcdefghijklmno: ok
+1 fsync /abcdefghijklmno: ok
+thread 1: 2 of 2
+closed 1
+found 1
+dir /
+file /abcdefghijklmno size 0 links 1
+";
+
 // A second name that moves, once the first one is gone.
 pub const LINKS: &str = "\
 volume inodes 32 zones 64 journal 128
