@@ -1,5 +1,5 @@
 -- Which inodes the nodes have after each step of a call, and after each call.
-use Rattle.std.specs.Prelude.{◌≡◌, ℕ, ◌+◌, ◌-◌, ◌/◌, ◌==◌, nat_le, Bool, true, false, not, ◌&&◌, if◌then◌else◌, List, [], ◌∷◌, length, Option, Some, None, option_map, unwrap_or, refl}
+use Rattle.std.specs.Prelude.{◌≡◌, ℕ, ◌+◌, ◌-◌, ◌==◌, nat_le, Bool, true, false, not, ◌&&◌, if◌then◌else◌, List, [], ◌∷◌, length, Option, Some, None, option_map, unwrap_or, refl}
 use Rattle.std.proofs.Common.{sym, ap, subst, inl}
 use Rattle.std.specs.Int.{div_ceil}
 use Rattle.std.specs.List.{slice_get}
@@ -12,9 +12,7 @@ use Rattle.volume_model.specs.declared.placed.Placed.{Placed}
 use Rattle.volume_model.specs.declared.placed.Part.{Part}
 use Rattle.volume_model.specs.declared.placed.Part.TheVariants as parts
 use Rattle.volume_model.specs.declared.placed.DirectoryPart.{DirectoryPart}
-use Rattle.volume_model.specs.Volume.{block, zone_in}
 use Rattle.volume_model.specs.Moves.{name_removed, without_name}
-use Rattle.volume_ops.specs.Places.{table_block}
 use Rattle.volume_steps.specs.Now.{VolumeNow, Change, followed_by, unchanged, with_contents}
 use Rattle.volume_steps.specs.Zones.{new_number}
 use Rattle.volume_steps.specs.Steps.{at_node, at_directory, at_file, set_links, resize, make_file, make_directory, make_room, put_name_slot, add_name, place_of, take_name, set_parent, lead_name, node_dropped, drop_node, write_block, write_blocks, cut_blocks, clear_tail, tells_node, slot_told}

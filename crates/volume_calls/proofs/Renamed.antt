@@ -1,14 +1,13 @@
 -- What a rename asks: its row by its tests, and its zones.
-use Rattle.std.specs.Prelude.{◌≡◌, ◌≢◌, ◌≤◌, ◌<◌, ◌+◌, ◌-◌, ◌==◌, ◌&&◌, ◌||◌, ℕ, suc, nat_lt, nat_le, is_some, Bool, true, false, not, if◌then◌else◌, List, [], ◌∷◌, length, is_none, Option, Some, None, option_map, unwrap_or, Result, Ok, Err, refl}
+use Rattle.std.specs.Prelude.{◌≡◌, ◌≤◌, ◌+◌, ◌==◌, ◌&&◌, ◌||◌, ℕ, suc, nat_le, is_some, Bool, true, false, not, if◌then◌else◌, List, [], ◌∷◌, length, is_none, Option, Some, None, option_map, unwrap_or, Result, Ok, Err, refl}
 use Rattle.std.specs.List.{list_any, sum_by}
-use Rattle.std.specs.Map.{keys_of, values_of}
+use Rattle.std.specs.Map.{values_of}
 use Rattle.std.specs.BTreeMap.{is_at}
-use Rattle.std.proofs.Common.{sym, ap, subst, ◌∙◌, inl, inr, arith, eqb-true}
-use Rattle.std.proofs.lemmas.Bool.{cases_Bool, true≢false, lt-ltb}
+use Rattle.std.proofs.Common.{sym, ap, subst, ◌∙◌, arith, eqb-true}
+use Rattle.std.proofs.lemmas.Bool.{true≢false, lt-ltb}
 use Rattle.std.proofs.lemmas.Option.{none-some, same_Some}
 use Rattle.std.proofs.lemmas.List.Sums.{sum_by-cons}
 use Rattle.std.proofs.lemmas.Map.Entries.{sum_by-remove_entry}
-use Rattle.dir_ops.specs.Slots.{used_count}
 use Rattle.dir_ops.specs.laws.Slots.{used-most}
 use Rattle.tree_model.specs.declared.call.Reply.{Reply}
 use Rattle.tree_model.specs.declared.call.Reply.TheVariants as replies
@@ -17,7 +16,7 @@ use Rattle.tree_model.specs.Maps.{at_number, at_name, name_cmp}
 use Rattle.tree_model.specs.Plain.{IsPlain}
 use Rattle.tree_model.specs.Trees.{is_directory, directory_links}
 use Rattle.tree_model.specs.laws.MapOrder.{without_name_in}
-use Rattle.tree_model.specs.Calls.{Tree, Row, Done, Found, Place, Move, names_in, is_root, walk, parent_of, above, and_then, refuse_if, leaves, most_links, is_full, needs_slot, most_slots, without_name, slots_with, directory_zones, used_zones, target_at, meets_directory, meets_file, moves_directory, changes_parent, place_after, stays, tree_moved, rename, rename_to}
+use Rattle.tree_model.specs.Calls.{Tree, Row, Done, Found, Place, Move, names_in, is_root, walk, parent_of, above, and_then, refuse_if, leaves, most_links, is_full, needs_slot, most_slots, without_name, slots_with, directory_zones, target_at, meets_directory, meets_file, moves_directory, changes_parent, place_after, stays, tree_moved, rename, rename_to}
 use Rattle.tree_model.proofs.Rows.{ok_ok, refuse_ok, walk_ok, parent_ok, place_names}
 use Rattle.volume_steps.proofs.RenameTree.{Renames, Met, met, none_met, file_met, itself}
 use Rattle.volume_steps.proofs.RenameZones.{rename_takes}
@@ -134,7 +133,7 @@ module _ (tree : Tree) (plain : IsPlain tree) (path other : List ℕ) (names mor
       by (itself e) = absurd (true≢false (sym e ∙ ap (λ (o : Option Found). elim o as (λ _. Bool) [ None ↦ false | Some t ↦ t.birth == found.birth ]) none))
 
   pub asked : (zones : ℕ) → Agrees (Ok tt) (rename_to tree move) → ((t : Found) → move.target ≡ Some t → zones ≡ 0) →
-      (at_name to.directory.names to.name ≡ None → move.target ≡ None → directory_zones (place_after move).directory.slots + zones ≡ directory_zones (slots_with (place_after move).directory to.name)) →
+      (at_name to.directory.names to.name ≡ None → move.target ≡ None → directory_zones (place_after move).directory.width (place_after move).directory.slots + zones ≡ directory_zones (place_after move).directory.width (slots_with (place_after move).directory to.name)) →
       IsAsked tree (Ok (record { inode = false; zones = zones })) (rename tree path other)
   asked zones agrees onto free = subst (IsAsked tree (Ok (record { inode = false; zones = zones }))) (sym row_is) (by (rename_to tree move) refl agrees)
     where
@@ -172,7 +171,7 @@ module _ (m : Moved) (h : HasSlots m) (blocks : List (List ℕ)) where
   pub full_after : (b f : Bool) → b ≡ changes_parent M → (b ≡ true → f ≡ is_full D) → (b && f) ≡ is_full (place_after M).directory
   full_after true f e g = g refl ∙ ap (λ (b : Bool). is_full (if b then D else without_name D m.from.name)) e
   full_after false f e g =
-      sym (ap (λ b. b && nat_le most_slots D.slots) (free_slot (sym e)))
+      sym (ap (λ b. b && nat_le (most_slots D.width) D.slots) (free_slot (sym e)))
       ∙ ap (λ (b : Bool). is_full (if b then D else without_name D m.from.name)) e
 
   kept_slots : (e : Directory) (name : List ℕ) → needs_slot e ≡ false → slots_with e name ≡ e.slots
@@ -182,16 +181,16 @@ module _ (m : Moved) (h : HasSlots m) (blocks : List (List ℕ)) where
       by true f = f
       by false f = refl
 
-  pub zones_there : (zones : ℕ) → changes_parent M ≡ true → directory_zones D.slots + zones ≡ directory_zones (slots_with D m.to.name) →
-      directory_zones (place_after M).directory.slots + zones ≡ directory_zones (slots_with (place_after M).directory m.to.name)
+  pub zones_there : (zones : ℕ) → changes_parent M ≡ true → directory_zones D.width D.slots + zones ≡ directory_zones D.width (slots_with D m.to.name) →
+      directory_zones (place_after M).directory.width (place_after M).directory.slots + zones ≡ directory_zones (place_after M).directory.width (slots_with (place_after M).directory m.to.name)
   zones_there zones e more =
-      subst (λ (d : Directory). directory_zones d.slots + zones ≡ directory_zones (slots_with d m.to.name)) (ap (λ (b : Bool). if b then D else without_name D m.from.name) (sym e)) more
+      subst (λ (d : Directory). directory_zones d.width d.slots + zones ≡ directory_zones d.width (slots_with d m.to.name)) (ap (λ (b : Bool). if b then D else without_name D m.from.name) (sym e)) more
 
   pub zones_within : changes_parent M ≡ false →
-      directory_zones (place_after M).directory.slots + 0 ≡ directory_zones (slots_with (place_after M).directory m.to.name)
+      directory_zones (place_after M).directory.width (place_after M).directory.slots + 0 ≡ directory_zones (place_after M).directory.width (slots_with (place_after M).directory m.to.name)
   zones_within e =
-      subst (λ (d : Directory). directory_zones d.slots + 0 ≡ directory_zones (slots_with d m.to.name)) (ap (λ (b : Bool). if b then D else without_name D m.from.name) (sym e))
-      (none (directory_zones D.slots) _ (ap directory_zones (kept_slots (without_name D m.from.name) m.to.name (free_slot e))))
+      subst (λ (d : Directory). directory_zones d.width d.slots + 0 ≡ directory_zones d.width (slots_with d m.to.name)) (ap (λ (b : Bool). if b then D else without_name D m.from.name) (sym e))
+      (none (directory_zones D.width D.slots) _ (ap (directory_zones D.width) (kept_slots (without_name D m.from.name) m.to.name (free_slot e))))
     where
       none : (a b : ℕ) → b ≡ a → a + 0 ≡ b
       none a b e = omega arith

@@ -1,5 +1,6 @@
 -- Where names lead, step by step, over the nodes of a volume.
-use Rattle.std.proofs.Common.{◌≡◌, ◌≢◌, ◌<◌, arith, ℕ, true, false, nat_lt, List, [], ◌∷◌, length, Some, None, Ok, Err, Result, refl, sym, ap, ◌∙◌}
+use Rattle.std.proofs.Common.{◌≡◌, ◌≢◌, ◌<◌, ◌≤◌, arith, ℕ, true, false, nat_lt, List, [], ◌∷◌, length, Some, None, Ok, Err, Result, refl, sym, ap, subst, ◌∙◌}
+use Rattle.minix_layout.specs.Widths.{IsWidth, of_14, of_30}
 use Rattle.tree_model.specs.declared.call.Reply.{Reply}
 use Rattle.tree_model.specs.declared.call.Reply.TheVariants as replies
 use Rattle.tree_model.specs.Calls.{Tree, Found, Place, and_then, birth_at, walk, found_at, refused_walk, parent_of, a_directory, refuse_if}
@@ -9,6 +10,9 @@ use Rattle.volume_model.specs.declared.placed.Placed.{Placed}
 use Rattle.volume_model.specs.declared.placed.Part.TheVariants as parts
 use Rattle.volume_model.specs.declared.placed.DirectoryPart.{DirectoryPart}
 use Rattle.volume_model.specs.Trees.{directory_from, node_from, node_now, tree_now}
+use Rattle.volume_model.specs.Volume.{IsDirectoryPart, IsPart}
+use Rattle.volume_steps.specs.Now.{VolumeNow}
+use Rattle.volume_steps.specs.Plain.{IsInUse}
 use Rattle.volume_steps.proofs.TreeSteps.{tree_at, tree_none}
 use Rattle.tree_model.proofs.NameTexts.{first_piece}
 use Rattle.volume_ops.specs.declared.found.Mapped.{Mapped}
@@ -23,6 +27,16 @@ step_some blocks placed birth p name r at is = is ∙ ap (λ o. replied (step_at
 pub step_none : (blocks : List (List ℕ)) (placed : List (ℕ × Placed)) (birth : ℕ) (name : List ℕ) → at_number placed birth ≡ None →
     Err replies.NotDir ≡ next_at (tree_now blocks placed) birth name
 step_none blocks placed birth name none = ap (λ o. replied (step_at o name)) (sym (tree_none blocks placed birth none))
+
+-- names of a volume have at most 30 bytes
+pub narrow_at : (v : VolumeNow) → IsInUse v → (birth : ℕ) (p : Placed) → at_number v.contents.nodes birth ≡ Some p → (d : DirectoryPart) → p.part ≡ parts.Directory d → d.width ≤ 30
+narrow_at v h birth p at d is =
+    let part : IsDirectoryPart v.geometry v.contents.blocks p.inode d = subst (IsPart v.geometry v.contents.blocks p.inode) is (h.volume.0.each birth p at).part in
+    subst (λ width. width ≤ 30) (sym part.width) (by v.geometry.width h.sound.width)
+  where
+    by : (width : ℕ) → IsWidth width → width ≤ 30
+    by width of_14 = omega arith
+    by width of_30 = omega arith
 
 -- ---- one name after the other
 
@@ -49,7 +63,7 @@ walk_none blocks placed names birth led none =
 
 abbrev pub then_place : List ℕ → Found → Result Place Reply
 then_place last found =
-    and_then (a_directory found.node) (λ d. refuse_if (nat_lt 14 (length last)) replies.NameTooLong (Ok (record { parent = found.birth; directory = d; name = last })))
+    and_then (a_directory found.node) (λ d. refuse_if (nat_lt d.width (length last)) replies.NameTooLong (Ok (record { parent = found.birth; directory = d; name = last })))
 
 parent_parts : (at_root : Reply) (tree : Tree) (names : List (List ℕ)) → names ≢ [] → parent_of at_root tree names ≡ and_then (walk tree (above_last names)) (then_place (last_in names))
 parent_parts at_root tree [] some = absurd (some refl)
@@ -79,12 +93,12 @@ module _ (blocks : List (List ℕ)) (placed : List (ℕ × Placed)) (text : List
     pub parent_file : (p : Placed) (zones : List Mapped) → at_number placed parent ≡ Some p → p.part ≡ parts.File zones → parent_of at_root tree names ≡ Err replies.NotDir
     parent_file p zones at is = of_node p at ∙ ap (λ part. then_place (last_in names) (record { birth = parent; node = node_from blocks p.inode part })) is
 
-    pub parent_long : (p : Placed) (d : DirectoryPart) → at_number placed parent ≡ Some p → p.part ≡ parts.Directory d → nat_lt 14 (length (last_in names)) ≡ true → parent_of at_root tree names ≡ Err replies.NameTooLong
+    pub parent_long : (p : Placed) (d : DirectoryPart) → at_number placed parent ≡ Some p → p.part ≡ parts.Directory d → nat_lt d.width (length (last_in names)) ≡ true → parent_of at_root tree names ≡ Err replies.NameTooLong
     parent_long p d at is long =
         of_node p at ∙ ap (λ part. then_place (last_in names) (record { birth = parent; node = node_from blocks p.inode part })) is
         ∙ ap (λ test. refuse_if test replies.NameTooLong (Ok (record { parent = parent; directory = directory_from d; name = last_in names }))) long
 
-    pub parent_place : (p : Placed) (d : DirectoryPart) (name : List ℕ) → at_number placed parent ≡ Some p → p.part ≡ parts.Directory d → nat_lt 14 (length (last_in names)) ≡ false → name ≡ last_in names →
+    pub parent_place : (p : Placed) (d : DirectoryPart) (name : List ℕ) → at_number placed parent ≡ Some p → p.part ≡ parts.Directory d → nat_lt d.width (length (last_in names)) ≡ false → name ≡ last_in names →
         parent_of at_root tree names ≡ Ok (record { parent = parent; directory = directory_from d; name = name })
     parent_place p d name at is short same =
         of_node p at ∙ ap (λ part. then_place (last_in names) (record { birth = parent; node = node_from blocks p.inode part })) is

@@ -52,7 +52,7 @@ indices_rise (x ∷ xs) a = (
 -- a file of a volume
 module _ (v : VolumeNow) (h : IsInUse v) (birth : ℕ) (p : Placed) (zones : List Mapped) (stands : at_number v.contents.nodes birth ≡ Some p) (is : p.part ≡ parts.File zones) where
   part : IsFilePart v.contents.blocks p.inode zones
-  part = subst (IsPart v.contents.blocks p.inode) is (h.volume.0.each birth p stands).part
+  part = subst (IsPart v.geometry v.contents.blocks p.inode) is (h.volume.0.each birth p stands).part
 
   pub file_rises : IsAscending (λ (i : ℕ). i) (indices_of zones)
   file_rises = indices_rise zones (rising_ascending zones part.rising)

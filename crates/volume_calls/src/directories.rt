@@ -6,7 +6,7 @@ ghost use Rattle.tree_model.specs.Maps.{at_name};
 ghost use Rattle.volume_model.specs.Trees.{directory_from};
 
 use dir_ops::Slots;
-use minix_layout::MOST_SLOTS;
+use minix_layout::{most_slots, slots_a_block};
 use volume_model::DirectoryPart;
 
 // No slot is free for one name more.
@@ -22,7 +22,7 @@ pub fn is_full(directory: &DirectoryPart) -> bool
     requires { used_count directory.now.slots ≡ 2 + length directory.now.names }
     ensures { result ≡ is_full (directory_from directory.now) }
 {
-    needs_slot(directory) && directory.slots.len() >= MOST_SLOTS as usize
+    needs_slot(directory) && directory.slots.len() >= most_slots(directory.width) as usize
 }
 
 // It has no names but for `.` and `..`.
@@ -60,12 +60,13 @@ pub fn one_if(test: bool) -> u32
 pub fn slot_zones(directory: &DirectoryPart) -> u32
     requires { used_count directory.now.slots ≡ 2 + length directory.now.names }
     ensures more { (name : List ℕ) → at_name directory.now.names name ≡ None →
-        directory_zones (length directory.now.slots) + result ≡ directory_zones (slots_with (directory_from directory.now) name) }
+        directory_zones directory.now.width (length directory.now.slots) + result ≡ directory_zones directory.now.width (slots_with (directory_from directory.now) name) }
     ensures most { result ≤ 2 }
 {
     if !needs_slot(directory) {
         return 0;
     }
     let slots = directory.slots.len();
-    one_if(slots % 64 == 0) + one_if(slots == 448)
+    let per = slots_a_block(directory.width) as usize;
+    one_if(slots % per == 0) + one_if(slots == 7 * per)
 }

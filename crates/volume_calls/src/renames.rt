@@ -126,8 +126,8 @@ impl Moved<'_> {
     fn zones(&self) -> u32
         requires { HasSlots self.now }
         ensures { (blocks : List (List ℕ)) → at_name self.now.to.directory.now.names self.now.to.name ≡ None →
-            directory_zones (place_after (move_from blocks self.now)).directory.slots + result ≡
-            directory_zones (slots_with (place_after (move_from blocks self.now)).directory self.now.to.name) }
+            directory_zones (place_after (move_from blocks self.now)).directory.width (place_after (move_from blocks self.now)).directory.slots + result ≡
+            directory_zones (place_after (move_from blocks self.now)).directory.width (slots_with (place_after (move_from blocks self.now)).directory self.now.to.name) }
     {
         if !self.changes_parent() {
             return 0;

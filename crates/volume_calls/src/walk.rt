@@ -1,5 +1,5 @@
 //! Where paths lead in a volume.
-ghost use Rattle.std.specs.Prelude.{◌≡◌, ℕ, List, IfOk, IfErr, IfSome, IsNone, Ok, Err, Some, None, IsTrue, length, ◌<◌, ◌+◌};
+ghost use Rattle.std.specs.Prelude.{◌≡◌, ℕ, List, IfOk, IfErr, IfSome, IsNone, Ok, Err, Some, None, IsTrue, length, ◌<◌, ◌≤◌, ◌+◌};
 ghost use Rattle.std.specs.List.{list_all};
 ghost use Rattle.dir_ops.specs.Slots.{used_count};
 ghost use Rattle.volume_model.specs.declared.placed.DirectoryPart.{DirectoryPart};
@@ -38,13 +38,14 @@ pub struct Place<'a> {
 
 // Where a name leads from a node of this kind.
 fn step_in(part: &Part, name: &[u8]) -> Result<u64, Reply>
-    requires { IsTrue (is_path_name name.now) }
+    requires word { IsTrue (is_path_name name.now) }
+    requires narrow { (d : DirectoryPart) → part.now ≡ parts.Directory d → d.width ≤ 30 }
     ensures { (blocks : List (List ℕ)) (i : Inode) → result ≡ replied (step_at (Some (node_from blocks i part.now)) name.now) }
 {
     let Part::Directory(directory) = part else {
         return Err(Reply::NotDir);
     };
-    let name = short_name(name)?;
+    let name = short_name(name, directory.width)?;
     match directory.names.get(&name) {
         Some(birth) => Ok(birth),
         None => Err(Reply::NotFound),
@@ -77,6 +78,7 @@ impl PlainVolume {
         requires { IsTrue (is_path_name name.now) }
         ensures { result ≡ next_at (tree_of_now self.now) birth name.now }
     {
+        let _ = &self.parts.geometry;
         match self.node_at(birth) {
             Some(placed) => step_in(&placed.part, name),
             None => Err(Reply::NotDir),
@@ -157,7 +159,7 @@ impl PlainVolume {
         let Part::Directory(directory) = &placed.part else {
             return Err(Reply::NotDir);
         };
-        let Ok(name) = short_name(last) else {
+        let Ok(name) = short_name(last, directory.width) else {
             return Err(Reply::NameTooLong);
         };
         Ok(Place {

@@ -13,7 +13,7 @@ returns c =
     let p = c.in-Ok.found.placed.now in
     let zones = c.in-File.zones in
     let plain : IsPlainNow v = subst IsPlainNow c.self.view_is c.self.invariant.plain in
-    let part = subst (IsPart v.contents.blocks p.inode) c.in-File.is (plain.in_use.volume.0.each c.in-Ok.found.birth p c.in-Ok.ensures.stands).part in
+    let part = subst (IsPart v.geometry v.contents.blocks p.inode) c.in-File.is (plain.in_use.volume.0.each c.in-Ok.found.birth p c.in-Ok.ensures.stands).part in
     let kept : c.keeps_mapped.result ≡ keeps_mapped c.args.size p.inode.size zones = search rules in
     kept
     ∙ file_keeps v.contents.blocks zones c.args.size p.inode.size p.inode.links

@@ -1,5 +1,4 @@
-use Rattle.std.proofs.Common.{ap, ◌∙◌, ◌<◌, ◌≡◌, Some, sym, subst}
-use Rattle.tree_model.specs.Maps.{at_number}
+use Rattle.std.proofs.Common.{ap, ◌∙◌, ◌<◌, sym, subst}
 use Rattle.volume_model.specs.Trees.{node_now}
 use Rattle.volume_steps.specs.Now.{VolumeNow}
 use Rattle.volume_names.specs.UsedInodes.{unmarked}

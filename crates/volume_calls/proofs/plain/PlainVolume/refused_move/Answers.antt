@@ -1,6 +1,5 @@
-use Rattle.std.proofs.Common.{sym, ap, ◌∙◌, ◌≡◌, ◌==◌, ◌&&◌, is_none, true, false}
+use Rattle.std.proofs.Common.{sym, ap, ◌∙◌, ◌==◌, ◌&&◌}
 use Rattle.tree_model.specs.Calls.{Move, changes_parent, moves_directory, most_links}
-use Rattle.tree_model.specs.Trees.{directory_links}
 use Rattle.volume_steps.specs.Now.{tree_of_now}
 use Rattle.volume_calls.specs.code.Renames.{found_from, move_from}
 use Rattle.volume_calls.proofs.Renamed.{agrees_full, agrees_free, none_there}

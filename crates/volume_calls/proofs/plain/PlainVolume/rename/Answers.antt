@@ -1,4 +1,4 @@
-use Rattle.std.proofs.Common.{sym, subst, refl, true, false, Ok, Err, Option}
+use Rattle.std.proofs.Common.{sym, subst, refl, Ok, Err, Option}
 use Rattle.tree_model.specs.declared.call.Reply.TheVariants as replies
 use Rattle.tree_model.specs.Calls.{Place, Found, rename_to}
 use Rattle.tree_model.specs.code.PathTexts.{names_below}
@@ -6,7 +6,7 @@ use Rattle.volume_steps.specs.Now.{VolumeNow, tree_of_now}
 use Rattle.volume_steps.specs.Plain.{IsPlainNow}
 use Rattle.volume_steps.proofs.PlainNow.{tree_is_plain}
 use Rattle.volume_calls.specs.code.Rows.{Agrees}
-use Rattle.volume_calls.specs.code.Renames.{found_from, place_from, move_from}
+use Rattle.volume_calls.specs.code.Renames.{found_from, place_from}
 use Rattle.volume_calls.proofs.Renamed.{within_of, no_target, some_target, asked, asked_err}
 use Rattle.volume_calls.proofs.plain.PlainVolume.rename.Goals as goal
 
