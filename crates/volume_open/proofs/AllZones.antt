@@ -39,7 +39,7 @@ keys_above low (f ∷ fs) h e (inl same) = subst (λ (e : ℕ × _). low < e.0) 
 keys_above low (f ∷ fs) h e (inr i) = keys_above low fs h.1 e i
 
 module _ (v : VolumeNow) (h : IsVolume v.geometry v.contents)
-    (slotted : (birth : ℕ) (p : Placed) (d : DirectoryPart) → at_number v.contents.nodes birth ≡ Some p → p.part ≡ parts.Directory d → HasSlotZones v.contents.blocks p.inode (length d.slots)) where
+    (slotted : (birth : ℕ) (p : Placed) (d : DirectoryPart) → at_number v.contents.nodes birth ≡ Some p → p.part ≡ parts.Directory d → HasSlotZones v.geometry v.contents.blocks p.inode (length d.slots)) where
   abbrev own : Placed → Place → ℕ
   own p x = zone_in v.contents.blocks p.inode x
 

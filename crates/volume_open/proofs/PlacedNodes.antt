@@ -111,7 +111,7 @@ module _ (g : Geometry) (blocks : List (List ℕ)) (tree : List (ℕ × Node)) (
     | inr apart ↦ (let low = rw (ne_eqb birth 0 apart) at within in let few = r.sound.fits.inodes in omega arith)
   ]
 
-  file_order : (i : Inode) (f : Found) → IsPart blocks i (part_found blocks i f) → HasOrder f
+  file_order : (i : Inode) (f : Found) → IsPart g blocks i (part_found g blocks i f) → HasOrder f
   file_order i (found.File f) part = part.rising
   file_order i (found.Directory d) part = tt
   file_order i (found.Other mode) part = tt

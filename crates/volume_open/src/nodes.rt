@@ -1,6 +1,7 @@
 //! The nodes that a walk found, each with its place in the volume.
 ghost use Rattle.std.specs.Prelude.{◌≡◌, [], IfOk, OnOk};
 ghost use Rattle.blk_base.specs.Members.{In};
+ghost use Rattle.minix_layout.specs.Widths.{IsWidth};
 ghost use Rattle.tree_model.specs.Maps.{put_number};
 ghost use Rattle.volume_ops.specs.declared.found.FoundNode.{FoundNode};
 ghost use Rattle.volume_model.specs.ImageNodes.{part_found};
@@ -13,15 +14,23 @@ use std::collections::BTreeMap;
 use volume_model::{DirectoryPart, FileZones, Part, Placed, slots_in};
 use volume_ops::{Disk, Found, FoundNode, inode_at, inode_of_birth};
 
-fn part_found(alloc: Global, disk: &Disk, inode: &Inode, found: Found) -> Result<Part, NoMemory>
-    requires { HasOrder found }
-    ensures { IfOk result (λ part. part ≡ part_found disk.now inode.now found) }
+fn part_found(
+    alloc: Global,
+    g: &Geometry,
+    disk: &Disk,
+    inode: &Inode,
+    found: Found,
+) -> Result<Part, NoMemory>
+    requires width { IsWidth g.now.width }
+    requires order { HasOrder found }
+    ensures { IfOk result (λ part. part ≡ part_found g.now disk.now inode.now found) }
 {
     match found {
         Found::Directory(directory) => Ok(Part::Directory(DirectoryPart {
             parent: directory.parent,
+            width: directory.width,
             names: directory.names,
-            slots: slots_in(alloc, disk, inode)?,
+            slots: slots_in(alloc, disk, g, inode)?,
         })),
         Found::File(file) => Ok(Part::File(FileZones::of(file.zones.into_vec()))),
         Found::Other(_) => Ok(Part::File(FileZones::new(alloc))),
@@ -34,12 +43,13 @@ fn placed_found(
     disk: &Disk,
     node: FoundNode,
 ) -> Result<Placed, NoMemory>
-    requires { IsNodeFound node }
+    requires width { IsWidth g.now.width }
+    requires node { IsNodeFound node }
     ensures { IfOk result (λ placed. placed ≡ placed_found g.now disk.now node) }
 {
     let number = inode_of_birth(node.birth);
     let inode = inode_at(disk, g, number);
-    let part = part_found(alloc, disk, &inode, node.found)?;
+    let part = part_found(alloc, g, disk, &inode, node.found)?;
     Ok(Placed {
         number,
         inode,
@@ -63,7 +73,8 @@ pub fn placed_nodes(
     disk: &Disk,
     found: Vec<FoundNode>,
 ) -> Result<BTreeMap<u64, Placed>, NoMemory>
-    requires { (n : FoundNode) → In n found.items → IsNodeFound n }
+    requires width { IsWidth g.now.width }
+    requires nodes { (n : FoundNode) → In n found.items → IsNodeFound n }
     ensures { IfOk result (λ nodes. nodes.entries ≡ put_all (placed_found g.now disk.now) found.items []) }
 {
     let mut nodes = BTreeMap::new(alloc);

@@ -16,7 +16,7 @@ abbrev pub placed_found : Geometry → List (List ℕ) → FoundNode → Placed
 placed_found g blocks n = record {
   number = inode_of_birth n.birth;
   inode = inode_born g blocks n.birth;
-  part = part_found blocks (inode_born g blocks n.birth) n.found;
+  part = part_found g blocks (inode_born g blocks n.birth) n.found;
 }
 
 -- what is made of each node, by births

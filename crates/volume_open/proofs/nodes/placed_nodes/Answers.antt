@@ -5,10 +5,10 @@ use Rattle.volume_open.specs.code.Placing.{placed_found, put_all}
 use Rattle.volume_open.proofs.nodes.placed_nodes.Goals as goal
 
 pub loop-node-init : goal.loop-node-init
-loop-node-init c = rw (c.into_iter-node-iterator.ensures.into_iter_gives.0, c.new-nodes.ensures.empty) (refl, c.requires)
+loop-node-init c = rw (c.into_iter-node-iterator.ensures.into_iter_gives.0, c.new-nodes.ensures.empty) (refl, c.requires.nodes)
 
-pub placed_found-requires : goal.placed_found-requires
-placed_found-requires c =
+pub placed_found-requires-clause-node : goal.placed_found-requires-clause-node
+placed_found-requires-clause-node c =
     let steps : into_iter_items c.loop-node.node-iterator ≡ c.in-Some.node ∷ into_iter_items c.next.new.self = c.in-Some.ensures.steps.0 in
     c.loop-node.invariant.1 c.in-Some.node (rw steps (inl refl))
 

@@ -3,8 +3,8 @@ use Rattle.zone_maps.specs.Zones.{made}
 use Rattle.volume_open.proofs.OpenSteps.{nodes_fit, opened, tree_told, contents_told, none_waiting}
 use Rattle.volume_open.proofs.opening.open_volume.Goals as goal
 
-pub placed_nodes-requires : goal.placed_nodes-requires
-placed_nodes-requires c =
+pub placed_nodes-requires-clause-nodes : goal.placed_nodes-requires-clause-nodes
+placed_nodes-requires-clause-nodes c =
     let parts = c.into_parts-blocks.ensures in
     nodes_fit c.args.volume c.requires c.into_parts-blocks.result.geometry c.new-disk.result parts.geometry (c.new-disk.ensures ∙ parts.blocks) c.plain_when_read.ensures
     c.into_parts-blocks.result.nodes.items parts.nodes
