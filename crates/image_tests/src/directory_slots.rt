@@ -1,10 +1,14 @@
 //! Tests of the slots of a directory.
+#![tactic(auto, using(minix_layout::specs::Widths::of_14, minix_layout::specs::Widths::of_30))]
+
+ghost use Rattle.minix_layout.specs.Widths.{IsWidth};
+
 use blk_base::{Block, Image};
 use dir_ops::{
     Slots, added_names_are_found, led_names_stay, names_are_found, removed_names_are_gone,
     room_is_the_least_free_place,
 };
-use minix_layout::{Inode, Name, Slot, Zones, write_slot};
+use minix_layout::{DEFAULT_WIDTH, Geometry, Inode, Name, Slot, Zones, write_slot};
 use std::alloc::{AllocError, Global};
 use std::process::Abort;
 use std::test::Fail;
@@ -120,36 +124,60 @@ fn a_slot_is_led_to_another_inode(rt: HostRuntime) -> Result<(), Fail> {
 }
 
 // A disk whose zone 3 has one slot in use, the second.
-fn disk(rt: &impl Abort, alloc: Global) -> Disk {
+fn disk(rt: &impl Abort, alloc: Global, width: u16) -> Disk
+    requires { IsWidth width }
+{
     let slot = Slot {
         inode: 2,
         name: Name::of(b"ab").expect(rt, "no name"),
     };
     let mut body = Block::fill(0);
-    write_slot(&mut body, 1, Some(&slot));
+    if slot.name.as_slice().len() <= width as usize {
+        write_slot(&mut body, 1, Some(&slot), width);
+    }
     let mut blocks = Image::zeroed(alloc, 5).expect(rt, "no blocks");
     blocks.put(3, body);
     Disk::new(blocks)
 }
 
-// A directory of three slots in zone 3.
-#[test]
-fn slots_are_read_from_an_image(rt: HostRuntime) {
-    let inode = Inode {
+// The inode of a directory of so many bytes in zone 3.
+fn directory_inode(size: u32) -> Inode {
+    Inode {
         mode: 0x41ED,
         uid: 0,
-        size: 48,
+        size,
         time: 0,
         gid: 0,
         links: 2,
         zones: Zones::of([3, 0, 0, 0, 0, 0, 0, 0, 0]),
+    }
+}
+
+// Expects three slots of a directory of so many bytes, of which the second is in use.
+fn expect_three(rt: &impl Abort, alloc: Global, width: u16, size: u32)
+    requires { IsWidth width }
+{
+    let geometry = Geometry {
+        inodes: 32,
+        zones: 5,
+        imap: 1,
+        zmap: 1,
+        first: 3,
+        width,
     };
-    let disk = disk(&rt, rt.alloc());
-    let slots = slots_in(rt.alloc(), &disk, &inode).expect(&rt, "no slots");
+    let disk = disk(rt, alloc, width);
+    let inode = directory_inode(size);
+    let slots = slots_in(alloc, &disk, &geometry, &inode).expect(rt, "no slots");
     let used = [
         slots.get(0).is_some(),
         slots.get(1).is_some(),
         slots.get(2).is_some(),
     ];
-    assert_eq!(rt; (slots.len(), used), (3, [false, true, false]));
+    assert_eq!(rt; (slots.len(), used), (3, [false, true, false]), "{width}");
+}
+
+#[test]
+fn slots_are_read_from_an_image(rt: HostRuntime) {
+    expect_three(&rt, rt.alloc(), DEFAULT_WIDTH, 48);
+    expect_three(&rt, rt.alloc(), 30, 96);
 }

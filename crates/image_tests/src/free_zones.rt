@@ -1,5 +1,5 @@
 //! Tests of the map of zones.
-use minix_layout::Geometry;
+use minix_layout::{DEFAULT_WIDTH, Geometry};
 use zone_maps::{NoSpace, ZoneMap, lowest_is_found, zones_are_counted, zones_last};
 
 // The zones of data are 5 to 9.
@@ -9,7 +9,7 @@ const SMALL: Geometry = Geometry {
     imap: 1,
     zmap: 1,
     first: 5,
-    width: 14,
+    width: DEFAULT_WIDTH,
 };
 
 // The zones that are free, and those in quarantine.

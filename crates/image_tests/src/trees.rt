@@ -1,6 +1,6 @@
 //! The text of a tree, paths, copies of names, and the laws of calls.
 use blk_base::{Block, NoMemory};
-use minix_layout::Name;
+use minix_layout::{DEFAULT_WIDTH, Name};
 use std::alloc::Global;
 use std::test::Fail;
 use tree_model::{
@@ -25,6 +25,7 @@ fn directory(alloc: Global, names: &[(&[u8], u64)]) -> Result<Node, Fail> {
     }
     Ok(Node::Directory(Directory {
         parent: 0,
+        width: DEFAULT_WIDTH,
         slots: 2,
         names: map,
     }))

@@ -1,7 +1,14 @@
 //! Images that are put together by the writers of the layout, and then damaged.
+#![tactic(auto, using(minix_layout::specs::Widths::of_14, minix_layout::specs::Widths::of_30))]
+
+ghost use Rattle.minix_layout.specs.Widths.{IsWidth};
+
 use blk_base::{Block, Image, NoMemory};
 use device_epochs::{DeviceSetup, EpochDevice};
-use minix_layout::{Geometry, Inode, Name, Slot, Zones, write_inode, write_slot, write_super};
+use minix_layout::{
+    DEFAULT_WIDTH, Geometry, Inode, Name, Slot, Zones, slots_a_block, write_inode, write_slot,
+    write_super,
+};
 use mount_make::{
     ImageFault, MountFault, image_faults_are_first_defects, image_metadata_gives_trees,
     images_have_one_tree, mount,
@@ -50,12 +57,15 @@ fn put_inode(blocks: &mut [Block], table: u16, number: u16, i: &Inode) {
     }
 }
 
-fn put_name(blocks: &mut [Block], zone: usize, at: u8, inode: u16, name: &[u8]) {
-    if at < 64
+fn put_name(blocks: &mut [Block], width: u16, zone: usize, at: u8, inode: u16, name: &[u8])
+    requires { IsWidth width }
+{
+    if u32::from(at) < slots_a_block(width)
+        && name.len() <= usize::from(width)
         && let Some(block) = blocks.get_mut(zone)
         && let Some(name) = Name::of(name)
     {
-        write_slot(block, at, Some(&Slot { inode, name }));
+        write_slot(block, at, Some(&Slot { inode, name }), width);
     }
 }
 
@@ -90,7 +100,7 @@ const GEOMETRY: Geometry = Geometry {
     imap: 1,
     zmap: 1,
     first: 6,
-    width: 14,
+    width: DEFAULT_WIDTH,
 };
 
 // Inodes: a root with 70 slots in two zones, some of them free; a file with blocks at each level of its map, holes and
@@ -149,7 +159,7 @@ fn sample(rt: &impl Abort, alloc: Global) -> Vec<Block> {
         put_inode(&mut blocks, 4, *number, &inode);
     }
     for (zone, at, inode, name) in &NAMES {
-        put_name(&mut blocks, *zone, *at, *inode, name);
+        put_name(&mut blocks, DEFAULT_WIDTH, *zone, *at, *inode, name);
     }
     for (zone, value) in &BODIES {
         put_body(&mut blocks, *zone, *value);
@@ -294,10 +304,87 @@ other /zz mode 020666
 #[test]
 fn shows_odd_names(rt: HostRuntime) {
     let mut blocks = sample(&rt, rt.alloc());
-    put_name(&mut blocks, 6, 5, 2, b" a\\\x7f\xff!~");
-    put_name(&mut blocks, 19, 2, 33, b"\x01");
+    put_name(&mut blocks, DEFAULT_WIDTH, 6, 5, 2, b" a\\\x7f\xff!~");
+    put_name(&mut blocks, DEFAULT_WIDTH, 19, 2, 33, b"\x01");
     let text = shown(&rt, rt.alloc(), blocks.as_slice(), &[]);
     assert_eq!(rt; text.as_str(), ODD_NAMES);
+}
+
+// The same division, with names of up to 30 bytes.
+const WIDE: Geometry = Geometry {
+    inodes: 64,
+    zones: 40,
+    imap: 1,
+    zmap: 1,
+    first: 6,
+    width: 30,
+};
+
+// A root with 34 slots in two zones, and a file.
+const WIDE_INODES: [(u16, u16, u32, u8, [u16; 9]); 2] = [
+    (1, DIRECTORY, 1088, 2, [6, 7, 0, 0, 0, 0, 0, 0, 0]),
+    (2, FILE, 5, 2, [8, 0, 0, 0, 0, 0, 0, 0, 0]),
+];
+
+// Its names have 15 and 30 bytes, and the longer one stands in the last slot of the first zone.
+const WIDE_NAMES: [(usize, u8, u16, &[u8]); 4] = [
+    (6, 0, 1, b"."),
+    (6, 1, 1, b".."),
+    (6, 31, 2, b"abcdefghijklmnopqrstuvwxyz-123"),
+    (7, 1, 2, b"abcdefghijklmno"),
+];
+
+fn wide_sample(rt: &impl Abort, alloc: Global) -> Vec<Block> {
+    let mut blocks = empty(alloc, 40).expect(rt, "no blocks");
+    put_super(&mut blocks, &WIDE);
+    for (number, mode, size, links, zones) in &WIDE_INODES {
+        let inode = inode(*mode, *size, *links, *zones);
+        put_inode(&mut blocks, 4, *number, &inode);
+    }
+    for (zone, at, inode, name) in &WIDE_NAMES {
+        put_name(&mut blocks, 30, *zone, *at, *inode, name);
+    }
+    put_body(&mut blocks, 8, 0x68);
+    blocks
+}
+
+const WIDE_SAMPLE: &str = "\
+dir /
+file /abcdefghijklmno size 5 links 2
+block 0 5x68
+link /abcdefghijklmnopqrstuvwxyz-123 /abcdefghijklmno
+";
+
+#[test]
+fn shows_long_names(rt: HostRuntime) {
+    let blocks = wide_sample(&rt, rt.alloc());
+    // As it is; and with a slot of no inode past the size.
+    for patch in [(0, 0), (7 * 1024 + 64, 65)] {
+        let text = shown(&rt, rt.alloc(), blocks.as_slice(), &[patch]);
+        assert_eq!(rt; text.as_str(), WIDE_SAMPLE, "{patch:?}");
+    }
+}
+
+// A size of 34 slots and a half, a `/` as the last byte of a name, and a slot of no inode in the second zone.
+const WIDE_ROWS: [(usize, u16, ImageFault, u32); 3] = [
+    (ROOT + 4, 1104, ImageFault::BadInode, 4),
+    (6 * 1024 + 1022, 0x2F32, ImageFault::BadSlot, 6),
+    (7 * 1024 + 32, 65, ImageFault::BadSlot, 7),
+];
+
+#[test]
+fn tells_the_fault_of_a_directory_of_long_names(rt: HostRuntime) {
+    let blocks = wide_sample(&rt, rt.alloc());
+    for (at, number, kind, block) in &WIDE_ROWS {
+        expect_refused(
+            &rt,
+            rt.alloc(),
+            blocks.as_slice(),
+            &[(*at, *number)],
+            *kind,
+            *block,
+        );
+    }
 }
 
 // Lengths of images that are cut off, and the blocks that are told.
@@ -383,10 +470,10 @@ const INODE_ROWS: [(usize, u16, ImageFault, u32); 21] = [
     (SUPER + 8, 40, ImageFault::BadGeometry, 1),
     (SUPER + 8, 5, ImageFault::BadGeometry, 1),
     (SUPER + 10, 1, ImageFault::BadGeometry, 1),
-    (SUPER + 16, 0x138F, ImageFault::NameWidth, 1),
     (SUPER + 16, 0x2468, ImageFault::BadMagic, 1),
     (SUPER + 16, 0, ImageFault::BadMagic, 1),
-    // Inodes.
+    // Inodes. With the magic number of long names, a directory of 48 bytes has one and a half slots.
+    (SUPER + 16, 0x138F, ImageFault::BadInode, 4),
     (ROOT, FILE, ImageFault::BadInode, 4),
     (ROOT, DEVICE, ImageFault::BadInode, 4),
     (ROOT + 4, 1121, ImageFault::BadInode, 4),

@@ -1,7 +1,10 @@
 //! Images that are made, and mounted with what stands in their journals.
+#![tactic(auto, using(minix_layout::specs::Widths::of_14, minix_layout::specs::Widths::of_30))]
+
 use blk_base::{Block, Image};
 use device_epochs::{DeviceSetup, EpochDevice};
 use journal_blocks::{JournalSuper, Tag, write_commit, write_descriptor, write_super};
+use minix_layout::DEFAULT_WIDTH;
 use mount_make::{
     MakeFault, MountFault, made_images_are_plain, made_maps_mark_the_root, make_volume, mount,
 };
@@ -35,6 +38,25 @@ fn made(at: u32) -> (&'static [u8], u8) {
     }
 }
 
+// The same of an image with names of up to 30 bytes, and of `mkfs.minix -1 -n 30`.
+fn made_with_long_names(at: u32) -> (&'static [u8], u8) {
+    match at {
+        1 => (
+            b"\x20\x00\x40\x00\x01\x00\x01\x00\x05\x00\x00\x00\x00\x1c\x08\x10\x8f\x13\x01\x00",
+            0,
+        ),
+        4 => (
+            b"\xed\x41\x00\x00\x40\x00\x00\x00\x00\x00\x00\x00\x00\x02\x05\x00",
+            0,
+        ),
+        5 => (
+            b"\x01\x00.\x00\x00\x00\x00\x00\x00\x00\x00\x00\x00\x00\x00\x00\x00\x00\x00\x00\x00\x00\x00\x00\x00\x00\x00\x00\x00\x00\x00\x00\x01\x00..",
+            0,
+        ),
+        _ => made(at),
+    }
+}
+
 // Whether a block begins with these bytes, and goes on with this one.
 pub(crate) fn is_block(block: &Block, front: &[u8], rest: u8) -> bool {
     for (k, byte) in block.as_slice().iter().enumerate() {
@@ -51,7 +73,7 @@ pub(crate) fn is_block(block: &Block, front: &[u8], rest: u8) -> bool {
 
 #[test]
 fn makes_each_block(rt: HostRuntime) {
-    let image = make_volume(rt.alloc(), 32, 64, 128, false).expect(&rt, "not made");
+    let image = make_volume(rt.alloc(), 32, 64, 128, DEFAULT_WIDTH, false).expect(&rt, "not made");
     assert_eq!(rt; image.len(), 192);
     for at in 0..192 {
         let (front, rest) = made(at);
@@ -63,11 +85,25 @@ fn makes_each_block(rt: HostRuntime) {
     made_maps_mark_the_root();
 }
 
+#[test]
+fn makes_each_block_of_a_volume_of_long_names(rt: HostRuntime) {
+    let image = make_volume(rt.alloc(), 32, 64, 128, 30, false).expect(&rt, "not made");
+    assert_eq!(rt; image.len(), 192);
+    for at in 0..192 {
+        let (front, rest) = made_with_long_names(at);
+        if at < image.len() {
+            assert!(rt; is_block(image.block(at), front, rest), "{at}");
+        }
+    }
+}
+
 // The features stand at 0x28 of the journal's superblock: 1 for revoke blocks, and 2 for wide tags.
 #[test]
 fn a_journal_says_its_kind(rt: HostRuntime) {
     for (wide, features) in [(false, 1u8), (true, 3u8)] {
-        let image = make_volume(rt.alloc(), 32, 64, 128, wide).expect(&rt, "not made");
+        let image = make_volume(rt.alloc(), 32, 64, 128, DEFAULT_WIDTH, wide).expect(
+            &rt, "not made",
+        );
         assert_eq!(rt; image.len(), 192);
         if image.len() > 64 {
             let last = image.block(64).as_slice().get(0x2B).copied();
@@ -85,7 +121,7 @@ fn refuses_sizes(rt: HostRuntime) {
         (32, 6, 16_385, MakeFault::JournalSize),
     ];
     for (inodes, zones, journal, fault) in rows {
-        let made = make_volume(rt.alloc(), inodes, zones, journal, false);
+        let made = make_volume(rt.alloc(), inodes, zones, journal, DEFAULT_WIDTH, false);
         assert!(rt; made.is_err_and(|f| f == fault), "{zones} {journal}");
     }
 }
@@ -99,7 +135,7 @@ fn put(image: &mut Image, at: u32, body: Block) {
 
 // A made image whose log has an empty transaction of sequence 4, and one of sequence 5 without its commit block.
 fn skipping(rt: &impl Abort, alloc: Global) -> Image {
-    let mut image = make_volume(alloc, 32, 64, 128, false).expect(rt, "not made");
+    let mut image = make_volume(alloc, 32, 64, 128, DEFAULT_WIDTH, false).expect(rt, "not made");
     let superblock = JournalSuper {
         maxlen: 128,
         first: 1,

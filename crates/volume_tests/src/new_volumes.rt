@@ -1,25 +1,20 @@
 //! What a new volume answers, and the tree that calls leave.
+#![tactic(auto, using(minix_layout::specs::Widths::of_14, minix_layout::specs::Widths::of_30))]
+
 ghost use Rattle.std.specs.Prelude.{◌≡◌, true, false};
 ghost use Rattle.minix_layout.specs.Geometry.{IsSound};
 ghost use Rattle.tree_model.specs.Calls.{leaves_tree};
-ghost use Rattle.volume_model.specs.NewVolume.{new_blocks, root_inode, root_placed};
 ghost use Rattle.volume_steps.specs.NewNow.{new_now};
 
-use blk_base::{Image, NoMemory};
+use blk_base::NoMemory;
 use call_grammar::{read_call, read_call_word};
-use dir_ops::Slots;
-use minix_layout::{Geometry, Inode, Name, Slot, Zones};
+use minix_layout::{DEFAULT_WIDTH, Geometry};
 use script_words::words;
 use std::alloc::Global;
-use std::collections::BTreeMap;
 use std::process::Abort;
-use tree_model::{ByteList, Call, Names, Reply, put_tree};
+use tree_model::{ByteList, Call, Reply, put_tree};
 use volume_calls::{PlainVolume, volumes_are_plain};
-use volume_edits::{put_inode, put_slot};
-use volume_model::{DirectoryPart, Part, Placed};
-use volume_now::VolumeNow;
 use volume_steps::new_volumes_are_in_use;
-use zone_maps::ZoneMap;
 
 // Five blocks are no zones of data.
 pub const SMALL: Geometry = Geometry {
@@ -28,57 +23,18 @@ pub const SMALL: Geometry = Geometry {
     imap: 1,
     zmap: 1,
     first: 5,
-    width: 14,
+    width: DEFAULT_WIDTH,
 };
 
-fn root_slot(rt: &impl Abort, bytes: &[u8]) -> Slot
-    ensures { result ≡ record { inode = 1; name = bytes.now } }
-{
-    Slot {
-        inode: 1,
-        name: Name::of(bytes).expect(rt, "no name"),
-    }
-}
-
-fn root_inode(g: &Geometry) -> Inode
-    ensures { result ≡ root_inode g.now }
-{
-    Inode {
-        mode: 0x41ED,
-        uid: 0,
-        size: 32,
-        time: 0,
-        gid: 0,
-        links: 2,
-        zones: Zones::of([g.first, 0, 0, 0, 0, 0, 0, 0, 0]),
-    }
-}
-
-fn root_blocks(rt: &impl Abort, alloc: Global, g: &Geometry) -> Image
-    ensures { result ≡ new_blocks g.now }
-{
-    let mut blocks = Image::zeroed(alloc, g.zones.into()).expect(rt, "no blocks");
-    put_inode(&mut blocks, g, 1, &root_inode(g));
-    put_slot(&mut blocks, g, g.first, 0, Some(&root_slot(rt, b".")));
-    put_slot(&mut blocks, g, g.first, 1, Some(&root_slot(rt, b"..")));
-    blocks
-}
-
-fn root(rt: &impl Abort, alloc: Global, g: &Geometry) -> Placed
-    ensures { result ≡ root_placed g.now }
-{
-    let slots = [Some(root_slot(rt, b".")), Some(root_slot(rt, b".."))];
-    let slots = Vec::from_array(alloc, slots).expect(rt, "no slots");
-    Placed {
-        number: 1,
-        inode: root_inode(g),
-        part: Part::Directory(DirectoryPart {
-            parent: 0,
-            names: Names::new(alloc),
-            slots: Slots::of(slots),
-        }),
-    }
-}
+// The same division, with names of up to 30 bytes.
+pub const WIDE: Geometry = Geometry {
+    inodes: 32,
+    zones: 64,
+    imap: 1,
+    zmap: 1,
+    first: 5,
+    width: 30,
+};
 
 // A new volume.
 pub fn new_volume(rt: &impl Abort, alloc: Global, g: Geometry) -> PlainVolume
@@ -86,16 +42,7 @@ pub fn new_volume(rt: &impl Abort, alloc: Global, g: Geometry) -> PlainVolume
     ensures { result ≡ new_now g }
 {
     new_volumes_are_in_use();
-    let mut nodes = BTreeMap::new(alloc);
-    let inserted: Result<_, _> = nodes.insert(0, root(rt, alloc, &g));
-    inserted.expect(rt, "no nodes");
-    let zones = ZoneMap::make(alloc, &g, &[g.first]).expect(rt, "no zones");
-    let parts = VolumeNow {
-        geometry: g,
-        blocks: root_blocks(rt, alloc, &g),
-        nodes,
-        zones,
-    };
+    let parts = volume_now::new_volume(alloc, g).expect(rt, "no parts");
     PlainVolume::of(alloc, parts).expect(rt, "no volume")
 }
 
@@ -146,6 +93,7 @@ fn answers_on_a_new_volume(rt: HostRuntime) {
         ("create /a", "Change, 0"),
         ("create a", "Refused(BadPath), 0"),
         ("create /b/z", "Refused(NotFound), 0"),
+        ("create /abcdefghijklmn", "Change, 0"),
         ("create /abcdefghijklmno", "Refused(NameTooLong), 0"),
         ("rmdir /", "Refused(Invalid), 0"),
         ("unlink /a", "Refused(NotFound), 0"),
@@ -159,6 +107,30 @@ fn answers_on_a_new_volume(rt: HostRuntime) {
         let text = shown(&rt, rt.alloc(), &volume, line);
         assert_eq!(rt; text.as_str(), answer, "{line}");
     }
+}
+
+#[test]
+fn answers_on_a_new_volume_of_long_names(rt: HostRuntime) {
+    let rows = [
+        ("mkdir /abcdefghijklmno", "Change, 1"),
+        ("create /abcdefghijklmnopqrstuvwxyz-123", "Change, 0"),
+        (
+            "create /abcdefghijklmnopqrstuvwxyz-1234",
+            "Refused(NameTooLong), 0",
+        ),
+        ("stat /abcdefghijklmno", "Refused(NotFound), 0"),
+        (
+            "stat /abcdefghijklmnopqrstuvwxyz-1234",
+            "Refused(NameTooLong), 0",
+        ),
+    ];
+    let volume = new_volume(&rt, rt.alloc(), WIDE);
+    for (line, answer) in rows {
+        let text = shown(&rt, rt.alloc(), &volume, line);
+        assert_eq!(rt; text.as_str(), answer, "{line}");
+    }
+    let text = asked(&rt, rt.alloc(), &volume, "stat /");
+    assert_eq!(rt; text.as_str(), "Stat { dir: true, size: 64, links: 2 }");
 }
 
 #[test]
@@ -259,8 +231,23 @@ const WRITTEN: [(u32, usize, &[u8]); 11] = [
     (6, 32, b"\x03\0f"),
 ];
 
-fn written_byte(block: u32, at: usize) -> u8 {
-    for (place, first, bytes) in &WRITTEN {
+// The same where names have up to 30 bytes, and the file in `/a` has one of 30.
+const WRITTEN_WIDE: [(u32, usize, &[u8]); 11] = [
+    (2, 0, b"\x0c"),
+    (3, 0, b"\x1c"),
+    (4, 0, b"\xed\x41\0\0\x60\0\0\0\0\0\0\0\0\x03\x05\0"),
+    (4, 32, b"\xed\x41\0\0\x60\0\0\0\0\0\0\0\0\x02\x06\0"),
+    (4, 64, b"\xa4\x81\0\0\x01\x04\0\0\0\0\0\0\0\x01\x07\0\x08\0"),
+    (5, 0, b"\x01\0."),
+    (5, 32, b"\x01\0.."),
+    (5, 64, b"\x02\0a"),
+    (6, 0, b"\x02\0."),
+    (6, 32, b"\x01\0.."),
+    (6, 64, b"\x03\0abcdefghijklmnopqrstuvwxyz-123"),
+];
+
+fn written_byte(written: &[(u32, usize, &[u8])], block: u32, at: usize) -> u8 {
+    for (place, first, bytes) in written {
         if *place == block
             && let Some(k) = at.checked_sub(*first)
             && let Some(byte) = bytes.get(k)
@@ -272,9 +259,9 @@ fn written_byte(block: u32, at: usize) -> u8 {
 }
 
 // The first place at which a block has another byte than these.
-fn first_other(volume: &PlainVolume, block: u32) -> Option<usize> {
+fn first_other(volume: &PlainVolume, written: &[(u32, usize, &[u8])], block: u32) -> Option<usize> {
     for (at, byte) in volume.block_bytes(block).as_slice().iter().enumerate() {
-        if *byte != written_byte(block, at) {
+        if *byte != written_byte(written, block, at) {
             return Some(at);
         }
     }
@@ -288,7 +275,70 @@ fn writes_inodes_and_slots(rt: HostRuntime) {
         do_line(&rt, rt.alloc(), &mut volume, line);
     }
     for block in 2..7 {
-        let other = first_other(&volume, block);
+        let other = first_other(&volume, &WRITTEN, block);
         assert_eq!(rt; other, None, "{block}");
     }
+}
+
+#[test]
+fn writes_inodes_and_slots_of_long_names(rt: HostRuntime) {
+    let mut volume = new_volume(&rt, rt.alloc(), WIDE);
+    for line in [
+        "mkdir /a",
+        "create /a/abcdefghijklmnopqrstuvwxyz-123",
+        "write /a/abcdefghijklmnopqrstuvwxyz-123 1022 3 61",
+    ] {
+        do_line(&rt, rt.alloc(), &mut volume, line);
+    }
+    for block in 2..7 {
+        let other = first_other(&volume, &WRITTEN_WIDE, block);
+        assert_eq!(rt; other, None, "{block}");
+    }
+}
+
+// Gives the root of a new volume so many names of one file.
+fn filled(rt: &impl Abort, alloc: Global, g: Geometry, names: u32) -> PlainVolume
+    requires { IsSound g }
+{
+    let mut volume = new_volume(rt, alloc, g);
+    do_line(rt, alloc, &mut volume, "create /0");
+    for name in 1..names {
+        let line = format!(in alloc; "link /0 /{name}").expect(rt, "no line");
+        do_line(rt, alloc, &mut volume, line.as_str());
+    }
+    volume
+}
+
+// The size of the root, and the zones that one more name takes.
+fn root_seen(rt: &impl Abort, alloc: Global, volume: &PlainVolume) -> (String, u32) {
+    let call = call_of(rt, alloc, "link /0 /more");
+    (asked(rt, alloc, volume, "stat /"), volume.needs(&call))
+}
+
+// So many names fill a block of the root's slots, and one more, with which it has this size, stands in the next zone.
+fn expect_another(rt: &impl Abort, alloc: Global, g: Geometry, names: u32, after: &str)
+    requires { IsSound g }
+{
+    let mut volume = filled(rt, alloc, g, names);
+    let (text, zones) = root_seen(rt, alloc, &volume);
+    let full = "Stat { dir: true, size: 1024, links: 2 }";
+    assert_eq!(rt; (text.as_str(), zones), (full, 1));
+    do_line(rt, alloc, &mut volume, "link /0 /more");
+    let (text, zones) = root_seen(rt, alloc, &volume);
+    assert_eq!(rt; (text.as_str(), zones), (after, 0));
+    let slot = volume
+        .block_bytes(6)
+        .as_slice()
+        .get(..7)
+        .expect(rt, "short");
+    assert_eq!(rt; slot, b"\x02\0more\0".as_slice());
+}
+
+// A block has 64 slots with short names and 32 with long ones, and two are those of the root itself.
+#[test]
+fn a_full_block_of_slots_takes_another(rt: HostRuntime) {
+    let short = "Stat { dir: true, size: 1040, links: 2 }";
+    expect_another(&rt, rt.alloc(), SMALL, 62, short);
+    let long = "Stat { dir: true, size: 1056, links: 2 }";
+    expect_another(&rt, rt.alloc(), WIDE, 30, long);
 }
