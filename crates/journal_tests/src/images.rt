@@ -61,9 +61,9 @@ fn put_name(blocks: &mut [Block], width: u16, zone: usize, at: u8, inode: u16, n
     requires { IsWidth width }
 {
     if u32::from(at) < slots_a_block(width)
-        && name.len() <= usize::from(width)
         && let Some(block) = blocks.get_mut(zone)
         && let Some(name) = Name::of(name)
+        && name.as_slice().len() <= usize::from(width)
     {
         write_slot(block, at, Some(&Slot { inode, name }), width);
     }
