@@ -23,6 +23,7 @@ fn inode(mode: u16, size: u32, links: u8, zone: u16) -> Inode {
     }
 }
 
+#[tactic(auto, using(minix_layout::specs::Widths::of_14))]
 fn put_name(zone: &mut Block, at: u8, inode: u16, name: &[u8]) {
     if let Some(name) = Name::of(name)
         && name.as_slice().len() <= usize::from(DEFAULT_WIDTH)

@@ -326,11 +326,8 @@ fn expect_another(rt: &impl Abort, alloc: Global, g: Geometry, names: u32, after
     do_line(rt, alloc, &mut volume, "link /0 /more");
     let (text, zones) = root_seen(rt, alloc, &volume);
     assert_eq!(rt; (text.as_str(), zones), (after, 0));
-    let slot = volume
-        .block_bytes(6)
-        .as_slice()
-        .get(..7)
-        .expect(rt, "short");
+    let body = volume.block_bytes(6);
+    let slot = body.as_slice().get(..7).expect(rt, "short");
     assert_eq!(rt; slot, b"\x02\0more\0".as_slice());
 }
 
