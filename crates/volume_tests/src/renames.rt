@@ -1,4 +1,6 @@
 //! Renames on a volume, worked by hand.
+#![tactic(auto, using(minix_layout::specs::Widths::of_14))]
+
 use crate::new_volumes::{SMALL, call_of, do_line, new_volume, reply_done, tree_text};
 use std::alloc::Global;
 use std::process::Abort;
