@@ -1,1 +1,4 @@
+pub mod Written
+pub mod Directories
 pub mod Widened
+pub mod code

@@ -1,11 +1,16 @@
 //! Widening: from a volume with names of 14 bytes to one with names of 30.
 //!
-//! `widen` mounts an image and answers the same tree as an image with longer names. `specs/Widened.antt` has what each
-//! directory needs and has, and what is written.
+//! `widen` mounts an image and answers the same tree in an image with longer names. `specs/Directories.antt` has what
+//! each directory needs, which zones it has and gets, and what is written; `specs/Widened.antt` has the whole image.
 //!
 //! Stands on `mount_make`, which mounts, and on `volume_edits` for single writes.
 #![tactic(auto)]
 
+mod bodies;
+mod directory;
 mod fault;
+mod migrating;
+mod zones;
 
 pub use fault::WidenFault;
+pub use migrating::widen;
