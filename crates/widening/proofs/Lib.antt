@@ -4,3 +4,4 @@ pub mod Fitting
 pub mod RoomSteps
 pub mod WriteSteps
 pub mod SlotSteps
+pub mod Causes

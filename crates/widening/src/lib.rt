@@ -9,8 +9,10 @@
 mod bodies;
 mod directory;
 mod fault;
+mod laws;
 mod migrating;
 mod zones;
 
 pub use fault::WidenFault;
+pub use laws::{no_room_has_two_causes, wide_images_stay};
 pub use migrating::widen;
