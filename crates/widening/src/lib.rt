@@ -1,6 +1,6 @@
 //! Widening: from a volume with names of 14 bytes to one with names of 30.
 //!
-//! `widen` mounts an image and answers the same tree in an image with longer names. `specs/Directories.antt` has what
+//! `widen` mounts an image and writes its directories anew; no law says yet that the tree stays. `specs/Directories.antt` has what
 //! each directory needs, which zones it has and gets, and what is written; `specs/Widened.antt` has the whole image.
 //!
 //! Stands on `mount_make`, which mounts, and on `volume_edits` for single writes.

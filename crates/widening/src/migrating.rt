@@ -33,7 +33,7 @@ const MAGIC: u16 = 0x138F;
 // Its place in the superblock, in numbers of two bytes.
 const MAGIC_AT: u16 = 8;
 
-/// Mounts the image on a device, and answers the image of the same tree with names of 30 bytes. The device is changed by
+/// Mounts the image on a device, and answers it with directories for names of 30 bytes. The device is changed by
 /// the recovery alone.
 ///
 /// An image that has names of 30 bytes already is answered as it was recovered. Else each directory is written anew, in
