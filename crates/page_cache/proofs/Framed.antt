@@ -226,7 +226,7 @@ module _ (s : Slab CachedPage) (ks : List ℕ) (pc : ℕ) (keys : List (ℕ × �
   -- a page comes into a frame that was free
   pub frames_insert : (t : Slab CachedPage) (places : List ℕ) (pd : ℕ) (new_keys : List (ℕ × ℕ)) (kd f i at k : ℕ) (q : CachedPage) → keyed.stands keys f i ≡ false → at ≡ keyed.place_of keys f i → at ≤ length keys → length ks < room
       → get s k ≡ None → Updates s t k (Some q) → slab_len t ≡ slab_len s + 1 → t.capacity ≡ s.capacity → q.birth ≡ f → q.index ≡ i
-      → places ≡ insert ks at k → new_keys ≡ insert keys at (f, i) → pc ≤ pd → kc ≤ kd → AreFrames t places pd new_keys kd room × (pages_in t places ≡ put_page held q)
+      → places ≡ insert ks at k → new_keys ≡ insert keys at (f, i) → pd ≡ pc → kd ≡ kc → AreFrames t places pd new_keys kd room × (pages_in t places ≡ put_page held q)
   frames_insert t places pd new_keys kd f i at k q stands place low free none u count capacity qf qi places_are keys_are more_places more_keys =
       let nowhere = sym (ap (λ xs. keyed.stands xs f i) h.keyed) ∙ stands in
       let at_place = place ∙ ap (λ xs. keyed.place_of xs f i) h.keyed in

@@ -1,7 +1,6 @@
 -- Places in a list of keys that stand in order.
-use Rattle.std.proofs.Common.{◌≡◌, ℕ, zero, suc, ◌<◌, ◌≤◌, ◌==◌, ◌⊎◌, ◌&&◌, Bool, true, false, nat_lt, if◌then◌else◌, List, [], ◌∷◌, length, get_or, refl, sym, ap, ◌∙◌, inl, inr, ⊎_elim, arith, eqb-true, eq-eqb}
-use Rattle.std.specs.List.Sorted.{IsPartitionedBy, IsPartitionPoint}
-use Rattle.std.proofs.lemmas.Bool.{cases_lt, cases_Bool, false≢true, true≢false, and_from, and_parts, or_cases, or_left, or_right, ltb-true, lt-ltb}
+use Rattle.std.proofs.Common.{◌≡◌, ℕ, zero, suc, ◌+◌, ◌<◌, ◌≤◌, ◌==◌, ◌⊎◌, ◌&&◌, Bool, true, false, nat_lt, if◌then◌else◌, List, [], ◌∷◌, length, get_or, refl, sym, ap, ◌∙◌, inl, inr, ⊎_elim, arith, eqb-true, eq-eqb}
+use Rattle.std.proofs.lemmas.Bool.{cases_lt, cases_Bool, false≢true, and_from, and_parts, or_cases, or_left, or_right, ltb-true, lt-ltb}
 use Rattle.blk_base.specs.Members.{In}
 use Rattle.page_cache.specs.code.Keys.{KeyBelow, IsRisingKeys, is_before, is_key, place_of, stands}
 
@@ -66,27 +65,14 @@ after_place (p ∷ ps) f i k d r low high = by (λ j low high. after_place ps f 
     by rest false e zero low high = e
     by rest false e (suc k) low high = behind p (get_or ps k d) f i (r.0 (get_or ps k d) (In-get_or ps k d (omega arith))) e
 
--- keys in order are parted by what stands before (f, i)
-pub is_parted : (ps : List (ℕ × ℕ)) (f i : ℕ) → IsRisingKeys ps → IsPartitionedBy (λ p. is_before p f i) ps
-is_parted ps f i r j k d low high passes =
-    ⊎_elim
-    (λ below. before_place ps f i j d (omega arith))
-    (λ above. absurd (true≢false (sym passes ∙ after_place ps f i k d r above high)))
-    (cases_lt k (place_of ps f i))
+-- a key that stands before (f, i) stands before its place, and one that does not from there on
+pub place_behind : (ps : List (ℕ × ℕ)) (f i k : ℕ) (d : ℕ × ℕ) → IsRisingKeys ps → k < length ps → is_before (get_or ps k d) f i ≡ true → k + 1 ≤ place_of ps f i
+place_behind ps f i k d r inside before =
+    ⊎_elim (λ low. omega arith) (λ high. absurd (false≢true (sym (after_place ps f i k d r high inside) ∙ before))) (cases_lt k (place_of ps f i))
 
--- and the point at which they part is the place
-pub point_is_place : (ps : List (ℕ × ℕ)) (f i n : ℕ) → IsRisingKeys ps → n ≤ length ps
-    → IsPartitionPoint (λ p. is_before p f i ≡ true) (λ p. is_before p f i ≡ false) ps n → n ≡ place_of ps f i
-point_is_place [] f i n r within parts = omega arith
-point_is_place (p ∷ ps) f i n r within parts =
-    let place = place_within (p ∷ ps) f i in
-    ⊎_elim
-    (λ lower. absurd (false≢true (sym (parts.1 n p (omega arith) (omega arith)) ∙ before_place (p ∷ ps) f i n p lower)))
-    (λ le. ⊎_elim
-    (λ higher. absurd (true≢false (sym (parts.0 (place_of (p ∷ ps) f i) p (omega arith) higher) ∙ after_place (p ∷ ps) f i (place_of (p ∷ ps) f i) p r (omega arith) (omega arith))))
-    (λ ge. omega arith)
-    (cases_lt (place_of (p ∷ ps) f i) n))
-    (cases_lt n (place_of (p ∷ ps) f i))
+pub place_before : (ps : List (ℕ × ℕ)) (f i k : ℕ) (d : ℕ × ℕ) → is_before (get_or ps k d) f i ≡ false → place_of ps f i ≤ k
+place_before ps f i k d not_before =
+    ⊎_elim (λ low. absurd (false≢true (sym not_before ∙ before_place ps f i k d low))) (λ high. high) (cases_lt k (place_of ps f i))
 
 pub stands_at : (ps : List (ℕ × ℕ)) (f i : ℕ) (d : ℕ × ℕ) → place_of ps f i < length ps → is_key (get_or ps (place_of ps f i) d) f i ≡ true → stands ps f i ≡ true
 stands_at [] f i d low is = absurd (omega arith)

@@ -1,3 +1,4 @@
+mod Turns
 mod KeyPlaces
 mod Places
 mod Keyed

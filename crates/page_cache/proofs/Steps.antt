@@ -52,7 +52,7 @@ list_room test ps new ks q room capacity r e put most enough =
 -- a page was put
 pub put_cache : (c n : Cache) (q : CachedPage) (unsent : List (ℕ × ℕ)) (uc : ℕ) (dirty : List (ℕ × ℕ)) (dc : ℕ) (new_unsent : List (ℕ × ℕ)) (ud : ℕ) (new_dirty : List (ℕ × ℕ)) (dd : ℕ)
     → IsCache c unsent uc dirty dc → n ≡ with_pages c (put_page c.pages q) → length n.pages ≤ n.room
-    → new_unsent ≡ with_key unsent q.birth q.index (is_unsent q.state) → new_dirty ≡ with_key dirty q.birth q.index (is_dirty q.state) → uc ≤ ud → dc ≤ dd → IsCache n new_unsent ud new_dirty dd
+    → new_unsent ≡ with_key unsent q.birth q.index (is_unsent q.state) → new_dirty ≡ with_key dirty q.birth q.index (is_dirty q.state) → ud ≡ uc → dd ≡ dc → IsCache n new_unsent ud new_dirty dd
 put_cache c n q unsent uc dirty dc new_unsent ud new_dirty dd h new most u d more_unsent more_dirty =
     let same = ap (λ (k : Cache). k.room) new in
     let enough_unsent = h.enough_unsent in
@@ -99,7 +99,7 @@ mark_room test c n ks f i s t capacity r e there new most enough is =
 
 pub mark_cache : (c n : Cache) (f i : ℕ) (s : PageState) (unsent : List (ℕ × ℕ)) (uc : ℕ) (dirty : List (ℕ × ℕ)) (dc : ℕ) (new_unsent : List (ℕ × ℕ)) (ud : ℕ) (new_dirty : List (ℕ × ℕ)) (dd : ℕ)
     → IsCache c unsent uc dirty dc → page_at c.pages f i ≢ None → n ≡ with_pages c (mark_page c.pages f i s)
-    → new_unsent ≡ with_key unsent f i (is_unsent s) → new_dirty ≡ with_key dirty f i (is_dirty s) → uc ≤ ud → dc ≤ dd → IsCache n new_unsent ud new_dirty dd
+    → new_unsent ≡ with_key unsent f i (is_unsent s) → new_dirty ≡ with_key dirty f i (is_dirty s) → ud ≡ uc → dd ≡ dc → IsCache n new_unsent ud new_dirty dd
 mark_cache c n f i s unsent uc dirty dc new_unsent ud new_dirty dd h there new u d more_unsent more_dirty =
     let x = mark_is_put c.pages f i s there in
     put_cache c n (marked x.0 s) unsent uc dirty dc new_unsent ud new_dirty dd h (new ∙ ap (with_pages c) x.4) (mark_most c n f i s unsent uc dirty dc h there new)
@@ -109,7 +109,7 @@ mark_cache c n f i s unsent uc dirty dc new_unsent ud new_dirty dd h there new u
 
 -- a page went
 pub drop_cache : (c n : Cache) (f i : ℕ) (unsent : List (ℕ × ℕ)) (uc : ℕ) (dirty : List (ℕ × ℕ)) (dc : ℕ) (new_unsent : List (ℕ × ℕ)) (ud : ℕ) (new_dirty : List (ℕ × ℕ)) (dd : ℕ)
-    → IsCache c unsent uc dirty dc → n ≡ with_pages c (drop_page c.pages f i) → new_unsent ≡ drop_key unsent f i → new_dirty ≡ drop_key dirty f i → uc ≤ ud → dc ≤ dd → IsCache n new_unsent ud new_dirty dd
+    → IsCache c unsent uc dirty dc → n ≡ with_pages c (drop_page c.pages f i) → new_unsent ≡ drop_key unsent f i → new_dirty ≡ drop_key dirty f i → ud ≡ uc → dd ≡ dc → IsCache n new_unsent ud new_dirty dd
 drop_cache c n f i unsent uc dirty dc new_unsent ud new_dirty dd h new u d more_unsent more_dirty =
     let same = ap (λ (k : Cache). k.room) new in
     let long = ap (λ (k : Cache). length k.pages) new in

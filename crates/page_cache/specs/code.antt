@@ -1,3 +1,4 @@
 pub mod Keys
+pub mod Gap
 pub mod Frames
 pub mod Pages

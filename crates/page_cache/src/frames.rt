@@ -5,12 +5,12 @@ ghost use Rattle.page_cache.specs.declared.cached_page.CachedPage.{CachedPage};
 ghost use Rattle.page_cache.specs.Pages.{Cache, with_pages, page_at, put_page, drop_page, mark_page};
 ghost use Rattle.page_cache.specs.Unsent.{with_room_for};
 
-use crate::keys::{find_key, insert_reserved};
+use crate::gap_list::GapList;
+use crate::keys::find_key;
 use crate::{CachedPage, NoRoom, PageState};
 use blk_base::NoMemory;
 use slab::Slab;
 use std::alloc::Global;
-use std::collections::VecDeque;
 use std::marker::Model;
 
 /// The pages, each in a frame that it keeps until it goes. The frame then serves the next new page.
@@ -18,22 +18,21 @@ use std::marker::Model;
 pub struct Frames {
     frames: Slab<CachedPage>,
     // Birth and index of each page, in order.
-    keys: VecDeque<(u64, u32)>,
+    keys: GapList<(u64, u32)>,
     // The frame of each page, in the same order.
-    places: VecDeque<usize>,
+    places: GapList<usize>,
     room: u32,
 }
 
 impl Model for Frames {
     ghost use Rattle.page_cache.specs.Pages.{Cache};
     ghost use Rattle.page_cache.specs.code.Frames.{pages_in, AreFrames};
-    ghost use Rattle.std.specs.VecDeque.{deque_capacity};
 
     ghost Value = { Cache };
 
     ghost view = { λ f. record { room = f.room; pages = pages_in f.frames f.places.items } };
 
-    ghost invariant = { λ f. AreFrames f.frames f.places.items (deque_capacity f.places) f.keys.items (deque_capacity f.keys) f.room };
+    ghost invariant = { λ f. AreFrames f.frames f.places.items f.places.capacity f.keys.items f.keys.capacity f.room };
 }
 
 impl Frames {
@@ -44,8 +43,8 @@ impl Frames {
         let room_size = room as usize;
         Ok(Frames {
             frames: Slab::with_capacity(alloc, room_size)?,
-            keys: VecDeque::with_capacity(alloc, room_size)?,
-            places: VecDeque::with_capacity(alloc, room_size)?,
+            keys: GapList::with_capacity(alloc, room_size)?,
+            places: GapList::with_capacity(alloc, room_size)?,
             room,
         })
     }
@@ -88,7 +87,7 @@ impl Frames {
         let (birth, index) = (page.birth, page.index);
         match find_key(&self.keys, birth, index) {
             Ok(at) => {
-                self.frames[self.places[at]] = page;
+                self.frames[self.places.at(at)] = page;
                 Ok(())
             }
             Err(at) => {
@@ -96,8 +95,8 @@ impl Frames {
                     return Err(NoRoom);
                 }
                 let frame = self.frames.insert_reserved(page);
-                insert_reserved(&mut self.keys, at, (birth, index));
-                insert_reserved(&mut self.places, at, frame);
+                self.keys.insert(at, (birth, index));
+                self.places.insert(at, frame);
                 Ok(())
             }
         }
@@ -109,7 +108,7 @@ impl Frames {
         ensures { self.new ≡ with_pages self.old (mark_page self.old.pages birth index s) }
     {
         if let Ok(at) = find_key(&self.keys, birth, index) {
-            self.frames[self.places[at]].state = s;
+            self.frames[self.places.at(at)].state = s;
         }
     }
 
@@ -118,7 +117,7 @@ impl Frames {
         ensures { self.new ≡ with_pages self.old (drop_page self.old.pages birth index) }
     {
         if let Ok(at) = find_key(&self.keys, birth, index) {
-            self.frames.try_remove(self.places[at]);
+            self.frames.try_remove(self.places.at(at));
             self.keys.remove(at);
             self.places.remove(at);
         }
@@ -129,7 +128,7 @@ impl Frames {
         ensures { option_copied result ≡ page_at self.now.pages birth index }
     {
         match find_key(&self.keys, birth, index) {
-            Ok(at) => self.frames.get(self.places[at]),
+            Ok(at) => self.frames.get(self.places.at(at)),
             Err(_) => None,
         }
     }

@@ -11,6 +11,7 @@
 
 mod cached_page;
 mod frames;
+mod gap_list;
 mod keys;
 mod laws;
 mod pages;

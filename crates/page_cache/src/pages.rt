@@ -9,11 +9,11 @@ ghost use Rattle.number_sets.specs.Sets as sets;
 
 use crate::cached_page::{is_dirty, is_unsent};
 use crate::frames::Frames;
+use crate::gap_list::GapList;
 use crate::keys::{drop_key, first_of, key_from, keys_in, list_key, put_key};
 use crate::{CachedPage, PageState};
 use blk_base::{Block, NoMemory};
 use std::alloc::Global;
-use std::collections::VecDeque;
 use std::marker::Model;
 
 /// The page is new, and there is no room for one more.
@@ -25,21 +25,20 @@ pub struct NoRoom;
 pub struct Pages {
     pages: Frames,
     // Birth and index of each page that is Dirty or Loose, in order.
-    unsent: VecDeque<(u64, u32)>,
+    unsent: GapList<(u64, u32)>,
     // Of each that is Dirty.
-    dirty: VecDeque<(u64, u32)>,
+    dirty: GapList<(u64, u32)>,
 }
 
 impl Model for Pages {
     ghost use Rattle.page_cache.specs.Pages.{Cache};
     ghost use Rattle.page_cache.specs.code.Pages.{IsCache};
-    ghost use Rattle.std.specs.VecDeque.{deque_capacity};
 
     ghost Value = { Cache };
 
     ghost view = { λ p. p.pages };
 
-    ghost invariant = { λ p. IsCache p.pages p.unsent.items (deque_capacity p.unsent) p.dirty.items (deque_capacity p.dirty) };
+    ghost invariant = { λ p. IsCache p.pages p.unsent.items p.unsent.capacity p.dirty.items p.dirty.capacity };
 }
 
 impl Pages {
@@ -50,8 +49,8 @@ impl Pages {
         let room_size = room as usize;
         Ok(Pages {
             pages: Frames::load(alloc, room)?,
-            unsent: VecDeque::with_capacity(alloc, room_size)?,
-            dirty: VecDeque::with_capacity(alloc, room_size)?,
+            unsent: GapList::with_capacity(alloc, room_size)?,
+            dirty: GapList::with_capacity(alloc, room_size)?,
         })
     }
 
@@ -184,7 +183,7 @@ impl Pages {
     pub fn dirty(&self, pick: u32) -> Option<(u64, u32)>
         ensures { result ≡ option_map key_of (dirty_page self.now.pages pick) }
     {
-        self.dirty.get(pick as usize).copied()
+        self.dirty.get(pick as usize)
     }
 
     /// The Dirty page number `pick`, in order.

@@ -11,21 +11,21 @@ find_key-requires c = rising_keys c.self.inside.frames c.self.inside.places.item
 pub invariant_of-self : goal.invariant_of-self
 invariant_of-self c =
     let inside : c.in-Ok.at < length c.self.inside.places.items = within c.self.inside.frames c.self.inside.places.items _ c.self.inside.keys.items _ c.self.inside.room c.self.invariant c.in-Ok.at c.in-Ok.ensures.place.0 in
-    let some : IsSome c.try_remove.result = subst IsSome (sym c.try_remove.ensures.value) (has_page c.self.inside.frames c.self.inside.places.items _ c.self.inside.keys.items _ c.self.inside.room c.self.invariant c.in-Ok.at c.index.result.now inside c.index.ensures) in
+    let some : IsSome c.try_remove.result = subst IsSome (sym c.try_remove.ensures.value) (has_page c.self.inside.frames c.self.inside.places.items _ c.self.inside.keys.items _ c.self.inside.room c.self.invariant c.in-Ok.at c.at.result inside c.at.ensures) in
     let places_are : c.remove-in-Ok.new.self.items ≡ remove c.self.inside.places.items c.in-Ok.at = search rules in
     let keys_are : c.remove.new.self.items ≡ remove c.self.inside.keys.items c.in-Ok.at = search rules in
-    (frames_remove c.self.inside.frames c.self.inside.places.items _ c.self.inside.keys.items _ c.self.inside.room c.self.invariant c.try_remove.new.self c.remove-in-Ok.new.self.items _ c.remove.new.self.items _ c.args.birth c.args.index c.in-Ok.at c.index.result.now
-    (c.in-Ok.ensures.there refl) c.in-Ok.ensures.place.1 inside c.index.ensures c.try_remove.ensures.updates (on_some c.try_remove.result _ some c.try_remove.ensures.len) c.try_remove.ensures.capacity
+    (frames_remove c.self.inside.frames c.self.inside.places.items _ c.self.inside.keys.items _ c.self.inside.room c.self.invariant c.try_remove.new.self c.remove-in-Ok.new.self.items _ c.remove.new.self.items _ c.args.birth c.args.index c.in-Ok.at c.at.result
+    (c.in-Ok.ensures.there refl) c.in-Ok.ensures.place.1 inside c.at.ensures c.try_remove.ensures.updates (on_some c.try_remove.result _ some c.try_remove.ensures.len) c.try_remove.ensures.capacity
     places_are keys_are c.remove-in-Ok.ensures.capacity c.remove.ensures.capacity).0
 
 pub returns-in-Ok : goal.returns-in-Ok
 returns-in-Ok c =
     let inside : c.in-Ok.at < length c.self.inside.places.items = within c.self.inside.frames c.self.inside.places.items _ c.self.inside.keys.items _ c.self.inside.room c.self.invariant c.in-Ok.at c.in-Ok.ensures.place.0 in
-    let some : IsSome c.try_remove.result = subst IsSome (sym c.try_remove.ensures.value) (has_page c.self.inside.frames c.self.inside.places.items _ c.self.inside.keys.items _ c.self.inside.room c.self.invariant c.in-Ok.at c.index.result.now inside c.index.ensures) in
+    let some : IsSome c.try_remove.result = subst IsSome (sym c.try_remove.ensures.value) (has_page c.self.inside.frames c.self.inside.places.items _ c.self.inside.keys.items _ c.self.inside.room c.self.invariant c.in-Ok.at c.at.result inside c.at.ensures) in
     let places_are : c.remove-in-Ok.new.self.items ≡ remove c.self.inside.places.items c.in-Ok.at = search rules in
     let keys_are : c.remove.new.self.items ≡ remove c.self.inside.keys.items c.in-Ok.at = search rules in
-    ap (λ ps. let made : Cache = record { room = c.self.inside.room; pages = ps } in made) (frames_remove c.self.inside.frames c.self.inside.places.items _ c.self.inside.keys.items _ c.self.inside.room c.self.invariant c.try_remove.new.self c.remove-in-Ok.new.self.items _ c.remove.new.self.items _ c.args.birth c.args.index c.in-Ok.at c.index.result.now
-    (c.in-Ok.ensures.there refl) c.in-Ok.ensures.place.1 inside c.index.ensures c.try_remove.ensures.updates (on_some c.try_remove.result _ some c.try_remove.ensures.len) c.try_remove.ensures.capacity
+    ap (λ ps. let made : Cache = record { room = c.self.inside.room; pages = ps } in made) (frames_remove c.self.inside.frames c.self.inside.places.items _ c.self.inside.keys.items _ c.self.inside.room c.self.invariant c.try_remove.new.self c.remove-in-Ok.new.self.items _ c.remove.new.self.items _ c.args.birth c.args.index c.in-Ok.at c.at.result
+    (c.in-Ok.ensures.there refl) c.in-Ok.ensures.place.1 inside c.at.ensures c.try_remove.ensures.updates (on_some c.try_remove.result _ some c.try_remove.ensures.len) c.try_remove.ensures.capacity
     places_are keys_are c.remove-in-Ok.ensures.capacity c.remove.ensures.capacity).1
     ∙ ap (λ (k : Cache). with_pages k (drop_page k.pages c.args.birth c.args.index)) c.self.view_is
 

@@ -10,7 +10,7 @@ pub returns-in-Ok : goal.returns-in-Ok
 returns-in-Ok c =
     let inside = within c.self.inside.frames c.self.inside.places.items _ c.self.inside.keys.items _ c.self.inside.room c.self.invariant c.in-Ok.at c.in-Ok.ensures.place.0 in
     c.get.ensures
-    ∙ found c.self.inside.frames c.self.inside.places.items _ c.self.inside.keys.items _ c.self.inside.room c.self.invariant c.args.birth c.args.index c.in-Ok.at c.index.result.now (c.in-Ok.ensures.there refl) c.in-Ok.ensures.place.1 inside c.index.ensures
+    ∙ found c.self.inside.frames c.self.inside.places.items _ c.self.inside.keys.items _ c.self.inside.room c.self.invariant c.args.birth c.args.index c.in-Ok.at c.at.result (c.in-Ok.ensures.there refl) c.in-Ok.ensures.place.1 inside c.at.ensures
     ∙ ap (λ (k : Cache). page_at k.pages c.args.birth c.args.index) c.self.view_is
 
 pub returns-in-Err : goal.returns-in-Err
