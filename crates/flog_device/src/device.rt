@@ -5,10 +5,8 @@ ghost use Rattle.flog_device.specs.laws.Valid.{work_left, IsValid};
 ghost use Rattle.flog_device.specs.laws.MemberLaws.{IsSound};
 
 use crate::choice::{count_fitting, find_fitting};
-use crate::log::{
-    Page, Write, all_programmed, append_pages, body_of, count_writes, fold, last_kept, lay_over,
-    pick_write, program,
-};
+use crate::log::{Write, body_of};
+use crate::page_log::{PageLog, no_parts};
 use blk_base::{Block, Image, NoMemory};
 use circular_buffer::HeapCircularBuffer;
 use command_queue::{
@@ -19,7 +17,6 @@ use order_model::{
     Trail,
 };
 use std::alloc::Global;
-use std::collections::VecDeque;
 use std::marker::Model;
 
 /// How a flash log device is set up.
@@ -49,7 +46,7 @@ pub struct FlogDevice {
     // For each block of the data area the place of the part that it holds.
     origins: Vec<Option<u64>>,
     // The pages that are not folded, and how many were folded.
-    log: VecDeque<Page>,
+    log: PageLog,
     folded: u64,
     segments: u32,
     trace: DeviceRecord,
@@ -98,13 +95,14 @@ impl FlogDevice {
         }
         let room = setup.limit as usize;
         let base = Trail::of_image(&image);
-        let origins = no_origins(alloc, image.len())?;
+        let blocks = image.len();
+        let origins = no_parts(alloc, blocks)?;
         let pages = SEGMENT * setup.segments;
         Ok(FlogDevice {
             base,
             data_area: image,
             origins,
-            log: VecDeque::with_capacity(alloc, pages as usize)?,
+            log: PageLog::with_capacity(alloc, pages as usize, blocks)?,
             folded: 0,
             segments: setup.segments,
             trace: empty_record(alloc, room)?,
@@ -151,16 +149,6 @@ fn next_epoch(epoch: u64, barrier: bool) -> u64
     ensures { result ≡ (if barrier then epoch + 1 else epoch) }
 {
     if barrier { epoch + 1 } else { epoch }
-}
-
-fn no_origins(alloc: Global, blocks: u32) -> Result<Vec<Option<u64>>, NoMemory>
-    ensures { IfOk result (λ v. v.items ≡ replicate blocks None) }
-{
-    let mut origins = Vec::with_capacity(alloc, blocks as usize)?;
-    for _ in 0..blocks {
-        origins.push_reserved(None);
-    }
-    Ok(origins)
 }
 
 fn empty_record(alloc: Global, limit: usize) -> Result<DeviceRecord, NoMemory>
@@ -215,7 +203,7 @@ impl OrderedDev for FlogDevice {
     }
 
     fn read(&mut self, block: u32) -> Result<Block, ReadFault> {
-        match last_kept(&self.log, block) {
+        match self.log.last_kept(block) {
             Some(part) => Ok(body_of(&self.trace.took, part)),
             None => Ok(self.data_area.block(block).copy()),
         }
@@ -242,14 +230,14 @@ impl OrderedDev for FlogDevice {
         if self.has_stopped() {
             return 0;
         }
-        count_fitting(&self.queue, self.free_places(), all_programmed(&self.log))
+        count_fitting(&self.queue, self.free_places(), self.log.all_programmed())
     }
 
     fn can_persist(&self) -> u32 {
         if self.is_off() {
             return 0;
         }
-        count_writes(&self.log) as u32
+        self.log.count_writes() as u32
     }
 
     fn transfer(&mut self, pick: u32) -> bool {
@@ -257,7 +245,7 @@ impl OrderedDev for FlogDevice {
             return false;
         }
         let free = self.free_places();
-        let programmed = all_programmed(&self.log);
+        let programmed = self.log.all_programmed();
         let Some(at) = find_fitting(&self.queue, free, programmed, pick) else {
             return false;
         };
@@ -281,7 +269,7 @@ impl OrderedDev for FlogDevice {
         let trace = &mut self.trace;
         note_transfers(&mut trace.moved, self.epoch, first, parts);
         trace.steps += 1;
-        append_pages(&mut self.log, first, parts);
+        self.log.append(first, parts);
         complete(&mut self.waiting, command);
         self.epoch = next_epoch(self.epoch, command.barrier);
         self.queue.leave(at);
@@ -292,14 +280,14 @@ impl OrderedDev for FlogDevice {
         if self.is_off() {
             return false;
         }
-        let Some(write) = pick_write(&self.log, pick as usize) else {
+        let Some(write) = self.log.pick_write(pick as usize) else {
             return false;
         };
         match write {
-            Write::Program(at) => program(&mut self.log, at),
+            Write::Program(at) => self.log.program(at),
             Write::Fold => {
                 let took = &self.trace.took;
-                fold(&mut self.log, took, &mut self.data_area, &mut self.origins);
+                self.log.fold(took, &mut self.data_area, &mut self.origins);
                 self.folded += 1;
             }
         }
@@ -321,7 +309,7 @@ impl OrderedDev for FlogDevice {
     }
 
     fn is_quiet(&self) -> bool {
-        if self.failed || !self.queue.is_empty() || !all_programmed(&self.log) {
+        if self.failed || !self.queue.is_empty() || !self.log.all_programmed() {
             return false;
         }
         !holds_flush(&self.waiting)
@@ -341,7 +329,7 @@ impl OrderedDev for FlogDevice {
         } = self;
         let mut image = data_area;
         let mut places = origins;
-        lay_over(&log, &trace.took, &mut image, &mut places);
+        log.lay_over(&trace.took, &mut image, &mut places);
         let ids = read_ids(places, &trace.took);
         CutDisk {
             image,

@@ -11,6 +11,7 @@ mod choice;
 mod device;
 mod laws;
 mod log;
+mod page_log;
 
 pub use device::{FlogDevice, FlogSetup};
 pub use laws::{pages_behind_a_gap_are_dropped, recovery_is_in_order};

@@ -37,15 +37,8 @@ pub enum Write {
     Fold,
 }
 
-/// Whether each page is programmed.
-pub(crate) fn all_programmed(log: &VecDeque<Page>) -> bool
-    ensures { result ≡ all_programmed log.now.items }
-{
-    log.iter().all(|p| p.programmed)
-}
-
-// The oldest page is programmed, so that it may be folded.
-fn can_fold(log: &VecDeque<Page>) -> bool
+/// Whether the oldest page is programmed, so that it may be folded.
+pub(crate) fn can_fold(log: &VecDeque<Page>) -> bool
     ensures { result ≡ can_fold log.now.items }
 {
     match log.front() {
@@ -54,26 +47,13 @@ fn can_fold(log: &VecDeque<Page>) -> bool
     }
 }
 
-/// How many writes may be next.
-pub(crate) fn count_writes(log: &VecDeque<Page>) -> usize
-    ensures count { result ≡ length (writes log.now.items) }
-    ensures few { result ≤ length log.now.items + 1 }
-{
-    let mut count = 0;
-    for at in 0..log.len() {
-        if !log[at].programmed {
-            count += 1;
-        }
-    }
-    if can_fold(log) { count + 1 } else { count }
-}
-
-/// The write at place `pick` of those that may be next.
-pub(crate) fn pick_write(log: &VecDeque<Page>, pick: usize) -> Option<Write>
+/// The write at place `pick` of those that may be next. All pages before place `from` are programmed.
+pub(crate) fn pick_write(log: &VecDeque<Page>, from: usize, pick: usize) -> Option<Write>
+    requires { from ≡ length (prefix log.now.items) }
     ensures { result ≡ slice_get (writes log.now.items) pick }
 {
     let mut left = pick;
-    for at in 0..log.len() {
+    for at in from..log.len() {
         if !log[at].programmed {
             if left == 0 {
                 return Some(Write::Program(at));
@@ -117,39 +97,6 @@ pub(crate) fn append_pages(log: &mut VecDeque<Page>, first: u64, parts: &[Part])
     }
 }
 
-/// Whether a page of the prefix has this block.
-pub(crate) fn is_covered(log: &VecDeque<Page>, block: u32) -> bool
-    ensures { result ≡ is_covered block log.now.items }
-{
-    for at in 0..log.len() {
-        let page = log[at];
-        if !page.programmed {
-            return false;
-        }
-        if page.place.block == block {
-            return true;
-        }
-    }
-    false
-}
-
-/// The last part of this block in the prefix.
-pub(crate) fn last_kept(log: &VecDeque<Page>, block: u32) -> Option<u64>
-    ensures { result ≡ top (places (prefix log.now.items)) block }
-{
-    let mut last = None;
-    for at in 0..log.len() {
-        let page = log[at];
-        if !page.programmed {
-            return last;
-        }
-        if page.place.block == block {
-            last = Some(page.place.part);
-        }
-    }
-    last
-}
-
 /// The bytes of the part at this place among all parts taken.
 pub(crate) fn body_of(took: &Commands, place: u64) -> Block
     requires there { place < length (all_parts took.now.items) }
@@ -184,30 +131,4 @@ pub(crate) fn lay_over(
         area.put(place.block, body_of(took, place.part));
         origins[place.block as usize] = Some(place.part);
     }
-}
-
-/// Folds the oldest page: its part goes into the area, where no other page of the prefix has its block.
-pub(crate) fn fold(
-    log: &mut VecDeque<Page>,
-    took: &Commands,
-    area: &mut Image,
-    origins: &mut Vec<Option<u64>>,
-)
-    requires pages { All (IsPageOf (length (all_parts took.now.items)) (length area.old)) log.old.items }
-    requires few { length (all_parts took.now.items) < 2 ^ 31 }
-    requires origins { length origins.old.items ≡ length area.old }
-    ensures log { log.new.items ≡ drop 1 log.old.items }
-    ensures capacity { deque_capacity log.new ≡ deque_capacity log.old }
-    ensures area { area.new ≡ area_folded took.now.items log.old.items area.old }
-    ensures origins { origins.new.items ≡ origins_folded log.old.items origins.old.items }
-{
-    let Some(page) = log.pop_front() else {
-        return;
-    };
-    let place = page.place;
-    if is_covered(log, place.block) {
-        return;
-    }
-    area.put(place.block, body_of(took, place.part));
-    origins[place.block as usize] = Some(place.part);
 }

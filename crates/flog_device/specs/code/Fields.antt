@@ -1,6 +1,5 @@
 -- The fields of a device, as its state.
-use Rattle.std.specs.Prelude.{◌+◌, ◌*◌, ◌^◌, ◌<◌, ◌≤◌}
-use Rattle.std.specs.VecDeque.{deque_capacity}
+use Rattle.std.specs.Prelude.{◌≡◌, ◌+◌, ◌*◌, ◌^◌, ◌<◌, ◌≤◌, length}
 use Rattle.flog_device.specs.declared.device.FlogDevice.TheInside.{Inside}
 use Rattle.flog_device.specs.Device.{FlogState}
 use Rattle.flog_device.specs.laws.Valid.{IsValid}
@@ -37,4 +36,5 @@ pub record IsDevice (d : Inside) : Type 0 where
   pub moved : d.limit ≤ d.trace.moved.room
   pub sent : d.limit + 1 ≤ d.trace.sent.room
   pub waiting : d.limit ≤ d.waiting.capacity
-  pub log : 16 * d.segments ≤ deque_capacity d.log
+  pub log : 16 * d.segments ≤ d.log.capacity
+  pub area : d.log.area ≡ length d.data_area

@@ -20,9 +20,9 @@ invariant_of-result-2 c =
     let log = c.in_ok-with_capacity.ensures in
     let room = ap (λ (b : Buffer Completion). b.capacity) waiting in
     let items = ap (λ (b : Buffer Completion). b.items) waiting in
-    let to = opened_to c.args.image c.of_image-base.result.items (blocks_of c.image.inside.bodies.items c.image.inside.places.items) c.args.setup c.len.result
+    let to = opened_to c.args.image c.of_image-base.result.items (blocks_of c.image.inside.bodies.items c.image.inside.places.items) c.args.setup c.len-blocks.result
     c.in_ok-origins.origins.items c.in_ok-empty_record.field-0 c.in_ok-with_capacity-2.field-0.items c.in_ok-make.field-0 c.in_ok-with_capacity.field-0.items
-    c.of_image-base.ensures c.image.view_is (c.len.ensures ∙ ap length (sym c.image.view_is)) c.in_ok-origins.ensures trace items c.in_ok-make.ensures log.items in
+    c.of_image-base.ensures c.image.view_is (c.len-blocks.ensures ∙ ap length (sym c.image.view_is)) c.in_ok-origins.ensures trace items c.in_ok-make.ensures log.items in
     record {
       valid = subst IsValid to (opened-valid c.args.image c.args.setup (omega (arith, depth.0)) segments.0);
       few = search rules;
@@ -30,5 +30,6 @@ invariant_of-result-2 c =
       moved = omega (arith, moved);
       sent = omega (arith, sent);
       waiting = omega (arith, room);
-      log = let n = log.exact in omega (arith, n);
+      log = let n = log.capacity in omega (arith, n);
+      area = log.size ∙ c.len-blocks.ensures ∙ ap length (sym c.image.view_is);
     }

@@ -26,4 +26,5 @@ invariant_of-self-then-not-self c =
       sent = omega (arith, sent, h.sent);
       waiting = omega (arith, waiting, h.waiting);
       log = h.log;
+      area = h.area;
     }

@@ -45,3 +45,11 @@ returns-clause-body c =
           subst (λ (t : FlogState). IfOk c.match-last_kept.result (λ body. slice_get (surface t) c.args.block ≡ Some body)) c.self.view_is
           (rw w.result-is at)
     ]
+
+pub last_kept-requires : goal.last_kept-requires
+last_kept-requires c =
+    let s = state_of c.self.inside in
+    let wide : c.args.block < length (surface s) = subst (λ (t : FlogState). c.args.block < length (surface t)) (sym c.self.view_is) c.requires.within in
+    let same = length-laid s.took (places (prefix s.log)) s.data_area in
+    let area = c.self.invariant.area in
+    omega (arith, wide, same, area)

@@ -58,4 +58,5 @@ invariant_of-self c =
       sent = h.sent;
       waiting = h.waiting;
       log = h.log;
+      area = h.area;
     }

@@ -1,4 +1,4 @@
-use Rattle.std.proofs.Common.{inl, inr, ◌<◌, ◌++◌, List, length, sym, ap, subst, ◌∙◌, arith}
+use Rattle.std.proofs.Common.{◌<◌, ◌++◌, List, length, sym, ap, subst, ◌∙◌, arith}
 use Rattle.circular_buffer.specs.Buffer.{Buffer}
 use Rattle.order_model.specs.declared.part.Part.{Part}
 use Rattle.order_model.specs.declared.completion.Completion.{Completion}
@@ -11,7 +11,6 @@ use Rattle.flog_device.specs.Device.{FlogState, transferable, transferred}
 use Rattle.flog_device.specs.laws.Valid.{IsValid}
 use Rattle.flog_device.specs.code.Fields.{state_of}
 use Rattle.command_queue.specs.laws.CompletionLaws.{failures-split}
-use Rattle.std.proofs.lemmas.Bool.{cases_lt}
 use Rattle.flog_device.proofs.Moves.{can_move_from, orderly_from, failed_to, moved_to, a_step, no_step, none_fits}
 use Rattle.flog_device.proofs.device.FlogDeviceOrderedDev.transfer.Goals as goal
 
@@ -59,6 +58,7 @@ invariant_of-self c =
       sent = h.sent;
       waiting = omega (arith, waiting_room, h.waiting);
       log = h.log;
+      area = h.area;
     }
 
 pub returns-then-is_number-clause-when : goal.returns-then-is_number-clause-when
@@ -97,20 +97,15 @@ note_transfers-requires-clause-places c =
     let first = c.first_part-first.ensures in
     omega (arith, can.places, c.self.invariant.few, slice, first)
 
-pub append_pages-requires-clause-room : goal.append_pages-requires-clause-room
-append_pages-requires-clause-room c =
+pub append-requires-clause-room : goal.append-requires-clause-room
+append-requires-clause-room c =
     let can = can_move_from c.self.inside c.args.self.now c.args.pick c.in-Some.at c.in-Some-number.number c.in-Some-peek.command.now c.free_places-free.result c.all_programmed-programmed.result c.self.invariant c.self.view_is c.if-has_stopped.ensures c.free_places-free.ensures c.all_programmed-programmed.ensures c.in-Some.ensures c.in-Some-number.ensures c.in-Some-peek.ensures in
     let slice = ap length c.as_slice-parts.ensures in
     let room = c.self.invariant.log in
-    let long = c.self.inside.log.small in
-    let same = c.self.inside.log.ok in
-    elim (cases_lt 0 (length c.in-Some-peek.command.now.parts)) [
-      | inl some ↦ let n = can.log some in omega (arith, n, slice, room)
-      | inr none ↦ omega (arith, none, slice, long, same)
-    ]
+    λ some. let n = can.log (subst (λ k. 0 < k) slice some) in omega (arith, n, slice, room)
 
-pub append_pages-requires-clause-places : goal.append_pages-requires-clause-places
-append_pages-requires-clause-places c =
+pub append-requires-clause-places : goal.append-requires-clause-places
+append-requires-clause-places c =
     let can = can_move_from c.self.inside c.args.self.now c.args.pick c.in-Some.at c.in-Some-number.number c.in-Some-peek.command.now c.free_places-free.result c.all_programmed-programmed.result c.self.invariant c.self.view_is c.if-has_stopped.ensures c.free_places-free.ensures c.all_programmed-programmed.ensures c.in-Some.ensures c.in-Some-number.ensures c.in-Some-peek.ensures in
     let slice = ap length c.as_slice-parts.ensures in
     let first = c.first_part-first.ensures in
@@ -145,8 +140,8 @@ invariant_of-self-2 c =
     let moved = ap (λ (t : HistoryState Transfer). t.items) c.note_transfers.ensures ∙ ap (λ (ps : List Part). s.moved ++ transfers s.epoch first ps) slice in
     let waiting = ap (λ (b : Buffer Completion). b.items) c.complete.ensures in
     let queue = c.leave-2.ensures ∙ ap (departed d.queue) can.picked in
-    let log = c.append_pages.ensures.items ∙ ap (λ (ps : List Part). s.log ++ pages first ps) slice in
-    let to = moved_to s w first c.note_transfers.new.moved.items c.complete.new.waiting.items c.leave-2.new.self c.append_pages.new.log.items c.next_epoch-self-inside.result
+    let log = c.append.ensures.items ∙ ap (λ (ps : List Part). s.log ++ pages first ps) slice in
+    let to = moved_to s w first c.note_transfers.new.moved.items c.complete.new.waiting.items c.leave-2.new.self c.append.new.self.items c.next_epoch-self-inside.result
     c.first_part-first.ensures moved waiting queue log c.next_epoch-self-inside.ensures in
     let moved_room = ap (λ (t : HistoryState Transfer). t.room) c.note_transfers.ensures in
     let waiting_room = ap (λ (b : Buffer Completion). b.capacity) c.complete.ensures in
@@ -157,7 +152,8 @@ invariant_of-self-2 c =
       moved = omega (arith, moved_room, h.moved);
       sent = h.sent;
       waiting = omega (arith, waiting_room, h.waiting);
-      log = omega (arith, c.append_pages.ensures.capacity, h.log);
+      log = omega (arith, c.append.ensures.capacity, h.log);
+      area = c.append.ensures.size ∙ h.area;
     }
 
 pub returns-clause-when : goal.returns-clause-when
@@ -177,8 +173,8 @@ returns-clause-state c =
     let moved = ap (λ (t : HistoryState Transfer). t.items) c.note_transfers.ensures ∙ ap (λ (ps : List Part). s.moved ++ transfers s.epoch first ps) slice in
     let waiting = ap (λ (b : Buffer Completion). b.items) c.complete.ensures in
     let queue = c.leave-2.ensures ∙ ap (departed d.queue) can.picked in
-    let log = c.append_pages.ensures.items ∙ ap (λ (ps : List Part). s.log ++ pages first ps) slice in
-    let to = moved_to s w first c.note_transfers.new.moved.items c.complete.new.waiting.items c.leave-2.new.self c.append_pages.new.log.items c.next_epoch-self-inside.result
+    let log = c.append.ensures.items ∙ ap (λ (ps : List Part). s.log ++ pages first ps) slice in
+    let to = moved_to s w first c.note_transfers.new.moved.items c.complete.new.waiting.items c.leave-2.new.self c.append.new.self.items c.next_epoch-self-inside.result
     c.first_part-first.ensures moved waiting queue log c.next_epoch-self-inside.ensures in
     to ∙ sym (can.moves (sym c.if-is_number.ensures)) ∙ ap (λ (t : FlogState). transferred t c.args.pick) c.self.view_is
 
