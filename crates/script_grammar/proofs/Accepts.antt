@@ -7,7 +7,7 @@ use Rattle.std.proofs.lemmas.Option.{same_Some, none-some}
 use Rattle.blk_base.specs.Members.{In}
 use Rattle.order_model.specs.declared.request.Request.{Request}
 use Rattle.script_words.specs.declared.limits.TheConstants.{MOST_EVENTS, PLACES}
-use Rattle.script_grammar.specs.declared.limits.TheConstants.{DEFAULT_DEPTH, DEFAULT_QUEUE, FEWEST_SEGMENTS, MOST_BLOCKS, MOST_DEPTH, MOST_QUEUE, MOST_REQUESTS, MOST_SEGMENTS, MOST_STEPS}
+use Rattle.script_grammar.specs.declared.limits.TheConstants.{DEFAULT_DEPTH, DEFAULT_QUEUE, FEWEST_SEGMENTS, MOST_BLOCKS, MOST_DEPTH, MOST_QUEUE, MOST_REQUESTS, MOST_SEGMENTS, MOST_STEPS, MOST_TRANSFERS}
 use Rattle.script_grammar.specs.declared.reading.Reading.{Reading}
 use Rattle.script_grammar.specs.declared.reading.Section.{Section}
 use Rattle.script_grammar.specs.declared.reading.Section.TheVariants as sections
@@ -35,7 +35,7 @@ use Rattle.script_grammar.specs.laws.Accepted.{begins, beginning, or_default, de
 use Rattle.script_words.specs.laws.Counts.{with_count}
 use Rattle.script_words.proofs.Counts.{one_text, shape_one, shape_two}
 use Rattle.script_words.proofs.SpelledNumbers.{numeral-decimal}
-use Rattle.script_grammar.proofs.SpelledLines.{IsRead, at_header, before_events, later_line-read, may_stand-event, count_fits-from, IsRead-form, IsRead-depth, IsRead-queue, IsRead-cut, IsRead-flash, IsRead-elevator, IsRead-request, IsRead-events}
+use Rattle.script_grammar.proofs.SpelledLines.{IsRead, at_header, before_events, later_line-read, may_stand-event, count_fits-from, IsRead-form, IsRead-depth, IsRead-queue, IsRead-fail, IsRead-cut, IsRead-flash, IsRead-elevator, IsRead-request, IsRead-events}
 use Rattle.script_grammar.proofs.Spelled.{with_line, with_lines, with_requests, IsRead-event_line}
 use Rattle.script_grammar.proofs.SaidWords.{default_text, line_with}
 use Rattle.script_grammar.proofs.Said.{is_header_line, depth_line, queue_line, elevator_line}
@@ -62,23 +62,23 @@ shape l (Persist pick) n h = shape_two l (codes "persist") (decimal pick) n h
 -- an event without its count is done once
 once_plain : (r : Reading) (w : PlainWord) → r.section ≡ sections.Events → (is_scheduled r.form || not (needs_scheduler (word.Plain w))) ≡ true → r.expanded + 1 ≤ MOST_EVENTS → read_words (Some r) (event_words (plain_event w)) ≡ Ok (with_events r (plain_event w) 1)
 once_plain r plain.Submit here known all =
-    later_line-read r (word.Plain plain.Submit) [] (line.Plain plain.Submit 1) refl (may_stand-event r (word.Plain plain.Submit) here refl known) refl refl (count_fits-from r 1 (lit≤ tt) (lit≤ tt) all)
+    later_line-read r (word.Plain plain.Submit) [] (line.Plain plain.Submit 1) (may_stand-event r (word.Plain plain.Submit) here refl known) refl refl (count_fits-from r 1 (lit≤ tt) (lit≤ tt) all)
 once_plain r plain.Accept here known all =
-    later_line-read r (word.Plain plain.Accept) [] (line.Plain plain.Accept 1) refl (may_stand-event r (word.Plain plain.Accept) here refl known) refl refl (count_fits-from r 1 (lit≤ tt) (lit≤ tt) all)
+    later_line-read r (word.Plain plain.Accept) [] (line.Plain plain.Accept 1) (may_stand-event r (word.Plain plain.Accept) here refl known) refl refl (count_fits-from r 1 (lit≤ tt) (lit≤ tt) all)
 once_plain r plain.Receive here known all =
-    later_line-read r (word.Plain plain.Receive) [] (line.Plain plain.Receive 1) refl (may_stand-event r (word.Plain plain.Receive) here refl known) refl refl (count_fits-from r 1 (lit≤ tt) (lit≤ tt) all)
+    later_line-read r (word.Plain plain.Receive) [] (line.Plain plain.Receive 1) (may_stand-event r (word.Plain plain.Receive) here refl known) refl refl (count_fits-from r 1 (lit≤ tt) (lit≤ tt) all)
 
 once_pick : (r : Reading) (w : PickWord) (pick : ℕ) → r.section ≡ sections.Events → (is_scheduled r.form || not (needs_scheduler (word.Pick w))) ≡ true → pick < PLACES → r.expanded + 1 ≤ MOST_EVENTS → read_words (Some r) (event_words (pick_event w pick)) ≡ Ok (with_events r (pick_event w pick) 1)
 once_pick r picks.Dispatch pick here known low all =
-    later_line-read r (word.Pick picks.Dispatch) (decimal pick ∷ []) (line.Pick picks.Dispatch pick 1) refl (may_stand-event r (word.Pick picks.Dispatch) here refl known) refl
+    later_line-read r (word.Pick picks.Dispatch) (decimal pick ∷ []) (line.Pick picks.Dispatch pick 1) (may_stand-event r (word.Pick picks.Dispatch) here refl known) refl
     (ap (λ o. option_and_then (λ n. option_map (line.Pick picks.Dispatch n) (count_of [])) o) (numeral-decimal pick (omega arith)))
     (and_from (nat_lt pick PLACES) (count_fits r 1) (lt-ltb pick PLACES low) (count_fits-from r 1 (lit≤ tt) (lit≤ tt) all))
 once_pick r picks.Transfer pick here known low all =
-    later_line-read r (word.Pick picks.Transfer) (decimal pick ∷ []) (line.Pick picks.Transfer pick 1) refl (may_stand-event r (word.Pick picks.Transfer) here refl known) refl
+    later_line-read r (word.Pick picks.Transfer) (decimal pick ∷ []) (line.Pick picks.Transfer pick 1) (may_stand-event r (word.Pick picks.Transfer) here refl known) refl
     (ap (λ o. option_and_then (λ n. option_map (line.Pick picks.Transfer n) (count_of [])) o) (numeral-decimal pick (omega arith)))
     (and_from (nat_lt pick PLACES) (count_fits r 1) (lt-ltb pick PLACES low) (count_fits-from r 1 (lit≤ tt) (lit≤ tt) all))
 once_pick r picks.Persist pick here known low all =
-    later_line-read r (word.Pick picks.Persist) (decimal pick ∷ []) (line.Pick picks.Persist pick 1) refl (may_stand-event r (word.Pick picks.Persist) here refl known) refl
+    later_line-read r (word.Pick picks.Persist) (decimal pick ∷ []) (line.Pick picks.Persist pick 1) (may_stand-event r (word.Pick picks.Persist) here refl known) refl
     (ap (λ o. option_and_then (λ n. option_map (line.Pick picks.Persist n) (count_of [])) o) (numeral-decimal pick (omega arith)))
     (and_from (nat_lt pick PLACES) (count_fits r 1) (lt-ltb pick PLACES low) (count_fits-from r 1 (lit≤ tt) (lit≤ tt) all))
 
@@ -146,15 +146,17 @@ abbrev queue_lines_of : Bool → ℕ → List (List (List ℕ))
 queue_lines_of scheduled q = if scheduled then queue_line q ∷ [] else []
 
 -- what is left of the header, and what was read of it, say these values
-record IsLeft (scheduled : Bool) (d q : ℕ) (c f depth queue cut flash : Option ℕ) (wants elevator : Bool) (ls : List (List (List ℕ))) : Type 0 where
+record IsLeft (scheduled : Bool) (d q : ℕ) (t c f depth queue fail cut flash : Option ℕ) (wants elevator : Bool) (ls : List (List (List ℕ))) : Type 0 where
   depths : or_default default_depth (number_lines (codes "depth") depth ++ beginning (codes "depth") ls) ≡ depth_line d ∷ []
   queues : filled_queue scheduled (number_lines (codes "queue") queue ++ beginning (codes "queue") ls) ≡ queue_lines_of scheduled q
+  fails : number_lines (codes "fail") fail ++ beginning (codes "fail") ls ≡ number_lines (codes "fail") t
   cuts : number_lines (codes "cut") cut ++ beginning (codes "cut") ls ≡ number_lines (codes "cut") c
   flashes : number_lines (codes "flash") flash ++ beginning (codes "flash") ls ≡ number_lines (codes "flash") f
   elevators : elevator_lines elevator ++ beginning (codes "elevator") ls ≡ elevator_lines wants
   known : (l : List (List ℕ)) → In l ls → is_header_line l ≡ true
   depth_read : (n : ℕ) → depth ≡ Some n → n ≡ d
   queue_read : (n : ℕ) → queue ≡ Some n → n ≡ q
+  fail_read : (n : ℕ) → fail ≡ Some n → t ≡ Some n
   cut_read : (n : ℕ) → cut ≡ Some n → c ≡ Some n
   flash_read : (n : ℕ) → flash ≡ Some n → f ≡ Some n
 
@@ -218,27 +220,29 @@ is_wanted true wants plain h = refl
 is_wanted false wants plain h = let none = plain refl in cc
 
 -- the values of a header, within their limits
-record AreFit (form : Form) (d q : ℕ) (c f : Option ℕ) (wants : Bool) : Type 0 where
+record AreFit (form : Form) (d q : ℕ) (t c f : Option ℕ) (wants : Bool) : Type 0 where
   some_depth : 1 ≤ d
   depth : d ≤ MOST_DEPTH
   some_queue : 1 ≤ q
   queue : q ≤ MOST_QUEUE
   plain : is_scheduled form ≡ false → q ≡ DEFAULT_QUEUE
+  fail : (n : ℕ) → t ≡ Some n → (1 ≤ n) × (n ≤ MOST_TRANSFERS)
   cut : (n : ℕ) → c ≡ Some n → n ≤ MOST_STEPS
   flash : (n : ℕ) → f ≡ Some n → (FEWEST_SEGMENTS ≤ n) × (n ≤ MOST_SEGMENTS)
   elevator : is_scheduled form ≡ false → wants ≡ false
 
 -- what comes behind the header, whatever of it was read
-abbrev Behind : Form → ℕ → ℕ → Option ℕ → Option ℕ → Bool → List (List (List ℕ)) → Script → Type 0
-Behind form d q c f wants rest s = (depth queue : Option ℕ) → unwrap_or depth DEFAULT_DEPTH ≡ d → unwrap_or queue DEFAULT_QUEUE ≡ q → ReadsTo (Some (at_header form depth queue c f wants)) rest s
+abbrev Behind : Form → ℕ → ℕ → Option ℕ → Option ℕ → Option ℕ → Bool → List (List (List ℕ)) → Script → Type 0
+Behind form d q t c f wants rest s = (depth queue : Option ℕ) → unwrap_or depth DEFAULT_DEPTH ≡ d → unwrap_or queue DEFAULT_QUEUE ≡ q → ReadsTo (Some (at_header form depth queue t c f wants)) rest s
 
 -- a header line of each kind, and the lines behind it
-depth_left : (scheduled : Bool) (d q : ℕ) (c f depth queue cut flash : Option ℕ) (wants elevator : Bool) (l : List (List ℕ)) (ls : List (List (List ℕ))) → begins (codes "depth") l ≡ true → IsLeft scheduled d q c f depth queue cut flash wants elevator (l ∷ ls) → (depth ≡ None) × (l ≡ depth_line d) × IsLeft scheduled d q c f (Some d) queue cut flash wants elevator ls
-depth_left scheduled d q c f depth queue cut flash wants elevator l ls e is =
+depth_left : (scheduled : Bool) (d q : ℕ) (t c f depth queue fail cut flash : Option ℕ) (wants elevator : Bool) (l : List (List ℕ)) (ls : List (List (List ℕ))) → begins (codes "depth") l ≡ true → IsLeft scheduled d q t c f depth queue fail cut flash wants elevator (l ∷ ls) → (depth ≡ None) × (l ≡ depth_line d) × IsLeft scheduled d q t c f (Some d) queue fail cut flash wants elevator ls
+depth_left scheduled d q t c f depth queue fail cut flash wants elevator l ls e is =
     let found : or_default default_depth (number_lines (codes "depth") depth ++ l ∷ beginning (codes "depth") ls) ≡ depth_line d ∷ [] =
     ap (λ x. or_default default_depth (number_lines (codes "depth") depth ++ x)) (sym (beginning-with (codes "depth") l ls e)) ∙ is.depths in
     let next = depth_next depth l (beginning (codes "depth") ls) d found in
     let same : beginning (codes "queue") (l ∷ ls) ≡ beginning (codes "queue") ls = ap (λ x. beginning (codes "queue") (x ∷ ls)) next.1 in
+    let fails : beginning (codes "fail") (l ∷ ls) ≡ beginning (codes "fail") ls = ap (λ x. beginning (codes "fail") (x ∷ ls)) next.1 in
     let cuts : beginning (codes "cut") (l ∷ ls) ≡ beginning (codes "cut") ls = ap (λ x. beginning (codes "cut") (x ∷ ls)) next.1 in
     let flashes : beginning (codes "flash") (l ∷ ls) ≡ beginning (codes "flash") ls = ap (λ x. beginning (codes "flash") (x ∷ ls)) next.1 in
     let lifts : beginning (codes "elevator") (l ∷ ls) ≡ beginning (codes "elevator") ls = ap (λ x. beginning (codes "elevator") (x ∷ ls)) next.1 in (
@@ -247,23 +251,26 @@ depth_left scheduled d q c f depth queue cut flash wants elevator l ls e is =
       record {
         depths = ap (λ x. depth_line d ∷ x) next.2;
         queues = ap (λ x. filled_queue scheduled (number_lines (codes "queue") queue ++ x)) (sym same) ∙ is.queues;
+        fails = ap (λ x. number_lines (codes "fail") fail ++ x) (sym fails) ∙ is.fails;
         cuts = ap (λ x. number_lines (codes "cut") cut ++ x) (sym cuts) ∙ is.cuts;
         flashes = ap (λ x. number_lines (codes "flash") flash ++ x) (sym flashes) ∙ is.flashes;
         elevators = ap (λ x. elevator_lines elevator ++ x) (sym lifts) ∙ is.elevators;
         known = λ m i. is.known m (inr i);
         depth_read = λ n h. sym (same_Some d n h);
         queue_read = is.queue_read;
+        fail_read = is.fail_read;
         cut_read = is.cut_read;
         flash_read = is.flash_read;
       },
     )
 
-queue_left : (scheduled : Bool) (d q : ℕ) (c f depth queue cut flash : Option ℕ) (wants elevator : Bool) (l : List (List ℕ)) (ls : List (List (List ℕ))) → begins (codes "queue") l ≡ true → IsLeft scheduled d q c f depth queue cut flash wants elevator (l ∷ ls) → (scheduled ≡ true) × (queue ≡ None) × (l ≡ queue_line q) × IsLeft scheduled d q c f depth (Some q) cut flash wants elevator ls
-queue_left scheduled d q c f depth queue cut flash wants elevator l ls e is =
+queue_left : (scheduled : Bool) (d q : ℕ) (t c f depth queue fail cut flash : Option ℕ) (wants elevator : Bool) (l : List (List ℕ)) (ls : List (List (List ℕ))) → begins (codes "queue") l ≡ true → IsLeft scheduled d q t c f depth queue fail cut flash wants elevator (l ∷ ls) → (scheduled ≡ true) × (queue ≡ None) × (l ≡ queue_line q) × IsLeft scheduled d q t c f depth (Some q) fail cut flash wants elevator ls
+queue_left scheduled d q t c f depth queue fail cut flash wants elevator l ls e is =
     let found : filled_queue scheduled (number_lines (codes "queue") queue ++ l ∷ beginning (codes "queue") ls) ≡ queue_lines_of scheduled q =
     ap (λ x. filled_queue scheduled (number_lines (codes "queue") queue ++ x)) (sym (beginning-with (codes "queue") l ls e)) ∙ is.queues in
     let next = queue_next scheduled queue l (beginning (codes "queue") ls) q found in
     let depths : beginning (codes "depth") (l ∷ ls) ≡ beginning (codes "depth") ls = ap (λ x. beginning (codes "depth") (x ∷ ls)) next.2 in
+    let fails : beginning (codes "fail") (l ∷ ls) ≡ beginning (codes "fail") ls = ap (λ x. beginning (codes "fail") (x ∷ ls)) next.2 in
     let cuts : beginning (codes "cut") (l ∷ ls) ≡ beginning (codes "cut") ls = ap (λ x. beginning (codes "cut") (x ∷ ls)) next.2 in
     let flashes : beginning (codes "flash") (l ∷ ls) ≡ beginning (codes "flash") ls = ap (λ x. beginning (codes "flash") (x ∷ ls)) next.2 in
     let lifts : beginning (codes "elevator") (l ∷ ls) ≡ beginning (codes "elevator") ls = ap (λ x. beginning (codes "elevator") (x ∷ ls)) next.2 in (
@@ -276,25 +283,28 @@ queue_left scheduled d q c f depth queue cut flash wants elevator l ls e is =
             ap (λ x. filled_queue scheduled (queue_line q ∷ x)) next.3
             ∙ ap (λ b. filled_queue b (queue_line q ∷ [])) next.0
             ∙ sym (ap (λ b. queue_lines_of b q) next.0);
+        fails = ap (λ x. number_lines (codes "fail") fail ++ x) (sym fails) ∙ is.fails;
         cuts = ap (λ x. number_lines (codes "cut") cut ++ x) (sym cuts) ∙ is.cuts;
         flashes = ap (λ x. number_lines (codes "flash") flash ++ x) (sym flashes) ∙ is.flashes;
         elevators = ap (λ x. elevator_lines elevator ++ x) (sym lifts) ∙ is.elevators;
         known = λ m i. is.known m (inr i);
         depth_read = is.depth_read;
         queue_read = λ n h. sym (same_Some q n h);
+        fail_read = is.fail_read;
         cut_read = is.cut_read;
         flash_read = is.flash_read;
       },
     )
 
-cut_left : (scheduled : Bool) (d q : ℕ) (c f depth queue cut flash : Option ℕ) (wants elevator : Bool) (l : List (List ℕ)) (ls : List (List (List ℕ))) → begins (codes "cut") l ≡ true → IsLeft scheduled d q c f depth queue cut flash wants elevator (l ∷ ls) → (n : ℕ) × (cut ≡ None) × (c ≡ Some n) × (l ≡ number_line (codes "cut") n) × IsLeft scheduled d q c f depth queue (Some n) flash wants elevator ls
-cut_left scheduled d q c f depth queue cut flash wants elevator l ls e is =
-    let found : number_lines (codes "cut") cut ++ l ∷ beginning (codes "cut") ls ≡ number_lines (codes "cut") c =
-    ap (λ x. number_lines (codes "cut") cut ++ x) (sym (beginning-with (codes "cut") l ls e)) ∙ is.cuts in
-    let next = number_next (codes "cut") cut c l (beginning (codes "cut") ls) found in
+fail_left : (scheduled : Bool) (d q : ℕ) (t c f depth queue fail cut flash : Option ℕ) (wants elevator : Bool) (l : List (List ℕ)) (ls : List (List (List ℕ))) → begins (codes "fail") l ≡ true → IsLeft scheduled d q t c f depth queue fail cut flash wants elevator (l ∷ ls) → (n : ℕ) × (fail ≡ None) × (t ≡ Some n) × (l ≡ number_line (codes "fail") n) × IsLeft scheduled d q t c f depth queue (Some n) cut flash wants elevator ls
+fail_left scheduled d q t c f depth queue fail cut flash wants elevator l ls e is =
+    let found : number_lines (codes "fail") fail ++ l ∷ beginning (codes "fail") ls ≡ number_lines (codes "fail") t =
+    ap (λ x. number_lines (codes "fail") fail ++ x) (sym (beginning-with (codes "fail") l ls e)) ∙ is.fails in
+    let next = number_next (codes "fail") fail t l (beginning (codes "fail") ls) found in
     let n = next.0 in
     let depths : beginning (codes "depth") (l ∷ ls) ≡ beginning (codes "depth") ls = ap (λ x. beginning (codes "depth") (x ∷ ls)) next.3 in
     let queues : beginning (codes "queue") (l ∷ ls) ≡ beginning (codes "queue") ls = ap (λ x. beginning (codes "queue") (x ∷ ls)) next.3 in
+    let cuts : beginning (codes "cut") (l ∷ ls) ≡ beginning (codes "cut") ls = ap (λ x. beginning (codes "cut") (x ∷ ls)) next.3 in
     let flashes : beginning (codes "flash") (l ∷ ls) ≡ beginning (codes "flash") ls = ap (λ x. beginning (codes "flash") (x ∷ ls)) next.3 in
     let lifts : beginning (codes "elevator") (l ∷ ls) ≡ beginning (codes "elevator") ls = ap (λ x. beginning (codes "elevator") (x ∷ ls)) next.3 in (
       n,
@@ -304,25 +314,59 @@ cut_left scheduled d q c f depth queue cut flash wants elevator l ls e is =
       record {
         depths = ap (λ x. or_default default_depth (number_lines (codes "depth") depth ++ x)) (sym depths) ∙ is.depths;
         queues = ap (λ x. filled_queue scheduled (number_lines (codes "queue") queue ++ x)) (sym queues) ∙ is.queues;
+        fails = ap (λ x. number_line (codes "fail") n ∷ x) next.4 ∙ sym (ap (number_lines (codes "fail")) next.2);
+        cuts = ap (λ x. number_lines (codes "cut") cut ++ x) (sym cuts) ∙ is.cuts;
+        flashes = ap (λ x. number_lines (codes "flash") flash ++ x) (sym flashes) ∙ is.flashes;
+        elevators = ap (λ x. elevator_lines elevator ++ x) (sym lifts) ∙ is.elevators;
+        known = λ m i. is.known m (inr i);
+        depth_read = is.depth_read;
+        queue_read = is.queue_read;
+        fail_read = λ m h. next.2 ∙ h;
+        cut_read = is.cut_read;
+        flash_read = is.flash_read;
+      },
+    )
+
+cut_left : (scheduled : Bool) (d q : ℕ) (t c f depth queue fail cut flash : Option ℕ) (wants elevator : Bool) (l : List (List ℕ)) (ls : List (List (List ℕ))) → begins (codes "cut") l ≡ true → IsLeft scheduled d q t c f depth queue fail cut flash wants elevator (l ∷ ls) → (n : ℕ) × (cut ≡ None) × (c ≡ Some n) × (l ≡ number_line (codes "cut") n) × IsLeft scheduled d q t c f depth queue fail (Some n) flash wants elevator ls
+cut_left scheduled d q t c f depth queue fail cut flash wants elevator l ls e is =
+    let found : number_lines (codes "cut") cut ++ l ∷ beginning (codes "cut") ls ≡ number_lines (codes "cut") c =
+    ap (λ x. number_lines (codes "cut") cut ++ x) (sym (beginning-with (codes "cut") l ls e)) ∙ is.cuts in
+    let next = number_next (codes "cut") cut c l (beginning (codes "cut") ls) found in
+    let n = next.0 in
+    let depths : beginning (codes "depth") (l ∷ ls) ≡ beginning (codes "depth") ls = ap (λ x. beginning (codes "depth") (x ∷ ls)) next.3 in
+    let queues : beginning (codes "queue") (l ∷ ls) ≡ beginning (codes "queue") ls = ap (λ x. beginning (codes "queue") (x ∷ ls)) next.3 in
+    let fails : beginning (codes "fail") (l ∷ ls) ≡ beginning (codes "fail") ls = ap (λ x. beginning (codes "fail") (x ∷ ls)) next.3 in
+    let flashes : beginning (codes "flash") (l ∷ ls) ≡ beginning (codes "flash") ls = ap (λ x. beginning (codes "flash") (x ∷ ls)) next.3 in
+    let lifts : beginning (codes "elevator") (l ∷ ls) ≡ beginning (codes "elevator") ls = ap (λ x. beginning (codes "elevator") (x ∷ ls)) next.3 in (
+      n,
+      next.1,
+      next.2,
+      next.3,
+      record {
+        depths = ap (λ x. or_default default_depth (number_lines (codes "depth") depth ++ x)) (sym depths) ∙ is.depths;
+        queues = ap (λ x. filled_queue scheduled (number_lines (codes "queue") queue ++ x)) (sym queues) ∙ is.queues;
+        fails = ap (λ x. number_lines (codes "fail") fail ++ x) (sym fails) ∙ is.fails;
         cuts = ap (λ x. number_line (codes "cut") n ∷ x) next.4 ∙ sym (ap (number_lines (codes "cut")) next.2);
         flashes = ap (λ x. number_lines (codes "flash") flash ++ x) (sym flashes) ∙ is.flashes;
         elevators = ap (λ x. elevator_lines elevator ++ x) (sym lifts) ∙ is.elevators;
         known = λ m i. is.known m (inr i);
         depth_read = is.depth_read;
         queue_read = is.queue_read;
+        fail_read = is.fail_read;
         cut_read = λ m h. next.2 ∙ h;
         flash_read = is.flash_read;
       },
     )
 
-flash_left : (scheduled : Bool) (d q : ℕ) (c f depth queue cut flash : Option ℕ) (wants elevator : Bool) (l : List (List ℕ)) (ls : List (List (List ℕ))) → begins (codes "flash") l ≡ true → IsLeft scheduled d q c f depth queue cut flash wants elevator (l ∷ ls) → (n : ℕ) × (flash ≡ None) × (f ≡ Some n) × (l ≡ number_line (codes "flash") n) × IsLeft scheduled d q c f depth queue cut (Some n) wants elevator ls
-flash_left scheduled d q c f depth queue cut flash wants elevator l ls e is =
+flash_left : (scheduled : Bool) (d q : ℕ) (t c f depth queue fail cut flash : Option ℕ) (wants elevator : Bool) (l : List (List ℕ)) (ls : List (List (List ℕ))) → begins (codes "flash") l ≡ true → IsLeft scheduled d q t c f depth queue fail cut flash wants elevator (l ∷ ls) → (n : ℕ) × (flash ≡ None) × (f ≡ Some n) × (l ≡ number_line (codes "flash") n) × IsLeft scheduled d q t c f depth queue fail cut (Some n) wants elevator ls
+flash_left scheduled d q t c f depth queue fail cut flash wants elevator l ls e is =
     let found : number_lines (codes "flash") flash ++ l ∷ beginning (codes "flash") ls ≡ number_lines (codes "flash") f =
     ap (λ x. number_lines (codes "flash") flash ++ x) (sym (beginning-with (codes "flash") l ls e)) ∙ is.flashes in
     let next = number_next (codes "flash") flash f l (beginning (codes "flash") ls) found in
     let n = next.0 in
     let depths : beginning (codes "depth") (l ∷ ls) ≡ beginning (codes "depth") ls = ap (λ x. beginning (codes "depth") (x ∷ ls)) next.3 in
     let queues : beginning (codes "queue") (l ∷ ls) ≡ beginning (codes "queue") ls = ap (λ x. beginning (codes "queue") (x ∷ ls)) next.3 in
+    let fails : beginning (codes "fail") (l ∷ ls) ≡ beginning (codes "fail") ls = ap (λ x. beginning (codes "fail") (x ∷ ls)) next.3 in
     let cuts : beginning (codes "cut") (l ∷ ls) ≡ beginning (codes "cut") ls = ap (λ x. beginning (codes "cut") (x ∷ ls)) next.3 in
     let lifts : beginning (codes "elevator") (l ∷ ls) ≡ beginning (codes "elevator") ls = ap (λ x. beginning (codes "elevator") (x ∷ ls)) next.3 in (
       n,
@@ -332,24 +376,27 @@ flash_left scheduled d q c f depth queue cut flash wants elevator l ls e is =
       record {
         depths = ap (λ x. or_default default_depth (number_lines (codes "depth") depth ++ x)) (sym depths) ∙ is.depths;
         queues = ap (λ x. filled_queue scheduled (number_lines (codes "queue") queue ++ x)) (sym queues) ∙ is.queues;
+        fails = ap (λ x. number_lines (codes "fail") fail ++ x) (sym fails) ∙ is.fails;
         cuts = ap (λ x. number_lines (codes "cut") cut ++ x) (sym cuts) ∙ is.cuts;
         flashes = ap (λ x. number_line (codes "flash") n ∷ x) next.4 ∙ sym (ap (number_lines (codes "flash")) next.2);
         elevators = ap (λ x. elevator_lines elevator ++ x) (sym lifts) ∙ is.elevators;
         known = λ m i. is.known m (inr i);
         depth_read = is.depth_read;
         queue_read = is.queue_read;
+        fail_read = is.fail_read;
         cut_read = is.cut_read;
         flash_read = λ m h. next.2 ∙ h;
       },
     )
 
-elevator_left : (scheduled : Bool) (d q : ℕ) (c f depth queue cut flash : Option ℕ) (wants elevator : Bool) (l : List (List ℕ)) (ls : List (List (List ℕ))) → begins (codes "elevator") l ≡ true → IsLeft scheduled d q c f depth queue cut flash wants elevator (l ∷ ls) → (elevator ≡ false) × (wants ≡ true) × (l ≡ elevator_line) × IsLeft scheduled d q c f depth queue cut flash wants true ls
-elevator_left scheduled d q c f depth queue cut flash wants elevator l ls e is =
+elevator_left : (scheduled : Bool) (d q : ℕ) (t c f depth queue fail cut flash : Option ℕ) (wants elevator : Bool) (l : List (List ℕ)) (ls : List (List (List ℕ))) → begins (codes "elevator") l ≡ true → IsLeft scheduled d q t c f depth queue fail cut flash wants elevator (l ∷ ls) → (elevator ≡ false) × (wants ≡ true) × (l ≡ elevator_line) × IsLeft scheduled d q t c f depth queue fail cut flash wants true ls
+elevator_left scheduled d q t c f depth queue fail cut flash wants elevator l ls e is =
     let found : elevator_lines elevator ++ l ∷ beginning (codes "elevator") ls ≡ elevator_lines wants =
     ap (λ x. elevator_lines elevator ++ x) (sym (beginning-with (codes "elevator") l ls e)) ∙ is.elevators in
     let next = elevator_next elevator wants l (beginning (codes "elevator") ls) found in
     let depths : beginning (codes "depth") (l ∷ ls) ≡ beginning (codes "depth") ls = ap (λ x. beginning (codes "depth") (x ∷ ls)) next.2 in
     let queues : beginning (codes "queue") (l ∷ ls) ≡ beginning (codes "queue") ls = ap (λ x. beginning (codes "queue") (x ∷ ls)) next.2 in
+    let fails : beginning (codes "fail") (l ∷ ls) ≡ beginning (codes "fail") ls = ap (λ x. beginning (codes "fail") (x ∷ ls)) next.2 in
     let cuts : beginning (codes "cut") (l ∷ ls) ≡ beginning (codes "cut") ls = ap (λ x. beginning (codes "cut") (x ∷ ls)) next.2 in
     let flashes : beginning (codes "flash") (l ∷ ls) ≡ beginning (codes "flash") ls = ap (λ x. beginning (codes "flash") (x ∷ ls)) next.2 in (
       next.0,
@@ -358,75 +405,90 @@ elevator_left scheduled d q c f depth queue cut flash wants elevator l ls e is =
       record {
         depths = ap (λ x. or_default default_depth (number_lines (codes "depth") depth ++ x)) (sym depths) ∙ is.depths;
         queues = ap (λ x. filled_queue scheduled (number_lines (codes "queue") queue ++ x)) (sym queues) ∙ is.queues;
+        fails = ap (λ x. number_lines (codes "fail") fail ++ x) (sym fails) ∙ is.fails;
         cuts = ap (λ x. number_lines (codes "cut") cut ++ x) (sym cuts) ∙ is.cuts;
         flashes = ap (λ x. number_lines (codes "flash") flash ++ x) (sym flashes) ∙ is.flashes;
         elevators = ap (λ x. elevator_line ∷ x) next.3 ∙ sym (ap elevator_lines next.1);
         known = λ m i. is.known m (inr i);
         depth_read = is.depth_read;
         queue_read = is.queue_read;
+        fail_read = is.fail_read;
         cut_read = is.cut_read;
         flash_read = is.flash_read;
       },
     )
 
--- the five places of a header line that may be read
-at_depth : (form : Form) (d : ℕ) (depth queue cut flash : Option ℕ) (elevator : Bool) (l : List (List ℕ)) (ls : List (List (List ℕ))) (s : Script) → 1 ≤ d → d ≤ MOST_DEPTH → depth ≡ None → l ≡ depth_line d → ReadsTo (Some (at_header form (Some d) queue cut flash elevator)) ls s → ReadsTo (Some (at_header form depth queue cut flash elevator)) (l ∷ ls) s
-at_depth form d depth queue cut flash elevator l ls s some few none same rest =
-    subst (λ o. ReadsTo (Some (at_header form o queue cut flash elevator)) (l ∷ ls) s) (sym none)
-    (subst (λ ws. ReadsTo (Some (at_header form None queue cut flash elevator)) (ws ∷ ls) s) (sym same)
-    (ReadsTo-line (Some (at_header form None queue cut flash elevator)) (depth_line d) (at_header form (Some d) queue cut flash elevator) ls s (IsRead-depth form queue cut flash elevator d some few) rest))
+-- the six places of a header line that may be read
+at_depth : (form : Form) (d : ℕ) (depth queue fail cut flash : Option ℕ) (elevator : Bool) (l : List (List ℕ)) (ls : List (List (List ℕ))) (s : Script) → 1 ≤ d → d ≤ MOST_DEPTH → depth ≡ None → l ≡ depth_line d → ReadsTo (Some (at_header form (Some d) queue fail cut flash elevator)) ls s → ReadsTo (Some (at_header form depth queue fail cut flash elevator)) (l ∷ ls) s
+at_depth form d depth queue fail cut flash elevator l ls s some few none same rest =
+    subst (λ o. ReadsTo (Some (at_header form o queue fail cut flash elevator)) (l ∷ ls) s) (sym none)
+    (subst (λ ws. ReadsTo (Some (at_header form None queue fail cut flash elevator)) (ws ∷ ls) s) (sym same)
+    (ReadsTo-line (Some (at_header form None queue fail cut flash elevator)) (depth_line d) (at_header form (Some d) queue fail cut flash elevator) ls s (IsRead-depth form queue fail cut flash elevator d some few) rest))
 
-at_queue : (form : Form) (q : ℕ) (depth queue cut flash : Option ℕ) (elevator : Bool) (l : List (List ℕ)) (ls : List (List (List ℕ))) (s : Script) → is_scheduled form ≡ true → 1 ≤ q → q ≤ MOST_QUEUE → queue ≡ None → l ≡ queue_line q → ReadsTo (Some (at_header form depth (Some q) cut flash elevator)) ls s → ReadsTo (Some (at_header form depth queue cut flash elevator)) (l ∷ ls) s
-at_queue form q depth queue cut flash elevator l ls s scheduled some few none same rest =
-    subst (λ o. ReadsTo (Some (at_header form depth o cut flash elevator)) (l ∷ ls) s) (sym none)
-    (subst (λ ws. ReadsTo (Some (at_header form depth None cut flash elevator)) (ws ∷ ls) s) (sym same)
-    (ReadsTo-line (Some (at_header form depth None cut flash elevator)) (queue_line q) (at_header form depth (Some q) cut flash elevator) ls s (IsRead-queue form depth cut flash elevator q scheduled some few) rest))
+at_queue : (form : Form) (q : ℕ) (depth queue fail cut flash : Option ℕ) (elevator : Bool) (l : List (List ℕ)) (ls : List (List (List ℕ))) (s : Script) → is_scheduled form ≡ true → 1 ≤ q → q ≤ MOST_QUEUE → queue ≡ None → l ≡ queue_line q → ReadsTo (Some (at_header form depth (Some q) fail cut flash elevator)) ls s → ReadsTo (Some (at_header form depth queue fail cut flash elevator)) (l ∷ ls) s
+at_queue form q depth queue fail cut flash elevator l ls s scheduled some few none same rest =
+    subst (λ o. ReadsTo (Some (at_header form depth o fail cut flash elevator)) (l ∷ ls) s) (sym none)
+    (subst (λ ws. ReadsTo (Some (at_header form depth None fail cut flash elevator)) (ws ∷ ls) s) (sym same)
+    (ReadsTo-line (Some (at_header form depth None fail cut flash elevator)) (queue_line q) (at_header form depth (Some q) fail cut flash elevator) ls s (IsRead-queue form depth fail cut flash elevator q scheduled some few) rest))
 
-at_cut : (form : Form) (n : ℕ) (depth queue cut flash : Option ℕ) (elevator : Bool) (l : List (List ℕ)) (ls : List (List (List ℕ))) (s : Script) → n ≤ MOST_STEPS → cut ≡ None → l ≡ number_line (codes "cut") n → ReadsTo (Some (at_header form depth queue (Some n) flash elevator)) ls s → ReadsTo (Some (at_header form depth queue cut flash elevator)) (l ∷ ls) s
-at_cut form n depth queue cut flash elevator l ls s few none same rest =
-    subst (λ o. ReadsTo (Some (at_header form depth queue o flash elevator)) (l ∷ ls) s) (sym none)
-    (subst (λ ws. ReadsTo (Some (at_header form depth queue None flash elevator)) (ws ∷ ls) s) (sym same)
-    (ReadsTo-line (Some (at_header form depth queue None flash elevator)) (number_line (codes "cut") n) (at_header form depth queue (Some n) flash elevator) ls s (IsRead-cut form depth queue flash elevator n few) rest))
+at_fail : (form : Form) (n : ℕ) (depth queue fail cut flash : Option ℕ) (elevator : Bool) (l : List (List ℕ)) (ls : List (List (List ℕ))) (s : Script) → 1 ≤ n → n ≤ MOST_TRANSFERS → fail ≡ None → l ≡ number_line (codes "fail") n → ReadsTo (Some (at_header form depth queue (Some n) cut flash elevator)) ls s → ReadsTo (Some (at_header form depth queue fail cut flash elevator)) (l ∷ ls) s
+at_fail form n depth queue fail cut flash elevator l ls s some few none same rest =
+    subst (λ o. ReadsTo (Some (at_header form depth queue o cut flash elevator)) (l ∷ ls) s) (sym none)
+    (subst (λ ws. ReadsTo (Some (at_header form depth queue None cut flash elevator)) (ws ∷ ls) s) (sym same)
+    (ReadsTo-line (Some (at_header form depth queue None cut flash elevator)) (number_line (codes "fail") n) (at_header form depth queue (Some n) cut flash elevator) ls s (IsRead-fail form depth queue cut flash elevator n some few) rest))
 
-at_flash : (form : Form) (n : ℕ) (depth queue cut flash : Option ℕ) (elevator : Bool) (l : List (List ℕ)) (ls : List (List (List ℕ))) (s : Script) → FEWEST_SEGMENTS ≤ n → n ≤ MOST_SEGMENTS → flash ≡ None → l ≡ number_line (codes "flash") n → ReadsTo (Some (at_header form depth queue cut (Some n) elevator)) ls s → ReadsTo (Some (at_header form depth queue cut flash elevator)) (l ∷ ls) s
-at_flash form n depth queue cut flash elevator l ls s some few none same rest =
-    subst (λ o. ReadsTo (Some (at_header form depth queue cut o elevator)) (l ∷ ls) s) (sym none)
-    (subst (λ ws. ReadsTo (Some (at_header form depth queue cut None elevator)) (ws ∷ ls) s) (sym same)
-    (ReadsTo-line (Some (at_header form depth queue cut None elevator)) (number_line (codes "flash") n) (at_header form depth queue cut (Some n) elevator) ls s (IsRead-flash form depth queue cut elevator n some few) rest))
+at_cut : (form : Form) (n : ℕ) (depth queue fail cut flash : Option ℕ) (elevator : Bool) (l : List (List ℕ)) (ls : List (List (List ℕ))) (s : Script) → n ≤ MOST_STEPS → cut ≡ None → l ≡ number_line (codes "cut") n → ReadsTo (Some (at_header form depth queue fail (Some n) flash elevator)) ls s → ReadsTo (Some (at_header form depth queue fail cut flash elevator)) (l ∷ ls) s
+at_cut form n depth queue fail cut flash elevator l ls s few none same rest =
+    subst (λ o. ReadsTo (Some (at_header form depth queue fail o flash elevator)) (l ∷ ls) s) (sym none)
+    (subst (λ ws. ReadsTo (Some (at_header form depth queue fail None flash elevator)) (ws ∷ ls) s) (sym same)
+    (ReadsTo-line (Some (at_header form depth queue fail None flash elevator)) (number_line (codes "cut") n) (at_header form depth queue fail (Some n) flash elevator) ls s (IsRead-cut form depth queue fail flash elevator n few) rest))
 
-at_elevator : (form : Form) (depth queue cut flash : Option ℕ) (elevator : Bool) (l : List (List ℕ)) (ls : List (List (List ℕ))) (s : Script) → is_scheduled form ≡ true → elevator ≡ false → l ≡ elevator_line → ReadsTo (Some (at_header form depth queue cut flash true)) ls s → ReadsTo (Some (at_header form depth queue cut flash elevator)) (l ∷ ls) s
-at_elevator form depth queue cut flash elevator l ls s scheduled none same rest =
-    subst (λ o. ReadsTo (Some (at_header form depth queue cut flash o)) (l ∷ ls) s) (sym none)
-    (subst (λ ws. ReadsTo (Some (at_header form depth queue cut flash false)) (ws ∷ ls) s) (sym same)
-    (ReadsTo-line (Some (at_header form depth queue cut flash false)) elevator_line (at_header form depth queue cut flash true) ls s (IsRead-elevator form depth queue cut flash scheduled) rest))
+at_flash : (form : Form) (n : ℕ) (depth queue fail cut flash : Option ℕ) (elevator : Bool) (l : List (List ℕ)) (ls : List (List (List ℕ))) (s : Script) → FEWEST_SEGMENTS ≤ n → n ≤ MOST_SEGMENTS → flash ≡ None → l ≡ number_line (codes "flash") n → ReadsTo (Some (at_header form depth queue fail cut (Some n) elevator)) ls s → ReadsTo (Some (at_header form depth queue fail cut flash elevator)) (l ∷ ls) s
+at_flash form n depth queue fail cut flash elevator l ls s some few none same rest =
+    subst (λ o. ReadsTo (Some (at_header form depth queue fail cut o elevator)) (l ∷ ls) s) (sym none)
+    (subst (λ ws. ReadsTo (Some (at_header form depth queue fail cut None elevator)) (ws ∷ ls) s) (sym same)
+    (ReadsTo-line (Some (at_header form depth queue fail cut None elevator)) (number_line (codes "flash") n) (at_header form depth queue fail cut (Some n) elevator) ls s (IsRead-flash form depth queue fail cut elevator n some few) rest))
 
-header_read : (hs : List (List (List ℕ))) (form : Form) (d q : ℕ) (c f depth queue cut flash : Option ℕ) (wants elevator : Bool) (rest : List (List (List ℕ))) (s : Script) → AreFit form d q c f wants → IsLeft (is_scheduled form) d q c f depth queue cut flash wants elevator hs → Behind form d q c f wants rest s → ReadsTo (Some (at_header form depth queue cut flash elevator)) (hs ++ rest) s
-header_read [] form d q c f depth queue cut flash wants elevator rest s fit is behind =
-    subst (λ o. ReadsTo (Some (at_header form depth queue cut flash o)) rest s) (sym (elevator_default elevator wants is.elevators))
-    (subst (λ o. ReadsTo (Some (at_header form depth queue o flash wants)) rest s) (sym (number_default (codes "cut") cut c is.cuts is.cut_read))
-    (subst (λ o. ReadsTo (Some (at_header form depth queue c o wants)) rest s) (sym (number_default (codes "flash") flash f is.flashes is.flash_read))
-    (behind depth queue (depth_default depth d fit.depth is.depths is.depth_read) (queue_default (is_scheduled form) queue q fit.queue fit.plain is.queues is.queue_read))))
-header_read (l ∷ hs) form d q c f depth queue cut flash wants elevator rest s fit is behind =
-    elim (or_cases (begins (codes "depth") l) (begins (codes "queue") l || (begins (codes "cut") l || (begins (codes "flash") l || begins (codes "elevator") l))) (is.known l (inl refl))) [
+at_elevator : (form : Form) (depth queue fail cut flash : Option ℕ) (elevator : Bool) (l : List (List ℕ)) (ls : List (List (List ℕ))) (s : Script) → is_scheduled form ≡ true → elevator ≡ false → l ≡ elevator_line → ReadsTo (Some (at_header form depth queue fail cut flash true)) ls s → ReadsTo (Some (at_header form depth queue fail cut flash elevator)) (l ∷ ls) s
+at_elevator form depth queue fail cut flash elevator l ls s scheduled none same rest =
+    subst (λ o. ReadsTo (Some (at_header form depth queue fail cut flash o)) (l ∷ ls) s) (sym none)
+    (subst (λ ws. ReadsTo (Some (at_header form depth queue fail cut flash false)) (ws ∷ ls) s) (sym same)
+    (ReadsTo-line (Some (at_header form depth queue fail cut flash false)) elevator_line (at_header form depth queue fail cut flash true) ls s (IsRead-elevator form depth queue fail cut flash scheduled) rest))
+
+header_read : (hs : List (List (List ℕ))) (form : Form) (d q : ℕ) (t c f depth queue fail cut flash : Option ℕ) (wants elevator : Bool) (rest : List (List (List ℕ))) (s : Script) → AreFit form d q t c f wants → IsLeft (is_scheduled form) d q t c f depth queue fail cut flash wants elevator hs → Behind form d q t c f wants rest s → ReadsTo (Some (at_header form depth queue fail cut flash elevator)) (hs ++ rest) s
+header_read [] form d q t c f depth queue fail cut flash wants elevator rest s fit is behind =
+    subst (λ o. ReadsTo (Some (at_header form depth queue fail cut flash o)) rest s) (sym (elevator_default elevator wants is.elevators))
+    (subst (λ o. ReadsTo (Some (at_header form depth queue o cut flash wants)) rest s) (sym (number_default (codes "fail") fail t is.fails is.fail_read))
+    (subst (λ o. ReadsTo (Some (at_header form depth queue t o flash wants)) rest s) (sym (number_default (codes "cut") cut c is.cuts is.cut_read))
+    (subst (λ o. ReadsTo (Some (at_header form depth queue t c o wants)) rest s) (sym (number_default (codes "flash") flash f is.flashes is.flash_read))
+    (behind depth queue (depth_default depth d fit.depth is.depths is.depth_read) (queue_default (is_scheduled form) queue q fit.queue fit.plain is.queues is.queue_read)))))
+header_read (l ∷ hs) form d q t c f depth queue fail cut flash wants elevator rest s fit is behind =
+    elim (or_cases (begins (codes "depth") l) (begins (codes "queue") l || (begins (codes "fail") l || (begins (codes "cut") l || (begins (codes "flash") l || begins (codes "elevator") l)))) (is.known l (inl refl))) [
       | inl e ↦
-          let left = depth_left (is_scheduled form) d q c f depth queue cut flash wants elevator l hs e is in
-          at_depth form d depth queue cut flash elevator l (hs ++ rest) s fit.some_depth fit.depth left.0 left.1 (header_read hs form d q c f (Some d) queue cut flash wants elevator rest s fit left.2 behind)
-      | inr i ↦ elim (or_cases (begins (codes "queue") l) (begins (codes "cut") l || (begins (codes "flash") l || begins (codes "elevator") l)) i) [
+          let left = depth_left (is_scheduled form) d q t c f depth queue fail cut flash wants elevator l hs e is in
+          at_depth form d depth queue fail cut flash elevator l (hs ++ rest) s fit.some_depth fit.depth left.0 left.1 (header_read hs form d q t c f (Some d) queue fail cut flash wants elevator rest s fit left.2 behind)
+      | inr i ↦ elim (or_cases (begins (codes "queue") l) (begins (codes "fail") l || (begins (codes "cut") l || (begins (codes "flash") l || begins (codes "elevator") l))) i) [
         | inl e ↦
-            let left = queue_left (is_scheduled form) d q c f depth queue cut flash wants elevator l hs e is in
-            at_queue form q depth queue cut flash elevator l (hs ++ rest) s left.0 fit.some_queue fit.queue left.1 left.2 (header_read hs form d q c f depth (Some q) cut flash wants elevator rest s fit left.3 behind)
-        | inr j ↦ elim (or_cases (begins (codes "cut") l) (begins (codes "flash") l || begins (codes "elevator") l) j) [
+            let left = queue_left (is_scheduled form) d q t c f depth queue fail cut flash wants elevator l hs e is in
+            at_queue form q depth queue fail cut flash elevator l (hs ++ rest) s left.0 fit.some_queue fit.queue left.1 left.2 (header_read hs form d q t c f depth (Some q) fail cut flash wants elevator rest s fit left.3 behind)
+        | inr j ↦ elim (or_cases (begins (codes "fail") l) (begins (codes "cut") l || (begins (codes "flash") l || begins (codes "elevator") l)) j) [
           | inl e ↦
-              let left = cut_left (is_scheduled form) d q c f depth queue cut flash wants elevator l hs e is in
-              at_cut form left.0 depth queue cut flash elevator l (hs ++ rest) s (fit.cut left.0 left.2) left.1 left.3 (header_read hs form d q c f depth queue (Some left.0) flash wants elevator rest s fit left.4 behind)
-          | inr k ↦ elim (or_cases (begins (codes "flash") l) (begins (codes "elevator") l) k) [
+              let left = fail_left (is_scheduled form) d q t c f depth queue fail cut flash wants elevator l hs e is in
+              let within = fit.fail left.0 left.2 in
+              at_fail form left.0 depth queue fail cut flash elevator l (hs ++ rest) s within.0 within.1 left.1 left.3 (header_read hs form d q t c f depth queue (Some left.0) cut flash wants elevator rest s fit left.4 behind)
+          | inr k ↦ elim (or_cases (begins (codes "cut") l) (begins (codes "flash") l || begins (codes "elevator") l) k) [
             | inl e ↦
-                let left = flash_left (is_scheduled form) d q c f depth queue cut flash wants elevator l hs e is in
-                let within = fit.flash left.0 left.2 in
-                at_flash form left.0 depth queue cut flash elevator l (hs ++ rest) s within.0 within.1 left.1 left.3 (header_read hs form d q c f depth queue cut (Some left.0) wants elevator rest s fit left.4 behind)
-            | inr e ↦
-                let left = elevator_left (is_scheduled form) d q c f depth queue cut flash wants elevator l hs e is in
-                at_elevator form depth queue cut flash elevator l (hs ++ rest) s (is_wanted (is_scheduled form) wants fit.elevator left.1) left.0 left.2 (header_read hs form d q c f depth queue cut flash wants true rest s fit left.3 behind)
+                let left = cut_left (is_scheduled form) d q t c f depth queue fail cut flash wants elevator l hs e is in
+                at_cut form left.0 depth queue fail cut flash elevator l (hs ++ rest) s (fit.cut left.0 left.2) left.1 left.3 (header_read hs form d q t c f depth queue fail (Some left.0) flash wants elevator rest s fit left.4 behind)
+            | inr m ↦ elim (or_cases (begins (codes "flash") l) (begins (codes "elevator") l) m) [
+              | inl e ↦
+                  let left = flash_left (is_scheduled form) d q t c f depth queue fail cut flash wants elevator l hs e is in
+                  let within = fit.flash left.0 left.2 in
+                  at_flash form left.0 depth queue fail cut flash elevator l (hs ++ rest) s within.0 within.1 left.1 left.3 (header_read hs form d q t c f depth queue fail cut (Some left.0) wants elevator rest s fit left.4 behind)
+              | inr e ↦
+                  let left = elevator_left (is_scheduled form) d q t c f depth queue fail cut flash wants elevator l hs e is in
+                  at_elevator form depth queue fail cut flash elevator l (hs ++ rest) s (is_wanted (is_scheduled form) wants fit.elevator left.1) left.0 left.2 (header_read hs form d q t c f depth queue fail cut flash wants true rest s fit left.3 behind)
+            ]
           ]
         ]
       ]
@@ -436,13 +498,13 @@ header_read (l ∷ hs) form d q c f depth queue cut flash wants elevator rest s 
 
 -- the script with this depth and this length of queues
 abbrev script_with : Script → ℕ → ℕ → Script
-script_with s d q = record { kind = s.kind; header = record { depth = d; queue = q; cut = s.header.cut; elevator = s.header.elevator; flash = s.header.flash }; puts = s.puts; events = s.events }
+script_with s d q = record { kind = s.kind; header = record { depth = d; queue = q; fail = s.header.fail; cut = s.header.cut; elevator = s.header.elevator; flash = s.header.flash }; puts = s.puts; events = s.events }
 
 -- the lines behind the header
 body_read : (s : Script) (depth queue : Option ℕ) (events : List (List (List ℕ))) → IsWellFormed s → map with_count events ≡ map event_line_words s.events → unwrap_or depth DEFAULT_DEPTH ≡ s.header.depth → unwrap_or queue DEFAULT_QUEUE ≡ s.header.queue
-    → ReadsTo (Some (at_header s.kind depth queue s.header.cut s.header.flash s.header.elevator)) (map request_words s.puts ++ (codes "events" ∷ []) ∷ events) s
+    → ReadsTo (Some (at_header s.kind depth queue s.header.fail s.header.cut s.header.flash s.header.elevator)) (map request_words s.puts ++ (codes "events" ∷ []) ∷ events) s
 body_read s depth queue events well counted deep long =
-    let r = at_header s.kind depth queue s.header.cut s.header.flash s.header.elevator in
+    let r = at_header s.kind depth queue s.header.fail s.header.cut s.header.flash s.header.elevator in
     requests_read s.puts r ((codes "events" ∷ []) ∷ events) s refl well.runnable.few_blocks (omega (arith, well.runnable.few))
     (λ i q e. let place : i ≡ 0 + i = omega arith in subst (λ j. IsRequestOf (form_blocks s.kind) j q) place (well.runnable.requests i q e))
     well.filled
@@ -458,32 +520,35 @@ says_read : (s : Script) (lines : List (List (List ℕ))) → IsWellFormed s →
 says_read s lines well says =
     let run = well.runnable in
     let head = says.headed in
-    let fit : AreFit s.kind s.header.depth s.header.queue s.header.cut s.header.flash s.header.elevator = record {
+    let fit : AreFit s.kind s.header.depth s.header.queue s.header.fail s.header.cut s.header.flash s.header.elevator = record {
       some_depth = run.some_depth;
       depth = run.depth;
       some_queue = run.some_queue;
       queue = run.queue;
       plain = well.plain_queue;
+      fail = well.fail;
       cut = well.cut;
       flash = run.flash;
       elevator = well.no_elevator;
     } in
-    let left : IsLeft (is_scheduled s.kind) s.header.depth s.header.queue s.header.cut s.header.flash None None None None s.header.elevator false says.header = record {
+    let left : IsLeft (is_scheduled s.kind) s.header.depth s.header.queue s.header.fail s.header.cut s.header.flash None None None None None s.header.elevator false says.header = record {
       depths = head.depth;
       queues = head.queue;
+      fails = head.fail;
       cuts = head.cut;
       flashes = head.flash;
       elevators = head.elevator;
       known = head.known;
       depth_read = λ n h. absurd (none-some n h);
       queue_read = λ n h. absurd (none-some n h);
+      fail_read = λ n h. absurd (none-some n h);
       cut_read = λ n h. absurd (none-some n h);
       flash_read = λ n h. absurd (none-some n h);
     } in
     let body = map request_words s.puts ++ (codes "events" ∷ []) ∷ says.events in
     subst (λ ls. ReadsTo None ls s) (sym says.whole)
     (ReadsTo-line None (form_words s.kind) (new_reading s.kind) (says.header ++ body) s (IsRead-form s.kind run.some_blocks run.few_blocks)
-    (header_read says.header s.kind s.header.depth s.header.queue s.header.cut s.header.flash None None None None s.header.elevator false body s fit left
+    (header_read says.header s.kind s.header.depth s.header.queue s.header.fail s.header.cut s.header.flash None None None None None s.header.elevator false body s fit left
     (λ depth queue deep long. body_read s depth queue says.events well says.counted deep long)))
 
 -- the law: lines that say a well-formed script are read as it

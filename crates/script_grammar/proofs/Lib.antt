@@ -2,7 +2,6 @@ pub mod FirstFault
 pub mod Lines
 pub mod Spelled
 pub mod SpelledLines
-pub mod Unbuilt
 pub mod WellFormed
 pub mod Requests
 pub mod SaidWords

@@ -11,7 +11,7 @@ use Rattle.blk_base.specs.Members.{In}
 use Rattle.blk_base.specs.laws.Members.{each_push}
 use Rattle.order_model.specs.declared.request.Request.{Request}
 use Rattle.script_words.specs.declared.limits.TheConstants.{MOST_REPEATS, PLACES}
-use Rattle.script_grammar.specs.declared.limits.TheConstants.{DEFAULT_DEPTH, DEFAULT_QUEUE, FEWEST_SEGMENTS, MOST_BLOCKS, MOST_DEPTH, MOST_QUEUE, MOST_SEGMENTS, MOST_STEPS}
+use Rattle.script_grammar.specs.declared.limits.TheConstants.{DEFAULT_DEPTH, DEFAULT_QUEUE, FEWEST_SEGMENTS, MOST_BLOCKS, MOST_DEPTH, MOST_QUEUE, MOST_SEGMENTS, MOST_STEPS, MOST_TRANSFERS}
 use Rattle.script_grammar.specs.declared.reading.Reading.{Reading}
 use Rattle.script_grammar.specs.declared.reading.Section.{Section}
 use Rattle.script_grammar.specs.declared.reading.Section.TheVariants as sections
@@ -32,7 +32,7 @@ use Rattle.script_grammar.specs.declared.words.Line.TheVariants as line
 use Rattle.byte_text.specs.Hex.{hex_text}
 use Rattle.script_words.specs.Spelling.{numeral, hex_byte, words_of, lines_of, count_of}
 use Rattle.script_grammar.specs.Words.{class_of, header_line, put_line, pick_line, line_of, word_of}
-use Rattle.script_grammar.specs.Grammar.{form_blocks, is_scheduled, form_of, is_built, new_reading, opened, form_line, built_first, first_line, stands_in, may_stand, stood_before, fits, put_request, flush_request, with_request, with_events, plain_event, pick_event, after, taken, later_line, read_words, read_one, script_read, ended_in, ended, script_of}
+use Rattle.script_grammar.specs.Grammar.{form_blocks, is_scheduled, form_of, new_reading, opened, form_line, known_first, first_line, stands_in, may_stand, stood_before, fits, put_request, flush_request, with_request, with_events, plain_event, pick_event, after, taken, later_line, read_words, read_one, script_read, ended_in, ended, script_of}
 use Rattle.script_grammar.specs.laws.Speller.{form_words, number_lines, elevator_lines, request_words, event_line_words}
 use Rattle.script_words.specs.laws.Texts.{kept_lines}
 use Rattle.script_words.proofs.KeptLines.{said}
@@ -48,11 +48,12 @@ use Rattle.script_grammar.proofs.SaidWords.{IsNamed, named, class_named, plain_t
 -- ---- what the lines that were read say of the reading
 
 abbrev pub is_header_line : List (List ℕ) → Bool
-is_header_line l = begins (codes "depth") l || (begins (codes "queue") l || (begins (codes "cut") l || (begins (codes "flash") l || begins (codes "elevator") l)))
+is_header_line l = begins (codes "depth") l || (begins (codes "queue") l || (begins (codes "fail") l || (begins (codes "cut") l || (begins (codes "flash") l || begins (codes "elevator") l))))
 
-record SaysHeader (form : Form) (depth queue cut flash : Option ℕ) (elevator : Bool) (header : List (List (List ℕ))) : Type 0 where
+record SaysHeader (form : Form) (depth queue fail cut flash : Option ℕ) (elevator : Bool) (header : List (List (List ℕ))) : Type 0 where
   depths : beginning (codes "depth") header ≡ number_lines (codes "depth") depth
   queues : beginning (codes "queue") header ≡ number_lines (codes "queue") queue
+  fails : beginning (codes "fail") header ≡ number_lines (codes "fail") fail
   cuts : beginning (codes "cut") header ≡ number_lines (codes "cut") cut
   flashes : beginning (codes "flash") header ≡ number_lines (codes "flash") flash
   elevators : beginning (codes "elevator") header ≡ elevator_lines elevator
@@ -70,7 +71,7 @@ record Says (r : Reading) (lines : List (List (List ℕ))) : Type 0 where
   header : List (List (List ℕ))
   events : List (List (List ℕ))
   whole : lines ≡ form_words r.form ∷ header ++ (map request_words r.puts ++ tail_of r.section events)
-  headed : SaysHeader r.form r.depth r.queue r.cut r.flash r.elevator header
+  headed : SaysHeader r.form r.depth r.queue r.fail r.cut r.flash r.elevator header
   counted : map with_count events ≡ map event_line_words r.events
   no_puts : r.section ≡ sections.Header → r.puts ≡ []
   no_events : before_events r.section ≡ true → events ≡ []
@@ -118,9 +119,9 @@ push_behind front header rest l none =
 nothing_behind : (r : Reading) (events : List (List (List ℕ))) → r.section ≡ sections.Header → r.puts ≡ [] → map request_words r.puts ++ tail_of r.section events ≡ []
 nothing_behind r events here none = ap₂ (λ (qs : List Request) (section : Section). map request_words qs ++ tail_of section events) none here
 
-Says-header : (r : Reading) (lines : List (List (List ℕ))) (l : List (List ℕ)) (depth queue cut flash : Option ℕ) (elevator : Bool) → r.section ≡ sections.Header → (is : Says r lines)
-    → SaysHeader r.form depth queue cut flash elevator (is.header ++ l ∷ []) → Says (record r { depth = depth; queue = queue; cut = cut; flash = flash; elevator = elevator }) (lines ++ l ∷ [])
-Says-header r lines l depth queue cut flash elevator here is headed = record {
+Says-header : (r : Reading) (lines : List (List (List ℕ))) (l : List (List ℕ)) (depth queue fail cut flash : Option ℕ) (elevator : Bool) → r.section ≡ sections.Header → (is : Says r lines)
+    → SaysHeader r.form depth queue fail cut flash elevator (is.header ++ l ∷ []) → Says (record r { depth = depth; queue = queue; fail = fail; cut = cut; flash = flash; elevator = elevator }) (lines ++ l ∷ [])
+Says-header r lines l depth queue fail cut flash elevator here is headed = record {
   few = is.few;
   header = is.header ++ l ∷ [];
   events = is.events;
@@ -139,6 +140,9 @@ depth_line n = codes "depth" ∷ decimal n ∷ []
 abbrev pub queue_line : ℕ → List (List ℕ)
 queue_line n = codes "queue" ∷ decimal n ∷ []
 
+abbrev pub fail_line : ℕ → List (List ℕ)
+fail_line n = codes "fail" ∷ decimal n ∷ []
+
 abbrev pub cut_line : ℕ → List (List ℕ)
 cut_line n = codes "cut" ∷ decimal n ∷ []
 
@@ -148,9 +152,10 @@ flash_line n = codes "flash" ∷ decimal n ∷ []
 Says-depth : (r : Reading) (lines : List (List (List ℕ))) (n : ℕ) → r.section ≡ sections.Header → r.depth ≡ None → Says r lines → Says (record r { depth = Some n }) (lines ++ depth_line n ∷ [])
 Says-depth r lines n here none is =
     let h = is.headed in
-    Says-header r lines (depth_line n) (Some n) r.queue r.cut r.flash r.elevator here is (record {
+    Says-header r lines (depth_line n) (Some n) r.queue r.fail r.cut r.flash r.elevator here is (record {
       depths = beginning-new (codes "depth") is.header n r.depth none h.depths refl;
       queues = beginning-other (codes "queue") is.header (depth_line n) r.queue h.queues refl;
+      fails = beginning-other (codes "fail") is.header (depth_line n) r.fail h.fails refl;
       cuts = beginning-other (codes "cut") is.header (depth_line n) r.cut h.cuts refl;
       flashes = beginning-other (codes "flash") is.header (depth_line n) r.flash h.flashes refl;
       elevators = elevators-other is.header (depth_line n) r.elevator h.elevators refl;
@@ -161,9 +166,10 @@ Says-depth r lines n here none is =
 Says-queue : (r : Reading) (lines : List (List (List ℕ))) (n : ℕ) → r.section ≡ sections.Header → r.queue ≡ None → is_scheduled r.form ≡ true → Says r lines → Says (record r { queue = Some n }) (lines ++ queue_line n ∷ [])
 Says-queue r lines n here none scheduled is =
     let h = is.headed in
-    Says-header r lines (queue_line n) r.depth (Some n) r.cut r.flash r.elevator here is (record {
+    Says-header r lines (queue_line n) r.depth (Some n) r.fail r.cut r.flash r.elevator here is (record {
       depths = beginning-other (codes "depth") is.header (queue_line n) r.depth h.depths refl;
       queues = beginning-new (codes "queue") is.header n r.queue none h.queues refl;
+      fails = beginning-other (codes "fail") is.header (queue_line n) r.fail h.fails refl;
       cuts = beginning-other (codes "cut") is.header (queue_line n) r.cut h.cuts refl;
       flashes = beginning-other (codes "flash") is.header (queue_line n) r.flash h.flashes refl;
       elevators = elevators-other is.header (queue_line n) r.elevator h.elevators refl;
@@ -171,12 +177,27 @@ Says-queue r lines n here none scheduled is =
       plain = λ e. let c : true ≡ false = sym scheduled ∙ e in cc;
     })
 
+Says-fail : (r : Reading) (lines : List (List (List ℕ))) (n : ℕ) → r.section ≡ sections.Header → r.fail ≡ None → Says r lines → Says (record r { fail = Some n }) (lines ++ fail_line n ∷ [])
+Says-fail r lines n here none is =
+    let h = is.headed in
+    Says-header r lines (fail_line n) r.depth r.queue (Some n) r.cut r.flash r.elevator here is (record {
+      depths = beginning-other (codes "depth") is.header (fail_line n) r.depth h.depths refl;
+      queues = beginning-other (codes "queue") is.header (fail_line n) r.queue h.queues refl;
+      fails = beginning-new (codes "fail") is.header n r.fail none h.fails refl;
+      cuts = beginning-other (codes "cut") is.header (fail_line n) r.cut h.cuts refl;
+      flashes = beginning-other (codes "flash") is.header (fail_line n) r.flash h.flashes refl;
+      elevators = elevators-other is.header (fail_line n) r.elevator h.elevators refl;
+      known = each_push (λ l. is_header_line l ≡ true) is.header (fail_line n) h.known refl;
+      plain = h.plain;
+    })
+
 Says-cut : (r : Reading) (lines : List (List (List ℕ))) (n : ℕ) → r.section ≡ sections.Header → r.cut ≡ None → Says r lines → Says (record r { cut = Some n }) (lines ++ cut_line n ∷ [])
 Says-cut r lines n here none is =
     let h = is.headed in
-    Says-header r lines (cut_line n) r.depth r.queue (Some n) r.flash r.elevator here is (record {
+    Says-header r lines (cut_line n) r.depth r.queue r.fail (Some n) r.flash r.elevator here is (record {
       depths = beginning-other (codes "depth") is.header (cut_line n) r.depth h.depths refl;
       queues = beginning-other (codes "queue") is.header (cut_line n) r.queue h.queues refl;
+      fails = beginning-other (codes "fail") is.header (cut_line n) r.fail h.fails refl;
       cuts = beginning-new (codes "cut") is.header n r.cut none h.cuts refl;
       flashes = beginning-other (codes "flash") is.header (cut_line n) r.flash h.flashes refl;
       elevators = elevators-other is.header (cut_line n) r.elevator h.elevators refl;
@@ -187,9 +208,10 @@ Says-cut r lines n here none is =
 Says-flash : (r : Reading) (lines : List (List (List ℕ))) (n : ℕ) → r.section ≡ sections.Header → r.flash ≡ None → Says r lines → Says (record r { flash = Some n }) (lines ++ flash_line n ∷ [])
 Says-flash r lines n here none is =
     let h = is.headed in
-    Says-header r lines (flash_line n) r.depth r.queue r.cut (Some n) r.elevator here is (record {
+    Says-header r lines (flash_line n) r.depth r.queue r.fail r.cut (Some n) r.elevator here is (record {
       depths = beginning-other (codes "depth") is.header (flash_line n) r.depth h.depths refl;
       queues = beginning-other (codes "queue") is.header (flash_line n) r.queue h.queues refl;
+      fails = beginning-other (codes "fail") is.header (flash_line n) r.fail h.fails refl;
       cuts = beginning-other (codes "cut") is.header (flash_line n) r.cut h.cuts refl;
       flashes = beginning-new (codes "flash") is.header n r.flash none h.flashes refl;
       elevators = elevators-other is.header (flash_line n) r.elevator h.elevators refl;
@@ -200,9 +222,10 @@ Says-flash r lines n here none is =
 Says-elevator : (r : Reading) (lines : List (List (List ℕ))) → r.section ≡ sections.Header → r.elevator ≡ false → Says r lines → Says (record r { elevator = true }) (lines ++ elevator_line ∷ [])
 Says-elevator r lines here none is =
     let h = is.headed in
-    Says-header r lines elevator_line r.depth r.queue r.cut r.flash true here is (record {
+    Says-header r lines elevator_line r.depth r.queue r.fail r.cut r.flash true here is (record {
       depths = beginning-other (codes "depth") is.header elevator_line r.depth h.depths refl;
       queues = beginning-other (codes "queue") is.header elevator_line r.queue h.queues refl;
+      fails = beginning-other (codes "fail") is.header elevator_line r.fail h.fails refl;
       cuts = beginning-other (codes "cut") is.header elevator_line r.cut h.cuts refl;
       flashes = beginning-other (codes "flash") is.header elevator_line r.flash h.flashes refl;
       elevators = elevators-new is.header r.elevator none h.elevators;
@@ -344,6 +367,12 @@ adds_header r lines w header.Queue (v ∷ []) l name stands new e is =
     let may = and_parts (stands_in r.section (word.Header header.Queue)) (is_scheduled r.form || false) stands in
     added (record r { queue = Some n }) lines (w ∷ v ∷ []) (queue_line n) (header_said w v (codes "queue") n name value (omega (arith, few)))
     (Says-queue r lines n (at_header r.section header.Queue may.0) (is_none r.queue new) (needed (is_scheduled r.form) may.1) is))
+adds_header r lines w header.Fail (v ∷ []) l name stands new e is =
+    mapped (Adds r lines (w ∷ v ∷ [])) line.Fail (numeral v) l e
+    (λ n value fit.
+    let few = leb-true n MOST_TRANSFERS (and_parts (nat_le 1 n) (nat_le n MOST_TRANSFERS) fit).1 in
+    added (record r { fail = Some n }) lines (w ∷ v ∷ []) (fail_line n) (header_said w v (codes "fail") n name value (omega (arith, few)))
+    (Says-fail r lines n (at_header r.section header.Fail (and_parts _ _ stands).0) (is_none r.fail new) is))
 adds_header r lines w header.Cut (v ∷ []) l name stands new e is =
     mapped (Adds r lines (w ∷ v ∷ [])) line.Cut (numeral v) l e
     (λ n value fit.
@@ -364,7 +393,8 @@ adds_header r lines w header.Queue [] l name stands new e is = absurd (none-some
 adds_header r lines w header.Queue (v ∷ u ∷ ws) l name stands new e is = absurd (none-some l e)
 adds_header r lines w header.Cut [] l name stands new e is = absurd (none-some l e)
 adds_header r lines w header.Cut (v ∷ u ∷ ws) l name stands new e is = absurd (none-some l e)
-adds_header r lines w header.Fail ws l name stands new e is = absurd (none-some l e)
+adds_header r lines w header.Fail [] l name stands new e is = absurd (none-some l e)
+adds_header r lines w header.Fail (v ∷ u ∷ ws) l name stands new e is = absurd (none-some l e)
 adds_header r lines w header.Elevator [] l name stands new e is =
     subst (Adds r lines (w ∷ [])) (same_Some line.Elevator l e)
     (λ fit.
@@ -451,17 +481,17 @@ not_stood false read y e h = refl
 Says-later : (r : Reading) (lines : List (List (List ℕ))) (w : List ℕ) (o : Option Word) (ws : List (List ℕ)) (next : Reading) → word_of w ≡ o → later_line r o ws ≡ Ok next → Says r lines → Says next (lines ++ (w ∷ ws) ∷ [])
 Says-later r lines w None ws next e h is = cc
 Says-later r lines w (Some v) ws next e h is =
-    let built = ok_past (is_built v) _ next _ h in
-    let placed = ok_past (may_stand r v) _ next _ built.1 in
+    let placed = ok_past (may_stand r v) _ next _ h in
     let new = not_stood (stood_before r v) _ next _ placed.1 in
     Says-taken r lines (w ∷ ws) (line_of v ws) next (ok_beside (stood_before r v) _ next _ placed.1) (λ l f. adds r lines w v ws l (named w v e) placed.0 new f is)
 
 -- ---- the first line
 
-SaysHeader-none : (form : Form) → SaysHeader form None None None None false []
+SaysHeader-none : (form : Form) → SaysHeader form None None None None None false []
 SaysHeader-none form = record {
   depths = refl;
   queues = refl;
+  fails = refl;
   cuts = refl;
   flashes = refl;
   elevators = refl;
@@ -504,20 +534,20 @@ Says-form scheduled w [] next name h = cc
 Says-form scheduled w (v ∷ []) next name h = Says-opened scheduled w v (numeral v) next name refl h
 Says-form scheduled w (v ∷ u ∷ ws) next name h = cc
 
-Says-built : (w : List ℕ) (v : Word) (ws : List (List ℕ)) (next : Reading) → IsNamed w v → built_first v ws ≡ Ok next → Says next ((w ∷ ws) ∷ [])
-Says-built w (word.First first.Device) ws next name h = Says-form false w ws next name h
-Says-built w (word.First first.Blocks) ws next name h = Says-form true w ws next name h
-Says-built w (word.First first.Volume) ws next name h = cc
-Says-built w (word.Header v) ws next name h = cc
-Says-built w (word.Body v) ws next name h = cc
-Says-built w word.Events ws next name h = cc
-Says-built w (word.Plain v) ws next name h = cc
-Says-built w (word.Pick v) ws next name h = cc
-Says-built w word.OfVolume ws next name h = cc
+Says-known : (w : List ℕ) (v : Word) (ws : List (List ℕ)) (next : Reading) → IsNamed w v → known_first v ws ≡ Ok next → Says next ((w ∷ ws) ∷ [])
+Says-known w (word.First first.Device) ws next name h = Says-form false w ws next name h
+Says-known w (word.First first.Blocks) ws next name h = Says-form true w ws next name h
+Says-known w (word.First first.Volume) ws next name h = cc
+Says-known w (word.Header v) ws next name h = cc
+Says-known w (word.Body v) ws next name h = cc
+Says-known w word.Events ws next name h = cc
+Says-known w (word.Plain v) ws next name h = cc
+Says-known w (word.Pick v) ws next name h = cc
+Says-known w word.OfVolume ws next name h = cc
 
 Says-first : (w : List ℕ) (o : Option Word) (ws : List (List ℕ)) (next : Reading) → word_of w ≡ o → first_line o ws ≡ Ok next → Says next ((w ∷ ws) ∷ [])
 Says-first w None ws next e h = cc
-Says-first w (Some v) ws next e h = Says-built w v ws next (named w v e) (ok_past (is_built v) _ next _ h).1
+Says-first w (Some v) ws next e h = Says-known w v ws next (named w v e) h
 
 Says-words : (reading : Option Reading) (lines : List (List (List ℕ))) (ws : List (List ℕ)) (next : Reading) → read_words reading ws ≡ Ok next → SaysSoFar reading lines → Says next (lines ++ ws ∷ [])
 Says-words reading lines [] next h is = cc
@@ -546,6 +576,7 @@ SaysScript-read r lines here is =
       headed = record {
         depth = ap (or_default default_depth) h.depths ∙ filled_depth r.depth;
         queue = ap (filled_queue (is_scheduled r.form)) h.queues ∙ filled_queues (is_scheduled r.form) r.queue h.plain;
+        fail = h.fails;
         cut = h.cuts;
         flash = h.flashes;
         elevator = h.elevators;

@@ -37,8 +37,8 @@ first_text first.Volume = codes "volume"
 abbrev pub header_text : HeaderWord → List ℕ
 header_text header.Depth = codes "depth"
 header_text header.Queue = codes "queue"
-header_text header.Cut = codes "cut"
 header_text header.Fail = codes "fail"
+header_text header.Cut = codes "cut"
 header_text header.Elevator = codes "elevator"
 header_text header.Flash = codes "flash"
 
@@ -66,8 +66,8 @@ header_named : (w : List ℕ) (d : HeaderWord) → header_word w ≡ Some d → 
 header_named w d h =
     choose header_text w header.Depth d _ h
     (λ h. choose header_text w header.Queue d _ h
-    (λ h. choose header_text w header.Cut d _ h
     (λ h. choose header_text w header.Fail d _ h
+    (λ h. choose header_text w header.Cut d _ h
     (λ h. choose header_text w header.Elevator d _ h
     (λ h. choose header_text w header.Flash d None h (λ h. absurd (none-some d h)))))))
 

@@ -8,7 +8,7 @@ use Rattle.order_model.specs.declared.request.Request.{Request}
 use Rattle.order_model.specs.declared.request.Kind.{Kind}
 use Rattle.order_model.specs.declared.request.Kind.TheVariants.{Put, Flush}
 use Rattle.script_words.specs.declared.limits.TheConstants.{MOST_EVENTS, MOST_REPEATS, PLACES}
-use Rattle.script_grammar.specs.declared.limits.TheConstants.{FEWEST_SEGMENTS, MOST_BLOCKS, MOST_DEPTH, MOST_QUEUE, MOST_REQUESTS, MOST_SEGMENTS, MOST_STEPS}
+use Rattle.script_grammar.specs.declared.limits.TheConstants.{FEWEST_SEGMENTS, MOST_BLOCKS, MOST_DEPTH, MOST_QUEUE, MOST_REQUESTS, MOST_SEGMENTS, MOST_STEPS, MOST_TRANSFERS}
 use Rattle.script_grammar.specs.declared.kinds.ScriptKind.TheVariants as kinds
 use Rattle.script_grammar.specs.declared.reading.Reading.{Reading}
 use Rattle.script_grammar.specs.declared.reading.Section.{Section}
@@ -36,7 +36,7 @@ use Rattle.script_words.specs.Spelling.{numeral, hex_byte, is_skipped, words_of}
 use Rattle.script_words.specs.LineByLine.{at_line}
 use Rattle.script_words.proofs.LineByLine.{read_step}
 use Rattle.script_grammar.specs.Words.{class_of, line_of}
-use Rattle.script_grammar.specs.Grammar.{is_scheduled, form_blocks, new_reading, opened, form_of, is_built, may_stand, stands_in, needs_scheduler, stood_before, fits, count_fits, is_ordered_class, is_barrier_class, with_request, with_events, plain_event, pick_event, after, taken, later_line, read_words, read_one, read_line, read_from, ended, IsRequestOf}
+use Rattle.script_grammar.specs.Grammar.{is_scheduled, form_blocks, new_reading, opened, form_of, may_stand, stands_in, needs_scheduler, stood_before, fits, count_fits, is_ordered_class, is_barrier_class, with_request, with_events, plain_event, pick_event, after, taken, later_line, read_words, read_one, read_line, read_from, ended, IsRequestOf}
 use Rattle.script_grammar.specs.WellFormed.{IsEventOf, IsFilled}
 use Rattle.script_grammar.specs.laws.Speller.{form_words, class_text, body_byte, kind_words, request_words, event_words}
 use Rattle.script_words.proofs.SpelledWords.{IsClear, AreClear, words_of-joined}
@@ -68,15 +68,14 @@ EndsIn-line reading ws next ls s is rest n =
 
 -- ---- a later line
 
-passes : (r : Reading) (built stands stood : Bool) (o : Option Line) (l : Line) → built ≡ true → stands ≡ true → stood ≡ false → o ≡ Some l → fits r l ≡ true → (if not built then Err kinds.NotBuilt else if not stands then Err kinds.Order else if stood then Err kinds.Twice else taken r o) ≡ Ok (after r l)
-passes r true true false o l _ _ _ e f = ap (taken r) e ∙ ap (λ t. if t then Ok (after r l) else Err kinds.Number) f
-passes r true true true o l _ _ h e f = cc
-passes r true false stood o l _ h _ e f = cc
-passes r false stands stood o l h _ _ e f = cc
+passes : (r : Reading) (stands stood : Bool) (o : Option Line) (l : Line) → stands ≡ true → stood ≡ false → o ≡ Some l → fits r l ≡ true → (if not stands then Err kinds.Order else if stood then Err kinds.Twice else taken r o) ≡ Ok (after r l)
+passes r true false o l _ _ e f = ap (taken r) e ∙ ap (λ t. if t then Ok (after r l) else Err kinds.Number) f
+passes r true true o l _ h e f = cc
+passes r false stood o l h _ e f = cc
 
 -- a line that may stand here, with its numbers within their limits
-pub later_line-read : (r : Reading) (w : Word) (ws : List (List ℕ)) (l : Line) → is_built w ≡ true → may_stand r w ≡ true → stood_before r w ≡ false → line_of w ws ≡ Some l → fits r l ≡ true → later_line r (Some w) ws ≡ Ok (after r l)
-later_line-read r w ws l built stands stood e f = passes r (is_built w) (may_stand r w) (stood_before r w) (line_of w ws) l built stands stood e f
+pub later_line-read : (r : Reading) (w : Word) (ws : List (List ℕ)) (l : Line) → may_stand r w ≡ true → stood_before r w ≡ false → line_of w ws ≡ Some l → fits r l ≡ true → later_line r (Some w) ws ≡ Ok (after r l)
+later_line-read r w ws l stands stood e f = passes r (may_stand r w) (stood_before r w) (line_of w ws) l stands stood e f
 
 -- ---- the first line and the header
 
@@ -98,43 +97,50 @@ IsRead-form (Blocks n) some few = record {
 }
 
 -- a reading of the header
-abbrev pub at_header : Form → Option ℕ → Option ℕ → Option ℕ → Option ℕ → Bool → Reading
-at_header form depth queue cut flash elevator = record { form = form; depth = depth; queue = queue; cut = cut; elevator = elevator; flash = flash; section = sections.Header; puts = []; events = []; expanded = 0 }
+abbrev pub at_header : Form → Option ℕ → Option ℕ → Option ℕ → Option ℕ → Option ℕ → Bool → Reading
+at_header form depth queue fail cut flash elevator = record { form = form; depth = depth; queue = queue; fail = fail; cut = cut; elevator = elevator; flash = flash; section = sections.Header; puts = []; events = []; expanded = 0 }
 
-pub IsRead-depth : (form : Form) (queue cut flash : Option ℕ) (elevator : Bool) (d : ℕ) → 1 ≤ d → d ≤ MOST_DEPTH → IsRead (Some (at_header form None queue cut flash elevator)) (codes "depth" ∷ decimal d ∷ []) (at_header form (Some d) queue cut flash elevator)
-IsRead-depth form queue cut flash elevator d some few = record {
+pub IsRead-depth : (form : Form) (queue fail cut flash : Option ℕ) (elevator : Bool) (d : ℕ) → 1 ≤ d → d ≤ MOST_DEPTH → IsRead (Some (at_header form None queue fail cut flash elevator)) (codes "depth" ∷ decimal d ∷ []) (at_header form (Some d) queue fail cut flash elevator)
+IsRead-depth form queue fail cut flash elevator d some few = record {
   clear = (record { feed = refl; space = refl }, (IsClear-decimal d (omega arith), tt));
   there = refl;
-  read = later_line-read (at_header form None queue cut flash elevator) (word.Header header.Depth) (decimal d ∷ []) (line.Depth d) refl (or_right (is_scheduled form) true refl) refl (ap (option_map line.Depth) (numeral-decimal d (omega arith))) (and_from (nat_le 1 d) (nat_le d MOST_DEPTH) (le-leb 1 d some) (le-leb d MOST_DEPTH few));
+  read = later_line-read (at_header form None queue fail cut flash elevator) (word.Header header.Depth) (decimal d ∷ []) (line.Depth d) (or_right (is_scheduled form) true refl) refl (ap (option_map line.Depth) (numeral-decimal d (omega arith))) (and_from (nat_le 1 d) (nat_le d MOST_DEPTH) (le-leb 1 d some) (le-leb d MOST_DEPTH few));
 }
 
-pub IsRead-queue : (form : Form) (depth cut flash : Option ℕ) (elevator : Bool) (q : ℕ) → is_scheduled form ≡ true → 1 ≤ q → q ≤ MOST_QUEUE → IsRead (Some (at_header form depth None cut flash elevator)) (codes "queue" ∷ decimal q ∷ []) (at_header form depth (Some q) cut flash elevator)
-IsRead-queue form depth cut flash elevator q scheduled some few = record {
+pub IsRead-queue : (form : Form) (depth fail cut flash : Option ℕ) (elevator : Bool) (q : ℕ) → is_scheduled form ≡ true → 1 ≤ q → q ≤ MOST_QUEUE → IsRead (Some (at_header form depth None fail cut flash elevator)) (codes "queue" ∷ decimal q ∷ []) (at_header form depth (Some q) fail cut flash elevator)
+IsRead-queue form depth fail cut flash elevator q scheduled some few = record {
   clear = (record { feed = refl; space = refl }, (IsClear-decimal q (omega arith), tt));
   there = refl;
-  read = later_line-read (at_header form depth None cut flash elevator) (word.Header header.Queue) (decimal q ∷ []) (line.Queue q) refl (or_left (is_scheduled form) false scheduled) refl (ap (option_map line.Queue) (numeral-decimal q (omega arith))) (and_from (nat_le 1 q) (nat_le q MOST_QUEUE) (le-leb 1 q some) (le-leb q MOST_QUEUE few));
+  read = later_line-read (at_header form depth None fail cut flash elevator) (word.Header header.Queue) (decimal q ∷ []) (line.Queue q) (or_left (is_scheduled form) false scheduled) refl (ap (option_map line.Queue) (numeral-decimal q (omega arith))) (and_from (nat_le 1 q) (nat_le q MOST_QUEUE) (le-leb 1 q some) (le-leb q MOST_QUEUE few));
 }
 
-pub IsRead-cut : (form : Form) (depth queue flash : Option ℕ) (elevator : Bool) (n : ℕ) → n ≤ MOST_STEPS → IsRead (Some (at_header form depth queue None flash elevator)) (codes "cut" ∷ decimal n ∷ []) (at_header form depth queue (Some n) flash elevator)
-IsRead-cut form depth queue flash elevator n few = record {
+pub IsRead-fail : (form : Form) (depth queue cut flash : Option ℕ) (elevator : Bool) (n : ℕ) → 1 ≤ n → n ≤ MOST_TRANSFERS → IsRead (Some (at_header form depth queue None cut flash elevator)) (codes "fail" ∷ decimal n ∷ []) (at_header form depth queue (Some n) cut flash elevator)
+IsRead-fail form depth queue cut flash elevator n some few = record {
   clear = (record { feed = refl; space = refl }, (IsClear-decimal n (omega arith), tt));
   there = refl;
-  read = later_line-read (at_header form depth queue None flash elevator) (word.Header header.Cut) (decimal n ∷ []) (line.Cut n) refl (or_right (is_scheduled form) true refl) refl (ap (option_map line.Cut) (numeral-decimal n (omega arith))) (le-leb n MOST_STEPS few);
+  read = later_line-read (at_header form depth queue None cut flash elevator) (word.Header header.Fail) (decimal n ∷ []) (line.Fail n) (or_right (is_scheduled form) true refl) refl (ap (option_map line.Fail) (numeral-decimal n (omega arith))) (and_from (nat_le 1 n) (nat_le n MOST_TRANSFERS) (le-leb 1 n some) (le-leb n MOST_TRANSFERS few));
 }
 
-pub IsRead-flash : (form : Form) (depth queue cut : Option ℕ) (elevator : Bool) (n : ℕ) → FEWEST_SEGMENTS ≤ n → n ≤ MOST_SEGMENTS → IsRead (Some (at_header form depth queue cut None elevator)) (codes "flash" ∷ decimal n ∷ []) (at_header form depth queue cut (Some n) elevator)
-IsRead-flash form depth queue cut elevator n some few = record {
+pub IsRead-cut : (form : Form) (depth queue fail flash : Option ℕ) (elevator : Bool) (n : ℕ) → n ≤ MOST_STEPS → IsRead (Some (at_header form depth queue fail None flash elevator)) (codes "cut" ∷ decimal n ∷ []) (at_header form depth queue fail (Some n) flash elevator)
+IsRead-cut form depth queue fail flash elevator n few = record {
   clear = (record { feed = refl; space = refl }, (IsClear-decimal n (omega arith), tt));
   there = refl;
-  read = later_line-read (at_header form depth queue cut None elevator) (word.Header header.Flash) (decimal n ∷ []) (line.Flash n) refl (or_right (is_scheduled form) true refl) refl (ap (option_map line.Flash) (numeral-decimal n (omega arith))) (and_from (nat_le FEWEST_SEGMENTS n) (nat_le n MOST_SEGMENTS) (le-leb FEWEST_SEGMENTS n some) (le-leb n MOST_SEGMENTS few));
+  read = later_line-read (at_header form depth queue fail None flash elevator) (word.Header header.Cut) (decimal n ∷ []) (line.Cut n) (or_right (is_scheduled form) true refl) refl (ap (option_map line.Cut) (numeral-decimal n (omega arith))) (le-leb n MOST_STEPS few);
+}
+
+pub IsRead-flash : (form : Form) (depth queue fail cut : Option ℕ) (elevator : Bool) (n : ℕ) → FEWEST_SEGMENTS ≤ n → n ≤ MOST_SEGMENTS → IsRead (Some (at_header form depth queue fail cut None elevator)) (codes "flash" ∷ decimal n ∷ []) (at_header form depth queue fail cut (Some n) elevator)
+IsRead-flash form depth queue fail cut elevator n some few = record {
+  clear = (record { feed = refl; space = refl }, (IsClear-decimal n (omega arith), tt));
+  there = refl;
+  read = later_line-read (at_header form depth queue fail cut None elevator) (word.Header header.Flash) (decimal n ∷ []) (line.Flash n) (or_right (is_scheduled form) true refl) refl (ap (option_map line.Flash) (numeral-decimal n (omega arith))) (and_from (nat_le FEWEST_SEGMENTS n) (nat_le n MOST_SEGMENTS) (le-leb FEWEST_SEGMENTS n some) (le-leb n MOST_SEGMENTS few));
 }
 
 -- the line of the elevator
-pub IsRead-elevator : (form : Form) (depth queue cut flash : Option ℕ) → is_scheduled form ≡ true → IsRead (Some (at_header form depth queue cut flash false)) (codes "elevator" ∷ []) (at_header form depth queue cut flash true)
-IsRead-elevator form depth queue cut flash scheduled = record {
+pub IsRead-elevator : (form : Form) (depth queue fail cut flash : Option ℕ) → is_scheduled form ≡ true → IsRead (Some (at_header form depth queue fail cut flash false)) (codes "elevator" ∷ []) (at_header form depth queue fail cut flash true)
+IsRead-elevator form depth queue fail cut flash scheduled = record {
   clear = (record { feed = refl; space = refl }, tt);
   there = refl;
-  read = later_line-read (at_header form depth queue cut flash false) (word.Header header.Elevator) [] line.Elevator refl (or_left (is_scheduled form) false scheduled) refl refl refl;
+  read = later_line-read (at_header form depth queue fail cut flash false) (word.Header header.Elevator) [] line.Elevator (or_left (is_scheduled form) false scheduled) refl refl refl;
 }
 
 -- ---- requests
@@ -202,7 +208,7 @@ IsRead-put : (r : Reading) (id block value : ℕ) (ordered barrier : Bool) → b
 IsRead-put r id block value ordered barrier here few some named within byte keeps = record {
   clear = (record { feed = refl; space = refl }, (IsClear-decimal block (omega arith), (IsClear-hex_text value, (IsClear-class_text ordered barrier, tt))));
   there = refl;
-  read = later_line-read r (word.Body body.Put) (decimal block ∷ hex_text value ∷ class_text ordered barrier ∷ []) (line.Put block value (class_from ordered barrier)) refl (may_stand-body r body.Put here) refl (put_line-read block value ordered barrier (omega arith) byte) (and_from (nat_lt block (form_blocks r.form)) (nat_lt (length r.puts) MOST_REQUESTS) (lt-ltb block (form_blocks r.form) within) (lt-ltb (length r.puts) MOST_REQUESTS some))
+  read = later_line-read r (word.Body body.Put) (decimal block ∷ hex_text value ∷ class_text ordered barrier ∷ []) (line.Put block value (class_from ordered barrier)) (may_stand-body r body.Put here) refl (put_line-read block value ordered barrier (omega arith) byte) (and_from (nat_lt block (form_blocks r.form)) (nat_lt (length r.puts) MOST_REQUESTS) (lt-ltb block (form_blocks r.form) within) (lt-ltb (length r.puts) MOST_REQUESTS some))
       ∙ ap (λ q. Ok (with_request r q)) (same_request (length r.puts) id (Put block (filled value)) (Put block (filled value)) (is_ordered_class (class_from ordered barrier)) ordered (is_barrier_class (class_from ordered barrier)) barrier (sym named) refl (is_ordered_class-from ordered barrier keeps) (is_barrier_class-from ordered barrier));
 }
 
@@ -210,7 +216,7 @@ IsRead-flush : (r : Reading) (id : ℕ) (ordered barrier : Bool) → before_even
 IsRead-flush r id ordered barrier here some named o b = record {
   clear = (record { feed = refl; space = refl }, tt);
   there = refl;
-  read = later_line-read r (word.Body body.Flush) [] line.Flush refl (may_stand-body r body.Flush here) refl refl (lt-ltb (length r.puts) MOST_REQUESTS some)
+  read = later_line-read r (word.Body body.Flush) [] line.Flush (may_stand-body r body.Flush here) refl refl (lt-ltb (length r.puts) MOST_REQUESTS some)
       ∙ ap (λ q. Ok (with_request r q)) (same_request (length r.puts) id Flush Flush true ordered true barrier (sym named) refl (sym o) (sym b));
 }
 
@@ -239,7 +245,7 @@ pub IsRead-events : (r : Reading) → before_events r.section ≡ true → IsRea
 IsRead-events r here = record {
   clear = (record { feed = refl; space = refl }, tt);
   there = refl;
-  read = later_line-read r word.Events [] line.Events refl (and_from (stands_in r.section word.Events) (is_scheduled r.form || true) (stands_events r.section here) (or_right (is_scheduled r.form) true refl)) refl refl refl;
+  read = later_line-read r word.Events [] line.Events (and_from (stands_in r.section word.Events) (is_scheduled r.form || true) (stands_events r.section here) (or_right (is_scheduled r.form) true refl)) refl refl refl;
 }
 
 pub count_fits-from : (r : Reading) (count : ℕ) → 1 ≤ count → count ≤ MOST_REPEATS → r.expanded + count ≤ MOST_EVENTS → count_fits r count ≡ true
@@ -254,7 +260,7 @@ may_stand-event r w here stands known =
 
 read_plain : (r : Reading) (w : PlainWord) (count : ℕ) → r.section ≡ sections.Events → (is_scheduled r.form || not (needs_scheduler (word.Plain w))) ≡ true → 1 ≤ count → count ≤ MOST_REPEATS → r.expanded + count ≤ MOST_EVENTS → later_line r (Some (word.Plain w)) (codes "x" ∷ decimal count ∷ []) ≡ Ok (with_events r (plain_event w) count)
 read_plain r w count here known some most all =
-    later_line-read r (word.Plain w) (codes "x" ∷ decimal count ∷ []) (line.Plain w count) refl (may_stand-event r (word.Plain w) here refl known) refl (ap (option_map (line.Plain w)) (numeral-decimal count (omega arith))) (count_fits-from r count some most all)
+    later_line-read r (word.Plain w) (codes "x" ∷ decimal count ∷ []) (line.Plain w count) (may_stand-event r (word.Plain w) here refl known) refl (ap (option_map (line.Plain w)) (numeral-decimal count (omega arith))) (count_fits-from r count some most all)
 
 pick_line-read : (w : PickWord) (pick count : ℕ) → pick < 2 ^ 64 → count < 2 ^ 64 → line_of (word.Pick w) (decimal pick ∷ codes "x" ∷ decimal count ∷ []) ≡ Some (line.Pick w pick count)
 pick_line-read w pick count p c =
@@ -263,7 +269,7 @@ pick_line-read w pick count p c =
 
 read_pick : (r : Reading) (w : PickWord) (pick count : ℕ) → r.section ≡ sections.Events → (is_scheduled r.form || not (needs_scheduler (word.Pick w))) ≡ true → pick < PLACES → 1 ≤ count → count ≤ MOST_REPEATS → r.expanded + count ≤ MOST_EVENTS → later_line r (Some (word.Pick w)) (decimal pick ∷ codes "x" ∷ decimal count ∷ []) ≡ Ok (with_events r (pick_event w pick) count)
 read_pick r w pick count here known low some most all =
-    later_line-read r (word.Pick w) (decimal pick ∷ codes "x" ∷ decimal count ∷ []) (line.Pick w pick count) refl (may_stand-event r (word.Pick w) here refl known) refl (pick_line-read w pick count (omega arith) (omega arith)) (and_from (nat_lt pick PLACES) (count_fits r count) (lt-ltb pick PLACES low) (count_fits-from r count some most all))
+    later_line-read r (word.Pick w) (decimal pick ∷ codes "x" ∷ decimal count ∷ []) (line.Pick w pick count) (may_stand-event r (word.Pick w) here refl known) refl (pick_line-read w pick count (omega arith) (omega arith)) (and_from (nat_lt pick PLACES) (count_fits r count) (lt-ltb pick PLACES low) (count_fits-from r count some most all))
 
 IsClear-x : IsClear (codes "x")
 IsClear-x = record { feed = refl; space = refl }

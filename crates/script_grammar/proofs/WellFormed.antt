@@ -8,7 +8,7 @@ use Rattle.blk_base.specs.Members.{In}
 use Rattle.blk_base.specs.laws.Members.{each_push}
 use Rattle.order_model.specs.declared.request.Request.{Request}
 use Rattle.script_words.specs.declared.limits.TheConstants.{MOST_EVENTS, MOST_REPEATS, PLACES}
-use Rattle.script_grammar.specs.declared.limits.TheConstants.{DEFAULT_DEPTH, DEFAULT_QUEUE, FEWEST_SEGMENTS, MOST_BLOCKS, MOST_DEPTH, MOST_QUEUE, MOST_REQUESTS, MOST_SEGMENTS, MOST_STEPS}
+use Rattle.script_grammar.specs.declared.limits.TheConstants.{DEFAULT_DEPTH, DEFAULT_QUEUE, FEWEST_SEGMENTS, MOST_BLOCKS, MOST_DEPTH, MOST_QUEUE, MOST_REQUESTS, MOST_SEGMENTS, MOST_STEPS, MOST_TRANSFERS}
 use Rattle.script_grammar.specs.declared.reading.Reading.{Reading}
 use Rattle.script_grammar.specs.declared.reading.Section.{Section}
 use Rattle.script_grammar.specs.declared.reading.Section.TheVariants as sections
@@ -32,7 +32,7 @@ use Rattle.script_grammar.specs.declared.words.PlainWord.{PlainWord}
 use Rattle.script_grammar.specs.declared.words.PlainWord.TheVariants as plain
 use Rattle.script_grammar.specs.declared.words.Word.{Word}
 use Rattle.script_grammar.specs.declared.words.Word.TheVariants as word
-use Rattle.script_grammar.specs.Grammar.{IsRequestOf, IsRunnable, form_blocks, is_scheduled, form_of, is_built, is_ordered_class, is_barrier_class, after, count_fits, fits, taken, later_line, may_stand, needs_scheduler, stood_before, put_request, flush_request, plain_event, pick_event, with_request, with_events, new_reading, opened, form_line, built_first, first_line, read_words, read_one, read_from, ended, ended_in, script_read, script_of}
+use Rattle.script_grammar.specs.Grammar.{IsRequestOf, IsRunnable, form_blocks, is_scheduled, form_of, is_ordered_class, is_barrier_class, after, count_fits, fits, taken, later_line, may_stand, needs_scheduler, stood_before, put_request, flush_request, plain_event, pick_event, with_request, with_events, new_reading, opened, form_line, known_first, first_line, read_words, read_one, read_from, ended, ended_in, script_read, script_of}
 use Rattle.script_grammar.specs.code.Readers.{IsTextReadAs}
 use Rattle.script_words.proofs.Chosen.{mapped, chained}
 use Rattle.script_words.proofs.KeptLines.{said}
@@ -43,7 +43,7 @@ use Rattle.script_grammar.specs.Words.{class_of, header_line, put_line, body_lin
 
 -- ---- what holds of the reading between two lines
 
-record IsHeader (form : Form) (depth queue cut flash : Option ℕ) : Type 0 where
+record IsHeader (form : Form) (depth queue fail cut flash : Option ℕ) : Type 0 where
   some_blocks : 1 ≤ form_blocks form
   most_blocks : form_blocks form ≤ MOST_BLOCKS
   some_depth : 1 ≤ unwrap_or depth DEFAULT_DEPTH
@@ -51,6 +51,7 @@ record IsHeader (form : Form) (depth queue cut flash : Option ℕ) : Type 0 wher
   some_queue : 1 ≤ unwrap_or queue DEFAULT_QUEUE
   most_queue : unwrap_or queue DEFAULT_QUEUE ≤ MOST_QUEUE
   plain_queue : is_scheduled form ≡ false → queue ≡ None
+  transfers : (n : ℕ) → fail ≡ Some n → (1 ≤ n) × (n ≤ MOST_TRANSFERS)
   most_cut : (n : ℕ) → cut ≡ Some n → n ≤ MOST_STEPS
   segments : (n : ℕ) → flash ≡ Some n → (FEWEST_SEGMENTS ≤ n) × (n ≤ MOST_SEGMENTS)
 
@@ -66,7 +67,7 @@ record AreEventLines (scheduled : Bool) (events : List EventLine) (expanded : �
 
 record IsReadable (r : Reading) : Type 0 where
   no_elevator : is_scheduled r.form ≡ false → r.elevator ≡ false
-  header : IsHeader r.form r.depth r.queue r.cut r.flash
+  header : IsHeader r.form r.depth r.queue r.fail r.cut r.flash
   puts : AreRequests (form_blocks r.form) r.puts
   events : AreEventLines (is_scheduled r.form) r.events r.expanded
 
@@ -138,6 +139,7 @@ AreEventLines-push scheduled events expanded l here most is = record {
 abbrev IsLineOf : Bool → Line → Type 0
 IsLineOf scheduled (line.Depth d) = Unit {0}
 IsLineOf scheduled (line.Queue q) = scheduled ≡ true
+IsLineOf scheduled (line.Fail n) = Unit {0}
 IsLineOf scheduled (line.Cut n) = Unit {0}
 IsLineOf scheduled (line.Put block value k) = value < 256
 IsLineOf scheduled line.Flush = Unit {0}
@@ -163,10 +165,12 @@ IsLineOf-header_line scheduled header.Depth (d ∷ e ∷ ws) l h s = absurd (non
 IsLineOf-header_line scheduled header.Queue [] l h s = absurd (none-some l h)
 IsLineOf-header_line scheduled header.Queue (q ∷ []) l h s = mapped (IsLineOf scheduled) line.Queue (numeral q) l h (λ n e. needed scheduled s)
 IsLineOf-header_line scheduled header.Queue (q ∷ e ∷ ws) l h s = absurd (none-some l h)
+IsLineOf-header_line scheduled header.Fail [] l h s = absurd (none-some l h)
+IsLineOf-header_line scheduled header.Fail (n ∷ []) l h s = mapped (IsLineOf scheduled) line.Fail (numeral n) l h (λ n e. tt)
+IsLineOf-header_line scheduled header.Fail (n ∷ e ∷ ws) l h s = absurd (none-some l h)
 IsLineOf-header_line scheduled header.Cut [] l h s = absurd (none-some l h)
 IsLineOf-header_line scheduled header.Cut (n ∷ []) l h s = mapped (IsLineOf scheduled) line.Cut (numeral n) l h (λ n e. tt)
 IsLineOf-header_line scheduled header.Cut (n ∷ e ∷ ws) l h s = absurd (none-some l h)
-IsLineOf-header_line scheduled header.Fail ws l h s = absurd (none-some l h)
 IsLineOf-header_line scheduled header.Elevator [] l h s = subst (IsLineOf scheduled) (same_Some line.Elevator l h) (needed scheduled s)
 IsLineOf-header_line scheduled header.Elevator (e ∷ ws) l h s = absurd (none-some l h)
 IsLineOf-header_line scheduled header.Flash [] l h s = absurd (none-some l h)
@@ -233,8 +237,8 @@ IsReadable-events r e count here fits is =
       }) (leb-true (r.expanded + count) MOST_EVENTS most.1) is.events;
     }
 
-IsHeader-depth : (form : Form) (depth queue cut flash : Option ℕ) (d : ℕ) → 1 ≤ d → d ≤ MOST_DEPTH → IsHeader form depth queue cut flash → IsHeader form (Some d) queue cut flash
-IsHeader-depth form depth queue cut flash d some most is = record {
+IsHeader-depth : (form : Form) (depth queue fail cut flash : Option ℕ) (d : ℕ) → 1 ≤ d → d ≤ MOST_DEPTH → IsHeader form depth queue fail cut flash → IsHeader form (Some d) queue fail cut flash
+IsHeader-depth form depth queue fail cut flash d some most is = record {
   some_blocks = is.some_blocks;
   most_blocks = is.most_blocks;
   some_depth = some;
@@ -242,12 +246,13 @@ IsHeader-depth form depth queue cut flash d some most is = record {
   some_queue = is.some_queue;
   most_queue = is.most_queue;
   plain_queue = is.plain_queue;
+  transfers = is.transfers;
   most_cut = is.most_cut;
   segments = is.segments;
 }
 
-IsHeader-queue : (form : Form) (depth queue cut flash : Option ℕ) (q : ℕ) → is_scheduled form ≡ true → 1 ≤ q → q ≤ MOST_QUEUE → IsHeader form depth queue cut flash → IsHeader form depth (Some q) cut flash
-IsHeader-queue form depth queue cut flash q scheduled some most is = record {
+IsHeader-queue : (form : Form) (depth queue fail cut flash : Option ℕ) (q : ℕ) → is_scheduled form ≡ true → 1 ≤ q → q ≤ MOST_QUEUE → IsHeader form depth queue fail cut flash → IsHeader form depth (Some q) fail cut flash
+IsHeader-queue form depth queue fail cut flash q scheduled some most is = record {
   some_blocks = is.some_blocks;
   most_blocks = is.most_blocks;
   some_depth = is.some_depth;
@@ -255,12 +260,13 @@ IsHeader-queue form depth queue cut flash q scheduled some most is = record {
   some_queue = some;
   most_queue = most;
   plain_queue = λ e. absurd (false≢true (sym e ∙ scheduled));
+  transfers = is.transfers;
   most_cut = is.most_cut;
   segments = is.segments;
 }
 
-IsHeader-cut : (form : Form) (depth queue cut flash : Option ℕ) (n : ℕ) → n ≤ MOST_STEPS → IsHeader form depth queue cut flash → IsHeader form depth queue (Some n) flash
-IsHeader-cut form depth queue cut flash n most is = record {
+IsHeader-fail : (form : Form) (depth queue fail cut flash : Option ℕ) (n : ℕ) → 1 ≤ n → n ≤ MOST_TRANSFERS → IsHeader form depth queue fail cut flash → IsHeader form depth queue (Some n) cut flash
+IsHeader-fail form depth queue fail cut flash n some most is = record {
   some_blocks = is.some_blocks;
   most_blocks = is.most_blocks;
   some_depth = is.some_depth;
@@ -268,12 +274,27 @@ IsHeader-cut form depth queue cut flash n most is = record {
   some_queue = is.some_queue;
   most_queue = is.most_queue;
   plain_queue = is.plain_queue;
+  transfers = λ m e. subst (λ m. (1 ≤ m) × (m ≤ MOST_TRANSFERS)) (same_Some n m e) (some, most);
+  most_cut = is.most_cut;
+  segments = is.segments;
+}
+
+IsHeader-cut : (form : Form) (depth queue fail cut flash : Option ℕ) (n : ℕ) → n ≤ MOST_STEPS → IsHeader form depth queue fail cut flash → IsHeader form depth queue fail (Some n) flash
+IsHeader-cut form depth queue fail cut flash n most is = record {
+  some_blocks = is.some_blocks;
+  most_blocks = is.most_blocks;
+  some_depth = is.some_depth;
+  most_depth = is.most_depth;
+  some_queue = is.some_queue;
+  most_queue = is.most_queue;
+  plain_queue = is.plain_queue;
+  transfers = is.transfers;
   most_cut = λ m e. let same = same_Some n m e in omega (arith, most, same);
   segments = is.segments;
 }
 
-IsHeader-flash : (form : Form) (depth queue cut flash : Option ℕ) (n : ℕ) → FEWEST_SEGMENTS ≤ n → n ≤ MOST_SEGMENTS → IsHeader form depth queue cut flash → IsHeader form depth queue cut (Some n)
-IsHeader-flash form depth queue cut flash n some most is = record {
+IsHeader-flash : (form : Form) (depth queue fail cut flash : Option ℕ) (n : ℕ) → FEWEST_SEGMENTS ≤ n → n ≤ MOST_SEGMENTS → IsHeader form depth queue fail cut flash → IsHeader form depth queue fail cut (Some n)
+IsHeader-flash form depth queue fail cut flash n some most is = record {
   some_blocks = is.some_blocks;
   most_blocks = is.most_blocks;
   some_depth = is.some_depth;
@@ -281,13 +302,14 @@ IsHeader-flash form depth queue cut flash n some most is = record {
   some_queue = is.some_queue;
   most_queue = is.most_queue;
   plain_queue = is.plain_queue;
+  transfers = is.transfers;
   most_cut = is.most_cut;
   segments = λ m e. subst (λ m. (FEWEST_SEGMENTS ≤ m) × (m ≤ MOST_SEGMENTS)) (same_Some n m e) (some, most);
 }
 
 -- the header lines
-IsReadable-header : (r : Reading) (depth queue cut flash : Option ℕ) → IsHeader r.form depth queue cut flash → IsReadable r → IsReadable (record r { depth = depth; queue = queue; cut = cut; flash = flash })
-IsReadable-header r depth queue cut flash header is = record {
+IsReadable-header : (r : Reading) (depth queue fail cut flash : Option ℕ) → IsHeader r.form depth queue fail cut flash → IsReadable r → IsReadable (record r { depth = depth; queue = queue; fail = fail; cut = cut; flash = flash })
+IsReadable-header r depth queue fail cut flash header is = record {
   no_elevator = is.no_elevator;
   header = header;
   puts = is.puts;
@@ -297,12 +319,15 @@ IsReadable-header r depth queue cut flash header is = record {
 IsReadable-after : (r : Reading) (l : Line) → IsLineOf (is_scheduled r.form) l → fits r l ≡ true → IsReadable r → IsReadable (after r l)
 IsReadable-after r (line.Depth d) of h is =
     let t = and_parts _ _ h in
-    IsReadable-header r _ _ _ _ (IsHeader-depth r.form r.depth r.queue r.cut r.flash d (leb-true 1 d t.0) (leb-true d MOST_DEPTH t.1) is.header) is
+    IsReadable-header r _ _ _ _ _ (IsHeader-depth r.form r.depth r.queue r.fail r.cut r.flash d (leb-true 1 d t.0) (leb-true d MOST_DEPTH t.1) is.header) is
 IsReadable-after r (line.Queue q) of h is =
     let t = and_parts _ _ h in
-    IsReadable-header r _ _ _ _ (IsHeader-queue r.form r.depth r.queue r.cut r.flash q of (leb-true 1 q t.0) (leb-true q MOST_QUEUE t.1) is.header) is
+    IsReadable-header r _ _ _ _ _ (IsHeader-queue r.form r.depth r.queue r.fail r.cut r.flash q of (leb-true 1 q t.0) (leb-true q MOST_QUEUE t.1) is.header) is
+IsReadable-after r (line.Fail n) of h is =
+    let t = and_parts _ _ h in
+    IsReadable-header r _ _ _ _ _ (IsHeader-fail r.form r.depth r.queue r.fail r.cut r.flash n (leb-true 1 n t.0) (leb-true n MOST_TRANSFERS t.1) is.header) is
 IsReadable-after r (line.Cut n) of h is =
-    IsReadable-header r _ _ _ _ (IsHeader-cut r.form r.depth r.queue r.cut r.flash n (leb-true n MOST_STEPS h) is.header) is
+    IsReadable-header r _ _ _ _ _ (IsHeader-cut r.form r.depth r.queue r.fail r.cut r.flash n (leb-true n MOST_STEPS h) is.header) is
 IsReadable-after r (line.Put block value k) of h is =
     let t = and_parts _ _ h in
     IsReadable-request r _ (ltb-true _ _ t.1) (IsRequestOf-put (form_blocks r.form) (length r.puts) block value k (ltb-true _ _ t.0)) (IsFilled-put (length r.puts) block value k of) is
@@ -316,7 +341,7 @@ IsReadable-after r line.Elevator of h is = record {
 }
 IsReadable-after r (line.Flash n) of h is =
     let t = and_parts _ _ h in
-    IsReadable-header r _ _ _ _ (IsHeader-flash r.form r.depth r.queue r.cut r.flash n (leb-true FEWEST_SEGMENTS n t.0) (leb-true n MOST_SEGMENTS t.1) is.header) is
+    IsReadable-header r _ _ _ _ _ (IsHeader-flash r.form r.depth r.queue r.fail r.cut r.flash n (leb-true FEWEST_SEGMENTS n t.0) (leb-true n MOST_SEGMENTS t.1) is.header) is
 IsReadable-after r line.Events of h is = record {
   no_elevator = is.no_elevator;
   header = is.header;
@@ -354,14 +379,13 @@ IsReadable-taken r (Some l) next h of is =
 IsReadable-later_line : (r : Reading) (w : Option Word) (ws : List (List ℕ)) (next : Reading) → later_line r w ws ≡ Ok next → IsReadable r → IsReadable next
 IsReadable-later_line r None ws next h is = cc
 IsReadable-later_line r (Some w) ws next h is =
-    let built = ok_past (is_built w) _ next _ h in
-    let placed = ok_past (may_stand r w) _ next _ built.1 in
+    let placed = ok_past (may_stand r w) _ next _ h in
     let allowed = and_parts _ _ placed.0 in
     IsReadable-taken r (line_of w ws) next (ok_beside (stood_before r w) _ next _ placed.1) (λ l e. IsLineOf-line_of (is_scheduled r.form) w ws l e allowed.1) is
 
 -- ---- the first line
 
-IsHeader-new : (form : Form) → 1 ≤ form_blocks form → form_blocks form ≤ MOST_BLOCKS → IsHeader form None None None None
+IsHeader-new : (form : Form) → 1 ≤ form_blocks form → form_blocks form ≤ MOST_BLOCKS → IsHeader form None None None None None
 IsHeader-new form some few = record {
   some_blocks = some;
   most_blocks = few;
@@ -370,6 +394,7 @@ IsHeader-new form some few = record {
   some_queue = lit≤ tt;
   most_queue = lit≤ tt;
   plain_queue = λ _. refl;
+  transfers = λ n e. absurd (none-some n e);
   most_cut = λ n e. absurd (none-some n e);
   segments = λ n e. absurd (none-some n e);
 }
@@ -415,20 +440,20 @@ IsReadable-form_line scheduled [] next h = cc
 IsReadable-form_line scheduled (n ∷ []) next h = IsReadable-opened scheduled (numeral n) next h
 IsReadable-form_line scheduled (n ∷ m ∷ ws) next h = cc
 
-IsReadable-built_first : (w : Word) (ws : List (List ℕ)) (next : Reading) → built_first w ws ≡ Ok next → IsReadable next
-IsReadable-built_first (word.First first.Device) ws next h = IsReadable-form_line false ws next h
-IsReadable-built_first (word.First first.Blocks) ws next h = IsReadable-form_line true ws next h
-IsReadable-built_first (word.First first.Volume) ws next h = cc
-IsReadable-built_first (word.Header w) ws next h = cc
-IsReadable-built_first (word.Body w) ws next h = cc
-IsReadable-built_first word.Events ws next h = cc
-IsReadable-built_first (word.Plain w) ws next h = cc
-IsReadable-built_first (word.Pick w) ws next h = cc
-IsReadable-built_first word.OfVolume ws next h = cc
+IsReadable-known_first : (w : Word) (ws : List (List ℕ)) (next : Reading) → known_first w ws ≡ Ok next → IsReadable next
+IsReadable-known_first (word.First first.Device) ws next h = IsReadable-form_line false ws next h
+IsReadable-known_first (word.First first.Blocks) ws next h = IsReadable-form_line true ws next h
+IsReadable-known_first (word.First first.Volume) ws next h = cc
+IsReadable-known_first (word.Header w) ws next h = cc
+IsReadable-known_first (word.Body w) ws next h = cc
+IsReadable-known_first word.Events ws next h = cc
+IsReadable-known_first (word.Plain w) ws next h = cc
+IsReadable-known_first (word.Pick w) ws next h = cc
+IsReadable-known_first word.OfVolume ws next h = cc
 
 IsReadable-first_line : (w : Option Word) (ws : List (List ℕ)) (next : Reading) → first_line w ws ≡ Ok next → IsReadable next
 IsReadable-first_line None ws next h = cc
-IsReadable-first_line (Some w) ws next h = IsReadable-built_first w ws next (ok_past (is_built w) _ next _ h).1
+IsReadable-first_line (Some w) ws next h = IsReadable-known_first w ws next h
 
 IsReadable-read_words : (reading : Option Reading) (ws : List (List ℕ)) (next : Reading) → read_words reading ws ≡ Ok next → IsReadableSoFar reading → IsReadable next
 IsReadable-read_words reading [] next h is = cc
@@ -455,6 +480,7 @@ IsWellFormed-script_read r is = record {
   runnable = IsRunnable-script_read r is;
   plain_queue = λ e. ap (λ q. unwrap_or q DEFAULT_QUEUE) (is.header.plain_queue e);
   no_elevator = is.no_elevator;
+  fail = is.header.transfers;
   cut = is.header.most_cut;
   filled = is.puts.filled;
   events = is.events.each;

@@ -4,7 +4,7 @@ use Rattle.blk_base.specs.Block.{filled}
 use Rattle.order_model.specs.declared.request.Request.{Request}
 use Rattle.order_model.specs.declared.request.Kind.TheVariants.{Put, Flush}
 use Rattle.script_words.specs.declared.limits.TheConstants.{MOST_EVENTS, MOST_REPEATS, PLACES}
-use Rattle.script_grammar.specs.declared.limits.TheConstants.{DEFAULT_DEPTH, DEFAULT_QUEUE, FEWEST_SEGMENTS, MOST_BLOCKS, MOST_DEPTH, MOST_QUEUE, MOST_REQUESTS, MOST_SEGMENTS, MOST_STEPS}
+use Rattle.script_grammar.specs.declared.limits.TheConstants.{DEFAULT_DEPTH, DEFAULT_QUEUE, FEWEST_SEGMENTS, MOST_BLOCKS, MOST_DEPTH, MOST_QUEUE, MOST_REQUESTS, MOST_SEGMENTS, MOST_STEPS, MOST_TRANSFERS}
 use Rattle.script_grammar.specs.declared.kinds.ScriptKind.{ScriptKind}
 use Rattle.script_grammar.specs.declared.kinds.ScriptKind.TheVariants as kinds
 use Rattle.script_grammar.specs.declared.reading.Reading.{Reading}
@@ -48,15 +48,10 @@ abbrev pub form_of : Bool → ℕ → Form
 form_of true blocks = Blocks blocks
 form_of false blocks = Device blocks
 
--- forms of lines that are not built yet
-abbrev pub is_built : Word → Bool
-is_built (word.Header header.Fail) = false
-is_built w = true
-
 -- ---- the first line
 
 abbrev pub new_reading : Form → Reading
-new_reading form = record { form = form; depth = None; queue = None; cut = None; elevator = false; flash = None; section = sections.Header; puts = []; events = []; expanded = 0 }
+new_reading form = record { form = form; depth = None; queue = None; fail = None; cut = None; elevator = false; flash = None; section = sections.Header; puts = []; events = []; expanded = 0 }
 
 -- a medium of so many blocks, 1 to 4,096
 abbrev pub opened : Bool → Option ℕ → Result Reading ScriptKind
@@ -67,16 +62,16 @@ abbrev pub form_line : Bool → List (List ℕ) → Result Reading ScriptKind
 form_line scheduled (n ∷ []) = opened scheduled (numeral n)
 form_line scheduled ws = Err kinds.Word
 
--- a first line whose form is built
-abbrev pub built_first : Word → List (List ℕ) → Result Reading ScriptKind
-built_first (word.First first.Device) ws = form_line false ws
-built_first (word.First first.Blocks) ws = form_line true ws
-built_first w ws = Err kinds.Order
+-- a first line whose word is known
+abbrev pub known_first : Word → List (List ℕ) → Result Reading ScriptKind
+known_first (word.First first.Device) ws = form_line false ws
+known_first (word.First first.Blocks) ws = form_line true ws
+known_first w ws = Err kinds.Order
 
 -- the first line, by the order of its faults
 abbrev pub first_line : Option Word → List (List ℕ) → Result Reading ScriptKind
 first_line None ws = Err kinds.Word
-first_line (Some w) ws = if not (is_built w) then Err kinds.NotBuilt else built_first w ws
+first_line (Some w) ws = known_first w ws
 
 -- ---- the other lines
 
@@ -108,6 +103,7 @@ may_stand r w = stands_in r.section w && (is_scheduled r.form || not (needs_sche
 abbrev pub stood_before : Reading → Word → Bool
 stood_before r (word.Header header.Depth) = is_some r.depth
 stood_before r (word.Header header.Queue) = is_some r.queue
+stood_before r (word.Header header.Fail) = is_some r.fail
 stood_before r (word.Header header.Cut) = is_some r.cut
 stood_before r (word.Header header.Elevator) = r.elevator
 stood_before r (word.Header header.Flash) = is_some r.flash
@@ -121,6 +117,7 @@ count_fits r count = nat_le 1 count && (nat_le count MOST_REPEATS && nat_le (r.e
 abbrev pub fits : Reading → Line → Bool
 fits r (line.Depth d) = nat_le 1 d && nat_le d MOST_DEPTH
 fits r (line.Queue q) = nat_le 1 q && nat_le q MOST_QUEUE
+fits r (line.Fail n) = nat_le 1 n && nat_le n MOST_TRANSFERS
 fits r (line.Cut n) = nat_le n MOST_STEPS
 fits r (line.Put block value k) = nat_lt block (form_blocks r.form) && nat_lt (length r.puts) MOST_REQUESTS
 fits r line.Flush = nat_lt (length r.puts) MOST_REQUESTS
@@ -167,6 +164,7 @@ pick_event picks.Persist pick = Persist pick
 abbrev pub after : Reading → Line → Reading
 after r (line.Depth d) = record r { depth = Some d }
 after r (line.Queue q) = record r { queue = Some q }
+after r (line.Fail n) = record r { fail = Some n }
 after r (line.Cut n) = record r { cut = Some n }
 after r line.Elevator = record r { elevator = true }
 after r (line.Flash n) = record r { flash = Some n }
@@ -185,8 +183,7 @@ taken r (Some l) = if fits r l then Ok (after r l) else Err kinds.Number
 abbrev pub later_line : Reading → Option Word → List (List ℕ) → Result Reading ScriptKind
 later_line r None ws = Err kinds.Word
 later_line r (Some w) ws =
-    if not (is_built w) then Err kinds.NotBuilt
-    else if not (may_stand r w) then Err kinds.Order
+    if not (may_stand r w) then Err kinds.Order
     else if stood_before r w then Err kinds.Twice
     else taken r (line_of w ws)
 
@@ -207,7 +204,7 @@ abbrev pub read_line : ℕ → Option Reading → List ℕ → Result (Option Re
 read_line n reading l = line_read read_one n reading l
 
 abbrev pub script_read : Reading → Script
-script_read r = record { kind = r.form; header = record { depth = unwrap_or r.depth DEFAULT_DEPTH; queue = unwrap_or r.queue DEFAULT_QUEUE; cut = r.cut; elevator = r.elevator; flash = r.flash }; puts = r.puts; events = r.events }
+script_read r = record { kind = r.form; header = record { depth = unwrap_or r.depth DEFAULT_DEPTH; queue = unwrap_or r.queue DEFAULT_QUEUE; fail = r.fail; cut = r.cut; elevator = r.elevator; flash = r.flash }; puts = r.puts; events = r.events }
 
 abbrev pub ended_in : ℕ → Reading → Section → Result Script (ℕ × ScriptKind)
 ended_in n r sections.Events = Ok (script_read r)

@@ -5,7 +5,7 @@ use Rattle.blk_base.specs.Members.{In}
 use Rattle.order_model.specs.declared.request.Request.{Request}
 use Rattle.order_model.specs.declared.request.Kind.TheVariants.{Put}
 use Rattle.script_words.specs.declared.limits.TheConstants.{MOST_EVENTS, MOST_REPEATS, PLACES}
-use Rattle.script_grammar.specs.declared.limits.TheConstants.{DEFAULT_QUEUE, MOST_STEPS}
+use Rattle.script_grammar.specs.declared.limits.TheConstants.{DEFAULT_QUEUE, MOST_STEPS, MOST_TRANSFERS}
 use Rattle.script_grammar.specs.declared.script.Script.{Script}
 use Rattle.script_grammar.specs.declared.script.EventLine.{EventLine}
 use Rattle.script_grammar.specs.declared.script.EventWord.{EventWord}
@@ -46,6 +46,7 @@ pub record IsWellFormed (s : Script) : Type 0 where
   -- no line of a device script speaks of the queues or the scheduler
   pub plain_queue : is_scheduled s.kind ≡ false → s.header.queue ≡ DEFAULT_QUEUE
   pub no_elevator : is_scheduled s.kind ≡ false → s.header.elevator ≡ false
+  pub fail : (n : ℕ) → s.header.fail ≡ Some n → (1 ≤ n) × (n ≤ MOST_TRANSFERS)
   pub cut : (n : ℕ) → s.header.cut ≡ Some n → n ≤ MOST_STEPS
   pub filled : (q : Request) → In q s.puts → IsFilled q
   pub events : (l : EventLine) → In l s.events → IsEventLineOf (is_scheduled s.kind) l

@@ -33,8 +33,8 @@ abbrev pub header_word : List ℕ → Option HeaderWord
 header_word w =
     if bytes_eq w (codes "depth") then Some header.Depth
     else if bytes_eq w (codes "queue") then Some header.Queue
-    else if bytes_eq w (codes "cut") then Some header.Cut
     else if bytes_eq w (codes "fail") then Some header.Fail
+    else if bytes_eq w (codes "cut") then Some header.Cut
     else if bytes_eq w (codes "elevator") then Some header.Elevator
     else if bytes_eq w (codes "flash") then Some header.Flash
     else None
@@ -113,6 +113,7 @@ class_of w =
 abbrev pub header_line : HeaderWord → List (List ℕ) → Option Line
 header_line header.Depth (d ∷ []) = option_map line.Depth (numeral d)
 header_line header.Queue (q ∷ []) = option_map line.Queue (numeral q)
+header_line header.Fail (n ∷ []) = option_map line.Fail (numeral n)
 header_line header.Cut (n ∷ []) = option_map line.Cut (numeral n)
 header_line header.Elevator [] = Some line.Elevator
 header_line header.Flash (n ∷ []) = option_map line.Flash (numeral n)

@@ -1,6 +1,6 @@
 //! Reads scripts, line by line.
 ghost use Rattle.std.specs.Prelude.{◌≡◌, ℕ, ◌+◌, ◌^◌, ◌<◌, ◌≤◌, nat_lt, true, false, None, map, length, IfOk};
-ghost use Rattle.script_grammar.specs.Grammar.{form_blocks, is_scheduled, form_of, is_built, new_reading, opened, form_line, built_first, first_line, stands_in, needs_scheduler, may_stand, stood_before, count_fits, fits, is_ordered_class, is_barrier_class, put_request, flush_request, with_request, with_events, plain_event, pick_event, after, taken, later_line, read_words, read_line, script_read, ended, read_from, script_of};
+ghost use Rattle.script_grammar.specs.Grammar.{form_blocks, is_scheduled, form_of, new_reading, opened, form_line, known_first, first_line, stands_in, needs_scheduler, may_stand, stood_before, count_fits, fits, is_ordered_class, is_barrier_class, put_request, flush_request, with_request, with_events, plain_event, pick_event, after, taken, later_line, read_words, read_line, script_read, ended, read_from, script_of};
 ghost use Rattle.script_grammar.specs.code.Rows.{request_of};
 ghost use Rattle.script_grammar.specs.WellFormed.{IsWellFormed};
 ghost use Rattle.script_grammar.specs.code.Readers.{IsReadAs, IsTextReadAs};
@@ -8,7 +8,7 @@ ghost use Rattle.script_grammar.specs.code.Readers.{IsReadAs, IsTextReadAs};
 use crate::kinds::ScriptKind;
 use crate::limits::{
     DEFAULT_DEPTH, DEFAULT_QUEUE, FEWEST_SEGMENTS, MOST_BLOCKS, MOST_DEPTH, MOST_QUEUE,
-    MOST_REQUESTS, MOST_SCRIPT_BYTES, MOST_SEGMENTS, MOST_STEPS,
+    MOST_REQUESTS, MOST_SCRIPT_BYTES, MOST_SEGMENTS, MOST_STEPS, MOST_TRANSFERS,
 };
 use crate::line_forms::read_line_of;
 use crate::reading::{Reading, Section};
@@ -60,12 +60,6 @@ fn form_of(scheduled: bool, blocks: u32) -> Form
     }
 }
 
-fn is_built(word: Word) -> bool
-    ensures { result ≡ is_built word }
-{
-    !matches!(word, Word::Header(HeaderWord::Fail))
-}
-
 fn new_reading(alloc: Global, form: Form) -> Reading
     ensures { result ≡ new_reading form }
 {
@@ -73,6 +67,7 @@ fn new_reading(alloc: Global, form: Form) -> Reading
         form,
         depth: None,
         queue: None,
+        fail: None,
         cut: None,
         elevator: false,
         flash: None,
@@ -105,8 +100,8 @@ fn form_line(alloc: Global, scheduled: bool, words: &[&[u8]]) -> Result<Reading,
     }
 }
 
-fn built_first(alloc: Global, word: Word, words: &[&[u8]]) -> Result<Reading, ScriptKind>
-    ensures { result ≡ built_first word (map (λ x. x.now) words.now) }
+fn known_first(alloc: Global, word: Word, words: &[&[u8]]) -> Result<Reading, ScriptKind>
+    ensures { result ≡ known_first word (map (λ x. x.now) words.now) }
 {
     match word {
         Word::First(FirstWord::Device) => form_line(alloc, false, words),
@@ -121,10 +116,7 @@ fn first_line(alloc: Global, word: Option<Word>, words: &[&[u8]]) -> Result<Read
     let Some(word) = word else {
         return Err(ScriptKind::Word);
     };
-    if !is_built(word) {
-        return Err(ScriptKind::NotBuilt);
-    }
-    built_first(alloc, word, words)
+    known_first(alloc, word, words)
 }
 
 fn stands_in(section: Section, word: Word) -> bool
@@ -161,6 +153,7 @@ fn stood_before(reading: &Reading, word: Word) -> bool
     match word {
         Word::Header(HeaderWord::Depth) => reading.depth.is_some(),
         Word::Header(HeaderWord::Queue) => reading.queue.is_some(),
+        Word::Header(HeaderWord::Fail) => reading.fail.is_some(),
         Word::Header(HeaderWord::Cut) => reading.cut.is_some(),
         Word::Header(HeaderWord::Elevator) => reading.elevator,
         Word::Header(HeaderWord::Flash) => reading.flash.is_some(),
@@ -186,6 +179,7 @@ fn fits(reading: &Reading, line: Line) -> bool
     match line {
         Line::Depth(depth) => depth >= 1 && depth <= MOST_DEPTH,
         Line::Queue(queue) => queue >= 1 && queue <= MOST_QUEUE,
+        Line::Fail(transfer) => transfer >= 1 && transfer <= MOST_TRANSFERS,
         Line::Cut(steps) => steps <= MOST_STEPS,
         Line::Flash(segments) => segments >= FEWEST_SEGMENTS && segments <= MOST_SEGMENTS,
         Line::Put { block, .. } => {
@@ -292,6 +286,10 @@ fn after(mut reading: Reading, line: Line) -> Result<Reading, NoMemory>
             reading.queue = Some(queue as u32);
             Ok(reading)
         }
+        Line::Fail(transfer) => {
+            reading.fail = Some(transfer);
+            Ok(reading)
+        }
         Line::Cut(steps) => {
             reading.cut = Some(steps);
             Ok(reading)
@@ -339,9 +337,6 @@ fn later_line(reading: Reading, word: Option<Word>, words: &[&[u8]]) -> Result<R
     let Some(word) = word else {
         return Err(LineError::Kind(ScriptKind::Word));
     };
-    if !is_built(word) {
-        return Err(LineError::Kind(ScriptKind::NotBuilt));
-    }
     if !may_stand(&reading, word) {
         return Err(LineError::Kind(ScriptKind::Order));
     }
@@ -396,6 +391,7 @@ fn script_read(reading: Reading) -> Script
         form,
         depth,
         queue,
+        fail,
         cut,
         elevator,
         flash,
@@ -408,6 +404,7 @@ fn script_read(reading: Reading) -> Script
         header: Header {
             depth: depth.unwrap_or(DEFAULT_DEPTH),
             queue: queue.unwrap_or(DEFAULT_QUEUE),
+            fail,
             cut,
             elevator,
             flash,

@@ -7,8 +7,6 @@ use std::fmt;
 pub enum ScriptKind {
     /// A word is not known, or the words are wrong in number or spelling.
     Word,
-    /// The form of the line is not built yet.
-    NotBuilt,
     /// The line may not stand here, or in this kind of script.
     Order,
     /// The header line stood before.
@@ -23,7 +21,6 @@ impl fmt::Display for ScriptKind {
     fn fmt<W: fmt::Write>(&self, f: &mut fmt::Formatter<W>) -> fmt::Result {
         f.write_str(match self {
             ScriptKind::Word => "word",
-            ScriptKind::NotBuilt => "not built",
             ScriptKind::Order => "order",
             ScriptKind::Twice => "twice",
             ScriptKind::Number => "number",

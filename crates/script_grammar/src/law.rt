@@ -5,18 +5,16 @@ ghost use Rattle.script_grammar.specs.declared.script.Script.{Script};
 ghost use Rattle.script_words.specs.Spelling.{lines_of};
 ghost use Rattle.script_words.specs.laws.Texts.{kept_lines};
 ghost use Rattle.script_grammar.specs.Grammar.{script_of};
-ghost use Rattle.script_grammar.specs.laws.FirstFault.{IsFirstFault, IsFirstUnbuilt};
+ghost use Rattle.script_grammar.specs.laws.FirstFault.{IsFirstFault};
 ghost use Rattle.script_grammar.specs.laws.Speller.{script_text};
 ghost use Rattle.script_grammar.specs.WellFormed.{IsWellFormed};
 ghost use Rattle.script_grammar.specs.laws.Accepted.{SaysScript};
 
 use crate::kinds::ScriptKind;
 
-/// A text is refused at a line with a kind exactly where that is its first faulty line; and `not built` is
-/// told exactly of a line that begins with a word whose form is not built, where all lines before are read.
+/// A text is refused at a line with a kind exactly where that is its first faulty line.
 pub fn tells_first_fault()
-    ensures first { (bytes : List ℕ) (n : ℕ) (kind : ScriptKind) → (script_of bytes ≡ Err (n, kind)) ↔ IsFirstFault (lines_of bytes) n kind }
-    ensures not_built { (bytes : List ℕ) (n : ℕ) → (script_of bytes ≡ Err (n, ScriptKind.NotBuilt)) ↔ IsFirstUnbuilt (lines_of bytes) n }
+    ensures { (bytes : List ℕ) (n : ℕ) (kind : ScriptKind) → (script_of bytes ≡ Err (n, kind)) ↔ IsFirstFault (lines_of bytes) n kind }
 {}
 
 /// What the speller writes of a well-formed script is read back as that script, and every script that is

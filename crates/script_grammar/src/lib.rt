@@ -21,7 +21,7 @@ pub use kinds::ScriptKind;
 pub use law::{accepts_what_is_spelled, reads_what_is_spelled, tells_first_fault};
 pub use limits::{
     DEFAULT_DEPTH, DEFAULT_QUEUE, FEWEST_SEGMENTS, MOST_BLOCKS, MOST_DEPTH, MOST_QUEUE,
-    MOST_REQUESTS, MOST_SCRIPT_BYTES, MOST_SEGMENTS, MOST_STEPS,
+    MOST_REQUESTS, MOST_SCRIPT_BYTES, MOST_SEGMENTS, MOST_STEPS, MOST_TRANSFERS,
 };
 pub use script::{CoreEvent, EventLine, EventWord, Events, Form, Header, RequestList, Script};
 pub use script_error::{LineError, ScriptError, fault_at};

@@ -16,6 +16,9 @@ pub const MOST_QUEUE: u64 = 64;
 /// The latest step of the device at which a script can cut the power.
 pub const MOST_STEPS: u64 = 1_000_000_000;
 
+/// The latest transfer that a script can let fail.
+pub const MOST_TRANSFERS: u64 = 1_000_000_000;
+
 /// The fewest segments of a flash log.
 pub const FEWEST_SEGMENTS: u64 = 3;
 

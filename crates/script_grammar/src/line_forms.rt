@@ -26,6 +26,7 @@ fn read_header_line(word: HeaderWord, words: &[&[u8]]) -> Option<Line>
     match (word, words) {
         (HeaderWord::Depth, [depth]) => Some(Line::Depth(numeral(depth)?)),
         (HeaderWord::Queue, [queue]) => Some(Line::Queue(numeral(queue)?)),
+        (HeaderWord::Fail, [transfer]) => Some(Line::Fail(numeral(transfer)?)),
         (HeaderWord::Cut, [steps]) => Some(Line::Cut(numeral(steps)?)),
         (HeaderWord::Elevator, []) => Some(Line::Elevator),
         (HeaderWord::Flash, [segments]) => Some(Line::Flash(numeral(segments)?)),

@@ -15,6 +15,7 @@ pub struct Reading {
     pub form: Form,
     pub depth: Option<u32>,
     pub queue: Option<u32>,
+    pub fail: Option<u64>,
     pub cut: Option<u64>,
     /// The line `elevator` stood.
     pub elevator: bool,

@@ -22,6 +22,8 @@ pub struct Header {
     pub depth: u32,
     /// How many items each queue between two parts of the stack holds.
     pub queue: u32,
+    /// The transfer with this number fails, counted from 1.
+    pub fail: Option<u64>,
     /// The device is off after so many steps.
     pub cut: Option<u64>,
     /// The scheduler is the elevator.

@@ -51,10 +51,10 @@ fn read_header_word(w: &[u8]) -> Option<HeaderWord>
         Some(HeaderWord::Depth)
     } else if w == b"queue".as_slice() {
         Some(HeaderWord::Queue)
-    } else if w == b"cut".as_slice() {
-        Some(HeaderWord::Cut)
     } else if w == b"fail".as_slice() {
         Some(HeaderWord::Fail)
+    } else if w == b"cut".as_slice() {
+        Some(HeaderWord::Cut)
     } else if w == b"elevator".as_slice() {
         Some(HeaderWord::Elevator)
     } else if w == b"flash".as_slice() {

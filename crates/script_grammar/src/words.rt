@@ -13,8 +13,8 @@ pub enum FirstWord {
 pub enum HeaderWord {
     Depth,
     Queue,
-    Cut,
     Fail,
+    Cut,
     Elevator,
     Flash,
 }
@@ -69,6 +69,7 @@ pub enum Class {
 pub enum Line {
     Depth(u64),
     Queue(u64),
+    Fail(u64),
     Cut(u64),
     Elevator,
     Flash(u64),

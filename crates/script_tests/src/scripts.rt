@@ -2,7 +2,7 @@
 use blk_base::Block;
 use order_model::{Kind, Request};
 use script_grammar::ScriptError::Fault;
-use script_grammar::ScriptKind::{Geometry, NotBuilt, Number, Order, Twice, Word};
+use script_grammar::ScriptKind::{Geometry, Number, Order, Twice, Word};
 use script_grammar::{
     CoreEvent, EventLine, EventWord, Form, Header, MOST_SCRIPT_BYTES, RequestList, Script,
     ScriptError, ScriptKind, accepts_what_is_spelled, read_script, reads_what_is_spelled,
@@ -250,14 +250,33 @@ fn tells_header_lines_twice(rt: HostRuntime) {
 }
 
 #[test]
-fn tells_what_is_not_built(rt: HostRuntime) {
+fn reads_the_line_of_a_failing_transfer(rt: HostRuntime) -> Result<(), Fail> {
     let rows = [
-        ("fail 1\n", 1, NotBuilt),
-        ("device 4\nfail 1\n", 2, NotBuilt),
-        ("blocks 4\nfail 1\nfail 1\n", 2, NotBuilt),
-        ("blocks 4\nevents\nfail 1\n", 3, NotBuilt),
+        ("fail 1\n", 1, Order),
+        ("device 4\nevents\nfail 1\n", 3, Order),
+        ("blocks 4\nflush\nfail 1\n", 3, Order),
+        ("blocks 4\nfail 1\nfail\n", 3, Twice),
+        ("device 4\nfail 1\ncut 3\nfail 1\n", 4, Twice),
+        ("device 4\nfail\n", 2, Word),
+        ("device 4\nfail x\n", 2, Word),
+        ("blocks 4\nfail 1 2\n", 2, Word),
+        ("blocks 4\nfails 1\n", 2, Word),
+        ("device 4\nfail 0\n", 2, Number),
+        ("blocks 4\nfail 1000000001\n", 2, Number),
     ];
     expect_faults(&rt, rt.alloc(), &rows);
+    for (text, fail) in [
+        ("device 4\nfail 1\nevents\n", Some(1)),
+        (
+            "blocks 4\ncut 1\nfail 1000000000\ndepth 2\nevents\n",
+            Some(1_000_000_000),
+        ),
+        ("blocks 4\ncut 1\nevents\n", None),
+    ] {
+        let script = read(&rt, rt.alloc(), text.as_bytes())?;
+        assert_eq!(rt; script.header.fail, fail, "{text}");
+    }
+    Ok(())
 }
 
 #[test]
@@ -362,6 +381,7 @@ fn takes_defaults(rt: HostRuntime) -> Result<(), Fail> {
     let header = Header {
         depth: 32,
         queue: 32,
+        fail: None,
         cut: None,
         elevator: false,
         flash: None,
@@ -402,6 +422,7 @@ persist 0 x 2";
     let header = Header {
         depth: 64,
         queue: 32,
+        fail: None,
         cut: Some(1_000_000_000),
         elevator: false,
         flash: None,
@@ -438,6 +459,7 @@ submit x 2
     let header = Header {
         depth: 1,
         queue: 64,
+        fail: None,
         cut: Some(0),
         elevator: false,
         flash: None,
@@ -459,7 +481,6 @@ submit x 2
 fn prints_kinds(rt: HostRuntime) -> Result<(), Fail> {
     let rows = [
         (Word, "word"),
-        (NotBuilt, "not built"),
         (Order, "order"),
         (Twice, "twice"),
         (Number, "number"),

@@ -1,6 +1,6 @@
 //! Volume scripts that were read by hand, and the faults of texts that are none.
 use event_grammar::{CoreEvent, EventLine, EventWord};
-use script_grammar::ScriptKind::{Geometry, NotBuilt, Number, Order, Twice, Word};
+use script_grammar::ScriptKind::{Geometry, Number, Order, Twice, Word};
 use script_grammar::{MOST_SCRIPT_BYTES, ScriptError, ScriptKind};
 use session_grammar::{
     SessionHeader, SessionScript, read_session, sessions_are_read_back,
@@ -75,6 +75,7 @@ const DEFAULTS: SessionHeader = SessionHeader {
     depth: 32,
     queue: 32,
     limit: 20_000,
+    fail: None,
     cut: None,
     seed: 1,
     flash: None,
@@ -188,11 +189,12 @@ fn reads_headers(rt: HostRuntime) -> Result<(), Fail> {
     let alloc = rt.alloc();
     let calls = "thread 1\ncreate /f\nwrite /f 0 2048 aa\nfbarrier /f\nevents\ncall 1 x 5";
     let all =
-        "# all of them\n\nseed 7\nelevator\nflash 64\ncut 0\ndepth 64\nlimit 200000\nqueue 64\nevents\n";
+        "# all of them\n\nseed 7\nelevator\nflash 64\nfail 1000000000\ncut 0\ndepth 64\nlimit 200000\nqueue 64\nevents\n";
     let told = SessionHeader {
         depth: 64,
         queue: 64,
         limit: 200_000,
+        fail: Some(1_000_000_000),
         cut: Some(0),
         seed: 7,
         flash: Some(64),
@@ -213,6 +215,15 @@ fn reads_headers(rt: HostRuntime) -> Result<(), Fail> {
             calls,
             SessionHeader {
                 limit: 1,
+                ..DEFAULTS
+            },
+            1,
+        ),
+        (
+            "fail 1\n",
+            calls,
+            SessionHeader {
+                fail: Some(1),
                 ..DEFAULTS
             },
             1,
@@ -349,7 +360,7 @@ fn tests_first_lines(rt: HostRuntime) {
         ("device 3\nevents\n", 1, Order),
         ("mkdir /a\n", 1, Order),
         ("rename /a /b\n", 1, Order),
-        ("fail 3\n", 1, NotBuilt),
+        ("fail 3\n", 1, Order),
         ("flash 3\n", 1, Order),
         ("volumes\n", 1, Word),
         ("volume inodes 32 zones 64\n", 1, Word),
@@ -394,7 +405,12 @@ fn tests_order(rt: HostRuntime) -> Result<(), Fail> {
         ("events\nrecover\ncommit\n", 4, Order),
         ("rename /a /b\n", 2, Order),
         ("events\nrename /a /b\n", 3, Order),
-        ("thread 1\nfail x\n", 3, NotBuilt),
+        ("thread 1\nfail x\n", 3, Order),
+        ("events\nfail 1\n", 3, Order),
+        ("fail 1\ncut 1\nfail x\n", 4, Twice),
+        ("fail\n", 2, Word),
+        ("fail x\n", 2, Word),
+        ("fail 1 2\n", 2, Word),
         ("depth 3\nqueue 3\ndepth\n", 4, Twice),
         ("elevator\nelevator 3\n", 3, Twice),
         ("flash 3\ncut 1\nflash\n", 4, Twice),
@@ -419,6 +435,8 @@ fn tests_numbers(rt: HostRuntime) -> Result<(), Fail> {
         ("queue 65\n", 2, Number),
         ("limit 0\n", 2, Number),
         ("limit 200001\n", 2, Number),
+        ("fail 0\n", 2, Number),
+        ("fail 1000000001\n", 2, Number),
         ("cut 1000000001\n", 2, Number),
         ("seed 1000000001\n", 2, Number),
         ("flash 2\n", 2, Number),

@@ -8,5 +8,4 @@ pub mod SpelledNumbers
 pub mod SpelledWords
 pub mod LineByLine
 pub mod FirstFault
-pub mod FirstUnbuilt
 pub mod KeptLines

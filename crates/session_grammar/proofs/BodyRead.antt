@@ -45,7 +45,7 @@ use Rattle.session_grammar.specs.declared.reading.Section.TheVariants as section
 use Rattle.session_grammar.specs.declared.session_script.SessionScript.{SessionScript}
 use Rattle.session_grammar.specs.declared.words.Word.TheVariants as word
 use Rattle.session_grammar.specs.Words.{word_of}
-use Rattle.session_grammar.specs.Grammar.{is_built, is_submit, stands_in, has_threads, may_stand, with_thread, thread_taken, with_call, call_taken, names_thread, weight, with_event, event_taken, with_recover, recover_taken, is_behind_events, script_read, ended_in}
+use Rattle.session_grammar.specs.Grammar.{is_submit, stands_in, has_threads, may_stand, with_thread, thread_taken, with_call, call_taken, names_thread, weight, with_event, event_taken, with_recover, recover_taken, is_behind_events, script_read, ended_in}
 use Rattle.session_grammar.specs.WellFormed.{all_calls, IsLineOf, AreLinesOf, IsStepOf, IsTurnOf, IsEventOf, expanded_of}
 use Rattle.session_grammar.specs.laws.Speller.{thread_words, thread_lines, recover_words}
 use Rattle.session_grammar.specs.laws.Accepted.{SayEvents}
@@ -100,13 +100,6 @@ call_some : (o : Option Call) (c : Call) → call_lines.call_taken o ≡ Ok c �
 call_some None c h = cc
 call_some (Some d) c h = let p = ok_behind (call_lines.call_fits d) d c _ h in ap Some p.1
 
-built_word : (v : CallWord) → is_built (word.Call v) ≡ true
-built_word (calls.OfPath w) = refl
-built_word (calls.OfPair w) = refl
-built_word (calls.OfPlace w) = refl
-built_word calls.Truncate = refl
-built_word calls.Sync = refl
-
 -- the words of a call's line
 record IsCallLine (l : List (List ℕ)) (c : Call) : Type 0 where
   first : List ℕ
@@ -134,7 +127,7 @@ IsRead-words r l c is here some few =
     let known : word_of (is_behind_events r.section) is.first ≡ Some (word.Call is.kind) =
     ap₂ (λ (s : Section) (w : List ℕ). word_of (is_behind_events s) w) here (call_named is.first is.kind is.known) ∙ call_known is.kind in
     IsRead-known r is.first is.rest (word.Call is.kind) (with_call r l c) known
-    (later_line-read r line (word.Call is.kind) is.rest (with_call r l c) (built_word is.kind) (call_stands r is.kind here some) refl
+    (later_line-read r line (word.Call is.kind) is.rest (with_call r l c) (call_stands r is.kind here some) refl
     (ap (call_taken r line) is.read
     ∙ ap (λ b. if b then Ok (with_call r line c) else Err kinds.Number) (lt-ltb (last_length r.programs) MOST_CALLS few)
     ∙ ap (λ x. Ok (with_call r x c)) same))
@@ -183,7 +176,7 @@ IsRead-thread : (r : Reading) (t : ℕ) → r.section ≡ sections.Opening → t
 IsRead-thread r t here counted few =
     let known : word_of (is_behind_events r.section) (codes "thread") ≡ Some word.Thread = ap (λ s. word_of (is_behind_events s) (codes "thread")) here in
     IsRead-known r (codes "thread") (decimal t ∷ []) word.Thread (with_thread r) known
-    (later_line-read r (join_with_byte 32 (thread_words t)) word.Thread (decimal t ∷ []) (with_thread r) refl (ap (λ s. stands_in s (has_threads r) word.Thread) here) refl
+    (later_line-read r (join_with_byte 32 (thread_words t)) word.Thread (decimal t ∷ []) (with_thread r) (ap (λ s. stands_in s (has_threads r) word.Thread) here) refl
     (ap (thread_taken r) (numeral-decimal t (omega (arith, few)))
     ∙ ap (λ b. if b then Ok (with_thread r) else Err kinds.Number) (and_from (t == length r.programs + 1) (nat_le t MOST_THREADS) (eq-eqb t (length r.programs + 1) counted) (le-leb t MOST_THREADS few))))
 
@@ -222,7 +215,7 @@ pub IsRead-events : (r : Reading) → r.section ≡ sections.Opening → IsRead 
 IsRead-events r here =
     let known : word_of (is_behind_events r.section) (codes "events") ≡ Some word.Events = ap (λ s. word_of (is_behind_events s) (codes "events")) here in
     IsRead-known r (codes "events") [] word.Events (record r { section = sections.Events }) known
-    (later_line-read r (codes "events") word.Events [] (record r { section = sections.Events }) refl (ap (λ s. stands_in s (has_threads r) word.Events) here) refl refl)
+    (later_line-read r (codes "events") word.Events [] (record r { section = sections.Events }) (ap (λ s. stands_in s (has_threads r) word.Events) here) refl refl)
 
 -- ---- event lines
 
@@ -271,7 +264,7 @@ IsRead-event_words r w ws (Some v) e here named h is few =
     let known : word_of (is_behind_events r.section) w ≡ Some (word.Event v) =
     ap₂ (λ (s : Section) (x : List ℕ). word_of (is_behind_events s) x) here (event_named w v named) ∙ event_known v in
     IsRead-known r w ws (word.Event v) (with_event r e) known
-    (later_line-read r line (word.Event v) ws (with_event r e) refl (event_stands r v here (not_submit v ws e threads h is.turn)) refl
+    (later_line-read r line (word.Event v) ws (with_event r e) (event_stands r v here (not_submit v ws e threads h is.turn)) refl
     (ap (event_taken r) h
     ∙ ap (λ b. if b then Ok (with_event r e) else Err kinds.Number) (and_from (names_thread threads e.what) (nat_le (r.expanded + weight threads e) MOST_EVENTS) (names_turn threads e.what is.turn) (le-leb (r.expanded + weight threads e) MOST_EVENTS few))))
 
@@ -311,7 +304,7 @@ IsRead-recover r ss here is few =
     let line = join_with_byte 32 (recover_words ss) in
     let ws = event_speller.steer_words ss in
     IsRead-known r (codes "recover") ws word.Recover (with_recover r ss) (recover_known r.section here)
-    (later_line-read r line word.Recover ws (with_recover r ss) refl (recover_stands r.section (has_threads r) here) refl
+    (later_line-read r line word.Recover ws (with_recover r ss) (recover_stands r.section (has_threads r) here) refl
     (ap (recover_taken r) (steers_read ws ss is refl)
     ∙ ap (λ b. if b then Ok (with_recover r ss) else Err kinds.Number) (lt-ltb (length r.recovers) MOST_RECOVERS few)))
 

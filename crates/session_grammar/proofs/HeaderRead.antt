@@ -7,7 +7,7 @@ use Rattle.std.proofs.lemmas.Option.{same_Some}
 use Rattle.blk_base.specs.Members.{In}
 use Rattle.script_words.proofs.SpelledNumbers.{numeral-decimal}
 use Rattle.script_grammar.specs.declared.kinds.ScriptKind.TheVariants as kinds
-use Rattle.script_grammar.specs.declared.limits.TheConstants.{DEFAULT_DEPTH, DEFAULT_QUEUE, FEWEST_SEGMENTS, MOST_DEPTH, MOST_QUEUE, MOST_SEGMENTS, MOST_STEPS}
+use Rattle.script_grammar.specs.declared.limits.TheConstants.{DEFAULT_DEPTH, DEFAULT_QUEUE, FEWEST_SEGMENTS, MOST_DEPTH, MOST_QUEUE, MOST_SEGMENTS, MOST_STEPS, MOST_TRANSFERS}
 use Rattle.script_grammar.specs.laws.Accepted.{begins, beginning, or_default}
 use Rattle.script_grammar.proofs.SaidWords.{default_text}
 use Rattle.script_words.proofs.Counts.{one_text}
@@ -24,7 +24,7 @@ use Rattle.session_grammar.specs.declared.words.Word.TheVariants as word
 use Rattle.session_grammar.specs.Words.{word_of}
 use Rattle.session_grammar.specs.Grammar.{told_number, none_told, new_reading, number_fits, with_number, number_taken, header_taken, header_of}
 use Rattle.session_grammar.specs.WellFormed.{IsHeader}
-use Rattle.session_grammar.specs.laws.Speller.{number_words, cut_lines, flash_lines, elevator_lines}
+use Rattle.session_grammar.specs.laws.Speller.{number_words, number_lines, elevator_lines}
 use Rattle.session_grammar.specs.laws.Accepted.{is_header_line, IsHeaderOf}
 use Rattle.session_grammar.proofs.Names.{number_name}
 use Rattle.session_grammar.proofs.ReadsTo.{IsRead, ReadsTo, ReadsTo-line, later_line-read, IsRead-known}
@@ -45,19 +45,17 @@ abbrev pub value_of : SessionHeader → NumberWord → Option ℕ
 value_of h numbers.Depth = Some h.depth
 value_of h numbers.Queue = Some h.queue
 value_of h numbers.Limit = Some h.limit
+value_of h numbers.Fail = h.fail
 value_of h numbers.Cut = h.cut
 value_of h numbers.Seed = Some h.seed
 value_of h numbers.Flash = h.flash
-
-abbrev pub number_lines : List ℕ → Option ℕ → List (List (List ℕ))
-number_lines name None = []
-number_lines name (Some n) = number_words name n ∷ []
 
 -- the lines of a word, or its default
 abbrev pub filled : NumberWord → List (List (List ℕ)) → List (List (List ℕ))
 filled numbers.Depth ls = or_default (number_words (codes "depth") DEFAULT_DEPTH) ls
 filled numbers.Queue ls = or_default (number_words (codes "queue") DEFAULT_QUEUE) ls
 filled numbers.Limit ls = or_default (number_words (codes "limit") DEFAULT_LIMIT) ls
+filled numbers.Fail ls = ls
 filled numbers.Cut ls = ls
 filled numbers.Seed ls = or_default (number_words (codes "seed") DEFAULT_SEED) ls
 filled numbers.Flash ls = ls
@@ -81,36 +79,49 @@ pub apart : (v w : NumberWord) → AreApart v w ⊎ (v ≡ w)
 apart numbers.Depth numbers.Depth = inr refl
 apart numbers.Depth numbers.Queue = inl (record { told = λ t n. refl; line = λ n. refl })
 apart numbers.Depth numbers.Limit = inl (record { told = λ t n. refl; line = λ n. refl })
+apart numbers.Depth numbers.Fail = inl (record { told = λ t n. refl; line = λ n. refl })
 apart numbers.Depth numbers.Cut = inl (record { told = λ t n. refl; line = λ n. refl })
 apart numbers.Depth numbers.Seed = inl (record { told = λ t n. refl; line = λ n. refl })
 apart numbers.Depth numbers.Flash = inl (record { told = λ t n. refl; line = λ n. refl })
 apart numbers.Queue numbers.Depth = inl (record { told = λ t n. refl; line = λ n. refl })
 apart numbers.Queue numbers.Queue = inr refl
 apart numbers.Queue numbers.Limit = inl (record { told = λ t n. refl; line = λ n. refl })
+apart numbers.Queue numbers.Fail = inl (record { told = λ t n. refl; line = λ n. refl })
 apart numbers.Queue numbers.Cut = inl (record { told = λ t n. refl; line = λ n. refl })
 apart numbers.Queue numbers.Seed = inl (record { told = λ t n. refl; line = λ n. refl })
 apart numbers.Queue numbers.Flash = inl (record { told = λ t n. refl; line = λ n. refl })
 apart numbers.Limit numbers.Depth = inl (record { told = λ t n. refl; line = λ n. refl })
 apart numbers.Limit numbers.Queue = inl (record { told = λ t n. refl; line = λ n. refl })
 apart numbers.Limit numbers.Limit = inr refl
+apart numbers.Limit numbers.Fail = inl (record { told = λ t n. refl; line = λ n. refl })
 apart numbers.Limit numbers.Cut = inl (record { told = λ t n. refl; line = λ n. refl })
 apart numbers.Limit numbers.Seed = inl (record { told = λ t n. refl; line = λ n. refl })
 apart numbers.Limit numbers.Flash = inl (record { told = λ t n. refl; line = λ n. refl })
+apart numbers.Fail numbers.Depth = inl (record { told = λ t n. refl; line = λ n. refl })
+apart numbers.Fail numbers.Queue = inl (record { told = λ t n. refl; line = λ n. refl })
+apart numbers.Fail numbers.Limit = inl (record { told = λ t n. refl; line = λ n. refl })
+apart numbers.Fail numbers.Fail = inr refl
+apart numbers.Fail numbers.Cut = inl (record { told = λ t n. refl; line = λ n. refl })
+apart numbers.Fail numbers.Seed = inl (record { told = λ t n. refl; line = λ n. refl })
+apart numbers.Fail numbers.Flash = inl (record { told = λ t n. refl; line = λ n. refl })
 apart numbers.Cut numbers.Depth = inl (record { told = λ t n. refl; line = λ n. refl })
 apart numbers.Cut numbers.Queue = inl (record { told = λ t n. refl; line = λ n. refl })
 apart numbers.Cut numbers.Limit = inl (record { told = λ t n. refl; line = λ n. refl })
+apart numbers.Cut numbers.Fail = inl (record { told = λ t n. refl; line = λ n. refl })
 apart numbers.Cut numbers.Cut = inr refl
 apart numbers.Cut numbers.Seed = inl (record { told = λ t n. refl; line = λ n. refl })
 apart numbers.Cut numbers.Flash = inl (record { told = λ t n. refl; line = λ n. refl })
 apart numbers.Seed numbers.Depth = inl (record { told = λ t n. refl; line = λ n. refl })
 apart numbers.Seed numbers.Queue = inl (record { told = λ t n. refl; line = λ n. refl })
 apart numbers.Seed numbers.Limit = inl (record { told = λ t n. refl; line = λ n. refl })
+apart numbers.Seed numbers.Fail = inl (record { told = λ t n. refl; line = λ n. refl })
 apart numbers.Seed numbers.Cut = inl (record { told = λ t n. refl; line = λ n. refl })
 apart numbers.Seed numbers.Seed = inr refl
 apart numbers.Seed numbers.Flash = inl (record { told = λ t n. refl; line = λ n. refl })
 apart numbers.Flash numbers.Depth = inl (record { told = λ t n. refl; line = λ n. refl })
 apart numbers.Flash numbers.Queue = inl (record { told = λ t n. refl; line = λ n. refl })
 apart numbers.Flash numbers.Limit = inl (record { told = λ t n. refl; line = λ n. refl })
+apart numbers.Flash numbers.Fail = inl (record { told = λ t n. refl; line = λ n. refl })
 apart numbers.Flash numbers.Cut = inl (record { told = λ t n. refl; line = λ n. refl })
 apart numbers.Flash numbers.Seed = inl (record { told = λ t n. refl; line = λ n. refl })
 apart numbers.Flash numbers.Flash = inr refl
@@ -119,6 +130,7 @@ pub told_same : (w : NumberWord) (t : HeaderSoFar) (n : ℕ) → told_number (wi
 told_same numbers.Depth t n = refl
 told_same numbers.Queue t n = refl
 told_same numbers.Limit t n = refl
+told_same numbers.Fail t n = refl
 told_same numbers.Cut t n = refl
 told_same numbers.Seed t n = refl
 told_same numbers.Flash t n = refl
@@ -127,6 +139,7 @@ pub elevator_kept : (w : NumberWord) (t : HeaderSoFar) (n : ℕ) → (with_numbe
 elevator_kept numbers.Depth t n = refl
 elevator_kept numbers.Queue t n = refl
 elevator_kept numbers.Limit t n = refl
+elevator_kept numbers.Fail t n = refl
 elevator_kept numbers.Cut t n = refl
 elevator_kept numbers.Seed t n = refl
 elevator_kept numbers.Flash t n = refl
@@ -135,6 +148,7 @@ pub told_beside : (w : NumberWord) (t : HeaderSoFar) → told_number (record t {
 told_beside numbers.Depth t = refl
 told_beside numbers.Queue t = refl
 told_beside numbers.Limit t = refl
+told_beside numbers.Fail t = refl
 told_beside numbers.Cut t = refl
 told_beside numbers.Seed t = refl
 told_beside numbers.Flash t = refl
@@ -143,6 +157,7 @@ pub no_elevator_line : (w : NumberWord) (n : ℕ) → begins (codes "elevator") 
 no_elevator_line numbers.Depth n = refl
 no_elevator_line numbers.Queue n = refl
 no_elevator_line numbers.Limit n = refl
+no_elevator_line numbers.Fail n = refl
 no_elevator_line numbers.Cut n = refl
 no_elevator_line numbers.Seed n = refl
 no_elevator_line numbers.Flash n = refl
@@ -154,6 +169,7 @@ pub no_number_line : (w : NumberWord) → is_line_of w elevator_line ≡ false
 no_number_line numbers.Depth = refl
 no_number_line numbers.Queue = refl
 no_number_line numbers.Limit = refl
+no_number_line numbers.Fail = refl
 no_number_line numbers.Cut = refl
 no_number_line numbers.Seed = refl
 no_number_line numbers.Flash = refl
@@ -162,6 +178,7 @@ filled-some : (w : NumberWord) (l : List (List ℕ)) (ls : List (List (List ℕ)
 filled-some numbers.Depth l ls = refl
 filled-some numbers.Queue l ls = refl
 filled-some numbers.Limit l ls = refl
+filled-some numbers.Fail l ls = refl
 filled-some numbers.Cut l ls = refl
 filled-some numbers.Seed l ls = refl
 filled-some numbers.Flash l ls = refl
@@ -170,6 +187,7 @@ word_known : (w : NumberWord) → word_of false (number_name w) ≡ Some (word.H
 word_known numbers.Depth = refl
 word_known numbers.Queue = refl
 word_known numbers.Limit = refl
+word_known numbers.Fail = refl
 word_known numbers.Cut = refl
 word_known numbers.Seed = refl
 word_known numbers.Flash = refl
@@ -184,6 +202,8 @@ fits_value h numbers.Queue n is e =
 fits_value h numbers.Limit n is e =
     let same = same_Some h.limit n e in
     subst (λ m. number_fits numbers.Limit m ≡ true) same (and_from (nat_le 1 h.limit) (nat_le h.limit MOST_SESSION) (le-leb 1 h.limit is.some_limit) (le-leb h.limit MOST_SESSION is.limit))
+fits_value h numbers.Fail n is e =
+    and_from (nat_le 1 n) (nat_le n MOST_TRANSFERS) (le-leb 1 n (is.least_fail n e)) (le-leb n MOST_TRANSFERS (is.most_fail n e))
 fits_value h numbers.Cut n is e = le-leb n MOST_STEPS (is.cut n e)
 fits_value h numbers.Seed n is e =
     let same = same_Some h.seed n e in
@@ -195,6 +215,7 @@ pub small_number : (w : NumberWord) (n : ℕ) → number_fits w n ≡ true → n
 small_number numbers.Depth n h = let most = leb-true n MOST_DEPTH (and_parts (nat_le 1 n) (nat_le n MOST_DEPTH) h).1 in omega (arith, most)
 small_number numbers.Queue n h = let most = leb-true n MOST_QUEUE (and_parts (nat_le 1 n) (nat_le n MOST_QUEUE) h).1 in omega (arith, most)
 small_number numbers.Limit n h = let most = leb-true n MOST_SESSION (and_parts (nat_le 1 n) (nat_le n MOST_SESSION) h).1 in omega (arith, most)
+small_number numbers.Fail n h = let most = leb-true n MOST_TRANSFERS (and_parts (nat_le 1 n) (nat_le n MOST_TRANSFERS) h).1 in omega (arith, most)
 small_number numbers.Cut n h = let most = leb-true n MOST_STEPS h in omega (arith, most)
 small_number numbers.Seed n h = let most = leb-true n MOST_SEED h in omega (arith, most)
 small_number numbers.Flash n h = let most = leb-true n MOST_SEGMENTS (and_parts (nat_le FEWEST_SEGMENTS n) (nat_le n MOST_SEGMENTS) h).1 in omega (arith, most)
@@ -299,14 +320,6 @@ none_said : (name : List ℕ) (o : Option ℕ) → [] ≡ number_lines name o �
 none_said name None h = refl
 none_said name (Some n) h = cc
 
-pub cut_as_number : (o : Option ℕ) → cut_lines o ≡ number_lines (codes "cut") o
-cut_as_number None = refl
-cut_as_number (Some n) = refl
-
-pub flash_as_number : (o : Option ℕ) → flash_lines o ≡ number_lines (codes "flash") o
-flash_as_number None = refl
-flash_as_number (Some n) = refl
-
 ended_number : (h : SessionHeader) (t : HeaderSoFar) (w : NumberWord) → IsHeader h → LeftOf h t [] w → told_or_default t w ≡ value_of h w
 ended_number h t numbers.Depth is (inl done) = ap (λ o. Some (unwrap_or o DEFAULT_DEPTH)) done.0
 ended_number h t numbers.Depth is (inr left) = ap (λ o. Some (unwrap_or o DEFAULT_DEPTH)) left.0 ∙ ap Some (one_number numbers.Depth DEFAULT_DEPTH h.depth (fits_value h numbers.Depth h.depth is refl) (lit< tt) left.1)
@@ -314,6 +327,8 @@ ended_number h t numbers.Queue is (inl done) = ap (λ o. Some (unwrap_or o DEFAU
 ended_number h t numbers.Queue is (inr left) = ap (λ o. Some (unwrap_or o DEFAULT_QUEUE)) left.0 ∙ ap Some (one_number numbers.Queue DEFAULT_QUEUE h.queue (fits_value h numbers.Queue h.queue is refl) (lit< tt) left.1)
 ended_number h t numbers.Limit is (inl done) = ap (λ o. Some (unwrap_or o DEFAULT_LIMIT)) done.0
 ended_number h t numbers.Limit is (inr left) = ap (λ o. Some (unwrap_or o DEFAULT_LIMIT)) left.0 ∙ ap Some (one_number numbers.Limit DEFAULT_LIMIT h.limit (fits_value h numbers.Limit h.limit is refl) (lit< tt) left.1)
+ended_number h t numbers.Fail is (inl done) = done.0
+ended_number h t numbers.Fail is (inr left) = left.0 ∙ none_said (codes "fail") h.fail left.1
 ended_number h t numbers.Cut is (inl done) = done.0
 ended_number h t numbers.Cut is (inr left) = left.0 ∙ none_said (codes "cut") h.cut left.1
 ended_number h t numbers.Seed is (inl done) = ap (λ o. Some (unwrap_or o DEFAULT_SEED)) done.0
@@ -327,22 +342,23 @@ same_elevator false true h = cc
 same_elevator true false h = cc
 same_elevator true true h = refl
 
-abbrev header_with : ℕ → ℕ → ℕ → Option ℕ → ℕ → Option ℕ → Bool → SessionHeader
-header_with depth queue limit cut seed flash elevator = record { depth = depth; queue = queue; limit = limit; cut = cut; seed = seed; flash = flash; elevator = elevator }
+abbrev header_with : ℕ → ℕ → ℕ → Option ℕ → Option ℕ → ℕ → Option ℕ → Bool → SessionHeader
+header_with depth queue limit fail cut seed flash elevator = record { depth = depth; queue = queue; limit = limit; fail = fail; cut = cut; seed = seed; flash = flash; elevator = elevator }
 
-same_header : (depth depth' queue queue' limit limit' : ℕ) (cut cut' : Option ℕ) (seed seed' : ℕ) (flash flash' : Option ℕ) (elevator elevator' : Bool) → depth ≡ depth' → queue ≡ queue' → limit ≡ limit' → cut ≡ cut' → seed ≡ seed' → flash ≡ flash' → elevator ≡ elevator'
-    → header_with depth queue limit cut seed flash elevator ≡ header_with depth' queue' limit' cut' seed' flash' elevator'
-same_header depth depth' queue queue' limit limit' cut cut' seed seed' flash flash' elevator elevator' a b c d e f g = cc
+same_header : (depth depth' queue queue' limit limit' : ℕ) (fail fail' cut cut' : Option ℕ) (seed seed' : ℕ) (flash flash' : Option ℕ) (elevator elevator' : Bool) → depth ≡ depth' → queue ≡ queue' → limit ≡ limit' → fail ≡ fail' → cut ≡ cut' → seed ≡ seed' → flash ≡ flash' → elevator ≡ elevator'
+    → header_with depth queue limit fail cut seed flash elevator ≡ header_with depth' queue' limit' fail' cut' seed' flash' elevator'
+same_header depth depth' queue queue' limit limit' fail fail' cut cut' seed seed' flash flash' elevator elevator' a b c d e f g h = cc
 
 header_told : (h : SessionHeader) (t : HeaderSoFar) → IsHeader h → AreLeft h t [] → header_of t ≡ h
 header_told h t is left =
     let depth = same_Some (unwrap_or t.depth DEFAULT_DEPTH) h.depth (ended_number h t numbers.Depth is (left.numbers numbers.Depth)) in
     let queue = same_Some (unwrap_or t.queue DEFAULT_QUEUE) h.queue (ended_number h t numbers.Queue is (left.numbers numbers.Queue)) in
     let limit = same_Some (unwrap_or t.limit DEFAULT_LIMIT) h.limit (ended_number h t numbers.Limit is (left.numbers numbers.Limit)) in
+    let fail = ended_number h t numbers.Fail is (left.numbers numbers.Fail) in
     let cut = ended_number h t numbers.Cut is (left.numbers numbers.Cut) in
     let seed = same_Some (unwrap_or t.seed DEFAULT_SEED) h.seed (ended_number h t numbers.Seed is (left.numbers numbers.Seed)) in
     let flash = ended_number h t numbers.Flash is (left.numbers numbers.Flash) in
-    same_header _ _ _ _ _ _ _ _ _ _ _ _ _ _ depth queue limit cut seed flash (same_elevator t.elevator h.elevator left.elevator)
+    same_header _ _ _ _ _ _ _ _ _ _ _ _ _ _ _ _ depth queue limit fail cut seed flash (same_elevator t.elevator h.elevator left.elevator)
 
 -- ---- the lines are read
 
@@ -355,7 +371,7 @@ number_read i z j form t w n fits fresh =
     let r = at_header i z j form t in
     let small = small_number w n fits in
     IsRead-known r (number_name w) (decimal n ∷ []) (word.Header (header.Number w)) (at_header i z j form (with_number t w n)) (word_known w)
-    (later_line-read r (join_with_byte 32 (number_words (number_name w) n)) (word.Header (header.Number w)) (decimal n ∷ []) (at_header i z j form (with_number t w n)) refl refl (ap is_some fresh)
+    (later_line-read r (join_with_byte 32 (number_words (number_name w) n)) (word.Header (header.Number w)) (decimal n ∷ []) (at_header i z j form (with_number t w n)) refl (ap is_some fresh)
     (ap (λ o. header_taken r (number_taken t w o)) (numeral-decimal n (omega (arith, small)))
     ∙ ap (λ b. header_taken r (if b then Ok (with_number t w n) else Err kinds.Number)) fits))
 
@@ -363,7 +379,7 @@ elevator_read : (i z j : ℕ) (form : VolumeForm) (t : HeaderSoFar) → t.elevat
 elevator_read i z j form t fresh =
     let r = at_header i z j form t in
     IsRead-known r (codes "elevator") [] (word.Header header.Elevator) (at_header i z j form (record t { elevator = true })) refl
-    (later_line-read r (join_with_byte 32 elevator_line) (word.Header header.Elevator) [] (at_header i z j form (record t { elevator = true })) refl refl fresh refl)
+    (later_line-read r (join_with_byte 32 elevator_line) (word.Header header.Elevator) [] (at_header i z j form (record t { elevator = true })) refl fresh refl)
 
 -- what the lines behind the header are read to
 abbrev Behind : ℕ → ℕ → ℕ → VolumeForm → SessionHeader → List (List (List ℕ)) → SessionScript → Type 0
@@ -395,13 +411,16 @@ which_line l h =
         | inl e ↦ inl (numbers.Queue, e)
         | inr h ↦ elim (or_cases (begins (codes "limit") l) _ h) [
           | inl e ↦ inl (numbers.Limit, e)
-          | inr h ↦ elim (or_cases (begins (codes "cut") l) _ h) [
-            | inl e ↦ inl (numbers.Cut, e)
-            | inr h ↦ elim (or_cases (begins (codes "seed") l) _ h) [
-              | inl e ↦ inl (numbers.Seed, e)
-              | inr h ↦ elim (or_cases (begins (codes "flash") l) (begins (codes "elevator") l) h) [
-                | inl e ↦ inl (numbers.Flash, e)
-                | inr e ↦ inr e
+          | inr h ↦ elim (or_cases (begins (codes "fail") l) _ h) [
+            | inl e ↦ inl (numbers.Fail, e)
+            | inr h ↦ elim (or_cases (begins (codes "cut") l) _ h) [
+              | inl e ↦ inl (numbers.Cut, e)
+              | inr h ↦ elim (or_cases (begins (codes "seed") l) _ h) [
+                | inl e ↦ inl (numbers.Seed, e)
+                | inr h ↦ elim (or_cases (begins (codes "flash") l) (begins (codes "elevator") l) h) [
+                  | inl e ↦ inl (numbers.Flash, e)
+                  | inr e ↦ inr e
+                ]
               ]
             ]
           ]
@@ -421,9 +440,10 @@ left_at_first : (h : SessionHeader) (hs : List (List (List ℕ))) (w : NumberWor
 left_at_first h hs numbers.Depth is = inr (refl, ap (λ w. or_default (codes "depth" ∷ w ∷ []) (beginning (codes "depth") hs)) (sym default_text) ∙ is.depth)
 left_at_first h hs numbers.Queue is = inr (refl, ap (λ w. or_default (codes "queue" ∷ w ∷ []) (beginning (codes "queue") hs)) (sym default_text) ∙ is.queue)
 left_at_first h hs numbers.Limit is = inr (refl, ap (λ w. or_default (codes "limit" ∷ w ∷ []) (beginning (codes "limit") hs)) (sym limit_text) ∙ is.limit)
-left_at_first h hs numbers.Cut is = inr (refl, is.cut ∙ cut_as_number h.cut)
+left_at_first h hs numbers.Fail is = inr (refl, is.fail)
+left_at_first h hs numbers.Cut is = inr (refl, is.cut)
 left_at_first h hs numbers.Seed is = inr (refl, ap (λ w. or_default (codes "seed" ∷ w ∷ []) (beginning (codes "seed") hs)) (sym one_text) ∙ is.seed)
-left_at_first h hs numbers.Flash is = inr (refl, is.flash ∙ flash_as_number h.flash)
+left_at_first h hs numbers.Flash is = inr (refl, is.flash)
 
 pub header_read : (hs : List (List (List ℕ))) (i z j : ℕ) (form : VolumeForm) (h : SessionHeader) (rest : List (List (List ℕ))) (s : SessionScript) → IsHeader h → IsHeaderOf h hs → Behind i z j form h rest s → ReadsTo (Some (new_reading i z j form)) (hs ++ rest) s
 header_read hs i z j form h rest s is says behind =

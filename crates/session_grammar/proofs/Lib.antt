@@ -11,5 +11,4 @@ pub mod Spelled
 pub mod Steps
 pub mod ThreadLines
 pub mod Threads
-pub mod Unbuilt
 pub mod WellFormed

@@ -20,6 +20,7 @@ abbrev pub number_name : NumberWord → List ℕ
 number_name numbers.Depth = codes "depth"
 number_name numbers.Queue = codes "queue"
 number_name numbers.Limit = codes "limit"
+number_name numbers.Fail = codes "fail"
 number_name numbers.Cut = codes "cut"
 number_name numbers.Seed = codes "seed"
 number_name numbers.Flash = codes "flash"
@@ -27,7 +28,6 @@ number_name numbers.Flash = codes "flash"
 abbrev pub header_name : HeaderWord → List ℕ
 header_name (header.Number w) = number_name w
 header_name header.Elevator = codes "elevator"
-header_name header.Fail = codes "fail"
 
 -- the word is spelled so; of calls and events their own crates say how
 abbrev pub IsNamed : List ℕ → Word → Type 0
@@ -45,14 +45,14 @@ number_named w n h =
     choose number_name w numbers.Depth n _ h
     (λ h. choose number_name w numbers.Queue n _ h
     (λ h. choose number_name w numbers.Limit n _ h
+    (λ h. choose number_name w numbers.Fail n _ h
     (λ h. choose number_name w numbers.Cut n _ h
     (λ h. choose number_name w numbers.Seed n _ h
-    (λ h. choose number_name w numbers.Flash n None h (λ h. absurd (none-some n h)))))))
+    (λ h. choose number_name w numbers.Flash n None h (λ h. absurd (none-some n h))))))))
 
 other_named : (w : List ℕ) (v : HeaderWord) → other_header w ≡ Some v → w ≡ header_name v
 other_named w v h =
-    choose header_name w header.Elevator v _ h
-    (λ h. choose header_name w header.Fail v None h (λ h. absurd (none-some v h)))
+    choose header_name w header.Elevator v None h (λ h. absurd (none-some v h))
 
 header_named : (w : List ℕ) (v : HeaderWord) → header_word w ≡ Some v → w ≡ header_name v
 header_named w v h = group_or header.Number (number_word w) _ v (λ u. w ≡ header_name u) h (number_named w) (other_named w v)

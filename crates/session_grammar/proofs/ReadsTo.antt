@@ -12,7 +12,7 @@ use Rattle.session_grammar.specs.declared.reading.Reading.{Reading}
 use Rattle.session_grammar.specs.declared.session_script.SessionScript.{SessionScript}
 use Rattle.session_grammar.specs.declared.words.Word.{Word}
 use Rattle.session_grammar.specs.Words.{word_of}
-use Rattle.session_grammar.specs.Grammar.{is_built, may_stand, stood_before, line_taken, later_line, is_behind_events, read_words, read_one, ended, session_of}
+use Rattle.session_grammar.specs.Grammar.{may_stand, stood_before, line_taken, later_line, is_behind_events, read_words, read_one, ended, session_of}
 
 -- the line with these words is read
 abbrev pub IsRead : Option Reading → List (List ℕ) → Reading → Type 0
@@ -26,10 +26,9 @@ pub ReadsTo-line : (reading : Option Reading) (ws : List (List ℕ)) (next : Rea
 ReadsTo-line reading ws next ls s is rest = (next, is, rest)
 
 -- a later line that has no fault
-pub later_line-read : (r : Reading) (line : List ℕ) (w : Word) (ws : List (List ℕ)) (next : Reading) → is_built w ≡ true → may_stand r w ≡ true → stood_before r.told w ≡ false → line_taken r line w ws ≡ Ok next → later_line r line (Some w) ws ≡ Ok next
-later_line-read r line w ws next built stands new read =
-    ap (λ t. if not t then Err kinds.NotBuilt else (if not (may_stand r w) then Err kinds.Order else (if stood_before r.told w then Err kinds.Twice else line_taken r line w ws))) built
-    ∙ ap (λ t. if not t then Err kinds.Order else (if stood_before r.told w then Err kinds.Twice else line_taken r line w ws)) stands
+pub later_line-read : (r : Reading) (line : List ℕ) (w : Word) (ws : List (List ℕ)) (next : Reading) → may_stand r w ≡ true → stood_before r.told w ≡ false → line_taken r line w ws ≡ Ok next → later_line r line (Some w) ws ≡ Ok next
+later_line-read r line w ws next stands new read =
+    ap (λ t. if not t then Err kinds.Order else (if stood_before r.told w then Err kinds.Twice else line_taken r line w ws)) stands
     ∙ ap (λ t. if t then Err kinds.Twice else line_taken r line w ws) new
     ∙ read
 

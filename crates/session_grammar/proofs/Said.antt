@@ -45,14 +45,14 @@ use Rattle.session_grammar.specs.declared.words.HeaderWord.TheVariants as header
 use Rattle.session_grammar.specs.declared.words.Word.{Word}
 use Rattle.session_grammar.specs.declared.words.Word.TheVariants as word
 use Rattle.session_grammar.specs.Words.{word_of}
-use Rattle.session_grammar.specs.Grammar.{is_built, are_sizes, have_geometry, new_reading, none_told, sizes_taken, opened, form_told, journal_line, zones_line, volume_line, built_first, first_line, stands_in, has_threads, may_stand, told_number, stood_before, number_fits, with_number, number_taken, header_line, header_taken, with_thread, thread_taken, thread_line, with_call, call_taken, events_line, event_fits, with_event, event_taken, with_recover, recover_taken, line_taken, later_line, is_behind_events, read_words, read_one, header_of, script_read, ended_in, ended, session_of}
+use Rattle.session_grammar.specs.Grammar.{are_sizes, have_geometry, new_reading, none_told, sizes_taken, opened, form_told, journal_line, zones_line, volume_line, known_first, first_line, stands_in, has_threads, may_stand, told_number, stood_before, number_fits, with_number, number_taken, header_line, header_taken, with_thread, thread_taken, thread_line, with_call, call_taken, events_line, event_fits, with_event, event_taken, with_recover, recover_taken, line_taken, later_line, is_behind_events, read_words, read_one, header_of, script_read, ended_in, ended, session_of}
 use Rattle.session_grammar.specs.WellFormed.{all_calls, AreLinesOf}
-use Rattle.session_grammar.specs.laws.Speller.{volume_words, number_words, elevator_lines, thread_words, thread_lines, recover_words}
+use Rattle.session_grammar.specs.laws.Speller.{volume_words, number_words, number_lines, elevator_lines, thread_words, thread_lines, recover_words}
 use Rattle.session_grammar.specs.laws.Accepted.{is_header_line, IsHeaderOf, SayEvents, SaysSession}
 use Rattle.session_grammar.proofs.Forms.{said_form}
 use Rattle.session_grammar.proofs.Names.{number_name, IsNamed, named}
 use Rattle.session_grammar.proofs.Steps.{ok_under}
-use Rattle.session_grammar.proofs.HeaderRead.{limit_text, number_lines, apart, told_same, elevator_kept, told_beside, no_elevator_line, elevator_line, no_number_line, small_number, beginning-with, beginning-without, cut_as_number, flash_as_number}
+use Rattle.session_grammar.proofs.HeaderRead.{limit_text, apart, told_same, elevator_kept, told_beside, no_elevator_line, elevator_line, no_number_line, small_number, beginning-with, beginning-without}
 use Rattle.session_grammar.proofs.ThreadLines.{thread_lines-thread, thread_lines-call}
 use Rattle.session_grammar.proofs.WellFormed.{IsReadable, IsReadableSoFar, IsSplit, thread_stands, call_stands, event_stands, IsReadable-read_words, AreSizes-from}
 
@@ -100,6 +100,7 @@ begins_itself : (w : NumberWord) (n : ℕ) → begins (number_name w) (number_wo
 begins_itself numbers.Depth n = refl
 begins_itself numbers.Queue n = refl
 begins_itself numbers.Limit n = refl
+begins_itself numbers.Fail n = refl
 begins_itself numbers.Cut n = refl
 begins_itself numbers.Seed n = refl
 begins_itself numbers.Flash n = refl
@@ -108,6 +109,7 @@ header_line-number : (w : NumberWord) (n : ℕ) → is_header_line (number_words
 header_line-number numbers.Depth n = refl
 header_line-number numbers.Queue n = refl
 header_line-number numbers.Limit n = refl
+header_line-number numbers.Fail n = refl
 header_line-number numbers.Cut n = refl
 header_line-number numbers.Seed n = refl
 header_line-number numbers.Flash n = refl
@@ -219,7 +221,6 @@ Says-header_line r lines w header.Elevator [] t name h new here none is =
     (subst (λ x. Says (record r { told = record r.told { elevator = true } }) (lines ++ x ∷ [])) (sym said)
     (Says-told r lines elevator_line (record r.told { elevator = true }) here none is (SaysHeader-elevator r.told is.header new is.headed)))
 Says-header_line r lines w header.Elevator (u ∷ ws) t name h new here none is = cc
-Says-header_line r lines w header.Fail ws t name h new here none is = cc
 
 Says-header_taken : (r : Reading) (lines : List (List (List ℕ))) (l : List (List ℕ)) (read : Result HeaderSoFar ScriptKind) (next : Reading) → header_taken r read ≡ Ok next → ((t : HeaderSoFar) → read ≡ Ok t → Says (record r { told = t }) (lines ++ l ∷ [])) → Says next (lines ++ l ∷ [])
 Says-header_taken r lines l (Err kind) next h of = cc
@@ -442,11 +443,10 @@ not_stood false read y e h = refl
 Says-later_line : (r : Reading) (lines : List (List (List ℕ))) (line w : List ℕ) (o : Option Word) (ws : List (List ℕ)) (next : Reading) → words_of line ≡ w ∷ ws → word_of (is_behind_events r.section) w ≡ o → later_line r line o ws ≡ Ok next → IsReadable r → Says r lines → Says next (lines ++ (w ∷ ws) ∷ [])
 Says-later_line r lines line w None ws next cut known h readable is = cc
 Says-later_line r lines line w (Some v) ws next cut known h readable is =
-    let built = ok_past (is_built v) _ next _ h in
-    let placed = ok_past (may_stand r v) _ next _ built.1 in
+    let placed = ok_past (may_stand r v) _ next _ h in
     let new = not_stood (stood_before r.told v) _ next _ placed.1 in
     let read = ok_beside (stood_before r.told v) _ next _ placed.1 in
-    Says-line_taken r lines line w v ws next read (record { words = cut; named = named (is_behind_events r.section) w v known; built = built.0 }) placed.0 new readable is
+    Says-line_taken r lines line w v ws next read (record { words = cut; named = named (is_behind_events r.section) w v known }) placed.0 new readable is
 
 -- ---- the first line
 
@@ -454,6 +454,7 @@ none_said : (w : NumberWord) → [] ≡ number_lines (number_name w) (told_numbe
 none_said numbers.Depth = refl
 none_said numbers.Queue = refl
 none_said numbers.Limit = refl
+none_said numbers.Fail = refl
 none_said numbers.Cut = refl
 none_said numbers.Seed = refl
 none_said numbers.Flash = refl
@@ -523,21 +524,21 @@ Says-volume (i ∷ n ∷ ws) next h =
     let p = ok_under (bytes_eq i (codes "inodes")) (zones_line (numeral n) ws) next _ h in
     subst (λ x. Says next ((codes "volume" ∷ x ∷ n ∷ ws) ∷ [])) (sym ((bytes_eq-Decides i (codes "inodes")).0 p.0)) (Says-zones n ws next p.1)
 
-Says-built : (w : List ℕ) (v : Word) (ws : List (List ℕ)) (next : Reading) → IsNamed w v → built_first v ws ≡ Ok next → Says next ((w ∷ ws) ∷ [])
-Says-built w (word.First first.Volume) ws next name h = subst (λ x. Says next ((x ∷ ws) ∷ [])) (sym name) (Says-volume ws next h)
-Says-built w (word.First first.Device) ws next name h = cc
-Says-built w (word.First first.Blocks) ws next name h = cc
-Says-built w (word.Header v) ws next name h = cc
-Says-built w word.Put ws next name h = cc
-Says-built w word.Thread ws next name h = cc
-Says-built w word.Events ws next name h = cc
-Says-built w word.Recover ws next name h = cc
-Says-built w (word.Call v) ws next name h = cc
-Says-built w (word.Event v) ws next name h = cc
+Says-known : (w : List ℕ) (v : Word) (ws : List (List ℕ)) (next : Reading) → IsNamed w v → known_first v ws ≡ Ok next → Says next ((w ∷ ws) ∷ [])
+Says-known w (word.First first.Volume) ws next name h = subst (λ x. Says next ((x ∷ ws) ∷ [])) (sym name) (Says-volume ws next h)
+Says-known w (word.First first.Device) ws next name h = cc
+Says-known w (word.First first.Blocks) ws next name h = cc
+Says-known w (word.Header v) ws next name h = cc
+Says-known w word.Put ws next name h = cc
+Says-known w word.Thread ws next name h = cc
+Says-known w word.Events ws next name h = cc
+Says-known w word.Recover ws next name h = cc
+Says-known w (word.Call v) ws next name h = cc
+Says-known w (word.Event v) ws next name h = cc
 
 Says-first : (w : List ℕ) (o : Option Word) (ws : List (List ℕ)) (next : Reading) → word_of false w ≡ o → first_line o ws ≡ Ok next → Says next ((w ∷ ws) ∷ [])
 Says-first w None ws next e h = cc
-Says-first w (Some v) ws next e h = Says-built w v ws next (named false w v e) (ok_past (is_built v) _ next _ h).1
+Says-first w (Some v) ws next e h = Says-known w v ws next (named false w v e) h
 
 Says-words : (reading : Option Reading) (lines : List (List (List ℕ))) (line : List ℕ) (ws : List (List ℕ)) (next : Reading) → words_of line ≡ ws → read_words reading line ws ≡ Ok next → IsReadableSoFar reading → SaysSoFar reading lines → Says next (lines ++ ws ∷ [])
 Says-words reading lines line [] next cut h readable is = cc
@@ -556,8 +557,9 @@ IsHeaderOf-said t header is = record {
   queue = filled_number (codes "queue") (codes "32") DEFAULT_QUEUE t.queue (beginning (codes "queue") header) default_text (is.numbers numbers.Queue);
   limit = filled_number (codes "limit") (codes "20000") DEFAULT_LIMIT t.limit (beginning (codes "limit") header) limit_text (is.numbers numbers.Limit);
   seed = filled_number (codes "seed") (codes "1") DEFAULT_SEED t.seed (beginning (codes "seed") header) one_text (is.numbers numbers.Seed);
-  cut = is.numbers numbers.Cut ∙ sym (cut_as_number t.cut);
-  flash = is.numbers numbers.Flash ∙ sym (flash_as_number t.flash);
+  fail = is.numbers numbers.Fail;
+  cut = is.numbers numbers.Cut;
+  flash = is.numbers numbers.Flash;
   elevator = is.elevators;
   known = is.known;
 }

@@ -1,5 +1,5 @@
 -- What is written of a well-formed script says it, and is read back.
-use Rattle.std.proofs.Common.{◌≡◌, ℕ, ◌+◌, ◌^◌, ◌<◌, ◌≤◌, Bool, true, false, List, [], ◌∷◌, ◌++◌, length, take, drop, map, codes, Option, Some, None, Ok, refl, sym, subst, inl, inr, arith}
+use Rattle.std.proofs.Common.{◌≡◌, ℕ, ◌+◌, ◌^◌, ◌<◌, ◌≤◌, Bool, true, false, List, [], ◌∷◌, ◌++◌, length, take, drop, map, codes, Option, Some, None, Ok, refl, sym, ap, ◌∙◌, subst, inl, inr, arith}
 use Rattle.std.specs.List.{join_with_byte}
 use Rattle.blk_base.specs.Members.{In}
 use Rattle.blk_base.specs.laws.Members.{In-append_cases}
@@ -15,14 +15,16 @@ use Rattle.event_grammar.specs.WellFormed.{IsSteerLine}
 use Rattle.event_grammar.specs.laws.Speller.{event_line_words, steer_words}
 use Rattle.event_grammar.proofs.ClearLines.{AreClear-event, there-event, AreClear-steers}
 use Rattle.event_grammar.proofs.EventLaws.{SaysEvent-words}
+use Rattle.script_grammar.specs.laws.Accepted.{begins, beginning}
 use Rattle.session_grammar.specs.declared.session_script.SessionHeader.{SessionHeader}
 use Rattle.session_grammar.specs.declared.session_script.SessionScript.{SessionScript}
 use Rattle.session_grammar.specs.Grammar.{session_of}
 use Rattle.session_grammar.specs.WellFormed.{AreSizes, IsHeader, all_calls, AreLinesOf, IsEventOf, IsWellFormed}
-use Rattle.session_grammar.specs.laws.Speller.{names_words, tags_words, volume_words, number_words, cut_lines, flash_lines, elevator_lines, header_lines, thread_lines, recover_words, session_text}
+use Rattle.session_grammar.specs.laws.Speller.{names_words, tags_words, volume_words, number_words, number_lines, elevator_lines, header_lines, thread_lines, recover_words, session_text}
 use Rattle.session_grammar.specs.laws.Accepted.{is_header_line, IsHeaderOf, SayEvents, SaysSession}
 use Rattle.session_grammar.proofs.ReadsTo.{AreKept, kept_of-text}
 use Rattle.session_grammar.proofs.BodyRead.{AreLinesOf-front}
+use Rattle.session_grammar.proofs.HeaderRead.{elevator_line, beginning-with, beginning-without}
 use Rattle.session_grammar.proofs.Accepts.{session_of-SaysSession}
 
 -- ---- lines that are written are read again as they are
@@ -46,13 +48,9 @@ AreWritten-append (l ∷ ls) ms first second =
 number_written : (name : List ℕ) (n : ℕ) (ls : List (List (List ℕ))) → IsClear name → is_skipped (join_with_byte 32 (number_words name n)) ≡ false → n < 2 ^ 64 → AreWritten ls → AreWritten (number_words name n ∷ ls)
 number_written name n ls clear there lt are = AreWritten-line (number_words name n) ls (clear, (IsClear-decimal n lt, tt)) there are
 
-cut_written : (cut : Option ℕ) → ((n : ℕ) → cut ≡ Some n → n ≤ 1000000000) → AreWritten (cut_lines cut)
-cut_written None few = AreWritten-none
-cut_written (Some n) few = let most = few n refl in number_written (codes "cut") n [] (record { feed = refl; space = refl }) refl (omega (arith, most)) AreWritten-none
-
-flash_written : (flash : Option ℕ) → ((n : ℕ) → flash ≡ Some n → n ≤ 64) → AreWritten (flash_lines flash)
-flash_written None few = AreWritten-none
-flash_written (Some n) few = let most = few n refl in number_written (codes "flash") n [] (record { feed = refl; space = refl }) refl (omega (arith, most)) AreWritten-none
+number_lines_written : (name : List ℕ) (o : Option ℕ) → IsClear name → ((n : ℕ) → is_skipped (join_with_byte 32 (number_words name n)) ≡ false) → ((n : ℕ) → o ≡ Some n → n < 2 ^ 64) → AreWritten (number_lines name o)
+number_lines_written name None clear there small = AreWritten-none
+number_lines_written name (Some n) clear there small = number_written name n [] clear (there n) (small n refl) AreWritten-none
 
 elevator_written : (elevator : Bool) → AreWritten (elevator_lines elevator)
 elevator_written true = AreWritten-line (codes "elevator" ∷ []) [] (record { feed = refl; space = refl }, tt) refl AreWritten-none
@@ -68,8 +66,9 @@ header_written h is =
     (number_written (codes "queue") h.queue _ (record { feed = refl; space = refl }) refl (omega (arith, queue))
     (number_written (codes "limit") h.limit _ (record { feed = refl; space = refl }) refl (omega (arith, limit))
     (number_written (codes "seed") h.seed _ (record { feed = refl; space = refl }) refl (omega (arith, seed))
-    (AreWritten-append (cut_lines h.cut) (flash_lines h.flash ++ elevator_lines h.elevator) (cut_written h.cut is.cut)
-    (AreWritten-append (flash_lines h.flash) (elevator_lines h.elevator) (flash_written h.flash is.most_flash) (elevator_written h.elevator))))))
+    (AreWritten-append (number_lines (codes "fail") h.fail) _ (number_lines_written (codes "fail") h.fail (record { feed = refl; space = refl }) (λ n. refl) (λ n e. let most = is.most_fail n e in omega (arith, most)))
+    (AreWritten-append (number_lines (codes "cut") h.cut) _ (number_lines_written (codes "cut") h.cut (record { feed = refl; space = refl }) (λ n. refl) (λ n e. let most = is.cut n e in omega (arith, most)))
+    (AreWritten-append (number_lines (codes "flash") h.flash) (elevator_lines h.elevator) (number_lines_written (codes "flash") h.flash (record { feed = refl; space = refl }) (λ n. refl) (λ n e. let most = is.most_flash n e in omega (arith, most))) (elevator_written h.elevator)))))))
 
 calls_written : (ls : List (List ℕ)) (cs : List Call) → AreLinesOf ls cs → AreWritten (map words_of ls)
 calls_written [] [] are = AreWritten-none
@@ -135,15 +134,10 @@ session_written s well =
 
 -- ---- they say the script
 
-cut_known : (cut : Option ℕ) (l : List (List ℕ)) → In l (cut_lines cut) → is_header_line l ≡ true
-cut_known None l h = absurd h
-cut_known (Some n) l (inl e) = subst (λ x. is_header_line x ≡ true) e refl
-cut_known (Some n) l (inr h) = absurd h
-
-flash_known : (flash : Option ℕ) (l : List (List ℕ)) → In l (flash_lines flash) → is_header_line l ≡ true
-flash_known None l h = absurd h
-flash_known (Some n) l (inl e) = subst (λ x. is_header_line x ≡ true) e refl
-flash_known (Some n) l (inr h) = absurd h
+number_known : (name : List ℕ) (o : Option ℕ) (l : List (List ℕ)) → ((n : ℕ) → is_header_line (number_words name n) ≡ true) → In l (number_lines name o) → is_header_line l ≡ true
+number_known name None l known h = absurd h
+number_known name (Some n) l known (inl e) = subst (λ x. is_header_line x ≡ true) e (known n)
+number_known name (Some n) l known (inr h) = absurd h
 
 elevator_known : (elevator : Bool) (l : List (List ℕ)) → In l (elevator_lines elevator) → is_header_line l ≡ true
 elevator_known false l h = absurd h
@@ -156,26 +150,61 @@ header_known h l (inr (inl e)) = subst (λ x. is_header_line x ≡ true) e refl
 header_known h l (inr (inr (inl e))) = subst (λ x. is_header_line x ≡ true) e refl
 header_known h l (inr (inr (inr (inl e)))) = subst (λ x. is_header_line x ≡ true) e refl
 header_known h l (inr (inr (inr (inr rest)))) =
-    elim (In-append_cases (cut_lines h.cut) (flash_lines h.flash ++ elevator_lines h.elevator) l rest) [
-      | inl i ↦ cut_known h.cut l i
-      | inr more ↦ elim (In-append_cases (flash_lines h.flash) (elevator_lines h.elevator) l more) [
-        | inl i ↦ flash_known h.flash l i
-        | inr i ↦ elevator_known h.elevator l i
+    elim (In-append_cases (number_lines (codes "fail") h.fail) (number_lines (codes "cut") h.cut ++ (number_lines (codes "flash") h.flash ++ elevator_lines h.elevator)) l rest) [
+      | inl i ↦ number_known (codes "fail") h.fail l (λ n. refl) i
+      | inr more ↦ elim (In-append_cases (number_lines (codes "cut") h.cut) (number_lines (codes "flash") h.flash ++ elevator_lines h.elevator) l more) [
+        | inl i ↦ number_known (codes "cut") h.cut l (λ n. refl) i
+        | inr others ↦ elim (In-append_cases (number_lines (codes "flash") h.flash) (elevator_lines h.elevator) l others) [
+          | inl i ↦ number_known (codes "flash") h.flash l (λ n. refl) i
+          | inr i ↦ elevator_known h.elevator l i
+        ]
       ]
     ]
 
-abbrev header_with : ℕ → ℕ → ℕ → ℕ → Option ℕ → Option ℕ → Bool → SessionHeader
-header_with depth queue limit seed cut flash elevator = record { depth = depth; queue = queue; limit = limit; cut = cut; seed = seed; flash = flash; elevator = elevator }
+-- the lines of a word, where those behind say nothing of it
+alone : (w : List ℕ) (o : Option ℕ) (rest : List (List (List ℕ))) → ((n : ℕ) → begins w (number_words w n) ≡ true) → beginning w rest ≡ [] → beginning w (number_lines w o ++ rest) ≡ number_lines w o
+alone w None rest itself none = none
+alone w (Some n) rest itself none = beginning-with w (number_words w n) rest (itself n) ∙ ap (λ x. number_words w n ∷ x) none
 
-header_said : (depth queue limit seed : ℕ) (cut flash : Option ℕ) (elevator : Bool) → IsHeaderOf (header_with depth queue limit seed cut flash elevator) (header_lines (header_with depth queue limit seed cut flash elevator))
-header_said depth queue limit seed None None true = record { depth = refl; queue = refl; limit = refl; seed = refl; cut = refl; flash = refl; elevator = refl; known = header_known (header_with depth queue limit seed None None true) }
-header_said depth queue limit seed None None false = record { depth = refl; queue = refl; limit = refl; seed = refl; cut = refl; flash = refl; elevator = refl; known = header_known (header_with depth queue limit seed None None false) }
-header_said depth queue limit seed None (Some f) true = record { depth = refl; queue = refl; limit = refl; seed = refl; cut = refl; flash = refl; elevator = refl; known = header_known (header_with depth queue limit seed None (Some f) true) }
-header_said depth queue limit seed None (Some f) false = record { depth = refl; queue = refl; limit = refl; seed = refl; cut = refl; flash = refl; elevator = refl; known = header_known (header_with depth queue limit seed None (Some f) false) }
-header_said depth queue limit seed (Some c) None true = record { depth = refl; queue = refl; limit = refl; seed = refl; cut = refl; flash = refl; elevator = refl; known = header_known (header_with depth queue limit seed (Some c) None true) }
-header_said depth queue limit seed (Some c) None false = record { depth = refl; queue = refl; limit = refl; seed = refl; cut = refl; flash = refl; elevator = refl; known = header_known (header_with depth queue limit seed (Some c) None false) }
-header_said depth queue limit seed (Some c) (Some f) true = record { depth = refl; queue = refl; limit = refl; seed = refl; cut = refl; flash = refl; elevator = refl; known = header_known (header_with depth queue limit seed (Some c) (Some f) true) }
-header_said depth queue limit seed (Some c) (Some f) false = record { depth = refl; queue = refl; limit = refl; seed = refl; cut = refl; flash = refl; elevator = refl; known = header_known (header_with depth queue limit seed (Some c) (Some f) false) }
+-- lines of another word say nothing of it
+beside : (w name : List ℕ) (o : Option ℕ) (rest lines : List (List (List ℕ))) → ((n : ℕ) → begins w (number_words name n) ≡ false) → beginning w rest ≡ lines → beginning w (number_lines name o ++ rest) ≡ lines
+beside w name None rest lines other said = said
+beside w name (Some n) rest lines other said = beginning-without w (number_words name n) rest (other n) ∙ said
+
+no_elevator : (w : List ℕ) (elevator : Bool) → begins w elevator_line ≡ false → beginning w (elevator_lines elevator) ≡ []
+no_elevator w true other = beginning-without w elevator_line [] other
+no_elevator w false other = refl
+
+own_elevator : (elevator : Bool) → beginning (codes "elevator") (elevator_lines elevator) ≡ elevator_lines elevator
+own_elevator true = refl
+own_elevator false = refl
+
+-- no line that may be missing is one of these words
+none_missing : (h : SessionHeader) (w : List ℕ) → ((n : ℕ) → begins w (number_words (codes "fail") n) ≡ false) → ((n : ℕ) → begins w (number_words (codes "cut") n) ≡ false) → ((n : ℕ) → begins w (number_words (codes "flash") n) ≡ false) → begins w elevator_line ≡ false
+    → beginning w (number_lines (codes "fail") h.fail ++ (number_lines (codes "cut") h.cut ++ (number_lines (codes "flash") h.flash ++ elevator_lines h.elevator))) ≡ []
+none_missing h w fail cut flash elevator =
+    beside w (codes "fail") h.fail _ [] fail (beside w (codes "cut") h.cut _ [] cut (beside w (codes "flash") h.flash _ [] flash (no_elevator w h.elevator elevator)))
+
+header_said : (h : SessionHeader) → IsHeaderOf h (header_lines h)
+header_said h = record {
+  depth = ap (λ x. number_words (codes "depth") h.depth ∷ x) (none_missing h (codes "depth") (λ n. refl) (λ n. refl) (λ n. refl) refl);
+  queue = ap (λ x. number_words (codes "queue") h.queue ∷ x) (none_missing h (codes "queue") (λ n. refl) (λ n. refl) (λ n. refl) refl);
+  limit = ap (λ x. number_words (codes "limit") h.limit ∷ x) (none_missing h (codes "limit") (λ n. refl) (λ n. refl) (λ n. refl) refl);
+  seed = ap (λ x. number_words (codes "seed") h.seed ∷ x) (none_missing h (codes "seed") (λ n. refl) (λ n. refl) (λ n. refl) refl);
+  fail =
+      alone (codes "fail") h.fail _ (λ n. refl)
+      (beside (codes "fail") (codes "cut") h.cut _ [] (λ n. refl) (beside (codes "fail") (codes "flash") h.flash _ [] (λ n. refl) (no_elevator (codes "fail") h.elevator refl)));
+  cut =
+      beside (codes "cut") (codes "fail") h.fail _ (number_lines (codes "cut") h.cut) (λ n. refl)
+      (alone (codes "cut") h.cut _ (λ n. refl) (beside (codes "cut") (codes "flash") h.flash _ [] (λ n. refl) (no_elevator (codes "cut") h.elevator refl)));
+  flash =
+      beside (codes "flash") (codes "fail") h.fail _ (number_lines (codes "flash") h.flash) (λ n. refl)
+      (beside (codes "flash") (codes "cut") h.cut _ (number_lines (codes "flash") h.flash) (λ n. refl) (alone (codes "flash") h.flash _ (λ n. refl) (no_elevator (codes "flash") h.elevator refl)));
+  elevator =
+      beside (codes "elevator") (codes "fail") h.fail _ (elevator_lines h.elevator) (λ n. refl)
+      (beside (codes "elevator") (codes "cut") h.cut _ (elevator_lines h.elevator) (λ n. refl) (beside (codes "elevator") (codes "flash") h.flash _ (elevator_lines h.elevator) (λ n. refl) (own_elevator h.elevator)));
+  known = header_known h;
+}
 
 events_said : (es : List EventLine) (threads : ℕ) → ((e : EventLine) → In e es → IsEventOf threads e) → SayEvents es (map event_line_words es)
 events_said [] threads are = tt
@@ -186,7 +215,7 @@ SaysSession-written s well = record {
   header = header_lines s.header;
   events = map event_line_words s.events;
   whole = refl;
-  headed = header_said s.header.depth s.header.queue s.header.limit s.header.seed s.header.cut s.header.flash s.header.elevator;
+  headed = header_said s.header;
   said = events_said s.events (length s.programs) well.events;
 }
 

@@ -12,7 +12,7 @@ use Rattle.tree_model.specs.declared.call.Call.{Call}
 use Rattle.script_words.specs.declared.line_error.LineFault.{LineFault}
 use Rattle.script_words.specs.Spelling.{numeral, words_of, lines_of}
 use Rattle.script_words.proofs.KeptLines.{said}
-use Rattle.script_grammar.specs.declared.limits.TheConstants.{FEWEST_SEGMENTS, MOST_DEPTH, MOST_QUEUE, MOST_SEGMENTS, MOST_STEPS}
+use Rattle.script_grammar.specs.declared.limits.TheConstants.{FEWEST_SEGMENTS, MOST_DEPTH, MOST_QUEUE, MOST_SEGMENTS, MOST_STEPS, MOST_TRANSFERS}
 use Rattle.script_grammar.specs.declared.kinds.ScriptKind.{ScriptKind}
 use Rattle.script_grammar.specs.declared.script_error.ScriptError.{ScriptError}
 use Rattle.script_grammar.specs.code.Readers.{IsTextReadAs}
@@ -49,7 +49,7 @@ use Rattle.session_grammar.specs.declared.words.HeaderWord.TheVariants as header
 use Rattle.session_grammar.specs.declared.words.Word.{Word}
 use Rattle.session_grammar.specs.declared.words.Word.TheVariants as word
 use Rattle.session_grammar.specs.Words.{word_of}
-use Rattle.session_grammar.specs.Grammar.{is_built, are_sizes, have_geometry, new_reading, none_told, sizes_taken, opened, form_told, journal_line, zones_line, volume_line, built_first, first_line, is_submit, stands_in, has_threads, may_stand, stood_before, number_fits, with_number, number_taken, header_line, header_taken, with_thread, thread_taken, thread_line, with_call, call_taken, events_line, names_thread, weight, event_fits, with_event, event_taken, with_recover, recover_taken, line_taken, later_line, is_behind_events, read_words, read_one, header_of, script_read, ended_in, ended, read_from, session_of}
+use Rattle.session_grammar.specs.Grammar.{are_sizes, have_geometry, new_reading, none_told, sizes_taken, opened, form_told, journal_line, zones_line, volume_line, known_first, first_line, is_submit, stands_in, has_threads, may_stand, stood_before, number_fits, with_number, number_taken, header_line, header_taken, with_thread, thread_taken, thread_line, with_call, call_taken, events_line, names_thread, weight, event_fits, with_event, event_taken, with_recover, recover_taken, line_taken, later_line, is_behind_events, read_words, read_one, header_of, script_read, ended_in, ended, read_from, session_of}
 use Rattle.session_grammar.specs.WellFormed.{AreSizes, IsHeader, all_calls, IsLineOf, AreLinesOf, IsEventOf, expanded_of, IsWellFormed}
 use Rattle.session_grammar.proofs.Forms.{IsWidth-told}
 use Rattle.session_grammar.proofs.Names.{IsNamed, named}
@@ -109,18 +109,36 @@ event_stands sections.Recovery threads w h = cc
 IsHeader-number : (t : HeaderSoFar) (w : NumberWord) (n : ℕ) → number_fits w n ≡ true → IsHeader (header_of t) → IsHeader (header_of (with_number t w n))
 IsHeader-number t numbers.Depth n h is =
     let p = and_parts (nat_le 1 n) (nat_le n MOST_DEPTH) h in
-    record { some_depth = leb-true 1 n p.0; depth = leb-true n MOST_DEPTH p.1; some_queue = is.some_queue; queue = is.queue; some_limit = is.some_limit; limit = is.limit; cut = is.cut; seed = is.seed; least_flash = is.least_flash; most_flash = is.most_flash }
+    record { some_depth = leb-true 1 n p.0; depth = leb-true n MOST_DEPTH p.1; some_queue = is.some_queue; queue = is.queue; some_limit = is.some_limit; limit = is.limit; least_fail = is.least_fail; most_fail = is.most_fail; cut = is.cut; seed = is.seed; least_flash = is.least_flash; most_flash = is.most_flash }
 IsHeader-number t numbers.Queue n h is =
     let p = and_parts (nat_le 1 n) (nat_le n MOST_QUEUE) h in
-    record { some_depth = is.some_depth; depth = is.depth; some_queue = leb-true 1 n p.0; queue = leb-true n MOST_QUEUE p.1; some_limit = is.some_limit; limit = is.limit; cut = is.cut; seed = is.seed; least_flash = is.least_flash; most_flash = is.most_flash }
+    record { some_depth = is.some_depth; depth = is.depth; some_queue = leb-true 1 n p.0; queue = leb-true n MOST_QUEUE p.1; some_limit = is.some_limit; limit = is.limit; least_fail = is.least_fail; most_fail = is.most_fail; cut = is.cut; seed = is.seed; least_flash = is.least_flash; most_flash = is.most_flash }
 IsHeader-number t numbers.Limit n h is =
     let p = and_parts (nat_le 1 n) (nat_le n MOST_SESSION) h in
-    record { some_depth = is.some_depth; depth = is.depth; some_queue = is.some_queue; queue = is.queue; some_limit = leb-true 1 n p.0; limit = leb-true n MOST_SESSION p.1; cut = is.cut; seed = is.seed; least_flash = is.least_flash; most_flash = is.most_flash }
+    record { some_depth = is.some_depth; depth = is.depth; some_queue = is.some_queue; queue = is.queue; some_limit = leb-true 1 n p.0; limit = leb-true n MOST_SESSION p.1; least_fail = is.least_fail; most_fail = is.most_fail; cut = is.cut; seed = is.seed; least_flash = is.least_flash; most_flash = is.most_flash }
+IsHeader-number t numbers.Fail n h is =
+    let p = and_parts (nat_le 1 n) (nat_le n MOST_TRANSFERS) h in
+    let least = leb-true 1 n p.0 in
+    let most = leb-true n MOST_TRANSFERS p.1 in
+    record {
+      some_depth = is.some_depth;
+      depth = is.depth;
+      some_queue = is.some_queue;
+      queue = is.queue;
+      some_limit = is.some_limit;
+      limit = is.limit;
+      least_fail = λ m e. let same = same_Some n m e in omega (arith, least, same);
+      most_fail = λ m e. let same = same_Some n m e in omega (arith, most, same);
+      cut = is.cut;
+      seed = is.seed;
+      least_flash = is.least_flash;
+      most_flash = is.most_flash;
+    }
 IsHeader-number t numbers.Cut n h is =
     let most = leb-true n MOST_STEPS h in
-    record { some_depth = is.some_depth; depth = is.depth; some_queue = is.some_queue; queue = is.queue; some_limit = is.some_limit; limit = is.limit; cut = λ m e. let same = same_Some n m e in omega (arith, most, same); seed = is.seed; least_flash = is.least_flash; most_flash = is.most_flash }
+    record { some_depth = is.some_depth; depth = is.depth; some_queue = is.some_queue; queue = is.queue; some_limit = is.some_limit; limit = is.limit; least_fail = is.least_fail; most_fail = is.most_fail; cut = λ m e. let same = same_Some n m e in omega (arith, most, same); seed = is.seed; least_flash = is.least_flash; most_flash = is.most_flash }
 IsHeader-number t numbers.Seed n h is =
-    record { some_depth = is.some_depth; depth = is.depth; some_queue = is.some_queue; queue = is.queue; some_limit = is.some_limit; limit = is.limit; cut = is.cut; seed = leb-true n MOST_SEED h; least_flash = is.least_flash; most_flash = is.most_flash }
+    record { some_depth = is.some_depth; depth = is.depth; some_queue = is.some_queue; queue = is.queue; some_limit = is.some_limit; limit = is.limit; least_fail = is.least_fail; most_fail = is.most_fail; cut = is.cut; seed = leb-true n MOST_SEED h; least_flash = is.least_flash; most_flash = is.most_flash }
 IsHeader-number t numbers.Flash n h is =
     let p = and_parts (nat_le FEWEST_SEGMENTS n) (nat_le n MOST_SEGMENTS) h in
     let least = leb-true FEWEST_SEGMENTS n p.0 in
@@ -132,6 +150,8 @@ IsHeader-number t numbers.Flash n h is =
       queue = is.queue;
       some_limit = is.some_limit;
       limit = is.limit;
+      least_fail = is.least_fail;
+      most_fail = is.most_fail;
       cut = is.cut;
       seed = is.seed;
       least_flash = λ m e. let same = same_Some n m e in omega (arith, least, same);
@@ -145,7 +165,7 @@ IsHeader-taken t w (Some n) next h is =
     subst (λ x. IsHeader (header_of x)) p.1 (IsHeader-number t w n p.0 is)
 
 IsHeader-elevator : (t : HeaderSoFar) → IsHeader (header_of t) → IsHeader (header_of (record t { elevator = true }))
-IsHeader-elevator t is = record { some_depth = is.some_depth; depth = is.depth; some_queue = is.some_queue; queue = is.queue; some_limit = is.some_limit; limit = is.limit; cut = is.cut; seed = is.seed; least_flash = is.least_flash; most_flash = is.most_flash }
+IsHeader-elevator t is = record { some_depth = is.some_depth; depth = is.depth; some_queue = is.some_queue; queue = is.queue; some_limit = is.some_limit; limit = is.limit; least_fail = is.least_fail; most_fail = is.most_fail; cut = is.cut; seed = is.seed; least_flash = is.least_flash; most_flash = is.most_flash }
 
 IsHeader-line : (t : HeaderSoFar) (w : HeaderWord) (ws : List (List ℕ)) (next : HeaderSoFar) → header_line t w ws ≡ Ok next → IsHeader (header_of t) → IsHeader (header_of next)
 IsHeader-line t (header.Number w) [] next h is = cc
@@ -155,7 +175,6 @@ IsHeader-line t header.Elevator [] next h is =
     let e : record t { elevator = true } ≡ next = cc in
     subst (λ x. IsHeader (header_of x)) e (IsHeader-elevator t is)
 IsHeader-line t header.Elevator (w ∷ ws) next h is = cc
-IsHeader-line t header.Fail ws next h is = cc
 
 IsReadable-header : (r : Reading) (read : Result HeaderSoFar ScriptKind) (next : Reading) → header_taken r read ≡ Ok next → ((t : HeaderSoFar) → read ≡ Ok t → IsHeader (header_of t)) → IsReadable r → IsReadable next
 IsReadable-header r (Err kind) next h of is = cc
@@ -297,7 +316,6 @@ IsReadable-recover_taken r ws (Ok ss) next e h is =
 pub record IsSplit (line w : List ℕ) (v : Word) (ws : List (List ℕ)) : Type 0 where
   pub words : words_of line ≡ w ∷ ws
   pub named : IsNamed w v
-  pub built : is_built v ≡ true
 
 said_call : (line w : List ℕ) (v : CallWord) (ws : List (List ℕ)) (c : Call) → IsSplit line w (word.Call v) ws → call_of v ws ≡ Ok c → IsLineOf line c
 said_call line w v ws c split h =
@@ -330,10 +348,9 @@ IsReadable-line_taken r line w word.Recover ws next h split stands is =
 pub IsReadable-later_line : (r : Reading) (line w : List ℕ) (o : Option Word) (ws : List (List ℕ)) (next : Reading) → words_of line ≡ w ∷ ws → word_of (is_behind_events r.section) w ≡ o → later_line r line o ws ≡ Ok next → IsReadable r → IsReadable next
 IsReadable-later_line r line w None ws next cut known h is = cc
 IsReadable-later_line r line w (Some v) ws next cut known h is =
-    let built = ok_past (is_built v) _ next _ h in
-    let placed = ok_past (may_stand r v) _ next _ built.1 in
+    let placed = ok_past (may_stand r v) _ next _ h in
     let read = ok_beside (stood_before r.told v) _ next _ placed.1 in
-    IsReadable-line_taken r line w v ws next read (record { words = cut; named = named (is_behind_events r.section) w v known; built = built.0 }) placed.0 is
+    IsReadable-line_taken r line w v ws next read (record { words = cut; named = named (is_behind_events r.section) w v known }) placed.0 is
 
 -- ---- the first line
 
@@ -362,6 +379,8 @@ IsHeader-none = record {
   queue = lit≤ tt;
   some_limit = lit≤ tt;
   limit = lit≤ tt;
+  least_fail = λ n e. absurd (none-some n e);
+  most_fail = λ n e. absurd (none-some n e);
   cut = λ n e. absurd (none-some n e);
   seed = lit≤ tt;
   least_flash = λ n e. absurd (none-some n e);
@@ -411,21 +430,21 @@ IsReadable-volume_line (i ∷ []) next h = cc
 IsReadable-volume_line (i ∷ n ∷ ws) next h =
     IsReadable-zones_line (numeral n) ws next (ok_under (bytes_eq i (codes "inodes")) (zones_line (numeral n) ws) next _ h).1
 
-IsReadable-built_first : (w : Word) (ws : List (List ℕ)) (next : Reading) → built_first w ws ≡ Ok next → IsReadable next
-IsReadable-built_first (word.First first.Device) ws next h = cc
-IsReadable-built_first (word.First first.Blocks) ws next h = cc
-IsReadable-built_first (word.First first.Volume) ws next h = IsReadable-volume_line ws next h
-IsReadable-built_first (word.Header w) ws next h = cc
-IsReadable-built_first word.Put ws next h = cc
-IsReadable-built_first word.Thread ws next h = cc
-IsReadable-built_first word.Events ws next h = cc
-IsReadable-built_first word.Recover ws next h = cc
-IsReadable-built_first (word.Call w) ws next h = cc
-IsReadable-built_first (word.Event w) ws next h = cc
+IsReadable-known_first : (w : Word) (ws : List (List ℕ)) (next : Reading) → known_first w ws ≡ Ok next → IsReadable next
+IsReadable-known_first (word.First first.Device) ws next h = cc
+IsReadable-known_first (word.First first.Blocks) ws next h = cc
+IsReadable-known_first (word.First first.Volume) ws next h = IsReadable-volume_line ws next h
+IsReadable-known_first (word.Header w) ws next h = cc
+IsReadable-known_first word.Put ws next h = cc
+IsReadable-known_first word.Thread ws next h = cc
+IsReadable-known_first word.Events ws next h = cc
+IsReadable-known_first word.Recover ws next h = cc
+IsReadable-known_first (word.Call w) ws next h = cc
+IsReadable-known_first (word.Event w) ws next h = cc
 
 pub IsReadable-first_line : (w : Option Word) (ws : List (List ℕ)) (next : Reading) → first_line w ws ≡ Ok next → IsReadable next
 IsReadable-first_line None ws next h = cc
-IsReadable-first_line (Some w) ws next h = IsReadable-built_first w ws next (ok_past (is_built w) _ next _ h).1
+IsReadable-first_line (Some w) ws next h = IsReadable-known_first w ws next h
 
 pub IsReadable-read_words : (reading : Option Reading) (line : List ℕ) (ws : List (List ℕ)) (next : Reading) → words_of line ≡ ws → read_words reading line ws ≡ Ok next → IsReadableSoFar reading → IsReadable next
 IsReadable-read_words reading line [] next cut h is = cc

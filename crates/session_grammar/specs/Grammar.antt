@@ -7,7 +7,7 @@ use Rattle.script_words.specs.declared.line_error.LineFault.{LineFault}
 use Rattle.script_words.specs.declared.line_error.LineFault.TheVariants as faults
 use Rattle.script_words.specs.Spelling.{lines_of, words_of, numeral}
 use Rattle.script_words.specs.LineByLine.{line_read, lines_read}
-use Rattle.script_grammar.specs.declared.limits.TheConstants.{DEFAULT_DEPTH, DEFAULT_QUEUE, FEWEST_SEGMENTS, MOST_DEPTH, MOST_QUEUE, MOST_SEGMENTS, MOST_STEPS}
+use Rattle.script_grammar.specs.declared.limits.TheConstants.{DEFAULT_DEPTH, DEFAULT_QUEUE, FEWEST_SEGMENTS, MOST_DEPTH, MOST_QUEUE, MOST_SEGMENTS, MOST_STEPS, MOST_TRANSFERS}
 use Rattle.script_grammar.specs.declared.kinds.ScriptKind.{ScriptKind}
 use Rattle.script_grammar.specs.declared.kinds.ScriptKind.TheVariants as kinds
 use Rattle.call_grammar.specs.CallLines.{call_of}
@@ -41,11 +41,6 @@ use Rattle.session_grammar.specs.declared.words.Word.{Word}
 use Rattle.session_grammar.specs.declared.words.Word.TheVariants as word
 use Rattle.session_grammar.specs.Words.{word_of}
 
--- forms of lines that are not built yet
-abbrev pub is_built : Word → Bool
-is_built (word.Header header.Fail) = false
-is_built w = true
-
 -- what is wrong with the words of a line is the fault of the line
 abbrev pub kind_of : LineFault → ScriptKind
 kind_of faults.Spelling = kinds.Word
@@ -64,7 +59,7 @@ have_geometry inodes zones journal =
     nat_lt (first_zone inodes zones) zones && (nat_le LEAST_JOURNAL journal && nat_le journal MOST_JOURNAL)
 
 abbrev pub none_told : HeaderSoFar
-none_told = record { depth = None; queue = None; limit = None; cut = None; seed = None; flash = None; elevator = false }
+none_told = record { depth = None; queue = None; limit = None; fail = None; cut = None; seed = None; flash = None; elevator = false }
 
 abbrev pub new_reading : ℕ → ℕ → ℕ → VolumeForm → Reading
 new_reading inodes zones journal form = record { inodes = inodes; zones = zones; journal = journal; width = form.width; wide = form.wide; told = none_told; section = sections.Opening; programs = []; lines = []; events = []; expanded = 0; recovers = [] }
@@ -109,15 +104,15 @@ abbrev pub volume_line : List (List ℕ) → Result Reading ScriptKind
 volume_line (i ∷ n ∷ ws) = if bytes_eq i (codes "inodes") then zones_line (numeral n) ws else Err kinds.Word
 volume_line ws = Err kinds.Word
 
--- a first line whose form is built
-abbrev pub built_first : Word → List (List ℕ) → Result Reading ScriptKind
-built_first (word.First first.Volume) ws = volume_line ws
-built_first w ws = Err kinds.Order
+-- a first line whose word is known
+abbrev pub known_first : Word → List (List ℕ) → Result Reading ScriptKind
+known_first (word.First first.Volume) ws = volume_line ws
+known_first w ws = Err kinds.Order
 
 -- the first line, by the order of its faults
 abbrev pub first_line : Option Word → List (List ℕ) → Result Reading ScriptKind
 first_line None ws = Err kinds.Word
-first_line (Some w) ws = if not (is_built w) then Err kinds.NotBuilt else built_first w ws
+first_line (Some w) ws = known_first w ws
 
 -- ---- where the other lines may stand
 
@@ -148,6 +143,7 @@ abbrev pub told_number : HeaderSoFar → NumberWord → Option ℕ
 told_number t numbers.Depth = t.depth
 told_number t numbers.Queue = t.queue
 told_number t numbers.Limit = t.limit
+told_number t numbers.Fail = t.fail
 told_number t numbers.Cut = t.cut
 told_number t numbers.Seed = t.seed
 told_number t numbers.Flash = t.flash
@@ -164,6 +160,7 @@ abbrev pub number_fits : NumberWord → ℕ → Bool
 number_fits numbers.Depth n = nat_le 1 n && nat_le n MOST_DEPTH
 number_fits numbers.Queue n = nat_le 1 n && nat_le n MOST_QUEUE
 number_fits numbers.Limit n = nat_le 1 n && nat_le n MOST_SESSION
+number_fits numbers.Fail n = nat_le 1 n && nat_le n MOST_TRANSFERS
 number_fits numbers.Cut n = nat_le n MOST_STEPS
 number_fits numbers.Seed n = nat_le n MOST_SEED
 number_fits numbers.Flash n = nat_le FEWEST_SEGMENTS n && nat_le n MOST_SEGMENTS
@@ -172,6 +169,7 @@ abbrev pub with_number : HeaderSoFar → NumberWord → ℕ → HeaderSoFar
 with_number t numbers.Depth n = record t { depth = Some n }
 with_number t numbers.Queue n = record t { queue = Some n }
 with_number t numbers.Limit n = record t { limit = Some n }
+with_number t numbers.Fail n = record t { fail = Some n }
 with_number t numbers.Cut n = record t { cut = Some n }
 with_number t numbers.Seed n = record t { seed = Some n }
 with_number t numbers.Flash n = record t { flash = Some n }
@@ -277,8 +275,7 @@ line_taken r line word.Put ws = Err kinds.Order
 abbrev pub later_line : Reading → List ℕ → Option Word → List (List ℕ) → Result Reading ScriptKind
 later_line r line None ws = Err kinds.Word
 later_line r line (Some w) ws =
-    if not (is_built w) then Err kinds.NotBuilt
-    else if not (may_stand r w) then Err kinds.Order
+    if not (may_stand r w) then Err kinds.Order
     else if stood_before r.told w then Err kinds.Twice
     else line_taken r line w ws
 
@@ -304,7 +301,7 @@ abbrev pub read_line : ℕ → Option Reading → List ℕ → Result (Option Re
 read_line n reading l = line_read read_one n reading l
 
 abbrev pub header_of : HeaderSoFar → SessionHeader
-header_of t = record { depth = unwrap_or t.depth DEFAULT_DEPTH; queue = unwrap_or t.queue DEFAULT_QUEUE; limit = unwrap_or t.limit DEFAULT_LIMIT; cut = t.cut; seed = unwrap_or t.seed DEFAULT_SEED; flash = t.flash; elevator = t.elevator }
+header_of t = record { depth = unwrap_or t.depth DEFAULT_DEPTH; queue = unwrap_or t.queue DEFAULT_QUEUE; limit = unwrap_or t.limit DEFAULT_LIMIT; fail = t.fail; cut = t.cut; seed = unwrap_or t.seed DEFAULT_SEED; flash = t.flash; elevator = t.elevator }
 
 abbrev pub script_read : Reading → SessionScript
 script_read r = record { inodes = r.inodes; zones = r.zones; journal = r.journal; width = r.width; wide = r.wide; header = header_of r.told; programs = r.programs; lines = r.lines; events = r.events; recovers = r.recovers }

@@ -5,7 +5,7 @@ use Rattle.minix_layout.specs.Widths.{IsWidth}
 use Rattle.minix_layout.specs.Words.{first_zone}
 use Rattle.tree_model.specs.declared.call.Call.{Call}
 use Rattle.script_words.specs.Spelling.{words_of}
-use Rattle.script_grammar.specs.declared.limits.TheConstants.{FEWEST_SEGMENTS, MOST_DEPTH, MOST_QUEUE, MOST_SEGMENTS, MOST_STEPS}
+use Rattle.script_grammar.specs.declared.limits.TheConstants.{FEWEST_SEGMENTS, MOST_DEPTH, MOST_QUEUE, MOST_SEGMENTS, MOST_STEPS, MOST_TRANSFERS}
 use Rattle.call_grammar.specs.WellFormed as call
 use Rattle.call_grammar.specs.laws.Speller as call_speller
 use Rattle.event_grammar.specs.declared.event.CoreEvent.{CoreEvent}
@@ -38,6 +38,8 @@ pub record IsHeader (h : SessionHeader) : Type 0 where
   pub queue : h.queue ≤ MOST_QUEUE
   pub some_limit : 1 ≤ h.limit
   pub limit : h.limit ≤ MOST_SESSION
+  pub least_fail : (n : ℕ) → h.fail ≡ Some n → 1 ≤ n
+  pub most_fail : (n : ℕ) → h.fail ≡ Some n → n ≤ MOST_TRANSFERS
   pub cut : (n : ℕ) → h.cut ≡ Some n → n ≤ MOST_STEPS
   pub seed : h.seed ≤ MOST_SEED
   pub least_flash : (n : ℕ) → h.flash ≡ Some n → FEWEST_SEGMENTS ≤ n

@@ -17,16 +17,14 @@ number_word w =
     if bytes_eq w (codes "depth") then Some numbers.Depth
     else if bytes_eq w (codes "queue") then Some numbers.Queue
     else if bytes_eq w (codes "limit") then Some numbers.Limit
+    else if bytes_eq w (codes "fail") then Some numbers.Fail
     else if bytes_eq w (codes "cut") then Some numbers.Cut
     else if bytes_eq w (codes "seed") then Some numbers.Seed
     else if bytes_eq w (codes "flash") then Some numbers.Flash
     else None
 
 abbrev pub other_header : List ℕ → Option HeaderWord
-other_header w =
-    if bytes_eq w (codes "elevator") then Some header.Elevator
-    else if bytes_eq w (codes "fail") then Some header.Fail
-    else None
+other_header w = if bytes_eq w (codes "elevator") then Some header.Elevator else None
 
 abbrev pub header_word : List ℕ → Option HeaderWord
 header_word w = option_or (option_map header.Number (number_word w)) (other_header w)

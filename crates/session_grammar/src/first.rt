@@ -1,26 +1,16 @@
 //! The first line of a volume script.
 ghost use Rattle.std.specs.Prelude.{◌≡◌, ◌≢◌, map};
-ghost use Rattle.session_grammar.specs.Grammar.{is_built, are_sizes, have_geometry, none_told, new_reading, opened, sizes_taken, form_with, form_told, wide_told, journal_line, zones_line, volume_line, built_first, first_line};
+ghost use Rattle.session_grammar.specs.Grammar.{are_sizes, have_geometry, none_told, new_reading, opened, sizes_taken, form_with, form_told, wide_told, journal_line, zones_line, volume_line, known_first, first_line};
 
 use crate::limits::JOURNALS;
 use crate::reading::{HeaderSoFar, Reading, Section, VolumeForm};
-use crate::words::{HeaderWord, Word};
+use crate::words::Word;
 use call_grammar::{LineList, Programs};
 use event_grammar::{Events, SteerList};
 use minix_layout::{DEFAULT_WIDTH, Geometry, LEAST_JOURNAL, MOST_JOURNAL, MOST_NUMBERED};
 use script_grammar::{FirstWord, ScriptKind};
 use script_words::numeral;
 use std::alloc::Global;
-
-/// Whether the form of such lines is built.
-pub fn is_built(word: Word) -> bool
-    ensures { result ≡ is_built word }
-{
-    match word {
-        Word::Header(HeaderWord::Fail) => false,
-        _ => true,
-    }
-}
 
 fn are_sizes(inodes: u64, zones: u64, journal: u64) -> bool
     ensures { result ≡ are_sizes inodes zones journal }
@@ -49,6 +39,7 @@ fn none_told() -> HeaderSoFar
         depth: None,
         queue: None,
         limit: None,
+        fail: None,
         cut: None,
         seed: None,
         elevator: false,
@@ -194,8 +185,8 @@ fn volume_line(alloc: Global, words: &[&[u8]]) -> Result<Reading, ScriptKind>
     }
 }
 
-fn built_first(alloc: Global, word: Word, words: &[&[u8]]) -> Result<Reading, ScriptKind>
-    ensures { result ≡ built_first word (map (λ x. x.now) words.now) }
+fn known_first(alloc: Global, word: Word, words: &[&[u8]]) -> Result<Reading, ScriptKind>
+    ensures { result ≡ known_first word (map (λ x. x.now) words.now) }
 {
     match word {
         Word::First(FirstWord::Volume) => volume_line(alloc, words),
@@ -210,8 +201,5 @@ pub fn first_line(alloc: Global, word: Option<Word>, words: &[&[u8]]) -> Result<
     let Some(word) = word else {
         return Err(ScriptKind::Word);
     };
-    if !is_built(word) {
-        return Err(ScriptKind::NotBuilt);
-    }
-    built_first(alloc, word, words)
+    known_first(alloc, word, words)
 }

@@ -5,7 +5,7 @@ ghost use Rattle.session_grammar.specs.Grammar.{is_submit, stands_in, has_thread
 ghost use Rattle.session_grammar.specs.WellFormed.{IsWellFormed};
 
 use crate::body::{call_taken, event_taken, events_line, recover_taken, thread_line};
-use crate::first::{first_line, is_built};
+use crate::first::first_line;
 use crate::header::{header_taken, is_told};
 use crate::limits::{DEFAULT_LIMIT, DEFAULT_SEED};
 use crate::reading::{HeaderSoFar, Reading, Section};
@@ -112,10 +112,6 @@ fn later_line(
         drop(reading);
         return Err(LineError::Kind(ScriptKind::Word));
     };
-    if !is_built(word) {
-        drop(reading);
-        return Err(LineError::Kind(ScriptKind::NotBuilt));
-    }
     if !may_stand(&reading, word) {
         drop(reading);
         return Err(LineError::Kind(ScriptKind::Order));
@@ -181,6 +177,7 @@ fn header_of(told: HeaderSoFar) -> SessionHeader
         depth: told.depth.unwrap_or(DEFAULT_DEPTH),
         queue: told.queue.unwrap_or(DEFAULT_QUEUE),
         limit: told.limit.unwrap_or(DEFAULT_LIMIT),
+        fail: told.fail,
         cut: told.cut,
         seed: told.seed.unwrap_or(DEFAULT_SEED),
         elevator: told.elevator,

@@ -6,7 +6,7 @@ use crate::limits::{MOST_SEED, MOST_SESSION};
 use crate::reading::{HeaderSoFar, Reading};
 use crate::words::{HeaderWord, NumberWord};
 use script_grammar::{
-    FEWEST_SEGMENTS, MOST_DEPTH, MOST_QUEUE, MOST_SEGMENTS, MOST_STEPS, ScriptKind,
+    FEWEST_SEGMENTS, MOST_DEPTH, MOST_QUEUE, MOST_SEGMENTS, MOST_STEPS, MOST_TRANSFERS, ScriptKind,
 };
 use script_words::numeral;
 
@@ -18,6 +18,7 @@ pub fn is_told(told: HeaderSoFar, word: NumberWord) -> bool
         NumberWord::Depth => told.depth.is_some(),
         NumberWord::Queue => told.queue.is_some(),
         NumberWord::Limit => told.limit.is_some(),
+        NumberWord::Fail => told.fail.is_some(),
         NumberWord::Cut => told.cut.is_some(),
         NumberWord::Seed => told.seed.is_some(),
         NumberWord::Flash => told.flash.is_some(),
@@ -31,6 +32,7 @@ fn number_fits(word: NumberWord, number: u64) -> bool
         NumberWord::Depth => number >= 1 && number <= MOST_DEPTH,
         NumberWord::Queue => number >= 1 && number <= MOST_QUEUE,
         NumberWord::Limit => number >= 1 && number <= MOST_SESSION,
+        NumberWord::Fail => number >= 1 && number <= MOST_TRANSFERS,
         NumberWord::Cut => number <= MOST_STEPS,
         NumberWord::Seed => number <= MOST_SEED,
         NumberWord::Flash => number >= FEWEST_SEGMENTS && number <= MOST_SEGMENTS,
@@ -46,6 +48,7 @@ fn with_number(told: HeaderSoFar, word: NumberWord, number: u64) -> HeaderSoFar
         NumberWord::Depth => told.depth = Some(number as u32),
         NumberWord::Queue => told.queue = Some(number as u32),
         NumberWord::Limit => told.limit = Some(number),
+        NumberWord::Fail => told.fail = Some(number),
         NumberWord::Cut => told.cut = Some(number),
         NumberWord::Seed => told.seed = Some(number),
         NumberWord::Flash => told.flash = Some(number as u32),

@@ -7,16 +7,14 @@ ghost use Rattle.session_grammar.specs.declared.session_script.SessionScript.{Se
 ghost use Rattle.session_grammar.specs.Grammar.{session_of};
 ghost use Rattle.session_grammar.specs.WellFormed.{IsWellFormed};
 ghost use Rattle.session_grammar.specs.laws.Accepted.{SaysSession};
-ghost use Rattle.session_grammar.specs.laws.FirstFault.{IsFirstFault, IsFirstUnbuilt};
+ghost use Rattle.session_grammar.specs.laws.FirstFault.{IsFirstFault};
 ghost use Rattle.session_grammar.specs.laws.Speller.{session_text};
 
 use script_grammar::ScriptKind;
 
-/// A text is refused at a line with a kind exactly where that is its first faulty line; and `not built` is told
-/// exactly of a line that begins with a word whose form is not built, where all lines before are read.
+/// A text is refused at a line with a kind exactly where that is its first faulty line.
 pub fn sessions_tell_first_fault()
-    ensures first { (bytes : List ℕ) (n : ℕ) (kind : ScriptKind) → (session_of bytes ≡ Err (n, kind)) ↔ IsFirstFault (lines_of bytes) n kind }
-    ensures not_built { (bytes : List ℕ) (n : ℕ) → (session_of bytes ≡ Err (n, ScriptKind.NotBuilt)) ↔ IsFirstUnbuilt (lines_of bytes) n }
+    ensures { (bytes : List ℕ) (n : ℕ) (kind : ScriptKind) → (session_of bytes ≡ Err (n, kind)) ↔ IsFirstFault (lines_of bytes) n kind }
 {}
 
 /// What the speller writes of a well-formed volume script is read back as that script, and every script that is

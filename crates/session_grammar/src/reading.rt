@@ -17,6 +17,7 @@ pub struct HeaderSoFar {
     pub depth: Option<u32>,
     pub queue: Option<u32>,
     pub limit: Option<u64>,
+    pub fail: Option<u64>,
     pub cut: Option<u64>,
     pub seed: Option<u64>,
     /// The line `elevator` stood.

@@ -15,6 +15,8 @@ pub struct SessionHeader {
     pub queue: u32,
     /// How many requests the session may have.
     pub limit: u64,
+    /// The transfer with this number fails, counted from 1.
+    pub fail: Option<u64>,
     /// The device is off after so many steps.
     pub cut: Option<u64>,
     /// What the picks of a run are drawn from.

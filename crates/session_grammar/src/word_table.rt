@@ -32,6 +32,8 @@ fn read_number_word(w: &[u8]) -> Option<NumberWord>
         Some(NumberWord::Queue)
     } else if w == b"limit".as_slice() {
         Some(NumberWord::Limit)
+    } else if w == b"fail".as_slice() {
+        Some(NumberWord::Fail)
     } else if w == b"cut".as_slice() {
         Some(NumberWord::Cut)
     } else if w == b"seed".as_slice() {
@@ -48,8 +50,6 @@ fn read_other_header(w: &[u8]) -> Option<HeaderWord>
 {
     if w == b"elevator".as_slice() {
         Some(HeaderWord::Elevator)
-    } else if w == b"fail".as_slice() {
-        Some(HeaderWord::Fail)
     } else {
         None
     }

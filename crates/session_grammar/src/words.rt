@@ -9,6 +9,7 @@ pub enum NumberWord {
     Depth,
     Queue,
     Limit,
+    Fail,
     Cut,
     Seed,
     Flash,
@@ -19,7 +20,6 @@ pub enum NumberWord {
 pub enum HeaderWord {
     Number(NumberWord),
     Elevator,
-    Fail,
 }
 
 /// The first word of a line.

@@ -7,7 +7,7 @@ use Rattle.blk_base.specs.Members.{In}
 use Rattle.script_words.specs.laws.Counts.{with_count}
 use Rattle.script_grammar.specs.declared.script.Script.{Script}
 use Rattle.script_grammar.specs.Grammar.{is_scheduled}
-use Rattle.script_grammar.specs.laws.Speller.{form_words, depth_lines, queue_lines, cut_lines, flash_lines, elevator_lines, request_words, event_line_words}
+use Rattle.script_grammar.specs.laws.Speller.{form_words, depth_lines, queue_lines, fail_lines, cut_lines, flash_lines, elevator_lines, request_words, event_line_words}
 
 -- the line begins with this word
 abbrev pub begins : List ℕ → List (List ℕ) → Bool
@@ -40,10 +40,11 @@ filled_queue false lines = lines
 pub record IsHeaderOf (s : Script) (header : List (List (List ℕ))) : Type 0 where
   pub depth : or_default default_depth (beginning (codes "depth") header) ≡ depth_lines s
   pub queue : filled_queue (is_scheduled s.kind) (beginning (codes "queue") header) ≡ queue_lines s
+  pub fail : beginning (codes "fail") header ≡ fail_lines s.header.fail
   pub cut : beginning (codes "cut") header ≡ cut_lines s.header.cut
   pub flash : beginning (codes "flash") header ≡ flash_lines s.header.flash
   pub elevator : beginning (codes "elevator") header ≡ elevator_lines s.header.elevator
-  pub known : (l : List (List ℕ)) → In l header → (begins (codes "depth") l || (begins (codes "queue") l || (begins (codes "cut") l || (begins (codes "flash") l || begins (codes "elevator") l)))) ≡ true
+  pub known : (l : List (List ℕ)) → In l header → (begins (codes "depth") l || (begins (codes "queue") l || (begins (codes "fail") l || (begins (codes "cut") l || (begins (codes "flash") l || begins (codes "elevator") l))))) ≡ true
 
 -- The lines, each as its words, say the script.
 pub record SaysScript (s : Script) (lines : List (List (List ℕ))) : Type 0 where

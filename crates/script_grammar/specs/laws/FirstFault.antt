@@ -1,7 +1,6 @@
 -- The first faulty line of a text, in words of its lines.
-use Rattle.std.specs.Prelude.{ℕ, Bool, true, false, List, codes, Option}
+use Rattle.std.specs.Prelude.{ℕ, Bool, true, false, List, Option}
 use Rattle.std.specs.Option.{option_map_or}
-use Rattle.std.specs.Str.{bytes_eq}
 use Rattle.script_words.specs.laws.FirstFault as text
 use Rattle.script_grammar.specs.declared.kinds.ScriptKind.{ScriptKind}
 use Rattle.script_grammar.specs.declared.kinds.ScriptKind.TheVariants as kinds
@@ -22,11 +21,3 @@ has_events reading = option_map_or (λ (r : Reading). are_events r.section) read
 -- Line n, counted from 1, is the first faulty one, with this kind; the end is faulty where no line was `events`.
 abbrev pub IsFirstFault : List (List ℕ) → ℕ → ScriptKind → Type 0
 IsFirstFault lines n kind = text.IsFirstFault read_one has_events kinds.Order lines n kind
-
--- the word is one whose form is not built
-abbrev pub is_unbuilt : List ℕ → Bool
-is_unbuilt w = bytes_eq w (codes "fail")
-
--- Line n is there and begins so, and all lines before it are read.
-abbrev pub IsFirstUnbuilt : List (List ℕ) → ℕ → Type 0
-IsFirstUnbuilt lines n = text.IsFirstUnbuilt read_one is_unbuilt lines n

@@ -34,6 +34,9 @@ abbrev pub number_lines : List ℕ → Option ℕ → List (List (List ℕ))
 number_lines w None = []
 number_lines w (Some n) = (w ∷ decimal n ∷ []) ∷ []
 
+abbrev pub fail_lines : Option ℕ → List (List (List ℕ))
+fail_lines fail = number_lines (codes "fail") fail
+
 abbrev pub cut_lines : Option ℕ → List (List (List ℕ))
 cut_lines cut = number_lines (codes "cut") cut
 
@@ -79,8 +82,8 @@ event_line_words l = what_words l.what ++ codes "x" ∷ decimal l.count ∷ []
 -- the lines of a script, each as its words
 abbrev pub script_lines : Script → List (List (List ℕ))
 script_lines s =
-    form_words s.kind ∷ depth_lines s ++ queue_lines s ++ cut_lines s.header.cut ++ flash_lines s.header.flash ++ elevator_lines s.header.elevator
-    ++ map request_words s.puts ++ (codes "events" ∷ []) ∷ map event_line_words s.events
+    form_words s.kind ∷ depth_lines s ++ queue_lines s ++ fail_lines s.header.fail ++ cut_lines s.header.cut ++ flash_lines s.header.flash
+    ++ elevator_lines s.header.elevator ++ map request_words s.puts ++ (codes "events" ∷ []) ∷ map event_line_words s.events
 
 abbrev pub script_text : Script → List ℕ
 script_text s = lines_text (script_lines s)

@@ -1,6 +1,6 @@
 -- The first faulty line of a text, in words of its lines, for any grammar.
-use Rattle.std.specs.Prelude.{◌≡◌, ℕ, ◌+◌, ◌-◌, ◌≤◌, Bool, true, false, List, [], ◌∷◌, length, take, Option, Some, None, Result, Ok, Err, if◌then◌else◌, slice_get}
-use Rattle.script_words.specs.Spelling.{words_of, is_skipped}
+use Rattle.std.specs.Prelude.{◌≡◌, ℕ, ◌+◌, ◌-◌, ◌≤◌, Bool, false, List, [], ◌∷◌, length, take, Option, Some, None, Result, Ok, Err, if◌then◌else◌, slice_get}
+use Rattle.script_words.specs.Spelling.{is_skipped}
 
 -- ---- one line
 
@@ -38,22 +38,3 @@ pub record IsFirstFault {R K : Type 0} (read : Option R → List ℕ → Result 
   pub before : AreRead read None (take (n - 1) lines)
   pub line : (l : List ℕ) → slice_get lines (n - 1) ≡ Some l → fault_of read (behind_all read None (take (n - 1) lines)) l ≡ Some kind
   pub none : slice_get lines (n - 1) ≡ None → (may_end (behind_all read None lines) ≡ false) × (kind ≡ order)
-
--- ---- what is not built
-
--- the first of the words
-abbrev pub first_of : List (List ℕ) → List ℕ
-first_of [] = []
-first_of (w ∷ ws) = w
-
--- the line begins with a word whose form is not built
-abbrev pub begins_unbuilt : (List ℕ → Bool) → List ℕ → Bool
-begins_unbuilt is_unbuilt l = is_unbuilt (first_of (words_of l))
-
--- Line n is there and begins so, and all lines before it are read.
-pub record IsFirstUnbuilt {R K : Type 0} (read : Option R → List ℕ → Result R K) (is_unbuilt : List ℕ → Bool) (lines : List (List ℕ)) (n : ℕ) : Type 0 where
-  pub some : 1 ≤ n
-  pub before : AreRead read None (take (n - 1) lines)
-  pub line : List ℕ
-  pub there : slice_get lines (n - 1) ≡ Some line
-  pub unbuilt : begins_unbuilt is_unbuilt line ≡ true

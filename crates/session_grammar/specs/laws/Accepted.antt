@@ -7,13 +7,13 @@ use Rattle.event_grammar.specs.laws.Speller.{SaysEvent}
 use Rattle.script_grammar.specs.laws.Accepted.{begins, beginning, or_default}
 use Rattle.session_grammar.specs.declared.session_script.SessionHeader.{SessionHeader}
 use Rattle.session_grammar.specs.declared.session_script.SessionScript.{SessionScript}
-use Rattle.session_grammar.specs.laws.Speller.{volume_words, number_words, cut_lines, flash_lines, elevator_lines, thread_lines, recover_words}
+use Rattle.session_grammar.specs.laws.Speller.{volume_words, number_words, number_lines, elevator_lines, thread_lines, recover_words}
 
 -- the line is one of the header
 abbrev pub is_header_line : List (List ℕ) → Bool
 is_header_line l =
-    begins (codes "depth") l || (begins (codes "queue") l || (begins (codes "limit") l || (begins (codes "cut") l || (begins (codes "seed") l
-    || (begins (codes "flash") l || begins (codes "elevator") l)))))
+    begins (codes "depth") l || (begins (codes "queue") l || (begins (codes "limit") l || (begins (codes "fail") l || (begins (codes "cut") l
+    || (begins (codes "seed") l || (begins (codes "flash") l || begins (codes "elevator") l))))))
 
 -- The header lines, which may stand in any order, say these values, each at most once; one that says the default
 -- may be left out.
@@ -22,8 +22,9 @@ pub record IsHeaderOf (h : SessionHeader) (header : List (List (List ℕ))) : Ty
   pub queue : or_default (codes "queue" ∷ codes "32" ∷ []) (beginning (codes "queue") header) ≡ number_words (codes "queue") h.queue ∷ []
   pub limit : or_default (codes "limit" ∷ codes "20000" ∷ []) (beginning (codes "limit") header) ≡ number_words (codes "limit") h.limit ∷ []
   pub seed : or_default (codes "seed" ∷ codes "1" ∷ []) (beginning (codes "seed") header) ≡ number_words (codes "seed") h.seed ∷ []
-  pub cut : beginning (codes "cut") header ≡ cut_lines h.cut
-  pub flash : beginning (codes "flash") header ≡ flash_lines h.flash
+  pub fail : beginning (codes "fail") header ≡ number_lines (codes "fail") h.fail
+  pub cut : beginning (codes "cut") header ≡ number_lines (codes "cut") h.cut
+  pub flash : beginning (codes "flash") header ≡ number_lines (codes "flash") h.flash
   pub elevator : beginning (codes "elevator") header ≡ elevator_lines h.elevator
   pub known : (l : List (List ℕ)) → In l header → is_header_line l ≡ true
 

@@ -27,13 +27,10 @@ volume_words inodes zones journal width wide =
 abbrev pub number_words : List ℕ → ℕ → List (List ℕ)
 number_words name n = name ∷ decimal n ∷ []
 
-abbrev pub cut_lines : Option ℕ → List (List (List ℕ))
-cut_lines None = []
-cut_lines (Some n) = number_words (codes "cut") n ∷ []
-
-abbrev pub flash_lines : Option ℕ → List (List (List ℕ))
-flash_lines None = []
-flash_lines (Some n) = number_words (codes "flash") n ∷ []
+-- the line of a header word, where it has a number
+abbrev pub number_lines : List ℕ → Option ℕ → List (List (List ℕ))
+number_lines name None = []
+number_lines name (Some n) = number_words name n ∷ []
 
 abbrev pub elevator_lines : Bool → List (List (List ℕ))
 elevator_lines elevator = if elevator then (codes "elevator" ∷ []) ∷ [] else []
@@ -41,7 +38,7 @@ elevator_lines elevator = if elevator then (codes "elevator" ∷ []) ∷ [] else
 abbrev pub header_lines : SessionHeader → List (List (List ℕ))
 header_lines h =
     number_words (codes "depth") h.depth ∷ number_words (codes "queue") h.queue ∷ number_words (codes "limit") h.limit ∷ number_words (codes "seed") h.seed
-    ∷ cut_lines h.cut ++ (flash_lines h.flash ++ elevator_lines h.elevator)
+    ∷ number_lines (codes "fail") h.fail ++ (number_lines (codes "cut") h.cut ++ (number_lines (codes "flash") h.flash ++ elevator_lines h.elevator))
 
 abbrev pub thread_words : ℕ → List (List ℕ)
 thread_words t = number_words (codes "thread") t

@@ -1,9 +1,5 @@
 use Rattle.script_grammar.proofs.FirstFault.{tells_first_fault}
-use Rattle.script_grammar.proofs.Unbuilt.{tells_first_unbuilt}
 use Rattle.script_grammar.proofs.law.tells_first_fault.Goals as goal
 
-pub returns-clause-first : goal.returns-clause-first
-returns-clause-first c = λ bytes n kind. tells_first_fault bytes n kind
-
-pub returns-clause-not_built : goal.returns-clause-not_built
-returns-clause-not_built c = λ bytes n. tells_first_unbuilt bytes n
+pub returns : goal.returns
+returns c = λ bytes n kind. tells_first_fault bytes n kind
