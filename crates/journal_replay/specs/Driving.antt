@@ -1,5 +1,5 @@
 -- The run of a recovery on a device: what it sends, the steps that it makes, and when it ends.
-use Rattle.std.specs.Prelude.{◌≡◌, ℕ, zero, suc, Bool, true, false, replicate, nat_lt, if◌then◌else◌, List, [], ◌∷◌, length, Option, Some, None}
+use Rattle.std.specs.Prelude.{◌≡◌, ℕ, zero, suc, Bool, true, false, not, ◌&&◌, replicate, nat_lt, if◌then◌else◌, List, [], ◌∷◌, length, Option, Some, None}
 use Rattle.order_model.specs.declared.command.Command.{Command}
 use Rattle.order_model.specs.declared.completion.Completion.{Completion}
 use Rattle.order_model.specs.declared.completion.Completion.TheVariants as completion
@@ -36,6 +36,12 @@ abbrev pub is_running : End → Bool
 is_running ends.Running = true
 is_running ends.Flushed = false
 is_running (ends.Failed id) = false
+
+-- it is that of a command that failed
+abbrev pub is_failed : End → Bool
+is_failed ends.Running = false
+is_failed ends.Flushed = false
+is_failed (ends.Failed id) = true
 
 module _ {S : Type 0} where
   -- commands go out while there is room
@@ -79,16 +85,29 @@ module _ {S : Type 0} where
   after_reads m s [] = s
   after_reads m s (b ∷ bs) = after_reads m (m.after_read s b) bs
 
-  -- some blocks were read, and nothing else was done
-  abbrev pub AreReads : Machine S → S → S → Type 0
-  AreReads m first now = (blocks : List ℕ) × (now ≡ after_reads m first blocks)
+  -- none of these reads fails
+  abbrev pub can_read : Machine S → S → List ℕ → Bool
+  can_read m s [] = true
+  can_read m s (b ∷ bs) = not (m.read_fails s) && can_read m (m.after_read s b) bs
+
+  -- some blocks were read, none of which failed, and nothing else was done
+  abbrev pub WereRead : Machine S → S → S → Type 0
+  WereRead m first now = (blocks : List ℕ) × (now ≡ after_reads m first blocks) × (can_read m first blocks ≡ true)
+
+-- some blocks were read, then one that could not be, and nothing else was done
+pub record FailsToRead {S : Type 0} (m : Machine S) (first now : S) : Type 0 where
+  pub before : S
+  pub were : WereRead m first before
+  pub fails : m.read_fails before ≡ true
+  pub block : ℕ
+  pub last : now ≡ m.after_read before block
 
 -- The device was read, and then these commands went to it: the steps are those of the list, and where the run is not cut
 -- behind the list, it goes on by default to its end.
 pub record IsRun {S : Type 0} (m : Machine S) (commands : List Command) (steer : List Choice) (cut : Bool) (old new : S) : Type 0 where
   pub start : S
   pub reads : OnlyReads (m.seen old) (m.seen start)
-  pub from : AreReads m old start
+  pub from : WereRead m old start
   pub cut_run : cut ≡ true → new ≡ (driven m steer (record { dev = start; rest = commands })).dev
   pub whole_run : cut ≡ false → (turns : ℕ) × (new ≡ (driven m (replicate turns choice.Default) (driven m steer (record { dev = start; rest = commands }))).dev)
   pub over : cut ≡ false → is_running (end_of (m.seen new)) ≡ false

@@ -10,3 +10,5 @@ pub mod Plans
 pub mod Whole
 pub mod Scans
 pub mod Recoveries
+pub mod Failures
+pub mod Reads

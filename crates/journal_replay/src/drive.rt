@@ -165,6 +165,7 @@ pub(crate) fn finish<D: OrderedDev>(dev: &mut D, plan: &mut Plan, end: End) -> E
     ensures valid { D.valid (D.state dev.new) }
     ensures kept { RunKeeps (D.seen (D.state dev.old)) plan.old (D.seen (D.state dev.new)) plan.new }
     ensures end { result ≡ end_of (D.seen (D.state dev.new)) }
+    ensures empty { (D.seen (D.state dev.new)).waiting ≡ [] }
     ensures over { is_running result ≡ false }
     ensures sound { D.sound (D.state dev.old) → D.sound (D.state dev.new) × ((D.seen (D.state dev.new)).faults ≡ (D.seen (D.state dev.old)).faults) }
 {

@@ -3,11 +3,11 @@ ghost use Rattle.std.specs.Prelude.{◌≡◌, ◌≢◌, ℕ, ◌<◌, Some, No
 ghost use Rattle.blk_base.specs.Streams.{Rose};
 ghost use Rattle.order_model.specs.Device.{IsQuiet};
 ghost use Rattle.order_model.specs.Machine.{machine_of};
-ghost use Rattle.journal_replay.specs.Driving.{AreReads};
+ghost use Rattle.journal_replay.specs.Driving.{WereRead};
 ghost use Rattle.journal_blocks.specs.declared.fault.JournalFault.{JournalFault};
 ghost use Rattle.journal_replay.specs.Recovered.{journal_fault};
 ghost use Rattle.journal_replay.specs.code.Journals.{IsJournalOf};
-ghost use Rattle.journal_replay.specs.code.Scans.{HasRead};
+ghost use Rattle.journal_replay.specs.code.Scans.{HasRead, HasAskedFor};
 
 use crate::scanning::read_place;
 use crate::{Log, RecoverFault, scan};
@@ -38,9 +38,10 @@ pub(crate) fn open<D: OrderedDev>(
     ensures read_fault { result ≡ Err RecoverFault.ReadFault → Rose (D.seen (D.state dev.old)).faults (D.seen (D.state dev.new)).faults }
     ensures no_failure { (id : ℕ) → result ≢ Err (RecoverFault.DeviceFailed id) }
     ensures unchanged { HasRead (D.seen (D.state dev.old)) (D.seen (D.state dev.new)) }
+    ensures was_valid { D.valid (D.state dev.old) }
     ensures valid { D.valid (D.state dev.new) }
     ensures on { D.stays_on (D.state dev.old) → D.stays_on (D.state dev.new) }
-    ensures reads { (first : D.State) → AreReads (machine_of D.OrderedDev) first (D.state dev.old) → AreReads (machine_of D.OrderedDev) first (D.state dev.new) }
+    ensures asked { (first : D.State) → WereRead (machine_of D.OrderedDev) first (D.state dev.old) → HasAskedFor (machine_of D.OrderedDev) result first (D.state dev.new) }
     ensures sound { D.sound (D.state dev.old) → D.sound (D.state dev.new) × ((D.seen (D.state dev.new)).faults ≡ (D.seen (D.state dev.old)).faults) }
 {
     let blocks = dev.blocks();

@@ -3,12 +3,12 @@ ghost use Rattle.std.specs.Prelude.{◌≡◌, ◌≢◌, ℕ, ◌+◌, ◌≤�
 ghost use Rattle.blk_base.specs.Streams.{Rose};
 ghost use Rattle.order_model.specs.Device.{IsQuiet};
 ghost use Rattle.order_model.specs.Machine.{machine_of};
-ghost use Rattle.journal_replay.specs.Driving.{AreReads};
+ghost use Rattle.journal_replay.specs.Driving.{WereRead};
 ghost use Rattle.journal_blocks.specs.declared.fault.JournalFault.{JournalFault};
 ghost use Rattle.journal_blocks.specs.Super.{super_of};
 ghost use Rattle.journal_blocks.specs.Log.{body_at};
 ghost use Rattle.journal_replay.specs.Recovered.{transactions_of, fault_of};
-ghost use Rattle.journal_replay.specs.code.Scans.{HasRead, transaction_of};
+ghost use Rattle.journal_replay.specs.code.Scans.{HasRead, HasAskedFor, transaction_of};
 
 use crate::scanning::{ScanFault, read_log};
 use crate::{LogTransaction, RecoverFault};
@@ -89,7 +89,7 @@ pub fn scan<D: OrderedDev>(
     ensures unchanged { HasRead (D.seen (D.state dev.old)) (D.seen (D.state dev.new)) }
     ensures valid { D.valid (D.state dev.new) }
     ensures on { D.stays_on (D.state dev.old) → D.stays_on (D.state dev.new) }
-    ensures reads { (first : D.State) → AreReads (machine_of D.OrderedDev) first (D.state dev.old) → AreReads (machine_of D.OrderedDev) first (D.state dev.new) }
+    ensures asked { (first : D.State) → WereRead (machine_of D.OrderedDev) first (D.state dev.old) → HasAskedFor (machine_of D.OrderedDev) result first (D.state dev.new) }
     ensures sound { D.sound (D.state dev.old) → D.sound (D.state dev.new) × ((D.seen (D.state dev.new)).faults ≡ (D.seen (D.state dev.old)).faults) }
 {
     if s.start == 0 {

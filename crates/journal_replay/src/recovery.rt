@@ -1,5 +1,5 @@
 //! Recovery as one call.
-ghost use Rattle.std.specs.Prelude.{◌≡◌, ◌≢◌, ℕ, ◌+◌, ◌≤◌, ◌<◌, [], None, Some, Ok, Err, true, false, List, length, IsTrue, IfOk};
+ghost use Rattle.std.specs.Prelude.{◌≡◌, ◌≢◌, ◌↔◌, ℕ, ◌+◌, ◌≤◌, ◌<◌, [], None, Some, Ok, Err, true, false, List, length, IsTrue, IfOk};
 ghost use Rattle.blk_base.specs.Members.{In};
 ghost use Rattle.blk_base.specs.Streams.{Rose};
 ghost use Rattle.order_model.specs.declared.completion.Completion.{Completion};
@@ -12,7 +12,8 @@ ghost use Rattle.journal_blocks.specs.Super.{super_of};
 ghost use Rattle.journal_blocks.specs.Log.{body_at, log_of};
 ghost use Rattle.journal_replay.specs.Recovered.{recovered, transactions_of, next_sequence, journal_fault, AreBetween};
 ghost use Rattle.journal_replay.specs.Commands.{commands};
-ghost use Rattle.journal_replay.specs.Driving.{IsRun};
+ghost use Rattle.journal_replay.specs.Driving.{IsRun, WereRead, FailsToRead};
+ghost use Rattle.journal_replay.specs.Endings.{IsFlushAnswered, HasNoLog, FailsBetween};
 ghost use Rattle.journal_replay.specs.code.Journals.{IsJournalOf};
 
 use crate::end::End;
@@ -31,7 +32,7 @@ pub struct Recovered {
     pub replayed: u32,
     /// The sequence of the journal's superblock when the recovery has ended.
     pub next: u32,
-    /// Whether it came to its end, and was not cut before.
+    /// Whether it came to its end: it took the completion of its flush, or the log was empty.
     pub ended: bool,
 }
 
@@ -60,6 +61,9 @@ pub fn recover<D: OrderedDev>(
     ensures whole { IfOk result (λ r. IsTrue r.ended →
         ((D.seen (D.state dev.new)).surface ≡ recovered base (D.seen (D.state dev.old)).surface) × IsQuiet (D.seen (D.state dev.new))) }
     ensures ended { IfOk result (λ r. cut ≡ false → IsTrue r.ended) }
+    ensures flushed { IfOk result (λ r. (s : JournalSuper) → super_of (body_at (D.seen (D.state dev.old)).surface base) ≡ Ok s → s.start ≢ 0 →
+        IsTrue r.ended ↔ IsFlushAnswered (commands base (D.seen (D.state dev.old)).surface) (D.seen (D.state dev.new))) }
+    ensures emptied { IfOk result (λ r. IsTrue r.ended → HasNoLog base (D.seen (D.state dev.new)).surface) }
     ensures replayed { IfOk result (λ r. (s : JournalSuper) → super_of (body_at (D.seen (D.state dev.old)).surface base) ≡ Ok s →
         r.replayed ≡ length (transactions_of base s (D.seen (D.state dev.old)).surface)) }
     ensures next { IfOk result (λ r. (s : JournalSuper) → super_of (body_at (recovered base (D.seen (D.state dev.old)).surface) base) ≡ Ok s →
@@ -72,7 +76,14 @@ pub fn recover<D: OrderedDev>(
         IsRun (machine_of D.OrderedDev) (commands base (D.seen (D.state dev.old)).surface) steer.now cut (D.state dev.old) (D.state dev.new) }
     ensures device_failed { (id : ℕ) → result ≡ Err (RecoverFault.DeviceFailed id) →
         Rose (D.seen (D.state dev.old)).faults (D.seen (D.state dev.new)).faults × In (Completion.Failed id) (D.seen (D.state dev.new)).sent }
+    ensures failure { (id : ℕ) → result ≡ Err (RecoverFault.DeviceFailed id) → FailsBetween (D.seen (D.state dev.old)) (D.seen (D.state dev.new)) id }
+    ensures no_failure { ((id : ℕ) → result ≢ Err (RecoverFault.DeviceFailed id)) → (D.seen (D.state dev.new)).failed ≡ false }
     ensures read_fault { result ≡ Err RecoverFault.ReadFault → Rose (D.seen (D.state dev.old)).faults (D.seen (D.state dev.new)).faults }
+    ensures read_failed { result ≡ Err RecoverFault.ReadFault → FailsToRead (machine_of D.OrderedDev) (D.state dev.old) (D.state dev.new) }
+    ensures all_read { IfOk result (λ _. (s : JournalSuper) → super_of (body_at (D.seen (D.state dev.old)).surface base) ≡ Ok s → s.start ≡ 0 →
+        WereRead (machine_of D.OrderedDev) (D.state dev.old) (D.state dev.new)) }
+    ensures refused_read { (fault : RecoverFault) → result ≡ Err fault → fault ≢ RecoverFault.ReadFault → ((id : ℕ) → fault ≢ RecoverFault.DeviceFailed id) →
+        WereRead (machine_of D.OrderedDev) (D.state dev.old) (D.state dev.new) }
     ensures bad { (fault : JournalFault) (block : ℕ) → result ≡ Err (RecoverFault.BadJournal fault block) →
         journal_fault base (D.seen (D.state dev.old)).surface ≡ Some (fault, block) }
     ensures fine { IfOk result (λ _. journal_fault base (D.seen (D.state dev.old)).surface ≡ None) }
@@ -81,6 +92,7 @@ pub fn recover<D: OrderedDev>(
         OnlyReads (D.seen (D.state dev.old)) (D.seen (D.state dev.new)) }
     ensures counts { (D.seen (D.state dev.old)).faults ≤ (D.seen (D.state dev.new)).faults }
     ensures between { AreBetween (D.seen (D.state dev.old)).surface (recovered base (D.seen (D.state dev.old)).surface) (D.seen (D.state dev.new)).surface }
+    ensures works { D.sound (D.state dev.old) → (result ≢ Err RecoverFault.ReadFault) × ((id : ℕ) → result ≢ Err (RecoverFault.DeviceFailed id)) }
     ensures sound { D.sound (D.state dev.old) → D.sound (D.state dev.new) × ((D.seen (D.state dev.new)).faults ≡ (D.seen (D.state dev.old)).faults) }
 {
     let journal = open(alloc, dev, base)?;
@@ -103,6 +115,7 @@ fn replay<D: OrderedDev>(
     steer: &[Choice],
     cut: bool,
 ) -> Result<Recovered, RecoverFault>
+    requires valid { D.valid (D.state dev.old) }
     requires fresh { (D.seen (D.state dev.old)).took ≡ [] }
     requires on { D.stays_on (D.state dev.old) }
     requires room { length (D.seen (D.state dev.old)).surface + 2 ≤ (D.seen (D.state dev.old)).limit }
@@ -113,6 +126,8 @@ fn replay<D: OrderedDev>(
     ensures whole { IfOk result (λ r. IsTrue r.ended →
         ((D.seen (D.state dev.new)).surface ≡ recovered base (D.seen (D.state dev.old)).surface) × IsQuiet (D.seen (D.state dev.new))) }
     ensures ended { IfOk result (λ r. cut ≡ false → IsTrue r.ended) }
+    ensures flushed { IfOk result (λ r. IsTrue r.ended ↔ IsFlushAnswered (commands base (D.seen (D.state dev.old)).surface) (D.seen (D.state dev.new))) }
+    ensures emptied { IfOk result (λ r. IsTrue r.ended → HasNoLog base (D.seen (D.state dev.new)).surface) }
     ensures replayed { IfOk result (λ r. r.replayed ≡ length journal.log) }
     ensures next { IfOk result (λ r. r.next ≡ next_sequence (log_of base journal.fields (D.seen (D.state dev.old)).surface)) }
     ensures run { IfOk result (λ r. IsRun (machine_of D.OrderedDev) (commands base (D.seen (D.state dev.old)).surface) steer.now cut (D.state dev.old) (D.state dev.new)) }
@@ -120,6 +135,9 @@ fn replay<D: OrderedDev>(
         IsRun (machine_of D.OrderedDev) (commands base (D.seen (D.state dev.old)).surface) steer.now cut (D.state dev.old) (D.state dev.new) }
     ensures device_failed { (id : ℕ) → result ≡ Err (RecoverFault.DeviceFailed id) →
         Rose (D.seen (D.state dev.old)).faults (D.seen (D.state dev.new)).faults × In (Completion.Failed id) (D.seen (D.state dev.new)).sent }
+    ensures failure { (id : ℕ) → result ≡ Err (RecoverFault.DeviceFailed id) → FailsBetween (D.seen (D.state dev.old)) (D.seen (D.state dev.new)) id }
+    ensures no_failure { IfOk result (λ _. (D.seen (D.state dev.new)).failed ≡ false) }
+    ensures valid { D.valid (D.state dev.new) }
     ensures counts { (D.seen (D.state dev.old)).faults ≤ (D.seen (D.state dev.new)).faults }
     ensures refused { (fault : RecoverFault) → result ≡ Err fault → ((id : ℕ) → fault ≢ RecoverFault.DeviceFailed id) →
         (fault ≡ RecoverFault.NoMemory) × (D.state dev.new ≡ D.state dev.old) }

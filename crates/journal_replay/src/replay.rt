@@ -8,7 +8,7 @@ ghost use Rattle.journal_replay.specs.Driving.{Driven, driven, end_of, is_runnin
 ghost use Rattle.journal_replay.specs.Commands.{for_block, sends};
 ghost use Rattle.journal_replay.specs.Recovered.{recovered, IsRecoverable, AreBetween};
 ghost use Rattle.journal_replay.specs.code.Homes.{logged_of};
-ghost use Rattle.journal_replay.specs.code.Runs.{HasLog};
+ghost use Rattle.journal_replay.specs.code.Runs.{HasLog, EndsAs};
 
 use crate::Choice;
 use crate::drive::{finish, follow};
@@ -44,6 +44,8 @@ pub(crate) fn write_back<D: OrderedDev>(
     ensures failed { (id : ℕ) → result ≡ End.Failed id → Rose (D.seen (D.state dev.old)).faults (D.seen (D.state dev.new)).faults }
     ensures counts { (D.seen (D.state dev.old)).faults ≤ (D.seen (D.state dev.new)).faults }
     ensures told { result ≡ end_of (D.seen (D.state dev.new)) }
+    ensures ends { EndsAs (logged_of homes.items) base superblock (D.seen (D.state dev.old)) (D.seen (D.state dev.new)) result }
+    ensures valid { D.valid (D.state dev.new) }
     ensures between { AreBetween (D.seen (D.state dev.old)).surface (recovered base (D.seen (D.state dev.old)).surface) (D.seen (D.state dev.new)).surface }
     ensures sound { D.sound (D.state dev.old) → D.sound (D.state dev.new) × ((D.seen (D.state dev.new)).faults ≡ (D.seen (D.state dev.old)).faults) }
 {

@@ -4,14 +4,14 @@ ghost use Rattle.std.specs.List.{range_with_len, list_any};
 ghost use Rattle.blk_base.specs.Streams.{Rose};
 ghost use Rattle.order_model.specs.Device.{IsQuiet};
 ghost use Rattle.order_model.specs.Machine.{machine_of};
-ghost use Rattle.journal_replay.specs.Driving.{AreReads};
+ghost use Rattle.journal_replay.specs.Driving.{WereRead};
 ghost use Rattle.log_model.specs.Marks.{Logged};
 ghost use Rattle.journal_blocks.specs.declared.tag.Tag.{Tag};
 ghost use Rattle.journal_blocks.specs.Super.{is_wide};
 ghost use Rattle.journal_blocks.specs.Blocks.{restored};
 ghost use Rattle.journal_blocks.specs.Log.{Reading, Entry, read_log, by_tags, by_said, said_by, entry_at, body_at, places, beginning, committed, first_of, is_outside, log_of};
 ghost use Rattle.journal_replay.specs.Commands.{for_block};
-ghost use Rattle.journal_replay.specs.code.Scans.{after, HasRead, transaction_of};
+ghost use Rattle.journal_replay.specs.code.Scans.{after, HasRead, HasAsked, transaction_of};
 
 use crate::{BoxedBlock, LogBody, LogTransaction};
 use blk_base::{Block, NoMemory};
@@ -207,8 +207,9 @@ pub(crate) fn read_place<D: OrderedDev>(dev: &mut D, block: u32) -> Result<Block
     ensures valid { D.valid (D.state dev.new) }
     ensures read { HasRead (D.seen (D.state dev.old)) (D.seen (D.state dev.new)) }
     ensures on { D.stays_on (D.state dev.old) → D.stays_on (D.state dev.new) }
-    ensures reads { (first : D.State) → AreReads (machine_of D.OrderedDev) first (D.state dev.old) → AreReads (machine_of D.OrderedDev) first (D.state dev.new) }
+    ensures asked { (first : D.State) → WereRead (machine_of D.OrderedDev) first (D.state dev.old) → HasAsked (machine_of D.OrderedDev) result first (D.state dev.new) }
     ensures sound { D.sound (D.state dev.old) → D.sound (D.state dev.new) × ((D.seen (D.state dev.new)).faults ≡ (D.seen (D.state dev.old)).faults) }
+    ensures read_fault { IfErr result (λ fault. fault ≡ ScanFault.ReadFault) }
     ensures fault { OnErr result (Rose (D.seen (D.state dev.old)).faults (D.seen (D.state dev.new)).faults) }
 {
     match dev.read(block) {
@@ -236,7 +237,7 @@ fn scan_range<D: OrderedDev>(
     ensures valid { D.valid (D.state dev.new) }
     ensures read { HasRead (D.seen (D.state dev.old)) (D.seen (D.state dev.new)) }
     ensures on { D.stays_on (D.state dev.old) → D.stays_on (D.state dev.new) }
-    ensures reads { (first : D.State) → AreReads (machine_of D.OrderedDev) first (D.state dev.old) → AreReads (machine_of D.OrderedDev) first (D.state dev.new) }
+    ensures asked { (first : D.State) → WereRead (machine_of D.OrderedDev) first (D.state dev.old) → HasAsked (machine_of D.OrderedDev) result first (D.state dev.new) }
     ensures sound { D.sound (D.state dev.old) → D.sound (D.state dev.new) × ((D.seen (D.state dev.new)).faults ≡ (D.seen (D.state dev.old)).faults) }
     ensures fault { IsErrOf result ScanFault.ReadFault → Rose (D.seen (D.state dev.old)).faults (D.seen (D.state dev.new)).faults }
 {
@@ -268,7 +269,7 @@ fn scan_ring<D: OrderedDev>(
     ensures valid { D.valid (D.state dev.new) }
     ensures read { HasRead (D.seen (D.state dev.old)) (D.seen (D.state dev.new)) }
     ensures on { D.stays_on (D.state dev.old) → D.stays_on (D.state dev.new) }
-    ensures reads { (first : D.State) → AreReads (machine_of D.OrderedDev) first (D.state dev.old) → AreReads (machine_of D.OrderedDev) first (D.state dev.new) }
+    ensures asked { (first : D.State) → WereRead (machine_of D.OrderedDev) first (D.state dev.old) → HasAsked (machine_of D.OrderedDev) result first (D.state dev.new) }
     ensures sound { D.sound (D.state dev.old) → D.sound (D.state dev.new) × ((D.seen (D.state dev.new)).faults ≡ (D.seen (D.state dev.old)).faults) }
     ensures fault { IsErrOf result ScanFault.ReadFault → Rose (D.seen (D.state dev.old)).faults (D.seen (D.state dev.new)).faults }
 {
@@ -293,7 +294,7 @@ pub(crate) fn read_log<D: OrderedDev>(
     ensures valid { D.valid (D.state dev.new) }
     ensures read { HasRead (D.seen (D.state dev.old)) (D.seen (D.state dev.new)) }
     ensures on { D.stays_on (D.state dev.old) → D.stays_on (D.state dev.new) }
-    ensures reads { (first : D.State) → AreReads (machine_of D.OrderedDev) first (D.state dev.old) → AreReads (machine_of D.OrderedDev) first (D.state dev.new) }
+    ensures asked { (first : D.State) → WereRead (machine_of D.OrderedDev) first (D.state dev.old) → HasAsked (machine_of D.OrderedDev) result first (D.state dev.new) }
     ensures sound { D.sound (D.state dev.old) → D.sound (D.state dev.new) × ((D.seen (D.state dev.new)).faults ≡ (D.seen (D.state dev.old)).faults) }
     ensures fault { IsErrOf result ScanFault.ReadFault → Rose (D.seen (D.state dev.old)).faults (D.seen (D.state dev.new)).faults }
 {

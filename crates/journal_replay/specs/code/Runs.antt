@@ -1,5 +1,5 @@
 -- What the parts of a recovery's run leave as it was, and what they do to it.
-use Rattle.std.specs.Prelude.{◌≡◌, ℕ, ◌<◌, ◌≤◌, ◌==◌, false, ◌++◌, ◌⊎◌, List, length, replicate, Some, Ok}
+use Rattle.std.specs.Prelude.{◌≡◌, ◌↔◌, ℕ, ◌<◌, ◌≤◌, ◌==◌, false, ◌++◌, ◌⊎◌, List, length, replicate, Some, Ok}
 use Rattle.blk_base.specs.Streams.{Rose}
 use Rattle.blk_base.specs.Members.{In}
 use Rattle.order_model.specs.declared.part.Part.{Part}
@@ -15,8 +15,11 @@ use Rattle.journal_blocks.specs.Log.{body_at}
 use Rattle.journal_replay.specs.declared.choice.Choice.{Choice}
 use Rattle.journal_replay.specs.declared.choice.Choice.TheVariants as choice
 use Rattle.journal_replay.specs.Recovered.{log_mark, emptied_super}
-use Rattle.journal_replay.specs.Commands.{homes}
-use Rattle.journal_replay.specs.Driving.{Driven, driven}
+use Rattle.journal_replay.specs.Commands.{for_block, sends, homes}
+use Rattle.journal_replay.specs.declared.end.End.{End}
+use Rattle.journal_replay.specs.declared.end.End.TheVariants as ends
+use Rattle.journal_replay.specs.Driving.{Driven, driven, is_failed}
+use Rattle.journal_replay.specs.Endings.{IsFlushAnswered, FailsBetween}
 use Rattle.journal_replay.specs.code.Sending.{KeepsAll}
 
 -- a device step changes nothing of what was given to the device and of what it told; where a command fails, the count
@@ -64,3 +67,9 @@ pub record HasLog (base : ℕ) (image : List (List ℕ)) (hs : List Logged) (y :
   pub full : (journal.start == 0) ≡ false
   pub homes : hs ≡ homes (log_mark base journal image) 0 base
   pub super : y ≡ emptied_super base journal image
+
+-- The run of these homes' recovery ended so: by its flush exactly where this was answered, and by a command exactly where one failed.
+pub record EndsAs (hs : List Logged) (base : ℕ) (y : List ℕ) (old new : Seen) (e : End) : Type 0 where
+  pub flushed : (e ≡ ends.Flushed) ↔ IsFlushAnswered (sends hs (for_block base y)) new
+  pub failure : (id : ℕ) → e ≡ ends.Failed id → FailsBetween old new id
+  pub failed_is : new.failed ≡ is_failed e

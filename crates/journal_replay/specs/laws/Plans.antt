@@ -52,11 +52,11 @@ flush_at (h ∷ hs) superblock first n (suc k) id f = let q = flush_at hs superb
 pub only_flush : (hs : List Logged) (superblock : Logged) (k id : ℕ) → IsFlush (sends hs superblock) k id → (k ≡ length hs + 1) × (id ≡ length hs + 1)
 only_flush hs superblock k id f = flush_at hs superblock 0 (length hs) k id f
 
-is_flush_at : (hs : List Logged) (superblock : Logged) (first n : ℕ) → IsFlush (home_writes first hs ++ ending n superblock) (suc (length hs)) (n + 1)
+pub is_flush_at : (hs : List Logged) (superblock : Logged) (first n : ℕ) → IsFlush (home_writes first hs ++ ending n superblock) (suc (length hs)) (n + 1)
 is_flush_at [] superblock first n = refl
 is_flush_at (h ∷ hs) superblock first n = is_flush_at hs superblock (first + 1) n
 
-length-sends : (hs : List Logged) (superblock : Logged) → length (sends hs superblock) ≡ length hs + 2
+pub length-sends : (hs : List Logged) (superblock : Logged) → length (sends hs superblock) ≡ length hs + 2
 length-sends hs superblock = length-append (home_writes 0 hs) (ending (length hs) superblock) ∙ ap (λ (k : ℕ). k + 2) (length-home_writes hs 0)
 
 parts_before : (hs : List Logged) (superblock : Logged) (first n x : ℕ) → x < length (all_parts (home_writes first hs ++ ending n superblock)) → command_of_part (home_writes first hs ++ ending n superblock) x < suc (length hs)

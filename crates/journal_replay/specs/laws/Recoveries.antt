@@ -18,6 +18,8 @@ use Rattle.journal_blocks.specs.Super.{with_tail}
 use Rattle.journal_replay.specs.declared.journal.Journal.{Journal}
 use Rattle.journal_replay.specs.declared.recovery.Recovered.{Recovered}
 use Rattle.journal_replay.specs.Commands.{homes, commands}
+use Rattle.journal_replay.specs.Endings.{HasNoLog}
+use Rattle.journal_replay.specs.laws.Reads.{reads_on}
 use Rattle.journal_replay.specs.code.Runs.{HasLog}
 use Rattle.journal_replay.specs.code.Journals.{IsJournalOf}
 use Rattle.order_model.specs.declared.command.Command.{Command}
@@ -26,7 +28,7 @@ use Rattle.order_model.specs.Steps.{OnlyReads}
 use Rattle.order_model.specs.Machine.{Machine}
 use Rattle.journal_replay.specs.declared.choice.Choice.{Choice}
 use Rattle.journal_replay.specs.declared.choice.Choice.TheVariants as choices
-use Rattle.journal_replay.specs.Driving.{driven, end_of, is_running, IsRun, after_reads, AreReads}
+use Rattle.journal_replay.specs.Driving.{driven, end_of, is_running, IsRun, WereRead}
 use Rattle.journal_replay.specs.Recovered.{healed, emptied_super, next_sequence, recovered, transactions_of, fault_of, fault_by, journal_fault, IsRecoverable, log_mark}
 use Rattle.log_model.specs.Marks.{Set}
 
@@ -137,6 +139,35 @@ recovered_super base image s t within size e some f =
     let same = same_ok made t (sym read ∙ (ap super_of (sym there) ∙ f)) in
     (ap (λ (q : JournalSuper). q.sequence) (sym same), ap (λ (q : JournalSuper). q.start) (sym same))
 
+-- and nothing of the log is left in it
+pub emptied_log : (base : ℕ) (image : List (List ℕ)) (s : JournalSuper) → base < length image → length (body_at image base) ≡ 1024 → super_of (body_at image base) ≡ Ok s → s.start ≢ 0
+    → HasNoLog base (recovered base image)
+emptied_log base image s within size e some =
+    let r = log_of base s image in
+    let size_healed = length-healed (log_mark base s image) 0 image in
+    let there : body_at (recovered base image) base ≡ emptied_super base s image =
+    ap (λ (i : List (List ℕ)). body_at i base) (recovered-full base image s e (by_start base s image some))
+    ∙ body_at-some _ base (emptied_super base s image) (slice_get-set_same (healed (log_mark base s image) 0 image) base (emptied_super base s image) (omega (arith, within, size_healed))) in
+    let read = tail_read (body_at image base) s (next_sequence r) size e (below_power (r.sequence + 1)) in
+    let made : JournalSuper = record s { sequence = next_sequence r; start = 0 } in
+    let says : super_of (body_at (recovered base image) base) ≡ Ok made = ap super_of there ∙ read in
+    record { says = made; read = says; empty = refl; stays = recovered-empty base (recovered base image) made says refl }
+
+-- as nothing is where there was none
+pub no_log : (base : ℕ) (image now : List (List ℕ)) (s : JournalSuper) → super_of (body_at image base) ≡ Ok s → s.start ≡ 0 → now ≡ image → HasNoLog base now
+no_log base image now s e none same =
+    let says = ap (λ (i : List (List ℕ)). super_of (body_at i base)) same ∙ e in
+    record { says = s; read = says; empty = none; stays = recovered-empty base now s says (eq-eqb s.start 0 none) }
+
+-- an empty log, of which it is said that it is not
+pub not_empty : (base : ℕ) (image : List (List ℕ)) (s t : JournalSuper) → super_of (body_at image base) ≡ Ok s → super_of (body_at image base) ≡ Ok t → s.start ≢ 0 → t.start ≡ 0 → ⊥
+not_empty base image s t e f some none = some (ap (λ (q : JournalSuper). q.start) (same_ok s t (sym e ∙ f)) ∙ none)
+
+pub ok_not_empty : {X E : Type 0} (P : Type 0) (base : ℕ) (image : List (List ℕ)) (t : JournalSuper) (r : Result X E) → super_of (body_at image base) ≡ Ok t → t.start ≢ 0
+    → IfOk r (λ x. (s : JournalSuper) → super_of (body_at image base) ≡ Ok s → s.start ≡ 0 → P)
+ok_not_empty P base image t (Ok x) e some = λ s f none. absurd (not_empty base image t s e f some none)
+ok_not_empty P base image t (Err f) e some = tt
+
 pub recovered_super-empty : (base : ℕ) (image : List (List ℕ)) (s t : JournalSuper) → super_of (body_at image base) ≡ Ok s → s.start ≡ 0 → super_of (body_at (recovered base image) base) ≡ Ok t → s ≡ t
 recovered_super-empty base image s t e none f =
     same_ok s t (sym e ∙ (sym (ap (λ (i : List (List ℕ)). super_of (body_at i base)) (recovered-empty base image s e (eq-eqb s.start 0 none))) ∙ f))
@@ -156,18 +187,6 @@ has_log base image j hs n b is full listed count tail =
       super = tail ∙ (ap (λ (k : ℕ). with_tail k 0 j.superblock) next ∙ ap (with_tail (next_sequence (log_of base j.fields image)) 0) (sym is.superblock));
     }
 
--- ---- reads
-
-after_reads-append : {S : Type 0} (m : Machine S) (s : S) (xs ys : List ℕ) → after_reads m s (xs ++ ys) ≡ after_reads m (after_reads m s xs) ys
-after_reads-append m s [] ys = refl
-after_reads-append m s (x ∷ xs) ys = after_reads-append m (m.after_read s x) xs ys
-
-pub reads_on : {S : Type 0} (m : Machine S) (first old new : S) → AreReads m first old → AreReads m old new → AreReads m first new
-reads_on m first old new a b = (a.0 ++ b.0, b.1 ∙ (ap (λ s. after_reads m s b.0) a.1 ∙ sym (after_reads-append m first a.0 b.0)))
-
-pub read_more_of : {S : Type 0} (m : Machine S) (first old : S) (block : ℕ) → AreReads m first old → AreReads m first (m.after_read old block)
-read_more_of m first old block a = reads_on m first old (m.after_read old block) a (block ∷ [], refl)
-
 -- ---- a run that was made
 
 pub run_from : {S : Type 0} (m : Machine S) {xs ys : List Command} → xs ≡ ys → (steer : List Choice) (cut : Bool) (old new : S)
@@ -177,7 +196,7 @@ pub run_from : {S : Type 0} (m : Machine S) {xs ys : List Command} → xs ≡ ys
 run_from m {xs = xs} {ys = ys} same steer cut old new cut_run whole_run over = record {
   start = old;
   reads = (refl, omega arith);
-  from = ([], refl);
+  from = ([], refl, refl);
   cut_run = λ e. cut_run e ∙ ap (λ (cs : List Command). (driven m steer (record { dev = old; rest = cs })).dev) same;
   whole_run = λ e. let w = whole_run e in (w.0, w.1 ∙ ap (λ (cs : List Command). (driven m (replicate w.0 choices.Default) (driven m steer (record { dev = old; rest = cs }))).dev) same);
   over = over;
@@ -185,7 +204,7 @@ run_from m {xs = xs} {ys = ys} same steer cut old new cut_run whole_run over = r
 
 -- what was read before a run is read before it still
 pub run_behind : {S : Type 0} (m : Machine S) {xs ys : List Command} → xs ≡ ys → (steer : List Choice) (cut : Bool) (first old new : S)
-    → OnlyReads (m.seen first) (m.seen old) → AreReads m first old → IsRun m xs steer cut old new → IsRun m ys steer cut first new
+    → OnlyReads (m.seen first) (m.seen old) → WereRead m first old → IsRun m xs steer cut old new → IsRun m ys steer cut first new
 run_behind m same steer cut first old new read from run = record {
   start = run.start;
   reads = (run.reads.0 ∙ ap (λ (x : Seen). let made : Seen = record x { faults = (m.seen run.start).faults } in made) read.0, let a = read.1 in let b = run.reads.1 in omega (arith, a, b));
@@ -197,7 +216,7 @@ run_behind m same steer cut first old new read from run = record {
 
 -- so where it comes to an end, of the image that was read before
 pub run_read : {S E : Type 0} (m : Machine S) (base : ℕ) (image : List (List ℕ)) (r : Result Recovered E) {xs : List Command} → xs ≡ commands base image → (steer : List Choice) (cut : Bool) (first old new : S)
-    → OnlyReads (m.seen first) (m.seen old) → AreReads m first old → IfOk r (λ x. IsRun m xs steer cut old new)
+    → OnlyReads (m.seen first) (m.seen old) → WereRead m first old → IfOk r (λ x. IsRun m xs steer cut old new)
     → IfOk r (λ x. (s : JournalSuper) → super_of (body_at image base) ≡ Ok s → s.start ≢ 0 → IsRun m (commands base image) steer cut first new)
 run_read m base image (Ok x) same steer cut first old new read from run = λ s is some. run_behind m same steer cut first old new read from run
 run_read m base image (Err e) same steer cut first old new read from run = tt

@@ -20,7 +20,7 @@ pub parts-home_writes : (hs : List Logged) (id : ℕ) → length (all_parts (hom
 parts-home_writes [] id = refl
 parts-home_writes (h ∷ hs) id = ap suc (parts-home_writes hs (id + 1))
 
-command_of_part-there : (c : Command) (cs : List Command) (x : ℕ) → length c.parts ≤ x → command_of_part (c ∷ cs) x ≡ command_of_part cs (x - length c.parts) + 1
+pub command_of_part-there : (c : Command) (cs : List Command) (x : ℕ) → length c.parts ≤ x → command_of_part (c ∷ cs) x ≡ command_of_part cs (x - length c.parts) + 1
 command_of_part-there c cs x h = cond-false (nat_lt x (length c.parts)) 0 (command_of_part cs (x - length c.parts) + 1) (le-ltb x (length c.parts) h)
 
 -- a part behind the first commands belongs to a command behind them

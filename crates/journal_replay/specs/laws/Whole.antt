@@ -80,14 +80,14 @@ failed_stays id [] e = cc
 failed_stays id (c ∷ cs) e = failed_stays id cs e
 
 -- a flush that was answered
-flushed_in : (cs : List Completion) → end_after ends.Running cs ≡ ends.Flushed → (id : ℕ) × In (completion.Flushed id) cs
+pub flushed_in : (cs : List Completion) → end_after ends.Running cs ≡ ends.Flushed → (id : ℕ) × In (completion.Flushed id) cs
 flushed_in [] e = absurd (cc)
 flushed_in (completion.Moved id ∷ cs) e = let r = flushed_in cs e in (r.0, inr r.1)
 flushed_in (completion.Flushed id ∷ cs) e = (id, inl refl)
 flushed_in (completion.Failed id ∷ cs) e = absurd (failed_stays id cs e)
 flushed_in (completion.Cut ∷ cs) e = let r = flushed_in cs e in (r.0, inr r.1)
 
-super_place : (hs : List Logged) (base : ℕ) (y : List ℕ) → length hs < length (all_parts (sends hs (for_block base y)))
+pub super_place : (hs : List Logged) (base : ℕ) (y : List ℕ) → length hs < length (all_parts (sends hs (for_block base y)))
 super_place hs base y =
     let all = ap length (all_parts-append (home_writes 0 hs) (ending (length hs) (for_block base y))) ∙ length-append (all_parts (home_writes 0 hs)) (all_parts (ending (length hs) (for_block base y))) in
     let size = parts-home_writes hs 0 in

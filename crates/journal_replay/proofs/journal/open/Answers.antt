@@ -9,6 +9,8 @@ use Rattle.journal_blocks.specs.declared.fault.JournalFault.TheVariants.{BadCoun
 use Rattle.journal_replay.specs.Recovered.{transactions_of, fault_of}
 use Rattle.journal_replay.specs.laws.Recoveries.{fault-super, fault-long, fault-log}
 use Rattle.journal_replay.proofs.Faults.{same_bad}
+use Rattle.order_model.specs.Machine.{Machine, machine_of}
+use Rattle.journal_replay.specs.laws.Reads.{asked_failed}
 use Rattle.journal_replay.proofs.journal.open.Goals as goal
 
 pub returns-in-Err-clause-bad : goal.returns-in-Err-clause-bad
@@ -63,3 +65,9 @@ returns-clause-journal g c =
       log = c.in_ok-log.ensures.log ∙ ap (transactions_of base s) same;
       fine = fault-log base image s None read (omega (arith, count, short)) (ap (fault_of base s) (sym same) ∙ fine);
     }
+
+pub returns-in_default-clause-asked : goal.returns-in_default-clause-asked
+returns-in_default-clause-asked g c first before =
+    let d = g.D.OrderedDev in
+    let m : Machine d.State = machine_of d in
+    asked_failed m c.read_place.result first (d.state c.read_place.new.dev) (c.in_default.is ∙ ap Err c.in_default.ensures.read_fault) (c.read_place.ensures.asked first before)

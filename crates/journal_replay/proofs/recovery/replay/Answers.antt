@@ -4,11 +4,13 @@ use Rattle.blk_base.specs.Members.{In}
 use Rattle.order_model.specs.declared.completion.Completion.TheVariants.{Failed}
 use Rattle.order_model.specs.Machine.{Machine, machine_of}
 use Rattle.log_model.specs.Marks.{Logged, Transaction, mark_in}
-use Rattle.journal_replay.specs.Driving.{is_running}
+use Rattle.journal_replay.specs.Driving.{is_running, is_failed}
+use Rattle.journal_replay.specs.Endings.{HasNoLog, FailsBetween}
+use Rattle.journal_replay.specs.laws.Failures.{ended_true, ended_false}
 use Rattle.journal_replay.specs.code.Homes.{logged, logged_of}
 use Rattle.journal_replay.specs.laws.Plans.{length-homes}
 use Rattle.journal_replay.specs.laws.Whole.{commands_are, failed_in}
-use Rattle.journal_replay.specs.laws.Recoveries.{has_log, run_from, recoverable_from, fine_log, few_transactions, next_is}
+use Rattle.journal_replay.specs.laws.Recoveries.{has_log, emptied_log, run_from, recoverable_from, fine_log, few_transactions, next_is}
 use Rattle.journal_replay.proofs.Faults.{same_failed}
 use Rattle.journal_replay.proofs.recovery.replay.Goals as goal
 
@@ -82,3 +84,34 @@ returns-in-Failed-clause-device_failed g c id e =
       c.write_back.ensures.failed c.in-Failed.id c.in-Failed.is,
       subst (λ (i : ℕ). In (Failed i) (d.seen (d.state c.write_back.new.dev)).sent) same (failed_in c.in-Failed.id (d.seen (d.state c.write_back.new.dev)).sent (sym c.write_back.ensures.told ∙ c.in-Failed.is)),
     )
+
+pub returns-in-Flushed-clause-flushed : goal.returns-in-Flushed-clause-flushed
+returns-in-Flushed-clause-flushed g c =
+    let d = g.D.OrderedDev in
+    ended_true (commands_are c.args.base (d.seen (d.state c.args.dev.now)).surface (logged_of c.in-Ok-homes_of.homes.items) c.set_tail.new.b (has_log c.args.base (d.seen (d.state c.args.dev.now)).surface c.args.journal (logged_of c.in-Ok-homes_of.homes.items) c.len-replayed.result c.set_tail.new.b c.requires.journal c.requires.full c.in-Ok-homes_of.ensures c.len-replayed.ensures c.set_tail.ensures.value))
+    (d.seen (d.state c.write_back.new.dev)) c.write_back.result c.write_back.ensures.ends.flushed c.in-Flushed.is
+
+pub returns-in-Flushed-clause-no_failure : goal.returns-in-Flushed-clause-no_failure
+returns-in-Flushed-clause-no_failure g c = c.write_back.ensures.ends.failed_is ∙ ap is_failed c.in-Flushed.is
+
+pub returns-in-Running-clause-flushed : goal.returns-in-Running-clause-flushed
+returns-in-Running-clause-flushed g c =
+    let d = g.D.OrderedDev in
+    ended_false (commands_are c.args.base (d.seen (d.state c.args.dev.now)).surface (logged_of c.in-Ok-homes_of.homes.items) c.set_tail.new.b (has_log c.args.base (d.seen (d.state c.args.dev.now)).surface c.args.journal (logged_of c.in-Ok-homes_of.homes.items) c.len-replayed.result c.set_tail.new.b c.requires.journal c.requires.full c.in-Ok-homes_of.ensures c.len-replayed.ensures c.set_tail.ensures.value))
+    (d.seen (d.state c.write_back.new.dev)) c.write_back.result c.write_back.ensures.ends.flushed c.in-Running.is
+
+pub returns-in-Running-clause-no_failure : goal.returns-in-Running-clause-no_failure
+returns-in-Running-clause-no_failure g c = c.write_back.ensures.ends.failed_is ∙ ap is_failed c.in-Running.is
+
+pub returns-in-Flushed-clause-emptied : goal.returns-in-Flushed-clause-emptied
+returns-in-Flushed-clause-emptied g c ended =
+    let d = g.D.OrderedDev in
+    let j = c.requires.journal in
+    subst (λ (i : List (List ℕ)). HasNoLog c.args.base i) (sym (c.write_back.ensures.whole c.in-Flushed.is).0)
+    (emptied_log c.args.base (d.seen (d.state c.args.dev.now)).surface c.args.journal.fields c.requires.within j.size j.read c.requires.full)
+
+pub returns-in-Failed-clause-failure : goal.returns-in-Failed-clause-failure
+returns-in-Failed-clause-failure g c id e =
+    let d = g.D.OrderedDev in
+    let same : c.in-Failed.id ≡ id = same_failed c.in-Failed.id id e in
+    subst (λ (i : ℕ). FailsBetween (d.seen (d.state c.args.dev.now)) (d.seen (d.state c.write_back.new.dev)) i) same (c.write_back.ensures.ends.failure c.in-Failed.id c.in-Failed.is)

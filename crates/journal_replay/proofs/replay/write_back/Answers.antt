@@ -9,6 +9,7 @@ use Rattle.journal_replay.specs.code.Homes.{logged_of}
 use Rattle.journal_replay.specs.laws.Plans.{ends_in_flush}
 use Rattle.journal_replay.specs.code.Sending.{CanSend}
 use Rattle.journal_replay.specs.laws.Whole.{is_silent, can_send, attempt_from, between_from, whole_from, fault_from}
+use Rattle.journal_replay.specs.laws.Failures.{fresh_fine, end_from}
 use Rattle.order_model.specs.Machine.{Machine, machine_of}
 use Rattle.journal_replay.specs.code.Runs.{RunKeeps, IsFlushedLast}
 use Rattle.journal_replay.proofs.replay.write_back.Goals as goal
@@ -139,3 +140,33 @@ returns-clause-between g c =
     let f = c.finish.ensures in
     let kept = subst (λ (all : List Command). RunKeeps (d.seen old) all (d.seen new) c.finish.new.plan) c.make-plan.ensures (run-more _ _ _ _ _ _ c.follow-end.ensures.kept f.kept) in
     between_from c.args.base (d.seen old) (d.seen new) _ c.args.superblock _ (laws.surface old c.blocks-2.ensures.valid) c.requires.fresh c.requires.image c.requires.log kept.all (laws.surface new f.valid) (laws.epoch_order new f.valid)
+
+pub returns-then-cut-clause-ends : goal.returns-then-cut-clause-ends
+returns-then-cut-clause-ends g c =
+    let d = g.D.OrderedDev in
+    let laws = g.met.D.OrderedDev in
+    let old = d.state c.args.dev.now in
+    let new = d.state c.follow-end.new.dev in
+    let v = c.blocks-2.ensures.valid in
+    let f = c.follow-end.ensures in
+    let kept = subst (λ (all : List Command). RunKeeps (d.seen old) all (d.seen new) c.follow-end.new.plan) c.make-plan.ensures f.kept in
+    let off = laws.on old v c.requires.on in
+    end_from (logged_of c.args.homes.items) c.args.base c.args.superblock (d.seen old) (d.seen new) c.follow-end.new.plan c.follow-end.result c.requires.fresh
+    (fresh_fine (d.seen old) c.requires.fresh off (laws.completion old v) (laws.failure old v) (laws.power_cut old v).0)
+    (is_silent (d.seen old) c.requires.fresh off (laws.completion old v) (laws.failure old v) (laws.power_cut old v).0)
+    kept.all (laws.flush new f.valid) (laws.completion new f.valid) (laws.failure new f.valid) f.end f.empty
+
+pub returns-clause-ends : goal.returns-clause-ends
+returns-clause-ends g c =
+    let d = g.D.OrderedDev in
+    let laws = g.met.D.OrderedDev in
+    let old = d.state c.args.dev.now in
+    let new = d.state c.finish.new.dev in
+    let v = c.blocks-2.ensures.valid in
+    let f = c.finish.ensures in
+    let kept = subst (λ (all : List Command). RunKeeps (d.seen old) all (d.seen new) c.finish.new.plan) c.make-plan.ensures (run-more _ _ _ _ _ _ c.follow-end.ensures.kept f.kept) in
+    let off = laws.on old v c.requires.on in
+    end_from (logged_of c.args.homes.items) c.args.base c.args.superblock (d.seen old) (d.seen new) c.finish.new.plan c.finish.result c.requires.fresh
+    (fresh_fine (d.seen old) c.requires.fresh off (laws.completion old v) (laws.failure old v) (laws.power_cut old v).0)
+    (is_silent (d.seen old) c.requires.fresh off (laws.completion old v) (laws.failure old v) (laws.power_cut old v).0)
+    kept.all (laws.flush new f.valid) (laws.completion new f.valid) (laws.failure new f.valid) f.end f.empty

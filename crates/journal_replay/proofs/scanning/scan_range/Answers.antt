@@ -30,6 +30,6 @@ loop-place-preserved g c =
       valid = c.in_ok-body.ensures.valid;
       read = read_more _ _ _ i.read c.in_ok-body.ensures.read;
       on = λ on. c.in_ok-body.ensures.on (i.on on);
-      reads = λ first before. c.in_ok-body.ensures.reads first (i.reads first before);
+      reads = λ first before. c.in_ok-body.ensures.asked first (i.reads first before);
       sound = λ sound. let p = i.sound sound in let q = c.in_ok-body.ensures.sound p.0 in (q.0, q.1 ∙ p.1);
     }
