@@ -157,10 +157,10 @@ fn skipping(rt: &impl Abort, alloc: Global) -> Image {
 fn refused(
     rt: &impl Abort,
     alloc: Global,
+    image: Image,
     fail_at: Option<u64>,
     bad_read: Option<u64>,
 ) -> Option<MountFault> {
-    let image = skipping(rt, alloc);
     let setup = DeviceSetup {
         depth: 4,
         limit: u64::from(image.len()) + 2,
@@ -180,17 +180,35 @@ fn tells_what_the_device_failed(rt: HostRuntime) {
         (3, None),
     ];
     for (fail_at, fault) in rows {
-        let told = refused(&rt, rt.alloc(), Some(fail_at), None);
+        let told = refused(
+            &rt,
+            rt.alloc(),
+            skipping(&rt, rt.alloc()),
+            Some(fail_at),
+            None,
+        );
         assert_eq!(rt; told, fault, "{fail_at}");
+    }
+}
+
+// What is told where each of the reads up to this one fails: the fault, until there are fewer.
+fn expect_reads(rt: &impl Abort, alloc: Global, used: bool, reads: u64) {
+    for bad in 1..reads.saturating_add(2) {
+        let image = if used {
+            skipping(rt, alloc)
+        } else {
+            make_volume(alloc, 32, 64, 128, DEFAULT_WIDTH, false).expect(rt, "not made")
+        };
+        let fault = (bad <= reads).then_some(MountFault::ReadFault);
+        let told = refused(rt, alloc, image, None, Some(bad));
+        assert_eq!(rt; told, fault, "{bad}");
     }
 }
 
 #[test]
 fn tells_each_read_that_fails(rt: HostRuntime) {
-    // The superblock, the journal's once and once more, four blocks from the start of its log on, and 64 zones.
-    for bad in 1..73 {
-        let fault = (bad < 72).then_some(MountFault::ReadFault);
-        let told = refused(&rt, rt.alloc(), None, Some(bad));
-        assert_eq!(rt; told, fault, "{bad}");
-    }
+    // The superblock, the journal's once and once more, and 64 zones.
+    expect_reads(&rt, rt.alloc(), false, 67);
+    // Behind the journal's superblock four blocks from the start of its log on.
+    expect_reads(&rt, rt.alloc(), true, 71);
 }

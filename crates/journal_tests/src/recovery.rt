@@ -262,6 +262,15 @@ const FULL: [LogPart; 7] = [
     LogPart::Commit(5),
 ];
 
+// A transaction with a body of block 9, and a later one that revokes it.
+const CANCELLED: [LogPart; 5] = [
+    LogPart::Bodies(4, &[9]),
+    LogPart::Body(7),
+    LogPart::Commit(4),
+    LogPart::Revoke(5, &[9]),
+    LogPart::Commit(5),
+];
+
 fn skipping(rt: &impl Abort, alloc: Global) -> Image {
     image_of(rt, alloc, &FOUR, &SKIPPING)
 }
@@ -600,6 +609,21 @@ fn tells_which_command_failed(rt: HostRuntime) {
         let image = full(&rt, rt.alloc(), &FOUR);
         let result = recover_failing(&rt, rt.alloc(), image, Some(id + 1), None);
         assert_eq!(rt; result, Err(RecoverFault::DeviceFailed(id)));
+    }
+}
+
+// The superblock and the flush are the only commands, since a later revoke cancels the one body.
+#[test]
+fn tells_a_failure_up_to_the_flush(rt: HostRuntime) {
+    for fail_at in 1..4u64 {
+        let wanted = if fail_at < 3 {
+            Err(RecoverFault::DeviceFailed(fail_at.saturating_sub(1)))
+        } else {
+            ended(2, 7)
+        };
+        let image = image_of(&rt, rt.alloc(), &FOUR, &CANCELLED);
+        let result = recover_failing(&rt, rt.alloc(), image, Some(fail_at), None);
+        assert_eq!(rt; result, wanted, "{fail_at}");
     }
 }
 

@@ -1,10 +1,11 @@
 //! Mounting.
-ghost use Rattle.std.specs.Prelude.{◌≡◌, ℕ, ◌+◌, ◌<◌, ◌≤◌, false, length, [], None, Ok, Err, IfOk, IfErr, IfSome, OnErr, IsErrOf};
+ghost use Rattle.std.specs.Prelude.{◌≡◌, ◌≢◌, ℕ, ◌+◌, ◌<◌, ◌≤◌, false, length, [], None, Ok, Err, IfOk, IfErr, IfSome, OnErr, IsErrOf};
 ghost use Rattle.blk_base.specs.Members.{In};
 ghost use Rattle.blk_base.specs.Streams.{Rose};
 ghost use Rattle.order_model.specs.declared.completion.Completion.{Completion};
 ghost use Rattle.order_model.specs.Device.{IsQuiet};
 ghost use Rattle.order_model.specs.Steps.{OnlyReads};
+ghost use Rattle.journal_replay.specs.Endings.{FailsBetween};
 ghost use Rattle.minix_layout.specs.declared.division.Geometry.{Geometry};
 ghost use Rattle.minix_layout.specs.Geometry.{IsSound};
 ghost use Rattle.volume_ops.specs.Volume.{disk_of};
@@ -55,7 +56,10 @@ pub fn mount<D: OrderedDev>(alloc: Global, dev: &mut D) -> Result<Mounted, Mount
     ensures read_fault { IsErrOf result MountFault.ReadFault → Rose (D.seen (D.state dev.old)).faults (D.seen (D.state dev.new)).faults }
     ensures device_failed { (id : ℕ) → result ≡ Err (MountFault.DeviceFailed id) →
         Rose (D.seen (D.state dev.old)).faults (D.seen (D.state dev.new)).faults × In (Completion.Failed id) (D.seen (D.state dev.new)).sent }
-    ensures no_fault { D.sound (D.state dev.old) → (D.seen (D.state dev.new)).faults ≡ (D.seen (D.state dev.old)).faults }
+    ensures failure { (id : ℕ) → result ≡ Err (MountFault.DeviceFailed id) → FailsBetween (D.seen (D.state dev.old)) (D.seen (D.state dev.new)) id }
+    ensures no_failure { ((id : ℕ) → result ≢ Err (MountFault.DeviceFailed id)) → (D.seen (D.state dev.new)).failed ≡ false }
+    ensures counts { (D.seen (D.state dev.old)).faults ≤ (D.seen (D.state dev.new)).faults }
+    ensures no_fault { D.sound (D.state dev.old) → D.sound (D.state dev.new) × ((D.seen (D.state dev.new)).faults ≡ (D.seen (D.state dev.old)).faults) }
 {
     let g = read_geometry(dev)?;
     let zones = u32::from(g.zones);
@@ -80,6 +84,7 @@ fn read_geometry<D: OrderedDev>(dev: &mut D) -> Result<Geometry, MountFault>
     ensures read_fault { IsErrOf result MountFault.ReadFault → Rose (D.seen (D.state dev.old)).faults (D.seen (D.state dev.new)).faults }
     ensures no_failure { (id : ℕ) → IsErrOf result (MountFault.DeviceFailed id) → ⊥ }
     ensures read { HasRead (D.seen (D.state dev.old)) (D.seen (D.state dev.new)) }
+    ensures was_valid { D.valid (D.state dev.old) }
     ensures on { D.stays_on (D.state dev.old) → D.stays_on (D.state dev.new) }
     ensures no_fault { D.sound (D.state dev.old) → D.sound (D.state dev.new) × ((D.seen (D.state dev.new)).faults ≡ (D.seen (D.state dev.old)).faults) }
 {
@@ -120,6 +125,8 @@ fn recover_journal<D: OrderedDev>(
     ensures read_fault { IsErrOf result MountFault.ReadFault → Rose (D.seen (D.state dev.old)).faults (D.seen (D.state dev.new)).faults }
     ensures device_failed { (id : ℕ) → result ≡ Err (MountFault.DeviceFailed id) →
         Rose (D.seen (D.state dev.old)).faults (D.seen (D.state dev.new)).faults × In (Completion.Failed id) (D.seen (D.state dev.new)).sent }
+    ensures failure { (id : ℕ) → result ≡ Err (MountFault.DeviceFailed id) → FailsBetween (D.seen (D.state dev.old)) (D.seen (D.state dev.new)) id }
+    ensures no_failure { ((id : ℕ) → result ≢ Err (MountFault.DeviceFailed id)) → (D.seen (D.state dev.old)).failed ≡ false → (D.seen (D.state dev.new)).failed ≡ false }
     ensures counts { (D.seen (D.state dev.old)).faults ≤ (D.seen (D.state dev.new)).faults }
     ensures no_fault { D.sound (D.state dev.old) → D.sound (D.state dev.new) × ((D.seen (D.state dev.new)).faults ≡ (D.seen (D.state dev.old)).faults) }
 {

@@ -37,7 +37,7 @@ pub record HasDots (slots : List (Option Slot)) (own parent : ℕ) : Type 0 wher
   pub above : slice_get slots 1 ≡ Some (Some (record { inode = parent; name = codes ".." }))
   pub no_later : (k : ℕ) (s : Slot) → 1 < k → slice_get slots k ≡ Some (Some s) → is_dot s.name ≡ false
 
--- A directory has at most 519 zones of 64 slots each, just those that its slots need, and no hole among them.
+-- A directory has at most 519 zones of slots, just those that its slots need, and no hole among them.
 pub record HasSlotZones (g : Geometry) (blocks : List (List ℕ)) (i : Inode) (slots : ℕ) : Type 0 where
   pub few : slots ≤ most_slots g.width
   pub no_hole : (index : ℕ) → slots_a_block g.width * index < slots → zone_in blocks i (block index) ≢ 0

@@ -64,7 +64,7 @@ impl Volume {
         ensures fault { IfErr result (IsFaultOf g (take g.zones (D.seen (D.state dev.old)).surface)) }
         ensures read_fault { IsErrOf result VolumeFault.ReadFault → Rose (D.seen (D.state dev.old)).faults (D.seen (D.state dev.new)).faults }
         ensures reads { OnlyReads (D.seen (D.state dev.old)) (D.seen (D.state dev.new)) }
-        ensures no_fault { D.sound (D.state dev.old) → (D.seen (D.state dev.new)).faults ≡ (D.seen (D.state dev.old)).faults }
+        ensures no_fault { D.sound (D.state dev.old) → D.sound (D.state dev.new) × ((D.seen (D.state dev.new)).faults ≡ (D.seen (D.state dev.old)).faults) }
     {
         // By this call the device tells that its laws hold of its state.
         let _ = dev.blocks();
@@ -164,7 +164,7 @@ fn read_blocks<D: OrderedDev>(alloc: Global, dev: &mut D, blocks: u16) -> Result
     ensures no_layout { IfErr result IsOutside }
     ensures read_fault { IsErrOf result VolumeFault.ReadFault → Rose (D.seen (D.state dev.old)).faults (D.seen (D.state dev.new)).faults }
     ensures reads { OnlyReads (D.seen (D.state dev.old)) (D.seen (D.state dev.new)) }
-    ensures no_fault { D.sound (D.state dev.old) → (D.seen (D.state dev.new)).faults ≡ (D.seen (D.state dev.old)).faults }
+    ensures no_fault { D.sound (D.state dev.old) → D.sound (D.state dev.new) × ((D.seen (D.state dev.new)).faults ≡ (D.seen (D.state dev.old)).faults) }
 {
     let mut image = Image::zeroed(alloc, blocks.into())?;
     for block in 0..u32::from(blocks) {

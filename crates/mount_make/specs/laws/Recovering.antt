@@ -26,6 +26,7 @@ use Rattle.order_model.specs.Steps.{OnlyReads}
 use Rattle.journal_replay.specs.declared.fault.RecoverFault.{RecoverFault}
 use Rattle.journal_replay.specs.declared.fault.RecoverFault.TheVariants as recovery
 use Rattle.volume_ops.specs.laws.DeviceReads.{same_surface}
+use Rattle.mount_make.specs.declared.fault.MountFault.{MountFault}
 use Rattle.mount_make.specs.declared.fault.MountFault.TheVariants as mount
 use Rattle.mount_make.specs.code.Mounting.{KeepsImage}
 
@@ -148,6 +149,17 @@ failed_is (recovery.DeviceFailed n) id e = ap recovery.DeviceFailed (cc)
 failed_is recovery.ReadFault id e = absurd (cc)
 failed_is (recovery.BadJournal fault at) id e = absurd (cc)
 failed_is recovery.NoMemory id e = absurd (cc)
+
+-- so no other answer tells one
+pub ok_fine : {X : Type 0} (r : Result X RecoverFault) (x : X) → r ≡ Ok x → (id : ℕ) → r ≢ Err (recovery.DeviceFailed id)
+ok_fine {X = X} r x is id e = let none : ◌≡◌ {A = Result X RecoverFault} (Ok x) (Err (recovery.DeviceFailed id)) = sym is ∙ e in absurd (cc)
+
+pub err_fine : {X Y : Type 0} (r : Result X RecoverFault) (f : RecoverFault) (told : MountFault) → r ≡ Err f → told ≡ recovery_fault f
+    → ((id : ℕ) → ◌≢◌ {A = Result Y MountFault} (Err told) (Err (mount.DeviceFailed id))) → (id : ℕ) → r ≢ Err (recovery.DeviceFailed id)
+err_fine {X = X} r f told is as_told none id e =
+    let both : ◌≡◌ {A = Result X RecoverFault} (Err f) (Err (recovery.DeviceFailed id)) = sym is ∙ e in
+    let same : f ≡ recovery.DeviceFailed id = cc in
+    none id (ap Err (as_told ∙ ap recovery_fault same))
 
 -- ---- the whole image
 

@@ -1,4 +1,10 @@
-use Rattle.std.proofs.Common.{ℕ, List, ap, ◌∙◌, subst}
+use Rattle.std.specs.Prelude.{Result, Ok}
+use Rattle.std.specs.Result.{IsErrAnd}
+use Rattle.std.proofs.Common.{◌≡◌, ℕ, List, Err, sym, ap, ◌∙◌, subst}
+use Rattle.order_model.specs.Device.{Seen}
+use Rattle.journal_replay.specs.laws.Failures.{fresh_fine, fails_before}
+use Rattle.mount_make.specs.declared.fault.MountFault.{MountFault}
+use Rattle.mount_make.specs.declared.fault.MountFault.TheVariants.{DeviceFailed}
 use Rattle.volume_ops.specs.laws.DeviceReads.{quiet_after, same_surface}
 use Rattle.mount_make.specs.Images.{recovered_image}
 use Rattle.mount_make.specs.code.Mounting.{KeepsImage}
@@ -55,3 +61,66 @@ pub returns-in-Ok-read_all-clause-quiet : goal.returns-in-Ok-read_all-clause-qui
 returns-in-Ok-read_all-clause-quiet g c =
     let d = g.D.OrderedDev in
     quiet_after (d.seen (d.state c.recover_journal.new.dev)) (d.seen (d.state c.read_all.new.dev)) c.read_all.ensures.reads c.in_ok-log.ensures.quiet
+
+-- ---- a device that failed, and one that did not
+
+-- a fault that is handed on
+err_of : {A E : Type 0} (r : Result A E) (fault : E) → IsErrAnd r (λ x. x ≡ fault) → r ≡ Err fault
+err_of (Ok x) fault h = absurd h
+err_of (Err e) fault h = ap Err h
+
+same_err : {A E : Type 0} (x y : E) → ◌≡◌ {A = Result A E} (Err x) (Err y) → x ≡ y
+same_err x y e = cc
+
+pub returns-in_err-g-clause-no_failure : goal.returns-in_err-g-clause-no_failure
+returns-in_err-g-clause-no_failure g c none =
+    let d = g.D.OrderedDev in
+    let laws = g.met.D.OrderedDev in
+    let old = d.state c.args.dev.now in
+    let v = c.read_geometry.ensures.was_valid in
+    ap (λ (x : Seen). x.failed) c.read_geometry.ensures.read.reads.0 ∙ fresh_fine (d.seen old) c.requires.fresh (laws.on old v c.requires.on) (laws.completion old v) (laws.failure old v) (laws.power_cut old v).0
+
+pub returns-in_err-log-clause-failure : goal.returns-in_err-log-clause-failure
+returns-in_err-log-clause-failure g c id e =
+    let d = g.D.OrderedDev in
+    let h = rw e at c.from_residual-in_err-log.ensures.1 in
+    let same : ◌≡◌ {A = MountFault} c.in_err-log.field-0.0 (DeviceFailed id) = sym h in
+    fails_before (d.seen (d.state c.args.dev.now)) (d.seen (d.state c.read_geometry.new.dev)) (d.seen (d.state c.recover_journal.new.dev)) id c.in_ok-g.ensures.read.reads.0
+    (c.recover_journal.ensures.failure id (c.in_err-log.was ∙ ap Err same))
+
+pub returns-in_err-log-clause-no_failure : goal.returns-in_err-log-clause-no_failure
+returns-in_err-log-clause-no_failure g c none =
+    let d = g.D.OrderedDev in
+    let laws = g.met.D.OrderedDev in
+    let old = d.state c.args.dev.now in
+    let v = c.read_geometry.ensures.was_valid in
+    let before = ap (λ (x : Seen). x.failed) c.read_geometry.ensures.read.reads.0 ∙ fresh_fine (d.seen old) c.requires.fresh (laws.on old v c.requires.on) (laws.completion old v) (laws.failure old v) (laws.power_cut old v).0 in
+    let is = err_of c.from_residual-in_err-log.result c.in_err-log.field-0.0 c.from_residual-in_err-log.ensures.1 in
+    c.in_err-log.ensures.no_failure (λ id e. none id (is ∙ ap Err (same_err c.in_err-log.field-0.0 (DeviceFailed id) e))) before
+
+pub returns-in_default-clause-no_failure : goal.returns-in_default-clause-no_failure
+returns-in_default-clause-no_failure g c none =
+    let d = g.D.OrderedDev in
+    let laws = g.met.D.OrderedDev in
+    let old = d.state c.args.dev.now in
+    let v = c.read_geometry.ensures.was_valid in
+    let before = ap (λ (x : Seen). x.failed) c.read_geometry.ensures.read.reads.0 ∙ fresh_fine (d.seen old) c.requires.fresh (laws.on old v c.requires.on) (laws.completion old v) (laws.failure old v) (laws.power_cut old v).0 in
+    c.in_ok-log.ensures.no_failure (λ id e. absurd (cc)) before
+
+pub returns-in-Ok-read_all-clause-no_failure : goal.returns-in-Ok-read_all-clause-no_failure
+returns-in-Ok-read_all-clause-no_failure g c none =
+    let d = g.D.OrderedDev in
+    let laws = g.met.D.OrderedDev in
+    let old = d.state c.args.dev.now in
+    let v = c.read_geometry.ensures.was_valid in
+    let before = ap (λ (x : Seen). x.failed) c.read_geometry.ensures.read.reads.0 ∙ fresh_fine (d.seen old) c.requires.fresh (laws.on old v c.requires.on) (laws.completion old v) (laws.failure old v) (laws.power_cut old v).0 in
+    ap (λ (x : Seen). x.failed) c.read_all.ensures.reads.0 ∙ c.in_ok-log.ensures.no_failure (λ id e. absurd (cc)) before
+
+pub returns-in-Err-clause-no_failure : goal.returns-in-Err-clause-no_failure
+returns-in-Err-clause-no_failure g c none =
+    let d = g.D.OrderedDev in
+    let laws = g.met.D.OrderedDev in
+    let old = d.state c.args.dev.now in
+    let v = c.read_geometry.ensures.was_valid in
+    let before = ap (λ (x : Seen). x.failed) c.read_geometry.ensures.read.reads.0 ∙ fresh_fine (d.seen old) c.requires.fresh (laws.on old v c.requires.on) (laws.completion old v) (laws.failure old v) (laws.power_cut old v).0 in
+    ap (λ (x : Seen). x.failed) c.read_all.ensures.reads.0 ∙ c.in_ok-log.ensures.no_failure (λ id e. absurd (cc)) before

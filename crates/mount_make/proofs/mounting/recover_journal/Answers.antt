@@ -1,6 +1,7 @@
 use Rattle.std.proofs.Common.{◌≡◌, ℕ, ◌<◌, true, List, Some, Ok, Err, length, sym, ap, ◌∙◌, subst, arith, refl}
 use Rattle.journal_blocks.specs.Super.{super_of, is_journal}
 use Rattle.journal_replay.specs.laws.Drives.{later_rose}
+use Rattle.journal_replay.specs.laws.Failures.{fails_before}
 use Rattle.journal_replay.specs.laws.Recoveries.{fault-super}
 use Rattle.volume_ops.specs.Volume.{disk_of}
 use Rattle.mount_make.specs.declared.fault.ImageFault.{ImageFault}
@@ -8,7 +9,7 @@ use Rattle.mount_make.specs.declared.fault.MountFault.{MountFault}
 use Rattle.mount_make.specs.declared.fault.MountFault.TheVariants.{DeviceFailed}
 use Rattle.mount_make.specs.Images.{FaultPlace, journal_at}
 use Rattle.mount_make.specs.code.Mounting.{KeepsImage}
-use Rattle.mount_make.specs.laws.Recovering.{keeps_attempt, keeps_failed, failed_is, found_fault, journal_after}
+use Rattle.mount_make.specs.laws.Recovering.{keeps_attempt, keeps_failed, failed_is, ok_fine, err_fine, found_fault, journal_after}
 use Rattle.mount_make.proofs.mounting.recover_journal.Goals as goal
 
 pub returns-in-Err-clause-told : goal.returns-in-Err-clause-told
@@ -83,3 +84,16 @@ returns-in-Err-recover-clause-device_failed g c id e =
     let same : ◌≡◌ {A = MountFault} c.recovery_fault.result (DeviceFailed id) = cc in
     let failed = c.recover.ensures.device_failed id (c.in-Err-recover.is ∙ ap Err (failed_is c.in-Err-recover.fault id (sym c.recovery_fault.ensures ∙ same))) in
     (later_rose (d.seen (d.state c.args.dev.now)).faults (d.seen (d.state c.read_block.new.dev)).faults (d.seen (d.state c.recover.new.dev)).faults failed.0 c.in_ok-first.ensures.read.reads.1 c.recover.ensures.counts, failed.1)
+
+pub returns-in-Err-recover-clause-failure : goal.returns-in-Err-recover-clause-failure
+returns-in-Err-recover-clause-failure g c id e =
+    let d = g.D.OrderedDev in
+    let same : ◌≡◌ {A = MountFault} c.recovery_fault.result (DeviceFailed id) = cc in
+    fails_before (d.seen (d.state c.args.dev.now)) (d.seen (d.state c.read_block.new.dev)) (d.seen (d.state c.recover.new.dev)) id c.in_ok-first.ensures.read.reads.0
+    (c.recover.ensures.failure id (c.in-Err-recover.is ∙ ap Err (failed_is c.in-Err-recover.fault id (sym c.recovery_fault.ensures ∙ same))))
+
+pub returns-in-Ok-recover-clause-no_failure : goal.returns-in-Ok-recover-clause-no_failure
+returns-in-Ok-recover-clause-no_failure g c none before = c.recover.ensures.no_failure (ok_fine c.recover.result c.in-Ok-recover.done c.in-Ok-recover.is)
+
+pub returns-in-Err-recover-clause-no_failure : goal.returns-in-Err-recover-clause-no_failure
+returns-in-Err-recover-clause-no_failure g c none before = c.recover.ensures.no_failure (err_fine c.recover.result c.in-Err-recover.fault c.recovery_fault.result c.in-Err-recover.is c.recovery_fault.ensures none)
