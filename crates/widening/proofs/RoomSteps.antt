@@ -1,8 +1,8 @@
 -- Directories one after the other, and all of them: where there is room, and what is written.
-use Rattle.std.specs.Prelude.{◌≡◌, ◌≢◌, ℕ, suc, ◌+◌, ◌-◌, ◌==◌, ◌||◌, nat_lt, Bool, true, false, not, if◌then◌else◌, List, [], ◌∷◌, ◌++◌, length, Result, Ok, Err, OnOk, IfOk, IfErr, refl}
-use Rattle.std.proofs.Common.{sym, ap, ◌∙◌, inl, inr, arith, cond}
-use Rattle.std.proofs.lemmas.Bool.{cases_Bool, cases_eq, eq-eqb, ne_eqb, lt-ltb, le-ltb, ltb-true, ltb-false}
-use Rattle.std.proofs.lemmas.List.{length-append, length-drop}
+use Rattle.std.specs.Prelude.{◌≡◌, ◌≢◌, ℕ, ◌+◌, ◌-◌, ◌||◌, nat_lt, Bool, true, false, if◌then◌else◌, List, [], ◌∷◌, ◌++◌, length, Result, Ok, Err, OnOk, IfOk, IfErr, refl}
+use Rattle.std.proofs.Common.{sym, ap, ◌∙◌, inl, inr, arith}
+use Rattle.std.proofs.lemmas.Bool.{cases_Bool, eq-eqb, ne_eqb, lt-ltb, le-ltb, ltb-true, ltb-false}
+use Rattle.std.proofs.lemmas.List.{length-drop}
 use Rattle.minix_layout.specs.declared.division.Geometry.{Geometry}
 use Rattle.minix_layout.specs.declared.inode.Inode.{Inode}
 use Rattle.tree_model.specs.declared.node.Node.{Node}
@@ -17,41 +17,11 @@ use Rattle.volume_ops.specs.laws.ReadsLaws.{err-ok, same_Ok}
 use Rattle.volume_model.specs.Edits.{Edit, edited, edited_all}
 use Rattle.widening.specs.declared.fault.WidenFault.{WidenFault}
 use Rattle.widening.specs.declared.fault.WidenFault.TheVariants as faults
-use Rattle.widening.specs.Directories.{zones_needed, no_holes, data_zones, directories, edits_of, left_by, all_edits, beyond, all_beyond, has_too_many, has_no_room, free_zones}
+use Rattle.widening.specs.Directories.{zones_needed, directories, edits_of, left_by, all_edits, beyond, all_beyond, has_too_many, has_no_room, free_zones}
 use Rattle.widening.specs.Widened.{wide, magic_edit, with_directories, by_walk, widened}
 use Rattle.widening.specs.code.Faults.{IsToldBy}
+use Rattle.widening.proofs.Needs.{same_need}
 use Rattle.widening.specs.code.Steps.{Widening, taken_by, after_one, node_written, nodes_written}
-
--- ---- what a directory needs beyond its own
-
-hole_left_out : (z : ℕ) (zs : List ℕ) → z ≡ 0 → no_holes (z ∷ zs) ≡ no_holes zs
-hole_left_out z zs e = ap (λ b. cond (not b) (z ∷ no_holes zs) (no_holes zs)) (eq-eqb z 0 e)
-
-no_hole_stays : (z : ℕ) (zs : List ℕ) → z ≢ 0 → no_holes (z ∷ zs) ≡ z ∷ no_holes zs
-no_hole_stays z zs apart = ap (λ b. cond (not b) (z ∷ no_holes zs) (no_holes zs)) (ne_eqb z 0 apart)
-
-abbrev ones : Bool → ℕ
-ones b = if b then 1 else 0
-
-gap : (needed indirect double : ℕ) (more : Bool) (own behind : List ℕ) →
-    needed + (if (if more then indirect else 0) == 0 then (if more then 1 else 0) else 0) - length (own ++ (no_holes ((if more then 0 else indirect) ∷ double ∷ []) ++ behind))
-    ≡ needed + (if more then 1 else 0) - (length own + length (no_holes (indirect ∷ double ∷ []) ++ behind))
-gap needed indirect double false own behind = ap (λ n. needed + 0 - n) (length-append own (no_holes (indirect ∷ double ∷ []) ++ behind))
-gap needed indirect double true own behind =
-    let both = length-append own (no_holes (double ∷ []) ++ behind) in
-    elim (cases_eq indirect 0) [
-      | inl none ↦
-          let one : ◌≡◌ {A = ℕ} (if indirect == 0 then 1 else 0) 1 = ap (λ b. ones b) (eq-eqb indirect 0 none) in
-          let same : length (no_holes (indirect ∷ double ∷ []) ++ behind) ≡ length (no_holes (double ∷ []) ++ behind) = ap (λ zs. length (zs ++ behind)) (hole_left_out indirect (double ∷ []) none) in
-          omega (arith, one, same, both)
-      | inr some ↦
-          let none : ◌≡◌ {A = ℕ} (if indirect == 0 then 1 else 0) 0 = ap (λ b. ones b) (ne_eqb indirect 0 some) in
-          let more : length (no_holes (indirect ∷ double ∷ []) ++ behind) ≡ suc (length (no_holes (double ∷ []) ++ behind)) = ap (λ zs. length (zs ++ behind)) (no_hole_stays indirect (double ∷ []) some) in
-          omega (arith, none, more, both)
-    ]
-
-same_need : (i : Inode) (blocks : List (List ℕ)) (needed : ℕ) → taken_by i blocks needed ≡ beyond i blocks needed
-same_need i blocks needed = gap needed _ _ (nat_lt 7 needed) (data_zones blocks i) _
 
 -- ---- all directories
 

@@ -162,10 +162,19 @@ abbrev pub left_by : Geometry → List (List ℕ) → ℕ → Directory → List
 left_by g blocks number d free = zones_left (zones_needed (length d.names))
     (kept_by (inode_at g blocks number) (zones_needed (length d.names))) (own_zones blocks (inode_at g blocks number) (zones_needed (length d.names))) free
 
+abbrev pub got_by : Geometry → List (List ℕ) → ℕ → Directory → List ℕ → List ℕ
+got_by g blocks number d free = zones_taken (zones_needed (length d.names))
+    (kept_by (inode_at g blocks number) (zones_needed (length d.names))) (own_zones blocks (inode_at g blocks number) (zones_needed (length d.names))) free
+
 -- one after the other; each takes of what the ones before left
 abbrev pub all_edits : Geometry → List (List ℕ) → List (ℕ × Directory) → List ℕ → List Edit
 all_edits g blocks [] free = []
 all_edits g blocks (e ∷ es) free = edits_of g blocks e.0 e.1 free ++ all_edits g blocks es (left_by g blocks e.0 e.1 free)
+
+-- the zones that they get
+abbrev pub zones_got : Geometry → List (List ℕ) → List (ℕ × Directory) → List ℕ → List ℕ
+zones_got g blocks [] free = []
+zones_got g blocks (e ∷ es) free = got_by g blocks e.0 e.1 free ++ zones_got g blocks es (left_by g blocks e.0 e.1 free)
 
 -- ---- no room
 

@@ -1,5 +1,5 @@
 //! Widening an image.
-ghost use Rattle.std.specs.Prelude.{◌≡◌, ◌≢◌, ℕ, ◌+◌, ◌<◌, ◌≤◌, ◌^◌, false, List, [], length, Ok, Err, IfOk, IfErr, OnOk};
+ghost use Rattle.std.specs.Prelude.{◌≡◌, ◌≢◌, ℕ, ◌+◌, ◌<◌, ◌≤◌, ◌^◌, false, List, [], length, Ok, Err, IfOk, IfErr, OnOk, IsErrOf};
 ghost use Rattle.std.specs.List.{All};
 ghost use Rattle.blk_base.specs.Members.{In};
 ghost use Rattle.blk_base.specs.Streams.{Rose};
@@ -50,8 +50,10 @@ pub fn widen<D: OrderedDev>(alloc: Global, dev: &mut D) -> Result<Image, WidenFa
     ensures attempt { recovered_image (D.seen (D.state dev.new)).surface ≡ recovered_image (D.seen (D.state dev.old)).surface }
     ensures reads { (g : Geometry) → divided (D.seen (D.state dev.old)).surface ≡ Ok g → has_journal g.zones (D.seen (D.state dev.old)).surface ≡ false →
         OnlyReads (D.seen (D.state dev.old)) (D.seen (D.state dev.new)) }
+    ensures read_fault { IsErrOf result WidenFault.ReadFault → Rose (D.seen (D.state dev.old)).faults (D.seen (D.state dev.new)).faults }
     ensures device_failed { (id : ℕ) → result ≡ Err (WidenFault.DeviceFailed id) →
         Rose (D.seen (D.state dev.old)).faults (D.seen (D.state dev.new)).faults × In (Completion.Failed id) (D.seen (D.state dev.new)).sent }
+    ensures no_fault { D.sound (D.state dev.old) → D.sound (D.state dev.new) × ((D.seen (D.state dev.new)).faults ≡ (D.seen (D.state dev.old)).faults) }
 {
     let volume = match mount(alloc, dev) {
         Ok(mounted) => mounted.volume,
@@ -66,7 +68,9 @@ fn read_image<D: OrderedDev>(alloc: Global, dev: &mut D) -> Result<Image, WidenF
     requires quiet { IsQuiet (D.seen (D.state dev.old)) }
     ensures image { IfOk result (λ image. image ≡ (D.seen (D.state dev.old)).surface) }
     ensures fault { IfErr result IsOutside }
+    ensures read_fault { IsErrOf result WidenFault.ReadFault → Rose (D.seen (D.state dev.old)).faults (D.seen (D.state dev.new)).faults }
     ensures reads { OnlyReads (D.seen (D.state dev.old)) (D.seen (D.state dev.new)) }
+    ensures no_fault { D.sound (D.state dev.old) → D.sound (D.state dev.new) × ((D.seen (D.state dev.new)).faults ≡ (D.seen (D.state dev.old)).faults) }
 {
     let blocks = dev.blocks();
     let mut image = Image::zeroed(alloc, blocks)?;

@@ -24,4 +24,6 @@ loop-block-preserved g c =
       read =
           filled_to-next (filled 0) c.in-Ok.body c.blocks-blocks.result block (d.seen (d.state c.args.dev.now)).surface c.loop-block.image _ so_far.read below
           (ap (λ xs. slice_get xs block) (sym (same_surface _ _ so_far.reads)) ∙ c.in-Ok.ensures.body) c.put.ensures;
+      sound = λ sound. subst d.sound (sym after) (laws.stays_sound now block (so_far.sound sound)).3;
+      no_fault = λ sound. ap (λ s. (d.seen s).faults) after ∙ ((laws.no_fault now block so_far.valid (so_far.sound sound)).1 ∙ so_far.no_fault sound);
     }

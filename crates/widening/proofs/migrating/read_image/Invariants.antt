@@ -11,4 +11,6 @@ invariant-loop-block g l =
       valid : d.valid (d.state l.dev);
       reads : OnlyReads (d.seen (d.state l.fn.dev)) (d.seen (d.state l.dev));
       read : l.image ≡ filled_to (filled 0) l.blocks (d.seen (d.state l.fn.dev)).surface l.block;
+      sound : d.sound (d.state l.fn.dev) → d.sound (d.state l.dev);
+      no_fault : d.sound (d.state l.fn.dev) → (d.seen (d.state l.dev)).faults ≡ (d.seen (d.state l.fn.dev)).faults;
     }
