@@ -1,6 +1,6 @@
 -- An attempt of recovery leaves a journal without a fault.
 use Rattle.std.specs.Prelude.{◌≡◌, ◌≢◌, ℕ, ◌-◌, ◌<◌, ◌≤◌, ◌==◌, Bool, true, false, List, length, slice_get, Option, Some, None, Result, Ok, Err, refl}
-use Rattle.std.proofs.Common.{sym, ap, ◌∙◌, subst, ⊎_elim, arith}
+use Rattle.std.proofs.Common.{sym, ap, ◌∙◌, subst, ⊎_elim, inl, inr, arith}
 use Rattle.std.proofs.lemmas.Bool.{cases_lt, eqb-true, true≢false}
 use Rattle.blk_base.specs.laws.Members.{slice_get-in_range, slice_get-out}
 use Rattle.log_model.specs.Marks.{Mark, Keep, Clear, Set, body_after}
@@ -10,7 +10,7 @@ use Rattle.journal_blocks.specs.Super.{super_of}
 use Rattle.journal_blocks.specs.Log.{Reading, body_at}
 use Rattle.journal_blocks.specs.laws.Logs.{mark-inside}
 use Rattle.journal_replay.specs.Recovered.{log_mark, recovered, journal_fault, fault_of, AreBetween}
-use Rattle.journal_replay.specs.laws.Attempts.{same_body, same_log, recovered-full}
+use Rattle.journal_replay.specs.laws.Attempts.{same_body, same_log, recovered-full, recovered-empty}
 use Rattle.journal_replay.specs.laws.Recoveries.{fault-super, fault-long, fault-log, fault-full, fault-empty, fine_log}
 use Rattle.mount_make.specs.laws.Recovering.{length-recovered, emptied_after, emptied-at, keeps_attempt}
 use Rattle.session_recovery.specs.code.Left.{IsLeft}
@@ -112,3 +112,16 @@ left_after base image left new first then = record {
     recovered = then.keeps.recovered ∙ first.keeps.recovered;
   };
 }
+
+-- ---- no attempt, and a recovery that has ended
+
+pub left_untouched : (base : ℕ) (image : List (List ℕ)) → base < length image → length (body_at image base) ≡ 1024 → journal_fault base image ≡ None → IsLeft base image image
+left_untouched base image within whole fine = left_by base image image within whole fine refl (λ b. inl refl)
+
+-- the log of the recovered image is empty, so it recovers to itself
+pub left_recovered : (base : ℕ) (image : List (List ℕ)) → base < length image → length (body_at image base) ≡ 1024 → journal_fault base image ≡ None → IsLeft base image (recovered base image)
+left_recovered base image within whole fine =
+    let s = super_by base image (super_of (body_at image base)) refl fine in
+    let after = emptied_after base image s.0 within whole s.1 in
+    let t : JournalSuper = record s.0 { sequence = after.sequence; start = 0 } in
+    left_by base image (recovered base image) within whole fine (recovered-empty base (recovered base image) t after.read refl) (λ b. inr refl)

@@ -25,6 +25,7 @@ use Rattle.mount_make.specs.laws.Recovering.{journal_after}
 use Rattle.mount_make.specs.Images.{FaultPlace, by_super, divided, has_journal, as_told, fault_in_journal, recovered_from, volume_in, by_walk, by_journal, by_geometry, mounted, recovered_by, recovered_image, journal_at}
 use Rattle.session_recovery.specs.Found.{words_from, found_by, found_in}
 use Rattle.session_recovery.specs.code.Left.{IsLeft}
+use Rattle.session_recovery.proofs.Kept.{left_untouched, left_recovered}
 
 -- ---- an image that is mounted
 
@@ -147,6 +148,28 @@ module _ (base : ℕ) (image left : List (List ℕ)) (v : VolumeState) (is : mou
   log_after s read size some =
       ap (journal_at base) mounted_still.recovered_is
       ∙ journal_after base image s (next_sequence (log_of base s image)) (journal_within base image has) size read (λ t after. recovered_super base image s t (journal_within base image has) size read some after)
+
+-- ---- the image that recovery leaves in the end
+
+-- it is that of the image before the attempts, and is mounted as the same volume
+pub record IsMountedAgain (image last : List (List ℕ)) (v : VolumeState) : Type 0 where
+  pub recovered_is : last ≡ recovered_image image
+  pub mounts : mounted last ≡ Ok v
+
+no_fault_by : (has : Bool) (o : Option (JournalFault × ℕ)) → has ≡ true → ◌≡◌ {A = Option FaultPlace} (if has then option_map as_told o else None) None → o ≡ None
+no_fault_by true None is e = refl
+no_fault_by true (Some fault) is e = absurd (cc)
+no_fault_by false o is e = absurd (cc)
+
+pub mounted_again : (base : ℕ) (image left last : List (List ℕ)) (v : VolumeState) → mounted image ≡ Ok v → v.geometry.zones ≡ base → has_journal base image ≡ true → IsLeft base image left
+    → length (disk_of image base) ≡ 1024 → last ≡ recovered_image left → IsMountedAgain image last v
+mounted_again base image left last v is zones has kept whole e =
+    let within = journal_within base image has in
+    let fine = no_fault_by (has_journal base image) (journal_fault base image) has (subst (λ (n : ℕ). fault_in_journal n image ≡ None) zones (mountable image v is).fine) in
+    let stays = mounted_still base image image v is zones has (left_untouched base image within whole fine) in
+    let after = mounted_still base image (recovered base image) v is zones has (left_recovered base image within whole fine) in
+    let same : last ≡ recovered base image = e ∙ (mounted_still base image left v is zones has kept).recovered_is in
+    record { recovered_is = same ∙ sym stays.recovered_is; mounts = ap mounted same ∙ after.mounts }
 
 -- the number past the last of the log
 pub reached_by : (base : ℕ) (image : List (List ℕ)) (s : JournalSuper) → s.sequence < 2 ^ 32 → s.start ≢ 0 → next_sequence (log_of base s image) ≡ (s.sequence + length (transactions_of base s image) + 1) % 2 ^ 32

@@ -15,6 +15,7 @@ use blk_base::{Image, NoMemory};
 use event_grammar::SteerLine;
 use journal_blocks::{JournalSuper, read_super};
 use mount_make::{MountFault, Mounted, mount};
+use order_model::OrderedDev;
 use stack_core::Maker;
 use std::alloc::Global;
 use volume_ops::Volume;
@@ -24,6 +25,8 @@ use volume_ops::Volume;
 pub struct Remounted {
     pub attempts: Vec<Attempt>,
     pub volume: Volume,
+    /// The blocks that its recovery left, of volume and journal.
+    pub image: Image,
     /// How many transactions of the session the volume has.
     pub found: u32,
 }
@@ -44,14 +47,18 @@ pub fn remount<M: Maker>(
     ensures setup { M.setup maker.new ≡ M.setup maker.old }
     ensures attempts { IfOk result (λ r. IsMountedBehind (machine_of M.Dev.OrderedDev) (λ i. M.Dev.OrderedDev.state (M.fresh_dev (M.setup maker.old) i)) base image lines.now r.attempts.items r.volume) }
     ensures volume { IfOk result (λ r. mounted image ≡ Ok r.volume) }
+    ensures recovered { IfOk result (λ r. r.image ≡ recovered_image image) }
+    ensures again { IfOk result (λ r. mounted r.image ≡ Ok r.volume) }
     ensures found { IfOk result (λ r. r.found ≡ found_in base first_sequence image) }
 {
     let journal = journal_of(&image, base);
     let (attempts, left) = recover_lines(alloc, maker, base, image, lines)?;
-    let Mounted { volume, log, .. } = mount_image(alloc, maker, left)?;
+    let (mounted, image) = mount_image(alloc, maker, left)?;
+    let Mounted { volume, log, .. } = mounted;
     Ok(Remounted {
         attempts,
         volume,
+        image,
         found: found_before(first_sequence, journal, log),
     })
 }
@@ -70,16 +77,21 @@ fn journal_of(image: &Image, base: u32) -> JournalSuper
     }
 }
 
-// Mounts an image without a fault on a fresh device.
-fn mount_image<M: Maker>(alloc: Global, maker: &mut M, image: Image) -> Result<Mounted, NoMemory>
+// Mounts an image without a fault on a fresh device, and answers the image that this leaves, too.
+fn mount_image<M: Maker>(
+    alloc: Global,
+    maker: &mut M,
+    image: Image,
+) -> Result<(Mounted, Image), NoMemory>
     requires mounts { (v : VolumeState) × (mounted image ≡ Ok v) }
     ensures setup { M.setup maker.new ≡ M.setup maker.old }
-    ensures volume { IfOk result (λ m. mounted image ≡ Ok m.volume) }
-    ensures log { IfOk result (λ m. m.log ≡ journal_at m.volume.geometry.zones (recovered_image image)) }
+    ensures volume { IfOk result (λ r. mounted image ≡ Ok r.0.volume) }
+    ensures log { IfOk result (λ r. r.0.log ≡ journal_at r.0.volume.geometry.zones (recovered_image image)) }
+    ensures recovered { IfOk result (λ r. r.1 ≡ recovered_image image) }
 {
     let mut device = maker.fresh(alloc, image)?;
     match mount(alloc, &mut device) {
-        Ok(mounted) => Ok(mounted),
+        Ok(mounted) => Ok((mounted, device.cut().image)),
         Err(MountFault::NoMemory) => Err(NoMemory),
         Err(MountFault::Image(..) | MountFault::ReadFault | MountFault::DeviceFailed(_)) => {
             unreachable!()

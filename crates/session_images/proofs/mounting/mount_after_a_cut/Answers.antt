@@ -10,6 +10,6 @@ returns g c =
     record {
       no_fault = λ s events m sizes cut same fault block. no_image_fault s sizes (new s.geometry sizes.sound) events m cut (made s.geometry s.journal s.wide sizes.sound sizes.least sizes.most).0 surface same c.mount.result c.mount.ensures.fault fault block;
       sound = λ s events m sizes cut same sound room. only_memory s sizes (new s.geometry sizes.sound) events m cut (made s.geometry s.journal s.wide sizes.sound sizes.least sizes.most).0 surface same c.mount.result
-          (d.seen (d.state c.args.dev.now)).faults (d.seen (d.state c.mount.new.dev)).faults c.mount.ensures.fault c.mount.ensures.read_fault (λ id e. (c.mount.ensures.device_failed id e).0) (c.mount.ensures.no_fault sound) room;
+          (d.seen (d.state c.args.dev.now)).faults (d.seen (d.state c.mount.new.dev)).faults c.mount.ensures.fault c.mount.ensures.read_fault (λ id e. (c.mount.ensures.device_failed id e).0) (c.mount.ensures.no_fault sound).1 room;
       tree = λ s events m sizes cut same. has_tree s sizes (new s.geometry sizes.sound) events m cut (made s.geometry s.journal s.wide sizes.sound sizes.least sizes.most).0 surface same (λ x. x.volume) c.mount.result c.mount.ensures.volume;
     }
