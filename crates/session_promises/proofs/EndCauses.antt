@@ -68,7 +68,7 @@ module _ {T V C R : Type 0} (M : Model T V C R) (u : Setup) where
       by false is d = reads (is_reading kind) refl d
 
 -- barrier and sync calls do not only read
-begun_writes : (k : CallKind) → is_begun k ≡ true → is_reading k ≡ false
+pub begun_writes : (k : CallKind) → is_begun k ≡ true → is_reading k ≡ false
 begun_writes Reading e = sym e
 begun_writes Changing e = refl
 begun_writes FileBarrier e = refl

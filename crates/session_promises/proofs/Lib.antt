@@ -5,6 +5,7 @@ pub mod Origins
 pub mod BegunCalls
 pub mod Ends
 pub mod EndCauses
+pub mod Ceases
 pub mod Orders
 pub mod TreeReplies
 pub mod LegalEnds
@@ -13,3 +14,4 @@ pub mod SessionTrees
 pub mod SessionHistory
 pub mod SessionAnswers
 pub mod SessionReplies
+pub mod Renames

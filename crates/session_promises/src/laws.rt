@@ -1,11 +1,12 @@
 //! The laws, each a public function that does nothing when it is called.
-ghost use Rattle.std.specs.Prelude.{◌≡◌, ℕ, ◌≤◌, false, List, length};
+ghost use Rattle.std.specs.Prelude.{◌≡◌, ℕ, ◌≤◌, ◌++◌, false, true, List, length};
 ghost use Rattle.tree_model.specs.declared.call.Call.{Call};
 ghost use Rattle.tree_model.specs.declared.call.Reply.{Reply};
 ghost use Rattle.volume_steps.specs.Now.{VolumeNow, room_of};
 ghost use Rattle.crash_laws.specs.LegalHistory.{is_turned_away, tree_up_to, IsLegal};
 ghost use Rattle.journal_ring.specs.LogRing.{LogRing};
 ghost use Rattle.flush_actor.specs.Kinds.{is_data};
+ghost use Rattle.flush_actor.specs.Part.{has_stopped};
 ghost use Rattle.host_machine.specs.State.{Answered, Host};
 ghost use Rattle.host_machine.specs.Views.{tree_after};
 ghost use Rattle.host_runs.specs.Runs.{Event};
@@ -29,6 +30,14 @@ pub fn calls_end_for_a_cause()
         HaveCauses kind_of limit (HadCome (host_behind s v ring limit programs) events) (host_behind s v ring limit programs events) }
     ensures answers { (s : Opening) (v : VolumeNow) (ring : LogRing) (limit : ℕ) (programs : List (List Call)) (events : List Event) (e t : ℕ) (c : Call) (r : Reply) →
         EndsAt (host_behind s v ring limit programs events).history e t c (Answered r) → is_turned_away r ≡ false }
+{}
+
+/// A law, which does nothing when it is called: once the host of a session took the completion of the power cut, or of a
+/// request that failed, it submits nothing more, whatever its callers and its actors do.
+pub fn nothing_is_submitted_behind_a_failure()
+    ensures { (s : Opening) (v : VolumeNow) (ring : LogRing) (limit : ℕ) (programs : List (List Call)) (events more : List Event) →
+        has_stopped (host_behind s v ring limit programs events).journal.flush.taken ≡ true →
+        (host_behind s v ring limit programs (events ++ more)).journal.flush.requests ≡ (host_behind s v ring limit programs events).journal.flush.requests }
 {}
 
 /// A law, which does nothing when it is called: in a session that was opened on a plain volume of the root alone with an

@@ -13,5 +13,5 @@ mod laws;
 
 pub use laws::{
     answered_calls_keep_their_promises, calls_end_for_a_cause, histories_follow_the_tree,
-    trees_of_sessions_are_one,
+    nothing_is_submitted_behind_a_failure, trees_of_sessions_are_one,
 };
