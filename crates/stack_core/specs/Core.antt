@@ -118,9 +118,10 @@ flash_machine = record {
   after_read = λ s _. s;
 }
 
--- how the device of a script is set up: with room for all its requests, and no fault to come
+-- how the device of a script is set up: with room for all its requests, the power cut of its `cut` line, and the transfer of its
+-- `fail` line as the one that fails
 abbrev pub setup_for : Script → DeviceSetup
-setup_for s = record { depth = s.header.depth; limit = length s.puts; fail_at = None; bad_read = None; cut_at = s.header.cut }
+setup_for s = record { depth = s.header.depth; limit = length s.puts; fail_at = s.header.fail; bad_read = None; cut_at = s.header.cut }
 
 -- the device that a script opens, over zeros
 abbrev pub opened_for : Script → DeviceState
@@ -128,7 +129,7 @@ opened_for s = epochs.opened (zeros (blocks_of s)) (setup_for s)
 
 -- the same of a flash log of so many segments
 abbrev pub flash_setup_for : Script → ℕ → FlogSetup
-flash_setup_for s segments = record { depth = s.header.depth; limit = length s.puts; segments = segments; fail_at = None; cut_at = s.header.cut }
+flash_setup_for s segments = record { depth = s.header.depth; limit = length s.puts; segments = segments; fail_at = s.header.fail; cut_at = s.header.cut }
 
 abbrev pub flash_opened_for : Script → ℕ → FlogState
 flash_opened_for s segments = flash.opened (zeros (blocks_of s)) (flash_setup_for s segments)

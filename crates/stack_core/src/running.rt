@@ -224,7 +224,7 @@ fn model_device(alloc: Global, script: &Script) -> Result<EpochDevice, NoMemory>
     let setup = DeviceSetup {
         depth: script.header.depth,
         limit: script.puts.len() as u64,
-        fail_at: None,
+        fail_at: script.header.fail,
         bad_read: None,
         cut_at: script.header.cut,
     };
@@ -242,7 +242,7 @@ fn flash_log(alloc: Global, script: &Script, segments: u32) -> Result<FlogDevice
         depth: script.header.depth,
         limit: script.puts.len() as u64,
         segments,
-        fail_at: None,
+        fail_at: script.header.fail,
         cut_at: script.header.cut,
     };
     FlogDevice::make(alloc, image, setup)

@@ -1,6 +1,6 @@
 //! Tests of the one-thread run of a script: what it leaves, on a device that is sound and on one of which a transfer fails.
 //!
-//! Stands on `stack_core`, and on `script_grammar` and `device_epochs` for its scripts and devices.
+//! Stands on `stack_core`, and on `script_grammar` for its scripts.
 #![tactic(auto)]
 
 #[cfg(test)]

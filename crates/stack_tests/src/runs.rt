@@ -1,30 +1,11 @@
 //! Runs of small scripts, with what they leave worked out by hand.
 ghost use Rattle.std.specs.Prelude.{◌≤◌, length};
-ghost use Rattle.script_grammar.specs.Grammar.{IsRunnable};
 
-use blk_base::{Image, NoMemory};
-use device_epochs::{DeviceSetup, EpochDevice};
-use script_grammar::{Script, read_script};
-use stack_core::{Report, core_run, run_on};
+use script_grammar::read_script;
+use stack_core::{Report, core_run};
 use std::alloc::Global;
 use std::process::Abort;
 use std::test::Fail;
-
-// The run on a device of which this transfer fails.
-fn run_failing(alloc: Global, script: &Script, fail_at: u64) -> Result<Report, NoMemory>
-    requires { IsRunnable script.now }
-{
-    let image = Image::zeroed(alloc, script.blocks())?;
-    let setup = DeviceSetup {
-        depth: script.header.depth,
-        limit: script.puts.len() as u64,
-        fail_at: Some(fail_at),
-        bad_read: None,
-        cut_at: script.header.cut,
-    };
-    let dev = EpochDevice::make(alloc, image, setup)?;
-    run_on(alloc, script, dev)
-}
 
 // What a run left: its steps, how many requests were submitted, how many the scheduler accepted, how many parts were
 // moved; and the origins.
@@ -70,23 +51,6 @@ fn leaves(
     let report = core_run(alloc, &script)?;
     compare(rt, &report, counts, origins);
     compare_sent(rt, &report, sent);
-    Ok(())
-}
-
-// The run of which this transfer fails leaves so much.
-fn breaks(
-    rt: &impl Abort,
-    alloc: Global,
-    text: &[u8],
-    fail_at: u64,
-    counts: (u64, usize, usize, usize),
-    origins: &[Option<u64>],
-) -> Result<(), Fail>
-    requires { length text.now ≤ 4194304 }
-{
-    let script = read_script(alloc, text)?;
-    let report = run_failing(alloc, &script, fail_at)?;
-    compare(rt, &report, counts, origins);
     Ok(())
 }
 
@@ -176,15 +140,23 @@ persist 0
 // Nothing is transferred behind a transfer that failed, and so nothing is written.
 #[test]
 fn first_transfer_of_a_run_fails(rt: HostRuntime) -> Result<(), Fail> {
-    let text =
-        b"device 2\nput 0 11 free\nput 1 22 free\nevents\nreceive x 2\ntransfer 0 x 2\npersist 0 x 2\n";
-    breaks(&rt, rt.alloc(), text, 1, (1, 2, 0, 0), &[None, None])
+    let text = b"device 2
+fail 1
+put 0 11 free
+put 1 22 free
+events
+receive x 2
+transfer 0 x 2
+persist 0 x 2
+";
+    leaves(&rt, rt.alloc(), text, (1, 2, 0, 0), &[], &[None, None])
 }
 
 // What was transferred before it is written.
 #[test]
 fn a_later_transfer_of_a_run_fails(rt: HostRuntime) -> Result<(), Fail> {
     let text = b"device 3
+fail 2
 put 0 11 free
 put 1 22 barrier
 put 2 33 free
@@ -193,19 +165,14 @@ receive x 3
 transfer 0 x 3
 persist 0 x 3
 ";
-    breaks(
-        &rt,
-        rt.alloc(),
-        text,
-        2,
-        (3, 3, 0, 1),
-        &[Some(0), None, None],
-    )
+    let origins = [Some(0), None, None];
+    leaves(&rt, rt.alloc(), text, (3, 3, 0, 1), &[], &origins)
 }
 
 #[test]
 fn a_flush_of_a_run_fails(rt: HostRuntime) -> Result<(), Fail> {
     let text = b"device 2
+fail 2
 put 0 11 free
 flush
 put 1 22 free
@@ -216,13 +183,55 @@ persist 0
 transfer 0 x 2
 persist 0
 ";
-    breaks(&rt, rt.alloc(), text, 2, (3, 3, 0, 1), &[Some(0), None])
+    leaves(&rt, rt.alloc(), text, (3, 3, 0, 1), &[], &[Some(0), None])
+}
+
+// The command that fails leaves the queue, which has one place: the next one is taken, and stays there.
+#[test]
+fn a_failed_command_leaves_the_queue(rt: HostRuntime) -> Result<(), Fail> {
+    let text = b"device 3
+depth 1
+fail 1
+put 0 11 free
+put 1 22 free
+put 2 33 free
+events
+receive
+transfer 0
+receive x 2
+transfer 0
+persist 0
+";
+    let origins = [None, None, None];
+    leaves(&rt, rt.alloc(), text, (1, 2, 0, 0), &[], &origins)
 }
 
 // The transfer that fails is the step at which the power goes off. The second request is not taken.
 #[test]
 fn a_run_fails_and_goes_off(rt: HostRuntime) -> Result<(), Fail> {
     let text =
-        b"device 1\ncut 1\nput 0 11 free\nput 0 22 free\nevents\nreceive\ntransfer 0\nreceive\npersist 0\n";
-    breaks(&rt, rt.alloc(), text, 1, (1, 1, 0, 0), &[None])
+        b"device 1\ncut 1\nfail 1\nput 0 11 free\nput 0 22 free\nevents\nreceive\ntransfer 0\nreceive\npersist 0\n";
+    leaves(&rt, rt.alloc(), text, (1, 1, 0, 0), &[], &[None])
+}
+
+// A failed command of the scheduler is sent out and taken, and its barrier is not on the medium; nor is what comes behind it.
+#[test]
+fn a_barrier_behind_a_scheduler_fails(rt: HostRuntime) -> Result<(), Fail> {
+    let text = b"blocks 3
+fail 2
+put 0 11 ordered
+put 1 22 barrier
+put 2 33 ordered
+events
+submit x 3
+accept x 2
+dispatch 0 x 2
+accept
+dispatch 0
+receive x 3
+transfer 0 x 3
+persist 0 x 3
+";
+    let origins = [Some(0), None, None];
+    leaves(&rt, rt.alloc(), text, (3, 3, 3, 1), &[0, 1, 2], &origins)
 }
