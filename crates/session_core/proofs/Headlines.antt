@@ -24,7 +24,7 @@ use Rattle.session_core.specs.code.Ends.{EndFits}
 use Rattle.session_core.specs.declared.report.SessionReport.{SessionReport}
 
 -- what was taken was sent
-took : (n : ℕ) (taken sent : List Completion) (c : Completion) → taken ≡ take n sent → In c taken → In c sent
+pub took : (n : ℕ) (taken sent : List Completion) (c : Completion) → taken ≡ take n sent → In c taken → In c sent
 took n taken sent c front here = In-take n sent c (subst (In c) front here)
 
 pub headline_of : (s : SessionScript) (end : EndState) (r : SessionReport) → CutFacts s end.host (medium_of r) → ReportKeepsOrder s end r → EndFits end → IsDeviceOf s end.dev

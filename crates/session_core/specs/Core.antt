@@ -45,16 +45,17 @@ opening_of s = made_opening (geometry_of s) s.journal s.wide (quota (new_journal
 abbrev pub start_of : SessionScript → Start
 start_of s = made_start (geometry_of s) s.journal s.header.limit s.header.queue s.programs
 
--- a device over the image, with room for all requests, and no fault to come
+-- a device over the image, with room for all requests, the power cut of the `cut` line, and the transfer of the `fail` line as the
+-- one that fails
 abbrev pub setup_for : SessionScript → DeviceSetup
-setup_for s = record { depth = s.header.depth; limit = s.header.limit; fail_at = None; bad_read = None; cut_at = s.header.cut }
+setup_for s = record { depth = s.header.depth; limit = s.header.limit; fail_at = s.header.fail; bad_read = None; cut_at = s.header.cut }
 
 abbrev pub device_for : SessionScript → DeviceState
 device_for s = epochs.opened (made_image (geometry_of s) s.journal s.wide) (setup_for s)
 
 -- a flash log of so many segments over the image, made so too
 abbrev pub flash_setup_for : SessionScript → ℕ → FlogSetup
-flash_setup_for s segments = record { depth = s.header.depth; limit = s.header.limit; segments = segments; fail_at = None; cut_at = s.header.cut }
+flash_setup_for s segments = record { depth = s.header.depth; limit = s.header.limit; segments = segments; fail_at = s.header.fail; cut_at = s.header.cut }
 
 abbrev pub flash_for : SessionScript → ℕ → FlogState
 flash_for s segments = flash.opened (made_image (geometry_of s) s.journal s.wide) (flash_setup_for s segments)
@@ -95,11 +96,11 @@ abbrev pub core : SessionScript → EndState
 core s = core_as s s.header.flash
 
 -- The device was made as the script's header says: so many commands may wait, its power goes off at the steps of the `cut` line, where
--- there is one, and none of its transfers fails.
+-- there is one, and the transfer with the number of the `fail` line fails, where there is one.
 pub record HasSetup (s : SessionScript) (d : Seen) : Type 0 where
   pub depth : d.depth ≡ s.header.depth
   pub cut_at : d.cut_at ≡ s.header.cut
-  pub fail_at : d.fail_at ≡ None
+  pub fail_at : d.fail_at ≡ s.header.fail
 
 -- The device was made over the image of the script's volume, as its header says, and may take so many ids as the script has requests at
 -- most; nothing was asked of it yet.
@@ -110,7 +111,8 @@ pub record IsNewFor (s : SessionScript) (d : Seen) : Type 0 where
   pub ids : s.header.limit ≤ d.limit
 
 -- A device that was made as the script's header says, at any time of the session: its power is off exactly where as many steps were
--- made as the `cut` line says, and tells that exactly then; and no transfer of it failed.
+-- made as the `cut` line says, and tells that exactly then; and a transfer of it failed exactly where it made as many as the `fail`
+-- line says, which it tells exactly then.
 pub record IsDeviceOf (s : SessionScript) (d : Seen) : Type 0 where
   pub setup : HasSetup s d
   pub power : TellsCut d

@@ -6,7 +6,7 @@ use Rattle.order_model.specs.Steps.{IsTraceOf}
 use Rattle.barrier_reassign.specs.Scheduler.{IsSchedRecord}
 use Rattle.tree_model.specs.Calls.{Tree}
 use Rattle.tree_model.specs.Trees.{AreAlike}
-use Rattle.mount_make.specs.Images.{mounted, image_tree}
+use Rattle.mount_make.specs.Images.{mounted, image_tree, recovered_image}
 use Rattle.stack_core.specs.Core.{flash_machine}
 use Rattle.stack_core.specs.Fresh.{flash_over}
 use Rattle.stack_core.specs.Headline.{KeepsOrder}
@@ -17,7 +17,8 @@ use Rattle.session_core.specs.Core.{EndState, opening_of, geometry_of, core_as, 
 use Rattle.session_core.specs.declared.report.SessionReport.{SessionReport}
 
 -- The report of a session that ended in this state: its host with the script's calls, what its scheduler did, what the power
--- cut left of its device, the volume that was mounted then, and how many transactions it has.
+-- cut left of its device, the volume that was mounted then, the image that recovery left, which is mounted as the same volume
+-- again, and how many transactions it has.
 pub record IsReportOf (s : SessionScript) (end : EndState) (r : SessionReport) : Type 0 where
   pub host : r.host.host ≡ end.host
   pub programs : r.host.programs ≡ s.programs
@@ -26,6 +27,8 @@ pub record IsReportOf (s : SessionScript) (end : EndState) (r : SessionReport) :
   pub origins : r.cut.origins ≡ origin_ids end.dev.took end.dev.origins
   pub trace : IsTraceOf end.dev r.cut.trace
   pub volume : mounted r.cut.image.items ≡ Ok r.volume
+  pub recovered : r.image ≡ recovered_image r.cut.image.items
+  pub again : mounted r.image ≡ Ok r.volume
   pub found : r.found ≡ found_in (geometry_of s).zones 1 r.cut.image.items
   pub standings : r.standings.items ≡ standings_of r.host (length s.programs)
 

@@ -3,8 +3,9 @@
 //!
 //! `running` runs a script, on any device and with any maker of devices for its recovery, or on model devices;
 //! `specs/Core` has where that leads; `report` has what is left, and `specs/Report` says which report it is and what it
-//! promises. `laws` ties what is promised of a call by its kind to the calls' names (`specs/CallNames`), and what survived
-//! to what a reader sees in the tree.
+//! promises. `laws` ties what is promised of a call by its kind to the calls' names (`specs/CallNames`), what survived
+//! to what a reader sees in the tree, both to how programs replace a file (`specs/Replaced`), and how calls end to the
+//! header of the script (`specs/CallEnds`).
 //!
 //! Stands on `session_opening`, `session_run` and `session_recovery` for its three parts, and on `call_images` for what a
 //! power cut may leave.
@@ -14,6 +15,9 @@ mod laws;
 mod report;
 mod running;
 
-pub use laws::{calls_promise_by_their_names, what_is_shown_later_survived};
+pub use laws::{
+    calls_end_as_their_script_says, calls_promise_by_their_names, replaced_files_are_whole,
+    what_is_shown_later_survived,
+};
 pub use report::{CutRecord, SessionReport};
 pub use running::{core_run, run_on};

@@ -1,5 +1,5 @@
 //! What a session leaves.
-use blk_base::Block;
+use blk_base::{Block, Image};
 use call_images::Attempt;
 use host_answers::Standing;
 use order_model::{DeviceRecord, Origins, SchedRecord, Trail};
@@ -27,6 +27,8 @@ pub struct SessionReport {
     pub attempts: Vec<Attempt>,
     /// The volume that was mounted once recovery had run to its end.
     pub volume: Volume,
+    /// The blocks that recovery left, of volume and journal.
+    pub image: Image,
     /// How many transactions of the session it has.
     pub found: u32,
     /// How each thread stood when the power was cut.

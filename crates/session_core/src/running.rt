@@ -212,6 +212,7 @@ fn run_opened<M: Maker>(
         },
         attempts: last.attempts,
         volume: last.volume,
+        image: last.image,
         found: last.found,
         standings,
     })
@@ -250,7 +251,7 @@ fn model_device(
     let setup = DeviceSetup {
         depth: header.depth,
         limit: header.limit,
-        fail_at: None,
+        fail_at: header.fail,
         bad_read: None,
         cut_at: header.cut,
     };
@@ -274,7 +275,7 @@ fn flash_device(
         depth: header.depth,
         limit: header.limit,
         segments,
-        fail_at: None,
+        fail_at: header.fail,
         cut_at: header.cut,
     };
     FlogDevice::make(alloc, image, setup)
