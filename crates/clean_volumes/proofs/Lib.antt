@@ -1,0 +1,2 @@
+-- Lemmas on clean volumes that change.
+pub mod PlainClean

@@ -1,0 +1,2 @@
+-- What the maps of a volume in use say.
+pub mod Marked
