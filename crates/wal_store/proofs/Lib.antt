@@ -1,0 +1,3 @@
+mod Fronts
+pub mod HeldPuts
+pub mod Spelled

@@ -1,0 +1,4 @@
+pub mod Blocks
+pub mod Log
+pub mod Puts
+pub mod code
