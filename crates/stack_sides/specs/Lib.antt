@@ -1,0 +1,4 @@
+pub mod Opened
+pub mod Admitted
+pub mod SchedReplay
+pub mod DeviceReplay
