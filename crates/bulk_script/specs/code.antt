@@ -1,0 +1,2 @@
+-- What the code sees of its own results.
+pub mod Lines
