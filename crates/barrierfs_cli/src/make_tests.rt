@@ -16,7 +16,7 @@ pub fn put(bytes: &mut [u8], at: usize, front: &[u8]) {
 }
 
 // The image of 32 inodes, 64 zones and a journal of 128 blocks, which begins at byte 65,536.
-fn made(alloc: Global) -> Result<Vec<u8>, NoMemory> {
+pub fn made(alloc: Global) -> Result<Vec<u8>, NoMemory> {
     Ok(run(alloc, &["make", "32", "64", "128"], b"")?.printed)
 }
 

@@ -2,6 +2,7 @@
 mod barriers;
 mod calls;
 mod commits;
+mod failures;
 mod files;
 mod log_space;
 mod syncs;
@@ -33,6 +34,15 @@ fn prints_what_was_worked_out(rt: HostRuntime) -> Result<(), Fail> {
         (syncs::SYNC, syncs::SYNC_PRINTS),
         (syncs::FLASH, syncs::FLASH_PRINTS),
         (syncs::DOWN, syncs::DOWN_PRINTS),
+        (failures::FIRST_REQUEST, failures::FIRST_REQUEST_PRINTS),
+        (failures::THIRD_REQUEST, failures::THIRD_REQUEST_PRINTS),
+        (failures::FLUSH, failures::FLUSH_PRINTS),
+        (failures::FLASH_FLUSH, failures::FLASH_FLUSH_PRINTS),
+        (failures::READS_ON, failures::READS_ON_PRINTS),
+        (
+            failures::FAILS_AND_GOES_OFF,
+            failures::FAILS_AND_GOES_OFF_PRINTS,
+        ),
         (files::FULL_VOLUME, files::FULL_VOLUME_PRINTS),
         (files::HOLES, files::HOLES_PRINTS),
         (log_space::FREED, log_space::FREED_PRINTS),

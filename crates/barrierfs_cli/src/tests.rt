@@ -12,7 +12,7 @@ use std::process::Abort;
 use std::test::Fail;
 
 // How the program ends with these words.
-fn end_of<R: Source, W: Sink>(
+pub fn end_of<R: Source, W: Sink>(
     alloc: Global,
     list: &[&str],
     src: &mut R,
@@ -60,6 +60,25 @@ pub fn expect_replay(
     Ok(())
 }
 
+// Does to an image what the words say, which ends well and writes these bytes.
+pub fn expect_written(
+    rt: &impl Abort,
+    alloc: Global,
+    words: &[&str],
+    image: &[u8],
+    written: &[u8],
+) -> Result<(), NoMemory> {
+    let found = run(alloc, words, image)?;
+    let well = Ended {
+        status: 0,
+        fault: None,
+        reported: false,
+    };
+    assert_eq!(rt; found.ended, well, "{words:?}");
+    assert_eq!(rt; found.printed.as_slice(), written, "{words:?}");
+    Ok(())
+}
+
 // Shows an image, whose tree is this.
 pub fn expect_tree(
     rt: &impl Abort,
@@ -67,15 +86,7 @@ pub fn expect_tree(
     image: &[u8],
     tree: &str,
 ) -> Result<(), NoMemory> {
-    let found = run(alloc, &["show"], image)?;
-    let well = Ended {
-        status: 0,
-        fault: None,
-        reported: false,
-    };
-    assert_eq!(rt; found.ended, well);
-    assert_eq!(rt; found.printed.as_slice(), tree.as_bytes());
-    Ok(())
+    expect_written(rt, alloc, &["show"], image, tree.as_bytes())
 }
 
 // This fault ended a run before anything was written.
@@ -99,7 +110,7 @@ pub fn refused(alloc: Global, list: &[&str], script: &str) -> Result<u8, NoMemor
 }
 
 // Scripts of block requests, and what they print.
-const SCRIPTS: [(&str, &str); 12] = [
+const SCRIPTS: [(&str, &str); 15] = [
     // No requests.
     (
         "device 2\nevents\n",
@@ -156,28 +167,26 @@ const SCRIPTS: [(&str, &str); 12] = [
         "blocks 3\nqueue 1\nput 0 11 free\nput 1 22 free\nput 2 33 free\nevents\nsubmit\naccept\nsubmit\naccept\nsubmit\naccept\ndispatch 0\ndispatch 1\nreceive\ndispatch 1\nreceive x 2\ntransfer 0 x 2\npersist 0 x 2\n",
         "steps 4\nblock 0 11 0\nblock 1 00 -\nblock 2 33 2\n",
     ),
+    // A barrier fails: nothing behind it is transferred, and what was transferred before is persisted.
+    (
+        "device 3\nfail 2\nput 0 11 free\nput 1 22 barrier\nput 2 33 free\nevents\nreceive x 3\ntransfer 0 x 3\npersist 0 x 3\n",
+        "steps 3\nblock 0 11 0\nblock 1 00 -\nblock 2 00 -\n",
+    ),
+    (
+        "blocks 3\nfail 2\nput 0 11 ordered\nput 1 22 barrier\nput 2 33 ordered\nevents\nsubmit x 3\naccept x 2\ndispatch 0 x 2\naccept\ndispatch 0\nreceive x 3\ntransfer 0 x 3\npersist 0 x 3\n",
+        "steps 3\nblock 0 11 0\nblock 1 00 -\nblock 2 00 -\n",
+    ),
+    // On a flash log the page that was moved is programmed and folded.
+    (
+        "device 2\nflash 3\nfail 2\nput 0 11 free\nput 1 22 free\nevents\nreceive x 2\ntransfer 0 x 2\npersist 0 x 3\n",
+        "steps 4\nblock 0 11 0\nblock 1 00 -\n",
+    ),
 ];
 
 #[test]
 fn prints_what_requests_leave(rt: HostRuntime) -> Result<(), Fail> {
     for (script, printed) in SCRIPTS {
         expect_replay(&rt, rt.alloc(), script, printed)?;
-    }
-    Ok(())
-}
-
-#[test]
-fn refuses_words_that_are_not_built(rt: HostRuntime) -> Result<(), Fail> {
-    let rows: [&[&str]; 5] = [
-        &[],
-        &["run"],
-        &["show", "show"],
-        &["replay", "replay"],
-        &["rep"],
-    ];
-    for words in rows {
-        let status = refused(rt.alloc(), words, "device 1\nevents\n")?;
-        assert_eq!(rt; status, 2, "{words:?}");
     }
     Ok(())
 }
@@ -313,11 +322,8 @@ const FAULT_TEXTS: [(TopFault, &str); 19] = [
     (TopFault::SinkFault, "sink fault"),
     (TopFault::TooLong, "input too long"),
     (TopFault::NoMemory, "no memory"),
+    (TopFault::NoRoom, "no room"),
     (TopFault::Script(2, ScriptKind::Word), "script line 2: word"),
-    (
-        TopFault::Script(1, ScriptKind::NotBuilt),
-        "script line 1: not built",
-    ),
     (
         TopFault::Script(3, ScriptKind::Order),
         "script line 3: order",

@@ -9,6 +9,7 @@ use Rattle.blk_base.specs.Image.{whole_blocks, IsImageRead}
 use Rattle.mount_make.specs.Images.{FaultPlace, mounted, tree_after}
 use Rattle.volume_ops.specs.Volume.{VolumeState}
 use Rattle.barrierfs_top.specs.Show.{text_after, shown, IsMountedFault}
+use Rattle.barrierfs_top.specs.Widen.{IsWidened, IsWidenFault, fault_of, written_fault}
 use Rattle.barrierfs_top.specs.declared.fault.TopFault.{TopFault}
 use Rattle.barrierfs_top.specs.declared.fault.TopFault.TheVariants as faults
 use Rattle.barrierfs_top.specs.declared.top.Printed.{Printed}
@@ -49,6 +50,7 @@ cause_of : (words : List (List ℕ)) (source : Stream) (c : Command) (input : Li
 cause_of words source c input (faults.Script line kind) asked drained short is = refused words source c input (faults.Script line kind) asked drained short is
 cause_of words source c input (faults.Image kind block) asked drained short is = refused words source c input (faults.Image kind block) asked drained short is
 cause_of words source c input faults.NoMemory asked drained short is = tt
+cause_of words source c input faults.NoRoom asked drained short is = refused words source c input faults.NoRoom asked drained short is
 cause_of words source c input faults.BadWords asked drained short is = absurd is
 cause_of words source c input faults.SourceFault asked drained short is = absurd is
 cause_of words source c input faults.SinkFault asked drained short is = absurd is
@@ -76,6 +78,7 @@ mounted_fault input faults.BadWords is = absurd is
 mounted_fault input faults.SourceFault is = absurd is
 mounted_fault input faults.SinkFault is = absurd is
 mounted_fault input faults.TooLong is = absurd is
+mounted_fault input faults.NoRoom is = absurd is
 
 shown_fault : (input : List ℕ) (r : Result Printed TopFault) → IfErr r (IsMountedFault (whole_blocks input)) → IfErr r (IsInputFault commands.Show input)
 shown_fault input (Ok p) is = tt
@@ -86,6 +89,34 @@ pub show_cause : (words : List (List ℕ)) (source : Stream) (most : ℕ) (block
 show_cause words source most blocks r asked read is faulty =
     cause_if words source commands.Show read.bytes r asked read.drained (subst (λ (n : ℕ). length read.bytes ≤ n) is read.short)
     (shown_fault read.bytes r (subst (λ (bs : List (List ℕ)). IfErr r (IsMountedFault bs)) read.whole faulty))
+
+-- the same of an image that is widened
+pub widens_if : (words : List (List ℕ)) (source : Stream) (raw : Bool) (most : ℕ) (blocks : List (List ℕ)) (r : Result Printed TopFault) → task_of words ≡ Some (tasks.Read (commands.Widen raw))
+    → IsImageRead most source.bytes source.bytes_after blocks → most ≡ most_of (commands.Widen raw) → IfOk r (λ p. IsWidened raw blocks (output_bytes p.output) × (p.report ≡ None))
+    → IfOk r (λ p. Does words source p.report (output_bytes p.output))
+widens_if words source raw most blocks r asked read is widens =
+    does_if words source (commands.Widen raw) read.bytes r asked read.drained (subst (λ (n : ℕ). length read.bytes ≤ n) is read.short)
+    (subst (λ (bs : List (List ℕ)). IfOk r (λ p. IsWidened raw bs (output_bytes p.output) × (p.report ≡ None))) read.whole widens)
+
+unwidened_fault : (raw : Bool) (input : List ℕ) (fault : TopFault) → IsWidenFault raw (whole_blocks input) fault → IsInputFault (commands.Widen raw) input fault
+unwidened_fault raw input (faults.Image kind block) is = is
+unwidened_fault raw input faults.NoRoom is = is
+unwidened_fault raw input faults.NoMemory is = tt
+unwidened_fault raw input (faults.Script line kind) is = absurd is
+unwidened_fault raw input faults.BadWords is = absurd is
+unwidened_fault raw input faults.SourceFault is = absurd is
+unwidened_fault raw input faults.SinkFault is = absurd is
+unwidened_fault raw input faults.TooLong is = absurd is
+
+widened_fault : (raw : Bool) (input : List ℕ) (r : Result Printed TopFault) → IfErr r (IsWidenFault raw (whole_blocks input)) → IfErr r (IsInputFault (commands.Widen raw) input)
+widened_fault raw input (Ok p) is = tt
+widened_fault raw input (Err fault) is = unwidened_fault raw input fault is
+
+pub widen_cause : (words : List (List ℕ)) (source : Stream) (raw : Bool) (most : ℕ) (blocks : List (List ℕ)) (r : Result Printed TopFault) → task_of words ≡ Some (tasks.Read (commands.Widen raw))
+    → IsImageRead most source.bytes source.bytes_after blocks → most ≡ most_of (commands.Widen raw) → IfErr r (IsWidenFault raw blocks) → IfErr r (Cause words source)
+widen_cause words source raw most blocks r asked read is faulty =
+    cause_if words source (commands.Widen raw) read.bytes r asked read.drained (subst (λ (n : ℕ). length read.bytes ≤ n) is read.short)
+    (widened_fault raw read.bytes r (subst (λ (bs : List (List ℕ)). IfErr r (IsWidenFault raw bs)) read.whole faulty))
 
 -- an image that was made
 pub made_if : (words : List (List ℕ)) (source : Stream) (s : Sizes) (r : Result Printed TopFault) → task_of words ≡ Some (tasks.Make s) → IsUnread source
@@ -134,13 +165,15 @@ ends_as c old new Holds text end read told says =
     inl (sym (short_input c text short ∙ says text (subst Holds same read.holds)))
 
 replay_fits : (session : Bool) (input : List ℕ) (report : Option RunReport) (text : List ℕ) → IsReplayAs session input report text → fault_as session input ≡ None
-replay_fits true input report text is = ap script_fault is.spelled
+replay_fits true input report text is = ap script_fault is.ran.spelled
 replay_fits false input report text is = ap script_fault is.spelled
 
 -- where a command makes something of its input, that has no fault
 no_fault : (c : Command) (input : List ℕ) (report : Option RunReport) (text : List ℕ) → Makes c input report text → input_fault c input ≡ None
-no_fault commands.Replay input report text makes = replay_fits (is_session input) input report text makes
+no_fault (commands.Replay true) input report text makes = ap script_fault makes.ran.spelled
+no_fault (commands.Replay false) input report text makes = replay_fits (is_session input) input report text makes
 no_fault commands.Show input report text makes = ap image_fault makes.0
+no_fault (commands.Widen raw) input report text makes = ap (fault_of raw) makes.0.widened ∙ ap written_fault makes.0.written
 
 -- a command ends well
 pub ends_well : (words : List (List ℕ)) (source : Stream) (report : Option RunReport) (out : List ℕ) → Does words source report out
@@ -168,6 +201,7 @@ ends_early words source faults.TooLong (d, this, long) c asked text told calm =
     let past : most_of d < length text = let l = long.long in omega arith in
     inl (sym (subst (λ (e : Command). expected e text ≡ Some faults.TooLong) (one_command words d c this asked) (long_input d text past)))
 ends_early words source faults.NoMemory cause c asked text told calm = inr refl
+ends_early words source faults.NoRoom cause c asked text told calm = ends_refused words source faults.NoRoom cause c asked text told
 
 -- an end that the input asks for, where that is a fault
 pub ends_with : (c : Command) (text : List ℕ) (fault : TopFault) (end : Option TopFault) → expected c text ≡ Some fault → EndsAs (expected c text) end → EndsAs (Some fault) end

@@ -1,10 +1,14 @@
 -- Lists that are written piece by piece.
-use Rattle.std.specs.Prelude.{◌≡◌, ℕ, zero, suc, ◌+◌, ◌<◌, ◌≤◌, List, [], ◌∷◌, ◌++◌, take, length, slice_get, Option, Some, None, refl}
+use Rattle.std.specs.Prelude.{◌≡◌, ℕ, zero, suc, ◌+◌, ◌<◌, ◌≤◌, List, [], ◌∷◌, ◌++◌, take, length, slice_get, get_or, Option, Some, None, refl}
 use Rattle.std.specs.List.{concat}
 use Rattle.std.specs.Io.KnownBytes.{Appends}
-use Rattle.std.proofs.Common.{sym, ap, subst, ◌∙◌, arith, append_assoc, append-nil}
+use Rattle.std.proofs.Common.{sym, ap, subst, ◌∙◌, arith, append_assoc, append-nil, ⊎_elim}
+use Rattle.std.proofs.lemmas.Bool.{cases_lt}
+use Rattle.std.proofs.lemmas.List.Elements.{All-from_get_or}
 use Rattle.std.proofs.KnownBytes.{Appends-trans}
 use Rattle.std.proofs.lemmas.Option.{none-some, same_Some}
+use Rattle.blk_base.specs.Image.{whole_blocks}
+use Rattle.blk_base.specs.laws.Cutting.{cut_is_whole_blocks}
 use Rattle.blk_base.specs.Streams.{AppendsFront}
 use Rattle.barrierfs_top.specs.Tasks.{task_of}
 
@@ -41,12 +45,36 @@ front_of_all xs k x old mid new e done front =
     let n = front_behind (concat (take k xs)) x s.0 front.0 in
     (n.0, subst (Appends old new) (sym (ap (take n.0) s.1 ∙ n.1)) (Appends-trans old mid new (concat (take k xs)) (take front.0 x) done front.1))
 
+-- ---- blocks of one length
+
+get_at : (xs : List (List ℕ)) (i : ℕ) (x : List ℕ) → slice_get xs i ≡ Some x → get_or xs i [] ≡ x
+get_at [] i x e = absurd (none-some x e)
+get_at (y ∷ ys) zero x e = same_Some y x e
+get_at (y ∷ ys) (suc i) x e = get_at ys i x e
+
+-- one block more
+pub sizes_more : (xs : List (List ℕ)) (b : ℕ) (x : List ℕ) → slice_get xs b ≡ Some x → length x ≡ 1024 → ((i : ℕ) → i < b → length (get_or xs i []) ≡ 1024)
+    → (i : ℕ) → i < b + 1 → length (get_or xs i []) ≡ 1024
+sizes_more xs b x e size before i lt =
+    ⊎_elim
+    (λ less. before i less)
+    (λ least. let here : b ≡ i = omega (arith, lt, least) in subst (λ (k : ℕ). length (get_or xs k []) ≡ 1024) here (ap length (get_at xs b x e) ∙ size))
+    (cases_lt i b)
+
+-- they are the whole blocks of their bytes
+pub whole_again : (xs : List (List ℕ)) → ((i : ℕ) → i < length xs → length (get_or xs i []) ≡ 1024) → whole_blocks (concat xs) ≡ xs
+whole_again xs sizes = sym (cut_is_whole_blocks (concat xs) xs [] (record {
+  all = sym (append-nil (concat xs));
+  whole = All-from_get_or (λ (b : List ℕ). length b ≡ 1024) xs [] sizes;
+  under = omega arith;
+}))
+
 -- ---- words that are no task
 
-pub no_task_of_few : (words : List (List ℕ)) → 2 ≤ length words → length words < 4 → task_of words ≡ None
+pub no_task_of_few : (words : List (List ℕ)) → 3 ≤ length words → length words < 4 → task_of words ≡ None
 no_task_of_few [] low high = absurd (omega (arith, low))
 no_task_of_few (a ∷ []) low high = absurd (omega (arith, low))
-no_task_of_few (a ∷ b ∷ []) low high = refl
+no_task_of_few (a ∷ b ∷ []) low high = absurd (omega (arith, low))
 no_task_of_few (a ∷ b ∷ c ∷ []) low high = refl
 no_task_of_few (a ∷ b ∷ c ∷ d ∷ words) low high = absurd (omega (arith, high))
 

@@ -11,6 +11,7 @@ use Rattle.script_grammar.specs.Grammar.{blocks_of}
 use Rattle.stack_core.specs.RequestPath.{submitted_count}
 use Rattle.stack_core.specs.Core.{core}
 use Rattle.session_core.specs.Headline.{medium_of}
+use Rattle.session_core.proofs.CallEnds.{ends_caused}
 use Rattle.session_core.proofs.Headlines.{latest_shown, all_shown}
 use Rattle.session_core.proofs.Seen.{later_survived}
 use Rattle.barrierfs_top.specs.declared.run_report.RunReport.{RunReport}
@@ -20,6 +21,7 @@ use Rattle.barrierfs_top.specs.declared.fault.TopFault.{TopFault}
 use Rattle.barrierfs_top.specs.declared.command_line.Task.{Task}
 use Rattle.barrierfs_top.specs.declared.command_line.Task.TheVariants as tasks
 use Rattle.barrierfs_top.specs.Tasks.{most_of, task_of}
+use Rattle.barrierfs_top.proofs.AnswerCauses.{answers_caused}
 use Rattle.barrierfs_top.proofs.SessionEnds.{text_is, noted_of, stand_of, order_of}
 use Rattle.barrierfs_top.specs.Top.{Stream, IsBlocksReplay, IsReplayAs, IsDone, Does}
 use Rattle.barrierfs_top.specs.Promise.{WentOut, IsWritten, TellsOrderClosed, TellsSession, TellsRun}
@@ -52,7 +54,7 @@ closed_for input text report is =
     subst (λ (s : Script). IsOrderClosed (zeros (blocks_of s)) (take (submitted_count (core is.script).path) is.script.puts) is.result.cut.image is.result.cut.origins) is.core.script
     (subst (λ qs. IsOrderClosed (zeros (blocks_of is.result.script)) qs is.result.cut.image is.result.cut.origins) is.core.submitted is.order.closed)
 
-module _ (old new : Option (List ℕ)) (report : Option RunReport) (text bytes : List ℕ) (fault : Option TopFault) (written : IsWritten fault text bytes) (input : List ℕ) (drained : Drained old new input) (short : length input ≤ most_of commands.Replay) where
+module _ (old new : Option (List ℕ)) (report : Option RunReport) (text bytes : List ℕ) (fault : Option TopFault) (written : IsWritten fault text bytes) (input : List ℕ) (drained : Drained old new input) (short : length input ≤ most_of (commands.Replay false)) where
   of_blocks : IsBlocksReplay input report text → TellsOrderClosed old new fault bytes
   of_blocks is = record {
     script = is.script;
@@ -69,25 +71,27 @@ module _ (old new : Option (List ℕ)) (report : Option RunReport) (text bytes :
   of_session is =
       let s = is.script in
       let r = is.result in
-      let h = is.headline in
+      let h = is.ran.headline in
+      let core_is = is.ran.core_is in
       record {
         script = s;
-        read = record { input = input; drained = drained; short = short; holds = is.spelled };
+        read = record { input = input; drained = drained; short = short; holds = is.ran.spelled };
         figures = figures_of r;
-        steps = is.core_is.report.trace.steps;
-        requests = ap (λ x. length x.journal.flush.requests) is.core_is.report.host;
-        closed = ap (λ x. length x.cuts) is.core_is.report.host;
+        steps = core_is.report.trace.steps;
+        requests = ap (λ x. length x.journal.flush.requests) core_is.report.host;
+        closed = ap (λ x. length x.cuts) core_is.report.host;
         history = is.printed.history;
-        noted = noted_of s r is.printed.history is.core_is.report is.printed.noted;
+        noted = noted_of s r is.printed.history core_is.report is.printed.noted;
         placed = is.printed.placed;
+        caused = answers_caused s is.printed.history (noted_of s r is.printed.history core_is.report is.printed.noted) (ends_caused s _ r h);
         standings = r.standings.items;
-        stand = stand_of s r is.core_is.report;
+        stand = stand_of s r core_is.report;
         tree = h.prefix.tree;
-        written = subst (λ l. IsWritten fault l bytes) (text_is s r text is.core_is.report h.prefix is.printed) written;
+        written = subst (λ l. IsWritten fault l bytes) (text_is s r text core_is.report h.prefix is.printed) written;
         medium = medium_of r;
-        surface = is.core_is.report.image;
-        origins = is.core_is.report.origins;
-        order = order_of s r is.core_is.report h.order;
+        surface = core_is.report.image;
+        origins = core_is.report.origins;
+        order = order_of s r core_is.report h.order;
         recovered = h.prefix.found;
         transactions = h.transactions;
         counted = h.counted;
@@ -105,7 +109,7 @@ module _ (old new : Option (List ℕ)) (report : Option RunReport) (text bytes :
 
 -- the promise, where the words ask for a replay
 pub promised : (words : List (List ℕ)) (source : Stream) (report : Option RunReport) (text bytes : List ℕ) (fault : Option TopFault) → Does words source report text
-    → task_of words ≡ Some (tasks.Read commands.Replay) → IsWritten fault text bytes → TellsRun source.bytes source.bytes_after fault bytes
+    → task_of words ≡ Some (tasks.Read (commands.Replay false)) → IsWritten fault text bytes → TellsRun source.bytes source.bytes_after fault bytes
 promised words source report text bytes fault does asked written =
-    let read = subst (λ (t : Task). IsDone t source report text) (same_Some does.task (tasks.Read commands.Replay) (sym does.asked ∙ asked)) does.done in
+    let read = subst (λ (t : Task). IsDone t source report text) (same_Some does.task (tasks.Read (commands.Replay false)) (sym does.asked ∙ asked)) does.done in
     told_as source.bytes source.bytes_after report text bytes fault written read.input read.drained read.short (is_session read.input) read.holds

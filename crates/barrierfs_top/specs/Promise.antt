@@ -1,5 +1,5 @@
 -- What `replay` promises of the bytes that it writes.
-use Rattle.std.specs.Prelude.{◌≡◌, ℕ, ◌+◌, ◌<◌, ◌++◌, ◌⊎◌, true, false, List, length, map, take, Option, Some, None, Ok}
+use Rattle.std.specs.Prelude.{◌≡◌, ℕ, ◌+◌, ◌<◌, ◌++◌, ◌⊎◌, true, false, List, length, map, take, Option, Some, None, Ok, slice_get}
 use Rattle.blk_base.specs.Image.{zeros}
 use Rattle.order_model.specs.OrderClosed.{IsOrderClosed}
 use Rattle.order_model.specs.Device.{origin_ids}
@@ -10,16 +10,20 @@ use Rattle.barrierfs_top.specs.declared.command_line.Command.TheVariants as comm
 use Rattle.barrierfs_top.specs.declared.fault.TopFault.{TopFault}
 use Rattle.barrierfs_top.specs.Text.{report_text}
 use Rattle.tree_model.specs.declared.call.Call.{Call}
+use Rattle.tree_model.specs.declared.call.Reply.{Reply}
+use Rattle.tree_model.specs.declared.call.Reply.TheVariants as replies
 use Rattle.tree_model.specs.Calls.{Tree}
 use Rattle.tree_model.specs.Text.{tree_text}
 use Rattle.tree_model.specs.Trees.{AreAlike}
 use Rattle.mount_make.specs.Images.{image_tree}
 use Rattle.host_answers.specs.declared.entry.Entry.{Entry}
+use Rattle.host_answers.specs.declared.entry.EntryKind.TheVariants.{End}
 use Rattle.host_answers.specs.declared.standing.Standing.{Standing}
 use Rattle.session_grammar.specs.declared.session_script.SessionScript.{SessionScript}
 use Rattle.session_grammar.specs.Grammar.{session_of}
 use Rattle.session_report.specs.ReportText.{Figures, session_lines}
 use Rattle.session_core.specs.Core.{HostNow, core, opening_of, entry_in, ArePlaced, standings_of}
+use Rattle.session_core.specs.CallEnds.{HasGoneOff, IsAtLimit, IsFirstFailed, IsTreesReply}
 use Rattle.session_core.specs.Headline.{Medium, IsLastChange, last_write, is_durable, kind_of, AnsweredAt, WasAnswered, told_of, submitted_of, kept_on, IsFound, IsLaterSurvived, IsShownBy, IsAllShown, ShowsLater}
 use Rattle.session_core.specs.Report.{tree_behind}
 use Rattle.barrierfs_top.specs.Top.{WasRead}
@@ -40,7 +44,7 @@ IsWritten (Some fault) text bytes = (n : ℕ) × (bytes ≡ take n text)
 -- over zeros, for some first ones of these requests, or none. That these are those that the run submitted is said by `did`.
 pub record TellsOrderClosed (old new : Option (List ℕ)) (fault : Option TopFault) (bytes : List ℕ) : Type 0 where
   pub script : Script
-  pub read : WasRead commands.Replay old new (λ input. script_of input ≡ Ok script)
+  pub read : WasRead (commands.Replay false) old new (λ input. script_of input ≡ Ok script)
   pub submitted : ℕ
   pub image : List (List ℕ)
   pub origins : List (Option ℕ)
@@ -48,13 +52,22 @@ pub record TellsOrderClosed (old new : Option (List ℕ)) (fault : Option TopFau
   pub steps : ℕ
   pub written : IsWritten fault (report_text steps image origins) bytes
 
+-- Why this answer stands in the line of entry i: `down` only where the script has a line `cut` and the device made the steps that it
+-- says; `read-only` only where it has a line `fail` and the transfer of that number was made, with the first request that was told as
+-- failed; `session full` only where all requests that there may be were submitted. Each other answer is the tree's.
+abbrev pub IsPrintedFor : SessionScript → ℕ → Entry → Reply → Type 0
+IsPrintedFor s i x replies.Down = HasGoneOff s (core s).dev
+IsPrintedFor s i x (replies.ReadOnly id) = IsFirstFailed s (core s).dev id
+IsPrintedFor s i x replies.SessionFull = IsAtLimit s (core s)
+IsPrintedFor s i x other = IsTreesReply (opening_of s) (core s).host i (entry_in s.programs x).thread (entry_in s.programs x).call other
+
 -- The source spells a volume script, and the bytes are the text of its session: the answers to its calls, how its threads
 -- stand, and the tree of what was recovered after the power cut.
 pub record TellsSession (old new : Option (List ℕ)) (fault : Option TopFault) (bytes : List ℕ) : Type 0 where
   pub script : SessionScript
-  pub read : WasRead commands.Replay old new (λ input. session_of input ≡ Ok script)
+  pub read : WasRead (commands.Replay false) old new (λ input. session_of input ≡ Ok script)
   -- What is printed: figures, what the host noted of the calls, how the threads stand, and a tree. The figures are counts of
-  -- the session, and each entry names its thread's next call.
+  -- the session, each entry names its thread's next call, and each answer has its cause.
   pub figures : Figures
   pub steps : figures.steps ≡ (core script).dev.steps
   pub requests : figures.requests ≡ length (core script).host.journal.flush.requests
@@ -62,6 +75,7 @@ pub record TellsSession (old new : Option (List ℕ)) (fault : Option TopFault) 
   pub history : List Entry
   pub noted : (core script).host.history ≡ map (entry_in script.programs) history
   pub placed : ArePlaced script.programs history
+  pub caused : (i : ℕ) (x : Entry) (reply : Reply) → slice_get history i ≡ Some x → x.what ≡ End reply → IsPrintedFor script i x reply
   pub standings : List Standing
   pub stand : (h : HostNow) → h.host ≡ (core script).host → h.programs ≡ script.programs → standings ≡ standings_of h (length script.programs)
   pub tree : Tree

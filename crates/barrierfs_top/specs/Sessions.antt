@@ -1,6 +1,9 @@
 -- What `replay` makes of a volume script.
 use Rattle.std.specs.Prelude.{◌≡◌, ℕ, ◌++◌, Bool, false, List, [], ◌∷◌, codes, length, map, Option, Some, Ok, if◌then◌else◌}
+use Rattle.std.specs.List.{concat}
 use Rattle.std.specs.Str.{bytes_eq}
+use Rattle.blk_base.specs.Image.{whole_blocks}
+use Rattle.mount_make.specs.Images.{recovered_image}
 use Rattle.script_words.specs.Spelling.{lines_of, words_of, is_skipped}
 use Rattle.host_answers.specs.declared.entry.Entry.{Entry}
 use Rattle.session_grammar.specs.declared.session_script.SessionScript.{SessionScript}
@@ -43,13 +46,28 @@ pub record IsSessionText (s : SessionScript) (r : SessionReport) (text : List �
   pub shown : shown_volume r.volume ≡ Ok tree
   pub printed : text ≡ session_lines s.programs s.lines (figures_of r) history r.standings.items ++ tree
 
--- The input spells a volume script, the report is that of its session and keeps all that sessions promise, and the text is the
--- report's.
+-- ---- what is made of the input
+
+-- The input spells a volume script, and the report is that of its session and keeps all that sessions promise.
+pub record IsSessionOf (input : List ℕ) (s : SessionScript) (r : SessionReport) : Type 0 where
+  pub spelled : session_of input ≡ Ok s
+  pub core_is : IsCoreReport s r
+  pub headline : Headline s r
+
+-- it is so of some script, and the text is the report's
 pub record IsSessionReplay (input : List ℕ) (report : Option RunReport) (text : List ℕ) : Type 0 where
   pub script : SessionScript
-  pub spelled : session_of input ≡ Ok script
   pub result : SessionReport
-  pub core_is : IsCoreReport script result
-  pub headline : Headline script result
+  pub ran : IsSessionOf input script result
   pub reported : report ≡ Some (reports.Session result)
   pub printed : IsSessionText script result text
+
+-- With `--raw` the bytes are those of what the power cut left, once it was recovered: of all its blocks, each of which is read
+-- as it stood.
+pub record IsImageReplay (input : List ℕ) (report : Option RunReport) (bytes : List ℕ) : Type 0 where
+  pub script : SessionScript
+  pub result : SessionReport
+  pub ran : IsSessionOf input script result
+  pub reported : report ≡ Some (reports.Session result)
+  pub written : bytes ≡ concat (recovered_image result.cut.image.items)
+  pub whole : whole_blocks bytes ≡ recovered_image result.cut.image.items

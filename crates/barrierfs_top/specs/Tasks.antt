@@ -1,5 +1,5 @@
 -- What lists of words ask for.
-use Rattle.std.specs.Prelude.{ℕ, ◌<◌, ◌≤◌, Bool, ◌&&◌, nat_lt, nat_le, if◌then◌else◌, List, [], ◌∷◌, codes, Option, Some, None}
+use Rattle.std.specs.Prelude.{ℕ, ◌<◌, ◌≤◌, Bool, true, false, ◌&&◌, nat_lt, nat_le, if◌then◌else◌, List, [], ◌∷◌, codes, Option, Some, None}
 use Rattle.std.specs.Str.{bytes_eq}
 use Rattle.std.specs.Option.{option_map}
 use Rattle.script_grammar.specs.declared.limits.TheConstants.{MOST_SCRIPT_BYTES}
@@ -16,14 +16,26 @@ use Rattle.minix_layout.specs.declared.limits.TheConstants.{LEAST_JOURNAL, MOST_
 -- the words for commands
 abbrev pub command_named_by : List ℕ → Option Command
 command_named_by w =
-    if bytes_eq w (codes "replay") then Some commands.Replay
+    if bytes_eq w (codes "replay") then Some (commands.Replay false)
     else if bytes_eq w (codes "show") then Some commands.Show
+    else if bytes_eq w (codes "widen") then Some (commands.Widen false)
     else None
+
+-- a command that writes an image in place of a text, where `--raw` stands behind its word
+abbrev pub raw_named_by : List ℕ → Option Command
+raw_named_by w =
+    if bytes_eq w (codes "replay") then Some (commands.Replay true)
+    else if bytes_eq w (codes "widen") then Some (commands.Widen true)
+    else None
+
+abbrev pub raw_of : List ℕ → Option Command → Option Command
+raw_of w command = if bytes_eq w (codes "--raw") then command else None
 
 -- the most bytes of a script, and of an image
 abbrev pub most_of : Command → ℕ
-most_of commands.Replay = MOST_SCRIPT_BYTES
+most_of (commands.Replay raw) = MOST_SCRIPT_BYTES
 most_of commands.Show = MOST_IMAGE_BYTES
+most_of (commands.Widen raw) = MOST_IMAGE_BYTES
 
 -- an image can be made: of 1 to `MOST_NUMBERED` inodes, as many blocks, which leave a zone of data, and `LEAST_JOURNAL` to
 -- `MOST_JOURNAL` blocks of journal
@@ -38,9 +50,10 @@ sizes_of inodes zones journal = None
 abbrev pub make_of : List ℕ → Option Sizes → Option Task
 make_of w sizes = if bytes_eq w (codes "make") then option_map tasks.Make sizes else None
 
--- a command, or `make` and three decimal numbers without a sign or a leading zero
+-- a command, one with `--raw`, or `make` and three decimal numbers without a sign or a leading zero
 abbrev pub task_of : List (List ℕ) → Option Task
 task_of (w ∷ []) = option_map tasks.Read (command_named_by w)
+task_of (w ∷ r ∷ []) = option_map tasks.Read (raw_of r (raw_named_by w))
 task_of (w ∷ i ∷ z ∷ j ∷ []) = make_of w (sizes_of (numeral i) (numeral z) (numeral j))
 task_of words = None
 

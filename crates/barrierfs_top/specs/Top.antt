@@ -1,5 +1,5 @@
 -- What the top call did, by its fault.
-use Rattle.std.specs.Prelude.{◌≡◌, ℕ, ◌<◌, ◌≤◌, ◌⊎◌, Bool, true, false, List, length, Option, Some, None, Result, Ok, Err, is_some, nat_lt, if◌then◌else◌}
+use Rattle.std.specs.Prelude.{◌≡◌, ℕ, ◌<◌, ◌≤◌, ◌⊎◌, ◌||◌, Bool, true, false, List, length, Option, Some, None, Result, Ok, Err, is_some, nat_lt, if◌then◌else◌}
 use Rattle.std.specs.List.{concat}
 use Rattle.std.specs.Io.KnownBytes.{Keeps, Appends, Consumes}
 use Rattle.blk_base.specs.Streams.{Rose, Drained, AppendsFront}
@@ -16,6 +16,7 @@ use Rattle.barrierfs_top.specs.declared.command_line.Task.TheVariants as tasks
 use Rattle.barrierfs_top.specs.Tasks.{most_of, task_of}
 use Rattle.barrierfs_top.specs.declared.command_line.Command.TheVariants as commands
 use Rattle.barrierfs_top.specs.Show.{shown}
+use Rattle.barrierfs_top.specs.Widen.{IsWidened, widen_fault}
 use Rattle.barrierfs_top.specs.declared.fault.TopFault.{TopFault}
 use Rattle.barrierfs_top.specs.declared.fault.TopFault.TheVariants as faults
 use Rattle.script_grammar.specs.declared.script.Script.{Script}
@@ -28,7 +29,7 @@ use Rattle.script_grammar.specs.Grammar.{script_of}
 use Rattle.session_grammar.specs.Grammar.{session_of}
 use Rattle.barrierfs_top.specs.declared.run_report.RunReport.{RunReport}
 use Rattle.barrierfs_top.specs.declared.run_report.RunReport.TheVariants as reports
-use Rattle.barrierfs_top.specs.Sessions.{is_session, IsSessionReplay}
+use Rattle.barrierfs_top.specs.Sessions.{is_session, IsSessionReplay, IsImageReplay}
 use Rattle.stack_core.specs.Report.{IsCoreReport, Headline}
 use Rattle.barrierfs_top.specs.Text.{text_of}
 
@@ -42,6 +43,7 @@ status_of (Some faults.SourceFault) = 5
 status_of (Some faults.SinkFault) = 6
 status_of (Some faults.TooLong) = 7
 status_of (Some faults.NoMemory) = 8
+status_of (Some faults.NoRoom) = 9
 
 -- what a call did to a stream: its bytes, where they are told, and its count of faults, before and after
 pub record Stream : Type 0 where
@@ -79,22 +81,26 @@ pub record IsBlocksReplay (input : List ℕ) (report : Option RunReport) (text :
   pub reported : report ≡ Some (reports.Blocks result)
   pub printed : text ≡ text_of result
 
--- `replay`: by the kind of the script
+-- by the kind of the script
 abbrev pub IsReplayAs : Bool → List ℕ → Option RunReport → List ℕ → Type 0
 IsReplayAs true input report text = IsSessionReplay input report text
 IsReplayAs false input report text = IsBlocksReplay input report text
 
-abbrev pub IsReplay : List ℕ → Option RunReport → List ℕ → Type 0
-IsReplay input report text = IsReplayAs (is_session input) input report text
+-- `replay`, and with `--raw`, for which the script is a volume script
+abbrev pub IsReplay : Bool → List ℕ → Option RunReport → List ℕ → Type 0
+IsReplay true input report text = IsImageReplay input report text
+IsReplay false input report text = IsReplayAs (is_session input) input report text
 
 -- `make`: the bytes are those of a new image with these sizes and names of the default width, and there is no report
 abbrev pub IsMade : Sizes → Option RunReport → List ℕ → Type 0
 IsMade s report bytes = (bytes ≡ concat (made_image (geometry_made s.inodes s.zones DEFAULT_WIDTH) s.journal false)) × (report ≡ None)
 
--- `show`: the text is that of the tree that the image has once its journal was recovered
+-- `show`: the text is that of the tree that the image has once its journal was recovered; `widen`: it is that of the widened
+-- image, or the bytes are those of this image
 abbrev pub Makes : Command → List ℕ → Option RunReport → List ℕ → Type 0
-Makes commands.Replay input report text = IsReplay input report text
+Makes (commands.Replay raw) input report text = IsReplay raw input report text
 Makes commands.Show input report text = (shown (whole_blocks input) ≡ Ok text) × (report ≡ None)
+Makes (commands.Widen raw) input report text = IsWidened raw (whole_blocks input) text × (report ≡ None)
 
 -- the first faulty line of a text that is no script, with its kind
 abbrev pub script_fault : {S : Type 0} → Result S (ℕ × ScriptKind) → Option TopFault
@@ -112,13 +118,15 @@ image_fault (Ok text) = None
 image_fault (Err (kind, block)) = Some (faults.Image kind block)
 
 abbrev pub input_fault : Command → List ℕ → Option TopFault
-input_fault commands.Replay input = fault_as (is_session input) input
+input_fault (commands.Replay raw) input = fault_as (raw || is_session input) input
 input_fault commands.Show input = image_fault (shown (whole_blocks input))
+input_fault (commands.Widen raw) input = widen_fault raw (whole_blocks input)
 
 -- this is the fault of the input; want of memory is free
 abbrev pub IsInputFault : Command → List ℕ → TopFault → Type 0
 IsInputFault c input (faults.Script line kind) = input_fault c input ≡ Some (faults.Script line kind)
 IsInputFault c input (faults.Image kind block) = input_fault c input ≡ Some (faults.Image kind block)
+IsInputFault c input faults.NoRoom = input_fault c input ≡ Some faults.NoRoom
 IsInputFault c input faults.NoMemory = Unit {0}
 IsInputFault c input other = ⊥
 
@@ -166,6 +174,7 @@ Cause words source faults.SourceFault = (c : Command) × (task_of words ≡ Some
 Cause words source faults.SinkFault = ⊥
 Cause words source faults.TooLong = (c : Command) × (task_of words ≡ Some (tasks.Read c)) × IsTooLong c source.bytes source.bytes_after
 Cause words source faults.NoMemory = Unit {0}
+Cause words source faults.NoRoom = IsRefused words source faults.NoRoom
 
 -- what was done to source and sink, by the fault
 abbrev pub Did : List (List ℕ) → Stream → Stream → Option RunReport → Option TopFault → Type 0

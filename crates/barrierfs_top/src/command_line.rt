@@ -1,7 +1,7 @@
 //! What the words of the command line ask for.
 ghost use Rattle.std.specs.Prelude.{◌≡◌, ◌++◌, ◌∷◌, [], Some, IfSome, OnOk, OnErr};
 ghost use Rattle.script_words.specs.Spelling.{numeral};
-ghost use Rattle.barrierfs_top.specs.Tasks.{command_named_by, most_of, sizes_of, task_of, CanDo};
+ghost use Rattle.barrierfs_top.specs.Tasks.{command_named_by, most_of, raw_named_by, raw_of, sizes_of, task_of, CanDo};
 
 use blk_base::NoMemory;
 use minix_layout::{DEFAULT_WIDTH, Geometry, LEAST_JOURNAL, MOST_JOURNAL, MOST_NUMBERED};
@@ -13,10 +13,12 @@ use std::marker::Model;
 /// What the program does with its input.
 #[derive(Clone, Copy, PartialEq, Eq, Debug)]
 pub enum Command {
-    /// Runs a script and prints its report.
-    Replay,
+    /// Runs a script and prints its report, or of a volume script writes the image that recovery left.
+    Replay { raw: bool },
     /// Prints the tree of an image.
     Show,
+    /// Gives an image names of 30 bytes, and prints the tree of the widened image, or writes its bytes.
+    Widen { raw: bool },
 }
 
 impl Command {
@@ -25,8 +27,8 @@ impl Command {
         ensures { result ≡ most_of self }
     {
         match self {
-            Command::Replay => MOST_SCRIPT_BYTES as u64,
-            Command::Show => MOST_IMAGE_BYTES,
+            Command::Replay { .. } => MOST_SCRIPT_BYTES as u64,
+            Command::Show | Command::Widen { .. } => MOST_IMAGE_BYTES,
         }
     }
 }
@@ -91,6 +93,7 @@ impl Words {
     {
         match self.items.as_slice() {
             [word] => Some(Task::Read(command_named(word.as_str())?)),
+            [word, raw] => Some(Task::Read(raw_named(word.as_str(), raw.as_str())?)),
             [make, inodes, zones, journal] => {
                 if make.as_str() != "make" {
                     return None;
@@ -107,8 +110,23 @@ fn command_named(word: &str) -> Option<Command>
     ensures { result ≡ command_named_by word.now }
 {
     match word {
-        "replay" => Some(Command::Replay),
+        "replay" => Some(Command::Replay { raw: false }),
         "show" => Some(Command::Show),
+        "widen" => Some(Command::Widen { raw: false }),
+        _ => None,
+    }
+}
+
+// The command whose word has `--raw` behind it.
+fn raw_named(word: &str, raw: &str) -> Option<Command>
+    ensures { result ≡ raw_of raw.now (raw_named_by word.now) }
+{
+    if raw != "--raw" {
+        return None;
+    }
+    match word {
+        "replay" => Some(Command::Replay { raw: true }),
+        "widen" => Some(Command::Widen { raw: true }),
         _ => None,
     }
 }

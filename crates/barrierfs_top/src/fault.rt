@@ -20,4 +20,6 @@ pub enum TopFault {
     TooLong,
     #[error("no memory")]
     NoMemory,
+    #[error("no room")]
+    NoRoom,
 }

@@ -1,5 +1,6 @@
 //! The words and the streams that a process has, and how it ends.
-ghost use Rattle.std.specs.Prelude.{◌≡◌, ℕ, List, Some, None};
+ghost use Rattle.std.specs.Prelude.{◌≡◌, ◌⊎◌, ℕ, false, List, Option, Some, None, IfErr};
+ghost use Rattle.std.specs.Process.{exit_status};
 ghost use Rattle.blk_base.specs.Streams.{Rose};
 ghost use Rattle.barrierfs_top.specs.Promise.{WentOut, TellsRun};
 ghost use Rattle.barrierfs_top.specs.Tasks.{task_of};
@@ -7,6 +8,7 @@ ghost use Rattle.barrierfs_top.specs.Top.{status_of, stream_of, IsUnread, DidSom
 ghost use Rattle.barrierfs_top.specs.declared.command_line.Command.{Command};
 ghost use Rattle.barrierfs_top.specs.declared.command_line.Sizes.{Sizes};
 ghost use Rattle.barrierfs_top.specs.declared.command_line.Task.{Task};
+ghost use Rattle.barrierfs_top.specs.declared.fault.TopFault.{TopFault};
 
 use crate::command_line::Words;
 use crate::fault::TopFault;
@@ -17,8 +19,10 @@ use std::process::ExitCode;
 use std::rt::Env;
 use std::{env, io};
 
-// The words of the command line, without the program's name. One that is not UTF-8 makes them bad words.
-fn words_of(rt: &(impl Env + AllocGlobal)) -> Result<Words, TopFault> {
+/// The words of the command line, without the program's name. One that is not UTF-8 makes them bad words.
+pub fn given_words(rt: &(impl Env + AllocGlobal)) -> Result<Words, TopFault>
+    ensures { IfErr result (λ fault. (fault ≡ TopFault.BadWords) ⊎ (fault ≡ TopFault.NoMemory)) }
+{
     let alloc = rt.alloc();
     let mut words = Words::make(alloc);
     let args = match env::args(rt) {
@@ -51,7 +55,7 @@ pub fn run_words<R: Source, W: Sink>(
     src: &mut R,
     out: &mut W,
 ) -> Ended
-    ensures promise { (bytes : List ℕ) → task_of words.now ≡ Some (Task.Read Command.Replay) → WentOut (W.taken out.old) (W.taken out.new) bytes → TellsRun (R.left src.old) (R.left src.new) result.fault bytes }
+    ensures promise { (bytes : List ℕ) → task_of words.now ≡ Some (Task.Read (Command.Replay false)) → WentOut (W.taken out.old) (W.taken out.new) bytes → TellsRun (R.left src.old) (R.left src.new) result.fault bytes }
     ensures status { result.status ≡ status_of result.fault }
     ensures did { DidSome words.now (stream_of R.left R.faults src.old src.new) (stream_of W.taken W.faults out.old out.new) result.reported result.fault }
     ensures words { task_of words.now ≡ None → result.fault ≡ Some TopFault.BadWords }
@@ -79,8 +83,10 @@ pub fn run_words<R: Source, W: Sink>(
 
 /// All that `main` does: hands the words and the standard streams to `run_words`, prints the fault on standard error where
 /// there is one, and answers the status.
-pub fn run_program(rt: &(impl Env + Input + Print + Eprint + AllocGlobal)) -> ExitCode {
-    let words = match words_of(rt) {
+pub fn run_program(rt: &(impl Env + Input + Print + Eprint + AllocGlobal)) -> ExitCode
+    ensures { (fault : Option TopFault) × (exit_status result ≡ status_of fault) }
+{
+    let words = match given_words(rt) {
         Ok(words) => words,
         Err(fault) => {
             let _ = eprintln!(rt; "barrierfs: {fault}");

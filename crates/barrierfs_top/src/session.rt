@@ -1,12 +1,14 @@
 //! The replay of volume scripts.
 ghost use Rattle.std.specs.Prelude.{◌≡◌, ◌≤◌, length, map, IfOk, IfErr};
+ghost use Rattle.std.specs.List.{concat};
 ghost use Rattle.std.specs.String.{string_bytes};
+ghost use Rattle.blk_base.specs.Image.{whole_blocks};
 ghost use Rattle.script_words.specs.Spelling.{words_of};
 ghost use Rattle.script_grammar.specs.declared.limits.TheConstants.{MOST_SCRIPT_BYTES};
 ghost use Rattle.session_grammar.specs.WellFormed.{IsWellFormed};
 ghost use Rattle.session_core.specs.Core.{ArePlaced, entry_in};
 ghost use Rattle.session_core.specs.Report.{IsCoreReport};
-ghost use Rattle.barrierfs_top.specs.Sessions.{begins_session, is_session, names_volume, IsSessionText, IsSessionReplay};
+ghost use Rattle.barrierfs_top.specs.Sessions.{begins_session, is_session, names_volume, IsSessionText, IsSessionOf, IsSessionReplay, IsImageReplay};
 ghost use Rattle.barrierfs_top.specs.Top.{IsSessionFault};
 ghost use Rattle.barrierfs_top.specs.Text.{output_bytes};
 
@@ -15,7 +17,7 @@ use crate::output::Output;
 use crate::run_report::RunReport;
 use crate::show::tree_text;
 use crate::top::{Printed, fault_of};
-use blk_base::NoMemory;
+use blk_base::{Image, NoMemory};
 use host_answers::Entry;
 use script_words::{is_skipped, lines, words};
 use session_core::{SessionReport, core_run};
@@ -94,19 +96,30 @@ fn session_text(
     Ok(text)
 }
 
-/// Runs the volume script of these bytes, and makes its text.
-pub fn run_session_text(alloc: Global, bytes: &[u8]) -> Result<Printed, TopFault>
+// Runs the volume script of these bytes.
+fn run_session(alloc: Global, bytes: &[u8]) -> Result<(SessionScript, SessionReport), TopFault>
     requires { length bytes.now ≤ MOST_SCRIPT_BYTES }
-    ensures ok { IfOk result (λ p. IsSessionReplay bytes.now p.report (output_bytes p.output)) }
+    ensures ran { IfOk result (λ r. IsSessionOf bytes.now r.0 r.1) }
+    ensures formed { IfOk result (λ r. IsWellFormed r.0) }
     ensures err { IfErr result (IsSessionFault bytes.now) }
 {
     let script = match read_session(alloc, bytes) {
         Ok(script) => script,
         Err(error) => return Err(fault_of(error)),
     };
-    let Ok(report) = core_run(alloc, &script) else {
-        return Err(TopFault::NoMemory);
-    };
+    match core_run(alloc, &script) {
+        Ok(report) => Ok((script, report)),
+        Err(_) => Err(TopFault::NoMemory),
+    }
+}
+
+/// Runs the volume script of these bytes, and makes its text.
+pub fn run_session_text(alloc: Global, bytes: &[u8]) -> Result<Printed, TopFault>
+    requires { length bytes.now ≤ MOST_SCRIPT_BYTES }
+    ensures ok { IfOk result (λ p. IsSessionReplay bytes.now p.report (output_bytes p.output)) }
+    ensures err { IfErr result (IsSessionFault bytes.now) }
+{
+    let (script, report) = run_session(alloc, bytes)?;
     match session_text(alloc, &script, &report) {
         Ok(text) => Ok(Printed {
             report: Some(RunReport::Session(report)),
@@ -116,5 +129,43 @@ pub fn run_session_text(alloc: Global, bytes: &[u8]) -> Result<Printed, TopFault
             drop(report);
             Err(TopFault::NoMemory)
         }
+    }
+}
+
+/// Runs the volume script of these bytes, and takes the image that recovery left.
+pub fn run_session_image(alloc: Global, bytes: &[u8]) -> Result<Printed, TopFault>
+    requires { length bytes.now ≤ MOST_SCRIPT_BYTES }
+    ensures ok { IfOk result (λ p. IsImageReplay bytes.now p.report (output_bytes p.output)) }
+    ensures err { IfErr result (IsSessionFault bytes.now) }
+{
+    let (_script, report) = run_session(alloc, bytes)?;
+    match left_image(alloc, &report) {
+        Ok(image) => Ok(Printed {
+            report: Some(RunReport::Session(report)),
+            output: Output::Image(image),
+        }),
+        Err(_) => {
+            drop(report);
+            Err(TopFault::NoMemory)
+        }
+    }
+}
+
+// The image that recovery left.
+fn left_image(alloc: Global, report: &SessionReport) -> Result<Image, NoMemory>
+    ensures image { IfOk result (λ image. image ≡ report.now.image) }
+    ensures whole { IfOk result (λ image. whole_blocks (concat image) ≡ image) }
+{
+    let image = report.image.copy(alloc)?;
+    check_blocks(&image);
+    Ok(image)
+}
+
+// All blocks of an image are of one length, as their type says, so its bytes are read as these blocks. It does nothing.
+fn check_blocks(image: &Image)
+    ensures { whole_blocks (concat image.now) ≡ image.now }
+{
+    for b in 0..image.len() {
+        let _bytes = image.block(b).as_slice();
     }
 }

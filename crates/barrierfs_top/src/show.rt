@@ -5,11 +5,10 @@ ghost use Rattle.tree_model.specs.Text.{tree_text};
 ghost use Rattle.mount_make.specs.Images.{mounted};
 ghost use Rattle.barrierfs_top.specs.Show.{shown, shown_volume, IsMountedFault};
 
+use crate::device::device_over;
 use crate::fault::TopFault;
 use blk_base::{Image, NoMemory};
-use device_epochs::{DeviceSetup, EpochDevice};
 use mount_make::{MountFault, mount};
-use script_grammar::DEFAULT_DEPTH;
 use std::alloc::Global;
 use tree_model::{Tree, put_tree};
 use volume_ops::Volume;
@@ -26,19 +25,12 @@ pub fn show_text(alloc: Global, image: Image) -> Result<String, TopFault>
     }
 }
 
-// The volume of an image. Its device has the depth of a script's, and room for its recovery.
+// The volume of an image.
 fn volume_of(alloc: Global, image: Image) -> Result<Volume, TopFault>
     ensures ok { IfOk result (λ v. mounted image ≡ Ok v) }
     ensures err { IfErr result (IsMountedFault image) }
 {
-    let setup = DeviceSetup {
-        depth: DEFAULT_DEPTH,
-        limit: u64::from(image.len()) + 2,
-        fail_at: None,
-        bad_read: None,
-        cut_at: None,
-    };
-    let Ok(mut device) = EpochDevice::make(alloc, image, setup) else {
+    let Ok(mut device) = device_over(alloc, image) else {
         return Err(TopFault::NoMemory);
     };
     let mounted = mount(alloc, &mut device);

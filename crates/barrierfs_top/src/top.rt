@@ -1,5 +1,5 @@
 //! The top call.
-ghost use Rattle.std.specs.Prelude.{◌≡◌, ℕ, ◌≤◌, List, Some, None, Ok, length, IfOk, IfErr, IsErrOf};
+ghost use Rattle.std.specs.Prelude.{◌≡◌, ℕ, ◌≤◌, false, List, Some, None, Ok, length, IfOk, IfErr, IsErrOf};
 ghost use Rattle.blk_base.specs.Streams.{Rose};
 ghost use Rattle.barrierfs_top.specs.Tasks.{task_of, CanDo};
 ghost use Rattle.barrierfs_top.specs.Text.{output_bytes};
@@ -10,14 +10,16 @@ ghost use Rattle.barrierfs_top.specs.declared.command_line.Command.{Command};
 ghost use Rattle.barrierfs_top.specs.declared.command_line.Sizes.{Sizes};
 ghost use Rattle.barrierfs_top.specs.declared.command_line.Task.{Task};
 ghost use Rattle.barrierfs_top.specs.Show.{shown, IsMountedFault};
+ghost use Rattle.barrierfs_top.specs.Widen.{IsWidened, IsWidenFault};
 
 use crate::command_line::{Command, Sizes, Task, Words};
 use crate::fault::TopFault;
 use crate::output::Output;
 use crate::run_report::RunReport;
-use crate::session::{is_session, run_session_text};
+use crate::session::{is_session, run_session_image, run_session_text};
 use crate::show::show_text;
 use crate::text::put_report;
+use crate::widen::widen_output;
 use blk_base::{Image, ReadEnd, Sink, Source, read_all, read_image};
 use minix_layout::DEFAULT_WIDTH;
 use mount_make::{MakeFault, make_volume};
@@ -92,12 +94,16 @@ fn run_blocks_text(alloc: Global, bytes: &[u8]) -> Result<Printed, TopFault>
     }
 }
 
-// Runs the script of these bytes, whichever kind it is, and makes its text.
-fn run_text(alloc: Global, bytes: &[u8]) -> Result<Printed, TopFault>
+// Runs the script of these bytes, whichever kind it is, and makes its text; or runs the volume script, and takes the image
+// that recovery left.
+fn run_script(alloc: Global, bytes: &[u8], raw: bool) -> Result<Printed, TopFault>
     requires { length bytes.now ≤ MOST_SCRIPT_BYTES }
-    ensures ok { IfOk result (λ p. IsReplay bytes.now p.report (output_bytes p.output)) }
-    ensures err { IfErr result (IsInputFault Command.Replay bytes.now) }
+    ensures ok { IfOk result (λ p. IsReplay raw bytes.now p.report (output_bytes p.output)) }
+    ensures err { IfErr result (IsInputFault (Command.Replay raw) bytes.now) }
 {
+    if raw {
+        return run_session_image(alloc, bytes);
+    }
     let Ok(session) = is_session(alloc, bytes) else {
         return Err(TopFault::NoMemory);
     };
@@ -117,6 +123,18 @@ fn show(alloc: Global, image: Image) -> Result<Printed, TopFault>
     Ok(Printed {
         report: None,
         output: Output::Text(text),
+    })
+}
+
+// What is written of an image that is widened.
+fn widen(alloc: Global, image: Image, raw: bool) -> Result<Printed, TopFault>
+    ensures ok { IfOk result (λ p. IsWidened raw image (output_bytes p.output) × (p.report ≡ None)) }
+    ensures err { IfErr result (IsWidenFault raw image) }
+{
+    let output = widen_output(alloc, image, raw)?;
+    Ok(Printed {
+        report: None,
+        output,
     })
 }
 
@@ -144,14 +162,15 @@ fn make(alloc: Global, sizes: Sizes) -> Result<Printed, TopFault>
 }
 
 // Reads a script and runs it.
-fn read_and_run<R: Source>(alloc: Global, src: &mut R) -> Result<Printed, TopFault>
-    ensures ok { (words : List (List ℕ)) → task_of words ≡ Some (Task.Read Command.Replay) →
+fn read_and_run<R: Source>(alloc: Global, src: &mut R, raw: bool) -> Result<Printed, TopFault>
+    ensures ok { (words : List (List ℕ)) → task_of words ≡ Some (Task.Read (Command.Replay raw)) →
         IfOk result (λ p. Does words (stream_of R.left R.faults src.old src.new) p.report (output_bytes p.output)) }
-    ensures err { (words : List (List ℕ)) → task_of words ≡ Some (Task.Read Command.Replay) → IfErr result (Cause words (stream_of R.left R.faults src.old src.new)) }
+    ensures err { (words : List (List ℕ)) → task_of words ≡ Some (Task.Read (Command.Replay raw)) → IfErr result (Cause words (stream_of R.left R.faults src.old src.new)) }
     ensures steady { (IsErrOf result TopFault.SourceFault → ⊥) → R.faults src.new ≡ R.faults src.old }
 {
-    match read_all(alloc, src, Command::Replay.most()) {
-        Ok(bytes) => run_text(alloc, &bytes),
+    let command = Command::Replay { raw };
+    match read_all(alloc, src, command.most()) {
+        Ok(bytes) => run_script(alloc, &bytes, raw),
         Err(end) => Err(read_fault(end)),
     }
 }
@@ -169,6 +188,20 @@ fn read_and_show<R: Source>(alloc: Global, src: &mut R) -> Result<Printed, TopFa
     }
 }
 
+// Reads an image block by block, and widens it.
+fn read_and_widen<R: Source>(alloc: Global, src: &mut R, raw: bool) -> Result<Printed, TopFault>
+    ensures ok { (words : List (List ℕ)) → task_of words ≡ Some (Task.Read (Command.Widen raw)) →
+        IfOk result (λ p. Does words (stream_of R.left R.faults src.old src.new) p.report (output_bytes p.output)) }
+    ensures err { (words : List (List ℕ)) → task_of words ≡ Some (Task.Read (Command.Widen raw)) → IfErr result (Cause words (stream_of R.left R.faults src.old src.new)) }
+    ensures steady { (IsErrOf result TopFault.SourceFault → ⊥) → R.faults src.new ≡ R.faults src.old }
+{
+    let command = Command::Widen { raw };
+    match read_image(alloc, src, command.most()) {
+        Ok(image) => widen(alloc, image, raw),
+        Err(end) => Err(read_fault(end)),
+    }
+}
+
 // All that comes before the first write.
 fn prepare<R: Source>(alloc: Global, words: &Words, src: &mut R) -> Result<Printed, TopFault>
     ensures ok { IfOk result (λ p. Does words.now (stream_of R.left R.faults src.old src.new) p.report (output_bytes p.output)) }
@@ -182,21 +215,24 @@ fn prepare<R: Source>(alloc: Global, words: &Words, src: &mut R) -> Result<Print
         return Err(TopFault::BadWords);
     };
     match task {
-        Task::Read(Command::Replay) => read_and_run(alloc, src),
+        Task::Read(Command::Replay { raw }) => read_and_run(alloc, src, raw),
         Task::Read(Command::Show) => read_and_show(alloc, src),
+        Task::Read(Command::Widen { raw }) => read_and_widen(alloc, src, raw),
         Task::Make(sizes) => make(alloc, sizes),
     }
 }
 
 /// Does what the words say: `replay` reads a script of the source, runs it and writes its report to the sink: what is left of
-/// the blocks, or of a volume script the replies to its calls and the tree that recovery finds,
-/// `show` reads an image and writes the text of the tree that it has once its journal was recovered, and `make` with
+/// the blocks, or of a volume script the replies to its calls and the tree that recovery finds, or with `--raw` the image that
+/// recovery leaves,
+/// `show` reads an image and writes the text of the tree that it has once its journal was recovered, `widen` gives the
+/// image names of 30 bytes and writes the text of the tree that it then has, or with `--raw` its bytes, and `make` with
 /// the numbers of inodes, blocks of the volume and blocks of the journal writes a new image.
 ///
-/// The statuses are tested in the order 2, 5 and 7, 3 or 4, 6. Status 8, want of memory, may come at any place
+/// The statuses are tested in the order 2, 5 and 7, 3 or 4, 9, 6. Status 8, want of memory, may come at any place
 /// before the first write.
 pub fn alone<R: Source, W: Sink>(alloc: Global, words: &Words, src: &mut R, out: &mut W) -> Outcome
-    ensures promise { (bytes : List ℕ) → task_of words.now ≡ Some (Task.Read Command.Replay) → WentOut (W.taken out.old) (W.taken out.new) bytes → TellsRun (R.left src.old) (R.left src.new) result.fault bytes }
+    ensures promise { (bytes : List ℕ) → task_of words.now ≡ Some (Task.Read (Command.Replay false)) → WentOut (W.taken out.old) (W.taken out.new) bytes → TellsRun (R.left src.old) (R.left src.new) result.fault bytes }
     ensures status { result.status ≡ status_of result.fault }
     ensures did { Did words.now (stream_of R.left R.faults src.old src.new) (stream_of W.taken W.faults out.old out.new) result.report result.fault }
     ensures words { task_of words.now ≡ None → result.fault ≡ Some TopFault.BadWords }
@@ -249,5 +285,6 @@ pub(crate) fn status(fault: TopFault) -> u8
         TopFault::SinkFault => 6,
         TopFault::TooLong => 7,
         TopFault::NoMemory => 8,
+        TopFault::NoRoom => 9,
     }
 }

@@ -23,3 +23,9 @@ returns-in-Make-clause-ok g c =
 
 pub returns-in-Make-clause-err : goal.returns-in-Make-clause-err
 returns-in-Make-clause-err g c = made_cause c.args.words.now (stream_of g.R.Source.left g.R.Source.faults c.args.src.now c.args.src.now) c.make.result c.make.ensures.err
+
+pub returns-in-Read-Widen-clause-ok : goal.returns-in-Read-Widen-clause-ok
+returns-in-Read-Widen-clause-ok g c = c.read_and_widen.ensures.ok c.args.words.now (sym c.task.ensures.value ∙ (c.in-Some.is ∙ ap Some (c.in-Read-Widen.is ∙ ap tasks.Read (rw c.in-Read-Widen.is at c.in-Read-Widen.field-0-is))))
+
+pub returns-in-Read-Widen-clause-err : goal.returns-in-Read-Widen-clause-err
+returns-in-Read-Widen-clause-err g c = c.read_and_widen.ensures.err c.args.words.now (sym c.task.ensures.value ∙ (c.in-Some.is ∙ ap Some (c.in-Read-Widen.is ∙ ap tasks.Read (rw c.in-Read-Widen.is at c.in-Read-Widen.field-0-is))))

@@ -12,13 +12,13 @@ returns-in-Ok-clause-ok g c = λ words asked.
     let source = stream_of g.R.Source.left g.R.Source.faults c.args.src.now c.read_all.new.src in
     let bytes = c.deref.result.now in
     let drained : Drained source.bytes source.bytes_after bytes = rw c.deref.ensures.value c.in-Ok.ensures.all in
-    let short : length bytes ≤ most_of commands.Replay = grind (arith, c.in-Ok.ensures.short, c.most.ensures, c.in-Ok.bytes.ok, c.deref.ensures.len) in
-    does_if words source commands.Replay bytes c.run_text.result asked drained short c.run_text.ensures.ok
+    let short : length bytes ≤ most_of (commands.Replay c.args.raw) = grind (arith, c.in-Ok.ensures.short, c.most.ensures, c.in-Ok.bytes.ok, c.deref.ensures.len) in
+    does_if words source (commands.Replay c.args.raw) bytes c.run_script.result asked drained short c.run_script.ensures.ok
 
 pub returns-in-Ok-clause-err : goal.returns-in-Ok-clause-err
 returns-in-Ok-clause-err g c = λ words asked.
     let source = stream_of g.R.Source.left g.R.Source.faults c.args.src.now c.read_all.new.src in
     let bytes = c.deref.result.now in
     let drained : Drained source.bytes source.bytes_after bytes = rw c.deref.ensures.value c.in-Ok.ensures.all in
-    let short : length bytes ≤ most_of commands.Replay = grind (arith, c.in-Ok.ensures.short, c.most.ensures, c.in-Ok.bytes.ok, c.deref.ensures.len) in
-    cause_if words source commands.Replay bytes c.run_text.result asked drained short c.run_text.ensures.err
+    let short : length bytes ≤ most_of (commands.Replay c.args.raw) = grind (arith, c.in-Ok.ensures.short, c.most.ensures, c.in-Ok.bytes.ok, c.deref.ensures.len) in
+    cause_if words source (commands.Replay c.args.raw) bytes c.run_script.result asked drained short c.run_script.ensures.err

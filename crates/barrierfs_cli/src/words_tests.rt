@@ -1,0 +1,124 @@
+//! Lists of words beside their statuses, through the top call, and how a process gives them.
+use crate::tests::refused;
+use barrierfs_top::{Command, Task, TopFault, given_words};
+use std::env::FillError;
+use std::rt::Env;
+use std::test::Fail;
+
+// Each list of words, and the status where the input is a script of block requests; 0 where something is written.
+const LISTS: [(&[&str], u8); 50] = [
+    (&["replay"], 0),
+    (&["make", "32", "64", "128"], 0),
+    (&["make", "1", "6", "128"], 0),
+    // No volume script, and no image.
+    (&["replay", "--raw"], 3),
+    (&["show"], 4),
+    (&["widen"], 4),
+    (&["widen", "--raw"], 4),
+    // Words that are none, or not built.
+    (&[], 2),
+    (&[""], 2),
+    (&["rep"], 2),
+    (&["Replay"], 2),
+    (&[" replay"], 2),
+    (&["replay "], 2),
+    (&["replay --raw"], 2),
+    (&["run"], 2),
+    (&["run", "--raw"], 2),
+    (&["bulk", "0"], 2),
+    (&["bulk", "01"], 2),
+    (&["bulk", "10001"], 2),
+    (&["bulk", "--", "5"], 2),
+    (&["--help"], 2),
+    (&["-h"], 2),
+    (&["help"], 2),
+    (&["--version"], 2),
+    (&["-V"], 2),
+    // A word too many, or out of place.
+    (&["replay", "replay"], 2),
+    (&["replay", ""], 2),
+    (&["replay", "device"], 2),
+    (&["replay", "--"], 2),
+    (&["--", "replay"], 2),
+    (&["replay", "--", "--raw"], 2),
+    (&["replay", "--raw", "--raw"], 2),
+    (&["--raw"], 2),
+    (&["--raw", "replay"], 2),
+    (&["--raw", "widen"], 2),
+    (&["show", "show"], 2),
+    (&["show", "--raw"], 2),
+    (&["widen", "widen"], 2),
+    (&["widen", "--raw", "--raw"], 2),
+    // Spellings of the second word.
+    (&["replay", "raw"], 2),
+    (&["replay", "-raw"], 2),
+    (&["replay", "--RAW"], 2),
+    (&["replay", "--raw="], 2),
+    (&["widen", "raw"], 2),
+    // Sizes, of which `make_tests` has more.
+    (&["make"], 2),
+    (&["make", "32", "64"], 2),
+    (&["make", "32", "64", "128", "1"], 2),
+    (&["make", "--", "32", "64", "128"], 2),
+    (&["make", "-32", "64", "128"], 2),
+    (&["make", "32", "64", "0x80"], 2),
+];
+
+#[test]
+fn takes_just_the_words_of_the_table(rt: HostRuntime) -> Result<(), Fail> {
+    for (words, status) in LISTS {
+        let found = refused(rt.alloc(), words, "device 1\nevents\n")?;
+        assert_eq!(rt; found, status, "{words:?}");
+    }
+    Ok(())
+}
+
+// The words of a process, its name first.
+#[derive(Drop)]
+struct Given {
+    words: [&'static [u8]; 2],
+}
+
+impl Env for Given {
+    fn arg(&self, i: usize, buf: &mut [u8]) -> Result<usize, FillError> {
+        let Some(word) = self.words.get(i) else {
+            return Err(FillError::NotPresent);
+        };
+        match buf.get_mut(..word.len()) {
+            Some(front) => {
+                front.copy_from_slice(word);
+                Ok(word.len())
+            }
+            None => Err(FillError::TooLong),
+        }
+    }
+
+    fn var(&self, _name: &str, _buf: &mut [u8]) -> Result<usize, FillError> {
+        Err(FillError::NotPresent)
+    }
+
+    fn var_at(&self, _i: usize, _buf: &mut [u8]) -> Result<usize, FillError> {
+        Err(FillError::NotPresent)
+    }
+}
+
+#[test]
+fn takes_words_that_are_texts(rt: HostRuntime) -> Result<(), Fail> {
+    let replay = Task::Read(Command::Replay { raw: false });
+    let rows: [(&'static [u8], Result<Option<Task>, TopFault>); 3] = [
+        (b"replay", Ok(Some(replay))),
+        (b"rep", Ok(None)),
+        (b"repl\xffy", Err(TopFault::BadWords)),
+    ];
+    for (word, task) in rows {
+        let given = Given {
+            words: [b"barrierfs", word],
+        };
+        let found = match given_words(&(given, rt.alloc())) {
+            Ok(words) => Ok(words.task()),
+            Err(fault) => Err(fault),
+        };
+        assert_eq!(rt; found, task);
+    }
+    Ok(())
+}
