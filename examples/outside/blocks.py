@@ -37,14 +37,14 @@ class Script:
         kind, blocks = lines[0].split(" ")
         self.has_scheduler = kind == "blocks"
         self.blocks = int(blocks)
-        self.depth, self.queue, self.cut, self.elevator, self.flash = 32, 32, None, False, None
+        self.depth, self.queue, self.fail, self.cut, self.elevator, self.flash = 32, 32, None, None, False, None
         self.requests = []
         at = 1
         while lines[at] != "events":
             word, *rest = lines[at].split(" ")
             if word == "elevator":
                 self.elevator = True
-            elif word in ("depth", "queue", "cut", "flash"):
+            elif word in ("depth", "queue", "fail", "cut", "flash"):
                 setattr(self, word, int(rest[0]))
             else:
                 self.requests.append(Request(len(self.requests), lines[at]))
@@ -106,12 +106,15 @@ class Scheduler:
 
 class Device:
     def __init__(self, script):
-        self.depth, self.cut = script.depth, script.cut
-        self.waiting, self.cache, self.epoch, self.steps = [], [], 0, 0
+        self.depth, self.fail, self.cut = script.depth, script.fail, script.cut
+        self.waiting, self.cache, self.epoch, self.steps, self.transfers = [], [], 0, 0, 0
         self.medium = [("00", "-")] * script.blocks
 
     def is_on(self):
         return self.cut is None or self.steps < self.cut
+
+    def has_failed(self):
+        return self.fail is not None and self.transfers >= self.fail
 
     def has_room(self):
         return self.is_on() and len(self.waiting) < self.depth
@@ -123,10 +126,17 @@ class Device:
         return not any(c.is_ordered or c.blocks() & command.blocks() for c in before)
 
     def transfer(self, pick):
+        """Transfers the command at this place of the eligible list, or fails to, and says whether one was there."""
         eligible = [at for at in range(len(self.waiting)) if self.may_transfer(at)]
-        if not self.is_on() or pick >= len(eligible):
+        if not self.is_on() or self.has_failed() or pick >= len(eligible):
             return False
         command = self.waiting.pop(eligible[pick])
+        self.steps, self.transfers = self.steps + 1, self.transfers + 1
+        if not self.has_failed():
+            self.move(command)
+        return True
+
+    def move(self, command):
         for block, value, number in command.parts:
             same = [entry for entry in self.cache if entry[:2] == [self.epoch, block]]
             if same:
@@ -135,8 +145,6 @@ class Device:
                 self.cache.append([self.epoch, block, value, number])
         if command.has_flag and not command.is_flush:
             self.epoch += 1
-        self.steps += 1
-        return True
 
     def persist(self, pick):
         eligible = [entry for entry in self.cache if entry[0] == self.cache[0][0]]
@@ -174,13 +182,8 @@ class FlashLog(Device):
             return at == 0 and all(page[3] for page in self.pages)
         return super().may_transfer(at)
 
-    def transfer(self, pick):
-        eligible = [at for at in range(len(self.waiting)) if self.may_transfer(at)]
-        if not self.is_on() or pick >= len(eligible):
-            return False
-        self.pages += [[*part, False] for part in self.waiting.pop(eligible[pick]).parts]
-        self.steps += 1
-        return True
+    def move(self, command):
+        self.pages += [[*part, False] for part in command.parts]
 
     def kept(self):
         """The pages that are not folded, up to the first one that is not programmed."""

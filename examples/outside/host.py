@@ -59,7 +59,8 @@ class Script:
         self.names = calls.names_by(lines[0])
         self.tags = int(words[-1]) if words[-2] == "tags" else 32
         self.blocks = self.zones + self.journal
-        self.depth, self.queue, self.limit, self.cut, self.elevator, self.flash = 32, 32, 20_000, None, False, None
+        self.depth, self.queue, self.limit, self.elevator, self.flash = 32, 32, 20_000, False, None
+        self.fail = self.cut = None
         self.threads, self.events = [], []
         at = lines.index("events")
         for line in lines[1:at]:
@@ -93,7 +94,7 @@ class Completions:
         acts = super().transfer(pick)
         for command in before:
             if command not in self.waiting:
-                kind = "flushed" if command.is_flush else "moved"
+                kind = "failed" if self.has_failed() else "flushed" if command.is_flush else "moved"
                 self.done += [(kind, number) for number in command.numbers]
         return acts
 
@@ -132,7 +133,8 @@ class Session:
         self.homes, self.checkpoint = {}, None
         self.head, self.free = 1, script.journal - 1
         self.requests, self.last_put, self.flushes = 0, None, []
-        self.moved, self.flushed, self.is_down, self.taken = set(), -1, False, 0
+        self.moved, self.flushed, self.taken = set(), -1, 0
+        self.is_down, self.failed = False, None  # the first request of which a completion says that it failed
         self.submitted, self.sent, self.kept = [], [], None
         self.completions, self.kept_completion = [], None
         self.scheduler, self.device = blocks.Scheduler(script.elevator), device_of(script)
@@ -180,11 +182,13 @@ class Session:
 
     def step(self, thread, line):
         """The reply of a call's next step, or none where it goes on."""
+        word, *rest = line.split(" ")
         if self.is_down:
             return "down"
+        if self.failed is not None and word not in READS:
+            return f"read-only {self.failed}"
         if thread.begun is not None:
             return self.go_on(thread.begun)
-        word, *rest = line.split(" ")
         if word in FILE_CALLS or word == "sync":
             return self.begin(thread, word, rest)
         if word in READS:
@@ -334,8 +338,11 @@ class Session:
 
     # The actors
 
+    def has_stopped(self):
+        return self.is_down or self.failed is not None
+
     def commit(self):
-        if self.is_down:
+        if self.has_stopped():
             return
         if self.phase == "idle":
             if self.running.wanted and not self.conflicts:
@@ -428,11 +435,14 @@ class Session:
         begun = [thread.begun for thread in self.threads if thread.begun is not None]
         needs = [self.need(call) for call in begun]
         needs = [need for need in needs if need in self.moved]
-        return not self.is_down and any(not any(flush > need for flush in self.flushes) for need in needs)
+        return not self.has_stopped() and any(not any(flush > need for flush in self.flushes) for need in needs)
 
     def take(self, kind, number):
         if kind == "cut":
             self.is_down = True
+        elif kind == "failed":
+            if self.failed is None:
+                self.failed = number
         elif kind == "moved":
             self.moved.add(number)
             for tx in [tx for tx, commit in self.commits.items() if commit == number]:
@@ -452,7 +462,7 @@ class Session:
 
     def write(self, pick):
         dirty = [page for _, page in sorted(self.pages.items()) if page.state == "dirty"]
-        if self.is_down or pick >= len(dirty) or self.is_full():
+        if self.has_stopped() or pick >= len(dirty) or self.is_full():
             return
         page = dirty[pick]
         is_free = self.taker[page.zone] in self.commits

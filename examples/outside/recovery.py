@@ -65,7 +65,9 @@ class Put:
 
 class Setup:
     def __init__(self, depth, flash, count):
-        self.depth, self.flash, self.cut, self.blocks = depth, flash, None, count
+        self.depth, self.flash = depth, flash
+        self.fail = self.cut = None
+        self.blocks = count
 
 
 def attempt(medium, base, depth, flash, words):

@@ -123,6 +123,12 @@ twin("host", "data-waits-for-none", "a data barrier or fdatasync does not wait f
      "if changed is not None and changed not in self.commits:", "if False:")
 twin("host", "datasync-by-commit", "fdatasync with a transaction waits for a flush after the commit block, and not after the last put", "host",
      "            call.durable = self.last_put\n            self.changes += 1\n        return self.await", "            call.durable = self.commits[call.target]\n            self.changes += 1\n        return self.await")
+twin("host", "last-failed", "a call that is read-only names the last request that failed", "host",
+     "            if self.failed is None:\n                self.failed = number\n", "            self.failed = number\n")
+twin("host", "reads-read-only", "a call that reads is read-only too", "host", "if self.failed is not None and word not in READS:", "if self.failed is not None:")
+twin("host", "begun-goes-on", "a call that has begun goes on where a request failed", "host",
+     "if self.failed is not None and word not in READS:", "if self.failed is not None and word not in READS and thread.begun is None:")
+twin("host", "actors-go-on", "the actors submit where a request failed", "host", "return self.is_down or self.failed is not None", "return self.is_down")
 twin("host", "limit-more", "a session has one request more than its limit", "host", "return self.requests >= self.script.limit", "return self.requests > self.script.limit")
 twin("host", "flush-at-limit", "a sync call at the limit ends as session full, also where a flush after its request was submitted", "host",
      "if self.is_full() and not any(flush > request for flush in self.flushes):", "if self.is_full():")
@@ -171,7 +177,7 @@ twin("recovery", "attempt-falls", "recovery sends the bodies home in falling ord
      "homes = sorted(log.homes().items())", "homes = sorted(log.homes().items(), reverse=True)",
      row=NO_LINE)
 twin("recovery", "attempt-depth", "an attempt of recovery has a device of depth 32", "recovery",
-     "self.depth, self.flash, self.cut, self.blocks = depth, flash, None, count", "self.depth, self.flash, self.cut, self.blocks = 32, flash, None, count",
+     "self.depth, self.flash = depth, flash", "self.depth, self.flash = 32, flash",
      row=NO_LINE)
 twin("recovery", "attempt-persists-first", "a step that recovery chooses itself persists before it transfers", "recovery",
      "device.transfer(0) or device.persist(0)", "device.persist(0) or device.transfer(0)",
@@ -180,9 +186,9 @@ twin("recovery", "attempt-persists-first", "a step that recovery chooses itself 
 # The block stack
 
 twin("stack", "depth-31", "the device has room for 31 commands where the script says nothing", "blocks",
-     "self.cut, self.elevator, self.flash = 32, 32, None, False, None", "self.cut, self.elevator, self.flash = 31, 32, None, False, None")
+     "self.flash = 32, 32, None, None, False, None", "self.flash = 31, 32, None, None, False, None")
 twin("stack", "queue-31", "the queues have 31 places where the script says nothing", "blocks",
-     "self.cut, self.elevator, self.flash = 32, 32, None, False, None", "self.cut, self.elevator, self.flash = 32, 31, None, False, None")
+     "self.flash = 32, 32, None, None, False, None", "self.flash = 32, 31, None, None, False, None")
 twin("stack", "merge-15", "the elevator joins at most 15 puts", "blocks", "CLASS_LIMIT = 16", "CLASS_LIMIT = 15")
 twin("stack", "held-127", "the scheduler holds at most 127 requests", "blocks", "HELD_LIMIT = 128", "HELD_LIMIT = 127")
 twin("stack", "merge-both", "the elevator joins puts of both classes", "blocks", " and r.keeps_order == taken[0].keeps_order]", "]")
@@ -219,6 +225,12 @@ twin("stack", "depth-more", "the device takes one command more than its depth", 
 twin("stack", "command-taken-twice-blocks", "a dispatch that sends the kept command takes the next one too", "blocks",
      "            self.sent.append(command)\n            self.kept = None\n", "            self.sent.append(command)\n            self.kept = self.scheduler.dispatch(0) if self.kept is command else None\n")
 twin("stack", "cut-late", "the power goes off one step later", "blocks", "self.steps < self.cut", "self.steps <= self.cut")
+twin("stack", "fail-late", "the transfer behind the one that is said fails", "blocks", "self.transfers >= self.fail", "self.transfers > self.fail")
+twin("stack", "failed-moves", "a transfer that fails moves its command all the same", "blocks",
+     "        if not self.has_failed():\n            self.move(command)\n", "        self.move(command)\n")
+twin("stack", "transfers-behind", "commands behind a transfer that failed are transferred and lost", "blocks", "not self.is_on() or self.has_failed() or pick", "not self.is_on() or pick")
+twin("stack", "fail-no-step", "a transfer that fails is no step", "blocks",
+     "self.steps, self.transfers = self.steps + 1, self.transfers + 1\n", "self.transfers += 1\n        self.steps += not self.has_failed()\n")
 
 # The flash log
 

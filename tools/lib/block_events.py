@@ -67,6 +67,8 @@ class Words:
 
     def did(self, event, after):
         """What an event did that acted."""
+        if event == "transfer" and after.device.has_failed():
+            return f"the transfer of {self.command(self.transferred(after))} fails: nothing of it is moved, and nothing is transferred from here on"
         return getattr(self, event)(after)
 
     def submit(self, _):
@@ -134,6 +136,8 @@ class Words:
 
     def why(self, event, pick):
         """Why an event does nothing."""
+        if event == "transfer" and self.run.device.has_failed():
+            return "a transfer failed before"
         return getattr(self, "no_" + event)(pick)
 
     def no_submit(self, _):

@@ -24,6 +24,12 @@ def header(rng, lines):
     return chosen
 
 
+def add_failure(rng, script, most):
+    """Lets a transfer fail in one of five scripts."""
+    if rng.random() < 0.2:
+        script.insert(1, f"fail {rng.randint(1, most)}")
+
+
 SIZES = [1, 1, 2, 3, 4, 6, 8, 64]  # of a queue, or of the device's
 
 
@@ -31,6 +37,7 @@ def block_script(rng):
     script = full_script(rng) if rng.random() < 0.2 else short_script(rng)
     if rng.random() < 0.4:
         script.insert(1, f"flash {rng.choice([3, 3, 3, 4, 5, 64])}")
+    add_failure(rng, script, 30)
     return "\n".join(script) + "\n"
 
 
@@ -266,6 +273,7 @@ def cut_script(rng):
     if kind == "long":
         script += [f"round {rng.choice([300, 1500, 5000])}", *session_events(rng, threads)] if rng.random() < 0.5 else slow_rounds(rng)
     script += [recover_line(rng) for _ in range(rng.choice([0, 0, 1, 3]))]
+    add_failure(rng, script, rng.choice([10, 60, 200]))
     return "\n".join(script) + "\n"
 
 
@@ -281,6 +289,7 @@ def limit_lines(rng, past):
         lambda: ([f"{rng.choice(['device', 'blocks'])} {number(1, 4096)}"], []),
         lambda: (["blocks 3", f"{rng.choice(['depth', 'queue'])} {number(1, 64)}"], []),
         lambda: ([f"{rng.choice(['device', 'blocks'])} 3", f"flash {number(3, 64)}"], []),
+        lambda: ([rng.choice(["device 3", "blocks 3", VOLUME + width(rng)]), f"fail {number(1, 1_000_000_000)}"], []),
         lambda: ([VOLUME + width(rng), rng.choice([f"seed {number(0, 1_000_000_000)}", f"limit {number(1, 200_000)}", f"cut {number(0, 1_000_000_000)}"])], []),
         lambda: (["device 5", f"put {4 + past} 00 free"], []),
         lambda: (["device 5", *["put 1 00 free"] * (10_000 + past)], []),

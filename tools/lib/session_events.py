@@ -231,10 +231,14 @@ class HostWords:
             return f"closes transaction {session.closing.number}, with {counted(len(session.plan), 'put')} to submit"
         return f"begins to close transaction {session.closing.number}, which changed {blocks_listed(session.closing.blocks)}"
 
+    def stopped(self):
+        session = self.session
+        return f"the host knows that {OFF}" if session.is_down else f"the host knows that request {session.failed} failed"
+
     def no_commit(self):
         session = self.session
-        if session.is_down:
-            return f"the host knows that {OFF}"
+        if session.has_stopped():
+            return self.stopped()
         if session.phase != "idle":
             return self.full()
         running = session.running.number
@@ -250,7 +254,8 @@ class HostWords:
         kind, number = before.completions[0]
         if kind == "cut":
             return f"takes the completion that says that {OFF}"
-        text = f"takes the completion of request {number}, " + ("which is in the cache" if kind == "moved" else "a flush, which is done")
+        about = {"moved": "which is in the cache", "flushed": "a flush, which is done", "failed": "which failed"}[kind]
+        text = f"takes the completion of request {number}, {about}"
         free = sorted(before.holders - set(session.held.values()))
         return text + "".join(f"; transaction {number} holds no block any more" for number in free)
 
@@ -265,8 +270,8 @@ class HostWords:
 
     def no_write(self, pick):
         dirty = self.session.dirty()
-        if self.session.is_down:
-            return f"the host knows that {OFF}"
+        if self.session.has_stopped():
+            return self.stopped()
         if pick < dirty:
             return self.full()
         return f"place {pick} is past the Dirty pages, of which there are {dirty}" if dirty else "no page is Dirty"
