@@ -109,13 +109,51 @@ def one_file(name):
     return name, "\n".join(text + ["events", "round 100"]) + "\n"
 
 
+def written(path, blocks, value=0):
+    """Calls that write so many blocks of a file, 31 a call."""
+    return ["write %s %d %d %02x" % (path, 1024 * first, 1024 * min(31, blocks - first), (first + value) % 256) for first in range(0, blocks, 31)]
+
+
+def on_large_volume(name, blocks, calls, *events):
+    """A volume script of one thread, on a volume with room for so many blocks."""
+    text = ["volume inodes 64 zones %d journal 16384" % (blocks + blocks // 500 + 100), "limit 200000", "thread 1", *calls, "events"]
+    return name, "\n".join([*text, *(events or ["call 1 x %d" % len(calls)])]) + "\n"
+
+
 def large(name, blocks, last):
-    """A volume script of one thread that writes a file of so many blocks, 31 a call, and then does `last` with it; no event but these calls."""
-    text = ["volume inodes 64 zones %d journal 16384" % (blocks + blocks // 500 + 100), "thread 1", "create /file"]
-    for first in range(0, blocks, 31):
-        text.append("write /file %d %d %02x" % (1024 * first, 1024 * min(31, blocks - first), first % 256))
-    text.append(last)
-    return name, "\n".join(text + ["events", "call 1 x %d" % (len(text) - 2)]) + "\n"
+    """Writes a file of so many blocks, and then does `last` with it; no event but these calls."""
+    return on_large_volume(name, blocks, ["create /file", *written("/file", blocks), last])
+
+
+def beside(name, blocks):
+    """Appends half of so many blocks to a file, where a file that was made later has the other half."""
+    half = blocks // 2
+    return on_large_volume(name, blocks, ["create /file", "create /later", *written("/later", half), *written("/file", half)])
+
+
+def synced_file(name, blocks, again):
+    """Writes a file of so many blocks, syncs it, and where `again` is said writes over all of it and syncs it once more."""
+    calls = ["create /file", *written("/file", blocks), "fsync /file"]
+    if again:
+        calls += [*written("/file", blocks, 1), "fsync /file"]
+    return on_large_volume(name, blocks, calls, "round %d" % (3 * blocks * (1 + again) + 1000))
+
+
+def other_barrier(name, blocks):
+    """An `fbarrier` on a file of one block, while another one has so many blocks that were not sent."""
+    calls = ["create /file", "create /other", *written("/other", blocks), "write /file 0 1024 11", "fbarrier /file"]
+    return on_large_volume(name, blocks, calls, "round %d" % (3 * blocks + 1000))
+
+
+def directory(name, count):
+    """So many files in one directory, by as many threads as their calls need; no event but these calls."""
+    text = ["volume inodes %d zones %d journal 16384" % (count + 64, 4096 + count // 16)]
+    threads = -(-count // 9999)
+    for thread in range(threads):
+        text += ["thread %d" % (thread + 1), *(["mkdir /d"] if thread == 0 else [])]
+        text += ["create /d/%d" % file for file in range(thread * 9999, min(count, (thread + 1) * 9999))]
+    calls = ["call %d x %d" % (thread + 1, 10000) for thread in range(threads)]
+    return name, "\n".join([*text, "events", *calls]) + "\n"
 
 
 def synced(files, cut):
@@ -160,6 +198,13 @@ def cases():
     for size in (1000, 4000, 16000, 60000):
         for word, last in (("stat", "stat /file"), ("unlink", "unlink /file"), ("truncate", "truncate /file 0")):
             yield large("volume-file-%d-%s" % (size, word), size, last)
+        yield synced_file("volume-file-%d-fsync" % size, size, False)
+        yield beside("volume-file-%d-beside" % size, size)
+    for size in (1000, 4000, 16000, 30000):
+        yield synced_file("volume-file-%d-again" % size, size, True)
+        yield other_barrier("volume-file-%d-other" % size, size)
+    for count in (1000, 4000, 16000, 30000):
+        yield directory("volume-directory-%d" % count, count)
 
 
 def main():
