@@ -8,7 +8,7 @@ use std::alloc::Global;
 use std::process::Abort;
 use std::test::Fail;
 
-const BLOCKS: &[u8] = b"device 1\nput 0 11 free\nevents\nround 4\n";
+const BLOCKS: &[u8] = b"device 1\nput 0 11 free\nevents\nreceive\ntransfer 0\npersist 0\n";
 
 const SESSION: &[u8] =
     b"volume inodes 32 zones 64 journal 128\nthread 1\ncreate /a\nsync\nevents\nround 60\n";
