@@ -9,3 +9,4 @@ pub mod Rows
 mod Walks
 pub mod OriginIds
 pub mod Single
+pub mod QuietDevices

@@ -118,7 +118,7 @@ accepted_put qs s d i block run lt put =
     ap (option_and_then (λ (r : Request). kind_block r.kind)) (sym (prefix-same s.accepted qs i run.fits.accepted lt)) ∙ put
 
 -- the part of a put that the device took
-record IsPartFor (took : List Command) (i k block : ℕ) : Type 0 where
+pub record IsPartFor (took : List Command) (i k block : ℕ) : Type 0 where
   pub place : ℕ
   pub part : Part
   pub there : part_at took place ≡ Some part
@@ -127,7 +127,7 @@ record IsPartFor (took : List Command) (i k block : ℕ) : Type 0 where
   pub command : command_of_part took place ≡ k
   pub within : place < length (all_parts took)
 
-part_for : (qs : List Request) (s : SchedSeen) (d : Seen) (i k block : ℕ) → IsRun qs s d → IsPutOf qs i block → IsSentIn s i k → k < length d.took → IsPartFor d.took i k block
+pub part_for : (qs : List Request) (s : SchedSeen) (d : Seen) (i k block : ℕ) → IsRun qs s d → IsPutOf qs i block → IsSentIn s i k → k < length d.took → IsPartFor d.took i k block
 part_for qs s d i k block run put h lt =
     let took = d.took in
     let c = h.command in
@@ -189,7 +189,7 @@ no_later_before qs s d x y p q run r t same le =
     (cases_lt q.id p.id)
 
 -- a kept part is a kept put
-kept_put : (qs : List Request) (s : SchedSeen) (d : Seen) (i x : ℕ) (p : Part) → IsRun qs s d → part_at d.took x ≡ Some p → p.id ≡ i → IsPartKept d x → IsKept qs (origin_ids d.took d.origins) i
+pub kept_put : (qs : List Request) (s : SchedSeen) (d : Seen) (i x : ℕ) (p : Part) → IsRun qs s d → part_at d.took x ≡ Some p → p.id ≡ i → IsPartKept d x → IsKept qs (origin_ids d.took d.origins) i
 kept_put qs s d i x p run at named kept =
     let r = request_of qs s d x p run at in
     let same : kept.part.block ≡ p.block = ap (λ (q : Part). q.block) (same_Some kept.part p (sym kept.taken ∙ at)) in

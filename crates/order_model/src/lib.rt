@@ -37,6 +37,7 @@ pub use list_queue::ListQueue;
 pub use note::Note;
 pub use order_law::{
     carries_requests_merged, carries_requests_sent_alone, keeps_order_to_the_medium,
+    quiet_devices_keep_all,
 };
 pub use part::{Part, Parts};
 pub use request::{Kind, Request};

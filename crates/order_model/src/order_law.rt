@@ -1,8 +1,8 @@
 //! The law from the commands that carry requests to the medium.
-ghost use Rattle.std.specs.Prelude.{◌≡◌, List, map};
+ghost use Rattle.std.specs.Prelude.{◌≡◌, ℕ, List, [], length, map};
 ghost use Rattle.order_model.specs.declared.request.Request.{Request};
-ghost use Rattle.order_model.specs.OrderClosed.{IsOrderClosed, KeepsFlushed};
-ghost use Rattle.order_model.specs.Device.{completed, origin_ids};
+ghost use Rattle.order_model.specs.OrderClosed.{IsOrderClosed, IsKept, IsPut, KeepsFlushed};
+ghost use Rattle.order_model.specs.Device.{IsQuiet, IsSurface, Seen, completed, origin_ids};
 ghost use Rattle.order_model.specs.Merging.{ungrouped, merged, IsGroup};
 ghost use Rattle.blk_base.specs.Members.{In};
 ghost use Rattle.order_model.specs.declared.command.Command.{Command};
@@ -21,6 +21,16 @@ pub fn keeps_order_to_the_medium<D: OrderedDev>(dev: &D)
 {
     dev.blocks();
 }
+
+/// Where all that was submitted was accepted, none of it waits, the device took all that was sent out, and it is quiet, every
+/// put is kept.
+///
+/// A law alone: the call does nothing.
+pub fn quiet_devices_keep_all()
+    ensures { (requests : List Request) (s : SchedSeen) (d : Seen) → AreAtIds requests → Carries s → IsSurface d → Fits requests s d →
+        length s.accepted ≡ length requests → s.waiting ≡ [] → length d.took ≡ length s.sent_out → IsQuiet d →
+        (i : ℕ) → IsPut requests i → IsKept requests (origin_ids d.took d.origins) i }
+{}
 
 /// Requests that are sent in order, each as a command of its own, are carried by these commands.
 ///
