@@ -17,6 +17,15 @@ pub record IsTraceOf (s : Seen) (trace : DeviceRecord) : Type 0 where
   pub sent : trace.sent.items ≡ s.sent
   pub steps : trace.steps ≡ s.steps
 
+-- A device that was made as this one: over the same image, for as many ids and as many commands that wait, with the same power cut and
+-- the same transfer that fails.
+pub record IsMadeAs (first s : Seen) : Type 0 where
+  pub base : s.base ≡ first.base
+  pub limit : s.limit ≡ first.limit
+  pub depth : s.depth ≡ first.depth
+  pub cut_at : s.cut_at ≡ first.cut_at
+  pub fail_at : s.fail_at ≡ first.fail_at
+
 -- a command was received, and nothing else changed
 abbrev pub Receives : Seen → Command → Seen → Type 0
 Receives old c new = new ≡ record old { took = old.took ++ c ∷ [] }

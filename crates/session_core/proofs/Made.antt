@@ -6,6 +6,7 @@ use Rattle.order_model.specs.declared.device.OrderedDev as devices
 use Rattle.order_model.specs.Carrying.{SchedSeen, IsPrefixOf}
 use Rattle.order_model.specs.Device.{Seen, TellsCut, TellsFailure}
 use Rattle.order_model.specs.Machine.{Machine}
+use Rattle.order_model.specs.Steps.{IsMadeAs}
 use Rattle.barrier_reassign.specs.declared.scheduler.Scheduler as schedulers
 use Rattle.blk_base.specs.declared.memory.NoMemory.{NoMemory}
 use Rattle.barrier_reassign.specs.declared.scheduler.TheConstants.{CAPACITY}
@@ -24,7 +25,7 @@ use Rattle.session_grammar.specs.WellFormed.{IsWellFormed, all_calls}
 use Rattle.session_machine.specs.Machine.{core_session, opened_session, events_of, host_events}
 use Rattle.host_runs.specs.Runs.{steps}
 use Rattle.session_machine.specs.MadeStart.{IsNew}
-use Rattle.session_machine.specs.Fits.{SessionFits, IsMadeAs}
+use Rattle.session_machine.specs.Fits.{SessionFits}
 use Rattle.std.specs.Option.{option_to_list}
 use Rattle.session_run.specs.Beginning.{HostNow, WriteBytes, call_over, IsMadeFor}
 use Rattle.session_run.specs.End.{IsEndOf, EndKeepsOrder}

@@ -4,8 +4,8 @@ use Rattle.order_model.specs.declared.command.Command.{Command}
 use Rattle.order_model.specs.declared.completion.Completion.{Completion}
 use Rattle.order_model.specs.Device.{Seen}
 use Rattle.order_model.specs.Machine.{Machine}
-use Rattle.order_model.specs.Steps.{KeepsGiven, Receives, Answers}
-use Rattle.session_machine.specs.Fits.{IsDevice, IsMadeAs}
+use Rattle.order_model.specs.Steps.{IsMadeAs, KeepsGiven, Receives, Answers}
+use Rattle.session_machine.specs.Fits.{IsDevice}
 
 pub made_as_itself : (s : Seen) → IsMadeAs s s
 made_as_itself s = record { base = refl; limit = refl; depth = refl; cut_at = refl; fail_at = refl }

@@ -25,15 +25,6 @@ pub record IsDevice {S : Type 0} (m : Machine S) (valid : S → Type 0) : Type 0
   pub answers : (s : S) → valid s → valid (m.answered s) × Answers (m.seen s) (m.next_answer s) (m.seen (m.answered s))
   pub surface : (s : S) → valid s → IsSurface (m.seen s)
 
--- A device that was made as this one: over the same image, for as many ids and as many commands that wait, with the same power cut and
--- the same transfer that fails.
-pub record IsMadeAs (first s : Seen) : Type 0 where
-  pub base : s.base ≡ first.base
-  pub limit : s.limit ≡ first.limit
-  pub depth : s.depth ≡ first.depth
-  pub cut_at : s.cut_at ≡ first.cut_at
-  pub fail_at : s.fail_at ≡ first.fail_at
-
 -- Requests on their way: what was submitted was accepted or waits to be; what was sent out was taken, waits to be, or is
 -- kept. No more are submitted than the limit says, which scheduler and device allow.
 pub record RequestsFit (requests : List Request) (limit : ℕ) (q : QueuesState) (p : SchedSeen) (d : Seen) : Type 0 where

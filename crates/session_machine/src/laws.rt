@@ -6,6 +6,7 @@ ghost use Rattle.minix_layout.specs.declared.division.Geometry.{Geometry};
 ghost use Rattle.order_model.specs.Carrying.{SchedSeen, AreAtIds, Carries, Fits};
 ghost use Rattle.order_model.specs.Device.{Seen, completed, origin_ids};
 ghost use Rattle.order_model.specs.Machine.{machine_of};
+ghost use Rattle.order_model.specs.Steps.{IsMadeAs};
 ghost use Rattle.stack_core.specs.Core.{times};
 ghost use Rattle.stack_core.specs.Headline.{KeepsOrder};
 ghost use Rattle.event_grammar.specs.declared.event.CoreEvent.{CoreEvent};
@@ -20,7 +21,7 @@ ghost use Rattle.host_volume.specs.Runs.{IsOpenedVolume, HasEmptyJournal};
 ghost use Rattle.host_volume.specs.Sessions.{Opening};
 ghost use Rattle.call_sessions.specs.Sessions.{WriteBytes, made_opening, call_over, host_behind, KeepsCalls};
 ghost use Rattle.session_machine.specs.Machine.{SessionState, Start, opened_session, run_events, host_events, repeated};
-ghost use Rattle.session_machine.specs.Fits.{SessionFits, CanStart, IsDevice, IsMadeAs, SubmitsOne};
+ghost use Rattle.session_machine.specs.Fits.{SessionFits, CanStart, IsDevice, SubmitsOne};
 ghost use Rattle.session_machine.specs.MadeStart.{made_start, IsNew};
 
 use barrier_reassign::Scheduler;

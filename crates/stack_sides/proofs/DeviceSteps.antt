@@ -7,11 +7,10 @@ use Rattle.order_model.specs.declared.command.Command.{Command}
 use Rattle.order_model.specs.declared.completion.Completion.{Completion}
 use Rattle.order_model.specs.Device.{Seen, IsReceivable, IsUntouched}
 use Rattle.order_model.specs.Machine.{Machine}
-use Rattle.order_model.specs.Steps.{Receives, KeepsGiven, Answers}
+use Rattle.order_model.specs.Steps.{IsMadeAs, Receives, KeepsGiven, Answers}
 use Rattle.order_model.specs.Received.{all_ids}
 use Rattle.stack_sides.specs.Admitted.{AreCounted, may_take, flags_behind}
 use Rattle.stack_sides.proofs.Admitting.{counted_more, same_length, receivable, none_came}
-use Rattle.stack_sides.specs.Opened.{IsMadeAs}
 use Rattle.stack_sides.specs.declared.events.DeviceEvent.{DeviceEvent}
 use Rattle.stack_sides.specs.declared.events.DeviceEvent.TheVariants as noted
 use Rattle.stack_sides.specs.DeviceReplay.{DeviceNow, DeviceSideNow, IsDeviceReplay, DeviceStep, Takes, Sends, with_commands, receives, stepped, steps, sent_from, opened_side}

@@ -6,8 +6,8 @@ use Rattle.order_model.specs.declared.completion.Completion.{Completion}
 use Rattle.order_model.specs.Device.{Seen}
 use Rattle.order_model.specs.Machine.{Machine}
 use Rattle.order_model.specs.Received.{all_ids}
+use Rattle.order_model.specs.Steps.{IsMadeAs}
 use Rattle.stack_sides.specs.Admitted.{AreCounted, may_take, flags_behind}
-use Rattle.stack_sides.specs.Opened.{IsMadeAs}
 use Rattle.stack_sides.specs.declared.events.DeviceEvent.{DeviceEvent}
 use Rattle.stack_sides.specs.declared.events.DeviceEvent.TheVariants as noted
 

@@ -1,8 +1,7 @@
 -- With what the scheduler and the device of a session are made.
-use Rattle.std.specs.Prelude.{◌≡◌, ℕ, Option, None}
+use Rattle.std.specs.Prelude.{ℕ, Option, None}
 use Rattle.device_epochs.specs.declared.device.DeviceSetup.{DeviceSetup}
 use Rattle.flog_device.specs.declared.device.FlogSetup.{FlogSetup}
-use Rattle.order_model.specs.Device.{Seen}
 
 -- the numbers of a script's header, whichever scheduler and whichever device it names
 pub record PartSetup : Type 0 where
@@ -24,11 +23,3 @@ flog_setup s = record { depth = s.depth; limit = s.limit; segments = s.segments;
 -- the numbers of no session
 abbrev pub no_setup : PartSetup
 no_setup = record { limit = 0; depth = 0; segments = 0; fail_at = None; cut_at = None }
-
--- the device is the same one as before: over that image, and made with those numbers
-pub record IsMadeAs (first now : Seen) : Type 0 where
-  pub base : now.base ≡ first.base
-  pub limit : now.limit ≡ first.limit
-  pub depth : now.depth ≡ first.depth
-  pub cut_at : now.cut_at ≡ first.cut_at
-  pub fail_at : now.fail_at ≡ first.fail_at
