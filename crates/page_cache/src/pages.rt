@@ -1,9 +1,9 @@
 //! The cache of pages.
-ghost use Rattle.std.specs.Prelude.{◌≡◌, ◌≢◌, ◌↔◌, IfOk, OnErr, IsErr, Some, None, [], length};
+ghost use Rattle.std.specs.Prelude.{◌≡◌, ◌≢◌, ◌↔◌, IfOk, OnErr, IsErr, Some, None, [], filter, length};
 ghost use Rattle.std.specs.Option.{option_copied, option_map};
 ghost use Rattle.page_cache.specs.declared.cached_page.CachedPage.{CachedPage};
 ghost use Rattle.page_cache.specs.declared.cached_page.PageState.TheVariants as page_states;
-ghost use Rattle.page_cache.specs.Pages.{Cache, with_pages, page_at, put_page, drop_page, mark_page, next_in_file, next_unsent, unsent_of, dirty_page, key_of};
+ghost use Rattle.page_cache.specs.Pages.{Cache, with_pages, page_at, put_page, drop_page, mark_page, next_in_file, next_unsent, unsent_of, dirty_page, key_of, is_dirty as page_is_dirty};
 ghost use Rattle.page_cache.specs.Unsent.{with_room_for, unsent_keys};
 ghost use Rattle.number_sets.specs.Sets as sets;
 
@@ -177,6 +177,13 @@ impl Pages {
     {
         let (birth, index) = first_of(&self.unsent, births)?;
         self.pages.page(birth, index)
+    }
+
+    /// How many pages are Dirty.
+    pub fn dirty_count(&self) -> usize
+        ensures { result ≡ length (filter (λ p. page_is_dirty p.state) self.now.pages) }
+    {
+        self.dirty.len()
     }
 
     /// The Dirty page number `pick`, in order, as its birth and index.
