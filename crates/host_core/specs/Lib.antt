@@ -4,3 +4,4 @@ pub mod Entries
 pub mod Answers
 pub mod Standings
 pub mod code
+pub mod Done

@@ -1,5 +1,5 @@
 //! The host.
-ghost use Rattle.std.specs.Prelude.{◌≡◌, ◌≢◌, ◌+◌, ◌^◌, ◌≤◌, ◌++◌, ◌<◌, [], true, length, drop, map, replicate, IfOk, OnErr, vec_capacity};
+ghost use Rattle.std.specs.Prelude.{◌≡◌, ◌≢◌, ◌==◌, ◌+◌, ◌-◌, ◌^◌, ◌≤◌, ◌++◌, ◌<◌, [], true, length, drop, filter, map, replicate, slice_index_or, IfOk, OnErr, vec_capacity};
 ghost use Rattle.order_model.specs.declared.turn.Turn.TheVariants as turns;
 ghost use Rattle.tx_running.specs.Closing.{writers};
 ghost use Rattle.commit_actor.specs.Actor.{made, builds_plan};
@@ -8,6 +8,10 @@ ghost use Rattle.host_machine.specs.Host as machine;
 ghost use Rattle.volume_steps.specs.Calls.{after_release};
 ghost use Rattle.host_core.specs.code.Steps.{cuts_after, released};
 ghost use Rattle.flush_actor.specs.Part.{has_stopped};
+ghost use Rattle.flush_actor.specs.Waits.{no_wait};
+ghost use Rattle.page_cache.specs.Pages.{is_dirty};
+ghost use Rattle.host_core.specs.Done.{is_done};
+ghost use Rattle.host_core.specs.code.Fields.{thread_of};
 ghost use Rattle.host_core.specs.Entries.{entry_in, ArePlaced};
 ghost use Rattle.journal_blocks.specs.Super.{IsSound};
 ghost use Rattle.journal_ring.specs.Journal as new_ring;
@@ -18,6 +22,7 @@ use crate::programs::Programs;
 use crate::thread::Thread;
 use blk_base::NoMemory;
 use commit_actor::{JournalPart, commit_step};
+use flush_actor::Wait;
 use host_answers::Entry;
 use journal_ring::Ring;
 use order_model::{Completion, Inlet, Kind, Note, Outlet, Request, Turn};
@@ -165,6 +170,39 @@ impl Host {
         self.parts.journal.flush().is_over()
     }
 
+    /// Whether every program is at its end.
+    pub fn is_done(&self) -> bool
+        ensures { result ≡ is_done self.now.host.threads }
+    {
+        have_ended(&self.threads)
+    }
+
+    /// Whether the running transaction is to be closed.
+    pub fn is_wanted(&self) -> bool
+        ensures { result ≡ self.now.host.journal.running.wanted }
+    {
+        self.parts.journal.running().is_wanted()
+    }
+
+    /// What a thread waits for; they are counted from 1.
+    pub fn wait(&self, thread: u32) -> Wait
+        requires { 1 ≤ thread }
+        ensures { result ≡ slice_index_or self.now.host.journal.flush.waits (thread - 1) no_wait }
+    {
+        self.parts
+            .journal
+            .flush()
+            .wait(thread - 1)
+            .unwrap_or(Wait::none())
+    }
+
+    /// How many pages are Dirty.
+    pub fn dirty(&self) -> usize
+        ensures { result ≡ length (filter (λ p. is_dirty p.state) self.now.host.pages) }
+    {
+        self.parts.pages.dirty_count()
+    }
+
     /// The step of the flush actor: a flush where one is due, or else a completion. It takes no memory.
     pub fn flush_step<O: Outlet<Request>, I: Inlet<Completion>>(
         &mut self,
@@ -264,6 +302,25 @@ impl Host {
         }
         turn
     }
+}
+
+// Whether no thread has a call left.
+fn have_ended(threads: &[Thread]) -> bool
+    ensures { result ≡ is_done (map thread_of threads.now) }
+{
+    for thread in threads {
+        if !has_ended(thread) {
+            return false;
+        }
+    }
+    true
+}
+
+// Whether a thread has no call left.
+fn has_ended(thread: &Thread) -> bool
+    ensures { result ≡ (length (thread_of thread.now).calls == 0) }
+{
+    thread.ended as usize >= thread.program.len()
 }
 
 // Makes room for a cut, where one is to be noted.
