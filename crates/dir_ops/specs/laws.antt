@@ -3,3 +3,4 @@ pub mod Slots
 pub mod Found
 pub mod Edited
 pub mod Led
+pub mod FirstFree

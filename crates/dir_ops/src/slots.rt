@@ -1,5 +1,5 @@
 //! The slots of a directory.
-ghost use Rattle.std.specs.Prelude.{◌≡◌, ◌↔◌, [], ◌∷◌, ◌++◌, ◌<◌, ◌≤◌, OnOk, OnErr, IfOk, IsOk, Some, None, length, take};
+ghost use Rattle.std.specs.Prelude.{◌≡◌, ◌↔◌, ◌+◌, [], ◌∷◌, ◌++◌, ◌<◌, ◌≤◌, OnOk, OnErr, IfOk, IsOk, Some, None, length, take, drop};
 ghost use Rattle.std.specs.Option.{option_copied};
 ghost use Rattle.minix_layout.specs.declared.slot.Slot.{Slot};
 ghost use Rattle.dir_ops.specs.Slots.{room, with_slot, reserved, slot_at, has_name, place_of, slot_found, slots_without, slots_led};
@@ -13,6 +13,8 @@ use std::marker::Model;
 #[derive(Drop)]
 pub struct Slots {
     items: Vec<Option<Slot>>,
+    // The place of the first free slot, or how many there are: a name that comes looks for none.
+    first_free: usize,
 }
 
 impl Model for Slots {
@@ -21,7 +23,12 @@ impl Model for Slots {
 
     ghost Value = { List (Option Slot) };
 
+    ghost use Rattle.std.specs.Prelude.{◌≡◌};
+    ghost use Rattle.dir_ops.specs.Slots.{room};
+
     ghost view = { λ s. s.items.items };
+
+    ghost invariant = { λ s. s.first_free ≡ room s.items.items };
 }
 
 impl Slots {
@@ -31,6 +38,7 @@ impl Slots {
     {
         Slots {
             items: Vec::new(alloc),
+            first_free: 0,
         }
     }
 
@@ -38,7 +46,8 @@ impl Slots {
     pub fn of(items: Vec<Option<Slot>>) -> Slots
         ensures { result ≡ items.items }
     {
-        Slots { items }
+        let first_free = free_from(&items, 0);
+        Slots { items, first_free }
     }
 
     /// How many slots there are, free ones too.
@@ -66,12 +75,7 @@ impl Slots {
     pub fn room(&self) -> usize
         ensures { result ≡ room self.now }
     {
-        for at in 0..self.items.len() {
-            if self.items[at].is_none() {
-                return at;
-            }
-        }
-        self.items.len()
+        self.first_free
     }
 
     /// Makes a free slot at the end, where none is free, so that the next `add` takes no memory.
@@ -91,6 +95,9 @@ impl Slots {
         ensures { self.new ≡ take len self.old }
     {
         self.items.truncate(len);
+        if len < self.first_free {
+            self.first_free = len;
+        }
     }
 
     /// Puts a slot at the place that `room` gives, and says which. It takes memory only where no slot is free.
@@ -104,8 +111,10 @@ impl Slots {
         let at = self.room();
         if at < self.items.len() {
             self.items[at] = Some(slot);
+            self.first_free = free_from(&self.items, at + 1);
         } else {
             self.items.push(Some(slot))?;
+            self.first_free = self.items.len();
         }
         Ok(at)
     }
@@ -117,7 +126,11 @@ impl Slots {
         ensures slots { self.new ≡ slots_without self.old name.now }
     {
         let at = self.find(name)?;
-        self.items[at].take()
+        let slot = self.items[at].take();
+        if at < self.first_free {
+            self.first_free = at;
+        }
+        slot
     }
 
     /// Leads the slot at a place to another inode, under the name that it has. It takes no memory.
@@ -131,6 +144,19 @@ impl Slots {
             slot.inode = inode;
         }
     }
+}
+
+// The place of the first free slot from one on, or how many there are.
+fn free_from(slots: &[Option<Slot>], from: usize) -> usize
+    requires { from ≤ length slots.now }
+    ensures { result ≡ from + room (drop from slots.now) }
+{
+    for at in from..slots.len() {
+        if slots[at].is_none() {
+            return at;
+        }
+    }
+    slots.len()
 }
 
 // Whether a slot is in use under this name.
