@@ -5,6 +5,7 @@ mod commits;
 mod failures;
 mod files;
 mod log_space;
+mod rules;
 mod syncs;
 
 use crate::tests::expect_replay;
@@ -49,6 +50,13 @@ fn prints_what_was_worked_out(rt: HostRuntime) -> Result<(), Fail> {
         (log_space::WAITS, log_space::WAITS_PRINTS),
         (log_space::REVOKED, log_space::REVOKED_PRINTS),
         (log_space::REVOKED_WIDE, log_space::REVOKED_PRINTS),
+        (rules::SIZES, rules::SIZES_PRINTS),
+        (rules::NUMBERS, rules::NUMBERS_PRINTS),
+        (rules::LONG_SLOTS, rules::LONG_SLOTS_PRINTS),
+        (rules::SIZE_ALONE, rules::SIZE_ALONE_PRINTS),
+        (rules::DEFAULT_DEPTH, rules::DEFAULT_DEPTH_PRINTS),
+        (rules::DEFAULT_QUEUE, rules::DEFAULT_QUEUE_PRINTS),
+        (rules::FLUSH_HEAD, rules::FLUSH_HEAD_PRINTS),
     ];
     for (script, printed) in rows {
         expect_replay(&rt, rt.alloc(), script, printed)?;
