@@ -1,0 +1,12 @@
+use Rattle.changed_blocks.proofs.AllBlocks.{quiet_blocks, unlink_blocks, rmdir_blocks, truncate_blocks, write_blocks, bytes_blocks}
+use Rattle.changed_blocks.proofs.laws.touched_blocks_have_changed.Goals as goal
+
+pub returns : goal.returns
+returns c = record {
+  quiet = quiet_blocks;
+  unlink = unlink_blocks;
+  rmdir = rmdir_blocks;
+  truncate = truncate_blocks;
+  write = write_blocks;
+  bytes = bytes_blocks;
+}

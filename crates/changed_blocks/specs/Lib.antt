@@ -1,0 +1,2 @@
+-- What a call makes of the blocks that it tells as touched.
+pub mod Changed

@@ -1,0 +1,32 @@
+//! The law of touched blocks. It does nothing when it is called.
+ghost use Rattle.std.specs.Prelude.{◌≡◌, ℕ, true, List};
+ghost use Rattle.tree_model.specs.declared.call.Call.{Call};
+ghost use Rattle.tree_model.specs.declared.call.Call.TheVariants as calls;
+ghost use Rattle.tree_model.specs.Calls.{leaves_tree};
+ghost use Rattle.volume_steps.specs.Now.{VolumeNow};
+ghost use Rattle.volume_steps.specs.Calls.{called};
+ghost use Rattle.volume_steps.specs.Called.{FindsRoom};
+ghost use Rattle.clean_volumes.specs.Marked.{IsMarked};
+ghost use Rattle.changed_blocks.specs.Changed.{HasChanged};
+
+/// A law, which does nothing when it is called: each block that a call touches and that was metadata before has other
+/// bytes after the whole call, done or refused. It is told here of removals, writes and cuts, and of calls that leave
+/// the tree as it is. The maps must mark what is in use, which calls keep.
+pub fn touched_blocks_have_changed()
+    ensures quiet { (v : VolumeNow) (n tx : ℕ) (c : Call) → leaves_tree c ≡ true → HasChanged v (called v n tx c).change }
+    ensures unlink { (v : VolumeNow) (n tx : ℕ) (path : List ℕ) →
+        FindsRoom v n (calls.Unlink path) → IsMarked v.geometry v.contents v.zones →
+        HasChanged v (called v n tx (calls.Unlink path)).change }
+    ensures rmdir { (v : VolumeNow) (n tx : ℕ) (path : List ℕ) →
+        FindsRoom v n (calls.Rmdir path) → IsMarked v.geometry v.contents v.zones →
+        HasChanged v (called v n tx (calls.Rmdir path)).change }
+    ensures truncate { (v : VolumeNow) (n tx : ℕ) (path : List ℕ) (size : ℕ) →
+        FindsRoom v n (calls.Truncate path size) → IsMarked v.geometry v.contents v.zones →
+        HasChanged v (called v n tx (calls.Truncate path size)).change }
+    ensures write { (v : VolumeNow) (n tx : ℕ) (path : List ℕ) (off len value : ℕ) →
+        FindsRoom v n (calls.Write path off len value) → IsMarked v.geometry v.contents v.zones →
+        HasChanged v (called v n tx (calls.Write path off len value)).change }
+    ensures bytes { (v : VolumeNow) (n tx : ℕ) (path : List ℕ) (off : ℕ) (bytes : List ℕ) →
+        FindsRoom v n (calls.Bytes path off bytes) → IsMarked v.geometry v.contents v.zones →
+        HasChanged v (called v n tx (calls.Bytes path off bytes)).change }
+{}

@@ -1,0 +1,12 @@
+//! What a call makes of the blocks that it tells as touched.
+//!
+//! A journal should hold no block that did not change. Outside of what a call touches all bytes are as before
+//! (`volume_steps`). Here stands the other half, for removals, writes and cuts: each touched block that was metadata
+//! before the call has other bytes after it. `specs/Changed.antt` says this of a change.
+//!
+//! Stands on `volume_steps` for calls, and on `clean_volumes` for what the maps of a volume in use say.
+#![tactic(auto)]
+
+mod laws;
+
+pub use laws::touched_blocks_have_changed;
