@@ -1,8 +1,11 @@
-"""Random scripts of four kinds, each by its seed, and what is wrong with what a program prints of one: shared by
+"""Random scripts and images of some kinds, each by its seed, and what is wrong with what a program prints of one: shared by
 examples/random, examples/outside/twins and tools/campaign. What is wanted comes from the second program, examples/outside."""
 import itertools
 import pathlib
 import random
+import re
+import resource
+import signal
 import subprocess
 import sys
 
@@ -11,6 +14,9 @@ import blocks  # noqa: E402
 import crashes  # noqa: E402
 import faults  # noqa: E402
 import host  # noqa: E402
+import images  # noqa: E402
+import mutated_scripts  # noqa: E402
+import random_images  # noqa: E402
 
 
 def repeated(rng, line, most):
@@ -277,6 +283,47 @@ def cut_script(rng):
     return "\n".join(script) + "\n"
 
 
+def crowd_script(rng):
+    """A session that gets to a limit, and most often a power cut and attempts of recovery: more requests than the scheduler holds,
+    of neighbouring blocks; a log that comes round many times; directories and files of as many links as there may be, or of
+    so many slots that they have an indirect zone."""
+    kind = rng.choice(["waiting", "log", "names"])
+    size = rng.choice([1, 64])
+    lines = ["elevator", "elevator", f"depth {size}", f"queue {64 if kind == 'waiting' else size}", f"cut {rng.randint(0, 900)}", f"flash {rng.choice([3, 64])}"]
+    script = [first_line(rng, 300, {"waiting": 600, "log": 100, "names": 400}[kind], 128), *dict.fromkeys(header(rng, lines))]
+    if kind == "waiting" and not any(line.startswith("queue") for line in script):
+        script.append("queue 64")
+    crowd = {"waiting": crowd_of_requests, "log": crowd_of_transactions, "names": crowd_of_names}[kind]
+    calls, events = crowd(rng)
+    script += ["thread 1", *calls, "events", *events]
+    script += [recover_line(rng) for _ in range(rng.choice([0, 1, 2]))]
+    return "\n".join(script) + "\n"
+
+
+def crowd_of_requests(rng):
+    """Pages that the write-back sends while nothing leaves the scheduler."""
+    calls = ["create /a", *(f"write /a {65_536 * at} 65536 {at + 1:02x}" for at in range(rng.choice([3, 5])))]
+    if rng.random() < 0.5:
+        calls += ["fsync /a", "write /a 0 65536 77", "write /a 65536 65536 78", "fdatasync /a"]
+    events = [f"call 1 x {rng.randint(4, 8)}", *["write 0 x 64", "accept x 64"] * rng.choice([2, 3, 5])]
+    return calls, [*events, *session_events(rng, 1), "round 400", "write 0 x 64", "accept x 64", *session_events(rng, 1), "round 600"]
+
+
+def crowd_of_transactions(rng):
+    calls = ["create /a", "create /b"]
+    for at in range(rng.choice([60, 150])):
+        calls += [f"write {rng.choice(['/a', '/b'])} {1024 * (at % 20)} 1024 {at + 1:02x}", f"{rng.choice(['fbarrier', 'fbarrier', 'fsync'])} {rng.choice(['/a', '/b'])}"]
+        calls += [rng.choice(["mkdir /d", "rmdir /d", "truncate /a 0", "create /b", "unlink /b", "rename /b /a"])] if rng.random() < 0.4 else []
+    return calls, ["round 2500", *slow_rounds(rng)] if rng.random() < 0.5 else slow_rounds(rng)
+
+
+def crowd_of_names(rng):
+    calls = []
+    for line in many_names(rng):
+        calls += [line, f"{rng.choice(['fbarrier', 'fsync', 'fdatabarrier'])} /"] if rng.random() < 0.03 else [line]
+    return [*calls, "sync"], [f"round {rng.choice([300, 600, 1500])}", *session_events(rng, 1), "round 300"]
+
+
 VOLUME = "volume inodes 4 zones 40 journal 128"
 
 
@@ -320,18 +367,20 @@ def limit_script(rng):
 
 
 class Case:
-    """A script, and what is wrong with what is printed of it, on standard error where the program ends with a fault."""
+    """An input, as bytes and as the text that is shown of it, the words to run the program with, and what is wrong with what is
+    printed, on standard error where the program ends with a fault."""
 
-    def __init__(self, script, fault):
-        self.script, self.fault = script, fault
+    def __init__(self, script, fault, words=("replay",), data=None):
+        self.script, self.fault, self.words = script, fault, list(words)
+        self.data = script.encode("latin-1") if data is None else data
 
 
-def blocks_case(rng):
+def blocks_case(rng, _):
     script = block_script(rng)
     return Case(script, lambda printed: difference(printed, blocks.report(script)))
 
 
-def limit_case(rng):
+def limit_case(rng, _):
     script = limit_script(rng)
     return Case(script, lambda printed: limit_fault(printed, faults.report(script)))
 
@@ -341,13 +390,18 @@ def limit_fault(printed, wanted):
     return difference(printed, wanted) if wanted else None if printed.startswith("steps ") else f"this is no report: {printed[:200]}"
 
 
-def session_case(rng):
+def session_case(rng, _):
     script = session_script(rng)
     return Case(script, lambda printed: difference(printed, host.report(script)))
 
 
-def cut_case(rng):
+def cut_case(rng, _):
     script = cut_script(rng)
+    return Case(script, lambda printed: crash_fault(script.partition("\n")[0], printed) or difference(printed, host.report(script)))
+
+
+def crowd_case(rng, _):
+    script = crowd_script(rng)
     return Case(script, lambda printed: crash_fault(script.partition("\n")[0], printed) or difference(printed, host.report(script)))
 
 
@@ -363,15 +417,94 @@ def difference(printed, wanted):
     return None if printed == wanted else f"and not\n\n{wanted}"
 
 
-CASES = {"blocks": blocks_case, "session": session_case, "cut": cut_case, "limit": limit_case}
+def image_case(rng, seed):
+    """An image, most often a damaged one: its tree or its first fault."""
+    data = random_images.damaged_image(seed)
+    words = rng.choice([["show"], ["show"], ["show"], ["widen"]])
+    return Case(f"{words[0]} of image {seed}", lambda printed: image_fault(words, printed, images.report(data)), words, data)
 
 
-def printed_of(program, script):
+def image_fault(words, printed, wanted):
+    """A widened image has the tree that it had, or had no room."""
+    return None if words == ["widen"] and printed == "barrierfs: no room\n" else difference(printed, wanted)
+
+
+def mutant_case(_, seed):
+    """A script that was changed in some places: its first faulty line, or its report."""
+    script = mutated_scripts.mutated_script(seed)
+    return Case(script, lambda printed: difference(printed, faults.report(script) or report_soon(script) or printed))
+
+
+class Late(Exception):
+    """The second program takes too long."""
+
+
+SOON = 2  # seconds that the second program may take for the report of a script that was changed
+
+
+def report_soon(script):
+    """The report of a script without a fault, or none where the second program takes long."""
+    lines = [line for line in script.split("\n") if line and line[0] != "#"]
+    report = host.report if lines[0].startswith("volume") else blocks.report
+    before = signal.signal(signal.SIGALRM, late)
+    signal.setitimer(signal.ITIMER_REAL, SOON)
+    try:
+        return report("\n".join(lines) + "\n")
+    except Late:
+        return None
+    finally:
+        signal.setitimer(signal.ITIMER_REAL, 0)
+        signal.signal(signal.SIGALRM, before)
+
+
+def late(*_):
+    raise Late
+
+
+CASES = {
+    "blocks": blocks_case, "session": session_case, "cut": cut_case, "crowd": crowd_case, "limit": limit_case, "image": image_case,
+    "mutant": mutant_case,
+}
+HOSTILE = ("image", "mutant")  # kinds of inputs of which any bytes may come, and none may take long
+PATIENCE, LATE = 60, 1000  # seconds of a run, and what stands for its status where it takes longer
+STATUSES = {"bad words": 2, "script line": 3, "image": 4, "input too long": 7, "no memory": 8, "no room": 9}  # by what is said
+
+
+class Outcome:
+    """How a run ended: what it printed, its status, and the seconds of a processor that it took."""
+
+    def __init__(self, program, case):
+        before = children_seconds()
+        try:
+            done = subprocess.run([program, *case.words], input=case.data, capture_output=True, check=False, timeout=PATIENCE)
+        except subprocess.TimeoutExpired:
+            done = subprocess.CompletedProcess([], LATE, b"", b"")
+        self.seconds = children_seconds() - before
+        self.status = done.returncode
+        self.printed = (done.stderr if done.returncode else done.stdout).decode("latin-1")
+        self.is_clean = not (done.stdout if done.returncode else done.stderr)
+
+    def fault(self):
+        """What is wrong with its end, whatever the input."""
+        if self.status == LATE:
+            return f"it did not end within {PATIENCE} seconds"
+        if self.status < 0:
+            return f"it was ended by signal {-self.status}"
+        said = re.fullmatch(r"barrierfs: (\D+?)( \d+)?: .*\n|barrierfs: (.*)\n", self.printed)
+        wanted = STATUSES.get(said[1] or said[3]) if said else 0
+        return None if self.status == wanted and self.is_clean else f"its status is {self.status}"
+
+
+def children_seconds():
+    used = resource.getrusage(resource.RUSAGE_CHILDREN)
+    return used.ru_utime + used.ru_stime
+
+
+def printed_of(program, case):
     """What the program prints: its report, or its fault."""
-    done = subprocess.run([program, "replay"], input=script.encode(), capture_output=True, check=False)
-    return done.stdout.decode() if done.returncode == 0 else done.stderr.decode()
+    return Outcome(program, case).printed
 
 
 def case(kind, seed):
-    """The random script of this kind and seed."""
-    return CASES[kind](random.Random(seed))
+    """The random input of this kind and seed."""
+    return CASES[kind](random.Random(seed), seed)
