@@ -368,15 +368,15 @@ class Writer:
             return self.map_block(items, home - places.inode_map, places.inodes)
         if places.zone_map <= home < places.table:
             return self.map_block(items, home - places.zone_map, places.zones - places.first)
-        body = bytearray(BLOCK)
+        body, width = bytearray(BLOCK), calls.slot_bytes(self.script.names)
         for at, value in items.items():
-            if places.table <= home < places.first:
-                struct.pack_into("<32s", body, 32 * (at % TABLE_INODES), self.inode(value))
-            elif isinstance(value, tuple):
-                width = calls.slot_bytes(self.script.names)
+            # a body that no descriptor lists any more tells by itself what it is
+            if not isinstance(value, tuple):
+                struct.pack_into("<H", body, 2 * at % BLOCK, value)
+            elif len(value) == 2:
                 struct.pack_into(f"<H{width - 2}s", body, at * width % BLOCK, value[1], value[0].encode())
             else:
-                struct.pack_into("<H", body, 2 * at, value)
+                struct.pack_into("<32s", body, 32 * (at % TABLE_INODES), self.inode(value))
         return bytes(body)
 
     @staticmethod
