@@ -1,0 +1,8 @@
+-- Lemmas on sessions that keep volumes clean.
+pub mod SameClean
+pub mod CleanReads
+pub mod CleanHosts
+pub mod CleanRuns
+pub mod MadeClean
+pub mod CutClean
+pub mod ScriptClean
