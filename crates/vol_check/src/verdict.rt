@@ -1,4 +1,5 @@
 //! What a check tells.
+use std::fmt;
 
 /// What a check of a volume tells: that it is clean, or the first fault, with the block at which it stands.
 #[derive(Clone, Copy, Debug, PartialEq, Eq)]
@@ -12,4 +13,16 @@ pub enum Verdict {
     Links(u32),
     /// The first two slots of a directory.
     Dots(u32),
+}
+
+impl fmt::Display for Verdict {
+    fn fmt<W: fmt::Write>(&self, f: &mut fmt::Formatter<W>) -> fmt::Result {
+        match self {
+            Verdict::Clean => f.write_str("clean"),
+            Verdict::InodeMap(block) => write!(f, "inode map at block {block}"),
+            Verdict::ZoneMap(block) => write!(f, "zone map at block {block}"),
+            Verdict::Links(block) => write!(f, "links at block {block}"),
+            Verdict::Dots(block) => write!(f, "dots at block {block}"),
+        }
+    }
 }
