@@ -6,15 +6,17 @@ use std::rt::Env;
 use std::test::Fail;
 
 // Each list of words, and the status where the input is a script of block requests; 0 where something is written.
-const LISTS: [(&[&str], u8); 50] = [
+const LISTS: [(&[&str], u8); 57] = [
     (&["replay"], 0),
     (&["make", "32", "64", "128"], 0),
     (&["make", "1", "6", "128"], 0),
+    (&["bulk", "1"], 0),
     // No volume script, and no image.
     (&["replay", "--raw"], 3),
     (&["show"], 4),
     (&["widen"], 4),
     (&["widen", "--raw"], 4),
+    (&["check"], 4),
     // Words that are none, or not built.
     (&[], 2),
     (&[""], 2),
@@ -29,6 +31,8 @@ const LISTS: [(&[&str], u8); 50] = [
     (&["bulk", "01"], 2),
     (&["bulk", "10001"], 2),
     (&["bulk", "--", "5"], 2),
+    (&["bulk"], 2),
+    (&["bulk", "5", "5"], 2),
     (&["--help"], 2),
     (&["-h"], 2),
     (&["help"], 2),
@@ -47,6 +51,9 @@ const LISTS: [(&[&str], u8); 50] = [
     (&["--raw", "widen"], 2),
     (&["show", "show"], 2),
     (&["show", "--raw"], 2),
+    (&["check", "check"], 2),
+    (&["check", "--raw"], 2),
+    (&["bulk", "--raw"], 2),
     (&["widen", "widen"], 2),
     (&["widen", "--raw", "--raw"], 2),
     // Spellings of the second word.

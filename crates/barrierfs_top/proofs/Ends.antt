@@ -1,15 +1,17 @@
 -- How the top call ends.
-use Rattle.std.proofs.Common.{◌≡◌, ℕ, ◌<◌, ◌≤◌, Bool, true, false, List, length, Option, Some, None, Ok, Err, nat_lt, refl, sym, ap, ◌∙◌, subst, arith, inl, inr, length-append}
+use Rattle.std.proofs.Common.{◌≡◌, ℕ, ◌<◌, ◌≤◌, Bool, true, false, List, length, Option, Some, None, Ok, Err, nat_lt, codes, refl, sym, ap, ◌∙◌, subst, arith, inl, inr, length-append}
 use Rattle.std.proofs.lemmas.Option.{none-some, same_Some}
 use Rattle.std.proofs.lemmas.Bool.Decides.{nat_tests}
 use Rattle.std.specs.Io.KnownBytes.{Consumes}
 use Rattle.std.specs.Prelude.{Result, IfOk, IfErr}
 use Rattle.blk_base.specs.Streams.{Rose, Drained}
 use Rattle.blk_base.specs.Image.{whole_blocks, IsImageRead}
-use Rattle.mount_make.specs.Images.{FaultPlace, mounted, tree_after}
+use Rattle.mount_make.specs.Images.{FaultPlace, tree_after}
 use Rattle.volume_ops.specs.Volume.{VolumeState}
 use Rattle.barrierfs_top.specs.Show.{text_after, shown, IsMountedFault}
 use Rattle.barrierfs_top.specs.Widen.{IsWidened, IsWidenFault, fault_of, written_fault}
+use Rattle.barrierfs_top.specs.Check.{IsChecked, IsCheckFault}
+use Rattle.barrierfs_top.specs.Bulk.{IsWorkload}
 use Rattle.barrierfs_top.specs.declared.fault.TopFault.{TopFault}
 use Rattle.barrierfs_top.specs.declared.fault.TopFault.TheVariants as faults
 use Rattle.barrierfs_top.specs.declared.top.Printed.{Printed}
@@ -22,7 +24,8 @@ use Rattle.barrierfs_top.specs.declared.command_line.Task.{Task}
 use Rattle.barrierfs_top.specs.declared.command_line.Task.TheVariants as tasks
 use Rattle.barrierfs_top.specs.Tasks.{most_of, task_of}
 use Rattle.barrierfs_top.specs.Text.{output_bytes}
-use Rattle.barrierfs_top.specs.Top.{Stream, WasRead, Makes, script_fault, image_fault, input_fault, IsInputFault, IsUnread, IsMade, IsDone, Does, IsRefused, Cause, expected, EndsAs, IsReplayAs, fault_as}
+use Rattle.barrierfs_top.specs.Top.{Stream, WasRead, Makes, script_fault, image_fault, Ends, IsInputFault, IsUnread, IsMade, IsDone, Does, IsRefused, Cause, ExpectsAs, Expects, EndsAsExpected, EndsAs, IsReplayAs, fault_as}
+use Rattle.barrierfs_top.proofs.OneEnd.{one_end}
 
 -- ---- before the first write
 
@@ -38,7 +41,7 @@ does_if words source c input (Ok p) asked drained short makes = record {
 does_if words source c input (Err fault) asked drained short makes = tt
 
 refused : (words : List (List ℕ)) (source : Stream) (c : Command) (input : List ℕ) (fault : TopFault) → task_of words ≡ Some (tasks.Read c)
-    → Drained source.bytes source.bytes_after input → length input ≤ most_of c → input_fault c input ≡ Some fault → IsRefused words source fault
+    → Drained source.bytes source.bytes_after input → length input ≤ most_of c → Ends c input (Some fault) → IsRefused words source fault
 refused words source c input fault asked drained short is = record {
   command = c;
   asked = asked;
@@ -51,6 +54,7 @@ cause_of words source c input (faults.Script line kind) asked drained short is =
 cause_of words source c input (faults.Image kind block) asked drained short is = refused words source c input (faults.Image kind block) asked drained short is
 cause_of words source c input faults.NoMemory asked drained short is = tt
 cause_of words source c input faults.NoRoom asked drained short is = refused words source c input faults.NoRoom asked drained short is
+cause_of words source c input (faults.Unsound verdict) asked drained short is = refused words source c input (faults.Unsound verdict) asked drained short is
 cause_of words source c input faults.BadWords asked drained short is = absurd is
 cause_of words source c input faults.SourceFault asked drained short is = absurd is
 cause_of words source c input faults.SinkFault asked drained short is = absurd is
@@ -79,6 +83,7 @@ mounted_fault input faults.SourceFault is = absurd is
 mounted_fault input faults.SinkFault is = absurd is
 mounted_fault input faults.TooLong is = absurd is
 mounted_fault input faults.NoRoom is = absurd is
+mounted_fault input (faults.Unsound verdict) is = absurd is
 
 shown_fault : (input : List ℕ) (r : Result Printed TopFault) → IfErr r (IsMountedFault (whole_blocks input)) → IfErr r (IsInputFault commands.Show input)
 shown_fault input (Ok p) is = tt
@@ -107,6 +112,7 @@ unwidened_fault raw input faults.BadWords is = absurd is
 unwidened_fault raw input faults.SourceFault is = absurd is
 unwidened_fault raw input faults.SinkFault is = absurd is
 unwidened_fault raw input faults.TooLong is = absurd is
+unwidened_fault raw input (faults.Unsound verdict) is = absurd is
 
 widened_fault : (raw : Bool) (input : List ℕ) (r : Result Printed TopFault) → IfErr r (IsWidenFault raw (whole_blocks input)) → IfErr r (IsInputFault (commands.Widen raw) input)
 widened_fault raw input (Ok p) is = tt
@@ -118,15 +124,51 @@ widen_cause words source raw most blocks r asked read is faulty =
     cause_if words source (commands.Widen raw) read.bytes r asked read.drained (subst (λ (n : ℕ). length read.bytes ≤ n) is read.short)
     (widened_fault raw read.bytes r (subst (λ (bs : List (List ℕ)). IfErr r (IsWidenFault raw bs)) read.whole faulty))
 
+-- an image that is checked
+pub checks_if : (words : List (List ℕ)) (source : Stream) (most : ℕ) (blocks : List (List ℕ)) (r : Result Printed TopFault) → task_of words ≡ Some (tasks.Read commands.Check)
+    → IsImageRead most source.bytes source.bytes_after blocks → most ≡ most_of commands.Check
+    → IfOk r (λ p. IsChecked blocks None × (output_bytes p.output ≡ codes "clean\n") × (p.report ≡ None)) → IfOk r (λ p. Does words source p.report (output_bytes p.output))
+checks_if words source most blocks r asked read is checks =
+    does_if words source commands.Check read.bytes r asked read.drained (subst (λ (n : ℕ). length read.bytes ≤ n) is read.short)
+    (subst (λ (bs : List (List ℕ)). IfOk r (λ p. IsChecked bs None × (output_bytes p.output ≡ codes "clean\n") × (p.report ≡ None))) read.whole checks)
+
+unchecked_fault : (input : List ℕ) (fault : TopFault) → IsCheckFault (whole_blocks input) fault → IsInputFault commands.Check input fault
+unchecked_fault input (faults.Image kind block) is = is
+unchecked_fault input (faults.Unsound verdict) is = is
+unchecked_fault input faults.NoMemory is = tt
+unchecked_fault input (faults.Script line kind) is = absurd is
+unchecked_fault input faults.BadWords is = absurd is
+unchecked_fault input faults.SourceFault is = absurd is
+unchecked_fault input faults.SinkFault is = absurd is
+unchecked_fault input faults.TooLong is = absurd is
+unchecked_fault input faults.NoRoom is = absurd is
+
+checked_fault : (input : List ℕ) (r : Result Printed TopFault) → IfErr r (IsCheckFault (whole_blocks input)) → IfErr r (IsInputFault commands.Check input)
+checked_fault input (Ok p) is = tt
+checked_fault input (Err fault) is = unchecked_fault input fault is
+
+pub check_cause : (words : List (List ℕ)) (source : Stream) (most : ℕ) (blocks : List (List ℕ)) (r : Result Printed TopFault) → task_of words ≡ Some (tasks.Read commands.Check)
+    → IsImageRead most source.bytes source.bytes_after blocks → most ≡ most_of commands.Check → IfErr r (IsCheckFault blocks) → IfErr r (Cause words source)
+check_cause words source most blocks r asked read is faulty =
+    cause_if words source commands.Check read.bytes r asked read.drained (subst (λ (n : ℕ). length read.bytes ≤ n) is read.short)
+    (checked_fault read.bytes r (subst (λ (bs : List (List ℕ)). IfErr r (IsCheckFault bs)) read.whole faulty))
+
+-- a workload that was run
+pub ran_if : (words : List (List ℕ)) (source : Stream) (n : ℕ) (r : Result Printed TopFault) → task_of words ≡ Some (tasks.Bulk n) → IsUnread source
+    → IfOk r (λ p. IsWorkload n p.report (output_bytes p.output)) → IfOk r (λ p. Does words source p.report (output_bytes p.output))
+ran_if words source n (Ok p) asked unread ran = record { task = tasks.Bulk n; asked = asked; done = (unread, ran) }
+ran_if words source n (Err fault) asked unread ran = tt
+
 -- an image that was made
 pub made_if : (words : List (List ℕ)) (source : Stream) (s : Sizes) (r : Result Printed TopFault) → task_of words ≡ Some (tasks.Make s) → IsUnread source
     → IfOk r (λ p. IsMade s p.report (output_bytes p.output)) → IfOk r (λ p. Does words source p.report (output_bytes p.output))
 made_if words source s (Ok p) asked unread made = record { task = tasks.Make s; asked = asked; done = (unread, made) }
 made_if words source s (Err fault) asked unread made = tt
 
-pub made_cause : (words : List (List ℕ)) (source : Stream) (r : Result Printed TopFault) → IfErr r (λ fault. fault ≡ faults.NoMemory) → IfErr r (Cause words source)
-made_cause words source (Ok p) memory = tt
-made_cause words source (Err fault) memory = subst (Cause words source) (sym memory) tt
+-- what reads nothing ends early by want of memory alone
+pub memory_cause : (words : List (List ℕ)) (source : Stream) (r : Result Printed TopFault) → IfErr r (λ fault. fault ≡ faults.NoMemory) → IfErr r (Cause words source)
+memory_cause words source (Ok p) memory = tt
+memory_cause words source (Err fault) memory = subst (Cause words source) (sym memory) tt
 
 -- ---- where the input is told and no stream fails
 
@@ -150,47 +192,52 @@ one_command words c d this that = let e : tasks.Read c ≡ tasks.Read d = same_S
 no_command : (words : List (List ℕ)) (c : Command) → task_of words ≡ None → task_of words ≡ Some (tasks.Read c) → ⊥
 no_command words c none some = none-some (tasks.Read c) (sym none ∙ some)
 
-short_input : (c : Command) (text : List ℕ) → length text ≤ most_of c → expected c text ≡ input_fault c text
-short_input c text le = let e : nat_lt (most_of c) (length text) ≡ false = grind (arith, nat_tests) in rw e refl
+short_input : (c : Command) (text : List ℕ) (end : Option TopFault) → length text ≤ most_of c → Ends c text end → Expects c text end
+short_input c text end le ends =
+    let e : nat_lt (most_of c) (length text) ≡ false = grind (arith, nat_tests) in
+    subst (λ (long : Bool). ExpectsAs long c text end) (sym e) ends
 
-long_input : (c : Command) (text : List ℕ) → most_of c < length text → expected c text ≡ Some faults.TooLong
-long_input c text lt = let e : nat_lt (most_of c) (length text) ≡ true = grind (arith, nat_tests) in rw e refl
+long_input : (c : Command) (text : List ℕ) → most_of c < length text → Expects c text (Some faults.TooLong)
+long_input c text lt =
+    let e : nat_lt (most_of c) (length text) ≡ true = grind (arith, nat_tests) in
+    subst (λ (long : Bool). ExpectsAs long c text (Some faults.TooLong)) (sym e) refl
 
 -- an input that was read to its end is the one that was told, and ends as what holds of it says
 ends_as : (c : Command) (old new : Option (List ℕ)) (Holds : List ℕ → Type 0) (text : List ℕ) (end : Option TopFault) → WasRead c old new Holds → old ≡ Some text
-    → ((input : List ℕ) → Holds input → input_fault c input ≡ end) → EndsAs (expected c text) end
+    → ((input : List ℕ) → Holds input → Ends c input end) → EndsAsExpected c text end
 ends_as c old new Holds text end read told says =
     let same = all_read old new read.input text told read.drained in
     let short = subst (λ (l : List ℕ). length l ≤ most_of c) same read.short in
-    inl (sym (short_input c text short ∙ says text (subst Holds same read.holds)))
+    inl (short_input c text end short (says text (subst Holds same read.holds)))
 
 replay_fits : (session : Bool) (input : List ℕ) (report : Option RunReport) (text : List ℕ) → IsReplayAs session input report text → fault_as session input ≡ None
 replay_fits true input report text is = ap script_fault is.ran.spelled
 replay_fits false input report text is = ap script_fault is.spelled
 
 -- where a command makes something of its input, that has no fault
-no_fault : (c : Command) (input : List ℕ) (report : Option RunReport) (text : List ℕ) → Makes c input report text → input_fault c input ≡ None
+no_fault : (c : Command) (input : List ℕ) (report : Option RunReport) (text : List ℕ) → Makes c input report text → Ends c input None
 no_fault (commands.Replay true) input report text makes = ap script_fault makes.ran.spelled
 no_fault (commands.Replay false) input report text makes = replay_fits (is_session input) input report text makes
 no_fault commands.Show input report text makes = ap image_fault makes.0
 no_fault (commands.Widen raw) input report text makes = ap (fault_of raw) makes.0.widened ∙ ap written_fault makes.0.written
+no_fault commands.Check input report text makes = makes.0
 
 -- a command ends well
 pub ends_well : (words : List (List ℕ)) (source : Stream) (report : Option RunReport) (out : List ℕ) → Does words source report out
-    → (c : Command) → task_of words ≡ Some (tasks.Read c) → (text : List ℕ) → source.bytes ≡ Some text → EndsAs (expected c text) None
+    → (c : Command) → task_of words ≡ Some (tasks.Read c) → (text : List ℕ) → source.bytes ≡ Some text → EndsAsExpected c text None
 ends_well words source report out does c asked text told =
     let read = subst (λ (t : Task). IsDone t source report out) (same_Some does.task (tasks.Read c) (sym does.asked ∙ asked)) does.done in
     ends_as c source.bytes source.bytes_after (λ input. Makes c input report out) text None read told (λ input makes. no_fault c input report out makes)
 
 ends_refused : (words : List (List ℕ)) (source : Stream) (fault : TopFault) → IsRefused words source fault → (c : Command) → task_of words ≡ Some (tasks.Read c)
-    → (text : List ℕ) → source.bytes ≡ Some text → EndsAs (expected c text) (Some fault)
+    → (text : List ℕ) → source.bytes ≡ Some text → EndsAsExpected c text (Some fault)
 ends_refused words source fault is c asked text told =
-    subst (λ (d : Command). EndsAs (expected d text) (Some fault)) (one_command words is.command c is.asked asked)
-    (ends_as is.command source.bytes source.bytes_after (λ input. input_fault is.command input ≡ Some fault) text (Some fault) is.read told (λ input e. e))
+    subst (λ (d : Command). EndsAsExpected d text (Some fault)) (one_command words is.command c is.asked asked)
+    (ends_as is.command source.bytes source.bytes_after (λ input. Ends is.command input (Some fault)) text (Some fault) is.read told (λ input e. e))
 
 -- what ends before the first write ends as the input says
 pub ends_early : (words : List (List ℕ)) (source : Stream) (fault : TopFault) → Cause words source fault → (c : Command) → task_of words ≡ Some (tasks.Read c)
-    → (text : List ℕ) → source.bytes ≡ Some text → (Rose source.faults source.faults_after → ⊥) → EndsAs (expected c text) (Some fault)
+    → (text : List ℕ) → source.bytes ≡ Some text → (Rose source.faults source.faults_after → ⊥) → EndsAsExpected c text (Some fault)
 ends_early words source faults.BadWords cause c asked text told calm = absurd (no_command words c cause asked)
 ends_early words source (faults.Script line kind) cause c asked text told calm = ends_refused words source (faults.Script line kind) cause c asked text told
 ends_early words source (faults.Image kind block) cause c asked text told calm = ends_refused words source (faults.Image kind block) cause c asked text told
@@ -199,15 +246,17 @@ ends_early words source faults.SinkFault cause c asked text told calm = absurd c
 ends_early words source faults.TooLong (d, this, long) c asked text told calm =
     let most = front_read source.bytes source.bytes_after long.input text told long.read in
     let past : most_of d < length text = let l = long.long in omega arith in
-    inl (sym (subst (λ (e : Command). expected e text ≡ Some faults.TooLong) (one_command words d c this asked) (long_input d text past)))
+    inl (subst (λ (e : Command). Expects e text (Some faults.TooLong)) (one_command words d c this asked) (long_input d text past))
 ends_early words source faults.NoMemory cause c asked text told calm = inr refl
 ends_early words source faults.NoRoom cause c asked text told calm = ends_refused words source faults.NoRoom cause c asked text told
+ends_early words source (faults.Unsound verdict) cause c asked text told calm = ends_refused words source (faults.Unsound verdict) cause c asked text told
 
 -- an end that the input asks for, where that is a fault
-pub ends_with : (c : Command) (text : List ℕ) (fault : TopFault) (end : Option TopFault) → expected c text ≡ Some fault → EndsAs (expected c text) end → EndsAs (Some fault) end
-ends_with c text fault end is ends = subst (λ (wanted : Option TopFault). EndsAs wanted end) is ends
+pub ends_with : (c : Command) (text : List ℕ) (fault : TopFault) (end : Option TopFault) → Expects c text (Some fault) → EndsAsExpected c text end → EndsAs (Some fault) end
+ends_with c text fault end is (inl ends) = inl (one_end c text end (Some fault) ends is)
+ends_with c text fault end is (inr memory) = inr memory
 
 -- no command ends well where its input has a fault
-pub not_well : (c : Command) (text : List ℕ) (fault : TopFault) → expected c text ≡ Some fault → EndsAs (expected c text) None → ⊥
-not_well c text fault is (inl well) = none-some fault (well ∙ is)
+pub not_well : (c : Command) (text : List ℕ) (fault : TopFault) → Expects c text (Some fault) → EndsAsExpected c text None → ⊥
+not_well c text fault is (inl well) = none-some fault (one_end c text None (Some fault) well is)
 not_well c text fault is (inr memory) = none-some faults.NoMemory memory

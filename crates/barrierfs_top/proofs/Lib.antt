@@ -1,5 +1,8 @@
 pub mod BlockLines
+pub mod Checks
 pub mod Ends
+pub mod OneEnd
+pub mod Workloads
 pub mod Promised
 pub mod Pieces
 pub mod RawImages

@@ -1,5 +1,5 @@
 -- Words ask for what the table has, and for nothing else.
-use Rattle.std.proofs.Common.{◌≡◌, ℕ, ◌<◌, ◌≤◌, ◌&&◌, ◌-◌, ◌^◌, Bool, true, false, nat_lt, nat_le, if◌then◌else◌, List, [], ◌∷◌, codes, decimal, Option, Some, None, refl, sym, ap, ◌∙◌, subst, arith, bytes_eq, option_map}
+use Rattle.std.proofs.Common.{◌≡◌, ℕ, ◌&&◌, Bool, true, false, nat_lt, nat_le, if◌then◌else◌, List, [], ◌∷◌, codes, decimal, Option, Some, None, refl, sym, subst, arith, bytes_eq, option_map}
 use Rattle.std.proofs.lemmas.Bool.{and_parts, leb-true, ltb-true, lt-ltb, le-leb}
 use Rattle.std.proofs.lemmas.Option.{none-some, same_Some}
 use Rattle.std.proofs.lemmas.Slice.Eq.{bytes_eq-Decides}
@@ -7,6 +7,7 @@ use Rattle.script_words.specs.Spelling.{numeral}
 use Rattle.script_words.proofs.Chosen.{mapped}
 use Rattle.script_words.proofs.SaidNumbers.{decimal-numeral}
 use Rattle.script_words.proofs.SpelledNumbers.{numeral-decimal}
+use Rattle.bulk_script.specs.declared.limits.TheConstants.{MOST_GENERATED}
 use Rattle.minix_layout.specs.Words.{first_zone}
 use Rattle.minix_layout.specs.declared.limits.TheConstants.{LEAST_JOURNAL, MOST_JOURNAL, MOST_NUMBERED}
 use Rattle.barrierfs_top.specs.declared.command_line.Command.{Command}
@@ -14,7 +15,7 @@ use Rattle.barrierfs_top.specs.declared.command_line.Command.TheVariants as comm
 use Rattle.barrierfs_top.specs.declared.command_line.Sizes.{Sizes}
 use Rattle.barrierfs_top.specs.declared.command_line.Task.{Task}
 use Rattle.barrierfs_top.specs.declared.command_line.Task.TheVariants as tasks
-use Rattle.barrierfs_top.specs.Tasks.{command_named_by, raw_named_by, raw_of, can_make, sizes_of, make_of, task_of}
+use Rattle.barrierfs_top.specs.Tasks.{command_named_by, raw_named_by, raw_of, can_make, sizes_of, make_of, workload_of, task_of}
 use Rattle.barrierfs_top.specs.WordLists.{AreSizes, AskFor}
 
 -- ---- words that are tested
@@ -40,7 +41,8 @@ named w c h =
     link w (codes "replay") (commands.Replay false) c _ (λ d. AskFor (w ∷ []) (tasks.Read d)) h (λ is. subst (λ v. AskFor (v ∷ []) (tasks.Read (commands.Replay false))) (sym is) AskFor.replay)
     (λ h. link w (codes "show") commands.Show c _ (λ d. AskFor (w ∷ []) (tasks.Read d)) h (λ is. subst (λ v. AskFor (v ∷ []) (tasks.Read commands.Show)) (sym is) AskFor.show)
     (λ h. link w (codes "widen") (commands.Widen false) c _ (λ d. AskFor (w ∷ []) (tasks.Read d)) h (λ is. subst (λ v. AskFor (v ∷ []) (tasks.Read (commands.Widen false))) (sym is) AskFor.widen)
-    (λ h. absurd (none-some c h))))
+    (λ h. link w (codes "check") commands.Check c _ (λ d. AskFor (w ∷ []) (tasks.Read d)) h (λ is. subst (λ v. AskFor (v ∷ []) (tasks.Read commands.Check)) (sym is) AskFor.check)
+    (λ h. absurd (none-some c h)))))
 
 raw_named : (w : List ℕ) (c : Command) → raw_named_by w ≡ Some c → AskFor (w ∷ codes "--raw" ∷ []) (tasks.Read c)
 raw_named w c h =
@@ -52,6 +54,29 @@ two : (w r : List ℕ) (c : Command) → raw_of r (raw_named_by w) ≡ Some c �
 two w r c h =
     let is = required r (codes "--raw") (raw_named_by w) c (bytes_eq r (codes "--raw")) refl h in
     subst (λ v. AskFor (w ∷ v ∷ []) (tasks.Read c)) (sym is.0) (raw_named w c is.1)
+
+-- ---- the number of a workload
+
+bulk_spelled : (r : List ℕ) (n : ℕ) → numeral r ≡ Some n → nat_lt 0 n && nat_le n MOST_GENERATED ≡ true → AskFor (codes "bulk" ∷ r ∷ []) (tasks.Bulk n)
+bulk_spelled r n e may =
+    let both = and_parts (nat_lt 0 n) (nat_le n MOST_GENERATED) may in
+    let most = leb-true n MOST_GENERATED both.1 in
+    let spelled = decimal-numeral r n e (omega (arith, most)) in
+    subst (λ v. AskFor (codes "bulk" ∷ v ∷ []) (tasks.Bulk n)) (sym spelled) (AskFor.bulk n (ltb-true 0 n both.0) most)
+
+bulk_by : (r : List ℕ) (n : ℕ) (t : Task) (may : Bool) → (may ≡ true → AskFor (codes "bulk" ∷ r ∷ []) (tasks.Bulk n)) → (if may then Some (tasks.Bulk n) else None) ≡ Some t
+    → AskFor (codes "bulk" ∷ r ∷ []) t
+bulk_by r n t true ask e = subst (λ u. AskFor (codes "bulk" ∷ r ∷ []) u) (same_Some (tasks.Bulk n) t e) (ask refl)
+bulk_by r n t false ask e = absurd (none-some t e)
+
+numbered : (r : List ℕ) (t : Task) (number : Option ℕ) → numeral r ≡ number → workload_of number ≡ Some t → AskFor (codes "bulk" ∷ r ∷ []) t
+numbered r t (Some n) said e = bulk_by r n t (nat_lt 0 n && nat_le n MOST_GENERATED) (λ may. bulk_spelled r n said may) e
+numbered r t None said e = absurd (none-some t e)
+
+pair : (w r : List ℕ) (t : Task) (same : Bool) → bytes_eq w (codes "bulk") ≡ same
+    → (if same then workload_of (numeral r) else option_map tasks.Read (raw_of r (raw_named_by w))) ≡ Some t → AskFor (w ∷ r ∷ []) t
+pair w r t true is h = subst (λ v. AskFor (v ∷ r ∷ []) t) (sym ((bytes_eq-Decides w (codes "bulk")).0 is)) (numbered r t (numeral r) refl h)
+pair w r t false is h = mapped (λ u. AskFor (w ∷ r ∷ []) u) tasks.Read (raw_of r (raw_named_by w)) t h (λ c e. two w r c e)
 
 -- ---- sizes
 
@@ -121,7 +146,7 @@ four w i z j t h =
 pub ask_for : (words : List (List ℕ)) (t : Task) → task_of words ≡ Some t → AskFor words t
 ask_for [] t h = absurd (none-some t h)
 ask_for (w ∷ []) t h = mapped (λ u. AskFor (w ∷ []) u) tasks.Read (command_named_by w) t h (λ c e. named w c e)
-ask_for (w ∷ r ∷ []) t h = mapped (λ u. AskFor (w ∷ r ∷ []) u) tasks.Read (raw_of r (raw_named_by w)) t h (λ c e. two w r c e)
+ask_for (w ∷ r ∷ []) t h = pair w r t (bytes_eq w (codes "bulk")) refl h
 ask_for (w ∷ r ∷ v ∷ []) t h = absurd (none-some t h)
 ask_for (w ∷ i ∷ z ∷ j ∷ []) t h = four w i z j t h
 ask_for (w ∷ i ∷ z ∷ j ∷ v ∷ words) t h = absurd (none-some t h)
@@ -136,6 +161,8 @@ asked words t AskFor.raw_replay = refl
 asked words t AskFor.show = refl
 asked words t AskFor.widen = refl
 asked words t AskFor.raw_widen = refl
+asked words t AskFor.check = refl
+asked words t (AskFor.bulk n some most) = rw (numeral-decimal n (omega (arith, most)), lt-ltb 0 n some, le-leb n MOST_GENERATED most) refl
 asked words t (AskFor.make s is) =
     let first = is.most_inodes in
     let second = is.most_zones in

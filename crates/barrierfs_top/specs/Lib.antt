@@ -3,6 +3,8 @@ pub mod WordLists
 pub mod Text
 pub mod Show
 pub mod Widen
+pub mod Check
 pub mod Sessions
+pub mod Bulk
 pub mod Top
 pub mod Promise

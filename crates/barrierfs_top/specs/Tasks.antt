@@ -5,6 +5,7 @@ use Rattle.std.specs.Option.{option_map}
 use Rattle.script_grammar.specs.declared.limits.TheConstants.{MOST_SCRIPT_BYTES}
 use Rattle.script_words.specs.Spelling.{numeral}
 use Rattle.minix_layout.specs.Words.{first_zone}
+use Rattle.bulk_script.specs.declared.limits.TheConstants.{MOST_GENERATED}
 use Rattle.barrierfs_top.specs.declared.command_line.TheConstants.{MOST_IMAGE_BYTES}
 use Rattle.barrierfs_top.specs.declared.command_line.Command.{Command}
 use Rattle.barrierfs_top.specs.declared.command_line.Command.TheVariants as commands
@@ -19,6 +20,7 @@ command_named_by w =
     if bytes_eq w (codes "replay") then Some (commands.Replay false)
     else if bytes_eq w (codes "show") then Some commands.Show
     else if bytes_eq w (codes "widen") then Some (commands.Widen false)
+    else if bytes_eq w (codes "check") then Some commands.Check
     else None
 
 -- a command that writes an image in place of a text, where `--raw` stands behind its word
@@ -36,6 +38,7 @@ abbrev pub most_of : Command → ℕ
 most_of (commands.Replay raw) = MOST_SCRIPT_BYTES
 most_of commands.Show = MOST_IMAGE_BYTES
 most_of (commands.Widen raw) = MOST_IMAGE_BYTES
+most_of commands.Check = MOST_IMAGE_BYTES
 
 -- an image can be made: of 1 to `MOST_NUMBERED` inodes, as many blocks, which leave a zone of data, and `LEAST_JOURNAL` to
 -- `MOST_JOURNAL` blocks of journal
@@ -50,14 +53,26 @@ sizes_of inodes zones journal = None
 abbrev pub make_of : List ℕ → Option Sizes → Option Task
 make_of w sizes = if bytes_eq w (codes "make") then option_map tasks.Make sizes else None
 
--- a command, one with `--raw`, or `make` and three decimal numbers without a sign or a leading zero
+-- a workload of 1 to `MOST_GENERATED` calls
+abbrev pub workload_of : Option ℕ → Option Task
+workload_of None = None
+workload_of (Some n) = if nat_lt 0 n && nat_le n MOST_GENERATED then Some (tasks.Bulk n) else None
+
+-- `bulk` and its number, or a command with `--raw`
+abbrev pub pair_of : List ℕ → List ℕ → Option Task
+pair_of w second =
+    if bytes_eq w (codes "bulk") then workload_of (numeral second)
+    else option_map tasks.Read (raw_of second (raw_named_by w))
+
+-- a command, one with `--raw`, `bulk` and a number, or `make` and three; numbers are decimal, without a sign or a leading zero
 abbrev pub task_of : List (List ℕ) → Option Task
 task_of (w ∷ []) = option_map tasks.Read (command_named_by w)
-task_of (w ∷ r ∷ []) = option_map tasks.Read (raw_of r (raw_named_by w))
+task_of (w ∷ second ∷ []) = pair_of w second
 task_of (w ∷ i ∷ z ∷ j ∷ []) = make_of w (sizes_of (numeral i) (numeral z) (numeral j))
 task_of words = None
 
 -- what holds of a task that words ask for
 abbrev pub CanDo : Task → Type 0
 CanDo (tasks.Read c) = Unit {0}
+CanDo (tasks.Bulk n) = (0 < n) × (n ≤ MOST_GENERATED)
 CanDo (tasks.Make s) = (0 < s.inodes) × (first_zone s.inodes s.zones < s.zones) × (LEAST_JOURNAL ≤ s.journal) × (s.journal ≤ MOST_JOURNAL)

@@ -1,5 +1,5 @@
 -- What the top call did, by its fault.
-use Rattle.std.specs.Prelude.{◌≡◌, ℕ, ◌<◌, ◌≤◌, ◌⊎◌, ◌||◌, Bool, true, false, List, length, Option, Some, None, Result, Ok, Err, is_some, nat_lt, if◌then◌else◌}
+use Rattle.std.specs.Prelude.{◌≡◌, ℕ, ◌<◌, ◌≤◌, ◌⊎◌, ◌||◌, Bool, true, false, List, length, Option, Some, None, Result, Ok, Err, is_some, nat_lt, codes}
 use Rattle.std.specs.List.{concat}
 use Rattle.std.specs.Io.KnownBytes.{Keeps, Appends, Consumes}
 use Rattle.blk_base.specs.Streams.{Rose, Drained, AppendsFront}
@@ -17,6 +17,8 @@ use Rattle.barrierfs_top.specs.Tasks.{most_of, task_of}
 use Rattle.barrierfs_top.specs.declared.command_line.Command.TheVariants as commands
 use Rattle.barrierfs_top.specs.Show.{shown}
 use Rattle.barrierfs_top.specs.Widen.{IsWidened, widen_fault}
+use Rattle.barrierfs_top.specs.Check.{IsChecked}
+use Rattle.barrierfs_top.specs.Bulk.{IsWorkload}
 use Rattle.barrierfs_top.specs.declared.fault.TopFault.{TopFault}
 use Rattle.barrierfs_top.specs.declared.fault.TopFault.TheVariants as faults
 use Rattle.script_grammar.specs.declared.script.Script.{Script}
@@ -44,6 +46,7 @@ status_of (Some faults.SinkFault) = 6
 status_of (Some faults.TooLong) = 7
 status_of (Some faults.NoMemory) = 8
 status_of (Some faults.NoRoom) = 9
+status_of (Some (faults.Unsound verdict)) = 10
 
 -- what a call did to a stream: its bytes, where they are told, and its count of faults, before and after
 pub record Stream : Type 0 where
@@ -96,11 +99,12 @@ abbrev pub IsMade : Sizes → Option RunReport → List ℕ → Type 0
 IsMade s report bytes = (bytes ≡ concat (made_image (geometry_made s.inodes s.zones DEFAULT_WIDTH) s.journal false)) × (report ≡ None)
 
 -- `show`: the text is that of the tree that the image has once its journal was recovered; `widen`: it is that of the widened
--- image, or the bytes are those of this image
+-- image, or the bytes are those of this image; `check`: the image is clean, and the text says so
 abbrev pub Makes : Command → List ℕ → Option RunReport → List ℕ → Type 0
 Makes (commands.Replay raw) input report text = IsReplay raw input report text
 Makes commands.Show input report text = (shown (whole_blocks input) ≡ Ok text) × (report ≡ None)
 Makes (commands.Widen raw) input report text = IsWidened raw (whole_blocks input) text × (report ≡ None)
+Makes commands.Check input report text = IsChecked (whole_blocks input) None × (text ≡ codes "clean\n") × (report ≡ None)
 
 -- the first faulty line of a text that is no script, with its kind
 abbrev pub script_fault : {S : Type 0} → Result S (ℕ × ScriptKind) → Option TopFault
@@ -117,16 +121,19 @@ abbrev pub image_fault : Result (List ℕ) (ImageFault × ℕ) → Option TopFau
 image_fault (Ok text) = None
 image_fault (Err (kind, block)) = Some (faults.Image kind block)
 
-abbrev pub input_fault : Command → List ℕ → Option TopFault
-input_fault (commands.Replay raw) input = fault_as (raw || is_session input) input
-input_fault commands.Show input = image_fault (shown (whole_blocks input))
-input_fault (commands.Widen raw) input = widen_fault raw (whole_blocks input)
+-- A command ends so whose input this is: without a fault, or by the one that the input has.
+abbrev pub Ends : Command → List ℕ → Option TopFault → Type 0
+Ends (commands.Replay raw) input end = fault_as (raw || is_session input) input ≡ end
+Ends commands.Show input end = image_fault (shown (whole_blocks input)) ≡ end
+Ends (commands.Widen raw) input end = widen_fault raw (whole_blocks input) ≡ end
+Ends commands.Check input end = IsChecked (whole_blocks input) end
 
 -- this is the fault of the input; want of memory is free
 abbrev pub IsInputFault : Command → List ℕ → TopFault → Type 0
-IsInputFault c input (faults.Script line kind) = input_fault c input ≡ Some (faults.Script line kind)
-IsInputFault c input (faults.Image kind block) = input_fault c input ≡ Some (faults.Image kind block)
-IsInputFault c input faults.NoRoom = input_fault c input ≡ Some faults.NoRoom
+IsInputFault c input (faults.Script line kind) = Ends c input (Some (faults.Script line kind))
+IsInputFault c input (faults.Image kind block) = Ends c input (Some (faults.Image kind block))
+IsInputFault c input faults.NoRoom = Ends c input (Some faults.NoRoom)
+IsInputFault c input (faults.Unsound verdict) = Ends c input (Some (faults.Unsound verdict))
 IsInputFault c input faults.NoMemory = Unit {0}
 IsInputFault c input other = ⊥
 
@@ -148,10 +155,11 @@ IsSessionFault input fault = IsFaultAs true input fault
 abbrev pub IsUnread : Stream → Type 0
 IsUnread source = (source.bytes_after ≡ source.bytes) × (source.faults_after ≡ source.faults)
 
--- what a command makes of the source, or the image that is made
+-- what a command makes of the source, the image that is made, or the summary of a workload
 abbrev pub IsDone : Task → Stream → Option RunReport → List ℕ → Type 0
 IsDone (tasks.Read c) source report text = WasRead c source.bytes source.bytes_after (λ input. Makes c input report text)
 IsDone (tasks.Make s) source report text = IsUnread source × IsMade s report text
+IsDone (tasks.Bulk n) source report text = IsUnread source × IsWorkload n report text
 
 -- the words ask for a task, and this is done
 pub record Does (words : List (List ℕ)) (source : Stream) (report : Option RunReport) (text : List ℕ) : Type 0 where
@@ -163,7 +171,7 @@ pub record Does (words : List (List ℕ)) (source : Stream) (report : Option Run
 pub record IsRefused (words : List (List ℕ)) (source : Stream) (fault : TopFault) : Type 0 where
   pub command : Command
   pub asked : task_of words ≡ Some (tasks.Read command)
-  pub read : WasRead command source.bytes source.bytes_after (λ input. input_fault command input ≡ Some fault)
+  pub read : WasRead command source.bytes source.bytes_after (λ input. Ends command input (Some fault))
 
 -- the cause of a fault for which nothing is written; want of memory is free
 abbrev pub Cause : List (List ℕ) → Stream → TopFault → Type 0
@@ -175,6 +183,7 @@ Cause words source faults.SinkFault = ⊥
 Cause words source faults.TooLong = (c : Command) × (task_of words ≡ Some (tasks.Read c)) × IsTooLong c source.bytes source.bytes_after
 Cause words source faults.NoMemory = Unit {0}
 Cause words source faults.NoRoom = IsRefused words source faults.NoRoom
+Cause words source (faults.Unsound verdict) = IsRefused words source (faults.Unsound verdict)
 
 -- what was done to source and sink, by the fault
 abbrev pub Did : List (List ℕ) → Stream → Stream → Option RunReport → Option TopFault → Type 0
@@ -194,10 +203,19 @@ pub record DidSome (words : List (List ℕ)) (source sink : Stream) (reported : 
 
 -- ---- how a call ends where the input is told and neither stream fails
 
-abbrev pub expected : Command → List ℕ → Option TopFault
-expected c text = if nat_lt (most_of c) (length text) then Some faults.TooLong else input_fault c text
+-- by its length where it is too long, else by what it is
+abbrev pub ExpectsAs : Bool → Command → List ℕ → Option TopFault → Type 0
+ExpectsAs true c text end = Some faults.TooLong ≡ end
+ExpectsAs false c text end = Ends c text end
+
+abbrev pub Expects : Command → List ℕ → Option TopFault → Type 0
+Expects c text end = ExpectsAs (nat_lt (most_of c) (length text)) c text end
 
 -- so, or by want of memory
+abbrev pub EndsAsExpected : Command → List ℕ → Option TopFault → Type 0
+EndsAsExpected c text fault = Expects c text fault ⊎ (fault ≡ Some faults.NoMemory)
+
+-- by this fault, or without one, or by want of memory
 abbrev pub EndsAs : Option TopFault → Option TopFault → Type 0
 EndsAs wanted fault = (fault ≡ wanted) ⊎ (fault ≡ Some faults.NoMemory)
 

@@ -1,6 +1,7 @@
 -- The lists of words that ask for something, as one table.
 use Rattle.std.specs.Prelude.{ℕ, ◌<◌, ◌≤◌, true, false, List, [], ◌∷◌, codes}
 use Rattle.std.specs.Fmt.{decimal}
+use Rattle.bulk_script.specs.declared.limits.TheConstants.{MOST_GENERATED}
 use Rattle.minix_layout.specs.Words.{first_zone}
 use Rattle.minix_layout.specs.declared.limits.TheConstants.{LEAST_JOURNAL, MOST_JOURNAL, MOST_NUMBERED}
 use Rattle.barrierfs_top.specs.declared.command_line.Command.TheVariants as commands
@@ -24,4 +25,6 @@ pub data AskFor : List (List ℕ) → Task → Type 0 where
   show : AskFor (codes "show" ∷ []) (tasks.Read commands.Show)
   widen : AskFor (codes "widen" ∷ []) (tasks.Read (commands.Widen false))
   raw_widen : AskFor (codes "widen" ∷ codes "--raw" ∷ []) (tasks.Read (commands.Widen true))
+  check : AskFor (codes "check" ∷ []) (tasks.Read commands.Check)
+  bulk : (n : ℕ) → 0 < n → n ≤ MOST_GENERATED → AskFor (codes "bulk" ∷ decimal n ∷ []) (tasks.Bulk n)
   make : (s : Sizes) → AreSizes s → AskFor (codes "make" ∷ decimal s.inodes ∷ decimal s.zones ∷ decimal s.journal ∷ []) (tasks.Make s)

@@ -1,9 +1,10 @@
 //! What the words of the command line ask for.
 ghost use Rattle.std.specs.Prelude.{◌≡◌, ◌++◌, ◌∷◌, [], Some, IfSome, OnOk, OnErr};
 ghost use Rattle.script_words.specs.Spelling.{numeral};
-ghost use Rattle.barrierfs_top.specs.Tasks.{command_named_by, most_of, raw_named_by, raw_of, sizes_of, task_of, CanDo};
+ghost use Rattle.barrierfs_top.specs.Tasks.{command_named_by, most_of, pair_of, raw_named_by, raw_of, sizes_of, task_of, workload_of, CanDo};
 
 use blk_base::NoMemory;
+use bulk_script::MOST_GENERATED;
 use minix_layout::{DEFAULT_WIDTH, Geometry, LEAST_JOURNAL, MOST_JOURNAL, MOST_NUMBERED};
 use script_grammar::MOST_SCRIPT_BYTES;
 use script_words::numeral;
@@ -19,6 +20,8 @@ pub enum Command {
     Show,
     /// Gives an image names of 30 bytes, and prints the tree of the widened image, or writes its bytes.
     Widen { raw: bool },
+    /// Tells whether the maps, links and dots of an image agree with its tree.
+    Check,
 }
 
 impl Command {
@@ -28,7 +31,7 @@ impl Command {
     {
         match self {
             Command::Replay { .. } => MOST_SCRIPT_BYTES as u64,
-            Command::Show | Command::Widen { .. } => MOST_IMAGE_BYTES,
+            Command::Show | Command::Widen { .. } | Command::Check => MOST_IMAGE_BYTES,
         }
     }
 }
@@ -48,6 +51,8 @@ pub enum Task {
     Read(Command),
     /// Makes an image. Nothing is read.
     Make(Sizes),
+    /// Runs the workload that is generated from a number, and prints its summary. Nothing is read.
+    Bulk(u32),
 }
 
 /// The most bytes of an image.
@@ -86,14 +91,15 @@ impl Words {
         Ok(())
     }
 
-    /// What is to be done, where the words say so. Sizes of which no image can be made are no such words.
+    /// What is to be done, where the words say so. Sizes of which no image can be made are no such words, and so are
+    /// numbers of which no workload is generated.
     pub fn task(&self) -> Option<Task>
         ensures value { result ≡ task_of self.now }
         ensures can { IfSome result (λ t. CanDo t) }
     {
         match self.items.as_slice() {
             [word] => Some(Task::Read(command_named(word.as_str())?)),
-            [word, raw] => Some(Task::Read(raw_named(word.as_str(), raw.as_str())?)),
+            [word, second] => pair_named(word.as_str(), second.as_str()),
             [make, inodes, zones, journal] => {
                 if make.as_str() != "make" {
                     return None;
@@ -113,8 +119,31 @@ fn command_named(word: &str) -> Option<Command>
         "replay" => Some(Command::Replay { raw: false }),
         "show" => Some(Command::Show),
         "widen" => Some(Command::Widen { raw: false }),
+        "check" => Some(Command::Check),
         _ => None,
     }
+}
+
+// `bulk` and its number, or a command with `--raw` behind its word.
+fn pair_named(word: &str, second: &str) -> Option<Task>
+    ensures value { result ≡ pair_of word.now second.now }
+    ensures can { IfSome result (λ t. CanDo t) }
+{
+    if word == "bulk" {
+        return workload_named(second);
+    }
+    Some(Task::Read(raw_named(word, second)?))
+}
+
+fn workload_named(number: &str) -> Option<Task>
+    ensures value { result ≡ workload_of (numeral number.now) }
+    ensures can { IfSome result (λ t. CanDo t) }
+{
+    let number = numeral(number.as_bytes())?;
+    if number == 0 || number > u64::from(MOST_GENERATED) {
+        return None;
+    }
+    Some(Task::Bulk(number as u32))
 }
 
 // The command whose word has `--raw` behind it.

@@ -2,6 +2,7 @@
 use mount_make::ImageFault;
 use script_grammar::ScriptKind;
 use thiserror::Error;
+use vol_check::Verdict;
 
 /// Why the program did not end well. Its text is what the program prints behind its own name.
 #[derive(Clone, Copy, PartialEq, Eq, Debug, Error)]
@@ -22,4 +23,6 @@ pub enum TopFault {
     NoMemory,
     #[error("no room")]
     NoRoom,
+    #[error("unsound: {0}")]
+    Unsound(Verdict),
 }

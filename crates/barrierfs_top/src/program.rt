@@ -4,7 +4,7 @@ ghost use Rattle.std.specs.Process.{exit_status};
 ghost use Rattle.blk_base.specs.Streams.{Rose};
 ghost use Rattle.barrierfs_top.specs.Promise.{WentOut, TellsRun};
 ghost use Rattle.barrierfs_top.specs.Tasks.{task_of};
-ghost use Rattle.barrierfs_top.specs.Top.{status_of, stream_of, IsUnread, DidSome, expected, EndsAs};
+ghost use Rattle.barrierfs_top.specs.Top.{status_of, stream_of, IsUnread, DidSome, Expects, EndsAs, EndsAsExpected};
 ghost use Rattle.barrierfs_top.specs.declared.command_line.Command.{Command};
 ghost use Rattle.barrierfs_top.specs.declared.command_line.Sizes.{Sizes};
 ghost use Rattle.barrierfs_top.specs.declared.command_line.Task.{Task};
@@ -60,9 +60,10 @@ pub fn run_words<R: Source, W: Sink>(
     ensures did { DidSome words.now (stream_of R.left R.faults src.old src.new) (stream_of W.taken W.faults out.old out.new) result.reported result.fault }
     ensures words { task_of words.now ≡ None → result.fault ≡ Some TopFault.BadWords }
     ensures unread { ((c : Command) → task_of words.now ≡ Some (Task.Read c) → ⊥) → IsUnread (stream_of R.left R.faults src.old src.new) }
-    ensures complete { (c : Command) → task_of words.now ≡ Some (Task.Read c) → (text : List ℕ) → R.left src.old ≡ Some text → ¬ Rose (R.faults src.old) (R.faults src.new) → ¬ Rose (W.faults out.old) (W.faults out.new) → EndsAs (expected c text) result.fault }
-    ensures refused { (c : Command) → task_of words.now ≡ Some (Task.Read c) → (text : List ℕ) → R.left src.old ≡ Some text → ¬ Rose (R.faults src.old) (R.faults src.new) → (fault : TopFault) → expected c text ≡ Some fault → EndsAs (Some fault) result.fault }
+    ensures complete { (c : Command) → task_of words.now ≡ Some (Task.Read c) → (text : List ℕ) → R.left src.old ≡ Some text → ¬ Rose (R.faults src.old) (R.faults src.new) → ¬ Rose (W.faults out.old) (W.faults out.new) → EndsAsExpected c text result.fault }
+    ensures refused { (c : Command) → task_of words.now ≡ Some (Task.Read c) → (text : List ℕ) → R.left src.old ≡ Some text → ¬ Rose (R.faults src.old) (R.faults src.new) → (fault : TopFault) → Expects c text (Some fault) → EndsAs (Some fault) result.fault }
     ensures made { (s : Sizes) → task_of words.now ≡ Some (Task.Make s) → ¬ Rose (W.faults out.old) (W.faults out.new) → EndsAs None result.fault }
+    ensures generated { (n : ℕ) → task_of words.now ≡ Some (Task.Bulk n) → ¬ Rose (W.faults out.old) (W.faults out.new) → EndsAs None result.fault }
     ensures source_steady { (result.fault ≡ Some TopFault.SourceFault → ⊥) → R.faults src.new ≡ R.faults src.old }
     ensures sink_steady { (result.fault ≡ Some TopFault.SinkFault → ⊥) → W.faults out.new ≡ W.faults out.old }
 {

@@ -8,7 +8,7 @@ ghost use Rattle.script_grammar.specs.declared.limits.TheConstants.{MOST_SCRIPT_
 ghost use Rattle.session_grammar.specs.WellFormed.{IsWellFormed};
 ghost use Rattle.session_core.specs.Core.{ArePlaced, entry_in};
 ghost use Rattle.session_core.specs.Report.{IsCoreReport};
-ghost use Rattle.barrierfs_top.specs.Sessions.{begins_session, is_session, names_volume, IsSessionText, IsSessionOf, IsSessionReplay, IsImageReplay};
+ghost use Rattle.barrierfs_top.specs.Sessions.{begins_session, is_session, names_volume, IsSessionText, IsSessionOf, IsSessionReplay, IsImageReplay, figures_of};
 ghost use Rattle.barrierfs_top.specs.Top.{IsSessionFault};
 ghost use Rattle.barrierfs_top.specs.Text.{output_bytes};
 
@@ -56,13 +56,25 @@ pub fn is_session(alloc: Global, bytes: &[u8]) -> Result<bool, NoMemory>
     begins_session(alloc, &lines)
 }
 
-// What the host noted of the calls, whose programs are those of the script. The script is for the clauses alone.
-fn noted<'a>(report: &'a SessionReport, _script: &SessionScript) -> &'a [Entry]
+/// What the host noted of the calls, whose programs are those of the script. The script is for the clauses alone.
+pub fn noted<'a>(report: &'a SessionReport, _script: &SessionScript) -> &'a [Entry]
     requires { IsCoreReport _script.now report.now }
     ensures noted { report.now.host.host.history ≡ map (entry_in report.now.host.programs) result.now }
     ensures placed { ArePlaced _script.now.programs result.now }
 {
     report.host.history()
+}
+
+/// The figures of a session.
+pub fn figures_of(report: &SessionReport) -> Figures
+    ensures { figures_of report.now ≡ record { steps = result.steps; requests = result.requests; closed = result.closed; found = result.found } }
+{
+    Figures {
+        steps: report.cut.trace.steps,
+        requests: report.host.submitted(),
+        closed: report.host.cuts().len() as u64,
+        found: report.found.into(),
+    }
 }
 
 // The text of a session's report.
@@ -76,18 +88,12 @@ fn session_text(
     ensures { IfOk result (λ text. IsSessionText script.now report.now (string_bytes text)) }
 {
     lines_of_scripts_are_ascii();
-    let figures = Figures {
-        steps: report.cut.trace.steps,
-        requests: report.host.submitted(),
-        closed: report.host.cuts().len() as u64,
-        found: report.found.into(),
-    };
     let mut text = String::new(alloc);
     put_session(
         &mut text,
         &script.programs,
         &script.lines,
-        &figures,
+        &figures_of(report),
         noted(report, script),
         &report.standings,
     )?;

@@ -25,8 +25,8 @@ pub fn show_text(alloc: Global, image: Image) -> Result<String, TopFault>
     }
 }
 
-// The volume of an image.
-fn volume_of(alloc: Global, image: Image) -> Result<Volume, TopFault>
+/// The volume of an image.
+pub fn volume_of(alloc: Global, image: Image) -> Result<Volume, TopFault>
     ensures ok { IfOk result (λ v. mounted image ≡ Ok v) }
     ensures err { IfErr result (IsMountedFault image) }
 {

@@ -1,9 +1,9 @@
 //! The top call.
-ghost use Rattle.std.specs.Prelude.{◌≡◌, ℕ, ◌≤◌, false, List, Some, None, Ok, length, IfOk, IfErr, IsErrOf};
+ghost use Rattle.std.specs.Prelude.{◌≡◌, ℕ, ◌≤◌, false, List, Some, None, Ok, length, codes, IfOk, IfErr, IsErrOf};
 ghost use Rattle.blk_base.specs.Streams.{Rose};
 ghost use Rattle.barrierfs_top.specs.Tasks.{task_of, CanDo};
 ghost use Rattle.barrierfs_top.specs.Text.{output_bytes};
-ghost use Rattle.barrierfs_top.specs.Top.{status_of, stream_of, IsReplay, IsBlocksReplay, IsBlocksFault, IsMade, IsInputFault, IsUnread, Does, Cause, Did, expected, EndsAs, top_fault, end_fault};
+ghost use Rattle.barrierfs_top.specs.Top.{status_of, stream_of, IsReplay, IsBlocksReplay, IsBlocksFault, IsMade, IsInputFault, IsUnread, Does, Cause, Did, Expects, EndsAs, EndsAsExpected, top_fault, end_fault};
 ghost use Rattle.barrierfs_top.specs.Promise.{WentOut, TellsRun};
 ghost use Rattle.std.specs.String.{string_bytes};
 ghost use Rattle.barrierfs_top.specs.declared.command_line.Command.{Command};
@@ -11,7 +11,11 @@ ghost use Rattle.barrierfs_top.specs.declared.command_line.Sizes.{Sizes};
 ghost use Rattle.barrierfs_top.specs.declared.command_line.Task.{Task};
 ghost use Rattle.barrierfs_top.specs.Show.{shown, IsMountedFault};
 ghost use Rattle.barrierfs_top.specs.Widen.{IsWidened, IsWidenFault};
+ghost use Rattle.barrierfs_top.specs.Check.{IsChecked, IsCheckFault};
+ghost use Rattle.barrierfs_top.specs.Bulk.{IsWorkload};
 
+use crate::bulk::run_workload;
+use crate::check::check_image;
 use crate::command_line::{Command, Sizes, Task, Words};
 use crate::fault::TopFault;
 use crate::output::Output;
@@ -138,6 +142,21 @@ fn widen(alloc: Global, image: Image, raw: bool) -> Result<Printed, TopFault>
     })
 }
 
+// What is printed of an image that is clean.
+fn check(alloc: Global, image: Image) -> Result<Printed, TopFault>
+    ensures ok { IfOk result (λ p. IsChecked image None × (output_bytes p.output ≡ codes "clean\n") × (p.report ≡ None)) }
+    ensures err { IfErr result (IsCheckFault image) }
+{
+    check_image(alloc, image)?;
+    match String::from_str(alloc, "clean\n") {
+        Ok(text) => Ok(Printed {
+            report: None,
+            output: Output::Text(text),
+        }),
+        Err(_) => Err(TopFault::NoMemory),
+    }
+}
+
 // An image of these sizes, with names of the default width.
 fn make(alloc: Global, sizes: Sizes) -> Result<Printed, TopFault>
     requires { CanDo (Task.Make sizes) }
@@ -202,12 +221,26 @@ fn read_and_widen<R: Source>(alloc: Global, src: &mut R, raw: bool) -> Result<Pr
     }
 }
 
+// Reads an image block by block, and checks it.
+fn read_and_check<R: Source>(alloc: Global, src: &mut R) -> Result<Printed, TopFault>
+    ensures ok { (words : List (List ℕ)) → task_of words ≡ Some (Task.Read Command.Check) →
+        IfOk result (λ p. Does words (stream_of R.left R.faults src.old src.new) p.report (output_bytes p.output)) }
+    ensures err { (words : List (List ℕ)) → task_of words ≡ Some (Task.Read Command.Check) → IfErr result (Cause words (stream_of R.left R.faults src.old src.new)) }
+    ensures steady { (IsErrOf result TopFault.SourceFault → ⊥) → R.faults src.new ≡ R.faults src.old }
+{
+    match read_image(alloc, src, Command::Check.most()) {
+        Ok(image) => check(alloc, image),
+        Err(end) => Err(read_fault(end)),
+    }
+}
+
 // All that comes before the first write.
 fn prepare<R: Source>(alloc: Global, words: &Words, src: &mut R) -> Result<Printed, TopFault>
     ensures ok { IfOk result (λ p. Does words.now (stream_of R.left R.faults src.old src.new) p.report (output_bytes p.output)) }
     ensures err { IfErr result (Cause words.now (stream_of R.left R.faults src.old src.new)) }
     ensures words { task_of words.now ≡ None → IsErrOf result TopFault.BadWords }
     ensures made { (s : Sizes) → task_of words.now ≡ Some (Task.Make s) → IfErr result (λ fault. fault ≡ TopFault.NoMemory) }
+    ensures generated { (n : ℕ) → task_of words.now ≡ Some (Task.Bulk n) → IfErr result (λ fault. fault ≡ TopFault.NoMemory) }
     ensures unread { ((c : Command) → task_of words.now ≡ Some (Task.Read c) → ⊥) → IsUnread (stream_of R.left R.faults src.old src.new) }
     ensures steady { (IsErrOf result TopFault.SourceFault → ⊥) → R.faults src.new ≡ R.faults src.old }
 {
@@ -218,7 +251,9 @@ fn prepare<R: Source>(alloc: Global, words: &Words, src: &mut R) -> Result<Print
         Task::Read(Command::Replay { raw }) => read_and_run(alloc, src, raw),
         Task::Read(Command::Show) => read_and_show(alloc, src),
         Task::Read(Command::Widen { raw }) => read_and_widen(alloc, src, raw),
+        Task::Read(Command::Check) => read_and_check(alloc, src),
         Task::Make(sizes) => make(alloc, sizes),
+        Task::Bulk(number) => run_workload(alloc, number),
     }
 }
 
@@ -226,10 +261,12 @@ fn prepare<R: Source>(alloc: Global, words: &Words, src: &mut R) -> Result<Print
 /// the blocks, or of a volume script the replies to its calls and the tree that recovery finds, or with `--raw` the image that
 /// recovery leaves,
 /// `show` reads an image and writes the text of the tree that it has once its journal was recovered, `widen` gives the
-/// image names of 30 bytes and writes the text of the tree that it then has, or with `--raw` its bytes, and `make` with
-/// the numbers of inodes, blocks of the volume and blocks of the journal writes a new image.
+/// image names of 30 bytes and writes the text of the tree that it then has, or with `--raw` its bytes, `check` writes
+/// that the image is clean, or else its verdict is the fault, `make` with the numbers of inodes, blocks of the volume
+/// and blocks of the journal writes a new image, and `bulk` with a number runs the workload that is generated from it
+/// and writes the summary.
 ///
-/// The statuses are tested in the order 2, 5 and 7, 3 or 4, 9, 6. Status 8, want of memory, may come at any place
+/// The statuses are tested in the order 2, 5 and 7, 3 or 4, 9 or 10, 6. Status 8, want of memory, may come at any place
 /// before the first write.
 pub fn alone<R: Source, W: Sink>(alloc: Global, words: &Words, src: &mut R, out: &mut W) -> Outcome
     ensures promise { (bytes : List ℕ) → task_of words.now ≡ Some (Task.Read (Command.Replay false)) → WentOut (W.taken out.old) (W.taken out.new) bytes → TellsRun (R.left src.old) (R.left src.new) result.fault bytes }
@@ -237,9 +274,10 @@ pub fn alone<R: Source, W: Sink>(alloc: Global, words: &Words, src: &mut R, out:
     ensures did { Did words.now (stream_of R.left R.faults src.old src.new) (stream_of W.taken W.faults out.old out.new) result.report result.fault }
     ensures words { task_of words.now ≡ None → result.fault ≡ Some TopFault.BadWords }
     ensures unread { ((c : Command) → task_of words.now ≡ Some (Task.Read c) → ⊥) → IsUnread (stream_of R.left R.faults src.old src.new) }
-    ensures complete { (c : Command) → task_of words.now ≡ Some (Task.Read c) → (text : List ℕ) → R.left src.old ≡ Some text → ¬ Rose (R.faults src.old) (R.faults src.new) → ¬ Rose (W.faults out.old) (W.faults out.new) → EndsAs (expected c text) result.fault }
-    ensures refused { (c : Command) → task_of words.now ≡ Some (Task.Read c) → (text : List ℕ) → R.left src.old ≡ Some text → ¬ Rose (R.faults src.old) (R.faults src.new) → (fault : TopFault) → expected c text ≡ Some fault → EndsAs (Some fault) result.fault }
+    ensures complete { (c : Command) → task_of words.now ≡ Some (Task.Read c) → (text : List ℕ) → R.left src.old ≡ Some text → ¬ Rose (R.faults src.old) (R.faults src.new) → ¬ Rose (W.faults out.old) (W.faults out.new) → EndsAsExpected c text result.fault }
+    ensures refused { (c : Command) → task_of words.now ≡ Some (Task.Read c) → (text : List ℕ) → R.left src.old ≡ Some text → ¬ Rose (R.faults src.old) (R.faults src.new) → (fault : TopFault) → Expects c text (Some fault) → EndsAs (Some fault) result.fault }
     ensures made { (s : Sizes) → task_of words.now ≡ Some (Task.Make s) → ¬ Rose (W.faults out.old) (W.faults out.new) → EndsAs None result.fault }
+    ensures generated { (n : ℕ) → task_of words.now ≡ Some (Task.Bulk n) → ¬ Rose (W.faults out.old) (W.faults out.new) → EndsAs None result.fault }
     ensures source_steady { (result.fault ≡ Some TopFault.SourceFault → ⊥) → R.faults src.new ≡ R.faults src.old }
     ensures sink_steady { (result.fault ≡ Some TopFault.SinkFault → ⊥) → W.faults out.new ≡ W.faults out.old }
 {
@@ -286,5 +324,6 @@ pub(crate) fn status(fault: TopFault) -> u8
         TopFault::TooLong => 7,
         TopFault::NoMemory => 8,
         TopFault::NoRoom => 9,
+        TopFault::Unsound(_) => 10,
     }
 }

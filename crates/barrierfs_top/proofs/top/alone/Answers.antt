@@ -1,9 +1,10 @@
-use Rattle.std.proofs.Common.{Some, ap, inr}
+use Rattle.std.proofs.Common.{Some, ap, inr, ◌∙◌}
 use Rattle.barrierfs_top.specs.Text.{output_bytes}
 use Rattle.barrierfs_top.specs.declared.fault.TopFault.TheVariants as faults
 use Rattle.barrierfs_top.specs.Top.{stream_of}
 use Rattle.barrierfs_top.proofs.Ends.{ends_well, ends_early, ends_with, not_well}
 use Rattle.barrierfs_top.proofs.Promised.{none_out, went_out, front_out, promised}
+use Rattle.barrierfs_top.proofs.OneEnd.{same_err}
 use Rattle.barrierfs_top.proofs.top.alone.Goals as goal
 
 pub returns-in-Err-clause-promise : goal.returns-in-Err-clause-promise
@@ -70,3 +71,12 @@ pub returns-clause-refused : goal.returns-clause-refused
 returns-clause-refused g c = λ command asked text told calm fault is.
     let source = stream_of g.R.Source.left g.R.Source.faults c.args.src.now c.prepare.new.src in
     absurd (not_well command text fault is (ends_well c.args.words.now source c.in-Ok.printed.report (output_bytes c.in-Ok.printed.output) c.in-Ok.ensures.ok command asked text told))
+
+pub returns-in-Err-clause-generated : goal.returns-in-Err-clause-generated
+returns-in-Err-clause-generated g c = λ n asked quiet. rw c.failed.ensures.fault (inr (ap Some (c.in-Err.ensures.generated n asked)))
+
+pub returns-in-Err-clause-source_steady : goal.returns-in-Err-clause-source_steady
+returns-in-Err-clause-source_steady g c = λ other. c.in-Err.ensures.steady (λ is. other (c.failed.ensures.fault ∙ ap Some (same_err c.in-Err.fault faults.SourceFault is)))
+
+pub returns-clause-generated : goal.returns-clause-generated
+returns-clause-generated g c = λ n asked quiet. absurd (quiet c.in-Err-write.ensures.fault)
