@@ -16,6 +16,8 @@ use Rattle.changed_blocks.proofs.UnlinkBlocks.{unlink_changes}
 use Rattle.changed_blocks.proofs.RmdirBlocks.{rmdir_changes}
 use Rattle.changed_blocks.proofs.TruncateBlocks.{truncate_changes}
 use Rattle.changed_blocks.proofs.WriteBlocks.{write_changes}
+use Rattle.changed_blocks.proofs.CreateBlocks.{create_changes}
+use Rattle.changed_blocks.specs.Tidy.{IsTidy}
 
 none_changes : (v : VolumeNow) (c : Change) → c ≡ unchanged v → HasChanged v c
 none_changes v c e = subst (HasChanged v) (sym e) (λ b i was. absurd i)
@@ -50,3 +52,6 @@ pub write_blocks : (v : VolumeNow) (n tx : ℕ) (path : List ℕ) (off len value
 unfolding row changed
 write_blocks v n tx path off len value h marked = by_row v n tx (calls.Write path off len value)
     (λ d done. write_changes tx v n (calls.Write path off len value) h path off (replicate len value) d done refl (called_is tx v n (calls.Write path off len value) d done) (ends_of tx v n (calls.Write path off len value) h marked))
+
+pub create_blocks : (v : VolumeNow) (n tx : ℕ) (path : List ℕ) → FindsRoom v n (calls.Create path) → IsTidy v.geometry v.contents v.zones → HasChanged v (called v n tx (calls.Create path)).change
+create_blocks v n tx path h tidy = by_row v n tx (calls.Create path) (λ d done. create_changes tx v n path h d done (ends_of tx v n (calls.Create path) h tidy.marked) tidy)

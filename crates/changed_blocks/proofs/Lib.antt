@@ -10,4 +10,9 @@ pub mod Filling
 pub mod Rising
 pub mod MapBlocks
 pub mod WriteBlocks
+pub mod SlotBlocks
+pub mod RoomBlocks
+pub mod AddBlocks
+pub mod NewBlocks
+pub mod CreateBlocks
 pub mod AllBlocks

@@ -8,10 +8,11 @@ ghost use Rattle.volume_steps.specs.Calls.{called};
 ghost use Rattle.volume_steps.specs.Called.{FindsRoom};
 ghost use Rattle.clean_volumes.specs.Marked.{IsMarked};
 ghost use Rattle.changed_blocks.specs.Changed.{HasChanged};
+ghost use Rattle.changed_blocks.specs.Tidy.{IsTidy};
 
 /// A law, which does nothing when it is called: each block that a call touches and that was metadata before has other
-/// bytes after the whole call, done or refused. It is told here of removals, writes and cuts, and of calls that leave
-/// the tree as it is. The maps must mark what is in use, which calls keep.
+/// bytes after the whole call, done or refused. The maps must mark what is in use, which calls keep; where a name comes,
+/// the volume must be tidy.
 pub fn touched_blocks_have_changed()
     ensures quiet { (v : VolumeNow) (n tx : ℕ) (c : Call) → leaves_tree c ≡ true → HasChanged v (called v n tx c).change }
     ensures unlink { (v : VolumeNow) (n tx : ℕ) (path : List ℕ) →
@@ -29,4 +30,7 @@ pub fn touched_blocks_have_changed()
     ensures bytes { (v : VolumeNow) (n tx : ℕ) (path : List ℕ) (off : ℕ) (bytes : List ℕ) →
         FindsRoom v n (calls.Bytes path off bytes) → IsMarked v.geometry v.contents v.zones →
         HasChanged v (called v n tx (calls.Bytes path off bytes)).change }
+    ensures create { (v : VolumeNow) (n tx : ℕ) (path : List ℕ) →
+        FindsRoom v n (calls.Create path) → IsTidy v.geometry v.contents v.zones →
+        HasChanged v (called v n tx (calls.Create path)).change }
 {}
