@@ -1,5 +1,5 @@
 -- The blocks of a directory that gets a name.
-use Rattle.std.specs.Prelude.{◌≡◌, ◌≢◌, ◌⊎◌, ◌+◌, ◌*◌, ◌/◌, ◌%◌, ◌^◌, ◌<◌, ◌≤◌, ◌&&◌, nat_eq, ℕ, Bool, true, false, if◌then◌else◌, List, length, Option, Some, None, refl}
+use Rattle.std.specs.Prelude.{◌≡◌, ◌≢◌, ◌⊎◌, ◌+◌, ◌*◌, ◌/◌, ◌%◌, ◌^◌, ◌<◌, ◌≤◌, ◌&&◌, nat_eq, ℕ, Bool, true, false, if◌then◌else◌, List, length, Option, Some, None, option_map, refl}
 use Rattle.std.proofs.Common.{sym, ap, subst, ◌∙◌, inl, inr, arith, eq-eqb}
 use Rattle.std.proofs.lemmas.Bool.{cases_eq, ne_eqb}
 use Rattle.std.proofs.lemmas.Option.{same_Some}
@@ -17,7 +17,7 @@ use Rattle.volume_ops.specs.Volume.{disk_of}
 use Rattle.volume_model.specs.declared.placed.DirectoryPart.{DirectoryPart}
 use Rattle.volume_model.specs.declared.placed.Part.TheVariants as parts
 use Rattle.volume_model.specs.declared.placed.Placed.{Placed}
-use Rattle.volume_model.specs.Moves.{IsVolume, with_name, name_added}
+use Rattle.volume_model.specs.Moves.{IsVolume, with_name, name_added as slot_added}
 use Rattle.volume_model.specs.Plain.{HasSlotZones}
 use Rattle.volume_model.specs.Touched.{IsMeta}
 use Rattle.volume_model.specs.Trees.{directory_from}
@@ -27,7 +27,7 @@ use Rattle.volume_steps.specs.Now.{VolumeNow, Change, with_contents, unchanged, 
 use Rattle.volume_steps.specs.Plain.{IsInUse}
 use Rattle.volume_steps.specs.Steps.{at_node, tells_node, make_room, map_directory_block, put_name_slot, add_name, slot_told}
 use Rattle.volume_steps.specs.Zones.{take_zones}
-use Rattle.volume_steps.proofs.AddNames.{Where, where_is, hole, plenty}
+use Rattle.volume_steps.proofs.AddNames.{Where, where_is, hole, plenty, name_comes}
 use Rattle.volume_steps.proofs.AddNames.Where.{among, behind}
 use Rattle.volume_steps.proofs.NodeSteps.{IsSettled, AreSlotted}
 use Rattle.volume_steps.proofs.QuietSteps.{at_node_is, at_directory_is}
@@ -60,6 +60,12 @@ and_false false = refl
 
 -- ---- a name comes
 
+-- It has come, the volume is in use, and the directory has as many links as before.
+pub record IsAdded (v : VolumeNow) (n : ℕ) (p : Placed) (d : DirectoryPart) (s : Slot) (birth : ℕ) (c : Change) : Type 0 where
+  pub named : IsNamed v n p d s birth c
+  pub in_use : IsInUse c.volume
+  pub links : named.placed.inode.links ≡ p.inode.links
+
 module _ (tx : ℕ) (v : VolumeNow) (in_use : IsInUse v) (n : ℕ) (p : Placed) (at : at_number v.contents.nodes n ≡ Some p) (d : DirectoryPart) (is : p.part ≡ parts.Directory d)
     (name : List ℕ) (birth : ℕ) (child : Placed) (at_child : at_number v.contents.nodes birth ≡ Some child) (apart : birth ≢ n)
     (free_name : at_name d.names name ≡ None) (no_dot : is_dot name ≡ false) (entry : IsEntry v.geometry.width (record { inode = child.number; name = name }))
@@ -82,7 +88,7 @@ module _ (tx : ℕ) (v : VolumeNow) (in_use : IsInUse v) (n : ℕ) (p : Placed) 
   -- what puts the slot
   abbrev puts : VolumeNow → Placed → DirectoryPart → Placed → Change
   puts u p d child = record {
-    volume = with_contents u (name_added u.geometry u.contents n p d (record { inode = child.number; name = name }) birth);
+    volume = with_contents u (slot_added u.geometry u.contents n p d (record { inode = child.number; name = name }) birth);
     touched = tells_node n (slot_told u p (room d.slots) (with_name d (record { inode = child.number; name = name }) birth));
   }
 
@@ -162,7 +168,7 @@ module _ (tx : ℕ) (v : VolumeNow) (in_use : IsInUse v) (n : ℕ) (p : Placed) 
       ∙ ap (λ (b : Bool). if b then map_directory_block v n p d (length d.slots / slots_a_block v.geometry.width) else unchanged v) f
 
   -- The name is there, and why each block is told.
-  pub name_named : IsNamed v n p d s birth (add_name v n name birth)
+  name_named : IsNamed v n p d s birth (add_name v n name birth)
   name_named = by (where_is v.contents.nodes d name (in_use.volume.0.names n p d at is) free_name left)
     where
       by : Where d name → IsNamed v n p d s birth (add_name v n name birth)
@@ -173,6 +179,17 @@ module _ (tx : ℕ) (v : VolumeNow) (in_use : IsInUse v) (n : ℕ) (p : Placed) 
         | inr part ↦ here_named (slot_zones.no_hole (room d.slots / slots_a_block v.geometry.width) (part_begins (slot_size v.geometry.width) (slots_a_block v.geometry.width) form (room d.slots) (length d.slots) all part))
             (no_room (rw (ne_eqb (length d.slots % slots_a_block v.geometry.width) 0 part) (and_false (nat_eq (room d.slots) (length d.slots)))))
       ]
+
+  pub name_added : IsAdded v n p d s birth (add_name v n name birth)
+  name_added =
+      let named = name_named in
+      let step = name_comes tx v in_use n p at d is name birth child at_child apart free_name no_dot entry old full left enough in
+      record {
+        named = named;
+        in_use = step.steady.in_use;
+        links = same_Some named.placed.inode.links p.inode.links
+            (sym (ap (option_map (λ (p : Placed). p.inode.links)) named.stands) ∙ (step.links_are n ∙ ap (option_map (λ (p : Placed). p.inode.links)) at));
+      }
 
 -- ---- both ends of a call
 

@@ -17,6 +17,7 @@ use Rattle.changed_blocks.proofs.RmdirBlocks.{rmdir_changes}
 use Rattle.changed_blocks.proofs.TruncateBlocks.{truncate_changes}
 use Rattle.changed_blocks.proofs.WriteBlocks.{write_changes}
 use Rattle.changed_blocks.proofs.CreateBlocks.{create_changes}
+use Rattle.changed_blocks.proofs.MkdirBlocks.{mkdir_changes}
 use Rattle.changed_blocks.specs.Tidy.{IsTidy}
 
 none_changes : (v : VolumeNow) (c : Change) → c ≡ unchanged v → HasChanged v c
@@ -55,3 +56,6 @@ write_blocks v n tx path off len value h marked = by_row v n tx (calls.Write pat
 
 pub create_blocks : (v : VolumeNow) (n tx : ℕ) (path : List ℕ) → FindsRoom v n (calls.Create path) → IsTidy v.geometry v.contents v.zones → HasChanged v (called v n tx (calls.Create path)).change
 create_blocks v n tx path h tidy = by_row v n tx (calls.Create path) (λ d done. create_changes tx v n path h d done (ends_of tx v n (calls.Create path) h tidy.marked) tidy)
+
+pub mkdir_blocks : (v : VolumeNow) (n tx : ℕ) (path : List ℕ) → FindsRoom v n (calls.Mkdir path) → IsTidy v.geometry v.contents v.zones → HasChanged v (called v n tx (calls.Mkdir path)).change
+mkdir_blocks v n tx path h tidy = by_row v n tx (calls.Mkdir path) (λ d done. mkdir_changes tx v n path h d done (ends_of tx v n (calls.Mkdir path) h tidy.marked) tidy)

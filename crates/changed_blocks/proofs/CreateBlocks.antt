@@ -31,7 +31,7 @@ use Rattle.volume_steps.proofs.Taking.{frees}
 use Rattle.volume_model.specs.laws.Changes.{table_below}
 use Rattle.changed_blocks.specs.Changed.{HasChanged}
 use Rattle.changed_blocks.specs.Tidy.{IsTidy}
-use Rattle.changed_blocks.proofs.AddBlocks.{name_named, named_changes}
+use Rattle.changed_blocks.proofs.AddBlocks.{IsAdded, name_added, named_changes}
 use Rattle.changed_blocks.proofs.Ends.{Ends}
 use Rattle.changed_blocks.proofs.NewBlocks.{left_rises, new_changes}
 use Rattle.changed_blocks.proofs.Rising.{Rises, rises_then, told_later}
@@ -92,13 +92,16 @@ module _ (tx : ℕ) (v : VolumeNow) (n : ℕ) (path : List ℕ) (h : FindsRoom v
   abbrev named : Change
   named = add_name v1 place.parent place.name n
 
-  added : IsNamed v1 place.parent new.at.placed new.at.part slot n named
-  added =
+  comes : IsAdded v1 place.parent new.at.placed new.at.part slot n named
+  comes =
       let some = is_new in
-      name_named tx v1 first.in_use place.parent new.at.placed at1 new.at.part new.at.is place.name n q child1 (λ e. apart (sym e)) new.free (good_no_dot place.name new.good)
+      name_added tx v1 first.in_use place.parent new.at.placed at1 new.at.part new.at.is place.name n q child1 (λ e. apart (sym e)) new.free (good_no_dot place.name new.good)
       (entry_at v place.parent place.directory h.plain.in_use new.at place.name number new.good new.short some.some (let within = some.within in let fit = h.plain.in_use.sound.fits.inodes in omega arith))
       (file_made_settled tx v h.plain.in_use n none lower (settled_before v h.plain) (birth_not_root v n (tree_is_plain v h.plain) h.born)) (file_made_slotted tx v h.plain.in_use n none lower (slotted_before v h.plain))
       new.left (more tx v h.plain n h.born path d done enough)
+
+  abbrev added : IsNamed v1 place.parent new.at.placed new.at.part slot n named
+  added = comes.named
 
   before_zones : (b : ℕ) → In b made.touched.blocks → b < v.geometry.first
   before_zones b i =

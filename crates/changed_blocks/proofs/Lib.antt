@@ -15,4 +15,6 @@ pub mod RoomBlocks
 pub mod AddBlocks
 pub mod NewBlocks
 pub mod CreateBlocks
+pub mod Links
+pub mod MkdirBlocks
 pub mod AllBlocks

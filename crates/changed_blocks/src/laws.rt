@@ -33,4 +33,7 @@ pub fn touched_blocks_have_changed()
     ensures create { (v : VolumeNow) (n tx : ℕ) (path : List ℕ) →
         FindsRoom v n (calls.Create path) → IsTidy v.geometry v.contents v.zones →
         HasChanged v (called v n tx (calls.Create path)).change }
+    ensures mkdir { (v : VolumeNow) (n tx : ℕ) (path : List ℕ) →
+        FindsRoom v n (calls.Mkdir path) → IsTidy v.geometry v.contents v.zones →
+        HasChanged v (called v n tx (calls.Mkdir path)).change }
 {}
