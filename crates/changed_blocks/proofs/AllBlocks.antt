@@ -18,6 +18,7 @@ use Rattle.changed_blocks.proofs.TruncateBlocks.{truncate_changes}
 use Rattle.changed_blocks.proofs.WriteBlocks.{write_changes}
 use Rattle.changed_blocks.proofs.CreateBlocks.{create_changes}
 use Rattle.changed_blocks.proofs.MkdirBlocks.{mkdir_changes}
+use Rattle.changed_blocks.proofs.LinkBlocks.{link_changes}
 use Rattle.changed_blocks.specs.Tidy.{IsTidy}
 
 none_changes : (v : VolumeNow) (c : Change) → c ≡ unchanged v → HasChanged v c
@@ -59,3 +60,6 @@ create_blocks v n tx path h tidy = by_row v n tx (calls.Create path) (λ d done.
 
 pub mkdir_blocks : (v : VolumeNow) (n tx : ℕ) (path : List ℕ) → FindsRoom v n (calls.Mkdir path) → IsTidy v.geometry v.contents v.zones → HasChanged v (called v n tx (calls.Mkdir path)).change
 mkdir_blocks v n tx path h tidy = by_row v n tx (calls.Mkdir path) (λ d done. mkdir_changes tx v n path h d done (ends_of tx v n (calls.Mkdir path) h tidy.marked) tidy)
+
+pub link_blocks : (v : VolumeNow) (n tx : ℕ) (path other : List ℕ) → FindsRoom v n (calls.Link path other) → IsTidy v.geometry v.contents v.zones → HasChanged v (called v n tx (calls.Link path other)).change
+link_blocks v n tx path other h tidy = by_row v n tx (calls.Link path other) (λ d done. link_changes tx v n path other h d done (ends_of tx v n (calls.Link path other) h tidy.marked) tidy)

@@ -17,4 +17,5 @@ pub mod NewBlocks
 pub mod CreateBlocks
 pub mod Links
 pub mod MkdirBlocks
+pub mod LinkBlocks
 pub mod AllBlocks

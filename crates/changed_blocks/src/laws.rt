@@ -36,4 +36,7 @@ pub fn touched_blocks_have_changed()
     ensures mkdir { (v : VolumeNow) (n tx : ℕ) (path : List ℕ) →
         FindsRoom v n (calls.Mkdir path) → IsTidy v.geometry v.contents v.zones →
         HasChanged v (called v n tx (calls.Mkdir path)).change }
+    ensures link { (v : VolumeNow) (n tx : ℕ) (path other : List ℕ) →
+        FindsRoom v n (calls.Link path other) → IsTidy v.geometry v.contents v.zones →
+        HasChanged v (called v n tx (calls.Link path other)).change }
 {}
