@@ -1,0 +1,6 @@
+use Rattle.std.proofs.Common.{◌≡◌, ◌++◌, drop, map}
+use Rattle.store_calls.specs.CallText.{call_line}
+use Rattle.store_grammar.proofs.made.lines_of.Given as goal
+
+abbrev pub invariant-loop-call : goal.invariant-loop-call
+invariant-loop-call l = l.lines ++ map call_line (drop l.call-index l.calls) ≡ map call_line l.calls

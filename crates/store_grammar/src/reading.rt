@@ -1,0 +1,39 @@
+//! What was read of a store's script so far.
+use event_grammar::{Events, SteerList};
+use wal_store::Ops;
+
+/// The parts of a script, after its first line.
+#[derive(Clone, Copy, PartialEq, Eq, Debug)]
+pub enum Section {
+    Header,
+    /// What is asked of the store.
+    Asking,
+    Events,
+    Recovery,
+}
+
+/// What the header lines said so far.
+#[derive(Clone, Copy, PartialEq, Eq, Debug)]
+pub struct HeaderSoFar {
+    pub depth: Option<u32>,
+    pub queue: Option<u32>,
+    pub fail: Option<u64>,
+    pub cut: Option<u64>,
+}
+
+/// The state of reading between two lines.
+#[derive(Drop)]
+pub struct Reading {
+    pub room: u32,
+    pub told: HeaderSoFar,
+    pub section: Section,
+    pub ops: Ops,
+    /// How many puts there are.
+    pub puts: u32,
+    /// How many calls the store makes of them, with those that make its log.
+    pub calls: u32,
+    pub events: Events,
+    /// How many events there are, with their repeats.
+    pub expanded: u64,
+    pub recovers: SteerList,
+}
