@@ -1,0 +1,15 @@
+pub mod Acknowledged
+pub mod DoneStores
+pub mod Held
+pub mod HeldStores
+pub mod Log
+pub mod LogBlocks
+pub mod LogSession
+pub mod LogTrees
+pub mod LogZones
+pub mod MadeStores
+pub mod Order
+pub mod Paths
+pub mod StoreFacts
+pub mod StoreLaws
+pub mod Writes

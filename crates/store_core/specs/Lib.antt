@@ -1,0 +1,4 @@
+pub mod Order
+pub mod Program
+pub mod Store
+pub mod Stores
