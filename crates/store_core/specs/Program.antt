@@ -12,6 +12,7 @@ use Rattle.session_promises.specs.Answers.{node_in}
 use Rattle.session_promises.specs.Entries.{BeginsAt, EndsAt}
 use Rattle.session_promises.specs.Trees.{tree_at}
 use Rattle.session_grammar.specs.declared.session_script.SessionScript.{SessionScript}
+pub use Rattle.store_calls.specs.Calls.{log_path}
 use Rattle.session_core.specs.Core.{EndState, opening_of}
 use Rattle.session_core.specs.Headline.{told_by}
 use Rattle.store_core.specs.Store.{Numbering, Decodes, IsPutAt, IsBlank}
@@ -21,10 +22,7 @@ pub data LogStep : Type 0 where
   Put : List ℕ → LogStep
   Flush : LogStep
 
--- `/log`, and its names
-abbrev pub log_path : List ℕ
-log_path = 47 ∷ 108 ∷ 111 ∷ 103 ∷ []
-
+-- the names of the path of the log
 abbrev pub log_names : List (List ℕ)
 log_names = (108 ∷ 111 ∷ 103 ∷ []) ∷ []
 
