@@ -37,7 +37,7 @@ use Rattle.tree_model.specs.laws.MapsLaws.{at_put_number, at_put_number_apart}
 use Rattle.changed_blocks.specs.Tidy.{IsTidy}
 use Rattle.changed_blocks.proofs.Ends.{Ends, node_differs}
 use Rattle.changed_blocks.proofs.Rising.{own, Rises, Told, told_changes}
-use Rattle.changed_blocks.proofs.RoomBlocks.{room_raised, room_others}
+use Rattle.changed_blocks.proofs.RoomBlocks.{room_raised, room_others, room_theirs}
 use Rattle.changed_blocks.proofs.SlotBlocks.{IsNamed, put_named, named_later, room_was_free, slot_differs}
 
 -- ---- counts of slots, by the slots of a block
@@ -157,7 +157,7 @@ module _ (tx : ℕ) (v : VolumeNow) (in_use : IsInUse v) (n : ℕ) (p : Placed) 
         let raised = room_raised v in_use n p d at is index high gap taken in
         let same : rp ≡ raised.placed = same_Some rp raised.placed (sym r_at ∙ raised.stands) in
         subst (IsNamed v n p d s birth) (sym there_is)
-        (named_later v n p d s birth (map_directory_block v n p d index) (λ w. puts w rp d child) raised (room_others v in_use n p d at is index high gap taken)
+        (named_later v n p d s birth (map_directory_block v n p d index) (λ w. puts w rp d child) raised (room_others v in_use n p d at is index high gap taken) (room_theirs v in_use n p d at is index high gap taken)
         (subst (λ q. IsNamed r n q d s birth (puts r rp d child)) same (put_named r in_use.sound r_stands n rp r_at d refl s birth put)))
 
   -- ---- both

@@ -1,6 +1,6 @@
 -- Each call: what is told of its blocks.
 use Rattle.std.specs.Prelude.{◌≡◌, ℕ, true, List, replicate, Ok, Err, refl}
-use Rattle.std.proofs.Common.{sym, ap, subst, ◌∙◌}
+use Rattle.std.proofs.Common.{sym, ap, subst, ◌∙◌, arith}
 use Rattle.tree_model.specs.declared.call.Call.{Call}
 use Rattle.tree_model.specs.declared.call.Call.TheVariants as calls
 use Rattle.tree_model.specs.Calls.{Done, Row, outcome, row, leaves_tree}
@@ -8,10 +8,11 @@ use Rattle.volume_steps.specs.Now.{VolumeNow, Change, tree_of_now, room_of, unch
 use Rattle.volume_steps.specs.Calls.{called, called_by, changed}
 use Rattle.volume_steps.specs.Called.{FindsRoom}
 use Rattle.volume_steps.proofs.Called.{quiet_changed}
-use Rattle.volume_steps.proofs.FileCalls.{called_is}
+use Rattle.volume_steps.proofs.CallPaths.{done_row}
+use Rattle.volume_steps.proofs.FileCalls.{called_is, needs_is}
 use Rattle.clean_volumes.specs.Marked.{IsMarked}
 use Rattle.changed_blocks.specs.Changed.{HasChanged}
-use Rattle.changed_blocks.proofs.Ends.{ends_of}
+use Rattle.changed_blocks.proofs.Ends.{Ends, ends_of}
 use Rattle.changed_blocks.proofs.UnlinkBlocks.{unlink_changes}
 use Rattle.changed_blocks.proofs.RmdirBlocks.{rmdir_changes}
 use Rattle.changed_blocks.proofs.TruncateBlocks.{truncate_changes}
@@ -19,6 +20,7 @@ use Rattle.changed_blocks.proofs.WriteBlocks.{write_changes}
 use Rattle.changed_blocks.proofs.CreateBlocks.{create_changes}
 use Rattle.changed_blocks.proofs.MkdirBlocks.{mkdir_changes}
 use Rattle.changed_blocks.proofs.LinkBlocks.{link_changes}
+use Rattle.changed_blocks.proofs.RenameBlocks.{rename_changes}
 use Rattle.changed_blocks.specs.Tidy.{IsTidy}
 
 none_changes : (v : VolumeNow) (c : Change) → c ≡ unchanged v → HasChanged v c
@@ -63,3 +65,11 @@ mkdir_blocks v n tx path h tidy = by_row v n tx (calls.Mkdir path) (λ d done. m
 
 pub link_blocks : (v : VolumeNow) (n tx : ℕ) (path other : List ℕ) → FindsRoom v n (calls.Link path other) → IsTidy v.geometry v.contents v.zones → HasChanged v (called v n tx (calls.Link path other)).change
 link_blocks v n tx path other h tidy = by_row v n tx (calls.Link path other) (λ d done. link_changes tx v n path other h d done (ends_of tx v n (calls.Link path other) h tidy.marked) tidy)
+
+pub rename_blocks : (v : VolumeNow) (n tx : ℕ) (path other : List ℕ) → FindsRoom v n (calls.Rename path other) → IsTidy v.geometry v.contents v.zones → HasChanged v (called v n tx (calls.Rename path other)).change
+unfolding changed
+rename_blocks v n tx path other h tidy = by_row v n tx (calls.Rename path other) (λ d done.
+    let is = called_is tx v n (calls.Rename path other) d done in
+    let needed = needs_is tx v n (calls.Rename path other) d (done_row (room_of v.geometry) (tree_of_now v) n (calls.Rename path other) d done).0 in
+    let found = h.enough in
+    subst (HasChanged v) (sym is) (rename_changes tx v h.plain n h.born path other d done (omega arith) (subst (Ends tx v) is (ends_of tx v n (calls.Rename path other) h tidy.marked)) tidy))

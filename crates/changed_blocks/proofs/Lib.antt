@@ -18,4 +18,8 @@ pub mod CreateBlocks
 pub mod Links
 pub mod MkdirBlocks
 pub mod LinkBlocks
+pub mod SlotSteps
+pub mod RenameStart
+pub mod BelowBlocks
+pub mod RenameBlocks
 pub mod AllBlocks

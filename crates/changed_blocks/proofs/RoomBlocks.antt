@@ -1,5 +1,5 @@
 -- The blocks of a directory that gets a block more.
-use Rattle.std.specs.Prelude.{◌≡◌, ◌≢◌, ◌<◌, ◌≤◌, ℕ, true, List, ◌++◌, map, length, Some, refl}
+use Rattle.std.specs.Prelude.{◌≡◌, ◌≢◌, ◌⊎◌, ◌<◌, ◌≤◌, ℕ, true, List, ◌++◌, map, length, Some, refl}
 use Rattle.std.proofs.Common.{sym, ap, subst, ◌∙◌, inl, inr, ⊎_elim}
 use Rattle.blk_base.specs.Members.{In}
 use Rattle.blk_base.specs.laws.Members.{In-append_cases}
@@ -23,13 +23,15 @@ use Rattle.volume_model.specs.Ways.{way}
 use Rattle.volume_model.specs.laws.Back.{told_table}
 use Rattle.volume_model.specs.laws.MapBlock.{Outcome, IsFresh}
 use Rattle.volume_model.specs.laws.OnWay.{in_list}
-use Rattle.volume_model.specs.laws.ZoneMoves.{fit_before, grown, map_outcome, MapWrites, MayMove, may_map, map_directory, same_zone}
+use Rattle.volume_model.specs.laws.ZoneMoves.{fit_before, grown, map_outcome, MapWrites, MayMove, may_map, map_directory, may_change, same_zone}
+use Rattle.volume_model.specs.laws.NodeMoves.{same_zone as node_zone}
+use Rattle.volume_steps.proofs.Bits.{kept_zone}
 use Rattle.volume_steps.specs.Now.{VolumeNow, Change, written}
 use Rattle.volume_steps.specs.Plain.{IsInUse}
 use Rattle.volume_steps.specs.Steps.{map_directory_block}
 use Rattle.volume_steps.specs.Zones.{TakenFor, take_zones, zone_bit}
 use Rattle.volume_steps.proofs.Taking.{AreTaken, frees, in_zones}
-use Rattle.volume_steps.proofs.TakeZones.{are_taken, turn, turn_in, volume_marked, own_marked, free_marked}
+use Rattle.volume_steps.proofs.TakeZones.{are_taken, turn, turn_in, marks_change_none, volume_marked, own_marked, free_marked}
 use Rattle.changed_blocks.proofs.Ends.{told_differs, bits_told}
 use Rattle.changed_blocks.proofs.Filling.{way_fills, way_inode}
 use Rattle.changed_blocks.proofs.MapBlocks.{IsRaised}
@@ -154,3 +156,9 @@ module _ (v : VolumeNow) (h : IsInUse v) (n : ℕ) (p : Placed) (d : DirectoryPa
 
   pub room_others : (a : ℕ) → a ≢ n → at_number mapped.volume.contents.nodes a ≡ at_number v.contents.nodes a
   room_others a apart = at_put_number_apart v.contents.nodes n q a apart
+
+  -- each other node keeps its zones
+  pub room_theirs : (a : ℕ) (r : Placed) → at_number v.contents.nodes a ≡ Some r → a ≢ n → (y : Place) → zone_in mapped.volume.contents.blocks r.inode y ≡ zone_in v.contents.blocks r.inode y
+  room_theirs a r found apart y =
+      node_zone g c.blocks w.blocks c.nodes n p q (λ z. Z z ⊎ ⊥) volume.0 (may_change g h.sound c.blocks c.nodes n p volume.0 at u (parts.Directory d) Z may) a r found apart y
+      ∙ kept_zone g v.contents h.volume c.blocks (marks_change_none v h n p at index enough) a r found y

@@ -26,7 +26,8 @@ use Rattle.volume_model.specs.Touched.{IsMeta}
 use Rattle.volume_model.specs.Volume.{Place, block, zone_in, HasSlot, IsDirectoryPart, IsPart}
 use Rattle.volume_model.specs.laws.Back.{told_table}
 use Rattle.volume_model.specs.laws.SlotMoves.{MayPut, may_move, put_open, same_zone}
-use Rattle.volume_model.specs.laws.ZoneMoves.{same_zone as moved_zone}
+use Rattle.volume_model.specs.laws.ZoneMoves.{may_change, same_zone as moved_zone}
+use Rattle.volume_model.specs.laws.NodeMoves.{same_zone as node_zone}
 use Rattle.volume_steps.specs.Now.{VolumeNow, Change, with_contents, followed_by}
 use Rattle.volume_steps.specs.Plain.{IsInUse}
 use Rattle.volume_steps.specs.Steps.{tells_node, slot_told}
@@ -37,43 +38,41 @@ use Rattle.changed_blocks.proofs.Rising.{own, Rises, Told, rises_then, told_firs
 
 -- ---- a slot at both ends of a call
 
-abbrev SlotIn : VolumeNow → ℕ → ℕ → Result (Option Slot) LayoutFault
-SlotIn v zone k = slot_of v.geometry.width (record_at (slot_size v.geometry.width) (k % slots_a_block v.geometry.width) (disk_of v.contents.blocks zone))
-
--- its zone
+-- the zone of a slot
 abbrev pub slot_zone : VolumeNow → Placed → ℕ → ℕ
 slot_zone v p k = own v p (block (k / slots_a_block v.geometry.width))
 
--- A directory has another slot at this place: its block is another one, where it was metadata.
+-- A directory has another slot at this place, in the zone that it had: its block is another one.
+pub slot_differs_here : (tx : ℕ) (v : VolumeNow) (c : Change) (e : Ends tx v c) (n : ℕ) (q : Placed) → at_number c.volume.contents.nodes n ≡ Some q → (next : DirectoryPart) → q.part ≡ parts.Directory next →
+    (k : ℕ) (was now : Option Slot) → slice_get next.slots k ≡ Some now → was ≢ now → (p : Placed) → HasSlot v.geometry v.contents.blocks p.inode k was →
+    own c.volume q (block (k / slots_a_block v.geometry.width)) ≡ slot_zone v p k →
+    disk_of c.volume.contents.blocks (slot_zone v p k) ≢ disk_of v.contents.blocks (slot_zone v p k)
+slot_differs_here tx v c e n q at next is k was now stands other p before kept same =
+    other (as_one (sym before.stands ∙ (ap (λ body. slot_of v.geometry.width (record_at (slot_size v.geometry.width) (k % slots_a_block v.geometry.width) body)) (sym same)
+    ∙ (ap (λ z. slot_of v.geometry.width (record_at (slot_size v.geometry.width) (k % slots_a_block v.geometry.width) (disk_of c.volume.contents.blocks z))) (sym kept) ∙ (part.slots k now stands).stands))))
+  where
+    part : IsDirectoryPart v.geometry c.volume.contents.blocks q.inode next
+    part = subst (λ g. IsDirectoryPart g c.volume.contents.blocks q.inode next) e.geometry (subst (IsPart c.volume.geometry c.volume.contents.blocks q.inode) is (e.after.in_use.volume.0.each n q at).part)
+
+    as_one : ◌≡◌ {A = Result (Option Slot) LayoutFault} (Ok was) (Ok now) → was ≡ now
+    as_one e = cc
+
+-- The same where the zone may be a new one, which was no metadata.
 pub slot_differs : (tx : ℕ) (v : VolumeNow) (c : Change) (e : Ends tx v c) (n : ℕ) (p q : Placed) → at_number v.contents.nodes n ≡ Some p → at_number c.volume.contents.nodes n ≡ Some q → Rises v c.volume p q →
     (next : DirectoryPart) → q.part ≡ parts.Directory next → (k : ℕ) (was now : Option Slot) → slice_get next.slots k ≡ Some now → was ≢ now →
     (slot_zone v p k ≢ 0 → HasSlot v.geometry v.contents.blocks p.inode k was) →
     IsMeta v.geometry v.contents (own c.volume q (block (k / slots_a_block v.geometry.width))) →
     disk_of c.volume.contents.blocks (own c.volume q (block (k / slots_a_block v.geometry.width))) ≢ disk_of v.contents.blocks (own c.volume q (block (k / slots_a_block v.geometry.width)))
-slot_differs tx v c e n p q at at_now rises next is k was now stands other before meta same = elim (cases_Bool (nat_eq (slot_zone v p k) 0)) [
-  | inl t ↦ not_free v e.before.in_use zone meta (rises.taken (block (k / per)) (eqb-true _ _ t) after.mapped)
+slot_differs tx v c e n p q at at_now rises next is k was now stands other before meta = elim (cases_Bool (nat_eq (slot_zone v p k) 0)) [
+  | inl t ↦ absurd (not_free v e.before.in_use (own c.volume q (block (k / slots_a_block v.geometry.width))) meta (rises.taken (block (k / slots_a_block v.geometry.width)) (eqb-true _ _ t) (part.slots k now stands).mapped))
   | inr f ↦
       let there = eqb-false _ _ f in
-      let kept : zone ≡ slot_zone v p k = rises.kept (block (k / per)) there in
-      other (as_one (sym (before there).stands
-      ∙ (ap (λ z. SlotIn v z k) (sym kept)
-      ∙ (ap (λ body. slot_of v.geometry.width (record_at (slot_size v.geometry.width) (k % per) body)) (sym same) ∙ after.stands))))
+      let kept = rises.kept (block (k / slots_a_block v.geometry.width)) there in
+      subst (λ z. disk_of c.volume.contents.blocks z ≢ disk_of v.contents.blocks z) (sym kept) (slot_differs_here tx v c e n q at_now next is k was now stands other p (before there) kept)
 ]
   where
-    per : ℕ
-    per = slots_a_block v.geometry.width
-
-    zone : ℕ
-    zone = own c.volume q (block (k / slots_a_block v.geometry.width))
-
     part : IsDirectoryPart v.geometry c.volume.contents.blocks q.inode next
     part = subst (λ g. IsDirectoryPart g c.volume.contents.blocks q.inode next) e.geometry (subst (IsPart c.volume.geometry c.volume.contents.blocks q.inode) is (e.after.in_use.volume.0.each n q at_now).part)
-
-    after : HasSlot v.geometry c.volume.contents.blocks q.inode k now
-    after = part.slots k now stands
-
-    as_one : ◌≡◌ {A = Result (Option Slot) LayoutFault} (Ok was) (Ok now) → was ≡ now
-    as_one e = cc
 
 -- ---- a slot is written
 
@@ -96,6 +95,13 @@ module _ (v : VolumeNow) (sound : IsSound v.geometry) (volume : IsVolume v.geome
       (λ b. b ≡ zone_in v.contents.blocks p.inode (block (k / slots_a_block g.width))) (may_move g sound v.contents n p volume at d is k o next put) y
       ∙ same_zone g sound v.contents n p volume at d is k o next put y
 
+  -- and so does each other node
+  pub put_theirs : (a : ℕ) (r : Placed) → at_number v.contents.nodes a ≡ Some r → a ≢ n → (y : Place) → own put_volume r y ≡ own v r y
+  put_theirs a r found apart =
+      node_zone g v.contents.blocks put_volume.contents.blocks v.contents.nodes n p put_placed (λ z. (z ≡ zone_in v.contents.blocks p.inode (block (k / slots_a_block g.width))) ⊎ ⊥) volume.0
+      (may_change g sound v.contents.blocks v.contents.nodes n p volume.0 at (put_open g sound v.contents n p volume at d is k o next put) (parts.Directory next)
+      (λ b. b ≡ zone_in v.contents.blocks p.inode (block (k / slots_a_block g.width))) (may_move g sound v.contents n p volume at d is k o next put)) a r found apart
+
   pub put_rises : Rises v put_volume p put_placed
   put_rises = record {
     number = refl;
@@ -115,6 +121,7 @@ pub record IsNamed (v : VolumeNow) (n : ℕ) (p : Placed) (d : DirectoryPart) (s
   pub rises : Rises v c.volume p placed
   pub geometry : c.volume.geometry ≡ v.geometry
   pub others : (a : ℕ) → a ≢ n → at_number c.volume.contents.nodes a ≡ at_number v.contents.nodes a
+  pub theirs : (a : ℕ) (r : Placed) → at_number v.contents.nodes a ≡ Some r → a ≢ n → (y : Place) → own c.volume r y ≡ own v r y
   pub told : (b : ℕ) → In b c.touched.blocks →
       Told v c.volume p placed b ⊎ ((own c.volume placed (block (room d.slots / slots_a_block v.geometry.width)) ≡ b) ⊎ ((table_block v.geometry p.number ≡ b) × (placed.inode.size ≢ p.inode.size)))
 
@@ -132,6 +139,7 @@ put_named v sound volume n p at d is s birth put = record {
   rises = put_rises v sound volume n p at d is (room d.slots) (Some s) (with_name d s birth) put;
   geometry = refl;
   others = λ a apart. at_put_number_apart v.contents.nodes n _ a apart;
+  theirs = put_theirs v sound volume n p at d is (room d.slots) (Some s) (with_name d s birth) put;
   told = λ b i. elim i [
     | inl e ↦ inr (inl (put_zones v sound volume n p at d is (room d.slots) (Some s) (with_name d s birth) put (block (room d.slots / slots_a_block v.geometry.width)) ∙ e))
     | inr j ↦ inr (inr (sym (told_table v.geometry p (with_size p.inode now) b j), (λ same. told_differs v.geometry p (with_size p.inode now) b j (sized same))))
@@ -146,14 +154,16 @@ put_named v sound volume n p at d is s birth put = record {
 
 -- after the directory got zones
 pub named_later : (v : VolumeNow) (n : ℕ) (p : Placed) (d : DirectoryPart) (s : Slot) (birth : ℕ) (c : Change) (next : VolumeNow → Change) → (one : IsRaised v n p c) →
-    ((a : ℕ) → a ≢ n → at_number c.volume.contents.nodes a ≡ at_number v.contents.nodes a) → IsNamed c.volume n one.placed d s birth (next c.volume) → IsNamed v n p d s birth (followed_by c next)
-named_later v n p d s birth c next one others two = record {
+    ((a : ℕ) → a ≢ n → at_number c.volume.contents.nodes a ≡ at_number v.contents.nodes a) →
+    ((a : ℕ) (r : Placed) → at_number v.contents.nodes a ≡ Some r → a ≢ n → (y : Place) → own c.volume r y ≡ own v r y) → IsNamed c.volume n one.placed d s birth (next c.volume) → IsNamed v n p d s birth (followed_by c next)
+named_later v n p d s birth c next one others theirs two = record {
   placed = two.placed;
   stands = two.stands;
   part = two.part;
   rises = rises_then v c.volume (next c.volume).volume p one.placed two.placed one.rises two.rises;
   geometry = two.geometry ∙ one.geometry;
   others = λ a apart. two.others a apart ∙ others a apart;
+  theirs = λ a r found apart y. two.theirs a r (others a apart ∙ found) apart y ∙ theirs a r found apart y;
   told = λ b i. elim (In-append_cases c.touched.blocks (next c.volume).touched.blocks b i) [
     | inl j ↦ inl (told_first v c.volume (next c.volume).volume p one.placed two.placed two.rises b (one.told b j))
     | inr j ↦ elim (two.told b j) [
@@ -168,10 +178,10 @@ named_later v n p d s birth c next one others two = record {
 
 -- ---- both ends
 
--- the slot for a name was free, or stood behind the last one
-pub room_was_free : (v : VolumeNow) → IsInUse v → IsTidy v.geometry v.contents v.zones → (n : ℕ) (p : Placed) (d : DirectoryPart) → at_number v.contents.nodes n ≡ Some p → p.part ≡ parts.Directory d →
-    slot_zone v p (room d.slots) ≢ 0 → HasSlot v.geometry v.contents.blocks p.inode (room d.slots) None
-room_was_free v h tidy n p d at is mapped = by (slice_get d.slots (room d.slots)) refl
+-- a slot that no name has was free, or stood behind the last one
+pub was_free : (v : VolumeNow) → IsInUse v → IsTidy v.geometry v.contents v.zones → (n : ℕ) (p : Placed) (d : DirectoryPart) → at_number v.contents.nodes n ≡ Some p → p.part ≡ parts.Directory d →
+    (k : ℕ) → ((s : Slot) → slice_get d.slots k ≡ Some (Some s) → ⊥) → slot_zone v p k ≢ 0 → HasSlot v.geometry v.contents.blocks p.inode k None
+was_free v h tidy n p d at is k none mapped = by (slice_get d.slots k) refl
   where
     part : IsDirectoryPart v.geometry v.contents.blocks p.inode d
     part = subst (IsPart v.geometry v.contents.blocks p.inode) is (h.volume.0.each n p at).part
@@ -184,7 +194,12 @@ room_was_free v h tidy n p d at is mapped = by (slice_get d.slots (room d.slots)
     past : (slots : List (Option Slot)) (k : ℕ) → slice_get slots k ≡ None → length slots ≤ k
     past slots k e = elim (cases_lt k (length slots)) [ inl low ↦ absurd (inside slots k low e) | inr high ↦ high ]
 
-    by : (o : Option (Option Slot)) → slice_get d.slots (room d.slots) ≡ o → HasSlot v.geometry v.contents.blocks p.inode (room d.slots) None
-    by None e = tidy.behind n p d (room d.slots) at is (past d.slots (room d.slots) e) mapped
-    by (Some None) e = part.slots (room d.slots) None e
-    by (Some (Some s)) e = absurd (room-free d.slots s e)
+    by : (o : Option (Option Slot)) → slice_get d.slots k ≡ o → HasSlot v.geometry v.contents.blocks p.inode k None
+    by None e = tidy.behind n p d k at is (past d.slots k e) mapped
+    by (Some None) e = part.slots k None e
+    by (Some (Some s)) e = absurd (none s e)
+
+-- the slot for a name was
+pub room_was_free : (v : VolumeNow) → IsInUse v → IsTidy v.geometry v.contents v.zones → (n : ℕ) (p : Placed) (d : DirectoryPart) → at_number v.contents.nodes n ≡ Some p → p.part ≡ parts.Directory d →
+    slot_zone v p (room d.slots) ≢ 0 → HasSlot v.geometry v.contents.blocks p.inode (room d.slots) None
+room_was_free v h tidy n p d at is = was_free v h tidy n p d at is (room d.slots) (λ s e. room-free d.slots s e)

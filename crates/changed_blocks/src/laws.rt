@@ -39,4 +39,7 @@ pub fn touched_blocks_have_changed()
     ensures link { (v : VolumeNow) (n tx : ℕ) (path other : List ℕ) →
         FindsRoom v n (calls.Link path other) → IsTidy v.geometry v.contents v.zones →
         HasChanged v (called v n tx (calls.Link path other)).change }
+    ensures rename { (v : VolumeNow) (n tx : ℕ) (path other : List ℕ) →
+        FindsRoom v n (calls.Rename path other) → IsTidy v.geometry v.contents v.zones →
+        HasChanged v (called v n tx (calls.Rename path other)).change }
 {}

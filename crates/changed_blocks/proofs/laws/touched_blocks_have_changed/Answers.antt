@@ -1,4 +1,4 @@
-use Rattle.changed_blocks.proofs.AllBlocks.{quiet_blocks, unlink_blocks, rmdir_blocks, truncate_blocks, write_blocks, bytes_blocks, create_blocks, mkdir_blocks, link_blocks}
+use Rattle.changed_blocks.proofs.AllBlocks.{quiet_blocks, unlink_blocks, rmdir_blocks, truncate_blocks, write_blocks, bytes_blocks, create_blocks, mkdir_blocks, link_blocks, rename_blocks}
 use Rattle.changed_blocks.proofs.laws.touched_blocks_have_changed.Goals as goal
 
 pub returns : goal.returns
@@ -12,4 +12,5 @@ returns c = record {
   create = create_blocks;
   mkdir = mkdir_blocks;
   link = link_blocks;
+  rename = rename_blocks;
 }
