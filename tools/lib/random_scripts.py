@@ -11,6 +11,7 @@ import sys
 
 sys.path.insert(0, str(pathlib.Path(__file__).resolve().parents[2] / "examples" / "outside"))
 import blocks  # noqa: E402
+import clean  # noqa: E402
 import crashes  # noqa: E402
 import faults  # noqa: E402
 import host  # noqa: E402
@@ -418,10 +419,11 @@ def difference(printed, wanted):
 
 
 def image_case(rng, seed):
-    """An image, most often a damaged one: its tree or its first fault."""
+    """An image, most often a damaged one: its tree or its first fault, or whether it is clean."""
     data = random_images.damaged_image(seed)
-    words = rng.choice([["show"], ["show"], ["show"], ["widen"]])
-    return Case(f"{words[0]} of image {seed}", lambda printed: image_fault(words, printed, images.report(data)), words, data)
+    words = rng.choice([["show"], ["show"], ["check"], ["widen"]])
+    report = clean.report if words == ["check"] else images.report
+    return Case(f"{words[0]} of image {seed}", lambda printed: image_fault(words, printed, report(data)), words, data)
 
 
 def image_fault(words, printed, wanted):
@@ -467,7 +469,7 @@ CASES = {
 }
 HOSTILE = ("image", "mutant")  # kinds of inputs of which any bytes may come, and none may take long
 PATIENCE, LATE = 60, 1000  # seconds of a run, and what stands for its status where it takes longer
-STATUSES = {"bad words": 2, "script line": 3, "image": 4, "input too long": 7, "no memory": 8, "no room": 9}  # by what is said
+STATUSES = {"bad words": 2, "script line": 3, "image": 4, "input too long": 7, "no memory": 8, "no room": 9, "unsound": 10}  # by what is said
 
 
 class Outcome:
