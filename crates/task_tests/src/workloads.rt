@@ -49,9 +49,11 @@ fn text_of(alloc: Global, script: &SessionScript, rounds: u32) -> Result<Vec<u8>
     text.push_str("volume inodes 512 zones 4096 journal 512\nlimit 200000\n")?;
     let mut text = text.into_bytes();
     let mut calls = script.lines.as_slice().iter();
-    for (place, program) in script.programs.as_slice().iter().enumerate() {
+    let mut thread = b'0';
+    for program in script.programs.as_slice() {
+        thread = thread.saturating_add(1);
         text.extend_from_slice(b"thread ")?;
-        text.push(b'1'.saturating_add(place as u8))?;
+        text.push(thread)?;
         text.push(b'\n')?;
         for _ in 0..program.as_slice().len() {
             if let Some(line) = calls.next() {
