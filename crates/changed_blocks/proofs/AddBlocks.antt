@@ -39,6 +39,9 @@ use Rattle.changed_blocks.proofs.Ends.{Ends, node_differs}
 use Rattle.changed_blocks.proofs.Rising.{own, Rises, Told, told_changes}
 use Rattle.changed_blocks.proofs.RoomBlocks.{room_raised, room_others, room_theirs}
 use Rattle.changed_blocks.proofs.SlotBlocks.{IsNamed, put_named, named_later, room_was_free, slot_differs}
+use Rattle.changed_blocks.proofs.BareFrames.{IsBareNow}
+use Rattle.changed_blocks.proofs.BareSteps.{name_bare}
+use Rattle.changed_blocks.proofs.BareZones.{room_bare}
 
 -- ---- counts of slots, by the slots of a block
 
@@ -65,6 +68,7 @@ pub record IsAdded (v : VolumeNow) (n : ℕ) (p : Placed) (d : DirectoryPart) (s
   pub named : IsNamed v n p d s birth c
   pub in_use : IsInUse c.volume
   pub links : named.placed.inode.links ≡ p.inode.links
+  pub bare : IsBareNow v → IsBareNow c.volume
 
 module _ (tx : ℕ) (v : VolumeNow) (in_use : IsInUse v) (n : ℕ) (p : Placed) (at : at_number v.contents.nodes n ≡ Some p) (d : DirectoryPart) (is : p.part ≡ parts.Directory d)
     (name : List ℕ) (birth : ℕ) (child : Placed) (at_child : at_number v.contents.nodes birth ≡ Some child) (apart : birth ≢ n)
@@ -107,6 +111,11 @@ module _ (tx : ℕ) (v : VolumeNow) (in_use : IsInUse v) (n : ℕ) (p : Placed) 
 
       add_is : add_name v n name birth ≡ puts v p d child
       add_is = ap (λ c. followed_by c (λ w. put_name_slot w n name birth)) e ∙ ap (λ c. followed_by (unchanged v) (λ w. c)) (slot_is v p at is at_child)
+
+  here_bare : zone_in v.contents.blocks p.inode (block (room d.slots / slots_a_block v.geometry.width)) ≢ 0 → make_room v n ≡ unchanged v → IsBareNow v → IsBareNow (add_name v n name birth).volume
+  here_bare mapped e bare = subst (λ (c : Change). IsBareNow c.volume)
+      (sym (ap (λ c. followed_by c (λ w. put_name_slot w n name birth)) e ∙ ap (λ c. followed_by (unchanged v) (λ w. c)) (slot_is v p at is at_child)))
+      (name_bare v.geometry in_use.sound v.contents in_use.volume n p at d is s birth mapped entry (few_bytes (slot_size v.geometry.width) (slots_a_block v.geometry.width) form (length d.slots) slot_zones.few) bare)
 
   -- ---- it gets a block
 
@@ -160,6 +169,12 @@ module _ (tx : ℕ) (v : VolumeNow) (in_use : IsInUse v) (n : ℕ) (p : Placed) 
         (named_later v n p d s birth (map_directory_block v n p d index) (λ w. puts w rp d child) raised (room_others v in_use n p d at is index high gap taken) (room_theirs v in_use n p d at is index high gap taken)
         (subst (λ q. IsNamed r n q d s birth (puts r rp d child)) same (put_named r in_use.sound r_stands n rp r_at d refl s birth put)))
 
+    there_bare : IsBareNow v → IsBareNow (add_name v n name birth).volume
+    there_bare bare = subst (λ (c : Change). IsBareNow c.volume) (sym there_is)
+        (name_bare r.geometry in_use.sound r.contents r_stands n rp r_at d refl s birth
+        (subst (λ i. zone_in r.contents.blocks rp.inode (block i) ≢ 0) (sym (ap (λ k. k / slots_a_block v.geometry.width) all_used)) (room_new v in_use n p at d is index high gap taken)) entry
+        (few_bytes (slot_size v.geometry.width) (slots_a_block v.geometry.width) form (length d.slots) slot_zones.few) (room_bare v in_use n p d at is index high gap taken bare))
+
   -- ---- both
 
   no_room : (nat_eq (room d.slots) (length d.slots) && nat_eq (length d.slots % slots_a_block v.geometry.width) 0) ≡ false → make_room v n ≡ unchanged v
@@ -180,6 +195,19 @@ module _ (tx : ℕ) (v : VolumeNow) (in_use : IsInUse v) (n : ℕ) (p : Placed) 
             (no_room (rw (ne_eqb (length d.slots % slots_a_block v.geometry.width) 0 part) (and_false (nat_eq (room d.slots) (length d.slots)))))
       ]
 
+  -- The volume stays bare.
+  stays_bare : IsBareNow v → IsBareNow (add_name v n name birth).volume
+  stays_bare = by (where_is v.contents.nodes d name (in_use.volume.0.names n p d at is) free_name left)
+    where
+      by : Where d name → IsBareNow v → IsBareNow (add_name v n name birth).volume
+      by (among low e) = here_bare (slot_zones.no_hole (room d.slots / slots_a_block v.geometry.width) (begins_below (slot_size v.geometry.width) (slots_a_block v.geometry.width) form (room d.slots) (length d.slots) low))
+          (no_room (rw (ne_eqb (room d.slots) (length d.slots) (λ same. (omega arith))) refl))
+      by (behind all e few) = elim (cases_eq (length d.slots % slots_a_block v.geometry.width) 0) [
+        | inl whole ↦ there_bare all (subst (λ width. length d.slots < most_slots width) of_volume few) whole e
+        | inr part ↦ here_bare (slot_zones.no_hole (room d.slots / slots_a_block v.geometry.width) (part_begins (slot_size v.geometry.width) (slots_a_block v.geometry.width) form (room d.slots) (length d.slots) all part))
+            (no_room (rw (ne_eqb (length d.slots % slots_a_block v.geometry.width) 0 part) (and_false (nat_eq (room d.slots) (length d.slots)))))
+      ]
+
   pub name_added : IsAdded v n p d s birth (add_name v n name birth)
   name_added =
       let named = name_named in
@@ -189,6 +217,7 @@ module _ (tx : ℕ) (v : VolumeNow) (in_use : IsInUse v) (n : ℕ) (p : Placed) 
         in_use = step.steady.in_use;
         links = same_Some named.placed.inode.links p.inode.links
             (sym (ap (option_map (λ (p : Placed). p.inode.links)) named.stands) ∙ (step.links_are n ∙ ap (option_map (λ (p : Placed). p.inode.links)) at));
+        bare = stays_bare;
       }
 
 -- ---- both ends of a call

@@ -57,6 +57,8 @@ use Rattle.tree_model.specs.declared.node.Node.TheVariants as nodes
 use Rattle.volume_model.specs.declared.placed.Part.TheVariants as parts
 use Rattle.zone_maps.specs.declared.zone_state.ZoneState.TheVariants as states
 use Rattle.changed_blocks.proofs.RenameStart as start
+use Rattle.changed_blocks.proofs.BareFrames.{IsBareNow}
+use Rattle.changed_blocks.proofs.BareSteps.{set_bare, links_bare, dots_fit}
 
 module _ (tx : ℕ) (v : VolumeNow) (h : IsPlainNow v) (n : ℕ) (before : AreBornBefore n (tree_of_now v)) (path other : List ℕ) (d : Done)
     (done : outcome (room_of v.geometry) (tree_of_now v) n (calls.Rename path other) ≡ Ok d) (enough : used_zones d.tree - used_zones (tree_of_now v) ≤ frees v.zones) where
@@ -510,3 +512,20 @@ module _ (tx : ℕ) (v : VolumeNow) (h : IsPlainNow v) (n : ℕ) (before : AreBo
     -- It goes below another parent.
     pub directory_below : Ends tx v (rename v tx path other) → IsTidy v.geometry v.contents v.zones → HasChanged v (rename v tx path other)
     directory_below ends tidy = subst (HasChanged v) (sym below_by) (below_changes (subst (Ends tx v) below_by ends) tidy)
+
+    -- the volume stays bare
+    turned_bare : IsBareNow v2 → IsBareNow v3
+    turned_bare =
+        let dots = below2.settled.dots birth z2.placed z2.part z2.stands z2.is in
+        let told = below2.steady.in_use.volume.0.each to.parent q2.placed q2.stands in
+        set_bare v2 below2.steady.in_use birth z2.placed z2.stands z2.part z2.is 1 (record { inode = dots.0.number; name = codes ".." }) dots.2.above (Some s2)
+        (dots_fit v2.geometry.width q2.placed.number below2.steady.in_use.sound.width told.some (let within = told.within in let fit = below2.steady.in_use.sound.fits.inodes in omega arith))
+        (with_parent z2.part to.parent s2) (length-set z2.part.slots 1 (Some s2))
+
+    pub below_bare : IsBareNow v → IsBareNow (rename v tx path other).volume
+    below_bare bare = subst (λ (c : Change). IsBareNow c.volume) (sym below_by)
+        (comes_below.bare
+        (links_bare v3 below3.steady.in_use to.parent x3.placed x3.stands (x3.placed.inode.links + 1) few3
+        (turned_bare
+        (links_bare v1 first.steady.in_use from.parent y1.placed y1.stands (y1.placed.inode.links - 1) few1
+        (start.less_bare tx v h n before path other d done enough bare)))))

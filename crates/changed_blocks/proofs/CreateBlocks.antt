@@ -36,6 +36,8 @@ use Rattle.changed_blocks.proofs.Ends.{Ends}
 use Rattle.changed_blocks.proofs.NewBlocks.{left_rises, new_changes}
 use Rattle.changed_blocks.proofs.Rising.{Rises, rises_then, told_later}
 use Rattle.changed_blocks.proofs.SlotBlocks.{IsNamed}
+use Rattle.changed_blocks.proofs.BareFrames.{IsBareNow}
+use Rattle.changed_blocks.proofs.BareNodes.{file_bare}
 
 module _ (tx : ℕ) (v : VolumeNow) (n : ℕ) (path : List ℕ) (h : FindsRoom v n (calls.Create path)) (d : Done) (done : outcome (room_of v.geometry) (tree_of_now v) n (calls.Create path) ≡ Ok d) where
   enough : used_zones d.tree - used_zones (tree_of_now v) ≤ frees v.zones
@@ -137,3 +139,7 @@ module _ (tx : ℕ) (v : VolumeNow) (n : ℕ) (path : List ℕ) (h : FindsRoom v
 
   pub create_changes : Ends tx v (called v n tx (calls.Create path)).change → IsTidy v.geometry v.contents v.zones → HasChanged v (called v n tx (calls.Create path)).change
   create_changes e tidy = subst (HasChanged v) (sym create_is) (whole_changes (subst (Ends tx v) create_is e) tidy)
+
+  -- The volume stays bare.
+  pub create_bare : IsBareNow v → IsBareNow (called v n tx (calls.Create path)).change.volume
+  create_bare bare = subst (λ (c : Change). IsBareNow c.volume) (sym create_is) (comes.bare (file_bare v h.plain.in_use n none lower (first.in_use.volume.0.each n q child1).fits bare))

@@ -22,4 +22,9 @@ pub mod SlotSteps
 pub mod RenameStart
 pub mod BelowBlocks
 pub mod RenameBlocks
+pub mod BareFrames
+pub mod BareSteps
+pub mod BareZones
+pub mod BareNodes
+pub mod KeptTidy
 pub mod AllBlocks

@@ -32,6 +32,8 @@ use Rattle.changed_blocks.proofs.Ends.{Ends, node_differs}
 use Rattle.changed_blocks.proofs.Links.{links_placed, links_set, links_is, links_stands, others_rise, links_told}
 use Rattle.changed_blocks.proofs.Rising.{Rises, rises_then, told_later}
 use Rattle.changed_blocks.proofs.SlotBlocks.{IsNamed}
+use Rattle.changed_blocks.proofs.BareFrames.{IsBareNow}
+use Rattle.changed_blocks.proofs.BareSteps.{links_bare}
 
 module _ (tx : ℕ) (v : VolumeNow) (n : ℕ) (path other : List ℕ) (h : FindsRoom v n (calls.Link path other)) (d : Done) (done : outcome (room_of v.geometry) (tree_of_now v) n (calls.Link path other) ≡ Ok d) where
   enough : used_zones d.tree - used_zones (tree_of_now v) ≤ frees v.zones
@@ -137,3 +139,7 @@ module _ (tx : ℕ) (v : VolumeNow) (n : ℕ) (path other : List ℕ) (h : Finds
 
   pub link_changes : Ends tx v (called v n tx (calls.Link path other)).change → IsTidy v.geometry v.contents v.zones → HasChanged v (called v n tx (calls.Link path other)).change
   link_changes e tidy = subst (HasChanged v) (sym link_is) (whole_changes (subst (Ends tx v) link_is e) tidy)
+
+  -- The volume stays bare.
+  pub link_bare : IsBareNow v → IsBareNow (called v n tx (calls.Link path other)).change.volume
+  link_bare bare = subst (λ (c : Change). IsBareNow c.volume) (sym link_is) (comes.bare (links_bare v h.plain.in_use birth file.placed file.stands (file.placed.inode.links + 1) few bare))

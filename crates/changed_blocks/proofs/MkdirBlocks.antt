@@ -49,6 +49,11 @@ use Rattle.changed_blocks.proofs.Links.{links_placed, links_set, links_is, links
 use Rattle.changed_blocks.proofs.NewBlocks.{left_rises, new_changes}
 use Rattle.changed_blocks.proofs.Rising.{Rises, rises_then, told_first, told_later, not_free}
 use Rattle.changed_blocks.proofs.SlotBlocks.{IsNamed}
+use Rattle.volume_steps.proofs.AllCalls.{any_call}
+use Rattle.volume_steps.specs.Plain.{IsInUse}
+use Rattle.changed_blocks.proofs.BareFrames.{IsBareNow}
+use Rattle.changed_blocks.proofs.BareNodes.{directory_bare}
+use Rattle.changed_blocks.proofs.BareSteps.{inode_bare, linked_zone}
 
 module _ (tx : ℕ) (v : VolumeNow) (n : ℕ) (path : List ℕ) (h : FindsRoom v n (calls.Mkdir path)) (d : Done) (done : outcome (room_of v.geometry) (tree_of_now v) n (calls.Mkdir path) ≡ Ok d) where
   enough : used_zones d.tree - used_zones (tree_of_now v) ≤ frees v.zones
@@ -229,3 +234,11 @@ module _ (tx : ℕ) (v : VolumeNow) (n : ℕ) (path : List ℕ) (h : FindsRoom v
 
   pub mkdir_changes : Ends tx v (called v n tx (calls.Mkdir path)).change → IsTidy v.geometry v.contents v.zones → HasChanged v (called v n tx (calls.Mkdir path)).change
   mkdir_changes e tidy = subst (HasChanged v) (sym mkdir_is) (whole_changes (subst (Ends tx v) mkdir_is e) tidy)
+
+  -- The volume stays bare.
+  pub mkdir_bare : IsBareNow v → IsBareNow (called v n tx (calls.Mkdir path)).change.volume
+  mkdir_bare bare =
+      let live = subst (λ (c : Change). IsInUse c.volume) mkdir_is (any_call tx v n (calls.Mkdir path) h).steady.in_use in
+      subst (λ (c : Change). IsBareNow c.volume) (sym mkdir_is)
+      (inode_bare v2 comes.in_use place.parent added.placed added.stands final.inode (live.volume.0.each place.parent final final_stands).fits (linked_zone v2.contents.blocks added.placed.inode (added.placed.inode.links + 1))
+      (comes.bare (directory_bare tx v h.plain.in_use n no_node lower place.parent new.at.placed new.at.stands one bare)))

@@ -1,6 +1,6 @@
 -- The blocks of a call that gives a node another name.
-use Rattle.std.specs.Prelude.{◌≡◌, ◌≢◌, ◌≤◌, ◌-◌, ◌+◌, ℕ, ◌==◌, nat_le, Bool, true, false, not, ◌&&◌, if◌then◌else◌, List, ◌++◌, length, Option, Some, None, Ok, refl, ◌/◌, ◌⊎◌}
-use Rattle.std.proofs.Common.{sym, ap, subst, ◌∙◌, inl, inr, eq-eqb}
+use Rattle.std.specs.Prelude.{◌≡◌, ◌≢◌, ◌<◌, ◌≤◌, ◌-◌, ◌+◌, ℕ, ◌==◌, nat_le, Bool, true, false, not, ◌&&◌, if◌then◌else◌, List, ◌++◌, length, Option, Some, None, Ok, refl, ◌/◌, ◌⊎◌}
+use Rattle.std.proofs.Common.{sym, ap, subst, ◌∙◌, inl, inr, eq-eqb, arith}
 use Rattle.std.proofs.lemmas.Bool.{cases_Bool, cases_eq}
 use Rattle.std.proofs.lemmas.Option.{none-some, same_Some}
 use Rattle.std.specs.List.Sorted.{IsStrictlySortedBy}
@@ -71,7 +71,10 @@ use Rattle.tree_model.specs.declared.node.Node.TheVariants as nodes
 use Rattle.volume_model.specs.declared.placed.Part.TheVariants as parts
 use Rattle.zone_maps.specs.declared.zone_state.ZoneState.TheVariants as states
 use Rattle.changed_blocks.proofs.RenameStart as start
-use Rattle.changed_blocks.proofs.BelowBlocks.{directory_below}
+use Rattle.changed_blocks.proofs.BelowBlocks.{directory_below, below_bare}
+use Rattle.changed_blocks.proofs.BareFrames.{IsBareNow}
+use Rattle.changed_blocks.proofs.BareNodes.{drop_bare}
+use Rattle.changed_blocks.proofs.BareSteps.{set_bare, links_bare}
 
 module _ (tx : ℕ) (v : VolumeNow) (h : IsPlainNow v) (n : ℕ) (before : AreBornBefore n (tree_of_now v)) (path other : List ℕ) (d : Done)
     (done : outcome (room_of v.geometry) (tree_of_now v) n (calls.Rename path other) ≡ Ok d) (enough : used_zones d.tree - used_zones (tree_of_now v) ≤ frees v.zones) where
@@ -318,6 +321,9 @@ module _ (tx : ℕ) (v : VolumeNow) (h : IsPlainNow v) (n : ℕ) (before : AreBo
 
     moved_changes : Ends tx v whole → IsTidy v.geometry v.contents v.zones → HasChanged v whole
     moved_changes = elim (cases_eq to.parent from.parent) [ inl same ↦ moved_inside same | inr apart ↦ moved_apart apart ]
+
+    pub moved_bare : IsBareNow v → IsBareNow whole.volume
+    moved_bare bare = comes.bare (start.less_bare tx v h n before path other d done enough bare)
 
   -- ---- a file gets the name of another one
 
@@ -567,6 +573,26 @@ module _ (tx : ℕ) (v : VolumeNow) (h : IsPlainNow v) (n : ℕ) (before : AreBo
           subst (HasChanged v) (sym is) (kept_changes (subst (Ends tx v) is e))
     ]
 
+    led_bare : IsBareNow v1 → IsBareNow w2
+    led_bare = set_bare v1 first.steady.in_use to.parent m1.placed m1.stands m1.part m1.is k1 w1.slot w1.stands (Some t1) (entry v1 first.steady.in_use to_short moved1.0 moved1.1) led_part (length-set m1.part.slots k1 (Some t1))
+
+    replace_bare : (in_zones : (z : ℕ) → In z (rename v tx path other).touched.freed → (v.geometry.first ≤ z) × (z < v.geometry.zones)) → IsBareNow v → IsBareNow (rename v tx path other).volume
+    replace_bare in_zones bare = elim (cases_Bool (nat_le y2.placed.inode.links 1)) [
+      | inl one ↦
+          let is = replace_is ∙ (ap (λ (b : Bool). joined less (joined led (if b then drop_node w2 tx t.birth else set_links w2 t.birth (λ links. links - 1)))) one
+          ∙ ap (λ c. joined less (joined led c)) (at_node_is w2 t.birth y2.placed (node_dropped w2 tx t.birth) y2.stands)) in
+          subst (λ (c : Change). IsBareNow c.volume) (sym is)
+          (drop_bare w2 met2.steady.in_use t.birth y2.placed y2.stands freed_zones (λ z i. in_zones z (subst (λ (c : Change). In z c.touched.freed) (sym is) i)) both_bare)
+      | inr more ↦
+          let is = replace_is ∙ (ap (λ (b : Bool). joined less (joined led (if b then drop_node w2 tx t.birth else set_links w2 t.birth (λ links. links - 1)))) more
+          ∙ ap (λ c. joined less (joined led c)) (links_is w2 met2.steady.in_use t.birth y2.placed y2.stands (λ links. links - 1))) in
+          let most = met2.settled.few_links t.birth y2.placed y2.stands in
+          subst (λ (c : Change). IsBareNow c.volume) (sym is) (links_bare w2 met2.steady.in_use t.birth y2.placed y2.stands (y2.placed.inode.links - 1) (omega arith) both_bare)
+    ]
+      where
+        both_bare : IsBareNow w2
+        both_bare = led_bare (start.less_bare tx v h n before path other d done enough bare)
+
   -- ---- all of them
 
   same_changes : stays m ≡ true → HasChanged v (rename v tx path other)
@@ -605,3 +631,28 @@ module _ (tx : ℕ) (v : VolumeNow) (h : IsPlainNow v) (n : ℕ) (before : AreBo
       by not_same (itself e) = same_changes e
       by not_same (none_met none unnamed) = free not_same none unnamed (what (tree_of_now v) plain path other d r)
       by not_same (file_met t f target is led_to apart) = replace_changes not_same t f target is led_to apart ends
+
+  -- The volume stays bare.
+  pub rename_bare : ((z : ℕ) → In z (rename v tx path other).touched.freed → (v.geometry.first ≤ z) × (z < v.geometry.zones)) → IsBareNow v → IsBareNow (rename v tx path other).volume
+  rename_bare in_zones bare = elim (cases_Bool (stays m)) [
+    | inl e ↦ same_bare e
+    | inr not_same ↦ by not_same (met (tree_of_now v) plain path other d r)
+  ]
+    where
+      same_bare : stays m ≡ true → IsBareNow (rename v tx path other).volume
+      same_bare e = subst (λ (c : Change). IsBareNow c.volume) (sym (rename_by ∙ ap (λ (b : Bool). if b then unchanged v else by_target m.target) e)) bare
+
+      within_one : stays m ≡ false → m.target ≡ None → at_name to.directory.names to.name ≡ None → (moves_directory m && changes_parent m) ≡ false → IsBareNow (rename v tx path other).volume
+      within_one not_same none unnamed within = subst (λ (c : Change). IsBareNow c.volume) (sym (moved_by not_same none within)) (moved_bare not_same none unnamed within bare)
+
+      free : stays m ≡ false → m.target ≡ None → at_name to.directory.names to.name ≡ None → What (tree_of_now v) plain path other d r → IsBareNow (rename v tx path other).volume
+      free not_same none unnamed (a_fil f is) = within_one not_same none unnamed (ap (λ x. is_directory (Some x) && changes_parent m) is)
+      free not_same none unnamed (a_dir e is up) = elim (cases_eq to.parent from.parent) [
+        | inl inside ↦ within_one not_same none unnamed (ap (λ x. is_directory (Some x) && not (to.parent == from.parent)) is ∙ ap not (eq-eqb to.parent from.parent inside))
+        | inr away ↦ below_bare tx v h n before path other d done enough not_same none unnamed e is up away bare
+      ]
+
+      by : stays m ≡ false → Met (tree_of_now v) plain path other d r → IsBareNow (rename v tx path other).volume
+      by not_same (itself e) = same_bare e
+      by not_same (none_met none unnamed) = free not_same none unnamed (what (tree_of_now v) plain path other d r)
+      by not_same (file_met t f target is led_to apart) = replace_bare not_same t f target is led_to apart in_zones bare

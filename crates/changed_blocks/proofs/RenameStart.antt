@@ -46,6 +46,8 @@ use Rattle.tree_model.specs.declared.call.Reply.TheVariants as replies
 use Rattle.tree_model.specs.declared.node.Node.TheVariants as nodes
 use Rattle.volume_model.specs.declared.placed.Part.TheVariants as parts
 use Rattle.zone_maps.specs.declared.zone_state.ZoneState.TheVariants as states
+use Rattle.changed_blocks.proofs.BareFrames.{IsBareNow}
+use Rattle.changed_blocks.proofs.BareSteps.{take_bare}
 
 module _ (tx : ℕ) (v : VolumeNow) (h : IsPlainNow v) (n : ℕ) (before : AreBornBefore n (tree_of_now v)) (path other : List ℕ) (d : Done)
     (done : outcome (room_of v.geometry) (tree_of_now v) n (calls.Rename path other) ≡ Ok d) (enough : used_zones d.tree - used_zones (tree_of_now v) ≤ frees v.zones) where
@@ -177,6 +179,10 @@ module _ (tx : ℕ) (v : VolumeNow) (h : IsPlainNow v) (n : ℕ) (before : AreBo
 
   pub less_set : IsSlotSet v from.parent F.placed k0 next0 less
   less_set = slot_set tx v h.in_use from.parent F.placed F.stands F.part F.is k0 None next0 (length-set F.part.slots k0 None) first.steady
+
+  -- the volume stays bare
+  pub less_bare : IsBareNow v → IsBareNow v1
+  less_bare = take_bare tx v h.in_use from.parent F.placed F.stands F.part F.is from.name birth (named_at tx v h from birth from_stands gives) (sorted_at tx v h from birth from_stands gives)
 
   pub from_part : IsDirectoryPart v.geometry v.contents.blocks F.placed.inode F.part
   from_part = subst (IsPart v.geometry v.contents.blocks F.placed.inode) F.is (h.in_use.volume.0.each from.parent F.placed F.stands).part

@@ -43,6 +43,10 @@ use Rattle.changed_blocks.specs.Changed.{HasChanged}
 use Rattle.changed_blocks.proofs.Ends.{Ends, freed_bit, gone_bit, inode_differs, node_differs, told_differs}
 use Rattle.changed_blocks.proofs.Drops.{no_zero, drop_zero, drop_high, drop_told}
 use Rattle.changed_blocks.proofs.Steps.{back_high, slot_zone, slot_range, take_told, take_differs}
+use Rattle.volume_steps.proofs.AllCalls.{any_call}
+use Rattle.changed_blocks.proofs.BareFrames.{IsBareNow}
+use Rattle.changed_blocks.proofs.BareNodes.{drop_bare}
+use Rattle.changed_blocks.proofs.BareSteps.{take_bare, links_bare}
 
 no_names : (d : Directory) → not (length d.names == 0) ≡ false → d.names ≡ []
 no_names d e = by d.names e
@@ -226,3 +230,15 @@ module _ (tx : ℕ) (v : VolumeNow) (n : ℕ) (path : List ℕ) (h : FindsRoom v
 
   pub rmdir_changes : Ends tx v (called v n tx (calls.Rmdir path)).change → HasChanged v (called v n tx (calls.Rmdir path)).change
   rmdir_changes e = subst (HasChanged v) (sym rmdir_is) (gone_changes (subst (Ends tx v) rmdir_is e))
+
+  -- ---- the volume stays bare
+
+  less_bare : IsBareNow v → IsBareNow v1
+  less_bare = take_bare tx v h.plain.in_use place.parent parent.placed parent.stands parent.part parent.is place.name birth (named tx v h.plain place birth is_place.stands gives) (sorted tx v h.plain place birth is_place.stands gives)
+
+  pub rmdir_bare : IsBareNow v → IsBareNow (called v n tx (calls.Rmdir path)).change.volume
+  rmdir_bare bare =
+      let used = (any_call tx v n (calls.Rmdir path) h).steady.was_used in
+      subst (λ (c : Change). IsBareNow c.volume) (sym rmdir_is)
+      (drop_bare v2 in_use2 birth y.placed at2 zones (λ z i. zone_range v h.plain.in_use z states.Used (used z (subst (λ (c : Change). In z c.touched.freed) (sym rmdir_is) i)))
+      (links_bare v1 first.steady.in_use place.parent x1.placed x1.stands (x1.placed.inode.links - 1) few (less_bare bare)))

@@ -1,9 +1,9 @@
 -- The blocks of a call that cuts a file.
-use Rattle.std.specs.Prelude.{◌≡◌, ◌≢◌, ◌/◌, ◌%◌, ◌<◌, ◌≤◌, ◌⊎◌, ◌==◌, ◌||◌, nat_le, nat_eq, ℕ, Bool, true, false, if◌then◌else◌, List, [], ◌++◌, Some, Ok, refl}
+use Rattle.std.specs.Prelude.{◌≡◌, ◌≢◌, ◌+◌, ◌-◌, ◌*◌, take, replicate, length, ◌/◌, ◌%◌, ◌<◌, ◌≤◌, ◌⊎◌, ◌==◌, ◌||◌, nat_le, nat_eq, ℕ, Bool, true, false, if◌then◌else◌, List, [], ◌++◌, Some, Ok, refl}
 use Rattle.std.specs.Int.{div_ceil}
 use Rattle.std.specs.List.{list_any}
-use Rattle.std.proofs.Common.{sym, ap, subst, ◌∙◌, inl, inr, ⊎_elim}
-use Rattle.std.proofs.lemmas.Bool.{eqb-true}
+use Rattle.std.proofs.Common.{sym, ap, subst, ◌∙◌, inl, inr, ⊎_elim, arith}
+use Rattle.std.proofs.lemmas.Bool.{cases_Bool, eqb-true, eqb-false, or_parts, leb-false}
 use Rattle.blk_base.specs.Members.{In}
 use Rattle.blk_base.specs.laws.Members.{In-append_cases, In-append_left}
 use Rattle.minix_layout.specs.declared.division.Geometry.{Geometry}
@@ -45,6 +45,11 @@ use Rattle.changed_blocks.specs.Changed.{HasChanged}
 use Rattle.changed_blocks.proofs.Ends.{Ends, freed_bit, node_differs, told_differs}
 use Rattle.changed_blocks.proofs.Steps.{back_high}
 use Rattle.changed_blocks.proofs.CutBlocks.{cut_inode, cut_cases, number_meta, number_low, number_differs}
+use Rattle.volume_steps.proofs.AllCalls.{any_call}
+use Rattle.changed_blocks.proofs.BareFrames.{IsBareNow}
+use Rattle.changed_blocks.proofs.BareSteps.{page_bare, resize_bare}
+use Rattle.changed_blocks.proofs.BareZones.{cut_bare}
+use Rattle.std.proofs.lemmas.List.{length-take, length-append, length-replicate}
 
 -- ---- sizes
 
@@ -106,6 +111,38 @@ module _ (v : VolumeNow) (n : ℕ) (p : Placed) (zones : List Mapped) (at : at_n
       by true = record { nodes = refl; blocks = refl; revoked = refl }
       by false = record { nodes = refl; blocks = refl; revoked = refl }
 
+cut_length : (size index : ℕ) (body : List ℕ) → length body ≡ 1024 → 1024 * index < size → length (cut_body size index body) ≡ 1024
+cut_length size index body whole low = elim (cases_Bool (nat_le (1024 * index + 1024) size)) [
+  | inl y ↦ rw y whole
+  | inr z ↦ rw z (parts_length (leb-false _ _ z))
+]
+  where
+    parts_length : size < 1024 * index + 1024 → length (take (size - 1024 * index) body ++ replicate (1024 - (size - 1024 * index)) 0) ≡ 1024
+    parts_length high =
+        let a = length-append (take (size - 1024 * index) body) (replicate (1024 - (size - 1024 * index)) 0) in
+        let b = length-take (size - 1024 * index) body in
+        let zeros : List ℕ = replicate (1024 - (size - 1024 * index)) 0 in
+        let c : length zeros ≡ 1024 - (size - 1024 * index) = length-replicate (1024 - (size - 1024 * index)) 0 in
+        omega arith
+
+module _ (v : VolumeNow) (h : IsInUse v) (n : ℕ) (p : Placed) (zones : List Mapped) (at : at_number v.contents.nodes n ≡ Some p) (is : p.part ≡ parts.File zones) (size : ℕ) where
+  abbrev tail_by : Placed → List Mapped → Change
+  tail_by p zones =
+      if nat_eq (size % 1024) 0 || nat_eq (zone_in v.contents.blocks p.inode (block (size / 1024))) 0 then unchanged v
+      else put_page v n (size / 1024) (zone_in v.contents.blocks p.inode (block (size / 1024))) (cut_body size (size / 1024) (disk_of v.contents.blocks (zone_in v.contents.blocks p.inode (block (size / 1024)))))
+
+  tail_bare : IsBareNow v → IsBareNow (clear_tail v n size).volume
+  tail_bare bare = subst (λ (c : Change). IsBareNow c.volume) (sym (at_file_is v n p zones tail_by at is)) (by (nat_eq (size % 1024) 0 || nat_eq (zone_in v.contents.blocks p.inode (block (size / 1024))) 0) refl)
+    where
+      by : (b : Bool) → (nat_eq (size % 1024) 0 || nat_eq (zone_in v.contents.blocks p.inode (block (size / 1024))) 0) ≡ b → IsBareNow (if b then unchanged v
+          else put_page v n (size / 1024) (zone_in v.contents.blocks p.inode (block (size / 1024))) (cut_body size (size / 1024) (disk_of v.contents.blocks (zone_in v.contents.blocks p.inode (block (size / 1024)))))).volume
+      by true e = bare
+      by false e =
+          let both = or_parts (nat_eq (size % 1024) 0) (nat_eq (zone_in v.contents.blocks p.inode (block (size / 1024))) 0) e in
+          let odd = eqb-false _ _ both.0 in
+          page_bare v h n p zones at is (cut_body size (size / 1024) (disk_of v.contents.blocks (zone_in v.contents.blocks p.inode (block (size / 1024)))))
+          (cut_length size (size / 1024) (disk_of v.contents.blocks (zone_in v.contents.blocks p.inode (block (size / 1024)))) (h.volume.0.whole _) (omega arith)) (size / 1024) (eqb-false _ _ both.1) bare
+
 -- ---- a cut
 
 -- what is told of a cut: bits of zones that are freed, zones of numbers that stay, and the node's block of the table where its zones change
@@ -154,6 +191,14 @@ module _ (tx : ℕ) (v : VolumeNow) (h : IsInUse v) (n : ℕ) (p : Placed) (zone
       by : (b : Bool) → list_any (λ (m : Mapped). nat_le from m.index) zones ≡ b → IsCut v n p (if b then cut_change else unchanged v)
       by true t = is_cut (λ z i. freed z (subst (λ c. In z c.touched.freed) (sym (cut_is ∙ ap (λ (b : Bool). if b then cut_change else unchanged v) t)) i))
       by false f = record { placed = p; stands = at; number = refl; size = refl; zones = λ size same. refl; told = λ b i. absurd i }
+
+  file_cut_bare : IsBareNow v → IsBareNow (cut_blocks v tx n from).volume
+  file_cut_bare bare = subst (λ (c : Change). IsBareNow c.volume) (sym cut_is) (by (list_any (λ (m : Mapped). nat_le from m.index) zones) refl)
+    where
+      by : (b : Bool) → list_any (λ (m : Mapped). nat_le from m.index) zones ≡ b → IsBareNow (if b then cut_change else unchanged v).volume
+      by true t = cut_bare tx v h n p zones at is from cut_change.touched.freed
+          (λ z i. freed z (subst (λ c. In z c.touched.freed) (sym (cut_is ∙ ap (λ (b : Bool). if b then cut_change else unchanged v) t)) i)) refl bare
+      by false f = bare
 
 -- ---- the call
 
@@ -268,3 +313,16 @@ module _ (tx : ℕ) (v : VolumeNow) (n : ℕ) (path : List ℕ) (size : ℕ) (h 
 
   pub truncate_changes : Ends tx v (called v n tx (calls.Truncate path size)).change → HasChanged v (called v n tx (calls.Truncate path size)).change
   truncate_changes e = subst (HasChanged v) (sym truncate_is) (whole_changes (subst (Ends tx v) truncate_is e))
+
+  -- The volume stays bare.
+  pub truncate_bare : IsBareNow v → IsBareNow (called v n tx (calls.Truncate path size)).change.volume
+  truncate_bare bare =
+      let live : IsInUse third.volume = subst (λ (c : Change). IsInUse c.volume) truncate_is (any_call tx v n (calls.Truncate path size) h).steady.in_use in
+      subst (λ (c : Change). IsBareNow c.volume) (sym truncate_is)
+      (resize_bare v2 two.step.step.steady.in_use birth x1.placed (ap (λ nodes. at_number nodes birth) quiet.nodes ∙ x1.stands) (λ old. size) live
+      (tail_bare v1 one.step.steady.in_use birth x1.placed x1.zones x1.stands x1.is_file size
+      (file_cut_bare tx v h.plain.in_use birth x.placed x.zones x.stands x.is_file from freed_in bare)))
+    where
+      freed_in : (z : ℕ) → In z first.touched.freed → (g.first ≤ z) × (z < g.zones)
+      freed_in z j = zone_range v h.plain.in_use z states.Used ((any_call tx v n (calls.Truncate path size) h).steady.was_used z
+          (subst (λ (c : Change). In z c.touched.freed) (sym truncate_is) (In-append_left first.touched.freed (second.touched.freed ++ third.touched.freed) z j)))

@@ -36,6 +36,10 @@ use Rattle.changed_blocks.specs.Changed.{HasChanged}
 use Rattle.changed_blocks.proofs.Ends.{Ends, freed_bit, gone_bit, inode_differs, node_differs, told_differs}
 use Rattle.changed_blocks.proofs.Drops.{no_zero, drop_zero, drop_high, drop_told}
 use Rattle.changed_blocks.proofs.Steps.{back_high, slot_zone, slot_range, take_told, take_differs}
+use Rattle.volume_steps.proofs.AllCalls.{any_call}
+use Rattle.changed_blocks.proofs.BareFrames.{IsBareNow}
+use Rattle.changed_blocks.proofs.BareNodes.{drop_bare}
+use Rattle.changed_blocks.proofs.BareSteps.{take_bare, links_bare}
 
 module _ (tx : ℕ) (v : VolumeNow) (n : ℕ) (path : List ℕ) (h : FindsRoom v n (calls.Unlink path)) (d : Done) (done : outcome (room_of v.geometry) (tree_of_now v) n (calls.Unlink path) ≡ Ok d) where
   abbrev g : Geometry
@@ -180,4 +184,23 @@ module _ (tx : ℕ) (v : VolumeNow) (n : ℕ) (path : List ℕ) (h : FindsRoom v
         let is = unlink_is ∙ (ap (λ (b : Bool). joined less (if b then drop_node v1 tx birth else set_links v1 birth (λ links. links - 1))) f
         ∙ ap (λ c. joined less c) (set_links_is tx v1 first.steady.in_use birth y.placed at1 (y.placed.inode.links - 1) few (λ links. links - 1) refl)) in
         subst (HasChanged v) (sym is) (kept_changes (subst (Ends tx v) is e))
+  ]
+
+  -- ---- the volume stays bare
+
+  less_bare : IsBareNow v → IsBareNow v1
+  less_bare = take_bare tx v h.plain.in_use place.parent parent.placed parent.stands parent.part parent.is place.name birth (named tx v h.plain place birth is_place.stands gives) (sorted tx v h.plain place birth is_place.stands gives)
+
+  pub unlink_bare : IsBareNow v → IsBareNow (called v n tx (calls.Unlink path)).change.volume
+  unlink_bare bare = elim (cases_Bool (nat_le y.placed.inode.links 1)) [
+    | inl t ↦
+        let is = unlink_is ∙ (ap (λ (b : Bool). joined less (if b then drop_node v1 tx birth else set_links v1 birth (λ links. links - 1))) t
+        ∙ ap (λ c. joined less c) (at_node_is v1 birth y.placed (node_dropped v1 tx birth) at1)) in
+        let used = (any_call tx v n (calls.Unlink path) h).steady.was_used in
+        subst (λ (c : Change). IsBareNow c.volume) (sym is)
+        (drop_bare v1 first.steady.in_use birth y.placed at1 zones (λ z i. zone_range v h.plain.in_use z states.Used (used z (subst (λ (c : Change). In z c.touched.freed) (sym is) i))) (less_bare bare))
+    | inr f ↦
+        let is = unlink_is ∙ (ap (λ (b : Bool). joined less (if b then drop_node v1 tx birth else set_links v1 birth (λ links. links - 1))) f
+        ∙ ap (λ c. joined less c) (set_links_is tx v1 first.steady.in_use birth y.placed at1 (y.placed.inode.links - 1) few (λ links. links - 1) refl)) in
+        subst (λ (c : Change). IsBareNow c.volume) (sym is) (links_bare v1 first.steady.in_use birth y.placed at1 (y.placed.inode.links - 1) few (less_bare bare))
   ]

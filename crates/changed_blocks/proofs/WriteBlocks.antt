@@ -53,6 +53,10 @@ use Rattle.changed_blocks.proofs.Ends.{Ends, node_differs}
 use Rattle.changed_blocks.proofs.MapBlocks.{IsRaised, raised_none, raised_then, map_raised}
 use Rattle.changed_blocks.proofs.Rising.{Rises, Told, rises_then, told_changes, told_first}
 use Rattle.changed_blocks.proofs.TruncateBlocks.{IsSized, sized}
+use Rattle.volume_steps.proofs.AllCalls.{any_call}
+use Rattle.changed_blocks.proofs.BareFrames.{IsBareNow}
+use Rattle.changed_blocks.proofs.BareSteps.{page_bare, resize_bare}
+use Rattle.changed_blocks.proofs.BareZones.{block_bare}
 
 -- a size leaves the places
 sized_zone : (blocks : List (List ℕ)) (i : Inode) (size : ℕ) (y : Place) → zone_in blocks (with_size i size) y ≡ zone_in blocks i y
@@ -163,6 +167,15 @@ module _ (tx : ℕ) (v : VolumeNow) (h : IsInUse v) (n : ℕ) (f : File) (found 
           map_raised v h n x.placed x.zones x.stands x.is_file fresh (patched_length index off bytes (zeros 1024) (length-zeros 1024) among.reaches among.begins) index among.low hole (enough hole)
       by false f = page_raised tx v h n x.placed x.zones x.stands x.is_file (patched index off bytes (disk_of blocks zone)) (patched_length index off bytes (disk_of blocks zone) (h.volume.0.whole zone) among.reaches among.begins) index (eqb-false _ _ f)
 
+  block_stays_bare : IsBareNow v → IsBareNow (write_block v n off bytes index).volume
+  block_stays_bare bare = subst (λ (c : Change). IsBareNow c.volume) (sym (at_file_is v n x.placed x.zones written_to x.stands x.is_file)) (by (nat_eq zone 0) refl)
+    where
+      by : (b : Bool) → nat_eq zone 0 ≡ b → IsBareNow (if b then map_file_block v n x.placed x.zones fresh index else put_page v n index zone (patched index off bytes (disk_of blocks zone))).volume
+      by true y =
+          let hole = eqb-true _ _ y in
+          block_bare v h n x.placed x.zones x.stands x.is_file fresh (patched_length index off bytes (zeros 1024) (length-zeros 1024) among.reaches among.begins) index among.low hole (enough hole) bare
+      by false f = page_bare v h n x.placed x.zones x.stands x.is_file (patched index off bytes (disk_of blocks zone)) (patched_length index off bytes (disk_of blocks zone) (h.volume.0.whole zone) among.reaches among.begins) index (eqb-false _ _ f) bare
+
 -- ---- one block after the other
 
 raised_as : (v : VolumeNow) (n : ℕ) (p q : Placed) (c : Change) → p ≡ q → IsRaised v n p c → IsRaised v n q c
@@ -191,6 +204,27 @@ blocks_raised tx v n f off bytes (i ∷ is) h found among room p at =
     let first = raised_as v n x.placed p c (same_Some x.placed p (sym x.stands ∙ at)) (block_raised tx v h n f found off bytes i (among i (inl refl)) fits x) in
     raised_then v n p c (λ w. write_blocks w n off bytes is) first
     (blocks_raised tx c.volume n next off bytes is one.step.steady.in_use (file_stands tx v n c next (λ birth at. (birth ≡ n) × (at ≡ i)) one.step) (λ j k. among j (inr k)) (omega arith) first.placed first.stands)
+
+blocks_bare : (tx : ℕ) (v : VolumeNow) (n : ℕ) (f : File) (off : ℕ) (bytes indices : List ℕ) → IsInUse v → at_number (tree_of_now v) n ≡ Some (nodes.File f) → ((i : ℕ) → In i indices → IsAmong off (length bytes) i) →
+    used_zones (put_number (tree_of_now v) n (nodes.File (with_blocks f (written_blocks off bytes indices f.blocks)))) ≤ uses v.zones + frees v.zones → IsBareNow v → IsBareNow (write_blocks v n off bytes indices).volume
+blocks_bare tx v n f off bytes [] h found among room bare = bare
+blocks_bare tx v n f off bytes (i ∷ is) h found among room bare =
+    let next = with_block f i (patched i off bytes (block_or_zeros (at_number f.blocks i))) in
+    let last = with_blocks f (written_blocks off bytes (i ∷ is) f.blocks) in
+    let order = tree_in_order v.contents.blocks v.contents.nodes h.volume.0.in_order in
+    let sum = used_put_more (tree_of_now v) n (nodes.File f) (nodes.File next) order found in
+    let all = used_put_more (tree_of_now v) n (nodes.File f) (nodes.File last) order found in
+    let less : node_zones (nodes.File next) ≤ node_zones (nodes.File last) =
+    zones_less (keys_of next.blocks) (keys_of last.blocks) (written_length off bytes is next.blocks) (written_any off bytes is next.blocks) in
+    let fits : used_zones (put_number (tree_of_now v) n (nodes.File next)) ≤ uses v.zones + frees v.zones = omega arith in
+    let one = block_written tx v h n f found off bytes i (among i (inl refl)) fits in
+    let c = write_block v n off bytes i in
+    let same = room_same tx v h n c next (λ birth at. (birth ≡ n) × (at ≡ i)) one in
+    let twice : put_number (tree_of_now c.volume) n (nodes.File last) ≡ put_number (tree_of_now v) n (nodes.File last) =
+    ap (λ tree. put_number tree n (nodes.File last)) one.step.tree ∙ put_twice (tree_of_now v) n (nodes.File next) (nodes.File last) order in
+    let used : used_zones (put_number (tree_of_now c.volume) n (nodes.File last)) ≡ used_zones (put_number (tree_of_now v) n (nodes.File last)) = ap used_zones twice in
+    blocks_bare tx c.volume n next off bytes is one.step.steady.in_use (file_stands tx v n c next (λ birth at. (birth ≡ n) × (at ≡ i)) one.step) (λ j k. among j (inr k)) (omega arith)
+    (block_stays_bare tx v h n f found off bytes i (among i (inl refl)) fits (file_at v h n f found) bare)
 
 -- ---- the call
 
@@ -318,3 +352,12 @@ module _ (tx : ℕ) (v : VolumeNow) (n : ℕ) (call : Call) (h : FindsRoom v n c
   write_changes same e =
       let is = same ∙ at_path_is v path file.found (λ birth. followed_by (write_blocks v birth off bytes indices) (λ w. resize w birth (λ size. max size (off + length bytes)))) file.walked in
       subst (HasChanged v) (sym is) (whole_changes (subst (Ends tx v) is e))
+
+  -- The volume stays bare.
+  pub write_bare : (called v n tx call).change ≡ write v path off bytes → IsBareNow v → IsBareNow (called v n tx call).change.volume
+  write_bare same bare =
+      let is = same ∙ at_path_is v path file.found (λ birth. followed_by (write_blocks v birth off bytes indices) (λ w. resize w birth (λ size. max size (off + length bytes)))) file.walked in
+      let live : IsInUse last.volume = subst (λ (c : Change). IsInUse c.volume) is (any_call tx v n call h).steady.in_use in
+      subst (λ (c : Change). IsBareNow c.volume) (sym is)
+      (resize_bare first.volume one.step.steady.in_use birth raised.placed raised.stands (λ size. max size (off + length bytes)) live
+      (blocks_bare tx v birth f off bytes indices in_use file.stands (touched_among off (length bytes) fits) mid_fits bare))

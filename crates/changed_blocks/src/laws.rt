@@ -1,10 +1,10 @@
-//! The law of touched blocks. It does nothing when it is called.
+//! The laws of touched blocks and of tidy volumes. Each does nothing when it is called.
 ghost use Rattle.std.specs.Prelude.{◌≡◌, ℕ, true, List};
 ghost use Rattle.tree_model.specs.declared.call.Call.{Call};
 ghost use Rattle.tree_model.specs.declared.call.Call.TheVariants as calls;
 ghost use Rattle.tree_model.specs.Calls.{leaves_tree};
 ghost use Rattle.volume_steps.specs.Now.{VolumeNow};
-ghost use Rattle.volume_steps.specs.Calls.{called};
+ghost use Rattle.volume_steps.specs.Calls.{called, after_release};
 ghost use Rattle.volume_steps.specs.Called.{FindsRoom};
 ghost use Rattle.clean_volumes.specs.Marked.{IsMarked};
 ghost use Rattle.changed_blocks.specs.Changed.{HasChanged};
@@ -42,4 +42,13 @@ pub fn touched_blocks_have_changed()
     ensures rename { (v : VolumeNow) (n tx : ℕ) (path other : List ℕ) →
         FindsRoom v n (calls.Rename path other) → IsTidy v.geometry v.contents v.zones →
         HasChanged v (called v n tx (calls.Rename path other)).change }
+{}
+
+/// A law, which does nothing when it is called: a call on a tidy volume, done or refused, leaves it tidy, and so does a
+/// release of zones.
+pub fn calls_keep_volumes_tidy()
+    ensures calls { (v : VolumeNow) (n tx : ℕ) (c : Call) → FindsRoom v n c → IsTidy v.geometry v.contents v.zones →
+        IsTidy v.geometry (called v n tx c).change.volume.contents (called v n tx c).change.volume.zones }
+    ensures releases { (v : VolumeNow) (tx : ℕ) → IsTidy v.geometry v.contents v.zones →
+        IsTidy v.geometry (after_release v tx).contents (after_release v tx).zones }
 {}
