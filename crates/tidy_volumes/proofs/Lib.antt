@@ -1,0 +1,2 @@
+-- Lemmas on volumes that were made.
+pub mod MadeTidy
