@@ -2,7 +2,8 @@
 //! power is cut, and what is left is recovered and mounted.
 //!
 //! `running` runs a script, on any device and with any maker of devices for its recovery, or on model devices;
-//! `specs/Core` has where that leads; `report` has what is left, and `specs/Report` says which report it is and what it
+//! `specs/Core` has where that leads; `recover_session` makes the report of every session that ended, also of one whose parts
+//! ran apart, and tells that the headline holds of it; `report` has what is left, and `specs/Report` says which report it is and what it
 //! promises. `laws` ties what is promised of a call by its kind to the calls' names (`specs/CallNames`), what survived
 //! to what a reader sees in the tree, both to how programs replace a file (`specs/Replaced`), and how calls end to the
 //! header of the script (`specs/CallEnds`).
@@ -20,4 +21,6 @@ pub use laws::{
     what_is_shown_later_survived,
 };
 pub use report::{CutRecord, SessionReport};
-pub use running::{core_run, run_on};
+pub use running::{
+    check_parts, core_run, flash_device, model_device, open_script, recover_session, run_on,
+};

@@ -10,7 +10,7 @@ ghost use Rattle.session_core.specs.Core.{EndState, IsDeviceOf, IsNewFor, core_a
 ghost use Rattle.session_core.specs.Headline.{Headline, HeadlineOn};
 ghost use Rattle.session_core.specs.Report.{HasAttempts, IsCoreReport, IsReportAs, IsReportOf};
 ghost use Rattle.session_core.specs.code.Cuts.{CutFacts, medium_left};
-ghost use Rattle.session_core.specs.code.Ends.{session_on, EndsIn, KeepsTheOrder, IsBehind, EndFits};
+ghost use Rattle.session_core.specs.code.Ends.{session_on, EndsIn, KeepsTheOrder, IsBehind, EndFits, IsEndOfScript};
 
 use crate::report::{CutRecord, SessionReport};
 use barrier_reassign::{CAPACITY, Scheduler};
@@ -53,8 +53,8 @@ fn standings(alloc: Global, host: &Host, threads: u32) -> Result<Vec<Standing>, 
     Ok(standings)
 }
 
-// The image of the volume that a script makes, and the host that it opens.
-fn open_script(alloc: Global, script: &SessionScript) -> Result<OpenedSession, NoMemory>
+/// The image of the volume that a script makes, and the host that it opens.
+pub fn open_script(alloc: Global, script: &SessionScript) -> Result<OpenedSession, NoMemory>
     requires { IsWellFormed script.now }
     ensures image { IfOk result (λ o. o.image ≡ made_image (geometry_of script.now) script.now.journal script.now.wide) }
     ensures host { IfOk result (λ o. o.host ≡ opened_host script.now) }
@@ -71,8 +71,14 @@ fn open_script(alloc: Global, script: &SessionScript) -> Result<OpenedSession, N
     )
 }
 
-// What lets a session run on this host, this new scheduler and this new device. It does nothing.
-fn check_parts<S: Scheduler, D: OrderedDev>(script: &SessionScript, host: &Host, sched: &S, dev: &D)
+/// A law, which does nothing when it is called: a session of the script can run on the host that it opens, a new scheduler
+/// and a new device.
+pub fn check_parts<S: Scheduler, D: OrderedDev>(
+    script: &SessionScript,
+    host: &Host,
+    sched: &S,
+    dev: &D,
+)
     requires script { IsWellFormed script.now }
     requires host { host.now ≡ opened_host script.now }
     requires scheduler { IsNewScheduler script.now.header.limit CAPACITY (S.steps.seen (S.state sched.now)) }
@@ -167,25 +173,25 @@ fn cut_scripts_keep_their_promises(script: &SessionScript)
     histories_follow_the_tree();
 }
 
-// A script on this host and this device: the session, the power cut, the attempts and the mount.
-fn run_opened<M: Maker>(
+/// What becomes of a session of the script that has ended, on one thread or on many, and of which a power cut left this: its
+/// attempts of recovery and the mount of what is left, each on a fresh device of this maker, and how its threads stood.
+pub fn recover_session<M: Maker>(
     alloc: Global,
     script: &SessionScript,
-    host: Host,
-    dev: M::Dev,
+    end: SessionEnd,
     maker: &mut M,
 ) -> Result<SessionReport, NoMemory>
     requires script { IsWellFormed script.now }
-    requires host { host ≡ opened_host script.now }
-    requires device { IsNewFor script.now (M.Dev.OrderedDev.seen (M.Dev.OrderedDev.state dev)) }
+    requires end { (e : EndState) × IsEndOfScript script.now e end }
     ensures setup { M.setup maker.new ≡ M.setup maker.old }
-    ensures report { IfOk result (IsReportOf script.now (core_on (machine_of M.Dev.OrderedDev) script.now (M.Dev.OrderedDev.state dev))) }
+    ensures host { IfOk result (λ r. r.host ≡ end.host) }
+    ensures report { (e : EndState) → IsEndOfScript script.now e end → IfOk result (IsReportOf script.now e) }
     ensures attempts { IfOk result (HasAttempts (machine_of M.Dev.OrderedDev) (λ i. M.Dev.OrderedDev.state (M.fresh_dev (M.setup maker.old) i)) script.now) }
-    ensures headline { IfOk result (HeadlineOn script.now (core_on (machine_of M.Dev.OrderedDev) script.now (M.Dev.OrderedDev.state dev))) }
+    ensures headline { (e : EndState) → IsEndOfScript script.now e end → IfOk result (HeadlineOn script.now e) }
 {
     // This call tells what a power cut leaves of the session.
     cut_scripts_keep_their_promises(script);
-    let SessionEnd { host, sched, cut } = run(alloc, script, host, dev)?;
+    let SessionEnd { host, sched, cut } = end;
     // By a call, as in `run`.
     let Ok(standings) = standings(alloc, &host, script.programs.len() as u32) else {
         drop(host);
@@ -218,6 +224,26 @@ fn run_opened<M: Maker>(
     })
 }
 
+// A script on this host and this device: the session, the power cut, the attempts and the mount.
+fn run_opened<M: Maker>(
+    alloc: Global,
+    script: &SessionScript,
+    host: Host,
+    dev: M::Dev,
+    maker: &mut M,
+) -> Result<SessionReport, NoMemory>
+    requires script { IsWellFormed script.now }
+    requires host { host ≡ opened_host script.now }
+    requires device { IsNewFor script.now (M.Dev.OrderedDev.seen (M.Dev.OrderedDev.state dev)) }
+    ensures setup { M.setup maker.new ≡ M.setup maker.old }
+    ensures report { IfOk result (IsReportOf script.now (core_on (machine_of M.Dev.OrderedDev) script.now (M.Dev.OrderedDev.state dev))) }
+    ensures attempts { IfOk result (HasAttempts (machine_of M.Dev.OrderedDev) (λ i. M.Dev.OrderedDev.state (M.fresh_dev (M.setup maker.old) i)) script.now) }
+    ensures headline { IfOk result (HeadlineOn script.now (core_on (machine_of M.Dev.OrderedDev) script.now (M.Dev.OrderedDev.state dev))) }
+{
+    let end = run(alloc, script, host, dev)?;
+    recover_session(alloc, script, end, maker)
+}
+
 /// Runs a volume script on this device, cuts its power, makes the attempts of recovery that the script asks for, and mounts
 /// what is left, each on a fresh device of this maker.
 pub fn run_on<M: Maker>(
@@ -237,8 +263,8 @@ pub fn run_on<M: Maker>(
     run_opened(alloc, script, host, dev, maker)
 }
 
-// The model device that a script says, over the image of its volume.
-fn model_device(
+/// The model device that a script says, over the image of its volume.
+pub fn model_device(
     alloc: Global,
     script: &SessionScript,
     image: Image,
@@ -258,8 +284,8 @@ fn model_device(
     EpochDevice::make(alloc, image, setup)
 }
 
-// The flash log of so many segments that a script says, over the image of its volume.
-fn flash_device(
+/// The flash log of so many segments that a script says, over the image of its volume.
+pub fn flash_device(
     alloc: Global,
     script: &SessionScript,
     segments: u32,

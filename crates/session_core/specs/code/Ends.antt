@@ -9,7 +9,7 @@ use Rattle.stack_core.specs.Headline.{KeepsOrder}
 use Rattle.session_grammar.specs.declared.session_script.SessionScript.{SessionScript}
 use Rattle.session_machine.specs.Machine.{SessionState, core_session}
 use Rattle.session_run.specs.declared.session.SessionEnd.{SessionEnd}
-use Rattle.session_core.specs.Core.{EndState, opening_of, start_of}
+use Rattle.session_core.specs.Core.{EndState, IsDeviceOf, opening_of, start_of}
 pub use Rattle.session_core.specs.Core.{IsBehind}
 
 -- where the script's session ends on this scheduler and this device
@@ -32,3 +32,14 @@ pub record EndFits (end : EndState) : Type 0 where
   pub accepted : IsPrefixOf end.sched.accepted end.host.journal.flush.requests
   pub received : IsPrefixOf end.dev.took end.sched.sent_out
   pub taken : IsPrefixOf end.host.journal.flush.taken end.dev.sent
+
+-- A session of the script ended in this state, on one thread or on many, and a power cut left this of it: its host has the script's calls
+-- and took some steps from where the session begins, its parts fit, its device is one as the script's header says, and what is left keeps
+-- the order of what was submitted.
+pub record IsEndOfScript (s : SessionScript) (end : EndState) (r : SessionEnd) : Type 0 where
+  pub left : EndsIn end r
+  pub calls : r.host.programs ≡ s.programs
+  pub behind : IsBehind s end
+  pub fits : EndFits end
+  pub device : IsDeviceOf s end.dev
+  pub order : KeepsTheOrder s end r

@@ -1,32 +1,19 @@
-use Rattle.std.proofs.Common.{sym}
-use Rattle.session_core.specs.Core.{geometry_of}
-use Rattle.session_core.proofs.Cut.{report_keeps, report_facts, report_counts, base_of, journal_of}
-use Rattle.session_core.proofs.Headlines.{headline_of}
-use Rattle.session_core.proofs.Remounts.{attempts_are}
+use Rattle.order_model.specs.Machine.{machine_of}
+use Rattle.session_core.specs.Core.{EndState, core_on}
+use Rattle.session_core.specs.code.Ends.{IsEndOfScript}
 use Rattle.session_core.proofs.running.run_opened.Goals as goal
 
-pub remount-requires-clause-mounts : goal.remount-requires-clause-mounts
-remount-requires-clause-mounts g c = (c.cut_scripts_keep_their_promises.ensures _ c.in_ok-host.field-0 c.in_ok-host.ensures.order c.in_ok-host.ensures.behind).mounts
+pub recover_session-requires-clause-end : goal.recover_session-requires-clause-end
+recover_session-requires-clause-end g c =
+    let ran = c.in_ok-end.ensures in
+    (_, record { left = ran.end; calls = ran.calls; behind = ran.behind; fits = ran.fits; device = ran.device; order = ran.order })
 
-pub remount-requires-clause-base : goal.remount-requires-clause-base
-remount-requires-clause-base g c =
-    let facts = c.cut_scripts_keep_their_promises.ensures _ c.in_ok-host.field-0 c.in_ok-host.ensures.order c.in_ok-host.ensures.behind in
-    base_of (geometry_of c.args.script.now) _ c.into.result c.into.ensures facts.volume
-
-pub remount-requires-clause-journal : goal.remount-requires-clause-journal
-remount-requires-clause-journal g c =
-    let facts = c.cut_scripts_keep_their_promises.ensures _ c.in_ok-host.field-0 c.in_ok-host.ensures.order c.in_ok-host.ensures.behind in
-    journal_of (geometry_of c.args.script.now) _ c.into.result c.into.ensures facts.journal
+pub returns-clause-report : goal.returns-clause-report
+returns-clause-report g c =
+    let ran = c.in_ok-end.ensures in
+    c.recover_session.ensures.report _ (record { left = ran.end; calls = ran.calls; behind = ran.behind; fits = ran.fits; device = ran.device; order = ran.order })
 
 pub returns-clause-headline : goal.returns-clause-headline
 returns-clause-headline g c =
-    let s = c.args.script.now in
-    let ran = c.in_ok-host.ensures in
-    let same = c.of_image-left.ensures in
-    let facts = c.cut_scripts_keep_their_promises.ensures _ c.in_ok-host.field-0 ran.order ran.behind in
-    headline_of s _ _ (report_facts s _ _ _ _ same facts) (report_keeps _ _ _ _ _ _ same ran.order) ran.fits ran.device ran.end.trace.sent
-    (report_counts _ _ _ _ _ same c.into.ensures c.in-Ok-remount.ensures.found)
-
-pub returns-clause-attempts : goal.returns-clause-attempts
-returns-clause-attempts g c =
-    attempts_are _ _ c.args.script.now _ _ _ c.into.result c.in_ok-host.field-0.cut.image _ c.into.ensures (sym c.of_image-left.ensures) c.as_slice-recovers.ensures c.in-Ok-remount.ensures.attempts
+    let ran = c.in_ok-end.ensures in
+    c.recover_session.ensures.headline _ (record { left = ran.end; calls = ran.calls; behind = ran.behind; fits = ran.fits; device = ran.device; order = ran.order })
