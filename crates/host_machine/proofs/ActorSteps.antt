@@ -28,7 +28,8 @@ use Rattle.host_machine.proofs.PlanSteps.{closing_transaction, plan_keeps, commi
 use Rattle.host_machine.proofs.RequestSteps.{send_keeps, request_keeps}
 use Rattle.host_machine.proofs.RuleSteps.{send_both}
 use Rattle.host_machine.proofs.Sends.{plainly}
-use Rattle.host_machine.proofs.Steps.{first_page-In, none_first, either}
+use Rattle.host_machine.proofs.Steps.{first_page-In, none_first}
+use Rattle.host_machine.specs.laws.Choices.{either}
 use Rattle.host_machine.specs.Host.{Turned, submits, build_plan, checkpoint, close_step, plan_sent, in_phase, commit_step, writeback, flush_step, send_page, with_flush}
 use Rattle.number_sets.specs.Sets.{has}
 use Rattle.conflict_pages.specs.Conflicts.{least}

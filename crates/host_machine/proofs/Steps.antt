@@ -26,6 +26,7 @@ use Rattle.flush_actor.specs.Part.{is_cut, first_failed, at_limit, is_flushed_af
 use Rattle.flush_actor.specs.Waits.{no_wait}
 use Rattle.flush_actor.specs.declared.call_kind.CallKind.{CallKind}
 use Rattle.flush_actor.specs.declared.wait.Wait.{Wait}
+use Rattle.host_machine.specs.laws.Choices.{either}
 use Rattle.host_machine.specs.laws.Contract.{Over, Contract}
 use Rattle.host_machine.specs.laws.Rules.{Keeps}
 
@@ -67,10 +68,6 @@ none_first test (q ∷ ps) e f i p d = by (λ n. none_first test ps n f i p) (te
     by rest false t n false d = rest n d
 
 -- ---- the steps
-
-pub either : {X : Type 0} (P : X → Type 0) (t : Bool) (x y : X) → (t ≡ true → P x) → (t ≡ false → P y) → P (if t then x else y)
-either P true x y p q = p refl
-either P false x y p q = q refl
 
 -- a stop is no answer
 pub stop-unanswered : {T V C R : Type 0} (M : Model T V C R) (u : Setup) (taken : List Completion) (kind : CallKind) (stop : Ending R) → stop_of M u taken kind ≡ Some stop → (t : ℕ) (c : C) → (is_answered_end : Bool) → is_answered_end ≡ (elim stop as (λ _. Bool) [ Answered r ↦ true | other ↦ false ]) → is_answered_end ≡ false

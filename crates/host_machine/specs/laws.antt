@@ -1,4 +1,5 @@
 -- What the host keeps, and what it is promised.
+pub mod Choices
 pub mod Contract
 pub mod Facts
 pub mod PlanNotes

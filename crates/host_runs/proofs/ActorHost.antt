@@ -25,7 +25,8 @@ use Rattle.host_machine.proofs.ActorSteps.{all_firm, rephased}
 use Rattle.host_machine.proofs.Entries.{trees_noted}
 use Rattle.host_machine.proofs.PlanSteps.{commit_keeps}
 use Rattle.host_machine.proofs.Sends.{plainly}
-use Rattle.host_machine.proofs.Steps.{first_page-In, either}
+use Rattle.host_machine.proofs.Steps.{first_page-In}
+use Rattle.host_machine.specs.laws.Choices.{either}
 use Rattle.host_machine.specs.Host.{Turned, submits, build_plan, checkpoint, close_step, plan_sent, in_phase, commit_step, writeback, flush_step, send_page, send_planned, committed, with_flush}
 use Rattle.number_sets.specs.Sets.{has}
 use Rattle.conflict_pages.specs.Conflicts.{least}

@@ -20,7 +20,8 @@ use Rattle.host_machine.proofs.CallSteps.{change_keeps, quiet_keeps, unanswered_
 use Rattle.host_machine.proofs.Entries.{length_new, entry_noted, trees_noted}
 use Rattle.host_machine.proofs.Machine.{plain_at}
 use Rattle.host_machine.proofs.Sends.{plainly}
-use Rattle.host_machine.proofs.Steps.{enough, either, advance_keeps}
+use Rattle.host_machine.proofs.Steps.{enough, advance_keeps}
+use Rattle.host_machine.specs.laws.Choices.{either}
 use Rattle.host_machine.specs.Causes as causes
 use Rattle.host_machine.specs.Causes.{Cause}
 use Rattle.host_machine.specs.Host.{Stepped, Goal, AwaitCommit, AnswerOk, AwaitLastPut, unsent_on, goal_of, data_goal, end_call, end_with, set_wait, set_thread, wanting, send_page, change, hindrance, hindered, plain, listed, begin, await_durable, await_last_put, await_commit, pursue, walk_pages, continue_begun, step_call, step_thread, advance, stop_of, dropped_pages, written_pages}

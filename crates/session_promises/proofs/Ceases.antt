@@ -15,7 +15,7 @@ use Rattle.host_machine.specs.Host.{Stepped, Turned, stop_of, with_flush, advanc
 use Rattle.host_machine.specs.Model.{Model}
 use Rattle.host_machine.specs.State.{Ending, Down, ReadOnly, Begun, Thread, Host, Setup}
 use Rattle.host_machine.specs.laws.Contract.{Over}
-use Rattle.host_machine.proofs.Steps.{either}
+use Rattle.host_machine.specs.laws.Choices.{either}
 use Rattle.host_runs.specs.Runs as runs
 use Rattle.host_runs.specs.Runs.{Event, AreBegun, stepped, steps}
 use Rattle.host_runs.specs.laws.Walks.{caller_walk}

@@ -14,7 +14,7 @@ use Rattle.tx_running.specs.Plan.{Planned}
 use Rattle.flush_actor.specs.Part.{at_limit, is_over}
 use Rattle.flush_actor.specs.Steps.{take_completion, flush_due}
 use Rattle.commit_actor.specs.Journal.{Plan, Phase, Idle, Closing, Committing, is_submitted}
-use Rattle.host_machine.proofs.Steps.{either}
+use Rattle.host_machine.specs.laws.Choices.{either}
 use Rattle.host_machine.specs.Host.{Turned, with_flush, send_page, submits, build_plan, checkpoint, close_step, plan_sent, in_phase, commit_step, writeback, flush_step}
 use Rattle.host_machine.specs.Model.{Model}
 use Rattle.host_machine.specs.State.{Host, Setup}

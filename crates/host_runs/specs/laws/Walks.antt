@@ -25,7 +25,7 @@ use Rattle.host_machine.specs.Host.{Stepped, Turned, Goal, AwaitCommit, AnswerOk
 use Rattle.host_machine.specs.Model.{Model, Freed}
 use Rattle.host_machine.specs.Outcomes as outcomes
 use Rattle.host_machine.specs.State.{Ending, Answered, SessionFull, Begun, Thread, Host, Setup}
-use Rattle.host_machine.proofs.Steps.{either}
+use Rattle.host_machine.specs.laws.Choices.{either}
 
 -- ---- a caller
 
