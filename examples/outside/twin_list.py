@@ -87,7 +87,7 @@ twin("host", "quarantine-wants-never", "a call that waits for zones never asks f
 twin("host", "bodies-13", "the greatest call is taken to add 13 blocks", "host", "MORE_BODIES, MORE_REVOKES = 12, 520", "MORE_BODIES, MORE_REVOKES = 13, 520")
 twin("host", "bodies-11", "the greatest call is taken to add 11 blocks", "host", "MORE_BODIES, MORE_REVOKES = 12, 520", "MORE_BODIES, MORE_REVOKES = 11, 520")
 twin("host", "revokes-519", "the greatest call is taken to add 519 revokes", "host", "MORE_BODIES, MORE_REVOKES = 12, 520", "MORE_BODIES, MORE_REVOKES = 12, 519",
-     row="the law calls_are_noted of tx_running, whose `room` speaks of 520 revokes; only transactions with 237 revokes differ")
+     row="the law calls_are_noted of journal_ring, whose `room` speaks of 520 revokes; only transactions with 237 revokes differ")
 twin("host", "files-fall", "the pages of changed files go out with the last file first", "host",
      "for place, page in sorted(self.pages.items()) if place[0] in self.closing.nodes",
      "for place, page in sorted(self.pages.items(), key=lambda item: (-item[0][0], item[0][1])) if place[0] in self.closing.nodes")

@@ -7,7 +7,7 @@ use Rattle.script_words.specs.Spelling.{numeral}
 use Rattle.script_words.proofs.Chosen.{mapped}
 use Rattle.script_words.proofs.SaidNumbers.{decimal-numeral}
 use Rattle.script_words.proofs.SpelledNumbers.{numeral-decimal}
-use Rattle.bulk_script.specs.declared.limits.TheConstants.{MOST_GENERATED}
+use Rattle.session_report.specs.declared.bulk.limits.TheConstants.{MOST_GENERATED}
 use Rattle.minix_layout.specs.Words.{first_zone}
 use Rattle.minix_layout.specs.declared.limits.TheConstants.{LEAST_JOURNAL, MOST_JOURNAL, MOST_NUMBERED}
 use Rattle.barrierfs_top.specs.declared.command_line.Command.{Command}

@@ -1,6 +1,6 @@
 -- The session of a workload.
 use Rattle.std.proofs.Common.{◌≡◌, ℕ, List, Some, refl, subst}
-use Rattle.bulk_script.specs.Workload.{bulk_of}
+use Rattle.session_report.specs.bulk.Workload.{bulk_of}
 use Rattle.session_grammar.specs.declared.session_script.SessionScript.{SessionScript}
 use Rattle.session_core.specs.Headline.{Headline}
 use Rattle.session_core.specs.Report.{IsCoreReport}

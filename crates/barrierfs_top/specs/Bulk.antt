@@ -1,8 +1,8 @@
 -- What `bulk` writes: the summary of the session of a generated workload.
 use Rattle.std.specs.Prelude.{◌≡◌, ℕ, List, map, Option, Some, Ok}
 use Rattle.std.specs.List.{count_by}
-use Rattle.bulk_script.specs.Workload.{bulk_of}
-use Rattle.bulk_script.specs.Summary.{is_ok, is_file, summary_text}
+use Rattle.session_report.specs.bulk.Workload.{bulk_of}
+use Rattle.session_report.specs.bulk.Summary.{is_ok, is_file, summary_text}
 use Rattle.host_answers.specs.declared.entry.Entry.{Entry}
 use Rattle.mount_make.specs.Images.{image_tree, tree_after}
 use Rattle.session_grammar.specs.declared.session_script.SessionScript.{SessionScript}

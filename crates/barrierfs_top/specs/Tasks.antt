@@ -5,7 +5,7 @@ use Rattle.std.specs.Option.{option_map}
 use Rattle.script_grammar.specs.declared.limits.TheConstants.{MOST_SCRIPT_BYTES}
 use Rattle.script_words.specs.Spelling.{numeral}
 use Rattle.minix_layout.specs.Words.{first_zone}
-use Rattle.bulk_script.specs.declared.limits.TheConstants.{MOST_GENERATED}
+use Rattle.session_report.specs.declared.bulk.limits.TheConstants.{MOST_GENERATED}
 use Rattle.barrierfs_top.specs.declared.command_line.TheConstants.{MOST_IMAGE_BYTES}
 use Rattle.barrierfs_top.specs.declared.command_line.Command.{Command}
 use Rattle.barrierfs_top.specs.declared.command_line.Command.TheVariants as commands

@@ -1,7 +1,7 @@
 -- The lists of words that ask for something, as one table.
 use Rattle.std.specs.Prelude.{ℕ, ◌<◌, ◌≤◌, true, false, List, [], ◌∷◌, codes}
 use Rattle.std.specs.Fmt.{decimal}
-use Rattle.bulk_script.specs.declared.limits.TheConstants.{MOST_GENERATED}
+use Rattle.session_report.specs.declared.bulk.limits.TheConstants.{MOST_GENERATED}
 use Rattle.minix_layout.specs.Words.{first_zone}
 use Rattle.minix_layout.specs.declared.limits.TheConstants.{LEAST_JOURNAL, MOST_JOURNAL, MOST_NUMBERED}
 use Rattle.barrierfs_top.specs.declared.command_line.Command.TheVariants as commands

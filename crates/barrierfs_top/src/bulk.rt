@@ -1,8 +1,8 @@
 //! The sessions of generated workloads.
 ghost use Rattle.std.specs.Prelude.{◌≡◌, ◌<◌, ◌≤◌, IfOk, IfErr};
 ghost use Rattle.std.specs.String.{string_bytes};
-ghost use Rattle.bulk_script.specs.Workload.{bulk_of};
-ghost use Rattle.bulk_script.specs.declared.limits.TheConstants.{MOST_GENERATED};
+ghost use Rattle.session_report.specs.bulk.Workload.{bulk_of};
+ghost use Rattle.session_report.specs.declared.bulk.limits.TheConstants.{MOST_GENERATED};
 ghost use Rattle.session_core.specs.Headline.{Headline};
 ghost use Rattle.session_core.specs.Report.{IsCoreReport};
 ghost use Rattle.barrierfs_top.specs.Bulk.{HasFiles, IsSummaryOf, IsWorkload};
@@ -14,9 +14,9 @@ use crate::run_report::RunReport;
 use crate::session::{figures_of, noted};
 use crate::top::Printed;
 use blk_base::NoMemory;
-use bulk_script::{Summary, count_files, count_ok, put_summary, script_of_bulk};
 use session_core::{SessionReport, core_run};
 use session_grammar::SessionScript;
+use session_report::bulk::{Summary, count_files, count_ok, put_summary, script_of_bulk};
 use std::alloc::Global;
 use volume_ops::Volume;
 

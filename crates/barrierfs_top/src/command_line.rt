@@ -4,10 +4,10 @@ ghost use Rattle.script_words.specs.Spelling.{numeral};
 ghost use Rattle.barrierfs_top.specs.Tasks.{command_named_by, most_of, pair_of, raw_named_by, raw_of, sizes_of, task_of, workload_of, CanDo};
 
 use blk_base::NoMemory;
-use bulk_script::MOST_GENERATED;
 use minix_layout::{DEFAULT_WIDTH, Geometry, LEAST_JOURNAL, MOST_JOURNAL, MOST_NUMBERED};
 use script_grammar::MOST_SCRIPT_BYTES;
 use script_words::numeral;
+use session_report::bulk::MOST_GENERATED;
 use std::alloc::Global;
 use std::marker::Model;
 

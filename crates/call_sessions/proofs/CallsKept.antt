@@ -11,17 +11,17 @@ use Rattle.journal_ring.specs.LogRing.{LogRing}
 use Rattle.host_machine.specs.Host.{advance}
 use Rattle.host_machine.specs.Outcomes.{Done}
 use Rattle.host_machine.specs.State.{Begun, Thread, Host}
-use Rattle.host_runs.specs.Promises.{IsAnswered}
-use Rattle.host_runs.specs.Runs.{Event, steps}
-use Rattle.host_runs.specs.laws.Kept.{IsSound as IsSoundHost}
-use Rattle.host_runs.specs.laws.Written.{AreWritten}
-use Rattle.host_runs.proofs.RunHost.{opened_has, steps_keep}
-use Rattle.host_volume.specs.ByteCalls.{ByteCall, HasBytes}
-use Rattle.host_volume.specs.Runs.{IsOpenedVolume, HasEmptyJournal, opened_host, host_after}
-use Rattle.host_volume.specs.Sessions.{Opening, over, Stands}
-use Rattle.host_volume.proofs.OpenedVolumes.{is_opened, fits_words}
-use Rattle.host_volume.proofs.Promises.{promises, blocks_are_whole}
-use Rattle.host_volume.proofs.SessionsKept.{session_runs, answered_in_run, flushes_in_run}
+use Rattle.host_machine.specs.runs.Promises.{IsAnswered}
+use Rattle.host_machine.specs.runs.Runs.{Event, steps}
+use Rattle.host_machine.specs.runs.laws.Kept.{IsSound as IsSoundHost}
+use Rattle.host_machine.specs.runs.laws.Written.{AreWritten}
+use Rattle.host_machine.proofs.RunsLemmas.RunHost.{opened_has, steps_keep}
+use Rattle.minix_host.specs.ByteCalls.{ByteCall, HasBytes}
+use Rattle.minix_host.specs.Runs.{IsOpenedVolume, HasEmptyJournal, opened_host, host_after}
+use Rattle.minix_host.specs.Sessions.{Opening, over, Stands}
+use Rattle.minix_host.proofs.OpenedVolumes.{is_opened, fits_words}
+use Rattle.minix_host.proofs.Promises.{promises, blocks_are_whole}
+use Rattle.minix_host.proofs.SessionsKept.{session_runs, answered_in_run, flushes_in_run}
 use Rattle.call_sessions.specs.CallsAs.{thread_as}
 use Rattle.call_sessions.specs.Sessions.{WriteBytes, plain_call, plain_host, call_over, host_behind, KeepsCalls}
 use Rattle.call_sessions.proofs.StepsAs.{advance_as}

@@ -4,3 +4,5 @@ pub mod RunsAs
 pub mod SessionsAs
 pub mod CallsKept
 pub mod Spelled
+pub mod MadeLemmas
+pub mod PromisesLemmas

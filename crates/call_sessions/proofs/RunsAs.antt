@@ -9,7 +9,7 @@ use Rattle.host_machine.specs.State.{Entry, Thread, Host}
 use Rattle.host_machine.specs.Views.{is_answered, cut_of, some_in, acted, tree_after, writes_at, alters_at, history_of}
 use Rattle.host_machine.specs.Host.{opened}
 use Rattle.host_machine.specs.laws.Contract.{Over}
-use Rattle.host_runs.specs.Runs.{Event, Call, Commit, WriteBack, FlushStep, stepped, steps}
+use Rattle.host_machine.specs.runs.Runs.{Event, Call, Commit, WriteBack, FlushStep, stepped, steps}
 use Rattle.journal_ring.specs.LogRing.{LogRing}
 use Rattle.flush_actor.specs.Waits.{no_wait}
 use Rattle.flush_actor.specs.declared.wait.Wait.{Wait}

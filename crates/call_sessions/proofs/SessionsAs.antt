@@ -18,13 +18,13 @@ use Rattle.host_machine.specs.State.{Begun, Entry, Host}
 use Rattle.host_machine.specs.Views.{cut_of, tree_after}
 use Rattle.host_machine.specs.laws.Contract.{noted_history, session, IsAlike}
 use Rattle.host_machine.specs.laws.Rules.{AllRules}
-use Rattle.host_runs.specs.Promises.{call_of, KeepsOk, IsAnswered}
-use Rattle.host_runs.specs.Sentences.{kept_number, IsAllSettled, KeepsSentences}
-use Rattle.host_runs.specs.Flushes.{one_if, count, is_sync_begin}
-use Rattle.host_volume.specs.ByteCalls.{ByteCall}
-use Rattle.host_volume.specs.Calls.{kind_of}
-use Rattle.host_volume.specs.Runs.{call_of_entry, calls_of, HasTreeLike, tree_after_transactions, KeepsSession}
-use Rattle.host_volume.specs.Sessions.{Opening, over, Stands}
+use Rattle.host_machine.specs.runs.Promises.{call_of, KeepsOk, IsAnswered}
+use Rattle.host_machine.specs.runs.Sentences.{kept_number, IsAllSettled, KeepsSentences}
+use Rattle.host_machine.specs.runs.Flushes.{one_if, count, is_sync_begin}
+use Rattle.minix_host.specs.ByteCalls.{ByteCall}
+use Rattle.minix_host.specs.Calls.{kind_of}
+use Rattle.minix_host.specs.Runs.{call_of_entry, calls_of, HasTreeLike, tree_after_transactions, KeepsSession}
+use Rattle.minix_host.specs.Sessions.{Opening, over, Stands}
 use Rattle.call_sessions.specs.CallsAs.{entry_as}
 use Rattle.call_sessions.specs.Sessions.{plain_call, plain_host, call_over, acting_call, tree_behind, KeepsCalls}
 use Rattle.call_sessions.proofs.RunsAs.{tree_as, history_as}

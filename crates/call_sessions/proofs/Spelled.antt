@@ -1,8 +1,8 @@
 -- Calls that are read from a script write bytes.
 use Rattle.tree_model.specs.declared.call.Call.{Call}
 use Rattle.tree_model.specs.declared.call.Call.TheVariants as calls
-use Rattle.call_grammar.specs.WellFormed.{IsWellFormed}
-use Rattle.host_volume.specs.ByteCalls.{HasBytes}
+use Rattle.line_grammar.specs.calls.WellFormed.{IsWellFormed}
+use Rattle.minix_host.specs.ByteCalls.{HasBytes}
 
 pub well_formed_bytes : (c : Call) → IsWellFormed c → HasBytes c
 well_formed_bytes (calls.Write path off len value) h = h.2

@@ -1,2 +1,4 @@
 pub mod CallsAs
 pub mod Sessions
+pub mod made
+pub mod promises

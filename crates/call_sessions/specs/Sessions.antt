@@ -20,15 +20,15 @@ use Rattle.host_machine.specs.State.{Entry, Host}
 use Rattle.host_machine.specs.Views.{cut_of}
 use Rattle.host_machine.specs.laws.Contract.{Over, noted_history, session}
 use Rattle.host_machine.specs.laws.Rules.{AllRules}
-use Rattle.host_runs.specs.Runs.{Event, steps}
-use Rattle.host_runs.specs.Sentences.{kept_number, KeepsSentences}
-use Rattle.host_runs.specs.Flushes.{count, is_sync_begin}
-use Rattle.host_volume.specs.ByteCalls.{ByteCall, HasBytes}
-use Rattle.host_volume.specs.Calls.{kind_of}
-use Rattle.host_volume.specs.PlainTrees.{PlainTree}
-use Rattle.host_volume.specs.Runs.{HasTreeLike, acting}
-pub use Rattle.made_sessions.specs.MadeSessions.{made_now, made_opening, made_ring}
-use Rattle.host_volume.specs.Sessions.{Opening, model_of, over, Stands}
+use Rattle.host_machine.specs.runs.Runs.{Event, steps}
+use Rattle.host_machine.specs.runs.Sentences.{kept_number, KeepsSentences}
+use Rattle.host_machine.specs.runs.Flushes.{count, is_sync_begin}
+use Rattle.minix_host.specs.ByteCalls.{ByteCall, HasBytes}
+use Rattle.minix_host.specs.Calls.{kind_of}
+use Rattle.minix_host.specs.PlainTrees.{PlainTree}
+use Rattle.minix_host.specs.Runs.{HasTreeLike, acting}
+pub use Rattle.call_sessions.specs.made.MadeSessions.{made_now, made_opening, made_ring}
+use Rattle.minix_host.specs.Sessions.{Opening, model_of, over, Stands}
 use Rattle.call_sessions.specs.CallsAs.{host_as}
 
 -- the calls of all programs write bytes

@@ -9,21 +9,21 @@ ghost use Rattle.tree_model.specs.declared.call.Reply.{Reply};
 ghost use Rattle.tree_model.specs.declared.call.Reply.TheVariants as replies;
 ghost use Rattle.journal_ring.specs.LogRing.{LogRing};
 ghost use Rattle.volume_steps.specs.Now.{VolumeNow};
-ghost use Rattle.call_grammar.specs.WellFormed.{IsWellFormed};
+ghost use Rattle.line_grammar.specs.calls.WellFormed.{IsWellFormed};
 ghost use Rattle.host_machine.specs.Host as machine;
 ghost use Rattle.host_machine.specs.Outcomes.{Done};
 ghost use Rattle.host_machine.specs.State.{Begun, Thread, Host};
-ghost use Rattle.host_runs.specs.Promises.{IsAnswered};
-ghost use Rattle.host_runs.specs.Runs.{Event, steps};
-ghost use Rattle.host_runs.specs.laws.Written.{AreWritten};
-ghost use Rattle.host_volume.specs.ByteCalls.{ByteCall, HasBytes};
-ghost use Rattle.host_volume.specs.Runs.{IsOpenedVolume, HasEmptyJournal};
-ghost use Rattle.host_volume.specs.Sessions.{Opening, over, Stands};
-ghost use Rattle.made_sessions.specs.MadeSessions.{made_now, made_opening, made_ring};
+ghost use Rattle.host_machine.specs.runs.Promises.{IsAnswered};
+ghost use Rattle.host_machine.specs.runs.Runs.{Event, steps};
+ghost use Rattle.host_machine.specs.runs.laws.Written.{AreWritten};
+ghost use Rattle.minix_host.specs.ByteCalls.{ByteCall, HasBytes};
+ghost use Rattle.minix_host.specs.Runs.{IsOpenedVolume, HasEmptyJournal};
+ghost use Rattle.minix_host.specs.Sessions.{Opening, over, Stands};
+ghost use Rattle.call_sessions.specs.made.MadeSessions.{made_now, made_opening, made_ring};
 ghost use Rattle.call_sessions.specs.CallsAs.{stepped_as, turned_as};
 ghost use Rattle.call_sessions.specs.Sessions.{WriteBytes, plain_call, plain_host, call_over, host_behind, KeepsCalls};
 
-use host_volume::new_volumes_are_in_use;
+use minix_host::new_volumes_are_in_use;
 
 /// A law, which does nothing when it is called: each step on a host whose calls are seen without their proofs is the step
 /// on the host, seen without them, and answers the same; and so is each list of steps.

@@ -1,14 +1,16 @@
 //! Sessions over calls as code has them.
 //!
-//! The laws of `host_volume` are over calls with a proof that they write bytes. Here the same is said over calls alone:
+//! The laws of `minix_host` are over calls with a proof that they write bytes. Here the same is said over calls alone:
 //! `specs/CallsAs` sees a host's calls as other things, and `specs/Sessions` has a session over calls and what it keeps.
 //! The public functions do nothing when they are called: each is a law, and its clauses say it.
 //!
-//! Stands on `host_volume` and `made_sessions`, whose sessions these are, and on `call_grammar`, which says what calls a
+//! Stands on `minix_host` and `made`, whose sessions these are, and on `line_grammar::calls`, which says what calls a
 //! script has.
 #![tactic(auto)]
 
 mod laws;
+pub mod made;
+pub mod promises;
 
 pub use laws::{
     calls_of_scripts_write_bytes, forgetting_proofs_changes_no_step,

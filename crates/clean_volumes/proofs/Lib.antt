@@ -1,2 +1,3 @@
 -- Lemmas on clean volumes that change.
 pub mod PlainClean
+pub mod ChangedLemmas

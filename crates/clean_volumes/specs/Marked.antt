@@ -2,8 +2,8 @@
 use Rattle.std.specs.Prelude.{◌≡◌, ℕ, ◌<◌, ◌≤◌, ◌↔◌, true, Some}
 use Rattle.minix_layout.specs.declared.division.Geometry.{Geometry}
 use Rattle.minix_layout.specs.Bits.{inode_bit, zone_bit, has_bit}
-use Rattle.zone_maps.specs.declared.zone_state.ZoneState.TheVariants as states
-use Rattle.zone_maps.specs.Zones.{Zones, state_of}
+use Rattle.minix_tables.specs.declared.zones.zone_state.ZoneState.TheVariants as states
+use Rattle.minix_tables.specs.zones.Zones.{Zones, state_of}
 use Rattle.volume_model.specs.Touched.{Contents}
 use Rattle.volume_steps.specs.UsedInodes.{IsInodeUsed}
 

@@ -6,6 +6,7 @@
 //! Stands on `vol_check` for what a clean volume is, and on `volume_steps` for calls.
 #![tactic(auto)]
 
+pub mod changed;
 mod laws;
 
 pub use laws::{calls_keep_volumes_clean, marked_volumes_are_clean};

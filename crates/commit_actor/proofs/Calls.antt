@@ -10,7 +10,7 @@ use Rattle.number_sets.specs.laws.Members.{In-with, In-without_all}
 use Rattle.log_model.specs.Ring.{IsPlace}
 use Rattle.journal_ring.specs.Journal.{JournalRing}
 use Rattle.journal_ring.specs.LogRing.{LogRing}
-use Rattle.tx_running.specs.Open.{OpenTransaction}
+use Rattle.journal_ring.specs.running.Open.{OpenTransaction}
 use Rattle.flush_actor.specs.Actor.{FlushActor, with_part}
 use Rattle.flush_actor.specs.Part.{FlushPart, at_limit}
 use Rattle.flush_actor.specs.Steps.{FlushTurn, submits, submit_flush, take_completion, flush_due, flush_turn}

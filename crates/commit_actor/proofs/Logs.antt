@@ -12,16 +12,16 @@ use Rattle.blk_base.specs.laws.Members.{In-map, slice_get-In}
 use Rattle.log_model.specs.Marks.{Logged}
 use Rattle.log_model.specs.Ring.{Ring, IsPlace}
 use Rattle.log_model.proofs.Ring.{places_on-place}
-use Rattle.conflict_pages.specs.Conflicts.{Conflicts, hold}
+use Rattle.flush_actor.specs.conflicts.Conflicts.{Conflicts, hold}
 use Rattle.journal_blocks.specs.Super.{IsSound}
 use Rattle.journal_ring.specs.Journal as ring
 use Rattle.journal_ring.specs.Journal.{JournalRing, with_ring}
 use Rattle.journal_ring.specs.LogRing.{ring_free, place_blocks}
-use Rattle.tx_running.specs.Closing.{logged_of}
-use Rattle.tx_running.specs.Open as transaction
-use Rattle.tx_running.specs.Open.{OpenTransaction, with_running}
-use Rattle.tx_running.specs.Plan.{Writers}
-use Rattle.tx_running.specs.Running.{fresh, log_needs}
+use Rattle.journal_ring.specs.running.Closing.{logged_of}
+use Rattle.journal_ring.specs.running.Open as transaction
+use Rattle.journal_ring.specs.running.Open.{OpenTransaction, with_running}
+use Rattle.journal_ring.specs.running.Plan.{Writers}
+use Rattle.journal_ring.specs.running.Running.{fresh, log_needs}
 use Rattle.flush_actor.specs.Actor as flush
 use Rattle.flush_actor.specs.Actor.{FlushActor, with_part, with_conflicts}
 use Rattle.flush_actor.specs.Outcomes.{is_did}

@@ -6,10 +6,10 @@ use Rattle.log_model.specs.Marks.{Logged}
 use Rattle.log_model.specs.Ring.{Ring, places_on}
 use Rattle.journal_blocks.specs.declared.super_block.JournalSuper.{JournalSuper}
 use Rattle.journal_ring.specs.LogRing.{LogRing}
-use Rattle.tx_running.specs.Closing.{writers, unplaced_blocks, logged_of}
-use Rattle.tx_running.specs.Plan.{Planned, first_of, logged_blocks, commit_block, placed, with_barrier, plan_of}
-use Rattle.tx_running.specs.declared.pieces.UnplacedBlock.{UnplacedBlock}
-use Rattle.tx_running.specs.Running.{Running}
+use Rattle.journal_ring.specs.running.Closing.{writers, unplaced_blocks, logged_of}
+use Rattle.journal_ring.specs.running.Plan.{Planned, first_of, logged_blocks, commit_block, placed, with_barrier, plan_of}
+use Rattle.journal_ring.specs.declared.running.pieces.UnplacedBlock.{UnplacedBlock}
+use Rattle.journal_ring.specs.running.Running.{Running}
 use Rattle.flush_actor.specs.Part.{FlushPart}
 use Rattle.commit_actor.specs.Journal.{Phase, Committing, JournalPart}
 use Rattle.commit_actor.specs.code.Sending.{first_planned, with_barriers, rest_of}

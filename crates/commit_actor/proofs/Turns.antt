@@ -14,9 +14,9 @@ use Rattle.page_cache.specs.declared.cached_page.CachedPage.{CachedPage}
 use Rattle.number_sets.specs.Sets.{has}
 use Rattle.number_sets.specs.laws.Keyed.{put_by-longer}
 use Rattle.journal_ring.specs.LogRing.{LogRing, put_homes, put_home, commit_bodies}
-use Rattle.tx_running.specs.Closing.{unplaced_blocks}
-use Rattle.tx_running.specs.Plan.{Writers, Planned, placed, chunks_from, chunks, described, all_described, body_block, revoke_block, commit_block, logged_blocks}
-use Rattle.tx_running.specs.declared.pieces.UnplacedBlock.{UnplacedBlock}
+use Rattle.journal_ring.specs.running.Closing.{unplaced_blocks}
+use Rattle.journal_ring.specs.running.Plan.{Writers, Planned, placed, chunks_from, chunks, described, all_described, body_block, revoke_block, commit_block, logged_blocks}
+use Rattle.journal_ring.specs.declared.running.pieces.UnplacedBlock.{UnplacedBlock}
 use Rattle.flush_actor.specs.Outcomes.{is_did, is_queue_full}
 use Rattle.flush_actor.specs.Part.{at_limit}
 use Rattle.flush_actor.specs.Steps.{submit_turn}

@@ -6,9 +6,9 @@ use Rattle.page_cache.specs.declared.cached_page.CachedPage.{CachedPage}
 use Rattle.journal_blocks.specs.declared.super_block.JournalSuper.{JournalSuper}
 use Rattle.journal_ring.specs.Journal.{JournalRing}
 use Rattle.journal_ring.specs.LogRing.{LogRing, ring_free}
-use Rattle.tx_running.specs.Open.{OpenTransaction}
-use Rattle.tx_running.specs.Plan.{Writers}
-use Rattle.tx_running.specs.Running.{Running, fresh, log_needs}
+use Rattle.journal_ring.specs.running.Open.{OpenTransaction}
+use Rattle.journal_ring.specs.running.Plan.{Writers}
+use Rattle.journal_ring.specs.running.Running.{Running, fresh, log_needs}
 use Rattle.flush_actor.specs.Actor as flush
 use Rattle.flush_actor.specs.Outcomes.{is_did}
 use Rattle.flush_actor.specs.Part.{FlushPart, is_over}

@@ -1,6 +1,6 @@
 -- What calls of the host change of the journal's part.
 use Rattle.flush_actor.specs.Part.{FlushPart}
-use Rattle.tx_running.specs.Open.{OpenTransaction}
+use Rattle.journal_ring.specs.running.Open.{OpenTransaction}
 use Rattle.commit_actor.specs.Actor.{CommitActor}
 
 abbrev pub with_flush : CommitActor → FlushPart → CommitActor

@@ -3,8 +3,8 @@ use Rattle.std.specs.List.{list_any}
 use Rattle.std.specs.Prelude.{ℕ, ◌+◌, ◌-◌, ◌==◌, Bool, true, false, nat_lt, List, Option, Some, None, if◌then◌else◌}
 use Rattle.log_model.specs.Marks.{Logged}
 use Rattle.journal_ring.specs.LogRing.{LogRing}
-use Rattle.tx_running.specs.Plan.{Planned}
-use Rattle.tx_running.specs.Running.{Running}
+use Rattle.journal_ring.specs.running.Plan.{Planned}
+use Rattle.journal_ring.specs.running.Running.{Running}
 use Rattle.flush_actor.specs.Part.{FlushPart}
 
 -- The commit block of the transaction before the running one is not submitted: what is left of its plan,

@@ -10,11 +10,11 @@ use Rattle.log_model.specs.Marks.{Logged}
 use Rattle.page_cache.specs.Pages.{unsent_of, put_page, marked}
 use Rattle.page_cache.specs.declared.cached_page.CachedPage.{CachedPage}
 use Rattle.page_cache.specs.declared.cached_page.PageState.TheVariants.{Firm}
-use Rattle.conflict_pages.specs.Conflicts.{hold, least}
+use Rattle.flush_actor.specs.conflicts.Conflicts.{hold, least}
 use Rattle.journal_ring.specs.LogRing.{ring_free, place_blocks, commit_bodies, home_sent, all_home}
-use Rattle.tx_running.specs.Closing.{logged_of}
-use Rattle.tx_running.specs.Running.{fresh, log_needs}
-use Rattle.tx_running.specs.Plan.{Writers, Planned, plan_of}
+use Rattle.journal_ring.specs.running.Closing.{logged_of}
+use Rattle.journal_ring.specs.running.Running.{fresh, log_needs}
+use Rattle.journal_ring.specs.running.Plan.{Writers, Planned, plan_of}
 use Rattle.flush_actor.specs.Part.{is_over, at_limit, submit}
 use Rattle.flush_actor.specs.Waits.{need_commit}
 use Rattle.commit_actor.specs.Journal.{Plan, Phase, Idle, Closing, Committing, JournalPart}

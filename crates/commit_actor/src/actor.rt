@@ -2,7 +2,7 @@
 ghost use Rattle.std.specs.Prelude.{◌≡◌, ◌≢◌, ◌++◌, true};
 ghost use Rattle.order_model.specs.declared.turn.Turn.TheVariants.{QueueFull, NoMemory};
 ghost use Rattle.page_cache.specs.Pages.{with_pages};
-ghost use Rattle.tx_running.specs.Closing.{writers};
+ghost use Rattle.journal_ring.specs.running.Closing.{writers};
 ghost use Rattle.flush_actor.specs.Outcomes.{is_queue_full, sent_between};
 ghost use Rattle.commit_actor.specs.Actor.{with_part, builds_plan};
 ghost use Rattle.commit_actor.specs.Steps.{commit_turn};

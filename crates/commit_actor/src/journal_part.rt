@@ -8,10 +8,10 @@ ghost use Rattle.std.specs.List.{list_any};
 ghost use Rattle.journal_blocks.specs.Super.{IsSound};
 ghost use Rattle.journal_ring.specs.Journal as new_ring;
 ghost use Rattle.journal_ring.specs.LogRing.{ring_free};
-ghost use Rattle.tx_running.specs.Closing.{writers};
-ghost use Rattle.tx_running.specs.Running.{log_needs, touched_one, revoked_one, changed_one, wanted_one};
-ghost use Rattle.tx_running.specs.Open.{reserved, noted, with_running};
-ghost use Rattle.conflict_pages.specs.Conflicts.{want};
+ghost use Rattle.journal_ring.specs.running.Closing.{writers};
+ghost use Rattle.journal_ring.specs.running.Running.{log_needs, touched_one, revoked_one, changed_one, wanted_one};
+ghost use Rattle.journal_ring.specs.running.Open.{reserved, noted, with_running};
+ghost use Rattle.flush_actor.specs.conflicts.Conflicts.{want};
 ghost use Rattle.flush_actor.specs.Steps.{submit_turn, after_submit, flush_turn};
 ghost use Rattle.flush_actor.specs.Outcomes.{is_queue_full, sent_between, first_since};
 ghost use Rattle.commit_actor.specs.Actor.{made, with_part, with_parts, part_of, builds_plan};
@@ -28,12 +28,12 @@ use crate::sending::Sending;
 use blk_base::{BodySource, NoMemory};
 use flush_actor::{FlushPart, Wait};
 use journal_ring::Ring;
+use journal_ring::running::Running;
 use order_model::{Completion, Inlet, Kind, Note, Outlet, Request, Turn};
 use page_cache::{PageState, Pages};
 use std::alloc::Global;
 use std::marker::Model;
 use std::mem;
-use tx_running::Running;
 
 /// What was submitted, the ring of the log, the running transaction, and how far it is closed. Only a step that builds a
 /// plan takes memory, and `reserve`.

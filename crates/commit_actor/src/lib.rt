@@ -7,7 +7,7 @@
 //! `journal_part` has the part with its phase, over `log`, which has all but the phase, and `sending`, what is left of a
 //! plan; `actor` has the step.
 //!
-//! Stands on `flush_actor`, `journal_ring`, `tx_running` and `page_cache`, whose parts it moves.
+//! Stands on `flush_actor`, `journal_ring`, `journal_ring::running` and `page_cache`, whose parts it moves.
 #![tactic(auto)]
 
 mod actor;

@@ -6,13 +6,13 @@ ghost use Rattle.order_model.specs.declared.turn.Turn.TheVariants.{Idle, QueueFu
 ghost use Rattle.number_sets.specs.Sets.{IsRising};
 ghost use Rattle.log_model.specs.Marks.{Logged};
 ghost use Rattle.log_model.specs.Ring.{IsPlace};
-ghost use Rattle.conflict_pages.specs.Conflicts.{hold, want, least};
+ghost use Rattle.flush_actor.specs.conflicts.Conflicts.{hold, want, least};
 ghost use Rattle.journal_blocks.specs.Super.{IsSound};
 ghost use Rattle.journal_ring.specs.Journal as new_ring;
 ghost use Rattle.journal_ring.specs.LogRing.{ring_free};
-ghost use Rattle.tx_running.specs.Closing.{writers};
-ghost use Rattle.tx_running.specs.Running.{log_needs, touched_one, revoked_one, changed_one, wanted_one};
-ghost use Rattle.tx_running.specs.Open.{reserved, noted, with_running};
+ghost use Rattle.journal_ring.specs.running.Closing.{writers};
+ghost use Rattle.journal_ring.specs.running.Running.{log_needs, touched_one, revoked_one, changed_one, wanted_one};
+ghost use Rattle.journal_ring.specs.running.Open.{reserved, noted, with_running};
 ghost use Rattle.flush_actor.specs.Actor.{with_conflicts};
 ghost use Rattle.flush_actor.specs.Outcomes.{is_did, is_queue_full, sent_between, first_since};
 ghost use Rattle.flush_actor.specs.Part.{is_over};
@@ -26,12 +26,12 @@ use crate::sending::{PlannedPut, Sending};
 use blk_base::{BodySource, NoMemory};
 use flush_actor::{FlushPart, Wait, flush_step};
 use journal_blocks::write_super;
+use journal_ring::running::Running;
 use journal_ring::{Bodies, LoggedBody, Ring};
 use order_model::{Completion, Inlet, Kind, Note, Outlet, Request, Turn};
 use page_cache::CachedPage;
 use std::alloc::Global;
 use std::marker::Model;
-use tx_running::Running;
 
 /// What was submitted, the ring of the log, and the running transaction.
 #[derive(Drop)]

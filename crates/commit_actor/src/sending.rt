@@ -7,9 +7,9 @@ ghost use Rattle.commit_actor.specs.code.Sending.{planned_of, rest_of, first_pla
 
 use blk_base::Block;
 use journal_blocks::{JournalSuper, write_super};
+use journal_ring::running::Pieces;
 use journal_ring::{Bodies, Ring};
 use order_model::Note;
-use tx_running::Pieces;
 
 /// The log blocks that are still to be submitted, from a place on, and before them the superblock, if it is. Behind the
 /// commit block the bodies and revokes go to the ring.

@@ -1,3 +1,4 @@
 pub mod Moves
 pub mod Newest
 pub mod Searches
+pub mod QueueLemmas

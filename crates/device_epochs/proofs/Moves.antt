@@ -17,20 +17,20 @@ use Rattle.order_model.specs.Device.{is_ordered, IsQuiet}
 use Rattle.device_epochs.specs.laws.FlushLaws.{quiet_is_empty, empty_is_quiet}
 use Rattle.order_model.specs.Received.{all_parts, part_at, first_part, completions_of, failures_of, transfers}
 use Rattle.order_model.proofs.Received.{first_part-next, first_part-le}
-use Rattle.command_queue.specs.Queue.{QueueState, Waiting, eligible, picked, departed, arrived}
+use Rattle.device_epochs.specs.queue.Queue.{QueueState, Waiting, eligible, picked, departed, arrived}
 use Rattle.device_epochs.specs.declared.cache.Entry.{Entry}
 use Rattle.device_epochs.specs.declared.device.DeviceSetup.{DeviceSetup}
 use Rattle.device_epochs.specs.Cache.{oldest, entries, put_all, without_entry}
-use Rattle.command_queue.specs.laws.QueueLaws.{part_at-lt, parts_of-waiting}
+use Rattle.device_epochs.specs.queue.laws.QueueLaws.{part_at-lt, parts_of-waiting}
 use Rattle.device_epochs.specs.Device.{DeviceState, is_off, fails_next, has_room, may_transfer, has_stopped, transferable, tried, transferred, performed, failed_on, persistable, persisted, written, body_at, received, answered, answered_from, tells_cut, seen, opened}
 use Rattle.device_epochs.specs.laws.Valid.{IsValid}
-use Rattle.command_queue.specs.Facts.{QueueFacts, with_waiting}
+use Rattle.device_epochs.specs.queue.Facts.{QueueFacts, with_waiting}
 use Rattle.device_epochs.specs.declared.device.EpochDevice.TheInside.{Inside}
 use Rattle.device_epochs.specs.code.Fields.{state_of, IsDevice}
 use Rattle.device_epochs.specs.code.Helpers.{IsPlain, EndsAt, starts_with_flush, flush_waits, is_held}
-use Rattle.command_queue.specs.Told.{is_flushed}
-use Rattle.command_queue.specs.laws.QueueLaws.{length-without, eligible-waits, eligible_clear, apart, number-lt}
-use Rattle.command_queue.specs.laws.EpochLaws.{flush-ordered, waiting-taken, ordered-first}
+use Rattle.device_epochs.specs.queue.Told.{is_flushed}
+use Rattle.device_epochs.specs.queue.laws.QueueLaws.{length-without, eligible-waits, eligible_clear, apart, number-lt}
+use Rattle.device_epochs.specs.queue.laws.EpochLaws.{flush-ordered, waiting-taken, ordered-first}
 use Rattle.device_epochs.specs.laws.StepLaws.{transferable-waits, tried-fails, tried-moves, persistable-In}
 use Rattle.device_epochs.specs.laws.StateLaws.{numbered, pending-is, none-pending, queue-facts, faults-lt}
 use Rattle.device_epochs.specs.laws.StateLaws as pending

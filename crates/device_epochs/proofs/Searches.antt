@@ -10,7 +10,7 @@ use Rattle.order_model.specs.declared.part.Part.{Part}
 use Rattle.device_epochs.specs.declared.cache.Entry.{Entry}
 use Rattle.device_epochs.specs.Cache.{same_place, put_entry, entries, oldest}
 use Rattle.device_epochs.specs.laws.CacheLaws.{same_place_parts, same_place_from, renewed, put_entry_found, In-put_entry, AreUnique-put_entry, AreSorted-put_entry}
-use Rattle.command_queue.specs.laws.QueueLaws.{length-filter-le}
+use Rattle.device_epochs.specs.queue.laws.QueueLaws.{length-filter-le}
 use Rattle.device_epochs.specs.laws.Valid.{AreUnique, AreSorted}
 use Rattle.device_epochs.specs.code.Helpers.{IsPlain, EndsAt, IsPlaceOf}
 

@@ -8,9 +8,9 @@ use Rattle.order_model.specs.declared.completion.Completion.TheVariants.{Cut}
 use Rattle.order_model.specs.declared.history.Transfer.{Transfer}
 use Rattle.order_model.specs.Received.{part_at, first_part, completions_of, failures_of, transfers}
 use Rattle.order_model.specs.Device.{Seen}
-pub use Rattle.command_queue.specs.Faults.{is_next}
-use Rattle.command_queue.specs.Faults.{is_number, counted}
-use Rattle.command_queue.specs.Queue.{QueueState, Waiting, arrived, departed, eligible}
+pub use Rattle.device_epochs.specs.queue.Faults.{is_next}
+use Rattle.device_epochs.specs.queue.Faults.{is_number, counted}
+use Rattle.device_epochs.specs.queue.Queue.{QueueState, Waiting, arrived, departed, eligible}
 use Rattle.device_epochs.specs.declared.cache.Entry.{Entry}
 use Rattle.device_epochs.specs.declared.device.DeviceSetup.{DeviceSetup}
 use Rattle.device_epochs.specs.Cache.{entries, put_all, oldest, without_entry}

@@ -2,3 +2,4 @@ pub mod Cache
 pub mod Device
 pub mod code
 pub mod laws
+pub mod queue

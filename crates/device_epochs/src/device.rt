@@ -4,18 +4,18 @@ ghost use Rattle.std.specs.Option.{option_map};
 ghost use Rattle.order_model.specs.declared.part.Part.{Part};
 ghost use Rattle.order_model.specs.Received.{all_parts, part_at};
 ghost use Rattle.device_epochs.specs.Device.{DeviceState, opened, is_off, has_room, received, transferable, transferred, persistable, persisted, next_answer, answered, after_read, IsSound, seen};
-ghost use Rattle.command_queue.specs.Faults.{is_number, is_next};
+ghost use Rattle.device_epochs.specs.queue.Faults.{is_number, is_next};
 ghost use Rattle.device_epochs.specs.laws.Valid.{work_left, IsValid};
 ghost use Rattle.device_epochs.specs.code.Helpers.{starts_with_flush, flush_waits, is_held};
-ghost use Rattle.command_queue.specs.Queue.{QueueState};
+ghost use Rattle.device_epochs.specs.queue.Queue.{QueueState};
 
 use crate::cache::Cache;
-use blk_base::{Block, Image, NoMemory};
-use circular_buffer::HeapCircularBuffer;
-use command_queue::{
+use crate::queue::{
     CommandQueue, complete, complete_failed, count_down, holds_flush, is_number, note_transfers,
     read_ids,
 };
+use blk_base::{Block, Image, NoMemory};
+use circular_buffer::HeapCircularBuffer;
 use order_model::{
     Command, Commands, Completion, CutDisk, DeviceRecord, History, OrderedDev, Origins, Part,
     ReadFault, Trail,

@@ -5,3 +5,7 @@
 
 #[cfg(test)]
 mod epoch_device;
+#[cfg(test)]
+mod flash_log;
+#[cfg(test)]
+mod stack;

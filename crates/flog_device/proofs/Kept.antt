@@ -11,7 +11,7 @@ use Rattle.blk_base.specs.laws.Members.{All-In, In-All, In-append_left, slice_ge
 use Rattle.order_model.specs.Received.{part_at}
 use Rattle.order_model.specs.declared.part.Part.{Part}
 use Rattle.order_model.specs.declared.command.Command.{Command}
-use Rattle.command_queue.specs.Faults.{is_number}
+use Rattle.device_epochs.specs.queue.Faults.{is_number}
 use Rattle.flog_device.specs.Log.{Place, Page, pages, prefix, places, programmed_at, is_covered, body_at}
 use Rattle.flog_device.specs.Device.{Fold, all_programmed, programs, folds, writes}
 use Rattle.flog_device.specs.laws.LogFacts.{InOrder, Rises, top, above, part_if, top-In, top-push_same, top-push_other, top-cons_other, prefix-yes, prefix-no, prefix-rest, prefix-programmed_at, places-append, uncovered}

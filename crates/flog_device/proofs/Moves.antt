@@ -16,13 +16,13 @@ use Rattle.order_model.specs.declared.history.DeviceRecord.{DeviceRecord}
 use Rattle.order_model.specs.Device.{IsQuiet}
 use Rattle.order_model.specs.Received.{all_parts, part_at, first_part, completions_of, failures_of, transfers}
 use Rattle.order_model.proofs.Received.{first_part-next, first_part-le}
-use Rattle.command_queue.specs.Queue.{QueueState, Waiting, eligible, picked, departed, arrived}
-use Rattle.command_queue.specs.Told.{is_flushed}
-use Rattle.command_queue.specs.laws.QueueLaws.{part_at-lt, length-without, number-lt}
+use Rattle.device_epochs.specs.queue.Queue.{QueueState, Waiting, eligible, picked, departed, arrived}
+use Rattle.device_epochs.specs.queue.Told.{is_flushed}
+use Rattle.device_epochs.specs.queue.laws.QueueLaws.{part_at-lt, length-without, number-lt}
 use Rattle.order_model.specs.Device.{is_ordered}
-use Rattle.command_queue.specs.Facts.{QueueFacts, with_waiting}
-use Rattle.command_queue.specs.laws.EpochLaws.{flush-ordered, waiting-taken, ordered-first}
-use Rattle.command_queue.specs.laws.QueueLaws.{eligible-waits, eligible_clear, apart}
+use Rattle.device_epochs.specs.queue.Facts.{QueueFacts, with_waiting}
+use Rattle.device_epochs.specs.queue.laws.EpochLaws.{flush-ordered, waiting-taken, ordered-first}
+use Rattle.device_epochs.specs.queue.laws.QueueLaws.{eligible-waits, eligible_clear, apart}
 use Rattle.blk_base.specs.laws.Members.{In-slice_get}
 use Rattle.flog_device.specs.Log.{Page, Place, place_of, places, prefix, pages}
 use Rattle.flog_device.specs.declared.device.FlogDevice.TheInside.{Inside}

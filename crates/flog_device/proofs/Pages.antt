@@ -6,9 +6,9 @@ use Rattle.std.proofs.Common.{sym, ap, ◌∙◌, inl, inr, arith}
 use Rattle.std.proofs.lemmas.Bool.{both_ways, and_from, or_cases, or_left, or_right, not-true, le-leb, cases_Bool, false≢true}
 use Rattle.std.proofs.lemmas.Option.{none-some, same_Some}
 use Rattle.blk_base.specs.Members.{In}
-use Rattle.command_queue.specs.laws.QueueLaws.{eligible-waits}
+use Rattle.device_epochs.specs.queue.laws.QueueLaws.{eligible-waits}
 use Rattle.blk_base.specs.laws.Members.{filter_all, slice_get-in_range, In-append_cases}
-use Rattle.command_queue.specs.Queue.{QueueState, Waiting, eligible, picked}
+use Rattle.device_epochs.specs.queue.Queue.{QueueState, Waiting, eligible, picked}
 use Rattle.flog_device.specs.Log.{Page, programmed_at}
 use Rattle.flog_device.specs.Device.{Write, Program, Fold, programs, folds, writes, fits}
 use Rattle.flog_device.specs.code.Helpers.{fitting, starts_with_flush, IsOrderly, IsChosen}

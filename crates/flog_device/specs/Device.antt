@@ -7,8 +7,8 @@ use Rattle.order_model.specs.declared.completion.Completion.TheVariants.{Cut}
 use Rattle.order_model.specs.declared.history.Transfer.{Transfer}
 use Rattle.order_model.specs.Received.{first_part, completions_of, failures_of, transfers}
 use Rattle.order_model.specs.Device.{Seen}
-use Rattle.command_queue.specs.Faults.{is_number}
-use Rattle.command_queue.specs.Queue.{QueueState, Waiting, arrived, departed, eligible}
+use Rattle.device_epochs.specs.queue.Faults.{is_number}
+use Rattle.device_epochs.specs.queue.Queue.{QueueState, Waiting, arrived, departed, eligible}
 pub use Rattle.flog_device.specs.declared.device.FlogSetup.{FlogSetup}
 pub use Rattle.flog_device.specs.declared.log.Write.{Write}
 pub use Rattle.flog_device.specs.declared.log.Write.TheVariants.{Program, Fold}

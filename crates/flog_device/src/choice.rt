@@ -2,11 +2,11 @@
 //! is not programmed.
 ghost use Rattle.std.specs.Prelude.{◌≡◌, length, None, false, IsTrue, MatchOption, slice_get};
 ghost use Rattle.std.specs.Option.{option_map_or};
-ghost use Rattle.command_queue.specs.Queue.{Waiting, eligible, picked};
+ghost use Rattle.device_epochs.specs.queue.Queue.{Waiting, eligible, picked};
 ghost use Rattle.flog_device.specs.Device.{fits};
 ghost use Rattle.flog_device.specs.code.Helpers.{fitting, starts_with_flush, IsOrderly, IsChosen};
 
-use command_queue::CommandQueue;
+use device_epochs::queue::CommandQueue;
 use order_model::Command;
 
 // The parts of one command, at most.

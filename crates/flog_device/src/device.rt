@@ -9,7 +9,7 @@ use crate::log::{Write, body_of};
 use crate::page_log::{PageLog, no_parts};
 use blk_base::{Block, Image, NoMemory};
 use circular_buffer::HeapCircularBuffer;
-use command_queue::{
+use device_epochs::queue::{
     CommandQueue, complete, complete_failed, holds_flush, is_number, note_transfers, read_ids,
 };
 use order_model::{

@@ -11,7 +11,7 @@ ghost use Rattle.flog_device.specs.code.Logged.{IsIn, AreLast};
 
 use crate::log::{Page, Write, append_pages, body_of, can_fold, lay_over, pick_write, program};
 use blk_base::{Image, NoMemory};
-use command_queue::is_number;
+use device_epochs::queue::is_number;
 use order_model::{Commands, Part};
 use std::alloc::Global;
 use std::collections::VecDeque;

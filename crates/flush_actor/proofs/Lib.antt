@@ -2,3 +2,4 @@ mod Notes
 mod Completions
 mod Waiting
 mod Holds
+pub mod ConflictsLemmas

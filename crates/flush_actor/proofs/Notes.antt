@@ -6,9 +6,9 @@ use Rattle.order_model.specs.declared.note.Note.TheVariants as notes
 use Rattle.order_model.specs.declared.note.Note.{Note}
 use Rattle.order_model.specs.declared.request.Request.{Request}
 use Rattle.blk_base.specs.Members.{In}
-use Rattle.conflict_pages.specs.Commits.{CommitTable, is_committed, with_commits}
-use Rattle.conflict_pages.specs.declared.commits.CommitBlock.{CommitBlock}
-use Rattle.conflict_pages.specs.laws.CommitBlocks.{committed_more, In-with_commit, with_commit-longer}
+use Rattle.flush_actor.specs.conflicts.Commits.{CommitTable, is_committed, with_commits}
+use Rattle.flush_actor.specs.declared.conflicts.commits.CommitBlock.{CommitBlock}
+use Rattle.flush_actor.specs.conflicts.laws.CommitBlocks.{committed_more, In-with_commit, with_commit-longer}
 use Rattle.flush_actor.specs.Part.{is_flush_note, flush_above, last_put}
 use Rattle.flush_actor.specs.Steps.{commits_before}
 use Rattle.flush_actor.specs.code.Fields.{IsSubmission}

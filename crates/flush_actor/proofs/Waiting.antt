@@ -6,7 +6,7 @@ use Rattle.blk_base.specs.laws.Members.{In-set_cases, In-map, In-replicate}
 use Rattle.std.proofs.lemmas.Option.{same_Some, none-some}
 use Rattle.order_model.specs.declared.note.Note.{Note}
 use Rattle.order_model.specs.declared.request.Request.{Request}
-use Rattle.conflict_pages.specs.Conflicts.{ConflictTable}
+use Rattle.flush_actor.specs.conflicts.Conflicts.{ConflictTable}
 use Rattle.flush_actor.specs.Actor.{Submission, Completed}
 use Rattle.flush_actor.specs.Kinds.{makes_durable}
 use Rattle.flush_actor.specs.Waits.{no_wait, need_commit}

@@ -3,7 +3,7 @@ use Rattle.std.specs.Prelude.{ℕ, List, [], replicate}
 use Rattle.order_model.specs.declared.completion.Completion.{Completion}
 use Rattle.order_model.specs.declared.note.Note.{Note}
 use Rattle.order_model.specs.declared.request.Request.{Request}
-use Rattle.conflict_pages.specs.Conflicts.{Conflicts}
+use Rattle.flush_actor.specs.conflicts.Conflicts.{Conflicts}
 use Rattle.flush_actor.specs.Part.{FlushPart}
 use Rattle.flush_actor.specs.Waits.{no_wait}
 

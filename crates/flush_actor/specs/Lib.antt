@@ -5,3 +5,4 @@ pub mod Outcomes
 pub mod Steps
 pub mod Actor
 pub mod code
+pub mod conflicts

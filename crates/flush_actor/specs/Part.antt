@@ -6,7 +6,7 @@ use Rattle.order_model.specs.declared.completion.Completion.{Completion}
 use Rattle.order_model.specs.declared.note.Note.TheVariants as notes
 use Rattle.order_model.specs.declared.note.Note.{Note}
 use Rattle.order_model.specs.declared.request.Request.{Request}
-use Rattle.conflict_pages.specs.Conflicts.{Conflicts}
+use Rattle.flush_actor.specs.conflicts.Conflicts.{Conflicts}
 use Rattle.flush_actor.specs.declared.wait.Wait.{Wait}
 
 pub record FlushPart : Type 0 where

@@ -9,7 +9,7 @@ use Rattle.order_model.specs.declared.request.Kind.TheVariants as puts
 use Rattle.order_model.specs.declared.request.Request.{Request}
 use Rattle.order_model.specs.declared.turn.Turn.TheVariants as turns
 use Rattle.order_model.specs.declared.turn.Turn.{Turn}
-use Rattle.conflict_pages.specs.Conflicts.{Conflicts, unhold, unhold_by}
+use Rattle.flush_actor.specs.conflicts.Conflicts.{Conflicts, unhold, unhold_by}
 use Rattle.flush_actor.specs.Outcomes.{is_did}
 use Rattle.flush_actor.specs.Part.{FlushPart, is_over, at_limit, is_moved, flush_above, submit}
 use Rattle.flush_actor.specs.Waits.{awaits}

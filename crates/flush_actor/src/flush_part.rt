@@ -3,8 +3,8 @@ ghost use Rattle.std.specs.Prelude.{◌≡◌, ◌+◌, ◌<◌, ◌≤◌, ◌^
 ghost use Rattle.std.specs.List.{list_any};
 ghost use Rattle.std.specs.Option.{option_map};
 ghost use Rattle.order_model.specs.declared.turn.Turn.TheVariants.{QueueFull};
-ghost use Rattle.conflict_pages.specs.Conflicts as holds;
-ghost use Rattle.conflict_pages.specs.Conflicts.{least, holder};
+ghost use Rattle.flush_actor.specs.conflicts.Conflicts as holds;
+ghost use Rattle.flush_actor.specs.conflicts.Conflicts.{least, holder};
 ghost use Rattle.flush_actor.specs.Actor.{made, with_part, with_conflicts};
 ghost use Rattle.flush_actor.specs.Outcomes.{is_queue_full, sent_between};
 ghost use Rattle.flush_actor.specs.Part.{is_cut, first_failed, is_over, at_limit, is_flushed_after, flush_above, last_put};
@@ -15,10 +15,10 @@ ghost use Rattle.flush_actor.specs.Waits.{need_commit};
 
 use crate::Wait;
 use crate::completed::Completed;
+use crate::conflicts::Conflicts;
 use crate::submission::Submission;
 use crate::waits::{any_awaits, no_waits, note_commit};
 use blk_base::NoMemory;
-use conflict_pages::Conflicts;
 use order_model::{Completion, Kind, Note, Outlet, Request, Turn};
 use std::alloc::Global;
 use std::marker::Model;

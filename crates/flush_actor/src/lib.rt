@@ -7,12 +7,13 @@
 //! `flush_part` has the part, over `submission` and `completed`, its two halves, and `waits`, what the threads' calls wait
 //! for; `actor` has the step.
 //!
-//! Stands on `conflict_pages` for what is held, and on `order_model` for requests, completions and the ends of queues.
+//! Stands on `conflicts` for what is held, and on `order_model` for requests, completions and the ends of queues.
 #![tactic(auto)]
 
 mod actor;
 mod call_kind;
 mod completed;
+pub mod conflicts;
 mod flush_part;
 mod submission;
 mod wait;

@@ -1,12 +1,12 @@
 //! What was submitted.
 ghost use Rattle.std.specs.Prelude.{◌≡◌, ℕ, ◌+◌, ◌<◌, ◌^◌, None, [], ◌∷◌, ◌++◌, IfOk, length, slice_get};
-ghost use Rattle.conflict_pages.specs.Commits.{is_committed, with_commits};
+ghost use Rattle.flush_actor.specs.conflicts.Commits.{is_committed, with_commits};
 ghost use Rattle.flush_actor.specs.Part.{is_flush_note, flush_above, last_put};
 ghost use Rattle.flush_actor.specs.Steps.{commits_before};
 ghost use Rattle.flush_actor.specs.code.Summary.{flush_with, put_with, commits_with, is_above};
 
+use crate::conflicts::Commits;
 use blk_base::NoMemory;
-use conflict_pages::Commits;
 use order_model::{Note, Request, Trail};
 use std::alloc::Global;
 use std::marker::Model;

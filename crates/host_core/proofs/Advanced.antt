@@ -6,8 +6,8 @@ use Rattle.page_cache.specs.Pages.{Cache}
 use Rattle.tree_model.specs.declared.call.Call.{Call}
 use Rattle.tree_model.specs.declared.call.Reply.{Reply}
 use Rattle.journal_blocks.specs.declared.super_block.JournalSuper.{JournalSuper}
-use Rattle.tx_running.specs.Closing.{writers}
-use Rattle.tx_running.specs.Open.{quota}
+use Rattle.journal_ring.specs.running.Closing.{writers}
+use Rattle.journal_ring.specs.running.Open.{quota}
 use Rattle.volume_steps.specs.Now.{VolumeNow}
 use Rattle.commit_actor.specs.Actor.{CommitActor}
 use Rattle.host_answers.specs.declared.step.Step.{Step}
@@ -17,7 +17,7 @@ use Rattle.host_machine.specs.Host.{Stepped}
 use Rattle.host_machine.specs.Outcomes as outcomes
 use Rattle.host_machine.specs.State as state
 use Rattle.host_machine.specs.State.{Host, Setup}
-use Rattle.plain_calls.specs.Steps.{CallParts}
+use Rattle.host_core.specs.at_once.Steps.{CallParts}
 use Rattle.host_core.specs.Answers.{IfStepped, found_queue_full}
 use Rattle.host_core.specs.Entries.{entry_in}
 use Rattle.host_core.specs.Now.{HostNow, model_now, setup_now, with_host}

@@ -4,7 +4,7 @@ use Rattle.std.proofs.lemmas.Bool.{false≢true}
 use Rattle.tree_model.specs.declared.call.Reply.{Reply}
 use Rattle.tree_model.specs.declared.call.Reply.TheVariants as replies
 use Rattle.host_machine.specs.State.{Answered}
-use Rattle.plain_calls.specs.Replies.{is_of_tree}
+use Rattle.host_core.specs.at_once.Replies.{is_of_tree}
 use Rattle.host_core.specs.Entries.{ending_of}
 
 pub tree_ending : (r : Reply) → is_of_tree r ≡ true → ending_of r ≡ Answered r

@@ -12,10 +12,10 @@ use Rattle.commit_actor.specs.Calls.{with_flush}
 use Rattle.commit_actor.specs.Journal.{JournalPart}
 use Rattle.flush_actor.specs.Part.{FlushPart}
 use Rattle.flush_actor.specs.declared.wait.Wait.{Wait}
-use Rattle.tx_running.specs.Plan.{Writers}
+use Rattle.journal_ring.specs.running.Plan.{Writers}
 use Rattle.host_machine.specs.State.{Begun}
-use Rattle.begun_calls.specs.Steps.{Gone, goes_on, keeps_all}
-use Rattle.plain_calls.specs.Steps.{with_part, Progress, Went, steps_plainly}
+use Rattle.host_core.specs.begun.Steps.{Gone, goes_on, keeps_all}
+use Rattle.host_core.specs.at_once.Steps.{with_part, Progress, Went, steps_plainly}
 use Rattle.host_answers.specs.declared.entry.Entry.{Entry}
 use Rattle.host_core.specs.code.Fields.{IsHost, IsWithin, AreNoted}
 use Rattle.host_core.specs.code.Progress.{KeepsHost, parts_now}

@@ -12,3 +12,8 @@ mod Kept
 mod Stops
 mod Advanced
 mod Stands
+pub mod BegunLemmas
+pub mod GatesLemmas
+pub mod EffectsLemmas
+pub mod LengthsLemmas
+pub mod AtOnceLemmas

@@ -6,7 +6,7 @@ use Rattle.blk_base.specs.laws.Members.{In-push_cases}
 use Rattle.page_cache.specs.Pages.{Cache}
 use Rattle.page_cache.specs.declared.cached_page.CachedPage.{CachedPage}
 use Rattle.journal_ring.specs.Journal.{JournalRing}
-use Rattle.tx_running.specs.Running.{fresh as fresh_transaction}
+use Rattle.journal_ring.specs.running.Running.{fresh as fresh_transaction}
 use Rattle.commit_actor.specs.Actor.{CommitActor, made}
 use Rattle.commit_actor.specs.Journal.{Idle}
 use Rattle.volume_steps.specs.Now.{VolumeNow}

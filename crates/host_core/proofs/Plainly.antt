@@ -9,12 +9,12 @@ use Rattle.flush_actor.specs.Part.{at_limit}
 use Rattle.volume_steps.specs.Now.{Change, tree_of_now, unchanged}
 use Rattle.volume_steps.specs.Calls.{called, Called}
 use Rattle.volume_steps.specs.Numbers.{number_in}
-use Rattle.tx_running.specs.Plan.{Writers}
+use Rattle.journal_ring.specs.running.Plan.{Writers}
 use Rattle.host_machine.specs.Causes as causes
 use Rattle.host_machine.specs.Causes.{Cause}
 use Rattle.host_machine.specs.Model.{Freed}
-use Rattle.host_volume.specs.Volumes.{zones_of}
-use Rattle.plain_calls.specs.Steps.{hindrance_by, CallParts, Progress, Answered, Full, Waits, Went, wanting, hindered, done_on, does, hinders, steps_plainly}
+use Rattle.minix_host.specs.Volumes.{zones_of}
+use Rattle.host_core.specs.at_once.Steps.{hindrance_by, CallParts, Progress, Answered, Full, Waits, Went, wanting, hindered, done_on, does, hinders, steps_plainly}
 use Rattle.host_core.specs.code.Replies.{has_list}
 use Rattle.host_core.proofs.ListReplies.{list_keeps}
 use Rattle.host_core.proofs.SameDivision.{called_same}

@@ -13,16 +13,16 @@ use Rattle.host_machine.specs.Host as machine
 use Rattle.host_machine.specs.Host.{Stepped}
 use Rattle.host_machine.specs.Model.{Model}
 use Rattle.host_machine.specs.State.{Ending, Answered, Down, ReadOnly, SessionFull, Host, Setup, Begun}
-use Rattle.host_volume.specs.Calls.{kind_of, refusal}
-use Rattle.host_volume.specs.PlainTrees.{PlainTree}
-use Rattle.host_volume.specs.Sessions.{model_of}
-use Rattle.begun_calls.specs.Parts as begun
-use Rattle.begun_calls.specs.Steps.{Gone, goes_on}
-use Rattle.begun_calls.specs.Steps as begun_steps
-use Rattle.plain_calls.specs.Parts as plain
-use Rattle.plain_calls.specs.Parts.{parts_in}
-use Rattle.plain_calls.specs.Steps.{CallParts, steps_plainly}
-use Rattle.plain_calls.specs.Steps as plain_steps
+use Rattle.minix_host.specs.Calls.{kind_of, refusal}
+use Rattle.minix_host.specs.PlainTrees.{PlainTree}
+use Rattle.minix_host.specs.Sessions.{model_of}
+use Rattle.host_core.specs.begun.Parts as begun
+use Rattle.host_core.specs.begun.Steps.{Gone, goes_on}
+use Rattle.host_core.specs.begun.Steps as begun_steps
+use Rattle.host_core.specs.at_once.Parts as plain
+use Rattle.host_core.specs.at_once.Parts.{parts_in}
+use Rattle.host_core.specs.at_once.Steps.{CallParts, steps_plainly}
+use Rattle.host_core.specs.at_once.Steps as plain_steps
 use Rattle.host_core.specs.code.Progress.{Went, Over, Opened, stop_of, went_on, went_plainly, begins_at, starts, goes_further, steps_call, with_parts, settled}
 
 abbrev model : Geometry → Model PlainTree VolumeNow Call Reply

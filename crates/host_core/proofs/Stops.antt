@@ -3,10 +3,10 @@ use Rattle.std.proofs.Common.{◌≡◌, ℕ, Bool, List, Option, Some, None, sy
 use Rattle.std.specs.Option.{option_map}
 use Rattle.tree_model.specs.declared.call.Call.{Call}
 use Rattle.tree_model.specs.declared.call.Reply.{Reply}
-use Rattle.tx_running.specs.Plan.{Writers}
+use Rattle.journal_ring.specs.running.Plan.{Writers}
 use Rattle.host_machine.specs.State.{Ending, Begun}
-use Rattle.host_volume.specs.Calls.{kind_of}
-use Rattle.plain_calls.specs.Steps.{CallParts}
+use Rattle.minix_host.specs.Calls.{kind_of}
+use Rattle.host_core.specs.at_once.Steps.{CallParts}
 use Rattle.host_core.specs.code.Progress.{Went, Over, stop_of, goes_further, steps_call, progress_is}
 use Rattle.host_core.specs.declared.found.Found.{Found}
 

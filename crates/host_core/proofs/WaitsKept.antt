@@ -9,10 +9,10 @@ use Rattle.log_model.specs.Marks.{Logged}
 use Rattle.page_cache.specs.Pages.{unsent_of, put_page, marked}
 use Rattle.page_cache.specs.declared.cached_page.CachedPage.{CachedPage}
 use Rattle.page_cache.specs.declared.cached_page.PageState.TheVariants.{Firm}
-use Rattle.conflict_pages.specs.Conflicts.{least}
+use Rattle.flush_actor.specs.conflicts.Conflicts.{least}
 use Rattle.journal_ring.specs.LogRing.{ring_free}
-use Rattle.tx_running.specs.Running.{log_needs}
-use Rattle.tx_running.specs.Plan.{Writers, Planned}
+use Rattle.journal_ring.specs.running.Running.{log_needs}
+use Rattle.journal_ring.specs.running.Plan.{Writers, Planned}
 use Rattle.flush_actor.specs.Kinds.{is_data, is_durable}
 use Rattle.flush_actor.specs.Part.{FlushPart, is_over, at_limit, is_flushed_after, flush_above, last_put}
 use Rattle.flush_actor.specs.Steps.{FlushTurn, flush_due, flush_turn, submit_flush, take_completion}
@@ -22,7 +22,7 @@ use Rattle.commit_actor.specs.Journal.{Plan, Phase, Idle, Closing, Committing, J
 use Rattle.host_machine.specs.Causes as causes
 use Rattle.host_machine.specs.Host.{Goal, AwaitCommit, AnswerOk, AwaitLastPut, goal_of, cause_of, unsent_on}
 use Rattle.host_machine.specs.State.{Begun}
-use Rattle.begun_calls.specs.Steps.{Went, Gone, Answered, Full, Sent, Waits, waiting, wanting, waits_durable, waits_for_put, waits_for_commit, pursues, with_pages, page_out, sends_page, walks, goes_on}
+use Rattle.host_core.specs.begun.Steps.{Went, Gone, Answered, Full, Sent, Waits, waiting, wanting, waits_durable, waits_for_put, waits_for_commit, pursues, with_pages, page_out, sends_page, walks, goes_on}
 use Rattle.commit_actor.specs.Steps as actor
 use Rattle.commit_actor.specs.Steps.{CommitTurn, commit_turn, phase_turn}
 

@@ -5,7 +5,7 @@ use Rattle.host_answers.specs.declared.step.Step.{Step}
 use Rattle.host_answers.specs.declared.step.Step.TheVariants as answers
 use Rattle.host_answers.specs.declared.step.Cause.TheVariants as reasons
 use Rattle.host_machine.specs.Outcomes as outcomes
-use Rattle.begun_calls.specs.Causes.{cause_is}
+use Rattle.host_core.specs.begun.Causes.{cause_is}
 
 -- this holds of the machine's answer, where memory was not refused
 abbrev pub IfStepped : Step → (outcomes.Step Reply → Type 0) → Type 0

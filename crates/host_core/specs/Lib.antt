@@ -5,3 +5,8 @@ pub mod Answers
 pub mod Standings
 pub mod code
 pub mod Done
+pub mod begun
+pub mod gates
+pub mod effects
+pub mod lengths
+pub mod at_once

@@ -5,14 +5,14 @@ use Rattle.journal_ring.specs.Journal.{JournalRing}
 use Rattle.journal_blocks.specs.declared.super_block.JournalSuper.{JournalSuper}
 use Rattle.tree_model.specs.declared.call.Call.{Call}
 use Rattle.tree_model.specs.declared.call.Reply.{Reply}
-use Rattle.tx_running.specs.Closing.{writers}
-use Rattle.tx_running.specs.Open.{quota}
+use Rattle.journal_ring.specs.running.Closing.{writers}
+use Rattle.journal_ring.specs.running.Open.{quota}
 use Rattle.volume_steps.specs.Now.{VolumeNow}
 use Rattle.host_machine.specs.Host.{opened}
 use Rattle.host_machine.specs.Model.{Model}
 use Rattle.host_machine.specs.State.{Host, Setup}
-use Rattle.host_volume.specs.PlainTrees.{PlainTree}
-use Rattle.host_volume.specs.Sessions.{model_of}
+use Rattle.minix_host.specs.PlainTrees.{PlainTree}
+use Rattle.minix_host.specs.Sessions.{model_of}
 
 -- the superblock that the journal was made from and its block, all calls of each thread, and the host
 pub record HostNow : Type 0 where

@@ -1,7 +1,7 @@
 -- How a caller stands.
 use Rattle.std.specs.Prelude.{◌≡◌, ◌≤◌, ◌^◌, ℕ, ◌-◌, ◌==◌, List, length, Option, Some, None, slice_get, slice_index_or, if◌then◌else◌}
 use Rattle.tree_model.specs.declared.call.Call.{Call}
-use Rattle.conflict_pages.specs.Conflicts.{least, holder}
+use Rattle.flush_actor.specs.conflicts.Conflicts.{least, holder}
 use Rattle.flush_actor.specs.Waits.{no_wait}
 use Rattle.flush_actor.specs.declared.wait.Wait.{Wait}
 use Rattle.commit_actor.specs.Journal.{JournalPart}

@@ -1,6 +1,6 @@
 //! A reply that is given and noted.
 ghost use Rattle.std.specs.Prelude.{◌≡◌, true, IfOk, OnErr};
-ghost use Rattle.plain_calls.specs.Replies.{is_of_tree};
+ghost use Rattle.host_core.specs.at_once.Replies.{is_of_tree};
 ghost use Rattle.host_core.specs.code.Replies.{has_list};
 
 use blk_base::NoMemory;
@@ -18,7 +18,7 @@ pub struct Answer {
 impl Model for Answer {
     ghost use Rattle.std.specs.Prelude.{◌≡◌, true};
     ghost use Rattle.tree_model.specs.declared.call.Reply.{Reply};
-    ghost use Rattle.plain_calls.specs.Replies.{is_of_tree};
+    ghost use Rattle.host_core.specs.at_once.Replies.{is_of_tree};
 
     ghost Value = { Reply };
 

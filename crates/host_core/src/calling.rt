@@ -8,12 +8,12 @@ ghost use Rattle.host_core.specs.Now.{model_now, setup_now, with_host};
 ghost use Rattle.host_machine.specs.Host as machine;
 
 use crate::Host;
+use crate::at_once::{PlainVolume, plain_calls_step_on_their_parts};
+use crate::begun::begun_calls_step_on_their_parts;
 use crate::settling::settle;
 use crate::stepping::step_call;
-use begun_calls::begun_calls_step_on_their_parts;
 use host_answers::Step;
 use order_model::{Outlet, Request};
-use plain_calls::{PlainVolume, plain_calls_step_on_their_parts};
 use std::alloc::Global;
 use tree_model::{Call, Reply};
 

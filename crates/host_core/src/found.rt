@@ -1,6 +1,6 @@
 //! How far a step brought a call.
 use crate::answer::Answer;
-use begun_calls::Begun;
+use crate::begun::Begun;
 use host_answers::Cause;
 
 /// How far a call came, before that is noted.

@@ -1,7 +1,7 @@
 //! The host.
 ghost use Rattle.std.specs.Prelude.{◌≡◌, ◌≢◌, ◌==◌, ◌+◌, ◌-◌, ◌^◌, ◌≤◌, ◌++◌, ◌<◌, [], true, length, drop, filter, map, replicate, slice_index_or, IfOk, OnErr, vec_capacity};
 ghost use Rattle.order_model.specs.declared.turn.Turn.TheVariants as turns;
-ghost use Rattle.tx_running.specs.Closing.{writers};
+ghost use Rattle.journal_ring.specs.running.Closing.{writers};
 ghost use Rattle.commit_actor.specs.Actor.{made, builds_plan};
 ghost use Rattle.flush_actor.specs.Outcomes.{is_queue_full, first_since, sent_between};
 ghost use Rattle.host_machine.specs.Host as machine;
@@ -17,6 +17,7 @@ ghost use Rattle.journal_blocks.specs.Super.{IsSound};
 ghost use Rattle.journal_ring.specs.Journal as new_ring;
 ghost use Rattle.host_core.specs.Now.{host_made, model_now, setup_now, with_host};
 
+use crate::at_once::PlainVolume;
 use crate::parts::Parts;
 use crate::programs::Programs;
 use crate::thread::Thread;
@@ -27,7 +28,6 @@ use host_answers::Entry;
 use journal_ring::Ring;
 use order_model::{Completion, Inlet, Kind, Note, Outlet, Request, Turn};
 use page_cache::{PageState, Pages};
-use plain_calls::PlainVolume;
 use std::alloc::Global;
 use std::marker::Model;
 

@@ -8,15 +8,20 @@
 //! has what a step finds of a call, on the `parts` of the host that calls change, and `found` and `answer` what that is;
 //! `settling` has what the host then notes of the call. `programs` has the callers' calls, and `thread` a caller.
 //!
-//! Stands on `commit_actor` and `flush_actor`, whose parts it has together, on `page_cache`, and on `begun_calls`
-//! and `plain_calls` for the steps of calls, which has the volume, too; `host_volume` says what the
+//! Stands on `commit_actor` and `flush_actor`, whose parts it has together, on `page_cache`, and on `begun`
+//! and `at_once` for the steps of calls, which has the volume, too; `minix_host` says what the
 //! machine is over it.
 #![tactic(auto)]
 
 mod answer;
+pub mod at_once;
+pub mod begun;
 mod calling;
+pub mod effects;
 mod found;
+pub mod gates;
 mod host;
+pub mod lengths;
 mod parts;
 mod programs;
 mod settling;
@@ -24,6 +29,6 @@ mod standing;
 mod stepping;
 mod thread;
 
+pub use crate::at_once::PlainVolume;
 pub use host::Host;
-pub use plain_calls::PlainVolume;
 pub use programs::Programs;

@@ -1,7 +1,7 @@
 //! What calls and actors change.
+use crate::at_once::PlainVolume;
 use commit_actor::JournalPart;
 use page_cache::Pages;
-use plain_calls::PlainVolume;
 
 /// The journal's part, the volume, its cached pages, and for each zone the transaction that took it for a file.
 #[derive(Drop)]

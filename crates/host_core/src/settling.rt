@@ -13,9 +13,9 @@ ghost use Rattle.host_core.specs.code.Progress.{is_queue_full, list_of, passed_o
 ghost use Rattle.host_answers.specs.declared.entry.EntryKind.TheVariants as kinds;
 ghost use Rattle.host_core.specs.declared.thread.Thread.{Thread};
 
+use crate::begun::Begun;
 use crate::found::Found;
 use crate::thread::Thread;
-use begun_calls::Begun;
 use commit_actor::JournalPart;
 use flush_actor::Wait;
 use host_answers::{Entry, EntryKind, Step};

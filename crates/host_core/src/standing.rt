@@ -5,7 +5,7 @@ ghost use Rattle.host_core.specs.Standings as standings;
 ghost use Rattle.host_core.specs.Standings.{standing_of, IsTooGreat};
 
 use crate::Host;
-use begun_calls::Begun;
+use crate::begun::Begun;
 use blk_base::NoMemory;
 use commit_actor::JournalPart;
 use flush_actor::Wait;

@@ -2,22 +2,22 @@
 ghost use Rattle.std.specs.Prelude.{◌≡◌, ◌<◌, ◌++◌, [], ℕ, true, false, List, Some, None, IfOk, IfSome, OnErr, length};
 ghost use Rattle.std.specs.Option.{option_map};
 ghost use Rattle.flush_actor.specs.Outcomes.{sent_between};
-ghost use Rattle.tx_running.specs.Closing.{writers};
-ghost use Rattle.tx_running.specs.Open.{quota};
-ghost use Rattle.tx_running.specs.Plan.{Writers};
-ghost use Rattle.host_volume.specs.Calls as volumes;
+ghost use Rattle.journal_ring.specs.running.Closing.{writers};
+ghost use Rattle.journal_ring.specs.running.Open.{quota};
+ghost use Rattle.journal_ring.specs.running.Plan.{Writers};
+ghost use Rattle.minix_host.specs.Calls as volumes;
 ghost use Rattle.host_core.specs.code.Progress.{KeepsHost, Over, goes_further, is_queue_full, list_of, parts_now, progress_is, starts, steps_call, went_plainly};
 ghost use Rattle.host_core.specs.code.Progress as steps;
-ghost use Rattle.plain_calls.specs.Steps.{steps_plainly};
+ghost use Rattle.host_core.specs.at_once.Steps.{steps_plainly};
 
 use crate::answer::Answer;
+use crate::at_once::{kind_of, node_of, refusal, replies_are_of_the_tree, step_plainly};
+use crate::begun::{Begun, go_on};
 use crate::found::Found;
 use crate::parts::Parts;
-use begun_calls::{Begun, go_on};
 use blk_base::NoMemory;
 use flush_actor::{CallKind, FlushPart};
 use order_model::{Outlet, Request};
-use plain_calls::{kind_of, node_of, refusal, replies_are_of_the_tree, step_plainly};
 use std::alloc::Global;
 use tree_model::Call;
 
@@ -55,9 +55,9 @@ fn go_further<O: Outlet<Request>>(
     ensures rest { O.rest out.new ≡ O.rest out.old }
 {
     match go_on(&mut parts.journal, &mut parts.pages, thread, begun, out)? {
-        begun_calls::Progress::Answered => Ok(Found::Done),
-        begun_calls::Progress::Full => Ok(Found::Full),
-        begun_calls::Progress::Sent {
+        crate::begun::Progress::Answered => Ok(Found::Done),
+        crate::begun::Progress::Full => Ok(Found::Full),
+        crate::begun::Progress::Sent {
             id,
             passed,
             barrier,
@@ -66,7 +66,7 @@ fn go_further<O: Outlet<Request>>(
             passed,
             barrier,
         }),
-        begun_calls::Progress::Waiting(cause) => Ok(Found::Waiting(cause)),
+        crate::begun::Progress::Waiting(cause) => Ok(Found::Waiting(cause)),
     }
 }
 
@@ -89,9 +89,9 @@ fn perform(alloc: Global, parts: &mut Parts, number: u64, call: &Call) -> Result
         owners,
     } = parts;
     match step_plainly(alloc, journal, volume, pages, owners, number, call)? {
-        plain_calls::Progress::Answered(reply) => Ok(Found::Answered(Answer::of(alloc, reply)?)),
-        plain_calls::Progress::Full => Ok(Found::Full),
-        plain_calls::Progress::Waiting(cause) => Ok(Found::Waiting(cause)),
+        crate::at_once::Progress::Answered(reply) => Ok(Found::Answered(Answer::of(alloc, reply)?)),
+        crate::at_once::Progress::Full => Ok(Found::Full),
+        crate::at_once::Progress::Waiting(cause) => Ok(Found::Waiting(cause)),
     }
 }
 

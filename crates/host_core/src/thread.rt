@@ -1,5 +1,5 @@
 //! A caller.
-use begun_calls::Begun;
+use crate::begun::Begun;
 use tree_model::Call;
 
 /// A caller: its calls, how many of them have ended, and whether the next one has begun.

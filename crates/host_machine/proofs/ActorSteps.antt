@@ -32,10 +32,10 @@ use Rattle.host_machine.proofs.Steps.{first_page-In, none_first}
 use Rattle.host_machine.specs.laws.Choices.{either}
 use Rattle.host_machine.specs.Host.{Turned, submits, build_plan, checkpoint, close_step, plan_sent, in_phase, commit_step, writeback, flush_step, send_page, with_flush}
 use Rattle.number_sets.specs.Sets.{has}
-use Rattle.conflict_pages.specs.Conflicts.{least}
+use Rattle.flush_actor.specs.conflicts.Conflicts.{least}
 use Rattle.journal_ring.specs.LogRing.{ring_free}
-use Rattle.tx_running.specs.Running.{log_needs}
-use Rattle.tx_running.specs.Plan.{Planned}
+use Rattle.journal_ring.specs.running.Running.{log_needs}
+use Rattle.journal_ring.specs.running.Plan.{Planned}
 use Rattle.host_machine.specs.State.{Entry, Host}
 use Rattle.commit_actor.specs.Journal.{Plan, Phase, Idle, Closing, Committing, is_submitted}
 use Rattle.flush_actor.specs.Part.{is_over, at_limit}

@@ -19,3 +19,4 @@ pub mod RuleSteps
 pub mod Sample
 pub mod Sends
 pub mod Steps
+pub mod RunsLemmas

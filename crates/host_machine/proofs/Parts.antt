@@ -7,10 +7,10 @@ use Rattle.log_model.specs.Marks.{Logged}
 use Rattle.page_cache.specs.Pages.{unsent_of, put_page, marked}
 use Rattle.page_cache.specs.declared.cached_page.CachedPage.{CachedPage}
 use Rattle.page_cache.specs.declared.cached_page.PageState.TheVariants.{Firm}
-use Rattle.conflict_pages.specs.Conflicts.{least}
+use Rattle.flush_actor.specs.conflicts.Conflicts.{least}
 use Rattle.journal_ring.specs.LogRing.{ring_free}
-use Rattle.tx_running.specs.Plan.{Planned}
-use Rattle.tx_running.specs.Running.{log_needs}
+use Rattle.journal_ring.specs.running.Plan.{Planned}
+use Rattle.journal_ring.specs.running.Running.{log_needs}
 use Rattle.flush_actor.specs.Part.{is_over, at_limit}
 use Rattle.flush_actor.specs.Steps as flush
 use Rattle.flush_actor.specs.Steps.{flush_due, flush_turn, submit_flush, take_completion}

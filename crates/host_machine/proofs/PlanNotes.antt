@@ -5,8 +5,8 @@ use Rattle.blk_base.specs.Members.{In}
 use Rattle.order_model.specs.declared.note.Note.TheVariants as notes
 use Rattle.log_model.specs.Marks.{Logged}
 use Rattle.log_model.specs.Ring.{Ring, places_on}
-use Rattle.tx_running.specs.Plan.{Writers, Planned, chunks_from, chunks, revoke_block, body_block, described, all_described, logged_blocks, placed, with_barrier, plan_of}
-use Rattle.tx_running.specs.declared.pieces.UnplacedBlock.{UnplacedBlock}
+use Rattle.journal_ring.specs.running.Plan.{Writers, Planned, chunks_from, chunks, revoke_block, body_block, described, all_described, logged_blocks, placed, with_barrier, plan_of}
+use Rattle.journal_ring.specs.declared.running.pieces.UnplacedBlock.{UnplacedBlock}
 use Rattle.host_machine.specs.laws.PlanNotes.{is_plan_note, IsRestOf, BarrierAhead}
 
 abbrev ArePlanNotes : List Planned → Type 0

@@ -21,7 +21,7 @@ use Rattle.host_machine.proofs.PlanNotes.{plan-rest, plan-barrier}
 use Rattle.host_machine.proofs.Plans.{walk_before, walk_of_image, bodies_in, on_its_way, numbers_closed, present_closed, bodies_closed, plan_revokes_closed, places_closed, sent_told, history_told}
 use Rattle.host_machine.proofs.Sends.{plainly, page≢commit, numbers_committed, history_committed, sent_pushed}
 use Rattle.host_machine.specs.Host.{build_plan, committed, send_planned}
-use Rattle.tx_running.specs.Plan.{Planned, plan_of}
+use Rattle.journal_ring.specs.running.Plan.{Planned, plan_of}
 use Rattle.host_machine.specs.State.{Host}
 use Rattle.commit_actor.specs.Journal.{Plan}
 use Rattle.host_machine.specs.Views.{cut_of, some_in, alters_at, tree_after, transaction_of, waits_for}

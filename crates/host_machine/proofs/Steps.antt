@@ -18,7 +18,7 @@ use Rattle.host_machine.specs.Causes.{Cause}
 use Rattle.host_machine.specs.Host.{Stepped, set_wait, set_thread, Goal, AwaitCommit, AnswerOk, AwaitLastPut, unsent_on, goal_of, wanting, end_with, hindrance, hindered, fits, plain, begin, await_durable, await_last_put, await_commit, pursue, walk_pages, continue_begun, stop_of, step_call, step_thread, advance, send_page, change}
 use Rattle.host_machine.specs.Model.{Model, Freed}
 use Rattle.host_machine.specs.Outcomes as outcomes
-use Rattle.tx_running.specs.Running.{log_needs}
+use Rattle.journal_ring.specs.running.Running.{log_needs}
 use Rattle.host_machine.specs.State.{Ending, Answered, Down, ReadOnly, SessionFull, Begins, Ends, Begun, Thread, Host, Setup}
 use Rattle.commit_actor.specs.Journal.{is_closing, is_submitted}
 use Rattle.flush_actor.specs.Kinds.{is_begun, is_data, is_durable, is_reading}

@@ -19,10 +19,10 @@ use Rattle.host_machine.specs.Model.{Model, Freed, FileBlock, Touched, Applied}
 use Rattle.host_machine.specs.Outcomes as outcomes
 use Rattle.host_machine.specs.Outcomes.{Step}
 use Rattle.number_sets.specs.Sets.{has, with_all, without_all}
-use Rattle.conflict_pages.specs.Conflicts.{holder, hold, want, least}
+use Rattle.flush_actor.specs.conflicts.Conflicts.{holder, hold, want, least}
 use Rattle.journal_ring.specs.LogRing.{LogRing, ring_free, place_blocks, commit_bodies, home_sent, all_home}
-use Rattle.tx_running.specs.Running.{Running, fresh, log_blocks_for, log_needs}
-use Rattle.tx_running.specs.Plan.{Planned, plan_of}
+use Rattle.journal_ring.specs.running.Running.{Running, fresh, log_blocks_for, log_needs}
+use Rattle.journal_ring.specs.running.Plan.{Planned, plan_of}
 use Rattle.host_machine.specs.State.{Ending, Answered, Down, ReadOnly, SessionFull, What, Begins, Ends, Begun, Thread, Host, Setup}
 use Rattle.commit_actor.specs.Journal.{Plan, Phase, Idle, Closing, Committing, JournalPart, is_closing, is_submitted, latest_change}
 use Rattle.flush_actor.specs.Kinds.{is_begun, is_data, is_durable, is_reading, is_whole}

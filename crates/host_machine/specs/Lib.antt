@@ -6,3 +6,4 @@ pub mod Host
 pub mod Parts
 pub mod Views
 pub mod laws
+pub mod runs

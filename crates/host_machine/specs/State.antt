@@ -1,7 +1,7 @@
 -- The host's state as plain data.
 use Rattle.std.specs.Prelude.{ℕ, Bool, List, Option}
 use Rattle.page_cache.specs.declared.cached_page.CachedPage.{CachedPage}
-use Rattle.tx_running.specs.Plan.{Writers}
+use Rattle.journal_ring.specs.running.Plan.{Writers}
 use Rattle.flush_actor.specs.declared.call_kind.CallKind.{CallKind}
 use Rattle.commit_actor.specs.Journal.{JournalPart}
 

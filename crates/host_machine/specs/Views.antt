@@ -6,7 +6,7 @@ use Rattle.log_model.specs.Marks.{Logged, Transaction}
 use Rattle.crash_laws.specs.History.{History}
 use Rattle.crash_laws.specs.Session.{Session}
 use Rattle.host_machine.specs.Model.{Model, Freed}
-use Rattle.tx_running.specs.Running.{Running}
+use Rattle.journal_ring.specs.running.Running.{Running}
 use Rattle.host_machine.specs.State.{Answered, What, Ends, Entry, Host, Setup}
 
 -- a call that was answered; of these some act on the tree

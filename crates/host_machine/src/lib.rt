@@ -7,11 +7,12 @@
 //! `crash_laws` speak of; `specs/Parts` how the steps of commit actor and flush actor are steps on their parts, which their
 //! own crates have as code. `specs/laws/Contract` has what volume and tree model promise, and what the host keeps.
 //!
-//! The public functions do nothing when they are called: each is a law, and its clauses say it. `host_runs` stands on
+//! The public functions do nothing when they are called: each is a law, and its clauses say it. `runs` stands on
 //! this crate, and has the laws of whole runs.
 #![tactic(auto)]
 
 mod laws;
+pub mod runs;
 
 pub use laws::{
     actors_keep_the_images, actors_step_on_their_parts, calls_wait_for_room_and_for_held_blocks,

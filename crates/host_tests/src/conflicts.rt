@@ -1,5 +1,5 @@
 //! Tests of the table of conflicts.
-use conflict_pages::{
+use flush_actor::conflicts::{
     Commits, Conflicts, blocks_have_one_holder, first_commit_blocks_count, wanted_blocks_are_held,
 };
 

@@ -1,6 +1,6 @@
 //! Tests of the parts of a host: cached pages, conflicts, the ring of the log, and the flush and commit actors.
 //!
-//! Stands on `page_cache`, `conflict_pages`, `journal_ring`, `flush_actor` and `commit_actor`.
+//! Stands on `page_cache`, `flush_actor::conflicts`, `journal_ring`, `flush_actor` and `commit_actor`.
 #![tactic(auto)]
 
 #[cfg(test)]
@@ -11,3 +11,5 @@ mod conflicts;
 mod flushes;
 #[cfg(test)]
 mod pages;
+#[cfg(test)]
+mod volumes;

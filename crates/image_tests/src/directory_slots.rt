@@ -4,11 +4,11 @@
 ghost use Rattle.minix_layout.specs.Widths.{IsWidth};
 
 use blk_base::{Block, Image};
-use dir_ops::{
+use minix_layout::{DEFAULT_WIDTH, Geometry, Inode, Name, Slot, Zones, write_slot};
+use minix_tables::directories::{
     Slots, added_names_are_found, led_names_stay, names_are_found, removed_names_are_gone,
     room_is_the_least_free_place,
 };
-use minix_layout::{DEFAULT_WIDTH, Geometry, Inode, Name, Slot, Zones, write_slot};
 use std::alloc::{AllocError, Global};
 use std::process::Abort;
 use std::test::Fail;

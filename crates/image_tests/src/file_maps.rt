@@ -2,8 +2,8 @@
 ghost use Rattle.std.specs.Prelude.{◌≡◌, [], length, get_or};
 
 use byte_fields::u16_at_le;
-use inode_ops::{ZoneBlocks, encode_zone_block, map_is_by_levels, zone_of};
 use minix_layout::{Inode, Zones};
+use minix_tables::inodes::{ZoneBlocks, encode_zone_block, map_is_by_levels, zone_of};
 use std::alloc::{AllocError, Global};
 use std::test::Fail;
 

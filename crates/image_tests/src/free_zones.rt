@@ -1,6 +1,6 @@
 //! Tests of the map of zones.
 use minix_layout::{DEFAULT_WIDTH, Geometry};
-use zone_maps::{NoSpace, ZoneMap, lowest_is_found, zones_are_counted, zones_last};
+use minix_tables::zones::{NoSpace, ZoneMap, lowest_is_found, zones_are_counted, zones_last};
 
 // The zones of data are 5 to 9.
 const SMALL: Geometry = Geometry {

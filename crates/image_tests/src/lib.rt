@@ -1,11 +1,13 @@
 //! Tests of what a Minix V1 volume has, part by part, and of trees and calls on them.
 //!
-//! Stands on `minix_layout`, `zone_maps`, `inode_ops`, `dir_ops`, `tree_model`, `tree_calls`, `volume_ops` and
-//! `volume_model`, and for laws on `volume_edits`.
+//! Stands on `minix_layout`, `minix_tables::zones`, `minix_tables::inodes`, `minix_tables::directories`, `tree_model`, `tree_calls`, `volume_ops` and
+//! `volume_model`, and for laws on `volume_model::editing`.
 #![tactic(auto)]
 
 #[cfg(test)]
 mod calls_on_trees;
+#[cfg(test)]
+mod checks;
 #[cfg(test)]
 mod directory_slots;
 #[cfg(test)]

@@ -1,6 +1,6 @@
 //! The laws as calls: of the walk, and of volumes that change. Volumes that are read stand in the tests of mounting, and
 //! those that change in the scripts of the program.
-use volume_edits::cut_zones_are_told;
+use volume_model::editing::cut_zones_are_told;
 use volume_model::{
     calls_are_told_as_one, changed_node_stands, cut_file_stands, mapped_block_stands,
     names_come_and_go, new_volumes_are_plain, nodes_come_and_go, nodes_stay,

@@ -1,2 +1,3 @@
 mod Waiting
 mod Places
+pub mod RunningLemmas

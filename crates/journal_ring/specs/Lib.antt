@@ -3,3 +3,4 @@ pub mod Journal
 pub mod Commits
 pub mod code
 pub mod laws
+pub mod running

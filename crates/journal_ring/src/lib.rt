@@ -14,6 +14,7 @@ mod homes;
 mod laws;
 mod logged_body;
 mod ring;
+pub mod running;
 
 pub use laws::{
     bodies_wait_until_they_are_sent, last_bodies_wait_to_be_sent_home, places_are_free_or_in_use,

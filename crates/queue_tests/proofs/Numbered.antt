@@ -3,8 +3,8 @@ use Rattle.std.proofs.Common.{◌≡◌, ℕ, ◌+◌, ◌<◌, true, length, ap
 use Rattle.std.proofs.lemmas.List.{length_push}
 use Rattle.order_model.specs.declared.request.Request.{Request}
 use Rattle.order_model.specs.Carrying.{SchedSeen, AreAtIds}
-use Rattle.barrier_reassign.specs.Scheduler.{SchedSteps, IsAcceptable, Accepts, IsScheduler}
-use Rattle.barrier_reassign.specs.laws.Places.{next_id-new, AreAtIds-push}
+use Rattle.schedulers.specs.reassign.Scheduler.{SchedSteps, IsAcceptable, Accepts, IsScheduler}
+use Rattle.schedulers.specs.reassign.laws.Places.{next_id-new, AreAtIds-push}
 use Rattle.queue_tests.specs.Numbered.{IsNumbered, IsAsked}
 
 pub next_acceptable : (s : SchedSeen) (count : ℕ) (r : Request) → IsNumbered s count → count < 200 → IsAsked r count → IsAcceptable s r

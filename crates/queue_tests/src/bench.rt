@@ -2,9 +2,9 @@
 ghost use Rattle.std.specs.Prelude.{◌≡◌, [], true};
 ghost use Rattle.queue_tests.specs.Numbered.{IsNumbered, IsAsked};
 
-use barrier_reassign::{Held, Scheduler, lawful_eligible};
 use blk_base::Block;
 use order_model::{Command, Kind, Priority, Request};
+use schedulers::reassign::{Held, Scheduler, lawful_eligible};
 use std::process::Abort;
 
 pub const LIMIT: u64 = 200;

@@ -2,10 +2,10 @@
 use crate::bench::Ask::{Barrier, Flush, Ordered, Orderless};
 use crate::bench::Step::{self, CanAccept, Eligible, Fill, Send, SendInto, Submit};
 use crate::bench::{Bench, LIMIT, fence, plain};
-use barrier_reassign::{Held, Scheduler};
 use blk_base::NoMemory;
 use order_model::carries_requests_merged;
-use sched_elevator::{Elevator, lists_requests_as_the_head_meets_them};
+use schedulers::elevator::{Elevator, lists_requests_as_the_head_meets_them};
+use schedulers::reassign::{Held, Scheduler};
 use std::alloc::Global;
 use std::process::Abort;
 

@@ -3,9 +3,9 @@ ghost use Rattle.std.specs.Prelude.{◌≡◌, ◌+◌, ◌<◌, ◌≤◌, true
 
 use crate::bench::Ask::{self, Barrier, Flush, Ordered, Orderless};
 use crate::bench::request;
-use barrier_reassign::{EpochQueue, Held};
 use blk_base::NoMemory;
 use order_model::{Kind, Request, Requests};
+use schedulers::reassign::{EpochQueue, Held};
 use std::alloc::Global;
 use std::process::Abort;
 
@@ -63,7 +63,7 @@ fn accept(q: &mut EpochQueue, r: Request) -> Option<Held>
     Some(q.accept(r).err()?.1)
 }
 
-#[tactic(auto, using(barrier_reassign::proofs::Leaving::departed_next))]
+#[tactic(auto, using(schedulers::proofs::ReassignLemmas::Leaving::departed_next))]
 fn leave(q: &mut EpochQueue, pick: u32) -> Option<(u64, bool, bool)>
     ensures { q.new.next ≡ q.old.next }
 {

@@ -1,7 +1,7 @@
 //! Tests of queues and schedulers: commands that wait in a device, queues that threads share, requests whose barriers are
 //! reassigned, the plain scheduler and the elevator.
 //!
-//! Stands on `command_queue`, `ordered_dispatch`, `barrier_reassign`, `epoch_sched` and `sched_elevator`.
+//! Stands on `device_epochs::queue`, `schedulers::dispatch`, `schedulers::reassign`, `schedulers::epochs` and `schedulers::elevator`.
 #![tactic(auto)]
 
 #[cfg(test)]

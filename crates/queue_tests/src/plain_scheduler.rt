@@ -2,9 +2,9 @@
 use crate::bench::Ask::{Barrier, Flush, Ordered, Orderless};
 use crate::bench::Step::{self, CanAccept, Eligible, Fill, Send, SendInto, Submit};
 use crate::bench::{Bench, LIMIT, Sent, fence, plain};
-use barrier_reassign::{Held, Scheduler};
 use blk_base::NoMemory;
-use epoch_sched::Sched;
+use schedulers::epochs::Sched;
+use schedulers::reassign::{Held, Scheduler};
 use std::alloc::Global;
 use std::process::Abort;
 

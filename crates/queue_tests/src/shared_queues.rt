@@ -1,9 +1,9 @@
 //! The queues that threads share: what each end takes, hands back and gives, and two threads at the two ends of one.
-ghost use Rattle.ordered_dispatch.specs.Opened.{ArePassesOf, AreNew, AreNamed};
+ghost use Rattle.schedulers.specs.dispatch.Opened.{ArePassesOf, AreNew, AreNamed};
 
 use blk_base::NoMemory;
 use order_model::{Command, Completion, Inlet, Kind, Outlet, Request};
-use ordered_dispatch::{Ends, Passes, QueueNames, Queues, close, ends, make_queues};
+use schedulers::dispatch::{Ends, Passes, QueueNames, Queues, close, ends, make_queues};
 use std::marker::Brand;
 use std::process::Abort;
 use std::sync::Wait;

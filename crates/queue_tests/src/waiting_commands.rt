@@ -2,7 +2,7 @@
 ghost use Rattle.std.specs.Prelude.{◌≤◌};
 
 use blk_base::{Block, NoMemory};
-use command_queue::{CommandQueue, CommandRing};
+use device_epochs::queue::{CommandQueue, CommandRing};
 use order_model::Priority::{Ordered, Simple};
 use order_model::{Command, Part, Parts, Priority};
 use std::alloc::Global;

@@ -1,5 +1,5 @@
 //! Calls that were read by hand.
-use call_grammar::{calls_are_spelled, read_call, read_call_word};
+use line_grammar::calls::{calls_are_spelled, read_call, read_call_word};
 use script_words::{LineFault, WordsError, words};
 use std::alloc::{AllocError, Global};
 use std::test::Fail;

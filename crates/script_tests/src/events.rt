@@ -1,5 +1,5 @@
 //! Event lines that were read by hand.
-use event_grammar::{
+use line_grammar::events::{
     CoreEvent, EventLine, EventWord, events_are_spelled, read_event, read_event_word, read_steers,
     steers_are_spelled,
 };

@@ -1,7 +1,7 @@
 //! Tests of scripts: words and numbers, the lines of calls and events, and the two grammars with the first fault of texts
 //! that are no scripts.
 //!
-//! Stands on `script_words`, `call_grammar`, `event_grammar`, `script_grammar` and `session_grammar`.
+//! Stands on `script_words`, `line_grammar::calls`, `line_grammar::events`, `script_grammar` and `session_grammar`.
 #![tactic(auto)]
 
 #[cfg(test)]
@@ -11,6 +11,10 @@ mod events;
 #[cfg(test)]
 mod scripts;
 #[cfg(test)]
+mod session_text;
+#[cfg(test)]
 mod sessions;
+#[cfg(test)]
+mod stores;
 #[cfg(test)]
 mod words;

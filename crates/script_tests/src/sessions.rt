@@ -1,5 +1,5 @@
 //! Volume scripts that were read by hand, and the faults of texts that are none.
-use event_grammar::{CoreEvent, EventLine, EventWord};
+use line_grammar::events::{CoreEvent, EventLine, EventWord};
 use script_grammar::ScriptKind::{Geometry, Number, Order, Twice, Word};
 use script_grammar::{MOST_SCRIPT_BYTES, ScriptError, ScriptKind};
 use session_grammar::{

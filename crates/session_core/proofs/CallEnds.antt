@@ -12,8 +12,8 @@ use Rattle.tree_model.specs.declared.call.Reply.TheVariants as replies
 use Rattle.flush_actor.specs.Kinds.{is_begun}
 use Rattle.flush_actor.specs.Part.{first_failed}
 use Rattle.host_machine.specs.State.{Ending, Answered, Down, ReadOnly, SessionFull}
-use Rattle.host_volume.specs.Calls.{kind_of}
-use Rattle.session_promises.specs.Entries.{EndsAt}
+use Rattle.minix_host.specs.Calls.{kind_of}
+use Rattle.call_sessions.specs.promises.Entries.{EndsAt}
 use Rattle.session_grammar.specs.declared.session_script.SessionScript.{SessionScript}
 use Rattle.session_core.specs.CallEnds.{IsFirstFailed, HasGoneOff, IsAtLimit, IsTreesReply, AtItsEnd, AtItsBegin, HasCause, RanFreely, EndsByTree}
 use Rattle.session_core.specs.Core.{EndState, opening_of}

@@ -3,7 +3,7 @@ use Rattle.std.proofs.Common.{◌≡◌, refl}
 use Rattle.tree_model.specs.declared.call.Call.{Call}
 use Rattle.tree_model.specs.declared.call.Call.TheVariants as calls
 use Rattle.flush_actor.specs.Kinds.{is_begun, is_data, is_durable, is_whole}
-use Rattle.host_volume.specs.Calls.{kind_of}
+use Rattle.minix_host.specs.Calls.{kind_of}
 use Rattle.session_core.specs.CallNames.{is_barrier_or_sync, is_sync_call, covers_data_alone, covers_all_files}
 
 pub begun : (c : Call) → is_begun (kind_of c) ≡ is_barrier_or_sync c

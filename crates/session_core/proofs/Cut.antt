@@ -12,7 +12,7 @@ use Rattle.tree_model.specs.declared.call.Call.{Call}
 use Rattle.tree_model.specs.declared.call.Reply.{Reply}
 use Rattle.session_run.specs.Beginning.{WriteBytes}
 use Rattle.stack_core.specs.Headline.{KeepsOrder}
-use Rattle.call_images.specs.CallImages.{IsCut, found_in}
+use Rattle.power_cuts.specs.calls.CallImages.{IsCut, found_in}
 use Rattle.session_grammar.specs.declared.session_script.SessionScript.{SessionScript}
 use Rattle.session_grammar.specs.WellFormed.{IsWellFormed}
 use Rattle.session_run.specs.declared.session.SessionEnd.{SessionEnd}

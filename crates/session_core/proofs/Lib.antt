@@ -6,3 +6,4 @@ pub mod Replaced
 pub mod CallNames
 pub mod CallEnds
 pub mod Remounts
+pub mod OpeningLemmas

@@ -7,25 +7,25 @@ use Rattle.order_model.specs.Carrying.{SchedSeen, IsPrefixOf}
 use Rattle.order_model.specs.Device.{Seen, TellsCut, TellsFailure}
 use Rattle.order_model.specs.Machine.{Machine}
 use Rattle.order_model.specs.Steps.{IsMadeAs}
-use Rattle.barrier_reassign.specs.declared.scheduler.Scheduler as schedulers
+use Rattle.schedulers.specs.declared.reassign.scheduler.Scheduler as schedulers
 use Rattle.blk_base.specs.declared.memory.NoMemory.{NoMemory}
-use Rattle.barrier_reassign.specs.declared.scheduler.TheConstants.{CAPACITY}
-use Rattle.barrier_reassign.specs.Scheduler.{SchedSteps, IsNewScheduler}
-use Rattle.event_grammar.specs.declared.event.EventLine.{EventLine}
+use Rattle.schedulers.specs.declared.reassign.scheduler.TheConstants.{CAPACITY}
+use Rattle.schedulers.specs.reassign.Scheduler.{SchedSteps, IsNewScheduler}
+use Rattle.line_grammar.specs.declared.events.event.EventLine.{EventLine}
 use Rattle.minix_layout.specs.declared.division.Geometry.{Geometry}
 use Rattle.minix_layout.specs.declared.division.TooSmall.{TooSmall}
 use Rattle.minix_layout.specs.Geometry.{IsSound, geometry_made}
 use Rattle.minix_layout.specs.Words.{first_zone}
 use Rattle.mount_make.specs.Made.{made_image}
 use Rattle.tree_model.specs.declared.call.Call.{Call}
-use Rattle.call_grammar.specs.WellFormed as call
-use Rattle.host_volume.specs.ByteCalls.{HasBytes}
+use Rattle.line_grammar.specs.calls.WellFormed as call
+use Rattle.minix_host.specs.ByteCalls.{HasBytes}
 use Rattle.session_grammar.specs.declared.session_script.SessionScript.{SessionScript}
 use Rattle.session_grammar.specs.WellFormed.{IsWellFormed, all_calls}
-use Rattle.session_machine.specs.Machine.{core_session, opened_session, events_of, host_events}
-use Rattle.host_runs.specs.Runs.{steps}
-use Rattle.session_machine.specs.MadeStart.{IsNew}
-use Rattle.session_machine.specs.Fits.{SessionFits}
+use Rattle.session_run.specs.machine.Machine.{core_session, opened_session, events_of, host_events}
+use Rattle.host_machine.specs.runs.Runs.{steps}
+use Rattle.session_run.specs.machine.MadeStart.{IsNew}
+use Rattle.session_run.specs.machine.Fits.{SessionFits}
 use Rattle.std.specs.Option.{option_to_list}
 use Rattle.session_run.specs.Beginning.{HostNow, WriteBytes, call_over, IsMadeFor}
 use Rattle.session_run.specs.End.{IsEndOf, EndKeepsOrder}

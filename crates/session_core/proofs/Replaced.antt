@@ -9,15 +9,15 @@ use Rattle.tree_model.specs.Trees.{node_of_path, SameMetadataAt}
 use Rattle.crash_laws.specs.PromiseRules.{IsOn, IsSuperseded}
 use Rattle.flush_actor.specs.Kinds.{is_durable}
 use Rattle.host_machine.specs.State.{Begun}
-use Rattle.host_runs.specs.Promises.{call_of}
-use Rattle.host_runs.specs.Sentences.{IsAllSettled}
-use Rattle.host_volume.specs.Calls.{kind_of}
-use Rattle.host_volume.specs.Sessions.{Stands}
+use Rattle.host_machine.specs.runs.Promises.{call_of}
+use Rattle.host_machine.specs.runs.Sentences.{IsAllSettled}
+use Rattle.minix_host.specs.Calls.{kind_of}
+use Rattle.minix_host.specs.Sessions.{Stands}
 use Rattle.session_run.specs.Beginning.{call_over}
 use Rattle.session_run.specs.End.{tree_behind}
-use Rattle.session_promises.specs.Answers.{AnsweredAt}
-use Rattle.session_promises.proofs.SessionTrees.{tree_told}
-use Rattle.session_promises.proofs.Renames.{renamed_leads}
+use Rattle.call_sessions.specs.promises.Answers.{AnsweredAt}
+use Rattle.call_sessions.proofs.PromisesLemmas.SessionTrees.{tree_told}
+use Rattle.call_sessions.proofs.PromisesLemmas.Renames.{renamed_leads}
 use Rattle.session_grammar.specs.declared.session_script.SessionScript.{SessionScript}
 use Rattle.session_core.specs.Core.{EndState, opening_of}
 use Rattle.session_core.specs.Headline.{medium_of, told_by, HasLaterKept, IsShownBy, HeadlineOn}

@@ -15,9 +15,9 @@ use Rattle.volume_ops.specs.laws.ReadsLaws.{same_Ok}
 use Rattle.host_machine.specs.Views.{cut_of, tree_after}
 use Rattle.session_run.specs.Beginning.{call_over}
 use Rattle.session_run.specs.End.{tree_behind}
-use Rattle.call_images.proofs.ShownFiles.{later_kept}
-use Rattle.session_promises.specs.Trees.{tree_at}
-use Rattle.session_promises.proofs.SessionTrees.{tree_told}
+use Rattle.power_cuts.proofs.CallsLemmas.ShownFiles.{later_kept}
+use Rattle.call_sessions.specs.promises.Trees.{tree_at}
+use Rattle.call_sessions.proofs.PromisesLemmas.SessionTrees.{tree_told}
 use Rattle.session_grammar.specs.declared.session_script.SessionScript.{SessionScript}
 use Rattle.session_core.specs.Core.{EndState, geometry_of, opening_of}
 use Rattle.session_core.specs.Headline.{medium_of, told_by, kept_in, HasLaterKept, HasNewerBytes, ShowsLater, ByBytes, ByMetadata, HeadlineOn}

@@ -10,10 +10,10 @@ use Rattle.volume_steps.specs.Now.{VolumeNow, room_of}
 use Rattle.flush_actor.specs.Part.{first_failed}
 pub use Rattle.host_machine.specs.State.{Ending, Answered, Down, ReadOnly, SessionFull}
 use Rattle.host_machine.specs.State.{Host}
-use Rattle.host_volume.specs.Sessions.{Opening}
-pub use Rattle.session_promises.specs.Entries.{EndsAt}
-use Rattle.session_promises.specs.Entries.{IsBeginOf}
-use Rattle.session_promises.specs.Trees.{tree_at}
+use Rattle.minix_host.specs.Sessions.{Opening}
+pub use Rattle.call_sessions.specs.promises.Entries.{EndsAt}
+use Rattle.call_sessions.specs.promises.Entries.{IsBeginOf}
+use Rattle.call_sessions.specs.promises.Trees.{tree_at}
 use Rattle.session_grammar.specs.declared.session_script.SessionScript.{SessionScript}
 use Rattle.session_core.specs.Core.{EndState, opening_of}
 

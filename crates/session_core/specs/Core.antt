@@ -3,10 +3,10 @@ use Rattle.std.specs.Prelude.{◌≡◌, ℕ, zero, suc, ◌+◌, ◌≤◌, ◌
 use Rattle.order_model.specs.Carrying.{SchedSeen}
 use Rattle.order_model.specs.Device.{Seen, IsUntouched, TellsCut, TellsFailure}
 use Rattle.order_model.specs.Machine.{Machine}
-use Rattle.barrier_reassign.specs.declared.scheduler.TheConstants.{CAPACITY}
-use Rattle.barrier_reassign.specs.Scheduler.{SchedSteps}
-use Rattle.barrier_reassign.specs.Sched as plain
-use Rattle.sched_elevator.specs.Elevator as elevator
+use Rattle.schedulers.specs.declared.reassign.scheduler.TheConstants.{CAPACITY}
+use Rattle.schedulers.specs.reassign.Scheduler.{SchedSteps}
+use Rattle.schedulers.specs.reassign.Sched as plain
+use Rattle.schedulers.specs.elevator.Elevator as elevator
 use Rattle.device_epochs.specs.declared.device.DeviceSetup.{DeviceSetup}
 use Rattle.device_epochs.specs.Device as epochs
 use Rattle.device_epochs.specs.Device.{DeviceState}
@@ -18,21 +18,21 @@ use Rattle.minix_layout.specs.Geometry.{geometry_made}
 use Rattle.tree_model.specs.declared.call.Call.{Call}
 use Rattle.tree_model.specs.declared.call.Reply.{Reply}
 use Rattle.volume_steps.specs.Now.{VolumeNow}
-use Rattle.tx_running.specs.Open.{quota}
+use Rattle.journal_ring.specs.running.Open.{quota}
 use Rattle.mount_make.specs.Made.{new_journal, made_image}
 use Rattle.host_answers.specs.declared.standing.Standing.{Standing}
 use Rattle.host_machine.specs.State.{Host}
-use Rattle.session_opening.specs.Opened.{opened_now}
+use Rattle.session_core.specs.opening.Opened.{opened_now}
 pub use Rattle.session_run.specs.Beginning.{HostNow}
 use Rattle.session_run.specs.Beginning.{made_opening}
 pub use Rattle.session_run.specs.End.{entry_in, ArePlaced, standing_of}
-use Rattle.host_runs.specs.Runs.{Event}
-use Rattle.host_volume.specs.Sessions.{Opening}
-use Rattle.call_images.specs.CallImages.{made_session}
+use Rattle.host_machine.specs.runs.Runs.{Event}
+use Rattle.minix_host.specs.Sessions.{Opening}
+use Rattle.power_cuts.specs.calls.CallImages.{made_session}
 use Rattle.stack_core.specs.Core.{epoch_machine, flash_machine}
 use Rattle.session_grammar.specs.declared.session_script.SessionScript.{SessionScript}
-use Rattle.session_machine.specs.Machine.{SessionState, Start, core_session}
-use Rattle.session_machine.specs.MadeStart.{made_start}
+use Rattle.session_run.specs.machine.Machine.{SessionState, Start, core_session}
+use Rattle.session_run.specs.machine.MadeStart.{made_start}
 
 -- how its volume is divided
 abbrev pub geometry_of : SessionScript → Geometry

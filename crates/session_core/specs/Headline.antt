@@ -21,18 +21,18 @@ pub use Rattle.flush_actor.specs.Kinds.{is_durable}
 use Rattle.flush_actor.specs.Kinds.{is_data}
 use Rattle.flush_actor.specs.Part.{is_flush_note}
 use Rattle.host_machine.specs.State.{Begun}
-use Rattle.host_runs.specs.Promises.{call_of}
-use Rattle.host_runs.specs.Sentences.{IsAllSettled}
-use Rattle.host_runs.specs.Flushes.{count, is_sync_begin}
-pub use Rattle.host_volume.specs.Calls.{kind_of}
-use Rattle.host_volume.specs.Sessions.{Stands}
+use Rattle.host_machine.specs.runs.Promises.{call_of}
+use Rattle.host_machine.specs.runs.Sentences.{IsAllSettled}
+use Rattle.host_machine.specs.runs.Flushes.{count, is_sync_begin}
+pub use Rattle.minix_host.specs.Calls.{kind_of}
+use Rattle.minix_host.specs.Sessions.{Stands}
 use Rattle.session_run.specs.Beginning.{call_over}
-use Rattle.call_images.specs.CallImages.{made_session, KeepsFiles, ShowsFiles, IsShown, IsShownOrGone, submitted_by, kept_count, history_of}
-pub use Rattle.session_promises.specs.Answers.{AnsweredAt, WasAnswered}
-use Rattle.session_promises.specs.Answers.{HasOkCause}
-use Rattle.session_promises.specs.Causes.{HadCome, HaveCauses}
-use Rattle.session_promises.specs.Legal.{events_in, program_of, FollowsTree}
-use Rattle.session_promises.specs.Trees.{tree_at, content_at}
+use Rattle.power_cuts.specs.calls.CallImages.{made_session, KeepsFiles, ShowsFiles, IsShown, IsShownOrGone, submitted_by, kept_count, history_of}
+pub use Rattle.call_sessions.specs.promises.Answers.{AnsweredAt, WasAnswered}
+use Rattle.call_sessions.specs.promises.Answers.{HasOkCause}
+use Rattle.call_sessions.specs.promises.Causes.{HadCome, HaveCauses}
+use Rattle.call_sessions.specs.promises.Legal.{events_in, program_of, FollowsTree}
+use Rattle.call_sessions.specs.promises.Trees.{tree_at, content_at}
 use Rattle.session_grammar.specs.declared.session_script.SessionScript.{SessionScript}
 use Rattle.session_core.specs.Core.{EndState, IsBehind, IsDeviceOf, geometry_of, opening_of, core}
 use Rattle.session_core.specs.Report.{ReportKeepsOrder, HasPrefix, tree_behind}

@@ -5,3 +5,4 @@ pub mod CallNames
 pub mod Replaced
 pub mod CallEnds
 pub mod code
+pub mod opening

@@ -7,8 +7,8 @@ use Rattle.tree_model.specs.Histories.{block_at}
 use Rattle.tree_model.specs.Paths.{path_of}
 use Rattle.tree_model.specs.Trees.{node_of_path}
 use Rattle.host_machine.specs.State.{Answered}
-use Rattle.session_promises.specs.Entries.{EndsAt}
-use Rattle.session_promises.specs.Trees.{tree_at}
+use Rattle.call_sessions.specs.promises.Entries.{EndsAt}
+use Rattle.call_sessions.specs.promises.Trees.{tree_at}
 use Rattle.session_grammar.specs.declared.session_script.SessionScript.{SessionScript}
 use Rattle.session_core.specs.Core.{EndState, opening_of}
 use Rattle.session_core.specs.Headline.{told_by}

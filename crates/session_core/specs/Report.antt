@@ -3,7 +3,7 @@ use Rattle.std.specs.Prelude.{◌≡◌, ℕ, ◌++◌, List, length, Option, So
 use Rattle.order_model.specs.Device.{origin_ids}
 use Rattle.order_model.specs.Machine.{Machine}
 use Rattle.order_model.specs.Steps.{IsTraceOf}
-use Rattle.barrier_reassign.specs.Scheduler.{IsSchedRecord}
+use Rattle.schedulers.specs.reassign.Scheduler.{IsSchedRecord}
 use Rattle.tree_model.specs.Calls.{Tree}
 use Rattle.tree_model.specs.Trees.{AreAlike}
 use Rattle.mount_make.specs.Images.{mounted, image_tree, recovered_image}
@@ -12,7 +12,7 @@ use Rattle.stack_core.specs.Fresh.{flash_over}
 use Rattle.stack_core.specs.Headline.{KeepsOrder}
 pub use Rattle.session_run.specs.End.{tree_behind}
 use Rattle.session_grammar.specs.declared.session_script.SessionScript.{SessionScript}
-use Rattle.call_images.specs.CallImages.{IsMountedBehind, attempts_of, found_in, image_after}
+use Rattle.power_cuts.specs.calls.CallImages.{IsMountedBehind, attempts_of, found_in, image_after}
 use Rattle.session_core.specs.Core.{EndState, opening_of, geometry_of, core_as, standings_of}
 use Rattle.session_core.specs.declared.report.SessionReport.{SessionReport}
 

@@ -8,11 +8,12 @@
 //! to what a reader sees in the tree, both to how programs replace a file (`specs/Replaced`), and how calls end to the
 //! header of the script (`specs/CallEnds`).
 //!
-//! Stands on `session_opening`, `session_run` and `session_recovery` for its three parts, and on `call_images` for what a
+//! Stands on `opening`, `session_run` and `power_cuts::recovery` for its three parts, and on `power_cuts::calls` for what a
 //! power cut may leave.
 #![tactic(auto)]
 
 mod laws;
+pub mod opening;
 mod report;
 mod running;
 

@@ -1,8 +1,8 @@
 //! What a session leaves.
 use blk_base::{Block, Image};
-use call_images::Attempt;
 use host_answers::Standing;
 use order_model::{DeviceRecord, Origins, SchedRecord, Trail};
+use power_cuts::calls::Attempt;
 use session_run::Host;
 use volume_ops::Volume;
 

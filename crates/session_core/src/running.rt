@@ -1,7 +1,7 @@
 //! The run of a volume script.
 ghost use Rattle.std.specs.Prelude.{◌≡◌, ◌^◌, ◌<◌, length, Some, None, IfOk};
 ghost use Rattle.order_model.specs.Machine.{machine_of};
-ghost use Rattle.barrier_reassign.specs.Scheduler.{IsNewScheduler};
+ghost use Rattle.schedulers.specs.reassign.Scheduler.{IsNewScheduler};
 ghost use Rattle.mount_make.specs.Made.{made_image};
 ghost use Rattle.session_grammar.specs.WellFormed.{IsWellFormed};
 ghost use Rattle.session_run.specs.Beginning.{IsMadeFor};
@@ -12,26 +12,26 @@ ghost use Rattle.session_core.specs.Report.{HasAttempts, IsCoreReport, IsReportA
 ghost use Rattle.session_core.specs.code.Cuts.{CutFacts, medium_left};
 ghost use Rattle.session_core.specs.code.Ends.{session_on, EndsIn, KeepsTheOrder, IsBehind, EndFits, IsEndOfScript};
 
+use crate::opening::{OpenedSession, open_session};
 use crate::report::{CutRecord, SessionReport};
-use barrier_reassign::{CAPACITY, Scheduler};
 use blk_base::{Image, NoMemory};
-use call_images::{
-    attempts_on_model_devices, cut_sessions_have_the_tree_of_a_prefix, cut_sessions_keep_files,
-    cut_sessions_mount, cut_sessions_show_files, cut_sessions_tell_how_many, remount,
+use call_sessions::promises::{
+    answered_calls_keep_their_promises, calls_end_for_a_cause, histories_follow_the_tree,
 };
 use device_epochs::{DeviceSetup, EpochDevice};
-use epoch_sched::Sched;
 use flog_device::{FlogDevice, FlogSetup};
 use host_answers::Standing;
 use minix_layout::Geometry;
 use order_model::{CutDisk, OrderedDev, Trail};
-use sched_elevator::Elevator;
-use session_grammar::SessionScript;
-use session_machine::{hosts_of_sessions_take_their_steps, parts_of_sessions_fit};
-use session_opening::{OpenedSession, open_session};
-use session_promises::{
-    answered_calls_keep_their_promises, calls_end_for_a_cause, histories_follow_the_tree,
+use power_cuts::calls::{
+    attempts_on_model_devices, cut_sessions_have_the_tree_of_a_prefix, cut_sessions_keep_files,
+    cut_sessions_mount, cut_sessions_show_files, cut_sessions_tell_how_many, remount,
 };
+use schedulers::elevator::Elevator;
+use schedulers::epochs::Sched;
+use schedulers::reassign::{CAPACITY, Scheduler};
+use session_grammar::SessionScript;
+use session_run::machine::{hosts_of_sessions_take_their_steps, parts_of_sessions_fit};
 use session_run::{
     Host, SessionEnd, calls_of_scripts_write_bytes, run_session, sessions_of_calls_on_made_images,
     sessions_on_made_images_can_be_run,

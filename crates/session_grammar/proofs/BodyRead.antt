@@ -10,34 +10,34 @@ use Rattle.script_words.specs.Spelling.{words_of, count_of}
 use Rattle.script_words.proofs.SpelledNumbers.{numeral-decimal}
 use Rattle.script_grammar.specs.declared.kinds.ScriptKind.TheVariants as kinds
 use Rattle.script_grammar.proofs.WellFormed.{ok_behind}
-use Rattle.call_grammar.specs.declared.words.CallWord.{CallWord}
-use Rattle.call_grammar.specs.declared.words.CallWord.TheVariants as calls
-use Rattle.call_grammar.specs.declared.words.PairWord.TheVariants as pairs
-use Rattle.call_grammar.specs.declared.words.PathWord.{PathWord}
-use Rattle.call_grammar.specs.declared.words.PathWord.TheVariants as paths
-use Rattle.call_grammar.specs.declared.words.PlaceWord.TheVariants as places
-use Rattle.call_grammar.specs.CallLines as call_lines
-use Rattle.call_grammar.specs.Programs.{pushed_last, last_length}
-use Rattle.call_grammar.specs.laws.Speller as call_speller
-use Rattle.call_grammar.proofs.Names.{call_name, call_named}
-use Rattle.event_grammar.specs.declared.event.EventLine.{EventLine}
-use Rattle.event_grammar.specs.declared.event.CoreEvent.{CoreEvent}
-use Rattle.event_grammar.specs.declared.event.CoreEvent.TheVariants as core
-use Rattle.event_grammar.specs.declared.event.EventWord.{EventWord}
-use Rattle.event_grammar.specs.declared.event.EventWord.TheVariants.{One, Round, Back}
+use Rattle.line_grammar.specs.declared.calls.words.CallWord.{CallWord}
+use Rattle.line_grammar.specs.declared.calls.words.CallWord.TheVariants as calls
+use Rattle.line_grammar.specs.declared.calls.words.PairWord.TheVariants as pairs
+use Rattle.line_grammar.specs.declared.calls.words.PathWord.{PathWord}
+use Rattle.line_grammar.specs.declared.calls.words.PathWord.TheVariants as paths
+use Rattle.line_grammar.specs.declared.calls.words.PlaceWord.TheVariants as places
+use Rattle.line_grammar.specs.calls.CallLines as call_lines
+use Rattle.line_grammar.specs.calls.Programs.{pushed_last, last_length}
+use Rattle.line_grammar.specs.calls.laws.Speller as call_speller
+use Rattle.line_grammar.proofs.CallsLemmas.Names.{call_name, call_named}
+use Rattle.line_grammar.specs.declared.events.event.EventLine.{EventLine}
+use Rattle.line_grammar.specs.declared.events.event.CoreEvent.{CoreEvent}
+use Rattle.line_grammar.specs.declared.events.event.CoreEvent.TheVariants as core
+use Rattle.line_grammar.specs.declared.events.event.EventWord.{EventWord}
+use Rattle.line_grammar.specs.declared.events.event.EventWord.TheVariants.{One, Round, Back}
 use Rattle.script_words.specs.declared.limits.TheConstants.{MOST_EVENTS}
-use Rattle.event_grammar.specs.declared.steer.Steer.{Steer}
-use Rattle.event_grammar.specs.declared.words.EventFirst.{EventFirst}
-use Rattle.event_grammar.specs.declared.words.EventFirst.TheVariants as event
-use Rattle.event_grammar.specs.declared.words.PlainWord.TheVariants as plain
-use Rattle.event_grammar.specs.declared.words.PickWord.TheVariants as picks
-use Rattle.event_grammar.specs.declared.words.TurnWord.TheVariants as turns
-use Rattle.event_grammar.specs.EventLines as event_lines
-use Rattle.event_grammar.specs.WellFormed.{IsSteerLine}
-use Rattle.event_grammar.specs.laws.Speller as event_speller
-use Rattle.event_grammar.proofs.EventLaws as event_laws
-use Rattle.event_grammar.proofs.EventNames.{event_name, event_named}
-use Rattle.event_grammar.proofs.SteerLaws.{steers_read}
+use Rattle.line_grammar.specs.declared.events.steer.Steer.{Steer}
+use Rattle.line_grammar.specs.declared.events.words.EventFirst.{EventFirst}
+use Rattle.line_grammar.specs.declared.events.words.EventFirst.TheVariants as event
+use Rattle.line_grammar.specs.declared.events.words.PlainWord.TheVariants as plain
+use Rattle.line_grammar.specs.declared.events.words.PickWord.TheVariants as picks
+use Rattle.line_grammar.specs.declared.events.words.TurnWord.TheVariants as turns
+use Rattle.line_grammar.specs.events.EventLines as event_lines
+use Rattle.line_grammar.specs.events.WellFormed.{IsSteerLine}
+use Rattle.line_grammar.specs.events.laws.Speller as event_speller
+use Rattle.line_grammar.proofs.EventsLemmas.EventLaws as event_laws
+use Rattle.line_grammar.proofs.EventsLemmas.EventNames.{event_name, event_named}
+use Rattle.line_grammar.proofs.EventsLemmas.SteerLaws.{steers_read}
 use Rattle.session_grammar.specs.declared.limits.TheConstants.{MOST_CALLS, MOST_RECOVERS, MOST_THREADS}
 use Rattle.session_grammar.specs.declared.reading.Reading.{Reading}
 use Rattle.session_grammar.specs.declared.reading.Section.{Section}

@@ -3,8 +3,8 @@ use Rattle.std.proofs.Common.{◌≡◌, ℕ, Bool, true, false, List, codes, Op
 use Rattle.std.specs.Str.{bytes_eq}
 use Rattle.std.proofs.lemmas.Option.{same_Some, none-some}
 use Rattle.std.proofs.lemmas.Slice.Eq.{bytes_eq-Decides}
-use Rattle.call_grammar.specs.CallLines.{call_word}
-use Rattle.event_grammar.specs.EventLines.{event_word}
+use Rattle.line_grammar.specs.calls.CallLines.{call_word}
+use Rattle.line_grammar.specs.events.EventLines.{event_word}
 use Rattle.script_words.proofs.Chosen.{choose, group_or, either_or, mapped}
 use Rattle.script_grammar.specs.Words.{first_word}
 use Rattle.script_grammar.proofs.SaidWords.{first_text, first_named}

@@ -20,16 +20,16 @@ use Rattle.script_grammar.specs.laws.Accepted.{begins, beginning, or_default}
 use Rattle.script_grammar.proofs.SaidWords.{default_text}
 use Rattle.script_words.proofs.Counts.{one_text}
 use Rattle.script_grammar.proofs.WellFormed.{ok_behind, ok_past, ok_beside}
-use Rattle.call_grammar.specs.CallLines.{call_of}
-use Rattle.call_grammar.specs.Programs.{pushed_last, last_length}
-use Rattle.event_grammar.specs.declared.event.EventLine.{EventLine}
-use Rattle.event_grammar.specs.declared.steer.Steer.{Steer}
-use Rattle.event_grammar.specs.declared.words.EventFirst.{EventFirst}
-use Rattle.event_grammar.specs.EventLines.{event_word, event_of}
-use Rattle.event_grammar.specs.SteerLines.{steers_of}
-use Rattle.event_grammar.specs.laws.Speller as event_speller
-use Rattle.event_grammar.proofs.EventLaws as event_laws
-use Rattle.event_grammar.proofs.SteerLaws.{steers_said}
+use Rattle.line_grammar.specs.calls.CallLines.{call_of}
+use Rattle.line_grammar.specs.calls.Programs.{pushed_last, last_length}
+use Rattle.line_grammar.specs.declared.events.event.EventLine.{EventLine}
+use Rattle.line_grammar.specs.declared.events.steer.Steer.{Steer}
+use Rattle.line_grammar.specs.declared.events.words.EventFirst.{EventFirst}
+use Rattle.line_grammar.specs.events.EventLines.{event_word, event_of}
+use Rattle.line_grammar.specs.events.SteerLines.{steers_of}
+use Rattle.line_grammar.specs.events.laws.Speller as event_speller
+use Rattle.line_grammar.proofs.EventsLemmas.EventLaws as event_laws
+use Rattle.line_grammar.proofs.EventsLemmas.SteerLaws.{steers_said}
 use Rattle.session_grammar.specs.declared.limits.TheConstants.{DEFAULT_LIMIT, DEFAULT_SEED, MOST_CALLS, MOST_RECOVERS, MOST_THREADS}
 use Rattle.session_grammar.specs.declared.reading.Reading.{Reading}
 use Rattle.session_grammar.specs.declared.reading.Section.{Section}

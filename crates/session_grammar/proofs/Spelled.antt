@@ -8,13 +8,13 @@ use Rattle.tree_model.specs.declared.call.Call.{Call}
 use Rattle.script_words.specs.Spelling.{is_skipped, words_of}
 use Rattle.script_words.proofs.SpelledNumbers.{IsClear-decimal}
 use Rattle.script_words.proofs.SpelledWords.{IsClear, AreClear, AreClearLines}
-use Rattle.call_grammar.proofs.ClearCalls.{AreClear-line_of, there-line_of}
-use Rattle.event_grammar.specs.declared.event.EventLine.{EventLine}
-use Rattle.event_grammar.specs.declared.steer.Steer.{Steer}
-use Rattle.event_grammar.specs.WellFormed.{IsSteerLine}
-use Rattle.event_grammar.specs.laws.Speller.{event_line_words, steer_words}
-use Rattle.event_grammar.proofs.ClearLines.{AreClear-event, there-event, AreClear-steers}
-use Rattle.event_grammar.proofs.EventLaws.{SaysEvent-words}
+use Rattle.line_grammar.proofs.CallsLemmas.ClearCalls.{AreClear-line_of, there-line_of}
+use Rattle.line_grammar.specs.declared.events.event.EventLine.{EventLine}
+use Rattle.line_grammar.specs.declared.events.steer.Steer.{Steer}
+use Rattle.line_grammar.specs.events.WellFormed.{IsSteerLine}
+use Rattle.line_grammar.specs.events.laws.Speller.{event_line_words, steer_words}
+use Rattle.line_grammar.proofs.EventsLemmas.ClearLines.{AreClear-event, there-event, AreClear-steers}
+use Rattle.line_grammar.proofs.EventsLemmas.EventLaws.{SaysEvent-words}
 use Rattle.script_grammar.specs.laws.Accepted.{begins, beginning}
 use Rattle.session_grammar.specs.declared.session_script.SessionHeader.{SessionHeader}
 use Rattle.session_grammar.specs.declared.session_script.SessionScript.{SessionScript}

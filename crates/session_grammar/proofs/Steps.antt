@@ -1,16 +1,16 @@
 -- Calls and events of lines whose first words may stand in a volume script.
 use Rattle.std.proofs.Common.{◌≡◌, ℕ, Bool, true, false, not, nat_le, List, [], ◌∷◌, codes, Option, Some, Result, Ok, Err, refl, sym, ap, ◌∙◌, if◌then◌else◌}
 use Rattle.std.proofs.lemmas.Bool.{and_parts, leb-true}
-use Rattle.event_grammar.specs.declared.event.CoreEvent.{CoreEvent}
-use Rattle.event_grammar.specs.declared.event.CoreEvent.TheVariants as core
-use Rattle.event_grammar.specs.declared.event.EventWord.{EventWord}
-use Rattle.event_grammar.specs.declared.event.EventWord.TheVariants.{One, Round, Back}
-use Rattle.event_grammar.specs.declared.words.EventFirst.{EventFirst}
-use Rattle.event_grammar.specs.declared.words.EventFirst.TheVariants as event
-use Rattle.event_grammar.specs.declared.words.PlainWord.TheVariants as plain
-use Rattle.event_grammar.specs.EventLines.{event_word}
+use Rattle.line_grammar.specs.declared.events.event.CoreEvent.{CoreEvent}
+use Rattle.line_grammar.specs.declared.events.event.CoreEvent.TheVariants as core
+use Rattle.line_grammar.specs.declared.events.event.EventWord.{EventWord}
+use Rattle.line_grammar.specs.declared.events.event.EventWord.TheVariants.{One, Round, Back}
+use Rattle.line_grammar.specs.declared.events.words.EventFirst.{EventFirst}
+use Rattle.line_grammar.specs.declared.events.words.EventFirst.TheVariants as event
+use Rattle.line_grammar.specs.declared.events.words.PlainWord.TheVariants as plain
+use Rattle.line_grammar.specs.events.EventLines.{event_word}
 use Rattle.script_words.specs.laws.Counts.{with_count, counted}
-use Rattle.event_grammar.specs.laws.Speller.{SayEvent}
+use Rattle.line_grammar.specs.events.laws.Speller.{SayEvent}
 use Rattle.session_grammar.specs.Grammar.{is_submit, names_thread}
 use Rattle.session_grammar.specs.WellFormed.{IsStepOf, IsTurnOf}
 

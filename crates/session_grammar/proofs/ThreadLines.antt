@@ -3,7 +3,7 @@ use Rattle.std.proofs.Common.{◌≡◌, ℕ, suc, zero, ◌+◌, ◌<◌, ◌�
 use Rattle.std.proofs.lemmas.List.{map-append, take_all}
 use Rattle.tree_model.specs.declared.call.Call.{Call}
 use Rattle.script_words.specs.Spelling.{words_of}
-use Rattle.call_grammar.specs.Programs.{pushed_last}
+use Rattle.line_grammar.specs.calls.Programs.{pushed_last}
 use Rattle.session_grammar.specs.WellFormed.{all_calls, AreLinesOf}
 use Rattle.session_grammar.specs.laws.Speller.{thread_words, thread_lines}
 use Rattle.session_grammar.proofs.BodyRead.{AreLinesOf-front}

@@ -2,7 +2,7 @@
 use Rattle.std.proofs.Common.{◌≡◌, ℕ, suc, ◌<◌, ◌≤◌, List, [], ◌∷◌, ◌++◌, length, refl, sym, ap, ◌∙◌, inl, inr, arith, append_assoc, length-append}
 use Rattle.blk_base.specs.Members.{In}
 use Rattle.tree_model.specs.declared.call.Call.{Call}
-use Rattle.call_grammar.specs.Programs.{pushed_last, last_length}
+use Rattle.line_grammar.specs.calls.Programs.{pushed_last, last_length}
 use Rattle.session_grammar.specs.WellFormed.{all_calls, IsLineOf, AreLinesOf}
 
 pub length-pushed_last : {A : Type 0} (ts : List (List A)) (x : A) → length (pushed_last ts x) ≡ length ts

@@ -17,22 +17,22 @@ use Rattle.script_grammar.specs.declared.kinds.ScriptKind.{ScriptKind}
 use Rattle.script_grammar.specs.declared.script_error.ScriptError.{ScriptError}
 use Rattle.script_grammar.specs.code.Readers.{IsTextReadAs}
 use Rattle.script_grammar.proofs.WellFormed.{ok_behind, ok_past, ok_beside}
-use Rattle.call_grammar.specs.declared.words.CallWord.{CallWord}
-use Rattle.call_grammar.specs.CallLines.{call_of}
-use Rattle.call_grammar.specs.Programs.{pushed_last, last_length}
-use Rattle.call_grammar.specs.WellFormed as call
-use Rattle.call_grammar.specs.laws.Speller as call_speller
-use Rattle.call_grammar.proofs.SaidCalls as call_said
-use Rattle.event_grammar.specs.declared.event.EventLine.{EventLine}
+use Rattle.line_grammar.specs.declared.calls.words.CallWord.{CallWord}
+use Rattle.line_grammar.specs.calls.CallLines.{call_of}
+use Rattle.line_grammar.specs.calls.Programs.{pushed_last, last_length}
+use Rattle.line_grammar.specs.calls.WellFormed as call
+use Rattle.line_grammar.specs.calls.laws.Speller as call_speller
+use Rattle.line_grammar.proofs.CallsLemmas.SaidCalls as call_said
+use Rattle.line_grammar.specs.declared.events.event.EventLine.{EventLine}
 use Rattle.script_words.specs.declared.limits.TheConstants.{MOST_EVENTS}
-use Rattle.event_grammar.specs.declared.steer.Steer.{Steer}
-use Rattle.event_grammar.specs.declared.words.EventFirst.{EventFirst}
-use Rattle.event_grammar.specs.EventLines.{event_word, event_of}
-use Rattle.event_grammar.specs.SteerLines.{steers_of}
-use Rattle.event_grammar.specs.WellFormed.{IsSteerLine}
-use Rattle.event_grammar.specs.laws.Speller as event_speller
-use Rattle.event_grammar.proofs.EventLaws as event_laws
-use Rattle.event_grammar.proofs.SteerLaws.{steers_said}
+use Rattle.line_grammar.specs.declared.events.steer.Steer.{Steer}
+use Rattle.line_grammar.specs.declared.events.words.EventFirst.{EventFirst}
+use Rattle.line_grammar.specs.events.EventLines.{event_word, event_of}
+use Rattle.line_grammar.specs.events.SteerLines.{steers_of}
+use Rattle.line_grammar.specs.events.WellFormed.{IsSteerLine}
+use Rattle.line_grammar.specs.events.laws.Speller as event_speller
+use Rattle.line_grammar.proofs.EventsLemmas.EventLaws as event_laws
+use Rattle.line_grammar.proofs.EventsLemmas.SteerLaws.{steers_said}
 use Rattle.minix_layout.specs.declared.limits.TheConstants.{LEAST_JOURNAL, MOST_JOURNAL, MOST_NUMBERED}
 use Rattle.session_grammar.specs.declared.limits.TheConstants.{JOURNALS, MOST_CALLS, MOST_RECOVERS, MOST_SEED, MOST_SESSION, MOST_THREADS}
 use Rattle.session_grammar.specs.declared.reading.Reading.{Reading}

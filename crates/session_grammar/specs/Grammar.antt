@@ -10,19 +10,19 @@ use Rattle.script_words.specs.LineByLine.{line_read, lines_read}
 use Rattle.script_grammar.specs.declared.limits.TheConstants.{DEFAULT_DEPTH, DEFAULT_QUEUE, FEWEST_SEGMENTS, MOST_DEPTH, MOST_QUEUE, MOST_SEGMENTS, MOST_STEPS, MOST_TRANSFERS}
 use Rattle.script_grammar.specs.declared.kinds.ScriptKind.{ScriptKind}
 use Rattle.script_grammar.specs.declared.kinds.ScriptKind.TheVariants as kinds
-use Rattle.call_grammar.specs.CallLines.{call_of}
-use Rattle.call_grammar.specs.Programs.{pushed_last, last_length}
-use Rattle.event_grammar.specs.declared.event.CoreEvent.TheVariants as core
-use Rattle.event_grammar.specs.declared.event.EventLine.{EventLine}
-use Rattle.event_grammar.specs.declared.event.EventWord.{EventWord}
-use Rattle.event_grammar.specs.declared.event.EventWord.TheVariants.{One, Round, Back}
+use Rattle.line_grammar.specs.calls.CallLines.{call_of}
+use Rattle.line_grammar.specs.calls.Programs.{pushed_last, last_length}
+use Rattle.line_grammar.specs.declared.events.event.CoreEvent.TheVariants as core
+use Rattle.line_grammar.specs.declared.events.event.EventLine.{EventLine}
+use Rattle.line_grammar.specs.declared.events.event.EventWord.{EventWord}
+use Rattle.line_grammar.specs.declared.events.event.EventWord.TheVariants.{One, Round, Back}
 use Rattle.script_words.specs.declared.limits.TheConstants.{MOST_EVENTS}
-use Rattle.event_grammar.specs.declared.steer.Steer.{Steer}
-use Rattle.event_grammar.specs.declared.words.EventFirst.{EventFirst}
-use Rattle.event_grammar.specs.declared.words.EventFirst.TheVariants as event
-use Rattle.event_grammar.specs.declared.words.PlainWord.TheVariants as plain
-use Rattle.event_grammar.specs.EventLines.{event_of}
-use Rattle.event_grammar.specs.SteerLines.{steers_of}
+use Rattle.line_grammar.specs.declared.events.steer.Steer.{Steer}
+use Rattle.line_grammar.specs.declared.events.words.EventFirst.{EventFirst}
+use Rattle.line_grammar.specs.declared.events.words.EventFirst.TheVariants as event
+use Rattle.line_grammar.specs.declared.events.words.PlainWord.TheVariants as plain
+use Rattle.line_grammar.specs.events.EventLines.{event_of}
+use Rattle.line_grammar.specs.events.SteerLines.{steers_of}
 use Rattle.minix_layout.specs.declared.limits.TheConstants.{DEFAULT_WIDTH, LEAST_JOURNAL, MOST_JOURNAL, MOST_NUMBERED}
 use Rattle.session_grammar.specs.declared.limits.TheConstants.{DEFAULT_LIMIT, DEFAULT_SEED, JOURNALS, MOST_CALLS, MOST_RECOVERS, MOST_SEED, MOST_SESSION, MOST_THREADS}
 use Rattle.session_grammar.specs.declared.reading.Reading.{Reading}

@@ -6,16 +6,16 @@ use Rattle.minix_layout.specs.Words.{first_zone}
 use Rattle.tree_model.specs.declared.call.Call.{Call}
 use Rattle.script_words.specs.Spelling.{words_of}
 use Rattle.script_grammar.specs.declared.limits.TheConstants.{FEWEST_SEGMENTS, MOST_DEPTH, MOST_QUEUE, MOST_SEGMENTS, MOST_STEPS, MOST_TRANSFERS}
-use Rattle.call_grammar.specs.WellFormed as call
-use Rattle.call_grammar.specs.laws.Speller as call_speller
-use Rattle.event_grammar.specs.declared.event.CoreEvent.{CoreEvent}
-use Rattle.event_grammar.specs.declared.event.CoreEvent.TheVariants as core
-use Rattle.event_grammar.specs.declared.event.EventLine.{EventLine}
-use Rattle.event_grammar.specs.declared.event.EventWord.{EventWord}
-use Rattle.event_grammar.specs.declared.event.EventWord.TheVariants.{One, Round, Back}
+use Rattle.line_grammar.specs.calls.WellFormed as call
+use Rattle.line_grammar.specs.calls.laws.Speller as call_speller
+use Rattle.line_grammar.specs.declared.events.event.CoreEvent.{CoreEvent}
+use Rattle.line_grammar.specs.declared.events.event.CoreEvent.TheVariants as core
+use Rattle.line_grammar.specs.declared.events.event.EventLine.{EventLine}
+use Rattle.line_grammar.specs.declared.events.event.EventWord.{EventWord}
+use Rattle.line_grammar.specs.declared.events.event.EventWord.TheVariants.{One, Round, Back}
 use Rattle.script_words.specs.declared.limits.TheConstants.{MOST_EVENTS}
-use Rattle.event_grammar.specs.declared.steer.Steer.{Steer}
-use Rattle.event_grammar.specs.WellFormed.{IsEventLine, IsSteerLine}
+use Rattle.line_grammar.specs.declared.events.steer.Steer.{Steer}
+use Rattle.line_grammar.specs.events.WellFormed.{IsEventLine, IsSteerLine}
 use Rattle.minix_layout.specs.declared.limits.TheConstants.{LEAST_JOURNAL, MOST_JOURNAL, MOST_NUMBERED}
 use Rattle.session_grammar.specs.declared.limits.TheConstants.{MOST_CALLS, MOST_RECOVERS, MOST_SEED, MOST_SESSION, MOST_THREADS}
 use Rattle.session_grammar.specs.declared.session_script.SessionHeader.{SessionHeader}

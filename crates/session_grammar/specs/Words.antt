@@ -9,8 +9,8 @@ use Rattle.session_grammar.specs.declared.words.HeaderWord.TheVariants as header
 use Rattle.session_grammar.specs.declared.words.Word.{Word}
 use Rattle.session_grammar.specs.declared.words.Word.TheVariants as word
 use Rattle.script_grammar.specs.Words.{first_word}
-use Rattle.call_grammar.specs.CallLines.{call_word}
-use Rattle.event_grammar.specs.EventLines.{event_word}
+use Rattle.line_grammar.specs.calls.CallLines.{call_word}
+use Rattle.line_grammar.specs.events.EventLines.{event_word}
 
 abbrev pub number_word : List ℕ → Option NumberWord
 number_word w =

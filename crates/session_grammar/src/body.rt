@@ -1,18 +1,18 @@
 //! Threads with their calls, event lines and `recover` lines.
 ghost use Rattle.std.specs.Prelude.{◌≡◌, ◌+◌, ◌++◌, ◌∷◌, ◌<◌, ◌≤◌, ◌^◌, [], nat_le, true, map, length, IfOk, OnOk};
 ghost use Rattle.script_grammar.specs.code.Readers.{IsReadAs};
-ghost use Rattle.call_grammar.specs.CallLines.{call_of};
-ghost use Rattle.call_grammar.specs.Programs.{pushed_last};
-ghost use Rattle.event_grammar.specs.EventLines.{event_of};
-ghost use Rattle.event_grammar.specs.SteerLines.{steers_of};
+ghost use Rattle.line_grammar.specs.calls.CallLines.{call_of};
+ghost use Rattle.line_grammar.specs.calls.Programs.{pushed_last};
+ghost use Rattle.line_grammar.specs.events.EventLines.{event_of};
+ghost use Rattle.line_grammar.specs.events.SteerLines.{steers_of};
 ghost use Rattle.session_grammar.specs.code.Readers.{line_error};
 ghost use Rattle.session_grammar.specs.Grammar.{kind_of, with_thread, thread_taken, thread_line, with_call, call_added, call_taken, events_line, names_thread, weight, event_fits, with_event, event_added, event_taken, with_recover, recover_added, recover_taken};
 
 use crate::limits::{MOST_CALLS, MOST_RECOVERS, MOST_THREADS};
 use crate::reading::{Reading, Section};
 use blk_base::NoMemory;
-use call_grammar::{CallWord, LineList, Program, Programs, read_call};
-use event_grammar::{
+use line_grammar::calls::{CallWord, LineList, Program, Programs, read_call};
+use line_grammar::events::{
     CoreEvent, EventFirst, EventLine, EventWord, SteerLine, read_event, read_steers,
 };
 use script_grammar::{LineError, ScriptKind};

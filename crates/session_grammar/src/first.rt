@@ -5,8 +5,8 @@ ghost use Rattle.session_grammar.specs.Grammar.{are_sizes, have_geometry, none_t
 use crate::limits::JOURNALS;
 use crate::reading::{HeaderSoFar, Reading, Section, VolumeForm};
 use crate::words::Word;
-use call_grammar::{LineList, Programs};
-use event_grammar::{Events, SteerList};
+use line_grammar::calls::{LineList, Programs};
+use line_grammar::events::{Events, SteerList};
 use minix_layout::{DEFAULT_WIDTH, Geometry, LEAST_JOURNAL, MOST_JOURNAL, MOST_NUMBERED};
 use script_grammar::{FirstWord, ScriptKind};
 use script_words::numeral;

@@ -12,7 +12,7 @@ use crate::reading::{HeaderSoFar, Reading, Section};
 use crate::session_script::{SessionHeader, SessionScript};
 use crate::word_table::read_word;
 use crate::words::{HeaderWord, Word};
-use event_grammar::{EventFirst, PlainWord};
+use line_grammar::events::{EventFirst, PlainWord};
 use script_grammar::{
     DEFAULT_DEPTH, DEFAULT_QUEUE, LineError, MOST_SCRIPT_BYTES, ScriptError, ScriptKind, fault_at,
 };

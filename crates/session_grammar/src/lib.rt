@@ -5,8 +5,8 @@
 //! `sessions_tell_first_fault`, `sessions_are_read_back` and `sessions_are_what_is_spelled`, in words of lines and
 //! of a small speller.
 //!
-//! Stands on `script_grammar` for the first words, the kinds of faults and the limits that both have, on `call_grammar` and
-//! `event_grammar` for the lines of calls, events and recovery, and on `minix_layout` for the sizes of volumes.
+//! Stands on `script_grammar` for the first words, the kinds of faults and the limits that both have, on `line_grammar::calls` and
+//! `line_grammar::events` for the lines of calls, events and recovery, and on `minix_layout` for the sizes of volumes.
 #![tactic(auto)]
 
 mod body;

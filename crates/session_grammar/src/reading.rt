@@ -1,6 +1,6 @@
 //! What was read of a volume script so far.
-use call_grammar::{LineList, Programs};
-use event_grammar::{Events, SteerList};
+use line_grammar::calls::{LineList, Programs};
+use line_grammar::events::{Events, SteerList};
 
 /// The parts of a script, after its first line.
 #[derive(Clone, Copy, PartialEq, Eq, Debug)]

@@ -2,8 +2,8 @@
 ghost use Rattle.std.specs.Prelude.{◌≡◌, IfOk};
 
 use blk_base::NoMemory;
-use call_grammar::{LineList, Programs};
-use event_grammar::{Events, SteerList};
+use line_grammar::calls::{LineList, Programs};
+use line_grammar::events::{Events, SteerList};
 use std::alloc::Global;
 
 /// The values of the header lines, with their defaults.

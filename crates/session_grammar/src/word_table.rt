@@ -3,8 +3,8 @@ ghost use Rattle.std.specs.Prelude.{◌≡◌};
 ghost use Rattle.session_grammar.specs.Words.{number_word, other_header, header_word, part_word, call_step, event_step, step_word, word_of};
 
 use crate::words::{HeaderWord, NumberWord, Word};
-use call_grammar::read_call_word;
-use event_grammar::read_event_word;
+use line_grammar::calls::read_call_word;
+use line_grammar::events::read_event_word;
 use script_grammar::read_first_word;
 
 /// The word that begins a line before `events` or behind it, where it is known.

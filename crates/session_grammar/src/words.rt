@@ -1,6 +1,6 @@
 //! The words that begin lines of volume scripts, in groups by where the lines stand.
-use call_grammar::CallWord;
-use event_grammar::EventFirst;
+use line_grammar::calls::CallWord;
+use line_grammar::events::EventFirst;
 use script_grammar::FirstWord;
 
 /// The words of header lines with a number behind them.

@@ -11,15 +11,15 @@ use Rattle.byte_text.specs.Hex.{hex_digit_text, hex_text}
 use Rattle.tree_model.specs.declared.call.Call.{Call}
 use Rattle.tree_model.specs.declared.call.Call.TheVariants as calls
 use Rattle.script_words.specs.Spelling.{words_of}
-use Rattle.call_grammar.specs.declared.limits.TheConstants.{OFFSETS}
-use Rattle.call_grammar.specs.CallLines.{is_printed}
-use Rattle.call_grammar.specs.WellFormed as call
-use Rattle.call_grammar.specs.WellFormed.{IsPathText}
-use Rattle.call_grammar.specs.laws.Speller.{call_words, with_lower_digits}
-use Rattle.call_grammar.proofs.Hexadecimal.{digits_read}
-use Rattle.call_grammar.proofs.SaidCalls.{line_of-says}
-use Rattle.call_grammar.proofs.SpelledCalls.{IsFour-lowered, unchanged}
-use Rattle.session_text.specs.Lines.{is_ascii}
+use Rattle.line_grammar.specs.declared.calls.limits.TheConstants.{OFFSETS}
+use Rattle.line_grammar.specs.calls.CallLines.{is_printed}
+use Rattle.line_grammar.specs.calls.WellFormed as call
+use Rattle.line_grammar.specs.calls.WellFormed.{IsPathText}
+use Rattle.line_grammar.specs.calls.laws.Speller.{call_words, with_lower_digits}
+use Rattle.line_grammar.proofs.CallsLemmas.Hexadecimal.{digits_read}
+use Rattle.line_grammar.proofs.CallsLemmas.SaidCalls.{line_of-says}
+use Rattle.line_grammar.proofs.CallsLemmas.SpelledCalls.{IsFour-lowered, unchanged}
+use Rattle.session_report.specs.text.Lines.{is_ascii}
 use Rattle.session_grammar.specs.declared.session_script.SessionScript.{SessionScript}
 use Rattle.session_grammar.specs.WellFormed.{IsWellFormed, IsLineOf, AreLinesOf, all_calls}
 use Rattle.session_report.specs.ReportText.{AreAscii}

@@ -1,1 +1,2 @@
 pub mod AsciiLines
+pub mod BulkLemmas

@@ -1,1 +1,3 @@
 pub mod ReportText
+pub mod text
+pub mod bulk

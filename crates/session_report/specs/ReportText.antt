@@ -6,7 +6,7 @@ use Rattle.host_answers.specs.declared.standing.Standing.{Standing}
 use Rattle.host_answers.specs.declared.entry.Entry.{Entry}
 use Rattle.host_answers.specs.declared.entry.EntryKind.{EntryKind}
 use Rattle.host_answers.specs.declared.entry.EntryKind.TheVariants.{Begin, End}
-use Rattle.session_text.specs.Lines.{is_ascii, answer_line, thread_line, count_line}
+use Rattle.session_report.specs.text.Lines.{is_ascii, answer_line, thread_line, count_line}
 
 -- the calls of so many first threads
 abbrev pub calls_before : List (List Call) → ℕ → ℕ

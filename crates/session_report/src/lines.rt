@@ -2,12 +2,12 @@
 ghost use Rattle.std.specs.Prelude.{◌≡◌, ◌+◌, ◌-◌, ◌*◌, ◌++◌, ◌<◌, ◌≤◌, ◌^◌, [], length, map, slice_index_or, OnOk};
 ghost use Rattle.std.specs.List.{All};
 ghost use Rattle.std.specs.String.{string_bytes};
-ghost use Rattle.session_text.specs.Lines.{is_ascii};
+ghost use Rattle.session_report.specs.text.Lines.{is_ascii};
 ghost use Rattle.session_report.specs.ReportText.{calls_before, line_at, what_text, answers_text, threads_text, session_lines, AreAscii};
 
-use call_grammar::{LineList, Program, Programs};
+use crate::text::{put_answer, put_count, put_thread};
 use host_answers::{Entry, EntryKind, Standing};
-use session_text::{put_answer, put_count, put_thread};
+use line_grammar::calls::{LineList, Program, Programs};
 use std::alloc::AllocError;
 
 /// The figures of a session.

@@ -2,15 +2,15 @@
 use Rattle.std.proofs.Common.{◌≡◌, ℕ, [], ◌++◌, length, sym, ap, subst, ◌∙◌}
 use Rattle.order_model.specs.Device.{completed, origin_ids}
 use Rattle.order_model.specs.Machine.{Machine}
-use Rattle.barrier_reassign.specs.Scheduler.{SchedSteps}
+use Rattle.schedulers.specs.reassign.Scheduler.{SchedSteps}
 use Rattle.tree_model.specs.declared.call.Call.{Call}
 use Rattle.tree_model.specs.declared.call.Reply.{Reply}
 use Rattle.volume_steps.specs.Now.{VolumeNow}
 use Rattle.stack_core.specs.Headline.{KeepsOrder}
 use Rattle.host_core.specs.Now.{HostNow}
 use Rattle.host_machine.specs.State.{Host}
-use Rattle.host_volume.specs.Sessions.{Opening}
-use Rattle.session_machine.specs.Machine.{SessionState, opened_session, run_events}
+use Rattle.minix_host.specs.Sessions.{Opening}
+use Rattle.session_run.specs.machine.Machine.{SessionState, opened_session, run_events}
 use Rattle.session_run.specs.declared.session.SessionEnd.{SessionEnd}
 use Rattle.session_run.specs.code.Queues.{QueuesNow, no_items, layer_queues}
 use Rattle.session_run.specs.code.Session.{session_of}

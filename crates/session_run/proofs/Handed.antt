@@ -5,7 +5,7 @@ use Rattle.order_model.specs.declared.completion.Completion.{Completion}
 use Rattle.order_model.specs.Machine.{Machine}
 use Rattle.stack_core.specs.BlockLayer.{QueuesState, given_first}
 use Rattle.stack_core.specs.Handing.{Handing, handed_given, handed}
-use Rattle.session_machine.specs.Machine.{SessionState, received}
+use Rattle.session_run.specs.machine.Machine.{SessionState, received}
 use Rattle.host_core.specs.Now.{HostNow}
 use Rattle.session_run.specs.code.Queues.{QueuesNow, layer_queues}
 use Rattle.session_run.specs.code.Session.{session_of}

@@ -13,9 +13,9 @@ use Rattle.flush_actor.specs.Steps.{flush_due, take_completion, submit_flush}
 use Rattle.host_machine.specs.Host.{Turned, with_flush, flush_step}
 use Rattle.host_machine.specs.Model.{Model}
 use Rattle.host_machine.specs.State.{Host, Setup}
-use Rattle.session_machine.specs.Machine.{is_full, left_over}
-use Rattle.session_machine.specs.Fits.{SubmitsOne}
-use Rattle.session_machine.proofs.FullQueue.{flush_agrees, either_is}
+use Rattle.session_run.specs.machine.Machine.{is_full, left_over}
+use Rattle.session_run.specs.machine.Fits.{SubmitsOne}
+use Rattle.session_run.proofs.MachineLemmas.FullQueue.{flush_agrees, either_is}
 use Rattle.session_run.specs.declared.queues.SessionQueues.TheInside.{Inside}
 use Rattle.session_run.specs.code.Queues.{QueuesNow, with_sent}
 use Rattle.session_run.specs.code.Fields.{queues_of}

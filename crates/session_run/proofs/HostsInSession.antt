@@ -7,20 +7,20 @@ use Rattle.minix_layout.specs.declared.division.Geometry.{Geometry}
 use Rattle.page_cache.specs.Pages.{Cache}
 use Rattle.journal_ring.specs.Journal.{JournalRing}
 use Rattle.journal_ring.specs.LogRing.{LogRing}
-use Rattle.tx_running.specs.Closing.{writers}
-use Rattle.tx_running.specs.Open.{quota}
-use Rattle.tx_running.specs.Plan.{Writers}
+use Rattle.journal_ring.specs.running.Closing.{writers}
+use Rattle.journal_ring.specs.running.Open.{quota}
+use Rattle.journal_ring.specs.running.Plan.{Writers}
 use Rattle.volume_steps.specs.Now.{VolumeNow}
 use Rattle.host_core.specs.Now.{HostNow, with_host, host_made, model_now, setup_now}
 use Rattle.host_machine.specs.Host.{advance, commit_step, writeback, flush_step, opened}
 use Rattle.host_machine.specs.Model.{Model}
 use Rattle.host_machine.specs.State.{Host, Setup}
-use Rattle.host_runs.specs.Runs.{Event, stepped, steps}
-use Rattle.host_runs.specs.Runs as runs
-use Rattle.host_runs.specs.laws.Written.{AreWritten}
-use Rattle.host_volume.specs.PlainTrees.{PlainTree}
-use Rattle.host_volume.specs.Runs.{IsOpenedVolume, HasEmptyJournal}
-use Rattle.host_volume.specs.Sessions.{Opening, model_of}
+use Rattle.host_machine.specs.runs.Runs.{Event, stepped, steps}
+use Rattle.host_machine.specs.runs.Runs as runs
+use Rattle.host_machine.specs.runs.laws.Written.{AreWritten}
+use Rattle.minix_host.specs.PlainTrees.{PlainTree}
+use Rattle.minix_host.specs.Runs.{IsOpenedVolume, HasEmptyJournal}
+use Rattle.minix_host.specs.Sessions.{Opening, model_of}
 use Rattle.session_run.specs.CodeHosts.{HasJournal, IsInSession}
 use Rattle.call_sessions.specs.Sessions.{WriteBytes, call_over, opened_with, host_behind, KeepsCalls}
 use Rattle.call_sessions.proofs.CallsKept.{same_geometry, calls_kept}

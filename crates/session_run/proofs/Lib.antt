@@ -5,3 +5,5 @@ pub mod Answered
 pub mod Lines
 pub mod Ended
 pub mod Handed
+pub mod MachineLemmas
+pub mod PartsLemmas

@@ -4,13 +4,13 @@ use Rattle.std.specs.List.{range_with_len}
 use Rattle.std.proofs.lemmas.List.{drop_all}
 use Rattle.std.proofs.Math.Seq.{drop-cons}
 use Rattle.order_model.specs.Machine.{Machine}
-use Rattle.barrier_reassign.specs.Scheduler.{SchedSteps}
-use Rattle.event_grammar.specs.declared.event.CoreEvent.{CoreEvent}
-use Rattle.event_grammar.specs.declared.event.CoreEvent.TheVariants as events
-use Rattle.event_grammar.specs.declared.event.EventLine.{EventLine}
-use Rattle.host_volume.specs.Sessions.{Opening}
-use Rattle.session_machine.specs.Machine.{SessionState, happens, run_events, events_of, repeated, word_events}
-use Rattle.session_machine.proofs.SessionRuns.{events_append}
+use Rattle.schedulers.specs.reassign.Scheduler.{SchedSteps}
+use Rattle.line_grammar.specs.declared.events.event.CoreEvent.{CoreEvent}
+use Rattle.line_grammar.specs.declared.events.event.CoreEvent.TheVariants as events
+use Rattle.line_grammar.specs.declared.events.event.EventLine.{EventLine}
+use Rattle.minix_host.specs.Sessions.{Opening}
+use Rattle.session_run.specs.machine.Machine.{SessionState, happens, run_events, events_of, repeated, word_events}
+use Rattle.session_run.proofs.MachineLemmas.SessionRuns.{events_append}
 
 -- ---- lists that are left
 

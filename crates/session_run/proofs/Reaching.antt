@@ -5,10 +5,10 @@ use Rattle.order_model.specs.declared.completion.Completion.{Completion}
 use Rattle.order_model.specs.declared.request.Request.{Request}
 use Rattle.order_model.specs.Device.{IsReceivable}
 use Rattle.order_model.specs.Machine.{Machine}
-use Rattle.barrier_reassign.specs.Scheduler.{SchedSteps, IsAcceptable, IsScheduler}
+use Rattle.schedulers.specs.reassign.Scheduler.{SchedSteps, IsAcceptable, IsScheduler}
 use Rattle.stack_core.specs.BlockLayer.{BlockLayer, layer_accepted, layer_dispatched}
-use Rattle.event_grammar.specs.declared.event.CoreEvent.{CoreEvent}
-use Rattle.event_grammar.specs.declared.event.CoreEvent.TheVariants as events
+use Rattle.line_grammar.specs.declared.events.event.CoreEvent.{CoreEvent}
+use Rattle.line_grammar.specs.declared.events.event.CoreEvent.TheVariants as events
 use Rattle.flush_actor.specs.Outcomes.{sent_between}
 use Rattle.tree_model.specs.declared.call.Call.{Call}
 use Rattle.tree_model.specs.declared.call.Reply.{Reply}
@@ -17,16 +17,16 @@ use Rattle.host_machine.specs.Host.{advance, commit_step, writeback, flush_step}
 use Rattle.host_machine.specs.Model.{Model}
 use Rattle.host_machine.specs.State.{Host, Setup}
 use Rattle.host_core.specs.Now.{HostNow, with_host, model_now, setup_now}
-use Rattle.host_runs.specs.Runs.{Event, stepped}
-use Rattle.host_runs.specs.Runs as runs
-use Rattle.host_volume.specs.PlainTrees.{PlainTree}
+use Rattle.host_machine.specs.runs.Runs.{Event, stepped}
+use Rattle.host_machine.specs.runs.Runs as runs
+use Rattle.minix_host.specs.PlainTrees.{PlainTree}
 use Rattle.call_sessions.specs.Sessions.{call_over}
 use Rattle.session_run.proofs.HostsInSession.{model_is, setup_is, call_goes_on, commit_goes_on, writeback_goes_on, flush_goes_on}
-use Rattle.session_machine.specs.Machine.{SessionState, opened_session, is_full, left_over, submission_full, by_host, call_step, flush_event, may_flush, flushed, layer_of, with_layer, happens, run_events}
-use Rattle.session_machine.specs.Fits.{IsDevice}
-use Rattle.session_machine.proofs.Events.{Holds}
-use Rattle.session_machine.proofs.Layer.{acceptable, first_receivable}
-use Rattle.session_machine.proofs.SessionRuns.{opened_holds, run_holds, events_append}
+use Rattle.session_run.specs.machine.Machine.{SessionState, opened_session, is_full, left_over, submission_full, by_host, call_step, flush_event, may_flush, flushed, layer_of, with_layer, happens, run_events}
+use Rattle.session_run.specs.machine.Fits.{IsDevice}
+use Rattle.session_run.proofs.MachineLemmas.Events.{Holds}
+use Rattle.session_run.proofs.MachineLemmas.Layer.{acceptable, first_receivable}
+use Rattle.session_run.proofs.MachineLemmas.SessionRuns.{opened_holds, run_holds, events_append}
 use Rattle.session_run.specs.code.Queues.{QueuesNow, with_sent, layer_queues}
 use Rattle.session_run.specs.code.Session.{session_of}
 use Rattle.session_run.specs.Beginning.{Beginning, CanBegin}

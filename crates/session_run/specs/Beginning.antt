@@ -2,16 +2,16 @@
 use Rattle.std.specs.Prelude.{◌≡◌, ℕ, [], length}
 use Rattle.order_model.specs.declared.device.OrderedDev as devices
 use Rattle.order_model.specs.Machine.{Machine, machine_of}
-use Rattle.barrier_reassign.specs.declared.scheduler.Scheduler as schedulers
-use Rattle.barrier_reassign.specs.Scheduler.{SchedSteps}
+use Rattle.schedulers.specs.declared.reassign.scheduler.Scheduler as schedulers
+use Rattle.schedulers.specs.reassign.Scheduler.{SchedSteps}
 pub use Rattle.host_core.specs.Now.{HostNow}
-use Rattle.host_runs.specs.laws.Written.{AreWritten}
-use Rattle.host_volume.specs.Runs.{IsOpenedVolume, HasEmptyJournal}
-use Rattle.host_volume.specs.Sessions.{Opening}
+use Rattle.host_machine.specs.runs.laws.Written.{AreWritten}
+use Rattle.minix_host.specs.Runs.{IsOpenedVolume, HasEmptyJournal}
+use Rattle.minix_host.specs.Sessions.{Opening}
 pub use Rattle.call_sessions.specs.Sessions.{WriteBytes, call_over, made_now, made_opening, made_ring}
 use Rattle.session_run.specs.CodeHosts.{IsInSession}
-use Rattle.session_machine.specs.Machine.{Start}
-use Rattle.session_machine.specs.Fits.{CanStart}
+use Rattle.session_run.specs.machine.Machine.{Start}
+use Rattle.session_run.specs.machine.Fits.{CanStart}
 
 -- what a session begins with: its volume and journal, its queues and programs, a scheduler and a device
 pub record Beginning (K S : Type 0) : Type 0 where

@@ -1,14 +1,14 @@
 -- Hosts as code has them, in a session.
 use Rattle.std.specs.Prelude.{◌≡◌, ℕ, List}
 use Rattle.tree_model.specs.declared.call.Call.{Call}
-use Rattle.tx_running.specs.Closing.{writers}
-use Rattle.tx_running.specs.Open.{quota}
+use Rattle.journal_ring.specs.running.Closing.{writers}
+use Rattle.journal_ring.specs.running.Open.{quota}
 use Rattle.volume_steps.specs.Now.{VolumeNow}
 use Rattle.journal_blocks.specs.declared.super_block.JournalSuper.{JournalSuper}
 use Rattle.journal_ring.specs.LogRing.{LogRing}
 use Rattle.host_core.specs.Now.{HostNow}
-use Rattle.host_runs.specs.Runs.{Event}
-use Rattle.host_volume.specs.Sessions.{Opening}
+use Rattle.host_machine.specs.runs.Runs.{Event}
+use Rattle.minix_host.specs.Sessions.{Opening}
 use Rattle.call_sessions.specs.Sessions.{host_behind}
 
 -- The session has the journal of this superblock.

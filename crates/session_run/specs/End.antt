@@ -3,13 +3,13 @@ use Rattle.std.specs.Prelude.{◌≡◌, ◌++◌}
 use Rattle.order_model.specs.Device.{origin_ids}
 use Rattle.order_model.specs.Steps.{IsTraceOf}
 use Rattle.order_model.specs.Machine.{Machine}
-use Rattle.barrier_reassign.specs.Scheduler.{SchedSteps, IsSchedRecord}
+use Rattle.schedulers.specs.reassign.Scheduler.{SchedSteps, IsSchedRecord}
 use Rattle.stack_core.specs.Headline.{KeepsOrder}
 pub use Rattle.host_core.specs.Entries.{entry_in, ArePlaced}
 pub use Rattle.host_core.specs.Standings.{standing_of}
-use Rattle.host_volume.specs.Sessions.{Opening}
+use Rattle.minix_host.specs.Sessions.{Opening}
 pub use Rattle.call_sessions.specs.Sessions.{tree_behind}
-use Rattle.session_machine.specs.Machine.{SessionState}
+use Rattle.session_run.specs.machine.Machine.{SessionState}
 use Rattle.session_run.specs.declared.session.SessionEnd.{SessionEnd}
 
 -- The session ended in this state: its host, what is seen of its scheduler, and what the power cut left of its device.

@@ -2,3 +2,5 @@ pub mod CodeHosts
 pub mod Beginning
 pub mod End
 pub mod code
+pub mod machine
+pub mod parts

@@ -10,25 +10,25 @@ ghost use Rattle.page_cache.specs.Pages.{Cache};
 ghost use Rattle.journal_ring.specs.Journal.{JournalRing};
 ghost use Rattle.journal_ring.specs.Journal as new_ring;
 ghost use Rattle.journal_ring.specs.LogRing.{LogRing};
-ghost use Rattle.tx_running.specs.Open.{quota};
+ghost use Rattle.journal_ring.specs.running.Open.{quota};
 ghost use Rattle.volume_steps.specs.Now.{VolumeNow};
 ghost use Rattle.mount_make.specs.Made.{made_image, new_journal};
 ghost use Rattle.host_machine.specs.Host as machine;
-ghost use Rattle.host_runs.specs.Runs.{Event};
-ghost use Rattle.host_runs.specs.Runs as runs;
-ghost use Rattle.host_runs.specs.laws.Written.{AreWritten};
-ghost use Rattle.host_volume.specs.Runs.{IsOpenedVolume, HasEmptyJournal};
-ghost use Rattle.host_volume.specs.Sessions.{Opening};
+ghost use Rattle.host_machine.specs.runs.Runs.{Event};
+ghost use Rattle.host_machine.specs.runs.Runs as runs;
+ghost use Rattle.host_machine.specs.runs.laws.Written.{AreWritten};
+ghost use Rattle.minix_host.specs.Runs.{IsOpenedVolume, HasEmptyJournal};
+ghost use Rattle.minix_host.specs.Sessions.{Opening};
 ghost use Rattle.host_core.specs.Now.{HostNow, with_host, host_made, model_now, setup_now};
 ghost use Rattle.call_sessions.specs.Sessions.{WriteBytes, made_now, made_opening, call_over, KeepsCalls};
-ghost use Rattle.session_machine.specs.MadeStart.{made_start, IsNew};
+ghost use Rattle.session_run.specs.machine.MadeStart.{made_start, IsNew};
 ghost use Rattle.session_run.specs.CodeHosts.{HasJournal, IsInSession};
 ghost use Rattle.session_run.specs.Beginning.{IsMadeFor};
 
-use barrier_reassign::Scheduler;
+use crate::machine::sessions_can_start_on_made_images;
 use call_sessions::sessions_of_calls_on_made_images;
 use order_model::OrderedDev;
-use session_machine::sessions_can_start_on_made_images;
+use schedulers::reassign::Scheduler;
 
 /// A law, which does nothing when it is called: a host as code makes it is in the session of its volume and journal, with
 /// no step done; each step of its callers and actors, as code states it, is the session's next one; and all that the

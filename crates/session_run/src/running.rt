@@ -3,18 +3,18 @@ ghost use Rattle.std.specs.Prelude.{◌≡◌, ◌∷◌, List, OnOk, map};
 ghost use Rattle.std.specs.List.{range_with_len};
 ghost use Rattle.order_model.specs.Device.{IsReceivable};
 ghost use Rattle.order_model.specs.declared.command.Command.{Command};
-ghost use Rattle.event_grammar.specs.declared.event.CoreEvent.TheVariants as events;
-ghost use Rattle.host_volume.specs.Sessions.{Opening};
-ghost use Rattle.session_machine.specs.Machine.{repeated, word_events, events_of};
+ghost use Rattle.line_grammar.specs.declared.events.event.CoreEvent.TheVariants as events;
+ghost use Rattle.minix_host.specs.Sessions.{Opening};
+ghost use Rattle.session_run.specs.machine.Machine.{repeated, word_events, events_of};
 ghost use Rattle.session_run.specs.code.Session.{state_of, after_event, after_events, IsAt};
 ghost use Rattle.session_run.specs.Beginning.{Beginning};
 
 use crate::queues::SessionQueues;
-use barrier_reassign::Scheduler;
 use blk_base::NoMemory;
-use event_grammar::{CoreEvent, EventLine, EventWord};
 use host_core::Host;
+use line_grammar::events::{CoreEvent, EventLine, EventWord};
 use order_model::OrderedDev;
+use schedulers::reassign::Scheduler;
 use std::alloc::Global;
 
 /// The parts of a running session.

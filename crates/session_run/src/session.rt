@@ -1,19 +1,19 @@
 //! A whole session.
 ghost use Rattle.std.specs.Prelude.{◌≡◌, IfOk};
 ghost use Rattle.order_model.specs.Machine.{machine_of};
-ghost use Rattle.host_volume.specs.Sessions.{Opening};
-ghost use Rattle.session_machine.specs.Machine.{Start, core_session};
+ghost use Rattle.minix_host.specs.Sessions.{Opening};
+ghost use Rattle.session_run.specs.machine.Machine.{Start, core_session};
 ghost use Rattle.session_run.specs.Beginning.{IsMadeFor};
 ghost use Rattle.session_run.specs.End.{IsEndOf, EndKeepsOrder};
 
+use crate::machine::sessions_keep_order_to_the_medium;
 use crate::queues::SessionQueues;
 use crate::running::Running;
-use barrier_reassign::Scheduler;
 use blk_base::NoMemory;
-use event_grammar::EventLine;
 use host_core::Host;
+use line_grammar::events::EventLine;
 use order_model::{CutDisk, OrderedDev, SchedRecord};
-use session_machine::sessions_keep_order_to_the_medium;
+use schedulers::reassign::Scheduler;
 use std::alloc::Global;
 
 /// What a session leaves: the host, what the scheduler did, and what a power cut left of the device.

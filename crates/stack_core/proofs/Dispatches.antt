@@ -2,7 +2,7 @@
 use Rattle.std.proofs.Common.{◌≡◌, ℕ, List, [], ◌∷◌, drop, Option, Some, None, slice_get, sym, ap, ◌∙◌}
 use Rattle.std.proofs.lemmas.Option.{none-some, same_Some}
 use Rattle.order_model.specs.declared.command.Command.{Command}
-use Rattle.barrier_reassign.specs.Scheduler.{SchedSteps}
+use Rattle.schedulers.specs.reassign.Scheduler.{SchedSteps}
 use Rattle.stack_core.specs.BlockLayer.{QueuesState, queued_or_kept_option, layer_dispatched}
 use Rattle.stack_core.specs.Dispatching.{DispatchState, with_dispatch}
 

@@ -8,7 +8,7 @@ use Rattle.order_model.specs.Device.{Seen}
 use Rattle.order_model.specs.Steps.{IsTraceOf}
 use Rattle.order_model.specs.Machine.{Machine}
 use Rattle.order_model.specs.Carrying.{SchedSeen, IsPrefixOf}
-use Rattle.barrier_reassign.specs.Scheduler.{SchedSteps, IsSchedRecord}
+use Rattle.schedulers.specs.reassign.Scheduler.{SchedSteps, IsSchedRecord}
 use Rattle.script_grammar.specs.declared.script.Script.{Script}
 use Rattle.script_grammar.specs.declared.script.Form.{Form}
 use Rattle.script_grammar.specs.declared.script.Form.TheVariants.{Device, Blocks}

@@ -12,7 +12,7 @@ use Rattle.order_model.specs.Single.{command_for}
 use Rattle.order_model.specs.Machine.{Machine}
 use Rattle.order_model.specs.Steps.{Receives}
 use Rattle.order_model.specs.Carrying.{SchedSeen, Carries, AreAtIds, Fits}
-use Rattle.barrier_reassign.specs.Scheduler.{SchedSteps, IsScheduler}
+use Rattle.schedulers.specs.reassign.Scheduler.{SchedSteps, IsScheduler}
 use Rattle.script_grammar.specs.declared.script.Script.{Script}
 use Rattle.script_grammar.specs.declared.script.Form.{Form}
 use Rattle.script_grammar.specs.declared.script.Form.TheVariants.{Device, Blocks}

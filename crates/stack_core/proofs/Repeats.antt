@@ -4,7 +4,7 @@ use Rattle.std.proofs.lemmas.List.{drop_all}
 use Rattle.std.proofs.Math.Seq.{drop-cons}
 use Rattle.order_model.specs.declared.request.Request.{Request}
 use Rattle.script_grammar.specs.declared.script.EventLine.{EventLine}
-use Rattle.barrier_reassign.specs.Scheduler.{SchedSteps}
+use Rattle.schedulers.specs.reassign.Scheduler.{SchedSteps}
 use Rattle.order_model.specs.Machine.{Machine}
 use Rattle.stack_core.specs.Core.{RunState, times, happens_line, run_lines}
 

@@ -8,8 +8,8 @@ use Rattle.order_model.specs.declared.request.Request.{Request}
 use Rattle.order_model.specs.Device.{Seen, IsReceivable}
 use Rattle.order_model.specs.Carrying.{SchedSeen, Carries, Fits}
 use Rattle.order_model.proofs.Next.{next_receivable}
-use Rattle.barrier_reassign.specs.Scheduler.{SchedSteps, IsAcceptable, Sends, IsScheduler}
-use Rattle.barrier_reassign.specs.laws.Places.{next_id-new}
+use Rattle.schedulers.specs.reassign.Scheduler.{SchedSteps, IsAcceptable, Sends, IsScheduler}
+use Rattle.schedulers.specs.reassign.laws.Places.{next_id-new}
 use Rattle.stack_core.specs.BlockLayer.{QueuesState, BlockLayer, with_request, submitted, accepted_first, layer_accepted, queued_or_kept, queued_or_kept_option, dispatched_from, layer_dispatched}
 use Rattle.stack_core.specs.RequestPath.{AreRequests, IsScheduled}
 use Rattle.stack_core.proofs.DirectPath.{take_more_get, prefix_requests, block_within}

@@ -3,7 +3,7 @@
 use Rattle.std.specs.Prelude.{ℕ, ◌+◌, ◌++◌, List, [], ◌∷◌, length, nat_lt, Option, Some, None, if◌then◌else◌, slice_get}
 use Rattle.order_model.specs.declared.command.Command.{Command}
 use Rattle.order_model.specs.declared.request.Request.{Request}
-use Rattle.barrier_reassign.specs.Scheduler.{SchedSteps}
+use Rattle.schedulers.specs.reassign.Scheduler.{SchedSteps}
 
 -- the queues before and behind the scheduler
 pub record QueuesState : Type 0 where

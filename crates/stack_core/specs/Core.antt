@@ -5,10 +5,10 @@ use Rattle.order_model.specs.declared.command.Command.{Command}
 use Rattle.order_model.specs.declared.request.Request.{Request}
 use Rattle.order_model.specs.Device.{Seen}
 use Rattle.order_model.specs.Machine.{Machine}
-use Rattle.barrier_reassign.specs.declared.scheduler.TheConstants.{CAPACITY}
-use Rattle.barrier_reassign.specs.Scheduler.{SchedSteps}
-use Rattle.barrier_reassign.specs.Sched as plain
-use Rattle.sched_elevator.specs.Elevator as elevator
+use Rattle.schedulers.specs.declared.reassign.scheduler.TheConstants.{CAPACITY}
+use Rattle.schedulers.specs.reassign.Scheduler.{SchedSteps}
+use Rattle.schedulers.specs.reassign.Sched as plain
+use Rattle.schedulers.specs.elevator.Elevator as elevator
 use Rattle.order_model.specs.Carrying.{SchedSeen}
 use Rattle.device_epochs.specs.declared.device.DeviceSetup.{DeviceSetup}
 use Rattle.device_epochs.specs.Device as epochs

@@ -5,7 +5,7 @@ use Rattle.order_model.specs.Device.{origin_ids}
 use Rattle.order_model.specs.Steps.{IsTraceOf}
 use Rattle.order_model.specs.Single.{command_for}
 use Rattle.order_model.specs.Carrying.{IsPrefixOf}
-use Rattle.barrier_reassign.specs.Scheduler.{IsSchedRecord}
+use Rattle.schedulers.specs.reassign.Scheduler.{IsSchedRecord}
 use Rattle.script_grammar.specs.declared.script.Script.{Script}
 use Rattle.script_grammar.specs.declared.script.Form.{Form}
 use Rattle.script_grammar.specs.declared.script.Form.TheVariants.{Device, Blocks}

@@ -6,8 +6,8 @@ use Rattle.order_model.specs.declared.request.Request.{Request}
 use Rattle.order_model.specs.Single.{command_for}
 use Rattle.order_model.specs.Device.{Seen}
 use Rattle.order_model.specs.Carrying.{SchedSeen, sent_alone}
-use Rattle.barrier_reassign.specs.declared.scheduler.TheConstants.{CAPACITY}
-use Rattle.barrier_reassign.specs.Scheduler.{SchedSteps}
+use Rattle.schedulers.specs.declared.reassign.scheduler.TheConstants.{CAPACITY}
+use Rattle.schedulers.specs.reassign.Scheduler.{SchedSteps}
 use Rattle.script_grammar.specs.declared.script.Script.{Script}
 use Rattle.script_grammar.specs.declared.script.Form.{Form}
 use Rattle.script_grammar.specs.declared.script.Form.TheVariants.{Device, Blocks}

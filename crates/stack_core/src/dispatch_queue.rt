@@ -7,10 +7,10 @@ ghost use Rattle.stack_core.specs.BlockLayer.{QueuesState, queued_or_kept_option
 ghost use Rattle.stack_core.specs.Dispatching.{with_dispatch};
 ghost use Rattle.stack_core.specs.Handing.{handed};
 
-use barrier_reassign::Scheduler;
 use blk_base::NoMemory;
-use command_queue::CommandRing;
+use device_epochs::queue::CommandRing;
 use order_model::{Command, OrderedDev};
+use schedulers::reassign::Scheduler;
 use std::alloc::Global;
 use std::marker::Model;
 

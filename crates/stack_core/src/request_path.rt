@@ -9,9 +9,9 @@ ghost use Rattle.stack_core.specs.RequestPath.{PathState, opened_path, stepped, 
 
 use crate::direct_path::DirectPath;
 use crate::scheduler_queues::SchedulerQueues;
-use barrier_reassign::Scheduler;
 use blk_base::NoMemory;
 use order_model::OrderedDev;
+use schedulers::reassign::Scheduler;
 use script_grammar::{CoreEvent, Form, RequestList, Script};
 use std::alloc::Global;
 

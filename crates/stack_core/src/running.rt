@@ -3,7 +3,7 @@ ghost use Rattle.std.specs.Prelude.{◌≡◌, ◌++◌, ◌≤◌, [], length, 
 ghost use Rattle.blk_base.specs.Image.{zeros};
 ghost use Rattle.order_model.specs.Machine.{machine_of};
 ghost use Rattle.script_grammar.specs.Grammar.{IsRunnable, blocks_of};
-ghost use Rattle.barrier_reassign.specs.Scheduler.{IsNewScheduler};
+ghost use Rattle.schedulers.specs.reassign.Scheduler.{IsNewScheduler};
 ghost use Rattle.stack_core.specs.RequestPath.{PathFits, opened_path, scheduled_count};
 ghost use Rattle.stack_core.specs.Core.{RunState, happens, times, happens_line, run_lines, run_of, ended, end_on, opened_for, flash_opened_for};
 ghost use Rattle.stack_core.specs.Report.{IsReportOf, IsCoreReport, PartsFit, Headline};
@@ -11,13 +11,13 @@ ghost use Rattle.stack_core.specs.Headline.{KeepsOrder};
 
 use crate::report::Report;
 use crate::request_path::RequestPath;
-use barrier_reassign::{CAPACITY, Scheduler};
 use blk_base::{Image, NoMemory};
 use device_epochs::{DeviceSetup, EpochDevice};
-use epoch_sched::Sched;
 use flog_device::{FlogDevice, FlogSetup};
 use order_model::{OrderedDev, keeps_order_to_the_medium};
-use sched_elevator::Elevator;
+use schedulers::elevator::Elevator;
+use schedulers::epochs::Sched;
+use schedulers::reassign::{CAPACITY, Scheduler};
 use script_grammar::{CoreEvent, EventLine, EventWord, Form, RequestList, Script};
 use std::alloc::Global;
 

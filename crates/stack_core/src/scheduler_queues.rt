@@ -4,15 +4,15 @@ ghost use Rattle.order_model.specs.declared.command.Command.{Command};
 ghost use Rattle.order_model.specs.declared.request.Request.{Request};
 ghost use Rattle.order_model.specs.Device.{IsReceivable};
 ghost use Rattle.order_model.specs.Machine.{machine_of};
-ghost use Rattle.barrier_reassign.specs.Scheduler.{IsAcceptable};
+ghost use Rattle.schedulers.specs.reassign.Scheduler.{IsAcceptable};
 ghost use Rattle.stack_core.specs.BlockLayer.{QueuesState, opened_queues, submitted, layer_accepted, layer_dispatched, given_first};
 ghost use Rattle.stack_core.specs.Dispatching.{with_submission};
 ghost use Rattle.stack_core.specs.Handing.{handed};
 
 use crate::dispatch_queue::DispatchQueue;
-use barrier_reassign::Scheduler;
 use blk_base::NoMemory;
 use order_model::{Inlet, ListQueue, OrderedDev, Request};
+use schedulers::reassign::Scheduler;
 use script_grammar::RequestList;
 use std::alloc::Global;
 use std::marker::Model;

@@ -8,14 +8,14 @@ use Rattle.order_model.specs.declared.request.Request.{Request}
 use Rattle.order_model.specs.Carrying.{SchedSeen, IsPrefixOf}
 use Rattle.order_model.specs.Device.{Seen}
 use Rattle.order_model.specs.Machine.{Machine}
-use Rattle.barrier_reassign.specs.Scheduler.{SchedSteps}
+use Rattle.schedulers.specs.reassign.Scheduler.{SchedSteps}
 use Rattle.host_core.specs.Now.{HostNow}
-use Rattle.host_volume.specs.Sessions.{Opening}
-use Rattle.session_machine.specs.Machine.{Start}
-use Rattle.session_parts.specs.Joined.{PartsFit}
-use Rattle.stack_sides.specs.declared.events.Effects.{Effects}
-use Rattle.stack_sides.specs.DeviceReplay as device
-use Rattle.stack_sides.specs.SchedReplay as scheduler
+use Rattle.minix_host.specs.Sessions.{Opening}
+use Rattle.session_run.specs.machine.Machine.{Start}
+use Rattle.session_run.specs.parts.Joined.{PartsFit}
+use Rattle.stack_run.specs.declared.beside.events.Effects.{Effects}
+use Rattle.stack_run.specs.beside.DeviceReplay as device
+use Rattle.stack_run.specs.beside.SchedReplay as scheduler
 use Rattle.stack_run.specs.Ended.{HasEnded}
 use Rattle.stack_run.specs.HostReplay.{HostSideNow, IsHostReplay}
 use Rattle.stack_run.specs.Sides.{AreSides}

@@ -2,10 +2,10 @@
 use Rattle.std.proofs.Common.{◌≡◌, ℕ, ◌+◌, ◌-◌, ◌≤◌, zero, suc, false, List, [], ◌∷◌, ◌++◌, length, drop, Some, None, refl, sym, ap, ◌∙◌, arith}
 use Rattle.std.proofs.lemmas.List.{drop_at}
 use Rattle.order_model.specs.declared.completion.Completion.{Completion}
-use Rattle.host_runs.specs.Runs.{Event}
-use Rattle.host_runs.specs.Runs as runs
-use Rattle.stack_sides.specs.declared.events.HostEvent.{HostEvent}
-use Rattle.stack_sides.specs.declared.events.HostEvent.TheVariants as noted
+use Rattle.host_machine.specs.runs.Runs.{Event}
+use Rattle.host_machine.specs.runs.Runs as runs
+use Rattle.stack_run.specs.declared.beside.events.HostEvent.{HostEvent}
+use Rattle.stack_run.specs.declared.beside.events.HostEvent.TheVariants as noted
 use Rattle.stack_run.specs.HostReplay.{with_completions, takes}
 
 none_left : (n : ℕ) → drop {A = Completion} n [] ≡ drop {A = Completion} (suc n) []

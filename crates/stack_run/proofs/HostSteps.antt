@@ -15,27 +15,27 @@ use Rattle.host_machine.specs.Host.{Stepped, Turned, with_flush, advance, commit
 use Rattle.host_machine.specs.State.{Host}
 use Rattle.host_core.specs.Answers.{IfStepped, found_queue_full}
 use Rattle.host_core.specs.Now.{HostNow, with_host, model_now, setup_now}
-use Rattle.host_runs.specs.Runs.{Event}
-use Rattle.host_runs.specs.Runs as runs
-use Rattle.host_runs.specs.laws.Written.{AreWritten}
-use Rattle.host_volume.specs.Runs.{IsOpenedVolume, HasEmptyJournal}
-use Rattle.host_volume.specs.Sessions.{Opening}
+use Rattle.host_machine.specs.runs.Runs.{Event}
+use Rattle.host_machine.specs.runs.Runs as runs
+use Rattle.host_machine.specs.runs.laws.Written.{AreWritten}
+use Rattle.minix_host.specs.Runs.{IsOpenedVolume, HasEmptyJournal}
+use Rattle.minix_host.specs.Sessions.{Opening}
 use Rattle.call_sessions.specs.Sessions.{WriteBytes}
 use Rattle.tree_model.specs.declared.call.Call.{Call}
 use Rattle.tree_model.specs.declared.call.Reply.{Reply}
 use Rattle.volume_steps.specs.Now.{VolumeNow}
-use Rattle.session_machine.specs.Machine.{Start}
-use Rattle.session_machine.proofs.HostFits.{one_sent}
-use Rattle.session_machine.proofs.Sending.{Sends, Keeps, Puts, advance_sends, commit_sends, writeback_sends, flush_sends, flush_takes}
+use Rattle.session_run.specs.machine.Machine.{Start}
+use Rattle.session_run.proofs.MachineLemmas.HostFits.{one_sent}
+use Rattle.session_run.proofs.MachineLemmas.Sending.{Sends, Keeps, Puts, advance_sends, commit_sends, writeback_sends, flush_sends, flush_takes}
 use Rattle.session_run.specs.CodeHosts.{IsInSession}
 use Rattle.session_run.proofs.Answered.{stepped_host}
 use Rattle.session_run.proofs.HostsInSession.{call_goes_on, commit_goes_on, writeback_goes_on, flush_goes_on}
-use Rattle.session_parts.specs.Still.{is_still, AreSame}
-use Rattle.session_parts.proofs.Waiting.{advance_leaves}
-use Rattle.session_parts.proofs.Idling.{commit_leaves, writeback_leaves, flush_leaves}
+use Rattle.session_run.specs.parts.Still.{is_still, AreSame}
+use Rattle.session_run.proofs.PartsLemmas.Waiting.{advance_leaves}
+use Rattle.session_run.proofs.PartsLemmas.Idling.{commit_leaves, writeback_leaves, flush_leaves}
 use Rattle.stack_run.specs.Noting.{is_still_answer}
-use Rattle.stack_sides.specs.declared.events.HostEvent.{HostEvent}
-use Rattle.stack_sides.specs.declared.events.HostEvent.TheVariants as noted
+use Rattle.stack_run.specs.declared.beside.events.HostEvent.{HostEvent}
+use Rattle.stack_run.specs.declared.beside.events.HostEvent.TheVariants as noted
 use Rattle.stack_run.specs.HostReplay.{with_completions, takes, HostSideNow, IsHostReplay}
 use Rattle.stack_run.proofs.HostEvents.{more_events, same_takes, more_taken, one_take}
 

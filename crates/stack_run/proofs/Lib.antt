@@ -1,3 +1,4 @@
 pub mod HostEvents
 pub mod HostSteps
 pub mod Fits
+pub mod BesideLemmas

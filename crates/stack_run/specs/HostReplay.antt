@@ -3,16 +3,16 @@ use Rattle.std.specs.Prelude.{◌≡◌, ℕ, ◌-◌, suc, false, List, [], ◌
 use Rattle.order_model.specs.declared.completion.Completion.{Completion}
 use Rattle.order_model.specs.declared.request.Request.{Request}
 use Rattle.host_core.specs.Now.{HostNow}
-use Rattle.host_runs.specs.Runs.{Event}
-use Rattle.host_runs.specs.Runs as runs
-use Rattle.host_runs.specs.laws.Written.{AreWritten}
-use Rattle.host_volume.specs.Runs.{IsOpenedVolume, HasEmptyJournal}
-use Rattle.host_volume.specs.Sessions.{Opening}
+use Rattle.host_machine.specs.runs.Runs.{Event}
+use Rattle.host_machine.specs.runs.Runs as runs
+use Rattle.host_machine.specs.runs.laws.Written.{AreWritten}
+use Rattle.minix_host.specs.Runs.{IsOpenedVolume, HasEmptyJournal}
+use Rattle.minix_host.specs.Sessions.{Opening}
 use Rattle.call_sessions.specs.Sessions.{WriteBytes}
-use Rattle.session_machine.specs.Machine.{Start}
+use Rattle.session_run.specs.machine.Machine.{Start}
 use Rattle.session_run.specs.CodeHosts.{IsInSession}
-use Rattle.stack_sides.specs.declared.events.HostEvent.{HostEvent}
-use Rattle.stack_sides.specs.declared.events.HostEvent.TheVariants as noted
+use Rattle.stack_run.specs.declared.beside.events.HostEvent.{HostEvent}
+use Rattle.stack_run.specs.declared.beside.events.HostEvent.TheVariants as noted
 
 -- the steps of the host that these events are, where it took these completions, one at each `Take`
 abbrev pub with_completions : List HostEvent → List Completion → List Event

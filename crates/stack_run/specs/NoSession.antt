@@ -1,10 +1,10 @@
 -- The meanings of a name that no session has.
 use Rattle.std.specs.Prelude.{false, []}
 use Rattle.minix_layout.specs.Geometry.{geometry_made}
-use Rattle.host_volume.specs.Sessions.{Opening}
+use Rattle.minix_host.specs.Sessions.{Opening}
 use Rattle.call_sessions.specs.Sessions.{made_opening}
-use Rattle.session_machine.specs.Machine.{Start}
-use Rattle.session_machine.specs.MadeStart.{made_start}
+use Rattle.session_run.specs.machine.Machine.{Start}
+use Rattle.session_run.specs.machine.MadeStart.{made_start}
 
 pub no_opening : Opening
 no_opening = made_opening (geometry_made 0 0 0) 0 false 0

@@ -4,10 +4,10 @@ ghost use Rattle.std.specs.List.{list_any};
 ghost use Rattle.order_model.specs.Steps.{IsTraceOf};
 ghost use Rattle.stack_run.specs.Ended.{HasEnded, IsAllDone, is_failed, is_commit};
 
-use barrier_reassign::Scheduler;
+use crate::beside::has_sent_all;
 use host_core::Host;
 use order_model::{Completion, Note, OrderedDev};
-use stack_sides::has_sent_all;
+use schedulers::reassign::Scheduler;
 
 // Whether a completion says that a request failed.
 fn some_failed(told: &[Completion]) -> bool

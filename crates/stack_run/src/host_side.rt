@@ -1,20 +1,20 @@
 //! The host with its ends of the queues.
 ghost use Rattle.std.specs.Prelude.{◌≡◌, ◌≤◌, []};
-ghost use Rattle.host_runs.specs.laws.Written.{AreWritten};
-ghost use Rattle.host_volume.specs.Runs.{IsOpenedVolume, HasEmptyJournal};
+ghost use Rattle.host_machine.specs.runs.laws.Written.{AreWritten};
+ghost use Rattle.minix_host.specs.Runs.{IsOpenedVolume, HasEmptyJournal};
 ghost use Rattle.call_sessions.specs.Sessions.{WriteBytes};
 ghost use Rattle.session_run.specs.CodeHosts.{IsInSession};
 ghost use Rattle.host_core.specs.Done.{is_done};
 ghost use Rattle.stack_run.specs.HostReplay.{IsHostReplay};
 
+use crate::beside::HostEvent;
 use crate::names::SessionNames;
 use crate::noted_steps::{are_same, is_full, is_noted, marks_of};
 use blk_base::NoMemory;
 use host_answers::Step;
 use host_core::Host;
 use order_model::Turn;
-use ordered_dispatch::{CompletionEnd, SubmitEnd};
-use stack_sides::HostEvent;
+use schedulers::dispatch::{CompletionEnd, SubmitEnd};
 use std::alloc::Global;
 use std::marker::Model;
 use std::sync::Wait;

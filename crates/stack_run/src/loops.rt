@@ -5,18 +5,18 @@
 //! to its event, the loop says so and ends, and so do all others.
 ghost use Rattle.std.specs.Prelude.{◌≤◌};
 
+use crate::beside::{DeviceSide, OpensDevice, OpensScheduler, PartNames, SchedSide};
 use crate::flags::Flags;
 use crate::gate::Gate;
 use crate::host_side::HostSide;
 use crate::names::SessionNames;
-use barrier_reassign::Scheduler;
 use blk_base::NoMemory;
 use host_answers::Step;
 use order_model::{OrderedDev, Turn};
 use rand_core::SeedableRng;
 use rand_core::utils::NextWord;
 use rand_pcg::Pcg32;
-use stack_sides::{DeviceSide, OpensDevice, OpensScheduler, PartNames, SchedSide};
+use schedulers::reassign::Scheduler;
 use std::alloc::Global;
 use std::sync::{Mutex, Wait};
 use std::thread;

@@ -1,8 +1,8 @@
 //! What a session is called.
-ghost use Rattle.host_volume.specs.Sessions.{Opening};
-ghost use Rattle.session_machine.specs.Machine.{Start};
+ghost use Rattle.minix_host.specs.Sessions.{Opening};
+ghost use Rattle.session_run.specs.machine.Machine.{Start};
 
-use stack_sides::PartNames;
+use crate::beside::PartNames;
 use std::marker::Brand;
 
 /// Which session it is, as the meaning of a type: what the script opens. It has no calls. Sides that have the same N are of one

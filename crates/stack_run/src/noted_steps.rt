@@ -2,7 +2,7 @@
 ghost use Rattle.std.specs.Prelude.{◌≡◌, ◌≢◌, ◌⊎◌, ◌-◌, ◌≤◌, true, false};
 ghost use Rattle.host_answers.specs.declared.step.Step.TheVariants as answers;
 ghost use Rattle.host_core.specs.Answers.{found_queue_full};
-ghost use Rattle.session_parts.specs.Still.{wait_of};
+ghost use Rattle.session_run.specs.parts.Still.{wait_of};
 ghost use Rattle.stack_run.specs.Noting.{WasStill};
 
 use flush_actor::Wait;

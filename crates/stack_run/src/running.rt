@@ -2,15 +2,16 @@
 ghost use Rattle.std.specs.Prelude.{◌≡◌, [], false, replicate, IfOk};
 ghost use Rattle.order_model.specs.Device.{IsUntouched};
 ghost use Rattle.order_model.specs.Machine.{machine_of};
-ghost use Rattle.barrier_reassign.specs.Scheduler.{IsNewScheduler};
-ghost use Rattle.ordered_dispatch.specs.Opened.{ArePassesOf, AreNew, AreNamed};
-ghost use Rattle.host_runs.specs.laws.Written.{AreWritten};
-ghost use Rattle.host_volume.specs.Runs.{IsOpenedVolume, HasEmptyJournal};
+ghost use Rattle.schedulers.specs.reassign.Scheduler.{IsNewScheduler};
+ghost use Rattle.schedulers.specs.dispatch.Opened.{ArePassesOf, AreNew, AreNamed};
+ghost use Rattle.host_machine.specs.runs.laws.Written.{AreWritten};
+ghost use Rattle.minix_host.specs.Runs.{IsOpenedVolume, HasEmptyJournal};
 ghost use Rattle.call_sessions.specs.Sessions.{WriteBytes};
 ghost use Rattle.session_run.specs.CodeHosts.{IsInSession};
 ghost use Rattle.stack_run.specs.Ended.{HasEnded};
 ghost use Rattle.stack_run.specs.Sides.{AreSides};
 
+use crate::beside::{DeviceSide, Effects, IdFlags, OpensDevice, OpensScheduler, SchedSide};
 use crate::ending::has_ended;
 use crate::flags::Flags;
 use crate::gate::Gate;
@@ -20,12 +21,11 @@ use crate::loops::{
 };
 use crate::names::SessionNames;
 use crate::parts::JoinedParts;
-use barrier_reassign::{CAPACITY, Scheduler};
 use blk_base::NoMemory;
 use host_core::Host;
 use order_model::OrderedDev;
-use ordered_dispatch::{Ends, Passes, Queues, close, ends};
-use stack_sides::{DeviceSide, Effects, IdFlags, OpensDevice, OpensScheduler, SchedSide};
+use schedulers::dispatch::{Ends, Passes, Queues, close, ends};
+use schedulers::reassign::{CAPACITY, Scheduler};
 use std::alloc::Global;
 use std::sync::{Mutex, Wait};
 use std::thread;

@@ -12,12 +12,12 @@ use Rattle.tree_model.specs.declared.call.Reply.TheVariants as replies
 use Rattle.tree_model.specs.Calls.{one_if}
 use Rattle.crash_laws.specs.LegalHistory.{Event, Begin, End, Follows}
 use Rattle.host_machine.specs.State.{Answered, Down, ReadOnly, SessionFull, What, Begins, Ends, Entry}
-use Rattle.session_promises.specs.Entries.{EndsAt}
-use Rattle.session_promises.specs.Legal.{event_of, events_in}
+use Rattle.call_sessions.specs.promises.Entries.{EndsAt}
+use Rattle.call_sessions.specs.promises.Legal.{event_of, events_in}
 use Rattle.session_core.specs.Core.{EndState}
 use Rattle.session_core.specs.Headline.{HeadlineOn}
 use Rattle.session_core.specs.declared.report.SessionReport.{SessionReport}
-use Rattle.store_calls.specs.Calls.{fill_count, fills}
+use Rattle.wal_store.specs.calls.Calls.{fill_count, fills}
 use Rattle.store_grammar.specs.declared.script.StoreScript.{StoreScript}
 use Rattle.store_grammar.specs.Made.{volume_script}
 use Rattle.store_grammar.specs.WellFormed.{IsWellFormed}

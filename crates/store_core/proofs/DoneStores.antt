@@ -18,14 +18,14 @@ use Rattle.volume_steps.specs.Now.{room_of}
 use Rattle.crash_laws.specs.LegalHistory.{Event, End, root_alone}
 use Rattle.host_machine.specs.State.{Answered, Entry}
 use Rattle.call_sessions.specs.Sessions.{acting_call}
-use Rattle.session_promises.specs.Entries.{EndsAt}
-use Rattle.session_promises.specs.Legal.{events_in}
-use Rattle.session_promises.specs.Trees.{tree_at}
+use Rattle.call_sessions.specs.promises.Entries.{EndsAt}
+use Rattle.call_sessions.specs.promises.Legal.{events_in}
+use Rattle.call_sessions.specs.promises.Trees.{tree_at}
 use Rattle.session_grammar.specs.declared.session_script.SessionScript.{SessionScript}
 use Rattle.session_core.specs.Core.{EndState, opening_of}
 use Rattle.session_core.specs.Headline.{HeadlineOn}
 use Rattle.session_core.specs.declared.report.SessionReport.{SessionReport}
-use Rattle.store_calls.specs.Calls.{fills_from, fill_count, fills}
+use Rattle.wal_store.specs.calls.Calls.{fills_from, fill_count, fills}
 use Rattle.store_grammar.specs.declared.script.StoreScript.{StoreScript}
 use Rattle.store_grammar.specs.Made.{volume_script}
 use Rattle.store_grammar.specs.WellFormed.{IsWellFormed}

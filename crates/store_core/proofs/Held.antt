@@ -10,14 +10,14 @@ use Rattle.crash_laws.specs.Volumes.{WalkEnd}
 use Rattle.crash_laws.proofs.Histories.{last_change}
 use Rattle.flush_actor.specs.Kinds.{is_durable}
 use Rattle.host_machine.specs.State.{Begun}
-use Rattle.host_runs.specs.Promises.{call_of}
-use Rattle.host_runs.specs.Sentences.{IsAllSettled}
-use Rattle.host_volume.specs.Calls.{kind_of}
-use Rattle.host_volume.specs.Sessions.{Stands}
+use Rattle.host_machine.specs.runs.Promises.{call_of}
+use Rattle.host_machine.specs.runs.Sentences.{IsAllSettled}
+use Rattle.minix_host.specs.Calls.{kind_of}
+use Rattle.minix_host.specs.Sessions.{Stands}
 use Rattle.session_run.specs.Beginning.{call_over}
-use Rattle.session_promises.specs.Answers.{AnsweredAt}
+use Rattle.call_sessions.specs.promises.Answers.{AnsweredAt}
 use Rattle.session_grammar.specs.declared.session_script.SessionScript.{SessionScript}
-use Rattle.call_images.proofs.ShownFiles.{later_kept}
+use Rattle.power_cuts.proofs.CallsLemmas.ShownFiles.{later_kept}
 use Rattle.session_core.specs.Core.{EndState, geometry_of, opening_of}
 use Rattle.session_core.specs.Headline.{HeadlineOn, told_by, medium_of, kept_in, HasLaterKept, IsShownBy}
 use Rattle.session_core.specs.declared.report.SessionReport.{SessionReport}

@@ -10,9 +10,9 @@ use Rattle.tree_model.specs.Calls.{Tree}
 use Rattle.tree_model.specs.Histories.{block_at}
 use Rattle.tree_model.specs.Trees.{Refusal, node_of_path}
 use Rattle.host_machine.specs.State.{Answered}
-use Rattle.session_promises.specs.Answers.{AnsweredAt}
-use Rattle.session_promises.specs.Entries.{EndsAt}
-use Rattle.session_promises.specs.Legal.{events_in}
+use Rattle.call_sessions.specs.promises.Answers.{AnsweredAt}
+use Rattle.call_sessions.specs.promises.Entries.{EndsAt}
+use Rattle.call_sessions.specs.promises.Legal.{events_in}
 use Rattle.session_core.specs.Core.{EndState}
 use Rattle.session_core.specs.Headline.{HeadlineOn}
 use Rattle.session_core.specs.declared.report.SessionReport.{SessionReport}
@@ -21,7 +21,7 @@ use Rattle.wal_store.specs.Blocks.{encode, decode}
 use Rattle.wal_store.specs.Log.{held_puts, AreHeld}
 use Rattle.wal_store.proofs.HeldPuts.{are-held}
 use Rattle.wal_store.proofs.Spelled.{decode-encode}
-use Rattle.store_calls.specs.Calls.{fill_count}
+use Rattle.wal_store.specs.calls.Calls.{fill_count}
 use Rattle.store_grammar.specs.declared.script.StoreScript.{StoreScript}
 use Rattle.store_grammar.specs.Made.{volume_script}
 use Rattle.store_grammar.specs.WellFormed.{IsWellFormed}

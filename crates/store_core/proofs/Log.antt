@@ -16,11 +16,11 @@ use Rattle.crash_laws.specs.LegalHistory.{Event, Begin, End, thread_of, Follows}
 use Rattle.crash_laws.specs.PromiseRules.{IsOn}
 use Rattle.flush_actor.specs.Kinds.{is_whole, is_reading}
 use Rattle.host_machine.specs.State.{Ending, Answered, Down, ReadOnly, SessionFull, What, Begins, Ends, Entry}
-use Rattle.host_runs.specs.Promises.{call_of}
-use Rattle.host_volume.specs.Calls.{kind_of}
-use Rattle.session_promises.specs.Answers.{AnsweredAt}
-use Rattle.session_promises.specs.Entries.{BeginsAt, EndsAt}
-use Rattle.session_promises.specs.Legal.{event_of, events_in, reply_in, program_of}
+use Rattle.host_machine.specs.runs.Promises.{call_of}
+use Rattle.minix_host.specs.Calls.{kind_of}
+use Rattle.call_sessions.specs.promises.Answers.{AnsweredAt}
+use Rattle.call_sessions.specs.promises.Entries.{BeginsAt, EndsAt}
+use Rattle.call_sessions.specs.promises.Legal.{event_of, events_in, reply_in, program_of}
 use Rattle.session_grammar.specs.declared.session_script.SessionScript.{SessionScript}
 use Rattle.session_core.specs.Core.{EndState}
 use Rattle.session_core.specs.Headline.{HeadlineOn, told_by}

@@ -18,11 +18,11 @@ use Rattle.crash_laws.specs.LegalHistory.{Event, Begin, End, Follows, root_alone
 use Rattle.flush_actor.specs.Kinds.{is_begun}
 use Rattle.host_machine.specs.State.{Answered, Down, ReadOnly, SessionFull, What, Begins, Ends, Entry}
 use Rattle.host_machine.specs.Views.{is_answered}
-use Rattle.host_volume.specs.Calls.{kind_of}
+use Rattle.minix_host.specs.Calls.{kind_of}
 use Rattle.call_sessions.specs.Sessions.{acting_call}
-use Rattle.session_promises.specs.Entries.{EndsAt}
-use Rattle.session_promises.specs.Legal.{event_of, events_in, reply_in, program_of}
-use Rattle.session_promises.specs.Trees.{tree_at}
+use Rattle.call_sessions.specs.promises.Entries.{EndsAt}
+use Rattle.call_sessions.specs.promises.Legal.{event_of, events_in, reply_in, program_of}
+use Rattle.call_sessions.specs.promises.Trees.{tree_at}
 use Rattle.session_grammar.specs.declared.session_script.SessionScript.{SessionScript}
 use Rattle.session_core.specs.Core.{EndState, opening_of}
 use Rattle.session_core.specs.Headline.{HeadlineOn}

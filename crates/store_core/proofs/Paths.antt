@@ -18,7 +18,7 @@ use Rattle.session_run.specs.End.{tree_behind}
 use Rattle.session_grammar.specs.declared.session_script.SessionScript.{SessionScript}
 use Rattle.session_core.specs.Core.{EndState, opening_of}
 use Rattle.session_core.specs.Headline.{HeadlineOn, told_by, medium_of, kept_in}
-use Rattle.session_promises.proofs.SessionTrees.{tree_told}
+use Rattle.call_sessions.proofs.PromisesLemmas.SessionTrees.{tree_told}
 use Rattle.session_core.specs.declared.report.SessionReport.{SessionReport}
 pub use Rattle.store_core.specs.Store.{IsHeldIn}
 use Rattle.store_core.specs.Store.{Numbering, Decodes, IsPutAt, IsStoreLog, AreHeld}

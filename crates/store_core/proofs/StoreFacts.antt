@@ -22,9 +22,9 @@ use Rattle.host_machine.specs.State.{Ending, Answered, Down, ReadOnly, SessionFu
 use Rattle.host_machine.specs.Views as views
 use Rattle.host_machine.specs.Views.{is_answered}
 use Rattle.call_sessions.specs.Sessions.{acting_call, call_over}
-use Rattle.session_promises.specs.Entries.{BeginsAt, EndsAt}
-use Rattle.session_promises.specs.Legal.{events_in, reply_in, reply_in, program_of}
-use Rattle.session_promises.specs.Trees.{tree_at}
+use Rattle.call_sessions.specs.promises.Entries.{BeginsAt, EndsAt}
+use Rattle.call_sessions.specs.promises.Legal.{events_in, reply_in, reply_in, program_of}
+use Rattle.call_sessions.specs.promises.Trees.{tree_at}
 use Rattle.session_grammar.specs.declared.session_script.SessionScript.{SessionScript}
 use Rattle.session_core.specs.Core.{EndState, opening_of}
 use Rattle.session_core.specs.Headline.{HeadlineOn, told_by}
@@ -32,17 +32,17 @@ use Rattle.session_core.specs.declared.report.SessionReport.{SessionReport}
 use Rattle.store_core.specs.Store.{Numbering, Decodes, IsPutAt, IsBlank}
 use Rattle.store_core.specs.Program.{LogStep, calls_from, IsStore, AreDone, NoneFull, PutEnds, HasStoreTrees}
 use Rattle.store_core.proofs.LogSession.{follows, rooted, later-call, first-call, store-call, next-tree, log-tree, mapped-on, zeros-before, stays-behind}
-use Rattle.host_volume.specs.Numbers.{next_birth}
-use Rattle.session_promises.specs.Answers.{node_in}
-use Rattle.session_promises.proofs.SessionTrees.{tree_told}
+use Rattle.minix_host.specs.Numbers.{next_birth}
+use Rattle.call_sessions.specs.promises.Answers.{node_in}
+use Rattle.call_sessions.proofs.PromisesLemmas.SessionTrees.{tree_told}
 use Rattle.store_core.proofs.LogTrees.{names-are, log_path, log_names, leads-names, IsLogTree, IsStoreCall, quiet, zeros, put, IsPutTo, IsZeroWrite, put-leads, put-there, put-reply, put-touches}
 use Rattle.store_core.proofs.Log.{event-at, end-at, begins-no_end, answered-before}
 use Rattle.store_core.proofs.Held.{synced-put}
 use Rattle.store_core.specs.Order.{StandsBefore}
-use Rattle.session_promises.specs.Answers.{AnsweredAt}
+use Rattle.call_sessions.specs.promises.Answers.{AnsweredAt}
 use Rattle.session_run.specs.End.{tree_behind}
 use Rattle.crash_laws.specs.PromiseRules.{Covers, IsOn}
-use Rattle.host_runs.specs.Promises.{call_of}
+use Rattle.host_machine.specs.runs.Promises.{call_of}
 use Rattle.flush_actor.specs.Kinds.{is_whole}
 use Rattle.session_core.specs.Headline.{medium_of, kept_in}
 use Rattle.store_core.proofs.Order.{ends, ended-call, earlier-end, one-thread, IsPutCall, numbers-rise, kinds-of, ends-below}

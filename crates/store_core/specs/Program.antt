@@ -8,11 +8,11 @@ use Rattle.tree_model.specs.declared.call.Reply.TheVariants as replies
 use Rattle.tree_model.specs.Calls.{reply_of, leaves_tree}
 use Rattle.volume_steps.specs.Now.{room_of}
 use Rattle.host_machine.specs.State.{Ending, Answered, SessionFull}
-use Rattle.session_promises.specs.Answers.{node_in}
-use Rattle.session_promises.specs.Entries.{BeginsAt, EndsAt}
-use Rattle.session_promises.specs.Trees.{tree_at}
+use Rattle.call_sessions.specs.promises.Answers.{node_in}
+use Rattle.call_sessions.specs.promises.Entries.{BeginsAt, EndsAt}
+use Rattle.call_sessions.specs.promises.Trees.{tree_at}
 use Rattle.session_grammar.specs.declared.session_script.SessionScript.{SessionScript}
-pub use Rattle.store_calls.specs.Calls.{log_path}
+pub use Rattle.wal_store.specs.calls.Calls.{log_path}
 use Rattle.session_core.specs.Core.{EndState, opening_of}
 use Rattle.session_core.specs.Headline.{told_by}
 use Rattle.store_core.specs.Store.{Numbering, Decodes, IsPutAt, IsBlank}

@@ -7,9 +7,9 @@ use Rattle.crash_laws.specs.History.{History, IsUnmapped}
 use Rattle.crash_laws.specs.PromiseRules.{Covers}
 use Rattle.crash_laws.specs.Volumes.{WalkEnd}
 use Rattle.flush_actor.specs.Kinds.{is_durable}
-use Rattle.host_runs.specs.Promises.{call_of}
-use Rattle.host_volume.specs.Calls.{kind_of}
-use Rattle.session_promises.specs.Answers.{AnsweredAt}
+use Rattle.host_machine.specs.runs.Promises.{call_of}
+use Rattle.minix_host.specs.Calls.{kind_of}
+use Rattle.call_sessions.specs.promises.Answers.{AnsweredAt}
 use Rattle.session_grammar.specs.declared.session_script.SessionScript.{SessionScript}
 use Rattle.session_core.specs.Core.{EndState}
 use Rattle.session_core.specs.Headline.{HeadlineOn, told_by}

@@ -13,11 +13,11 @@ use Rattle.wal_store.specs.declared.puts.Op as store
 use Rattle.wal_store.specs.declared.puts.Op.TheVariants as ops
 use Rattle.wal_store.specs.Blocks.{encode, decode}
 use Rattle.wal_store.specs.Log.{held_puts}
-use Rattle.store_calls.specs.Calls.{log_path, calls_from, fill_count}
+use Rattle.wal_store.specs.calls.Calls.{log_path, calls_from, fill_count}
 use Rattle.store_grammar.specs.declared.script.StoreScript.{StoreScript}
 use Rattle.host_machine.specs.State.{Ending, Answered, Begins, Ends, Entry}
-use Rattle.session_promises.specs.Entries.{EndsAt}
-use Rattle.session_promises.specs.Legal.{events_in}
+use Rattle.call_sessions.specs.promises.Entries.{EndsAt}
+use Rattle.call_sessions.specs.promises.Legal.{events_in}
 use Rattle.session_core.specs.Core.{EndState}
 use Rattle.store_core.specs.Order.{ends, StandsBefore}
 use Rattle.store_core.specs.Program.{log_names}

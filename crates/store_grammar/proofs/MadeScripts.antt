@@ -9,7 +9,7 @@ use Rattle.blk_base.specs.Members.{In}
 use Rattle.minix_layout.specs.Widths.{of_14}
 use Rattle.tree_model.specs.declared.call.Call.{Call}
 use Rattle.tree_model.specs.declared.call.Call.TheVariants.{Bytes, Fsync}
-use Rattle.call_grammar.specs.WellFormed as call
+use Rattle.line_grammar.specs.calls.WellFormed as call
 use Rattle.session_grammar.specs.WellFormed as session
 use Rattle.session_grammar.specs.WellFormed.{AreLinesOf, all_calls}
 use Rattle.wal_store.specs.declared.puts.Put.{Put}
@@ -17,9 +17,9 @@ use Rattle.wal_store.specs.declared.puts.Op.{Op}
 use Rattle.wal_store.specs.declared.puts.Op.TheVariants as ops
 use Rattle.wal_store.specs.Puts.{IsPut}
 use Rattle.wal_store.specs.Blocks.{encode}
-use Rattle.store_calls.specs.Calls.{log_path, fill_call, fills_from, fill_count, fills, calls_from, calls_of, put_count, call_count, ArePuts}
-use Rattle.store_calls.specs.CallText.{call_line}
-use Rattle.store_calls.proofs.CallsRead.{line-read}
+use Rattle.wal_store.specs.calls.Calls.{log_path, fill_call, fills_from, fill_count, fills, calls_from, calls_of, put_count, call_count, ArePuts}
+use Rattle.wal_store.specs.calls.CallText.{call_line}
+use Rattle.wal_store.proofs.CallsLemmas.CallsRead.{line-read}
 use Rattle.wal_store.proofs.Spelled.{key-few, value-few, length-spelled}
 use Rattle.store_grammar.specs.declared.script.StoreScript.{StoreScript}
 use Rattle.store_grammar.specs.Made.{script_calls, volume_script}

@@ -5,7 +5,7 @@ use Rattle.std.specs.Option.{option_map, option_or}
 use Rattle.std.proofs.lemmas.Bool.{and_parts}
 use Rattle.std.proofs.lemmas.Option.{same_Some, none-some}
 use Rattle.std.proofs.lemmas.Slice.Eq.{bytes_eq-Decides}
-use Rattle.event_grammar.specs.EventLines.{event_word}
+use Rattle.line_grammar.specs.events.EventLines.{event_word}
 use Rattle.script_words.proofs.Chosen.{choose, mapped, either_or}
 use Rattle.store_grammar.specs.declared.words.HeaderWord.{HeaderWord}
 use Rattle.store_grammar.specs.declared.words.HeaderWord.TheVariants as header

@@ -10,23 +10,23 @@ use Rattle.script_words.proofs.KeptLines.{ends_reads}
 use Rattle.script_words.proofs.SpelledNumbers.{numeral-decimal}
 use Rattle.script_grammar.specs.declared.kinds.ScriptKind.TheVariants as kinds
 use Rattle.script_grammar.proofs.WellFormed.{ok_behind}
-use Rattle.event_grammar.specs.declared.event.EventLine.{EventLine}
-use Rattle.event_grammar.specs.declared.event.CoreEvent.{CoreEvent}
-use Rattle.event_grammar.specs.declared.event.CoreEvent.TheVariants as core
-use Rattle.event_grammar.specs.declared.event.EventWord.{EventWord}
-use Rattle.event_grammar.specs.declared.event.EventWord.TheVariants.{One, Round, Back}
-use Rattle.event_grammar.specs.declared.steer.Steer.{Steer}
-use Rattle.event_grammar.specs.declared.words.EventFirst.{EventFirst}
-use Rattle.event_grammar.specs.declared.words.EventFirst.TheVariants as event
-use Rattle.event_grammar.specs.declared.words.PlainWord.TheVariants as plain
-use Rattle.event_grammar.specs.declared.words.PickWord.TheVariants as picks
-use Rattle.event_grammar.specs.declared.words.TurnWord.TheVariants as turns
-use Rattle.event_grammar.specs.EventLines as event_lines
-use Rattle.event_grammar.specs.WellFormed.{IsSteerLine}
-use Rattle.event_grammar.specs.laws.Speller as event_speller
-use Rattle.event_grammar.proofs.EventLaws as event_laws
-use Rattle.event_grammar.proofs.EventNames.{event_name, event_named}
-use Rattle.event_grammar.proofs.SteerLaws.{steers_read}
+use Rattle.line_grammar.specs.declared.events.event.EventLine.{EventLine}
+use Rattle.line_grammar.specs.declared.events.event.CoreEvent.{CoreEvent}
+use Rattle.line_grammar.specs.declared.events.event.CoreEvent.TheVariants as core
+use Rattle.line_grammar.specs.declared.events.event.EventWord.{EventWord}
+use Rattle.line_grammar.specs.declared.events.event.EventWord.TheVariants.{One, Round, Back}
+use Rattle.line_grammar.specs.declared.events.steer.Steer.{Steer}
+use Rattle.line_grammar.specs.declared.events.words.EventFirst.{EventFirst}
+use Rattle.line_grammar.specs.declared.events.words.EventFirst.TheVariants as event
+use Rattle.line_grammar.specs.declared.events.words.PlainWord.TheVariants as plain
+use Rattle.line_grammar.specs.declared.events.words.PickWord.TheVariants as picks
+use Rattle.line_grammar.specs.declared.events.words.TurnWord.TheVariants as turns
+use Rattle.line_grammar.specs.events.EventLines as event_lines
+use Rattle.line_grammar.specs.events.WellFormed.{IsSteerLine}
+use Rattle.line_grammar.specs.events.laws.Speller as event_speller
+use Rattle.line_grammar.proofs.EventsLemmas.EventLaws as event_laws
+use Rattle.line_grammar.proofs.EventsLemmas.EventNames.{event_name, event_named}
+use Rattle.line_grammar.proofs.EventsLemmas.SteerLaws.{steers_read}
 use Rattle.session_grammar.specs.declared.limits.TheConstants.{MOST_CALLS, MOST_RECOVERS}
 use Rattle.session_grammar.specs.Grammar.{is_submit, names_thread, weight}
 use Rattle.session_grammar.specs.WellFormed.{IsStepOf, IsTurnOf, IsEventOf, expanded_of}
@@ -36,7 +36,7 @@ use Rattle.wal_store.specs.declared.puts.Put.{Put}
 use Rattle.wal_store.specs.declared.puts.Op.{Op}
 use Rattle.wal_store.specs.declared.puts.Op.TheVariants as ops
 use Rattle.wal_store.specs.Puts.{IsPut, is_key, is_value}
-use Rattle.store_calls.specs.Calls.{ArePuts, call_count, put_count}
+use Rattle.wal_store.specs.calls.Calls.{ArePuts, call_count, put_count}
 use Rattle.store_grammar.specs.declared.limits.TheConstants.{MOST_STORE}
 use Rattle.store_grammar.specs.declared.reading.Reading.{Reading}
 use Rattle.store_grammar.specs.declared.reading.Section.{Section}

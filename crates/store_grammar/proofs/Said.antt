@@ -15,14 +15,14 @@ use Rattle.script_grammar.specs.declared.kinds.ScriptKind.{ScriptKind}
 use Rattle.script_grammar.specs.laws.Accepted.{begins, beginning, or_default}
 use Rattle.script_grammar.proofs.SaidWords.{default_text}
 use Rattle.script_grammar.proofs.WellFormed.{ok_behind, ok_past, ok_beside}
-use Rattle.event_grammar.specs.declared.event.EventLine.{EventLine}
-use Rattle.event_grammar.specs.declared.steer.Steer.{Steer}
-use Rattle.event_grammar.specs.declared.words.EventFirst.{EventFirst}
-use Rattle.event_grammar.specs.EventLines.{event_word, event_of}
-use Rattle.event_grammar.specs.SteerLines.{steers_of}
-use Rattle.event_grammar.specs.laws.Speller as event_speller
-use Rattle.event_grammar.proofs.EventLaws as event_laws
-use Rattle.event_grammar.proofs.SteerLaws.{steers_said}
+use Rattle.line_grammar.specs.declared.events.event.EventLine.{EventLine}
+use Rattle.line_grammar.specs.declared.events.steer.Steer.{Steer}
+use Rattle.line_grammar.specs.declared.events.words.EventFirst.{EventFirst}
+use Rattle.line_grammar.specs.events.EventLines.{event_word, event_of}
+use Rattle.line_grammar.specs.events.SteerLines.{steers_of}
+use Rattle.line_grammar.specs.events.laws.Speller as event_speller
+use Rattle.line_grammar.proofs.EventsLemmas.EventLaws as event_laws
+use Rattle.line_grammar.proofs.EventsLemmas.SteerLaws.{steers_said}
 use Rattle.session_grammar.specs.declared.limits.TheConstants.{MOST_CALLS, MOST_RECOVERS}
 use Rattle.session_grammar.specs.laws.Accepted.{SayEvents}
 use Rattle.session_grammar.specs.laws.Speller.{number_words, number_lines, recover_words}

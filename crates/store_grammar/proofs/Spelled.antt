@@ -9,12 +9,12 @@ use Rattle.tree_model.specs.Paths.{is_name_byte}
 use Rattle.script_words.specs.Spelling.{is_skipped}
 use Rattle.script_words.proofs.SpelledNumbers.{IsClear-decimal}
 use Rattle.script_words.proofs.SpelledWords.{IsClear, AreClear, AreClearLines, lacks}
-use Rattle.event_grammar.specs.declared.event.EventLine.{EventLine}
-use Rattle.event_grammar.specs.declared.steer.Steer.{Steer}
-use Rattle.event_grammar.specs.WellFormed.{IsSteerLine}
-use Rattle.event_grammar.specs.laws.Speller.{event_line_words, steer_words}
-use Rattle.event_grammar.proofs.ClearLines.{AreClear-event, there-event, AreClear-steers}
-use Rattle.event_grammar.proofs.EventLaws.{SaysEvent-words}
+use Rattle.line_grammar.specs.declared.events.event.EventLine.{EventLine}
+use Rattle.line_grammar.specs.declared.events.steer.Steer.{Steer}
+use Rattle.line_grammar.specs.events.WellFormed.{IsSteerLine}
+use Rattle.line_grammar.specs.events.laws.Speller.{event_line_words, steer_words}
+use Rattle.line_grammar.proofs.EventsLemmas.ClearLines.{AreClear-event, there-event, AreClear-steers}
+use Rattle.line_grammar.proofs.EventsLemmas.EventLaws.{SaysEvent-words}
 use Rattle.script_grammar.specs.laws.Accepted.{begins, beginning}
 use Rattle.session_grammar.specs.laws.Accepted.{SayEvents}
 use Rattle.session_grammar.specs.laws.Speller.{number_words, number_lines, recover_words}
@@ -24,7 +24,7 @@ use Rattle.session_grammar.proofs.ReadsTo.{AreKept, kept_of-text}
 use Rattle.wal_store.specs.declared.puts.Op.{Op}
 use Rattle.wal_store.specs.declared.puts.Op.TheVariants as ops
 use Rattle.wal_store.specs.Puts.{is_text}
-use Rattle.store_calls.specs.Calls.{ArePuts}
+use Rattle.wal_store.specs.calls.Calls.{ArePuts}
 use Rattle.store_grammar.specs.declared.script.StoreHeader.{StoreHeader}
 use Rattle.store_grammar.specs.declared.script.StoreScript.{StoreScript}
 use Rattle.store_grammar.specs.Grammar.{store_of}

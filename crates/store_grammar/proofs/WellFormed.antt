@@ -14,15 +14,15 @@ use Rattle.script_grammar.specs.declared.kinds.ScriptKind.{ScriptKind}
 use Rattle.script_grammar.specs.declared.script_error.ScriptError.{ScriptError}
 use Rattle.script_grammar.specs.code.Readers.{IsTextReadAs}
 use Rattle.script_grammar.proofs.WellFormed.{ok_behind, ok_past, ok_beside}
-use Rattle.event_grammar.specs.declared.event.EventLine.{EventLine}
-use Rattle.event_grammar.specs.declared.steer.Steer.{Steer}
-use Rattle.event_grammar.specs.declared.words.EventFirst.{EventFirst}
-use Rattle.event_grammar.specs.EventLines.{event_word, event_of}
-use Rattle.event_grammar.specs.SteerLines.{steers_of}
-use Rattle.event_grammar.specs.WellFormed.{IsSteerLine}
-use Rattle.event_grammar.specs.laws.Speller as event_speller
-use Rattle.event_grammar.proofs.EventLaws as event_laws
-use Rattle.event_grammar.proofs.SteerLaws.{steers_said}
+use Rattle.line_grammar.specs.declared.events.event.EventLine.{EventLine}
+use Rattle.line_grammar.specs.declared.events.steer.Steer.{Steer}
+use Rattle.line_grammar.specs.declared.events.words.EventFirst.{EventFirst}
+use Rattle.line_grammar.specs.events.EventLines.{event_word, event_of}
+use Rattle.line_grammar.specs.events.SteerLines.{steers_of}
+use Rattle.line_grammar.specs.events.WellFormed.{IsSteerLine}
+use Rattle.line_grammar.specs.events.laws.Speller as event_speller
+use Rattle.line_grammar.proofs.EventsLemmas.EventLaws as event_laws
+use Rattle.line_grammar.proofs.EventsLemmas.SteerLaws.{steers_said}
 use Rattle.session_grammar.specs.declared.limits.TheConstants.{MOST_CALLS, MOST_RECOVERS}
 use Rattle.session_grammar.specs.Grammar.{is_submit, names_thread, weight}
 use Rattle.session_grammar.specs.WellFormed.{IsEventOf, expanded_of}
@@ -31,7 +31,7 @@ use Rattle.wal_store.specs.declared.puts.Put.{Put}
 use Rattle.wal_store.specs.declared.puts.Op.{Op}
 use Rattle.wal_store.specs.declared.puts.Op.TheVariants as ops
 use Rattle.wal_store.specs.Puts.{IsPut, is_key, is_value}
-use Rattle.store_calls.specs.Calls.{ArePuts, call_count, fill_count, put_count}
+use Rattle.wal_store.specs.calls.Calls.{ArePuts, call_count, fill_count, put_count}
 use Rattle.store_grammar.specs.declared.limits.TheConstants.{MOST_STORE}
 use Rattle.store_grammar.specs.declared.reading.Reading.{Reading}
 use Rattle.store_grammar.specs.declared.reading.Section.{Section}

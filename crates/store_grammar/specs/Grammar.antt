@@ -7,16 +7,16 @@ use Rattle.script_words.specs.LineByLine.{line_read, lines_read}
 use Rattle.script_grammar.specs.declared.limits.TheConstants.{DEFAULT_DEPTH, DEFAULT_QUEUE, MOST_DEPTH, MOST_QUEUE, MOST_STEPS, MOST_TRANSFERS}
 use Rattle.script_grammar.specs.declared.kinds.ScriptKind.{ScriptKind}
 use Rattle.script_grammar.specs.declared.kinds.ScriptKind.TheVariants as kinds
-use Rattle.event_grammar.specs.declared.event.EventLine.{EventLine}
-use Rattle.event_grammar.specs.declared.steer.Steer.{Steer}
-use Rattle.event_grammar.specs.EventLines.{event_of}
-use Rattle.event_grammar.specs.SteerLines.{steers_of}
+use Rattle.line_grammar.specs.declared.events.event.EventLine.{EventLine}
+use Rattle.line_grammar.specs.declared.events.steer.Steer.{Steer}
+use Rattle.line_grammar.specs.events.EventLines.{event_of}
+use Rattle.line_grammar.specs.events.SteerLines.{steers_of}
 use Rattle.session_grammar.specs.declared.limits.TheConstants.{MOST_CALLS, MOST_RECOVERS}
 use Rattle.session_grammar.specs.Grammar as session
 use Rattle.wal_store.specs.declared.puts.Put.{Put}
 use Rattle.wal_store.specs.declared.puts.Op.TheVariants as ops
 use Rattle.wal_store.specs.Puts.{is_key, is_value}
-use Rattle.store_calls.specs.Calls.{fill_count}
+use Rattle.wal_store.specs.calls.Calls.{fill_count}
 use Rattle.store_grammar.specs.declared.limits.TheConstants.{MOST_STORE}
 use Rattle.store_grammar.specs.declared.reading.Reading.{Reading}
 use Rattle.store_grammar.specs.declared.reading.Section.{Section}

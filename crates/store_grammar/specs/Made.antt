@@ -5,8 +5,8 @@ use Rattle.minix_layout.specs.declared.limits.TheConstants.{DEFAULT_WIDTH}
 use Rattle.session_grammar.specs.declared.limits.TheConstants.{DEFAULT_LIMIT, DEFAULT_SEED}
 use Rattle.session_grammar.specs.declared.session_script.SessionHeader.{SessionHeader}
 use Rattle.session_grammar.specs.declared.session_script.SessionScript.{SessionScript}
-use Rattle.store_calls.specs.Calls.{calls_of}
-use Rattle.store_calls.specs.CallText.{call_line}
+use Rattle.wal_store.specs.calls.Calls.{calls_of}
+use Rattle.wal_store.specs.calls.CallText.{call_line}
 use Rattle.store_grammar.specs.declared.limits.TheConstants.{SPARE_ZONES, STORE_INODES, STORE_JOURNAL}
 use Rattle.store_grammar.specs.declared.script.StoreHeader.{StoreHeader}
 use Rattle.store_grammar.specs.declared.script.StoreScript.{StoreScript}

@@ -3,12 +3,12 @@ use Rattle.std.specs.Prelude.{◌≡◌, ℕ, ◌+◌, ◌≤◌, List, length, 
 use Rattle.blk_base.specs.Members.{In}
 use Rattle.script_words.specs.declared.limits.TheConstants.{MOST_EVENTS}
 use Rattle.script_grammar.specs.declared.limits.TheConstants.{MOST_DEPTH, MOST_QUEUE, MOST_STEPS, MOST_TRANSFERS}
-use Rattle.event_grammar.specs.declared.event.EventLine.{EventLine}
-use Rattle.event_grammar.specs.declared.steer.Steer.{Steer}
-use Rattle.event_grammar.specs.WellFormed.{IsSteerLine}
+use Rattle.line_grammar.specs.declared.events.event.EventLine.{EventLine}
+use Rattle.line_grammar.specs.declared.events.steer.Steer.{Steer}
+use Rattle.line_grammar.specs.events.WellFormed.{IsSteerLine}
 use Rattle.session_grammar.specs.declared.limits.TheConstants.{MOST_CALLS, MOST_RECOVERS}
 use Rattle.session_grammar.specs.WellFormed.{IsEventOf, expanded_of}
-use Rattle.store_calls.specs.Calls.{ArePuts, call_count, fill_count, put_count}
+use Rattle.wal_store.specs.calls.Calls.{ArePuts, call_count, fill_count, put_count}
 use Rattle.store_grammar.specs.declared.limits.TheConstants.{MOST_STORE}
 use Rattle.store_grammar.specs.declared.script.StoreHeader.{StoreHeader}
 use Rattle.store_grammar.specs.declared.script.StoreScript.{StoreScript}

@@ -3,8 +3,8 @@ use Rattle.std.specs.Prelude.{ℕ, ◌&&◌, ◌||◌, Bool, not, List, codes, O
 use Rattle.std.specs.Str.{bytes_eq}
 use Rattle.std.specs.Option.{option_map, option_or}
 use Rattle.script_grammar.specs.Words.{first_word}
-use Rattle.call_grammar.specs.CallLines.{call_word}
-use Rattle.event_grammar.specs.EventLines.{event_word}
+use Rattle.line_grammar.specs.calls.CallLines.{call_word}
+use Rattle.line_grammar.specs.events.EventLines.{event_word}
 use Rattle.store_grammar.specs.declared.words.HeaderWord.{HeaderWord}
 use Rattle.store_grammar.specs.declared.words.HeaderWord.TheVariants as header
 use Rattle.store_grammar.specs.declared.words.Word.{Word}

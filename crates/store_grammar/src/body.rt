@@ -1,8 +1,8 @@
 //! Puts, flushes, event lines and `recover` lines.
 ghost use Rattle.std.specs.Prelude.{◌≡◌, ◌<◌, [], true, map, IfOk};
 ghost use Rattle.script_grammar.specs.code.Readers.{IsReadAs};
-ghost use Rattle.event_grammar.specs.EventLines.{event_of};
-ghost use Rattle.event_grammar.specs.SteerLines.{steers_of};
+ghost use Rattle.line_grammar.specs.events.EventLines.{event_of};
+ghost use Rattle.line_grammar.specs.events.SteerLines.{steers_of};
 ghost use Rattle.session_grammar.specs.Grammar.{kind_of, names_thread, weight};
 ghost use Rattle.session_grammar.specs.code.Readers.{line_error};
 ghost use Rattle.wal_store.specs.Puts.{is_key, is_value};
@@ -11,7 +11,7 @@ ghost use Rattle.store_grammar.specs.Grammar.{with_put, put_fits, put_added, put
 
 use crate::reading::{Reading, Section};
 use blk_base::NoMemory;
-use event_grammar::{
+use line_grammar::events::{
     CoreEvent, EventFirst, EventLine, EventWord, SteerLine, read_event, read_steers,
 };
 use script_grammar::{LineError, ScriptKind};

@@ -5,12 +5,12 @@ ghost use Rattle.store_grammar.specs.Grammar.{none_told, new_reading, room_taken
 use crate::limits::MOST_STORE;
 use crate::reading::{HeaderSoFar, Reading, Section};
 use crate::words::{HeaderWord, Word};
-use event_grammar::{Events, SteerList};
+use line_grammar::events::{Events, SteerList};
 use script_grammar::{MOST_DEPTH, MOST_QUEUE, MOST_STEPS, MOST_TRANSFERS, ScriptKind};
 use script_words::numeral;
 use std::alloc::Global;
-use store_calls::fill_count;
 use wal_store::Ops;
+use wal_store::calls::fill_count;
 
 fn none_told() -> HeaderSoFar
     ensures { result ≡ none_told }

@@ -4,7 +4,7 @@
 //! what holds of every script that is read stands in `specs/WellFormed.antt`. `volume_script` makes the script of the
 //! session in which the store's calls are done, `specs/Made.antt`.
 //!
-//! Stands on `wal_store` for puts and their calls, on `script_grammar` and `event_grammar` for the lines that all scripts
+//! Stands on `wal_store` for puts and their calls, on `script_grammar` and `line_grammar::events` for the lines that all scripts
 //! have, and on `session_grammar` for volume scripts.
 #![tactic(auto)]
 

@@ -1,19 +1,19 @@
 //! The volume script that is made of a store's script.
 ghost use Rattle.std.specs.Prelude.{◌≡◌, [], ◌∷◌, map, IfOk};
 ghost use Rattle.session_grammar.specs.WellFormed as session;
-ghost use Rattle.store_calls.specs.CallText.{call_line};
+ghost use Rattle.wal_store.specs.calls.CallText.{call_line};
 ghost use Rattle.store_grammar.specs.Made.{session_header, script_calls, volume_script};
 ghost use Rattle.store_grammar.specs.WellFormed.{IsWellFormed};
 
 use crate::limits::{SPARE_ZONES, STORE_INODES, STORE_JOURNAL};
 use crate::script::{StoreHeader, StoreScript};
 use blk_base::NoMemory;
-use call_grammar::{LineList, Program, Programs};
+use line_grammar::calls::{LineList, Program, Programs};
 use minix_layout::DEFAULT_WIDTH;
 use session_grammar::{DEFAULT_LIMIT, DEFAULT_SEED, SessionHeader, SessionScript};
 use std::alloc::Global;
-use store_calls::{calls_of, write_call};
 use tree_model::Call;
+use wal_store::calls::{calls_of, write_call};
 
 fn session_header(header: StoreHeader) -> SessionHeader
     ensures { result ≡ session_header header }

@@ -1,5 +1,5 @@
 //! What was read of a store's script so far.
-use event_grammar::{Events, SteerList};
+use line_grammar::events::{Events, SteerList};
 use wal_store::Ops;
 
 /// The parts of a script, after its first line.

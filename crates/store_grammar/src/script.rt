@@ -1,5 +1,5 @@
 //! Scripts of a store as plain values.
-use event_grammar::{Events, SteerList};
+use line_grammar::events::{Events, SteerList};
 use wal_store::Ops;
 
 /// The values of the header lines, with their defaults.

@@ -1,5 +1,5 @@
 //! The words that begin lines of a store's script, in groups by where the lines stand.
-use event_grammar::EventFirst;
+use line_grammar::events::EventFirst;
 
 /// The words of header lines.
 #[derive(Clone, Copy, PartialEq, Eq, Debug)]

@@ -1,6 +1,6 @@
 //! Tests of the top call's tasks that check an image and run a generated workload, by what goes out.
 //!
-//! Stands on `barrierfs_top`, and on `bulk_script` for the script of a workload.
+//! Stands on `barrierfs_top`, and on `session_report::bulk` for the script of a workload.
 #![tactic(auto)]
 
 #[cfg(test)]

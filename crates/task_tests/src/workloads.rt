@@ -1,8 +1,8 @@
 //! Workloads that are generated and run.
 use crate::told::told;
-use bulk_script::script_of_bulk;
 use script_words::{lines, numeral};
 use session_grammar::SessionScript;
+use session_report::bulk::script_of_bulk;
 use std::alloc::{AllocError, Global};
 use std::process::Abort;
 

@@ -12,7 +12,7 @@ use Rattle.minix_layout.specs.declared.inode.Inode.{Inode}
 use Rattle.minix_layout.specs.declared.bits.BitPlace.{BitPlace}
 use Rattle.minix_layout.specs.Geometry.{IsSound}
 use Rattle.minix_layout.specs.Bits.{bit_of, has_bit, inode_bit, zone_bit}
-use Rattle.inode_ops.specs.laws.MapLaws.{zone_at-direct}
+use Rattle.minix_tables.specs.inodes.laws.MapLaws.{zone_at-direct}
 use Rattle.tree_model.specs.declared.node.Node.{Node}
 use Rattle.tree_model.specs.declared.node.Node.TheVariants as nodes
 use Rattle.tree_model.specs.declared.node.Directory.{Directory}

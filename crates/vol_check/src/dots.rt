@@ -9,8 +9,8 @@ ghost use Rattle.vol_check.specs.code.Births.{AreBirths};
 
 use crate::births::Births;
 use crate::places::{birth_of, table_block};
-use inode_ops::zone_of;
 use minix_layout::{Inode, LayoutFault, Slot, read_slot, slot_size};
+use minix_tables::inodes::zone_of;
 use volume_ops::{Volume, inode_at, inode_of_birth};
 
 /// The first directory whose dots are wrong.

@@ -13,9 +13,9 @@ use Rattle.volume_steps.specs.Plain.{IsPlainNow}
 use Rattle.volume_steps.proofs.RmdirCall.{rmdirs}
 use Rattle.volume_steps.proofs.UnlinkCall.{unlinks}
 use Rattle.volume_steps.proofs.CallPaths.{done_row, parent_any, at_place_is, at_path_is}
-use Rattle.volume_bytes.specs.Contents.{bytes_of}
-use Rattle.volume_bytes.specs.declared.content.Content.{Content}
-use Rattle.volume_bytes.specs.declared.content.Content.TheVariants as contents
+use Rattle.volume_in_use.specs.bytes.Contents.{bytes_of}
+use Rattle.volume_in_use.specs.declared.bytes.content.Content.{Content}
+use Rattle.volume_in_use.specs.declared.bytes.content.Content.TheVariants as contents
 use Rattle.volume_calls.specs.code.Sites.{place_in}
 use Rattle.volume_calls.specs.code.Writes.{write_call}
 

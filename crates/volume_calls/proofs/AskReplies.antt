@@ -9,7 +9,7 @@ use Rattle.tree_model.specs.declared.call.Room.{Room}
 use Rattle.tree_model.specs.declared.node.Node.{Node}
 use Rattle.tree_model.specs.declared.node.Node.TheVariants as nodes
 use Rattle.tree_model.specs.Calls.{Tree, Row, Done, Found, and_then, answers, reply_from, if_room, used_zones, walk_path, leaves_tree, row, outcome, reply_of}
-use Rattle.volume_reads.specs.Replies.{read_at, list_at, stat_at}
+use Rattle.volume_in_use.specs.reads.Replies.{read_at, list_at, stat_at}
 
 -- ---- nothing refuses a call that leaves the tree and takes no inode
 

@@ -7,8 +7,8 @@ use Rattle.tree_model.specs.declared.call.Room.{Room}
 use Rattle.tree_model.specs.Calls.{Tree, Row, Done, and_then, refuse_if, if_room, used_zones, needs, outcome, row, takes_no_zone}
 use Rattle.tree_model.specs.Plain.{IsPlain}
 use Rattle.tree_model.proofs.Zones.{needs_none}
-use Rattle.zone_maps.specs.Zones.{is_free, is_used, is_quarantined}
-use Rattle.zone_maps.specs.laws.Counts.{all_counted}
+use Rattle.minix_tables.specs.zones.Zones.{is_free, is_used, is_quarantined}
+use Rattle.minix_tables.specs.zones.laws.Counts.{all_counted}
 use Rattle.volume_model.specs.declared.placed.Placed.{Placed}
 use Rattle.volume_model.specs.Trees.{tree_now}
 use Rattle.volume_steps.proofs.TreeSteps.{tree_length}

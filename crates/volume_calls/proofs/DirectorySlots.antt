@@ -2,8 +2,8 @@
 use Rattle.std.proofs.Common.{◌≡◌, ◌≤◌, ◌<◌, ℕ, zero, suc, ◌+◌, nat_eq, nat_lt, Bool, true, false, not, List, [], ◌∷◌, length, take, Option, Some, None, is_some, refl, inl, inr, arith, add-one}
 use Rattle.std.proofs.lemmas.Bool.{cases_eq}
 use Rattle.minix_layout.specs.declared.slot.Slot.{Slot}
-use Rattle.dir_ops.specs.Slots.{room, used_count, slot_at}
-use Rattle.dir_ops.specs.laws.Slots.{room-within, room-count, full-count}
+use Rattle.minix_tables.specs.directories.Slots.{room, used_count, slot_at}
+use Rattle.minix_tables.specs.directories.laws.Slots.{room-within, room-count, full-count}
 use Rattle.tree_model.specs.Calls.{needs_slot, one_if}
 use Rattle.volume_model.specs.declared.placed.DirectoryPart.{DirectoryPart}
 use Rattle.volume_model.specs.Trees.{directory_from}

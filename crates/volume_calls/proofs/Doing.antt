@@ -21,16 +21,16 @@ use Rattle.volume_names.specs.UsedInodes.{MarksNodes, unmarked}
 use Rattle.volume_names.proofs.InodeMarks.{same_birth, KeepsNumbers, marks_kept, Comes, marks_come, Loses, marks_lose}
 use Rattle.volume_names.specs.May.{MayCreate, MayLink, MayMkdir}
 use Rattle.volume_names.proofs.Callers.{create_may, link_may, mkdir_may}
-use Rattle.volume_removals.specs.May.{MayRmdir, MayUnlink}
-use Rattle.volume_removals.proofs.Callers.{rmdir_may, unlink_may}
-use Rattle.volume_renames.specs.May.{MayRename}
-use Rattle.volume_renames.specs.Renamed.{birth_named, renamed_at}
-use Rattle.volume_renames.proofs.Callers.{may_rename, met_stands, not_aside, not_astray, not_lost, rename_is}
+use Rattle.volume_names.specs.removals.May.{MayRmdir, MayUnlink}
+use Rattle.volume_names.proofs.RemovalsLemmas.Callers.{rmdir_may, unlink_may}
+use Rattle.volume_names.specs.renames.May.{MayRename}
+use Rattle.volume_names.specs.renames.Renamed.{birth_named, renamed_at}
+use Rattle.volume_names.proofs.RenamesLemmas.Callers.{may_rename, met_stands, not_aside, not_astray, not_lost, rename_is}
 use Rattle.tree_model.proofs.Changes.{outcome_row}
-use Rattle.volume_bytes.specs.declared.content.Content.{Content}
-use Rattle.volume_bytes.specs.Contents.{bytes_of}
-use Rattle.volume_bytes.specs.MayWrite.{MayTruncate, MayWrite}
-use Rattle.volume_bytes.proofs.MayCall.{may_be_written, may_truncate}
+use Rattle.volume_in_use.specs.declared.bytes.content.Content.{Content}
+use Rattle.volume_in_use.specs.bytes.Contents.{bytes_of}
+use Rattle.volume_in_use.specs.bytes.MayWrite.{MayTruncate, MayWrite}
+use Rattle.volume_in_use.proofs.BytesLemmas.MayCall.{may_be_written, may_truncate}
 use Rattle.volume_calls.specs.code.Sites.{IsSite, place_in}
 use Rattle.volume_calls.specs.code.Writes.{write_call}
 use Rattle.volume_calls.specs.code.MarkedVolume.{IsMarkedVolume}

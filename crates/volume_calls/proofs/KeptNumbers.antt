@@ -18,7 +18,7 @@ use Rattle.volume_steps.specs.Zones.{new_number}
 use Rattle.volume_steps.specs.Steps.{at_node, at_directory, at_file, set_links, resize, make_file, make_directory, make_room, put_name_slot, add_name, place_of, take_name, set_parent, lead_name, node_dropped, drop_node, write_block, write_blocks, cut_blocks, clear_tail, tells_node, slot_told}
 use Rattle.volume_steps.specs.Calls.{create_in, mkdir_in, link_in, unlink_in, rmdir_in, lose_link, move_in, move_below, replace_in, write_at, truncate_at}
 use Rattle.volume_steps.proofs.NewDirectories.{make_directory_is}
-use Rattle.volume_renames.specs.Renamed.{birth_named, is_directory_at, renamed_at, renamed_by}
+use Rattle.volume_names.specs.renames.Renamed.{birth_named, is_directory_at, renamed_at, renamed_by}
 use Rattle.volume_names.specs.May.{MayCreate, MayMkdir}
 use Rattle.volume_names.proofs.Creates.{none as file_none}
 use Rattle.volume_names.proofs.Makes.{none as directory_none}

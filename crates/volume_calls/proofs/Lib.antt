@@ -10,3 +10,4 @@ pub mod AskReplies
 pub mod AskSteps
 pub mod Renamed
 mod LastBirths
+pub mod OpenedLemmas

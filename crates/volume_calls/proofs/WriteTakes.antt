@@ -21,8 +21,8 @@ use Rattle.volume_model.specs.laws.Indexed.{file_indexed}
 use Rattle.volume_steps.specs.Now.{VolumeNow, tree_of_now}
 use Rattle.volume_steps.specs.Plain.{IsInUse}
 use Rattle.volume_steps.proofs.FileCalls.{needs_is}
-use Rattle.volume_bytes.specs.MayWrite.{IsFileOf, wanted_zones}
-use Rattle.volume_bytes.proofs.MayCall.{file_is, needs_wanted}
+use Rattle.volume_in_use.specs.bytes.MayWrite.{IsFileOf, wanted_zones}
+use Rattle.volume_in_use.proofs.BytesLemmas.MayCall.{file_is, needs_wanted}
 use Rattle.volume_calls.specs.code.Asked.{IsAsked}
 use Rattle.volume_steps.proofs.TakeSteps.{file_of}
 

@@ -2,3 +2,4 @@
 pub mod Asked
 pub mod Births
 pub mod code
+pub mod opened

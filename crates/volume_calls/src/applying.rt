@@ -8,7 +8,7 @@ ghost use Rattle.volume_steps.specs.Now.{room_of, tree_of_now};
 ghost use Rattle.volume_steps.specs.Calls.{called, changed};
 ghost use Rattle.volume_steps.specs.Called.{FindsRoom};
 ghost use Rattle.volume_names.specs.UsedInodes.{unmarked};
-ghost use Rattle.volume_renames.specs.Renamed.{birth_named};
+ghost use Rattle.volume_names.specs.renames.Renamed.{birth_named};
 ghost use Rattle.volume_calls.specs.code.Sites.{IsSite, place_in};
 ghost use Rattle.volume_calls.specs.code.Writes.{write_call};
 
@@ -17,10 +17,10 @@ use crate::answer::Answer;
 use blk_base::NoMemory;
 use std::alloc::Global;
 use tree_model::{ByteList, Call, Reply, names_of};
-use volume_bytes::Content;
+use volume_in_use::bytes::Content;
+use volume_in_use::now::{Touched, VolumeNow};
+use volume_names::renames::{Site, birth_named};
 use volume_names::{InodeMap, number_of};
-use volume_now::{Touched, VolumeNow};
-use volume_renames::{Site, birth_named};
 
 fn leaves_tree(call: &Call) -> bool
     ensures { result ≡ leaves_tree call.now }
@@ -165,7 +165,14 @@ impl PlainVolume {
             unreachable!();
         };
         let parts = &mut self.parts;
-        let touched = volume_removals::unlink(alloc, parts, tx, birth, site.parent, &site.name)?;
+        let touched = volume_names::removals::unlink(
+            alloc,
+            parts,
+            tx,
+            birth,
+            site.parent,
+            &site.name,
+        )?;
         give_back(&mut self.inodes, &self.parts, birth, number);
         Ok(touched)
     }
@@ -190,7 +197,14 @@ impl PlainVolume {
             unreachable!();
         };
         let parts = &mut self.parts;
-        let touched = volume_removals::rmdir(alloc, parts, tx, birth, site.parent, &site.name)?;
+        let touched = volume_names::removals::rmdir(
+            alloc,
+            parts,
+            tx,
+            birth,
+            site.parent,
+            &site.name,
+        )?;
         give_back(&mut self.inodes, &self.parts, birth, number);
         Ok(touched)
     }
@@ -219,7 +233,7 @@ impl PlainVolume {
             unreachable!();
         };
         let met = met_at(&self.parts, &to, birth);
-        let touched = volume_renames::rename(alloc, &mut self.parts, tx, &from, &to, birth)?;
+        let touched = volume_names::renames::rename(alloc, &mut self.parts, tx, &from, &to, birth)?;
         give_back(&mut self.inodes, &self.parts, met.birth, met.number);
         Ok(touched)
     }
@@ -241,7 +255,7 @@ impl PlainVolume {
             Ok(found) => found.birth,
             Err(_) => unreachable!(),
         };
-        let touched = volume_bytes::truncate(alloc, &mut self.parts, tx, birth, size)?;
+        let touched = volume_in_use::bytes::truncate(alloc, &mut self.parts, tx, birth, size)?;
         Ok(touched)
     }
 
@@ -262,7 +276,7 @@ impl PlainVolume {
             Ok(found) => found.birth,
             Err(_) => unreachable!(),
         };
-        let touched = volume_bytes::write(alloc, &mut self.parts, birth, off, content)?;
+        let touched = volume_in_use::bytes::write(alloc, &mut self.parts, birth, off, content)?;
         Ok(touched)
     }
 

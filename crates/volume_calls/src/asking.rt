@@ -34,7 +34,7 @@ impl PlainVolume {
     {
         let _ = &self.parts;
         match self.reached(path) {
-            Ok(found) => volume_reads::read(alloc, &self.parts, found.placed, off, len),
+            Ok(found) => volume_in_use::reads::read(alloc, &self.parts, found.placed, off, len),
             Err(reply) => Ok(reply),
         }
     }
@@ -44,7 +44,7 @@ impl PlainVolume {
     {
         let _ = &self.parts;
         match self.reached(path) {
-            Ok(found) => volume_reads::list(alloc, &self.parts, found.placed),
+            Ok(found) => volume_in_use::reads::list(alloc, &self.parts, found.placed),
             Err(reply) => Ok(reply),
         }
     }
@@ -54,7 +54,7 @@ impl PlainVolume {
     {
         let _ = &self.parts;
         match self.reached(path) {
-            Ok(found) => volume_reads::stat(&self.parts, found.placed),
+            Ok(found) => volume_in_use::reads::stat(&self.parts, found.placed),
             Err(reply) => reply,
         }
     }

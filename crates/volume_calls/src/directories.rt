@@ -1,12 +1,12 @@
 //! The slots of a directory, beside its names.
 ghost use Rattle.std.specs.Prelude.{◌≡◌, ◌≤◌, ◌==◌, ◌+◌, List, ℕ, None, is_some, length};
-ghost use Rattle.dir_ops.specs.Slots.{slot_at, used_count};
+ghost use Rattle.minix_tables.specs.directories.Slots.{slot_at, used_count};
 ghost use Rattle.tree_model.specs.Calls.{needs_slot, is_full, directory_zones, one_if, slots_with};
 ghost use Rattle.tree_model.specs.Maps.{at_name};
 ghost use Rattle.volume_model.specs.Trees.{directory_from};
 
-use dir_ops::Slots;
 use minix_layout::{most_slots, slots_a_block};
+use minix_tables::directories::Slots;
 use volume_model::DirectoryPart;
 
 // No slot is free for one name more.

@@ -5,9 +5,9 @@
 //! the answers: none of this takes memory. `asking` does the calls that change nothing, and `applying` those that are
 //! done in place. `looks` has what else is asked before a call, and `laws` that volumes are plain in use.
 //!
-//! Stands on `volume_names`, `volume_removals`, `volume_renames`, `volume_bytes` and `volume_reads`, which do calls where
-//! a path has led, on `volume_now`, whose parts a volume keeps, on `volume_steps`, whose plain data it is, on
-//! `tree_model`, which says what refuses a call, and on `zone_maps`.
+//! Stands on `volume_names`, `volume_names::removals`, `volume_names::renames`, `volume_in_use::bytes` and `volume_in_use::reads`, which do calls where
+//! a path has led, on `volume_in_use::now`, whose parts a volume keeps, on `volume_steps`, whose plain data it is, on
+//! `tree_model`, which says what refuses a call, and on `minix_tables::zones`.
 #![tactic(auto)]
 
 mod answer;
@@ -16,6 +16,7 @@ mod asking;
 mod directories;
 mod laws;
 mod looks;
+pub mod opened;
 mod plain;
 mod renames;
 mod rows;

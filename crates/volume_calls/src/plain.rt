@@ -7,12 +7,12 @@ ghost use Rattle.volume_steps.specs.Plain.{IsPlainNow};
 
 use blk_base::{Block, BodySource, NoMemory};
 use minix_layout::Geometry;
+use minix_tables::zones::ZoneMap;
 use std::alloc::Global;
 use std::marker::Model;
 use tree_model::Tree;
+use volume_in_use::now::VolumeNow;
 use volume_names::InodeMap;
-use volume_now::VolumeNow;
-use zone_maps::ZoneMap;
 
 /// A plain volume that is in use: its blocks, its nodes by birth, what each zone of data is, and which inodes
 /// are in use.
@@ -75,7 +75,7 @@ impl PlainVolume {
         ensures { IfOk result (λ t. t ≡ tree_of_now self.now) }
     {
         let _ = &self.parts;
-        volume_reads::tree(alloc, &self.parts)
+        volume_in_use::reads::tree(alloc, &self.parts)
     }
 
     /// The zones that waited for transaction `tx` are free.

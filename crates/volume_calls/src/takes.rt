@@ -123,7 +123,12 @@ impl PlainVolume {
         if is_too_big(off, len) {
             return Err(Reply::TooBig);
         }
-        let zones = volume_bytes::wanted(&parts.blocks, &found.placed.inode, off, len as u32);
+        let zones = volume_in_use::bytes::wanted(
+            &parts.blocks,
+            &found.placed.inode,
+            off,
+            len as u32,
+        );
         Ok(Wants {
             inode: false,
             zones,

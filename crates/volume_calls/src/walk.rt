@@ -1,7 +1,7 @@
 //! Where paths lead in a volume.
 ghost use Rattle.std.specs.Prelude.{◌≡◌, ℕ, List, IfOk, IfErr, IfSome, IsNone, Ok, Err, Some, None, IsTrue, length, ◌<◌, ◌≤◌, ◌+◌};
 ghost use Rattle.std.specs.List.{list_all};
-ghost use Rattle.dir_ops.specs.Slots.{used_count};
+ghost use Rattle.minix_tables.specs.directories.Slots.{used_count};
 ghost use Rattle.volume_model.specs.declared.placed.DirectoryPart.{DirectoryPart};
 ghost use Rattle.tree_model.specs.Calls.{birth_at, parent_of, walk};
 ghost use Rattle.tree_model.specs.declared.call.Reply.{Reply};

@@ -11,3 +11,4 @@ mod MovedSums
 pub mod NewVolumes
 pub mod FoundNodes
 mod ToldBlocks
+pub mod EditingLemmas

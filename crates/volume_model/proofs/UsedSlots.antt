@@ -12,8 +12,8 @@ use Rattle.blk_base.specs.laws.Members.{slice_get-length, slice_get-set_same, sl
 use Rattle.minix_layout.specs.declared.slot.Slot.{Slot}
 use Rattle.tree_model.specs.Maps.{name_cmp}
 use Rattle.tree_model.specs.laws.MapsLaws.{name_here}
-use Rattle.dir_ops.specs.Slots.{used_count}
-use Rattle.dir_ops.specs.laws.Slots.{free-count}
+use Rattle.minix_tables.specs.directories.Slots.{used_count}
+use Rattle.minix_tables.specs.directories.laws.Slots.{free-count}
 
 -- no name stands twice
 abbrev pub AllDiffer : List (List ℕ) → Type 0

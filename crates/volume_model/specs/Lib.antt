@@ -13,3 +13,4 @@ pub mod Plain
 pub mod ImageNodes
 pub mod NewVolume
 pub mod laws
+pub mod editing

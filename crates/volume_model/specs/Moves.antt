@@ -19,7 +19,7 @@ use Rattle.volume_model.specs.declared.placed.Part.{Part}
 use Rattle.volume_model.specs.declared.placed.Part.TheVariants as parts
 use Rattle.volume_model.specs.declared.placed.DirectoryPart.{DirectoryPart}
 use Rattle.volume_model.specs.Edits.{put_inode, put_slot, edited, touched_by_all}
-use Rattle.dir_ops.specs.Slots.{room, with_slot}
+use Rattle.minix_tables.specs.directories.Slots.{room, with_slot}
 pub use Rattle.volume_model.specs.Holes.{with_mapped}
 use Rattle.volume_model.specs.Volume.{Place, block, zone_in, IsStored, HasNames, IsVolumeOf}
 use Rattle.volume_model.specs.Changes.{Changes}

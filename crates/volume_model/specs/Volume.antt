@@ -12,7 +12,7 @@ use Rattle.minix_layout.specs.declared.inode.Inode.{Inode}
 use Rattle.minix_layout.specs.declared.slot.Slot.{Slot}
 use Rattle.minix_layout.specs.Inodes.{FitInode}
 use Rattle.minix_layout.specs.Slots.{slot_of}
-use Rattle.inode_ops.specs.Map.{entry_behind}
+use Rattle.minix_tables.specs.inodes.Map.{entry_behind}
 use Rattle.tree_model.specs.Maps.{at_number, at_name}
 use Rattle.tree_model.specs.Paths.{is_dot}
 use Rattle.volume_ops.specs.declared.found.Mapped.{Mapped}
@@ -23,7 +23,7 @@ use Rattle.volume_model.specs.declared.placed.Placed.{Placed}
 use Rattle.volume_model.specs.declared.placed.Part.{Part}
 use Rattle.volume_model.specs.declared.placed.Part.TheVariants as parts
 use Rattle.volume_model.specs.declared.placed.DirectoryPart.{DirectoryPart}
-use Rattle.dir_ops.specs.Slots.{used_count}
+use Rattle.minix_tables.specs.directories.Slots.{used_count}
 pub use Rattle.volume_model.specs.Holes.{IsRising}
 
 -- where an inode has a zone: a block of it, its zone of numbers, and the two levels of the doubly indirect one

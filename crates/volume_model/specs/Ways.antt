@@ -1,7 +1,7 @@
 -- Where the number of each zone of an inode stands, and which places lie on the way to a block.
 use Rattle.std.specs.Prelude.{◌≡◌, ◌*◌, ◌+◌, ◌≢◌, ℕ, ◌-◌, ◌/◌, ◌%◌, ◌<◌, ◌≤◌, nat_lt, if◌then◌else◌, List, slice_index}
 use Rattle.minix_layout.specs.declared.inode.Inode.{Inode}
-use Rattle.inode_ops.specs.Map.{entry_behind}
+use Rattle.minix_tables.specs.inodes.Map.{entry_behind}
 use Rattle.volume_ops.specs.Places.{zone_number}
 use Rattle.volume_ops.specs.Volume.{disk_of}
 use Rattle.std.specs.Prelude.{◌≡◌, ◌≢◌, ℕ, ◌-◌, ◌/◌, ◌%◌, ◌<◌, ◌≤◌, nat_lt, List, [], ◌∷◌}

@@ -35,7 +35,7 @@ ghost use Rattle.volume_model.specs.Cut.{has_numbers};
 ghost use Rattle.volume_model.specs.Counts.{keeps_below, zones_of_file, indices_of};
 ghost use Rattle.volume_model.specs.Touched.{Contents, Touched, Tells, Follows, and_then};
 ghost use Rattle.volume_model.specs.Moves.{IsVolume, inode_back, back_told, AreJust, MayAdd, MayChange, AreFree, added, node_removed, with_mapped, file_mapped, directory_mapped, file_mapped_touches, file_cut, file_cut_touches, name_added, name_removed};
-ghost use Rattle.dir_ops.specs.Slots.{room};
+ghost use Rattle.minix_tables.specs.directories.Slots.{room};
 ghost use Rattle.volume_model.specs.Trees.{tree_now};
 ghost use Rattle.volume_model.specs.Plain.{inode_born, HasZone, IsPlainVolume, IsPlainContents};
 ghost use Rattle.volume_model.specs.ImageNodes.{IsImage, part_found, contents_in};

@@ -4,10 +4,11 @@
 //! of each zone of an inode stands, `specs/MapBlock.antt` and `specs/Cut.antt` how a file's blocks come and go, and
 //! `specs/Touched.antt` what a call tells of the blocks, zones and pages that it changed. `laws` names the laws.
 //!
-//! Stands on `volume_ops`, which reads a volume, on `dir_ops`, which has the slots of a directory, and on `tree_model`,
+//! Stands on `volume_ops`, which reads a volume, on `minix_tables::directories`, which has the slots of a directory, and on `tree_model`,
 //! whose tree it stands for.
 #![tactic(auto)]
 
+pub mod editing;
 mod file_zones;
 mod laws;
 mod placed;

@@ -1,7 +1,7 @@
 //! A node of a changeable volume, with its place in it.
 use crate::FileZones;
-use dir_ops::Slots;
 use minix_layout::Inode;
+use minix_tables::directories::Slots;
 use tree_model::Names;
 
 /// A directory as it stands in a volume.

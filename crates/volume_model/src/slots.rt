@@ -4,9 +4,9 @@ ghost use Rattle.minix_layout.specs.Widths.{IsWidth};
 ghost use Rattle.volume_model.specs.Plain.{slot_in, slots_in};
 
 use blk_base::NoMemory;
-use dir_ops::Slots;
-use inode_ops::zone_of;
 use minix_layout::{Geometry, Inode, Slot, read_slot, slot_size, slots_a_block};
+use minix_tables::directories::Slots;
+use minix_tables::inodes::zone_of;
 use std::alloc::Global;
 use volume_ops::Disk;
 

@@ -13,7 +13,7 @@ use Rattle.blk_base.specs.Block.{filled}
 use Rattle.byte_fields.specs.Fields.{zeros}
 use Rattle.tree_model.specs.Maps.{at_number, put_number}
 use Rattle.tree_model.specs.laws.MapOrder.{InOrder}
-use Rattle.zone_maps.specs.Zones.{Zones}
+use Rattle.minix_tables.specs.zones.Zones.{Zones}
 use Rattle.volume_model.specs.declared.placed.Placed.{Placed}
 use Rattle.volume_model.specs.Edits.{Edit, put_slot, edited, touched_by_all}
 use Rattle.volume_model.specs.Volume.{block, zone_in}
@@ -25,7 +25,7 @@ use Rattle.volume_steps.specs.Now.{VolumeNow, Change, written, tells_blocks, tel
 use Rattle.volume_steps.specs.Zones.{TakenFor, new_number, zone_bit, take_zones}
 use Rattle.volume_steps.specs.Steps.{at_node, tells_node, with_links, inode_put, set_links}
 use Rattle.volume_steps.proofs.QuietSteps.{at_node_is}
-use Rattle.volume_now.specs.Noted.{Noted, with_block, with_node}
+use Rattle.volume_in_use.specs.now.Noted.{Noted, with_block, with_node}
 use Rattle.volume_names.specs.code.Steps.{After, HasHole, slot_step, slot_written, block_step, block_added, blocks_mapped}
 use Rattle.volume_names.proofs.Mapped.{blocks_are}
 use Rattle.volume_model.specs.Ways.{way}

@@ -3,8 +3,8 @@ use Rattle.std.specs.Prelude.{◌≡◌, ◌≢◌, ◌<◌, ◌≤◌, ℕ, fal
 use Rattle.std.proofs.Common.{sym, ap, subst, ◌∙◌, arith}
 use Rattle.std.proofs.lemmas.Option.{none-some}
 use Rattle.minix_layout.specs.declared.slot.Slot.{Slot}
-use Rattle.dir_ops.specs.Slots.{place_of}
-use Rattle.dir_ops.specs.laws.Found.{not_found}
+use Rattle.minix_tables.specs.directories.Slots.{place_of}
+use Rattle.minix_tables.specs.directories.laws.Found.{not_found}
 use Rattle.tree_model.specs.Maps.{at_number, at_name, put_number}
 use Rattle.tree_model.specs.laws.MapsLaws.{at_put_number, at_put_number_apart}
 use Rattle.tree_model.specs.laws.MapOrder.{InOrder, in_order_put}
@@ -25,7 +25,7 @@ use Rattle.volume_steps.proofs.NewFiles.{file_made_steady, file_made_settled, fi
 use Rattle.volume_steps.proofs.CallPaths.{good_no_dot, good_entry}
 use Rattle.volume_steps.proofs.CallEnds.{birth_is_new, birth_not_root}
 use Rattle.volume_steps.proofs.PlainNow.{tree_is_plain, settled_before, slotted_before}
-use Rattle.volume_now.proofs.Notes.{and_assoc}
+use Rattle.volume_in_use.proofs.NowLemmas.Notes.{and_assoc}
 use Rattle.volume_names.specs.declared.directories.NewSlot.{NewSlot}
 use Rattle.volume_names.specs.May.{MayCreate, FreePlace}
 use Rattle.volume_names.specs.code.NewSlot.{new_slot}

@@ -10,3 +10,5 @@ pub mod Creates
 pub mod Links
 pub mod Makes
 pub mod Callers
+pub mod RemovalsLemmas
+pub mod RenamesLemmas

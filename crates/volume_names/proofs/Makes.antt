@@ -12,11 +12,11 @@ use Rattle.minix_layout.specs.declared.division.Geometry.{Geometry}
 use Rattle.minix_layout.specs.declared.inode.Inode.{Inode}
 use Rattle.minix_layout.specs.declared.slot.Slot.{Slot}
 use Rattle.minix_layout.specs.Inodes.{new_directory_inode}
-use Rattle.dir_ops.specs.Slots.{place_of}
+use Rattle.minix_tables.specs.directories.Slots.{place_of}
 use Rattle.tree_model.specs.Maps.{at_number, put_number}
 use Rattle.tree_model.specs.laws.MapsLaws.{at_put_number, at_put_number_apart}
 use Rattle.tree_model.specs.laws.MapOrder.{InOrder, in_order_put}
-use Rattle.zone_maps.specs.Zones.{Zones, taken}
+use Rattle.minix_tables.specs.zones.Zones.{Zones, taken}
 use Rattle.volume_ops.specs.Places.{table_block}
 use Rattle.volume_model.specs.declared.placed.Placed.{Placed}
 use Rattle.volume_model.specs.declared.placed.Part.TheVariants as parts
@@ -37,7 +37,7 @@ use Rattle.volume_steps.proofs.AddNames.{name_comes}
 use Rattle.volume_steps.proofs.CallPaths.{good_no_dot, good_entry}
 use Rattle.volume_steps.proofs.CallEnds.{birth_is_new, birth_not_root}
 use Rattle.volume_steps.proofs.PlainNow.{tree_is_plain, settled_before, slotted_before}
-use Rattle.volume_now.specs.Noted.{Noted, with_block, with_node}
+use Rattle.volume_in_use.specs.now.Noted.{Noted, with_block, with_node}
 use Rattle.volume_names.specs.declared.directories.NewSlot.{NewSlot}
 use Rattle.volume_names.specs.May.{MayMkdir}
 use Rattle.volume_names.specs.code.NewSlot.{new_slot}

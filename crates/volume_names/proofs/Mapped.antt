@@ -8,7 +8,7 @@ use Rattle.blk_base.specs.Block.{filled}
 use Rattle.byteorder.specs.Endian.{little_number}
 use Rattle.byte_fields.specs.Fields.{zeros, number_at, number_of}
 use Rattle.minix_layout.specs.declared.division.Geometry.{Geometry}
-use Rattle.inode_ops.specs.Map.{zone_at, entry_behind}
+use Rattle.minix_tables.specs.inodes.Map.{zone_at, entry_behind}
 use Rattle.volume_ops.specs.Places.{zone_number}
 use Rattle.volume_ops.specs.Volume.{disk_of}
 use Rattle.volume_model.specs.Edits.{put_body, edited, touched_by_all}

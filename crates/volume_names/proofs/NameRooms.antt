@@ -9,8 +9,8 @@ use Rattle.tree_model.specs.Calls.{directory_zones, is_full, slots_with}
 use Rattle.tree_model.specs.Maps.{at_number, at_name, put_name}
 use Rattle.tree_model.specs.laws.MapsLaws.{at_put_number}
 use Rattle.tree_model.specs.Paths.{is_dot}
-use Rattle.dir_ops.specs.Slots.{room, with_slot}
-use Rattle.dir_ops.specs.laws.Slots.{length-with_slot, length-with_slot_more}
+use Rattle.minix_tables.specs.directories.Slots.{room, with_slot}
+use Rattle.minix_tables.specs.directories.laws.Slots.{length-with_slot, length-with_slot_more}
 use Rattle.volume_model.specs.declared.placed.Placed.{Placed}
 use Rattle.volume_model.specs.declared.placed.Part.TheVariants as parts
 use Rattle.volume_model.specs.declared.placed.DirectoryPart.{DirectoryPart}

@@ -8,7 +8,7 @@ use Rattle.minix_layout.specs.declared.slot.Slot.{Slot}
 use Rattle.tree_model.specs.Maps.{at_number, put_number}
 use Rattle.tree_model.specs.laws.MapsLaws.{at_put_number, at_put_number_apart}
 use Rattle.tree_model.specs.laws.MapOrder.{InOrder, in_order_put}
-use Rattle.dir_ops.specs.Slots.{room}
+use Rattle.minix_tables.specs.directories.Slots.{room}
 use Rattle.volume_model.specs.declared.placed.Placed.{Placed}
 use Rattle.volume_model.specs.declared.placed.Part.TheVariants as parts
 use Rattle.volume_model.specs.declared.placed.DirectoryPart.{DirectoryPart}

@@ -2,3 +2,5 @@
 pub mod May
 pub mod UsedInodes
 pub mod code
+pub mod removals
+pub mod renames

@@ -5,7 +5,7 @@ use Rattle.tree_model.specs.Maps.{at_number, at_name}
 use Rattle.tree_model.specs.Paths.{is_path_name}
 use Rattle.tree_model.specs.Plain.{AreBornBefore}
 use Rattle.volume_ops.specs.declared.found.Mapped.{Mapped}
-use Rattle.zone_maps.specs.Zones.{is_free}
+use Rattle.minix_tables.specs.zones.Zones.{is_free}
 use Rattle.volume_model.specs.declared.placed.Placed.{Placed}
 use Rattle.volume_model.specs.declared.placed.Part.TheVariants as parts
 use Rattle.volume_model.specs.declared.placed.DirectoryPart.{DirectoryPart}

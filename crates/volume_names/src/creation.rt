@@ -11,8 +11,8 @@ use crate::names::{write_file, write_name};
 use blk_base::NoMemory;
 use minix_layout::Name;
 use std::alloc::Global;
+use volume_in_use::now::{Touched, VolumeNow};
 use volume_model::{FileZones, Part, Placed};
-use volume_now::{Touched, VolumeNow};
 
 /// Makes an empty file with birth `n` in the lowest free inode, under this name in the directory with birth `parent`.
 pub fn create(

@@ -1,6 +1,6 @@
 //! A name comes into a directory, or goes, before its blocks are written.
 ghost use Rattle.std.specs.Prelude.{◌≡◌, ◌≤◌, ◌<◌, ◌+◌, ◌%◌, ◌&&◌, nat_eq, ℕ, length, IfOk, OnErr, Some, None};
-ghost use Rattle.dir_ops.specs.Slots.{place_of};
+ghost use Rattle.minix_tables.specs.directories.Slots.{place_of};
 ghost use Rattle.tree_model.specs.Maps.{at_name};
 ghost use Rattle.volume_model.specs.Moves.{with_name};
 ghost use Rattle.volume_names.specs.code.NewSlot.{new_slot};

@@ -1,7 +1,7 @@
 //! Names and nodes come and go in memory, before the blocks are written. What takes memory and is refused leaves all as
 //! it was.
 ghost use Rattle.std.specs.Prelude.{◌≡◌, ℕ, IfOk, OnErr, Some, None};
-ghost use Rattle.dir_ops.specs.Slots.{place_of};
+ghost use Rattle.minix_tables.specs.directories.Slots.{place_of};
 ghost use Rattle.tree_model.specs.Maps.{at_number, at_name, put_number};
 ghost use Rattle.volume_model.specs.declared.placed.Placed.{Placed};
 ghost use Rattle.volume_model.specs.declared.placed.Part.TheVariants as parts;

@@ -9,8 +9,8 @@ ghost use Rattle.volume_names.specs.code.Steps.{After, block_added, HasHole, blo
 
 use blk_base::Block;
 use minix_layout::Inode;
-use volume_edits::{TakenZones, map_block};
-use volume_now::{Touched, VolumeNow, copy_inode, take_zones, write_inode};
+use volume_in_use::now::{Touched, VolumeNow, copy_inode, take_zones, write_inode};
+use volume_model::editing::{TakenZones, map_block};
 
 /// Maps block `index` of a directory, which has none, and fills it with free slots.
 pub fn add_block(v: &mut VolumeNow, n: u64, index: u32, touched: &mut Touched)

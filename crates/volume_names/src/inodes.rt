@@ -5,12 +5,12 @@ ghost use Rattle.volume_model.specs.declared.placed.Part.TheVariants as parts;
 ghost use Rattle.volume_steps.specs.Steps.{dot_slots, new_file_inode};
 
 use blk_base::NoMemory;
-use dir_ops::Slots;
 use minix_layout::{Inode, Zones};
+use minix_tables::directories::Slots;
 use std::alloc::Global;
 use tree_model::Names;
+use volume_in_use::now::{dot, dots};
 use volume_model::{DirectoryPart, Part, Placed};
-use volume_now::{dot, dots};
 
 /// A regular file with the rights 644, of no bytes, with one link.
 pub fn new_file_inode() -> Inode

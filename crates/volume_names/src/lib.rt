@@ -5,7 +5,7 @@
 //! `growth` where one begins, and `nodes` the links. `inode_map` says which inodes are in use: who makes a node finds the
 //! lowest free one in it.
 //!
-//! Stands on `volume_steps`, whose steps the calls do, on `volume_now` for the volume, and on `volume_edits` for writes.
+//! Stands on `volume_steps`, whose steps the calls do, on `volume_in_use::now` for the volume, and on `volume_model::editing` for writes.
 #![tactic(auto)]
 
 mod creation;
@@ -19,6 +19,8 @@ mod making;
 mod marks;
 mod names;
 mod nodes;
+pub mod removals;
+pub mod renames;
 
 pub use creation::create;
 pub use directories::{NewSlot, slot_of};

@@ -10,7 +10,7 @@ use crate::nodes::{add_link, number_of};
 use blk_base::NoMemory;
 use minix_layout::Name;
 use std::alloc::Global;
-use volume_now::{Touched, VolumeNow};
+use volume_in_use::now::{Touched, VolumeNow};
 
 /// Gives the file with this birth another name, in the directory with birth `parent`.
 pub fn link(

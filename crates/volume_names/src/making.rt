@@ -10,7 +10,7 @@ ghost use Rattle.volume_model.specs.Edits.{edited_all, put_body, put_slot};
 ghost use Rattle.volume_model.specs.Touched.{and_then};
 ghost use Rattle.volume_steps.specs.Now.{tells_writes};
 ghost use Rattle.volume_steps.specs.Zones.{new_number, next_zone};
-ghost use Rattle.zone_maps.specs.Zones.{taken};
+ghost use Rattle.minix_tables.specs.zones.Zones.{taken};
 ghost use Rattle.volume_steps.specs.Calls.{mkdir_in};
 ghost use Rattle.volume_names.specs.May.{MayMkdir};
 ghost use Rattle.volume_names.specs.code.Steps.{After, directory_written, dot_edits};
@@ -23,10 +23,10 @@ use crate::names::write_name;
 use crate::nodes::{add_link, number_of};
 use blk_base::{Block, Image, NoMemory};
 use minix_layout::{Geometry, Inode, Name};
+use minix_tables::zones::ZoneMap;
 use std::alloc::Global;
-use volume_edits::{put_body, put_inode, put_slot, table_block};
-use volume_now::{Touched, VolumeNow, dot, dots, mark_zone};
-use zone_maps::ZoneMap;
+use volume_in_use::now::{Touched, VolumeNow, dot, dots, mark_zone};
+use volume_model::editing::{put_body, put_inode, put_slot, table_block};
 
 /// Makes a directory with birth `n` in the lowest free inode, under this name in the directory with birth `parent`.
 pub fn mkdir(

@@ -7,8 +7,8 @@ ghost use Rattle.volume_steps.specs.Zones.{inode_bit};
 
 use blk_base::Image;
 use minix_layout::Geometry;
-use volume_edits::set_bit;
-use volume_now::Touched;
+use volume_in_use::now::Touched;
+use volume_model::editing::set_bit;
 
 /// Writes the bit of an inode: whether it is in use.
 pub fn mark_inode(blocks: &mut Image, g: &Geometry, value: bool, number: u16, touched: &mut Touched)

@@ -13,8 +13,8 @@ use crate::inodes::new_file_inode;
 use crate::marks::mark_inode;
 use crate::nodes::write_slot;
 use minix_layout::{Slot, slots_a_block};
-use volume_edits::{put_inode, table_block};
-use volume_now::{Touched, VolumeNow};
+use volume_in_use::now::{Touched, VolumeNow};
+use volume_model::editing::{put_inode, table_block};
 
 /// Writes the slot that came into the directory with this birth, which gets a block where one begins.
 pub fn write_name(v: &mut VolumeNow, n: u64, slot: &Slot, new: NewSlot, touched: &mut Touched)

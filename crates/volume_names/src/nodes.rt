@@ -9,9 +9,9 @@ ghost use Rattle.volume_names.specs.code.Steps.{After, slot_written, more_links}
 
 use minix_layout::{Slot, slot_size, slots_a_block};
 use std::collections::BTreeMap;
-use volume_edits::put_slot;
+use volume_in_use::now::{Touched, VolumeNow, block_zone, copy_inode, write_inode};
 use volume_model::Placed;
-use volume_now::{Touched, VolumeNow, block_zone, copy_inode, write_inode};
+use volume_model::editing::put_slot;
 
 /// Writes slot `at` of a directory, which has so many slots then.
 pub fn write_slot(

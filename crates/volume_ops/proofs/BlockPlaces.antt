@@ -10,8 +10,8 @@ use Rattle.minix_layout.specs.declared.inode.Inode.{Inode}
 use Rattle.minix_layout.specs.declared.slot.Slot.{Slot}
 use Rattle.minix_layout.specs.Geometry.{IsSound}
 use Rattle.minix_layout.specs.Slots.{slot_of}
-use Rattle.inode_ops.specs.Map.{zone_at}
-use Rattle.inode_ops.specs.laws.MapLaws.{zone_at-direct, zone_at-past, zone_at-indirect, zone_at-no_indirect, zone_at-double, zone_at-no_double, zone_at-no_inner}
+use Rattle.minix_tables.specs.inodes.Map.{zone_at}
+use Rattle.minix_tables.specs.inodes.laws.MapLaws.{zone_at-direct, zone_at-past, zone_at-indirect, zone_at-no_indirect, zone_at-double, zone_at-no_double, zone_at-no_inner}
 use Rattle.tree_model.specs.declared.node.Node.{Node}
 use Rattle.tree_model.specs.declared.node.Node.TheVariants as nodes
 use Rattle.tree_model.specs.declared.node.File.{File}

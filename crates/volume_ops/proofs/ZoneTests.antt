@@ -6,7 +6,7 @@ use Rattle.std.proofs.lemmas.List.{get_or-take, length-take}
 use Rattle.minix_layout.specs.declared.division.Geometry.{Geometry}
 use Rattle.minix_layout.specs.declared.inode.Inode.{Inode}
 use Rattle.minix_layout.specs.declared.fault.LayoutFault.TheVariants.{BadZone}
-use Rattle.inode_ops.specs.laws.MapLaws.{zone_at-direct, zone_at-past, zone_at-indirect, zone_at-no_indirect, zone_at-double, zone_at-no_double, zone_at-no_inner}
+use Rattle.minix_tables.specs.inodes.laws.MapLaws.{zone_at-direct, zone_at-past, zone_at-indirect, zone_at-no_indirect, zone_at-double, zone_at-no_double, zone_at-no_inner}
 use Rattle.volume_ops.specs.Reads.{Reads, Ret, answer, if_ok, go_on}
 use Rattle.volume_ops.specs.laws.ReadsLaws.{answer-and_then}
 use Rattle.volume_ops.specs.Places.{zone_number, zone_numbers}

@@ -7,8 +7,8 @@ use Rattle.std.proofs.lemmas.List.FromFn.{get_or-map-range_with_len, length-map-
 use Rattle.blk_base.specs.Members.{In}
 use Rattle.blk_base.specs.laws.Members.{In-push, In-push_left, In-push_cases}
 use Rattle.minix_layout.specs.declared.division.Geometry.{Geometry}
-use Rattle.inode_ops.specs.Map.{zone_at, entry_behind, entry_behind_two}
-use Rattle.inode_ops.specs.laws.MapLaws.{zone_at-direct, zone_at-past}
+use Rattle.minix_tables.specs.inodes.Map.{zone_at, entry_behind, entry_behind_two}
+use Rattle.minix_tables.specs.inodes.laws.MapLaws.{zone_at-direct, zone_at-past}
 use Rattle.volume_ops.specs.declared.found.Mapped.{Mapped}
 use Rattle.volume_ops.specs.Reads.{Reads, Ret, Read, answer, if_ok}
 use Rattle.volume_ops.specs.laws.ReadsLaws.{if_ok-parts, err-ok, same_Ok}

@@ -1,7 +1,7 @@
 -- Where an inode has its zones, and in which order their numbers are tested.
 use Rattle.std.specs.Prelude.{ℕ, ◌+◌, ◌-◌, ◌*◌, ◌/◌, ◌%◌, nat_lt, if◌then◌else◌, List, slice_index}
 use Rattle.minix_layout.specs.declared.inode.Inode.{Inode}
-use Rattle.inode_ops.specs.Map.{entry_behind}
+use Rattle.minix_tables.specs.inodes.Map.{entry_behind}
 use Rattle.volume_ops.specs.Places.{zone_number}
 use Rattle.volume_ops.specs.Volume.{disk_of}
 use Rattle.volume_ops.specs.VolumeFields.{zone_behind}

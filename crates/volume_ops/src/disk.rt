@@ -5,7 +5,7 @@ ghost use Rattle.volume_ops.specs.Volume.{disk_of};
 
 use blk_base::{Block, Image};
 use byte_fields::u16_at_le;
-use inode_ops::ZoneBlocks;
+use minix_tables::inodes::ZoneBlocks;
 use std::marker::Model;
 
 /// The blocks of a volume. Behind them stand zeros.

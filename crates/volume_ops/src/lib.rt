@@ -10,7 +10,7 @@
 //! fault is the first, and `specs/Metadata.antt` the metadata by their fields and the zones of the blocks of files.
 //! The laws say that the walk gives just these.
 //!
-//! Stands on `minix_layout` and `inode_ops` for the format, `tree_model` for trees, and the trait of devices of
+//! Stands on `minix_layout` and `minix_tables::inodes` for the format, `tree_model` for trees, and the trait of devices of
 //! `order_model`, which it reads from.
 #![tactic(auto)]
 

@@ -20,8 +20,8 @@ use Rattle.volume_model.specs.declared.placed.Placed.{Placed}
 use Rattle.volume_model.specs.declared.placed.Part.TheVariants as parts
 use Rattle.volume_model.specs.declared.placed.DirectoryPart.{DirectoryPart}
 use Rattle.volume_model.specs.Edits.{touched_by_all}
-use Rattle.dir_ops.specs.Slots.{room, with_slot}
-use Rattle.dir_ops.specs.laws.Slots.{room-within, room-free, room-count, full-count, length-with_slot, length-with_slot_more, with_slot-kept, with_slot-here, with_slot-other}
+use Rattle.minix_tables.specs.directories.Slots.{room, with_slot}
+use Rattle.minix_tables.specs.directories.laws.Slots.{room-within, room-free, room-count, full-count, length-with_slot, length-with_slot_more, with_slot-kept, with_slot-here, with_slot-other}
 use Rattle.volume_model.specs.Volume.{IsPart, IsDirectoryPart, Place, block, indirect, zone_in, HasNames}
 use Rattle.volume_model.specs.laws.Ways.{own_behind, home-single}
 use Rattle.volume_model.specs.Moves.{IsVolume, with_name, name_added}

@@ -43,9 +43,9 @@ use Rattle.volume_steps.proofs.TreeSteps.{tree_at, tree_none}
 use Rattle.volume_steps.proofs.UnlinkCall.{unlink_done}
 use Rattle.minix_layout.specs.declared.division.Geometry.{Geometry}
 use Rattle.minix_layout.specs.Bits.{has_bit, inode_bit, zone_bit}
-use Rattle.zone_maps.specs.Zones.{state_of}
+use Rattle.minix_tables.specs.zones.Zones.{state_of}
 use Rattle.volume_steps.proofs.TakeZones.{zone_range}
-use Rattle.zone_maps.specs.declared.zone_state.ZoneState.TheVariants as states
+use Rattle.minix_tables.specs.declared.zones.zone_state.ZoneState.TheVariants as states
 
 abbrev pub Writes : VolumeNow → ℕ → Call → ℕ → ℕ → Type 0
 Writes v n c birth index = writes (room_of v.geometry) (tree_of_now v) n c birth index ≡ true

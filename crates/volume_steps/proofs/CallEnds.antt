@@ -10,7 +10,7 @@ use Rattle.tree_model.proofs.PlainTrees.{call_plain}
 use Rattle.volume_model.specs.declared.placed.Placed.{Placed}
 use Rattle.volume_steps.specs.Now.{VolumeNow, Change, tree_of_now, room_of}
 use Rattle.minix_layout.specs.declared.division.Geometry.{Geometry}
-use Rattle.zone_maps.specs.laws.Counts.{all_counted}
+use Rattle.minix_tables.specs.zones.laws.Counts.{all_counted}
 use Rattle.volume_steps.proofs.Taking.{frees, uses, waits, fewer_free}
 use Rattle.volume_steps.specs.Plain.{IsInUse, IsPlainNow}
 use Rattle.volume_steps.specs.laws.Steady.{IsSteady}

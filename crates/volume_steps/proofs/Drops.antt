@@ -12,8 +12,8 @@ use Rattle.tree_model.specs.laws.MapOrder.{at_without_here, at_without_apart}
 use Rattle.tree_model.specs.Calls.{node_zones, used_zones}
 use Rattle.volume_ops.specs.Places.{table_block}
 use Rattle.volume_ops.specs.Volume.{disk_of}
-use Rattle.zone_maps.specs.declared.zone_state.ZoneState.TheVariants as states
-use Rattle.zone_maps.specs.Zones.{state_of}
+use Rattle.minix_tables.specs.declared.zones.zone_state.ZoneState.TheVariants as states
+use Rattle.minix_tables.specs.zones.Zones.{state_of}
 use Rattle.volume_model.specs.declared.placed.Placed.{Placed}
 use Rattle.volume_model.specs.declared.placed.Part.TheVariants as parts
 use Rattle.volume_model.specs.declared.placed.DirectoryPart.{DirectoryPart}

@@ -20,7 +20,7 @@ use Rattle.volume_model.specs.Plain.{HasDots}
 use Rattle.volume_model.specs.Touched.{Contents}
 use Rattle.volume_model.specs.Trees.{node_from, node_now}
 use Rattle.volume_model.specs.Volume.{Place, zone_in, IsPart, IsFilePart}
-use Rattle.zone_maps.specs.laws.Counts.{all_counted}
+use Rattle.minix_tables.specs.zones.laws.Counts.{all_counted}
 use Rattle.volume_steps.specs.Now.{VolumeNow, Change, tree_of_now, followed_by, unchanged}
 use Rattle.volume_steps.specs.Plain.{IsInUse}
 use Rattle.volume_steps.specs.Steps.{at_file}

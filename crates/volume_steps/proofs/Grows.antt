@@ -8,8 +8,8 @@ use Rattle.tree_model.specs.Maps.{at_number}
 use Rattle.tree_model.specs.Calls.{used_zones}
 use Rattle.volume_ops.specs.declared.found.Mapped.{Mapped}
 use Rattle.volume_ops.specs.Volume.{disk_of}
-use Rattle.zone_maps.specs.declared.zone_state.ZoneState.TheVariants as states
-use Rattle.zone_maps.specs.Zones.{Zones, state_of, is_used}
+use Rattle.minix_tables.specs.declared.zones.zone_state.ZoneState.TheVariants as states
+use Rattle.minix_tables.specs.zones.Zones.{Zones, state_of, is_used}
 use Rattle.volume_model.specs.declared.placed.Placed.{Placed}
 use Rattle.volume_model.specs.declared.placed.Part.{Part}
 use Rattle.volume_model.specs.declared.placed.Part.TheVariants as parts

@@ -15,9 +15,9 @@ use Rattle.tree_model.specs.Calls.{node_zones, used_zones}
 use Rattle.volume_ops.specs.declared.found.Mapped.{Mapped}
 use Rattle.volume_ops.specs.Places.{largest_size}
 use Rattle.volume_ops.specs.Volume.{disk_of, bodies_of}
-use Rattle.zone_maps.specs.declared.zone_state.ZoneState.{ZoneState}
-use Rattle.zone_maps.specs.declared.zone_state.ZoneState.TheVariants as states
-use Rattle.zone_maps.specs.Zones.{state_of}
+use Rattle.minix_tables.specs.declared.zones.zone_state.ZoneState.{ZoneState}
+use Rattle.minix_tables.specs.declared.zones.zone_state.ZoneState.TheVariants as states
+use Rattle.minix_tables.specs.zones.Zones.{state_of}
 use Rattle.volume_model.specs.declared.placed.Placed.{Placed}
 use Rattle.volume_model.specs.declared.placed.Part.TheVariants as parts
 use Rattle.volume_model.specs.Counts.{indices_of, zones_of_file}

@@ -8,7 +8,7 @@ use Rattle.std.proofs.lemmas.List.FromFn.{length-map-range_with_len}
 use Rattle.std.proofs.lemmas.List.Sums.{sum_by-cons}
 use Rattle.minix_layout.specs.declared.division.Geometry.{Geometry}
 use Rattle.minix_layout.specs.Geometry.{IsSound}
-use Rattle.inode_ops.specs.Map.{zone_at}
+use Rattle.minix_tables.specs.inodes.Map.{zone_at}
 use Rattle.minix_layout.specs.Widths.{slot_size, slots_a_block}
 use Rattle.minix_layout.specs.laws.Places.{form_is}
 use Rattle.tree_model.specs.declared.node.Node.{Node}
@@ -17,8 +17,8 @@ use Rattle.tree_model.specs.Maps.{at_number, at_name}
 use Rattle.tree_model.specs.Rooted.{HasEntry}
 use Rattle.tree_model.specs.laws.MapsLaws.{number_same}
 use Rattle.tree_model.specs.Calls.{used_zones}
-use Rattle.zone_maps.specs.declared.zone_state.ZoneState.TheVariants as states
-use Rattle.zone_maps.specs.Zones.{mark, state_of, is_used}
+use Rattle.minix_tables.specs.declared.zones.zone_state.ZoneState.TheVariants as states
+use Rattle.minix_tables.specs.zones.Zones.{mark, state_of, is_used}
 use Rattle.volume_model.specs.declared.placed.Placed.{Placed}
 use Rattle.volume_model.specs.NewVolume.{new_volume, new_blocks, root_placed, root_inode}
 use Rattle.volume_model.specs.Plain.{IsPlainContents, HasZone}

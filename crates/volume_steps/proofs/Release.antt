@@ -3,12 +3,12 @@ use Rattle.std.specs.Prelude.{◌≡◌, ℕ, Bool, true, false, ◌==◌, if◌
 use Rattle.std.specs.Option.{option_map}
 use Rattle.std.proofs.Common.{sym, ◌∙◌, arith}
 use Rattle.std.proofs.lemmas.List.Sums.{sum_by-cons}
-use Rattle.zone_maps.specs.declared.zone_state.ZoneState.{ZoneState}
-use Rattle.zone_maps.specs.declared.zone_state.ZoneState.TheVariants as states
-use Rattle.zone_maps.specs.Zones.{Zones, state_of, released, let_go, is_used}
-use Rattle.zone_maps.specs.laws.Counts.{one_if}
-use Rattle.zone_maps.specs.laws.Lasting.{release_keeps}
-use Rattle.zone_maps.specs.laws.States.{state_released}
+use Rattle.minix_tables.specs.declared.zones.zone_state.ZoneState.{ZoneState}
+use Rattle.minix_tables.specs.declared.zones.zone_state.ZoneState.TheVariants as states
+use Rattle.minix_tables.specs.zones.Zones.{Zones, state_of, released, let_go, is_used}
+use Rattle.minix_tables.specs.zones.laws.Counts.{one_if}
+use Rattle.minix_tables.specs.zones.laws.Lasting.{release_keeps}
+use Rattle.minix_tables.specs.zones.laws.States.{state_released}
 use Rattle.volume_steps.specs.Calls.{after_release}
 use Rattle.volume_steps.specs.Now.{VolumeNow}
 use Rattle.volume_steps.specs.Plain.{IsInUse, IsPlainNow}

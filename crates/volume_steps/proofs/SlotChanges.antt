@@ -21,7 +21,7 @@ use Rattle.tree_model.specs.Paths.{is_dot}
 use Rattle.tree_model.specs.Calls.{node_zones, directory_zones, slots_with, with_name}
 use Rattle.tree_model.specs.laws.MapsLaws.{at_put_name, at_put_name_cases, put_apart, name_here, name_same}
 use Rattle.tree_model.proofs.Edits.{same_name}
-use Rattle.dir_ops.specs.Slots.{used_count}
+use Rattle.minix_tables.specs.directories.Slots.{used_count}
 use Rattle.volume_model.specs.declared.placed.Placed.{Placed}
 use Rattle.volume_model.specs.declared.placed.Part.TheVariants as parts
 use Rattle.volume_model.specs.declared.placed.DirectoryPart.{DirectoryPart}

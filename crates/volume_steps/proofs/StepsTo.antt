@@ -5,8 +5,8 @@ use Rattle.blk_base.specs.Members.{In}
 use Rattle.tree_model.specs.Maps.{at_number, put_number}
 use Rattle.tree_model.specs.laws.MapOrder.{at_put_cases}
 use Rattle.tree_model.specs.Calls.{Tree}
-use Rattle.zone_maps.specs.declared.zone_state.ZoneState.TheVariants as states
-use Rattle.zone_maps.specs.Zones.{state_of}
+use Rattle.minix_tables.specs.declared.zones.zone_state.ZoneState.TheVariants as states
+use Rattle.minix_tables.specs.zones.Zones.{state_of}
 use Rattle.volume_model.specs.declared.placed.Placed.{Placed}
 use Rattle.volume_model.specs.Touched.{Page, and_then}
 use Rattle.volume_steps.specs.Now.{VolumeNow, Change, tree_of_now}

@@ -8,12 +8,12 @@ use Rattle.std.proofs.lemmas.Option.{none-some, same_Some}
 use Rattle.std.specs.List.{slice_get}
 use Rattle.blk_base.specs.Members.{In}
 use Rattle.blk_base.specs.laws.Members.{In-append_left, In-append_right, In-append_cases}
-use Rattle.zone_maps.specs.declared.zone_state.ZoneState.{ZoneState}
-use Rattle.zone_maps.specs.declared.zone_state.ZoneState.TheVariants as states
-use Rattle.zone_maps.specs.Zones.{Zones, state_of, with_state, lowest_free, least_free, taken, given, is_free, is_used, is_quarantined}
-use Rattle.zone_maps.specs.laws.States.{state_written, state_elsewhere, state_above, above_first, inside}
-use Rattle.zone_maps.specs.laws.Lowest.{lowest_is}
-use Rattle.zone_maps.specs.laws.Counts.{one_if, count_written, taken_is}
+use Rattle.minix_tables.specs.declared.zones.zone_state.ZoneState.{ZoneState}
+use Rattle.minix_tables.specs.declared.zones.zone_state.ZoneState.TheVariants as states
+use Rattle.minix_tables.specs.zones.Zones.{Zones, state_of, with_state, lowest_free, least_free, taken, given, is_free, is_used, is_quarantined}
+use Rattle.minix_tables.specs.zones.laws.States.{state_written, state_elsewhere, state_above, above_first, inside}
+use Rattle.minix_tables.specs.zones.laws.Lowest.{lowest_is}
+use Rattle.minix_tables.specs.zones.laws.Counts.{one_if, count_written, taken_is}
 use Rattle.volume_steps.specs.Zones.{next_zone, all_given}
 use Rattle.volume_steps.specs.laws.Steady.{TakesLowest}
 

@@ -4,9 +4,9 @@ use Rattle.std.proofs.Common.{sym, subst, inl, inr, ⊎_elim, ◌∙◌, arith}
 use Rattle.blk_base.specs.Members.{In}
 use Rattle.blk_base.specs.laws.Members.{In-append_left, In-append_right, In-append_cases}
 use Rattle.minix_layout.specs.declared.division.Geometry.{Geometry}
-use Rattle.zone_maps.specs.declared.zone_state.ZoneState.{ZoneState}
-use Rattle.zone_maps.specs.declared.zone_state.ZoneState.TheVariants as states
-use Rattle.zone_maps.specs.Zones.{state_of}
+use Rattle.minix_tables.specs.declared.zones.zone_state.ZoneState.{ZoneState}
+use Rattle.minix_tables.specs.declared.zones.zone_state.ZoneState.TheVariants as states
+use Rattle.minix_tables.specs.zones.Zones.{state_of}
 use Rattle.volume_model.specs.Touched.{Contents, Touched, Page, Tells, Follows, IsMeta, HasPage, and_then}
 use Rattle.volume_model.specs.Touched.IsMeta.{of_tables, of_numbers, of_directory}
 use Rattle.volume_model.specs.Volume.{block}
@@ -18,7 +18,7 @@ use Rattle.volume_steps.proofs.Taking.{lowest_then, free_used, in_zones}
 use Rattle.volume_steps.proofs.Listed.{nodes_then}
 use Rattle.volume_steps.proofs.Marked.{SameNumbers, marks_then}
 use Rattle.std.specs.List.{slice_get}
-use Rattle.zone_maps.specs.laws.States.{state_above}
+use Rattle.minix_tables.specs.zones.laws.States.{state_above}
 use Rattle.volume_steps.specs.Plain.{IsInUse}
 
 -- ---- what is metadata has a zone, or stands before the zones

@@ -3,7 +3,7 @@ use Rattle.std.specs.Prelude.{◌≤◌, ℕ, count_by}
 use Rattle.tree_model.specs.declared.call.Call.{Call}
 use Rattle.tree_model.specs.Plain.{AreBornBefore}
 use Rattle.tree_model.specs.Calls.{needs}
-use Rattle.zone_maps.specs.Zones.{is_free}
+use Rattle.minix_tables.specs.zones.Zones.{is_free}
 use Rattle.volume_steps.specs.Now.{VolumeNow, tree_of_now}
 use Rattle.volume_steps.specs.Plain.{IsPlainNow}
 

@@ -6,7 +6,7 @@ use Rattle.tree_model.specs.declared.call.Call.TheVariants as calls
 use Rattle.tree_model.specs.declared.call.Reply.{Reply}
 use Rattle.tree_model.specs.declared.call.Reply.TheVariants as replies
 use Rattle.tree_model.specs.Calls.{Place, Found, Move, names_in, parent_of, walk_path, target_at, stays, moves_directory, changes_parent, touched_blocks, max, Row, outcome, and_then as and_then_row}
-use Rattle.zone_maps.specs.Zones.{released}
+use Rattle.minix_tables.specs.zones.Zones.{released}
 use Rattle.volume_steps.specs.Now.{VolumeNow, Change, tree_of_now, room_of, unchanged, followed_by, with_zone_states}
 use Rattle.volume_steps.specs.Steps.{at_node, set_links, resize, make_file, make_directory, add_name, take_name, set_parent, lead_name, drop_node, write_blocks, cut_blocks, clear_tail}
 

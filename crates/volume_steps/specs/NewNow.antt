@@ -1,7 +1,7 @@
 -- A new volume in use.
 use Rattle.std.specs.Prelude.{[], ◌∷◌}
 use Rattle.minix_layout.specs.declared.division.Geometry.{Geometry}
-use Rattle.zone_maps.specs.Zones.{made}
+use Rattle.minix_tables.specs.zones.Zones.{made}
 use Rattle.volume_model.specs.NewVolume.{new_volume}
 use Rattle.volume_steps.specs.Now.{VolumeNow}
 

@@ -3,7 +3,7 @@ use Rattle.std.specs.Prelude.{ℕ, ◌-◌, List, []}
 use Rattle.minix_layout.specs.declared.division.Geometry.{Geometry}
 use Rattle.tree_model.specs.declared.call.Room.{Room}
 use Rattle.tree_model.specs.Calls.{Tree}
-use Rattle.zone_maps.specs.Zones.{Zones}
+use Rattle.minix_tables.specs.zones.Zones.{Zones}
 use Rattle.volume_model.specs.Edits.{Edit, edited_all, touched_by_all}
 use Rattle.volume_model.specs.Touched.{Contents, Touched, and_then}
 use Rattle.volume_model.specs.Trees.{tree_now}

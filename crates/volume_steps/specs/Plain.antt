@@ -6,8 +6,8 @@ use Rattle.tree_model.specs.declared.call.Call.TheVariants as calls
 use Rattle.tree_model.specs.Paths.{is_path_name}
 use Rattle.tree_model.specs.Rooted.{HasEntry}
 use Rattle.tree_model.specs.Calls.{used_zones}
-use Rattle.zone_maps.specs.declared.zone_state.ZoneState.TheVariants as states
-use Rattle.zone_maps.specs.Zones.{is_used, state_of}
+use Rattle.minix_tables.specs.declared.zones.zone_state.ZoneState.TheVariants as states
+use Rattle.minix_tables.specs.zones.Zones.{is_used, state_of}
 use Rattle.volume_model.specs.Moves.{IsVolume}
 use Rattle.volume_model.specs.Plain.{IsPlainContents, HasZone}
 use Rattle.volume_steps.specs.Now.{VolumeNow, tree_of_now}

@@ -14,13 +14,13 @@ use Rattle.tree_model.specs.Calls.{patched, cut_body}
 use Rattle.volume_ops.specs.declared.found.Mapped.{Mapped}
 use Rattle.volume_ops.specs.Places.{table_block}
 use Rattle.volume_ops.specs.Volume.{disk_of}
-use Rattle.zone_maps.specs.Zones.{taken}
+use Rattle.minix_tables.specs.zones.Zones.{taken}
 use Rattle.volume_model.specs.declared.placed.Placed.{Placed}
 use Rattle.volume_model.specs.declared.placed.Part.{Part}
 use Rattle.volume_model.specs.declared.placed.Part.TheVariants as parts
 use Rattle.volume_model.specs.declared.placed.DirectoryPart.{DirectoryPart}
 use Rattle.volume_model.specs.Edits.{Edit, put_inode, put_slot, put_body, touched_by_all}
-use Rattle.dir_ops.specs.Slots.{room}
+use Rattle.minix_tables.specs.directories.Slots.{room}
 use Rattle.volume_model.specs.Volume.{Place, block, zone_in}
 use Rattle.volume_model.specs.Ways.{way}
 use Rattle.volume_model.specs.MapBlock.{own_of, map_block, all_edits}

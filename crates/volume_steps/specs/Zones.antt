@@ -3,7 +3,7 @@
 use Rattle.std.specs.Prelude.{ℕ, ◌+◌, ◌-◌, ◌/◌, nat_eq, nat_lt, Bool, false, not, ◌==◌, if◌then◌else◌, List, [], ◌∷◌, ◌++◌, Some, None}
 use Rattle.std.specs.List.{list_any, range_with_len, find}
 use Rattle.minix_layout.specs.declared.division.Geometry.{Geometry}
-use Rattle.zone_maps.specs.Zones.{Zones, lowest_free, taken, given}
+use Rattle.minix_tables.specs.zones.Zones.{Zones, lowest_free, taken, given}
 use Rattle.volume_model.specs.declared.placed.Placed.{Placed}
 use Rattle.volume_model.specs.Edits.{Edit, set_bit}
 use Rattle.volume_model.specs.Volume.{Place, indirect, double, inner}

@@ -5,7 +5,7 @@
 //! taken, `specs/Steps.antt` the steps, and `specs/Calls.antt` the calls; `specs/Numbers.antt` has the numbers of calls, and
 //! `specs/Cuts.antt` the cuts that change nothing.
 //!
-//! Stands on `volume_model`, whose moves the steps are, on `zone_maps`, and on `tree_model`, which says what refuses a
+//! Stands on `volume_model`, whose moves the steps are, on `minix_tables::zones`, and on `tree_model`, which says what refuses a
 //! call and what it replies.
 #![tactic(auto)]
 

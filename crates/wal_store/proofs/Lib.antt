@@ -1,3 +1,4 @@
 mod Fronts
 pub mod HeldPuts
 pub mod Spelled
+pub mod CallsLemmas

@@ -2,3 +2,4 @@ pub mod Blocks
 pub mod Log
 pub mod Puts
 pub mod code
+pub mod calls

@@ -8,6 +8,7 @@
 #![tactic(auto)]
 
 mod blocks;
+pub mod calls;
 mod front;
 mod laws;
 mod log;

@@ -8,7 +8,7 @@ use Rattle.std.proofs.lemmas.List.FromFn.{length-map-range_with_len, get_or-map-
 use Rattle.blk_base.specs.Members.{In}
 use Rattle.blk_base.specs.laws.Members.{In-append_cases, In-filter}
 use Rattle.minix_layout.specs.declared.inode.Inode.{Inode}
-use Rattle.inode_ops.specs.laws.MapLaws.{zone_at-direct, zone_at-indirect, zone_at-double}
+use Rattle.minix_tables.specs.inodes.laws.MapLaws.{zone_at-direct, zone_at-indirect, zone_at-double}
 use Rattle.volume_ops.specs.Places.{zone_number, zone_numbers}
 use Rattle.volume_ops.specs.Volume.{disk_of}
 use Rattle.volume_ops.specs.ZonePlaces.{ZonePlace, block, indirect, double, inner, zone_in}

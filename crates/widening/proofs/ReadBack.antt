@@ -13,7 +13,7 @@ use Rattle.minix_layout.specs.declared.division.Geometry.{Geometry}
 use Rattle.minix_layout.specs.declared.inode.Inode.{Inode}
 use Rattle.minix_layout.specs.declared.slot.Slot.{Slot}
 use Rattle.minix_layout.specs.Slots.{slot_of, IsEntry}
-use Rattle.inode_ops.specs.laws.MapLaws.{zone_at-direct, zone_at-indirect, zone_at-no_indirect, zone_at-no_double, zone_at-past}
+use Rattle.minix_tables.specs.inodes.laws.MapLaws.{zone_at-direct, zone_at-indirect, zone_at-no_indirect, zone_at-no_double, zone_at-past}
 use Rattle.volume_ops.specs.Places.{zone_number}
 use Rattle.volume_ops.specs.Volume.{disk_of}
 use Rattle.volume_ops.specs.VolumeFields.{zone_behind, slot_behind}

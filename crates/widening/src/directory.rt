@@ -14,7 +14,7 @@ use blk_base::{Image, NoMemory};
 use minix_layout::{Geometry, Inode, Name, Slot, Zones};
 use std::alloc::Global;
 use tree_model::Directory;
-use volume_edits::{put_body, put_inode, set_bit};
+use volume_model::editing::{put_body, put_inode, set_bit};
 use volume_ops::{Disk, inode_at, inode_of_birth};
 
 // The most zones of data: 7 that the inode tells, and 512 that the indirect block tells.

@@ -4,7 +4,7 @@
 //! it has and gets, and what is written; `specs/Widened.antt` has the whole image. Laws in `laws.rt` say that the widened image
 //! has no fault and the same tree, and which blocks keep their bytes.
 //!
-//! Stands on `mount_make`, which mounts, and on `volume_edits` for single writes.
+//! Stands on `mount_make`, which mounts, and on `volume_model::editing` for single writes.
 #![tactic(auto)]
 
 mod bodies;

@@ -24,7 +24,7 @@ use mount_make::mount;
 use order_model::OrderedDev;
 use std::alloc::Global;
 use tree_model::{Node, Tree};
-use volume_edits::put_entry;
+use volume_model::editing::put_entry;
 use volume_ops::{Disk, Volume, inode_of_birth};
 
 // The magic number of names of 30 bytes.

@@ -6,8 +6,8 @@ ghost use Rattle.volume_ops.specs.Walk.{Walked};
 ghost use Rattle.widening.specs.Directories.{no_holes, zones_behind, data_zones, number_zones, is_free, free_zones};
 
 use blk_base::NoMemory;
-use inode_ops::ZoneBlocks;
 use minix_layout::{Inode, read_bit};
+use minix_tables::inodes::ZoneBlocks;
 use std::alloc::Global;
 use std::marker::Model;
 use volume_ops::{Disk, Volume};

@@ -3,7 +3,7 @@ use Rattle.std.specs.Prelude.{◌≡◌, ℕ, ◌+◌, ◌<◌, ◌≤◌, ◌^�
 use Rattle.blk_base.specs.Members.{In}
 use Rattle.log_model.specs.Ring.{IsPlace}
 use Rattle.journal_ring.specs.Journal.{JournalRing}
-use Rattle.tx_running.specs.Open.{OpenTransaction}
+use Rattle.journal_ring.specs.running.Open.{OpenTransaction}
 use Rattle.flush_actor.specs.Actor.{FlushActor}
 use Rattle.commit_actor.specs.Actor.{LogState}
 use Rattle.commit_actor.specs.Journal as model

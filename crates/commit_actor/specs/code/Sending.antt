@@ -3,8 +3,8 @@ use Rattle.std.specs.Prelude.{ℕ, false, List, [], ◌∷◌, length, drop, nat
 use Rattle.log_model.specs.Ring.{Ring, place_after}
 use Rattle.journal_blocks.specs.declared.super_block.JournalSuper.{JournalSuper}
 use Rattle.order_model.specs.declared.note.Note.TheVariants.{Super}
-use Rattle.tx_running.specs.Closing.{writers}
-use Rattle.tx_running.specs.Plan.{Planned, placed}
+use Rattle.journal_ring.specs.running.Closing.{writers}
+use Rattle.journal_ring.specs.running.Plan.{Planned, placed}
 use Rattle.commit_actor.specs.Journal.{Plan}
 use Rattle.commit_actor.specs.declared.sending.PlannedPut.{PlannedPut}
 use Rattle.commit_actor.specs.declared.sending.Sending.{Sending}

@@ -6,7 +6,7 @@ use Rattle.device_epochs.specs.Cache.{same_place}
 use Rattle.device_epochs.specs.laws.Valid.{AreUnique, AreSorted}
 use Rattle.std.specs.Option.{option_map, option_map_or}
 use Rattle.order_model.specs.declared.command.Command.{Command}
-use Rattle.command_queue.specs.Queue.{QueueState, Waiting, picked}
+use Rattle.device_epochs.specs.queue.Queue.{QueueState, Waiting, picked}
 use Rattle.device_epochs.specs.Device.{DeviceState, has_stopped}
 
 -- ---- the cache

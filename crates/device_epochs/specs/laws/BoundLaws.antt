@@ -5,13 +5,13 @@ use Rattle.blk_base.specs.Members.{In}
 use Rattle.order_model.specs.declared.command.Command.{Command}
 use Rattle.order_model.specs.Received.{all_parts, ids_of, all_ids, completions_of, failures_of}
 use Rattle.order_model.specs.Device.{IsReceivable}
-use Rattle.command_queue.specs.Queue.{Waiting}
-use Rattle.command_queue.specs.laws.QueueLaws.{all_parts-le_ids, parts-le_ids, some_ids, took-le_ids}
+use Rattle.device_epochs.specs.queue.Queue.{Waiting}
+use Rattle.device_epochs.specs.queue.laws.QueueLaws.{all_parts-le_ids, parts-le_ids, some_ids, took-le_ids}
 use Rattle.device_epochs.specs.Device.{DeviceState, transferable, seen}
 use Rattle.device_epochs.specs.laws.Valid.{work_left, IsValid}
 use Rattle.device_epochs.specs.laws.StateLaws.{numbered, waits}
-use Rattle.command_queue.specs.laws.QueueLaws.{sum_by-without}
-use Rattle.command_queue.specs.laws.CompletionLaws.{length-completions, length-failures}
+use Rattle.device_epochs.specs.queue.laws.QueueLaws.{sum_by-without}
+use Rattle.device_epochs.specs.queue.laws.CompletionLaws.{length-completions, length-failures}
 use Rattle.device_epochs.specs.laws.CountLaws.{work}
 use Rattle.device_epochs.specs.laws.StepLaws.{untold, transferable-In, transferable-waits}
 

@@ -10,15 +10,15 @@ use Rattle.order_model.specs.declared.part.Part.{Part}
 use Rattle.order_model.specs.declared.command.Command.{Command}
 use Rattle.order_model.specs.Received.{all_parts, part_at, command_of_part, first_part, epoch_of}
 use Rattle.order_model.proofs.Received.{command_of_part-lt, command_of_part-push_old, command_of_part-push_new, length-all_parts-push, part_at-push_old, epoch_of-push_old, command_of_part-earlier, epoch_of-mono, flush-is, is-flush}
-use Rattle.command_queue.specs.Queue.{QueueState, Waiting, without, eligible}
-use Rattle.command_queue.specs.laws.QueueLaws.{part_at-lt, part_of-waiting, parts_of-waiting}
+use Rattle.device_epochs.specs.queue.Queue.{QueueState, Waiting, without, eligible}
+use Rattle.device_epochs.specs.queue.laws.QueueLaws.{part_at-lt, part_of-waiting, parts_of-waiting}
 use Rattle.device_epochs.specs.declared.cache.Entry.{Entry}
 use Rattle.device_epochs.specs.Cache.{same_place, entries, put_all, oldest, without_entry}
 use Rattle.device_epochs.specs.laws.CacheLaws.{In-put_all, AreUnique-put_all, AreSorted-put_all, put_all-IsCached, put_all-In_new, In-entries, entries-In, IsAscending-entries, In-oldest, In-without_entry, without_entry_cases, AreUnique-filter, AreSorted-filter, same_place_from}
 use Rattle.device_epochs.specs.Device.{body_at}
-use Rattle.command_queue.specs.laws.EpochLaws.{flush-ordered, waiting-taken, ordered-first, waits-or-done, epoch_of_eligible, done_epoch-le}
-use Rattle.command_queue.specs.laws.QueueLaws.{done-received, received-done, done-moved, moved-done, moved-done-now, eligible-waits, place-before}
-use Rattle.command_queue.specs.Facts.{IsDone, IsPresent, CommandFacts, QueueFacts}
+use Rattle.device_epochs.specs.queue.laws.EpochLaws.{flush-ordered, waiting-taken, ordered-first, waits-or-done, epoch_of_eligible, done_epoch-le}
+use Rattle.device_epochs.specs.queue.laws.QueueLaws.{done-received, received-done, done-moved, moved-done, moved-done-now, eligible-waits, place-before}
+use Rattle.device_epochs.specs.queue.Facts.{IsDone, IsPresent, CommandFacts, QueueFacts}
 use Rattle.device_epochs.specs.laws.Valid.{IsEntry, CacheFacts, IsHeld, IsCached, MediumFacts}
 
 -- ---- a command arrives

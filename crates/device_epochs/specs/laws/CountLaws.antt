@@ -10,15 +10,15 @@ use Rattle.order_model.specs.declared.completion.Completion.{Completion}
 use Rattle.order_model.specs.declared.completion.Completion.TheVariants.{Cut}
 use Rattle.order_model.specs.Received.{ids_of, first_part, completions_of, failures_of, transfers}
 use Rattle.order_model.proofs.Received.{length-all_parts-push, length-all_ids-push}
-use Rattle.command_queue.specs.Queue.{Waiting, AreNumbered, without}
+use Rattle.device_epochs.specs.queue.Queue.{Waiting, AreNumbered, without}
 use Rattle.device_epochs.specs.declared.cache.Entry.{Entry}
 use Rattle.device_epochs.specs.Cache.{same_place, entries, without_entry}
 use Rattle.device_epochs.specs.Device.{DeviceState, is_off, tells_cut, received, performed, failed_on, written, answered, answered_from}
 use Rattle.device_epochs.specs.laws.Valid.{work_left, CountFacts}
 use Rattle.device_epochs.specs.laws.CacheLaws.{length-put_all, length-entries}
-use Rattle.command_queue.specs.laws.QueueLaws.{sum_by-without, length-without, length-filter-le, length-filter-lt}
-use Rattle.command_queue.specs.laws.EpochLaws.{length-transfers}
-use Rattle.command_queue.specs.laws.CompletionLaws.{length-completions, length-failures}
+use Rattle.device_epochs.specs.queue.laws.QueueLaws.{sum_by-without, length-without, length-filter-le, length-filter-lt}
+use Rattle.device_epochs.specs.queue.laws.EpochLaws.{length-transfers}
+use Rattle.device_epochs.specs.queue.laws.CompletionLaws.{length-completions, length-failures}
 
 -- ---- the cache's length
 

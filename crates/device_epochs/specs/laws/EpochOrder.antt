@@ -9,11 +9,11 @@ use Rattle.order_model.specs.declared.command.Command.{Command}
 use Rattle.order_model.specs.Received.{all_parts, part_at, command_of_part, epoch_of, IsBarrier}
 use Rattle.order_model.specs.Device.{IsMoved, IsPartKept, IsSurface, KeepsEpochOrder}
 use Rattle.order_model.proofs.Received.{command_of_part-lt, command_of_part-mono, epoch_of-between, barrier-is}
-use Rattle.command_queue.specs.laws.QueueLaws.{part_at-lt, part_of-waiting}
+use Rattle.device_epochs.specs.queue.laws.QueueLaws.{part_at-lt, part_of-waiting}
 use Rattle.device_epochs.specs.Device.{DeviceState, seen}
-use Rattle.command_queue.specs.laws.EpochLaws.{barrier-ordered, waiting-taken, done-before_ordered, ordered-done_before, waits-or-done}
-use Rattle.command_queue.specs.laws.QueueLaws.{place-before}
-use Rattle.command_queue.specs.Facts.{IsDone, with_waiting}
+use Rattle.device_epochs.specs.queue.laws.EpochLaws.{barrier-ordered, waiting-taken, done-before_ordered, ordered-done_before, waits-or-done}
+use Rattle.device_epochs.specs.queue.laws.QueueLaws.{place-before}
+use Rattle.device_epochs.specs.queue.Facts.{IsDone, with_waiting}
 use Rattle.device_epochs.specs.laws.Valid.{IsHeld, IsValid}
 
 -- ---- what is kept

@@ -10,14 +10,14 @@ use Rattle.order_model.specs.declared.completion.Completion.TheVariants.{Flushed
 use Rattle.order_model.specs.Received.{all_parts, command_of_part, first_part, IsFlush}
 use Rattle.order_model.specs.Device.{IsQuiet, KeepsFlush, Grows}
 use Rattle.order_model.proofs.Received.{command_of_part-lt, flush-is, is-flush, id_once, In-flush-id}
-use Rattle.command_queue.specs.Queue.{Waiting}
+use Rattle.device_epochs.specs.queue.Queue.{Waiting}
 use Rattle.device_epochs.specs.declared.cache.Entry.{Entry}
 use Rattle.device_epochs.specs.laws.CacheSteps.{IsHeld-written}
-use Rattle.command_queue.specs.laws.QueueLaws.{part_at-lt, parts_of-waiting}
-use Rattle.command_queue.specs.laws.CompletionLaws.{flush-completes, completions-seen, flushed-seen}
+use Rattle.device_epochs.specs.queue.laws.QueueLaws.{part_at-lt, parts_of-waiting}
+use Rattle.device_epochs.specs.queue.laws.CompletionLaws.{flush-completes, completions-seen, flushed-seen}
 use Rattle.device_epochs.specs.Device.{DeviceState, is_off, answers_left, transferable, performed, failed_on, transferred, persistable, written, persisted, seen}
 use Rattle.device_epochs.specs.laws.StepLaws.{tried-all, persistable-In}
-use Rattle.command_queue.specs.Facts.{IsDone, with_waiting}
+use Rattle.device_epochs.specs.queue.Facts.{IsDone, with_waiting}
 use Rattle.device_epochs.specs.laws.Valid.{IsValid}
 use Rattle.device_epochs.specs.laws.EpochOrder.{kept, kept_is_done}
 

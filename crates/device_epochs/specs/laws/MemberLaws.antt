@@ -5,18 +5,18 @@ use Rattle.std.proofs.lemmas.Bool.{both_ways, false_from_ne_true}
 use Rattle.std.proofs.lemmas.Option.{none-some}
 use Rattle.order_model.specs.declared.completion.Completion.{Completion}
 use Rattle.order_model.specs.declared.completion.Completion.TheVariants.{Cut}
-use Rattle.command_queue.specs.Queue.{Waiting}
+use Rattle.device_epochs.specs.queue.Queue.{Waiting}
 use Rattle.device_epochs.specs.declared.cache.Entry.{Entry}
 use Rattle.order_model.specs.declared.command.Command.{Command}
 use Rattle.order_model.specs.Device.{IsReceivable, TellsCut, Grows, has_free_slot}
 use Rattle.order_model.specs.Steps.{Receives, Transfers, Persists, Answers, OnlyReads, Progresses}
 use Rattle.device_epochs.specs.Device.{DeviceState, is_off, fails_next, has_room, received, transferable, tried, transferred, persistable, persisted, next_answer, answered, answered_from, after_read, written, tells_cut, IsSound, seen}
-use Rattle.command_queue.specs.Faults.{is_next, is_number, counted}
+use Rattle.device_epochs.specs.queue.Faults.{is_next, is_number, counted}
 use Rattle.device_epochs.specs.laws.Valid.{work_left, IsValid}
 use Rattle.device_epochs.specs.laws.StepLaws.{tried-all, Receives-received, Transfers-transferred, Persists-persisted, Answers-answered}
 use Rattle.device_epochs.specs.laws.FlushLaws.{Grows-transferred, Grows-persisted}
 use Rattle.device_epochs.specs.laws.CountLaws.{never_off}
-use Rattle.command_queue.specs.laws.QueueLaws.{room-counted}
+use Rattle.device_epochs.specs.queue.laws.QueueLaws.{room-counted}
 use Rattle.device_epochs.specs.laws.SeenLaws.{power_cut_law, off-nothing, progress_law}
 use Rattle.device_epochs.specs.laws.ReachableLaws.{received-valid, transferred-valid, persisted-valid, answered-valid, after_read-valid}
 

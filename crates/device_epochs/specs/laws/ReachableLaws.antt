@@ -11,19 +11,19 @@ use Rattle.order_model.specs.declared.completion.Completion.{Completion}
 use Rattle.order_model.specs.declared.completion.Completion.TheVariants.{Cut}
 use Rattle.order_model.specs.Received.{epoch_of, completions_of, failures_of}
 use Rattle.order_model.specs.Device.{IsReceivable}
-use Rattle.command_queue.specs.Queue.{Waiting, eligible, without}
+use Rattle.device_epochs.specs.queue.Queue.{Waiting, eligible, without}
 use Rattle.device_epochs.specs.declared.cache.Entry.{Entry}
 use Rattle.device_epochs.specs.declared.device.DeviceSetup.{DeviceSetup}
 use Rattle.device_epochs.specs.laws.CacheSteps.{CacheFacts-received, MediumFacts-received, CacheFacts-moved, MediumFacts-moved, CacheFacts-written, MediumFacts-written}
-use Rattle.command_queue.specs.laws.CompletionLaws.{completions-received, completions-moved, completions-failed, completions-persisted, completions-told}
+use Rattle.device_epochs.specs.queue.laws.CompletionLaws.{completions-received, completions-moved, completions-failed, completions-persisted, completions-told}
 use Rattle.device_epochs.specs.laws.CountLaws.{counts-received, counts-moved, counts-failed, counts-written, counts-answered_from}
 use Rattle.device_epochs.specs.Device.{DeviceState, opened, is_off, fails_next, has_room, received, transferable, performed, failed_on, transferred, after_read, persistable, written, persisted, tells_cut, answered_from, answered, seen}
-use Rattle.command_queue.specs.laws.EpochLaws.{present-received, present-moved, moved-received, moved-moved, epoch_of_eligible}
-use Rattle.command_queue.specs.laws.PendingLaws.{pending-received, pending-moved, pending-failed, lost-lt, faults-moved, faults-failed, faults-read, to_come-le}
+use Rattle.device_epochs.specs.queue.laws.EpochLaws.{present-received, present-moved, moved-received, moved-moved, epoch_of_eligible}
+use Rattle.device_epochs.specs.queue.laws.PendingLaws.{pending-received, pending-moved, pending-failed, lost-lt, faults-moved, faults-failed, faults-read, to_come-le}
 use Rattle.device_epochs.specs.laws.StateLaws.{lost-none, pending-is, waits, numbered}
-use Rattle.command_queue.specs.laws.QueueLaws.{commands-received, queue-received, queue-moved, eligible-waits}
+use Rattle.device_epochs.specs.queue.laws.QueueLaws.{commands-received, queue-received, queue-moved, eligible-waits}
 use Rattle.device_epochs.specs.laws.StepLaws.{untold, transferable-In, tried-all, persistable-In}
-use Rattle.command_queue.specs.Facts.{CompletionFacts, with_waiting}
+use Rattle.device_epochs.specs.queue.Facts.{CompletionFacts, with_waiting}
 use Rattle.device_epochs.specs.laws.Valid.{IsValid}
 
 -- the completions where no transfer failed

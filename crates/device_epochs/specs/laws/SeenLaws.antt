@@ -13,18 +13,18 @@ use Rattle.order_model.specs.declared.history.Transfer.{Transfer}
 use Rattle.order_model.specs.Device.{IsSettled, is_ordered, Completes, TellsCut, IsUnmoved, TellsFailure, completion_id}
 use Rattle.order_model.specs.Steps.{Progresses}
 use Rattle.order_model.proofs.Received.{all_ids-In}
-use Rattle.command_queue.specs.Queue.{Waiting, have_common_block, stands_in_way, is_free, eligible, AreNumbered}
+use Rattle.device_epochs.specs.queue.Queue.{Waiting, have_common_block, stands_in_way, is_free, eligible, AreNumbered}
 use Rattle.device_epochs.specs.Cache.{oldest}
 use Rattle.device_epochs.specs.Device.{DeviceState, is_off, fails_next, has_room, may_transfer, has_stopped, transferable, tried, transferred, persistable, written, persisted, answers_left, answered, after_read, seen}
-use Rattle.command_queue.specs.Facts.{IsDone, CompletionFacts}
+use Rattle.device_epochs.specs.queue.Facts.{IsDone, CompletionFacts}
 use Rattle.device_epochs.specs.laws.Valid.{work_left, IsValid}
-use Rattle.command_queue.specs.laws.QueueLaws.{some_ids}
-use Rattle.command_queue.specs.laws.PendingLaws.{lost-some, number-is, is-number}
+use Rattle.device_epochs.specs.queue.laws.QueueLaws.{some_ids}
+use Rattle.device_epochs.specs.queue.laws.PendingLaws.{lost-some, number-is, is-number}
 use Rattle.device_epochs.specs.laws.StateLaws.{pending-is, numbered}
 use Rattle.device_epochs.specs.laws.CacheLaws.{oldest_some}
 use Rattle.device_epochs.specs.laws.StepLaws.{transferable-waits, is-transferable, tried-fails, tried-moves, persistable-In}
 use Rattle.device_epochs.specs.laws.EpochOrder.{kept, kept_is_moved}
-use Rattle.command_queue.specs.laws.CompletionLaws.{id-In_completions, cut-told, cut-seen, completions-seen, moved-seen, flushed-seen, failed-seen}
+use Rattle.device_epochs.specs.queue.laws.CompletionLaws.{id-In_completions, cut-told, cut-seen, completions-seen, moved-seen, flushed-seen, failed-seen}
 use Rattle.device_epochs.specs.laws.CountLaws.{work, work_left-moved, work_left-failed, work_left-written, work_left-answered}
 
 -- ---- completions, the power and failed transfers

@@ -2,9 +2,9 @@
 use Rattle.std.specs.Prelude.{◌≡◌, ◌≤◌, false, [], None}
 use Rattle.std.proofs.Common.{sym, subst, arith}
 use Rattle.blk_base.specs.Members.{In}
-use Rattle.command_queue.specs.Queue.{Waiting, AreNumbered}
-use Rattle.command_queue.specs.Facts.{PendingFacts, QueueFacts, with_waiting}
-use Rattle.command_queue.specs.laws.PendingLaws.{waits-pending, nothing-lost, all-wait, in_queue-numbered, empty-waits, two-or-one}
+use Rattle.device_epochs.specs.queue.Queue.{Waiting, AreNumbered}
+use Rattle.device_epochs.specs.queue.Facts.{PendingFacts, QueueFacts, with_waiting}
+use Rattle.device_epochs.specs.queue.laws.PendingLaws.{waits-pending, nothing-lost, all-wait, in_queue-numbered, empty-waits, two-or-one}
 use Rattle.device_epochs.specs.Device.{DeviceState}
 use Rattle.device_epochs.specs.laws.Valid.{IsValid}
 

@@ -11,15 +11,15 @@ use Rattle.order_model.specs.declared.completion.Completion.{Completion}
 use Rattle.order_model.specs.declared.completion.Completion.TheVariants.{Cut}
 use Rattle.order_model.specs.Received.{epoch_of, first_part, completions_of, failures_of, transfers as moved_parts}
 use Rattle.order_model.specs.Steps.{Receives, Tells, Transfers, Persists, Answers}
-use Rattle.command_queue.specs.Queue.{Waiting, eligible}
+use Rattle.device_epochs.specs.queue.Queue.{Waiting, eligible}
 use Rattle.device_epochs.specs.declared.cache.Entry.{Entry}
 use Rattle.device_epochs.specs.Cache.{oldest}
 use Rattle.device_epochs.specs.Device.{DeviceState, is_off, fails_next, received, may_transfer, has_stopped, transferable, performed, failed_on, tried, transferred, persistable, written, persisted, tells_cut, answers_left, next_answer, answered, answered_from, seen}
-use Rattle.command_queue.specs.laws.EpochLaws.{epoch_of_eligible}
+use Rattle.device_epochs.specs.queue.laws.EpochLaws.{epoch_of_eligible}
 use Rattle.device_epochs.specs.laws.StateLaws.{waits, pending-is}
-use Rattle.command_queue.specs.laws.PendingLaws.{number-is, not-number}
-use Rattle.command_queue.specs.laws.QueueLaws.{eligible-waits}
-use Rattle.command_queue.specs.Facts.{with_waiting}
+use Rattle.device_epochs.specs.queue.laws.PendingLaws.{number-is, not-number}
+use Rattle.device_epochs.specs.queue.laws.QueueLaws.{eligible-waits}
+use Rattle.device_epochs.specs.queue.Facts.{with_waiting}
 use Rattle.device_epochs.specs.laws.Valid.{IsValid}
 
 -- ---- which steps can be taken

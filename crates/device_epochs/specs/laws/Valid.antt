@@ -5,8 +5,8 @@ use Rattle.blk_base.specs.Members.{In}
 use Rattle.order_model.specs.declared.part.Part.{Part}
 use Rattle.order_model.specs.declared.command.Command.{Command}
 use Rattle.order_model.specs.Received.{all_parts, part_at, command_of_part, ids_of, all_ids, epoch_of, IsFlush}
-use Rattle.command_queue.specs.Queue.{Waiting}
-use Rattle.command_queue.specs.Facts.{IsDone, CommandFacts, QueueFacts, IsPresent, MovedFacts, PendingFacts, FaultFacts, CompletionFacts, with_waiting}
+use Rattle.device_epochs.specs.queue.Queue.{Waiting}
+use Rattle.device_epochs.specs.queue.Facts.{IsDone, CommandFacts, QueueFacts, IsPresent, MovedFacts, PendingFacts, FaultFacts, CompletionFacts, with_waiting}
 use Rattle.device_epochs.specs.declared.cache.Entry.{Entry}
 use Rattle.device_epochs.specs.Cache.{same_place}
 use Rattle.device_epochs.specs.Device.{DeviceState, is_off}

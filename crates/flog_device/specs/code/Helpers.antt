@@ -3,7 +3,7 @@ use Rattle.std.specs.Prelude.{◌≡◌, ℕ, ◌<◌, ◌≤◌, Bool, true, fa
 use Rattle.std.specs.Option.{option_map, option_map_or}
 use Rattle.blk_base.specs.Members.{In}
 use Rattle.order_model.specs.declared.command.Command.{Command}
-use Rattle.command_queue.specs.Queue.{QueueState, Waiting, eligible, picked}
+use Rattle.device_epochs.specs.queue.Queue.{QueueState, Waiting, eligible, picked}
 use Rattle.flog_device.specs.Log.{Page, is_covered, body_at}
 use Rattle.flog_device.specs.Device.{fits}
 

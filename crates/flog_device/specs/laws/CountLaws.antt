@@ -16,11 +16,11 @@ use Rattle.std.proofs.lemmas.List.Sums.{sum_by_push}
 use Rattle.std.proofs.Common.{length-append}
 use Rattle.std.proofs.lemmas.Bool.{not-true, and_parts}
 use Rattle.std.specs.Prelude.{not}
-use Rattle.command_queue.specs.Queue.{without}
-use Rattle.command_queue.specs.laws.EpochLaws.{length-transfers}
-use Rattle.command_queue.specs.laws.CompletionLaws.{length-completions, length-failures}
-use Rattle.command_queue.specs.Queue.{Waiting, AreNumbered}
-use Rattle.command_queue.specs.laws.QueueLaws.{sum_by-without}
+use Rattle.device_epochs.specs.queue.Queue.{without}
+use Rattle.device_epochs.specs.queue.laws.EpochLaws.{length-transfers}
+use Rattle.device_epochs.specs.queue.laws.CompletionLaws.{length-completions, length-failures}
+use Rattle.device_epochs.specs.queue.Queue.{Waiting, AreNumbered}
+use Rattle.device_epochs.specs.queue.laws.QueueLaws.{sum_by-without}
 use Rattle.flog_device.specs.Log.{Page, pages, programmed_at}
 use Rattle.flog_device.specs.Device.{FlogState, Write, Program, Fold, programs, folds, folded_from, is_off, tells_cut, received, performed, failed_on, written, answered, answered_from}
 use Rattle.flog_device.specs.laws.Valid.{work, page_work, work_left, CountFacts}

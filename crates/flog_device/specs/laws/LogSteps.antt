@@ -13,11 +13,11 @@ use Rattle.order_model.specs.declared.command.Command.{Command}
 use Rattle.order_model.specs.declared.history.Transfer.{Transfer}
 use Rattle.order_model.specs.Received.{all_parts, part_at, first_part, command_of_part, epoch_of, transfers}
 use Rattle.order_model.proofs.Received.{length-all_parts-push, command_of_part-push_new, part_at-push_old, command_of_part-push_old, command_of_part-lt, command_of_part-first, epoch_of-push_old, flush-is, is-flush}
-use Rattle.command_queue.specs.Queue.{QueueState, Waiting, eligible, without}
-use Rattle.command_queue.specs.laws.QueueLaws.{part_at-lt, parts_of-waiting}
-use Rattle.command_queue.specs.laws.EpochLaws.{waits-or-done, ordered-first, flush-ordered, waiting-taken, done_epoch-le, epoch_of_eligible}
-use Rattle.command_queue.specs.laws.QueueLaws.{done-received, done-moved, eligible-waits, place-before}
-use Rattle.command_queue.specs.Facts.{IsDone, CommandFacts, QueueFacts, IsPresent, MovedFacts}
+use Rattle.device_epochs.specs.queue.Queue.{QueueState, Waiting, eligible, without}
+use Rattle.device_epochs.specs.queue.laws.QueueLaws.{part_at-lt, parts_of-waiting}
+use Rattle.device_epochs.specs.queue.laws.EpochLaws.{waits-or-done, ordered-first, flush-ordered, waiting-taken, done_epoch-le, epoch_of_eligible}
+use Rattle.device_epochs.specs.queue.laws.QueueLaws.{done-received, done-moved, eligible-waits, place-before}
+use Rattle.device_epochs.specs.queue.Facts.{IsDone, CommandFacts, QueueFacts, IsPresent, MovedFacts}
 use Rattle.flog_device.specs.Log.{Place, Page, pages, prefix, places, programmed_at, is_covered, body_at, laid}
 use Rattle.flog_device.specs.laws.LogFacts.{InOrder, InOrder-append, InOrder-as, Rises, top, top-In, body_over, prefix-rest, prefix-yes, prefix-unprogrammed, prefix-programmed_at, prefix-all, places-programmed_at, places-append, uncovered, top-append_none, top-cons_other, top-push_same, top-push_other}
 use Rattle.flog_device.specs.laws.Valid.{part_of, moved_part, epoch_at, NoLater, given, kept_places, LogFacts}

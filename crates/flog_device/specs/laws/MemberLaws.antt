@@ -15,13 +15,13 @@ use Rattle.order_model.specs.Received.{all_parts, command_of_part, first_part}
 use Rattle.order_model.specs.Device.{IsReceivable, IsQuiet, TellsCut, Grows}
 use Rattle.order_model.specs.Steps.{Receives, Transfers, Persists, Answers, OnlyReads, Progresses}
 use Rattle.order_model.proofs.Received.{flush-is, is-flush, command_of_part-lt}
-use Rattle.command_queue.specs.Queue.{Waiting}
-use Rattle.command_queue.specs.laws.QueueLaws.{part_at-lt, parts_of-waiting}
-use Rattle.command_queue.specs.laws.CompletionLaws.{flush-completes}
-use Rattle.command_queue.specs.Facts.{IsDone}
+use Rattle.device_epochs.specs.queue.Queue.{Waiting}
+use Rattle.device_epochs.specs.queue.laws.QueueLaws.{part_at-lt, parts_of-waiting}
+use Rattle.device_epochs.specs.queue.laws.CompletionLaws.{flush-completes}
+use Rattle.device_epochs.specs.queue.Facts.{IsDone}
 use Rattle.flog_device.specs.Log.{Place, Page, prefix, place_of, places, programmed_at}
-use Rattle.command_queue.specs.Faults.{is_number}
-use Rattle.command_queue.specs.laws.QueueLaws.{room-counted}
+use Rattle.device_epochs.specs.queue.Faults.{is_number}
+use Rattle.device_epochs.specs.queue.laws.QueueLaws.{room-counted}
 use Rattle.std.proofs.lemmas.Option.{none-some}
 use Rattle.std.proofs.lemmas.List.{length-append}
 use Rattle.order_model.specs.declared.history.Transfer.{Transfer}

@@ -13,11 +13,11 @@ use Rattle.order_model.specs.declared.history.Transfer.{Transfer}
 use Rattle.order_model.specs.Received.{all_parts, part_at, command_of_part, IsBarrier, IsFlush}
 use Rattle.order_model.specs.Device.{Seen, IsMoved, IsPartKept, IsSurface, KeepsEpochOrder, KeepsFlush}
 use Rattle.order_model.proofs.Received.{command_of_part-lt, epoch_of-between, barrier-is, flush-is, id_once, In-flush-id}
-use Rattle.command_queue.specs.laws.QueueLaws.{part_at-lt, part_of-waiting}
-use Rattle.command_queue.specs.laws.CompletionLaws.{completions-seen, flushed-seen}
-use Rattle.command_queue.specs.laws.EpochLaws.{barrier-ordered, waiting-taken, done-before_ordered, ordered-done_before, waits-or-done}
-use Rattle.command_queue.specs.laws.QueueLaws.{place-before}
-use Rattle.command_queue.specs.Facts.{IsDone}
+use Rattle.device_epochs.specs.queue.laws.QueueLaws.{part_at-lt, part_of-waiting}
+use Rattle.device_epochs.specs.queue.laws.CompletionLaws.{completions-seen, flushed-seen}
+use Rattle.device_epochs.specs.queue.laws.EpochLaws.{barrier-ordered, waiting-taken, done-before_ordered, ordered-done_before, waits-or-done}
+use Rattle.device_epochs.specs.queue.laws.QueueLaws.{place-before}
+use Rattle.device_epochs.specs.queue.Facts.{IsDone}
 use Rattle.flog_device.specs.Log.{Place, prefix, places, body_at}
 use Rattle.flog_device.specs.Device.{FlogState, is_off, answers_left, surface, surface_origins, seen}
 use Rattle.flog_device.specs.laws.LogFacts.{InOrder, InOrder-across, InOrder-left, Rises, top, top-append, top-In, In-top, body_over, get-laid, get-laid_origins, length-laid, length-laid_origins, over-gone, body-gone}

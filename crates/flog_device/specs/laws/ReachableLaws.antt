@@ -11,25 +11,25 @@ use Rattle.order_model.specs.declared.completion.Completion.{Completion}
 use Rattle.order_model.specs.declared.completion.Completion.TheVariants.{Cut}
 use Rattle.order_model.specs.Received.{epoch_of, completions_of, failures_of}
 use Rattle.order_model.specs.Device.{IsReceivable}
-use Rattle.command_queue.specs.Queue.{Waiting, eligible, without}
+use Rattle.device_epochs.specs.queue.Queue.{Waiting, eligible, without}
 use Rattle.flog_device.specs.Log.{Page}
 use Rattle.flog_device.specs.laws.LogSteps.{LogFacts-received, LogFacts-performed, LogFacts-programmed, LogFacts-folded}
-use Rattle.command_queue.specs.laws.CompletionLaws.{completions-received, completions-moved, completions-failed, completions-persisted, completions-told}
-use Rattle.command_queue.specs.Faults.{is_number}
-use Rattle.command_queue.specs.laws.QueueLaws.{length-without}
+use Rattle.device_epochs.specs.queue.laws.CompletionLaws.{completions-received, completions-moved, completions-failed, completions-persisted, completions-told}
+use Rattle.device_epochs.specs.queue.Faults.{is_number}
+use Rattle.device_epochs.specs.queue.laws.QueueLaws.{length-without}
 use Rattle.std.specs.Prelude.{◌+◌}
 use Rattle.std.proofs.Common.{◌∙◌}
 use Rattle.std.proofs.lemmas.Bool.{cases_eq}
 use Rattle.flog_device.specs.Device.{FlogState, FlogSetup, free_places, all_programmed, Write, Program, Fold, folded_from, opened, fails_next, is_off, received, transferable, performed, failed_on, transferred, persistable, written, persisted, tells_cut, answered_from, answered, seen}
-use Rattle.command_queue.specs.laws.EpochLaws.{present-received, present-moved, moved-received, moved-moved, epoch_of_eligible}
-use Rattle.command_queue.specs.laws.PendingLaws.{pending-received, pending-moved, pending-failed, lost-lt, faults-moved, faults-failed, not-number}
+use Rattle.device_epochs.specs.queue.laws.EpochLaws.{present-received, present-moved, moved-received, moved-moved, epoch_of_eligible}
+use Rattle.device_epochs.specs.queue.laws.PendingLaws.{pending-received, pending-moved, pending-failed, lost-lt, faults-moved, faults-failed, not-number}
 use Rattle.flog_device.specs.laws.OrderLaws.{surface_blocks}
 use Rattle.flog_device.specs.Device.{programs, folds}
 use Rattle.flog_device.specs.laws.CountLaws.{counts-received, counts-moved, counts-failed, counts-programmed, counts-folded, counts-answered_from}
 use Rattle.flog_device.specs.laws.StateLaws.{lost-none, pending-is, waits, numbered}
-use Rattle.command_queue.specs.laws.QueueLaws.{commands-received, queue-received, queue-moved, eligible-waits}
+use Rattle.device_epochs.specs.queue.laws.QueueLaws.{commands-received, queue-received, queue-moved, eligible-waits}
 use Rattle.flog_device.specs.laws.StepLaws.{untold, transferable-In, tried-all, persistable-In, fold-first}
-use Rattle.command_queue.specs.Facts.{CompletionFacts}
+use Rattle.device_epochs.specs.queue.Facts.{CompletionFacts}
 use Rattle.flog_device.specs.laws.Valid.{LogFacts, with_waiting, IsValid}
 
 -- the completions where no transfer failed

@@ -12,24 +12,24 @@ use Rattle.order_model.specs.Received.{ids_of, all_ids}
 use Rattle.order_model.specs.Device.{is_ordered, Completes, TellsCut, IsUnmoved, TellsFailure, completion_id}
 use Rattle.order_model.specs.Steps.{Progresses}
 use Rattle.order_model.proofs.Received.{all_ids-In}
-use Rattle.command_queue.specs.Queue.{Waiting, have_common_block, stands_in_way, is_free, eligible, AreNumbered}
+use Rattle.device_epochs.specs.queue.Queue.{Waiting, have_common_block, stands_in_way, is_free, eligible, AreNumbered}
 use Rattle.std.proofs.lemmas.Bool.{le-leb}
 use Rattle.std.proofs.lemmas.Nat.{div-add-mod', mod_below}
 use Rattle.std.proofs.Common.{length-append}
 use Rattle.std.specs.Prelude.{nat_le, if◌then◌else◌}
-use Rattle.command_queue.specs.laws.QueueLaws.{eligible-waits}
+use Rattle.device_epochs.specs.queue.laws.QueueLaws.{eligible-waits}
 use Rattle.flog_device.specs.laws.StateLaws.{waits}
 use Rattle.flog_device.specs.Log.{Page}
-use Rattle.command_queue.specs.laws.PendingLaws.{number-is, is-number}
+use Rattle.device_epochs.specs.queue.laws.PendingLaws.{number-is, is-number}
 use Rattle.flog_device.specs.Device.{FlogState, fails_next, is_off, has_room, may_transfer, has_stopped, transferable, tried, transferred, persistable, written, persisted, answers_left, answered, all_programmed, free_places, Program, Fold, programs, folds, seen}
-use Rattle.command_queue.specs.Facts.{IsDone, CompletionFacts}
+use Rattle.device_epochs.specs.queue.Facts.{IsDone, CompletionFacts}
 use Rattle.flog_device.specs.laws.Valid.{work, page_work, work_left, IsValid}
-use Rattle.command_queue.specs.laws.QueueLaws.{some_ids}
-use Rattle.command_queue.specs.laws.PendingLaws.{lost-some}
+use Rattle.device_epochs.specs.queue.laws.QueueLaws.{some_ids}
+use Rattle.device_epochs.specs.queue.laws.PendingLaws.{lost-some}
 use Rattle.flog_device.specs.laws.StateLaws.{pending-is, numbered}
 use Rattle.flog_device.specs.laws.StepLaws.{transferable-waits, is-transferable, tried-fails, tried-moves, persistable-In}
 use Rattle.flog_device.specs.laws.OrderLaws.{kept_is_moved}
-use Rattle.command_queue.specs.laws.CompletionLaws.{id-In_completions, cut-told, cut-seen, completions-seen, moved-seen, flushed-seen, failed-seen}
+use Rattle.device_epochs.specs.queue.laws.CompletionLaws.{id-In_completions, cut-told, cut-seen, completions-seen, moved-seen, flushed-seen, failed-seen}
 use Rattle.flog_device.specs.laws.CountLaws.{work_left-moved, work_left-failed, work_left-written, work_left-answered}
 
 -- ---- completions, the power and failed transfers

@@ -2,9 +2,9 @@
 use Rattle.std.specs.Prelude.{◌≡◌, false, [], None}
 use Rattle.std.proofs.Common.{sym, subst}
 use Rattle.blk_base.specs.Members.{In}
-use Rattle.command_queue.specs.Queue.{Waiting, AreNumbered}
-use Rattle.command_queue.specs.laws.PendingLaws.{waits-pending, nothing-lost, all-wait, in_queue-numbered, empty-waits}
-use Rattle.command_queue.specs.Facts.{PendingFacts}
+use Rattle.device_epochs.specs.queue.Queue.{Waiting, AreNumbered}
+use Rattle.device_epochs.specs.queue.laws.PendingLaws.{waits-pending, nothing-lost, all-wait, in_queue-numbered, empty-waits}
+use Rattle.device_epochs.specs.queue.Facts.{PendingFacts}
 use Rattle.flog_device.specs.Device.{FlogState}
 use Rattle.flog_device.specs.laws.Valid.{IsValid}
 

@@ -11,15 +11,15 @@ use Rattle.order_model.specs.declared.completion.Completion.{Completion}
 use Rattle.order_model.specs.declared.completion.Completion.TheVariants.{Cut}
 use Rattle.order_model.specs.Received.{transfers as moved_parts, epoch_of, all_parts, first_part, completions_of, failures_of}
 use Rattle.order_model.specs.Steps.{Receives, Tells, Transfers, Persists, Answers}
-use Rattle.command_queue.specs.Queue.{Waiting, eligible}
+use Rattle.device_epochs.specs.queue.Queue.{Waiting, eligible}
 use Rattle.flog_device.specs.Log.{Place, Page, prefix, places, pages, laid, laid_origins}
 use Rattle.flog_device.specs.laws.LogFacts.{prefix-unprogrammed}
 use Rattle.flog_device.specs.laws.LogSteps.{pages-unprogrammed, laid-received, given-lt, In-kept_given}
 use Rattle.flog_device.specs.Device.{Write, Program, Fold, programs, folds, folded_from, FlogState, fails_next, is_off, received, may_transfer, has_stopped, transferable, performed, failed_on, tried, transferred, persistable, written, persisted, tells_cut, answers_left, next_answer, answered, answered_from, seen}
 use Rattle.flog_device.specs.laws.StateLaws.{waits, pending-is}
-use Rattle.command_queue.specs.laws.EpochLaws.{epoch_of_eligible}
-use Rattle.command_queue.specs.laws.PendingLaws.{number-is, not-number}
-use Rattle.command_queue.specs.laws.QueueLaws.{eligible-waits}
+use Rattle.device_epochs.specs.queue.laws.EpochLaws.{epoch_of_eligible}
+use Rattle.device_epochs.specs.queue.laws.PendingLaws.{number-is, not-number}
+use Rattle.device_epochs.specs.queue.laws.QueueLaws.{eligible-waits}
 use Rattle.flog_device.specs.laws.Valid.{with_waiting, IsValid}
 
 -- ---- which steps can be taken

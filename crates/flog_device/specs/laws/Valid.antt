@@ -6,9 +6,9 @@ use Rattle.order_model.specs.declared.part.Part.{Part}
 use Rattle.order_model.specs.declared.command.Command.{Command}
 use Rattle.order_model.specs.declared.history.Transfer.{Transfer}
 use Rattle.order_model.specs.Received.{all_parts, all_ids, ids_of, part_at, command_of_part, epoch_of, IsFlush}
-use Rattle.command_queue.specs.Queue.{Waiting}
-pub use Rattle.command_queue.specs.Facts.{with_waiting}
-use Rattle.command_queue.specs.Facts.{IsDone, CommandFacts, QueueFacts, IsPresent, MovedFacts, PendingFacts, FaultFacts, CompletionFacts}
+use Rattle.device_epochs.specs.queue.Queue.{Waiting}
+pub use Rattle.device_epochs.specs.queue.Facts.{with_waiting}
+use Rattle.device_epochs.specs.queue.Facts.{IsDone, CommandFacts, QueueFacts, IsPresent, MovedFacts, PendingFacts, FaultFacts, CompletionFacts}
 use Rattle.flog_device.specs.Log.{Place, Page, prefix, places}
 use Rattle.flog_device.specs.Device.{FlogState, is_off}
 use Rattle.flog_device.specs.laws.LogFacts.{InOrder, Rises, top, body_over}

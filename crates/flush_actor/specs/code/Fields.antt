@@ -5,9 +5,9 @@ use Rattle.order_model.specs.declared.completion.Completion.{Completion}
 use Rattle.order_model.specs.declared.note.Note.{Note}
 use Rattle.order_model.specs.declared.request.Request.{Request}
 use Rattle.blk_base.specs.Members.{In}
-use Rattle.conflict_pages.specs.Commits.{CommitTable, is_committed}
-use Rattle.conflict_pages.specs.Conflicts.{ConflictTable}
-use Rattle.conflict_pages.specs.declared.commits.CommitBlock.{CommitBlock}
+use Rattle.flush_actor.specs.conflicts.Commits.{CommitTable, is_committed}
+use Rattle.flush_actor.specs.conflicts.Conflicts.{ConflictTable}
+use Rattle.flush_actor.specs.declared.conflicts.commits.CommitBlock.{CommitBlock}
 use Rattle.flush_actor.specs.Actor.{Submission, Completed}
 use Rattle.flush_actor.specs.Part.{is_cut, first_failed, is_moved, is_flushed_after, flush_above, last_put}
 use Rattle.flush_actor.specs.Steps.{commits_before}

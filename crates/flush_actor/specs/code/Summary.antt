@@ -4,8 +4,8 @@ use Rattle.order_model.specs.declared.completion.Completion.TheVariants as compl
 use Rattle.order_model.specs.declared.completion.Completion.{Completion}
 use Rattle.order_model.specs.declared.note.Note.TheVariants as notes
 use Rattle.order_model.specs.declared.note.Note.{Note}
-use Rattle.conflict_pages.specs.Commits.{with_commit}
-use Rattle.conflict_pages.specs.declared.commits.CommitBlock.{CommitBlock}
+use Rattle.flush_actor.specs.conflicts.Commits.{with_commit}
+use Rattle.flush_actor.specs.declared.conflicts.commits.CommitBlock.{CommitBlock}
 use Rattle.flush_actor.specs.Part.{is_flush_note}
 
 -- the number is above id

@@ -12,18 +12,18 @@ use Rattle.flush_actor.specs.Part.{is_cut, first_failed}
 use Rattle.flush_actor.specs.Waits.{no_wait}
 use Rattle.flush_actor.specs.declared.call_kind.CallKind.{CallKind}
 use Rattle.flush_actor.specs.declared.wait.Wait.{Wait}
-use Rattle.tx_running.specs.Plan.{Writers}
+use Rattle.journal_ring.specs.running.Plan.{Writers}
 use Rattle.host_machine.specs.Causes.{Cause}
 use Rattle.host_machine.specs.Host.{Stepped}
 use Rattle.host_machine.specs.Outcomes as outcomes
 use Rattle.host_machine.specs.State.{Ending, Answered, Down, ReadOnly, SessionFull, What, Begins, Ends, Begun, Thread, Host}
-use Rattle.host_volume.specs.Calls.{kind_of, node_of, refusal}
+use Rattle.minix_host.specs.Calls.{kind_of, node_of, refusal}
 use Rattle.host_answers.specs.declared.step.Cause.TheVariants as reasons
-use Rattle.begun_calls.specs.Causes.{cause_is}
-use Rattle.begun_calls.specs.Steps.{Gone, goes_on, listed}
-use Rattle.begun_calls.specs.Steps as begun
-use Rattle.plain_calls.specs.Steps.{CallParts, steps_plainly}
-use Rattle.plain_calls.specs.Steps as plain
+use Rattle.host_core.specs.begun.Causes.{cause_is}
+use Rattle.host_core.specs.begun.Steps.{Gone, goes_on, listed}
+use Rattle.host_core.specs.begun.Steps as begun
+use Rattle.host_core.specs.at_once.Steps.{CallParts, steps_plainly}
+use Rattle.host_core.specs.at_once.Steps as plain
 use Rattle.host_core.specs.declared.found.Found.{Found}
 use Rattle.host_core.specs.declared.found.Found.TheVariants as found
 use Rattle.host_core.specs.declared.parts.Parts.{Parts}

@@ -2,7 +2,7 @@
 use Rattle.std.specs.Prelude.{◌≡◌, ℕ, ◌⊎◌, Bool, true, false, List, [], ◌∷◌}
 use Rattle.order_model.specs.declared.note.Note.TheVariants as notes
 use Rattle.order_model.specs.declared.note.Note.{Note}
-use Rattle.tx_running.specs.Plan.{Planned}
+use Rattle.journal_ring.specs.running.Plan.{Planned}
 
 abbrev pub is_plan_note : Note → Bool
 is_plan_note notes.Super = true

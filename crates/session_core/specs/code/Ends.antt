@@ -4,10 +4,10 @@ use Rattle.order_model.specs.Carrying.{SchedSeen, IsPrefixOf}
 use Rattle.order_model.specs.Device.{origin_ids}
 use Rattle.order_model.specs.Machine.{Machine}
 use Rattle.order_model.specs.Steps.{IsTraceOf}
-use Rattle.barrier_reassign.specs.Scheduler.{SchedSteps, IsSchedRecord}
+use Rattle.schedulers.specs.reassign.Scheduler.{SchedSteps, IsSchedRecord}
 use Rattle.stack_core.specs.Headline.{KeepsOrder}
 use Rattle.session_grammar.specs.declared.session_script.SessionScript.{SessionScript}
-use Rattle.session_machine.specs.Machine.{SessionState, core_session}
+use Rattle.session_run.specs.machine.Machine.{SessionState, core_session}
 use Rattle.session_run.specs.declared.session.SessionEnd.{SessionEnd}
 use Rattle.session_core.specs.Core.{EndState, IsDeviceOf, opening_of, start_of}
 pub use Rattle.session_core.specs.Core.{IsBehind}

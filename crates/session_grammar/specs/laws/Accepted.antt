@@ -2,8 +2,8 @@
 -- left out, and that header lines may stand in any order.
 use Rattle.std.specs.Prelude.{◌≡◌, ℕ, ◌++◌, ◌||◌, Bool, true, List, [], ◌∷◌, codes, map}
 use Rattle.blk_base.specs.Members.{In}
-use Rattle.event_grammar.specs.declared.event.EventLine.{EventLine}
-use Rattle.event_grammar.specs.laws.Speller.{SaysEvent}
+use Rattle.line_grammar.specs.declared.events.event.EventLine.{EventLine}
+use Rattle.line_grammar.specs.events.laws.Speller.{SaysEvent}
 use Rattle.script_grammar.specs.laws.Accepted.{begins, beginning, or_default}
 use Rattle.session_grammar.specs.declared.session_script.SessionHeader.{SessionHeader}
 use Rattle.session_grammar.specs.declared.session_script.SessionScript.{SessionScript}

@@ -2,8 +2,8 @@
 use Rattle.std.specs.Prelude.{ℕ, ◌+◌, ◌++◌, ◌==◌, Bool, List, [], ◌∷◌, codes, length, map, take, drop, Option, Some, None, if◌then◌else◌}
 use Rattle.std.specs.Fmt.{decimal}
 use Rattle.tree_model.specs.declared.call.Call.{Call}
-use Rattle.event_grammar.specs.declared.steer.Steer.{Steer}
-use Rattle.event_grammar.specs.laws.Speller.{event_line_words, steer_words}
+use Rattle.line_grammar.specs.declared.events.steer.Steer.{Steer}
+use Rattle.line_grammar.specs.events.laws.Speller.{event_line_words, steer_words}
 use Rattle.script_words.specs.Spelling.{words_of}
 use Rattle.script_words.specs.laws.Texts.{lines_text}
 use Rattle.session_grammar.specs.declared.session_script.SessionHeader.{SessionHeader}

@@ -4,7 +4,7 @@ use Rattle.order_model.specs.declared.command.Command.{Command}
 use Rattle.order_model.specs.declared.completion.Completion.{Completion}
 use Rattle.order_model.specs.declared.request.Request.{Request}
 use Rattle.stack_core.specs.BlockLayer.{QueuesState}
-use Rattle.session_machine.specs.Machine.{is_full}
+use Rattle.session_run.specs.machine.Machine.{is_full}
 
 pub record QueuesNow : Type 0 where
   -- the most items that each queue holds

@@ -1,12 +1,12 @@
 -- Which states a session reaches.
 use Rattle.std.specs.Prelude.{◌≡◌, List}
 use Rattle.order_model.specs.Machine.{Machine}
-use Rattle.barrier_reassign.specs.Scheduler.{SchedSteps}
-use Rattle.event_grammar.specs.declared.event.CoreEvent.{CoreEvent}
+use Rattle.schedulers.specs.reassign.Scheduler.{SchedSteps}
+use Rattle.line_grammar.specs.declared.events.event.CoreEvent.{CoreEvent}
 use Rattle.host_core.specs.Now.{HostNow}
-use Rattle.host_runs.specs.Runs.{Event}
+use Rattle.host_machine.specs.runs.Runs.{Event}
 use Rattle.session_run.specs.CodeHosts.{IsInSession}
-use Rattle.session_machine.specs.Machine.{SessionState, opened_session, run_events}
+use Rattle.session_run.specs.machine.Machine.{SessionState, opened_session, run_events}
 use Rattle.session_run.specs.Beginning.{Beginning, CanBegin}
 
 -- the code's host is in this session, after these steps

@@ -2,11 +2,11 @@
 use Rattle.std.specs.Prelude.{List, length}
 use Rattle.order_model.specs.declared.device.OrderedDev as devices
 use Rattle.order_model.specs.Machine.{machine_of}
-use Rattle.barrier_reassign.specs.declared.scheduler.Scheduler as schedulers
-use Rattle.event_grammar.specs.declared.event.CoreEvent.{CoreEvent}
+use Rattle.schedulers.specs.declared.reassign.scheduler.Scheduler as schedulers
+use Rattle.line_grammar.specs.declared.events.event.CoreEvent.{CoreEvent}
 use Rattle.host_core.specs.Now.{HostNow}
-use Rattle.host_volume.specs.Sessions.{Opening}
-use Rattle.session_machine.specs.Machine.{SessionState, happens, run_events}
+use Rattle.minix_host.specs.Sessions.{Opening}
+use Rattle.session_run.specs.machine.Machine.{SessionState, happens, run_events}
 use Rattle.session_run.specs.declared.running.Running.{Running}
 use Rattle.session_run.specs.code.Queues.{QueuesNow, layer_queues}
 use Rattle.session_run.specs.Beginning.{Beginning}

@@ -1,6 +1,6 @@
 -- A small speller of a store's scripts.
 use Rattle.std.specs.Prelude.{ℕ, ◌++◌, List, [], ◌∷◌, codes, map}
-use Rattle.event_grammar.specs.laws.Speller.{event_line_words}
+use Rattle.line_grammar.specs.events.laws.Speller.{event_line_words}
 use Rattle.script_words.specs.laws.Texts.{lines_text}
 use Rattle.session_grammar.specs.laws.Speller.{number_words, number_lines, recover_words}
 use Rattle.wal_store.specs.declared.puts.Op.{Op}

@@ -1,7 +1,7 @@
 -- A rename as the code has it.
 use Rattle.std.specs.Prelude.{◌≡◌, ◌+◌, ℕ, List, length, Some}
 use Rattle.std.specs.Option.{option_map}
-use Rattle.dir_ops.specs.Slots.{used_count}
+use Rattle.minix_tables.specs.directories.Slots.{used_count}
 use Rattle.tree_model.specs.Maps.{at_name}
 use Rattle.tree_model.specs.Calls.{Found, Place, Move}
 use Rattle.volume_model.specs.Trees.{directory_from, node_now}

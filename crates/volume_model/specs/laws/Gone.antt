@@ -17,7 +17,7 @@ use Rattle.tree_model.specs.laws.MapsLaws.{name_here, name_same}
 use Rattle.tree_model.specs.Paths.{is_dot}
 use Rattle.volume_model.specs.declared.placed.Placed.{Placed}
 use Rattle.volume_model.specs.declared.placed.DirectoryPart.{DirectoryPart}
-use Rattle.dir_ops.specs.laws.Slots.{free-count}
+use Rattle.minix_tables.specs.directories.laws.Slots.{free-count}
 use Rattle.volume_model.specs.Volume.{HasNames}
 use Rattle.volume_model.specs.Moves.{without}
 

@@ -10,10 +10,10 @@ use Rattle.tree_model.specs.laws.MapsLaws.{at_put_name, at_put_name_cases, at_pu
 use Rattle.tree_model.specs.Paths.{is_dot}
 use Rattle.volume_model.specs.declared.placed.Placed.{Placed}
 use Rattle.volume_model.specs.declared.placed.DirectoryPart.{DirectoryPart}
-use Rattle.dir_ops.specs.Slots.{room, with_slot}
+use Rattle.minix_tables.specs.directories.Slots.{room, with_slot}
 use Rattle.volume_model.specs.Volume.{HasNumber, HasNames}
 use Rattle.volume_model.specs.Moves.{with_name}
-use Rattle.dir_ops.specs.laws.Slots.{room-within, room-free, with_slot-here, with_slot-other, with_slot-kept, with_slot-count}
+use Rattle.minix_tables.specs.directories.laws.Slots.{room-within, room-free, with_slot-here, with_slot-other, with_slot-kept, with_slot-count}
 use Rattle.volume_model.specs.laws.Trees.{length_put_new}
 
 module _ (nodes : List (ℕ × Placed)) (d : DirectoryPart) (s : Slot) (birth : ℕ) (h : HasNames nodes d)

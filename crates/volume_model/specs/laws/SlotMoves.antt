@@ -23,7 +23,7 @@ use Rattle.volume_ops.specs.Volume.{disk_of}
 use Rattle.volume_model.specs.declared.placed.Placed.{Placed}
 use Rattle.volume_model.specs.declared.placed.Part.TheVariants as parts
 use Rattle.volume_model.specs.declared.placed.DirectoryPart.{DirectoryPart}
-use Rattle.dir_ops.specs.Slots.{room}
+use Rattle.minix_tables.specs.directories.Slots.{room}
 use Rattle.volume_model.specs.Edits.{put_slot, edited}
 use Rattle.volume_model.specs.Changes.{Changes}
 use Rattle.volume_model.specs.Volume.{Place, block, indirect, double, inner, zone_in, IsOfNumbers, HasSlot, IsDirectoryPart, IsPart, HasNumber, HasNames}
@@ -36,7 +36,7 @@ use Rattle.volume_model.specs.laws.Zones.{zones_kept}
 use Rattle.volume_model.specs.laws.OnWay.{just_same}
 use Rattle.volume_model.specs.laws.MapBlock.{IsFit}
 use Rattle.volume_model.specs.laws.ZoneMoves.{MayMove, moved_stands, moved_just, theirs_apart, no_numbers}
-use Rattle.dir_ops.specs.laws.Slots.{room-within, with_slot-here, with_slot-other, length-with_slot_most}
+use Rattle.minix_tables.specs.directories.laws.Slots.{room-within, with_slot-here, with_slot-other, length-with_slot_most}
 use Rattle.volume_model.specs.laws.Gone.{names_without}
 use Rattle.volume_model.specs.laws.Names.{names_with}
 

@@ -5,8 +5,8 @@ use Rattle.std.proofs.lemmas.Bool.{cases_Bool, eqb-true, eqb-false, ltb-true, lt
 use Rattle.std.proofs.lemmas.List.{drop_all}
 use Rattle.byte_fields.specs.Fields.{number_at, number_of}
 use Rattle.minix_layout.specs.declared.inode.Inode.{Inode}
-use Rattle.inode_ops.specs.Map.{zone_at, entry_behind, entry_behind_two}
-use Rattle.inode_ops.specs.laws.MapLaws.{zone_at-direct, zone_at-past}
+use Rattle.minix_tables.specs.inodes.Map.{zone_at, entry_behind, entry_behind_two}
+use Rattle.minix_tables.specs.inodes.laws.MapLaws.{zone_at-direct, zone_at-past}
 use Rattle.volume_ops.specs.Places.{zone_number}
 use Rattle.volume_ops.specs.Volume.{disk_of}
 use Rattle.volume_model.specs.Volume.{Place, block, indirect, double, inner, zone_in}

@@ -3,7 +3,7 @@ use Rattle.std.specs.Prelude.{◌≡◌, ◌≢◌, ℕ, ◌-◌, ◌/◌, ◌%�
 use Rattle.std.proofs.Common.{ap, ◌∙◌, inl, inr}
 use Rattle.std.proofs.lemmas.Bool.{cases_Bool, eqb-false}
 use Rattle.minix_layout.specs.declared.inode.Inode.{Inode}
-use Rattle.inode_ops.specs.Map.{zone_at, entry_behind, indirect_start, double_start, map_end}
+use Rattle.minix_tables.specs.inodes.Map.{zone_at, entry_behind, indirect_start, double_start, map_end}
 use Rattle.volume_ops.specs.Places.{zone_number}
 use Rattle.volume_ops.specs.Volume.{disk_of}
 use Rattle.volume_model.specs.Volume.{Place, block, indirect, double, inner, zone_in, IsOfNumbers, at_indirect, at_double, at_inner}

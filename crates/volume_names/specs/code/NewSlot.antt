@@ -2,7 +2,7 @@
 use Rattle.std.specs.Prelude.{◌%◌, ◌&&◌, nat_eq, length}
 use Rattle.minix_layout.specs.Widths.{slots_a_block}
 use Rattle.minix_layout.specs.declared.slot.Slot.{Slot}
-use Rattle.dir_ops.specs.Slots.{room, with_slot}
+use Rattle.minix_tables.specs.directories.Slots.{room, with_slot}
 use Rattle.volume_model.specs.declared.placed.DirectoryPart.{DirectoryPart}
 use Rattle.volume_names.specs.declared.directories.NewSlot.{NewSlot}
 

@@ -19,7 +19,7 @@ use Rattle.volume_model.specs.Touched.{Touched, and_then}
 use Rattle.volume_model.specs.Moves.{opened, closed, with_size, with_name, back_told}
 use Rattle.volume_steps.specs.Now.{VolumeNow, Change, with_contents, written, unchanged, followed_by, tells_writes}
 use Rattle.volume_steps.specs.Zones.{inode_bit, zone_bit, next_zone, take_zones}
-use Rattle.zone_maps.specs.Zones.{taken}
+use Rattle.minix_tables.specs.zones.Zones.{taken}
 use Rattle.volume_steps.specs.Steps.{at_node, tells_node, set_links, new_file_inode, new_directory_edits}
 use Rattle.volume_names.specs.declared.directories.NewSlot.{NewSlot}
 

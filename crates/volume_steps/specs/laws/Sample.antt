@@ -6,8 +6,8 @@ use Rattle.minix_layout.specs.declared.division.Geometry.{Geometry}
 use Rattle.minix_layout.specs.Geometry.{geometry_made}
 use Rattle.tree_model.specs.declared.call.Call.{Call}
 use Rattle.tree_model.specs.declared.call.Call.TheVariants as calls
-use Rattle.zone_maps.specs.declared.zone_state.ZoneState.{ZoneState}
-use Rattle.zone_maps.specs.Zones.{made}
+use Rattle.minix_tables.specs.declared.zones.zone_state.ZoneState.{ZoneState}
+use Rattle.minix_tables.specs.zones.Zones.{made}
 use Rattle.volume_model.specs.declared.placed.Placed.{Placed}
 use Rattle.volume_model.specs.NewVolume.{new_volume}
 use Rattle.volume_model.specs.Touched.{Touched, and_then}

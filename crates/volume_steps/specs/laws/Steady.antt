@@ -5,8 +5,8 @@ use Rattle.minix_layout.specs.declared.division.Geometry.{Geometry}
 use Rattle.minix_layout.specs.declared.bits.BitPlace.{BitPlace}
 use Rattle.minix_layout.specs.Bits.{inode_bit, zone_bit, has_bit}
 use Rattle.tree_model.specs.Maps.{at_number}
-use Rattle.zone_maps.specs.declared.zone_state.ZoneState.TheVariants as states
-use Rattle.zone_maps.specs.Zones.{Zones, state_of}
+use Rattle.minix_tables.specs.declared.zones.zone_state.ZoneState.TheVariants as states
+use Rattle.minix_tables.specs.zones.Zones.{Zones, state_of}
 use Rattle.volume_ops.specs.declared.found.Mapped.{Mapped}
 use Rattle.volume_model.specs.declared.placed.Placed.{Placed}
 use Rattle.volume_model.specs.declared.placed.Part.{Part}

@@ -1,8 +1,8 @@
 use Rattle.mount_make.specs.Made.{new_journal}
 use Rattle.mount_make.proofs.MadeImages.{made_kind}
-use Rattle.host_volume.proofs.RealJournal.{kind_written}
-use Rattle.made_sessions.specs.MadeSessions.{made_now, made_opening, made_ring}
-use Rattle.made_sessions.proofs.MadeJournal.{made_opened, made_empty}
+use Rattle.minix_host.proofs.RealJournal.{kind_written}
+use Rattle.call_sessions.specs.made.MadeSessions.{made_now, made_opening, made_ring}
+use Rattle.call_sessions.proofs.MadeLemmas.MadeJournal.{made_opened, made_empty}
 use Rattle.call_sessions.proofs.CallsKept.{calls_kept}
 use Rattle.call_sessions.proofs.laws.sessions_of_calls_on_made_images.Goals as goal
 

@@ -1,5 +1,5 @@
 use Rattle.commit_actor.proofs.Turns.{on_its_way}
-use Rattle.tx_running.specs.Closing.{writers}
+use Rattle.journal_ring.specs.running.Closing.{writers}
 use Rattle.commit_actor.proofs.journal_part.close.Goals as goal
 
 pub returns-in-Ok-clause-phase : goal.returns-in-Ok-clause-phase

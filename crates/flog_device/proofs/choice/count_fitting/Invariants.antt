@@ -1,5 +1,5 @@
 use Rattle.std.proofs.Common.{◌≡◌, ◌+◌, ◌≤◌, drop, filter, length}
-use Rattle.command_queue.specs.Queue.{Waiting, eligible}
+use Rattle.device_epochs.specs.queue.Queue.{Waiting, eligible}
 use Rattle.flog_device.specs.Device.{fits}
 use Rattle.flog_device.specs.code.Helpers.{fitting}
 use Rattle.flog_device.proofs.choice.count_fitting.Given as goal

@@ -1,5 +1,5 @@
 use Rattle.std.proofs.Common.{◌<◌, length, arith, rules}
-use Rattle.command_queue.specs.Queue.{eligible}
+use Rattle.device_epochs.specs.queue.Queue.{eligible}
 use Rattle.flog_device.proofs.Pages.{chosen-here, pick-yes, pick-no}
 use Rattle.flog_device.proofs.choice.find_fitting.Goals as goal
 use Rattle.flog_device.proofs.choice.find_fitting.Goals.{then-fits_at+else-left-eq0, else-fits_at}

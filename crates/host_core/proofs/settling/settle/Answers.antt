@@ -5,7 +5,7 @@ use Rattle.tree_model.specs.declared.call.Reply.{Reply}
 use Rattle.tree_model.specs.declared.call.Reply.TheVariants as replies
 use Rattle.volume_steps.specs.Now.{VolumeNow}
 use Rattle.flush_actor.specs.Waits.{no_wait}
-use Rattle.begun_calls.specs.Causes.{cause_is}
+use Rattle.host_core.specs.begun.Causes.{cause_is}
 use Rattle.host_machine.specs.Host.{Stepped}
 use Rattle.host_machine.specs.Outcomes as outcomes
 use Rattle.host_machine.specs.State as machine

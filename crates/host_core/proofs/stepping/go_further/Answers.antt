@@ -1,6 +1,6 @@
 use Rattle.std.proofs.Common.{slice_index_or, refl}
 use Rattle.flush_actor.specs.Waits.{no_wait}
-use Rattle.begun_calls.specs.code.Told.{gone_by, found_queue_full}
+use Rattle.host_core.specs.begun.code.Told.{gone_by, found_queue_full}
 use Rattle.host_core.specs.declared.parts.Parts.{Parts}
 use Rattle.host_core.proofs.Kept.{going_kept}
 use Rattle.host_core.proofs.stepping.go_further.Goals as goal

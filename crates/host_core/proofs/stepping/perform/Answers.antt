@@ -1,9 +1,9 @@
 use Rattle.std.proofs.Common.{ap, sym, ◌∙◌}
-use Rattle.tx_running.specs.Closing.{writers}
-use Rattle.tx_running.specs.Open.{quota}
-use Rattle.plain_calls.specs.Steps.{CallParts, Went}
-use Rattle.plain_calls.specs.code.Told.{progress_is}
-use Rattle.plain_calls.specs.declared.step.Progress.{Progress}
+use Rattle.journal_ring.specs.running.Closing.{writers}
+use Rattle.journal_ring.specs.running.Open.{quota}
+use Rattle.host_core.specs.at_once.Steps.{CallParts, Went}
+use Rattle.host_core.specs.at_once.code.Told.{progress_is}
+use Rattle.host_core.specs.declared.at_once.step.Progress.{Progress}
 use Rattle.host_core.specs.code.Progress.{parts_now}
 use Rattle.host_core.specs.declared.parts.Parts.{Parts}
 use Rattle.host_core.proofs.Kept.{any_err, plain_kept}

@@ -4,8 +4,8 @@ use Rattle.std.proofs.lemmas.Result.{IfOk-weaker}
 use Rattle.std.specs.Option.{option_map}
 use Rattle.flush_actor.specs.Actor.{FlushActor}
 use Rattle.flush_actor.specs.declared.call_kind.CallKind.{CallKind}
-use Rattle.tx_running.specs.Closing.{writers}
-use Rattle.tx_running.specs.Open.{quota}
+use Rattle.journal_ring.specs.running.Closing.{writers}
+use Rattle.journal_ring.specs.running.Open.{quota}
 use Rattle.host_machine.specs.State.{Begun}
 use Rattle.host_core.specs.code.Progress.{Went, Over, stop_of, goes_further, is_queue_full, list_of, parts_now, progress_is}
 use Rattle.host_core.proofs.Stops.{unstopped}

@@ -1,5 +1,5 @@
 use Rattle.std.proofs.Common.{arith}
-use Rattle.session_opening.specs.Opened.{no_pages}
+use Rattle.session_core.specs.opening.Opened.{no_pages}
 use Rattle.session_core.specs.Core.{geometry_of, opened_host}
 use Rattle.session_core.proofs.Made.{script_writes_bytes, made_for, sound_of, is_new}
 use Rattle.session_core.proofs.running.check_parts.Goals as goal

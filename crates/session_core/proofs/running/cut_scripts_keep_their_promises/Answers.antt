@@ -1,5 +1,5 @@
 use Rattle.std.proofs.Common.{refl, sym, subst, arith}
-use Rattle.tx_running.specs.Open.{quota}
+use Rattle.journal_ring.specs.running.Open.{quota}
 use Rattle.mount_make.specs.Made.{new_journal}
 use Rattle.session_run.specs.Beginning.{made_now, made_ring}
 use Rattle.session_core.specs.Core.{geometry_of, opening_of}

@@ -1,6 +1,6 @@
 -- All that a session asks for at its beginning.
 use Rattle.std.proofs.Common.{refl, arith}
-use Rattle.tx_running.specs.Open.{quota}
+use Rattle.journal_ring.specs.running.Open.{quota}
 use Rattle.mount_make.specs.Made.{new_journal}
 use Rattle.journal_ring.specs.Journal as new_ring
 use Rattle.call_sessions.specs.Sessions.{made_now, made_opening}

@@ -1,8 +1,8 @@
 -- The session begins as it was opened, and ends as the machine says.
 use Rattle.std.proofs.Common.{length, refl, sym, ap, subst, ◌∙◌}
 use Rattle.order_model.specs.Machine.{machine_of}
-use Rattle.host_volume.specs.Sessions.{Opening}
-use Rattle.session_machine.specs.Machine.{SessionState, Start, opened_session, core_session, events_of}
+use Rattle.minix_host.specs.Sessions.{Opening}
+use Rattle.session_run.specs.machine.Machine.{SessionState, Start, opened_session, core_session, events_of}
 use Rattle.session_run.specs.declared.session.SessionEnd.{SessionEnd}
 use Rattle.session_run.specs.Beginning.{Beginning}
 use Rattle.session_run.specs.Beginning.{IsMadeFor}

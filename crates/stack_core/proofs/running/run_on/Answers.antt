@@ -1,8 +1,8 @@
 -- The device and the scheduler that the script names stand as the script begins.
 use Rattle.std.proofs.Common.{sym, ap, subst, ◌∙◌}
-use Rattle.barrier_reassign.specs.declared.scheduler.TheConstants.{CAPACITY}
-use Rattle.barrier_reassign.specs.Sched as plain
-use Rattle.sched_elevator.specs.Elevator as elevator
+use Rattle.schedulers.specs.declared.reassign.scheduler.TheConstants.{CAPACITY}
+use Rattle.schedulers.specs.reassign.Sched as plain
+use Rattle.schedulers.specs.elevator.Elevator as elevator
 use Rattle.stack_core.specs.RequestPath.{PathFits, opened_path}
 use Rattle.stack_core.proofs.Opening.{path-opened}
 use Rattle.stack_core.proofs.running.run_on.Goals as goal

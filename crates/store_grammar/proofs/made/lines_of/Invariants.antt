@@ -1,5 +1,5 @@
 use Rattle.std.proofs.Common.{◌≡◌, ◌++◌, drop, map}
-use Rattle.store_calls.specs.CallText.{call_line}
+use Rattle.wal_store.specs.calls.CallText.{call_line}
 use Rattle.store_grammar.proofs.made.lines_of.Given as goal
 
 abbrev pub invariant-loop-call : goal.invariant-loop-call

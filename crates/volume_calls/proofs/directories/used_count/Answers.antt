@@ -1,5 +1,5 @@
 use Rattle.std.proofs.Common.{◌≡◌, ◌<◌, length, is_some, ap, ◌∙◌, subst, arith}
-use Rattle.dir_ops.specs.Slots.{slot_at}
+use Rattle.minix_tables.specs.directories.Slots.{slot_at}
 use Rattle.tree_model.specs.Calls.{one_if}
 use Rattle.volume_calls.proofs.DirectorySlots.{used_next, one_most}
 use Rattle.volume_calls.proofs.directories.used_count.Goals as goal

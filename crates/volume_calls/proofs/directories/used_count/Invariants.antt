@@ -1,5 +1,5 @@
 use Rattle.std.proofs.Common.{◌≡◌, ◌≤◌, take}
-use Rattle.dir_ops.specs.Slots.{used_count}
+use Rattle.minix_tables.specs.directories.Slots.{used_count}
 use Rattle.volume_calls.proofs.directories.used_count.Given as goal
 
 abbrev pub invariant-loop-at : goal.invariant-loop-at

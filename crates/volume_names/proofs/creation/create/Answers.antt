@@ -3,14 +3,14 @@ use Rattle.volume_model.specs.declared.placed.Placed.{Placed}
 use Rattle.volume_model.specs.declared.placed.Part.TheVariants as parts
 use Rattle.volume_ops.specs.declared.found.Mapped.{Mapped}
 use Rattle.minix_layout.specs.declared.inode.Inode.{Inode}
-use Rattle.dir_ops.specs.Slots.{place_of}
+use Rattle.minix_tables.specs.directories.Slots.{place_of}
 use Rattle.volume_steps.specs.Steps.{new_file_inode}
 use Rattle.volume_steps.specs.Calls.{create_in}
 use Rattle.volume_names.specs.code.NewSlot.{new_slot}
 use Rattle.volume_names.specs.May.{MayCreate}
 use Rattle.volume_names.specs.code.Steps.{entered, name_written}
 use Rattle.tree_model.specs.Maps.{put_number}
-use Rattle.volume_now.specs.Noted.{Noted}
+use Rattle.volume_in_use.specs.now.Noted.{Noted}
 use Rattle.volume_names.proofs.Changed.{volume_of, lowest_in}
 use Rattle.volume_names.proofs.Creates.{after_then, after_nothing, none, apart, no_place, some, may_be_written, created}
 use Rattle.volume_names.proofs.creation.create.Goals as goal

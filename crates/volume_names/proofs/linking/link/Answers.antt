@@ -2,9 +2,9 @@ use Rattle.std.proofs.Common.{ap, ◌∙◌, ◌≡◌, ◌<◌, ℕ, sym, subst
 use Rattle.std.proofs.lemmas.Option.{same_Some}
 use Rattle.minix_layout.specs.declared.slot.Slot.{Slot}
 use Rattle.volume_model.specs.declared.placed.Placed.{Placed}
-use Rattle.dir_ops.specs.Slots.{place_of}
+use Rattle.minix_tables.specs.directories.Slots.{place_of}
 use Rattle.volume_steps.specs.Calls.{link_in}
-use Rattle.volume_now.specs.Noted.{Noted}
+use Rattle.volume_in_use.specs.now.Noted.{Noted}
 use Rattle.volume_names.specs.May.{MayLink}
 use Rattle.volume_names.specs.code.NewSlot.{new_slot}
 use Rattle.volume_names.specs.code.Steps.{entered, name_written}

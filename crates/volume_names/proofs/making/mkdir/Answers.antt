@@ -1,10 +1,10 @@
 use Rattle.std.proofs.Common.{ap, ◌∙◌, sym, subst}
 use Rattle.minix_layout.specs.declared.slot.Slot.{Slot}
-use Rattle.dir_ops.specs.Slots.{place_of}
+use Rattle.minix_tables.specs.directories.Slots.{place_of}
 use Rattle.tree_model.specs.Maps.{put_number}
 use Rattle.volume_steps.specs.Now.{followed_by}
 use Rattle.volume_steps.specs.Calls.{mkdir_in}
-use Rattle.volume_now.specs.Noted.{Noted}
+use Rattle.volume_in_use.specs.now.Noted.{Noted}
 use Rattle.volume_names.specs.May.{MayMkdir}
 use Rattle.volume_names.specs.code.NewSlot.{new_slot}
 use Rattle.volume_names.specs.code.Steps.{entered, name_written, more_links}

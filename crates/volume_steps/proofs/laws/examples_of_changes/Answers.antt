@@ -1,9 +1,9 @@
 -- What the definitions compute.
 use Rattle.std.specs.Prelude.{refl}
-use Rattle.inode_ops.specs.Map.{zone_at}
+use Rattle.minix_tables.specs.inodes.Map.{zone_at}
 use Rattle.tree_model.specs.Paths.{path_of}
 use Rattle.tree_model.specs.Calls.{outcome, row, used_zones, file_zones, mapped_groups}
-use Rattle.dir_ops.specs.Slots.{with_slot}
+use Rattle.minix_tables.specs.directories.Slots.{with_slot}
 use Rattle.volume_model.specs.MapBlock.{map_block}
 use Rattle.volume_model.specs.Moves.{inode_told, inode_written}
 use Rattle.volume_model.specs.Trees.{tree_now}

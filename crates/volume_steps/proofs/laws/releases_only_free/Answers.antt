@@ -1,5 +1,5 @@
 use Rattle.std.specs.Prelude.{refl}
-use Rattle.zone_maps.specs.laws.Lasting.{release_frees, release_keeps}
+use Rattle.minix_tables.specs.zones.laws.Lasting.{release_frees, release_keeps}
 use Rattle.volume_steps.proofs.Release.{release_plain}
 use Rattle.volume_steps.proofs.laws.releases_only_free.Goals as goal
 

@@ -2,12 +2,12 @@ use Rattle.std.proofs.Common.{◌≡◌, ◌<◌, ◌^◌, ℕ, List, not, true,
 use Rattle.log_model.specs.Marks.{Logged}
 use Rattle.log_model.specs.Ring.{IsPlace}
 use Rattle.journal_blocks.specs.declared.super_block.JournalSuper.{JournalSuper}
-use Rattle.conflict_pages.specs.Conflicts.{hold}
+use Rattle.flush_actor.specs.conflicts.Conflicts.{hold}
 use Rattle.journal_ring.specs.Journal.{JournalRing}
 use Rattle.journal_ring.specs.LogRing.{ring_free, place_blocks}
-use Rattle.tx_running.specs.Closing.{writers, logged_of, unplaced_blocks}
-use Rattle.tx_running.specs.Open.{OpenTransaction, sequence_of}
-use Rattle.tx_running.specs.Running.{log_needs}
+use Rattle.journal_ring.specs.running.Closing.{writers, logged_of, unplaced_blocks}
+use Rattle.journal_ring.specs.running.Open.{OpenTransaction, sequence_of}
+use Rattle.journal_ring.specs.running.Running.{log_needs}
 use Rattle.flush_actor.specs.Actor.{FlushActor}
 use Rattle.commit_actor.specs.Actor.{LogState, part_of}
 use Rattle.commit_actor.specs.Journal.{Closing, Committing}

@@ -1,6 +1,6 @@
 use Rattle.std.proofs.Common.{ℕ, List, ap, sym, ◌∙◌, nat_le, Some, ◌+◌}
 use Rattle.order_model.specs.declared.note.Note.TheVariants.{Super}
-use Rattle.tx_running.specs.Plan.{Planned}
+use Rattle.journal_ring.specs.running.Plan.{Planned}
 use Rattle.commit_actor.proofs.Plans.{first_super, first_piece}
 use Rattle.commit_actor.proofs.sending.Sending.first.Goals as goal
 

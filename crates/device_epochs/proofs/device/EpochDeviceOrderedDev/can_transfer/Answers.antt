@@ -1,5 +1,5 @@
 use Rattle.std.proofs.Common.{length, sym, ap, ◌∙◌}
-use Rattle.command_queue.specs.Queue.{eligible}
+use Rattle.device_epochs.specs.queue.Queue.{eligible}
 use Rattle.device_epochs.specs.Device.{DeviceState}
 use Rattle.device_epochs.proofs.Moves.{transferable_free, transferable_held}
 use Rattle.device_epochs.proofs.device.EpochDeviceOrderedDev.can_transfer.Goals as goal

@@ -2,7 +2,7 @@ use Rattle.std.proofs.Common.{◌≡◌, true, sym, ap, subst, arith}
 use Rattle.order_model.specs.declared.command.Command.{Command}
 use Rattle.order_model.specs.History.{HistoryState}
 use Rattle.order_model.specs.Device.{IsReceivable}
-use Rattle.command_queue.specs.Queue.{arrived}
+use Rattle.device_epochs.specs.queue.Queue.{arrived}
 use Rattle.device_epochs.specs.Device.{DeviceState, seen, has_room}
 use Rattle.device_epochs.specs.laws.Valid.{IsValid}
 use Rattle.device_epochs.specs.code.Fields.{state_of}

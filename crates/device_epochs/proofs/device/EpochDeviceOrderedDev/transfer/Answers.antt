@@ -4,14 +4,14 @@ use Rattle.order_model.specs.declared.part.Part.{Part}
 use Rattle.order_model.specs.declared.completion.Completion.{Completion}
 use Rattle.order_model.specs.declared.history.Transfer.{Transfer}
 use Rattle.order_model.specs.History.{HistoryState}
-use Rattle.command_queue.specs.Queue.{Waiting, departed}
+use Rattle.device_epochs.specs.queue.Queue.{Waiting, departed}
 use Rattle.order_model.specs.Received.{transfers}
 use Rattle.device_epochs.specs.Cache.{entries, put_all}
 use Rattle.device_epochs.specs.Device.{DeviceState, transferable, transferred}
 use Rattle.device_epochs.specs.laws.Valid.{IsValid}
 use Rattle.device_epochs.specs.code.Fields.{state_of}
-use Rattle.command_queue.specs.laws.CompletionLaws.{failures-split}
-use Rattle.command_queue.specs.laws.EpochLaws.{length-transfers}
+use Rattle.device_epochs.specs.queue.laws.CompletionLaws.{failures-split}
+use Rattle.device_epochs.specs.queue.laws.EpochLaws.{length-transfers}
 use Rattle.device_epochs.specs.laws.StepLaws.{no_transfer}
 use Rattle.device_epochs.proofs.Moves.{can_move_from, failed_to, moved_to, a_step, no_step, held-le, no_command-le}
 use Rattle.device_epochs.proofs.device.EpochDeviceOrderedDev.transfer.Goals as goal

@@ -1,6 +1,6 @@
 use Rattle.std.proofs.Common.{map, ap, ◌∙◌, arith}
 use Rattle.order_model.specs.Received.{all_parts}
-use Rattle.command_queue.specs.Told.{id_at}
+use Rattle.device_epochs.specs.queue.Told.{id_at}
 use Rattle.order_model.specs.Device.{origin_ids}
 use Rattle.flog_device.specs.Device.{FlogState, surface_origins}
 use Rattle.flog_device.specs.laws.BoundLaws.{all_parts-le}

@@ -4,13 +4,13 @@ use Rattle.order_model.specs.declared.part.Part.{Part}
 use Rattle.order_model.specs.declared.completion.Completion.{Completion}
 use Rattle.order_model.specs.declared.history.Transfer.{Transfer}
 use Rattle.order_model.specs.History.{HistoryState}
-use Rattle.command_queue.specs.Queue.{Waiting, departed}
+use Rattle.device_epochs.specs.queue.Queue.{Waiting, departed}
 use Rattle.order_model.specs.Received.{transfers}
 use Rattle.flog_device.specs.Log.{pages}
 use Rattle.flog_device.specs.Device.{FlogState, transferable, transferred}
 use Rattle.flog_device.specs.laws.Valid.{IsValid}
 use Rattle.flog_device.specs.code.Fields.{state_of}
-use Rattle.command_queue.specs.laws.CompletionLaws.{failures-split}
+use Rattle.device_epochs.specs.queue.laws.CompletionLaws.{failures-split}
 use Rattle.flog_device.proofs.Moves.{can_move_from, orderly_from, failed_to, moved_to, a_step, no_step, none_fits}
 use Rattle.flog_device.proofs.device.FlogDeviceOrderedDev.transfer.Goals as goal
 

@@ -1,6 +1,6 @@
 use Rattle.std.proofs.Common.{ap, sym, ◌∙◌}
 use Rattle.order_model.specs.declared.completion.Completion.TheVariants.{Flushed}
-use Rattle.conflict_pages.specs.Conflicts.{ConflictTable}
+use Rattle.flush_actor.specs.conflicts.Conflicts.{ConflictTable}
 use Rattle.flush_actor.proofs.Holds.{unhold_same}
 use Rattle.flush_actor.specs.Actor.{FlushActor, with_conflicts}
 use Rattle.flush_actor.specs.Steps.{commits_before, after_completion}

@@ -1,5 +1,5 @@
 use Rattle.std.proofs.Common.{◌≤◌, ◌<◌, ◌^◌, [], length, sym, subst, ap, ◌∙◌, arith}
-use Rattle.conflict_pages.specs.Conflicts.{ConflictTable}
+use Rattle.flush_actor.specs.conflicts.Conflicts.{ConflictTable}
 use Rattle.flush_actor.proofs.Waiting.{needs_none}
 use Rattle.flush_actor.specs.Actor.{Submission, Completed}
 use Rattle.flush_actor.specs.code.Fields.{NeedsSubmitted}

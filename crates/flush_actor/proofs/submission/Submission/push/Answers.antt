@@ -1,5 +1,5 @@
 use Rattle.std.proofs.Common.{◌≡◌, ◌+◌, ◌<◌, length, sym, subst, ap, ◌∙◌, vec_capacity}
-use Rattle.conflict_pages.specs.Commits.{with_commits}
+use Rattle.flush_actor.specs.conflicts.Commits.{with_commits}
 use Rattle.flush_actor.proofs.Notes.{submission_more, submission_same}
 use Rattle.flush_actor.specs.Actor.{Submission}
 use Rattle.flush_actor.specs.code.Summary.{flush_with, put_with, commits_with}

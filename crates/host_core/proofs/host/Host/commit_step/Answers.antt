@@ -2,7 +2,7 @@ use Rattle.std.proofs.Common.{◌≢◌, length, map, sym, ap, ◌∙◌, arith}
 use Rattle.std.proofs.lemmas.Bool.{true≢false}
 use Rattle.std.proofs.lemmas.List.{length-map}
 use Rattle.order_model.specs.declared.turn.Turn.TheVariants as turns
-use Rattle.tx_running.specs.Closing.{writers}
+use Rattle.journal_ring.specs.running.Closing.{writers}
 use Rattle.volume_ops.specs.Volume.{disk_of}
 use Rattle.volume_steps.specs.Now.{VolumeNow}
 use Rattle.commit_actor.specs.Actor.{CommitActor}

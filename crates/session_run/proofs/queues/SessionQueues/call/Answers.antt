@@ -7,7 +7,7 @@ use Rattle.host_core.specs.Now.{HostNow, with_host, model_now, setup_now}
 use Rattle.tree_model.specs.declared.call.Call.{Call}
 use Rattle.tree_model.specs.declared.call.Reply.{Reply}
 use Rattle.volume_steps.specs.Now.{VolumeNow}
-use Rattle.session_machine.proofs.FullQueue.{advance_agrees, either_is}
+use Rattle.session_run.proofs.MachineLemmas.FullQueue.{advance_agrees, either_is}
 use Rattle.session_run.proofs.Answered.{step_full, stepped_host}
 use Rattle.session_run.proofs.HostSteps.{took_parts, stayed_parts}
 use Rattle.session_run.proofs.Lines.{err_map, ok_map}

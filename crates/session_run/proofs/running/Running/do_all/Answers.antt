@@ -1,7 +1,7 @@
 -- One event more.
 use Rattle.std.proofs.Common.{◌+◌, drop, sym, ap, ◌∙◌}
 use Rattle.order_model.specs.Machine.{machine_of}
-use Rattle.event_grammar.specs.declared.event.CoreEvent.TheVariants as events
+use Rattle.line_grammar.specs.declared.events.event.CoreEvent.TheVariants as events
 use Rattle.session_run.specs.code.Session.{state_of}
 use Rattle.session_run.proofs.Lines.{run, all_more, all_end}
 use Rattle.session_run.proofs.running.Running.do_all.Goals as goal

@@ -1,8 +1,8 @@
 -- What each event does is the session's.
 use Rattle.std.proofs.Common.{sym, ap, ◌∙◌, rules}
 use Rattle.order_model.specs.Machine.{machine_of}
-use Rattle.event_grammar.specs.declared.event.CoreEvent.TheVariants.{Receive, Answer}
-use Rattle.session_machine.specs.Fits.{IsDevice}
+use Rattle.line_grammar.specs.declared.events.event.CoreEvent.TheVariants.{Receive, Answer}
+use Rattle.session_run.specs.machine.Fits.{IsDevice}
 use Rattle.session_run.specs.code.Session.{after_event, IsAt}
 use Rattle.session_run.specs.Beginning.{Beginning}
 use Rattle.session_run.proofs.Lines.{ok_both}

@@ -1,7 +1,7 @@
 -- Once more.
 use Rattle.std.proofs.Common.{◌+◌, ◌-◌, sym, ap, ◌∙◌}
 use Rattle.order_model.specs.Machine.{machine_of}
-use Rattle.session_machine.specs.Machine.{repeated, word_events}
+use Rattle.session_run.specs.machine.Machine.{repeated, word_events}
 use Rattle.session_run.specs.code.Session.{state_of}
 use Rattle.session_run.proofs.Lines.{run, repeats_more, repeats_end}
 use Rattle.session_run.proofs.running.Running.do_line.Goals as goal

@@ -1,6 +1,6 @@
 -- Along the repeats: those that are left from here lead where all of them from the start do.
 use Rattle.std.proofs.Common.{◌≡◌, ◌-◌}
-use Rattle.session_machine.specs.Machine.{repeated, word_events}
+use Rattle.session_run.specs.machine.Machine.{repeated, word_events}
 use Rattle.session_run.specs.code.Session.{after_events, IsAt}
 use Rattle.session_run.specs.Beginning.{Beginning}
 use Rattle.session_run.proofs.running.Running.do_line.Given as goal

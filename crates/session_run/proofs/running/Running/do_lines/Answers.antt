@@ -1,10 +1,10 @@
 -- One line more.
 use Rattle.std.proofs.Common.{◌+◌, drop, sym, ap, ◌∙◌}
 use Rattle.order_model.specs.Machine.{machine_of}
-use Rattle.event_grammar.specs.declared.event.CoreEvent.TheVariants as events
-use Rattle.event_grammar.specs.declared.event.EventLine.{EventLine}
-use Rattle.event_grammar.specs.declared.event.EventWord.TheVariants.{One}
-use Rattle.session_machine.specs.Machine.{events_of}
+use Rattle.line_grammar.specs.declared.events.event.CoreEvent.TheVariants as events
+use Rattle.line_grammar.specs.declared.events.event.EventLine.{EventLine}
+use Rattle.line_grammar.specs.declared.events.event.EventWord.TheVariants.{One}
+use Rattle.session_run.specs.machine.Machine.{events_of}
 use Rattle.session_run.specs.code.Session.{state_of}
 use Rattle.session_run.proofs.Lines.{run, lines_more, lines_end}
 use Rattle.session_run.proofs.running.Running.do_lines.Goals as goal

@@ -1,6 +1,6 @@
 -- Along the lines: those that are left from here lead where all of them from the start do.
 use Rattle.std.proofs.Common.{◌≡◌, drop}
-use Rattle.session_machine.specs.Machine.{events_of}
+use Rattle.session_run.specs.machine.Machine.{events_of}
 use Rattle.session_run.specs.code.Session.{after_events, IsAt}
 use Rattle.session_run.specs.Beginning.{Beginning}
 use Rattle.session_run.proofs.running.Running.do_lines.Given as goal

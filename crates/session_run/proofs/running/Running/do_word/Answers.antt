@@ -1,8 +1,8 @@
 -- A word's events, one after the other.
 use Rattle.std.proofs.Common.{sym, ap, ◌∙◌}
 use Rattle.order_model.specs.Machine.{machine_of}
-use Rattle.session_machine.specs.Machine.{word_events, back}
-use Rattle.session_machine.proofs.SessionRuns.{events_append}
+use Rattle.session_run.specs.machine.Machine.{word_events, back}
+use Rattle.session_run.proofs.MachineLemmas.SessionRuns.{events_append}
 use Rattle.session_run.specs.code.Session.{state_of, after_events}
 use Rattle.session_run.proofs.Lines.{run, calls_from, one_event, ok_map}
 use Rattle.session_run.proofs.running.Running.do_word.Goals as goal

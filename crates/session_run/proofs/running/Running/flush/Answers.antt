@@ -1,7 +1,7 @@
 -- The flush actor's step is the session's.
 use Rattle.std.proofs.Common.{length, arith}
 use Rattle.order_model.specs.Machine.{machine_of}
-use Rattle.session_machine.specs.Fits.{IsDevice}
+use Rattle.session_run.specs.machine.Fits.{IsDevice}
 use Rattle.session_run.specs.code.Session.{IsAt}
 use Rattle.session_run.specs.Beginning.{Beginning}
 use Rattle.session_run.proofs.Reaching.{leads_flush, within_limit}

@@ -1,5 +1,5 @@
 use Rattle.std.proofs.Common.{◌∷◌, [], ◌++◌, refl, sym, ap, ◌∙◌, ⊎_elim}
-use Rattle.stack_sides.specs.declared.events.HostEvent.TheVariants.{Call}
+use Rattle.stack_run.specs.declared.beside.events.HostEvent.TheVariants.{Call}
 use Rattle.stack_run.proofs.HostSteps.{stays, call_noted, call_still}
 use Rattle.stack_run.proofs.host_side.HostSide.call.Goals as goal
 

@@ -1,7 +1,7 @@
 use Rattle.std.proofs.Common.{◌≡◌, ◌∷◌, [], ◌++◌, refl, sym, ap, ◌∙◌}
 use Rattle.order_model.specs.declared.turn.Turn.{Turn}
 use Rattle.order_model.specs.declared.turn.Turn.TheVariants as turns
-use Rattle.stack_sides.specs.declared.events.HostEvent.TheVariants.{Commit}
+use Rattle.stack_run.specs.declared.beside.events.HostEvent.TheVariants.{Commit}
 use Rattle.stack_run.proofs.HostSteps.{other_turn, refused_or, stays, commit_noted, commit_idle}
 use Rattle.stack_run.proofs.host_side.HostSide.commit.Goals as goal
 

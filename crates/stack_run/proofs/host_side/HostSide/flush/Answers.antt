@@ -1,5 +1,5 @@
 use Rattle.std.proofs.Common.{◌∷◌, [], ◌++◌, sym, ap, ◌∙◌}
-use Rattle.stack_sides.specs.declared.events.HostEvent.TheVariants.{Flush, Take}
+use Rattle.stack_run.specs.declared.beside.events.HostEvent.TheVariants.{Flush, Take}
 use Rattle.stack_run.proofs.HostSteps.{other_turn, flush_still, flush_noted, take_noted}
 use Rattle.stack_run.proofs.host_side.HostSide.flush.Goals as goal
 

@@ -1,5 +1,5 @@
 use Rattle.std.proofs.Common.{◌∷◌, [], ◌++◌, refl, ap, ◌∙◌}
-use Rattle.stack_sides.specs.declared.events.HostEvent.TheVariants.{Writeback}
+use Rattle.stack_run.specs.declared.beside.events.HostEvent.TheVariants.{Writeback}
 use Rattle.stack_run.proofs.HostSteps.{other_turn, stays, writeback_noted, writeback_idle}
 use Rattle.stack_run.proofs.host_side.HostSide.writeback.Goals as goal
 

@@ -1,6 +1,6 @@
 use Rattle.std.proofs.Common.{sym, ap, ◌∙◌}
 use Rattle.tree_model.specs.Calls.{outcome}
-use Rattle.volume_now.specs.Noted.{Noted}
+use Rattle.volume_in_use.specs.now.Noted.{Noted}
 use Rattle.volume_steps.specs.Calls.{Called}
 use Rattle.volume_steps.specs.Now.{VolumeNow, Change, tree_of_now, room_of}
 use Rattle.volume_calls.proofs.CalledSteps.{quiet_called, refused_called, may_change, changed_called}

@@ -1,5 +1,5 @@
 use Rattle.std.proofs.Common.{subst, sym}
-use Rattle.zone_maps.specs.Zones.{Zones}
+use Rattle.minix_tables.specs.zones.Zones.{Zones}
 use Rattle.volume_steps.specs.Now.{VolumeNow}
 use Rattle.volume_calls.specs.code.MarkedVolume.{IsMarkedVolume}
 use Rattle.volume_steps.proofs.Release.{release_plain}

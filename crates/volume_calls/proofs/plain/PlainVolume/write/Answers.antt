@@ -5,7 +5,7 @@ use Rattle.volume_model.specs.Volume.{zone_in}
 use Rattle.volume_model.specs.laws.Counts.{IsIndexed}
 use Rattle.volume_steps.specs.Plain.{IsPlainNow}
 use Rattle.volume_steps.specs.Now.{VolumeNow}
-use Rattle.volume_bytes.specs.MayWrite.{wanted_zones}
+use Rattle.volume_in_use.specs.bytes.MayWrite.{wanted_zones}
 use Rattle.volume_calls.proofs.WriteTakes.{file_rises, file_maps, write_asked}
 use Rattle.volume_calls.proofs.plain.PlainVolume.write.Goals as goal
 

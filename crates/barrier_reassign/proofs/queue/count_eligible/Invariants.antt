@@ -1,9 +1,0 @@
-use Rattle.std.proofs.Common.{◌≡◌, ◌+◌, ◌≤◌, drop, filter, length}
-use Rattle.barrier_reassign.specs.Epoch.{eligible, may_leave}
-use Rattle.barrier_reassign.proofs.queue.count_eligible.Given as goal
-
-abbrev pub invariant-loop-i : goal.invariant-loop-i
-invariant-loop-i l = record {
-  told : l.count + length (filter (may_leave l.waiting.items) (drop l.i l.waiting.items)) ≡ length (eligible l.waiting.items);
-  few : l.count ≤ l.i;
-}

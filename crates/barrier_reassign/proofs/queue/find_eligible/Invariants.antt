@@ -1,7 +1,0 @@
-use Rattle.std.proofs.Common.{◌≡◌, drop, filter, slice_get}
-use Rattle.barrier_reassign.specs.Epoch.{eligible, may_leave}
-use Rattle.barrier_reassign.proofs.queue.find_eligible.Given as goal
-
-abbrev pub invariant-loop-i : goal.invariant-loop-i
-invariant-loop-i l =
-    slice_get (eligible l.waiting.items) l.pick ≡ slice_get (filter (may_leave l.waiting.items) (drop l.i l.waiting.items)) l.left

@@ -1,3 +1,0 @@
-mod Noted
-mod Cached
-pub mod Machine

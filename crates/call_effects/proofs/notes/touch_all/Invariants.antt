@@ -1,5 +1,0 @@
-use Rattle.call_effects.proofs.Noted.{TouchesLeft}
-use Rattle.call_effects.proofs.notes.touch_all.Given as goal
-
-abbrev pub invariant-loop-block : goal.invariant-loop-block
-invariant-loop-block l = TouchesLeft l.fn.journal l.journal l.blocks l.block-index

@@ -1,5 +1,0 @@
-use Rattle.call_effects.proofs.Noted.{block_inside}
-use Rattle.call_effects.proofs.notes.want_kept.Goals as goal
-
-pub want_block-requires : goal.want_block-requires
-want_block-requires c = block_inside c.args.blocks.now c.loop-block.block-index c.args.journal.now.blocks c.loop-block.journal.blocks c.requires c.loop-block-test.true c.loop-block.invariant.1

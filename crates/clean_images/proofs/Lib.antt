@@ -1,0 +1,3 @@
+pub mod SessionsLemmas
+pub mod TidyLemmas
+pub mod WidenedLemmas

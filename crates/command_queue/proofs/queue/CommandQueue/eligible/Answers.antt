@@ -1,8 +1,0 @@
-use Rattle.std.proofs.Common.{sym, ◌∙◌}
-use Rattle.command_queue.proofs.Moves.{seats-in_slots}
-use Rattle.command_queue.proofs.queue.CommandQueue.eligible.Goals as goal
-
-pub count_free-requires : goal.count_free-requires
-count_free-requires c =
-    let q = c.self.inside in
-    seats-in_slots _ _ _ _ _ _ c.deref.ensures.value c.deref-2.ensures.value (sym q.slots.ok.0 ∙ c.self.invariant.slots) c.self.invariant.apart

@@ -1,9 +1,0 @@
-use Rattle.std.proofs.Common.{rules}
-use Rattle.std.specs.Prelude.{◌==◌, not}
-use Rattle.std.proofs.lemmas.Fn.{filter_same}
-use Rattle.conflict_pages.specs.declared.held.Held.{Held}
-use Rattle.conflict_pages.proofs.held.end_holds.Goals as goal
-
-pub returns-clause-held : goal.returns-clause-held
-returns-clause-held c =
-    filter_same _ (λ (h : Held). not (h.transaction == c.args.transaction)) _ (λ x b g called. search rules) c.args.held.now.items c.retain.new.self.items c.retain.ensures.filtered

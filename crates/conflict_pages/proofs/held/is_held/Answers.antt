@@ -1,6 +1,0 @@
-use Rattle.std.proofs.Common.{◌∙◌}
-use Rattle.conflict_pages.proofs.Steps.{held_there}
-use Rattle.conflict_pages.proofs.held.is_held.Goals as goal
-
-pub returns : goal.returns
-returns c = c.is_ok.ensures.value ∙ held_there c.args.held.now c.args.block c.place_of.result c.place_of.ensures

@@ -1,5 +1,0 @@
-use Rattle.conflict_pages.specs.laws.CommitBlocks.{committed_more}
-use Rattle.conflict_pages.proofs.laws.first_commit_blocks_count.Goals as goal
-
-pub returns : goal.returns
-returns c cs k id n j early = committed_more cs k id n j early

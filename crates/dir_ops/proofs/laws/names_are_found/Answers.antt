@@ -1,5 +1,0 @@
-use Rattle.dir_ops.specs.laws.Found.{found, no_slot, not_found}
-use Rattle.dir_ops.proofs.laws.names_are_found.Goals as goal
-
-pub returns : goal.returns
-returns c = record { found = found; none = λ slots name. (no_slot slots name, not_found slots name) }

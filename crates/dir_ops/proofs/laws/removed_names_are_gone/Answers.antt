@@ -1,5 +1,0 @@
-use Rattle.dir_ops.specs.laws.Edited.{removed_gone, removed_others, removed_places, removed_free, removed_once, removed_length, removed_count}
-use Rattle.dir_ops.proofs.laws.removed_names_are_gone.Goals as goal
-
-pub returns : goal.returns
-returns c = record { gone = removed_gone; others = removed_others; places = removed_places; free = removed_free; once = removed_once; length = removed_length; counted = removed_count }

@@ -1,9 +1,0 @@
-use Rattle.std.proofs.Common.{rules}
-use Rattle.dir_ops.specs.laws.FirstFree.{room-cut, room-left}
-use Rattle.dir_ops.proofs.slots.Slots.truncate.Goals as goal
-
-pub invariant_of-self : goal.invariant_of-self
-invariant_of-self c = search (rules, room-cut)
-
-pub invariant_of-self-else-len-self : goal.invariant_of-self-else-len-self
-invariant_of-self-else-len-self c = search (rules, room-left)

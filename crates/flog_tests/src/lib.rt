@@ -1,7 +1,0 @@
-//! Tests of the flash log device: gaps, folds, full logs, power cuts and transfers that fail.
-//!
-//! Stands on `flog_device`.
-#![tactic(auto)]
-
-#[cfg(test)]
-mod flash_log;

@@ -1,0 +1,5 @@
+pub mod Rows
+pub mod Answered
+pub mod Machine
+pub mod Waiting
+pub mod Finds

@@ -1,0 +1,17 @@
+use Rattle.std.specs.List.{count_by}
+use Rattle.std.proofs.Common.{rules, ◌≡◌, ◌+◌, ap, ◌∙◌}
+use Rattle.minix_tables.specs.zones.Zones.{Zones, is_quarantined_to}
+use Rattle.host_core.proofs.AtOnceLemmas.Waiting.{waits_counted, none_waits}
+use Rattle.host_core.proofs.at_once.hindered.zones_to_come.Goals as goal
+
+pub returns-in_default : goal.returns-in_default
+returns-in_default c =
+    let none : c.args.journal.now.part.running.number ≡ 0 = search rules in
+    none_waits c.args.volume.now c.args.journal.now.part.running.number none
+
+pub returns-in-Ok : goal.returns-in-Ok
+returns-in-Ok c =
+    let last : c.args.journal.now.part.running.number ≡ c.in-Ok.last + 1 = search rules in
+    c.held_to.ensures
+    ∙ (ap (λ (z : Zones). count_by (is_quarantined_to c.in-Ok.last) z.states) c.zones.ensures
+    ∙ waits_counted c.args.volume.now c.args.journal.now.part.running.number c.in-Ok.last last)

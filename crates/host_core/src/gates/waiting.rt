@@ -1,0 +1,42 @@
+//! Why a call waits that would change the tree or a page.
+ghost use Rattle.std.specs.Prelude.{◌≡◌, length};
+ghost use Rattle.std.specs.Option.{option_map};
+ghost use Rattle.host_core.specs.begun.Causes.{cause_is};
+ghost use Rattle.minix_host.specs.Volumes.{zones_of};
+ghost use Rattle.host_core.specs.gates.Hindrances.{hindrance_of};
+
+use crate::gates::asking::{needed, would_change};
+use commit_actor::JournalPart;
+use host_answers::Cause;
+use tree_model::Call;
+use volume_calls::PlainVolume;
+
+/// Why a call that nothing refuses has to wait, if it does: the running transaction is being closed, or is full, or too
+/// few zones are free.
+pub fn hindrance(journal: &JournalPart, volume: &PlainVolume, call: &Call) -> Option<Cause>
+    ensures { option_map cause_is result ≡ hindrance_of journal.now volume.now call.now }
+{
+    if !would_change(volume, call) {
+        return None;
+    }
+    if journal.is_closing() {
+        return Some(Cause::Closing);
+    }
+    let running = journal.running();
+    if !running.fits(volume.geometry().zmap) {
+        return Some(Cause::TxFull(running.needs()));
+    }
+    let free = free_zones(volume);
+    let needs = needed(volume, call);
+    if free < needs {
+        return Some(Cause::Quarantine(needs - free));
+    }
+    None
+}
+
+// How many zones are free.
+fn free_zones(volume: &PlainVolume) -> u32
+    ensures { result ≡ length (zones_of volume.now).free }
+{
+    volume.zones().free_count()
+}

@@ -1,8 +1,0 @@
-use Rattle.host_runs.proofs.RunHost.{opened_has, step_keeps}
-use Rattle.host_runs.proofs.laws.steps.every_step_keeps_the_rules.Goals as goal
-
-pub returns : goal.returns
-returns g c = record {
-  opened = λ o tree contract v ring zones limit programs at. opened_has contract v ring zones limit programs at;
-  step = λ o tree contract s e written blocks kept fits. step_keeps contract written blocks s e kept fits;
-}

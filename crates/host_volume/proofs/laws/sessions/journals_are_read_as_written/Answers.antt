@@ -1,5 +1,0 @@
-use Rattle.host_volume.proofs.RealJournal.{journal_written}
-use Rattle.host_volume.proofs.laws.sessions.journals_are_read_as_written.Goals as goal
-
-pub returns : goal.returns
-returns c = record { written = journal_written }

@@ -1,5 +1,0 @@
-use Rattle.host_volume.proofs.SessionsKept.{new_opened}
-use Rattle.host_volume.proofs.laws.sessions.new_volumes_can_be_opened.Goals as goal
-
-pub returns : goal.returns
-returns c = record { opened = λ s sound root image. new_opened s (c.new_volumes_are_in_use.ensures s.geometry sound) root image }

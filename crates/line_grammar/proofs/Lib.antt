@@ -1,0 +1,2 @@
+pub mod EventsLemmas
+pub mod CallsLemmas

@@ -1,0 +1,2 @@
+pub mod ZonesLemmas
+pub mod InodesLemmas

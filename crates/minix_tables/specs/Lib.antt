@@ -1,0 +1,3 @@
+pub mod zones
+pub mod inodes
+pub mod directories

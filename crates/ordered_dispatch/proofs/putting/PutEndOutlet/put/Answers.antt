@@ -1,7 +1,0 @@
-use Rattle.std.proofs.Common.{ap}
-use Rattle.ordered_dispatch.proofs.Relays.{sends, told_producer}
-use Rattle.ordered_dispatch.proofs.putting.PutEndOutlet.put.Goals as goal
-
-pub push_as-requires-clause-rule : goal.push_as-requires-clause-rule
-push_as-requires-clause-rule g c =
-    let may = ap (λ v. v.puts) c.self.invariant.2 in (sends _ _ _ _ may, told_producer _ _ may)

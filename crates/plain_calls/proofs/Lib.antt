@@ -1,5 +1,0 @@
-mod Rows
-mod Answered
-mod Machine
-mod Waiting
-mod Finds

@@ -1,9 +1,0 @@
--- How many zones wait for transactions below one.
-use Rattle.std.specs.List.{filter}
-use Rattle.std.specs.Prelude.{ℕ, length, nat_lt}
-use Rattle.volume_steps.specs.Now.{VolumeNow}
-use Rattle.host_machine.specs.Model.{Freed}
-use Rattle.host_volume.specs.Volumes.{zones_of}
-
-abbrev pub waits_below : VolumeNow → ℕ → ℕ
-waits_below v number = length (filter (λ (z : Freed). nat_lt z.transaction number) (zones_of v).waiting)

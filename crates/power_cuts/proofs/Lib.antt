@@ -1,0 +1,3 @@
+pub mod ImagesLemmas
+pub mod RecoveryLemmas
+pub mod CallsLemmas

@@ -1,0 +1,11 @@
+//! What a power cut leaves of a session, and what recovery makes of it.
+//!
+//! `images` has the images that a cut may leave of a host's run, `recovery` recovery and the mount, also where they are cut
+//! in turn, and `calls` what that means for calls.
+//!
+//! Stands on `host_machine` and `call_sessions` for the runs, and on `mount_make` for the mount.
+#![tactic(auto)]
+
+pub mod calls;
+pub mod images;
+pub mod recovery;

@@ -1,6 +1,0 @@
--- An elevator that accepted nothing.
-use Rattle.sched_elevator.proofs.Steps.{made_fields}
-use Rattle.sched_elevator.proofs.elevator.Elevator.make.Goals as goal
-
-pub invariant_of-result : goal.invariant_of-result
-invariant_of-result c = made_fields c.args.limit 128 _ _ _ c.in_ok-make.ensures c.in_ok-make-2.ensures c.in_ok-make-3.ensures

@@ -1,0 +1,4 @@
+pub mod ReassignLemmas
+pub mod EpochsLemmas
+pub mod ElevatorLemmas
+pub mod DispatchLemmas

@@ -1,0 +1,4 @@
+pub mod reassign
+pub mod epochs
+pub mod elevator
+pub mod dispatch

@@ -1,0 +1,256 @@
+//! Worked sessions on the tree of a new volume: lines of calls, and the replies that were worked out by hand.
+#![tactic(auto, using(minix_layout::specs::Widths::of_14, minix_layout::specs::Widths::of_30))]
+
+ghost use Rattle.minix_layout.specs.Widths.{IsWidth};
+
+use crate::session_text::reply_texts::text;
+use blk_base::NoMemory;
+use line_grammar::calls::{read_call, read_call_word};
+use minix_layout::DEFAULT_WIDTH;
+use script_words::words;
+use std::alloc::Global;
+use std::marker::Model;
+use std::process::Abort;
+use std::test::Fail;
+use tree_calls::{apply_plain, calls_keep_trees_countable, needs};
+use tree_model::{Call, Directory, Names, Node, Reply, Room, Tree, calls_keep_trees_plain};
+
+// 64 zones and 32 inodes, of which the first five blocks are no zones of data.
+const SMALL: Room = Room {
+    inodes: 32,
+    capacity: 59,
+};
+
+// The call of a line.
+fn call_of(alloc: Global, line: &[u8]) -> Result<Call, NoMemory> {
+    let found = words(alloc, line)?;
+    let Some((first, rest)) = found.as_slice().split_first() else {
+        return Err(NoMemory);
+    };
+    let Some(word) = read_call_word(first) else {
+        return Err(NoMemory);
+    };
+    match read_call(alloc, word, rest) {
+        Ok(call) => Ok(call),
+        Err(_) => Err(NoMemory),
+    }
+}
+
+// The tree of a new volume after calls, which are counted from 1.
+#[derive(Drop)]
+struct Session {
+    tree: Tree,
+    next: u64,
+}
+
+impl Model for Session {
+    ghost use Rattle.tree_calls.specs.Countable.{IsCountable};
+    ghost use Rattle.tree_model.specs.Calls.{Tree};
+    ghost use Rattle.tree_model.specs.Plain.{AreBornBefore, IsPlain};
+
+    ghost Value = { Tree };
+
+    ghost view = { λ s. s.tree };
+
+    ghost invariant = { λ s. IsPlain s.tree × IsCountable s.tree × AreBornBefore s.next s.tree };
+}
+
+impl Session {
+    fn new(alloc: Global, width: u16) -> Result<Session, NoMemory>
+        requires { IsWidth width }
+    {
+        calls_keep_trees_plain();
+        calls_keep_trees_countable();
+        let mut tree = Tree::new(alloc);
+        let root = Directory {
+            parent: 0,
+            width,
+            slots: 2,
+            names: Names::new(alloc),
+        };
+        tree.put(0, Node::Directory(root))?;
+        Ok(Session { tree, next: 1 })
+    }
+
+    // How many zones a call would take.
+    fn zones(&self, alloc: Global, call: &Call) -> Result<u128, NoMemory> {
+        needs(alloc, &self.tree, self.next, call)
+    }
+
+    // Does a call.
+    fn answer(&mut self, alloc: Global, call: &Call) -> Result<Reply, NoMemory> {
+        calls_keep_trees_plain();
+        calls_keep_trees_countable();
+        let after = self.next.checked_add(1).ok_or(NoMemory)?;
+        let reply = apply_plain(alloc, &mut self.tree, &SMALL, self.next, call)?;
+        self.next = after;
+        Ok(reply)
+    }
+}
+
+// Does the calls of these lines on a new tree, one after the other, each of which has this reply.
+fn expect_replies(
+    rt: &impl Abort,
+    alloc: Global,
+    width: u16,
+    rows: &[(&'static str, &'static str)],
+) -> Result<(), Fail>
+    requires { IsWidth width }
+{
+    let mut session = Session::new(alloc, width)?;
+    for (line, reply) in rows {
+        let call = call_of(alloc, line.as_bytes())?;
+        let found = text(alloc, &session.answer(alloc, &call)?)?;
+        assert_eq!(rt; found.as_str(), *reply, "{line}");
+    }
+    Ok(())
+}
+
+#[test]
+fn writes_up_to_the_last_block(rt: HostRuntime) -> Result<(), Fail> {
+    let rows = [
+        ("create /f", "ok"),
+        ("write /f 268965888 1024 aa", "ok"),
+        ("write /f 268966912 1 aa", "too big"),
+        ("stat /f", "file size 268966912 links 1"),
+    ];
+    expect_replies(&rt, rt.alloc(), DEFAULT_WIDTH, &rows)?;
+    Ok(())
+}
+
+#[test]
+fn refuses_names_and_kinds(rt: HostRuntime) -> Result<(), Fail> {
+    let rows = [
+        ("mkdir /a", "ok"),
+        ("mkdir /a", "exists"),
+        ("create /a/abcdefghijklmn", "ok"),
+        ("create /a/abcdefghijklmno", "name too long"),
+        ("rmdir /a", "not empty"),
+        ("unlink /a", "is a directory"),
+        ("list /a", "names abcdefghijklmn"),
+        ("rename /a /a/b", "invalid"),
+    ];
+    expect_replies(&rt, rt.alloc(), DEFAULT_WIDTH, &rows)?;
+    Ok(())
+}
+
+#[test]
+fn takes_long_names(rt: HostRuntime) -> Result<(), Fail> {
+    let rows = [
+        ("mkdir /abcdefghijklmno", "ok"),
+        (
+            "create /abcdefghijklmno/abcdefghijklmnopqrstuvwxyz-123",
+            "ok",
+        ),
+        (
+            "link /abcdefghijklmno/abcdefghijklmnopqrstuvwxyz-123 /b",
+            "ok",
+        ),
+        ("create /abcdefghijklmnopqrstuvwxyz-1234", "name too long"),
+        ("list /abcdefghijklmnopqrstuvwxyz-1234/c", "name too long"),
+        (
+            "list /abcdefghijklmno",
+            "names abcdefghijklmnopqrstuvwxyz-123",
+        ),
+        ("stat /abcdefghijklmno", "dir size 96 links 2"),
+        ("rename /b /abcdefghijklmno/b", "ok"),
+        ("stat /abcdefghijklmno", "dir size 128 links 2"),
+        ("stat /", "dir size 128 links 3"),
+    ];
+    expect_replies(&rt, rt.alloc(), 30, &rows)?;
+    Ok(())
+}
+
+// Gives the root of a new tree names of one file, so many that its slots fill a block, and tells the size that it has then,
+// the zones that one more name takes, and the size with that name.
+fn filled(alloc: Global, width: u16, names: u32) -> Result<(String, u128, String), Fail>
+    requires { IsWidth width }
+{
+    let mut session = Session::new(alloc, width)?;
+    session.answer(alloc, &call_of(alloc, b"create /0")?)?;
+    for name in 1..names {
+        let line = format!(in alloc; "link /0 /{name}")?;
+        session.answer(alloc, &call_of(alloc, line.as_bytes())?)?;
+    }
+    let stat = call_of(alloc, b"stat /")?;
+    let before = text(alloc, &session.answer(alloc, &stat)?)?;
+    let more = call_of(alloc, b"link /0 /more")?;
+    let zones = session.zones(alloc, &more)?;
+    session.answer(alloc, &more)?;
+    Ok((before, zones, text(alloc, &session.answer(alloc, &stat)?)?))
+}
+
+// A block has 64 slots with short names and 32 with long ones, and two are those of the root itself.
+#[test]
+fn a_full_block_of_slots_takes_another(rt: HostRuntime) -> Result<(), Fail> {
+    let (before, zones, after) = filled(rt.alloc(), DEFAULT_WIDTH, 62)?;
+    assert_eq!(rt;
+        (before.as_str(), zones, after.as_str()),
+        ("dir size 1024 links 2", 1, "dir size 1040 links 2")
+    );
+    let (before, zones, after) = filled(rt.alloc(), 30, 30)?;
+    assert_eq!(rt;
+        (before.as_str(), zones, after.as_str()),
+        ("dir size 1024 links 2", 1, "dir size 1056 links 2")
+    );
+    Ok(())
+}
+
+#[test]
+fn reads_cuts_and_refuses_paths(rt: HostRuntime) -> Result<(), Fail> {
+    let rows = [
+        ("mkdir /a", "ok"),
+        ("create /a/abcdefghijklmn", "ok"),
+        ("read /a/abcdefghijklmn 0 5", "bytes -"),
+        ("truncate /a/abcdefghijklmn 3", "ok"),
+        ("read /a/abcdefghijklmn 0 5", "bytes 3x00"),
+        ("create a", "bad path"),
+        ("create /a/abcdefghijklmn/z", "not a directory"),
+        ("create /b/z", "not found"),
+        ("rmdir /", "invalid"),
+        ("stat /", "dir size 48 links 3"),
+    ];
+    expect_replies(&rt, rt.alloc(), DEFAULT_WIDTH, &rows)?;
+    Ok(())
+}
+
+#[test]
+fn takes_names_away(rt: HostRuntime) -> Result<(), Fail> {
+    let rows = [
+        ("create /f", "ok"),
+        ("link /f /g", "ok"),
+        ("unlink /f", "ok"),
+        ("mkdir /a", "ok"),
+        ("rename /g /a/h", "ok"),
+        ("stat /a/h", "file size 0 links 1"),
+        ("list /", "names a"),
+        ("unlink /a/h", "ok"),
+        ("rmdir /a", "ok"),
+        ("stat /a", "not found"),
+    ];
+    expect_replies(&rt, rt.alloc(), DEFAULT_WIDTH, &rows)?;
+    Ok(())
+}
+
+#[test]
+fn writes_over_and_cuts(rt: HostRuntime) -> Result<(), Fail> {
+    let rows = [
+        ("create /f", "ok"),
+        ("write /f 0 2000 61", "ok"),
+        ("write /f 0 3 62", "ok"),
+        ("stat /f", "file size 2000 links 1"),
+        ("read /f 0 5", "bytes 3x62+2x61"),
+        ("read /f 1998 10", "bytes 2x61"),
+        ("bytes /f 1023 6364", "ok"),
+        ("read /f 1022 4", "bytes 1x61+1x63+1x64+1x61"),
+        ("truncate /f 1500", "ok"),
+        ("truncate /f 3000", "ok"),
+        ("read /f 1498 4", "bytes 2x61+2x00"),
+        ("read /f 2990 20", "bytes 10x00"),
+        ("write /f 5000 1 65", "ok"),
+        ("stat /f", "file size 5001 links 1"),
+        ("read /f 2999 2002", "bytes 2001x00+1x65"),
+    ];
+    expect_replies(&rt, rt.alloc(), DEFAULT_WIDTH, &rows)?;
+    Ok(())
+}

@@ -1,8 +1,0 @@
-use Rattle.session_promises.proofs.SessionHistory.{causes, answers_own}
-use Rattle.session_promises.proofs.laws.calls_end_for_a_cause.Goals as goal
-
-pub returns : goal.returns
-returns c = record {
-  causes = causes;
-  answers = λ s v ring limit programs events e t d r there. answers_own s v ring limit programs events e t d r there;
-}

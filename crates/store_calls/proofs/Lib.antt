@@ -1,2 +1,0 @@
-pub mod CallsRead
-mod Filled

@@ -1,6 +1,0 @@
-use Rattle.std.proofs.Common.{◌≡◌, ◌++◌}
-use Rattle.store_calls.specs.Calls.{fills_from}
-use Rattle.store_calls.proofs.calls.put_fills.Given as goal
-
-abbrev pub invariant-loop-j : goal.invariant-loop-j
-invariant-loop-j l = l.calls ≡ l.fn.calls ++ fills_from l.room 0 l.j

@@ -1,6 +1,0 @@
-mod Adding
-mod BlockRoom
-mod CallRoom
-mod Chunks
-mod Notes
-mod PlanBlocks

@@ -1,6 +1,0 @@
-use Rattle.std.proofs.Common.{rules, ◌∙◌}
-use Rattle.volume_bytes.proofs.Patches.{zeros_behind}
-use Rattle.volume_bytes.proofs.bodies.cut_off.Goals as goal
-
-pub returns : goal.returns
-returns c = (search rules) ∙ zeros_behind c.args.keep c.args.old.now

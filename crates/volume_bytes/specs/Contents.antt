@@ -1,8 +1,0 @@
--- The bytes that are written.
-use Rattle.std.specs.Prelude.{ℕ, List, replicate}
-use Rattle.volume_bytes.specs.declared.content.Content.{Content}
-use Rattle.volume_bytes.specs.declared.content.Content.TheVariants as contents
-
-abbrev pub bytes_of : Content → List ℕ
-bytes_of (contents.Same len value) = replicate len value
-bytes_of (contents.Bytes bytes) = bytes.now

@@ -1,9 +1,0 @@
-use Rattle.std.proofs.Common.{arith}
-use Rattle.volume_edits.proofs.ReadNumbers.{none_behind}
-use Rattle.volume_edits.proofs.bodies.number_in.Goals as goal
-
-pub returns-else-block-len : goal.returns-else-block-len
-returns-else-block-len c =
-    let past = c.if-block-len.false in
-    let size = c.len.ensures in
-    none_behind c.args.blocks.now c.args.block c.args.at (omega (arith, past, size)) c.requires

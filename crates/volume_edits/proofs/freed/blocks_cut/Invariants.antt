@@ -1,6 +1,0 @@
-use Rattle.std.proofs.Common.{◌≡◌, ◌++◌, drop}
-use Rattle.volume_edits.specs.Zones.{blocks_cut}
-use Rattle.volume_edits.proofs.freed.blocks_cut.Given as goal
-
-abbrev pub invariant-loop-m : goal.invariant-loop-m
-invariant-loop-m l = l.gone.items ++ blocks_cut (drop l.m-index l.zones) l.from ≡ blocks_cut l.zones l.from

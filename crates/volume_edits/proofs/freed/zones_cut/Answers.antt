@@ -1,8 +1,0 @@
-use Rattle.std.proofs.Common.{ap, ◌∙◌}
-use Rattle.volume_edits.specs.Zones.{numbers_cut}
-use Rattle.volume_edits.proofs.CutSteps.{keeps_same}
-use Rattle.volume_edits.proofs.freed.zones_cut.Goals as goal
-
-pub returns-clause-numbers : goal.returns-clause-numbers
-returns-clause-numbers c =
-    c.in_ok-numbers_cut.ensures ∙ ap (numbers_cut c.args.blocks.now c.args.inode.now) (keeps_same c.args.zones.now c.args.from)

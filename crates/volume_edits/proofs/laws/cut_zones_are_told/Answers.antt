@@ -1,5 +1,0 @@
-use Rattle.volume_edits.proofs.FreedSteps.{told_freed, told_revoked, told_dropped}
-use Rattle.volume_edits.proofs.laws.cut_zones_are_told.Goals as goal
-
-pub returns : goal.returns
-returns c = record { freed = told_freed; revoked = told_revoked; dropped = told_dropped }

@@ -1,0 +1,3 @@
+pub mod NowLemmas
+pub mod ReadsLemmas
+pub mod BytesLemmas

@@ -1,0 +1,3 @@
+pub mod now
+pub mod reads
+pub mod bytes

@@ -1,0 +1,2 @@
+pub mod CallsRead
+pub mod Filled
