@@ -1,5 +1,5 @@
 -- The run of a recovery on a device: what it sends, the steps that it makes, and when it ends.
-use Rattle.std.specs.Prelude.{◌≡◌, ℕ, zero, suc, Bool, true, false, not, ◌&&◌, replicate, nat_lt, if◌then◌else◌, List, [], ◌∷◌, length, Option, Some, None}
+use Rattle.std.specs.Prelude.{◌≡◌, ℕ, zero, suc, Bool, true, false, not, ◌&&◌, replicate, nat_lt, if◌then◌else◌, List, [], ◌∷◌, ◌++◌, length, Option, Some, None}
 use Rattle.order_model.specs.declared.command.Command.{Command}
 use Rattle.order_model.specs.declared.completion.Completion.{Completion}
 use Rattle.order_model.specs.declared.completion.Completion.TheVariants as completion
@@ -8,6 +8,7 @@ use Rattle.order_model.specs.Steps.{OnlyReads}
 use Rattle.order_model.specs.Machine.{Machine}
 use Rattle.journal_replay.specs.declared.choice.Choice.{Choice}
 use Rattle.journal_replay.specs.declared.choice.Choice.TheVariants as choice
+use Rattle.journal_replay.specs.declared.choice.Repeated.{Repeated}
 use Rattle.journal_replay.specs.declared.end.End.{End}
 use Rattle.journal_replay.specs.declared.end.End.TheVariants as ends
 
@@ -15,6 +16,11 @@ use Rattle.journal_replay.specs.declared.end.End.TheVariants as ends
 pub record Driven (S : Type 0) : Type 0 where
   pub dev : S
   pub rest : List Command
+
+-- the choices that these say, one by one
+abbrev pub all_choices : List Repeated → List Choice
+all_choices [] = []
+all_choices (r ∷ rs) = replicate r.times r.choice ++ all_choices rs
 
 abbrev pub by_completion : End → Completion → End
 by_completion ends.Running (completion.Flushed id) = ends.Flushed

@@ -8,3 +8,10 @@ pub enum Choice {
     Persist(u32),
     Default,
 }
+
+/// The same choice so many times, one after the other.
+#[derive(Clone, Copy, Debug, PartialEq, Eq)]
+pub struct Repeated {
+    pub choice: Choice,
+    pub times: u32,
+}

@@ -1,15 +1,16 @@
 //! The run of a recovery on a device.
 ghost use Rattle.std.specs.Prelude.{◌≡◌, ℕ, ◌++◌, ◌<◌, ◌⊎◌, [], List, replicate, take, true, false, Some};
+ghost use Rattle.journal_replay.specs.declared.choice.Choice.{Choice};
 ghost use Rattle.order_model.specs.declared.command.Command.{Command};
 ghost use Rattle.order_model.specs.Device.{Seen};
 ghost use Rattle.order_model.specs.Machine.{machine_of};
-ghost use Rattle.journal_replay.specs.Driving.{Driven, sent, chosen, drained, turned, driven, end_of, is_running};
+ghost use Rattle.journal_replay.specs.Driving.{Driven, all_choices, sent, chosen, drained, turned, driven, end_of, is_running};
 ghost use Rattle.journal_replay.specs.code.Sending.{CanSend, KeepsAll};
 ghost use Rattle.journal_replay.specs.code.Runs.{StepKeeps, DrainKeeps, RunKeeps, IsAhead, IsDrivenBy, IsFlushedLast};
 
-use crate::Choice;
 use crate::end::End;
 use crate::plan::Plan;
+use crate::{Choice, Repeated};
 use order_model::OrderedDev;
 
 // Sends commands while there is room.
@@ -103,13 +104,39 @@ fn turn<D: OrderedDev>(dev: &mut D, plan: &mut Plan, choice: Choice, end: End) -
     drain(dev, end)
 }
 
-// Follows the choices of a list, one turn each, and sends what there is room for behind them.
-pub(crate) fn follow<D: OrderedDev>(dev: &mut D, plan: &mut Plan, steer: &[Choice]) -> End
+// Turns by this choice as often as it says, or until the end, behind which no turn does anything.
+fn repeat_turn<D: OrderedDev>(dev: &mut D, plan: &mut Plan, repeated: Repeated, end: End) -> End
+    requires valid { D.valid (D.state dev.old) }
+    requires can { CanSend (D.seen (D.state dev.old)) plan.old }
+    requires end { end ≡ end_of (D.seen (D.state dev.old)) }
+    requires empty { (D.seen (D.state dev.old)).waiting ≡ [] }
+    ensures driven { (later : List Choice) → driven (machine_of D.OrderedDev) later (record { dev = D.state dev.new; rest = plan.new }) ≡
+        driven (machine_of D.OrderedDev) (replicate repeated.times repeated.choice ++ later) (record { dev = D.state dev.old; rest = plan.old }) }
+    ensures valid { D.valid (D.state dev.new) }
+    ensures can { CanSend (D.seen (D.state dev.new)) plan.new }
+    ensures kept { RunKeeps (D.seen (D.state dev.old)) plan.old (D.seen (D.state dev.new)) plan.new }
+    ensures end { result ≡ end_of (D.seen (D.state dev.new)) }
+    ensures empty { (D.seen (D.state dev.new)).waiting ≡ [] }
+    ensures on { D.stays_on (D.state dev.old) → D.stays_on (D.state dev.new) }
+    ensures sound { D.sound (D.state dev.old) → D.sound (D.state dev.new) × ((D.seen (D.state dev.new)).faults ≡ (D.seen (D.state dev.old)).faults) }
+{
+    let mut reached = end;
+    for _ in 0..repeated.times {
+        if !reached.is_running() {
+            return reached;
+        }
+        reached = turn(dev, plan, repeated.choice, reached);
+    }
+    reached
+}
+
+// Follows these choices, one turn each, and sends what there is room for behind them.
+pub(crate) fn follow<D: OrderedDev>(dev: &mut D, plan: &mut Plan, steer: &[Repeated]) -> End
     requires valid { D.valid (D.state dev.old) }
     requires can { CanSend (D.seen (D.state dev.old)) plan.old }
     requires running { end_of (D.seen (D.state dev.old)) ≡ End.Running }
     requires empty { (D.seen (D.state dev.old)).waiting ≡ [] }
-    ensures driven { record { dev = D.state dev.new; rest = plan.new } ≡ driven (machine_of D.OrderedDev) steer.now (record { dev = D.state dev.old; rest = plan.old }) }
+    ensures driven { record { dev = D.state dev.new; rest = plan.new } ≡ driven (machine_of D.OrderedDev) (all_choices steer.now) (record { dev = D.state dev.old; rest = plan.old }) }
     ensures valid { D.valid (D.state dev.new) }
     ensures can { CanSend (D.seen (D.state dev.new)) plan.new }
     ensures kept { RunKeeps (D.seen (D.state dev.old)) plan.old (D.seen (D.state dev.new)) plan.new }
@@ -119,8 +146,8 @@ pub(crate) fn follow<D: OrderedDev>(dev: &mut D, plan: &mut Plan, steer: &[Choic
     ensures sound { D.sound (D.state dev.old) → D.sound (D.state dev.new) × ((D.seen (D.state dev.new)).faults ≡ (D.seen (D.state dev.old)).faults) }
 {
     let mut end = End::Running;
-    for choice in steer {
-        end = turn(dev, plan, *choice, end);
+    for repeated in steer {
+        end = repeat_turn(dev, plan, *repeated, end);
     }
     if end.is_running() {
         send(dev, plan);

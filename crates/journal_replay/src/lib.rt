@@ -27,7 +27,7 @@ mod replay;
 mod revoke_map;
 mod scanning;
 
-pub use choice::Choice;
+pub use choice::{Choice, Repeated};
 pub use fault::RecoverFault;
 pub use home::{BoxedBlock, LogBody, LogTransaction};
 pub use laws::{attempts_keep_the_recovered_image, replays_by_revokes_are_exact};

@@ -12,7 +12,7 @@ ghost use Rattle.journal_blocks.specs.Super.{super_of};
 ghost use Rattle.journal_blocks.specs.Log.{body_at, log_of};
 ghost use Rattle.journal_replay.specs.Recovered.{recovered, transactions_of, next_sequence, journal_fault, AreBetween};
 ghost use Rattle.journal_replay.specs.Commands.{commands};
-ghost use Rattle.journal_replay.specs.Driving.{IsRun, WereRead, FailsToRead};
+ghost use Rattle.journal_replay.specs.Driving.{all_choices, IsRun, WereRead, FailsToRead};
 ghost use Rattle.journal_replay.specs.Endings.{IsFlushAnswered, HasNoLog, FailsBetween};
 ghost use Rattle.journal_replay.specs.code.Journals.{IsJournalOf};
 
@@ -20,7 +20,7 @@ use crate::end::End;
 use crate::homing::homes_of;
 use crate::journal::{Journal, open};
 use crate::replay::write_back;
-use crate::{Choice, RecoverFault, revokes};
+use crate::{RecoverFault, Repeated, revokes};
 use journal_blocks::set_tail;
 use order_model::OrderedDev;
 use std::alloc::Global;
@@ -40,8 +40,8 @@ pub struct Recovered {
 ///
 /// A log that is empty is left as it is. Else it sends the home writes in rising order of block, the superblock of an
 /// empty log and a flush, each as soon as the device has room. Where it cannot send, it makes a device step: step
-/// `k` follows `steer[k]`, and each step past the list is made by default. With `cut` it ends behind the list. A choice
-/// that the device refuses uses up its place.
+/// `k` follows the `k`th of the choices that `steer` says, and each step past them is made by default. With `cut` it ends
+/// behind them. A choice that the device refuses uses up its place.
 ///
 /// `ReadFault` comes only where a block could not be read, `DeviceFailed` only where the device failed that command. A
 /// journal with a fault is left as it is.
@@ -49,7 +49,7 @@ pub fn recover<D: OrderedDev>(
     alloc: Global,
     dev: &mut D,
     base: u32,
-    steer: &[Choice],
+    steer: &[Repeated],
     cut: bool,
 ) -> Result<Recovered, RecoverFault>
     requires quiet { IsQuiet (D.seen (D.state dev.old)) }
@@ -71,9 +71,9 @@ pub fn recover<D: OrderedDev>(
     ensures empty { IfOk result (λ r. (s : JournalSuper) → super_of (body_at (D.seen (D.state dev.old)).surface base) ≡ Ok s → s.start ≡ 0 →
         OnlyReads (D.seen (D.state dev.old)) (D.seen (D.state dev.new)) × IsTrue r.ended) }
     ensures run { IfOk result (λ r. (s : JournalSuper) → super_of (body_at (D.seen (D.state dev.old)).surface base) ≡ Ok s → s.start ≢ 0 →
-        IsRun (machine_of D.OrderedDev) (commands base (D.seen (D.state dev.old)).surface) steer.now cut (D.state dev.old) (D.state dev.new)) }
+        IsRun (machine_of D.OrderedDev) (commands base (D.seen (D.state dev.old)).surface) (all_choices steer.now) cut (D.state dev.old) (D.state dev.new)) }
     ensures failed_run { (id : ℕ) → result ≡ Err (RecoverFault.DeviceFailed id) →
-        IsRun (machine_of D.OrderedDev) (commands base (D.seen (D.state dev.old)).surface) steer.now cut (D.state dev.old) (D.state dev.new) }
+        IsRun (machine_of D.OrderedDev) (commands base (D.seen (D.state dev.old)).surface) (all_choices steer.now) cut (D.state dev.old) (D.state dev.new) }
     ensures device_failed { (id : ℕ) → result ≡ Err (RecoverFault.DeviceFailed id) →
         Rose (D.seen (D.state dev.old)).faults (D.seen (D.state dev.new)).faults × In (Completion.Failed id) (D.seen (D.state dev.new)).sent }
     ensures failure { (id : ℕ) → result ≡ Err (RecoverFault.DeviceFailed id) → FailsBetween (D.seen (D.state dev.old)) (D.seen (D.state dev.new)) id }
@@ -112,7 +112,7 @@ fn replay<D: OrderedDev>(
     dev: &mut D,
     journal: Journal,
     base: u32,
-    steer: &[Choice],
+    steer: &[Repeated],
     cut: bool,
 ) -> Result<Recovered, RecoverFault>
     requires valid { D.valid (D.state dev.old) }
@@ -130,9 +130,9 @@ fn replay<D: OrderedDev>(
     ensures emptied { IfOk result (λ r. IsTrue r.ended → HasNoLog base (D.seen (D.state dev.new)).surface) }
     ensures replayed { IfOk result (λ r. r.replayed ≡ length journal.log) }
     ensures next { IfOk result (λ r. r.next ≡ next_sequence (log_of base journal.fields (D.seen (D.state dev.old)).surface)) }
-    ensures run { IfOk result (λ r. IsRun (machine_of D.OrderedDev) (commands base (D.seen (D.state dev.old)).surface) steer.now cut (D.state dev.old) (D.state dev.new)) }
+    ensures run { IfOk result (λ r. IsRun (machine_of D.OrderedDev) (commands base (D.seen (D.state dev.old)).surface) (all_choices steer.now) cut (D.state dev.old) (D.state dev.new)) }
     ensures failed_run { (id : ℕ) → result ≡ Err (RecoverFault.DeviceFailed id) →
-        IsRun (machine_of D.OrderedDev) (commands base (D.seen (D.state dev.old)).surface) steer.now cut (D.state dev.old) (D.state dev.new) }
+        IsRun (machine_of D.OrderedDev) (commands base (D.seen (D.state dev.old)).surface) (all_choices steer.now) cut (D.state dev.old) (D.state dev.new) }
     ensures device_failed { (id : ℕ) → result ≡ Err (RecoverFault.DeviceFailed id) →
         Rose (D.seen (D.state dev.old)).faults (D.seen (D.state dev.new)).faults × In (Completion.Failed id) (D.seen (D.state dev.new)).sent }
     ensures failure { (id : ℕ) → result ≡ Err (RecoverFault.DeviceFailed id) → FailsBetween (D.seen (D.state dev.old)) (D.seen (D.state dev.new)) id }

@@ -4,13 +4,14 @@ ghost use Rattle.blk_base.specs.Members.{In};
 ghost use Rattle.blk_base.specs.Streams.{Rose};
 ghost use Rattle.order_model.specs.Device.{IsQuiet};
 ghost use Rattle.order_model.specs.Machine.{machine_of};
-ghost use Rattle.journal_replay.specs.Driving.{Driven, driven, end_of, is_running};
+ghost use Rattle.journal_replay.specs.declared.choice.Choice.{Choice};
+ghost use Rattle.journal_replay.specs.Driving.{Driven, all_choices, driven, end_of, is_running};
 ghost use Rattle.journal_replay.specs.Commands.{for_block, sends};
 ghost use Rattle.journal_replay.specs.Recovered.{recovered, IsRecoverable, AreBetween};
 ghost use Rattle.journal_replay.specs.code.Homes.{logged_of};
 ghost use Rattle.journal_replay.specs.code.Runs.{HasLog, EndsAs};
 
-use crate::Choice;
+use crate::Repeated;
 use crate::drive::{finish, follow};
 use crate::end::End;
 use crate::home::Home;
@@ -25,7 +26,7 @@ pub(crate) fn write_back<D: OrderedDev>(
     homes: Vec<Home>,
     base: u32,
     superblock: Block,
-    steer: &[Choice],
+    steer: &[Repeated],
     cut: bool,
 ) -> End
     requires fresh { (D.seen (D.state dev.old)).took ≡ [] }
@@ -38,9 +39,9 @@ pub(crate) fn write_back<D: OrderedDev>(
     ensures whole { result ≡ End.Flushed → ((D.seen (D.state dev.new)).surface ≡ recovered base (D.seen (D.state dev.old)).surface) × IsQuiet (D.seen (D.state dev.new)) }
     ensures ended { cut ≡ false → is_running result ≡ false }
     ensures cut_run { let start : Driven D.State = record { dev = D.state dev.old; rest = sends (logged_of homes.items) (for_block base superblock) } in
-        cut ≡ true → D.state dev.new ≡ (driven (machine_of D.OrderedDev) steer.now start).dev }
+        cut ≡ true → D.state dev.new ≡ (driven (machine_of D.OrderedDev) (all_choices steer.now) start).dev }
     ensures whole_run { let start : Driven D.State = record { dev = D.state dev.old; rest = sends (logged_of homes.items) (for_block base superblock) } in
-        cut ≡ false → (k : ℕ) × (D.state dev.new ≡ (driven (machine_of D.OrderedDev) (replicate k Choice.Default) (driven (machine_of D.OrderedDev) steer.now start)).dev) }
+        cut ≡ false → (k : ℕ) × (D.state dev.new ≡ (driven (machine_of D.OrderedDev) (replicate k Choice.Default) (driven (machine_of D.OrderedDev) (all_choices steer.now) start)).dev) }
     ensures failed { (id : ℕ) → result ≡ End.Failed id → Rose (D.seen (D.state dev.old)).faults (D.seen (D.state dev.new)).faults }
     ensures counts { (D.seen (D.state dev.old)).faults ≤ (D.seen (D.state dev.new)).faults }
     ensures told { result ≡ end_of (D.seen (D.state dev.new)) }

@@ -1,5 +1,5 @@
 -- Laws of the parts of a recovery's run.
-use Rattle.std.specs.Prelude.{◌≡◌, ℕ, ◌+◌, ◌^◌, ◌≤◌, Bool, true, false, List, [], ◌∷◌, ◌++◌, length, Option, Some, refl}
+use Rattle.std.specs.Prelude.{◌≡◌, ℕ, zero, suc, ◌+◌, ◌-◌, ◌^◌, ◌<◌, ◌≤◌, Bool, true, false, List, [], ◌∷◌, ◌++◌, length, replicate, Option, Some, refl}
 use Rattle.std.specs.Option.{option_to_list}
 use Rattle.std.proofs.Common.{sym, ap, ◌∙◌, inl, inr, ⊎_elim, arith, append_assoc}
 use Rattle.std.proofs.lemmas.Bool.{cases_lt}
@@ -79,11 +79,23 @@ module _ {S : Type 0} where
   pub turned-on : (m : Machine S) (c : Choice) (d : Driven S) → is_running (end_of (m.seen d.dev)) ≡ true → turned m c d ≡ turned_from m c (sent m d.dev d.rest)
   turned-on m c d running = rw running refl
 
+  pub turned-over : (m : Machine S) (c : Choice) (d : Driven S) → is_running (end_of (m.seen d.dev)) ≡ false → turned m c d ≡ d
+  turned-over m c d over = rw over refl
+
   pub driven-over : (m : Machine S) (d : Driven S) → is_running (end_of (m.seen d.dev)) ≡ false → driven m [] d ≡ d
   driven-over m d over = rw over refl
 
   pub driven-last : (m : Machine S) (d : Driven S) → is_running (end_of (m.seen d.dev)) ≡ true → driven m [] d ≡ sent m d.dev d.rest
   driven-last m d running = rw running refl
+
+  -- behind the end turns do nothing
+  pub driven-idle : (m : Machine S) (c : Choice) (k : ℕ) (later : List Choice) (d : Driven S) → is_running (end_of (m.seen d.dev)) ≡ false → driven m later d ≡ driven m (replicate k c ++ later) d
+  driven-idle m c zero later d over = refl
+  driven-idle m c (suc k) later d over = driven-idle m c k later d over ∙ ap (driven m (replicate k c ++ later)) (sym (turned-over m c d over))
+
+  -- one turn more of those that are to be the same
+  pub driven-turn : (m : Machine S) (c : Choice) (n k : ℕ) (later : List Choice) (d : Driven S) → n < k → driven m (replicate (k - (n + 1)) c ++ later) (turned m c d) ≡ driven m (replicate (k - n) c ++ later) d
+  driven-turn m c n k later d less = let e : k - n ≡ suc (k - (n + 1)) = omega (arith, less) in ap (λ (i : ℕ). driven m (replicate i c ++ later) d) (sym e)
 
   -- a run goes on in the same way where it sends first
   pub driven-sent : (m : Machine S) (cs : List Choice) (d e : Driven S) → e ≡ sent m d.dev d.rest → is_running (end_of (m.seen d.dev)) ≡ true → is_running (end_of (m.seen e.dev)) ≡ true → driven m cs e ≡ driven m cs d

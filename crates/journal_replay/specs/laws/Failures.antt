@@ -1,9 +1,9 @@
 -- Laws of the end of a recovery: a flush is answered, or a command has failed, and never both.
-use Rattle.std.specs.Prelude.{◌≡◌, ◌≢◌, ◌↔◌, ℕ, zero, suc, ◌+◌, ◌-◌, ◌<◌, ◌≤◌, ◌==◌, Bool, true, false, List, [], ◌∷◌, ◌++◌, length, map, take, Option, Some, slice_get, IsTrue, Result, Ok, Err, IfOk, refl}
+use Rattle.std.specs.Prelude.{◌≡◌, ◌≢◌, ◌↔◌, ℕ, zero, suc, ◌+◌, ◌-◌, ◌<◌, ◌≤◌, ◌==◌, Bool, true, false, List, [], ◌∷◌, ◌++◌, length, take, Option, Some, slice_get, IsTrue, Result, Ok, Err, IfOk, refl}
 use Rattle.std.specs.Option.{option_and_then}
 use Rattle.std.proofs.Common.{sym, ap, ◌∙◌, subst, inl, inr, ⊎_elim, arith}
 use Rattle.std.proofs.lemmas.Bool.{cases_Bool, cases_lt, false≢true, true≢false}
-use Rattle.std.proofs.lemmas.Option.{none-some, same_Some}
+use Rattle.std.proofs.lemmas.Option.{same_Some}
 use Rattle.blk_base.specs.Members.{In}
 use Rattle.blk_base.specs.laws.Members.{In-append_left, In-slice_get, slice_get-length}
 use Rattle.order_model.specs.declared.command.Command.{Command}
@@ -21,12 +21,12 @@ use Rattle.journal_replay.specs.declared.recovery.Recovered.{Recovered}
 use Rattle.journal_replay.specs.declared.fault.RecoverFault.{RecoverFault}
 use Rattle.journal_replay.specs.declared.fault.RecoverFault.TheVariants.{DeviceFailed, NoMemory}
 use Rattle.journal_replay.specs.Commands.{for_block, write, home_writes, ending, sends, flush, commands}
-use Rattle.journal_replay.specs.Driving.{end_after, end_of, is_running, is_failed, by_completion}
+use Rattle.journal_replay.specs.Driving.{end_of, is_running, is_failed}
 use Rattle.journal_replay.specs.Endings.{IsFlushAnswered, FailsBetween}
 use Rattle.journal_replay.specs.code.Sending.{KeepsAll}
 use Rattle.journal_replay.specs.code.Runs.{EndsAs}
-use Rattle.journal_replay.specs.laws.Sends.{length-home_writes, command_of_part-there}
-use Rattle.journal_replay.specs.laws.Plans.{only_flush, flush_is_last, is_flush_at, length-sends}
+use Rattle.journal_replay.specs.laws.Sends.{command_of_part-there}
+use Rattle.journal_replay.specs.laws.Plans.{only_flush, flush_is_last, length-sends}
 use Rattle.journal_replay.specs.laws.Ends.{not_failed, ends-in}
 use Rattle.journal_replay.specs.laws.Whole.{IsSilent, front_taken, fresh_silent, flushed_in, failed_in, super_place}
 

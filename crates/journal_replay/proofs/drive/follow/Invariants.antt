@@ -1,16 +1,16 @@
 use Rattle.std.proofs.Common.{◌≡◌, [], drop}
-use Rattle.journal_replay.specs.Driving.{driven, end_of}
+use Rattle.journal_replay.specs.Driving.{all_choices, driven, end_of}
 use Rattle.journal_replay.specs.code.Sending.{CanSend}
 use Rattle.order_model.specs.Machine.{Machine, machine_of}
 use Rattle.journal_replay.specs.code.Runs.{RunKeeps}
 use Rattle.journal_replay.proofs.drive.follow.Given as goal
 
-abbrev pub invariant-loop-choice : goal.invariant-loop-choice
-invariant-loop-choice g l =
+abbrev pub invariant-loop-repeated : goal.invariant-loop-repeated
+invariant-loop-repeated g l =
     let d = g.D.OrderedDev in
     let m : Machine d.State = machine_of d in
     record {
-      driven : driven m (drop l.choice-index l.steer) (record { dev = d.state l.dev; rest = l.plan }) ≡ driven m l.steer (record { dev = d.state l.fn.dev; rest = l.fn.plan });
+      driven : driven m (all_choices (drop l.repeated-index l.steer)) (record { dev = d.state l.dev; rest = l.plan }) ≡ driven m (all_choices l.steer) (record { dev = d.state l.fn.dev; rest = l.fn.plan });
       valid : d.valid (d.state l.dev);
       can : CanSend (d.seen (d.state l.dev)) l.plan;
       kept : RunKeeps (d.seen (d.state l.fn.dev)) l.fn.plan (d.seen (d.state l.dev)) l.plan;

@@ -1,4 +1,4 @@
-use Rattle.std.proofs.Common.{◌≡◌, ◌∙◌, Err, ap}
+use Rattle.std.proofs.Common.{◌∙◌, Err, ap}
 use Rattle.order_model.specs.Machine.{Machine, machine_of}
 use Rattle.journal_blocks.specs.Log.{body_at}
 use Rattle.journal_blocks.specs.laws.Supers.{read_parts}

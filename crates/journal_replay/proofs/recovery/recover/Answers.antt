@@ -1,4 +1,4 @@
-use Rattle.std.proofs.Common.{◌≡◌, ◌∙◌, ℕ, [], Err, ap, sym, subst, refl}
+use Rattle.std.proofs.Common.{◌≡◌, ◌∙◌, [], Err, ap, sym, subst, refl}
 use Rattle.std.proofs.lemmas.Bool.{eq-eqb, false≢true}
 use Rattle.order_model.specs.Device.{Seen}
 use Rattle.order_model.specs.Machine.{Machine, machine_of}
@@ -6,13 +6,12 @@ use Rattle.journal_blocks.specs.declared.super_block.JournalSuper.{JournalSuper}
 use Rattle.journal_replay.specs.laws.Attempts.{recovered-empty}
 use Rattle.journal_replay.specs.declared.fault.RecoverFault.{RecoverFault}
 use Rattle.journal_replay.specs.declared.fault.RecoverFault.TheVariants.{ReadFault, DeviceFailed}
-use Rattle.journal_replay.specs.Endings.{IsFlushAnswered, FailsBetween}
 use Rattle.journal_replay.specs.laws.Drives.{later_rose}
 use Rattle.journal_replay.specs.laws.Failures.{fresh_fine, others_fine, fails_before, flushed_read}
 use Rattle.journal_replay.specs.laws.Reads.{asked_in_vain, asked_before, sound_reads}
 use Rattle.journal_replay.specs.laws.Recoveries.{recovered_super-empty, no_log, not_empty, ok_not_empty, run_behind, run_read, next_from}
 use Rattle.journal_replay.specs.Commands.{commands}
-use Rattle.journal_replay.specs.Driving.{WereRead}
+use Rattle.journal_replay.specs.Driving.{all_choices, WereRead}
 use Rattle.journal_replay.proofs.recovery.recover.Goals as goal
 
 pub returns-then-journal-eq0-clause-whole : goal.returns-then-journal-eq0-clause-whole
@@ -44,7 +43,7 @@ returns-clause-run g c =
     let m : Machine d.State = machine_of d in
     let old = d.state c.args.dev.now in
     let read = c.in_ok-journal.ensures.unchanged.reads in
-    run_read m c.args.base (d.seen old).surface c.replay.result (ap (λ (x : Seen). commands c.args.base x.surface) read.0) c.args.steer.now c.args.cut old (d.state c.open.new.dev) (d.state c.replay.new.dev) read (c.in_ok-journal.ensures.asked old ([], refl, refl)) c.replay.ensures.run
+    run_read m c.args.base (d.seen old).surface c.replay.result (ap (λ (x : Seen). commands c.args.base x.surface) read.0) (all_choices c.args.steer.now) c.args.cut old (d.state c.open.new.dev) (d.state c.replay.new.dev) read (c.in_ok-journal.ensures.asked old ([], refl, refl)) c.replay.ensures.run
 
 pub returns-clause-failed_run : goal.returns-clause-failed_run
 returns-clause-failed_run g c id e =
@@ -52,7 +51,7 @@ returns-clause-failed_run g c id e =
     let m : Machine d.State = machine_of d in
     let old = d.state c.args.dev.now in
     let read = c.in_ok-journal.ensures.unchanged.reads in
-    run_behind m (ap (λ (x : Seen). commands c.args.base x.surface) read.0) c.args.steer.now c.args.cut old (d.state c.open.new.dev) (d.state c.replay.new.dev) read (c.in_ok-journal.ensures.asked old ([], refl, refl)) (c.replay.ensures.failed_run id e)
+    run_behind m (ap (λ (x : Seen). commands c.args.base x.surface) read.0) (all_choices c.args.steer.now) c.args.cut old (d.state c.open.new.dev) (d.state c.replay.new.dev) read (c.in_ok-journal.ensures.asked old ([], refl, refl)) (c.replay.ensures.failed_run id e)
 
 pub returns-clause-device_failed : goal.returns-clause-device_failed
 returns-clause-device_failed g c id e =

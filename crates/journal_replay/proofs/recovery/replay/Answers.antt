@@ -4,7 +4,7 @@ use Rattle.blk_base.specs.Members.{In}
 use Rattle.order_model.specs.declared.completion.Completion.TheVariants.{Failed}
 use Rattle.order_model.specs.Machine.{Machine, machine_of}
 use Rattle.log_model.specs.Marks.{Logged, Transaction, mark_in}
-use Rattle.journal_replay.specs.Driving.{is_running, is_failed}
+use Rattle.journal_replay.specs.Driving.{all_choices, is_running, is_failed}
 use Rattle.journal_replay.specs.Endings.{HasNoLog, FailsBetween}
 use Rattle.journal_replay.specs.laws.Failures.{ended_true, ended_false}
 use Rattle.journal_replay.specs.code.Homes.{logged, logged_of}
@@ -60,21 +60,21 @@ pub returns-in-Flushed-clause-run : goal.returns-in-Flushed-clause-run
 returns-in-Flushed-clause-run g c =
     let d = g.D.OrderedDev in
     let m : Machine d.State = machine_of d in
-    run_from m (commands_are c.args.base (d.seen (d.state c.args.dev.now)).surface (logged_of c.in-Ok-homes_of.homes.items) c.set_tail.new.b (has_log c.args.base (d.seen (d.state c.args.dev.now)).surface c.args.journal (logged_of c.in-Ok-homes_of.homes.items) c.len-replayed.result c.set_tail.new.b c.requires.journal c.requires.full c.in-Ok-homes_of.ensures c.len-replayed.ensures c.set_tail.ensures.value)) c.args.steer.now c.args.cut (d.state c.args.dev.now) (d.state c.write_back.new.dev) c.write_back.ensures.cut_run c.write_back.ensures.whole_run
+    run_from m (commands_are c.args.base (d.seen (d.state c.args.dev.now)).surface (logged_of c.in-Ok-homes_of.homes.items) c.set_tail.new.b (has_log c.args.base (d.seen (d.state c.args.dev.now)).surface c.args.journal (logged_of c.in-Ok-homes_of.homes.items) c.len-replayed.result c.set_tail.new.b c.requires.journal c.requires.full c.in-Ok-homes_of.ensures c.len-replayed.ensures c.set_tail.ensures.value)) (all_choices c.args.steer.now) c.args.cut (d.state c.args.dev.now) (d.state c.write_back.new.dev) c.write_back.ensures.cut_run c.write_back.ensures.whole_run
     (λ whole. ap is_running (sym c.write_back.ensures.told) ∙ c.write_back.ensures.ended whole)
 
 pub returns-in-Running-clause-run : goal.returns-in-Running-clause-run
 returns-in-Running-clause-run g c =
     let d = g.D.OrderedDev in
     let m : Machine d.State = machine_of d in
-    run_from m (commands_are c.args.base (d.seen (d.state c.args.dev.now)).surface (logged_of c.in-Ok-homes_of.homes.items) c.set_tail.new.b (has_log c.args.base (d.seen (d.state c.args.dev.now)).surface c.args.journal (logged_of c.in-Ok-homes_of.homes.items) c.len-replayed.result c.set_tail.new.b c.requires.journal c.requires.full c.in-Ok-homes_of.ensures c.len-replayed.ensures c.set_tail.ensures.value)) c.args.steer.now c.args.cut (d.state c.args.dev.now) (d.state c.write_back.new.dev) c.write_back.ensures.cut_run c.write_back.ensures.whole_run
+    run_from m (commands_are c.args.base (d.seen (d.state c.args.dev.now)).surface (logged_of c.in-Ok-homes_of.homes.items) c.set_tail.new.b (has_log c.args.base (d.seen (d.state c.args.dev.now)).surface c.args.journal (logged_of c.in-Ok-homes_of.homes.items) c.len-replayed.result c.set_tail.new.b c.requires.journal c.requires.full c.in-Ok-homes_of.ensures c.len-replayed.ensures c.set_tail.ensures.value)) (all_choices c.args.steer.now) c.args.cut (d.state c.args.dev.now) (d.state c.write_back.new.dev) c.write_back.ensures.cut_run c.write_back.ensures.whole_run
     (λ whole. ap is_running (sym c.write_back.ensures.told) ∙ c.write_back.ensures.ended whole)
 
 pub returns-in-Failed-clause-failed_run : goal.returns-in-Failed-clause-failed_run
 returns-in-Failed-clause-failed_run g c id e =
     let d = g.D.OrderedDev in
     let m : Machine d.State = machine_of d in
-    run_from m (commands_are c.args.base (d.seen (d.state c.args.dev.now)).surface (logged_of c.in-Ok-homes_of.homes.items) c.set_tail.new.b (has_log c.args.base (d.seen (d.state c.args.dev.now)).surface c.args.journal (logged_of c.in-Ok-homes_of.homes.items) c.len-replayed.result c.set_tail.new.b c.requires.journal c.requires.full c.in-Ok-homes_of.ensures c.len-replayed.ensures c.set_tail.ensures.value)) c.args.steer.now c.args.cut (d.state c.args.dev.now) (d.state c.write_back.new.dev) c.write_back.ensures.cut_run c.write_back.ensures.whole_run
+    run_from m (commands_are c.args.base (d.seen (d.state c.args.dev.now)).surface (logged_of c.in-Ok-homes_of.homes.items) c.set_tail.new.b (has_log c.args.base (d.seen (d.state c.args.dev.now)).surface c.args.journal (logged_of c.in-Ok-homes_of.homes.items) c.len-replayed.result c.set_tail.new.b c.requires.journal c.requires.full c.in-Ok-homes_of.ensures c.len-replayed.ensures c.set_tail.ensures.value)) (all_choices c.args.steer.now) c.args.cut (d.state c.args.dev.now) (d.state c.write_back.new.dev) c.write_back.ensures.cut_run c.write_back.ensures.whole_run
     (λ whole. ap is_running (sym c.write_back.ensures.told) ∙ c.write_back.ensures.ended whole)
 
 pub returns-in-Failed-clause-device_failed : goal.returns-in-Failed-clause-device_failed

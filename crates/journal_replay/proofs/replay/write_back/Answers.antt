@@ -3,7 +3,7 @@ use Rattle.order_model.specs.declared.command.Command.{Command}
 use Rattle.journal_replay.specs.declared.end.End.TheVariants as ends
 use Rattle.journal_replay.specs.Commands.{sends, for_block}
 use Rattle.journal_replay.specs.declared.choice.Choice.TheVariants as choices
-use Rattle.journal_replay.specs.Driving.{Driven, driven, end_after}
+use Rattle.journal_replay.specs.Driving.{Driven, all_choices, driven, end_after}
 use Rattle.journal_replay.specs.laws.Drives.{run-more}
 use Rattle.journal_replay.specs.code.Homes.{logged_of}
 use Rattle.journal_replay.specs.laws.Plans.{ends_in_flush}
@@ -111,13 +111,13 @@ pub returns-then-cut-clause-cut_run : goal.returns-then-cut-clause-cut_run
 returns-then-cut-clause-cut_run g c cut =
     let d = g.D.OrderedDev in
     let m : Machine d.State = machine_of d in
-    ap (λ (x : Driven d.State). x.dev) (c.follow-end.ensures.driven ∙ ap (λ (cs : List Command). driven m c.args.steer.now (record { dev = d.state c.args.dev.now; rest = cs })) c.make-plan.ensures)
+    ap (λ (x : Driven d.State). x.dev) (c.follow-end.ensures.driven ∙ ap (λ (cs : List Command). driven m (all_choices c.args.steer.now) (record { dev = d.state c.args.dev.now; rest = cs })) c.make-plan.ensures)
 
 pub returns-clause-whole_run : goal.returns-clause-whole_run
 returns-clause-whole_run g c whole =
     let d = g.D.OrderedDev in
     let m : Machine d.State = machine_of d in
-    let first = c.follow-end.ensures.driven ∙ ap (λ (cs : List Command). driven m c.args.steer.now (record { dev = d.state c.args.dev.now; rest = cs })) c.make-plan.ensures in
+    let first = c.follow-end.ensures.driven ∙ ap (λ (cs : List Command). driven m (all_choices c.args.steer.now) (record { dev = d.state c.args.dev.now; rest = cs })) c.make-plan.ensures in
     let second = c.finish.ensures.driven in
     (second.0, ap (λ (x : Driven d.State). x.dev) (second.1 ∙ ap (driven m (replicate second.0 choices.Default)) first))
 
