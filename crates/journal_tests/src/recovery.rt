@@ -11,8 +11,8 @@ use journal_blocks::{
     write_revoke, write_super,
 };
 use journal_replay::{
-    BoxedBlock, Choice, RecoverFault, Recovered, attempts_keep_the_recovered_image, recover,
-    replays_by_revokes_are_exact,
+    BoxedBlock, Choice, RecoverFault, Recovered, Repeated, attempts_keep_the_recovered_image,
+    recover, replays_by_revokes_are_exact,
 };
 use order_model::OrderedDev;
 use std::alloc::Global;
@@ -162,7 +162,7 @@ fn attempt(
     rt: &impl Abort,
     alloc: Global,
     image: Image,
-    steer: &[Choice],
+    steer: &[Repeated],
     cut: bool,
 ) -> (Result<Recovered, RecoverFault>, Image) {
     assert!(rt; image.len() > BASE);
@@ -392,19 +392,28 @@ fn next(state: &mut u32) -> u32 {
     *state
 }
 
+// So many steps by default.
+const fn defaults(times: u32) -> Repeated {
+    Repeated {
+        choice: Choice::Default,
+        times,
+    }
+}
+
 // A step by such a number. Its place may be past what is there.
-fn drawn(state: &mut u32) -> Choice {
+fn drawn(state: &mut u32) -> Repeated {
     let n = next(state);
-    match n % 3 {
+    let choice = match n % 3 {
         0 => Choice::Transfer(n / 3 % 5),
         1 => Choice::Persist(n / 3 % 5),
         _ => Choice::Default,
-    }
+    };
+    Repeated { choice, times: 1 }
 }
 
 // What is left of a recovery that is cut behind up to eight steps by such numbers.
 fn cut_by_chance(rt: &impl Abort, alloc: Global, image: Image, state: &mut u32) -> Image {
-    let mut list = [Choice::Default; 8];
+    let mut list = [defaults(1); 8];
     for choice in &mut list {
         *choice = drawn(state);
     }
@@ -419,13 +428,11 @@ fn try_cut(
     rt: &impl Abort,
     alloc: Global,
     image: Image,
-    count: usize,
+    count: u32,
     ends: bool,
     state: &mut u32,
 ) -> Image {
-    let steps = [Choice::Default; 13];
-    let steer = steps.get(..count).unwrap_or(&[]);
-    let (result, mut left) = attempt(rt, alloc, image, steer, true);
+    let (result, mut left) = attempt(rt, alloc, image, &[defaults(count)], true);
     assert!(rt; result.is_ok_and(|r| r.ended == ends), "{count}");
     for _ in 0..3 {
         left = cut_by_chance(rt, alloc, left, state);
@@ -435,11 +442,14 @@ fn try_cut(
     last
 }
 
+// After how many steps recoveries are cut. No step is made behind the end, so that the last number takes no time.
+const CUTS: [u32; 15] = [0, 1, 2, 3, 4, 5, 6, 7, 8, 9, 10, 11, 12, 13, u32::MAX];
+
 // Recoveries that are cut behind each number of steps lead to one image. It takes `needed` steps to have ended.
-fn try_attempts(rt: &impl Abort, alloc: Global, image: &Image, needed: usize, state: &mut u32) {
+fn try_attempts(rt: &impl Abort, alloc: Global, image: &Image, needed: u32, state: &mut u32) {
     let copy = image.copy(alloc).expect(rt, "no copy");
     let (_, whole) = attempt(rt, alloc, copy, &[], false);
-    for count in 0..14usize {
+    for count in CUTS {
         let copy = image.copy(alloc).expect(rt, "no copy");
         let last = try_cut(rt, alloc, copy, count, count >= needed, state);
         assert!(rt; are_same(&last, &whole), "{count} of {needed}");

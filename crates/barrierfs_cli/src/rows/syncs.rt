@@ -161,3 +161,15 @@ fn recovers_after_attempts_that_were_cut(rt: HostRuntime) -> Result<(), Fail> {
     }
     Ok(())
 }
+
+// A line of a thousand words, each of which asks for a million steps: none is made behind the end.
+#[test]
+fn recovers_by_more_steps_than_there_are(rt: HostRuntime) -> Result<(), Fail> {
+    let alloc = rt.alloc();
+    let mut script = format!(in alloc; "{SYNC}recover")?;
+    for _ in 0..1_000_u32 {
+        script.push_str(" d1000000")?;
+    }
+    script.push_str("\n")?;
+    expect_replay(&rt, alloc, script.as_str(), SYNC_PRINTS)
+}

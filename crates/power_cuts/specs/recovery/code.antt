@@ -1,2 +1,3 @@
 -- What the code sees of its own fields.
 pub mod Left
+pub mod WordSteps

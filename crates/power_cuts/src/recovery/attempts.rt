@@ -6,7 +6,7 @@ ghost use Rattle.journal_replay.specs.Recovered.{recovered, journal_fault};
 ghost use Rattle.power_cuts.specs.recovery.Attempts.{told_of, choices_of, IsAttempt, AreAttempts};
 ghost use Rattle.power_cuts.specs.recovery.code.Left.{IsLeft};
 
-use crate::recovery::steering::choices_of;
+use crate::recovery::steering::steps_of_line;
 use blk_base::{Image, NoMemory};
 use journal_replay::{RecoverFault, recover};
 use line_grammar::events::SteerLine;
@@ -68,10 +68,10 @@ fn recover_line<M: Maker>(
         × (r.0 ≡ told_of (M.Dev.OrderedDev.seen last)) × (r.1 ≡ (M.Dev.OrderedDev.seen last).surface)) }
     ensures left { IfOk result (λ r. IsLeft base image r.1) }
 {
-    let choices = choices_of(alloc, line)?;
+    let steps = steps_of_line(alloc, line)?;
     check_size(&image, base);
     let mut device = maker.fresh(alloc, image)?;
-    match recover(alloc, &mut device, base, &choices, true) {
+    match recover(alloc, &mut device, base, &steps, true) {
         Ok(_) => {}
         Err(RecoverFault::NoMemory) => return Err(NoMemory),
         Err(

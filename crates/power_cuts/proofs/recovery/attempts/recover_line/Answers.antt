@@ -1,6 +1,7 @@
-use Rattle.std.proofs.Common.{◌≡◌, ◌+◌, ◌<◌, ◌≤◌, List, ℕ, length, sym, subst, ◌∙◌}
+use Rattle.std.proofs.Common.{◌≡◌, ◌+◌, ◌<◌, ◌≤◌, List, ℕ, length, ap, sym, subst, ◌∙◌}
 use Rattle.order_model.specs.Machine.{Machine, machine_of}
 use Rattle.journal_blocks.specs.Log.{body_at}
+use Rattle.journal_replay.specs.Driving.{all_choices}
 use Rattle.power_cuts.specs.recovery.Attempts.{choices_of}
 use Rattle.power_cuts.specs.recovery.code.Left.{IsLeft}
 use Rattle.power_cuts.proofs.RecoveryLemmas.Attempted.{quiet_new, attempt_from, told_from}
@@ -34,8 +35,8 @@ returns-clause-attempt g c =
     let did = c.in-Ok.ensures in
     let cut = c.cut-image.ensures in (
       last,
-      attempt_from m c.args.base c.args.image (choices_of c.args.line.now) c.deref.result.now (d.state (g.M.Maker.fresh_dev (g.M.Maker.setup c.args.maker.now) c.args.image)) (d.state c.in_ok-device.device) last
-          new.state new.is_fresh.surface (c.deref.ensures.value ∙ c.in_ok-choices.ensures) c.requires.fine did.run did.empty,
+      attempt_from m c.args.base c.args.image (choices_of c.args.line.now) (all_choices c.deref.result.now) (d.state (g.M.Maker.fresh_dev (g.M.Maker.setup c.args.maker.now) c.args.image)) (d.state c.in_ok-device.device) last
+          new.state new.is_fresh.surface (ap all_choices c.deref.ensures.value ∙ c.in_ok-steps.ensures) c.requires.fine did.run did.empty,
       told_from c.cut-image.result.trace.steps c.cut-image.result.origins (d.seen last) cut.trace.steps cut.origins,
       cut.image,
     )
