@@ -1,0 +1,5 @@
+pub mod Owners
+pub mod ZoneFacts
+pub mod HostSteps
+pub mod RunSteps
+pub mod SessionRuns
