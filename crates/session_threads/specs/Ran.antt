@@ -1,0 +1,80 @@
+-- A session of a script that ran in threads, and its report.
+use Rattle.std.specs.Prelude.{◌≡◌, ℕ, Bool, true, false, Option, Some, None, unwrap_or, replicate}
+use Rattle.order_model.specs.Machine.{Machine}
+use Rattle.schedulers.specs.declared.reassign.scheduler.TheConstants.{CAPACITY}
+use Rattle.schedulers.specs.reassign.Scheduler.{SchedSteps}
+use Rattle.schedulers.specs.reassign.Sched as plain
+use Rattle.schedulers.specs.elevator.Elevator as elevator
+use Rattle.schedulers.specs.dispatch.Opened.{ArePassesOf, AreNew}
+use Rattle.stack_core.specs.Core.{epoch_machine, flash_machine}
+use Rattle.crash_laws.specs.LegalHistory.{of_thread}
+use Rattle.call_sessions.specs.promises.Legal.{events_in, program_of}
+use Rattle.session_grammar.specs.declared.session_script.SessionScript.{SessionScript}
+use Rattle.session_core.specs.Core.{EndState, device_for, flash_for, opening_of, start_of}
+use Rattle.session_core.specs.Headline.{HeadlineOn}
+use Rattle.session_core.specs.Report.{HasAttemptsAs, IsReportOf}
+use Rattle.session_core.specs.code.Ends.{IsEndOfScript}
+use Rattle.session_run.specs.parts.Whole.{IsWhole}
+use Rattle.stack_run.specs.beside.Opened.{PartSetup}
+use Rattle.stack_run.specs.declared.beside.events.Effects.{Effects}
+use Rattle.stack_run.specs.Ended.{HasEnded}
+use Rattle.session_threads.specs.Replayed.{AreReplayed}
+use Rattle.session_threads.specs.declared.report.ThreadsEnd.{ThreadsEnd}
+use Rattle.session_threads.specs.declared.report.ThreadsReport.{ThreadsReport}
+use Rattle.session_threads.specs.declared.running.Room.{Room}
+
+-- with which numbers scheduler and device of a script's session are made
+abbrev pub part_setup : SessionScript → PartSetup
+part_setup s = record { limit = s.header.limit; depth = s.header.depth; segments = unwrap_or s.header.flash 0; fail_at = s.header.fail; cut_at = s.header.cut }
+
+-- new queues with their passes, and for each of so many ids a flag that is down
+pub record HasRoom (limit : ℕ) (room : Room) : Type 0 where
+  pub passes : ArePassesOf room.queues room.passes
+  pub fresh : AreNew room.passes
+  pub sched_ids : room.sched_ids ≡ replicate limit false
+  pub device_ids : room.device_ids ≡ replicate limit false
+
+-- A session of the script ran in threads, from this scheduler and this device on, and ended in this state: host, scheduler and device are
+-- what these events make of them; it has ended; and the entries of each thread are its whole program, with an end for every call. (That
+-- the three fit is a part of the headline.)
+pub record RanInThreads {K S : Type 0} (k : SchedSteps K) (m : Machine S) (s : SessionScript) (sched_first : K) (dev_first : S) (effects : Effects) (end : EndState) : Type 0 where
+  pub sched : K
+  pub dev : S
+  pub sched_seen : end.sched ≡ k.seen sched
+  pub dev_seen : end.dev ≡ m.seen dev
+  pub replayed : AreReplayed (opening_of s) (start_of s) k sched_first m dev_first effects end.host sched dev
+  pub ended : HasEnded s.header.cut end.host end.sched end.dev
+  pub whole : (t : ℕ) → IsWhole (of_thread t (events_in end.host.history)) (program_of s.programs t)
+
+-- on the elevator, or else on the plain scheduler
+abbrev pub RanWith : {S : Type 0} → Machine S → SessionScript → S → Bool → Effects → EndState → Type 0
+RanWith m s dev true effects end = RanInThreads elevator.elevator_steps m s (elevator.opened s.header.limit CAPACITY) dev effects end
+RanWith m s dev false effects end = RanInThreads plain.sched_steps m s (plain.opened s.header.limit CAPACITY) dev effects end
+
+-- on a flash log of so many segments, or else on the model device
+abbrev pub RanAs : SessionScript → Option ℕ → Effects → EndState → Type 0
+RanAs s None effects end = RanWith epoch_machine s (device_for s) s.header.elevator effects end
+RanAs s (Some segments) effects end = RanWith flash_machine s (flash_for s segments) s.header.elevator effects end
+
+-- ---- what a power cut left of it
+
+pub record LeftBy {K S : Type 0} (k : SchedSteps K) (m : Machine S) (s : SessionScript) (sched_first : K) (dev_first : S) (r : ThreadsEnd) : Type 0 where
+  pub end : EndState
+  pub ran : RanInThreads k m s sched_first dev_first r.effects end
+  pub is : IsEndOfScript s end r.end
+
+pub record LeftWith {S : Type 0} (m : Machine S) (s : SessionScript) (dev : S) (on_elevator : Bool) (r : ThreadsEnd) : Type 0 where
+  pub end : EndState
+  pub ran : RanWith m s dev on_elevator r.effects end
+  pub is : IsEndOfScript s end r.end
+
+-- ---- its report
+
+-- The report of the script's session in threads, on a flash log of so many segments or else on the model device, and of the attempts of
+-- recovery that the script asks for. It promises what the report of a session on one thread does.
+pub record IsThreadsReport (s : SessionScript) (flash : Option ℕ) (r : ThreadsReport) : Type 0 where
+  pub end : EndState
+  pub ran : RanAs s flash r.effects end
+  pub report : IsReportOf s end r.report
+  pub headline : HeadlineOn s end r.report
+  pub attempts : HasAttemptsAs s flash r.report

@@ -1,0 +1,18 @@
+//! What a session in threads leaves.
+use session_core::SessionReport;
+use session_run::SessionEnd;
+use stack_run::beside::Effects;
+
+/// What a session in threads left, and the events of its three sides.
+#[derive(Drop)]
+pub struct ThreadsReport {
+    pub report: SessionReport,
+    pub effects: Effects,
+}
+
+/// What a power cut leaves of a session in threads that has ended, and the events of its three sides.
+#[derive(Drop)]
+pub struct ThreadsEnd {
+    pub end: SessionEnd,
+    pub effects: Effects,
+}
