@@ -1,6 +1,7 @@
-//! Tests of the parts of a host: cached pages, conflicts, the ring of the log, and the flush and commit actors.
+//! Tests of the parts of a host: cached pages, conflicts, the ring of the log, and the flush and commit actors. In
+//! `machine` stand laws of the host's machine in the words of its rules.
 //!
-//! Stands on `page_cache`, `flush_actor::conflicts`, `journal_ring`, `flush_actor` and `commit_actor`.
+//! Stands on `page_cache`, `flush_actor::conflicts`, `journal_ring`, `flush_actor`, `commit_actor` and `host_machine`.
 #![tactic(auto)]
 
 #[cfg(test)]
@@ -9,6 +10,7 @@ mod commits;
 mod conflicts;
 #[cfg(test)]
 mod flushes;
+pub mod machine;
 #[cfg(test)]
 mod pages;
 #[cfg(test)]
