@@ -171,5 +171,6 @@ fn recovers_by_more_steps_than_there_are(rt: HostRuntime) -> Result<(), Fail> {
         script.push_str(" d1000000")?;
     }
     script.push_str("\n")?;
-    expect_replay(&rt, alloc, script.as_str(), SYNC_PRINTS)
+    expect_replay(&rt, alloc, script.as_str(), SYNC_PRINTS)?;
+    Ok(())
 }
