@@ -14,7 +14,7 @@ use Rattle.host_machine.specs.runs.Promises.{call_of}
 use Rattle.host_machine.specs.runs.Sentences.{IsAllSettled}
 use Rattle.minix_host.specs.Calls.{kind_of}
 use Rattle.minix_host.specs.Sessions.{Stands}
-use Rattle.session_run.specs.Beginning.{call_over}
+use Rattle.call_sessions.specs.Sessions.{call_over}
 use Rattle.call_sessions.specs.promises.Answers.{AnsweredAt}
 use Rattle.session_grammar.specs.declared.session_script.SessionScript.{SessionScript}
 use Rattle.power_cuts.proofs.CallsLemmas.ShownFiles.{later_kept}

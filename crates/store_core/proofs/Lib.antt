@@ -1,9 +1,11 @@
 pub mod Acknowledged
 pub mod DoneStores
 pub mod Held
+pub mod HeldPairs
 pub mod HeldStores
 pub mod Log
 pub mod LogBlocks
+pub mod LogReads
 pub mod LogSession
 pub mod LogTrees
 pub mod LogZones
@@ -12,4 +14,5 @@ pub mod Order
 pub mod Paths
 pub mod StoreFacts
 pub mod StoreLaws
+pub mod Summaries
 pub mod Writes

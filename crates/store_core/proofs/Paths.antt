@@ -13,8 +13,8 @@ use Rattle.tree_model.specs.Histories.{block_at, block_in, maps_block}
 use Rattle.tree_model.specs.Maps.{at_number}
 use Rattle.tree_model.specs.Trees.{Refusal, node_of_path, SameMetadataAt}
 use Rattle.host_machine.specs.Views.{tree_after}
-use Rattle.session_run.specs.Beginning.{call_over}
-use Rattle.session_run.specs.End.{tree_behind}
+use Rattle.call_sessions.specs.Sessions.{call_over}
+use Rattle.session_core.specs.Report.{tree_behind}
 use Rattle.session_grammar.specs.declared.session_script.SessionScript.{SessionScript}
 use Rattle.session_core.specs.Core.{EndState, opening_of}
 use Rattle.session_core.specs.Headline.{HeadlineOn, told_by, medium_of, kept_in}

@@ -40,7 +40,7 @@ use Rattle.store_core.proofs.Log.{event-at, end-at, begins-no_end, answered-befo
 use Rattle.store_core.proofs.Held.{synced-put}
 use Rattle.store_core.specs.Order.{StandsBefore}
 use Rattle.call_sessions.specs.promises.Answers.{AnsweredAt}
-use Rattle.session_run.specs.End.{tree_behind}
+use Rattle.session_core.specs.Report.{tree_behind}
 use Rattle.crash_laws.specs.PromiseRules.{Covers, IsOn}
 use Rattle.host_machine.specs.runs.Promises.{call_of}
 use Rattle.flush_actor.specs.Kinds.{is_whole}

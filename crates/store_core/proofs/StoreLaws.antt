@@ -9,7 +9,7 @@ use Rattle.tree_model.specs.declared.call.Call.TheVariants as calls
 use Rattle.tree_model.specs.declared.call.Reply.TheVariants as replies
 use Rattle.tree_model.specs.Histories.{block_at}
 use Rattle.tree_model.specs.Trees.{node_of_path}
-use Rattle.session_run.specs.End.{tree_behind}
+use Rattle.session_core.specs.Report.{tree_behind}
 use Rattle.host_machine.specs.Views.{cut_of}
 use Rattle.session_grammar.specs.declared.session_script.SessionScript.{SessionScript}
 use Rattle.session_core.specs.Core.{EndState, opening_of}

@@ -1,0 +1,2 @@
+-- What the code sees of a tree.
+pub mod LogNodes
